@@ -1,0 +1,5 @@
+//! What a layout is asked for and where it goes: options, and the causes for which a render stops.
+#![tactic(auto)]
+
+pub mod error;
+pub mod options;
