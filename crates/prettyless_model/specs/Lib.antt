@@ -1,1 +1,5 @@
 pub mod Tree
+pub mod Column
+pub mod Reading
+pub mod Layout
+pub mod Levels

@@ -1,4 +1,5 @@
 ghost use Rattle.std.specs.Prelude.{◌≡◌};
+ghost use Rattle.prettyless_sink.specs.Options.{ending};
 ghost use Rattle.prettyless_sink.specs.declared.options.LineEnding.TheVariants.{Lf};
 ghost use Rattle.prettyless_sink.specs.declared.options.IndentationPolicy.TheVariants.{Eager};
 
@@ -8,6 +9,18 @@ pub enum LineEnding {
     #[default]
     Lf,
     Crlf,
+}
+
+impl LineEnding {
+    /// The bytes that end a line.
+    pub fn as_str(self) -> &'static str
+        ensures { result.now ≡ ending self }
+    {
+        match self {
+            LineEnding::Lf => "\n",
+            LineEnding::Crlf => "\r\n",
+        }
+    }
 }
 
 /// When the indent of a line is written: at its beginning, or once something stands on the line.

@@ -1,0 +1,9 @@
+ghost use Rattle.prettyless_model.specs.Levels.{FewerSuffixesThanNodes, MoreLevelsChangeNothing};
+
+/// The levels of a layout are never spent: any number above what the document may leave pending gives the same layout,
+/// and the size of the document is such a number.
+pub fn law_levels()
+    ensures more { MoreLevelsChangeNothing }
+    ensures enough { FewerSuffixesThanNodes }
+{
+}
