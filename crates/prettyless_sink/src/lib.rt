@@ -3,4 +3,5 @@
 
 pub mod error;
 pub mod options;
+pub mod pieces;
 pub mod render;
