@@ -116,7 +116,7 @@ abbrev pub break_with : RenderOptions → Breaks → List Tree → Breaks
 break_with o brk [] d i m rest st = plain_break o d i rest st
 break_with o brk (p ∷ ps) d i m rest st =
     after_bytes (spaces (gap st.column))
-      (and_then (lay_each o brk (p ∷ ps) i m (entry i d ∷ rest) (flushed o st)) (brk d i m rest))
+    (and_then (lay_each o brk (p ∷ ps) i m (entry i d ∷ rest) (flushed o st)) (brk d i m rest))
 
 -- A number of levels makes this a recursion: one is spent where pending documents are laid.
 unfoldable pub breaks : RenderOptions → ℕ → Breaks

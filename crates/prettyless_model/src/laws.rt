@@ -5,5 +5,4 @@ ghost use Rattle.prettyless_model.specs.Levels.{FewerSuffixesThanNodes, MoreLeve
 pub fn law_levels()
     ensures more { MoreLevelsChangeNothing }
     ensures enough { FewerSuffixesThanNodes }
-{
-}
+{}

@@ -6,6 +6,7 @@ use prettyless_sink::pieces::write_gap_and_text;
 use prettyless_sink::render::Render;
 
 /// What one node writes: a gap of spaces, a text, and the indent of a new line in spaces.
+#[derive(Clone, Copy)]
 pub struct Piece<'v> {
     pub gap: usize,
     pub text: &'v str,

@@ -40,7 +40,11 @@ fn probe_one<N: Walk>(
     ensures smaller { OnOk result
         (nodes (stack_of N.tree stack.new.items) < size (N.tree command.now.node) + nodes (stack_of N.tree stack.old.items)) }
 {
-    let Command { indent, mode, ref node } = *command;
+    let Command {
+        indent,
+        mode,
+        ref node,
+    } = *command;
     match node.view() {
         View::Nil => Ok(None),
         View::Text(s) => Ok(read_content(width, column, s.len(), s)),
@@ -86,7 +90,7 @@ fn next_command<N: Walk>(
         (read_tasks (stack_of N.tree stack.old.items) ++ rest_atoms (follow (stack_of N.tree (take below.old commands.now))) ≡ [])
         (λ c. read_tasks (stack_of N.tree stack.old.items) ++ rest_atoms (follow (stack_of N.tree (take below.old commands.now)))
         ≡ reading (N.tree c.node) c.mode
-            ++ (read_tasks (stack_of N.tree stack.new.items) ++ rest_atoms (follow (stack_of N.tree (take below.new commands.now))))) }
+        ++ (read_tasks (stack_of N.tree stack.new.items) ++ rest_atoms (follow (stack_of N.tree (take below.new commands.now))))) }
     ensures left { IfSome result
         (λ c. nodes (stack_of N.tree stack.old.items) + nodes (stack_of N.tree (take below.old commands.now))
         ≡ size (N.tree c.node) + (nodes (stack_of N.tree stack.new.items) + nodes (stack_of N.tree (take below.new commands.now)))) }

@@ -2,8 +2,8 @@ ghost use Rattle.std.specs.Prelude.{[], ◌≡◌};
 ghost use Rattle.prettyless_model.specs.Layout.{layout};
 ghost use Rattle.prettyless_printer.specs.Renders.{Rendered, WorkedOff};
 
-use crate::stack::push_node;
 use crate::printer::{Printer, Turn};
+use crate::stack::push_node;
 use crate::turn::turn;
 use crate::walk::Walk;
 use prettyless_model::column::Column;
@@ -20,7 +20,7 @@ fn work_off<N: Walk, W: Render>(
 ) -> Result<(), RenderError<W::Error>>
     ensures { W.tells out.old → W.tells out.new
         × WorkedOff N.tree printer.old printer.new (W.document_errors out.new)
-            (W.written out.old) (W.written out.new) (W.failures out.old) (W.failures out.new) result }
+        (W.written out.old) (W.written out.new) (W.failures out.old) (W.failures out.new) result }
 {
     'work: while printer.commands.len() > 0 {
         match turn(printer, out) {
@@ -46,7 +46,7 @@ pub fn render<N: Walk, W: Render>(
 ) -> Result<(), RenderError<W::Error>>
     ensures { W.tells out.old → W.tells out.new
         × Rendered (W.document_errors out.new) (layout options (N.tree node))
-            (W.written out.old) (W.written out.new) (W.failures out.old) (W.failures out.new) result }
+        (W.written out.old) (W.written out.new) (W.failures out.old) (W.failures out.new) result }
 {
     let mut printer = Printer {
         options,
@@ -55,8 +55,8 @@ pub fn render<N: Walk, W: Render>(
         commands: Vec::new(alloc),
         scratch: Vec::new(alloc),
     };
-    if let Err(e) = push_node(&mut printer.commands, 0, Mode::Break, node) {
-        return Err(RenderError::Memory(e));
+    match push_node(&mut printer.commands, 0, Mode::Break, node) {
+        Ok(()) => work_off(&mut printer, out),
+        Err(e) => Err(RenderError::Memory(e)),
     }
-    work_off(&mut printer, out)
 }

@@ -111,10 +111,13 @@ fn end_line<N: Walk>(printer: &mut Printer<N>, indent: usize) -> Piece<'static>
 }
 
 /// Takes up one node, with the printer's commands following it.
-pub fn step<'v, N: Walk>(printer: &mut Printer<N>, command: &'v Command<N>) -> Result<Taken<'v>, AllocError>
+pub fn step<'v, N: Walk>(
+    printer: &mut Printer<N>,
+    command: &'v Command<N>,
+) -> Result<Taken<'v>, AllocError>
     ensures { IfOk result (λ taken. Shows N.tree taken
         (step_of printer.old.options (N.tree command.now.node) command.now.indent command.now.mode
-            (follow (stack_of N.tree printer.old.commands.items)) (state_of printer.old))
+        (follow (stack_of N.tree printer.old.commands.items)) (state_of printer.old))
         printer.old printer.new) }
 {
     let indent = command.indent;
@@ -133,7 +136,12 @@ pub fn step<'v, N: Walk>(printer: &mut Printer<N>, command: &'v Command<N>) -> R
             Ok(Taken::Written(Piece::nothing()))
         }
         View::Nest(offset, d) => {
-            push_node(&mut printer.commands, nested_indent(indent, offset), mode, d)?;
+            push_node(
+                &mut printer.commands,
+                nested_indent(indent, offset),
+                mode,
+                d,
+            )?;
             Ok(Taken::Written(Piece::nothing()))
         }
         View::BreakOrFlat(b, f) => {
