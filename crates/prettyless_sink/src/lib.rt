@@ -2,6 +2,7 @@
 #![tactic(auto)]
 
 pub mod error;
+pub mod fmt_write;
 pub mod options;
 pub mod pieces;
 pub mod render;

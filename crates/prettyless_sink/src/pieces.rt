@@ -52,3 +52,6 @@ fn some_spaces(count: usize) -> &'static str
 {
     &HUNDRED_SPACES[..count]
 }
+
+#[cfg(test)]
+mod tests;
