@@ -1,0 +1,3 @@
+pub mod BuildErrors
+pub mod DocTree
+pub mod TextBytes

@@ -1,0 +1,10 @@
+//! Documents: their nodes and texts, the pointers between nodes, and the places that nodes are put in.
+#![tactic(auto)]
+
+pub mod doc;
+pub mod place;
+pub mod text;
+
+pub use doc::{BuildDoc, Doc, DocPtr};
+pub use place::DocPlace;
+pub use text::{BuildError, Text};
