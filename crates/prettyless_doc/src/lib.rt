@@ -3,7 +3,9 @@
 
 pub mod doc;
 pub mod place;
+pub mod render;
 pub mod text;
+pub mod walk;
 
 pub use doc::{BuildDoc, Doc, DocPtr};
 pub use place::DocPlace;

@@ -6,7 +6,7 @@ use Rattle.prettyless_sink.specs.declared.error.RenderError.{RenderError}
 use Rattle.prettyless_sink.specs.declared.error.RenderError.TheVariants.{Document, Sink, Memory}
 use Rattle.prettyless_sink.proofs.Beginnings.{beginning_of_more}
 use Rattle.prettyless_model.specs.Tree.{Tree}
-use Rattle.prettyless_model.specs.Layout.{State, Outcome, Done, Failed, after_bytes, and_then, lay, finish, initial, layout, bytes_of, bytes_in, Whole}
+use Rattle.prettyless_model.specs.Layout.{State, Outcome, Done, Failed, after_bytes, and_then, lay, finish, initial, layout, Bytes, bytes_of, bytes_in, Whole}
 use Rattle.prettyless_model.specs.Levels.{settle, settle_end}
 use Rattle.prettyless_model.specs.declared.mode.Mode.TheVariants.{Break}
 use Rattle.prettyless_model.proofs.Outcomes.{then-done}
@@ -15,7 +15,7 @@ use Rattle.prettyless_printer.specs.Stack.{Task, make_task, stack_of}
 use Rattle.prettyless_printer.specs.Steps.{lay_all}
 use Rattle.prettyless_printer.specs.Printing.{state_of}
 use Rattle.prettyless_printer.specs.Turns.{bytes_before}
-use Rattle.prettyless_printer.specs.Renders.{rest_of, WorkedOff, Rendered}
+use Rattle.prettyless_printer.specs.Renders.{rest_of, WorkedOff, Rendered, RendersInto}
 use Rattle.prettyless_printer.proofs.Progresses.{bytes_before-after}
 use Rattle.prettyless_printer.specs.declared.printer.Printer.{Printer}
 
@@ -67,3 +67,10 @@ rendered_as {N} {A} {E} f p q d fails old new n m (Err (Memory x)) e h = (beginn
 pub rendered : {N A E : Type 0} (f : N → Tree) (p q : Printer N) (d : Tree) (fails : E → Type 0) (old new : List ℕ) (n m : ℕ) (r : Result A (RenderError E)) →
     stack_of f p.commands.items ≡ make_task 0 Break d ∷ [] → state_of p ≡ initial → WorkedOff f p q fails old new n m r → Rendered fails (layout p.options d) old new n m r
 rendered {N} {A} {E} f p q d fails old new n m r e s h = rendered_as f p q d fails old new n m r (begins f p d e s) h
+
+-- a render, where no failures are seen
+pub renders_into : {A E : Type 0} (fails : E → Type 0) (y : Bytes) (old new : List ℕ) (n m : ℕ) (r : Result A (RenderError E)) → Rendered fails y old new n m r → RendersInto y old new r
+renders_into fails y old new n m (Ok r) h = (h.0, h.1, h.2)
+renders_into fails y old new n m (Err (Document e)) h = (h.0, h.1, h.2)
+renders_into fails y old new n m (Err (Sink e)) h = h.0
+renders_into fails y old new n m (Err (Memory e)) h = h.0

@@ -35,3 +35,10 @@ Rendered fails y old new n m (Ok r) = (bytes : List ℕ) × (y ≡ Whole bytes) 
 Rendered fails y old new n m (Err (Document e)) = (bytes : List ℕ) × (y ≡ Cut bytes) × (new ≡ old ++ bytes) × (m ≡ n) × fails e
 Rendered fails y old new n m (Err (Sink e)) = AppendsBeginning old new (bytes_in y) × (m ≡ rise n)
 Rendered fails y old new n m (Err (Memory e)) = AppendsBeginning old new (bytes_in y) × (m ≡ n)
+
+-- The same where no failures are seen: what a render appended to a text.
+abbrev pub RendersInto : {A E : Type 0} → Bytes → List ℕ → List ℕ → Result A (RenderError E) → Type 0
+RendersInto y old new (Ok r) = (bytes : List ℕ) × (y ≡ Whole bytes) × (new ≡ old ++ bytes)
+RendersInto y old new (Err (Document e)) = (bytes : List ℕ) × (y ≡ Cut bytes) × (new ≡ old ++ bytes)
+RendersInto y old new (Err (Sink e)) = AppendsBeginning old new (bytes_in y)
+RendersInto y old new (Err (Memory e)) = AppendsBeginning old new (bytes_in y)

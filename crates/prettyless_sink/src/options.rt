@@ -1,7 +1,5 @@
 ghost use Rattle.std.specs.Prelude.{◌≡◌};
-ghost use Rattle.prettyless_sink.specs.Options.{ending};
-ghost use Rattle.prettyless_sink.specs.declared.options.LineEnding.TheVariants.{Lf};
-ghost use Rattle.prettyless_sink.specs.declared.options.IndentationPolicy.TheVariants.{Eager};
+ghost use Rattle.prettyless_sink.specs.Options.{ending, options_at};
 
 /// How a line of the layout ends.
 #[derive(Clone, Copy, Debug, Default, PartialEq, Eq)]
@@ -43,7 +41,7 @@ pub struct RenderOptions {
 impl RenderOptions {
     /// This width, with lines that end in LF and indents that are written at once.
     pub fn new(width: usize) -> Self
-        ensures { result ≡ record { width = width; line_ending = Lf; indentation_policy = Eager } }
+        ensures { result ≡ options_at width }
     {
         RenderOptions {
             width,
