@@ -3,3 +3,4 @@ pub mod Column
 pub mod Reading
 pub mod Layout
 pub mod Levels
+pub mod Rows

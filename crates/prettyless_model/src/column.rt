@@ -19,12 +19,7 @@ impl Column {
     pub fn start() -> Self
         ensures { result ≡ spec.start }
     {
-        Column {
-            position: 0,
-            indent: 0,
-            padding: 0,
-            fresh: true,
-        }
+        Column::indented(0)
     }
 
     /// The beginning of a line whose indent is written.
