@@ -1,11 +1,14 @@
+//! What a caller chooses of a layout.
 ghost use Rattle.std.specs.Prelude.{◌≡◌};
 ghost use Rattle.prettyless_sink.specs.Options.{ending, options_at};
 
 /// How a line of the layout ends.
 #[derive(Clone, Copy, Debug, Default, PartialEq, Eq)]
 pub enum LineEnding {
+    /// By the byte 10.
     #[default]
     Lf,
+    /// By the bytes 13 and 10.
     Crlf,
 }
 
@@ -24,8 +27,10 @@ impl LineEnding {
 /// When the indent of a line is written: at its beginning, or once something stands on the line.
 #[derive(Clone, Copy, Debug, Default, PartialEq, Eq)]
 pub enum IndentationPolicy {
+    /// At the line's beginning, also where no text follows on the line.
     #[default]
     Eager,
+    /// Before the first text of the line: a line without a text gets no indent.
     Deferred,
 }
 
@@ -34,7 +39,9 @@ pub enum IndentationPolicy {
 pub struct RenderOptions {
     /// The columns of a line that a layout aims to stay within.
     pub width: usize,
+    /// How each line of the layout but the last ends.
     pub line_ending: LineEnding,
+    /// When the spaces of an indent are written.
     pub indentation_policy: IndentationPolicy,
 }
 
