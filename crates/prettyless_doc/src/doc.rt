@@ -17,7 +17,7 @@ pub enum Doc<'a, T> {
     HardLine,
     /// Two documents, one after the other.
     Append(T, T),
-    /// A document whose indent is greater by so many columns.
+    /// A document with its indent moved by so many columns.
     Nest(isize, T),
     /// The first document where lines are broken, and the second where they are flat.
     BreakOrFlat(T, T),

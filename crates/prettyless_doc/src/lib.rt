@@ -1,4 +1,4 @@
-//! Documents: their nodes and texts, the pointers between nodes, and the places that nodes are put in.
+//! Documents: nodes and their texts, the pointers between nodes, and the places of nodes.
 #![tactic(auto)]
 
 pub mod doc;

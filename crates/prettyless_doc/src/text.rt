@@ -41,7 +41,8 @@ pub enum Text<'a> {
 }
 
 impl<'a> Text<'a> {
-    /// The same bytes. A borrowed text stays borrowed, and an owned one keeps its buffer, so neither takes memory.
+    /// The same bytes. It takes no memory: a borrowed text stays borrowed, and an owned one keeps
+    /// its buffer.
     pub fn from_cow(_alloc: Global, text: CowStr<'a>) -> Result<Self, BuildError>
         ensures { IsOkAnd result (λ t. bytes_of t ≡ cow_str_bytes text.entry) }
     {
