@@ -1,14 +1,14 @@
 -- Levels: a break and the end that have more of them than can be spent answer the same.
-use Rattle.std.proofs.Common.{◌≡◌, ℕ, zero, suc, ◌+◌, ◌<◌, ◌≤◌, List, [], ◌∷◌, ◌++◌, length, refl, ap, sym, ◌∙◌, arith, if◌then◌else◌}
+use Rattle.std.proofs.Common.{◌≡◌, ℕ, zero, suc, ◌+◌, ◌<◌, ◌≤◌, List, [], ◌∷◌, ◌++◌, length, refl, ap, sym, ◌∙◌, arith, Bool, true, false, ◌&&◌, if◌then◌else◌}
 use Rattle.std.proofs.Math.Numerals.{add-one}
 use Rattle.prettyless_sink.specs.Spaces.{spaces}
 use Rattle.prettyless_sink.specs.declared.options.RenderOptions.{RenderOptions}
 use Rattle.prettyless_sink.specs.declared.options.IndentationPolicy.{IndentationPolicy}
 use Rattle.prettyless_sink.specs.declared.options.IndentationPolicy.TheVariants.{Eager, Deferred}
-use Rattle.prettyless_model.specs.Tree.{Tree, Nil, Text, TextWithLen, HardLine, Append, Nest, BreakOrFlat, Group, size}
-use Rattle.prettyless_model.specs.Column.{gap}
+use Rattle.prettyless_model.specs.Tree.{Tree, Nil, Fail, Text, TextWithLen, MultilineText, WeakSpace, HardLine, WeakLine, Append, LineSuffix, Nest, DedentToRoot, Align, ExpandParent, Flatten, BreakOrFlat, Group, Union, PartialUnion, size}
+use Rattle.prettyless_model.specs.Column.{gap, prospective, padding_fits}
 use Rattle.prettyless_model.specs.Reading.{by_mode}
-use Rattle.prettyless_model.specs.Layout.{State, Outcome, Done, Failed, Entry, Breaks, after_bytes, and_then, lay, lay_each, lay_text, lay_ending, nested, probe, flushed, entry, entries, next_indent, break_with, end_with, breaks, finish, layout, layout_by, initial, bytes_of}
+use Rattle.prettyless_model.specs.Layout.{State, Outcome, Done, Failed, Entry, Breaks, after_bytes, and_then, lay, lay_each, lay_text, lay_ending, nested, probe, some_pending, accept, tried, is_suppressed, plain_break, flushed, entry, entries, next_indent, break_with, end_with, breaks, finish, layout, layout_by, initial, bytes_of}
 use Rattle.prettyless_model.specs.Levels.{suffixes, queued, settle, settle_end}
 use Rattle.prettyless_model.specs.declared.mode.Mode.{Mode}
 use Rattle.prettyless_model.specs.declared.mode.Mode.TheVariants.{Break, Flat}
@@ -34,6 +34,19 @@ then-agrees : (n : ℕ) (o : Outcome) (f g : State → Outcome) → LeavesAtMost
 then-agrees n (Done b st) f g h e = ap (after_bytes b) (e st h)
 then-agrees n (Failed b) f g h e = refl
 
+leaves-accept : (o : RenderOptions) (n : ℕ) (was : Bool) (x other : Outcome) → LeavesAtMost n x → LeavesAtMost n other → LeavesAtMost n (accept o was x other)
+leaves-accept o n was (Done b st) other h g =
+    elim (st.within && padding_fits o.width (some_pending st.pending) st.column) as (λ v. LeavesAtMost n (if v then Done b (record st { within = was }) else other)) [ true ↦ h | false ↦ g ]
+leaves-accept o n was (Failed b) other h g = g
+
+leaves-either : (n : ℕ) (v : Bool) (x y : Outcome) → LeavesAtMost n x → LeavesAtMost n y → LeavesAtMost n (if v then x else y)
+leaves-either n true x y h g = h
+leaves-either n false x y h g = g
+
+queued-one : (ps : List Tree) (d : Tree) → queued (ps ++ d ∷ []) ≡ queued ps + (suffixes d + 1)
+queued-one [] d = omega arith
+queued-one (p ∷ ps) d = omega (arith, queued-one ps d)
+
 -- a break leaves no more pending than it found
 abbrev pub Keeps : Breaks → Type 0
 Keeps brk = (d : Tree) (i : ℕ) (m : Mode) (rest : List Entry) (st : State) → LeavesAtMost (queued st.pending) (brk d i m rest st)
@@ -50,20 +63,44 @@ ending_keeps : (o : RenderOptions) (p : IndentationPolicy) (k : ℕ) (st : State
 ending_keeps o Eager k st = omega arith
 ending_keeps o Deferred k st = omega arith
 
+plain_keeps : (o : RenderOptions) (d : Tree) (i : ℕ) (rest : List Entry) (st : State) → LeavesAtMost (queued st.pending) (plain_break o d i rest st)
+plain_keeps o d i rest st =
+    leaves-either _ (is_suppressed d st.column) (Done [] st) (lay_ending o o.indentation_policy (next_indent i rest) st) (omega arith) (ending_keeps o o.indentation_policy (next_indent i rest) st)
+
 pub lay_keeps : (o : RenderOptions) (brk : Breaks) → Keeps brk → (d : Tree) (i : ℕ) (m : Mode) (rest : List Entry) (st : State) → LeavesAtMost (suffixes d + queued st.pending) (lay o brk d i m rest st)
 unfolding lay
 lay_keeps o brk k Nil i m rest st = omega arith
+lay_keeps o brk k Fail i m rest st = tt
 lay_keeps o brk k (Text s) i m rest st = leaves-more _ _ (lay_text o (length s) s st) (omega arith) (text_keeps o (length s) s st)
 lay_keeps o brk k (TextWithLen w s) i m rest st = leaves-more _ _ (lay_text o w s st) (omega arith) (text_keeps o w s st)
+lay_keeps o brk k (MultilineText s) i Break rest st = omega arith
+lay_keeps o brk k (MultilineText s) i Flat rest st = tt
+lay_keeps o brk k WeakSpace i m rest st = omega arith
 lay_keeps o brk k HardLine i Break rest st = leaves-more _ _ (brk HardLine i Break rest st) (omega arith) (k HardLine i Break rest st)
 lay_keeps o brk k HardLine i Flat rest st = tt
+lay_keeps o brk k WeakLine i m rest st = leaves-more _ _ (brk WeakLine i m rest st) (omega arith) (k WeakLine i m rest st)
 lay_keeps o brk k (Append l r) i m rest st =
     leaves-then (suffixes l + queued st.pending) _ (lay o brk l i m (entry i r ∷ rest) st) (λ u. lay o brk r i m rest u) (lay_keeps o brk k l i m (entry i r ∷ rest) st)
     (λ u h. leaves-more (suffixes r + queued u.pending) _ (lay o brk r i m rest u) (omega arith) (lay_keeps o brk k r i m rest u))
+lay_keeps o brk k (LineSuffix d) i m rest st = omega (arith, queued-one st.pending d)
 lay_keeps o brk k (Nest n d) i m rest st = lay_keeps o brk k d (nested i n) m rest st
+lay_keeps o brk k (DedentToRoot d) i m rest st = lay_keeps o brk k d 0 m rest st
+lay_keeps o brk k (Align d) i m rest st = lay_keeps o brk k d (prospective st.column) m rest st
+lay_keeps o brk k ExpandParent i m rest st = omega arith
+lay_keeps o brk k (Flatten d) i m rest st = lay_keeps o brk k d i Flat rest st
 lay_keeps o brk k (BreakOrFlat b f) i Break rest st = leaves-more _ _ (lay o brk b i Break rest st) (omega arith) (lay_keeps o brk k b i Break rest st)
 lay_keeps o brk k (BreakOrFlat b f) i Flat rest st = leaves-more _ _ (lay o brk f i Flat rest st) (omega arith) (lay_keeps o brk k f i Flat rest st)
 lay_keeps o brk k (Group d) i m rest st = lay_keeps o brk k d i (by_mode m (if probe o d Flat rest st then Flat else Break) Flat) rest st
+lay_keeps o brk k (Union l r) i Break rest st =
+    leaves-accept o _ st.within (lay o brk l i Break rest (tried st)) (lay o brk r i Break rest st)
+    (leaves-more _ _ (lay o brk l i Break rest (tried st)) (omega arith) (lay_keeps o brk k l i Break rest (tried st)))
+    (leaves-more _ _ (lay o brk r i Break rest st) (omega arith) (lay_keeps o brk k r i Break rest st))
+lay_keeps o brk k (Union l r) i Flat rest st = leaves-more _ _ (lay o brk l i Flat rest st) (omega arith) (lay_keeps o brk k l i Flat rest st)
+lay_keeps o brk k (PartialUnion l r) i Break rest st =
+    leaves-either _ (probe o l Break rest st) (lay o brk l i Break rest st) (lay o brk r i Break rest st)
+    (leaves-more _ _ (lay o brk l i Break rest st) (omega arith) (lay_keeps o brk k l i Break rest st))
+    (leaves-more _ _ (lay o brk r i Break rest st) (omega arith) (lay_keeps o brk k r i Break rest st))
+lay_keeps o brk k (PartialUnion l r) i Flat rest st = leaves-more _ _ (lay o brk l i Flat rest st) (omega arith) (lay_keeps o brk k l i Flat rest st)
 
 abbrev all_suffixes : List Tree → ℕ
 all_suffixes [] = 0
@@ -82,7 +119,7 @@ each_keeps o brk k (d ∷ ds) i m rest st =
 
 break_keeps : (o : RenderOptions) (brk : Breaks) → Keeps brk → (ps : List Tree) (d : Tree) (i : ℕ) (m : Mode) (rest : List Entry) (st : State) → queued st.pending ≤ queued ps → LeavesAtMost (queued ps) (break_with o brk ps d i m rest st)
 break_keeps o brk k [] d i m rest st l =
-    leaves-more _ _ (lay_ending o o.indentation_policy (next_indent i rest) st) l (ending_keeps o o.indentation_policy (next_indent i rest) st)
+    leaves-more _ _ (plain_break o d i rest st) l (plain_keeps o d i rest st)
 break_keeps o brk k (p ∷ ps) d i m rest st l =
     leaves-after _ (spaces (gap st.column)) (and_then (lay_each o brk (p ∷ ps) i m (entry i d ∷ rest) (flushed o st)) (brk d i m rest))
     (leaves-then (all_suffixes (p ∷ ps) + queued (flushed o st).pending) _ (lay_each o brk (p ∷ ps) i m (entry i d ∷ rest) (flushed o st)) (brk d i m rest)
@@ -97,19 +134,37 @@ breaks_keep o (suc n) = λ d i m rest st. break_keeps o (breaks o n) (breaks_kee
 lay_agrees : (o : RenderOptions) (h : ℕ) (a b : Breaks) → Agree h a b → Keeps a → (d : Tree) (i : ℕ) (m : Mode) (rest : List Entry) (st : State) → suffixes d + queued st.pending ≤ h → lay o a d i m rest st ≡ lay o b d i m rest st
 unfolding lay
 lay_agrees o h a b e k Nil i m rest st l = refl
+lay_agrees o h a b e k Fail i m rest st l = refl
 lay_agrees o h a b e k (Text s) i m rest st l = refl
 lay_agrees o h a b e k (TextWithLen w s) i m rest st l = refl
+lay_agrees o h a b e k (MultilineText s) i Break rest st l = refl
+lay_agrees o h a b e k (MultilineText s) i Flat rest st l = refl
+lay_agrees o h a b e k WeakSpace i m rest st l = refl
 lay_agrees o h a b e k HardLine i Break rest st l = e HardLine i Break rest st (omega arith)
 lay_agrees o h a b e k HardLine i Flat rest st l = refl
+lay_agrees o h a b e k WeakLine i m rest st l = e WeakLine i m rest st (omega arith)
 lay_agrees o h a b e k (Append x y) i m rest st l =
     then-agrees (suffixes x + queued st.pending) (lay o a x i m (entry i y ∷ rest) st) (λ u. lay o a y i m rest u) (λ u. lay o b y i m rest u)
     (lay_keeps o a k x i m (entry i y ∷ rest) st)
     (λ u q. lay_agrees o h a b e k y i m rest u (omega arith))
     ∙ ap (λ (x : Outcome). and_then x (λ u. lay o b y i m rest u)) (lay_agrees o h a b e k x i m (entry i y ∷ rest) st (omega arith))
+lay_agrees o h a b e k (LineSuffix d) i m rest st l = refl
 lay_agrees o h a b e k (Nest n d) i m rest st l = lay_agrees o h a b e k d (nested i n) m rest st l
+lay_agrees o h a b e k (DedentToRoot d) i m rest st l = lay_agrees o h a b e k d 0 m rest st l
+lay_agrees o h a b e k (Align d) i m rest st l = lay_agrees o h a b e k d (prospective st.column) m rest st l
+lay_agrees o h a b e k ExpandParent i m rest st l = refl
+lay_agrees o h a b e k (Flatten d) i m rest st l = lay_agrees o h a b e k d i Flat rest st l
 lay_agrees o h a b e k (BreakOrFlat x y) i Break rest st l = lay_agrees o h a b e k x i Break rest st (omega arith)
 lay_agrees o h a b e k (BreakOrFlat x y) i Flat rest st l = lay_agrees o h a b e k y i Flat rest st (omega arith)
 lay_agrees o h a b e k (Group d) i m rest st l = lay_agrees o h a b e k d i (by_mode m (if probe o d Flat rest st then Flat else Break) Flat) rest st l
+lay_agrees o h a b e k (Union x y) i Break rest st l =
+    ap (λ (z : Outcome). accept o st.within z (lay o a y i Break rest st)) (lay_agrees o h a b e k x i Break rest (tried st) (omega arith))
+    ∙ ap (accept o st.within (lay o b x i Break rest (tried st))) (lay_agrees o h a b e k y i Break rest st (omega arith))
+lay_agrees o h a b e k (Union x y) i Flat rest st l = lay_agrees o h a b e k x i Flat rest st (omega arith)
+lay_agrees o h a b e k (PartialUnion x y) i Break rest st l =
+    ap (λ (z : Outcome). if probe o x Break rest st then z else lay o a y i Break rest st) (lay_agrees o h a b e k x i Break rest st (omega arith))
+    ∙ ap (λ (z : Outcome). if probe o x Break rest st then lay o b x i Break rest st else z) (lay_agrees o h a b e k y i Break rest st (omega arith))
+lay_agrees o h a b e k (PartialUnion x y) i Flat rest st l = lay_agrees o h a b e k x i Flat rest st (omega arith)
 
 each_agrees : (o : RenderOptions) (h : ℕ) (a b : Breaks) → Agree h a b → Keeps a → (ds : List Tree) (i : ℕ) (m : Mode) (rest : List Entry) (st : State) → all_suffixes ds + queued st.pending ≤ h → lay_each o a ds i m rest st ≡ lay_each o b ds i m rest st
 unfolding lay_each
@@ -192,13 +247,24 @@ end_fixed o st = end_fixed_at o (queued st.pending) st.pending st (omega arith)
 
 pub suffixes_size : (d : Tree) → suffixes d < size d
 suffixes_size Nil = omega arith
+suffixes_size Fail = omega arith
 suffixes_size (Text s) = omega arith
 suffixes_size (TextWithLen w s) = omega arith
+suffixes_size (MultilineText s) = omega arith
+suffixes_size WeakSpace = omega arith
 suffixes_size HardLine = omega arith
+suffixes_size WeakLine = omega arith
 suffixes_size (Append l r) = omega (arith, suffixes_size l, suffixes_size r)
+suffixes_size (LineSuffix d) = omega (arith, suffixes_size d)
 suffixes_size (Nest k d) = omega (arith, suffixes_size d)
+suffixes_size (DedentToRoot d) = omega (arith, suffixes_size d)
+suffixes_size (Align d) = omega (arith, suffixes_size d)
+suffixes_size ExpandParent = omega arith
+suffixes_size (Flatten d) = omega (arith, suffixes_size d)
 suffixes_size (BreakOrFlat l r) = omega (arith, suffixes_size l, suffixes_size r)
 suffixes_size (Group d) = omega (arith, suffixes_size d)
+suffixes_size (Union l r) = omega (arith, suffixes_size l, suffixes_size r)
+suffixes_size (PartialUnion l r) = omega (arith, suffixes_size l, suffixes_size r)
 
 layout_at : (o : RenderOptions) (n : ℕ) (d : Tree) → suffixes d ≤ n → layout_by o (suc n) d ≡ and_then (lay o (settle o) d 0 Break [] initial) (settle_end o)
 unfolding layout_by settle_end

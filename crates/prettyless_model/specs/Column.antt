@@ -1,5 +1,5 @@
 -- Columns: where a printer stands on its line.
-use Rattle.std.specs.Prelude.{ℕ, ◌+◌, ◌-◌, ◌^◌, Bool, true, false, ◌==◌, ◌||◌, not, nat_le, min}
+use Rattle.std.specs.Prelude.{ℕ, ◌+◌, ◌-◌, ◌^◌, Bool, true, false, ◌==◌, ◌||◌, not, nat_le, min, if◌then◌else◌}
 use Rattle.prettyless_model.specs.declared.column.Column.{Column}
 
 -- a sum that stops at the greatest `usize`
@@ -29,6 +29,10 @@ prospective c = saturating_add (saturating_add c.position c.indent) c.padding
 -- content of this counted width: what was pending is written before it
 abbrev pub commit : ℕ → Column → Column
 commit w c = record { position = saturating_add (prospective c) w; indent = 0; padding = 0; fresh = false }
+
+-- a weak space: nothing where the line is fresh
+abbrev pub blank : Column → Column
+blank c = if c.fresh then c else record c { padding = saturating_add c.padding 1 }
 
 -- padding that a pending suffix would commit stays within the width
 abbrev pub padding_fits : ℕ → Bool → Column → Bool

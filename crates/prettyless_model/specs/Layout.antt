@@ -1,5 +1,5 @@
 -- The layout of a document: a recursion on its tree, from state to state.
-use Rattle.std.specs.Prelude.{ℕ, zero, suc, ◌+◌, ◌-◌, ℤ, pos, negsuc, Bool, true, false, ◌&&◌, nat_le, List, [], ◌∷◌, ◌++◌, length, if◌then◌else◌}
+use Rattle.std.specs.Prelude.{ℕ, zero, suc, ◌+◌, ◌-◌, ℤ, pos, negsuc, Bool, true, false, not, ◌&&◌, ◌||◌, nat_le, List, [], ◌∷◌, ◌++◌, length, if◌then◌else◌}
 use Rattle.prettyless_sink.specs.Options.{ending}
 use Rattle.prettyless_sink.specs.Spaces.{spaces}
 use Rattle.prettyless_sink.specs.declared.options.RenderOptions.{RenderOptions}
@@ -7,9 +7,11 @@ use Rattle.prettyless_sink.specs.declared.options.IndentationPolicy.{Indentation
 use Rattle.prettyless_sink.specs.declared.options.IndentationPolicy.TheVariants.{Eager, Deferred}
 use Rattle.prettyless_model.specs.Tree as t
 use Rattle.prettyless_model.specs.Tree.{Tree, size}
-use Rattle.prettyless_model.specs.Column.{start, indented, deferred, gap, commit, padding_fits, saturating_add}
+use Rattle.prettyless_model.specs.Metrics.{metrics}
+use Rattle.prettyless_model.specs.Column.{start, indented, deferred, gap, prospective, commit, blank, padding_fits, saturating_add}
 use Rattle.prettyless_model.specs.Reading.{Atom, reading, fits, by_mode}
 use Rattle.prettyless_model.specs.declared.column.Column.{Column}
+use Rattle.prettyless_model.specs.declared.metrics.Metrics.{Metrics}
 use Rattle.prettyless_model.specs.declared.mode.Mode.{Mode}
 use Rattle.prettyless_model.specs.declared.mode.Mode.TheVariants.{Break, Flat}
 
@@ -51,6 +53,20 @@ lay_text o w (b ∷ bs) st =
     let c = commit w st.column in
     Done (spaces (gap st.column) ++ (b ∷ bs)) (record st { column = c; within = st.within && nat_le c.position o.width })
 
+-- a payload fits where its first part ends within the width, or is empty, and no later part is wider than the width
+abbrev pub payload_fits : RenderOptions → Metrics → Column → Bool
+payload_fits o m c = (not m.first_nonempty || nat_le (saturating_add (prospective c) m.first_width) o.width) && nat_le m.rest_width o.width
+
+-- the column behind a payload: that of its last part
+abbrev pub behind_payload : Metrics → Column
+behind_payload m = if m.last_nonempty then commit m.last_width start else start
+
+-- a payload goes out byte for byte; what is pending of the line is written before it unless its first part is empty
+abbrev pub lay_payload : RenderOptions → Metrics → List ℕ → State → Outcome
+lay_payload o m s st =
+    Done ((if m.first_nonempty then spaces (gap st.column) else []) ++ s)
+    (record st { column = behind_payload m; within = st.within && payload_fits o m st.column })
+
 -- a line ends, and the next has this indent: written at once, or with the first content
 abbrev pub lay_ending : RenderOptions → IndentationPolicy → ℕ → State → Outcome
 lay_ending o Eager k st = Done (ending o.line_ending ++ spaces k) (record st { column = indented k })
@@ -82,6 +98,16 @@ some_pending (d ∷ ds) = true
 abbrev pub probe : RenderOptions → Tree → Mode → List Entry → State → Bool
 probe o d m rest st = fits o.width st.column (some_pending st.pending) (reading d m ++ rest_atoms rest)
 
+-- a first branch if it is kept, with the flag as it was before it, and else the second
+abbrev pub accept : RenderOptions → Bool → Outcome → Outcome → Outcome
+accept o was (Done b st) other =
+    if st.within && padding_fits o.width (some_pending st.pending) st.column then Done b (record st { within = was }) else other
+accept o was (Failed b) other = other
+
+-- the flag set anew
+abbrev pub tried : State → State
+tried st = record st { within = true }
+
 -- How a break is laid: which node it is, its indent and mode, what follows it.
 abbrev pub Breaks : Type 0
 Breaks = Tree → ℕ → Mode → List Entry → State → Outcome
@@ -89,13 +115,26 @@ Breaks = Tree → ℕ → Mode → List Entry → State → Outcome
 -- A document at an indent in a mode, with what follows it. The recursion is on the tree; `brk` lays breaks.
 unfoldable pub lay : RenderOptions → Breaks → Tree → ℕ → Mode → List Entry → State → Outcome
 lay o brk t.Nil i m rest st = Done [] st
+lay o brk t.Fail i m rest st = Failed []
 lay o brk (t.Text s) i m rest st = lay_text o (length s) s st
 lay o brk (t.TextWithLen w s) i m rest st = lay_text o w s st
+lay o brk (t.MultilineText s) i m rest st = by_mode m (lay_payload o (metrics s) s st) (Failed [])
+lay o brk t.WeakSpace i m rest st = Done [] (record st { column = blank st.column })
 lay o brk t.HardLine i m rest st = by_mode m (brk t.HardLine i m rest st) (Failed [])
+lay o brk t.WeakLine i m rest st = brk t.WeakLine i m rest st
 lay o brk (t.Append l r) i m rest st = and_then (lay o brk l i m (entry i r ∷ rest) st) (λ u. lay o brk r i m rest u)
+lay o brk (t.LineSuffix d) i m rest st = Done [] (record st { pending = st.pending ++ d ∷ [] })
 lay o brk (t.Nest k d) i m rest st = lay o brk d (nested i k) m rest st
+lay o brk (t.DedentToRoot d) i m rest st = lay o brk d 0 m rest st
+lay o brk (t.Align d) i m rest st = lay o brk d (prospective st.column) m rest st
+lay o brk t.ExpandParent i m rest st = Done [] st
+lay o brk (t.Flatten d) i m rest st = lay o brk d i Flat rest st
 lay o brk (t.BreakOrFlat b f) i m rest st = by_mode m (lay o brk b i m rest st) (lay o brk f i m rest st)
 lay o brk (t.Group d) i m rest st = lay o brk d i (by_mode m (if probe o d Flat rest st then Flat else Break) Flat) rest st
+lay o brk (t.Union l r) i m rest st =
+    by_mode m (accept o st.within (lay o brk l i m rest (tried st)) (lay o brk r i m rest st)) (lay o brk l i m rest st)
+lay o brk (t.PartialUnion l r) i m rest st =
+    by_mode m (if probe o l Break rest st then lay o brk l i m rest st else lay o brk r i m rest st) (lay o brk l i m rest st)
 
 -- trees one after another at one indent, each with the later ones following
 unfoldable pub lay_each : RenderOptions → Breaks → List Tree → ℕ → Mode → List Entry → State → Outcome
@@ -107,9 +146,14 @@ lay_each o brk (d ∷ ds) i m rest st =
 abbrev pub flushed : RenderOptions → State → State
 flushed o st = record { column = commit 0 st.column; pending = []; within = st.within && padding_fits o.width true st.column }
 
--- a break behind which nothing is pending
+-- a weak line at the beginning of a line
+abbrev pub is_suppressed : Tree → Column → Bool
+is_suppressed t.WeakLine c = c.fresh
+is_suppressed _ c = false
+
+-- a break where nothing is pending: a line ends, unless a weak line finds it fresh
 abbrev pub plain_break : RenderOptions → Tree → ℕ → List Entry → State → Outcome
-plain_break o d i rest st = lay_ending o o.indentation_policy (next_indent i rest) st
+plain_break o d i rest st = if is_suppressed d st.column then Done [] st else lay_ending o o.indentation_policy (next_indent i rest) st
 
 -- A break: the pending documents are laid first, followed by the break itself, which then begins again.
 abbrev pub break_with : RenderOptions → Breaks → List Tree → Breaks

@@ -1,4 +1,5 @@
 pub mod Tree
+pub mod Metrics
 pub mod Column
 pub mod Reading
 pub mod Layout

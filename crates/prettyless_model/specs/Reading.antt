@@ -1,17 +1,23 @@
 -- The fit probe, by what it reads of a document: a list of atoms.
-use Rattle.std.specs.Prelude.{ℕ, Bool, false, ◌&&◌, nat_le, List, [], ◌∷◌, ◌++◌, length}
+use Rattle.std.specs.Prelude.{ℕ, Bool, true, false, not, ◌&&◌, ◌||◌, nat_le, List, [], ◌∷◌, ◌++◌, length, if◌then◌else◌}
 use Rattle.prettyless_model.specs.Tree as t
 use Rattle.prettyless_model.specs.Tree.{Tree}
-use Rattle.prettyless_model.specs.Column.{commit, padding_fits}
+use Rattle.prettyless_model.specs.Metrics.{metrics}
+use Rattle.prettyless_model.specs.Column.{commit, blank, padding_fits}
 use Rattle.prettyless_model.specs.declared.column.Column.{Column}
 use Rattle.prettyless_model.specs.declared.mode.Mode.{Mode}
 use Rattle.prettyless_model.specs.declared.mode.Mode.TheVariants.{Break, Flat}
 
--- text of a counted width, what no flat line holds, the end of a line
+-- text of a counted width, a weak space, a document put off to the line's end, what no flat line holds, a hard end of
+-- the line, a weak one, a payload by its first width and whether its first part is nonempty
 pub data Atom : Type 0 where
   Ink : ℕ → Atom
+  Blank : Atom
+  Queue : Atom
   Stop : Atom
   Hard : Atom
+  Weak : Mode → Atom
+  Payload : ℕ → Bool → Atom
 
 -- an empty text is nothing
 abbrev pub ink_of : ℕ → List ℕ → List Atom
@@ -25,17 +31,37 @@ by_mode Flat b f = f
 -- what a document shows in a mode
 abbrev pub reading : Tree → Mode → List Atom
 reading t.Nil m = []
+reading t.Fail m = Stop ∷ []
 reading (t.Text s) m = ink_of (length s) s
 reading (t.TextWithLen w s) m = ink_of w s
+reading (t.MultilineText s) m = by_mode m (Payload (metrics s).first_width (metrics s).first_nonempty ∷ []) (Stop ∷ [])
+reading t.WeakSpace m = Blank ∷ []
 reading t.HardLine m = by_mode m (Hard ∷ []) (Stop ∷ [])
+reading t.WeakLine m = Weak m ∷ []
 reading (t.Append l r) m = reading l m ++ reading r m
+reading (t.LineSuffix d) m = Queue ∷ []
 reading (t.Nest k d) m = reading d m
+reading (t.DedentToRoot d) m = reading d m
+reading (t.Align d) m = reading d m
+reading t.ExpandParent m = by_mode m [] (Stop ∷ [])
+reading (t.Flatten d) m = reading d Flat
 reading (t.BreakOrFlat b f) m = by_mode m (reading b m) (reading f m)
 reading (t.Group d) m = reading d m
+reading (t.Union l r) m = by_mode m (reading r m) (reading l m)
+reading (t.PartialUnion l r) m = by_mode m (reading r m) (reading l m)
 
--- whether the atoms, up to the end of the line, stay within the width
+-- a payload ends the probe: its first part is empty, or ends within the width
+abbrev pub payload_begins : ℕ → Column → ℕ → Bool → Bool
+payload_begins width c w nonempty = not nonempty || nat_le (commit w c).position width
+
+-- whether the atoms, up to the end of the line, stay within the width; `pending` says that a document waits for that end
 abbrev pub fits : ℕ → Column → Bool → List Atom → Bool
 fits width c pending [] = padding_fits width pending c
 fits width c pending (Ink w ∷ atoms) = nat_le (commit w c).position width && fits width (commit w c) pending atoms
+fits width c pending (Blank ∷ atoms) = fits width (blank c) pending atoms
+fits width c pending (Queue ∷ atoms) = fits width c true atoms
 fits width c pending (Stop ∷ atoms) = false
 fits width c pending (Hard ∷ atoms) = padding_fits width pending c
+fits width c pending (Weak m ∷ atoms) =
+    if c.fresh && not pending then fits width c pending atoms else by_mode m (padding_fits width pending c) false
+fits width c pending (Payload w nonempty ∷ atoms) = payload_begins width c w nonempty

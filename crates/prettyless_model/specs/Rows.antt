@@ -1,5 +1,5 @@
 -- Small documents and what they are laid out as.
-use Rattle.std.specs.Prelude.{◌≡◌, ℕ, ℤ, pos, negsuc, List, [], ◌∷◌, codes}
+use Rattle.std.specs.Prelude.{◌≡◌, ℕ, pos, List, codes}
 use Rattle.prettyless_sink.specs.Options.{options_at}
 use Rattle.prettyless_sink.specs.declared.options.RenderOptions.{RenderOptions}
 use Rattle.prettyless_sink.specs.declared.options.LineEnding.TheVariants.{Lf, Crlf}
@@ -25,8 +25,8 @@ line = BreakOrFlat HardLine (Text (codes " "))
 abbrev pub numbers : Tree
 numbers =
     Append (Append (Text (codes "("))
-      (Group (Nest (pos 1) (Append (Append (Append (Append (Text (codes "1")) line) (Text (codes "2"))) line) (Text (codes "3"))))))
-      (Text (codes ")"))
+    (Group (Nest (pos 1) (Append (Append (Append (Append (Text (codes "1")) line) (Text (codes "2"))) line) (Text (codes "3"))))))
+    (Text (codes ")"))
 
 -- two words and a line between them, in a group
 abbrev pub pair : List ℕ → List ℕ → Tree

@@ -3,21 +3,43 @@ use Rattle.std.specs.Prelude.{ℕ, ℤ, ◌+◌, List}
 
 pub data Tree : Type 0 where
   Nil : Tree
+  Fail : Tree
   Text : List ℕ → Tree
   TextWithLen : ℕ → List ℕ → Tree
+  MultilineText : List ℕ → Tree
+  WeakSpace : Tree
   HardLine : Tree
+  WeakLine : Tree
   Append : Tree → Tree → Tree
+  LineSuffix : Tree → Tree
   Nest : ℤ → Tree → Tree
+  DedentToRoot : Tree → Tree
+  Align : Tree → Tree
+  ExpandParent : Tree
+  Flatten : Tree → Tree
   BreakOrFlat : Tree → Tree → Tree
   Group : Tree → Tree
+  Union : Tree → Tree → Tree
+  PartialUnion : Tree → Tree → Tree
 
 -- how many nodes a tree has; a subtree that stands in several places counts each time
 abbrev pub size : Tree → ℕ
 size Nil = 1
+size Fail = 1
 size (Text s) = 1
 size (TextWithLen w s) = 1
+size (MultilineText s) = 1
+size WeakSpace = 1
 size HardLine = 1
+size WeakLine = 1
 size (Append l r) = size l + size r + 1
+size (LineSuffix d) = size d + 1
 size (Nest k d) = size d + 1
+size (DedentToRoot d) = size d + 1
+size (Align d) = size d + 1
+size ExpandParent = 1
+size (Flatten d) = size d + 1
 size (BreakOrFlat b f) = size b + size f + 1
 size (Group d) = size d + 1
+size (Union l r) = size l + size r + 1
+size (PartialUnion l r) = size l + size r + 1

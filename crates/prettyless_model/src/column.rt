@@ -46,6 +46,37 @@ impl Column {
         }
     }
 
+    /// Where the next content would begin.
+    pub fn prospective(self) -> usize
+        ensures { result ≡ spec.prospective self }
+    {
+        self.position
+            .saturating_add(self.indent)
+            .saturating_add(self.padding)
+    }
+
+    /// The column behind a weak space, which is nothing on a fresh line.
+    pub fn blank(self) -> Self
+        ensures { result ≡ spec.blank self }
+    {
+        if self.fresh {
+            return self;
+        }
+        Column {
+            position: self.position,
+            indent: self.indent,
+            padding: self.padding.saturating_add(1),
+            fresh: false,
+        }
+    }
+
+    /// Whether padding that a pending document would commit stays within the width.
+    pub fn padding_fits(self, width: usize, pending: bool) -> bool
+        ensures { result ≡ spec.padding_fits width pending self }
+    {
+        !pending || self.padding == 0 || self.prospective() <= width
+    }
+
     /// How many spaces are written before the next content.
     pub fn gap(self) -> usize
         ensures { result ≡ spec.gap self }
@@ -58,11 +89,7 @@ impl Column {
         ensures { result ≡ spec.commit width self }
     {
         Column {
-            position: self
-                .position
-                .saturating_add(self.indent)
-                .saturating_add(self.padding)
-                .saturating_add(width),
+            position: self.prospective().saturating_add(width),
             indent: 0,
             padding: 0,
             fresh: false,

@@ -6,4 +6,5 @@
 
 pub mod column;
 pub mod laws;
+pub mod metrics;
 pub mod mode;
