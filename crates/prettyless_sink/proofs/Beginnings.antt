@@ -1,5 +1,5 @@
 -- What was appended so far is a beginning of the text, step by step.
-use Rattle.std.proofs.Common.{◌≡◌, ℕ, List, ◌++◌, ap, sym, ◌∙◌, append_assoc, Result, Ok, Err, OnErr}
+use Rattle.std.proofs.Common.{◌≡◌, ℕ, List, ◌++◌, ap, sym, ◌∙◌, append_assoc, append-nil, refl, [], Result, Ok, Err, OnErr}
 use Rattle.prettyless_sink.specs.Sink.{AppendsBeginning}
 
 -- what holds anyway holds of an error
@@ -19,3 +19,7 @@ beginning_after old mid new text next e p = (
   ap (λ (x : List ℕ). text ++ x) p.2 ∙ sym (append_assoc text p.0 p.1),
   p.3 ∙ ap (λ (x : List ℕ). x ++ p.0) e ∙ append_assoc old text p.0,
 )
+
+-- nothing is a beginning of every text
+pub nothing_appended : (old new text : List ℕ) → new ≡ old → AppendsBeginning old new text
+nothing_appended old new text e = ([], text, refl, e ∙ sym (append-nil old))

@@ -1,5 +1,5 @@
 //! A sink over a text in memory.
-ghost use Rattle.std.specs.Prelude.{◌≡◌, ◌++◌, ◌+◌, ◌<◌, ⊤, OnOk, OnErr, length};
+ghost use Rattle.std.specs.Prelude.{◌≡◌, ◌++◌, ◌+◌, ◌<◌, ⊤, Some, OnOk, OnErr, length};
 ghost use Rattle.std.specs.String.{string_bytes, string_len, string_capacity};
 ghost use Rattle.prettyless_sink.specs.Sink.{rise};
 
@@ -23,34 +23,30 @@ impl<W> FmtWrite<W> {
             failures: 0,
         }
     }
-
-    /// The text writer, given back with what was written.
-    pub fn into_inner(self) -> W
-        ensures { result ≡ self.upstream }
-    {
-        self.upstream
-    }
 }
 
-impl Render for FmtWrite<String> {
+impl<'w> Render for FmtWrite<&'w mut String> {
     type Error = fmt::Error;
 
     ghost tells = { λ _. ⊤ };
 
-    ghost written = { λ sink. string_bytes sink.upstream };
+    ghost written = { λ sink. string_bytes sink.upstream.now };
 
     ghost failures = { λ sink. sink.failures };
+
+    ghost lender = { λ sink. Some sink.upstream.ghost_name };
 
     ghost document_errors = { λ _ _. ⊤ };
 
     /// Appends the text. Where memory for it is refused, the text in memory stays and the failures rise by one.
     #[inline]
     fn write_str_all(&mut self, s: &str) -> Result<(), fmt::Error>
-        ensures ok { OnOk result ((string_bytes self.new.upstream ≡ string_bytes self.old.upstream ++ s.now)
+        ensures same_lender { self.new.upstream.ghost_name ≡ self.old.upstream.ghost_name }
+        ensures ok { OnOk result ((string_bytes self.new.upstream.now ≡ string_bytes self.old.upstream.now ++ s.now)
             × (self.new.failures ≡ self.old.failures)) }
-        ensures err { OnErr result ((string_bytes self.new.upstream ≡ string_bytes self.old.upstream)
+        ensures err { OnErr result ((string_bytes self.new.upstream.now ≡ string_bytes self.old.upstream.now)
             × (self.new.failures ≡ rise self.old.failures)) }
-        ensures full { OnErr result (string_capacity self.old.upstream < string_len self.old.upstream + length s.now) }
+        ensures full { OnErr result (string_capacity self.old.upstream.now < string_len self.old.upstream.now + length s.now) }
     {
         match self.upstream.push_str(s) {
             Ok(()) => Ok(()),
@@ -74,10 +70,11 @@ mod tests {
 
     #[test]
     fn appends_to_the_text(rt: HostRuntime) -> Result<(), Fail> {
-        let mut sink = FmtWrite::new(String::from_str(rt.alloc(), "ab\n")?);
+        let mut text = String::from_str(rt.alloc(), "ab\n")?;
+        let mut sink = FmtWrite::new(&mut text);
         write_gap_and_text(&mut sink, 2, "é")?;
         sink.write_str_all("!")?;
-        assert_eq!(rt; sink.into_inner().as_str(), "ab\n  é!");
+        assert_eq!(rt; text.as_str(), "ab\n  é!");
         Ok(())
     }
 }

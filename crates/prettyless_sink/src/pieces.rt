@@ -14,6 +14,7 @@ const HUNDRED_SPACES: &str =
 /// An error is the sink's: it then has a beginning of the spaces and the text, and got no piece after that.
 #[inline]
 pub fn write_gap_and_text<W: Render>(out: &mut W, gap: usize, text: &str) -> Result<(), W::Error>
+    ensures same_lender { W.lender out.new ≡ W.lender out.old }
     ensures ok { OnOk result (W.tells out.old → W.tells out.new
         × (W.written out.new ≡ W.written out.old ++ (spaces gap ++ text.now)) × (W.failures out.new ≡ W.failures out.old)) }
     ensures err { OnErr result (W.tells out.old → W.tells out.new
@@ -30,6 +31,7 @@ pub fn write_gap_and_text<W: Render>(out: &mut W, gap: usize, text: &str) -> Res
 
 // Writes so many spaces, or fails behind fewer.
 fn write_spaces<W: Render>(out: &mut W, count: usize) -> Result<(), W::Error>
+    ensures same_lender { W.lender out.new ≡ W.lender out.old }
     ensures ok { OnOk result (W.tells out.old → W.tells out.new
         × (W.written out.new ≡ W.written out.old ++ spaces count) × (W.failures out.new ≡ W.failures out.old)) }
     ensures err { OnErr result (W.tells out.old → W.tells out.new

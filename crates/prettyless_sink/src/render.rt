@@ -1,4 +1,5 @@
-ghost use Rattle.std.specs.Prelude.{◌≡◌, ◌++◌, ℕ, List, OnOk, OnErr};
+ghost use Rattle.std.specs.Prelude.{◌≡◌, ◌++◌, ℕ, List, Option, None, OnOk, OnErr};
+ghost use Rattle.std.specs.Borrow.{GName};
 ghost use Rattle.prettyless_sink.specs.Sink.{AppendsBeginning, rise};
 
 /// A sink: where the bytes of a layout go.
@@ -17,11 +18,15 @@ pub trait Render {
     // how often it failed, at most the greatest `u64`
     ghost failures: { Self → ℕ };
 
+    // the reference that the sink writes through, if it has one: that stays, so its owner knows what was written
+    ghost lender: { Self → Option GName } = { λ _. None };
+
     // the errors that `fail_doc` may answer
     ghost document_errors: { Self → Self.Error → Type 0 };
 
     /// Writes the whole text, or fails behind a beginning of it.
     fn write_str_all(&mut self, s: &str) -> Result<(), Self::Error>
+        ensures same_lender { lender self.new ≡ lender self.old }
         ensures ok { OnOk result (tells self.old → tells self.new
             × (written self.new ≡ written self.old ++ s.now) × (failures self.new ≡ failures self.old)) }
         ensures err { OnErr result (tells self.old → tells self.new

@@ -8,7 +8,7 @@ pub returns-in_err-write_str_all-clause-err : goal.returns-in_err-write_str_all-
 returns-in_err-write_str_all-clause-err g c =
     on_err c.from_residual.result
     (λ t.
-    let before = c.loop-left.invariant.1 t in
+    let before = c.loop-left.invariant.2 t in
     let failed = c.in_err-write_str_all.ensures.err before.0 in (
       failed.0,
       beginning_of_gap _ _ _ _ c.args.count (c.args.count - c.loop-left.left) c.min-piece.result (omega arith) c.some_spaces.ensures before.1 failed.1,
@@ -18,8 +18,9 @@ returns-in_err-write_str_all-clause-err g c =
 pub loop-left-preserved : goal.loop-left-preserved
 loop-left-preserved g c = (
   omega arith,
+  cc,
   λ t.
-      let before = c.loop-left.invariant.1 t in
+      let before = c.loop-left.invariant.2 t in
       let wrote = c.in_ok-write_str_all.ensures.ok before.0 in (
         wrote.0,
         piece_after_gap _ _ _ _ _ (c.args.count - c.loop-left.left) c.min-piece.result (omega arith) c.some_spaces.ensures before.1 wrote.1,
