@@ -1,76 +1,156 @@
--- A run from the first command is a render of the layout.
-use Rattle.std.proofs.Common.{◌≡◌, ℕ, List, [], ◌∷◌, ◌++◌, refl, ap, sym, ◌∙◌, append-nil, subst, Result, Ok, Err}
-use Rattle.prettyless_sink.specs.Sink.{AppendsBeginning}
+-- A run from the first command, with the rounds of the end, is a render of the layout.
+use Rattle.std.proofs.Common.{◌≡◌, ℕ, ◌*◌, ◌≤◌, ◌<◌, List, [], ◌∷◌, ◌++◌, length, refl, ap, sym, ◌∙◌, append_assoc, append-nil, arith, subst, Result, Ok, Err}
+use Rattle.prettyless_sink.specs.Sink.{AppendsBeginning, rise}
+use Rattle.prettyless_sink.specs.Spaces.{spaces}
 use Rattle.prettyless_sink.specs.declared.options.RenderOptions.{RenderOptions}
 use Rattle.prettyless_sink.specs.declared.error.RenderError.{RenderError}
 use Rattle.prettyless_sink.specs.declared.error.RenderError.TheVariants.{Document, Sink, Memory}
-use Rattle.prettyless_sink.proofs.Beginnings.{beginning_of_more}
 use Rattle.prettyless_model.specs.Tree.{Tree}
-use Rattle.prettyless_model.specs.Layout.{State, Outcome, Done, Failed, after_bytes, and_then, lay, finish, initial, layout, Bytes, bytes_of, bytes_in, Whole}
+use Rattle.prettyless_model.specs.Column.{gap}
+use Rattle.prettyless_model.specs.Layout.{State, Outcome, Done, Failed, Entry, Breaks, after_bytes, and_then, lay, lay_each, flushed, end_with, initial, layout, bytes_of, bytes_in, Whole}
 use Rattle.prettyless_model.specs.Levels.{settle, settle_end}
 use Rattle.prettyless_model.specs.declared.mode.Mode.TheVariants.{Break}
-use Rattle.prettyless_model.proofs.Outcomes.{then-done}
-use Rattle.prettyless_model.proofs.Levels.{layout_is}
-use Rattle.prettyless_printer.specs.Stack.{Task, make_task, stack_of}
-use Rattle.prettyless_printer.specs.Steps.{lay_all}
+use Rattle.prettyless_model.proofs.Outcomes.{after-nil, after-after, then-done}
+use Rattle.prettyless_model.proofs.Levels.{end_fixed, layout_is}
+use Rattle.prettyless_printer.specs.Stack.{Task, make_task, nodes, stack_of, tasks}
+use Rattle.prettyless_printer.specs.Steps.{lay_all, owed}
 use Rattle.prettyless_printer.specs.Printing.{state_of}
 use Rattle.prettyless_printer.specs.Turns.{bytes_before}
-use Rattle.prettyless_printer.specs.Renders.{rest_of, WorkedOff, Rendered, RendersInto}
+use Rattle.prettyless_printer.specs.Renders.{rest_of, to_end, Stopped, Flushed, Rendered}
 use Rattle.prettyless_printer.proofs.Progresses.{bytes_before-after}
+use Rattle.prettyless_printer.proofs.Runs.{lay_all-tasks}
+use Rattle.prettyless_printer.proofs.Steps.{nodes-tasks}
+use Rattle.prettyless_printer.proofs.Turnings.{beginning_less}
 use Rattle.prettyless_printer.specs.declared.printer.Printer.{Printer}
+
+-- What was written since `old`, and then what the commands and the end lay, is the whole.
+pub record Finishing {N : Type 0} (f : N → Tree) (whole : Outcome) (p : Printer N) (old out : List ℕ) : Type 0 where
+  pub bytes : List ℕ
+  pub out_is : out ≡ old ++ bytes
+  pub same : after_bytes bytes (to_end f p) ≡ whole
+
+pub finishing_begins : {N : Type 0} (f : N → Tree) (p : Printer N) (out : List ℕ) → Finishing f (to_end f p) p out out
+finishing_begins {N} f p out = record { bytes = []; out_is = sym (append-nil out); same = after-nil (to_end f p) }
+
+bytes_in-of : (o : Outcome) → bytes_in (bytes_of o) ≡ bytes_before o
+bytes_in-of (Done b st) = refl
+bytes_in-of (Failed b) = refl
+
+bytes_before-then : (o : Outcome) (k : State → Outcome) → (more : List ℕ) × (bytes_before (and_then o k) ≡ bytes_before o ++ more)
+bytes_before-then (Done b st) k = (bytes_before (k st), bytes_before-after b (k st))
+bytes_before-then (Failed b) k = ([], sym (append-nil b))
+
+-- a beginning of what the commands lay is one of the whole
+finishing_beginning : {N : Type 0} (f : N → Tree) (whole : Outcome) (p : Printer N) (old out new : List ℕ) → Finishing f whole p old out → AppendsBeginning out new (bytes_before (rest_of f p)) → AppendsBeginning old new (bytes_in (bytes_of whole))
+finishing_beginning {N} f whole p old out new h q =
+    let m = bytes_before-then (rest_of f p) (settle_end p.options) in (
+      h.bytes ++ q.0,
+      q.1 ++ m.0,
+      bytes_in-of whole ∙ sym (ap bytes_before h.same) ∙ bytes_before-after h.bytes (to_end f p)
+      ∙ ap (λ (x : List ℕ). h.bytes ++ x) (m.1 ∙ ap (λ (x : List ℕ). x ++ m.0) q.2 ∙ append_assoc q.0 q.1 m.0) ∙ sym (append_assoc h.bytes q.0 (q.1 ++ m.0)),
+      q.3 ∙ ap (λ (x : List ℕ). x ++ q.0) h.out_is ∙ append_assoc old h.bytes q.0,
+    )
+
+-- the commands broke off
+pub finishing_stopped : (A : Type 0) {N E : Type 0} (f : N → Tree) (whole : Outcome) (p : Printer N) (fails : E → Type 0) (old out new : List ℕ) (n k m : ℕ) (e : RenderError E) → Finishing f whole p old out → k ≡ n → Stopped fails (rest_of f p) out new k m e →
+    Rendered {A = A} fails (bytes_of whole) old new n m (Err e)
+finishing_stopped A {N} {E} f whole p fails old out new n k m (Document e) h a q = (
+  h.bytes ++ q.0,
+  ap bytes_of (sym h.same ∙ ap (λ (x : Outcome). after_bytes h.bytes (and_then x (settle_end p.options))) q.1),
+  q.2 ∙ ap (λ (x : List ℕ). x ++ q.0) h.out_is ∙ append_assoc old h.bytes q.0,
+  q.3 ∙ a,
+  q.4,
+)
+finishing_stopped A {N} {E} f whole p fails old out new n k m (Sink e) h a q = (finishing_beginning f whole p old out new h q.0, q.1 ∙ ap rise a)
+finishing_stopped A {N} {E} f whole p fails old out new n k m (Memory e) h a q = (finishing_beginning f whole p old out new h q.0, q.1 ∙ a)
+
+-- the commands are worked off: what is left is the end
+pub record Ending {N : Type 0} (f : N → Tree) (whole : Outcome) (o : RenderOptions) (q : Printer N) (old new : List ℕ) : Type 0 where
+  pub bytes : List ℕ
+  pub new_is : new ≡ old ++ bytes
+  pub same : after_bytes bytes (end_with o (settle o) (settle_end o) (state_of f q).pending (state_of f q)) ≡ whole
+
+pub finishing_ends : {N : Type 0} (f : N → Tree) (whole : Outcome) (p q : Printer N) (old out new b : List ℕ) → Finishing f whole p old out → rest_of f p ≡ Done b (state_of f q) → new ≡ out ++ b → Ending f whole p.options q old new
+finishing_ends {N} f whole p q old out new b h r w = record {
+  bytes = h.bytes ++ b;
+  new_is = w ∙ ap (λ (x : List ℕ). x ++ b) h.out_is ∙ append_assoc old h.bytes b;
+  same = ap (after_bytes (h.bytes ++ b)) (sym (end_fixed p.options (state_of f q))) ∙ sym (after-after h.bytes b (settle_end p.options (state_of f q)))
+      ∙ ap (λ (x : Outcome). after_bytes h.bytes (and_then x (settle_end p.options))) (sym r) ∙ h.same;
+}
+
+none_pending : (o : RenderOptions) (brk : Breaks) (again : State → Outcome) (ps : List Tree) (st : State) → length ps ≤ 0 → end_with o brk again ps st ≡ Done [] st
+none_pending o brk again [] st l = refl
+none_pending o brk again (p ∷ ps) st l = absurd (omega arith)
+
+-- nothing waits: that is all
+pub ending_done : {N : Type 0} (f : N → Tree) (whole : Outcome) (o : RenderOptions) (q : Printer N) (old new : List ℕ) → Ending f whole o q old new → length (state_of f q).pending ≤ 0 → (bytes : List ℕ) × (bytes_of whole ≡ Whole bytes) × (new ≡ old ++ bytes)
+ending_done {N} f whole o q old new h l = (
+  h.bytes,
+  ap bytes_of (sym h.same ∙ ap (after_bytes h.bytes) (none_pending o (settle o) (settle_end o) (state_of f q).pending (state_of f q) l)) ∙ ap Whole (append-nil h.bytes),
+  h.new_is,
+)
+
+-- one round of the end, as tasks
+round : (o : RenderOptions) (brk : Breaks) (again : State → Outcome) (ps : List Tree) (st : State) → 0 < length ps →
+    end_with o brk again ps st ≡ after_bytes (spaces (gap st.column)) (and_then (lay_all o brk (tasks 0 Break ps) [] (flushed o st)) again)
+unfolding lay_all
+round o brk again [] st l = absurd (omega arith)
+round o brk again (d ∷ ds) st l =
+    ap (λ (x : Outcome). after_bytes (spaces (gap st.column)) (and_then x again))
+    (sym (ap (λ (x : List Task). lay_all o brk x [] (flushed o st)) (sym (append-nil (tasks 0 Break (d ∷ ds)))) ∙ lay_all-tasks o brk (d ∷ ds) 0 Break [] [] (flushed o st) ∙ then-done (lay_each o brk (d ∷ ds) 0 Break [] (flushed o st))))
+
+-- the documents that wait are the commands, and the gap before them is written
+pub ending_again : {N : Type 0} (f : N → Tree) (whole : Outcome) (o : RenderOptions) (q r : Printer N) (old new out : List ℕ) → Ending f whole o q old new → r.options ≡ o → 0 < length (state_of f q).pending →
+    stack_of f r.commands.items ≡ tasks 0 Break (state_of f q).pending → state_of f r ≡ flushed o (state_of f q) → out ≡ new ++ spaces (gap q.column) → Finishing f whole r old out
+ending_again {N} f whole o q r old new out h e l k u x =
+    let st = state_of f q in
+    let rest : rest_of f r ≡ lay_all o (settle o) (tasks 0 Break st.pending) [] (flushed o st) =
+    ap (λ (z : RenderOptions). lay_all z (settle z) (stack_of f r.commands.items) [] (state_of f r)) e
+    ∙ ap (λ (z : List Task). lay_all o (settle o) z [] (state_of f r)) k ∙ ap (λ (z : State). lay_all o (settle o) (tasks 0 Break st.pending) [] z) u in
+    record {
+      bytes = h.bytes ++ spaces (gap q.column);
+      out_is = x ∙ ap (λ (z : List ℕ). z ++ spaces (gap q.column)) h.new_is ∙ append_assoc old h.bytes (spaces (gap q.column));
+      same = sym (after-after h.bytes (spaces (gap q.column)) (to_end f r))
+          ∙ ap (λ (z : RenderOptions). after_bytes h.bytes (after_bytes (spaces (gap q.column)) (and_then (rest_of f r) (settle_end z)))) e
+          ∙ ap (λ (z : Outcome). after_bytes h.bytes (after_bytes (spaces (gap q.column)) (and_then z (settle_end o)))) rest
+          ∙ ap (after_bytes h.bytes) (sym (round o (settle o) (settle_end o) st.pending st l)) ∙ h.same;
+    }
+
+-- the gap before them broke off
+pub ending_stopped : (A : Type 0) {N E : Type 0} (f : N → Tree) (whole : Outcome) (o : RenderOptions) (q : Printer N) (fails : E → Type 0) (old new last : List ℕ) (n k m : ℕ) (e : RenderError E) → Ending f whole o q old new → 0 < length (state_of f q).pending → k ≡ n →
+    Flushed {A = A} q new last k m (Err e) → Rendered {A = A} fails (bytes_of whole) old last n m (Err e)
+ending_stopped A {N} {E} f whole o q fails old new last n k m (Document e) h l a s = absurd s
+ending_stopped A {N} {E} f whole o q fails old new last n k m (Sink e) h l a s =
+    let st = state_of f q in
+    let rest : Outcome = and_then (lay_all o (settle o) (tasks 0 Break st.pending) [] (flushed o st)) (settle_end o) in
+    let all : bytes_before whole ≡ h.bytes ++ (spaces (gap q.column) ++ bytes_before rest) =
+    sym (ap bytes_before h.same) ∙ bytes_before-after h.bytes (end_with o (settle o) (settle_end o) st.pending st)
+    ∙ ap (λ (z : List ℕ). h.bytes ++ z) (ap bytes_before (round o (settle o) (settle_end o) st.pending st l) ∙ bytes_before-after (spaces (gap q.column)) rest) in
+    let b = s.0 in (
+      (
+        h.bytes ++ b.0,
+        b.1 ++ bytes_before rest,
+        bytes_in-of whole ∙ all ∙ ap (λ (z : List ℕ). h.bytes ++ z) (ap (λ (z : List ℕ). z ++ bytes_before rest) b.2 ∙ append_assoc b.0 b.1 (bytes_before rest)) ∙ sym (append_assoc h.bytes b.0 (b.1 ++ bytes_before rest)),
+        b.3 ∙ ap (λ (z : List ℕ). z ++ b.0) h.new_is ∙ append_assoc old h.bytes b.0,
+      ),
+      s.1 ∙ ap rise a,
+    )
+ending_stopped A {N} {E} f whole o q fails old new last n k m (Memory e) h l a s =
+    let left : Outcome = end_with o (settle o) (settle_end o) (state_of f q).pending (state_of f q) in
+    ((h.bytes, bytes_before left, bytes_in-of whole ∙ sym (ap bytes_before h.same) ∙ bytes_before-after h.bytes left, s.0 ∙ h.new_is), s.1 ∙ a)
+
+-- the work of a round is less than what was owed for it
+pub round_less : (ps : List Tree) → 0 < length ps → 2 * nodes (tasks 0 Break ps) < owed ps
+round_less ps l = omega (arith, nodes-tasks 0 Break ps [], ap nodes (append-nil (tasks 0 Break ps)))
 
 lay_all-one : (o : RenderOptions) (d : Tree) (st : State) → lay_all o (settle o) (make_task 0 Break d ∷ []) [] st ≡ lay o (settle o) d 0 Break [] st
 unfolding lay_all
 lay_all-one o d st = then-done (lay o (settle o) d 0 Break [] st)
 
--- what a printer that begins lays, and then the end, is the layout
-begins : {N : Type 0} (f : N → Tree) (p : Printer N) (d : Tree) → stack_of f p.commands.items ≡ make_task 0 Break d ∷ [] → state_of p ≡ initial →
-    layout p.options d ≡ bytes_of (and_then (rest_of f p) (settle_end p.options))
+-- what a printer that begins lays to the end is the layout
+pub begins : {N : Type 0} (f : N → Tree) (p : Printer N) (d : Tree) → stack_of f p.commands.items ≡ make_task 0 Break d ∷ [] → state_of f p ≡ initial → layout p.options d ≡ bytes_of (to_end f p)
 begins {N} f p d e s =
     layout_is p.options d
     ∙ ap (λ (x : Outcome). bytes_of (and_then x (settle_end p.options)))
-    (sym (ap (λ (x : List Task). lay_all p.options (settle p.options) x [] (state_of p)) e
+    (sym (ap (λ (x : List Task). lay_all p.options (settle p.options) x [] (state_of f p)) e
     ∙ ap (lay_all p.options (settle p.options) (make_task 0 Break d ∷ []) []) s ∙ lay_all-one p.options d initial))
-
--- nothing is pending at the end
-none_pending : {N : Type 0} (o : RenderOptions) (q : Printer N) → settle_end o (state_of q) ≡ Done [] (state_of q)
-unfolding settle_end finish
-none_pending {N} o q = refl
-
-bytes_in-of : (out : Outcome) → bytes_in (bytes_of out) ≡ bytes_before out
-bytes_in-of (Done b st) = refl
-bytes_in-of (Failed b) = refl
-
-bytes_in-then : (out : Outcome) (k : State → Outcome) → (more : List ℕ) × (bytes_in (bytes_of (and_then out k)) ≡ bytes_before out ++ more)
-bytes_in-then (Done b st) k = (bytes_before (k st), bytes_in-of (after_bytes b (k st)) ∙ bytes_before-after b (k st))
-bytes_in-then (Failed b) k = ([], sym (append-nil b))
-
-beginning_of_layout : {N : Type 0} (f : N → Tree) (p : Printer N) (d : Tree) (old new : List ℕ) → layout p.options d ≡ bytes_of (and_then (rest_of f p) (settle_end p.options)) →
-    AppendsBeginning old new (bytes_before (rest_of f p)) → AppendsBeginning old new (bytes_in (layout p.options d))
-beginning_of_layout {N} f p d old new e h =
-    let m = bytes_in-then (rest_of f p) (settle_end p.options) in
-    subst (AppendsBeginning old new) (sym (ap bytes_in e ∙ m.1)) (beginning_of_more old new (bytes_before (rest_of f p)) m.0 h)
-
-rendered_as : {N A E : Type 0} (f : N → Tree) (p q : Printer N) (d : Tree) (fails : E → Type 0) (old new : List ℕ) (n m : ℕ) (r : Result A (RenderError E)) →
-    layout p.options d ≡ bytes_of (and_then (rest_of f p) (settle_end p.options)) → WorkedOff f p q fails old new n m r → Rendered fails (layout p.options d) old new n m r
-rendered_as {N} {A} {E} f p q d fails old new n m (Ok r) e h = (
-  h.0,
-  e ∙ ap (λ (x : Outcome). bytes_of (and_then x (settle_end p.options))) h.1 ∙ ap (λ (x : Outcome). bytes_of (after_bytes h.0 x)) (none_pending p.options q) ∙ ap Whole (append-nil h.0),
-  h.2,
-  h.3,
-)
-rendered_as {N} {A} {E} f p q d fails old new n m (Err (Document x)) e h = (h.0, e ∙ ap (λ (y : Outcome). bytes_of (and_then y (settle_end p.options))) h.1, h.2, h.3, h.4)
-rendered_as {N} {A} {E} f p q d fails old new n m (Err (Sink x)) e h = (beginning_of_layout f p d old new e h.0, h.1)
-rendered_as {N} {A} {E} f p q d fails old new n m (Err (Memory x)) e h = (beginning_of_layout f p d old new e h.0, h.1)
-
--- a run of all commands, from the first one
-pub rendered : {N A E : Type 0} (f : N → Tree) (p q : Printer N) (d : Tree) (fails : E → Type 0) (old new : List ℕ) (n m : ℕ) (r : Result A (RenderError E)) →
-    stack_of f p.commands.items ≡ make_task 0 Break d ∷ [] → state_of p ≡ initial → WorkedOff f p q fails old new n m r → Rendered fails (layout p.options d) old new n m r
-rendered {N} {A} {E} f p q d fails old new n m r e s h = rendered_as f p q d fails old new n m r (begins f p d e s) h
-
--- a render, where no failures are seen
-pub renders_into : {A E : Type 0} (fails : E → Type 0) (y : Bytes) (old new : List ℕ) (n m : ℕ) (r : Result A (RenderError E)) → Rendered fails y old new n m r → RendersInto y old new r
-renders_into fails y old new n m (Ok r) h = (h.0, h.1, h.2)
-renders_into fails y old new n m (Err (Document e)) h = (h.0, h.1, h.2)
-renders_into fails y old new n m (Err (Sink e)) h = h.0
-renders_into fails y old new n m (Err (Memory e)) h = h.0

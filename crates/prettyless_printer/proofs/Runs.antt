@@ -1,19 +1,22 @@
 -- A step keeps what the stack lays.
-use Rattle.std.proofs.Common.{◌≡◌, ℕ, List, [], ◌∷◌, ◌++◌, length, refl, ap, sym, ◌∙◌, append_assoc, if◌then◌else◌}
+use Rattle.std.proofs.Common.{◌≡◌, ℕ, List, [], ◌∷◌, ◌++◌, length, refl, ap, sym, ◌∙◌, append_assoc, Bool, true, false, ◌&&◌, Option, Some, None, if◌then◌else◌}
 use Rattle.prettyless_sink.specs.Spaces.{spaces}
 use Rattle.prettyless_sink.specs.declared.options.RenderOptions.{RenderOptions}
 use Rattle.prettyless_sink.specs.declared.options.IndentationPolicy.{IndentationPolicy}
 use Rattle.prettyless_sink.specs.declared.options.IndentationPolicy.TheVariants.{Eager, Deferred}
-use Rattle.prettyless_model.specs.Tree.{Tree, Nil, Text, TextWithLen, HardLine, Append, Nest, BreakOrFlat, Group}
-use Rattle.prettyless_model.specs.Column.{gap}
+use Rattle.prettyless_model.specs.Tree.{Tree, Nil, Fail, Text, TextWithLen, MultilineText, WeakSpace, HardLine, WeakLine, Append, LineSuffix, Nest, DedentToRoot, Align, ExpandParent, Flatten, BreakOrFlat, Group, Union, PartialUnion}
+use Rattle.prettyless_model.specs.Metrics.{metrics}
+use Rattle.prettyless_model.specs.Column.{gap, prospective, start, commit, padding_fits}
+use Rattle.prettyless_model.specs.declared.metrics.Metrics.{Metrics}
+use Rattle.prettyless_model.specs.declared.column.Column.{Column}
 use Rattle.prettyless_model.specs.Reading.{by_mode}
-use Rattle.prettyless_model.specs.Layout.{State, Outcome, Done, Failed, Entry, Breaks, after_bytes, and_then, lay, lay_each, lay_text, lay_ending, nested, probe, flushed, entry, entries, next_indent, plain_break, break_with}
+use Rattle.prettyless_model.specs.Layout.{State, Outcome, Done, Failed, Entry, Breaks, after_bytes, and_then, lay, lay_each, lay_text, lay_payload, payload_fits, behind_payload, lay_ending, nested, probe, some_pending, accept, tried, flushed, entry, entries, next_indent, is_suppressed, plain_break, break_with}
 use Rattle.prettyless_model.proofs.Outcomes.{after-nil, then-after, then-then}
 use Rattle.prettyless_model.proofs.Levels.{Fixed}
 use Rattle.prettyless_model.specs.declared.mode.Mode.{Mode}
 use Rattle.prettyless_model.specs.declared.mode.Mode.TheVariants.{Break, Flat}
 use Rattle.prettyless_printer.specs.Stack.{Task, make_task, tasks, follow}
-use Rattle.prettyless_printer.specs.Steps.{lay_all, step_of, break_step, at_once, runs}
+use Rattle.prettyless_printer.specs.Steps.{lay_all, step_of, break_step, union_step, decided_by_metrics, at_once, chosen, runs}
 
 follow-tasks : (i : ℕ) (m : Mode) (ds : List Tree) (us : List Task) → follow (tasks i m ds ++ us) ≡ entries i ds ++ follow us
 follow-tasks i m [] us = refl
@@ -36,9 +39,9 @@ abbrev FailsAtOnce : Outcome → Type 0
 FailsAtOnce (Done b st) = Unit {0}
 FailsAtOnce (Failed b) = b ≡ []
 
-at_once_runs : (o : RenderOptions) (brk : Breaks) (out : Outcome) (ts : List Task) (outer : List Entry) → FailsAtOnce out → and_then out (λ u. lay_all o brk ts outer u) ≡ runs o brk (at_once out) ts outer
-at_once_runs o brk (Done b u) ts outer h = refl
-at_once_runs o brk (Failed b) ts outer h = ap Failed h
+at_once_runs : (o : RenderOptions) (brk : Breaks) (out : Outcome) (ts : List Task) (outer : List Entry) (st : State) → FailsAtOnce out → and_then out (λ u. lay_all o brk ts outer u) ≡ runs o brk (at_once out) ts outer st
+at_once_runs o brk (Done b u) ts outer st h = refl
+at_once_runs o brk (Failed b) ts outer st h = ap Failed h
 
 text_at_once : (o : RenderOptions) (w : ℕ) (s : List ℕ) (st : State) → FailsAtOnce (lay_text o w s st)
 text_at_once o w [] st = tt
@@ -54,10 +57,15 @@ lay_again : (o : RenderOptions) (brk : Breaks) (t : Task) (ts : List Task) (oute
 unfolding lay_all
 lay_again o brk t ts outer e = ap {B = State → Outcome} (λ (g : State → Outcome) (u : State). and_then (g u) (λ v. lay_all o brk ts outer v)) e
 
+plain_at_once : (o : RenderOptions) (d : Tree) (i : ℕ) (rest : List Entry) (st : State) → FailsAtOnce (plain_break o d i rest st)
+plain_at_once o d i rest st =
+    elim (is_suppressed d st.column) as (λ v. FailsAtOnce (if v then Done [] st else lay_ending o o.indentation_policy (next_indent i rest) st))
+    [ true ↦ tt | false ↦ ending_at_once o o.indentation_policy (next_indent i rest) st ]
+
 break_runs : (o : RenderOptions) (brk : Breaks) → (ps : List Tree) (d : Tree) (i : ℕ) (m : Mode) (ts : List Task) (outer : List Entry) (st : State) →
     (lay o brk d i m (follow ts ++ outer) ≡ brk d i m (follow ts ++ outer)) →
-    and_then (break_with o brk ps d i m (follow ts ++ outer) st) (λ u. lay_all o brk ts outer u) ≡ runs o brk (break_step o ps d i m (follow ts ++ outer) st) ts outer
-break_runs o brk [] d i m ts outer st e = at_once_runs o brk (plain_break o d i (follow ts ++ outer) st) ts outer (ending_at_once o o.indentation_policy (next_indent i (follow ts ++ outer)) st)
+    and_then (break_with o brk ps d i m (follow ts ++ outer) st) (λ u. lay_all o brk ts outer u) ≡ runs o brk (break_step o ps d i m (follow ts ++ outer) st) ts outer st
+break_runs o brk [] d i m ts outer st e = at_once_runs o brk (plain_break o d i (follow ts ++ outer) st) ts outer st (plain_at_once o d i (follow ts ++ outer) st)
 break_runs o brk (p ∷ ps) d i m ts outer st e =
     let rest : List Entry = follow ts ++ outer in
     let self : Task = make_task i m d in
@@ -75,22 +83,82 @@ break_runs o brk (p ∷ ps) d i m ts outer st e =
 moved : (o : RenderOptions) (brk : Breaks) (ts : List Task) (outer : List Entry) (st : State) → lay_all o brk ts outer st ≡ after_bytes [] (lay_all o brk ts outer st)
 moved o brk ts outer st = sym (after-nil (lay_all o brk ts outer st))
 
+-- one of two nodes in Break, alone on the tasks behind it
+partial_runs : (o : RenderOptions) (brk : Breaks) (l r : Tree) (i : ℕ) (ts : List Task) (outer : List Entry) (st : State) (v : Bool) →
+    and_then (if v then lay o brk l i Break (follow ts ++ outer) st else lay o brk r i Break (follow ts ++ outer) st) (λ u. lay_all o brk ts outer u)
+    ≡ after_bytes [] (lay_all o brk (make_task i Break (if v then l else r) ∷ ts) outer st)
+unfolding lay_all
+partial_runs o brk l r i ts outer st true = moved o brk (make_task i Break l ∷ ts) outer st
+partial_runs o brk l r i ts outer st false = moved o brk (make_task i Break r ∷ ts) outer st
+
+-- the flag behind a payload that fits
+flag-and : (v : Bool) → v ≡ v && true
+flag-and true = refl
+flag-and false = refl
+
+-- no padding stands behind a payload
+no_padding : (width : ℕ) (pending last : Bool) (m : Metrics) → padding_fits width pending (if last then commit m.last_width start else start) ≡ true
+no_padding width true true m = refl
+no_padding width true false m = refl
+no_padding width false true m = refl
+no_padding width false false m = refl
+
+-- a payload as the first branch: its metrics decide what a trial would
+payload_branch : (o : RenderOptions) (m : Metrics) (b : List ℕ) (st : State) (other : Outcome) (v : Bool) → v ≡ payload_fits o m st.column →
+    accept o st.within (lay_payload o m b (tried st)) other ≡ (if v then lay_payload o m b st else other)
+payload_branch o m b st other true e =
+    let bytes : List ℕ = (if m.first_nonempty then spaces (gap st.column) else []) ++ b in
+    ap (λ (x : Bool). if x then Done bytes (record st { column = behind_payload m }) else other)
+      (ap (λ (x : Bool). x && padding_fits o.width (some_pending st.pending) (behind_payload m)) (sym e) ∙ no_padding o.width (some_pending st.pending) m.last_nonempty m)
+    ∙ ap (λ (x : Bool). Done bytes (record st { column = behind_payload m; within = x })) (flag-and st.within ∙ ap (λ (x : Bool). st.within && x) e)
+payload_branch o m b st other false e =
+    let bytes : List ℕ = (if m.first_nonempty then spaces (gap st.column) else []) ++ b in
+    ap (λ (x : Bool). if x then Done bytes (record st { column = behind_payload m }) else other)
+      (ap (λ (x : Bool). x && padding_fits o.width (some_pending st.pending) (behind_payload m)) (sym e))
+
+-- a union in Break lays what its step does
+union_runs : (o : RenderOptions) (brk : Breaks) (l r : Tree) (i : ℕ) (ts : List Task) (outer : List Entry) (st : State) →
+    and_then (chosen o brk i l r (follow ts ++ outer) st) (λ u. lay_all o brk ts outer u) ≡ runs o brk (union_step (decided_by_metrics o l st) l r i st) ts outer st
+unfolding lay lay_all
+union_runs o brk (MultilineText s) r i ts outer st =
+    ap (λ (x : Outcome). and_then x (λ u. lay_all o brk ts outer u))
+      (payload_branch o (metrics s) s st (lay o brk r i Break (follow ts ++ outer) st) (payload_fits o (metrics s) st.column) refl)
+    ∙ partial_runs o brk (MultilineText s) r i ts outer st (payload_fits o (metrics s) st.column)
+union_runs o brk _ r i ts outer st = refl
+
 -- a node and the tasks behind it lay what its step and they lay
 pub step_runs : (o : RenderOptions) (brk : Breaks) → Fixed o brk → (d : Tree) (i : ℕ) (m : Mode) (ts : List Task) (outer : List Entry) (st : State) →
-    lay_all o brk (make_task i m d ∷ ts) outer st ≡ runs o brk (step_of o d i m (follow ts ++ outer) st) ts outer
+    lay_all o brk (make_task i m d ∷ ts) outer st ≡ runs o brk (step_of o d i m (follow ts ++ outer) st) ts outer st
 unfolding lay lay_all
 step_runs o brk fixed Nil i m ts outer st = refl
-step_runs o brk fixed (Text s) i m ts outer st = at_once_runs o brk (lay_text o (length s) s st) ts outer (text_at_once o (length s) s st)
-step_runs o brk fixed (TextWithLen w s) i m ts outer st = at_once_runs o brk (lay_text o w s st) ts outer (text_at_once o w s st)
+step_runs o brk fixed Fail i m ts outer st = refl
+step_runs o brk fixed (Text s) i m ts outer st = at_once_runs o brk (lay_text o (length s) s st) ts outer st (text_at_once o (length s) s st)
+step_runs o brk fixed (TextWithLen w s) i m ts outer st = at_once_runs o brk (lay_text o w s st) ts outer st (text_at_once o w s st)
+step_runs o brk fixed (MultilineText s) i Break ts outer st = refl
+step_runs o brk fixed (MultilineText s) i Flat ts outer st = refl
+step_runs o brk fixed WeakSpace i m ts outer st = refl
 step_runs o brk fixed HardLine i Break ts outer st =
     ap (λ (x : Outcome). and_then x (λ u. lay_all o brk ts outer u)) (fixed HardLine i Break (follow ts ++ outer) st)
     ∙ break_runs o brk st.pending HardLine i Break ts outer st refl
 step_runs o brk fixed HardLine i Flat ts outer st = refl
+step_runs o brk fixed WeakLine i m ts outer st =
+    ap (λ (x : Outcome). and_then x (λ u. lay_all o brk ts outer u)) (fixed WeakLine i m (follow ts ++ outer) st)
+    ∙ break_runs o brk st.pending WeakLine i m ts outer st refl
 step_runs o brk fixed (Append l r) i m ts outer st =
     then-then (lay o brk l i m (entry i r ∷ (follow ts ++ outer)) st) (λ u. lay o brk r i m (follow ts ++ outer) u) (λ u. lay_all o brk ts outer u)
     ∙ moved o brk (make_task i m l ∷ make_task i m r ∷ ts) outer st
+step_runs o brk fixed (LineSuffix d) i m ts outer st = refl
 step_runs o brk fixed (Nest k d) i m ts outer st = moved o brk (make_task (nested i k) m d ∷ ts) outer st
+step_runs o brk fixed (DedentToRoot d) i m ts outer st = moved o brk (make_task 0 m d ∷ ts) outer st
+step_runs o brk fixed (Align d) i m ts outer st = moved o brk (make_task (prospective st.column) m d ∷ ts) outer st
+step_runs o brk fixed ExpandParent i m ts outer st = refl
+step_runs o brk fixed (Flatten d) i m ts outer st = moved o brk (make_task i Flat d ∷ ts) outer st
 step_runs o brk fixed (BreakOrFlat b f) i Break ts outer st = moved o brk (make_task i Break b ∷ ts) outer st
 step_runs o brk fixed (BreakOrFlat b f) i Flat ts outer st = moved o brk (make_task i Flat f ∷ ts) outer st
 step_runs o brk fixed (Group d) i m ts outer st =
     moved o brk (make_task i (by_mode m (if probe o d Flat (follow ts ++ outer) st then Flat else Break) Flat) d ∷ ts) outer st
+step_runs o brk fixed (Union l r) i Break ts outer st = union_runs o brk l r i ts outer st
+step_runs o brk fixed (Union l r) i Flat ts outer st = moved o brk (make_task i Flat l ∷ ts) outer st
+step_runs o brk fixed (PartialUnion l r) i Break ts outer st =
+    partial_runs o brk l r i ts outer st (probe o l Break (follow ts ++ outer) st)
+step_runs o brk fixed (PartialUnion l r) i Flat ts outer st = moved o brk (make_task i Flat l ∷ ts) outer st

@@ -1,6 +1,6 @@
 -- Lists of commands as tasks: what is pushed, popped and read downwards.
-use Rattle.std.proofs.Common.{◌≡◌, ℕ, ◌+◌, ◌-◌, ◌<◌, ◌≤◌, List, [], ◌∷◌, ◌++◌, length, refl, ap, sym, ◌∙◌, append_assoc, arith, take, get_or, length-append}
-use Rattle.std.proofs.lemmas.List.{take_all, take_more}
+use Rattle.std.proofs.Common.{◌≡◌, ℕ, ◌+◌, ◌-◌, ◌<◌, ◌≤◌, List, [], ◌∷◌, ◌++◌, length, refl, ap, sym, ◌∙◌, append_assoc, append-nil, arith, take, drop, get_or, length-append, length-drop}
+use Rattle.std.proofs.lemmas.List.{take_all, take_more, drop_at, take-append-drop}
 use Rattle.prettyless_model.specs.Tree.{Tree}
 use Rattle.prettyless_model.specs.Reading.{Atom}
 use Rattle.prettyless_model.specs.Layout.{Entry, entry, next_indent}
@@ -45,3 +45,14 @@ next_is {N} f cs i c h e =
     let whole : take (n + 1) cs ≡ cs = take_all (n + 1) cs (omega arith) in
     let s : stack_of f cs ≡ task f (get_or cs n c) ∷ stack_of f (take n cs) = ap (stack_of f) (sym whole) ∙ stack_of_take f cs n c (omega arith) in
     ap (λ (x : Command N). x.indent) e ∙ sym (ap (λ (x : List Task). next_indent i (follow x)) s)
+
+pub stack_of-append : {N : Type 0} (f : N → Tree) (xs ys : List (Command N)) → stack_of f (xs ++ ys) ≡ stack_of f ys ++ stack_of f xs
+stack_of-append f [] ys = sym (append-nil (stack_of f ys))
+stack_of-append f (x ∷ xs) ys = ap (λ (z : List Task). z ++ task f x ∷ []) (stack_of-append f xs ys) ∙ append_assoc (stack_of f ys) (stack_of f xs) (task f x ∷ [])
+
+-- the commands at the bottom
+pub stack_of_cut : {N : Type 0} (f : N → Tree) (cs : List (Command N)) (n : ℕ) (above below : List Task) → stack_of f cs ≡ above ++ below → length below ≡ n → stack_of f (take n cs) ≡ below
+stack_of_cut f cs n above below h l =
+    let e : stack_of f (drop n cs) ++ stack_of f (take n cs) ≡ above ++ below = sym (stack_of-append f (take n cs) (drop n cs)) ∙ ap (stack_of f) (take-append-drop n cs) ∙ h in
+    let k : length (stack_of f (drop n cs)) ≡ length above = omega (arith, length-stack_of f (drop n cs), length-drop n cs, length-stack_of f cs, ap length h, length-append above below) in
+    sym (drop_at (stack_of f (drop n cs)) (stack_of f (take n cs)) (length above) k) ∙ ap (drop (length above)) e ∙ drop_at above below (length above) refl

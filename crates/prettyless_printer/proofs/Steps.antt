@@ -1,44 +1,77 @@
 -- A step takes more work away than it brings.
-use Rattle.std.proofs.Common.{◌≡◌, ℕ, ◌+◌, ◌*◌, ◌<◌, List, [], ◌∷◌, ◌++◌, length, arith}
+use Rattle.std.proofs.Common.{◌≡◌, ℕ, ◌+◌, ◌*◌, ◌<◌, List, [], ◌∷◌, ◌++◌, length, arith, Bool, true, false, Option, Some, None, if◌then◌else◌}
 use Rattle.prettyless_sink.specs.declared.options.RenderOptions.{RenderOptions}
 use Rattle.prettyless_sink.specs.declared.options.IndentationPolicy.{IndentationPolicy}
 use Rattle.prettyless_sink.specs.declared.options.IndentationPolicy.TheVariants.{Eager, Deferred}
-use Rattle.prettyless_model.specs.Tree.{Tree, Nil, Text, TextWithLen, HardLine, Append, Nest, BreakOrFlat, Group, size}
-use Rattle.prettyless_model.specs.Layout.{State, Entry, lay_text, lay_ending, next_indent}
+use Rattle.prettyless_model.specs.Tree.{Tree, Nil, Fail, Text, TextWithLen, MultilineText, WeakSpace, HardLine, WeakLine, Append, LineSuffix, Nest, DedentToRoot, Align, ExpandParent, Flatten, BreakOrFlat, Group, Union, PartialUnion, size}
+use Rattle.prettyless_model.specs.Layout.{State, Done, Entry, lay_text, lay_ending, next_indent, is_suppressed, plain_break, probe}
 use Rattle.prettyless_model.specs.declared.mode.Mode.{Mode}
 use Rattle.prettyless_model.specs.declared.mode.Mode.TheVariants.{Break, Flat}
 use Rattle.prettyless_printer.specs.Stack.{Task, make_task, tasks, nodes}
-use Rattle.prettyless_printer.specs.Steps.{Step, Move, Stuck, step_of, break_step, at_once, owed}
+use Rattle.prettyless_printer.specs.Steps.{Step, Move, Stuck, Choose, step_of, union_step, decided_by_metrics, break_step, at_once, owed}
 
--- the step leaves less work than n
-abbrev pub LeavesLess : ℕ → Step → Type 0
-LeavesLess n (Move b pushed u) = 2 * nodes pushed + owed u.pending < n
-LeavesLess n Stuck = Unit {0}
+-- the step leaves less work than n, where p is owed for the documents that wait
+abbrev pub LeavesLess : ℕ → ℕ → Step → Type 0
+LeavesLess p n (Move b pushed u) = 2 * nodes pushed + owed u.pending < n
+LeavesLess p n Stuck = Unit {0}
+LeavesLess p n (Choose i l r) = 2 * (size l + size r) + p < n
 
-nodes-tasks : (i : ℕ) (m : Mode) (ps : List Tree) (us : List Task) → 2 * nodes (tasks i m ps ++ us) + length ps ≡ owed ps + 2 * nodes us
+owed-one : (ps : List Tree) (d : Tree) → owed (ps ++ d ∷ []) ≡ owed ps + (2 * size d + 1)
+owed-one [] d = omega arith
+owed-one (p ∷ ps) d = omega (arith, owed-one ps d)
+
+pub nodes-tasks : (i : ℕ) (m : Mode) (ps : List Tree) (us : List Task) → 2 * nodes (tasks i m ps ++ us) + length ps ≡ owed ps + 2 * nodes us
 nodes-tasks i m [] us = omega arith
 nodes-tasks i m (p ∷ ps) us = omega (arith, nodes-tasks i m ps us)
 
-text_less : (o : RenderOptions) (w : ℕ) (s : List ℕ) (st : State) → LeavesLess (2 + owed st.pending) (at_once (lay_text o w s st))
+text_less : (o : RenderOptions) (w : ℕ) (s : List ℕ) (st : State) → LeavesLess (owed st.pending) (2 + owed st.pending) (at_once (lay_text o w s st))
 text_less o w [] st = omega arith
 text_less o w (b ∷ bs) st = omega arith
 
-ending_less : (o : RenderOptions) (p : IndentationPolicy) (k : ℕ) (st : State) → LeavesLess (2 + owed st.pending) (at_once (lay_ending o p k st))
+ending_less : (o : RenderOptions) (p : IndentationPolicy) (k : ℕ) (st : State) → LeavesLess (owed st.pending) (2 + owed st.pending) (at_once (lay_ending o p k st))
 ending_less o Eager k st = omega arith
 ending_less o Deferred k st = omega arith
 
-break_less : (o : RenderOptions) (ps : List Tree) (d : Tree) (i : ℕ) (m : Mode) (rest : List Entry) (st : State) → size d ≡ 1 → owed st.pending ≡ owed ps → LeavesLess (2 + owed st.pending) (break_step o ps d i m rest st)
-break_less o [] d i m rest st z e = ending_less o o.indentation_policy (next_indent i rest) st
+plain_less : (o : RenderOptions) (d : Tree) (i : ℕ) (rest : List Entry) (st : State) → LeavesLess (owed st.pending) (2 + owed st.pending) (at_once (plain_break o d i rest st))
+plain_less o d i rest st =
+    elim (is_suppressed d st.column) as (λ v. LeavesLess (owed st.pending) (2 + owed st.pending) (at_once (if v then Done [] st else lay_ending o o.indentation_policy (next_indent i rest) st)))
+    [ true ↦ omega arith | false ↦ ending_less o o.indentation_policy (next_indent i rest) st ]
+
+break_less : (o : RenderOptions) (ps : List Tree) (d : Tree) (i : ℕ) (m : Mode) (rest : List Entry) (st : State) → size d ≡ 1 → owed st.pending ≡ owed ps → LeavesLess (owed st.pending) (2 + owed st.pending) (break_step o ps d i m rest st)
+break_less o [] d i m rest st z e = plain_less o d i rest st
 break_less o (p ∷ ps) d i m rest st z e = omega (arith, nodes-tasks i m (p ∷ ps) (make_task i m d ∷ []))
 
-pub step_less : (o : RenderOptions) (d : Tree) (i : ℕ) (m : Mode) (rest : List Entry) (st : State) → LeavesLess (2 * size d + owed st.pending) (step_of o d i m rest st)
+-- one of two nodes
+either_less : (l r : Tree) (n : ℕ) (v : Bool) → 2 * size l + 2 * size r < n → 2 * size (if v then l else r) < n
+either_less l r n true h = omega arith
+either_less l r n false h = omega arith
+
+union_less : (l r : Tree) (i : ℕ) (st : State) (v : Option Bool) → LeavesLess (owed st.pending) (2 * (size l + size r + 1) + owed st.pending) (union_step v l r i st)
+union_less l r i st (Some v) = omega (arith, either_less l r (2 * size l + 2 * size r + 1) v (omega arith))
+union_less l r i st None = omega arith
+
+pub step_less : (o : RenderOptions) (d : Tree) (i : ℕ) (m : Mode) (rest : List Entry) (st : State) → LeavesLess (owed st.pending) (2 * size d + owed st.pending) (step_of o d i m rest st)
 step_less o Nil i m rest st = omega arith
+step_less o Fail i m rest st = tt
 step_less o (Text s) i m rest st = text_less o (length s) s st
 step_less o (TextWithLen w s) i m rest st = text_less o w s st
+step_less o (MultilineText s) i Break rest st = omega arith
+step_less o (MultilineText s) i Flat rest st = tt
+step_less o WeakSpace i m rest st = omega arith
 step_less o HardLine i Break rest st = break_less o st.pending HardLine i Break rest st (omega arith) (omega arith)
 step_less o HardLine i Flat rest st = tt
+step_less o WeakLine i m rest st = break_less o st.pending WeakLine i m rest st (omega arith) (omega arith)
 step_less o (Append l r) i m rest st = omega arith
+step_less o (LineSuffix d) i m rest st = omega (arith, owed-one st.pending d)
 step_less o (Nest k d) i m rest st = omega arith
+step_less o (DedentToRoot d) i m rest st = omega arith
+step_less o (Align d) i m rest st = omega arith
+step_less o ExpandParent i m rest st = omega arith
+step_less o (Flatten d) i m rest st = omega arith
 step_less o (BreakOrFlat b f) i Break rest st = omega arith
 step_less o (BreakOrFlat b f) i Flat rest st = omega arith
 step_less o (Group d) i m rest st = omega arith
+step_less o (Union l r) i Break rest st = union_less l r i st (decided_by_metrics o l st)
+step_less o (Union l r) i Flat rest st = omega arith
+step_less o (PartialUnion l r) i Break rest st = omega (arith, either_less l r (2 * size l + 2 * size r + 1) (probe o l Break rest st) (omega arith))
+step_less o (PartialUnion l r) i Flat rest st = omega arith

@@ -4,5 +4,6 @@ pub mod Piece
 pub mod Steps
 pub mod Printing
 pub mod Progress
+pub mod Trials
 pub mod Turns
 pub mod Renders

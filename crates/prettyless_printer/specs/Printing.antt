@@ -1,34 +1,49 @@
 -- The printer's state as the definitions see it, and what a step of the code shows of the step that is defined.
-use Rattle.std.specs.Prelude.{◌≡◌, List, [], ◌∷◌, ◌++◌}
+use Rattle.std.specs.Prelude.{◌≡◌, List, ◌∷◌, ◌++◌, drop}
 use Rattle.prettyless_model.specs.Tree.{Tree}
 use Rattle.prettyless_model.specs.Layout.{State}
-use Rattle.prettyless_printer.specs.Stack.{Task, follow, stack_of}
-use Rattle.prettyless_printer.specs.Steps.{Step, Move, Stuck, step_of}
+use Rattle.prettyless_printer.specs.Stack.{Task, follow, stack_of, trees}
+use Rattle.prettyless_printer.specs.Steps.{Step, Move, Stuck, Choose, step_of}
 use Rattle.prettyless_printer.specs.Piece.{piece_bytes}
 use Rattle.prettyless_printer.specs.declared.printer.Printer.{Printer}
 use Rattle.prettyless_printer.specs.declared.printer.Taken.{Taken}
-use Rattle.prettyless_printer.specs.declared.printer.Taken.TheVariants.{Written, Failed}
+use Rattle.prettyless_printer.specs.declared.printer.Taken.TheVariants.{Written, Failed, Chosen}
 
--- the state between two nodes
-abbrev pub state_of : {N : Type 0} → Printer N → State
-state_of p = record { column = p.column; pending = []; within = p.within }
+-- the state between two nodes: the documents that wait are those of the queue from its start on
+abbrev pub state_of : {N : Type 0} → (N → Tree) → Printer N → State
+state_of f p = record { column = p.column; pending = trees f (drop p.start p.queue.items); within = p.within }
+
+-- the queue only grows
+abbrev pub Grows : {N : Type 0} → Printer N → Printer N → Type 0
+Grows {N} p q = (more : List N) × (q.queue.items ≡ p.queue.items ++ more)
 
 -- what the code answers is the step, and the printer has gone along
-abbrev pub Shows : {N : Type 0} → (N → Tree) → Taken → Step → Printer N → Printer N → Type 0
+abbrev pub Shows : {N : Type 0} → (N → Tree) → Taken N → Step → Printer N → Printer N → Type 0
 Shows f (Written piece) (Move b pushed u) p q =
-    (piece_bytes piece ≡ b) × (stack_of f q.commands.items ≡ pushed ++ stack_of f p.commands.items) × (state_of q ≡ u) × (q.options ≡ p.options)
+    (piece_bytes piece ≡ b) × (stack_of f q.commands.items ≡ pushed ++ stack_of f p.commands.items) × (state_of f q ≡ u) × (q.options ≡ p.options) × Grows p q
 Shows f Failed Stuck p q = q ≡ p
+Shows f (Chosen i l r) (Choose j x y) p q = (i ≡ j) × (f l ≡ x) × (f r ≡ y) × (q ≡ p)
 Shows f (Written piece) Stuck p q = ⊥
+Shows f (Written piece) (Choose j x y) p q = ⊥
 Shows f Failed (Move b pushed u) p q = ⊥
+Shows f Failed (Choose j x y) p q = ⊥
+Shows f (Chosen i l r) (Move b pushed u) p q = ⊥
+Shows f (Chosen i l r) Stuck p q = ⊥
+
+-- the same, seen from before the command was taken from above the rest
+abbrev pub ShowsAt : {N : Type 0} → (N → Tree) → Taken N → Step → List Task → State → Printer N → Type 0
+ShowsAt f (Written piece) (Move b pushed u) ts st q = (piece_bytes piece ≡ b) × (stack_of f q.commands.items ≡ pushed ++ ts) × (state_of f q ≡ u)
+ShowsAt f Failed Stuck ts st q = stack_of f q.commands.items ≡ ts
+ShowsAt f (Chosen i l r) (Choose j x y) ts st q = (i ≡ j) × (f l ≡ x) × (f r ≡ y) × (stack_of f q.commands.items ≡ ts) × (state_of f q ≡ st)
+ShowsAt f (Written piece) Stuck ts st q = ⊥
+ShowsAt f (Written piece) (Choose j x y) ts st q = ⊥
+ShowsAt f Failed (Move b pushed u) ts st q = ⊥
+ShowsAt f Failed (Choose j x y) ts st q = ⊥
+ShowsAt f (Chosen i l r) (Move b pushed u) ts st q = ⊥
+ShowsAt f (Chosen i l r) Stuck ts st q = ⊥
 
 -- the next command was taken and stepped
-abbrev pub ShowsAt : {N : Type 0} → (N → Tree) → Taken → Step → List Task → Printer N → Type 0
-ShowsAt f (Written piece) (Move b pushed u) ts q = (piece_bytes piece ≡ b) × (stack_of f q.commands.items ≡ pushed ++ ts) × (state_of q ≡ u)
-ShowsAt f Failed Stuck ts q = stack_of f q.commands.items ≡ ts
-ShowsAt f (Written piece) Stuck ts q = ⊥
-ShowsAt f Failed (Move b pushed u) ts q = ⊥
-
-abbrev pub TookNext : {N : Type 0} → (N → Tree) → Printer N → Printer N → Taken → Type 0
+abbrev pub TookNext : {N : Type 0} → (N → Tree) → Printer N → Printer N → Taken N → Type 0
 TookNext f p q r =
     (t : Task) × (ts : List Task) × (stack_of f p.commands.items ≡ t ∷ ts)
-    × ShowsAt f r (step_of p.options t.tree t.indent t.mode (follow ts) (state_of p)) ts q × (q.options ≡ p.options)
+    × ShowsAt f r (step_of p.options t.tree t.indent t.mode (follow ts) (state_of f p)) ts (state_of f p) q × (q.options ≡ p.options) × Grows p q

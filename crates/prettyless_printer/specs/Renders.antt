@@ -4,8 +4,10 @@ use Rattle.prettyless_sink.specs.Sink.{AppendsBeginning, rise}
 use Rattle.prettyless_sink.specs.declared.error.RenderError.{RenderError}
 use Rattle.prettyless_sink.specs.declared.error.RenderError.TheVariants.{Document, Sink, Memory}
 use Rattle.prettyless_model.specs.Tree.{Tree}
-use Rattle.prettyless_model.specs.Layout.{Outcome, Done, Failed, Bytes, Whole, Cut, bytes_in}
-use Rattle.prettyless_model.specs.Levels.{settle}
+use Rattle.prettyless_sink.specs.Spaces.{spaces}
+use Rattle.prettyless_model.specs.Column.{gap}
+use Rattle.prettyless_model.specs.Layout.{Outcome, Done, Failed, Bytes, Whole, Cut, bytes_in, bytes_of, and_then}
+use Rattle.prettyless_model.specs.Levels.{settle, settle_end}
 use Rattle.prettyless_printer.specs.Stack.{stack_of}
 use Rattle.prettyless_printer.specs.Steps.{lay_all}
 use Rattle.prettyless_printer.specs.Printing.{state_of}
@@ -14,7 +16,7 @@ use Rattle.prettyless_printer.specs.declared.printer.Printer.{Printer}
 
 -- what the commands that are left lay
 abbrev pub rest_of : {N : Type 0} → (N → Tree) → Printer N → Outcome
-rest_of f p = lay_all p.options (settle p.options) (stack_of f p.commands.items) [] (state_of p)
+rest_of f p = lay_all p.options (settle p.options) (stack_of f p.commands.items) [] (state_of f p)
 
 -- a run that stopped, with its bytes from old to new and its failures from n to m
 abbrev pub Stopped : {E : Type 0} → (E → Type 0) → Outcome → List ℕ → List ℕ → ℕ → ℕ → RenderError E → Type 0
@@ -25,8 +27,15 @@ Stopped fails o old new n m (Memory e) = AppendsBeginning old new (bytes_before 
 -- the commands are worked off: their bytes are written, and none is left
 abbrev pub WorkedOff : {N A E : Type 0} → (N → Tree) → Printer N → Printer N → (E → Type 0) → List ℕ → List ℕ → ℕ → ℕ → Result A (RenderError E) → Type 0
 WorkedOff f p q fails old new n m (Ok r) =
-    (bytes : List ℕ) × (rest_of f p ≡ Done bytes (state_of q)) × (new ≡ old ++ bytes) × (m ≡ n)
+    (bytes : List ℕ) × (rest_of f p ≡ Done bytes (state_of f q)) × (new ≡ old ++ bytes) × (m ≡ n)
 WorkedOff f p q fails old new n m (Err e) = Stopped fails (rest_of f p) old new n m e
+
+-- what is pending of the line at the end is written
+abbrev pub Flushed : {N A E : Type 0} → Printer N → List ℕ → List ℕ → ℕ → ℕ → Result A (RenderError E) → Type 0
+Flushed p old new n m (Ok r) = (new ≡ old ++ spaces (gap p.column)) × (m ≡ n)
+Flushed p old new n m (Err (Document e)) = ⊥
+Flushed p old new n m (Err (Sink e)) = AppendsBeginning old new (spaces (gap p.column)) × (m ≡ rise n)
+Flushed p old new n m (Err (Memory e)) = (new ≡ old) × (m ≡ n)
 
 -- A render: the layout's bytes on success; the bytes before the failing node where the document fails, with an error
 -- that says so; a beginning where the sink fails, which raises its failures, or no memory is had, which does not.
@@ -35,6 +44,14 @@ Rendered fails y old new n m (Ok r) = (bytes : List ℕ) × (y ≡ Whole bytes) 
 Rendered fails y old new n m (Err (Document e)) = (bytes : List ℕ) × (y ≡ Cut bytes) × (new ≡ old ++ bytes) × (m ≡ n) × fails e
 Rendered fails y old new n m (Err (Sink e)) = AppendsBeginning old new (bytes_in y) × (m ≡ rise n)
 Rendered fails y old new n m (Err (Memory e)) = AppendsBeginning old new (bytes_in y) × (m ≡ n)
+
+-- what the commands that are left lay, and then the end
+abbrev pub to_end : {N : Type 0} → (N → Tree) → Printer N → Outcome
+to_end f p = and_then (rest_of f p) (settle_end p.options)
+
+-- the commands and the rounds of the end are worked off
+abbrev pub RanToEnd : {N A E : Type 0} → (N → Tree) → Printer N → (E → Type 0) → List ℕ → List ℕ → ℕ → ℕ → Result A (RenderError E) → Type 0
+RanToEnd f p fails old new n m r = Rendered fails (bytes_of (to_end f p)) old new n m r
 
 -- The same where no failures are seen: what a render appended to a text.
 abbrev pub RendersInto : {A E : Type 0} → Bytes → List ℕ → List ℕ → Result A (RenderError E) → Type 0

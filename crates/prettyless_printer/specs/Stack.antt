@@ -47,3 +47,8 @@ nodes (t ∷ ts) = size t.tree + nodes ts
 abbrev pub AnswersAs : Option Bool → Bool → Bool → Type 0
 AnswersAs (Some b) x y = x ≡ b
 AnswersAs None x y = x ≡ y
+
+-- the trees of nodes
+abbrev pub trees : {N : Type 0} → (N → Tree) → List N → List Tree
+trees f [] = []
+trees f (n ∷ ns) = f n ∷ trees f ns

@@ -1,19 +1,19 @@
 -- What a turn does to the work: it takes some of it away, and carries it on inside every whole that it was inside of.
-use Rattle.std.specs.Prelude.{◌≡◌, ℕ, ◌<◌, List, ◌++◌, length, Result, Ok, Err}
+use Rattle.std.specs.Prelude.{◌≡◌, ℕ, ◌+◌, ◌*◌, ◌<◌, List, ◌++◌, length, Result, Ok, Err}
 use Rattle.prettyless_sink.specs.Sink.{AppendsBeginning, rise}
 use Rattle.prettyless_sink.specs.declared.options.RenderOptions.{RenderOptions}
 use Rattle.prettyless_sink.specs.declared.error.RenderError.{RenderError}
 use Rattle.prettyless_sink.specs.declared.error.RenderError.TheVariants.{Document, Sink, Memory}
-use Rattle.prettyless_model.specs.Tree.{Tree}
+use Rattle.prettyless_model.specs.Tree.{Tree, size}
 use Rattle.prettyless_model.specs.Layout as layout
 use Rattle.prettyless_model.specs.Layout.{Outcome, Done}
 use Rattle.prettyless_printer.specs.Stack.{Task, stack_of}
 use Rattle.prettyless_printer.specs.Steps.{work}
-use Rattle.prettyless_printer.specs.Printing.{state_of}
-use Rattle.prettyless_printer.specs.Progress.{Inside}
+use Rattle.prettyless_printer.specs.Printing.{state_of, Grows}
+use Rattle.prettyless_printer.specs.Progress.{Inside, Waits}
 use Rattle.prettyless_printer.specs.declared.printer.Printer.{Printer}
 use Rattle.prettyless_printer.specs.declared.printer.Turn.{Turn}
-use Rattle.prettyless_printer.specs.declared.printer.Turn.TheVariants.{Went, Failed}
+use Rattle.prettyless_printer.specs.declared.printer.Turn.TheVariants.{Went, Failed, Chosen}
 
 -- the bytes of an outcome, done or not
 abbrev pub bytes_before : Outcome → List ℕ
@@ -24,22 +24,39 @@ bytes_before (layout.Failed b) = b
 abbrev pub ForWholes : {N : Type 0} → (N → Tree) → Printer N → List ℕ → (Outcome → ℕ → List Task → List ℕ → Type 0) → Type 0
 ForWholes f p out goal =
     (whole : Outcome) (limit : ℕ) (below : List Task) (old : List ℕ) → length below < length (stack_of f p.commands.items) →
-    Inside p.options whole limit below old (stack_of f p.commands.items) (state_of p) out → goal whole limit below old
+    Inside p.options whole limit below old (stack_of f p.commands.items) (state_of f p) out → goal whole limit below old
 
--- what holds after a turn: the work is inside the whole, or the whole fails behind what was written
-abbrev pub Goes : {N : Type 0} → (N → Tree) → RenderOptions → Printer N → List ℕ → Turn → Outcome → ℕ → List Task → List ℕ → Type 0
-Goes f o q out Went whole limit below old = Inside o whole limit below old (stack_of f q.commands.items) (state_of q) out
+-- what holds after a turn: the work is inside the whole, or the whole fails behind what was written, or a choice waits
+abbrev pub Goes : {N : Type 0} → (N → Tree) → RenderOptions → Printer N → List ℕ → Turn N → Outcome → ℕ → List Task → List ℕ → Type 0
+Goes f o q out Went whole limit below old = Inside o whole limit below old (stack_of f q.commands.items) (state_of f q) out
 Goes f o q out Failed whole limit below old =
     (bytes : List ℕ) × (above : List Task) × (out ≡ old ++ bytes) × (whole ≡ layout.Failed bytes) × (stack_of f q.commands.items ≡ above ++ below)
+Goes f o q out (Chosen i x y) whole limit below old = Waits o whole limit below old i (f x) (f y) (stack_of f q.commands.items) (state_of f q) out
 
 -- work is taken away
-abbrev pub Lessens : {N : Type 0} → (N → Tree) → Printer N → Printer N → Turn → Type 0
-Lessens f p q Went = work (stack_of f q.commands.items) (state_of q) < work (stack_of f p.commands.items) (state_of p)
+abbrev pub Lessens : {N : Type 0} → (N → Tree) → Printer N → Printer N → Turn N → Type 0
+Lessens f p q Went = work (stack_of f q.commands.items) (state_of f q) < work (stack_of f p.commands.items) (state_of f p)
 Lessens f p q Failed = Unit {0}
+Lessens f p q (Chosen i x y) =
+    (2 * (size (f x) + size (f y)) + work (stack_of f q.commands.items) (state_of f q) < work (stack_of f p.commands.items) (state_of f p)) × (q.within ≡ p.within)
 
 -- what a turn leaves in a sink that tells its bytes
-abbrev pub Turned : {N E : Type 0} → (N → Tree) → Printer N → Printer N → List ℕ → List ℕ → ℕ → ℕ → Result Turn (RenderError E) → Type 0
+abbrev pub Turned : {N E : Type 0} → (N → Tree) → Printer N → Printer N → List ℕ → List ℕ → ℕ → ℕ → Result (Turn N) (RenderError E) → Type 0
 Turned f p q out new n m (Ok r) = ForWholes f p out (Goes f p.options q new r) × (m ≡ n)
 Turned f p q out new n m (Err (Document e)) = ⊥
 Turned f p q out new n m (Err (Sink e)) = ForWholes f p out (λ whole limit below old. AppendsBeginning old new (bytes_before whole)) × (m ≡ rise n)
 Turned f p q out new n m (Err (Memory e)) = (new ≡ out) × (m ≡ n)
+
+-- for every whole in which a choice between two branches waits
+abbrev pub ForWaits : {N : Type 0} → (N → Tree) → Printer N → ℕ → Tree → Tree → List ℕ → (Outcome → ℕ → List Task → List ℕ → Type 0) → Type 0
+ForWaits f p i x y out goal =
+    (whole : Outcome) (limit : ℕ) (below : List Task) (old : List ℕ) →
+    Waits p.options whole limit below old i x y (stack_of f p.commands.items) (state_of f p) out → goal whole limit below old
+
+-- what a choice leaves in a sink that tells its bytes
+abbrev pub Chose : {N A E : Type 0} → (N → Tree) → Printer N → Printer N → ℕ → Tree → Tree → List ℕ → List ℕ → ℕ → ℕ → Result A (RenderError E) → Type 0
+Chose f p q i x y out new n m (Ok r) =
+    ForWaits f p i x y out (λ whole limit below old. Inside p.options whole limit below old (stack_of f q.commands.items) (state_of f q) new) × (m ≡ n)
+Chose f p q i x y out new n m (Err (Document e)) = ⊥
+Chose f p q i x y out new n m (Err (Sink e)) = ForWaits f p i x y out (λ whole limit below old. AppendsBeginning old new (bytes_before whole)) × (m ≡ rise n)
+Chose f p q i x y out new n m (Err (Memory e)) = (new ≡ out) × (m ≡ n)

@@ -4,12 +4,16 @@
 //! `prettyless_model`.
 #![tactic(auto)]
 
+pub mod buffer;
 pub mod command;
+pub mod content;
+pub mod pending;
 pub mod piece;
 pub mod printer;
 pub mod probe;
 pub mod run;
 pub mod stack;
 pub mod step;
+pub mod trial;
 pub mod turn;
 pub mod walk;

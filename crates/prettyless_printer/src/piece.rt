@@ -28,6 +28,7 @@ impl<'v> Piece<'v> {
 
 /// Writes a piece to a sink.
 pub fn write_piece<W: Render>(out: &mut W, piece: Piece<'_>) -> Result<(), W::Error>
+    ensures same_lender { W.lender out.new ≡ W.lender out.old }
     ensures ok { OnOk result (W.tells out.old → W.tells out.new
         × (W.written out.new ≡ W.written out.old ++ piece_bytes piece.entry) × (W.failures out.new ≡ W.failures out.old)) }
     ensures err { OnErr result (W.tells out.old → W.tells out.new

@@ -3,26 +3,35 @@ use crate::piece::Piece;
 use prettyless_model::column::Column;
 use prettyless_sink::options::RenderOptions;
 
-/// The printer's state: the column, and the commands that are left, the next one last.
+/// The printer's state: the column, the commands that are left, and the documents that wait for the end of their line.
 #[derive(Drop)]
 pub struct Printer<N> {
     pub options: RenderOptions,
     pub column: Column,
-    /// Whether no text went past the width.
+    /// Whether, since the open trial began, no text went past the width.
     pub within: bool,
+    /// The commands that are left, the next one last.
     pub commands: Vec<Command<N>>,
     /// The probe's own list of work, kept for its memory.
     pub scratch: Vec<Command<N>>,
+    /// The documents that were put off to the end of their line, the oldest first. Those before `start` are laid.
+    pub queue: Vec<N>,
+    pub start: usize,
 }
 
-/// What taking up one node asks for.
-pub enum Taken<'v> {
+/// What taking up one node asks for: a piece to be written, or a choice between two branches at an indent; or the node
+/// fails.
+#[derive(Drop)]
+pub enum Taken<'v, N> {
     Written(Piece<'v>),
     Failed,
+    Chosen(usize, N, N),
 }
 
-/// What a turn came to: one node was taken up and written, or it fails.
-pub enum Turn {
+/// What a turn came to: one node was taken up and written, or fails, or two branches are to be chosen from.
+#[derive(Drop)]
+pub enum Turn<N> {
     Went,
     Failed,
+    Chosen(usize, N, N),
 }

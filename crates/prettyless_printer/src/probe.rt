@@ -1,6 +1,7 @@
-ghost use Rattle.std.specs.Prelude.{◌≡◌, ◌++◌, [], IfOk, OnOk, IfSome, MatchOption, List, false, ◌+◌, ◌<◌, ◌≤◌, length, take};
+ghost use Rattle.std.specs.Prelude.{◌≡◌, ◌++◌, ◌∷◌, [], IfOk, OnOk, IfSome, MatchOption, List, false, ◌+◌, ◌<◌, ◌≤◌, length, take};
 ghost use Rattle.prettyless_model.specs.Tree.{size};
-ghost use Rattle.prettyless_model.specs.Reading.{Atom, fits, ink_of, reading};
+ghost use Rattle.prettyless_model.specs.Column.{padding_fits};
+ghost use Rattle.prettyless_model.specs.Reading.{Atom, Payload, Stop, Weak, by_mode, fits, ink_of, reading};
 ghost use Rattle.prettyless_model.specs.Layout.{rest_atoms};
 ghost use Rattle.prettyless_printer.specs.Stack.{AnswersAs, follow, nodes, read_tasks, stack_of};
 
@@ -8,73 +9,124 @@ use crate::command::Command;
 use crate::stack::{pop_command, push_node};
 use crate::walk::{View, Walk};
 use prettyless_model::column::Column;
+use prettyless_model::metrics::Metrics;
 use prettyless_model::mode::Mode;
 use std::alloc::AllocError;
 
+/// How a line stands where a probe has come to.
+#[derive(Clone, Copy)]
+pub struct Line {
+    pub column: Column,
+    /// Whether a document waits for the end of the line.
+    pub pending: bool,
+}
+
 // Reads content: an empty text is nothing, another commits the column.
-fn read_content(width: usize, column: &mut Column, counted: usize, text: &str) -> Option<bool>
+fn read_content(width: usize, line: &mut Line, counted: usize, text: &str) -> Option<bool>
     ensures { (more : List Atom) → AnswersAs result
-        (fits width column.old false (ink_of counted text.now ++ more))
-        (fits width column.new false more) }
+        (fits width line.old.column line.old.pending (ink_of counted text.now ++ more))
+        (fits width line.new.column line.new.pending more) }
 {
     if !text.is_empty() {
-        *column = column.committed(counted);
-        if column.position > width {
+        line.column = line.column.committed(counted);
+        if line.column.position > width {
             return Some(false);
         }
     }
     None
 }
 
+// Reads a payload, which ends the line: with its first part, in Break, and not at all when flat.
+fn read_payload(width: usize, line: &Line, mode: Mode, metrics: Metrics) -> bool
+    ensures { (more : List Atom) → result ≡ fits width line.now.column line.now.pending
+        (by_mode mode (Payload metrics.first_width metrics.first_nonempty ∷ []) (Stop ∷ []) ++ more) }
+{
+    match mode {
+        Mode::Break => {
+            !metrics.first_nonempty || line.column.committed(metrics.first_width).position <= width
+        }
+        Mode::Flat => false,
+    }
+}
+
+// Reads a line end that no flat line holds.
+fn read_line_end(width: usize, line: &Line, mode: Mode) -> bool
+    ensures { result ≡ by_mode mode (padding_fits width line.now.pending line.now.column) false }
+{
+    match mode {
+        Mode::Break => line.column.padding_fits(width, line.pending),
+        Mode::Flat => false,
+    }
+}
+
+// Reads a weak line, which is nothing at the beginning of a line for whose end no document waits.
+fn read_weak_line(width: usize, line: &Line, mode: Mode) -> Option<bool>
+    ensures { (more : List Atom) → AnswersAs result
+        (fits width line.now.column line.now.pending (Weak mode ∷ more))
+        (fits width line.now.column line.now.pending more) }
+{
+    if line.column.fresh && !line.pending {
+        return None;
+    }
+    Some(read_line_end(width, line, mode))
+}
+
+/// The one that a mode chooses.
+pub fn either<N: Copy>(mode: Mode, broken: N, flat: N) -> N
+    ensures { result ≡ by_mode mode broken flat }
+{
+    match mode {
+        Mode::Break => broken,
+        Mode::Flat => flat,
+    }
+}
+
 // Reads one node: an answer, or the nodes below it, which are now on the stack.
 #[tactic(auto, using(crate::proofs::Stacks::reading_more))]
 fn probe_one<N: Walk>(
     width: usize,
-    column: &mut Column,
+    line: &mut Line,
     command: &Command<N>,
     stack: &mut Vec<Command<N>>,
 ) -> Result<Option<bool>, AllocError>
     ensures answer { IfOk result (λ a. (more : List Atom) → AnswersAs a
-        (fits width column.old false (reading (N.tree command.now.node) command.now.mode ++ (read_tasks (stack_of N.tree stack.old.items) ++ more)))
-        (fits width column.new false (read_tasks (stack_of N.tree stack.new.items) ++ more))) }
+        (fits width line.old.column line.old.pending
+            (reading (N.tree command.now.node) command.now.mode ++ (read_tasks (stack_of N.tree stack.old.items) ++ more)))
+        (fits width line.new.column line.new.pending (read_tasks (stack_of N.tree stack.new.items) ++ more))) }
     ensures smaller { OnOk result
         (nodes (stack_of N.tree stack.new.items) < size (N.tree command.now.node) + nodes (stack_of N.tree stack.old.items)) }
 {
-    let Command {
-        indent,
-        mode,
-        ref node,
-    } = *command;
-    match node.view() {
-        View::Nil => Ok(None),
-        View::Text(s) => Ok(read_content(width, column, s.len(), s)),
-        View::TextWithLen(counted, s) => Ok(read_content(width, column, counted, s)),
-        View::HardLine => Ok(Some(match mode {
-            Mode::Break => true,
-            Mode::Flat => false,
-        })),
+    let indent = command.indent;
+    let mode = command.mode;
+    match command.node.view() {
+        View::Nil => {}
+        View::Fail => return Ok(Some(false)),
+        View::Text(s) => return Ok(read_content(width, line, s.len(), s)),
+        View::TextWithLen(counted, s) => return Ok(read_content(width, line, counted, s)),
+        View::MultilineText(_, metrics) => return Ok(Some(read_payload(width, line, mode, metrics))),
+        View::WeakSpace => line.column = line.column.blank(),
+        View::HardLine => return Ok(Some(read_line_end(width, line, mode))),
+        View::WeakLine => return Ok(read_weak_line(width, line, mode)),
+        View::LineSuffix(_) => line.pending = true,
+        View::ExpandParent => {
+            if let Mode::Flat = mode {
+                return Ok(Some(false));
+            }
+        }
         View::Append(l, r) => {
             push_node(stack, indent, mode, r)?;
             push_node(stack, indent, mode, l)?;
-            Ok(None)
         }
-        View::Nest(_, d) => {
-            push_node(stack, indent, mode, d)?;
-            Ok(None)
-        }
-        View::BreakOrFlat(b, f) => {
-            let taken = match mode {
-                Mode::Break => b,
-                Mode::Flat => f,
-            };
-            push_node(stack, indent, mode, taken)?;
-            Ok(None)
-        }
-        View::Group(d) => {
-            push_node(stack, indent, mode, d)?;
-            Ok(None)
-        }
+        View::Nest(_, d) => push_node(stack, indent, mode, d)?,
+        View::DedentToRoot(d) => push_node(stack, indent, mode, d)?,
+        View::Align(d) => push_node(stack, indent, mode, d)?,
+        View::Flatten(d) => push_node(stack, indent, Mode::Flat, d)?,
+        View::BreakOrFlat(b, f) => push_node(stack, indent, mode, either(mode, b, f))?,
+        View::Group(d) => push_node(stack, indent, mode, d)?,
+        View::Union(l, r) => push_node(stack, indent, mode, either(mode, r, l))?,
+        View::PartialUnion(l, r) => push_node(stack, indent, mode, either(mode, r, l))?,
     }
+    Ok(None)
 }
 
 // The next node that the probe reads: one of its own, and then the printer's commands downwards, each in Break.
@@ -110,28 +162,28 @@ fn next_command<N: Walk>(
     })
 }
 
-/// Whether a node, laid in this mode at this column, stays within the width together with what follows it, up to the
-/// first line end. `stack` is only a place to work in.
+/// Whether a node, laid in this mode from where the line stands, stays within the width together with what follows it,
+/// up to the first line end. `stack` is only a place to work in.
 pub fn probe<N: Walk>(
     width: usize,
-    start: Column,
+    start: Line,
     node: N,
     mode: Mode,
     commands: &[Command<N>],
     stack: &mut Vec<Command<N>>,
 ) -> Result<bool, AllocError>
     ensures { IfOk result
-        (λ r. r ≡ fits width start false (reading (N.tree node) mode ++ rest_atoms (follow (stack_of N.tree commands.now)))) }
+        (λ r. r ≡ fits width start.column start.pending (reading (N.tree node) mode ++ rest_atoms (follow (stack_of N.tree commands.now)))) }
 {
-    let mut column = start;
+    let mut line = start;
     let mut below = commands.len();
     stack.clear();
     push_node(stack, 0, mode, node)?;
     loop {
         let Some(command) = next_command(commands, &mut below, stack) else {
-            return Ok(true);
+            return Ok(line.column.padding_fits(width, line.pending));
         };
-        if let Some(answer) = probe_one(width, &mut column, &command, stack)? {
+        if let Some(answer) = probe_one(width, &mut line, &command, stack)? {
             return Ok(answer);
         }
     }

@@ -1,35 +1,143 @@
-ghost use Rattle.std.specs.Prelude.{[], ◌≡◌};
-ghost use Rattle.prettyless_model.specs.Layout.{layout};
-ghost use Rattle.prettyless_printer.specs.Renders.{Rendered, WorkedOff};
+ghost use Rattle.std.specs.Prelude.{◌≡◌, ◌+◌, ◌*◌, ◌<◌, ◌≤◌, [], OnOk, vec_len};
+ghost use Rattle.prettyless_model.specs.Tree.{size};
+ghost use Rattle.prettyless_model.specs.Layout.{flushed, layout};
+ghost use Rattle.prettyless_model.specs.declared.mode.Mode.TheVariants.{Break};
+ghost use Rattle.prettyless_printer.specs.Stack.{stack_of, tasks};
+ghost use Rattle.prettyless_printer.specs.Steps.{owed, work};
+ghost use Rattle.prettyless_printer.specs.Printing.{state_of};
+ghost use Rattle.prettyless_printer.specs.Turns.{Chose};
+ghost use Rattle.prettyless_printer.specs.Renders.{Flushed, RanToEnd, Rendered, WorkedOff};
 
+use crate::buffer::Buffer;
+use crate::pending::{is_pending, take_pending};
 use crate::printer::{Printer, Turn};
 use crate::stack::push_node;
+use crate::trial::print_branch;
 use crate::turn::turn;
 use crate::walk::Walk;
 use prettyless_model::column::Column;
 use prettyless_model::mode::Mode;
 use prettyless_sink::error::RenderError;
 use prettyless_sink::options::RenderOptions;
+use prettyless_sink::pieces::write_gap_and_text;
 use prettyless_sink::render::Render;
 use std::alloc::Global;
+
+// Lays the branch of a union that its trial chooses. A kept one goes to the sink in one piece.
+fn choose<N: Walk, W: Render>(
+    printer: &mut Printer<N>,
+    buffer: &mut Buffer,
+    out: &mut W,
+    indent: usize,
+    first: N,
+    second: N,
+) -> Result<(), RenderError<W::Error>>
+    requires { printer.old.start ≤ vec_len printer.old.queue }
+    ensures queue { printer.new.start ≤ vec_len printer.new.queue }
+    ensures options { OnOk result (printer.new.options ≡ printer.old.options) }
+    ensures same_lender { W.lender out.new ≡ W.lender out.old }
+    ensures lessens { OnOk result (work (stack_of N.tree printer.new.commands.items) (state_of N.tree printer.new)
+        ≤ 2 * (size (N.tree first) + size (N.tree second)) + work (stack_of N.tree printer.old.commands.items) (state_of N.tree printer.old)) }
+    ensures told { W.tells out.old → W.tells out.new
+        × Chose N.tree printer.old printer.new indent (N.tree first) (N.tree second)
+            (W.written out.old) (W.written out.new) (W.failures out.old) (W.failures out.new) result }
+{
+    buffer.text.clear();
+    match print_branch(printer, buffer, indent, first) {
+        Err(e) => Err(RenderError::Memory(e)),
+        Ok(true) => match write_gap_and_text(out, 0, buffer.text.as_str()) {
+            Ok(()) => Ok(()),
+            Err(e) => Err(RenderError::Sink(e)),
+        },
+        Ok(false) => match push_node(&mut printer.commands, indent, Mode::Break, second) {
+            Ok(()) => Ok(()),
+            Err(e) => Err(RenderError::Memory(e)),
+        },
+    }
+}
 
 // Takes commands until none is left.
 fn work_off<N: Walk, W: Render>(
     printer: &mut Printer<N>,
+    buffer: &mut Buffer,
     out: &mut W,
 ) -> Result<(), RenderError<W::Error>>
-    ensures { W.tells out.old → W.tells out.new
+    requires { printer.old.start ≤ vec_len printer.old.queue }
+    ensures queue { printer.new.start ≤ vec_len printer.new.queue }
+    ensures options { OnOk result (printer.new.options ≡ printer.old.options) }
+    ensures done { OnOk result (stack_of N.tree printer.new.commands.items ≡ []) }
+    ensures lessens { OnOk result (owed (state_of N.tree printer.new).pending
+        ≤ work (stack_of N.tree printer.old.commands.items) (state_of N.tree printer.old)) }
+    ensures same_lender { W.lender out.new ≡ W.lender out.old }
+    ensures told { W.tells out.old → W.tells out.new
         × WorkedOff N.tree printer.old printer.new (W.document_errors out.new)
-        (W.written out.old) (W.written out.new) (W.failures out.old) (W.failures out.new) result }
+            (W.written out.old) (W.written out.new) (W.failures out.old) (W.failures out.new) result }
 {
     'work: while printer.commands.len() > 0 {
         match turn(printer, out) {
-            Ok(Turn::Went) => {}
-            Ok(Turn::Failed) => return Err(RenderError::Document(out.fail_doc())),
             Err(e) => return Err(e),
+            Ok(Turn::Failed) => return Err(RenderError::Document(out.fail_doc())),
+            Ok(Turn::Went) => {}
+            Ok(Turn::Chosen(indent, first, second)) => {
+                match choose(printer, buffer, out, indent, first, second) {
+                    Ok(()) => {}
+                    Err(e) => return Err(e),
+                }
+            }
         }
     }
     Ok(())
+}
+
+// At the end the documents that wait become the commands, and what is pending of the line is written, as before content.
+fn flush_end<N: Walk, W: Render>(
+    printer: &mut Printer<N>,
+    out: &mut W,
+) -> Result<(), RenderError<W::Error>>
+    requires queue { printer.old.start ≤ vec_len printer.old.queue }
+    requires none { stack_of N.tree printer.old.commands.items ≡ [] }
+    ensures queue { printer.new.start ≤ vec_len printer.new.queue }
+    ensures options { OnOk result (printer.new.options ≡ printer.old.options) }
+    ensures stack { OnOk result (stack_of N.tree printer.new.commands.items ≡ tasks 0 Break (state_of N.tree printer.old).pending) }
+    ensures state { OnOk result (state_of N.tree printer.new ≡ flushed printer.old.options (state_of N.tree printer.old)) }
+    ensures same_lender { W.lender out.new ≡ W.lender out.old }
+    ensures told { W.tells out.old → W.tells out.new
+        × Flushed printer.old (W.written out.old) (W.written out.new) (W.failures out.old) (W.failures out.new) result }
+{
+    match take_pending(printer, 0, Mode::Break) {
+        Err(e) => Err(RenderError::Memory(e)),
+        Ok(gap) => match write_gap_and_text(out, gap, "") {
+            Ok(()) => Ok(()),
+            Err(e) => Err(RenderError::Sink(e)),
+        },
+    }
+}
+
+// Works off the commands and then, round by round, the documents that wait at the end.
+fn run_to_end<N: Walk, W: Render>(
+    printer: &mut Printer<N>,
+    buffer: &mut Buffer,
+    out: &mut W,
+) -> Result<(), RenderError<W::Error>>
+    requires { printer.old.start ≤ vec_len printer.old.queue }
+    ensures same_lender { W.lender out.new ≡ W.lender out.old }
+    ensures told { W.tells out.old → W.tells out.new
+        × RanToEnd N.tree printer.old (W.document_errors out.new)
+            (W.written out.old) (W.written out.new) (W.failures out.old) (W.failures out.new) result }
+{
+    'rounds: loop {
+        match work_off(printer, buffer, out) {
+            Ok(()) => {}
+            Err(e) => return Err(e),
+        }
+        if !is_pending(printer) {
+            return Ok(());
+        }
+        match flush_end(printer, out) {
+            Ok(()) => {}
+            Err(e) => return Err(e),
+        }
+    }
 }
 
 /// Renders the document of a node to a sink: what is written is its layout.
@@ -44,9 +152,10 @@ pub fn render<N: Walk, W: Render>(
     options: RenderOptions,
     out: &mut W,
 ) -> Result<(), RenderError<W::Error>>
-    ensures { W.tells out.old → W.tells out.new
+    ensures same_lender { W.lender out.new ≡ W.lender out.old }
+    ensures told { W.tells out.old → W.tells out.new
         × Rendered (W.document_errors out.new) (layout options (N.tree node))
-        (W.written out.old) (W.written out.new) (W.failures out.old) (W.failures out.new) result }
+            (W.written out.old) (W.written out.new) (W.failures out.old) (W.failures out.new) result }
 {
     let mut printer = Printer {
         options,
@@ -54,9 +163,12 @@ pub fn render<N: Walk, W: Render>(
         within: true,
         commands: Vec::new(alloc),
         scratch: Vec::new(alloc),
+        queue: Vec::new(alloc),
+        start: 0,
     };
+    let mut buffer = Buffer::new(alloc);
     match push_node(&mut printer.commands, 0, Mode::Break, node) {
-        Ok(()) => work_off(&mut printer, out),
+        Ok(()) => run_to_end(&mut printer, &mut buffer, out),
         Err(e) => Err(RenderError::Memory(e)),
     }
 }

@@ -1,5 +1,5 @@
-ghost use Rattle.std.specs.Prelude.{◌≡◌, ◌∷◌, [], OnOk, MatchOption};
-ghost use Rattle.prettyless_printer.specs.Stack.{make_task, stack_of, task};
+ghost use Rattle.std.specs.Prelude.{◌≡◌, ◌∷◌, ◌++◌, [], List, length, OnOk, MatchOption};
+ghost use Rattle.prettyless_printer.specs.Stack.{Task, make_task, stack_of, task, tasks, trees};
 
 use crate::command::Command;
 use crate::walk::Walk;
@@ -28,4 +28,30 @@ pub fn pop_command<N: Walk>(stack: &mut Vec<Command<N>>) -> Option<Command<N>>
         (λ c. stack_of N.tree stack.old.items ≡ task N.tree c ∷ stack_of N.tree stack.new.items) }
 {
     stack.pop()
+}
+
+/// Puts nodes on the stack, so that the first of them is on top.
+pub fn push_each<N: Walk>(
+    stack: &mut Vec<Command<N>>,
+    indent: usize,
+    mode: Mode,
+    nodes: &[N],
+) -> Result<(), AllocError>
+    ensures { OnOk result (stack_of N.tree stack.new.items ≡ tasks indent mode (trees N.tree nodes.now) ++ stack_of N.tree stack.old.items) }
+{
+    let mut k = nodes.len();
+    while k > 0 {
+        k -= 1;
+        push_node(stack, indent, mode, nodes[k])?;
+    }
+    Ok(())
+}
+
+/// Keeps this many commands at the bottom of the stack.
+#[tactic(auto, using(crate::proofs::Stacks::stack_of_cut))]
+pub fn cut<N: Walk>(stack: &mut Vec<Command<N>>, kept: usize)
+    ensures { (above below : List Task) → stack_of N.tree stack.old.items ≡ above ++ below → length below ≡ kept
+        → stack_of N.tree stack.new.items ≡ below }
+{
+    stack.truncate(kept);
 }

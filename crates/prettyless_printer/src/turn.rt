@@ -1,4 +1,5 @@
-ghost use Rattle.std.specs.Prelude.{◌≡◌, ◌<◌, OnOk, IfOk, vec_len};
+ghost use Rattle.std.specs.Prelude.{◌≡◌, ◌<◌, ◌≤◌, OnOk, IfOk, vec_len};
+ghost use Rattle.prettyless_printer.specs.Printing.{Grows};
 ghost use Rattle.prettyless_printer.specs.Turns.{Lessens, Turned};
 
 use crate::piece::write_piece;
@@ -13,10 +14,14 @@ use prettyless_sink::render::Render;
 pub fn turn<N: Walk, W: Render>(
     printer: &mut Printer<N>,
     out: &mut W,
-) -> Result<Turn, RenderError<W::Error>>
-    requires { 0 < vec_len printer.old.commands }
+) -> Result<Turn<N>, RenderError<W::Error>>
+    requires queue { printer.old.start ≤ vec_len printer.old.queue }
+    requires some { 0 < vec_len printer.old.commands }
+    ensures queue { printer.new.start ≤ vec_len printer.new.queue }
     ensures options { OnOk result (printer.new.options ≡ printer.old.options) }
+    ensures grows { OnOk result (Grows printer.old printer.new) }
     ensures lessens { IfOk result (Lessens N.tree printer.old printer.new) }
+    ensures same_lender { W.lender out.new ≡ W.lender out.old }
     ensures told { W.tells out.old → W.tells out.new
         × Turned N.tree printer.old printer.new (W.written out.old) (W.written out.new) (W.failures out.old) (W.failures out.new) result }
 {
@@ -26,6 +31,7 @@ pub fn turn<N: Walk, W: Render>(
     match step(printer, &command) {
         Err(e) => Err(RenderError::Memory(e)),
         Ok(Taken::Failed) => Ok(Turn::Failed),
+        Ok(Taken::Chosen(indent, first, second)) => Ok(Turn::Chosen(indent, first, second)),
         Ok(Taken::Written(piece)) => match write_piece(out, piece) {
             Ok(()) => Ok(Turn::Went),
             Err(e) => Err(RenderError::Sink(e)),

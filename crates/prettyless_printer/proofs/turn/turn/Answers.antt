@@ -2,28 +2,100 @@ use Rattle.std.proofs.Common.{length, ap, arith, refl, subst}
 use Rattle.prettyless_printer.specs.Printing.{TookNext}
 use Rattle.prettyless_printer.proofs.Stacks.{length-stack_of}
 use Rattle.prettyless_printer.proofs.Shown.{took}
-use Rattle.prettyless_printer.proofs.Turnings.{went, lessens, failed, sink_broke}
+use Rattle.prettyless_printer.proofs.Turnings.{went, lessens, failed, chosen, choice_lessens, sink_broke}
 use Rattle.prettyless_printer.proofs.turn.turn.Goals as goal
 
 pub unreachable-requires : goal.unreachable-requires
 unreachable-requires g c =
     omega (arith, ap length c.in_default.ensures.0, length-stack_of g.N.Walk.tree c.args.printer.now.commands.items, c.args.printer.now.commands.ok.0)
 
+pub returns-in-Ok-Failed-clause-options : goal.returns-in-Ok-Failed-clause-options
+returns-in-Ok-Failed-clause-options g c =
+    let f = g.N.Walk.tree in
+    let p = c.args.printer.now in
+    let q = c.step.new.printer in
+    let k = took f p (record p { commands = c.pop_command.new.stack }) q c.in-Some.command c.in-Ok-Failed.field-0 c.in-Some.ensures refl refl refl c.in-Ok-Failed.ensures.step in
+    let h = subst (TookNext f p q) c.in-Ok-Failed.field-0-is k in
+    h.4
+
+pub returns-in-Ok-Failed-clause-grows : goal.returns-in-Ok-Failed-clause-grows
+returns-in-Ok-Failed-clause-grows g c =
+    let f = g.N.Walk.tree in
+    let p = c.args.printer.now in
+    let q = c.step.new.printer in
+    let k = took f p (record p { commands = c.pop_command.new.stack }) q c.in-Some.command c.in-Ok-Failed.field-0 c.in-Some.ensures refl refl refl c.in-Ok-Failed.ensures.step in
+    let h = subst (TookNext f p q) c.in-Ok-Failed.field-0-is k in
+    h.5
+
 pub returns-in-Ok-Failed-clause-told : goal.returns-in-Ok-Failed-clause-told
 returns-in-Ok-Failed-clause-told g c =
     let f = g.N.Walk.tree in
     let p = c.args.printer.now in
     let q = c.step.new.printer in
-    let k = took f p (record p { commands = c.pop_command.new.stack }) q c.in-Some.command c.in-Ok-Failed.field-0 c.in-Some.ensures refl refl c.in-Ok-Failed.ensures in
+    let k = took f p (record p { commands = c.pop_command.new.stack }) q c.in-Some.command c.in-Ok-Failed.field-0 c.in-Some.ensures refl refl refl c.in-Ok-Failed.ensures.step in
     let h = subst (TookNext f p q) c.in-Ok-Failed.field-0-is k in
     λ told. (told, (failed f p q (g.W.Render.written c.args.out.now) h, refl))
+
+pub returns-in-Ok-Chosen-clause-options : goal.returns-in-Ok-Chosen-clause-options
+returns-in-Ok-Chosen-clause-options g c =
+    let f = g.N.Walk.tree in
+    let p = c.args.printer.now in
+    let q = c.step.new.printer in
+    let k = took f p (record p { commands = c.pop_command.new.stack }) q c.in-Some.command c.in-Ok-Chosen.field-0 c.in-Some.ensures refl refl refl c.in-Ok-Chosen.ensures.step in
+    let h = subst (TookNext f p q) c.in-Ok-Chosen.field-0-is k in
+    h.4
+
+pub returns-in-Ok-Chosen-clause-grows : goal.returns-in-Ok-Chosen-clause-grows
+returns-in-Ok-Chosen-clause-grows g c =
+    let f = g.N.Walk.tree in
+    let p = c.args.printer.now in
+    let q = c.step.new.printer in
+    let k = took f p (record p { commands = c.pop_command.new.stack }) q c.in-Some.command c.in-Ok-Chosen.field-0 c.in-Some.ensures refl refl refl c.in-Ok-Chosen.ensures.step in
+    let h = subst (TookNext f p q) c.in-Ok-Chosen.field-0-is k in
+    h.5
+
+pub returns-in-Ok-Chosen-clause-lessens : goal.returns-in-Ok-Chosen-clause-lessens
+returns-in-Ok-Chosen-clause-lessens g c =
+    let f = g.N.Walk.tree in
+    let p = c.args.printer.now in
+    let q = c.step.new.printer in
+    let k = took f p (record p { commands = c.pop_command.new.stack }) q c.in-Some.command c.in-Ok-Chosen.field-0 c.in-Some.ensures refl refl refl c.in-Ok-Chosen.ensures.step in
+    let h = subst (TookNext f p q) c.in-Ok-Chosen.field-0-is k in
+    choice_lessens f p q c.in-Ok-Chosen.indent c.in-Ok-Chosen.first c.in-Ok-Chosen.second h
+
+pub returns-in-Ok-Chosen-clause-told : goal.returns-in-Ok-Chosen-clause-told
+returns-in-Ok-Chosen-clause-told g c =
+    let f = g.N.Walk.tree in
+    let p = c.args.printer.now in
+    let q = c.step.new.printer in
+    let k = took f p (record p { commands = c.pop_command.new.stack }) q c.in-Some.command c.in-Ok-Chosen.field-0 c.in-Some.ensures refl refl refl c.in-Ok-Chosen.ensures.step in
+    let h = subst (TookNext f p q) c.in-Ok-Chosen.field-0-is k in
+    λ told. (told, (chosen f p q (g.W.Render.written c.args.out.now) c.in-Ok-Chosen.indent c.in-Ok-Chosen.first c.in-Ok-Chosen.second h, refl))
+
+pub returns-in-Ok-clause-options : goal.returns-in-Ok-clause-options
+returns-in-Ok-clause-options g c =
+    let f = g.N.Walk.tree in
+    let p = c.args.printer.now in
+    let q = c.step.new.printer in
+    let k = took f p (record p { commands = c.pop_command.new.stack }) q c.in-Some.command c.in-Ok-Written.field-0 c.in-Some.ensures refl refl refl c.in-Ok-Written.ensures.step in
+    let h = subst (TookNext f p q) c.in-Ok-Written.field-0-is k in
+    h.4
+
+pub returns-in-Ok-clause-grows : goal.returns-in-Ok-clause-grows
+returns-in-Ok-clause-grows g c =
+    let f = g.N.Walk.tree in
+    let p = c.args.printer.now in
+    let q = c.step.new.printer in
+    let k = took f p (record p { commands = c.pop_command.new.stack }) q c.in-Some.command c.in-Ok-Written.field-0 c.in-Some.ensures refl refl refl c.in-Ok-Written.ensures.step in
+    let h = subst (TookNext f p q) c.in-Ok-Written.field-0-is k in
+    h.5
 
 pub returns-in-Ok-clause-lessens : goal.returns-in-Ok-clause-lessens
 returns-in-Ok-clause-lessens g c =
     let f = g.N.Walk.tree in
     let p = c.args.printer.now in
     let q = c.step.new.printer in
-    let k = took f p (record p { commands = c.pop_command.new.stack }) q c.in-Some.command c.in-Ok-Written.field-0 c.in-Some.ensures refl refl c.in-Ok-Written.ensures in
+    let k = took f p (record p { commands = c.pop_command.new.stack }) q c.in-Some.command c.in-Ok-Written.field-0 c.in-Some.ensures refl refl refl c.in-Ok-Written.ensures.step in
     let h = subst (TookNext f p q) c.in-Ok-Written.field-0-is k in
     lessens f p q c.in-Ok-Written.piece h
 
@@ -32,19 +104,19 @@ returns-in-Ok-clause-told g c =
     let f = g.N.Walk.tree in
     let p = c.args.printer.now in
     let q = c.step.new.printer in
-    let k = took f p (record p { commands = c.pop_command.new.stack }) q c.in-Some.command c.in-Ok-Written.field-0 c.in-Some.ensures refl refl c.in-Ok-Written.ensures in
+    let k = took f p (record p { commands = c.pop_command.new.stack }) q c.in-Some.command c.in-Ok-Written.field-0 c.in-Some.ensures refl refl refl c.in-Ok-Written.ensures.step in
     let h = subst (TookNext f p q) c.in-Ok-Written.field-0-is k in
     λ told.
-    let e = c.in-Ok.ensures.ok told in
-    (e.0, (went f p q (g.W.Render.written c.args.out.now) (g.W.Render.written c.write_piece.new.out) c.in-Ok-Written.piece h e.1, e.2))
+      let e = c.in-Ok.ensures.ok told in
+      (e.0, (went f p q (g.W.Render.written c.args.out.now) (g.W.Render.written c.write_piece.new.out) c.in-Ok-Written.piece h e.1, e.2))
 
 pub returns-in-Err-write_piece-clause-told : goal.returns-in-Err-write_piece-clause-told
 returns-in-Err-write_piece-clause-told g c =
     let f = g.N.Walk.tree in
     let p = c.args.printer.now in
     let q = c.step.new.printer in
-    let k = took f p (record p { commands = c.pop_command.new.stack }) q c.in-Some.command c.in-Ok-Written.field-0 c.in-Some.ensures refl refl c.in-Ok-Written.ensures in
+    let k = took f p (record p { commands = c.pop_command.new.stack }) q c.in-Some.command c.in-Ok-Written.field-0 c.in-Some.ensures refl refl refl c.in-Ok-Written.ensures.step in
     let h = subst (TookNext f p q) c.in-Ok-Written.field-0-is k in
     λ told.
-    let e = c.in-Err-write_piece.ensures.err told in
-    (e.0, (sink_broke f p q (g.W.Render.written c.args.out.now) (g.W.Render.written c.write_piece.new.out) c.in-Ok-Written.piece h e.1, e.2))
+      let e = c.in-Err-write_piece.ensures.err told in
+      (e.0, (sink_broke f p q (g.W.Render.written c.args.out.now) (g.W.Render.written c.write_piece.new.out) c.in-Ok-Written.piece h e.1, e.2))

@@ -1,0 +1,176 @@
+-- A trial: begun, on its way, kept or taken back.
+use Rattle.std.proofs.Common.{◌≡◌, ℕ, ◌+◌, ◌*◌, ◌≤◌, ◌<◌, List, [], ◌∷◌, ◌++◌, length, refl, ap, sym, ◌∙◌, append_assoc, append-nil, length-append, arith, Bool, true, false, ◌&&◌, subst, take, drop, vec_len, if◌then◌else◌}
+use Rattle.std.specs.String.{string_bytes, string_len}
+use Rattle.std.proofs.lemmas.List.{take_at}
+use Rattle.std.proofs.lemmas.Str.{IsUtf8-string_bytes, IsCharBoundary-from_take}
+use Rattle.std.specs.Str.{IsUtf8}
+use Rattle.std.specs.String.Boundary.{IsSplitPoint}
+use Rattle.std.specs.declared.string.String.{String}
+use Rattle.prettyless_sink.specs.declared.options.RenderOptions.{RenderOptions}
+use Rattle.prettyless_model.specs.Tree.{Tree, size}
+use Rattle.prettyless_model.specs.Column.{padding_fits}
+use Rattle.prettyless_model.specs.Layout.{State, Outcome, Done, Failed, after_bytes, and_then, accept, tried, lay, some_pending}
+use Rattle.prettyless_model.specs.Levels.{settle}
+use Rattle.prettyless_model.specs.declared.mode.Mode.TheVariants.{Break}
+use Rattle.prettyless_model.proofs.Outcomes.{after-nil, then-done}
+use Rattle.prettyless_printer.specs.Stack.{Task, make_task, follow, stack_of, trees}
+use Rattle.prettyless_printer.specs.Steps.{lay_all, owed, chosen}
+use Rattle.prettyless_printer.specs.Progress.{Inside, Waits, Decides}
+use Rattle.prettyless_printer.specs.Printing.{state_of, Grows}
+use Rattle.prettyless_printer.specs.Trials.{Restores, TrialDid}
+use Rattle.prettyless_printer.specs.Turns.{ForWholes, Goes}
+use Rattle.prettyless_printer.specs.declared.printer.Turn.TheVariants as turn
+use Rattle.prettyless_printer.proofs.Progresses.{waits_kept, waits_other, inside_end}
+use Rattle.prettyless_printer.proofs.Turnings.{inside_at}
+use Rattle.prettyless_printer.proofs.Within.{Past, accept_past}
+use Rattle.prettyless_printer.specs.declared.printer.Printer.{Printer}
+use Rattle.prettyless_printer.specs.declared.trial.Mark.{Mark}
+
+-- what a trial of d at i from p lays
+abbrev pub trial_of : {N : Type 0} → (N → Tree) → Printer N → ℕ → Tree → Outcome
+trial_of f p i d = lay p.options (settle p.options) d i Break (follow (stack_of f p.commands.items)) (tried (state_of f p))
+
+abbrev pub limit_of : {N : Type 0} → (N → Tree) → Printer N → Tree → ℕ
+limit_of f p d = 2 * size d + owed (state_of f p).pending
+
+-- the trial is on its way, in q
+abbrev pub Trying : {N : Type 0} → (N → Tree) → Printer N → ℕ → Tree → List ℕ → Printer N → List ℕ → Type 0
+Trying f p i d old q out = Inside p.options (trial_of f p i d) (limit_of f p d) (stack_of f p.commands.items) old (stack_of f q.commands.items) (state_of f q) out
+
+-- the printer's mark
+abbrev pub marked : {N : Type 0} → Printer N → Mark
+marked p = record { commands = vec_len p.commands; queued = vec_len p.queue; start = p.start; column = p.column; within = p.within }
+
+lay_all-one : (o : RenderOptions) (i : ℕ) (d : Tree) (ts : List Task) (st : State) → lay_all o (settle o) (make_task i Break d ∷ []) (follow ts) st ≡ lay o (settle o) d i Break (follow ts) st
+unfolding lay_all
+lay_all-one o i d ts st = then-done (lay o (settle o) d i Break (follow ts) st)
+
+pub trying_begins : {N : Type 0} (f : N → Tree) (p q : Printer N) (i : ℕ) (d : Tree) (old : List ℕ) → stack_of f q.commands.items ≡ make_task i Break d ∷ stack_of f p.commands.items → state_of f q ≡ tried (state_of f p) → Trying f p i d old q old
+trying_begins {N} f p q i d old e s =
+    inside_at p.options (trial_of f p i d) (limit_of f p d) (stack_of f p.commands.items) old (make_task i Break d ∷ stack_of f p.commands.items) (stack_of f q.commands.items) (tried (state_of f p)) (state_of f q) old old e s refl
+    (record {
+      above = make_task i Break d ∷ [];
+      bytes = [];
+      stack_is = refl;
+      out_is = sym (append-nil old);
+      same = after-nil (lay_all p.options (settle p.options) (make_task i Break d ∷ []) (follow (stack_of f p.commands.items)) (tried (state_of f p)))
+          ∙ lay_all-one p.options i d (stack_of f p.commands.items) (tried (state_of f p));
+      bound = omega arith;
+    })
+
+pub grows-grows : {N : Type 0} (p q r : Printer N) → Grows p q → Grows q r → Grows p r
+grows-grows {N} p q r a b = (a.0 ++ b.0, b.1 ∙ ap (λ (x : List N). x ++ b.0) a.1 ∙ append_assoc p.queue.items a.0 b.0)
+
+restored_queue : {N : Type 0} (f : N → Tree) (p q r : Printer N) (m : Mark) → m ≡ marked p → Grows p q → Restores f m q r → r.queue.items ≡ p.queue.items
+restored_queue {N} f p q r m e g h =
+    h.1 ∙ ap (λ (x : ℕ). take x q.queue.items) (ap (λ (x : Mark). x.queued) e) ∙ ap (take (vec_len p.queue)) g.1 ∙ take_at p.queue.items g.0 (vec_len p.queue) (sym p.queue.ok.0)
+
+-- the state is as before
+restored : {N : Type 0} (f : N → Tree) (p q r : Printer N) (m : Mark) → m ≡ marked p → Grows p q → Restores f m q r → state_of f r ≡ state_of f p
+restored {N} f p q r m e g h =
+    let n : r.start ≡ p.start = h.2 ∙ ap (λ (x : Mark). x.start) e in
+    let k = restored_queue f p q r m e g h in
+    let a : trees f (drop r.start r.queue.items) ≡ trees f (drop p.start p.queue.items) = ap (λ (x : ℕ). trees f (drop x r.queue.items)) n ∙ ap (λ (x : List N). trees f (drop p.start x)) k in
+    let c : r.column ≡ p.column = h.3 ∙ ap (λ (x : Mark). x.column) e in
+    let o : r.within ≡ p.within = h.4 ∙ ap (λ (x : Mark). x.within) e in
+    λ j. record { column = c j; pending = a j; within = o j }
+
+-- a trial that is taken back: what it wrote is cut off, and its outcome is not accepted
+pub trial_rejected : {N : Type 0} (f : N → Tree) (p q r : Printer N) (i : ℕ) (d : Tree) (m : Mark) (old out new bytes : List ℕ) → m ≡ marked p →
+    (above : List Task) → stack_of f q.commands.items ≡ above ++ stack_of f p.commands.items → length (stack_of f p.commands.items) ≡ vec_len p.commands → q.options ≡ p.options → Grows p q → Restores f m q r →
+    out ≡ old ++ bytes → new ≡ take (length old) out →
+    ((other : Outcome) → accept p.options p.within (trial_of f p i d) other ≡ other) → TrialDid f p r i d old new false
+trial_rejected {N} f p q r i d m old out new bytes e above k l w g h b t rejected =
+    let s : state_of f r ≡ state_of f p = restored f p q r m e g h in (
+      h.0 above (stack_of f p.commands.items) k (l ∙ sym (ap (λ (x : Mark). x.commands) e)),
+      h.5 ∙ w,
+      ([], restored_queue f p q r m e g h ∙ sym (append-nil p.queue.items)),
+      h.4 ∙ ap (λ (x : Mark). x.within) e,
+      omega (arith, ap (λ (x : State). owed x.pending) s),
+      (t ∙ ap (take (length old)) b ∙ take_at old bytes (length old) refl, s, rejected),
+    )
+
+none_above : (above below stack : List Task) → stack ≡ above ++ below → length stack ≤ length below → stack ≡ below
+none_above [] below stack e l = e
+none_above (a ∷ above) below stack e l = absurd (omega (arith, ap length e, length-append above below))
+
+-- a trial that came to its end
+pub trial_ends : {N : Type 0} (f : N → Tree) (p q : Printer N) (i : ℕ) (d : Tree) (old out : List ℕ) → Trying f p i d old q out → length (stack_of f q.commands.items) ≤ length (stack_of f p.commands.items) →
+    (stack_of f q.commands.items ≡ stack_of f p.commands.items) × (bytes : List ℕ) × (out ≡ old ++ bytes) × (trial_of f p i d ≡ Done bytes (state_of f q)) × (owed (state_of f q).pending ≤ limit_of f p d)
+trial_ends {N} f p q i d old out y l =
+    let z = inside_end p.options (trial_of f p i d) (limit_of f p d) (stack_of f p.commands.items) old (stack_of f q.commands.items) (state_of f q) out y l in
+    (none_above y.above (stack_of f p.commands.items) (stack_of f q.commands.items) y.stack_is l, z.0, z.1, z.2, z.3)
+
+-- at its end the padding does not fit
+pub padding_rejects : {N : Type 0} (f : N → Tree) (p q : Printer N) (i : ℕ) (d : Tree) (bytes : List ℕ) → trial_of f p i d ≡ Done bytes (state_of f q) → q.within ≡ true →
+    padding_fits p.options.width (some_pending (state_of f q).pending) q.column ≡ false → (other : Outcome) → accept p.options p.within (trial_of f p i d) other ≡ other
+padding_rejects {N} f p q i d bytes e w h other =
+    ap (λ (x : Outcome). accept p.options p.within x other) e
+    ∙ ap (λ (v : Bool). if v && padding_fits p.options.width (some_pending (state_of f q).pending) q.column then Done bytes (record { column = q.column; pending = (state_of f q).pending; within = p.within }) else other) w
+    ∙ ap (λ (v : Bool). if v then Done bytes (record { column = q.column; pending = (state_of f q).pending; within = p.within }) else other) h
+
+-- a trial that is kept
+pub trial_kept : {N : Type 0} (f : N → Tree) (p q r : Printer N) (i : ℕ) (d : Tree) (old out : List ℕ) → Trying f p i d old q out → length (stack_of f q.commands.items) ≤ length (stack_of f p.commands.items) →
+    q.within ≡ true → padding_fits p.options.width (some_pending (state_of f q).pending) q.column ≡ true →
+    stack_of f r.commands.items ≡ stack_of f q.commands.items → state_of f r ≡ record { column = q.column; pending = (state_of f q).pending; within = p.within } → r.options ≡ p.options → Grows p r → TrialDid f p r i d old out true
+trial_kept {N} f p q r i d old out y l w h e s o g =
+    let z = trial_ends f p q i d old out y l in
+    let kept : (other : Outcome) → accept p.options p.within (trial_of f p i d) other ≡ Done z.1 (state_of f r) = λ other.
+    ap (λ (x : Outcome). accept p.options p.within x other) z.3
+    ∙ ap (λ (v : Bool). if v && padding_fits p.options.width (some_pending (state_of f q).pending) q.column then Done z.1 (record { column = q.column; pending = (state_of f q).pending; within = p.within }) else other) w
+    ∙ ap (λ (v : Bool). if v then Done z.1 (record { column = q.column; pending = (state_of f q).pending; within = p.within }) else other) h
+    ∙ ap (Done z.1) (sym s) in
+    (e ∙ z.0, o, g, ap (λ (x : State). x.within) s, omega (arith, z.4, ap (λ (x : State). owed x.pending) s), (z.1, z.2, kept))
+
+-- what a turn does to a trial
+pub trying_turn : {N : Type 0} (f : N → Tree) (p q : Printer N) (i : ℕ) (d : Tree) (old out : List ℕ) (goal : RenderOptions → Outcome → ℕ → List Task → List ℕ → Type 0) → q.options ≡ p.options → length (stack_of f p.commands.items) < length (stack_of f q.commands.items) →
+    Trying f p i d old q out → ForWholes f q out (goal q.options) → goal p.options (trial_of f p i d) (limit_of f p d) (stack_of f p.commands.items) old
+trying_turn {N} f p q i d old out goal e l y h =
+    subst (λ (w : RenderOptions). goal w (trial_of f p i d) (limit_of f p d) (stack_of f p.commands.items) old) e
+    (h (trial_of f p i d) (limit_of f p d) (stack_of f p.commands.items) old l
+    (subst (λ (w : RenderOptions). Inside w (trial_of f p i d) (limit_of f p d) (stack_of f p.commands.items) old (stack_of f q.commands.items) (state_of f q) out) (sym e) y))
+
+-- what a trial decides, under options that are the same
+decides_at : {N : Type 0} (f : N → Tree) (q r : Printer N) (o : RenderOptions) (j : ℕ) (x : Tree) (kept : Bool) (old new : List ℕ) → q.options ≡ o →
+    Decides kept q.options (trial_of f q j x) q.within old new (state_of f q) (state_of f r) →
+    Decides kept o (lay o (settle o) x j Break (follow (stack_of f q.commands.items)) (tried (state_of f q))) q.within old new (state_of f q) (state_of f r)
+decides_at {N} f q r o j x kept old new e h =
+    subst (λ (z : RenderOptions). Decides kept z (lay z (settle z) x j Break (follow (stack_of f q.commands.items)) (tried (state_of f q))) q.within old new (state_of f q) (state_of f r)) e h
+
+-- a choice, and its trial kept
+pub choice_kept : {N : Type 0} (f : N → Tree) (q r : Printer N) (o : RenderOptions) (whole : Outcome) (limit : ℕ) (below : List Task) (old out : List ℕ) (j : ℕ) (x y : Tree) (before after : List ℕ) →
+    Waits o whole limit below old j x y (stack_of f q.commands.items) (state_of f q) out → q.options ≡ o → TrialDid f q r j x before after true →
+    (bytes : List ℕ) × (after ≡ before ++ bytes) × Inside o whole limit below old (stack_of f r.commands.items) (state_of f r) (out ++ bytes)
+choice_kept {N} f q r o whole limit below old out j x y before after h e d =
+    let k = decides_at f q r o j x true before after e d.5 in (
+      k.0,
+      k.1,
+      inside_at o whole limit below old (stack_of f q.commands.items) (stack_of f r.commands.items) (state_of f r) (state_of f r) (out ++ k.0) (out ++ k.0) d.0 refl refl
+      (waits_kept o whole limit below old j x y (stack_of f q.commands.items) (state_of f q) out h k.0 (state_of f r)
+      (k.2 (lay o (settle o) y j Break (follow (stack_of f q.commands.items)) (state_of f q))) d.4),
+    )
+
+-- a choice, and its trial not kept: the second branch comes next
+pub choice_other : {N : Type 0} (f : N → Tree) (q r u : Printer N) (o : RenderOptions) (whole : Outcome) (limit : ℕ) (below : List Task) (old out : List ℕ) (j : ℕ) (x y : Tree) (before after : List ℕ) →
+    Waits o whole limit below old j x y (stack_of f q.commands.items) (state_of f q) out → q.options ≡ o → TrialDid f q r j x before after false →
+    stack_of f u.commands.items ≡ make_task j Break y ∷ stack_of f r.commands.items → state_of f u ≡ state_of f r →
+    (after ≡ before) × Inside o whole limit below old (stack_of f u.commands.items) (state_of f u) out
+choice_other {N} f q r u o whole limit below old out j x y before after h e d a s =
+    let k = decides_at f q r o j x false before after e d.5 in (
+      k.0,
+      inside_at o whole limit below old (make_task j Break y ∷ stack_of f q.commands.items) (stack_of f u.commands.items) (state_of f q) (state_of f u) out out
+      (a ∙ ap (λ (z : List Task). make_task j Break y ∷ z) d.0) (s ∙ k.1) refl
+      (waits_other o whole limit below old j x y (stack_of f q.commands.items) (state_of f q) out h k.2),
+    )
+
+pub length-string_bytes : {Z : Type 0} (s : String Z) (n : ℕ) → n ≡ string_len s → n ≡ length (string_bytes s)
+length-string_bytes s n e = e ∙ s.bytes.ok.0
+
+-- a text may be cut where it ended before something was appended
+pub cut_back : {Z : Type 0} (s t : String Z) (n : ℕ) (bytes : List ℕ) → n ≡ string_len s → string_bytes t ≡ string_bytes s ++ bytes → IsSplitPoint (string_bytes t) n
+cut_back s t n bytes k e =
+    let z = length-string_bytes s n k in
+    let l : n ≤ length (string_bytes t) = omega (arith, ap length e, length-append (string_bytes s) bytes) in
+    let front : take n (string_bytes t) ≡ string_bytes s = ap (take n) e ∙ take_at (string_bytes s) bytes n (sym z) in
+    let b = IsCharBoundary-from_take (string_bytes t) n (IsUtf8-string_bytes t) l (subst IsUtf8 (sym front) (IsUtf8-string_bytes s)) in
+    (l, λ _ h. b.1 h)

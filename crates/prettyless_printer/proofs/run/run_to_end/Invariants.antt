@@ -1,0 +1,19 @@
+use Rattle.std.proofs.Common.{◌≡◌, ◌≤◌, vec_len}
+use Rattle.prettyless_printer.specs.Stack.{stack_of}
+use Rattle.prettyless_printer.specs.Steps.{work}
+use Rattle.prettyless_printer.specs.Printing.{state_of}
+use Rattle.prettyless_printer.specs.Renders.{to_end}
+use Rattle.prettyless_printer.proofs.Renders.{Finishing}
+use Rattle.prettyless_printer.proofs.run.run_to_end.Given as goal
+
+abbrev pub invariant-rounds : goal.invariant-rounds
+invariant-rounds g l = record {
+  queue : l.printer.start ≤ vec_len l.printer.queue;
+  same_lender : g.W.Render.lender l.out ≡ g.W.Render.lender l.fn.out;
+  told : g.W.Render.tells l.fn.out → g.W.Render.tells l.out
+      × Finishing g.N.Walk.tree (to_end g.N.Walk.tree l.fn.printer) l.printer (g.W.Render.written l.fn.out) (g.W.Render.written l.out)
+      × (g.W.Render.failures l.out ≡ g.W.Render.failures l.fn.out);
+}
+
+abbrev pub decreases-rounds : goal.decreases-rounds
+decreases-rounds g l = work (stack_of g.N.Walk.tree l.printer.commands.items) (state_of g.N.Walk.tree l.printer)

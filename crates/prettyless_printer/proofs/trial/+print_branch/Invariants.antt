@@ -1,0 +1,22 @@
+use Rattle.std.proofs.Common.{◌≡◌, ◌+◌, ◌*◌, ◌≤◌, true, vec_len, string_bytes}
+use Rattle.prettyless_model.specs.Tree.{size}
+use Rattle.prettyless_printer.specs.Stack.{stack_of}
+use Rattle.prettyless_printer.specs.Steps.{owed, work}
+use Rattle.prettyless_printer.specs.Printing.{state_of, Grows}
+use Rattle.prettyless_printer.proofs.Trying.{Trying}
+use Rattle.prettyless_printer.proofs.trial.+print_branch.Given as goal
+
+abbrev pub decreases-print_branch : goal.decreases-print_branch
+decreases-print_branch g l = 2 * size (g.N.Walk.tree l.branch) + owed (state_of g.N.Walk.tree l.printer.now).pending
+
+abbrev pub invariant-work : goal.invariant-work
+invariant-work g l = record {
+  trying : Trying g.N.Walk.tree l.fn.printer l.fn.indent (g.N.Walk.tree l.fn.branch) (string_bytes l.fn.buffer.text) l.printer (string_bytes l.buffer.text);
+  options : l.printer.options ≡ l.fn.printer.options;
+  within : l.printer.within ≡ true;
+  queue : l.printer.start ≤ vec_len l.printer.queue;
+  grows : Grows l.fn.printer l.printer;
+}
+
+abbrev pub decreases-work : goal.decreases-work
+decreases-work g l = work (stack_of g.N.Walk.tree l.printer.commands.items) (state_of g.N.Walk.tree l.printer)

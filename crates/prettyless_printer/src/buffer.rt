@@ -1,0 +1,50 @@
+ghost use Rattle.std.specs.Prelude.{⊤, ◌≡◌, []};
+ghost use Rattle.std.specs.String.{string_bytes};
+
+use prettyless_sink::render::Render;
+use std::alloc::{AllocError, Global};
+
+/// What open trials write to: one text for all of them, which is cut back to where a trial began if it is not kept.
+#[derive(Drop)]
+pub struct Buffer {
+    pub text: String,
+    pub failures: u64,
+}
+
+impl Buffer {
+    /// An empty one. It takes no memory.
+    pub fn new(alloc: Global) -> Self
+        ensures { string_bytes result.text ≡ [] }
+    {
+        Buffer {
+            text: String::new(alloc),
+            failures: 0,
+        }
+    }
+}
+
+impl Render for Buffer {
+    type Error = AllocError;
+
+    ghost tells = { λ _. ⊤ };
+
+    ghost written = { λ b. string_bytes b.text };
+
+    ghost failures = { λ b. b.failures };
+
+    ghost document_errors = { λ _ _. ⊤ };
+
+    fn write_str_all(&mut self, s: &str) -> Result<(), AllocError> {
+        match self.text.push_str(s) {
+            Ok(()) => Ok(()),
+            Err(e) => {
+                self.failures = self.failures.saturating_add(1);
+                Err(e)
+            }
+        }
+    }
+
+    fn fail_doc(&self) -> AllocError {
+        AllocError
+    }
+}

@@ -1,0 +1,111 @@
+ghost use Rattle.std.specs.Prelude.{◌≡◌, ◌≤◌, IfOk, take, vec_len};
+ghost use Rattle.std.specs.String.{string_bytes};
+ghost use Rattle.std.specs.String.Boundary.{IsSplitPoint};
+ghost use Rattle.prettyless_printer.specs.Trials.{Restores, TrialDid};
+
+use crate::buffer::Buffer;
+use crate::pending::is_pending;
+use crate::printer::{Printer, Turn};
+use crate::stack::{cut, push_node};
+use crate::turn::turn;
+use crate::walk::Walk;
+use prettyless_model::column::Column;
+use prettyless_model::mode::Mode;
+use prettyless_sink::error::RenderError;
+use std::alloc::AllocError;
+
+/// What a trial goes back to if it is not kept.
+#[derive(Clone, Copy)]
+pub struct Mark {
+    pub commands: usize,
+    pub queued: usize,
+    pub start: usize,
+    pub column: Column,
+    pub within: bool,
+}
+
+fn mark_of<N: Walk>(printer: &Printer<N>) -> Mark
+    ensures { result ≡ record {
+      commands = vec_len printer.now.commands;
+      queued = vec_len printer.now.queue;
+      start = printer.now.start;
+      column = printer.now.column;
+      within = printer.now.within;
+    } }
+{
+    Mark {
+        commands: printer.commands.len(),
+        queued: printer.queue.len(),
+        start: printer.start,
+        column: printer.column,
+        within: printer.within,
+    }
+}
+
+// Goes back to where a trial began, which left nothing behind then.
+fn take_back<N: Walk>(printer: &mut Printer<N>, mark: Mark, buffer: &mut Buffer, written: usize)
+    requires { IsSplitPoint (string_bytes buffer.old.text) written }
+    ensures printer { Restores N.tree mark printer.old printer.new }
+    ensures buffer { string_bytes buffer.new.text ≡ take written (string_bytes buffer.old.text) }
+{
+    cut(&mut printer.commands, mark.commands);
+    printer.queue.truncate(mark.queued);
+    printer.start = mark.start;
+    printer.column = mark.column;
+    printer.within = mark.within;
+    buffer.text.truncate(written);
+}
+
+fn memory_of(error: RenderError<AllocError>) -> AllocError {
+    match error {
+        RenderError::Document(e) => e,
+        RenderError::Sink(e) => e,
+        RenderError::Memory(e) => e,
+    }
+}
+
+/// Prints a branch behind what the buffer has, without what follows it but with that known. It is kept if it does not
+/// fail, nothing of it goes past the width, and at its end the padding fits; else all is as before. Want of memory is
+/// an error, and never a reason not to keep a branch.
+pub fn print_branch<N: Walk>(
+    printer: &mut Printer<N>,
+    buffer: &mut Buffer,
+    indent: usize,
+    branch: N,
+) -> Result<bool, AllocError>
+    requires { printer.old.start ≤ vec_len printer.old.queue }
+    ensures queue { printer.new.start ≤ vec_len printer.new.queue }
+    ensures decided { IfOk result (λ kept. TrialDid N.tree printer.old printer.new indent (N.tree branch)
+        (string_bytes buffer.old.text) (string_bytes buffer.new.text) kept) }
+{
+    let mark = mark_of(printer);
+    let written = buffer.text.len();
+    printer.within = true;
+    push_node(&mut printer.commands, indent, Mode::Break, branch)?;
+    'work: while printer.commands.len() > mark.commands {
+        match turn(printer, buffer) {
+            Err(e) => return Err(memory_of(e)),
+            Ok(Turn::Failed) => {
+                take_back(printer, mark, buffer, written);
+                return Ok(false);
+            }
+            Ok(Turn::Went) => {
+                if !printer.within {
+                    take_back(printer, mark, buffer, written);
+                    return Ok(false);
+                }
+            }
+            Ok(Turn::Chosen(i, first, second)) => {
+                if !print_branch(printer, buffer, i, first)? {
+                    push_node(&mut printer.commands, i, Mode::Break, second)?;
+                }
+            }
+        }
+    }
+    if !printer.column.padding_fits(printer.options.width, is_pending(printer)) {
+        take_back(printer, mark, buffer, written);
+        return Ok(false);
+    }
+    printer.within = mark.within;
+    Ok(true)
+}
