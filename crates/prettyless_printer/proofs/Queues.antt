@@ -38,3 +38,11 @@ pub none_waits : {N : Type 0} (f : N → Tree) (xs : List N) (n : ℕ) → lengt
 none_waits f xs n h = none (trees f (drop n xs)) (omega (arith, length-pending f xs n))
 
 pub ruleset queues = (trees_push, trees_none, some_waits, none_waits, append-nil, append_assoc)
+
+pub length_some : (ds : List Tree) → some_pending ds ≡ true → 0 < length ds
+length_some [] h = cc
+length_some (d ∷ ds) h = omega arith
+
+pub length_none : (ds : List Tree) → some_pending ds ≡ false → length ds ≤ 0
+length_none [] h = omega arith
+length_none (d ∷ ds) h = cc

@@ -1,5 +1,5 @@
 -- A run from the first command, with the rounds of the end, is a render of the layout.
-use Rattle.std.proofs.Common.{◌≡◌, ℕ, ◌*◌, ◌≤◌, ◌<◌, List, [], ◌∷◌, ◌++◌, length, refl, ap, sym, ◌∙◌, append_assoc, append-nil, arith, subst, Result, Ok, Err}
+use Rattle.std.proofs.Common.{◌≡◌, ℕ, ◌*◌, ◌≤◌, ◌<◌, List, [], ◌∷◌, ◌++◌, length, refl, ap, sym, ◌∙◌, append_assoc, append-nil, arith, Err}
 use Rattle.prettyless_sink.specs.Sink.{AppendsBeginning, rise}
 use Rattle.prettyless_sink.specs.Spaces.{spaces}
 use Rattle.prettyless_sink.specs.declared.options.RenderOptions.{RenderOptions}
@@ -7,7 +7,7 @@ use Rattle.prettyless_sink.specs.declared.error.RenderError.{RenderError}
 use Rattle.prettyless_sink.specs.declared.error.RenderError.TheVariants.{Document, Sink, Memory}
 use Rattle.prettyless_model.specs.Tree.{Tree}
 use Rattle.prettyless_model.specs.Column.{gap}
-use Rattle.prettyless_model.specs.Layout.{State, Outcome, Done, Failed, Entry, Breaks, after_bytes, and_then, lay, lay_each, flushed, end_with, initial, layout, bytes_of, bytes_in, Whole}
+use Rattle.prettyless_model.specs.Layout.{State, Outcome, Done, Failed, Breaks, after_bytes, and_then, lay, lay_each, flushed, end_with, initial, layout, bytes_of, bytes_in, Whole}
 use Rattle.prettyless_model.specs.Levels.{settle, settle_end}
 use Rattle.prettyless_model.specs.declared.mode.Mode.TheVariants.{Break}
 use Rattle.prettyless_model.proofs.Outcomes.{after-nil, after-after, then-done}
@@ -20,7 +20,6 @@ use Rattle.prettyless_printer.specs.Renders.{rest_of, to_end, Stopped, Flushed, 
 use Rattle.prettyless_printer.proofs.Progresses.{bytes_before-after}
 use Rattle.prettyless_printer.proofs.Runs.{lay_all-tasks}
 use Rattle.prettyless_printer.proofs.Steps.{nodes-tasks}
-use Rattle.prettyless_printer.proofs.Turnings.{beginning_less}
 use Rattle.prettyless_printer.specs.declared.printer.Printer.{Printer}
 
 -- What was written since `old`, and then what the commands and the end lay, is the whole.
@@ -47,7 +46,7 @@ finishing_beginning {N} f whole p old out new h q =
       h.bytes ++ q.0,
       q.1 ++ m.0,
       bytes_in-of whole ∙ sym (ap bytes_before h.same) ∙ bytes_before-after h.bytes (to_end f p)
-      ∙ ap (λ (x : List ℕ). h.bytes ++ x) (m.1 ∙ ap (λ (x : List ℕ). x ++ m.0) q.2 ∙ append_assoc q.0 q.1 m.0) ∙ sym (append_assoc h.bytes q.0 (q.1 ++ m.0)),
+          ∙ ap (λ (x : List ℕ). h.bytes ++ x) (m.1 ∙ ap (λ (x : List ℕ). x ++ m.0) q.2 ∙ append_assoc q.0 q.1 m.0) ∙ sym (append_assoc h.bytes q.0 (q.1 ++ m.0)),
       q.3 ∙ ap (λ (x : List ℕ). x ++ q.0) h.out_is ∙ append_assoc old h.bytes q.0,
     )
 

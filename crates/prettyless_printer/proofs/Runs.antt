@@ -1,5 +1,5 @@
 -- A step keeps what the stack lays.
-use Rattle.std.proofs.Common.{◌≡◌, ℕ, List, [], ◌∷◌, ◌++◌, length, refl, ap, sym, ◌∙◌, append_assoc, Bool, true, false, ◌&&◌, Option, Some, None, if◌then◌else◌}
+use Rattle.std.proofs.Common.{◌≡◌, ℕ, List, [], ◌∷◌, ◌++◌, length, refl, ap, sym, ◌∙◌, append_assoc, Bool, true, false, ◌&&◌, if◌then◌else◌}
 use Rattle.prettyless_sink.specs.Spaces.{spaces}
 use Rattle.prettyless_sink.specs.declared.options.RenderOptions.{RenderOptions}
 use Rattle.prettyless_sink.specs.declared.options.IndentationPolicy.{IndentationPolicy}
@@ -8,7 +8,6 @@ use Rattle.prettyless_model.specs.Tree.{Tree, Nil, Fail, Text, TextWithLen, Mult
 use Rattle.prettyless_model.specs.Metrics.{metrics}
 use Rattle.prettyless_model.specs.Column.{gap, prospective, start, commit, padding_fits}
 use Rattle.prettyless_model.specs.declared.metrics.Metrics.{Metrics}
-use Rattle.prettyless_model.specs.declared.column.Column.{Column}
 use Rattle.prettyless_model.specs.Reading.{by_mode}
 use Rattle.prettyless_model.specs.Layout.{State, Outcome, Done, Failed, Entry, Breaks, after_bytes, and_then, lay, lay_each, lay_text, lay_payload, payload_fits, behind_payload, lay_ending, nested, probe, some_pending, accept, tried, flushed, entry, entries, next_indent, is_suppressed, plain_break, break_with}
 use Rattle.prettyless_model.proofs.Outcomes.{after-nil, then-after, then-then}
@@ -109,12 +108,12 @@ payload_branch : (o : RenderOptions) (m : Metrics) (b : List ℕ) (st : State) (
 payload_branch o m b st other true e =
     let bytes : List ℕ = (if m.first_nonempty then spaces (gap st.column) else []) ++ b in
     ap (λ (x : Bool). if x then Done bytes (record st { column = behind_payload m }) else other)
-      (ap (λ (x : Bool). x && padding_fits o.width (some_pending st.pending) (behind_payload m)) (sym e) ∙ no_padding o.width (some_pending st.pending) m.last_nonempty m)
+    (ap (λ (x : Bool). x && padding_fits o.width (some_pending st.pending) (behind_payload m)) (sym e) ∙ no_padding o.width (some_pending st.pending) m.last_nonempty m)
     ∙ ap (λ (x : Bool). Done bytes (record st { column = behind_payload m; within = x })) (flag-and st.within ∙ ap (λ (x : Bool). st.within && x) e)
 payload_branch o m b st other false e =
     let bytes : List ℕ = (if m.first_nonempty then spaces (gap st.column) else []) ++ b in
     ap (λ (x : Bool). if x then Done bytes (record st { column = behind_payload m }) else other)
-      (ap (λ (x : Bool). x && padding_fits o.width (some_pending st.pending) (behind_payload m)) (sym e))
+    (ap (λ (x : Bool). x && padding_fits o.width (some_pending st.pending) (behind_payload m)) (sym e))
 
 -- a union in Break lays what its step does
 union_runs : (o : RenderOptions) (brk : Breaks) (l r : Tree) (i : ℕ) (ts : List Task) (outer : List Entry) (st : State) →
@@ -122,7 +121,7 @@ union_runs : (o : RenderOptions) (brk : Breaks) (l r : Tree) (i : ℕ) (ts : Lis
 unfolding lay lay_all
 union_runs o brk (MultilineText s) r i ts outer st =
     ap (λ (x : Outcome). and_then x (λ u. lay_all o brk ts outer u))
-      (payload_branch o (metrics s) s st (lay o brk r i Break (follow ts ++ outer) st) (payload_fits o (metrics s) st.column) refl)
+    (payload_branch o (metrics s) s st (lay o brk r i Break (follow ts ++ outer) st) (payload_fits o (metrics s) st.column) refl)
     ∙ partial_runs o brk (MultilineText s) r i ts outer st (payload_fits o (metrics s) st.column)
 union_runs o brk _ r i ts outer st = refl
 

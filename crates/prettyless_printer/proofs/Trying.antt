@@ -9,20 +9,18 @@ use Rattle.std.specs.declared.string.String.{String}
 use Rattle.prettyless_sink.specs.declared.options.RenderOptions.{RenderOptions}
 use Rattle.prettyless_model.specs.Tree.{Tree, size}
 use Rattle.prettyless_model.specs.Column.{padding_fits}
-use Rattle.prettyless_model.specs.Layout.{State, Outcome, Done, Failed, after_bytes, and_then, accept, tried, lay, some_pending}
+use Rattle.prettyless_model.specs.Layout.{State, Outcome, Done, accept, tried, lay, some_pending}
 use Rattle.prettyless_model.specs.Levels.{settle}
 use Rattle.prettyless_model.specs.declared.mode.Mode.TheVariants.{Break}
 use Rattle.prettyless_model.proofs.Outcomes.{after-nil, then-done}
 use Rattle.prettyless_printer.specs.Stack.{Task, make_task, follow, stack_of, trees}
-use Rattle.prettyless_printer.specs.Steps.{lay_all, owed, chosen}
+use Rattle.prettyless_printer.specs.Steps.{lay_all, owed}
 use Rattle.prettyless_printer.specs.Progress.{Inside, Waits, Decides}
 use Rattle.prettyless_printer.specs.Printing.{state_of, Grows}
 use Rattle.prettyless_printer.specs.Trials.{Restores, TrialDid}
-use Rattle.prettyless_printer.specs.Turns.{ForWholes, Goes}
-use Rattle.prettyless_printer.specs.declared.printer.Turn.TheVariants as turn
+use Rattle.prettyless_printer.specs.Turns.{ForWholes}
 use Rattle.prettyless_printer.proofs.Progresses.{waits_kept, waits_other, inside_end}
 use Rattle.prettyless_printer.proofs.Turnings.{inside_at}
-use Rattle.prettyless_printer.proofs.Within.{Past, accept_past}
 use Rattle.prettyless_printer.specs.declared.printer.Printer.{Printer}
 use Rattle.prettyless_printer.specs.declared.trial.Mark.{Mark}
 
@@ -146,8 +144,8 @@ choice_kept {N} f q r o whole limit below old out j x y before after h e d =
       k.0,
       k.1,
       inside_at o whole limit below old (stack_of f q.commands.items) (stack_of f r.commands.items) (state_of f r) (state_of f r) (out ++ k.0) (out ++ k.0) d.0 refl refl
-      (waits_kept o whole limit below old j x y (stack_of f q.commands.items) (state_of f q) out h k.0 (state_of f r)
-      (k.2 (lay o (settle o) y j Break (follow (stack_of f q.commands.items)) (state_of f q))) d.4),
+          (waits_kept o whole limit below old j x y (stack_of f q.commands.items) (state_of f q) out h k.0 (state_of f r)
+          (k.2 (lay o (settle o) y j Break (follow (stack_of f q.commands.items)) (state_of f q))) d.4),
     )
 
 -- a choice, and its trial not kept: the second branch comes next
@@ -159,8 +157,8 @@ choice_other {N} f q r u o whole limit below old out j x y before after h e d a 
     let k = decides_at f q r o j x false before after e d.5 in (
       k.0,
       inside_at o whole limit below old (make_task j Break y ∷ stack_of f q.commands.items) (stack_of f u.commands.items) (state_of f q) (state_of f u) out out
-      (a ∙ ap (λ (z : List Task). make_task j Break y ∷ z) d.0) (s ∙ k.1) refl
-      (waits_other o whole limit below old j x y (stack_of f q.commands.items) (state_of f q) out h k.2),
+          (a ∙ ap (λ (z : List Task). make_task j Break y ∷ z) d.0) (s ∙ k.1) refl
+          (waits_other o whole limit below old j x y (stack_of f q.commands.items) (state_of f q) out h k.2),
     )
 
 pub length-string_bytes : {Z : Type 0} (s : String Z) (n : ℕ) → n ≡ string_len s → n ≡ length (string_bytes s)

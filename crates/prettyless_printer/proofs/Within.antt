@@ -8,7 +8,7 @@ use Rattle.prettyless_model.specs.Tree.{Tree, Nil, Fail, Text, TextWithLen, Mult
 use Rattle.prettyless_model.specs.Metrics.{metrics}
 use Rattle.prettyless_model.specs.Column.{gap, commit, prospective, padding_fits}
 use Rattle.prettyless_model.specs.Reading.{by_mode}
-use Rattle.prettyless_model.specs.Layout.{State, Outcome, Done, Failed, Entry, Breaks, after_bytes, and_then, lay, lay_each, lay_text, lay_ending, payload_fits, nested, probe, some_pending, accept, tried, is_suppressed, plain_break, flushed, entry, entries, next_indent, break_with, breaks}
+use Rattle.prettyless_model.specs.Layout.{State, Outcome, Done, Failed, Entry, Breaks, after_bytes, and_then, lay, lay_each, lay_text, lay_ending, payload_fits, nested, probe, some_pending, accept, tried, is_suppressed, flushed, entry, entries, next_indent, break_with, breaks}
 use Rattle.prettyless_model.specs.Levels.{settle, queued}
 use Rattle.prettyless_model.specs.declared.mode.Mode.{Mode}
 use Rattle.prettyless_model.specs.declared.mode.Mode.TheVariants.{Break, Flat}

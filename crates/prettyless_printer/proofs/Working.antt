@@ -77,6 +77,8 @@ pub choice_broke : (A : Type 0) {N E : Type 0} (f : N → Tree) (p v q : Printer
 choice_broke A {N} {E} f p v q i x y fails old out new n k m (Document e) w l a h = absurd h
 choice_broke A {N} {E} f p v q i x y fails old out new n k m (Sink e) w l a h =
     (working_choice f p v i x y old out (λ (z : RenderOptions) whole limit below o. AppendsBeginning o new (bytes_before whole)) w l h.0, h.1 ∙ ap rise a)
-choice_broke A {N} {E} f p v q i x y fails old out new n k m (Memory e) w l a h =
-    (subst (λ (z : List ℕ). AppendsBeginning old z (bytes_before (rest_of f p))) (sym h.0)
-      (waits_beginning p.options (rest_of f p) (limit_at f p) [] old i x y (stack_of f v.commands.items) (state_of f v) out l), h.1 ∙ a)
+choice_broke A {N} {E} f p v q i x y fails old out new n k m (Memory e) w l a h = (
+  subst (λ (z : List ℕ). AppendsBeginning old z (bytes_before (rest_of f p))) (sym h.0)
+      (waits_beginning p.options (rest_of f p) (limit_at f p) [] old i x y (stack_of f v.commands.items) (state_of f v) out l),
+  h.1 ∙ a,
+)

@@ -9,7 +9,7 @@ use Rattle.prettyless_model.specs.Layout as layout
 use Rattle.prettyless_model.specs.Layout.{Outcome, Done}
 use Rattle.prettyless_printer.specs.Stack.{Task, stack_of}
 use Rattle.prettyless_printer.specs.Steps.{work}
-use Rattle.prettyless_printer.specs.Printing.{state_of, Grows}
+use Rattle.prettyless_printer.specs.Printing.{state_of}
 use Rattle.prettyless_printer.specs.Progress.{Inside, Waits}
 use Rattle.prettyless_printer.specs.declared.printer.Printer.{Printer}
 use Rattle.prettyless_printer.specs.declared.printer.Turn.{Turn}

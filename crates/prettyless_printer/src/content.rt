@@ -55,7 +55,11 @@ fn behind_payload(metrics: Metrics) -> Column
 
 /// A payload: what is pending of the line is written before it, unless its first part is empty.
 #[tactic(auto, using(crate::proofs::Queues::queues))]
-pub fn put_payload<'v, N: Walk>(printer: &mut Printer<N>, text: &'v str, metrics: Metrics) -> Piece<'v>
+pub fn put_payload<'v, N: Walk>(
+    printer: &mut Printer<N>,
+    text: &'v str,
+    metrics: Metrics,
+) -> Piece<'v>
     ensures step { Shows N.tree (Written result)
         (at_once (lay_payload printer.old.options metrics text.now (state_of N.tree printer.old))) printer.old printer.new }
     ensures start { printer.new.start ≡ printer.old.start }

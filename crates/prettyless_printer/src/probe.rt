@@ -91,7 +91,7 @@ fn probe_one<N: Walk>(
 ) -> Result<Option<bool>, AllocError>
     ensures answer { IfOk result (λ a. (more : List Atom) → AnswersAs a
         (fits width line.old.column line.old.pending
-            (reading (N.tree command.now.node) command.now.mode ++ (read_tasks (stack_of N.tree stack.old.items) ++ more)))
+        (reading (N.tree command.now.node) command.now.mode ++ (read_tasks (stack_of N.tree stack.old.items) ++ more)))
         (fits width line.new.column line.new.pending (read_tasks (stack_of N.tree stack.new.items) ++ more))) }
     ensures smaller { OnOk result
         (nodes (stack_of N.tree stack.new.items) < size (N.tree command.now.node) + nodes (stack_of N.tree stack.old.items)) }
@@ -103,7 +103,9 @@ fn probe_one<N: Walk>(
         View::Fail => return Ok(Some(false)),
         View::Text(s) => return Ok(read_content(width, line, s.len(), s)),
         View::TextWithLen(counted, s) => return Ok(read_content(width, line, counted, s)),
-        View::MultilineText(_, metrics) => return Ok(Some(read_payload(width, line, mode, metrics))),
+        View::MultilineText(_, metrics) => return Ok(Some(read_payload(
+            width, line, mode, metrics,
+        ))),
         View::WeakSpace => line.column = line.column.blank(),
         View::HardLine => return Ok(Some(read_line_end(width, line, mode))),
         View::WeakLine => return Ok(read_weak_line(width, line, mode)),

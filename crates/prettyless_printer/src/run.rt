@@ -40,7 +40,7 @@ fn choose<N: Walk, W: Render>(
         ≤ 2 * (size (N.tree first) + size (N.tree second)) + work (stack_of N.tree printer.old.commands.items) (state_of N.tree printer.old)) }
     ensures told { W.tells out.old → W.tells out.new
         × Chose N.tree printer.old printer.new indent (N.tree first) (N.tree second)
-            (W.written out.old) (W.written out.new) (W.failures out.old) (W.failures out.new) result }
+        (W.written out.old) (W.written out.new) (W.failures out.old) (W.failures out.new) result }
 {
     buffer.text.clear();
     match print_branch(printer, buffer, indent, first) {
@@ -71,7 +71,7 @@ fn work_off<N: Walk, W: Render>(
     ensures same_lender { W.lender out.new ≡ W.lender out.old }
     ensures told { W.tells out.old → W.tells out.new
         × WorkedOff N.tree printer.old printer.new (W.document_errors out.new)
-            (W.written out.old) (W.written out.new) (W.failures out.old) (W.failures out.new) result }
+        (W.written out.old) (W.written out.new) (W.failures out.old) (W.failures out.new) result }
 {
     'work: while printer.commands.len() > 0 {
         match turn(printer, out) {
@@ -123,7 +123,7 @@ fn run_to_end<N: Walk, W: Render>(
     ensures same_lender { W.lender out.new ≡ W.lender out.old }
     ensures told { W.tells out.old → W.tells out.new
         × RanToEnd N.tree printer.old (W.document_errors out.new)
-            (W.written out.old) (W.written out.new) (W.failures out.old) (W.failures out.new) result }
+        (W.written out.old) (W.written out.new) (W.failures out.old) (W.failures out.new) result }
 {
     'rounds: loop {
         match work_off(printer, buffer, out) {
@@ -155,7 +155,7 @@ pub fn render<N: Walk, W: Render>(
     ensures same_lender { W.lender out.new ≡ W.lender out.old }
     ensures told { W.tells out.old → W.tells out.new
         × Rendered (W.document_errors out.new) (layout options (N.tree node))
-            (W.written out.old) (W.written out.new) (W.failures out.old) (W.failures out.new) result }
+        (W.written out.old) (W.written out.new) (W.failures out.old) (W.failures out.new) result }
 {
     let mut printer = Printer {
         options,

@@ -53,7 +53,7 @@ fn group_mode<N: Walk>(printer: &mut Printer<N>, mode: Mode, inner: N) -> Result
     requires { printer.old.start ≤ vec_len printer.old.queue }
     ensures mode { IfOk result (λ m. m ≡ by_mode mode
         (if probe_of printer.old.options (N.tree inner) Flat (follow (stack_of N.tree printer.old.commands.items)) (state_of N.tree printer.old)
-            then Flat else Break)
+        then Flat else Break)
         Flat) }
     ensures others { printer.new ≡ record printer.old { scratch = printer.new.scratch } }
 {
@@ -65,11 +65,16 @@ fn group_mode<N: Walk>(printer: &mut Printer<N>, mode: Mode, inner: N) -> Result
 }
 
 // The branch of a partial union that is laid.
-fn partial_choice<N: Walk>(printer: &mut Printer<N>, mode: Mode, first: N, second: N) -> Result<N, AllocError>
+fn partial_choice<N: Walk>(
+    printer: &mut Printer<N>,
+    mode: Mode,
+    first: N,
+    second: N,
+) -> Result<N, AllocError>
     requires { printer.old.start ≤ vec_len printer.old.queue }
     ensures branch { IfOk result (λ n. N.tree n ≡ by_mode mode
         (if probe_of printer.old.options (N.tree first) Break (follow (stack_of N.tree printer.old.commands.items)) (state_of N.tree printer.old)
-            then N.tree first else N.tree second)
+        then N.tree first else N.tree second)
         (N.tree first)) }
     ensures others { printer.new ≡ record printer.old { scratch = printer.new.scratch } }
 {
@@ -85,7 +90,11 @@ fn metrics_choice<N: Walk>(printer: &Printer<N>, first: &N) -> Option<bool>
     ensures { result ≡ decided_by_metrics printer.now.options (N.tree first.now) (state_of N.tree printer.now) }
 {
     match first.view() {
-        View::MultilineText(_, metrics) => Some(payload_fits(printer.options, printer.column, metrics)),
+        View::MultilineText(_, metrics) => Some(payload_fits(
+            printer.options,
+            printer.column,
+            metrics,
+        )),
         _ => None,
     }
 }
@@ -108,7 +117,7 @@ fn indent_after<N: Walk>(commands: &[Command<N>], indent: usize) -> usize
 fn end_line<N: Walk>(printer: &mut Printer<N>, indent: usize) -> Piece<'static>
     ensures step { Shows N.tree (Written result)
         (at_once (lay_ending printer.old.options printer.old.options.indentation_policy
-            (next_indent indent (follow (stack_of N.tree printer.old.commands.items))) (state_of N.tree printer.old)))
+        (next_indent indent (follow (stack_of N.tree printer.old.commands.items))) (state_of N.tree printer.old)))
         printer.old printer.new }
     ensures start { printer.new.start ≡ printer.old.start }
     ensures queue { printer.new.queue ≡ printer.old.queue }
@@ -147,7 +156,7 @@ fn flush_line<N: Walk>(
     ensures queue { printer.new.start ≤ vec_len printer.new.queue }
     ensures step { IfOk result (λ piece. Shows N.tree (Written piece)
         (break_step printer.old.options (state_of N.tree printer.old).pending (N.tree node) indent mode
-            (follow (stack_of N.tree printer.old.commands.items)) (state_of N.tree printer.old))
+        (follow (stack_of N.tree printer.old.commands.items)) (state_of N.tree printer.old))
         printer.old printer.new) }
 {
     push_node(&mut printer.commands, indent, mode, node)?;
@@ -172,7 +181,7 @@ fn break_line<N: Walk>(
     ensures queue { printer.new.start ≤ vec_len printer.new.queue }
     ensures step { IfOk result (λ piece. Shows N.tree (Written piece)
         (break_step printer.old.options (state_of N.tree printer.old).pending (N.tree node) indent mode
-            (follow (stack_of N.tree printer.old.commands.items)) (state_of N.tree printer.old))
+        (follow (stack_of N.tree printer.old.commands.items)) (state_of N.tree printer.old))
         printer.old printer.new) }
 {
     if is_pending(printer) {
@@ -212,7 +221,7 @@ fn union<N: Walk>(
     ensures queue { printer.new.start ≤ vec_len printer.new.queue }
     ensures step { IfOk result (λ taken. Shows N.tree taken
         (union_step (decided_by_metrics printer.old.options (N.tree first) (state_of N.tree printer.old))
-            (N.tree first) (N.tree second) indent (state_of N.tree printer.old))
+        (N.tree first) (N.tree second) indent (state_of N.tree printer.old))
         printer.old printer.new) }
 {
     match metrics_choice(printer, &first) {
@@ -232,7 +241,7 @@ pub fn step<'v, N: Walk>(
     ensures queue { printer.new.start ≤ vec_len printer.new.queue }
     ensures step { IfOk result (λ taken. Shows N.tree taken
         (step_of printer.old.options (N.tree command.now.node) command.now.indent command.now.mode
-            (follow (stack_of N.tree printer.old.commands.items)) (state_of N.tree printer.old))
+        (follow (stack_of N.tree printer.old.commands.items)) (state_of N.tree printer.old))
         printer.old printer.new) }
 {
     let indent = command.indent;
@@ -251,10 +260,22 @@ pub fn step<'v, N: Walk>(
             Ok(Taken::Written(Piece::nothing()))
         }
         View::HardLine => match mode {
-            Mode::Break => Ok(Taken::Written(break_line(printer, indent, mode, command.node, false)?)),
+            Mode::Break => Ok(Taken::Written(break_line(
+                printer,
+                indent,
+                mode,
+                command.node,
+                false,
+            )?)),
             Mode::Flat => Ok(Taken::Failed),
         },
-        View::WeakLine => Ok(Taken::Written(break_line(printer, indent, mode, command.node, true)?)),
+        View::WeakLine => Ok(Taken::Written(break_line(
+            printer,
+            indent,
+            mode,
+            command.node,
+            true,
+        )?)),
         View::Append(l, r) => {
             push_node(&mut printer.commands, indent, mode, r)?;
             go_on_with(printer, indent, mode, l)

@@ -102,7 +102,10 @@ pub fn print_branch<N: Walk>(
             }
         }
     }
-    if !printer.column.padding_fits(printer.options.width, is_pending(printer)) {
+    if !printer
+        .column
+        .padding_fits(printer.options.width, is_pending(printer))
+    {
         take_back(printer, mark, buffer, written);
         return Ok(false);
     }

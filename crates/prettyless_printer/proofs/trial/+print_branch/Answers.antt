@@ -1,4 +1,4 @@
-use Rattle.std.proofs.Common.{◌≡◌, ◌<◌, ◌≤◌, ◌++◌, ◌∙◌, ℕ, List, [], length, take, refl, sym, ap, append-nil, arith, subst, Bool, true, false}
+use Rattle.std.proofs.Common.{◌≡◌, ◌<◌, ◌≤◌, ◌∙◌, ℕ, [], length, take, refl, sym, ap, append-nil, arith, subst, Bool, true, false}
 use Rattle.std.specs.String.{string_bytes}
 use Rattle.prettyless_sink.specs.declared.options.RenderOptions.{RenderOptions}
 use Rattle.prettyless_model.specs.Column.{padding_fits}
@@ -41,7 +41,7 @@ take_back-requires g t c =
     let q = c.turn.new.printer in
     let new = string_bytes c.turn.new.out.text in
     let l : length (stack_of f p.commands.items) < length (stack_of f v.commands.items) =
-      omega (arith, length-stack_of f p.commands.items, length-stack_of f v.commands.items, p.commands.ok.0, v.commands.ok.0, ap (λ (x : Mark). x.commands) m, c.work-test.true, c.len.ensures) in
+    omega (arith, length-stack_of f p.commands.items, length-stack_of f v.commands.items, p.commands.ok.0, v.commands.ok.0, ap (λ (x : Mark). x.commands) m, c.work-test.true, c.len.ensures) in
     let t' = rw c.in-Ok-Failed.field-0-is at c.in-Ok-Failed.ensures.told in
     let e = trying_turn f p v i d old out (λ o. Goes f o q new turn.Failed) c.work.invariant.options l c.work.invariant.trying (t' tt).1.0 in
     cut_back c.args.buffer.now.text c.turn.new.out.text c.len-written.result e.0 c.len-written.ensures e.2
@@ -59,14 +59,14 @@ returns-in-Ok-Failed-clause-decided g t c =
     let q = c.turn.new.printer in
     let new = string_bytes c.turn.new.out.text in
     let l : length (stack_of f p.commands.items) < length (stack_of f v.commands.items) =
-      omega (arith, length-stack_of f p.commands.items, length-stack_of f v.commands.items, p.commands.ok.0, v.commands.ok.0, ap (λ (x : Mark). x.commands) m, c.work-test.true, c.len.ensures) in
+    omega (arith, length-stack_of f p.commands.items, length-stack_of f v.commands.items, p.commands.ok.0, v.commands.ok.0, ap (λ (x : Mark). x.commands) m, c.work-test.true, c.len.ensures) in
     let t' = rw c.in-Ok-Failed.field-0-is at c.in-Ok-Failed.ensures.told in
     let e = trying_turn f p v i d old out (λ o. Goes f o q new turn.Failed) c.work.invariant.options l c.work.invariant.trying (t' tt).1.0 in
     let k : length (stack_of f p.commands.items) ≡ p.commands.len = omega (arith, length-stack_of f p.commands.items, p.commands.ok.0) in
     let cut = c.take_back.ensures.buffer ∙ ap (λ (x : ℕ). take x new) (length-string_bytes c.args.buffer.now.text c.len-written.result c.len-written.ensures) in
     trial_rejected f p q c.take_back.new.printer i d c.mark_of-mark.result old new (string_bytes c.take_back.new.buffer.text) e.0 m e.1 e.4 k
-      (c.in-Ok-Failed.ensures.options ∙ c.work.invariant.options) (grows-grows p v q c.work.invariant.grows c.in-Ok-Failed.ensures.grows) c.take_back.ensures.printer e.2 cut
-      (λ other. accept_past p.options p.within (trial_of f p i d) other (subst Past (sym e.3) tt))
+    (c.in-Ok-Failed.ensures.options ∙ c.work.invariant.options) (grows-grows p v q c.work.invariant.grows c.in-Ok-Failed.ensures.grows) c.take_back.ensures.printer e.2 cut
+    (λ other. accept_past p.options p.within (trial_of f p i d) other (subst Past (sym e.3) tt))
 
 pub take_back-requires-then-not-printer : goal.take_back-requires-then-not-printer
 take_back-requires-then-not-printer g t c =
@@ -81,7 +81,7 @@ take_back-requires-then-not-printer g t c =
     let q = c.turn.new.printer in
     let new = string_bytes c.turn.new.out.text in
     let l : length (stack_of f p.commands.items) < length (stack_of f v.commands.items) =
-      omega (arith, length-stack_of f p.commands.items, length-stack_of f v.commands.items, p.commands.ok.0, v.commands.ok.0, ap (λ (x : Mark). x.commands) m, c.work-test.true, c.len.ensures) in
+    omega (arith, length-stack_of f p.commands.items, length-stack_of f v.commands.items, p.commands.ok.0, v.commands.ok.0, ap (λ (x : Mark). x.commands) m, c.work-test.true, c.len.ensures) in
     let t' = rw c.in-Ok-Went.field-0-is at c.in-Ok-Went.ensures.told in
     let e = trying_turn f p v i d old out (λ o. Goes f o q new turn.Went) c.work.invariant.options l c.work.invariant.trying (t' tt).1.0 in
     cut_back c.args.buffer.now.text c.turn.new.out.text c.len-written.result e.bytes c.len-written.ensures e.out_is
@@ -99,15 +99,15 @@ returns-then-not-printer-clause-decided g t c =
     let q = c.turn.new.printer in
     let new = string_bytes c.turn.new.out.text in
     let l : length (stack_of f p.commands.items) < length (stack_of f v.commands.items) =
-      omega (arith, length-stack_of f p.commands.items, length-stack_of f v.commands.items, p.commands.ok.0, v.commands.ok.0, ap (λ (x : Mark). x.commands) m, c.work-test.true, c.len.ensures) in
+    omega (arith, length-stack_of f p.commands.items, length-stack_of f v.commands.items, p.commands.ok.0, v.commands.ok.0, ap (λ (x : Mark). x.commands) m, c.work-test.true, c.len.ensures) in
     let t' = rw c.in-Ok-Went.field-0-is at c.in-Ok-Went.ensures.told in
     let e = trying_turn f p v i d old out (λ o. Goes f o q new turn.Went) c.work.invariant.options l c.work.invariant.trying (t' tt).1.0 in
     let k : length (stack_of f p.commands.items) ≡ p.commands.len = omega (arith, length-stack_of f p.commands.items, p.commands.ok.0) in
     let cut = c.take_back-then-not-printer.ensures.buffer ∙ ap (λ (x : ℕ). take x new) (length-string_bytes c.args.buffer.now.text c.len-written.result c.len-written.ensures) in
     trial_rejected f p q c.take_back-then-not-printer.new.printer i d c.mark_of-mark.result old new (string_bytes c.take_back-then-not-printer.new.buffer.text) e.bytes m e.above e.stack_is k
-      (c.in-Ok-Went.ensures.options ∙ c.work.invariant.options) (grows-grows p v q c.work.invariant.grows c.in-Ok-Went.ensures.grows) c.take_back-then-not-printer.ensures.printer e.out_is cut
-      (λ other. accept_past p.options p.within (trial_of f p i d) other
-        (inside_past p.options (trial_of f p i d) (limit_of f p d) (stack_of f p.commands.items) old (stack_of f q.commands.items) (state_of f q) new e c.if-not-printer.true))
+    (c.in-Ok-Went.ensures.options ∙ c.work.invariant.options) (grows-grows p v q c.work.invariant.grows c.in-Ok-Went.ensures.grows) c.take_back-then-not-printer.ensures.printer e.out_is cut
+    (λ other. accept_past p.options p.within (trial_of f p i d) other
+    (inside_past p.options (trial_of f p i d) (limit_of f p d) (stack_of f p.commands.items) old (stack_of f q.commands.items) (state_of f q) new e c.if-not-printer.true))
 
 pub work-preserved-else-not-printer : goal.work-preserved-else-not-printer
 work-preserved-else-not-printer g t c =
@@ -122,7 +122,7 @@ work-preserved-else-not-printer g t c =
     let q = c.turn.new.printer in
     let new = string_bytes c.turn.new.out.text in
     let l : length (stack_of f p.commands.items) < length (stack_of f v.commands.items) =
-      omega (arith, length-stack_of f p.commands.items, length-stack_of f v.commands.items, p.commands.ok.0, v.commands.ok.0, ap (λ (x : Mark). x.commands) m, c.work-test.true, c.len.ensures) in
+    omega (arith, length-stack_of f p.commands.items, length-stack_of f v.commands.items, p.commands.ok.0, v.commands.ok.0, ap (λ (x : Mark). x.commands) m, c.work-test.true, c.len.ensures) in
     let t' = rw c.in-Ok-Went.field-0-is at c.in-Ok-Went.ensures.told in
     let e = trying_turn f p v i d old out (λ o. Goes f o q new turn.Went) c.work.invariant.options l c.work.invariant.trying (t' tt).1.0 in
     record {
@@ -146,7 +146,7 @@ print_branch-requires g t c κs within =
     let q = c.turn.new.printer in
     let new = string_bytes c.turn.new.out.text in
     let l : length (stack_of f p.commands.items) < length (stack_of f v.commands.items) =
-      omega (arith, length-stack_of f p.commands.items, length-stack_of f v.commands.items, p.commands.ok.0, v.commands.ok.0, ap (λ (x : Mark). x.commands) m, c.work-test.true, c.len.ensures) in
+    omega (arith, length-stack_of f p.commands.items, length-stack_of f v.commands.items, p.commands.ok.0, v.commands.ok.0, ap (λ (x : Mark). x.commands) m, c.work-test.true, c.len.ensures) in
     let t' = rw c.in-Ok-Chosen.field-0-is at c.in-Ok-Chosen.ensures.told in
     let e = trying_turn f p v i d old out (λ o. Goes f o q new (turn.Chosen c.in-Ok-Chosen.i c.in-Ok-Chosen.first c.in-Ok-Chosen.second)) c.work.invariant.options l c.work.invariant.trying (t' tt).1.0 in
     let b = e.bound in
@@ -165,7 +165,7 @@ work-preserved g t c =
     let q = c.turn.new.printer in
     let new = string_bytes c.turn.new.out.text in
     let l : length (stack_of f p.commands.items) < length (stack_of f v.commands.items) =
-      omega (arith, length-stack_of f p.commands.items, length-stack_of f v.commands.items, p.commands.ok.0, v.commands.ok.0, ap (λ (x : Mark). x.commands) m, c.work-test.true, c.len.ensures) in
+    omega (arith, length-stack_of f p.commands.items, length-stack_of f v.commands.items, p.commands.ok.0, v.commands.ok.0, ap (λ (x : Mark). x.commands) m, c.work-test.true, c.len.ensures) in
     let t' = rw c.in-Ok-Chosen.field-0-is at c.in-Ok-Chosen.ensures.told in
     let e = trying_turn f p v i d old out (λ o. Goes f o q new (turn.Chosen c.in-Ok-Chosen.i c.in-Ok-Chosen.first c.in-Ok-Chosen.second)) c.work.invariant.options l c.work.invariant.trying (t' tt).1.0 in
     let r = c.print_branch.new.printer in
@@ -196,7 +196,7 @@ work-preserved-in_ok-push_node-in-Ok-Chosen g t c =
     let q = c.turn.new.printer in
     let new = string_bytes c.turn.new.out.text in
     let l : length (stack_of f p.commands.items) < length (stack_of f v.commands.items) =
-      omega (arith, length-stack_of f p.commands.items, length-stack_of f v.commands.items, p.commands.ok.0, v.commands.ok.0, ap (λ (x : Mark). x.commands) m, c.work-test.true, c.len.ensures) in
+    omega (arith, length-stack_of f p.commands.items, length-stack_of f v.commands.items, p.commands.ok.0, v.commands.ok.0, ap (λ (x : Mark). x.commands) m, c.work-test.true, c.len.ensures) in
     let t' = rw c.in-Ok-Chosen.field-0-is at c.in-Ok-Chosen.ensures.told in
     let e = trying_turn f p v i d old out (λ o. Goes f o q new (turn.Chosen c.in-Ok-Chosen.i c.in-Ok-Chosen.first c.in-Ok-Chosen.second)) c.work.invariant.options l c.work.invariant.trying (t' tt).1.0 in
     let r = c.print_branch.new.printer in
@@ -230,17 +230,17 @@ returns-then-not-padding_fits-clause-decided g t c =
     let out = string_bytes c.work.buffer.text in
     let m = c.mark_of-mark.ensures in
     let l : length (stack_of f v.commands.items) ≤ length (stack_of f p.commands.items) =
-      omega (arith, length-stack_of f p.commands.items, length-stack_of f v.commands.items, p.commands.ok.0, v.commands.ok.0, ap (λ (x : Mark). x.commands) m, c.work-test.false, c.len.ensures) in
+    omega (arith, length-stack_of f p.commands.items, length-stack_of f v.commands.items, p.commands.ok.0, v.commands.ok.0, ap (λ (x : Mark). x.commands) m, c.work-test.false, c.len.ensures) in
     let k : length (stack_of f p.commands.items) ≡ p.commands.len = omega (arith, length-stack_of f p.commands.items, p.commands.ok.0) in
     let e = trial_ends f p v i d old out c.work.invariant.trying l in
     let r = c.take_back-then-not-padding_fits.new.printer in
     let cut = c.take_back-then-not-padding_fits.ensures.buffer ∙ ap (λ (x : ℕ). take x out) (length-string_bytes c.args.buffer.now.text c.len-written.result c.len-written.ensures) in
     let fits : padding_fits p.options.width (some_pending (state_of f v).pending) v.column ≡ false =
-      ap (λ (x : RenderOptions). padding_fits x.width (some_pending (state_of f v).pending) v.column) (sym c.work.invariant.options)
-      ∙ ap (λ (x : Bool). padding_fits v.options.width x v.column) (sym c.is_pending.ensures) ∙ sym c.padding_fits.ensures ∙ c.if-not-padding_fits.true in
+    ap (λ (x : RenderOptions). padding_fits x.width (some_pending (state_of f v).pending) v.column) (sym c.work.invariant.options)
+    ∙ ap (λ (x : Bool). padding_fits v.options.width x v.column) (sym c.is_pending.ensures) ∙ sym c.padding_fits.ensures ∙ c.if-not-padding_fits.true in
     trial_rejected f p v r i d c.mark_of-mark.result old out (string_bytes c.take_back-then-not-padding_fits.new.buffer.text) e.1 m c.work.invariant.trying.above c.work.invariant.trying.stack_is k
-      c.work.invariant.options c.work.invariant.grows c.take_back-then-not-padding_fits.ensures.printer e.2 cut
-      (padding_rejects f p v i d e.1 e.3 c.work.invariant.within fits)
+    c.work.invariant.options c.work.invariant.grows c.take_back-then-not-padding_fits.ensures.printer e.2 cut
+    (padding_rejects f p v i d e.1 e.3 c.work.invariant.within fits)
 
 pub returns-clause-decided : goal.returns-clause-decided
 returns-clause-decided g t c =
@@ -253,10 +253,10 @@ returns-clause-decided g t c =
     let out = string_bytes c.work.buffer.text in
     let m = c.mark_of-mark.ensures in
     let l : length (stack_of f v.commands.items) ≤ length (stack_of f p.commands.items) =
-      omega (arith, length-stack_of f p.commands.items, length-stack_of f v.commands.items, p.commands.ok.0, v.commands.ok.0, ap (λ (x : Mark). x.commands) m, c.work-test.false, c.len.ensures) in
+    omega (arith, length-stack_of f p.commands.items, length-stack_of f v.commands.items, p.commands.ok.0, v.commands.ok.0, ap (λ (x : Mark). x.commands) m, c.work-test.false, c.len.ensures) in
     let r = record v { within = c.mark_of-mark.result.within } in
     let fits : padding_fits p.options.width (some_pending (state_of f v).pending) v.column ≡ true =
-      ap (λ (x : RenderOptions). padding_fits x.width (some_pending (state_of f v).pending) v.column) (sym c.work.invariant.options)
-      ∙ ap (λ (x : Bool). padding_fits v.options.width x v.column) (sym c.is_pending.ensures) ∙ sym c.padding_fits.ensures ∙ c.if-not-padding_fits.false in
+    ap (λ (x : RenderOptions). padding_fits x.width (some_pending (state_of f v).pending) v.column) (sym c.work.invariant.options)
+    ∙ ap (λ (x : Bool). padding_fits v.options.width x v.column) (sym c.is_pending.ensures) ∙ sym c.padding_fits.ensures ∙ c.if-not-padding_fits.false in
     trial_kept f p v r i d old out c.work.invariant.trying l c.work.invariant.within fits refl
-      (ap (λ (x : _). record { column = v.column; pending = (state_of f v).pending; within = x }) (ap (λ (x : Mark). x.within) m)) c.work.invariant.options c.work.invariant.grows
+    (ap (λ (x : _). record { column = v.column; pending = (state_of f v).pending; within = x }) (ap (λ (x : Mark). x.within) m)) c.work.invariant.options c.work.invariant.grows

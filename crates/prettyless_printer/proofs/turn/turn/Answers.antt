@@ -107,8 +107,8 @@ returns-in-Ok-clause-told g c =
     let k = took f p (record p { commands = c.pop_command.new.stack }) q c.in-Some.command c.in-Ok-Written.field-0 c.in-Some.ensures refl refl refl c.in-Ok-Written.ensures.step in
     let h = subst (TookNext f p q) c.in-Ok-Written.field-0-is k in
     λ told.
-      let e = c.in-Ok.ensures.ok told in
-      (e.0, (went f p q (g.W.Render.written c.args.out.now) (g.W.Render.written c.write_piece.new.out) c.in-Ok-Written.piece h e.1, e.2))
+    let e = c.in-Ok.ensures.ok told in
+    (e.0, (went f p q (g.W.Render.written c.args.out.now) (g.W.Render.written c.write_piece.new.out) c.in-Ok-Written.piece h e.1, e.2))
 
 pub returns-in-Err-write_piece-clause-told : goal.returns-in-Err-write_piece-clause-told
 returns-in-Err-write_piece-clause-told g c =
@@ -118,5 +118,5 @@ returns-in-Err-write_piece-clause-told g c =
     let k = took f p (record p { commands = c.pop_command.new.stack }) q c.in-Some.command c.in-Ok-Written.field-0 c.in-Some.ensures refl refl refl c.in-Ok-Written.ensures.step in
     let h = subst (TookNext f p q) c.in-Ok-Written.field-0-is k in
     λ told.
-      let e = c.in-Err-write_piece.ensures.err told in
-      (e.0, (sink_broke f p q (g.W.Render.written c.args.out.now) (g.W.Render.written c.write_piece.new.out) c.in-Ok-Written.piece h e.1, e.2))
+    let e = c.in-Err-write_piece.ensures.err told in
+    (e.0, (sink_broke f p q (g.W.Render.written c.args.out.now) (g.W.Render.written c.write_piece.new.out) c.in-Ok-Written.piece h e.1, e.2))

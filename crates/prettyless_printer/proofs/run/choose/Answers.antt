@@ -1,0 +1,51 @@
+use Rattle.std.proofs.Common.{◌≡◌, ◌++◌, ◌∙◌, ℕ, List, ap, refl, subst}
+use Rattle.std.specs.String.{string_bytes}
+use Rattle.prettyless_sink.specs.Sink.{AppendsBeginning}
+use Rattle.prettyless_printer.specs.Stack.{stack_of}
+use Rattle.prettyless_printer.specs.Printing.{state_of}
+use Rattle.prettyless_printer.specs.Trials.{TrialDid}
+use Rattle.prettyless_printer.specs.Turns.{bytes_before}
+use Rattle.prettyless_printer.proofs.Progresses.{inside_beginning}
+use Rattle.prettyless_printer.proofs.Turnings.{beginning_less}
+use Rattle.prettyless_printer.proofs.Trying.{choice_kept, choice_other}
+use Rattle.prettyless_printer.proofs.run.choose.Goals as goal
+
+pub returns-in-Err-write_gap_and_text-clause-told : goal.returns-in-Err-write_gap_and_text-clause-told
+returns-in-Err-write_gap_and_text-clause-told g c =
+    let f = g.N.Walk.tree in
+    let p = c.args.printer.now in
+    let q = c.print_branch.new.printer in
+    let x = f c.args.first in
+    let y = f c.args.second in
+    let out = g.W.Render.written c.args.out.now in
+    let new = g.W.Render.written c.write_gap_and_text.new.out in
+    let before = string_bytes c.clear.new.self in
+    let after = string_bytes c.print_branch.new.buffer.text in
+    let n = subst (TrialDid f p q c.args.indent x before after) c.in-Ok-true.field-0-test c.in-Ok-true.ensures.decided in
+    λ told.
+    let e = c.in-Err-write_gap_and_text.ensures.err told in (
+      e.0,
+      (
+        (λ whole limit below old w.
+            let k = choice_kept f p q p.options whole limit below old out c.args.indent x y before after w refl n in
+            let piece : c.as_str.result.now ≡ k.0 = c.as_str.ensures.value ∙ k.1 ∙ ap (λ (z : List ℕ). z ++ k.0) c.clear.ensures.bytes in
+            beginning_less old out new k.0 (bytes_before whole) (subst (AppendsBeginning out new) piece e.1)
+            (inside_beginning p.options whole limit below old (stack_of f q.commands.items) (state_of f q) (out ++ k.0) k.2) (w.bytes, w.out_is)),
+        e.2,
+      ),
+    )
+
+pub returns-in-Ok-push_node-clause-told : goal.returns-in-Ok-push_node-clause-told
+returns-in-Ok-push_node-clause-told g c =
+    let f = g.N.Walk.tree in
+    let p = c.args.printer.now in
+    let q = c.print_branch.new.printer in
+    let u = record q { commands = c.push_node.new.stack } in
+    let x = f c.args.first in
+    let y = f c.args.second in
+    let out = g.W.Render.written c.args.out.now in
+    let before = string_bytes c.clear.new.self in
+    let after = string_bytes c.print_branch.new.buffer.text in
+    let n = subst (TrialDid f p q c.args.indent x before after) c.in-Ok-false.field-0-test c.in-Ok-false.ensures.decided in
+    λ told.
+    (told, ((λ whole limit below old w. (choice_other f p q u p.options whole limit below old out c.args.indent x y before after w refl n c.in-Ok-push_node.ensures refl).1), refl))

@@ -1,0 +1,111 @@
+use Rattle.std.proofs.Common.{◌∙◌, ap, arith, refl, sym, subst}
+use Rattle.prettyless_sink.specs.declared.options.RenderOptions.{RenderOptions}
+use Rattle.prettyless_model.specs.Layout.{State}
+use Rattle.prettyless_printer.specs.Stack.{nodes}
+use Rattle.prettyless_printer.specs.Steps.{owed}
+use Rattle.prettyless_printer.specs.Printing.{state_of}
+use Rattle.prettyless_printer.specs.Renders.{to_end}
+use Rattle.prettyless_printer.proofs.Queues.{length_some, length_none}
+use Rattle.prettyless_printer.proofs.Renders.{Ending, finishing_begins, finishing_stopped, finishing_ends, ending_done, ending_again, ending_stopped, round_less}
+use Rattle.prettyless_printer.proofs.run.run_to_end.Goals as goal
+
+pub rounds-init : goal.rounds-init
+rounds-init g c = record {
+  queue = c.requires;
+  same_lender = refl;
+  told = λ told. (told, finishing_begins g.N.Walk.tree c.args.printer.now (g.W.Render.written c.args.out.now), refl);
+}
+
+pub returns-in-Err-clause-told : goal.returns-in-Err-clause-told
+returns-in-Err-clause-told g c =
+    let f = g.N.Walk.tree in
+    let w = g.W.Render.written in
+    let fails = g.W.Render.failures in
+    let whole = to_end f c.args.printer.now in
+    let p = c.rounds.printer in
+    let q = c.work_off.new.printer in
+    let old = c.args.out.now in
+    let out = c.rounds.out in
+    let new = c.work_off.new.out in
+    λ told.
+    let y = c.rounds.invariant.told told in
+    let e = c.in-Err.ensures.told y.0 in
+    (e.0, finishing_stopped (Unit {0}) f whole p (g.W.Render.document_errors new) (w old) (w out) (w new) (fails old) (fails out) (fails new) c.in-Err.e y.1 y.2 e.1)
+
+pub returns-then-not-is_pending-clause-told : goal.returns-then-not-is_pending-clause-told
+returns-then-not-is_pending-clause-told g c =
+    let f = g.N.Walk.tree in
+    let w = g.W.Render.written in
+    let fails = g.W.Render.failures in
+    let whole = to_end f c.args.printer.now in
+    let p = c.rounds.printer in
+    let q = c.work_off.new.printer in
+    let old = c.args.out.now in
+    let out = c.rounds.out in
+    let new = c.work_off.new.out in
+    let none = length_none (state_of f q).pending (sym c.is_pending.ensures ∙ c.if-not-is_pending.true) in
+    λ told.
+    let y = c.rounds.invariant.told told in
+    let e = c.in-Ok.ensures.told y.0 in
+    let k = finishing_ends f whole p q (w old) (w out) (w new) e.1.0 y.1 e.1.1 e.1.2 in
+    let z = ending_done f whole p.options q (w old) (w new) k none in
+    (e.0, (z.0, z.1, z.2, e.1.3 ∙ y.2))
+
+pub rounds-smaller : goal.rounds-smaller
+rounds-smaller g c =
+    let f = g.N.Walk.tree in
+    let w = g.W.Render.written in
+    let fails = g.W.Render.failures in
+    let whole = to_end f c.args.printer.now in
+    let p = c.rounds.printer in
+    let q = c.work_off.new.printer in
+    let old = c.args.out.now in
+    let out = c.rounds.out in
+    let new = c.work_off.new.out in
+    let some = length_some (state_of f q).pending (sym c.is_pending.ensures ∙ c.if-not-is_pending.false) in
+    omega (arith, ap nodes c.in-Ok-flush_end.ensures.stack, ap (λ (x : State). owed x.pending) c.in-Ok-flush_end.ensures.state, round_less (state_of f q).pending some, c.in-Ok.ensures.lessens)
+
+pub rounds-preserved : goal.rounds-preserved
+rounds-preserved g c =
+    let f = g.N.Walk.tree in
+    let w = g.W.Render.written in
+    let fails = g.W.Render.failures in
+    let whole = to_end f c.args.printer.now in
+    let p = c.rounds.printer in
+    let q = c.work_off.new.printer in
+    let old = c.args.out.now in
+    let out = c.rounds.out in
+    let new = c.work_off.new.out in
+    let r = c.flush_end.new.printer in
+    let last = c.flush_end.new.out in
+    let some = length_some (state_of f q).pending (sym c.is_pending.ensures ∙ c.if-not-is_pending.false) in
+    record {
+      queue = c.flush_end.ensures.queue;
+      same_lender = c.flush_end.ensures.same_lender ∙ c.work_off.ensures.same_lender ∙ c.rounds.invariant.same_lender;
+      told = λ told.
+          let y = c.rounds.invariant.told told in
+          let e = c.in-Ok.ensures.told y.0 in
+          let k = finishing_ends f whole p q (w old) (w out) (w new) e.1.0 y.1 e.1.1 e.1.2 in
+          let h = c.in-Ok-flush_end.ensures.told e.0 in
+          (h.0, ending_again f whole q.options q r (w old) (w new) (w last) (subst (λ (o : RenderOptions). Ending f whole o q (w old) (w new)) (sym c.in-Ok.ensures.options) k) c.in-Ok-flush_end.ensures.options some c.in-Ok-flush_end.ensures.stack c.in-Ok-flush_end.ensures.state h.1.0, h.1.1 ∙ e.1.3 ∙ y.2);
+    }
+
+pub returns-in-Err-flush_end-clause-told : goal.returns-in-Err-flush_end-clause-told
+returns-in-Err-flush_end-clause-told g c =
+    let f = g.N.Walk.tree in
+    let w = g.W.Render.written in
+    let fails = g.W.Render.failures in
+    let whole = to_end f c.args.printer.now in
+    let p = c.rounds.printer in
+    let q = c.work_off.new.printer in
+    let old = c.args.out.now in
+    let out = c.rounds.out in
+    let new = c.work_off.new.out in
+    let last = c.flush_end.new.out in
+    let some = length_some (state_of f q).pending (sym c.is_pending.ensures ∙ c.if-not-is_pending.false) in
+    λ told.
+    let y = c.rounds.invariant.told told in
+    let e = c.in-Ok.ensures.told y.0 in
+    let k = finishing_ends f whole p q (w old) (w out) (w new) e.1.0 y.1 e.1.1 e.1.2 in
+    let h = c.in-Err-flush_end.ensures.told e.0 in
+    (h.0, ending_stopped (Unit {0}) f whole p.options q (g.W.Render.document_errors last) (w old) (w new) (w last) (fails old) (fails new) (fails last) c.in-Err-flush_end.e k some (e.1.3 ∙ y.2) h.1)

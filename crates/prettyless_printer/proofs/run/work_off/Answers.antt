@@ -1,0 +1,145 @@
+use Rattle.std.proofs.Common.{◌<◌, ◌≤◌, ◌∙◌, length, arith, refl}
+use Rattle.prettyless_sink.specs.declared.options.RenderOptions.{RenderOptions}
+use Rattle.prettyless_printer.specs.Stack.{stack_of}
+use Rattle.prettyless_printer.specs.Printing.{state_of}
+use Rattle.prettyless_printer.specs.Progress.{Inside}
+use Rattle.prettyless_printer.specs.Turns.{Goes}
+use Rattle.prettyless_printer.specs.declared.printer.Turn.TheVariants as turn
+use Rattle.prettyless_printer.proofs.Stacks.{length-stack_of}
+use Rattle.prettyless_printer.proofs.Working.{working_begins, working_turn, working_end, turn_broke, working_choice, choice_broke}
+use Rattle.prettyless_printer.proofs.run.work_off.Goals as goal
+
+pub work-init : goal.work-init
+work-init g c = record {
+  queue = c.requires;
+  options = refl;
+  less = omega arith;
+  same_lender = refl;
+  told = λ told. (told, working_begins g.N.Walk.tree c.args.printer.now (g.W.Render.written c.args.out.now), refl);
+}
+
+pub work-preserved-in-Ok-Went : goal.work-preserved-in-Ok-Went
+work-preserved-in-Ok-Went g c =
+    let f = g.N.Walk.tree in
+    let w = g.W.Render.written in
+    let fails = g.W.Render.failures in
+    let p = c.args.printer.now in
+    let v = c.work.printer in
+    let q = c.turn.new.printer in
+    let new = c.turn.new.out in
+    let l : 0 < length (stack_of f v.commands.items) = omega (arith, length-stack_of f v.commands.items, v.commands.ok.0, c.work-test.true, c.len.ensures) in
+    let d = rw c.in-Ok-Went.field-0-is at c.in-Ok-Went.ensures.told in
+    let less = rw c.in-Ok-Went.field-0-is at c.in-Ok-Went.ensures.lessens in
+    let was = c.work.invariant.less in
+    record {
+      queue = c.turn.ensures.queue;
+      options = c.in-Ok-Went.ensures.options ∙ c.work.invariant.options;
+      less = omega (arith, less, was);
+      same_lender = c.turn.ensures.same_lender ∙ c.work.invariant.same_lender;
+      told = λ told.
+          let y = c.work.invariant.told told in
+          let e = d y.0 in
+          (e.0, working_turn f p v (w c.args.out.now) (w c.work.out) (λ o. Goes f o q (w new) turn.Went) c.work.invariant.options l y.1 e.1.0, e.1.1 ∙ y.2);
+    }
+
+pub returns-in-Ok-Failed-clause-told : goal.returns-in-Ok-Failed-clause-told
+returns-in-Ok-Failed-clause-told g c =
+    let f = g.N.Walk.tree in
+    let w = g.W.Render.written in
+    let fails = g.W.Render.failures in
+    let p = c.args.printer.now in
+    let v = c.work.printer in
+    let q = c.turn.new.printer in
+    let new = c.turn.new.out in
+    let l : 0 < length (stack_of f v.commands.items) = omega (arith, length-stack_of f v.commands.items, v.commands.ok.0, c.work-test.true, c.len.ensures) in
+    let d = rw c.in-Ok-Failed.field-0-is at c.in-Ok-Failed.ensures.told in
+    λ told.
+    let y = c.work.invariant.told told in
+    let e = d y.0 in
+    let z = working_turn f p v (w c.args.out.now) (w c.work.out) (λ o. Goes f o q (w new) turn.Failed) c.work.invariant.options l y.1 e.1.0 in
+    (e.0, (z.0, z.3, z.2, e.1.1 ∙ y.2, c.fail_doc.ensures))
+
+pub returns-in-Err-clause-told : goal.returns-in-Err-clause-told
+returns-in-Err-clause-told g c =
+    let f = g.N.Walk.tree in
+    let w = g.W.Render.written in
+    let fails = g.W.Render.failures in
+    let p = c.args.printer.now in
+    let v = c.work.printer in
+    let q = c.turn.new.printer in
+    let new = c.turn.new.out in
+    let l : 0 < length (stack_of f v.commands.items) = omega (arith, length-stack_of f v.commands.items, v.commands.ok.0, c.work-test.true, c.len.ensures) in
+    λ told.
+    let y = c.work.invariant.told told in
+    let e = c.in-Err.ensures.told y.0 in
+    (e.0, turn_broke f p v q (g.W.Render.document_errors new) (w c.args.out.now) (w c.work.out) (w new) (fails c.args.out.now) (fails c.work.out) (fails new) c.in-Err.e c.work.invariant.options l y.1 y.2 e.1)
+
+pub work-preserved : goal.work-preserved
+work-preserved g c =
+    let f = g.N.Walk.tree in
+    let w = g.W.Render.written in
+    let fails = g.W.Render.failures in
+    let p = c.args.printer.now in
+    let v = c.work.printer in
+    let q = c.turn.new.printer in
+    let new = c.turn.new.out in
+    let l : 0 < length (stack_of f v.commands.items) = omega (arith, length-stack_of f v.commands.items, v.commands.ok.0, c.work-test.true, c.len.ensures) in
+    let d = rw c.in-Ok-Chosen.field-0-is at c.in-Ok-Chosen.ensures.told in
+    let fall = rw c.in-Ok-Chosen.field-0-is at c.in-Ok-Chosen.ensures.lessens in
+    let was = c.work.invariant.less in
+    let r = c.choose.new.printer in
+    let i = c.in-Ok-Chosen.indent in
+    let x = c.in-Ok-Chosen.first in
+    let z = c.in-Ok-Chosen.second in
+    let same = c.in-Ok-Chosen.ensures.options ∙ c.work.invariant.options in
+    record {
+      queue = c.choose.ensures.queue;
+      options = c.in-Ok.ensures.options ∙ same;
+      less = omega (arith, fall.0, was, c.in-Ok.ensures.lessens);
+      same_lender = c.choose.ensures.same_lender ∙ c.turn.ensures.same_lender ∙ c.work.invariant.same_lender;
+      told = λ told.
+          let y = c.work.invariant.told told in
+          let e = d y.0 in
+          let b = working_turn f p v (w c.args.out.now) (w c.work.out) (λ o. Goes f o q (w new) (turn.Chosen i x z)) c.work.invariant.options l y.1 e.1.0 in
+          let k = c.in-Ok.ensures.told e.0 in (
+            k.0,
+            working_choice f p q i (f x) (f z) (w c.args.out.now) (w new)
+                (λ (o : RenderOptions) whole limit below old. Inside o whole limit below old (stack_of f r.commands.items) (state_of f r) (w c.choose.new.out)) same b k.1.0,
+            k.1.1 ∙ e.1.1 ∙ y.2,
+          );
+    }
+
+pub returns-in-Err-choose-clause-told : goal.returns-in-Err-choose-clause-told
+returns-in-Err-choose-clause-told g c =
+    let f = g.N.Walk.tree in
+    let w = g.W.Render.written in
+    let fails = g.W.Render.failures in
+    let p = c.args.printer.now in
+    let v = c.work.printer in
+    let q = c.turn.new.printer in
+    let new = c.turn.new.out in
+    let l : 0 < length (stack_of f v.commands.items) = omega (arith, length-stack_of f v.commands.items, v.commands.ok.0, c.work-test.true, c.len.ensures) in
+    let d = rw c.in-Ok-Chosen.field-0-is at c.in-Ok-Chosen.ensures.told in
+    let r = c.choose.new.printer in
+    let i = c.in-Ok-Chosen.indent in
+    let x = c.in-Ok-Chosen.first in
+    let z = c.in-Ok-Chosen.second in
+    let last = c.choose.new.out in
+    let same = c.in-Ok-Chosen.ensures.options ∙ c.work.invariant.options in
+    λ told.
+    let y = c.work.invariant.told told in
+    let e = d y.0 in
+    let b = working_turn f p v (w c.args.out.now) (w c.work.out) (λ o. Goes f o q (w new) (turn.Chosen i x z)) c.work.invariant.options l y.1 e.1.0 in
+    let k = c.in-Err-choose.ensures.told e.0 in
+    (k.0, choice_broke (Unit {0}) f p q r i (f x) (f z) (g.W.Render.document_errors last) (w c.args.out.now) (w new) (w last) (fails c.args.out.now) (fails new) (fails last) c.in-Err-choose.e same b (e.1.1 ∙ y.2) k.1)
+
+pub returns-clause-told : goal.returns-clause-told
+returns-clause-told g c =
+    let f = g.N.Walk.tree in
+    let w = g.W.Render.written in
+    let q = c.work.printer in
+    let l : length (stack_of f q.commands.items) ≤ 0 = omega (arith, length-stack_of f q.commands.items, q.commands.ok.0, c.work-test.false, c.len.ensures) in
+    λ told.
+    let y = c.work.invariant.told told in
+    let e = working_end f c.args.printer.now q (w c.args.out.now) (w c.work.out) y.1 l in
+    (y.0, (e.0, e.1, e.2, y.2))
