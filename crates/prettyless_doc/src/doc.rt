@@ -1,6 +1,6 @@
 ghost use Rattle.std.specs.Prelude.{◌≡◌};
 ghost use Rattle.prettyless_model.specs.Tree.{Tree};
-ghost use Rattle.prettyless_doc.specs.DocTree.{tree_of, built};
+ghost use Rattle.prettyless_doc.specs.DocTree.{tree_of, built, is_nil};
 
 use crate::text::Text;
 
@@ -9,20 +9,49 @@ use crate::text::Text;
 pub enum Doc<'a, T> {
     /// Nothing.
     Nil,
+    /// A document that fails.
+    Fail,
     /// A text, counted as one column a byte.
     Text(Text<'a>),
     /// A text and the columns that it counts as.
     TextWithLen(usize, Text<'a>),
+    /// A space, which is nothing at the start of a line, nor at its end unless a suffix follows there.
+    WeakSpace,
     /// A line break.
     HardLine,
+    /// A line break, which is nothing on a fresh line where no suffix is pending.
+    WeakLine,
     /// Two documents, one after the other.
     Append(T, T),
+    /// A document that stays pending until its line ends, and is laid there.
+    LineSuffix(T),
     /// A document with its indent moved by so many columns.
     Nest(isize, T),
+    /// A document with indent 0.
+    DedentToRoot(T),
+    /// A document with its indent at the column where it starts.
+    Align(T),
+    /// Nothing, but what holds it does not fit a line.
+    ExpandParent,
+    /// A document that is laid flat.
+    Flatten(T),
     /// The first document where lines are broken, and the second where they are flat.
     BreakOrFlat(T, T),
     /// A document that is laid flat where it fits the line, and else broken.
     Group(T),
+    /// The first document where all its lines fit, or lines are flat, and else the second.
+    Union(T, T),
+    /// The first document where its first line fits, or lines are flat, and else the second.
+    PartialUnion(T, T),
+}
+
+impl<'a, T: DocPtr<'a>> Doc<'a, T> {
+    /// Whether the document is nothing.
+    pub fn is_nil(&self) -> bool
+        ensures { result ≡ is_nil (tree_of T.tree self.now) }
+    {
+        matches!(self, Doc::Nil)
+    }
 }
 
 /// A pointer to a node. It stands for a whole tree.

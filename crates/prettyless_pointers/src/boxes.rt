@@ -4,6 +4,7 @@ ghost use Rattle.prettyless_doc.specs.DocTree.{tree_of};
 ghost use Rattle.prettyless_pointers.specs.declared.boxes.BoxDoc.{out-BoxDoc};
 ghost use Rattle.prettyless_pointers.specs.Trees.{box_tree};
 
+use crate::children::{Children, into_children};
 use prettyless_doc::{BuildError, Doc, DocPlace, DocPtr};
 use std::alloc::Global;
 use std::mem;
@@ -41,21 +42,19 @@ impl<'a> BoxDoc<'a> {
 // becomes a in front of (b, c), and the box that (a, b) had takes (b, c).
 impl<'a> Drop for BoxDoc<'a> {
     fn drop(self) {
-        let mut rest = self.into_node();
+        let mut rest = into_children(self.into_node());
         loop {
             match rest {
-                Doc::Nil | Doc::Text(_) | Doc::TextWithLen(_, _) | Doc::HardLine => return,
-                Doc::Nest(_, child) | Doc::Group(child) => rest = child.into_node(),
-                Doc::Append(front, back) | Doc::BreakOrFlat(front, back) => {
+                Children::None => return,
+                Children::One(child) => rest = into_children(child.into_node()),
+                Children::Two(front, back) => {
                     let mut room = front.into_box();
-                    match mem::replace(&mut *room, Doc::Nil) {
-                        Doc::Nil | Doc::Text(_) | Doc::TextWithLen(_, _) | Doc::HardLine => {
-                            rest = back.into_node();
-                        }
-                        Doc::Nest(_, child) | Doc::Group(child) => rest = Doc::Append(child, back),
-                        Doc::Append(first, second) | Doc::BreakOrFlat(first, second) => {
+                    match into_children(mem::replace(&mut *room, Doc::Nil)) {
+                        Children::None => rest = into_children(back.into_node()),
+                        Children::One(child) => rest = Children::Two(child, back),
+                        Children::Two(first, second) => {
                             *room = Doc::Append(second, back);
-                            rest = Doc::Append(first, BoxDoc(room));
+                            rest = Children::Two(first, BoxDoc(room));
                         }
                     }
                 }
@@ -154,6 +153,42 @@ mod tests {
         let mut chain = boxes.alloc(Doc::Nil)?;
         for _ in 0..DEPTH {
             chain = boxes.alloc(Doc::Nest(1, chain))?;
+        }
+        drop(chain);
+        Ok(())
+    }
+
+    // `chain` behind one more node of each kind that holds one.
+    fn behind_singles<'a>(
+        boxes: &'a BoxAllocator,
+        chain: BoxDoc<'a>,
+    ) -> Result<BoxDoc<'a>, BuildError> {
+        let chain = boxes.alloc(Doc::LineSuffix(chain))?;
+        let chain = boxes.alloc(Doc::Nest(-1, chain))?;
+        let chain = boxes.alloc(Doc::DedentToRoot(chain))?;
+        let chain = boxes.alloc(Doc::Align(chain))?;
+        let chain = boxes.alloc(Doc::Flatten(chain))?;
+        boxes.alloc(Doc::Group(chain))
+    }
+
+    // `chain` behind one more node of each kind that holds a pair.
+    fn behind_pairs<'a>(
+        boxes: &'a BoxAllocator,
+        chain: BoxDoc<'a>,
+    ) -> Result<BoxDoc<'a>, BuildError> {
+        let chain = boxes.alloc(Doc::Append(boxes.alloc(Doc::WeakSpace)?, chain))?;
+        let chain = boxes.alloc(Doc::BreakOrFlat(chain, boxes.alloc(Doc::WeakLine)?))?;
+        let chain = boxes.alloc(Doc::Union(boxes.alloc(Doc::Fail)?, chain))?;
+        boxes.alloc(Doc::PartialUnion(chain, boxes.alloc(Doc::ExpandParent)?))
+    }
+
+    #[test]
+    fn drops_a_chain_of_all_kinds(rt: HostRuntime) -> Result<(), Fail> {
+        let boxes = BoxAllocator::new(rt.alloc());
+        let mut chain = boxes.alloc(Doc::Nil)?;
+        for _ in 0..DEPTH / 10 {
+            chain = behind_singles(&boxes, chain)?;
+            chain = behind_pairs(&boxes, chain)?;
         }
         drop(chain);
         Ok(())

@@ -2,5 +2,6 @@
 #![tactic(auto)]
 
 pub mod boxes;
+mod children;
 
 pub use boxes::{BoxAllocator, BoxDoc};

@@ -1,0 +1,26 @@
+-- The pointers of a node.
+use Rattle.prettyless_doc.specs.declared.doc.Doc.{Doc}
+use Rattle.prettyless_doc.specs.declared.doc.Doc.TheVariants.{Nil, Fail, Text, TextWithLen, WeakSpace, HardLine, WeakLine, Append, LineSuffix, Nest, DedentToRoot, Align, ExpandParent, Flatten, BreakOrFlat, Group, Union, PartialUnion}
+use Rattle.prettyless_pointers.specs.declared.children.Children.{Children}
+use Rattle.prettyless_pointers.specs.declared.children.Children.TheVariants.{None, One, Two}
+
+-- the pointers of a node
+abbrev pub children_of : {T : Type 0} → Doc T → Children T
+children_of Nil = None
+children_of Fail = None
+children_of (Text s) = None
+children_of (TextWithLen w s) = None
+children_of WeakSpace = None
+children_of HardLine = None
+children_of WeakLine = None
+children_of (Append l r) = Two l r
+children_of (LineSuffix x) = One x
+children_of (Nest k x) = One x
+children_of (DedentToRoot x) = One x
+children_of (Align x) = One x
+children_of ExpandParent = None
+children_of (Flatten x) = One x
+children_of (BreakOrFlat l r) = Two l r
+children_of (Group x) = One x
+children_of (Union l r) = Two l r
+children_of (PartialUnion l r) = Two l r
