@@ -1,4 +1,5 @@
 pub mod BuildErrors
 pub mod DocTree
+pub mod Printed
 pub mod TextBytes
 pub use Rattle.prettyless_model.specs.Tree

@@ -1,6 +1,7 @@
 //! Documents: nodes and their texts, the pointers between nodes, and the places of nodes.
 #![tactic(auto)]
 
+mod display;
 pub mod doc;
 pub mod place;
 pub mod render;
