@@ -3,6 +3,7 @@
 
 mod display;
 pub mod doc;
+pub mod measure;
 pub mod place;
 pub mod render;
 pub mod text;
