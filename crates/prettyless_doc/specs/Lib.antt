@@ -1,4 +1,6 @@
 pub mod BuildErrors
 pub mod DocTree
+pub mod FirstPart
+pub mod Printed
 pub mod TextBytes
 pub use Rattle.prettyless_model.specs.Tree

@@ -1,7 +1,9 @@
 //! Documents: nodes and their texts, the pointers between nodes, and the places of nodes.
 #![tactic(auto)]
 
+mod display;
 pub mod doc;
+pub mod measure;
 pub mod place;
 pub mod render;
 pub mod text;

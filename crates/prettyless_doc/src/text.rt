@@ -1,8 +1,10 @@
-ghost use Rattle.std.specs.Prelude.{◌≡◌, IsOkAnd, alloc_error};
+ghost use Rattle.std.specs.Prelude.{◌≡◌, IfOk, IfErr, IsOkAnd, Ok, alloc_error};
 ghost use Rattle.std.specs.Cow.{cow_str_bytes};
-ghost use Rattle.prettyless_doc.specs.TextBytes.{bytes_of};
+ghost use Rattle.prettyless_doc.specs.TextBytes.{bytes_of, IfUnowned};
+ghost use Rattle.prettyless_doc.specs.BuildErrors.{IsMemory};
 ghost use Rattle.prettyless_doc.specs.declared.text.BuildError.TheVariants.{Memory};
 
+use arrayvec::ArrayString;
 use std::alloc::{AllocError, AllocFailed, Global};
 pub use std::borrow::CowStr;
 use std::boxed::BoxedStr;
@@ -36,8 +38,11 @@ impl<T: Drop> From<AllocFailed<T>> for BuildError {
 /// The text of a node.
 #[derive(Drop)]
 pub enum Text<'a> {
+    /// In memory of its own.
     Owned(BoxedStr),
     Borrowed(&'a str),
+    /// In the node itself: at most 22 bytes.
+    Small(ArrayString<22>),
 }
 
 impl<'a> Text<'a> {
@@ -58,6 +63,20 @@ impl<'a> Text<'a> {
         match self {
             Text::Owned(s) => s.as_str(),
             Text::Borrowed(s) => s,
+            Text::Small(s) => s.as_str(),
+        }
+    }
+
+    /// The same bytes. Only an owned text takes memory for them, and fails where none was had.
+    pub fn clone(&self, alloc: Global) -> Result<Self, BuildError>
+        ensures ok { IfOk result (λ t. bytes_of t ≡ bytes_of self.now) }
+        ensures same { IfUnowned self.now (result ≡ Ok self.now) }
+        ensures err { IfErr result IsMemory }
+    {
+        match self {
+            Text::Owned(s) => Ok(Text::Owned(BoxedStr::from_str(alloc, s.as_str())?)),
+            Text::Borrowed(s) => Ok(Text::Borrowed(s)),
+            Text::Small(s) => Ok(Text::Small(*s)),
         }
     }
 }
@@ -79,8 +98,24 @@ mod tests {
         let borrowed = Text::from_cow(rt.alloc(), CowStr::Borrowed("ab"))?;
         let owned = String::from_str(rt.alloc(), "ab")?;
         let owned = Text::from_cow(rt.alloc(), CowStr::Owned(owned))?;
+        let small = Text::from_display(rt.alloc(), "ab")?;
         assert_eq!(rt; format!(in rt.alloc(); "{borrowed:?}")?.as_str(), "\"ab\"");
         assert_eq!(rt; format!(in rt.alloc(); "{owned:?}")?.as_str(), "\"ab\"");
+        assert_eq!(rt; format!(in rt.alloc(); "{small:?}")?.as_str(), "\"ab\"");
+        Ok(())
+    }
+
+    #[test]
+    fn clones(rt: HostRuntime) -> Result<(), Fail> {
+        let owned = String::from_str(rt.alloc(), "ab")?;
+        let owned = Text::from_cow(rt.alloc(), CowStr::Owned(owned))?;
+        assert_eq!(rt; owned.clone(rt.alloc())?.as_str(), "ab");
+        let borrowed = Text::Borrowed("cd");
+        assert!(rt; matches!(borrowed.clone(rt.alloc())?, Text::Borrowed("cd")));
+        let small = Text::from_display(rt.alloc(), "ef")?;
+        let copy = small.clone(rt.alloc())?;
+        assert!(rt; matches!(copy, Text::Small(_)));
+        assert_eq!(rt; copy.as_str(), "ef");
         Ok(())
     }
 }

@@ -1,0 +1,14 @@
+-- The first part of a text, and the parts behind it.
+use Rattle.std.specs.Prelude.{◌≡◌, ℕ, ◌<◌, ◌≤◌, true, false, List, [], length, slice_index, Option, Some, None}
+use Rattle.prettyless_model.specs.Metrics.{is_break, parts}
+
+-- the first part ends at n: no break stands before, and one stands there, or the text ends
+pub record EndsFirstPart (s : List ℕ) (n : ℕ) : Type 0 where
+  pub within : n ≤ length s
+  pub before : (k : ℕ) → k < n → is_break (slice_index s k) ≡ false
+  pub found : n < length s → is_break (slice_index s n) ≡ true
+
+-- the parts of what is left of a text
+abbrev pub parts_left : Option (List ℕ) → List (List ℕ)
+parts_left None = []
+parts_left (Some s) = parts s
