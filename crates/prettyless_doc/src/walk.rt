@@ -10,13 +10,26 @@ impl<'d, 'a, T: DocPtr<'a>> Walk for &'d Doc<'a, T> {
     fn view(&self) -> View<'_, Self> {
         match **self {
             Doc::Nil => View::Nil,
+            Doc::Fail => View::Fail,
             Doc::Text(ref text) => View::Text(text.as_str()),
             Doc::TextWithLen(width, ref text) => View::TextWithLen(width, text.as_str()),
+            Doc::WeakSpace => View::WeakSpace,
             Doc::HardLine => View::HardLine,
+            Doc::WeakLine => View::WeakLine,
             Doc::Append(ref left, ref right) => View::Append(left.doc(), right.doc()),
+            Doc::LineSuffix(ref inner) => View::LineSuffix(inner.doc()),
             Doc::Nest(offset, ref inner) => View::Nest(offset, inner.doc()),
+            Doc::DedentToRoot(ref inner) => View::DedentToRoot(inner.doc()),
+            Doc::Align(ref inner) => View::Align(inner.doc()),
+            Doc::ExpandParent => View::ExpandParent,
+            Doc::Flatten(ref inner) => View::Flatten(inner.doc()),
             Doc::BreakOrFlat(ref broken, ref flat) => View::BreakOrFlat(broken.doc(), flat.doc()),
             Doc::Group(ref inner) => View::Group(inner.doc()),
+            Doc::Union(ref first, ref second) => View::Union(first.doc(), second.doc()),
+            Doc::PartialUnion(ref first, ref second) => View::PartialUnion(
+                first.doc(),
+                second.doc(),
+            ),
         }
     }
 }
