@@ -1,0 +1,13 @@
+//! Lays an S-expression out within a width: `sexp WIDTH` reads it from standard input and writes its layout.
+#![tactic(auto)]
+
+mod error;
+mod expression;
+mod number;
+mod words;
+
+pub use error::RunError;
+pub use expression::SExp;
+pub use words::width;
+
+fn main(rt: HostRuntime) {}
