@@ -1,3 +1,4 @@
+pub mod Fronts
 pub mod Grammar
 pub mod Value
 pub mod View

@@ -4,10 +4,15 @@
 mod error;
 mod expression;
 mod number;
+mod parse;
 mod words;
 
 pub use error::RunError;
 pub use expression::SExp;
+pub use parse::parse;
 pub use words::width;
 
 fn main(rt: HostRuntime) {}
+
+#[cfg(test)]
+mod tests;
