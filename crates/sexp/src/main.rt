@@ -3,12 +3,16 @@
 
 mod error;
 mod expression;
+mod input;
 mod number;
+mod output;
 mod parse;
 mod words;
 
 pub use error::RunError;
 pub use expression::SExp;
+pub use input::read_input;
+pub use output::write_text;
 pub use parse::parse;
 pub use words::width;
 
