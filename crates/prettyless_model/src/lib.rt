@@ -1,4 +1,9 @@
-//! The definitions that the library is proved against: documents as trees, and the layout of a tree.
+//! The definitions that the library is proved against: documents as trees, what a probe reads, and the layout of a tree.
+//!
+//! `specs/` holds the definitions, `proofs/` what holds of them alone. The code here is small: the mode in which a
+//! document is laid, and the column at which a printer stands.
 #![tactic(auto)]
 
+pub mod column;
+pub mod laws;
 pub mod mode;

@@ -1,3 +1,4 @@
+//! The causes for which a render stops.
 use std::alloc::AllocError;
 
 /// Why a render stopped.

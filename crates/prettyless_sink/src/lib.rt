@@ -1,6 +1,8 @@
-//! What a layout is asked for and where it goes: options, and the causes for which a render stops.
+//! What a layout is asked for and where it goes: options, sinks, and the causes for which a render stops.
 #![tactic(auto)]
 
 pub mod error;
+pub mod fmt_write;
 pub mod options;
+pub mod pieces;
 pub mod render;

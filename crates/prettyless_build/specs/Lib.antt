@@ -1,0 +1,5 @@
+pub mod Built
+pub use Rattle.prettyless_doc.specs.BuildErrors
+pub use Rattle.prettyless_doc.specs.DocTree
+pub use Rattle.prettyless_doc.specs.TextBytes
+pub use Rattle.prettyless_doc.specs.Tree

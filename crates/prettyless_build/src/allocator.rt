@@ -1,0 +1,100 @@
+ghost use Rattle.std.specs.Prelude.{◌≡◌, IfOk, IfErr, IsOkAnd};
+ghost use Rattle.std.specs.Cow.{cow_str_bytes};
+ghost use Rattle.prettyless_doc.specs.Tree.{Nil, Text as TextTree, HardLine, BreakOrFlat};
+ghost use Rattle.prettyless_doc.specs.BuildErrors.{IsMemory};
+ghost use Rattle.prettyless_doc.specs.DocTree.{tree_of, built};
+ghost use Rattle.prettyless_build.specs.Built as to;
+
+use crate::builder::DocBuilder;
+use prettyless_doc::text::CowStr;
+use prettyless_doc::{BuildDoc, BuildError, Doc, DocPlace, Text};
+
+/// The documents that every place of nodes can start.
+pub trait DocAllocator<'a>: DocPlace<'a> {
+    /// A pointer to the document: its own where it has one, which takes no memory, and else that of
+    /// a new node, or an error where no memory was had.
+    fn alloc_cow(&'a self, doc: BuildDoc<'a, Self::Doc>) -> Result<Self::Doc, BuildError>
+        ensures ok { IfOk result (λ p. Self.Doc.tree p ≡ built Self.Doc.tree doc.entry) }
+        ensures placed { to.IfPlaced doc.entry (λ p. result ≡ Ok p) }
+        ensures err { IfErr result IsMemory };
+
+    /// Nothing. It takes no memory.
+    fn nil(&'a self) -> Result<DocBuilder<'a, Self>, BuildError>
+        ensures { IsOkAnd result (λ b. built Self.Doc.tree b.1 ≡ Nil) };
+
+    /// A text that counts as one column a byte, also where it is empty or not ASCII. It takes no
+    /// memory.
+    fn ascii_text(&'a self, text: CowStr<'a>) -> Result<DocBuilder<'a, Self>, BuildError>
+        ensures { IsOkAnd result (λ b. built Self.Doc.tree b.1
+            ≡ TextTree (cow_str_bytes text.entry)) };
+
+    /// A line break. It takes no memory.
+    fn hard_line(&'a self) -> Result<DocBuilder<'a, Self>, BuildError>
+        ensures { IsOkAnd result (λ b. built Self.Doc.tree b.1 ≡ HardLine) };
+
+    /// The text of one space. It takes no memory.
+    fn space(&'a self) -> Result<DocBuilder<'a, Self>, BuildError>
+        ensures { IsOkAnd result (λ b. built Self.Doc.tree b.1 ≡ to.space) };
+
+    /// A line break, or one space where lines are flat. It fails where no memory was had.
+    fn line(&'a self) -> Result<DocBuilder<'a, Self>, BuildError>
+        ensures ok { IfOk result (λ b. built Self.Doc.tree b.1 ≡ to.line) }
+        ensures err { IfErr result IsMemory };
+
+    /// A line break, or nothing where lines are flat. It fails where no memory was had.
+    fn line_(&'a self) -> Result<DocBuilder<'a, Self>, BuildError>
+        ensures ok { IfOk result (λ b. built Self.Doc.tree b.1 ≡ to.line_) }
+        ensures err { IfErr result IsMemory };
+}
+
+// A line break, or `flat` where lines are flat.
+fn line_or<'a, D: DocPlace<'a>>(
+    place: &'a D,
+    flat: Doc<'a, D::Doc>,
+) -> Result<DocBuilder<'a, D>, BuildError>
+    ensures ok { IfOk result (λ b. built D.Doc.tree b.1
+        ≡ BreakOrFlat HardLine (tree_of D.Doc.tree flat.entry)) }
+    ensures err { IfErr result IsMemory }
+{
+    let broken = place.alloc(Doc::HardLine)?;
+    let flat = place.alloc(flat)?;
+    Ok(DocBuilder::new(place, Doc::BreakOrFlat(broken, flat)))
+}
+
+impl<'a, D: DocPlace<'a>> DocAllocator<'a> for D {
+    fn alloc_cow(&'a self, doc: BuildDoc<'a, D::Doc>) -> Result<D::Doc, BuildError>
+        ensures ok { IfOk result (λ p. D.Doc.tree p ≡ built D.Doc.tree doc.entry) }
+        ensures placed { to.IfPlaced doc.entry (λ p. result ≡ Ok p) }
+        ensures err { IfErr result IsMemory }
+    {
+        match doc {
+            BuildDoc::DocPtr(pointer) => Ok(pointer),
+            BuildDoc::Doc(doc) => self.alloc(doc),
+        }
+    }
+
+    fn nil(&'a self) -> Result<DocBuilder<'a, D>, BuildError> {
+        Ok(DocBuilder::new(self, Doc::Nil))
+    }
+
+    fn ascii_text(&'a self, text: CowStr<'a>) -> Result<DocBuilder<'a, D>, BuildError> {
+        let text = Text::from_cow(self.memory(), text)?;
+        Ok(DocBuilder::new(self, Doc::Text(text)))
+    }
+
+    fn hard_line(&'a self) -> Result<DocBuilder<'a, D>, BuildError> {
+        Ok(DocBuilder::new(self, Doc::HardLine))
+    }
+
+    fn space(&'a self) -> Result<DocBuilder<'a, D>, BuildError> {
+        Ok(DocBuilder::new(self, Doc::Text(Text::Borrowed(" "))))
+    }
+
+    fn line(&'a self) -> Result<DocBuilder<'a, D>, BuildError> {
+        line_or(self, Doc::Text(Text::Borrowed(" ")))
+    }
+
+    fn line_(&'a self) -> Result<DocBuilder<'a, D>, BuildError> {
+        line_or(self, Doc::Nil)
+    }
+}

@@ -1,0 +1,130 @@
+ghost use Rattle.std.specs.Prelude.{◌≡◌, ◌⊎◌, IfOk, IfErr, IsTrue};
+ghost use Rattle.prettyless_doc.specs.Tree.{Tree, BreakOrFlat};
+ghost use Rattle.prettyless_doc.specs.BuildErrors.{IsMemory};
+ghost use Rattle.prettyless_doc.specs.DocTree.{built};
+ghost use Rattle.prettyless_doc.specs.declared.doc.BuildDoc.TheVariants.{Doc as Plain};
+ghost use Rattle.prettyless_build.specs.Built as to;
+
+use crate::allocator::DocAllocator;
+use crate::pretty::Pretty;
+use prettyless_doc::{BuildDoc, BuildError, Doc, DocPlace, DocPtr};
+
+/// A document in the making, and the place of its nodes.
+pub struct DocBuilder<'a, D: DocPlace<'a>>(pub &'a D, pub BuildDoc<'a, D::Doc>);
+
+// By hand: the derived one is not found where a collection of builders is dropped.
+impl<'a, D: DocPlace<'a>> Drop for DocBuilder<'a, D> {
+    fn drop(self) {
+        let DocBuilder(_, doc) = self;
+        drop(doc);
+    }
+}
+
+impl<'a, D: DocPlace<'a>> DocBuilder<'a, D> {
+    // A node that is not placed yet.
+    pub(crate) fn new(allocator: &'a D, doc: Doc<'a, D::Doc>) -> Self
+        ensures { result.1 ≡ Plain doc.entry }
+    {
+        DocBuilder(allocator, BuildDoc::Doc(doc))
+    }
+
+    /// A pointer to the document: its own where it has one, which takes no memory, and else that of
+    /// a new node, or an error where no memory was had.
+    pub fn into_doc(self) -> Result<D::Doc, BuildError>
+        ensures ok { IfOk result (λ p. D.Doc.tree p ≡ built D.Doc.tree self.entry.1) }
+        ensures placed { to.IfPlaced self.entry.1 (λ p. result ≡ Ok p) }
+        ensures err { IfErr result IsMemory }
+    {
+        let DocBuilder(allocator, doc) = self;
+        allocator.alloc_cow(doc)
+    }
+
+    fn is_nil(&self) -> bool
+        ensures { result ≡ to.is_nil (built D.Doc.tree self.now.1) }
+    {
+        matches!(self.1.doc(), Doc::Nil)
+    }
+
+    // `append` of what is a builder already.
+    fn join(self, that: DocBuilder<'a, D>) -> Result<Self, BuildError>
+        ensures ok { IfOk result (λ b. built D.Doc.tree b.1
+            ≡ to.append (built D.Doc.tree self.entry.1) (built D.Doc.tree that.entry.1)) }
+        ensures err { IfErr result (λ e. IsMemory e
+            × to.IsNotNil (built D.Doc.tree self.entry.1)
+            × to.IsNotNil (built D.Doc.tree that.entry.1)) }
+    {
+        if self.is_nil() {
+            return Ok(that);
+        }
+        if that.is_nil() {
+            return Ok(self);
+        }
+        let allocator = self.0;
+        let left = self.into_doc()?;
+        let right = that.into_doc()?;
+        Ok(DocBuilder::new(allocator, Doc::Append(left, right)))
+    }
+
+    /// This document, then `that`. Where one of them is nothing it is the other as it is, and only
+    /// the making of `that` can fail; else memory can too.
+    pub fn append<E: Pretty<'a, D>>(self, that: E) -> Result<Self, BuildError>
+        ensures ok { IfOk result (λ b. (y : Tree) × E.becomes that y
+            × (built D.Doc.tree b.1 ≡ to.append (built D.Doc.tree self.entry.1) y)) }
+        ensures err { IfErr result (λ e. E.refuses that e ⊎ (IsMemory e
+            × to.IsNotNil (built D.Doc.tree self.entry.1)
+            × ((y : Tree) × E.becomes that y × to.IsNotNil y))) }
+    {
+        let that = that.pretty(self.0)?;
+        self.join(that)
+    }
+
+    /// This document where lines are broken, and `that` where they are flat. The making of `that` can
+    /// fail, and memory.
+    pub fn flat_alt<E: Pretty<'a, D>>(self, that: E) -> Result<Self, BuildError>
+        ensures ok { IfOk result (λ b. (y : Tree) × E.becomes that y
+            × (built D.Doc.tree b.1 ≡ BreakOrFlat (built D.Doc.tree self.entry.1) y)) }
+        ensures err { IfErr result (λ e. E.refuses that e ⊎ IsMemory e) }
+    {
+        let allocator = self.0;
+        let that = that.pretty(allocator)?;
+        let broken = self.into_doc()?;
+        let flat = that.into_doc()?;
+        Ok(DocBuilder::new(allocator, Doc::BreakOrFlat(broken, flat)))
+    }
+
+    /// This document with its indent moved by so many columns. By 0, or where it is nothing, it stays
+    /// as it is, which takes no memory; else memory can fail.
+    pub fn nest(self, offset: isize) -> Result<Self, BuildError>
+        ensures ok { IfOk result (λ b. built D.Doc.tree b.1
+            ≡ to.nest offset (built D.Doc.tree self.entry.1)) }
+        ensures same { IsTrue (to.keeps_nested offset (built D.Doc.tree self.entry.1))
+            → result ≡ Ok self.entry }
+        ensures err { IfErr result IsMemory }
+    {
+        if offset == 0 || self.is_nil() {
+            return Ok(self);
+        }
+        let allocator = self.0;
+        let inner = self.into_doc()?;
+        Ok(DocBuilder::new(allocator, Doc::Nest(offset, inner)))
+    }
+
+    /// This document, laid flat where it fits the line, and else broken. Where it is nothing, a text
+    /// or a group, it stays as it is, which takes no memory; else memory can fail.
+    pub fn group(self) -> Result<Self, BuildError>
+        ensures ok { IfOk result (λ b. built D.Doc.tree b.1
+            ≡ to.group (built D.Doc.tree self.entry.1)) }
+        ensures same { IsTrue (to.keeps_grouped (built D.Doc.tree self.entry.1))
+            → result ≡ Ok self.entry }
+        ensures err { IfErr result IsMemory }
+    {
+        match self.1.doc() {
+            Doc::Nil | Doc::Text(_) | Doc::TextWithLen(_, _) | Doc::Group(_) => Ok(self),
+            _ => {
+                let allocator = self.0;
+                let inner = self.into_doc()?;
+                Ok(DocBuilder::new(allocator, Doc::Group(inner)))
+            }
+        }
+    }
+}

@@ -1,0 +1,54 @@
+ghost use Rattle.std.specs.Prelude.{◌≡◌, IfOk, IfErr};
+ghost use Rattle.prettyless_doc.specs.Tree.{Tree};
+ghost use Rattle.prettyless_doc.specs.DocTree.{tree_of, built};
+ghost use Rattle.prettyless_doc.specs.declared.text.BuildError.{BuildError as BuildErrorType};
+
+use crate::builder::DocBuilder;
+use prettyless_doc::{BuildDoc, BuildError, Doc, DocPlace};
+
+/// What can become a document.
+pub trait Pretty<'a, D: DocPlace<'a>> {
+    // the trees that it may become
+    ghost becomes: { Self → Tree → Type 0 };
+
+    // the errors that it may answer in place of a tree
+    ghost refuses: { Self → BuildErrorType → Type 0 };
+
+    /// The document that it becomes, in `allocator`.
+    fn pretty(self, allocator: &'a D) -> Result<DocBuilder<'a, D>, BuildError>
+        ensures ok { IfOk result (λ b. becomes self (built D.Doc.tree b.1)) }
+        ensures err { IfErr result (refuses self) };
+}
+
+/// Itself. It takes no memory.
+impl<'a, D: DocPlace<'a>> Pretty<'a, D> for Doc<'a, D::Doc> {
+    ghost becomes = { λ d y. y ≡ tree_of D.Doc.tree d };
+
+    ghost refuses = { λ _ _. ⊥ };
+
+    fn pretty(self, allocator: &'a D) -> Result<DocBuilder<'a, D>, BuildError> {
+        Ok(DocBuilder::new(allocator, self))
+    }
+}
+
+/// Itself. It takes no memory.
+impl<'a, D: DocPlace<'a>> Pretty<'a, D> for BuildDoc<'a, D::Doc> {
+    ghost becomes = { λ d y. y ≡ built D.Doc.tree d };
+
+    ghost refuses = { λ _ _. ⊥ };
+
+    fn pretty(self, allocator: &'a D) -> Result<DocBuilder<'a, D>, BuildError> {
+        Ok(DocBuilder(allocator, self))
+    }
+}
+
+/// Itself, in the allocator that it has. It takes no memory.
+impl<'a, D: DocPlace<'a>> Pretty<'a, D> for DocBuilder<'a, D> {
+    ghost becomes = { λ b y. y ≡ built D.Doc.tree b.1 };
+
+    ghost refuses = { λ _ _. ⊥ };
+
+    fn pretty(self, _allocator: &'a D) -> Result<DocBuilder<'a, D>, BuildError> {
+        Ok(self)
+    }
+}

@@ -1,0 +1,24 @@
+-- The tree that a document stands for, given the trees of its pointers.
+use Rattle.prettyless_model.specs.Tree as t
+use Rattle.prettyless_model.specs.Tree.{Tree}
+use Rattle.prettyless_doc.specs.TextBytes.{bytes_of}
+use Rattle.prettyless_doc.specs.declared.doc.Doc.{Doc}
+use Rattle.prettyless_doc.specs.declared.doc.Doc.TheVariants.{Nil, Text, TextWithLen, HardLine, Append, Nest, BreakOrFlat, Group}
+use Rattle.prettyless_doc.specs.declared.doc.BuildDoc.{BuildDoc}
+use Rattle.prettyless_doc.specs.declared.doc.BuildDoc.TheVariants.{DocPtr as Placed, Doc as Plain}
+
+-- the tree of a node
+abbrev pub tree_of : {T : Type 0} → (T → Tree) → Doc T → Tree
+tree_of tree Nil = t.Nil
+tree_of tree (Text s) = t.Text (bytes_of s)
+tree_of tree (TextWithLen w s) = t.TextWithLen w (bytes_of s)
+tree_of tree HardLine = t.HardLine
+tree_of tree (Append l r) = t.Append (tree l) (tree r)
+tree_of tree (Nest k d) = t.Nest k (tree d)
+tree_of tree (BreakOrFlat b f) = t.BreakOrFlat (tree b) (tree f)
+tree_of tree (Group d) = t.Group (tree d)
+
+-- the tree of a document in the making
+abbrev pub built : {T : Type 0} → (T → Tree) → BuildDoc T → Tree
+built tree (Placed p) = tree p
+built tree (Plain d) = tree_of tree d

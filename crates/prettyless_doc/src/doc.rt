@@ -1,0 +1,55 @@
+ghost use Rattle.std.specs.Prelude.{◌≡◌};
+ghost use Rattle.prettyless_model.specs.Tree.{Tree};
+ghost use Rattle.prettyless_doc.specs.DocTree.{tree_of, built};
+
+use crate::text::Text;
+
+/// A node of a document. `T` is the pointer to the nodes below it.
+#[derive(Drop)]
+pub enum Doc<'a, T> {
+    /// Nothing.
+    Nil,
+    /// A text, counted as one column a byte.
+    Text(Text<'a>),
+    /// A text and the columns that it counts as.
+    TextWithLen(usize, Text<'a>),
+    /// A line break.
+    HardLine,
+    /// Two documents, one after the other.
+    Append(T, T),
+    /// A document with its indent moved by so many columns.
+    Nest(isize, T),
+    /// The first document where lines are broken, and the second where they are flat.
+    BreakOrFlat(T, T),
+    /// A document that is laid flat where it fits the line, and else broken.
+    Group(T),
+}
+
+/// A pointer to a node. It stands for a whole tree.
+pub trait DocPtr<'a>: Sized + Drop {
+    // the tree of which the node is the root
+    ghost tree: { Self → Tree };
+
+    /// The node that it points to.
+    fn doc(&self) -> &Doc<'a, Self>
+        ensures { tree_of tree result.now ≡ tree self.now };
+}
+
+/// A document in the making: a node that was put in its place, or one that was not yet.
+#[derive(Drop)]
+pub enum BuildDoc<'a, D> {
+    DocPtr(D),
+    Doc(Doc<'a, D>),
+}
+
+impl<'a, D: DocPtr<'a>> BuildDoc<'a, D> {
+    /// The node, wherever it is.
+    pub fn doc(&self) -> &Doc<'a, D>
+        ensures { tree_of D.tree result.now ≡ built D.tree self.now }
+    {
+        match self {
+            BuildDoc::DocPtr(pointer) => pointer.doc(),
+            BuildDoc::Doc(doc) => doc,
+        }
+    }
+}

@@ -1,0 +1,21 @@
+ghost use Rattle.std.specs.Prelude.{◌≡◌, IfOk, IfErr};
+ghost use Rattle.prettyless_doc.specs.BuildErrors.{IsMemory};
+ghost use Rattle.prettyless_doc.specs.DocTree.{tree_of};
+
+use crate::doc::{Doc, DocPtr};
+use crate::text::BuildError;
+use std::alloc::Global;
+
+/// Where the nodes of documents are put.
+pub trait DocPlace<'a>: Sized {
+    /// The pointer to a node here.
+    type Doc: DocPtr<'a>;
+
+    /// Puts a node here: a pointer to the same tree, or an error where no memory was had.
+    fn alloc(&'a self, doc: Doc<'a, Self::Doc>) -> Result<Self::Doc, BuildError>
+        ensures ok { IfOk result (λ p. Self.Doc.tree p ≡ tree_of Self.Doc.tree doc.entry) }
+        ensures err { IfErr result IsMemory };
+
+    /// The memory that texts are made in.
+    fn memory(&'a self) -> Global;
+}

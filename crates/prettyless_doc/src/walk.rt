@@ -1,0 +1,22 @@
+ghost use Rattle.prettyless_doc.specs.DocTree.{tree_of};
+
+use crate::doc::{Doc, DocPtr};
+use prettyless_printer::walk::{View, Walk};
+
+/// A document as the printer walks it.
+impl<'d, 'a, T: DocPtr<'a>> Walk for &'d Doc<'a, T> {
+    ghost tree = { λ d. tree_of T.tree d.now };
+
+    fn view(&self) -> View<'_, Self> {
+        match **self {
+            Doc::Nil => View::Nil,
+            Doc::Text(ref text) => View::Text(text.as_str()),
+            Doc::TextWithLen(width, ref text) => View::TextWithLen(width, text.as_str()),
+            Doc::HardLine => View::HardLine,
+            Doc::Append(ref left, ref right) => View::Append(left.doc(), right.doc()),
+            Doc::Nest(offset, ref inner) => View::Nest(offset, inner.doc()),
+            Doc::BreakOrFlat(ref broken, ref flat) => View::BreakOrFlat(broken.doc(), flat.doc()),
+            Doc::Group(ref inner) => View::Group(inner.doc()),
+        }
+    }
+}

@@ -1,0 +1,162 @@
+-- The layout of a document: a recursion on its tree, from state to state.
+use Rattle.std.specs.Prelude.{ℕ, zero, suc, ◌+◌, ◌-◌, ℤ, pos, negsuc, Bool, true, false, ◌&&◌, nat_le, List, [], ◌∷◌, ◌++◌, length, if◌then◌else◌}
+use Rattle.prettyless_sink.specs.Options.{ending}
+use Rattle.prettyless_sink.specs.Spaces.{spaces}
+use Rattle.prettyless_sink.specs.declared.options.RenderOptions.{RenderOptions}
+use Rattle.prettyless_sink.specs.declared.options.IndentationPolicy.{IndentationPolicy}
+use Rattle.prettyless_sink.specs.declared.options.IndentationPolicy.TheVariants.{Eager, Deferred}
+use Rattle.prettyless_model.specs.Tree as t
+use Rattle.prettyless_model.specs.Tree.{Tree, size}
+use Rattle.prettyless_model.specs.Column.{start, indented, deferred, gap, commit, padding_fits, saturating_add}
+use Rattle.prettyless_model.specs.Reading.{Atom, reading, fits, by_mode}
+use Rattle.prettyless_model.specs.declared.column.Column.{Column}
+use Rattle.prettyless_model.specs.declared.mode.Mode.{Mode}
+use Rattle.prettyless_model.specs.declared.mode.Mode.TheVariants.{Break, Flat}
+
+-- between two nodes: the column, the documents that wait for the end of their line, and whether no text went past the width
+pub record State : Type 0 where
+  pub column : Column
+  pub pending : List Tree
+  pub within : Bool
+
+-- the bytes, and the state behind them; or the bytes before the node that failed
+pub data Outcome : Type 0 where
+  Done : List ℕ → State → Outcome
+  Failed : List ℕ → Outcome
+
+-- a document that follows, with its indent; the nearest comes first in a list
+pub record Entry : Type 0 where
+  pub indent : ℕ
+  pub tree : Tree
+
+-- bytes that come before an outcome
+abbrev pub after_bytes : List ℕ → Outcome → Outcome
+after_bytes b (Done c st) = Done (b ++ c) st
+after_bytes b (Failed c) = Failed (b ++ c)
+
+-- one outcome, and where it is done the next from its state
+abbrev pub and_then : Outcome → (State → Outcome) → Outcome
+and_then (Done b st) next = after_bytes b (next st)
+and_then (Failed b) next = Failed b
+
+-- an indent that a nesting changes, kept within 0 and the greatest `usize`
+abbrev pub nested : ℕ → ℤ → ℕ
+nested i (pos k) = saturating_add i k
+nested i (negsuc k) = i - (k + 1)
+
+-- a text of counted width w: what is pending of the line is written before it; an empty text is nothing
+abbrev pub lay_text : RenderOptions → ℕ → List ℕ → State → Outcome
+lay_text o w [] st = Done [] st
+lay_text o w (b ∷ bs) st =
+    let c = commit w st.column in
+    Done (spaces (gap st.column) ++ (b ∷ bs)) (record st { column = c; within = st.within && nat_le c.position o.width })
+
+-- a line ends, and the next has this indent: written at once, or with the first content
+abbrev pub lay_ending : RenderOptions → IndentationPolicy → ℕ → State → Outcome
+lay_ending o Eager k st = Done (ending o.line_ending ++ spaces k) (record st { column = indented k })
+lay_ending o Deferred k st = Done (ending o.line_ending) (record st { column = deferred k })
+
+-- the indent of the nearest document that follows; the break's own where nothing does
+abbrev pub next_indent : ℕ → List Entry → ℕ
+next_indent i [] = i
+next_indent i (e ∷ es) = e.indent
+
+abbrev pub entry : ℕ → Tree → Entry
+entry i d = record { indent = i; tree = d }
+
+-- trees that follow at one indent
+abbrev pub entries : ℕ → List Tree → List Entry
+entries i [] = []
+entries i (d ∷ ds) = entry i d ∷ entries i ds
+
+-- what is read behind the probed document: each document that follows, in Break
+abbrev pub rest_atoms : List Entry → List Atom
+rest_atoms [] = []
+rest_atoms (e ∷ es) = reading e.tree Break ++ rest_atoms es
+
+abbrev pub some_pending : List Tree → Bool
+some_pending [] = false
+some_pending (d ∷ ds) = true
+
+-- whether a document, laid in this mode, and what follows it stay within the line
+abbrev pub probe : RenderOptions → Tree → Mode → List Entry → State → Bool
+probe o d m rest st = fits o.width st.column (some_pending st.pending) (reading d m ++ rest_atoms rest)
+
+-- How a break is laid: which node it is, its indent and mode, what follows it.
+abbrev pub Breaks : Type 0
+Breaks = Tree → ℕ → Mode → List Entry → State → Outcome
+
+-- A document at an indent in a mode, with what follows it. The recursion is on the tree; `brk` lays breaks.
+unfoldable pub lay : RenderOptions → Breaks → Tree → ℕ → Mode → List Entry → State → Outcome
+lay o brk t.Nil i m rest st = Done [] st
+lay o brk (t.Text s) i m rest st = lay_text o (length s) s st
+lay o brk (t.TextWithLen w s) i m rest st = lay_text o w s st
+lay o brk t.HardLine i m rest st = by_mode m (brk t.HardLine i m rest st) (Failed [])
+lay o brk (t.Append l r) i m rest st = and_then (lay o brk l i m (entry i r ∷ rest) st) (λ u. lay o brk r i m rest u)
+lay o brk (t.Nest k d) i m rest st = lay o brk d (nested i k) m rest st
+lay o brk (t.BreakOrFlat b f) i m rest st = by_mode m (lay o brk b i m rest st) (lay o brk f i m rest st)
+lay o brk (t.Group d) i m rest st = lay o brk d i (by_mode m (if probe o d Flat rest st then Flat else Break) Flat) rest st
+
+-- trees one after another at one indent, each with the later ones following
+unfoldable pub lay_each : RenderOptions → Breaks → List Tree → ℕ → Mode → List Entry → State → Outcome
+lay_each o brk [] i m rest st = Done [] st
+lay_each o brk (d ∷ ds) i m rest st =
+    and_then (lay o brk d i m (entries i ds ++ rest) st) (λ u. lay_each o brk ds i m rest u)
+
+-- the pending documents are taken: what is pending of the line is written first, as before content
+abbrev pub flushed : RenderOptions → State → State
+flushed o st = record { column = commit 0 st.column; pending = []; within = st.within && padding_fits o.width true st.column }
+
+-- a break behind which nothing is pending
+abbrev pub plain_break : RenderOptions → Tree → ℕ → List Entry → State → Outcome
+plain_break o d i rest st = lay_ending o o.indentation_policy (next_indent i rest) st
+
+-- A break: the pending documents are laid first, followed by the break itself, which then begins again.
+abbrev pub break_with : RenderOptions → Breaks → List Tree → Breaks
+break_with o brk [] d i m rest st = plain_break o d i rest st
+break_with o brk (p ∷ ps) d i m rest st =
+    after_bytes (spaces (gap st.column))
+    (and_then (lay_each o brk (p ∷ ps) i m (entry i d ∷ rest) (flushed o st)) (brk d i m rest))
+
+-- A number of levels makes this a recursion: one is spent where pending documents are laid.
+unfoldable pub breaks : RenderOptions → ℕ → Breaks
+breaks o zero d i m rest st = Failed []
+breaks o (suc n) d i m rest st = break_with o (breaks o n) st.pending d i m rest st
+
+-- The end of the document: the pending documents are laid at indent 0, and those that they queue, round by round.
+abbrev pub end_with : RenderOptions → Breaks → (State → Outcome) → List Tree → State → Outcome
+end_with o brk again [] st = Done [] st
+end_with o brk again (p ∷ ps) st =
+    after_bytes (spaces (gap st.column)) (and_then (lay_each o brk (p ∷ ps) 0 Break [] (flushed o st)) again)
+
+-- a number of rounds makes this a recursion
+unfoldable pub finish : RenderOptions → Breaks → ℕ → State → Outcome
+finish o brk zero st = Failed []
+finish o brk (suc n) st = end_with o brk (finish o brk n) st.pending st
+
+abbrev pub initial : State
+initial = record { column = start; pending = []; within = true }
+
+-- the bytes of a layout: all, or those before the node that failed
+pub data Bytes : Type 0 where
+  Whole : List ℕ → Bytes
+  Cut : List ℕ → Bytes
+
+abbrev pub bytes_of : Outcome → Bytes
+bytes_of (Done b st) = Whole b
+bytes_of (Failed b) = Cut b
+
+-- a layout with this many levels and rounds
+unfoldable pub layout_by : RenderOptions → ℕ → Tree → Outcome
+layout_by o n d =
+    let brk = breaks o n in
+    and_then (lay o brk d 0 Break [] initial) (λ st. finish o brk n st)
+
+-- The layout of a document: at indent 0 in Break, from the start. More levels than its size change nothing.
+unfoldable pub layout : RenderOptions → Tree → Bytes
+layout o d = bytes_of (layout_by o (size d + 1) d)
+
+-- the bytes of a layout, all or cut
+abbrev pub bytes_in : Bytes → List ℕ
+bytes_in (Whole b) = b
+bytes_in (Cut b) = b

@@ -1,0 +1,37 @@
+-- How many levels a layout can spend, and breaks that have as many as they need.
+use Rattle.std.specs.Prelude.{◌≡◌, ℕ, suc, ◌+◌, ◌<◌, List, [], ◌∷◌}
+use Rattle.prettyless_sink.specs.declared.options.RenderOptions.{RenderOptions}
+use Rattle.prettyless_model.specs.Tree.{Tree, Nil, Text, TextWithLen, HardLine, Append, Nest, BreakOrFlat, Group, size}
+use Rattle.prettyless_model.specs.Layout.{State, Outcome, Breaks, breaks, finish, layout_by, layout, bytes_of}
+
+-- how many documents a tree may leave pending
+abbrev pub suffixes : Tree → ℕ
+suffixes Nil = 0
+suffixes (Text s) = 0
+suffixes (TextWithLen w s) = 0
+suffixes HardLine = 0
+suffixes (Append l r) = suffixes l + suffixes r
+suffixes (Nest k d) = suffixes d
+suffixes (BreakOrFlat b f) = suffixes b + suffixes f
+suffixes (Group d) = suffixes d
+
+-- how many documents the pending ones are, with those that they may leave pending in turn
+abbrev pub queued : List Tree → ℕ
+queued [] = 0
+queued (d ∷ ds) = suffixes d + 1 + queued ds
+
+-- a break with as many levels as it may spend
+unfoldable pub settle : RenderOptions → Breaks
+settle o d i m rest st = breaks o (suc (queued st.pending)) d i m rest st
+
+-- the end with as many rounds as it may take
+unfoldable pub settle_end : RenderOptions → State → Outcome
+settle_end o st = finish o (settle o) (suc (queued st.pending)) st
+
+-- more levels than a document can leave pending change nothing
+abbrev pub MoreLevelsChangeNothing : Type 0
+MoreLevelsChangeNothing = (o : RenderOptions) (n : ℕ) (d : Tree) → suffixes d < n → bytes_of (layout_by o n d) ≡ layout o d
+
+-- and it leaves fewer of them than it has nodes
+abbrev pub FewerSuffixesThanNodes : Type 0
+FewerSuffixesThanNodes = (d : Tree) → suffixes d < size d

@@ -1,0 +1,71 @@
+ghost use Rattle.std.specs.Prelude.{◌≡◌};
+ghost use Rattle.prettyless_model.specs.Column as spec;
+
+/// Where a printer stands on its line, in columns. Sums stop at the greatest `usize`.
+#[derive(Clone, Copy)]
+pub struct Column {
+    /// What was written of the line.
+    pub position: usize,
+    /// Indent that is not written yet.
+    pub indent: usize,
+    /// Weak spaces that are not written yet.
+    pub padding: usize,
+    /// Whether nothing stands on the line but its indent.
+    pub fresh: bool,
+}
+
+impl Column {
+    /// The beginning of a document.
+    pub fn start() -> Self
+        ensures { result ≡ spec.start }
+    {
+        Column::indented(0)
+    }
+
+    /// The beginning of a line whose indent is written.
+    pub fn indented(indent: usize) -> Self
+        ensures { result ≡ spec.indented indent }
+    {
+        Column {
+            position: indent,
+            indent: 0,
+            padding: 0,
+            fresh: true,
+        }
+    }
+
+    /// The beginning of a line whose indent is written with its first content.
+    pub fn deferred(indent: usize) -> Self
+        ensures { result ≡ spec.deferred indent }
+    {
+        Column {
+            position: 0,
+            indent,
+            padding: 0,
+            fresh: true,
+        }
+    }
+
+    /// How many spaces are written before the next content.
+    pub fn gap(self) -> usize
+        ensures { result ≡ spec.gap self }
+    {
+        self.indent.saturating_add(self.padding)
+    }
+
+    /// The column behind content of this width.
+    pub fn committed(self, width: usize) -> Self
+        ensures { result ≡ spec.commit width self }
+    {
+        Column {
+            position: self
+                .position
+                .saturating_add(self.indent)
+                .saturating_add(self.padding)
+                .saturating_add(width),
+            indent: 0,
+            padding: 0,
+            fresh: false,
+        }
+    }
+}

@@ -1,0 +1,161 @@
+ghost use Rattle.std.specs.Prelude.{◌≡◌, IfOk, IfErr};
+ghost use Rattle.prettyless_doc.specs.BuildErrors.{IsMemory};
+ghost use Rattle.prettyless_doc.specs.DocTree.{tree_of};
+ghost use Rattle.prettyless_pointers.specs.declared.boxes.BoxDoc.{out-BoxDoc};
+ghost use Rattle.prettyless_pointers.specs.Trees.{box_tree};
+
+use prettyless_doc::{BuildError, Doc, DocPlace, DocPtr};
+use std::alloc::Global;
+use std::mem;
+
+/// A pointer that owns its node, in a box of its own.
+pub struct BoxDoc<'a>(Box<Doc<'a, BoxDoc<'a>>>);
+
+impl<'a> BoxDoc<'a> {
+    /// Boxes a node: the same tree, or an error where no memory was had, and the node is then given up.
+    pub fn new(alloc: Global, doc: Doc<'a, BoxDoc<'a>>) -> Result<Self, BuildError>
+        ensures ok { IfOk result (λ p. box_tree p ≡ tree_of box_tree doc.entry) }
+        ensures err { IfErr result IsMemory }
+    {
+        Ok(BoxDoc(Box::new(alloc, doc)?))
+    }
+
+    // Its box, with nothing dropped.
+    fn into_box(self) -> Box<Doc<'a, BoxDoc<'a>>>
+        ensures { result ≡ (out-BoxDoc self.entry).0 }
+    {
+        let BoxDoc(node) = self;
+        node
+    }
+
+    // Its node, with the box given back and nothing else dropped.
+    fn into_node(self) -> Doc<'a, BoxDoc<'a>>
+        ensures { result ≡ (out-BoxDoc self.entry).0.value }
+    {
+        Box::into_inner(self.into_box())
+    }
+}
+
+// A chain of appended documents is as deep as it is long, so a tree is taken apart in a loop, which asks for no
+// memory and takes the same stack at any depth. Where a pair (a, b) stands in front of c, what is left to drop
+// becomes a in front of (b, c), and the box that (a, b) had takes (b, c).
+impl<'a> Drop for BoxDoc<'a> {
+    fn drop(self) {
+        let mut rest = self.into_node();
+        loop {
+            match rest {
+                Doc::Nil | Doc::Text(_) | Doc::TextWithLen(_, _) | Doc::HardLine => return,
+                Doc::Nest(_, child) | Doc::Group(child) => rest = child.into_node(),
+                Doc::Append(front, back) | Doc::BreakOrFlat(front, back) => {
+                    let mut room = front.into_box();
+                    match mem::replace(&mut *room, Doc::Nil) {
+                        Doc::Nil | Doc::Text(_) | Doc::TextWithLen(_, _) | Doc::HardLine => {
+                            rest = back.into_node();
+                        }
+                        Doc::Nest(_, child) | Doc::Group(child) => rest = Doc::Append(child, back),
+                        Doc::Append(first, second) | Doc::BreakOrFlat(first, second) => {
+                            *room = Doc::Append(second, back);
+                            rest = Doc::Append(first, BoxDoc(room));
+                        }
+                    }
+                }
+            }
+        }
+    }
+}
+
+impl<'a> DocPtr<'a> for BoxDoc<'a> {
+    ghost tree = { box_tree };
+
+    fn doc(&self) -> &Doc<'a, BoxDoc<'a>> {
+        &*self.0
+    }
+}
+
+/// Puts each node into a box of its own.
+#[derive(Clone, Copy)]
+pub struct BoxAllocator {
+    memory: Global,
+}
+
+impl BoxAllocator {
+    /// Boxes and texts will take their memory from `alloc`.
+    pub fn new(alloc: Global) -> Self {
+        BoxAllocator { memory: alloc }
+    }
+}
+
+impl<'a> DocPlace<'a> for BoxAllocator {
+    type Doc = BoxDoc<'a>;
+
+    fn alloc(&'a self, doc: Doc<'a, BoxDoc<'a>>) -> Result<BoxDoc<'a>, BuildError>
+        ensures ok { IfOk result (λ p. box_tree p ≡ tree_of box_tree doc.entry) }
+        ensures err { IfErr result IsMemory }
+    {
+        BoxDoc::new(self.memory, doc)
+    }
+
+    fn memory(&'a self) -> Global {
+        self.memory
+    }
+}
+
+#[cfg(test)]
+mod tests {
+    use super::*;
+    use std::test::Fail;
+
+    // Deeper by far than the stack has room for calls.
+    const DEPTH: u32 = 1_000_000;
+
+    #[test]
+    fn boxes_a_node(rt: HostRuntime) -> Result<(), Fail> {
+        let line = BoxDoc::new(rt.alloc(), Doc::HardLine)?;
+        assert!(rt; matches!(line.doc(), Doc::HardLine));
+        Ok(())
+    }
+
+    #[test]
+    fn allocates_a_node(rt: HostRuntime) -> Result<(), Fail> {
+        let boxes = BoxAllocator::new(rt.alloc());
+        let line = boxes.alloc(Doc::HardLine)?;
+        let nested = boxes.alloc(Doc::Nest(2, line))?;
+        assert!(rt; matches!(nested.doc(), Doc::Nest(2, _)));
+        Ok(())
+    }
+
+    #[test]
+    fn drops_a_chain_to_the_left(rt: HostRuntime) -> Result<(), Fail> {
+        let boxes = BoxAllocator::new(rt.alloc());
+        let mut chain = boxes.alloc(Doc::Nil)?;
+        for _ in 0..DEPTH {
+            let line = boxes.alloc(Doc::HardLine)?;
+            chain = boxes.alloc(Doc::Append(chain, line))?;
+        }
+        drop(chain);
+        Ok(())
+    }
+
+    #[test]
+    fn drops_a_chain_to_the_right(rt: HostRuntime) -> Result<(), Fail> {
+        let boxes = BoxAllocator::new(rt.alloc());
+        let mut chain = boxes.alloc(Doc::Nil)?;
+        for _ in 0..DEPTH {
+            let line = boxes.alloc(Doc::HardLine)?;
+            chain = boxes.alloc(Doc::Append(line, chain))?;
+        }
+        drop(chain);
+        Ok(())
+    }
+
+    #[test]
+    fn drops_a_chain_of_nests(rt: HostRuntime) -> Result<(), Fail> {
+        let boxes = BoxAllocator::new(rt.alloc());
+        let mut chain = boxes.alloc(Doc::Nil)?;
+        for _ in 0..DEPTH {
+            chain = boxes.alloc(Doc::Nest(1, chain))?;
+        }
+        drop(chain);
+        Ok(())
+    }
+}

@@ -1,0 +1,6 @@
+//! The pointers between the nodes of a document, and the places that nodes are put in.
+#![tactic(auto)]
+
+pub mod boxes;
+
+pub use boxes::{BoxAllocator, BoxDoc};

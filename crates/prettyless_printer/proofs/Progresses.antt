@@ -1,0 +1,86 @@
+-- Progress: what a step makes of the work inside a whole.
+use Rattle.std.proofs.Common.{◌≡◌, ℕ, ◌+◌, ◌*◌, ◌≤◌, List, [], ◌∷◌, ◌++◌, length, refl, ap, sym, ◌∙◌, append_assoc, append-nil, length-append, arith, subst}
+use Rattle.prettyless_sink.specs.Sink.{AppendsBeginning}
+use Rattle.prettyless_sink.specs.declared.options.RenderOptions.{RenderOptions}
+use Rattle.prettyless_model.specs.Tree.{size}
+use Rattle.prettyless_model.specs.Layout.{State, Outcome, Done, Failed, Entry, after_bytes}
+use Rattle.prettyless_model.specs.Levels.{settle}
+use Rattle.prettyless_model.proofs.Outcomes.{after-after}
+use Rattle.prettyless_model.proofs.Levels.{settle_fixed}
+use Rattle.prettyless_printer.specs.Stack.{Task, follow}
+use Rattle.prettyless_printer.specs.Steps.{lay_all, work, owed, Step, Move, Stuck, step_of, runs}
+use Rattle.prettyless_printer.specs.Progress.{Inside}
+use Rattle.prettyless_printer.specs.Turns.{bytes_before}
+use Rattle.prettyless_printer.proofs.Stacks.{follow-append, nodes-append, split_top}
+use Rattle.prettyless_printer.proofs.Runs.{step_runs}
+use Rattle.prettyless_printer.proofs.Steps.{LeavesLess, step_less}
+
+-- what is left of the whole once a step is taken
+taken : (o : RenderOptions) (whole : Outcome) (limit : ℕ) (below : List Task) (old : List ℕ) (t : Task) (ts : List Task) (st : State) (out : List ℕ) →
+    length below ≤ length ts → Inside o whole limit below old (t ∷ ts) st out →
+    (rest : List Task) × (bytes : List ℕ) × (ts ≡ rest ++ below) × (out ≡ old ++ bytes)
+    × (after_bytes bytes (runs o (settle o) (step_of o t.tree t.indent t.mode (follow ts) st) rest (follow below)) ≡ whole)
+    × (work (t ∷ rest) st ≤ limit)
+taken o whole limit below old t ts st out l p =
+    let w = split_top p.above below t ts p.stack_is l in
+    let f : follow ts ≡ follow w.0 ++ follow below = ap follow w.2 ∙ follow-append w.0 below in
+    let e : lay_all o (settle o) (t ∷ w.0) (follow below) st ≡ runs o (settle o) (step_of o t.tree t.indent t.mode (follow ts) st) w.0 (follow below) =
+    step_runs o (settle o) (settle_fixed o) t.tree t.indent t.mode w.0 (follow below) st
+    ∙ ap (λ (r : List Entry). runs o (settle o) (step_of o t.tree t.indent t.mode r st) w.0 (follow below)) (sym f) in (
+      w.0,
+      p.bytes,
+      w.2,
+      p.out_is,
+      ap (after_bytes p.bytes) (sym e) ∙ ap (λ (x : List Task). after_bytes p.bytes (lay_all o (settle o) x (follow below) st)) (sym w.1) ∙ p.same,
+      subst (λ (x : List Task). work x st ≤ limit) w.1 p.bound,
+    )
+
+-- what holds behind a step: the work is inside the whole, or the whole fails behind what was written
+abbrev pub Steps : (o : RenderOptions) (whole : Outcome) (limit : ℕ) (below : List Task) (old : List ℕ) (ts : List Task) (out : List ℕ) → Step → Type 0
+Steps o whole limit below old ts out (Move b pushed u) = Inside o whole limit below old (pushed ++ ts) u (out ++ b)
+Steps o whole limit below old ts out Stuck = (bytes : List ℕ) × (above : List Task) × (out ≡ old ++ bytes) × (whole ≡ Failed bytes) × (ts ≡ above ++ below)
+
+steps : (o : RenderOptions) (whole : Outcome) (limit : ℕ) (below : List Task) (old : List ℕ) (ts : List Task) (st : State) (out : List ℕ) (t : Task) (step : Step) →
+    LeavesLess (2 * size t.tree + owed st.pending) step →
+    (rest : List Task) (bytes : List ℕ) → ts ≡ rest ++ below → out ≡ old ++ bytes →
+    after_bytes bytes (runs o (settle o) step rest (follow below)) ≡ whole → work (t ∷ rest) st ≤ limit → Steps o whole limit below old ts out step
+steps o whole limit below old ts st out t (Move b pushed u) less rest bytes e w h l = record {
+  above = pushed ++ rest;
+  bytes = bytes ++ b;
+  stack_is = ap (λ (x : List Task). pushed ++ x) e ∙ sym (append_assoc pushed rest below);
+  out_is = ap (λ (x : List ℕ). x ++ b) w ∙ append_assoc old bytes b;
+  same = sym (after-after bytes b (lay_all o (settle o) (pushed ++ rest) (follow below) u)) ∙ h;
+  bound = omega (arith, nodes-append pushed rest);
+}
+steps o whole limit below old ts st out t Stuck less rest bytes e w h l = (bytes, rest, w, sym h ∙ ap Failed (append-nil bytes), e)
+
+-- a step, of the top of the stack
+pub stepping : (o : RenderOptions) (whole : Outcome) (limit : ℕ) (below : List Task) (old : List ℕ) (t : Task) (ts : List Task) (st : State) (out : List ℕ) →
+    length below ≤ length ts → Inside o whole limit below old (t ∷ ts) st out → Steps o whole limit below old ts out (step_of o t.tree t.indent t.mode (follow ts) st)
+stepping o whole limit below old t ts st out l p =
+    let w = taken o whole limit below old t ts st out l p in
+    steps o whole limit below old ts st out t (step_of o t.tree t.indent t.mode (follow ts) st) (step_less o t.tree t.indent t.mode (follow ts) st) w.0 w.1 w.2 w.3 w.4 w.5
+
+-- nothing is left above
+ends_at : (o : RenderOptions) (whole : Outcome) (below above : List Task) (bytes : List ℕ) (st : State) → length (above ++ below) ≤ length below → after_bytes bytes (lay_all o (settle o) above (follow below) st) ≡ whole → whole ≡ Done bytes st
+unfolding lay_all
+ends_at o whole below [] bytes st l h = sym h ∙ ap (λ (b : List ℕ). Done b st) (append-nil bytes)
+ends_at o whole below (a ∷ above) bytes st l h = absurd (omega (arith, length-append above below))
+
+-- the work is done: the whole is what was written
+pub inside_end : (o : RenderOptions) (whole : Outcome) (limit : ℕ) (below : List Task) (old : List ℕ) (stack : List Task) (st : State) (out : List ℕ) →
+    Inside o whole limit below old stack st out → length stack ≤ length below → (bytes : List ℕ) × (out ≡ old ++ bytes) × (whole ≡ Done bytes st) × (owed st.pending ≤ limit)
+inside_end o whole limit below old stack st out p l =
+    let q = p.bound in
+    (p.bytes, p.out_is, ends_at o whole below p.above p.bytes st (omega (arith, ap length p.stack_is)) p.same, omega arith)
+
+pub bytes_before-after : (b : List ℕ) (o : Outcome) → bytes_before (after_bytes b o) ≡ b ++ bytes_before o
+bytes_before-after b (Done c st) = refl
+bytes_before-after b (Failed c) = refl
+
+-- what is written of a whole is a beginning of it
+pub inside_beginning : (o : RenderOptions) (whole : Outcome) (limit : ℕ) (below : List Task) (old : List ℕ) (stack : List Task) (st : State) (out : List ℕ) →
+    Inside o whole limit below old stack st out → AppendsBeginning old out (bytes_before whole)
+inside_beginning o whole limit below old stack st out p =
+    let left : Outcome = lay_all o (settle o) p.above (follow below) st in
+    (p.bytes, bytes_before left, sym (ap bytes_before p.same) ∙ bytes_before-after p.bytes left, p.out_is)

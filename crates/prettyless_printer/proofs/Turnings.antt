@@ -1,0 +1,90 @@
+-- A turn: the next command taken, stepped and written.
+use Rattle.std.proofs.Common.{◌≡◌, ℕ, ◌+◌, ◌*◌, ◌≤◌, ◌<◌, List, ◌∷◌, ◌++◌, length, refl, ap, sym, ◌∙◌, append_assoc, arith, subst}
+use Rattle.std.proofs.lemmas.List.{append_cancel_left}
+use Rattle.prettyless_sink.specs.Sink.{AppendsBeginning}
+use Rattle.prettyless_sink.specs.declared.options.RenderOptions.{RenderOptions}
+use Rattle.prettyless_model.specs.Tree.{Tree, size}
+use Rattle.prettyless_model.specs.Layout.{State, Outcome, after_bytes}
+use Rattle.prettyless_model.specs.Levels.{settle}
+use Rattle.prettyless_printer.specs.Stack.{Task, follow, nodes, stack_of}
+use Rattle.prettyless_printer.specs.Steps.{lay_all, work, owed, Step, Move, Stuck, step_of}
+use Rattle.prettyless_printer.specs.Progress.{Inside}
+use Rattle.prettyless_printer.specs.Printing.{state_of, ShowsAt, TookNext}
+use Rattle.prettyless_printer.specs.Piece.{piece_bytes}
+use Rattle.prettyless_printer.specs.Turns.{bytes_before, ForWholes, Goes, Lessens}
+use Rattle.prettyless_printer.proofs.Stacks.{nodes-append}
+use Rattle.prettyless_printer.proofs.Steps.{LeavesLess, step_less}
+use Rattle.prettyless_printer.proofs.Progresses.{Steps, stepping, inside_beginning}
+use Rattle.prettyless_printer.specs.declared.piece.Piece.{Piece}
+use Rattle.prettyless_printer.specs.declared.printer.Printer.{Printer}
+use Rattle.prettyless_printer.specs.declared.printer.Taken.TheVariants.{Written, Failed}
+use Rattle.prettyless_printer.specs.declared.printer.Turn.TheVariants as turn
+
+-- the same progress, where stack, state and bytes are named otherwise
+pub inside_at : (o : RenderOptions) (whole : Outcome) (limit : ℕ) (below : List Task) (old : List ℕ) (stack stack' : List Task) (st st' : State) (out out' : List ℕ) →
+    stack' ≡ stack → st' ≡ st → out' ≡ out → Inside o whole limit below old stack st out → Inside o whole limit below old stack' st' out'
+inside_at o whole limit below old stack stack' st st' out out' e f h p = record {
+  above = p.above;
+  bytes = p.bytes;
+  stack_is = e ∙ p.stack_is;
+  out_is = h ∙ p.out_is;
+  same = ap (λ (x : State). after_bytes p.bytes (lay_all o (settle o) p.above (follow below) x)) f ∙ p.same;
+  bound = subst (λ (x : State). work p.above x ≤ limit) (sym f) p.bound;
+}
+
+-- what a turn does to a whole, by the step
+abbrev ByStep : {N : Type 0} → (N → Tree) → Printer N → List ℕ → List Task → Step → Type 0
+ByStep f p out ts step = (whole : Outcome) (limit : ℕ) (below : List Task) (old : List ℕ) → length below < length (stack_of f p.commands.items) →
+    Inside p.options whole limit below old (stack_of f p.commands.items) (state_of p) out → Steps p.options whole limit below old ts out step
+
+by_step : {N : Type 0} (f : N → Tree) (p : Printer N) (out : List ℕ) (t : Task) (ts : List Task) → stack_of f p.commands.items ≡ t ∷ ts →
+    ByStep f p out ts (step_of p.options t.tree t.indent t.mode (follow ts) (state_of p))
+by_step {N} f p out t ts e = λ whole limit below old l h.
+    stepping p.options whole limit below old t ts (state_of p) out (omega (arith, ap length e))
+    (inside_at p.options whole limit below old (stack_of f p.commands.items) (t ∷ ts) (state_of p) (state_of p) out out (sym e) refl refl h)
+
+lessens_by : {N : Type 0} (f : N → Tree) (p q : Printer N) (piece : Piece) (t : Task) (ts : List Task) (step : Step) →
+    stack_of f p.commands.items ≡ t ∷ ts → LeavesLess (2 * size t.tree + owed (state_of p).pending) step →
+    ShowsAt f (Written piece) step ts q → Lessens f p q turn.Went
+lessens_by {N} f p q piece t ts (Move b pushed u) e less h =
+    omega (arith, ap nodes h.1, nodes-append pushed ts, ap nodes e, ap (λ (x : State). owed x.pending) h.2)
+lessens_by {N} f p q piece t ts Stuck e less h = absurd h
+
+pub lessens : {N : Type 0} (f : N → Tree) (p q : Printer N) (piece : Piece) → TookNext f p q (Written piece) → Lessens f p q turn.Went
+lessens {N} f p q piece h =
+    lessens_by f p q piece h.0 h.1 (step_of p.options h.0.tree h.0.indent h.0.mode (follow h.1) (state_of p)) h.2
+    (step_less p.options h.0.tree h.0.indent h.0.mode (follow h.1) (state_of p)) h.3
+
+went_by : {N : Type 0} (f : N → Tree) (p q : Printer N) (out new : List ℕ) (piece : Piece) (t : Task) (ts : List Task) (step : Step) →
+    ByStep f p out ts step → ShowsAt f (Written piece) step ts q → new ≡ out ++ piece_bytes piece → ForWholes f p out (Goes f p.options q new turn.Went)
+went_by {N} f p q out new piece t ts (Move b pushed u) g h w = λ whole limit below old l k.
+    inside_at p.options whole limit below old (pushed ++ ts) (stack_of f q.commands.items) u (state_of q) (out ++ b) new h.1 h.2 (w ∙ ap (λ (x : List ℕ). out ++ x) h.0) (g whole limit below old l k)
+went_by {N} f p q out new piece t ts Stuck g h w = absurd h
+
+pub went : {N : Type 0} (f : N → Tree) (p q : Printer N) (out new : List ℕ) (piece : Piece) → TookNext f p q (Written piece) → new ≡ out ++ piece_bytes piece → ForWholes f p out (Goes f p.options q new turn.Went)
+went {N} f p q out new piece h w =
+    went_by f p q out new piece h.0 h.1 (step_of p.options h.0.tree h.0.indent h.0.mode (follow h.1) (state_of p)) (by_step f p out h.0 h.1 h.2) h.3 w
+
+failed_by : {N : Type 0} (f : N → Tree) (p q : Printer N) (out : List ℕ) (ts : List Task) (step : Step) → ByStep f p out ts step → ShowsAt f Failed step ts q → ForWholes f p out (Goes f p.options q out turn.Failed)
+failed_by {N} f p q out ts (Move b pushed u) g h = absurd h
+failed_by {N} f p q out ts Stuck g h = λ whole limit below old l k. let e = g whole limit below old l k in (e.0, e.1, e.2, e.3, h ∙ e.4)
+
+pub failed : {N : Type 0} (f : N → Tree) (p q : Printer N) (out : List ℕ) → TookNext f p q Failed → ForWholes f p out (Goes f p.options q out turn.Failed)
+failed {N} f p q out h = failed_by f p q out h.1 (step_of p.options h.0.tree h.0.indent h.0.mode (follow h.1) (state_of p)) (by_step f p out h.0 h.1 h.2) h.3
+
+-- a beginning of the next piece, behind what was written, is a beginning of the whole
+pub beginning_less : (old out new b text : List ℕ) → AppendsBeginning out new b → AppendsBeginning old (out ++ b) text → (front : List ℕ) × (out ≡ old ++ front) → AppendsBeginning old new text
+beginning_less old out new b text p q w =
+    let c : w.0 ++ b ≡ q.0 = append_cancel_left old (w.0 ++ b) q.0 (sym (append_assoc old w.0 b) ∙ ap (λ (x : List ℕ). x ++ b) (sym w.1) ∙ q.3) in (
+      w.0 ++ p.0,
+      p.1 ++ q.1,
+      q.2 ∙ ap (λ (x : List ℕ). x ++ q.1) (sym c ∙ ap (λ (x : List ℕ). w.0 ++ x) p.2 ∙ sym (append_assoc w.0 p.0 p.1)) ∙ append_assoc (w.0 ++ p.0) p.1 q.1,
+      p.3 ∙ ap (λ (x : List ℕ). x ++ p.0) w.1 ∙ append_assoc old w.0 p.0,
+    )
+
+pub sink_broke : {N : Type 0} (f : N → Tree) (p q : Printer N) (out new : List ℕ) (piece : Piece) → TookNext f p q (Written piece) → AppendsBeginning out new (piece_bytes piece) →
+    ForWholes f p out (λ whole limit below old. AppendsBeginning old new (bytes_before whole))
+sink_broke {N} f p q out new piece h part = λ whole limit below old l k.
+    let i = went f p q out (out ++ piece_bytes piece) piece h refl whole limit below old l k in
+    beginning_less old out new (piece_bytes piece) (bytes_before whole) part
+    (inside_beginning p.options whole limit below old (stack_of f q.commands.items) (state_of q) (out ++ piece_bytes piece) i) (k.bytes, k.out_is)

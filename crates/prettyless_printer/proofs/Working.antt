@@ -1,0 +1,60 @@
+-- A run of turns.
+use Rattle.std.proofs.Common.{◌≡◌, ℕ, ◌<◌, ◌≤◌, List, [], ◌++◌, length, ap, sym, ◌∙◌, append-nil, arith, subst, Err}
+use Rattle.prettyless_sink.specs.Sink.{AppendsBeginning, rise}
+use Rattle.prettyless_sink.specs.declared.options.RenderOptions.{RenderOptions}
+use Rattle.prettyless_sink.specs.declared.error.RenderError.{RenderError}
+use Rattle.prettyless_sink.specs.declared.error.RenderError.TheVariants.{Document, Sink, Memory}
+use Rattle.prettyless_model.specs.Tree.{Tree}
+use Rattle.prettyless_model.specs.Layout.{Outcome, Done}
+use Rattle.prettyless_model.proofs.Outcomes.{after-nil}
+use Rattle.prettyless_printer.specs.Stack.{Task, stack_of}
+use Rattle.prettyless_printer.specs.Steps.{work}
+use Rattle.prettyless_printer.specs.Printing.{state_of}
+use Rattle.prettyless_printer.specs.Progress.{Inside}
+use Rattle.prettyless_printer.specs.Turns.{bytes_before, ForWholes, Turned}
+use Rattle.prettyless_printer.specs.Renders.{rest_of, Stopped}
+use Rattle.prettyless_printer.proofs.Progresses.{inside_beginning, inside_end}
+use Rattle.prettyless_printer.specs.declared.printer.Printer.{Printer}
+
+abbrev limit_at : {N : Type 0} → (N → Tree) → Printer N → ℕ
+limit_at f p = work (stack_of f p.commands.items) (state_of p)
+
+-- some of the work of p is done, and q has the rest
+abbrev pub Working : {N : Type 0} → (N → Tree) → Printer N → Printer N → List ℕ → List ℕ → Type 0
+Working f p q old out = Inside p.options (rest_of f p) (limit_at f p) [] old (stack_of f q.commands.items) (state_of q) out
+
+pub working_begins : {N : Type 0} (f : N → Tree) (p : Printer N) (out : List ℕ) → Working f p p out out
+working_begins {N} f p out = record {
+  above = stack_of f p.commands.items;
+  bytes = [];
+  stack_is = sym (append-nil (stack_of f p.commands.items));
+  out_is = sym (append-nil out);
+  same = after-nil (rest_of f p);
+  bound = omega arith;
+}
+
+-- what a turn says, at the whole of the work
+pub working_turn : {N : Type 0} (f : N → Tree) (p q : Printer N) (old out : List ℕ) (goal : RenderOptions → Outcome → ℕ → List Task → List ℕ → Type 0) → q.options ≡ p.options → 0 < length (stack_of f q.commands.items) →
+    Working f p q old out → ForWholes f q out (goal q.options) → goal p.options (rest_of f p) (limit_at f p) [] old
+working_turn {N} f p q old out goal e l y h =
+    subst (λ (w : RenderOptions). goal w (rest_of f p) (limit_at f p) [] old) e
+    (h (rest_of f p) (limit_at f p) [] old l
+    (subst (λ (w : RenderOptions). Inside w (rest_of f p) (limit_at f p) [] old (stack_of f q.commands.items) (state_of q) out) (sym e) y))
+
+working_beginning : {N : Type 0} (f : N → Tree) (p q : Printer N) (old out : List ℕ) → Working f p q old out → AppendsBeginning old out (bytes_before (rest_of f p))
+working_beginning {N} f p q old out y = inside_beginning p.options (rest_of f p) (limit_at f p) [] old (stack_of f q.commands.items) (state_of q) out y
+
+-- a turn that broke off
+pub turn_broke : {N E : Type 0} (f : N → Tree) (p v q : Printer N) (fails : E → Type 0) (old out new : List ℕ) (n k m : ℕ) (e : RenderError E) → v.options ≡ p.options → 0 < length (stack_of f v.commands.items) →
+    Working f p v old out → k ≡ n → Turned f v q out new k m (Err e) → Stopped fails (rest_of f p) old new n m e
+turn_broke {N} {E} f p v q fails old out new n k m (Document e) w l y a h = absurd h
+turn_broke {N} {E} f p v q fails old out new n k m (Sink e) w l y a h =
+    (working_turn f p v old out (λ (w : RenderOptions) whole limit below o. AppendsBeginning o new (bytes_before whole)) w l y h.0, h.1 ∙ ap rise a)
+turn_broke {N} {E} f p v q fails old out new n k m (Memory e) w l y a h =
+    (subst (λ (x : List ℕ). AppendsBeginning old x (bytes_before (rest_of f p))) (sym h.0) (working_beginning f p v old out y), h.1 ∙ a)
+
+-- no command is left
+pub working_end : {N : Type 0} (f : N → Tree) (p q : Printer N) (old out : List ℕ) → Working f p q old out → length (stack_of f q.commands.items) ≤ 0 → (bytes : List ℕ) × (rest_of f p ≡ Done bytes (state_of q)) × (out ≡ old ++ bytes)
+working_end {N} f p q old out y l =
+    let e = inside_end p.options (rest_of f p) (limit_at f p) [] old (stack_of f q.commands.items) (state_of q) out y l in
+    (e.0, e.2, e.1)

@@ -1,0 +1,16 @@
+use Rattle.std.proofs.Common.{◌≡◌, ◌++◌, ◌+◌, ◌≤◌, length, take, false}
+use Rattle.prettyless_model.specs.Reading.{fits, reading}
+use Rattle.prettyless_model.specs.Layout.{rest_atoms}
+use Rattle.prettyless_printer.specs.Stack.{stack_of, follow, read_tasks, nodes}
+use Rattle.prettyless_printer.proofs.probe.probe.Given as goal
+
+abbrev pub invariant-loop-command : goal.invariant-loop-command
+invariant-loop-command g l = record {
+  within : l.below ≤ length l.commands;
+  same : fits l.width l.column false (read_tasks (stack_of g.N.Walk.tree l.stack.items) ++ rest_atoms (follow (stack_of g.N.Walk.tree (take l.below l.commands))))
+      ≡ fits l.width l.fn.start false (reading (g.N.Walk.tree l.fn.node) l.fn.mode ++ rest_atoms (follow (stack_of g.N.Walk.tree l.commands)));
+}
+
+abbrev pub decreases-loop-command : goal.decreases-loop-command
+decreases-loop-command g l =
+    nodes (stack_of g.N.Walk.tree l.stack.items) + nodes (stack_of g.N.Walk.tree (take l.below l.commands))

@@ -1,0 +1,45 @@
+-- What a turn does to the work: it takes some of it away, and carries it on inside every whole that it was inside of.
+use Rattle.std.specs.Prelude.{◌≡◌, ℕ, ◌<◌, List, ◌++◌, length, Result, Ok, Err}
+use Rattle.prettyless_sink.specs.Sink.{AppendsBeginning, rise}
+use Rattle.prettyless_sink.specs.declared.options.RenderOptions.{RenderOptions}
+use Rattle.prettyless_sink.specs.declared.error.RenderError.{RenderError}
+use Rattle.prettyless_sink.specs.declared.error.RenderError.TheVariants.{Document, Sink, Memory}
+use Rattle.prettyless_model.specs.Tree.{Tree}
+use Rattle.prettyless_model.specs.Layout as layout
+use Rattle.prettyless_model.specs.Layout.{Outcome, Done}
+use Rattle.prettyless_printer.specs.Stack.{Task, stack_of}
+use Rattle.prettyless_printer.specs.Steps.{work}
+use Rattle.prettyless_printer.specs.Printing.{state_of}
+use Rattle.prettyless_printer.specs.Progress.{Inside}
+use Rattle.prettyless_printer.specs.declared.printer.Printer.{Printer}
+use Rattle.prettyless_printer.specs.declared.printer.Turn.{Turn}
+use Rattle.prettyless_printer.specs.declared.printer.Turn.TheVariants.{Went, Failed}
+
+-- the bytes of an outcome, done or not
+abbrev pub bytes_before : Outcome → List ℕ
+bytes_before (Done b st) = b
+bytes_before (layout.Failed b) = b
+
+-- for every whole that the printer's work was inside of
+abbrev pub ForWholes : {N : Type 0} → (N → Tree) → Printer N → List ℕ → (Outcome → ℕ → List Task → List ℕ → Type 0) → Type 0
+ForWholes f p out goal =
+    (whole : Outcome) (limit : ℕ) (below : List Task) (old : List ℕ) → length below < length (stack_of f p.commands.items) →
+    Inside p.options whole limit below old (stack_of f p.commands.items) (state_of p) out → goal whole limit below old
+
+-- what holds after a turn: the work is inside the whole, or the whole fails behind what was written
+abbrev pub Goes : {N : Type 0} → (N → Tree) → RenderOptions → Printer N → List ℕ → Turn → Outcome → ℕ → List Task → List ℕ → Type 0
+Goes f o q out Went whole limit below old = Inside o whole limit below old (stack_of f q.commands.items) (state_of q) out
+Goes f o q out Failed whole limit below old =
+    (bytes : List ℕ) × (above : List Task) × (out ≡ old ++ bytes) × (whole ≡ layout.Failed bytes) × (stack_of f q.commands.items ≡ above ++ below)
+
+-- work is taken away
+abbrev pub Lessens : {N : Type 0} → (N → Tree) → Printer N → Printer N → Turn → Type 0
+Lessens f p q Went = work (stack_of f q.commands.items) (state_of q) < work (stack_of f p.commands.items) (state_of p)
+Lessens f p q Failed = Unit {0}
+
+-- what a turn leaves in a sink that tells its bytes
+abbrev pub Turned : {N E : Type 0} → (N → Tree) → Printer N → Printer N → List ℕ → List ℕ → ℕ → ℕ → Result Turn (RenderError E) → Type 0
+Turned f p q out new n m (Ok r) = ForWholes f p out (Goes f p.options q new r) × (m ≡ n)
+Turned f p q out new n m (Err (Document e)) = ⊥
+Turned f p q out new n m (Err (Sink e)) = ForWholes f p out (λ whole limit below old. AppendsBeginning old new (bytes_before whole)) × (m ≡ rise n)
+Turned f p q out new n m (Err (Memory e)) = (new ≡ out) × (m ≡ n)

@@ -1,0 +1,17 @@
+use prettyless_model::mode::Mode;
+use std::alloc::AllocError;
+
+/// A node that is still to be laid, with its indent in columns and its mode.
+pub struct Command<N> {
+    pub indent: usize,
+    pub mode: Mode,
+    pub node: N,
+}
+
+impl<N: Copy> Clone for Command<N> {
+    fn clone(&self) -> Result<Self, AllocError> {
+        Ok(*self)
+    }
+}
+
+impl<N: Copy> Copy for Command<N> {}

@@ -1,0 +1,10 @@
+use Rattle.std.proofs.Common.{◌≡◌, ◌++◌, ◌≤◌, ◌-◌}
+use Rattle.prettyless_sink.specs.Spaces.{spaces}
+use Rattle.prettyless_sink.proofs.pieces.write_spaces.Given as goal
+
+abbrev pub invariant-loop-left : goal.invariant-loop-left
+invariant-loop-left g l = (l.left ≤ l.count)
+    × (g.W.Render.tells l.fn.out → g.W.Render.tells l.out × (g.W.Render.written l.out ≡ g.W.Render.written l.fn.out ++ spaces (l.count - l.left)) × (g.W.Render.failures l.out ≡ g.W.Render.failures l.fn.out))
+
+abbrev pub decreases-loop-left : goal.decreases-loop-left
+decreases-loop-left g l = l.left

@@ -1,0 +1,57 @@
+//! Gaps and texts, written in pieces.
+ghost use Rattle.std.specs.Prelude.{◌≡◌, ◌++◌, ◌≤◌, OnOk, OnErr};
+ghost use Rattle.prettyless_sink.specs.Sink.{AppendsBeginning, rise};
+ghost use Rattle.prettyless_sink.specs.Spaces.{spaces};
+
+use crate::render::Render;
+
+const HUNDRED_SPACES: &str =
+    "                                                                                                    ";
+
+/// Writes `gap` spaces and then the text.
+///
+/// The spaces go out in pieces of at most 100 bytes and the text in a piece of its own; no piece is empty.
+/// An error is the sink's: it then has a beginning of the spaces and the text, and got no piece after that.
+#[inline]
+pub fn write_gap_and_text<W: Render>(out: &mut W, gap: usize, text: &str) -> Result<(), W::Error>
+    ensures ok { OnOk result (W.tells out.old → W.tells out.new
+        × (W.written out.new ≡ W.written out.old ++ (spaces gap ++ text.now)) × (W.failures out.new ≡ W.failures out.old)) }
+    ensures err { OnErr result (W.tells out.old → W.tells out.new
+        × AppendsBeginning (W.written out.old) (W.written out.new) (spaces gap ++ text.now) × (W.failures out.new ≡ rise (W.failures out.old))) }
+{
+    if gap > 0 {
+        write_spaces(out, gap)?;
+    }
+    if text.is_empty() {
+        return Ok(());
+    }
+    out.write_str_all(text)
+}
+
+// Writes so many spaces, or fails behind fewer.
+fn write_spaces<W: Render>(out: &mut W, count: usize) -> Result<(), W::Error>
+    ensures ok { OnOk result (W.tells out.old → W.tells out.new
+        × (W.written out.new ≡ W.written out.old ++ spaces count) × (W.failures out.new ≡ W.failures out.old)) }
+    ensures err { OnErr result (W.tells out.old → W.tells out.new
+        × AppendsBeginning (W.written out.old) (W.written out.new) (spaces count) × (W.failures out.new ≡ rise (W.failures out.old))) }
+{
+    let mut left = count;
+    while left > 0 {
+        let piece = left.min(100);
+        out.write_str_all(some_spaces(piece))?;
+        left -= piece;
+    }
+    Ok(())
+}
+
+// A text of at most 100 spaces.
+#[inline]
+fn some_spaces(count: usize) -> &'static str
+    requires { count ≤ 100 }
+    ensures { result.now ≡ spaces count }
+{
+    &HUNDRED_SPACES[..count]
+}
+
+#[cfg(test)]
+mod tests;
