@@ -4,6 +4,13 @@ use Rattle.std.specs.Io.KnownBytes.{Appends}
 use Rattle.sexp.specs.declared.error.RunError.{RunError}
 use Rattle.sexp.specs.declared.error.RunError.TheVariants.{NotAnSexp, Memory, Read, Write}
 
+-- memory was refused
+abbrev pub IsMemory : RunError → Type 0
+IsMemory NotAnSexp = ⊥
+IsMemory (Memory e) = Unit {0}
+IsMemory (Read e) = ⊥
+IsMemory (Write e) = ⊥
+
 -- the reader failed, or memory was refused
 abbrev pub IsReading : RunError → Type 0
 IsReading NotAnSexp = ⊥

@@ -1,6 +1,7 @@
 ghost use Rattle.std.specs.Prelude.{◌≡◌, alloc_error};
 ghost use Rattle.sexp.specs.declared.error.RunError.TheVariants.{Memory};
 
+use prettyless::text::BuildError;
 use std::alloc::{AllocError, AllocFailed};
 use std::io;
 
@@ -30,5 +31,17 @@ impl<T: Drop> From<AllocFailed<T>> for RunError {
 
     fn from(error: AllocFailed<T>) -> RunError {
         RunError::Memory(AllocError::from(error))
+    }
+}
+
+impl From<BuildError> for RunError {
+    ghost from_gives = { λ _ r. r ≡ Memory alloc_error };
+
+    // A document of numbers and lists is refused for want of memory alone.
+    fn from(error: BuildError) -> RunError {
+        match error {
+            BuildError::Memory(error) => RunError::Memory(error),
+            BuildError::Display => RunError::Memory(AllocError),
+        }
     }
 }
