@@ -3,7 +3,7 @@ use Rattle.std.proofs.Common.{◌≡◌, ℕ, ◌<◌, List, [], ◌∷◌, ◌+
 use Rattle.std.specs.Prelude.{OnOk, OnErr, IfErr}
 use Rattle.std.specs.Io.KnownBytes.{Appends, Consumes, IsAtEnd}
 use Rattle.std.proofs.lemmas.List.{append-nil}
-use Rattle.prettyless_model.specs.Layout.{Whole, bytes_in}
+use Rattle.prettyless.specs.Layout.{Whole, bytes_in}
 use Rattle.sexp.specs.Value.{Value}
 use Rattle.sexp.specs.Grammar.{line_feed, Reads}
 use Rattle.sexp.specs.Transfer.{IsWriting, AppendsBeginning}

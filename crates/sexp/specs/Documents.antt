@@ -1,7 +1,7 @@
 -- The document of a value, as a tree.
 use Rattle.std.specs.Prelude.{pos, [], ◌∷◌}
 use Rattle.std.specs.Fmt.{decimal}
-use Rattle.prettyless_model.specs.Tree.{Tree, Nil, Text}
+use Rattle.prettyless.specs.Tree.{Tree, Nil, Text}
 use Rattle.prettyless.specs.Built.{append, nest, group, line}
 use Rattle.sexp.specs.Value.{Value, Values, number, list, none, first}
 use Rattle.sexp.specs.Grammar.{opening, closing}

@@ -1,8 +1,8 @@
 -- What a run reads and writes.
 use Rattle.std.specs.Prelude.{◌≡◌, ◌⊎◌, ℕ, List, [], ◌∷◌, ◌++◌, Option, IfSome, Result, Ok, Err}
 use Rattle.std.specs.Io.KnownBytes.{Keeps, Appends}
-use Rattle.prettyless_sink.specs.Options.{options_at}
-use Rattle.prettyless_model.specs.Layout.{Bytes, Whole, layout, bytes_in}
+use Rattle.prettyless.specs.Options.{options_at}
+use Rattle.prettyless.specs.Layout.{Bytes, Whole, layout, bytes_in}
 use Rattle.sexp.specs.Value.{Value}
 use Rattle.sexp.specs.Grammar.{line_feed, Reads}
 use Rattle.sexp.specs.Documents.{document_of}

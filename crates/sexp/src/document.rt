@@ -1,15 +1,14 @@
 ghost use Rattle.std.specs.Prelude.{◌≡◌, IfOk, IfErr};
 ghost use Rattle.prettyless.specs.BuildErrors.{IsMemory};
 ghost use Rattle.prettyless.specs.DocTree.{built};
-ghost use Rattle.prettyless_pointers.specs.Trees.{box_tree};
+ghost use Rattle.prettyless.specs.Trees.{box_tree};
 ghost use Rattle.sexp.specs.Value.{values_of};
 ghost use Rattle.sexp.specs.View.{value_of, values_in};
 ghost use Rattle.sexp.specs.Documents.{document_of, interspersed};
 
 use crate::expression::SExp;
 use prettyless::text::{BuildError, CowStr};
-use prettyless::{DocAllocator, DocBuilder};
-use prettyless_pointers::boxes::BoxAllocator;
+use prettyless::{BoxAllocator, DocAllocator, DocBuilder};
 use std::alloc::Global;
 
 /// The document of an S-expression, with its nodes in these boxes and its texts in `alloc`.

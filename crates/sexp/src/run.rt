@@ -1,5 +1,5 @@
 ghost use Rattle.std.specs.Prelude.{◌≡◌, IfOk, IfErr, string_bytes};
-ghost use Rattle.prettyless_model.specs.Layout.{Whole};
+ghost use Rattle.prettyless.specs.Layout.{Whole};
 ghost use Rattle.sexp.specs.View.{value_of};
 ghost use Rattle.sexp.specs.Transfer.{IsMemory};
 ghost use Rattle.sexp.specs.Runs.{Runs, layout_of};
@@ -10,7 +10,7 @@ use crate::expression::SExp;
 use crate::input::read_input;
 use crate::output::write_text;
 use crate::parse::parse;
-use prettyless_pointers::BoxAllocator;
+use prettyless::BoxAllocator;
 use std::alloc::{AllocError, Global};
 use std::io::{Read, Write};
 

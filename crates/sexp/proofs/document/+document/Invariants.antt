@@ -1,6 +1,6 @@
 use Rattle.std.proofs.Common.{◌≡◌, drop}
 use Rattle.prettyless.specs.DocTree.{built}
-use Rattle.prettyless_pointers.specs.Trees.{box_tree}
+use Rattle.prettyless.specs.Trees.{box_tree}
 use Rattle.sexp.specs.Value.{values_of}
 use Rattle.sexp.specs.View.{values_in}
 use Rattle.sexp.specs.Documents.{interspersed, followed_by}
