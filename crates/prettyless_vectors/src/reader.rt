@@ -51,7 +51,7 @@ impl<'a> Reader<'a> {
 }
 
 // The document that is written so, and nothing behind it.
-pub fn read(memory: Global, written: &str) -> Result<BoxDoc<'_>, Fail> {
+pub(crate) fn read(memory: Global, written: &str) -> Result<BoxDoc<'_>, Fail> {
     let mut reader = Reader {
         memory,
         rest: written,
