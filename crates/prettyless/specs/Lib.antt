@@ -3,3 +3,10 @@ pub use Rattle.prettyless_doc.specs.BuildErrors
 pub use Rattle.prettyless_doc.specs.DocTree
 pub use Rattle.prettyless_doc.specs.TextBytes
 pub use Rattle.prettyless_doc.specs.Tree
+pub use Rattle.prettyless_model.specs.Column
+pub use Rattle.prettyless_model.specs.Layout
+pub use Rattle.prettyless_model.specs.Reading
+pub use Rattle.prettyless_pointers.specs.Trees
+pub use Rattle.prettyless_printer.specs.Renders
+pub use Rattle.prettyless_sink.specs.Options
+pub use Rattle.prettyless_sink.specs.Sink

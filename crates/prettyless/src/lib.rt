@@ -7,3 +7,5 @@
 
 pub use prettyless_build::{DocAllocator, DocBuilder, Pretty};
 pub use prettyless_doc::{BuildDoc, Doc, DocPlace, DocPtr, text};
+pub use prettyless_pointers::{BoxAllocator, BoxDoc};
+pub use prettyless_sink::error::RenderError;

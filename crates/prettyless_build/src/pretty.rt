@@ -1,7 +1,7 @@
 ghost use Rattle.std.specs.Prelude.{◌≡◌, IfOk, IfErr};
 ghost use Rattle.prettyless_doc.specs.Tree.{Tree};
 ghost use Rattle.prettyless_doc.specs.DocTree.{tree_of, built};
-ghost use Rattle.prettyless_doc.specs.declared.text.BuildError.{BuildError as BuildErrorType};
+ghost use Rattle.prettyless_doc.specs.declared.text.BuildError.{BuildError};
 
 use crate::builder::DocBuilder;
 use prettyless_doc::{BuildDoc, BuildError, Doc, DocPlace};
@@ -12,7 +12,7 @@ pub trait Pretty<'a, D: DocPlace<'a>> {
     ghost becomes: { Self → Tree → Type 0 };
 
     // the errors that it may answer in place of a tree
-    ghost refuses: { Self → BuildErrorType → Type 0 };
+    ghost refuses: { Self → BuildError → Type 0 };
 
     /// The document that it becomes, in `allocator`.
     fn pretty(self, allocator: &'a D) -> Result<DocBuilder<'a, D>, BuildError>

@@ -1,0 +1,9 @@
+pub mod Documents
+pub mod Endings
+pub mod Fronts
+pub mod Grammar
+pub mod Runs
+pub mod Transfer
+pub mod Value
+pub mod View
+pub mod Words

@@ -1,0 +1,31 @@
+-- What an S-expression stands for, wherever it lies in memory.
+use Rattle.std.specs.Prelude.{ℕ, suc, max, List, [], ◌∷◌}
+
+mutual
+  -- a number, or a list of values
+  pub data Value : Type 0 where
+    number : ℕ → Value
+    list : Values → Value
+
+  -- the values of a list, in order
+  pub data Values : Type 0 where
+    none : Values
+    first : Value → Values → Values
+
+-- how many parentheses are open at once, at most
+abbrev mutual
+  pub depth : Value → ℕ
+  depth (number n) = 0
+  depth (list vs) = suc (depth_of_all vs)
+
+  pub depth_of_all : Values → ℕ
+  depth_of_all none = 0
+  depth_of_all (first v vs) = max (depth v) (depth_of_all vs)
+
+-- these values, and then the others
+abbrev pub joined : List Value → Values → Values
+joined [] vs = vs
+joined (w ∷ ws) vs = first w (joined ws vs)
+
+abbrev pub values_of : List Value → Values
+values_of ws = joined ws none

@@ -1,0 +1,58 @@
+//! Lays an S-expression out: `sexp WIDTH` reads one from standard input, and writes its layout within this many columns
+//! to standard output.
+#![tactic(auto)]
+
+mod document;
+mod ending;
+mod error;
+mod expression;
+mod input;
+mod number;
+mod output;
+mod parse;
+mod run;
+mod words;
+
+pub use ending::Ending;
+pub use error::RunError;
+pub use expression::SExp;
+pub use parse::parse;
+pub use run::run;
+use std::io::ErrorKind;
+use std::process::ExitCode;
+use std::rt::Env;
+use std::{env, io};
+pub use words::width;
+
+// The words behind the program's name. One that is no text is a bad word, like any that asks for no width.
+fn arguments<R: Env + AllocGlobal>(rt: &R) -> Result<Vec<String>, Ending> {
+    let words = env::args(rt).map_err(|error| match error.kind() {
+        ErrorKind::OutOfMemory => Ending::Failed,
+        _ => Ending::BadWords,
+    })?;
+    words
+        .skip(1)
+        .collect(rt.alloc())
+        .map_err(|_| Ending::Failed)
+}
+
+fn lay_out<R: Env + AllocGlobal + Input + Print>(rt: &R) -> Result<(), Ending> {
+    let words = arguments(rt)?;
+    let width = width(&words).ok_or(Ending::BadWords)?;
+    run(rt.alloc(), width, &mut rt.reader(), &mut io::writer(rt))?;
+    Ok(())
+}
+
+fn main(rt: HostRuntime) -> ExitCode {
+    match lay_out(&rt) {
+        Ok(()) => ExitCode::SUCCESS,
+        Err(ending) => {
+            // Where standard error takes no message, the status still tells.
+            let _ = rt.eprintln(ending.message());
+            ExitCode::from(ending.status())
+        }
+    }
+}
+
+#[cfg(test)]
+mod tests;
