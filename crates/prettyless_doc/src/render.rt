@@ -18,7 +18,12 @@ impl<'a, T: DocPtr<'a>> Doc<'a, T> {
     ///
     /// On success all bytes of the layout were appended. Where the document fails, the bytes before the failing node
     /// were. Where `out` could not grow (`Sink`) or no memory was had (`Memory`), a beginning of the layout's bytes was.
-    pub fn render_fmt(&self, alloc: Global, width: usize, out: &mut String) -> Result<(), RenderError<fmt::Error>>
+    pub fn render_fmt(
+        &self,
+        alloc: Global,
+        width: usize,
+        out: &mut String,
+    ) -> Result<(), RenderError<fmt::Error>>
         ensures { RendersInto (layout (options_at width) (tree_of T.tree self.now)) (string_bytes out.old) (string_bytes out.new) result }
     {
         let text = mem::replace(out, String::new(alloc));

@@ -25,8 +25,8 @@ line = BreakOrFlat HardLine (Text (codes " "))
 abbrev pub numbers : Tree
 numbers =
     Append (Append (Text (codes "("))
-      (Group (Nest (pos 1) (Append (Append (Append (Append (Text (codes "1")) line) (Text (codes "2"))) line) (Text (codes "3"))))))
-      (Text (codes ")"))
+    (Group (Nest (pos 1) (Append (Append (Append (Append (Text (codes "1")) line) (Text (codes "2"))) line) (Text (codes "3"))))))
+    (Text (codes ")"))
 
 -- two words and a line between them, in a group
 abbrev pub pair : List ℕ → List ℕ → Tree

@@ -9,8 +9,7 @@ ghost use Rattle.prettyless_model.specs.Rows.{Shows, below, crlf_at, deferred_at
 pub fn law_levels()
     ensures more { MoreLevelsChangeNothing }
     ensures enough { FewerSuffixesThanNodes }
-{
-}
+{}
 
 /// Layouts of small documents, as the definitions compute them.
 pub fn worked_rows()
@@ -35,5 +34,4 @@ pub fn worked_rows()
     ensures crlf { layout (crlf_at 80)
         (Append (Append (Nest (pos 2) (Append (Append (Text (codes "x")) HardLine) (Text (codes "y")))) HardLine) (Text (codes "z")))
         ≡ Whole (codes "x\r\n  y\r\nz") }
-{
-}
+{}
