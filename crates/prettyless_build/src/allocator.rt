@@ -1,6 +1,6 @@
 ghost use Rattle.std.specs.Prelude.{◌≡◌, IfOk, IfErr, IsOkAnd};
 ghost use Rattle.std.specs.Cow.{cow_str_bytes};
-ghost use Rattle.prettyless_doc.specs.Tree.{Nil, Text as TextTree, HardLine, BreakOrFlat};
+ghost use Rattle.prettyless_doc.specs.Tree.{Nil, Fail, Text as TextTree, WeakSpace, HardLine, WeakLine, ExpandParent, BreakOrFlat};
 ghost use Rattle.prettyless_doc.specs.BuildErrors.{IsMemory};
 ghost use Rattle.prettyless_doc.specs.DocTree.{tree_of, built};
 ghost use Rattle.prettyless_build.specs.Built as to;
@@ -22,6 +22,10 @@ pub trait DocAllocator<'a>: DocPlace<'a> {
     fn nil(&'a self) -> Result<DocBuilder<'a, Self>, BuildError>
         ensures { IsOkAnd result (λ b. built Self.Doc.tree b.1 ≡ Nil) };
 
+    /// A document that fails. It takes no memory.
+    fn fail(&'a self) -> Result<DocBuilder<'a, Self>, BuildError>
+        ensures { IsOkAnd result (λ b. built Self.Doc.tree b.1 ≡ Fail) };
+
     /// A text that counts as one column a byte, also where it is empty or not ASCII. It takes no
     /// memory.
     fn ascii_text(&'a self, text: CowStr<'a>) -> Result<DocBuilder<'a, Self>, BuildError>
@@ -32,9 +36,26 @@ pub trait DocAllocator<'a>: DocPlace<'a> {
     fn hard_line(&'a self) -> Result<DocBuilder<'a, Self>, BuildError>
         ensures { IsOkAnd result (λ b. built Self.Doc.tree b.1 ≡ HardLine) };
 
+    /// `hard_line` by another name.
+    fn hardline(&'a self) -> Result<DocBuilder<'a, Self>, BuildError>
+        ensures { IsOkAnd result (λ b. built Self.Doc.tree b.1 ≡ HardLine) };
+
+    /// A line break, which is nothing on a fresh line where no suffix is pending. It takes no memory.
+    fn weak_line(&'a self) -> Result<DocBuilder<'a, Self>, BuildError>
+        ensures { IsOkAnd result (λ b. built Self.Doc.tree b.1 ≡ WeakLine) };
+
     /// The text of one space. It takes no memory.
     fn space(&'a self) -> Result<DocBuilder<'a, Self>, BuildError>
         ensures { IsOkAnd result (λ b. built Self.Doc.tree b.1 ≡ to.space) };
+
+    /// A space, which is nothing at the start of a line, nor at its end unless a suffix follows
+    /// there. It takes no memory.
+    fn weak_space(&'a self) -> Result<DocBuilder<'a, Self>, BuildError>
+        ensures { IsOkAnd result (λ b. built Self.Doc.tree b.1 ≡ WeakSpace) };
+
+    /// Nothing, but what holds it does not fit a line. It takes no memory.
+    fn expand_parent(&'a self) -> Result<DocBuilder<'a, Self>, BuildError>
+        ensures { IsOkAnd result (λ b. built Self.Doc.tree b.1 ≡ ExpandParent) };
 
     /// A line break, or one space where lines are flat. It fails where no memory was had.
     fn line(&'a self) -> Result<DocBuilder<'a, Self>, BuildError>
@@ -44,6 +65,16 @@ pub trait DocAllocator<'a>: DocPlace<'a> {
     /// A line break, or nothing where lines are flat. It fails where no memory was had.
     fn line_(&'a self) -> Result<DocBuilder<'a, Self>, BuildError>
         ensures ok { IfOk result (λ b. built Self.Doc.tree b.1 ≡ to.line_) }
+        ensures err { IfErr result IsMemory };
+
+    /// One space, or a line break where the line has no room. It fails where no memory was had.
+    fn softline(&'a self) -> Result<DocBuilder<'a, Self>, BuildError>
+        ensures ok { IfOk result (λ b. built Self.Doc.tree b.1 ≡ to.softline) }
+        ensures err { IfErr result IsMemory };
+
+    /// Nothing, or a line break where the line has no room. It fails where no memory was had.
+    fn softline_(&'a self) -> Result<DocBuilder<'a, Self>, BuildError>
+        ensures ok { IfOk result (λ b. built Self.Doc.tree b.1 ≡ to.softline_) }
         ensures err { IfErr result IsMemory };
 }
 
@@ -77,6 +108,10 @@ impl<'a, D: DocPlace<'a>> DocAllocator<'a> for D {
         Ok(DocBuilder::new(self, Doc::Nil))
     }
 
+    fn fail(&'a self) -> Result<DocBuilder<'a, D>, BuildError> {
+        Ok(DocBuilder::new(self, Doc::Fail))
+    }
+
     fn ascii_text(&'a self, text: CowStr<'a>) -> Result<DocBuilder<'a, D>, BuildError> {
         let text = Text::from_cow(self.memory(), text)?;
         Ok(DocBuilder::new(self, Doc::Text(text)))
@@ -86,8 +121,24 @@ impl<'a, D: DocPlace<'a>> DocAllocator<'a> for D {
         Ok(DocBuilder::new(self, Doc::HardLine))
     }
 
+    fn hardline(&'a self) -> Result<DocBuilder<'a, D>, BuildError> {
+        self.hard_line()
+    }
+
+    fn weak_line(&'a self) -> Result<DocBuilder<'a, D>, BuildError> {
+        Ok(DocBuilder::new(self, Doc::WeakLine))
+    }
+
     fn space(&'a self) -> Result<DocBuilder<'a, D>, BuildError> {
         Ok(DocBuilder::new(self, Doc::Text(Text::Borrowed(" "))))
+    }
+
+    fn weak_space(&'a self) -> Result<DocBuilder<'a, D>, BuildError> {
+        Ok(DocBuilder::new(self, Doc::WeakSpace))
+    }
+
+    fn expand_parent(&'a self) -> Result<DocBuilder<'a, D>, BuildError> {
+        Ok(DocBuilder::new(self, Doc::ExpandParent))
     }
 
     fn line(&'a self) -> Result<DocBuilder<'a, D>, BuildError> {
@@ -96,5 +147,13 @@ impl<'a, D: DocPlace<'a>> DocAllocator<'a> for D {
 
     fn line_(&'a self) -> Result<DocBuilder<'a, D>, BuildError> {
         line_or(self, Doc::Nil)
+    }
+
+    fn softline(&'a self) -> Result<DocBuilder<'a, D>, BuildError> {
+        self.line()?.group()
+    }
+
+    fn softline_(&'a self) -> Result<DocBuilder<'a, D>, BuildError> {
+        self.line_()?.group()
     }
 }

@@ -1,13 +1,13 @@
-ghost use Rattle.std.specs.Prelude.{◌≡◌, ◌⊎◌, IfOk, IfErr, IsTrue};
-ghost use Rattle.prettyless_doc.specs.Tree.{Tree, BreakOrFlat};
+ghost use Rattle.std.specs.Prelude.{◌≡◌, ◌⊎◌, IfOk, IfErr, IsOkAnd, IsTrue};
+ghost use Rattle.prettyless_doc.specs.Tree.{Tree, Fail};
 ghost use Rattle.prettyless_doc.specs.BuildErrors.{IsMemory};
-ghost use Rattle.prettyless_doc.specs.DocTree.{built};
+ghost use Rattle.prettyless_doc.specs.DocTree.{tree_of, built};
 ghost use Rattle.prettyless_doc.specs.declared.doc.BuildDoc.TheVariants.{Doc as Plain};
 ghost use Rattle.prettyless_build.specs.Built as to;
 
 use crate::allocator::DocAllocator;
 use crate::pretty::Pretty;
-use prettyless_doc::{BuildDoc, BuildError, Doc, DocPlace, DocPtr};
+use prettyless_doc::{BuildDoc, BuildError, Doc, DocPlace};
 
 /// A document in the making, and the place of its nodes.
 pub struct DocBuilder<'a, D: DocPlace<'a>>(pub &'a D, pub BuildDoc<'a, D::Doc>);
@@ -28,6 +28,13 @@ impl<'a, D: DocPlace<'a>> DocBuilder<'a, D> {
         DocBuilder(allocator, BuildDoc::Doc(doc))
     }
 
+    /// The node, wherever it is.
+    pub fn doc(&self) -> &Doc<'a, D::Doc>
+        ensures { tree_of D.Doc.tree result.now ≡ built D.Doc.tree self.now.1 }
+    {
+        self.1.doc()
+    }
+
     /// A pointer to the document: its own where it has one, which takes no memory, and else that of
     /// a new node, or an error where no memory was had.
     pub fn into_doc(self) -> Result<D::Doc, BuildError>
@@ -39,12 +46,6 @@ impl<'a, D: DocPlace<'a>> DocBuilder<'a, D> {
         allocator.alloc_cow(doc)
     }
 
-    fn is_nil(&self) -> bool
-        ensures { result ≡ to.is_nil (built D.Doc.tree self.now.1) }
-    {
-        matches!(self.1.doc(), Doc::Nil)
-    }
-
     // `append` of what is a builder already.
     fn join(self, that: DocBuilder<'a, D>) -> Result<Self, BuildError>
         ensures ok { IfOk result (λ b. built D.Doc.tree b.1
@@ -53,10 +54,10 @@ impl<'a, D: DocPlace<'a>> DocBuilder<'a, D> {
             × to.IsNotNil (built D.Doc.tree self.entry.1)
             × to.IsNotNil (built D.Doc.tree that.entry.1)) }
     {
-        if self.is_nil() {
+        if self.doc().is_nil() {
             return Ok(that);
         }
-        if that.is_nil() {
+        if that.doc().is_nil() {
             return Ok(self);
         }
         let allocator = self.0;
@@ -78,37 +79,6 @@ impl<'a, D: DocPlace<'a>> DocBuilder<'a, D> {
         self.join(that)
     }
 
-    /// This document where lines are broken, and `that` where they are flat. The making of `that` can
-    /// fail, and memory.
-    pub fn flat_alt<E: Pretty<'a, D>>(self, that: E) -> Result<Self, BuildError>
-        ensures ok { IfOk result (λ b. (y : Tree) × E.becomes that y
-            × (built D.Doc.tree b.1 ≡ BreakOrFlat (built D.Doc.tree self.entry.1) y)) }
-        ensures err { IfErr result (λ e. E.refuses that e ⊎ IsMemory e) }
-    {
-        let allocator = self.0;
-        let that = that.pretty(allocator)?;
-        let broken = self.into_doc()?;
-        let flat = that.into_doc()?;
-        Ok(DocBuilder::new(allocator, Doc::BreakOrFlat(broken, flat)))
-    }
-
-    /// This document with its indent moved by so many columns. By 0, or where it is nothing, it stays
-    /// as it is, which takes no memory; else memory can fail.
-    pub fn nest(self, offset: isize) -> Result<Self, BuildError>
-        ensures ok { IfOk result (λ b. built D.Doc.tree b.1
-            ≡ to.nest offset (built D.Doc.tree self.entry.1)) }
-        ensures same { IsTrue (to.keeps_nested offset (built D.Doc.tree self.entry.1))
-            → result ≡ Ok self.entry }
-        ensures err { IfErr result IsMemory }
-    {
-        if offset == 0 || self.is_nil() {
-            return Ok(self);
-        }
-        let allocator = self.0;
-        let inner = self.into_doc()?;
-        Ok(DocBuilder::new(allocator, Doc::Nest(offset, inner)))
-    }
-
     /// This document, laid flat where it fits the line, and else broken. Where it is nothing, a text
     /// or a group, it stays as it is, which takes no memory; else memory can fail.
     pub fn group(self) -> Result<Self, BuildError>
@@ -118,12 +88,54 @@ impl<'a, D: DocPlace<'a>> DocBuilder<'a, D> {
             → result ≡ Ok self.entry }
         ensures err { IfErr result IsMemory }
     {
-        match self.1.doc() {
+        match self.doc() {
             Doc::Nil | Doc::Text(_) | Doc::TextWithLen(_, _) | Doc::Group(_) => Ok(self),
             _ => {
                 let allocator = self.0;
                 let inner = self.into_doc()?;
                 Ok(DocBuilder::new(allocator, Doc::Group(inner)))
+            }
+        }
+    }
+
+    /// This document, laid flat. Where it is nothing, a text or flat already, it stays as it is. A
+    /// hard line break, which no flat line holds, becomes a document that fails. Neither takes
+    /// memory; else memory can fail.
+    pub fn flatten(self) -> Result<Self, BuildError>
+        ensures ok { IfOk result (λ b. built D.Doc.tree b.1
+            ≡ to.flatten (built D.Doc.tree self.entry.1)) }
+        ensures same { IsTrue (to.keeps_flattened (built D.Doc.tree self.entry.1))
+            → result ≡ Ok self.entry }
+        ensures hard { IsTrue (to.is_hard (built D.Doc.tree self.entry.1))
+            → IsOkAnd result (λ b. built D.Doc.tree b.1 ≡ Fail) }
+        ensures err { IfErr result IsMemory }
+    {
+        let allocator = self.0;
+        match self.doc() {
+            Doc::Nil | Doc::Text(_) | Doc::TextWithLen(_, _) | Doc::Flatten(_) => Ok(self),
+            Doc::HardLine => Ok(DocBuilder::new(allocator, Doc::Fail)),
+            _ => {
+                let inner = self.into_doc()?;
+                Ok(DocBuilder::new(allocator, Doc::Flatten(inner)))
+            }
+        }
+    }
+
+    /// This document, put off to the end of its line. Where it is nothing or put off already, it
+    /// stays as it is, which takes no memory; else memory can fail.
+    pub fn as_line_suffix(self) -> Result<Self, BuildError>
+        ensures ok { IfOk result (λ b. built D.Doc.tree b.1
+            ≡ to.as_line_suffix (built D.Doc.tree self.entry.1)) }
+        ensures same { IsTrue (to.keeps_put_off (built D.Doc.tree self.entry.1))
+            → result ≡ Ok self.entry }
+        ensures err { IfErr result IsMemory }
+    {
+        match self.doc() {
+            Doc::Nil | Doc::LineSuffix(_) => Ok(self),
+            _ => {
+                let allocator = self.0;
+                let inner = self.into_doc()?;
+                Ok(DocBuilder::new(allocator, Doc::LineSuffix(inner)))
             }
         }
     }

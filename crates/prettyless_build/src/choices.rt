@@ -1,0 +1,76 @@
+//! Documents of which a part is laid, by the mode or by what fits the line.
+ghost use Rattle.std.specs.Prelude.{◌≡◌, ◌⊎◌, IfOk, IfErr};
+ghost use Rattle.prettyless_doc.specs.Tree.{Tree, Nil, BreakOrFlat, Union, PartialUnion};
+ghost use Rattle.prettyless_doc.specs.BuildErrors.{IsMemory};
+ghost use Rattle.prettyless_doc.specs.DocTree.{built};
+
+use crate::allocator::DocAllocator;
+use crate::builder::DocBuilder;
+use crate::pretty::Pretty;
+use prettyless_doc::{BuildDoc, BuildError, Doc, DocPlace};
+
+impl<'a, D: DocPlace<'a>> DocBuilder<'a, D> {
+    /// This document where lines are broken, and `that` where they are flat. The making of `that` can
+    /// fail, and memory.
+    pub fn flat_alt<E: Pretty<'a, D>>(self, that: E) -> Result<Self, BuildError>
+        ensures ok { IfOk result (λ b. (y : Tree) × E.becomes that y
+            × (built D.Doc.tree b.1 ≡ BreakOrFlat (built D.Doc.tree self.entry.1) y)) }
+        ensures err { IfErr result (λ e. E.refuses that e ⊎ IsMemory e) }
+    {
+        let allocator = self.0;
+        let that = that.pretty(allocator)?;
+        let broken = self.into_doc()?;
+        let flat = that.into_doc()?;
+        Ok(DocBuilder::new(allocator, Doc::BreakOrFlat(broken, flat)))
+    }
+
+    /// Nothing where lines are broken, and this document where they are flat. It fails where no
+    /// memory was had.
+    pub fn when_group_flat(self) -> Result<Self, BuildError>
+        ensures ok { IfOk result (λ b. built D.Doc.tree b.1
+            ≡ BreakOrFlat Nil (built D.Doc.tree self.entry.1)) }
+        ensures err { IfErr result IsMemory }
+    {
+        let allocator = self.0;
+        let broken = allocator.alloc(Doc::Nil)?;
+        let flat = self.into_doc()?;
+        Ok(DocBuilder::new(allocator, Doc::BreakOrFlat(broken, flat)))
+    }
+
+    /// This document where lines are broken, and nothing where they are flat. It fails where no
+    /// memory was had.
+    pub fn when_group_break(self) -> Result<Self, BuildError>
+        ensures ok { IfOk result (λ b. built D.Doc.tree b.1
+            ≡ BreakOrFlat (built D.Doc.tree self.entry.1) Nil) }
+        ensures err { IfErr result IsMemory }
+    {
+        let allocator = self.0;
+        let broken = self.into_doc()?;
+        let flat = allocator.alloc(Doc::Nil)?;
+        Ok(DocBuilder::new(allocator, Doc::BreakOrFlat(broken, flat)))
+    }
+
+    /// This document where all its lines fit, and else `that`. It fails where no memory was had.
+    pub fn union(self, that: BuildDoc<'a, D::Doc>) -> Result<Self, BuildError>
+        ensures ok { IfOk result (λ b. built D.Doc.tree b.1
+            ≡ Union (built D.Doc.tree self.entry.1) (built D.Doc.tree that.entry)) }
+        ensures err { IfErr result IsMemory }
+    {
+        let allocator = self.0;
+        let first = self.into_doc()?;
+        let second = allocator.alloc_cow(that)?;
+        Ok(DocBuilder::new(allocator, Doc::Union(first, second)))
+    }
+
+    /// This document where its first line fits, and else `that`. It fails where no memory was had.
+    pub fn partial_union(self, that: BuildDoc<'a, D::Doc>) -> Result<Self, BuildError>
+        ensures ok { IfOk result (λ b. built D.Doc.tree b.1
+            ≡ PartialUnion (built D.Doc.tree self.entry.1) (built D.Doc.tree that.entry)) }
+        ensures err { IfErr result IsMemory }
+    {
+        let allocator = self.0;
+        let first = self.into_doc()?;
+        let second = allocator.alloc_cow(that)?;
+        Ok(DocBuilder::new(allocator, Doc::PartialUnion(first, second)))
+    }
+}
