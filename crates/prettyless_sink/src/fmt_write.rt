@@ -38,6 +38,11 @@ impl<'w> Render for FmtWrite<&'w mut String> {
 
     ghost document_errors = { λ _ _. ⊤ };
 
+    fn write_str(&mut self, s: &str) -> Result<usize, fmt::Error> {
+        self.write_str_all(s)?;
+        Ok(s.len())
+    }
+
     /// Appends the text. Where memory for it is refused, the text in memory stays and the failures rise by one.
     #[inline]
     fn write_str_all(&mut self, s: &str) -> Result<(), fmt::Error>
