@@ -1,5 +1,6 @@
 -- What was appended so far is a beginning of the text, step by step.
-use Rattle.std.proofs.Common.{◌≡◌, ℕ, List, ◌++◌, ap, sym, ◌∙◌, subst, append_assoc, append-nil, refl, [], take, drop, take-append-drop, Result, Ok, Err, OnErr}
+use Rattle.std.proofs.Common.{◌≡◌, ℕ, List, ◌++◌, ap, sym, ◌∙◌, subst, append_assoc, append-nil, refl, [], take, drop, take-append-drop, length, ◌-◌, Result, Ok, Err, OnErr}
+use Rattle.std.proofs.lemmas.List.{take_rest}
 use Rattle.prettyless_sink.specs.Sink.{AppendsBeginning}
 
 -- what holds anyway holds of an error
@@ -36,3 +37,7 @@ appended_on old mid new done more before after = after ∙ ap (λ (x : List ℕ)
 -- so many bytes of the rest are done too
 pub split_on : (text done rest : List ℕ) (n : ℕ) → text ≡ done ++ rest → text ≡ (done ++ take n rest) ++ drop n rest
 split_on text done rest n split = split ∙ ap (λ (x : List ℕ). done ++ x) (sym (take-append-drop n rest)) ∙ sym (append_assoc done (take n rest) (drop n rest))
+
+-- the same, where the rest is a slice from there on
+pub split_on_slice : (text done rest : List ℕ) (n : ℕ) → text ≡ done ++ rest → text ≡ (done ++ take n rest) ++ take (length rest - n) (drop n rest)
+split_on_slice text done rest n split = split_on text done rest n split ∙ ap (λ (x : List ℕ). (done ++ take n rest) ++ x) (sym (take_rest rest n))
