@@ -86,12 +86,12 @@ fn write_whole<W: io::Write>(upstream: &mut W, bytes: &[u8]) -> io::Result<()>
     while !rest.is_empty() {
         let count = upstream.write(rest)?;
         if count == 0 {
-            return Err(io::Error::new(
-                io::ErrorKind::WriteZero,
-                "the writer takes no byte",
-            ));
+            return Err(io::Error::new(io::ErrorKind::WriteZero, "the writer takes no byte"));
         }
         rest = &rest[count..];
     }
     Ok(())
 }
+
+#[cfg(test)]
+mod tests;

@@ -7,3 +7,4 @@ pub mod io_write;
 pub mod options;
 pub mod pieces;
 pub mod render;
+pub mod text_writer;

@@ -80,3 +80,6 @@ pub(crate) fn is_fair_count(text: &str, count: usize) -> bool
 {
     (count > 0 || text.is_empty()) && text.is_char_boundary(count)
 }
+
+#[cfg(test)]
+mod tests;

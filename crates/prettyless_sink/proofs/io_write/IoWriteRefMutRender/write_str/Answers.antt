@@ -1,4 +1,4 @@
-use Rattle.std.proofs.Common.{rules, refl}
+use Rattle.std.proofs.Common.{refl}
 use Rattle.prettyless_sink.proofs.Known.{told_count}
 use Rattle.prettyless_sink.proofs.io_write.IoWriteRefMutRender.write_str.Goals as goal
 
