@@ -1,5 +1,6 @@
 -- What was appended so far is a beginning of the text, step by step.
-use Rattle.std.proofs.Common.{◌≡◌, ℕ, List, ◌++◌, ap, sym, ◌∙◌, append_assoc, append-nil, refl, [], Result, Ok, Err, OnErr}
+use Rattle.std.proofs.Common.{◌≡◌, ℕ, List, ◌++◌, ap, sym, ◌∙◌, subst, append_assoc, append-nil, refl, [], take, drop, take-append-drop, length, ◌-◌, Result, Ok, Err, OnErr}
+use Rattle.std.proofs.lemmas.List.{take_rest}
 use Rattle.prettyless_sink.specs.Sink.{AppendsBeginning}
 
 -- what holds anyway holds of an error
@@ -23,3 +24,20 @@ beginning_after old mid new text next e p = (
 -- nothing is a beginning of every text
 pub nothing_appended : (old new text : List ℕ) → new ≡ old → AppendsBeginning old new text
 nothing_appended old new text e = ([], text, refl, e ∙ sym (append-nil old))
+
+-- a beginning of the rest, after what was done, is a beginning of the text
+pub beginning_of_rest : (old mid new text done rest : List ℕ) → text ≡ done ++ rest → mid ≡ old ++ done → AppendsBeginning mid new rest → AppendsBeginning old new text
+beginning_of_rest old mid new text done rest split before p =
+    subst (AppendsBeginning old new) (sym split) (beginning_after old mid new done rest before p)
+
+-- what was appended in two pieces was appended as one
+pub appended_on : (old mid new done more : List ℕ) → mid ≡ old ++ done → new ≡ mid ++ more → new ≡ old ++ (done ++ more)
+appended_on old mid new done more before after = after ∙ ap (λ (x : List ℕ). x ++ more) before ∙ append_assoc old done more
+
+-- so many bytes of the rest are done too
+pub split_on : (text done rest : List ℕ) (n : ℕ) → text ≡ done ++ rest → text ≡ (done ++ take n rest) ++ drop n rest
+split_on text done rest n split = split ∙ ap (λ (x : List ℕ). done ++ x) (sym (take-append-drop n rest)) ∙ sym (append_assoc done (take n rest) (drop n rest))
+
+-- the same, where the rest is a slice from there on
+pub split_on_slice : (text done rest : List ℕ) (n : ℕ) → text ≡ done ++ rest → text ≡ (done ++ take n rest) ++ take (length rest - n) (drop n rest)
+split_on_slice text done rest n split = split_on text done rest n split ∙ ap (λ (x : List ℕ). (done ++ take n rest) ++ x) (sym (take_rest rest n))

@@ -1,2 +1,3 @@
 pub mod Beginnings
 mod Gaps
+mod Known

@@ -1,5 +1,7 @@
 -- What a sink shows of itself: the bytes that it was given, and how often it failed.
-use Rattle.std.specs.Prelude.{◌≡◌, ℕ, List, ◌++◌, ◌+◌, ◌-◌, ◌^◌, min}
+use Rattle.std.specs.Prelude.{◌≡◌, ℕ, List, ◌++◌, ◌+◌, ◌-◌, ◌^◌, ◌<◌, ◌≤◌, min, length, take, Option, None, Some, []}
+use Rattle.std.specs.Str.{IsCharBoundary}
+use Rattle.std.specs.Io.KnownBytes.{Appends}
 
 -- a beginning of the text was appended
 abbrev pub AppendsBeginning : List ℕ → List ℕ → List ℕ → Type 0
@@ -8,3 +10,24 @@ AppendsBeginning old new text = (front : List ℕ) × (back : List ℕ) × (text
 -- one failure more, in a count that stays at its greatest value
 abbrev pub rise : ℕ → ℕ
 rise n = min (n + 1) (2 ^ 64 - 1)
+
+-- a count of bytes that ends between two characters of the text, and is not 0 unless the text is empty
+abbrev pub IsFairCount : List ℕ → ℕ → Type 0
+IsFairCount text count = IsCharBoundary text count × (0 < length text → 0 < count)
+
+-- so many bytes of the text were appended; of a count past its end only that a beginning was
+abbrev pub AppendsCount : List ℕ → List ℕ → List ℕ → ℕ → Type 0
+AppendsCount old new text count = (count ≤ length text → new ≡ old ++ take count text) × AppendsBeginning old new text
+
+-- a count that is not fair is a failure, and no other is
+abbrev pub RisesIfUnfair : ℕ → ℕ → List ℕ → ℕ → Type 0
+RisesIfUnfair old new text count = (IsFairCount text count → new ≡ old) × (¬ IsFairCount text count → new ≡ rise old)
+
+-- the bytes that are known, or none
+abbrev pub known : Option (List ℕ) → List ℕ
+known None = []
+known (Some bytes) = bytes
+
+-- a beginning of the bytes was appended to those that are known
+abbrev pub AppendsKnownBeginning : Option (List ℕ) → Option (List ℕ) → List ℕ → Type 0
+AppendsKnownBeginning old new bytes = (front : List ℕ) × (back : List ℕ) × (bytes ≡ front ++ back) × Appends old new front

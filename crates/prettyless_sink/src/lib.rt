@@ -3,6 +3,8 @@
 
 pub mod error;
 pub mod fmt_write;
+pub mod io_write;
 pub mod options;
 pub mod pieces;
 pub mod render;
+pub mod text_writer;

@@ -56,4 +56,31 @@ impl RenderOptions {
             indentation_policy: IndentationPolicy::Eager,
         }
     }
+
+    /// These options at another width, in columns.
+    pub fn with_width(self, width: usize) -> Self
+        ensures { result ≡ record self { width = width } }
+    {
+        RenderOptions { width, ..self }
+    }
+
+    /// These options with another end of lines.
+    pub fn with_line_ending(self, line_ending: LineEnding) -> Self
+        ensures { result ≡ record self { line_ending = line_ending } }
+    {
+        RenderOptions {
+            line_ending,
+            ..self
+        }
+    }
+
+    /// These options with indents written by another policy.
+    pub fn with_indentation_policy(self, indentation_policy: IndentationPolicy) -> Self
+        ensures { result ≡ record self { indentation_policy = indentation_policy } }
+    {
+        RenderOptions {
+            indentation_policy,
+            ..self
+        }
+    }
 }

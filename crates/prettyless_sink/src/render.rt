@@ -1,6 +1,6 @@
-ghost use Rattle.std.specs.Prelude.{◌≡◌, ◌++◌, ℕ, List, Option, None, OnOk, OnErr};
+ghost use Rattle.std.specs.Prelude.{◌≡◌, ◌++◌, ◌⊎◌, ◌↔◌, IsTrue, ℕ, List, Option, None, IfOk, OnOk, OnErr};
 ghost use Rattle.std.specs.Borrow.{GName};
-ghost use Rattle.prettyless_sink.specs.Sink.{AppendsBeginning, rise};
+ghost use Rattle.prettyless_sink.specs.Sink.{AppendsBeginning, AppendsCount, IsFairCount, RisesIfUnfair, rise};
 
 /// A sink: where the bytes of a layout go.
 ///
@@ -24,15 +24,62 @@ pub trait Render {
     // the errors that `fail_doc` may answer
     ghost document_errors: { Self → Self.Error → Type 0 };
 
+    // the errors that `write_fault` may answer besides
+    ghost fault_errors: { Self → Self.Error → Type 0 } = { λ _ _. ⊥ };
+
+    /// Writes a beginning of the text, and answers how many bytes that is.
+    ///
+    /// It fails by an error, and by a count that is 0 for a text that is not empty, past the text's end or inside a
+    /// character. A beginning of the text is written then too.
+    fn write_str(&mut self, s: &str) -> Result<usize, Self::Error>
+        ensures same_lender { lender self.new ≡ lender self.old }
+        ensures ok { IfOk result (λ count. tells self.old → tells self.new
+            × AppendsCount (written self.old) (written self.new) s.now count
+            × RisesIfUnfair (failures self.old) (failures self.new) s.now count) }
+        ensures err { OnErr result (tells self.old → tells self.new
+            × AppendsBeginning (written self.old) (written self.new) s.now × (failures self.new ≡ rise (failures self.old))) };
+
     /// Writes the whole text, or fails behind a beginning of it.
+    ///
+    /// Where a sink has none of its own, it calls `write_str` until the text is done, and for an empty text not at all.
+    /// An error is answered as it comes, and a count that fails is `write_fault`.
     fn write_str_all(&mut self, s: &str) -> Result<(), Self::Error>
         ensures same_lender { lender self.new ≡ lender self.old }
         ensures ok { OnOk result (tells self.old → tells self.new
             × (written self.new ≡ written self.old ++ s.now) × (failures self.new ≡ failures self.old)) }
         ensures err { OnErr result (tells self.old → tells self.new
-            × AppendsBeginning (written self.old) (written self.new) s.now × (failures self.new ≡ rise (failures self.old))) };
+            × AppendsBeginning (written self.old) (written self.new) s.now × (failures self.new ≡ rise (failures self.old))) }
+    {
+        let mut rest = s;
+        while !rest.is_empty() {
+            let count = self.write_str(rest)?;
+            if !is_fair_count(rest, count) {
+                return Err(self.write_fault());
+            }
+            rest = &rest[count..];
+        }
+        Ok(())
+    }
 
     /// The error that says that the document fails. It changes nothing.
     fn fail_doc(&self) -> Self::Error
         ensures { document_errors self.now result };
+
+    /// The error that says that `write_str` answered a count that fails. It changes nothing.
+    fn write_fault(&self) -> Self::Error
+        ensures { document_errors self.now result ⊎ fault_errors self.now result }
+    {
+        self.fail_doc()
+    }
 }
+
+// Whether so many bytes end between two characters of the text, and are some unless it is empty.
+#[inline]
+pub(crate) fn is_fair_count(text: &str, count: usize) -> bool
+    ensures { IsTrue result ↔ IsFairCount text.now count }
+{
+    (count > 0 || text.is_empty()) && text.is_char_boundary(count)
+}
+
+#[cfg(test)]
+mod tests;

@@ -22,9 +22,9 @@ impl Render for Lengths {
 
     ghost document_errors = { λ _ _. ⊤ };
 
-    fn write_str_all(&mut self, s: &str) -> Result<(), AllocError> {
+    fn write_str(&mut self, s: &str) -> Result<usize, AllocError> {
         self.pieces.push(s.len())?;
-        Ok(())
+        Ok(s.len())
     }
 
     fn fail_doc(&self) -> AllocError {

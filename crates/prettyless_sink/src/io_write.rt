@@ -1,0 +1,97 @@
+//! A sink over a byte writer.
+ghost use Rattle.std.specs.Prelude.{◌≡◌, ◌++◌, List, ℕ, Some, IsSome, OnOk, OnErr};
+ghost use Rattle.std.specs.IoError.{error_kind};
+ghost use Rattle.std.specs.declared.io.ErrorKind.TheVariants.{Other};
+ghost use Rattle.std.specs.Io.KnownBytes.{Appends};
+ghost use Rattle.prettyless_sink.specs.Sink.{known, AppendsKnownBeginning};
+
+use crate::render::{Render, is_fair_count};
+use std::io;
+
+/// A sink over a byte writer, with a count of its failures.
+#[derive(Drop)]
+pub struct IoWrite<W> {
+    upstream: W,
+    failures: u64,
+}
+
+impl<W> IoWrite<W> {
+    /// A sink that writes behind what `upstream` has, and has not failed.
+    pub fn new(upstream: W) -> Self
+        ensures { result ≡ record { upstream = upstream; failures = 0 } }
+    {
+        IoWrite {
+            upstream,
+            failures: 0,
+        }
+    }
+}
+
+impl<'w, W: io::Write> Render for IoWrite<&'w mut W> {
+    type Error = io::Error;
+
+    // where the writer's bytes are known
+    ghost tells = { λ sink. IsSome (W.contents sink.upstream.now) };
+
+    ghost written = { λ sink. known (W.contents sink.upstream.now) };
+
+    ghost failures = { λ sink. sink.failures };
+
+    ghost lender = { λ sink. Some sink.upstream.ghost_name };
+
+    ghost document_errors = { λ _ e. error_kind e ≡ Other };
+
+    /// Writes by one `write`, whose count or error is the answer.
+    #[inline]
+    fn write_str(&mut self, s: &str) -> io::Result<usize> {
+        match self.upstream.write(s.as_bytes()) {
+            Ok(count) => {
+                if !is_fair_count(s, count) {
+                    self.failures = self.failures.saturating_add(1);
+                }
+                Ok(count)
+            }
+            Err(e) => {
+                self.failures = self.failures.saturating_add(1);
+                Err(e)
+            }
+        }
+    }
+
+    /// Calls `write` until the text is done. An error is answered as it comes, an interruption too, and a count of 0 is
+    /// an error of the kind `WriteZero`.
+    #[inline]
+    fn write_str_all(&mut self, s: &str) -> io::Result<()> {
+        match write_whole(&mut *self.upstream, s.as_bytes()) {
+            Ok(()) => Ok(()),
+            Err(e) => {
+                self.failures = self.failures.saturating_add(1);
+                Err(e)
+            }
+        }
+    }
+
+    fn fail_doc(&self) -> io::Error {
+        io::Error::other("the document fails")
+    }
+}
+
+// Writes all of the bytes, or fails behind a beginning of them. The writer's contract lets no count past the end come.
+#[inline]
+fn write_whole<W: io::Write>(upstream: &mut W, bytes: &[u8]) -> io::Result<()>
+    ensures ok { OnOk result (Appends (W.contents upstream.old) (W.contents upstream.new) bytes.now) }
+    ensures err { OnErr result (AppendsKnownBeginning (W.contents upstream.old) (W.contents upstream.new) bytes.now) }
+{
+    let mut rest = bytes;
+    while !rest.is_empty() {
+        let count = upstream.write(rest)?;
+        if count == 0 {
+            return Err(io::Error::new(io::ErrorKind::WriteZero, "the writer takes no byte"));
+        }
+        rest = &rest[count..];
+    }
+    Ok(())
+}
+
+#[cfg(test)]
+mod tests;

@@ -1,0 +1,61 @@
+//! Text writers, and what they tell of their text.
+ghost use Rattle.std.specs.Prelude.{◌≡◌, ◌+◌, ◌<◌, List, ℕ, Option, None, Some, OnOk, OnErr, length};
+ghost use Rattle.std.specs.String.{string_bytes, string_len, string_capacity};
+ghost use Rattle.std.specs.Io.KnownBytes.{Appends};
+ghost use Rattle.prettyless_sink.specs.Sink.{AppendsKnownBeginning};
+
+use std::alloc::Allocator;
+use std::fmt;
+
+/// A text writer, as the sink over it sees it.
+///
+/// One that tells its text promises that a write appends the piece, and that a write that fails appends a beginning of
+/// it. `fmt::Write` says nothing of a write that fails, so a writer says it here. One that tells nothing stands inside
+/// an `Untold`.
+pub trait TextWriter {
+    // the text written so far, where it is known
+    ghost text: { Self → Option (List ℕ) } = { λ _. None };
+
+    /// Appends a piece, or fails behind a beginning of it.
+    fn write_text(&mut self, piece: &str) -> fmt::Result
+        ensures ok { OnOk result (Appends (text self.old) (text self.new) piece.now) }
+        ensures err { OnErr result (AppendsKnownBeginning (text self.old) (text self.new) piece.now) };
+}
+
+impl<A: Allocator> TextWriter for String<A> {
+    ghost text = { λ s. Some (string_bytes s) };
+
+    /// Appends a piece. Where memory for it is refused the text stays as it was.
+    #[inline]
+    fn write_text(&mut self, piece: &str) -> fmt::Result
+        ensures ok { OnOk result (Appends (Some (string_bytes self.old)) (Some (string_bytes self.new)) piece.now) }
+        ensures err { OnErr result (AppendsKnownBeginning (Some (string_bytes self.old)) (Some (string_bytes self.new)) piece.now) }
+        ensures unchanged { OnErr result (string_bytes self.new ≡ string_bytes self.old) }
+        ensures full { OnErr result (string_capacity self.old < string_len self.old + length piece.now) }
+    {
+        match self.push_str(piece) {
+            Ok(()) => Ok(()),
+            Err(_) => Err(fmt::Error),
+        }
+    }
+}
+
+impl<W: TextWriter> TextWriter for &mut W {
+    ghost text = { λ w. W.text w.now };
+
+    #[inline]
+    fn write_text(&mut self, piece: &str) -> fmt::Result {
+        TextWriter::write_text(&mut **self, piece)
+    }
+}
+
+/// Any `fmt::Write`, as a text writer that tells nothing.
+#[derive(Drop)]
+pub struct Untold<W>(pub W);
+
+impl<W: fmt::Write> TextWriter for Untold<W> {
+    #[inline]
+    fn write_text(&mut self, piece: &str) -> fmt::Result {
+        self.0.write_str(piece)
+    }
+}
