@@ -5,10 +5,12 @@ mod display;
 pub mod doc;
 pub mod measure;
 pub mod place;
+pub mod print;
 pub mod render;
 pub mod text;
 pub mod walk;
 
 pub use doc::{BuildDoc, Doc, DocPtr};
 pub use place::DocPlace;
+pub use print::PrettyFmt;
 pub use text::{BuildError, Text};

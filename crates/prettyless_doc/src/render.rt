@@ -1,32 +1,73 @@
-ghost use Rattle.std.specs.String.{string_bytes};
+ghost use Rattle.std.specs.Prelude.{◌≡◌, ⊤};
+ghost use Rattle.std.specs.IoError.{error_kind};
+ghost use Rattle.std.specs.declared.io.ErrorKind.TheVariants.{Other};
 ghost use Rattle.prettyless_sink.specs.Options.{options_at};
 ghost use Rattle.prettyless_model.specs.Layout.{layout};
-ghost use Rattle.prettyless_printer.specs.Renders.{RendersInto};
+ghost use Rattle.prettyless_printer.specs.Renders.{Rendered, RendersKnown};
 ghost use Rattle.prettyless_doc.specs.DocTree.{tree_of};
 
 use crate::doc::{Doc, DocPtr};
 use prettyless_printer::run;
 use prettyless_sink::error::RenderError;
 use prettyless_sink::fmt_write::FmtWrite;
+use prettyless_sink::io_write::IoWrite;
 use prettyless_sink::options::RenderOptions;
+use prettyless_sink::render::Render;
+use prettyless_sink::text_writer::TextWriter;
 use std::alloc::Global;
-use std::fmt;
+use std::{fmt, io};
 
+/// Renders. On success all bytes of the layout were appended. Where the document fails, the bytes before the failing
+/// node were, and the error is one that says so. Where the sink failed, or no memory was had, a beginning of the
+/// layout's bytes was. A width is in columns; lines end in LF and indents are written at once, unless options say
+/// otherwise.
 impl<'a, T: DocPtr<'a>> Doc<'a, T> {
-    /// Renders the document at this width, in columns, to the end of a text. Lines end in LF, and indents are written
-    /// at once.
-    ///
-    /// On success all bytes of the layout were appended. Where the document fails, the bytes before the failing node
-    /// were. Where `out` could not grow (`Sink`) or no memory was had (`Memory`), a beginning of the layout's bytes was.
-    pub fn render_fmt(
-        &self,
-        alloc: Global,
-        width: usize,
-        out: &mut String,
-    ) -> Result<(), RenderError<fmt::Error>>
-        ensures { RendersInto (layout (options_at width) (tree_of T.tree self.now)) (string_bytes out.old) (string_bytes out.new) result }
+    /// Renders to a sink. `Sink` is answered only where its failures rose by one in this call (at their greatest value
+    /// they stay); else they stay.
+    pub fn render_raw_with<W: Render>(&self, alloc: Global, options: RenderOptions, out: &mut W) -> Result<(), RenderError<W::Error>>
+        ensures same_lender { W.lender out.new ≡ W.lender out.old }
+        ensures told { W.tells out.old → W.tells out.new
+            × Rendered (W.document_errors out.new) (layout options (tree_of T.tree self.now))
+                (W.written out.old) (W.written out.new) (W.failures out.old) (W.failures out.new) result }
     {
-        let mut sink = FmtWrite::new(out);
-        run::render(alloc, self, RenderOptions::new(width), &mut sink)
+        run::render(alloc, self, options, out)
+    }
+
+    /// Renders to a sink at this width.
+    pub fn render_raw<W: Render>(&self, alloc: Global, width: usize, out: &mut W) -> Result<(), RenderError<W::Error>>
+        ensures same_lender { W.lender out.new ≡ W.lender out.old }
+        ensures told { W.tells out.old → W.tells out.new
+            × Rendered (W.document_errors out.new) (layout (options_at width) (tree_of T.tree self.now))
+                (W.written out.old) (W.written out.new) (W.failures out.old) (W.failures out.new) result }
+    {
+        self.render_raw_with(alloc, RenderOptions::new(width), out)
+    }
+
+    /// Renders to a byte writer. An interruption of the writer is answered, and not tried again.
+    pub fn render_with<W: io::Write>(&self, alloc: Global, options: RenderOptions, out: &mut W) -> Result<(), RenderError<io::Error>>
+        ensures { RendersKnown (λ e. error_kind e ≡ Other) (layout options (tree_of T.tree self.now)) (W.contents out.old) (W.contents out.new) result }
+    {
+        self.render_raw_with(alloc, options, &mut IoWrite::new(out))
+    }
+
+    /// Renders to a byte writer at this width.
+    pub fn render<W: io::Write>(&self, alloc: Global, width: usize, out: &mut W) -> Result<(), RenderError<io::Error>>
+        ensures { RendersKnown (λ e. error_kind e ≡ Other) (layout (options_at width) (tree_of T.tree self.now)) (W.contents out.old) (W.contents out.new) result }
+    {
+        self.render_with(alloc, RenderOptions::new(width), out)
+    }
+
+    /// Renders to a text writer.
+    pub fn render_fmt_with<W: TextWriter>(&self, alloc: Global, options: RenderOptions, out: &mut W) -> Result<(), RenderError<fmt::Error>>
+        ensures { RendersKnown (λ _. ⊤) (layout options (tree_of T.tree self.now)) (W.text out.old) (W.text out.new) result }
+    {
+        self.render_raw_with(alloc, options, &mut FmtWrite::new(out))
+    }
+
+    /// Renders to a text writer at this width.
+    pub fn render_fmt<W: TextWriter>(&self, alloc: Global, width: usize, out: &mut W) -> Result<(), RenderError<fmt::Error>>
+        ensures { RendersKnown (λ _. ⊤) (layout (options_at width) (tree_of T.tree self.now)) (W.text out.old) (W.text out.new) result }
+    {
+        self.render_fmt_with(alloc, RenderOptions::new(width), out)
     }
 }

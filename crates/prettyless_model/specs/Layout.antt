@@ -1,5 +1,5 @@
 -- The layout of a document: a recursion on its tree, from state to state.
-use Rattle.std.specs.Prelude.{ℕ, zero, suc, ◌+◌, ◌-◌, ℤ, pos, negsuc, Bool, true, false, not, ◌&&◌, ◌||◌, nat_le, List, [], ◌∷◌, ◌++◌, length, if◌then◌else◌}
+use Rattle.std.specs.Prelude.{ℕ, zero, suc, ◌+◌, ◌-◌, ℤ, pos, negsuc, Bool, true, false, Option, Some, None, not, ◌&&◌, ◌||◌, nat_le, List, [], ◌∷◌, ◌++◌, length, if◌then◌else◌}
 use Rattle.prettyless_sink.specs.Options.{ending}
 use Rattle.prettyless_sink.specs.Spaces.{spaces}
 use Rattle.prettyless_sink.specs.declared.options.RenderOptions.{RenderOptions}
@@ -204,3 +204,8 @@ layout o d = bytes_of (layout_by o (size d + 1) d)
 abbrev pub bytes_in : Bytes → List ℕ
 bytes_in (Whole b) = b
 bytes_in (Cut b) = b
+
+-- the bytes of a layout that does not fail
+abbrev pub whole_bytes : Bytes → Option (List ℕ)
+whole_bytes (Whole b) = Some b
+whole_bytes (Cut b) = None

@@ -1,5 +1,5 @@
 -- How a render ends, against the layout.
-use Rattle.std.specs.Prelude.{◌≡◌, ℕ, List, [], ◌++◌, Result, Ok, Err}
+use Rattle.std.specs.Prelude.{◌≡◌, ℕ, List, [], ◌++◌, Option, Some, None, Result, Ok, Err}
 use Rattle.prettyless_sink.specs.Sink.{AppendsBeginning, rise}
 use Rattle.prettyless_sink.specs.declared.error.RenderError.{RenderError}
 use Rattle.prettyless_sink.specs.declared.error.RenderError.TheVariants.{Document, Sink, Memory}
@@ -53,9 +53,16 @@ to_end f p = and_then (rest_of f p) (settle_end p.options)
 abbrev pub RanToEnd : {N A E : Type 0} → (N → Tree) → Printer N → (E → Type 0) → List ℕ → List ℕ → ℕ → ℕ → Result A (RenderError E) → Type 0
 RanToEnd f p fails old new n m r = Rendered fails (bytes_of (to_end f p)) old new n m r
 
--- The same where no failures are seen: what a render appended to a text.
-abbrev pub RendersInto : {A E : Type 0} → Bytes → List ℕ → List ℕ → Result A (RenderError E) → Type 0
-RendersInto y old new (Ok r) = (bytes : List ℕ) × (y ≡ Whole bytes) × (new ≡ old ++ bytes)
-RendersInto y old new (Err (Document e)) = (bytes : List ℕ) × (y ≡ Cut bytes) × (new ≡ old ++ bytes)
-RendersInto y old new (Err (Sink e)) = AppendsBeginning old new (bytes_in y)
-RendersInto y old new (Err (Memory e)) = AppendsBeginning old new (bytes_in y)
+-- The same where no failures are seen: what a render appended.
+abbrev pub RendersInto : {A E : Type 0} → (E → Type 0) → Bytes → List ℕ → List ℕ → Result A (RenderError E) → Type 0
+RendersInto fails y old new (Ok r) = (bytes : List ℕ) × (y ≡ Whole bytes) × (new ≡ old ++ bytes)
+RendersInto fails y old new (Err (Document e)) = (bytes : List ℕ) × (y ≡ Cut bytes) × (new ≡ old ++ bytes) × fails e
+RendersInto fails y old new (Err (Sink e)) = AppendsBeginning old new (bytes_in y)
+RendersInto fails y old new (Err (Memory e)) = AppendsBeginning old new (bytes_in y)
+
+-- The same into a writer whose bytes may be known: known bytes stay known.
+abbrev pub RendersKnown : {A E : Type 0} → (E → Type 0) → Bytes → Option (List ℕ) → Option (List ℕ) → Result A (RenderError E) → Type 0
+RendersKnown fails y None new r = Unit {0}
+RendersKnown fails y (Some old) None r = ⊥
+RendersKnown fails y (Some old) (Some new) r = RendersInto fails y old new r
+

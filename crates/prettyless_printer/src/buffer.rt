@@ -34,6 +34,11 @@ impl Render for Buffer {
 
     ghost document_errors = { λ _ _. ⊤ };
 
+    fn write_str(&mut self, s: &str) -> Result<usize, AllocError> {
+        self.write_str_all(s)?;
+        Ok(s.len())
+    }
+
     fn write_str_all(&mut self, s: &str) -> Result<(), AllocError> {
         match self.text.push_str(s) {
             Ok(()) => Ok(()),

@@ -1,0 +1,53 @@
+ghost use Rattle.std.specs.Prelude.{◌≡◌};
+ghost use Rattle.prettyless_sink.specs.Options.{options_at};
+ghost use Rattle.prettyless_model.specs.Layout.{layout, whole_bytes};
+ghost use Rattle.prettyless_doc.specs.DocTree.{tree_of};
+
+use crate::doc::{Doc, DocPtr};
+use prettyless_sink::options::RenderOptions;
+use std::alloc::Global;
+use std::fmt;
+
+/// A document that prints as its layout. What a formatter is asked for, as a width or an alignment, changes nothing.
+///
+/// It prints the whole layout or fails: where the document fails, no memory is had or the formatter fails.
+#[derive(Clone, Copy)]
+pub struct PrettyFmt<'a, 'd, T> {
+    doc: &'d Doc<'a, T>,
+    alloc: Global,
+    options: RenderOptions,
+}
+
+impl<'a, T: DocPtr<'a>> Doc<'a, T> {
+    /// The document, to be printed at this width, in columns.
+    pub fn print<'d>(&'d self, alloc: Global, width: usize) -> PrettyFmt<'a, 'd, T>
+        ensures options { result.options ≡ options_at width }
+        ensures doc { result.doc.now ≡ self.now }
+    {
+        self.print_with(alloc, RenderOptions::new(width))
+    }
+
+    /// The document, to be printed with these options.
+    pub fn print_with<'d>(&'d self, alloc: Global, options: RenderOptions) -> PrettyFmt<'a, 'd, T>
+        ensures options { result.options ≡ options }
+        ensures doc { result.doc.now ≡ self.now }
+    {
+        PrettyFmt {
+            doc: self,
+            alloc,
+            options,
+        }
+    }
+}
+
+impl<'a, T: DocPtr<'a>> fmt::Display for PrettyFmt<'a, '_, T> {
+    ghost output = { λ p. whole_bytes (layout p.options (tree_of T.tree p.doc.now)) };
+
+    fn fmt<W: fmt::Write>(&self, f: &mut fmt::Formatter<W>) -> fmt::Result {
+        let mut text = String::new(self.alloc);
+        match self.doc.render_fmt_with(self.alloc, self.options, &mut text) {
+            Ok(()) => f.write_str(text.as_str()),
+            Err(_) => Err(fmt::Error),
+        }
+    }
+}
