@@ -1,9 +1,10 @@
 -- The tree that a document stands for, given the trees of its pointers.
 use Rattle.prettyless_model.specs.Tree as t
 use Rattle.prettyless_model.specs.Tree.{Tree}
+use Rattle.prettyless_doc.specs.Payload.{payload_bytes}
 use Rattle.prettyless_doc.specs.TextBytes.{bytes_of}
 use Rattle.prettyless_doc.specs.declared.doc.Doc.{Doc}
-use Rattle.prettyless_doc.specs.declared.doc.Doc.TheVariants.{Nil, Text, TextWithLen, HardLine, Append, Nest, BreakOrFlat, Group}
+use Rattle.prettyless_doc.specs.declared.doc.Doc.TheVariants.{Nil, Text, TextWithLen, MultilineText, HardLine, Append, Nest, BreakOrFlat, Group}
 use Rattle.prettyless_doc.specs.declared.doc.BuildDoc.{BuildDoc}
 use Rattle.prettyless_doc.specs.declared.doc.BuildDoc.TheVariants.{DocPtr as Placed, Doc as Plain}
 
@@ -12,6 +13,7 @@ abbrev pub tree_of : {T : Type 0} → (T → Tree) → Doc T → Tree
 tree_of tree Nil = t.Nil
 tree_of tree (Text s) = t.Text (bytes_of s)
 tree_of tree (TextWithLen w s) = t.TextWithLen w (bytes_of s)
+tree_of tree (MultilineText p) = t.MultilineText (payload_bytes p)
 tree_of tree HardLine = t.HardLine
 tree_of tree (Append l r) = t.Append (tree l) (tree r)
 tree_of tree (Nest k d) = t.Nest k (tree d)
