@@ -4,7 +4,7 @@ use Rattle.std.proofs.Math.Nat.{sub-zero}
 use Rattle.std.specs.List.{slice_range}
 use Rattle.std.proofs.lemmas.Bool.{lt-ltb}
 use Rattle.prettyless_model.specs.Metrics.{is_break, on_first, parts, is_empty, first_of_parts, later_parts}
-use Rattle.prettyless_doc.specs.FirstPart.{EndsFirstPart}
+use Rattle.prettyless_doc.specs.Breaks.{EndsFirstPart}
 
 EndsFirstPart-tail : (b : ℕ) (s : List ℕ) (n : ℕ) → EndsFirstPart (b ∷ s) (suc n) → EndsFirstPart s n
 EndsFirstPart-tail b s n h = record {

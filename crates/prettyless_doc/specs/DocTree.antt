@@ -2,9 +2,10 @@
 use Rattle.std.specs.Prelude.{Bool, true, false}
 use Rattle.prettyless_model.specs.Tree as t
 use Rattle.prettyless_model.specs.Tree.{Tree}
+use Rattle.prettyless_doc.specs.Payload.{payload_bytes}
 use Rattle.prettyless_doc.specs.TextBytes.{bytes_of}
 use Rattle.prettyless_doc.specs.declared.doc.Doc.{Doc}
-use Rattle.prettyless_doc.specs.declared.doc.Doc.TheVariants.{Nil, Fail, Text, TextWithLen, WeakSpace, HardLine, WeakLine, Append, LineSuffix, Nest, DedentToRoot, Align, ExpandParent, Flatten, BreakOrFlat, Group, Union, PartialUnion}
+use Rattle.prettyless_doc.specs.declared.doc.Doc.TheVariants.{Nil, Fail, Text, TextWithLen, MultilineText, WeakSpace, HardLine, WeakLine, Append, LineSuffix, Nest, DedentToRoot, Align, ExpandParent, Flatten, BreakOrFlat, Group, Union, PartialUnion}
 use Rattle.prettyless_doc.specs.declared.doc.BuildDoc.{BuildDoc}
 use Rattle.prettyless_doc.specs.declared.doc.BuildDoc.TheVariants.{DocPtr as Placed, Doc as Plain}
 
@@ -14,6 +15,7 @@ tree_of tree Nil = t.Nil
 tree_of tree Fail = t.Fail
 tree_of tree (Text s) = t.Text (bytes_of s)
 tree_of tree (TextWithLen w s) = t.TextWithLen w (bytes_of s)
+tree_of tree (MultilineText p) = t.MultilineText (payload_bytes p)
 tree_of tree WeakSpace = t.WeakSpace
 tree_of tree HardLine = t.HardLine
 tree_of tree WeakLine = t.WeakLine

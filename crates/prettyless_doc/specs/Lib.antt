@@ -1,6 +1,9 @@
 pub mod BuildErrors
+pub mod Cached
+pub mod Counted
 pub mod DocTree
-pub mod FirstPart
+pub mod Breaks
+pub mod Payload
 pub mod Printed
 pub mod TextBytes
 pub use Rattle.prettyless_model.specs.Tree

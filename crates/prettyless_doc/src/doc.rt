@@ -2,7 +2,7 @@ ghost use Rattle.std.specs.Prelude.{◌≡◌};
 ghost use Rattle.prettyless_model.specs.Tree.{Tree};
 ghost use Rattle.prettyless_doc.specs.DocTree.{tree_of, built, is_nil};
 
-use crate::text::Text;
+use crate::text::{MultilineTextData, Text};
 
 /// A node of a document. `T` is the pointer to the nodes below it.
 #[derive(Drop)]
@@ -15,6 +15,8 @@ pub enum Doc<'a, T> {
     Text(Text<'a>),
     /// A text and the columns that it counts as.
     TextWithLen(usize, Text<'a>),
+    /// A text that holds line breaks of its own, and is written byte for byte.
+    MultilineText(MultilineTextData<'a>),
     /// A space, which is nothing at the start of a line, nor at its end unless a suffix follows there.
     WeakSpace,
     /// A line break.

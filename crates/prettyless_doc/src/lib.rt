@@ -1,9 +1,12 @@
 //! Documents: nodes and their texts, the pointers between nodes, and the places of nodes.
 #![tactic(auto)]
 
+mod cached;
+mod counted;
 mod display;
 pub mod doc;
 pub mod measure;
+mod multiline;
 pub mod place;
 pub mod print;
 pub mod render;

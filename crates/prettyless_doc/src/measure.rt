@@ -1,9 +1,8 @@
 //! The widths of texts, and the metrics of payloads.
 ghost use Rattle.std.specs.Prelude.{◌≡◌, ◌<◌, not, length, take, IfSome};
 ghost use Rattle.std.specs.Option.{option_copied};
-ghost use Rattle.std.specs.List.{list_any};
 ghost use Rattle.prettyless_model.specs.Metrics as spec;
-ghost use Rattle.prettyless_doc.specs.FirstPart.{EndsFirstPart, parts_left};
+ghost use Rattle.prettyless_doc.specs.Breaks.{EndsFirstPart, holds_break, parts_left};
 
 use prettyless_model::metrics::Metrics;
 use unicode_width::UnicodeWidthStr;
@@ -38,7 +37,7 @@ fn is_break(byte: u8) -> bool
 
 /// Whether a text holds LF or CR.
 pub fn holds_break(text: &str) -> bool
-    ensures { result ≡ list_any spec.is_break text.now }
+    ensures { result ≡ holds_break text.now }
 {
     text.as_bytes().iter().any(|byte| is_break(*byte))
 }

@@ -4,6 +4,7 @@ ghost use Rattle.prettyless_doc.specs.TextBytes.{bytes_of, IfUnowned};
 ghost use Rattle.prettyless_doc.specs.BuildErrors.{IsMemory};
 ghost use Rattle.prettyless_doc.specs.declared.text.BuildError.TheVariants.{Memory};
 
+pub use crate::multiline::MultilineTextData;
 use arrayvec::ArrayString;
 use std::alloc::{AllocError, AllocFailed, Global};
 pub use std::borrow::CowStr;

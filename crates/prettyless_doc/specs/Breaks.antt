@@ -1,6 +1,11 @@
--- The first part of a text, and the parts behind it.
-use Rattle.std.specs.Prelude.{◌≡◌, ℕ, ◌<◌, ◌≤◌, true, false, List, [], length, slice_index, Option, Some, None}
+-- The breaks of a text, and the parts between them.
+use Rattle.std.specs.Prelude.{◌≡◌, ℕ, ◌<◌, ◌≤◌, Bool, true, false, List, [], length, slice_index, Option, Some, None}
+use Rattle.std.specs.List.{list_any}
 use Rattle.prettyless_model.specs.Metrics.{is_break, parts}
+
+-- LF or CR stands in the text
+abbrev pub holds_break : List ℕ → Bool
+holds_break s = list_any is_break s
 
 -- the first part ends at n: no break stands before, and one stands there, or the text ends
 pub record EndsFirstPart (s : List ℕ) (n : ℕ) : Type 0 where

@@ -1,0 +1,18 @@
+-- Metrics that are kept with a payload.
+use Rattle.std.specs.Prelude.{◌≡◌, true}
+use Rattle.prettyless_model.specs.declared.metrics.Metrics.{Metrics}
+use Rattle.prettyless_doc.specs.declared.cached.CachedMetrics.{CachedMetrics}
+
+-- the metrics that are kept
+abbrev pub widened : CachedMetrics → Metrics
+widened c = record {
+  first_width = c.first_width;
+  first_nonempty = c.first_nonempty;
+  rest_width = c.rest_width;
+  last_width = c.last_width;
+  last_nonempty = c.last_nonempty;
+}
+
+-- they are these, if any are kept
+abbrev pub IsCacheOf : CachedMetrics → Metrics → Type 0
+IsCacheOf c m = c.kept ≡ true → widened c ≡ m

@@ -1,0 +1,65 @@
+//! Metrics in the room of two words.
+ghost use Rattle.std.specs.Prelude.{◌≡◌, ◌^◌, ◌<◌, true, false, MatchOption};
+ghost use Rattle.prettyless_doc.specs.Cached.{IsCacheOf, widened};
+
+use prettyless_model::metrics::Metrics;
+
+// Metrics with widths of 32 bits. So that a node stays small, a greater one is not kept, and then
+// none is.
+#[derive(Clone, Copy)]
+pub(crate) struct CachedMetrics {
+    first_width: u32,
+    rest_width: u32,
+    last_width: u32,
+    first_nonempty: bool,
+    last_nonempty: bool,
+    kept: bool,
+}
+
+impl CachedMetrics {
+    pub(crate) fn new(metrics: Metrics) -> Self
+        ensures cache { IsCacheOf result metrics }
+        ensures kept { metrics.first_width < 2 ^ 32 → metrics.rest_width < 2 ^ 32
+            → metrics.last_width < 2 ^ 32 → result.kept ≡ true }
+    {
+        let widest = metrics
+            .first_width
+            .max(metrics.rest_width)
+            .max(metrics.last_width);
+        if widest > u32::MAX as usize {
+            return CachedMetrics {
+                first_width: 0,
+                rest_width: 0,
+                last_width: 0,
+                first_nonempty: false,
+                last_nonempty: false,
+                kept: false,
+            };
+        }
+        CachedMetrics {
+            first_width: metrics.first_width as u32,
+            rest_width: metrics.rest_width as u32,
+            last_width: metrics.last_width as u32,
+            first_nonempty: metrics.first_nonempty,
+            last_nonempty: metrics.last_nonempty,
+            kept: true,
+        }
+    }
+
+    // The metrics, where they are kept.
+    pub(crate) fn get(self) -> Option<Metrics>
+        ensures { MatchOption result (self.kept ≡ false)
+            (λ m. (self.kept ≡ true) × (m ≡ widened self)) }
+    {
+        if !self.kept {
+            return None;
+        }
+        Some(Metrics {
+            first_width: self.first_width as usize,
+            first_nonempty: self.first_nonempty,
+            rest_width: self.rest_width as usize,
+            last_width: self.last_width as usize,
+            last_nonempty: self.last_nonempty,
+        })
+    }
+}

@@ -1,0 +1,128 @@
+//! Documents of texts, with the columns that they count as.
+ghost use Rattle.std.specs.Prelude.{◌≡◌, ℕ, List, IfOk, IfSome, IsOkAnd};
+ghost use Rattle.std.specs.Cow.{cow_str_bytes};
+ghost use Rattle.prettyless_doc.specs.Counted as to;
+ghost use Rattle.prettyless_doc.specs.DocTree.{tree_of};
+ghost use Rattle.prettyless_doc.specs.TextBytes.{bytes_of};
+
+use crate::doc::{Doc, DocPtr};
+use crate::measure::{holds_break, is_ascii};
+use crate::text::{BuildError, CowStr, MultilineTextData, Text};
+use std::alloc::Global;
+use std::fmt;
+use unicode_width::UnicodeWidthStr;
+
+impl<'a, T: DocPtr<'a>> Doc<'a, T> {
+    // A text that counts as its bytes if it is ASCII, and else as its display width.
+    fn counted(text: Text<'a>) -> Self
+        ensures { tree_of T.tree result ≡ to.as_string (bytes_of text.entry) }
+    {
+        if is_ascii(text.as_str()) {
+            return Doc::Text(text);
+        }
+        let width = text.as_str().width();
+        Doc::TextWithLen(width, text)
+    }
+
+    /// A text, written as it is: nothing if it is empty. It counts as its bytes if it is ASCII, and
+    /// else as its display width. It takes no memory.
+    pub fn text(alloc: Global, text: CowStr<'a>) -> Result<Self, BuildError>
+        ensures { IsOkAnd result (λ d. tree_of T.tree d ≡ to.text (cow_str_bytes text.entry)) }
+    {
+        if text.len() == 0 {
+            return Ok(Doc::Nil);
+        }
+        Ok(Doc::counted(Text::from_cow(alloc, text)?))
+    }
+
+    /// What `{}` shows of the value, also if that is empty. It counts as its bytes if it is ASCII, and
+    /// else as its display width.
+    ///
+    /// It is answered `Memory` where memory was refused, and `Display` where only the value's
+    /// formatting failed.
+    pub fn as_string<V: fmt::Display + Drop>(alloc: Global, value: V) -> Result<Self, BuildError>
+        ensures { IfOk result (λ d. (s : List ℕ) × (tree_of T.tree d ≡ to.as_string s)
+            × IfSome (V.output value) (λ o. s ≡ o)) }
+    {
+        Ok(Doc::counted(Text::from_display(alloc, value)?))
+    }
+
+    /// A text whose line breaks, each LF or CR, are written as they are, and are seen by the layout.
+    /// Without one it is as `text` makes it. It takes no memory.
+    pub fn multiline_text(alloc: Global, text: CowStr<'a>) -> Result<Self, BuildError>
+        ensures { IsOkAnd result (λ d. tree_of T.tree d
+            ≡ to.multiline_text (cow_str_bytes text.entry)) }
+    {
+        if holds_break(text.as_str()) {
+            return Ok(Doc::MultilineText(MultilineTextData::new(text)));
+        }
+        Doc::text(alloc, text)
+    }
+}
+
+#[cfg(test)]
+mod tests {
+    use super::*;
+    use std::test::Fail;
+
+    // No pointer: its documents are single nodes.
+    #[derive(Drop)]
+    enum NoPointer {}
+
+    impl<'a> DocPtr<'a> for NoPointer {
+        ghost use Rattle.prettyless_model.specs.Tree.{Nil};
+
+        ghost tree = { λ _. Nil };
+
+        fn doc(&self) -> &Doc<'a, NoPointer> {
+            match *self {}
+        }
+    }
+
+    type Node = Doc<'static, NoPointer>;
+
+    #[derive(Drop)]
+    struct Failing;
+
+    impl fmt::Display for Failing {
+        fn fmt<W: fmt::Write>(&self, _f: &mut fmt::Formatter<W>) -> fmt::Result {
+            Err(fmt::Error)
+        }
+    }
+
+    #[test]
+    fn counts_a_text(rt: HostRuntime) -> Result<(), Fail> {
+        let doc: Node = Doc::text(rt.alloc(), CowStr::Borrowed(""))?;
+        assert!(rt; matches!(doc, Doc::Nil));
+        let doc: Node = Doc::text(rt.alloc(), CowStr::Borrowed("a\nb"))?;
+        assert!(rt; matches!(doc, Doc::Text(Text::Borrowed("a\nb"))));
+        let doc: Node = Doc::text(rt.alloc(), CowStr::Borrowed("\u{c5}\u{4f60}"))?;
+        assert!(rt; matches!(doc, Doc::TextWithLen(3, Text::Borrowed("\u{c5}\u{4f60}"))));
+        Ok(())
+    }
+
+    #[test]
+    fn counts_a_value(rt: HostRuntime) -> Result<(), Fail> {
+        let doc: Node = Doc::as_string(rt.alloc(), "")?;
+        assert!(rt; matches!(doc, Doc::Text(Text::Small(_))));
+        let doc: Node = Doc::as_string(
+            rt.alloc(),
+            "\u{e9}\u{e9}\u{e9}\u{e9}\u{e9}\u{e9}\u{e9}\u{e9}\u{e9}\u{e9}\u{e9}",
+        )?;
+        assert!(rt; matches!(doc, Doc::TextWithLen(11, Text::Small(_))));
+        let answer: Result<Node, BuildError> = Doc::as_string(rt.alloc(), Failing);
+        assert!(rt; matches!(answer, Err(BuildError::Display)));
+        Ok(())
+    }
+
+    #[test]
+    fn makes_a_payload(rt: HostRuntime) -> Result<(), Fail> {
+        let doc: Node = Doc::multiline_text(rt.alloc(), CowStr::Borrowed(""))?;
+        assert!(rt; matches!(doc, Doc::Nil));
+        let doc: Node = Doc::multiline_text(rt.alloc(), CowStr::Borrowed("ab"))?;
+        assert!(rt; matches!(doc, Doc::Text(_)));
+        let doc: Node = Doc::multiline_text(rt.alloc(), CowStr::Borrowed("a\rb"))?;
+        assert!(rt; matches!(doc, Doc::MultilineText(_)));
+        Ok(())
+    }
+}
