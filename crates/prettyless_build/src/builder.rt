@@ -89,7 +89,11 @@ impl<'a, D: DocPlace<'a>> DocBuilder<'a, D> {
         ensures err { IfErr result IsMemory }
     {
         match self.doc() {
-            Doc::Nil | Doc::Text(_) | Doc::TextWithLen(_, _) | Doc::Group(_) => Ok(self),
+            Doc::Nil
+            | Doc::Text(_)
+            | Doc::TextWithLen(_, _)
+            | Doc::MultilineText(_)
+            | Doc::Group(_) => Ok(self),
             _ => {
                 let allocator = self.0;
                 let inner = self.into_doc()?;
@@ -99,7 +103,7 @@ impl<'a, D: DocPlace<'a>> DocBuilder<'a, D> {
     }
 
     /// This document, laid flat. Where it is nothing, a text or flat already, it stays as it is. A
-    /// hard line break, which no flat line holds, becomes a document that fails. Neither takes
+    /// hard line break or a payload, which no flat line holds, becomes a document that fails. Neither takes
     /// memory; else memory can fail.
     pub fn flatten(self) -> Result<Self, BuildError>
         ensures ok { IfOk result (λ b. built D.Doc.tree b.1
@@ -113,7 +117,7 @@ impl<'a, D: DocPlace<'a>> DocBuilder<'a, D> {
         let allocator = self.0;
         match self.doc() {
             Doc::Nil | Doc::Text(_) | Doc::TextWithLen(_, _) | Doc::Flatten(_) => Ok(self),
-            Doc::HardLine => Ok(DocBuilder::new(allocator, Doc::Fail)),
+            Doc::HardLine | Doc::MultilineText(_) => Ok(DocBuilder::new(allocator, Doc::Fail)),
             _ => {
                 let inner = self.into_doc()?;
                 Ok(DocBuilder::new(allocator, Doc::Flatten(inner)))

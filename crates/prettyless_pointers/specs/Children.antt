@@ -1,6 +1,6 @@
 -- The pointers of a node.
 use Rattle.prettyless_doc.specs.declared.doc.Doc.{Doc}
-use Rattle.prettyless_doc.specs.declared.doc.Doc.TheVariants.{Nil, Fail, Text, TextWithLen, WeakSpace, HardLine, WeakLine, Append, LineSuffix, Nest, DedentToRoot, Align, ExpandParent, Flatten, BreakOrFlat, Group, Union, PartialUnion}
+use Rattle.prettyless_doc.specs.declared.doc.Doc.TheVariants.{Nil, Fail, Text, TextWithLen, MultilineText, WeakSpace, HardLine, WeakLine, Append, LineSuffix, Nest, DedentToRoot, Align, ExpandParent, Flatten, BreakOrFlat, Group, Union, PartialUnion}
 use Rattle.prettyless_pointers.specs.declared.children.Children.{Children}
 use Rattle.prettyless_pointers.specs.declared.children.Children.TheVariants.{None, One, Two}
 
@@ -10,6 +10,7 @@ children_of Nil = None
 children_of Fail = None
 children_of (Text s) = None
 children_of (TextWithLen w s) = None
+children_of (MultilineText s) = None
 children_of WeakSpace = None
 children_of HardLine = None
 children_of WeakLine = None

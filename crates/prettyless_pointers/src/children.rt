@@ -19,6 +19,7 @@ pub(crate) fn into_children<'a, T>(doc: Doc<'a, T>) -> Children<T>
         | Doc::Fail
         | Doc::Text(_)
         | Doc::TextWithLen(_, _)
+        | Doc::MultilineText(_)
         | Doc::WeakSpace
         | Doc::HardLine
         | Doc::WeakLine
