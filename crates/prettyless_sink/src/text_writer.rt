@@ -7,11 +7,10 @@ ghost use Rattle.prettyless_sink.specs.Sink.{AppendsKnownBeginning};
 use std::alloc::Allocator;
 use std::fmt;
 
-/// A text writer, as the sink over it sees it.
+/// A text writer that tells its text: a write appends the piece, and one that fails a beginning of it.
 ///
-/// One that tells its text promises that a write appends the piece, and that a write that fails appends a beginning of
-/// it. `fmt::Write` says nothing of a write that fails, so a writer says it here. One that tells nothing stands inside
-/// an `Untold`.
+/// `fmt::Write` says nothing of a write that fails, so a writer says it here, by an `impl` whose `write_text` is mostly
+/// its `write_str`. A `fmt::Write` without one is written to through `Untold`.
 pub trait TextWriter {
     // the text written so far, where it is known
     ghost text: { Self → Option (List ℕ) } = { λ _. None };
@@ -54,8 +53,13 @@ impl<W: TextWriter> TextWriter for &mut W {
 pub struct Untold<W>(pub W);
 
 impl<W: fmt::Write> TextWriter for Untold<W> {
+    /// Hands the piece on. On success it did what the writer says of a write.
     #[inline]
-    fn write_text(&mut self, piece: &str) -> fmt::Result {
+    fn write_text(&mut self, piece: &str) -> fmt::Result
+        ensures ok { OnOk result (Appends None None piece.now) }
+        ensures err { OnErr result (AppendsKnownBeginning None None piece.now) }
+        ensures given { OnOk result (W.write_str_gives self.old.0 piece.now self.new.0) }
+    {
         self.0.write_str(piece)
     }
 }

@@ -1,4 +1,6 @@
-ghost use Rattle.std.specs.Prelude.{Some};
+ghost use Rattle.std.specs.Prelude.{◌≡◌, ◌++◌, IsSome, OnOk, OnErr, Some};
+ghost use Rattle.prettyless_sink.specs.Sink.{AppendsBeginning, known};
+ghost use Rattle.prettyless_sink.specs.Spaces.{spaces};
 
 use super::FmtWrite;
 use crate::pieces::write_gap_and_text;
@@ -7,13 +9,20 @@ use crate::text_writer::{TextWriter, Untold};
 use std::fmt;
 use std::test::Fail;
 
+// The owner of a text learns what a sink over it wrote.
+fn write_indented<W: TextWriter>(out: &mut W, text: &str) -> fmt::Result
+    ensures ok { OnOk result (IsSome (W.text out.old) → known (W.text out.new) ≡ known (W.text out.old) ++ (spaces 2 ++ text.now)) }
+    ensures err { OnErr result (IsSome (W.text out.old) → AppendsBeginning (known (W.text out.old)) (known (W.text out.new)) (spaces 2 ++ text.now)) }
+{
+    let mut sink = FmtWrite::new(out);
+    write_gap_and_text(&mut sink, 2, text)
+}
+
 #[test]
 fn appends_to_the_text(rt: HostRuntime) -> Result<(), Fail> {
     let mut text = String::from_str(rt.alloc(), "ab\n")?;
-    let mut sink = FmtWrite::new(&mut text);
-    write_gap_and_text(&mut sink, 2, "é")?;
-    sink.write_str_all("!")?;
-    assert_eq!(rt; text.as_str(), "ab\n  é!");
+    write_indented(&mut text, "é")?;
+    assert_eq!(rt; text.as_str(), "ab\n  é");
     Ok(())
 }
 

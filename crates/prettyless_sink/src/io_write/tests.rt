@@ -1,6 +1,9 @@
-ghost use Rattle.std.specs.Prelude.{Some};
+ghost use Rattle.std.specs.Prelude.{◌≡◌, ◌++◌, IsSome, OnOk, OnErr, Some};
+ghost use Rattle.prettyless_sink.specs.Sink.{AppendsBeginning, known};
+ghost use Rattle.prettyless_sink.specs.Spaces.{spaces};
 
 use super::IoWrite;
+use crate::pieces::write_gap_and_text;
 use crate::render::Render;
 use std::io;
 use std::io::Write;
@@ -113,10 +116,19 @@ fn a_document_that_fails_is_of_kind_other(rt: HostRuntime) -> Result<(), Fail> {
     Ok(())
 }
 
+// The owner of a writer learns what a sink over it wrote.
+fn write_indented<W: Write>(out: &mut W, text: &str) -> io::Result<()>
+    ensures ok { OnOk result (IsSome (W.contents out.old) → known (W.contents out.new) ≡ known (W.contents out.old) ++ (spaces 2 ++ text.now)) }
+    ensures err { OnErr result (IsSome (W.contents out.old) → AppendsBeginning (known (W.contents out.old)) (known (W.contents out.new)) (spaces 2 ++ text.now)) }
+{
+    let mut sink = IoWrite::new(out);
+    write_gap_and_text(&mut sink, 2, text)
+}
+
 #[test]
 fn writes_to_a_vector(rt: HostRuntime) -> Result<(), Fail> {
     let mut bytes = Vec::new(rt.alloc());
-    IoWrite::new(&mut bytes).write_str_all("one\npiece")?;
-    assert_eq!(rt; bytes.as_slice(), b"one\npiece".as_slice());
+    write_indented(&mut bytes, "one\npiece")?;
+    assert_eq!(rt; bytes.as_slice(), b"  one\npiece".as_slice());
     Ok(())
 }
