@@ -10,7 +10,7 @@ use crate::expression::SExp;
 use crate::input::read_input;
 use crate::output::write_text;
 use crate::parse::parse;
-use prettyless::BoxAllocator;
+use prettyless::{BoxAllocator, RenderError};
 use std::alloc::{AllocError, Global};
 use std::io::{Read, Write};
 
@@ -24,8 +24,11 @@ fn layout_text(alloc: Global, width: usize, expression: &SExp) -> Result<String,
     let mut text = String::new(alloc);
     match document.1.doc().render_fmt(alloc, width, &mut text) {
         Ok(()) => Ok(text),
-        // The text could not grow, or the printer had no memory: a document of numbers and lists doesn't fail.
-        Err(_) => Err(RunError::Memory(AllocError)),
+        Err(RenderError::Memory(error)) => Err(RunError::Memory(error)),
+        // The text could not grow.
+        Err(RenderError::Sink(_)) => Err(RunError::Memory(AllocError)),
+        // No line of such a document is broken in a flat part.
+        Err(RenderError::Document(_)) => unreachable!(),
     }
 }
 
