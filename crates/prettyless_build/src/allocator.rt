@@ -2,12 +2,14 @@ ghost use Rattle.std.specs.Prelude.{◌≡◌, IfOk, IfErr, IsOkAnd};
 ghost use Rattle.std.specs.Cow.{cow_str_bytes};
 ghost use Rattle.prettyless_doc.specs.Tree.{Nil, Fail, Text as TextTree, WeakSpace, HardLine, WeakLine, ExpandParent, BreakOrFlat};
 ghost use Rattle.prettyless_doc.specs.BuildErrors.{IsMemory};
+ghost use Rattle.prettyless_doc.specs.Counted as counted;
 ghost use Rattle.prettyless_doc.specs.DocTree.{tree_of, built};
 ghost use Rattle.prettyless_build.specs.Built as to;
 
 use crate::builder::DocBuilder;
 use prettyless_doc::text::CowStr;
 use prettyless_doc::{BuildDoc, BuildError, Doc, DocPlace, Text};
+use std::fmt;
 
 /// The documents that every place of nodes can start.
 pub trait DocAllocator<'a>: DocPlace<'a> {
@@ -31,6 +33,30 @@ pub trait DocAllocator<'a>: DocPlace<'a> {
     fn ascii_text(&'a self, text: CowStr<'a>) -> Result<DocBuilder<'a, Self>, BuildError>
         ensures { IsOkAnd result (λ b. built Self.Doc.tree b.1
             ≡ TextTree (cow_str_bytes text.entry)) };
+
+    /// A text, written as it is: nothing if it is empty. It counts as its bytes if it is ASCII, and
+    /// else as its display width. It takes no memory.
+    fn text(&'a self, text: CowStr<'a>) -> Result<DocBuilder<'a, Self>, BuildError>
+        ensures { IsOkAnd result (λ b. built Self.Doc.tree b.1
+            ≡ counted.text (cow_str_bytes text.entry)) };
+
+    /// What `{}` shows of the value, also if that is empty. It counts as its bytes if it is ASCII, and
+    /// else as its display width.
+    ///
+    /// It is answered `Memory` where memory was refused, and `Display` where only the value's
+    /// formatting failed.
+    fn as_string<V: fmt::Display + Drop>(
+        &'a self,
+        value: V,
+    ) -> Result<DocBuilder<'a, Self>, BuildError>
+        ensures { IfOk result (λ b. counted.IsStringOf (V.output value)
+            (built Self.Doc.tree b.1)) };
+
+    /// A text whose line breaks, each LF or CR, are written as they are, and are seen by the layout.
+    /// Without one it is as `text` makes it. It takes no memory.
+    fn multiline_text(&'a self, text: CowStr<'a>) -> Result<DocBuilder<'a, Self>, BuildError>
+        ensures { IsOkAnd result (λ b. built Self.Doc.tree b.1
+            ≡ counted.multiline_text (cow_str_bytes text.entry)) };
 
     /// A line break. It takes no memory.
     fn hard_line(&'a self) -> Result<DocBuilder<'a, Self>, BuildError>
@@ -115,6 +141,24 @@ impl<'a, D: DocPlace<'a>> DocAllocator<'a> for D {
     fn ascii_text(&'a self, text: CowStr<'a>) -> Result<DocBuilder<'a, D>, BuildError> {
         let text = Text::from_cow(self.memory(), text)?;
         Ok(DocBuilder::new(self, Doc::Text(text)))
+    }
+
+    fn text(&'a self, text: CowStr<'a>) -> Result<DocBuilder<'a, D>, BuildError> {
+        let doc = Doc::text(self.memory(), text)?;
+        Ok(DocBuilder::new(self, doc))
+    }
+
+    fn as_string<V: fmt::Display + Drop>(
+        &'a self,
+        value: V,
+    ) -> Result<DocBuilder<'a, D>, BuildError> {
+        let doc = Doc::as_string(self.memory(), value)?;
+        Ok(DocBuilder::new(self, doc))
+    }
+
+    fn multiline_text(&'a self, text: CowStr<'a>) -> Result<DocBuilder<'a, D>, BuildError> {
+        let doc = Doc::multiline_text(self.memory(), text)?;
+        Ok(DocBuilder::new(self, doc))
     }
 
     fn hard_line(&'a self) -> Result<DocBuilder<'a, D>, BuildError> {

@@ -44,6 +44,18 @@ impl<'a> DocPlace<'a> for Boxes {
 }
 
 #[test]
+fn counts_texts(rt: HostRuntime) -> Result<(), Fail> {
+    let boxes = Boxes { memory: rt.alloc() };
+    let text = boxes.text(CowStr::Borrowed("\u{e9}"))?;
+    assert!(rt; matches!(text.1.doc(), Doc::TextWithLen(1, Text::Borrowed("\u{e9}"))));
+    let value = boxes.as_string(16)?;
+    assert!(rt; matches!(value.1.doc(), Doc::Text(Text::Small(_))));
+    let payload = boxes.multiline_text(CowStr::Borrowed("a\n"))?;
+    assert!(rt; matches!(payload.1.doc(), Doc::MultilineText(_)));
+    Ok(())
+}
+
+#[test]
 fn places_a_document(rt: HostRuntime) -> Result<(), Fail> {
     let boxes = Boxes { memory: rt.alloc() };
     let pointer = boxes.alloc_cow(BuildDoc::Doc(Doc::HardLine))?;

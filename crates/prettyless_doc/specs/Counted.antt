@@ -1,5 +1,5 @@
 -- The trees of texts, with the columns that they count as.
-use Rattle.std.specs.Prelude.{ℕ, List, [], ◌∷◌, false, chars, if◌then◌else◌}
+use Rattle.std.specs.Prelude.{◌≡◌, ℕ, List, [], ◌∷◌, false, Option, IfSome, chars, if◌then◌else◌}
 use Rattle.unicode_width.specs.Width.{str_width}
 use Rattle.prettyless_model.specs.Metrics.{is_ascii}
 use Rattle.prettyless_model.specs.Tree.{Tree, Nil, Text, TextWithLen, MultilineText}
@@ -8,6 +8,10 @@ use Rattle.prettyless_doc.specs.Breaks.{holds_break}
 -- `as_string`: counted by its bytes if it is ASCII, also if it is empty, and else by its display width
 abbrev pub as_string : List ℕ → Tree
 as_string s = if is_ascii s then Text s else TextWithLen (str_width false (chars s)) s
+
+-- the tree of what a value prints: of its output, if it tells that, and else of some text
+abbrev pub IsStringOf : Option (List ℕ) → Tree → Type 0
+IsStringOf output d = (s : List ℕ) × (d ≡ as_string s) × IfSome output (λ o. s ≡ o)
 
 -- `text`: the same, but nothing if it is empty
 abbrev pub text : List ℕ → Tree

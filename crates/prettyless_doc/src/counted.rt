@@ -1,5 +1,5 @@
 //! Documents of texts, with the columns that they count as.
-ghost use Rattle.std.specs.Prelude.{◌≡◌, ℕ, List, IfOk, IfSome, IsOkAnd};
+ghost use Rattle.std.specs.Prelude.{◌≡◌, IfOk, IsOkAnd};
 ghost use Rattle.std.specs.Cow.{cow_str_bytes};
 ghost use Rattle.prettyless_doc.specs.Counted as to;
 ghost use Rattle.prettyless_doc.specs.DocTree.{tree_of};
@@ -41,8 +41,7 @@ impl<'a, T: DocPtr<'a>> Doc<'a, T> {
     /// It is answered `Memory` where memory was refused, and `Display` where only the value's
     /// formatting failed.
     pub fn as_string<V: fmt::Display + Drop>(alloc: Global, value: V) -> Result<Self, BuildError>
-        ensures { IfOk result (λ d. (s : List ℕ) × (tree_of T.tree d ≡ to.as_string s)
-            × IfSome (V.output value) (λ o. s ≡ o)) }
+        ensures { IfOk result (λ d. to.IsStringOf (V.output value) (tree_of T.tree d)) }
     {
         Ok(Doc::counted(Text::from_display(alloc, value)?))
     }
