@@ -1,10 +1,13 @@
 pub use Rattle.prettyless_build.specs.Built
 pub use Rattle.prettyless_doc.specs.BuildErrors
+pub use Rattle.prettyless_doc.specs.Counted
 pub use Rattle.prettyless_doc.specs.DocTree
+pub use Rattle.prettyless_doc.specs.Payload
 pub use Rattle.prettyless_doc.specs.TextBytes
 pub use Rattle.prettyless_doc.specs.Tree
 pub use Rattle.prettyless_model.specs.Column
 pub use Rattle.prettyless_model.specs.Layout
+pub use Rattle.prettyless_model.specs.Metrics
 pub use Rattle.prettyless_model.specs.Reading
 pub use Rattle.prettyless_pointers.specs.Trees
 pub use Rattle.prettyless_printer.specs.Renders

@@ -2,10 +2,16 @@
 //!
 //! A document is a tree of [`Doc`] nodes behind pointers, each a [`DocPtr`]. A [`DocPlace`] is where
 //! nodes are put; with that it is a [`DocAllocator`], which starts documents, and a [`DocBuilder`]
-//! makes larger ones of them.
+//! makes larger ones of them. A document is rendered within [`RenderOptions`] to a byte writer, to a
+//! [`TextWriter`], or to any sink that is [`Render`]; [`PrettyFmt`] prints it.
 #![tactic(auto)]
 
-pub use prettyless_build::{DocAllocator, DocBuilder, Pretty};
-pub use prettyless_doc::{BuildDoc, Doc, DocPlace, DocPtr, text};
+pub use prettyless_build::{DocAllocator, DocAllocatorOf, DocBuilder, Pretty};
+pub use prettyless_doc::{BuildDoc, Doc, DocPlace, DocPtr, PrettyFmt, text};
 pub use prettyless_pointers::{BoxAllocator, BoxDoc};
 pub use prettyless_sink::error::RenderError;
+pub use prettyless_sink::fmt_write::FmtWrite;
+pub use prettyless_sink::io_write::IoWrite;
+pub use prettyless_sink::options::{IndentationPolicy, LineEnding, RenderOptions};
+pub use prettyless_sink::render::Render;
+pub use prettyless_sink::text_writer::{TextWriter, Untold};

@@ -1,0 +1,35 @@
+use Rattle.std.proofs.Common.{◌≡◌, Result, Ok, Err, IfOk, drop, refl, [], ◌∷◌}
+use Rattle.prettyless.specs.Tree.{Tree, Text}
+use Rattle.prettyless.specs.Built.{append, line}
+use Rattle.prettyless.specs.DocTree.{built}
+use Rattle.prettyless.specs.Trees.{box_tree}
+use Rattle.sexp.specs.Value.{values_of}
+use Rattle.sexp.specs.View.{value_of, values_in}
+use Rattle.sexp.specs.Documents.{document_of, interspersed, followed_by}
+use Rattle.sexp.proofs.document.+document.Goals as goal
+
+-- an answer that is x with some tree appended, and that tree is y
+appended : {B E : Type 0} (tree : B → Tree) (r : Result B E) (x y all : Tree) → IfOk r (λ b. (v : Tree) × (v ≡ y) × (tree b ≡ append x v)) → append x y ≡ all → IfOk r (λ b. tree b ≡ all)
+appended tree (Ok b) x y all h e = rw e at (rw h.1 at h.2)
+appended tree (Err error) x y all h e = tt
+
+pub document-returns-in_ok-ascii_text-in-List-2-clause-ok : goal.document-returns-in_ok-ascii_text-in-List-2-clause-ok
+document-returns-in_ok-ascii_text-in-List-2-clause-ok t c =
+    let opening = c.in_ok-ascii_text-in-List.ensures in
+    let closing = c.in_ok-ascii_text-in-List-2.ensures in
+    let lines = rw c.deref.ensures.value at c.in_ok-lines-in-List.ensures.ok in
+    let nested = rw lines at c.in_ok-nest-in-List.ensures.ok in
+    let items = rw nested at c.in_ok-items-in-List.ensures.ok in
+    let front = c.in_ok-append-in-List.ensures.ok in
+    let opened = rw (opening, items) at (rw front.1 at front.2) in
+    appended (λ b. built box_tree b.1) c.append-in-List.result (built box_tree c.in_ok-append-in-List.field-0.1) (built box_tree c.in_ok-ascii_text-in-List-2.field-0.1) (document_of (value_of c.args.expression.now)) c.append-in-List.ensures.ok (rw (opened, closing, c.in-List.is) refl)
+
+pub lines-loop-expression-preserved : goal.lines-loop-expression-preserved
+lines-loop-expression-preserved t c =
+    let line = c.in_ok-line.ensures.ok in
+    let behind = c.in_ok-append.ensures.ok in
+    let lined = rw line at (rw behind.1 at behind.2) in
+    let next = c.in_ok-document.ensures.ok in
+    let last = c.in_ok-all-2.ensures.ok in
+    let all = rw (lined, next) at (rw last.1 at last.2) in
+    rw all ?
