@@ -22,7 +22,7 @@ GivesValue given v = (input : List ℕ) × IfSome given (λ bytes. bytes ≡ inp
 abbrev pub WritesLayout : ℕ → Option (List ℕ) → Option (List ℕ) → Option (List ℕ) → Type 0
 WritesLayout columns given old new = (v : Value) × (bytes : List ℕ) × GivesValue given v × (layout_of columns v ≡ Whole bytes) × Appends old new (bytes ++ line_feed ∷ [])
 
--- a beginning of them
+-- a beginning of them, and not all
 abbrev pub WritesBeginning : ℕ → Option (List ℕ) → Option (List ℕ) → Option (List ℕ) → Type 0
 WritesBeginning columns given old new = (v : Value) × GivesValue given v × AppendsBeginning old new (bytes_in (layout_of columns v) ++ line_feed ∷ [])
 

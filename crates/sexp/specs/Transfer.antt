@@ -1,5 +1,5 @@
 -- Bytes that come in and go out, and what may go wrong with them.
-use Rattle.std.specs.Prelude.{◌≡◌, ℕ, List, ◌++◌, Option}
+use Rattle.std.specs.Prelude.{◌≡◌, ℕ, ◌<◌, List, ◌++◌, length, Option}
 use Rattle.std.specs.Io.KnownBytes.{Appends}
 use Rattle.sexp.specs.declared.error.RunError.{RunError}
 use Rattle.sexp.specs.declared.error.RunError.TheVariants.{NotAnSexp, Memory, Read, Write}
@@ -25,6 +25,6 @@ IsWriting (Memory e) = ⊥
 IsWriting (Read e) = ⊥
 IsWriting (Write e) = Unit {0}
 
--- a beginning of the text was appended
+-- a beginning of the text was appended, and not all of it
 abbrev pub AppendsBeginning : Option (List ℕ) → Option (List ℕ) → List ℕ → Type 0
-AppendsBeginning old new text = (front : List ℕ) × (back : List ℕ) × (text ≡ front ++ back) × Appends old new front
+AppendsBeginning old new text = (front : List ℕ) × (back : List ℕ) × (text ≡ front ++ back) × (0 < length back) × Appends old new front
