@@ -1,17 +1,25 @@
-use Rattle.std.proofs.Common.{◌≡◌, Result, Ok, Err, IfOk, drop, refl, [], ◌∷◌}
+use Rattle.std.proofs.Common.{◌≡◌, ℕ, ◌+◌, ◌-◌, ◌<◌, Result, Ok, Err, IfOk, List, length, take, drop, refl, [], ◌∷◌}
+use Rattle.std.proofs.Math.ListN.{get_or}
+use Rattle.std.proofs.lemmas.List.{drop_more}
 use Rattle.prettyless.specs.Tree.{Tree, Text}
 use Rattle.prettyless.specs.Built.{append, line}
 use Rattle.prettyless.specs.DocTree.{built}
 use Rattle.prettyless.specs.Trees.{box_tree}
+use Rattle.sexp.specs.declared.expression.SExp.{SExp}
 use Rattle.sexp.specs.Value.{values_of}
 use Rattle.sexp.specs.View.{value_of, values_in}
 use Rattle.sexp.specs.Documents.{document_of, interspersed, followed_by}
+use Rattle.sexp.proofs.Views.{value_of-List}
 use Rattle.sexp.proofs.document.+document.Goals as goal
 
 -- an answer that is x with some tree appended, and that tree is y
 appended : {B E : Type 0} (tree : B → Tree) (r : Result B E) (x y all : Tree) → IfOk r (λ b. (v : Tree) × (v ≡ y) × (tree b ≡ append x v)) → append x y ≡ all → IfOk r (λ b. tree b ≡ all)
 appended tree (Ok b) x y all h e = rw e at (rw h.1 at h.2)
 appended tree (Err error) x y all h e = tt
+
+-- the next expression is behind the document so far
+behind_next : (so_far all : Tree) (es : List SExp) (i : ℕ) (d : SExp) → i < length es → followed_by so_far (values_of (values_in (drop i es))) ≡ all → followed_by (append (append so_far line) (document_of (value_of (get_or es i d)))) (values_of (values_in (drop (i + 1) es))) ≡ all
+behind_next so_far all es i d near h = rw (drop_more es i d near) at h
 
 pub document-returns-in_ok-ascii_text-in-List-2-clause-ok : goal.document-returns-in_ok-ascii_text-in-List-2-clause-ok
 document-returns-in_ok-ascii_text-in-List-2-clause-ok t c =
@@ -22,7 +30,7 @@ document-returns-in_ok-ascii_text-in-List-2-clause-ok t c =
     let items = rw nested at c.in_ok-items-in-List.ensures.ok in
     let front = c.in_ok-append-in-List.ensures.ok in
     let opened = rw (opening, items) at (rw front.1 at front.2) in
-    appended (λ b. built box_tree b.1) c.append-in-List.result (built box_tree c.in_ok-append-in-List.field-0.1) (built box_tree c.in_ok-ascii_text-in-List-2.field-0.1) (document_of (value_of c.args.expression.now)) c.append-in-List.ensures.ok (rw (opened, closing, c.in-List.is) refl)
+    appended (λ b. built box_tree b.1) c.append-in-List.result (built box_tree c.in_ok-append-in-List.field-0.1) (built box_tree c.in_ok-ascii_text-in-List-2.field-0.1) (document_of (value_of c.args.expression.now)) c.append-in-List.ensures.ok (rw (opened, closing, c.in-List.is, value_of-List c.in-List.items) refl)
 
 pub lines-loop-expression-preserved : goal.lines-loop-expression-preserved
 lines-loop-expression-preserved t c =
@@ -32,4 +40,6 @@ lines-loop-expression-preserved t c =
     let next = c.in_ok-document.ensures.ok in
     let last = c.in_ok-all-2.ensures.ok in
     let all = rw (lined, next) at (rw last.1 at last.2) in
-    rw all ?
+    let es = take (length c.args.expressions.now - 1) (drop 1 c.args.expressions.now) in
+    rw (all, c.expression-item.is)
+    (behind_next (built box_tree c.loop-expression.all.1) (interspersed (values_of (values_in c.args.expressions.now))) es c.loop-expression.expression-index c.expression-item.result c.loop-expression-test.true c.loop-expression.invariant)
