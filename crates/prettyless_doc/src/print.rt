@@ -45,7 +45,10 @@ impl<'a, T: DocPtr<'a>> fmt::Display for PrettyFmt<'a, '_, T> {
 
     fn fmt<W: fmt::Write>(&self, f: &mut fmt::Formatter<W>) -> fmt::Result {
         let mut text = String::new(self.alloc);
-        match self.doc.render_fmt_with(self.alloc, self.options, &mut text) {
+        match self
+            .doc
+            .render_fmt_with(self.alloc, self.options, &mut text)
+        {
             Ok(()) => f.write_str(text.as_str()),
             Err(_) => Err(fmt::Error),
         }

@@ -24,48 +24,78 @@ use std::{fmt, io};
 impl<'a, T: DocPtr<'a>> Doc<'a, T> {
     /// Renders to a sink. `Sink` is answered only where its failures rose by one in this call (at their greatest value
     /// they stay); else they stay.
-    pub fn render_raw_with<W: Render>(&self, alloc: Global, options: RenderOptions, out: &mut W) -> Result<(), RenderError<W::Error>>
+    pub fn render_raw_with<W: Render>(
+        &self,
+        alloc: Global,
+        options: RenderOptions,
+        out: &mut W,
+    ) -> Result<(), RenderError<W::Error>>
         ensures same_lender { W.lender out.new ≡ W.lender out.old }
         ensures told { W.tells out.old → W.tells out.new
             × Rendered (W.document_errors out.new) (layout options (tree_of T.tree self.now))
-                (W.written out.old) (W.written out.new) (W.failures out.old) (W.failures out.new) result }
+            (W.written out.old) (W.written out.new) (W.failures out.old) (W.failures out.new) result }
     {
         run::render(alloc, self, options, out)
     }
 
     /// Renders to a sink at this width.
-    pub fn render_raw<W: Render>(&self, alloc: Global, width: usize, out: &mut W) -> Result<(), RenderError<W::Error>>
+    pub fn render_raw<W: Render>(
+        &self,
+        alloc: Global,
+        width: usize,
+        out: &mut W,
+    ) -> Result<(), RenderError<W::Error>>
         ensures same_lender { W.lender out.new ≡ W.lender out.old }
         ensures told { W.tells out.old → W.tells out.new
             × Rendered (W.document_errors out.new) (layout (options_at width) (tree_of T.tree self.now))
-                (W.written out.old) (W.written out.new) (W.failures out.old) (W.failures out.new) result }
+            (W.written out.old) (W.written out.new) (W.failures out.old) (W.failures out.new) result }
     {
         self.render_raw_with(alloc, RenderOptions::new(width), out)
     }
 
     /// Renders to a byte writer. An interruption of the writer is answered, and not tried again.
-    pub fn render_with<W: io::Write>(&self, alloc: Global, options: RenderOptions, out: &mut W) -> Result<(), RenderError<io::Error>>
+    pub fn render_with<W: io::Write>(
+        &self,
+        alloc: Global,
+        options: RenderOptions,
+        out: &mut W,
+    ) -> Result<(), RenderError<io::Error>>
         ensures { RendersKnown (λ e. error_kind e ≡ Other) (layout options (tree_of T.tree self.now)) (W.contents out.old) (W.contents out.new) result }
     {
         self.render_raw_with(alloc, options, &mut IoWrite::new(out))
     }
 
     /// Renders to a byte writer at this width.
-    pub fn render<W: io::Write>(&self, alloc: Global, width: usize, out: &mut W) -> Result<(), RenderError<io::Error>>
+    pub fn render<W: io::Write>(
+        &self,
+        alloc: Global,
+        width: usize,
+        out: &mut W,
+    ) -> Result<(), RenderError<io::Error>>
         ensures { RendersKnown (λ e. error_kind e ≡ Other) (layout (options_at width) (tree_of T.tree self.now)) (W.contents out.old) (W.contents out.new) result }
     {
         self.render_with(alloc, RenderOptions::new(width), out)
     }
 
     /// Renders to a text writer.
-    pub fn render_fmt_with<W: TextWriter>(&self, alloc: Global, options: RenderOptions, out: &mut W) -> Result<(), RenderError<fmt::Error>>
+    pub fn render_fmt_with<W: TextWriter>(
+        &self,
+        alloc: Global,
+        options: RenderOptions,
+        out: &mut W,
+    ) -> Result<(), RenderError<fmt::Error>>
         ensures { RendersKnown (λ _. ⊤) (layout options (tree_of T.tree self.now)) (W.text out.old) (W.text out.new) result }
     {
         self.render_raw_with(alloc, options, &mut FmtWrite::new(out))
     }
 
     /// Renders to a text writer at this width.
-    pub fn render_fmt<W: TextWriter>(&self, alloc: Global, width: usize, out: &mut W) -> Result<(), RenderError<fmt::Error>>
+    pub fn render_fmt<W: TextWriter>(
+        &self,
+        alloc: Global,
+        width: usize,
+        out: &mut W,
+    ) -> Result<(), RenderError<fmt::Error>>
         ensures { RendersKnown (λ _. ⊤) (layout (options_at width) (tree_of T.tree self.now)) (W.text out.old) (W.text out.new) result }
     {
         self.render_fmt_with(alloc, RenderOptions::new(width), out)

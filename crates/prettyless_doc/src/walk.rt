@@ -13,7 +13,10 @@ impl<'d, 'a, T: DocPtr<'a>> Walk for &'d Doc<'a, T> {
             Doc::Fail => View::Fail,
             Doc::Text(ref text) => View::Text(text.as_str()),
             Doc::TextWithLen(width, ref text) => View::TextWithLen(width, text.as_str()),
-            Doc::MultilineText(ref payload) => View::MultilineText(payload.as_str(), payload.metrics()),
+            Doc::MultilineText(ref payload) => View::MultilineText(
+                payload.as_str(),
+                payload.metrics(),
+            ),
             Doc::WeakSpace => View::WeakSpace,
             Doc::HardLine => View::HardLine,
             Doc::WeakLine => View::WeakLine,

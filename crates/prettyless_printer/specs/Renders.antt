@@ -65,4 +65,3 @@ abbrev pub RendersKnown : {A E : Type 0} → (E → Type 0) → Bytes → Option
 RendersKnown fails y None new r = Unit {0}
 RendersKnown fails y (Some old) None r = ⊥
 RendersKnown fails y (Some old) (Some new) r = RendersInto fails y old new r
-
