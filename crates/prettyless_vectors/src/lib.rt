@@ -4,10 +4,30 @@
 #[cfg(test)]
 mod built;
 #[cfg(test)]
+mod choices;
+#[cfg(test)]
+mod modes;
+#[cfg(test)]
+mod near_misses;
+#[cfg(test)]
+mod payloads;
+#[cfg(test)]
 mod random;
+#[cfg(test)]
+mod random_crlf;
+#[cfg(test)]
+mod random_deferred;
+#[cfg(test)]
+mod random_deferred_crlf;
+#[cfg(test)]
+mod random_mixed;
 #[cfg(test)]
 mod reader;
 #[cfg(test)]
 mod rendered;
+#[cfg(test)]
+mod suffixes;
+#[cfg(test)]
+mod weak;
 #[cfg(test)]
 mod worked;

@@ -1,10 +1,10 @@
-use prettyless::text::Text;
+use prettyless::text::{CowStr, Text};
 use prettyless::{BoxDoc, Doc};
 use std::alloc::Global;
 use std::test::Fail;
 
 // Deeper than any document of the tables.
-const DEPTH: u32 = 40;
+const DEPTH: u32 = 2100;
 
 // Reads documents that are written as their variants, each in front of what it holds: words with a space between them,
 // and texts in quotes. The nodes are put together as they stand, with no builder.
@@ -22,12 +22,29 @@ impl<'a> Reader<'a> {
         word
     }
 
-    // The next text, without its quotes.
-    fn text(&mut self) -> Result<Text<'a>, Fail> {
+    // What stands in the next quotes.
+    fn quoted(&mut self) -> Result<&'a str, Fail> {
         let rest = self.rest.strip_prefix('\'').ok_or("no text")?;
         let (text, rest) = rest.split_once('\'').ok_or("a text without end")?;
         self.rest = rest.strip_prefix(' ').unwrap_or(rest);
-        Ok(Text::Borrowed(text))
+        Ok(text)
+    }
+
+    // The node of this variant, if it holds no document.
+    fn leaf(&mut self, variant: &str) -> Result<Option<Doc<'a, BoxDoc<'a>>>, Fail> {
+        let node = match variant {
+            "Nil" => Doc::Nil,
+            "Fail" => Doc::Fail,
+            "Text" => Doc::Text(Text::Borrowed(self.quoted()?)),
+            "TextWithLen" => Doc::TextWithLen(self.word().parse()?, Text::Borrowed(self.quoted()?)),
+            "MultilineText" => Doc::multiline_text(self.memory, CowStr::Borrowed(self.quoted()?))?,
+            "WeakSpace" => Doc::WeakSpace,
+            "HardLine" => Doc::HardLine,
+            "WeakLine" => Doc::WeakLine,
+            "ExpandParent" => Doc::ExpandParent,
+            _ => return Ok(None),
+        };
+        Ok(Some(node))
     }
 
     // The next document, if it is at most this deep.
@@ -35,18 +52,58 @@ impl<'a> Reader<'a> {
         if depth == 0 {
             return Err(Fail::new("too deep"));
         }
-        let node = match self.word() {
-            "Nil" => Doc::Nil,
-            "Text" => Doc::Text(self.text()?),
-            "TextWithLen" => Doc::TextWithLen(self.word().parse()?, self.text()?),
-            "HardLine" => Doc::HardLine,
-            "Append" => Doc::Append(self.document(depth - 1)?, self.document(depth - 1)?),
-            "Nest" => Doc::Nest(self.word().parse()?, self.document(depth - 1)?),
-            "BreakOrFlat" => Doc::BreakOrFlat(self.document(depth - 1)?, self.document(depth - 1)?),
-            "Group" => Doc::Group(self.document(depth - 1)?),
-            _ => return Err(Fail::new("no variant")),
+        let variant = self.word();
+        if let Some(leaf) = self.leaf(variant)? {
+            return Ok(BoxDoc::new(self.memory, leaf)?);
+        }
+        let offset = if variant == "Nest" {
+            self.word().parse()?
+        } else {
+            0
+        };
+        let first = self.document(depth - 1)?;
+        let node = if is_pair(variant) {
+            pair(variant, first, self.document(depth - 1)?)?
+        } else {
+            around(variant, offset, first)?
         };
         Ok(BoxDoc::new(self.memory, node)?)
+    }
+}
+
+fn is_pair(variant: &str) -> bool {
+    matches!(variant, "Append" | "BreakOrFlat" | "Union" | "PartialUnion")
+}
+
+// The node of this variant over two documents.
+fn pair<'a>(
+    variant: &str,
+    first: BoxDoc<'a>,
+    second: BoxDoc<'a>,
+) -> Result<Doc<'a, BoxDoc<'a>>, Fail> {
+    match variant {
+        "Append" => Ok(Doc::Append(first, second)),
+        "BreakOrFlat" => Ok(Doc::BreakOrFlat(first, second)),
+        "Union" => Ok(Doc::Union(first, second)),
+        "PartialUnion" => Ok(Doc::PartialUnion(first, second)),
+        _ => Err(Fail::new("no variant")),
+    }
+}
+
+// The node of this variant over one document.
+fn around<'a>(
+    variant: &str,
+    offset: isize,
+    inner: BoxDoc<'a>,
+) -> Result<Doc<'a, BoxDoc<'a>>, Fail> {
+    match variant {
+        "LineSuffix" => Ok(Doc::LineSuffix(inner)),
+        "Nest" => Ok(Doc::Nest(offset, inner)),
+        "DedentToRoot" => Ok(Doc::DedentToRoot(inner)),
+        "Align" => Ok(Doc::Align(inner)),
+        "Flatten" => Ok(Doc::Flatten(inner)),
+        "Group" => Ok(Doc::Group(inner)),
+        _ => Err(Fail::new("no variant")),
     }
 }
 

@@ -1,5 +1,5 @@
 use crate::reader::read;
-use prettyless::{BoxDoc, DocPtr};
+use prettyless::{BoxDoc, DocPtr, IndentationPolicy, LineEnding, RenderError, RenderOptions};
 use std::alloc::Global;
 use std::process::Abort;
 use std::test::Fail;
@@ -15,15 +15,65 @@ pub(crate) fn rendered(
     Ok(out)
 }
 
+// The bytes before the node that fails, or all of them.
+fn outcome(
+    memory: Global,
+    document: &BoxDoc<'_>,
+    options: RenderOptions,
+) -> Result<Result<String, String>, Fail> {
+    let mut out = String::new(memory);
+    match document.doc().render_fmt_with(memory, options, &mut out) {
+        Ok(()) => Ok(Ok(out)),
+        Err(RenderError::Document(_)) => Ok(Err(out)),
+        Err(_) => Err(Fail::new("no memory")),
+    }
+}
+
+// At the width 0.
+pub(crate) fn options(ending: LineEnding, policy: IndentationPolicy) -> RenderOptions {
+    RenderOptions::new(0)
+        .with_line_ending(ending)
+        .with_indentation_policy(policy)
+}
+
 // A width, a document as the reader takes it, and what it has to be rendered as.
 pub(crate) type Case = (usize, &'static str, &'static str);
 
-// Compares what each document is rendered as.
-pub(crate) fn compare(rt: &impl Abort, memory: Global, cases: &[Case]) -> Result<(), Fail> {
+// Compares what each document is rendered as with these options at its width.
+pub(crate) fn compare_with(
+    rt: &impl Abort,
+    memory: Global,
+    options: RenderOptions,
+    cases: &[Case],
+) -> Result<(), Fail> {
     for &(width, written, layout) in cases {
         let document = read(memory, written)?;
-        let out = rendered(memory, &document, width)?;
-        assert_eq!(rt; out.as_str(), layout, "{written} at {width}");
+        match outcome(memory, &document, options.with_width(width))? {
+            Ok(out) => assert_eq!(rt; out.as_str(), layout, "{written} at {width}"),
+            Err(out) => panic!(rt; "{written} at {width} fails after {out:?}"),
+        }
+    }
+    Ok(())
+}
+
+// The same where lines end in LF, and indents are written at once.
+pub(crate) fn compare(rt: &impl Abort, memory: Global, cases: &[Case]) -> Result<(), Fail> {
+    compare_with(rt, memory, RenderOptions::new(0), cases)
+}
+
+// Compares what stands before the node at which each document fails.
+pub(crate) fn compare_failing(
+    rt: &impl Abort,
+    memory: Global,
+    options: RenderOptions,
+    cases: &[Case],
+) -> Result<(), Fail> {
+    for &(width, written, before) in cases {
+        let document = read(memory, written)?;
+        match outcome(memory, &document, options.with_width(width))? {
+            Ok(out) => panic!(rt; "{written} at {width} is {out:?}"),
+            Err(out) => assert_eq!(rt; out.as_str(), before, "{written} at {width}"),
+        }
     }
     Ok(())
 }

@@ -1,0 +1,61 @@
+//! Alternatives of which the first that fits is taken.
+use crate::rendered::{Case, compare, compare_with, options};
+use prettyless::{IndentationPolicy, LineEnding};
+use std::test::Fail;
+
+#[rattlefmt::skip]
+const UNIONS: [Case; 13] = [
+    // All lines of the first have to fit, or its first line alone.
+    (10, "Union Append Append Text 'short' HardLine Text 'long long long' Append Append Text 'short' HardLine Text \
+          'short'", "short\nshort"),
+    (10, "PartialUnion Append Append Text 'short' HardLine Text 'long long long' Append Append Text 'short' HardLine \
+          Text 'short'", "short\nlong long long"),
+    // By the width.
+    (5, "Union Text 'short' Text 'much longer text'", "short"),
+    (1, "Union Text 'short' Text 'much longer text'", "much longer text"),
+    (3, "Append Append Text 'long' HardLine Union Text 'a b' Append Append Text 'a' HardLine Text 'b'", "long\na b"),
+    (5, "Union Group Append BreakOrFlat Fail Nil Text '12345' Text 'abc'", "12345"),
+    (4, "Union Group Append BreakOrFlat Fail Nil Text '12345' Text 'abc'", "abc"),
+    // With what follows on the line.
+    (4, "Append PartialUnion Text 'ab' Text 'c' Text 'dddd'", "cdddd"),
+    (6, "Append PartialUnion Text 'ab' Text 'c' Text 'dddd'", "abdddd"),
+    // Its last line goes on behind it.
+    (1, "Nest 2 Append Union Append Text 'a' HardLine Text 'x' Text 'b'", "a\n  b"),
+    // A probe looks at the second alone where lines are broken.
+    (5, "Append Append Text 'aa' Group Append BreakOrFlat HardLine Text ' ' Text 'bb' Union Nil Text 'cccccccc'",
+     "aa\nbb"),
+    (13, "Append Append Text 'aa' Group Append BreakOrFlat HardLine Text ' ' Text 'bb' Union Nil Text 'cccccccc'",
+     "aa bb"),
+    // One that fails is rejected.
+    (3, "Append Append Text 'p' WeakSpace Union Append Append Text 'long' HardLine Fail Text 'x'", "p x"),
+];
+
+#[rattlefmt::skip]
+const LINE_ENDS: [Case; 1] = [
+    // A rejected alternative leaves nothing, and lines end in CR and LF.
+    (1, "Append Append Union Append Append Text 'ab' HardLine Text 'cd' Text 'z' HardLine Text 'w'", "z\r\nw"),
+];
+
+#[rattlefmt::skip]
+const LATE_INDENTS: [Case; 2] = [
+    // No indent on an empty line makes an alternative too wide.
+    (1, "Union Nest 20 Append Append Text 'a' HardLine HardLine Text 'fallback'", "a\n\n"),
+    (1, "Nest 20 Union Append Append Text 'a' HardLine HardLine Text 'fallback'", "a\n\n"),
+];
+
+#[test]
+fn unions(rt: HostRuntime) -> Result<(), Fail> {
+    compare(&rt, rt.alloc(), &UNIONS)
+}
+
+#[test]
+fn line_ends(rt: HostRuntime) -> Result<(), Fail> {
+    let lines = options(LineEnding::Crlf, IndentationPolicy::Eager);
+    compare_with(&rt, rt.alloc(), lines, &LINE_ENDS)
+}
+
+#[test]
+fn late_indents(rt: HostRuntime) -> Result<(), Fail> {
+    let lines = options(LineEnding::Lf, IndentationPolicy::Deferred);
+    compare_with(&rt, rt.alloc(), lines, &LATE_INDENTS)
+}

@@ -1,0 +1,86 @@
+//! The smallest documents that tell a printer with one rule wrong from a right one.
+use crate::rendered::{Case, compare, compare_failing, compare_with, options};
+use prettyless::{IndentationPolicy, LineEnding};
+use std::test::Fail;
+
+#[rattlefmt::skip]
+const LAYOUTS: [Case; 19] = [
+    // A weak space on a fresh line is nothing.
+    (0, "Append WeakSpace Text 'a'", "a"),
+    // A space that a suffix keeps has to fit, at the end and in front of a break.
+    (1, "Union Append Text 'x' Append WeakSpace LineSuffix Text 'n' Text 'qs'", "qs"),
+    (1, "Union Append Text 'f' Append WeakSpace Append LineSuffix HardLine Append HardLine WeakLine WeakSpace", ""),
+    // So does each line of a payload.
+    (3, "Union MultilineText 'bc\nghij' LineSuffix ExpandParent", ""),
+    // What expands its parent fits no line.
+    (1, "Group BreakOrFlat Text 'a' ExpandParent", "a"),
+    // A probe reads a group as broken, and the second of two alternatives.
+    (1, "PartialUnion Group HardLine WeakSpace", "\n"),
+    (3, "PartialUnion PartialUnion MultilineText '你\nlonger\n' MultilineText 'ghij\r\nghij\r\ndef' WeakLine", ""),
+    // Probes and trials go on with what follows on the line.
+    (3, "Append PartialUnion WeakLine Text 'fwz' Text 'fcpj'", "fwzfcpj"),
+    (2, "Append Union PartialUnion WeakSpace Text 'wa' Align Text '' Group Text 'onf'", "waonf"),
+    // A break in a payload lays no suffix.
+    (2, "Append LineSuffix Text 'a' MultilineText 'a\nb'", "a\nba"),
+    // An alignment counts the weak space in front of it.
+    (13, "Append Text 'n' Append WeakSpace Align Append HardLine HardLine", "n\n  \n  "),
+    // A line that was past the width before the alternatives rejects none.
+    (2, "Append Text 'lyil' Append Union MultilineText '\r\n  ' Text 'bdiavfi' Text 'y'", "lyil\r\n  y"),
+    // Nor do suffixes that are laid at the end of the document.
+    (2, "Union LineSuffix HardLine WeakSpace", "\n"),
+    // What a rejected alternative took is back: suffixes, and columns of the line.
+    (3, "Append LineSuffix Flatten Text 'eekd' BreakOrFlat Union HardLine Text 'rko' Append WeakLine Nest 1 \
+         MultilineText 'ghij\r\n x'", "rkoeekd"),
+    (1, "Union Append Text 'so' LineSuffix TextWithLen 0 '你' Nest 9 Text 'cvzmwcc'", "cvzmwcc"),
+    (0, "Union Text 'a' WeakLine", ""),
+    // A suffix has the indent that stands around it.
+    (80, "Append Text 'a' Nest 2 Append LineSuffix Append WeakLine Text 'km' Append WeakLine WeakLine", "a\n  km\n  "),
+    // A break has the indent of what follows it.
+    (0, "Append Nest 2 HardLine WeakSpace", "\n"),
+    // Suffixes are laid at the end of the document too.
+    (0, "LineSuffix HardLine", "\n"),
+];
+
+#[rattlefmt::skip]
+const LINE_ENDS: [Case; 3] = [
+    // A probe reads the second of two alternatives, and counts a space that a suffix keeps.
+    (4, "PartialUnion Union Text 'cpavu' WeakSpace MultilineText '你\n'", ""),
+    (3, "Group Union Append Text 'mvv' Append WeakSpace LineSuffix Text 'n' Text 'cph'", "cph"),
+    // The suffixes of flat lines are flat.
+    (15, "Flatten Append LineSuffix BreakOrFlat Text 'k' Text 'cgg' WeakLine", "cgg\r\n"),
+];
+
+#[rattlefmt::skip]
+const LATE_INDENTS: [Case; 1] = [
+    // A weak line behind a suffix is a break in flat lines too.
+    (13, "Group Append LineSuffix WeakLine Append WeakLine HardLine", "\n\n"),
+];
+
+#[rattlefmt::skip]
+const FAILURES: [Case; 1] = [
+    // Suffixes are laid in their order.
+    (80, "Append LineSuffix Fail LineSuffix HardLine", ""),
+];
+
+#[test]
+fn layouts(rt: HostRuntime) -> Result<(), Fail> {
+    compare(&rt, rt.alloc(), &LAYOUTS)
+}
+
+#[test]
+fn line_ends(rt: HostRuntime) -> Result<(), Fail> {
+    let lines = options(LineEnding::Crlf, IndentationPolicy::Eager);
+    compare_with(&rt, rt.alloc(), lines, &LINE_ENDS)
+}
+
+#[test]
+fn late_indents(rt: HostRuntime) -> Result<(), Fail> {
+    let lines = options(LineEnding::Lf, IndentationPolicy::Deferred);
+    compare_with(&rt, rt.alloc(), lines, &LATE_INDENTS)
+}
+
+#[test]
+fn failures(rt: HostRuntime) -> Result<(), Fail> {
+    let lines = options(LineEnding::Lf, IndentationPolicy::Deferred);
+    compare_failing(&rt, rt.alloc(), lines, &FAILURES)
+}

@@ -1,0 +1,41 @@
+//! Texts that hold line breaks.
+use crate::rendered::{Case, compare, compare_with, options};
+use prettyless::{IndentationPolicy, LineEnding};
+use std::test::Fail;
+
+#[rattlefmt::skip]
+const PAYLOADS: [Case; 8] = [
+    // Written as they are, with no indent inside.
+    (80, "MultilineText 'a\r\n\nb\n'", "a\r\n\nb\n"),
+    (80, "Append Text 'key: ' MultilineText 'one\n  two'", "key: one\n  two"),
+    (80, "Nest 2 Append HardLine MultilineText 'a\nb'", "\n  a\nb"),
+    // A suffix waits for the end of the last line.
+    (80, "Append LineSuffix Text ' // 1' MultilineText '\"b\nc\"'", "\"b\nc\" // 1"),
+    // No group around one is flat.
+    (80, "Group Append Append Text 'a' BreakOrFlat HardLine Text ' ' MultilineText 'b\nc'", "a\nb\nc"),
+    // The first line has to fit with what stands before it.
+    (8, "Append Append Text 'aaaa' Group Append BreakOrFlat HardLine Text ' ' Text 'b' MultilineText 'cc\nd'",
+     "aaaa bcc\nd"),
+    (7, "Append Append Text 'aaaa' Group Append BreakOrFlat HardLine Text ' ' Text 'b' MultilineText 'cc\nd'",
+     "aaaa\nbcc\nd"),
+    // Behind a last break the line is fresh.
+    (80, "Append MultilineText 'a\n' Text 'b'", "a\nb"),
+];
+
+#[rattlefmt::skip]
+const ENDINGS: [Case; 2] = [
+    // Their line ends stay where other lines end in CR and LF.
+    (80, "MultilineText 'a\r\n\nb\n'", "a\r\n\nb\n"),
+    (80, "Append Append Text 'a\nb' HardLine Text 'c'", "a\nb\r\nc"),
+];
+
+#[test]
+fn payloads(rt: HostRuntime) -> Result<(), Fail> {
+    compare(&rt, rt.alloc(), &PAYLOADS)
+}
+
+#[test]
+fn endings(rt: HostRuntime) -> Result<(), Fail> {
+    let lines = options(LineEnding::Crlf, IndentationPolicy::Eager);
+    compare_with(&rt, rt.alloc(), lines, &ENDINGS)
+}
