@@ -6,6 +6,10 @@ mod built;
 #[cfg(test)]
 mod choices;
 #[cfg(test)]
+mod deep;
+#[cfg(test)]
+mod made;
+#[cfg(test)]
 mod modes;
 #[cfg(test)]
 mod near_misses;
@@ -26,7 +30,11 @@ mod reader;
 #[cfg(test)]
 mod rendered;
 #[cfg(test)]
+mod sinks;
+#[cfg(test)]
 mod suffixes;
+#[cfg(test)]
+mod ways;
 #[cfg(test)]
 mod weak;
 #[cfg(test)]

@@ -4,7 +4,7 @@ use std::alloc::Global;
 use std::test::Fail;
 
 // Deeper than any document of the tables.
-const DEPTH: u32 = 2100;
+const DEPTH: u32 = 200;
 
 // Reads documents that are written as their variants, each in front of what it holds: words with a space between them,
 // and texts in quotes. The nodes are put together as they stand, with no builder.

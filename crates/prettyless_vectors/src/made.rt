@@ -1,0 +1,111 @@
+//! Documents of the later variants that builders make.
+use crate::rendered::rendered;
+use prettyless::text::{BuildError, CowStr};
+use prettyless::{BoxAllocator, BoxDoc, BuildDoc, DocAllocator, DocAllocatorOf, DocBuilder};
+use std::alloc::Global;
+use std::process::Abort;
+use std::test::Fail;
+
+type Built<'a> = DocBuilder<'a, BoxAllocator>;
+
+fn text<'a>(boxes: &'a BoxAllocator, text: &'a str) -> Result<Built<'a>, BuildError> {
+    boxes.ascii_text(CowStr::Borrowed(text))
+}
+
+// Two lines.
+fn lines<'a>(
+    boxes: &'a BoxAllocator,
+    first: &'a str,
+    second: &'a str,
+) -> Result<Built<'a>, BuildError> {
+    text(boxes, first)?
+        .append(boxes.hard_line()?)?
+        .append(text(boxes, second)?)
+}
+
+fn placed(document: Built<'_>) -> Result<BuildDoc<'_, BoxDoc<'_>>, BuildError> {
+    Ok(BuildDoc::DocPtr(document.into_doc()?))
+}
+
+fn compare(
+    rt: &impl Abort,
+    memory: Global,
+    document: Built<'_>,
+    width: usize,
+    layout: &str,
+) -> Result<(), Fail> {
+    let out = rendered(memory, &document.into_doc()?, width)?;
+    assert_eq!(rt; out.as_str(), layout);
+    Ok(())
+}
+
+#[test]
+fn weak_lines_break_a_group(rt: HostRuntime) -> Result<(), Fail> {
+    let boxes = BoxAllocator::new(rt.alloc());
+    let document = text(&boxes, "a")?
+        .append(boxes.weak_line()?)?
+        .append(text(&boxes, "b")?)?
+        .group()?;
+    compare(&rt, rt.alloc(), document, 80, "a\nb")
+}
+
+#[test]
+fn suffixes_stand_behind_a_payload(rt: HostRuntime) -> Result<(), Fail> {
+    let boxes = BoxAllocator::new(rt.alloc());
+    let payload = boxes.multiline_text(CowStr::Borrowed("\"b\nc\""))?;
+    let document = boxes.line_suffix(text(&boxes, " // 1")?)?.append(payload)?;
+    compare(&rt, rt.alloc(), document, 80, "\"b\nc\" // 1")
+}
+
+#[test]
+fn unions_fit_all_their_lines(rt: HostRuntime) -> Result<(), Fail> {
+    let boxes = BoxAllocator::new(rt.alloc());
+    let second = placed(lines(&boxes, "short", "short")?)?;
+    let document = lines(&boxes, "short", "long long long")?.union(second)?;
+    compare(&rt, rt.alloc(), document, 10, "short\nshort")
+}
+
+#[test]
+fn partial_unions_fit_their_first_line(rt: HostRuntime) -> Result<(), Fail> {
+    let boxes = BoxAllocator::new(rt.alloc());
+    let second = placed(lines(&boxes, "short", "short")?)?;
+    let document = lines(&boxes, "short", "long long long")?.partial_union(second)?;
+    compare(&rt, rt.alloc(), document, 10, "short\nlong long long")
+}
+
+#[test]
+fn alignments_count_weak_spaces(rt: HostRuntime) -> Result<(), Fail> {
+    let boxes = BoxAllocator::new(rt.alloc());
+    let aligned = boxes.hard_line()?.append(text(&boxes, "b")?)?.align()?;
+    let document = text(&boxes, "a")?
+        .append(boxes.weak_space()?)?
+        .append(aligned)?;
+    compare(&rt, rt.alloc(), document, 80, "a\n  b")
+}
+
+#[test]
+fn dedents_to_the_root(rt: HostRuntime) -> Result<(), Fail> {
+    let boxes = BoxAllocator::new(rt.alloc());
+    let document = text(&boxes, "a")?
+        .append(lines(&boxes, "b", "c")?.dedent_to_root()?)?
+        .append(boxes.hard_line()?)?
+        .append(text(&boxes, "e")?)?
+        .indent(4)?;
+    compare(&rt, rt.alloc(), document, 10, "ab\nc\n    e")
+}
+
+#[test]
+fn failures_count_by_mode(rt: HostRuntime) -> Result<(), Fail> {
+    for (width, layout) in [(5, "12345"), (4, "abc")] {
+        let boxes = BoxAllocator::new(rt.alloc());
+        let second = placed(text(&boxes, "abc")?)?;
+        let document = boxes
+            .fail()?
+            .flat_alt(boxes.nil()?)?
+            .append(text(&boxes, "12345")?)?
+            .group()?
+            .union(second)?;
+        compare(&rt, rt.alloc(), document, width, layout)?;
+    }
+    Ok(())
+}

@@ -1,0 +1,41 @@
+//! The ways to render, each with the same bytes.
+use crate::reader::read;
+use crate::rendered::options;
+use prettyless::{DocPtr, IndentationPolicy, LineEnding, RenderError};
+use std::test::Fail;
+
+const WRITTEN: &str = "Nest 2 Append Append Append Text 'ab' HardLine HardLine Text 'c'";
+
+#[test]
+fn to_a_byte_writer(rt: HostRuntime) -> Result<(), Fail> {
+    let document = read(rt.alloc(), WRITTEN)?;
+    let mut out = Vec::new(rt.alloc());
+    document.doc().render(rt.alloc(), 80, &mut out)?;
+    assert_eq!(rt; out.as_slice(), b"ab\n  \n  c".as_slice());
+    let late = options(LineEnding::Crlf, IndentationPolicy::Deferred);
+    let mut out = Vec::new(rt.alloc());
+    document.doc().render_with(rt.alloc(), late, &mut out)?;
+    assert_eq!(rt; out.as_slice(), b"ab\r\n\r\n  c".as_slice());
+    Ok(())
+}
+
+#[test]
+fn to_what_is_displayed(rt: HostRuntime) -> Result<(), Fail> {
+    let document = read(rt.alloc(), WRITTEN)?;
+    let printed = format!(in rt.alloc(); "{}", document.doc().print(rt.alloc(), 80))?;
+    assert_eq!(rt; printed.as_str(), "ab\n  \n  c");
+    let late = options(LineEnding::Crlf, IndentationPolicy::Deferred);
+    let printed = format!(in rt.alloc(); "{}", document.doc().print_with(rt.alloc(), late))?;
+    assert_eq!(rt; printed.as_str(), "ab\r\n\r\n  c");
+    Ok(())
+}
+
+#[test]
+fn fails_behind_what_stands_before(rt: HostRuntime) -> Result<(), Fail> {
+    let document = read(rt.alloc(), "Append LineSuffix Fail Text 'a'")?;
+    let mut out = Vec::new(rt.alloc());
+    let result = document.doc().render(rt.alloc(), 80, &mut out);
+    assert!(rt; matches!(result, Err(RenderError::Document(_))));
+    assert_eq!(rt; out.as_slice(), b"a".as_slice());
+    Ok(())
+}
