@@ -6,11 +6,11 @@ use std::test::Fail;
 #[rattlefmt::skip]
 const UNIONS: [Case; 13] = [
     // All lines of the first have to fit, or its first line alone.
-    (10, "Union Append Append Text 'short' HardLine Text 'long long long' Append Append Text 'short' HardLine Text \
-          'short'", "short\nshort"),
+    (10, "Union Append Append Text 'short' HardLine Text 'long long long' Append Append Text 'short' HardLine \
+          Text 'short'", "short\nshort"),
     (10, "PartialUnion Append Append Text 'short' HardLine Text 'long long long' Append Append Text 'short' HardLine \
           Text 'short'", "short\nlong long long"),
-    // By the width.
+    // Where it fits by the width.
     (5, "Union Text 'short' Text 'much longer text'", "short"),
     (1, "Union Text 'short' Text 'much longer text'", "much longer text"),
     (3, "Append Append Text 'long' HardLine Union Text 'a b' Append Append Text 'a' HardLine Text 'b'", "long\na b"),
@@ -21,7 +21,7 @@ const UNIONS: [Case; 13] = [
     (6, "Append PartialUnion Text 'ab' Text 'c' Text 'dddd'", "abdddd"),
     // Its last line goes on behind it.
     (1, "Nest 2 Append Union Append Text 'a' HardLine Text 'x' Text 'b'", "a\n  b"),
-    // A probe looks at the second alone where lines are broken.
+    // What follows a group counts as its second alternative.
     (5, "Append Append Text 'aa' Group Append BreakOrFlat HardLine Text ' ' Text 'bb' Union Nil Text 'cccccccc'",
      "aa\nbb"),
     (13, "Append Append Text 'aa' Group Append BreakOrFlat HardLine Text ' ' Text 'bb' Union Nil Text 'cccccccc'",
@@ -38,7 +38,7 @@ const LINE_ENDS: [Case; 1] = [
 
 #[rattlefmt::skip]
 const LATE_INDENTS: [Case; 2] = [
-    // No indent on an empty line makes an alternative too wide.
+    // Indents that are not written make no alternative too wide.
     (1, "Union Nest 20 Append Append Text 'a' HardLine HardLine Text 'fallback'", "a\n\n"),
     (1, "Nest 20 Union Append Append Text 'a' HardLine HardLine Text 'fallback'", "a\n\n"),
 ];

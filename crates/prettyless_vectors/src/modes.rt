@@ -32,8 +32,8 @@ const FAILURES: [Case; 3] = [
 const LINE_ENDS: [Case; 2] = [
     // Lines that end in CR and LF.
     (80, "Append Append Nest 2 Append Append Text 'x' HardLine Text 'y' HardLine Text 'z'", "x\r\n  y\r\nz"),
-    (5, "Append Append Text '(' Group Nest 1 Append Append Append Append Text '1' BreakOrFlat HardLine Text ' ' Text \
-         '2' BreakOrFlat HardLine Text ' ' Text '3' Text ')'", "(1\r\n 2\r\n 3)"),
+    (5, "Append Append Text '(' Group Nest 1 Append Append Append Append Text '1' BreakOrFlat HardLine Text ' ' \
+         Text '2' BreakOrFlat HardLine Text ' ' Text '3' Text ')'", "(1\r\n 2\r\n 3)"),
 ];
 
 #[rattlefmt::skip]

@@ -26,7 +26,7 @@ const LAYOUTS: [Case; 19] = [
     (13, "Append Text 'n' Append WeakSpace Align Append HardLine HardLine", "n\n  \n  "),
     // A line that was past the width before the alternatives rejects none.
     (2, "Append Text 'lyil' Append Union MultilineText '\r\n  ' Text 'bdiavfi' Text 'y'", "lyil\r\n  y"),
-    // Nor do suffixes that are laid at the end of the document.
+    // Nor do suffixes that are laid behind them, at the end of the document.
     (2, "Union LineSuffix HardLine WeakSpace", "\n"),
     // What a rejected alternative took is back: suffixes, and columns of the line.
     (3, "Append LineSuffix Flatten Text 'eekd' BreakOrFlat Union HardLine Text 'rko' Append WeakLine Nest 1 \

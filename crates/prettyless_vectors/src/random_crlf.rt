@@ -31,24 +31,24 @@ const LAYOUTS: [Case; 50] = [
      "→x yc"),
     (18, "Nest 2 DedentToRoot Append Append Group MultilineText '你\nghij' Nest -100 MultilineText 'a\u{301}\r\né\rdef' \
           Text 'j'", "你\nghija\u{301}\r\né\rdefj"),
-    (13, "Union Union Fail BreakOrFlat Append Fail Text 'udommkx' LineSuffix WeakSpace Append Text 'vjga' Group HardLine",
-     "vjga\r\n"),
-    (usize::MAX, "Union BreakOrFlat Append Append WeakSpace Text 'bl' DedentToRoot BreakOrFlat HardLine Nil Text \
-                  'aomnoupypq' Text ' '", "bl\r\n"),
+    (13, "Union Union Fail BreakOrFlat Append Fail Text 'udommkx' LineSuffix WeakSpace Append Text 'vjga' Group \
+          HardLine", "vjga\r\n"),
+    (usize::MAX, "Union BreakOrFlat Append Append WeakSpace Text 'bl' DedentToRoot BreakOrFlat HardLine Nil \
+                  Text 'aomnoupypq' Text ' '", "bl\r\n"),
     (18, "Flatten Append LineSuffix BreakOrFlat Text 'fj' Group Append Append LineSuffix WeakLine WeakLine Text 'v\rt' \
           WeakLine", "\r\nv\rt\r\n"),
-    (23, "PartialUnion Append Text 'pr' Append WeakSpace Append LineSuffix PartialUnion Nil Text 'wt' HardLine Nest \
-          -100 Text 'nzt'", "pr \r\n"),
+    (23, "PartialUnion Append Text 'pr' Append WeakSpace Append LineSuffix PartialUnion Nil Text 'wt' HardLine \
+          Nest -100 Text 'nzt'", "pr \r\n"),
     (7, "Union Append Append Text 'mjowe' Union Append WeakSpace Fail Text 'n' Append Nest 1 Text 'x' DedentToRoot \
          WeakLine WeakLine", "mjowenx\r\n"),
     (17, "Append BreakOrFlat Nest -2 LineSuffix BreakOrFlat Group Append Text 'zqu' MultilineText 'ghij\n x' Text 'kx' \
           Nest -2 WeakSpace WeakSpace", "zqughij\n x"),
-    (6, "Align DedentToRoot Group Append Text 'qf' Append PartialUnion Append Text 'qysz' BreakOrFlat HardLine Text \
-         ' ' Group Text 'k' LineSuffix Text 'h'", "qfqysz\r\nh"),
+    (6, "Align DedentToRoot Group Append Text 'qf' Append PartialUnion Append Text 'qysz' BreakOrFlat HardLine \
+         Text ' ' Group Text 'k' LineSuffix Text 'h'", "qfqysz\r\nh"),
     (20, "Append Nest 4 BreakOrFlat LineSuffix Union Text 'm' Group Text 's' Append Nest 1 Align Text 'snx' LineSuffix \
           Text 'ltefxyu' MultilineText '\na\n x\n'", "\na\n x\nm"),
-    (4, "LineSuffix Union Append Union MultilineText '  \r\n' LineSuffix Append WeakSpace Group Fail Text 'ygbj' Nest \
-         2 Nest 2 Union Flatten HardLine Text 'cl'", "  \r\nygbj"),
+    (4, "LineSuffix Union Append Union MultilineText '  \r\n' LineSuffix Append WeakSpace Group Fail Text 'ygbj' \
+         Nest 2 Nest 2 Union Flatten HardLine Text 'cl'", "  \r\nygbj"),
     (2, "Align Append Union Nest 1 Append PartialUnion BreakOrFlat Text 'd' MultilineText 'é\n x' HardLine \
          MultilineText '  \na' Group Text 'bxx' Group Text 'kjkw'", "bxxkjkw"),
     (12, "Append Text 'ovb' Append Group Append BreakOrFlat HardLine Text ' ' Text 'xnlv' PartialUnion Group HardLine \
@@ -67,10 +67,10 @@ const LAYOUTS: [Case; 50] = [
           BreakOrFlat LineSuffix Union LineSuffix Nil HardLine LineSuffix TextWithLen 2 '你好'", " "),
     (13, "Group Append Text 'y' Append WeakSpace Append LineSuffix Group Align WeakSpace Append BreakOrFlat WeakLine \
           WeakSpace Append Nest 4 LineSuffix Flatten Text 'hpcggfc' Text 'lowmelhxjf'", "y  lowmelhxjf hpcggfc"),
-    (4, "PartialUnion Union Append Text 'xtcm' Append WeakSpace Append LineSuffix Append Align Group LineSuffix Text \
-         '' HardLine Append HardLine Align LineSuffix Fail Nil Group Group Nest 1 WeakSpace", ""),
-    (4, "Append Group PartialUnion Text ' hxc' WeakLine Append MultilineText 'a\u{301}\na' Append Union Text \
-         'odvvtyaqcs' Append MultilineText '  \n' Nil Group DedentToRoot LineSuffix MultilineText 'ghij\ndef\n'",
+    (4, "PartialUnion Union Append Text 'xtcm' Append WeakSpace Append LineSuffix Append Align Group LineSuffix \
+         Text '' HardLine Append HardLine Align LineSuffix Fail Nil Group Group Nest 1 WeakSpace", ""),
+    (4, "Append Group PartialUnion Text ' hxc' WeakLine Append MultilineText 'a\u{301}\na' Append Union \
+         Text 'odvvtyaqcs' Append MultilineText '  \n' Nil Group DedentToRoot LineSuffix MultilineText 'ghij\ndef\n'",
      "a\u{301}\na  \nghij\ndef\n"),
     (13, "PartialUnion Append PartialUnion Nest 1 Group Text 'o' Group WeakLine Append Flatten Align Text 'uz' Append \
           Align Nil Text 'h' Group Union BreakOrFlat HardLine Text ' ' PartialUnion Text 'by' Text 'anq'", "ouzh"),
@@ -78,8 +78,8 @@ const LAYOUTS: [Case; 50] = [
          Append Group Append LineSuffix Nest -1 Group Text 'dp' Append Text 'd' Group WeakSpace Align Nest -1 Text 'y'",
      "\u{301} fvd ydp"),
     (5, "Append Append Text '' Append MultilineText 'é\n x\r\n' Group MultilineText '你\ra\u{301}\n你' Group Group \
-         Append LineSuffix LineSuffix Union Text 'hly' HardLine Append WeakLine Append HardLine Group MultilineText \
-         'bc\r\né'", "é\n x\r\n你\ra\u{301}\n你hly\r\n\r\nbc\r\né"),
+         Append LineSuffix LineSuffix Union Text 'hly' HardLine Append WeakLine Append HardLine Group \
+         MultilineText 'bc\r\né'", "é\n x\r\n你\ra\u{301}\n你hly\r\n\r\nbc\r\né"),
     (1, "Append Append Group Nest 9 Append HardLine MultilineText 'longer\na\n x' BreakOrFlat HardLine Text ' ' \
          PartialUnion Append MultilineText 'é\n' Text 'pjte' Flatten Union MultilineText 'bc\r' Align BreakOrFlat \
          WeakLine Nil", "\r\n         longer\na\n x\r\né\npjte"),
@@ -87,11 +87,11 @@ const LAYOUTS: [Case; 50] = [
           HardLine Text ' ' Append Text 'cbex' BreakOrFlat DedentToRoot Text 'z' DedentToRoot Append Text 'buvnnyj' \
           WeakLine", "rbkw\r\na\r\n"),
     (8, "Append Align LineSuffix Text 'sqgo' Flatten LineSuffix Union Group Group Group Append Append Text 'p' \
-         BreakOrFlat HardLine Text ' ' Append Append ExpandParent Text 'susl' Text 'wxjyh' Flatten PartialUnion Text \
-         'oh' Text 't'", "sqgooh"),
-    (0, "Append LineSuffix Append Text 'mv' Append WeakSpace Align Append BreakOrFlat HardLine Nil Align MultilineText \
-         '  \r你' BreakOrFlat PartialUnion PartialUnion HardLine Nest 2 TextWithLen 12 '你好' Union Group Text 'r' \
-         HardLine Text 'b'", "mv\r\n     \r你\r\n"),
+         BreakOrFlat HardLine Text ' ' Append Append ExpandParent Text 'susl' Text 'wxjyh' Flatten PartialUnion \
+         Text 'oh' Text 't'", "sqgooh"),
+    (0, "Append LineSuffix Append Text 'mv' Append WeakSpace Align Append BreakOrFlat HardLine Nil Align \
+         MultilineText '  \r你' BreakOrFlat PartialUnion PartialUnion HardLine Nest 2 TextWithLen 12 '你好' Union Group \
+         Text 'r' HardLine Text 'b'", "mv\r\n     \r你\r\n"),
     (2, "Append Append BreakOrFlat TextWithLen 0 'ﬁn' Fail PartialUnion Append Text 'ccc' Append HardLine Append \
          Append Text 'w' MultilineText 'a\u{301}\nlonger\r你' TextWithLen 0 'ÅÄ' Append HardLine BreakOrFlat \
          ExpandParent WeakSpace Append Append Text 'hb' Align ExpandParent Group Text 'kzh'", "ﬁn\r\nhbkzh"),
@@ -111,9 +111,9 @@ const FAILURES: [Case; 12] = [
     (13, "PartialUnion PartialUnion Append Text 'xd' Append WeakSpace Append LineSuffix Append Fail Text 'yw' HardLine \
           Nest 2 Text 'hgzi' Nest 3 Append LineSuffix Append Text 'xb' HardLine Append HardLine Append Nest -2 \
           WeakSpace Text ''", "xd "),
-    (10, "Append LineSuffix BreakOrFlat MultilineText 'def\r你\n你\n  ' Text 'hosueha' Union Append Nest -100 Text \
-          'jdhpqfw' PartialUnion Append Text 'b' Append HardLine Group Text 'df' Align WeakLine Union LineSuffix Fail \
-          BreakOrFlat HardLine Text ' '", "def\r你\n你\n  "),
+    (10, "Append LineSuffix BreakOrFlat MultilineText 'def\r你\n你\n  ' Text 'hosueha' Union Append Nest -100 \
+          Text 'jdhpqfw' PartialUnion Append Text 'b' Append HardLine Group Text 'df' Align WeakLine Union LineSuffix \
+          Fail BreakOrFlat HardLine Text ' '", "def\r你\n你\n  "),
     (12, "BreakOrFlat Append Append Align WeakLine Text 'w' Append Fail LineSuffix Text 'm' LineSuffix PartialUnion \
           Group Append Nest -1 Append BreakOrFlat WeakLine Text ' ' Group Text 'klkzv' Append WeakLine Text 'ycwf' \
           Append TextWithLen 2 'e\u{301}' Group MultilineText '  \r x'", "w"),
@@ -127,8 +127,8 @@ const FAILURES: [Case; 12] = [
          PartialUnion MultilineText 'ghij\n你\n  ' Union Nest 1 WeakSpace Nest 1 Text 'qd' Union WeakLine Group \
          ExpandParent Append Union BreakOrFlat WeakLine Nil LineSuffix Nil Group Fail", "uodebn\r\n"),
     (6, "Append Align Group Append Text 'a' Append WeakSpace Append LineSuffix Fail Append BreakOrFlat WeakLine \
-         WeakSpace Group Text ' e' Nest 4 Append Text 't' Append LineSuffix Append Text 'pd' BreakOrFlat HardLine Text \
-         ' ' Append WeakLine Union Union WeakSpace ExpandParent BreakOrFlat Nil LineSuffix Text 'wztr'", "a   et"),
+         WeakSpace Group Text ' e' Nest 4 Append Text 't' Append LineSuffix Append Text 'pd' BreakOrFlat HardLine \
+         Text ' ' Append WeakLine Union Union WeakSpace ExpandParent BreakOrFlat Nil LineSuffix Text 'wztr'", "a   et"),
     (0, "Append Text 'sde' Append WeakSpace Union MultilineText '\né' Append HardLine Flatten Append LineSuffix \
          BreakOrFlat Text 'l' PartialUnion Append Text 'b' Append WeakSpace Align Append HardLine Group Union Group \
          Append Text ' frpgut' Group Nest -2 Nest 2 HardLine Nest 4 TextWithLen 1 '你' LineSuffix Nest -2 Group \

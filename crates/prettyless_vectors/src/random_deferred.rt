@@ -36,8 +36,8 @@ const LAYOUTS: [Case; 50] = [
      "gqy\rg"),
     (8, "Append Nest 5 Append Text 'vuv' Append LineSuffix Nest 4 Text 'y' HardLine Union Nest 2 HardLine Group Fail",
      "vuvy\n\n"),
-    (usize::MAX, "Append Append Append Group HardLine LineSuffix Text 'x' Nest 40 DedentToRoot Append Text 's\ne' Text \
-                  'czug' Text 'jcg'", "\ns\neczugjcgx"),
+    (usize::MAX, "Append Append Append Group HardLine LineSuffix Text 'x' Nest 40 DedentToRoot Append Text 's\ne' \
+                  Text 'czug' Text 'jcg'", "\ns\neczugjcgx"),
     (4, "Append Group MultilineText 'def\ndef' Union DedentToRoot Align Text 'ta' Append MultilineText 'a\ra' \
          LineSuffix WeakLine", "def\ndefa\ra\n"),
     (80, "Append Group Append WeakSpace Append Align Text 'm' LineSuffix HardLine Append Append Nest 4 Nil Align \
@@ -58,8 +58,9 @@ const LAYOUTS: [Case; 50] = [
          Group PartialUnion Text 'al' MultilineText '\r\nghij' Align WeakLine", "bwial\n"),
     (1, "Group Append Text 'j' Append PartialUnion Append Text 'z' BreakOrFlat HardLine Text ' ' Align Align Append \
          WeakLine Append Text 'u' Align TextWithLen 2 '' Nest 4 Align Align Text 'iprusft'", "j\n uiprusft"),
-    (3, "Union Flatten PartialUnion Nest 1 Fail BreakOrFlat HardLine Text ' ' Union Union Append Group MultilineText \
-         ' x\n' Text 'wnr' BreakOrFlat Text 'vv' Nest 1 Text ' vrbt' BreakOrFlat WeakLine Nil", " x\nwnr"),
+    (3, "Union Flatten PartialUnion Nest 1 Fail BreakOrFlat HardLine Text ' ' Union Union Append Group \
+         MultilineText ' x\n' Text 'wnr' BreakOrFlat Text 'vv' Nest 1 Text ' vrbt' BreakOrFlat WeakLine Nil",
+     " x\nwnr"),
     (14, "Append Append Text '' LineSuffix WeakSpace Append Group Append Nest -2 Group Group Nest -1 Nest 2 Append \
           HardLine Append MultilineText 'a\na\ré' HardLine BreakOrFlat HardLine Text ' ' Text 'rutl'",
      "\n  a\na\ré\n\nrutl"),
@@ -67,23 +68,23 @@ const LAYOUTS: [Case; 50] = [
          Group Text 'eyob' LineSuffix WeakLine Union TextWithLen 1 '\u{301}' Text 'oep' DedentToRoot Group Text 'wa'",
      "nh\nwa\n"),
     (7, "LineSuffix Align Group Union Append PartialUnion Nest 1 Union Text 's' BreakOrFlat HardLine DedentToRoot \
-         WeakLine BreakOrFlat WeakLine Nil Union Fail WeakLine Union Fail Union Text 'lo' MultilineText \
-         'longer\r x\ré\n'", "s\n"),
+         WeakLine BreakOrFlat WeakLine Nil Union Fail WeakLine Union Fail Union Text 'lo' \
+         MultilineText 'longer\r x\ré\n'", "s\n"),
     (3, "Union MultilineText 'def\né' Append BreakOrFlat HardLine Align Text 'q' Union Append Text 'cv' Append \
          WeakSpace Append LineSuffix Append Fail Text 'jncfvwd' Append HardLine Flatten TextWithLen 3 'é' \
          MultilineText 'a\n'", "def\né"),
     (1, "Append Align Union Union MultilineText '  \n' PartialUnion Union Text 'qsif' Nest 1 Text 'tcjqzsf' HardLine \
          Nest 4 PartialUnion WeakLine HardLine Append Append Append TextWithLen 3 'x' LineSuffix Text 'p' HardLine \
          BreakOrFlat HardLine Nil", "\nxp\n\n"),
-    (26, "Append Group Append MultilineText '\rghij' Append WeakSpace Append Append MultilineText '  \ra\r\nghij' Nest \
-          1 Group Flatten Nil LineSuffix LineSuffix Flatten Flatten Union Text 'rw' BreakOrFlat ExpandParent WeakSpace \
-          BreakOrFlat HardLine Text ' '", "\rghij   \ra\r\nghijrw\n"),
+    (26, "Append Group Append MultilineText '\rghij' Append WeakSpace Append Append MultilineText '  \ra\r\nghij' \
+          Nest 1 Group Flatten Nil LineSuffix LineSuffix Flatten Flatten Union Text 'rw' BreakOrFlat ExpandParent \
+          WeakSpace BreakOrFlat HardLine Text ' '", "\rghij   \ra\r\nghijrw\n"),
     (6, "LineSuffix Union PartialUnion Group Union Group Append Append Align WeakSpace Nest 1 Text ' yqa' \
          MultilineText '你\ré' Append Nest 2 LineSuffix Nil Union Text 'ra' Union HardLine ExpandParent Group \
          BreakOrFlat Nil Text 'b' BreakOrFlat HardLine Text ' '", "ra"),
-    (11, "BreakOrFlat Append Append DedentToRoot HardLine Nest 2 WeakLine Append BreakOrFlat WeakLine Text ' ' Text \
-          ' ' Append PartialUnion ExpandParent WeakSpace Append Append Flatten Text 'eac' Nest 1 Nest -100 HardLine \
-          Nest -2 Append Text 'hf' Append WeakSpace WeakSpace", "\n "),
+    (11, "BreakOrFlat Append Append DedentToRoot HardLine Nest 2 WeakLine Append BreakOrFlat WeakLine Text ' ' \
+          Text ' ' Append PartialUnion ExpandParent WeakSpace Append Append Flatten Text 'eac' Nest 1 Nest -100 \
+          HardLine Nest -2 Append Text 'hf' Append WeakSpace WeakSpace", "\n "),
     (10, "PartialUnion Append Append Append ExpandParent Append Fail Align HardLine Append Text 'ssm' Append WeakSpace \
           Align Append HardLine BreakOrFlat HardLine Nil Flatten Append LineSuffix BreakOrFlat Text 'e' BreakOrFlat \
           ExpandParent WeakSpace WeakLine PartialUnion Group Nil TextWithLen 0 '你'", ""),
@@ -100,22 +101,22 @@ const LAYOUTS: [Case; 50] = [
 #[rattlefmt::skip]
 const FAILURES: [Case; 12] = [
     (2, "Append Group Align Fail Group ExpandParent", ""),
-    (11, "Nest -1 Nest 2 Append HardLine LineSuffix BreakOrFlat Append Fail Flatten WeakSpace Group MultilineText \
-          '你\nghij\n'", "\n  "),
+    (11, "Nest -1 Nest 2 Append HardLine LineSuffix BreakOrFlat Append Fail Flatten WeakSpace Group \
+          MultilineText '你\nghij\n'", "\n  "),
     (4, "Append Nest 2 Align HardLine Append Append Append MultilineText '  \nghij\nlonger' Text 'ldhe' Fail \
          LineSuffix WeakLine", "\n  \nghij\nlongerldhe"),
-    (4, "Append Union Text 'zqbt' WeakLine Nest -1 Flatten Append Append Text 'c' Nest 1 HardLine Group MultilineText \
-         'longer\n  '", "zqbtc"),
-    (1, "Group Append LineSuffix TextWithLen 0 'ÅÄ' Union MultilineText ' x\r' Flatten Append LineSuffix TextWithLen 1 \
-         '你好' Append WeakLine MultilineText 'a\u{301}\r\né'", "ÅÄ你好\n"),
+    (4, "Append Union Text 'zqbt' WeakLine Nest -1 Flatten Append Append Text 'c' Nest 1 HardLine Group \
+         MultilineText 'longer\n  '", "zqbtc"),
+    (1, "Group Append LineSuffix TextWithLen 0 'ÅÄ' Union MultilineText ' x\r' Flatten Append LineSuffix \
+         TextWithLen 1 '你好' Append WeakLine MultilineText 'a\u{301}\r\né'", "ÅÄ你好\n"),
     (3, "Append Nest 2 Group Union Append TextWithLen 1 '語b' Text 'ff' BreakOrFlat WeakLine Text ' ' Align Append \
          Append Append Text 'hcs' Text 'vq' Fail Group MultilineText 'def\nlonger\nghij'", "語bffhcsvq"),
     (17, "Append Append Text 'pcc' Append WeakSpace Align Append HardLine BreakOrFlat HardLine Text ' ' Append \
           LineSuffix Text 'l' PartialUnion Append Text 'j' Append HardLine Append Fail TextWithLen 3 'ab' Union Nil \
           Text 'sxafvma'", "pcc\n\njl\n"),
     (2, "Union Append Union MultilineText 'a\n' Group Union Text 'r' Group Append BreakOrFlat MultilineText 'a\r\n你' \
-         Text 'npwhu' Text 'm' Text 'kyi' Append Append Nest -2 LineSuffix Nest 4 Text 'ido' Group TextWithLen 2 \
-         '\u{301}' Append Fail Group TextWithLen 12 '你'", "\u{301}"),
+         Text 'npwhu' Text 'm' Text 'kyi' Append Append Nest -2 LineSuffix Nest 4 Text 'ido' Group \
+         TextWithLen 2 '\u{301}' Append Fail Group TextWithLen 12 '你'", "\u{301}"),
     (0, "Nest 2 Union Union Append Text 'sii' MultilineText '\n  ' Nest 2 Text 'q' Union Append Text 'rk' Append Group \
          Append BreakOrFlat HardLine Text ' ' Text 'rj' PartialUnion Union HardLine HardLine Append Text 'rd' HardLine \
          Append WeakLine Flatten MultilineText '\na\u{301}'", ""),
@@ -123,8 +124,8 @@ const FAILURES: [Case; 12] = [
          MultilineText 'é\né\nghij' Fail Text 'pyk' Nest -2 Append TextWithLen 1 'x' Text 'uvqb' Append Append Append \
          Group TextWithLen 2 '你' Nest 2 Text 'n' Text 'fhvur' Text 'lhpolxiiox'", "yé\né\nghij"),
     (21, "PartialUnion Append Text 'zh' Append WeakSpace Append LineSuffix LineSuffix Align Append Text 'xyv' Append \
-          WeakSpace Align Append HardLine Append Text 'uk' Flatten Append TextWithLen 12 'ÅÄ' MultilineText \
-          'a\nlonger\n' HardLine Append Text 'h' Append Fail Nest -100 MultilineText ' x\nbc\r'",
+          WeakSpace Align Append HardLine Append Text 'uk' Flatten Append TextWithLen 12 'ÅÄ' \
+          MultilineText 'a\nlonger\n' HardLine Append Text 'h' Append Fail Nest -100 MultilineText ' x\nbc\r'",
      "zh xyv\n       ukÅÄ"),
     (9, "DedentToRoot Append MultilineText '你\ré' Append WeakSpace Append Union Append Union Append Text 'qrr' Append \
          LineSuffix Text 'jlu' Flatten WeakSpace WeakSpace Append Group Text 'za' Text 'ta' Text 'pagv' LineSuffix \

@@ -39,10 +39,10 @@ const LAYOUTS: [Case; 40] = [
          Flatten Group Fail Append Text 'tis' Group Text 'e'", "  tise"),
     (1, "Union PartialUnion DedentToRoot Group Text 'c' BreakOrFlat ExpandParent WeakSpace Union Append Text 'k' \
          Append WeakSpace LineSuffix TextWithLen 3 'ÅÄ' Text 'exe'", "c"),
-    (2, "Append Union LineSuffix Append ExpandParent Append Text 'nlhq' WeakLine Nest 1 Text 'smt' Append Align Text \
-         'd' Append Flatten WeakLine LineSuffix Union Text 'oy' Align Fail", "dnlhq\r\noy"),
-    (4, "Group Group Group Append Append LineSuffix Flatten Text 'kwmz' Group WeakSpace Union PartialUnion Align Text \
-         'esca' Align Text 'qs' PartialUnion LineSuffix WeakLine Text 'ohx'", "escakwmz"),
+    (2, "Append Union LineSuffix Append ExpandParent Append Text 'nlhq' WeakLine Nest 1 Text 'smt' Append Align \
+         Text 'd' Append Flatten WeakLine LineSuffix Union Text 'oy' Align Fail", "dnlhq\r\noy"),
+    (4, "Group Group Group Append Append LineSuffix Flatten Text 'kwmz' Group WeakSpace Union PartialUnion Align \
+         Text 'esca' Align Text 'qs' PartialUnion LineSuffix WeakLine Text 'ohx'", "escakwmz"),
     (6, "Append PartialUnion Union Append Union MultilineText 'é\r\ndef' Group Text ' neee' Text 'dwku' Append \
          MultilineText '\r' Text 'yyk' LineSuffix Text 'uc' DedentToRoot Append WeakLine Text 'wi'", "\ryyk\r\nwi"),
     (13, "Group Append Append Nest 4 PartialUnion LineSuffix Group Text 'y' Nest 1 Group MultilineText '你\nlonger' \
@@ -62,11 +62,11 @@ const LAYOUTS: [Case; 40] = [
           DedentToRoot WeakSpace Flatten Text ' fcmj' Append Append Align Text 'y' Text 'zg' Text 'ybqa' Text 'smw'",
      "blqdp yzgybqayn"),
     (3, "Append Append LineSuffix Align Append HardLine Text 'z' Append Text 'i' Append Nest 4 WeakLine BreakOrFlat \
-         Append Text 'tud' PartialUnion Text 'y' ExpandParent WeakSpace BreakOrFlat LineSuffix Text '' Nest 40 HardLine",
-     "i\r\n z\r\ntud"),
-    (80, "Append LineSuffix Text 'xd' Union Append Text 'uflt' Append HardLine Append Nest -2 BreakOrFlat TextWithLen \
-          3 'e\u{301}' WeakSpace Text 'yckp' Append Text 'z' Union Union Text 'kx' Text 'ih' PartialUnion Text 'g' \
-          Text 'fjh'", "ufltxd\r\ne\u{301}yckp"),
+         Append Text 'tud' PartialUnion Text 'y' ExpandParent WeakSpace BreakOrFlat LineSuffix Text '' Nest 40 \
+         HardLine", "i\r\n z\r\ntud"),
+    (80, "Append LineSuffix Text 'xd' Union Append Text 'uflt' Append HardLine Append Nest -2 BreakOrFlat \
+          TextWithLen 3 'e\u{301}' WeakSpace Text 'yckp' Append Text 'z' Union Union Text 'kx' Text 'ih' PartialUnion \
+          Text 'g' Text 'fjh'", "ufltxd\r\ne\u{301}yckp"),
     (8, "Append Text 'ostt' Append WeakSpace Align Append BreakOrFlat HardLine Nil Union PartialUnion Append Union \
          Group DedentToRoot Text 'dsns' Align Text ' o' Group WeakSpace Union Text 'f' WeakLine BreakOrFlat HardLine \
          Text ' '", "ostt\r\n      o"),
@@ -105,8 +105,8 @@ const FAILURES: [Case; 12] = [
     (2, "Union Group Append Text 'xj' Append WeakSpace Append LineSuffix BreakOrFlat HardLine Nil Append BreakOrFlat \
          WeakLine WeakSpace WeakLine Append Flatten HardLine TextWithLen 3 ''", ""),
     (4, "Align BreakOrFlat Append Union Append Text 'xtq' Append Text 'b' WeakSpace Text 'xz' Append Fail LineSuffix \
-         WeakLine Append LineSuffix Union Nest 4 Text 'v' Append Nil Text 'hoj' Flatten Append Append Text 'la' Text \
-         'yo' Nest 2 Text 'w'", "xtqb"),
+         WeakLine Append LineSuffix Union Nest 4 Text 'v' Append Nil Text 'hoj' Flatten Append Append Text 'la' \
+         Text 'yo' Nest 2 Text 'w'", "xtqb"),
     (3, "Append Append MultilineText '你\nbc\r\n' Text 'ot' Group Nest -1 Nest 4 Append PartialUnion Append Text 'v' \
          Append WeakSpace Align Append HardLine Append Nest -2 Nest 9 MultilineText 'a\u{301}\na\u{301}' Text 'k' \
          Append Group Text 'pli' WeakSpace Align Append Append Fail WeakLine HardLine",

@@ -43,12 +43,12 @@ const LAYOUTS: [Case; 60] = [
           Text 'z'", "cromiqxtyvzttnkdm\n    "),
     (12, "PartialUnion BreakOrFlat Group Group Append HardLine Append WeakLine HardLine Text 'wrvw' Group Nest -100 \
           Text 'dh'", "\n\n"),
-    (4, "Group Append Append LineSuffix ExpandParent BreakOrFlat HardLine Text ' ' Append LineSuffix Nest 40 Nil Text \
-         'iqlt'", "\niqlt"),
+    (4, "Group Append Append LineSuffix ExpandParent BreakOrFlat HardLine Text ' ' Append LineSuffix Nest 40 Nil \
+         Text 'iqlt'", "\niqlt"),
     (1, "Append Align BreakOrFlat HardLine Text ' ' Union Flatten Append ExpandParent Flatten TextWithLen 2 '你好' Group \
          WeakLine", "\n"),
-    (3, "Union Union Text 'bed' BreakOrFlat BreakOrFlat HardLine Text ' ' Text 'hingp' BreakOrFlat LineSuffix Text \
-         'pcw' WeakLine", "bed"),
+    (3, "Union Union Text 'bed' BreakOrFlat BreakOrFlat HardLine Text ' ' Text 'hingp' BreakOrFlat LineSuffix \
+         Text 'pcw' WeakLine", "bed"),
     (2, "Union Append Union MultilineText 'def\nbc' BreakOrFlat HardLine Text ' ' Text 'ye' Append Flatten Fail \
          BreakOrFlat HardLine Text ' '", "\nye"),
     (3, "Union Flatten Nest 1 Append Text 'iiq' DedentToRoot Text 'l' Group Group Flatten BreakOrFlat PartialUnion \
@@ -70,21 +70,21 @@ const LAYOUTS: [Case; 60] = [
     (1, "Append Append LineSuffix PartialUnion Text 'az' HardLine Nest -1 Nest 2 Append HardLine Union LineSuffix \
          Union Fail Union Nest -2 MultilineText ' x\r\n你' Text 'wiwc' LineSuffix WeakLine Align MultilineText '\r你'",
      "\n  \n  \r你wiwc"),
-    (80, "Append Flatten ExpandParent LineSuffix Append Append Append Group TextWithLen 2 'ÅÄ' Append MultilineText \
-          'a\nbc' Text 'zy' BreakOrFlat HardLine Text ' ' Append Text 'l' Union Nest 1 Flatten WeakLine Text 'bfic'",
-     "ÅÄa\nbczy\nl\n "),
-    (6, "Append Group Append Append Align WeakSpace BreakOrFlat HardLine Text ' ' Append LineSuffix Text 'ic' Text \
-         'ken' Align Union Union Text 'ngsz' Text 'r' Align BreakOrFlat Nest -1 Text 'dxfaz' DedentToRoot Text ' '",
-     "\nkenric"),
-    (7, "Append DedentToRoot Append Append Nil Union Align WeakSpace Text 'fahh' HardLine PartialUnion Append Text \
-         'cqp' Append HardLine Union Text 'r' Align HardLine Append Text 'dgv' Union DedentToRoot HardLine HardLine",
-     "\ncqp\nr"),
+    (80, "Append Flatten ExpandParent LineSuffix Append Append Append Group TextWithLen 2 'ÅÄ' Append \
+          MultilineText 'a\nbc' Text 'zy' BreakOrFlat HardLine Text ' ' Append Text 'l' Union Nest 1 Flatten WeakLine \
+          Text 'bfic'", "ÅÄa\nbczy\nl\n "),
+    (6, "Append Group Append Append Align WeakSpace BreakOrFlat HardLine Text ' ' Append LineSuffix Text 'ic' \
+         Text 'ken' Align Union Union Text 'ngsz' Text 'r' Align BreakOrFlat Nest -1 Text 'dxfaz' DedentToRoot \
+         Text ' '", "\nkenric"),
+    (7, "Append DedentToRoot Append Append Nil Union Align WeakSpace Text 'fahh' HardLine PartialUnion Append \
+         Text 'cqp' Append HardLine Union Text 'r' Align HardLine Append Text 'dgv' Union DedentToRoot HardLine \
+         HardLine", "\ncqp\nr"),
     (1, "Union Flatten Append Nest 5 Append Text 'qvc' Append LineSuffix LineSuffix Fail HardLine Append Nil \
-         BreakOrFlat WeakLine Nil Union Append PartialUnion TextWithLen 0 'e\u{301}' Group ExpandParent Nest 4 Text \
-         'wo' Align Text ''", ""),
-    (18, "Append Text 'e' Group Append BreakOrFlat HardLine Nil Union ExpandParent Append Flatten Append Align Text \
-          'n' Align Union Group Nest -1 Text 'neor' Nest 1 Nest -1 WeakLine LineSuffix Append Union Group Nil WeakLine \
-          WeakLine", "e\n"),
+         BreakOrFlat WeakLine Nil Union Append PartialUnion TextWithLen 0 'e\u{301}' Group ExpandParent Nest 4 \
+         Text 'wo' Align Text ''", ""),
+    (18, "Append Text 'e' Group Append BreakOrFlat HardLine Nil Union ExpandParent Append Flatten Append Align \
+          Text 'n' Align Union Group Nest -1 Text 'neor' Nest 1 Nest -1 WeakLine LineSuffix Append Union Group Nil \
+          WeakLine WeakLine", "e\n"),
     (8, "LineSuffix Group Append Append Align Nest -1 BreakOrFlat HardLine Text ' ' BreakOrFlat HardLine Text ' ' \
          Append LineSuffix Append Nest 4 Text 'dd' Align PartialUnion Append PartialUnion HardLine Text 'iktq' Nil \
          Align Group WeakSpace Text 't'", "  tdd"),
@@ -95,8 +95,8 @@ const LAYOUTS: [Case; 60] = [
           Union MultilineText 'bc\r\nlonger' Append Group HardLine Group Text 'fb' BreakOrFlat LineSuffix Text 'v' \
           WeakSpace Nest 40 Nest 1 LineSuffix Text 'u'", "dqj\n  top\n  bc\r\nlonger"),
     (18, "Append BreakOrFlat Append Append WeakSpace MultilineText '你\ndef\nbc' Group Append Text 'axmd' Append \
-          LineSuffix Group MultilineText 'def\né\na\u{301}' Append BreakOrFlat WeakLine Text ' ' Nest -1 Group Text \
-          'vmearvdrjk' Nest -1 HardLine Group TextWithLen 2 'ab'", "你\ndef\nbcaxmddef\né\na\u{301}\nvmearvdrjkab"),
+          LineSuffix Group MultilineText 'def\né\na\u{301}' Append BreakOrFlat WeakLine Text ' ' Nest -1 Group \
+          Text 'vmearvdrjk' Nest -1 HardLine Group TextWithLen 2 'ab'", "你\ndef\nbcaxmddef\né\na\u{301}\nvmearvdrjkab"),
     (2, "Union Append Union Union PartialUnion Flatten Nil Append Text 'vhfjp' LineSuffix Text 'gfin' Group Fail Group \
          Text ' v' Append WeakSpace Append LineSuffix Nil Append WeakLine Text 'rb' DedentToRoot LineSuffix LineSuffix \
          BreakOrFlat ExpandParent WeakSpace", "\nrb"),
@@ -107,9 +107,9 @@ const LAYOUTS: [Case; 60] = [
          HardLine Append BreakOrFlat Group Text 'akq' Flatten Union WeakLine Fail Text 'unmw' Append Text 'dvoi' \
          Append LineSuffix WeakLine LineSuffix MultilineText 'longer\na\u{301}\né\né'",
      "→xdvoiooq\nlonger\na\u{301}\né\né"),
-    (4, "Append Group Append Group Append Nest -1 Nil Align Text 'kkk' Append LineSuffix BreakOrFlat HardLine Nil Nest \
-         4 MultilineText 'a\r\nghij\n你\n你' Union Append Align Append Text 'ym' BreakOrFlat HardLine Text ' ' Nest 9 \
-         Append Union LineSuffix DedentToRoot WeakLine Nest 1 Text 'rrug' HardLine PartialUnion ExpandParent \
+    (4, "Append Group Append Group Append Nest -1 Nil Align Text 'kkk' Append LineSuffix BreakOrFlat HardLine Nil \
+         Nest 4 MultilineText 'a\r\nghij\n你\n你' Union Append Align Append Text 'ym' BreakOrFlat HardLine Text ' ' \
+         Nest 9 Append Union LineSuffix DedentToRoot WeakLine Nest 1 Text 'rrug' HardLine PartialUnion ExpandParent \
          LineSuffix Nil", "kkka\r\nghij\n你\n你ym\n  \n\n         \n         "),
 ];
 
@@ -118,25 +118,26 @@ const FAILURES: [Case; 12] = [
     (80, "Flatten BreakOrFlat Group HardLine Group Group Append HardLine TextWithLen 2 'e\u{301}'", ""),
     (1, "Append Group LineSuffix Text 'mjkqypnmwr' Nest 1 Group Union Text 'ru' DedentToRoot Fail", ""),
     (1, "Align Union Flatten Text ' l' Group Nest 2 Align LineSuffix Flatten Append Text ' ' HardLine", " "),
-    (6, "Nest 2 Append Nest 2 Append Union Group Text 'tneevgw' Flatten Fail Text 'jb' Group Append Nest 1 Fail WeakLine",
-     ""),
-    (20, "Append Append Append LineSuffix Nil Fail Nest 1 Text 'gz' DedentToRoot LineSuffix PartialUnion Text 'e' Text \
-          'ljt'", ""),
+    (6, "Nest 2 Append Nest 2 Append Union Group Text 'tneevgw' Flatten Fail Text 'jb' Group Append Nest 1 Fail \
+         WeakLine", ""),
+    (20, "Append Append Append LineSuffix Nil Fail Nest 1 Text 'gz' DedentToRoot LineSuffix PartialUnion Text 'e' \
+          Text 'ljt'", ""),
     (3, "Flatten Append PartialUnion Flatten WeakLine Append TextWithLen 0 'e\u{301}' Text 'bi' Group Append Nest -1 \
          ExpandParent Fail", ""),
-    (5, "Append MultilineText '你\r\n你' Append WeakSpace Append Nest 4 PartialUnion DedentToRoot MultilineText \
-         ' x\rghij' Text 'rd' LineSuffix Flatten DedentToRoot Align Append TextWithLen 1 'é' Fail", "你\r\n你  x\rghijé"),
+    (5, "Append MultilineText '你\r\n你' Append WeakSpace Append Nest 4 PartialUnion DedentToRoot \
+         MultilineText ' x\rghij' Text 'rd' LineSuffix Flatten DedentToRoot Align Append TextWithLen 1 'é' Fail",
+     "你\r\n你  x\rghijé"),
     (2, "DedentToRoot Append Append WeakLine Append HardLine PartialUnion BreakOrFlat WeakLine Text ' ' Text 'bahdbea' \
          Append Append Append Text 'a' Align MultilineText 'bc\r\n' Fail MultilineText 'bc\nghij\n'",
      "\nbahdbeaabc\r\n"),
-    (30, "Append Flatten Append Text 'wb' Append LineSuffix Append BreakOrFlat BreakOrFlat ExpandParent WeakSpace Text \
-          'ji' WeakLine Append WeakLine Nest -2 HardLine LineSuffix Append Group Text 'k' HardLine", "wbji\n"),
+    (30, "Append Flatten Append Text 'wb' Append LineSuffix Append BreakOrFlat BreakOrFlat ExpandParent WeakSpace \
+          Text 'ji' WeakLine Append WeakLine Nest -2 HardLine LineSuffix Append Group Text 'k' HardLine", "wbji\n"),
     (5, "LineSuffix Append Text 'jukb' Append WeakSpace Union MultilineText 'a\ré' Append HardLine Append Align Fail \
-         Align Align Group PartialUnion Union Flatten Text 'u' PartialUnion WeakSpace Group TextWithLen 1 'ab' WeakLine",
-     "jukb\n"),
+         Align Align Group PartialUnion Union Flatten Text 'u' PartialUnion WeakSpace Group TextWithLen 1 'ab' \
+         WeakLine", "jukb\n"),
     (17, "Append DedentToRoot Union Text 'cv' HardLine Nest -1 Flatten Append LineSuffix Append Align WeakLine \
-          LineSuffix HardLine Append WeakLine Append Union MultilineText 'é\ra' Append ExpandParent PartialUnion Nest \
-          -100 Fail Fail Group Text ''", "cv\n"),
+          LineSuffix HardLine Append WeakLine Append Union MultilineText 'é\ra' Append ExpandParent PartialUnion \
+          Nest -100 Fail Fail Group Text ''", "cv\n"),
     (5, "Union Append Text 'unp' Append WeakSpace Append LineSuffix BreakOrFlat WeakLine Nil Append HardLine Union \
          Group Append LineSuffix Fail Append Text 'hx' Text 'rxd' Append Group WeakSpace Group Fail Align BreakOrFlat \
          Append HardLine Nil Union Union Nest -1 Text 'ywe' Nest 9 Fail Text 'ne'", "unp \n\nhxrxd"),

@@ -24,15 +24,15 @@ const SUFFIXES: [Case; 7] = [
 #[rattlefmt::skip]
 const CHOICES: [Case; 7] = [
     // A rejected alternative leaves those from before it, and none of its own.
-    (5, "Append Append Append Text 'a' LineSuffix Text ' // 1' Text 'a' Union Append LineSuffix Text ' // 3' Text \
-         '6666666' Append LineSuffix Text ' // 4' Text '77'", "aa77 // 1 // 4"),
-    (10, "Append LineSuffix Text ' // caller' Union Append Union Append Text 'inner' LineSuffix Text ' // s' Text \
-          'inner fallback' Text ' long overflow' Text 'outer fallback'", "outer fallback // caller"),
+    (5, "Append Append Append Text 'a' LineSuffix Text ' // 1' Text 'a' Union Append LineSuffix Text ' // 3' \
+         Text '6666666' Append LineSuffix Text ' // 4' Text '77'", "aa77 // 1 // 4"),
+    (10, "Append LineSuffix Text ' // caller' Union Append Union Append Text 'inner' LineSuffix Text ' // s' \
+          Text 'inner fallback' Text ' long overflow' Text 'outer fallback'", "outer fallback // caller"),
     // At a break in an alternative, those from before it are in front of those of the alternative.
     (80, "Append Append Append Text 'a' LineSuffix Text '//outer' Union Append Text 'b' HardLine Text 'x' Text 'c'",
      "ab//outer\nc"),
-    (80, "Append Append LineSuffix Text 'O' Union Append Append Union Append Append LineSuffix Text 'I' WeakLine Text \
-          'b' Text 'r' LineSuffix Text 'J' HardLine Text 'x' Text 'c'", "OI\nbJ\nc"),
+    (80, "Append Append LineSuffix Text 'O' Union Append Append Union Append Append LineSuffix Text 'I' WeakLine \
+          Text 'b' Text 'r' LineSuffix Text 'J' HardLine Text 'x' Text 'c'", "OI\nbJ\nc"),
     (4, "Append Append Text 'p' LineSuffix Text 'O' Union Append Append Append Union Append Append LineSuffix Text 'I' \
          HardLine Text 'ok' Text 'r' LineSuffix Text 'J' HardLine Fail Text 'x'", "pxO"),
     (4, "Append Append Append Text 'p' LineSuffix Text 'O' Union Append Append Append Union Append Append LineSuffix \

@@ -18,14 +18,14 @@ const SPACES: [Case; 15] = [
     (2, "PartialUnion Append Append Append Text 'a' WeakSpace LineSuffix Text '//' HardLine Text 'x'", "a //\n"),
     (1, "PartialUnion Append Append Append Text 'a' WeakSpace LineSuffix Text '//' HardLine Text 'x'", "x"),
     // Of one column where a group is tried.
-    (6, "Group Append Append Append Append Append Append Append WeakSpace Text 'a' WeakSpace WeakSpace Text '' Text \
-         'b' BreakOrFlat HardLine Text ' ' Text 'c'", "a  b c"),
-    (5, "Group Append Append Append Append Append Append Append WeakSpace Text 'a' WeakSpace WeakSpace Text '' Text \
-         'b' BreakOrFlat HardLine Text ' ' Text 'c'", "a  b\nc"),
-    (4, "Group Append Append Append Append Text 'a' BreakOrFlat HardLine Text ' ' Text 'b' WeakSpace LineSuffix Text \
-         '//'", "a b //"),
-    (3, "Group Append Append Append Append Text 'a' BreakOrFlat HardLine Text ' ' Text 'b' WeakSpace LineSuffix Text \
-         '//'", "a\nb //"),
+    (6, "Group Append Append Append Append Append Append Append WeakSpace Text 'a' WeakSpace WeakSpace Text '' \
+         Text 'b' BreakOrFlat HardLine Text ' ' Text 'c'", "a  b c"),
+    (5, "Group Append Append Append Append Append Append Append WeakSpace Text 'a' WeakSpace WeakSpace Text '' \
+         Text 'b' BreakOrFlat HardLine Text ' ' Text 'c'", "a  b\nc"),
+    (4, "Group Append Append Append Append Text 'a' BreakOrFlat HardLine Text ' ' Text 'b' WeakSpace LineSuffix \
+         Text '//'", "a b //"),
+    (3, "Group Append Append Append Append Text 'a' BreakOrFlat HardLine Text ' ' Text 'b' WeakSpace LineSuffix \
+         Text '//'", "a\nb //"),
     (usize::MAX, "Append Append TextWithLen 18446744073709551615 'a' WeakSpace Text 'b'", "a b"),
 ];
 
@@ -40,8 +40,8 @@ const LINES: [Case; 10] = [
     (1, "Group Append Append Text 'a' BreakOrFlat WeakLine Nil Text 'b'", "a\nb"),
     // Nothing on a fresh line, and an empty text leaves it fresh.
     (1, "Group Append WeakLine Text 'long'", "long"),
-    (3, "Nest 2 Append Append Append Append Append Append Text 'a' HardLine WeakLine WeakSpace Text '' WeakLine Text 'b'",
-     "a\n  b"),
+    (3, "Nest 2 Append Append Append Append Append Append Text 'a' HardLine WeakLine WeakSpace Text '' WeakLine \
+         Text 'b'", "a\n  b"),
     (1, "Group Append Append TextWithLen 0 '' WeakLine Text 'x'", "x"),
     // A text of width 0 is a text.
     (1, "Append Append TextWithLen 0 '\u{301}' WeakLine Text 'x'", "\u{301}\nx"),
