@@ -1,5 +1,5 @@
 //! Sinks that stop, or answer what they did not take.
-ghost use Rattle.std.specs.Prelude.{[], ⊤, ⊥};
+ghost use Rattle.std.specs.Prelude.{[], ⊤};
 
 use crate::reader::read;
 use prettyless::{DocPtr, Render, RenderError};
