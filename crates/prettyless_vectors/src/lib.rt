@@ -6,6 +6,8 @@ mod built;
 #[cfg(test)]
 mod choices;
 #[cfg(test)]
+mod counted;
+#[cfg(test)]
 mod deep;
 #[cfg(test)]
 mod made;
