@@ -5,3 +5,4 @@ pub mod Outcomes
 pub mod Reading
 pub mod Pointers
 pub mod Refusals
+pub mod Runs

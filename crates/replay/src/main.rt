@@ -14,24 +14,18 @@ mod pointer;
 mod reading;
 mod refusal;
 mod replayed;
+mod run;
 
-use answer::answer;
+use run::run;
 use std::io;
-use std::io::{BufRead, BufReader, BufWriter, Write};
+use std::io::{BufReader, BufWriter, Write};
 
 fn main(rt: HostRuntime) -> io::Result<()> {
     let mut reader = BufReader::new(rt.alloc(), rt.reader())?;
     let mut out = BufWriter::new(rt.alloc(), io::writer(&rt))?;
-    let mut line = Vec::new(rt.alloc());
-    for _ in 0..u64::MAX {
-        line.clear();
-        if reader.read_until(b'\n', &mut line)? == 0 {
-            break;
-        }
-        if line.last() == Some(&b'\n') {
-            line.pop();
-        }
-        answer(rt.alloc(), &line, &mut out)?;
-    }
+    run(rt.alloc(), &mut reader, &mut out)?;
     out.flush()
 }
+
+#[cfg(test)]
+mod tests;
