@@ -1,0 +1,8 @@
+pub mod Answering
+pub mod Digits
+pub mod HexWords
+pub mod Items
+pub mod Lines
+pub mod Operands
+pub mod Readings
+pub mod Refusing

@@ -1,0 +1,7 @@
+-- The case that a `ReadCase` stands for.
+use Rattle.replay.specs.declared.case.ReadCase.{ReadCase}
+use Rattle.replay.specs.Notation.{Case}
+use Rattle.replay.specs.Pointers.{pointer_tree}
+
+abbrev pub case_of : ReadCase → Case
+case_of c = record { options = c.options; tree = pointer_tree c.document.root }

@@ -1,0 +1,98 @@
+ghost use Rattle.std.specs.Prelude.{◌≡◌, ℕ, List, map, IfOk, OnOk, IfErr};
+ghost use Rattle.prettyless.specs.TextBytes.{bytes_of};
+ghost use Rattle.prettyless.specs.Tree.{Tree};
+ghost use Rattle.replay.specs.Notation.{IsSpelled};
+ghost use Rattle.replay.specs.Pointers.{pointer_tree};
+ghost use Rattle.replay.specs.Reading.{Item, items_of, BeginsWithText, Makes, Steps};
+ghost use Rattle.replay.specs.Refusals.{Refuses};
+
+use crate::document::Document;
+use crate::hexadecimal::text;
+use crate::number::{number, offset};
+use crate::operand::{Operand, take_document, take_word};
+use crate::operator::{Operator, operator_named};
+use crate::refusal::Refusal;
+use prettyless::Doc;
+use prettyless::text::{CowStr, Text};
+use std::alloc::Global;
+
+// Takes the text whose word comes next.
+fn take_text<'a>(alloc: Global, operands: &mut Vec<Operand<'a>>) -> Result<Text<'a>, Refusal>
+    ensures ok { IfOk result (λ s. BeginsWithText (items_of operands.old.items) (bytes_of s) (items_of operands.new.items)) }
+    ensures err { IfErr result (λ e. Refuses e ((s : List ℕ) (rest : List Item) → BeginsWithText (items_of operands.old.items) s rest → ⊥)) }
+{
+    let text = text(alloc, take_word(operands)?)?;
+    Ok(Text::from_cow(alloc, CowStr::Owned(text))?)
+}
+
+// Takes what comes behind an operator, and makes the operator's document of it.
+fn make<'a>(
+    alloc: Global,
+    operator: Operator,
+    operands: &mut Vec<Operand<'a>>,
+) -> Result<Document<'a>, Refusal>
+    ensures ok { IfOk result (λ d. Makes operator (items_of operands.old.items) (pointer_tree d.root) (items_of operands.new.items)) }
+    ensures err { IfErr result (λ e. Refuses e ((d : Tree) (rest : List Item) → Makes operator (items_of operands.old.items) d rest → ⊥)) }
+{
+    match operator {
+        Operator::Leaf(leaf) => Document::above(alloc, 0, leaf.doc()),
+        Operator::Text => Document::above(alloc, 0, Doc::Text(take_text(alloc, operands)?)),
+        Operator::TextWithLen => {
+            let width = number(take_word(operands)?).ok_or(Refusal::NotACase)?;
+            let text = take_text(alloc, operands)?;
+            Document::above(alloc, 0, Doc::TextWithLen(width, text))
+        }
+        Operator::Nest => {
+            let offset = offset(take_word(operands)?).ok_or(Refusal::NotACase)?;
+            let inner = take_document(operands)?;
+            Document::above(alloc, inner.depth, Doc::Nest(offset, inner.root))
+        }
+        Operator::Wrapper(wrapper) => {
+            let inner = take_document(operands)?;
+            Document::above(alloc, inner.depth, wrapper.doc(inner.root))
+        }
+        Operator::Join(join) => {
+            let first = take_document(operands)?;
+            let second = take_document(operands)?;
+            let below = first.depth.max(second.depth);
+            Document::above(alloc, below, join.doc(first.root, second.root))
+        }
+    }
+}
+
+// Puts one word more in front: an operator makes a document of what comes behind it.
+fn put_in_front<'a>(
+    alloc: Global,
+    word: &'a [u8],
+    operands: &mut Vec<Operand<'a>>,
+) -> Result<(), Refusal>
+    ensures ok { OnOk result (Steps word.now (items_of operands.old.items) (items_of operands.new.items)) }
+    ensures err { IfErr result (λ e. Refuses e ((new : List Item) → Steps word.now (items_of operands.old.items) new → ⊥)) }
+{
+    let operand = match operator_named(word) {
+        Some(operator) => Operand::Document(make(alloc, operator, operands)?),
+        None => Operand::Word(word),
+    };
+    operands.push(operand)?;
+    Ok(())
+}
+
+/// The document that the words write, all of them.
+pub fn read_document<'a>(alloc: Global, words: &[&'a [u8]]) -> Result<Document<'a>, Refusal>
+    ensures ok { IfOk result (λ d. IsSpelled (pointer_tree d.root) (map (λ w. w.now) words.now)) }
+    ensures only { IfOk result (λ d. (t : Tree) → IsSpelled t (map (λ w. w.now) words.now) → t ≡ pointer_tree d.root) }
+    ensures err { IfErr result (λ e. Refuses e ((t : Tree) → IsSpelled t (map (λ w. w.now) words.now) → ⊥)) }
+{
+    let mut operands = Vec::new(alloc);
+    let mut at = words.len();
+    while at > 0 {
+        at -= 1;
+        put_in_front(alloc, words[at], &mut operands)?;
+    }
+    let document = take_document(&mut operands)?;
+    if operands.is_empty() {
+        Ok(document)
+    } else {
+        Err(Refusal::NotACase)
+    }
+}

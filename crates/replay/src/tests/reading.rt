@@ -1,0 +1,88 @@
+use crate::hexadecimal::{text, word_of};
+use crate::number::{number, offset};
+use crate::refusal::Refusal;
+use crate::replayed::replayed;
+use std::test::Fail;
+
+#[test]
+fn lays_out_cases(rt: HostRuntime) -> Result<(), Fail> {
+    for (line, outcome) in [
+        (
+            "5 lf eager app app t 28 grp nest 1 app app app app t 31 bof hl t 20 t 32 bof hl t 20 t 33 t 29",
+            "ok 28310a20320a203329",
+        ),
+        (
+            "2 lf eager app uni app t 61 sfx fail t 78 t 62 => ok -",
+            "fail 6162",
+        ),
+        ("80 lf eager fail", "fail -"),
+    ] {
+        let written = replayed(rt.alloc(), line.as_bytes())?;
+        assert_eq!(rt; written.as_str(), outcome);
+    }
+    Ok(())
+}
+
+#[test]
+fn refuses_lines(rt: HostRuntime) {
+    for line in [
+        "80 lf eager",
+        "80 lf eager nil nil",
+        "80 lf eager app nil",
+        "80 lf eager t 6",
+    ] {
+        assert!(rt;
+            matches!(
+                replayed(rt.alloc(), line.as_bytes()),
+                Err(Refusal::NotACase)
+            )
+        );
+    }
+}
+
+// A leaf in so many groups.
+fn groups(rt: &HostRuntime, count: u32) -> Result<String, Fail> {
+    let mut line = String::from_str(rt.alloc(), "80 lf eager ")?;
+    for _ in 0..count {
+        line.push_str("grp ")?;
+    }
+    line.push_str("nil")?;
+    Ok(line)
+}
+
+#[test]
+fn refuses_what_is_too_deep(rt: HostRuntime) -> Result<(), Fail> {
+    let deepest = groups(&rt, 999)?;
+    assert_eq!(rt; replayed(rt.alloc(), deepest.as_bytes())?.as_str(), "ok -");
+    let deeper = groups(&rt, 1000)?;
+    assert!(rt;
+        matches!(
+            replayed(rt.alloc(), deeper.as_bytes()),
+            Err(Refusal::TooDeep)
+        )
+    );
+    Ok(())
+}
+
+#[test]
+fn texts_are_words(rt: HostRuntime) -> Result<(), Fail> {
+    assert_eq!(rt;
+        word_of(rt.alloc(), "Aä\n".as_bytes())?.as_str(),
+        "41c3a40a"
+    );
+    assert_eq!(rt; word_of(rt.alloc(), b"".as_slice())?.as_str(), "-");
+    assert_eq!(rt; text(rt.alloc(), b"41c3a40a")?.as_str(), "Aä\n");
+    for word in ["", "4", "4G", "4A", "ff"] {
+        assert!(rt; matches!(text(rt.alloc(), word.as_bytes()), Err(Refusal::NotACase)));
+    }
+    Ok(())
+}
+
+#[test]
+fn numbers_are_words(rt: HostRuntime) {
+    assert_eq!(rt; number(b"18446744073709551615"), Some(u64::MAX as usize));
+    assert_eq!(rt; number(b"18446744073709551616"), None);
+    assert_eq!(rt; offset(b"-9223372036854775808"), Some(isize::MIN));
+    assert_eq!(rt; offset(b"9223372036854775807"), Some(isize::MAX));
+    assert_eq!(rt; offset(b"9223372036854775808"), None);
+}
