@@ -3,8 +3,7 @@ use Rattle.std.proofs.Common.{◌≡◌, ℕ, suc, ◌+◌, pos, List, [], ◌�
 use Rattle.prettyless.specs.Tree as t
 use Rattle.prettyless.specs.Tree.{Tree, size}
 use Rattle.prettyless.specs.Built.{append, append_to, nest, group, line}
-use Rattle.prettyless.specs.Layout.{State, Outcome, Done, Failed, Entry, Breaks, Whole, Cut, after_bytes, and_then, entry, initial, lay, lay_text, breaks, finish, layout_by, layout, probe, nested, lay_ending, next_indent, bytes_of}
-use Rattle.prettyless.specs.Options.{options_at}
+use Rattle.prettyless.specs.Layout.{State, Outcome, Bytes, Done, Failed, Entry, Breaks, Whole, Cut, after_bytes, and_then, entry, initial, lay, lay_text, breaks, finish, layout_by, layout, probe, nested, lay_ending, next_indent, bytes_of}
 use Rattle.prettyless_sink.specs.declared.options.RenderOptions.{RenderOptions}
 use Rattle.prettyless_sink.specs.declared.options.IndentationPolicy.{IndentationPolicy}
 use Rattle.prettyless_sink.specs.declared.options.IndentationPolicy.TheVariants.{Eager, Deferred}
@@ -246,6 +245,14 @@ mutual
   followed_safe x a (first v vs) =
       followed_safe (append (append x line) (document_of v)) (append_safe (append x line) (document_of v) (append_safe x line a (tt, tt)) (document_safe v)) vs
 
--- the layout of a value is whole
-pub layout_not_cut : (columns : ℕ) (v : Value) (bytes : List ℕ) → layout_of columns v ≡ Cut bytes → ⊥
-layout_not_cut columns v bytes e = safe_is_whole (options_at columns) (document_of v) bytes (document_safe v).1 e
+-- the layout of a value is not cut
+pub layout_not_cut : (o : RenderOptions) (v : Value) (bytes : List ℕ) → layout_of o v ≡ Cut bytes → ⊥
+layout_not_cut o v bytes e = safe_is_whole o (document_of v) bytes (document_safe v).1 e
+
+not_cut_is_whole : (y : Bytes) → ((bytes : List ℕ) → y ≡ Cut bytes → ⊥) → (bytes : List ℕ) × (y ≡ Whole bytes)
+not_cut_is_whole (Whole bytes) h = (bytes, refl)
+not_cut_is_whole (Cut bytes) h = absurd (h bytes refl)
+
+-- but whole
+pub layout_whole : (o : RenderOptions) (v : Value) → (bytes : List ℕ) × (layout_of o v ≡ Whole bytes)
+layout_whole o v = not_cut_is_whole (layout_of o v) (layout_not_cut o v)

@@ -3,7 +3,7 @@ use crate::error::RunError;
 /// How the program ends where it doesn't write a whole layout.
 #[derive(Clone, Copy, Debug, PartialEq, Eq)]
 pub enum Ending {
-    /// The words ask for no width.
+    /// The words ask for no layout.
     BadWords,
     /// The input is no S-expression.
     NotAnSexp,

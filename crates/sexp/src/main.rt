@@ -1,5 +1,5 @@
-//! Lays an S-expression out: `sexp WIDTH` reads one from standard input, and writes its layout within this many columns
-//! to standard output.
+//! Lays an S-expression out: `sexp WIDTH [crlf] [deferred]` reads one from standard input, and writes its layout within
+//! this many columns to standard output, with lines that end in CR LF, and with indents that are written late.
 #![tactic(auto)]
 
 mod document;
@@ -22,9 +22,9 @@ use std::io::ErrorKind;
 use std::process::ExitCode;
 use std::rt::Env;
 use std::{env, io};
-pub use words::width;
+pub use words::options;
 
-// The words behind the program's name. One that is no text is a bad word, like any that asks for no width.
+// The words behind the program's name. One that is no text is a bad word, like any that asks for no layout.
 fn arguments<R: Env + AllocGlobal>(rt: &R) -> Result<Vec<String>, Ending> {
     let words = env::args(rt).map_err(|error| match error.kind() {
         ErrorKind::OutOfMemory => Ending::Failed,
@@ -38,8 +38,8 @@ fn arguments<R: Env + AllocGlobal>(rt: &R) -> Result<Vec<String>, Ending> {
 
 fn lay_out<R: Env + AllocGlobal + Input + Print>(rt: &R) -> Result<(), Ending> {
     let words = arguments(rt)?;
-    let width = width(&words).ok_or(Ending::BadWords)?;
-    run(rt.alloc(), width, &mut rt.reader(), &mut io::writer(rt))?;
+    let options = options(&words).ok_or(Ending::BadWords)?;
+    run(rt.alloc(), options, &mut rt.reader(), &mut io::writer(rt))?;
     Ok(())
 }
 

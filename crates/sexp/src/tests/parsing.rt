@@ -1,4 +1,5 @@
-use crate::{RunError, SExp, parse, width};
+use crate::{RunError, SExp, options, parse};
+use prettyless::{IndentationPolicy, LineEnding};
 use std::alloc::Global;
 use std::test::*;
 
@@ -20,22 +21,63 @@ fn words(alloc: Global, texts: &[&str]) -> Result<Vec<String>, Fail> {
 }
 
 #[test]
-fn one_word_of_digits_is_a_width(rt: HostRuntime) -> Result<(), Fail> {
+fn a_word_of_digits_is_a_width(rt: HostRuntime) -> Result<(), Fail> {
     for (text, columns) in [("80", 80), ("007", 7), ("18446744073709551615", usize::MAX)] {
-        let words = words(rt.alloc(), &[text])?;
-        assert_eq!(rt; width(&words), Some(columns), "{text}");
+        let options = options(&words(rt.alloc(), &[text])?).ok_or(text)?;
+        assert_eq!(rt; options.width, columns, "{text}");
+        assert_eq!(rt; options.line_ending, LineEnding::Lf, "{text}");
+        assert_eq!(rt;
+            options.indentation_policy,
+            IndentationPolicy::Eager,
+            "{text}"
+        );
     }
     Ok(())
 }
 
 #[test]
-fn other_words_are_no_width(rt: HostRuntime) -> Result<(), Fail> {
-    for text in ["", "+5", "-5", "5 ", "18446744073709551616"] {
-        let words = words(rt.alloc(), &[text])?;
-        assert_eq!(rt; width(&words), None, "{text}");
+fn words_behind_a_width_choose(rt: HostRuntime) -> Result<(), Fail> {
+    for (texts, line_ending, indentation_policy) in [
+        (
+            ["5", "crlf"].as_slice(),
+            LineEnding::Crlf,
+            IndentationPolicy::Eager,
+        ),
+        (
+            ["5", "deferred"].as_slice(),
+            LineEnding::Lf,
+            IndentationPolicy::Deferred,
+        ),
+        (
+            ["5", "crlf", "deferred"].as_slice(),
+            LineEnding::Crlf,
+            IndentationPolicy::Deferred,
+        ),
+    ] {
+        let options = options(&words(rt.alloc(), texts)?).ok_or("options")?;
+        assert_eq!(rt; options.width, 5);
+        assert_eq!(rt; options.line_ending, line_ending);
+        assert_eq!(rt; options.indentation_policy, indentation_policy);
     }
-    assert_eq!(rt; width(&[]), None);
-    assert_eq!(rt; width(&words(rt.alloc(), &["5", "crlf"])?), None);
+    Ok(())
+}
+
+#[test]
+fn other_words_choose_nothing(rt: HostRuntime) -> Result<(), Fail> {
+    assert!(rt; options(&[]).is_none());
+    for text in ["", "+5", "-5", "5 ", "18446744073709551616", "crlf"] {
+        assert!(rt; options(&words(rt.alloc(), &[text])?).is_none(), "{text}");
+    }
+    for texts in [
+        ["5", "deferred", "crlf"].as_slice(),
+        ["5", "crlf", "crlf"].as_slice(),
+        ["5", "lf"].as_slice(),
+        ["5", "CRLF"].as_slice(),
+        ["crlf", "5"].as_slice(),
+        ["5", "crlf", "deferred", "80"].as_slice(),
+    ] {
+        assert!(rt; options(&words(rt.alloc(), texts)?).is_none());
+    }
     Ok(())
 }
 

@@ -1,4 +1,5 @@
 use crate::{Ending, RunError, run};
+use prettyless::{IndentationPolicy, LineEnding, RenderOptions};
 use std::alloc::Global;
 use std::io;
 use std::io::{ErrorKind, Read, Write};
@@ -76,10 +77,33 @@ fn layouts_are_written(rt: HostRuntime) -> Result<(), Fail> {
     ] {
         let mut reader = input.as_bytes();
         let mut written = Vec::new(rt.alloc());
-        run(rt.alloc(), width, &mut reader, &mut written)
-            .ok()
-            .ok_or(input)?;
+        run(
+            rt.alloc(),
+            RenderOptions::new(width),
+            &mut reader,
+            &mut written,
+        )
+        .ok()
+        .ok_or(input)?;
         assert_eq!(rt; written.as_slice(), layout.as_bytes(), "{input} at {width}");
+    }
+    Ok(())
+}
+
+#[test]
+fn lines_end_as_chosen(rt: HostRuntime) -> Result<(), Fail> {
+    for indentation_policy in [IndentationPolicy::Eager, IndentationPolicy::Deferred] {
+        let options = RenderOptions {
+            width: 5,
+            line_ending: LineEnding::Crlf,
+            indentation_policy,
+        };
+        let mut reader = b"(1 2 3)".as_slice();
+        let mut written = Vec::new(rt.alloc());
+        run(rt.alloc(), options, &mut reader, &mut written)
+            .ok()
+            .ok_or("a layout")?;
+        assert_eq!(rt; written.as_slice(), b"(1\r\n 2\r\n 3)\n".as_slice());
     }
     Ok(())
 }
@@ -90,7 +114,7 @@ fn other_inputs_are_refused(rt: HostRuntime) {
         let mut reader = input.as_bytes();
         let mut written = Vec::new(rt.alloc());
         assert_eq!(rt;
-            status(run(rt.alloc(), 5, &mut reader, &mut written)),
+            status(run(rt.alloc(), RenderOptions::new(5), &mut reader, &mut written)),
             1,
             "{input}"
         );
@@ -105,7 +129,7 @@ fn long_inputs_are_refused(rt: HostRuntime) -> Result<(), Fail> {
         let mut reader = input.as_slice();
         let mut written = Vec::new(rt.alloc());
         assert_eq!(rt;
-            status(run(rt.alloc(), 5, &mut reader, &mut written)),
+            status(run(rt.alloc(), RenderOptions::new(5), &mut reader, &mut written)),
             ending,
             "{len}"
         );
@@ -121,7 +145,12 @@ fn a_failing_reader_ends_the_run(rt: HostRuntime) {
             calls,
         };
         let mut written = Vec::new(rt.alloc());
-        let result = run(rt.alloc(), 10, &mut reader, &mut written);
+        let result = run(
+            rt.alloc(),
+            RenderOptions::new(10),
+            &mut reader,
+            &mut written,
+        );
         assert_eq!(rt;
             matches!(result, Err(RunError::Read(_))),
             ending != 0,
@@ -143,7 +172,7 @@ fn a_failing_writer_ends_the_run(rt: HostRuntime) {
                 room,
                 interrupted,
             };
-            let kind = match run(rt.alloc(), 5, &mut reader, &mut writer) {
+            let kind = match run(rt.alloc(), RenderOptions::new(5), &mut reader, &mut writer) {
                 Err(RunError::Write(error)) => Some(error.kind()),
                 _ => None,
             };
@@ -166,7 +195,10 @@ fn a_slow_writer_gets_all(rt: HostRuntime) {
         room: 100,
         interrupted: true,
     };
-    assert_eq!(rt; status(run(rt.alloc(), 5, &mut reader, &mut writer)), 0);
+    assert_eq!(rt;
+        status(run(rt.alloc(), RenderOptions::new(5), &mut reader, &mut writer)),
+        0
+    );
     assert_eq!(rt; writer.taken.as_slice(), b"(1\n 2\n 3)\n".as_slice());
 }
 

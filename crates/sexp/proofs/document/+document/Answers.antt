@@ -1,7 +1,7 @@
-use Rattle.std.proofs.Common.{◌≡◌, ℕ, ◌+◌, ◌-◌, ◌<◌, Result, Ok, Err, IfOk, List, length, take, drop, refl, [], ◌∷◌}
+use Rattle.std.proofs.Common.{◌≡◌, ℕ, ◌+◌, ◌-◌, ◌<◌, List, length, take, drop, refl, ◌∙◌}
 use Rattle.std.proofs.Math.ListN.{get_or}
 use Rattle.std.proofs.lemmas.List.{drop_more}
-use Rattle.prettyless.specs.Tree.{Tree, Text}
+use Rattle.prettyless.specs.Tree.{Tree}
 use Rattle.prettyless.specs.Built.{append, line}
 use Rattle.prettyless.specs.DocTree.{built}
 use Rattle.prettyless.specs.Trees.{box_tree}
@@ -12,17 +12,12 @@ use Rattle.sexp.specs.Documents.{document_of, interspersed, followed_by}
 use Rattle.sexp.proofs.Views.{value_of-List}
 use Rattle.sexp.proofs.document.+document.Goals as goal
 
--- an answer that is x with some tree appended, and that tree is y
-appended : {B E : Type 0} (tree : B → Tree) (r : Result B E) (x y all : Tree) → IfOk r (λ b. (v : Tree) × (v ≡ y) × (tree b ≡ append x v)) → append x y ≡ all → IfOk r (λ b. tree b ≡ all)
-appended tree (Ok b) x y all h e = rw e at (rw h.1 at h.2)
-appended tree (Err error) x y all h e = tt
-
 -- the next expression is behind the document so far
 behind_next : (so_far all : Tree) (es : List SExp) (i : ℕ) (d : SExp) → i < length es → followed_by so_far (values_of (values_in (drop i es))) ≡ all → followed_by (append (append so_far line) (document_of (value_of (get_or es i d)))) (values_of (values_in (drop (i + 1) es))) ≡ all
 behind_next so_far all es i d near h = rw (drop_more es i d near) at h
 
-pub document-returns-in_ok-ascii_text-in-List-2-clause-ok : goal.document-returns-in_ok-ascii_text-in-List-2-clause-ok
-document-returns-in_ok-ascii_text-in-List-2-clause-ok t c =
+pub document-returns-in_ok-list-in-List-clause-ok : goal.document-returns-in_ok-list-in-List-clause-ok
+document-returns-in_ok-list-in-List-clause-ok t c =
     let opening = c.in_ok-ascii_text-in-List.ensures in
     let closing = c.in_ok-ascii_text-in-List-2.ensures in
     let lines = rw c.deref.ensures.value at c.in_ok-lines-in-List.ensures.ok in
@@ -30,7 +25,8 @@ document-returns-in_ok-ascii_text-in-List-2-clause-ok t c =
     let items = rw nested at c.in_ok-items-in-List.ensures.ok in
     let front = c.in_ok-append-in-List.ensures.ok in
     let opened = rw (opening, items) at (rw front.1 at front.2) in
-    appended (λ b. built box_tree b.1) c.append-in-List.result (built box_tree c.in_ok-append-in-List.field-0.1) (built box_tree c.in_ok-ascii_text-in-List-2.field-0.1) (document_of (value_of c.args.expression.now)) c.append-in-List.ensures.ok (rw (opened, closing, c.in-List.is, value_of-List c.in-List.items) refl)
+    let last = c.in_ok-list-in-List.ensures.ok in
+    rw (opened, closing) at (rw last.1 at last.2) ∙ rw (c.in-List.is, value_of-List c.in-List.items) refl
 
 pub lines-loop-expression-preserved : goal.lines-loop-expression-preserved
 lines-loop-expression-preserved t c =
