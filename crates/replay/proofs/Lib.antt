@@ -1,4 +1,5 @@
 pub mod Answering
+pub mod Depths
 pub mod Digits
 pub mod HexWords
 pub mod Items

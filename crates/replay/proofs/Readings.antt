@@ -5,6 +5,7 @@ use Rattle.std.specs.Str.{bytes_eq}
 use Rattle.std.specs.Str.Parse.{digits_value}
 use Rattle.std.proofs.lemmas.List.{drop_more, map-append, take-append-drop}
 use Rattle.std.proofs.lemmas.Slice.Eq.{bytes_eq-Decides}
+use Rattle.prettyless_doc.specs.Breaks.{holds_break}
 use Rattle.prettyless.specs.Tree as t
 use Rattle.prettyless.specs.Tree.{Tree}
 use Rattle.replay.specs.declared.operator.Leaf.{Leaf}
@@ -46,6 +47,9 @@ makes_one (operators.Leaf leaf) items d e r s h k = (h.0 ∙ sym k.0, sym h.1 �
 makes_one operators.Text items d e r s h k =
     let x = one_beginning items h.0 k.0 r s h.2 k.2 in
     (h.1 ∙ ap t.Text x.0 ∙ sym k.1, x.1)
+makes_one operators.Payload items d e r s h k =
+    let x = one_beginning items h.0 k.0 r s h.2 k.2 in
+    (h.1 ∙ ap t.MultilineText x.0 ∙ sym k.1, x.1)
 makes_one operators.TextWithLen items d e r s (u, n, os, a, dd, begins, number, text) (v, m, ps, b, ee, begins', number', text') =
     let x = one_word u v os ps items begins begins' in
     let y = one_beginning os a b r s text (subst (λ (i : List Item). BeginsWithText i b s) (sym x.1) text') in
@@ -63,6 +67,13 @@ makes_one (operators.Join j) items d e r s (f, g, dd, begins) (f', g', ee, begin
     let x = one_document f f' (document g ∷ r) (document g' ∷ s) items begins begins' in
     let y = one_document g g' r s (document g ∷ r) refl x.1 in
     (dd ∙ ap (λ (i : Tree). joined j i g) x.0 ∙ ap (joined j f') y.0 ∙ sym ee, y.1)
+
+-- a text without a line break makes no payload
+pub no_payload : (items left : List Item) (w s : List ℕ) → items ≡ word w ∷ left → IsTextWord s w → holds_break s ≡ false → (d : Tree) (rest : List Item) → Makes operators.Payload items d rest → ⊥
+no_payload items left w s begins text unbroken d rest makes =
+    let same = one_beginning items s makes.0 left rest (w, begins, text) makes.2 in
+    let e : true ≡ false = sym makes.3 ∙ ap holds_break (sym same.0) ∙ unbroken in
+    absurd cc
 
 puts_one : (o : Option Operator) (w : List ℕ) (items new other : List Item) → Puts o w items new → Puts o w items other → new ≡ other
 puts_one None w items new other h k = h ∙ sym k
@@ -97,6 +108,7 @@ name_of (operators.Leaf leaves.WeakLine) = codes "wl"
 name_of (operators.Leaf leaves.ExpandParent) = codes "exp"
 name_of operators.Text = codes "t"
 name_of operators.TextWithLen = codes "w"
+name_of operators.Payload = codes "m"
 name_of operators.Nest = codes "nest"
 name_of (operators.Wrapper wrappers.LineSuffix) = codes "sfx"
 name_of (operators.Wrapper wrappers.DedentToRoot) = codes "root"
@@ -161,6 +173,9 @@ makes_spelled (operators.Leaf leaf) items d rest ws h k =
 makes_spelled operators.Text items d rest ws (s, is, (w, begins, text)) k =
     let x = subst (Spells ws) begins k in
     spells d rest (codes "t" ∷ w ∷ []) x.0 _ (subst (λ (y : Tree). IsSpelled y (codes "t" ∷ w ∷ [])) (sym is) (w, refl, text)) x.2 (ap (λ (y : List (List ℕ)). codes "t" ∷ y) x.1)
+makes_spelled operators.Payload items d rest ws (s, is, (w, begins, text), broken) k =
+    let x = subst (Spells ws) begins k in
+    spells d rest (codes "m" ∷ w ∷ []) x.0 _ (subst (λ (y : Tree). IsSpelled y (codes "m" ∷ w ∷ [])) (sym is) (w, refl, text, broken)) x.2 (ap (λ (y : List (List ℕ)). codes "m" ∷ y) x.1)
 makes_spelled operators.TextWithLen items d rest ws (u, n, os, s, is, begins, number, (w, begins', text)) k =
     let x = subst (Spells ws) begins k in
     let y = subst (Spells x.0) begins' x.2 in
@@ -235,7 +250,9 @@ spelled_is_left (t.TextWithLen n s) ws others items (u, w, is, number, text) k =
     let both_left = word_left u (w ∷ others) (word w ∷ items) (number_names_none n u number) text_left in
     subst (λ (x : List (List ℕ)). IsLeft (t.TextWithLen n s) x others items) (sym is)
     (made_left (codes "w") operators.TextWithLen (u ∷ w ∷ others) (word u ∷ word w ∷ items) items (t.TextWithLen n s) refl both_left (u, n, word w ∷ items, s, refl, refl, number, (w, refl, text)))
-spelled_is_left (t.MultilineText s) ws others items h k = absurd h
+spelled_is_left (t.MultilineText s) ws others items (w, is, text, broken) k =
+    subst (λ (x : List (List ℕ)). IsLeft (t.MultilineText s) x others items) (sym is)
+    (made_left (codes "m") operators.Payload (w ∷ others) (word w ∷ items) items (t.MultilineText s) refl (word_left w others items (text_names_none s w text) k) (s, refl, (w, refl, text), broken))
 spelled_is_left t.WeakSpace ws others items h k = leaf_left (codes "ws") leaves.WeakSpace ws others items refl h k
 spelled_is_left t.HardLine ws others items h k = leaf_left (codes "hl") leaves.HardLine ws others items refl h k
 spelled_is_left t.WeakLine ws others items h k = leaf_left (codes "wl") leaves.WeakLine ws others items refl h k

@@ -41,6 +41,9 @@ pub text_refused : (o : Operator) (items : List Item) (e : Refusal) → o ≡ op
 text_refused o items e is h =
     refuses_more e _ _ (λ none d rest makes. let m : Makes operators.Text items d rest = subst (λ (x : Operator). Makes x items d rest) is makes in none m.0 rest m.2) h
 
+pub payload_refused : (o : Operator) (items : List Item) (e : Refusal) → o ≡ operators.Payload → Refuses e ((d : Tree) (rest : List Item) → Makes operators.Payload items d rest → ⊥) → Refuses e ((d : Tree) (rest : List Item) → Makes o items d rest → ⊥)
+payload_refused o items e is h = subst (λ (x : Operator). Refuses e ((d : Tree) (rest : List Item) → Makes x items d rest → ⊥)) (sym is) h
+
 pub counted_text_refused : (o : Operator) (items others : List Item) (u : List ℕ) (e : Refusal) → o ≡ operators.TextWithLen → items ≡ word u ∷ others
     → Refuses e ((s : List ℕ) (rest : List Item) → BeginsWithText others s rest → ⊥) → Refuses e ((d : Tree) (rest : List Item) → Makes o items d rest → ⊥)
 counted_text_refused o items others u e is begins h =

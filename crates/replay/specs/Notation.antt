@@ -1,11 +1,12 @@
 -- How a line writes a case: words with one space between two. First come the width, the end of a line and the policy of
 -- indents. Then the document comes, each node in front of what it holds. From "=>" on nothing counts.
-use Rattle.std.specs.Prelude.{◌≡◌, ℕ, ◌+◌, ◌^◌, ◌<◌, max, ℤ, pos, neg_ℤ, FitsSigned, not, List, [], ◌∷◌, ◌++◌, drop, codes, Option, Some, None, ◌==◌, if◌then◌else◌}
+use Rattle.std.specs.Prelude.{◌≡◌, ℕ, ◌+◌, ◌^◌, ◌<◌, max, ℤ, pos, neg_ℤ, FitsSigned, not, true, List, [], ◌∷◌, ◌++◌, drop, codes, Option, Some, None, ◌==◌, if◌then◌else◌}
 use Rattle.std.specs.Int.{w64}
 use Rattle.std.specs.List.{slice_split, take_while}
 use Rattle.std.specs.Str.{IsUtf8, bytes_eq}
 use Rattle.std.specs.Str.Parse.{IsNumeral, digits_value, starts_with_minus}
 use Rattle.hex.specs.Hex.{encode_lower}
+use Rattle.prettyless_doc.specs.Breaks.{holds_break}
 use Rattle.prettyless.specs.Tree as t
 use Rattle.prettyless.specs.Tree.{Tree}
 use Rattle.prettyless_sink.specs.declared.options.RenderOptions.{RenderOptions}
@@ -69,7 +70,7 @@ IsSpelled t.Nil ws = ws ≡ codes "nil" ∷ []
 IsSpelled t.Fail ws = ws ≡ codes "fail" ∷ []
 IsSpelled (t.Text s) ws = (v : List ℕ) × (ws ≡ codes "t" ∷ v ∷ []) × IsTextWord s v
 IsSpelled (t.TextWithLen n s) ws = (u : List ℕ) × (v : List ℕ) × (ws ≡ codes "w" ∷ u ∷ v ∷ []) × IsNumber n u × IsTextWord s v
-IsSpelled (t.MultilineText s) ws = ⊥
+IsSpelled (t.MultilineText s) ws = (v : List ℕ) × (ws ≡ codes "m" ∷ v ∷ []) × IsTextWord s v × (holds_break s ≡ true)
 IsSpelled t.WeakSpace ws = ws ≡ codes "ws" ∷ []
 IsSpelled t.HardLine ws = ws ≡ codes "hl" ∷ []
 IsSpelled t.WeakLine ws = ws ≡ codes "wl" ∷ []

@@ -1,5 +1,6 @@
 -- Reading the words of a document from the last to the first.
-use Rattle.std.specs.Prelude.{◌≡◌, ℕ, ℤ, List, [], ◌∷◌, ◌++◌, codes, Option, Some, None}
+use Rattle.std.specs.Prelude.{◌≡◌, ℕ, ℤ, List, [], ◌∷◌, ◌++◌, codes, true, Option, Some, None}
+use Rattle.prettyless_doc.specs.Breaks.{holds_break}
 use Rattle.prettyless.specs.Tree as t
 use Rattle.prettyless.specs.Tree.{Tree}
 use Rattle.replay.specs.declared.operator.Leaf.{Leaf}
@@ -27,6 +28,7 @@ operator_names =
     ∷ (codes "exp", operators.Leaf leaves.ExpandParent)
     ∷ (codes "t", operators.Text)
     ∷ (codes "w", operators.TextWithLen)
+    ∷ (codes "m", operators.Payload)
     ∷ (codes "nest", operators.Nest)
     ∷ (codes "sfx", operators.Wrapper wrappers.LineSuffix)
     ∷ (codes "root", operators.Wrapper wrappers.DedentToRoot)
@@ -89,6 +91,7 @@ Makes (operators.Leaf leaf) items d rest = (d ≡ leaf_tree leaf) × (items ≡ 
 Makes operators.Text items d rest = (s : List ℕ) × (d ≡ t.Text s) × BeginsWithText items s rest
 Makes operators.TextWithLen items d rest =
     (u : List ℕ) × (n : ℕ) × (others : List Item) × (s : List ℕ) × (d ≡ t.TextWithLen n s) × (items ≡ word u ∷ others) × IsNumber n u × BeginsWithText others s rest
+Makes operators.Payload items d rest = (s : List ℕ) × (d ≡ t.MultilineText s) × BeginsWithText items s rest × (holds_break s ≡ true)
 Makes operators.Nest items d rest =
     (u : List ℕ) × (k : ℤ) × (inner : Tree) × (d ≡ t.Nest k inner) × (items ≡ word u ∷ document inner ∷ rest) × IsOffset k u
 Makes (operators.Wrapper wrapper) items d rest = (inner : Tree) × (d ≡ wrapped wrapper inner) × (items ≡ document inner ∷ rest)

@@ -1,19 +1,23 @@
 ghost use Rattle.std.specs.Prelude.{◌≡◌, ℕ, List, map, IfOk, OnOk, IfErr};
+ghost use Rattle.prettyless.specs.DocTree.{tree_of};
 ghost use Rattle.prettyless.specs.TextBytes.{bytes_of};
 ghost use Rattle.prettyless.specs.Tree.{Tree};
 ghost use Rattle.replay.specs.Notation.{IsSpelled};
 ghost use Rattle.replay.specs.Pointers.{pointer_tree};
 ghost use Rattle.replay.specs.Reading.{Item, items_of, BeginsWithText, Makes, Steps};
 ghost use Rattle.replay.specs.Refusals.{Refuses};
+ghost use Rattle.replay.specs.declared.operator.Operator.TheVariants.{Payload};
 
 use crate::document::Document;
 use crate::hexadecimal::text;
 use crate::number::{number, offset};
 use crate::operand::{Operand, take_document, take_word};
 use crate::operator::{Operator, operator_named};
+use crate::pointer::Pointer;
 use crate::refusal::Refusal;
 use prettyless::Doc;
 use prettyless::text::{CowStr, Text};
+use prettyless_doc::measure::holds_break;
 use std::alloc::Global;
 
 // Takes the text whose word comes next.
@@ -23,6 +27,21 @@ fn take_text<'a>(alloc: Global, operands: &mut Vec<Operand<'a>>) -> Result<Text<
 {
     let text = text(alloc, take_word(operands)?)?;
     Ok(Text::from_cow(alloc, CowStr::Owned(text))?)
+}
+
+// Takes the payload whose word comes next: a text that holds a line break.
+fn take_payload<'a>(
+    alloc: Global,
+    operands: &mut Vec<Operand<'a>>,
+) -> Result<Doc<'a, Pointer<'a>>, Refusal>
+    ensures ok { IfOk result (λ d. Makes Payload (items_of operands.old.items) (tree_of pointer_tree d) (items_of operands.new.items)) }
+    ensures err { IfErr result (λ e. Refuses e ((d : Tree) (rest : List Item) → Makes Payload (items_of operands.old.items) d rest → ⊥)) }
+{
+    let text = text(alloc, take_word(operands)?)?;
+    if !holds_break(text.as_str()) {
+        return Err(Refusal::NotACase);
+    }
+    Ok(Doc::multiline_text(alloc, CowStr::Owned(text))?)
 }
 
 // Takes what comes behind an operator, and makes the operator's document of it.
@@ -42,6 +61,7 @@ fn make<'a>(
             let text = take_text(alloc, operands)?;
             Document::above(alloc, 0, Doc::TextWithLen(width, text))
         }
+        Operator::Payload => Document::above(alloc, 0, take_payload(alloc, operands)?),
         Operator::Nest => {
             let offset = offset(take_word(operands)?).ok_or(Refusal::NotACase)?;
             let inner = take_document(operands)?;

@@ -16,6 +16,7 @@ fn lays_out_cases(rt: HostRuntime) -> Result<(), Fail> {
             "fail 6162",
         ),
         ("80 lf eager fail", "fail -"),
+        ("80 lf eager app m 610a t 62", "ok 610a62"),
     ] {
         let written = replayed(rt.alloc(), line.as_bytes())?;
         assert_eq!(rt; written.as_str(), outcome);
@@ -30,6 +31,7 @@ fn refuses_lines(rt: HostRuntime) {
         "80 lf eager nil nil",
         "80 lf eager app nil",
         "80 lf eager t 6",
+        "80 lf eager m 61",
     ] {
         assert!(rt;
             matches!(
