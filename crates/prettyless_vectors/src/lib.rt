@@ -18,16 +18,6 @@ mod near_misses;
 #[cfg(test)]
 mod payloads;
 #[cfg(test)]
-mod random;
-#[cfg(test)]
-mod random_crlf;
-#[cfg(test)]
-mod random_deferred;
-#[cfg(test)]
-mod random_deferred_crlf;
-#[cfg(test)]
-mod random_mixed;
-#[cfg(test)]
 mod reader;
 #[cfg(test)]
 mod rendered;
