@@ -18,7 +18,7 @@ pub use error::RunError;
 pub use expression::SExp;
 pub use parse::parse;
 pub use run::run;
-use std::io::ErrorKind;
+use std::io::{BufWriter, ErrorKind, Write};
 use std::process::ExitCode;
 use std::rt::Env;
 use std::{env, io};
@@ -39,7 +39,9 @@ fn arguments<R: Env + AllocGlobal>(rt: &R) -> Result<Vec<String>, Ending> {
 fn lay_out<R: Env + AllocGlobal + Input + Print>(rt: &R) -> Result<(), Ending> {
     let words = arguments(rt)?;
     let options = options(&words).ok_or(Ending::BadWords)?;
-    run(rt.alloc(), options, &mut rt.reader(), &mut io::writer(rt))?;
+    let mut writer = BufWriter::new(rt.alloc(), io::writer(rt)).map_err(|_| Ending::Failed)?;
+    run(rt.alloc(), options, &mut rt.reader(), &mut writer)?;
+    writer.flush().map_err(RunError::Write)?;
     Ok(())
 }
 
