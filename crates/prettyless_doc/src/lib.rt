@@ -2,6 +2,7 @@
 #![tactic(auto)]
 
 mod cached;
+mod clone;
 mod counted;
 mod display;
 pub mod doc;

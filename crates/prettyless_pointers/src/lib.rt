@@ -3,5 +3,6 @@
 
 pub mod boxes;
 mod children;
+mod copying;
 
 pub use boxes::{BoxAllocator, BoxDoc};
