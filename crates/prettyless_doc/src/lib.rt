@@ -3,6 +3,8 @@
 
 mod cached;
 mod clone;
+mod constructors;
+mod conversions;
 mod counted;
 mod display;
 pub mod doc;
