@@ -16,6 +16,11 @@ pub trait DocPlace<'a>: Sized {
         ensures ok { IfOk result (λ p. Self.Doc.tree p ≡ tree_of Self.Doc.tree doc.entry) }
         ensures err { IfErr result IsMemory };
 
+    /// A pointer of its own to the same tree, or an error where no memory was had.
+    fn clone_ptr(&'a self, pointer: &Self::Doc) -> Result<Self::Doc, BuildError>
+        ensures ok { IfOk result (λ p. Self.Doc.tree p ≡ Self.Doc.tree pointer.now) }
+        ensures err { IfErr result IsMemory };
+
     /// The memory that texts are made in.
     fn memory(&'a self) -> Global;
 }

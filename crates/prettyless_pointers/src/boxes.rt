@@ -94,6 +94,13 @@ impl<'a> DocPlace<'a> for BoxAllocator {
         BoxDoc::new(self.memory, doc)
     }
 
+    fn clone_ptr(&'a self, pointer: &BoxDoc<'a>) -> Result<BoxDoc<'a>, BuildError>
+        ensures ok { IfOk result (λ p. box_tree p ≡ box_tree pointer.now) }
+        ensures err { IfErr result IsMemory }
+    {
+        pointer.clone(self.memory)
+    }
+
     fn memory(&'a self) -> Global {
         self.memory
     }
@@ -102,6 +109,7 @@ impl<'a> DocPlace<'a> for BoxAllocator {
 #[cfg(test)]
 mod tests {
     use super::*;
+    use prettyless_doc::BuildDoc;
     use std::test::Fail;
 
     // Deeper by far than the stack has room for calls.
@@ -120,6 +128,19 @@ mod tests {
         let line = boxes.alloc(Doc::HardLine)?;
         let nested = boxes.alloc(Doc::Nest(2, line))?;
         assert!(rt; matches!(nested.doc(), Doc::Nest(2, _)));
+        Ok(())
+    }
+
+    #[test]
+    fn clones_a_document(rt: HostRuntime) -> Result<(), Fail> {
+        let boxes = BoxAllocator::new(rt.alloc());
+        let union = Doc::Union(boxes.alloc(Doc::Fail)?, boxes.alloc(Doc::HardLine)?);
+        let copy = union.clone(&boxes)?;
+        assert!(rt; matches!(copy, Doc::Union(_, _)));
+        let nested = boxes.alloc(Doc::Nest(2, boxes.alloc(copy)?))?;
+        let made = BuildDoc::DocPtr(boxes.clone_ptr(&nested)?);
+        drop(nested);
+        assert!(rt; matches!(made.clone(&boxes)?.doc(), Doc::Nest(2, _)));
         Ok(())
     }
 

@@ -1,0 +1,198 @@
+//! Documents in an arena, whose nodes are given up all at once.
+ghost use Rattle.std.specs.Prelude.{◌≡◌, false, IfOk, IfErr};
+ghost use Rattle.prettyless_doc.specs.BuildErrors.{IsMemory};
+ghost use Rattle.prettyless_doc.specs.DocTree.{tree_of, holds_memory};
+ghost use Rattle.prettyless_doc.specs.Payload as source;
+ghost use Rattle.prettyless_doc.specs.Payload.{payload_bytes};
+ghost use Rattle.prettyless_doc.specs.TextBytes.{bytes_of, is_owned};
+ghost use Rattle.prettyless_pointers.specs.declared.arena.RefDoc.{out-RefDoc};
+ghost use Rattle.prettyless_pointers.specs.Trees.{ref_tree};
+
+use bumpalo::Bump;
+use prettyless_doc::text::MultilineTextData;
+use prettyless_doc::{BuildError, Doc, DocPlace, DocPtr, Text};
+use std::alloc::Global;
+use std::cell::Cell;
+
+/// A pointer to a node in an arena.
+#[derive(Clone, Copy)]
+pub struct RefDoc<'a>(pub &'a Doc<'a, RefDoc<'a>>);
+
+impl<'a> DocPtr<'a> for RefDoc<'a> {
+    ghost tree = { ref_tree };
+
+    fn doc(&self) -> &Doc<'a, RefDoc<'a>> {
+        self.0
+    }
+}
+
+/// Puts nodes into a `Bump`, which its caller keeps and which gives them up all at once. Dropping an arena walks no
+/// document.
+#[derive(Drop)]
+pub struct Arena<'a> {
+    memory: Global,
+    bump: &'a Bump,
+    placed: Cell<usize>,
+}
+
+impl<'a> Arena<'a> {
+    /// Nodes, and the owned texts in them, will stand in `bump`. A text is first made in memory from `alloc`.
+    pub fn new(alloc: Global, bump: &'a Bump) -> Self {
+        Arena {
+            memory: alloc,
+            bump,
+            placed: Cell::new(0),
+        }
+    }
+
+    /// How many nodes this arena has placed.
+    pub fn len(&self) -> usize {
+        self.placed.get()
+    }
+
+    /// Whether it has placed none.
+    pub fn is_empty(&self) -> bool {
+        self.len() == 0
+    }
+}
+
+// An owned text is copied, since nothing in the arena is ever dropped.
+fn settle_text<'a>(bump: &'a Bump, text: Text<'a>) -> Result<Text<'a>, BuildError>
+    ensures same { IfOk result (λ t. bytes_of t ≡ bytes_of text.entry) }
+    ensures settled { IfOk result (λ t. is_owned t ≡ false) }
+    ensures err { IfErr result IsMemory }
+{
+    match text {
+        Text::Owned(s) => Ok(Text::Borrowed(bump.try_alloc_str(s.as_str())?)),
+        Text::Borrowed(s) => Ok(Text::Borrowed(s)),
+        Text::Small(s) => Ok(Text::Small(s)),
+    }
+}
+
+// So is the source of a payload, and keeps its metrics.
+fn settle_payload<'a>(
+    bump: &'a Bump,
+    payload: MultilineTextData<'a>,
+) -> Result<MultilineTextData<'a>, BuildError>
+    ensures same { IfOk result (λ p. payload_bytes p ≡ payload_bytes payload.entry) }
+    ensures settled { IfOk result (λ p. source.is_owned p ≡ false) }
+    ensures err { IfErr result IsMemory }
+{
+    if !payload.is_owned() {
+        return Ok(payload);
+    }
+    let source = bump.try_alloc_str(payload.as_str())?;
+    Ok(payload.over(source))
+}
+
+fn settle<'a>(bump: &'a Bump, doc: Doc<'a, RefDoc<'a>>) -> Result<Doc<'a, RefDoc<'a>>, BuildError>
+    ensures same { IfOk result (λ d. tree_of ref_tree d ≡ tree_of ref_tree doc.entry) }
+    ensures settled { IfOk result (λ d. holds_memory d ≡ false) }
+    ensures err { IfErr result IsMemory }
+{
+    Ok(match doc {
+        Doc::Text(text) => Doc::Text(settle_text(bump, text)?),
+        Doc::TextWithLen(width, text) => Doc::TextWithLen(width, settle_text(bump, text)?),
+        Doc::MultilineText(payload) => Doc::MultilineText(settle_payload(bump, payload)?),
+        other => other,
+    })
+}
+
+impl<'a> DocPlace<'a> for Arena<'a> {
+    type Doc = RefDoc<'a>;
+
+    /// Puts a node into the arena, with a copy of its text where it has memory of its own, so that no node in the arena
+    /// holds a box.
+    fn alloc(&'a self, doc: Doc<'a, RefDoc<'a>>) -> Result<RefDoc<'a>, BuildError>
+        ensures ok { IfOk result (λ p. ref_tree p ≡ tree_of ref_tree doc.entry) }
+        ensures settled { IfOk result (λ p. holds_memory (out-RefDoc p).0.now ≡ false) }
+        ensures err { IfErr result IsMemory }
+    {
+        let bump: &'a Bump = self.bump;
+        let doc = settle(bump, doc)?;
+        let node: &'a Doc<'a, RefDoc<'a>> = bump.try_alloc(doc)?;
+        self.placed.set(self.placed.get().saturating_add(1));
+        Ok(RefDoc(node))
+    }
+
+    fn clone_ptr(&'a self, pointer: &RefDoc<'a>) -> Result<RefDoc<'a>, BuildError>
+        ensures ok { IfOk result (λ p. ref_tree p ≡ ref_tree pointer.now) }
+        ensures err { IfErr result IsMemory }
+    {
+        Ok(*pointer)
+    }
+
+    fn memory(&'a self) -> Global {
+        self.memory
+    }
+}
+
+#[cfg(test)]
+mod tests {
+    use super::*;
+    use prettyless_doc::text::CowStr;
+    use std::test::Fail;
+
+    #[test]
+    fn copies_an_owned_text(rt: HostRuntime) -> Result<(), Fail> {
+        let bump = Bump::new(rt.alloc());
+        let arena = Arena::new(rt.alloc(), &bump);
+        let owned = String::from_str(rt.alloc(), "ab")?;
+        let text = Text::from_cow(rt.alloc(), CowStr::Owned(owned))?;
+        let node = arena.alloc(Doc::TextWithLen(1, text))?;
+        assert!(rt; matches!(node.doc(), Doc::TextWithLen(1, Text::Borrowed("ab"))));
+        Ok(())
+    }
+
+    #[test]
+    fn keeps_a_small_text(rt: HostRuntime) -> Result<(), Fail> {
+        let bump = Bump::new(rt.alloc());
+        let arena = Arena::new(rt.alloc(), &bump);
+        let node = arena.alloc(Doc::Text(Text::from_display(rt.alloc(), 16)?))?;
+        assert!(rt; matches!(node.doc(), Doc::Text(Text::Small(_))));
+        Ok(())
+    }
+
+    #[test]
+    fn copies_an_owned_payload(rt: HostRuntime) -> Result<(), Fail> {
+        let bump = Bump::new(rt.alloc());
+        let arena = Arena::new(rt.alloc(), &bump);
+        let owned = String::from_str(rt.alloc(), "one\n  two")?;
+        let node = arena.alloc(Doc::multiline_text(rt.alloc(), CowStr::Owned(owned))?)?;
+        match node.doc() {
+            Doc::MultilineText(payload) => {
+                assert!(rt; !payload.is_owned());
+                assert_eq!(rt; payload.as_str(), "one\n  two");
+                assert_eq!(rt; payload.metrics().rest_width, 5);
+            }
+            _ => assert!(rt; false),
+        }
+        Ok(())
+    }
+
+    #[test]
+    fn counts_its_nodes(rt: HostRuntime) -> Result<(), Fail> {
+        let bump = Bump::new(rt.alloc());
+        let arena = Arena::new(rt.alloc(), &bump);
+        assert!(rt; arena.is_empty());
+        assert_eq!(rt; arena.len(), 0);
+        let line = arena.alloc(Doc::HardLine)?;
+        arena.alloc(Doc::Append(line, arena.clone_ptr(&line)?))?;
+        assert!(rt; !arena.is_empty());
+        assert_eq!(rt; arena.len(), 2);
+        Ok(())
+    }
+
+    // The next document takes the room of the one before.
+    #[test]
+    fn is_used_again(rt: HostRuntime) -> Result<(), Fail> {
+        let mut bump = Bump::new(rt.alloc());
+        for _ in 0..3 {
+            let arena = Arena::new(rt.alloc(), &bump);
+            let line = arena.alloc(Doc::HardLine)?;
+            assert!(rt; matches!(line.doc(), Doc::HardLine));
+            bump.reset()?;
+        }
+        Ok(())
+    }
+}
