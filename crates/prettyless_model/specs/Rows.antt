@@ -1,15 +1,20 @@
--- Small documents and what they are laid out as.
-use Rattle.std.specs.Prelude.{◌≡◌, ℕ, pos, List, codes}
+-- Small documents, and what it is for one to be laid out as bytes.
+use Rattle.std.specs.Prelude.{◌≡◌, ℕ, pos, List, [], ◌∷◌, codes}
+use Prim.Native.String.{String}
 use Rattle.prettyless_sink.specs.Options.{options_at}
 use Rattle.prettyless_sink.specs.declared.options.RenderOptions.{RenderOptions}
 use Rattle.prettyless_sink.specs.declared.options.LineEnding.TheVariants.{Lf, Crlf}
 use Rattle.prettyless_sink.specs.declared.options.IndentationPolicy.TheVariants.{Eager, Deferred}
-use Rattle.prettyless_model.specs.Tree.{Tree, Nil, Text, HardLine, Append, Nest, BreakOrFlat, Group}
-use Rattle.prettyless_model.specs.Layout.{layout, Whole}
+use Rattle.prettyless_model.specs.Tree.{Tree, Nil, Fail, Text, WeakSpace, HardLine, Append, LineSuffix, Nest, BreakOrFlat, Group, Union}
+use Rattle.prettyless_model.specs.Layout.{layout, Whole, Cut}
 
 -- at this width the document is laid out as these bytes
 abbrev pub Shows : ℕ → Tree → List ℕ → Type 0
 Shows width d bytes = layout (options_at width) d ≡ Whole bytes
+
+-- at this width the document fails behind these bytes
+abbrev pub Fails : ℕ → Tree → List ℕ → Type 0
+Fails width d bytes = layout (options_at width) d ≡ Cut bytes
 
 abbrev pub deferred_at : ℕ → RenderOptions
 deferred_at width = record { width = width; line_ending = Lf; indentation_policy = Deferred }
@@ -17,25 +22,51 @@ deferred_at width = record { width = width; line_ending = Lf; indentation_policy
 abbrev pub crlf_at : ℕ → RenderOptions
 crlf_at width = record { width = width; line_ending = Crlf; indentation_policy = Eager }
 
+-- a text that is ASCII
+abbrev pub text : String → Tree
+text s = Text (codes s)
+
+-- documents one after another
+abbrev pub in_turn : Tree → List Tree → Tree
+in_turn d [] = d
+in_turn d (e ∷ es) = in_turn (Append d e) es
+
 -- a space, or the end of a line
 abbrev pub line : Tree
-line = BreakOrFlat HardLine (Text (codes " "))
+line = BreakOrFlat HardLine (text " ")
 
 -- the list of three numbers of an S-expression
 abbrev pub numbers : Tree
-numbers =
-    Append (Append (Text (codes "("))
-    (Group (Nest (pos 1) (Append (Append (Append (Append (Text (codes "1")) line) (Text (codes "2"))) line) (Text (codes "3"))))))
-    (Text (codes ")"))
+numbers = in_turn (text "(") (Group (Nest (pos 1) (in_turn (text "1") (line ∷ text "2" ∷ line ∷ text "3" ∷ []))) ∷ text ")" ∷ [])
 
 -- two words and a line between them, in a group
-abbrev pub pair : List ℕ → List ℕ → Tree
-pair a b = Group (Append (Append (Text a) line) (Text b))
+abbrev pub pair : String → String → Tree
+pair a b = Group (in_turn (text a) (line ∷ text b ∷ []))
 
 -- the same with a line that is nothing when flat
-abbrev pub tight_pair : List ℕ → List ℕ → Tree
-tight_pair a b = Group (Append (Append (Text a) (BreakOrFlat HardLine Nil)) (Text b))
+abbrev pub tight_pair : String → String → Tree
+tight_pair a b = Group (in_turn (text a) (BreakOrFlat HardLine Nil ∷ text b ∷ []))
 
 -- a line end, and a letter
 abbrev pub below : Tree
-below = Append HardLine (Text (codes "x"))
+below = Append HardLine (text "x")
+
+-- an accent that takes no column
+abbrev pub accent : List ℕ
+accent = 0xCC ∷ 0x81 ∷ []
+
+-- a letter, and a text for the end of its line behind a weak space
+abbrev pub noted : Tree
+noted = in_turn (text "a") (WeakSpace ∷ LineSuffix (text "//") ∷ [])
+
+-- two words on two lines
+abbrev pub two_lines : String → String → Tree
+two_lines a b = in_turn (text a) (HardLine ∷ text b ∷ [])
+
+-- words on one line or on two, with a union behind them
+abbrev pub tail : Tree
+tail = in_turn (text "aa") (Group (Append line (text "bb")) ∷ Union Nil (text "cccccccc") ∷ [])
+
+-- a group that fails where it is broken
+abbrev pub flat_or_failed : Tree
+flat_or_failed = Group (Append (BreakOrFlat Fail Nil) (text "12345"))

@@ -8,3 +8,4 @@ pub mod column;
 pub mod laws;
 pub mod metrics;
 pub mod mode;
+pub mod rows;

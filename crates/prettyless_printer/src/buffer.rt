@@ -12,9 +12,10 @@ pub struct Buffer {
 }
 
 impl Buffer {
-    /// An empty one. It takes no memory.
+    /// An empty one, which never failed. It takes no memory.
     pub fn new(alloc: Global) -> Self
-        ensures { string_bytes result.text ≡ [] }
+        ensures empty { string_bytes result.text ≡ [] }
+        ensures failures { result.failures ≡ 0 }
     {
         Buffer {
             text: String::new(alloc),

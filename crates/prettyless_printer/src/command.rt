@@ -1,3 +1,5 @@
+ghost use Rattle.std.specs.Prelude.{◌≡◌, ⊤};
+
 use prettyless_model::mode::Mode;
 use std::alloc::AllocError;
 
@@ -9,6 +11,10 @@ pub struct Command<N> {
 }
 
 impl<N: Copy> Clone for Command<N> {
+    ghost is_clone = { λ c d. d ≡ c };
+
+    ghost is_infallible = { λ _. ⊤ };
+
     fn clone(&self) -> Result<Self, AllocError> {
         Ok(*self)
     }

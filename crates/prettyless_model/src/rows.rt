@@ -1,0 +1,150 @@
+//! Layouts of small documents, as the definitions alone compute them. The functions do nothing: their contracts speak.
+
+ghost use Rattle.std.specs.Prelude.{◌≡◌, ◌^◌, ◌-◌, ◌++◌, ◌∷◌, [], pos, negsuc, codes};
+ghost use Rattle.prettyless_model.specs.Tree.{Nil, Fail, Text, TextWithLen, MultilineText, WeakSpace, HardLine, WeakLine, Append, LineSuffix, Nest, DedentToRoot, Align, ExpandParent, Flatten, BreakOrFlat, Group, Union, PartialUnion};
+ghost use Rattle.prettyless_model.specs.Layout.{layout, Whole};
+ghost use Rattle.prettyless_model.specs.Rows.{Fails, Shows, accent, below, crlf_at, deferred_at, flat_or_failed, in_turn, line, noted, numbers, pair, tail, text, tight_pair, two_lines};
+
+/// A group stands on one line where it fits, and is broken where it does not.
+pub fn groups()
+    ensures numbers_fit { Shows 10 numbers (codes "(1 2 3)") }
+    ensures numbers_break { Shows 5 numbers (codes "(1\n 2\n 3)") }
+    ensures pair_fits { Shows 80 (pair "a" "b") (codes "a b") }
+    ensures pair_breaks { Shows 2 (pair "a" "b") (codes "a\nb") }
+    ensures tight_pair_fits { Shows 80 (tight_pair "a" "b") (codes "ab") }
+    ensures tight_pair_breaks { Shows 1 (tight_pair "a" "b") (codes "a\nb") }
+    ensures greatest_width { Shows (2 ^ 64 - 1) (pair "test" "test") (codes "test test") }
+    ensures flattened { Shows 1 (Flatten (in_turn (text "a") (line ∷ text "b" ∷ []))) (codes "a b") }
+    ensures expanded { Shows 80 (Group (Append line ExpandParent)) (codes "\n") }
+{}
+
+/// The indent of a line.
+pub fn indents()
+    // The next line has the indent of what follows the break, and the break's own only where nothing does.
+    ensures indent_of_next { Shows 80 (Append (Nest (pos 2) HardLine) Nil) (codes "\n") }
+    ensures own_indent { Shows 0 (Nest (pos 2) HardLine) (codes "\n  ") }
+    ensures own_indent_deferred { layout (deferred_at 0) (Nest (pos 2) HardLine) ≡ Whole (codes "\n") }
+    ensures nested_text { Shows 80 (in_turn (text "a") (HardLine ∷ Nest (pos 4) (text "x") ∷ [])) (codes "a\nx") }
+    ensures nested_break { Shows 80 (Nest (pos 4) below) (codes "\n    x") }
+
+    // An indent stops at 0, and a nesting inside counts from there.
+    ensures nested_below_zero { Shows 80 (Nest (negsuc 1) (Nest (pos 2) below)) (codes "\n  x") }
+    ensures nested_and_back { Shows 80 (Nest (pos 2) (Nest (negsuc 1) below)) (codes "\nx") }
+
+    // An indent is written at once, also on an empty line, or with the first content.
+    ensures empty_line { Shows 80 (Nest (pos 2) (in_turn (text "aaa") (HardLine ∷ HardLine ∷ text "bbb" ∷ []))) (codes "aaa\n  \n  bbb") }
+    ensures empty_line_deferred { layout (deferred_at 80) (Nest (pos 2) (in_turn (text "aaa") (HardLine ∷ HardLine ∷ text "bbb" ∷ [])))
+        ≡ Whole (codes "aaa\n\n  bbb") }
+
+    // An alignment counts a space that is not written yet, and the root is column 0.
+    ensures aligned { Shows 80 (in_turn (text "a") (WeakSpace ∷ Align (Append HardLine (text "b")) ∷ [])) (codes "a\n  b") }
+    ensures to_root { Shows 10 (Nest (pos 4) (in_turn (text "a") (DedentToRoot (two_lines "b" "c") ∷ HardLine ∷ text "e" ∷ []))) (codes "ab\nc\n    e") }
+    ensures crlf { layout (crlf_at 80) (in_turn (Nest (pos 2) (two_lines "x" "y")) (HardLine ∷ text "z" ∷ []))
+        ≡ Whole (codes "x\r\n  y\r\nz") }
+{}
+
+/// A weak line breaks also where it is laid flat, and is nothing at the beginning of a line, as a weak space is.
+pub fn weak_lines()
+    ensures in_group { Shows 80 (Group (in_turn (text "a") (WeakLine ∷ text "b" ∷ []))) (codes "a\nb") }
+    ensures flattened { Shows 80 (Flatten (in_turn (text "a") (WeakLine ∷ text "b" ∷ []))) (codes "a\nb") }
+    ensures at_the_beginning { Shows 1 (Group (Append WeakLine (text "long"))) (codes "long") }
+    ensures behind_empty_text { Shows 1 (Group (in_turn (TextWithLen 0 []) (WeakLine ∷ text "x" ∷ []))) (codes "x") }
+    ensures behind_no_width { Shows 1 (in_turn (TextWithLen 0 accent) (WeakLine ∷ text "x" ∷ [])) (accent ++ codes "\nx") }
+    ensures still_at_the_beginning { Shows 3
+        (Nest (pos 2) (in_turn (text "a") (HardLine ∷ WeakLine ∷ WeakSpace ∷ Text [] ∷ WeakLine ∷ text "b" ∷ [])))
+        (codes "a\n  b") }
+    ensures spaces { Shows 80 (in_turn (text "a") (WeakSpace ∷ WeakSpace ∷ text "b" ∷ [])) (codes "a  b") }
+    ensures spaces_at_both_ends { Shows 80 (in_turn WeakSpace (text "a" ∷ WeakSpace ∷ [])) (codes "a") }
+{}
+
+/// A payload goes out byte for byte. It breaks the group that it stands in, and its first line counts for what is
+/// before it.
+pub fn payloads()
+    ensures as_it_is { Shows 80 (MultilineText (codes "a\r\n\nb\n")) (codes "a\r\n\nb\n") }
+    ensures under_crlf { layout (crlf_at 80) (MultilineText (codes "a\r\n\nb\n")) ≡ Whole (codes "a\r\n\nb\n") }
+    ensures indented { Shows 80 (Nest (pos 2) (Append HardLine (MultilineText (codes "a\nb")))) (codes "\n  a\nb") }
+    ensures in_group { Shows 80 (Group (in_turn (text "a") (line ∷ MultilineText (codes "b\nc") ∷ []))) (codes "a\nb\nc") }
+    ensures first_line_fits { Shows 8
+        (in_turn (text "aaaa") (Group (Append line (text "b")) ∷ MultilineText (codes "cc\nd") ∷ []))
+        (codes "aaaa bcc\nd") }
+    ensures first_line_is_too_long { Shows 7
+        (in_turn (text "aaaa") (Group (Append line (text "b")) ∷ MultilineText (codes "cc\nd") ∷ []))
+        (codes "aaaa\nbcc\nd") }
+{}
+
+/// A line suffix waits for the next break, or for the end.
+pub fn line_suffixes()
+    ensures before_break { Shows 5
+        (in_turn (text "a") (LineSuffix (text " // 1") ∷ HardLine ∷ LineSuffix (text " // 2") ∷ text "b" ∷ []))
+        (codes "a // 1\nb // 2") }
+    ensures in_group { Shows 5
+        (Group (in_turn (text "a") (LineSuffix (text " // 1") ∷ line ∷ LineSuffix (text " // 2") ∷ text "b" ∷ [])))
+        (codes "a b // 1 // 2") }
+    ensures behind_payload { Shows 80 (Append (LineSuffix (text " // 1")) (MultilineText (codes "\"b\nc\""))) (codes "\"b\nc\" // 1") }
+    ensures on_fresh_line { Shows 80 (Group (in_turn (LineSuffix Nil) (WeakLine ∷ text "a" ∷ line ∷ text "b" ∷ []))) (codes "\na\nb") }
+    ensures from_a_suffix { Shows 80
+        (in_turn (text "a") (LineSuffix (Append (text "x") (LineSuffix (text "y"))) ∷ HardLine ∷ text "b" ∷ []))
+        (codes "axy\nb") }
+    ensures padded { Shows 2 (in_turn (text "a") (WeakSpace ∷ LineSuffix Nil ∷ [])) (codes "a ") }
+
+    // It is laid at the break's indent and in its mode, with the break and later ones following it; at the end with these.
+    ensures at_indent { Shows 80
+        (Append (text "a") (Nest (pos 2) (Append (LineSuffix (Append WeakLine (text "km"))) (Append WeakLine WeakLine))))
+        (codes "a\n  km\n  ") }
+    ensures flat_under_crlf { layout (crlf_at 15) (Flatten (Append (LineSuffix (BreakOrFlat (text "k") (text "gcg"))) WeakLine))
+        ≡ Whole (codes "gcg\r\n") }
+    ensures last { Shows 80 (LineSuffix (Nest (pos 2) HardLine)) (codes "\n  ") }
+    ensures last_but_one { Shows 80 (Append (LineSuffix (Nest (pos 2) HardLine)) (LineSuffix (text "x"))) (codes "\nx") }
+{}
+
+/// The first branch of a union is kept where its own output fits. That of a partial union is where it fits together with
+/// what follows, up to the first break.
+pub fn alternatives()
+    ensures kept { Shows 5 (Union (text "short") (text "much longer text")) (codes "short") }
+    ensures not_kept { Shows 1 (Union (text "short") (text "much longer text")) (codes "much longer text") }
+    ensures by_every_line { Shows 10 (Union (two_lines "short" "long long long") (two_lines "short" "short")) (codes "short\nshort") }
+    ensures by_first_line { Shows 10
+        (PartialUnion (two_lines "short" "long long long") (two_lines "short" "short"))
+        (codes "short\nlong long long") }
+    ensures together_too_long { Shows 4 (Append (PartialUnion (text "ab") (text "c")) (text "dddd")) (codes "cdddd") }
+    ensures together { Shows 6 (Append (PartialUnion (text "ab") (text "c")) (text "dddd")) (codes "abdddd") }
+
+    // A payload is judged by all its lines, and padding that a suffix would commit counts.
+    ensures payload { Shows 3 (Union (MultilineText (codes "bc\nghij")) (LineSuffix ExpandParent)) [] }
+    ensures padding { Shows 2 (Union noted (text "x")) (codes "a //") }
+    ensures padding_is_too_long { Shows 1 (Union noted (text "x")) (codes "x") }
+    ensures padding_in_partial { Shows 1 (PartialUnion noted (text "x")) (codes "x") }
+
+    // What went past the width before a branch does not count, and what follows it is known to it.
+    ensures behind_long_line { Shows 3 (in_turn (text "long") (HardLine ∷ Union (text "a b") (two_lines "a" "b") ∷ [])) (codes "long\na b") }
+    ensures follower_known { Shows 1 (Nest (pos 2) (Append (Union (Append (text "a") HardLine) (text "x")) (text "b"))) (codes "a\n  b") }
+
+    // A probe reads a union broken by its second branch.
+    ensures read_by_second { Shows 5 tail (codes "aa\nbb") }
+    ensures read_by_second_and_fits { Shows 13 tail (codes "aa bb") }
+
+    // What a branch left waiting is gone with it, and waits on where it is kept.
+    ensures rejected_suffix { Shows 10
+        (Append (LineSuffix (text " // caller"))
+        (Union (Append (Union (Append (text "inner") (LineSuffix (text " // s"))) (text "inner fallback")) (text " long overflow"))
+        (text "outer fallback")))
+        (codes "outer fallback // caller") }
+    ensures kept_suffix { Shows 80
+        (Union (Append (text "p") (Union (Append (text "inner") (LineSuffix (text " // s"))) (text "q"))) (text "r"))
+        (codes "pinner // s") }
+    ensures rejected_under_crlf { layout (crlf_at 1) (in_turn (Union (two_lines "ab" "cd") (text "z")) (HardLine ∷ text "w" ∷ []))
+        ≡ Whole (codes "z\r\nw") }
+{}
+
+/// A document fails behind what is before the node that fails. A branch that fails is not kept, and what is not laid does
+/// not fail.
+pub fn failures()
+    ensures at_once { Fails 80 (Group Fail) [] }
+    ensures flat_line { Fails 80 (Flatten (two_lines "a" "b")) (codes "a") }
+    ensures at_the_end { Fails 80 (Append (LineSuffix Fail) (text "a")) (codes "a") }
+    ensures behind_kept_branch { Fails 2 (Append (Union (Append (text "a") (LineSuffix Fail)) (text "x")) (text "b")) (codes "ab") }
+    ensures in_branch { Shows 3 (in_turn (text "p") (WeakSpace ∷ Union (in_turn (text "long") (HardLine ∷ Fail ∷ [])) (text "x") ∷ [])) (codes "p x") }
+    ensures in_group_of_branch { Shows 4 (Union flat_or_failed (text "abc")) (codes "abc") }
+    ensures not_laid { Shows 5 (Union flat_or_failed (text "abc")) (codes "12345") }
+    ensures nothing_laid { Shows 0 (Group (BreakOrFlat Fail Nil)) [] }
+{}
