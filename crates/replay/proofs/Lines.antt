@@ -2,11 +2,13 @@
 use Rattle.std.proofs.Common.{◌≡◌, ◌≢◌, ℕ, Bool, true, false, cond, eqb, List, [], ◌∷◌, ◌++◌, refl, sym, ap, subst, ◌∙◌, inl, inr, append_assoc, append-nil, arith}
 use Rattle.std.specs.Prelude.{Option, None, Some, IfSome}
 use Rattle.std.specs.Io.BufRead.{take_through, drop_through, DropsThrough}
-use Rattle.std.specs.Io.KnownBytes.{Appends}
 use Rattle.std.specs.List.{onto_first}
 use Rattle.std.proofs.lemmas.Bool.Decides.{nat_tests}
-use Rattle.replay.specs.Answers.{AnswerLine, Answers}
-use Rattle.replay.specs.Runs.{lines_of, AreAnswers, AnswersAll, BeginsWithLine, ReadsLine}
+use Rattle.prettyless_sink.specs.Sink.{AppendsBeginning}
+use Rattle.prettyless_sink.proofs.Beginnings.{beginning_of_more, beginning_after, appended_on}
+use Rattle.replay.specs.Answers.{AnswerLine}
+use Rattle.replay.specs.Runs.{lines_of, AreAnswers, AnswersAll, BeginsAnswers, BeginsWithLine, ReadsLine}
+use Rattle.replay.proofs.Answering.{some_answer}
 
 tails : (x y : ℕ) (xs ys : List ℕ) → x ∷ xs ≡ y ∷ ys → (x ≡ y) × (xs ≡ ys)
 tails x y xs ys e = (cc, cc)
@@ -76,6 +78,14 @@ answers_go_on bytes line rest first more (inl e) is others = rw e (first, more, 
 answers_go_on bytes line rest first more (inr last) is others =
     rw last.0 (first, more, refl, is, end_answers more (subst (λ (x : List ℕ). AreAnswers (lines_of x) more) last.1 others))
 
+-- all lines have answers
+some_answers : (lines : List (List ℕ)) → (written : List ℕ) × AreAnswers lines written
+some_answers [] = ([], refl)
+some_answers (line ∷ lines) =
+    let first = some_answer line in
+    let others = some_answers lines in
+    (first.0 ++ others.0, (first.0, others.0, refl, first.1, others.1))
+
 -- ---- what a reader that tells its bytes has read
 
 -- a line that ends was read up to its line feed, which is taken off
@@ -91,41 +101,54 @@ reads_last (Some bytes) left read h d none =
     (drop_through 10 bytes, d, subst (λ (x : List ℕ). BeginsWithLine bytes x (drop_through 10 bytes)) (sym h) last)
 
 -- what was written so far, before the answers to what is left, are the answers to all
-abbrev pub AnswersSoFar : Option (List ℕ) → Option (List ℕ) → Option (List ℕ) → Option (List ℕ) → Type 0
+abbrev pub AnswersSoFar : Option (List ℕ) → Option (List ℕ) → List ℕ → List ℕ → Type 0
 AnswersSoFar None left old new = Unit {0}
 AnswersSoFar (Some bytes) left old new =
-    (rest : List ℕ) × (written : List ℕ) × (left ≡ Some rest) × Appends old new written × ((more : List ℕ) → AreAnswers (lines_of rest) more → AreAnswers (lines_of bytes) (written ++ more))
+    (rest : List ℕ) × (written : List ℕ) × (left ≡ Some rest) × (new ≡ old ++ written) × ((more : List ℕ) → AreAnswers (lines_of rest) more → AreAnswers (lines_of bytes) (written ++ more))
 
-nothing_appended : (old : Option (List ℕ)) → Appends old old []
-nothing_appended None = tt
-nothing_appended (Some xs) = sym (append-nil xs)
-
-both_appended : (old mid new : Option (List ℕ)) (first second : List ℕ) → Appends old mid first → Appends mid new second → Appends old new (first ++ second)
-both_appended None mid new first second h k = tt
-both_appended (Some xs) None new first second h k = absurd h
-both_appended (Some xs) (Some ys) None first second h k = absurd k
-both_appended (Some xs) (Some ys) (Some zs) first second h k = k ∙ ap (λ (x : List ℕ). x ++ second) h ∙ append_assoc xs first second
-
-pub answers_start : (known old : Option (List ℕ)) → AnswersSoFar known known old old
+pub answers_start : (known : Option (List ℕ)) (old : List ℕ) → AnswersSoFar known known old old
 answers_start None old = tt
-answers_start (Some bytes) old = (bytes, [], refl, nothing_appended old, λ more h. h)
+answers_start (Some bytes) old = (bytes, [], refl, sym (append-nil old), λ more h. h)
 
 if_some : (P : List ℕ → Type 0) (known : Option (List ℕ)) (bytes : List ℕ) → known ≡ Some bytes → IfSome known P → P bytes
 if_some P known bytes e h = subst (λ (o : Option (List ℕ)). IfSome o P) e h
 
-pub answers_one_more : (known left after old mid new : Option (List ℕ)) (line : List ℕ) (found : Bool) → found ≡ true → AnswersSoFar known left old mid → IfSome left (λ bytes. ReadsLine found bytes line after) → Answers line mid new → AnswersSoFar known after old new
-answers_one_more None left after old mid new line found f h r a = tt
-answers_one_more (Some bytes) left after old mid new line found f (rest, written, e, appended, more) r (first, is, added) =
-    let read = if_some (λ x. ReadsLine true x line after) left rest e (subst (λ (b : Bool). IfSome left (λ x. ReadsLine b x line after)) f r) in (
+line_read : (left after : Option (List ℕ)) (rest line : List ℕ) (found : Bool) → found ≡ true → left ≡ Some rest → IfSome left (λ bytes. ReadsLine found bytes line after) → ReadsLine true rest line after
+line_read left after rest line found f e r = if_some (λ x. ReadsLine true x line after) left rest e (subst (λ (b : Bool). IfSome left (λ x. ReadsLine b x line after)) f r)
+
+pub answers_one_more : (known left after : Option (List ℕ)) (old mid new line first : List ℕ) (found : Bool) → found ≡ true → AnswersSoFar known left old mid → IfSome left (λ bytes. ReadsLine found bytes line after)
+    → AnswerLine line first → new ≡ mid ++ first → AnswersSoFar known after old new
+answers_one_more None left after old mid new line first found f h r is added = tt
+answers_one_more (Some bytes) left after old mid new line first found f (rest, written, e, appended, more) r is added =
+    let read = line_read left after rest line found f e r in (
       read.0,
       written ++ first,
       read.1,
-      both_appended old mid new written first appended added,
+      appended_on old mid new written first appended added,
       λ others h. subst (AreAnswers (lines_of bytes)) (sym (append_assoc written first others)) (more (first ++ others) (answers_go_on rest line read.0 first others read.2 is h)),
     )
 
-pub answers_end : (known left after old new : Option (List ℕ)) (line : List ℕ) (found : Bool) → found ≡ false → AnswersSoFar known left old new → IfSome left (λ bytes. ReadsLine found bytes line after) → IfSome known (λ bytes. AnswersAll bytes old new)
+pub answers_end : (known left after : Option (List ℕ)) (old new line : List ℕ) (found : Bool) → found ≡ false → AnswersSoFar known left old new → IfSome left (λ bytes. ReadsLine found bytes line after) → IfSome known (λ bytes. AnswersAll bytes old new)
 answers_end None left after old new line found f h r = tt
 answers_end (Some bytes) left after old new line found f (rest, written, e, appended, more) r =
     let none = if_some (λ x. ReadsLine false x line after) left rest e (subst (λ (b : Bool). IfSome left (λ x. ReadsLine b x line after)) f r) in
     (written, subst (AreAnswers (lines_of bytes)) (append-nil written) (more [] (no_answers rest none)), appended)
+
+-- where it stops between two lines, the answers so far are a beginning of those to all
+pub answers_stop : (known left : Option (List ℕ)) (old new : List ℕ) → AnswersSoFar known left old new → IfSome known (λ bytes. BeginsAnswers bytes old new)
+answers_stop None left old new h = tt
+answers_stop (Some bytes) left old new (rest, written, e, appended, more) =
+    let others = some_answers (lines_of rest) in
+    (written ++ others.0, more others.0 others.1, (written, others.0, refl, appended))
+
+-- and so they are with a beginning of the next
+pub answers_break : (known left after : Option (List ℕ)) (old mid new line first : List ℕ) (found : Bool) → found ≡ true → AnswersSoFar known left old mid → IfSome left (λ bytes. ReadsLine found bytes line after)
+    → AnswerLine line first → AppendsBeginning mid new first → IfSome known (λ bytes. BeginsAnswers bytes old new)
+answers_break None left after old mid new line first found f h r is begun = tt
+answers_break (Some bytes) left after old mid new line first found f (rest, written, e, appended, more) r is begun =
+    let read = line_read left after rest line found f e r in
+    let others = some_answers (lines_of read.0) in (
+      written ++ (first ++ others.0),
+      more (first ++ others.0) (answers_go_on rest line read.0 first others.0 read.2 is others.1),
+      beginning_after old mid new written (first ++ others.0) appended (beginning_of_more mid new first others.0 begun),
+    )

@@ -1,6 +1,6 @@
 -- What is written for a line.
-use Rattle.std.specs.Prelude.{◌≡◌, ℕ, ◌⊎◌, Bool, true, ◌==◌, MatchBool, Option, List, [], ◌∷◌, ◌++◌, codes}
-use Rattle.std.specs.Io.KnownBytes.{Appends}
+use Rattle.std.specs.Prelude.{◌≡◌, ℕ, ◌⊎◌, Bool, true, ◌==◌, MatchBool, Result, Ok, Err, List, [], ◌∷◌, ◌++◌, codes}
+use Rattle.prettyless.specs.Sink.{AppendsBeginning, rise}
 use Rattle.replay.specs.Outcomes.{IsReplayed}
 use Rattle.replay.specs.Refusals.{RefusesLine, message_of}
 use Rattle.replay.specs.declared.refusal.Refusal.{Refusal}
@@ -18,6 +18,12 @@ IsAnswer line text = IsReplayed line text ⊎ ((e : Refusal) × RefusesLine e li
 abbrev pub AnswerLine : List ℕ → List ℕ → Type 0
 AnswerLine line written = MatchBool (is_skipped line) (written ≡ []) ((text : List ℕ) × (written ≡ text ++ 10 ∷ []) × IsAnswer line text)
 
--- what is written for it was appended
-abbrev pub Answers : List ℕ → Option (List ℕ) → Option (List ℕ) → Type 0
-Answers line old new = (written : List ℕ) × AnswerLine line written × Appends old new written
+-- What a sink has of a text, whose bytes went from old to new and whose failures from n to m: all of it, or a beginning
+-- where the sink failed.
+abbrev pub Writes : {A E : Type 0} → List ℕ → List ℕ → List ℕ → ℕ → ℕ → Result A E → Type 0
+Writes text old new n m (Ok done) = (new ≡ old ++ text) × (m ≡ n)
+Writes text old new n m (Err e) = AppendsBeginning old new text × (m ≡ rise n)
+
+-- the same of what is written for a line
+abbrev pub Answers : {A E : Type 0} → List ℕ → List ℕ → List ℕ → ℕ → ℕ → Result A E → Type 0
+Answers line old new n m r = (written : List ℕ) × AnswerLine line written × Writes written old new n m r

@@ -1,11 +1,9 @@
-ghost use Rattle.std.specs.Prelude.{◌≡◌, ◌∷◌, ◌++◌, [], OnOk};
-ghost use Rattle.std.specs.Io.KnownBytes.{Appends};
-ghost use Rattle.replay.specs.Answers.{is_skipped, Answers};
+ghost use Rattle.std.specs.Prelude.{◌≡◌, ◌∷◌, ◌++◌, []};
+ghost use Rattle.replay.specs.Answers.{is_skipped, Writes, Answers};
 
 use crate::replayed::replayed;
+use prettyless::Render;
 use std::alloc::Global;
-use std::io;
-use std::io::Write;
 
 // Nothing stands on the line, or a comment.
 fn is_skipped(line: &[u8]) -> bool
@@ -14,19 +12,22 @@ fn is_skipped(line: &[u8]) -> bool
     matches!(line, [] | [b'#', ..])
 }
 
-fn write_line<W: Write>(out: &mut W, label: &str, text: &str) -> io::Result<()>
-    ensures { OnOk result (Appends (W.contents out.old) (W.contents out.new) (label.now ++ text.now ++ 10 ∷ [])) }
+fn write_line<S: Render>(out: &mut S, label: &str, text: &str) -> Result<(), S::Error>
+    ensures { S.tells out.old → S.tells out.new
+        × Writes (label.now ++ text.now ++ 10 ∷ []) (S.written out.old) (S.written out.new) (S.failures out.old) (S.failures out.new) result }
 {
-    out.write_all(label.as_bytes())?;
-    out.write_all(text.as_bytes())?;
-    out.write_all(b"\n")
+    out.write_str_all(label)?;
+    out.write_str_all(text)?;
+    out.write_str_all("\n")
 }
 
 /// Writes the answer to a line, and LF: what comes of its case, or `error` and why it has none.
 ///
-/// A blank line and a comment, which begins with `#`, have no answer.
-pub fn answer<W: Write>(alloc: Global, line: &[u8], out: &mut W) -> io::Result<()>
-    ensures { OnOk result (Answers line.now (W.contents out.old) (W.contents out.new)) }
+/// A blank line and a comment, which begins with `#`, have no answer. An error is the sink's: it then has a beginning of
+/// the answer, and got no piece after that.
+pub fn answer<S: Render>(alloc: Global, line: &[u8], out: &mut S) -> Result<(), S::Error>
+    ensures { S.tells out.old → S.tells out.new
+        × Answers line.now (S.written out.old) (S.written out.new) (S.failures out.old) (S.failures out.new) result }
 {
     if is_skipped(line) {
         return Ok(());

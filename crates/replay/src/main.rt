@@ -16,6 +16,7 @@ mod refusal;
 mod replayed;
 mod run;
 
+use prettyless::IoWrite;
 use run::run;
 use std::io;
 use std::io::{BufReader, BufWriter, Write};
@@ -23,7 +24,7 @@ use std::io::{BufReader, BufWriter, Write};
 fn main(rt: HostRuntime) -> io::Result<()> {
     let mut reader = BufReader::new(rt.alloc(), rt.reader())?;
     let mut out = BufWriter::new(rt.alloc(), io::writer(&rt))?;
-    run(rt.alloc(), &mut reader, &mut out)?;
+    run(rt.alloc(), &mut reader, &mut IoWrite::new(&mut out))?;
     out.flush()
 }
 

@@ -1,4 +1,5 @@
 use crate::run;
+use prettyless::IoWrite;
 use std::io;
 use std::io::{BufReader, ErrorKind, Read, Write};
 use std::test::Fail;
@@ -7,7 +8,7 @@ use std::test::Fail;
 fn answers_lines(rt: HostRuntime) -> Result<(), Fail> {
     let mut input = b"# a comment\n80 crlf eager hl\n\n\xff\n80 lf eager t c3a4".as_slice();
     let mut written = Vec::new(rt.alloc());
-    run(rt.alloc(), &mut input, &mut written)?;
+    run(rt.alloc(), &mut input, &mut IoWrite::new(&mut written))?;
     assert_eq!(rt;
         written.as_slice(),
         b"ok 0d0a\nerror not a case\nok c3a4\n".as_slice()
@@ -32,7 +33,7 @@ impl Write for Full {
 #[test]
 fn reports_a_writer_that_is_full(rt: HostRuntime) -> Result<(), Fail> {
     let mut input = b"80 lf eager nil".as_slice();
-    let error = run(rt.alloc(), &mut input, &mut Full)
+    let error = run(rt.alloc(), &mut input, &mut IoWrite::new(&mut Full))
         .err()
         .ok_or("written")?;
     assert_eq!(rt; error.kind(), ErrorKind::StorageFull);
@@ -56,7 +57,7 @@ impl Read for Broken {
 fn reports_a_reader_that_fails(rt: HostRuntime) -> Result<(), Fail> {
     let mut reader = BufReader::new(rt.alloc(), Broken(b"80 lf eager nil\n80 lf"))?;
     let mut written = Vec::new(rt.alloc());
-    let error = run(rt.alloc(), &mut reader, &mut written)
+    let error = run(rt.alloc(), &mut reader, &mut IoWrite::new(&mut written))
         .err()
         .ok_or("read")?;
     assert_eq!(rt; error.kind(), ErrorKind::ConnectionReset);
