@@ -8,7 +8,7 @@
 
 pub use prettyless_build::{DocAllocator, DocAllocatorOf, DocBuilder, Pretty};
 pub use prettyless_doc::{BuildDoc, Doc, DocPlace, DocPtr, PrettyFmt, text};
-pub use prettyless_pointers::{BoxAllocator, BoxDoc};
+pub use prettyless_pointers::{Arena, BoxAllocator, BoxDoc, RcAllocator, RcDoc, RefDoc};
 pub use prettyless_sink::error::RenderError;
 pub use prettyless_sink::fmt_write::FmtWrite;
 pub use prettyless_sink::io_write::IoWrite;
