@@ -39,7 +39,7 @@ impl<'a, T: DocPtr<'a>> Doc<'a, T> {
     pub fn hardline() -> Self
         ensures { tree_of T.tree result ≡ tree.HardLine }
     {
-        Doc::HardLine
+        Doc::hard_line()
     }
 
     /// A line break, which is nothing on a fresh line where no suffix is pending.

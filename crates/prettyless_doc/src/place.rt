@@ -24,3 +24,26 @@ pub trait DocPlace<'a>: Sized {
     /// The memory that texts are made in.
     fn memory(&'a self) -> Global;
 }
+
+/// The same place. It is handed on by reference.
+impl<'a, D: DocPlace<'a>> DocPlace<'a> for &'a D {
+    type Doc = D::Doc;
+
+    fn alloc(&'a self, doc: Doc<'a, D::Doc>) -> Result<D::Doc, BuildError>
+        ensures ok { IfOk result (λ p. D.Doc.tree p ≡ tree_of D.Doc.tree doc.entry) }
+        ensures err { IfErr result IsMemory }
+    {
+        (**self).alloc(doc)
+    }
+
+    fn clone_ptr(&'a self, pointer: &D::Doc) -> Result<D::Doc, BuildError>
+        ensures ok { IfOk result (λ p. D.Doc.tree p ≡ D.Doc.tree pointer.now) }
+        ensures err { IfErr result IsMemory }
+    {
+        (**self).clone_ptr(pointer)
+    }
+
+    fn memory(&'a self) -> Global {
+        (**self).memory()
+    }
+}

@@ -1,16 +1,19 @@
 //! Documents in an arena, whose nodes are given up all at once.
-ghost use Rattle.std.specs.Prelude.{◌≡◌, false, IfOk, IfErr};
+ghost use Rattle.std.specs.Prelude.{◌≡◌, false, IfOk, IfErr, Ok};
 ghost use Rattle.prettyless_doc.specs.BuildErrors.{IsMemory};
-ghost use Rattle.prettyless_doc.specs.DocTree.{tree_of, holds_memory};
+ghost use Rattle.prettyless_doc.specs.declared.doc.BuildDoc.TheVariants.{DocPtr as Placed};
+ghost use Rattle.prettyless_doc.specs.DocTree.{tree_of, built, holds_memory};
 ghost use Rattle.prettyless_doc.specs.Payload as source;
 ghost use Rattle.prettyless_doc.specs.Payload.{payload_bytes};
 ghost use Rattle.prettyless_doc.specs.TextBytes.{bytes_of, is_owned};
+ghost use Rattle.prettyless_build.specs.Built.{IfPlaced};
 ghost use Rattle.prettyless_pointers.specs.declared.arena.RefDoc.{out-RefDoc};
 ghost use Rattle.prettyless_pointers.specs.Trees.{ref_tree};
 
 use bumpalo::Bump;
+use prettyless_build::{DocBuilder, Pretty};
 use prettyless_doc::text::MultilineTextData;
-use prettyless_doc::{BuildError, Doc, DocPlace, DocPtr, Text};
+use prettyless_doc::{BuildDoc, BuildError, Doc, DocPlace, DocPtr, Text};
 use std::alloc::Global;
 use std::cell::Cell;
 
@@ -23,6 +26,44 @@ impl<'a> DocPtr<'a> for RefDoc<'a> {
 
     fn doc(&self) -> &Doc<'a, RefDoc<'a>> {
         self.0
+    }
+}
+
+/// Itself, as a node that is placed.
+impl<'a> From<RefDoc<'a>> for BuildDoc<'a, RefDoc<'a>> {
+    ghost from_gives = { λ p b. b ≡ Placed p };
+
+    fn from(pointer: RefDoc<'a>) -> BuildDoc<'a, RefDoc<'a>> {
+        BuildDoc::DocPtr(pointer)
+    }
+}
+
+/// Itself. It takes no memory.
+impl<'a> Pretty<'a, Arena<'a>> for RefDoc<'a> {
+    ghost becomes = { λ d y. y ≡ ref_tree d };
+
+    ghost refuses = { λ _ _. ⊥ };
+
+    fn pretty(self, allocator: &'a Arena<'a>) -> Result<DocBuilder<'a, Arena<'a>>, BuildError> {
+        Ok(DocBuilder(allocator, BuildDoc::DocPtr(self)))
+    }
+}
+
+/// What ends in a pointer to a node in an arena. A trait, as the builder is of a crate below.
+pub trait IntoRef<'a> {
+    /// The pointer, or an error where no memory was had.
+    fn into_ref(self) -> Result<RefDoc<'a>, BuildError>;
+}
+
+impl<'a> IntoRef<'a> for DocBuilder<'a, Arena<'a>> {
+    /// A pointer to the document: its own where it has one, which takes no memory, and else that of a new node, or an
+    /// error where no memory was had.
+    fn into_ref(self) -> Result<RefDoc<'a>, BuildError>
+        ensures ok { IfOk result (λ p. ref_tree p ≡ built ref_tree self.entry.1) }
+        ensures placed { IfPlaced self.entry.1 (λ p. result ≡ Ok p) }
+        ensures err { IfErr result IsMemory }
+    {
+        self.into_doc()
     }
 }
 
@@ -180,6 +221,16 @@ mod tests {
         arena.alloc(Doc::Append(line, arena.clone_ptr(&line)?))?;
         assert!(rt; !arena.is_empty());
         assert_eq!(rt; arena.len(), 2);
+        Ok(())
+    }
+
+    #[test]
+    fn ends_in_a_pointer(rt: HostRuntime) -> Result<(), Fail> {
+        let bump = Bump::new(rt.alloc());
+        let arena = Arena::new(rt.alloc(), &bump);
+        let line = DocBuilder(&arena, BuildDoc::Doc(Doc::HardLine)).into_ref()?;
+        let both = line.pretty(&arena)?.append(line)?.into_ref()?;
+        assert!(rt; matches!(both.doc(), Doc::Append(_, _)));
         Ok(())
     }
 

@@ -1,11 +1,12 @@
 ghost use Rattle.std.specs.Prelude.{◌≡◌, IfOk, IfErr};
 ghost use Rattle.prettyless_doc.specs.BuildErrors.{IsMemory};
+ghost use Rattle.prettyless_doc.specs.declared.doc.BuildDoc.TheVariants.{DocPtr as Placed};
 ghost use Rattle.prettyless_doc.specs.DocTree.{tree_of};
 ghost use Rattle.prettyless_pointers.specs.declared.boxes.BoxDoc.{out-BoxDoc};
 ghost use Rattle.prettyless_pointers.specs.Trees.{box_tree};
 
 use crate::children::{Children, into_children};
-use prettyless_doc::{BuildError, Doc, DocPlace, DocPtr};
+use prettyless_doc::{BuildDoc, BuildError, Doc, DocPlace, DocPtr};
 use std::alloc::Global;
 use std::mem;
 
@@ -71,6 +72,15 @@ impl<'a> DocPtr<'a> for BoxDoc<'a> {
     }
 }
 
+/// Itself, as a node that is placed.
+impl<'a> From<BoxDoc<'a>> for BuildDoc<'a, BoxDoc<'a>> {
+    ghost from_gives = { λ p b. b ≡ Placed p };
+
+    fn from(pointer: BoxDoc<'a>) -> BuildDoc<'a, BoxDoc<'a>> {
+        BuildDoc::DocPtr(pointer)
+    }
+}
+
 /// Puts each node into a box of its own.
 #[derive(Clone, Copy)]
 pub struct BoxAllocator {
@@ -109,7 +119,6 @@ impl<'a> DocPlace<'a> for BoxAllocator {
 #[cfg(test)]
 mod tests {
     use super::*;
-    use prettyless_doc::BuildDoc;
     use std::test::Fail;
 
     // Deeper by far than the stack has room for calls.
@@ -141,6 +150,25 @@ mod tests {
         let made = BuildDoc::DocPtr(boxes.clone_ptr(&nested)?);
         drop(nested);
         assert!(rt; matches!(made.clone(&boxes)?.doc(), Doc::Nest(2, _)));
+        Ok(())
+    }
+
+    #[test]
+    fn makes_lines(rt: HostRuntime) -> Result<(), Fail> {
+        let boxes = BoxAllocator::new(rt.alloc());
+        assert!(rt; matches!(Doc::line(&boxes)?, Doc::BreakOrFlat(_, _)));
+        assert!(rt; matches!(Doc::line_(&boxes)?, Doc::BreakOrFlat(_, _)));
+        assert!(rt; matches!(BuildDoc::line(&boxes)?.doc(), Doc::BreakOrFlat(_, _)));
+        assert!(rt; matches!(BuildDoc::line_(&boxes)?.doc(), Doc::BreakOrFlat(_, _)));
+        Ok(())
+    }
+
+    #[test]
+    fn is_lent(rt: HostRuntime) -> Result<(), Fail> {
+        let boxes = BoxAllocator::new(rt.alloc());
+        let lent = &boxes;
+        let line = DocPlace::alloc(&lent, Doc::HardLine)?;
+        assert!(rt; matches!(DocPlace::clone_ptr(&lent, &line)?.doc(), Doc::HardLine));
         Ok(())
     }
 

@@ -1,9 +1,10 @@
 ghost use Rattle.std.specs.Prelude.{◌≡◌, IfOk, IfErr};
 ghost use Rattle.prettyless_doc.specs.BuildErrors.{IsMemory};
+ghost use Rattle.prettyless_doc.specs.declared.doc.BuildDoc.TheVariants.{DocPtr as Placed};
 ghost use Rattle.prettyless_doc.specs.DocTree.{tree_of};
 ghost use Rattle.prettyless_pointers.specs.Trees.{rc_tree};
 
-use prettyless_doc::{BuildError, Doc, DocPlace, DocPtr};
+use prettyless_doc::{BuildDoc, BuildError, Doc, DocPlace, DocPtr};
 use std::alloc::Global;
 use std::rc::Rc;
 
@@ -35,6 +36,15 @@ impl<'a> DocPtr<'a> for RcDoc<'a> {
 
     fn doc(&self) -> &Doc<'a, RcDoc<'a>> {
         self.0.as_ref()
+    }
+}
+
+/// Itself, as a node that is placed.
+impl<'a> From<RcDoc<'a>> for BuildDoc<'a, RcDoc<'a>> {
+    ghost from_gives = { λ p b. b ≡ Placed p };
+
+    fn from(pointer: RcDoc<'a>) -> BuildDoc<'a, RcDoc<'a>> {
+        BuildDoc::DocPtr(pointer)
     }
 }
 

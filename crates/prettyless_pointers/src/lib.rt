@@ -2,11 +2,13 @@
 #![tactic(auto)]
 
 pub mod arena;
+mod box_constructors;
 pub mod boxes;
 mod children;
 mod copying;
 pub mod counted;
+mod rc_constructors;
 
-pub use arena::{Arena, RefDoc};
+pub use arena::{Arena, IntoRef, RefDoc};
 pub use boxes::{BoxAllocator, BoxDoc};
 pub use counted::{RcAllocator, RcDoc};
