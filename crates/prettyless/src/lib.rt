@@ -6,7 +6,13 @@
 //! [`TextWriter`], or to any sink that is [`Render`]; [`PrettyFmt`] prints it.
 #![tactic(auto)]
 
-pub use prettyless_build::{DocAllocator, DocAllocatorOf, DocBuilder, Pretty};
+pub mod macros;
+pub mod prelude;
+
+pub use prettyless_build::{
+    DocAllocator, DocAllocatorBetween, DocAllocatorOf, DocAllocatorOver, DocBuilder, Pretty,
+};
+pub use prettyless_combinators as combinators;
 pub use prettyless_doc::{BuildDoc, Doc, DocPlace, DocPtr, PrettyFmt, text};
 pub use prettyless_pointers::{BoxAllocator, BoxDoc};
 pub use prettyless_sink::error::RenderError;
