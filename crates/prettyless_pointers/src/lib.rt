@@ -2,12 +2,11 @@
 #![tactic(auto)]
 
 pub mod arena;
-mod box_constructors;
 pub mod boxes;
 mod children;
 mod copying;
 pub mod counted;
-mod rc_constructors;
+mod pretty;
 
 pub use arena::{Arena, IntoRef, RefDoc};
 pub use boxes::{BoxAllocator, BoxDoc};
