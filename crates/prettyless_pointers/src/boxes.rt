@@ -143,13 +143,11 @@ mod tests {
     #[test]
     fn clones_a_document(rt: HostRuntime) -> Result<(), Fail> {
         let boxes = BoxAllocator::new(rt.alloc());
-        let union = Doc::Union(boxes.alloc(Doc::Fail)?, boxes.alloc(Doc::HardLine)?);
-        let copy = union.clone(&boxes)?;
-        assert!(rt; matches!(copy, Doc::Union(_, _)));
-        let nested = boxes.alloc(Doc::Nest(2, boxes.alloc(copy)?))?;
-        let made = BuildDoc::DocPtr(boxes.clone_ptr(&nested)?);
+        let line = boxes.alloc(Doc::HardLine)?;
+        let nested = boxes.alloc(Doc::Nest(2, line))?;
+        let copy = boxes.clone_ptr(&nested)?;
         drop(nested);
-        assert!(rt; matches!(made.clone(&boxes)?.doc(), Doc::Nest(2, _)));
+        assert!(rt; matches!(copy.doc(), Doc::Nest(2, _)));
         Ok(())
     }
 
@@ -160,15 +158,6 @@ mod tests {
         assert!(rt; matches!(Doc::line_(&boxes)?, Doc::BreakOrFlat(_, _)));
         assert!(rt; matches!(BuildDoc::line(&boxes)?.doc(), Doc::BreakOrFlat(_, _)));
         assert!(rt; matches!(BuildDoc::line_(&boxes)?.doc(), Doc::BreakOrFlat(_, _)));
-        Ok(())
-    }
-
-    #[test]
-    fn is_lent(rt: HostRuntime) -> Result<(), Fail> {
-        let boxes = BoxAllocator::new(rt.alloc());
-        let lent = &boxes;
-        let line = DocPlace::alloc(&lent, Doc::HardLine)?;
-        assert!(rt; matches!(DocPlace::clone_ptr(&lent, &line)?.doc(), Doc::HardLine));
         Ok(())
     }
 
