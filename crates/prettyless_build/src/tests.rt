@@ -5,9 +5,7 @@ ghost use Rattle.prettyless_doc.specs.Tree.{Tree};
 ghost use Rattle.prettyless_doc.specs.DocTree.{tree_of};
 ghost use Rattle.prettyless_build.specs.declared.tests.Boxed.{fold-Boxed};
 
-use crate::{
-    DocAllocator, DocAllocatorBetween, DocAllocatorOf, DocAllocatorOver, DocBuilder, Pretty,
-};
+use crate::{DocAllocator, DocAllocatorOf, DocBuilder};
 use prettyless_doc::text::CowStr;
 use prettyless_doc::{BuildDoc, BuildError, Doc, DocPlace, DocPtr, Text};
 use std::alloc::Global;
@@ -204,124 +202,5 @@ fn flattens(rt: HostRuntime) -> Result<(), Fail> {
 fn puts_itself_off(rt: HostRuntime) -> Result<(), Fail> {
     let boxes = Boxes { memory: rt.alloc() };
     assert!(rt; matches!(boxes.space()?.as_line_suffix()?.doc(), Doc::LineSuffix(_)));
-    Ok(())
-}
-
-#[test]
-fn makes_spaces(rt: HostRuntime) -> Result<(), Fail> {
-    let boxes = Boxes { memory: rt.alloc() };
-    assert!(rt; matches!(boxes.spaces(0)?.doc(), Doc::Nil));
-    assert!(rt; matches!(boxes.spaces(100)?.doc(), Doc::Text(_)));
-    assert!(rt; matches!(boxes.spaces(101)?.doc(), Doc::Append(_, _)));
-    Ok(())
-}
-
-#[test]
-fn makes_what_it_is_given(rt: HostRuntime) -> Result<(), Fail> {
-    let boxes = Boxes { memory: rt.alloc() };
-    assert!(rt; matches!(boxes.pretty(Doc::HardLine)?.doc(), Doc::HardLine));
-    Ok(())
-}
-
-#[test]
-fn encloses(rt: HostRuntime) -> Result<(), Fail> {
-    let boxes = Boxes { memory: rt.alloc() };
-    let doc = boxes.hard_line()?.enclose("a", "b")?;
-    assert!(rt; matches!(doc.doc(), Doc::Append(_, _)));
-    Ok(())
-}
-
-#[test]
-fn encloses_in_quotes(rt: HostRuntime) -> Result<(), Fail> {
-    let boxes = Boxes { memory: rt.alloc() };
-    assert!(rt; matches!(boxes.nil()?.single_quotes()?.doc(), Doc::Append(_, _)));
-    assert!(rt; matches!(boxes.nil()?.double_quotes()?.doc(), Doc::Append(_, _)));
-    Ok(())
-}
-
-#[test]
-fn encloses_in_brackets(rt: HostRuntime) -> Result<(), Fail> {
-    let boxes = Boxes { memory: rt.alloc() };
-    assert!(rt; matches!(boxes.nil()?.parens()?.doc(), Doc::Append(_, _)));
-    assert!(rt; matches!(boxes.nil()?.angles()?.doc(), Doc::Append(_, _)));
-    assert!(rt; matches!(boxes.nil()?.braces()?.doc(), Doc::Append(_, _)));
-    assert!(rt; matches!(boxes.nil()?.brackets()?.doc(), Doc::Append(_, _)));
-    Ok(())
-}
-
-#[test]
-fn adds(rt: HostRuntime) -> Result<(), Fail> {
-    let boxes = Boxes { memory: rt.alloc() };
-    let sum = (boxes.space()? + Doc::HardLine)?;
-    assert!(rt; matches!(sum.doc(), Doc::Append(_, _)));
-    let doc = BuildDoc::from(boxes.space()?);
-    assert!(rt; matches!(doc.doc(), Doc::Text(_)));
-    Ok(())
-}
-
-#[test]
-fn takes_texts(rt: HostRuntime) -> Result<(), Fail> {
-    let boxes = Boxes { memory: rt.alloc() };
-    let owned = String::from_str(rt.alloc(), "b")?;
-    assert!(rt; matches!("a".pretty(&boxes)?.doc(), Doc::Text(Text::Borrowed("a"))));
-    assert!(rt;
-        matches!(
-            (&owned).pretty(&boxes)?.doc(),
-            Doc::Text(Text::Borrowed("b"))
-        )
-    );
-    let cow = CowStr::Borrowed("\u{e9}");
-    assert!(rt; matches!(cow.pretty(&boxes)?.doc(), Doc::TextWithLen(1, _)));
-    assert!(rt; matches!(String::new(rt.alloc()).pretty(&boxes)?.doc(), Doc::Nil));
-    Ok(())
-}
-
-#[test]
-fn takes_values_that_may_be_there(rt: HostRuntime) -> Result<(), Fail> {
-    let boxes = Boxes { memory: rt.alloc() };
-    assert!(rt; matches!(Some("a").pretty(&boxes)?.doc(), Doc::Text(_)));
-    assert!(rt; matches!(None::<&str>.pretty(&boxes)?.doc(), Doc::Nil));
-    assert!(rt; matches!(().pretty(&boxes)?.doc(), Doc::Nil));
-    Ok(())
-}
-
-#[test]
-fn takes_several(rt: HostRuntime) -> Result<(), Fail> {
-    let boxes = Boxes { memory: rt.alloc() };
-    let tuple = ("a", Some("b"), boxes.space()?);
-    assert!(rt; matches!(tuple.pretty(&boxes)?.doc(), Doc::Append(_, _)));
-    assert!(rt; matches!(["a", "b"].pretty(&boxes)?.doc(), Doc::Append(_, _)));
-    Ok(())
-}
-
-#[test]
-fn concatenates(rt: HostRuntime) -> Result<(), Fail> {
-    let boxes = Boxes { memory: rt.alloc() };
-    let docs = vec![in rt.alloc(); "a", "b"]?;
-    assert!(rt; matches!(boxes.concat(docs)?.doc(), Doc::Append(_, _)));
-    Ok(())
-}
-
-#[test]
-fn intersperses(rt: HostRuntime) -> Result<(), Fail> {
-    let boxes = Boxes { memory: rt.alloc() };
-    let docs = boxes.intersperse(["a", "b", "c"], ",")?;
-    assert!(rt; matches!(docs.doc(), Doc::Append(_, _)));
-    Ok(())
-}
-
-#[test]
-fn fills_lines(rt: HostRuntime) -> Result<(), Fail> {
-    let boxes = Boxes { memory: rt.alloc() };
-    assert!(rt; matches!(boxes.reflow("a b c")?.doc(), Doc::Append(_, _)));
-    Ok(())
-}
-
-#[test]
-fn copies(rt: HostRuntime) -> Result<(), Fail> {
-    let boxes = Boxes { memory: rt.alloc() };
-    let line = boxes.hard_line()?;
-    assert!(rt; matches!(line.clone()?.doc(), Doc::HardLine));
-    assert!(rt; matches!(line.repeat(3)?.doc(), Doc::Append(_, _)));
     Ok(())
 }

@@ -6,8 +6,6 @@ mod built;
 #[cfg(test)]
 mod choices;
 #[cfg(test)]
-mod constructors;
-#[cfg(test)]
 mod counted;
 #[cfg(test)]
 mod deep;
