@@ -2,7 +2,7 @@ ghost use Rattle.std.specs.Prelude.{◌≡◌, IfOk, IfErr};
 ghost use Rattle.std.specs.Fmt.{decimal};
 ghost use Rattle.prettyless.specs.DocTree.{built};
 ghost use Rattle.prettyless.specs.Tree.{Text};
-ghost use Rattle.prettyless.specs.Trees.{ref_tree};
+ghost use Rattle.prettyless.specs.Trees.{box_tree};
 ghost use Rattle.sexp.specs.Transfer.{IsMemory};
 ghost use Rattle.sexp.specs.Value.{values_of};
 ghost use Rattle.sexp.specs.View.{value_of, values_in};
@@ -11,33 +11,33 @@ ghost use Rattle.sexp.specs.Documents.{document_of, interspersed};
 use crate::error::RunError;
 use crate::expression::SExp;
 use prettyless::text::CowStr;
-use prettyless::{Arena, DocAllocator, DocBuilder};
+use prettyless::{BoxAllocator, DocAllocator, DocBuilder};
 
 /// The document of a number, in decimal.
-fn atom<'a>(arena: &'a Arena<'a>, number: u32) -> Result<DocBuilder<'a, Arena<'a>>, RunError>
-    ensures ok { IfOk result (λ b. built ref_tree b.1 ≡ Text (decimal number)) }
+fn atom<'a>(boxes: &'a BoxAllocator, number: u32) -> Result<DocBuilder<'a, BoxAllocator>, RunError>
+    ensures ok { IfOk result (λ b. built box_tree b.1 ≡ Text (decimal number)) }
     ensures err { IfErr result IsMemory }
 {
-    Ok(arena.as_string(number)?)
+    Ok(boxes.as_string(number)?)
 }
 
-/// The document of an S-expression, with its nodes in this arena.
+/// The document of an S-expression, with its nodes in these boxes.
 #[cycle(document)]
 pub fn document<'a>(
-    arena: &'a Arena<'a>,
+    boxes: &'a BoxAllocator,
     expression: &SExp,
-) -> Result<DocBuilder<'a, Arena<'a>>, RunError>
-    ensures ok { IfOk result (λ b. built ref_tree b.1 ≡ document_of (value_of expression.now)) }
+) -> Result<DocBuilder<'a, BoxAllocator>, RunError>
+    ensures ok { IfOk result (λ b. built box_tree b.1 ≡ document_of (value_of expression.now)) }
     ensures err { IfErr result IsMemory }
 {
     match expression {
-        SExp::Atom(number) => atom(arena, *number),
+        SExp::Atom(number) => atom(boxes, *number),
         SExp::List(items) => {
-            let items = lines(arena, items)?.nest(1)?.group()?;
-            let list = arena
+            let items = lines(boxes, items)?.nest(1)?.group()?;
+            let list = boxes
                 .ascii_text(CowStr::Borrowed("("))?
                 .append(items)?
-                .append(arena.ascii_text(CowStr::Borrowed(")"))?)?;
+                .append(boxes.ascii_text(CowStr::Borrowed(")"))?)?;
             Ok(list)
         }
     }
@@ -46,20 +46,20 @@ pub fn document<'a>(
 /// The documents of the expressions, with a line between two.
 #[cycle(document)]
 fn lines<'a>(
-    arena: &'a Arena<'a>,
+    boxes: &'a BoxAllocator,
     expressions: &[SExp],
-) -> Result<DocBuilder<'a, Arena<'a>>, RunError>
-    ensures ok { IfOk result (λ b. built ref_tree b.1 ≡ interspersed (values_of (values_in expressions.now))) }
+) -> Result<DocBuilder<'a, BoxAllocator>, RunError>
+    ensures ok { IfOk result (λ b. built box_tree b.1 ≡ interspersed (values_of (values_in expressions.now))) }
     ensures err { IfErr result IsMemory }
 {
     let [first, rest @ ..] = expressions else {
-        return Ok(arena.nil()?);
+        return Ok(boxes.nil()?);
     };
-    let mut all = document(arena, first)?;
+    let mut all = document(boxes, first)?;
     for expression in rest {
         all = all
-            .append(arena.line()?)?
-            .append(document(arena, expression)?)?;
+            .append(boxes.line()?)?
+            .append(document(boxes, expression)?)?;
     }
     Ok(all)
 }

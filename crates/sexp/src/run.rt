@@ -8,8 +8,7 @@ use crate::expression::SExp;
 use crate::input::read_input;
 use crate::output::write_text;
 use crate::parse::parse;
-use bumpalo::Bump;
-use prettyless::{Arena, RenderError, RenderOptions};
+use prettyless::{BoxAllocator, RenderError, RenderOptions};
 use std::alloc::Global;
 use std::io::{Read, Write};
 
@@ -22,9 +21,8 @@ fn write_layout<W: Write>(
 ) -> Result<(), RunError>
     ensures { Writes options (value_of expression.now) (W.contents writer.old) (W.contents writer.new) result }
 {
-    let bump = Bump::new(alloc);
-    let arena = Arena::new(alloc, &bump);
-    let document = document(&arena, expression)?;
+    let boxes = BoxAllocator::new(alloc);
+    let document = document(&boxes, expression)?;
     match document.1.doc().render_with(alloc, options, writer) {
         Ok(()) => write_text(writer, b"\n"),
         Err(RenderError::Memory(error)) => Err(RunError::Memory(error)),

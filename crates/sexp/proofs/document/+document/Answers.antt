@@ -4,7 +4,7 @@ use Rattle.std.proofs.lemmas.List.{drop_more}
 use Rattle.prettyless.specs.Tree.{Tree}
 use Rattle.prettyless.specs.Built.{append, line}
 use Rattle.prettyless.specs.DocTree.{built}
-use Rattle.prettyless.specs.Trees.{ref_tree}
+use Rattle.prettyless.specs.Trees.{box_tree}
 use Rattle.sexp.specs.declared.expression.SExp.{SExp}
 use Rattle.sexp.specs.Value.{values_of}
 use Rattle.sexp.specs.View.{value_of, values_in}
@@ -38,4 +38,4 @@ lines-loop-expression-preserved t c =
     let all = rw (lined, next) at (rw last.1 at last.2) in
     let es = take (length c.args.expressions.now - 1) (drop 1 c.args.expressions.now) in
     rw (all, c.expression-item.is)
-    (behind_next (built ref_tree c.loop-expression.all.1) (interspersed (values_of (values_in c.args.expressions.now))) es c.loop-expression.expression-index c.expression-item.result c.loop-expression-test.true c.loop-expression.invariant)
+    (behind_next (built box_tree c.loop-expression.all.1) (interspersed (values_of (values_in c.args.expressions.now))) es c.loop-expression.expression-index c.expression-item.result c.loop-expression-test.true c.loop-expression.invariant)
