@@ -1,6 +1,4 @@
 pub mod Built
-pub mod Iterated
-pub mod Words
 pub use Rattle.prettyless_doc.specs.BuildErrors
 pub use Rattle.prettyless_doc.specs.Counted
 pub use Rattle.prettyless_doc.specs.DocTree

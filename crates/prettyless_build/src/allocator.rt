@@ -1,15 +1,12 @@
-ghost use Rattle.std.specs.Prelude.{◌≡◌, ◌<◌, IfOk, IfErr, IsOkAnd};
+ghost use Rattle.std.specs.Prelude.{◌≡◌, IfOk, IfErr, IsOkAnd};
 ghost use Rattle.std.specs.Cow.{cow_str_bytes};
 ghost use Rattle.prettyless_doc.specs.Tree.{Nil, Fail, Text as TextTree, WeakSpace, HardLine, WeakLine, ExpandParent, BreakOrFlat};
 ghost use Rattle.prettyless_doc.specs.BuildErrors.{IsMemory};
 ghost use Rattle.prettyless_doc.specs.Counted as counted;
 ghost use Rattle.prettyless_doc.specs.DocTree.{tree_of, built};
 ghost use Rattle.prettyless_build.specs.Built as to;
-ghost use Rattle.prettyless_build.specs.Words as words;
 
 use crate::builder::DocBuilder;
-use crate::spaces::spaces;
-use crate::words::reflow;
 use prettyless_doc::text::CowStr;
 use prettyless_doc::{BuildDoc, BuildError, Doc, DocPlace, Text};
 use std::fmt;
@@ -61,12 +58,6 @@ pub trait DocAllocator<'a>: DocPlace<'a> {
         ensures { IsOkAnd result (λ b. built Self.Doc.tree b.1
             ≡ counted.multiline_text (cow_str_bytes text.entry)) };
 
-    /// The pieces of a text between its whitespace, each as `text` makes it, with a `softline` in place
-    /// of each whitespace character. It fails where no memory was had.
-    fn reflow(&'a self, text: &'a str) -> Result<DocBuilder<'a, Self>, BuildError>
-        ensures ok { IfOk result (λ b. built Self.Doc.tree b.1 ≡ words.reflow text.now) }
-        ensures err { IfErr result IsMemory };
-
     /// A line break. It takes no memory.
     fn hard_line(&'a self) -> Result<DocBuilder<'a, Self>, BuildError>
         ensures { IsOkAnd result (λ b. built Self.Doc.tree b.1 ≡ HardLine) };
@@ -82,12 +73,6 @@ pub trait DocAllocator<'a>: DocPlace<'a> {
     /// The text of one space. It takes no memory.
     fn space(&'a self) -> Result<DocBuilder<'a, Self>, BuildError>
         ensures { IsOkAnd result (λ b. built Self.Doc.tree b.1 ≡ to.space) };
-
-    /// So many spaces, in texts of at most 100. Up to 100 it takes no memory; beyond that memory can
-    /// fail.
-    fn spaces(&'a self, count: usize) -> Result<DocBuilder<'a, Self>, BuildError>
-        ensures ok { IfOk result (λ b. built Self.Doc.tree b.1 ≡ to.spaces count) }
-        ensures err { IfErr result (λ e. IsMemory e × (100 < count)) };
 
     /// A space, which is nothing at the start of a line, nor at its end unless a suffix follows
     /// there. It takes no memory.
@@ -176,10 +161,6 @@ impl<'a, D: DocPlace<'a>> DocAllocator<'a> for D {
         Ok(DocBuilder::new(self, doc))
     }
 
-    fn reflow(&'a self, text: &'a str) -> Result<DocBuilder<'a, D>, BuildError> {
-        reflow(self, text)
-    }
-
     fn hard_line(&'a self) -> Result<DocBuilder<'a, D>, BuildError> {
         Ok(DocBuilder::new(self, Doc::HardLine))
     }
@@ -194,10 +175,6 @@ impl<'a, D: DocPlace<'a>> DocAllocator<'a> for D {
 
     fn space(&'a self) -> Result<DocBuilder<'a, D>, BuildError> {
         Ok(DocBuilder::new(self, Doc::Text(Text::Borrowed(" "))))
-    }
-
-    fn spaces(&'a self, count: usize) -> Result<DocBuilder<'a, D>, BuildError> {
-        spaces(self, count)
     }
 
     fn weak_space(&'a self) -> Result<DocBuilder<'a, D>, BuildError> {

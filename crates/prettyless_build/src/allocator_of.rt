@@ -9,16 +9,11 @@ use crate::pretty::Pretty;
 use prettyless_doc::{BuildError, Doc, DocPlace};
 
 /// The documents that every place of nodes can make of one of type `P`. The making of that one can
-/// fail, and, but in `pretty`, memory.
+/// fail, and memory.
 ///
 /// `P` stands on the trait and not on its calls, which cannot bind a type to the trait's lifetime.
 /// It follows from the operand: `allocator.line_suffix(doc)` is written without it.
 pub trait DocAllocatorOf<'a, P: Pretty<'a, Self>>: DocPlace<'a> {
-    /// The document that it becomes. Only the making of it can fail.
-    fn pretty(&'a self, doc: P) -> Result<DocBuilder<'a, Self>, BuildError>
-        ensures ok { IfOk result (λ b. P.becomes doc (built Self.Doc.tree b.1)) }
-        ensures err { IfErr result (P.refuses doc) };
-
     /// The document put off to the end of its line, also where it is nothing.
     fn line_suffix(&'a self, doc: P) -> Result<DocBuilder<'a, Self>, BuildError>
         ensures ok { IfOk result (λ b. (y : Tree) × P.becomes doc y
@@ -39,10 +34,6 @@ pub trait DocAllocatorOf<'a, P: Pretty<'a, Self>>: DocPlace<'a> {
 }
 
 impl<'a, D: DocPlace<'a>, P: Pretty<'a, D>> DocAllocatorOf<'a, P> for D {
-    fn pretty(&'a self, doc: P) -> Result<DocBuilder<'a, D>, BuildError> {
-        Pretty::pretty(doc, self)
-    }
-
     fn line_suffix(&'a self, doc: P) -> Result<DocBuilder<'a, D>, BuildError> {
         let inner = doc.pretty(self)?.into_doc()?;
         Ok(DocBuilder::new(self, Doc::LineSuffix(inner)))

@@ -46,16 +46,8 @@ impl<'a, D: DocPlace<'a>> DocBuilder<'a, D> {
         allocator.alloc_cow(doc)
     }
 
-    // The document alone.
-    pub(crate) fn into_build_doc(self) -> BuildDoc<'a, D::Doc>
-        ensures { result ≡ self.entry.1 }
-    {
-        let DocBuilder(_, doc) = self;
-        doc
-    }
-
     // `append` of what is a builder already.
-    pub(crate) fn join(self, that: DocBuilder<'a, D>) -> Result<Self, BuildError>
+    fn join(self, that: DocBuilder<'a, D>) -> Result<Self, BuildError>
         ensures ok { IfOk result (λ b. built D.Doc.tree b.1
             ≡ to.append (built D.Doc.tree self.entry.1) (built D.Doc.tree that.entry.1)) }
         ensures err { IfErr result (λ e. IsMemory e

@@ -1,4 +1,4 @@
-//! Each call once, with ample memory, over a place that keeps its nodes in shared boxes.
+//! Each call once, with ample memory, over a place that keeps its nodes in boxes.
 ghost use Rattle.std.specs.Prelude.{◌≡◌, IfOk, IfErr};
 ghost use Rattle.prettyless_doc.specs.BuildErrors.{IsMemory};
 ghost use Rattle.prettyless_doc.specs.Tree.{Tree};
@@ -9,17 +9,16 @@ use crate::{DocAllocator, DocAllocatorOf, DocBuilder};
 use prettyless_doc::text::CowStr;
 use prettyless_doc::{BuildDoc, BuildError, Doc, DocPlace, DocPtr, Text};
 use std::alloc::Global;
-use std::rc::Rc;
 use std::test::Fail;
 
 #[derive(Drop)]
-struct Boxed<'a>(Rc<Doc<'a, Boxed<'a>>>);
+struct Boxed<'a>(Box<Doc<'a, Boxed<'a>>>);
 
 impl<'a> DocPtr<'a> for Boxed<'a> {
     ghost tree = { fold-Boxed Tree (λ x. tree_of (λ t. t) x.0.value) };
 
     fn doc(&self) -> &Doc<'a, Boxed<'a>> {
-        self.0.as_ref()
+        &*self.0
     }
 }
 
@@ -36,15 +35,7 @@ impl<'a> DocPlace<'a> for Boxes {
             ≡ tree_of ⟦<Boxed<'a> as DocPtr<'a>>⟧.tree doc.entry) }
         ensures err { IfErr result IsMemory }
     {
-        Ok(Boxed(Rc::new(self.memory, doc)?))
-    }
-
-    fn clone_ptr(&'a self, pointer: &Boxed<'a>) -> Result<Boxed<'a>, BuildError>
-        ensures ok { IfOk result (λ p. ⟦<Boxed<'a> as DocPtr<'a>>⟧.tree p
-            ≡ ⟦<Boxed<'a> as DocPtr<'a>>⟧.tree pointer.now) }
-        ensures err { IfErr result IsMemory }
-    {
-        Ok(Boxed(pointer.0.clone()?))
+        Ok(Boxed(Box::new(self.memory, doc)?))
     }
 
     fn memory(&'a self) -> Global {

@@ -3,7 +3,6 @@ pub mod Cached
 pub mod Counted
 pub mod DocTree
 pub mod Breaks
-pub mod Lines
 pub mod Payload
 pub mod Printed
 pub mod TextBytes

@@ -2,9 +2,6 @@
 #![tactic(auto)]
 
 mod cached;
-mod clone;
-mod constructors;
-mod conversions;
 mod counted;
 mod display;
 pub mod doc;

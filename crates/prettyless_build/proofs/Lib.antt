@@ -1,3 +1,0 @@
-pub mod Gaps
-pub mod Pieces
-pub mod Walks
