@@ -1,7 +1,10 @@
 pub use Rattle.prettyless_build.specs.Built
+pub use Rattle.prettyless_build.specs.Iterated
+pub use Rattle.prettyless_alloc.specs.Words
 pub use Rattle.prettyless_doc.specs.BuildErrors
 pub use Rattle.prettyless_doc.specs.Counted
 pub use Rattle.prettyless_doc.specs.DocTree
+pub use Rattle.prettyless_doc.specs.Lines
 pub use Rattle.prettyless_doc.specs.Payload
 pub use Rattle.prettyless_doc.specs.TextBytes
 pub use Rattle.prettyless_doc.specs.Tree

@@ -6,9 +6,14 @@
 //! [`TextWriter`], or to any sink that is [`Render`]; [`PrettyFmt`] prints it.
 #![tactic(auto)]
 
-pub use prettyless_build::{DocAllocator, DocAllocatorOf, DocBuilder, Pretty};
+pub mod macros;
+pub mod prelude;
+
+pub use prettyless_alloc::{DocAllocator, DocAllocatorBetween, DocAllocatorOf, DocAllocatorOver};
+pub use prettyless_build::{DocBuilder, Pretty};
+pub use prettyless_combinators as combinators;
 pub use prettyless_doc::{BuildDoc, Doc, DocPlace, DocPtr, PrettyFmt, text};
-pub use prettyless_pointers::{BoxAllocator, BoxDoc};
+pub use prettyless_pointers::{Arena, BoxAllocator, BoxDoc, IntoRef, RcAllocator, RcDoc, RefDoc};
 pub use prettyless_sink::error::RenderError;
 pub use prettyless_sink::fmt_write::FmtWrite;
 pub use prettyless_sink::io_write::IoWrite;

@@ -1,9 +1,12 @@
 -- The trees that building makes of the trees that it is given, and when it gives one back as it is.
-use Rattle.std.specs.Prelude.{ℤ, pos, zero, [], ◌∷◌, Bool, true, false}
-use Rattle.prettyless_doc.specs.Tree.{Tree, Nil, Fail, Text, TextWithLen, MultilineText, HardLine, Append, LineSuffix, Nest, DedentToRoot, Align, Flatten, BreakOrFlat, Group}
+use Rattle.std.specs.Prelude.{◌≡◌, ℕ, ℤ, pos, zero, suc, ◌/◌, ◌%◌, ◌⊎◌, [], ◌∷◌, replicate, Bool, true, false}
+use Rattle.prettyless_doc.specs.Tree.{Tree, Nil, Fail, Text, TextWithLen, MultilineText, HardLine, Append, LineSuffix, Nest, DedentToRoot, Align, Flatten, Group}
 use Rattle.prettyless_doc.specs.DocTree.{is_nil}
+use Rattle.prettyless_doc.specs.BuildErrors.{IsMemory}
+use Rattle.prettyless_doc.specs.Lines.{line, line_}
 use Rattle.prettyless_doc.specs.declared.doc.BuildDoc.{BuildDoc}
 use Rattle.prettyless_doc.specs.declared.doc.BuildDoc.TheVariants.{DocPtr as Placed, Doc as Plain}
+use Rattle.prettyless_doc.specs.declared.text.BuildError.{BuildError}
 
 -- P of the pointer, if the document has one already
 abbrev pub IfPlaced : {T : Type 0} → BuildDoc T → (T → Type 0) → Type 0
@@ -14,18 +17,6 @@ IfPlaced (Plain d) P = Unit {0}
 abbrev pub IsNotNil : Tree → Type 0
 IsNotNil Nil = ⊥
 IsNotNil _ = Unit {0}
-
--- one space
-abbrev pub space : Tree
-space = Text (32 ∷ [])
-
--- a line break, or one space where lines are flat
-abbrev pub line : Tree
-line = BreakOrFlat HardLine space
-
--- a line break, or nothing where lines are flat
-abbrev pub line_ : Tree
-line_ = BreakOrFlat HardLine Nil
 
 -- a line break only where the line has no room, or one space
 abbrev pub softline : Tree
@@ -44,6 +35,58 @@ append_to x y = Append x y
 abbrev pub append : Tree → Tree → Tree
 append Nil y = y
 append x y = append_to x y
+
+-- one tree of the first kind with one of the second appended
+abbrev pub joined : (Tree → Type 0) → (Tree → Type 0) → Tree → Type 0
+joined P Q z = (x : Tree) × (y : Tree) × P x × Q y × (z ≡ append x y)
+
+-- an error that P or Q knows, or want of memory
+abbrev pub refused : (BuildError → Type 0) → (BuildError → Type 0) → BuildError → Type 0
+refused P Q e = P e ⊎ Q e ⊎ IsMemory e
+
+-- a tree with one that d may become appended
+abbrev pub appends : {A : Type 0} → (A → Tree → Type 0) → Tree → A → Tree → Type 0
+appends R x d z = (y : Tree) × R d y × (z ≡ append x y)
+
+-- a tree between two others
+abbrev pub enclose : Tree → Tree → Tree → Tree
+enclose before x after = append (append before x) after
+
+-- appending two trees to one another makes a node
+abbrev pub IsAppended : Tree → Tree → Type 0
+IsAppended x y = IsNotNil x × IsNotNil y
+
+-- enclosing a tree makes a node
+abbrev pub IsNodeNeeded : Tree → Tree → Tree → Type 0
+IsNodeNeeded before x after = IsAppended before x ⊎ IsAppended (append before x) after
+
+-- a tree between two characters
+abbrev pub between : ℕ → ℕ → Tree → Tree
+between before after x = enclose (Text (before ∷ [])) x (Text (after ∷ []))
+
+-- one text of so many spaces, or nothing for none
+abbrev pub gap : ℕ → Tree
+gap zero = Nil
+gap (suc n) = Text (replicate (suc n) 32)
+
+-- so many texts of 100 spaces, each appended to those before it
+abbrev pub hundreds : ℕ → Tree
+hundreds zero = Nil
+hundreds (suc n) = append (hundreds n) (gap 100)
+
+-- so many spaces: texts of 100, and then the rest, if any
+abbrev pub spaces : ℕ → Tree
+spaces n = append (hundreds (n / 100)) (gap (n % 100))
+
+-- a left chain of a tree and n more
+abbrev pub chain : ℕ → Tree → Tree
+chain zero x = x
+chain (suc n) x = Append (chain n x) x
+
+-- so many copies of a tree, one after the other
+abbrev pub repeat : ℕ → Tree → Tree
+repeat zero x = Nil
+repeat (suc n) x = chain n x
 
 -- nesting by k leaves the tree as it is
 abbrev pub keeps_nested : ℤ → Tree → Bool

@@ -5,7 +5,6 @@ ghost use Rattle.prettyless_doc.specs.DocTree.{tree_of, built};
 ghost use Rattle.prettyless_doc.specs.declared.doc.BuildDoc.TheVariants.{Doc as Plain};
 ghost use Rattle.prettyless_build.specs.Built as to;
 
-use crate::allocator::DocAllocator;
 use crate::pretty::Pretty;
 use prettyless_doc::{BuildDoc, BuildError, Doc, DocPlace};
 
@@ -21,8 +20,8 @@ impl<'a, D: DocPlace<'a>> Drop for DocBuilder<'a, D> {
 }
 
 impl<'a, D: DocPlace<'a>> DocBuilder<'a, D> {
-    // A node that is not placed yet.
-    pub(crate) fn new(allocator: &'a D, doc: Doc<'a, D::Doc>) -> Self
+    /// A node that is not placed yet.
+    pub fn new(allocator: &'a D, doc: Doc<'a, D::Doc>) -> Self
         ensures { result.1 ≡ Plain doc.entry }
     {
         DocBuilder(allocator, BuildDoc::Doc(doc))
@@ -42,12 +41,23 @@ impl<'a, D: DocPlace<'a>> DocBuilder<'a, D> {
         ensures placed { to.IfPlaced self.entry.1 (λ p. result ≡ Ok p) }
         ensures err { IfErr result IsMemory }
     {
-        let DocBuilder(allocator, doc) = self;
-        allocator.alloc_cow(doc)
+        match self {
+            DocBuilder(_, BuildDoc::DocPtr(pointer)) => Ok(pointer),
+            DocBuilder(allocator, BuildDoc::Doc(doc)) => allocator.alloc(doc),
+        }
     }
 
-    // `append` of what is a builder already.
-    fn join(self, that: DocBuilder<'a, D>) -> Result<Self, BuildError>
+    // The document alone.
+    pub(crate) fn into_build_doc(self) -> BuildDoc<'a, D::Doc>
+        ensures { result ≡ self.entry.1 }
+    {
+        let DocBuilder(_, doc) = self;
+        doc
+    }
+
+    /// `append` of what is a builder already. Where one of the two is nothing it is the other as it is,
+    /// which takes no memory; else memory can fail.
+    pub fn join(self, that: DocBuilder<'a, D>) -> Result<Self, BuildError>
         ensures ok { IfOk result (λ b. built D.Doc.tree b.1
             ≡ to.append (built D.Doc.tree self.entry.1) (built D.Doc.tree that.entry.1)) }
         ensures err { IfErr result (λ e. IsMemory e

@@ -4,7 +4,6 @@ ghost use Rattle.prettyless_doc.specs.Tree.{Tree, Nil, BreakOrFlat, Union, Parti
 ghost use Rattle.prettyless_doc.specs.BuildErrors.{IsMemory};
 ghost use Rattle.prettyless_doc.specs.DocTree.{built};
 
-use crate::allocator::DocAllocator;
 use crate::builder::DocBuilder;
 use crate::pretty::Pretty;
 use prettyless_doc::{BuildDoc, BuildError, Doc, DocPlace};
@@ -58,7 +57,7 @@ impl<'a, D: DocPlace<'a>> DocBuilder<'a, D> {
     {
         let allocator = self.0;
         let first = self.into_doc()?;
-        let second = allocator.alloc_cow(that)?;
+        let second = DocBuilder(allocator, that).into_doc()?;
         Ok(DocBuilder::new(allocator, Doc::Union(first, second)))
     }
 
@@ -70,7 +69,7 @@ impl<'a, D: DocPlace<'a>> DocBuilder<'a, D> {
     {
         let allocator = self.0;
         let first = self.into_doc()?;
-        let second = allocator.alloc_cow(that)?;
+        let second = DocBuilder(allocator, that).into_doc()?;
         Ok(DocBuilder::new(allocator, Doc::PartialUnion(first, second)))
     }
 }

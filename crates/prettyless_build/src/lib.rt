@@ -1,17 +1,16 @@
-//! Building documents: an allocator starts one, and a builder makes a larger one of it.
+//! Building documents: what becomes one, and the builder, which makes a larger one of it.
 #![tactic(auto)]
 
-pub mod allocator;
-pub mod allocator_of;
+pub mod arrays;
 pub mod builder;
 pub mod choices;
+pub mod conversions;
+pub mod copies;
+pub mod enclosed;
 pub mod indents;
 pub mod pretty;
+pub mod texts;
+pub mod tuples;
 
-pub use allocator::DocAllocator;
-pub use allocator_of::DocAllocatorOf;
 pub use builder::DocBuilder;
 pub use pretty::Pretty;
-
-#[cfg(test)]
-mod tests;

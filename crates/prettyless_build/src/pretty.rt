@@ -1,5 +1,5 @@
-ghost use Rattle.std.specs.Prelude.{◌≡◌, IfOk, IfErr};
-ghost use Rattle.prettyless_doc.specs.Tree.{Tree};
+ghost use Rattle.std.specs.Prelude.{◌≡◌, IfOk, IfErr, MatchOption};
+ghost use Rattle.prettyless_doc.specs.Tree.{Tree, Nil};
 ghost use Rattle.prettyless_doc.specs.DocTree.{tree_of, built};
 ghost use Rattle.prettyless_doc.specs.declared.text.BuildError.{BuildError};
 
@@ -50,5 +50,30 @@ impl<'a, D: DocPlace<'a>> Pretty<'a, D> for DocBuilder<'a, D> {
 
     fn pretty(self, _allocator: &'a D) -> Result<DocBuilder<'a, D>, BuildError> {
         Ok(self)
+    }
+}
+
+/// Its value's document, or nothing where it has none, which takes no memory.
+impl<'a, D: DocPlace<'a>, T: Pretty<'a, D>> Pretty<'a, D> for Option<T> {
+    ghost becomes = { λ o y. MatchOption o (y ≡ Nil) (λ v. T.becomes v y) };
+
+    ghost refuses = { λ o e. MatchOption o ⊥ (λ v. T.refuses v e) };
+
+    fn pretty(self, allocator: &'a D) -> Result<DocBuilder<'a, D>, BuildError> {
+        match self {
+            Some(value) => value.pretty(allocator),
+            None => Ok(DocBuilder::new(allocator, Doc::Nil)),
+        }
+    }
+}
+
+/// Nothing. It takes no memory.
+impl<'a, D: DocPlace<'a>> Pretty<'a, D> for () {
+    ghost becomes = { λ _ y. y ≡ Nil };
+
+    ghost refuses = { λ _ _. ⊥ };
+
+    fn pretty(self, allocator: &'a D) -> Result<DocBuilder<'a, D>, BuildError> {
+        Ok(DocBuilder::new(allocator, Doc::Nil))
     }
 }

@@ -2,8 +2,9 @@
 use Rattle.std.specs.Prelude.{Bool, true, false}
 use Rattle.prettyless_model.specs.Tree as t
 use Rattle.prettyless_model.specs.Tree.{Tree}
+use Rattle.prettyless_doc.specs.Payload as payload
 use Rattle.prettyless_doc.specs.Payload.{payload_bytes}
-use Rattle.prettyless_doc.specs.TextBytes.{bytes_of}
+use Rattle.prettyless_doc.specs.TextBytes.{bytes_of, is_owned}
 use Rattle.prettyless_doc.specs.declared.doc.Doc.{Doc}
 use Rattle.prettyless_doc.specs.declared.doc.Doc.TheVariants.{Nil, Fail, Text, TextWithLen, MultilineText, WeakSpace, HardLine, WeakLine, Append, LineSuffix, Nest, DedentToRoot, Align, ExpandParent, Flatten, BreakOrFlat, Group, Union, PartialUnion}
 use Rattle.prettyless_doc.specs.declared.doc.BuildDoc.{BuildDoc}
@@ -40,3 +41,10 @@ built tree (Plain d) = tree_of tree d
 abbrev pub is_nil : Tree → Bool
 is_nil t.Nil = true
 is_nil _ = false
+
+-- the node holds memory of its own, beside what is behind its pointers
+abbrev pub holds_memory : {T : Type 0} → Doc T → Bool
+holds_memory (Text s) = is_owned s
+holds_memory (TextWithLen w s) = is_owned s
+holds_memory (MultilineText p) = payload.is_owned p
+holds_memory _ = false

@@ -3,6 +3,7 @@ pub mod Cached
 pub mod Counted
 pub mod DocTree
 pub mod Breaks
+pub mod Lines
 pub mod Payload
 pub mod Printed
 pub mod TextBytes

@@ -1,5 +1,5 @@
 -- The bytes of a `Text`, and where they are.
-use Rattle.std.specs.Prelude.{ℕ, ◌<◌, ◌≤◌, List, length}
+use Rattle.std.specs.Prelude.{ℕ, ◌<◌, ◌≤◌, Bool, true, false, List, length}
 use Rattle.std.specs.Box.{boxed_str_bytes}
 use Rattle.prettyless_doc.specs.declared.text.Text.{Text}
 use Rattle.prettyless_doc.specs.declared.text.Text.TheVariants.{Owned, Borrowed, Small}
@@ -9,6 +9,12 @@ abbrev pub bytes_of : Text → List ℕ
 bytes_of (Owned s) = boxed_str_bytes s
 bytes_of (Borrowed s) = s.now
 bytes_of (Small s) = s.bytes
+
+-- the text has memory of its own
+abbrev pub is_owned : Text → Bool
+is_owned (Owned s) = true
+is_owned (Borrowed s) = false
+is_owned (Small s) = false
 
 -- P, if the text has no memory of its own
 abbrev pub IfUnowned : Text → Type 0 → Type 0

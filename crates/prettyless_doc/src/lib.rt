@@ -2,6 +2,9 @@
 #![tactic(auto)]
 
 mod cached;
+mod clone;
+mod constructors;
+mod conversions;
 mod counted;
 mod display;
 pub mod doc;

@@ -1,5 +1,5 @@
 //! Payloads: texts that hold line breaks of their own.
-ghost use Rattle.std.specs.Prelude.{◌≡◌, true, IfOk, IfErr, IsOk};
+ghost use Rattle.std.specs.Prelude.{◌≡◌, true, false, IfOk, IfErr, IsOk};
 ghost use Rattle.std.specs.Cow.{cow_str_bytes};
 ghost use Rattle.prettyless_model.specs.Metrics.{metrics};
 ghost use Rattle.prettyless_doc.specs.Breaks.{holds_break};
@@ -23,7 +23,7 @@ pub struct MultilineTextData<'a> {
 
 impl<'a> MultilineTextData<'a> {
     ghost use Rattle.prettyless_doc.specs.BuildErrors.{IsMemory};
-    ghost use Rattle.prettyless_doc.specs.Payload.{payload_bytes, IfBorrowed};
+    ghost use Rattle.prettyless_doc.specs.Payload.{payload_bytes, is_owned, IfBorrowed};
 
     pub(crate) fn new(source: CowStr<'a>) -> Self
         requires { holds_break (cow_str_bytes source) ≡ true }
@@ -49,6 +49,25 @@ impl<'a> MultilineTextData<'a> {
         match self.cached.get() {
             Some(metrics) => metrics,
             None => measure(self.as_str()),
+        }
+    }
+
+    /// Whether the source has memory of its own.
+    pub fn is_owned(&self) -> bool
+        ensures { result ≡ is_owned self.now }
+    {
+        matches!(self.source, CowStr::Owned(_))
+    }
+
+    /// The payload of another text of the same bytes, which is not measured again.
+    pub fn over<'b>(&self, source: &'b str) -> MultilineTextData<'b>
+        requires { source.now ≡ payload_bytes self.now }
+        ensures bytes { payload_bytes result ≡ payload_bytes self.now }
+        ensures borrowed { is_owned result ≡ false }
+    {
+        MultilineTextData {
+            source: CowStr::Borrowed(source),
+            cached: self.cached,
         }
     }
 

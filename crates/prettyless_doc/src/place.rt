@@ -16,6 +16,34 @@ pub trait DocPlace<'a>: Sized {
         ensures ok { IfOk result (λ p. Self.Doc.tree p ≡ tree_of Self.Doc.tree doc.entry) }
         ensures err { IfErr result IsMemory };
 
+    /// A pointer of its own to the same tree, or an error where no memory was had.
+    fn clone_ptr(&'a self, pointer: &Self::Doc) -> Result<Self::Doc, BuildError>
+        ensures ok { IfOk result (λ p. Self.Doc.tree p ≡ Self.Doc.tree pointer.now) }
+        ensures err { IfErr result IsMemory };
+
     /// The memory that texts are made in.
     fn memory(&'a self) -> Global;
+}
+
+/// The same place. It is handed on by reference.
+impl<'a, D: DocPlace<'a>> DocPlace<'a> for &'a D {
+    type Doc = D::Doc;
+
+    fn alloc(&'a self, doc: Doc<'a, D::Doc>) -> Result<D::Doc, BuildError>
+        ensures ok { IfOk result (λ p. D.Doc.tree p ≡ tree_of D.Doc.tree doc.entry) }
+        ensures err { IfErr result IsMemory }
+    {
+        (**self).alloc(doc)
+    }
+
+    fn clone_ptr(&'a self, pointer: &D::Doc) -> Result<D::Doc, BuildError>
+        ensures ok { IfOk result (λ p. D.Doc.tree p ≡ D.Doc.tree pointer.now) }
+        ensures err { IfErr result IsMemory }
+    {
+        (**self).clone_ptr(pointer)
+    }
+
+    fn memory(&'a self) -> Global {
+        (**self).memory()
+    }
 }

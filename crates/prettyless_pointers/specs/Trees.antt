@@ -1,8 +1,18 @@
 -- The trees that pointers stand for.
 use Rattle.prettyless_model.specs.Tree.{Tree}
 use Rattle.prettyless_doc.specs.DocTree.{tree_of}
+use Rattle.prettyless_pointers.specs.declared.arena.RefDoc.{RefDoc, fold-RefDoc}
 use Rattle.prettyless_pointers.specs.declared.boxes.BoxDoc.{BoxDoc, fold-BoxDoc}
+use Rattle.prettyless_pointers.specs.declared.counted.RcDoc.{RcDoc, fold-RcDoc}
 
 -- the tree of a boxed document
 abbrev pub box_tree : BoxDoc → Tree
 box_tree = fold-BoxDoc Tree (λ d. tree_of (λ t. t) d.0.value)
+
+-- the tree of a document whose owners are counted
+abbrev pub rc_tree : RcDoc → Tree
+rc_tree = fold-RcDoc Tree (λ d. tree_of (λ t. t) d.0.value)
+
+-- the tree of a document in an arena
+abbrev pub ref_tree : RefDoc → Tree
+ref_tree = fold-RefDoc Tree (λ d. tree_of (λ t. t) d.0.now)

@@ -1,11 +1,12 @@
 ghost use Rattle.std.specs.Prelude.{◌≡◌, IfOk, IfErr};
 ghost use Rattle.prettyless_doc.specs.BuildErrors.{IsMemory};
+ghost use Rattle.prettyless_doc.specs.declared.doc.BuildDoc.TheVariants.{DocPtr as Placed};
 ghost use Rattle.prettyless_doc.specs.DocTree.{tree_of};
 ghost use Rattle.prettyless_pointers.specs.declared.boxes.BoxDoc.{out-BoxDoc};
 ghost use Rattle.prettyless_pointers.specs.Trees.{box_tree};
 
 use crate::children::{Children, into_children};
-use prettyless_doc::{BuildError, Doc, DocPlace, DocPtr};
+use prettyless_doc::{BuildDoc, BuildError, Doc, DocPlace, DocPtr};
 use std::alloc::Global;
 use std::mem;
 
@@ -71,6 +72,15 @@ impl<'a> DocPtr<'a> for BoxDoc<'a> {
     }
 }
 
+/// Itself, as a node that is placed.
+impl<'a> From<BoxDoc<'a>> for BuildDoc<'a, BoxDoc<'a>> {
+    ghost from_gives = { λ p b. b ≡ Placed p };
+
+    fn from(pointer: BoxDoc<'a>) -> BuildDoc<'a, BoxDoc<'a>> {
+        BuildDoc::DocPtr(pointer)
+    }
+}
+
 /// Puts each node into a box of its own.
 #[derive(Clone, Copy)]
 pub struct BoxAllocator {
@@ -92,6 +102,13 @@ impl<'a> DocPlace<'a> for BoxAllocator {
         ensures err { IfErr result IsMemory }
     {
         BoxDoc::new(self.memory, doc)
+    }
+
+    fn clone_ptr(&'a self, pointer: &BoxDoc<'a>) -> Result<BoxDoc<'a>, BuildError>
+        ensures ok { IfOk result (λ p. box_tree p ≡ box_tree pointer.now) }
+        ensures err { IfErr result IsMemory }
+    {
+        pointer.clone(self.memory)
     }
 
     fn memory(&'a self) -> Global {
@@ -120,6 +137,27 @@ mod tests {
         let line = boxes.alloc(Doc::HardLine)?;
         let nested = boxes.alloc(Doc::Nest(2, line))?;
         assert!(rt; matches!(nested.doc(), Doc::Nest(2, _)));
+        Ok(())
+    }
+
+    #[test]
+    fn clones_a_document(rt: HostRuntime) -> Result<(), Fail> {
+        let boxes = BoxAllocator::new(rt.alloc());
+        let line = boxes.alloc(Doc::HardLine)?;
+        let nested = boxes.alloc(Doc::Nest(2, line))?;
+        let copy = boxes.clone_ptr(&nested)?;
+        drop(nested);
+        assert!(rt; matches!(copy.doc(), Doc::Nest(2, _)));
+        Ok(())
+    }
+
+    #[test]
+    fn makes_lines(rt: HostRuntime) -> Result<(), Fail> {
+        let boxes = BoxAllocator::new(rt.alloc());
+        assert!(rt; matches!(Doc::line(&boxes)?, Doc::BreakOrFlat(_, _)));
+        assert!(rt; matches!(Doc::line_(&boxes)?, Doc::BreakOrFlat(_, _)));
+        assert!(rt; matches!(BuildDoc::line(&boxes)?.doc(), Doc::BreakOrFlat(_, _)));
+        assert!(rt; matches!(BuildDoc::line_(&boxes)?.doc(), Doc::BreakOrFlat(_, _)));
         Ok(())
     }
 

@@ -2,7 +2,8 @@
 use Rattle.std.proofs.Common.{◌≡◌, ℕ, suc, ◌+◌, pos, List, [], ◌∷◌, Bool, true, false, cond, refl, length, add-one}
 use Rattle.prettyless.specs.Tree as t
 use Rattle.prettyless.specs.Tree.{Tree, size}
-use Rattle.prettyless.specs.Built.{append, append_to, nest, group, line}
+use Rattle.prettyless.specs.Built.{append, append_to, nest, group}
+use Rattle.prettyless.specs.Lines.{line}
 use Rattle.prettyless.specs.Layout.{State, Outcome, Bytes, Done, Failed, Entry, Breaks, Whole, Cut, after_bytes, and_then, entry, initial, lay, lay_text, breaks, finish, layout_by, layout, probe, nested, lay_ending, next_indent, bytes_of}
 use Rattle.prettyless_sink.specs.declared.options.RenderOptions.{RenderOptions}
 use Rattle.prettyless_sink.specs.declared.options.IndentationPolicy.{IndentationPolicy}

@@ -2,7 +2,8 @@
 use Rattle.std.specs.Prelude.{pos, [], ◌∷◌}
 use Rattle.std.specs.Fmt.{decimal}
 use Rattle.prettyless.specs.Tree.{Tree, Nil, Text}
-use Rattle.prettyless.specs.Built.{append, nest, group, line}
+use Rattle.prettyless.specs.Built.{append, nest, group}
+use Rattle.prettyless.specs.Lines.{line}
 use Rattle.sexp.specs.Value.{Value, Values, number, list, none, first}
 use Rattle.sexp.specs.Grammar.{opening, closing}
 

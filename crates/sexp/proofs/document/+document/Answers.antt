@@ -2,7 +2,8 @@ use Rattle.std.proofs.Common.{◌≡◌, ℕ, ◌+◌, ◌-◌, ◌<◌, List, l
 use Rattle.std.proofs.Math.ListN.{get_or}
 use Rattle.std.proofs.lemmas.List.{drop_more}
 use Rattle.prettyless.specs.Tree.{Tree}
-use Rattle.prettyless.specs.Built.{append, line}
+use Rattle.prettyless.specs.Built.{append}
+use Rattle.prettyless.specs.Lines.{line}
 use Rattle.prettyless.specs.DocTree.{built}
 use Rattle.prettyless.specs.Trees.{box_tree}
 use Rattle.sexp.specs.declared.expression.SExp.{SExp}

@@ -1,0 +1,77 @@
+-- Iterators that are walked on, and trees with nothing between them.
+use Rattle.std.proofs.Common.{◌≡◌, refl, sym, ◌∙◌, ap, true, List, [], ◌∷◌, Option, Some}
+use Rattle.std.specs.Iterator.{Drains}
+use Rattle.std.specs.List.{FoldsTo}
+use Rattle.prettyless_doc.specs.DocTree.{is_nil}
+use Rattle.prettyless_doc.specs.Tree.{Tree, Nil, Fail, Text, TextWithLen, MultilineText, WeakSpace, HardLine, WeakLine, Append, LineSuffix, Nest, DedentToRoot, Align, ExpandParent, Flatten, BreakOrFlat, Group, Union, PartialUnion}
+use Rattle.prettyless_build.specs.Built.{append, appends}
+use Rattle.prettyless_build.specs.Iterated.{GivesNext, appends_after}
+
+module _ {S A : Type 0} (steps : S → Option A → S → Type 0) (it j : S) (x : A) (step : steps it (Some x) j) where
+  -- the next item
+  pub gives_first : (P : A → Type 0) → P x → GivesNext steps it P
+  gives_first P p = ([], x, j, (it, refl, step), p)
+
+  -- a later item
+  pub gives_later : (P : A → Type 0) → GivesNext steps j P → GivesNext steps it P
+  gives_later P h = (x ∷ h.0, h.1, h.2, (h.3.0, (j, step, h.3.1), h.3.2), h.4)
+
+  -- all the items
+  pub drains_later : (xs : List A) → Drains steps j xs → Drains steps it (x ∷ xs)
+  drains_later xs h = (h.0, (h.1.0, (j, step, h.1.1), h.1.2))
+
+-- nothing appended
+append_nothing : (x : Tree) → append x Nil ≡ x
+append_nothing Nil = refl
+append_nothing Fail = refl
+append_nothing (Text a) = refl
+append_nothing (TextWithLen a b) = refl
+append_nothing (MultilineText a) = refl
+append_nothing WeakSpace = refl
+append_nothing HardLine = refl
+append_nothing WeakLine = refl
+append_nothing (Append a b) = refl
+append_nothing (LineSuffix a) = refl
+append_nothing (Nest a b) = refl
+append_nothing (DedentToRoot a) = refl
+append_nothing (Align a) = refl
+append_nothing ExpandParent = refl
+append_nothing (Flatten a) = refl
+append_nothing (BreakOrFlat a b) = refl
+append_nothing (Group a) = refl
+append_nothing (Union a b) = refl
+append_nothing (PartialUnion a b) = refl
+
+-- the tree of which it is said is Nil
+pub nil_from : (x : Tree) → is_nil x ≡ true → x ≡ Nil
+nil_from Nil e = refl
+nil_from Fail e = cc
+nil_from (Text a) e = cc
+nil_from (TextWithLen a b) e = cc
+nil_from (MultilineText a) e = cc
+nil_from WeakSpace e = cc
+nil_from HardLine e = cc
+nil_from WeakLine e = cc
+nil_from (Append a b) e = cc
+nil_from (LineSuffix a) e = cc
+nil_from (Nest a b) e = cc
+nil_from (DedentToRoot a) e = cc
+nil_from (Align a) e = cc
+nil_from ExpandParent e = cc
+nil_from (Flatten a) e = cc
+nil_from (BreakOrFlat a b) e = cc
+nil_from (Group a) e = cc
+nil_from (Union a b) e = cc
+nil_from (PartialUnion a b) e = cc
+
+-- with nothing between them, trees are appended
+pub between_nothing : {A : Type 0} (R : A → Tree → Type 0) (s : Tree) (xs : List A) (a z : Tree) → s ≡ Nil
+    → FoldsTo (appends R) a xs z → FoldsTo (appends_after s R) a xs z
+between_nothing R s [] a z e h = h
+between_nothing R s (x ∷ xs) a z e h =
+    let gone : a ≡ append a s = sym (ap (append a) e ∙ append_nothing a) in
+    (h.0, (h.1.0, h.1.1, h.1.2 ∙ ap (λ (b : Tree). append b h.1.0) gone), between_nothing R s xs h.0 z e h.2)
+
+-- the same, with one tree that is appended first
+pub behind_nothing : (s a b z : Tree) → s ≡ Nil → z ≡ append a b → z ≡ append (append a s) b
+behind_nothing s a b z e h = h ∙ ap (λ (t : Tree). append t b) (sym (ap (append a) e ∙ append_nothing a))

@@ -1,0 +1,209 @@
+ghost use Rattle.std.specs.Prelude.{◌≡◌, ◌<◌, IfOk, IfErr, IsOkAnd};
+ghost use Rattle.std.specs.Cow.{cow_str_bytes};
+ghost use Rattle.prettyless_doc.specs.Tree.{Nil, Fail, Text as TextTree, WeakSpace, HardLine, WeakLine, ExpandParent};
+ghost use Rattle.prettyless_doc.specs.BuildErrors.{IsMemory};
+ghost use Rattle.prettyless_doc.specs.Counted as counted;
+ghost use Rattle.prettyless_doc.specs.DocTree.{built};
+ghost use Rattle.prettyless_doc.specs.Lines as lines;
+ghost use Rattle.prettyless_build.specs.Built as to;
+ghost use Rattle.prettyless_alloc.specs.Words as words;
+
+use crate::spaces::spaces;
+use crate::words::reflow;
+use prettyless_build::{DocBuilder, Pretty};
+use prettyless_doc::text::CowStr;
+use prettyless_doc::{BuildDoc, BuildError, Doc, DocPlace, Text};
+use std::fmt;
+
+/// The documents that every place of nodes can start.
+pub trait DocAllocator<'a>: DocPlace<'a> {
+    /// A pointer to the document: its own where it has one, which takes no memory, and else that of
+    /// a new node, or an error where no memory was had.
+    fn alloc_cow(&'a self, doc: BuildDoc<'a, Self::Doc>) -> Result<Self::Doc, BuildError>
+        ensures ok { IfOk result (λ p. Self.Doc.tree p ≡ built Self.Doc.tree doc.entry) }
+        ensures placed { to.IfPlaced doc.entry (λ p. result ≡ Ok p) }
+        ensures err { IfErr result IsMemory };
+
+    /// Nothing. It takes no memory.
+    fn nil(&'a self) -> Result<DocBuilder<'a, Self>, BuildError>
+        ensures { IsOkAnd result (λ b. built Self.Doc.tree b.1 ≡ Nil) };
+
+    /// A document that fails. It takes no memory.
+    fn fail(&'a self) -> Result<DocBuilder<'a, Self>, BuildError>
+        ensures { IsOkAnd result (λ b. built Self.Doc.tree b.1 ≡ Fail) };
+
+    /// A text that counts as one column a byte, also where it is empty or not ASCII. It takes no
+    /// memory.
+    fn ascii_text(&'a self, text: CowStr<'a>) -> Result<DocBuilder<'a, Self>, BuildError>
+        ensures { IsOkAnd result (λ b. built Self.Doc.tree b.1
+            ≡ TextTree (cow_str_bytes text.entry)) };
+
+    /// A text, written as it is: nothing if it is empty. It counts as its bytes if it is ASCII, and
+    /// else as its display width. It takes no memory.
+    fn text(&'a self, text: CowStr<'a>) -> Result<DocBuilder<'a, Self>, BuildError>
+        ensures { IsOkAnd result (λ b. built Self.Doc.tree b.1
+            ≡ counted.text (cow_str_bytes text.entry)) };
+
+    /// What `{}` shows of the value, also if that is empty. It counts as its bytes if it is ASCII, and
+    /// else as its display width.
+    ///
+    /// It is answered `Memory` where memory was refused, and `Display` where only the value's
+    /// formatting failed.
+    fn as_string<V: fmt::Display + Drop>(
+        &'a self,
+        value: V,
+    ) -> Result<DocBuilder<'a, Self>, BuildError>
+        ensures { IfOk result (λ b. counted.IsStringOf (V.output value)
+            (built Self.Doc.tree b.1)) };
+
+    /// A text whose line breaks, each LF or CR, are written as they are, and are seen by the layout.
+    /// Without one it is as `text` makes it. It takes no memory.
+    fn multiline_text(&'a self, text: CowStr<'a>) -> Result<DocBuilder<'a, Self>, BuildError>
+        ensures { IsOkAnd result (λ b. built Self.Doc.tree b.1
+            ≡ counted.multiline_text (cow_str_bytes text.entry)) };
+
+    /// The pieces of a text between its whitespace, each as `text` makes it, with a `softline` in place
+    /// of each whitespace character. It fails where no memory was had.
+    fn reflow(&'a self, text: &'a str) -> Result<DocBuilder<'a, Self>, BuildError>
+        ensures ok { IfOk result (λ b. built Self.Doc.tree b.1 ≡ words.reflow text.now) }
+        ensures err { IfErr result IsMemory };
+
+    /// A line break. It takes no memory.
+    fn hard_line(&'a self) -> Result<DocBuilder<'a, Self>, BuildError>
+        ensures { IsOkAnd result (λ b. built Self.Doc.tree b.1 ≡ HardLine) };
+
+    /// `hard_line` by another name.
+    fn hardline(&'a self) -> Result<DocBuilder<'a, Self>, BuildError>
+        ensures { IsOkAnd result (λ b. built Self.Doc.tree b.1 ≡ HardLine) };
+
+    /// A line break, which is nothing on a fresh line where no suffix is pending. It takes no memory.
+    fn weak_line(&'a self) -> Result<DocBuilder<'a, Self>, BuildError>
+        ensures { IsOkAnd result (λ b. built Self.Doc.tree b.1 ≡ WeakLine) };
+
+    /// The text of one space. It takes no memory.
+    fn space(&'a self) -> Result<DocBuilder<'a, Self>, BuildError>
+        ensures { IsOkAnd result (λ b. built Self.Doc.tree b.1 ≡ lines.space) };
+
+    /// So many spaces, in texts of at most 100. Up to 100 it takes no memory; beyond that memory can
+    /// fail.
+    fn spaces(&'a self, count: usize) -> Result<DocBuilder<'a, Self>, BuildError>
+        ensures ok { IfOk result (λ b. built Self.Doc.tree b.1 ≡ to.spaces count) }
+        ensures err { IfErr result (λ e. IsMemory e × (100 < count)) };
+
+    /// A space, which is nothing at the start of a line, nor at its end unless a suffix follows
+    /// there. It takes no memory.
+    fn weak_space(&'a self) -> Result<DocBuilder<'a, Self>, BuildError>
+        ensures { IsOkAnd result (λ b. built Self.Doc.tree b.1 ≡ WeakSpace) };
+
+    /// Nothing, but what holds it does not fit a line. It takes no memory.
+    fn expand_parent(&'a self) -> Result<DocBuilder<'a, Self>, BuildError>
+        ensures { IsOkAnd result (λ b. built Self.Doc.tree b.1 ≡ ExpandParent) };
+
+    /// A line break, or one space where lines are flat. It fails where no memory was had.
+    fn line(&'a self) -> Result<DocBuilder<'a, Self>, BuildError>
+        ensures ok { IfOk result (λ b. built Self.Doc.tree b.1 ≡ lines.line) }
+        ensures err { IfErr result IsMemory };
+
+    /// A line break, or nothing where lines are flat. It fails where no memory was had.
+    fn line_(&'a self) -> Result<DocBuilder<'a, Self>, BuildError>
+        ensures ok { IfOk result (λ b. built Self.Doc.tree b.1 ≡ lines.line_) }
+        ensures err { IfErr result IsMemory };
+
+    /// One space, or a line break where the line has no room. It fails where no memory was had.
+    fn softline(&'a self) -> Result<DocBuilder<'a, Self>, BuildError>
+        ensures ok { IfOk result (λ b. built Self.Doc.tree b.1 ≡ to.softline) }
+        ensures err { IfErr result IsMemory };
+
+    /// Nothing, or a line break where the line has no room. It fails where no memory was had.
+    fn softline_(&'a self) -> Result<DocBuilder<'a, Self>, BuildError>
+        ensures ok { IfOk result (λ b. built Self.Doc.tree b.1 ≡ to.softline_) }
+        ensures err { IfErr result IsMemory };
+}
+
+impl<'a, D: DocPlace<'a>> DocAllocator<'a> for D {
+    fn alloc_cow(&'a self, doc: BuildDoc<'a, D::Doc>) -> Result<D::Doc, BuildError>
+        ensures ok { IfOk result (λ p. D.Doc.tree p ≡ built D.Doc.tree doc.entry) }
+        ensures placed { to.IfPlaced doc.entry (λ p. result ≡ Ok p) }
+        ensures err { IfErr result IsMemory }
+    {
+        DocBuilder(self, doc).into_doc()
+    }
+
+    fn nil(&'a self) -> Result<DocBuilder<'a, D>, BuildError> {
+        Ok(DocBuilder::new(self, Doc::Nil))
+    }
+
+    fn fail(&'a self) -> Result<DocBuilder<'a, D>, BuildError> {
+        Ok(DocBuilder::new(self, Doc::Fail))
+    }
+
+    fn ascii_text(&'a self, text: CowStr<'a>) -> Result<DocBuilder<'a, D>, BuildError> {
+        let text = Text::from_cow(self.memory(), text)?;
+        Ok(DocBuilder::new(self, Doc::Text(text)))
+    }
+
+    fn text(&'a self, text: CowStr<'a>) -> Result<DocBuilder<'a, D>, BuildError> {
+        text.pretty(self)
+    }
+
+    fn as_string<V: fmt::Display + Drop>(
+        &'a self,
+        value: V,
+    ) -> Result<DocBuilder<'a, D>, BuildError> {
+        let doc = Doc::as_string(self.memory(), value)?;
+        Ok(DocBuilder::new(self, doc))
+    }
+
+    fn multiline_text(&'a self, text: CowStr<'a>) -> Result<DocBuilder<'a, D>, BuildError> {
+        let doc = Doc::multiline_text(self.memory(), text)?;
+        Ok(DocBuilder::new(self, doc))
+    }
+
+    fn reflow(&'a self, text: &'a str) -> Result<DocBuilder<'a, D>, BuildError> {
+        reflow(self, text)
+    }
+
+    fn hard_line(&'a self) -> Result<DocBuilder<'a, D>, BuildError> {
+        Ok(DocBuilder::new(self, Doc::HardLine))
+    }
+
+    fn hardline(&'a self) -> Result<DocBuilder<'a, D>, BuildError> {
+        self.hard_line()
+    }
+
+    fn weak_line(&'a self) -> Result<DocBuilder<'a, D>, BuildError> {
+        Ok(DocBuilder::new(self, Doc::WeakLine))
+    }
+
+    fn space(&'a self) -> Result<DocBuilder<'a, D>, BuildError> {
+        Ok(DocBuilder::new(self, Doc::space()))
+    }
+
+    fn spaces(&'a self, count: usize) -> Result<DocBuilder<'a, D>, BuildError> {
+        spaces(self, count)
+    }
+
+    fn weak_space(&'a self) -> Result<DocBuilder<'a, D>, BuildError> {
+        Ok(DocBuilder::new(self, Doc::WeakSpace))
+    }
+
+    fn expand_parent(&'a self) -> Result<DocBuilder<'a, D>, BuildError> {
+        Ok(DocBuilder::new(self, Doc::ExpandParent))
+    }
+
+    fn line(&'a self) -> Result<DocBuilder<'a, D>, BuildError> {
+        Ok(DocBuilder::new(self, Doc::line(self)?))
+    }
+
+    fn line_(&'a self) -> Result<DocBuilder<'a, D>, BuildError> {
+        Ok(DocBuilder::new(self, Doc::line_(self)?))
+    }
+
+    fn softline(&'a self) -> Result<DocBuilder<'a, D>, BuildError> {
+        self.line()?.group()
+    }
+
+    fn softline_(&'a self) -> Result<DocBuilder<'a, D>, BuildError> {
+        self.line_()?.group()
+    }
+}

@@ -1,0 +1,58 @@
+//! The calls of an allocator that take a document.
+ghost use Rattle.std.specs.Prelude.{◌≡◌, ◌⊎◌, IfOk, IfErr};
+ghost use Rattle.prettyless_doc.specs.Tree.{Tree, Nil, LineSuffix, BreakOrFlat};
+ghost use Rattle.prettyless_doc.specs.BuildErrors.{IsMemory};
+ghost use Rattle.prettyless_doc.specs.DocTree.{built};
+
+use prettyless_build::DocBuilder;
+use prettyless_build::Pretty;
+use prettyless_doc::{BuildError, Doc, DocPlace};
+
+/// The documents that every place of nodes can make of one of type `P`. The making of that one can
+/// fail, and, but in `pretty`, memory.
+///
+/// `P` stands on the trait and not on its calls, which cannot bind a type to the trait's lifetime.
+/// It follows from the operand: `allocator.line_suffix(doc)` is written without it.
+pub trait DocAllocatorOf<'a, P: Pretty<'a, Self>>: DocPlace<'a> {
+    /// The document that it becomes. Only the making of it can fail.
+    fn pretty(&'a self, doc: P) -> Result<DocBuilder<'a, Self>, BuildError>
+        ensures ok { IfOk result (λ b. P.becomes doc (built Self.Doc.tree b.1)) }
+        ensures err { IfErr result (P.refuses doc) };
+
+    /// The document put off to the end of its line, also where it is nothing.
+    fn line_suffix(&'a self, doc: P) -> Result<DocBuilder<'a, Self>, BuildError>
+        ensures ok { IfOk result (λ b. (y : Tree) × P.becomes doc y
+            × (built Self.Doc.tree b.1 ≡ LineSuffix y)) }
+        ensures err { IfErr result (λ e. P.refuses doc e ⊎ IsMemory e) };
+
+    /// Nothing where lines are broken, and the document where they are flat.
+    fn if_group_flat(&'a self, doc: P) -> Result<DocBuilder<'a, Self>, BuildError>
+        ensures ok { IfOk result (λ b. (y : Tree) × P.becomes doc y
+            × (built Self.Doc.tree b.1 ≡ BreakOrFlat Nil y)) }
+        ensures err { IfErr result (λ e. P.refuses doc e ⊎ IsMemory e) };
+
+    /// The document where lines are broken, and nothing where they are flat.
+    fn if_group_break(&'a self, doc: P) -> Result<DocBuilder<'a, Self>, BuildError>
+        ensures ok { IfOk result (λ b. (y : Tree) × P.becomes doc y
+            × (built Self.Doc.tree b.1 ≡ BreakOrFlat y Nil)) }
+        ensures err { IfErr result (λ e. P.refuses doc e ⊎ IsMemory e) };
+}
+
+impl<'a, D: DocPlace<'a>, P: Pretty<'a, D>> DocAllocatorOf<'a, P> for D {
+    fn pretty(&'a self, doc: P) -> Result<DocBuilder<'a, D>, BuildError> {
+        Pretty::pretty(doc, self)
+    }
+
+    fn line_suffix(&'a self, doc: P) -> Result<DocBuilder<'a, D>, BuildError> {
+        let inner = doc.pretty(self)?.into_doc()?;
+        Ok(DocBuilder::new(self, Doc::LineSuffix(inner)))
+    }
+
+    fn if_group_flat(&'a self, doc: P) -> Result<DocBuilder<'a, D>, BuildError> {
+        doc.pretty(self)?.when_group_flat()
+    }
+
+    fn if_group_break(&'a self, doc: P) -> Result<DocBuilder<'a, D>, BuildError> {
+        doc.pretty(self)?.when_group_break()
+    }
+}

@@ -1,0 +1,102 @@
+//! Documents of all the items of an iterator, with a separator in each gap.
+ghost use Rattle.std.specs.Prelude.{◌≡◌, ◌⊎◌, IfOk, IfErr, List};
+ghost use Rattle.std.specs.Iterator.{IsFinite, IsFiniteIterable, Drains};
+ghost use Rattle.std.specs.List.{FoldsTo};
+ghost use Rattle.prettyless_doc.specs.BuildErrors.{IsMemory};
+ghost use Rattle.prettyless_doc.specs.DocTree.{built};
+ghost use Rattle.prettyless_build.specs.Built.{append};
+ghost use Rattle.prettyless_build.specs.Iterated.{GivesAll, GivesSome, GivesNext, Intersperses, appends_after};
+
+use prettyless_build::DocBuilder;
+use crate::over::append_all;
+use prettyless_build::Pretty;
+use prettyless_doc::{BuildDoc, BuildError, Doc, DocPlace};
+
+/// The documents that every place of nodes can make of the items of an `I` and a separator `S`. The
+/// making of an item or of the separator can fail, and memory.
+///
+/// Both stand on the trait and not on its call, as the parameter of `DocAllocatorOf` does.
+pub trait DocAllocatorBetween<'a, I: IntoIterator, S: Pretty<'a, Self> + Drop>: DocPlace<'a>
+where
+    I::Item: Pretty<'a, Self>,
+{
+    /// The items' documents in order, with the separator in each gap: nothing if there is none. The
+    /// separator becomes a document once, and only where there is a gap.
+    ///
+    /// `docs` has to end, and to be one that can be walked.
+    fn intersperse(&'a self, docs: I, separator: S) -> Result<DocBuilder<'a, Self>, BuildError>
+        requires { IsFiniteIterable I.into_iter_gives I.IntoIter.can_next I.IntoIter.remaining docs }
+        ensures ok { IfOk result (λ b. (xs : List I.Item)
+            × GivesAll I.into_iter_gives I.IntoIter.next_gives docs xs
+            × Intersperses I.Item.becomes (S.becomes separator) xs (built Self.Doc.tree b.1)) }
+        ensures err { IfErr result (λ e. IsMemory e ⊎ S.refuses separator e
+            ⊎ GivesSome I.into_iter_gives I.IntoIter.next_gives docs (λ x. I.Item.refuses x e)) };
+}
+
+impl<'a, D: DocPlace<'a>, I: IntoIterator, S: Pretty<'a, D> + Drop> DocAllocatorBetween<'a, I, S>
+    for D
+where
+    I::Item: Pretty<'a, D>,
+{
+    fn intersperse(&'a self, docs: I, separator: S) -> Result<DocBuilder<'a, D>, BuildError> {
+        let mut items = docs.into_iter();
+        let Some(first) = items.next() else {
+            return Ok(DocBuilder::new(self, Doc::Nil));
+        };
+        let first = first.pretty(self)?;
+        let Some(second) = items.next() else {
+            return Ok(first);
+        };
+        let second = second.pretty(self)?;
+        let separator = separator.pretty(self)?;
+        if separator.doc().is_nil() {
+            return append_all(first.join(second)?, items);
+        }
+        let gap = separator.into_doc()?;
+        append_between(first, gap, second, items)
+    }
+}
+
+// `all`, the gap and `last`, and for each item the gap and its document. The gap itself stands last,
+// behind its copies.
+fn append_between<'a, D: DocPlace<'a>, I: Iterator>(
+    all: DocBuilder<'a, D>,
+    gap: D::Doc,
+    last: DocBuilder<'a, D>,
+    items: I,
+) -> Result<DocBuilder<'a, D>, BuildError>
+where
+    I::Item: Pretty<'a, D>,
+    requires can { I.can_next items }
+    requires ends { IsFinite (I.remaining items) }
+    ensures ok { IfOk result (λ b. (xs : List I.Item) × Drains I.next_gives items xs
+        × FoldsTo (appends_after (D.Doc.tree gap) I.Item.becomes)
+        (append (append (built D.Doc.tree all.entry.1) (D.Doc.tree gap)) (built D.Doc.tree last.entry.1)) xs
+        (built D.Doc.tree b.1)) }
+    ensures err { IfErr result (λ e. IsMemory e ⊎ GivesNext I.next_gives items (λ x. I.Item.refuses x e)) }
+{
+    let allocator = all.0;
+    let mut all = all;
+    let mut last = last;
+    for item in items {
+        let doc = item.pretty(allocator)?;
+        let copy = allocator.clone_ptr(&gap)?;
+        all = join_after(all, copy, last)?;
+        last = doc;
+    }
+    join_after(all, gap, last)
+}
+
+// `all`, the gap and `doc`, one after the other.
+fn join_after<'a, D: DocPlace<'a>>(
+    all: DocBuilder<'a, D>,
+    gap: D::Doc,
+    doc: DocBuilder<'a, D>,
+) -> Result<DocBuilder<'a, D>, BuildError>
+    ensures ok { IfOk result (λ b. built D.Doc.tree b.1
+        ≡ append (append (built D.Doc.tree all.entry.1) (D.Doc.tree gap)) (built D.Doc.tree doc.entry.1)) }
+    ensures err { IfErr result IsMemory }
+{
+    let gap = DocBuilder(all.0, BuildDoc::DocPtr(gap));
+    all.join(gap)?.join(doc)
+}

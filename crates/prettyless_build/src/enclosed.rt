@@ -1,0 +1,99 @@
+//! Documents between two others.
+ghost use Rattle.std.specs.Prelude.{◌≡◌, ◌⊎◌, IfOk, IfErr};
+ghost use Rattle.prettyless_doc.specs.Tree.{Tree, Text as TextTree};
+ghost use Rattle.prettyless_doc.specs.BuildErrors.{IsMemory};
+ghost use Rattle.prettyless_doc.specs.DocTree.{built};
+ghost use Rattle.prettyless_build.specs.Built as to;
+
+use crate::builder::DocBuilder;
+use crate::pretty::Pretty;
+use prettyless_doc::{BuildError, Doc, DocPlace, Text};
+
+impl<'a, D: DocPlace<'a>> DocBuilder<'a, D> {
+    /// `before`, this document and `after`, appended. The making of `before` and `after` can fail, and
+    /// memory where two of the three are something.
+    pub fn enclose<B: Pretty<'a, D>, A: Pretty<'a, D>>(
+        self,
+        before: B,
+        after: A,
+    ) -> Result<Self, BuildError>
+        ensures ok { IfOk result (λ b. (x : Tree) × (y : Tree)
+            × B.becomes before x × A.becomes after y
+            × (built D.Doc.tree b.1 ≡ to.enclose x (built D.Doc.tree self.entry.1) y)) }
+        ensures err { IfErr result (λ e. B.refuses before e ⊎ A.refuses after e ⊎ (IsMemory e
+            × ((x : Tree) × (y : Tree) × B.becomes before x × A.becomes after y
+            × to.IsNodeNeeded x (built D.Doc.tree self.entry.1) y))) }
+    {
+        let allocator = self.0;
+        let before = Pretty::pretty(before, allocator);
+        let after = Pretty::pretty(after, allocator);
+        let (before, after) = (before?, after?);
+        before.join(self)?.join(after)
+    }
+
+    // This document between two texts, each of which counts as its bytes.
+    fn between(self, before: &'a str, after: &'a str) -> Result<Self, BuildError>
+        ensures ok { IfOk result (λ b. built D.Doc.tree b.1 ≡ to.enclose
+            (TextTree before.now) (built D.Doc.tree self.entry.1) (TextTree after.now)) }
+        ensures err { IfErr result IsMemory }
+    {
+        let allocator = self.0;
+        let before = DocBuilder::new(allocator, Doc::Text(Text::Borrowed(before)));
+        let after = DocBuilder::new(allocator, Doc::Text(Text::Borrowed(after)));
+        before.join(self)?.join(after)
+    }
+
+    /// This document between single quotes. It fails where no memory was had.
+    pub fn single_quotes(self) -> Result<Self, BuildError>
+        ensures ok { IfOk result (λ b. built D.Doc.tree b.1
+            ≡ to.between 39 39 (built D.Doc.tree self.entry.1)) }
+        ensures err { IfErr result IsMemory }
+    {
+        self.between("'", "'")
+    }
+
+    /// This document between double quotes. It fails where no memory was had.
+    pub fn double_quotes(self) -> Result<Self, BuildError>
+        ensures ok { IfOk result (λ b. built D.Doc.tree b.1
+            ≡ to.between 34 34 (built D.Doc.tree self.entry.1)) }
+        ensures err { IfErr result IsMemory }
+    {
+        self.between("\"", "\"")
+    }
+
+    /// This document between parentheses. It fails where no memory was had.
+    pub fn parens(self) -> Result<Self, BuildError>
+        ensures ok { IfOk result (λ b. built D.Doc.tree b.1
+            ≡ to.between 40 41 (built D.Doc.tree self.entry.1)) }
+        ensures err { IfErr result IsMemory }
+    {
+        self.between("(", ")")
+    }
+
+    /// This document between angle brackets. It fails where no memory was had.
+    pub fn angles(self) -> Result<Self, BuildError>
+        ensures ok { IfOk result (λ b. built D.Doc.tree b.1
+            ≡ to.between 60 62 (built D.Doc.tree self.entry.1)) }
+        ensures err { IfErr result IsMemory }
+    {
+        self.between("<", ">")
+    }
+
+    /// This document between braces. It fails where no memory was had.
+    pub fn braces(self) -> Result<Self, BuildError>
+        ensures ok { IfOk result (λ b. built D.Doc.tree b.1
+            ≡ to.between 123 125 (built D.Doc.tree self.entry.1)) }
+        ensures err { IfErr result IsMemory }
+    {
+        self.between("{", "}")
+    }
+
+    /// This document between square brackets. It fails where no memory was had.
+    pub fn brackets(self) -> Result<Self, BuildError>
+        ensures ok { IfOk result (λ b. built D.Doc.tree b.1
+            ≡ to.between 91 93 (built D.Doc.tree self.entry.1)) }
+        ensures err { IfErr result IsMemory }
+    {
+        self.between("[", "]")
+    }
+}

@@ -1,0 +1,51 @@
+//! Texts become documents as `text` of an allocator makes them, and take no memory for it.
+ghost use Rattle.std.specs.Prelude.{◌≡◌};
+ghost use Rattle.std.specs.Cow.{cow_str_bytes};
+ghost use Rattle.std.specs.String.{string_bytes};
+ghost use Rattle.prettyless_doc.specs.Counted as counted;
+
+use crate::builder::DocBuilder;
+use crate::pretty::Pretty;
+use prettyless_doc::text::CowStr;
+use prettyless_doc::{BuildError, Doc, DocPlace};
+
+impl<'a, D: DocPlace<'a>> Pretty<'a, D> for CowStr<'a> {
+    ghost becomes = { λ s y. y ≡ counted.text (cow_str_bytes s) };
+
+    ghost refuses = { λ _ _. ⊥ };
+
+    fn pretty(self, allocator: &'a D) -> Result<DocBuilder<'a, D>, BuildError> {
+        let doc = Doc::text(allocator.memory(), self)?;
+        Ok(DocBuilder::new(allocator, doc))
+    }
+}
+
+impl<'a, D: DocPlace<'a>> Pretty<'a, D> for &'a str {
+    ghost becomes = { λ s y. y ≡ counted.text s.now };
+
+    ghost refuses = { λ _ _. ⊥ };
+
+    fn pretty(self, allocator: &'a D) -> Result<DocBuilder<'a, D>, BuildError> {
+        CowStr::Borrowed(self).pretty(allocator)
+    }
+}
+
+impl<'a, D: DocPlace<'a>> Pretty<'a, D> for &'a String {
+    ghost becomes = { λ s y. y ≡ counted.text (string_bytes s.now) };
+
+    ghost refuses = { λ _ _. ⊥ };
+
+    fn pretty(self, allocator: &'a D) -> Result<DocBuilder<'a, D>, BuildError> {
+        CowStr::Borrowed(self.as_str()).pretty(allocator)
+    }
+}
+
+impl<'a, D: DocPlace<'a>> Pretty<'a, D> for String {
+    ghost becomes = { λ s y. y ≡ counted.text (string_bytes s) };
+
+    ghost refuses = { λ _ _. ⊥ };
+
+    fn pretty(self, allocator: &'a D) -> Result<DocBuilder<'a, D>, BuildError> {
+        CowStr::Owned(self).pretty(allocator)
+    }
+}

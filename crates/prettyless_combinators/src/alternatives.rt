@@ -1,0 +1,68 @@
+//! Values that become one of two documents, by the mode or by what fits the line. The making of each
+//! can fail, and memory. Both are made, also where the first failed, since a value that no one takes
+//! cannot be let go.
+ghost use Rattle.std.specs.Prelude.{◌≡◌};
+ghost use Rattle.prettyless_doc.specs.Tree as tree;
+ghost use Rattle.prettyless_doc.specs.Tree.{Tree};
+ghost use Rattle.prettyless_build.specs.Built.{refused};
+
+use prettyless_build::{DocBuilder, Pretty};
+use prettyless_doc::{BuildDoc, BuildError, DocPlace};
+
+/// The first document where all its lines fit, and else the second.
+#[derive(Clone, Debug, Drop)]
+pub struct Union<T, U>(pub(crate) T, pub(crate) U);
+
+impl<'a, D: DocPlace<'a>, T: Pretty<'a, D>, U: Pretty<'a, D>> Pretty<'a, D> for Union<T, U> {
+    ghost becomes = { λ d z. (x : Tree) × (y : Tree) × T.becomes d.0 x × U.becomes d.1 y
+        × (z ≡ tree.Union x y) };
+
+    ghost refuses = { λ d. refused (T.refuses d.0) (U.refuses d.1) };
+
+    fn pretty(self, allocator: &'a D) -> Result<DocBuilder<'a, D>, BuildError> {
+        let Union(first, second) = self;
+        let first = first.pretty(allocator);
+        let second = second.pretty(allocator);
+        first?.union(BuildDoc::from(second?))
+    }
+}
+
+/// The first document where its first line fits, and else the second.
+#[derive(Clone, Debug, Drop)]
+pub struct PartialUnion<T, U>(pub(crate) T, pub(crate) U);
+
+impl<'a, D: DocPlace<'a>, T: Pretty<'a, D>, U: Pretty<'a, D>> Pretty<'a, D> for PartialUnion<T, U> {
+    ghost becomes = { λ d z. (x : Tree) × (y : Tree) × T.becomes d.0 x × U.becomes d.1 y
+        × (z ≡ tree.PartialUnion x y) };
+
+    ghost refuses = { λ d. refused (T.refuses d.0) (U.refuses d.1) };
+
+    fn pretty(self, allocator: &'a D) -> Result<DocBuilder<'a, D>, BuildError> {
+        let PartialUnion(first, second) = self;
+        let first = first.pretty(allocator);
+        let second = second.pretty(allocator);
+        first?.partial_union(BuildDoc::from(second?))
+    }
+}
+
+/// The first document where lines are broken, and the second where they are flat.
+#[derive(Clone, Debug, Drop)]
+pub struct FlatAlt<T, U>(pub(crate) T, pub(crate) U);
+
+impl<'a, D: DocPlace<'a>, T: Pretty<'a, D>, U: Pretty<'a, D>> Pretty<'a, D> for FlatAlt<T, U> {
+    ghost becomes = { λ d z. (x : Tree) × (y : Tree) × T.becomes d.0 x × U.becomes d.1 y
+        × (z ≡ tree.BreakOrFlat x y) };
+
+    ghost refuses = { λ d. refused (T.refuses d.0) (U.refuses d.1) };
+
+    fn pretty(self, allocator: &'a D) -> Result<DocBuilder<'a, D>, BuildError> {
+        let FlatAlt(broken, flat) = self;
+        match broken.pretty(allocator) {
+            Ok(broken) => broken.flat_alt(flat),
+            Err(error) => {
+                let _ = flat.pretty(allocator);
+                Err(error)
+            }
+        }
+    }
+}

@@ -1,0 +1,187 @@
+//! Combinators: values that become documents once there is an allocator. To make one takes no memory.
+#![tactic(auto)]
+
+ghost use Rattle.std.specs.Prelude.{◌≡◌, ◌≤◌, ◌-◌, ◌^◌, pos, neg_ℤ};
+
+mod alternatives;
+mod texts;
+mod tokens;
+pub mod types;
+mod wrappers;
+
+use prettyless_doc::text::CowStr;
+use std::fmt;
+use types::*;
+
+/// Nothing.
+pub fn nil() -> Nil {
+    Nil
+}
+
+/// A document that fails.
+pub fn fail() -> Fail {
+    Fail
+}
+
+/// A line break.
+pub fn hard_line() -> HardLine {
+    HardLine
+}
+
+/// A line break, or nothing where lines are flat.
+pub fn line_or_nil() -> LineOrNil {
+    LineOrNil
+}
+
+/// A line break, or one space where lines are flat.
+pub fn line_or_space() -> LineOrSpace {
+    LineOrSpace
+}
+
+/// Nothing, or a line break where the line has no room.
+pub fn soft_line_or_nil() -> SoftLineOrNil {
+    SoftLineOrNil
+}
+
+/// One space, or a line break where the line has no room.
+pub fn soft_line_or_space() -> SoftLineOrSpace {
+    SoftLineOrSpace
+}
+
+/// A line break, which is nothing on a fresh line where no suffix is pending.
+pub fn weak_line() -> WeakLine {
+    WeakLine
+}
+
+/// The text of one space.
+pub fn space() -> Space {
+    Space
+}
+
+/// A space, which is nothing at the start of a line, nor at its end unless a suffix follows
+/// there.
+pub fn weak_space() -> WeakSpace {
+    WeakSpace
+}
+
+/// Nothing, but what holds it does not fit a line.
+pub fn expand_parent() -> ExpandParent {
+    ExpandParent
+}
+
+/// So many spaces.
+pub fn spaces(count: usize) -> Spaces
+    ensures { result.0 ≡ count }
+{
+    Spaces(count)
+}
+
+/// What `{}` shows of the value, also if that is empty.
+pub fn as_string<T: fmt::Display>(value: T) -> AsString<T>
+    ensures { result.0 ≡ value }
+{
+    AsString(value)
+}
+
+/// A text whose line breaks, each LF or CR, are written as they are, and are seen by the layout.
+pub fn multiline_text<'a>(text: CowStr<'a>) -> MultilineText<'a>
+    ensures { result.0 ≡ text.entry }
+{
+    MultilineText(text)
+}
+
+/// The document with its indent moved by so many columns.
+pub fn nest<T>(offset: isize, doc: T) -> Nest<T>
+    ensures by { result.0 ≡ offset }
+    ensures inner { result.1 ≡ doc }
+{
+    Nest(offset, doc)
+}
+
+/// The document with its indent moved right by so many columns.
+pub fn indent<T>(offset: usize, doc: T) -> Nest<T>
+    requires { offset ≤ 2 ^ 63 - 1 }
+    ensures by { result.0 ≡ pos offset }
+    ensures inner { result.1 ≡ doc }
+{
+    Nest(offset as isize, doc)
+}
+
+/// The document with its indent moved left by so many columns.
+pub fn dedent<T>(offset: usize, doc: T) -> Nest<T>
+    requires { offset ≤ 2 ^ 63 - 1 }
+    ensures by { result.0 ≡ neg_ℤ (pos offset) }
+    ensures inner { result.1 ≡ doc }
+{
+    Nest(-(offset as isize), doc)
+}
+
+/// The document, laid flat where it fits the line, and else broken.
+pub fn group<T>(doc: T) -> Group<T>
+    ensures { result.0 ≡ doc }
+{
+    Group(doc)
+}
+
+/// The document with its indent at the column where it starts.
+pub fn align<T>(doc: T) -> Align<T>
+    ensures { result.0 ≡ doc }
+{
+    Align(doc)
+}
+
+/// The document with indent 0.
+pub fn dedent_to_root<T>(doc: T) -> DedentToRoot<T>
+    ensures { result.0 ≡ doc }
+{
+    DedentToRoot(doc)
+}
+
+/// The document, laid flat.
+pub fn flatten<T>(doc: T) -> Flatten<T>
+    ensures { result.0 ≡ doc }
+{
+    Flatten(doc)
+}
+
+/// The document put off to the end of its line, also where it is nothing.
+pub fn line_suffix<T>(doc: T) -> LineSuffix<T>
+    ensures { result.0 ≡ doc }
+{
+    LineSuffix(doc)
+}
+
+/// The first document where all its lines fit, and else the second.
+pub fn union<T, U>(first: T, second: U) -> Union<T, U>
+    ensures first { result.0 ≡ first }
+    ensures second { result.1 ≡ second }
+{
+    Union(first, second)
+}
+
+/// The first document where its first line fits, and else the second.
+pub fn partial_union<T, U>(first: T, second: U) -> PartialUnion<T, U>
+    ensures first { result.0 ≡ first }
+    ensures second { result.1 ≡ second }
+{
+    PartialUnion(first, second)
+}
+
+/// The first document where lines are broken, and the second where they are flat.
+pub fn flat_alt<T, U>(broken: T, flat: U) -> FlatAlt<T, U>
+    ensures broken { result.0 ≡ broken }
+    ensures flat { result.1 ≡ flat }
+{
+    FlatAlt(broken, flat)
+}
+
+/// So many copies of the document, one after the other.
+pub fn repeat<T>(count: usize, doc: T) -> Repeat<T>
+    ensures count { result.0 ≡ count }
+    ensures inner { result.1 ≡ doc }
+{
+    Repeat(count, doc)
+}
+
+#[cfg(test)]
+mod tests;

@@ -1,0 +1,41 @@
+//! Values that become texts.
+ghost use Rattle.std.specs.Prelude.{◌≡◌, ⊤};
+ghost use Rattle.std.specs.Cow.{cow_str_bytes};
+ghost use Rattle.prettyless_doc.specs.Counted as counted;
+
+use prettyless_alloc::DocAllocator;
+use prettyless_build::{DocBuilder, Pretty};
+use prettyless_doc::text::CowStr;
+use prettyless_doc::{BuildError, DocPlace};
+use std::fmt;
+
+/// What `{}` shows of a value, as `as_string` of an allocator makes it.
+#[derive(Clone, Debug, Drop)]
+pub struct AsString<T>(pub(crate) T);
+
+impl<'a, D: DocPlace<'a>, T: fmt::Display + Drop> Pretty<'a, D> for AsString<T> {
+    ghost becomes = { λ v y. counted.IsStringOf (T.output v.0) y };
+
+    ghost refuses = { λ _ _. ⊤ };
+
+    fn pretty(self, allocator: &'a D) -> Result<DocBuilder<'a, D>, BuildError> {
+        let AsString(value) = self;
+        allocator.as_string(value)
+    }
+}
+
+/// A text whose line breaks are written as they are, as `multiline_text` of an allocator makes it. It
+/// takes no memory.
+#[derive(Debug, Drop)]
+pub struct MultilineText<'a>(pub(crate) CowStr<'a>);
+
+impl<'a, D: DocPlace<'a>> Pretty<'a, D> for MultilineText<'a> {
+    ghost becomes = { λ t y. y ≡ counted.multiline_text (cow_str_bytes t.0) };
+
+    ghost refuses = { λ _ _. ⊥ };
+
+    fn pretty(self, allocator: &'a D) -> Result<DocBuilder<'a, D>, BuildError> {
+        let MultilineText(text) = self;
+        allocator.multiline_text(text)
+    }
+}

@@ -1,0 +1,180 @@
+//! The tokens: small values that become the same document each time.
+ghost use Rattle.std.specs.Prelude.{◌≡◌, ◌<◌};
+ghost use Rattle.prettyless_doc.specs.Tree as tree;
+ghost use Rattle.prettyless_doc.specs.BuildErrors.{IsMemory};
+ghost use Rattle.prettyless_build.specs.Built as to;
+ghost use Rattle.prettyless_doc.specs.Lines as lines;
+
+use prettyless_alloc::DocAllocator;
+use prettyless_build::{DocBuilder, Pretty};
+use prettyless_doc::{BuildError, DocPlace};
+
+/// Nothing. It takes no memory.
+#[derive(Clone, Copy, Debug)]
+pub struct Nil;
+
+impl<'a, D: DocPlace<'a>> Pretty<'a, D> for Nil {
+    ghost becomes = { λ _ y. y ≡ tree.Nil };
+
+    ghost refuses = { λ _ _. ⊥ };
+
+    fn pretty(self, allocator: &'a D) -> Result<DocBuilder<'a, D>, BuildError> {
+        allocator.nil()
+    }
+}
+
+/// A document that fails. It takes no memory.
+#[derive(Clone, Copy, Debug)]
+pub struct Fail;
+
+impl<'a, D: DocPlace<'a>> Pretty<'a, D> for Fail {
+    ghost becomes = { λ _ y. y ≡ tree.Fail };
+
+    ghost refuses = { λ _ _. ⊥ };
+
+    fn pretty(self, allocator: &'a D) -> Result<DocBuilder<'a, D>, BuildError> {
+        allocator.fail()
+    }
+}
+
+/// A line break. It takes no memory.
+#[derive(Clone, Copy, Debug)]
+pub struct HardLine;
+
+impl<'a, D: DocPlace<'a>> Pretty<'a, D> for HardLine {
+    ghost becomes = { λ _ y. y ≡ tree.HardLine };
+
+    ghost refuses = { λ _ _. ⊥ };
+
+    fn pretty(self, allocator: &'a D) -> Result<DocBuilder<'a, D>, BuildError> {
+        allocator.hard_line()
+    }
+}
+
+/// A line break, or nothing where lines are flat. It fails where no memory was had.
+#[derive(Clone, Copy, Debug)]
+pub struct LineOrNil;
+
+impl<'a, D: DocPlace<'a>> Pretty<'a, D> for LineOrNil {
+    ghost becomes = { λ _ y. y ≡ lines.line_ };
+
+    ghost refuses = { λ _. IsMemory };
+
+    fn pretty(self, allocator: &'a D) -> Result<DocBuilder<'a, D>, BuildError> {
+        allocator.line_()
+    }
+}
+
+/// A line break, or one space where lines are flat. It fails where no memory was had.
+#[derive(Clone, Copy, Debug)]
+pub struct LineOrSpace;
+
+impl<'a, D: DocPlace<'a>> Pretty<'a, D> for LineOrSpace {
+    ghost becomes = { λ _ y. y ≡ lines.line };
+
+    ghost refuses = { λ _. IsMemory };
+
+    fn pretty(self, allocator: &'a D) -> Result<DocBuilder<'a, D>, BuildError> {
+        allocator.line()
+    }
+}
+
+/// Nothing, or a line break where the line has no room. It fails where no memory was had.
+#[derive(Clone, Copy, Debug)]
+pub struct SoftLineOrNil;
+
+impl<'a, D: DocPlace<'a>> Pretty<'a, D> for SoftLineOrNil {
+    ghost becomes = { λ _ y. y ≡ to.softline_ };
+
+    ghost refuses = { λ _. IsMemory };
+
+    fn pretty(self, allocator: &'a D) -> Result<DocBuilder<'a, D>, BuildError> {
+        allocator.softline_()
+    }
+}
+
+/// One space, or a line break where the line has no room. It fails where no memory was had.
+#[derive(Clone, Copy, Debug)]
+pub struct SoftLineOrSpace;
+
+impl<'a, D: DocPlace<'a>> Pretty<'a, D> for SoftLineOrSpace {
+    ghost becomes = { λ _ y. y ≡ to.softline };
+
+    ghost refuses = { λ _. IsMemory };
+
+    fn pretty(self, allocator: &'a D) -> Result<DocBuilder<'a, D>, BuildError> {
+        allocator.softline()
+    }
+}
+
+/// A line break, which is nothing on a fresh line where no suffix is pending. It takes no memory.
+#[derive(Clone, Copy, Debug)]
+pub struct WeakLine;
+
+impl<'a, D: DocPlace<'a>> Pretty<'a, D> for WeakLine {
+    ghost becomes = { λ _ y. y ≡ tree.WeakLine };
+
+    ghost refuses = { λ _ _. ⊥ };
+
+    fn pretty(self, allocator: &'a D) -> Result<DocBuilder<'a, D>, BuildError> {
+        allocator.weak_line()
+    }
+}
+
+/// The text of one space. It takes no memory.
+#[derive(Clone, Copy, Debug)]
+pub struct Space;
+
+impl<'a, D: DocPlace<'a>> Pretty<'a, D> for Space {
+    ghost becomes = { λ _ y. y ≡ lines.space };
+
+    ghost refuses = { λ _ _. ⊥ };
+
+    fn pretty(self, allocator: &'a D) -> Result<DocBuilder<'a, D>, BuildError> {
+        allocator.space()
+    }
+}
+
+/// A space, which is nothing at the start of a line, nor at its end unless a suffix follows
+/// there. It takes no memory.
+#[derive(Clone, Copy, Debug)]
+pub struct WeakSpace;
+
+impl<'a, D: DocPlace<'a>> Pretty<'a, D> for WeakSpace {
+    ghost becomes = { λ _ y. y ≡ tree.WeakSpace };
+
+    ghost refuses = { λ _ _. ⊥ };
+
+    fn pretty(self, allocator: &'a D) -> Result<DocBuilder<'a, D>, BuildError> {
+        allocator.weak_space()
+    }
+}
+
+/// Nothing, but what holds it does not fit a line. It takes no memory.
+#[derive(Clone, Copy, Debug)]
+pub struct ExpandParent;
+
+impl<'a, D: DocPlace<'a>> Pretty<'a, D> for ExpandParent {
+    ghost becomes = { λ _ y. y ≡ tree.ExpandParent };
+
+    ghost refuses = { λ _ _. ⊥ };
+
+    fn pretty(self, allocator: &'a D) -> Result<DocBuilder<'a, D>, BuildError> {
+        allocator.expand_parent()
+    }
+}
+
+/// So many spaces, in texts of at most 100. Up to 100 it takes no memory; beyond that memory can
+/// fail.
+#[derive(Clone, Copy, Debug)]
+pub struct Spaces(pub(crate) usize);
+
+impl<'a, D: DocPlace<'a>> Pretty<'a, D> for Spaces {
+    ghost becomes = { λ n y. y ≡ to.spaces n.0 };
+
+    ghost refuses = { λ n e. IsMemory e × (100 < n.0) };
+
+    fn pretty(self, allocator: &'a D) -> Result<DocBuilder<'a, D>, BuildError> {
+        allocator.spaces(self.0)
+    }
+}

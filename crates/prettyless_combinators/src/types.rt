@@ -1,0 +1,9 @@
+//! The types of the combinators.
+
+pub use crate::alternatives::{FlatAlt, PartialUnion, Union};
+pub use crate::texts::{AsString, MultilineText};
+pub use crate::tokens::{
+    ExpandParent, Fail, HardLine, LineOrNil, LineOrSpace, Nil, SoftLineOrNil, SoftLineOrSpace,
+    Space, Spaces, WeakLine, WeakSpace,
+};
+pub use crate::wrappers::{Align, DedentToRoot, Flatten, Group, LineSuffix, Nest, Repeat};

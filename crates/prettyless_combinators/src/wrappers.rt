@@ -1,0 +1,116 @@
+//! Values that become what a builder's call makes of one document. The making of that one can fail,
+//! and memory.
+ghost use Rattle.std.specs.Prelude.{◌≡◌, ◌⊎◌};
+ghost use Rattle.prettyless_doc.specs.Tree as tree;
+ghost use Rattle.prettyless_doc.specs.Tree.{Tree};
+ghost use Rattle.prettyless_doc.specs.BuildErrors.{IsMemory};
+ghost use Rattle.prettyless_build.specs.Built as to;
+
+use prettyless_alloc::DocAllocatorOf;
+use prettyless_build::{DocBuilder, Pretty};
+use prettyless_doc::{BuildError, DocPlace};
+
+/// A document with its indent moved by so many columns.
+#[derive(Clone, Debug, Drop)]
+pub struct Nest<T>(pub(crate) isize, pub(crate) T);
+
+impl<'a, D: DocPlace<'a>, T: Pretty<'a, D>> Pretty<'a, D> for Nest<T> {
+    ghost becomes = { λ n y. (x : Tree) × T.becomes n.1 x × (y ≡ to.nest n.0 x) };
+
+    ghost refuses = { λ n e. T.refuses n.1 e ⊎ IsMemory e };
+
+    fn pretty(self, allocator: &'a D) -> Result<DocBuilder<'a, D>, BuildError> {
+        let Nest(offset, doc) = self;
+        doc.pretty(allocator)?.nest(offset)
+    }
+}
+
+/// So many copies of a document, one after the other.
+#[derive(Clone, Debug, Drop)]
+pub struct Repeat<T>(pub(crate) usize, pub(crate) T);
+
+impl<'a, D: DocPlace<'a>, T: Pretty<'a, D>> Pretty<'a, D> for Repeat<T> {
+    ghost becomes = { λ r y. (x : Tree) × T.becomes r.1 x × (y ≡ to.repeat r.0 x) };
+
+    ghost refuses = { λ r e. T.refuses r.1 e ⊎ IsMemory e };
+
+    fn pretty(self, allocator: &'a D) -> Result<DocBuilder<'a, D>, BuildError> {
+        let Repeat(count, doc) = self;
+        doc.pretty(allocator)?.repeat(count)
+    }
+}
+
+/// A document that is laid flat where it fits the line, and else broken.
+#[derive(Clone, Debug, Drop)]
+pub struct Group<T>(pub(crate) T);
+
+impl<'a, D: DocPlace<'a>, T: Pretty<'a, D>> Pretty<'a, D> for Group<T> {
+    ghost becomes = { λ d y. (x : Tree) × T.becomes d.0 x × (y ≡ to.group x) };
+
+    ghost refuses = { λ d e. T.refuses d.0 e ⊎ IsMemory e };
+
+    fn pretty(self, allocator: &'a D) -> Result<DocBuilder<'a, D>, BuildError> {
+        let Group(doc) = self;
+        doc.pretty(allocator)?.group()
+    }
+}
+
+/// A document with its indent at the column where it starts.
+#[derive(Clone, Debug, Drop)]
+pub struct Align<T>(pub(crate) T);
+
+impl<'a, D: DocPlace<'a>, T: Pretty<'a, D>> Pretty<'a, D> for Align<T> {
+    ghost becomes = { λ d y. (x : Tree) × T.becomes d.0 x × (y ≡ to.align x) };
+
+    ghost refuses = { λ d e. T.refuses d.0 e ⊎ IsMemory e };
+
+    fn pretty(self, allocator: &'a D) -> Result<DocBuilder<'a, D>, BuildError> {
+        let Align(doc) = self;
+        doc.pretty(allocator)?.align()
+    }
+}
+
+/// A document with indent 0.
+#[derive(Clone, Debug, Drop)]
+pub struct DedentToRoot<T>(pub(crate) T);
+
+impl<'a, D: DocPlace<'a>, T: Pretty<'a, D>> Pretty<'a, D> for DedentToRoot<T> {
+    ghost becomes = { λ d y. (x : Tree) × T.becomes d.0 x × (y ≡ to.dedent_to_root x) };
+
+    ghost refuses = { λ d e. T.refuses d.0 e ⊎ IsMemory e };
+
+    fn pretty(self, allocator: &'a D) -> Result<DocBuilder<'a, D>, BuildError> {
+        let DedentToRoot(doc) = self;
+        doc.pretty(allocator)?.dedent_to_root()
+    }
+}
+
+/// A document that is laid flat.
+#[derive(Clone, Debug, Drop)]
+pub struct Flatten<T>(pub(crate) T);
+
+impl<'a, D: DocPlace<'a>, T: Pretty<'a, D>> Pretty<'a, D> for Flatten<T> {
+    ghost becomes = { λ d y. (x : Tree) × T.becomes d.0 x × (y ≡ to.flatten x) };
+
+    ghost refuses = { λ d e. T.refuses d.0 e ⊎ IsMemory e };
+
+    fn pretty(self, allocator: &'a D) -> Result<DocBuilder<'a, D>, BuildError> {
+        let Flatten(doc) = self;
+        doc.pretty(allocator)?.flatten()
+    }
+}
+
+/// A document that is put off to the end of its line.
+#[derive(Clone, Debug, Drop)]
+pub struct LineSuffix<T>(pub(crate) T);
+
+impl<'a, D: DocPlace<'a>, T: Pretty<'a, D>> Pretty<'a, D> for LineSuffix<T> {
+    ghost becomes = { λ d y. (x : Tree) × T.becomes d.0 x × (y ≡ tree.LineSuffix x) };
+
+    ghost refuses = { λ d e. T.refuses d.0 e ⊎ IsMemory e };
+
+    fn pretty(self, allocator: &'a D) -> Result<DocBuilder<'a, D>, BuildError> {
+        let LineSuffix(doc) = self;
+        allocator.line_suffix(doc)
+    }
+}

@@ -1,0 +1,198 @@
+//! Documents of one node, or of few.
+ghost use Rattle.std.specs.Prelude.{◌≡◌, IfOk, IfErr, IsOkAnd};
+ghost use Rattle.std.specs.Cow.{cow_str_bytes};
+ghost use Rattle.prettyless_doc.specs.BuildErrors.{IsMemory};
+ghost use Rattle.prettyless_doc.specs.Counted as to;
+ghost use Rattle.prettyless_doc.specs.DocTree.{tree_of, built};
+ghost use Rattle.prettyless_doc.specs.Lines.{space, line, line_};
+ghost use Rattle.prettyless_doc.specs.Tree as tree;
+
+use crate::doc::{BuildDoc, Doc, DocPtr};
+use crate::place::DocPlace;
+use crate::text::{BuildError, CowStr, Text};
+use std::alloc::Global;
+use std::fmt;
+
+impl<'a, T: DocPtr<'a>> Doc<'a, T> {
+    /// Nothing.
+    pub fn nil() -> Self
+        ensures { tree_of T.tree result ≡ tree.Nil }
+    {
+        Doc::Nil
+    }
+
+    /// A document that fails.
+    pub fn fail() -> Self
+        ensures { tree_of T.tree result ≡ tree.Fail }
+    {
+        Doc::Fail
+    }
+
+    /// A line break.
+    pub fn hard_line() -> Self
+        ensures { tree_of T.tree result ≡ tree.HardLine }
+    {
+        Doc::HardLine
+    }
+
+    /// `hard_line` by another name.
+    pub fn hardline() -> Self
+        ensures { tree_of T.tree result ≡ tree.HardLine }
+    {
+        Doc::hard_line()
+    }
+
+    /// A line break, which is nothing on a fresh line where no suffix is pending.
+    pub fn weak_line() -> Self
+        ensures { tree_of T.tree result ≡ tree.WeakLine }
+    {
+        Doc::WeakLine
+    }
+
+    /// The text of one space.
+    pub fn space() -> Self
+        ensures { tree_of T.tree result ≡ space }
+    {
+        Doc::Text(Text::Borrowed(" "))
+    }
+
+    /// A space, which is nothing at the start of a line, nor at its end unless a suffix follows there.
+    pub fn weak_space() -> Self
+        ensures { tree_of T.tree result ≡ tree.WeakSpace }
+    {
+        Doc::WeakSpace
+    }
+
+    /// Nothing, but what holds it does not fit a line.
+    pub fn expand_parent() -> Self
+        ensures { tree_of T.tree result ≡ tree.ExpandParent }
+    {
+        Doc::ExpandParent
+    }
+}
+
+impl<'a, T> Doc<'a, T> {
+    /// A line break, or one space where lines are flat. It fails where no memory was had.
+    pub fn line<D: DocPlace<'a, Doc = T>>(place: &'a D) -> Result<Self, BuildError>
+        ensures ok { IfOk result (λ d. tree_of T.tree d ≡ line) }
+        ensures err { IfErr result IsMemory }
+    {
+        let broken = place.alloc(Doc::HardLine)?;
+        let flat = place.alloc(Doc::Text(Text::Borrowed(" ")))?;
+        Ok(Doc::BreakOrFlat(broken, flat))
+    }
+
+    /// A line break, or nothing where lines are flat. It fails where no memory was had.
+    pub fn line_<D: DocPlace<'a, Doc = T>>(place: &'a D) -> Result<Self, BuildError>
+        ensures ok { IfOk result (λ d. tree_of T.tree d ≡ line_) }
+        ensures err { IfErr result IsMemory }
+    {
+        let broken = place.alloc(Doc::HardLine)?;
+        let flat = place.alloc(Doc::Nil)?;
+        Ok(Doc::BreakOrFlat(broken, flat))
+    }
+}
+
+impl<'a, D: DocPtr<'a>> BuildDoc<'a, D> {
+    /// Nothing.
+    pub fn nil() -> Self
+        ensures { built D.tree result ≡ tree.Nil }
+    {
+        BuildDoc::Doc(Doc::nil())
+    }
+
+    /// A document that fails.
+    pub fn fail() -> Self
+        ensures { built D.tree result ≡ tree.Fail }
+    {
+        BuildDoc::Doc(Doc::fail())
+    }
+
+    /// A line break.
+    pub fn hard_line() -> Self
+        ensures { built D.tree result ≡ tree.HardLine }
+    {
+        BuildDoc::Doc(Doc::hard_line())
+    }
+
+    /// `hard_line` by another name.
+    pub fn hardline() -> Self
+        ensures { built D.tree result ≡ tree.HardLine }
+    {
+        BuildDoc::Doc(Doc::hardline())
+    }
+
+    /// A line break, which is nothing on a fresh line where no suffix is pending.
+    pub fn weak_line() -> Self
+        ensures { built D.tree result ≡ tree.WeakLine }
+    {
+        BuildDoc::Doc(Doc::weak_line())
+    }
+
+    /// The text of one space.
+    pub fn space() -> Self
+        ensures { built D.tree result ≡ space }
+    {
+        BuildDoc::Doc(Doc::space())
+    }
+
+    /// A space, which is nothing at the start of a line, nor at its end unless a suffix follows there.
+    pub fn weak_space() -> Self
+        ensures { built D.tree result ≡ tree.WeakSpace }
+    {
+        BuildDoc::Doc(Doc::weak_space())
+    }
+
+    /// Nothing, but what holds it does not fit a line.
+    pub fn expand_parent() -> Self
+        ensures { built D.tree result ≡ tree.ExpandParent }
+    {
+        BuildDoc::Doc(Doc::expand_parent())
+    }
+
+    /// A text, written as it is: nothing if it is empty. It counts as its bytes if it is ASCII, and
+    /// else as its display width. It takes no memory.
+    pub fn text(alloc: Global, text: CowStr<'a>) -> Result<Self, BuildError>
+        ensures { IsOkAnd result (λ d. built D.tree d ≡ to.text (cow_str_bytes text.entry)) }
+    {
+        Ok(BuildDoc::Doc(Doc::text(alloc, text)?))
+    }
+
+    /// What `{}` shows of the value, also if that is empty. It counts as its bytes if it is ASCII, and
+    /// else as its display width.
+    ///
+    /// It is answered `Memory` where memory was refused, and `Display` where only the value's
+    /// formatting failed.
+    pub fn as_string<V: fmt::Display + Drop>(alloc: Global, value: V) -> Result<Self, BuildError>
+        ensures { IfOk result (λ d. to.IsStringOf (V.output value) (built D.tree d)) }
+    {
+        Ok(BuildDoc::Doc(Doc::as_string(alloc, value)?))
+    }
+
+    /// A text whose line breaks, each LF or CR, are written as they are, and are seen by the layout.
+    /// Without one it is as `text` makes it. It takes no memory.
+    pub fn multiline_text(alloc: Global, text: CowStr<'a>) -> Result<Self, BuildError>
+        ensures { IsOkAnd result (λ d. built D.tree d
+            ≡ to.multiline_text (cow_str_bytes text.entry)) }
+    {
+        Ok(BuildDoc::Doc(Doc::multiline_text(alloc, text)?))
+    }
+}
+
+impl<'a, T> BuildDoc<'a, T> {
+    /// A line break, or one space where lines are flat. It fails where no memory was had.
+    pub fn line<D: DocPlace<'a, Doc = T>>(place: &'a D) -> Result<Self, BuildError>
+        ensures ok { IfOk result (λ d. built T.tree d ≡ line) }
+        ensures err { IfErr result IsMemory }
+    {
+        Ok(BuildDoc::Doc(Doc::line(place)?))
+    }
+
+    /// A line break, or nothing where lines are flat. It fails where no memory was had.
+    pub fn line_<D: DocPlace<'a, Doc = T>>(place: &'a D) -> Result<Self, BuildError>
+        ensures ok { IfOk result (λ d. built T.tree d ≡ line_) }
+        ensures err { IfErr result IsMemory }
+    {
+        Ok(BuildDoc::Doc(Doc::line_(place)?))
+    }
+}

@@ -1,0 +1,169 @@
+//! Documents in an arena, whose nodes are given up all at once.
+ghost use Rattle.std.specs.Prelude.{◌≡◌, false, IfOk, IfErr, Ok};
+ghost use Rattle.prettyless_doc.specs.BuildErrors.{IsMemory};
+ghost use Rattle.prettyless_doc.specs.declared.doc.BuildDoc.TheVariants.{DocPtr as Placed};
+ghost use Rattle.prettyless_doc.specs.DocTree.{tree_of, built, holds_memory};
+ghost use Rattle.prettyless_doc.specs.Payload as source;
+ghost use Rattle.prettyless_doc.specs.Payload.{payload_bytes};
+ghost use Rattle.prettyless_doc.specs.TextBytes.{bytes_of, is_owned};
+ghost use Rattle.prettyless_build.specs.Built.{IfPlaced};
+ghost use Rattle.prettyless_pointers.specs.declared.arena.RefDoc.{out-RefDoc};
+ghost use Rattle.prettyless_pointers.specs.Trees.{ref_tree};
+
+use bumpalo::Bump;
+use prettyless_build::{DocBuilder, Pretty};
+use prettyless_doc::text::MultilineTextData;
+use prettyless_doc::{BuildDoc, BuildError, Doc, DocPlace, DocPtr, Text};
+use std::alloc::Global;
+use std::cell::Cell;
+
+/// A pointer to a node in an arena.
+#[derive(Clone, Copy)]
+pub struct RefDoc<'a>(pub &'a Doc<'a, RefDoc<'a>>);
+
+impl<'a> DocPtr<'a> for RefDoc<'a> {
+    ghost tree = { ref_tree };
+
+    fn doc(&self) -> &Doc<'a, RefDoc<'a>> {
+        self.0
+    }
+}
+
+/// Itself, as a node that is placed.
+impl<'a> From<RefDoc<'a>> for BuildDoc<'a, RefDoc<'a>> {
+    ghost from_gives = { λ p b. b ≡ Placed p };
+
+    fn from(pointer: RefDoc<'a>) -> BuildDoc<'a, RefDoc<'a>> {
+        BuildDoc::DocPtr(pointer)
+    }
+}
+
+/// Itself. It takes no memory.
+impl<'a> Pretty<'a, Arena<'a>> for RefDoc<'a> {
+    ghost becomes = { λ d y. y ≡ ref_tree d };
+
+    ghost refuses = { λ _ _. ⊥ };
+
+    fn pretty(self, allocator: &'a Arena<'a>) -> Result<DocBuilder<'a, Arena<'a>>, BuildError> {
+        Ok(DocBuilder(allocator, BuildDoc::DocPtr(self)))
+    }
+}
+
+/// What ends in a pointer to a node in an arena. A trait, as the builder is of a crate below.
+pub trait IntoRef<'a> {
+    /// The pointer, or an error where no memory was had.
+    fn into_ref(self) -> Result<RefDoc<'a>, BuildError>;
+}
+
+impl<'a> IntoRef<'a> for DocBuilder<'a, Arena<'a>> {
+    /// A pointer to the document: its own where it has one, which takes no memory, and else that of a new node, or an
+    /// error where no memory was had.
+    fn into_ref(self) -> Result<RefDoc<'a>, BuildError>
+        ensures ok { IfOk result (λ p. ref_tree p ≡ built ref_tree self.entry.1) }
+        ensures placed { IfPlaced self.entry.1 (λ p. result ≡ Ok p) }
+        ensures err { IfErr result IsMemory }
+    {
+        self.into_doc()
+    }
+}
+
+/// Puts nodes into a `Bump`, which its caller keeps and which gives them up all at once. Dropping an arena walks no
+/// document.
+#[derive(Drop)]
+pub struct Arena<'a> {
+    memory: Global,
+    bump: &'a Bump,
+    placed: Cell<usize>,
+}
+
+impl<'a> Arena<'a> {
+    /// Nodes, and the owned texts in them, will stand in `bump`. A text is first made in memory from `alloc`.
+    pub fn new(alloc: Global, bump: &'a Bump) -> Self {
+        Arena {
+            memory: alloc,
+            bump,
+            placed: Cell::new(0),
+        }
+    }
+
+    /// How many nodes this arena has placed.
+    pub fn len(&self) -> usize {
+        self.placed.get()
+    }
+
+    /// Whether it has placed none.
+    pub fn is_empty(&self) -> bool {
+        self.len() == 0
+    }
+}
+
+// An owned text is copied, since nothing in the arena is ever dropped.
+fn settle_text<'a>(bump: &'a Bump, text: Text<'a>) -> Result<Text<'a>, BuildError>
+    ensures same { IfOk result (λ t. bytes_of t ≡ bytes_of text.entry) }
+    ensures settled { IfOk result (λ t. is_owned t ≡ false) }
+    ensures err { IfErr result IsMemory }
+{
+    match text {
+        Text::Owned(s) => Ok(Text::Borrowed(bump.try_alloc_str(s.as_str())?)),
+        Text::Borrowed(s) => Ok(Text::Borrowed(s)),
+        Text::Small(s) => Ok(Text::Small(s)),
+    }
+}
+
+// So is the source of a payload, and keeps its metrics.
+fn settle_payload<'a>(
+    bump: &'a Bump,
+    payload: MultilineTextData<'a>,
+) -> Result<MultilineTextData<'a>, BuildError>
+    ensures same { IfOk result (λ p. payload_bytes p ≡ payload_bytes payload.entry) }
+    ensures settled { IfOk result (λ p. source.is_owned p ≡ false) }
+    ensures err { IfErr result IsMemory }
+{
+    if !payload.is_owned() {
+        return Ok(payload);
+    }
+    let source = bump.try_alloc_str(payload.as_str())?;
+    Ok(payload.over(source))
+}
+
+fn settle<'a>(bump: &'a Bump, doc: Doc<'a, RefDoc<'a>>) -> Result<Doc<'a, RefDoc<'a>>, BuildError>
+    ensures same { IfOk result (λ d. tree_of ref_tree d ≡ tree_of ref_tree doc.entry) }
+    ensures settled { IfOk result (λ d. holds_memory d ≡ false) }
+    ensures err { IfErr result IsMemory }
+{
+    Ok(match doc {
+        Doc::Text(text) => Doc::Text(settle_text(bump, text)?),
+        Doc::TextWithLen(width, text) => Doc::TextWithLen(width, settle_text(bump, text)?),
+        Doc::MultilineText(payload) => Doc::MultilineText(settle_payload(bump, payload)?),
+        other => other,
+    })
+}
+
+impl<'a> DocPlace<'a> for Arena<'a> {
+    type Doc = RefDoc<'a>;
+
+    /// Puts a node into the arena, with a copy of its text where it has memory of its own, so that no node in the arena
+    /// holds a box.
+    fn alloc(&'a self, doc: Doc<'a, RefDoc<'a>>) -> Result<RefDoc<'a>, BuildError>
+        ensures ok { IfOk result (λ p. ref_tree p ≡ tree_of ref_tree doc.entry) }
+        ensures settled { IfOk result (λ p. holds_memory (out-RefDoc p).0.now ≡ false) }
+        ensures err { IfErr result IsMemory }
+    {
+        let bump: &'a Bump = self.bump;
+        let doc = settle(bump, doc)?;
+        let node: &'a Doc<'a, RefDoc<'a>> = bump.try_alloc(doc)?;
+        self.placed.set(self.placed.get().saturating_add(1));
+        Ok(RefDoc(node))
+    }
+
+    fn clone_ptr(&'a self, pointer: &RefDoc<'a>) -> Result<RefDoc<'a>, BuildError>
+        ensures ok { IfOk result (λ p. ref_tree p ≡ ref_tree pointer.now) }
+        ensures err { IfErr result IsMemory }
+    {
+        Ok(*pointer)
+    }
+
+    fn memory(&'a self) -> Global {
+        self.memory
+    }
+}

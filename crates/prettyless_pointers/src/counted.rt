@@ -1,0 +1,110 @@
+ghost use Rattle.std.specs.Prelude.{◌≡◌, IfOk, IfErr};
+ghost use Rattle.prettyless_doc.specs.BuildErrors.{IsMemory};
+ghost use Rattle.prettyless_doc.specs.declared.doc.BuildDoc.TheVariants.{DocPtr as Placed};
+ghost use Rattle.prettyless_doc.specs.DocTree.{tree_of};
+ghost use Rattle.prettyless_pointers.specs.Trees.{rc_tree};
+
+use prettyless_doc::{BuildDoc, BuildError, Doc, DocPlace, DocPtr};
+use std::alloc::Global;
+use std::rc::Rc;
+
+/// A pointer that owns its node together with its clones. The last of them gives it up.
+#[derive(Drop)]
+pub struct RcDoc<'a>(Rc<Doc<'a, RcDoc<'a>>>);
+
+impl<'a> RcDoc<'a> {
+    /// Places a node: the same tree, or an error where no memory was had, and the node is then given up.
+    pub fn new(alloc: Global, doc: Doc<'a, RcDoc<'a>>) -> Result<Self, BuildError>
+        ensures ok { IfOk result (λ p. rc_tree p ≡ tree_of rc_tree doc.entry) }
+        ensures err { IfErr result IsMemory }
+    {
+        Ok(RcDoc(Rc::new(alloc, doc)?))
+    }
+
+    /// Another pointer to the same node. It places none, and fails only where the node has as many owners as can be
+    /// counted.
+    pub fn clone(&self) -> Result<Self, BuildError>
+        ensures ok { IfOk result (λ p. rc_tree p ≡ rc_tree self.now) }
+        ensures err { IfErr result IsMemory }
+    {
+        Ok(RcDoc(self.0.clone()?))
+    }
+}
+
+impl<'a> DocPtr<'a> for RcDoc<'a> {
+    ghost tree = { rc_tree };
+
+    fn doc(&self) -> &Doc<'a, RcDoc<'a>> {
+        self.0.as_ref()
+    }
+}
+
+/// Itself, as a node that is placed.
+impl<'a> From<RcDoc<'a>> for BuildDoc<'a, RcDoc<'a>> {
+    ghost from_gives = { λ p b. b ≡ Placed p };
+
+    fn from(pointer: RcDoc<'a>) -> BuildDoc<'a, RcDoc<'a>> {
+        BuildDoc::DocPtr(pointer)
+    }
+}
+
+/// Puts each node where its pointers count its owners.
+#[derive(Clone, Copy)]
+pub struct RcAllocator {
+    memory: Global,
+}
+
+impl RcAllocator {
+    /// Nodes and texts will take their memory from `alloc`.
+    pub fn new(alloc: Global) -> Self {
+        RcAllocator { memory: alloc }
+    }
+}
+
+impl<'a> DocPlace<'a> for RcAllocator {
+    type Doc = RcDoc<'a>;
+
+    fn alloc(&'a self, doc: Doc<'a, RcDoc<'a>>) -> Result<RcDoc<'a>, BuildError>
+        ensures ok { IfOk result (λ p. rc_tree p ≡ tree_of rc_tree doc.entry) }
+        ensures err { IfErr result IsMemory }
+    {
+        RcDoc::new(self.memory, doc)
+    }
+
+    fn clone_ptr(&'a self, pointer: &RcDoc<'a>) -> Result<RcDoc<'a>, BuildError>
+        ensures ok { IfOk result (λ p. rc_tree p ≡ rc_tree pointer.now) }
+        ensures err { IfErr result IsMemory }
+    {
+        pointer.clone()
+    }
+
+    fn memory(&'a self) -> Global {
+        self.memory
+    }
+}
+
+#[cfg(test)]
+mod tests {
+    use super::*;
+    use std::test::Fail;
+
+    #[test]
+    fn outlives_its_first_owner(rt: HostRuntime) -> Result<(), Fail> {
+        let counted = RcAllocator::new(rt.alloc());
+        let line = counted.alloc(Doc::HardLine)?;
+        let first = counted.alloc(Doc::Nest(2, line))?;
+        let second = counted.clone_ptr(&first)?;
+        drop(first);
+        assert!(rt; matches!(second.doc(), Doc::Nest(2, _)));
+        Ok(())
+    }
+
+    #[test]
+    fn clones_a_node(rt: HostRuntime) -> Result<(), Fail> {
+        let line = RcDoc::new(rt.alloc(), Doc::HardLine)?;
+        let copy = line.clone()?;
+        drop(line);
+        assert!(rt; matches!(copy.doc(), Doc::HardLine));
+        Ok(())
+    }
+}
