@@ -4,8 +4,7 @@ ghost use Rattle.prettyless_doc.specs.Tree.{Tree, Nil, LineSuffix, BreakOrFlat};
 ghost use Rattle.prettyless_doc.specs.BuildErrors.{IsMemory};
 ghost use Rattle.prettyless_doc.specs.DocTree.{built};
 
-use prettyless_build::DocBuilder;
-use prettyless_build::Pretty;
+use prettyless_build::{DocBuilder, Pretty};
 use prettyless_doc::{BuildError, Doc, DocPlace};
 
 /// The documents that every place of nodes can make of one of type `P`. The making of that one can

@@ -7,9 +7,8 @@ ghost use Rattle.prettyless_doc.specs.DocTree.{built};
 ghost use Rattle.prettyless_build.specs.Built.{append};
 ghost use Rattle.prettyless_build.specs.Iterated.{GivesAll, GivesSome, GivesNext, Intersperses, appends_after};
 
-use prettyless_build::DocBuilder;
 use crate::over::append_all;
-use prettyless_build::Pretty;
+use prettyless_build::{DocBuilder, Pretty};
 use prettyless_doc::{BuildDoc, BuildError, Doc, DocPlace};
 
 /// The documents that every place of nodes can make of the items of an `I` and a separator `S`. The

@@ -7,8 +7,7 @@ ghost use Rattle.prettyless_doc.specs.DocTree.{built};
 ghost use Rattle.prettyless_build.specs.Built.{appends};
 ghost use Rattle.prettyless_build.specs.Iterated.{GivesAll, GivesSome, GivesNext, Concatenates};
 
-use prettyless_build::DocBuilder;
-use prettyless_build::Pretty;
+use prettyless_build::{DocBuilder, Pretty};
 use prettyless_doc::{BuildError, Doc, DocPlace};
 
 /// The documents that every place of nodes can make of the items of an `I`. The making of an item

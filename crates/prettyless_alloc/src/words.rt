@@ -7,8 +7,7 @@ ghost use Rattle.prettyless_alloc.specs.Words as words;
 
 use crate::allocator::DocAllocator;
 use crate::between::DocAllocatorBetween;
-use prettyless_build::DocBuilder;
-use prettyless_build::Pretty;
+use prettyless_build::{DocBuilder, Pretty};
 use prettyless_doc::{BuildError, DocPlace};
 
 // `softline`, made only where there is a gap.
