@@ -213,11 +213,13 @@ impl<'a, D: DocPlace<'a, Doc = T>, T: DocPtr<'a>> PlacedDoc<'a, D> for T {
 ///
 /// `P` stands on the trait and not on its calls, as the parameter of `DocAllocatorOf` does.
 pub trait PlacedDocOf<'a, D: DocPlace<'a, Doc = Self>, P: Pretty<'a, D>>: DocPtr<'a> {
-    /// This document, then `that`. Where one of them is nothing it is the other.
+    /// This document, then `that`. Where this one is nothing it is `that`. Where `that` is nothing it
+    /// stays as it is, which takes no memory.
     fn append(self, place: &'a D, that: P) -> Result<Self, BuildError>
         ensures ok { IfOk result (λ p. (y : Tree) × P.becomes that y
             × (Self.tree p ≡ to.append (Self.tree self) y)) }
-        ensures err { IfErr result (λ e. P.refuses that e ⊎ IsMemory e) };
+        ensures err { IfErr result (λ e. P.refuses that e ⊎ (IsMemory e
+            × ((y : Tree) × P.becomes that y × to.IsNotNil y))) };
 
     /// This document where lines are broken, and `that` where they are flat.
     fn flat_alt(self, place: &'a D, that: P) -> Result<Self, BuildError>
@@ -228,8 +230,12 @@ pub trait PlacedDocOf<'a, D: DocPlace<'a, Doc = Self>, P: Pretty<'a, D>>: DocPtr
 
 impl<'a, D: DocPlace<'a, Doc = T>, P: Pretty<'a, D>, T: DocPtr<'a>> PlacedDocOf<'a, D, P> for T {
     fn append(self, place: &'a D, that: P) -> Result<T, BuildError> {
+        let that = that.pretty(place)?;
+        if that.doc().is_nil() {
+            return Ok(self);
+        }
         DocBuilder(place, BuildDoc::DocPtr(self))
-            .append(that)?
+            .join(that)?
             .into_doc()
     }
 
