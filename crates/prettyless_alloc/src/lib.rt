@@ -5,6 +5,7 @@ pub mod allocator;
 pub mod allocator_of;
 pub mod between;
 pub mod over;
+pub mod placed;
 mod spaces;
 mod words;
 
@@ -12,3 +13,4 @@ pub use allocator::DocAllocator;
 pub use allocator_of::DocAllocatorOf;
 pub use between::DocAllocatorBetween;
 pub use over::DocAllocatorOver;
+pub use placed::{PlacedDoc, PlacedDocBetween, PlacedDocOf, PlacedDocOver};

@@ -1,0 +1,312 @@
+//! The constructors of pointers: each document has its place at once.
+ghost use Rattle.std.specs.Prelude.{◌≡◌, ◌⊎◌, IfOk, IfErr, IsTrue, List};
+ghost use Rattle.std.specs.Cow.{cow_str_bytes};
+ghost use Rattle.std.specs.Iterator.{IsFiniteIterable};
+ghost use Rattle.prettyless_doc.specs.Tree.{Tree, Nil, Fail, WeakSpace, HardLine, WeakLine, ExpandParent, BreakOrFlat, Union};
+ghost use Rattle.prettyless_doc.specs.BuildErrors.{IsMemory};
+ghost use Rattle.prettyless_doc.specs.Counted as counted;
+ghost use Rattle.prettyless_doc.specs.DocTree.{built};
+ghost use Rattle.prettyless_doc.specs.Lines as lines;
+ghost use Rattle.prettyless_build.specs.Built as to;
+ghost use Rattle.prettyless_build.specs.Iterated.{GivesAll, GivesSome, Concatenates, Intersperses};
+
+use crate::allocator::DocAllocator;
+use crate::between::DocAllocatorBetween;
+use crate::over::DocAllocatorOver;
+use prettyless_build::{DocBuilder, Pretty};
+use prettyless_doc::text::CowStr;
+use prettyless_doc::{BuildDoc, BuildError, DocPlace, DocPtr};
+use std::fmt;
+
+/// The calls of every pointer to the nodes of a `D`. Each places what it makes, and fails where no
+/// memory was had.
+pub trait PlacedDoc<'a, D: DocPlace<'a, Doc = Self>>: DocPtr<'a> {
+    /// Nothing.
+    fn nil(place: &'a D) -> Result<Self, BuildError>
+        ensures ok { IfOk result (λ p. Self.tree p ≡ Nil) }
+        ensures err { IfErr result IsMemory };
+
+    /// A document that fails.
+    fn fail(place: &'a D) -> Result<Self, BuildError>
+        ensures ok { IfOk result (λ p. Self.tree p ≡ Fail) }
+        ensures err { IfErr result IsMemory };
+
+    /// A line break.
+    fn hard_line(place: &'a D) -> Result<Self, BuildError>
+        ensures ok { IfOk result (λ p. Self.tree p ≡ HardLine) }
+        ensures err { IfErr result IsMemory };
+
+    /// `hard_line` by another name.
+    fn hardline(place: &'a D) -> Result<Self, BuildError>
+        ensures ok { IfOk result (λ p. Self.tree p ≡ HardLine) }
+        ensures err { IfErr result IsMemory };
+
+    /// A line break, which is nothing on a fresh line where no suffix is pending.
+    fn weak_line(place: &'a D) -> Result<Self, BuildError>
+        ensures ok { IfOk result (λ p. Self.tree p ≡ WeakLine) }
+        ensures err { IfErr result IsMemory };
+
+    /// The text of one space.
+    fn space(place: &'a D) -> Result<Self, BuildError>
+        ensures ok { IfOk result (λ p. Self.tree p ≡ lines.space) }
+        ensures err { IfErr result IsMemory };
+
+    /// A space, which is nothing at the start of a line, nor at its end unless a suffix follows
+    /// there.
+    fn weak_space(place: &'a D) -> Result<Self, BuildError>
+        ensures ok { IfOk result (λ p. Self.tree p ≡ WeakSpace) }
+        ensures err { IfErr result IsMemory };
+
+    /// Nothing, but what holds it does not fit a line.
+    fn expand_parent(place: &'a D) -> Result<Self, BuildError>
+        ensures ok { IfOk result (λ p. Self.tree p ≡ ExpandParent) }
+        ensures err { IfErr result IsMemory };
+
+    /// A line break, or one space where lines are flat.
+    fn line(place: &'a D) -> Result<Self, BuildError>
+        ensures ok { IfOk result (λ p. Self.tree p ≡ lines.line) }
+        ensures err { IfErr result IsMemory };
+
+    /// A line break, or nothing where lines are flat.
+    fn line_(place: &'a D) -> Result<Self, BuildError>
+        ensures ok { IfOk result (λ p. Self.tree p ≡ lines.line_) }
+        ensures err { IfErr result IsMemory };
+
+    /// One space, or a line break where the line has no room.
+    fn softline(place: &'a D) -> Result<Self, BuildError>
+        ensures ok { IfOk result (λ p. Self.tree p ≡ to.softline) }
+        ensures err { IfErr result IsMemory };
+
+    /// Nothing, or a line break where the line has no room.
+    fn softline_(place: &'a D) -> Result<Self, BuildError>
+        ensures ok { IfOk result (λ p. Self.tree p ≡ to.softline_) }
+        ensures err { IfErr result IsMemory };
+
+    /// A text, written as it is: nothing if it is empty. It counts as its bytes if it is ASCII, and
+    /// else as its display width.
+    fn text(place: &'a D, text: CowStr<'a>) -> Result<Self, BuildError>
+        ensures ok { IfOk result (λ p. Self.tree p ≡ counted.text (cow_str_bytes text.entry)) }
+        ensures err { IfErr result IsMemory };
+
+    /// What `{}` shows of the value, also if that is empty. It counts as its bytes if it is ASCII, and
+    /// else as its display width.
+    ///
+    /// It is answered `Memory` where memory was refused, and `Display` where only the value's
+    /// formatting failed.
+    fn as_string<V: fmt::Display + Drop>(place: &'a D, value: V) -> Result<Self, BuildError>
+        ensures { IfOk result (λ p. counted.IsStringOf (V.output value) (Self.tree p)) };
+
+    /// A text whose line breaks, each LF or CR, are written as they are, and are seen by the layout.
+    /// Without one it is as `text` makes it.
+    fn multiline_text(place: &'a D, text: CowStr<'a>) -> Result<Self, BuildError>
+        ensures ok { IfOk result (λ p. Self.tree p
+            ≡ counted.multiline_text (cow_str_bytes text.entry)) }
+        ensures err { IfErr result IsMemory };
+
+    /// This document, laid flat where it fits the line, and else broken. Where it is nothing, a text
+    /// or a group, it stays as it is, which takes no memory.
+    fn group(self, place: &'a D) -> Result<Self, BuildError>
+        ensures ok { IfOk result (λ p. Self.tree p ≡ to.group (Self.tree self)) }
+        ensures same { IsTrue (to.keeps_grouped (Self.tree self)) → result ≡ Ok self }
+        ensures err { IfErr result IsMemory };
+
+    /// This document with its indent moved by so many columns. By 0, or where it is nothing, it stays
+    /// as it is, which takes no memory.
+    fn nest(self, place: &'a D, offset: isize) -> Result<Self, BuildError>
+        ensures ok { IfOk result (λ p. Self.tree p ≡ to.nest offset (Self.tree self)) }
+        ensures same { IsTrue (to.keeps_nested offset (Self.tree self)) → result ≡ Ok self }
+        ensures err { IfErr result IsMemory };
+
+    /// This document where all its lines fit, and else `that`.
+    fn union(self, place: &'a D, that: BuildDoc<'a, Self>) -> Result<Self, BuildError>
+        ensures ok { IfOk result (λ p. Self.tree p
+            ≡ Union (Self.tree self) (built Self.tree that.entry)) }
+        ensures err { IfErr result IsMemory };
+}
+
+impl<'a, D: DocPlace<'a, Doc = T>, T: DocPtr<'a>> PlacedDoc<'a, D> for T {
+    fn nil(place: &'a D) -> Result<T, BuildError> {
+        place.nil()?.into_doc()
+    }
+
+    fn fail(place: &'a D) -> Result<T, BuildError> {
+        place.fail()?.into_doc()
+    }
+
+    fn hard_line(place: &'a D) -> Result<T, BuildError> {
+        place.hard_line()?.into_doc()
+    }
+
+    fn hardline(place: &'a D) -> Result<T, BuildError> {
+        place.hardline()?.into_doc()
+    }
+
+    fn weak_line(place: &'a D) -> Result<T, BuildError> {
+        place.weak_line()?.into_doc()
+    }
+
+    fn space(place: &'a D) -> Result<T, BuildError> {
+        place.space()?.into_doc()
+    }
+
+    fn weak_space(place: &'a D) -> Result<T, BuildError> {
+        place.weak_space()?.into_doc()
+    }
+
+    fn expand_parent(place: &'a D) -> Result<T, BuildError> {
+        place.expand_parent()?.into_doc()
+    }
+
+    fn line(place: &'a D) -> Result<T, BuildError> {
+        place.line()?.into_doc()
+    }
+
+    fn line_(place: &'a D) -> Result<T, BuildError> {
+        place.line_()?.into_doc()
+    }
+
+    fn softline(place: &'a D) -> Result<T, BuildError> {
+        place.softline()?.into_doc()
+    }
+
+    fn softline_(place: &'a D) -> Result<T, BuildError> {
+        place.softline_()?.into_doc()
+    }
+
+    fn text(place: &'a D, text: CowStr<'a>) -> Result<T, BuildError> {
+        place.text(text)?.into_doc()
+    }
+
+    fn as_string<V: fmt::Display + Drop>(place: &'a D, value: V) -> Result<T, BuildError> {
+        place.as_string(value)?.into_doc()
+    }
+
+    fn multiline_text(place: &'a D, text: CowStr<'a>) -> Result<T, BuildError> {
+        place.multiline_text(text)?.into_doc()
+    }
+
+    fn group(self, place: &'a D) -> Result<T, BuildError> {
+        DocBuilder(place, BuildDoc::DocPtr(self))
+            .group()?
+            .into_doc()
+    }
+
+    fn nest(self, place: &'a D, offset: isize) -> Result<T, BuildError> {
+        DocBuilder(place, BuildDoc::DocPtr(self))
+            .nest(offset)?
+            .into_doc()
+    }
+
+    fn union(self, place: &'a D, that: BuildDoc<'a, T>) -> Result<T, BuildError>
+        ensures ok { IfOk result (λ p. T.tree p
+            ≡ Union (T.tree self) (built T.tree that.entry)) }
+        ensures err { IfErr result IsMemory }
+    {
+        DocBuilder(place, BuildDoc::DocPtr(self))
+            .union(that)?
+            .into_doc()
+    }
+}
+
+/// The calls of a pointer that take a document of type `P`. The making of that one can fail, and
+/// memory.
+///
+/// `P` stands on the trait and not on its calls, as the parameter of `DocAllocatorOf` does.
+pub trait PlacedDocOf<'a, D: DocPlace<'a, Doc = Self>, P: Pretty<'a, D>>: DocPtr<'a> {
+    /// This document, then `that`. Where this one is nothing it is `that`. Where `that` is nothing it
+    /// stays as it is, which takes no memory.
+    fn append(self, place: &'a D, that: P) -> Result<Self, BuildError>
+        ensures ok { IfOk result (λ p. (y : Tree) × P.becomes that y
+            × (Self.tree p ≡ to.append (Self.tree self) y)) }
+        ensures err { IfErr result (λ e. P.refuses that e ⊎ (IsMemory e
+            × ((y : Tree) × P.becomes that y × to.IsNotNil y))) };
+
+    /// This document where lines are broken, and `that` where they are flat.
+    fn flat_alt(self, place: &'a D, that: P) -> Result<Self, BuildError>
+        ensures ok { IfOk result (λ p. (y : Tree) × P.becomes that y
+            × (Self.tree p ≡ BreakOrFlat (Self.tree self) y)) }
+        ensures err { IfErr result (λ e. P.refuses that e ⊎ IsMemory e) };
+}
+
+impl<'a, D: DocPlace<'a, Doc = T>, P: Pretty<'a, D>, T: DocPtr<'a>> PlacedDocOf<'a, D, P> for T {
+    fn append(self, place: &'a D, that: P) -> Result<T, BuildError> {
+        let that = that.pretty(place)?;
+        if that.doc().is_nil() {
+            return Ok(self);
+        }
+        DocBuilder(place, BuildDoc::DocPtr(self))
+            .join(that)?
+            .into_doc()
+    }
+
+    fn flat_alt(self, place: &'a D, that: P) -> Result<T, BuildError> {
+        DocBuilder(place, BuildDoc::DocPtr(self))
+            .flat_alt(that)?
+            .into_doc()
+    }
+}
+
+/// The calls of a pointer that take an iterator `I`. The making of an item can fail, and memory.
+pub trait PlacedDocOver<'a, D: DocPlace<'a, Doc = Self>, I: IntoIterator>: DocPtr<'a>
+where
+    I::Item: Pretty<'a, D>,
+{
+    /// The items' documents, appended in order: nothing if there is none.
+    ///
+    /// `docs` has to end, and to be one that can be walked.
+    fn concat(place: &'a D, docs: I) -> Result<Self, BuildError>
+        requires { IsFiniteIterable I.into_iter_gives I.IntoIter.can_next I.IntoIter.remaining docs }
+        ensures ok { IfOk result (λ p. (xs : List I.Item)
+            × GivesAll I.into_iter_gives I.IntoIter.next_gives docs xs
+            × Concatenates I.Item.becomes xs (Self.tree p)) }
+        ensures err { IfErr result (λ e. IsMemory e
+            ⊎ GivesSome I.into_iter_gives I.IntoIter.next_gives docs (λ x. I.Item.refuses x e)) };
+}
+
+impl<'a, D: DocPlace<'a, Doc = T>, I: IntoIterator, T: DocPtr<'a>> PlacedDocOver<'a, D, I> for T
+where
+    I::Item: Pretty<'a, D>,
+{
+    fn concat(place: &'a D, docs: I) -> Result<T, BuildError> {
+        place.concat(docs)?.into_doc()
+    }
+}
+
+/// The calls of a pointer that take an iterator `I` and a separator `S`. The making of an item or of
+/// the separator can fail, and memory.
+pub trait PlacedDocBetween<
+    'a,
+    D: DocPlace<'a, Doc = Self>,
+    I: IntoIterator,
+    S: Pretty<'a, D> + Drop,
+>: DocPtr<'a>
+where
+    I::Item: Pretty<'a, D>,
+{
+    /// The items' documents in order, with the separator in each gap: nothing if there is none. The
+    /// separator becomes a document once, and only where there is a gap.
+    ///
+    /// `docs` has to end, and to be one that can be walked.
+    fn intersperse(place: &'a D, docs: I, separator: S) -> Result<Self, BuildError>
+        requires { IsFiniteIterable I.into_iter_gives I.IntoIter.can_next I.IntoIter.remaining docs }
+        ensures ok { IfOk result (λ p. (xs : List I.Item)
+            × GivesAll I.into_iter_gives I.IntoIter.next_gives docs xs
+            × Intersperses I.Item.becomes (S.becomes separator) xs (Self.tree p)) }
+        ensures err { IfErr result (λ e. IsMemory e ⊎ S.refuses separator e
+            ⊎ GivesSome I.into_iter_gives I.IntoIter.next_gives docs (λ x. I.Item.refuses x e)) };
+}
+
+impl<
+    'a,
+    D: DocPlace<'a, Doc = T>,
+    I: IntoIterator,
+    S: Pretty<'a, D> + Drop,
+    T: DocPtr<'a>,
+> PlacedDocBetween<'a, D, I, S> for T
+where
+    I::Item: Pretty<'a, D>,
+{
+    fn intersperse(place: &'a D, docs: I, separator: S) -> Result<T, BuildError> {
+        place.intersperse(docs, separator)?.into_doc()
+    }
+}
