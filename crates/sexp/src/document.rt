@@ -1,7 +1,6 @@
-ghost use Rattle.std.specs.Prelude.{◌≡◌, ◌∷◌, [], pos, IfOk, IfErr};
+ghost use Rattle.std.specs.Prelude.{◌≡◌, pos, IfOk, IfErr};
 ghost use Rattle.std.specs.Fmt.{decimal};
 ghost use Rattle.prettyless.specs.Built.{append, between, group, nest};
-ghost use Rattle.prettyless.specs.DocTree.{built};
 ghost use Rattle.prettyless.specs.Lines.{line};
 ghost use Rattle.prettyless.specs.Tree.{Nil, Text};
 ghost use Rattle.prettyless.specs.Trees.{ref_tree};
