@@ -85,8 +85,11 @@ fn lines<'a>(arena: &'a Arena<'a>, expressions: &[SExp]) -> Result<RefDoc<'a>, R
     let [first, rest @ ..] = expressions else {
         return nothing(arena);
     };
-    let gap = gap(arena)?;
     let mut all = document(arena, first)?;
+    if rest.is_empty() {
+        return Ok(all);
+    }
+    let gap = gap(arena)?;
     for expression in rest {
         let next = document(arena, expression)?;
         all = join_behind(arena, all, &gap, next)?;
