@@ -8,7 +8,8 @@ use crate::expression::SExp;
 use crate::input::read_input;
 use crate::output::write_text;
 use crate::parse::parse;
-use prettyless::{BoxAllocator, RenderError, RenderOptions};
+use bumpalo::Bump;
+use prettyless::{Arena, DocPtr, RenderError, RenderOptions};
 use std::alloc::Global;
 use std::io::{Read, Write};
 
@@ -21,9 +22,10 @@ fn write_layout<W: Write>(
 ) -> Result<(), RunError>
     ensures { Writes options (value_of expression.now) (W.contents writer.old) (W.contents writer.new) result }
 {
-    let boxes = BoxAllocator::new(alloc);
-    let document = document(&boxes, expression)?;
-    match document.1.doc().render_with(alloc, options, writer) {
+    let bump = Bump::new(alloc);
+    let arena = Arena::new(alloc, &bump);
+    let document = document(&arena, expression)?;
+    match document.doc().render_with(alloc, options, writer) {
         Ok(()) => write_text(writer, b"\n"),
         Err(RenderError::Memory(error)) => Err(RunError::Memory(error)),
         Err(RenderError::Sink(error)) => Err(RunError::Write(error)),

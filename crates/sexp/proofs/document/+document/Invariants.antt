@@ -1,6 +1,5 @@
 use Rattle.std.proofs.Common.{◌≡◌, drop}
-use Rattle.prettyless.specs.DocTree.{built}
-use Rattle.prettyless.specs.Trees.{box_tree}
+use Rattle.prettyless.specs.Trees.{ref_tree}
 use Rattle.sexp.specs.Value.{values_of}
 use Rattle.sexp.specs.View.{values_in}
 use Rattle.sexp.specs.Documents.{interspersed, followed_by}
@@ -8,4 +7,4 @@ use Rattle.sexp.proofs.document.+document.Given as goal
 
 -- the document so far, followed by the expressions that are left, is that of all
 abbrev pub invariant-lines-loop-expression : goal.invariant-lines-loop-expression
-invariant-lines-loop-expression l = followed_by (built box_tree l.all.1) (values_of (values_in (drop l.expression-index l.rest))) ≡ interspersed (values_of (values_in l.expressions))
+invariant-lines-loop-expression l = followed_by (ref_tree l.all) (values_of (values_in (drop l.expression-index l.rest))) ≡ interspersed (values_of (values_in l.expressions))

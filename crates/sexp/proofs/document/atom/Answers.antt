@@ -11,6 +11,6 @@ counts_digits : (n : ℕ) → n < 2 ^ 64 → as_string (decimal n) ≡ Text (dec
 counts_digits n small = rw (← same_ascii true (decimal n) (IsAscii-decimal n small)) refl
 
 pub returns-clause-ok : goal.returns-clause-ok
-returns-clause-ok c =
+returns-clause-ok g c =
     let shown = c.in_ok-as_string.ensures in
-    shown.1 ∙ ap as_string shown.2 ∙ counts_digits c.args.number (omega arith)
+    c.in_ok-into_doc.ensures.ok ∙ shown.1 ∙ ap as_string shown.2 ∙ counts_digits c.args.number (omega arith)
