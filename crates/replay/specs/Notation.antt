@@ -1,6 +1,6 @@
 -- How a line writes a case: words with one space between two. First come the width, the end of a line and the policy of
 -- indents. Then the document comes, each node in front of what it holds. From "=>" on nothing counts.
-use Rattle.std.specs.Prelude.{◌≡◌, ℕ, ◌+◌, ◌^◌, ◌<◌, ℤ, pos, neg_ℤ, FitsSigned, not, true, List, [], ◌∷◌, ◌++◌, drop, codes, Option, Some, None, ◌==◌, if◌then◌else◌}
+use Rattle.std.specs.Prelude.{◌≡◌, ℕ, ◌^◌, ◌<◌, ℤ, pos, neg_ℤ, FitsSigned, not, true, List, [], ◌∷◌, ◌++◌, drop, codes, Option, Some, None, ◌==◌, if◌then◌else◌}
 use Rattle.std.specs.Int.{w64}
 use Rattle.std.specs.List.{slice_split, take_while}
 use Rattle.std.specs.Str.{IsUtf8, bytes_eq}
