@@ -1,5 +1,4 @@
 pub mod Answering
-pub mod Depths
 pub mod Digits
 pub mod HexWords
 pub mod Items

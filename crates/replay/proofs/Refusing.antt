@@ -6,7 +6,7 @@ use Rattle.hex.specs.declared.error.FromHexError.{FromHexError}
 use Rattle.hex.specs.declared.error.FromHexError.TheVariants as errors
 use Rattle.prettyless.specs.Tree.{Tree}
 use Rattle.replay.specs.declared.refusal.Refusal.{Refusal}
-use Rattle.replay.specs.declared.refusal.Refusal.TheVariants.{NotACase, TooDeep, OutOfMemory}
+use Rattle.replay.specs.declared.refusal.Refusal.TheVariants.{NotACase, OutOfMemory}
 use Rattle.replay.specs.declared.operator.Operator.{Operator}
 use Rattle.replay.specs.declared.operator.Operator.TheVariants as operators
 use Rattle.replay.specs.Reading.{Item, word, BeginsWithText, Makes}
@@ -14,7 +14,6 @@ use Rattle.replay.specs.Refusals.{Refuses, hex_refusal}
 
 pub refuses_more : (e : Refusal) (P Q : Type 0) → (P → Q) → Refuses e P → Refuses e Q
 refuses_more NotACase P Q f h = f h
-refuses_more TooDeep P Q f h = h
 refuses_more OutOfMemory P Q f h = h
 
 -- digits that were not decoded

@@ -4,4 +4,4 @@ use Rattle.replay.specs.Notation.{Case}
 use Rattle.replay.specs.Pointers.{pointer_tree}
 
 abbrev pub case_of : ReadCase → Case
-case_of c = record { options = c.options; tree = pointer_tree c.document.root }
+case_of c = record { options = c.options; tree = pointer_tree c.document }

@@ -1,6 +1,6 @@
 -- How a line writes a case: words with one space between two. First come the width, the end of a line and the policy of
 -- indents. Then the document comes, each node in front of what it holds. From "=>" on nothing counts.
-use Rattle.std.specs.Prelude.{◌≡◌, ℕ, ◌+◌, ◌^◌, ◌<◌, max, ℤ, pos, neg_ℤ, FitsSigned, not, true, List, [], ◌∷◌, ◌++◌, drop, codes, Option, Some, None, ◌==◌, if◌then◌else◌}
+use Rattle.std.specs.Prelude.{◌≡◌, ℕ, ◌^◌, ◌<◌, ℤ, pos, neg_ℤ, FitsSigned, not, true, List, [], ◌∷◌, ◌++◌, drop, codes, Option, Some, None, ◌==◌, if◌then◌else◌}
 use Rattle.std.specs.Int.{w64}
 use Rattle.std.specs.List.{slice_split, take_while}
 use Rattle.std.specs.Str.{IsUtf8, bytes_eq}
@@ -85,28 +85,6 @@ IsSpelled (t.BreakOrFlat b f) ws = Joins (codes "bof") (IsSpelled b) (IsSpelled 
 IsSpelled (t.Group d) ws = Wraps (codes "grp") (IsSpelled d) ws
 IsSpelled (t.Union l r) ws = Joins (codes "uni") (IsSpelled l) (IsSpelled r) ws
 IsSpelled (t.PartialUnion l r) ws = Joins (codes "puni") (IsSpelled l) (IsSpelled r) ws
-
--- how deep a document is: as many nodes as are on its longest path down
-abbrev pub depth : Tree → ℕ
-depth t.Nil = 1
-depth t.Fail = 1
-depth (t.Text s) = 1
-depth (t.TextWithLen n s) = 1
-depth (t.MultilineText s) = 1
-depth t.WeakSpace = 1
-depth t.HardLine = 1
-depth t.WeakLine = 1
-depth (t.Append l r) = max (depth l) (depth r) + 1
-depth (t.LineSuffix d) = depth d + 1
-depth (t.Nest k d) = depth d + 1
-depth (t.DedentToRoot d) = depth d + 1
-depth (t.Align d) = depth d + 1
-depth t.ExpandParent = 1
-depth (t.Flatten d) = depth d + 1
-depth (t.BreakOrFlat b f) = max (depth b) (depth f) + 1
-depth (t.Group d) = depth d + 1
-depth (t.Union l r) = max (depth l) (depth r) + 1
-depth (t.PartialUnion l r) = max (depth l) (depth r) + 1
 
 -- ---- cases
 

@@ -74,7 +74,7 @@ pub data Item : Type 0 where
 
 abbrev pub item_of : Operand → Item
 item_of (Word w) = word w.now
-item_of (Document d) = document (pointer_tree d.root)
+item_of (Document d) = document (pointer_tree d)
 
 -- the items of a stack, the one that comes next first
 abbrev pub items_of : List Operand → List Item

@@ -1,23 +1,20 @@
 -- Why a line is refused.
-use Rattle.std.specs.Prelude.{ℕ, ◌<◌, List, codes}
+use Rattle.std.specs.Prelude.{ℕ, List, codes}
 use Rattle.hex.specs.declared.error.FromHexError.{FromHexError}
 use Rattle.hex.specs.declared.error.FromHexError.TheVariants as errors
 use Rattle.hex.specs.declared.error.FromHexError.TheVariants.{InvalidHexCharacter, OddLength, InvalidStringLength}
 use Rattle.replay.specs.declared.refusal.Refusal.{Refusal}
-use Rattle.replay.specs.declared.refusal.Refusal.TheVariants.{NotACase, TooDeep, OutOfMemory}
-use Rattle.replay.specs.Notation.{Case, Denotes, depth}
+use Rattle.replay.specs.declared.refusal.Refusal.TheVariants.{NotACase, OutOfMemory}
+use Rattle.replay.specs.Notation.{Case, Denotes}
 
 -- what was asked for is not there, which is this fact, or memory was refused
 abbrev pub Refuses : Refusal → Type 0 → Type 0
 Refuses NotACase fact = fact
-Refuses TooDeep fact = ⊥
 Refuses OutOfMemory fact = Unit {0}
 
--- the line writes no case, or a case whose document is more than 1,000 deep, or memory was refused
+-- the line writes no case, or memory was refused
 abbrev pub RefusesLine : Refusal → List ℕ → Type 0
-RefusesLine NotACase line = (c : Case) → Denotes line c → ⊥
-RefusesLine TooDeep line = (c : Case) × Denotes line c × (1000 < depth c.tree)
-RefusesLine OutOfMemory line = Unit {0}
+RefusesLine e line = Refuses e ((c : Case) → Denotes line c → ⊥)
 
 -- digits that write no bytes write no case
 abbrev pub hex_refusal : FromHexError → Refusal
@@ -28,5 +25,4 @@ hex_refusal errors.OutOfMemory = OutOfMemory
 
 abbrev pub message_of : Refusal → List ℕ
 message_of NotACase = codes "not a case"
-message_of TooDeep = codes "too deep"
 message_of OutOfMemory = codes "out of memory"

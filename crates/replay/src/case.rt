@@ -4,10 +4,11 @@ ghost use Rattle.replay.specs.Notation.{Case, Denotes, AreOptions, named_in, lin
 ghost use Rattle.replay.specs.Cases.{case_of};
 ghost use Rattle.replay.specs.Refusals.{Refuses};
 
-use crate::document::Document;
 use crate::number::number;
+use crate::pointer::{Place, Pointer};
 use crate::reading::read_document;
 use crate::refusal::Refusal;
+use prettyless::DocPlace;
 use prettyless_sink::options::{IndentationPolicy, LineEnding, RenderOptions};
 use std::alloc::{AllocError, Global};
 
@@ -15,7 +16,7 @@ use std::alloc::{AllocError, Global};
 #[derive(Drop)]
 pub struct ReadCase<'a> {
     pub options: RenderOptions,
-    pub document: Document<'a>,
+    pub document: Pointer<'a>,
 }
 
 fn line_ending(word: &[u8]) -> Option<LineEnding>
@@ -59,18 +60,18 @@ fn case_words<'a>(alloc: Global, line: &'a [u8]) -> Result<Vec<&'a [u8]>, AllocE
 }
 
 /// The case that a line writes.
-pub fn read_case<'a>(alloc: Global, line: &'a [u8]) -> Result<ReadCase<'a>, Refusal>
+pub fn read_case<'a>(place: &'a Place<'a>, line: &'a [u8]) -> Result<ReadCase<'a>, Refusal>
     ensures ok { IfOk result (λ c. Denotes line.now (case_of c)) }
     // It is read as this case, and as no other.
     ensures only { IfOk result (λ c. (d : Case) → Denotes line.now d → d ≡ case_of c) }
     ensures err { IfErr result (λ e. Refuses e ((c : Case) → Denotes line.now c → ⊥)) }
 {
-    let words = case_words(alloc, line)?;
+    let words = case_words(place.memory(), line)?;
     let [width, ending, policy, document @ ..] = words.as_slice() else {
         return Err(Refusal::NotACase);
     };
     Ok(ReadCase {
         options: options(width, ending, policy).ok_or(Refusal::NotACase)?,
-        document: read_document(alloc, document)?,
+        document: read_document(place, document)?,
     })
 }

@@ -4,7 +4,6 @@
 
 mod answer;
 mod case;
-mod document;
 mod hexadecimal;
 mod number;
 mod operand;

@@ -4,7 +4,7 @@ ghost use Rattle.replay.specs.Pointers.{pointer_tree};
 ghost use Rattle.replay.specs.Reading.{Item, word, document, items_of};
 ghost use Rattle.replay.specs.Refusals.{Refuses};
 
-use crate::document::Document;
+use crate::pointer::Pointer;
 use crate::refusal::Refusal;
 
 /// What an operator in front may take.
@@ -12,7 +12,7 @@ use crate::refusal::Refusal;
 pub enum Operand<'a> {
     /// A word that is no operator.
     Word(&'a [u8]),
-    Document(Document<'a>),
+    Document(Pointer<'a>),
 }
 
 /// Takes the word that comes next.
@@ -29,8 +29,8 @@ pub fn take_word<'a>(operands: &mut Vec<Operand<'a>>) -> Result<&'a [u8], Refusa
 
 /// Takes the document that comes next.
 #[tactic(auto, using(crate::proofs::Items::items_of_push))]
-pub fn take_document<'a>(operands: &mut Vec<Operand<'a>>) -> Result<Document<'a>, Refusal>
-    ensures ok { IfOk result (λ d. items_of operands.old.items ≡ document (pointer_tree d.root) ∷ items_of operands.new.items) }
+pub fn take_document<'a>(operands: &mut Vec<Operand<'a>>) -> Result<Pointer<'a>, Refusal>
+    ensures ok { IfOk result (λ d. items_of operands.old.items ≡ document (pointer_tree d) ∷ items_of operands.new.items) }
     ensures err { IfErr result (λ e. Refuses e ((d : Tree) (rest : List Item) → items_of operands.old.items ≡ document d ∷ rest → ⊥)) }
 {
     match operands.pop() {

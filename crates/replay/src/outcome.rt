@@ -26,7 +26,7 @@ pub fn outcome(alloc: Global, case: &ReadCase<'_>) -> Result<String, AllocError>
 {
     let mut bytes = String::new(alloc);
     let mut sink = FmtWrite::new(&mut bytes);
-    match render(alloc, case.document.root.doc(), case.options, &mut sink) {
+    match render(alloc, case.document.doc(), case.options, &mut sink) {
         Ok(()) => labelled(alloc, "ok ", bytes.as_str()),
         Err(RenderError::Document(_)) => labelled(alloc, "fail ", bytes.as_str()),
         Err(RenderError::Sink(_) | RenderError::Memory(_)) => Err(AllocError),

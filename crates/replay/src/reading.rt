@@ -8,15 +8,14 @@ ghost use Rattle.replay.specs.Reading.{Item, items_of, BeginsWithText, Makes, St
 ghost use Rattle.replay.specs.Refusals.{Refuses};
 ghost use Rattle.replay.specs.declared.operator.Operator.TheVariants.{Payload};
 
-use crate::document::Document;
 use crate::hexadecimal::text;
 use crate::number::{number, offset};
 use crate::operand::{Operand, take_document, take_word};
 use crate::operator::{Operator, operator_named};
-use crate::pointer::Pointer;
+use crate::pointer::{Place, Pointer, put};
 use crate::refusal::Refusal;
-use prettyless::Doc;
 use prettyless::text::{CowStr, Text};
+use prettyless::{Doc, DocPlace};
 use prettyless_doc::measure::holds_break;
 use std::alloc::Global;
 
@@ -46,43 +45,39 @@ fn take_payload<'a>(
 
 // Takes what comes behind an operator, and makes the operator's document of it.
 fn make<'a>(
-    alloc: Global,
+    place: &'a Place<'a>,
     operator: Operator,
     operands: &mut Vec<Operand<'a>>,
-) -> Result<Document<'a>, Refusal>
-    ensures ok { IfOk result (λ d. Makes operator (items_of operands.old.items) (pointer_tree d.root) (items_of operands.new.items)) }
+) -> Result<Pointer<'a>, Refusal>
+    ensures ok { IfOk result (λ d. Makes operator (items_of operands.old.items) (pointer_tree d) (items_of operands.new.items)) }
     ensures err { IfErr result (λ e. Refuses e ((d : Tree) (rest : List Item) → Makes operator (items_of operands.old.items) d rest → ⊥)) }
 {
     match operator {
-        Operator::Leaf(leaf) => Document::above(alloc, 0, leaf.doc()),
-        Operator::Text => Document::above(alloc, 0, Doc::Text(take_text(alloc, operands)?)),
+        Operator::Leaf(leaf) => put(place, leaf.doc()),
+        Operator::Text => put(place, Doc::Text(take_text(place.memory(), operands)?)),
         Operator::TextWithLen => {
             let width = number(take_word(operands)?).ok_or(Refusal::NotACase)?;
-            let text = take_text(alloc, operands)?;
-            Document::above(alloc, 0, Doc::TextWithLen(width, text))
+            let text = take_text(place.memory(), operands)?;
+            put(place, Doc::TextWithLen(width, text))
         }
-        Operator::Payload => Document::above(alloc, 0, take_payload(alloc, operands)?),
+        Operator::Payload => put(place, take_payload(place.memory(), operands)?),
         Operator::Nest => {
             let offset = offset(take_word(operands)?).ok_or(Refusal::NotACase)?;
             let inner = take_document(operands)?;
-            Document::above(alloc, inner.depth, Doc::Nest(offset, inner.root))
+            put(place, Doc::Nest(offset, inner))
         }
-        Operator::Wrapper(wrapper) => {
-            let inner = take_document(operands)?;
-            Document::above(alloc, inner.depth, wrapper.doc(inner.root))
-        }
+        Operator::Wrapper(wrapper) => put(place, wrapper.doc(take_document(operands)?)),
         Operator::Join(join) => {
             let first = take_document(operands)?;
             let second = take_document(operands)?;
-            let below = first.depth.max(second.depth);
-            Document::above(alloc, below, join.doc(first.root, second.root))
+            put(place, join.doc(first, second))
         }
     }
 }
 
 // Puts one word more in front: an operator makes a document of what comes behind it.
 fn put_in_front<'a>(
-    alloc: Global,
+    place: &'a Place<'a>,
     word: &'a [u8],
     operands: &mut Vec<Operand<'a>>,
 ) -> Result<(), Refusal>
@@ -90,7 +85,7 @@ fn put_in_front<'a>(
     ensures err { IfErr result (λ e. Refuses e ((new : List Item) → Steps word.now (items_of operands.old.items) new → ⊥)) }
 {
     let operand = match operator_named(word) {
-        Some(operator) => Operand::Document(make(alloc, operator, operands)?),
+        Some(operator) => Operand::Document(make(place, operator, operands)?),
         None => Operand::Word(word),
     };
     operands.push(operand)?;
@@ -98,16 +93,16 @@ fn put_in_front<'a>(
 }
 
 /// The document that the words write, all of them.
-pub fn read_document<'a>(alloc: Global, words: &[&'a [u8]]) -> Result<Document<'a>, Refusal>
-    ensures ok { IfOk result (λ d. IsSpelled (pointer_tree d.root) (map (λ w. w.now) words.now)) }
-    ensures only { IfOk result (λ d. (t : Tree) → IsSpelled t (map (λ w. w.now) words.now) → t ≡ pointer_tree d.root) }
+pub fn read_document<'a>(place: &'a Place<'a>, words: &[&'a [u8]]) -> Result<Pointer<'a>, Refusal>
+    ensures ok { IfOk result (λ d. IsSpelled (pointer_tree d) (map (λ w. w.now) words.now)) }
+    ensures only { IfOk result (λ d. (t : Tree) → IsSpelled t (map (λ w. w.now) words.now) → t ≡ pointer_tree d) }
     ensures err { IfErr result (λ e. Refuses e ((t : Tree) → IsSpelled t (map (λ w. w.now) words.now) → ⊥)) }
 {
-    let mut operands = Vec::new(alloc);
+    let mut operands = Vec::new(place.memory());
     let mut at = words.len();
     while at > 0 {
         at -= 1;
-        put_in_front(alloc, words[at], &mut operands)?;
+        put_in_front(place, words[at], &mut operands)?;
     }
     let document = take_document(&mut operands)?;
     if operands.is_empty() {

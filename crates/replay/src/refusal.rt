@@ -10,8 +10,6 @@ use std::alloc::{AllocError, AllocFailed};
 pub enum Refusal {
     /// It writes no case.
     NotACase,
-    /// It writes a case whose document is too deep.
-    TooDeep,
     /// Memory was refused.
     OutOfMemory,
 }
@@ -25,7 +23,6 @@ impl Refusal {
     {
         match self {
             Refusal::NotACase => "not a case",
-            Refusal::TooDeep => "too deep",
             Refusal::OutOfMemory => "out of memory",
         }
     }

@@ -53,16 +53,9 @@ fn groups(rt: &HostRuntime, count: u32) -> Result<String, Fail> {
 }
 
 #[test]
-fn refuses_what_is_too_deep(rt: HostRuntime) -> Result<(), Fail> {
-    let deepest = groups(&rt, 999)?;
-    assert_eq!(rt; replayed(rt.alloc(), deepest.as_bytes())?.as_str(), "ok -");
-    let deeper = groups(&rt, 1000)?;
-    assert!(rt;
-        matches!(
-            replayed(rt.alloc(), deeper.as_bytes()),
-            Err(Refusal::TooDeep)
-        )
-    );
+fn lays_out_deep_documents(rt: HostRuntime) -> Result<(), Fail> {
+    let line = groups(&rt, 50_000)?;
+    assert_eq!(rt; replayed(rt.alloc(), line.as_bytes())?.as_str(), "ok -");
     Ok(())
 }
 

@@ -1,8 +1,6 @@
 use Rattle.std.proofs.lemmas.Result.{err_from_is_err_and}
 use Rattle.replay.specs.Reading.{items_of}
 use Rattle.replay.proofs.Refusing.{text_refused, counted_text_refused, payload_refused}
-use Rattle.replay.proofs.Depths.{joined_depth}
-use Rattle.replay.specs.Pointers.{pointer_tree}
 use Rattle.replay.proofs.reading.make.Goals as goal
 
 pub returns-in_err-take_text-in-Text-clause-err : goal.returns-in_err-take_text-in-Text-clause-err
@@ -19,9 +17,3 @@ pub returns-in_err-take_payload-in-Payload-clause-err : goal.returns-in_err-take
 returns-in_err-take_payload-in-Payload-clause-err c =
     let p = err_from_is_err_and c.from_residual-in_err-take_payload-in-Payload.result c.from_residual-in_err-take_payload-in-Payload.ensures.1 in
     rw (p.1, p.2) (payload_refused c.args.operator (items_of c.args.operands.now.items) _ c.in-Payload.is c.in_err-take_payload-in-Payload.ensures.err)
-
-pub above-requires-in-Join : goal.above-requires-in-Join
-above-requires-in-Join c =
-    let first = c.in_ok-first-in-Join.first in
-    let second = c.in_ok-second-in-Join.second in
-    rw c.doc-in-Join.ensures (joined_depth c.in-Join.join (pointer_tree first.root) (pointer_tree second.root) first.depth second.depth c.max-below.result first.depth_is second.depth_is c.max-below.ensures)

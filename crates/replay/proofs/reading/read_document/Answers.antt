@@ -22,7 +22,7 @@ pub returns-then-is_empty-clause-ok : goal.returns-then-is_empty-clause-ok
 returns-then-is_empty-clause-ok c =
     let start : c.loop-at.at ≡ 0 = omega arith in
     let left = rw start at c.loop-at.invariant.left in
-    let alone : items_of c.loop-at.operands.items ≡ document (pointer_tree c.in_ok-document.document.root) ∷ [] = c.in_ok-document.ensures.ok ∙ ap (λ x. document (pointer_tree c.in_ok-document.document.root) ∷ x) (nothing_below c.take_document.new.operands.items (search (rules, tests))) in
+    let alone : items_of c.loop-at.operands.items ≡ document (pointer_tree c.in_ok-document.document) ∷ [] = c.in_ok-document.ensures.ok ∙ ap (λ x. document (pointer_tree c.in_ok-document.document) ∷ x) (nothing_below c.take_document.new.operands.items (search (rules, tests))) in
     left_is_spelled _ _ (subst (Leaves (map (λ w. w.now) c.args.words.now)) alone left)
 
 pub returns-then-is_empty-clause-only : goal.returns-then-is_empty-clause-only

@@ -1,7 +1,7 @@
-use Rattle.std.proofs.Common.{◌∙◌, ap, sym, arith}
+use Rattle.std.proofs.Common.{◌∙◌, ap, sym}
 use Rattle.replay.specs.Cases.{case_of}
 use Rattle.replay.specs.Outcomes.{outcome_of}
-use Rattle.replay.proofs.replayed.replayed.Goals as goal
+use Rattle.replay.proofs.replayed.replayed_in.Goals as goal
 
 pub returns-clause-ok : goal.returns-clause-ok
 returns-clause-ok c =
@@ -9,7 +9,6 @@ returns-clause-ok c =
     record {
       read = case_of c.in_ok-case.case;
       denoted = case_read.ok;
-      shallow = omega (arith, c.in_ok-case.case.document.depth_is);
       answer = c.in_ok-outcome.ensures;
       only = λ d denoted. c.in_ok-outcome.ensures ∙ ap outcome_of (sym (case_read.only d denoted));
     }
