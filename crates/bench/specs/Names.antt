@@ -6,9 +6,9 @@ use Rattle.bench.specs.declared.workload.Workload.TheVariants as w
 
 abbrev pub names : List (List ℕ × Workload)
 names =
-    (codes "tree", w.Tree) ∷ (codes "list", w.List) ∷ (codes "flat_list", w.FlatList) ∷ (codes "json", w.Json)
-    ∷ (codes "text_groups", w.TextGroups) ∷ (codes "bare_groups", w.BareGroups) ∷ (codes "fill", w.Fill) ∷ (codes "lines", w.Lines)
-    ∷ (codes "kept_trials", w.KeptTrials) ∷ (codes "rejected_trials", w.RejectedTrials) ∷ []
+    (codes "tree", w.Tree) ∷ (codes "list", w.List) ∷ (codes "flat", w.FlatList) ∷ (codes "json", w.Json)
+    ∷ (codes "texts", w.TextGroups) ∷ (codes "bare", w.BareGroups) ∷ (codes "fill", w.Fill) ∷ (codes "lines", w.Lines)
+    ∷ (codes "kept", w.KeptTrials) ∷ (codes "lost", w.RejectedTrials) ∷ []
 
 -- what a word names in a table of names
 abbrev pub named_in : List (List ℕ × Workload) → List ℕ → Option Workload

@@ -49,14 +49,14 @@ impl Workload {
         match self {
             Workload::Tree => "tree",
             Workload::List => "list",
-            Workload::FlatList => "flat_list",
+            Workload::FlatList => "flat",
             Workload::Json => "json",
-            Workload::TextGroups => "text_groups",
-            Workload::BareGroups => "bare_groups",
+            Workload::TextGroups => "texts",
+            Workload::BareGroups => "bare",
             Workload::Fill => "fill",
             Workload::Lines => "lines",
-            Workload::KeptTrials => "kept_trials",
-            Workload::RejectedTrials => "rejected_trials",
+            Workload::KeptTrials => "kept",
+            Workload::RejectedTrials => "lost",
         }
     }
 
@@ -111,14 +111,14 @@ pub fn workload_named(word: &str) -> Option<Workload>
     match word.as_bytes() {
         b"tree" => Some(Workload::Tree),
         b"list" => Some(Workload::List),
-        b"flat_list" => Some(Workload::FlatList),
+        b"flat" => Some(Workload::FlatList),
         b"json" => Some(Workload::Json),
-        b"text_groups" => Some(Workload::TextGroups),
-        b"bare_groups" => Some(Workload::BareGroups),
+        b"texts" => Some(Workload::TextGroups),
+        b"bare" => Some(Workload::BareGroups),
         b"fill" => Some(Workload::Fill),
         b"lines" => Some(Workload::Lines),
-        b"kept_trials" => Some(Workload::KeptTrials),
-        b"rejected_trials" => Some(Workload::RejectedTrials),
+        b"kept" => Some(Workload::KeptTrials),
+        b"lost" => Some(Workload::RejectedTrials),
         _ => None,
     }
 }
