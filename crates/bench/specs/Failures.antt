@@ -1,0 +1,18 @@
+-- What the program says of a failure, and the status that it ends with.
+use Rattle.std.specs.Prelude.{ℕ, List, codes}
+use Rattle.bench.specs.declared.failure.Failure.{Failure}
+use Rattle.bench.specs.declared.failure.Failure.TheVariants.{Words, Build, Render, Memory, System}
+
+abbrev pub message_of : Failure → List ℕ
+message_of Words = codes "usage: bench [time [WORKLOAD]]"
+message_of (Build e) = codes "error: a document was not built"
+message_of (Render e) = codes "error: a document was not laid out"
+message_of (Memory e) = codes "error: out of memory"
+message_of (System e) = codes "error: the system refused"
+
+abbrev pub status_of : Failure → ℕ
+status_of Words = 2
+status_of (Build e) = 1
+status_of (Render e) = 1
+status_of (Memory e) = 1
+status_of (System e) = 1

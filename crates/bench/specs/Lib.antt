@@ -1,0 +1,5 @@
+pub mod Checksum
+pub mod Documents
+pub mod Failures
+pub mod Names
+pub mod Requests

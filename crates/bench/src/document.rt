@@ -1,0 +1,29 @@
+//! The document of a workload.
+
+use crate::groups::{bare_groups, text_groups};
+use crate::json::array;
+use crate::lists::{list, tree};
+use crate::trials::{kept_trials, rejected_trials};
+use crate::words::{fill, lines};
+use crate::workload::Workload;
+use prettyless::text::BuildError;
+use prettyless::{DocBuilder, DocPlace};
+
+/// The document of a workload at a size, with its nodes in this place.
+pub fn document<'a, D: DocPlace<'a>>(
+    place: &'a D,
+    workload: Workload,
+    size: usize,
+) -> Result<DocBuilder<'a, D>, BuildError> {
+    match workload {
+        Workload::Tree => tree(place, size),
+        Workload::List | Workload::FlatList => list(place, size),
+        Workload::Json => array(place, size),
+        Workload::TextGroups => text_groups(place, size),
+        Workload::BareGroups => bare_groups(place, size),
+        Workload::Fill => fill(place, size),
+        Workload::Lines => lines(place, size),
+        Workload::KeptTrials => kept_trials(place, size),
+        Workload::RejectedTrials => rejected_trials(place, size),
+    }
+}

@@ -1,0 +1,44 @@
+//! Measures building and laying out in an arena: `bench` prints what comes of small documents, and `bench time [WORKLOAD]`
+//! how long large ones take.
+#![tactic(auto)]
+
+mod checksum;
+mod document;
+mod failure;
+mod groups;
+mod json;
+mod lists;
+mod measure;
+mod parts;
+mod report;
+mod request;
+mod trials;
+mod words;
+mod workload;
+
+use failure::Failure;
+use report::{compare, time_all, time_workload};
+use request::{Request, requested};
+use std::env;
+use std::process::ExitCode;
+use std::rt::{Clock, Env};
+
+fn run<R: AllocGlobal + Clock + Env + Print>(rt: &R) -> Result<(), Failure> {
+    let words: Vec<String> = env::args(rt)?.skip(1).collect(rt.alloc())?;
+    match requested(&words).ok_or(Failure::Words)? {
+        Request::Compare => compare(rt),
+        Request::TimeAll => time_all(rt),
+        Request::Time(workload) => time_workload(rt, workload),
+    }
+}
+
+fn main(rt: HostRuntime) -> ExitCode {
+    match run(&rt) {
+        Ok(()) => ExitCode::SUCCESS,
+        Err(failure) => {
+            // Where standard error takes no message, the status still tells.
+            let _ = rt.eprintln(failure.message());
+            ExitCode::from(failure.status())
+        }
+    }
+}

@@ -1,0 +1,123 @@
+//! Building and laying out, and how long it takes.
+
+use crate::checksum::checksum;
+use crate::document::document;
+use crate::failure::Failure;
+use crate::workload::Workload;
+use bumpalo::Bump;
+use prettyless::{Arena, Doc, DocPlace, DocPtr};
+use std::alloc::Global;
+use std::rt::Clock;
+use std::time::{Duration, Instant};
+
+/// How often a document is laid out again. The least time counts.
+const RENDERS: usize = 5;
+
+/// A document in an arena, and its layout.
+#[derive(Clone, Copy)]
+pub struct Laid {
+    pub nodes: usize,
+    pub bytes: usize,
+    pub checksum: u64,
+}
+
+/// How long it took to build a document, and to lay it out.
+#[derive(Clone, Copy)]
+pub struct Timed {
+    pub nodes: usize,
+    pub bytes: usize,
+    pub build: Duration,
+    pub render: Duration,
+}
+
+// The layout of a workload.
+fn layout<'a, D: DocPlace<'a>>(
+    place: &'a D,
+    workload: Workload,
+    size: usize,
+) -> Result<String, Failure> {
+    let root = document(place, workload, size)?.into_doc()?;
+    let mut out = String::new(place.memory());
+    root.doc()
+        .render_fmt(place.memory(), workload.width(), &mut out)?;
+    Ok(out)
+}
+
+/// Lays a workload out.
+pub fn lay(alloc: Global, workload: Workload, size: usize) -> Result<Laid, Failure> {
+    let bump = Bump::new(alloc);
+    let arena = Arena::new(alloc, &bump);
+    let out = layout(&arena, workload, size)?;
+    Ok(Laid {
+        nodes: arena.len(),
+        bytes: out.len(),
+        checksum: checksum(out.as_bytes()),
+    })
+}
+
+// Lays a document out, and tells the time that it took.
+fn time_render<'a, C: Clock, T: DocPtr<'a>>(
+    clock: &C,
+    alloc: Global,
+    width: usize,
+    doc: &Doc<'a, T>,
+    out: &mut String,
+) -> Result<Duration, Failure> {
+    out.clear();
+    let start = Instant::now(clock)?;
+    doc.render_fmt(alloc, width, out)?;
+    Ok(start.elapsed(clock)?)
+}
+
+// The least of several times.
+fn least_render<'a, C: Clock, T: DocPtr<'a>>(
+    clock: &C,
+    alloc: Global,
+    width: usize,
+    doc: &Doc<'a, T>,
+    out: &mut String,
+) -> Result<Duration, Failure> {
+    let mut least = time_render(clock, alloc, width, doc, out)?;
+    for _ in 0..RENDERS {
+        least = least.min(time_render(clock, alloc, width, doc, out)?);
+    }
+    Ok(least)
+}
+
+fn time_in<'a, C: Clock, D: DocPlace<'a>>(
+    clock: &C,
+    place: &'a D,
+    workload: Workload,
+    size: usize,
+) -> Result<(usize, Duration, Duration), Failure> {
+    let start = Instant::now(clock)?;
+    let root = document(place, workload, size)?.into_doc()?;
+    let build = start.elapsed(clock)?;
+    let mut out = String::new(place.memory());
+    let render = least_render(
+        clock,
+        place.memory(),
+        workload.width(),
+        root.doc(),
+        &mut out,
+    )?;
+    Ok((out.len(), build, render))
+}
+
+/// Builds a workload and lays it out several times.
+pub fn time<C: Clock>(
+    clock: &C,
+    alloc: Global,
+    workload: Workload,
+    size: usize,
+) -> Result<Timed, Failure> {
+    let bump = Bump::new(alloc);
+    let arena = Arena::new(alloc, &bump);
+    let (bytes, build, render) = time_in(clock, &arena, workload, size)?;
+    Ok(Timed {
+        nodes: arena.len(),
+        bytes,
+        build,
+        render,
+    })
+}
