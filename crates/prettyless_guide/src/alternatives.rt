@@ -13,7 +13,8 @@ fn unions_look_at_all_lines<'a, D: DocPlace<'a>>(
     let either = union(long, ("head", hard_line(), "body"));
     compare(
         rt,
-        place.pretty(either)?,
+        place,
+        either,
         &[(9, "head\nlong body"), (8, "head\nbody")],
     )
 }
@@ -26,7 +27,8 @@ fn partial_unions_look_at_the_first_line<'a, D: DocPlace<'a>>(
     let either = partial_union(long, ("head", hard_line(), "body"));
     compare(
         rt,
-        place.pretty(either)?,
+        place,
+        either,
         &[(4, "head\nlong body"), (3, "head\nbody")],
     )
 }
@@ -37,11 +39,7 @@ fn rejected_branches_leave_nothing<'a, D: DocPlace<'a>>(
 ) -> Result<(), Fail> {
     let long = ("long", line_suffix(" // why"));
     let either = ("a ", union(long, "b"));
-    compare(
-        rt,
-        place.pretty(either)?,
-        &[(6, "a long // why"), (5, "a b")],
-    )
+    compare(rt, place, either, &[(6, "a long // why"), (5, "a b")])
 }
 
 fn failures_reject_their_branch<'a, D: DocPlace<'a>>(
@@ -50,7 +48,7 @@ fn failures_reject_their_branch<'a, D: DocPlace<'a>>(
 ) -> Result<(), Fail> {
     let flat_only = group((flat_alt(fail(), nil()), "a", line_or_space(), "b"));
     let either = union(flat_only, "c");
-    compare(rt, place.pretty(either)?, &[(3, "a b"), (2, "c")])
+    compare(rt, place, either, &[(3, "a b"), (2, "c")])
 }
 
 fn all<'a, D: DocPlace<'a>>(rt: &impl Abort, place: &'a D) -> Result<(), Fail> {

@@ -1,15 +1,16 @@
-use prettyless::{DocBuilder, DocPlace, DocPtr, RenderOptions};
+use prettyless::{DocBuilder, DocPlace, DocPtr, Pretty, RenderOptions};
 use std::process::Abort;
 use std::test::Fail;
 
-// Compares what a document is laid out as with each of the options.
-pub(crate) fn compare_with<'a, D: DocPlace<'a>>(
+// Compares what a value's document is laid out as with each of the options.
+pub(crate) fn compare_with<'a, D: DocPlace<'a>, P: Pretty<'a, D>>(
     rt: &impl Abort,
-    document: DocBuilder<'a, D>,
+    place: &'a D,
+    value: P,
     layouts: &[(RenderOptions, &str)],
 ) -> Result<(), Fail> {
-    let memory = document.0.memory();
-    let document = document.into_doc()?;
+    let memory = place.memory();
+    let document = value.pretty(place)?.into_doc()?;
     for &(options, layout) in layouts {
         let mut out = String::new(memory);
         document.doc().render_fmt_with(memory, options, &mut out)?;
@@ -18,18 +19,28 @@ pub(crate) fn compare_with<'a, D: DocPlace<'a>>(
     Ok(())
 }
 
-// Compares what a document is laid out as at each width.
-pub(crate) fn compare<'a, D: DocPlace<'a>>(
+// Compares what a builder's document is laid out as at each width.
+pub(crate) fn compare_built<'a, D: DocPlace<'a>>(
     rt: &impl Abort,
-    document: DocBuilder<'a, D>,
+    built: DocBuilder<'a, D>,
     layouts: &[(usize, &str)],
 ) -> Result<(), Fail> {
-    let memory = document.0.memory();
-    let document = document.into_doc()?;
+    let memory = built.0.memory();
+    let document = built.into_doc()?;
     for &(width, layout) in layouts {
         let mut out = String::new(memory);
         document.doc().render_fmt(memory, width, &mut out)?;
         assert_eq!(rt; out.as_str(), layout, "at {width}");
     }
     Ok(())
+}
+
+// Compares what a value's document is laid out as at each width.
+pub(crate) fn compare<'a, D: DocPlace<'a>, P: Pretty<'a, D>>(
+    rt: &impl Abort,
+    place: &'a D,
+    value: P,
+    layouts: &[(usize, &str)],
+) -> Result<(), Fail> {
+    compare_built(rt, value.pretty(place)?, layouts)
 }

@@ -11,11 +11,7 @@ fn weak_spaces_and_lines_vanish<'a, D: DocPlace<'a>>(
 ) -> Result<(), Fail> {
     let first = ("a", weak_space(), "b;", weak_space());
     let lines = (first, hard_line(), weak_line(), "c;");
-    compare(
-        rt,
-        place.pretty(lines)?,
-        &[(80, "a b;\nc;"), (0, "a b;\nc;")],
-    )
+    compare(rt, place, lines, &[(80, "a b;\nc;"), (0, "a b;\nc;")])
 }
 
 fn weak_lines_break_their_group<'a, D: DocPlace<'a>>(
@@ -23,7 +19,7 @@ fn weak_lines_break_their_group<'a, D: DocPlace<'a>>(
     place: &'a D,
 ) -> Result<(), Fail> {
     let lines = group(("a", line_or_space(), "b", weak_line(), "c"));
-    compare(rt, place.pretty(lines)?, &[(80, "a\nb\nc"), (0, "a\nb\nc")])
+    compare(rt, place, lines, &[(80, "a\nb\nc"), (0, "a\nb\nc")])
 }
 
 fn suffixes_wait_for_the_end_of_their_line<'a, D: DocPlace<'a>>(
@@ -32,11 +28,7 @@ fn suffixes_wait_for_the_end_of_their_line<'a, D: DocPlace<'a>>(
 ) -> Result<(), Fail> {
     let remark = line_suffix(" // why");
     let pair = group(("a", remark, ",", line_or_space(), "b"));
-    compare(
-        rt,
-        place.pretty(pair)?,
-        &[(4, "a, b // why"), (3, "a, // why\nb")],
-    )
+    compare(rt, place, pair, &[(4, "a, b // why"), (3, "a, // why\nb")])
 }
 
 fn weak_spaces_stand_before_a_suffix<'a, D: DocPlace<'a>>(
@@ -45,7 +37,7 @@ fn weak_spaces_stand_before_a_suffix<'a, D: DocPlace<'a>>(
 ) -> Result<(), Fail> {
     let remark = ("a;", weak_space(), line_suffix("// why"), hard_line(), "b;");
     let layout = "a; // why\nb;";
-    compare(rt, place.pretty(remark)?, &[(80, layout), (0, layout)])
+    compare(rt, place, remark, &[(80, layout), (0, layout)])
 }
 
 fn all<'a, D: DocPlace<'a>>(rt: &impl Abort, place: &'a D) -> Result<(), Fail> {

@@ -18,7 +18,7 @@ fn options_choose_line_ends_and_indents<'a, D: DocPlace<'a>>(
         (deferred, "a\n\n  b"),
         (crlf, "a\r\n\r\n  b"),
     ];
-    compare_with(rt, place.pretty(lines)?, &layouts)
+    compare_with(rt, place, lines, &layouts)
 }
 
 fn failures_stop_a_render<'a, D: DocPlace<'a>>(rt: &impl Abort, place: &'a D) -> Result<(), Fail> {
