@@ -1,0 +1,17 @@
+//! The examples of the guide, each with its layouts.
+#![tactic(auto)]
+
+#[cfg(test)]
+mod alternatives;
+#[cfg(test)]
+mod indents;
+#[cfg(test)]
+mod layouts;
+#[cfg(test)]
+mod line_ends;
+#[cfg(test)]
+mod lines;
+#[cfg(test)]
+mod lists;
+#[cfg(test)]
+mod rendering;

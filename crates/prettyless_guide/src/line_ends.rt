@@ -1,0 +1,54 @@
+//! Spaces and lines that vanish, and what waits for the end of its line.
+use crate::layouts::compare;
+use prettyless::BoxAllocator;
+use prettyless::prelude::*;
+use std::process::Abort;
+use std::test::Fail;
+
+fn weak_spaces_and_lines_vanish<'a, D: DocPlace<'a>>(
+    rt: &impl Abort,
+    place: &'a D,
+) -> Result<(), Fail> {
+    let first = ("a", weak_space(), "b;", weak_space());
+    let lines = (first, hard_line(), weak_line(), "c;");
+    compare(rt, place, lines, &[(80, "a b;\nc;"), (0, "a b;\nc;")])
+}
+
+fn weak_lines_break_their_group<'a, D: DocPlace<'a>>(
+    rt: &impl Abort,
+    place: &'a D,
+) -> Result<(), Fail> {
+    let lines = group(("a", line_or_space(), "b", weak_line(), "c"));
+    compare(rt, place, lines, &[(80, "a\nb\nc"), (0, "a\nb\nc")])
+}
+
+fn suffixes_wait_for_the_end_of_their_line<'a, D: DocPlace<'a>>(
+    rt: &impl Abort,
+    place: &'a D,
+) -> Result<(), Fail> {
+    let remark = line_suffix(" // why");
+    let pair = group(("a", remark, ",", line_or_space(), "b"));
+    compare(rt, place, pair, &[(4, "a, b // why"), (3, "a, // why\nb")])
+}
+
+fn weak_spaces_stand_before_a_suffix<'a, D: DocPlace<'a>>(
+    rt: &impl Abort,
+    place: &'a D,
+) -> Result<(), Fail> {
+    let remark = ("a;", weak_space(), line_suffix("// why"), hard_line(), "b;");
+    let layout = "a; // why\nb;";
+    compare(rt, place, remark, &[(80, layout), (0, layout)])
+}
+
+fn all<'a, D: DocPlace<'a>>(rt: &impl Abort, place: &'a D) -> Result<(), Fail> {
+    weak_spaces_and_lines_vanish(rt, place)?;
+    weak_lines_break_their_group(rt, place)?;
+    suffixes_wait_for_the_end_of_their_line(rt, place)?;
+    weak_spaces_stand_before_a_suffix(rt, place)
+}
+
+#[test]
+fn line_ends_of_the_guide(rt: HostRuntime) -> Result<(), Fail> {
+    let boxes = BoxAllocator::new(rt.alloc());
+    all(&rt, &boxes)
+}

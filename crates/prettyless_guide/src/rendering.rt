@@ -1,0 +1,42 @@
+//! Options, and documents that fail.
+use crate::layouts::compare_with;
+use prettyless::prelude::*;
+use prettyless::{BoxAllocator, DocPtr, IndentationPolicy, LineEnding, RenderError, RenderOptions};
+use std::process::Abort;
+use std::test::Fail;
+
+fn options_choose_line_ends_and_indents<'a, D: DocPlace<'a>>(
+    rt: &impl Abort,
+    place: &'a D,
+) -> Result<(), Fail> {
+    let lines = nest(2, ("a", hard_line(), hard_line(), "b"));
+    let eager = RenderOptions::new(80);
+    let deferred = eager.with_indentation_policy(IndentationPolicy::Deferred);
+    let crlf = deferred.with_line_ending(LineEnding::Crlf);
+    let layouts = [
+        (eager, "a\n  \n  b"),
+        (deferred, "a\n\n  b"),
+        (crlf, "a\r\n\r\n  b"),
+    ];
+    compare_with(rt, place, lines, &layouts)
+}
+
+fn failures_stop_a_render<'a, D: DocPlace<'a>>(rt: &impl Abort, place: &'a D) -> Result<(), Fail> {
+    let failing = place.pretty(("a", fail(), "b"))?.into_doc()?;
+    let mut out = String::new(place.memory());
+    let result = failing.doc().render_fmt(place.memory(), 80, &mut out);
+    assert!(rt; matches!(result, Err(RenderError::Document(_))));
+    assert_eq!(rt; out.as_str(), "a");
+    Ok(())
+}
+
+fn all<'a, D: DocPlace<'a>>(rt: &impl Abort, place: &'a D) -> Result<(), Fail> {
+    options_choose_line_ends_and_indents(rt, place)?;
+    failures_stop_a_render(rt, place)
+}
+
+#[test]
+fn rendering_of_the_guide(rt: HostRuntime) -> Result<(), Fail> {
+    let boxes = BoxAllocator::new(rt.alloc());
+    all(&rt, &boxes)
+}
