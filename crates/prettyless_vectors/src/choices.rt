@@ -4,7 +4,7 @@ use prettyless::{IndentationPolicy, LineEnding};
 use std::test::Fail;
 
 #[rattlefmt::skip]
-const UNIONS: [Case; 13] = [
+const UNIONS: [Case<'static>; 13] = [
     // All lines of the first have to fit, or its first line alone.
     (10, "Union Append Append Text 'short' HardLine Text 'long long long' Append Append Text 'short' HardLine \
           Text 'short'", "short\nshort"),
@@ -31,13 +31,13 @@ const UNIONS: [Case; 13] = [
 ];
 
 #[rattlefmt::skip]
-const LINE_ENDS: [Case; 1] = [
+const LINE_ENDS: [Case<'static>; 1] = [
     // A rejected alternative leaves nothing, and lines end in CR and LF.
     (1, "Append Append Union Append Append Text 'ab' HardLine Text 'cd' Text 'z' HardLine Text 'w'", "z\r\nw"),
 ];
 
 #[rattlefmt::skip]
-const LATE_INDENTS: [Case; 2] = [
+const LATE_INDENTS: [Case<'static>; 2] = [
     // Indents that are not written make no alternative too wide.
     (1, "Union Nest 20 Append Append Text 'a' HardLine HardLine Text 'fallback'", "a\n\n"),
     (1, "Nest 20 Union Append Append Text 'a' HardLine HardLine Text 'fallback'", "a\n\n"),

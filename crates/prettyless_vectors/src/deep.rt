@@ -1,10 +1,8 @@
 //! Documents far deeper than they are wide.
-use crate::reader::read;
-use crate::rendered::rendered;
+use crate::rendered::{compare, rendered};
 use prettyless::text::{BuildError, Text};
 use prettyless::{BoxDoc, Doc};
 use std::alloc::{AllocError, Global};
-use std::process::Abort;
 use std::test::Fail;
 
 const DEPTH: usize = 64;
@@ -26,23 +24,11 @@ fn nested(memory: Global, front: &str, choice: &str) -> Result<String, AllocErro
     Ok(written)
 }
 
-fn compare(
-    rt: &impl Abort,
-    memory: Global,
-    width: usize,
-    written: &str,
-    layout: &str,
-) -> Result<(), Fail> {
-    let out = rendered(memory, &read(memory, written)?, width)?;
-    assert_eq!(rt; out.as_str(), layout);
-    Ok(())
-}
-
 #[test]
 fn alternatives_in_alternatives(rt: HostRuntime) -> Result<(), Fail> {
     let choice = "Union Append Append HardLine ";
     let written = nested(rt.alloc(), "Append Text 'p' ", choice)?;
-    compare(&rt, rt.alloc(), 4, written.as_str(), "px")
+    compare(&rt, rt.alloc(), &[(4, written.as_str(), "px")])
 }
 
 #[test]
@@ -50,7 +36,7 @@ fn alternatives_with_suffixes(rt: HostRuntime) -> Result<(), Fail> {
     let choice = "Union Append Append Append LineSuffix Text 'I' HardLine ";
     let front = "Append Append Text 'p' LineSuffix Text 'O' ";
     let written = nested(rt.alloc(), front, choice)?;
-    compare(&rt, rt.alloc(), 4, written.as_str(), "pxO")
+    compare(&rt, rt.alloc(), &[(4, written.as_str(), "pxO")])
 }
 
 // A suffix `a`, with such a suffix in it, and so on.
@@ -89,5 +75,5 @@ fn gaps_of_many_spaces(rt: HostRuntime) -> Result<(), Fail> {
     written.push_str("' Text '")?;
     push_times(&mut written, " ", 100)?;
     written.push_str("' Text '     '")?;
-    compare(&rt, rt.alloc(), 80, written.as_str(), layout.as_str())
+    compare(&rt, rt.alloc(), &[(80, written.as_str(), layout.as_str())])
 }

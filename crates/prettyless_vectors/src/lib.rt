@@ -4,8 +4,6 @@
 #[cfg(test)]
 mod built;
 #[cfg(test)]
-mod calls;
-#[cfg(test)]
 mod choices;
 #[cfg(test)]
 mod counted;

@@ -4,7 +4,7 @@ use prettyless::{IndentationPolicy, LineEnding};
 use std::test::Fail;
 
 #[rattlefmt::skip]
-const LAYOUTS: [Case; 6] = [
+const LAYOUTS: [Case<'static>; 6] = [
     // Nothing is flat around what expands its parent.
     (80, "Group Append BreakOrFlat HardLine Text ' ' ExpandParent", "\n"),
     // A flattened alternative is its flat one.
@@ -20,7 +20,7 @@ const LAYOUTS: [Case; 6] = [
 ];
 
 #[rattlefmt::skip]
-const FAILURES: [Case; 3] = [
+const FAILURES: [Case<'static>; 3] = [
     // A failing document, also in a group.
     (80, "Fail", ""),
     (80, "Group Fail", ""),
@@ -29,7 +29,7 @@ const FAILURES: [Case; 3] = [
 ];
 
 #[rattlefmt::skip]
-const LINE_ENDS: [Case; 2] = [
+const LINE_ENDS: [Case<'static>; 2] = [
     // Lines that end in CR and LF.
     (80, "Append Append Nest 2 Append Append Text 'x' HardLine Text 'y' HardLine Text 'z'", "x\r\n  y\r\nz"),
     (5, "Append Append Text '(' Group Nest 1 Append Append Append Append Text '1' BreakOrFlat HardLine Text ' ' \
@@ -37,7 +37,7 @@ const LINE_ENDS: [Case; 2] = [
 ];
 
 #[rattlefmt::skip]
-const LATE_INDENTS: [Case; 4] = [
+const LATE_INDENTS: [Case<'static>; 4] = [
     // An indent is written before the first text of its line, and not without one.
     (80, "Nest 2 Append Append Append Text 'aaa' HardLine HardLine Text 'bbb'", "aaa\n\n  bbb"),
     (0, "Nest 2 HardLine", "\n"),

@@ -4,7 +4,7 @@ use prettyless::{IndentationPolicy, LineEnding};
 use std::test::Fail;
 
 #[rattlefmt::skip]
-const LAYOUTS: [Case; 19] = [
+const LAYOUTS: [Case<'static>; 19] = [
     // A weak space on a fresh line is nothing.
     (0, "Append WeakSpace Text 'a'", "a"),
     // A space that a suffix keeps has to fit, at the end and in front of a break.
@@ -42,7 +42,7 @@ const LAYOUTS: [Case; 19] = [
 ];
 
 #[rattlefmt::skip]
-const LINE_ENDS: [Case; 3] = [
+const LINE_ENDS: [Case<'static>; 3] = [
     // A probe reads the second of two alternatives, and counts a space that a suffix keeps.
     (4, "PartialUnion Union Text 'cpavu' WeakSpace MultilineText '你\n'", ""),
     (3, "Group Union Append Text 'mvv' Append WeakSpace LineSuffix Text 'n' Text 'cph'", "cph"),
@@ -51,13 +51,13 @@ const LINE_ENDS: [Case; 3] = [
 ];
 
 #[rattlefmt::skip]
-const LATE_INDENTS: [Case; 1] = [
+const LATE_INDENTS: [Case<'static>; 1] = [
     // A weak line behind a suffix is a break in flat lines too.
     (13, "Group Append LineSuffix WeakLine Append WeakLine HardLine", "\n\n"),
 ];
 
 #[rattlefmt::skip]
-const FAILURES: [Case; 1] = [
+const FAILURES: [Case<'static>; 1] = [
     // Suffixes are laid in their order.
     (80, "Append LineSuffix Fail LineSuffix HardLine", ""),
 ];

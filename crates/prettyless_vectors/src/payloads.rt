@@ -4,7 +4,7 @@ use prettyless::{IndentationPolicy, LineEnding};
 use std::test::Fail;
 
 #[rattlefmt::skip]
-const PAYLOADS: [Case; 8] = [
+const PAYLOADS: [Case<'static>; 8] = [
     // Written as they are, with no indent inside.
     (80, "MultilineText 'a\r\n\nb\n'", "a\r\n\nb\n"),
     (80, "Append Text 'key: ' MultilineText 'one\n  two'", "key: one\n  two"),
@@ -23,7 +23,7 @@ const PAYLOADS: [Case; 8] = [
 ];
 
 #[rattlefmt::skip]
-const ENDINGS: [Case; 2] = [
+const ENDINGS: [Case<'static>; 2] = [
     // Their line ends stay where other lines end in CR and LF.
     (80, "MultilineText 'a\r\n\nb\n'", "a\r\n\nb\n"),
     (80, "Append Append Text 'a\nb' HardLine Text 'c'", "a\nb\r\nc"),

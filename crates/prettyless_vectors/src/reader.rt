@@ -1,16 +1,20 @@
 use prettyless::text::{CowStr, Text};
-use prettyless::{BoxDoc, Doc};
+use prettyless::{Doc, DocPlace, DocPtr};
 use std::alloc::Global;
 use std::test::Fail;
 
-// Deeper than any document of the tables.
-const DEPTH: u32 = 200;
+// A variant, with the number and the text that stand behind it where it has them.
+#[derive(Clone, Copy)]
+struct Node<'a> {
+    variant: &'a str,
+    number: &'a str,
+    text: &'a str,
+}
 
 // Reads documents that are written as their variants, each in front of what it holds: words with a space between them,
 // and texts in quotes. The nodes are put together as they stand, with no builder.
 #[derive(Drop)]
 struct Reader<'a> {
-    memory: Global,
     rest: &'a str,
 }
 
@@ -30,75 +34,62 @@ impl<'a> Reader<'a> {
         Ok(text)
     }
 
-    // The node of this variant, if it holds no document.
-    fn leaf(&mut self, variant: &str) -> Result<Option<Doc<'a, BoxDoc<'a>>>, Fail> {
-        let node = match variant {
-            "Nil" => Doc::Nil,
-            "Fail" => Doc::Fail,
-            "Text" => Doc::Text(Text::Borrowed(self.quoted()?)),
-            "TextWithLen" => Doc::TextWithLen(self.word().parse()?, Text::Borrowed(self.quoted()?)),
-            "MultilineText" => Doc::multiline_text(self.memory, CowStr::Borrowed(self.quoted()?))?,
-            "WeakSpace" => Doc::WeakSpace,
-            "HardLine" => Doc::HardLine,
-            "WeakLine" => Doc::WeakLine,
-            "ExpandParent" => Doc::ExpandParent,
-            _ => return Ok(None),
-        };
-        Ok(Some(node))
-    }
-
-    // The next document, if it is at most this deep.
-    fn document(&mut self, depth: u32) -> Result<BoxDoc<'a>, Fail> {
-        if depth == 0 {
-            return Err(Fail::new("too deep"));
-        }
+    // The next node.
+    fn node(&mut self) -> Result<Node<'a>, Fail> {
         let variant = self.word();
-        if let Some(leaf) = self.leaf(variant)? {
-            return Ok(BoxDoc::new(self.memory, leaf)?);
+        let number = if matches!(variant, "TextWithLen" | "Nest") {
+            self.word()
+        } else {
+            ""
+        };
+        let text = if matches!(variant, "Text" | "TextWithLen" | "MultilineText") {
+            self.quoted()?
+        } else {
+            ""
+        };
+        Ok(Node {
+            variant,
+            number,
+            text,
+        })
+    }
+}
+
+// All nodes, each in front of those that it holds.
+fn nodes<'a>(memory: Global, written: &'a str) -> Result<Vec<Node<'a>>, Fail> {
+    let mut reader = Reader { rest: written };
+    let mut nodes = Vec::new(memory);
+    for _ in 0..written.len() {
+        if reader.rest.is_empty() {
+            break;
         }
-        let offset = if variant == "Nest" {
-            self.word().parse()?
-        } else {
-            0
-        };
-        let first = self.document(depth - 1)?;
-        let node = if is_pair(variant) {
-            pair(variant, first, self.document(depth - 1)?)?
-        } else {
-            around(variant, offset, first)?
-        };
-        Ok(BoxDoc::new(self.memory, node)?)
+        nodes.push(reader.node()?)?;
     }
+    Ok(nodes)
 }
 
-fn is_pair(variant: &str) -> bool {
-    matches!(variant, "Append" | "BreakOrFlat" | "Union" | "PartialUnion")
+// The node that holds no document, if it is one.
+fn leaf<'a, T: DocPtr<'a>>(memory: Global, node: Node<'a>) -> Result<Option<Doc<'a, T>>, Fail> {
+    let leaf = match node.variant {
+        "Nil" => Doc::Nil,
+        "Fail" => Doc::Fail,
+        "Text" => Doc::Text(Text::Borrowed(node.text)),
+        "TextWithLen" => Doc::TextWithLen(node.number.parse()?, Text::Borrowed(node.text)),
+        "MultilineText" => Doc::multiline_text(memory, CowStr::Borrowed(node.text))?,
+        "WeakSpace" => Doc::WeakSpace,
+        "HardLine" => Doc::HardLine,
+        "WeakLine" => Doc::WeakLine,
+        "ExpandParent" => Doc::ExpandParent,
+        _ => return Ok(None),
+    };
+    Ok(Some(leaf))
 }
 
-// The node of this variant over two documents.
-fn pair<'a>(
-    variant: &str,
-    first: BoxDoc<'a>,
-    second: BoxDoc<'a>,
-) -> Result<Doc<'a, BoxDoc<'a>>, Fail> {
-    match variant {
-        "Append" => Ok(Doc::Append(first, second)),
-        "BreakOrFlat" => Ok(Doc::BreakOrFlat(first, second)),
-        "Union" => Ok(Doc::Union(first, second)),
-        "PartialUnion" => Ok(Doc::PartialUnion(first, second)),
-        _ => Err(Fail::new("no variant")),
-    }
-}
-
-// The node of this variant over one document.
-fn around<'a>(
-    variant: &str,
-    offset: isize,
-    inner: BoxDoc<'a>,
-) -> Result<Doc<'a, BoxDoc<'a>>, Fail> {
-    match variant {
+// The node over one document.
+fn around<'a, T: DocPtr<'a>>(node: Node<'a>, inner: T) -> Result<Doc<'a, T>, Fail> {
+    match node.variant {
         "LineSuffix" => Ok(Doc::LineSuffix(inner)),
-        "Nest" => Ok(Doc::Nest(offset, inner)),
+        "Nest" => Ok(Doc::Nest(node.number.parse()?, inner)),
         "DedentToRoot" => Ok(Doc::DedentToRoot(inner)),
         "Align" => Ok(Doc::Align(inner)),
         "Flatten" => Ok(Doc::Flatten(inner)),
@@ -107,14 +98,47 @@ fn around<'a>(
     }
 }
 
+// The node over two documents.
+fn pair<'a, T: DocPtr<'a>>(node: Node<'a>, first: T, second: T) -> Result<Doc<'a, T>, Fail> {
+    match node.variant {
+        "Append" => Ok(Doc::Append(first, second)),
+        "BreakOrFlat" => Ok(Doc::BreakOrFlat(first, second)),
+        "Union" => Ok(Doc::Union(first, second)),
+        "PartialUnion" => Ok(Doc::PartialUnion(first, second)),
+        _ => Err(Fail::new("no variant")),
+    }
+}
+
+// The node over those of the documents that it holds, the first of them last.
+fn over<'a, T: DocPtr<'a>>(
+    memory: Global,
+    node: Node<'a>,
+    documents: &mut Vec<T>,
+) -> Result<Doc<'a, T>, Fail> {
+    if let Some(leaf) = leaf(memory, node)? {
+        return Ok(leaf);
+    }
+    let first = documents.pop().ok_or("no document")?;
+    if !matches!(
+        node.variant,
+        "Append" | "BreakOrFlat" | "Union" | "PartialUnion"
+    ) {
+        return around(node, first);
+    }
+    let second = documents.pop().ok_or("no second document")?;
+    pair(node, first, second)
+}
+
 // The document that is written so, and nothing behind it.
-pub(crate) fn read(memory: Global, written: &str) -> Result<BoxDoc<'_>, Fail> {
-    let mut reader = Reader {
-        memory,
-        rest: written,
-    };
-    let document = reader.document(DEPTH)?;
-    if !reader.rest.is_empty() {
+pub(crate) fn read<'a, D: DocPlace<'a>>(place: &'a D, written: &'a str) -> Result<D::Doc, Fail> {
+    let memory = place.memory();
+    let mut documents = Vec::new(memory);
+    for node in nodes(memory, written)?.into_iter().rev() {
+        let node = over(memory, node, &mut documents)?;
+        documents.push(place.alloc(node)?)?;
+    }
+    let document = documents.pop().ok_or("no document")?;
+    if !documents.is_empty() {
         return Err(Fail::new("more than a document"));
     }
     Ok(document)

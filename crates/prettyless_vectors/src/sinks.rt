@@ -2,7 +2,8 @@
 ghost use Rattle.std.specs.Prelude.{[], ⊤};
 
 use crate::reader::read;
-use prettyless::{DocPtr, Render, RenderError};
+use bumpalo::Bump;
+use prettyless::{Arena, BoxAllocator, DocPlace, DocPtr, RcAllocator, Render, RenderError};
 use std::alloc::Global;
 use std::process::Abort;
 use std::test::Fail;
@@ -58,17 +59,29 @@ impl Render for Short {
     }
 }
 
+impl Short {
+    // Full with so many bytes, which it takes one at a time.
+    fn new(memory: Global, room: usize) -> Self {
+        Short {
+            bytes: Vec::new(memory),
+            room,
+            count: 1,
+            of_everything: true,
+        }
+    }
+}
+
 // Compares the sink's fault and what it has.
-fn compare(
+fn compare<'a, D: DocPlace<'a>>(
     rt: &impl Abort,
-    memory: Global,
-    written: &str,
+    place: &'a D,
+    written: &'a str,
     mut sink: Short,
     expected: (Fault, &[u8]),
 ) -> Result<(), Fail> {
-    let document = read(memory, written)?;
+    let document = read(place, written)?;
     let (fault, bytes) = expected;
-    match document.doc().render_raw(memory, 80, &mut sink) {
+    match document.doc().render_raw(place.memory(), 80, &mut sink) {
         Err(RenderError::Sink(error)) => assert_eq!(rt; error, fault),
         _ => panic!(rt; "the sink did not fail"),
     }
@@ -76,16 +89,20 @@ fn compare(
     Ok(())
 }
 
+// Likewise a sink with room for two bytes.
+fn compare_full<'a, D: DocPlace<'a>>(rt: &impl Abort, place: &'a D) -> Result<(), Fail> {
+    let written = "Union Append Text 'abcd' LineSuffix Text '!' Text 'fallback'";
+    let sink = Short::new(place.memory(), 2);
+    compare(rt, place, written, sink, (Fault::Full, b"ab"))
+}
+
 #[test]
 fn full_inside_an_alternative(rt: HostRuntime) -> Result<(), Fail> {
-    let sink = Short {
-        bytes: Vec::new(rt.alloc()),
-        room: 2,
-        count: 1,
-        of_everything: true,
-    };
-    let written = "Union Append Text 'abcd' LineSuffix Text '!' Text 'fallback'";
-    compare(&rt, rt.alloc(), written, sink, (Fault::Full, b"ab"))
+    compare_full(&rt, &BoxAllocator::new(rt.alloc()))?;
+    compare_full(&rt, &RcAllocator::new(rt.alloc()))?;
+    let bump = Bump::new(rt.alloc());
+    let arena = Arena::new(rt.alloc(), &bump);
+    compare_full(&rt, &arena)
 }
 
 #[test]
@@ -97,25 +114,17 @@ fn bad_counts_of_spaces(rt: HostRuntime) -> Result<(), Fail> {
             count,
             of_everything: false,
         };
+        let boxes = BoxAllocator::new(rt.alloc());
         let written = "Append Append Text 'a' WeakSpace Text 'b'";
-        compare(
-            &rt,
-            rt.alloc(),
-            written,
-            sink,
-            (Fault::Count, bytes.as_bytes()),
-        )?;
+        let expected = (Fault::Count, bytes.as_bytes());
+        compare(&rt, &boxes, written, sink, expected)?;
     }
     Ok(())
 }
 
 #[test]
 fn a_count_inside_a_character(rt: HostRuntime) -> Result<(), Fail> {
-    let sink = Short {
-        bytes: Vec::new(rt.alloc()),
-        room: usize::MAX,
-        count: 1,
-        of_everything: true,
-    };
-    compare(&rt, rt.alloc(), "Text 'é'", sink, (Fault::Count, b"\xc3"))
+    let boxes = BoxAllocator::new(rt.alloc());
+    let sink = Short::new(rt.alloc(), usize::MAX);
+    compare(&rt, &boxes, "Text 'é'", sink, (Fault::Count, b"\xc3"))
 }

@@ -4,7 +4,7 @@ use prettyless::{IndentationPolicy, LineEnding};
 use std::test::Fail;
 
 #[rattlefmt::skip]
-const SUFFIXES: [Case; 7] = [
+const SUFFIXES: [Case<'static>; 7] = [
     // In front of the next break, or at the end.
     (5, "Append Append Append Append Text 'a' LineSuffix Text ' // 1' HardLine LineSuffix Text ' // 2' Text 'b'",
      "a // 1\nb // 2"),
@@ -22,7 +22,7 @@ const SUFFIXES: [Case; 7] = [
 ];
 
 #[rattlefmt::skip]
-const CHOICES: [Case; 7] = [
+const CHOICES: [Case<'static>; 7] = [
     // A rejected alternative leaves those from before it, and none of its own.
     (5, "Append Append Append Text 'a' LineSuffix Text ' // 1' Text 'a' Union Append LineSuffix Text ' // 3' \
          Text '6666666' Append LineSuffix Text ' // 4' Text '77'", "aa77 // 1 // 4"),
@@ -42,7 +42,7 @@ const CHOICES: [Case; 7] = [
 ];
 
 #[rattlefmt::skip]
-const FAILURES: [Case; 2] = [
+const FAILURES: [Case<'static>; 2] = [
     // A suffix fails where it is laid, behind the text of its line.
     (80, "Append LineSuffix Fail Text 'a'", "a"),
     (2, "Append Union Append Text 'a' LineSuffix Fail Text 'x' Text 'b'", "ab"),

@@ -1,14 +1,17 @@
 //! The ways to render, each with the same bytes.
 use crate::reader::read;
 use crate::rendered::options;
-use prettyless::{DocPtr, IndentationPolicy, LineEnding, RenderError};
+use prettyless::{
+    BoxAllocator, DocPtr, FmtWrite, IndentationPolicy, IoWrite, LineEnding, RenderError,
+};
 use std::test::Fail;
 
 const WRITTEN: &str = "Nest 2 Append Append Append Text 'ab' HardLine HardLine Text 'c'";
 
 #[test]
 fn to_a_byte_writer(rt: HostRuntime) -> Result<(), Fail> {
-    let document = read(rt.alloc(), WRITTEN)?;
+    let boxes = BoxAllocator::new(rt.alloc());
+    let document = read(&boxes, WRITTEN)?;
     let mut out = Vec::new(rt.alloc());
     document.doc().render(rt.alloc(), 80, &mut out)?;
     assert_eq!(rt; out.as_slice(), b"ab\n  \n  c".as_slice());
@@ -21,7 +24,8 @@ fn to_a_byte_writer(rt: HostRuntime) -> Result<(), Fail> {
 
 #[test]
 fn to_what_is_displayed(rt: HostRuntime) -> Result<(), Fail> {
-    let document = read(rt.alloc(), WRITTEN)?;
+    let boxes = BoxAllocator::new(rt.alloc());
+    let document = read(&boxes, WRITTEN)?;
     let printed = format!(in rt.alloc(); "{}", document.doc().print(rt.alloc(), 80))?;
     assert_eq!(rt; printed.as_str(), "ab\n  \n  c");
     let late = options(LineEnding::Crlf, IndentationPolicy::Deferred);
@@ -31,8 +35,27 @@ fn to_what_is_displayed(rt: HostRuntime) -> Result<(), Fail> {
 }
 
 #[test]
+fn to_a_sink(rt: HostRuntime) -> Result<(), Fail> {
+    let boxes = BoxAllocator::new(rt.alloc());
+    let document = read(&boxes, WRITTEN)?;
+    let mut out = String::new(rt.alloc());
+    document
+        .doc()
+        .render_raw(rt.alloc(), 80, &mut FmtWrite::new(&mut out))?;
+    assert_eq!(rt; out.as_str(), "ab\n  \n  c");
+    let late = options(LineEnding::Crlf, IndentationPolicy::Deferred);
+    let mut out = Vec::new(rt.alloc());
+    document
+        .doc()
+        .render_raw_with(rt.alloc(), late, &mut IoWrite::new(&mut out))?;
+    assert_eq!(rt; out.as_slice(), b"ab\r\n\r\n  c".as_slice());
+    Ok(())
+}
+
+#[test]
 fn fails_behind_what_stands_before(rt: HostRuntime) -> Result<(), Fail> {
-    let document = read(rt.alloc(), "Append LineSuffix Fail Text 'a'")?;
+    let boxes = BoxAllocator::new(rt.alloc());
+    let document = read(&boxes, "Append LineSuffix Fail Text 'a'")?;
     let mut out = Vec::new(rt.alloc());
     let result = document.doc().render(rt.alloc(), 80, &mut out);
     assert!(rt; matches!(result, Err(RenderError::Document(_))));

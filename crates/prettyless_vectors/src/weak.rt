@@ -3,7 +3,7 @@ use crate::rendered::{Case, compare};
 use std::test::Fail;
 
 #[rattlefmt::skip]
-const SPACES: [Case; 15] = [
+const SPACES: [Case<'static>; 15] = [
     // Nothing at the start of a line, nor at its end.
     (80, "Append Append WeakSpace Text 'a' WeakSpace", "a"),
     (80, "Append Append Text 'a' WeakSpace Align Append HardLine Text 'b'", "a\n  b"),
@@ -30,7 +30,7 @@ const SPACES: [Case; 15] = [
 ];
 
 #[rattlefmt::skip]
-const LINES: [Case; 10] = [
+const LINES: [Case<'static>; 10] = [
     // A break that no group takes away.
     (80, "Group Append Append Text 'a' WeakLine Text 'b'", "a\nb"),
     // Flat where an alternative stands in its place.

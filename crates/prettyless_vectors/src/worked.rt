@@ -3,7 +3,7 @@ use crate::rendered::{Case, compare};
 use std::test::Fail;
 
 #[rattlefmt::skip]
-const TEXTS: [Case; 8] = [
+const TEXTS: [Case<'static>; 8] = [
     // Nothing, which takes no column.
     (80, "Nil", ""),
     (0, "Nil", ""),
@@ -18,7 +18,7 @@ const TEXTS: [Case; 8] = [
 ];
 
 #[rattlefmt::skip]
-const GROUPS: [Case; 21] = [
+const GROUPS: [Case<'static>; 21] = [
     // Flat where it fits with what follows on the line.
     (80, "Group Append Append Text 'a' BreakOrFlat HardLine Text ' ' Text 'b'", "a b"),
     (2, "Group Append Append Text 'a' BreakOrFlat HardLine Text ' ' Text 'b'", "a\nb"),
@@ -61,7 +61,7 @@ const GROUPS: [Case; 21] = [
 ];
 
 #[rattlefmt::skip]
-const INDENTS: [Case; 11] = [
+const INDENTS: [Case<'static>; 11] = [
     // A line has the indent of what follows the break.
     (80, "Append Nest 2 HardLine Nil", "\n"),
     (80, "Append Append Text 'a' HardLine Nest 4 Text 'x'", "a\nx"),
@@ -81,7 +81,7 @@ const INDENTS: [Case; 11] = [
 ];
 
 #[rattlefmt::skip]
-const COUNTED_WIDTHS: [Case; 3] = [
+const COUNTED_WIDTHS: [Case<'static>; 3] = [
     // Six bytes in three columns.
     (8, "Group Append Append TextWithLen 3 'ÅÄÖ' BreakOrFlat HardLine Text ' ' Text 'test'", "ÅÄÖ test"),
     // As wide as a line can be, and no narrower for what follows.
