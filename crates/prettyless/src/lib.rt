@@ -9,8 +9,10 @@
 pub mod macros;
 pub mod prelude;
 
-pub use prettyless_alloc::{DocAllocator, DocAllocatorBetween, DocAllocatorOf, DocAllocatorOver};
-pub use prettyless_alloc::{PlacedDoc, PlacedDocBetween, PlacedDocOf, PlacedDocOver};
+pub use prettyless_alloc::{
+    DocAllocator, DocAllocatorBetween, DocAllocatorOf, DocAllocatorOver, PlacedDoc,
+    PlacedDocBetween, PlacedDocOf, PlacedDocOver,
+};
 pub use prettyless_build::{DocBuilder, Pretty};
 pub use prettyless_combinators as combinators;
 pub use prettyless_doc::{BuildDoc, Doc, DocPlace, DocPtr, PrettyFmt, text};

@@ -1,7 +1,9 @@
 //! What most code that builds documents names.
 
-pub use prettyless_alloc::{DocAllocator, DocAllocatorBetween, DocAllocatorOf, DocAllocatorOver};
-pub use prettyless_alloc::{PlacedDoc, PlacedDocBetween, PlacedDocOf, PlacedDocOver};
+pub use prettyless_alloc::{
+    DocAllocator, DocAllocatorBetween, DocAllocatorOf, DocAllocatorOver, PlacedDoc,
+    PlacedDocBetween, PlacedDocOf, PlacedDocOver,
+};
 pub use prettyless_build::{DocBuilder, Pretty};
 pub use prettyless_combinators::{
     align, as_string, dedent, dedent_to_root, expand_parent, fail, flat_alt, flatten, group,

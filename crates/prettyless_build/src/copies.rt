@@ -29,7 +29,10 @@ impl<'a, D: DocPlace<'a>> DocBuilder<'a, D> {
             let copy = allocator.clone_ptr(&original)?;
             all = BuildDoc::Doc(Doc::Append(DocBuilder(allocator, all).into_doc()?, copy));
         }
-        Ok(DocBuilder::new(allocator, Doc::Append(DocBuilder(allocator, all).into_doc()?, original)))
+        Ok(DocBuilder::new(
+            allocator,
+            Doc::Append(DocBuilder(allocator, all).into_doc()?, original),
+        ))
     }
 
     /// The same document once more. It fails where no memory was had.
