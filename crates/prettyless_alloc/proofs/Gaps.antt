@@ -1,5 +1,5 @@
 -- Texts of spaces: where one may be cut, and how many there are.
-use Rattle.std.proofs.Common.{◌≡◌, refl, ℕ, suc, zero, ◌<◌, ◌≤◌, ◌-◌, ◌/◌, List, length, get_or, take, replicate, arith, ap, ◌∙◌}
+use Rattle.std.proofs.Common.{◌≡◌, refl, ℕ, suc, zero, ◌<◌, ◌≤◌, ◌/◌, List, length, get_or, take, replicate, arith, ap, ◌∙◌}
 use Rattle.std.proofs.Math.Nat.{sub-zero}
 use Rattle.std.proofs.lemmas.List.{get_or-replicate, take-replicate, length-replicate}
 use Rattle.std.specs.List.{slice_range}

@@ -1,5 +1,5 @@
 -- Frames, pushed and popped.
-use Rattle.std.proofs.Common.{◌≡◌, ℕ, ◌+◌, List, [], ◌∷◌, ◌++◌, refl, ap, arith}
+use Rattle.std.proofs.Common.{◌≡◌, ◌+◌, List, [], ◌∷◌, ◌++◌, refl, ap, arith}
 use Rattle.prettyless_model.specs.Tree.{Tree}
 use Rattle.prettyless_pointers.specs.Copying.{filled, frame_work, frames_work, whole}
 use Rattle.prettyless_pointers.specs.declared.copying.Frame.{Frame}
