@@ -1,5 +1,5 @@
 -- What the words that the program is started with ask for.
-use Rattle.std.specs.Prelude.{ℕ, List, [], ◌∷◌, String, string_bytes, codes, Option, Some, None, if◌then◌else◌}
+use Rattle.std.specs.Prelude.{List, [], ◌∷◌, String, string_bytes, codes, Option, Some, None, if◌then◌else◌}
 use Rattle.std.specs.Global.{Global}
 use Rattle.std.specs.Str.{bytes_eq}
 use Rattle.bench.specs.Names.{workload_of}
