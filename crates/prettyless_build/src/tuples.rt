@@ -24,10 +24,10 @@ fn both<'a, D: DocPlace<'a>, X: Pretty<'a, D>, Y: Pretty<'a, D>>(
     front?.join(last?)
 }
 
-impl<'a, D: DocPlace<'a>, T1: Pretty<'a, D>> Pretty<'a, D> for (T1,) {
-    ghost becomes = { λ t. T1.becomes t.0 };
+impl<'a, D: DocPlace<'a>, Field1: Pretty<'a, D>> Pretty<'a, D> for (Field1,) {
+    ghost becomes = { λ t. Field1.becomes t.0 };
 
-    ghost refuses = { λ t. T1.refuses t.0 };
+    ghost refuses = { λ t. Field1.refuses t.0 };
 
     fn pretty(self, allocator: &'a D) -> Result<DocBuilder<'a, D>, BuildError> {
         let (t1,) = self;
@@ -35,10 +35,11 @@ impl<'a, D: DocPlace<'a>, T1: Pretty<'a, D>> Pretty<'a, D> for (T1,) {
     }
 }
 
-impl<'a, D: DocPlace<'a>, T1: Pretty<'a, D>, T2: Pretty<'a, D>> Pretty<'a, D> for (T1, T2) {
-    ghost becomes = { λ t. joined (T1.becomes t.0) (T2.becomes t.1) };
+impl<'a, D: DocPlace<'a>, Field1: Pretty<'a, D>, Field2: Pretty<'a, D>> Pretty<'a, D>
+    for (Field1, Field2) {
+    ghost becomes = { λ t. joined (Field1.becomes t.0) (Field2.becomes t.1) };
 
-    ghost refuses = { λ t. refused (T1.refuses t.0) (T2.refuses t.1) };
+    ghost refuses = { λ t. refused (Field1.refuses t.0) (Field2.refuses t.1) };
 
     fn pretty(self, allocator: &'a D) -> Result<DocBuilder<'a, D>, BuildError> {
         let (t1, t2) = self;
@@ -46,11 +47,16 @@ impl<'a, D: DocPlace<'a>, T1: Pretty<'a, D>, T2: Pretty<'a, D>> Pretty<'a, D> fo
     }
 }
 
-impl<'a, D: DocPlace<'a>, T1: Pretty<'a, D>, T2: Pretty<'a, D>, T3: Pretty<'a, D>> Pretty<'a, D>
-    for (T1, T2, T3) {
-    ghost becomes = { λ t. joined (joined (T1.becomes t.0) (T2.becomes t.1)) (T3.becomes t.2) };
+impl<
+    'a,
+    D: DocPlace<'a>,
+    Field1: Pretty<'a, D>,
+    Field2: Pretty<'a, D>,
+    Field3: Pretty<'a, D>,
+> Pretty<'a, D> for (Field1, Field2, Field3) {
+    ghost becomes = { λ t. joined (joined (Field1.becomes t.0) (Field2.becomes t.1)) (Field3.becomes t.2) };
 
-    ghost refuses = { λ t. refused (refused (T1.refuses t.0) (T2.refuses t.1)) (T3.refuses t.2) };
+    ghost refuses = { λ t. refused (refused (Field1.refuses t.0) (Field2.refuses t.1)) (Field3.refuses t.2) };
 
     fn pretty(self, allocator: &'a D) -> Result<DocBuilder<'a, D>, BuildError> {
         let (t1, t2, t3) = self;
@@ -61,14 +67,14 @@ impl<'a, D: DocPlace<'a>, T1: Pretty<'a, D>, T2: Pretty<'a, D>, T3: Pretty<'a, D
 impl<
     'a,
     D: DocPlace<'a>,
-    T1: Pretty<'a, D>,
-    T2: Pretty<'a, D>,
-    T3: Pretty<'a, D>,
-    T4: Pretty<'a, D>,
-> Pretty<'a, D> for (T1, T2, T3, T4) {
-    ghost becomes = { λ t. joined (joined (joined (T1.becomes t.0) (T2.becomes t.1)) (T3.becomes t.2)) (T4.becomes t.3) };
+    Field1: Pretty<'a, D>,
+    Field2: Pretty<'a, D>,
+    Field3: Pretty<'a, D>,
+    Field4: Pretty<'a, D>,
+> Pretty<'a, D> for (Field1, Field2, Field3, Field4) {
+    ghost becomes = { λ t. joined (joined (joined (Field1.becomes t.0) (Field2.becomes t.1)) (Field3.becomes t.2)) (Field4.becomes t.3) };
 
-    ghost refuses = { λ t. refused (refused (refused (T1.refuses t.0) (T2.refuses t.1)) (T3.refuses t.2)) (T4.refuses t.3) };
+    ghost refuses = { λ t. refused (refused (refused (Field1.refuses t.0) (Field2.refuses t.1)) (Field3.refuses t.2)) (Field4.refuses t.3) };
 
     fn pretty(self, allocator: &'a D) -> Result<DocBuilder<'a, D>, BuildError> {
         let (t1, t2, t3, t4) = self;
@@ -79,15 +85,15 @@ impl<
 impl<
     'a,
     D: DocPlace<'a>,
-    T1: Pretty<'a, D>,
-    T2: Pretty<'a, D>,
-    T3: Pretty<'a, D>,
-    T4: Pretty<'a, D>,
-    T5: Pretty<'a, D>,
-> Pretty<'a, D> for (T1, T2, T3, T4, T5) {
-    ghost becomes = { λ t. joined (joined (joined (joined (T1.becomes t.0) (T2.becomes t.1)) (T3.becomes t.2)) (T4.becomes t.3)) (T5.becomes t.4) };
+    Field1: Pretty<'a, D>,
+    Field2: Pretty<'a, D>,
+    Field3: Pretty<'a, D>,
+    Field4: Pretty<'a, D>,
+    Field5: Pretty<'a, D>,
+> Pretty<'a, D> for (Field1, Field2, Field3, Field4, Field5) {
+    ghost becomes = { λ t. joined (joined (joined (joined (Field1.becomes t.0) (Field2.becomes t.1)) (Field3.becomes t.2)) (Field4.becomes t.3)) (Field5.becomes t.4) };
 
-    ghost refuses = { λ t. refused (refused (refused (refused (T1.refuses t.0) (T2.refuses t.1)) (T3.refuses t.2)) (T4.refuses t.3)) (T5.refuses t.4) };
+    ghost refuses = { λ t. refused (refused (refused (refused (Field1.refuses t.0) (Field2.refuses t.1)) (Field3.refuses t.2)) (Field4.refuses t.3)) (Field5.refuses t.4) };
 
     fn pretty(self, allocator: &'a D) -> Result<DocBuilder<'a, D>, BuildError> {
         let (t1, t2, t3, t4, t5) = self;
@@ -98,16 +104,16 @@ impl<
 impl<
     'a,
     D: DocPlace<'a>,
-    T1: Pretty<'a, D>,
-    T2: Pretty<'a, D>,
-    T3: Pretty<'a, D>,
-    T4: Pretty<'a, D>,
-    T5: Pretty<'a, D>,
-    T6: Pretty<'a, D>,
-> Pretty<'a, D> for (T1, T2, T3, T4, T5, T6) {
-    ghost becomes = { λ t. joined (joined (joined (joined (joined (T1.becomes t.0) (T2.becomes t.1)) (T3.becomes t.2)) (T4.becomes t.3)) (T5.becomes t.4)) (T6.becomes t.5) };
+    Field1: Pretty<'a, D>,
+    Field2: Pretty<'a, D>,
+    Field3: Pretty<'a, D>,
+    Field4: Pretty<'a, D>,
+    Field5: Pretty<'a, D>,
+    Field6: Pretty<'a, D>,
+> Pretty<'a, D> for (Field1, Field2, Field3, Field4, Field5, Field6) {
+    ghost becomes = { λ t. joined (joined (joined (joined (joined (Field1.becomes t.0) (Field2.becomes t.1)) (Field3.becomes t.2)) (Field4.becomes t.3)) (Field5.becomes t.4)) (Field6.becomes t.5) };
 
-    ghost refuses = { λ t. refused (refused (refused (refused (refused (T1.refuses t.0) (T2.refuses t.1)) (T3.refuses t.2)) (T4.refuses t.3)) (T5.refuses t.4)) (T6.refuses t.5) };
+    ghost refuses = { λ t. refused (refused (refused (refused (refused (Field1.refuses t.0) (Field2.refuses t.1)) (Field3.refuses t.2)) (Field4.refuses t.3)) (Field5.refuses t.4)) (Field6.refuses t.5) };
 
     fn pretty(self, allocator: &'a D) -> Result<DocBuilder<'a, D>, BuildError> {
         let (t1, t2, t3, t4, t5, t6) = self;
@@ -118,17 +124,17 @@ impl<
 impl<
     'a,
     D: DocPlace<'a>,
-    T1: Pretty<'a, D>,
-    T2: Pretty<'a, D>,
-    T3: Pretty<'a, D>,
-    T4: Pretty<'a, D>,
-    T5: Pretty<'a, D>,
-    T6: Pretty<'a, D>,
-    T7: Pretty<'a, D>,
-> Pretty<'a, D> for (T1, T2, T3, T4, T5, T6, T7) {
-    ghost becomes = { λ t. joined (joined (joined (joined (joined (joined (T1.becomes t.0) (T2.becomes t.1)) (T3.becomes t.2)) (T4.becomes t.3)) (T5.becomes t.4)) (T6.becomes t.5)) (T7.becomes t.6) };
+    Field1: Pretty<'a, D>,
+    Field2: Pretty<'a, D>,
+    Field3: Pretty<'a, D>,
+    Field4: Pretty<'a, D>,
+    Field5: Pretty<'a, D>,
+    Field6: Pretty<'a, D>,
+    Field7: Pretty<'a, D>,
+> Pretty<'a, D> for (Field1, Field2, Field3, Field4, Field5, Field6, Field7) {
+    ghost becomes = { λ t. joined (joined (joined (joined (joined (joined (Field1.becomes t.0) (Field2.becomes t.1)) (Field3.becomes t.2)) (Field4.becomes t.3)) (Field5.becomes t.4)) (Field6.becomes t.5)) (Field7.becomes t.6) };
 
-    ghost refuses = { λ t. refused (refused (refused (refused (refused (refused (T1.refuses t.0) (T2.refuses t.1)) (T3.refuses t.2)) (T4.refuses t.3)) (T5.refuses t.4)) (T6.refuses t.5)) (T7.refuses t.6) };
+    ghost refuses = { λ t. refused (refused (refused (refused (refused (refused (Field1.refuses t.0) (Field2.refuses t.1)) (Field3.refuses t.2)) (Field4.refuses t.3)) (Field5.refuses t.4)) (Field6.refuses t.5)) (Field7.refuses t.6) };
 
     fn pretty(self, allocator: &'a D) -> Result<DocBuilder<'a, D>, BuildError> {
         let (t1, t2, t3, t4, t5, t6, t7) = self;
@@ -139,18 +145,28 @@ impl<
 impl<
     'a,
     D: DocPlace<'a>,
-    T1: Pretty<'a, D>,
-    T2: Pretty<'a, D>,
-    T3: Pretty<'a, D>,
-    T4: Pretty<'a, D>,
-    T5: Pretty<'a, D>,
-    T6: Pretty<'a, D>,
-    T7: Pretty<'a, D>,
-    T8: Pretty<'a, D>,
-> Pretty<'a, D> for (T1, T2, T3, T4, T5, T6, T7, T8) {
-    ghost becomes = { λ t. joined (joined (joined (joined (joined (joined (joined (T1.becomes t.0) (T2.becomes t.1)) (T3.becomes t.2)) (T4.becomes t.3)) (T5.becomes t.4)) (T6.becomes t.5)) (T7.becomes t.6)) (T8.becomes t.7) };
+    Field1: Pretty<'a, D>,
+    Field2: Pretty<'a, D>,
+    Field3: Pretty<'a, D>,
+    Field4: Pretty<'a, D>,
+    Field5: Pretty<'a, D>,
+    Field6: Pretty<'a, D>,
+    Field7: Pretty<'a, D>,
+    Field8: Pretty<'a, D>,
+> Pretty<'a, D>
+    for (
+        Field1,
+        Field2,
+        Field3,
+        Field4,
+        Field5,
+        Field6,
+        Field7,
+        Field8,
+    ) {
+    ghost becomes = { λ t. joined (joined (joined (joined (joined (joined (joined (Field1.becomes t.0) (Field2.becomes t.1)) (Field3.becomes t.2)) (Field4.becomes t.3)) (Field5.becomes t.4)) (Field6.becomes t.5)) (Field7.becomes t.6)) (Field8.becomes t.7) };
 
-    ghost refuses = { λ t. refused (refused (refused (refused (refused (refused (refused (T1.refuses t.0) (T2.refuses t.1)) (T3.refuses t.2)) (T4.refuses t.3)) (T5.refuses t.4)) (T6.refuses t.5)) (T7.refuses t.6)) (T8.refuses t.7) };
+    ghost refuses = { λ t. refused (refused (refused (refused (refused (refused (refused (Field1.refuses t.0) (Field2.refuses t.1)) (Field3.refuses t.2)) (Field4.refuses t.3)) (Field5.refuses t.4)) (Field6.refuses t.5)) (Field7.refuses t.6)) (Field8.refuses t.7) };
 
     fn pretty(self, allocator: &'a D) -> Result<DocBuilder<'a, D>, BuildError> {
         let (t1, t2, t3, t4, t5, t6, t7, t8) = self;
@@ -161,19 +177,30 @@ impl<
 impl<
     'a,
     D: DocPlace<'a>,
-    T1: Pretty<'a, D>,
-    T2: Pretty<'a, D>,
-    T3: Pretty<'a, D>,
-    T4: Pretty<'a, D>,
-    T5: Pretty<'a, D>,
-    T6: Pretty<'a, D>,
-    T7: Pretty<'a, D>,
-    T8: Pretty<'a, D>,
-    T9: Pretty<'a, D>,
-> Pretty<'a, D> for (T1, T2, T3, T4, T5, T6, T7, T8, T9) {
-    ghost becomes = { λ t. joined (joined (joined (joined (joined (joined (joined (joined (T1.becomes t.0) (T2.becomes t.1)) (T3.becomes t.2)) (T4.becomes t.3)) (T5.becomes t.4)) (T6.becomes t.5)) (T7.becomes t.6)) (T8.becomes t.7)) (T9.becomes t.8) };
+    Field1: Pretty<'a, D>,
+    Field2: Pretty<'a, D>,
+    Field3: Pretty<'a, D>,
+    Field4: Pretty<'a, D>,
+    Field5: Pretty<'a, D>,
+    Field6: Pretty<'a, D>,
+    Field7: Pretty<'a, D>,
+    Field8: Pretty<'a, D>,
+    Field9: Pretty<'a, D>,
+> Pretty<'a, D>
+    for (
+        Field1,
+        Field2,
+        Field3,
+        Field4,
+        Field5,
+        Field6,
+        Field7,
+        Field8,
+        Field9,
+    ) {
+    ghost becomes = { λ t. joined (joined (joined (joined (joined (joined (joined (joined (Field1.becomes t.0) (Field2.becomes t.1)) (Field3.becomes t.2)) (Field4.becomes t.3)) (Field5.becomes t.4)) (Field6.becomes t.5)) (Field7.becomes t.6)) (Field8.becomes t.7)) (Field9.becomes t.8) };
 
-    ghost refuses = { λ t. refused (refused (refused (refused (refused (refused (refused (refused (T1.refuses t.0) (T2.refuses t.1)) (T3.refuses t.2)) (T4.refuses t.3)) (T5.refuses t.4)) (T6.refuses t.5)) (T7.refuses t.6)) (T8.refuses t.7)) (T9.refuses t.8) };
+    ghost refuses = { λ t. refused (refused (refused (refused (refused (refused (refused (refused (Field1.refuses t.0) (Field2.refuses t.1)) (Field3.refuses t.2)) (Field4.refuses t.3)) (Field5.refuses t.4)) (Field6.refuses t.5)) (Field7.refuses t.6)) (Field8.refuses t.7)) (Field9.refuses t.8) };
 
     fn pretty(self, allocator: &'a D) -> Result<DocBuilder<'a, D>, BuildError> {
         let (t1, t2, t3, t4, t5, t6, t7, t8, t9) = self;
@@ -184,20 +211,32 @@ impl<
 impl<
     'a,
     D: DocPlace<'a>,
-    T1: Pretty<'a, D>,
-    T2: Pretty<'a, D>,
-    T3: Pretty<'a, D>,
-    T4: Pretty<'a, D>,
-    T5: Pretty<'a, D>,
-    T6: Pretty<'a, D>,
-    T7: Pretty<'a, D>,
-    T8: Pretty<'a, D>,
-    T9: Pretty<'a, D>,
-    T10: Pretty<'a, D>,
-> Pretty<'a, D> for (T1, T2, T3, T4, T5, T6, T7, T8, T9, T10) {
-    ghost becomes = { λ t. joined (joined (joined (joined (joined (joined (joined (joined (joined (T1.becomes t.0) (T2.becomes t.1)) (T3.becomes t.2)) (T4.becomes t.3)) (T5.becomes t.4)) (T6.becomes t.5)) (T7.becomes t.6)) (T8.becomes t.7)) (T9.becomes t.8)) (T10.becomes t.9) };
+    Field1: Pretty<'a, D>,
+    Field2: Pretty<'a, D>,
+    Field3: Pretty<'a, D>,
+    Field4: Pretty<'a, D>,
+    Field5: Pretty<'a, D>,
+    Field6: Pretty<'a, D>,
+    Field7: Pretty<'a, D>,
+    Field8: Pretty<'a, D>,
+    Field9: Pretty<'a, D>,
+    Field10: Pretty<'a, D>,
+> Pretty<'a, D>
+    for (
+        Field1,
+        Field2,
+        Field3,
+        Field4,
+        Field5,
+        Field6,
+        Field7,
+        Field8,
+        Field9,
+        Field10,
+    ) {
+    ghost becomes = { λ t. joined (joined (joined (joined (joined (joined (joined (joined (joined (Field1.becomes t.0) (Field2.becomes t.1)) (Field3.becomes t.2)) (Field4.becomes t.3)) (Field5.becomes t.4)) (Field6.becomes t.5)) (Field7.becomes t.6)) (Field8.becomes t.7)) (Field9.becomes t.8)) (Field10.becomes t.9) };
 
-    ghost refuses = { λ t. refused (refused (refused (refused (refused (refused (refused (refused (refused (T1.refuses t.0) (T2.refuses t.1)) (T3.refuses t.2)) (T4.refuses t.3)) (T5.refuses t.4)) (T6.refuses t.5)) (T7.refuses t.6)) (T8.refuses t.7)) (T9.refuses t.8)) (T10.refuses t.9) };
+    ghost refuses = { λ t. refused (refused (refused (refused (refused (refused (refused (refused (refused (Field1.refuses t.0) (Field2.refuses t.1)) (Field3.refuses t.2)) (Field4.refuses t.3)) (Field5.refuses t.4)) (Field6.refuses t.5)) (Field7.refuses t.6)) (Field8.refuses t.7)) (Field9.refuses t.8)) (Field10.refuses t.9) };
 
     fn pretty(self, allocator: &'a D) -> Result<DocBuilder<'a, D>, BuildError> {
         let (t1, t2, t3, t4, t5, t6, t7, t8, t9, t10) = self;
@@ -208,21 +247,34 @@ impl<
 impl<
     'a,
     D: DocPlace<'a>,
-    T1: Pretty<'a, D>,
-    T2: Pretty<'a, D>,
-    T3: Pretty<'a, D>,
-    T4: Pretty<'a, D>,
-    T5: Pretty<'a, D>,
-    T6: Pretty<'a, D>,
-    T7: Pretty<'a, D>,
-    T8: Pretty<'a, D>,
-    T9: Pretty<'a, D>,
-    T10: Pretty<'a, D>,
-    T11: Pretty<'a, D>,
-> Pretty<'a, D> for (T1, T2, T3, T4, T5, T6, T7, T8, T9, T10, T11) {
-    ghost becomes = { λ t. joined (joined (joined (joined (joined (joined (joined (joined (joined (joined (T1.becomes t.0) (T2.becomes t.1)) (T3.becomes t.2)) (T4.becomes t.3)) (T5.becomes t.4)) (T6.becomes t.5)) (T7.becomes t.6)) (T8.becomes t.7)) (T9.becomes t.8)) (T10.becomes t.9)) (T11.becomes t.10) };
+    Field1: Pretty<'a, D>,
+    Field2: Pretty<'a, D>,
+    Field3: Pretty<'a, D>,
+    Field4: Pretty<'a, D>,
+    Field5: Pretty<'a, D>,
+    Field6: Pretty<'a, D>,
+    Field7: Pretty<'a, D>,
+    Field8: Pretty<'a, D>,
+    Field9: Pretty<'a, D>,
+    Field10: Pretty<'a, D>,
+    Field11: Pretty<'a, D>,
+> Pretty<'a, D>
+    for (
+        Field1,
+        Field2,
+        Field3,
+        Field4,
+        Field5,
+        Field6,
+        Field7,
+        Field8,
+        Field9,
+        Field10,
+        Field11,
+    ) {
+    ghost becomes = { λ t. joined (joined (joined (joined (joined (joined (joined (joined (joined (joined (Field1.becomes t.0) (Field2.becomes t.1)) (Field3.becomes t.2)) (Field4.becomes t.3)) (Field5.becomes t.4)) (Field6.becomes t.5)) (Field7.becomes t.6)) (Field8.becomes t.7)) (Field9.becomes t.8)) (Field10.becomes t.9)) (Field11.becomes t.10) };
 
-    ghost refuses = { λ t. refused (refused (refused (refused (refused (refused (refused (refused (refused (refused (T1.refuses t.0) (T2.refuses t.1)) (T3.refuses t.2)) (T4.refuses t.3)) (T5.refuses t.4)) (T6.refuses t.5)) (T7.refuses t.6)) (T8.refuses t.7)) (T9.refuses t.8)) (T10.refuses t.9)) (T11.refuses t.10) };
+    ghost refuses = { λ t. refused (refused (refused (refused (refused (refused (refused (refused (refused (refused (Field1.refuses t.0) (Field2.refuses t.1)) (Field3.refuses t.2)) (Field4.refuses t.3)) (Field5.refuses t.4)) (Field6.refuses t.5)) (Field7.refuses t.6)) (Field8.refuses t.7)) (Field9.refuses t.8)) (Field10.refuses t.9)) (Field11.refuses t.10) };
 
     fn pretty(self, allocator: &'a D) -> Result<DocBuilder<'a, D>, BuildError> {
         let (t1, t2, t3, t4, t5, t6, t7, t8, t9, t10, t11) = self;
@@ -233,22 +285,36 @@ impl<
 impl<
     'a,
     D: DocPlace<'a>,
-    T1: Pretty<'a, D>,
-    T2: Pretty<'a, D>,
-    T3: Pretty<'a, D>,
-    T4: Pretty<'a, D>,
-    T5: Pretty<'a, D>,
-    T6: Pretty<'a, D>,
-    T7: Pretty<'a, D>,
-    T8: Pretty<'a, D>,
-    T9: Pretty<'a, D>,
-    T10: Pretty<'a, D>,
-    T11: Pretty<'a, D>,
-    T12: Pretty<'a, D>,
-> Pretty<'a, D> for (T1, T2, T3, T4, T5, T6, T7, T8, T9, T10, T11, T12) {
-    ghost becomes = { λ t. joined (joined (joined (joined (joined (joined (joined (joined (joined (joined (joined (T1.becomes t.0) (T2.becomes t.1)) (T3.becomes t.2)) (T4.becomes t.3)) (T5.becomes t.4)) (T6.becomes t.5)) (T7.becomes t.6)) (T8.becomes t.7)) (T9.becomes t.8)) (T10.becomes t.9)) (T11.becomes t.10)) (T12.becomes t.11) };
+    Field1: Pretty<'a, D>,
+    Field2: Pretty<'a, D>,
+    Field3: Pretty<'a, D>,
+    Field4: Pretty<'a, D>,
+    Field5: Pretty<'a, D>,
+    Field6: Pretty<'a, D>,
+    Field7: Pretty<'a, D>,
+    Field8: Pretty<'a, D>,
+    Field9: Pretty<'a, D>,
+    Field10: Pretty<'a, D>,
+    Field11: Pretty<'a, D>,
+    Field12: Pretty<'a, D>,
+> Pretty<'a, D>
+    for (
+        Field1,
+        Field2,
+        Field3,
+        Field4,
+        Field5,
+        Field6,
+        Field7,
+        Field8,
+        Field9,
+        Field10,
+        Field11,
+        Field12,
+    ) {
+    ghost becomes = { λ t. joined (joined (joined (joined (joined (joined (joined (joined (joined (joined (joined (Field1.becomes t.0) (Field2.becomes t.1)) (Field3.becomes t.2)) (Field4.becomes t.3)) (Field5.becomes t.4)) (Field6.becomes t.5)) (Field7.becomes t.6)) (Field8.becomes t.7)) (Field9.becomes t.8)) (Field10.becomes t.9)) (Field11.becomes t.10)) (Field12.becomes t.11) };
 
-    ghost refuses = { λ t. refused (refused (refused (refused (refused (refused (refused (refused (refused (refused (refused (T1.refuses t.0) (T2.refuses t.1)) (T3.refuses t.2)) (T4.refuses t.3)) (T5.refuses t.4)) (T6.refuses t.5)) (T7.refuses t.6)) (T8.refuses t.7)) (T9.refuses t.8)) (T10.refuses t.9)) (T11.refuses t.10)) (T12.refuses t.11) };
+    ghost refuses = { λ t. refused (refused (refused (refused (refused (refused (refused (refused (refused (refused (refused (Field1.refuses t.0) (Field2.refuses t.1)) (Field3.refuses t.2)) (Field4.refuses t.3)) (Field5.refuses t.4)) (Field6.refuses t.5)) (Field7.refuses t.6)) (Field8.refuses t.7)) (Field9.refuses t.8)) (Field10.refuses t.9)) (Field11.refuses t.10)) (Field12.refuses t.11) };
 
     fn pretty(self, allocator: &'a D) -> Result<DocBuilder<'a, D>, BuildError> {
         let (t1, t2, t3, t4, t5, t6, t7, t8, t9, t10, t11, t12) = self;
@@ -263,23 +329,38 @@ impl<
 impl<
     'a,
     D: DocPlace<'a>,
-    T1: Pretty<'a, D>,
-    T2: Pretty<'a, D>,
-    T3: Pretty<'a, D>,
-    T4: Pretty<'a, D>,
-    T5: Pretty<'a, D>,
-    T6: Pretty<'a, D>,
-    T7: Pretty<'a, D>,
-    T8: Pretty<'a, D>,
-    T9: Pretty<'a, D>,
-    T10: Pretty<'a, D>,
-    T11: Pretty<'a, D>,
-    T12: Pretty<'a, D>,
-    T13: Pretty<'a, D>,
-> Pretty<'a, D> for (T1, T2, T3, T4, T5, T6, T7, T8, T9, T10, T11, T12, T13) {
-    ghost becomes = { λ t. joined (joined (joined (joined (joined (joined (joined (joined (joined (joined (joined (joined (T1.becomes t.0) (T2.becomes t.1.0)) (T3.becomes t.1.1.0)) (T4.becomes t.1.1.1.0)) (T5.becomes t.1.1.1.1.0)) (T6.becomes t.1.1.1.1.1.0)) (T7.becomes t.1.1.1.1.1.1.0)) (T8.becomes t.1.1.1.1.1.1.1.0)) (T9.becomes t.1.1.1.1.1.1.1.1.0)) (T10.becomes t.1.1.1.1.1.1.1.1.1.0)) (T11.becomes t.1.1.1.1.1.1.1.1.1.1.0)) (T12.becomes t.1.1.1.1.1.1.1.1.1.1.1.0)) (T13.becomes t.1.1.1.1.1.1.1.1.1.1.1.1.0) };
+    Field1: Pretty<'a, D>,
+    Field2: Pretty<'a, D>,
+    Field3: Pretty<'a, D>,
+    Field4: Pretty<'a, D>,
+    Field5: Pretty<'a, D>,
+    Field6: Pretty<'a, D>,
+    Field7: Pretty<'a, D>,
+    Field8: Pretty<'a, D>,
+    Field9: Pretty<'a, D>,
+    Field10: Pretty<'a, D>,
+    Field11: Pretty<'a, D>,
+    Field12: Pretty<'a, D>,
+    Field13: Pretty<'a, D>,
+> Pretty<'a, D>
+    for (
+        Field1,
+        Field2,
+        Field3,
+        Field4,
+        Field5,
+        Field6,
+        Field7,
+        Field8,
+        Field9,
+        Field10,
+        Field11,
+        Field12,
+        Field13,
+    ) {
+    ghost becomes = { λ t. joined (joined (joined (joined (joined (joined (joined (joined (joined (joined (joined (joined (Field1.becomes t.0) (Field2.becomes t.1.0)) (Field3.becomes t.1.1.0)) (Field4.becomes t.1.1.1.0)) (Field5.becomes t.1.1.1.1.0)) (Field6.becomes t.1.1.1.1.1.0)) (Field7.becomes t.1.1.1.1.1.1.0)) (Field8.becomes t.1.1.1.1.1.1.1.0)) (Field9.becomes t.1.1.1.1.1.1.1.1.0)) (Field10.becomes t.1.1.1.1.1.1.1.1.1.0)) (Field11.becomes t.1.1.1.1.1.1.1.1.1.1.0)) (Field12.becomes t.1.1.1.1.1.1.1.1.1.1.1.0)) (Field13.becomes t.1.1.1.1.1.1.1.1.1.1.1.1.0) };
 
-    ghost refuses = { λ t. refused (refused (refused (refused (refused (refused (refused (refused (refused (refused (refused (refused (T1.refuses t.0) (T2.refuses t.1.0)) (T3.refuses t.1.1.0)) (T4.refuses t.1.1.1.0)) (T5.refuses t.1.1.1.1.0)) (T6.refuses t.1.1.1.1.1.0)) (T7.refuses t.1.1.1.1.1.1.0)) (T8.refuses t.1.1.1.1.1.1.1.0)) (T9.refuses t.1.1.1.1.1.1.1.1.0)) (T10.refuses t.1.1.1.1.1.1.1.1.1.0)) (T11.refuses t.1.1.1.1.1.1.1.1.1.1.0)) (T12.refuses t.1.1.1.1.1.1.1.1.1.1.1.0)) (T13.refuses t.1.1.1.1.1.1.1.1.1.1.1.1.0) };
+    ghost refuses = { λ t. refused (refused (refused (refused (refused (refused (refused (refused (refused (refused (refused (refused (Field1.refuses t.0) (Field2.refuses t.1.0)) (Field3.refuses t.1.1.0)) (Field4.refuses t.1.1.1.0)) (Field5.refuses t.1.1.1.1.0)) (Field6.refuses t.1.1.1.1.1.0)) (Field7.refuses t.1.1.1.1.1.1.0)) (Field8.refuses t.1.1.1.1.1.1.1.0)) (Field9.refuses t.1.1.1.1.1.1.1.1.0)) (Field10.refuses t.1.1.1.1.1.1.1.1.1.0)) (Field11.refuses t.1.1.1.1.1.1.1.1.1.1.0)) (Field12.refuses t.1.1.1.1.1.1.1.1.1.1.1.0)) (Field13.refuses t.1.1.1.1.1.1.1.1.1.1.1.1.0) };
 
     fn pretty(self, allocator: &'a D) -> Result<DocBuilder<'a, D>, BuildError> {
         let (t1, t2, t3, t4, t5, t6, t7, t8, t9, t10, t11, t12, t13) = self;
@@ -294,24 +375,40 @@ impl<
 impl<
     'a,
     D: DocPlace<'a>,
-    T1: Pretty<'a, D>,
-    T2: Pretty<'a, D>,
-    T3: Pretty<'a, D>,
-    T4: Pretty<'a, D>,
-    T5: Pretty<'a, D>,
-    T6: Pretty<'a, D>,
-    T7: Pretty<'a, D>,
-    T8: Pretty<'a, D>,
-    T9: Pretty<'a, D>,
-    T10: Pretty<'a, D>,
-    T11: Pretty<'a, D>,
-    T12: Pretty<'a, D>,
-    T13: Pretty<'a, D>,
-    T14: Pretty<'a, D>,
-> Pretty<'a, D> for (T1, T2, T3, T4, T5, T6, T7, T8, T9, T10, T11, T12, T13, T14) {
-    ghost becomes = { λ t. joined (joined (joined (joined (joined (joined (joined (joined (joined (joined (joined (joined (joined (T1.becomes t.0) (T2.becomes t.1.0)) (T3.becomes t.1.1.0)) (T4.becomes t.1.1.1.0)) (T5.becomes t.1.1.1.1.0)) (T6.becomes t.1.1.1.1.1.0)) (T7.becomes t.1.1.1.1.1.1.0)) (T8.becomes t.1.1.1.1.1.1.1.0)) (T9.becomes t.1.1.1.1.1.1.1.1.0)) (T10.becomes t.1.1.1.1.1.1.1.1.1.0)) (T11.becomes t.1.1.1.1.1.1.1.1.1.1.0)) (T12.becomes t.1.1.1.1.1.1.1.1.1.1.1.0)) (T13.becomes t.1.1.1.1.1.1.1.1.1.1.1.1.0)) (T14.becomes t.1.1.1.1.1.1.1.1.1.1.1.1.1.0) };
+    Field1: Pretty<'a, D>,
+    Field2: Pretty<'a, D>,
+    Field3: Pretty<'a, D>,
+    Field4: Pretty<'a, D>,
+    Field5: Pretty<'a, D>,
+    Field6: Pretty<'a, D>,
+    Field7: Pretty<'a, D>,
+    Field8: Pretty<'a, D>,
+    Field9: Pretty<'a, D>,
+    Field10: Pretty<'a, D>,
+    Field11: Pretty<'a, D>,
+    Field12: Pretty<'a, D>,
+    Field13: Pretty<'a, D>,
+    Field14: Pretty<'a, D>,
+> Pretty<'a, D>
+    for (
+        Field1,
+        Field2,
+        Field3,
+        Field4,
+        Field5,
+        Field6,
+        Field7,
+        Field8,
+        Field9,
+        Field10,
+        Field11,
+        Field12,
+        Field13,
+        Field14,
+    ) {
+    ghost becomes = { λ t. joined (joined (joined (joined (joined (joined (joined (joined (joined (joined (joined (joined (joined (Field1.becomes t.0) (Field2.becomes t.1.0)) (Field3.becomes t.1.1.0)) (Field4.becomes t.1.1.1.0)) (Field5.becomes t.1.1.1.1.0)) (Field6.becomes t.1.1.1.1.1.0)) (Field7.becomes t.1.1.1.1.1.1.0)) (Field8.becomes t.1.1.1.1.1.1.1.0)) (Field9.becomes t.1.1.1.1.1.1.1.1.0)) (Field10.becomes t.1.1.1.1.1.1.1.1.1.0)) (Field11.becomes t.1.1.1.1.1.1.1.1.1.1.0)) (Field12.becomes t.1.1.1.1.1.1.1.1.1.1.1.0)) (Field13.becomes t.1.1.1.1.1.1.1.1.1.1.1.1.0)) (Field14.becomes t.1.1.1.1.1.1.1.1.1.1.1.1.1.0) };
 
-    ghost refuses = { λ t. refused (refused (refused (refused (refused (refused (refused (refused (refused (refused (refused (refused (refused (T1.refuses t.0) (T2.refuses t.1.0)) (T3.refuses t.1.1.0)) (T4.refuses t.1.1.1.0)) (T5.refuses t.1.1.1.1.0)) (T6.refuses t.1.1.1.1.1.0)) (T7.refuses t.1.1.1.1.1.1.0)) (T8.refuses t.1.1.1.1.1.1.1.0)) (T9.refuses t.1.1.1.1.1.1.1.1.0)) (T10.refuses t.1.1.1.1.1.1.1.1.1.0)) (T11.refuses t.1.1.1.1.1.1.1.1.1.1.0)) (T12.refuses t.1.1.1.1.1.1.1.1.1.1.1.0)) (T13.refuses t.1.1.1.1.1.1.1.1.1.1.1.1.0)) (T14.refuses t.1.1.1.1.1.1.1.1.1.1.1.1.1.0) };
+    ghost refuses = { λ t. refused (refused (refused (refused (refused (refused (refused (refused (refused (refused (refused (refused (refused (Field1.refuses t.0) (Field2.refuses t.1.0)) (Field3.refuses t.1.1.0)) (Field4.refuses t.1.1.1.0)) (Field5.refuses t.1.1.1.1.0)) (Field6.refuses t.1.1.1.1.1.0)) (Field7.refuses t.1.1.1.1.1.1.0)) (Field8.refuses t.1.1.1.1.1.1.1.0)) (Field9.refuses t.1.1.1.1.1.1.1.1.0)) (Field10.refuses t.1.1.1.1.1.1.1.1.1.0)) (Field11.refuses t.1.1.1.1.1.1.1.1.1.1.0)) (Field12.refuses t.1.1.1.1.1.1.1.1.1.1.1.0)) (Field13.refuses t.1.1.1.1.1.1.1.1.1.1.1.1.0)) (Field14.refuses t.1.1.1.1.1.1.1.1.1.1.1.1.1.0) };
 
     fn pretty(self, allocator: &'a D) -> Result<DocBuilder<'a, D>, BuildError> {
         let (t1, t2, t3, t4, t5, t6, t7, t8, t9, t10, t11, t12, t13, t14) = self;
@@ -326,42 +423,42 @@ impl<
 impl<
     'a,
     D: DocPlace<'a>,
-    T1: Pretty<'a, D>,
-    T2: Pretty<'a, D>,
-    T3: Pretty<'a, D>,
-    T4: Pretty<'a, D>,
-    T5: Pretty<'a, D>,
-    T6: Pretty<'a, D>,
-    T7: Pretty<'a, D>,
-    T8: Pretty<'a, D>,
-    T9: Pretty<'a, D>,
-    T10: Pretty<'a, D>,
-    T11: Pretty<'a, D>,
-    T12: Pretty<'a, D>,
-    T13: Pretty<'a, D>,
-    T14: Pretty<'a, D>,
-    T15: Pretty<'a, D>,
+    Field1: Pretty<'a, D>,
+    Field2: Pretty<'a, D>,
+    Field3: Pretty<'a, D>,
+    Field4: Pretty<'a, D>,
+    Field5: Pretty<'a, D>,
+    Field6: Pretty<'a, D>,
+    Field7: Pretty<'a, D>,
+    Field8: Pretty<'a, D>,
+    Field9: Pretty<'a, D>,
+    Field10: Pretty<'a, D>,
+    Field11: Pretty<'a, D>,
+    Field12: Pretty<'a, D>,
+    Field13: Pretty<'a, D>,
+    Field14: Pretty<'a, D>,
+    Field15: Pretty<'a, D>,
 > Pretty<'a, D>
     for (
-        T1,
-        T2,
-        T3,
-        T4,
-        T5,
-        T6,
-        T7,
-        T8,
-        T9,
-        T10,
-        T11,
-        T12,
-        T13,
-        T14,
-        T15,
+        Field1,
+        Field2,
+        Field3,
+        Field4,
+        Field5,
+        Field6,
+        Field7,
+        Field8,
+        Field9,
+        Field10,
+        Field11,
+        Field12,
+        Field13,
+        Field14,
+        Field15,
     ) {
-    ghost becomes = { λ t. joined (joined (joined (joined (joined (joined (joined (joined (joined (joined (joined (joined (joined (joined (T1.becomes t.0) (T2.becomes t.1.0)) (T3.becomes t.1.1.0)) (T4.becomes t.1.1.1.0)) (T5.becomes t.1.1.1.1.0)) (T6.becomes t.1.1.1.1.1.0)) (T7.becomes t.1.1.1.1.1.1.0)) (T8.becomes t.1.1.1.1.1.1.1.0)) (T9.becomes t.1.1.1.1.1.1.1.1.0)) (T10.becomes t.1.1.1.1.1.1.1.1.1.0)) (T11.becomes t.1.1.1.1.1.1.1.1.1.1.0)) (T12.becomes t.1.1.1.1.1.1.1.1.1.1.1.0)) (T13.becomes t.1.1.1.1.1.1.1.1.1.1.1.1.0)) (T14.becomes t.1.1.1.1.1.1.1.1.1.1.1.1.1.0)) (T15.becomes t.1.1.1.1.1.1.1.1.1.1.1.1.1.1.0) };
+    ghost becomes = { λ t. joined (joined (joined (joined (joined (joined (joined (joined (joined (joined (joined (joined (joined (joined (Field1.becomes t.0) (Field2.becomes t.1.0)) (Field3.becomes t.1.1.0)) (Field4.becomes t.1.1.1.0)) (Field5.becomes t.1.1.1.1.0)) (Field6.becomes t.1.1.1.1.1.0)) (Field7.becomes t.1.1.1.1.1.1.0)) (Field8.becomes t.1.1.1.1.1.1.1.0)) (Field9.becomes t.1.1.1.1.1.1.1.1.0)) (Field10.becomes t.1.1.1.1.1.1.1.1.1.0)) (Field11.becomes t.1.1.1.1.1.1.1.1.1.1.0)) (Field12.becomes t.1.1.1.1.1.1.1.1.1.1.1.0)) (Field13.becomes t.1.1.1.1.1.1.1.1.1.1.1.1.0)) (Field14.becomes t.1.1.1.1.1.1.1.1.1.1.1.1.1.0)) (Field15.becomes t.1.1.1.1.1.1.1.1.1.1.1.1.1.1.0) };
 
-    ghost refuses = { λ t. refused (refused (refused (refused (refused (refused (refused (refused (refused (refused (refused (refused (refused (refused (T1.refuses t.0) (T2.refuses t.1.0)) (T3.refuses t.1.1.0)) (T4.refuses t.1.1.1.0)) (T5.refuses t.1.1.1.1.0)) (T6.refuses t.1.1.1.1.1.0)) (T7.refuses t.1.1.1.1.1.1.0)) (T8.refuses t.1.1.1.1.1.1.1.0)) (T9.refuses t.1.1.1.1.1.1.1.1.0)) (T10.refuses t.1.1.1.1.1.1.1.1.1.0)) (T11.refuses t.1.1.1.1.1.1.1.1.1.1.0)) (T12.refuses t.1.1.1.1.1.1.1.1.1.1.1.0)) (T13.refuses t.1.1.1.1.1.1.1.1.1.1.1.1.0)) (T14.refuses t.1.1.1.1.1.1.1.1.1.1.1.1.1.0)) (T15.refuses t.1.1.1.1.1.1.1.1.1.1.1.1.1.1.0) };
+    ghost refuses = { λ t. refused (refused (refused (refused (refused (refused (refused (refused (refused (refused (refused (refused (refused (refused (Field1.refuses t.0) (Field2.refuses t.1.0)) (Field3.refuses t.1.1.0)) (Field4.refuses t.1.1.1.0)) (Field5.refuses t.1.1.1.1.0)) (Field6.refuses t.1.1.1.1.1.0)) (Field7.refuses t.1.1.1.1.1.1.0)) (Field8.refuses t.1.1.1.1.1.1.1.0)) (Field9.refuses t.1.1.1.1.1.1.1.1.0)) (Field10.refuses t.1.1.1.1.1.1.1.1.1.0)) (Field11.refuses t.1.1.1.1.1.1.1.1.1.1.0)) (Field12.refuses t.1.1.1.1.1.1.1.1.1.1.1.0)) (Field13.refuses t.1.1.1.1.1.1.1.1.1.1.1.1.0)) (Field14.refuses t.1.1.1.1.1.1.1.1.1.1.1.1.1.0)) (Field15.refuses t.1.1.1.1.1.1.1.1.1.1.1.1.1.1.0) };
 
     fn pretty(self, allocator: &'a D) -> Result<DocBuilder<'a, D>, BuildError> {
         let (t1, t2, t3, t4, t5, t6, t7, t8, t9, t10, t11, t12, t13, t14, t15) = self;
@@ -376,44 +473,44 @@ impl<
 impl<
     'a,
     D: DocPlace<'a>,
-    T1: Pretty<'a, D>,
-    T2: Pretty<'a, D>,
-    T3: Pretty<'a, D>,
-    T4: Pretty<'a, D>,
-    T5: Pretty<'a, D>,
-    T6: Pretty<'a, D>,
-    T7: Pretty<'a, D>,
-    T8: Pretty<'a, D>,
-    T9: Pretty<'a, D>,
-    T10: Pretty<'a, D>,
-    T11: Pretty<'a, D>,
-    T12: Pretty<'a, D>,
-    T13: Pretty<'a, D>,
-    T14: Pretty<'a, D>,
-    T15: Pretty<'a, D>,
-    T16: Pretty<'a, D>,
+    Field1: Pretty<'a, D>,
+    Field2: Pretty<'a, D>,
+    Field3: Pretty<'a, D>,
+    Field4: Pretty<'a, D>,
+    Field5: Pretty<'a, D>,
+    Field6: Pretty<'a, D>,
+    Field7: Pretty<'a, D>,
+    Field8: Pretty<'a, D>,
+    Field9: Pretty<'a, D>,
+    Field10: Pretty<'a, D>,
+    Field11: Pretty<'a, D>,
+    Field12: Pretty<'a, D>,
+    Field13: Pretty<'a, D>,
+    Field14: Pretty<'a, D>,
+    Field15: Pretty<'a, D>,
+    Field16: Pretty<'a, D>,
 > Pretty<'a, D>
     for (
-        T1,
-        T2,
-        T3,
-        T4,
-        T5,
-        T6,
-        T7,
-        T8,
-        T9,
-        T10,
-        T11,
-        T12,
-        T13,
-        T14,
-        T15,
-        T16,
+        Field1,
+        Field2,
+        Field3,
+        Field4,
+        Field5,
+        Field6,
+        Field7,
+        Field8,
+        Field9,
+        Field10,
+        Field11,
+        Field12,
+        Field13,
+        Field14,
+        Field15,
+        Field16,
     ) {
-    ghost becomes = { λ t. joined (joined (joined (joined (joined (joined (joined (joined (joined (joined (joined (joined (joined (joined (joined (T1.becomes t.0) (T2.becomes t.1.0)) (T3.becomes t.1.1.0)) (T4.becomes t.1.1.1.0)) (T5.becomes t.1.1.1.1.0)) (T6.becomes t.1.1.1.1.1.0)) (T7.becomes t.1.1.1.1.1.1.0)) (T8.becomes t.1.1.1.1.1.1.1.0)) (T9.becomes t.1.1.1.1.1.1.1.1.0)) (T10.becomes t.1.1.1.1.1.1.1.1.1.0)) (T11.becomes t.1.1.1.1.1.1.1.1.1.1.0)) (T12.becomes t.1.1.1.1.1.1.1.1.1.1.1.0)) (T13.becomes t.1.1.1.1.1.1.1.1.1.1.1.1.0)) (T14.becomes t.1.1.1.1.1.1.1.1.1.1.1.1.1.0)) (T15.becomes t.1.1.1.1.1.1.1.1.1.1.1.1.1.1.0)) (T16.becomes t.1.1.1.1.1.1.1.1.1.1.1.1.1.1.1.0) };
+    ghost becomes = { λ t. joined (joined (joined (joined (joined (joined (joined (joined (joined (joined (joined (joined (joined (joined (joined (Field1.becomes t.0) (Field2.becomes t.1.0)) (Field3.becomes t.1.1.0)) (Field4.becomes t.1.1.1.0)) (Field5.becomes t.1.1.1.1.0)) (Field6.becomes t.1.1.1.1.1.0)) (Field7.becomes t.1.1.1.1.1.1.0)) (Field8.becomes t.1.1.1.1.1.1.1.0)) (Field9.becomes t.1.1.1.1.1.1.1.1.0)) (Field10.becomes t.1.1.1.1.1.1.1.1.1.0)) (Field11.becomes t.1.1.1.1.1.1.1.1.1.1.0)) (Field12.becomes t.1.1.1.1.1.1.1.1.1.1.1.0)) (Field13.becomes t.1.1.1.1.1.1.1.1.1.1.1.1.0)) (Field14.becomes t.1.1.1.1.1.1.1.1.1.1.1.1.1.0)) (Field15.becomes t.1.1.1.1.1.1.1.1.1.1.1.1.1.1.0)) (Field16.becomes t.1.1.1.1.1.1.1.1.1.1.1.1.1.1.1.0) };
 
-    ghost refuses = { λ t. refused (refused (refused (refused (refused (refused (refused (refused (refused (refused (refused (refused (refused (refused (refused (T1.refuses t.0) (T2.refuses t.1.0)) (T3.refuses t.1.1.0)) (T4.refuses t.1.1.1.0)) (T5.refuses t.1.1.1.1.0)) (T6.refuses t.1.1.1.1.1.0)) (T7.refuses t.1.1.1.1.1.1.0)) (T8.refuses t.1.1.1.1.1.1.1.0)) (T9.refuses t.1.1.1.1.1.1.1.1.0)) (T10.refuses t.1.1.1.1.1.1.1.1.1.0)) (T11.refuses t.1.1.1.1.1.1.1.1.1.1.0)) (T12.refuses t.1.1.1.1.1.1.1.1.1.1.1.0)) (T13.refuses t.1.1.1.1.1.1.1.1.1.1.1.1.0)) (T14.refuses t.1.1.1.1.1.1.1.1.1.1.1.1.1.0)) (T15.refuses t.1.1.1.1.1.1.1.1.1.1.1.1.1.1.0)) (T16.refuses t.1.1.1.1.1.1.1.1.1.1.1.1.1.1.1.0) };
+    ghost refuses = { λ t. refused (refused (refused (refused (refused (refused (refused (refused (refused (refused (refused (refused (refused (refused (refused (Field1.refuses t.0) (Field2.refuses t.1.0)) (Field3.refuses t.1.1.0)) (Field4.refuses t.1.1.1.0)) (Field5.refuses t.1.1.1.1.0)) (Field6.refuses t.1.1.1.1.1.0)) (Field7.refuses t.1.1.1.1.1.1.0)) (Field8.refuses t.1.1.1.1.1.1.1.0)) (Field9.refuses t.1.1.1.1.1.1.1.1.0)) (Field10.refuses t.1.1.1.1.1.1.1.1.1.0)) (Field11.refuses t.1.1.1.1.1.1.1.1.1.1.0)) (Field12.refuses t.1.1.1.1.1.1.1.1.1.1.1.0)) (Field13.refuses t.1.1.1.1.1.1.1.1.1.1.1.1.0)) (Field14.refuses t.1.1.1.1.1.1.1.1.1.1.1.1.1.0)) (Field15.refuses t.1.1.1.1.1.1.1.1.1.1.1.1.1.1.0)) (Field16.refuses t.1.1.1.1.1.1.1.1.1.1.1.1.1.1.1.0) };
 
     fn pretty(self, allocator: &'a D) -> Result<DocBuilder<'a, D>, BuildError> {
         let (t1, t2, t3, t4, t5, t6, t7, t8, t9, t10, t11, t12, t13, t14, t15, t16) = self;
