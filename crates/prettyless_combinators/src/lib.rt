@@ -2,8 +2,10 @@
 #![tactic(auto)]
 
 ghost use Rattle.std.specs.Prelude.{◌≡◌, ◌≤◌, ◌-◌, ◌^◌, pos, neg_ℤ};
+ghost use Rattle.std.specs.Iterator.{IsFiniteIterable};
 
 mod alternatives;
+mod sequences;
 mod texts;
 mod tokens;
 pub mod types;
@@ -173,6 +175,28 @@ pub fn flat_alt<T, U>(broken: T, flat: U) -> FlatAlt<T, U>
     ensures flat { result.1 ≡ flat }
 {
     FlatAlt(broken, flat)
+}
+
+/// The documents of all items, appended in order: nothing if there is none.
+///
+/// `docs` has to end, and to be one that can be walked.
+pub fn concat<I: IntoIterator>(docs: I) -> Concat<I>
+    requires { IsFiniteIterable I.into_iter_gives I.IntoIter.can_next I.IntoIter.remaining docs }
+    ensures { result ≡ docs }
+{
+    Concat(docs)
+}
+
+/// The documents of all items in order, with the separator in each gap: nothing if there is none. The
+/// separator becomes a document once, and only where there is a gap.
+///
+/// `docs` has to end, and to be one that can be walked.
+pub fn intersperse<I: IntoIterator, S>(separator: S, docs: I) -> Intersperse<I, S>
+    requires { IsFiniteIterable I.into_iter_gives I.IntoIter.can_next I.IntoIter.remaining docs }
+    ensures items { result.0 ≡ docs }
+    ensures gaps { result.1 ≡ separator }
+{
+    Intersperse(docs, separator)
 }
 
 /// So many copies of the document, one after the other.

@@ -1,6 +1,7 @@
 //! The types of the combinators.
 
 pub use crate::alternatives::{FlatAlt, PartialUnion, Union};
+pub use crate::sequences::{Concat, Intersperse};
 pub use crate::texts::{AsString, MultilineText};
 pub use crate::tokens::{
     ExpandParent, Fail, HardLine, LineOrNil, LineOrSpace, Nil, SoftLineOrNil, SoftLineOrSpace,
