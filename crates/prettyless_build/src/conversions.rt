@@ -8,6 +8,7 @@ ghost use Rattle.prettyless_build.specs.Built as to;
 use crate::builder::DocBuilder;
 use crate::pretty::Pretty;
 use prettyless_doc::{BuildDoc, BuildError, DocPlace};
+use std::fmt;
 use std::ops::Add;
 
 /// `append`.
@@ -32,5 +33,12 @@ impl<'a, D: DocPlace<'a>> From<DocBuilder<'a, D>> for BuildDoc<'a, D::Doc> {
 
     fn from(builder: DocBuilder<'a, D>) -> BuildDoc<'a, D::Doc> {
         builder.into_build_doc()
+    }
+}
+
+/// Shows the document.
+impl<'a, D: DocPlace<'a>> fmt::Debug for DocBuilder<'a, D> {
+    fn fmt<W: fmt::Write>(&self, f: &mut fmt::Formatter<W>) -> fmt::Result {
+        self.doc().fmt(f)
     }
 }

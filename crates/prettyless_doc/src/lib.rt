@@ -6,6 +6,7 @@ mod clone;
 mod constructors;
 mod conversions;
 mod counted;
+mod debug;
 mod display;
 pub mod doc;
 pub mod measure;

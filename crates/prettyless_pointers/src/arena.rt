@@ -16,6 +16,7 @@ use prettyless_doc::text::MultilineTextData;
 use prettyless_doc::{BuildDoc, BuildError, Doc, DocPlace, DocPtr, Text};
 use std::alloc::Global;
 use std::cell::Cell;
+use std::fmt;
 
 /// A pointer to a node in an arena.
 #[derive(Clone, Copy)]
@@ -26,6 +27,13 @@ impl<'a> DocPtr<'a> for RefDoc<'a> {
 
     fn doc(&self) -> &Doc<'a, RefDoc<'a>> {
         self.0
+    }
+}
+
+/// Shows the document.
+impl<'a> fmt::Debug for RefDoc<'a> {
+    fn fmt<W: fmt::Write>(&self, f: &mut fmt::Formatter<W>) -> fmt::Result {
+        self.doc().fmt(f)
     }
 }
 

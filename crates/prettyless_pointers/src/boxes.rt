@@ -8,7 +8,7 @@ ghost use Rattle.prettyless_pointers.specs.Trees.{box_tree};
 use crate::children::{Children, into_children};
 use prettyless_doc::{BuildDoc, BuildError, Doc, DocPlace, DocPtr};
 use std::alloc::Global;
-use std::mem;
+use std::{fmt, mem};
 
 /// A pointer that owns its node, in a box of its own.
 pub struct BoxDoc<'a>(Box<Doc<'a, BoxDoc<'a>>>);
@@ -69,6 +69,13 @@ impl<'a> DocPtr<'a> for BoxDoc<'a> {
 
     fn doc(&self) -> &Doc<'a, BoxDoc<'a>> {
         &*self.0
+    }
+}
+
+/// Shows the document.
+impl<'a> fmt::Debug for BoxDoc<'a> {
+    fn fmt<W: fmt::Write>(&self, f: &mut fmt::Formatter<W>) -> fmt::Result {
+        self.doc().fmt(f)
     }
 }
 

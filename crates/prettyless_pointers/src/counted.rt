@@ -6,6 +6,7 @@ ghost use Rattle.prettyless_pointers.specs.Trees.{rc_tree};
 
 use prettyless_doc::{BuildDoc, BuildError, Doc, DocPlace, DocPtr};
 use std::alloc::Global;
+use std::fmt;
 use std::rc::Rc;
 
 /// A pointer that owns its node together with its clones. The last of them gives it up.
@@ -36,6 +37,13 @@ impl<'a> DocPtr<'a> for RcDoc<'a> {
 
     fn doc(&self) -> &Doc<'a, RcDoc<'a>> {
         self.0.as_ref()
+    }
+}
+
+/// Shows the document.
+impl<'a> fmt::Debug for RcDoc<'a> {
+    fn fmt<W: fmt::Write>(&self, f: &mut fmt::Formatter<W>) -> fmt::Result {
+        self.doc().fmt(f)
     }
 }
 

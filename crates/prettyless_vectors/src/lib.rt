@@ -22,6 +22,8 @@ mod reader;
 #[cfg(test)]
 mod rendered;
 #[cfg(test)]
+mod shown;
+#[cfg(test)]
 mod sinks;
 #[cfg(test)]
 mod suffixes;

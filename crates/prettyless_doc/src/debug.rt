@@ -1,0 +1,155 @@
+//! What `Debug` shows of a document, on one line: its variants by their names, a chain of appended
+//! documents as a list, and a choice between broken and flat lines by what it is for.
+ghost use Rattle.prettyless_model.specs.Tree.{BreakOrFlat, Group};
+ghost use Rattle.prettyless_doc.specs.Shown.{IsBelow};
+
+use crate::doc::{BuildDoc, Doc, DocPtr};
+use crate::text::Text;
+use prettyless_printer::walk::{View, Walk};
+use std::fmt;
+
+impl<'a, T: DocPtr<'a>> fmt::Debug for Doc<'a, T> {
+    fn fmt<W: fmt::Write>(&self, f: &mut fmt::Formatter<W>) -> fmt::Result {
+        show(self, false, f)
+    }
+}
+
+/// Shows the document, whether its node is placed or not.
+impl<'a, D: DocPtr<'a>> fmt::Debug for BuildDoc<'a, D> {
+    fn fmt<W: fmt::Write>(&self, f: &mut fmt::Formatter<W>) -> fmt::Result {
+        self.doc().fmt(f)
+    }
+}
+
+// A node that can be shown. As `Walk`, it knows no lifetime of a document.
+trait Shown: Walk {
+    // Whether it is a borrowed text of one space, as lines have it.
+    fn is_borrowed_space(&self) -> bool;
+}
+
+impl<'d, 'a, T: DocPtr<'a>> Shown for &'d Doc<'a, T> {
+    fn is_borrowed_space(&self) -> bool {
+        matches!(**self, Doc::Text(Text::Borrowed(" ")))
+    }
+}
+
+// How a node is shown.
+enum Shape<'v, N> {
+    Name(&'static str),
+    Text(&'v str),
+    Payload(&'v str),
+    Items(N, N),
+    Nest(isize, N),
+    One(&'static str, N),
+    Two(&'static str, N, N),
+}
+
+// How the node is shown. Its children are below it.
+fn shape_of<N: Shown>(node: &N) -> Shape<'_, N>
+    ensures { IsBelow N.tree (N.tree node.now) result }
+{
+    match node.view() {
+        View::Nil => Shape::Name("Nil"),
+        View::Fail => Shape::Name("Fail"),
+        View::Text(text) | View::TextWithLen(_, text) => Shape::Text(text),
+        View::MultilineText(text, _) => Shape::Payload(text),
+        View::WeakSpace => Shape::Name("WeakSpace"),
+        View::HardLine => Shape::Name("HardLine"),
+        View::WeakLine => Shape::Name("WeakLine"),
+        View::Append(first, last) => Shape::Items(first, last),
+        View::LineSuffix(inner) => Shape::One("LineSuffix", inner),
+        View::Nest(offset, inner) => Shape::Nest(offset, inner),
+        View::DedentToRoot(inner) => Shape::One("DedentToRoot", inner),
+        View::Align(inner) => Shape::One("Align", inner),
+        View::ExpandParent => Shape::Name("ExpandParent"),
+        View::Flatten(inner) => Shape::One("Flatten", inner),
+        View::BreakOrFlat(broken, flat) => shape_of_choice(broken, flat),
+        View::Group(inner) => shape_of_group(inner),
+        View::Union(first, second) => Shape::Two("Union", first, second),
+        View::PartialUnion(first, second) => Shape::Two("PartialUnion", first, second),
+    }
+}
+
+// How the node of these two is shown.
+fn shape_of_choice<N: Shown>(broken: N, flat: N) -> Shape<'static, N>
+    ensures { IsBelow N.tree (BreakOrFlat (N.tree broken) (N.tree flat)) result }
+{
+    match line_of(&broken, &flat) {
+        Some(Line::OrSpace) => Shape::Name("LineOrSpace"),
+        Some(Line::OrNil) => Shape::Name("LineOrNil"),
+        None if matches!(flat.view(), View::Nil) => Shape::One("WhenBreak", broken),
+        None if matches!(broken.view(), View::Nil) => Shape::One("WhenFlat", flat),
+        None => Shape::Two("FlatOrBreak", flat, broken),
+    }
+}
+
+// How a group of the node is shown.
+fn shape_of_group<N: Shown>(inner: N) -> Shape<'static, N>
+    ensures { IsBelow N.tree (Group (N.tree inner)) result }
+{
+    let line = match inner.view() {
+        View::BreakOrFlat(broken, flat) => line_of(&broken, &flat),
+        _ => None,
+    };
+    match line {
+        Some(Line::OrSpace) => Shape::Name("SoftLineOrSpace"),
+        Some(Line::OrNil) => Shape::Name("SoftLineOrNil"),
+        None => Shape::One("Group", inner),
+    }
+}
+
+// A line break that is something else where lines are flat.
+enum Line {
+    OrSpace,
+    OrNil,
+}
+
+// The line that these two are, if they are one.
+fn line_of<N: Shown>(broken: &N, flat: &N) -> Option<Line> {
+    if !matches!(broken.view(), View::HardLine) {
+        None
+    } else if flat.is_borrowed_space() {
+        Some(Line::OrSpace)
+    } else if matches!(flat.view(), View::Nil) {
+        Some(Line::OrNil)
+    } else {
+        None
+    }
+}
+
+// Shows the node, and all below it. An item stands in the list of the chain that it is part of.
+fn show<N: Shown, W: fmt::Write>(node: N, is_item: bool, f: &mut fmt::Formatter<W>) -> fmt::Result {
+    match shape_of(&node) {
+        Shape::Name(name) => f.write_str(name),
+        Shape::Text(text) => fmt::Debug::fmt(text, f),
+        Shape::Payload(text) => {
+            f.write_str("MultilineText(")?;
+            fmt::Debug::fmt(text, f)?;
+            f.write_str(")")
+        }
+        Shape::Items(first, last) => {
+            f.write_str(if is_item { "" } else { "[" })?;
+            show(first, true, f)?;
+            f.write_str(", ")?;
+            show(last, true, f)?;
+            f.write_str(if is_item { "" } else { "]" })
+        }
+        Shape::Nest(offset, inner) => {
+            write!(f, "Nest({offset}, ")?;
+            show(inner, false, f)?;
+            f.write_str(")")
+        }
+        Shape::One(name, inner) => {
+            write!(f, "{name}(")?;
+            show(inner, false, f)?;
+            f.write_str(")")
+        }
+        Shape::Two(name, first, second) => {
+            write!(f, "{name}(")?;
+            show(first, false, f)?;
+            f.write_str(", ")?;
+            show(second, false, f)?;
+            f.write_str(")")
+        }
+    }
+}

@@ -1,0 +1,134 @@
+//! What `Debug` shows of documents, through each pointer, and of documents in the making.
+use crate::reader::read;
+use bumpalo::Bump;
+use prettyless::text::{CowStr, Text};
+use prettyless::{Arena, BoxAllocator, BuildDoc, Doc, DocAllocator, DocPlace, RcAllocator};
+use std::alloc::Global;
+use std::fmt;
+use std::process::Abort;
+use std::test::Fail;
+
+// A document as the reader takes it, and what it has to be shown as.
+type Case<'a> = (&'a str, &'a str);
+
+const NODES: [Case<'static>; 13] = [
+    ("Nil", "Nil"),
+    ("Fail", "Fail"),
+    ("WeakSpace", "WeakSpace"),
+    ("HardLine", "HardLine"),
+    ("WeakLine", "WeakLine"),
+    ("ExpandParent", "ExpandParent"),
+    ("Text 'a'", "\"a\""),
+    ("TextWithLen 3 'a'", "\"a\""),
+    ("MultilineText 'a\nb\r'", "MultilineText(\"a\\nb\\r\")"),
+    (
+        "LineSuffix DedentToRoot Text 'a'",
+        "LineSuffix(DedentToRoot(\"a\"))",
+    ),
+    (
+        "Align Flatten Group Text 'a'",
+        "Align(Flatten(Group(\"a\")))",
+    ),
+    ("Nest 2 Nest -3 HardLine", "Nest(2, Nest(-3, HardLine))"),
+    (
+        "Union Text 'a' PartialUnion Text 'b' Nil",
+        "Union(\"a\", PartialUnion(\"b\", Nil))",
+    ),
+];
+
+const CHAINS: [Case<'static>; 3] = [
+    ("Append Text '1' Text '2'", "[\"1\", \"2\"]"),
+    (
+        "Append Append Text '1' Text '2' Append Text '3' Text '4'",
+        "[\"1\", \"2\", \"3\", \"4\"]",
+    ),
+    (
+        "Append Group Append Text 'a' HardLine Nest 1 Append Text 'b' Text 'c'",
+        "[Group([\"a\", HardLine]), Nest(1, [\"b\", \"c\"])]",
+    ),
+];
+
+const LINES: [Case<'static>; 9] = [
+    ("BreakOrFlat HardLine Text ' '", "LineOrSpace"),
+    ("BreakOrFlat HardLine Nil", "LineOrNil"),
+    ("Group BreakOrFlat HardLine Text ' '", "SoftLineOrSpace"),
+    ("Group BreakOrFlat HardLine Nil", "SoftLineOrNil"),
+    ("BreakOrFlat Text 'a' Nil", "WhenBreak(\"a\")"),
+    ("BreakOrFlat Nil Text 'a'", "WhenFlat(\"a\")"),
+    ("BreakOrFlat Text 'b' Text 'f'", "FlatOrBreak(\"f\", \"b\")"),
+    ("Group BreakOrFlat Text 'a' Nil", "Group(WhenBreak(\"a\"))"),
+    (
+        "BreakOrFlat HardLine TextWithLen 1 ' '",
+        "FlatOrBreak(\" \", HardLine)",
+    ),
+];
+
+// What a document that is put into this place is shown as.
+fn shown_in<'a, D: DocPlace<'a>>(place: &'a D, written: &'a str) -> Result<String, Fail>
+where
+    D::Doc: fmt::Debug,
+{
+    let document = read(place, written)?;
+    Ok(format!(in place.memory(); "{document:?}")?)
+}
+
+fn compare(rt: &impl Abort, memory: Global, cases: &[Case<'_>]) -> Result<(), Fail> {
+    for &(written, shown) in cases {
+        let boxes = BoxAllocator::new(memory);
+        assert_eq!(rt; shown_in(&boxes, written)?.as_str(), shown);
+        let owners = RcAllocator::new(memory);
+        assert_eq!(rt; shown_in(&owners, written)?.as_str(), shown);
+        let bump = Bump::new(memory);
+        let arena = Arena::new(memory, &bump);
+        assert_eq!(rt; shown_in(&arena, written)?.as_str(), shown);
+    }
+    Ok(())
+}
+
+#[test]
+fn shows_nodes(rt: HostRuntime) -> Result<(), Fail> {
+    compare(&rt, rt.alloc(), &NODES)
+}
+
+#[test]
+fn shows_chains(rt: HostRuntime) -> Result<(), Fail> {
+    compare(&rt, rt.alloc(), &CHAINS)
+}
+
+#[test]
+fn shows_lines(rt: HostRuntime) -> Result<(), Fail> {
+    compare(&rt, rt.alloc(), &LINES)
+}
+
+#[test]
+fn lines_have_a_borrowed_space(rt: HostRuntime) -> Result<(), Fail> {
+    let boxes = BoxAllocator::new(rt.alloc());
+    let space = Text::from_cow(
+        rt.alloc(),
+        CowStr::Owned(String::from_str(rt.alloc(), " ")?),
+    )?;
+    let broken = boxes.alloc(Doc::HardLine)?;
+    let flat = boxes.alloc(Doc::Text(space))?;
+    let line = Doc::BreakOrFlat(broken, flat);
+    assert_eq!(rt;
+        format!(in rt.alloc(); "{line:?}")?.as_str(),
+        "FlatOrBreak(\" \", HardLine)"
+    );
+    Ok(())
+}
+
+#[test]
+fn shows_what_is_in_the_making(rt: HostRuntime) -> Result<(), Fail> {
+    let boxes = BoxAllocator::new(rt.alloc());
+    let builder = boxes.softline()?;
+    assert_eq!(rt;
+        format!(in rt.alloc(); "{builder:?}")?.as_str(),
+        "SoftLineOrSpace"
+    );
+    let node = BuildDoc::Doc(Doc::Nest(2, boxes.line_()?.into_doc()?));
+    assert_eq!(rt;
+        format!(in rt.alloc(); "{node:?}")?.as_str(),
+        "Nest(2, LineOrNil)"
+    );
+    Ok(())
+}
