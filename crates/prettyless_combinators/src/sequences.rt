@@ -3,7 +3,7 @@
 //!
 //! That the iterator can be walked, and ends, is asked where such a value is made, and kept by its
 //! model.
-ghost use Rattle.std.specs.Prelude.{◌≡◌, ◌×◌, ◌⊎◌, List};
+ghost use Rattle.std.specs.Prelude.{◌≡◌, ◌⊎◌, List};
 ghost use Rattle.std.specs.Iterator.{IsFiniteIterable};
 ghost use Rattle.prettyless_doc.specs.BuildErrors.{IsMemory};
 ghost use Rattle.prettyless_build.specs.Iterated.{GivesAll, GivesSome, Concatenates, Intersperses};
@@ -54,7 +54,8 @@ impl<I: IntoIterator, S> Model for Intersperse<I, S> {
     ghost invariant = { λ c. IsFiniteIterable I.into_iter_gives I.IntoIter.can_next I.IntoIter.remaining c.0 };
 }
 
-impl<'a, D: DocPlace<'a>, I: IntoIterator, S: Pretty<'a, D> + Drop> Pretty<'a, D> for Intersperse<I, S>
+impl<'a, D: DocPlace<'a>, I: IntoIterator, S: Pretty<'a, D> + Drop> Pretty<'a, D>
+    for Intersperse<I, S>
 where
     I::Item: Pretty<'a, D>,
 {

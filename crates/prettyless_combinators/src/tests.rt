@@ -84,3 +84,18 @@ fn payloads_are_shown(rt: HostRuntime) -> Result<(), Fail> {
     assert!(rt; shown.as_str().starts_with("MultilineText("));
     Ok(())
 }
+
+#[test]
+fn sequences_are_shown(rt: HostRuntime) -> Result<(), Fail> {
+    let items = intersperse(space(), ["a", "b"]);
+    assert_eq!(rt;
+        format!(in rt.alloc(); "{items:?}")?.as_str(),
+        "Intersperse([\"a\", \"b\"], Space)"
+    );
+    let items = concat([nil(), nil()]);
+    assert_eq!(rt;
+        format!(in rt.alloc(); "{items:?}")?.as_str(),
+        "Concat([Nil, Nil])"
+    );
+    Ok(())
+}
