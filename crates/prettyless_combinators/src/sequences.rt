@@ -2,8 +2,8 @@
 //! and memory.
 //!
 //! That the iterator can be walked, and ends, is asked where such a value is made, and kept by its
-//! model.
-ghost use Rattle.std.specs.Prelude.{◌≡◌, ◌⊎◌, List};
+//! model. Nothing says that a clone of an iterator ends, so a clone copies the iterator.
+ghost use Rattle.std.specs.Prelude.{◌≡◌, ◌⊎◌, ⊤, List};
 ghost use Rattle.std.specs.Iterator.{IsFiniteIterable};
 ghost use Rattle.prettyless_doc.specs.BuildErrors.{IsMemory};
 ghost use Rattle.prettyless_build.specs.Iterated.{GivesAll, GivesSome, Concatenates, Intersperses};
@@ -11,6 +11,7 @@ ghost use Rattle.prettyless_build.specs.Iterated.{GivesAll, GivesSome, Concatena
 use prettyless_alloc::{DocAllocatorBetween, DocAllocatorOver};
 use prettyless_build::{DocBuilder, Pretty};
 use prettyless_doc::{BuildError, DocPlace};
+use std::alloc::AllocError;
 use std::marker::Model;
 
 /// The items' documents, appended in order.
@@ -23,6 +24,16 @@ impl<I: IntoIterator> Model for Concat<I> {
     ghost view = { λ c. c.0 };
 
     ghost invariant = { λ c. IsFiniteIterable I.into_iter_gives I.IntoIter.can_next I.IntoIter.remaining c.0 };
+}
+
+impl<I: IntoIterator + Copy> Clone for Concat<I> {
+    ghost is_clone = { λ c d. c ≡ d };
+
+    ghost is_infallible = { λ _. ⊤ };
+
+    fn clone(&self) -> Result<Self, AllocError> {
+        Ok(Concat(self.0))
+    }
 }
 
 impl<'a, D: DocPlace<'a>, I: IntoIterator> Pretty<'a, D> for Concat<I>
@@ -52,6 +63,16 @@ impl<I: IntoIterator, S> Model for Intersperse<I, S> {
     ghost view = { λ c. (c.0, c.1) };
 
     ghost invariant = { λ c. IsFiniteIterable I.into_iter_gives I.IntoIter.can_next I.IntoIter.remaining c.0 };
+}
+
+impl<I: IntoIterator + Copy, S: Clone> Clone for Intersperse<I, S> {
+    ghost is_clone = { λ c d. (c.0 ≡ d.0) × S.is_clone c.1 d.1 };
+
+    ghost is_infallible = { λ c. S.is_infallible c.1 };
+
+    fn clone(&self) -> Result<Self, AllocError> {
+        Ok(Intersperse(self.0, self.1.clone()?))
+    }
 }
 
 impl<'a, D: DocPlace<'a>, I: IntoIterator, S: Pretty<'a, D> + Drop> Pretty<'a, D>

@@ -86,15 +86,15 @@ fn payloads_are_shown(rt: HostRuntime) -> Result<(), Fail> {
 }
 
 #[test]
-fn sequences_are_shown(rt: HostRuntime) -> Result<(), Fail> {
+fn sequences_are_cloned(rt: HostRuntime) -> Result<(), Fail> {
     let items = intersperse(space(), ["a", "b"]);
     assert_eq!(rt;
-        format!(in rt.alloc(); "{items:?}")?.as_str(),
+        format!(in rt.alloc(); "{:?}", items.clone()?)?.as_str(),
         "Intersperse([\"a\", \"b\"], Space)"
     );
     let items = concat([nil(), nil()]);
     assert_eq!(rt;
-        format!(in rt.alloc(); "{items:?}")?.as_str(),
+        format!(in rt.alloc(); "{:?}", items.clone()?)?.as_str(),
         "Concat([Nil, Nil])"
     );
     Ok(())
