@@ -180,23 +180,23 @@ pub fn flat_alt<T, U>(broken: T, flat: U) -> FlatAlt<T, U>
 /// The documents of all items, appended in order: nothing if there is none.
 ///
 /// `docs` has to end, and to be one that can be walked.
-pub fn concat<I: IntoIterator>(docs: I) -> Concat<I>
+pub fn concat<I: IntoIterator>(docs: I) -> Concat<I::IntoIter>
     requires { IsFiniteIterable I.into_iter_gives I.IntoIter.can_next I.IntoIter.remaining docs }
-    ensures { result ≡ docs }
+    ensures { I.into_iter_gives docs result }
 {
-    Concat(docs)
+    Concat(docs.into_iter())
 }
 
 /// The documents of all items in order, with the separator in each gap: nothing if there is none. The
 /// separator becomes a document once, and only where there is a gap.
 ///
 /// `docs` has to end, and to be one that can be walked.
-pub fn intersperse<I: IntoIterator, S>(separator: S, docs: I) -> Intersperse<I, S>
+pub fn intersperse<I: IntoIterator, S>(separator: S, docs: I) -> Intersperse<I::IntoIter, S>
     requires { IsFiniteIterable I.into_iter_gives I.IntoIter.can_next I.IntoIter.remaining docs }
-    ensures items { result.0 ≡ docs }
+    ensures items { I.into_iter_gives docs result.0 }
     ensures gaps { result.1 ≡ separator }
 {
-    Intersperse(docs, separator)
+    Intersperse(docs.into_iter(), separator)
 }
 
 /// So many copies of the document, one after the other.

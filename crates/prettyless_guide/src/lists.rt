@@ -29,19 +29,19 @@ fn copies_stand_one_after_the_other<'a, D: DocPlace<'a>>(
 }
 
 fn items_are_appended<'a, D: DocPlace<'a>>(rt: &impl Abort, place: &'a D) -> Result<(), Fail> {
-    let items = place.concat(["a", "b", "c"].into_iter())?;
-    compare_built(rt, items, &[(80, "abc"), (0, "abc")])
+    let items = concat(["a", "b", "c"]);
+    compare(rt, place, items, &[(80, "abc"), (0, "abc")])
 }
 
 fn broken_lists_end_in_a_comma<'a, D: DocPlace<'a>>(
     rt: &impl Abort,
     place: &'a D,
 ) -> Result<(), Fail> {
-    let items = place.intersperse(["1", "2", "3"].into_iter(), (",", line_or_space()))?;
-    let body = items.enclose(line_or_nil(), flat_alt(",", nil()))?.nest(2)?;
-    let list = body.enclose("[", (line_or_nil(), "]"))?.group()?;
+    let items = intersperse((",", line_or_space()), ["1", "2", "3"]);
+    let body = nest(2, (line_or_nil(), items, flat_alt(",", nil())));
+    let list = group(("[", body, line_or_nil(), "]"));
     let broken = "[\n  1,\n  2,\n  3,\n]";
-    compare_built(rt, list, &[(9, "[1, 2, 3]"), (8, broken)])
+    compare(rt, place, list, &[(9, "[1, 2, 3]"), (8, broken)])
 }
 
 fn all<'a, D: DocPlace<'a>>(rt: &impl Abort, place: &'a D) -> Result<(), Fail> {
