@@ -1,4 +1,4 @@
-//! Options, and documents that fail.
+//! Options, documents that fail, and what a document shows of itself.
 use crate::layouts::compare_with;
 use prettyless::prelude::*;
 use prettyless::{BoxAllocator, DocPtr, IndentationPolicy, LineEnding, RenderError, RenderOptions};
@@ -30,9 +30,23 @@ fn failures_stop_a_render<'a, D: DocPlace<'a>>(rt: &impl Abort, place: &'a D) ->
     Ok(())
 }
 
+fn documents_show_their_nodes<'a, D: DocPlace<'a>>(
+    rt: &impl Abort,
+    place: &'a D,
+) -> Result<(), Fail> {
+    let pair = place.pretty(group(("a", nest(2, (line_or_space(), "b")))))?;
+    let shown = format!(in place.memory(); "{pair:?}")?;
+    assert_eq!(rt;
+        shown.as_str(),
+        "Group([\"a\", Nest(2, [LineOrSpace, \"b\"])])"
+    );
+    Ok(())
+}
+
 fn all<'a, D: DocPlace<'a>>(rt: &impl Abort, place: &'a D) -> Result<(), Fail> {
     options_choose_line_ends_and_indents(rt, place)?;
-    failures_stop_a_render(rt, place)
+    failures_stop_a_render(rt, place)?;
+    documents_show_their_nodes(rt, place)
 }
 
 #[test]
