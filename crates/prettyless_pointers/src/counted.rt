@@ -90,29 +90,3 @@ impl<'a> DocPlace<'a> for RcAllocator {
         self.memory
     }
 }
-
-#[cfg(test)]
-mod tests {
-    use super::*;
-    use std::test::Fail;
-
-    #[test]
-    fn outlives_its_first_owner(rt: HostRuntime) -> Result<(), Fail> {
-        let counted = RcAllocator::new(rt.alloc());
-        let line = counted.alloc(Doc::HardLine)?;
-        let first = counted.alloc(Doc::Nest(2, line))?;
-        let second = counted.clone_ptr(&first)?;
-        drop(first);
-        assert!(rt; matches!(second.doc(), Doc::Nest(2, _)));
-        Ok(())
-    }
-
-    #[test]
-    fn clones_a_node(rt: HostRuntime) -> Result<(), Fail> {
-        let line = RcDoc::new(rt.alloc(), Doc::HardLine)?;
-        let copy = line.clone()?;
-        drop(line);
-        assert!(rt; matches!(copy.doc(), Doc::HardLine));
-        Ok(())
-    }
-}

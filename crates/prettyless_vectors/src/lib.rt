@@ -4,6 +4,8 @@
 #[cfg(test)]
 mod built;
 #[cfg(test)]
+mod chains;
+#[cfg(test)]
 mod choices;
 #[cfg(test)]
 mod counted;
