@@ -206,6 +206,3 @@ pub fn repeat<T>(count: usize, doc: T) -> Repeat<T>
 {
     Repeat(count, doc)
 }
-
-#[cfg(test)]
-mod tests;

@@ -12,6 +12,8 @@ mod counted;
 #[cfg(test)]
 mod deep;
 #[cfg(test)]
+mod derived;
+#[cfg(test)]
 mod made;
 #[cfg(test)]
 mod modes;

@@ -1,5 +1,7 @@
-//! What is derived of the combinators: tokens are copied, and all but one are cloned and shown.
-use super::*;
+//! What is derived of the combinators: tokens are copied, wrappers are cloned but for payloads and sequences, and all are
+//! shown.
+use prettyless::combinators::*;
+use prettyless::text::CowStr;
 use std::test::Fail;
 
 #[test]
