@@ -1,2 +1,6 @@
 pub mod Outcomes
 pub mod Levels
+pub mod Ink
+pub mod Merges
+pub mod Endings
+pub mod ContentMerged
