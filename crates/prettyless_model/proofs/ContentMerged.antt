@@ -1,22 +1,20 @@
 -- Content, merged: what a document writes interleaves what it spells outside its line suffixes with what waited.
-use Rattle.std.proofs.Common.{◌≡◌, ℕ, zero, suc, ◌+◌, ◌≤◌, List, [], ◌∷◌, ◌++◌, length, refl, ap, sym, ◌∙◌, append_assoc, append-nil, arith, Bool, true, false, ◌&&◌, if◌then◌else◌}
-use Rattle.prettyless_sink.specs.Options.{ending}
+use Rattle.std.proofs.Common.{◌≡◌, ℕ, zero, suc, ◌+◌, ◌≤◌, List, [], ◌∷◌, ◌++◌, length, refl, ap, sym, ◌∙◌, append_assoc, append-nil, arith, if◌then◌else◌}
 use Rattle.prettyless_sink.specs.Spaces.{spaces}
 use Rattle.prettyless_sink.specs.declared.options.RenderOptions.{RenderOptions}
-use Rattle.prettyless_sink.specs.declared.options.IndentationPolicy.{IndentationPolicy}
-use Rattle.prettyless_sink.specs.declared.options.IndentationPolicy.TheVariants.{Eager, Deferred}
 use Rattle.prettyless_model.specs.Tree.{Tree, Nil, Fail, Text, TextWithLen, MultilineText, WeakSpace, HardLine, WeakLine, Append, LineSuffix, Nest, DedentToRoot, Align, ExpandParent, Flatten, BreakOrFlat, Group, Union, PartialUnion, size}
-use Rattle.prettyless_model.specs.Column.{gap, prospective, padding_fits}
+use Rattle.prettyless_model.specs.Column.{gap, blank, prospective}
 use Rattle.prettyless_model.specs.Metrics.{metrics}
 use Rattle.prettyless_model.specs.Reading.{by_mode}
-use Rattle.prettyless_model.specs.Layout.{State, Outcome, Done, Failed, Entry, Breaks, Whole, after_bytes, and_then, lay, lay_each, lay_text, lay_payload, lay_ending, nested, probe, some_pending, accept, tried, is_suppressed, plain_break, flushed, entry, entries, next_indent, break_with, end_with, breaks, finish, layout, layout_by, initial, bytes_of}
+use Rattle.prettyless_model.specs.Layout.{State, Outcome, Done, Failed, Entry, Breaks, Whole, after_bytes, and_then, lay, lay_each, lay_text, lay_payload, nested, probe, tried, plain_break, flushed, entry, entries, break_with, end_with, breaks, finish, layout, layout_by, initial, bytes_of}
 use Rattle.prettyless_model.specs.Spelling.{ink, spells, parts}
 use Rattle.prettyless_model.specs.Content.{suffix_depth, IsMerge}
-use Rattle.prettyless_model.specs.declared.metrics.Metrics.{Metrics}
 use Rattle.prettyless_model.specs.declared.mode.Mode.{Mode}
 use Rattle.prettyless_model.specs.declared.mode.Mode.TheVariants.{Break, Flat}
-use Rattle.prettyless_model.proofs.Ink.{ink-append, ink-spaces, ink-ending, ink-behind, row, spells_one_more}
+use Rattle.prettyless_model.proofs.Ink.{ink-append, ink-spaces, row, spells_one_more}
 use Rattle.prettyless_model.proofs.Endings.{NothingPending, layout_by_ends}
+use Rattle.prettyless_model.proofs.Outcomes.{holds-either, holds-accept}
+use Rattle.prettyless_model.proofs.Writes.{Writes, text_writes, payload_writes, plain_writes}
 use Rattle.prettyless_model.proofs.Merges.{merge_of_first, merge_of_second, merge_with_none, merge-append}
 
 -- the pending documents spell this word in a row, and none of them has a line suffix
@@ -28,8 +26,10 @@ abbrev pub Merges : List ℕ → List ℕ → Outcome → Type 0
 Merges v q (Done b st) = (x : List ℕ) × (rest : List ℕ) × (q ≡ x ++ rest) × IsMerge (ink b) v x × Waits st rest
 Merges v q (Failed b) = Unit {0}
 
-merges_word : (b v q : List ℕ) (st : State) → ink b ≡ v → Waits st q → Merges v q (Done b st)
-merges_word b v q st e h = ([], q, refl, rw e (merge_of_first v), h)
+-- what is written while the pending documents stay
+merges_writes : (v q : List ℕ) (st : State) (o : Outcome) → Writes v st.pending o → Waits st q → Merges v q o
+merges_writes v q st (Done b after) e h = ([], q, refl, rw e.0 (merge_of_first v), rw e.1 h)
+merges_writes v q st (Failed b) e h = tt
 
 merges-joined : (b x z v1 v2 q : List ℕ) (o : Outcome) → q ≡ x ++ z → IsMerge (ink b) v1 x → Merges v2 z o → Merges (v1 ++ v2) q (after_bytes b o)
 merges-joined b x z v1 v2 q (Done c st) e m h = (
@@ -56,15 +56,6 @@ merges-next v1 q v2 o f h g =
     let joined = merges-then v1 q v2 [] o f h (λ (st : State) (r : List ℕ) (w : Waits st r). rw append-nil (g st r w)) in
     rw (append-nil q) at joined
 
-merges-either : (v q : List ℕ) (t : Bool) (x y : Outcome) → Merges v q x → Merges v q y → Merges v q (if t then x else y)
-merges-either v q true x y h g = h
-merges-either v q false x y h g = g
-
-merges-accept : (o : RenderOptions) (v q : List ℕ) (was : Bool) (x other : Outcome) → Merges v q x → Merges v q other → Merges v q (accept o was x other)
-merges-accept o v q was (Done b st) other h g =
-    merges-either v q (st.within && padding_fits o.width (some_pending st.pending) st.column) (Done b (record st { within = was })) other h g
-merges-accept o v q was (Failed b) other h g = g
-
 no_parts : (x r : List ℕ) → [] ≡ x ++ r → (x ≡ []) × (r ≡ [])
 no_parts [] r e = (refl, sym e)
 no_parts (b ∷ bs) r e = absurd (cc)
@@ -80,27 +71,6 @@ merges_late q (Failed b) h = tt
 abbrev pub WritesWaiting : Breaks → Type 0
 WritesWaiting brk = (d : Tree) (i : ℕ) (m : Mode) (rest : List Entry) (st : State) (q : List ℕ) → Waits st q → Merges [] q (brk d i m rest st)
 
-text_merges : (o : RenderOptions) (w : ℕ) (s q : List ℕ) (st : State) → Waits st q → Merges (ink s) q (lay_text o w s st)
-text_merges o w [] q st h = merges_word [] [] q st refl h
-text_merges o w (b ∷ bs) q st h = merges_word (spaces (gap st.column) ++ (b ∷ bs)) (ink (b ∷ bs)) q st (ink-behind (spaces (gap st.column)) (b ∷ bs) (ink-spaces (gap st.column))) h
-
-ink-padding : (t : Bool) (n : ℕ) → ink (if t then spaces n else []) ≡ []
-ink-padding true n = ink-spaces n
-ink-padding false n = refl
-
-payload_merges : (o : RenderOptions) (m : Metrics) (s q : List ℕ) (st : State) → Waits st q → Merges (ink s) q (lay_payload o m s st)
-payload_merges o m s q st h =
-    let padding : List ℕ = if m.first_nonempty then spaces (gap st.column) else [] in
-    merges_word (padding ++ s) (ink s) q st (ink-behind padding s (ink-padding m.first_nonempty (gap st.column))) h
-
-ending_merges : (o : RenderOptions) (p : IndentationPolicy) (k : ℕ) (q : List ℕ) (st : State) → Waits st q → Merges [] q (lay_ending o p k st)
-ending_merges o Eager k q st h = merges_word (ending o.line_ending ++ spaces k) [] q st (ink-behind (ending o.line_ending) (spaces k) (ink-ending o.line_ending) ∙ ink-spaces k) h
-ending_merges o Deferred k q st h = merges_word (ending o.line_ending) [] q st (ink-ending o.line_ending) h
-
-plain_merges : (o : RenderOptions) (d : Tree) (i : ℕ) (rest : List Entry) (q : List ℕ) (st : State) → Waits st q → Merges [] q (plain_break o d i rest st)
-plain_merges o d i rest q st h =
-    merges-either [] q (is_suppressed d st.column) (Done [] st) (lay_ending o o.indentation_policy (next_indent i rest) st) (merges_word [] [] q st refl h) (ending_merges o o.indentation_policy (next_indent i rest) q st h)
-
 depth_one_more : (ds : List Tree) (d : Tree) → suffix_depth (row ds) ≡ 0 → suffix_depth d ≡ 0 → suffix_depth (row (ds ++ d ∷ [])) ≡ 0
 depth_one_more [] d p q = omega arith
 depth_one_more (t ∷ ts) d p q = omega (arith, depth_one_more ts d (omega arith) q)
@@ -109,18 +79,18 @@ depth_one_more (t ∷ ts) d p q = omega (arith, depth_one_more ts d (omega arith
 merges_to : (v v' q u : List ℕ) (o : Outcome) → (v ≡ v') × (u ≡ []) → Merges v' q o → Merges v (q ++ u) o
 merges_to v v' q u o e h = rw (e.0, e.1, append-nil q) h
 
-merges_nothing : (v q u : List ℕ) (st : State) → (v ≡ []) × (u ≡ []) → Waits st q → Merges v (q ++ u) (Done [] st)
-merges_nothing v q u st e w = merges_to v [] q u (Done [] st) e (merges_word [] [] q st refl w)
+merges_piece : (v v' q u : List ℕ) (st : State) (o : Outcome) → Writes v' st.pending o → (v ≡ v') × (u ≡ []) → Waits st q → Merges v (q ++ u) o
+merges_piece v v' q u st o h e w = merges_to v v' q u o e (merges_writes v' q st o h w)
 
 pub lay_merges : (o : RenderOptions) (brk : Breaks) → WritesWaiting brk → (d : Tree) (i : ℕ) (m : Mode) (rest : List Entry) (st : State) (v u q : List ℕ) → parts d v u → suffix_depth d ≤ 1 → Waits st q → Merges v (q ++ u) (lay o brk d i m rest st)
 unfolding lay
-lay_merges o brk k Nil i m rest st v u q h l w = merges_nothing v q u st h w
+lay_merges o brk k Nil i m rest st v u q h l w = merges_piece v [] q u st (Done [] st) (refl, refl) h w
 lay_merges o brk k Fail i m rest st v u q h l w = tt
-lay_merges o brk k (Text s) i m rest st v u q h l w = merges_to v (ink s) q u (lay_text o (length s) s st) h (text_merges o (length s) s q st w)
-lay_merges o brk k (TextWithLen n s) i m rest st v u q h l w = merges_to v (ink s) q u (lay_text o n s st) h (text_merges o n s q st w)
-lay_merges o brk k (MultilineText s) i Break rest st v u q h l w = merges_to v (ink s) q u (lay_payload o (metrics s) s st) h (payload_merges o (metrics s) s q st w)
+lay_merges o brk k (Text s) i m rest st v u q h l w = merges_piece v (ink s) q u st (lay_text o (length s) s st) (text_writes o (length s) s st) h w
+lay_merges o brk k (TextWithLen n s) i m rest st v u q h l w = merges_piece v (ink s) q u st (lay_text o n s st) (text_writes o n s st) h w
+lay_merges o brk k (MultilineText s) i Break rest st v u q h l w = merges_piece v (ink s) q u st (lay_payload o (metrics s) s st) (payload_writes o (metrics s) s st) h w
 lay_merges o brk k (MultilineText s) i Flat rest st v u q h l w = tt
-lay_merges o brk k WeakSpace i m rest st v u q h l w = merges_nothing v q u st h w
+lay_merges o brk k WeakSpace i m rest st v u q h l w = merges_piece v [] q u st (Done [] (record st { column = blank st.column })) (refl, refl) h w
 lay_merges o brk k HardLine i Break rest st v u q h l w = merges_to v [] q u (brk HardLine i Break rest st) h (k HardLine i Break rest st q w)
 lay_merges o brk k HardLine i Flat rest st v u q h l w = tt
 lay_merges o brk k WeakLine i m rest st v u q h l w = merges_to v [] q u (brk WeakLine i m rest st) h (k WeakLine i m rest st q w)
@@ -134,19 +104,19 @@ lay_merges o brk k (LineSuffix d) i m rest st v u q h l w =
 lay_merges o brk k (Nest n d) i m rest st v u q h l w = lay_merges o brk k d (nested i n) m rest st v u q h l w
 lay_merges o brk k (DedentToRoot d) i m rest st v u q h l w = lay_merges o brk k d 0 m rest st v u q h l w
 lay_merges o brk k (Align d) i m rest st v u q h l w = lay_merges o brk k d (prospective st.column) m rest st v u q h l w
-lay_merges o brk k ExpandParent i m rest st v u q h l w = merges_nothing v q u st h w
+lay_merges o brk k ExpandParent i m rest st v u q h l w = merges_piece v [] q u st (Done [] st) (refl, refl) h w
 lay_merges o brk k (Flatten d) i m rest st v u q h l w = lay_merges o brk k d i Flat rest st v u q h l w
 lay_merges o brk k (BreakOrFlat x y) i Break rest st v u q h l w = lay_merges o brk k x i Break rest st v u q h.0 (omega arith) w
 lay_merges o brk k (BreakOrFlat x y) i Flat rest st v u q h l w = lay_merges o brk k y i Flat rest st v u q h.1 (omega arith) w
 lay_merges o brk k (Group d) i m rest st v u q h l w =
     lay_merges o brk k d i (by_mode m (if probe o d Flat rest st then Flat else Break) Flat) rest st v u q h l w
 lay_merges o brk k (Union x y) i Break rest st v u q h l w =
-    merges-accept o v (q ++ u) st.within (lay o brk x i Break rest (tried st)) (lay o brk y i Break rest st)
+    holds-accept (Merges v (q ++ u)) (λ b z was e. e) o st.within (lay o brk x i Break rest (tried st)) (lay o brk y i Break rest st)
     (lay_merges o brk k x i Break rest (tried st) v u q h.0 (omega arith) w)
     (lay_merges o brk k y i Break rest st v u q h.1 (omega arith) w)
 lay_merges o brk k (Union x y) i Flat rest st v u q h l w = lay_merges o brk k x i Flat rest st v u q h.0 (omega arith) w
 lay_merges o brk k (PartialUnion x y) i Break rest st v u q h l w =
-    merges-either v (q ++ u) (probe o x Break rest st) (lay o brk x i Break rest st) (lay o brk y i Break rest st)
+    holds-either (Merges v (q ++ u)) (probe o x Break rest st) (lay o brk x i Break rest st) (lay o brk y i Break rest st)
     (lay_merges o brk k x i Break rest st v u q h.0 (omega arith) w)
     (lay_merges o brk k y i Break rest st v u q h.1 (omega arith) w)
 lay_merges o brk k (PartialUnion x y) i Flat rest st v u q h l w = lay_merges o brk k x i Flat rest st v u q h.0 (omega arith) w
@@ -177,7 +147,7 @@ parts_in_order (PartialUnion x y) w h l = (parts_in_order x w h.0 (omega arith),
 -- documents in a row, each with no line suffix, write what they spell before what waits already
 each_merges : (o : RenderOptions) (brk : Breaks) → WritesWaiting brk → (ds : List Tree) (i : ℕ) (m : Mode) (rest : List Entry) (st : State) (w q : List ℕ) → spells (row ds) w → suffix_depth (row ds) ≡ 0 → Waits st q → Merges w q (lay_each o brk ds i m rest st)
 unfolding lay_each
-each_merges o brk k [] i m rest st w q h l e = merges_word [] w q st (sym h) e
+each_merges o brk k [] i m rest st w q h l e = merges_writes w q st (Done [] st) (sym h, refl) e
 each_merges o brk k (d ∷ ds) i m rest st w q h l e =
     let first : Merges h.0 (q ++ []) (lay o brk d i m (entries i ds ++ rest) st) =
     lay_merges o brk k d i m (entries i ds ++ rest) st h.0 [] q (parts_in_order d h.0 h.2 (omega arith)) (omega arith) e in
@@ -193,7 +163,7 @@ waiting_merges o brk k ps i m rest st again q h l g =
     (merges_late q (lay_each o brk ps i m rest (flushed o st)) (each_merges o brk k ps i m rest (flushed o st) q [] h l (refl, refl))) g)
 
 break_merges : (o : RenderOptions) (brk : Breaks) → WritesWaiting brk → (ps : List Tree) (d : Tree) (i : ℕ) (m : Mode) (rest : List Entry) (st : State) (q : List ℕ) → spells (row ps) q → suffix_depth (row ps) ≡ 0 → Waits st q → Merges [] q (break_with o brk ps d i m rest st)
-break_merges o brk k [] d i m rest st q h l w = plain_merges o d i rest q st w
+break_merges o brk k [] d i m rest st q h l w = merges_writes [] q st (plain_break o d i rest st) (plain_writes o d i rest st) w
 break_merges o brk k (p ∷ ps) d i m rest st q h l w = waiting_merges o brk k (p ∷ ps) i m (entry i d ∷ rest) st (brk d i m rest) q h l (k d i m rest)
 
 breaks_merge : (o : RenderOptions) (n : ℕ) → WritesWaiting (breaks o n)
@@ -202,7 +172,7 @@ breaks_merge o zero = λ d i m rest st q w. tt
 breaks_merge o (suc n) = λ d i m rest st q w. break_merges o (breaks o n) (breaks_merge o n) st.pending d i m rest st q w.0 w.1 w
 
 end_merges : (o : RenderOptions) (brk : Breaks) → WritesWaiting brk → (again : State → Outcome) → ((u : State) (r : List ℕ) → Waits u r → Merges [] r (again u)) → (ps : List Tree) (st : State) (q : List ℕ) → spells (row ps) q → suffix_depth (row ps) ≡ 0 → Waits st q → Merges [] q (end_with o brk again ps st)
-end_merges o brk k again g [] st q h l w = merges_word [] [] q st refl w
+end_merges o brk k again g [] st q h l w = merges_writes [] q st (Done [] st) (refl, refl) w
 end_merges o brk k again g (p ∷ ps) st q h l w = waiting_merges o brk k (p ∷ ps) 0 Break [] st again q h l g
 
 finish_merges : (o : RenderOptions) (brk : Breaks) → WritesWaiting brk → (n : ℕ) (st : State) (q : List ℕ) → Waits st q → Merges [] q (finish o brk n st)
