@@ -1,17 +1,18 @@
 -- Levels: a break and the end that have more of them than can be spent answer the same.
-use Rattle.std.proofs.Common.{◌≡◌, ℕ, zero, suc, ◌+◌, ◌<◌, ◌≤◌, List, [], ◌∷◌, ◌++◌, length, refl, ap, sym, ◌∙◌, arith, Bool, true, false, ◌&&◌, if◌then◌else◌}
+use Rattle.std.proofs.Common.{◌≡◌, ℕ, zero, suc, ◌+◌, ◌<◌, ◌≤◌, List, [], ◌∷◌, ◌++◌, length, refl, ap, sym, ◌∙◌, arith, if◌then◌else◌}
 use Rattle.std.proofs.Math.Numerals.{add-one}
 use Rattle.prettyless_sink.specs.Spaces.{spaces}
 use Rattle.prettyless_sink.specs.declared.options.RenderOptions.{RenderOptions}
 use Rattle.prettyless_sink.specs.declared.options.IndentationPolicy.{IndentationPolicy}
 use Rattle.prettyless_sink.specs.declared.options.IndentationPolicy.TheVariants.{Eager, Deferred}
 use Rattle.prettyless_model.specs.Tree.{Tree, Nil, Fail, Text, TextWithLen, MultilineText, WeakSpace, HardLine, WeakLine, Append, LineSuffix, Nest, DedentToRoot, Align, ExpandParent, Flatten, BreakOrFlat, Group, Union, PartialUnion, size}
-use Rattle.prettyless_model.specs.Column.{gap, prospective, padding_fits}
+use Rattle.prettyless_model.specs.Column.{gap, prospective}
 use Rattle.prettyless_model.specs.Reading.{by_mode}
-use Rattle.prettyless_model.specs.Layout.{State, Outcome, Done, Failed, Entry, Breaks, after_bytes, and_then, lay, lay_each, lay_text, lay_ending, nested, probe, some_pending, accept, tried, is_suppressed, plain_break, flushed, entry, entries, next_indent, break_with, end_with, breaks, finish, layout, layout_by, initial, bytes_of}
+use Rattle.prettyless_model.specs.Layout.{State, Outcome, Done, Failed, Entry, Breaks, after_bytes, and_then, lay, lay_each, lay_text, lay_ending, nested, probe, accept, tried, is_suppressed, plain_break, flushed, entry, entries, next_indent, break_with, end_with, breaks, finish, layout, layout_by, initial, bytes_of}
 use Rattle.prettyless_model.specs.Levels.{suffixes, queued, settle, settle_end}
 use Rattle.prettyless_model.specs.declared.mode.Mode.{Mode}
 use Rattle.prettyless_model.specs.declared.mode.Mode.TheVariants.{Break, Flat}
+use Rattle.prettyless_model.proofs.Outcomes.{holds-either, holds-accept}
 
 -- at most this much is pending afterwards
 abbrev pub LeavesAtMost : ℕ → Outcome → Type 0
@@ -33,15 +34,6 @@ leaves-then n k (Failed b) f h g = tt
 then-agrees : (n : ℕ) (o : Outcome) (f g : State → Outcome) → LeavesAtMost n o → ((u : State) → queued u.pending ≤ n → f u ≡ g u) → and_then o f ≡ and_then o g
 then-agrees n (Done b st) f g h e = ap (after_bytes b) (e st h)
 then-agrees n (Failed b) f g h e = refl
-
-leaves-accept : (o : RenderOptions) (n : ℕ) (was : Bool) (x other : Outcome) → LeavesAtMost n x → LeavesAtMost n other → LeavesAtMost n (accept o was x other)
-leaves-accept o n was (Done b st) other h g =
-    elim (st.within && padding_fits o.width (some_pending st.pending) st.column) as (λ v. LeavesAtMost n (if v then Done b (record st { within = was }) else other)) [ true ↦ h | false ↦ g ]
-leaves-accept o n was (Failed b) other h g = g
-
-leaves-either : (n : ℕ) (v : Bool) (x y : Outcome) → LeavesAtMost n x → LeavesAtMost n y → LeavesAtMost n (if v then x else y)
-leaves-either n true x y h g = h
-leaves-either n false x y h g = g
 
 queued-one : (ps : List Tree) (d : Tree) → queued (ps ++ d ∷ []) ≡ queued ps + (suffixes d + 1)
 queued-one [] d = omega arith
@@ -65,7 +57,7 @@ ending_keeps o Deferred k st = omega arith
 
 plain_keeps : (o : RenderOptions) (d : Tree) (i : ℕ) (rest : List Entry) (st : State) → LeavesAtMost (queued st.pending) (plain_break o d i rest st)
 plain_keeps o d i rest st =
-    leaves-either _ (is_suppressed d st.column) (Done [] st) (lay_ending o o.indentation_policy (next_indent i rest) st) (omega arith) (ending_keeps o o.indentation_policy (next_indent i rest) st)
+    holds-either (LeavesAtMost (queued st.pending)) (is_suppressed d st.column) (Done [] st) (lay_ending o o.indentation_policy (next_indent i rest) st) (omega arith) (ending_keeps o o.indentation_policy (next_indent i rest) st)
 
 pub lay_keeps : (o : RenderOptions) (brk : Breaks) → Keeps brk → (d : Tree) (i : ℕ) (m : Mode) (rest : List Entry) (st : State) → LeavesAtMost (suffixes d + queued st.pending) (lay o brk d i m rest st)
 unfolding lay
@@ -92,12 +84,12 @@ lay_keeps o brk k (BreakOrFlat b f) i Break rest st = leaves-more _ _ (lay o brk
 lay_keeps o brk k (BreakOrFlat b f) i Flat rest st = leaves-more _ _ (lay o brk f i Flat rest st) (omega arith) (lay_keeps o brk k f i Flat rest st)
 lay_keeps o brk k (Group d) i m rest st = lay_keeps o brk k d i (by_mode m (if probe o d Flat rest st then Flat else Break) Flat) rest st
 lay_keeps o brk k (Union l r) i Break rest st =
-    leaves-accept o _ st.within (lay o brk l i Break rest (tried st)) (lay o brk r i Break rest st)
+    holds-accept (LeavesAtMost (suffixes l + suffixes r + queued st.pending)) (λ b z was e. e) o st.within (lay o brk l i Break rest (tried st)) (lay o brk r i Break rest st)
     (leaves-more _ _ (lay o brk l i Break rest (tried st)) (omega arith) (lay_keeps o brk k l i Break rest (tried st)))
     (leaves-more _ _ (lay o brk r i Break rest st) (omega arith) (lay_keeps o brk k r i Break rest st))
 lay_keeps o brk k (Union l r) i Flat rest st = leaves-more _ _ (lay o brk l i Flat rest st) (omega arith) (lay_keeps o brk k l i Flat rest st)
 lay_keeps o brk k (PartialUnion l r) i Break rest st =
-    leaves-either _ (probe o l Break rest st) (lay o brk l i Break rest st) (lay o brk r i Break rest st)
+    holds-either (LeavesAtMost (suffixes l + suffixes r + queued st.pending)) (probe o l Break rest st) (lay o brk l i Break rest st) (lay o brk r i Break rest st)
     (leaves-more _ _ (lay o brk l i Break rest st) (omega arith) (lay_keeps o brk k l i Break rest st))
     (leaves-more _ _ (lay o brk r i Break rest st) (omega arith) (lay_keeps o brk k r i Break rest st))
 lay_keeps o brk k (PartialUnion l r) i Flat rest st = leaves-more _ _ (lay o brk l i Flat rest st) (omega arith) (lay_keeps o brk k l i Flat rest st)

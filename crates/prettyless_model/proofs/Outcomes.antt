@@ -1,6 +1,8 @@
--- Outcomes: bytes before them, and one after another.
-use Rattle.std.proofs.Common.{◌≡◌, ℕ, List, [], ◌++◌, refl, ap, sym, append_assoc, append-nil}
-use Rattle.prettyless_model.specs.Layout.{State, Outcome, Done, Failed, after_bytes, and_then}
+-- Outcomes: bytes before them, one after another, and one of two.
+use Rattle.std.proofs.Common.{◌≡◌, ℕ, List, [], ◌++◌, refl, ap, sym, append_assoc, append-nil, Bool, true, false, ◌&&◌, if◌then◌else◌}
+use Rattle.prettyless_sink.specs.declared.options.RenderOptions.{RenderOptions}
+use Rattle.prettyless_model.specs.Column.{padding_fits}
+use Rattle.prettyless_model.specs.Layout.{State, Outcome, Done, Failed, after_bytes, and_then, some_pending, accept}
 
 pub after-nil : (o : Outcome) → after_bytes [] o ≡ o
 after-nil (Done b st) = refl
@@ -21,3 +23,14 @@ then-then (Failed b) f g = refl
 pub then-done : (o : Outcome) → and_then o (λ u. Done [] u) ≡ o
 then-done (Done b st) = ap (λ (x : List ℕ). Done x st) (append-nil b)
 then-done (Failed b) = refl
+
+-- what holds of both outcomes holds of the one that is taken
+pub holds-either : (P : Outcome → Type 0) (t : Bool) (x y : Outcome) → P x → P y → P (if t then x else y)
+holds-either P true x y h g = h
+holds-either P false x y h g = g
+
+-- and of the one that is accepted, where it does not depend on the flag
+pub holds-accept : (P : Outcome → Type 0) → ((b : List ℕ) (st : State) (was : Bool) → P (Done b st) → P (Done b (record st { within = was }))) → (o : RenderOptions) (was : Bool) (x other : Outcome) → P x → P other → P (accept o was x other)
+holds-accept P k o was (Done b st) other h g =
+    holds-either P (st.within && padding_fits o.width (some_pending st.pending) st.column) (Done b (record st { within = was })) other (k b st was h) g
+holds-accept P k o was (Failed b) other h g = g

@@ -5,3 +5,5 @@ pub mod Reading
 pub mod Layout
 pub mod Levels
 pub mod Rows
+pub mod Spelling
+pub mod Content

@@ -1,3 +1,4 @@
+ghost use Rattle.prettyless_model.specs.Content.{ContentCounted, ContentInOrder, ContentMerged};
 ghost use Rattle.prettyless_model.specs.Levels.{FewerSuffixesThanNodes, MoreLevelsChangeNothing};
 
 /// The levels of a layout are never spent: any number above what the document may leave pending gives the same layout,
@@ -5,4 +6,11 @@ ghost use Rattle.prettyless_model.specs.Levels.{FewerSuffixesThanNodes, MoreLeve
 pub fn law_levels()
     ensures more { MoreLevelsChangeNothing }
     ensures enough { FewerSuffixesThanNodes }
+{}
+
+/// What a document spells is what its layout writes, but for space, CR and LF, where the layout does not fail.
+pub fn law_content()
+    ensures in_order { ContentInOrder }
+    ensures counted { ContentCounted }
+    ensures merged { ContentMerged }
 {}

@@ -1,0 +1,203 @@
+-- Content, merged: what a document writes interleaves what it spells outside its line suffixes with what waited.
+use Rattle.std.proofs.Common.{◌≡◌, ℕ, zero, suc, ◌+◌, ◌≤◌, List, [], ◌∷◌, ◌++◌, length, refl, ap, sym, ◌∙◌, append_assoc, append-nil, arith, if◌then◌else◌}
+use Rattle.prettyless_sink.specs.Spaces.{spaces}
+use Rattle.prettyless_sink.specs.declared.options.RenderOptions.{RenderOptions}
+use Rattle.prettyless_model.specs.Tree.{Tree, Nil, Fail, Text, TextWithLen, MultilineText, WeakSpace, HardLine, WeakLine, Append, LineSuffix, Nest, DedentToRoot, Align, ExpandParent, Flatten, BreakOrFlat, Group, Union, PartialUnion, size}
+use Rattle.prettyless_model.specs.Column.{gap, blank, prospective}
+use Rattle.prettyless_model.specs.Metrics.{metrics}
+use Rattle.prettyless_model.specs.Reading.{by_mode}
+use Rattle.prettyless_model.specs.Layout.{State, Outcome, Done, Failed, Entry, Breaks, Whole, after_bytes, and_then, lay, lay_each, lay_text, lay_payload, nested, probe, tried, plain_break, flushed, entry, entries, break_with, end_with, breaks, finish, layout, layout_by, initial, bytes_of}
+use Rattle.prettyless_model.specs.Spelling.{ink, spells, parts}
+use Rattle.prettyless_model.specs.Content.{suffix_depth, IsMerge}
+use Rattle.prettyless_model.specs.declared.mode.Mode.{Mode}
+use Rattle.prettyless_model.specs.declared.mode.Mode.TheVariants.{Break, Flat}
+use Rattle.prettyless_model.proofs.Ink.{ink-append, ink-spaces, row, spells_one_more}
+use Rattle.prettyless_model.proofs.Endings.{NothingPending, layout_by_ends}
+use Rattle.prettyless_model.proofs.Outcomes.{holds-either, holds-accept}
+use Rattle.prettyless_model.proofs.Writes.{Writes, text_writes, payload_writes, plain_writes}
+use Rattle.prettyless_model.proofs.Merges.{merge_of_first, merge_of_second, merge_with_none, merge-append}
+
+-- the pending documents spell this word in a row, and none of them has a line suffix
+abbrev pub Waits : State → List ℕ → Type 0
+Waits st q = spells (row st.pending) q × (suffix_depth (row st.pending) ≡ 0)
+
+-- the bytes interleave the first word with a beginning of the second, whose rest waits behind them
+abbrev pub Merges : List ℕ → List ℕ → Outcome → Type 0
+Merges v q (Done b st) = (x : List ℕ) × (rest : List ℕ) × (q ≡ x ++ rest) × IsMerge (ink b) v x × Waits st rest
+Merges v q (Failed b) = Unit {0}
+
+-- what is written while the pending documents stay
+merges_writes : (v q : List ℕ) (st : State) (o : Outcome) → Writes v st.pending o → Waits st q → Merges v q o
+merges_writes v q st (Done b after) e h = ([], q, refl, rw e.0 (merge_of_first v), rw e.1 h)
+merges_writes v q st (Failed b) e h = tt
+
+merges-joined : (b x z v1 v2 q : List ℕ) (o : Outcome) → q ≡ x ++ z → IsMerge (ink b) v1 x → Merges v2 z o → Merges (v1 ++ v2) q (after_bytes b o)
+merges-joined b x z v1 v2 q (Done c st) e m h = (
+  x ++ h.0,
+  h.1,
+  e ∙ ap (λ (y : List ℕ). x ++ y) h.2 ∙ sym (append_assoc x h.0 h.1),
+  rw (ink-append b c) (merge-append (ink b) (ink c) v1 x v2 h.0 m h.3),
+  h.4,
+)
+merges-joined b x z v1 v2 q (Failed c) e m h = tt
+
+merges-after : (b v q : List ℕ) (o : Outcome) → ink b ≡ [] → Merges v q o → Merges v q (after_bytes b o)
+merges-after b v q o e h = merges-joined b [] q [] v q o refl (rw e (refl, refl)) h
+
+-- one outcome after another, of which the second adds a word to what waits
+merges-then : (v1 q v2 u : List ℕ) (o : Outcome) (f : State → Outcome) → Merges v1 q o → ((st : State) (r : List ℕ) → Waits st r → Merges v2 (r ++ u) (f st)) → Merges (v1 ++ v2) (q ++ u) (and_then o f)
+merges-then v1 q v2 u (Done b st) f h g =
+    merges-joined b h.0 (h.1 ++ u) v1 v2 (q ++ u) (f st) (ap (λ (y : List ℕ). y ++ u) h.2 ∙ append_assoc h.0 h.1 u) h.3 (g st h.1 h.4)
+merges-then v1 q v2 u (Failed b) f h g = tt
+
+-- and where it adds none
+merges-next : (v1 q v2 : List ℕ) (o : Outcome) (f : State → Outcome) → Merges v1 q o → ((st : State) (r : List ℕ) → Waits st r → Merges v2 r (f st)) → Merges (v1 ++ v2) q (and_then o f)
+merges-next v1 q v2 o f h g =
+    let joined = merges-then v1 q v2 [] o f h (λ (st : State) (r : List ℕ) (w : Waits st r). rw append-nil (g st r w)) in
+    rw (append-nil q) at joined
+
+no_parts : (x r : List ℕ) → [] ≡ x ++ r → (x ≡ []) × (r ≡ [])
+no_parts [] r e = (refl, sym e)
+no_parts (b ∷ bs) r e = absurd (cc)
+
+-- what was written where nothing waited may as well be what waited before
+merges_late : (q : List ℕ) (o : Outcome) → Merges q [] o → Merges [] q o
+merges_late q (Done b st) h =
+    let none = no_parts h.0 h.1 h.2 in
+    (q, [], sym (append-nil q), rw (merge_with_none (ink b) q h.0 none.0 h.3) (merge_of_second q), rw none.1 at h.4)
+merges_late q (Failed b) h = tt
+
+-- a break writes what waits, and nothing else
+abbrev pub WritesWaiting : Breaks → Type 0
+WritesWaiting brk = (d : Tree) (i : ℕ) (m : Mode) (rest : List Entry) (st : State) (q : List ℕ) → Waits st q → Merges [] q (brk d i m rest st)
+
+depth_one_more : (ds : List Tree) (d : Tree) → suffix_depth (row ds) ≡ 0 → suffix_depth d ≡ 0 → suffix_depth (row (ds ++ d ∷ [])) ≡ 0
+depth_one_more [] d p q = omega arith
+depth_one_more (t ∷ ts) d p q = omega (arith, depth_one_more ts d (omega arith) q)
+
+-- words that a document writes to itself
+merges_to : (v v' q u : List ℕ) (o : Outcome) → (v ≡ v') × (u ≡ []) → Merges v' q o → Merges v (q ++ u) o
+merges_to v v' q u o e h = rw (e.0, e.1, append-nil q) h
+
+merges_piece : (v v' q u : List ℕ) (st : State) (o : Outcome) → Writes v' st.pending o → (v ≡ v') × (u ≡ []) → Waits st q → Merges v (q ++ u) o
+merges_piece v v' q u st o h e w = merges_to v v' q u o e (merges_writes v' q st o h w)
+
+pub lay_merges : (o : RenderOptions) (brk : Breaks) → WritesWaiting brk → (d : Tree) (i : ℕ) (m : Mode) (rest : List Entry) (st : State) (v u q : List ℕ) → parts d v u → suffix_depth d ≤ 1 → Waits st q → Merges v (q ++ u) (lay o brk d i m rest st)
+unfolding lay
+lay_merges o brk k Nil i m rest st v u q h l w = merges_piece v [] q u st (Done [] st) (refl, refl) h w
+lay_merges o brk k Fail i m rest st v u q h l w = tt
+lay_merges o brk k (Text s) i m rest st v u q h l w = merges_piece v (ink s) q u st (lay_text o (length s) s st) (text_writes o (length s) s st) h w
+lay_merges o brk k (TextWithLen n s) i m rest st v u q h l w = merges_piece v (ink s) q u st (lay_text o n s st) (text_writes o n s st) h w
+lay_merges o brk k (MultilineText s) i Break rest st v u q h l w = merges_piece v (ink s) q u st (lay_payload o (metrics s) s st) (payload_writes o (metrics s) s st) h w
+lay_merges o brk k (MultilineText s) i Flat rest st v u q h l w = tt
+lay_merges o brk k WeakSpace i m rest st v u q h l w = merges_piece v [] q u st (Done [] (record st { column = blank st.column })) (refl, refl) h w
+lay_merges o brk k HardLine i Break rest st v u q h l w = merges_to v [] q u (brk HardLine i Break rest st) h (k HardLine i Break rest st q w)
+lay_merges o brk k HardLine i Flat rest st v u q h l w = tt
+lay_merges o brk k WeakLine i m rest st v u q h l w = merges_to v [] q u (brk WeakLine i m rest st) h (k WeakLine i m rest st q w)
+lay_merges o brk k (Append x y) i m rest st v u q h l w =
+    rw (h.6, h.7, ← append_assoc q h.1 h.3)
+    (merges-then h.0 (q ++ h.1) h.2 h.3 (lay o brk x i m (entry i y ∷ rest) st) (λ z. lay o brk y i m rest z)
+    (lay_merges o brk k x i m (entry i y ∷ rest) st h.0 h.1 q h.4 (omega arith) w)
+    (λ z r e. lay_merges o brk k y i m rest z h.2 h.3 r h.5 (omega arith) e))
+lay_merges o brk k (LineSuffix d) i m rest st v u q h l w =
+    ([], q ++ u, refl, rw h.0 (refl, refl), (spells_one_more st.pending d q u w.0 h.1, depth_one_more st.pending d w.1 (omega arith)))
+lay_merges o brk k (Nest n d) i m rest st v u q h l w = lay_merges o brk k d (nested i n) m rest st v u q h l w
+lay_merges o brk k (DedentToRoot d) i m rest st v u q h l w = lay_merges o brk k d 0 m rest st v u q h l w
+lay_merges o brk k (Align d) i m rest st v u q h l w = lay_merges o brk k d (prospective st.column) m rest st v u q h l w
+lay_merges o brk k ExpandParent i m rest st v u q h l w = merges_piece v [] q u st (Done [] st) (refl, refl) h w
+lay_merges o brk k (Flatten d) i m rest st v u q h l w = lay_merges o brk k d i Flat rest st v u q h l w
+lay_merges o brk k (BreakOrFlat x y) i Break rest st v u q h l w = lay_merges o brk k x i Break rest st v u q h.0 (omega arith) w
+lay_merges o brk k (BreakOrFlat x y) i Flat rest st v u q h l w = lay_merges o brk k y i Flat rest st v u q h.1 (omega arith) w
+lay_merges o brk k (Group d) i m rest st v u q h l w =
+    lay_merges o brk k d i (by_mode m (if probe o d Flat rest st then Flat else Break) Flat) rest st v u q h l w
+lay_merges o brk k (Union x y) i Break rest st v u q h l w =
+    holds-accept (Merges v (q ++ u)) (λ b z was e. e) o st.within (lay o brk x i Break rest (tried st)) (lay o brk y i Break rest st)
+    (lay_merges o brk k x i Break rest (tried st) v u q h.0 (omega arith) w)
+    (lay_merges o brk k y i Break rest st v u q h.1 (omega arith) w)
+lay_merges o brk k (Union x y) i Flat rest st v u q h l w = lay_merges o brk k x i Flat rest st v u q h.0 (omega arith) w
+lay_merges o brk k (PartialUnion x y) i Break rest st v u q h l w =
+    holds-either (Merges v (q ++ u)) (probe o x Break rest st) (lay o brk x i Break rest st) (lay o brk y i Break rest st)
+    (lay_merges o brk k x i Break rest st v u q h.0 (omega arith) w)
+    (lay_merges o brk k y i Break rest st v u q h.1 (omega arith) w)
+lay_merges o brk k (PartialUnion x y) i Flat rest st v u q h l w = lay_merges o brk k x i Flat rest st v u q h.0 (omega arith) w
+
+-- a document with no line suffix has one part
+pub parts_in_order : (d : Tree) (w : List ℕ) → spells d w → suffix_depth d ≡ 0 → parts d w []
+parts_in_order Nil w h l = (h, refl)
+parts_in_order Fail w h l = tt
+parts_in_order (Text s) w h l = (h, refl)
+parts_in_order (TextWithLen n s) w h l = (h, refl)
+parts_in_order (MultilineText s) w h l = (h, refl)
+parts_in_order WeakSpace w h l = (h, refl)
+parts_in_order HardLine w h l = (h, refl)
+parts_in_order WeakLine w h l = (h, refl)
+parts_in_order (Append x y) w h l =
+    (h.0, [], h.1, [], parts_in_order x h.0 h.2 (omega arith), parts_in_order y h.1 h.3 (omega arith), h.4, refl)
+parts_in_order (LineSuffix d) w h l = absurd (omega arith)
+parts_in_order (Nest k d) w h l = parts_in_order d w h l
+parts_in_order (DedentToRoot d) w h l = parts_in_order d w h l
+parts_in_order (Align d) w h l = parts_in_order d w h l
+parts_in_order ExpandParent w h l = (h, refl)
+parts_in_order (Flatten d) w h l = parts_in_order d w h l
+parts_in_order (BreakOrFlat x y) w h l = (parts_in_order x w h.0 (omega arith), parts_in_order y w h.1 (omega arith))
+parts_in_order (Group d) w h l = parts_in_order d w h l
+parts_in_order (Union x y) w h l = (parts_in_order x w h.0 (omega arith), parts_in_order y w h.1 (omega arith))
+parts_in_order (PartialUnion x y) w h l = (parts_in_order x w h.0 (omega arith), parts_in_order y w h.1 (omega arith))
+
+-- documents in a row, each with no line suffix, write what they spell before what waits already
+each_merges : (o : RenderOptions) (brk : Breaks) → WritesWaiting brk → (ds : List Tree) (i : ℕ) (m : Mode) (rest : List Entry) (st : State) (w q : List ℕ) → spells (row ds) w → suffix_depth (row ds) ≡ 0 → Waits st q → Merges w q (lay_each o brk ds i m rest st)
+unfolding lay_each
+each_merges o brk k [] i m rest st w q h l e = merges_writes w q st (Done [] st) (sym h, refl) e
+each_merges o brk k (d ∷ ds) i m rest st w q h l e =
+    let first : Merges h.0 (q ++ []) (lay o brk d i m (entries i ds ++ rest) st) =
+    lay_merges o brk k d i m (entries i ds ++ rest) st h.0 [] q (parts_in_order d h.0 h.2 (omega arith)) (omega arith) e in
+    rw h.4
+    (merges-next h.0 q h.1 (lay o brk d i m (entries i ds ++ rest) st) (λ u. lay_each o brk ds i m rest u) (rw (append-nil q) at first)
+    (λ u r f. each_merges o brk k ds i m rest u h.1 r h.3 (omega arith) f))
+
+-- what waits is written, and then what goes on writes what waits still
+waiting_merges : (o : RenderOptions) (brk : Breaks) → WritesWaiting brk → (ps : List Tree) (i : ℕ) (m : Mode) (rest : List Entry) (st : State) (again : State → Outcome) (q : List ℕ) → spells (row ps) q → suffix_depth (row ps) ≡ 0 → ((u : State) (r : List ℕ) → Waits u r → Merges [] r (again u)) → Merges [] q (after_bytes (spaces (gap st.column)) (and_then (lay_each o brk ps i m rest (flushed o st)) again))
+waiting_merges o brk k ps i m rest st again q h l g =
+    merges-after (spaces (gap st.column)) [] q (and_then (lay_each o brk ps i m rest (flushed o st)) again) (ink-spaces (gap st.column))
+    (merges-next [] q [] (lay_each o brk ps i m rest (flushed o st)) again
+    (merges_late q (lay_each o brk ps i m rest (flushed o st)) (each_merges o brk k ps i m rest (flushed o st) q [] h l (refl, refl))) g)
+
+break_merges : (o : RenderOptions) (brk : Breaks) → WritesWaiting brk → (ps : List Tree) (d : Tree) (i : ℕ) (m : Mode) (rest : List Entry) (st : State) (q : List ℕ) → spells (row ps) q → suffix_depth (row ps) ≡ 0 → Waits st q → Merges [] q (break_with o brk ps d i m rest st)
+break_merges o brk k [] d i m rest st q h l w = merges_writes [] q st (plain_break o d i rest st) (plain_writes o d i rest st) w
+break_merges o brk k (p ∷ ps) d i m rest st q h l w = waiting_merges o brk k (p ∷ ps) i m (entry i d ∷ rest) st (brk d i m rest) q h l (k d i m rest)
+
+breaks_merge : (o : RenderOptions) (n : ℕ) → WritesWaiting (breaks o n)
+unfolding breaks
+breaks_merge o zero = λ d i m rest st q w. tt
+breaks_merge o (suc n) = λ d i m rest st q w. break_merges o (breaks o n) (breaks_merge o n) st.pending d i m rest st q w.0 w.1 w
+
+end_merges : (o : RenderOptions) (brk : Breaks) → WritesWaiting brk → (again : State → Outcome) → ((u : State) (r : List ℕ) → Waits u r → Merges [] r (again u)) → (ps : List Tree) (st : State) (q : List ℕ) → spells (row ps) q → suffix_depth (row ps) ≡ 0 → Waits st q → Merges [] q (end_with o brk again ps st)
+end_merges o brk k again g [] st q h l w = merges_writes [] q st (Done [] st) (refl, refl) w
+end_merges o brk k again g (p ∷ ps) st q h l w = waiting_merges o brk k (p ∷ ps) 0 Break [] st again q h l g
+
+finish_merges : (o : RenderOptions) (brk : Breaks) → WritesWaiting brk → (n : ℕ) (st : State) (q : List ℕ) → Waits st q → Merges [] q (finish o brk n st)
+unfolding finish
+finish_merges o brk k zero st q w = tt
+finish_merges o brk k (suc n) st q w = end_merges o brk k (finish o brk n) (finish_merges o brk k n) st.pending st q w.0 w.1 w
+
+layout_by_merges : (o : RenderOptions) (n : ℕ) (d : Tree) (v u : List ℕ) → parts d v u → suffix_depth d ≤ 1 → Merges v u (layout_by o n d)
+unfolding layout_by
+layout_by_merges o n d v u h l =
+    let whole = merges-next v u [] (lay o (breaks o n) d 0 Break [] initial) (finish o (breaks o n) n)
+    (lay_merges o (breaks o n) (breaks_merge o n) d 0 Break [] initial v u [] h l (refl, refl))
+    (finish_merges o (breaks o n) (breaks_merge o n) n) in
+    rw (append-nil v) at whole
+
+whole_merges : (x : Outcome) (v u b : List ℕ) → Merges v u x → NothingPending x → bytes_of x ≡ Whole b → IsMerge (ink b) v u
+whole_merges (Done c st) v u b h s e =
+    let same : c ≡ b = cc in
+    let none : spells (row []) h.1 = rw s at h.4.0 in
+    rw (← same, h.2, none, append-nil) h.3
+whole_merges (Failed c) v u b h s e = absurd (cc)
+
+pub content_merged : (o : RenderOptions) (d : Tree) (v u b : List ℕ) → parts d v u → suffix_depth d ≤ 1 → layout o d ≡ Whole b → IsMerge (ink b) v u
+unfolding layout
+content_merged o d v u b h l e = whole_merges (layout_by o (size d + 1) d) v u b (layout_by_merges o (size d + 1) d v u h l) (layout_by_ends o (size d + 1) d) e
+
+pub content_in_order : (o : RenderOptions) (d : Tree) (w b : List ℕ) → spells d w → suffix_depth d ≡ 0 → layout o d ≡ Whole b → ink b ≡ w
+content_in_order o d w b h l e = merge_with_none (ink b) w [] refl (content_merged o d w [] b (parts_in_order d w h l) (omega arith) e)

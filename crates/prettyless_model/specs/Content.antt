@@ -1,0 +1,51 @@
+-- The content of a layout: what a document spells is what its layout writes, but for space, CR and LF.
+use Rattle.std.specs.Prelude.{◌≡◌, ℕ, ◌+◌, ◌≤◌, max, ◌==◌, List, [], ◌∷◌, ◌⊎◌, count_by}
+use Rattle.prettyless_sink.specs.declared.options.RenderOptions.{RenderOptions}
+use Rattle.prettyless_model.specs.Tree.{Tree, Nil, Fail, Text, TextWithLen, MultilineText, WeakSpace, HardLine, WeakLine, Append, LineSuffix, Nest, DedentToRoot, Align, ExpandParent, Flatten, BreakOrFlat, Group, Union, PartialUnion}
+use Rattle.prettyless_model.specs.Layout.{Whole, layout}
+use Rattle.prettyless_model.specs.Spelling.{ink, spells, parts}
+
+-- how deep line suffixes stand in one another: 0 where there are none, 1 where none stands inside another
+abbrev pub suffix_depth : Tree → ℕ
+suffix_depth Nil = 0
+suffix_depth Fail = 0
+suffix_depth (Text s) = 0
+suffix_depth (TextWithLen w s) = 0
+suffix_depth (MultilineText s) = 0
+suffix_depth WeakSpace = 0
+suffix_depth HardLine = 0
+suffix_depth WeakLine = 0
+suffix_depth (Append l r) = max (suffix_depth l) (suffix_depth r)
+suffix_depth (LineSuffix d) = suffix_depth d + 1
+suffix_depth (Nest k d) = suffix_depth d
+suffix_depth (DedentToRoot d) = suffix_depth d
+suffix_depth (Align d) = suffix_depth d
+suffix_depth ExpandParent = 0
+suffix_depth (Flatten d) = suffix_depth d
+suffix_depth (BreakOrFlat b f) = max (suffix_depth b) (suffix_depth f)
+suffix_depth (Group d) = suffix_depth d
+suffix_depth (Union l r) = max (suffix_depth l) (suffix_depth r)
+suffix_depth (PartialUnion l r) = max (suffix_depth l) (suffix_depth r)
+
+-- how often a byte occurs
+abbrev pub count : ℕ → List ℕ → ℕ
+count c bytes = count_by (λ b. b == c) bytes
+
+-- the bytes are two words that are interleaved, each in its own order
+abbrev pub IsMerge : List ℕ → List ℕ → List ℕ → Type 0
+IsMerge [] v u = (v ≡ []) × (u ≡ [])
+IsMerge (b ∷ bs) v u =
+    ((rest : List ℕ) × (v ≡ b ∷ rest) × IsMerge bs rest u) ⊎ ((rest : List ℕ) × (u ≡ b ∷ rest) × IsMerge bs v rest)
+
+-- a whole layout of a document with no line suffix is what the document spells, in its order
+abbrev pub ContentInOrder : Type 0
+ContentInOrder = (o : RenderOptions) (d : Tree) (w b : List ℕ) → spells d w → suffix_depth d ≡ 0 → layout o d ≡ Whole b → ink b ≡ w
+
+-- a whole layout has each byte as often as what the document spells
+abbrev pub ContentCounted : Type 0
+ContentCounted = (o : RenderOptions) (d : Tree) (w b : List ℕ) → spells d w → layout o d ≡ Whole b → (c : ℕ) → count c (ink b) ≡ count c w
+
+-- where no line suffix stands inside another, a whole layout is what the document spells outside its line suffixes and
+-- what it spells inside them, interleaved
+abbrev pub ContentMerged : Type 0
+ContentMerged = (o : RenderOptions) (d : Tree) (v u b : List ℕ) → parts d v u → suffix_depth d ≤ 1 → layout o d ≡ Whole b → IsMerge (ink b) v u
