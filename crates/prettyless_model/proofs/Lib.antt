@@ -6,3 +6,4 @@ pub mod Endings
 pub mod Writes
 pub mod ContentMerged
 pub mod ContentCounted
+pub mod Content

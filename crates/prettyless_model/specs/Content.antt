@@ -1,5 +1,5 @@
 -- The content of a layout: what a document spells is what its layout writes, but for space, CR and LF.
-use Rattle.std.specs.Prelude.{◌≡◌, ℕ, ◌+◌, ◌≤◌, max, ◌==◌, List, [], ◌∷◌, ◌⊎◌, count_by}
+use Rattle.std.specs.Prelude.{◌≡◌, ℕ, ◌+◌, ◌≤◌, max, ◌==◌, List, [], ◌∷◌, ◌++◌, Option, Some, ◌⊎◌, ⊤, count_by}
 use Rattle.prettyless_sink.specs.declared.options.RenderOptions.{RenderOptions}
 use Rattle.prettyless_model.specs.Tree.{Tree, Nil, Fail, Text, TextWithLen, MultilineText, WeakSpace, HardLine, WeakLine, Append, LineSuffix, Nest, DedentToRoot, Align, ExpandParent, Flatten, BreakOrFlat, Group, Union, PartialUnion}
 use Rattle.prettyless_model.specs.Layout.{Whole, layout}
@@ -37,15 +37,24 @@ IsMerge [] v u = (v ≡ []) × (u ≡ [])
 IsMerge (b ∷ bs) v u =
     ((rest : List ℕ) × (v ≡ b ∷ rest) × IsMerge bs rest u) ⊎ ((rest : List ℕ) × (u ≡ b ∷ rest) × IsMerge bs v rest)
 
--- a whole layout of a document with no line suffix is what the document spells, in its order
-abbrev pub ContentInOrder : Type 0
-ContentInOrder = (o : RenderOptions) (d : Tree) (w b : List ℕ) → spells d w → suffix_depth d ≡ 0 → layout o d ≡ Whole b → ink b ≡ w
+-- what bytes have of the content of a document that they are the layout of
+pub record HasContent (d : Tree) (b : List ℕ) : Type 0 where
+  -- with no line suffix: what the document spells, in its order
+  pub in_order : (w : List ℕ) → spells d w → suffix_depth d ≡ 0 → ink b ≡ w
+  -- each byte as often as in what the document spells
+  pub counted : (w : List ℕ) → spells d w → (c : ℕ) → count c (ink b) ≡ count c w
+  -- with no line suffix inside another: what it spells outside its line suffixes and what it spells inside them, interleaved
+  pub merged : (v u : List ℕ) → parts d v u → suffix_depth d ≤ 1 → IsMerge (ink b) v u
 
--- a whole layout has each byte as often as what the document spells
-abbrev pub ContentCounted : Type 0
-ContentCounted = (o : RenderOptions) (d : Tree) (w b : List ℕ) → spells d w → layout o d ≡ Whole b → (c : ℕ) → count c (ink b) ≡ count c w
+-- whole layouts have the content of their documents
+abbrev pub LayoutsHaveContent : Type 0
+LayoutsHaveContent = (o : RenderOptions) (d : Tree) (b : List ℕ) → layout o d ≡ Whole b → HasContent d b
 
--- where no line suffix stands inside another, a whole layout is what the document spells outside its line suffixes and
--- what it spells inside them, interleaved
-abbrev pub ContentMerged : Type 0
-ContentMerged = (o : RenderOptions) (d : Tree) (v u b : List ℕ) → parts d v u → suffix_depth d ≤ 1 → layout o d ≡ Whole b → IsMerge (ink b) v u
+-- what was appended has the content of the document
+abbrev pub AppendsContent : Tree → List ℕ → List ℕ → Type 0
+AppendsContent d old new = (b : List ℕ) × (new ≡ old ++ b) × HasContent d b
+
+-- the same where it is known what stood there before and afterwards
+abbrev pub AppendsKnownContent : Tree → Option (List ℕ) → Option (List ℕ) → Type 0
+AppendsKnownContent d (Some old) (Some new) = AppendsContent d old new
+AppendsKnownContent d _ _ = ⊤

@@ -1,4 +1,4 @@
-ghost use Rattle.prettyless_model.specs.Content.{ContentCounted, ContentInOrder, ContentMerged};
+ghost use Rattle.prettyless_model.specs.Content.{LayoutsHaveContent};
 ghost use Rattle.prettyless_model.specs.Levels.{FewerSuffixesThanNodes, MoreLevelsChangeNothing};
 
 /// The levels of a layout are never spent: any number above what the document may leave pending gives the same layout,
@@ -8,9 +8,8 @@ pub fn law_levels()
     ensures enough { FewerSuffixesThanNodes }
 {}
 
-/// What a document spells is what its layout writes, but for space, CR and LF, where the layout does not fail.
+/// What a document spells is what its layout writes, but for space, CR and LF, where the layout does not fail: in its
+/// order without line suffixes, byte for byte as often with them, and interleaved where none stands inside another.
 pub fn law_content()
-    ensures in_order { ContentInOrder }
-    ensures counted { ContentCounted }
-    ensures merged { ContentMerged }
+    ensures { LayoutsHaveContent }
 {}
