@@ -1,5 +1,6 @@
-ghost use Rattle.std.specs.Prelude.{◌≡◌};
+ghost use Rattle.std.specs.Prelude.{◌≡◌, IfSome};
 ghost use Rattle.prettyless_sink.specs.Options.{options_at};
+ghost use Rattle.prettyless_model.specs.Content.{HasContent};
 ghost use Rattle.prettyless_model.specs.Layout.{layout, whole_bytes};
 ghost use Rattle.prettyless_doc.specs.DocTree.{tree_of};
 
@@ -23,6 +24,8 @@ impl<'a, T: DocPtr<'a>> Doc<'a, T> {
     pub fn print<'d>(&'d self, alloc: Global, width: usize) -> PrettyFmt<'a, 'd, T>
         ensures options { result.options ≡ options_at width }
         ensures doc { result.doc.now ≡ self.now }
+        ensures content { IfSome (whole_bytes (layout (options_at width) (tree_of T.tree self.now)))
+            (HasContent (tree_of T.tree self.now)) }
     {
         self.print_with(alloc, RenderOptions::new(width))
     }
@@ -31,6 +34,8 @@ impl<'a, T: DocPtr<'a>> Doc<'a, T> {
     pub fn print_with<'d>(&'d self, alloc: Global, options: RenderOptions) -> PrettyFmt<'a, 'd, T>
         ensures options { result.options ≡ options }
         ensures doc { result.doc.now ≡ self.now }
+        ensures content { IfSome (whole_bytes (layout options (tree_of T.tree self.now)))
+            (HasContent (tree_of T.tree self.now)) }
     {
         PrettyFmt {
             doc: self,

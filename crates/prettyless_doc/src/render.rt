@@ -1,7 +1,8 @@
-ghost use Rattle.std.specs.Prelude.{◌≡◌, ⊤};
+ghost use Rattle.std.specs.Prelude.{◌≡◌, ⊤, IfOk};
 ghost use Rattle.std.specs.IoError.{error_kind};
 ghost use Rattle.std.specs.declared.io.ErrorKind.TheVariants.{Other};
 ghost use Rattle.prettyless_sink.specs.Options.{options_at};
+ghost use Rattle.prettyless_model.specs.Content.{AppendsContent, AppendsKnownContent};
 ghost use Rattle.prettyless_model.specs.Layout.{layout};
 ghost use Rattle.prettyless_printer.specs.Renders.{Rendered, RendersKnown};
 ghost use Rattle.prettyless_doc.specs.DocTree.{tree_of};
@@ -34,6 +35,8 @@ impl<'a, T: DocPtr<'a>> Doc<'a, T> {
         ensures told { W.tells out.old → W.tells out.new
             × Rendered (W.document_errors out.new) (layout options (tree_of T.tree self.now))
             (W.written out.old) (W.written out.new) (W.failures out.old) (W.failures out.new) result }
+        ensures content { W.tells out.old
+            → IfOk result (λ _. AppendsContent (tree_of T.tree self.now) (W.written out.old) (W.written out.new)) }
     {
         run::render(alloc, self, options, out)
     }
@@ -49,6 +52,8 @@ impl<'a, T: DocPtr<'a>> Doc<'a, T> {
         ensures told { W.tells out.old → W.tells out.new
             × Rendered (W.document_errors out.new) (layout (options_at width) (tree_of T.tree self.now))
             (W.written out.old) (W.written out.new) (W.failures out.old) (W.failures out.new) result }
+        ensures content { W.tells out.old
+            → IfOk result (λ _. AppendsContent (tree_of T.tree self.now) (W.written out.old) (W.written out.new)) }
     {
         self.render_raw_with(alloc, RenderOptions::new(width), out)
     }
@@ -60,7 +65,9 @@ impl<'a, T: DocPtr<'a>> Doc<'a, T> {
         options: RenderOptions,
         out: &mut W,
     ) -> Result<(), RenderError<io::Error>>
-        ensures { RendersKnown (λ e. error_kind e ≡ Other) (layout options (tree_of T.tree self.now)) (W.contents out.old) (W.contents out.new) result }
+        ensures told { RendersKnown (λ e. error_kind e ≡ Other) (layout options (tree_of T.tree self.now)) (W.contents out.old) (W.contents out.new) result }
+        ensures content { IfOk result (λ _.
+            AppendsKnownContent (tree_of T.tree self.now) (W.contents out.old) (W.contents out.new)) }
     {
         self.render_raw_with(alloc, options, &mut IoWrite::new(out))
     }
@@ -72,7 +79,9 @@ impl<'a, T: DocPtr<'a>> Doc<'a, T> {
         width: usize,
         out: &mut W,
     ) -> Result<(), RenderError<io::Error>>
-        ensures { RendersKnown (λ e. error_kind e ≡ Other) (layout (options_at width) (tree_of T.tree self.now)) (W.contents out.old) (W.contents out.new) result }
+        ensures told { RendersKnown (λ e. error_kind e ≡ Other) (layout (options_at width) (tree_of T.tree self.now)) (W.contents out.old) (W.contents out.new) result }
+        ensures content { IfOk result (λ _.
+            AppendsKnownContent (tree_of T.tree self.now) (W.contents out.old) (W.contents out.new)) }
     {
         self.render_with(alloc, RenderOptions::new(width), out)
     }
@@ -84,7 +93,9 @@ impl<'a, T: DocPtr<'a>> Doc<'a, T> {
         options: RenderOptions,
         out: &mut W,
     ) -> Result<(), RenderError<fmt::Error>>
-        ensures { RendersKnown (λ _. ⊤) (layout options (tree_of T.tree self.now)) (W.text out.old) (W.text out.new) result }
+        ensures told { RendersKnown (λ _. ⊤) (layout options (tree_of T.tree self.now)) (W.text out.old) (W.text out.new) result }
+        ensures content { IfOk result (λ _.
+            AppendsKnownContent (tree_of T.tree self.now) (W.text out.old) (W.text out.new)) }
     {
         self.render_raw_with(alloc, options, &mut FmtWrite::new(out))
     }
@@ -96,7 +107,9 @@ impl<'a, T: DocPtr<'a>> Doc<'a, T> {
         width: usize,
         out: &mut W,
     ) -> Result<(), RenderError<fmt::Error>>
-        ensures { RendersKnown (λ _. ⊤) (layout (options_at width) (tree_of T.tree self.now)) (W.text out.old) (W.text out.new) result }
+        ensures told { RendersKnown (λ _. ⊤) (layout (options_at width) (tree_of T.tree self.now)) (W.text out.old) (W.text out.new) result }
+        ensures content { IfOk result (λ _.
+            AppendsKnownContent (tree_of T.tree self.now) (W.text out.old) (W.text out.new)) }
     {
         self.render_fmt_with(alloc, RenderOptions::new(width), out)
     }

@@ -9,3 +9,4 @@ pub mod Turnings
 pub mod Trying
 pub mod Working
 pub mod Renders
+pub mod Contents
