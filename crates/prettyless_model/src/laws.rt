@@ -8,7 +8,8 @@ pub fn law_levels()
     ensures enough { FewerSuffixesThanNodes }
 {}
 
-/// What a document spells is what its layout writes, but for space, CR and LF, where the layout does not fail.
+/// What a document spells is what its layout writes, but for space, CR and LF, where the layout does not fail: in its
+/// order without line suffixes, each byte as often with them, and interleaved where none stands inside another.
 pub fn law_content()
     ensures in_order { ContentInOrder }
     ensures counted { ContentCounted }
