@@ -12,7 +12,8 @@ use Rattle.prettyless_model.specs.Spelling.{ink, spells}
 use Rattle.prettyless_model.specs.Content.{count}
 use Rattle.prettyless_model.specs.declared.mode.Mode.{Mode}
 use Rattle.prettyless_model.specs.declared.mode.Mode.TheVariants.{Break, Flat}
-use Rattle.prettyless_model.proofs.Ink.{ink-append, ink-spaces, row, spells_one_more}
+use Rattle.prettyless_model.proofs.Ink.{ink-append, ink-spaces}
+use Rattle.prettyless_model.proofs.Words.{row, spells_one_more}
 use Rattle.prettyless_model.proofs.Endings.{NothingPending, layout_by_ends}
 use Rattle.prettyless_model.proofs.Outcomes.{holds-either, holds-accept}
 use Rattle.prettyless_model.proofs.Writes.{Writes, text_writes, payload_writes, plain_writes}
@@ -30,7 +31,8 @@ count_ink c a b = ap (count c) (ink-append a b) ∙ count-append c (ink a) (ink 
 
 -- what is written while the pending documents stay
 leaves_writes : (c : ℕ) (v w q : List ℕ) (st : State) (o : Outcome) → Writes v st.pending o → w ≡ v → spells (row st.pending) q → Leaves c (count c w + count c q) o
-leaves_writes c v w q st (Done b after) h e s = (q, rw h.1 s, ap (λ (x : List ℕ). count c x + count c q) (h.0 ∙ sym e))
+leaves_writes c v w q st (Done b after) h e s =
+    (q, rw h.1 s, ap (λ (x : List ℕ). count c x + count c q) (h.0 ∙ sym e))
 leaves_writes c v w q st (Failed b) h e s = tt
 
 leaves_same : (c n k : ℕ) (o : Outcome) → n ≡ k → Leaves c n o → Leaves c k o
@@ -53,20 +55,27 @@ pub lay_counts : (o : RenderOptions) (brk : Breaks) (c : ℕ) → Conserves c br
 unfolding lay
 lay_counts o brk c k Nil i m rest st w q h s = leaves_writes c [] w q st (Done [] st) (refl, refl) h s
 lay_counts o brk c k Fail i m rest st w q h s = tt
-lay_counts o brk c k (Text x) i m rest st w q h s = leaves_writes c (ink x) w q st (lay_text o (length x) x st) (text_writes o (length x) x st) h s
-lay_counts o brk c k (TextWithLen n x) i m rest st w q h s = leaves_writes c (ink x) w q st (lay_text o n x st) (text_writes o n x st) h s
-lay_counts o brk c k (MultilineText x) i Break rest st w q h s = leaves_writes c (ink x) w q st (lay_payload o (metrics x) x st) (payload_writes o (metrics x) x st) h s
+lay_counts o brk c k (Text x) i m rest st w q h s =
+    leaves_writes c (ink x) w q st (lay_text o (length x) x st) (text_writes o (length x) x st) h s
+lay_counts o brk c k (TextWithLen n x) i m rest st w q h s =
+    leaves_writes c (ink x) w q st (lay_text o n x st) (text_writes o n x st) h s
+lay_counts o brk c k (MultilineText x) i Break rest st w q h s =
+    leaves_writes c (ink x) w q st (lay_payload o (metrics x) x st) (payload_writes o (metrics x) x st) h s
 lay_counts o brk c k (MultilineText x) i Flat rest st w q h s = tt
-lay_counts o brk c k WeakSpace i m rest st w q h s = leaves_writes c [] w q st (Done [] (record st { column = blank st.column })) (refl, refl) h s
-lay_counts o brk c k HardLine i Break rest st w q h s = leaves_same c _ _ (brk HardLine i Break rest st) (omega (arith, ap (count c) h)) (k HardLine i Break rest st q s)
+lay_counts o brk c k WeakSpace i m rest st w q h s =
+    leaves_writes c [] w q st (Done [] (record st { column = blank st.column })) (refl, refl) h s
+lay_counts o brk c k HardLine i Break rest st w q h s =
+    leaves_same c _ _ (brk HardLine i Break rest st) (omega (arith, ap (count c) h)) (k HardLine i Break rest st q s)
 lay_counts o brk c k HardLine i Flat rest st w q h s = tt
-lay_counts o brk c k WeakLine i m rest st w q h s = leaves_same c _ _ (brk WeakLine i m rest st) (omega (arith, ap (count c) h)) (k WeakLine i m rest st q s)
+lay_counts o brk c k WeakLine i m rest st w q h s =
+    leaves_same c _ _ (brk WeakLine i m rest st) (omega (arith, ap (count c) h)) (k WeakLine i m rest st q s)
 lay_counts o brk c k (Append x y) i m rest st w q h s =
     leaves-then c (count c h.0 + count c q) (count c h.1) _ (lay o brk x i m (entry i y ∷ rest) st) (λ z. lay o brk y i m rest z)
     (omega (arith, ap (count c) h.4, count-append c h.0 h.1))
     (lay_counts o brk c k x i m (entry i y ∷ rest) st h.0 q h.2 s)
     (λ z r e. lay_counts o brk c k y i m rest z h.1 r h.3 e)
-lay_counts o brk c k (LineSuffix d) i m rest st w q h s = (q ++ w, spells_one_more st.pending d q w s h, omega (arith, count-append c q w))
+lay_counts o brk c k (LineSuffix d) i m rest st w q h s =
+    (q ++ w, spells_one_more st.pending d q w s h, omega (arith, count-append c q w))
 lay_counts o brk c k (Nest n d) i m rest st w q h s = lay_counts o brk c k d (nested i n) m rest st w q h s
 lay_counts o brk c k (DedentToRoot d) i m rest st w q h s = lay_counts o brk c k d 0 m rest st w q h s
 lay_counts o brk c k (Align d) i m rest st w q h s = lay_counts o brk c k d (prospective st.column) m rest st w q h s
@@ -74,7 +83,8 @@ lay_counts o brk c k ExpandParent i m rest st w q h s = leaves_writes c [] w q s
 lay_counts o brk c k (Flatten d) i m rest st w q h s = lay_counts o brk c k d i Flat rest st w q h s
 lay_counts o brk c k (BreakOrFlat x y) i Break rest st w q h s = lay_counts o brk c k x i Break rest st w q h.0 s
 lay_counts o brk c k (BreakOrFlat x y) i Flat rest st w q h s = lay_counts o brk c k y i Flat rest st w q h.1 s
-lay_counts o brk c k (Group d) i m rest st w q h s = lay_counts o brk c k d i (by_mode m (if probe o d Flat rest st then Flat else Break) Flat) rest st w q h s
+lay_counts o brk c k (Group d) i m rest st w q h s =
+    lay_counts o brk c k d i (by_mode m (if probe o d Flat rest st then Flat else Break) Flat) rest st w q h s
 lay_counts o brk c k (Union x y) i Break rest st w q h s =
     holds-accept (Leaves c (count c w + count c q)) (λ b z was e. e) o st.within (lay o brk x i Break rest (tried st)) (lay o brk y i Break rest st)
     (lay_counts o brk c k x i Break rest (tried st) w q h.0 s)
@@ -104,8 +114,10 @@ waiting_counts o brk c k ps i m rest st again q h g =
     (λ u r e. leaves_same c (count c r) (0 + count c r) (again u) (omega arith) (g u r e)))
 
 break_counts : (o : RenderOptions) (brk : Breaks) (c : ℕ) → Conserves c brk → (ps : List Tree) (d : Tree) (i : ℕ) (m : Mode) (rest : List Entry) (st : State) (q : List ℕ) → spells (row ps) q → spells (row st.pending) q → Leaves c (count c q) (break_with o brk ps d i m rest st)
-break_counts o brk c k [] d i m rest st q h s = leaves_same c _ _ (plain_break o d i rest st) (omega arith) (leaves_writes c [] [] q st (plain_break o d i rest st) (plain_writes o d i rest st) refl s)
-break_counts o brk c k (p ∷ ps) d i m rest st q h s = waiting_counts o brk c k (p ∷ ps) i m (entry i d ∷ rest) st (brk d i m rest) q h (k d i m rest)
+break_counts o brk c k [] d i m rest st q h s =
+    leaves_same c _ _ (plain_break o d i rest st) (omega arith) (leaves_writes c [] [] q st (plain_break o d i rest st) (plain_writes o d i rest st) refl s)
+break_counts o brk c k (p ∷ ps) d i m rest st q h s =
+    waiting_counts o brk c k (p ∷ ps) i m (entry i d ∷ rest) st (brk d i m rest) q h (k d i m rest)
 
 breaks_count : (o : RenderOptions) (n c : ℕ) → Conserves c (breaks o n)
 unfolding breaks
@@ -137,4 +149,5 @@ whole_counts (Failed a) c n b h s e = absurd (cc)
 
 pub content_counted : (o : RenderOptions) (d : Tree) (w b : List ℕ) → spells d w → layout o d ≡ Whole b → (c : ℕ) → count c (ink b) ≡ count c w
 unfolding layout
-content_counted o d w b h e c = whole_counts (layout_by o (size d + 1) d) c (count c w) b (layout_by_counts o (size d + 1) c d w h) (layout_by_ends o (size d + 1) d) e
+content_counted o d w b h e c =
+    whole_counts (layout_by o (size d + 1) d) c (count c w) b (layout_by_counts o (size d + 1) c d w h) (layout_by_ends o (size d + 1) d) e

@@ -1,4 +1,5 @@
--- Content, merged: what a document writes interleaves what it spells outside its line suffixes with what waited.
+-- Content, merged: what a document writes interleaves what it spells outside its line suffixes with what waited. With
+-- no line suffix the content is in order.
 use Rattle.std.proofs.Common.{◌≡◌, ℕ, zero, suc, ◌+◌, ◌≤◌, List, [], ◌∷◌, ◌++◌, length, refl, ap, sym, ◌∙◌, append_assoc, append-nil, arith, if◌then◌else◌}
 use Rattle.prettyless_sink.specs.Spaces.{spaces}
 use Rattle.prettyless_sink.specs.declared.options.RenderOptions.{RenderOptions}
@@ -11,7 +12,8 @@ use Rattle.prettyless_model.specs.Spelling.{ink, spells, parts}
 use Rattle.prettyless_model.specs.Content.{suffix_depth, IsMerge}
 use Rattle.prettyless_model.specs.declared.mode.Mode.{Mode}
 use Rattle.prettyless_model.specs.declared.mode.Mode.TheVariants.{Break, Flat}
-use Rattle.prettyless_model.proofs.Ink.{ink-append, ink-spaces, row, spells_one_more}
+use Rattle.prettyless_model.proofs.Ink.{ink-append, ink-spaces}
+use Rattle.prettyless_model.proofs.Words.{row, spells_one_more, depth_one_more, parts_in_order}
 use Rattle.prettyless_model.proofs.Endings.{NothingPending, layout_by_ends}
 use Rattle.prettyless_model.proofs.Outcomes.{holds-either, holds-accept}
 use Rattle.prettyless_model.proofs.Writes.{Writes, text_writes, payload_writes, plain_writes}
@@ -31,6 +33,7 @@ merges_writes : (v q : List ℕ) (st : State) (o : Outcome) → Writes v st.pend
 merges_writes v q st (Done b after) e h = ([], q, refl, rw e.0 (merge_of_first v), rw e.1 h)
 merges_writes v q st (Failed b) e h = tt
 
+-- bytes that interleave v1 and x, before an outcome that does so with the rest
 merges-joined : (b x z v1 v2 q : List ℕ) (o : Outcome) → q ≡ x ++ z → IsMerge (ink b) v1 x → Merges v2 z o → Merges (v1 ++ v2) q (after_bytes b o)
 merges-joined b x z v1 v2 q (Done c st) e m h = (
   x ++ h.0,
@@ -71,11 +74,7 @@ merges_late q (Failed b) h = tt
 abbrev pub WritesWaiting : Breaks → Type 0
 WritesWaiting brk = (d : Tree) (i : ℕ) (m : Mode) (rest : List Entry) (st : State) (q : List ℕ) → Waits st q → Merges [] q (brk d i m rest st)
 
-depth_one_more : (ds : List Tree) (d : Tree) → suffix_depth (row ds) ≡ 0 → suffix_depth d ≡ 0 → suffix_depth (row (ds ++ d ∷ [])) ≡ 0
-depth_one_more [] d p q = omega arith
-depth_one_more (t ∷ ts) d p q = omega (arith, depth_one_more ts d (omega arith) q)
-
--- words that a document writes to itself
+-- a document that spells this word, and adds nothing to what waits
 merges_to : (v v' q u : List ℕ) (o : Outcome) → (v ≡ v') × (u ≡ []) → Merges v' q o → Merges v (q ++ u) o
 merges_to v v' q u o e h = rw (e.0, e.1, append-nil q) h
 
@@ -86,11 +85,14 @@ pub lay_merges : (o : RenderOptions) (brk : Breaks) → WritesWaiting brk → (d
 unfolding lay
 lay_merges o brk k Nil i m rest st v u q h l w = merges_piece v [] q u st (Done [] st) (refl, refl) h w
 lay_merges o brk k Fail i m rest st v u q h l w = tt
-lay_merges o brk k (Text s) i m rest st v u q h l w = merges_piece v (ink s) q u st (lay_text o (length s) s st) (text_writes o (length s) s st) h w
+lay_merges o brk k (Text s) i m rest st v u q h l w =
+    merges_piece v (ink s) q u st (lay_text o (length s) s st) (text_writes o (length s) s st) h w
 lay_merges o brk k (TextWithLen n s) i m rest st v u q h l w = merges_piece v (ink s) q u st (lay_text o n s st) (text_writes o n s st) h w
-lay_merges o brk k (MultilineText s) i Break rest st v u q h l w = merges_piece v (ink s) q u st (lay_payload o (metrics s) s st) (payload_writes o (metrics s) s st) h w
+lay_merges o brk k (MultilineText s) i Break rest st v u q h l w =
+    merges_piece v (ink s) q u st (lay_payload o (metrics s) s st) (payload_writes o (metrics s) s st) h w
 lay_merges o brk k (MultilineText s) i Flat rest st v u q h l w = tt
-lay_merges o brk k WeakSpace i m rest st v u q h l w = merges_piece v [] q u st (Done [] (record st { column = blank st.column })) (refl, refl) h w
+lay_merges o brk k WeakSpace i m rest st v u q h l w =
+    merges_piece v [] q u st (Done [] (record st { column = blank st.column })) (refl, refl) h w
 lay_merges o brk k HardLine i Break rest st v u q h l w = merges_to v [] q u (brk HardLine i Break rest st) h (k HardLine i Break rest st q w)
 lay_merges o brk k HardLine i Flat rest st v u q h l w = tt
 lay_merges o brk k WeakLine i m rest st v u q h l w = merges_to v [] q u (brk WeakLine i m rest st) h (k WeakLine i m rest st q w)
@@ -121,29 +123,6 @@ lay_merges o brk k (PartialUnion x y) i Break rest st v u q h l w =
     (lay_merges o brk k y i Break rest st v u q h.1 (omega arith) w)
 lay_merges o brk k (PartialUnion x y) i Flat rest st v u q h l w = lay_merges o brk k x i Flat rest st v u q h.0 (omega arith) w
 
--- a document with no line suffix has one part
-pub parts_in_order : (d : Tree) (w : List ℕ) → spells d w → suffix_depth d ≡ 0 → parts d w []
-parts_in_order Nil w h l = (h, refl)
-parts_in_order Fail w h l = tt
-parts_in_order (Text s) w h l = (h, refl)
-parts_in_order (TextWithLen n s) w h l = (h, refl)
-parts_in_order (MultilineText s) w h l = (h, refl)
-parts_in_order WeakSpace w h l = (h, refl)
-parts_in_order HardLine w h l = (h, refl)
-parts_in_order WeakLine w h l = (h, refl)
-parts_in_order (Append x y) w h l =
-    (h.0, [], h.1, [], parts_in_order x h.0 h.2 (omega arith), parts_in_order y h.1 h.3 (omega arith), h.4, refl)
-parts_in_order (LineSuffix d) w h l = absurd (omega arith)
-parts_in_order (Nest k d) w h l = parts_in_order d w h l
-parts_in_order (DedentToRoot d) w h l = parts_in_order d w h l
-parts_in_order (Align d) w h l = parts_in_order d w h l
-parts_in_order ExpandParent w h l = (h, refl)
-parts_in_order (Flatten d) w h l = parts_in_order d w h l
-parts_in_order (BreakOrFlat x y) w h l = (parts_in_order x w h.0 (omega arith), parts_in_order y w h.1 (omega arith))
-parts_in_order (Group d) w h l = parts_in_order d w h l
-parts_in_order (Union x y) w h l = (parts_in_order x w h.0 (omega arith), parts_in_order y w h.1 (omega arith))
-parts_in_order (PartialUnion x y) w h l = (parts_in_order x w h.0 (omega arith), parts_in_order y w h.1 (omega arith))
-
 -- documents in a row, each with no line suffix, write what they spell before what waits already
 each_merges : (o : RenderOptions) (brk : Breaks) → WritesWaiting brk → (ds : List Tree) (i : ℕ) (m : Mode) (rest : List Entry) (st : State) (w q : List ℕ) → spells (row ds) w → suffix_depth (row ds) ≡ 0 → Waits st q → Merges w q (lay_each o brk ds i m rest st)
 unfolding lay_each
@@ -164,7 +143,8 @@ waiting_merges o brk k ps i m rest st again q h l g =
 
 break_merges : (o : RenderOptions) (brk : Breaks) → WritesWaiting brk → (ps : List Tree) (d : Tree) (i : ℕ) (m : Mode) (rest : List Entry) (st : State) (q : List ℕ) → spells (row ps) q → suffix_depth (row ps) ≡ 0 → Waits st q → Merges [] q (break_with o brk ps d i m rest st)
 break_merges o brk k [] d i m rest st q h l w = merges_writes [] q st (plain_break o d i rest st) (plain_writes o d i rest st) w
-break_merges o brk k (p ∷ ps) d i m rest st q h l w = waiting_merges o brk k (p ∷ ps) i m (entry i d ∷ rest) st (brk d i m rest) q h l (k d i m rest)
+break_merges o brk k (p ∷ ps) d i m rest st q h l w =
+    waiting_merges o brk k (p ∷ ps) i m (entry i d ∷ rest) st (brk d i m rest) q h l (k d i m rest)
 
 breaks_merge : (o : RenderOptions) (n : ℕ) → WritesWaiting (breaks o n)
 unfolding breaks
@@ -197,7 +177,9 @@ whole_merges (Failed c) v u b h s e = absurd (cc)
 
 pub content_merged : (o : RenderOptions) (d : Tree) (v u b : List ℕ) → parts d v u → suffix_depth d ≤ 1 → layout o d ≡ Whole b → IsMerge (ink b) v u
 unfolding layout
-content_merged o d v u b h l e = whole_merges (layout_by o (size d + 1) d) v u b (layout_by_merges o (size d + 1) d v u h l) (layout_by_ends o (size d + 1) d) e
+content_merged o d v u b h l e =
+    whole_merges (layout_by o (size d + 1) d) v u b (layout_by_merges o (size d + 1) d v u h l) (layout_by_ends o (size d + 1) d) e
 
 pub content_in_order : (o : RenderOptions) (d : Tree) (w b : List ℕ) → spells d w → suffix_depth d ≡ 0 → layout o d ≡ Whole b → ink b ≡ w
-content_in_order o d w b h l e = merge_with_none (ink b) w [] refl (content_merged o d w [] b (parts_in_order d w h l) (omega arith) e)
+content_in_order o d w b h l e =
+    merge_with_none (ink b) w [] refl (content_merged o d w [] b (parts_in_order d w h l) (omega arith) e)

@@ -1,6 +1,7 @@
 pub mod Outcomes
 pub mod Levels
 pub mod Ink
+pub mod Words
 pub mod Merges
 pub mod Endings
 pub mod Writes
