@@ -35,6 +35,10 @@ in_turn d (e ∷ es) = in_turn (Append d e) es
 abbrev pub line : Tree
 line = BreakOrFlat HardLine (text " ")
 
+-- two texts on lines of their own, each with a remark
+abbrev pub remarked : Tree
+remarked = in_turn (text "a") (LineSuffix (text " // 1") ∷ HardLine ∷ LineSuffix (text " // 2") ∷ text "b" ∷ [])
+
 -- the list of three numbers of an S-expression
 abbrev pub numbers : Tree
 numbers = in_turn (text "(") (Group (Nest (pos 1) (in_turn (text "1") (line ∷ text "2" ∷ line ∷ text "3" ∷ []))) ∷ text ")" ∷ [])

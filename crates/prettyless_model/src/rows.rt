@@ -1,9 +1,10 @@
 //! Layouts of small documents, as the definitions alone compute them. The functions do nothing: their contracts speak.
 
-ghost use Rattle.std.specs.Prelude.{◌≡◌, ◌^◌, ◌-◌, ◌++◌, ◌∷◌, [], pos, negsuc, codes};
+ghost use Rattle.std.specs.Prelude.{◌≡◌, ◌^◌, ◌-◌, ◌++◌, List, ◌∷◌, [], ℕ, pos, negsuc, codes};
 ghost use Rattle.prettyless_model.specs.Tree.{Nil, Fail, Text, TextWithLen, MultilineText, WeakSpace, HardLine, WeakLine, Append, LineSuffix, Nest, DedentToRoot, Align, ExpandParent, Flatten, BreakOrFlat, Group, Union, PartialUnion};
 ghost use Rattle.prettyless_model.specs.Layout.{layout, Whole};
-ghost use Rattle.prettyless_model.specs.Rows.{Fails, Shows, accent, below, crlf_at, deferred_at, flat_or_failed, in_turn, line, noted, numbers, pair, tail, text, tight_pair, two_lines};
+ghost use Rattle.prettyless_model.specs.Spelling.{ink, parts, spells};
+ghost use Rattle.prettyless_model.specs.Rows.{Fails, Shows, accent, below, crlf_at, deferred_at, flat_or_failed, in_turn, line, noted, numbers, pair, remarked, tail, text, tight_pair, two_lines};
 
 /// A group stands on one line where it fits, and is broken where it does not.
 pub fn groups()
@@ -74,9 +75,7 @@ pub fn payloads()
 
 /// A line suffix waits for the next break, or for the end.
 pub fn line_suffixes()
-    ensures before_break { Shows 5
-        (in_turn (text "a") (LineSuffix (text " // 1") ∷ HardLine ∷ LineSuffix (text " // 2") ∷ text "b" ∷ []))
-        (codes "a // 1\nb // 2") }
+    ensures before_break { Shows 5 remarked (codes "a // 1\nb // 2") }
     ensures in_group { Shows 5
         (Group (in_turn (text "a") (LineSuffix (text " // 1") ∷ line ∷ LineSuffix (text " // 2") ∷ text "b" ∷ [])))
         (codes "a b // 1 // 2") }
@@ -147,4 +146,13 @@ pub fn failures()
     ensures in_group_of_branch { Shows 4 (Union flat_or_failed (text "abc")) (codes "abc") }
     ensures not_laid { Shows 5 (Union flat_or_failed (text "abc")) (codes "12345") }
     ensures nothing_laid { Shows 0 (Group (BreakOrFlat Fail Nil)) [] }
+{}
+
+/// What documents spell, with line suffixes and by every choice, and what bytes have of it.
+pub fn contents()
+    ensures spelled { spells remarked (codes "a//1//2b") }
+    ensures parted { parts remarked (codes "ab") (codes "//1//2") }
+    ensures written { ink (codes "a // 1\nb // 2") ≡ codes "a//1b//2" }
+    ensures by_every_choice { spells (Union (text "a b") (text "ab")) (codes "ab") }
+    ensures by_no_word { (w : List ℕ) → spells (Union (text "a") (text "b")) w → ⊥ }
 {}
