@@ -91,6 +91,29 @@ fn layouts_are_written(rt: HostRuntime) -> Result<(), Fail> {
 }
 
 #[test]
+fn no_width_loses_content(rt: HostRuntime) -> Result<(), Fail> {
+    for width in 0..31 {
+        let mut reader = b"((1) (2 3) (4 5 6))".as_slice();
+        let mut written = Vec::new(rt.alloc());
+        run(
+            rt.alloc(),
+            RenderOptions::new(width),
+            &mut reader,
+            &mut written,
+        )
+        .ok()
+        .ok_or("a layout")?;
+        written.retain(|byte| !matches!(*byte, b' ' | b'\n'));
+        assert_eq!(rt;
+            written.as_slice(),
+            b"((1)(23)(456))".as_slice(),
+            "at {width}"
+        );
+    }
+    Ok(())
+}
+
+#[test]
 fn lines_end_as_chosen(rt: HostRuntime) -> Result<(), Fail> {
     for indentation_policy in [IndentationPolicy::Eager, IndentationPolicy::Deferred] {
         let options = RenderOptions {
