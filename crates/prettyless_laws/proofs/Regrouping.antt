@@ -171,3 +171,6 @@ layout_right o d =
     (ap (λ (n : ℕ). bytes_of (layout_by o (n + 1) (right d))) (right_size d)
     ∙ ap bytes_of (layout_by_right o (size d + 1) d)
     ∙ right-bytes (layout_by o (size d + 1) d))
+
+pub layouts_shared : (o : RenderOptions) (d e : Tree) → right d ≡ right e → layout o d ≡ layout o e
+layouts_shared o d e h = layout_right o d ∙ ap (layout o) h ∙ sym (layout_right o e)

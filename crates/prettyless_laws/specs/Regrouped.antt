@@ -34,3 +34,7 @@ right (PartialUnion l r) = PartialUnion (right l) (right r)
 -- regrouping changes no layout
 abbrev pub RegroupingKeepsLayouts : Type 0
 RegroupingKeepsLayouts = (o : RenderOptions) (d : Tree) → layout o d ≡ layout o (right d)
+
+-- documents that differ in their grouping alone have one layout
+abbrev pub GroupingsShareLayouts : Type 0
+GroupingsShareLayouts = (o : RenderOptions) (d e : Tree) → right d ≡ right e → layout o d ≡ layout o e
