@@ -1,0 +1,102 @@
+-- What follows a document: a layout takes of it the indent of the nearest and what a probe reads, and nothing else.
+use Rattle.std.proofs.Common.{◌≡◌, ℕ, zero, suc, List, [], ◌∷◌, ◌++◌, refl, ap, ◌∙◌, Bool, if◌then◌else◌}
+use Rattle.prettyless_sink.specs.Spaces.{spaces}
+use Rattle.prettyless_sink.specs.declared.options.RenderOptions.{RenderOptions}
+use Rattle.prettyless_model.specs.Tree.{Tree, Nil, Fail, Text, TextWithLen, MultilineText, WeakSpace, HardLine, WeakLine, Append, LineSuffix, Nest, DedentToRoot, Align, ExpandParent, Flatten, BreakOrFlat, Group, Union, PartialUnion}
+use Rattle.prettyless_model.specs.Column.{gap, prospective}
+use Rattle.prettyless_model.specs.Reading.{Atom, reading, fits, by_mode}
+use Rattle.prettyless_model.specs.Layout.{State, Outcome, Done, Failed, Entry, Breaks, after_bytes, and_then, lay, lay_each, lay_ending, nested, some_pending, probe, accept, tried, is_suppressed, flushed, entry, entries, next_indent, rest_atoms, break_with, breaks}
+use Rattle.prettyless_model.specs.declared.mode.Mode.{Mode}
+use Rattle.prettyless_model.specs.declared.mode.Mode.TheVariants.{Break, Flat}
+
+-- a break takes its indent from the same, and a probe reads the same
+abbrev pub Alike : List Entry → List Entry → Type 0
+Alike a b = ((i : ℕ) → next_indent i a ≡ next_indent i b) × (rest_atoms a ≡ rest_atoms b)
+
+pub alike_same : (a : List Entry) → Alike a a
+alike_same a = (λ i. refl, refl)
+
+-- documents that read the same, at one indent before what is alike
+pub alike_behind : (i : ℕ) (d e : Tree) (a b : List Entry) → reading d Break ≡ reading e Break → Alike a b → Alike (entry i d ∷ a) (entry i e ∷ b)
+alike_behind i d e a b r h =
+    (λ k. refl, ap (λ (x : List Atom). x ++ rest_atoms a) r ∙ ap (λ (x : List Atom). reading e Break ++ x) h.1)
+
+alike_entries : (i : ℕ) (ds : List Tree) (a b : List Entry) → Alike a b → Alike (entries i ds ++ a) (entries i ds ++ b)
+alike_entries i [] a b h = h
+alike_entries i (d ∷ ds) a b h = alike_behind i d d (entries i ds ++ a) (entries i ds ++ b) refl (alike_entries i ds a b h)
+
+then-each : (x : Outcome) (f g : State → Outcome) → ((u : State) → f u ≡ g u) → and_then x f ≡ and_then x g
+then-each (Done b st) f g h = ap (after_bytes b) (h st)
+then-each (Failed b) f g h = refl
+
+pub then-same : (x y : Outcome) (f g : State → Outcome) → x ≡ y → ((u : State) → f u ≡ g u) → and_then x f ≡ and_then y g
+then-same x y f g e h = ap (λ (z : Outcome). and_then z f) e ∙ then-each y f g h
+
+-- a break reads no more of what follows
+abbrev pub ReadsAlike : Breaks → Type 0
+ReadsAlike brk = (d : Tree) (i : ℕ) (m : Mode) (a b : List Entry) (st : State) → Alike a b → brk d i m a st ≡ brk d i m b st
+
+probe_alike : (o : RenderOptions) (d : Tree) (m : Mode) (a b : List Entry) (st : State) → Alike a b → probe o d m a st ≡ probe o d m b st
+probe_alike o d m a b st h = ap (λ (x : List Atom). fits o.width st.column (some_pending st.pending) (reading d m ++ x)) h.1
+
+-- one of two outcomes, by equal tests
+pub either-same : (s t : Bool) (x y z w : Outcome) → s ≡ t → x ≡ z → y ≡ w → (if s then x else y) ≡ (if t then z else w)
+either-same s t x y z w e f g =
+    ap (λ (b : Bool). if b then x else y) e ∙ ap (λ (v : Outcome). if t then v else y) f ∙ ap (λ (v : Outcome). if t then z else v) g
+
+pub lay_alike : (o : RenderOptions) (brk : Breaks) → ReadsAlike brk → (d : Tree) (i : ℕ) (m : Mode) (a b : List Entry) (st : State) → Alike a b → lay o brk d i m a st ≡ lay o brk d i m b st
+unfolding lay
+lay_alike o brk k Nil i m a b st h = refl
+lay_alike o brk k Fail i m a b st h = refl
+lay_alike o brk k (Text s) i m a b st h = refl
+lay_alike o brk k (TextWithLen w s) i m a b st h = refl
+lay_alike o brk k (MultilineText s) i m a b st h = refl
+lay_alike o brk k WeakSpace i m a b st h = refl
+lay_alike o brk k HardLine i Break a b st h = k HardLine i Break a b st h
+lay_alike o brk k HardLine i Flat a b st h = refl
+lay_alike o brk k WeakLine i m a b st h = k WeakLine i m a b st h
+lay_alike o brk k (Append l r) i m a b st h =
+    then-same (lay o brk l i m (entry i r ∷ a) st) (lay o brk l i m (entry i r ∷ b) st) (λ u. lay o brk r i m a u) (λ u. lay o brk r i m b u)
+    (lay_alike o brk k l i m (entry i r ∷ a) (entry i r ∷ b) st (alike_behind i r r a b refl h))
+    (λ u. lay_alike o brk k r i m a b u h)
+lay_alike o brk k (LineSuffix d) i m a b st h = refl
+lay_alike o brk k (Nest n d) i m a b st h = lay_alike o brk k d (nested i n) m a b st h
+lay_alike o brk k (DedentToRoot d) i m a b st h = lay_alike o brk k d 0 m a b st h
+lay_alike o brk k (Align d) i m a b st h = lay_alike o brk k d (prospective st.column) m a b st h
+lay_alike o brk k ExpandParent i m a b st h = refl
+lay_alike o brk k (Flatten d) i m a b st h = lay_alike o brk k d i Flat a b st h
+lay_alike o brk k (BreakOrFlat x y) i Break a b st h = lay_alike o brk k x i Break a b st h
+lay_alike o brk k (BreakOrFlat x y) i Flat a b st h = lay_alike o brk k y i Flat a b st h
+lay_alike o brk k (Group d) i m a b st h =
+    ap (λ (t : Bool). lay o brk d i (by_mode m (if t then Flat else Break) Flat) a st) (probe_alike o d Flat a b st h)
+    ∙ lay_alike o brk k d i (by_mode m (if probe o d Flat b st then Flat else Break) Flat) a b st h
+lay_alike o brk k (Union x y) i Break a b st h =
+    ap (λ (z : Outcome). accept o st.within z (lay o brk y i Break a st)) (lay_alike o brk k x i Break a b (tried st) h)
+    ∙ ap (accept o st.within (lay o brk x i Break b (tried st))) (lay_alike o brk k y i Break a b st h)
+lay_alike o brk k (Union x y) i Flat a b st h = lay_alike o brk k x i Flat a b st h
+lay_alike o brk k (PartialUnion x y) i Break a b st h =
+    either-same (probe o x Break a st) (probe o x Break b st) (lay o brk x i Break a st) (lay o brk y i Break a st) (lay o brk x i Break b st) (lay o brk y i Break b st)
+    (probe_alike o x Break a b st h) (lay_alike o brk k x i Break a b st h) (lay_alike o brk k y i Break a b st h)
+lay_alike o brk k (PartialUnion x y) i Flat a b st h = lay_alike o brk k x i Flat a b st h
+
+each_alike : (o : RenderOptions) (brk : Breaks) → ReadsAlike brk → (ds : List Tree) (i : ℕ) (m : Mode) (a b : List Entry) (st : State) → Alike a b → lay_each o brk ds i m a st ≡ lay_each o brk ds i m b st
+unfolding lay_each
+each_alike o brk k [] i m a b st h = refl
+each_alike o brk k (d ∷ ds) i m a b st h =
+    then-same (lay o brk d i m (entries i ds ++ a) st) (lay o brk d i m (entries i ds ++ b) st) (λ u. lay_each o brk ds i m a u) (λ u. lay_each o brk ds i m b u)
+    (lay_alike o brk k d i m (entries i ds ++ a) (entries i ds ++ b) st (alike_entries i ds a b h))
+    (λ u. each_alike o brk k ds i m a b u h)
+
+break_alike : (o : RenderOptions) (brk : Breaks) → ReadsAlike brk → (ps : List Tree) (d : Tree) (i : ℕ) (m : Mode) (a b : List Entry) (st : State) → Alike a b → break_with o brk ps d i m a st ≡ break_with o brk ps d i m b st
+break_alike o brk k [] d i m a b st h =
+    ap (λ (n : ℕ). if is_suppressed d st.column then Done [] st else lay_ending o o.indentation_policy n st) (h.0 i)
+break_alike o brk k (p ∷ ps) d i m a b st h =
+    ap (after_bytes (spaces (gap st.column)))
+    (then-same (lay_each o brk (p ∷ ps) i m (entry i d ∷ a) (flushed o st)) (lay_each o brk (p ∷ ps) i m (entry i d ∷ b) (flushed o st)) (brk d i m a) (brk d i m b)
+    (each_alike o brk k (p ∷ ps) i m (entry i d ∷ a) (entry i d ∷ b) (flushed o st) (alike_behind i d d a b refl h))
+    (λ u. k d i m a b u h))
+
+pub breaks_alike : (o : RenderOptions) (n : ℕ) → ReadsAlike (breaks o n)
+unfolding breaks
+breaks_alike o zero = λ d i m a b st h. refl
+breaks_alike o (suc n) = λ d i m a b st h. break_alike o (breaks o n) (breaks_alike o n) st.pending d i m a b st h

@@ -1,0 +1,3 @@
+pub mod Regrouped
+pub use Rattle.prettyless_model.specs.Layout
+pub use Rattle.prettyless_model.specs.Tree

@@ -1,0 +1,4 @@
+//! Laws over whole layouts.
+#![tactic(auto)]
+
+pub mod regrouped;
