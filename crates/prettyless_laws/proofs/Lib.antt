@@ -1,3 +1,5 @@
 pub mod Following
 pub mod Appended
 pub mod Regrouping
+pub mod FlatLines
+pub mod TotalTrees

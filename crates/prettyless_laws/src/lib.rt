@@ -1,4 +1,11 @@
-//! Laws over whole layouts.
+//! Laws over whole layouts, for whoever rewrites documents or compares their layouts. The functions do nothing: their
+//! contracts speak, over the definitions alone.
 #![tactic(auto)]
 
-pub mod regrouped;
+mod flat;
+mod regrouped;
+mod total;
+
+pub use flat::law_flat_group;
+pub use regrouped::law_regroup;
+pub use total::law_total;

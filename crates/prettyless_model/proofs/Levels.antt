@@ -94,15 +94,15 @@ lay_keeps o brk k (PartialUnion l r) i Break rest st =
     (leaves-more _ _ (lay o brk r i Break rest st) (omega arith) (lay_keeps o brk k r i Break rest st))
 lay_keeps o brk k (PartialUnion l r) i Flat rest st = leaves-more _ _ (lay o brk l i Flat rest st) (omega arith) (lay_keeps o brk k l i Flat rest st)
 
-abbrev all_suffixes : List Tree → ℕ
+abbrev pub all_suffixes : List Tree → ℕ
 all_suffixes [] = 0
 all_suffixes (d ∷ ds) = suffixes d + all_suffixes ds
 
-suffixes_queued : (ds : List Tree) → all_suffixes ds + length ds ≡ queued ds
+pub suffixes_queued : (ds : List Tree) → all_suffixes ds + length ds ≡ queued ds
 suffixes_queued [] = refl
 suffixes_queued (d ∷ ds) = omega (arith, suffixes_queued ds)
 
-each_keeps : (o : RenderOptions) (brk : Breaks) → Keeps brk → (ds : List Tree) (i : ℕ) (m : Mode) (rest : List Entry) (st : State) → LeavesAtMost (all_suffixes ds + queued st.pending) (lay_each o brk ds i m rest st)
+pub each_keeps : (o : RenderOptions) (brk : Breaks) → Keeps brk → (ds : List Tree) (i : ℕ) (m : Mode) (rest : List Entry) (st : State) → LeavesAtMost (all_suffixes ds + queued st.pending) (lay_each o brk ds i m rest st)
 unfolding lay_each
 each_keeps o brk k [] i m rest st = omega arith
 each_keeps o brk k (d ∷ ds) i m rest st =

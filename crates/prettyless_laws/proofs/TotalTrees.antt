@@ -1,0 +1,178 @@
+-- Total trees: in Break nothing in them fails, and in Flat only what the probe answered yes to is laid.
+use Rattle.std.proofs.Common.{◌≡◌, ℕ, zero, suc, ◌+◌, ◌<◌, ◌≤◌, List, [], ◌∷◌, ◌++◌, length, refl, arith, Bool, true, false, if◌then◌else◌}
+use Rattle.std.specs.Prelude.{All}
+use Rattle.std.proofs.Math.Numerals.{add-one}
+use Rattle.std.proofs.lemmas.List.Elements.{All-nil, All-cons, All-head, All-tail, All-append, All-push, All-same}
+use Rattle.prettyless_sink.specs.Spaces.{spaces}
+use Rattle.prettyless_sink.specs.declared.options.RenderOptions.{RenderOptions}
+use Rattle.prettyless_sink.specs.declared.options.IndentationPolicy.{IndentationPolicy}
+use Rattle.prettyless_sink.specs.declared.options.IndentationPolicy.TheVariants.{Eager, Deferred}
+use Rattle.prettyless_model.specs.Tree.{Tree, Nil, Fail, Text, TextWithLen, MultilineText, WeakSpace, HardLine, WeakLine, Append, LineSuffix, Nest, DedentToRoot, Align, ExpandParent, Flatten, BreakOrFlat, Group, Union, PartialUnion, size}
+use Rattle.prettyless_model.specs.Column.{gap, prospective}
+use Rattle.prettyless_model.specs.Layout.{State, Outcome, Done, Failed, Whole, Entry, Breaks, after_bytes, and_then, lay, lay_each, lay_text, lay_ending, nested, probe, tried, is_suppressed, plain_break, flushed, entry, entries, next_indent, break_with, end_with, breaks, finish, layout, layout_by, initial, bytes_of}
+use Rattle.prettyless_model.specs.Levels.{suffixes, queued}
+use Rattle.prettyless_model.specs.declared.mode.Mode.{Mode}
+use Rattle.prettyless_model.specs.declared.mode.Mode.TheVariants.{Break, Flat}
+use Rattle.prettyless_model.proofs.Levels.{LeavesAtMost, Keeps, lay_keeps, all_suffixes, suffixes_queued, each_keeps, breaks_keep, suffixes_size}
+use Rattle.prettyless_model.proofs.Outcomes.{holds-either, holds-accept}
+use Rattle.prettyless_laws.specs.FlatLines.{flat_suffixes, SkipsWeakLines}
+use Rattle.prettyless_laws.specs.TotalTrees.{IsTotal}
+use Rattle.prettyless_laws.proofs.FlatLines.{one_line, breaks_skip}
+
+-- the outcome is no failure, and what is pending behind it is total
+abbrev Lays : Outcome → Type 0
+Lays (Done b st) = All IsTotal st.pending
+Lays (Failed b) = ⊥
+
+lays-after : (b : List ℕ) (x : Outcome) → Lays x → Lays (after_bytes b x)
+lays-after b (Done c st) h = h
+lays-after b (Failed c) h = h
+
+lays-then : (n : ℕ) (x : Outcome) (f : State → Outcome) → LeavesAtMost n x → Lays x → ((u : State) → All IsTotal u.pending → queued u.pending ≤ n → Lays (f u)) → Lays (and_then x f)
+lays-then n (Done b st) f l h g = lays-after b (f st) (g st h l)
+lays-then n (Failed b) f l h g = absurd h
+
+-- a break that does not fail where no more than this is pending, and that is total
+abbrev LaysTo : ℕ → Breaks → Type 0
+LaysTo h brk = (d : Tree) (i : ℕ) (rest : List Entry) (st : State) → All IsTotal st.pending → queued st.pending ≤ h → Lays (brk d i Break rest st)
+
+suffixes_total : (d : Tree) → IsTotal d → All IsTotal (flat_suffixes d)
+suffixes_total Nil t = All-nil IsTotal
+suffixes_total Fail t = absurd t
+suffixes_total (Text s) t = All-nil IsTotal
+suffixes_total (TextWithLen w s) t = All-nil IsTotal
+suffixes_total (MultilineText s) t = All-nil IsTotal
+suffixes_total WeakSpace t = All-nil IsTotal
+suffixes_total HardLine t = All-nil IsTotal
+suffixes_total WeakLine t = All-nil IsTotal
+suffixes_total (Append l r) t = All-append IsTotal (flat_suffixes l) (flat_suffixes r) (suffixes_total l t.0) (suffixes_total r t.1)
+suffixes_total (LineSuffix d) t = All-cons IsTotal d [] t (All-nil IsTotal)
+suffixes_total (Nest k d) t = suffixes_total d t
+suffixes_total (DedentToRoot d) t = suffixes_total d t
+suffixes_total (Align d) t = suffixes_total d t
+suffixes_total ExpandParent t = All-nil IsTotal
+suffixes_total (Flatten d) t = absurd t
+suffixes_total (BreakOrFlat b f) t = suffixes_total f t.1
+suffixes_total (Group d) t = suffixes_total d t
+suffixes_total (Union l r) t = suffixes_total l t.0
+suffixes_total (PartialUnion l r) t = suffixes_total l t.0
+
+flat_lays : (o : RenderOptions) (brk : Breaks) → SkipsWeakLines brk → (d : Tree) (i : ℕ) (rest : List Entry) (st : State) → IsTotal d → All IsTotal st.pending → probe o d Flat rest st ≡ true → Lays (lay o brk d i Flat rest st)
+flat_lays o brk k d i rest st t p h =
+    let x = one_line o d rest st h in
+    rw (x.done brk k i rest)
+    (All-same IsTotal x.state.pending (st.pending ++ flat_suffixes d) x.pending (All-append IsTotal st.pending (flat_suffixes d) p (suffixes_total d t)))
+
+-- what holds in Flat where a probe answers yes, and in Break, holds in the mode that it chooses
+in_mode : (P : Mode → Type 0) (t : Bool) → (t ≡ true → P Flat) → P Break → P (if t then Flat else Break)
+in_mode P true f b = f refl
+in_mode P false f b = b
+
+text_lays : (o : RenderOptions) (w : ℕ) (s : List ℕ) (st : State) → All IsTotal st.pending → Lays (lay_text o w s st)
+text_lays o w [] st p = p
+text_lays o w (b ∷ bs) st p = p
+
+lay_lays : (o : RenderOptions) (brk : Breaks) (h : ℕ) → SkipsWeakLines brk → Keeps brk → LaysTo h brk → (d : Tree) (i : ℕ) (rest : List Entry) (st : State) → IsTotal d → All IsTotal st.pending → suffixes d + queued st.pending ≤ h → Lays (lay o brk d i Break rest st)
+unfolding lay
+lay_lays o brk h s k g Nil i rest st t p l = p
+lay_lays o brk h s k g Fail i rest st t p l = absurd t
+lay_lays o brk h s k g (Text x) i rest st t p l = text_lays o (length x) x st p
+lay_lays o brk h s k g (TextWithLen w x) i rest st t p l = text_lays o w x st p
+lay_lays o brk h s k g (MultilineText x) i rest st t p l = p
+lay_lays o brk h s k g WeakSpace i rest st t p l = p
+lay_lays o brk h s k g HardLine i rest st t p l = g HardLine i rest st p (omega arith)
+lay_lays o brk h s k g WeakLine i rest st t p l = g WeakLine i rest st p (omega arith)
+lay_lays o brk h s k g (Append x y) i rest st t p l =
+    lays-then (suffixes x + queued st.pending) (lay o brk x i Break (entry i y ∷ rest) st) (λ u. lay o brk y i Break rest u)
+    (lay_keeps o brk k x i Break (entry i y ∷ rest) st)
+    (lay_lays o brk h s k g x i (entry i y ∷ rest) st t.0 p (omega arith))
+    (λ u q n. lay_lays o brk h s k g y i rest u t.1 q (omega arith))
+lay_lays o brk h s k g (LineSuffix d) i rest st t p l = All-push IsTotal st.pending d p t
+lay_lays o brk h s k g (Nest n d) i rest st t p l = lay_lays o brk h s k g d (nested i n) rest st t p l
+lay_lays o brk h s k g (DedentToRoot d) i rest st t p l = lay_lays o brk h s k g d 0 rest st t p l
+lay_lays o brk h s k g (Align d) i rest st t p l = lay_lays o brk h s k g d (prospective st.column) rest st t p l
+lay_lays o brk h s k g ExpandParent i rest st t p l = p
+lay_lays o brk h s k g (Flatten d) i rest st t p l = absurd t
+lay_lays o brk h s k g (BreakOrFlat x y) i rest st t p l = lay_lays o brk h s k g x i rest st t.0 p (omega arith)
+lay_lays o brk h s k g (Group d) i rest st t p l =
+    in_mode (λ m. Lays (lay o brk d i m rest st)) (probe o d Flat rest st)
+    (λ e. flat_lays o brk s d i rest st t p e)
+    (lay_lays o brk h s k g d i rest st t p l)
+lay_lays o brk h s k g (Union x y) i rest st t p l =
+    holds-accept Lays (λ b z was e. e) o st.within (lay o brk x i Break rest (tried st)) (lay o brk y i Break rest st)
+    (lay_lays o brk h s k g x i rest (tried st) t.0 p (omega arith))
+    (lay_lays o brk h s k g y i rest st t.1 p (omega arith))
+lay_lays o brk h s k g (PartialUnion x y) i rest st t p l =
+    holds-either Lays (probe o x Break rest st) (lay o brk x i Break rest st) (lay o brk y i Break rest st)
+    (lay_lays o brk h s k g x i rest st t.0 p (omega arith))
+    (lay_lays o brk h s k g y i rest st t.1 p (omega arith))
+
+each_lays : (o : RenderOptions) (brk : Breaks) (h : ℕ) → SkipsWeakLines brk → Keeps brk → LaysTo h brk → (ds : List Tree) (i : ℕ) (rest : List Entry) (st : State) → All IsTotal ds → All IsTotal st.pending → all_suffixes ds + queued st.pending ≤ h → Lays (lay_each o brk ds i Break rest st)
+unfolding lay_each
+each_lays o brk h s k g [] i rest st t p l = p
+each_lays o brk h s k g (d ∷ ds) i rest st t p l =
+    lays-then (suffixes d + queued st.pending) (lay o brk d i Break (entries i ds ++ rest) st) (λ u. lay_each o brk ds i Break rest u)
+    (lay_keeps o brk k d i Break (entries i ds ++ rest) st)
+    (lay_lays o brk h s k g d i (entries i ds ++ rest) st (All-head IsTotal d ds t) p (omega arith))
+    (λ u q n. each_lays o brk h s k g ds i rest u (All-tail IsTotal d ds t) q (omega arith))
+
+-- what is pending is laid, and then what lays what they leave pending
+pending_lays : (o : RenderOptions) (brk : Breaks) (h : ℕ) → SkipsWeakLines brk → Keeps brk → LaysTo h brk → (ps : List Tree) (i : ℕ) (rest : List Entry) (st : State) (again : State → Outcome) → All IsTotal ps → all_suffixes ps ≤ h → ((u : State) → All IsTotal u.pending → queued u.pending ≤ all_suffixes ps → Lays (again u)) → Lays (after_bytes (spaces (gap st.column)) (and_then (lay_each o brk ps i Break rest (flushed o st)) again))
+pending_lays o brk h s k g ps i rest st again t l f =
+    lays-after (spaces (gap st.column)) (and_then (lay_each o brk ps i Break rest (flushed o st)) again)
+    (lays-then (all_suffixes ps + queued (flushed o st).pending) (lay_each o brk ps i Break rest (flushed o st)) again
+    (each_keeps o brk k ps i Break rest (flushed o st))
+    (each_lays o brk h s k g ps i rest (flushed o st) t (All-nil IsTotal) (omega arith))
+    (λ u q n. f u q (omega arith)))
+
+ending_lays : (o : RenderOptions) (p : IndentationPolicy) (k : ℕ) (st : State) → All IsTotal st.pending → Lays (lay_ending o p k st)
+ending_lays o Eager k st p = p
+ending_lays o Deferred k st p = p
+
+plain_lays : (o : RenderOptions) (d : Tree) (i : ℕ) (rest : List Entry) (st : State) → All IsTotal st.pending → Lays (plain_break o d i rest st)
+plain_lays o d i rest st p =
+    holds-either Lays (is_suppressed d st.column) (Done [] st) (lay_ending o o.indentation_policy (next_indent i rest) st) p (ending_lays o o.indentation_policy (next_indent i rest) st p)
+
+none_lays : (o : RenderOptions) (brk : Breaks) (ps : List Tree) (d : Tree) (i : ℕ) (rest : List Entry) (st : State) → All IsTotal st.pending → queued ps ≤ 0 → Lays (break_with o brk ps d i Break rest st)
+none_lays o brk [] d i rest st p l = plain_lays o d i rest st p
+none_lays o brk (x ∷ xs) d i rest st p l = absurd (omega arith)
+
+break_lays : (o : RenderOptions) (brk : Breaks) (h : ℕ) → SkipsWeakLines brk → Keeps brk → LaysTo h brk → (ps : List Tree) (d : Tree) (i : ℕ) (rest : List Entry) (st : State) → All IsTotal ps → All IsTotal st.pending → queued ps ≤ suc h → Lays (break_with o brk ps d i Break rest st)
+break_lays o brk h s k g [] d i rest st t p l = plain_lays o d i rest st p
+break_lays o brk h s k g (x ∷ xs) d i rest st t p l =
+    pending_lays o brk h s k g (x ∷ xs) i (entry i d ∷ rest) st (brk d i Break rest) t (omega (arith, suffixes_queued xs))
+    (λ u q n. g d i rest u q (omega (arith, suffixes_queued xs)))
+
+breaks_lay : (o : RenderOptions) (n : ℕ) → LaysTo n (breaks o (suc n))
+unfolding breaks
+breaks_lay o zero = λ d i rest st p l. none_lays o (breaks o zero) st.pending d i rest st p l
+breaks_lay o (suc n) = λ d i rest st p l.
+    break_lays o (breaks o (suc n)) n (breaks_skip o n) (breaks_keep o (suc n)) (breaks_lay o n) st.pending d i rest st p p l
+
+end_lays : (o : RenderOptions) (brk : Breaks) (h : ℕ) → SkipsWeakLines brk → Keeps brk → LaysTo h brk → (again : State → Outcome) (ps : List Tree) (st : State) → All IsTotal ps → All IsTotal st.pending → queued ps ≤ suc h → ((u : State) → All IsTotal u.pending → queued u.pending < queued ps → Lays (again u)) → Lays (end_with o brk again ps st)
+end_lays o brk h s k g again [] st t p l f = p
+end_lays o brk h s k g again (x ∷ xs) st t p l f =
+    pending_lays o brk h s k g (x ∷ xs) 0 [] st again t (omega (arith, suffixes_queued xs))
+    (λ u q n. f u q (omega (arith, suffixes_queued xs)))
+
+finish_lays : (o : RenderOptions) (brk : Breaks) (h : ℕ) → SkipsWeakLines brk → Keeps brk → LaysTo h brk → (n : ℕ) (st : State) → All IsTotal st.pending → queued st.pending < n → queued st.pending ≤ suc h → Lays (finish o brk n st)
+unfolding finish
+finish_lays o brk h s k g zero st p l m = absurd (omega arith)
+finish_lays o brk h s k g (suc n) st p l m =
+    end_lays o brk h s k g (finish o brk n) st.pending st p p m (λ u q r. finish_lays o brk h s k g n u q (omega arith) (omega arith))
+
+layout_by_lays : (o : RenderOptions) (n : ℕ) (d : Tree) → IsTotal d → suffixes d ≤ n → Lays (layout_by o (suc n) d)
+unfolding layout_by
+layout_by_lays o n d t l =
+    lays-then (suffixes d + queued initial.pending) (lay o (breaks o (suc n)) d 0 Break [] initial) (finish o (breaks o (suc n)) (suc n))
+    (lay_keeps o (breaks o (suc n)) (breaks_keep o (suc n)) d 0 Break [] initial)
+    (lay_lays o (breaks o (suc n)) n (breaks_skip o n) (breaks_keep o (suc n)) (breaks_lay o n) d 0 [] initial t (All-nil IsTotal) (omega arith))
+    (λ u q r. finish_lays o (breaks o (suc n)) n (breaks_skip o n) (breaks_keep o (suc n)) (breaks_lay o n) (suc n) u q (omega arith) (omega arith))
+
+whole : (x : Outcome) → Lays x → (b : List ℕ) × (bytes_of x ≡ Whole b)
+whole (Done b st) h = (b, refl)
+whole (Failed b) h = absurd h
+
+pub total_layout : (o : RenderOptions) (d : Tree) → IsTotal d → (b : List ℕ) × (layout o d ≡ Whole b)
+unfolding layout
+total_layout o d t = rw (add-one (size d)) (whole (layout_by o (suc (size d)) d) (layout_by_lays o (size d) d t (omega (arith, suffixes_size d))))

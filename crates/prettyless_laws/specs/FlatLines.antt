@@ -1,0 +1,73 @@
+-- Laws of flat lines: what the probe answers yes to is laid on one line.
+use Rattle.std.specs.Prelude.{◌≡◌, ℕ, suc, true, List, [], ◌∷◌, ◌++◌}
+use Rattle.prettyless_sink.specs.declared.options.RenderOptions.{RenderOptions}
+use Rattle.prettyless_model.specs.Tree.{Tree, Nil, Fail, Text, TextWithLen, MultilineText, WeakSpace, HardLine, WeakLine, Append, LineSuffix, Nest, DedentToRoot, Align, ExpandParent, Flatten, BreakOrFlat, Group, Union, PartialUnion}
+use Rattle.prettyless_model.specs.Reading.{Atom, fits}
+use Rattle.prettyless_model.specs.Layout.{State, Done, Breaks, Entry, lay, probe, rest_atoms, some_pending, tried, breaks}
+use Rattle.prettyless_model.specs.Levels.{settle}
+use Rattle.prettyless_model.specs.declared.mode.Mode.{Mode}
+use Rattle.prettyless_model.specs.declared.mode.Mode.TheVariants.{Flat}
+
+-- the documents that a tree leaves pending in Flat, in their order
+abbrev pub flat_suffixes : Tree → List Tree
+flat_suffixes Nil = []
+flat_suffixes Fail = []
+flat_suffixes (Text s) = []
+flat_suffixes (TextWithLen w s) = []
+flat_suffixes (MultilineText s) = []
+flat_suffixes WeakSpace = []
+flat_suffixes HardLine = []
+flat_suffixes WeakLine = []
+flat_suffixes (Append l r) = flat_suffixes l ++ flat_suffixes r
+flat_suffixes (LineSuffix d) = d ∷ []
+flat_suffixes (Nest k d) = flat_suffixes d
+flat_suffixes (DedentToRoot d) = flat_suffixes d
+flat_suffixes (Align d) = flat_suffixes d
+flat_suffixes ExpandParent = []
+flat_suffixes (Flatten d) = flat_suffixes d
+flat_suffixes (BreakOrFlat b f) = flat_suffixes f
+flat_suffixes (Group d) = flat_suffixes d
+flat_suffixes (Union l r) = flat_suffixes l
+flat_suffixes (PartialUnion l r) = flat_suffixes l
+
+-- a meaning of a break that leaves out a weak line where the line is fresh and nothing is pending; of every other
+-- break it says nothing
+abbrev pub SkipsWeakLines : Breaks → Type 0
+SkipsWeakLines brk =
+    (i : ℕ) (rest : List Entry) (st : State) → st.pending ≡ [] → st.column.fresh ≡ true → brk WeakLine i Flat rest st ≡ Done [] st
+
+-- a tree is laid in Flat from a state to these bytes and this state, whatever a break means, at any indent and before
+-- anything: so no break is laid
+abbrev pub LaysFlat : RenderOptions → Tree → State → List ℕ → State → Type 0
+LaysFlat o d st bytes behind =
+    (brk : Breaks) → SkipsWeakLines brk → (i : ℕ) (rest : List Entry) → lay o brk d i Flat rest st ≡ Done bytes behind
+
+-- a tree that is laid in Flat from a state on one line, with what is read behind it
+pub record LiesOnOneLine (o : RenderOptions) (d : Tree) (atoms : List Atom) (st : State) : Type 0 where
+  -- what it writes
+  pub bytes : List ℕ
+  -- the state behind it
+  pub state : State
+  -- without a failure and without a break
+  pub done : LaysFlat o d st bytes state
+  -- no text goes past the width: the flag is as it was
+  pub within : state.within ≡ st.within
+  -- also where it is set anew, and then it stays set
+  pub anew : LaysFlat o d (tried st) bytes (tried state)
+  -- nothing that was pending is laid, and the tree's own line suffixes wait behind it
+  pub pending : state.pending ≡ st.pending ++ flat_suffixes d
+  -- what is read behind it, up to the end of the line, stays within the width
+  pub follows : fits o.width state.column (some_pending state.pending) atoms ≡ true
+
+-- what the probe answers yes to in Flat is laid on one line
+abbrev pub WhatFitsLiesOnOneLine : Type 0
+WhatFitsLiesOnOneLine = (o : RenderOptions) (d : Tree) (rest : List Entry) (st : State) → probe o d Flat rest st ≡ true → LiesOnOneLine o d (rest_atoms rest) st
+
+-- a group is laid so wherever its probe answers yes
+abbrev pub GroupsThatFitAreFlat : Type 0
+GroupsThatFitAreFlat =
+    (o : RenderOptions) (brk : Breaks) (d : Tree) (i : ℕ) (m : Mode) (rest : List Entry) (st : State) → probe o d Flat rest st ≡ true → lay o brk (Group d) i m rest st ≡ lay o brk d i Flat rest st
+
+-- breaks with at least one level, and with as many as they need, leave out such weak lines
+abbrev pub BreaksSkipWeakLines : Type 0
+BreaksSkipWeakLines = (o : RenderOptions) → ((n : ℕ) → SkipsWeakLines (breaks o (suc n))) × SkipsWeakLines (settle o)
