@@ -8,10 +8,15 @@ pub use Rattle.prettyless_doc.specs.Lines
 pub use Rattle.prettyless_doc.specs.Payload
 pub use Rattle.prettyless_doc.specs.TextBytes
 pub use Rattle.prettyless_doc.specs.Tree
+pub use Rattle.prettyless_laws.specs.FlatLines
+pub use Rattle.prettyless_laws.specs.Regrouped
+pub use Rattle.prettyless_laws.specs.TotalTrees
 pub use Rattle.prettyless_model.specs.Column
+pub use Rattle.prettyless_model.specs.Content
 pub use Rattle.prettyless_model.specs.Layout
 pub use Rattle.prettyless_model.specs.Metrics
 pub use Rattle.prettyless_model.specs.Reading
+pub use Rattle.prettyless_model.specs.Spelling
 pub use Rattle.prettyless_pointers.specs.Trees
 pub use Rattle.prettyless_printer.specs.Renders
 pub use Rattle.prettyless_sink.specs.Options

@@ -16,6 +16,7 @@ pub use prettyless_alloc::{
 pub use prettyless_build::{DocBuilder, Pretty};
 pub use prettyless_combinators as combinators;
 pub use prettyless_doc::{BuildDoc, Doc, DocPlace, DocPtr, PrettyFmt, text};
+pub use prettyless_laws as laws;
 pub use prettyless_pointers::{Arena, BoxAllocator, BoxDoc, IntoRef, RcAllocator, RcDoc, RefDoc};
 pub use prettyless_sink::error::RenderError;
 pub use prettyless_sink::fmt_write::FmtWrite;
