@@ -11,6 +11,8 @@ pub use Rattle.prettyless_doc.specs.Tree
 pub use Rattle.prettyless_laws.specs.FlatLines
 pub use Rattle.prettyless_laws.specs.Regrouped
 pub use Rattle.prettyless_laws.specs.TotalTrees
+pub use Rattle.prettyless_laws.specs.Trace
+pub use Rattle.prettyless_laws.specs.Traced
 pub use Rattle.prettyless_model.specs.Column
 pub use Rattle.prettyless_model.specs.Content
 pub use Rattle.prettyless_model.specs.Layout

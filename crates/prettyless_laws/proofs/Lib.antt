@@ -3,3 +3,8 @@ pub mod Appended
 pub mod Regrouping
 pub mod FlatLines
 pub mod TotalTrees
+pub mod Alike
+pub mod Widths
+pub mod Owed
+pub mod Sound
+pub mod WrittenOut

@@ -4,8 +4,11 @@
 
 mod flat;
 mod regrouped;
+pub mod rows;
 mod total;
+mod traced;
 
 pub use flat::law_flat_group;
 pub use regrouped::law_regroup;
 pub use total::law_total;
+pub use traced::{law_deferred, law_endings};

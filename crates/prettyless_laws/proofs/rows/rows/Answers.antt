@@ -1,0 +1,25 @@
+use Rattle.std.proofs.Common.{refl}
+use Rattle.prettyless_laws.specs.Trace.{tell, tell_each, tell_breaks, tell_finish, tell_by, trace}
+use Rattle.prettyless_laws.proofs.rows.rows.Goals as goal
+
+pub returns : goal.returns
+unfolding tell tell_each tell_breaks tell_finish tell_by trace
+returns c = record {
+  lines = (refl, refl);
+  nothing = (refl, refl);
+  last_line = (refl, refl);
+  spaces = (refl, refl);
+  group_fits = (refl, refl);
+  group_breaks = (refl, refl);
+  flattened = (refl, refl);
+  kept = (refl, refl);
+  not_kept = (refl, refl);
+  by_first_line = (refl, refl);
+  too_long = (refl, refl);
+  failed_branch = (refl, refl);
+  payload = (refl, refl);
+  empty_part = (refl, refl);
+  suffix = (refl, refl);
+  empty_suffix = (refl, refl);
+  failure = (refl, refl);
+}

@@ -1,0 +1,23 @@
+-- What it is for a small document to be told as these pieces.
+use Rattle.std.specs.Prelude.{◌≡◌, ℕ, pos, List, [], ◌∷◌, codes}
+use Prim.Native.String.{String}
+use Rattle.prettyless_sink.specs.Options.{options_at}
+use Rattle.prettyless_model.specs.Tree.{Tree, HardLine, Nest}
+use Rattle.prettyless_model.specs.Rows.{deferred_at, in_turn, text}
+use Rattle.prettyless_laws.specs.Trace.{Piece, Text, Complete, Partial, trace}
+
+-- at this width the document is told as these pieces, under either policy of indents
+abbrev pub Tells : ℕ → Tree → List Piece → Type 0
+Tells width d ps = (trace (options_at width) d ≡ Complete ps) × (trace (deferred_at width) d ≡ Complete ps)
+
+-- at this width the document fails behind these pieces, under either policy
+abbrev pub FailsBehind : ℕ → Tree → List Piece → Type 0
+FailsBehind width d ps = (trace (options_at width) d ≡ Partial ps) × (trace (deferred_at width) d ≡ Partial ps)
+
+-- a text piece that is ASCII
+abbrev pub told_text : String → ℕ → Piece
+told_text s column = Text (codes s) column
+
+-- two texts with an empty line between them
+abbrev pub apart : Tree
+apart = Nest (pos 2) (in_turn (text "aaa") (HardLine ∷ HardLine ∷ text "bbb" ∷ []))

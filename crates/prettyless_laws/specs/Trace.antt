@@ -1,0 +1,204 @@
+-- The trace of a layout: the recursion of `lay`, with pieces in place of bytes.
+use Rattle.std.specs.Prelude.{ℕ, zero, suc, ◌+◌, Bool, true, false, ◌&&◌, nat_le, List, [], ◌∷◌, ◌++◌, length, if◌then◌else◌}
+use Rattle.prettyless_sink.specs.Options.{ending}
+use Rattle.prettyless_sink.specs.Spaces.{spaces}
+use Rattle.prettyless_sink.specs.declared.options.RenderOptions.{RenderOptions}
+use Rattle.prettyless_sink.specs.declared.options.IndentationPolicy.{IndentationPolicy}
+use Rattle.prettyless_sink.specs.declared.options.IndentationPolicy.TheVariants.{Eager, Deferred}
+use Rattle.prettyless_model.specs.Tree as t
+use Rattle.prettyless_model.specs.Tree.{Tree, size}
+use Rattle.prettyless_model.specs.Metrics.{metrics}
+use Rattle.prettyless_model.specs.Column.{indented, deferred, prospective, commit, blank, padding_fits}
+use Rattle.prettyless_model.specs.Reading.{by_mode}
+use Rattle.prettyless_model.specs.Layout.{State, Entry, Bytes, Whole, Cut, nested, payload_fits, behind_payload, next_indent, entry, entries, some_pending, probe, tried, flushed, is_suppressed, initial}
+use Rattle.prettyless_model.specs.declared.metrics.Metrics.{Metrics}
+use Rattle.prettyless_model.specs.declared.mode.Mode.{Mode}
+use Rattle.prettyless_model.specs.declared.mode.Mode.TheVariants.{Break, Flat}
+
+-- an alternative: of a union, or of a group, which is flat or else broken
+pub data Side : Type 0 where
+  First : Side
+  Second : Side
+
+-- the end of a line; the indent of the next, and whether content uses it; weak spaces before content, also none; a text,
+-- and the column where it ends; a payload; the alternative taken at a union or a group that is laid in Break
+pub data Piece : Type 0 where
+  Ending : Piece
+  Indent : ℕ → Bool → Piece
+  Gap : ℕ → Piece
+  Text : List ℕ → ℕ → Piece
+  Source : List ℕ → Piece
+  Chose : Side → Piece
+
+-- the pieces, and the state behind them; or the pieces before the node that failed
+pub data Telling : Type 0 where
+  Told : List Piece → State → Telling
+  Untold : List Piece → Telling
+
+-- pieces that come before a telling
+abbrev pub after_pieces : List Piece → Telling → Telling
+after_pieces ps (Told qs st) = Told (ps ++ qs) st
+after_pieces ps (Untold qs) = Untold (ps ++ qs)
+
+-- one telling, and where it is done the next from its state
+abbrev pub told_then : Telling → (State → Telling) → Telling
+told_then (Told ps st) next = after_pieces ps (next st)
+told_then (Untold ps) next = Untold ps
+
+-- a text: the weak spaces before it are told first
+abbrev pub tell_text : RenderOptions → ℕ → List ℕ → State → Telling
+tell_text o w [] st = Told [] st
+tell_text o w (b ∷ bs) st =
+    let c = commit w st.column in
+    Told (Gap st.column.padding ∷ Text (b ∷ bs) c.position ∷ []) (record st { column = c; within = st.within && nat_le c.position o.width })
+
+-- a payload: the weak spaces before it are told first unless its first part is empty
+abbrev pub tell_payload : RenderOptions → Metrics → List ℕ → State → Telling
+tell_payload o m s st =
+    Told ((if m.first_nonempty then Gap st.column.padding ∷ [] else []) ++ (Source s ∷ []))
+    (record st { column = behind_payload m; within = st.within && payload_fits o m st.column })
+
+-- the end of a line, and the indent of the next; what is behind them will say whether it is used
+abbrev pub tell_ending : IndentationPolicy → ℕ → State → Telling
+tell_ending Eager k st = Told (Ending ∷ Indent k false ∷ []) (record st { column = indented k })
+tell_ending Deferred k st = Told (Ending ∷ Indent k false ∷ []) (record st { column = deferred k })
+
+-- an alternative, told before what it lays
+abbrev pub chosen : Side → Telling → Telling
+chosen side x = after_pieces (Chose side ∷ []) x
+
+-- the first branch of a union if it is kept, and else the second
+abbrev pub tell_accept : RenderOptions → Bool → Telling → Telling → Telling
+tell_accept o was (Told ps st) other =
+    if st.within && padding_fits o.width (some_pending st.pending) st.column then chosen First (Told ps (record st { within = was })) else chosen Second other
+tell_accept o was (Untold ps) other = chosen Second other
+
+-- How a break is told.
+abbrev pub BreakTellings : Type 0
+BreakTellings = Tree → ℕ → Mode → List Entry → State → Telling
+
+-- A document at an indent in a mode, as `lay` lays it.
+unfoldable pub tell : RenderOptions → BreakTellings → Tree → ℕ → Mode → List Entry → State → Telling
+tell o brk t.Nil i m rest st = Told [] st
+tell o brk t.Fail i m rest st = Untold []
+tell o brk (t.Text s) i m rest st = tell_text o (length s) s st
+tell o brk (t.TextWithLen w s) i m rest st = tell_text o w s st
+tell o brk (t.MultilineText s) i m rest st = by_mode m (tell_payload o (metrics s) s st) (Untold [])
+tell o brk t.WeakSpace i m rest st = Told [] (record st { column = blank st.column })
+tell o brk t.HardLine i m rest st = by_mode m (brk t.HardLine i m rest st) (Untold [])
+tell o brk t.WeakLine i m rest st = brk t.WeakLine i m rest st
+tell o brk (t.Append l r) i m rest st = told_then (tell o brk l i m (entry i r ∷ rest) st) (λ u. tell o brk r i m rest u)
+tell o brk (t.LineSuffix d) i m rest st = Told [] (record st { pending = st.pending ++ d ∷ [] })
+tell o brk (t.Nest k d) i m rest st = tell o brk d (nested i k) m rest st
+tell o brk (t.DedentToRoot d) i m rest st = tell o brk d 0 m rest st
+tell o brk (t.Align d) i m rest st = tell o brk d (prospective st.column) m rest st
+tell o brk t.ExpandParent i m rest st = Told [] st
+tell o brk (t.Flatten d) i m rest st = tell o brk d i Flat rest st
+tell o brk (t.BreakOrFlat b f) i m rest st = by_mode m (tell o brk b i m rest st) (tell o brk f i m rest st)
+tell o brk (t.Group d) i m rest st =
+    by_mode m
+    (if probe o d Flat rest st then chosen First (tell o brk d i Flat rest st) else chosen Second (tell o brk d i Break rest st))
+    (tell o brk d i Flat rest st)
+tell o brk (t.Union l r) i m rest st =
+    by_mode m (tell_accept o st.within (tell o brk l i m rest (tried st)) (tell o brk r i m rest st)) (tell o brk l i m rest st)
+tell o brk (t.PartialUnion l r) i m rest st =
+    by_mode m
+    (if probe o l Break rest st then chosen First (tell o brk l i m rest st) else chosen Second (tell o brk r i m rest st))
+    (tell o brk l i m rest st)
+
+-- trees one after another at one indent
+unfoldable pub tell_each : RenderOptions → BreakTellings → List Tree → ℕ → Mode → List Entry → State → Telling
+tell_each o brk [] i m rest st = Told [] st
+tell_each o brk (d ∷ ds) i m rest st =
+    told_then (tell o brk d i m (entries i ds ++ rest) st) (λ u. tell_each o brk ds i m rest u)
+
+-- a break where nothing is pending
+abbrev pub tell_plain_break : RenderOptions → Tree → ℕ → List Entry → State → Telling
+tell_plain_break o d i rest st =
+    if is_suppressed d st.column then Told [] st else tell_ending o.indentation_policy (next_indent i rest) st
+
+-- a break: weak spaces are told before the pending documents
+abbrev pub tell_break_with : RenderOptions → BreakTellings → List Tree → BreakTellings
+tell_break_with o brk [] d i m rest st = tell_plain_break o d i rest st
+tell_break_with o brk (p ∷ ps) d i m rest st =
+    after_pieces (Gap st.column.padding ∷ [])
+    (told_then (tell_each o brk (p ∷ ps) i m (entry i d ∷ rest) (flushed o st)) (brk d i m rest))
+
+-- breaks of this many levels
+unfoldable pub tell_breaks : RenderOptions → ℕ → BreakTellings
+tell_breaks o zero d i m rest st = Untold []
+tell_breaks o (suc n) d i m rest st = tell_break_with o (tell_breaks o n) st.pending d i m rest st
+
+-- the end of the document
+abbrev pub tell_end_with : RenderOptions → BreakTellings → (State → Telling) → List Tree → State → Telling
+tell_end_with o brk again [] st = Told [] st
+tell_end_with o brk again (p ∷ ps) st =
+    after_pieces (Gap st.column.padding ∷ []) (told_then (tell_each o brk (p ∷ ps) 0 Break [] (flushed o st)) again)
+
+-- the end, of this many rounds
+unfoldable pub tell_finish : RenderOptions → BreakTellings → ℕ → State → Telling
+tell_finish o brk zero st = Untold []
+tell_finish o brk (suc n) st = tell_end_with o brk (tell_finish o brk n) st.pending st
+
+-- a telling with this many levels and rounds
+unfoldable pub tell_by : RenderOptions → ℕ → Tree → Telling
+tell_by o n d =
+    let brk = tell_breaks o n in
+    told_then (tell o brk d 0 Break [] initial) (λ st. tell_finish o brk n st)
+
+-- content comes before the line ends; a payload counts by the gap before it, which an empty first part has not
+abbrev pub has_content : List Piece → Bool
+has_content [] = false
+has_content (Ending ∷ ps) = false
+has_content (Indent k used ∷ ps) = false
+has_content (Gap g ∷ ps) = true
+has_content (Text s c ∷ ps) = true
+has_content (Source s ∷ ps) = false
+has_content (Chose side ∷ ps) = has_content ps
+
+-- a piece, told whether content follows it
+abbrev pub told_use : Piece → Bool → Piece
+told_use (Indent k used) follows = Indent k follows
+told_use piece follows = piece
+
+-- an indent is used if content comes behind it on its line
+abbrev pub settled : List Piece → List Piece
+settled [] = []
+settled (piece ∷ ps) = told_use piece (has_content ps) ∷ settled ps
+
+-- the pieces of a layout: all, or those before the node that failed
+pub data Trace : Type 0 where
+  Complete : List Piece → Trace
+  Partial : List Piece → Trace
+
+abbrev pub trace_of : Telling → Trace
+trace_of (Told ps st) = Complete (settled ps)
+trace_of (Untold ps) = Partial (settled ps)
+
+-- The trace of a document's layout.
+unfoldable pub trace : RenderOptions → Tree → Trace
+trace o d = trace_of (tell_by o (size d + 1) d)
+
+-- an indent is written if the policy is Eager, or if content uses it
+abbrev pub indent_bytes : IndentationPolicy → ℕ → Bool → List ℕ
+indent_bytes Eager k used = spaces k
+indent_bytes Deferred k used = if used then spaces k else []
+
+-- the bytes of a piece
+abbrev pub piece_bytes : RenderOptions → Piece → List ℕ
+piece_bytes o Ending = ending o.line_ending
+piece_bytes o (Indent k used) = indent_bytes o.indentation_policy k used
+piece_bytes o (Gap g) = spaces g
+piece_bytes o (Text s c) = s
+piece_bytes o (Source s) = s
+piece_bytes o (Chose side) = []
+
+-- the bytes of pieces, one after another
+abbrev pub written : RenderOptions → List Piece → List ℕ
+written o [] = []
+written o (piece ∷ ps) = piece_bytes o piece ++ written o ps
+
+-- a trace written out as a layout
+abbrev pub written_out : RenderOptions → Trace → Bytes
+written_out o (Complete ps) = Whole (written o ps)
+written_out o (Partial ps) = Cut (written o ps)
