@@ -1,4 +1,7 @@
 //! The document of a workload.
+ghost use Rattle.std.specs.Prelude.{IfOk};
+ghost use Rattle.prettyless.specs.DocTree.{built};
+ghost use Rattle.bench.specs.Documents.{IsDocument};
 
 use crate::groups::{bare_groups, text_groups};
 use crate::json::array;
@@ -14,7 +17,9 @@ pub fn document<'a, D: DocPlace<'a>>(
     place: &'a D,
     workload: Workload,
     size: usize,
-) -> Result<DocBuilder<'a, D>, BuildError> {
+) -> Result<DocBuilder<'a, D>, BuildError>
+    ensures { IfOk result (λ b. IsDocument workload size (built D.Doc.tree b.1)) }
+{
     match workload {
         Workload::Tree => tree(place, size),
         Workload::List | Workload::FlatList => list(place, size),

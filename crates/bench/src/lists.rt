@@ -31,7 +31,10 @@ fn parenthesised<'a, D: DocPlace<'a>>(
 pub fn list<'a, D: DocPlace<'a>>(
     place: &'a D,
     atoms: usize,
-) -> Result<DocBuilder<'a, D>, BuildError> {
+) -> Result<DocBuilder<'a, D>, BuildError>
+    ensures ok { IfOk result (λ b. built D.Doc.tree b.1 ≡ to.list atoms) }
+    ensures err { IfErr result IsMemory }
+{
     let atom: &'a str = ATOM;
     let items = place.intersperse(iter::repeat_n(atom, atoms), line_or_space())?;
     parenthesised(place, items)

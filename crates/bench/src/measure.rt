@@ -1,4 +1,7 @@
 //! Building and laying out, and how long it takes.
+ghost use Rattle.std.specs.Prelude.{ℕ, List, IfOk};
+ghost use Rattle.std.specs.String.{string_bytes};
+ghost use Rattle.bench.specs.Layouts.{IsLayout, IsOf};
 
 use crate::checksum::checksum;
 use crate::document::document;
@@ -35,7 +38,9 @@ fn layout<'a, D: DocPlace<'a>>(
     place: &'a D,
     workload: Workload,
     size: usize,
-) -> Result<String, Failure> {
+) -> Result<String, Failure>
+    ensures { IfOk result (λ out. IsLayout workload size (string_bytes out)) }
+{
     let root = document(place, workload, size)?.into_doc()?;
     let mut out = String::new(place.memory());
     root.doc()
@@ -44,7 +49,9 @@ fn layout<'a, D: DocPlace<'a>>(
 }
 
 /// Lays a workload out.
-pub fn lay(alloc: Global, workload: Workload, size: usize) -> Result<Laid, Failure> {
+pub fn lay(alloc: Global, workload: Workload, size: usize) -> Result<Laid, Failure>
+    ensures { IfOk result (λ laid. (bytes : List ℕ) × IsLayout workload size bytes × IsOf laid bytes) }
+{
     let bump = Bump::new(alloc);
     let arena = Arena::new(alloc, &bump);
     let out = layout(&arena, workload, size)?;
