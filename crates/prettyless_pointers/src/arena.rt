@@ -172,8 +172,10 @@ impl<'a> DocPlace<'a> for Arena<'a> {
         Ok(RefDoc(node))
     }
 
+    /// The same pointer, which takes no memory.
     fn clone_ptr(&'a self, pointer: &RefDoc<'a>) -> Result<RefDoc<'a>, BuildError>
         ensures ok { IfOk result (λ p. ref_tree p ≡ ref_tree pointer.now) }
+        ensures same { result ≡ Ok pointer.now }
         ensures err { IfErr result IsMemory }
     {
         Ok(*pointer)
