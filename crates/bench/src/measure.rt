@@ -1,6 +1,9 @@
 //! Building and laying out, and how long it takes.
-ghost use Rattle.std.specs.Prelude.{ℕ, List, IfOk};
+ghost use Rattle.std.specs.Prelude.{◌≡◌, ℕ, List, length, IfOk, OnOk};
 ghost use Rattle.std.specs.String.{string_bytes};
+ghost use Rattle.prettyless.specs.DocTree.{tree_of};
+ghost use Rattle.prettyless.specs.Layout as laid;
+ghost use Rattle.prettyless.specs.Options.{options_at};
 ghost use Rattle.bench.specs.Layouts.{IsLayout, IsOf};
 
 use crate::checksum::checksum;
@@ -69,7 +72,9 @@ fn time_render<'a, C: Clock, T: DocPtr<'a>>(
     width: usize,
     doc: &Doc<'a, T>,
     out: &mut String,
-) -> Result<Duration, Failure> {
+) -> Result<Duration, Failure>
+    ensures { OnOk result (laid.layout (options_at width) (tree_of T.tree doc.now) ≡ laid.Whole (string_bytes out.new)) }
+{
     out.clear();
     let start = Instant::now(clock)?;
     doc.render_fmt(alloc, width, out)?;
@@ -83,7 +88,9 @@ fn least_render<'a, C: Clock, T: DocPtr<'a>>(
     width: usize,
     doc: &Doc<'a, T>,
     out: &mut String,
-) -> Result<Duration, Failure> {
+) -> Result<Duration, Failure>
+    ensures { OnOk result (laid.layout (options_at width) (tree_of T.tree doc.now) ≡ laid.Whole (string_bytes out.new)) }
+{
     let mut least = time_render(clock, alloc, width, doc, out)?;
     for _ in 0..RENDERS {
         least = least.min(time_render(clock, alloc, width, doc, out)?);
@@ -96,7 +103,9 @@ fn time_in<'a, C: Clock, D: DocPlace<'a>>(
     place: &'a D,
     workload: Workload,
     size: usize,
-) -> Result<(usize, Duration, Duration), Failure> {
+) -> Result<(usize, Duration, Duration), Failure>
+    ensures { IfOk result (λ r. (bytes : List ℕ) × IsLayout workload size bytes × (r.0 ≡ length bytes)) }
+{
     let start = Instant::now(clock)?;
     let root = document(place, workload, size)?.into_doc()?;
     let build = start.elapsed(clock)?;
@@ -117,7 +126,9 @@ pub fn time<C: Clock>(
     alloc: Global,
     workload: Workload,
     size: usize,
-) -> Result<Timed, Failure> {
+) -> Result<Timed, Failure>
+    ensures { IfOk result (λ timed. (bytes : List ℕ) × IsLayout workload size bytes × (timed.bytes ≡ length bytes)) }
+{
     let bump = Bump::new(alloc);
     let arena = Arena::new(alloc, &bump);
     let (bytes, build, render) = time_in(clock, &arena, workload, size)?;
