@@ -1,7 +1,9 @@
 //! The document of a workload.
-ghost use Rattle.std.specs.Prelude.{IfOk};
+ghost use Rattle.std.specs.Prelude.{◌≡◌, ◌⊎◌, IfErr, IfOk};
+ghost use Rattle.prettyless.specs.BuildErrors.{IsMemory};
 ghost use Rattle.prettyless.specs.DocTree.{built};
 ghost use Rattle.bench.specs.Documents.{IsDocument};
+ghost use Rattle.bench.specs.declared.workload.Workload.TheVariants.{Json};
 
 use crate::groups::{bare_groups, text_groups};
 use crate::json::array;
@@ -18,7 +20,9 @@ pub fn document<'a, D: DocPlace<'a>>(
     workload: Workload,
     size: usize,
 ) -> Result<DocBuilder<'a, D>, BuildError>
-    ensures { IfOk result (λ b. IsDocument workload size (built D.Doc.tree b.1)) }
+    ensures ok { IfOk result (λ b. IsDocument workload size (built D.Doc.tree b.1)) }
+    // A number is shown in a record, and no contract says when that fails.
+    ensures err { IfErr result (λ e. IsMemory e ⊎ (workload ≡ Json)) }
 {
     match workload {
         Workload::Tree => tree(place, size),

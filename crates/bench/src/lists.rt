@@ -44,7 +44,9 @@ pub fn list<'a, D: DocPlace<'a>>(
 fn leaves<'a, D: DocPlace<'a>>(
     place: &'a D,
     atoms: usize,
-) -> Result<Vec<DocBuilder<'a, D>>, BuildError> {
+) -> Result<Vec<DocBuilder<'a, D>>, BuildError>
+    ensures err { IfErr result IsMemory }
+{
     let mut row = Vec::new(place.memory());
     for _ in 0..atoms {
         row.push(text(place, ATOM))?;
@@ -56,7 +58,9 @@ fn leaves<'a, D: DocPlace<'a>>(
 fn parent<'a, D: DocPlace<'a>>(
     place: &'a D,
     children: Vec<DocBuilder<'a, D>>,
-) -> Result<DocBuilder<'a, D>, BuildError> {
+) -> Result<DocBuilder<'a, D>, BuildError>
+    ensures err { IfErr result IsMemory }
+{
     let mut items = place.nil()?;
     for child in children {
         if !items.doc().is_nil() {
@@ -71,7 +75,9 @@ fn parent<'a, D: DocPlace<'a>>(
 fn parents<'a, D: DocPlace<'a>>(
     place: &'a D,
     row: Vec<DocBuilder<'a, D>>,
-) -> Result<Vec<DocBuilder<'a, D>>, BuildError> {
+) -> Result<Vec<DocBuilder<'a, D>>, BuildError>
+    ensures err { IfErr result IsMemory }
+{
     let mut row = row;
     let mut above = Vec::new(place.memory());
     for _ in 0..row.len() / CHILDREN {
@@ -85,7 +91,9 @@ fn parents<'a, D: DocPlace<'a>>(
 pub fn tree<'a, D: DocPlace<'a>>(
     place: &'a D,
     atoms: usize,
-) -> Result<DocBuilder<'a, D>, BuildError> {
+) -> Result<DocBuilder<'a, D>, BuildError>
+    ensures err { IfErr result IsMemory }
+{
     let mut row = leaves(place, atoms)?;
     for _ in 0..atoms.checked_ilog10().unwrap_or(0) {
         row = parents(place, row)?;

@@ -1,9 +1,10 @@
 //! Building and laying out, and how long it takes.
-ghost use Rattle.std.specs.Prelude.{◌≡◌, ℕ, List, length, IfOk, OnOk};
+ghost use Rattle.std.specs.Prelude.{◌≡◌, ℕ, List, length, IfErr, IfOk, OnOk};
 ghost use Rattle.std.specs.String.{string_bytes};
 ghost use Rattle.prettyless.specs.DocTree.{tree_of};
 ghost use Rattle.prettyless.specs.Layout as laid;
 ghost use Rattle.prettyless.specs.Options.{options_at};
+ghost use Rattle.bench.specs.Failures.{IsOfLayout, IsOfTiming};
 ghost use Rattle.bench.specs.Layouts.{IsLayout, IsOf};
 
 use crate::checksum::checksum;
@@ -42,7 +43,8 @@ fn layout<'a, D: DocPlace<'a>>(
     workload: Workload,
     size: usize,
 ) -> Result<String, Failure>
-    ensures { IfOk result (λ out. IsLayout workload size (string_bytes out)) }
+    ensures ok { IfOk result (λ out. IsLayout workload size (string_bytes out)) }
+    ensures err { IfErr result IsOfLayout }
 {
     let root = document(place, workload, size)?.into_doc()?;
     let mut out = String::new(place.memory());
@@ -53,7 +55,8 @@ fn layout<'a, D: DocPlace<'a>>(
 
 /// Lays a workload out.
 pub fn lay(alloc: Global, workload: Workload, size: usize) -> Result<Laid, Failure>
-    ensures { IfOk result (λ laid. (bytes : List ℕ) × IsLayout workload size bytes × IsOf laid bytes) }
+    ensures ok { IfOk result (λ laid. (bytes : List ℕ) × IsLayout workload size bytes × IsOf laid bytes) }
+    ensures err { IfErr result IsOfLayout }
 {
     let bump = Bump::new(alloc);
     let arena = Arena::new(alloc, &bump);
@@ -73,7 +76,8 @@ fn time_render<'a, C: Clock, T: DocPtr<'a>>(
     doc: &Doc<'a, T>,
     out: &mut String,
 ) -> Result<Duration, Failure>
-    ensures { OnOk result (laid.layout (options_at width) (tree_of T.tree doc.now) ≡ laid.Whole (string_bytes out.new)) }
+    ensures ok { OnOk result (laid.layout (options_at width) (tree_of T.tree doc.now) ≡ laid.Whole (string_bytes out.new)) }
+    ensures err { IfErr result IsOfTiming }
 {
     out.clear();
     let start = Instant::now(clock)?;
@@ -89,7 +93,8 @@ fn least_render<'a, C: Clock, T: DocPtr<'a>>(
     doc: &Doc<'a, T>,
     out: &mut String,
 ) -> Result<Duration, Failure>
-    ensures { OnOk result (laid.layout (options_at width) (tree_of T.tree doc.now) ≡ laid.Whole (string_bytes out.new)) }
+    ensures ok { OnOk result (laid.layout (options_at width) (tree_of T.tree doc.now) ≡ laid.Whole (string_bytes out.new)) }
+    ensures err { IfErr result IsOfTiming }
 {
     let mut least = time_render(clock, alloc, width, doc, out)?;
     for _ in 0..RENDERS {
@@ -104,7 +109,8 @@ fn time_in<'a, C: Clock, D: DocPlace<'a>>(
     workload: Workload,
     size: usize,
 ) -> Result<(usize, Duration, Duration), Failure>
-    ensures { IfOk result (λ r. (bytes : List ℕ) × IsLayout workload size bytes × (r.0 ≡ length bytes)) }
+    ensures ok { IfOk result (λ r. (bytes : List ℕ) × IsLayout workload size bytes × (r.0 ≡ length bytes)) }
+    ensures err { IfErr result IsOfTiming }
 {
     let start = Instant::now(clock)?;
     let root = document(place, workload, size)?.into_doc()?;
@@ -127,7 +133,8 @@ pub fn time<C: Clock>(
     workload: Workload,
     size: usize,
 ) -> Result<Timed, Failure>
-    ensures { IfOk result (λ timed. (bytes : List ℕ) × IsLayout workload size bytes × (timed.bytes ≡ length bytes)) }
+    ensures ok { IfOk result (λ timed. (bytes : List ℕ) × IsLayout workload size bytes × (timed.bytes ≡ length bytes)) }
+    ensures err { IfErr result IsOfTiming }
 {
     let bump = Bump::new(alloc);
     let arena = Arena::new(alloc, &bump);
