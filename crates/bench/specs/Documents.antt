@@ -1,12 +1,21 @@
 -- The trees of documents that are measured.
-use Rattle.std.specs.Prelude.{ℕ, zero, suc, List, codes, pos}
+use Rattle.std.specs.Prelude.{◌≡◌, ℕ, zero, suc, ◌%◌, List, replicate, codes, pos}
+use Rattle.std.specs.Fmt.{decimal}
 use Rattle.prettyless.specs.Tree.{Tree, Text, HardLine, Group, Union}
 use Rattle.prettyless.specs.Built.{append, nest, group, softline}
+use Rattle.prettyless.specs.Counted as counted
 use Rattle.prettyless.specs.Lines.{line, line_}
+use Rattle.prettyless.specs.Words.{intersperse}
+use Rattle.bench.specs.declared.workload.Workload.{Workload}
+use Rattle.bench.specs.declared.workload.Workload.TheVariants as w
 
 -- items between parentheses, nested by 1 and grouped
 abbrev pub parenthesised : Tree → Tree
 parenthesised items = append (append (Text (codes "(")) (group (nest (pos 1) items))) (Text (codes ")"))
+
+-- so many atoms in one list
+abbrev pub list : ℕ → Tree
+list n = parenthesised (intersperse line (replicate n (Text (codes "atom"))))
 
 -- values between brackets, each on lines of their own where they don't fit one
 abbrev pub bracketed : Tree → Tree → Tree → Tree
@@ -25,6 +34,46 @@ word (suc zero) = codes "fill"
 word (suc (suc zero)) = codes "a"
 word (suc (suc (suc zero))) = codes "line"
 word (suc (suc (suc (suc n)))) = codes "greedily"
+
+-- so many words, and one at least, with a break only where a line has no room
+abbrev pub fill : ℕ → Tree
+fill zero = Text (word 0)
+fill (suc zero) = Text (word 0)
+fill (suc (suc n)) = with_word (fill (suc n)) (word (suc n % 5))
+
+-- so many lines of 60 bytes, each but the first with an indent of 4
+abbrev pub lines : ℕ → Tree
+lines n = nest (pos 4) (intersperse HardLine (replicate n (Text (codes "a line of text that is as long as it has to be for sixty is."))))
+
+-- three texts in brackets
+abbrev pub tags : Tree
+tags = bracketed (Text (codes "[")) (with_comma (with_comma (Text (codes "\"red\"")) (Text (codes "\"green\""))) (Text (codes "\"blue\""))) (Text (codes "]"))
+
+-- the fields of a record: its number, a word for that, the tags and a text
+abbrev pub id_field : ℕ → Tree
+id_field n = append (Text (codes "\"id\": ")) (counted.as_string (decimal n))
+
+abbrev pub name_field : ℕ → Tree
+name_field n = append (append (Text (codes "\"name\": \"")) (Text (word (n % 5)))) (Text (codes "\""))
+
+abbrev pub tags_field : Tree
+tags_field = append (Text (codes "\"tags\": ")) tags
+
+abbrev pub note_field : Tree
+note_field = Text (codes "\"note\": \"as wide as makes a record wider than a line\"")
+
+abbrev pub record_of : ℕ → Tree
+record_of n = bracketed (Text (codes "{")) (with_comma (with_comma (with_comma (id_field n) (name_field n)) tags_field) note_field) (Text (codes "}"))
+
+-- so many records, and one at least, with commas between them
+abbrev pub records : ℕ → Tree
+records zero = record_of 0
+records (suc zero) = record_of 0
+records (suc (suc n)) = with_comma (records (suc n)) (record_of (suc n))
+
+-- these in brackets
+abbrev pub array : ℕ → Tree
+array n = bracketed (Text (codes "[")) (records n) (Text (codes "]"))
 
 -- a text, a line and this, grouped
 abbrev pub text_group : Tree → Tree
@@ -60,3 +109,16 @@ rejected (suc n) = rejected_trial (rejected n)
 
 abbrev pub rejected_trials : ℕ → Tree
 rejected_trials n = append (Text (codes "p")) (rejected n)
+
+-- the document of a workload at a size, but of trees nothing is said
+abbrev pub IsDocument : Workload → ℕ → Tree → Type 0
+IsDocument w.Tree n x = Unit {0}
+IsDocument w.List n x = x ≡ list n
+IsDocument w.FlatList n x = x ≡ list n
+IsDocument w.Json n x = x ≡ array n
+IsDocument w.TextGroups n x = x ≡ text_groups n
+IsDocument w.BareGroups n x = x ≡ bare_groups n
+IsDocument w.Fill n x = x ≡ fill n
+IsDocument w.Lines n x = x ≡ lines n
+IsDocument w.KeptTrials n x = x ≡ kept_trials n
+IsDocument w.RejectedTrials n x = x ≡ rejected_trials n

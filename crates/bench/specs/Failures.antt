@@ -16,3 +16,19 @@ status_of (Build e) = 1
 status_of (Render e) = 1
 status_of (Memory e) = 1
 status_of (System e) = 1
+
+-- a document was not built or not laid out
+abbrev pub IsOfLayout : Failure → Type 0
+IsOfLayout Words = ⊥
+IsOfLayout (Build e) = Unit {0}
+IsOfLayout (Render e) = Unit {0}
+IsOfLayout (Memory e) = ⊥
+IsOfLayout (System e) = ⊥
+
+-- the same, or the clock could not be read
+abbrev pub IsOfTiming : Failure → Type 0
+IsOfTiming Words = ⊥
+IsOfTiming (Build e) = Unit {0}
+IsOfTiming (Render e) = Unit {0}
+IsOfTiming (Memory e) = ⊥
+IsOfTiming (System e) = Unit {0}

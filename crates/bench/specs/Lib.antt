@@ -1,5 +1,6 @@
 pub mod Checksum
 pub mod Documents
 pub mod Failures
+pub mod Layouts
 pub mod Names
 pub mod Requests

@@ -1,5 +1,5 @@
--- The words for workloads, and the widths that they are laid out within.
-use Rattle.std.specs.Prelude.{ℕ, ◌-◌, ◌^◌, List, [], ◌∷◌, codes, Option, Some, None, if◌then◌else◌}
+-- The words for workloads, the widths that they are laid out within, and their sizes.
+use Rattle.std.specs.Prelude.{ℕ, ◌-◌, ◌^◌, nat_lt, List, [], ◌∷◌, codes, Option, Some, None, if◌then◌else◌}
 use Rattle.std.specs.Str.{bytes_eq}
 use Rattle.bench.specs.declared.workload.Workload.{Workload}
 use Rattle.bench.specs.declared.workload.Workload.TheVariants as w
@@ -22,3 +22,36 @@ abbrev pub width_of : Workload → ℕ
 width_of w.FlatList = 2 ^ 64 - 1
 width_of w.RejectedTrials = 4
 width_of _ = 80
+
+-- the size at which its layout is compared
+abbrev pub small_size_of : Workload → ℕ
+small_size_of w.Json = 50
+small_size_of w.Lines = 50
+small_size_of w.BareGroups = 100
+small_size_of w.KeptTrials = 100
+small_size_of w.RejectedTrials = 100
+small_size_of _ = 1000
+
+-- the sizes at which groups and trials are timed
+abbrev pub depths : List ℕ
+depths = 1000 ∷ 10000 ∷ 100000 ∷ []
+
+-- the sizes at which it is timed
+abbrev pub full_sizes_of : Workload → List ℕ
+full_sizes_of w.Json = 80000 ∷ []
+full_sizes_of w.TextGroups = depths
+full_sizes_of w.BareGroups = depths
+full_sizes_of w.KeptTrials = depths
+full_sizes_of w.RejectedTrials = depths
+full_sizes_of _ = 1000000 ∷ []
+
+-- a reason that counts above 10,000
+abbrev pub beyond : ℕ → List ℕ → Option (List ℕ)
+beyond size reason = if nat_lt 10000 size then Some reason else None
+
+-- why it is not timed at a size, if so
+abbrev pub obstacle_of : Workload → ℕ → Option (List ℕ)
+obstacle_of w.BareGroups size = beyond size (codes "its probes are quadratic")
+obstacle_of w.KeptTrials size = beyond size (codes "its trials are nested calls")
+obstacle_of w.RejectedTrials size = beyond size (codes "its trials are nested calls")
+obstacle_of _ size = None

@@ -1,4 +1,9 @@
 //! The document of a workload.
+ghost use Rattle.std.specs.Prelude.{◌≡◌, ◌⊎◌, IfErr, IfOk};
+ghost use Rattle.prettyless.specs.BuildErrors.{IsMemory};
+ghost use Rattle.prettyless.specs.DocTree.{built};
+ghost use Rattle.bench.specs.Documents.{IsDocument};
+ghost use Rattle.bench.specs.declared.workload.Workload.TheVariants.{Json};
 
 use crate::groups::{bare_groups, text_groups};
 use crate::json::array;
@@ -14,7 +19,11 @@ pub fn document<'a, D: DocPlace<'a>>(
     place: &'a D,
     workload: Workload,
     size: usize,
-) -> Result<DocBuilder<'a, D>, BuildError> {
+) -> Result<DocBuilder<'a, D>, BuildError>
+    ensures ok { IfOk result (λ b. IsDocument workload size (built D.Doc.tree b.1)) }
+    // A number is shown in a record, and no contract says when that fails.
+    ensures err { IfErr result (λ e. IsMemory e ⊎ (workload ≡ Json)) }
+{
     match workload {
         Workload::Tree => tree(place, size),
         Workload::List | Workload::FlatList => list(place, size),

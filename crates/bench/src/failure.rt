@@ -1,5 +1,6 @@
 ghost use Rattle.std.specs.Prelude.{◌≡◌};
 ghost use Rattle.bench.specs.Failures.{message_of, status_of};
+ghost use Rattle.bench.specs.declared.failure.Failure.TheVariants.{Build, Render, Memory, System};
 
 use prettyless::RenderError;
 use prettyless::text::BuildError;
@@ -47,24 +48,32 @@ impl Failure {
 }
 
 impl From<BuildError> for Failure {
+    ghost from_gives = { λ e f. f ≡ Build e };
+
     fn from(error: BuildError) -> Failure {
         Failure::Build(error)
     }
 }
 
 impl From<RenderError<fmt::Error>> for Failure {
+    ghost from_gives = { λ e f. f ≡ Render e };
+
     fn from(error: RenderError<fmt::Error>) -> Failure {
         Failure::Render(error)
     }
 }
 
 impl From<AllocError> for Failure {
+    ghost from_gives = { λ e f. f ≡ Memory e };
+
     fn from(error: AllocError) -> Failure {
         Failure::Memory(error)
     }
 }
 
 impl From<io::Error> for Failure {
+    ghost from_gives = { λ e f. f ≡ System e };
+
     fn from(error: io::Error) -> Failure {
         Failure::System(error)
     }

@@ -40,17 +40,19 @@ fn with_comma<'a, D: DocPlace<'a>>(
 }
 
 // A list of texts.
-fn tags<'a, D: DocPlace<'a>>(place: &'a D) -> Result<DocBuilder<'a, D>, BuildError> {
+fn tags<'a, D: DocPlace<'a>>(place: &'a D) -> Result<DocBuilder<'a, D>, BuildError>
+    ensures ok { IfOk result (λ b. built D.Doc.tree b.1 ≡ to.tags) }
+    ensures err { IfErr result IsMemory }
+{
     let warm = with_comma(text(place, "\"red\""), text(place, "\"green\""))?;
     let values = with_comma(warm, text(place, "\"blue\""))?;
     bracketed(text(place, "["), values, text(place, "]"))
 }
 
 // Four fields, of which two depend on the number.
-fn record<'a, D: DocPlace<'a>>(
-    place: &'a D,
-    number: usize,
-) -> Result<DocBuilder<'a, D>, BuildError> {
+fn record<'a, D: DocPlace<'a>>(place: &'a D, number: usize) -> Result<DocBuilder<'a, D>, BuildError>
+    ensures { IfOk result (λ b. built D.Doc.tree b.1 ≡ to.record_of number) }
+{
     let id = text(place, "\"id\": ").join(place.as_string(number)?)?;
     let name = text(place, "\"name\": \"").join(text(place, word(number)))?;
     let tags = text(place, "\"tags\": ").join(tags(place)?)?;
@@ -67,7 +69,9 @@ fn record<'a, D: DocPlace<'a>>(
 pub fn array<'a, D: DocPlace<'a>>(
     place: &'a D,
     records: usize,
-) -> Result<DocBuilder<'a, D>, BuildError> {
+) -> Result<DocBuilder<'a, D>, BuildError>
+    ensures { IfOk result (λ b. built D.Doc.tree b.1 ≡ to.array records) }
+{
     let mut values = record(place, 0)?;
     for number in 1..records {
         values = with_comma(values, record(place, number)?)?;

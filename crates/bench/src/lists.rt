@@ -31,7 +31,10 @@ fn parenthesised<'a, D: DocPlace<'a>>(
 pub fn list<'a, D: DocPlace<'a>>(
     place: &'a D,
     atoms: usize,
-) -> Result<DocBuilder<'a, D>, BuildError> {
+) -> Result<DocBuilder<'a, D>, BuildError>
+    ensures ok { IfOk result (λ b. built D.Doc.tree b.1 ≡ to.list atoms) }
+    ensures err { IfErr result IsMemory }
+{
     let atom: &'a str = ATOM;
     let items = place.intersperse(iter::repeat_n(atom, atoms), line_or_space())?;
     parenthesised(place, items)
@@ -41,7 +44,9 @@ pub fn list<'a, D: DocPlace<'a>>(
 fn leaves<'a, D: DocPlace<'a>>(
     place: &'a D,
     atoms: usize,
-) -> Result<Vec<DocBuilder<'a, D>>, BuildError> {
+) -> Result<Vec<DocBuilder<'a, D>>, BuildError>
+    ensures err { IfErr result IsMemory }
+{
     let mut row = Vec::new(place.memory());
     for _ in 0..atoms {
         row.push(text(place, ATOM))?;
@@ -53,7 +58,9 @@ fn leaves<'a, D: DocPlace<'a>>(
 fn parent<'a, D: DocPlace<'a>>(
     place: &'a D,
     children: Vec<DocBuilder<'a, D>>,
-) -> Result<DocBuilder<'a, D>, BuildError> {
+) -> Result<DocBuilder<'a, D>, BuildError>
+    ensures err { IfErr result IsMemory }
+{
     let mut items = place.nil()?;
     for child in children {
         if !items.doc().is_nil() {
@@ -68,7 +75,9 @@ fn parent<'a, D: DocPlace<'a>>(
 fn parents<'a, D: DocPlace<'a>>(
     place: &'a D,
     row: Vec<DocBuilder<'a, D>>,
-) -> Result<Vec<DocBuilder<'a, D>>, BuildError> {
+) -> Result<Vec<DocBuilder<'a, D>>, BuildError>
+    ensures err { IfErr result IsMemory }
+{
     let mut row = row;
     let mut above = Vec::new(place.memory());
     for _ in 0..row.len() / CHILDREN {
@@ -82,7 +91,9 @@ fn parents<'a, D: DocPlace<'a>>(
 pub fn tree<'a, D: DocPlace<'a>>(
     place: &'a D,
     atoms: usize,
-) -> Result<DocBuilder<'a, D>, BuildError> {
+) -> Result<DocBuilder<'a, D>, BuildError>
+    ensures err { IfErr result IsMemory }
+{
     let mut row = leaves(place, atoms)?;
     for _ in 0..atoms.checked_ilog10().unwrap_or(0) {
         row = parents(place, row)?;

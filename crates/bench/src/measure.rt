@@ -1,4 +1,11 @@
 //! Building and laying out, and how long it takes.
+ghost use Rattle.std.specs.Prelude.{◌≡◌, ℕ, List, length, IfErr, IfOk, OnOk};
+ghost use Rattle.std.specs.String.{string_bytes};
+ghost use Rattle.prettyless.specs.DocTree.{tree_of};
+ghost use Rattle.prettyless.specs.Layout as laid;
+ghost use Rattle.prettyless.specs.Options.{options_at};
+ghost use Rattle.bench.specs.Failures.{IsOfLayout, IsOfTiming};
+ghost use Rattle.bench.specs.Layouts.{IsLayout, IsOf};
 
 use crate::checksum::checksum;
 use crate::document::document;
@@ -35,7 +42,10 @@ fn layout<'a, D: DocPlace<'a>>(
     place: &'a D,
     workload: Workload,
     size: usize,
-) -> Result<String, Failure> {
+) -> Result<String, Failure>
+    ensures ok { IfOk result (λ out. IsLayout workload size (string_bytes out)) }
+    ensures err { IfErr result IsOfLayout }
+{
     let root = document(place, workload, size)?.into_doc()?;
     let mut out = String::new(place.memory());
     root.doc()
@@ -44,7 +54,10 @@ fn layout<'a, D: DocPlace<'a>>(
 }
 
 /// Lays a workload out.
-pub fn lay(alloc: Global, workload: Workload, size: usize) -> Result<Laid, Failure> {
+pub fn lay(alloc: Global, workload: Workload, size: usize) -> Result<Laid, Failure>
+    ensures ok { IfOk result (λ laid. (bytes : List ℕ) × IsLayout workload size bytes × IsOf laid bytes) }
+    ensures err { IfErr result IsOfLayout }
+{
     let bump = Bump::new(alloc);
     let arena = Arena::new(alloc, &bump);
     let out = layout(&arena, workload, size)?;
@@ -62,7 +75,10 @@ fn time_render<'a, C: Clock, T: DocPtr<'a>>(
     width: usize,
     doc: &Doc<'a, T>,
     out: &mut String,
-) -> Result<Duration, Failure> {
+) -> Result<Duration, Failure>
+    ensures ok { OnOk result (laid.layout (options_at width) (tree_of T.tree doc.now) ≡ laid.Whole (string_bytes out.new)) }
+    ensures err { IfErr result IsOfTiming }
+{
     out.clear();
     let start = Instant::now(clock)?;
     doc.render_fmt(alloc, width, out)?;
@@ -76,7 +92,10 @@ fn least_render<'a, C: Clock, T: DocPtr<'a>>(
     width: usize,
     doc: &Doc<'a, T>,
     out: &mut String,
-) -> Result<Duration, Failure> {
+) -> Result<Duration, Failure>
+    ensures ok { OnOk result (laid.layout (options_at width) (tree_of T.tree doc.now) ≡ laid.Whole (string_bytes out.new)) }
+    ensures err { IfErr result IsOfTiming }
+{
     let mut least = time_render(clock, alloc, width, doc, out)?;
     for _ in 0..RENDERS {
         least = least.min(time_render(clock, alloc, width, doc, out)?);
@@ -89,7 +108,10 @@ fn time_in<'a, C: Clock, D: DocPlace<'a>>(
     place: &'a D,
     workload: Workload,
     size: usize,
-) -> Result<(usize, Duration, Duration), Failure> {
+) -> Result<(usize, Duration, Duration), Failure>
+    ensures ok { IfOk result (λ r. (bytes : List ℕ) × IsLayout workload size bytes × (r.0 ≡ length bytes)) }
+    ensures err { IfErr result IsOfTiming }
+{
     let start = Instant::now(clock)?;
     let root = document(place, workload, size)?.into_doc()?;
     let build = start.elapsed(clock)?;
@@ -110,7 +132,10 @@ pub fn time<C: Clock>(
     alloc: Global,
     workload: Workload,
     size: usize,
-) -> Result<Timed, Failure> {
+) -> Result<Timed, Failure>
+    ensures ok { IfOk result (λ timed. (bytes : List ℕ) × IsLayout workload size bytes × (timed.bytes ≡ length bytes)) }
+    ensures err { IfErr result IsOfTiming }
+{
     let bump = Bump::new(alloc);
     let arena = Arena::new(alloc, &bump);
     let (bytes, build, render) = time_in(clock, &arena, workload, size)?;

@@ -41,7 +41,10 @@ fn with_word<'a, D: DocPlace<'a>>(
 pub fn fill<'a, D: DocPlace<'a>>(
     place: &'a D,
     words: usize,
-) -> Result<DocBuilder<'a, D>, BuildError> {
+) -> Result<DocBuilder<'a, D>, BuildError>
+    ensures ok { IfOk result (λ b. built D.Doc.tree b.1 ≡ to.fill words) }
+    ensures err { IfErr result IsMemory }
+{
     let mut all = text(place, word(0));
     for number in 1..words {
         all = with_word(all, word(number))?;
@@ -53,7 +56,10 @@ pub fn fill<'a, D: DocPlace<'a>>(
 pub fn lines<'a, D: DocPlace<'a>>(
     place: &'a D,
     lines: usize,
-) -> Result<DocBuilder<'a, D>, BuildError> {
+) -> Result<DocBuilder<'a, D>, BuildError>
+    ensures ok { IfOk result (λ b. built D.Doc.tree b.1 ≡ to.lines lines) }
+    ensures err { IfErr result IsMemory }
+{
     let line: &'a str = LINE;
     place
         .intersperse(iter::repeat_n(line, lines), hard_line())?

@@ -1,5 +1,6 @@
 //! What is measured.
 ghost use Rattle.std.specs.Prelude.{◌≡◌, Some};
+ghost use Rattle.std.specs.Option.{option_copied};
 ghost use Rattle.bench.specs.Names as names;
 
 /// A kind of document. Its size is a number of atoms, records, groups, words, lines or trials.
@@ -72,7 +73,9 @@ impl Workload {
     }
 
     /// The size at which its layout is compared.
-    pub fn small_size(self) -> usize {
+    pub fn small_size(self) -> usize
+        ensures { result ≡ names.small_size_of self }
+    {
         match self {
             Workload::Json | Workload::Lines => 50,
             Workload::BareGroups | Workload::KeptTrials | Workload::RejectedTrials => 100,
@@ -81,7 +84,9 @@ impl Workload {
     }
 
     /// The sizes at which it is timed.
-    pub fn full_sizes(self) -> &'static [usize] {
+    pub fn full_sizes(self) -> &'static [usize]
+        ensures { result.now ≡ names.full_sizes_of self }
+    {
         match self {
             Workload::Json => &[80_000],
             Workload::TextGroups
@@ -93,7 +98,9 @@ impl Workload {
     }
 
     /// Why it is not timed at a size, if so.
-    pub fn obstacle(self, size: usize) -> Option<&'static str> {
+    pub fn obstacle(self, size: usize) -> Option<&'static str>
+        ensures { option_copied result ≡ names.obstacle_of self size }
+    {
         match self {
             Workload::BareGroups if size > 10_000 => Some("its probes are quadratic"),
             Workload::KeptTrials | Workload::RejectedTrials if size > 10_000 => {

@@ -1,5 +1,5 @@
 //! Texts that values print.
-ghost use Rattle.std.specs.Prelude.{◌≡◌, ◌++◌, IfOk, IfSome, OnOk, ⊤};
+ghost use Rattle.std.specs.Prelude.{◌≡◌, ◌++◌, IfOk, IfSome, IsErr, IsOk, MatchResult, OnOk, ⊤};
 ghost use Rattle.std.specs.Result.{ForOk};
 ghost use Rattle.std.specs.String.{string_bytes};
 ghost use Rattle.prettyless_doc.specs.TextBytes.{bytes_of, IsSmallIfItFits};
@@ -69,7 +69,12 @@ struct Printer {
 impl fmt::Write for Printer {
     ghost write_str_gives = { λ p bs q. bytes_so_far q.text ≡ bytes_so_far p.text ++ bs };
 
-    fn write_str(&mut self, piece: &str) -> fmt::Result {
+    // It fails where memory was refused, now or before, and only there.
+    fn write_str(&mut self, piece: &str) -> fmt::Result
+        ensures ok { IsOk result → bytes_so_far self.new.text ≡ bytes_so_far self.old.text ++ piece.now }
+        ensures refused { MatchResult result (λ _. IsOk self.new.text) (λ _. IsErr self.new.text) }
+        ensures stays { IsErr self.old.text → IsErr self.new.text }
+    {
         let Ok(text) = mem::replace(&mut self.text, Err(AllocError)) else {
             return Err(fmt::Error);
         };

@@ -6,6 +6,7 @@ ghost use Rattle.prettyless_doc.specs.DocTree.{tree_of, built, holds_memory};
 ghost use Rattle.prettyless_doc.specs.Payload as source;
 ghost use Rattle.prettyless_doc.specs.Payload.{payload_bytes};
 ghost use Rattle.prettyless_doc.specs.TextBytes.{bytes_of, is_owned};
+ghost use Rattle.prettyless_doc.specs.Tree.{Tree};
 ghost use Rattle.prettyless_build.specs.Built.{IfPlaced};
 ghost use Rattle.prettyless_pointers.specs.declared.arena.RefDoc.{out-RefDoc};
 ghost use Rattle.prettyless_pointers.specs.Trees.{ref_tree};
@@ -59,11 +60,18 @@ impl<'a> Pretty<'a, Arena<'a>> for RefDoc<'a> {
 
 /// What ends in a pointer to a node in an arena. A trait, as the builder is of a crate below.
 pub trait IntoRef<'a> {
-    /// The pointer, or an error where no memory was had.
-    fn into_ref(self) -> Result<RefDoc<'a>, BuildError>;
+    // the tree of the document that it is
+    ghost tree: { Self → Tree };
+
+    /// A pointer to the document, or an error where no memory was had.
+    fn into_ref(self) -> Result<RefDoc<'a>, BuildError>
+        ensures ok { IfOk result (λ p. ref_tree p ≡ tree self) }
+        ensures err { IfErr result IsMemory };
 }
 
 impl<'a> IntoRef<'a> for DocBuilder<'a, Arena<'a>> {
+    ghost tree = { λ b. built ref_tree b.1 };
+
     /// A pointer to the document: its own where it has one, which takes no memory, and else that of a new node, or an
     /// error where no memory was had.
     fn into_ref(self) -> Result<RefDoc<'a>, BuildError>
@@ -164,8 +172,10 @@ impl<'a> DocPlace<'a> for Arena<'a> {
         Ok(RefDoc(node))
     }
 
+    /// The same pointer, which takes no memory.
     fn clone_ptr(&'a self, pointer: &RefDoc<'a>) -> Result<RefDoc<'a>, BuildError>
         ensures ok { IfOk result (λ p. ref_tree p ≡ ref_tree pointer.now) }
+        ensures same { result ≡ Ok pointer.now }
         ensures err { IfErr result IsMemory }
     {
         Ok(*pointer)
