@@ -14,6 +14,8 @@ mod deep;
 #[cfg(test)]
 mod derived;
 #[cfg(test)]
+mod laws;
+#[cfg(test)]
 mod made;
 #[cfg(test)]
 mod modes;
