@@ -24,3 +24,4 @@ pub use prettyless_sink::io_write::IoWrite;
 pub use prettyless_sink::options::{IndentationPolicy, LineEnding, RenderOptions};
 pub use prettyless_sink::render::Render;
 pub use prettyless_sink::text_writer::{TextWriter, Untold};
+pub use prettyless_sink::visits::Visits;

@@ -1,9 +1,10 @@
-ghost use Rattle.std.specs.Prelude.{◌≡◌, ⊤, IfOk};
+ghost use Rattle.std.specs.Prelude.{◌≡◌, ◌+◌, ◌*◌, ◌≤◌, ⊤, IfOk};
 ghost use Rattle.std.specs.IoError.{error_kind};
 ghost use Rattle.std.specs.declared.io.ErrorKind.TheVariants.{Other};
 ghost use Rattle.prettyless_sink.specs.Options.{options_at};
-ghost use Rattle.prettyless_model.specs.Content.{AppendsContent, AppendsKnownContent};
+ghost use Rattle.prettyless_model.specs.Content.{AppendsContent, AppendsKnownContent, suffix_depth};
 ghost use Rattle.prettyless_model.specs.Layout.{layout};
+ghost use Rattle.prettyless_model.specs.Tree.{probed, size};
 ghost use Rattle.prettyless_printer.specs.Renders.{Rendered, RendersKnown};
 ghost use Rattle.prettyless_doc.specs.DocTree.{tree_of};
 
@@ -15,6 +16,7 @@ use prettyless_sink::io_write::IoWrite;
 use prettyless_sink::options::RenderOptions;
 use prettyless_sink::render::Render;
 use prettyless_sink::text_writer::TextWriter;
+use prettyless_sink::visits::Visits;
 use std::alloc::Global;
 use std::{fmt, io};
 
@@ -38,7 +40,33 @@ impl<'a, T: DocPtr<'a>> Doc<'a, T> {
         ensures content { W.tells out.old
             → IfOk result (λ _. AppendsContent (tree_of T.tree self.now) (W.written out.old) (W.written out.new)) }
     {
-        run::render(alloc, self, options, out)
+        self.render_raw_counted_with(alloc, options, out, &mut Visits::default())
+    }
+
+    /// Renders to a sink, and adds to `visits` how many nodes the printer and its probes took up.
+    ///
+    /// A document with no line suffix is taken up by the printer at most once a node, also where a trial was not kept.
+    /// Each of its groups and partial unions asks one probe at most, which takes up a node at most once.
+    pub fn render_raw_counted_with<W: Render>(
+        &self,
+        alloc: Global,
+        options: RenderOptions,
+        out: &mut W,
+        visits: &mut Visits,
+    ) -> Result<(), RenderError<W::Error>>
+        ensures same_lender { W.lender out.new ≡ W.lender out.old }
+        ensures told { W.tells out.old → W.tells out.new
+            × Rendered (W.document_errors out.new) (layout options (tree_of T.tree self.now))
+            (W.written out.old) (W.written out.new) (W.failures out.old) (W.failures out.new) result }
+        ensures content { W.tells out.old
+            → IfOk result (λ _. AppendsContent (tree_of T.tree self.now) (W.written out.old) (W.written out.new)) }
+        ensures rise { (visits.old.printer ≤ visits.new.printer) × (visits.old.probes ≤ visits.new.probes) }
+        ensures printer { suffix_depth (tree_of T.tree self.now) ≡ 0
+            → visits.new.printer ≤ visits.old.printer + size (tree_of T.tree self.now) }
+        ensures probes { suffix_depth (tree_of T.tree self.now) ≡ 0
+            → visits.new.probes ≤ visits.old.probes + size (tree_of T.tree self.now) * probed (tree_of T.tree self.now) }
+    {
+        run::render(alloc, self, options, out, visits)
     }
 
     /// Renders to a sink at this width.

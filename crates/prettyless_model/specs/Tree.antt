@@ -43,3 +43,25 @@ size (BreakOrFlat b f) = size b + size f + 1
 size (Group d) = size d + 1
 size (Union l r) = size l + size r + 1
 size (PartialUnion l r) = size l + size r + 1
+
+-- how many nodes of a tree ask the probe: its groups and its partial unions
+abbrev pub probed : Tree → ℕ
+probed Nil = 0
+probed Fail = 0
+probed (Text s) = 0
+probed (TextWithLen w s) = 0
+probed (MultilineText s) = 0
+probed WeakSpace = 0
+probed HardLine = 0
+probed WeakLine = 0
+probed (Append l r) = probed l + probed r
+probed (LineSuffix d) = probed d
+probed (Nest k d) = probed d
+probed (DedentToRoot d) = probed d
+probed (Align d) = probed d
+probed ExpandParent = 0
+probed (Flatten d) = probed d
+probed (BreakOrFlat b f) = probed b + probed f
+probed (Group d) = probed d + 1
+probed (Union l r) = probed l + probed r
+probed (PartialUnion l r) = probed l + probed r + 1

@@ -10,3 +10,4 @@ pub mod Trying
 pub mod Working
 pub mod Renders
 pub mod Contents
+pub mod Visits

@@ -7,3 +7,4 @@ pub mod Progress
 pub mod Trials
 pub mod Turns
 pub mod Renders
+pub mod Visits

@@ -11,6 +11,7 @@ use crate::walk::{View, Walk};
 use prettyless_model::column::Column;
 use prettyless_model::metrics::Metrics;
 use prettyless_model::mode::Mode;
+use prettyless_sink::visits::one_more;
 use std::alloc::AllocError;
 
 /// How a line stands where a probe has come to.
@@ -165,7 +166,8 @@ fn next_command<N: Walk>(
 }
 
 /// Whether a node, laid in this mode from where the line stands, stays within the width together with what follows it,
-/// up to the first line end. `stack` is only a place to work in.
+/// up to the first line end. `stack` is only a place to work in. The nodes that it takes up are counted in `probes`.
+#[tactic(auto, using(crate::proofs::Visits::size_positive))]
 pub fn probe<N: Walk>(
     width: usize,
     start: Line,
@@ -173,9 +175,12 @@ pub fn probe<N: Walk>(
     mode: Mode,
     commands: &[Command<N>],
     stack: &mut Vec<Command<N>>,
+    probes: &mut u64,
 ) -> Result<bool, AllocError>
-    ensures { IfOk result
+    ensures answer { IfOk result
         (λ r. r ≡ fits width start.column start.pending (reading (N.tree node) mode ++ rest_atoms (follow (stack_of N.tree commands.now)))) }
+    ensures rises { probes.old ≤ probes.new }
+    ensures counted { probes.new ≤ probes.old + (size (N.tree node) + nodes (stack_of N.tree commands.now)) }
 {
     let mut line = start;
     let mut below = commands.len();
@@ -185,6 +190,7 @@ pub fn probe<N: Walk>(
         let Some(command) = next_command(commands, &mut below, stack) else {
             return Ok(line.column.padding_fits(width, line.pending));
         };
+        *probes = one_more(*probes);
         if let Some(answer) = probe_one(width, &mut line, &command, stack)? {
             return Ok(answer);
         }

@@ -1,12 +1,14 @@
-ghost use Rattle.std.specs.Prelude.{◌≡◌, ◌+◌, ◌*◌, ◌<◌, ◌≤◌, [], OnOk, vec_len};
+ghost use Rattle.std.specs.Prelude.{◌≡◌, ◌+◌, ◌*◌, ◌∷◌, ◌<◌, ◌≤◌, [], OnOk, vec_len};
 ghost use Rattle.prettyless_model.specs.Tree.{size};
+ghost use Rattle.prettyless_model.specs.Content.{suffix_depth};
 ghost use Rattle.prettyless_model.specs.Layout.{flushed, layout};
 ghost use Rattle.prettyless_model.specs.declared.mode.Mode.TheVariants.{Break};
-ghost use Rattle.prettyless_printer.specs.Stack.{stack_of, tasks};
+ghost use Rattle.prettyless_printer.specs.Stack.{make_task, stack_of, tasks};
 ghost use Rattle.prettyless_printer.specs.Steps.{owed, work};
 ghost use Rattle.prettyless_printer.specs.Printing.{state_of};
 ghost use Rattle.prettyless_printer.specs.Turns.{Chose};
 ghost use Rattle.prettyless_printer.specs.Renders.{Flushed, RanToEnd, Rendered, WorkedOff};
+ghost use Rattle.prettyless_printer.specs.Visits.{Plain, Rise, RunPays, Visited};
 
 use crate::buffer::Buffer;
 use crate::pending::{is_pending, take_pending};
@@ -21,6 +23,7 @@ use prettyless_sink::error::RenderError;
 use prettyless_sink::options::RenderOptions;
 use prettyless_sink::pieces::write_gap_and_text;
 use prettyless_sink::render::Render;
+use prettyless_sink::visits::Visits;
 use std::alloc::Global;
 
 // Lays the branch of a union that its trial chooses. A kept one goes to the sink in one piece.
@@ -31,6 +34,7 @@ fn choose<N: Walk, W: Render>(
     indent: usize,
     first: N,
     second: N,
+    visits: &mut Visits,
 ) -> Result<(), RenderError<W::Error>>
     requires { printer.old.start ≤ vec_len printer.old.queue }
     ensures queue { printer.new.start ≤ vec_len printer.new.queue }
@@ -41,9 +45,13 @@ fn choose<N: Walk, W: Render>(
     ensures told { W.tells out.old → W.tells out.new
         × Chose N.tree printer.old printer.new indent (N.tree first) (N.tree second)
         (W.written out.old) (W.written out.new) (W.failures out.old) (W.failures out.new) result }
+    ensures rise { Rise visits.old visits.new }
+    ensures pays { Plain N.tree printer.old → suffix_depth (N.tree first) ≡ 0 → suffix_depth (N.tree second) ≡ 0
+        → RunPays N.tree (make_task indent Break (N.tree first) ∷ make_task indent Break (N.tree second) ∷ stack_of N.tree printer.old.commands.items)
+        printer.new visits.old visits.new result }
 {
     buffer.text.clear();
-    match print_branch(printer, buffer, indent, first) {
+    match print_branch(printer, buffer, indent, first, visits) {
         Err(e) => Err(RenderError::Memory(e)),
         Ok(true) => match write_gap_and_text(out, 0, buffer.text.as_str()) {
             Ok(()) => Ok(()),
@@ -61,6 +69,7 @@ fn work_off<N: Walk, W: Render>(
     printer: &mut Printer<N>,
     buffer: &mut Buffer,
     out: &mut W,
+    visits: &mut Visits,
 ) -> Result<(), RenderError<W::Error>>
     requires { printer.old.start ≤ vec_len printer.old.queue }
     ensures queue { printer.new.start ≤ vec_len printer.new.queue }
@@ -72,14 +81,16 @@ fn work_off<N: Walk, W: Render>(
     ensures told { W.tells out.old → W.tells out.new
         × WorkedOff N.tree printer.old printer.new (W.document_errors out.new)
         (W.written out.old) (W.written out.new) (W.failures out.old) (W.failures out.new) result }
+    ensures rise { Rise visits.old visits.new }
+    ensures pays { Plain N.tree printer.old → RunPays N.tree (stack_of N.tree printer.old.commands.items) printer.new visits.old visits.new result }
 {
     'work: while printer.commands.len() > 0 {
-        match turn(printer, out) {
+        match turn(printer, out, visits) {
             Err(e) => return Err(e),
             Ok(Turn::Failed) => return Err(RenderError::Document(out.fail_doc())),
             Ok(Turn::Went) => {}
             Ok(Turn::Chosen(indent, first, second)) => {
-                match choose(printer, buffer, out, indent, first, second) {
+                match choose(printer, buffer, out, indent, first, second, visits) {
                     Ok(()) => {}
                     Err(e) => return Err(e),
                 }
@@ -118,15 +129,18 @@ fn run_to_end<N: Walk, W: Render>(
     printer: &mut Printer<N>,
     buffer: &mut Buffer,
     out: &mut W,
+    visits: &mut Visits,
 ) -> Result<(), RenderError<W::Error>>
     requires { printer.old.start ≤ vec_len printer.old.queue }
     ensures same_lender { W.lender out.new ≡ W.lender out.old }
     ensures told { W.tells out.old → W.tells out.new
         × RanToEnd N.tree printer.old (W.document_errors out.new)
         (W.written out.old) (W.written out.new) (W.failures out.old) (W.failures out.new) result }
+    ensures rise { Rise visits.old visits.new }
+    ensures pays { Plain N.tree printer.old → RunPays N.tree (stack_of N.tree printer.old.commands.items) printer.new visits.old visits.new result }
 {
     'rounds: loop {
-        match work_off(printer, buffer, out) {
+        match work_off(printer, buffer, out, visits) {
             Ok(()) => {}
             Err(e) => return Err(e),
         }
@@ -146,16 +160,21 @@ fn run_to_end<N: Walk, W: Render>(
 /// layout fails, behind the bytes before the failing node. `Sink` is answered where the sink failed, once in this call,
 /// and `Memory` where a growth was refused, which leaves the sink's failures as they were: what was appended then is a
 /// beginning of the layout's bytes.
+///
+/// The nodes that are taken up are added to `visits`.
 pub fn render<N: Walk, W: Render>(
     alloc: Global,
     node: N,
     options: RenderOptions,
     out: &mut W,
+    visits: &mut Visits,
 ) -> Result<(), RenderError<W::Error>>
     ensures same_lender { W.lender out.new ≡ W.lender out.old }
     ensures told { W.tells out.old → W.tells out.new
         × Rendered (W.document_errors out.new) (layout options (N.tree node))
         (W.written out.old) (W.written out.new) (W.failures out.old) (W.failures out.new) result }
+    ensures rise { Rise visits.old visits.new }
+    ensures visited { Visited (N.tree node) visits.old visits.new }
 {
     let mut printer = Printer {
         options,
@@ -168,7 +187,7 @@ pub fn render<N: Walk, W: Render>(
     };
     let mut buffer = Buffer::new(alloc);
     match push_node(&mut printer.commands, 0, Mode::Break, node) {
-        Ok(()) => run_to_end(&mut printer, &mut buffer, out),
+        Ok(()) => run_to_end(&mut printer, &mut buffer, out, visits),
         Err(e) => Err(RenderError::Memory(e)),
     }
 }

@@ -1,10 +1,12 @@
-ghost use Rattle.std.specs.Prelude.{◌≡◌, ◌++◌, ◌∷◌, ◌≤◌, ◌&&◌, [], true, vec_len, IfOk, if◌then◌else◌};
+ghost use Rattle.std.specs.Prelude.{◌≡◌, ◌++◌, ◌+◌, ◌∷◌, ◌≤◌, ◌&&◌, [], true, vec_len, IfOk, if◌then◌else◌};
+ghost use Rattle.prettyless_model.specs.Tree.{size};
 ghost use Rattle.prettyless_model.specs.Reading.{by_mode};
 ghost use Rattle.prettyless_model.specs.Layout.{is_suppressed, lay_ending, nested, some_pending, next_indent, probe as probe_of};
 ghost use Rattle.prettyless_model.specs.declared.mode.Mode.TheVariants.{Break, Flat};
-ghost use Rattle.prettyless_printer.specs.Stack.{follow, make_task, stack_of};
+ghost use Rattle.prettyless_printer.specs.Stack.{follow, make_task, nodes, stack_of};
 ghost use Rattle.prettyless_printer.specs.Steps.{Move, at_once, break_step, decided_by_metrics, step_of, union_step};
 ghost use Rattle.prettyless_printer.specs.Printing.{Shows, state_of};
+ghost use Rattle.prettyless_printer.specs.Visits.{asked};
 ghost use Rattle.prettyless_printer.specs.declared.printer.Taken.TheVariants.{Written};
 
 use crate::command::Command;
@@ -28,11 +30,18 @@ fn nested_indent(indent: usize, offset: isize) -> usize
 }
 
 // Whether a node fits the line in this mode, with the printer's commands following it.
-fn probe_here<N: Walk>(printer: &mut Printer<N>, node: N, mode: Mode) -> Result<bool, AllocError>
+fn probe_here<N: Walk>(
+    printer: &mut Printer<N>,
+    node: N,
+    mode: Mode,
+    probes: &mut u64,
+) -> Result<bool, AllocError>
     requires { printer.old.start ≤ vec_len printer.old.queue }
     ensures answer { IfOk result (λ fit. fit ≡ probe_of printer.old.options (N.tree node) mode
         (follow (stack_of N.tree printer.old.commands.items)) (state_of N.tree printer.old)) }
     ensures others { printer.new ≡ record printer.old { scratch = printer.new.scratch } }
+    ensures rises { probes.old ≤ probes.new }
+    ensures counted { probes.new ≤ probes.old + (size (N.tree node) + nodes (stack_of N.tree printer.old.commands.items)) }
 {
     let start = Line {
         column: printer.column,
@@ -45,22 +54,30 @@ fn probe_here<N: Walk>(printer: &mut Printer<N>, node: N, mode: Mode) -> Result<
         mode,
         &printer.commands,
         &mut printer.scratch,
+        probes,
     )
 }
 
 // The mode in which a group's document is laid.
-fn group_mode<N: Walk>(printer: &mut Printer<N>, mode: Mode, inner: N) -> Result<Mode, AllocError>
+fn group_mode<N: Walk>(
+    printer: &mut Printer<N>,
+    mode: Mode,
+    inner: N,
+    probes: &mut u64,
+) -> Result<Mode, AllocError>
     requires { printer.old.start ≤ vec_len printer.old.queue }
     ensures mode { IfOk result (λ m. m ≡ by_mode mode
         (if probe_of printer.old.options (N.tree inner) Flat (follow (stack_of N.tree printer.old.commands.items)) (state_of N.tree printer.old)
         then Flat else Break)
         Flat) }
     ensures others { printer.new ≡ record printer.old { scratch = printer.new.scratch } }
+    ensures rises { probes.old ≤ probes.new }
+    ensures counted { probes.new ≤ probes.old + (size (N.tree inner) + nodes (stack_of N.tree printer.old.commands.items)) }
 {
     if let Mode::Flat = mode {
         return Ok(Mode::Flat);
     }
-    let flat = probe_here(printer, inner, Mode::Flat)?;
+    let flat = probe_here(printer, inner, Mode::Flat, probes)?;
     Ok(if flat { Mode::Flat } else { Mode::Break })
 }
 
@@ -70,6 +87,7 @@ fn partial_choice<N: Walk>(
     mode: Mode,
     first: N,
     second: N,
+    probes: &mut u64,
 ) -> Result<N, AllocError>
     requires { printer.old.start ≤ vec_len printer.old.queue }
     ensures branch { IfOk result (λ n. N.tree n ≡ by_mode mode
@@ -77,11 +95,13 @@ fn partial_choice<N: Walk>(
         then N.tree first else N.tree second)
         (N.tree first)) }
     ensures others { printer.new ≡ record printer.old { scratch = printer.new.scratch } }
+    ensures rises { probes.old ≤ probes.new }
+    ensures counted { probes.new ≤ probes.old + (size (N.tree first) + nodes (stack_of N.tree printer.old.commands.items)) }
 {
     if let Mode::Flat = mode {
         return Ok(first);
     }
-    let fits = probe_here(printer, first, Mode::Break)?;
+    let fits = probe_here(printer, first, Mode::Break, probes)?;
     Ok(if fits { first } else { second })
 }
 
@@ -231,11 +251,12 @@ fn union<N: Walk>(
     }
 }
 
-/// Takes up one node, with the printer's commands following it.
+/// Takes up one node, with the printer's commands following it. What a probe takes up is counted in `probes`.
 #[tactic(auto, using(crate::proofs::Queues::queues))]
 pub fn step<'v, N: Walk>(
     printer: &mut Printer<N>,
     command: &'v Command<N>,
+    probes: &mut u64,
 ) -> Result<Taken<'v, N>, AllocError>
     requires { printer.old.start ≤ vec_len printer.old.queue }
     ensures queue { printer.new.start ≤ vec_len printer.new.queue }
@@ -243,6 +264,8 @@ pub fn step<'v, N: Walk>(
         (step_of printer.old.options (N.tree command.now.node) command.now.indent command.now.mode
         (follow (stack_of N.tree printer.old.commands.items)) (state_of N.tree printer.old))
         printer.old printer.new) }
+    ensures rises { probes.old ≤ probes.new }
+    ensures counted { probes.new ≤ probes.old + asked (N.tree command.now.node) (nodes (stack_of N.tree printer.old.commands.items)) }
 {
     let indent = command.indent;
     let mode = command.mode;
@@ -290,7 +313,7 @@ pub fn step<'v, N: Walk>(
         View::Flatten(d) => go_on_with(printer, indent, Mode::Flat, d),
         View::BreakOrFlat(b, f) => go_on_with(printer, indent, mode, either(mode, b, f)),
         View::Group(d) => {
-            let inner = group_mode(printer, mode, d)?;
+            let inner = group_mode(printer, mode, d, probes)?;
             go_on_with(printer, indent, inner, d)
         }
         View::Union(l, r) => match mode {
@@ -298,7 +321,7 @@ pub fn step<'v, N: Walk>(
             Mode::Flat => go_on_with(printer, indent, mode, l),
         },
         View::PartialUnion(l, r) => {
-            let taken = partial_choice(printer, mode, l, r)?;
+            let taken = partial_choice(printer, mode, l, r, probes)?;
             go_on_with(printer, indent, mode, taken)
         }
     }

@@ -1,7 +1,11 @@
-ghost use Rattle.std.specs.Prelude.{◌≡◌, ◌≤◌, IfOk, take, vec_len};
+ghost use Rattle.std.specs.Prelude.{◌≡◌, ◌∷◌, ◌≤◌, IfOk, take, vec_len};
 ghost use Rattle.std.specs.String.{string_bytes};
 ghost use Rattle.std.specs.String.Boundary.{IsSplitPoint};
+ghost use Rattle.prettyless_model.specs.Content.{suffix_depth};
+ghost use Rattle.prettyless_model.specs.declared.mode.Mode.TheVariants.{Break};
+ghost use Rattle.prettyless_printer.specs.Stack.{make_task, stack_of};
 ghost use Rattle.prettyless_printer.specs.Trials.{Restores, TrialDid};
+ghost use Rattle.prettyless_printer.specs.Visits.{Plain, Rise, RunPays};
 
 use crate::buffer::Buffer;
 use crate::pending::is_pending;
@@ -12,6 +16,7 @@ use crate::walk::Walk;
 use prettyless_model::column::Column;
 use prettyless_model::mode::Mode;
 use prettyless_sink::error::RenderError;
+use prettyless_sink::visits::Visits;
 use std::alloc::AllocError;
 
 /// What a trial goes back to if it is not kept.
@@ -72,18 +77,22 @@ pub fn print_branch<N: Walk>(
     buffer: &mut Buffer,
     indent: usize,
     branch: N,
+    visits: &mut Visits,
 ) -> Result<bool, AllocError>
     requires { printer.old.start ≤ vec_len printer.old.queue }
     ensures queue { printer.new.start ≤ vec_len printer.new.queue }
     ensures decided { IfOk result (λ kept. TrialDid N.tree printer.old printer.new indent (N.tree branch)
         (string_bytes buffer.old.text) (string_bytes buffer.new.text) kept) }
+    ensures rise { Rise visits.old visits.new }
+    ensures pays { Plain N.tree printer.old → suffix_depth (N.tree branch) ≡ 0
+        → RunPays N.tree (make_task indent Break (N.tree branch) ∷ stack_of N.tree printer.old.commands.items) printer.new visits.old visits.new result }
 {
     let mark = mark_of(printer);
     let written = buffer.text.len();
     printer.within = true;
     push_node(&mut printer.commands, indent, Mode::Break, branch)?;
     'work: while printer.commands.len() > mark.commands {
-        match turn(printer, buffer) {
+        match turn(printer, buffer, visits) {
             Err(e) => return Err(memory_of(e)),
             Ok(Turn::Failed) => {
                 take_back(printer, mark, buffer, written);
@@ -96,7 +105,7 @@ pub fn print_branch<N: Walk>(
                 }
             }
             Ok(Turn::Chosen(i, first, second)) => {
-                if !print_branch(printer, buffer, i, first)? {
+                if !print_branch(printer, buffer, i, first, visits)? {
                     push_node(&mut printer.commands, i, Mode::Break, second)?;
                 }
             }

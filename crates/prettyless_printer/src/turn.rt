@@ -1,6 +1,8 @@
 ghost use Rattle.std.specs.Prelude.{◌≡◌, ◌<◌, ◌≤◌, OnOk, IfOk, vec_len};
+ghost use Rattle.prettyless_sink.specs.Sink.{rise};
 ghost use Rattle.prettyless_printer.specs.Printing.{Grows};
 ghost use Rattle.prettyless_printer.specs.Turns.{Lessens, Turned};
+ghost use Rattle.prettyless_printer.specs.Visits.{Plain, Rise, TurnPays};
 
 use crate::piece::write_piece;
 use crate::printer::{Printer, Taken, Turn};
@@ -9,11 +11,13 @@ use crate::step::step;
 use crate::walk::Walk;
 use prettyless_sink::error::RenderError;
 use prettyless_sink::render::Render;
+use prettyless_sink::visits::{Visits, one_more};
 
-/// Takes the next command, and writes what it gives.
+/// Takes the next command, and writes what it gives. The command is a visit.
 pub fn turn<N: Walk, W: Render>(
     printer: &mut Printer<N>,
     out: &mut W,
+    visits: &mut Visits,
 ) -> Result<Turn<N>, RenderError<W::Error>>
     requires queue { printer.old.start ≤ vec_len printer.old.queue }
     requires some { 0 < vec_len printer.old.commands }
@@ -24,11 +28,15 @@ pub fn turn<N: Walk, W: Render>(
     ensures same_lender { W.lender out.new ≡ W.lender out.old }
     ensures told { W.tells out.old → W.tells out.new
         × Turned N.tree printer.old printer.new (W.written out.old) (W.written out.new) (W.failures out.old) (W.failures out.new) result }
+    ensures one { visits.new.printer ≡ rise visits.old.printer }
+    ensures rise { Rise visits.old visits.new }
+    ensures pays { Plain N.tree printer.old → TurnPays N.tree printer.old printer.new visits.old visits.new result }
 {
     let Some(command) = pop_command(&mut printer.commands) else {
         unreachable!()
     };
-    match step(printer, &command) {
+    visits.printer = one_more(visits.printer);
+    match step(printer, &command, &mut visits.probes) {
         Err(e) => Err(RenderError::Memory(e)),
         Ok(Taken::Failed) => Ok(Turn::Failed),
         Ok(Taken::Chosen(indent, first, second)) => Ok(Turn::Chosen(indent, first, second)),

@@ -8,3 +8,4 @@ pub mod options;
 pub mod pieces;
 pub mod render;
 pub mod text_writer;
+pub mod visits;

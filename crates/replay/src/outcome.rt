@@ -9,6 +9,7 @@ use crate::hexadecimal::word_of;
 use prettyless::{DocPtr, RenderError};
 use prettyless_printer::run::render;
 use prettyless_sink::fmt_write::FmtWrite;
+use prettyless_sink::visits::Visits;
 use std::alloc::{AllocError, Global};
 
 // A word in front of the word that writes the bytes.
@@ -26,7 +27,13 @@ pub fn outcome(alloc: Global, case: &ReadCase<'_>) -> Result<String, AllocError>
 {
     let mut bytes = String::new(alloc);
     let mut sink = FmtWrite::new(&mut bytes);
-    match render(alloc, case.document.doc(), case.options, &mut sink) {
+    match render(
+        alloc,
+        case.document.doc(),
+        case.options,
+        &mut sink,
+        &mut Visits::default(),
+    ) {
         Ok(()) => labelled(alloc, "ok ", bytes.as_str()),
         Err(RenderError::Document(_)) => labelled(alloc, "fail ", bytes.as_str()),
         Err(RenderError::Sink(_) | RenderError::Memory(_)) => Err(AllocError),

@@ -1,4 +1,5 @@
 use Rattle.std.proofs.Common.{◌≡◌, ◌++◌, ◌+◌, ◌≤◌, length, take}
+use Rattle.prettyless_model.specs.Tree.{size}
 use Rattle.prettyless_model.specs.Reading.{fits, reading}
 use Rattle.prettyless_model.specs.Layout.{rest_atoms}
 use Rattle.prettyless_printer.specs.Stack.{stack_of, follow, read_tasks, nodes}
@@ -9,6 +10,9 @@ invariant-loop-command g l = record {
   within : l.below ≤ length l.commands;
   same : fits l.width l.line.column l.line.pending (read_tasks (stack_of g.N.Walk.tree l.stack.items) ++ rest_atoms (follow (stack_of g.N.Walk.tree (take l.below l.commands))))
       ≡ fits l.width l.fn.start.column l.fn.start.pending (reading (g.N.Walk.tree l.fn.node) l.fn.mode ++ rest_atoms (follow (stack_of g.N.Walk.tree l.commands)));
+  rises : l.fn.probes ≤ l.probes;
+  counted : l.probes + (nodes (stack_of g.N.Walk.tree l.stack.items) + nodes (stack_of g.N.Walk.tree (take l.below l.commands)))
+      ≤ l.fn.probes + (size (g.N.Walk.tree l.fn.node) + nodes (stack_of g.N.Walk.tree l.commands));
 }
 
 abbrev pub decreases-loop-command : goal.decreases-loop-command

@@ -1,12 +1,13 @@
-use Rattle.std.proofs.Common.{◌∙◌, ap, arith, refl, sym, subst}
+use Rattle.std.proofs.Common.{◌∙◌, ap, arith, length, refl, sym, subst}
 use Rattle.prettyless_sink.specs.declared.options.RenderOptions.{RenderOptions}
 use Rattle.prettyless_model.specs.Layout.{State}
-use Rattle.prettyless_printer.specs.Stack.{nodes}
+use Rattle.prettyless_printer.specs.Stack.{nodes, stack_of}
 use Rattle.prettyless_printer.specs.Steps.{owed}
 use Rattle.prettyless_printer.specs.Printing.{state_of}
 use Rattle.prettyless_printer.specs.Renders.{to_end}
 use Rattle.prettyless_printer.proofs.Queues.{length_some, length_none}
 use Rattle.prettyless_printer.proofs.Renders.{Ending, finishing_begins, finishing_stopped, finishing_ends, ending_done, ending_again, ending_stopped, round_less}
+use Rattle.prettyless_printer.proofs.Visits.{rise_same, rise_then, pays_same, pays_then}
 use Rattle.prettyless_printer.proofs.run.run_to_end.Goals as goal
 
 pub rounds-init : goal.rounds-init
@@ -14,6 +15,8 @@ rounds-init g c = record {
   queue = c.requires;
   same_lender = refl;
   told = λ told. (told, finishing_begins g.N.Walk.tree c.args.printer.now (g.W.Render.written c.args.out.now), refl);
+  rise = rise_same c.args.visits.now;
+  pays = λ plain. (plain, pays_same (stack_of g.N.Walk.tree c.args.printer.now.commands.items) c.args.visits.now);
 }
 
 pub returns-in-Err-clause-told : goal.returns-in-Err-clause-told
@@ -88,6 +91,10 @@ rounds-preserved g c =
           let k = finishing_ends f whole p q (w old) (w out) (w new) e.1.0 y.1 e.1.1 e.1.2 in
           let h = c.in-Ok-flush_end.ensures.told e.0 in
           (h.0, ending_again f whole q.options q r (w old) (w new) (w last) (subst (λ (o : RenderOptions). Ending f whole o q (w old) (w new)) (sym c.in-Ok.ensures.options) k) c.in-Ok-flush_end.ensures.options some c.in-Ok-flush_end.ensures.stack c.in-Ok-flush_end.ensures.state h.1.0, h.1.1 ∙ e.1.3 ∙ y.2);
+      rise = rise_then c.rounds.invariant.rise c.work_off.ensures.rise;
+      pays = λ plain.
+          let z = c.in-Ok.ensures.pays (c.rounds.invariant.pays plain).0 in
+          absurd (omega (arith, some, ap length z.0.pending));
     }
 
 pub returns-in-Err-flush_end-clause-told : goal.returns-in-Err-flush_end-clause-told
@@ -109,3 +116,31 @@ returns-in-Err-flush_end-clause-told g c =
     let k = finishing_ends f whole p q (w old) (w out) (w new) e.1.0 y.1 e.1.1 e.1.2 in
     let h = c.in-Err-flush_end.ensures.told e.0 in
     (h.0, ending_stopped (Unit {0}) f whole p.options q (g.W.Render.document_errors last) (w old) (w new) (w last) (fails old) (fails new) (fails last) c.in-Err-flush_end.e k some (e.1.3 ∙ y.2) h.1)
+
+pub returns-in-Err-clause-rise : goal.returns-in-Err-clause-rise
+returns-in-Err-clause-rise g c = rise_then c.rounds.invariant.rise c.work_off.ensures.rise
+
+pub returns-in-Err-clause-pays : goal.returns-in-Err-clause-pays
+returns-in-Err-clause-pays g c = λ plain.
+    let y = c.rounds.invariant.pays plain in
+    pays_then y.1 (c.in-Err.ensures.pays y.0)
+
+pub returns-then-not-is_pending-clause-rise : goal.returns-then-not-is_pending-clause-rise
+returns-then-not-is_pending-clause-rise g c = rise_then c.rounds.invariant.rise c.work_off.ensures.rise
+
+pub returns-then-not-is_pending-clause-pays : goal.returns-then-not-is_pending-clause-pays
+returns-then-not-is_pending-clause-pays g c = λ plain.
+    let y = c.rounds.invariant.pays plain in
+    let z = c.in-Ok.ensures.pays y.0 in
+    (z.0, pays_then y.1 z.1)
+
+pub returns-in-Err-flush_end-clause-rise : goal.returns-in-Err-flush_end-clause-rise
+returns-in-Err-flush_end-clause-rise g c = rise_then c.rounds.invariant.rise c.work_off.ensures.rise
+
+pub returns-in-Err-flush_end-clause-pays : goal.returns-in-Err-flush_end-clause-pays
+returns-in-Err-flush_end-clause-pays g c =
+    let q = c.work_off.new.printer in
+    let some = length_some (state_of g.N.Walk.tree q).pending (sym c.is_pending.ensures ∙ c.if-not-is_pending.false) in
+    λ plain.
+    let z = c.in-Ok.ensures.pays (c.rounds.invariant.pays plain).0 in
+    absurd (omega (arith, some, ap length z.0.pending))

@@ -7,6 +7,7 @@ use Rattle.prettyless_printer.specs.Turns.{Goes}
 use Rattle.prettyless_printer.specs.declared.printer.Turn.TheVariants as turn
 use Rattle.prettyless_printer.proofs.Stacks.{length-stack_of}
 use Rattle.prettyless_printer.proofs.Working.{working_begins, working_turn, working_end, turn_broke, working_choice, choice_broke}
+use Rattle.prettyless_printer.proofs.Visits.{rise_same, rise_then, pays_same, pays_then, pays_all}
 use Rattle.prettyless_printer.proofs.run.work_off.Goals as goal
 
 pub work-init : goal.work-init
@@ -16,6 +17,8 @@ work-init g c = record {
   less = omega arith;
   same_lender = refl;
   told = λ told. (told, working_begins g.N.Walk.tree c.args.printer.now (g.W.Render.written c.args.out.now), refl);
+  rise = rise_same c.args.visits.now;
+  pays = λ plain. (plain, pays_same (stack_of g.N.Walk.tree c.args.printer.now.commands.items) c.args.visits.now);
 }
 
 pub work-preserved-in-Ok-Went : goal.work-preserved-in-Ok-Went
@@ -40,6 +43,11 @@ work-preserved-in-Ok-Went g c =
           let y = c.work.invariant.told told in
           let e = d y.0 in
           (e.0, working_turn f p v (w c.args.out.now) (w c.work.out) (λ o. Goes f o q (w new) turn.Went) c.work.invariant.options l y.1 e.1.0, e.1.1 ∙ y.2);
+      rise = rise_then c.work.invariant.rise c.turn.ensures.rise;
+      pays = λ plain.
+          let y = c.work.invariant.pays plain in
+          let z = (rw c.in-Ok-Went.field-0-is at c.in-Ok-Went.ensures.pays) y.0 in
+          (z.0, pays_then y.1 z.1);
     }
 
 pub returns-in-Ok-Failed-clause-told : goal.returns-in-Ok-Failed-clause-told
@@ -107,6 +115,12 @@ work-preserved g c =
                 (λ (o : RenderOptions) whole limit below old. Inside o whole limit below old (stack_of f r.commands.items) (state_of f r) (w c.choose.new.out)) same b k.1.0,
             k.1.1 ∙ e.1.1 ∙ y.2,
           );
+      rise = rise_then c.work.invariant.rise (rise_then c.turn.ensures.rise c.choose.ensures.rise);
+      pays = λ plain.
+          let y = c.work.invariant.pays plain in
+          let j = (rw c.in-Ok-Chosen.field-0-is at c.in-Ok-Chosen.ensures.pays) y.0 in
+          let k = c.in-Ok.ensures.pays j.0 j.1 j.2 in
+          (k.0, pays_then y.1 (pays_then j.3 k.1));
     }
 
 pub returns-in-Err-choose-clause-told : goal.returns-in-Err-choose-clause-told
@@ -143,3 +157,34 @@ returns-clause-told g c =
     let y = c.work.invariant.told told in
     let e = working_end f c.args.printer.now q (w c.args.out.now) (w c.work.out) y.1 l in
     (y.0, (e.0, e.1, e.2, y.2))
+
+pub returns-in-Err-clause-rise : goal.returns-in-Err-clause-rise
+returns-in-Err-clause-rise g c = rise_then c.work.invariant.rise c.turn.ensures.rise
+
+pub returns-in-Err-clause-pays : goal.returns-in-Err-clause-pays
+returns-in-Err-clause-pays g c = λ plain.
+    let y = c.work.invariant.pays plain in
+    pays_then y.1 (c.in-Err.ensures.pays y.0)
+
+pub returns-in-Ok-Failed-clause-rise : goal.returns-in-Ok-Failed-clause-rise
+returns-in-Ok-Failed-clause-rise g c = rise_then c.work.invariant.rise c.turn.ensures.rise
+
+pub returns-in-Ok-Failed-clause-pays : goal.returns-in-Ok-Failed-clause-pays
+returns-in-Ok-Failed-clause-pays g c = λ plain.
+    let y = c.work.invariant.pays plain in
+    pays_all (pays_then y.1 ((rw c.in-Ok-Failed.field-0-is at c.in-Ok-Failed.ensures.pays) y.0))
+
+pub returns-in-Err-choose-clause-rise : goal.returns-in-Err-choose-clause-rise
+returns-in-Err-choose-clause-rise g c = rise_then c.work.invariant.rise (rise_then c.turn.ensures.rise c.choose.ensures.rise)
+
+pub returns-in-Err-choose-clause-pays : goal.returns-in-Err-choose-clause-pays
+returns-in-Err-choose-clause-pays g c = λ plain.
+    let y = c.work.invariant.pays plain in
+    let j = (rw c.in-Ok-Chosen.field-0-is at c.in-Ok-Chosen.ensures.pays) y.0 in
+    pays_then y.1 (pays_then j.3 (c.in-Err-choose.ensures.pays j.0 j.1 j.2))
+
+pub returns-clause-rise : goal.returns-clause-rise
+returns-clause-rise g c = c.work.invariant.rise
+
+pub returns-clause-pays : goal.returns-clause-pays
+returns-clause-pays g c = c.work.invariant.pays

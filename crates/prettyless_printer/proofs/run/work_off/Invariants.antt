@@ -2,6 +2,7 @@ use Rattle.std.proofs.Common.{◌≡◌, ◌≤◌, vec_len}
 use Rattle.prettyless_printer.specs.Stack.{stack_of}
 use Rattle.prettyless_printer.specs.Steps.{work}
 use Rattle.prettyless_printer.specs.Printing.{state_of}
+use Rattle.prettyless_printer.specs.Visits.{Plain, Rise, Pays}
 use Rattle.prettyless_printer.proofs.Working.{Working}
 use Rattle.prettyless_printer.proofs.run.work_off.Given as goal
 
@@ -15,6 +16,9 @@ invariant-work g l = record {
   told : g.W.Render.tells l.fn.out → g.W.Render.tells l.out
       × Working g.N.Walk.tree l.fn.printer l.printer (g.W.Render.written l.fn.out) (g.W.Render.written l.out)
       × (g.W.Render.failures l.out ≡ g.W.Render.failures l.fn.out);
+  rise : Rise l.fn.visits l.visits;
+  pays : Plain g.N.Walk.tree l.fn.printer → Plain g.N.Walk.tree l.printer
+      × Pays (stack_of g.N.Walk.tree l.fn.printer.commands.items) (stack_of g.N.Walk.tree l.printer.commands.items) l.fn.visits l.visits;
 }
 
 abbrev pub decreases-work : goal.decreases-work

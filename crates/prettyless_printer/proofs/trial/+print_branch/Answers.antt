@@ -1,9 +1,10 @@
-use Rattle.std.proofs.Common.{◌≡◌, ◌<◌, ◌≤◌, ◌∙◌, ℕ, [], length, take, refl, sym, ap, append-nil, arith, subst, Bool, true, false}
+use Rattle.std.proofs.Common.{◌≡◌, ◌<◌, ◌≤◌, ◌∷◌, ◌∙◌, ℕ, [], length, take, refl, sym, ap, append-nil, arith, subst, Bool, true, false}
 use Rattle.std.specs.String.{string_bytes}
 use Rattle.prettyless_sink.specs.declared.options.RenderOptions.{RenderOptions}
 use Rattle.prettyless_model.specs.Column.{padding_fits}
 use Rattle.prettyless_model.specs.Layout.{some_pending}
-use Rattle.prettyless_printer.specs.Stack.{stack_of}
+use Rattle.prettyless_model.specs.declared.mode.Mode.TheVariants.{Break}
+use Rattle.prettyless_printer.specs.Stack.{make_task, stack_of}
 use Rattle.prettyless_printer.specs.Printing.{state_of}
 use Rattle.prettyless_printer.specs.Trials.{TrialDid}
 use Rattle.prettyless_printer.specs.Turns.{Goes}
@@ -13,6 +14,7 @@ use Rattle.prettyless_printer.proofs.Stacks.{length-stack_of}
 use Rattle.prettyless_printer.proofs.Progresses.{inside_past}
 use Rattle.prettyless_printer.proofs.Within.{Past, accept_past}
 use Rattle.prettyless_printer.proofs.Trying.{Trying, trial_of, limit_of, trying_begins, trying_turn, trial_ends, trial_rejected, padding_rejects, trial_kept, grows-grows, choice_kept, choice_other, cut_back, length-string_bytes}
+use Rattle.prettyless_printer.proofs.Visits.{plain_at, plain_push, rise_same, rise_then, pays_same, pays_then, pays_cut, pays_all, pays_at, pays_first, pays_besides, run_broke}
 use Rattle.prettyless_printer.proofs.trial.+print_branch.Goals as goal
 
 pub work-init : goal.work-init
@@ -26,6 +28,12 @@ work-init g t c =
       within = refl;
       queue = c.requires;
       grows = ([], sym (append-nil p.queue.items));
+      rise = rise_same c.args.visits.now;
+      pays = λ plain none. (
+        plain_push f p q (make_task c.args.indent Break (f c.args.branch)) c.in_ok-push_node.ensures refl none plain,
+        pays_at (stack_of f q.commands.items) c.in_ok-push_node.ensures
+            (pays_same (make_task c.args.indent Break (f c.args.branch) ∷ stack_of f p.commands.items) c.args.visits.now),
+      );
     }
 
 pub take_back-requires : goal.take_back-requires
@@ -131,6 +139,11 @@ work-preserved-else-not-printer g t c =
       within = c.if-not-printer.false;
       queue = c.turn.ensures.queue;
       grows = grows-grows p v q c.work.invariant.grows c.in-Ok-Went.ensures.grows;
+      rise = rise_then c.work.invariant.rise c.turn.ensures.rise;
+      pays = λ plain none.
+          let y = c.work.invariant.pays plain none in
+          let z = (rw c.in-Ok-Went.field-0-is at c.in-Ok-Went.ensures.pays) y.0 in
+          (z.0, pays_then y.1 z.1);
     }
 
 pub print_branch-requires : goal.print_branch-requires
@@ -181,6 +194,12 @@ work-preserved g t c =
       within = n.3 ∙ (rw c.in-Ok-Chosen.field-0-is at c.in-Ok-Chosen.ensures.lessens).1 ∙ c.work.invariant.within;
       queue = c.print_branch.ensures.queue;
       grows = grows-grows p q r (grows-grows p v q c.work.invariant.grows c.in-Ok-Chosen.ensures.grows) n.2;
+      rise = rise_then c.work.invariant.rise (rise_then c.turn.ensures.rise c.print_branch.ensures.rise);
+      pays = λ plain none.
+          let w = c.work.invariant.pays plain none in
+          let j = (rw c.in-Ok-Chosen.field-0-is at c.in-Ok-Chosen.ensures.pays) w.0 in
+          let h = c.in_ok-print_branch-in-Ok-Chosen.ensures.pays j.0 j.1 in
+          (h.0, pays_then w.1 (pays_then j.3 (pays_first (make_task c.in-Ok-Chosen.i Break x) (make_task c.in-Ok-Chosen.i Break y) h.1)));
     }
 
 pub work-preserved-in_ok-push_node-in-Ok-Chosen : goal.work-preserved-in_ok-push_node-in-Ok-Chosen
@@ -213,6 +232,16 @@ work-preserved-in_ok-push_node-in-Ok-Chosen g t c =
       within = n.3 ∙ (rw c.in-Ok-Chosen.field-0-is at c.in-Ok-Chosen.ensures.lessens).1 ∙ c.work.invariant.within;
       queue = c.print_branch.ensures.queue;
       grows = grows-grows p q r (grows-grows p v q c.work.invariant.grows c.in-Ok-Chosen.ensures.grows) n.2;
+      rise = rise_then c.work.invariant.rise (rise_then c.turn.ensures.rise c.print_branch.ensures.rise);
+      pays = λ plain none.
+          let w = c.work.invariant.pays plain none in
+          let j = (rw c.in-Ok-Chosen.field-0-is at c.in-Ok-Chosen.ensures.pays) w.0 in
+          let h = c.in_ok-print_branch-in-Ok-Chosen.ensures.pays j.0 j.1 in
+          let pushed = c.in_ok-push_node-in-Ok-Chosen.ensures in (
+            plain_push f r u (make_task c.in-Ok-Chosen.i Break y) pushed refl j.2 h.0,
+            pays_at (stack_of f u.commands.items) pushed
+                (pays_then w.1 (pays_then j.3 (pays_besides (make_task c.in-Ok-Chosen.i Break x) (make_task c.in-Ok-Chosen.i Break y) h.1))),
+          );
     }
 
 pub take_back-requires-then-not-padding_fits : goal.take_back-requires-then-not-padding_fits
@@ -260,3 +289,120 @@ returns-clause-decided g t c =
     ∙ ap (λ (x : Bool). padding_fits v.options.width x v.column) (sym c.is_pending.ensures) ∙ sym c.padding_fits.ensures ∙ c.if-not-padding_fits.false in
     trial_kept f p v r i d old out c.work.invariant.trying l c.work.invariant.within fits refl
     (ap (λ (x : _). record { column = v.column; pending = (state_of f v).pending; within = x }) (ap (λ (x : Mark). x.within) m)) c.work.invariant.options c.work.invariant.grows
+
+pub returns-in-Err-clause-rise : goal.returns-in-Err-clause-rise
+returns-in-Err-clause-rise g t c = rise_then c.work.invariant.rise c.turn.ensures.rise
+
+pub returns-in-Err-clause-pays : goal.returns-in-Err-clause-pays
+returns-in-Err-clause-pays g t c = λ plain none.
+    let y = c.work.invariant.pays plain none in
+    pays_then y.1 (c.in-Err.ensures.pays y.0)
+
+pub returns-in-Ok-Failed-clause-rise : goal.returns-in-Ok-Failed-clause-rise
+returns-in-Ok-Failed-clause-rise g t c = rise_then c.work.invariant.rise c.turn.ensures.rise
+
+pub returns-in-Ok-Failed-clause-pays : goal.returns-in-Ok-Failed-clause-pays
+returns-in-Ok-Failed-clause-pays g t c =
+    let f = g.N.Walk.tree in
+    let p = c.args.printer.now in
+    let d = f c.args.branch in
+    let i = c.args.indent in
+    let v = c.work.printer in
+    let old = string_bytes c.args.buffer.now.text in
+    let out = string_bytes c.work.buffer.text in
+    let m = c.mark_of-mark.ensures in
+    let q = c.turn.new.printer in
+    let new = string_bytes c.turn.new.out.text in
+    let l : length (stack_of f p.commands.items) < length (stack_of f v.commands.items) =
+    omega (arith, length-stack_of f p.commands.items, length-stack_of f v.commands.items, p.commands.ok.0, v.commands.ok.0, ap (λ (x : Mark). x.commands) m, c.work-test.true, c.len.ensures) in
+    let t' = rw c.in-Ok-Failed.field-0-is at c.in-Ok-Failed.ensures.told in
+    let e = trying_turn f p v i d old out (λ o. Goes f o q new turn.Failed) c.work.invariant.options l c.work.invariant.trying (t' tt).1.0 in
+    let r = c.take_back.new.printer in
+    let back : TrialDid f p r i d old (string_bytes c.take_back.new.buffer.text) false = returns-in-Ok-Failed-clause-decided g t c in
+    λ plain none.
+    let y = c.work.invariant.pays plain none in
+    let z = (rw c.in-Ok-Failed.field-0-is at c.in-Ok-Failed.ensures.pays) y.0 in
+    (plain_at f p r back.0 back.5.1 plain, pays_cut e.1 (stack_of f p.commands.items) (stack_of f r.commands.items) e.4 back.0 (pays_then y.1 z))
+
+pub returns-then-not-printer-clause-rise : goal.returns-then-not-printer-clause-rise
+returns-then-not-printer-clause-rise g t c = rise_then c.work.invariant.rise c.turn.ensures.rise
+
+pub returns-then-not-printer-clause-pays : goal.returns-then-not-printer-clause-pays
+returns-then-not-printer-clause-pays g t c =
+    let f = g.N.Walk.tree in
+    let p = c.args.printer.now in
+    let d = f c.args.branch in
+    let i = c.args.indent in
+    let v = c.work.printer in
+    let old = string_bytes c.args.buffer.now.text in
+    let out = string_bytes c.work.buffer.text in
+    let m = c.mark_of-mark.ensures in
+    let q = c.turn.new.printer in
+    let new = string_bytes c.turn.new.out.text in
+    let l : length (stack_of f p.commands.items) < length (stack_of f v.commands.items) =
+    omega (arith, length-stack_of f p.commands.items, length-stack_of f v.commands.items, p.commands.ok.0, v.commands.ok.0, ap (λ (x : Mark). x.commands) m, c.work-test.true, c.len.ensures) in
+    let t' = rw c.in-Ok-Went.field-0-is at c.in-Ok-Went.ensures.told in
+    let e = trying_turn f p v i d old out (λ o. Goes f o q new turn.Went) c.work.invariant.options l c.work.invariant.trying (t' tt).1.0 in
+    let r = c.take_back-then-not-printer.new.printer in
+    let back : TrialDid f p r i d old (string_bytes c.take_back-then-not-printer.new.buffer.text) false = returns-then-not-printer-clause-decided g t c in
+    λ plain none.
+    let y = c.work.invariant.pays plain none in
+    let z = (rw c.in-Ok-Went.field-0-is at c.in-Ok-Went.ensures.pays) y.0 in
+    (plain_at f p r back.0 back.5.1 plain, pays_cut e.above (stack_of f p.commands.items) (stack_of f r.commands.items) e.stack_is back.0 (pays_then y.1 z.1))
+
+pub returns-in_err-print_branch-in-Ok-Chosen-clause-rise : goal.returns-in_err-print_branch-in-Ok-Chosen-clause-rise
+returns-in_err-print_branch-in-Ok-Chosen-clause-rise g t c = rise_then c.work.invariant.rise (rise_then c.turn.ensures.rise c.print_branch.ensures.rise)
+
+pub returns-in_err-print_branch-in-Ok-Chosen-clause-pays :
+    goal.returns-in_err-print_branch-in-Ok-Chosen-clause-pays
+returns-in_err-print_branch-in-Ok-Chosen-clause-pays g t c =
+    let f = g.N.Walk.tree in
+    let one = make_task c.in-Ok-Chosen.i Break (f c.in-Ok-Chosen.first) in
+    let two = make_task c.in-Ok-Chosen.i Break (f c.in-Ok-Chosen.second) in
+    λ plain none.
+    let y = c.work.invariant.pays plain none in
+    let j = (rw c.in-Ok-Chosen.field-0-is at c.in-Ok-Chosen.ensures.pays) y.0 in
+    run_broke f (make_task c.args.indent Break (f c.args.branch) ∷ stack_of f c.args.printer.now.commands.items) c.print_branch.new.printer c.args.visits.now c.print_branch.new.visits
+    c.from_residual-in_err-print_branch-in-Ok-Chosen.result c.from_residual-in_err-print_branch-in-Ok-Chosen.ensures.0
+    (pays_then y.1 (pays_then j.3 (pays_first one two (c.in_err-print_branch-in-Ok-Chosen.ensures.pays j.0 j.1))))
+
+pub returns-in_err-push_node-in-Ok-Chosen-clause-rise : goal.returns-in_err-push_node-in-Ok-Chosen-clause-rise
+returns-in_err-push_node-in-Ok-Chosen-clause-rise g t c = rise_then c.work.invariant.rise (rise_then c.turn.ensures.rise c.print_branch.ensures.rise)
+
+pub returns-in_err-push_node-in-Ok-Chosen-clause-pays :
+    goal.returns-in_err-push_node-in-Ok-Chosen-clause-pays
+returns-in_err-push_node-in-Ok-Chosen-clause-pays g t c =
+    let f = g.N.Walk.tree in
+    let one = make_task c.in-Ok-Chosen.i Break (f c.in-Ok-Chosen.first) in
+    let two = make_task c.in-Ok-Chosen.i Break (f c.in-Ok-Chosen.second) in
+    let q = record c.print_branch.new.printer { commands = c.push_node-then-not-branch.new.stack } in
+    λ plain none.
+    let y = c.work.invariant.pays plain none in
+    let j = (rw c.in-Ok-Chosen.field-0-is at c.in-Ok-Chosen.ensures.pays) y.0 in
+    let h = c.in_ok-print_branch-in-Ok-Chosen.ensures.pays j.0 j.1 in
+    run_broke f (make_task c.args.indent Break (f c.args.branch) ∷ stack_of f c.args.printer.now.commands.items) q c.args.visits.now c.print_branch.new.visits
+    c.from_residual-in_err-push_node-in-Ok-Chosen.result c.from_residual-in_err-push_node-in-Ok-Chosen.ensures.0
+    (pays_all (pays_then y.1 (pays_then j.3 (pays_first one two h.1))))
+
+pub returns-then-not-padding_fits-clause-rise : goal.returns-then-not-padding_fits-clause-rise
+returns-then-not-padding_fits-clause-rise g t c = c.work.invariant.rise
+
+pub returns-then-not-padding_fits-clause-pays : goal.returns-then-not-padding_fits-clause-pays
+returns-then-not-padding_fits-clause-pays g t c =
+    let f = g.N.Walk.tree in
+    let p = c.args.printer.now in
+    let r = c.take_back-then-not-padding_fits.new.printer in
+    let trying = c.work.invariant.trying in
+    let back : TrialDid f p r c.args.indent (f c.args.branch) (string_bytes c.args.buffer.now.text) (string_bytes c.take_back-then-not-padding_fits.new.buffer.text) false
+    = returns-then-not-padding_fits-clause-decided g t c in
+    λ plain none.
+    let y = c.work.invariant.pays plain none in
+    (plain_at f p r back.0 back.5.1 plain, pays_cut trying.above (stack_of f p.commands.items) (stack_of f r.commands.items) trying.stack_is back.0 y.1)
+
+pub returns-clause-rise : goal.returns-clause-rise
+returns-clause-rise g t c = c.work.invariant.rise
+
+pub returns-clause-pays : goal.returns-clause-pays
+returns-clause-pays g t c = λ plain none.
+    let y = c.work.invariant.pays plain none in
+    (record { none = y.0.none; pending = y.0.pending }, y.1)

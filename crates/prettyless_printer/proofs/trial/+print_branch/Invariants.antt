@@ -1,8 +1,11 @@
-use Rattle.std.proofs.Common.{◌≡◌, ◌+◌, ◌*◌, ◌≤◌, true, vec_len, string_bytes}
+use Rattle.std.proofs.Common.{◌≡◌, ◌+◌, ◌*◌, ◌≤◌, ◌∷◌, true, vec_len, string_bytes}
 use Rattle.prettyless_model.specs.Tree.{size}
-use Rattle.prettyless_printer.specs.Stack.{stack_of}
+use Rattle.prettyless_model.specs.Content.{suffix_depth}
+use Rattle.prettyless_model.specs.declared.mode.Mode.TheVariants.{Break}
+use Rattle.prettyless_printer.specs.Stack.{make_task, stack_of}
 use Rattle.prettyless_printer.specs.Steps.{owed, work}
 use Rattle.prettyless_printer.specs.Printing.{state_of, Grows}
+use Rattle.prettyless_printer.specs.Visits.{Plain, Rise, Pays}
 use Rattle.prettyless_printer.proofs.Trying.{Trying}
 use Rattle.prettyless_printer.proofs.trial.+print_branch.Given as goal
 
@@ -16,6 +19,10 @@ invariant-work g l = record {
   within : l.printer.within ≡ true;
   queue : l.printer.start ≤ vec_len l.printer.queue;
   grows : Grows l.fn.printer l.printer;
+  rise : Rise l.fn.visits l.visits;
+  pays : Plain g.N.Walk.tree l.fn.printer → suffix_depth (g.N.Walk.tree l.fn.branch) ≡ 0 → Plain g.N.Walk.tree l.printer
+      × Pays (make_task l.fn.indent Break (g.N.Walk.tree l.fn.branch) ∷ stack_of g.N.Walk.tree l.fn.printer.commands.items)
+      (stack_of g.N.Walk.tree l.printer.commands.items) l.fn.visits l.visits;
 }
 
 abbrev pub decreases-work : goal.decreases-work

@@ -1,8 +1,11 @@
 use Rattle.std.proofs.Common.{length, ap, arith, refl, subst}
+use Rattle.prettyless_sink.specs.declared.visits.Visits.{Visits}
+use Rattle.prettyless_printer.specs.Stack.{stack_of, task}
 use Rattle.prettyless_printer.specs.Printing.{TookNext}
 use Rattle.prettyless_printer.proofs.Stacks.{length-stack_of}
 use Rattle.prettyless_printer.proofs.Shown.{took}
 use Rattle.prettyless_printer.proofs.Turnings.{went, lessens, failed, chosen, choice_lessens, sink_broke}
+use Rattle.prettyless_printer.proofs.Visits.{OneMore, went_pays, failed_pays, chosen_pays, broke_pays}
 use Rattle.prettyless_printer.proofs.turn.turn.Goals as goal
 
 pub unreachable-requires : goal.unreachable-requires
@@ -120,3 +123,57 @@ returns-in-Err-write_piece-clause-told g c =
     λ told.
     let e = c.in-Err-write_piece.ensures.err told in
     (e.0, (sink_broke f p q (g.W.Render.written c.args.out.now) (g.W.Render.written c.write_piece.new.out) c.in-Ok-Written.piece h e.1, e.2))
+
+pub returns-in-Ok-Chosen-clause-pays : goal.returns-in-Ok-Chosen-clause-pays
+returns-in-Ok-Chosen-clause-pays g c =
+    let f = g.N.Walk.tree in
+    let p = c.args.printer.now in
+    let q = c.step.new.printer in
+    let rest = stack_of f c.pop_command.new.stack.items in
+    let w : Visits = record { printer = c.one_more-visits.result; probes = c.step.new.probes } in
+    let k = took f p (record p { commands = c.pop_command.new.stack }) q c.in-Some.command c.in-Ok-Chosen.field-0 c.in-Some.ensures refl refl refl c.in-Ok-Chosen.ensures.step in
+    let h = subst (TookNext f p q) c.in-Ok-Chosen.field-0-is k in
+    let more : OneMore f p (task f c.in-Some.command) rest c.args.visits.now w = record { stack_is = c.in-Some.ensures; printer = c.one_more-visits.ensures.at_most; probes = c.step.ensures.counted } in
+    chosen_pays f p q c.in-Ok-Chosen.indent c.in-Ok-Chosen.first c.in-Ok-Chosen.second c.args.visits.now w (task f c.in-Some.command) rest more h
+
+pub returns-in-Ok-clause-pays : goal.returns-in-Ok-clause-pays
+returns-in-Ok-clause-pays g c =
+    let f = g.N.Walk.tree in
+    let p = c.args.printer.now in
+    let q = c.step.new.printer in
+    let rest = stack_of f c.pop_command.new.stack.items in
+    let w : Visits = record { printer = c.one_more-visits.result; probes = c.step.new.probes } in
+    let k = took f p (record p { commands = c.pop_command.new.stack }) q c.in-Some.command c.in-Ok-Written.field-0 c.in-Some.ensures refl refl refl c.in-Ok-Written.ensures.step in
+    let h = subst (TookNext f p q) c.in-Ok-Written.field-0-is k in
+    let more : OneMore f p (task f c.in-Some.command) rest c.args.visits.now w = record { stack_is = c.in-Some.ensures; printer = c.one_more-visits.ensures.at_most; probes = c.step.ensures.counted } in
+    went_pays f p q c.in-Ok-Written.piece c.args.visits.now w (task f c.in-Some.command) rest more h
+
+pub returns-in-Ok-Failed-clause-pays : goal.returns-in-Ok-Failed-clause-pays
+returns-in-Ok-Failed-clause-pays g c =
+    let f = g.N.Walk.tree in
+    let p = c.args.printer.now in
+    let q = c.step.new.printer in
+    let rest = stack_of f c.pop_command.new.stack.items in
+    let w : Visits = record { printer = c.one_more-visits.result; probes = c.step.new.probes } in
+    let k = took f p (record p { commands = c.pop_command.new.stack }) q c.in-Some.command c.in-Ok-Failed.field-0 c.in-Some.ensures refl refl refl c.in-Ok-Failed.ensures.step in
+    let h = subst (TookNext f p q) c.in-Ok-Failed.field-0-is k in
+    let more : OneMore f p (task f c.in-Some.command) rest c.args.visits.now w = record { stack_is = c.in-Some.ensures; printer = c.one_more-visits.ensures.at_most; probes = c.step.ensures.counted } in
+    λ _. failed_pays f p q c.args.visits.now w (task f c.in-Some.command) rest more h
+
+pub returns-in-Err-clause-pays : goal.returns-in-Err-clause-pays
+returns-in-Err-clause-pays g c =
+    let f = g.N.Walk.tree in
+    let p = c.args.printer.now in
+    let rest = stack_of f c.pop_command.new.stack.items in
+    let w : Visits = record { printer = c.one_more-visits.result; probes = c.step.new.probes } in
+    let more : OneMore f p (task f c.in-Some.command) rest c.args.visits.now w = record { stack_is = c.in-Some.ensures; printer = c.one_more-visits.ensures.at_most; probes = c.step.ensures.counted } in
+    λ _. broke_pays f p c.args.visits.now w (task f c.in-Some.command) rest more
+
+pub returns-in-Err-write_piece-clause-pays : goal.returns-in-Err-write_piece-clause-pays
+returns-in-Err-write_piece-clause-pays g c =
+    let f = g.N.Walk.tree in
+    let p = c.args.printer.now in
+    let rest = stack_of f c.pop_command.new.stack.items in
+    let w : Visits = record { printer = c.one_more-visits.result; probes = c.step.new.probes } in
+    let more : OneMore f p (task f c.in-Some.command) rest c.args.visits.now w = record { stack_is = c.in-Some.ensures; printer = c.one_more-visits.ensures.at_most; probes = c.step.ensures.counted } in
+    λ _. broke_pays f p c.args.visits.now w (task f c.in-Some.command) rest more

@@ -1,0 +1,22 @@
+//! How many nodes a render takes up.
+ghost use Rattle.std.specs.Prelude.{◌≡◌, ◌+◌, ◌≤◌};
+ghost use Rattle.prettyless_sink.specs.Sink.{rise};
+
+/// How many nodes were taken up. Each count stops at the greatest `u64`.
+#[derive(Clone, Copy, Debug, Default)]
+pub struct Visits {
+    /// By the printer: to be laid, also in a trial that was not kept.
+    pub printer: u64,
+    /// By probes: to be read.
+    pub probes: u64,
+}
+
+/// One visit more, in a count that stays at its greatest value.
+#[inline]
+pub fn one_more(count: u64) -> u64
+    ensures one { result ≡ rise count }
+    ensures rises { count ≤ result }
+    ensures at_most { result ≤ count + 1 }
+{
+    count.saturating_add(1)
+}
