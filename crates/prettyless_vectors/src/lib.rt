@@ -34,6 +34,8 @@ mod sinks;
 #[cfg(test)]
 mod suffixes;
 #[cfg(test)]
+mod visits;
+#[cfg(test)]
 mod ways;
 #[cfg(test)]
 mod weak;

@@ -1,0 +1,51 @@
+//! How many nodes a render takes up.
+use crate::reader::read;
+use prettyless::{BoxAllocator, DocPtr, FmtWrite, RenderError, RenderOptions, Visits};
+use std::alloc::Global;
+use std::test::Fail;
+
+// A width, a document as the reader takes it, and the visits of the printer and of its probes.
+type Case<'a> = (usize, &'a str, u64, u64);
+
+const PAIR: &str = "Group Append Append Text 'a' BreakOrFlat HardLine Text ' ' Text 'b'";
+
+const LINES: &str = "Union Append Append Text 'short' HardLine Text 'long long long' \
+                     Append Append Text 'short' HardLine Text 'short'";
+
+const CASES: [Case<'static>; 7] = [
+    // A group asks one probe, which ends at the first text past the width.
+    (80, PAIR, 7, 6),
+    (2, PAIR, 7, 6),
+    (1, PAIR, 7, 5),
+    (0, PAIR, 7, 3),
+    // A rejected branch is taken up once, and so is the second.
+    (10, LINES, 11, 0),
+    (80, "Nil", 1, 0),
+    (80, "Fail", 1, 0),
+];
+
+fn visits(memory: Global, width: usize, written: &str) -> Result<Visits, Fail> {
+    let boxes = BoxAllocator::new(memory);
+    let document = read(&boxes, written)?;
+    let mut out = String::new(memory);
+    let mut sink = FmtWrite::new(&mut out);
+    let mut visits = Visits::default();
+    let options = RenderOptions::new(width);
+    match document
+        .doc()
+        .render_raw_counted_with(memory, options, &mut sink, &mut visits)
+    {
+        Ok(()) | Err(RenderError::Document(_)) => Ok(visits),
+        Err(_) => Err(Fail::new("no memory")),
+    }
+}
+
+#[test]
+fn nodes_are_counted(rt: HostRuntime) -> Result<(), Fail> {
+    for (width, written, printer, probes) in CASES {
+        let visits = visits(rt.alloc(), width, written)?;
+        assert_eq!(rt; visits.printer, printer, "{written} at {width}");
+        assert_eq!(rt; visits.probes, probes, "{written} at {width}");
+    }
+    Ok(())
+}
