@@ -9,6 +9,7 @@ pub use Rattle.prettyless_doc.specs.Payload
 pub use Rattle.prettyless_doc.specs.TextBytes
 pub use Rattle.prettyless_doc.specs.Tree
 pub use Rattle.prettyless_model.specs.Column
+pub use Rattle.prettyless_model.specs.Content
 pub use Rattle.prettyless_model.specs.Layout
 pub use Rattle.prettyless_model.specs.Metrics
 pub use Rattle.prettyless_model.specs.Reading
