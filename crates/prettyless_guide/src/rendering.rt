@@ -1,7 +1,10 @@
-//! Options, documents that fail, and what a document shows of itself.
+//! Options, documents that fail, what a document shows of itself, and what a render takes up.
 use crate::layouts::compare_with;
 use prettyless::prelude::*;
-use prettyless::{BoxAllocator, DocPtr, IndentationPolicy, LineEnding, RenderError, RenderOptions};
+use prettyless::{
+    BoxAllocator, DocPtr, FmtWrite, IndentationPolicy, LineEnding, RenderError, RenderOptions,
+    Visits,
+};
 use std::process::Abort;
 use std::test::Fail;
 
@@ -43,10 +46,35 @@ fn documents_show_their_nodes<'a, D: DocPlace<'a>>(
     Ok(())
 }
 
+fn visits_at<'a, D: DocPlace<'a>>(place: &'a D, width: usize) -> Result<Visits, Fail> {
+    let pair = place
+        .pretty(group(("first", line_or_space(), "second")))?
+        .into_doc()?;
+    let mut out = String::new(place.memory());
+    let mut visits = Visits::default();
+    pair.doc().render_raw_counted_with(
+        place.memory(),
+        RenderOptions::new(width),
+        &mut FmtWrite::new(&mut out),
+        &mut visits,
+    )?;
+    Ok(visits)
+}
+
+fn visits_are_counted<'a, D: DocPlace<'a>>(rt: &impl Abort, place: &'a D) -> Result<(), Fail> {
+    for (width, probes) in [(80, 6), (11, 6), (4, 3)] {
+        let visits = visits_at(place, width)?;
+        assert_eq!(rt; visits.printer, 7);
+        assert_eq!(rt; visits.probes, probes);
+    }
+    Ok(())
+}
+
 fn all<'a, D: DocPlace<'a>>(rt: &impl Abort, place: &'a D) -> Result<(), Fail> {
     options_choose_line_ends_and_indents(rt, place)?;
     failures_stop_a_render(rt, place)?;
-    documents_show_their_nodes(rt, place)
+    documents_show_their_nodes(rt, place)?;
+    visits_are_counted(rt, place)
 }
 
 #[test]
