@@ -29,11 +29,33 @@ fn of_builders<'a>(rt: &impl Abort, boxes: &'a BoxAllocator) -> Result<(), Fail>
     shows(rt, comma, "FlatOrBreak(\",\", HardLine)")
 }
 
-fn of_tuples<'a>(rt: &impl Abort, boxes: &'a BoxAllocator) -> Result<(), Fail> {
-    let list = boxes.pretty(("a", Some(boxes.space()?), Doc::HardLine));
-    shows(rt, list, "[\"a\", \" \", HardLine]")?;
-    let grouped = boxes.pretty(group((boxes.hard_line()?, "a")));
-    shows(rt, grouped, "Group([HardLine, \"a\"])")
+fn in_options<'a, D: DocPlace<'a>, P: Pretty<'a, D>>(
+    rt: &impl Abort,
+    place: &'a D,
+    line: P,
+) -> Result<(), Fail> {
+    becomes(rt, place, Some(line), "HardLine")
+}
+
+fn in_tuples<'a, D: DocPlace<'a>, P: Pretty<'a, D>>(
+    rt: &impl Abort,
+    place: &'a D,
+    line: P,
+) -> Result<(), Fail> {
+    becomes(
+        rt,
+        place,
+        (weak_line(), line, fail()),
+        "[WeakLine, HardLine, Fail]",
+    )
+}
+
+fn in_groups<'a, D: DocPlace<'a>, P: Pretty<'a, D>>(
+    rt: &impl Abort,
+    place: &'a D,
+    line: P,
+) -> Result<(), Fail> {
+    becomes(rt, place, group((line, fail())), "Group([HardLine, Fail])")
 }
 
 fn of_macros<'a>(rt: &impl Abort, boxes: &'a BoxAllocator) -> Result<(), Fail> {
@@ -56,7 +78,9 @@ fn operands(rt: HostRuntime) -> Result<(), Fail> {
     of_allocators(&rt, &boxes)?;
     as_values(&rt, &boxes)?;
     of_builders(&rt, &boxes)?;
-    of_tuples(&rt, &boxes)?;
+    in_options(&rt, &boxes, boxes.hard_line()?)?;
+    in_tuples(&rt, &boxes, boxes.hard_line()?)?;
+    in_groups(&rt, &boxes, boxes.hard_line()?)?;
     of_macros(&rt, &boxes)
 }
 

@@ -29,8 +29,7 @@ pub(crate) fn lent<'a, D: DocPlace<'a>>(rt: &impl Abort, place: &'a D) -> Result
 
 pub(crate) fn options<'a, D: DocPlace<'a>>(rt: &impl Abort, place: &'a D) -> Result<(), Fail> {
     becomes(rt, place, Some("a"), "\"a\"")?;
-    becomes(rt, place, None::<&'a str>, "Nil")?;
-    becomes(rt, place, Doc::HardLine, "HardLine")
+    becomes(rt, place, None::<&'a str>, "Nil")
 }
 
 pub(crate) fn several<'a, D: DocPlace<'a>>(rt: &impl Abort, place: &'a D) -> Result<(), Fail> {
