@@ -1,7 +1,6 @@
 //! Documents of all forms as operands, in boxes.
-use crate::expected::{becomes, compare, shows};
+use crate::expected::{becomes, shows};
 use prettyless::prelude::*;
-use prettyless::text::Text;
 use prettyless::{BoxAllocator, BoxDoc, BuildDoc, Doc, docs};
 use std::process::Abort;
 use std::test::Fail;
@@ -20,13 +19,48 @@ fn as_values<'a>(rt: &impl Abort, boxes: &'a BoxAllocator) -> Result<(), Fail> {
     becomes(rt, boxes, boxes.alloc(Doc::HardLine)?, "HardLine")
 }
 
-fn of_builders<'a>(rt: &impl Abort, boxes: &'a BoxAllocator) -> Result<(), Fail> {
-    let both = boxes.space()?.append(boxes.hard_line()?);
-    shows(rt, both, "[\" \", HardLine]")?;
-    let sum = boxes.space()? + BuildDoc::Doc(Doc::HardLine);
-    shows(rt, sum, "[\" \", HardLine]")?;
-    let comma = boxes.hard_line()?.flat_alt(Doc::Text(Text::Borrowed(",")));
-    shows(rt, comma, "FlatOrBreak(\",\", HardLine)")
+fn in_sums<'a, D: DocPlace<'a>, P: Pretty<'a, D>>(
+    rt: &impl Abort,
+    place: &'a D,
+    line: P,
+) -> Result<(), Fail> {
+    shows(
+        rt,
+        DocBuilder::new(place, Doc::Fail).append(line),
+        "[Fail, HardLine]",
+    )
+}
+
+fn in_additions<'a, D: DocPlace<'a>, P: Pretty<'a, D>>(
+    rt: &impl Abort,
+    place: &'a D,
+    line: P,
+) -> Result<(), Fail> {
+    shows(
+        rt,
+        DocBuilder::new(place, Doc::Fail) + line,
+        "[Fail, HardLine]",
+    )
+}
+
+fn in_alternatives<'a, D: DocPlace<'a>, P: Pretty<'a, D>>(
+    rt: &impl Abort,
+    place: &'a D,
+    line: P,
+) -> Result<(), Fail> {
+    shows(
+        rt,
+        DocBuilder::new(place, Doc::Fail).flat_alt(line),
+        "FlatOrBreak(HardLine, Fail)",
+    )
+}
+
+fn in_macros<'a, D: DocPlace<'a>, P: Pretty<'a, D>>(
+    rt: &impl Abort,
+    place: &'a D,
+    line: P,
+) -> Result<(), Fail> {
+    shows(rt, docs![place, line, fail()], "[HardLine, Fail]")
 }
 
 fn in_options<'a, D: DocPlace<'a>, P: Pretty<'a, D>>(
@@ -58,18 +92,17 @@ fn in_groups<'a, D: DocPlace<'a>, P: Pretty<'a, D>>(
     becomes(rt, place, group((line, fail())), "Group([HardLine, Fail])")
 }
 
-fn of_macros<'a>(rt: &impl Abort, boxes: &'a BoxAllocator) -> Result<(), Fail> {
-    let statement = docs![
-        boxes,
-        "let",
-        boxes.softline()?,
-        "x",
-        boxes.softline()?,
-        "=",
-        boxes.softline()?,
-        Some("123"),
-    ];
-    compare(rt, statement, &[(80, "let x = 123")])
+fn of_builders<'a>(rt: &impl Abort, boxes: &'a BoxAllocator) -> Result<(), Fail> {
+    in_sums(rt, boxes, boxes.hard_line()?)?;
+    in_additions(rt, boxes, boxes.hard_line()?)?;
+    in_alternatives(rt, boxes, boxes.hard_line()?)?;
+    in_macros(rt, boxes, boxes.hard_line()?)
+}
+
+fn of_values<'a>(rt: &impl Abort, boxes: &'a BoxAllocator) -> Result<(), Fail> {
+    in_options(rt, boxes, boxes.hard_line()?)?;
+    in_tuples(rt, boxes, boxes.hard_line()?)?;
+    in_groups(rt, boxes, boxes.hard_line()?)
 }
 
 #[test]
@@ -78,10 +111,7 @@ fn operands(rt: HostRuntime) -> Result<(), Fail> {
     of_allocators(&rt, &boxes)?;
     as_values(&rt, &boxes)?;
     of_builders(&rt, &boxes)?;
-    in_options(&rt, &boxes, boxes.hard_line()?)?;
-    in_tuples(&rt, &boxes, boxes.hard_line()?)?;
-    in_groups(&rt, &boxes, boxes.hard_line()?)?;
-    of_macros(&rt, &boxes)
+    of_values(&rt, &boxes)
 }
 
 fn places<'a>(

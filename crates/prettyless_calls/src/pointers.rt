@@ -1,11 +1,9 @@
 //! The constructors of pointers, what outlives its owner, and what only one of the pointers has.
-use crate::expected::{points, rendered, shows};
+use crate::expected::{becomes, points, rendered};
 use bumpalo::Bump;
 use prettyless::prelude::*;
 use prettyless::text::{BuildError, CowStr};
-use prettyless::{
-    Arena, BoxAllocator, BoxDoc, BuildDoc, Doc, DocPtr, IntoRef, RcAllocator, RcDoc, RefDoc,
-};
+use prettyless::{Arena, BoxDoc, BuildDoc, Doc, DocPtr, IntoRef, RcAllocator, RcDoc};
 use std::alloc::Global;
 use std::fmt;
 use std::process::Abort;
@@ -135,41 +133,40 @@ fn counted_nodes_are_cloned(rt: HostRuntime) -> Result<(), Fail> {
     points(&rt, rt.alloc(), copy, "HardLine")
 }
 
-// A pointer that is a document already.
 fn lent<'a>(rt: &impl Abort, memory: Global, arena: &'a Arena<'a>) -> Result<(), Fail> {
-    let line = arena.hard_line()?.into_ref()?;
-    let both = arena.pretty(line)?.append(line)?.into_ref();
-    points(rt, memory, both, "[HardLine, HardLine]")?;
-    let made: BuildDoc<'a, RefDoc<'a>> = BuildDoc::from(line);
-    assert!(rt; matches!(made, BuildDoc::DocPtr(_)));
-    Ok(())
+    points(rt, memory, arena.hard_line()?.into_ref(), "HardLine")?;
+    points(rt, memory, arena.line()?.into_ref(), "LineOrSpace")
 }
 
-fn boxed<'a>(rt: &impl Abort, boxes: &'a BoxAllocator) -> Result<(), Fail> {
-    let line = boxes.alloc(Doc::HardLine)?;
-    let both = boxes.pretty(line)?.append(boxes.alloc(Doc::WeakLine)?);
-    shows(rt, both, "[HardLine, WeakLine]")
+fn lent_again<'a>(rt: &impl Abort, arena: &'a Arena<'a>) -> Result<(), Fail> {
+    let line = arena.hard_line()?.into_ref()?;
+    becomes(rt, arena, line, "HardLine")?;
+    becomes(rt, arena, line, "HardLine")
 }
 
 fn counted<'a>(rt: &impl Abort, nodes: &'a RcAllocator) -> Result<(), Fail> {
     let line = nodes.alloc(Doc::HardLine)?;
-    let both = nodes.pretty(line.clone()?)?.append(line);
-    shows(rt, both, "[HardLine, HardLine]")
+    becomes(rt, nodes, line.clone()?, "HardLine")?;
+    becomes(rt, nodes, line, "HardLine")
 }
 
 #[test]
-fn pointers_are_documents(rt: HostRuntime) -> Result<(), Fail> {
-    boxed(&rt, &BoxAllocator::new(rt.alloc()))?;
-    counted(&rt, &RcAllocator::new(rt.alloc()))?;
+fn counted_nodes_are_documents(rt: HostRuntime) -> Result<(), Fail> {
+    counted(&rt, &RcAllocator::new(rt.alloc()))
+}
+
+#[test]
+fn builders_end_in_an_arena(rt: HostRuntime) -> Result<(), Fail> {
     let bump = Bump::new(rt.alloc());
     let arena = Arena::new(rt.alloc(), &bump);
-    lent(&rt, rt.alloc(), &arena)
+    lent(&rt, rt.alloc(), &arena)?;
+    lent_again(&rt, &arena)
 }
 
 fn counts<'a>(rt: &impl Abort, arena: &'a Arena<'a>) -> Result<(), Fail> {
-    assert!(rt; arena.is_empty() && arena.len() == 0);
+    assert!(rt; arena.is_empty());
     arena.alloc(Doc::HardLine)?;
-    assert!(rt; !arena.is_empty() && arena.len() != 0);
+    assert_eq!(rt; arena.len(), 1);
     Ok(())
 }
 
