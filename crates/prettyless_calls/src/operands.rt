@@ -15,8 +15,7 @@ fn of_allocators<'a>(rt: &impl Abort, boxes: &'a BoxAllocator) -> Result<(), Fai
 fn as_values<'a>(rt: &impl Abort, boxes: &'a BoxAllocator) -> Result<(), Fail> {
     becomes(rt, boxes, Doc::HardLine, "HardLine")?;
     becomes(rt, boxes, BuildDoc::Doc(Doc::HardLine), "HardLine")?;
-    becomes(rt, boxes, boxes.hard_line()?, "HardLine")?;
-    becomes(rt, boxes, boxes.alloc(Doc::HardLine)?, "HardLine")
+    becomes(rt, boxes, boxes.hard_line()?, "HardLine")
 }
 
 fn in_sums<'a, D: DocPlace<'a>, P: Pretty<'a, D>>(
@@ -131,5 +130,11 @@ fn documents_of_others(rt: HostRuntime) -> Result<(), Fail> {
     places(&rt, &boxes, BuildDoc::default(), "Nil")?;
     places(&rt, &boxes, BuildDoc::from(Doc::HardLine), "HardLine")?;
     places(&rt, &boxes, BuildDoc::from(boxes.hard_line()?), "HardLine")?;
+    places(
+        &rt,
+        &boxes,
+        BuildDoc::from(boxes.alloc(Doc::HardLine)?),
+        "HardLine",
+    )?;
     places(&rt, &boxes, BuildDoc::from(Some(Doc::HardLine)), "HardLine")
 }

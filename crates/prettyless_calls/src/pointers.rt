@@ -3,7 +3,7 @@ use crate::expected::{becomes, points, rendered};
 use bumpalo::Bump;
 use prettyless::prelude::*;
 use prettyless::text::{BuildError, CowStr};
-use prettyless::{Arena, BoxDoc, BuildDoc, Doc, DocPtr, IntoRef, RcAllocator, RcDoc};
+use prettyless::{Arena, BoxAllocator, BoxDoc, BuildDoc, Doc, DocPtr, IntoRef, RcAllocator, RcDoc};
 use std::alloc::Global;
 use std::fmt;
 use std::process::Abort;
@@ -134,33 +134,33 @@ fn counted_nodes_are_cloned(rt: HostRuntime) -> Result<(), Fail> {
 }
 
 fn lent<'a>(rt: &impl Abort, memory: Global, arena: &'a Arena<'a>) -> Result<(), Fail> {
-    points(rt, memory, arena.hard_line()?.into_ref(), "HardLine")?;
     points(rt, memory, arena.line()?.into_ref(), "LineOrSpace")
-}
-
-fn lent_again<'a>(rt: &impl Abort, arena: &'a Arena<'a>) -> Result<(), Fail> {
-    let line = arena.hard_line()?.into_ref()?;
-    becomes(rt, arena, line, "HardLine")?;
-    becomes(rt, arena, line, "HardLine")
-}
-
-fn counted<'a>(rt: &impl Abort, nodes: &'a RcAllocator) -> Result<(), Fail> {
-    let line = nodes.alloc(Doc::HardLine)?;
-    becomes(rt, nodes, line.clone()?, "HardLine")?;
-    becomes(rt, nodes, line, "HardLine")
-}
-
-#[test]
-fn counted_nodes_are_documents(rt: HostRuntime) -> Result<(), Fail> {
-    counted(&rt, &RcAllocator::new(rt.alloc()))
 }
 
 #[test]
 fn builders_end_in_an_arena(rt: HostRuntime) -> Result<(), Fail> {
     let bump = Bump::new(rt.alloc());
     let arena = Arena::new(rt.alloc(), &bump);
-    lent(&rt, rt.alloc(), &arena)?;
-    lent_again(&rt, &arena)
+    lent(&rt, rt.alloc(), &arena)
+}
+
+// A pointer is a document already.
+fn documents<'a, D: DocPlace<'a, Doc = T>, T: DocPtr<'a> + Pretty<'a, D>>(
+    rt: &impl Abort,
+    place: &'a D,
+) -> Result<(), Fail> {
+    becomes(rt, place, place.alloc(Doc::HardLine)?, "HardLine")
+}
+
+#[test]
+fn pointers_are_documents(rt: HostRuntime) -> Result<(), Fail> {
+    let boxes = BoxAllocator::new(rt.alloc());
+    documents(&rt, &boxes)?;
+    let nodes = RcAllocator::new(rt.alloc());
+    documents(&rt, &nodes)?;
+    let bump = Bump::new(rt.alloc());
+    let arena = Arena::new(rt.alloc(), &bump);
+    documents(&rt, &arena)
 }
 
 fn counts<'a>(rt: &impl Abort, arena: &'a Arena<'a>) -> Result<(), Fail> {
