@@ -1,116 +1,90 @@
-//! Documents of all forms as operands, in boxes.
+//! Documents as operands: pointers in each place of nodes, and all other forms in boxes.
 use crate::expected::{becomes, shows};
+use bumpalo::Bump;
 use prettyless::prelude::*;
-use prettyless::{BoxAllocator, BoxDoc, BuildDoc, Doc, docs};
+use prettyless::{Arena, BoxAllocator, BoxDoc, BuildDoc, Doc, DocPtr, RcAllocator, docs};
 use std::process::Abort;
 use std::test::Fail;
 
-fn of_allocators<'a>(rt: &impl Abort, boxes: &'a BoxAllocator) -> Result<(), Fail> {
-    shows(rt, boxes.line_suffix(Doc::Nil), "LineSuffix(Nil)")?;
-    shows(rt, boxes.if_group_flat(boxes.space()?), "WhenFlat(\" \")")?;
-    let line = boxes.alloc(Doc::WeakLine)?;
-    shows(rt, boxes.if_group_break(line), "WhenBreak(WeakLine)")
+fn of_allocators<'a, D: DocPlace<'a, Doc = T>, T: DocPtr<'a> + Pretty<'a, D>>(
+    rt: &impl Abort,
+    place: &'a D,
+) -> Result<(), Fail> {
+    let line = place.alloc(Doc::WeakLine)?;
+    shows(rt, place.pretty(line), "WeakLine")?;
+    let line = place.alloc(Doc::WeakLine)?;
+    shows(rt, place.line_suffix(line), "LineSuffix(WeakLine)")?;
+    let line = place.alloc(Doc::WeakLine)?;
+    shows(rt, place.if_group_flat(line), "WhenFlat(WeakLine)")?;
+    let line = place.alloc(Doc::WeakLine)?;
+    shows(rt, place.if_group_break(line), "WhenBreak(WeakLine)")
 }
 
-fn as_values<'a>(rt: &impl Abort, boxes: &'a BoxAllocator) -> Result<(), Fail> {
+fn of_builders<'a, D: DocPlace<'a, Doc = T>, T: DocPtr<'a> + Pretty<'a, D>>(
+    rt: &impl Abort,
+    place: &'a D,
+) -> Result<(), Fail> {
+    let line = place.alloc(Doc::WeakLine)?;
+    shows(rt, place.fail()?.append(line), "[Fail, WeakLine]")?;
+    let line = place.alloc(Doc::WeakLine)?;
+    shows(rt, place.fail()? + line, "[Fail, WeakLine]")?;
+    let line = place.alloc(Doc::WeakLine)?;
+    shows(
+        rt,
+        place.fail()?.flat_alt(line),
+        "FlatOrBreak(WeakLine, Fail)",
+    )?;
+    let line = place.alloc(Doc::WeakLine)?;
+    shows(rt, docs![place, fail(), line], "[Fail, WeakLine]")
+}
+
+fn of_values<'a, D: DocPlace<'a, Doc = T>, T: DocPtr<'a> + Pretty<'a, D>>(
+    rt: &impl Abort,
+    place: &'a D,
+) -> Result<(), Fail> {
+    let line = place.alloc(Doc::WeakLine)?;
+    becomes(rt, place, Some(line), "WeakLine")?;
+    let line = place.alloc(Doc::WeakLine)?;
+    becomes(
+        rt,
+        place,
+        (space(), line, fail()),
+        "[\" \", WeakLine, Fail]",
+    )?;
+    let line = place.alloc(Doc::WeakLine)?;
+    becomes(rt, place, group((line, fail())), "Group([WeakLine, Fail])")
+}
+
+fn all<'a, D: DocPlace<'a, Doc = T>, T: DocPtr<'a> + Pretty<'a, D>>(
+    rt: &impl Abort,
+    place: &'a D,
+) -> Result<(), Fail> {
+    of_allocators(rt, place)?;
+    of_builders(rt, place)?;
+    of_values(rt, place)
+}
+
+#[test]
+fn pointers_are_documents(rt: HostRuntime) -> Result<(), Fail> {
+    let boxes = BoxAllocator::new(rt.alloc());
+    all(&rt, &boxes)?;
+    let nodes = RcAllocator::new(rt.alloc());
+    all(&rt, &nodes)?;
+    let bump = Bump::new(rt.alloc());
+    let arena = Arena::new(rt.alloc(), &bump);
+    all(&rt, &arena)
+}
+
+fn nodes<'a>(rt: &impl Abort, boxes: &'a BoxAllocator) -> Result<(), Fail> {
     becomes(rt, boxes, Doc::HardLine, "HardLine")?;
     becomes(rt, boxes, BuildDoc::Doc(Doc::HardLine), "HardLine")?;
     becomes(rt, boxes, boxes.hard_line()?, "HardLine")
 }
 
-fn in_sums<'a, D: DocPlace<'a>, P: Pretty<'a, D>>(
-    rt: &impl Abort,
-    place: &'a D,
-    line: P,
-) -> Result<(), Fail> {
-    shows(
-        rt,
-        DocBuilder::new(place, Doc::Fail).append(line),
-        "[Fail, HardLine]",
-    )
-}
-
-fn in_additions<'a, D: DocPlace<'a>, P: Pretty<'a, D>>(
-    rt: &impl Abort,
-    place: &'a D,
-    line: P,
-) -> Result<(), Fail> {
-    shows(
-        rt,
-        DocBuilder::new(place, Doc::Fail) + line,
-        "[Fail, HardLine]",
-    )
-}
-
-fn in_alternatives<'a, D: DocPlace<'a>, P: Pretty<'a, D>>(
-    rt: &impl Abort,
-    place: &'a D,
-    line: P,
-) -> Result<(), Fail> {
-    shows(
-        rt,
-        DocBuilder::new(place, Doc::Fail).flat_alt(line),
-        "FlatOrBreak(HardLine, Fail)",
-    )
-}
-
-fn in_macros<'a, D: DocPlace<'a>, P: Pretty<'a, D>>(
-    rt: &impl Abort,
-    place: &'a D,
-    line: P,
-) -> Result<(), Fail> {
-    shows(rt, docs![place, line, fail()], "[HardLine, Fail]")
-}
-
-fn in_options<'a, D: DocPlace<'a>, P: Pretty<'a, D>>(
-    rt: &impl Abort,
-    place: &'a D,
-    line: P,
-) -> Result<(), Fail> {
-    becomes(rt, place, Some(line), "HardLine")
-}
-
-fn in_tuples<'a, D: DocPlace<'a>, P: Pretty<'a, D>>(
-    rt: &impl Abort,
-    place: &'a D,
-    line: P,
-) -> Result<(), Fail> {
-    becomes(
-        rt,
-        place,
-        (weak_line(), line, fail()),
-        "[WeakLine, HardLine, Fail]",
-    )
-}
-
-fn in_groups<'a, D: DocPlace<'a>, P: Pretty<'a, D>>(
-    rt: &impl Abort,
-    place: &'a D,
-    line: P,
-) -> Result<(), Fail> {
-    becomes(rt, place, group((line, fail())), "Group([HardLine, Fail])")
-}
-
-fn of_builders<'a>(rt: &impl Abort, boxes: &'a BoxAllocator) -> Result<(), Fail> {
-    in_sums(rt, boxes, boxes.hard_line()?)?;
-    in_additions(rt, boxes, boxes.hard_line()?)?;
-    in_alternatives(rt, boxes, boxes.hard_line()?)?;
-    in_macros(rt, boxes, boxes.hard_line()?)
-}
-
-fn of_values<'a>(rt: &impl Abort, boxes: &'a BoxAllocator) -> Result<(), Fail> {
-    in_options(rt, boxes, boxes.hard_line()?)?;
-    in_tuples(rt, boxes, boxes.hard_line()?)?;
-    in_groups(rt, boxes, boxes.hard_line()?)
-}
-
 #[test]
-fn operands(rt: HostRuntime) -> Result<(), Fail> {
+fn nodes_are_documents(rt: HostRuntime) -> Result<(), Fail> {
     let boxes = BoxAllocator::new(rt.alloc());
-    of_allocators(&rt, &boxes)?;
-    as_values(&rt, &boxes)?;
-    of_builders(&rt, &boxes)?;
-    of_values(&rt, &boxes)
+    nodes(&rt, &boxes)
 }
 
 fn places<'a>(

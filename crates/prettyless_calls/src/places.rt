@@ -72,7 +72,6 @@ fn convert<'a, D: DocPlace<'a>>(
     owned: &'a String,
 ) -> Result<(), Fail> {
     values::texts(rt, place, owned)?;
-    values::lent(rt, place)?;
     values::options(rt, place)?;
     values::several(rt, place)?;
     values::longest(rt, place)?;

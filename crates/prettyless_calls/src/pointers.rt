@@ -1,5 +1,5 @@
 //! The constructors of pointers, what outlives its owner, and what only one of the pointers has.
-use crate::expected::{becomes, points, rendered};
+use crate::expected::{points, rendered};
 use bumpalo::Bump;
 use prettyless::prelude::*;
 use prettyless::text::{BuildError, CowStr};
@@ -142,25 +142,6 @@ fn builders_end_in_an_arena(rt: HostRuntime) -> Result<(), Fail> {
     let bump = Bump::new(rt.alloc());
     let arena = Arena::new(rt.alloc(), &bump);
     lent(&rt, rt.alloc(), &arena)
-}
-
-// A pointer is a document already.
-fn documents<'a, D: DocPlace<'a, Doc = T>, T: DocPtr<'a> + Pretty<'a, D>>(
-    rt: &impl Abort,
-    place: &'a D,
-) -> Result<(), Fail> {
-    becomes(rt, place, place.alloc(Doc::HardLine)?, "HardLine")
-}
-
-#[test]
-fn pointers_are_documents(rt: HostRuntime) -> Result<(), Fail> {
-    let boxes = BoxAllocator::new(rt.alloc());
-    documents(&rt, &boxes)?;
-    let nodes = RcAllocator::new(rt.alloc());
-    documents(&rt, &nodes)?;
-    let bump = Bump::new(rt.alloc());
-    let arena = Arena::new(rt.alloc(), &bump);
-    documents(&rt, &arena)
 }
 
 fn counts<'a>(rt: &impl Abort, arena: &'a Arena<'a>) -> Result<(), Fail> {

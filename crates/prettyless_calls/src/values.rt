@@ -1,8 +1,8 @@
 //! What can become a document.
 use crate::expected::{becomes, shows};
+use prettyless::docs;
 use prettyless::prelude::*;
-use prettyless::text::{CowStr, Text};
-use prettyless::{Doc, docs};
+use prettyless::text::CowStr;
 use std::process::Abort;
 use std::test::Fail;
 
@@ -18,13 +18,6 @@ pub(crate) fn texts<'a, D: DocPlace<'a>>(
     becomes(rt, place, copy, "\"owned\"")?;
     becomes(rt, place, String::new(place.memory()), "Nil")?;
     becomes(rt, place, CowStr::Borrowed("a"), "\"a\"")
-}
-
-// A text that is lent is not copied.
-pub(crate) fn lent<'a, D: DocPlace<'a>>(rt: &impl Abort, place: &'a D) -> Result<(), Fail> {
-    let text = place.pretty("a")?;
-    assert!(rt; matches!(text.doc(), Doc::Text(Text::Borrowed(_))));
-    Ok(())
 }
 
 pub(crate) fn options<'a, D: DocPlace<'a>>(rt: &impl Abort, place: &'a D) -> Result<(), Fail> {
