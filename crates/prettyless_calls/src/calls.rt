@@ -1,0 +1,128 @@
+//! Each call of an allocator once, with ample memory.
+use crate::expected::{points, shows};
+use prettyless::prelude::*;
+use prettyless::text::{CowStr, Text};
+use prettyless::{BuildDoc, Doc, DocBuilder, DocPtr};
+use std::fmt;
+use std::process::Abort;
+use std::test::Fail;
+
+pub(crate) fn leaves<'a, D: DocPlace<'a>>(rt: &impl Abort, place: &'a D) -> Result<(), Fail> {
+    shows(rt, place.nil(), "Nil")?;
+    shows(rt, place.fail(), "Fail")?;
+    shows(rt, place.hard_line(), "HardLine")?;
+    shows(rt, place.hardline(), "HardLine")?;
+    shows(rt, place.weak_line(), "WeakLine")
+}
+
+pub(crate) fn blanks<'a, D: DocPlace<'a>>(rt: &impl Abort, place: &'a D) -> Result<(), Fail> {
+    shows(rt, place.space(), "\" \"")?;
+    shows(rt, place.weak_space(), "WeakSpace")?;
+    shows(rt, place.expand_parent(), "ExpandParent")
+}
+
+pub(crate) fn lines<'a, D: DocPlace<'a>>(rt: &impl Abort, place: &'a D) -> Result<(), Fail> {
+    shows(rt, place.line(), "LineOrSpace")?;
+    shows(rt, place.line_(), "LineOrNil")?;
+    shows(rt, place.softline(), "SoftLineOrSpace")?;
+    shows(rt, place.softline_(), "SoftLineOrNil")
+}
+
+pub(crate) fn texts<'a, D: DocPlace<'a>>(rt: &impl Abort, place: &'a D) -> Result<(), Fail> {
+    shows(rt, place.text(CowStr::Borrowed("ab")), "\"ab\"")?;
+    shows(rt, place.text(CowStr::Borrowed("")), "Nil")?;
+    shows(rt, place.ascii_text(CowStr::Borrowed("")), "\"\"")?;
+    shows(rt, place.as_string(16), "\"16\"")
+}
+
+pub(crate) fn payloads<'a, D: DocPlace<'a>>(rt: &impl Abort, place: &'a D) -> Result<(), Fail> {
+    let payload = place.multiline_text(CowStr::Borrowed("a\nb"));
+    shows(rt, payload, "MultilineText(\"a\\nb\")")?;
+    shows(rt, place.multiline_text(CowStr::Borrowed("ab")), "\"ab\"")?;
+    shows(rt, place.multiline_text(CowStr::Borrowed("")), "Nil")
+}
+
+// A text that is not ASCII counts as its width.
+pub(crate) fn widths<'a, D: DocPlace<'a>>(rt: &impl Abort, place: &'a D) -> Result<(), Fail> {
+    let text = place.text(CowStr::Borrowed("\u{e9}"))?;
+    assert!(rt; matches!(text.doc(), Doc::TextWithLen(1, Text::Borrowed(_))));
+    Ok(())
+}
+
+// A short value stands in its node.
+pub(crate) fn strings<'a, D: DocPlace<'a>>(rt: &impl Abort, place: &'a D) -> Result<(), Fail> {
+    let value = place.as_string(16)?;
+    assert!(rt; matches!(value.doc(), Doc::Text(Text::Small(_))));
+    Ok(())
+}
+
+pub(crate) fn operands<'a, D: DocPlace<'a>>(rt: &impl Abort, place: &'a D) -> Result<(), Fail> {
+    shows(rt, place.pretty("a"), "\"a\"")?;
+    shows(rt, place.line_suffix("//"), "LineSuffix(\"//\")")?;
+    shows(rt, place.line_suffix(()), "LineSuffix(Nil)")?;
+    shows(rt, place.if_group_flat("a"), "WhenFlat(\"a\")")?;
+    shows(rt, place.if_group_break("b"), "WhenBreak(\"b\")")
+}
+
+pub(crate) fn sequences<'a, D: DocPlace<'a>>(rt: &impl Abort, place: &'a D) -> Result<(), Fail> {
+    shows(
+        rt,
+        place.concat(["a", "", "b"].into_iter()),
+        "[\"a\", \"b\"]",
+    )?;
+    shows(rt, place.concat([""; 0].into_iter()), "Nil")?;
+    let items = place.intersperse(["a", "b", "c"].into_iter(), line_or_space());
+    shows(rt, items, "[\"a\", LineOrSpace, \"b\", LineOrSpace, \"c\"]")?;
+    let item = place.intersperse(["a"].into_iter(), ",");
+    shows(rt, item, "\"a\"")
+}
+
+pub(crate) fn words<'a, D: DocPlace<'a>>(rt: &impl Abort, place: &'a D) -> Result<(), Fail> {
+    let words = "[\"a\", SoftLineOrSpace, SoftLineOrSpace, \"b\"]";
+    shows(rt, place.reflow("a  b"), words)?;
+    shows(rt, place.reflow(" a"), "[SoftLineOrSpace, \"a\"]")?;
+    shows(rt, place.reflow(""), "Nil")
+}
+
+pub(crate) fn gaps<'a, D: DocPlace<'a>>(rt: &impl Abort, place: &'a D) -> Result<(), Fail> {
+    shows(rt, place.spaces(0), "Nil")?;
+    shows(rt, place.spaces(3), "\"   \"")?;
+    let memory = place.memory();
+    let hundred = format!(in memory; "\"{:100}\"", "")?;
+    shows(rt, place.spaces(100), hundred.as_str())?;
+    let three = format!(in memory; "[\"{:100}\", \"{:100}\", \"{:5}\"]", "", "", "")?;
+    shows(rt, place.spaces(205), three.as_str())
+}
+
+// Documents in the making, and what places them.
+pub(crate) fn nodes<'a, D: DocPlace<'a>>(rt: &impl Abort, place: &'a D) -> Result<(), Fail>
+where
+    D::Doc: fmt::Debug,
+{
+    let memory = place.memory();
+    let line = BuildDoc::Doc(Doc::HardLine);
+    points(rt, memory, place.alloc_cow(line), "HardLine")?;
+    let pointer = place.alloc(Doc::HardLine)?;
+    let copy = place.clone_ptr(&pointer);
+    drop(pointer);
+    points(rt, memory, copy, "HardLine")?;
+    points(rt, memory, place.line()?.into_doc(), "LineOrSpace")
+}
+
+// The lines of documents that have no builder yet.
+pub(crate) fn plain_lines<'a, D: DocPlace<'a>>(rt: &impl Abort, place: &'a D) -> Result<(), Fail> {
+    let line = BuildDoc::Doc(Doc::line(place)?);
+    shows(rt, Ok(DocBuilder(place, line)), "LineOrSpace")?;
+    let line = BuildDoc::Doc(Doc::line_(place)?);
+    shows(rt, Ok(DocBuilder(place, line)), "LineOrNil")?;
+    shows(
+        rt,
+        Ok(DocBuilder(place, BuildDoc::line(place)?)),
+        "LineOrSpace",
+    )?;
+    shows(
+        rt,
+        Ok(DocBuilder(place, BuildDoc::line_(place)?)),
+        "LineOrNil",
+    )
+}

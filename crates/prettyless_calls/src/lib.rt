@@ -1,0 +1,21 @@
+//! Tests of the calls that build documents, each through all three pointers.
+#![tactic(auto)]
+
+#[cfg(test)]
+mod builders;
+#[cfg(test)]
+mod calls;
+#[cfg(test)]
+mod combined;
+#[cfg(test)]
+mod expected;
+#[cfg(test)]
+mod operands;
+#[cfg(test)]
+mod places;
+#[cfg(test)]
+mod pointers;
+#[cfg(test)]
+mod rows;
+#[cfg(test)]
+mod values;

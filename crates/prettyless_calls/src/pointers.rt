@@ -1,0 +1,159 @@
+//! The constructors of pointers, what outlives its owner, and what only one of the pointers has.
+use crate::expected::{points, rendered};
+use bumpalo::Bump;
+use prettyless::prelude::*;
+use prettyless::text::{BuildError, CowStr};
+use prettyless::{Arena, BoxAllocator, BoxDoc, BuildDoc, Doc, DocPtr, IntoRef, RcAllocator, RcDoc};
+use std::alloc::Global;
+use std::fmt;
+use std::process::Abort;
+use std::test::Fail;
+
+pub(crate) fn leaves<'a, D: DocPlace<'a, Doc = T>, T: DocPtr<'a> + fmt::Debug>(
+    rt: &impl Abort,
+    place: &'a D,
+) -> Result<(), Fail> {
+    let memory = place.memory();
+    points(rt, memory, T::nil(place), "Nil")?;
+    points(rt, memory, T::fail(place), "Fail")?;
+    points(rt, memory, T::hard_line(place), "HardLine")?;
+    points(rt, memory, T::hardline(place), "HardLine")?;
+    points(rt, memory, T::weak_line(place), "WeakLine")
+}
+
+pub(crate) fn blanks<'a, D: DocPlace<'a, Doc = T>, T: DocPtr<'a> + fmt::Debug>(
+    rt: &impl Abort,
+    place: &'a D,
+) -> Result<(), Fail> {
+    let memory = place.memory();
+    points(rt, memory, T::space(place), "\" \"")?;
+    points(rt, memory, T::weak_space(place), "WeakSpace")?;
+    points(rt, memory, T::expand_parent(place), "ExpandParent")
+}
+
+pub(crate) fn lines<'a, D: DocPlace<'a, Doc = T>, T: DocPtr<'a> + fmt::Debug>(
+    rt: &impl Abort,
+    place: &'a D,
+) -> Result<(), Fail> {
+    let memory = place.memory();
+    points(rt, memory, T::line(place), "LineOrSpace")?;
+    points(rt, memory, T::line_(place), "LineOrNil")?;
+    points(rt, memory, T::softline(place), "SoftLineOrSpace")?;
+    points(rt, memory, T::softline_(place), "SoftLineOrNil")
+}
+
+pub(crate) fn texts<'a, D: DocPlace<'a, Doc = T>, T: DocPtr<'a> + fmt::Debug>(
+    rt: &impl Abort,
+    place: &'a D,
+) -> Result<(), Fail> {
+    let memory = place.memory();
+    points(rt, memory, T::text(place, CowStr::Borrowed("ab")), "\"ab\"")?;
+    points(rt, memory, T::as_string(place, 16), "\"16\"")?;
+    let payload = T::multiline_text(place, CowStr::Borrowed("a\nb"));
+    points(rt, memory, payload, "MultilineText(\"a\\nb\")")
+}
+
+pub(crate) fn wrappers<'a, D: DocPlace<'a, Doc = T>, T: DocPtr<'a> + fmt::Debug>(
+    rt: &impl Abort,
+    place: &'a D,
+) -> Result<(), Fail> {
+    let memory = place.memory();
+    let line = place.alloc(Doc::HardLine)?;
+    points(rt, memory, line.group(place), "Group(HardLine)")?;
+    let line = place.alloc(Doc::HardLine)?;
+    points(rt, memory, line.nest(place, 2), "Nest(2, HardLine)")?;
+    let line = place.alloc(Doc::HardLine)?;
+    let union = line.union(place, BuildDoc::Doc(Doc::Fail));
+    points(rt, memory, union, "Union(HardLine, Fail)")
+}
+
+pub(crate) fn sums<'a, D: DocPlace<'a, Doc = T>, T: DocPtr<'a> + fmt::Debug>(
+    rt: &impl Abort,
+    place: &'a D,
+) -> Result<(), Fail> {
+    let memory = place.memory();
+    let line = place.alloc(Doc::HardLine)?;
+    points(rt, memory, line.append(place, "a"), "[HardLine, \"a\"]")?;
+    let line = place.alloc(Doc::HardLine)?;
+    let comma = line.flat_alt(place, ",");
+    points(rt, memory, comma, "FlatOrBreak(\",\", HardLine)")
+}
+
+pub(crate) fn sequences<'a, D: DocPlace<'a, Doc = T>, T: DocPtr<'a> + fmt::Debug>(
+    rt: &impl Abort,
+    place: &'a D,
+) -> Result<(), Fail> {
+    let memory = place.memory();
+    let items = T::concat(place, ["a", "b"].into_iter());
+    points(rt, memory, items, "[\"a\", \"b\"]")?;
+    let items = T::intersperse(place, ["a", "b"].into_iter(), line_or_space());
+    points(rt, memory, items, "[\"a\", LineOrSpace, \"b\"]")
+}
+
+const LAYOUT: &str = "an owned text of more than 22 bytes\n  one\ntwo";
+
+// A tree with an owned text and an owned payload.
+fn tree<'a, D: DocPlace<'a>>(place: &'a D) -> Result<D::Doc, BuildError> {
+    let text = String::from_str(place.memory(), "an owned text of more than 22 bytes")?;
+    let payload = String::from_str(place.memory(), "one\ntwo")?;
+    let text = place.text(CowStr::Owned(text))?;
+    let payload = place.multiline_text(CowStr::Owned(payload))?;
+    let lines = text.join(place.hard_line()?)?.join(payload)?;
+    lines.nest(2)?.into_doc()
+}
+
+fn compare<'a, T: DocPtr<'a>>(rt: &impl Abort, memory: Global, document: &T) -> Result<(), Fail> {
+    let out = rendered(memory, document, 80)?;
+    assert_eq!(rt; out.as_str(), LAYOUT);
+    Ok(())
+}
+
+// The first tree is given up before the second is rendered.
+pub(crate) fn clones<'a, D: DocPlace<'a>>(rt: &impl Abort, place: &'a D) -> Result<(), Fail> {
+    let first = tree(place)?;
+    compare(rt, place.memory(), &first)?;
+    let second = place.clone_ptr(&first)?;
+    drop(first);
+    compare(rt, place.memory(), &second)
+}
+
+#[test]
+fn boxes_are_cloned(rt: HostRuntime) -> Result<(), Fail> {
+    let line = BoxDoc::new(rt.alloc(), Doc::HardLine)?;
+    let copy = line.clone(rt.alloc());
+    drop(line);
+    points(&rt, rt.alloc(), copy, "HardLine")
+}
+
+#[test]
+fn counted_nodes_are_cloned(rt: HostRuntime) -> Result<(), Fail> {
+    let line = RcDoc::new(rt.alloc(), Doc::HardLine)?;
+    let copy = line.clone();
+    drop(line);
+    points(&rt, rt.alloc(), copy, "HardLine")
+}
+
+fn lent<'a>(rt: &impl Abort, memory: Global, arena: &'a Arena<'a>) -> Result<(), Fail> {
+    points(rt, memory, arena.line()?.into_ref(), "LineOrSpace")
+}
+
+#[test]
+fn builders_end_in_an_arena(rt: HostRuntime) -> Result<(), Fail> {
+    let bump = Bump::new(rt.alloc());
+    let arena = Arena::new(rt.alloc(), &bump);
+    lent(&rt, rt.alloc(), &arena)
+}
+
+fn counts<'a>(rt: &impl Abort, arena: &'a Arena<'a>) -> Result<(), Fail> {
+    assert!(rt; arena.is_empty());
+    arena.alloc(Doc::HardLine)?;
+    assert_eq!(rt; arena.len(), 1);
+    Ok(())
+}
+
+#[test]
+fn arenas_are_empty_at_first(rt: HostRuntime) -> Result<(), Fail> {
+    let bump = Bump::new(rt.alloc());
+    let arena = Arena::new(rt.alloc(), &bump);
+    counts(&rt, &arena)
+}
