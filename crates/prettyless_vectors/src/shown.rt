@@ -2,7 +2,7 @@
 use crate::reader::read;
 use bumpalo::Bump;
 use prettyless::text::{CowStr, Text};
-use prettyless::{Arena, BoxAllocator, BuildDoc, Doc, DocAllocator, DocPlace, RcAllocator};
+use prettyless::{Arena, BoxAllocator, BoxDoc, BuildDoc, Doc, DocAllocator, DocPlace, RcAllocator};
 use std::alloc::Global;
 use std::fmt;
 use std::process::Abort;
@@ -100,20 +100,21 @@ fn shows_lines(rt: HostRuntime) -> Result<(), Fail> {
     compare(&rt, rt.alloc(), &LINES)
 }
 
+// A line whose space is in memory of its own.
+fn line_of_an_owned_space<'a>(memory: Global, boxes: &'a BoxAllocator) -> Result<BoxDoc<'a>, Fail> {
+    let space = String::from_str(memory, " ")?;
+    let space = Text::from_cow(memory, CowStr::Owned(space))?;
+    let broken = boxes.alloc(Doc::HardLine)?;
+    let flat = boxes.alloc(Doc::Text(space))?;
+    Ok(boxes.alloc(Doc::BreakOrFlat(broken, flat))?)
+}
+
 #[test]
 fn lines_have_a_borrowed_space(rt: HostRuntime) -> Result<(), Fail> {
     let boxes = BoxAllocator::new(rt.alloc());
-    let space = Text::from_cow(
-        rt.alloc(),
-        CowStr::Owned(String::from_str(rt.alloc(), " ")?),
-    )?;
-    let broken = boxes.alloc(Doc::HardLine)?;
-    let flat = boxes.alloc(Doc::Text(space))?;
-    let line = Doc::BreakOrFlat(broken, flat);
-    assert_eq!(rt;
-        format!(in rt.alloc(); "{line:?}")?.as_str(),
-        "FlatOrBreak(\" \", HardLine)"
-    );
+    let line = line_of_an_owned_space(rt.alloc(), &boxes)?;
+    let shown = format!(in rt.alloc(); "{line:?}")?;
+    assert_eq!(rt; shown.as_str(), "FlatOrBreak(\" \", HardLine)");
     Ok(())
 }
 
