@@ -1,5 +1,5 @@
 -- The trees of documents that are measured.
-use Rattle.std.specs.Prelude.{◌≡◌, ℕ, zero, suc, ◌%◌, List, replicate, codes, pos}
+use Rattle.std.specs.Prelude.{◌≡◌, ℕ, zero, suc, ◌*◌, ◌%◌, ◌^◌, ◌≤◌, ◌<◌, max, List, replicate, codes, pos}
 use Rattle.std.specs.Fmt.{decimal}
 use Rattle.prettyless.specs.Tree.{Tree, Text, HardLine, Group, Union}
 use Rattle.prettyless.specs.Built.{append, nest, group, softline}
@@ -16,6 +16,25 @@ parenthesised items = append (append (Text (codes "(")) (group (nest (pos 1) ite
 -- so many atoms in one list
 abbrev pub list : ℕ → Tree
 list n = parenthesised (intersperse line (replicate n (Text (codes "atom"))))
+
+-- a document behind another, with a line between them
+abbrev pub behind : Tree → Tree → Tree
+behind front next = append (append front line) next
+
+-- so many of a tree, and one at least, each behind the one before it
+abbrev pub row : ℕ → Tree → Tree
+row zero x = x
+row (suc zero) x = x
+row (suc (suc n)) x = behind (row (suc n) x) x
+
+-- an atom, or a list of ten trees that have one level less
+abbrev pub tree : ℕ → Tree
+tree zero = Text (codes "atom")
+tree (suc k) = parenthesised (row 10 (tree k))
+
+-- a tree that has as many atoms as the greatest power of ten up to n has, and one at least
+abbrev pub IsTree : ℕ → Tree → Type 0
+IsTree n x = (k : ℕ) × (10 ^ k ≤ max n 1) × (max n 1 < 10 * 10 ^ k) × (x ≡ tree k)
 
 -- values between brackets, each on lines of their own where they don't fit one
 abbrev pub bracketed : Tree → Tree → Tree → Tree
@@ -110,9 +129,9 @@ rejected (suc n) = rejected_trial (rejected n)
 abbrev pub rejected_trials : ℕ → Tree
 rejected_trials n = append (Text (codes "p")) (rejected n)
 
--- the document of a workload at a size, but of trees nothing is said
+-- the document of a workload at a size
 abbrev pub IsDocument : Workload → ℕ → Tree → Type 0
-IsDocument w.Tree n x = Unit {0}
+IsDocument w.Tree n x = IsTree n x
 IsDocument w.List n x = x ≡ list n
 IsDocument w.FlatList n x = x ≡ list n
 IsDocument w.Json n x = x ≡ array n

@@ -25,7 +25,7 @@ IsOfLayout (Render e) = Unit {0}
 IsOfLayout (Memory e) = ⊥
 IsOfLayout (System e) = ⊥
 
--- the same, or the clock could not be read
+-- the same, or the clock could not be read, or a line was not written
 abbrev pub IsOfTiming : Failure → Type 0
 IsOfTiming Words = ⊥
 IsOfTiming (Build e) = Unit {0}

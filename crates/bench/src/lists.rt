@@ -2,17 +2,20 @@
 ghost use Rattle.std.specs.Prelude.{◌≡◌, IfOk, IfErr};
 ghost use Rattle.prettyless.specs.BuildErrors.{IsMemory};
 ghost use Rattle.prettyless.specs.DocTree.{built};
+ghost use Rattle.prettyless.specs.Trees.{ref_tree};
 ghost use Rattle.bench.specs.Documents as to;
 
 use crate::parts::text;
 use prettyless::combinators::line_or_space;
 use prettyless::text::BuildError;
-use prettyless::{DocAllocator, DocAllocatorBetween, DocBuilder, DocPlace};
+use prettyless::{
+    Arena, BuildDoc, DocAllocator, DocAllocatorBetween, DocBuilder, DocPlace, RefDoc,
+};
 use std::iter;
 
 const ATOM: &str = "atom";
 
-/// How many a list of a tree has.
+/// How many trees a list of a tree has.
 const CHILDREN: usize = 10;
 
 // Items in parentheses.
@@ -40,66 +43,57 @@ pub fn list<'a, D: DocPlace<'a>>(
     parenthesised(place, items)
 }
 
-// So many atoms.
-fn leaves<'a, D: DocPlace<'a>>(
+// A document behind another, with a line between them.
+fn behind<'a, D: DocPlace<'a>>(
     place: &'a D,
-    atoms: usize,
-) -> Result<Vec<DocBuilder<'a, D>>, BuildError>
+    front: D::Doc,
+    next: D::Doc,
+) -> Result<D::Doc, BuildError>
+    ensures ok { IfOk result (λ d. D.Doc.tree d ≡ to.behind (D.Doc.tree front) (D.Doc.tree next)) }
     ensures err { IfErr result IsMemory }
 {
-    let mut row = Vec::new(place.memory());
-    for _ in 0..atoms {
-        row.push(text(place, ATOM))?;
-    }
-    Ok(row)
+    let front = DocBuilder(place, BuildDoc::DocPtr(front)).join(place.line()?)?;
+    let next = DocBuilder(place, BuildDoc::DocPtr(next));
+    front.join(next)?.into_doc()
 }
 
-// One list of these.
-fn parent<'a, D: DocPlace<'a>>(
-    place: &'a D,
-    children: Vec<DocBuilder<'a, D>>,
-) -> Result<DocBuilder<'a, D>, BuildError>
+// An atom.
+fn atom<'a, D: DocPlace<'a>>(place: &'a D) -> Result<D::Doc, BuildError>
+    ensures ok { IfOk result (λ d. D.Doc.tree d ≡ to.tree 0) }
     ensures err { IfErr result IsMemory }
 {
-    let mut items = place.nil()?;
-    for child in children {
-        if !items.doc().is_nil() {
-            items = items.join(place.line()?)?;
-        }
-        items = items.join(child)?;
-    }
-    parenthesised(place, items)
+    text(place, ATOM).into_doc()
 }
 
-// Lists of ten of the row.
-fn parents<'a, D: DocPlace<'a>>(
-    place: &'a D,
-    row: Vec<DocBuilder<'a, D>>,
-) -> Result<Vec<DocBuilder<'a, D>>, BuildError>
+// A list of these.
+fn listed<'a, D: DocPlace<'a>>(place: &'a D, items: D::Doc) -> Result<D::Doc, BuildError>
+    ensures ok { IfOk result (λ d. D.Doc.tree d ≡ to.parenthesised (D.Doc.tree items)) }
     ensures err { IfErr result IsMemory }
 {
-    let mut row = row;
-    let mut above = Vec::new(place.memory());
-    for _ in 0..row.len() / CHILDREN {
-        let children = row.split_off(row.len().saturating_sub(CHILDREN))?;
-        above.push(parent(place, children)?)?;
-    }
-    Ok(above)
+    parenthesised(place, DocBuilder(place, BuildDoc::DocPtr(items)))?.into_doc()
 }
 
-/// So many atoms, a power of ten, in lists of ten, in lists of ten, and so on.
-pub fn tree<'a, D: DocPlace<'a>>(
-    place: &'a D,
-    atoms: usize,
-) -> Result<DocBuilder<'a, D>, BuildError>
+// An atom, or a list of ten trees that have one level less.
+fn levels<'a>(arena: &'a Arena<'a>, height: u32) -> Result<RefDoc<'a>, BuildError>
+    ensures ok { IfOk result (λ d. ref_tree d ≡ to.tree height) }
     ensures err { IfErr result IsMemory }
 {
-    let mut row = leaves(place, atoms)?;
-    for _ in 0..atoms.checked_ilog10().unwrap_or(0) {
-        row = parents(place, row)?;
+    if height == 0 {
+        return atom(arena);
     }
-    match row.pop() {
-        Some(root) => Ok(root),
-        None => place.nil(),
+    let mut items = levels(arena, height - 1)?;
+    for _ in 1..CHILDREN {
+        items = behind(arena, items, levels(arena, height - 1)?)?;
     }
+    listed(arena, items)
+}
+
+/// Lists of ten, in lists of ten, and so on, with as many atoms as the greatest power of ten up to this number has, and
+/// with one at least.
+pub fn tree<'a>(arena: &'a Arena<'a>, atoms: usize) -> Result<DocBuilder<'a, Arena<'a>>, BuildError>
+    ensures ok { IfOk result (λ b. to.IsTree atoms (built ref_tree b.1)) }
+    ensures err { IfErr result IsMemory }
+{
+    let root = levels(arena, atoms.max(1).ilog10())?;
+    Ok(DocBuilder(arena, BuildDoc::DocPtr(root)))
 }

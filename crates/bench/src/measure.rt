@@ -12,7 +12,7 @@ use crate::document::document;
 use crate::failure::Failure;
 use crate::workload::Workload;
 use bumpalo::Bump;
-use prettyless::{Arena, Doc, DocPlace, DocPtr};
+use prettyless::{Arena, Doc, DocPtr};
 use std::alloc::Global;
 use std::rt::Clock;
 use std::time::{Duration, Instant};
@@ -38,18 +38,18 @@ pub struct Timed {
 }
 
 // The layout of a workload.
-fn layout<'a, D: DocPlace<'a>>(
-    place: &'a D,
+fn layout<'a>(
+    alloc: Global,
+    arena: &'a Arena<'a>,
     workload: Workload,
     size: usize,
 ) -> Result<String, Failure>
     ensures ok { IfOk result (λ out. IsLayout workload size (string_bytes out)) }
     ensures err { IfErr result IsOfLayout }
 {
-    let root = document(place, workload, size)?.into_doc()?;
-    let mut out = String::new(place.memory());
-    root.doc()
-        .render_fmt(place.memory(), workload.width(), &mut out)?;
+    let root = document(arena, workload, size)?.into_doc()?;
+    let mut out = String::new(alloc);
+    root.doc().render_fmt(alloc, workload.width(), &mut out)?;
     Ok(out)
 }
 
@@ -60,7 +60,7 @@ pub fn lay(alloc: Global, workload: Workload, size: usize) -> Result<Laid, Failu
 {
     let bump = Bump::new(alloc);
     let arena = Arena::new(alloc, &bump);
-    let out = layout(&arena, workload, size)?;
+    let out = layout(alloc, &arena, workload, size)?;
     Ok(Laid {
         nodes: arena.len(),
         bytes: out.len(),
@@ -103,9 +103,10 @@ fn least_render<'a, C: Clock, T: DocPtr<'a>>(
     Ok(least)
 }
 
-fn time_in<'a, C: Clock, D: DocPlace<'a>>(
+fn time_in<'a, C: Clock>(
     clock: &C,
-    place: &'a D,
+    alloc: Global,
+    arena: &'a Arena<'a>,
     workload: Workload,
     size: usize,
 ) -> Result<(usize, Duration, Duration), Failure>
@@ -113,16 +114,10 @@ fn time_in<'a, C: Clock, D: DocPlace<'a>>(
     ensures err { IfErr result IsOfTiming }
 {
     let start = Instant::now(clock)?;
-    let root = document(place, workload, size)?.into_doc()?;
+    let root = document(arena, workload, size)?.into_doc()?;
     let build = start.elapsed(clock)?;
-    let mut out = String::new(place.memory());
-    let render = least_render(
-        clock,
-        place.memory(),
-        workload.width(),
-        root.doc(),
-        &mut out,
-    )?;
+    let mut out = String::new(alloc);
+    let render = least_render(clock, alloc, workload.width(), root.doc(), &mut out)?;
     Ok((out.len(), build, render))
 }
 
@@ -138,7 +133,7 @@ pub fn time<C: Clock>(
 {
     let bump = Bump::new(alloc);
     let arena = Arena::new(alloc, &bump);
-    let (bytes, build, render) = time_in(clock, &arena, workload, size)?;
+    let (bytes, build, render) = time_in(clock, alloc, &arena, workload, size)?;
     Ok(Timed {
         nodes: arena.len(),
         bytes,

@@ -1,4 +1,6 @@
 //! The lines that are printed.
+ghost use Rattle.std.specs.Prelude.{IfErr};
+ghost use Rattle.bench.specs.Failures.{IsOfTiming};
 
 use crate::failure::Failure;
 use crate::measure::{lay, time};
@@ -6,7 +8,9 @@ use crate::workload::{WORKLOADS, Workload};
 use std::rt::Clock;
 
 /// Prints a line for the layout of each workload at its small size.
-pub fn compare<R: AllocGlobal + Print>(rt: &R) -> Result<(), Failure> {
+pub fn compare<R: AllocGlobal + Print>(rt: &R) -> Result<(), Failure>
+    ensures err { IfErr result IsOfTiming }
+{
     for workload in WORKLOADS {
         let laid = lay(rt.alloc(), workload, workload.small_size())?;
         let name = workload.name();
@@ -23,7 +27,9 @@ fn time_at<R: AllocGlobal + Clock + Print>(
     rt: &R,
     workload: Workload,
     size: usize,
-) -> Result<(), Failure> {
+) -> Result<(), Failure>
+    ensures err { IfErr result IsOfTiming }
+{
     let name = workload.name();
     if let Some(obstacle) = workload.obstacle(size) {
         println!(rt; "{name} {size}: skipped, since {obstacle}")?;
@@ -45,7 +51,9 @@ fn time_at<R: AllocGlobal + Clock + Print>(
 pub fn time_workload<R: AllocGlobal + Clock + Print>(
     rt: &R,
     workload: Workload,
-) -> Result<(), Failure> {
+) -> Result<(), Failure>
+    ensures err { IfErr result IsOfTiming }
+{
     for size in workload.full_sizes() {
         time_at(rt, workload, *size)?;
     }
@@ -53,7 +61,9 @@ pub fn time_workload<R: AllocGlobal + Clock + Print>(
 }
 
 /// Prints these lines for all workloads.
-pub fn time_all<R: AllocGlobal + Clock + Print>(rt: &R) -> Result<(), Failure> {
+pub fn time_all<R: AllocGlobal + Clock + Print>(rt: &R) -> Result<(), Failure>
+    ensures err { IfErr result IsOfTiming }
+{
     for workload in WORKLOADS {
         time_workload(rt, workload)?;
     }

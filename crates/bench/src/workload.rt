@@ -6,7 +6,7 @@ ghost use Rattle.bench.specs.Names as names;
 /// A kind of document. Its size is a number of atoms, records, groups, words, lines or trials.
 #[derive(Clone, Copy, Debug, PartialEq, Eq)]
 pub enum Workload {
-    /// Lists of ten, in lists of ten, and so on. The size is a power of ten.
+    /// Lists of ten, in lists of ten, and so on. The atoms are the greatest power of ten up to the size.
     Tree,
     /// One list that is broken.
     List,

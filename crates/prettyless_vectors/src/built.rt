@@ -1,5 +1,5 @@
 //! Documents that builders make.
-use crate::rendered::rendered;
+use crate::rendered::compare_document;
 use prettyless::text::{BuildError, CowStr, Text};
 use prettyless::{BoxAllocator, BoxDoc, BuildDoc, Doc, DocAllocator, DocBuilder};
 use std::alloc::Global;
@@ -29,8 +29,7 @@ fn compare(
     layouts: &[(usize, &str)],
 ) -> Result<(), Fail> {
     for &(width, layout) in layouts {
-        let out = rendered(memory, document, width)?;
-        assert_eq!(rt; out.as_str(), layout, "at {width}");
+        compare_document(rt, memory, document, width, layout)?;
     }
     Ok(())
 }

@@ -1,5 +1,5 @@
 //! Documents of the later variants that builders make.
-use crate::rendered::rendered;
+use crate::rendered::{compare_document, rendered};
 use prettyless::text::{BuildError, CowStr};
 use prettyless::{BoxAllocator, BoxDoc, BuildDoc, DocAllocator, DocAllocatorOf, DocBuilder};
 use std::alloc::Global;
@@ -34,9 +34,7 @@ fn compare(
     width: usize,
     layout: &str,
 ) -> Result<(), Fail> {
-    let out = rendered(memory, &document.into_doc()?, width)?;
-    assert_eq!(rt; out.as_str(), layout);
-    Ok(())
+    compare_document(rt, memory, &document.into_doc()?, width, layout)
 }
 
 #[test]
@@ -54,7 +52,9 @@ fn suffixes_stand_behind_a_payload(rt: HostRuntime) -> Result<(), Fail> {
     let boxes = BoxAllocator::new(rt.alloc());
     let payload = boxes.multiline_text(CowStr::Borrowed("\"b\nc\""))?;
     let document = boxes.line_suffix(text(&boxes, " // 1")?)?.append(payload)?;
-    compare(&rt, rt.alloc(), document, 80, "\"b\nc\" // 1")
+    let out = rendered(rt.alloc(), &document.into_doc()?, 80)?;
+    assert_eq!(rt; out.as_str(), "\"b\nc\" // 1");
+    Ok(())
 }
 
 #[test]

@@ -4,33 +4,24 @@ use prettyless::{IndentationPolicy, LineEnding};
 use std::test::Fail;
 
 #[rattlefmt::skip]
-const LAYOUTS: [Case<'static>; 19] = [
+const LAYOUTS: [Case<'static>; 14] = [
     // A weak space on a fresh line is nothing.
     (0, "Append WeakSpace Text 'a'", "a"),
     // A space that a suffix keeps has to fit, at the end and in front of a break.
     (1, "Union Append Text 'x' Append WeakSpace LineSuffix Text 'n' Text 'qs'", "qs"),
     (1, "Union Append Text 'f' Append WeakSpace Append LineSuffix HardLine Append HardLine WeakLine WeakSpace", ""),
-    // So does each line of a payload.
-    (3, "Union MultilineText 'bc\nghij' LineSuffix ExpandParent", ""),
     // What expands its parent fits no line.
     (1, "Group BreakOrFlat Text 'a' ExpandParent", "a"),
-    // A probe reads a group as broken, and the second of two alternatives.
+    // A probe reads a group as broken.
     (1, "PartialUnion Group HardLine WeakSpace", "\n"),
-    (3, "PartialUnion PartialUnion MultilineText '你\nlonger\n' MultilineText 'ghij\r\nghij\r\ndef' WeakLine", ""),
     // Probes and trials go on with what follows on the line.
     (3, "Append PartialUnion WeakLine Text 'fwz' Text 'fcpj'", "fwzfcpj"),
     (2, "Append Union PartialUnion WeakSpace Text 'wa' Align Text '' Group Text 'onf'", "waonf"),
-    // A break in a payload lays no suffix.
-    (2, "Append LineSuffix Text 'a' MultilineText 'a\nb'", "a\nba"),
     // An alignment counts the weak space in front of it.
     (13, "Append Text 'n' Append WeakSpace Align Append HardLine HardLine", "n\n  \n  "),
-    // A line that was past the width before the alternatives rejects none.
-    (2, "Append Text 'lyil' Append Union MultilineText '\r\n  ' Text 'bdiavfi' Text 'y'", "lyil\r\n  y"),
-    // Nor do suffixes that are laid behind them, at the end of the document.
+    // Suffixes that are laid at the end of the document reject no alternative in front of them.
     (2, "Union LineSuffix HardLine WeakSpace", "\n"),
-    // What a rejected alternative took is back: suffixes, and columns of the line.
-    (3, "Append LineSuffix Flatten Text 'eekd' BreakOrFlat Union HardLine Text 'rko' Append WeakLine Nest 1 \
-         MultilineText 'ghij\r\n x'", "rkoeekd"),
+    // What a rejected alternative took is back.
     (1, "Union Append Text 'so' LineSuffix TextWithLen 0 '你' Nest 9 Text 'cvzmwcc'", "cvzmwcc"),
     (0, "Union Text 'a' WeakLine", ""),
     // A suffix has the indent that stands around it.
@@ -39,6 +30,22 @@ const LAYOUTS: [Case<'static>; 19] = [
     (0, "Append Nest 2 HardLine WeakSpace", "\n"),
     // Suffixes are laid at the end of the document too.
     (0, "LineSuffix HardLine", "\n"),
+];
+
+// Whose layouts have no line end but of payloads, and are the same whatever ends a line.
+#[rattlefmt::skip]
+const PAYLOADS: [Case<'static>; 5] = [
+    // Each line of a payload has to fit.
+    (3, "Union MultilineText 'bc\nghij' LineSuffix ExpandParent", ""),
+    // A probe reads the second of two alternatives.
+    (3, "PartialUnion PartialUnion MultilineText '你\nlonger\n' MultilineText 'ghij\r\nghij\r\ndef' WeakLine", ""),
+    // A break in a payload lays no suffix.
+    (2, "Append LineSuffix Text 'a' MultilineText 'a\nb'", "a\nba"),
+    // A line that was past the width before the alternatives rejects none.
+    (2, "Append Text 'lyil' Append Union MultilineText '\r\n  ' Text 'bdiavfi' Text 'y'", "lyil\r\n  y"),
+    // What a rejected alternative took is back: suffixes, and columns of the line.
+    (3, "Append LineSuffix Flatten Text 'eekd' BreakOrFlat Union HardLine Text 'rko' Append WeakLine Nest 1 \
+         MultilineText 'ghij\r\n x'", "rkoeekd"),
 ];
 
 #[rattlefmt::skip]
@@ -65,6 +72,13 @@ const FAILURES: [Case<'static>; 1] = [
 #[test]
 fn layouts(rt: HostRuntime) -> Result<(), Fail> {
     compare(&rt, rt.alloc(), &LAYOUTS)
+}
+
+#[test]
+fn payloads(rt: HostRuntime) -> Result<(), Fail> {
+    compare(&rt, rt.alloc(), &PAYLOADS)?;
+    let lines = options(LineEnding::Crlf, IndentationPolicy::Eager);
+    compare_with(&rt, rt.alloc(), lines, &PAYLOADS)
 }
 
 #[test]

@@ -23,9 +23,18 @@ const PAYLOADS: [Case<'static>; 8] = [
 ];
 
 #[rattlefmt::skip]
-const ENDINGS: [Case<'static>; 2] = [
+const ENDINGS: [Case<'static>; 9] = [
     // Their line ends stay where other lines end in CR and LF.
     (80, "MultilineText 'a\r\n\nb\n'", "a\r\n\nb\n"),
+    (80, "Append Text 'key: ' MultilineText 'one\n  two'", "key: one\n  two"),
+    (80, "Nest 2 Append HardLine MultilineText 'a\nb'", "\r\n  a\nb"),
+    (80, "Append LineSuffix Text ' // 1' MultilineText '\"b\nc\"'", "\"b\nc\" // 1"),
+    (80, "Group Append Append Text 'a' BreakOrFlat HardLine Text ' ' MultilineText 'b\nc'", "a\r\nb\nc"),
+    (8, "Append Append Text 'aaaa' Group Append BreakOrFlat HardLine Text ' ' Text 'b' MultilineText 'cc\nd'",
+     "aaaa bcc\nd"),
+    (7, "Append Append Text 'aaaa' Group Append BreakOrFlat HardLine Text ' ' Text 'b' MultilineText 'cc\nd'",
+     "aaaa\r\nbcc\nd"),
+    (80, "Append MultilineText 'a\n' Text 'b'", "a\nb"),
     (80, "Append Append Text 'a\nb' HardLine Text 'c'", "a\nb\r\nc"),
 ];
 

@@ -19,6 +19,24 @@ pub(crate) fn rendered<'a, T: DocPtr<'a>>(
     Ok(out)
 }
 
+// Compares what a document with no line end in its texts is rendered as, with lines that end in LF and in CR LF.
+pub(crate) fn compare_document<'a, T: DocPtr<'a>>(
+    rt: &impl Abort,
+    memory: Global,
+    document: &T,
+    width: usize,
+    layout: &str,
+) -> Result<(), Fail> {
+    let out = rendered(memory, document, width)?;
+    assert_eq!(rt; out.as_str(), layout, "at {width}");
+    let options = RenderOptions::new(width).with_line_ending(LineEnding::Crlf);
+    let mut out = String::new(memory);
+    document.doc().render_fmt_with(memory, options, &mut out)?;
+    let layout = with_crlf(memory, layout)?;
+    assert_eq!(rt; out.as_str(), layout.as_str(), "at {width}");
+    Ok(())
+}
+
 // The bytes before the node that fails, or all of them.
 fn outcome<'a, T: DocPtr<'a>>(
     memory: Global,
@@ -67,6 +85,62 @@ fn outcomes(
     Ok([boxed, counted, lent])
 }
 
+// What is rendered: all of a layout, or the bytes before the node that fails.
+type Expected<'a> = Result<&'a str, &'a str>;
+
+// The same with lines that end in CR LF, where each line end is one of a break.
+fn with_crlf(memory: Global, layout: &str) -> Result<String, Fail> {
+    Ok(layout.replace(memory, '\n', "\r\n")?)
+}
+
+// Compares what a document is rendered as through each pointer.
+fn compare_through(
+    rt: &impl Abort,
+    memory: Global,
+    options: RenderOptions,
+    written: &str,
+    expected: Expected<'_>,
+) -> Result<(), Fail> {
+    let width = options.width;
+    for outcome in outcomes(memory, written, options)? {
+        match (&outcome, expected) {
+            (Ok(out), Ok(layout)) => {
+                assert_eq!(rt; out.as_str(), layout, "{written} at {width}");
+            }
+            (Err(out), Err(before)) => {
+                assert_eq!(rt; out.as_str(), before, "{written} at {width}");
+            }
+            _ => panic!(rt; "{written} at {width} is {outcome:?}"),
+        }
+    }
+    Ok(())
+}
+
+// The same, and again with CR LF for LF at the end of each line, if no text of the document has a line end.
+fn compare_endings(
+    rt: &impl Abort,
+    memory: Global,
+    options: RenderOptions,
+    written: &str,
+    expected: Expected<'_>,
+) -> Result<(), Fail> {
+    compare_through(rt, memory, options, written, expected)?;
+    if options.line_ending == LineEnding::Crlf || written.contains('\n') {
+        return Ok(());
+    }
+    let options = options.with_line_ending(LineEnding::Crlf);
+    match expected {
+        Ok(layout) => {
+            let layout = with_crlf(memory, layout)?;
+            compare_through(rt, memory, options, written, Ok(layout.as_str()))
+        }
+        Err(before) => {
+            let before = with_crlf(memory, before)?;
+            compare_through(rt, memory, options, written, Err(before.as_str()))
+        }
+    }
+}
+
 // Compares what each document is rendered as with these options at its width.
 pub(crate) fn compare_with(
     rt: &impl Abort,
@@ -75,12 +149,7 @@ pub(crate) fn compare_with(
     cases: &[Case<'_>],
 ) -> Result<(), Fail> {
     for &(width, written, layout) in cases {
-        for outcome in outcomes(memory, written, options.with_width(width))? {
-            match outcome {
-                Ok(out) => assert_eq!(rt; out.as_str(), layout, "{written} at {width}"),
-                Err(out) => panic!(rt; "{written} at {width} fails after {out:?}"),
-            }
-        }
+        compare_endings(rt, memory, options.with_width(width), written, Ok(layout))?;
     }
     Ok(())
 }
@@ -98,12 +167,7 @@ pub(crate) fn compare_failing(
     cases: &[Case<'_>],
 ) -> Result<(), Fail> {
     for &(width, written, before) in cases {
-        for outcome in outcomes(memory, written, options.with_width(width))? {
-            match outcome {
-                Ok(out) => panic!(rt; "{written} at {width} is {out:?}"),
-                Err(out) => assert_eq!(rt; out.as_str(), before, "{written} at {width}"),
-            }
-        }
+        compare_endings(rt, memory, options.with_width(width), written, Err(before))?;
     }
     Ok(())
 }
