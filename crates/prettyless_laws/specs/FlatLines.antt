@@ -1,12 +1,14 @@
--- Laws of flat lines: what the probe answers yes to is laid on one line.
-use Rattle.std.specs.Prelude.{◌≡◌, ℕ, suc, true, List, [], ◌∷◌, ◌++◌}
+-- Laws of flat lines: what the probe answers yes to is laid on one line, and told so by the trace.
+use Rattle.std.specs.Prelude.{◌≡◌, ℕ, suc, ◌≤◌, true, List, [], ◌∷◌, ◌++◌, All, ⊤}
 use Rattle.prettyless_sink.specs.declared.options.RenderOptions.{RenderOptions}
 use Rattle.prettyless_model.specs.Tree.{Tree, Nil, Fail, Text, TextWithLen, MultilineText, WeakSpace, HardLine, WeakLine, Append, LineSuffix, Nest, DedentToRoot, Align, ExpandParent, Flatten, BreakOrFlat, Group, Union, PartialUnion}
 use Rattle.prettyless_model.specs.Reading.{Atom, fits}
 use Rattle.prettyless_model.specs.Layout.{State, Done, Breaks, Entry, lay, probe, rest_atoms, some_pending, tried, breaks}
 use Rattle.prettyless_model.specs.Levels.{settle}
 use Rattle.prettyless_model.specs.declared.mode.Mode.{Mode}
-use Rattle.prettyless_model.specs.declared.mode.Mode.TheVariants.{Flat}
+use Rattle.prettyless_model.specs.declared.mode.Mode.TheVariants.{Break, Flat}
+use Rattle.prettyless_laws.specs.Trace as told
+use Rattle.prettyless_laws.specs.Trace.{Piece, Ending, Indent, Gap, Source, Chose, First, Told, BreakTellings, tell, tell_breaks}
 
 -- the documents that a tree leaves pending in Flat, in their order
 abbrev pub flat_suffixes : Tree → List Tree
@@ -71,3 +73,54 @@ GroupsThatFitAreFlat =
 -- breaks with at least one level, and with as many as they need, leave out such weak lines
 abbrev pub BreaksSkipWeakLines : Type 0
 BreaksSkipWeakLines = (o : RenderOptions) → ((n : ℕ) → SkipsWeakLines (breaks o (suc n))) × SkipsWeakLines (settle o)
+
+-- a piece that stays on its line and within this width: a gap, or a text that ends by then; nothing else
+abbrev pub IsOnOneLine : ℕ → Piece → Type 0
+IsOnOneLine width Ending = ⊥
+IsOnOneLine width (Indent k used) = ⊥
+IsOnOneLine width (Gap g) = ⊤
+IsOnOneLine width (told.Text s column) = column ≤ width
+IsOnOneLine width (Source s) = ⊥
+IsOnOneLine width (Chose side) = ⊥
+
+-- a telling of breaks that tells nothing of a weak line where the line is fresh and nothing is pending; of every other
+-- break it says nothing
+abbrev pub PassesWeakLines : BreakTellings → Type 0
+PassesWeakLines brk =
+    (i : ℕ) (rest : List Entry) (st : State) → st.pending ≡ [] → st.column.fresh ≡ true → brk WeakLine i Flat rest st ≡ Told [] st
+
+-- a tree is told in Flat from a state as these pieces, up to this state, however a break is told, at any indent and
+-- before anything
+abbrev pub TellsFlat : RenderOptions → Tree → State → List Piece → State → Type 0
+TellsFlat o d st pieces behind =
+    (brk : BreakTellings) → PassesWeakLines brk → (i : ℕ) (rest : List Entry) → tell o brk d i Flat rest st ≡ Told pieces behind
+
+-- a tree that lies on one line, and is told so
+pub record IsToldOnOneLine (o : RenderOptions) (d : Tree) (atoms : List Atom) (st : State) : Type 0 where
+  -- how it is laid
+  pub lies : LiesOnOneLine o d atoms st
+  -- what it is told as
+  pub pieces : List Piece
+  -- these, up to the state that its layout comes to
+  pub told : TellsFlat o d st pieces lies.state
+  -- no end of a line is among them, no indent, no payload and no alternative, and no text that ends past the width
+  pub on_one_line : All (IsOnOneLine o.width) pieces
+
+-- a group that is met in Break is told as its first alternative, and then as its document on one line
+pub record IsToldAsFlatGroup (o : RenderOptions) (d : Tree) (rest : List Entry) (st : State) : Type 0 where
+  -- the document
+  pub document : IsToldOnOneLine o d (rest_atoms rest) st
+  -- the group, however a break is told
+  pub told : (brk : BreakTellings) → PassesWeakLines brk → (i : ℕ) → tell o brk (Group d) i Break rest st ≡ Told (Chose First ∷ document.pieces) document.lies.state
+
+-- what the probe answers yes to in Flat is told on one line
+abbrev pub WhatFitsIsToldOnOneLine : Type 0
+WhatFitsIsToldOnOneLine = (o : RenderOptions) (d : Tree) (rest : List Entry) (st : State) → probe o d Flat rest st ≡ true → IsToldOnOneLine o d (rest_atoms rest) st
+
+-- a group is told so wherever its probe answers yes
+abbrev pub GroupsThatFitAreToldFlat : Type 0
+GroupsThatFitAreToldFlat = (o : RenderOptions) (d : Tree) (rest : List Entry) (st : State) → probe o d Flat rest st ≡ true → IsToldAsFlatGroup o d rest st
+
+-- the trace's own breaks, of at least one level, tell nothing of such weak lines
+abbrev pub ToldBreaksPassWeakLines : Type 0
+ToldBreaksPassWeakLines = (o : RenderOptions) (n : ℕ) → PassesWeakLines (tell_breaks o (suc n))

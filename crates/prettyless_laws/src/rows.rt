@@ -16,6 +16,8 @@ pub fn rows()
         (Gap 0 ∷ told_text "a" 1 ∷ Gap 2 ∷ told_text "b" 4 ∷ []) }
     ensures group_fits { Tells 80 (pair "a" "b")
         (Chose First ∷ Gap 0 ∷ told_text "a" 1 ∷ Gap 0 ∷ told_text " " 2 ∷ Gap 0 ∷ told_text "b" 3 ∷ []) }
+    ensures group_fills { Tells 3 (pair "a" "b")
+        (Chose First ∷ Gap 0 ∷ told_text "a" 1 ∷ Gap 0 ∷ told_text " " 2 ∷ Gap 0 ∷ told_text "b" 3 ∷ []) }
     ensures group_breaks { Tells 2 (pair "a" "b")
         (Chose Second ∷ Gap 0 ∷ told_text "a" 1 ∷ Ending ∷ Indent 0 true ∷ Gap 0 ∷ told_text "b" 1 ∷ []) }
     ensures flattened { Tells 1 (Flatten (pair "a" "b")) (Gap 0 ∷ told_text "a" 1 ∷ Gap 0 ∷ told_text " " 2 ∷ Gap 0 ∷ told_text "b" 3 ∷ []) }

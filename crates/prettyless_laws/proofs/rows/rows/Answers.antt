@@ -10,6 +10,7 @@ returns c = record {
   last_line = (refl, refl);
   spaces = (refl, refl);
   group_fits = (refl, refl);
+  group_fills = (refl, refl);
   group_breaks = (refl, refl);
   flattened = (refl, refl);
   kept = (refl, refl);
