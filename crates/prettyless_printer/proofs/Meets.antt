@@ -1,0 +1,171 @@
+-- Counts from below: of a step, of a choice, and of turns in a row.
+use Rattle.std.proofs.Common.{◌≡◌, ℕ, ◌+◌, ◌-◌, ◌^◌, ◌<◌, ◌≤◌, min, nat_le, List, [], ◌∷◌, ◌++◌, length, arith, refl, ap, sym, ◌∙◌, append_assoc, length-append, subst, Bool, true, false, ◌&&◌, Option, Some, None, if◌then◌else◌}
+use Rattle.std.proofs.lemmas.Bool.{le-leb, leb-true}
+use Rattle.prettyless_sink.specs.Sink.{rise}
+use Rattle.prettyless_sink.specs.Spaces.{spaces}
+use Rattle.prettyless_sink.specs.declared.options.RenderOptions.{RenderOptions}
+use Rattle.prettyless_sink.specs.declared.visits.Visits.{Visits}
+use Rattle.prettyless_model.specs.Tree.{Tree, Nil, Fail, Text, TextWithLen, MultilineText, WeakSpace, HardLine, WeakLine, Append, LineSuffix, Nest, DedentToRoot, Align, ExpandParent, Flatten, BreakOrFlat, Group, Union, PartialUnion}
+use Rattle.prettyless_model.specs.Metrics.{metrics}
+use Rattle.prettyless_model.specs.Column.{gap, prospective, padding_fits}
+use Rattle.prettyless_model.specs.Reading.{by_mode}
+use Rattle.prettyless_model.specs.Layout.{State, Outcome, Done, Failed, Entry, after_bytes, and_then, accept, lay, lay_each, lay_text, lay_payload, payload_fits, behind_payload, nested, probe, some_pending, tried, flushed, entry, entries, plain_break, break_with}
+use Rattle.prettyless_model.specs.Levels.{settle}
+use Rattle.prettyless_model.specs.Counts.{Weight, each_node, each_probe, counted_then, counted_accept, tally}
+use Rattle.prettyless_model.proofs.Levels.{settle_fixed}
+use Rattle.prettyless_model.specs.declared.mode.Mode.{Mode}
+use Rattle.prettyless_model.specs.declared.mode.Mode.TheVariants.{Break, Flat}
+use Rattle.prettyless_printer.specs.Stack.{Task, make_task, tasks, follow, stack_of}
+use Rattle.prettyless_printer.specs.Steps.{Step, Move, Stuck, Choose, step_of, union_step, decided_by_metrics, break_step, at_once, chosen}
+use Rattle.prettyless_printer.specs.Printing.{state_of, ShowsAt, TookNext}
+use Rattle.prettyless_printer.specs.Meets.{tally_above, tally_choice, nothing_left, Meets, stack_tally, choice_tally, trial_tally}
+use Rattle.prettyless_printer.specs.declared.printer.Printer.{Printer}
+use Rattle.prettyless_printer.proofs.Runs.{follow-tasks, payload_branch, no_padding}
+
+-- what a task counts, and then those behind it
+abbrev tally_with : RenderOptions → ℕ → Task → List Task → State → Weight → ℕ
+tally_with o n t ts st w =
+    tally o t.tree t.indent t.mode (follow ts) st w + counted_then (lay o (settle o) t.tree t.indent t.mode (follow ts) st) (λ u. tally_above o n ts u w)
+
+-- more than n tasks: the first one counts
+above_is : (o : RenderOptions) (n : ℕ) (t : Task) (ts : List Task) (st : State) (w : Weight) → n ≤ length ts → tally_above o n (t ∷ ts) st w ≡ tally_with o n t ts st w
+unfolding tally_above
+above_is o n t ts st w l = ap (λ (v : Bool). if v then tally_with o n t ts st w else 0) (le-leb n (length ts) l)
+
+-- no more than n tasks: nothing counts
+above_none : (o : RenderOptions) (n : ℕ) (ts : List Task) (st : State) (w : Weight) → length ts ≤ n → tally_above o n ts st w ≡ 0
+unfolding tally_above
+above_none o n [] st w l = refl
+above_none o n (t ∷ ts) st w l =
+    elim (nat_le n (length ts)) as (λ v. nat_le n (length ts) ≡ v → (if v then tally_with o n t ts st w else 0) ≡ 0)
+    [ true ↦ (λ e. absurd (omega (arith, leb-true n (length ts) e))) | false ↦ (λ e. refl) ] refl
+
+counted_after : (b : List ℕ) (out : Outcome) (k : State → ℕ) → counted_then (after_bytes b out) k ≡ counted_then out k
+counted_after b (Done c st) k = refl
+counted_after b (Failed c) k = refl
+
+counted_then-then : (out : Outcome) (next : State → Outcome) (k : State → ℕ) → counted_then (and_then out next) k ≡ counted_then out (λ u. counted_then (next u) k)
+counted_then-then (Done b st) next k = counted_after b (next st) k
+counted_then-then (Failed b) next k = refl
+
+counted_less : (out : Outcome) (j k : State → ℕ) → ((u : State) → j u ≤ k u) → counted_then out j ≤ counted_then out k
+counted_less (Done b st) j k h = h st
+counted_less (Failed b) j k h = omega arith
+
+-- two counts behind an outcome, added up
+appended : (out : Outcome) (j k both : State → ℕ) → ((u : State) → both u ≡ j u + k u) → counted_then out both ≡ counted_then out j + counted_then out k
+appended (Done b st) j k both h = h st
+appended (Failed b) j k both h = refl
+
+-- a step behind which no less is left to count, but for what its node counts
+abbrev StepCounts : RenderOptions → ℕ → List Task → State → Weight → ℕ → ℕ → Step → Type 0
+StepCounts o n ts st w was self (Move b pushed u) = was ≤ self + tally_above o n (pushed ++ ts) u w
+StepCounts o n ts st w was self Stuck = Unit {0}
+StepCounts o n ts st w was self (Choose i l r) = was ≤ self + tally_choice o n i l r ts st w
+
+at_once_counts : (o : RenderOptions) (n : ℕ) (ts : List Task) (st : State) (w : Weight) (self : ℕ) (out : Outcome) → StepCounts o n ts st w (self + counted_then out (λ u. tally_above o n ts u w)) self (at_once out)
+at_once_counts o n ts st w self (Done b u) = omega arith
+at_once_counts o n ts st w self (Failed b) = tt
+
+-- trees of one list count no less as tasks
+each_counts : (o : RenderOptions) (n : ℕ) (ds : List Tree) (i : ℕ) (m : Mode) (us : List Task) (st : State) (w : Weight) → n ≤ length us →
+    counted_then (lay_each o (settle o) ds i m (follow us) st) (λ u. tally_above o n us u w) ≤ tally_above o n (tasks i m ds ++ us) st w
+unfolding lay_each
+each_counts o n [] i m us st w l = omega arith
+each_counts o n (d ∷ ds) i m us st w l =
+    let out : Outcome = lay o (settle o) d i m (entries i ds ++ follow us) st in
+    let next : State → ℕ = λ u. tally_above o n us u w in
+    let rest : State → ℕ = λ u. tally_above o n (tasks i m ds ++ us) u w in
+    let a : counted_then (and_then out (λ u. lay_each o (settle o) ds i m (follow us) u)) next ≡ counted_then out (λ u. counted_then (lay_each o (settle o) ds i m (follow us) u) next) = counted_then-then out (λ u. lay_each o (settle o) ds i m (follow us) u) next in
+    let b : counted_then out (λ u. counted_then (lay_each o (settle o) ds i m (follow us) u) next) ≤ counted_then out rest = counted_less out (λ u. counted_then (lay_each o (settle o) ds i m (follow us) u) next) rest (λ u. each_counts o n ds i m us u w l) in
+    let c = above_is o n (make_task i m d) (tasks i m ds ++ us) st w (omega (arith, length-append (tasks i m ds) us)) in
+    let e : counted_then (lay o (settle o) d i m (follow (tasks i m ds ++ us)) st) rest ≡ counted_then out rest = ap (λ (r : List Entry). counted_then (lay o (settle o) d i m r st) rest) (follow-tasks i m ds us) in
+    omega (arith, a, b, c, e)
+
+-- a break: the line ends, or what is pending comes first
+break_counts : (o : RenderOptions) (n : ℕ) (ps : List Tree) (d : Tree) (i : ℕ) (m : Mode) (ts : List Task) (st : State) (w : Weight) (self : ℕ) → n ≤ length ts →
+    (lay o (settle o) d i m (follow ts) ≡ settle o d i m (follow ts)) →
+    StepCounts o n ts st w (self + counted_then (break_with o (settle o) ps d i m (follow ts) st) (λ u. tally_above o n ts u w)) self (break_step o ps d i m (follow ts) st)
+break_counts o n [] d i m ts st w self l e = at_once_counts o n ts st w self (plain_break o d i (follow ts) st)
+break_counts o n (p ∷ ps) d i m ts st w self l e =
+    let rest : List Entry = follow ts in
+    let again : Task = make_task i m d in
+    let next : State → ℕ = λ u. tally_above o n ts u w in
+    let out : Outcome = lay_each o (settle o) (p ∷ ps) i m (entry i d ∷ rest) (flushed o st) in
+    let a : counted_then (after_bytes (spaces (gap st.column)) (and_then out (settle o d i m rest))) next ≡ counted_then out (λ u. counted_then (settle o d i m rest u) next) = counted_after (spaces (gap st.column)) (and_then out (settle o d i m rest)) next ∙ counted_then-then out (settle o d i m rest) next in
+    let b : counted_then out (λ u. counted_then (settle o d i m rest u) next) ≤ counted_then out (λ u. tally_above o n (again ∷ ts) u w) =
+    counted_less out (λ u. counted_then (settle o d i m rest u) next) (λ u. tally_above o n (again ∷ ts) u w)
+    (λ u. omega (arith, above_is o n again ts u w l, ap (λ (g : State → Outcome). counted_then (g u) next) e)) in
+    let c = each_counts o n (p ∷ ps) i m (again ∷ ts) (flushed o st) w (omega arith) in
+    let x = ap (λ (us : List Task). tally_above o n us (flushed o st) w) (append_assoc (tasks i m (p ∷ ps)) (again ∷ []) ts) in
+    omega (arith, a, b, c, x)
+
+-- one of two nodes
+either_counts : (o : RenderOptions) (n : ℕ) (l r : Tree) (i : ℕ) (ts : List Task) (st : State) (w : Weight) (self : ℕ) (v : Bool) → n ≤ length ts →
+    self + (if v then tally o l i Break (follow ts) st w else tally o r i Break (follow ts) st w)
+    + counted_then (if v then lay o (settle o) l i Break (follow ts) st else lay o (settle o) r i Break (follow ts) st) (λ u. tally_above o n ts u w)
+    ≤ self + tally_above o n (make_task i Break (if v then l else r) ∷ ts) st w
+either_counts o n l r i ts st w self true h = omega (arith, above_is o n (make_task i Break l) ts st w h)
+either_counts o n l r i ts st w self false h = omega (arith, above_is o n (make_task i Break r) ts st w h)
+
+-- a payload as the first branch counts where its metrics say so
+payload_counts : (o : RenderOptions) (b : List ℕ) (st : State) (x y : ℕ) (v : Bool) → v ≡ payload_fits o (metrics b) st.column →
+    counted_accept o (lay_payload o (metrics b) b (tried st)) x y ≡ (if v then x else y)
+payload_counts o b st x y true e =
+    ap (λ (z : Bool). if z then x else y)
+    (ap (λ (z : Bool). z && padding_fits o.width (some_pending st.pending) (behind_payload (metrics b))) (sym e) ∙ no_padding o.width (some_pending st.pending) (metrics b).last_nonempty (metrics b))
+payload_counts o b st x y false e =
+    ap (λ (z : Bool). if z then x else y)
+    (ap (λ (z : Bool). z && padding_fits o.width (some_pending st.pending) (behind_payload (metrics b))) (sym e))
+
+union_counts : (o : RenderOptions) (n : ℕ) (l r : Tree) (i : ℕ) (ts : List Task) (st : State) (w : Weight) (self : ℕ) → n ≤ length ts →
+    StepCounts o n ts st w (self + tally_choice o n i l r ts st w) self (union_step (decided_by_metrics o l st) l r i st)
+unfolding lay tally
+union_counts o n (MultilineText s) r i ts st w self h =
+    let v : Bool = payload_fits o (metrics s) st.column in
+    let next : State → ℕ = λ u. tally_above o n ts u w in
+    let a = payload_counts o s st (w (MultilineText s) Break) (tally o r i Break (follow ts) st w) v refl in
+    let b = ap (λ (z : Outcome). counted_then z next) (payload_branch o (metrics s) s st (lay o (settle o) r i Break (follow ts) st) v refl) in
+    omega (arith, a, b, either_counts o n (MultilineText s) r i ts st w self v h)
+union_counts o n _ r i ts st w self h = omega arith
+
+-- Behind a step no less is left to count, but for what its node counts.
+step_counts : (o : RenderOptions) (n : ℕ) (d : Tree) (i : ℕ) (m : Mode) (ts : List Task) (st : State) (w : Weight) → n ≤ length ts →
+    StepCounts o n ts st w (tally_with o n (make_task i m d) ts st w) (w d m) (step_of o d i m (follow ts) st)
+unfolding lay tally
+step_counts o n Nil i m ts st w h = omega arith
+step_counts o n Fail i m ts st w h = tt
+step_counts o n (Text s) i m ts st w h = at_once_counts o n ts st w (w (Text s) m) (lay_text o (length s) s st)
+step_counts o n (TextWithLen k s) i m ts st w h = at_once_counts o n ts st w (w (TextWithLen k s) m) (lay_text o k s st)
+step_counts o n (MultilineText s) i Break ts st w h = omega arith
+step_counts o n (MultilineText s) i Flat ts st w h = tt
+step_counts o n WeakSpace i m ts st w h = omega arith
+step_counts o n HardLine i Break ts st w h =
+    subst (λ (z : Outcome). StepCounts o n ts st w (w HardLine Break + counted_then z (λ u. tally_above o n ts u w)) (w HardLine Break) (break_step o st.pending HardLine i Break (follow ts) st))
+    (sym (settle_fixed o HardLine i Break (follow ts) st)) (break_counts o n st.pending HardLine i Break ts st w (w HardLine Break) h refl)
+step_counts o n HardLine i Flat ts st w h = tt
+step_counts o n WeakLine i m ts st w h =
+    subst (λ (z : Outcome). StepCounts o n ts st w (w WeakLine m + counted_then z (λ u. tally_above o n ts u w)) (w WeakLine m) (break_step o st.pending WeakLine i m (follow ts) st))
+    (sym (settle_fixed o WeakLine i m (follow ts) st)) (break_counts o n st.pending WeakLine i m ts st w (w WeakLine m) h refl)
+step_counts o n (Append l r) i m ts st w h =
+    let out : Outcome = lay o (settle o) l i m (entry i r ∷ follow ts) st in
+    let next : State → ℕ = λ u. tally_above o n ts u w in
+    let a = counted_then-then out (λ u. lay o (settle o) r i m (follow ts) u) next in
+    let b = appended out (λ u. tally o r i m (follow ts) u w) (λ u. counted_then (lay o (settle o) r i m (follow ts) u) next) (λ u. tally_above o n (make_task i m r ∷ ts) u w) (λ u. above_is o n (make_task i m r) ts u w h) in
+    omega (arith, a, b, above_is o n (make_task i m l) (make_task i m r ∷ ts) st w (omega arith))
+step_counts o n (LineSuffix d) i m ts st w h = omega arith
+step_counts o n (Nest k d) i m ts st w h = omega (arith, above_is o n (make_task (nested i k) m d) ts st w h)
+step_counts o n (DedentToRoot d) i m ts st w h = omega (arith, above_is o n (make_task 0 m d) ts st w h)
+step_counts o n (Align d) i m ts st w h = omega (arith, above_is o n (make_task (prospective st.column) m d) ts st w h)
+step_counts o n ExpandParent i m ts st w h = omega arith
+step_counts o n (Flatten d) i m ts st w h = omega (arith, above_is o n (make_task i Flat d) ts st w h)
+step_counts o n (BreakOrFlat b f) i Break ts st w h = omega (arith, above_is o n (make_task i Break b) ts st w h)
+step_counts o n (BreakOrFlat b f) i Flat ts st w h = omega (arith, above_is o n (make_task i Flat f) ts st w h)
+step_counts o n (Group d) i m ts st w h =
+    omega (arith, above_is o n (make_task i (by_mode m (if probe o d Flat (follow ts) st then Flat else Break) Flat) d) ts st w h)
+step_counts o n (Union l r) i Break ts st w h =
+    subst (λ (z : ℕ). StepCounts o n ts st w z (w (Union l r) Break) (union_step (decided_by_metrics o l st) l r i st)) (omega arith) (union_counts o n l r i ts st w (w (Union l r) Break) h)
+step_counts o n (Union l r) i Flat ts st w h = omega (arith, above_is o n (make_task i Flat l) ts st w h)
+step_counts o n (PartialUnion l r) i Break ts st w h =
+    omega (arith, either_counts o n l r i ts st w (w (PartialUnion l r) Break) (probe o l Break (follow ts) st) h)
+step_counts o n (PartialUnion l r) i Flat ts st w h = omega (arith, above_is o n (make_task i Flat l) ts st w h)
