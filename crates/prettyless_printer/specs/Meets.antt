@@ -32,10 +32,14 @@ tally_choice o n i x y ts st w =
 abbrev pub nothing_left : Weight → ℕ
 nothing_left w = 0
 
+-- a count that rose by k at least, or stands at the greatest value
+abbrev pub RisesBy : ℕ → ℕ → ℕ → Type 0
+RisesBy k old new = min (old + k) (2 ^ 64 - 1) ≤ new
+
 -- The counts keep up: with what is left to count they have no less than before, or are at the greatest value.
 pub record Meets (before left : Weight → ℕ) (v w : Visits) : Type 0 where
-  pub printer : min (v.printer + before each_node) (2 ^ 64 - 1) ≤ w.printer + left each_node
-  pub probes : min (v.probes + before each_probe) (2 ^ 64 - 1) ≤ w.probes + left each_probe
+  pub printer : RisesBy (before each_node) v.printer (w.printer + left each_node)
+  pub probes : RisesBy (before each_probe) v.probes (w.probes + left each_probe)
 
 -- what the printer's stack is to count until only n tasks are left
 abbrev pub stack_tally : {N : Type 0} → (N → Tree) → Printer N → ℕ → Weight → ℕ
@@ -64,5 +68,5 @@ TrialMeets f p i d v w false = Unit {0}
 
 -- A render counts at least the nodes that the layout lays, and at least the probes that it asks, up to the greatest count.
 pub record VisitedAtLeast (o : RenderOptions) (d : Tree) (v w : Visits) : Type 0 where
-  pub printer : min (v.printer + laid_nodes o d) (2 ^ 64 - 1) ≤ w.printer
-  pub probes : min (v.probes + laid_probes o d) (2 ^ 64 - 1) ≤ w.probes
+  pub printer : RisesBy (laid_nodes o d) v.printer w.printer
+  pub probes : RisesBy (laid_probes o d) v.probes w.probes
