@@ -1,5 +1,6 @@
 -- Counts from below: of a step, of a choice, and of turns in a row.
-use Rattle.std.proofs.Common.{◌≡◌, ℕ, ◌+◌, ◌-◌, ◌^◌, ◌<◌, ◌≤◌, min, nat_le, List, [], ◌∷◌, ◌++◌, length, arith, refl, ap, sym, ◌∙◌, append_assoc, length-append, subst, Bool, true, false, ◌&&◌, Option, Some, None, if◌then◌else◌}
+use Rattle.std.proofs.Common.{◌≡◌, ℕ, ◌+◌, ◌<◌, ◌≤◌, nat_le, List, [], ◌∷◌, ◌++◌, length, arith, refl, ap, sym, ◌∙◌, append_assoc, length-append, subst, Bool, true, false, ◌&&◌, Result, Ok, Err, if◌then◌else◌}
+use Rattle.std.specs.Prelude.{OnOk}
 use Rattle.std.proofs.lemmas.Bool.{le-leb, leb-true}
 use Rattle.prettyless_sink.specs.Sink.{rise}
 use Rattle.prettyless_sink.specs.Spaces.{spaces}
@@ -11,18 +12,18 @@ use Rattle.prettyless_model.specs.Column.{gap, prospective, padding_fits}
 use Rattle.prettyless_model.specs.Reading.{by_mode}
 use Rattle.prettyless_model.specs.Layout.{State, Outcome, Done, Failed, Entry, after_bytes, and_then, accept, lay, lay_each, lay_text, lay_payload, payload_fits, behind_payload, nested, probe, some_pending, tried, initial, flushed, entry, entries, plain_break, break_with}
 use Rattle.prettyless_model.specs.Levels.{settle}
-use Rattle.prettyless_model.specs.Counts.{Weight, each_node, each_probe, counted_then, counted_accept, tally, laid_nodes, laid_probes}
+use Rattle.prettyless_model.specs.Counts.{Weight, each_node, each_probe, counted_then, counted_accept, tally}
 use Rattle.prettyless_model.proofs.Levels.{settle_fixed}
 use Rattle.prettyless_model.specs.declared.mode.Mode.{Mode}
 use Rattle.prettyless_model.specs.declared.mode.Mode.TheVariants.{Break, Flat}
 use Rattle.prettyless_printer.specs.Stack.{Task, make_task, tasks, follow, stack_of}
-use Rattle.prettyless_printer.specs.Steps.{Step, Move, Stuck, Choose, step_of, union_step, decided_by_metrics, break_step, at_once, chosen}
+use Rattle.prettyless_printer.specs.Steps.{Step, Move, Stuck, Choose, step_of, union_step, decided_by_metrics, break_step, at_once}
 use Rattle.prettyless_printer.specs.Printing.{state_of, ShowsAt, TookNext}
 use Rattle.prettyless_printer.specs.Trials.{TrialDid}
 use Rattle.prettyless_printer.specs.Visits.{Rise}
 use Rattle.prettyless_printer.specs.Meets.{tally_above, tally_choice, nothing_left, RisesBy, Meets, stack_tally, choice_tally, trial_tally, VisitedAtLeast}
 use Rattle.prettyless_printer.specs.declared.piece.Piece.{Piece}
-use Rattle.prettyless_printer.specs.declared.printer.Taken.TheVariants.{Written, Failed as Refused, Chosen}
+use Rattle.prettyless_printer.specs.declared.printer.Taken.TheVariants.{Written, Chosen}
 use Rattle.prettyless_printer.specs.declared.printer.Printer.{Printer}
 use Rattle.prettyless_printer.proofs.Runs.{follow-tasks, payload_branch, no_padding}
 
@@ -320,8 +321,10 @@ pub meets_end : {N : Type 0} {a : Weight → ℕ} {v w : Visits} (f : N → Tree
 meets_end {N} {a} {v} {w} f p n l m = meets_at (λ k. omega arith) (λ k. omega (arith, above_none p.options n (stack_of f p.commands.items) (state_of f p) k l)) m
 
 -- a run that has worked on one tree from the beginning
-pub at_least : {N : Type 0} (f : N → Tree) (d : Tree) (p : Printer N) (v w : Visits) → stack_of f p.commands.items ≡ make_task 0 Break d ∷ [] → state_of f p ≡ initial → Meets (stack_tally f p 0) nothing_left v w → VisitedAtLeast p.options d v w
-at_least {N} f d p v w e s m =
+pub at_least : {N A E : Type 0} (f : N → Tree) (d : Tree) (p : Printer N) (v w : Visits) (r : Result A E) → stack_of f p.commands.items ≡ make_task 0 Break d ∷ [] → state_of f p ≡ initial →
+    OnOk r (Meets (stack_tally f p 0) nothing_left v w) → OnOk r (VisitedAtLeast p.options d v w)
+at_least {N} {A} {E} f d p v w (Ok x) e s m =
     let less : (k : Weight) → tally p.options d 0 Break [] initial k ≤ stack_tally f p 0 k = λ k.
     omega (arith, stack_counts f p 0 p.options (make_task 0 Break d ∷ []) initial k refl e s, above_is p.options 0 (make_task 0 Break d) [] initial k (omega arith)) in
     record { printer = omega (arith, less each_node, m.printer); probes = omega (arith, less each_probe, m.probes) }
+at_least {N} {A} {E} f d p v w (Err x) e s m = tt

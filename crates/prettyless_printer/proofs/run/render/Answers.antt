@@ -6,7 +6,6 @@ use Rattle.prettyless_printer.specs.Printing.{state_of}
 use Rattle.prettyless_printer.specs.Renders.{Rendered}
 use Rattle.prettyless_printer.proofs.Renders.{begins}
 use Rattle.prettyless_printer.proofs.Visits.{visited}
-use Rattle.prettyless_printer.specs.Meets.{VisitedAtLeast}
 use Rattle.prettyless_printer.proofs.Meets.{at_least}
 use Rattle.prettyless_printer.proofs.run.render.Goals as goal
 
@@ -45,4 +44,4 @@ returns-in-Ok-clause-at_least g c =
     let n : trees f (drop 0 c.new-3.result.items) ≡ [] = ap (λ x. trees f (drop 0 x)) c.new-3.ensures.items in
     let s : state_of f p ≡ initial = λ j. record { column = c.start.ensures j; pending = n j; within = true } in
     let e : stack_of f p.commands.items ≡ make_task 0 Break d ∷ [] = c.in-Ok.ensures ∙ ap (λ x. make_task 0 Break d ∷ stack_of f x) c.new.ensures.items in
-    ?
+    at_least f d p c.args.visits.now c.run_to_end.new.visits c.run_to_end.result e s c.run_to_end.ensures.meets
