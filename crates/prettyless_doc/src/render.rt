@@ -48,6 +48,10 @@ impl<'a, T: DocPtr<'a>> Doc<'a, T> {
     ///
     /// A document with no line suffix is taken up by the printer at most once a node, also where a trial was not kept.
     /// Each of its groups and partial unions asks one probe at most, which takes up a node at most once.
+    ///
+    /// On success the printer has taken up at least the nodes that the layout lays, and its probes at least one node for
+    /// each probe that the layout asks, up to the greatest `u64`. A rejected branch of a union counts nothing here, and
+    /// neither does what a line suffix puts off; a branch that is kept counts.
     pub fn render_raw_counted_with<W: Render>(
         &self,
         alloc: Global,

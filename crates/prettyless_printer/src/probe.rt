@@ -168,7 +168,8 @@ fn next_command<N: Walk>(
 }
 
 /// Whether a node, laid in this mode from where the line stands, stays within the width together with what follows it,
-/// up to the first line end. `stack` is only a place to work in. The nodes that it takes up are counted in `probes`.
+/// up to the first line end. `stack` is only a place to work in. The nodes that it takes up are counted in `probes`: one at
+/// least.
 #[tactic(auto, using(crate::proofs::Visits::size_positive))]
 pub fn probe<N: Walk>(
     width: usize,

@@ -165,7 +165,9 @@ fn run_to_end<N: Walk, W: Render>(
 /// and `Memory` where a growth was refused, which leaves the sink's failures as they were: what was appended then is a
 /// beginning of the layout's bytes.
 ///
-/// The nodes that are taken up are added to `visits`.
+/// The nodes that are taken up are added to `visits`: on success at least those that the layout lays, and at least one of a
+/// probe for each that the layout asks, where a rejected branch of a union counts nothing; and without line suffixes at most
+/// each node once, and each once for every node that asks a probe.
 pub fn render<N: Walk, W: Render>(
     alloc: Global,
     node: N,
