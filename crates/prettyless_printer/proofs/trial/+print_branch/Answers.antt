@@ -256,7 +256,7 @@ work-preserved-in_ok-push_node-in-Ok-Chosen g t c =
           let w = (rw c.in-Ok-Chosen.field-0-is at c.in-Ok-Chosen.ensures.meets) k l in
           let long : k ≤ length (stack_of f q.commands.items) = omega (arith, ap length e.stack_is, length-append e.above (stack_of f p.commands.items)) in
           meets_then c.work.invariant.meets
-              (meets_then w (other_meets f q r u c.in-Ok-Chosen.i x y new last c.turn.new.visits c.print_branch.new.visits k long n c.in_ok-push_node-in-Ok-Chosen.ensures refl refl c.print_branch.ensures.rise));
+          (meets_then w (other_meets f q r u c.in-Ok-Chosen.i x y new last c.turn.new.visits c.print_branch.new.visits k long n c.in_ok-push_node-in-Ok-Chosen.ensures refl refl c.print_branch.ensures.rise));
     }
 
 pub take_back-requires-then-not-padding_fits : goal.take_back-requires-then-not-padding_fits
