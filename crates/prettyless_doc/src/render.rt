@@ -1,8 +1,9 @@
-ghost use Rattle.std.specs.Prelude.{◌≡◌, ◌+◌, ◌*◌, ◌≤◌, ⊤, IfOk};
+ghost use Rattle.std.specs.Prelude.{◌≡◌, ◌+◌, ◌*◌, ◌-◌, ◌^◌, ◌≤◌, ⊤, min, IfOk, OnOk};
 ghost use Rattle.std.specs.IoError.{error_kind};
 ghost use Rattle.std.specs.declared.io.ErrorKind.TheVariants.{Other};
 ghost use Rattle.prettyless_sink.specs.Options.{options_at};
 ghost use Rattle.prettyless_model.specs.Content.{AppendsContent, AppendsKnownContent, suffix_depth};
+ghost use Rattle.prettyless_model.specs.Counts.{laid_nodes, laid_probes};
 ghost use Rattle.prettyless_model.specs.Layout.{layout};
 ghost use Rattle.prettyless_model.specs.Tree.{probed, size};
 ghost use Rattle.prettyless_printer.specs.Renders.{Rendered, RendersKnown};
@@ -47,6 +48,10 @@ impl<'a, T: DocPtr<'a>> Doc<'a, T> {
     ///
     /// A document with no line suffix is taken up by the printer at most once a node, also where a trial was not kept.
     /// Each of its groups and partial unions asks one probe at most, which takes up a node at most once.
+    ///
+    /// On success the printer has taken up at least the nodes that the layout lays, and its probes at least one node for
+    /// each probe that the layout asks, up to the greatest `u64`. A rejected branch of a union counts nothing here, and
+    /// neither does what a line suffix puts off; a branch that is kept counts.
     pub fn render_raw_counted_with<W: Render>(
         &self,
         alloc: Global,
@@ -65,6 +70,8 @@ impl<'a, T: DocPtr<'a>> Doc<'a, T> {
             → visits.new.printer ≤ visits.old.printer + size (tree_of T.tree self.now) }
         ensures probes { suffix_depth (tree_of T.tree self.now) ≡ 0
             → visits.new.probes ≤ visits.old.probes + size (tree_of T.tree self.now) * probed (tree_of T.tree self.now) }
+        ensures laid { OnOk result (min (visits.old.printer + laid_nodes options (tree_of T.tree self.now)) (2 ^ 64 - 1) ≤ visits.new.printer) }
+        ensures asked { OnOk result (min (visits.old.probes + laid_probes options (tree_of T.tree self.now)) (2 ^ 64 - 1) ≤ visits.new.probes) }
     {
         run::render(alloc, self, options, out, visits)
     }

@@ -4,6 +4,7 @@ pub mod Column
 pub mod Reading
 pub mod Layout
 pub mod Levels
+pub mod Counts
 pub mod Rows
 pub mod Spelling
 pub mod Content

@@ -7,6 +7,7 @@ use Rattle.prettyless_sink.specs.declared.options.LineEnding.TheVariants.{Lf, Cr
 use Rattle.prettyless_sink.specs.declared.options.IndentationPolicy.TheVariants.{Eager, Deferred}
 use Rattle.prettyless_model.specs.Tree.{Tree, Nil, Fail, Text, WeakSpace, HardLine, Append, LineSuffix, Nest, BreakOrFlat, Group, Union}
 use Rattle.prettyless_model.specs.Layout.{layout, Whole, Cut}
+use Rattle.prettyless_model.specs.Counts.{laid_nodes, laid_probes}
 
 -- at this width the document is laid out as these bytes
 abbrev pub Shows : ℕ → Tree → List ℕ → Type 0
@@ -15,6 +16,10 @@ Shows width d bytes = layout (options_at width) d ≡ Whole bytes
 -- at this width the document fails behind these bytes
 abbrev pub Fails : ℕ → Tree → List ℕ → Type 0
 Fails width d bytes = layout (options_at width) d ≡ Cut bytes
+
+-- at this width so many nodes are laid, and so many probes asked
+abbrev pub Counts : ℕ → Tree → ℕ → ℕ → Type 0
+Counts width d nodes probes = (laid_nodes (options_at width) d ≡ nodes) × (laid_probes (options_at width) d ≡ probes)
 
 abbrev pub deferred_at : ℕ → RenderOptions
 deferred_at width = record { width = width; line_ending = Lf; indentation_policy = Deferred }

@@ -4,7 +4,7 @@ ghost use Rattle.std.specs.Prelude.{◌≡◌, ◌^◌, ◌-◌, ◌++◌, List,
 ghost use Rattle.prettyless_model.specs.Tree.{Nil, Fail, Text, TextWithLen, MultilineText, WeakSpace, HardLine, WeakLine, Append, LineSuffix, Nest, DedentToRoot, Align, ExpandParent, Flatten, BreakOrFlat, Group, Union, PartialUnion};
 ghost use Rattle.prettyless_model.specs.Layout.{layout, Whole};
 ghost use Rattle.prettyless_model.specs.Spelling.{ink, parts, spells};
-ghost use Rattle.prettyless_model.specs.Rows.{Fails, Shows, accent, below, crlf_at, deferred_at, flat_or_failed, in_turn, line, noted, numbers, pair, remarked, tail, text, tight_pair, two_lines};
+ghost use Rattle.prettyless_model.specs.Rows.{Counts, Fails, Shows, accent, below, crlf_at, deferred_at, flat_or_failed, in_turn, line, noted, numbers, pair, remarked, tail, text, tight_pair, two_lines};
 
 /// A group stands on one line where it fits, and is broken where it does not.
 pub fn groups()
@@ -155,4 +155,19 @@ pub fn contents()
     ensures written { ink (codes "a // 1\nb // 2") ≡ codes "a//1b//2" }
     ensures by_every_choice { spells (Union (text "a b") (text "ab")) (codes "ab") }
     ensures by_no_word { (w : List ℕ) → spells (Union (text "a") (text "b")) w → ⊥ }
+{}
+
+/// What layouts count: the nodes that they lay, and the probes that they ask.
+pub fn counts()
+    ensures group_fits { Counts 80 (pair "a" "b") 7 1 }
+    ensures group_breaks { Counts 2 (pair "a" "b") 7 1 }
+    ensures flat_group { Counts 80 (Flatten (pair "a" "b")) 8 0 }
+    ensures partial { Counts 80 (PartialUnion (text "a") Nil) 2 1 }
+
+    // A kept branch counts, and a rejected one does not.
+    ensures kept { Counts 80 (Union (Group (two_lines "a" "b")) Nil) 7 1 }
+    ensures rejected { Counts 0 (Union (Group (two_lines "a" "b")) Nil) 2 0 }
+
+    // What waits for the end of its line does not count.
+    ensures put_off { Counts 80 (Append (LineSuffix (Append Nil Nil)) HardLine) 3 0 }
 {}

@@ -11,3 +11,4 @@ pub mod Working
 pub mod Renders
 pub mod Contents
 pub mod Visits
+pub mod Meets

@@ -17,7 +17,7 @@ use Rattle.prettyless_model.specs.declared.mode.Mode.TheVariants.{Break, Flat}
 use Rattle.prettyless_printer.specs.Stack.{Task, make_task, tasks, follow}
 use Rattle.prettyless_printer.specs.Steps.{lay_all, step_of, break_step, union_step, decided_by_metrics, at_once, chosen, runs}
 
-follow-tasks : (i : ℕ) (m : Mode) (ds : List Tree) (us : List Task) → follow (tasks i m ds ++ us) ≡ entries i ds ++ follow us
+pub follow-tasks : (i : ℕ) (m : Mode) (ds : List Tree) (us : List Task) → follow (tasks i m ds ++ us) ≡ entries i ds ++ follow us
 follow-tasks i m [] us = refl
 follow-tasks i m (d ∷ ds) us = ap (λ (x : List Entry). entry i d ∷ x) (follow-tasks i m ds us)
 
@@ -96,14 +96,14 @@ flag-and true = refl
 flag-and false = refl
 
 -- no padding stands behind a payload
-no_padding : (width : ℕ) (pending last : Bool) (m : Metrics) → padding_fits width pending (if last then commit m.last_width start else start) ≡ true
+pub no_padding : (width : ℕ) (pending last : Bool) (m : Metrics) → padding_fits width pending (if last then commit m.last_width start else start) ≡ true
 no_padding width true true m = refl
 no_padding width true false m = refl
 no_padding width false true m = refl
 no_padding width false false m = refl
 
 -- a payload as the first branch: its metrics decide what a trial would
-payload_branch : (o : RenderOptions) (m : Metrics) (b : List ℕ) (st : State) (other : Outcome) (v : Bool) → v ≡ payload_fits o m st.column →
+pub payload_branch : (o : RenderOptions) (m : Metrics) (b : List ℕ) (st : State) (other : Outcome) (v : Bool) → v ≡ payload_fits o m st.column →
     accept o st.within (lay_payload o m b (tried st)) other ≡ (if v then lay_payload o m b st else other)
 payload_branch o m b st other true e =
     let bytes : List ℕ = (if m.first_nonempty then spaces (gap st.column) else []) ++ b in

@@ -8,3 +8,4 @@ pub mod Trials
 pub mod Turns
 pub mod Renders
 pub mod Visits
+pub mod Meets

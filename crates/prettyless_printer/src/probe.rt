@@ -1,9 +1,10 @@
-ghost use Rattle.std.specs.Prelude.{◌≡◌, ◌++◌, ◌∷◌, [], IfOk, OnOk, IfSome, MatchOption, List, false, ◌+◌, ◌<◌, ◌≤◌, length, take};
+ghost use Rattle.std.specs.Prelude.{◌≡◌, ◌++◌, ◌∷◌, [], IfOk, OnOk, IfSome, MatchOption, List, false, ◌+◌, ◌<◌, ◌≤◌, ⊤, length, take};
 ghost use Rattle.prettyless_model.specs.Tree.{size};
 ghost use Rattle.prettyless_model.specs.Column.{padding_fits};
 ghost use Rattle.prettyless_model.specs.Reading.{Atom, Payload, Stop, Weak, by_mode, fits, ink_of, reading};
 ghost use Rattle.prettyless_model.specs.Layout.{rest_atoms};
 ghost use Rattle.prettyless_printer.specs.Stack.{AnswersAs, follow, nodes, read_tasks, stack_of};
+ghost use Rattle.prettyless_printer.specs.Meets.{RisesBy};
 
 use crate::command::Command;
 use crate::stack::{pop_command, push_node};
@@ -149,6 +150,7 @@ fn next_command<N: Walk>(
     ensures left { IfSome result
         (λ c. nodes (stack_of N.tree stack.old.items) + nodes (stack_of N.tree (take below.old commands.now))
         ≡ size (N.tree c.node) + (nodes (stack_of N.tree stack.new.items) + nodes (stack_of N.tree (take below.new commands.now)))) }
+    ensures own_first { MatchOption result (nodes (stack_of N.tree stack.old.items) ≡ 0) (λ _. ⊤) }
 {
     if let Some(command) = pop_command(stack) {
         return Some(command);
@@ -166,7 +168,8 @@ fn next_command<N: Walk>(
 }
 
 /// Whether a node, laid in this mode from where the line stands, stays within the width together with what follows it,
-/// up to the first line end. `stack` is only a place to work in. The nodes that it takes up are counted in `probes`.
+/// up to the first line end. `stack` is only a place to work in. The nodes that it takes up are counted in `probes`: one at
+/// least.
 #[tactic(auto, using(crate::proofs::Visits::size_positive))]
 pub fn probe<N: Walk>(
     width: usize,
@@ -181,6 +184,7 @@ pub fn probe<N: Walk>(
         (λ r. r ≡ fits width start.column start.pending (reading (N.tree node) mode ++ rest_atoms (follow (stack_of N.tree commands.now)))) }
     ensures rises { probes.old ≤ probes.new }
     ensures counted { probes.new ≤ probes.old + (size (N.tree node) + nodes (stack_of N.tree commands.now)) }
+    ensures asked { OnOk result (RisesBy 1 probes.old probes.new) }
 {
     let mut line = start;
     let mut below = commands.len();

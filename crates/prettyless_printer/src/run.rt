@@ -9,6 +9,7 @@ ghost use Rattle.prettyless_printer.specs.Printing.{state_of};
 ghost use Rattle.prettyless_printer.specs.Turns.{Chose};
 ghost use Rattle.prettyless_printer.specs.Renders.{Flushed, RanToEnd, Rendered, WorkedOff};
 ghost use Rattle.prettyless_printer.specs.Visits.{Plain, Rise, RunPays, Visited};
+ghost use Rattle.prettyless_printer.specs.Meets.{Meets, VisitedAtLeast, choice_tally, nothing_left, stack_tally};
 
 use crate::buffer::Buffer;
 use crate::pending::{is_pending, take_pending};
@@ -49,6 +50,7 @@ fn choose<N: Walk, W: Render>(
     ensures pays { Plain N.tree printer.old → suffix_depth (N.tree first) ≡ 0 → suffix_depth (N.tree second) ≡ 0
         → RunPays N.tree (make_task indent Break (N.tree first) ∷ make_task indent Break (N.tree second) ∷ stack_of N.tree printer.old.commands.items)
         printer.new visits.old visits.new result }
+    ensures meets { OnOk result (Meets (choice_tally N.tree printer.old 0 indent (N.tree first) (N.tree second)) (stack_tally N.tree printer.new 0) visits.old visits.new) }
 {
     buffer.text.clear();
     match print_branch(printer, buffer, indent, first, visits) {
@@ -83,6 +85,7 @@ fn work_off<N: Walk, W: Render>(
         (W.written out.old) (W.written out.new) (W.failures out.old) (W.failures out.new) result }
     ensures rise { Rise visits.old visits.new }
     ensures pays { Plain N.tree printer.old → RunPays N.tree (stack_of N.tree printer.old.commands.items) printer.new visits.old visits.new result }
+    ensures meets { OnOk result (Meets (stack_tally N.tree printer.old 0) nothing_left visits.old visits.new) }
 {
     'work: while printer.commands.len() > 0 {
         match turn(printer, out, visits) {
@@ -138,6 +141,7 @@ fn run_to_end<N: Walk, W: Render>(
         (W.written out.old) (W.written out.new) (W.failures out.old) (W.failures out.new) result }
     ensures rise { Rise visits.old visits.new }
     ensures pays { Plain N.tree printer.old → RunPays N.tree (stack_of N.tree printer.old.commands.items) printer.new visits.old visits.new result }
+    ensures meets { OnOk result (Meets (stack_tally N.tree printer.old 0) nothing_left visits.old visits.new) }
 {
     'rounds: loop {
         match work_off(printer, buffer, out, visits) {
@@ -161,7 +165,9 @@ fn run_to_end<N: Walk, W: Render>(
 /// and `Memory` where a growth was refused, which leaves the sink's failures as they were: what was appended then is a
 /// beginning of the layout's bytes.
 ///
-/// The nodes that are taken up are added to `visits`.
+/// The nodes that are taken up are added to `visits`: on success at least those that the layout lays, and at least one of a
+/// probe for each that the layout asks, where a rejected branch of a union counts nothing; and without line suffixes at most
+/// each node once, and each once for every node that asks a probe.
 pub fn render<N: Walk, W: Render>(
     alloc: Global,
     node: N,
@@ -175,6 +181,7 @@ pub fn render<N: Walk, W: Render>(
         (W.written out.old) (W.written out.new) (W.failures out.old) (W.failures out.new) result }
     ensures rise { Rise visits.old visits.new }
     ensures visited { Visited (N.tree node) visits.old visits.new }
+    ensures at_least { OnOk result (VisitedAtLeast options (N.tree node) visits.old visits.new) }
 {
     let mut printer = Printer {
         options,

@@ -1,12 +1,14 @@
-ghost use Rattle.std.specs.Prelude.{◌≡◌, ◌++◌, ◌+◌, ◌∷◌, ◌≤◌, ◌&&◌, [], true, vec_len, IfOk, if◌then◌else◌};
+ghost use Rattle.std.specs.Prelude.{◌≡◌, ◌++◌, ◌+◌, ◌∷◌, ◌≤◌, ◌&&◌, [], true, vec_len, IfOk, OnOk, if◌then◌else◌};
 ghost use Rattle.prettyless_model.specs.Tree.{size};
 ghost use Rattle.prettyless_model.specs.Reading.{by_mode};
+ghost use Rattle.prettyless_model.specs.Counts.{each_probe};
 ghost use Rattle.prettyless_model.specs.Layout.{is_suppressed, lay_ending, nested, some_pending, next_indent, probe as probe_of};
 ghost use Rattle.prettyless_model.specs.declared.mode.Mode.TheVariants.{Break, Flat};
 ghost use Rattle.prettyless_printer.specs.Stack.{follow, make_task, nodes, stack_of};
 ghost use Rattle.prettyless_printer.specs.Steps.{Move, at_once, break_step, decided_by_metrics, step_of, union_step};
 ghost use Rattle.prettyless_printer.specs.Printing.{Shows, state_of};
 ghost use Rattle.prettyless_printer.specs.Visits.{asked};
+ghost use Rattle.prettyless_printer.specs.Meets.{RisesBy};
 ghost use Rattle.prettyless_printer.specs.declared.printer.Taken.TheVariants.{Written};
 
 use crate::command::Command;
@@ -42,6 +44,7 @@ fn probe_here<N: Walk>(
     ensures others { printer.new ≡ record printer.old { scratch = printer.new.scratch } }
     ensures rises { probes.old ≤ probes.new }
     ensures counted { probes.new ≤ probes.old + (size (N.tree node) + nodes (stack_of N.tree printer.old.commands.items)) }
+    ensures asked { OnOk result (RisesBy 1 probes.old probes.new) }
 {
     let start = Line {
         column: printer.column,
@@ -73,6 +76,7 @@ fn group_mode<N: Walk>(
     ensures others { printer.new ≡ record printer.old { scratch = printer.new.scratch } }
     ensures rises { probes.old ≤ probes.new }
     ensures counted { probes.new ≤ probes.old + (size (N.tree inner) + nodes (stack_of N.tree printer.old.commands.items)) }
+    ensures asked { OnOk result (RisesBy (by_mode mode 1 0) probes.old probes.new) }
 {
     if let Mode::Flat = mode {
         return Ok(Mode::Flat);
@@ -97,6 +101,7 @@ fn partial_choice<N: Walk>(
     ensures others { printer.new ≡ record printer.old { scratch = printer.new.scratch } }
     ensures rises { probes.old ≤ probes.new }
     ensures counted { probes.new ≤ probes.old + (size (N.tree first) + nodes (stack_of N.tree printer.old.commands.items)) }
+    ensures asked { OnOk result (RisesBy (by_mode mode 1 0) probes.old probes.new) }
 {
     if let Mode::Flat = mode {
         return Ok(first);
@@ -266,6 +271,7 @@ pub fn step<'v, N: Walk>(
         printer.old printer.new) }
     ensures rises { probes.old ≤ probes.new }
     ensures counted { probes.new ≤ probes.old + asked (N.tree command.now.node) (nodes (stack_of N.tree printer.old.commands.items)) }
+    ensures asked { OnOk result (RisesBy (each_probe (N.tree command.now.node) command.now.mode) probes.old probes.new) }
 {
     let indent = command.indent;
     let mode = command.mode;

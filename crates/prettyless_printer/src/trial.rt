@@ -6,6 +6,7 @@ ghost use Rattle.prettyless_model.specs.declared.mode.Mode.TheVariants.{Break};
 ghost use Rattle.prettyless_printer.specs.Stack.{make_task, stack_of};
 ghost use Rattle.prettyless_printer.specs.Trials.{Restores, TrialDid};
 ghost use Rattle.prettyless_printer.specs.Visits.{Plain, Rise, RunPays};
+ghost use Rattle.prettyless_printer.specs.Meets.{TrialMeets};
 
 use crate::buffer::Buffer;
 use crate::pending::is_pending;
@@ -86,6 +87,7 @@ pub fn print_branch<N: Walk>(
     ensures rise { Rise visits.old visits.new }
     ensures pays { Plain N.tree printer.old → suffix_depth (N.tree branch) ≡ 0
         → RunPays N.tree (make_task indent Break (N.tree branch) ∷ stack_of N.tree printer.old.commands.items) printer.new visits.old visits.new result }
+    ensures meets { IfOk result (λ kept. TrialMeets N.tree printer.old indent (N.tree branch) visits.old visits.new kept) }
 {
     let mark = mark_of(printer);
     let written = buffer.text.len();

@@ -3,6 +3,7 @@ ghost use Rattle.prettyless_sink.specs.Sink.{rise};
 ghost use Rattle.prettyless_printer.specs.Printing.{Grows};
 ghost use Rattle.prettyless_printer.specs.Turns.{Lessens, Turned};
 ghost use Rattle.prettyless_printer.specs.Visits.{Plain, Rise, TurnPays};
+ghost use Rattle.prettyless_printer.specs.Meets.{TurnMeets};
 
 use crate::piece::write_piece;
 use crate::printer::{Printer, Taken, Turn};
@@ -31,6 +32,7 @@ pub fn turn<N: Walk, W: Render>(
     ensures one { visits.new.printer ≡ rise visits.old.printer }
     ensures rise { Rise visits.old visits.new }
     ensures pays { Plain N.tree printer.old → TurnPays N.tree printer.old printer.new visits.old visits.new result }
+    ensures meets { TurnMeets N.tree printer.old printer.new visits.old visits.new result }
 {
     let Some(command) = pop_command(&mut printer.commands) else {
         unreachable!()

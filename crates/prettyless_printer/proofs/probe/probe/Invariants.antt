@@ -3,6 +3,7 @@ use Rattle.prettyless_model.specs.Tree.{size}
 use Rattle.prettyless_model.specs.Reading.{fits, reading}
 use Rattle.prettyless_model.specs.Layout.{rest_atoms}
 use Rattle.prettyless_printer.specs.Stack.{stack_of, follow, read_tasks, nodes}
+use Rattle.prettyless_printer.specs.Meets.{RisesBy}
 use Rattle.prettyless_printer.proofs.probe.probe.Given as goal
 
 abbrev pub invariant-loop-command : goal.invariant-loop-command
@@ -13,6 +14,7 @@ invariant-loop-command g l = record {
   rises : l.fn.probes ≤ l.probes;
   counted : l.probes + (nodes (stack_of g.N.Walk.tree l.stack.items) + nodes (stack_of g.N.Walk.tree (take l.below l.commands)))
       ≤ l.fn.probes + (size (g.N.Walk.tree l.fn.node) + nodes (stack_of g.N.Walk.tree l.commands));
+  asked : RisesBy 1 l.fn.probes (l.probes + nodes (stack_of g.N.Walk.tree l.stack.items));
 }
 
 abbrev pub decreases-loop-command : goal.decreases-loop-command

@@ -1,4 +1,4 @@
-use Rattle.std.proofs.Common.{◌≡◌, ◌++◌, ◌∙◌, ℕ, List, ap, refl, subst}
+use Rattle.std.proofs.Common.{◌≡◌, ◌++◌, ◌∙◌, ℕ, List, ap, arith, refl, subst}
 use Rattle.std.specs.String.{string_bytes}
 use Rattle.prettyless_sink.specs.Sink.{AppendsBeginning}
 use Rattle.prettyless_printer.specs.Stack.{stack_of}
@@ -8,6 +8,8 @@ use Rattle.prettyless_printer.specs.Turns.{bytes_before}
 use Rattle.prettyless_printer.proofs.Progresses.{inside_beginning}
 use Rattle.prettyless_printer.proofs.Turnings.{beginning_less}
 use Rattle.prettyless_printer.proofs.Trying.{choice_kept, choice_other}
+use Rattle.prettyless_printer.specs.Meets.{TrialMeets}
+use Rattle.prettyless_printer.proofs.Meets.{kept_meets, other_meets}
 use Rattle.prettyless_printer.proofs.run.choose.Goals as goal
 
 pub returns-in-Err-write_gap_and_text-clause-told : goal.returns-in-Err-write_gap_and_text-clause-told
@@ -49,3 +51,27 @@ returns-in-Ok-push_node-clause-told g c =
     let n = subst (TrialDid f p q c.args.indent x before after) c.in-Ok-false.field-0-test c.in-Ok-false.ensures.decided in
     λ told.
     (told, ((λ whole limit below old w. (choice_other f p q u p.options whole limit below old out c.args.indent x y before after w refl n c.in-Ok-push_node.ensures refl).1), refl))
+
+pub returns-in-Ok-clause-meets : goal.returns-in-Ok-clause-meets
+returns-in-Ok-clause-meets g c =
+    let f = g.N.Walk.tree in
+    let p = c.args.printer.now in
+    let q = c.print_branch.new.printer in
+    let x = f c.args.first in
+    let before = string_bytes c.clear.new.self in
+    let after = string_bytes c.print_branch.new.buffer.text in
+    let n = subst (TrialDid f p q c.args.indent x before after) c.in-Ok-true.field-0-test c.in-Ok-true.ensures.decided in
+    let kept = subst (TrialMeets f p c.args.indent x c.args.visits.now c.print_branch.new.visits) c.in-Ok-true.field-0-test c.in-Ok-true.ensures.meets in
+    kept_meets f p q c.args.indent x (f c.args.second) before after c.args.visits.now c.print_branch.new.visits 0 n kept
+
+pub returns-in-Ok-push_node-clause-meets : goal.returns-in-Ok-push_node-clause-meets
+returns-in-Ok-push_node-clause-meets g c =
+    let f = g.N.Walk.tree in
+    let p = c.args.printer.now in
+    let q = c.print_branch.new.printer in
+    let u = record q { commands = c.push_node.new.stack } in
+    let x = f c.args.first in
+    let before = string_bytes c.clear.new.self in
+    let after = string_bytes c.print_branch.new.buffer.text in
+    let n = subst (TrialDid f p q c.args.indent x before after) c.in-Ok-false.field-0-test c.in-Ok-false.ensures.decided in
+    other_meets f p q u c.args.indent x (f c.args.second) before after c.args.visits.now c.print_branch.new.visits 0 (omega arith) n c.in-Ok-push_node.ensures refl refl c.print_branch.ensures.rise

@@ -6,6 +6,7 @@ use Rattle.prettyless_printer.specs.Printing.{state_of}
 use Rattle.prettyless_printer.specs.Renders.{Rendered}
 use Rattle.prettyless_printer.proofs.Renders.{begins}
 use Rattle.prettyless_printer.proofs.Visits.{visited}
+use Rattle.prettyless_printer.proofs.Meets.{at_least}
 use Rattle.prettyless_printer.proofs.run.render.Goals as goal
 
 pub returns-in-Ok-clause-told : goal.returns-in-Ok-clause-told
@@ -33,3 +34,14 @@ returns-in-Ok-clause-visited g c =
     let n : trees f (drop 0 c.new-3.result.items) ≡ [] = ap (λ x. trees f (drop 0 x)) c.new-3.ensures.items in
     let e : stack_of f p.commands.items ≡ make_task 0 Break d ∷ [] = c.in-Ok.ensures ∙ ap (λ x. make_task 0 Break d ∷ stack_of f x) c.new.ensures.items in
     visited f d p q c.args.visits.now c.run_to_end.new.visits c.run_to_end.result e n c.run_to_end.ensures.pays
+
+pub returns-in-Ok-clause-at_least : goal.returns-in-Ok-clause-at_least
+returns-in-Ok-clause-at_least g c =
+    let f = g.N.Walk.tree in
+    let d = f c.args.node in
+    let q = c.run_to_end.new.printer in
+    let p = record q { options = c.args.options; column = c.start.result; within = true; commands = c.push_node.new.stack; scratch = c.new-2.result; queue = c.new-3.result; start = 0 } in
+    let n : trees f (drop 0 c.new-3.result.items) ≡ [] = ap (λ x. trees f (drop 0 x)) c.new-3.ensures.items in
+    let s : state_of f p ≡ initial = λ j. record { column = c.start.ensures j; pending = n j; within = true } in
+    let e : stack_of f p.commands.items ≡ make_task 0 Break d ∷ [] = c.in-Ok.ensures ∙ ap (λ x. make_task 0 Break d ∷ stack_of f x) c.new.ensures.items in
+    at_least f d p c.args.visits.now c.run_to_end.new.visits c.run_to_end.result e s c.run_to_end.ensures.meets

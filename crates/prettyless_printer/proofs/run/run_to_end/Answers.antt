@@ -8,6 +8,8 @@ use Rattle.prettyless_printer.specs.Renders.{to_end}
 use Rattle.prettyless_printer.proofs.Queues.{length_some, length_none}
 use Rattle.prettyless_printer.proofs.Renders.{Ending, finishing_begins, finishing_stopped, finishing_ends, ending_done, ending_again, ending_stopped, round_less}
 use Rattle.prettyless_printer.proofs.Visits.{rise_same, rise_then, pays_same, pays_then}
+use Rattle.prettyless_printer.specs.Meets.{stack_tally}
+use Rattle.prettyless_printer.proofs.Meets.{meets_same, meets_then, meets_at}
 use Rattle.prettyless_printer.proofs.run.run_to_end.Goals as goal
 
 pub rounds-init : goal.rounds-init
@@ -17,6 +19,7 @@ rounds-init g c = record {
   told = λ told. (told, finishing_begins g.N.Walk.tree c.args.printer.now (g.W.Render.written c.args.out.now), refl);
   rise = rise_same c.args.visits.now;
   pays = λ plain. (plain, pays_same (stack_of g.N.Walk.tree c.args.printer.now.commands.items) c.args.visits.now);
+  meets = meets_same (stack_tally g.N.Walk.tree c.args.printer.now 0) c.args.visits.now;
 }
 
 pub returns-in-Err-clause-told : goal.returns-in-Err-clause-told
@@ -95,6 +98,7 @@ rounds-preserved g c =
       pays = λ plain.
           let z = c.in-Ok.ensures.pays (c.rounds.invariant.pays plain).0 in
           absurd (omega (arith, some, ap length z.0.pending));
+      meets = meets_at (λ k. omega arith) (λ k. omega arith) (meets_then c.rounds.invariant.meets c.in-Ok.ensures.meets);
     }
 
 pub returns-in-Err-flush_end-clause-told : goal.returns-in-Err-flush_end-clause-told
@@ -144,3 +148,6 @@ returns-in-Err-flush_end-clause-pays g c =
     λ plain.
     let z = c.in-Ok.ensures.pays (c.rounds.invariant.pays plain).0 in
     absurd (omega (arith, some, ap length z.0.pending))
+
+pub returns-then-not-is_pending-clause-meets : goal.returns-then-not-is_pending-clause-meets
+returns-then-not-is_pending-clause-meets g c = meets_then c.rounds.invariant.meets c.in-Ok.ensures.meets

@@ -8,6 +8,8 @@ use Rattle.prettyless_printer.specs.declared.printer.Turn.TheVariants as turn
 use Rattle.prettyless_printer.proofs.Stacks.{length-stack_of}
 use Rattle.prettyless_printer.proofs.Working.{working_begins, working_turn, working_end, turn_broke, working_choice, choice_broke}
 use Rattle.prettyless_printer.proofs.Visits.{rise_same, rise_then, pays_same, pays_then, pays_all}
+use Rattle.prettyless_printer.specs.Meets.{stack_tally}
+use Rattle.prettyless_printer.proofs.Meets.{meets_same, meets_then, meets_end}
 use Rattle.prettyless_printer.proofs.run.work_off.Goals as goal
 
 pub work-init : goal.work-init
@@ -19,6 +21,7 @@ work-init g c = record {
   told = λ told. (told, working_begins g.N.Walk.tree c.args.printer.now (g.W.Render.written c.args.out.now), refl);
   rise = rise_same c.args.visits.now;
   pays = λ plain. (plain, pays_same (stack_of g.N.Walk.tree c.args.printer.now.commands.items) c.args.visits.now);
+  meets = meets_same (stack_tally g.N.Walk.tree c.args.printer.now 0) c.args.visits.now;
 }
 
 pub work-preserved-in-Ok-Went : goal.work-preserved-in-Ok-Went
@@ -48,6 +51,7 @@ work-preserved-in-Ok-Went g c =
           let y = c.work.invariant.pays plain in
           let z = (rw c.in-Ok-Went.field-0-is at c.in-Ok-Went.ensures.pays) y.0 in
           (z.0, pays_then y.1 z.1);
+      meets = meets_then c.work.invariant.meets ((rw c.in-Ok-Went.field-0-is at c.in-Ok-Went.ensures.meets) 0 l);
     }
 
 pub returns-in-Ok-Failed-clause-told : goal.returns-in-Ok-Failed-clause-told
@@ -121,6 +125,7 @@ work-preserved g c =
           let j = (rw c.in-Ok-Chosen.field-0-is at c.in-Ok-Chosen.ensures.pays) y.0 in
           let k = c.in-Ok.ensures.pays j.0 j.1 j.2 in
           (k.0, pays_then y.1 (pays_then j.3 k.1));
+      meets = meets_then c.work.invariant.meets (meets_then ((rw c.in-Ok-Chosen.field-0-is at c.in-Ok-Chosen.ensures.meets) 0 l) c.in-Ok.ensures.meets);
     }
 
 pub returns-in-Err-choose-clause-told : goal.returns-in-Err-choose-clause-told
@@ -188,3 +193,10 @@ returns-clause-rise g c = c.work.invariant.rise
 
 pub returns-clause-pays : goal.returns-clause-pays
 returns-clause-pays g c = c.work.invariant.pays
+
+pub returns-clause-meets : goal.returns-clause-meets
+returns-clause-meets g c =
+    let f = g.N.Walk.tree in
+    let q = c.work.printer in
+    let l : length (stack_of f q.commands.items) ≤ 0 = omega (arith, length-stack_of f q.commands.items, q.commands.ok.0, c.work-test.false, c.len.ensures) in
+    meets_end f q 0 l c.work.invariant.meets

@@ -3,6 +3,7 @@ use Rattle.prettyless_printer.specs.Stack.{stack_of}
 use Rattle.prettyless_printer.specs.Steps.{work}
 use Rattle.prettyless_printer.specs.Printing.{state_of}
 use Rattle.prettyless_printer.specs.Visits.{Plain, Rise, Pays}
+use Rattle.prettyless_printer.specs.Meets.{Meets, stack_tally}
 use Rattle.prettyless_printer.proofs.Working.{Working}
 use Rattle.prettyless_printer.proofs.run.work_off.Given as goal
 
@@ -19,6 +20,7 @@ invariant-work g l = record {
   rise : Rise l.fn.visits l.visits;
   pays : Plain g.N.Walk.tree l.fn.printer → Plain g.N.Walk.tree l.printer
       × Pays (stack_of g.N.Walk.tree l.fn.printer.commands.items) (stack_of g.N.Walk.tree l.printer.commands.items) l.fn.visits l.visits;
+  meets : Meets (stack_tally g.N.Walk.tree l.fn.printer 0) (stack_tally g.N.Walk.tree l.printer 0) l.fn.visits l.visits;
 }
 
 abbrev pub decreases-work : goal.decreases-work

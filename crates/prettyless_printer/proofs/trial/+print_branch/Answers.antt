@@ -1,4 +1,4 @@
-use Rattle.std.proofs.Common.{◌≡◌, ◌<◌, ◌≤◌, ◌∷◌, ◌∙◌, ℕ, [], length, take, refl, sym, ap, append-nil, arith, subst, Bool, true, false}
+use Rattle.std.proofs.Common.{◌≡◌, ◌<◌, ◌≤◌, ◌∷◌, ◌∙◌, ℕ, [], length, take, refl, sym, ap, append-nil, length-append, arith, subst, Bool, true, false}
 use Rattle.std.specs.String.{string_bytes}
 use Rattle.prettyless_sink.specs.declared.options.RenderOptions.{RenderOptions}
 use Rattle.prettyless_model.specs.Column.{padding_fits}
@@ -15,6 +15,8 @@ use Rattle.prettyless_printer.proofs.Progresses.{inside_past}
 use Rattle.prettyless_printer.proofs.Within.{Past, accept_past}
 use Rattle.prettyless_printer.proofs.Trying.{Trying, trial_of, limit_of, trying_begins, trying_turn, trial_ends, trial_rejected, padding_rejects, trial_kept, grows-grows, choice_kept, choice_other, cut_back, length-string_bytes}
 use Rattle.prettyless_printer.proofs.Visits.{plain_at, plain_push, rise_same, rise_then, pays_same, pays_then, pays_cut, pays_all, pays_at, pays_first, pays_besides, run_broke}
+use Rattle.prettyless_printer.specs.Meets.{TrialMeets}
+use Rattle.prettyless_printer.proofs.Meets.{meets_then, meets_end, kept_meets, other_meets, trial_begins}
 use Rattle.prettyless_printer.proofs.trial.+print_branch.Goals as goal
 
 pub work-init : goal.work-init
@@ -34,6 +36,7 @@ work-init g t c =
         pays_at (stack_of f q.commands.items) c.in_ok-push_node.ensures
             (pays_same (make_task c.args.indent Break (f c.args.branch) ∷ stack_of f p.commands.items) c.args.visits.now),
       );
+      meets = trial_begins f p q c.args.indent (f c.args.branch) c.args.visits.now refl c.in_ok-push_node.ensures refl;
     }
 
 pub take_back-requires : goal.take_back-requires
@@ -144,6 +147,7 @@ work-preserved-else-not-printer g t c =
           let y = c.work.invariant.pays plain none in
           let z = (rw c.in-Ok-Went.field-0-is at c.in-Ok-Went.ensures.pays) y.0 in
           (z.0, pays_then y.1 z.1);
+      meets = meets_then c.work.invariant.meets ((rw c.in-Ok-Went.field-0-is at c.in-Ok-Went.ensures.meets) (length (stack_of f p.commands.items)) l);
     }
 
 pub print_branch-requires : goal.print_branch-requires
@@ -200,6 +204,11 @@ work-preserved g t c =
           let j = (rw c.in-Ok-Chosen.field-0-is at c.in-Ok-Chosen.ensures.pays) w.0 in
           let h = c.in_ok-print_branch-in-Ok-Chosen.ensures.pays j.0 j.1 in
           (h.0, pays_then w.1 (pays_then j.3 (pays_first (make_task c.in-Ok-Chosen.i Break x) (make_task c.in-Ok-Chosen.i Break y) h.1)));
+      meets =
+          let k = length (stack_of f p.commands.items) in
+          let w = (rw c.in-Ok-Chosen.field-0-is at c.in-Ok-Chosen.ensures.meets) k l in
+          let kept = subst (TrialMeets f q c.in-Ok-Chosen.i x c.turn.new.visits c.print_branch.new.visits) c.if-not-branch.false c.in_ok-print_branch-in-Ok-Chosen.ensures.meets in
+          meets_then c.work.invariant.meets (meets_then w (kept_meets f q r c.in-Ok-Chosen.i x y new last c.turn.new.visits c.print_branch.new.visits k n kept));
     }
 
 pub work-preserved-in_ok-push_node-in-Ok-Chosen : goal.work-preserved-in_ok-push_node-in-Ok-Chosen
@@ -242,6 +251,12 @@ work-preserved-in_ok-push_node-in-Ok-Chosen g t c =
             pays_at (stack_of f u.commands.items) pushed
                 (pays_then w.1 (pays_then j.3 (pays_besides (make_task c.in-Ok-Chosen.i Break x) (make_task c.in-Ok-Chosen.i Break y) h.1))),
           );
+      meets =
+          let k = length (stack_of f p.commands.items) in
+          let w = (rw c.in-Ok-Chosen.field-0-is at c.in-Ok-Chosen.ensures.meets) k l in
+          let long : k ≤ length (stack_of f q.commands.items) = omega (arith, ap length e.stack_is, length-append e.above (stack_of f p.commands.items)) in
+          meets_then c.work.invariant.meets
+          (meets_then w (other_meets f q r u c.in-Ok-Chosen.i x y new last c.turn.new.visits c.print_branch.new.visits k long n c.in_ok-push_node-in-Ok-Chosen.ensures refl refl c.print_branch.ensures.rise));
     }
 
 pub take_back-requires-then-not-padding_fits : goal.take_back-requires-then-not-padding_fits
@@ -406,3 +421,13 @@ pub returns-clause-pays : goal.returns-clause-pays
 returns-clause-pays g t c = λ plain none.
     let y = c.work.invariant.pays plain none in
     (record { none = y.0.none; pending = y.0.pending }, y.1)
+
+pub returns-clause-meets : goal.returns-clause-meets
+returns-clause-meets g t c =
+    let f = g.N.Walk.tree in
+    let p = c.args.printer.now in
+    let v = c.work.printer in
+    let m = c.mark_of-mark.ensures in
+    let l : length (stack_of f v.commands.items) ≤ length (stack_of f p.commands.items) =
+    omega (arith, length-stack_of f p.commands.items, length-stack_of f v.commands.items, p.commands.ok.0, v.commands.ok.0, ap (λ (x : Mark). x.commands) m, c.work-test.false, c.len.ensures) in
+    meets_end f v (length (stack_of f p.commands.items)) l c.work.invariant.meets

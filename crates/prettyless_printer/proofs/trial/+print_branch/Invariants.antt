@@ -1,4 +1,4 @@
-use Rattle.std.proofs.Common.{◌≡◌, ◌+◌, ◌*◌, ◌≤◌, ◌∷◌, true, vec_len, string_bytes}
+use Rattle.std.proofs.Common.{◌≡◌, ◌+◌, ◌*◌, ◌≤◌, ◌∷◌, true, length, vec_len, string_bytes}
 use Rattle.prettyless_model.specs.Tree.{size}
 use Rattle.prettyless_model.specs.Content.{suffix_depth}
 use Rattle.prettyless_model.specs.declared.mode.Mode.TheVariants.{Break}
@@ -6,6 +6,7 @@ use Rattle.prettyless_printer.specs.Stack.{make_task, stack_of}
 use Rattle.prettyless_printer.specs.Steps.{owed, work}
 use Rattle.prettyless_printer.specs.Printing.{state_of, Grows}
 use Rattle.prettyless_printer.specs.Visits.{Plain, Rise, Pays}
+use Rattle.prettyless_printer.specs.Meets.{Meets, stack_tally, trial_tally}
 use Rattle.prettyless_printer.proofs.Trying.{Trying}
 use Rattle.prettyless_printer.proofs.trial.+print_branch.Given as goal
 
@@ -23,6 +24,8 @@ invariant-work g l = record {
   pays : Plain g.N.Walk.tree l.fn.printer → suffix_depth (g.N.Walk.tree l.fn.branch) ≡ 0 → Plain g.N.Walk.tree l.printer
       × Pays (make_task l.fn.indent Break (g.N.Walk.tree l.fn.branch) ∷ stack_of g.N.Walk.tree l.fn.printer.commands.items)
       (stack_of g.N.Walk.tree l.printer.commands.items) l.fn.visits l.visits;
+  meets : Meets (trial_tally g.N.Walk.tree l.fn.printer l.fn.indent (g.N.Walk.tree l.fn.branch))
+      (stack_tally g.N.Walk.tree l.printer (length (stack_of g.N.Walk.tree l.fn.printer.commands.items))) l.fn.visits l.visits;
 }
 
 abbrev pub decreases-work : goal.decreases-work

@@ -6,6 +6,7 @@ use Rattle.prettyless_printer.proofs.Stacks.{length-stack_of}
 use Rattle.prettyless_printer.proofs.Shown.{took}
 use Rattle.prettyless_printer.proofs.Turnings.{went, lessens, failed, chosen, choice_lessens, sink_broke}
 use Rattle.prettyless_printer.proofs.Visits.{OneMore, went_pays, failed_pays, chosen_pays, broke_pays}
+use Rattle.prettyless_printer.proofs.Meets.{OneLaid, went_meets, chosen_meets}
 use Rattle.prettyless_printer.proofs.turn.turn.Goals as goal
 
 pub unreachable-requires : goal.unreachable-requires
@@ -177,3 +178,27 @@ returns-in-Err-write_piece-clause-pays g c =
     let w : Visits = record { printer = c.one_more-visits.result; probes = c.step.new.probes } in
     let more : OneMore f p (task f c.in-Some.command) rest c.args.visits.now w = record { stack_is = c.in-Some.ensures; printer = c.one_more-visits.ensures.at_most; probes = c.step.ensures.counted } in
     λ _. broke_pays f p c.args.visits.now w (task f c.in-Some.command) rest more
+
+pub returns-in-Ok-Chosen-clause-meets : goal.returns-in-Ok-Chosen-clause-meets
+returns-in-Ok-Chosen-clause-meets g c =
+    let f = g.N.Walk.tree in
+    let p = c.args.printer.now in
+    let q = c.step.new.printer in
+    let rest = stack_of f c.pop_command.new.stack.items in
+    let w : Visits = record { printer = c.one_more-visits.result; probes = c.step.new.probes } in
+    let k = took f p (record p { commands = c.pop_command.new.stack }) q c.in-Some.command c.in-Ok-Chosen.field-0 c.in-Some.ensures refl refl refl c.in-Ok-Chosen.ensures.step in
+    let h = subst (TookNext f p q) c.in-Ok-Chosen.field-0-is k in
+    let one : OneLaid f p (task f c.in-Some.command) rest c.args.visits.now w = record { stack_is = c.in-Some.ensures; printer = c.one_more-visits.ensures.one; probes = c.in-Ok-Chosen.ensures.asked } in
+    chosen_meets f p q c.in-Ok-Chosen.indent c.in-Ok-Chosen.first c.in-Ok-Chosen.second c.args.visits.now w (task f c.in-Some.command) rest one h
+
+pub returns-in-Ok-clause-meets : goal.returns-in-Ok-clause-meets
+returns-in-Ok-clause-meets g c =
+    let f = g.N.Walk.tree in
+    let p = c.args.printer.now in
+    let q = c.step.new.printer in
+    let rest = stack_of f c.pop_command.new.stack.items in
+    let w : Visits = record { printer = c.one_more-visits.result; probes = c.step.new.probes } in
+    let k = took f p (record p { commands = c.pop_command.new.stack }) q c.in-Some.command c.in-Ok-Written.field-0 c.in-Some.ensures refl refl refl c.in-Ok-Written.ensures.step in
+    let h = subst (TookNext f p q) c.in-Ok-Written.field-0-is k in
+    let one : OneLaid f p (task f c.in-Some.command) rest c.args.visits.now w = record { stack_is = c.in-Some.ensures; printer = c.one_more-visits.ensures.one; probes = c.in-Ok-Written.ensures.asked } in
+    went_meets f p q c.in-Ok-Written.piece c.args.visits.now w (task f c.in-Some.command) rest one h

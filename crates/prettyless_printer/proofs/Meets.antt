@@ -1,0 +1,330 @@
+-- Counts from below: of a step, of a choice, and of turns in a row.
+use Rattle.std.proofs.Common.{◌≡◌, ℕ, ◌+◌, ◌<◌, ◌≤◌, nat_le, List, [], ◌∷◌, ◌++◌, length, arith, refl, ap, sym, ◌∙◌, append_assoc, length-append, subst, Bool, true, false, ◌&&◌, Result, Ok, Err, if◌then◌else◌}
+use Rattle.std.specs.Prelude.{OnOk}
+use Rattle.std.proofs.lemmas.Bool.{le-leb, leb-true}
+use Rattle.prettyless_sink.specs.Sink.{rise}
+use Rattle.prettyless_sink.specs.Spaces.{spaces}
+use Rattle.prettyless_sink.specs.declared.options.RenderOptions.{RenderOptions}
+use Rattle.prettyless_sink.specs.declared.visits.Visits.{Visits}
+use Rattle.prettyless_model.specs.Tree.{Tree, Nil, Fail, Text, TextWithLen, MultilineText, WeakSpace, HardLine, WeakLine, Append, LineSuffix, Nest, DedentToRoot, Align, ExpandParent, Flatten, BreakOrFlat, Group, Union, PartialUnion}
+use Rattle.prettyless_model.specs.Metrics.{metrics}
+use Rattle.prettyless_model.specs.Column.{gap, prospective, padding_fits}
+use Rattle.prettyless_model.specs.Reading.{by_mode}
+use Rattle.prettyless_model.specs.Layout.{State, Outcome, Done, Failed, Entry, after_bytes, and_then, accept, lay, lay_each, lay_text, lay_payload, payload_fits, behind_payload, nested, probe, some_pending, tried, initial, flushed, entry, entries, plain_break, break_with}
+use Rattle.prettyless_model.specs.Levels.{settle}
+use Rattle.prettyless_model.specs.Counts.{Weight, each_node, each_probe, counted_then, counted_accept, tally}
+use Rattle.prettyless_model.proofs.Levels.{settle_fixed}
+use Rattle.prettyless_model.specs.declared.mode.Mode.{Mode}
+use Rattle.prettyless_model.specs.declared.mode.Mode.TheVariants.{Break, Flat}
+use Rattle.prettyless_printer.specs.Stack.{Task, make_task, tasks, follow, stack_of}
+use Rattle.prettyless_printer.specs.Steps.{Step, Move, Stuck, Choose, step_of, union_step, decided_by_metrics, break_step, at_once}
+use Rattle.prettyless_printer.specs.Printing.{state_of, ShowsAt, TookNext}
+use Rattle.prettyless_printer.specs.Trials.{TrialDid}
+use Rattle.prettyless_printer.specs.Visits.{Rise}
+use Rattle.prettyless_printer.specs.Meets.{tally_above, tally_choice, nothing_left, RisesBy, Meets, stack_tally, choice_tally, trial_tally, VisitedAtLeast}
+use Rattle.prettyless_printer.specs.declared.piece.Piece.{Piece}
+use Rattle.prettyless_printer.specs.declared.printer.Taken.TheVariants.{Written, Chosen}
+use Rattle.prettyless_printer.specs.declared.printer.Printer.{Printer}
+use Rattle.prettyless_printer.proofs.Runs.{follow-tasks, payload_branch, no_padding}
+
+-- what a task counts, and then those behind it
+abbrev tally_with : RenderOptions → ℕ → Task → List Task → State → Weight → ℕ
+tally_with o n t ts st w =
+    tally o t.tree t.indent t.mode (follow ts) st w + counted_then (lay o (settle o) t.tree t.indent t.mode (follow ts) st) (λ u. tally_above o n ts u w)
+
+-- more than n tasks: the first one counts
+above_is : (o : RenderOptions) (n : ℕ) (t : Task) (ts : List Task) (st : State) (w : Weight) → n ≤ length ts → tally_above o n (t ∷ ts) st w ≡ tally_with o n t ts st w
+unfolding tally_above
+above_is o n t ts st w l = ap (λ (v : Bool). if v then tally_with o n t ts st w else 0) (le-leb n (length ts) l)
+
+-- no more than n tasks: nothing counts
+above_none : (o : RenderOptions) (n : ℕ) (ts : List Task) (st : State) (w : Weight) → length ts ≤ n → tally_above o n ts st w ≡ 0
+unfolding tally_above
+above_none o n [] st w l = refl
+above_none o n (t ∷ ts) st w l =
+    elim (nat_le n (length ts)) as (λ v. nat_le n (length ts) ≡ v → (if v then tally_with o n t ts st w else 0) ≡ 0)
+    [ true ↦ (λ e. absurd (omega (arith, leb-true n (length ts) e))) | false ↦ (λ e. refl) ] refl
+
+counted_after : (b : List ℕ) (out : Outcome) (k : State → ℕ) → counted_then (after_bytes b out) k ≡ counted_then out k
+counted_after b (Done c st) k = refl
+counted_after b (Failed c) k = refl
+
+counted_then-then : (out : Outcome) (next : State → Outcome) (k : State → ℕ) → counted_then (and_then out next) k ≡ counted_then out (λ u. counted_then (next u) k)
+counted_then-then (Done b st) next k = counted_after b (next st) k
+counted_then-then (Failed b) next k = refl
+
+counted_less : (out : Outcome) (j k : State → ℕ) → ((u : State) → j u ≤ k u) → counted_then out j ≤ counted_then out k
+counted_less (Done b st) j k h = h st
+counted_less (Failed b) j k h = omega arith
+
+-- two counts behind an outcome, added up
+appended : (out : Outcome) (j k both : State → ℕ) → ((u : State) → both u ≡ j u + k u) → counted_then out both ≡ counted_then out j + counted_then out k
+appended (Done b st) j k both h = h st
+appended (Failed b) j k both h = refl
+
+-- a step behind which no less is left to count, but for what its node counts
+abbrev StepCounts : RenderOptions → ℕ → List Task → State → Weight → ℕ → ℕ → Step → Type 0
+StepCounts o n ts st w was self (Move b pushed u) = was ≤ self + tally_above o n (pushed ++ ts) u w
+StepCounts o n ts st w was self Stuck = Unit {0}
+StepCounts o n ts st w was self (Choose i l r) = was ≤ self + tally_choice o n i l r ts st w
+
+at_once_counts : (o : RenderOptions) (n : ℕ) (ts : List Task) (st : State) (w : Weight) (self : ℕ) (out : Outcome) → StepCounts o n ts st w (self + counted_then out (λ u. tally_above o n ts u w)) self (at_once out)
+at_once_counts o n ts st w self (Done b u) = omega arith
+at_once_counts o n ts st w self (Failed b) = tt
+
+-- trees of one list count no less as tasks
+each_counts : (o : RenderOptions) (n : ℕ) (ds : List Tree) (i : ℕ) (m : Mode) (us : List Task) (st : State) (w : Weight) → n ≤ length us →
+    counted_then (lay_each o (settle o) ds i m (follow us) st) (λ u. tally_above o n us u w) ≤ tally_above o n (tasks i m ds ++ us) st w
+unfolding lay_each
+each_counts o n [] i m us st w l = omega arith
+each_counts o n (d ∷ ds) i m us st w l =
+    let out : Outcome = lay o (settle o) d i m (entries i ds ++ follow us) st in
+    let next : State → ℕ = λ u. tally_above o n us u w in
+    let rest : State → ℕ = λ u. tally_above o n (tasks i m ds ++ us) u w in
+    let a : counted_then (and_then out (λ u. lay_each o (settle o) ds i m (follow us) u)) next ≡ counted_then out (λ u. counted_then (lay_each o (settle o) ds i m (follow us) u) next) = counted_then-then out (λ u. lay_each o (settle o) ds i m (follow us) u) next in
+    let b : counted_then out (λ u. counted_then (lay_each o (settle o) ds i m (follow us) u) next) ≤ counted_then out rest = counted_less out (λ u. counted_then (lay_each o (settle o) ds i m (follow us) u) next) rest (λ u. each_counts o n ds i m us u w l) in
+    let c = above_is o n (make_task i m d) (tasks i m ds ++ us) st w (omega (arith, length-append (tasks i m ds) us)) in
+    let e : counted_then (lay o (settle o) d i m (follow (tasks i m ds ++ us)) st) rest ≡ counted_then out rest = ap (λ (r : List Entry). counted_then (lay o (settle o) d i m r st) rest) (follow-tasks i m ds us) in
+    omega (arith, a, b, c, e)
+
+-- a break: the line ends, or what is pending comes first
+break_counts : (o : RenderOptions) (n : ℕ) (ps : List Tree) (d : Tree) (i : ℕ) (m : Mode) (ts : List Task) (st : State) (w : Weight) (self : ℕ) → n ≤ length ts →
+    (lay o (settle o) d i m (follow ts) ≡ settle o d i m (follow ts)) →
+    StepCounts o n ts st w (self + counted_then (break_with o (settle o) ps d i m (follow ts) st) (λ u. tally_above o n ts u w)) self (break_step o ps d i m (follow ts) st)
+break_counts o n [] d i m ts st w self l e = at_once_counts o n ts st w self (plain_break o d i (follow ts) st)
+break_counts o n (p ∷ ps) d i m ts st w self l e =
+    let rest : List Entry = follow ts in
+    let again : Task = make_task i m d in
+    let next : State → ℕ = λ u. tally_above o n ts u w in
+    let out : Outcome = lay_each o (settle o) (p ∷ ps) i m (entry i d ∷ rest) (flushed o st) in
+    let a : counted_then (after_bytes (spaces (gap st.column)) (and_then out (settle o d i m rest))) next ≡ counted_then out (λ u. counted_then (settle o d i m rest u) next) = counted_after (spaces (gap st.column)) (and_then out (settle o d i m rest)) next ∙ counted_then-then out (settle o d i m rest) next in
+    let b : counted_then out (λ u. counted_then (settle o d i m rest u) next) ≤ counted_then out (λ u. tally_above o n (again ∷ ts) u w) =
+    counted_less out (λ u. counted_then (settle o d i m rest u) next) (λ u. tally_above o n (again ∷ ts) u w)
+    (λ u. omega (arith, above_is o n again ts u w l, ap (λ (g : State → Outcome). counted_then (g u) next) e)) in
+    let c = each_counts o n (p ∷ ps) i m (again ∷ ts) (flushed o st) w (omega arith) in
+    let x = ap (λ (us : List Task). tally_above o n us (flushed o st) w) (append_assoc (tasks i m (p ∷ ps)) (again ∷ []) ts) in
+    omega (arith, a, b, c, x)
+
+-- one of two nodes
+either_counts : (o : RenderOptions) (n : ℕ) (l r : Tree) (i : ℕ) (ts : List Task) (st : State) (w : Weight) (self : ℕ) (v : Bool) → n ≤ length ts →
+    self + (if v then tally o l i Break (follow ts) st w else tally o r i Break (follow ts) st w)
+    + counted_then (if v then lay o (settle o) l i Break (follow ts) st else lay o (settle o) r i Break (follow ts) st) (λ u. tally_above o n ts u w)
+    ≤ self + tally_above o n (make_task i Break (if v then l else r) ∷ ts) st w
+either_counts o n l r i ts st w self true h = omega (arith, above_is o n (make_task i Break l) ts st w h)
+either_counts o n l r i ts st w self false h = omega (arith, above_is o n (make_task i Break r) ts st w h)
+
+-- a payload as the first branch counts where its metrics say so
+payload_counts : (o : RenderOptions) (b : List ℕ) (st : State) (x y : ℕ) (v : Bool) → v ≡ payload_fits o (metrics b) st.column →
+    counted_accept o (lay_payload o (metrics b) b (tried st)) x y ≡ (if v then x else y)
+payload_counts o b st x y true e =
+    ap (λ (z : Bool). if z then x else y)
+    (ap (λ (z : Bool). z && padding_fits o.width (some_pending st.pending) (behind_payload (metrics b))) (sym e) ∙ no_padding o.width (some_pending st.pending) (metrics b).last_nonempty (metrics b))
+payload_counts o b st x y false e =
+    ap (λ (z : Bool). if z then x else y)
+    (ap (λ (z : Bool). z && padding_fits o.width (some_pending st.pending) (behind_payload (metrics b))) (sym e))
+
+union_counts : (o : RenderOptions) (n : ℕ) (l r : Tree) (i : ℕ) (ts : List Task) (st : State) (w : Weight) (self : ℕ) → n ≤ length ts →
+    StepCounts o n ts st w (self + tally_choice o n i l r ts st w) self (union_step (decided_by_metrics o l st) l r i st)
+unfolding lay tally
+union_counts o n (MultilineText s) r i ts st w self h =
+    let v : Bool = payload_fits o (metrics s) st.column in
+    let next : State → ℕ = λ u. tally_above o n ts u w in
+    let a = payload_counts o s st (w (MultilineText s) Break) (tally o r i Break (follow ts) st w) v refl in
+    let b = ap (λ (z : Outcome). counted_then z next) (payload_branch o (metrics s) s st (lay o (settle o) r i Break (follow ts) st) v refl) in
+    omega (arith, a, b, either_counts o n (MultilineText s) r i ts st w self v h)
+union_counts o n _ r i ts st w self h = omega arith
+
+-- Behind a step no less is left to count, but for what its node counts.
+step_counts : (o : RenderOptions) (n : ℕ) (d : Tree) (i : ℕ) (m : Mode) (ts : List Task) (st : State) (w : Weight) → n ≤ length ts →
+    StepCounts o n ts st w (tally_with o n (make_task i m d) ts st w) (w d m) (step_of o d i m (follow ts) st)
+unfolding lay tally
+step_counts o n Nil i m ts st w h = omega arith
+step_counts o n Fail i m ts st w h = tt
+step_counts o n (Text s) i m ts st w h = at_once_counts o n ts st w (w (Text s) m) (lay_text o (length s) s st)
+step_counts o n (TextWithLen k s) i m ts st w h = at_once_counts o n ts st w (w (TextWithLen k s) m) (lay_text o k s st)
+step_counts o n (MultilineText s) i Break ts st w h = omega arith
+step_counts o n (MultilineText s) i Flat ts st w h = tt
+step_counts o n WeakSpace i m ts st w h = omega arith
+step_counts o n HardLine i Break ts st w h =
+    subst (λ (z : Outcome). StepCounts o n ts st w (w HardLine Break + counted_then z (λ u. tally_above o n ts u w)) (w HardLine Break) (break_step o st.pending HardLine i Break (follow ts) st))
+    (sym (settle_fixed o HardLine i Break (follow ts) st)) (break_counts o n st.pending HardLine i Break ts st w (w HardLine Break) h refl)
+step_counts o n HardLine i Flat ts st w h = tt
+step_counts o n WeakLine i m ts st w h =
+    subst (λ (z : Outcome). StepCounts o n ts st w (w WeakLine m + counted_then z (λ u. tally_above o n ts u w)) (w WeakLine m) (break_step o st.pending WeakLine i m (follow ts) st))
+    (sym (settle_fixed o WeakLine i m (follow ts) st)) (break_counts o n st.pending WeakLine i m ts st w (w WeakLine m) h refl)
+step_counts o n (Append l r) i m ts st w h =
+    let out : Outcome = lay o (settle o) l i m (entry i r ∷ follow ts) st in
+    let next : State → ℕ = λ u. tally_above o n ts u w in
+    let a = counted_then-then out (λ u. lay o (settle o) r i m (follow ts) u) next in
+    let b = appended out (λ u. tally o r i m (follow ts) u w) (λ u. counted_then (lay o (settle o) r i m (follow ts) u) next) (λ u. tally_above o n (make_task i m r ∷ ts) u w) (λ u. above_is o n (make_task i m r) ts u w h) in
+    omega (arith, a, b, above_is o n (make_task i m l) (make_task i m r ∷ ts) st w (omega arith))
+step_counts o n (LineSuffix d) i m ts st w h = omega arith
+step_counts o n (Nest k d) i m ts st w h = omega (arith, above_is o n (make_task (nested i k) m d) ts st w h)
+step_counts o n (DedentToRoot d) i m ts st w h = omega (arith, above_is o n (make_task 0 m d) ts st w h)
+step_counts o n (Align d) i m ts st w h = omega (arith, above_is o n (make_task (prospective st.column) m d) ts st w h)
+step_counts o n ExpandParent i m ts st w h = omega arith
+step_counts o n (Flatten d) i m ts st w h = omega (arith, above_is o n (make_task i Flat d) ts st w h)
+step_counts o n (BreakOrFlat b f) i Break ts st w h = omega (arith, above_is o n (make_task i Break b) ts st w h)
+step_counts o n (BreakOrFlat b f) i Flat ts st w h = omega (arith, above_is o n (make_task i Flat f) ts st w h)
+step_counts o n (Group d) i m ts st w h =
+    omega (arith, above_is o n (make_task i (by_mode m (if probe o d Flat (follow ts) st then Flat else Break) Flat) d) ts st w h)
+step_counts o n (Union l r) i Break ts st w h =
+    subst (λ (z : ℕ). StepCounts o n ts st w z (w (Union l r) Break) (union_step (decided_by_metrics o l st) l r i st)) (omega arith) (union_counts o n l r i ts st w (w (Union l r) Break) h)
+step_counts o n (Union l r) i Flat ts st w h = omega (arith, above_is o n (make_task i Flat l) ts st w h)
+step_counts o n (PartialUnion l r) i Break ts st w h =
+    omega (arith, either_counts o n l r i ts st w (w (PartialUnion l r) Break) (probe o l Break (follow ts) st) h)
+step_counts o n (PartialUnion l r) i Flat ts st w h = omega (arith, above_is o n (make_task i Flat l) ts st w h)
+
+pub meets_same : (a : Weight → ℕ) (v : Visits) → Meets a a v v
+meets_same a v = record { printer = omega arith; probes = omega arith }
+
+pub meets_then : {a b c : Weight → ℕ} {v w x : Visits} → Meets a b v w → Meets b c w x → Meets a c v x
+meets_then {a} {b} {c} {v} {w} {x} h k = record { printer = omega (arith, h.printer, k.printer); probes = omega (arith, h.probes, k.probes) }
+
+-- less was left before, and more is left afterwards
+pub meets_at : {a b c e : Weight → ℕ} {v w : Visits} → ((k : Weight) → c k ≤ a k) → ((k : Weight) → b k ≤ e k) → Meets a b v w → Meets c e v w
+meets_at {a} {b} {c} {e} {v} {w} g h m = record { printer = omega (arith, g each_node, h each_node, m.printer); probes = omega (arith, g each_probe, h each_probe, m.probes) }
+
+-- counts that did not fall, where no less is left
+pub meets_rise : {a b : Weight → ℕ} {v w : Visits} → Rise v w → ((k : Weight) → a k ≤ b k) → Meets a b v w
+meets_rise {a} {b} {v} {w} r h = record { printer = omega (arith, h each_node, r.printer); probes = omega (arith, h each_probe, r.probes) }
+
+-- one node was counted, and the probe that it asks
+pub record OneLaid {N : Type 0} (f : N → Tree) (p : Printer N) (t : Task) (ts : List Task) (v w : Visits) : Type 0 where
+  pub stack_is : stack_of f p.commands.items ≡ t ∷ ts
+  pub printer : w.printer ≡ rise v.printer
+  pub probes : RisesBy (each_probe t.tree t.mode) v.probes w.probes
+
+-- the node that was counted is the one on top
+laid_top : {N : Type 0} (f : N → Tree) (p : Printer N) (s t : Task) (rest ts : List Task) (v w : Visits) → OneLaid f p s rest v w → stack_of f p.commands.items ≡ t ∷ ts → OneLaid f p t ts v w
+laid_top {N} f p s t rest ts v w one e =
+    let same : s ∷ rest ≡ t ∷ ts = sym one.stack_is ∙ e in
+    let a : s ≡ t = cc in
+    record { stack_is = e; printer = one.printer; probes = subst (λ (x : Task). RisesBy (each_probe x.tree x.mode) v.probes w.probes) a one.probes }
+
+-- a node was counted, and no less is left but for that
+laid_meets : {N : Type 0} (f : N → Tree) (p : Printer N) (t : Task) (ts : List Task) (a b : Weight → ℕ) (v w : Visits) → OneLaid f p t ts v w → ((k : Weight) → a k ≤ k t.tree t.mode + b k) → Meets a b v w
+laid_meets {N} f p t ts a b v w one h = record { printer = omega (arith, h each_node, one.printer); probes = omega (arith, h each_probe, one.probes) }
+
+-- the stack counts what its tasks do
+stack_counts : {N : Type 0} (f : N → Tree) (p : Printer N) (n : ℕ) (o : RenderOptions) (ts : List Task) (st : State) (w : Weight) → p.options ≡ o → stack_of f p.commands.items ≡ ts → state_of f p ≡ st → stack_tally f p n w ≡ tally_above o n ts st w
+stack_counts {N} f p n o ts st w e h k =
+    ap (λ (x : RenderOptions). tally_above x n (stack_of f p.commands.items) (state_of f p) w) e
+    ∙ ap (λ (x : List Task). tally_above o n x (state_of f p) w) h ∙ ap (λ (x : State). tally_above o n ts x w) k
+
+-- what the top of the stack counts
+top_counts : {N : Type 0} (f : N → Tree) (p : Printer N) (n : ℕ) (t : Task) (ts : List Task) (w : Weight) → n < length (stack_of f p.commands.items) → stack_of f p.commands.items ≡ t ∷ ts → stack_tally f p n w ≡ tally_with p.options n t ts (state_of f p) w
+top_counts {N} f p n t ts w l e = stack_counts f p n p.options (t ∷ ts) (state_of f p) w refl e refl ∙ above_is p.options n t ts (state_of f p) w (omega (arith, l, ap length e))
+
+went_by : {N : Type 0} (f : N → Tree) (p q : Printer N) (piece : Piece) (n : ℕ) (t : Task) (ts : List Task) (step : Step) (w : Weight) → q.options ≡ p.options →
+    StepCounts p.options n ts (state_of f p) w (stack_tally f p n w) (w t.tree t.mode) step → ShowsAt f (Written piece) step ts (state_of f p) q →
+    stack_tally f p n w ≤ w t.tree t.mode + stack_tally f q n w
+went_by {N} f p q piece n t ts (Move b pushed u) w e s h = omega (arith, s, stack_counts f q n p.options (pushed ++ ts) u w e h.1 h.2)
+went_by {N} f p q piece n t ts Stuck w e s h = absurd h
+went_by {N} f p q piece n t ts (Choose i x y) w e s h = absurd h
+
+-- the stack counts no more than the step of its top allows
+stepped_counts : {N : Type 0} (f : N → Tree) (p : Printer N) (n : ℕ) (t : Task) (ts : List Task) (w : Weight) → n < length (stack_of f p.commands.items) → stack_of f p.commands.items ≡ t ∷ ts →
+    StepCounts p.options n ts (state_of f p) w (stack_tally f p n w) (w t.tree t.mode) (step_of p.options t.tree t.indent t.mode (follow ts) (state_of f p))
+stepped_counts {N} f p n t ts w l e =
+    subst (λ (x : ℕ). StepCounts p.options n ts (state_of f p) w x (w t.tree t.mode) (step_of p.options t.tree t.indent t.mode (follow ts) (state_of f p))) (sym (top_counts f p n t ts w l e))
+    (step_counts p.options n t.tree t.indent t.mode ts (state_of f p) w (omega (arith, l, ap length e)))
+
+-- a turn that took up one node
+pub went_meets : {N : Type 0} (f : N → Tree) (p q : Printer N) (piece : Piece) (v w : Visits) (s : Task) (rest : List Task) → OneLaid f p s rest v w → TookNext f p q (Written piece) →
+    (n : ℕ) → n < length (stack_of f p.commands.items) → Meets (stack_tally f p n) (stack_tally f q n) v w
+went_meets {N} f p q piece v w s rest one h n l =
+    laid_meets f p h.0 h.1 (stack_tally f p n) (stack_tally f q n) v w (laid_top f p s h.0 rest h.1 v w one h.2)
+    (λ k. went_by f p q piece n h.0 h.1 (step_of p.options h.0.tree h.0.indent h.0.mode (follow h.1) (state_of f p)) k h.4 (stepped_counts f p n h.0 h.1 k l h.2) h.3)
+
+chosen_by : {N : Type 0} (f : N → Tree) (p q : Printer N) (i : ℕ) (a b : N) (n : ℕ) (t : Task) (ts : List Task) (step : Step) (w : Weight) → q.options ≡ p.options →
+    StepCounts p.options n ts (state_of f p) w (stack_tally f p n w) (w t.tree t.mode) step → ShowsAt f (Chosen i a b) step ts (state_of f p) q →
+    stack_tally f p n w ≤ w t.tree t.mode + choice_tally f q n i (f a) (f b) w
+chosen_by {N} f p q i a b n t ts (Move c pushed u) w e s h = absurd h
+chosen_by {N} f p q i a b n t ts Stuck w e s h = absurd h
+chosen_by {N} f p q i a b n t ts (Choose j x y) w e s h =
+    let st : State = state_of f p in
+    let same : choice_tally f q n i (f a) (f b) w ≡ tally_choice p.options n j x y ts st w =
+    ap (λ (z : RenderOptions). tally_choice z n i (f a) (f b) (stack_of f q.commands.items) (state_of f q) w) e
+    ∙ ap (λ (z : ℕ). tally_choice p.options n z (f a) (f b) (stack_of f q.commands.items) (state_of f q) w) h.0
+    ∙ ap (λ (z : Tree). tally_choice p.options n j z (f b) (stack_of f q.commands.items) (state_of f q) w) h.1
+    ∙ ap (λ (z : Tree). tally_choice p.options n j x z (stack_of f q.commands.items) (state_of f q) w) h.2
+    ∙ ap (λ (z : List Task). tally_choice p.options n j x y z (state_of f q) w) h.3
+    ∙ ap (λ (z : State). tally_choice p.options n j x y ts z w) h.4 in
+    omega (arith, s, same)
+
+-- a turn behind which two branches are to be chosen from
+pub chosen_meets : {N : Type 0} (f : N → Tree) (p q : Printer N) (i : ℕ) (a b : N) (v w : Visits) (s : Task) (rest : List Task) → OneLaid f p s rest v w → TookNext f p q (Chosen i a b) →
+    (n : ℕ) → n < length (stack_of f p.commands.items) → Meets (stack_tally f p n) (choice_tally f q n i (f a) (f b)) v w
+chosen_meets {N} f p q i a b v w s rest one h n l =
+    laid_meets f p h.0 h.1 (stack_tally f p n) (choice_tally f q n i (f a) (f b)) v w (laid_top f p s h.0 rest h.1 v w one h.2)
+    (λ k. chosen_by f p q i a b n h.0 h.1 (step_of p.options h.0.tree h.0.indent h.0.mode (follow h.1) (state_of f p)) k h.4 (stepped_counts f p n h.0 h.1 k l h.2) h.3)
+
+-- the first branch counts where it is accepted
+accepted_counts : (o : RenderOptions) (was : Bool) (out : Outcome) (bytes : List ℕ) (u : State) (x y : ℕ) → accept o was out (Failed []) ≡ Done bytes u → counted_accept o out x y ≡ x
+accepted_counts o was (Done b st) bytes u x y e =
+    elim (st.within && padding_fits o.width (some_pending st.pending) st.column) as (λ v. (if v then Done b (record st { within = was }) else Failed []) ≡ Done bytes u → (if v then x else y) ≡ x)
+    [ true ↦ (λ h. refl) | false ↦ (λ h. absurd (cc)) ] e
+accepted_counts o was (Failed b) bytes u x y e = absurd (cc)
+
+-- the second branch counts where the first one is not accepted
+rejected_counts : (o : RenderOptions) (was : Bool) (out : Outcome) (x y : ℕ) → accept o was out (Failed []) ≡ Failed [] → counted_accept o out x y ≡ y
+rejected_counts o was (Done b st) x y e =
+    elim (st.within && padding_fits o.width (some_pending st.pending) st.column) as (λ v. (if v then Done b (record st { within = was }) else Failed []) ≡ Failed [] → (if v then x else y) ≡ y)
+    [ true ↦ (λ h. absurd (cc)) | false ↦ (λ h. refl) ] e
+rejected_counts o was (Failed b) x y e = refl
+
+-- a choice whose first branch is kept
+pub kept_meets : {N : Type 0} (f : N → Tree) (p q : Printer N) (i : ℕ) (x y : Tree) (old new : List ℕ) (v w : Visits) (n : ℕ) → TrialDid f p q i x old new true →
+    Meets (trial_tally f p i x) nothing_left v w → Meets (choice_tally f p n i x y) (stack_tally f q n) v w
+kept_meets {N} f p q i x y old new v w n d m =
+    let ts : List Task = stack_of f p.commands.items in
+    let out : Outcome = lay p.options (settle p.options) x i Break (follow ts) (tried (state_of f p)) in
+    let other : Outcome = lay p.options (settle p.options) y i Break (follow ts) (state_of f p) in
+    let same : (k : Weight) → choice_tally f p n i x y k ≡ trial_tally f p i x k + stack_tally f q n k = λ k.
+    omega (
+      arith,
+      accepted_counts p.options p.within out d.5.0 (state_of f q) (trial_tally f p i x k) (tally p.options y i Break (follow ts) (state_of f p) k) (d.5.2 (Failed [])),
+      ap (λ (z : Outcome). counted_then z (λ u. tally_above p.options n ts u k)) (d.5.2 other),
+      stack_counts f q n p.options ts (state_of f q) k d.1 d.0 refl,
+    ) in
+    record { printer = omega (arith, same each_node, m.printer); probes = omega (arith, same each_probe, m.probes) }
+
+-- a choice whose second branch comes next
+pub other_meets : {N : Type 0} (f : N → Tree) (p q r : Printer N) (i : ℕ) (x y : Tree) (old new : List ℕ) (v w : Visits) (n : ℕ) → n ≤ length (stack_of f p.commands.items) → TrialDid f p q i x old new false →
+    stack_of f r.commands.items ≡ make_task i Break y ∷ stack_of f q.commands.items → state_of f r ≡ state_of f q → r.options ≡ q.options →
+    Rise v w → Meets (choice_tally f p n i x y) (stack_tally f r n) v w
+other_meets {N} f p q r i x y old new v w n l d e s z rise =
+    let ts : List Task = stack_of f p.commands.items in
+    let out : Outcome = lay p.options (settle p.options) x i Break (follow ts) (tried (state_of f p)) in
+    let other : Outcome = lay p.options (settle p.options) y i Break (follow ts) (state_of f p) in
+    meets_rise rise (λ k.
+    omega (
+      arith,
+      rejected_counts p.options p.within out (trial_tally f p i x k) (tally p.options y i Break (follow ts) (state_of f p) k) (d.5.2 (Failed [])),
+      ap (λ (z : Outcome). counted_then z (λ u. tally_above p.options n ts u k)) (d.5.2 other),
+      stack_counts f r n p.options (make_task i Break y ∷ ts) (state_of f p) k (z ∙ d.1) (e ∙ ap (λ (c : List Task). make_task i Break y ∷ c) d.0) (s ∙ d.5.1),
+      above_is p.options n (make_task i Break y) ts (state_of f p) k l,
+    ))
+
+-- a trial begins
+pub trial_begins : {N : Type 0} (f : N → Tree) (p q : Printer N) (i : ℕ) (d : Tree) (v : Visits) → q.options ≡ p.options → stack_of f q.commands.items ≡ make_task i Break d ∷ stack_of f p.commands.items → state_of f q ≡ tried (state_of f p) →
+    Meets (trial_tally f p i d) (stack_tally f q (length (stack_of f p.commands.items))) v v
+trial_begins {N} f p q i d v o e s =
+    let ts : List Task = stack_of f p.commands.items in
+    let t : Task = make_task i Break d in
+    meets_rise (record { printer = omega arith; probes = omega arith })
+    (λ k. omega (arith, stack_counts f q (length ts) p.options (t ∷ ts) (tried (state_of f p)) k o e s, above_is p.options (length ts) t ts (tried (state_of f p)) k (omega arith)))
+
+-- no more than n tasks are left
+pub meets_end : {N : Type 0} {a : Weight → ℕ} {v w : Visits} (f : N → Tree) (p : Printer N) (n : ℕ) → length (stack_of f p.commands.items) ≤ n → Meets a (stack_tally f p n) v w → Meets a nothing_left v w
+meets_end {N} {a} {v} {w} f p n l m = meets_at (λ k. omega arith) (λ k. omega (arith, above_none p.options n (stack_of f p.commands.items) (state_of f p) k l)) m
+
+-- a run that has worked on one tree from the beginning
+pub at_least : {N A E : Type 0} (f : N → Tree) (d : Tree) (p : Printer N) (v w : Visits) (r : Result A E) → stack_of f p.commands.items ≡ make_task 0 Break d ∷ [] → state_of f p ≡ initial →
+    OnOk r (Meets (stack_tally f p 0) nothing_left v w) → OnOk r (VisitedAtLeast p.options d v w)
+at_least {N} {A} {E} f d p v w (Ok x) e s m =
+    let less : (k : Weight) → tally p.options d 0 Break [] initial k ≤ stack_tally f p 0 k = λ k.
+    omega (arith, stack_counts f p 0 p.options (make_task 0 Break d ∷ []) initial k refl e s, above_is p.options 0 (make_task 0 Break d) [] initial k (omega arith)) in
+    record { printer = omega (arith, less each_node, m.printer); probes = omega (arith, less each_probe, m.probes) }
+at_least {N} {A} {E} f d p v w (Err x) e s m = tt
