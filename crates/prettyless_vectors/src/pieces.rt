@@ -117,7 +117,7 @@ fn layouts_go_out_in_pieces(rt: HostRuntime) -> Result<(), Fail> {
     Ok(())
 }
 
-// Each piece is refused in turn, and the last of them never comes.
+// Each piece is refused in turn: the sink then has those before it.
 #[test]
 fn no_piece_follows_a_refused_one(rt: HostRuntime) -> Result<(), Fail> {
     for (width, written, pieces) in CASES {
