@@ -2,7 +2,7 @@
 use crate::expected::{points, shows};
 use prettyless::prelude::*;
 use prettyless::text::{CowStr, Text};
-use prettyless::{BuildDoc, Doc, DocBuilder, DocPtr};
+use prettyless::{BuildDoc, Doc, DocPtr};
 use std::fmt;
 use std::process::Abort;
 use std::test::Fail;
@@ -94,6 +94,30 @@ pub(crate) fn gaps<'a, D: DocPlace<'a>>(rt: &impl Abort, place: &'a D) -> Result
     shows(rt, place.spaces(205), three.as_str())
 }
 
+// The text of a node that is one.
+fn text_of<'d, T>(node: &'d Doc<'_, T>) -> Option<&'d str> {
+    match node {
+        Doc::Text(text) => Some(text.as_str()),
+        _ => None,
+    }
+}
+
+// A long gap is a chain to the left.
+pub(crate) fn chains<'a, D: DocPlace<'a>>(rt: &impl Abort, place: &'a D) -> Result<(), Fail> {
+    let hundred = format!(in place.memory(); "{:100}", "")?;
+    let gap = place.spaces(205)?;
+    let Doc::Append(front, last) = gap.doc() else {
+        return Err(Fail::from("no chain"));
+    };
+    let Doc::Append(first, second) = front.doc() else {
+        return Err(Fail::from("no chain to the left"));
+    };
+    assert_eq!(rt; text_of(first.doc()), Some(hundred.as_str()));
+    assert_eq!(rt; text_of(second.doc()), Some(hundred.as_str()));
+    assert_eq!(rt; text_of(last.doc()), Some("     "));
+    Ok(())
+}
+
 // Documents in the making, and what places them.
 pub(crate) fn nodes<'a, D: DocPlace<'a>>(rt: &impl Abort, place: &'a D) -> Result<(), Fail>
 where
@@ -107,22 +131,4 @@ where
     drop(pointer);
     points(rt, memory, copy, "HardLine")?;
     points(rt, memory, place.line()?.into_doc(), "LineOrSpace")
-}
-
-// The lines of documents that have no builder yet.
-pub(crate) fn plain_lines<'a, D: DocPlace<'a>>(rt: &impl Abort, place: &'a D) -> Result<(), Fail> {
-    let line = BuildDoc::Doc(Doc::line(place)?);
-    shows(rt, Ok(DocBuilder(place, line)), "LineOrSpace")?;
-    let line = BuildDoc::Doc(Doc::line_(place)?);
-    shows(rt, Ok(DocBuilder(place, line)), "LineOrNil")?;
-    shows(
-        rt,
-        Ok(DocBuilder(place, BuildDoc::line(place)?)),
-        "LineOrSpace",
-    )?;
-    shows(
-        rt,
-        Ok(DocBuilder(place, BuildDoc::line_(place)?)),
-        "LineOrNil",
-    )
 }

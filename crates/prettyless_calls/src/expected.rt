@@ -1,7 +1,7 @@
 //! What has to come out of a call.
 use prettyless::prelude::*;
-use prettyless::text::BuildError;
-use prettyless::{DocBuilder, DocPtr};
+use prettyless::text::{BuildError, CowStr};
+use prettyless::{BuildDoc, DocBuilder, DocPtr, RenderError};
 use std::alloc::Global;
 use std::fmt;
 use std::process::Abort;
@@ -66,5 +66,45 @@ pub(crate) fn compare<'a, D: DocPlace<'a>>(
         let out = rendered(memory, &document, width)?;
         assert_eq!(rt; out.as_str(), layout, "at {width}");
     }
+    Ok(())
+}
+
+// A document in the making between two letters.
+fn between<'a, D: DocPlace<'a>>(
+    place: &'a D,
+    made: BuildDoc<'a, D::Doc>,
+) -> Result<DocBuilder<'a, D>, BuildError> {
+    let front = place.text(CowStr::Borrowed("a"))?;
+    let back = place.text(CowStr::Borrowed("b"))?;
+    front.join(DocBuilder(place, made))?.join(back)
+}
+
+// Compares what a document in the making is shown as, and what it is rendered as between two letters.
+pub(crate) fn stands<'a, D: DocPlace<'a>>(
+    rt: &impl Abort,
+    place: &'a D,
+    made: BuildDoc<'a, D::Doc>,
+    shown: &str,
+    layout: &str,
+) -> Result<(), Fail> {
+    let copy = made.clone(place)?;
+    shows(rt, Ok(DocBuilder(place, copy)), shown)?;
+    compare(rt, between(place, made), &[(80, layout)])
+}
+
+// The same of one that fails, behind the first letter.
+pub(crate) fn fails<'a, D: DocPlace<'a>>(
+    rt: &impl Abort,
+    place: &'a D,
+    made: BuildDoc<'a, D::Doc>,
+    shown: &str,
+) -> Result<(), Fail> {
+    let copy = made.clone(place)?;
+    shows(rt, Ok(DocBuilder(place, copy)), shown)?;
+    let document = between(place, made)?;
+    let mut out = String::new(place.memory());
+    let result = document.doc().render_fmt(place.memory(), 80, &mut out);
+    assert!(rt; matches!(result, Err(RenderError::Document(_))));
+    assert_eq!(rt; out.as_str(), "a");
     Ok(())
 }

@@ -10,6 +10,8 @@ mod combined;
 #[cfg(test)]
 mod expected;
 #[cfg(test)]
+mod nodes;
+#[cfg(test)]
 mod operands;
 #[cfg(test)]
 mod places;

@@ -1,5 +1,5 @@
 //! All calls in each place of nodes.
-use crate::{builders, calls, combined, pointers, rows, values};
+use crate::{builders, calls, combined, nodes, pointers, rows, values};
 use bumpalo::Bump;
 use prettyless::{Arena, BoxAllocator, DocPlace, RcAllocator};
 use std::fmt;
@@ -21,8 +21,18 @@ where
     calls::sequences(rt, place)?;
     calls::words(rt, place)?;
     calls::gaps(rt, place)?;
-    calls::nodes(rt, place)?;
-    calls::plain_lines(rt, place)
+    calls::chains(rt, place)?;
+    calls::nodes(rt, place)
+}
+
+fn make<'a, D: DocPlace<'a>>(rt: &impl Abort, place: &'a D) -> Result<(), Fail> {
+    nodes::leaves(rt, place)?;
+    nodes::blanks(rt, place)?;
+    nodes::texts(rt, place)?;
+    nodes::made_leaves(rt, place)?;
+    nodes::made_blanks(rt, place)?;
+    nodes::made_texts(rt, place)?;
+    nodes::lines(rt, place)
 }
 
 fn build<'a, D: DocPlace<'a>>(rt: &impl Abort, place: &'a D) -> Result<(), Fail> {
@@ -92,6 +102,7 @@ where
     D::Doc: fmt::Debug,
 {
     start(rt, place)?;
+    make(rt, place)?;
     build(rt, place)?;
     point(rt, place)?;
     combine(rt, place)?;
@@ -119,4 +130,24 @@ fn arenas(rt: HostRuntime) -> Result<(), Fail> {
     let bump = Bump::new(rt.alloc());
     let arena = Arena::new(rt.alloc(), &bump);
     all(&rt, &arena, &owned)
+}
+
+// A place by reference is the same place: nodes are put there, and copied.
+fn lend<'a, D: DocPlace<'a>>(rt: &impl Abort, place: &'a D) -> Result<(), Fail>
+where
+    D::Doc: fmt::Debug,
+{
+    calls::nodes(rt, place)?;
+    pointers::clones(rt, place)
+}
+
+#[test]
+fn places_by_reference(rt: HostRuntime) -> Result<(), Fail> {
+    let boxes = BoxAllocator::new(rt.alloc());
+    lend(&rt, &&boxes)?;
+    let nodes = RcAllocator::new(rt.alloc());
+    lend(&rt, &&nodes)?;
+    let bump = Bump::new(rt.alloc());
+    let arena = Arena::new(rt.alloc(), &bump);
+    lend(&rt, &&arena)
 }

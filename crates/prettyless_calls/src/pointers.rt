@@ -146,8 +146,10 @@ fn builders_end_in_an_arena(rt: HostRuntime) -> Result<(), Fail> {
 
 fn counts<'a>(rt: &impl Abort, arena: &'a Arena<'a>) -> Result<(), Fail> {
     assert!(rt; arena.is_empty());
+    assert_eq!(rt; arena.is_empty(), arena.len() == 0);
     arena.alloc(Doc::HardLine)?;
     assert_eq!(rt; arena.len(), 1);
+    assert_eq!(rt; arena.is_empty(), arena.len() == 0);
     Ok(())
 }
 

@@ -124,6 +124,18 @@ mod tests {
     }
 
     #[test]
+    fn parts_stand_between_break_bytes(rt: HostRuntime) {
+        let mut rest = Some("a\r\n\nb\n");
+        for width in [1, 0, 0, 1, 0] {
+            let (part, after) = split_part(rest.unwrap_or("no part"));
+            assert_eq!(rt; part.width, width);
+            assert_eq!(rt; part.nonempty, width > 0);
+            rest = after;
+        }
+        assert!(rt; rest.is_none());
+    }
+
+    #[test]
     fn measures_columns(rt: HostRuntime) {
         let metrics = measure("\u{4f60}\u{597d}\nabc\n\u{e9}");
         assert_eq!(rt; metrics.first_width, 4);

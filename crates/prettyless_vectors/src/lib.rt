@@ -24,6 +24,8 @@ mod near_misses;
 #[cfg(test)]
 mod payloads;
 #[cfg(test)]
+mod pieces;
+#[cfg(test)]
 mod reader;
 #[cfg(test)]
 mod rendered;
@@ -41,3 +43,5 @@ mod ways;
 mod weak;
 #[cfg(test)]
 mod worked;
+#[cfg(test)]
+mod writers;

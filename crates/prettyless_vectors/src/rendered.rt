@@ -85,6 +85,30 @@ fn outcomes(
     Ok([boxed, counted, lent])
 }
 
+// What a document is printed as.
+fn displayed<'a, T: DocPtr<'a>>(
+    memory: Global,
+    document: &T,
+    options: RenderOptions,
+) -> Result<String, Fail> {
+    Ok(format!(in memory; "{}", document.doc().print_with(memory, options))?)
+}
+
+// What a document that is put into this place is printed as.
+fn printed_in<'a, D: DocPlace<'a>>(
+    place: &'a D,
+    written: &'a str,
+    options: RenderOptions,
+) -> Result<String, Fail> {
+    let document = read(place, written)?;
+    displayed(place.memory(), &document, options)
+}
+
+// The same in boxes.
+fn printed(memory: Global, written: &str, options: RenderOptions) -> Result<String, Fail> {
+    printed_in(&BoxAllocator::new(memory), written, options)
+}
+
 // What is rendered: all of a layout, or the bytes before the node that fails.
 type Expected<'a> = Result<&'a str, &'a str>;
 
@@ -93,7 +117,7 @@ fn with_crlf(memory: Global, layout: &str) -> Result<String, Fail> {
     Ok(layout.replace(memory, '\n', "\r\n")?)
 }
 
-// Compares what a document is rendered as through each pointer.
+// Compares what a document is rendered as through each pointer, and what it is printed as.
 fn compare_through(
     rt: &impl Abort,
     memory: Global,
@@ -112,6 +136,10 @@ fn compare_through(
             }
             _ => panic!(rt; "{written} at {width} is {outcome:?}"),
         }
+    }
+    if let Ok(layout) = expected {
+        let printed = printed(memory, written, options)?;
+        assert_eq!(rt; printed.as_str(), layout, "{written} at {width}");
     }
     Ok(())
 }

@@ -1,5 +1,7 @@
 //! Sinks that stop, or answer what they did not take.
-ghost use Rattle.std.specs.Prelude.{[], ⊤};
+ghost use Rattle.std.specs.Prelude.{◌≡◌, ◌↔◌, ◌<◌, ⊤, IsTrue, length};
+ghost use Rattle.std.specs.Str.{IsCharBoundary};
+ghost use Rattle.prettyless_vectors.specs.declared.sinks.Fault.TheVariants.{Count, Document};
 
 use crate::reader::read;
 use bumpalo::Bump;
@@ -9,7 +11,7 @@ use std::process::Abort;
 use std::test::Fail;
 
 #[derive(Debug, PartialEq, Drop)]
-enum Fault {
+pub(crate) enum Fault {
     Document,
     Count,
     Full,
@@ -17,36 +19,48 @@ enum Fault {
 }
 
 // A sink that fails once it holds so many bytes. It answers this count for a piece of spaces, and takes as many bytes
-// of it as there are; other pieces it takes whole, or likewise if it is short of everything. It tells no bytes.
+// of it as there are; other pieces it takes whole, or likewise if it is short of everything.
 #[derive(Drop)]
 struct Short {
     bytes: Vec<u8>,
     room: usize,
     count: usize,
     of_everything: bool,
+    failures: u64,
 }
 
 impl Render for Short {
     type Error = Fault;
 
-    ghost tells = { λ _. ⊥ };
+    ghost tells = { λ _. ⊤ };
 
-    ghost written = { λ _. [] };
+    ghost written = { λ sink. sink.bytes.items };
 
-    ghost failures = { λ _. 0 };
+    ghost failures = { λ sink. sink.failures };
 
-    ghost document_errors = { λ _ _. ⊤ };
+    ghost document_errors = { λ _ e. e ≡ Document };
+
+    ghost fault_errors = { λ _ e. e ≡ Count };
 
     fn write_str(&mut self, s: &str) -> Result<usize, Fault> {
         if self.bytes.len() >= self.room {
+            self.failures = self.failures.saturating_add(1);
             return Err(Fault::Full);
         }
         let short = self.of_everything || s.as_bytes().iter().all(|b| *b == b' ');
         let count = if short { self.count } else { s.len() };
         let taken = count.min(s.len());
         match self.bytes.extend_from_slice(&s.as_bytes()[..taken]) {
-            Ok(()) => Ok(count),
-            Err(_) => Err(Fault::Memory),
+            Ok(()) => {
+                if !is_fair_count(s, count) {
+                    self.failures = self.failures.saturating_add(1);
+                }
+                Ok(count)
+            }
+            Err(_) => {
+                self.failures = self.failures.saturating_add(1);
+                Err(Fault::Memory)
+            }
         }
     }
 
@@ -67,11 +81,19 @@ impl Short {
             room,
             count: 1,
             of_everything: true,
+            failures: 0,
         }
     }
 }
 
-// Compares the sink's fault and what it has.
+// Whether so many bytes end between two characters of the text, and are some unless it is empty.
+fn is_fair_count(text: &str, count: usize) -> bool
+    ensures { IsTrue result ↔ (IsCharBoundary text.now count × (0 < length text.now → 0 < count)) }
+{
+    (count > 0 || text.is_empty()) && text.is_char_boundary(count)
+}
+
+// Compares the sink's fault, which is its only one, and what it has.
 fn compare<'a, D: DocPlace<'a>>(
     rt: &impl Abort,
     place: &'a D,
@@ -86,6 +108,7 @@ fn compare<'a, D: DocPlace<'a>>(
         _ => panic!(rt; "the sink did not fail"),
     }
     assert_eq!(rt; sink.bytes.as_slice(), bytes);
+    assert_eq!(rt; sink.failures, 1);
     Ok(())
 }
 
@@ -107,15 +130,26 @@ fn full_inside_an_alternative(rt: HostRuntime) -> Result<(), Fail> {
 
 #[test]
 fn bad_counts_of_spaces(rt: HostRuntime) -> Result<(), Fail> {
-    for (count, bytes) in [(0, "a"), (2, "a "), (usize::MAX, "a ")] {
+    for (written, count, bytes) in [
+        ("Append Append Text 'a' WeakSpace Text 'b'", 0, "a"),
+        ("Append Append Text 'a' WeakSpace Text 'b'", 2, "a "),
+        (
+            "Append Append Text 'a' WeakSpace Text 'b'",
+            usize::MAX,
+            "a ",
+        ),
+        ("Nest 1 HardLine", 0, "\n"),
+        ("Nest 1 HardLine", 2, "\n "),
+        ("Nest 1 HardLine", usize::MAX, "\n "),
+    ] {
         let sink = Short {
             bytes: Vec::new(rt.alloc()),
             room: usize::MAX,
             count,
             of_everything: false,
+            failures: 0,
         };
         let boxes = BoxAllocator::new(rt.alloc());
-        let written = "Append Append Text 'a' WeakSpace Text 'b'";
         let expected = (Fault::Count, bytes.as_bytes());
         compare(&rt, &boxes, written, sink, expected)?;
     }

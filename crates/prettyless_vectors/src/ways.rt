@@ -34,6 +34,24 @@ fn to_what_is_displayed(rt: HostRuntime) -> Result<(), Fail> {
     Ok(())
 }
 
+// What a formatter is asked for changes nothing.
+#[test]
+fn flags_change_nothing(rt: HostRuntime) -> Result<(), Fail> {
+    let boxes = BoxAllocator::new(rt.alloc());
+    let document = read(&boxes, WRITTEN)?;
+    let shown = document.doc().print(rt.alloc(), 80);
+    for printed in [
+        format!(in rt.alloc(); "{shown:>20}")?,
+        format!(in rt.alloc(); "{shown:*^20}")?,
+        format!(in rt.alloc(); "{shown:.1}")?,
+        format!(in rt.alloc(); "{shown:-<020.3}")?,
+        format!(in rt.alloc(); "{shown:+#}")?,
+    ] {
+        assert_eq!(rt; printed.as_str(), "ab\n  \n  c");
+    }
+    Ok(())
+}
+
 #[test]
 fn to_a_sink(rt: HostRuntime) -> Result<(), Fail> {
     let boxes = BoxAllocator::new(rt.alloc());

@@ -161,6 +161,31 @@ fn long_inputs_are_refused(rt: HostRuntime) -> Result<(), Fail> {
 }
 
 #[test]
+fn deep_inputs_are_refused(rt: HostRuntime) -> Result<(), Fail> {
+    for (levels, ending) in [(200, 0), (201, 1)] {
+        let mut input = vec![in rt.alloc(); b'('; levels]?;
+        for _ in 0..levels {
+            input.push(b')')?;
+        }
+        let mut reader = input.as_slice();
+        let mut written = Vec::new(rt.alloc());
+        assert_eq!(rt;
+            status(run(rt.alloc(), RenderOptions::new(5), &mut reader, &mut written)),
+            ending,
+            "{levels}"
+        );
+        // A list of one document is laid out on one line.
+        if ending == 0 {
+            input.push(b'\n')?;
+            assert_eq!(rt; written.as_slice(), input.as_slice());
+        } else {
+            assert!(rt; written.is_empty(), "{levels}");
+        }
+    }
+    Ok(())
+}
+
+#[test]
 fn a_failing_reader_ends_the_run(rt: HostRuntime) {
     for (calls, ending) in [(0, 3), (2, 3), (4, 3), (5, 0)] {
         let mut reader = Trickle {
