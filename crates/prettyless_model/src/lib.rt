@@ -9,3 +9,4 @@ pub mod laws;
 pub mod metrics;
 pub mod mode;
 pub mod rows;
+pub mod summary;
