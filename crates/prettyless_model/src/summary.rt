@@ -1,6 +1,6 @@
-ghost use Rattle.std.specs.Prelude.{◌≡◌, ◌∷◌, [], ◌++◌, List};
+ghost use Rattle.std.specs.Prelude.{◌≡◌, ◌∷◌, [], ◌++◌, List, ◌||◌};
 ghost use Rattle.prettyless_model.specs.Reading.{Atom, Blank, Ink, Queue, Stop, Weak, fits};
-ghost use Rattle.prettyless_model.specs.Summary.{AnswersAs, IsFlat, summary_of};
+ghost use Rattle.prettyless_model.specs.Summary.{AnswersAs, IsFlat, failing, summary_of};
 ghost use Rattle.prettyless_model.specs.declared.mode.Mode.TheVariants.{Flat};
 
 use crate::column::Column;
@@ -93,6 +93,67 @@ impl Summary {
         Summary {
             failing: Failing::UnlessFresh,
             ..Summary::nothing()
+        }
+    }
+
+    // Whether a weak line behind it fails.
+    fn bars_weak_lines(self) -> bool
+        ensures { result ≡ (self.inked || self.queue) }
+    {
+        self.inked || self.queue
+    }
+
+    // Where it fails with another document behind it.
+    fn failing_then(self, next: Failing) -> Failing
+        ensures { (xs ys : List Atom) → self ≡ summary_of xs → next ≡ failing ys → result ≡ failing (xs ++ ys) }
+    {
+        match next {
+            Failing::Always => Failing::Always,
+            Failing::Never => self.failing,
+            Failing::UnlessFresh => {
+                if self.bars_weak_lines() {
+                    return Failing::Always;
+                }
+                match self.failing {
+                    Failing::Always => Failing::Always,
+                    _ => Failing::UnlessFresh,
+                }
+            }
+        }
+    }
+
+    /// Of this document and another one behind it.
+    pub fn then(self, next: Summary) -> Self
+        ensures { (xs ys : List Atom) → self ≡ summary_of xs → next ≡ summary_of ys → result ≡ summary_of (xs ++ ys) }
+    {
+        let between = self.trail.saturating_add(next.lead);
+        let queue = self.queue | next.queue;
+        let failing = self.failing_then(next.failing);
+        if !self.inked {
+            return Summary {
+                lead: self.lead.saturating_add(next.lead),
+                queue,
+                failing,
+                ..next
+            };
+        }
+        if !next.inked {
+            return Summary {
+                trail: between,
+                queue,
+                failing,
+                ..self
+            };
+        }
+        Summary {
+            inner: self
+                .inner
+                .saturating_add(between)
+                .saturating_add(next.inner),
+            trail: next.trail,
+            queue,
+            failing,
+            ..self
         }
     }
 }
