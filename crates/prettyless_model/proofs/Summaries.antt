@@ -1,6 +1,6 @@
 -- Summaries: of two readings after one another, and what a probe answers by one.
 use Rattle.std.proofs.Common.{◌≡◌, ℕ, ◌+◌, ◌-◌, ◌^◌, ◌<◌, ◌≤◌, List, [], ◌∷◌, ◌++◌, length, refl, ap, sym, subst, ◌∙◌, arith, Bool, true, false, not, ◌&&◌, ◌||◌, min, nat_le, if◌then◌else◌, inl, inr, ◌⊎◌}
-use Rattle.std.proofs.lemmas.Bool.{or_parts, or_cases, or_right, and_left, and_right, and_cases, not-false, leb-true, le-leb, lt-leb}
+use Rattle.std.proofs.lemmas.Bool.{or_parts, or_cases, or_right, not-true, and_left, and_right, and_cases, not-false, leb-true, le-leb, lt-leb}
 use Rattle.prettyless_model.specs.Tree.{Tree, Nil, Fail, Text, TextWithLen, MultilineText, WeakSpace, HardLine, WeakLine, Append, LineSuffix, Nest, DedentToRoot, Align, ExpandParent, Flatten, BreakOrFlat, Group, Union, PartialUnion}
 use Rattle.prettyless_model.specs.Column.{saturating_add, prospective, commit, blank, spaced}
 use Rattle.prettyless_model.specs.Reading.{Atom, Ink, Blank, Queue, Stop, Hard, Weak, Payload, reading, fits, ink_of}
@@ -453,3 +453,55 @@ fits_behind width c p (Weak Break ∷ xs) more d h f b n = absurd (let e : Break
 fits_behind width c p (Weak Flat ∷ xs) more d h f b n =
     ap (λ (t : Bool). if t then fits width c p (xs ++ more) else false) (b refl) ∙ fits_behind width c p xs more d h.1 f (λ r. b refl) n
 fits_behind width c p (Payload w m ∷ xs) more d h f b n = absurd h
+
+-- what it is to answer whether a document that is failing so fails, at the beginning of a line that nothing waits for or not
+pub record Strikes (f : Failing) (at_beginning r : Bool) : Type 0 where
+  pub never : f ≡ Never → r ≡ false
+  pub unless_fresh : f ≡ UnlessFresh → r ≡ not at_beginning
+  pub always : f ≡ Always → r ≡ true
+
+struck_on : (fx bx : Bool) (f : Failing) (a r : Bool) → Strikes f a r → r ≡ true → f ≡ failing_by fx bx → (fx ≡ true) ⊎ ((bx ≡ true) × (a ≡ false))
+struck_on true bx f a r s t e = inl refl
+struck_on false true f a r s t e = inr (refl, not-true a (sym (s.unless_fresh e) ∙ t))
+struck_on false false f a r s t e = absurd (let k : r ≡ false = s.never e in cc)
+
+spared_on : (fx bx : Bool) (f : Failing) (a r : Bool) → Strikes f a r → r ≡ false → f ≡ failing_by fx bx → (fx ≡ false) × (bx ≡ true → a ≡ true)
+spared_on true bx f a r s t e = absurd (let k : r ≡ true = s.always e in cc)
+spared_on false true f a r s t e = (refl, λ k. not-false a (sym (s.unless_fresh e) ∙ t))
+spared_on false false f a r s t e = (refl, λ k. absurd (cc))
+
+-- the answer false, where the document fails
+pub pass_struck : (s : Summary) (width : ℕ) (c : Column) (p r : Bool) → Strikes s.failing (c.fresh && not p) r → r ≡ true →
+    (xs more : List Atom) → IsFlat xs → s ≡ summary_of xs → fits width c p (xs ++ more) ≡ false
+pass_struck s width c p r k t xs more h d =
+    elim (struck_on (fails xs) (breakable xs) s.failing (c.fresh && not p) r k t (ap (λ (x : Summary). x.failing) d))
+    [ inl e ↦ fits_failing width c p xs more h e | inr e ↦ fits_weak width c p xs more h e.0 e.1 ]
+
+-- the column behind the last text, by the summary
+ends_by : (s : Summary) (c : Column) (xs : List Atom) → s ≡ summary_of xs → commit s.inner (spaced s.lead c) ≡ commit (inner xs) (spaced (lead xs) c)
+ends_by s c xs d = rw d (commit_capped (inner xs) (spaced (capped (lead xs)) c) ∙ ap (commit (inner xs)) (spaced_capped (lead xs) c))
+
+-- where the last text is past the width
+pub pass_past : (s : Summary) (width : ℕ) (c e : Column) (p : Bool) → s.inked ≡ true → e ≡ commit s.inner (spaced s.lead c) → width < e.position →
+    (xs more : List Atom) → IsFlat xs → s ≡ summary_of xs → fits width c p (xs ++ more) ≡ false
+pass_past s width c e p i k l xs more h d =
+    fits_past width c p xs more h (ap (λ (x : Summary). x.inked) (sym d) ∙ i) (subst (λ (x : Column). width < x.position) (k ∙ ends_by s c xs d) l)
+
+-- no answer yet, behind a document without text
+pub pass_bare : (s : Summary) (width : ℕ) (c e : Column) (p r : Bool) → Strikes s.failing (c.fresh && not p) r → r ≡ false → c.padding < 2 ^ 64 → s.inked ≡ false → e ≡ spaced s.lead c →
+    (xs more : List Atom) → IsFlat xs → s ≡ summary_of xs → fits width c p (xs ++ more) ≡ fits width e (p || s.queue) more
+pass_bare s width c e p r k t b i m xs more h d =
+    let j : inked xs ≡ false = ap (λ (x : Summary). x.inked) (sym d) ∙ i in
+    let o = spared_on (fails xs) (breakable xs) s.failing (c.fresh && not p) r k t (ap (λ (x : Summary). x.failing) d) in
+    fits_behind width c p xs more b h o.0 o.1 (λ y. absurd (cc))
+    ∙ same_line width more _ _ _ _ (rw j (sym (m ∙ ap (λ (x : Summary). spaced x.lead c) d ∙ spaced_capped (lead xs) c))) (ap (λ (x : Summary). p || x.queue) (sym d))
+
+-- nor behind one whose text is within the width
+pub pass_ink : (s : Summary) (width : ℕ) (c e z : Column) (p r : Bool) → Strikes s.failing (c.fresh && not p) r → r ≡ false → c.padding < 2 ^ 64 → s.inked ≡ true → e ≡ commit s.inner (spaced s.lead c) → e.position ≤ width → z ≡ spaced s.trail e →
+    (xs more : List Atom) → IsFlat xs → s ≡ summary_of xs → fits width c p (xs ++ more) ≡ fits width z (p || s.queue) more
+pass_ink s width c e z p r k t b i m l n xs more h d =
+    let j : inked xs ≡ true = ap (λ (x : Summary). x.inked) (sym d) ∙ i in
+    let o = spared_on (fails xs) (breakable xs) s.failing (c.fresh && not p) r k t (ap (λ (x : Summary). x.failing) d) in
+    let q : e ≡ commit (inner xs) (spaced (lead xs) c) = m ∙ ends_by s c xs d in
+    fits_behind width c p xs more b h o.0 o.1 (λ y. subst (λ (x : Column). x.position ≤ width) q l)
+    ∙ same_line width more _ _ _ _ (rw j (sym (n ∙ ap (λ (x : Summary). spaced x.trail e) d ∙ spaced_capped (trail xs) e ∙ ap (spaced (trail xs)) q))) (ap (λ (x : Summary). p || x.queue) (sym d))

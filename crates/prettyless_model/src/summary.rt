@@ -1,7 +1,8 @@
-ghost use Rattle.std.specs.Prelude.{◌≡◌, ◌∷◌, [], ◌++◌, List, ◌||◌};
+ghost use Rattle.std.specs.Prelude.{◌≡◌, ◌∷◌, [], ◌++◌, List, ◌||◌, false, not, true};
 ghost use Rattle.prettyless_model.specs.Reading.{Atom, Blank, Ink, Queue, Stop, Weak, fits};
 ghost use Rattle.prettyless_model.specs.Summary.{AnswersAs, IsFlat, failing, summary_of};
 ghost use Rattle.prettyless_model.specs.declared.mode.Mode.TheVariants.{Flat};
+ghost use Rattle.prettyless_model.specs.declared.summary.Failing.TheVariants.{Always, Never, UnlessFresh};
 
 use crate::column::Column;
 
@@ -12,6 +13,21 @@ pub enum Failing {
     /// It fails but at the beginning of a line that no document waits for.
     UnlessFresh,
     Always,
+}
+
+impl Failing {
+    // Whether it fails where the line stands: at the beginning of one that no document waits for, or not.
+    fn strikes(self, at_beginning: bool) -> bool
+        ensures never { self ≡ Never → result ≡ false }
+        ensures unless_fresh { self ≡ UnlessFresh → result ≡ not at_beginning }
+        ensures always { self ≡ Always → result ≡ true }
+    {
+        match self {
+            Failing::Never => false,
+            Failing::UnlessFresh => !at_beginning,
+            Failing::Always => true,
+        }
+    }
 }
 
 /// What a probe has to know of a flat document. Spaces are weak ones. Sums stop at the greatest `usize`.
@@ -155,5 +171,29 @@ impl Summary {
             failing,
             ..self
         }
+    }
+
+    /// Reads it where the line stands. `Some(false)`: whatever follows, it does not stay within the width. `None`: the
+    /// column, and whether a document waits for the end of the line, are now those behind it.
+    pub fn pass(&self, width: usize, column: &mut Column, pending: &mut bool) -> Option<bool>
+        ensures { (xs more : List Atom) → IsFlat xs → self.now ≡ summary_of xs → AnswersAs result
+            (fits width column.old pending.old (xs ++ more))
+            (fits width column.new pending.new more) }
+    {
+        let start = *column;
+        if self.failing.strikes(start.fresh & !*pending) {
+            return Some(false);
+        }
+        *pending = *pending | self.queue;
+        *column = start.spaced(self.lead);
+        if !self.inked {
+            return None;
+        }
+        *column = column.committed(self.inner);
+        if column.position > width {
+            return Some(false);
+        }
+        *column = column.spaced(self.trail);
+        None
     }
 }
