@@ -1,10 +1,10 @@
 -- Summaries: of two readings after one another, and what a probe answers by one.
-use Rattle.std.proofs.Common.{◌≡◌, ℕ, ◌+◌, ◌-◌, ◌^◌, ◌<◌, ◌≤◌, List, [], ◌∷◌, ◌++◌, length, refl, ap, sym, subst, ◌∙◌, arith, Bool, true, false, not, ◌&&◌, ◌||◌, min, nat_le, if◌then◌else◌, inl, inr, ◌⊎◌}
-use Rattle.std.proofs.lemmas.Bool.{or_parts, or_cases, or_right, not-true, and_left, and_right, and_cases, not-false, leb-true, le-leb, lt-leb}
+use Rattle.std.proofs.Common.{◌≡◌, ℕ, ◌+◌, ◌^◌, ◌<◌, ◌≤◌, List, [], ◌∷◌, ◌++◌, length, refl, ap, sym, subst, ◌∙◌, arith, Bool, true, false, not, ◌&&◌, ◌||◌, nat_le, if◌then◌else◌, inl, inr, ◌⊎◌}
+use Rattle.std.proofs.lemmas.Bool.{or_parts, or_cases, or_right, not-true, and_left, and_right, and_cases, not-false, le-leb, lt-leb}
 use Rattle.prettyless_model.specs.Tree.{Tree, Nil, Fail, Text, TextWithLen, MultilineText, WeakSpace, HardLine, WeakLine, Append, LineSuffix, Nest, DedentToRoot, Align, ExpandParent, Flatten, BreakOrFlat, Group, Union, PartialUnion}
 use Rattle.prettyless_model.specs.Column.{saturating_add, prospective, commit, blank, spaced}
 use Rattle.prettyless_model.specs.Reading.{Atom, Ink, Blank, Queue, Stop, Hard, Weak, Payload, reading, fits, ink_of}
-use Rattle.prettyless_model.specs.Summary.{IsFlat, inked, queues, lead, inner, trail, breakable, fails, failing, capped, summary_of, AnswersAs}
+use Rattle.prettyless_model.specs.Summary.{IsFlat, inked, queues, lead, inner, trail, breakable, fails, failing, capped, summary_of}
 use Rattle.prettyless_model.specs.declared.column.Column.{Column}
 use Rattle.prettyless_model.specs.declared.mode.Mode.TheVariants.{Break, Flat}
 use Rattle.prettyless_model.specs.declared.summary.Summary.{Summary}

@@ -1,7 +1,8 @@
 -- What a probe has to know of a document that it reads flat, taken up as one.
 use Rattle.std.specs.Prelude.{◌≡◌, ℕ, ◌+◌, ◌-◌, ◌^◌, Bool, true, false, ◌||◌, min, List, [], ◌∷◌, Option, Some, None, if◌then◌else◌}
-use Rattle.prettyless_model.specs.Reading.{Atom, Ink, Blank, Queue, Stop, Hard, Weak, Payload}
-use Rattle.prettyless_model.specs.declared.mode.Mode.TheVariants.{Break, Flat}
+use Rattle.prettyless_model.specs.Tree.{Tree}
+use Rattle.prettyless_model.specs.Reading.{Atom, Ink, Blank, Queue, Stop, Hard, Weak, Payload, reading}
+use Rattle.prettyless_model.specs.declared.mode.Mode.TheVariants.{Flat}
 use Rattle.prettyless_model.specs.declared.summary.Summary.{Summary}
 use Rattle.prettyless_model.specs.declared.summary.Failing.{Failing}
 use Rattle.prettyless_model.specs.declared.summary.Failing.TheVariants.{Never, UnlessFresh, Always}
@@ -16,6 +17,10 @@ IsFlat (Stop ∷ atoms) = IsFlat atoms
 IsFlat (Hard ∷ atoms) = ⊥
 IsFlat (Weak m ∷ atoms) = (m ≡ Flat) × IsFlat atoms
 IsFlat (Payload w nonempty ∷ atoms) = ⊥
+
+-- every tree has one
+abbrev pub FlatReadings : Type 0
+FlatReadings = (d : Tree) → IsFlat (reading d Flat)
 
 -- text stands in it
 abbrev pub inked : List Atom → Bool

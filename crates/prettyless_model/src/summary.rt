@@ -9,14 +9,16 @@ use crate::column::Column;
 /// Where a flat document fails, whatever the width.
 #[derive(Clone, Copy)]
 pub enum Failing {
+    /// Nowhere.
     Never,
-    /// It fails but at the beginning of a line that no document waits for.
+    /// Everywhere but at the beginning of a line for whose end no document waits.
     UnlessFresh,
+    /// Everywhere.
     Always,
 }
 
 impl Failing {
-    // Whether it fails where the line stands: at the beginning of one that no document waits for, or not.
+    // Whether it fails at the beginning of a line for whose end no document waits, or elsewhere.
     fn strikes(self, at_beginning: bool) -> bool
         ensures never { self ≡ Never → result ≡ false }
         ensures unless_fresh { self ≡ UnlessFresh → result ≡ not at_beginning }
@@ -30,24 +32,25 @@ impl Failing {
     }
 }
 
-/// What a probe has to know of a flat document. Spaces are weak ones. Sums stop at the greatest `usize`.
+/// What a probe has to know of a document laid flat, in columns. Sums stop at the greatest `usize`.
 #[derive(Clone, Copy)]
 pub struct Summary {
-    /// Whether text stands in it.
+    /// Whether text stands in it. An empty text is none.
     pub inked: bool,
-    /// The spaces before its first text, all of them where it has none.
+    /// The weak spaces before its first text, all of them where it has none.
     pub lead: usize,
-    /// The columns from its first text to the end of its last.
+    /// From the beginning of its first text to the end of its last.
     pub inner: usize,
-    /// The spaces behind its last text, none where it has none.
+    /// The weak spaces behind its last text, 0 where it has none.
     pub trail: usize,
     /// Whether it puts a document off to the end of the line.
     pub queue: bool,
+    /// Where it fails, whatever follows it.
     pub failing: Failing,
 }
 
 impl Summary {
-    /// Of nothing.
+    /// The summary of nothing.
     pub fn nothing() -> Self
         ensures { result ≡ summary_of [] }
     {
@@ -61,7 +64,7 @@ impl Summary {
         }
     }
 
-    /// Of text that is not empty, by its counted width in columns.
+    /// The summary of a text that is not empty, by its counted width in columns.
     pub fn ink(width: usize) -> Self
         ensures { result ≡ summary_of (Ink width ∷ []) }
     {
@@ -72,7 +75,7 @@ impl Summary {
         }
     }
 
-    /// Of a weak space.
+    /// The summary of a weak space.
     pub fn blank() -> Self
         ensures { result ≡ summary_of (Blank ∷ []) }
     {
@@ -82,7 +85,7 @@ impl Summary {
         }
     }
 
-    /// Of a document that is put off to the end of the line.
+    /// The summary of a document that is put off to the end of the line.
     pub fn queue() -> Self
         ensures { result ≡ summary_of (Queue ∷ []) }
     {
@@ -92,7 +95,7 @@ impl Summary {
         }
     }
 
-    /// Of what no flat line holds.
+    /// The summary of what no flat line holds.
     pub fn stop() -> Self
         ensures { result ≡ summary_of (Stop ∷ []) }
     {
@@ -102,7 +105,7 @@ impl Summary {
         }
     }
 
-    /// Of a weak line.
+    /// The summary of a weak line.
     pub fn weak_line() -> Self
         ensures { result ≡ summary_of (Weak Flat ∷ []) }
     {
@@ -112,7 +115,7 @@ impl Summary {
         }
     }
 
-    // Whether a weak line behind it fails.
+    // Whether a weak line behind it fails in any place.
     fn bars_weak_lines(self) -> bool
         ensures { result ≡ (self.inked || self.queue) }
     {
@@ -138,7 +141,7 @@ impl Summary {
         }
     }
 
-    /// Of this document and another one behind it.
+    /// The summary of this document and another one behind it.
     pub fn then(self, next: Summary) -> Self
         ensures { (xs ys : List Atom) → self ≡ summary_of xs → next ≡ summary_of ys → result ≡ summary_of (xs ++ ys) }
     {

@@ -1,4 +1,4 @@
-use Rattle.std.proofs.Common.{◌≡◌, ◌∙◌, ◌<◌, ◌^◌, ap, arith, not, ◌&&◌}
+use Rattle.std.proofs.Common.{◌∙◌, ◌<◌, ◌^◌, ap, arith, not, ◌&&◌}
 use Rattle.prettyless_model.specs.Column.{commit}
 use Rattle.prettyless_model.proofs.Summaries.{Strikes, pass_struck, pass_past, pass_bare, pass_ink}
 use Rattle.prettyless_model.proofs.summary.Summary.pass.Goals as goal

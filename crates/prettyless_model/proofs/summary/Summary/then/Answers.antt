@@ -1,7 +1,6 @@
 use Rattle.std.proofs.Common.{◌≡◌, ap, arith}
 use Rattle.std.proofs.lemmas.Bool.{not-true, not-false}
 use Rattle.prettyless_model.specs.Column.{saturating_add}
-use Rattle.prettyless_model.specs.Summary.{failing}
 use Rattle.prettyless_model.specs.declared.summary.Summary.{Summary}
 use Rattle.prettyless_model.proofs.Summaries.{then_bare, then_blank, then_ink}
 use Rattle.prettyless_model.proofs.summary.Summary.then.Goals as goal
