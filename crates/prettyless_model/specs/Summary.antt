@@ -7,7 +7,7 @@ use Rattle.prettyless_model.specs.declared.summary.Summary.{Summary}
 use Rattle.prettyless_model.specs.declared.summary.Failing.{Failing}
 use Rattle.prettyless_model.specs.declared.summary.Failing.TheVariants.{Never, UnlessFresh, Always}
 
--- no line ends in a flat reading but a weak one, and no payload stands in it
+-- a flat reading: no payload stands in it, and no end of a line but weak ones that are laid flat
 abbrev pub IsFlat : List Atom → Type 0
 IsFlat [] = Unit {0}
 IsFlat (Ink w ∷ atoms) = IsFlat atoms
@@ -18,7 +18,7 @@ IsFlat (Hard ∷ atoms) = ⊥
 IsFlat (Weak m ∷ atoms) = (m ≡ Flat) × IsFlat atoms
 IsFlat (Payload w nonempty ∷ atoms) = ⊥
 
--- every tree has one
+-- what a probe reads of any tree that is laid flat is one
 abbrev pub FlatReadings : Type 0
 FlatReadings = (d : Tree) → IsFlat (reading d Flat)
 
@@ -88,7 +88,7 @@ breakable (Hard ∷ atoms) = breakable atoms
 breakable (Weak m ∷ atoms) = true
 breakable (Payload w nonempty ∷ atoms) = breakable atoms
 
--- it fails wherever it stands: by itself, or at a weak line behind text or behind a document put off
+-- it fails wherever it stands: by itself, or by a weak line behind text or behind a document put off
 abbrev pub fails : List Atom → Bool
 fails [] = false
 fails (Ink w ∷ atoms) = breakable atoms || fails atoms
@@ -107,6 +107,7 @@ failing atoms = if fails atoms then Always else if breakable atoms then UnlessFr
 abbrev pub capped : ℕ → ℕ
 capped n = min n (2 ^ 64 - 1)
 
+-- all of it, in sums of `usize`
 abbrev pub summary_of : List Atom → Summary
 summary_of atoms = record {
   inked = inked atoms;
