@@ -11,3 +11,5 @@ pub mod Working
 pub mod Renders
 pub mod Contents
 pub mod Visits
+pub mod Preorders
+pub mod Vectors

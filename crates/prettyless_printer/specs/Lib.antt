@@ -8,3 +8,6 @@ pub mod Trials
 pub mod Turns
 pub mod Renders
 pub mod Visits
+pub mod Trees
+pub mod Preorder
+pub mod Vector
