@@ -9,3 +9,6 @@ pub mod Turns
 pub mod Renders
 pub mod Visits
 pub mod Meets
+pub mod Trees
+pub mod Preorder
+pub mod Vector
