@@ -11,9 +11,6 @@ pub mod Working
 pub mod Renders
 pub mod Contents
 pub mod Visits
-<<<<<<< HEAD
 pub mod Meets
-=======
 pub mod Preorders
 pub mod Vectors
->>>>>>> 8a4b8e403220c61592f0771fbe9b906d869d0158
