@@ -1,14 +1,19 @@
--- Vectors of nodes: what waits, what a slot has, and what a size changes.
-use Rattle.std.proofs.Common.{◌≡◌, ℕ, ◌+◌, ◌<◌, ◌≤◌, List, [], ◌∷◌, ◌++◌, length, drop, get_or, set, refl, ap, sym, ◌∙◌, append_assoc, append-nil, arith, length-append, inl, inr}
+-- Vectors of nodes: what waits, what a slot has, and what a measure changes.
+use Rattle.std.proofs.Common.{◌≡◌, ℕ, ◌+◌, ◌<◌, ◌≤◌, List, [], ◌∷◌, ◌++◌, length, drop, get_or, set, refl, ap, ap₂, sym, ◌∙◌, append_assoc, append-nil, arith, length-append, inl, inr}
 use Rattle.std.proofs.lemmas.List.{length-map, get_or-map, get_or-set_other, length-set, map-append}
 use Rattle.std.proofs.lemmas.Grind.{get_or-set_at}
 use Rattle.std.proofs.Math.Nat.{eq-or-lt_of_le}
 use Rattle.std.proofs.Math.Seq.{map-set_same}
-use Rattle.prettyless_model.specs.Tree.{Tree, size, Nil}
+use Rattle.prettyless_model.specs.Tree.{Tree, size, Nil, Fail, Text, TextWithLen, MultilineText, WeakSpace, HardLine, WeakLine, Append, LineSuffix, Nest, DedentToRoot, Align, ExpandParent, Flatten, BreakOrFlat, Group, Union, PartialUnion}
+use Rattle.prettyless_model.specs.Reading.{reading}
+use Rattle.prettyless_model.specs.Summary.{summary_of}
+use Rattle.prettyless_model.specs.declared.mode.Mode.TheVariants.{Flat}
+use Rattle.prettyless_model.specs.declared.summary.Summary.{Summary}
+use Rattle.prettyless_printer.specs.declared.vector.Measure.{Measure}
 use Rattle.prettyless_printer.specs.declared.vector.Slot.{Slot}
 use Rattle.prettyless_printer.specs.declared.vector.Vector.{Vector}
 use Rattle.prettyless_printer.specs.Preorder.{preorder, children, forest, IsNested}
-use Rattle.prettyless_printer.specs.Vector.{slot_trees, tree_at, IsSizedFrom, IsVectorOf, IsLaid, waiting}
+use Rattle.prettyless_printer.specs.Vector.{slot_trees, tree_at, first_of, measure_of, second_of, IsMeasuredFrom, IsVectorOf, IsLaid, waiting}
 use Rattle.prettyless_printer.proofs.Preorders.{Begins, begins, length-preorder, preorder-is, size-is, first_begins, second_begins, nested_preorder}
 
 pub waiting_push : {N : Type 0} (f : N → Tree) (ns : List N) (n : N) → waiting f (ns ++ n ∷ []) ≡ preorder (f n) ++ waiting f ns
@@ -24,49 +29,77 @@ pub record Holds {N : Type 0} (f : N → Tree) (slots : List (Slot N)) (i : ℕ)
   pub inside : i < length slots
   pub within : i + size d ≤ length slots
   pub tree : tree_at f slots i ≡ d
-  pub sized : (get_or slots i s).size ≡ size d
+  pub measured : (get_or slots i s).measure ≡ measure_of d
 
 holds : {N : Type 0} (f : N → Tree) (slots : List (Slot N)) (i : ℕ) (s : Slot N) (d : Tree) (rest : List Tree)
-    → IsSizedFrom f i slots → Begins (slot_trees f slots) i d rest → Holds f slots i s d
-holds {N} f slots i s d rest sized b =
+    → IsMeasuredFrom f i slots → Begins (slot_trees f slots) i d rest → Holds f slots i s d
+holds {N} f slots i s d rest measured b =
     let within : i + size d ≤ length slots = omega (arith, b.within, length-map slots (λ (t : Slot N). f t.node)) in
     let inside : i < length slots = omega (arith, within, size-is d) in
     record {
       inside = inside;
       within = within;
       tree = b.has;
-      sized = sized i s (omega arith) inside ∙ ap size b.has;
+      measured = measured i s (omega arith) inside ∙ ap measure_of b.has;
     }
 
 -- the children of the tree of a slot are those of its node
-children_at : {N : Type 0} (f : N → Tree) (slots : List (Slot N)) (i : ℕ) (s : Slot N) (ds : List Tree) → i < length slots → ds ≡ children (f (get_or slots i s).node) → children (tree_at f slots i) ≡ ds
+pub children_at : {N : Type 0} (f : N → Tree) (slots : List (Slot N)) (i : ℕ) (s : Slot N) (ds : List Tree) → i < length slots → ds ≡ children (f (get_or slots i s).node) → children (tree_at f slots i) ≡ ds
 children_at f slots i s ds h e = ap children (tree_at-is f slots i s h) ∙ sym e
 
 pub first_child : {N : Type 0} (f : N → Tree) (slots : List (Slot N)) (i : ℕ) (s t : Slot N) (c : Tree) (cs : List Tree)
-    → IsNested (slot_trees f slots) → i < length slots → IsSizedFrom f (i + 1) slots → c ∷ cs ≡ children (f (get_or slots i s).node) → Holds f slots (i + 1) t c
-first_child {N} f slots i s t c cs nested h sized e =
+    → IsNested (slot_trees f slots) → i < length slots → IsMeasuredFrom f (i + 1) slots → c ∷ cs ≡ children (f (get_or slots i s).node) → Holds f slots (i + 1) t c
+first_child {N} f slots i s t c cs nested h measured e =
     let ts = slot_trees f slots in
-    holds f slots (i + 1) t c (forest cs ++ drop (i + size (get_or ts i Nil)) ts) sized
+    holds f slots (i + 1) t c (forest cs ++ drop (i + size (get_or ts i Nil)) ts) measured
     (first_begins ts i c cs nested (omega (arith, h, length-map slots (λ (u : Slot N). f u.node))) (children_at f slots i s (c ∷ cs) h e))
 
 pub second_child : {N : Type 0} (f : N → Tree) (slots : List (Slot N)) (i k : ℕ) (s t : Slot N) (b c : Tree) (cs : List Tree)
-    → IsNested (slot_trees f slots) → i < length slots → IsSizedFrom f (i + 1) slots → b ∷ c ∷ cs ≡ children (f (get_or slots i s).node)
+    → IsNested (slot_trees f slots) → i < length slots → IsMeasuredFrom f (i + 1) slots → b ∷ c ∷ cs ≡ children (f (get_or slots i s).node)
     → k ≡ size b → Holds f slots (i + 1 + k) t c
-second_child {N} f slots i k s t b c cs nested h sized e same =
+second_child {N} f slots i k s t b c cs nested h measured e same =
     let ts = slot_trees f slots in
     let at = second_begins ts i b c cs nested (omega (arith, h, length-map slots (λ (u : Slot N). f u.node))) (children_at f slots i s (b ∷ c ∷ cs) h e) in
-    rw same (holds f slots (i + 1 + size b) t c (forest cs ++ drop (i + size (get_or ts i Nil)) ts) (λ j u l. sized j u (omega (arith, l))) at)
+    rw same (holds f slots (i + 1 + size b) t c (forest cs ++ drop (i + size (get_or ts i Nil)) ts) (λ j u l. measured j u (omega (arith, l))) at)
 
--- a tree has one node more than its children
-pub size_at-is : {N : Type 0} (f : N → Tree) (slots : List (Slot N)) (i : ℕ) (s : Slot N) (ds : List Tree) → i < length slots → ds ≡ children (f (get_or slots i s).node)
-    → size (tree_at f slots i) ≡ 1 + length (forest ds)
-size_at-is f slots i s ds h e = size-is (tree_at f slots i) ∙ ap (λ (x : List Tree). 1 + length (forest x)) (children_at f slots i s ds h e)
+-- the sizes of its children's trees
+children_size : (ds : List Tree) → length ds < 3 → length (forest ds) ≡ (first_of ds).size + (second_of ds).size
+children_size [] h = refl
+children_size (d ∷ []) h = omega (arith, length-append (preorder d) [], length-preorder d)
+children_size (d ∷ e ∷ []) h = omega (arith, length-append (preorder d) (forest (e ∷ [])), length-preorder d, length-append (preorder e) [], length-preorder e)
+children_size (d ∷ e ∷ x ∷ ds) h = absurd (omega (arith, h))
 
-pub length-forest_one : (d : Tree) → length (forest (d ∷ [])) ≡ size d
-length-forest_one d = omega (arith, length-append (preorder d) [], length-preorder d)
+few_children : (d : Tree) → length (children d) < 3
+few_children Nil = omega arith
+few_children Fail = omega arith
+few_children (Text s) = omega arith
+few_children (TextWithLen w s) = omega arith
+few_children (MultilineText s) = omega arith
+few_children WeakSpace = omega arith
+few_children HardLine = omega arith
+few_children WeakLine = omega arith
+few_children (Append l r) = omega arith
+few_children (LineSuffix d) = omega arith
+few_children (Nest k d) = omega arith
+few_children (DedentToRoot d) = omega arith
+few_children (Align d) = omega arith
+few_children ExpandParent = omega arith
+few_children (Flatten d) = omega arith
+few_children (BreakOrFlat b f) = omega arith
+few_children (Group d) = omega arith
+few_children (Union l r) = omega arith
+few_children (PartialUnion l r) = omega arith
 
-pub length-forest_two : (b c : Tree) → length (forest (b ∷ c ∷ [])) ≡ size b + size c
-length-forest_two b c = omega (arith, length-append (preorder b) (forest (c ∷ [])), length-preorder b, length-forest_one c)
+-- a tree has one node more than its children's
+pub sized_by : (d : Tree) → size d ≡ (first_of (children d)).size + (second_of (children d)).size + 1
+sized_by d = omega (arith, size-is d, children_size (children d) (few_children d))
+
+-- what is known of a tree, from what is known of its children
+pub measured_by : (d : Tree) (a b : Measure) (n : ℕ) (x : Summary) → a ≡ first_of (children d) → b ≡ second_of (children d) → n ≡ a.size + b.size + 1 → x ≡ summary_of (reading d Flat)
+    → record { size = n; summary = x } ≡ measure_of d
+measured_by d a b n x first second sum flat =
+    let same : n ≡ size d = omega (arith, sum, ap (λ (m : Measure). m.size) first, ap (λ (m : Measure). m.size) second, sized_by d) in
+    ap₂ (λ (k : ℕ) (y : Summary). record { size = k; summary = y }) same flat
 
 -- a node that waited takes its place, and its children wait
 pub place_step : {N : Type 0} (f : N → Tree) (slots : List (Slot N)) (s : Slot N) (old ws new : List N) (all : List Tree)
@@ -99,27 +132,27 @@ place_over {N} f slots n old ws d e popped =
       length-preorder d,
     )
 
--- a size that is written changes no tree
-pub trees_kept : {N : Type 0} (f : N → Tree) (slots : List (Slot N)) (k n : ℕ) (s : Slot N)
-    → slot_trees f (set slots k (record { node = (get_or slots k s).node; size = n })) ≡ slot_trees f slots
-trees_kept {N} f slots k n s = map-set_same (λ (t : Slot N). f t.node) slots k (record { node = (get_or slots k s).node; size = n }) s refl
+-- a measure that is written changes no tree
+pub trees_kept : {N : Type 0} (f : N → Tree) (slots : List (Slot N)) (k : ℕ) (m : Measure) (s : Slot N)
+    → slot_trees f (set slots k (record { node = (get_or slots k s).node; measure = m })) ≡ slot_trees f slots
+trees_kept {N} f slots k m s = map-set_same (λ (t : Slot N). f t.node) slots k (record { node = (get_or slots k s).node; measure = m }) s refl
 
--- a size that is written is known from there on
-pub sized_more : {N : Type 0} (f : N → Tree) (slots : List (Slot N)) (k j : ℕ) (s : Slot N) (n : ℕ) → k ≡ j + 1 → k ≤ length slots
-    → IsSizedFrom f k slots → n ≡ size (tree_at f slots j) → IsSizedFrom f j (set slots j (record { node = (get_or slots j s).node; size = n }))
-sized_more {N} f slots k j s n next within sized e i t l h =
-    let new : Slot N = record { node = (get_or slots j s).node; size = n } in
-    let kept : tree_at f (set slots j new) i ≡ tree_at f slots i = ap (λ (x : List Tree). get_or x i Nil) (trees_kept f slots j n s) in
+-- a measure that is written is known from there on
+pub measured_more : {N : Type 0} (f : N → Tree) (slots : List (Slot N)) (k j : ℕ) (s : Slot N) (m : Measure) → k ≡ j + 1 → k ≤ length slots
+    → IsMeasuredFrom f k slots → m ≡ measure_of (tree_at f slots j) → IsMeasuredFrom f j (set slots j (record { node = (get_or slots j s).node; measure = m }))
+measured_more {N} f slots k j s m next within measured e i t l h =
+    let new : Slot N = record { node = (get_or slots j s).node; measure = m } in
+    let kept : tree_at f (set slots j new) i ≡ tree_at f slots i = ap (λ (x : List Tree). get_or x i Nil) (trees_kept f slots j m s) in
     elim (eq-or-lt_of_le l) [
-      | inl here ↦ ap (λ (u : Slot N). u.size) (get_or-set_at slots j i new t (sym here) (omega (arith, next, within))) ∙ e ∙ ap (λ (m : ℕ). size (tree_at f slots m)) here ∙ ap size (sym kept)
-      | inr behind ↦ ap (λ (u : Slot N). u.size) (get_or-set_other slots j i new t (λ same. omega (arith, same, behind)))
-          ∙ sized i t (omega (arith, next, behind)) (omega (arith, h, length-set slots j new))
-          ∙ ap size (sym kept)
+      | inl here ↦ ap (λ (u : Slot N). u.measure) (get_or-set_at slots j i new t (sym here) (omega (arith, next, within))) ∙ e ∙ ap (λ (n : ℕ). measure_of (tree_at f slots n)) here ∙ ap measure_of (sym kept)
+      | inr behind ↦ ap (λ (u : Slot N). u.measure) (get_or-set_other slots j i new t (λ same. omega (arith, same, behind)))
+          ∙ measured i t (omega (arith, next, behind)) (omega (arith, h, length-set slots j new))
+          ∙ ap measure_of (sym kept)
     ]
 
 -- a vector of one tree is nested
 pub laid : {N : Type 0} (f : N → Tree) (v : Vector N) (d : Tree) → IsVectorOf f v d → IsLaid f v
-laid f v d of = record { nested = rw of.trees (nested_preorder d); sized = of.sized }
+laid f v d of = record { nested = rw of.trees (nested_preorder d); measured = of.measured }
 
 pub waiting_one : {N : Type 0} (f : N → Tree) (old new : List N) (n : N) {ds : List Tree} → new ≡ old ++ n ∷ [] → f n ∷ [] ≡ ds → waiting f new ≡ forest ds ++ waiting f old
 waiting_one f old new n pushed e =
@@ -171,12 +204,12 @@ has_first {N} f v i laid h some =
     (first_begins ts i (get_or ds 0 Nil) (drop 1 ds) laid.nested (omega (arith, h, length-map v.slots.items (λ (t : Slot N). f t.node))) (split_one ds some))
 
 pub has_second : {N : Type 0} (f : N → Tree) (v : Vector N) (i : ℕ) (s : Slot N) → IsLaid f v → i < length v.slots.items → 1 < length (children (tree_at f v.slots.items i))
-    → s ≡ get_or v.slots.items (i + 1) s → Has f v (i + 1 + s.size) (get_or (children (tree_at f v.slots.items i)) 1 Nil)
+    → s ≡ get_or v.slots.items (i + 1) s → Has f v (i + 1 + s.measure.size) (get_or (children (tree_at f v.slots.items i)) 1 Nil)
 has_second {N} f v i s laid h some is =
     let ts = slot_trees f v.slots.items in
     let ds = children (tree_at f v.slots.items i) in
     let first = has_first f v i laid h (omega (arith, some)) in
-    let same : s.size ≡ size (get_or ds 0 Nil) = ap (λ (t : Slot N). t.size) is ∙ laid.sized (i + 1) s (omega arith) first.inside ∙ ap size first.tree in
+    let same : s.measure.size ≡ size (get_or ds 0 Nil) = ap (λ (t : Slot N). t.measure.size) is ∙ ap (λ (m : Measure). m.size) (laid.measured (i + 1) s (omega arith) first.inside) ∙ ap size first.tree in
     rw same (has f v (i + 1 + size (get_or ds 0 Nil)) (get_or ds 1 Nil) (forest (drop 2 ds) ++ drop (i + size (get_or ts i Nil)) ts)
     (second_begins ts i (get_or ds 0 Nil) (get_or ds 1 Nil) (drop 2 ds) laid.nested (omega (arith, h, length-map v.slots.items (λ (t : Slot N). f t.node))) (split_two ds some)))
 

@@ -6,6 +6,7 @@ ghost use Rattle.prettyless_printer.specs.Vector.{tree_at, IsLaid, IsLaid-prop, 
 
 use crate::vector::Vector;
 use crate::walk::{View, Walk};
+use prettyless_model::summary::Summary;
 use std::alloc::AllocError;
 
 /// A node of a vector, named by its index alone.
@@ -73,7 +74,7 @@ impl<'s, N: Walk> Placed<'s, N> {
         let first = self.index + 1;
         Placed {
             vector: self.vector,
-            index: first + self.vector.slots[first].size as usize,
+            index: first + self.vector.slots[first].measure.size as usize,
         }
     }
 }
@@ -104,5 +105,9 @@ impl<'s, N: Walk> Walk for Placed<'s, N> {
             View::Union(_, _) => View::Union(self.first(), self.second()),
             View::PartialUnion(_, _) => View::PartialUnion(self.first(), self.second()),
         }
+    }
+
+    fn summary(&self) -> Option<Summary> {
+        Some(self.vector.slots[self.index].measure.summary)
     }
 }

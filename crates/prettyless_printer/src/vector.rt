@@ -1,21 +1,34 @@
-ghost use Rattle.std.specs.Prelude.{◌≡◌, ◌∷◌, ◌+◌, ◌<◌, ◌≤◌, ◌++◌, length, IfOk, MatchOption, OnOk};
+ghost use Rattle.std.specs.Prelude.{◌≡◌, ◌∷◌, ◌+◌, ◌<◌, ◌≤◌, ◌++◌, [], length, IfOk, MatchOption, OnOk};
 ghost use Rattle.prettyless_model.specs.Tree.{size};
+ghost use Rattle.prettyless_model.specs.Reading.{ink_of, reading};
+ghost use Rattle.prettyless_model.specs.Summary.{summary_of};
+ghost use Rattle.prettyless_model.specs.declared.mode.Mode.TheVariants.{Flat};
 ghost use Rattle.prettyless_printer.specs.Preorder.{children, forest, preorder, IsNested};
-ghost use Rattle.prettyless_printer.specs.Vector.{slot_trees, tree_at, trees_of, waiting, IsSizedFrom, IsVectorOf};
+ghost use Rattle.prettyless_printer.specs.Vector.{first_of, measure_of, second_of, slot_trees, tree_at, trees_of, waiting, IsMeasuredFrom, IsVectorOf};
 
 use crate::walk::{View, Walk};
+use prettyless_model::summary::Summary;
 use std::alloc::{AllocError, Global};
 
 /// How many nodes a vector holds at most.
 pub const LIMIT: usize = 1_048_576;
 
-/// A node, and what is kept with it.
+/// What is known of a subtree without a look at its nodes.
+#[derive(Clone, Copy)]
+pub struct Measure {
+    /// How many nodes it has.
+    pub size: u32,
+    /// What a probe has to know of it, laid flat.
+    pub summary: Summary,
+}
+
+/// A node, and what is known of the tree below it.
 #[derive(Drop)]
 pub struct Slot<N> {
     /// The node itself.
     pub node: N,
-    /// How many nodes its subtree has, itself among them.
-    pub size: u32,
+    /// Of the tree below it, itself among its nodes.
+    pub measure: Measure,
 }
 
 /// The nodes of one document in preorder: each before its children, and those below the first child before the second.
@@ -69,7 +82,17 @@ fn push_children<N: Walk>(work: &mut Vec<N>, node: &N) -> Result<(), AllocError>
     Ok(())
 }
 
-// The nodes in preorder, with no sizes yet.
+// The measure of no tree.
+fn nothing() -> Measure
+    ensures { result ≡ first_of [] }
+{
+    Measure {
+        size: 0,
+        summary: Summary::nothing(),
+    }
+}
+
+// The nodes in preorder, with nothing measured yet.
 fn place_nodes<N: Walk>(memory: Global, node: N) -> Result<Option<Vec<Slot<N>>>, AllocError>
     ensures { IfOk result (λ o. MatchOption o
         (LIMIT < size (N.tree node))
@@ -85,42 +108,100 @@ fn place_nodes<N: Walk>(memory: Global, node: N) -> Result<Option<Vec<Slot<N>>>,
         push_children(&mut work, &next)?;
         slots.push(Slot {
             node: next,
-            size: 1,
+            measure: nothing(),
         })?;
     }
     Ok(Some(slots))
 }
 
-// How many nodes the tree of a slot has, from the sizes behind it.
-fn size_at<N: Walk>(slots: &[Slot<N>], index: usize) -> u32
+// What is known of the children of a slot's node, the first one first, from the slots behind it.
+fn measures_below<N: Walk>(slots: &[Slot<N>], index: usize) -> (Measure, Measure)
     requires nested { IsNested (slot_trees N.tree slots.now) }
     requires within { index < length slots.now }
     requires few { length slots.now ≤ LIMIT }
-    requires sized { IsSizedFrom N.tree (index + 1) slots.now }
-    ensures { result ≡ size (tree_at N.tree slots.now index) }
+    requires measured { IsMeasuredFrom N.tree (index + 1) slots.now }
+    ensures first { result.0 ≡ first_of (children (tree_at N.tree slots.now index)) }
+    ensures second { result.1 ≡ second_of (children (tree_at N.tree slots.now index)) }
+    ensures few { result.0.size + result.1.size < LIMIT }
 {
     match children_of(&slots[index].node) {
-        Children::Nothing => 1,
-        Children::One(_) => slots[index + 1].size + 1,
+        Children::Nothing => (nothing(), nothing()),
+        Children::One(_) => (slots[index + 1].measure, nothing()),
         Children::Two(_, _) => {
-            let first = slots[index + 1].size;
-            first + slots[index + 1 + first as usize].size + 1
+            let first = slots[index + 1].measure;
+            let second = slots[index + 1 + first.size as usize].measure;
+            (first, second)
         }
     }
 }
 
-// Says in each slot how many nodes its tree has, from the last slot to the first.
-fn fill_sizes<N: Walk>(slots: &mut [Slot<N>])
+// The summary of a text of this counted width.
+fn text_summary(width: usize, text: &str) -> Summary
+    ensures { result ≡ summary_of (ink_of width text.now) }
+{
+    if text.is_empty() {
+        Summary::nothing()
+    } else {
+        Summary::ink(width)
+    }
+}
+
+// The summary of a node laid flat, from those of its children.
+fn flat_summary<N: Walk>(node: &N, first: Summary, second: Summary) -> Summary
+    requires first { first ≡ (first_of (children (N.tree node.now))).summary }
+    requires second { second ≡ (second_of (children (N.tree node.now))).summary }
+    ensures { result ≡ summary_of (reading (N.tree node.now) Flat) }
+{
+    match node.view() {
+        View::Nil => Summary::nothing(),
+        View::Text(text) => text_summary(text.len(), text),
+        View::TextWithLen(width, text) => text_summary(width, text),
+        View::WeakSpace => Summary::blank(),
+        View::WeakLine => Summary::weak_line(),
+        View::LineSuffix(_) => Summary::queue(),
+        View::Append(_, _) => first.then(second),
+        View::Nest(_, _)
+        | View::DedentToRoot(_)
+        | View::Align(_)
+        | View::Flatten(_)
+        | View::Group(_)
+        | View::Union(_, _)
+        | View::PartialUnion(_, _) => first,
+        View::BreakOrFlat(_, _) => second,
+        View::Fail | View::MultilineText(_, _) | View::HardLine | View::ExpandParent => {
+            Summary::stop()
+        }
+    }
+}
+
+// What is known of the tree of a slot, from the slots behind it.
+#[tactic(auto, using(crate::proofs::Vectors::measured_by))]
+fn measure_at<N: Walk>(slots: &[Slot<N>], index: usize) -> Measure
+    requires nested { IsNested (slot_trees N.tree slots.now) }
+    requires within { index < length slots.now }
+    requires few { length slots.now ≤ LIMIT }
+    requires measured { IsMeasuredFrom N.tree (index + 1) slots.now }
+    ensures { result ≡ measure_of (tree_at N.tree slots.now index) }
+{
+    let (first, second) = measures_below(slots, index);
+    Measure {
+        size: first.size + second.size + 1,
+        summary: flat_summary(&slots[index].node, first.summary, second.summary),
+    }
+}
+
+// Measures the tree of each slot, from the last slot to the first.
+fn fill_measures<N: Walk>(slots: &mut [Slot<N>])
     requires nested { IsNested (slot_trees N.tree slots.old) }
     requires few { length slots.old ≤ LIMIT }
     ensures trees { slot_trees N.tree slots.new ≡ slot_trees N.tree slots.old }
-    ensures sized { IsSizedFrom N.tree 0 slots.new }
+    ensures measured { IsMeasuredFrom N.tree 0 slots.new }
 {
     let mut k = slots.len();
     while k > 0 {
         k -= 1;
-        let size = size_at(slots, k);
-        slots[k].size = size;
+        let measure = measure_at(slots, k);
+        slots[k].measure = measure;
     }
 }
 
@@ -135,7 +216,7 @@ pub fn lay_out<N: Walk>(memory: Global, node: N) -> Result<Option<Vector<N>>, Al
     match place_nodes(memory, node)? {
         None => Ok(None),
         Some(mut slots) => {
-            fill_sizes(&mut slots);
+            fill_measures(&mut slots);
             Ok(Some(Vector { slots }))
         }
     }
