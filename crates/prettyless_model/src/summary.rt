@@ -19,6 +19,7 @@ pub enum Failing {
 
 impl Failing {
     // Whether it fails at the beginning of a line for whose end no document waits, or elsewhere.
+    #[inline]
     fn strikes(self, at_beginning: bool) -> bool
         ensures never { self ≡ Never → result ≡ false }
         ensures unless_fresh { self ≡ UnlessFresh → result ≡ not at_beginning }
@@ -35,14 +36,14 @@ impl Failing {
 /// What a probe has to know of a document laid flat, in columns. Sums stop at the greatest `usize`.
 #[derive(Clone, Copy)]
 pub struct Summary {
-    /// Whether text stands in it. An empty text is none.
-    pub inked: bool,
     /// The weak spaces before its first text, all of them where it has none.
     pub lead: usize,
     /// From the beginning of its first text to the end of its last.
     pub inner: usize,
     /// The weak spaces behind its last text, 0 where it has none.
     pub trail: usize,
+    /// Whether text stands in it. An empty text is none.
+    pub inked: bool,
     /// Whether it puts a document off to the end of the line.
     pub queue: bool,
     /// Where it fails, whatever follows it.
@@ -51,6 +52,7 @@ pub struct Summary {
 
 impl Summary {
     /// The summary of nothing.
+    #[inline]
     pub fn nothing() -> Self
         ensures { result ≡ summary_of [] }
     {
@@ -65,6 +67,7 @@ impl Summary {
     }
 
     /// The summary of a text that is not empty, by its counted width in columns.
+    #[inline]
     pub fn ink(width: usize) -> Self
         ensures { result ≡ summary_of (Ink width ∷ []) }
     {
@@ -76,6 +79,7 @@ impl Summary {
     }
 
     /// The summary of a weak space.
+    #[inline]
     pub fn blank() -> Self
         ensures { result ≡ summary_of (Blank ∷ []) }
     {
@@ -86,6 +90,7 @@ impl Summary {
     }
 
     /// The summary of a document that is put off to the end of the line.
+    #[inline]
     pub fn queue() -> Self
         ensures { result ≡ summary_of (Queue ∷ []) }
     {
@@ -96,6 +101,7 @@ impl Summary {
     }
 
     /// The summary of what no flat line holds.
+    #[inline]
     pub fn stop() -> Self
         ensures { result ≡ summary_of (Stop ∷ []) }
     {
@@ -106,6 +112,7 @@ impl Summary {
     }
 
     /// The summary of a weak line.
+    #[inline]
     pub fn weak_line() -> Self
         ensures { result ≡ summary_of (Weak Flat ∷ []) }
     {
@@ -116,6 +123,7 @@ impl Summary {
     }
 
     // Whether a weak line behind it fails in any place.
+    #[inline]
     fn bars_weak_lines(self) -> bool
         ensures { result ≡ (self.inked || self.queue) }
     {
@@ -123,6 +131,7 @@ impl Summary {
     }
 
     // Where it fails with another document behind it.
+    #[inline]
     fn failing_then(self, next: Failing) -> Failing
         ensures { (xs ys : List Atom) → self ≡ summary_of xs → next ≡ failing ys → result ≡ failing (xs ++ ys) }
     {
@@ -142,6 +151,7 @@ impl Summary {
     }
 
     /// The summary of this document and another one behind it.
+    #[inline]
     pub fn then(self, next: Summary) -> Self
         ensures { (xs ys : List Atom) → self ≡ summary_of xs → next ≡ summary_of ys → result ≡ summary_of (xs ++ ys) }
     {
@@ -178,6 +188,7 @@ impl Summary {
 
     /// Reads it where the line stands. `Some(false)`: whatever follows, it does not stay within the width. `None`: the
     /// column, and whether a document waits for the end of the line, are now those behind it.
+    #[inline]
     pub fn pass(&self, width: usize, column: &mut Column, pending: &mut bool) -> Option<bool>
         ensures { (xs more : List Atom) → IsFlat xs → self.now ≡ summary_of xs → AnswersAs result
             (fits width column.old pending.old (xs ++ more))

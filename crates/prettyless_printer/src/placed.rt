@@ -33,6 +33,7 @@ impl<'s, N: Walk> Copy for Placed<'s, N> {}
 
 impl<N: Walk> Vector<N> {
     /// The first node, which the vector was laid out for.
+    #[inline(always)]
     pub fn root(&self) -> Placed<'_, N>
         requires { (d : Tree) × IsVectorOf N.tree self.now d }
         ensures { (d : Tree) → IsVectorOf N.tree self.now d → tree_at N.tree result.vector.now.slots.items result.index ≡ d }
@@ -46,6 +47,7 @@ impl<N: Walk> Vector<N> {
 
 impl<'s, N: Walk> Placed<'s, N> {
     // What the node is, with children that are not placed.
+    #[inline(always)]
     fn seen(&self) -> View<'_, N>
         ensures tree { view_tree N.tree result ≡ tree_at N.tree self.now.vector.now.slots.items self.now.index }
         ensures metrics { IsMeasured result }
@@ -54,6 +56,7 @@ impl<'s, N: Walk> Placed<'s, N> {
     }
 
     // The first child: it stands right behind its parent.
+    #[inline(always)]
     fn first(&self) -> Self
         requires { 0 < length (children (tree_at N.tree self.now.vector.now.slots.items self.now.index)) }
         ensures { tree_at N.tree result.vector.now.slots.items result.index
@@ -66,6 +69,7 @@ impl<'s, N: Walk> Placed<'s, N> {
     }
 
     // The second child: it stands behind the nodes of the first one.
+    #[inline(always)]
     fn second(&self) -> Self
         requires { 1 < length (children (tree_at N.tree self.now.vector.now.slots.items self.now.index)) }
         ensures { tree_at N.tree result.vector.now.slots.items result.index
@@ -83,6 +87,7 @@ impl<'s, N: Walk> Placed<'s, N> {
 impl<'s, N: Walk> Walk for Placed<'s, N> {
     ghost tree = { λ p. tree_at N.tree p.vector.now.slots.items p.index };
 
+    #[inline(always)]
     fn view(&self) -> View<'_, Self> {
         match self.seen() {
             View::Nil => View::Nil,
@@ -107,6 +112,7 @@ impl<'s, N: Walk> Walk for Placed<'s, N> {
         }
     }
 
+    #[inline(always)]
     fn summary(&self) -> Option<Summary> {
         Some(self.vector.slots[self.index].measure.summary)
     }

@@ -16,10 +16,10 @@ pub const LIMIT: usize = 1_048_576;
 /// What is known of a subtree without a look at its nodes.
 #[derive(Clone, Copy)]
 pub struct Measure {
-    /// How many nodes it has.
-    pub size: u32,
     /// What a probe has to know of it, laid flat.
     pub summary: Summary,
+    /// How many nodes it has.
+    pub size: u32,
 }
 
 /// A node, and what is known of the tree below it.
@@ -49,6 +49,7 @@ enum Children<N> {
     Two(N, N),
 }
 
+#[inline(always)]
 fn children_of<N: Walk>(node: &N) -> Children<N>
     ensures { trees_of N.tree result ≡ children (N.tree node.now) }
 {
@@ -68,6 +69,7 @@ fn children_of<N: Walk>(node: &N) -> Children<N>
 }
 
 // Puts the children of a node on a list of work, the first one last.
+#[inline(always)]
 fn push_children<N: Walk>(work: &mut Vec<N>, node: &N) -> Result<(), AllocError>
     ensures { OnOk result (waiting N.tree work.new.items ≡ forest (children (N.tree node.now)) ++ waiting N.tree work.old.items) }
 {
@@ -83,6 +85,7 @@ fn push_children<N: Walk>(work: &mut Vec<N>, node: &N) -> Result<(), AllocError>
 }
 
 // The measure of no tree.
+#[inline(always)]
 fn nothing() -> Measure
     ensures { result ≡ first_of [] }
 {
@@ -115,6 +118,7 @@ fn place_nodes<N: Walk>(memory: Global, node: N) -> Result<Option<Vec<Slot<N>>>,
 }
 
 // What is known of the children of a slot's node, the first one first, from the slots behind it.
+#[inline(always)]
 fn measures_below<N: Walk>(slots: &[Slot<N>], index: usize) -> (Measure, Measure)
     requires nested { IsNested (slot_trees N.tree slots.now) }
     requires within { index < length slots.now }
@@ -136,6 +140,7 @@ fn measures_below<N: Walk>(slots: &[Slot<N>], index: usize) -> (Measure, Measure
 }
 
 // The summary of a text of this counted width.
+#[inline(always)]
 fn text_summary(width: usize, text: &str) -> Summary
     ensures { result ≡ summary_of (ink_of width text.now) }
 {
@@ -147,6 +152,7 @@ fn text_summary(width: usize, text: &str) -> Summary
 }
 
 // The summary of a node laid flat, from those of its children.
+#[inline(always)]
 fn flat_summary<N: Walk>(node: &N, first: Summary, second: Summary) -> Summary
     requires first { first ≡ (first_of (children (N.tree node.now))).summary }
     requires second { second ≡ (second_of (children (N.tree node.now))).summary }
@@ -176,6 +182,7 @@ fn flat_summary<N: Walk>(node: &N, first: Summary, second: Summary) -> Summary
 
 // What is known of the tree of a slot, from the slots behind it.
 #[tactic(auto, using(crate::proofs::Vectors::measured_by))]
+#[inline(always)]
 fn measure_at<N: Walk>(slots: &[Slot<N>], index: usize) -> Measure
     requires nested { IsNested (slot_trees N.tree slots.now) }
     requires within { index < length slots.now }
