@@ -12,3 +12,5 @@ pub mod Renders
 pub mod Contents
 pub mod Visits
 pub mod Meets
+pub mod Preorders
+pub mod Vectors
