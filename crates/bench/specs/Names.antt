@@ -38,12 +38,12 @@ depths = 1000 ∷ 10000 ∷ 100000 ∷ []
 
 -- the sizes at which it is timed
 abbrev pub full_sizes_of : Workload → List ℕ
-full_sizes_of w.Json = 8000 ∷ 80000 ∷ []
+full_sizes_of w.Json = 80000 ∷ []
 full_sizes_of w.TextGroups = depths
 full_sizes_of w.BareGroups = depths
 full_sizes_of w.KeptTrials = depths
 full_sizes_of w.RejectedTrials = depths
-full_sizes_of _ = 100000 ∷ 1000000 ∷ []
+full_sizes_of _ = 1000000 ∷ []
 
 -- a reason that counts above 10,000
 abbrev pub beyond : ℕ → List ℕ → Option (List ℕ)
@@ -51,6 +51,7 @@ beyond size reason = if nat_lt 10000 size then Some reason else None
 
 -- why it is not timed at a size, if so
 abbrev pub obstacle_of : Workload → ℕ → Option (List ℕ)
+obstacle_of w.BareGroups size = beyond size (codes "its probes are quadratic")
 obstacle_of w.KeptTrials size = beyond size (codes "its trials are nested calls")
 obstacle_of w.RejectedTrials size = beyond size (codes "its trials are nested calls")
 obstacle_of _ size = None

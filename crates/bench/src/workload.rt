@@ -88,12 +88,12 @@ impl Workload {
         ensures { result.now ≡ names.full_sizes_of self }
     {
         match self {
-            Workload::Json => &[8_000, 80_000],
+            Workload::Json => &[80_000],
             Workload::TextGroups
             | Workload::BareGroups
             | Workload::KeptTrials
             | Workload::RejectedTrials => &[1_000, 10_000, 100_000],
-            _ => &[100_000, 1_000_000],
+            _ => &[1_000_000],
         }
     }
 
@@ -102,6 +102,7 @@ impl Workload {
         ensures { option_copied result ≡ names.obstacle_of self size }
     {
         match self {
+            Workload::BareGroups if size > 10_000 => Some("its probes are quadratic"),
             Workload::KeptTrials | Workload::RejectedTrials if size > 10_000 => {
                 Some("its trials are nested calls")
             }

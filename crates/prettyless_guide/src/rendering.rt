@@ -62,10 +62,10 @@ fn visits_at<'a, D: DocPlace<'a>>(place: &'a D, width: usize) -> Result<Visits, 
 }
 
 fn visits_are_counted<'a, D: DocPlace<'a>>(rt: &impl Abort, place: &'a D) -> Result<(), Fail> {
-    for width in [80, 11, 4] {
+    for (width, probes) in [(80, 6), (11, 6), (4, 3)] {
         let visits = visits_at(place, width)?;
         assert_eq!(rt; visits.printer, 7);
-        assert_eq!(rt; visits.probes, 1);
+        assert_eq!(rt; visits.probes, probes);
     }
     Ok(())
 }

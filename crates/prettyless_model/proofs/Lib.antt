@@ -8,4 +8,3 @@ pub mod Writes
 pub mod ContentMerged
 pub mod ContentCounted
 pub mod Content
-pub mod Summaries

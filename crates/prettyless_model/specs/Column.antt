@@ -34,10 +34,6 @@ commit w c = record { position = saturating_add (prospective c) w; indent = 0; p
 abbrev pub blank : Column → Column
 blank c = if c.fresh then c else record c { padding = saturating_add c.padding 1 }
 
--- several weak spaces
-abbrev pub spaced : ℕ → Column → Column
-spaced n c = if c.fresh then c else record c { padding = saturating_add c.padding n }
-
 -- padding that a pending suffix would commit stays within the width
 abbrev pub padding_fits : ℕ → Bool → Column → Bool
 padding_fits width pending c = not pending || (c.padding == 0) || nat_le (prospective c) width

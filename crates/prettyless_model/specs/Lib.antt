@@ -2,7 +2,6 @@ pub mod Tree
 pub mod Metrics
 pub mod Column
 pub mod Reading
-pub mod Summary
 pub mod Layout
 pub mod Levels
 pub mod Counts

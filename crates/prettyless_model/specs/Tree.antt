@@ -21,7 +21,6 @@ pub data Tree : Type 0 where
   Group : Tree → Tree
   Union : Tree → Tree → Tree
   PartialUnion : Tree → Tree → Tree
-  deriving IsSet as Tree-set
 
 -- how many nodes a tree has; a subtree that stands in several places counts each time
 abbrev pub size : Tree → ℕ

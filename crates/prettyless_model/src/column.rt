@@ -59,19 +59,14 @@ impl Column {
     pub fn blank(self) -> Self
         ensures { result ≡ spec.blank self }
     {
-        self.spaced(1)
-    }
-
-    /// The column behind this many weak spaces.
-    pub fn spaced(self, count: usize) -> Self
-        ensures { result ≡ spec.spaced count self }
-    {
         if self.fresh {
             return self;
         }
         Column {
-            padding: self.padding.saturating_add(count),
-            ..self
+            position: self.position,
+            indent: self.indent,
+            padding: self.padding.saturating_add(1),
+            fresh: false,
         }
     }
 

@@ -1,5 +1,4 @@
 ghost use Rattle.prettyless_model.specs.Content.{LayoutsHaveContent};
-ghost use Rattle.prettyless_model.specs.Summary.{FlatReadings};
 ghost use Rattle.prettyless_model.specs.Levels.{FewerSuffixesThanNodes, MoreLevelsChangeNothing};
 
 /// The levels of a layout are never spent: any number above what the document may leave pending gives the same layout,
@@ -13,9 +12,4 @@ pub fn law_levels()
 /// order without line suffixes, each byte as often with them, and interleaved where none stands inside another.
 pub fn law_content()
     ensures { LayoutsHaveContent }
-{}
-
-/// What a probe reads of a document laid flat can be summed up.
-pub fn law_flat()
-    ensures { FlatReadings }
 {}

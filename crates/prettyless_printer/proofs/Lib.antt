@@ -12,5 +12,3 @@ pub mod Renders
 pub mod Contents
 pub mod Visits
 pub mod Meets
-pub mod Preorders
-pub mod Vectors

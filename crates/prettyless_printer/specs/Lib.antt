@@ -9,5 +9,3 @@ pub mod Turns
 pub mod Renders
 pub mod Visits
 pub mod Meets
-pub mod Preorder
-pub mod Vector

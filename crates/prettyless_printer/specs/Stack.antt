@@ -1,5 +1,5 @@
 -- Lists of work, seen as tasks.
-use Rattle.std.specs.Prelude.{ℕ, ◌+◌, List, [], ◌∷◌, ◌++◌}
+use Rattle.std.specs.Prelude.{◌≡◌, ℕ, ◌+◌, List, [], ◌∷◌, ◌++◌, Option, Some, None, Bool}
 use Rattle.prettyless_model.specs.Tree.{Tree, size}
 use Rattle.prettyless_model.specs.Reading.{Atom, reading}
 use Rattle.prettyless_model.specs.Layout.{Entry, entry}
@@ -42,6 +42,11 @@ read_tasks (t ∷ ts) = reading t.tree t.mode ++ read_tasks ts
 abbrev pub nodes : List Task → ℕ
 nodes [] = 0
 nodes (t ∷ ts) = size t.tree + nodes ts
+
+-- an answer that is the first, or none yet, and then the first is the second
+abbrev pub AnswersAs : Option Bool → Bool → Bool → Type 0
+AnswersAs (Some b) x y = x ≡ b
+AnswersAs None x y = x ≡ y
 
 -- the trees of nodes
 abbrev pub trees : {N : Type 0} → (N → Tree) → List N → List Tree

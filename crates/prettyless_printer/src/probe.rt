@@ -3,9 +3,7 @@ ghost use Rattle.prettyless_model.specs.Tree.{size};
 ghost use Rattle.prettyless_model.specs.Column.{padding_fits};
 ghost use Rattle.prettyless_model.specs.Reading.{Atom, Payload, Stop, Weak, by_mode, fits, ink_of, reading};
 ghost use Rattle.prettyless_model.specs.Layout.{rest_atoms};
-ghost use Rattle.prettyless_model.specs.Summary.{AnswersAs, summary_of};
-ghost use Rattle.prettyless_model.specs.declared.mode.Mode.TheVariants.{Flat};
-ghost use Rattle.prettyless_printer.specs.Stack.{follow, nodes, read_tasks, stack_of};
+ghost use Rattle.prettyless_printer.specs.Stack.{AnswersAs, follow, nodes, read_tasks, stack_of};
 ghost use Rattle.prettyless_printer.specs.Meets.{RisesBy};
 
 use crate::command::Command;
@@ -14,7 +12,6 @@ use crate::walk::{View, Walk};
 use prettyless_model::column::Column;
 use prettyless_model::metrics::Metrics;
 use prettyless_model::mode::Mode;
-use prettyless_model::summary::Summary;
 use prettyless_sink::visits::one_more;
 use std::alloc::AllocError;
 
@@ -136,38 +133,6 @@ fn probe_one<N: Walk>(
     Ok(None)
 }
 
-// The summary of a node that is read flat, where it has one.
-fn flat_summary<N: Walk>(command: &Command<N>) -> Option<Summary>
-    ensures { IfSome result
-        (λ s. (command.now.mode ≡ Flat) × (s ≡ summary_of (reading (N.tree command.now.node) Flat))) }
-{
-    match command.mode {
-        Mode::Flat => command.node.summary(),
-        Mode::Break => None,
-    }
-}
-
-// Reads one node, the whole of it where its summary tells what it is.
-#[tactic(auto, using(crate::proofs::Visits::size_positive))]
-fn probe_next<N: Walk>(
-    width: usize,
-    line: &mut Line,
-    command: &Command<N>,
-    stack: &mut Vec<Command<N>>,
-) -> Result<Option<bool>, AllocError>
-    ensures answer { IfOk result (λ a. (more : List Atom) → AnswersAs a
-        (fits width line.old.column line.old.pending
-        (reading (N.tree command.now.node) command.now.mode ++ (read_tasks (stack_of N.tree stack.old.items) ++ more)))
-        (fits width line.new.column line.new.pending (read_tasks (stack_of N.tree stack.new.items) ++ more))) }
-    ensures smaller { OnOk result
-        (nodes (stack_of N.tree stack.new.items) < size (N.tree command.now.node) + nodes (stack_of N.tree stack.old.items)) }
-{
-    match flat_summary(command) {
-        Some(summary) => Ok(summary.pass(width, &mut line.column, &mut line.pending)),
-        None => probe_one(width, line, command, stack),
-    }
-}
-
 // The next node that the probe reads: one of its own, and then the printer's commands downwards, each in Break.
 #[tactic(auto, using(crate::proofs::Stacks::below_steps))]
 fn next_command<N: Walk>(
@@ -230,7 +195,7 @@ pub fn probe<N: Walk>(
             return Ok(line.column.padding_fits(width, line.pending));
         };
         *probes = one_more(*probes);
-        if let Some(answer) = probe_next(width, &mut line, &command, stack)? {
+        if let Some(answer) = probe_one(width, &mut line, &command, stack)? {
             return Ok(answer);
         }
     }

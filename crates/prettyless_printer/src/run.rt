@@ -17,7 +17,6 @@ use crate::printer::{Printer, Turn};
 use crate::stack::push_node;
 use crate::trial::print_branch;
 use crate::turn::turn;
-use crate::vector::lay_out;
 use crate::walk::Walk;
 use prettyless_model::column::Column;
 use prettyless_model::mode::Mode;
@@ -159,8 +158,17 @@ fn run_to_end<N: Walk, W: Render>(
     }
 }
 
-// Renders the document of a node, as `render` says it.
-fn render_node<N: Walk, W: Render>(
+/// Renders the document of a node to a sink: what is written is its layout.
+///
+/// Where the sink tells its bytes: on success all of the layout was appended. `Document` is answered exactly where the
+/// layout fails, behind the bytes before the failing node. `Sink` is answered where the sink failed, once in this call,
+/// and `Memory` where a growth was refused, which leaves the sink's failures as they were: what was appended then is a
+/// beginning of the layout's bytes.
+///
+/// The nodes that are taken up are added to `visits`: on success at least those that the layout lays, and at least one of a
+/// probe for each that the layout asks, where a rejected branch of a union counts nothing; and without line suffixes at most
+/// each node once, and each once for every node that asks a probe.
+pub fn render<N: Walk, W: Render>(
     alloc: Global,
     node: N,
     options: RenderOptions,
@@ -188,39 +196,5 @@ fn render_node<N: Walk, W: Render>(
     match push_node(&mut printer.commands, 0, Mode::Break, node) {
         Ok(()) => run_to_end(&mut printer, &mut buffer, out, visits),
         Err(e) => Err(RenderError::Memory(e)),
-    }
-}
-
-/// Renders the document of a node to a sink: what is written is its layout.
-///
-/// Where the sink tells its bytes: on success all of the layout was appended. `Document` is answered exactly where the
-/// layout fails, behind the bytes before the failing node. `Sink` is answered where the sink failed, once in this call,
-/// and `Memory` where a growth was refused, which leaves the sink's failures as they were: what was appended then is a
-/// beginning of the layout's bytes.
-///
-/// The nodes are laid out in one vector first, so that a probe takes up a node that it reads flat as one. A document of
-/// more than `LIMIT` nodes, or one for whose vector no memory is had, is rendered as it stands.
-///
-/// The nodes that are taken up are added to `visits`: on success at least those that the layout lays, and at least one of a
-/// probe for each that the layout asks, where a rejected branch of a union counts nothing; and without line suffixes at most
-/// each node once, and each once for every node that asks a probe.
-pub fn render<N: Walk, W: Render>(
-    alloc: Global,
-    node: N,
-    options: RenderOptions,
-    out: &mut W,
-    visits: &mut Visits,
-) -> Result<(), RenderError<W::Error>>
-    ensures same_lender { W.lender out.new ≡ W.lender out.old }
-    ensures told { W.tells out.old → W.tells out.new
-        × Rendered (W.document_errors out.new) (layout options (N.tree node))
-        (W.written out.old) (W.written out.new) (W.failures out.old) (W.failures out.new) result }
-    ensures rise { Rise visits.old visits.new }
-    ensures visited { Visited (N.tree node) visits.old visits.new }
-    ensures at_least { OnOk result (VisitedAtLeast options (N.tree node) visits.old visits.new) }
-{
-    match lay_out(alloc, node) {
-        Ok(Some(vector)) => render_node(alloc, vector.root(), options, out, visits),
-        _ => render_node(alloc, node, options, out, visits),
     }
 }

@@ -1,12 +1,8 @@
-ghost use Rattle.std.specs.Prelude.{◌≡◌, IfSome};
+ghost use Rattle.std.specs.Prelude.{◌≡◌};
 ghost use Rattle.prettyless_model.specs.Tree.{Tree};
-ghost use Rattle.prettyless_model.specs.Reading.{reading};
-ghost use Rattle.prettyless_model.specs.Summary.{summary_of};
-ghost use Rattle.prettyless_model.specs.declared.mode.Mode.TheVariants.{Flat};
 ghost use Rattle.prettyless_printer.specs.View.{IsMeasured, view_tree};
 
 use prettyless_model::metrics::Metrics;
-use prettyless_model::summary::Summary;
 
 /// One node, as the printer sees it: its variant, its text and its children. Widths are columns.
 #[derive(Drop)]
@@ -44,11 +40,4 @@ pub trait Walk: Copy {
     fn view(&self) -> View<'_, Self>
         ensures tree { view_tree tree result ≡ tree self.now }
         ensures metrics { IsMeasured result };
-
-    /// What a probe has to know of the node laid flat, where that is known without a look at its children.
-    fn summary(&self) -> Option<Summary>
-        ensures { IfSome result (λ s. s ≡ summary_of (reading (tree self.now) Flat)) }
-    {
-        None
-    }
 }

@@ -7,7 +7,7 @@ use Rattle.prettyless_printer.specs.Renders.{Rendered}
 use Rattle.prettyless_printer.proofs.Renders.{begins}
 use Rattle.prettyless_printer.proofs.Visits.{visited}
 use Rattle.prettyless_printer.proofs.Meets.{at_least}
-use Rattle.prettyless_printer.proofs.run.render_node.Goals as goal
+use Rattle.prettyless_printer.proofs.run.render.Goals as goal
 
 pub returns-in-Ok-clause-told : goal.returns-in-Ok-clause-told
 returns-in-Ok-clause-told g c =
