@@ -185,27 +185,37 @@ fn deep_inputs_are_refused(rt: HostRuntime) -> Result<(), Fail> {
     Ok(())
 }
 
+/// Each read fails in turn, also one behind what is no S-expression, and the one that finds the end.
 #[test]
 fn a_failing_reader_ends_the_run(rt: HostRuntime) {
-    for (calls, ending) in [(0, 3), (2, 3), (4, 3), (5, 0)] {
-        let mut reader = Trickle {
-            input: b"(1 2 3)",
-            calls,
-        };
-        let mut written = Vec::new(rt.alloc());
-        let result = run(
-            rt.alloc(),
-            RenderOptions::new(10),
-            &mut reader,
-            &mut written,
-        );
-        assert_eq!(rt;
-            matches!(result, Err(RunError::Read(_))),
-            ending != 0,
-            "{calls}"
-        );
-        assert_eq!(rt; status(result), ending, "{calls}");
-        assert_eq!(rt; written.is_empty(), ending != 0, "{calls}");
+    for (input, reads, ending) in [
+        ("(1 2 3)", 5, 0),
+        ("((1) (2 3) (4 5 6))\n", 11, 0),
+        (")(", 2, 1),
+        ("", 1, 1),
+    ] {
+        for calls in 0..=reads {
+            let mut reader = Trickle {
+                input: input.as_bytes(),
+                calls,
+            };
+            let mut written = Vec::new(rt.alloc());
+            let result = run(
+                rt.alloc(),
+                RenderOptions::new(10),
+                &mut reader,
+                &mut written,
+            );
+            let fails = calls < reads;
+            assert_eq!(rt;
+                matches!(result, Err(RunError::Read(_))),
+                fails,
+                "{input} at {calls}"
+            );
+            let ending = if fails { 3 } else { ending };
+            assert_eq!(rt; status(result), ending, "{input} at {calls}");
+            assert_eq!(rt; written.is_empty(), ending != 0, "{input} at {calls}");
+        }
     }
 }
 

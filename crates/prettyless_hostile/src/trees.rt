@@ -1,0 +1,193 @@
+//! Awkward trees. All are built in an arena, so that nothing deep is dropped.
+use crate::reader::read;
+use bumpalo::Bump;
+use prettyless::text::{BuildError, Text};
+use prettyless::{Arena, Doc, DocPlace, DocPtr, FmtWrite, RefDoc, RenderOptions, Visits};
+use std::alloc::{AllocError, Global};
+use std::process::Abort;
+use std::test::Fail;
+
+const TIMES: usize = 100_000;
+
+fn text<'a>(arena: &'a Arena<'a>, text: &'a str) -> Result<RefDoc<'a>, BuildError> {
+    arena.alloc(Doc::Text(Text::Borrowed(text)))
+}
+
+fn append<'a>(
+    arena: &'a Arena<'a>,
+    first: RefDoc<'a>,
+    second: RefDoc<'a>,
+) -> Result<RefDoc<'a>, BuildError> {
+    arena.alloc(Doc::Append(first, second))
+}
+
+// So many times the letter, and then this text.
+fn repeated(
+    memory: Global,
+    front: &str,
+    letter: &str,
+    times: usize,
+    back: &str,
+) -> Result<String, AllocError> {
+    let mut text = String::from_str(memory, front)?;
+    for _ in 0..times {
+        text.push_str(letter)?;
+    }
+    text.push_str(back)?;
+    Ok(text)
+}
+
+// Compares what a document is rendered as, and answers its visits.
+fn compare(
+    rt: &impl Abort,
+    memory: Global,
+    document: RefDoc<'_>,
+    width: usize,
+    layout: &str,
+) -> Result<Visits, Fail> {
+    let mut out = String::new(memory);
+    let mut sink = FmtWrite::new(&mut out);
+    let mut visits = Visits::default();
+    let options = RenderOptions::new(width);
+    document
+        .doc()
+        .render_raw_counted_with(memory, options, &mut sink, &mut visits)?;
+    assert_eq!(rt; out.len(), layout.len(), "at {width}");
+    assert!(rt; out.as_str() == layout, "at {width}");
+    Ok(visits)
+}
+
+// Letters appended behind one another.
+fn to_the_left<'a>(arena: &'a Arena<'a>) -> Result<RefDoc<'a>, BuildError> {
+    let mut chain = text(arena, "a")?;
+    for _ in 1..TIMES {
+        chain = append(arena, chain, text(arena, "a")?)?;
+    }
+    Ok(chain)
+}
+
+// Letters put in front of one another.
+fn to_the_right<'a>(arena: &'a Arena<'a>) -> Result<RefDoc<'a>, BuildError> {
+    let mut chain = text(arena, "a")?;
+    for _ in 1..TIMES {
+        chain = append(arena, text(arena, "a")?, chain)?;
+    }
+    Ok(chain)
+}
+
+// A line and a letter in nests.
+fn nests<'a>(arena: &'a Arena<'a>) -> Result<RefDoc<'a>, BuildError> {
+    let line = arena.alloc(Doc::HardLine)?;
+    let mut nests = append(arena, line, text(arena, "x")?)?;
+    for _ in 0..TIMES {
+        nests = arena.alloc(Doc::Nest(1, nests))?;
+    }
+    Ok(nests)
+}
+
+#[test]
+fn chains_to_the_left(rt: HostRuntime) -> Result<(), Fail> {
+    let bump = Bump::new(rt.alloc());
+    let arena = Arena::new(rt.alloc(), &bump);
+    let layout = repeated(rt.alloc(), "", "a", TIMES, "")?;
+    compare(&rt, rt.alloc(), to_the_left(&arena)?, 80, layout.as_str())?;
+    Ok(())
+}
+
+#[test]
+fn chains_to_the_right(rt: HostRuntime) -> Result<(), Fail> {
+    let bump = Bump::new(rt.alloc());
+    let arena = Arena::new(rt.alloc(), &bump);
+    let layout = repeated(rt.alloc(), "", "a", TIMES, "")?;
+    compare(&rt, rt.alloc(), to_the_right(&arena)?, 80, layout.as_str())?;
+    Ok(())
+}
+
+#[test]
+fn nests_in_nests(rt: HostRuntime) -> Result<(), Fail> {
+    let bump = Bump::new(rt.alloc());
+    let arena = Arena::new(rt.alloc(), &bump);
+    let layout = repeated(rt.alloc(), "\n", " ", TIMES, "x")?;
+    compare(&rt, rt.alloc(), nests(&arena)?, 80, layout.as_str())?;
+    Ok(())
+}
+
+// A width, a document as the reader takes it, and what it has to be rendered as.
+type Case<'a> = (usize, &'a str, &'a str);
+
+#[rattlefmt::skip]
+const GREATEST: [Case<'static>; 4] = [
+    // Columns stay at the greatest one.
+    (usize::MAX, "Group Append Append TextWithLen 18446744073709551615 'a' BreakOrFlat HardLine Text ' ' Text 'b'", "a b"),
+    (usize::MAX - 1, "Group Append Append TextWithLen 18446744073709551615 'a' BreakOrFlat HardLine Text ' ' Text 'b'", "a\nb"),
+    (usize::MAX, "Append Append TextWithLen 18446744073709551615 'a' WeakSpace Text 'b'", "a b"),
+    // So do indents, and at 0.
+    (80, "Nest 9223372036854775807 Nest 9223372036854775807 Nest 9223372036854775807 \
+          Nest -9223372036854775808 Nest -9223372036854775808 Append HardLine Text 'x'", "\nx"),
+];
+
+#[test]
+fn greatest_widths_and_indents(rt: HostRuntime) -> Result<(), Fail> {
+    for (width, written, layout) in GREATEST {
+        let bump = Bump::new(rt.alloc());
+        let arena = Arena::new(rt.alloc(), &bump);
+        compare(&rt, rt.alloc(), read(&arena, written)?, width, layout)?;
+    }
+    Ok(())
+}
+
+// An alternative in an alternative and so on, of which each second one does not fit behind the first.
+fn alternatives<'a>(arena: &'a Arena<'a>, depth: usize) -> Result<RefDoc<'a>, BuildError> {
+    let mut nested = text(arena, "x")?;
+    for _ in 0..depth {
+        let line = arena.alloc(Doc::HardLine)?;
+        let first = append(arena, append(arena, line, nested)?, text(arena, "toolong")?)?;
+        nested = arena.alloc(Doc::Union(first, text(arena, "x")?))?;
+    }
+    Ok(nested)
+}
+
+// A letter in front of them.
+fn behind_a_letter<'a>(arena: &'a Arena<'a>, depth: usize) -> Result<RefDoc<'a>, BuildError> {
+    append(arena, text(arena, "p")?, alternatives(arena, depth)?)
+}
+
+// Every node of the alternatives is taken up once, though all but the last are rejected.
+#[test]
+fn alternatives_are_taken_up_once(rt: HostRuntime) -> Result<(), Fail> {
+    let bump = Bump::new(rt.alloc());
+    let arena = Arena::new(rt.alloc(), &bump);
+    let document = behind_a_letter(&arena, 64)?;
+    assert_eq!(rt; arena.len(), 387);
+    let visits = compare(&rt, rt.alloc(), document, 4, "px")?;
+    assert_eq!(rt; visits.printer, 387);
+    assert_eq!(rt; visits.probes, 0);
+    Ok(())
+}
+
+// A suffix `a`, with such a suffix in it, and so on.
+fn suffixes<'a>(arena: &'a Arena<'a>, depth: usize) -> Result<RefDoc<'a>, BuildError> {
+    let mut suffix = arena.alloc(Doc::LineSuffix(text(arena, "a")?))?;
+    for _ in 1..depth {
+        let both = append(arena, text(arena, "a")?, suffix)?;
+        suffix = arena.alloc(Doc::LineSuffix(both))?;
+    }
+    Ok(suffix)
+}
+
+// The line that they end, and one more letter.
+fn line_of_suffixes<'a>(arena: &'a Arena<'a>, depth: usize) -> Result<RefDoc<'a>, BuildError> {
+    let line = arena.alloc(Doc::HardLine)?;
+    let first = append(arena, suffixes(arena, depth)?, line)?;
+    append(arena, first, text(arena, "b")?)
+}
+
+#[test]
+fn suffixes_in_suffixes(rt: HostRuntime) -> Result<(), Fail> {
+    let bump = Bump::new(rt.alloc());
+    let arena = Arena::new(rt.alloc(), &bump);
+    let document = line_of_suffixes(&arena, 1000)?;
+    let layout = repeated(rt.alloc(), "", "a", 1000, "\nb")?;
+    compare(&rt, rt.alloc(), document, 80, layout.as_str())?;
+    Ok(())
+}
