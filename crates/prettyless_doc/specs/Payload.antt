@@ -9,6 +9,7 @@ use Rattle.prettyless_doc.specs.declared.multiline.MultilineTextData.{MultilineT
 abbrev pub payload_bytes : MultilineTextData → List ℕ
 payload_bytes p = cow_str_bytes p.source
 
+-- a source in memory of its own
 abbrev is_owned_source : {Z : Type 0} → CowStr Z → Bool
 is_owned_source (Owned s) = true
 is_owned_source (Borrowed s) = false
@@ -17,6 +18,7 @@ is_owned_source (Borrowed s) = false
 abbrev pub is_owned : MultilineTextData → Bool
 is_owned p = is_owned_source p.source
 
+-- P, if the source is borrowed
 abbrev IfBorrowedSource : {Z : Type 0} → CowStr Z → Type 0 → Type 0
 IfBorrowedSource (Owned s) P = Unit {0}
 IfBorrowedSource (Borrowed s) P = P

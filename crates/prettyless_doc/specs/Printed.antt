@@ -4,6 +4,7 @@ use Rattle.std.specs.String.{string_bytes}
 use Rattle.prettyless_doc.specs.declared.display.Printed.{Printed}
 use Rattle.prettyless_doc.specs.declared.display.Printed.TheVariants.{Short, Long}
 
+-- the bytes that were printed
 abbrev pub printed_bytes : Printed → List ℕ
 printed_bytes (Short s) = s.bytes
 printed_bytes (Long s) = string_bytes s
@@ -18,5 +19,6 @@ abbrev pub fits_its_place : Printed → Bool
 fits_its_place (Short s) = nat_le (length s.bytes) 22
 fits_its_place (Long s) = nat_lt 22 (length (string_bytes s))
 
+-- it is kept where a text of its length is
 abbrev pub IsPrinted : Printed → Type 0
 IsPrinted p = IsTrue (fits_its_place p)

@@ -4,8 +4,7 @@ ghost use Rattle.prettyless_doc.specs.Cached.{IsCacheOf, widened};
 
 use prettyless_model::metrics::Metrics;
 
-// Metrics with widths of 32 bits. So that a node stays small, a greater one is not kept, and then
-// none is.
+// Metrics with widths of 32 bits, so that a node stays small. Where one width needs more, none is kept.
 #[derive(Clone, Copy)]
 pub(crate) struct CachedMetrics {
     first_width: u32,

@@ -8,7 +8,7 @@ use crate::place::DocPlace;
 use crate::text::BuildError;
 
 impl<'a, T> Doc<'a, T> {
-    /// The same document, its pointers cloned by their place. It fails where no memory was had.
+    /// The same document, its pointers cloned by their place. It fails where memory is refused.
     pub fn clone<D: DocPlace<'a, Doc = T>>(&self, place: &'a D) -> Result<Self, BuildError>
         ensures ok { IfOk result (λ d. tree_of T.tree d ≡ tree_of T.tree self.now) }
         ensures err { IfErr result IsMemory }
@@ -48,7 +48,7 @@ impl<'a, T> Doc<'a, T> {
 
 impl<'a, T> BuildDoc<'a, T> {
     /// The same document: a clone of its pointer, or of the node that is not placed yet. It fails
-    /// where no memory was had.
+    /// where memory is refused.
     pub fn clone<D: DocPlace<'a, Doc = T>>(&self, place: &'a D) -> Result<Self, BuildError>
         ensures ok { IfOk result (λ d. built T.tree d ≡ built T.tree self.now) }
         ensures err { IfErr result IsMemory }

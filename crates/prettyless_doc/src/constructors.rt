@@ -21,14 +21,14 @@ impl<'a, T: DocPtr<'a>> Doc<'a, T> {
         Doc::Nil
     }
 
-    /// A document that fails.
+    /// A document that cannot be laid: a render that meets it fails.
     pub fn fail() -> Self
         ensures { tree_of T.tree result ≡ tree.Fail }
     {
         Doc::Fail
     }
 
-    /// A line break.
+    /// A line break, which fails where lines are flat.
     pub fn hard_line() -> Self
         ensures { tree_of T.tree result ≡ tree.HardLine }
     {
@@ -42,7 +42,7 @@ impl<'a, T: DocPtr<'a>> Doc<'a, T> {
         Doc::hard_line()
     }
 
-    /// A line break, which is nothing on a fresh line where no suffix is pending.
+    /// A line break, also where lines are flat; nothing on a fresh line where no suffix is pending.
     pub fn weak_line() -> Self
         ensures { tree_of T.tree result ≡ tree.WeakLine }
     {
@@ -63,7 +63,7 @@ impl<'a, T: DocPtr<'a>> Doc<'a, T> {
         Doc::WeakSpace
     }
 
-    /// Nothing, but what holds it does not fit a line.
+    /// Nothing, but it keeps the groups around it from being flat.
     pub fn expand_parent() -> Self
         ensures { tree_of T.tree result ≡ tree.ExpandParent }
     {
@@ -72,7 +72,7 @@ impl<'a, T: DocPtr<'a>> Doc<'a, T> {
 }
 
 impl<'a, T> Doc<'a, T> {
-    /// A line break, or one space where lines are flat. It fails where no memory was had.
+    /// A line break, or one space where lines are flat. It fails where memory is refused.
     pub fn line<D: DocPlace<'a, Doc = T>>(place: &'a D) -> Result<Self, BuildError>
         ensures ok { IfOk result (λ d. tree_of T.tree d ≡ line) }
         ensures err { IfErr result IsMemory }
@@ -82,7 +82,7 @@ impl<'a, T> Doc<'a, T> {
         Ok(Doc::BreakOrFlat(broken, flat))
     }
 
-    /// A line break, or nothing where lines are flat. It fails where no memory was had.
+    /// A line break, or nothing where lines are flat. It fails where memory is refused.
     pub fn line_<D: DocPlace<'a, Doc = T>>(place: &'a D) -> Result<Self, BuildError>
         ensures ok { IfOk result (λ d. tree_of T.tree d ≡ line_) }
         ensures err { IfErr result IsMemory }
@@ -101,14 +101,14 @@ impl<'a, D: DocPtr<'a>> BuildDoc<'a, D> {
         BuildDoc::Doc(Doc::nil())
     }
 
-    /// A document that fails.
+    /// A document that cannot be laid: a render that meets it fails.
     pub fn fail() -> Self
         ensures { built D.tree result ≡ tree.Fail }
     {
         BuildDoc::Doc(Doc::fail())
     }
 
-    /// A line break.
+    /// A line break, which fails where lines are flat.
     pub fn hard_line() -> Self
         ensures { built D.tree result ≡ tree.HardLine }
     {
@@ -122,7 +122,7 @@ impl<'a, D: DocPtr<'a>> BuildDoc<'a, D> {
         BuildDoc::Doc(Doc::hardline())
     }
 
-    /// A line break, which is nothing on a fresh line where no suffix is pending.
+    /// A line break, also where lines are flat; nothing on a fresh line where no suffix is pending.
     pub fn weak_line() -> Self
         ensures { built D.tree result ≡ tree.WeakLine }
     {
@@ -143,7 +143,7 @@ impl<'a, D: DocPtr<'a>> BuildDoc<'a, D> {
         BuildDoc::Doc(Doc::weak_space())
     }
 
-    /// Nothing, but what holds it does not fit a line.
+    /// Nothing, but it keeps the groups around it from being flat.
     pub fn expand_parent() -> Self
         ensures { built D.tree result ≡ tree.ExpandParent }
     {
@@ -161,7 +161,7 @@ impl<'a, D: DocPtr<'a>> BuildDoc<'a, D> {
     /// What `{}` shows of the value, also if that is empty. It counts as its bytes if it is ASCII, and
     /// else as its display width.
     ///
-    /// It is answered `Memory` where memory was refused, and `Display` where only the value's
+    /// Answers `Memory` where memory was refused, and `Display` where only the value's
     /// formatting failed.
     pub fn as_string<V: fmt::Display + Drop>(alloc: Global, value: V) -> Result<Self, BuildError>
         ensures { IfOk result (λ d. to.IsStringOf (V.output value) (built D.tree d)) }
@@ -180,7 +180,7 @@ impl<'a, D: DocPtr<'a>> BuildDoc<'a, D> {
 }
 
 impl<'a, T> BuildDoc<'a, T> {
-    /// A line break, or one space where lines are flat. It fails where no memory was had.
+    /// A line break, or one space where lines are flat. It fails where memory is refused.
     pub fn line<D: DocPlace<'a, Doc = T>>(place: &'a D) -> Result<Self, BuildError>
         ensures ok { IfOk result (λ d. built T.tree d ≡ line) }
         ensures err { IfErr result IsMemory }
@@ -188,7 +188,7 @@ impl<'a, T> BuildDoc<'a, T> {
         Ok(BuildDoc::Doc(Doc::line(place)?))
     }
 
-    /// A line break, or nothing where lines are flat. It fails where no memory was had.
+    /// A line break, or nothing where lines are flat. It fails where memory is refused.
     pub fn line_<D: DocPlace<'a, Doc = T>>(place: &'a D) -> Result<Self, BuildError>
         ensures ok { IfOk result (λ d. built T.tree d ≡ line_) }
         ensures err { IfErr result IsMemory }

@@ -38,7 +38,7 @@ impl<'a, T: DocPtr<'a>> Doc<'a, T> {
     /// What `{}` shows of the value, also if that is empty. It counts as its bytes if it is ASCII, and
     /// else as its display width.
     ///
-    /// It is answered `Memory` where memory was refused, and `Display` where only the value's
+    /// Answers `Memory` where memory was refused, and `Display` where only the value's
     /// formatting failed.
     pub fn as_string<V: fmt::Display + Drop>(alloc: Global, value: V) -> Result<Self, BuildError>
         ensures { IfOk result (λ d. to.IsStringOf (V.output value) (tree_of T.tree d)) }

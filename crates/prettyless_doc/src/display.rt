@@ -19,7 +19,7 @@ enum Printed {
 }
 
 impl Printed {
-    // With a piece at its end. Where no memory was had, all of it is given up.
+    // With a piece at its end. Where memory is refused, all of it is given up.
     fn with(self, alloc: Global, piece: &str) -> Result<Self, AllocError>
         requires { IsPrinted self }
         ensures sized { IfOk result IsPrinted }
@@ -98,7 +98,7 @@ impl<'a> Text<'a> {
     /// What `{}` shows of the value: in the node itself if that has at most 22 bytes, and else
     /// owned.
     ///
-    /// It is answered `Memory` where memory was refused, also if the value went on, and `Display`
+    /// Answers `Memory` where memory was refused, also if the value went on, and `Display`
     /// where only the value's formatting failed.
     pub fn from_display<V: fmt::Display + Drop>(alloc: Global, value: V) -> Result<Self, BuildError>
         ensures bytes { IfOk result (λ t. IfSome (V.output value) (λ o. bytes_of t ≡ o)) }

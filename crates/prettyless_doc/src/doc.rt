@@ -9,41 +9,45 @@ use crate::text::{MultilineTextData, Text};
 pub enum Doc<'a, T> {
     /// Nothing.
     Nil,
-    /// A document that fails.
+    /// A document that cannot be laid: a render that meets it answers `RenderError::Document`, and a union rejects a first
+    /// branch that meets it.
     Fail,
     /// A text, counted as one column a byte.
     Text(Text<'a>),
     /// A text and the columns that it counts as.
     TextWithLen(usize, Text<'a>),
-    /// A text that holds line breaks of its own, and is written byte for byte.
+    /// A text that holds line breaks of its own, and is written byte for byte. It fails where lines are flat.
     MultilineText(MultilineTextData<'a>),
     /// A space, which is nothing at the start of a line, nor at its end unless a suffix follows there.
     WeakSpace,
-    /// A line break.
+    /// A line break. It fails where lines are flat.
     HardLine,
-    /// A line break, which is nothing on a fresh line where no suffix is pending.
+    /// A line break, also where lines are flat; nothing on a fresh line where no suffix is pending.
     WeakLine,
     /// Two documents, one after the other.
     Append(T, T),
     /// A document that stays pending until its line ends, and is laid there.
     LineSuffix(T),
-    /// A document with its indent moved by so many columns.
+    /// A document with its indent moved by so many columns, to the left where negative; it stays within 0 and `usize::MAX`.
     Nest(isize, T),
     /// A document with indent 0.
     DedentToRoot(T),
     /// A document with its indent at the column where it starts.
     Align(T),
-    /// Nothing, but what holds it does not fit a line.
+    /// Nothing, but it keeps the groups around it from being flat.
     ExpandParent,
     /// A document that is laid flat.
     Flatten(T),
     /// The first document where lines are broken, and the second where they are flat.
     BreakOrFlat(T, T),
-    /// A document that is laid flat where it fits the line, and else broken.
+    /// A document that is laid flat where it fits the line together with what follows up to the next line break, and else
+    /// broken.
     Group(T),
-    /// The first document where all its lines fit, or lines are flat, and else the second.
+    /// The first document where it can be laid with all its lines within the width, whatever follows, or where lines are
+    /// flat; else the second.
     Union(T, T),
-    /// The first document where its first line fits, or lines are flat, and else the second.
+    /// The first document where its first line fits, together with what follows if it has no line break, or where lines are
+    /// flat; else the second.
     PartialUnion(T, T),
 }
 
@@ -69,7 +73,9 @@ pub trait DocPtr<'a>: Sized + Drop {
 /// A document in the making: a node that was put in its place, or one that was not yet.
 #[derive(Drop)]
 pub enum BuildDoc<'a, D> {
+    /// A node that has its place.
     DocPtr(D),
+    /// A node that is not placed yet.
     Doc(Doc<'a, D>),
 }
 

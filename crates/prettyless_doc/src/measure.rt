@@ -14,14 +14,7 @@ pub fn is_ascii(text: &str) -> bool
     text.is_ascii()
 }
 
-/// The columns that a text takes: its bytes if it is ASCII, and else its display width.
-pub fn text_width(text: &str) -> usize
-    ensures { result ≡ spec.text_width text.now }
-{
-    width_of(text, is_ascii(text))
-}
-
-// The same where it is known whether the text is ASCII.
+// The columns that a text takes, where it is known whether it is ASCII: its bytes, and else its display width.
 fn width_of(text: &str, ascii: bool) -> usize
     requires { ascii ≡ spec.is_ascii text.now }
     ensures { result ≡ spec.text_width text.now }

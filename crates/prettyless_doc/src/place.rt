@@ -11,12 +11,12 @@ pub trait DocPlace<'a>: Sized {
     /// The pointer to a node here.
     type Doc: DocPtr<'a>;
 
-    /// Puts a node here: a pointer to the same tree, or an error where no memory was had.
+    /// Puts a node here: a pointer to the same tree, or an error where memory is refused.
     fn alloc(&'a self, doc: Doc<'a, Self::Doc>) -> Result<Self::Doc, BuildError>
         ensures ok { IfOk result (λ p. Self.Doc.tree p ≡ tree_of Self.Doc.tree doc.entry) }
         ensures err { IfErr result IsMemory };
 
-    /// A pointer of its own to the same tree, or an error where no memory was had.
+    /// A pointer of its own to the same tree, or an error where memory is refused.
     fn clone_ptr(&'a self, pointer: &Self::Doc) -> Result<Self::Doc, BuildError>
         ensures ok { IfOk result (λ p. Self.Doc.tree p ≡ Self.Doc.tree pointer.now) }
         ensures err { IfErr result IsMemory };

@@ -1,4 +1,5 @@
-ghost use Rattle.std.specs.Prelude.{◌≡◌, IfSome};
+ghost use Rattle.std.specs.Prelude.{◌≡◌, IfSome, IsOk, IsSome};
+ghost use Rattle.std.specs.Fmt.{DisplaysOnOk, DisplaysStyledOnOk};
 ghost use Rattle.prettyless_sink.specs.Options.{options_at};
 ghost use Rattle.prettyless_model.specs.Content.{HasContent};
 ghost use Rattle.prettyless_model.specs.Layout.{layout, whole_bytes};
@@ -11,7 +12,7 @@ use std::fmt;
 
 /// A document that prints as its layout. What a formatter is asked for, as a width or an alignment, changes nothing.
 ///
-/// It prints the whole layout or fails: where the document fails, no memory is had or the formatter fails.
+/// It prints the whole layout or fails: where the document fails, memory is refused or the formatter fails.
 #[derive(Clone, Copy)]
 pub struct PrettyFmt<'a, 'd, T> {
     doc: &'d Doc<'a, T>,
@@ -48,7 +49,15 @@ impl<'a, T: DocPtr<'a>> Doc<'a, T> {
 impl<'a, T: DocPtr<'a>> fmt::Display for PrettyFmt<'a, '_, T> {
     ghost output = { λ p. whole_bytes (layout p.options (tree_of T.tree p.doc.now)) };
 
-    fn fmt<W: fmt::Write>(&self, f: &mut fmt::Formatter<W>) -> fmt::Result {
+    ghost styled_output = { λ p _. whole_bytes (layout p.options (tree_of T.tree p.doc.now)) };
+
+    fn fmt<W: fmt::Write>(&self, f: &mut fmt::Formatter<W>) -> fmt::Result
+        ensures writes { DisplaysOnOk W.Write.write_str_gives f.old result
+            (whole_bytes (layout self.now.options (tree_of T.tree self.now.doc.now))) f.new }
+        ensures styled { DisplaysStyledOnOk W.Write.write_str_gives f.old result
+            (whole_bytes (layout self.now.options (tree_of T.tree self.now.doc.now))) f.new }
+        ensures whole { IsOk result → IsSome (whole_bytes (layout self.now.options (tree_of T.tree self.now.doc.now))) }
+    {
         let mut text = String::new(self.alloc);
         match self
             .doc

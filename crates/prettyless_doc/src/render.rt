@@ -22,7 +22,7 @@ use std::alloc::Global;
 use std::{fmt, io};
 
 /// Renders. On success all bytes of the layout were appended. Where the document fails, the bytes before the failing
-/// node were, and the error is one that says so. Where the sink failed, or no memory was had, a beginning of the
+/// node were, and the error is one that says so. Where the sink failed, or memory was refused, a beginning of the
 /// layout's bytes was. A width is in columns; lines end in LF and indents are written at once, unless options say
 /// otherwise.
 impl<'a, T: DocPtr<'a>> Doc<'a, T> {
@@ -76,7 +76,7 @@ impl<'a, T: DocPtr<'a>> Doc<'a, T> {
         run::render(alloc, self, options, out, visits)
     }
 
-    /// Renders to a sink at this width.
+    /// Renders to a sink at this width, in columns, as `render_raw_with` does by `RenderOptions::new(width)`.
     pub fn render_raw<W: Render>(
         &self,
         alloc: Global,
@@ -93,7 +93,8 @@ impl<'a, T: DocPtr<'a>> Doc<'a, T> {
         self.render_raw_with(alloc, RenderOptions::new(width), out)
     }
 
-    /// Renders to a byte writer. An interruption of the writer is answered, and not tried again.
+    /// Renders to a byte writer, piece by piece: hand in a `BufWriter` where writes are dear. An interruption is answered as
+    /// `Sink`, and not tried again.
     pub fn render_with<W: io::Write>(
         &self,
         alloc: Global,
@@ -107,7 +108,7 @@ impl<'a, T: DocPtr<'a>> Doc<'a, T> {
         self.render_raw_with(alloc, options, &mut IoWrite::new(out))
     }
 
-    /// Renders to a byte writer at this width.
+    /// Renders to a byte writer at this width, in columns, as `render_with` does by `RenderOptions::new(width)`.
     pub fn render<W: io::Write>(
         &self,
         alloc: Global,
@@ -135,7 +136,7 @@ impl<'a, T: DocPtr<'a>> Doc<'a, T> {
         self.render_raw_with(alloc, options, &mut FmtWrite::new(out))
     }
 
-    /// Renders to a text writer at this width.
+    /// Renders to a text writer at this width, in columns, as `render_fmt_with` does by `RenderOptions::new(width)`.
     pub fn render_fmt<W: TextWriter>(
         &self,
         alloc: Global,

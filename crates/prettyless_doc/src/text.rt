@@ -14,7 +14,7 @@ use std::fmt;
 /// Why a document was not built. What the call took is given up, and all else is as it was.
 #[derive(Debug, Drop)]
 pub enum BuildError {
-    /// No memory was had.
+    /// Memory was refused.
     Memory(AllocError),
     /// The formatting of a value failed.
     Display,
@@ -41,6 +41,7 @@ impl<T: Drop> From<AllocFailed<T>> for BuildError {
 pub enum Text<'a> {
     /// In memory of its own.
     Owned(BoxedStr),
+    /// In memory that is lent for `'a`.
     Borrowed(&'a str),
     /// In the node itself: at most 22 bytes.
     Small(ArrayString<22>),
@@ -58,6 +59,7 @@ impl<'a> Text<'a> {
         }
     }
 
+    /// The text, wherever its bytes are.
     pub fn as_str(&self) -> &str
         ensures { result.now ≡ bytes_of self.now }
     {

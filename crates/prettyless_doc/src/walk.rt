@@ -7,6 +7,7 @@ use prettyless_printer::walk::{View, Walk};
 impl<'d, 'a, T: DocPtr<'a>> Walk for &'d Doc<'a, T> {
     ghost tree = { λ d. tree_of T.tree d.now };
 
+    #[inline(always)]
     fn view(&self) -> View<'_, Self> {
         match **self {
             Doc::Nil => View::Nil,

@@ -171,6 +171,7 @@ pub data Trace : Type 0 where
   Complete : List Piece → Trace
   Partial : List Piece → Trace
 
+-- the trace of a telling, with its indents settled
 abbrev pub trace_of : Telling → Trace
 trace_of (Told ps st) = Complete (settled ps)
 trace_of (Untold ps) = Partial (settled ps)

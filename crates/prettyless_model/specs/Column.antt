@@ -26,7 +26,7 @@ gap c = saturating_add c.indent c.padding
 abbrev pub prospective : Column → ℕ
 prospective c = saturating_add (saturating_add c.position c.indent) c.padding
 
--- content of this counted width: what was pending is written before it
+-- content of this counted width: the gap is written before it
 abbrev pub commit : ℕ → Column → Column
 commit w c = record { position = saturating_add (prospective c) w; indent = 0; padding = 0; fresh = false }
 
@@ -34,6 +34,6 @@ commit w c = record { position = saturating_add (prospective c) w; indent = 0; p
 abbrev pub blank : Column → Column
 blank c = if c.fresh then c else record c { padding = saturating_add c.padding 1 }
 
--- padding that a pending suffix would commit stays within the width
+-- padding that a pending document would commit stays within the width
 abbrev pub padding_fits : ℕ → Bool → Column → Bool
 padding_fits width pending c = not pending || (c.padding == 0) || nat_le (prospective c) width

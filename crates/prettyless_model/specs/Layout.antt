@@ -15,7 +15,7 @@ use Rattle.prettyless_model.specs.declared.metrics.Metrics.{Metrics}
 use Rattle.prettyless_model.specs.declared.mode.Mode.{Mode}
 use Rattle.prettyless_model.specs.declared.mode.Mode.TheVariants.{Break, Flat}
 
--- between two nodes: the column, the documents that wait for the end of their line, and whether no text went past the width
+-- between two nodes: the column, the pending documents, and whether nothing went past the width
 pub record State : Type 0 where
   pub column : Column
   pub pending : List Tree
@@ -46,7 +46,7 @@ abbrev pub nested : ℕ → ℤ → ℕ
 nested i (pos k) = saturating_add i k
 nested i (negsuc k) = i - (k + 1)
 
--- a text of counted width w: what is pending of the line is written before it; an empty text is nothing
+-- a text of counted width w: the gap is written before it; an empty text is nothing
 abbrev pub lay_text : RenderOptions → ℕ → List ℕ → State → Outcome
 lay_text o w [] st = Done [] st
 lay_text o w (b ∷ bs) st =
@@ -61,7 +61,7 @@ payload_fits o m c = (not m.first_nonempty || nat_le (saturating_add (prospectiv
 abbrev pub behind_payload : Metrics → Column
 behind_payload m = if m.last_nonempty then commit m.last_width start else start
 
--- a payload goes out byte for byte; what is pending of the line is written before it unless its first part is empty
+-- a payload goes out byte for byte; the gap is written before it unless its first part is empty
 abbrev pub lay_payload : RenderOptions → Metrics → List ℕ → State → Outcome
 lay_payload o m s st =
     Done ((if m.first_nonempty then spaces (gap st.column) else []) ++ s)
@@ -77,6 +77,7 @@ abbrev pub next_indent : ℕ → List Entry → ℕ
 next_indent i [] = i
 next_indent i (e ∷ es) = e.indent
 
+-- a tree that follows at this indent
 abbrev pub entry : ℕ → Tree → Entry
 entry i d = record { indent = i; tree = d }
 
@@ -90,11 +91,12 @@ abbrev pub rest_atoms : List Entry → List Atom
 rest_atoms [] = []
 rest_atoms (e ∷ es) = reading e.tree Break ++ rest_atoms es
 
+-- whether a document is pending
 abbrev pub some_pending : List Tree → Bool
 some_pending [] = false
 some_pending (d ∷ ds) = true
 
--- whether a document, laid in this mode, and what follows it stay within the line
+-- whether a document, read in this mode, and what follows it stay within the width, up to the end of the line
 abbrev pub probe : RenderOptions → Tree → Mode → List Entry → State → Bool
 probe o d m rest st = fits o.width st.column (some_pending st.pending) (reading d m ++ rest_atoms rest)
 
@@ -142,7 +144,7 @@ lay_each o brk [] i m rest st = Done [] st
 lay_each o brk (d ∷ ds) i m rest st =
     and_then (lay o brk d i m (entries i ds ++ rest) st) (λ u. lay_each o brk ds i m rest u)
 
--- the pending documents are taken: what is pending of the line is written first, as before content
+-- the state in which the pending documents are laid: the gap is written first, as before content
 abbrev pub flushed : RenderOptions → State → State
 flushed o st = record { column = commit 0 st.column; pending = []; within = st.within && padding_fits o.width true st.column }
 
@@ -178,6 +180,7 @@ unfoldable pub finish : RenderOptions → Breaks → ℕ → State → Outcome
 finish o brk zero st = Failed []
 finish o brk (suc n) st = end_with o brk (finish o brk n) st.pending st
 
+-- the state at the beginning of a document
 abbrev pub initial : State
 initial = record { column = start; pending = []; within = true }
 
@@ -186,6 +189,7 @@ pub data Bytes : Type 0 where
   Whole : List ℕ → Bytes
   Cut : List ℕ → Bytes
 
+-- the bytes of an outcome, without its state
 abbrev pub bytes_of : Outcome → Bytes
 bytes_of (Done b st) = Whole b
 bytes_of (Failed b) = Cut b

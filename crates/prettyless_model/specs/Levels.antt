@@ -4,7 +4,7 @@ use Rattle.prettyless_sink.specs.declared.options.RenderOptions.{RenderOptions}
 use Rattle.prettyless_model.specs.Tree.{Tree, Nil, Fail, Text, TextWithLen, MultilineText, WeakSpace, HardLine, WeakLine, Append, LineSuffix, Nest, DedentToRoot, Align, ExpandParent, Flatten, BreakOrFlat, Group, Union, PartialUnion, size}
 use Rattle.prettyless_model.specs.Layout.{State, Outcome, Breaks, breaks, finish, layout_by, layout, bytes_of}
 
--- how many documents a tree may leave pending
+-- how many LineSuffix nodes a tree has, those inside another too
 abbrev pub suffixes : Tree → ℕ
 suffixes Nil = 0
 suffixes Fail = 0
@@ -43,6 +43,6 @@ settle_end o st = finish o (settle o) (suc (queued st.pending)) st
 abbrev pub MoreLevelsChangeNothing : Type 0
 MoreLevelsChangeNothing = (o : RenderOptions) (n : ℕ) (d : Tree) → suffixes d < n → bytes_of (layout_by o n d) ≡ layout o d
 
--- and it leaves fewer of them than it has nodes
+-- a tree has fewer LineSuffix nodes than nodes
 abbrev pub FewerSuffixesThanNodes : Type 0
 FewerSuffixesThanNodes = (d : Tree) → suffixes d < size d

@@ -26,22 +26,27 @@ is_ascii (b ∷ bs) = if nat_lt b 128 then is_ascii bs else false
 abbrev pub text_width : List ℕ → ℕ
 text_width s = if is_ascii s then length s else str_width false (chars s)
 
+-- no byte
 abbrev pub is_empty : List ℕ → Bool
 is_empty [] = true
 is_empty (b ∷ bs) = false
 
+-- the greatest width of parts, 0 for none
 abbrev pub widest : List (List ℕ) → ℕ
 widest [] = 0
 widest (p ∷ ps) = max (text_width p) (widest ps)
 
+-- the first part
 abbrev pub first_of_parts : List (List ℕ) → List ℕ
 first_of_parts [] = []
 first_of_parts (p ∷ ps) = p
 
+-- all parts but the first
 abbrev pub later_parts : List (List ℕ) → List (List ℕ)
 later_parts [] = []
 later_parts (p ∷ ps) = ps
 
+-- the last of a part and those behind it
 abbrev pub last_of_parts : List ℕ → List (List ℕ) → List ℕ
 last_of_parts p [] = p
 last_of_parts p (q ∷ qs) = last_of_parts q qs

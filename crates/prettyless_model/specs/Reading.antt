@@ -8,7 +8,7 @@ use Rattle.prettyless_model.specs.declared.column.Column.{Column}
 use Rattle.prettyless_model.specs.declared.mode.Mode.{Mode}
 use Rattle.prettyless_model.specs.declared.mode.Mode.TheVariants.{Break, Flat}
 
--- text of a counted width, a weak space, a document put off to the line's end, what no flat line holds, a hard end of
+-- text of a counted width, a weak space, a line suffix, what no flat line holds, a hard end of
 -- the line, a weak one, a payload by its first width and whether its first part is nonempty
 pub data Atom : Type 0 where
   Ink : ℕ → Atom
@@ -24,6 +24,7 @@ abbrev pub ink_of : ℕ → List ℕ → List Atom
 ink_of w [] = []
 ink_of w (b ∷ bs) = Ink w ∷ []
 
+-- the first in Break, the second in Flat
 abbrev pub by_mode : {A : Type 0} → Mode → A → A → A
 by_mode Break b f = b
 by_mode Flat b f = f
@@ -54,7 +55,7 @@ reading (t.PartialUnion l r) m = by_mode m (reading r m) (reading l m)
 abbrev pub payload_begins : ℕ → Column → ℕ → Bool → Bool
 payload_begins width c w nonempty = not nonempty || nat_le (commit w c).position width
 
--- whether the atoms, up to the end of the line, stay within the width; `pending` says that a document waits for that end
+-- whether the atoms, up to the end of the line, stay within the width; `pending` says that a document is pending
 abbrev pub fits : ℕ → Column → Bool → List Atom → Bool
 fits width c pending [] = padding_fits width pending c
 fits width c pending (Ink w ∷ atoms) = nat_le (commit w c).position width && fits width (commit w c) pending atoms

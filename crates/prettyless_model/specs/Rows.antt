@@ -21,9 +21,11 @@ Fails width d bytes = layout (options_at width) d ≡ Cut bytes
 abbrev pub Counts : ℕ → Tree → ℕ → ℕ → Type 0
 Counts width d nodes probes = (laid_nodes (options_at width) d ≡ nodes) × (laid_probes (options_at width) d ≡ probes)
 
+-- this width, LF, indents with the first content
 abbrev pub deferred_at : ℕ → RenderOptions
 deferred_at width = record { width = width; line_ending = Lf; indentation_policy = Deferred }
 
+-- this width, CR LF, indents at once
 abbrev pub crlf_at : ℕ → RenderOptions
 crlf_at width = record { width = width; line_ending = Crlf; indentation_policy = Eager }
 

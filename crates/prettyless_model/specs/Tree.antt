@@ -1,6 +1,7 @@
 -- Documents as trees: the variants of `Doc`, with trees in place of pointers.
 use Rattle.std.specs.Prelude.{ℕ, ℤ, ◌+◌, List}
 
+-- a document
 pub data Tree : Type 0 where
   Nil : Tree
   Fail : Tree

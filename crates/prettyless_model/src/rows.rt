@@ -1,7 +1,7 @@
 //! Layouts of small documents, as the definitions alone compute them. The functions do nothing: their contracts speak.
 
 ghost use Rattle.std.specs.Prelude.{◌≡◌, ◌^◌, ◌-◌, ◌++◌, List, ◌∷◌, [], ℕ, pos, negsuc, codes};
-ghost use Rattle.prettyless_model.specs.Tree.{Nil, Fail, Text, TextWithLen, MultilineText, WeakSpace, HardLine, WeakLine, Append, LineSuffix, Nest, DedentToRoot, Align, ExpandParent, Flatten, BreakOrFlat, Group, Union, PartialUnion};
+ghost use Rattle.prettyless_model.specs.Tree.{Nil, Fail, Text, TextWithLen, MultilineText, WeakSpace, HardLine, WeakLine, Append, LineSuffix, Nest, DedentToRoot, Align, ExpandParent, Flatten, BreakOrFlat, Group, Union, PartialUnion, probed, size};
 ghost use Rattle.prettyless_model.specs.Layout.{layout, Whole};
 ghost use Rattle.prettyless_model.specs.Spelling.{ink, parts, spells};
 ghost use Rattle.prettyless_model.specs.Rows.{Counts, Fails, Shows, accent, below, crlf_at, deferred_at, flat_or_failed, in_turn, line, noted, numbers, pair, remarked, tail, text, tight_pair, two_lines};
@@ -157,8 +157,12 @@ pub fn contents()
     ensures by_no_word { (w : List ℕ) → spells (Union (text "a") (text "b")) w → ⊥ }
 {}
 
-/// What layouts count: the nodes that they lay, and the probes that they ask.
+/// What layouts count: the nodes that they lay, and the probes that they ask. A tree has so many nodes, of which so many
+/// ask a probe.
 pub fn counts()
+    ensures pair_nodes { size (pair "a" "b") ≡ 8 }
+    ensures pair_probed { probed (pair "a" "b") ≡ 1 }
+    ensures lines_nodes { size (Union (two_lines "short" "long long long") (two_lines "short" "short")) ≡ 11 }
     ensures group_fits { Counts 80 (pair "a" "b") 7 1 }
     ensures group_breaks { Counts 2 (pair "a" "b") 7 1 }
     ensures flat_group { Counts 80 (Flatten (pair "a" "b")) 8 0 }

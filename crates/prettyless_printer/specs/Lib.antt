@@ -1,6 +1,7 @@
 pub mod View
 pub mod Stack
 pub mod Piece
+pub mod Probing
 pub mod Steps
 pub mod Printing
 pub mod Progress

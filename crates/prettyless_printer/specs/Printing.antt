@@ -9,7 +9,7 @@ use Rattle.prettyless_printer.specs.declared.printer.Printer.{Printer}
 use Rattle.prettyless_printer.specs.declared.printer.Taken.{Taken}
 use Rattle.prettyless_printer.specs.declared.printer.Taken.TheVariants.{Written, Failed, Chosen}
 
--- the state between two nodes: the documents that wait are those of the queue from its start on
+-- the state between two nodes: the pending documents are those of the queue from its start on
 abbrev pub state_of : {N : Type 0} → (N → Tree) → Printer N → State
 state_of f p = record { column = p.column; pending = trees f (drop p.start p.queue.items); within = p.within }
 

@@ -30,7 +30,7 @@ WorkedOff f p q fails old new n m (Ok r) =
     (bytes : List ℕ) × (rest_of f p ≡ Done bytes (state_of f q)) × (new ≡ old ++ bytes) × (m ≡ n)
 WorkedOff f p q fails old new n m (Err e) = Stopped fails (rest_of f p) old new n m e
 
--- what is pending of the line at the end is written
+-- the gap at the end is written
 abbrev pub Flushed : {N A E : Type 0} → Printer N → List ℕ → List ℕ → ℕ → ℕ → Result A (RenderError E) → Type 0
 Flushed p old new n m (Ok r) = (new ≡ old ++ spaces (gap p.column)) × (m ≡ n)
 Flushed p old new n m (Err (Document e)) = ⊥

@@ -12,9 +12,11 @@ pub record Task : Type 0 where
   pub mode : Mode
   pub tree : Tree
 
+-- a task of these parts
 abbrev pub make_task : ℕ → Mode → Tree → Task
 make_task i m d = record { indent = i; mode = m; tree = d }
 
+-- a command as a task
 abbrev pub task : {N : Type 0} → (N → Tree) → Command N → Task
 task f c = make_task c.indent c.mode (f c.node)
 
@@ -43,7 +45,7 @@ abbrev pub nodes : List Task → ℕ
 nodes [] = 0
 nodes (t ∷ ts) = size t.tree + nodes ts
 
--- an answer that is the first, or none yet, and then the first is the second
+-- where this is an answer, x is that answer; where there is none yet, x is y
 abbrev pub AnswersAs : Option Bool → Bool → Bool → Type 0
 AnswersAs (Some b) x y = x ≡ b
 AnswersAs None x y = x ≡ y

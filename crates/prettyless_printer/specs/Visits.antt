@@ -16,12 +16,12 @@ abbrev pub suffixes : List Task → ℕ
 suffixes [] = 0
 suffixes (t ∷ ts) = suffix_depth t.tree + suffixes ts
 
--- no line suffix is on the stack, and no document waits
+-- no line suffix is on the stack, and no document is pending
 pub record Plain {N : Type 0} (f : N → Tree) (p : Printer N) : Type 0 where
   pub none : suffixes (stack_of f p.commands.items) ≡ 0
   pub pending : (state_of f p).pending ≡ []
 
--- what a probe may take up that a node asks, where k nodes follow it
+-- how many nodes the probe that a node asks may take up, where k nodes follow the node
 abbrev pub asked : Tree → ℕ → ℕ
 asked (Group d) k = size d + k
 asked (PartialUnion l r) k = size l + k
@@ -37,7 +37,7 @@ pub record Rise (v w : Visits) : Type 0 where
   pub printer : v.printer ≤ w.printer
   pub probes : v.probes ≤ w.probes
 
--- the visits of tasks, of which others are left
+-- the nodes that leave, as the tasks ts become us, pay for the visits from v to w
 pub record Pays (ts us : List Task) (v w : Visits) : Type 0 where
   pub left : nodes us ≤ nodes ts
   pub printer : w.printer + nodes us ≤ v.printer + nodes ts

@@ -1,3 +1,4 @@
+//! The text that open trials write to.
 ghost use Rattle.std.specs.Prelude.{⊤, ◌≡◌, []};
 ghost use Rattle.std.specs.String.{string_bytes};
 

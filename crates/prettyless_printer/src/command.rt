@@ -1,3 +1,4 @@
+//! One node that is still to be laid.
 ghost use Rattle.std.specs.Prelude.{◌≡◌, ⊤};
 
 use prettyless_model::mode::Mode;

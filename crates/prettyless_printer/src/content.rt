@@ -1,3 +1,4 @@
+//! What texts and payloads do to the column.
 ghost use Rattle.std.specs.Prelude.{◌≡◌};
 ghost use Rattle.prettyless_model.specs.Layout.{behind_payload as behind_payload_of, lay_payload, lay_text, payload_fits as payload_fits_of};
 ghost use Rattle.prettyless_printer.specs.Steps.{at_once};
@@ -11,7 +12,8 @@ use prettyless_model::column::Column;
 use prettyless_model::metrics::Metrics;
 use prettyless_sink::options::RenderOptions;
 
-/// Content of this counted width: the column and the flag go along with it. An empty text is nothing.
+/// Content of this counted width, in columns: the column moves behind it, and `within` falls where that is past the width.
+/// An empty text is nothing.
 #[tactic(auto, using(crate::proofs::Queues::queues))]
 pub fn put_text<'v, N: Walk>(printer: &mut Printer<N>, counted: usize, text: &'v str) -> Piece<'v>
     ensures step { Shows N.tree (Written result)
@@ -53,7 +55,7 @@ fn behind_payload(metrics: Metrics) -> Column
     Column::start()
 }
 
-/// A payload: what is pending of the line is written before it, unless its first part is empty.
+/// A payload: the line's gap is written before it, unless its first part is empty.
 #[tactic(auto, using(crate::proofs::Queues::queues))]
 pub fn put_payload<'v, N: Walk>(
     printer: &mut Printer<N>,

@@ -1,3 +1,4 @@
+//! Pending line suffixes, and their way back to the commands.
 ghost use Rattle.std.specs.Prelude.{◌≡◌, ◌++◌, ◌≤◌, vec_len, IfOk, OnOk};
 ghost use Rattle.prettyless_model.specs.Column.{gap as gap_of};
 ghost use Rattle.prettyless_model.specs.Layout.{flushed, some_pending};
@@ -10,7 +11,7 @@ use crate::walk::Walk;
 use prettyless_model::mode::Mode;
 use std::alloc::AllocError;
 
-/// Whether a document waits for the end of the line.
+/// Whether a line suffix is pending.
 #[tactic(auto, using(crate::proofs::Queues::queues))]
 pub fn is_pending<N: Walk>(printer: &Printer<N>) -> bool
     requires { printer.now.start ≤ vec_len printer.now.queue }
@@ -19,8 +20,8 @@ pub fn is_pending<N: Walk>(printer: &Printer<N>) -> bool
     printer.start < printer.queue.len()
 }
 
-/// Makes the documents that wait the next commands, in their order. What is pending of the line is to be written before
-/// them, as before content: the answer is that gap, in spaces.
+/// Makes the pending line suffixes the next commands, in their order. The line's gap is to be written before them, as before
+/// content: it is the answer, in spaces.
 #[tactic(auto, using(crate::proofs::Queues::queues))]
 pub fn take_pending<N: Walk>(
     printer: &mut Printer<N>,

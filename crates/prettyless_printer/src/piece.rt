@@ -1,3 +1,4 @@
+//! What one node writes.
 ghost use Rattle.std.specs.Prelude.{◌≡◌, ◌++◌, [], OnOk, OnErr};
 ghost use Rattle.prettyless_sink.specs.Sink.{AppendsBeginning, rise};
 ghost use Rattle.prettyless_printer.specs.Piece.{piece_bytes};
@@ -26,7 +27,7 @@ impl<'v> Piece<'v> {
     }
 }
 
-/// Writes a piece to a sink.
+/// Writes a piece to a sink, or fails behind a beginning of it.
 pub fn write_piece<W: Render>(out: &mut W, piece: Piece<'_>) -> Result<(), W::Error>
     ensures same_lender { W.lender out.new ≡ W.lender out.old }
     ensures ok { OnOk result (W.tells out.old → W.tells out.new

@@ -1,9 +1,10 @@
+//! The printer's state, and what steps and turns answer.
 use crate::command::Command;
 use crate::piece::Piece;
 use prettyless_model::column::Column;
 use prettyless_sink::options::RenderOptions;
 
-/// The printer's state: the column, the commands that are left, and the documents that wait for the end of their line.
+/// The printer's state: the column, the commands that are left, and the pending line suffixes.
 #[derive(Drop)]
 pub struct Printer<N> {
     pub options: RenderOptions,
@@ -14,7 +15,7 @@ pub struct Printer<N> {
     pub commands: Vec<Command<N>>,
     /// The probe's own list of work, kept for its memory.
     pub scratch: Vec<Command<N>>,
-    /// The documents that were put off to the end of their line, the oldest first. Those before `start` are laid.
+    /// The line suffixes that were met, the oldest first: those from `start` on are pending.
     pub queue: Vec<N>,
     pub start: usize,
 }

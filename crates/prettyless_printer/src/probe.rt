@@ -1,8 +1,10 @@
+//! The probe: whether a node fits the line with what follows it.
 ghost use Rattle.std.specs.Prelude.{◌≡◌, ◌++◌, ◌∷◌, [], IfOk, OnOk, IfSome, MatchOption, List, false, ◌+◌, ◌<◌, ◌≤◌, ⊤, length, take};
 ghost use Rattle.prettyless_model.specs.Tree.{size};
 ghost use Rattle.prettyless_model.specs.Column.{padding_fits};
 ghost use Rattle.prettyless_model.specs.Reading.{Atom, Payload, Stop, Weak, by_mode, fits, ink_of, reading};
 ghost use Rattle.prettyless_model.specs.Layout.{rest_atoms};
+ghost use Rattle.prettyless_printer.specs.Probing.{ReadsAs, nodes_next, read_of};
 ghost use Rattle.prettyless_printer.specs.Stack.{AnswersAs, follow, nodes, read_tasks, stack_of};
 ghost use Rattle.prettyless_printer.specs.Meets.{RisesBy};
 
@@ -19,7 +21,7 @@ use std::alloc::AllocError;
 #[derive(Clone, Copy)]
 pub struct Line {
     pub column: Column,
-    /// Whether a document waits for the end of the line.
+    /// Whether a line suffix is pending.
     pub pending: bool,
 }
 
@@ -61,7 +63,7 @@ fn read_line_end(width: usize, line: &Line, mode: Mode) -> bool
     }
 }
 
-// Reads a weak line, which is nothing at the beginning of a line for whose end no document waits.
+// Reads a weak line, which is nothing on a fresh line where no suffix is pending.
 fn read_weak_line(width: usize, line: &Line, mode: Mode) -> Option<bool>
     ensures { (more : List Atom) → AnswersAs result
         (fits width line.now.column line.now.pending (Weak mode ∷ more))
@@ -83,54 +85,75 @@ pub fn either<N: Copy>(mode: Mode, broken: N, flat: N) -> N
     }
 }
 
-// Reads one node: an answer, or the nodes below it, which are now on the stack.
+/// What the reading of one node comes to: an answer, the node that is read next, or neither.
+#[derive(Clone, Copy)]
+pub enum Read<N> {
+    Answer(bool),
+    Next(Mode, N),
+    Done,
+}
+
+// An answer, or none.
+fn answered<N>(answer: Option<bool>) -> Read<N>
+    ensures { result ≡ read_of answer }
+{
+    match answer {
+        Some(answer) => Read::Answer(answer),
+        None => Read::Done,
+    }
+}
+
+// Reads one node. The nodes below it are read next: the first is answered, and a second one is now on the stack.
 #[tactic(auto, using(crate::proofs::Stacks::reading_more))]
 fn probe_one<N: Walk>(
     width: usize,
     line: &mut Line,
-    command: &Command<N>,
+    mode: Mode,
+    node: N,
     stack: &mut Vec<Command<N>>,
-) -> Result<Option<bool>, AllocError>
-    ensures answer { IfOk result (λ a. (more : List Atom) → AnswersAs a
+) -> Result<Read<N>, AllocError>
+    ensures answer { IfOk result (λ a. (more : List Atom) → ReadsAs N.tree a
         (fits width line.old.column line.old.pending
-        (reading (N.tree command.now.node) command.now.mode ++ (read_tasks (stack_of N.tree stack.old.items) ++ more)))
-        (fits width line.new.column line.new.pending (read_tasks (stack_of N.tree stack.new.items) ++ more))) }
-    ensures smaller { OnOk result
-        (nodes (stack_of N.tree stack.new.items) < size (N.tree command.now.node) + nodes (stack_of N.tree stack.old.items)) }
+        (reading (N.tree node) mode ++ (read_tasks (stack_of N.tree stack.old.items) ++ more)))
+        (λ atoms. fits width line.new.column line.new.pending (atoms ++ (read_tasks (stack_of N.tree stack.new.items) ++ more)))) }
+    ensures smaller { IfOk result (λ a.
+        nodes_next N.tree a + nodes (stack_of N.tree stack.new.items) < size (N.tree node) + nodes (stack_of N.tree stack.old.items)) }
 {
-    let indent = command.indent;
-    let mode = command.mode;
-    match command.node.view() {
-        View::Nil => {}
-        View::Fail => return Ok(Some(false)),
-        View::Text(s) => return Ok(read_content(width, line, s.len(), s)),
-        View::TextWithLen(counted, s) => return Ok(read_content(width, line, counted, s)),
-        View::MultilineText(_, metrics) => return Ok(Some(read_payload(
+    match node.view() {
+        View::Nil => Ok(Read::Done),
+        View::Fail => Ok(Read::Answer(false)),
+        View::Text(s) => Ok(answered(read_content(width, line, s.len(), s))),
+        View::TextWithLen(counted, s) => Ok(answered(read_content(width, line, counted, s))),
+        View::MultilineText(_, metrics) => Ok(Read::Answer(read_payload(
             width, line, mode, metrics,
         ))),
-        View::WeakSpace => line.column = line.column.blank(),
-        View::HardLine => return Ok(Some(read_line_end(width, line, mode))),
-        View::WeakLine => return Ok(read_weak_line(width, line, mode)),
-        View::LineSuffix(_) => line.pending = true,
-        View::ExpandParent => {
-            if let Mode::Flat = mode {
-                return Ok(Some(false));
-            }
+        View::WeakSpace => {
+            line.column = line.column.blank();
+            Ok(Read::Done)
         }
-        View::Append(l, r) => {
-            push_node(stack, indent, mode, r)?;
-            push_node(stack, indent, mode, l)?;
+        View::HardLine => Ok(Read::Answer(read_line_end(width, line, mode))),
+        View::WeakLine => Ok(answered(read_weak_line(width, line, mode))),
+        View::LineSuffix(_) => {
+            line.pending = true;
+            Ok(Read::Done)
         }
-        View::Nest(_, d) => push_node(stack, indent, mode, d)?,
-        View::DedentToRoot(d) => push_node(stack, indent, mode, d)?,
-        View::Align(d) => push_node(stack, indent, mode, d)?,
-        View::Flatten(d) => push_node(stack, indent, Mode::Flat, d)?,
-        View::BreakOrFlat(b, f) => push_node(stack, indent, mode, either(mode, b, f))?,
-        View::Group(d) => push_node(stack, indent, mode, d)?,
-        View::Union(l, r) => push_node(stack, indent, mode, either(mode, r, l))?,
-        View::PartialUnion(l, r) => push_node(stack, indent, mode, either(mode, r, l))?,
+        View::ExpandParent => match mode {
+            Mode::Break => Ok(Read::Done),
+            Mode::Flat => Ok(Read::Answer(false)),
+        },
+        View::Append(first, second) => {
+            push_node(stack, 0, mode, second)?;
+            Ok(Read::Next(mode, first))
+        }
+        View::Nest(_, inner) => Ok(Read::Next(mode, inner)),
+        View::DedentToRoot(inner) => Ok(Read::Next(mode, inner)),
+        View::Align(inner) => Ok(Read::Next(mode, inner)),
+        View::Group(inner) => Ok(Read::Next(mode, inner)),
+        View::Flatten(inner) => Ok(Read::Next(Mode::Flat, inner)),
+        View::BreakOrFlat(broken, flat) => Ok(Read::Next(mode, either(mode, broken, flat))),
+        View::Union(first, second) => Ok(Read::Next(mode, either(mode, second, first))),
+        View::PartialUnion(first, second) => Ok(Read::Next(mode, either(mode, second, first))),
     }
-    Ok(None)
 }
 
 // The next node that the probe reads: one of its own, and then the printer's commands downwards, each in Break.
@@ -188,15 +211,24 @@ pub fn probe<N: Walk>(
 {
     let mut line = start;
     let mut below = commands.len();
+    let mut mode = mode;
+    let mut node = node;
     stack.clear();
-    push_node(stack, 0, mode, node)?;
-    loop {
-        let Some(command) = next_command(commands, &mut below, stack) else {
-            return Ok(line.column.padding_fits(width, line.pending));
-        };
+    'read: loop {
         *probes = one_more(*probes);
-        if let Some(answer) = probe_one(width, &mut line, &command, stack)? {
-            return Ok(answer);
+        match probe_one(width, &mut line, mode, node, stack)? {
+            Read::Answer(answer) => return Ok(answer),
+            Read::Next(next_mode, next) => {
+                mode = next_mode;
+                node = next;
+            }
+            Read::Done => {
+                let Some(command) = next_command(commands, &mut below, stack) else {
+                    return Ok(line.column.padding_fits(width, line.pending));
+                };
+                mode = command.mode;
+                node = command.node;
+            }
         }
     }
 }

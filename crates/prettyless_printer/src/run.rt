@@ -1,3 +1,4 @@
+//! The run: commands are worked off into a sink, and then what is pending at the end.
 ghost use Rattle.std.specs.Prelude.{◌≡◌, ◌+◌, ◌*◌, ◌∷◌, ◌<◌, ◌≤◌, [], OnOk, vec_len};
 ghost use Rattle.prettyless_model.specs.Tree.{size};
 ghost use Rattle.prettyless_model.specs.Content.{suffix_depth};
@@ -103,7 +104,7 @@ fn work_off<N: Walk, W: Render>(
     Ok(())
 }
 
-// At the end the documents that wait become the commands, and what is pending of the line is written, as before content.
+// At the end the pending line suffixes become the commands, and the line's gap is written, as before content.
 fn flush_end<N: Walk, W: Render>(
     printer: &mut Printer<N>,
     out: &mut W,
@@ -127,7 +128,7 @@ fn flush_end<N: Walk, W: Render>(
     }
 }
 
-// Works off the commands and then, round by round, the documents that wait at the end.
+// Works off the commands and then, round by round, the line suffixes that are pending at the end.
 fn run_to_end<N: Walk, W: Render>(
     printer: &mut Printer<N>,
     buffer: &mut Buffer,
@@ -160,14 +161,15 @@ fn run_to_end<N: Walk, W: Render>(
 
 /// Renders the document of a node to a sink: what is written is its layout.
 ///
-/// Where the sink tells its bytes: on success all of the layout was appended. `Document` is answered exactly where the
+/// Where the sink tells its bytes: on success all of the layout was appended. `Document` is answered only where the
 /// layout fails, behind the bytes before the failing node. `Sink` is answered where the sink failed, once in this call,
 /// and `Memory` where a growth was refused, which leaves the sink's failures as they were: what was appended then is a
 /// beginning of the layout's bytes.
 ///
-/// The nodes that are taken up are added to `visits`: on success at least those that the layout lays, and at least one of a
-/// probe for each that the layout asks, where a rejected branch of a union counts nothing; and without line suffixes at most
-/// each node once, and each once for every node that asks a probe.
+/// The nodes that are taken up are added to `visits`. On success the printer has taken up at least the nodes that the layout
+/// lays, and its probes at least one node for each probe that the layout asks; a rejected branch counts nothing here.
+/// Without line suffixes the printer takes up at most as many nodes as the document has, and its probes together at most
+/// that many for each node that asks one.
 pub fn render<N: Walk, W: Render>(
     alloc: Global,
     node: N,

@@ -1,3 +1,4 @@
+//! The list of commands, as a stack.
 ghost use Rattle.std.specs.Prelude.{◌≡◌, ◌∷◌, ◌++◌, [], List, length, OnOk, MatchOption};
 ghost use Rattle.prettyless_printer.specs.Stack.{Task, make_task, stack_of, task, tasks, trees};
 

@@ -1,3 +1,4 @@
+//! What taking up one node does.
 ghost use Rattle.std.specs.Prelude.{◌≡◌, ◌++◌, ◌+◌, ◌∷◌, ◌≤◌, ◌&&◌, [], true, vec_len, IfOk, OnOk, if◌then◌else◌};
 ghost use Rattle.prettyless_model.specs.Tree.{size};
 ghost use Rattle.prettyless_model.specs.Reading.{by_mode};
@@ -235,7 +236,7 @@ fn go_on_with<N: Walk>(
     Ok(Taken::Written(Piece::nothing()))
 }
 
-// A union in Break: its metrics decide, or a trial is asked for.
+// A union in Break: the metrics of its first branch decide, or a trial is asked for.
 fn union<N: Walk>(
     printer: &mut Printer<N>,
     indent: usize,

@@ -1,3 +1,4 @@
+//! Trials: a union's first branch is printed, and kept or taken back.
 ghost use Rattle.std.specs.Prelude.{◌≡◌, ◌∷◌, ◌≤◌, IfOk, take, vec_len};
 ghost use Rattle.std.specs.String.{string_bytes};
 ghost use Rattle.std.specs.String.Boundary.{IsSplitPoint};
@@ -48,7 +49,7 @@ fn mark_of<N: Walk>(printer: &Printer<N>) -> Mark
     }
 }
 
-// Goes back to where a trial began, which left nothing behind then.
+// Goes back to where a trial began: nothing of it is left.
 fn take_back<N: Walk>(printer: &mut Printer<N>, mark: Mark, buffer: &mut Buffer, written: usize)
     requires { IsSplitPoint (string_bytes buffer.old.text) written }
     ensures printer { Restores N.tree mark printer.old printer.new }
@@ -72,7 +73,7 @@ fn memory_of(error: RenderError<AllocError>) -> AllocError {
 
 /// Prints a branch behind what the buffer has, without what follows it but with that known. It is kept if it does not
 /// fail, nothing of it goes past the width, and at its end the padding fits; else all is as before. Want of memory is
-/// an error, and never a reason not to keep a branch.
+/// an error, and never a reason not to keep a branch. The answer is whether it is kept.
 pub fn print_branch<N: Walk>(
     printer: &mut Printer<N>,
     buffer: &mut Buffer,

@@ -1,3 +1,4 @@
+//! A turn: a command is taken, stepped and written.
 ghost use Rattle.std.specs.Prelude.{◌≡◌, ◌<◌, ◌≤◌, OnOk, IfOk, vec_len};
 ghost use Rattle.prettyless_sink.specs.Sink.{rise};
 ghost use Rattle.prettyless_printer.specs.Printing.{Grows};

@@ -1,3 +1,4 @@
+//! The seam to documents: a node as the printer sees it.
 ghost use Rattle.std.specs.Prelude.{◌≡◌};
 ghost use Rattle.prettyless_model.specs.Tree.{Tree};
 ghost use Rattle.prettyless_printer.specs.View.{IsMeasured, view_tree};

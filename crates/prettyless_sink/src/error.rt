@@ -8,6 +8,6 @@ pub enum RenderError<E> {
     Document(E),
     /// The sink failed: it has a beginning of the layout's bytes.
     Sink(E),
-    /// No memory was had: the sink has a beginning of the layout's bytes.
+    /// Memory was refused: the sink has a beginning of the layout's bytes.
     Memory(AllocError),
 }

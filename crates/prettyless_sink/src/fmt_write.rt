@@ -6,7 +6,7 @@ use crate::render::Render;
 use crate::text_writer::TextWriter;
 use std::fmt;
 
-/// A sink over a text writer, with a count of its failures.
+/// A sink over a text writer that it is lent, as `FmtWrite::new(&mut writer)`, with a count of its failures.
 #[derive(Drop)]
 pub struct FmtWrite<W> {
     upstream: W,

@@ -8,7 +8,7 @@ ghost use Rattle.prettyless_sink.specs.Sink.{known, AppendsKnownBeginning};
 use crate::render::{Render, is_fair_count};
 use std::io;
 
-/// A sink over a byte writer, with a count of its failures.
+/// A sink over a byte writer that it is lent, as `IoWrite::new(&mut writer)`, with a count of its failures.
 #[derive(Drop)]
 pub struct IoWrite<W> {
     upstream: W,

@@ -7,6 +7,7 @@ ghost use Rattle.prettyless_sink.specs.Sink.{AppendsBeginning, AppendsCount, IsF
 /// A piece goes in whole and the failures stay, or a beginning of it does and they rise by one. That is promised
 /// where the sink tells its bytes.
 pub trait Render {
+    /// What the sink answers where it or the document fails.
     type Error;
 
     // whether the sink tells its bytes

@@ -7,6 +7,9 @@ use Rattle.prettyless_model.proofs.rows.counts.Goals as goal
 pub returns : goal.returns
 unfolding lay lay_each breaks settle tally
 returns c = record {
+  pair_nodes = refl;
+  pair_probed = refl;
+  lines_nodes = refl;
   group_fits = (refl, refl);
   group_breaks = (refl, refl);
   flat_group = (refl, refl);
