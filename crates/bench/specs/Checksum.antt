@@ -6,5 +6,6 @@ use Rattle.std.specs.List.{fold}
 abbrev pub with_digit : ℕ → ℕ → ℕ
 with_digit sum byte = (sum * 257 + byte) % 4294967291
 
+-- the number of these bytes: each a digit, from the first on
 abbrev pub checksum : List ℕ → ℕ
 checksum bytes = fold with_digit 0 bytes

@@ -40,9 +40,11 @@ IsTree n x = (k : ℕ) × (10 ^ k ≤ max n 1) × (max n 1 < 10 * 10 ^ k) × (x 
 abbrev pub bracketed : Tree → Tree → Tree → Tree
 bracketed opening values closing = group (append (append opening (nest (pos 2) (append line_ values))) (append line_ closing))
 
+-- a document, a comma and a line, and the next one
 abbrev pub with_comma : Tree → Tree → Tree
 with_comma front next = append (append front (append (Text (codes ",")) line)) next
 
+-- a document, a soft line, and the next word
 abbrev pub with_word : Tree → List ℕ → Tree
 with_word front next = append (append front softline) (Text next)
 
@@ -81,6 +83,7 @@ tags_field = append (Text (codes "\"tags\": ")) tags
 abbrev pub note_field : Tree
 note_field = Text (codes "\"note\": \"as wide as makes a record wider than a line\"")
 
+-- a record: its four fields in braces
 abbrev pub record_of : ℕ → Tree
 record_of n = bracketed (Text (codes "{")) (with_comma (with_comma (with_comma (id_field n) (name_field n)) tags_field) note_field) (Text (codes "}"))
 
@@ -98,6 +101,7 @@ array n = bracketed (Text (codes "[")) (records n) (Text (codes "]"))
 abbrev pub text_group : Tree → Tree
 text_group inner = group (append (append (Text (codes "a")) line) inner)
 
+-- so many of these in one another
 abbrev pub text_groups : ℕ → Tree
 text_groups zero = Text (codes "a")
 text_groups (suc n) = text_group (text_groups n)
@@ -106,6 +110,7 @@ text_groups (suc n) = text_group (text_groups n)
 abbrev pub wide : Tree
 wide = append (append (Text (codes "a text of fifty columns, of which two fill a line.")) line) (Text (codes "a text of fifty columns, of which two fill a line."))
 
+-- so many groups around them
 abbrev pub bare_groups : ℕ → Tree
 bare_groups zero = wide
 bare_groups (suc n) = Group (bare_groups n)
@@ -114,6 +119,7 @@ bare_groups (suc n) = Group (bare_groups n)
 abbrev pub kept_trial : Tree → Tree
 kept_trial inner = Union (append (append (Text (codes "a")) HardLine) inner) (Text (codes "b"))
 
+-- so many of these in one another
 abbrev pub kept_trials : ℕ → Tree
 kept_trials zero = Text (codes "a")
 kept_trials (suc n) = kept_trial (kept_trials n)
@@ -122,10 +128,12 @@ kept_trials (suc n) = kept_trial (kept_trials n)
 abbrev pub rejected_trial : Tree → Tree
 rejected_trial inner = Union (append (append HardLine inner) (Text (codes "toolong"))) (Text (codes "x"))
 
+-- so many of these in one another
 abbrev pub rejected : ℕ → Tree
 rejected zero = Text (codes "x")
 rejected (suc n) = rejected_trial (rejected n)
 
+-- these behind a text
 abbrev pub rejected_trials : ℕ → Tree
 rejected_trials n = append (Text (codes "p")) (rejected n)
 

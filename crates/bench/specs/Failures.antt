@@ -3,6 +3,7 @@ use Rattle.std.specs.Prelude.{ℕ, List, codes}
 use Rattle.bench.specs.declared.failure.Failure.{Failure}
 use Rattle.bench.specs.declared.failure.Failure.TheVariants.{Words, Build, Render, Memory, System}
 
+-- the text of a failure
 abbrev pub message_of : Failure → List ℕ
 message_of Words = codes "usage: bench [time [WORKLOAD]]"
 message_of (Build e) = codes "error: a document was not built"
@@ -10,6 +11,7 @@ message_of (Render e) = codes "error: a document was not laid out"
 message_of (Memory e) = codes "error: out of memory"
 message_of (System e) = codes "error: the system refused"
 
+-- the program's status behind it
 abbrev pub status_of : Failure → ℕ
 status_of Words = 2
 status_of (Build e) = 1

@@ -4,6 +4,7 @@ use Rattle.std.specs.Str.{bytes_eq}
 use Rattle.bench.specs.declared.workload.Workload.{Workload}
 use Rattle.bench.specs.declared.workload.Workload.TheVariants as w
 
+-- the names of the workloads
 abbrev pub names : List (List ℕ × Workload)
 names =
     (codes "tree", w.Tree) ∷ (codes "list", w.List) ∷ (codes "flat", w.FlatList) ∷ (codes "json", w.Json)
@@ -15,9 +16,11 @@ abbrev pub named_in : List (List ℕ × Workload) → List ℕ → Option Worklo
 named_in [] word = None
 named_in (e ∷ es) word = if bytes_eq word e.0 then Some e.1 else named_in es word
 
+-- what a name means
 abbrev pub workload_of : List ℕ → Option Workload
 workload_of word = named_in names word
 
+-- the width that a workload is laid out within
 abbrev pub width_of : Workload → ℕ
 width_of w.FlatList = 2 ^ 64 - 1
 width_of w.RejectedTrials = 4

@@ -7,6 +7,7 @@ use Rattle.bench.specs.declared.request.Request.{Request}
 use Rattle.bench.specs.declared.request.Request.TheVariants.{Compare, TimeAll, Time}
 use Rattle.bench.specs.declared.workload.Workload.{Workload}
 
+-- that one workload is timed, where one is named
 abbrev pub timed : Option Workload → Option Request
 timed None = None
 timed (Some w) = Some (Time w)

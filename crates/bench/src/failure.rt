@@ -16,7 +16,7 @@ pub enum Failure {
     Build(BuildError),
     /// A document was not laid out.
     Render(RenderError<fmt::Error>),
-    /// No memory was had for something else.
+    /// Memory was refused for something else.
     Memory(AllocError),
     /// The words or the clock could not be read, or a line was not written.
     System(io::Error),

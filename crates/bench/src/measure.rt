@@ -23,17 +23,24 @@ const RENDERS: usize = 5;
 /// A document in an arena, and its layout.
 #[derive(Clone, Copy)]
 pub struct Laid {
+    /// How many nodes the arena placed.
     pub nodes: usize,
+    /// The length of the layout, in bytes.
     pub bytes: usize,
+    /// That of the layout's bytes.
     pub checksum: u64,
 }
 
 /// How long it took to build a document, and to lay it out.
 #[derive(Clone, Copy)]
 pub struct Timed {
+    /// How many nodes the arena placed.
     pub nodes: usize,
+    /// The length of the layout, in bytes.
     pub bytes: usize,
+    /// What building took.
     pub build: Duration,
+    /// What the fastest render took.
     pub render: Duration,
 }
 

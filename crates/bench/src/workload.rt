@@ -61,7 +61,7 @@ impl Workload {
         }
     }
 
-    /// The width that it is laid out within.
+    /// The width that it is laid out within, in columns.
     pub fn width(self) -> usize
         ensures { result ≡ names.width_of self }
     {

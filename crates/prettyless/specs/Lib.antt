@@ -1,6 +1,7 @@
+pub use Rattle.prettyless_alloc.specs.Words
 pub use Rattle.prettyless_build.specs.Built
 pub use Rattle.prettyless_build.specs.Iterated
-pub use Rattle.prettyless_alloc.specs.Words
+pub use Rattle.prettyless_doc.specs.Breaks
 pub use Rattle.prettyless_doc.specs.BuildErrors
 pub use Rattle.prettyless_doc.specs.Counted
 pub use Rattle.prettyless_doc.specs.DocTree
@@ -10,12 +11,15 @@ pub use Rattle.prettyless_doc.specs.TextBytes
 pub use Rattle.prettyless_doc.specs.Tree
 pub use Rattle.prettyless_laws.specs.FlatLines
 pub use Rattle.prettyless_laws.specs.Regrouped
+pub use Rattle.prettyless_laws.specs.Rows
 pub use Rattle.prettyless_laws.specs.TotalTrees
 pub use Rattle.prettyless_laws.specs.Trace
 pub use Rattle.prettyless_laws.specs.Traced
 pub use Rattle.prettyless_model.specs.Column
 pub use Rattle.prettyless_model.specs.Content
+pub use Rattle.prettyless_model.specs.Counts
 pub use Rattle.prettyless_model.specs.Layout
+pub use Rattle.prettyless_model.specs.Levels
 pub use Rattle.prettyless_model.specs.Metrics
 pub use Rattle.prettyless_model.specs.Reading
 pub use Rattle.prettyless_model.specs.Spelling

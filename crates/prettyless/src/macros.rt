@@ -1,7 +1,7 @@
 /// The documents, appended in order, as a `Result` of a builder: `docs![allocator, first, rest..]`.
 ///
 /// An operand is evaluated and becomes a document after those before it, and not where one of them was
-/// refused. `Pretty` is in the way of none of its names.
+/// refused. `Pretty` need not be in scope.
 #[macro_export]
 macro_rules! docs {
     ($allocator:expr, $first:expr $(,)?) => {

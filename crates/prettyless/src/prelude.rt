@@ -1,4 +1,4 @@
-//! What most code that builds documents names.
+//! What most code that builds documents brings into scope.
 
 pub use prettyless_alloc::{
     DocAllocator, DocAllocatorBetween, DocAllocatorOf, DocAllocatorOver, PlacedDoc,

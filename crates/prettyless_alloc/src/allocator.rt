@@ -18,7 +18,7 @@ use std::fmt;
 /// The documents that every place of nodes can start.
 pub trait DocAllocator<'a>: DocPlace<'a> {
     /// A pointer to the document: its own where it has one, which takes no memory, and else that of
-    /// a new node, or an error where no memory was had.
+    /// a new node, or an error where memory is refused.
     fn alloc_cow(&'a self, doc: BuildDoc<'a, Self::Doc>) -> Result<Self::Doc, BuildError>
         ensures ok { IfOk result (λ p. Self.Doc.tree p ≡ built Self.Doc.tree doc.entry) }
         ensures placed { to.IfPlaced doc.entry (λ p. result ≡ Ok p) }
@@ -28,7 +28,7 @@ pub trait DocAllocator<'a>: DocPlace<'a> {
     fn nil(&'a self) -> Result<DocBuilder<'a, Self>, BuildError>
         ensures { IsOkAnd result (λ b. built Self.Doc.tree b.1 ≡ Nil) };
 
-    /// A document that fails. It takes no memory.
+    /// A document that cannot be laid: a render that meets it fails. It takes no memory.
     fn fail(&'a self) -> Result<DocBuilder<'a, Self>, BuildError>
         ensures { IsOkAnd result (λ b. built Self.Doc.tree b.1 ≡ Fail) };
 
@@ -47,7 +47,7 @@ pub trait DocAllocator<'a>: DocPlace<'a> {
     /// What `{}` shows of the value, also if that is empty. It counts as its bytes if it is ASCII, and
     /// else as its display width.
     ///
-    /// It is answered `Memory` where memory was refused, and `Display` where only the value's
+    /// Answers `Memory` where memory was refused, and `Display` where only the value's
     /// formatting failed.
     fn as_string<V: fmt::Display + Drop>(
         &'a self,
@@ -63,12 +63,12 @@ pub trait DocAllocator<'a>: DocPlace<'a> {
             ≡ counted.multiline_text (cow_str_bytes text.entry)) };
 
     /// The pieces of a text between its whitespace, each as `text` makes it, with a `softline` in place
-    /// of each whitespace character. It fails where no memory was had.
+    /// of each whitespace character. It fails where memory is refused.
     fn reflow(&'a self, text: &'a str) -> Result<DocBuilder<'a, Self>, BuildError>
         ensures ok { IfOk result (λ b. built Self.Doc.tree b.1 ≡ words.reflow text.now) }
         ensures err { IfErr result IsMemory };
 
-    /// A line break. It takes no memory.
+    /// A line break, which fails where lines are flat. It takes no memory.
     fn hard_line(&'a self) -> Result<DocBuilder<'a, Self>, BuildError>
         ensures { IsOkAnd result (λ b. built Self.Doc.tree b.1 ≡ HardLine) };
 
@@ -76,7 +76,7 @@ pub trait DocAllocator<'a>: DocPlace<'a> {
     fn hardline(&'a self) -> Result<DocBuilder<'a, Self>, BuildError>
         ensures { IsOkAnd result (λ b. built Self.Doc.tree b.1 ≡ HardLine) };
 
-    /// A line break, which is nothing on a fresh line where no suffix is pending. It takes no memory.
+    /// A line break, also where lines are flat; nothing on a fresh line where no suffix is pending. It takes no memory.
     fn weak_line(&'a self) -> Result<DocBuilder<'a, Self>, BuildError>
         ensures { IsOkAnd result (λ b. built Self.Doc.tree b.1 ≡ WeakLine) };
 
@@ -95,26 +95,26 @@ pub trait DocAllocator<'a>: DocPlace<'a> {
     fn weak_space(&'a self) -> Result<DocBuilder<'a, Self>, BuildError>
         ensures { IsOkAnd result (λ b. built Self.Doc.tree b.1 ≡ WeakSpace) };
 
-    /// Nothing, but what holds it does not fit a line. It takes no memory.
+    /// Nothing, but it keeps the groups around it from being flat. It takes no memory.
     fn expand_parent(&'a self) -> Result<DocBuilder<'a, Self>, BuildError>
         ensures { IsOkAnd result (λ b. built Self.Doc.tree b.1 ≡ ExpandParent) };
 
-    /// A line break, or one space where lines are flat. It fails where no memory was had.
+    /// A line break, or one space where lines are flat. It fails where memory is refused.
     fn line(&'a self) -> Result<DocBuilder<'a, Self>, BuildError>
         ensures ok { IfOk result (λ b. built Self.Doc.tree b.1 ≡ lines.line) }
         ensures err { IfErr result IsMemory };
 
-    /// A line break, or nothing where lines are flat. It fails where no memory was had.
+    /// A line break, or nothing where lines are flat. It fails where memory is refused.
     fn line_(&'a self) -> Result<DocBuilder<'a, Self>, BuildError>
         ensures ok { IfOk result (λ b. built Self.Doc.tree b.1 ≡ lines.line_) }
         ensures err { IfErr result IsMemory };
 
-    /// One space, or a line break where the line has no room. It fails where no memory was had.
+    /// One space, or a line break where the line has no room. It fails where memory is refused.
     fn softline(&'a self) -> Result<DocBuilder<'a, Self>, BuildError>
         ensures ok { IfOk result (λ b. built Self.Doc.tree b.1 ≡ to.softline) }
         ensures err { IfErr result IsMemory };
 
-    /// Nothing, or a line break where the line has no room. It fails where no memory was had.
+    /// Nothing, or a line break where the line has no room. It fails where memory is refused.
     fn softline_(&'a self) -> Result<DocBuilder<'a, Self>, BuildError>
         ensures ok { IfOk result (λ b. built Self.Doc.tree b.1 ≡ to.softline_) }
         ensures err { IfErr result IsMemory };

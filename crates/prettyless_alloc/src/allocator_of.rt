@@ -7,8 +7,8 @@ ghost use Rattle.prettyless_doc.specs.DocTree.{built};
 use prettyless_build::{DocBuilder, Pretty};
 use prettyless_doc::{BuildError, Doc, DocPlace};
 
-/// The documents that every place of nodes can make of one of type `P`. The making of that one can
-/// fail, and, but in `pretty`, memory.
+/// The documents that every place of nodes can make of one of type `P`. Each call fails as the making of that one does, and
+/// all but `pretty` where memory is refused.
 ///
 /// `P` stands on the trait and not on its calls, which cannot bind a type to the trait's lifetime.
 /// It follows from the operand: `allocator.line_suffix(doc)` is written without it.
@@ -18,7 +18,7 @@ pub trait DocAllocatorOf<'a, P: Pretty<'a, Self>>: DocPlace<'a> {
         ensures ok { IfOk result (λ b. P.becomes doc (built Self.Doc.tree b.1)) }
         ensures err { IfErr result (P.refuses doc) };
 
-    /// The document put off to the end of its line, also where it is nothing.
+    /// The document as a line suffix, pending until its line ends, also where it is nothing.
     fn line_suffix(&'a self, doc: P) -> Result<DocBuilder<'a, Self>, BuildError>
         ensures ok { IfOk result (λ b. (y : Tree) × P.becomes doc y
             × (built Self.Doc.tree b.1 ≡ LineSuffix y)) }

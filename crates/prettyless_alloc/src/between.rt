@@ -12,7 +12,7 @@ use prettyless_build::{DocBuilder, Pretty};
 use prettyless_doc::{BuildDoc, BuildError, Doc, DocPlace};
 
 /// The documents that every place of nodes can make of the items of an `I` and a separator `S`. The
-/// making of an item or of the separator can fail, and memory.
+/// making of an item or of the separator can fail, and memory may be refused.
 ///
 /// Both stand on the trait and not on its call, as the parameter of `DocAllocatorOf` does.
 pub trait DocAllocatorBetween<'a, I: IntoIterator, S: Pretty<'a, Self> + Drop>: DocPlace<'a>

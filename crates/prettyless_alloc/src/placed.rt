@@ -18,20 +18,20 @@ use prettyless_doc::text::CowStr;
 use prettyless_doc::{BuildDoc, BuildError, DocPlace, DocPtr};
 use std::fmt;
 
-/// The calls of every pointer to the nodes of a `D`. Each places what it makes, and fails where no
-/// memory was had.
+/// The calls of every pointer to the nodes of a `D`. Each places what it makes, and fails where
+/// memory is refused.
 pub trait PlacedDoc<'a, D: DocPlace<'a, Doc = Self>>: DocPtr<'a> {
     /// Nothing.
     fn nil(place: &'a D) -> Result<Self, BuildError>
         ensures ok { IfOk result (λ p. Self.tree p ≡ Nil) }
         ensures err { IfErr result IsMemory };
 
-    /// A document that fails.
+    /// A document that cannot be laid: a render that meets it fails.
     fn fail(place: &'a D) -> Result<Self, BuildError>
         ensures ok { IfOk result (λ p. Self.tree p ≡ Fail) }
         ensures err { IfErr result IsMemory };
 
-    /// A line break.
+    /// A line break, which fails where lines are flat.
     fn hard_line(place: &'a D) -> Result<Self, BuildError>
         ensures ok { IfOk result (λ p. Self.tree p ≡ HardLine) }
         ensures err { IfErr result IsMemory };
@@ -41,7 +41,7 @@ pub trait PlacedDoc<'a, D: DocPlace<'a, Doc = Self>>: DocPtr<'a> {
         ensures ok { IfOk result (λ p. Self.tree p ≡ HardLine) }
         ensures err { IfErr result IsMemory };
 
-    /// A line break, which is nothing on a fresh line where no suffix is pending.
+    /// A line break, also where lines are flat; nothing on a fresh line where no suffix is pending.
     fn weak_line(place: &'a D) -> Result<Self, BuildError>
         ensures ok { IfOk result (λ p. Self.tree p ≡ WeakLine) }
         ensures err { IfErr result IsMemory };
@@ -57,7 +57,7 @@ pub trait PlacedDoc<'a, D: DocPlace<'a, Doc = Self>>: DocPtr<'a> {
         ensures ok { IfOk result (λ p. Self.tree p ≡ WeakSpace) }
         ensures err { IfErr result IsMemory };
 
-    /// Nothing, but what holds it does not fit a line.
+    /// Nothing, but it keeps the groups around it from being flat.
     fn expand_parent(place: &'a D) -> Result<Self, BuildError>
         ensures ok { IfOk result (λ p. Self.tree p ≡ ExpandParent) }
         ensures err { IfErr result IsMemory };
@@ -91,7 +91,7 @@ pub trait PlacedDoc<'a, D: DocPlace<'a, Doc = Self>>: DocPtr<'a> {
     /// What `{}` shows of the value, also if that is empty. It counts as its bytes if it is ASCII, and
     /// else as its display width.
     ///
-    /// It is answered `Memory` where memory was refused, and `Display` where only the value's
+    /// Answers `Memory` where memory was refused, and `Display` where only the value's
     /// formatting failed.
     fn as_string<V: fmt::Display + Drop>(place: &'a D, value: V) -> Result<Self, BuildError>
         ensures { IfOk result (λ p. counted.IsStringOf (V.output value) (Self.tree p)) };
@@ -103,7 +103,7 @@ pub trait PlacedDoc<'a, D: DocPlace<'a, Doc = Self>>: DocPtr<'a> {
             ≡ counted.multiline_text (cow_str_bytes text.entry)) }
         ensures err { IfErr result IsMemory };
 
-    /// This document, laid flat where it fits the line, and else broken. Where it is nothing, a text
+    /// This document, laid flat where it fits the line with what follows, and else broken. Where it is nothing, a text
     /// or a group, it stays as it is, which takes no memory.
     fn group(self, place: &'a D) -> Result<Self, BuildError>
         ensures ok { IfOk result (λ p. Self.tree p ≡ to.group (Self.tree self)) }
@@ -209,7 +209,7 @@ impl<'a, D: DocPlace<'a, Doc = T>, T: DocPtr<'a>> PlacedDoc<'a, D> for T {
 }
 
 /// The calls of a pointer that take a document of type `P`. The making of that one can fail, and
-/// memory.
+/// memory may be refused.
 ///
 /// `P` stands on the trait and not on its calls, as the parameter of `DocAllocatorOf` does.
 pub trait PlacedDocOf<'a, D: DocPlace<'a, Doc = Self>, P: Pretty<'a, D>>: DocPtr<'a> {
@@ -246,7 +246,7 @@ impl<'a, D: DocPlace<'a, Doc = T>, P: Pretty<'a, D>, T: DocPtr<'a>> PlacedDocOf<
     }
 }
 
-/// The calls of a pointer that take an iterator `I`. The making of an item can fail, and memory.
+/// The calls of a pointer that take an iterator `I`. The making of an item can fail, and memory may be refused.
 pub trait PlacedDocOver<'a, D: DocPlace<'a, Doc = Self>, I: IntoIterator>: DocPtr<'a>
 where
     I::Item: Pretty<'a, D>,
@@ -273,7 +273,7 @@ where
 }
 
 /// The calls of a pointer that take an iterator `I` and a separator `S`. The making of an item or of
-/// the separator can fail, and memory.
+/// the separator can fail, and memory may be refused.
 pub trait PlacedDocBetween<
     'a,
     D: DocPlace<'a, Doc = Self>,

@@ -133,7 +133,7 @@ keeps_put_off Nil = true
 keeps_put_off (LineSuffix x) = true
 keeps_put_off _ = false
 
--- a tree put off to the end of the line
+-- a tree as a line suffix
 abbrev pub as_line_suffix : Tree → Tree
 as_line_suffix Nil = Nil
 as_line_suffix (LineSuffix x) = LineSuffix x
@@ -147,7 +147,7 @@ keeps_flattened (TextWithLen w s) = true
 keeps_flattened (Flatten x) = true
 keeps_flattened _ = false
 
--- a line break that no flat line holds
+-- a hard line break or a payload, which no flat line holds
 abbrev pub is_hard : Tree → Bool
 is_hard HardLine = true
 is_hard (MultilineText s) = true

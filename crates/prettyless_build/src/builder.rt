@@ -8,7 +8,7 @@ ghost use Rattle.prettyless_build.specs.Built as to;
 use crate::pretty::Pretty;
 use prettyless_doc::{BuildDoc, BuildError, Doc, DocPlace};
 
-/// A document in the making, and the place of its nodes.
+/// The place of nodes (`.0`), and a document in the making there (`.1`).
 pub struct DocBuilder<'a, D: DocPlace<'a>>(pub &'a D, pub BuildDoc<'a, D::Doc>);
 
 // By hand: the derived one is not found where a collection of builders is dropped.
@@ -35,7 +35,7 @@ impl<'a, D: DocPlace<'a>> DocBuilder<'a, D> {
     }
 
     /// A pointer to the document: its own where it has one, which takes no memory, and else that of
-    /// a new node, or an error where no memory was had.
+    /// a new node, or an error where memory is refused.
     pub fn into_doc(self) -> Result<D::Doc, BuildError>
         ensures ok { IfOk result (λ p. D.Doc.tree p ≡ built D.Doc.tree self.entry.1) }
         ensures placed { to.IfPlaced self.entry.1 (λ p. result ≡ Ok p) }
@@ -56,7 +56,7 @@ impl<'a, D: DocPlace<'a>> DocBuilder<'a, D> {
     }
 
     /// `append` of what is a builder already. Where one of the two is nothing it is the other as it is,
-    /// which takes no memory; else memory can fail.
+    /// which takes no memory; else memory may be refused.
     pub fn join(self, that: DocBuilder<'a, D>) -> Result<Self, BuildError>
         ensures ok { IfOk result (λ b. built D.Doc.tree b.1
             ≡ to.append (built D.Doc.tree self.entry.1) (built D.Doc.tree that.entry.1)) }
@@ -77,7 +77,7 @@ impl<'a, D: DocPlace<'a>> DocBuilder<'a, D> {
     }
 
     /// This document, then `that`. Where one of them is nothing it is the other as it is, and only
-    /// the making of `that` can fail; else memory can too.
+    /// the making of `that` can fail; else memory may be refused too.
     pub fn append<E: Pretty<'a, D>>(self, that: E) -> Result<Self, BuildError>
         ensures ok { IfOk result (λ b. (y : Tree) × E.becomes that y
             × (built D.Doc.tree b.1 ≡ to.append (built D.Doc.tree self.entry.1) y)) }
@@ -89,8 +89,8 @@ impl<'a, D: DocPlace<'a>> DocBuilder<'a, D> {
         self.join(that)
     }
 
-    /// This document, laid flat where it fits the line, and else broken. Where it is nothing, a text
-    /// or a group, it stays as it is, which takes no memory; else memory can fail.
+    /// This document, laid flat where it fits the line with what follows, and else broken. Where it is nothing, a text
+    /// or a group, it stays as it is, which takes no memory; else memory may be refused.
     pub fn group(self) -> Result<Self, BuildError>
         ensures ok { IfOk result (λ b. built D.Doc.tree b.1
             ≡ to.group (built D.Doc.tree self.entry.1)) }
@@ -114,7 +114,7 @@ impl<'a, D: DocPlace<'a>> DocBuilder<'a, D> {
 
     /// This document, laid flat. Where it is nothing, a text or flat already, it stays as it is. A
     /// hard line break or a payload, which no flat line holds, becomes a document that fails. Neither takes
-    /// memory; else memory can fail.
+    /// memory; else memory may be refused.
     pub fn flatten(self) -> Result<Self, BuildError>
         ensures ok { IfOk result (λ b. built D.Doc.tree b.1
             ≡ to.flatten (built D.Doc.tree self.entry.1)) }
@@ -135,8 +135,8 @@ impl<'a, D: DocPlace<'a>> DocBuilder<'a, D> {
         }
     }
 
-    /// This document, put off to the end of its line. Where it is nothing or put off already, it
-    /// stays as it is, which takes no memory; else memory can fail.
+    /// This document as a line suffix, pending until its line ends. Where it is nothing or one already, it
+    /// stays as it is, which takes no memory; else memory may be refused.
     pub fn as_line_suffix(self) -> Result<Self, BuildError>
         ensures ok { IfOk result (λ b. built D.Doc.tree b.1
             ≡ to.as_line_suffix (built D.Doc.tree self.entry.1)) }

@@ -10,7 +10,7 @@ use prettyless_doc::{BuildDoc, BuildError, Doc, DocPlace};
 
 impl<'a, D: DocPlace<'a>> DocBuilder<'a, D> {
     /// This document where lines are broken, and `that` where they are flat. The making of `that` can
-    /// fail, and memory.
+    /// fail, and memory may be refused.
     pub fn flat_alt<E: Pretty<'a, D>>(self, that: E) -> Result<Self, BuildError>
         ensures ok { IfOk result (λ b. (y : Tree) × E.becomes that y
             × (built D.Doc.tree b.1 ≡ BreakOrFlat (built D.Doc.tree self.entry.1) y)) }
@@ -23,8 +23,8 @@ impl<'a, D: DocPlace<'a>> DocBuilder<'a, D> {
         Ok(DocBuilder::new(allocator, Doc::BreakOrFlat(broken, flat)))
     }
 
-    /// Nothing where lines are broken, and this document where they are flat. It fails where no
-    /// memory was had.
+    /// Nothing where lines are broken, and this document where they are flat. It fails where
+    /// memory is refused.
     pub fn when_group_flat(self) -> Result<Self, BuildError>
         ensures ok { IfOk result (λ b. built D.Doc.tree b.1
             ≡ BreakOrFlat Nil (built D.Doc.tree self.entry.1)) }
@@ -36,8 +36,8 @@ impl<'a, D: DocPlace<'a>> DocBuilder<'a, D> {
         Ok(DocBuilder::new(allocator, Doc::BreakOrFlat(broken, flat)))
     }
 
-    /// This document where lines are broken, and nothing where they are flat. It fails where no
-    /// memory was had.
+    /// This document where lines are broken, and nothing where they are flat. It fails where
+    /// memory is refused.
     pub fn when_group_break(self) -> Result<Self, BuildError>
         ensures ok { IfOk result (λ b. built D.Doc.tree b.1
             ≡ BreakOrFlat (built D.Doc.tree self.entry.1) Nil) }
@@ -49,7 +49,7 @@ impl<'a, D: DocPlace<'a>> DocBuilder<'a, D> {
         Ok(DocBuilder::new(allocator, Doc::BreakOrFlat(broken, flat)))
     }
 
-    /// This document where all its lines fit, and else `that`. It fails where no memory was had.
+    /// This document where all its lines fit, and else `that`. It fails where memory is refused.
     pub fn union(self, that: BuildDoc<'a, D::Doc>) -> Result<Self, BuildError>
         ensures ok { IfOk result (λ b. built D.Doc.tree b.1
             ≡ Union (built D.Doc.tree self.entry.1) (built D.Doc.tree that.entry)) }
@@ -61,7 +61,7 @@ impl<'a, D: DocPlace<'a>> DocBuilder<'a, D> {
         Ok(DocBuilder::new(allocator, Doc::Union(first, second)))
     }
 
-    /// This document where its first line fits, and else `that`. It fails where no memory was had.
+    /// This document where its first line fits, and else `that`. It fails where memory is refused.
     pub fn partial_union(self, that: BuildDoc<'a, D::Doc>) -> Result<Self, BuildError>
         ensures ok { IfOk result (λ b. built D.Doc.tree b.1
             ≡ PartialUnion (built D.Doc.tree self.entry.1) (built D.Doc.tree that.entry)) }

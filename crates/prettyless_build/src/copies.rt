@@ -9,7 +9,7 @@ use prettyless_doc::{BuildDoc, BuildError, Doc, DocPlace};
 
 impl<'a, D: DocPlace<'a>> DocBuilder<'a, D> {
     /// So many copies of this document, one after the other, also where it is nothing. None is
-    /// nothing, and one is the document as it is: neither takes memory. Else memory can fail.
+    /// nothing, and one is the document as it is: neither takes memory. Else memory may be refused.
     pub fn repeat(self, count: usize) -> Result<Self, BuildError>
         ensures ok { IfOk result (λ b. built D.Doc.tree b.1
             ≡ to.repeat count (built D.Doc.tree self.entry.1)) }
@@ -35,7 +35,7 @@ impl<'a, D: DocPlace<'a>> DocBuilder<'a, D> {
         ))
     }
 
-    /// The same document once more. It fails where no memory was had.
+    /// The same document once more. It fails where memory is refused.
     pub fn clone(&self) -> Result<Self, BuildError>
         ensures ok { IfOk result (λ b. built D.Doc.tree b.1 ≡ built D.Doc.tree self.now.1) }
         ensures err { IfErr result IsMemory }

@@ -43,7 +43,7 @@ impl<'a, D: DocPlace<'a>> DocBuilder<'a, D> {
         before.join(self)?.join(after)
     }
 
-    /// This document between single quotes. It fails where no memory was had.
+    /// This document between single quotes. It fails where memory is refused.
     pub fn single_quotes(self) -> Result<Self, BuildError>
         ensures ok { IfOk result (λ b. built D.Doc.tree b.1
             ≡ to.between 39 39 (built D.Doc.tree self.entry.1)) }
@@ -52,7 +52,7 @@ impl<'a, D: DocPlace<'a>> DocBuilder<'a, D> {
         self.between("'", "'")
     }
 
-    /// This document between double quotes. It fails where no memory was had.
+    /// This document between double quotes. It fails where memory is refused.
     pub fn double_quotes(self) -> Result<Self, BuildError>
         ensures ok { IfOk result (λ b. built D.Doc.tree b.1
             ≡ to.between 34 34 (built D.Doc.tree self.entry.1)) }
@@ -61,7 +61,7 @@ impl<'a, D: DocPlace<'a>> DocBuilder<'a, D> {
         self.between("\"", "\"")
     }
 
-    /// This document between parentheses. It fails where no memory was had.
+    /// This document between parentheses. It fails where memory is refused.
     pub fn parens(self) -> Result<Self, BuildError>
         ensures ok { IfOk result (λ b. built D.Doc.tree b.1
             ≡ to.between 40 41 (built D.Doc.tree self.entry.1)) }
@@ -70,7 +70,7 @@ impl<'a, D: DocPlace<'a>> DocBuilder<'a, D> {
         self.between("(", ")")
     }
 
-    /// This document between angle brackets. It fails where no memory was had.
+    /// This document between angle brackets. It fails where memory is refused.
     pub fn angles(self) -> Result<Self, BuildError>
         ensures ok { IfOk result (λ b. built D.Doc.tree b.1
             ≡ to.between 60 62 (built D.Doc.tree self.entry.1)) }
@@ -79,7 +79,7 @@ impl<'a, D: DocPlace<'a>> DocBuilder<'a, D> {
         self.between("<", ">")
     }
 
-    /// This document between braces. It fails where no memory was had.
+    /// This document between braces. It fails where memory is refused.
     pub fn braces(self) -> Result<Self, BuildError>
         ensures ok { IfOk result (λ b. built D.Doc.tree b.1
             ≡ to.between 123 125 (built D.Doc.tree self.entry.1)) }
@@ -88,7 +88,7 @@ impl<'a, D: DocPlace<'a>> DocBuilder<'a, D> {
         self.between("{", "}")
     }
 
-    /// This document between square brackets. It fails where no memory was had.
+    /// This document between square brackets. It fails where memory is refused.
     pub fn brackets(self) -> Result<Self, BuildError>
         ensures ok { IfOk result (λ b. built D.Doc.tree b.1
             ≡ to.between 91 93 (built D.Doc.tree self.entry.1)) }

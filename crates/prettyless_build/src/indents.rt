@@ -9,7 +9,7 @@ use prettyless_doc::{BuildError, Doc, DocPlace};
 
 impl<'a, D: DocPlace<'a>> DocBuilder<'a, D> {
     /// This document with its indent moved by so many columns. By 0, or where it is nothing, it stays
-    /// as it is, which takes no memory; else memory can fail.
+    /// as it is, which takes no memory; else memory may be refused.
     pub fn nest(self, offset: isize) -> Result<Self, BuildError>
         ensures ok { IfOk result (λ b. built D.Doc.tree b.1
             ≡ to.nest offset (built D.Doc.tree self.entry.1)) }
@@ -25,7 +25,7 @@ impl<'a, D: DocPlace<'a>> DocBuilder<'a, D> {
         Ok(DocBuilder::new(allocator, Doc::Nest(offset, inner)))
     }
 
-    /// This document with its indent moved right by so many columns, as `nest` does it.
+    /// This document with its indent moved right by so many columns, as `nest` does it. They have to be at most `isize::MAX`.
     pub fn indent(self, offset: usize) -> Result<Self, BuildError>
         requires { offset ≤ 2 ^ 63 - 1 }
         ensures ok { IfOk result (λ b. built D.Doc.tree b.1
@@ -37,7 +37,7 @@ impl<'a, D: DocPlace<'a>> DocBuilder<'a, D> {
         self.nest(offset as isize)
     }
 
-    /// This document with its indent moved left by so many columns, as `nest` does it.
+    /// This document with its indent moved left by so many columns, as `nest` does it. They have to be at most `isize::MAX`.
     pub fn dedent(self, offset: usize) -> Result<Self, BuildError>
         requires { offset ≤ 2 ^ 63 - 1 }
         ensures ok { IfOk result (λ b. built D.Doc.tree b.1
@@ -50,7 +50,7 @@ impl<'a, D: DocPlace<'a>> DocBuilder<'a, D> {
     }
 
     /// This document with indent 0. Where it is nothing, or has that already, it stays as it is,
-    /// which takes no memory; else memory can fail.
+    /// which takes no memory; else memory may be refused.
     pub fn dedent_to_root(self) -> Result<Self, BuildError>
         ensures ok { IfOk result (λ b. built D.Doc.tree b.1
             ≡ to.dedent_to_root (built D.Doc.tree self.entry.1)) }
@@ -69,7 +69,7 @@ impl<'a, D: DocPlace<'a>> DocBuilder<'a, D> {
     }
 
     /// This document with its indent at the column where it starts. Where it is nothing, or has that
-    /// already, it stays as it is, which takes no memory; else memory can fail.
+    /// already, it stays as it is, which takes no memory; else memory may be refused.
     pub fn align(self) -> Result<Self, BuildError>
         ensures ok { IfOk result (λ b. built D.Doc.tree b.1
             ≡ to.align (built D.Doc.tree self.entry.1)) }

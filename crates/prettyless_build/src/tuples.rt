@@ -1,6 +1,6 @@
 //! Tuples become the documents of their fields, appended in order.
 //!
-//! The making of a field can fail, and memory. Each field is made, also where one before it failed,
+//! The making of a field can fail, and memory may be refused. Each field is made, also where one before it failed,
 //! since a field that no one takes cannot be let go.
 ghost use Rattle.std.specs.Prelude.{IfOk, IfErr};
 ghost use Rattle.prettyless_doc.specs.DocTree.{built};

@@ -1,5 +1,5 @@
 //! Values that become one of two documents, by the mode or by what fits the line. The making of each
-//! can fail, and memory. Both are made, also where the first failed, since a value that no one takes
+//! can fail, and memory may be refused. Both are made, also where the first failed, since a value that no one takes
 //! cannot be let go.
 ghost use Rattle.std.specs.Prelude.{◌≡◌};
 ghost use Rattle.prettyless_doc.specs.Tree as tree;

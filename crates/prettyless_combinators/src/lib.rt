@@ -20,12 +20,12 @@ pub fn nil() -> Nil {
     Nil
 }
 
-/// A document that fails.
+/// A document that cannot be laid: a render that meets it fails.
 pub fn fail() -> Fail {
     Fail
 }
 
-/// A line break.
+/// A line break, which fails where lines are flat.
 pub fn hard_line() -> HardLine {
     HardLine
 }
@@ -50,7 +50,7 @@ pub fn soft_line_or_space() -> SoftLineOrSpace {
     SoftLineOrSpace
 }
 
-/// A line break, which is nothing on a fresh line where no suffix is pending.
+/// A line break, also where lines are flat; nothing on a fresh line where no suffix is pending.
 pub fn weak_line() -> WeakLine {
     WeakLine
 }
@@ -66,7 +66,7 @@ pub fn weak_space() -> WeakSpace {
     WeakSpace
 }
 
-/// Nothing, but what holds it does not fit a line.
+/// Nothing, but it keeps the groups around it from being flat.
 pub fn expand_parent() -> ExpandParent {
     ExpandParent
 }
@@ -100,7 +100,7 @@ pub fn nest<T>(offset: isize, doc: T) -> Nest<T>
     Nest(offset, doc)
 }
 
-/// The document with its indent moved right by so many columns.
+/// The document with its indent moved right by so many columns. They have to be at most `isize::MAX`.
 pub fn indent<T>(offset: usize, doc: T) -> Nest<T>
     requires { offset ≤ 2 ^ 63 - 1 }
     ensures by { result.0 ≡ pos offset }
@@ -109,7 +109,7 @@ pub fn indent<T>(offset: usize, doc: T) -> Nest<T>
     Nest(offset as isize, doc)
 }
 
-/// The document with its indent moved left by so many columns.
+/// The document with its indent moved left by so many columns. They have to be at most `isize::MAX`.
 pub fn dedent<T>(offset: usize, doc: T) -> Nest<T>
     requires { offset ≤ 2 ^ 63 - 1 }
     ensures by { result.0 ≡ neg_ℤ (pos offset) }
@@ -118,7 +118,7 @@ pub fn dedent<T>(offset: usize, doc: T) -> Nest<T>
     Nest(-(offset as isize), doc)
 }
 
-/// The document, laid flat where it fits the line, and else broken.
+/// The document, laid flat where it fits the line with what follows, and else broken.
 pub fn group<T>(doc: T) -> Group<T>
     ensures { result.0 ≡ doc }
 {
@@ -146,7 +146,7 @@ pub fn flatten<T>(doc: T) -> Flatten<T>
     Flatten(doc)
 }
 
-/// The document put off to the end of its line, also where it is nothing.
+/// The document as a line suffix, pending until its line ends, also where it is nothing.
 pub fn line_suffix<T>(doc: T) -> LineSuffix<T>
     ensures { result.0 ≡ doc }
 {

@@ -1,5 +1,5 @@
 //! Values that become the documents of all the items of an iterator. The making of an item can fail,
-//! and memory.
+//! and memory may be refused.
 //!
 //! That the iterator can be walked, and ends, is asked where such a value is made, and kept by its
 //! model. Nothing says that a clone of an iterator ends, so these are not cloned.

@@ -23,7 +23,7 @@ impl<'a, D: DocPlace<'a>> Pretty<'a, D> for Nil {
     }
 }
 
-/// A document that fails. It takes no memory.
+/// A document that cannot be laid: a render that meets it fails. It takes no memory.
 #[derive(Clone, Copy, Debug)]
 pub struct Fail;
 
@@ -37,7 +37,7 @@ impl<'a, D: DocPlace<'a>> Pretty<'a, D> for Fail {
     }
 }
 
-/// A line break. It takes no memory.
+/// A line break, which fails where lines are flat. It takes no memory.
 #[derive(Clone, Copy, Debug)]
 pub struct HardLine;
 
@@ -51,7 +51,7 @@ impl<'a, D: DocPlace<'a>> Pretty<'a, D> for HardLine {
     }
 }
 
-/// A line break, or nothing where lines are flat. It fails where no memory was had.
+/// A line break, or nothing where lines are flat. It fails where memory is refused.
 #[derive(Clone, Copy, Debug)]
 pub struct LineOrNil;
 
@@ -65,7 +65,7 @@ impl<'a, D: DocPlace<'a>> Pretty<'a, D> for LineOrNil {
     }
 }
 
-/// A line break, or one space where lines are flat. It fails where no memory was had.
+/// A line break, or one space where lines are flat. It fails where memory is refused.
 #[derive(Clone, Copy, Debug)]
 pub struct LineOrSpace;
 
@@ -79,7 +79,7 @@ impl<'a, D: DocPlace<'a>> Pretty<'a, D> for LineOrSpace {
     }
 }
 
-/// Nothing, or a line break where the line has no room. It fails where no memory was had.
+/// Nothing, or a line break where the line has no room. It fails where memory is refused.
 #[derive(Clone, Copy, Debug)]
 pub struct SoftLineOrNil;
 
@@ -93,7 +93,7 @@ impl<'a, D: DocPlace<'a>> Pretty<'a, D> for SoftLineOrNil {
     }
 }
 
-/// One space, or a line break where the line has no room. It fails where no memory was had.
+/// One space, or a line break where the line has no room. It fails where memory is refused.
 #[derive(Clone, Copy, Debug)]
 pub struct SoftLineOrSpace;
 
@@ -107,7 +107,7 @@ impl<'a, D: DocPlace<'a>> Pretty<'a, D> for SoftLineOrSpace {
     }
 }
 
-/// A line break, which is nothing on a fresh line where no suffix is pending. It takes no memory.
+/// A line break, also where lines are flat; nothing on a fresh line where no suffix is pending. It takes no memory.
 #[derive(Clone, Copy, Debug)]
 pub struct WeakLine;
 
@@ -150,7 +150,7 @@ impl<'a, D: DocPlace<'a>> Pretty<'a, D> for WeakSpace {
     }
 }
 
-/// Nothing, but what holds it does not fit a line. It takes no memory.
+/// Nothing, but it keeps the groups around it from being flat. It takes no memory.
 #[derive(Clone, Copy, Debug)]
 pub struct ExpandParent;
 

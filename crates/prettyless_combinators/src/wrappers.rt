@@ -1,5 +1,5 @@
 //! Values that become what a builder's call makes of one document. The making of that one can fail,
-//! and memory.
+//! and memory may be refused.
 ghost use Rattle.std.specs.Prelude.{◌≡◌, ◌⊎◌};
 ghost use Rattle.prettyless_doc.specs.Tree as tree;
 ghost use Rattle.prettyless_doc.specs.Tree.{Tree};
@@ -40,7 +40,7 @@ impl<'a, D: DocPlace<'a>, T: Pretty<'a, D>> Pretty<'a, D> for Repeat<T> {
     }
 }
 
-/// A document that is laid flat where it fits the line, and else broken.
+/// A document that is laid flat where it fits the line with what follows, and else broken.
 #[derive(Clone, Debug, Drop)]
 pub struct Group<T>(pub(crate) T);
 
@@ -100,7 +100,7 @@ impl<'a, D: DocPlace<'a>, T: Pretty<'a, D>> Pretty<'a, D> for Flatten<T> {
     }
 }
 
-/// A document that is put off to the end of its line.
+/// A document as a line suffix, pending until its line ends.
 #[derive(Clone, Debug, Drop)]
 pub struct LineSuffix<T>(pub(crate) T);
 

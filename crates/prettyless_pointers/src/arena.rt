@@ -63,7 +63,7 @@ pub trait IntoRef<'a> {
     // the tree of the document that it is
     ghost tree: { Self → Tree };
 
-    /// A pointer to the document, or an error where no memory was had.
+    /// A pointer to the document, or an error where memory is refused.
     fn into_ref(self) -> Result<RefDoc<'a>, BuildError>
         ensures ok { IfOk result (λ p. ref_tree p ≡ tree self) }
         ensures err { IfErr result IsMemory };
@@ -73,7 +73,7 @@ impl<'a> IntoRef<'a> for DocBuilder<'a, Arena<'a>> {
     ghost tree = { λ b. built ref_tree b.1 };
 
     /// A pointer to the document: its own where it has one, which takes no memory, and else that of a new node, or an
-    /// error where no memory was had.
+    /// error where memory is refused.
     fn into_ref(self) -> Result<RefDoc<'a>, BuildError>
         ensures ok { IfOk result (λ p. ref_tree p ≡ built ref_tree self.entry.1) }
         ensures placed { IfPlaced self.entry.1 (λ p. result ≡ Ok p) }

@@ -14,7 +14,7 @@ use std::{fmt, mem};
 pub struct BoxDoc<'a>(Box<Doc<'a, BoxDoc<'a>>>);
 
 impl<'a> BoxDoc<'a> {
-    /// Boxes a node: the same tree, or an error where no memory was had, and the node is then given up.
+    /// Boxes a node: the same tree, or an error where memory is refused, and the node is then given up.
     pub fn new(alloc: Global, doc: Doc<'a, BoxDoc<'a>>) -> Result<Self, BuildError>
         ensures ok { IfOk result (λ p. box_tree p ≡ tree_of box_tree doc.entry) }
         ensures err { IfErr result IsMemory }

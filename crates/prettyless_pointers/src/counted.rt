@@ -14,7 +14,7 @@ use std::rc::Rc;
 pub struct RcDoc<'a>(Rc<Doc<'a, RcDoc<'a>>>);
 
 impl<'a> RcDoc<'a> {
-    /// Places a node: the same tree, or an error where no memory was had, and the node is then given up.
+    /// Places a node: the same tree, or an error where memory is refused, and the node is then given up.
     pub fn new(alloc: Global, doc: Doc<'a, RcDoc<'a>>) -> Result<Self, BuildError>
         ensures ok { IfOk result (λ p. rc_tree p ≡ tree_of rc_tree doc.entry) }
         ensures err { IfErr result IsMemory }
@@ -22,8 +22,8 @@ impl<'a> RcDoc<'a> {
         Ok(RcDoc(Rc::new(alloc, doc)?))
     }
 
-    /// Another pointer to the same node. It places none, and fails only where the node has as many owners as can be
-    /// counted.
+    /// Another pointer to the same node. It places none, and answers `Memory` only where the node has as many owners as can
+    /// be counted.
     pub fn clone(&self) -> Result<Self, BuildError>
         ensures ok { IfOk result (λ p. rc_tree p ≡ rc_tree self.now) }
         ensures err { IfErr result IsMemory }
