@@ -38,6 +38,7 @@ IsNumber n w = IsNumeral 10 w × (digits_value 10 w < 2 ^ 64) × (n ≡ digits_v
 abbrev pub digits_of : List ℕ → List ℕ
 digits_of w = if starts_with_minus w then drop 1 w else w
 
+-- the number of the digits, with their sign
 abbrev pub signed_value : List ℕ → ℤ
 signed_value w = if starts_with_minus w then neg_ℤ (pos (digits_value 10 (digits_of w))) else pos (digits_value 10 (digits_of w))
 
@@ -93,9 +94,11 @@ pub record Case : Type 0 where
   pub options : RenderOptions
   pub tree : Tree
 
+-- the words for ends of lines
 abbrev pub line_endings : List (List ℕ × LineEnding)
 line_endings = (codes "lf", Lf) ∷ (codes "crlf", Crlf) ∷ []
 
+-- the words for the times of indents
 abbrev pub indentation_policies : List (List ℕ × IndentationPolicy)
 indentation_policies = (codes "eager", Eager) ∷ (codes "deferred", Deferred) ∷ []
 

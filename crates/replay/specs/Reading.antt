@@ -18,6 +18,7 @@ use Rattle.replay.specs.Pointers.{pointer_tree}
 
 -- ---- operators
 
+-- the names of the operators
 abbrev pub operator_names : List (List ℕ × Operator)
 operator_names =
     (codes "nil", operators.Leaf leaves.Nil)
@@ -41,9 +42,11 @@ operator_names =
     ∷ (codes "puni", operators.Join joins.PartialUnion)
     ∷ []
 
+-- the operator that a word names
 abbrev pub operator_of : List ℕ → Option Operator
 operator_of w = named_in operator_names w
 
+-- the tree of a leaf
 abbrev pub leaf_tree : Leaf → Tree
 leaf_tree leaves.Nil = t.Nil
 leaf_tree leaves.Fail = t.Fail
@@ -52,6 +55,7 @@ leaf_tree leaves.HardLine = t.HardLine
 leaf_tree leaves.WeakLine = t.WeakLine
 leaf_tree leaves.ExpandParent = t.ExpandParent
 
+-- the tree of a node over one document
 abbrev pub wrapped : Wrapper → Tree → Tree
 wrapped wrappers.LineSuffix d = t.LineSuffix d
 wrapped wrappers.DedentToRoot d = t.DedentToRoot d
@@ -59,6 +63,7 @@ wrapped wrappers.Align d = t.Align d
 wrapped wrappers.Flatten d = t.Flatten d
 wrapped wrappers.Group d = t.Group d
 
+-- the tree of a node over two documents
 abbrev pub joined : Join → Tree → Tree → Tree
 joined joins.Append l r = t.Append l r
 joined joins.BreakOrFlat l r = t.BreakOrFlat l r
@@ -72,6 +77,7 @@ pub data Item : Type 0 where
   word : List ℕ → Item
   document : Tree → Item
 
+-- an operand as an item
 abbrev pub item_of : Operand → Item
 item_of (Word w) = word w.now
 item_of (Document d) = document (pointer_tree d)
@@ -103,5 +109,6 @@ abbrev pub Puts : Option Operator → List ℕ → List Item → List Item → T
 Puts None w items new = new ≡ word w ∷ items
 Puts (Some o) w items new = (d : Tree) × (rest : List Item) × Makes o items d rest × (new ≡ document d ∷ rest)
 
+-- what becomes of the items where this word comes in front of them
 abbrev pub Steps : List ℕ → List Item → List Item → Type 0
 Steps w items new = Puts (operator_of w) w items new

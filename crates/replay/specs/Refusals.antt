@@ -23,6 +23,7 @@ hex_refusal OddLength = NotACase
 hex_refusal InvalidStringLength = NotACase
 hex_refusal errors.OutOfMemory = OutOfMemory
 
+-- the text of a refusal
 abbrev pub message_of : Refusal → List ℕ
 message_of NotACase = codes "not a case"
 message_of OutOfMemory = codes "out of memory"

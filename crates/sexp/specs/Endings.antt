@@ -5,11 +5,13 @@ use Rattle.sexp.specs.declared.error.RunError.TheVariants as errors
 use Rattle.sexp.specs.declared.ending.Ending.{Ending}
 use Rattle.sexp.specs.declared.ending.Ending.TheVariants.{BadWords, NotAnSexp, Failed}
 
+-- the program's status
 abbrev pub status_of : Ending → ℕ
 status_of BadWords = 2
 status_of NotAnSexp = 1
 status_of Failed = 3
 
+-- what it says
 abbrev pub message_of : Ending → List ℕ
 message_of BadWords = codes "usage: sexp WIDTH [crlf] [deferred]"
 message_of NotAnSexp = codes "error: not an S-expression"

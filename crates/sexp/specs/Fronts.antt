@@ -32,23 +32,23 @@ pub record IsNumberFront (bytes : List ℕ) (n : ℕ) (rest : List ℕ) : Type 0
 abbrev pub HasNoNumberFront : List ℕ → Type 0
 HasNoNumberFront bytes = (m : ℕ) (other : List ℕ) → Begins (number m) bytes other → EndsNumber other → ⊥
 
--- the bytes begin with this value, and with no other that is as flat
+-- the bytes begin with this value of at most so many levels, and with no other of at most so many
 pub record IsFront (levels : ℕ) (bytes : List ℕ) (v : Value) (rest : List ℕ) : Type 0 where
   pub begins : Begins v bytes rest
   pub nesting : depth v ≤ levels
   pub only : (w : Value) (other : List ℕ) → Begins w bytes other → depth w ≤ levels → EndsNumber other → (w ≡ v) × (other ≡ rest)
 
--- the bytes begin with no value that is as flat
+-- the bytes begin with no value of at most so many levels
 abbrev pub HasNoFront : ℕ → List ℕ → Type 0
 HasNoFront levels bytes = (w : Value) (other : List ℕ) → Begins w bytes other → depth w ≤ levels → EndsNumber other → ⊥
 
--- the bytes begin with these values of a list, and with no others that are as flat
+-- the bytes begin with these values of a list, of at most so many levels, and with no others of at most so many
 pub record IsListFront (levels : ℕ) (bytes : List ℕ) (vs : Values) (rest : List ℕ) : Type 0 where
   pub closes : Closes vs bytes rest
   pub nesting : depth_of_all vs ≤ levels
   pub only : (ws : Values) (other : List ℕ) → Closes ws bytes other → depth_of_all ws ≤ levels → (ws ≡ vs) × (other ≡ rest)
 
--- the bytes begin with no values of a list that are as flat
+-- the bytes begin with no values of a list of at most so many levels
 abbrev pub HasNoListFront : ℕ → List ℕ → Type 0
 HasNoListFront levels bytes = (ws : Values) (other : List ℕ) → Closes ws bytes other → depth_of_all ws ≤ levels → ⊥
 

@@ -27,5 +27,6 @@ abbrev pub joined : List Value → Values → Values
 joined [] vs = vs
 joined (w ∷ ws) vs = first w (joined ws vs)
 
+-- these values and no others
 abbrev pub values_of : List Value → Values
 values_of ws = joined ws none

@@ -10,8 +10,10 @@ abbrev pub value_step : SExp-F Value → Value
 value_step (SExp-F.Atom n) = number n
 value_step (SExp-F.List es) = list (values_of es.items)
 
+-- the value of an expression
 abbrev pub value_of : SExp → Value
 value_of = fold-SExp Value value_step
 
+-- the values of expressions
 abbrev pub values_in : List SExp → List Value
 values_in es = map value_of es

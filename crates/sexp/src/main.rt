@@ -1,5 +1,5 @@
 //! Lays an S-expression out: `sexp WIDTH [crlf] [deferred]` reads one from standard input, and writes its layout within
-//! this many columns to standard output, with lines that end in CR LF, and with indents that are written late.
+//! this many columns to standard output. With `crlf` lines end in CR LF, and with `deferred` indents are written late.
 #![tactic(auto)]
 
 mod document;
