@@ -53,22 +53,6 @@ pub(crate) fn rendered<'a, T: DocPtr<'a>>(
     Ok(out)
 }
 
-// Compares what a document is rendered as at each width.
-pub(crate) fn compare<'a, D: DocPlace<'a>>(
-    rt: &impl Abort,
-    built: Result<DocBuilder<'a, D>, BuildError>,
-    layouts: &[(usize, &str)],
-) -> Result<(), Fail> {
-    let built = built?;
-    let memory = built.0.memory();
-    let document = built.into_doc()?;
-    for &(width, layout) in layouts {
-        let out = rendered(memory, &document, width)?;
-        assert_eq!(rt; out.as_str(), layout, "at {width}");
-    }
-    Ok(())
-}
-
 // A document in the making between two letters.
 fn between<'a, D: DocPlace<'a>>(
     place: &'a D,
@@ -89,7 +73,10 @@ pub(crate) fn stands<'a, D: DocPlace<'a>>(
 ) -> Result<(), Fail> {
     let copy = made.clone(place)?;
     shows(rt, Ok(DocBuilder(place, copy)), shown)?;
-    compare(rt, between(place, made), &[(80, layout)])
+    let document = between(place, made)?.into_doc()?;
+    let out = rendered(place.memory(), &document, 80)?;
+    assert_eq!(rt; out.as_str(), layout);
+    Ok(())
 }
 
 // The same of one that fails, behind the first letter.

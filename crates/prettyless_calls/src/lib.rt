@@ -18,6 +18,4 @@ mod places;
 #[cfg(test)]
 mod pointers;
 #[cfg(test)]
-mod rows;
-#[cfg(test)]
 mod values;

@@ -1,5 +1,5 @@
 //! All calls in each place of nodes.
-use crate::{builders, calls, combined, nodes, pointers, rows, values};
+use crate::{builders, calls, combined, nodes, pointers, values};
 use bumpalo::Bump;
 use prettyless::{Arena, BoxAllocator, DocPlace, RcAllocator};
 use std::fmt;
@@ -88,15 +88,6 @@ fn convert<'a, D: DocPlace<'a>>(
     values::macros(rt, place)
 }
 
-fn lay_out<'a, D: DocPlace<'a>>(rt: &impl Abort, place: &'a D) -> Result<(), Fail> {
-    rows::words(rt, place)?;
-    rows::statements(rt, place)?;
-    rows::lists(rt, place)?;
-    rows::gaps(rt, place)?;
-    rows::modes(rt, place)?;
-    rows::breaks(rt, place)
-}
-
 fn all<'a, D: DocPlace<'a>>(rt: &impl Abort, place: &'a D, owned: &'a String) -> Result<(), Fail>
 where
     D::Doc: fmt::Debug,
@@ -106,8 +97,7 @@ where
     build(rt, place)?;
     point(rt, place)?;
     combine(rt, place)?;
-    convert(rt, place, owned)?;
-    lay_out(rt, place)
+    convert(rt, place, owned)
 }
 
 #[test]

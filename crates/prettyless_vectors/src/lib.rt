@@ -1,22 +1,12 @@
-//! Tests that cross crates: documents that the public calls build, rendered into a text.
+//! Documents as they are written, of every variant: what each is laid out and shown as.
 #![tactic(auto)]
 
 #[cfg(test)]
-mod built;
-#[cfg(test)]
-mod chains;
-#[cfg(test)]
 mod choices;
-#[cfg(test)]
-mod counted;
 #[cfg(test)]
 mod deep;
 #[cfg(test)]
-mod derived;
-#[cfg(test)]
 mod laws;
-#[cfg(test)]
-mod made;
 #[cfg(test)]
 mod modes;
 #[cfg(test)]
@@ -24,15 +14,11 @@ mod near_misses;
 #[cfg(test)]
 mod payloads;
 #[cfg(test)]
-mod pieces;
-#[cfg(test)]
 mod reader;
 #[cfg(test)]
 mod rendered;
 #[cfg(test)]
 mod shown;
-#[cfg(test)]
-mod sinks;
 #[cfg(test)]
 mod suffixes;
 #[cfg(test)]
@@ -43,5 +29,3 @@ mod ways;
 mod weak;
 #[cfg(test)]
 mod worked;
-#[cfg(test)]
-mod writers;

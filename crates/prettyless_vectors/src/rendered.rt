@@ -1,41 +1,12 @@
 use crate::reader::read;
 use bumpalo::Bump;
 use prettyless::{
-    Arena, BoxAllocator, DocPlace, DocPtr, IndentationPolicy, LineEnding, RcAllocator, RenderError,
-    RenderOptions,
+    Arena, BoxAllocator, DocPlace, DocPtr, FmtWrite, IndentationPolicy, LineEnding, RcAllocator,
+    RenderError, RenderOptions,
 };
 use std::alloc::Global;
 use std::process::Abort;
 use std::test::Fail;
-
-// What a document is rendered as at this width.
-pub(crate) fn rendered<'a, T: DocPtr<'a>>(
-    memory: Global,
-    document: &T,
-    width: usize,
-) -> Result<String, Fail> {
-    let mut out = String::new(memory);
-    document.doc().render_fmt(memory, width, &mut out)?;
-    Ok(out)
-}
-
-// Compares what a document with no line end in its texts is rendered as, with lines that end in LF and in CR LF.
-pub(crate) fn compare_document<'a, T: DocPtr<'a>>(
-    rt: &impl Abort,
-    memory: Global,
-    document: &T,
-    width: usize,
-    layout: &str,
-) -> Result<(), Fail> {
-    let out = rendered(memory, document, width)?;
-    assert_eq!(rt; out.as_str(), layout, "at {width}");
-    let options = RenderOptions::new(width).with_line_ending(LineEnding::Crlf);
-    let mut out = String::new(memory);
-    document.doc().render_fmt_with(memory, options, &mut out)?;
-    let layout = with_crlf(memory, layout)?;
-    assert_eq!(rt; out.as_str(), layout.as_str(), "at {width}");
-    Ok(())
-}
 
 // The bytes before the node that fails, or all of them.
 fn outcome<'a, T: DocPtr<'a>>(
@@ -44,7 +15,8 @@ fn outcome<'a, T: DocPtr<'a>>(
     options: RenderOptions,
 ) -> Result<Result<String, String>, Fail> {
     let mut out = String::new(memory);
-    match document.doc().render_fmt_with(memory, options, &mut out) {
+    let mut sink = FmtWrite::new(&mut out);
+    match document.doc().render_raw_with(memory, options, &mut sink) {
         Ok(()) => Ok(Ok(out)),
         Err(RenderError::Document(_)) => Ok(Err(out)),
         Err(_) => Err(Fail::new("no memory")),

@@ -48,13 +48,14 @@ const CHAINS: [Case<'static>; 3] = [
     ),
 ];
 
-const LINES: [Case<'static>; 9] = [
+const LINES: [Case<'static>; 10] = [
     ("BreakOrFlat HardLine Text ' '", "LineOrSpace"),
     ("BreakOrFlat HardLine Nil", "LineOrNil"),
     ("Group BreakOrFlat HardLine Text ' '", "SoftLineOrSpace"),
     ("Group BreakOrFlat HardLine Nil", "SoftLineOrNil"),
     ("BreakOrFlat Text 'a' Nil", "WhenBreak(\"a\")"),
     ("BreakOrFlat Nil Text 'a'", "WhenFlat(\"a\")"),
+    ("BreakOrFlat Nil Nil", "WhenBreak(Nil)"),
     ("BreakOrFlat Text 'b' Text 'f'", "FlatOrBreak(\"f\", \"b\")"),
     ("Group BreakOrFlat Text 'a' Nil", "Group(WhenBreak(\"a\"))"),
     (

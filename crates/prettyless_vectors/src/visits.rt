@@ -12,7 +12,7 @@ const PAIR: &str = "Group Append Append Text 'a' BreakOrFlat HardLine Text ' ' T
 const LINES: &str = "Union Append Append Text 'short' HardLine Text 'long long long' \
                      Append Append Text 'short' HardLine Text 'short'";
 
-const CASES: [Case<'static>; 7] = [
+const CASES: [Case<'static>; 6] = [
     // A group asks one probe, which ends at the first text past the width.
     (80, PAIR, 7, 6),
     (2, PAIR, 7, 6),
@@ -21,7 +21,6 @@ const CASES: [Case<'static>; 7] = [
     // A rejected branch is taken up once, and so is the second.
     (10, LINES, 11, 0),
     (80, "Nil", 1, 0),
-    (80, "Fail", 1, 0),
 ];
 
 fn visits(memory: Global, width: usize, written: &str) -> Result<Visits, Fail> {
@@ -31,13 +30,10 @@ fn visits(memory: Global, width: usize, written: &str) -> Result<Visits, Fail> {
     let mut sink = FmtWrite::new(&mut out);
     let mut visits = Visits::default();
     let options = RenderOptions::new(width);
-    match document
+    document
         .doc()
-        .render_raw_counted_with(memory, options, &mut sink, &mut visits)
-    {
-        Ok(()) | Err(RenderError::Document(_)) => Ok(visits),
-        Err(_) => Err(Fail::new("no memory")),
-    }
+        .render_raw_counted_with(memory, options, &mut sink, &mut visits)?;
+    Ok(visits)
 }
 
 #[test]
@@ -47,5 +43,22 @@ fn nodes_are_counted(rt: HostRuntime) -> Result<(), Fail> {
         assert_eq!(rt; visits.printer, printer, "{written} at {width}");
         assert_eq!(rt; visits.probes, probes, "{written} at {width}");
     }
+    Ok(())
+}
+
+#[test]
+fn a_failing_node_is_counted(rt: HostRuntime) -> Result<(), Fail> {
+    let boxes = BoxAllocator::new(rt.alloc());
+    let document = read(&boxes, "Fail")?;
+    let mut out = String::new(rt.alloc());
+    let mut sink = FmtWrite::new(&mut out);
+    let mut visits = Visits::default();
+    let options = RenderOptions::new(80);
+    let result = document
+        .doc()
+        .render_raw_counted_with(rt.alloc(), options, &mut sink, &mut visits);
+    assert!(rt; matches!(result, Err(RenderError::Document(_))));
+    assert_eq!(rt; visits.printer, 1);
+    assert_eq!(rt; visits.probes, 0);
     Ok(())
 }

@@ -4,6 +4,7 @@ use crate::rendered::options;
 use prettyless::{
     BoxAllocator, DocPtr, FmtWrite, IndentationPolicy, IoWrite, LineEnding, RenderError,
 };
+use std::fmt::Write;
 use std::test::Fail;
 
 const WRITTEN: &str = "Nest 2 Append Append Append Text 'ab' HardLine HardLine Text 'c'";
@@ -67,6 +68,18 @@ fn to_a_sink(rt: HostRuntime) -> Result<(), Fail> {
         .doc()
         .render_raw_with(rt.alloc(), late, &mut IoWrite::new(&mut out))?;
     assert_eq!(rt; out.as_slice(), b"ab\r\n\r\n  c".as_slice());
+    Ok(())
+}
+
+// A document that fails is not printed, and what stands there is a beginning of its bytes.
+#[test]
+fn no_failing_document_is_displayed(rt: HostRuntime) -> Result<(), Fail> {
+    let boxes = BoxAllocator::new(rt.alloc());
+    let document = read(&boxes, "Append Text 'a' Fail")?;
+    let shown = document.doc().print(rt.alloc(), 80);
+    let mut out = String::from_str(rt.alloc(), "b")?;
+    assert!(rt; write!(out, "{shown}").is_err());
+    assert!(rt; "ba".starts_with(out.as_str()));
     Ok(())
 }
 

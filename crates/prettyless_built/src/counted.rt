@@ -23,6 +23,8 @@ fn counts_a_text(rt: HostRuntime) -> Result<(), Fail> {
     assert!(rt; matches!(doc, Doc::Text(Text::Borrowed("a\nb"))));
     let doc: Node = Doc::text(rt.alloc(), CowStr::Borrowed("\u{c5}\u{4f60}"))?;
     assert!(rt; matches!(doc, Doc::TextWithLen(3, Text::Borrowed("\u{c5}\u{4f60}"))));
+    let doc: Node = Doc::text(rt.alloc(), CowStr::Borrowed("\u{301}"))?;
+    assert!(rt; matches!(doc, Doc::TextWithLen(0, Text::Borrowed("\u{301}"))));
     Ok(())
 }
 

@@ -1,0 +1,15 @@
+//! Documents that calls make: what they are laid out as, and that they are copied and dropped.
+#![tactic(auto)]
+
+#[cfg(test)]
+mod built;
+#[cfg(test)]
+mod chains;
+#[cfg(test)]
+mod combined;
+#[cfg(test)]
+mod counted;
+#[cfg(test)]
+mod derived;
+#[cfg(test)]
+mod layouts;
