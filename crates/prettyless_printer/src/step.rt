@@ -220,6 +220,7 @@ fn break_line<N: Walk>(
 }
 
 // One node in the place of another.
+#[inline(always)]
 #[tactic(auto, using(crate::proofs::Queues::queues))]
 fn go_on_with<N: Walk>(
     printer: &mut Printer<N>,
@@ -258,6 +259,7 @@ fn union<N: Walk>(
 }
 
 /// Takes up one node, with the printer's commands following it. What a probe takes up is counted in `probes`.
+#[inline(always)]
 #[tactic(auto, using(crate::proofs::Queues::queues))]
 pub fn step<'v, N: Walk>(
     printer: &mut Printer<N>,

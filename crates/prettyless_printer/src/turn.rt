@@ -16,6 +16,7 @@ use prettyless_sink::render::Render;
 use prettyless_sink::visits::{Visits, one_more};
 
 /// Takes the next command, and writes what it gives. The command is a visit.
+#[inline(always)]
 pub fn turn<N: Walk, W: Render>(
     printer: &mut Printer<N>,
     out: &mut W,
