@@ -1,8 +1,8 @@
-//! Awkward trees, and sinks that fail or lie.
+//! Awkward trees, sinks that fail or lie, and the pieces that sinks are given.
 #![tactic(auto)]
 
 #[cfg(test)]
-mod reader;
+mod pieces;
 #[cfg(test)]
 mod rows;
 #[cfg(test)]

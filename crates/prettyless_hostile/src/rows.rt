@@ -1,38 +1,100 @@
-// What a document is rendered as: all of a layout, or what stands before the node that fails.
-pub(crate) type Expected<'a> = Result<&'a str, &'a str>;
+//! Documents, and what a sink has of each that takes all.
+use prettyless::BoxDoc;
+use prettyless::prelude::*;
+use prettyless::text::{BuildError, CowStr};
 
-// A width, a document as the reader takes it, and what it is rendered as where the sink takes all.
-pub(crate) type Row<'a> = (usize, &'a str, Expected<'a>);
+// A document, and what comes of it.
+#[derive(Drop)]
+pub(crate) struct Row<'a, T> {
+    pub(crate) width: usize,
+    pub(crate) document: T,
+    // What a sink has that takes all.
+    pub(crate) layout: &'a str,
+    // Whether the document fails behind that.
+    pub(crate) fails: bool,
+}
 
-#[rattlefmt::skip]
-pub(crate) const ROWS: [Row<'static>; 10] = [
-    // A suffix behind a payload.
-    (80, "Append LineSuffix Text ' // 1' MultilineText '\"b\nc\"'", Ok("\"b\nc\" // 1")),
-    // Alternatives of two lines.
-    (10, "Union Append Append Text 'short' HardLine Text 'long long long' Append Append Text 'short' HardLine Text 'short'",
-     Ok("short\nshort")),
-    // Alternatives with a suffix in each.
-    (5, "Append Append Append Text 'a' LineSuffix Text ' // 1' Text 'a' \
-         Union Append LineSuffix Text ' // 3' Text '6666666' Append LineSuffix Text ' // 4' Text '77'", Ok("aa77 // 1 // 4")),
-    // An alternative that is kept, with a suffix.
-    (80, "Union Append Text 'abcd' LineSuffix Text '!' Text 'fallback'", Ok("abcd!")),
+pub(crate) type BoxRow<'a> = Row<'a, BoxDoc<'a>>;
+
+// What is laid out whole.
+fn whole<'a, D: DocPlace<'a>, P: Pretty<'a, D>>(
+    place: &'a D,
+    width: usize,
+    value: P,
+    layout: &'a str,
+) -> Result<Row<'a, D::Doc>, BuildError> {
+    Ok(Row {
+        width,
+        document: place.pretty(value)?.into_doc()?,
+        layout,
+        fails: false,
+    })
+}
+
+fn spaces_and_suffixes<'a, D: DocPlace<'a>>(
+    place: &'a D,
+) -> Result<Vec<Row<'a, D::Doc>>, BuildError> {
+    let mut rows = Vec::new(place.memory());
+    let indented = nest(2, ("aaa", hard_line(), hard_line(), "bbb"));
+    rows.push(whole(place, 80, indented, "aaa\n  \n  bbb")?)?;
+    let apart = ("a", weak_space(), "b");
+    rows.push(whole(place, 80, apart, "a b")?)?;
+    rows.push(whole(place, 80, "ab", "ab")?)?;
+    let nested = ("a", line_suffix(("x", line_suffix("y"))), hard_line(), "b");
+    rows.push(whole(place, 80, nested, "axy\nb")?)?;
+    Ok(rows)
+}
+
+fn payloads<'a, D: DocPlace<'a>>(place: &'a D) -> Result<Vec<Row<'a, D::Doc>>, BuildError> {
+    let mut rows = Vec::new(place.memory());
+    let alone = multiline_text(CowStr::Borrowed("a\r\n\nb\n"));
+    rows.push(whole(place, 80, alone, "a\r\n\nb\n")?)?;
+    let payload = multiline_text(CowStr::Borrowed("\"b\nc\""));
+    let behind = (line_suffix(" // 1"), payload);
+    rows.push(whole(place, 80, behind, "\"b\nc\" // 1")?)?;
+    Ok(rows)
+}
+
+fn alternatives<'a, D: DocPlace<'a>>(place: &'a D) -> Result<Vec<Row<'a, D::Doc>>, BuildError> {
+    let mut rows = Vec::new(place.memory());
+    let long = ("short", hard_line(), "long long long");
+    let short = ("short", hard_line(), "short");
+    rows.push(whole(place, 10, union(long, short), "short\nshort")?)?;
+    let kept = union(("abcd", line_suffix("!")), "fallback");
+    rows.push(whole(place, 80, kept, "abcd!")?)?;
+    let first = (line_suffix(" // 3"), "6666666");
+    let second = (line_suffix(" // 4"), "77");
+    let pending = ("a", line_suffix(" // 1"), "a", union(first, second));
+    rows.push(whole(place, 5, pending, "aa77 // 1 // 4")?)?;
     // One that is kept in one that is not.
-    (10, "Append LineSuffix Text ' // caller' Union Append Union Append Text 'inner' LineSuffix Text ' // s' \
-          Text 'inner fallback' Text ' long overflow' Text 'outer fallback'", Ok("outer fallback // caller")),
-    // A payload alone.
-    (80, "MultilineText 'a\r\n\nb\n'", Ok("a\r\n\nb\n")),
-    // A suffix in a suffix.
-    (80, "Append Append Append Text 'a' LineSuffix Append Text 'x' LineSuffix Text 'y' HardLine Text 'b'", Ok("axy\nb")),
-    // Spaces of an indent, and one between two texts.
-    (80, "Nest 2 Append Append Append Text 'aaa' HardLine HardLine Text 'bbb'", Ok("aaa\n  \n  bbb")),
-    (80, "Append Append Text 'a' WeakSpace Text 'b'", Ok("a b")),
-    // A suffix that fails, behind an alternative that is kept.
-    (2, "Append Union Append Text 'a' LineSuffix Fail Text 'x' Text 'b'", Err("ab")),
-];
+    let inner = union(("inner", line_suffix(" // s")), "inner fallback");
+    let outer = union((inner, " long overflow"), "outer fallback");
+    let caller = (line_suffix(" // caller"), outer);
+    rows.push(whole(place, 10, caller, "outer fallback // caller")?)?;
+    Ok(rows)
+}
 
-// The bytes that a sink is given, if it takes all.
-pub(crate) fn bytes_of<'a>(expected: Expected<'a>) -> &'a [u8] {
-    match expected {
-        Ok(layout) | Err(layout) => layout.as_bytes(),
+// A suffix that fails, behind an alternative that is kept.
+fn failing<'a, D: DocPlace<'a>>(place: &'a D) -> Result<Row<'a, D::Doc>, BuildError> {
+    let kept = union(("a", line_suffix(fail())), "x");
+    let mut row = whole(place, 2, (kept, "b"), "ab")?;
+    row.fails = true;
+    Ok(row)
+}
+
+// Puts all of these behind the others.
+fn push_all<T: Drop>(all: &mut Vec<T>, more: Vec<T>) -> Result<(), BuildError> {
+    for item in more {
+        all.push(item)?;
     }
+    Ok(())
+}
+
+// All characters of these documents are of one byte.
+pub(crate) fn rows<'a, D: DocPlace<'a>>(place: &'a D) -> Result<Vec<Row<'a, D::Doc>>, BuildError> {
+    let mut rows = spaces_and_suffixes(place)?;
+    push_all(&mut rows, payloads(place)?)?;
+    push_all(&mut rows, alternatives(place)?)?;
+    rows.push(failing(place)?)?;
+    Ok(rows)
 }

@@ -3,15 +3,20 @@ ghost use Rattle.std.specs.Prelude.{◌≡◌, ◌↔◌, ◌<◌, ⊤, IsTrue, 
 ghost use Rattle.std.specs.Str.{IsCharBoundary};
 ghost use Rattle.prettyless_hostile.specs.declared.sinks.Fault.TheVariants.{Count, Document};
 
-use crate::reader::read;
-use crate::rows::{ROWS, Row, bytes_of};
-use prettyless::{BoxAllocator, DocPtr, Render, RenderError, RenderOptions};
+use crate::rows::{BoxRow, rows};
+use bumpalo::Bump;
+use prettyless::prelude::*;
+use prettyless::text::BuildError;
+use prettyless::{
+    Arena, BoxAllocator, BoxDoc, DocPtr, LineEnding, RcAllocator, Render, RenderError,
+    RenderOptions,
+};
 use std::alloc::Global;
 use std::process::Abort;
 use std::test::Fail;
 
 #[derive(Debug, PartialEq, Drop)]
-enum Fault {
+pub(crate) enum Fault {
     Document,
     Count,
     Refused,
@@ -47,6 +52,17 @@ struct Hostile {
 }
 
 impl Hostile {
+    fn new(memory: Global, step: Step, wrong: Wrong, wrong_call: usize) -> Self {
+        Hostile {
+            step,
+            wrong,
+            wrong_call,
+            calls: 0,
+            bytes: Vec::new(memory),
+            failures: 0,
+        }
+    }
+
     // What it answers for this piece, if it does not refuse it.
     fn count(&self, piece: &str) -> Option<usize> {
         if self.calls == self.wrong_call {
@@ -115,19 +131,6 @@ fn is_fair_count(text: &str, count: usize) -> bool
     (count > 0 || text.is_empty()) && text.is_char_boundary(count)
 }
 
-// How a render into such a sink ends, and what it leaves.
-fn rendered(
-    memory: Global,
-    width: usize,
-    written: &str,
-    sink: &mut Hostile,
-) -> Result<Result<(), RenderError<Fault>>, Fail> {
-    let boxes = BoxAllocator::new(memory);
-    let document = read(&boxes, written)?;
-    let options = RenderOptions::new(width);
-    Ok(document.doc().render_raw_with(memory, options, sink))
-}
-
 // What a render that a sink ends has to say.
 fn fault_of(wrong: Wrong) -> Fault {
     match wrong {
@@ -140,40 +143,39 @@ fn fault_of(wrong: Wrong) -> Fault {
 fn compare(
     rt: &impl Abort,
     memory: Global,
-    row: Row<'_>,
+    row: &BoxRow<'_>,
     step: Step,
     wrong: Wrong,
     wrong_call: usize,
 ) -> Result<bool, Fail> {
-    let (width, written, expected) = row;
-    let mut sink = Hostile {
-        step,
-        wrong,
-        wrong_call,
-        calls: 0,
-        bytes: Vec::new(memory),
-        failures: 0,
-    };
-    let result = rendered(memory, width, written, &mut sink)?;
-    let all = bytes_of(expected);
+    let layout = row.layout;
+    let options = RenderOptions::new(row.width);
+    let mut sink = Hostile::new(memory, step, wrong, wrong_call);
+    let result = row
+        .document
+        .doc()
+        .render_raw_with(memory, options, &mut sink);
     if let Err(RenderError::Sink(fault)) = result {
-        assert_eq!(rt; fault, fault_of(wrong), "{written}");
-        assert_eq!(rt; sink.failures, 1, "{written}");
-        assert_eq!(rt; sink.calls, wrong_call, "{written}");
+        assert_eq!(rt; fault, fault_of(wrong), "{layout}");
+        assert_eq!(rt; sink.failures, 1, "{layout}");
+        assert_eq!(rt; sink.calls, wrong_call, "{layout}");
         assert!(rt;
-            all.starts_with(sink.bytes.as_slice()),
-            "{written} {wrong:?} {wrong_call}"
+            layout.as_bytes().starts_with(sink.bytes.as_slice()),
+            "{layout} {wrong:?} {wrong_call}"
         );
         return Ok(true);
     }
-    match (result, expected) {
-        (Ok(()), Ok(_)) => {}
-        (Err(RenderError::Document(fault)), Err(_)) => assert_eq!(rt; fault, Fault::Document),
-        _ => panic!(rt; "{written} {wrong:?} {wrong_call}"),
+    match result {
+        Ok(()) => assert!(rt; !row.fails, "{layout}"),
+        Err(RenderError::Document(fault)) => {
+            assert!(rt; row.fails, "{layout}");
+            assert_eq!(rt; fault, Fault::Document, "{layout}");
+        }
+        _ => panic!(rt; "{layout} {wrong:?} {wrong_call}"),
     }
-    assert_eq!(rt; sink.failures, 0, "{written}");
-    assert!(rt; sink.calls < wrong_call, "{written}");
-    assert_eq!(rt; sink.bytes.as_slice(), all, "{written}");
+    assert_eq!(rt; sink.failures, 0, "{layout}");
+    assert!(rt; sink.calls < wrong_call, "{layout}");
+    assert_eq!(rt; sink.bytes.as_slice(), layout.as_bytes(), "{layout}");
     Ok(false)
 }
 
@@ -181,7 +183,7 @@ fn compare(
 fn compare_calls(
     rt: &impl Abort,
     memory: Global,
-    row: Row<'_>,
+    row: &BoxRow<'_>,
     step: Step,
     wrong: Wrong,
 ) -> Result<usize, Fail> {
@@ -194,13 +196,13 @@ fn compare_calls(
 }
 
 fn compare_all(rt: &impl Abort, memory: Global, step: Step, wrong: Wrong) -> Result<(), Fail> {
-    for row in ROWS {
+    let boxes = BoxAllocator::new(memory);
+    let rows = rows(&boxes)?;
+    for row in rows.iter() {
         let ends_at = compare_calls(rt, memory, row, step, wrong)?;
         assert!(rt; 1 < ends_at);
-        // All characters of these documents are of one byte.
         if !matches!(step, Step::Whole) {
-            let (_, _, expected) = row;
-            assert_eq!(rt; ends_at, bytes_of(expected).len().saturating_add(1));
+            assert_eq!(rt; ends_at, row.layout.len().saturating_add(1));
         }
     }
     Ok(())
@@ -236,20 +238,15 @@ fn sinks_that_count_too_much(rt: HostRuntime) -> Result<(), Fail> {
 // A character of two bytes is taken by characters, and not by bytes.
 #[test]
 fn counts_inside_a_character(rt: HostRuntime) -> Result<(), Fail> {
+    let boxes = BoxAllocator::new(rt.alloc());
+    let document = boxes.pretty("\u{e9}")?.into_doc()?;
     for (step, bytes, ends_well) in [
         (Step::Whole, b"\xc3\xa9".as_slice(), true),
         (Step::Character, b"\xc3\xa9".as_slice(), true),
         (Step::Byte, b"\xc3".as_slice(), false),
     ] {
-        let mut sink = Hostile {
-            step,
-            wrong: Wrong::Refuses,
-            wrong_call: usize::MAX,
-            calls: 0,
-            bytes: Vec::new(rt.alloc()),
-            failures: 0,
-        };
-        match rendered(rt.alloc(), 80, "Text 'é'", &mut sink)? {
+        let mut sink = Hostile::new(rt.alloc(), step, Wrong::Refuses, usize::MAX);
+        match document.doc().render_raw(rt.alloc(), 80, &mut sink) {
             Ok(()) => assert!(rt; ends_well),
             Err(RenderError::Sink(fault)) => assert_eq!(rt; fault, Fault::Count),
             Err(_) => panic!(rt; "{step:?}"),
@@ -259,4 +256,70 @@ fn counts_inside_a_character(rt: HostRuntime) -> Result<(), Fail> {
         assert_eq!(rt; sink.calls, 1, "{step:?}");
     }
     Ok(())
+}
+
+// Compares what a sink has that answers a bad count for its second piece, which is a space.
+fn compare_spaces(
+    rt: &impl Abort,
+    memory: Global,
+    document: &BoxDoc<'_>,
+    ending: LineEnding,
+    first: &str,
+) -> Result<(), Fail> {
+    let options = RenderOptions::new(80).with_line_ending(ending);
+    for (wrong, space) in [
+        (Wrong::TakesNothing, ""),
+        (Wrong::CountsOneMore, " "),
+        (Wrong::CountsAll, " "),
+    ] {
+        let mut sink = Hostile::new(memory, Step::Whole, wrong, 2);
+        let result = document.doc().render_raw_with(memory, options, &mut sink);
+        assert!(rt; matches!(result, Err(RenderError::Sink(Fault::Count))));
+        assert_eq!(rt; sink.failures, 1, "{wrong:?}");
+        let bytes = format!(in memory; "{first}{space}")?;
+        assert_eq!(rt; sink.bytes.as_slice(), bytes.as_bytes(), "{wrong:?}");
+    }
+    Ok(())
+}
+
+// Two letters and a weak space between them.
+fn letters_apart<'a, D: DocPlace<'a>>(place: &'a D) -> Result<D::Doc, BuildError> {
+    place.pretty(("a", weak_space(), "b"))?.into_doc()
+}
+
+// A line break, and an indent of one space.
+fn indented_line<'a, D: DocPlace<'a>>(place: &'a D) -> Result<D::Doc, BuildError> {
+    place.pretty(nest(1, hard_line()))?.into_doc()
+}
+
+#[test]
+fn bad_counts_of_spaces(rt: HostRuntime) -> Result<(), Fail> {
+    let boxes = BoxAllocator::new(rt.alloc());
+    let apart = letters_apart(&boxes)?;
+    compare_spaces(&rt, rt.alloc(), &apart, LineEnding::Lf, "a")?;
+    let indent = indented_line(&boxes)?;
+    compare_spaces(&rt, rt.alloc(), &indent, LineEnding::Lf, "\n")?;
+    compare_spaces(&rt, rt.alloc(), &indent, LineEnding::Crlf, "\r\n")
+}
+
+// A sink that takes one byte a call, and refuses at its third.
+fn compare_full<'a, D: DocPlace<'a>>(rt: &impl Abort, place: &'a D) -> Result<(), Fail> {
+    let memory = place.memory();
+    let kept = union(("abcd", line_suffix("!")), "fallback");
+    let document = place.pretty(kept)?;
+    let mut sink = Hostile::new(memory, Step::Byte, Wrong::Refuses, 3);
+    let result = document.doc().render_raw(memory, 80, &mut sink);
+    assert!(rt; matches!(result, Err(RenderError::Sink(Fault::Refused))));
+    assert_eq!(rt; sink.bytes.as_slice(), b"ab".as_slice());
+    assert_eq!(rt; sink.failures, 1);
+    Ok(())
+}
+
+#[test]
+fn full_inside_an_alternative(rt: HostRuntime) -> Result<(), Fail> {
+    compare_full(&rt, &BoxAllocator::new(rt.alloc()))?;
+    compare_full(&rt, &RcAllocator::new(rt.alloc()))?;
+    let bump = Bump::new(rt.alloc());
+    let arena = Arena::new(rt.alloc(), &bump);
+    compare_full(&rt, &arena)
 }

@@ -1,5 +1,4 @@
 //! Awkward trees. All are built in an arena, so that nothing deep is dropped.
-use crate::reader::read;
 use bumpalo::Bump;
 use prettyless::text::{BuildError, Text};
 use prettyless::{Arena, Doc, DocPlace, DocPtr, FmtWrite, RefDoc, RenderOptions, Visits};
@@ -109,30 +108,6 @@ fn nests_in_nests(rt: HostRuntime) -> Result<(), Fail> {
     let arena = Arena::new(rt.alloc(), &bump);
     let layout = repeated(rt.alloc(), "\n", " ", TIMES, "x")?;
     compare(&rt, rt.alloc(), nests(&arena)?, 80, layout.as_str())?;
-    Ok(())
-}
-
-// A width, a document as the reader takes it, and what it has to be rendered as.
-type Case<'a> = (usize, &'a str, &'a str);
-
-#[rattlefmt::skip]
-const GREATEST: [Case<'static>; 4] = [
-    // Columns stay at the greatest one.
-    (usize::MAX, "Group Append Append TextWithLen 18446744073709551615 'a' BreakOrFlat HardLine Text ' ' Text 'b'", "a b"),
-    (usize::MAX - 1, "Group Append Append TextWithLen 18446744073709551615 'a' BreakOrFlat HardLine Text ' ' Text 'b'", "a\nb"),
-    (usize::MAX, "Append Append TextWithLen 18446744073709551615 'a' WeakSpace Text 'b'", "a b"),
-    // So do indents, and at 0.
-    (80, "Nest 9223372036854775807 Nest 9223372036854775807 Nest 9223372036854775807 \
-          Nest -9223372036854775808 Nest -9223372036854775808 Append HardLine Text 'x'", "\nx"),
-];
-
-#[test]
-fn greatest_widths_and_indents(rt: HostRuntime) -> Result<(), Fail> {
-    for (width, written, layout) in GREATEST {
-        let bump = Bump::new(rt.alloc());
-        let arena = Arena::new(rt.alloc(), &bump);
-        compare(&rt, rt.alloc(), read(&arena, written)?, width, layout)?;
-    }
     Ok(())
 }
 

@@ -1,10 +1,10 @@
 //! Byte writers and text writers of which one call goes wrong.
 ghost use Rattle.std.specs.Prelude.{Some};
 
-use crate::reader::read;
-use crate::rows::{Expected, ROWS, Row, bytes_of};
+use crate::rows::{BoxRow, rows};
+use prettyless::prelude::*;
 use prettyless::{
-    BoxAllocator, DocPtr, FmtWrite, IoWrite, RenderError, RenderOptions, TextWriter, Untold,
+    BoxAllocator, BoxDoc, DocPtr, FmtWrite, IoWrite, RenderError, RenderOptions, TextWriter, Untold,
 };
 use std::alloc::Global;
 use std::io::{ErrorKind, Write};
@@ -27,6 +27,18 @@ struct ByBytes {
     calls: usize,
     bytes: Vec<u8>,
     failures: u64,
+}
+
+impl ByBytes {
+    fn new(memory: Global, wrong: Wrong, wrong_call: usize) -> Self {
+        ByBytes {
+            wrong,
+            wrong_call,
+            calls: 0,
+            bytes: Vec::new(memory),
+            failures: 0,
+        }
+    }
 }
 
 impl Write for ByBytes {
@@ -63,23 +75,22 @@ enum Ending<E> {
     Sink(E),
 }
 
-// How a run ends that no writer disturbs.
-fn undisturbed<E>(expected: Expected<'_>) -> Ending<E> {
-    match expected {
-        Ok(_) => Ending::Laid,
-        Err(_) => Ending::Document,
+// How a render ends that no writer disturbs.
+fn undisturbed<E>(row: &BoxRow<'_>) -> Ending<E> {
+    if row.fails {
+        Ending::Document
+    } else {
+        Ending::Laid
     }
 }
 
 // How a render to such a writer ends, with the kind of the error.
 fn ending_of_bytes(
     memory: Global,
+    document: &BoxDoc<'_>,
     width: usize,
-    written: &str,
     writer: &mut ByBytes,
 ) -> Result<Ending<ErrorKind>, Fail> {
-    let boxes = BoxAllocator::new(memory);
-    let document = read(&boxes, written)?;
     let options = RenderOptions::new(width);
     let mut sink = IoWrite::new(writer);
     match document.doc().render_raw_with(memory, options, &mut sink) {
@@ -94,43 +105,41 @@ fn ending_of_bytes(
 fn compare_bytes(
     rt: &impl Abort,
     memory: Global,
-    row: Row<'_>,
+    row: &BoxRow<'_>,
     wrong: Wrong,
     wrong_call: usize,
 ) -> Result<bool, Fail> {
-    let (width, written, expected) = row;
-    let mut writer = ByBytes {
-        wrong,
-        wrong_call,
-        calls: 0,
-        bytes: Vec::new(memory),
-        failures: 0,
-    };
-    let ending = ending_of_bytes(memory, width, written, &mut writer)?;
-    let all = bytes_of(expected);
-    if all.len() < wrong_call {
-        assert_eq!(rt; ending, undisturbed(expected), "{written}");
-        assert_eq!(rt; writer.bytes.as_slice(), all, "{written}");
-        assert_eq!(rt; writer.failures, 0, "{written}");
+    let layout = row.layout;
+    let mut writer = ByBytes::new(memory, wrong, wrong_call);
+    let ending = ending_of_bytes(memory, &row.document, row.width, &mut writer)?;
+    if layout.len() < wrong_call {
+        assert_eq!(rt; ending, undisturbed(row), "{layout}");
+        assert_eq!(rt; writer.bytes.as_slice(), layout.as_bytes(), "{layout}");
+        assert_eq!(rt; writer.failures, 0, "{layout}");
         return Ok(false);
     }
     let kind = match wrong {
         Wrong::IsInterrupted => ErrorKind::Interrupted,
         Wrong::TakesNothing => ErrorKind::WriteZero,
     };
-    assert_eq!(rt; ending, Ending::Sink(kind), "{written}");
+    assert_eq!(rt; ending, Ending::Sink(kind), "{layout}");
     assert_eq!(rt;
         writer.bytes.as_slice(),
-        &all[..wrong_call.saturating_sub(1)],
-        "{written}"
+        &layout.as_bytes()[..wrong_call.saturating_sub(1)],
+        "{layout}"
     );
-    assert_eq!(rt; writer.failures, 1, "{written}");
-    assert_eq!(rt; writer.calls, wrong_call, "{written}");
+    assert_eq!(rt; writer.failures, 1, "{layout}");
+    assert_eq!(rt; writer.calls, wrong_call, "{layout}");
     Ok(true)
 }
 
 // Each call goes wrong in turn, until a render ends without it.
-fn compare_calls(rt: &impl Abort, memory: Global, row: Row<'_>, wrong: Wrong) -> Result<(), Fail> {
+fn compare_calls(
+    rt: &impl Abort,
+    memory: Global,
+    row: &BoxRow<'_>,
+    wrong: Wrong,
+) -> Result<(), Fail> {
     for wrong_call in 1..100 {
         if !compare_bytes(rt, memory, row, wrong, wrong_call)? {
             return Ok(());
@@ -140,7 +149,9 @@ fn compare_calls(rt: &impl Abort, memory: Global, row: Row<'_>, wrong: Wrong) ->
 }
 
 fn compare_all_bytes(rt: &impl Abort, memory: Global, wrong: Wrong) -> Result<(), Fail> {
-    for row in ROWS {
+    let boxes = BoxAllocator::new(memory);
+    let rows = rows(&boxes)?;
+    for row in rows.iter() {
         compare_calls(rt, memory, row, wrong)?;
     }
     Ok(())
@@ -154,6 +165,17 @@ fn writers_that_are_interrupted(rt: HostRuntime) -> Result<(), Fail> {
 #[test]
 fn writers_that_take_nothing(rt: HostRuntime) -> Result<(), Fail> {
     compare_all_bytes(&rt, rt.alloc(), Wrong::TakesNothing)
+}
+
+#[test]
+fn a_character_is_written_byte_by_byte(rt: HostRuntime) -> Result<(), Fail> {
+    let boxes = BoxAllocator::new(rt.alloc());
+    let document = boxes.pretty("\u{e9}")?.into_doc()?;
+    let mut writer = ByBytes::new(rt.alloc(), Wrong::TakesNothing, usize::MAX);
+    let ending = ending_of_bytes(rt.alloc(), &document, 80, &mut writer)?;
+    assert_eq!(rt; ending, Ending::Laid);
+    assert_eq!(rt; writer.bytes.as_slice(), b"\xc3\xa9".as_slice());
+    Ok(())
 }
 
 // A text writer that takes one byte of one of its pieces and fails.
@@ -196,15 +218,13 @@ impl fmt::Write for ByPieces {
 // How a render to a text writer ends.
 fn ending_of_text<W: TextWriter>(
     memory: Global,
-    width: usize,
-    written: &str,
+    row: &BoxRow<'_>,
     writer: &mut W,
 ) -> Result<Ending<fmt::Error>, Fail> {
-    let boxes = BoxAllocator::new(memory);
-    let document = read(&boxes, written)?;
-    let options = RenderOptions::new(width);
+    let options = RenderOptions::new(row.width);
     let mut sink = FmtWrite::new(writer);
-    match document.doc().render_raw_with(memory, options, &mut sink) {
+    let document = row.document.doc();
+    match document.render_raw_with(memory, options, &mut sink) {
         Ok(()) => Ok(Ending::Laid),
         Err(RenderError::Document(_)) => Ok(Ending::Document),
         Err(RenderError::Sink(error)) => Ok(Ending::Sink(error)),
@@ -216,11 +236,11 @@ fn ending_of_text<W: TextWriter>(
 fn compare_pieces(
     rt: &impl Abort,
     memory: Global,
-    row: Row<'_>,
+    row: &BoxRow<'_>,
     told: bool,
     wrong_piece: usize,
 ) -> Result<bool, Fail> {
-    let (width, written, expected) = row;
+    let layout = row.layout;
     let mut writer = ByPieces {
         wrong_piece,
         pieces: 0,
@@ -228,29 +248,24 @@ fn compare_pieces(
         failures: 0,
     };
     let ending = if told {
-        ending_of_text(memory, width, written, &mut writer)?
+        ending_of_text(memory, row, &mut writer)?
     } else {
-        let mut untold = Untold(&mut writer);
-        ending_of_text(memory, width, written, &mut untold)?
+        ending_of_text(memory, row, &mut Untold(&mut writer))?
     };
-    let all = bytes_of(expected);
     if writer.failures == 0 {
-        assert_eq!(rt; ending, undisturbed(expected), "{written}");
-        assert_eq!(rt; writer.bytes.as_slice(), all, "{written}");
-        assert!(rt; writer.pieces < wrong_piece, "{written}");
+        assert_eq!(rt; ending, undisturbed(row), "{layout}");
+        assert_eq!(rt; writer.bytes.as_slice(), layout.as_bytes(), "{layout}");
+        assert!(rt; writer.pieces < wrong_piece, "{layout}");
         return Ok(false);
     }
-    assert_eq!(rt; ending, Ending::Sink(fmt::Error), "{written}");
+    assert_eq!(rt; ending, Ending::Sink(fmt::Error), "{layout}");
     assert!(rt;
-        all.starts_with(writer.bytes.as_slice()),
-        "{written} {wrong_piece}"
+        layout.as_bytes().starts_with(writer.bytes.as_slice()),
+        "{layout} {wrong_piece}"
     );
-    assert!(rt;
-        wrong_piece <= writer.bytes.len(),
-        "{written} {wrong_piece}"
-    );
-    assert_eq!(rt; writer.failures, 1, "{written}");
-    assert_eq!(rt; writer.pieces, wrong_piece, "{written}");
+    assert!(rt; wrong_piece <= writer.bytes.len(), "{layout} {wrong_piece}");
+    assert_eq!(rt; writer.failures, 1, "{layout}");
+    assert_eq!(rt; writer.pieces, wrong_piece, "{layout}");
     Ok(true)
 }
 
@@ -258,7 +273,7 @@ fn compare_pieces(
 fn compare_all_pieces(
     rt: &impl Abort,
     memory: Global,
-    row: Row<'_>,
+    row: &BoxRow<'_>,
     told: bool,
 ) -> Result<(), Fail> {
     for wrong_piece in 1..100 {
@@ -271,7 +286,9 @@ fn compare_all_pieces(
 
 #[test]
 fn text_writers_that_fail(rt: HostRuntime) -> Result<(), Fail> {
-    for row in ROWS {
+    let boxes = BoxAllocator::new(rt.alloc());
+    let rows = rows(&boxes)?;
+    for row in rows.iter() {
         compare_all_pieces(&rt, rt.alloc(), row, true)?;
         compare_all_pieces(&rt, rt.alloc(), row, false)?;
     }
