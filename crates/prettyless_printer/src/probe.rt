@@ -88,7 +88,9 @@ pub fn either<N: Copy>(mode: Mode, broken: N, flat: N) -> N
 /// What the reading of one node comes to: an answer, the node that is read next, or neither.
 #[derive(Clone, Copy)]
 pub enum Read<N> {
+    /// Whether the line stays within the width.
     Answer(bool),
+    /// A node and its mode.
     Next(Mode, N),
     Done,
 }
