@@ -18,12 +18,11 @@ use Rattle.prettyless_model.specs.declared.mode.Mode.{Mode}
 use Rattle.prettyless_model.specs.declared.mode.Mode.TheVariants.{Break, Flat}
 use Rattle.prettyless_printer.specs.Stack.{Task, make_task, tasks, follow, stack_of}
 use Rattle.prettyless_printer.specs.Steps.{Step, Move, Stuck, Choose, step_of, union_step, decided_by_metrics, break_step, at_once}
-use Rattle.prettyless_printer.specs.Printing.{state_of, ShowsAt, TookNext}
+use Rattle.prettyless_printer.specs.Printing.{state_of, ShowsAt, TookNext, TookWriting, WritesAt}
 use Rattle.prettyless_printer.specs.Trials.{TrialDid}
 use Rattle.prettyless_printer.specs.Visits.{Rise}
 use Rattle.prettyless_printer.specs.Meets.{tally_above, tally_choice, nothing_left, RisesBy, Meets, stack_tally, choice_tally, trial_tally, VisitedAtLeast}
-use Rattle.prettyless_printer.specs.declared.piece.Piece.{Piece}
-use Rattle.prettyless_printer.specs.declared.printer.Taken.TheVariants.{Written, Chosen}
+use Rattle.prettyless_printer.specs.declared.printer.Taken.TheVariants.{Chosen}
 use Rattle.prettyless_printer.specs.declared.printer.Printer.{Printer}
 use Rattle.prettyless_printer.proofs.Runs.{follow-tasks, payload_branch, no_padding}
 
@@ -216,12 +215,12 @@ stack_counts {N} f p n o ts st w e h k =
 top_counts : {N : Type 0} (f : N → Tree) (p : Printer N) (n : ℕ) (t : Task) (ts : List Task) (w : Weight) → n < length (stack_of f p.commands.items) → stack_of f p.commands.items ≡ t ∷ ts → stack_tally f p n w ≡ tally_with p.options n t ts (state_of f p) w
 top_counts {N} f p n t ts w l e = stack_counts f p n p.options (t ∷ ts) (state_of f p) w refl e refl ∙ above_is p.options n t ts (state_of f p) w (omega (arith, l, ap length e))
 
-went_by : {N : Type 0} (f : N → Tree) (p q : Printer N) (piece : Piece) (n : ℕ) (t : Task) (ts : List Task) (step : Step) (w : Weight) → q.options ≡ p.options →
-    StepCounts p.options n ts (state_of f p) w (stack_tally f p n w) (w t.tree t.mode) step → ShowsAt f (Written piece) step ts (state_of f p) q →
+went_by : {N : Type 0} (f : N → Tree) (p q : Printer N) (bytes : List ℕ) (n : ℕ) (t : Task) (ts : List Task) (step : Step) (w : Weight) → q.options ≡ p.options →
+    StepCounts p.options n ts (state_of f p) w (stack_tally f p n w) (w t.tree t.mode) step → WritesAt f bytes step ts q →
     stack_tally f p n w ≤ w t.tree t.mode + stack_tally f q n w
-went_by {N} f p q piece n t ts (Move b pushed u) w e s h = omega (arith, s, stack_counts f q n p.options (pushed ++ ts) u w e h.1 h.2)
-went_by {N} f p q piece n t ts Stuck w e s h = absurd h
-went_by {N} f p q piece n t ts (Choose i x y) w e s h = absurd h
+went_by {N} f p q bytes n t ts (Move b pushed u) w e s h = omega (arith, s, stack_counts f q n p.options (pushed ++ ts) u w e h.1 h.2)
+went_by {N} f p q bytes n t ts Stuck w e s h = absurd h
+went_by {N} f p q bytes n t ts (Choose i x y) w e s h = absurd h
 
 -- the stack counts no more than the step of its top allows
 stepped_counts : {N : Type 0} (f : N → Tree) (p : Printer N) (n : ℕ) (t : Task) (ts : List Task) (w : Weight) → n < length (stack_of f p.commands.items) → stack_of f p.commands.items ≡ t ∷ ts →
@@ -231,11 +230,11 @@ stepped_counts {N} f p n t ts w l e =
     (step_counts p.options n t.tree t.indent t.mode ts (state_of f p) w (omega (arith, l, ap length e)))
 
 -- a turn that took up one node
-pub went_meets : {N : Type 0} (f : N → Tree) (p q : Printer N) (piece : Piece) (v w : Visits) (s : Task) (rest : List Task) → OneLaid f p s rest v w → TookNext f p q (Written piece) →
+pub went_meets : {N : Type 0} (f : N → Tree) (p q : Printer N) (bytes : List ℕ) (v w : Visits) (s : Task) (rest : List Task) → OneLaid f p s rest v w → TookWriting f p q bytes →
     (n : ℕ) → n < length (stack_of f p.commands.items) → Meets (stack_tally f p n) (stack_tally f q n) v w
-went_meets {N} f p q piece v w s rest one h n l =
+went_meets {N} f p q bytes v w s rest one h n l =
     laid_meets f p h.0 h.1 (stack_tally f p n) (stack_tally f q n) v w (laid_top f p s h.0 rest h.1 v w one h.2)
-    (λ k. went_by f p q piece n h.0 h.1 (step_of p.options h.0.tree h.0.indent h.0.mode (follow h.1) (state_of f p)) k h.4 (stepped_counts f p n h.0 h.1 k l h.2) h.3)
+    (λ k. went_by f p q bytes n h.0 h.1 (step_of p.options h.0.tree h.0.indent h.0.mode (follow h.1) (state_of f p)) k h.4 (stepped_counts f p n h.0 h.1 k l h.2) h.3)
 
 chosen_by : {N : Type 0} (f : N → Tree) (p q : Printer N) (i : ℕ) (a b : N) (n : ℕ) (t : Task) (ts : List Task) (step : Step) (w : Weight) → q.options ≡ p.options →
     StepCounts p.options n ts (state_of f p) w (stack_tally f p n w) (w t.tree t.mode) step → ShowsAt f (Chosen i a b) step ts (state_of f p) q →

@@ -1,26 +1,31 @@
 -- What the code's step shows, seen from before the command was taken.
-use Rattle.std.proofs.Common.{◌≡◌, List, [], ◌∷◌, ◌++◌, ap, sym, ◌∙◌, append-nil, subst}
+use Rattle.std.proofs.Common.{◌≡◌, ℕ, List, [], ◌∷◌, ◌++◌, ap, sym, ◌∙◌, append-nil, subst}
 use Rattle.prettyless_sink.specs.declared.options.RenderOptions.{RenderOptions}
 use Rattle.prettyless_model.specs.Tree.{Tree}
 use Rattle.prettyless_model.specs.Layout.{State}
 use Rattle.prettyless_printer.specs.Stack.{Task, task, follow, stack_of}
 use Rattle.prettyless_printer.specs.Steps.{Step, Move, Stuck, Choose, step_of}
-use Rattle.prettyless_printer.specs.Printing.{state_of, Grows, Shows, ShowsAt, TookNext}
+use Rattle.prettyless_printer.specs.Printing.{state_of, Grows, Shows, ShowsAt, TookNext, Writes, WritesAt}
+use Rattle.prettyless_printer.specs.Piece.{piece_bytes}
 use Rattle.prettyless_printer.specs.declared.command.Command.{Command}
 use Rattle.prettyless_printer.specs.declared.printer.Printer.{Printer}
 use Rattle.prettyless_printer.specs.declared.printer.Taken.{Taken}
-use Rattle.prettyless_printer.specs.declared.printer.Taken.TheVariants.{Written, Failed, Chosen}
+use Rattle.prettyless_printer.specs.declared.printer.Taken.TheVariants.{Quiet, Written, Failed, Chosen}
 
 grows_same : {N : Type 0} (p q : Printer N) → q ≡ p → Grows p q
 grows_same {N} p q e = ([], ap (λ (x : Printer N). x.queue.items) e ∙ sym (append-nil p.queue.items))
 
+writes_at : {N : Type 0} (f : N → Tree) (bytes : List ℕ) (step : Step) (p q : Printer N) → Writes f bytes step p q → WritesAt f bytes step (stack_of f p.commands.items) q × (q.options ≡ p.options) × Grows p q
+writes_at {N} f bytes (Move b pushed u) p q h = ((h.0, h.1, h.2), h.3, h.4)
+writes_at {N} f bytes Stuck p q h = absurd h
+writes_at {N} f bytes (Choose j x y) p q h = absurd h
+
 shows_at : {N : Type 0} (f : N → Tree) (r : Taken N) (step : Step) (p q : Printer N) → Shows f r step p q → ShowsAt f r step (stack_of f p.commands.items) (state_of f p) q × (q.options ≡ p.options) × Grows p q
-shows_at {N} f (Written piece) (Move b pushed u) p q h = ((h.0, h.1, h.2), h.3, h.4)
+shows_at {N} f Quiet step p q h = writes_at f [] step p q h
+shows_at {N} f (Written piece) step p q h = writes_at f (piece_bytes piece) step p q h
 shows_at {N} f Failed Stuck p q h = (ap (λ (x : Printer N). stack_of f x.commands.items) h, ap (λ (x : Printer N). x.options) h, grows_same p q h)
 shows_at {N} f (Chosen i l r) (Choose j x y) p q h =
     ((h.0, h.1, h.2, ap (λ (x : Printer N). stack_of f x.commands.items) h.3, ap (state_of f) h.3), ap (λ (x : Printer N). x.options) h.3, grows_same p q h.3)
-shows_at {N} f (Written piece) Stuck p q h = absurd h
-shows_at {N} f (Written piece) (Choose j x y) p q h = absurd h
 shows_at {N} f Failed (Move b pushed u) p q h = absurd h
 shows_at {N} f Failed (Choose j x y) p q h = absurd h
 shows_at {N} f (Chosen i l r) (Move b pushed u) p q h = absurd h

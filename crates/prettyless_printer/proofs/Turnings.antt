@@ -9,15 +9,13 @@ use Rattle.prettyless_model.specs.Levels.{settle}
 use Rattle.prettyless_printer.specs.Stack.{Task, follow, nodes, stack_of}
 use Rattle.prettyless_printer.specs.Steps.{lay_all, work, owed, Step, Move, Stuck, Choose, step_of}
 use Rattle.prettyless_printer.specs.Progress.{Inside, Waits}
-use Rattle.prettyless_printer.specs.Printing.{state_of, ShowsAt, TookNext}
-use Rattle.prettyless_printer.specs.Piece.{piece_bytes}
+use Rattle.prettyless_printer.specs.Printing.{state_of, ShowsAt, TookNext, TookWriting, WritesAt}
 use Rattle.prettyless_printer.specs.Turns.{bytes_before, ForWholes, Goes, Lessens}
 use Rattle.prettyless_printer.proofs.Stacks.{nodes-append}
 use Rattle.prettyless_printer.proofs.Steps.{LeavesLess, step_less}
 use Rattle.prettyless_printer.proofs.Progresses.{Steps, stepping, inside_beginning}
-use Rattle.prettyless_printer.specs.declared.piece.Piece.{Piece}
 use Rattle.prettyless_printer.specs.declared.printer.Printer.{Printer}
-use Rattle.prettyless_printer.specs.declared.printer.Taken.TheVariants.{Written, Failed, Chosen}
+use Rattle.prettyless_printer.specs.declared.printer.Taken.TheVariants.{Failed, Chosen}
 use Rattle.prettyless_printer.specs.declared.printer.Turn.TheVariants as turn
 
 -- the same progress, where stack, state and bytes are named otherwise
@@ -43,29 +41,29 @@ by_step {N} f p out t ts e = λ whole limit below old l h.
     stepping p.options whole limit below old t ts (state_of f p) out (omega (arith, ap length e))
     (inside_at p.options whole limit below old (stack_of f p.commands.items) (t ∷ ts) (state_of f p) (state_of f p) out out (sym e) refl refl h)
 
-lessens_by : {N : Type 0} (f : N → Tree) (p q : Printer N) (piece : Piece) (t : Task) (ts : List Task) (step : Step) →
+lessens_by : {N : Type 0} (f : N → Tree) (p q : Printer N) (bytes : List ℕ) (t : Task) (ts : List Task) (step : Step) →
     stack_of f p.commands.items ≡ t ∷ ts → LeavesLess (owed (state_of f p).pending) (2 * size t.tree + owed (state_of f p).pending) step →
-    ShowsAt f (Written piece) step ts (state_of f p) q → Lessens f p q turn.Went
-lessens_by {N} f p q piece t ts (Move b pushed u) e less h =
+    WritesAt f bytes step ts q → Lessens f p q turn.Went
+lessens_by {N} f p q bytes t ts (Move b pushed u) e less h =
     omega (arith, ap nodes h.1, nodes-append pushed ts, ap nodes e, ap (λ (x : State). owed x.pending) h.2)
-lessens_by {N} f p q piece t ts Stuck e less h = absurd h
-lessens_by {N} f p q piece t ts (Choose i x y) e less h = absurd h
+lessens_by {N} f p q bytes t ts Stuck e less h = absurd h
+lessens_by {N} f p q bytes t ts (Choose i x y) e less h = absurd h
 
-pub lessens : {N : Type 0} (f : N → Tree) (p q : Printer N) (piece : Piece) → TookNext f p q (Written piece) → Lessens f p q turn.Went
-lessens {N} f p q piece h =
-    lessens_by f p q piece h.0 h.1 (step_of p.options h.0.tree h.0.indent h.0.mode (follow h.1) (state_of f p)) h.2
+pub lessens : {N : Type 0} (f : N → Tree) (p q : Printer N) (bytes : List ℕ) → TookWriting f p q bytes → Lessens f p q turn.Went
+lessens {N} f p q bytes h =
+    lessens_by f p q bytes h.0 h.1 (step_of p.options h.0.tree h.0.indent h.0.mode (follow h.1) (state_of f p)) h.2
     (step_less p.options h.0.tree h.0.indent h.0.mode (follow h.1) (state_of f p)) h.3
 
-went_by : {N : Type 0} (f : N → Tree) (p q : Printer N) (out new : List ℕ) (piece : Piece) (t : Task) (ts : List Task) (step : Step) →
-    ByStep f p out ts step → ShowsAt f (Written piece) step ts (state_of f p) q → new ≡ out ++ piece_bytes piece → ForWholes f p out (Goes f p.options q new turn.Went)
-went_by {N} f p q out new piece t ts (Move b pushed u) g h w = λ whole limit below old l k.
+went_by : {N : Type 0} (f : N → Tree) (p q : Printer N) (out new : List ℕ) (bytes : List ℕ) (t : Task) (ts : List Task) (step : Step) →
+    ByStep f p out ts step → WritesAt f bytes step ts q → new ≡ out ++ bytes → ForWholes f p out (Goes f p.options q new turn.Went)
+went_by {N} f p q out new bytes t ts (Move b pushed u) g h w = λ whole limit below old l k.
     inside_at p.options whole limit below old (pushed ++ ts) (stack_of f q.commands.items) u (state_of f q) (out ++ b) new h.1 h.2 (w ∙ ap (λ (x : List ℕ). out ++ x) h.0) (g whole limit below old l k)
-went_by {N} f p q out new piece t ts Stuck g h w = absurd h
-went_by {N} f p q out new piece t ts (Choose i x y) g h w = absurd h
+went_by {N} f p q out new bytes t ts Stuck g h w = absurd h
+went_by {N} f p q out new bytes t ts (Choose i x y) g h w = absurd h
 
-pub went : {N : Type 0} (f : N → Tree) (p q : Printer N) (out new : List ℕ) (piece : Piece) → TookNext f p q (Written piece) → new ≡ out ++ piece_bytes piece → ForWholes f p out (Goes f p.options q new turn.Went)
-went {N} f p q out new piece h w =
-    went_by f p q out new piece h.0 h.1 (step_of p.options h.0.tree h.0.indent h.0.mode (follow h.1) (state_of f p)) (by_step f p out h.0 h.1 h.2) h.3 w
+pub went : {N : Type 0} (f : N → Tree) (p q : Printer N) (out new : List ℕ) (bytes : List ℕ) → TookWriting f p q bytes → new ≡ out ++ bytes → ForWholes f p out (Goes f p.options q new turn.Went)
+went {N} f p q out new bytes h w =
+    went_by f p q out new bytes h.0 h.1 (step_of p.options h.0.tree h.0.indent h.0.mode (follow h.1) (state_of f p)) (by_step f p out h.0 h.1 h.2) h.3 w
 
 failed_by : {N : Type 0} (f : N → Tree) (p q : Printer N) (out : List ℕ) (ts : List Task) (step : Step) → ByStep f p out ts step → ShowsAt f Failed step ts (state_of f p) q → ForWholes f p out (Goes f p.options q out turn.Failed)
 failed_by {N} f p q out ts (Move b pushed u) g h = absurd h
@@ -118,9 +116,9 @@ beginning_less old out new b text p q w =
       p.3 ∙ ap (λ (x : List ℕ). x ++ p.0) w.1 ∙ append_assoc old w.0 p.0,
     )
 
-pub sink_broke : {N : Type 0} (f : N → Tree) (p q : Printer N) (out new : List ℕ) (piece : Piece) → TookNext f p q (Written piece) → AppendsBeginning out new (piece_bytes piece) →
+pub sink_broke : {N : Type 0} (f : N → Tree) (p q : Printer N) (out new : List ℕ) (bytes : List ℕ) → TookWriting f p q bytes → AppendsBeginning out new (bytes) →
     ForWholes f p out (λ whole limit below old. AppendsBeginning old new (bytes_before whole))
-sink_broke {N} f p q out new piece h part = λ whole limit below old l k.
-    let i = went f p q out (out ++ piece_bytes piece) piece h refl whole limit below old l k in
-    beginning_less old out new (piece_bytes piece) (bytes_before whole) part
-    (inside_beginning p.options whole limit below old (stack_of f q.commands.items) (state_of f q) (out ++ piece_bytes piece) i) (k.bytes, k.out_is)
+sink_broke {N} f p q out new bytes h part = λ whole limit below old l k.
+    let i = went f p q out (out ++ bytes) bytes h refl whole limit below old l k in
+    beginning_less old out new (bytes) (bytes_before whole) part
+    (inside_beginning p.options whole limit below old (stack_of f q.commands.items) (state_of f q) (out ++ bytes) i) (k.bytes, k.out_is)

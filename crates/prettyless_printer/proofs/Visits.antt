@@ -12,11 +12,10 @@ use Rattle.prettyless_model.specs.declared.mode.Mode.{Mode}
 use Rattle.prettyless_model.specs.declared.mode.Mode.TheVariants.{Break, Flat}
 use Rattle.prettyless_printer.specs.Stack.{Task, make_task, follow, nodes, stack_of}
 use Rattle.prettyless_printer.specs.Steps.{Step, Move, Stuck, Choose, step_of, union_step, decided_by_metrics, break_step, at_once, owed}
-use Rattle.prettyless_printer.specs.Printing.{state_of, ShowsAt, TookNext}
+use Rattle.prettyless_printer.specs.Printing.{state_of, ShowsAt, TookNext, TookWriting, WritesAt}
 use Rattle.prettyless_printer.specs.Visits.{suffixes, Plain, asked, charges, Rise, Pays, RunPays, Visited}
-use Rattle.prettyless_printer.specs.declared.piece.Piece.{Piece}
 use Rattle.prettyless_printer.specs.declared.printer.Printer.{Printer}
-use Rattle.prettyless_printer.specs.declared.printer.Taken.TheVariants.{Written, Failed, Chosen}
+use Rattle.prettyless_printer.specs.declared.printer.Taken.TheVariants.{Failed, Chosen}
 use Rattle.prettyless_printer.proofs.Stacks.{nodes-append}
 use Rattle.prettyless_printer.proofs.Steps.{LeavesLess, step_less}
 
@@ -147,10 +146,10 @@ stepped {N} f p t ts e plain = (
   λ n l. step_pays p.options t.tree t.indent t.mode (follow ts) (state_of f p) n (nodes ts) (omega (arith, plain.none, ap suffixes e)) plain.pending l,
 )
 
-went_by : {N : Type 0} (f : N → Tree) (p q : Printer N) (piece : Piece) (v w : Visits) (t : Task) (ts : List Task) (step : Step) →
-    OneMore f p t ts v w → Plain f p → Stepped f p t ts step → ShowsAt f (Written piece) step ts (state_of f p) q →
+went_by : {N : Type 0} (f : N → Tree) (p q : Printer N) (bytes : List ℕ) (v w : Visits) (t : Task) (ts : List Task) (step : Step) →
+    OneMore f p t ts v w → Plain f p → Stepped f p t ts step → WritesAt f bytes step ts q →
     Plain f q × Pays (stack_of f p.commands.items) (stack_of f q.commands.items) v w
-went_by {N} f p q piece v w t ts (Move b pushed u) more plain s h =
+went_by {N} f p q bytes v w t ts (Move b pushed u) more plain s h =
     let a = s.1 (size t.tree + nodes ts) (omega arith) in
     let none : owed (state_of f p).pending ≡ 0 = ap owed plain.pending in
     let less : nodes pushed + 1 ≤ size t.tree = omega (arith, s.0, none) in (
@@ -166,8 +165,8 @@ went_by {N} f p q piece v w t ts (Move b pushed u) more plain s h =
             omega (arith, k.2, more.probes, ap (charges n) h.1, charges-append n pushed ts, ap (charges n) more.stack_is);
       },
     )
-went_by {N} f p q piece v w t ts Stuck more plain s h = absurd h
-went_by {N} f p q piece v w t ts (Choose i x y) more plain s h = absurd h
+went_by {N} f p q bytes v w t ts Stuck more plain s h = absurd h
+went_by {N} f p q bytes v w t ts (Choose i x y) more plain s h = absurd h
 
 failed_by : {N : Type 0} (f : N → Tree) (p q : Printer N) (v w : Visits) (t : Task) (ts : List Task) (step : Step) →
     OneMore f p t ts v w → ShowsAt f Failed step ts (state_of f p) q → Pays (stack_of f p.commands.items) (stack_of f q.commands.items) v w
@@ -215,10 +214,10 @@ one_more {N} f p s t rest ts v w more e =
       probes = omega (arith, more.probes, ap (λ (x : Task). asked x.tree (nodes rest)) a, ap (λ (x : List Task). asked t.tree (nodes x)) b);
     }
 
-pub went_pays : {N : Type 0} (f : N → Tree) (p q : Printer N) (piece : Piece) (v w : Visits) (s : Task) (rest : List Task) → OneMore f p s rest v w → TookNext f p q (Written piece) → Plain f p →
+pub went_pays : {N : Type 0} (f : N → Tree) (p q : Printer N) (bytes : List ℕ) (v w : Visits) (s : Task) (rest : List Task) → OneMore f p s rest v w → TookWriting f p q bytes → Plain f p →
     Plain f q × Pays (stack_of f p.commands.items) (stack_of f q.commands.items) v w
-went_pays {N} f p q piece v w s rest more h plain =
-    went_by f p q piece v w h.0 h.1 (step_of p.options h.0.tree h.0.indent h.0.mode (follow h.1) (state_of f p)) (one_more f p s h.0 rest h.1 v w more h.2) plain (stepped f p h.0 h.1 h.2 plain) h.3
+went_pays {N} f p q bytes v w s rest more h plain =
+    went_by f p q bytes v w h.0 h.1 (step_of p.options h.0.tree h.0.indent h.0.mode (follow h.1) (state_of f p)) (one_more f p s h.0 rest h.1 v w more h.2) plain (stepped f p h.0 h.1 h.2 plain) h.3
 
 pub failed_pays : {N : Type 0} (f : N → Tree) (p q : Printer N) (v w : Visits) (s : Task) (rest : List Task) → OneMore f p s rest v w → TookNext f p q Failed → Pays (stack_of f p.commands.items) (stack_of f q.commands.items) v w
 failed_pays {N} f p q v w s rest more h =

@@ -20,10 +20,11 @@ pub struct Printer<N> {
     pub start: usize,
 }
 
-/// What taking up one node asks for: a piece to be written, or a choice between two branches at an indent; or the node
-/// fails.
+/// What taking up one node asks for: nothing, a piece to be written, or a choice between two branches at an indent; or the
+/// node fails.
 #[derive(Drop)]
 pub enum Taken<'v, N> {
+    Quiet,
     Written(Piece<'v>),
     Failed,
     Chosen(usize, N, N),

@@ -234,7 +234,7 @@ fn go_on_with<N: Walk>(
         (Move [] (make_task indent mode (N.tree node) ∷ []) (state_of N.tree printer.old)) printer.old printer.new) }
 {
     push_node(&mut printer.commands, indent, mode, node)?;
-    Ok(Taken::Written(Piece::nothing()))
+    Ok(Taken::Quiet)
 }
 
 // A union in Break: the metrics of its first branch decide, or a trial is asked for.
@@ -279,7 +279,7 @@ pub fn step<'v, N: Walk>(
     let indent = command.indent;
     let mode = command.mode;
     match command.node.view() {
-        View::Nil | View::ExpandParent => Ok(Taken::Written(Piece::nothing())),
+        View::Nil | View::ExpandParent => Ok(Taken::Quiet),
         View::Fail => Ok(Taken::Failed),
         View::Text(s) => Ok(Taken::Written(put_text(printer, s.len(), s))),
         View::TextWithLen(counted, s) => Ok(Taken::Written(put_text(printer, counted, s))),
@@ -289,7 +289,7 @@ pub fn step<'v, N: Walk>(
         },
         View::WeakSpace => {
             printer.column = printer.column.blank();
-            Ok(Taken::Written(Piece::nothing()))
+            Ok(Taken::Quiet)
         }
         View::HardLine => match mode {
             Mode::Break => Ok(Taken::Written(break_line(
@@ -314,7 +314,7 @@ pub fn step<'v, N: Walk>(
         }
         View::LineSuffix(d) => {
             printer.queue.push(d)?;
-            Ok(Taken::Written(Piece::nothing()))
+            Ok(Taken::Quiet)
         }
         View::Nest(offset, d) => go_on_with(printer, nested_indent(indent, offset), mode, d),
         View::DedentToRoot(d) => go_on_with(printer, 0, mode, d),

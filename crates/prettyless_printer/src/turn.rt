@@ -42,6 +42,7 @@ pub fn turn<N: Walk, W: Render>(
     visits.printer = one_more(visits.printer);
     match step(printer, &command, &mut visits.probes) {
         Err(e) => Err(RenderError::Memory(e)),
+        Ok(Taken::Quiet) => Ok(Turn::Went),
         Ok(Taken::Failed) => Ok(Turn::Failed),
         Ok(Taken::Chosen(indent, first, second)) => Ok(Turn::Chosen(indent, first, second)),
         Ok(Taken::Written(piece)) => match write_piece(out, piece) {

@@ -1,6 +1,7 @@
-use Rattle.std.proofs.Common.{length, ap, arith, refl, subst}
+use Rattle.std.proofs.Common.{[], length, ap, append-nil, arith, refl, subst, sym}
 use Rattle.prettyless_sink.specs.declared.visits.Visits.{Visits}
 use Rattle.prettyless_printer.specs.Stack.{stack_of, task}
+use Rattle.prettyless_printer.specs.Piece.{piece_bytes}
 use Rattle.prettyless_printer.specs.Printing.{TookNext}
 use Rattle.prettyless_printer.proofs.Stacks.{length-stack_of}
 use Rattle.prettyless_printer.proofs.Shown.{took}
@@ -85,6 +86,15 @@ returns-in-Ok-clause-options g c =
     let h = subst (TookNext f p q) c.in-Ok-Written.field-0-is k in
     h.4
 
+pub returns-in-Ok-Quiet-clause-options : goal.returns-in-Ok-Quiet-clause-options
+returns-in-Ok-Quiet-clause-options g c =
+    let f = g.N.Walk.tree in
+    let p = c.args.printer.now in
+    let q = c.step.new.printer in
+    let k = took f p (record p { commands = c.pop_command.new.stack }) q c.in-Some.command c.in-Ok-Quiet.field-0 c.in-Some.ensures refl refl refl c.in-Ok-Quiet.ensures.step in
+    let h = subst (TookNext f p q) c.in-Ok-Quiet.field-0-is k in
+    h.4
+
 pub returns-in-Ok-clause-grows : goal.returns-in-Ok-clause-grows
 returns-in-Ok-clause-grows g c =
     let f = g.N.Walk.tree in
@@ -94,6 +104,15 @@ returns-in-Ok-clause-grows g c =
     let h = subst (TookNext f p q) c.in-Ok-Written.field-0-is k in
     h.5
 
+pub returns-in-Ok-Quiet-clause-grows : goal.returns-in-Ok-Quiet-clause-grows
+returns-in-Ok-Quiet-clause-grows g c =
+    let f = g.N.Walk.tree in
+    let p = c.args.printer.now in
+    let q = c.step.new.printer in
+    let k = took f p (record p { commands = c.pop_command.new.stack }) q c.in-Some.command c.in-Ok-Quiet.field-0 c.in-Some.ensures refl refl refl c.in-Ok-Quiet.ensures.step in
+    let h = subst (TookNext f p q) c.in-Ok-Quiet.field-0-is k in
+    h.5
+
 pub returns-in-Ok-clause-lessens : goal.returns-in-Ok-clause-lessens
 returns-in-Ok-clause-lessens g c =
     let f = g.N.Walk.tree in
@@ -101,7 +120,16 @@ returns-in-Ok-clause-lessens g c =
     let q = c.step.new.printer in
     let k = took f p (record p { commands = c.pop_command.new.stack }) q c.in-Some.command c.in-Ok-Written.field-0 c.in-Some.ensures refl refl refl c.in-Ok-Written.ensures.step in
     let h = subst (TookNext f p q) c.in-Ok-Written.field-0-is k in
-    lessens f p q c.in-Ok-Written.piece h
+    lessens f p q (piece_bytes c.in-Ok-Written.piece) h
+
+pub returns-in-Ok-Quiet-clause-lessens : goal.returns-in-Ok-Quiet-clause-lessens
+returns-in-Ok-Quiet-clause-lessens g c =
+    let f = g.N.Walk.tree in
+    let p = c.args.printer.now in
+    let q = c.step.new.printer in
+    let k = took f p (record p { commands = c.pop_command.new.stack }) q c.in-Some.command c.in-Ok-Quiet.field-0 c.in-Some.ensures refl refl refl c.in-Ok-Quiet.ensures.step in
+    let h = subst (TookNext f p q) c.in-Ok-Quiet.field-0-is k in
+    lessens f p q [] h
 
 pub returns-in-Ok-clause-told : goal.returns-in-Ok-clause-told
 returns-in-Ok-clause-told g c =
@@ -112,7 +140,17 @@ returns-in-Ok-clause-told g c =
     let h = subst (TookNext f p q) c.in-Ok-Written.field-0-is k in
     λ told.
     let e = c.in-Ok.ensures.ok told in
-    (e.0, (went f p q (g.W.Render.written c.args.out.now) (g.W.Render.written c.write_piece.new.out) c.in-Ok-Written.piece h e.1, e.2))
+    (e.0, (went f p q (g.W.Render.written c.args.out.now) (g.W.Render.written c.write_piece.new.out) (piece_bytes c.in-Ok-Written.piece) h e.1, e.2))
+
+pub returns-in-Ok-Quiet-clause-told : goal.returns-in-Ok-Quiet-clause-told
+returns-in-Ok-Quiet-clause-told g c =
+    let f = g.N.Walk.tree in
+    let p = c.args.printer.now in
+    let q = c.step.new.printer in
+    let k = took f p (record p { commands = c.pop_command.new.stack }) q c.in-Some.command c.in-Ok-Quiet.field-0 c.in-Some.ensures refl refl refl c.in-Ok-Quiet.ensures.step in
+    let h = subst (TookNext f p q) c.in-Ok-Quiet.field-0-is k in
+    let out = g.W.Render.written c.args.out.now in
+    λ told. (told, (went f p q out out [] h (sym (append-nil out)), refl))
 
 pub returns-in-Err-write_piece-clause-told : goal.returns-in-Err-write_piece-clause-told
 returns-in-Err-write_piece-clause-told g c =
@@ -123,7 +161,7 @@ returns-in-Err-write_piece-clause-told g c =
     let h = subst (TookNext f p q) c.in-Ok-Written.field-0-is k in
     λ told.
     let e = c.in-Err-write_piece.ensures.err told in
-    (e.0, (sink_broke f p q (g.W.Render.written c.args.out.now) (g.W.Render.written c.write_piece.new.out) c.in-Ok-Written.piece h e.1, e.2))
+    (e.0, (sink_broke f p q (g.W.Render.written c.args.out.now) (g.W.Render.written c.write_piece.new.out) (piece_bytes c.in-Ok-Written.piece) h e.1, e.2))
 
 pub returns-in-Ok-Chosen-clause-pays : goal.returns-in-Ok-Chosen-clause-pays
 returns-in-Ok-Chosen-clause-pays g c =
@@ -147,7 +185,19 @@ returns-in-Ok-clause-pays g c =
     let k = took f p (record p { commands = c.pop_command.new.stack }) q c.in-Some.command c.in-Ok-Written.field-0 c.in-Some.ensures refl refl refl c.in-Ok-Written.ensures.step in
     let h = subst (TookNext f p q) c.in-Ok-Written.field-0-is k in
     let more : OneMore f p (task f c.in-Some.command) rest c.args.visits.now w = record { stack_is = c.in-Some.ensures; printer = c.one_more-visits.ensures.at_most; probes = c.step.ensures.counted } in
-    went_pays f p q c.in-Ok-Written.piece c.args.visits.now w (task f c.in-Some.command) rest more h
+    went_pays f p q (piece_bytes c.in-Ok-Written.piece) c.args.visits.now w (task f c.in-Some.command) rest more h
+
+pub returns-in-Ok-Quiet-clause-pays : goal.returns-in-Ok-Quiet-clause-pays
+returns-in-Ok-Quiet-clause-pays g c =
+    let f = g.N.Walk.tree in
+    let p = c.args.printer.now in
+    let q = c.step.new.printer in
+    let rest = stack_of f c.pop_command.new.stack.items in
+    let w : Visits = record { printer = c.one_more-visits.result; probes = c.step.new.probes } in
+    let k = took f p (record p { commands = c.pop_command.new.stack }) q c.in-Some.command c.in-Ok-Quiet.field-0 c.in-Some.ensures refl refl refl c.in-Ok-Quiet.ensures.step in
+    let h = subst (TookNext f p q) c.in-Ok-Quiet.field-0-is k in
+    let more : OneMore f p (task f c.in-Some.command) rest c.args.visits.now w = record { stack_is = c.in-Some.ensures; printer = c.one_more-visits.ensures.at_most; probes = c.step.ensures.counted } in
+    went_pays f p q [] c.args.visits.now w (task f c.in-Some.command) rest more h
 
 pub returns-in-Ok-Failed-clause-pays : goal.returns-in-Ok-Failed-clause-pays
 returns-in-Ok-Failed-clause-pays g c =
@@ -201,4 +251,16 @@ returns-in-Ok-clause-meets g c =
     let k = took f p (record p { commands = c.pop_command.new.stack }) q c.in-Some.command c.in-Ok-Written.field-0 c.in-Some.ensures refl refl refl c.in-Ok-Written.ensures.step in
     let h = subst (TookNext f p q) c.in-Ok-Written.field-0-is k in
     let one : OneLaid f p (task f c.in-Some.command) rest c.args.visits.now w = record { stack_is = c.in-Some.ensures; printer = c.one_more-visits.ensures.one; probes = c.in-Ok-Written.ensures.asked } in
-    went_meets f p q c.in-Ok-Written.piece c.args.visits.now w (task f c.in-Some.command) rest one h
+    went_meets f p q (piece_bytes c.in-Ok-Written.piece) c.args.visits.now w (task f c.in-Some.command) rest one h
+
+pub returns-in-Ok-Quiet-clause-meets : goal.returns-in-Ok-Quiet-clause-meets
+returns-in-Ok-Quiet-clause-meets g c =
+    let f = g.N.Walk.tree in
+    let p = c.args.printer.now in
+    let q = c.step.new.printer in
+    let rest = stack_of f c.pop_command.new.stack.items in
+    let w : Visits = record { printer = c.one_more-visits.result; probes = c.step.new.probes } in
+    let k = took f p (record p { commands = c.pop_command.new.stack }) q c.in-Some.command c.in-Ok-Quiet.field-0 c.in-Some.ensures refl refl refl c.in-Ok-Quiet.ensures.step in
+    let h = subst (TookNext f p q) c.in-Ok-Quiet.field-0-is k in
+    let one : OneLaid f p (task f c.in-Some.command) rest c.args.visits.now w = record { stack_is = c.in-Some.ensures; printer = c.one_more-visits.ensures.one; probes = c.in-Ok-Quiet.ensures.asked } in
+    went_meets f p q [] c.args.visits.now w (task f c.in-Some.command) rest one h
