@@ -43,6 +43,7 @@ impl<'a> MultilineTextData<'a> {
 
     /// The metrics of the source. They are measured anew only where a part is 2^32 columns wide or
     /// more.
+    #[inline(always)]
     pub fn metrics(&self) -> Metrics
         ensures { result ≡ metrics (payload_bytes self.now) }
     {

@@ -238,6 +238,7 @@ fn go_on_with<N: Walk>(
 }
 
 // A union in Break: the metrics of its first branch decide, or a trial is asked for.
+#[inline(always)]
 fn union<N: Walk>(
     printer: &mut Printer<N>,
     indent: usize,
