@@ -4,12 +4,17 @@ use Rattle.std.proofs.lemmas.List.{take_all, take_more, drop_at, take-append-dro
 use Rattle.prettyless_model.specs.Tree.{Tree}
 use Rattle.prettyless_model.specs.Reading.{Atom}
 use Rattle.prettyless_model.specs.Layout.{Entry, entry, next_indent}
-use Rattle.prettyless_printer.specs.Stack.{Task, task, stack_of, follow, nodes}
+use Rattle.prettyless_printer.specs.Stack.{Task, make_task, task, stack_of, unread, follow, nodes}
 use Rattle.prettyless_printer.specs.declared.command.Command.{Command}
+use Rattle.prettyless_printer.specs.declared.unread.Unread.{Unread}
 
 pub stack_of_push : {N : Type 0} (f : N → Tree) (cs : List (Command N)) (c : Command N) → stack_of f (cs ++ c ∷ []) ≡ task f c ∷ stack_of f cs
 stack_of_push f [] c = refl
 stack_of_push f (d ∷ cs) c = ap (λ (x : List Task). x ++ task f d ∷ []) (stack_of_push f cs c)
+
+pub unread_push : {N : Type 0} (f : N → Tree) (rs : List (Unread N)) (r : Unread N) → unread f (rs ++ r ∷ []) ≡ make_task 0 r.mode (f r.node) ∷ unread f rs
+unread_push f [] r = refl
+unread_push f (s ∷ rs) r = ap (λ (x : List Task). x ++ make_task 0 s.mode (f s.node) ∷ []) (unread_push f rs r)
 
 -- two readings, before more
 pub reading_more : (xs ys zs ws : List Atom) → (xs ++ ys) ++ (zs ++ ws) ≡ (xs ++ (ys ++ zs)) ++ ws

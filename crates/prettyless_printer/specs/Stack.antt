@@ -5,6 +5,7 @@ use Rattle.prettyless_model.specs.Reading.{Atom, reading}
 use Rattle.prettyless_model.specs.Layout.{Entry, entry}
 use Rattle.prettyless_model.specs.declared.mode.Mode.{Mode}
 use Rattle.prettyless_printer.specs.declared.command.Command.{Command}
+use Rattle.prettyless_printer.specs.declared.unread.Unread.{Unread}
 
 -- a tree to be laid, with its indent and mode
 pub record Task : Type 0 where
@@ -24,6 +25,11 @@ task f c = make_task c.indent c.mode (f c.node)
 abbrev pub stack_of : {N : Type 0} → (N → Tree) → List (Command N) → List Task
 stack_of f [] = []
 stack_of f (c ∷ cs) = stack_of f cs ++ task f c ∷ []
+
+-- the tasks of a list of nodes that are still to be read, the last node first
+abbrev pub unread : {N : Type 0} → (N → Tree) → List (Unread N) → List Task
+unread f [] = []
+unread f (r ∷ rs) = unread f rs ++ make_task 0 r.mode (f r.node) ∷ []
 
 -- the tasks of trees at one indent in one mode
 abbrev pub tasks : ℕ → Mode → List Tree → List Task

@@ -16,4 +16,5 @@ pub mod stack;
 pub mod step;
 pub mod trial;
 pub mod turn;
+pub mod unread;
 pub mod walk;

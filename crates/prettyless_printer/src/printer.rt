@@ -1,6 +1,7 @@
 //! The printer's state, and what steps and turns answer.
 use crate::command::Command;
 use crate::piece::Piece;
+use crate::unread::Unread;
 use prettyless_model::column::Column;
 use prettyless_sink::options::RenderOptions;
 
@@ -14,7 +15,7 @@ pub struct Printer<N> {
     /// The commands that are left, the next one last.
     pub commands: Vec<Command<N>>,
     /// The probe's own list of work, kept for its memory.
-    pub scratch: Vec<Command<N>>,
+    pub scratch: Vec<Unread<N>>,
     /// The line suffixes that were met, the oldest first: those from `start` on are pending.
     pub queue: Vec<N>,
     pub start: usize,

@@ -5,11 +5,11 @@ ghost use Rattle.prettyless_model.specs.Column.{padding_fits};
 ghost use Rattle.prettyless_model.specs.Reading.{Atom, Payload, Stop, Weak, by_mode, fits, ink_of, reading};
 ghost use Rattle.prettyless_model.specs.Layout.{rest_atoms};
 ghost use Rattle.prettyless_printer.specs.Probing.{ReadsAs, nodes_next, read_of};
-ghost use Rattle.prettyless_printer.specs.Stack.{AnswersAs, follow, nodes, read_tasks, stack_of};
+ghost use Rattle.prettyless_printer.specs.Stack.{AnswersAs, follow, nodes, read_tasks, stack_of, unread};
 ghost use Rattle.prettyless_printer.specs.Meets.{RisesBy};
 
 use crate::command::Command;
-use crate::stack::{pop_command, push_node};
+use crate::unread::{Unread, pop_unread, push_unread};
 use crate::walk::{View, Walk};
 use prettyless_model::column::Column;
 use prettyless_model::metrics::Metrics;
@@ -112,14 +112,14 @@ fn probe_one<N: Walk>(
     line: &mut Line,
     mode: Mode,
     node: N,
-    stack: &mut Vec<Command<N>>,
+    stack: &mut Vec<Unread<N>>,
 ) -> Result<Read<N>, AllocError>
     ensures answer { IfOk result (λ a. (more : List Atom) → ReadsAs N.tree a
         (fits width line.old.column line.old.pending
-        (reading (N.tree node) mode ++ (read_tasks (stack_of N.tree stack.old.items) ++ more)))
-        (λ atoms. fits width line.new.column line.new.pending (atoms ++ (read_tasks (stack_of N.tree stack.new.items) ++ more)))) }
+        (reading (N.tree node) mode ++ (read_tasks (unread N.tree stack.old.items) ++ more)))
+        (λ atoms. fits width line.new.column line.new.pending (atoms ++ (read_tasks (unread N.tree stack.new.items) ++ more)))) }
     ensures smaller { IfOk result (λ a.
-        nodes_next N.tree a + nodes (stack_of N.tree stack.new.items) < size (N.tree node) + nodes (stack_of N.tree stack.old.items)) }
+        nodes_next N.tree a + nodes (unread N.tree stack.new.items) < size (N.tree node) + nodes (unread N.tree stack.old.items)) }
 {
     match node.view() {
         View::Nil => Ok(Read::Done),
@@ -144,7 +144,7 @@ fn probe_one<N: Walk>(
             Mode::Flat => Ok(Read::Answer(false)),
         },
         View::Append(first, second) => {
-            push_node(stack, 0, mode, second)?;
+            push_unread(stack, mode, second)?;
             Ok(Read::Next(mode, first))
         }
         View::Nest(_, inner) => Ok(Read::Next(mode, inner)),
@@ -160,35 +160,33 @@ fn probe_one<N: Walk>(
 
 // The next node that the probe reads: one of its own, and then the printer's commands downwards, each in Break.
 #[tactic(auto, using(crate::proofs::Stacks::below_steps))]
-fn next_command<N: Walk>(
+fn next_unread<N: Walk>(
     commands: &[Command<N>],
     below: &mut usize,
-    stack: &mut Vec<Command<N>>,
-) -> Option<Command<N>>
+    stack: &mut Vec<Unread<N>>,
+) -> Option<Unread<N>>
     requires { below.old ≤ length commands.now }
     ensures within { below.new ≤ length commands.now }
     ensures ahead { MatchOption result
-        (read_tasks (stack_of N.tree stack.old.items) ++ rest_atoms (follow (stack_of N.tree (take below.old commands.now))) ≡ [])
-        (λ c. read_tasks (stack_of N.tree stack.old.items) ++ rest_atoms (follow (stack_of N.tree (take below.old commands.now)))
+        (read_tasks (unread N.tree stack.old.items) ++ rest_atoms (follow (stack_of N.tree (take below.old commands.now))) ≡ [])
+        (λ c. read_tasks (unread N.tree stack.old.items) ++ rest_atoms (follow (stack_of N.tree (take below.old commands.now)))
         ≡ reading (N.tree c.node) c.mode
-        ++ (read_tasks (stack_of N.tree stack.new.items) ++ rest_atoms (follow (stack_of N.tree (take below.new commands.now))))) }
+        ++ (read_tasks (unread N.tree stack.new.items) ++ rest_atoms (follow (stack_of N.tree (take below.new commands.now))))) }
     ensures left { IfSome result
-        (λ c. nodes (stack_of N.tree stack.old.items) + nodes (stack_of N.tree (take below.old commands.now))
-        ≡ size (N.tree c.node) + (nodes (stack_of N.tree stack.new.items) + nodes (stack_of N.tree (take below.new commands.now)))) }
-    ensures own_first { MatchOption result (nodes (stack_of N.tree stack.old.items) ≡ 0) (λ _. ⊤) }
+        (λ c. nodes (unread N.tree stack.old.items) + nodes (stack_of N.tree (take below.old commands.now))
+        ≡ size (N.tree c.node) + (nodes (unread N.tree stack.new.items) + nodes (stack_of N.tree (take below.new commands.now)))) }
+    ensures own_first { MatchOption result (nodes (unread N.tree stack.old.items) ≡ 0) (λ _. ⊤) }
 {
-    if let Some(command) = pop_command(stack) {
-        return Some(command);
+    if let Some(next) = pop_unread(stack) {
+        return Some(next);
     }
     if *below == 0 {
         return None;
     }
     *below -= 1;
-    let next = commands[*below];
-    Some(Command {
-        indent: next.indent,
+    Some(Unread {
         mode: Mode::Break,
-        node: next.node,
+        node: commands[*below].node,
     })
 }
 
@@ -202,7 +200,7 @@ pub fn probe<N: Walk>(
     node: N,
     mode: Mode,
     commands: &[Command<N>],
-    stack: &mut Vec<Command<N>>,
+    stack: &mut Vec<Unread<N>>,
     probes: &mut u64,
 ) -> Result<bool, AllocError>
     ensures answer { IfOk result
@@ -225,11 +223,11 @@ pub fn probe<N: Walk>(
                 node = next;
             }
             Read::Done => {
-                let Some(command) = next_command(commands, &mut below, stack) else {
+                let Some(next) = next_unread(commands, &mut below, stack) else {
                     return Ok(line.column.padding_fits(width, line.pending));
                 };
-                mode = command.mode;
-                node = command.node;
+                mode = next.mode;
+                node = next.node;
             }
         }
     }
