@@ -1,10 +1,14 @@
 //! Each call of a builder once, with ample memory.
 use crate::expected::shows;
 use prettyless::prelude::*;
-use prettyless::text::CowStr;
-use prettyless::{BuildDoc, Doc};
+use prettyless::text::{BuildError, CowStr};
+use prettyless::{BuildDoc, Doc, DocBuilder};
 use std::process::Abort;
 use std::test::Fail;
+
+fn line<'a, D: DocPlace<'a>>(place: &'a D) -> DocBuilder<'a, D> {
+    DocBuilder::new(place, Doc::HardLine)
+}
 
 pub(crate) fn sums<'a, D: DocPlace<'a>>(rt: &impl Abort, place: &'a D) -> Result<(), Fail> {
     shows(rt, place.hard_line()?.append("a"), "[HardLine, \"a\"]")?;
@@ -14,10 +18,8 @@ pub(crate) fn sums<'a, D: DocPlace<'a>>(rt: &impl Abort, place: &'a D) -> Result
 }
 
 pub(crate) fn joins<'a, D: DocPlace<'a>>(rt: &impl Abort, place: &'a D) -> Result<(), Fail> {
-    let line = place.hard_line()?;
-    shows(rt, place.space()?.join(line), "[\" \", HardLine]")?;
-    let line = place.hard_line()?;
-    shows(rt, place.nil()?.join(line), "HardLine")
+    shows(rt, place.space()?.join(line(place)), "[\" \", HardLine]")?;
+    shows(rt, place.nil()?.join(line(place)), "HardLine")
 }
 
 pub(crate) fn repeats<'a, D: DocPlace<'a>>(rt: &impl Abort, place: &'a D) -> Result<(), Fail> {
@@ -73,11 +75,13 @@ pub(crate) fn flat<'a, D: DocPlace<'a>>(rt: &impl Abort, place: &'a D) -> Result
     shows(rt, place.hard_line()?.flatten(), "Fail")
 }
 
+fn payload<'a, D: DocPlace<'a>>(place: &'a D) -> Result<DocBuilder<'a, D>, BuildError> {
+    place.multiline_text(CowStr::Borrowed("a\n"))
+}
+
 pub(crate) fn payloads<'a, D: DocPlace<'a>>(rt: &impl Abort, place: &'a D) -> Result<(), Fail> {
-    let payload = place.multiline_text(CowStr::Borrowed("a\n"))?;
-    shows(rt, payload.group(), "MultilineText(\"a\\n\")")?;
-    let payload = place.multiline_text(CowStr::Borrowed("a\n"))?;
-    shows(rt, payload.flatten(), "Fail")
+    shows(rt, payload(place)?.group(), "MultilineText(\"a\\n\")")?;
+    shows(rt, payload(place)?.flatten(), "Fail")
 }
 
 pub(crate) fn suffixes<'a, D: DocPlace<'a>>(rt: &impl Abort, place: &'a D) -> Result<(), Fail> {
@@ -105,6 +109,14 @@ pub(crate) fn brackets<'a, D: DocPlace<'a>>(rt: &impl Abort, place: &'a D) -> Re
     )
 }
 
+// A space, or else `second`.
+fn space_or<'a, D: DocPlace<'a>>(
+    place: &'a D,
+    second: BuildDoc<'a, D::Doc>,
+) -> Result<DocBuilder<'a, D>, BuildError> {
+    DocBuilder::new(place, Doc::space()).union(second)
+}
+
 // Documents once more, as nodes, in the making and with a builder.
 pub(crate) fn copies<'a, D: DocPlace<'a>>(rt: &impl Abort, place: &'a D) -> Result<(), Fail> {
     let line = place.hard_line()?.nest(2)?;
@@ -112,7 +124,7 @@ pub(crate) fn copies<'a, D: DocPlace<'a>>(rt: &impl Abort, place: &'a D) -> Resu
     drop(line);
     shows(rt, copy, "Nest(2, HardLine)")?;
     let line = BuildDoc::Doc(Doc::HardLine).clone(place)?;
-    shows(rt, place.space()?.union(line), "Union(\" \", HardLine)")?;
+    shows(rt, space_or(place, line), "Union(\" \", HardLine)")?;
     let line = BuildDoc::Doc(Doc::WeakLine.clone(place)?);
-    shows(rt, place.space()?.union(line), "Union(\" \", WeakLine)")
+    shows(rt, space_or(place, line), "Union(\" \", WeakLine)")
 }

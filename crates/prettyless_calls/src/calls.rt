@@ -102,20 +102,25 @@ fn text_of<'d, T>(node: &'d Doc<'_, T>) -> Option<&'d str> {
     }
 }
 
-// A long gap is a chain to the left.
-pub(crate) fn chains<'a, D: DocPlace<'a>>(rt: &impl Abort, place: &'a D) -> Result<(), Fail> {
-    let hundred = format!(in place.memory(); "{:100}", "")?;
-    let gap = place.spaces(205)?;
-    let Doc::Append(front, last) = gap.doc() else {
+// Two texts of this one and five spaces, in a chain to the left.
+fn chain<'a, T: DocPtr<'a>>(rt: &impl Abort, gap: &Doc<'a, T>, hundred: &str) -> Result<(), Fail> {
+    let Doc::Append(front, last) = gap else {
         return Err(Fail::from("no chain"));
     };
     let Doc::Append(first, second) = front.doc() else {
         return Err(Fail::from("no chain to the left"));
     };
-    assert_eq!(rt; text_of(first.doc()), Some(hundred.as_str()));
-    assert_eq!(rt; text_of(second.doc()), Some(hundred.as_str()));
+    assert_eq!(rt; text_of(first.doc()), Some(hundred));
+    assert_eq!(rt; text_of(second.doc()), Some(hundred));
     assert_eq!(rt; text_of(last.doc()), Some("     "));
     Ok(())
+}
+
+// A long gap is a chain to the left.
+pub(crate) fn chains<'a, D: DocPlace<'a>>(rt: &impl Abort, place: &'a D) -> Result<(), Fail> {
+    let hundred = format!(in place.memory(); "{:100}", "")?;
+    let gap = place.spaces(205)?;
+    chain(rt, gap.doc(), hundred.as_str())
 }
 
 // Documents in the making, and what places them.

@@ -2,7 +2,8 @@
 use crate::expected::{becomes, shows};
 use bumpalo::Bump;
 use prettyless::prelude::*;
-use prettyless::{Arena, BoxAllocator, BoxDoc, BuildDoc, Doc, DocPtr, RcAllocator, docs};
+use prettyless::{Arena, BoxAllocator, BuildDoc, Doc, DocBuilder, DocPtr, RcAllocator, docs};
+use std::alloc::Global;
 use std::process::Abort;
 use std::test::Fail;
 
@@ -64,21 +65,33 @@ fn all<'a, D: DocPlace<'a, Doc = T>, T: DocPtr<'a> + Pretty<'a, D>>(
     of_values(rt, place)
 }
 
-#[test]
-fn pointers_are_documents(rt: HostRuntime) -> Result<(), Fail> {
-    let boxes = BoxAllocator::new(rt.alloc());
-    all(&rt, &boxes)?;
-    let nodes = RcAllocator::new(rt.alloc());
-    all(&rt, &nodes)?;
-    let bump = Bump::new(rt.alloc());
-    let arena = Arena::new(rt.alloc(), &bump);
-    all(&rt, &arena)
+fn of_boxes(rt: &impl Abort, memory: Global) -> Result<(), Fail> {
+    let boxes = BoxAllocator::new(memory);
+    all(rt, &boxes)
 }
 
-fn nodes<'a>(rt: &impl Abort, boxes: &'a BoxAllocator) -> Result<(), Fail> {
-    becomes(rt, boxes, Doc::HardLine, "HardLine")?;
-    becomes(rt, boxes, BuildDoc::Doc(Doc::HardLine), "HardLine")?;
-    becomes(rt, boxes, boxes.hard_line()?, "HardLine")
+fn of_counted_nodes(rt: &impl Abort, memory: Global) -> Result<(), Fail> {
+    let nodes = RcAllocator::new(memory);
+    all(rt, &nodes)
+}
+
+fn of_arenas(rt: &impl Abort, memory: Global) -> Result<(), Fail> {
+    let bump = Bump::new(memory);
+    let arena = Arena::new(memory, &bump);
+    all(rt, &arena)
+}
+
+#[test]
+fn pointers_are_documents(rt: HostRuntime) -> Result<(), Fail> {
+    of_boxes(&rt, rt.alloc())?;
+    of_counted_nodes(&rt, rt.alloc())?;
+    of_arenas(&rt, rt.alloc())
+}
+
+fn nodes<'a, D: DocPlace<'a>>(rt: &impl Abort, place: &'a D) -> Result<(), Fail> {
+    shows(rt, Doc::HardLine.pretty(place), "HardLine")?;
+    shows(rt, BuildDoc::Doc(Doc::HardLine).pretty(place), "HardLine")?;
+    shows(rt, place.hard_line()?.pretty(place), "HardLine")
 }
 
 #[test]
@@ -87,28 +100,44 @@ fn nodes_are_documents(rt: HostRuntime) -> Result<(), Fail> {
     nodes(&rt, &boxes)
 }
 
-fn places<'a>(
+fn places<'a, D: DocPlace<'a>>(
     rt: &impl Abort,
-    boxes: &'a BoxAllocator,
-    made: BuildDoc<'a, BoxDoc<'a>>,
+    place: &'a D,
+    made: BuildDoc<'a, D::Doc>,
     shown: &str,
 ) -> Result<(), Fail> {
-    becomes(rt, boxes, made, shown)
+    shows(rt, made.pretty(place), shown)
+}
+
+fn converts<'a, D: DocPlace<'a>>(
+    rt: &impl Abort,
+    place: &'a D,
+    built: DocBuilder<'a, D>,
+    shown: &str,
+) -> Result<(), Fail> {
+    places(rt, place, BuildDoc::from(built), shown)
 }
 
 // Documents in the making, by default and of what they are made of.
+fn others<'a, D: DocPlace<'a>>(rt: &impl Abort, place: &'a D) -> Result<(), Fail> {
+    places(rt, place, BuildDoc::Doc(Doc::default()), "Nil")?;
+    places(rt, place, BuildDoc::default(), "Nil")?;
+    places(rt, place, BuildDoc::from(Doc::HardLine), "HardLine")?;
+    converts(rt, place, place.hard_line()?, "HardLine")
+}
+
+fn placed<'a, D: DocPlace<'a>>(rt: &impl Abort, place: &'a D) -> Result<(), Fail>
+where
+    BuildDoc<'a, D::Doc>: From<D::Doc>,
+{
+    let line = BuildDoc::from(place.alloc(Doc::HardLine)?);
+    places(rt, place, line, "HardLine")
+}
+
 #[test]
 fn documents_of_others(rt: HostRuntime) -> Result<(), Fail> {
     let boxes = BoxAllocator::new(rt.alloc());
-    places(&rt, &boxes, BuildDoc::Doc(Doc::default()), "Nil")?;
-    places(&rt, &boxes, BuildDoc::default(), "Nil")?;
-    places(&rt, &boxes, BuildDoc::from(Doc::HardLine), "HardLine")?;
-    places(&rt, &boxes, BuildDoc::from(boxes.hard_line()?), "HardLine")?;
-    places(
-        &rt,
-        &boxes,
-        BuildDoc::from(boxes.alloc(Doc::HardLine)?),
-        "HardLine",
-    )?;
+    others(&rt, &boxes)?;
+    placed(&rt, &boxes)?;
     places(&rt, &boxes, BuildDoc::from(Some(Doc::HardLine)), "HardLine")
 }

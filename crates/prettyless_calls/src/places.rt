@@ -123,7 +123,7 @@ fn arenas(rt: HostRuntime) -> Result<(), Fail> {
 }
 
 // A place by reference is the same place: nodes are put there, and copied.
-fn lend<'a, D: DocPlace<'a>>(rt: &impl Abort, place: &'a D) -> Result<(), Fail>
+fn lend<'a, D: DocPlace<'a>>(rt: &impl Abort, place: &'a &'a D) -> Result<(), Fail>
 where
     D::Doc: fmt::Debug,
 {

@@ -3,7 +3,9 @@ use crate::expected::{points, rendered};
 use bumpalo::Bump;
 use prettyless::prelude::*;
 use prettyless::text::{BuildError, CowStr};
-use prettyless::{Arena, BoxAllocator, BoxDoc, BuildDoc, Doc, DocPtr, IntoRef, RcAllocator, RcDoc};
+use prettyless::{
+    Arena, BoxAllocator, BoxDoc, BuildDoc, Doc, DocBuilder, DocPtr, IntoRef, RcAllocator, RcDoc,
+};
 use std::alloc::Global;
 use std::fmt;
 use std::process::Abort;
@@ -92,14 +94,20 @@ pub(crate) fn sequences<'a, D: DocPlace<'a, Doc = T>, T: DocPtr<'a> + fmt::Debug
 
 const LAYOUT: &str = "an owned text of more than 22 bytes\n  one\ntwo";
 
+fn text<'a, D: DocPlace<'a>>(place: &'a D) -> Result<DocBuilder<'a, D>, BuildError> {
+    let text = String::from_str(place.memory(), "an owned text of more than 22 bytes")?;
+    place.text(CowStr::Owned(text))
+}
+
+fn payload<'a, D: DocPlace<'a>>(place: &'a D) -> Result<DocBuilder<'a, D>, BuildError> {
+    let payload = String::from_str(place.memory(), "one\ntwo")?;
+    place.multiline_text(CowStr::Owned(payload))
+}
+
 // A tree with an owned text and an owned payload.
 fn tree<'a, D: DocPlace<'a>>(place: &'a D) -> Result<D::Doc, BuildError> {
-    let text = String::from_str(place.memory(), "an owned text of more than 22 bytes")?;
-    let payload = String::from_str(place.memory(), "one\ntwo")?;
-    let text = place.text(CowStr::Owned(text))?;
-    let payload = place.multiline_text(CowStr::Owned(payload))?;
-    let lines = text.join(place.hard_line()?)?.join(payload)?;
-    lines.nest(2)?.into_doc()
+    let lines = text(place)?.append(hard_line())?;
+    lines.join(payload(place)?)?.nest(2)?.into_doc()
 }
 
 fn compare<'a, T: DocPtr<'a>>(rt: &impl Abort, memory: Global, document: &T) -> Result<(), Fail> {
@@ -133,8 +141,12 @@ fn counted_nodes_are_cloned(rt: HostRuntime) -> Result<(), Fail> {
     points(&rt, rt.alloc(), copy, "HardLine")
 }
 
+fn ends<'a, B: IntoRef<'a>>(rt: &impl Abort, memory: Global, line: B) -> Result<(), Fail> {
+    points(rt, memory, line.into_ref(), "LineOrSpace")
+}
+
 fn lent<'a>(rt: &impl Abort, memory: Global, arena: &'a Arena<'a>) -> Result<(), Fail> {
-    points(rt, memory, arena.line()?.into_ref(), "LineOrSpace")
+    ends(rt, memory, arena.line()?)
 }
 
 #[test]
