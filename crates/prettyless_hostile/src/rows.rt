@@ -1,7 +1,7 @@
 //! Documents, and what a sink has of each that takes all.
-use prettyless::BoxDoc;
 use prettyless::prelude::*;
 use prettyless::text::{BuildError, CowStr};
+use prettyless::{BoxAllocator, BoxDoc};
 
 // A document, and what comes of it.
 #[derive(Drop)]
@@ -31,47 +31,63 @@ fn whole<'a, D: DocPlace<'a>, P: Pretty<'a, D>>(
     })
 }
 
-fn spaces_and_suffixes<'a, D: DocPlace<'a>>(
-    place: &'a D,
-) -> Result<Vec<Row<'a, D::Doc>>, BuildError> {
-    let mut rows = Vec::new(place.memory());
+// Lines in a nest, of which one is empty.
+fn indented<'a, D: DocPlace<'a>>(place: &'a D) -> Result<Row<'a, D::Doc>, BuildError> {
     let indented = nest(2, ("aaa", hard_line(), hard_line(), "bbb"));
-    rows.push(whole(place, 80, indented, "aaa\n  \n  bbb")?)?;
-    let apart = ("a", weak_space(), "b");
-    rows.push(whole(place, 80, apart, "a b")?)?;
-    rows.push(whole(place, 80, "ab", "ab")?)?;
-    let nested = ("a", line_suffix(("x", line_suffix("y"))), hard_line(), "b");
-    rows.push(whole(place, 80, nested, "axy\nb")?)?;
-    Ok(rows)
+    whole(place, 80, indented, "aaa\n  \n  bbb")
 }
 
-fn payloads<'a, D: DocPlace<'a>>(place: &'a D) -> Result<Vec<Row<'a, D::Doc>>, BuildError> {
-    let mut rows = Vec::new(place.memory());
+fn apart<'a, D: DocPlace<'a>>(place: &'a D) -> Result<Row<'a, D::Doc>, BuildError> {
+    whole(place, 80, ("a", weak_space(), "b"), "a b")
+}
+
+fn text<'a, D: DocPlace<'a>>(place: &'a D) -> Result<Row<'a, D::Doc>, BuildError> {
+    whole(place, 80, "ab", "ab")
+}
+
+fn nested_suffixes<'a, D: DocPlace<'a>>(place: &'a D) -> Result<Row<'a, D::Doc>, BuildError> {
+    let nested = ("a", line_suffix(("x", line_suffix("y"))), hard_line(), "b");
+    whole(place, 80, nested, "axy\nb")
+}
+
+fn payload<'a, D: DocPlace<'a>>(place: &'a D) -> Result<Row<'a, D::Doc>, BuildError> {
     let alone = multiline_text(CowStr::Borrowed("a\r\n\nb\n"));
-    rows.push(whole(place, 80, alone, "a\r\n\nb\n")?)?;
+    whole(place, 80, alone, "a\r\n\nb\n")
+}
+
+fn payload_behind_a_suffix<'a, D: DocPlace<'a>>(
+    place: &'a D,
+) -> Result<Row<'a, D::Doc>, BuildError> {
     let payload = multiline_text(CowStr::Borrowed("\"b\nc\""));
     let behind = (line_suffix(" // 1"), payload);
-    rows.push(whole(place, 80, behind, "\"b\nc\" // 1")?)?;
-    Ok(rows)
+    whole(place, 80, behind, "\"b\nc\" // 1")
 }
 
-fn alternatives<'a, D: DocPlace<'a>>(place: &'a D) -> Result<Vec<Row<'a, D::Doc>>, BuildError> {
-    let mut rows = Vec::new(place.memory());
+fn second_line_too_long<'a, D: DocPlace<'a>>(place: &'a D) -> Result<Row<'a, D::Doc>, BuildError> {
     let long = ("short", hard_line(), "long long long");
     let short = ("short", hard_line(), "short");
-    rows.push(whole(place, 10, union(long, short), "short\nshort")?)?;
+    whole(place, 10, union(long, short), "short\nshort")
+}
+
+fn kept<'a, D: DocPlace<'a>>(place: &'a D) -> Result<Row<'a, D::Doc>, BuildError> {
     let kept = union(("abcd", line_suffix("!")), "fallback");
-    rows.push(whole(place, 80, kept, "abcd!")?)?;
+    whole(place, 80, kept, "abcd!")
+}
+
+// A suffix in front of alternatives that have their own.
+fn pending<'a, D: DocPlace<'a>>(place: &'a D) -> Result<Row<'a, D::Doc>, BuildError> {
     let first = (line_suffix(" // 3"), "6666666");
     let second = (line_suffix(" // 4"), "77");
     let pending = ("a", line_suffix(" // 1"), "a", union(first, second));
-    rows.push(whole(place, 5, pending, "aa77 // 1 // 4")?)?;
-    // One that is kept in one that is not.
+    whole(place, 5, pending, "aa77 // 1 // 4")
+}
+
+// An alternative that is kept in one that is not.
+fn kept_in_rejected<'a, D: DocPlace<'a>>(place: &'a D) -> Result<Row<'a, D::Doc>, BuildError> {
     let inner = union(("inner", line_suffix(" // s")), "inner fallback");
     let outer = union((inner, " long overflow"), "outer fallback");
     let caller = (line_suffix(" // caller"), outer);
-    rows.push(whole(place, 10, caller, "outer fallback // caller")?)?;
-    Ok(rows)
+    whole(place, 10, caller, "outer fallback // caller")
 }
 
 // A suffix that fails, behind an alternative that is kept.
@@ -82,19 +98,34 @@ fn failing<'a, D: DocPlace<'a>>(place: &'a D) -> Result<Row<'a, D::Doc>, BuildEr
     Ok(row)
 }
 
-// Puts all of these behind the others.
-fn push_all<T: Drop>(all: &mut Vec<T>, more: Vec<T>) -> Result<(), BuildError> {
-    for item in more {
-        all.push(item)?;
-    }
+// Puts it behind the others, if there was memory for it.
+fn push<T: Drop>(rows: &mut Vec<T>, row: Result<T, BuildError>) -> Result<(), BuildError> {
+    rows.push(row?)?;
     Ok(())
 }
 
 // All characters of these documents are of one byte.
-pub(crate) fn rows<'a, D: DocPlace<'a>>(place: &'a D) -> Result<Vec<Row<'a, D::Doc>>, BuildError> {
-    let mut rows = spaces_and_suffixes(place)?;
-    push_all(&mut rows, payloads(place)?)?;
-    push_all(&mut rows, alternatives(place)?)?;
-    rows.push(failing(place)?)?;
+fn rows<'a, D: DocPlace<'a>>(place: &'a D) -> Result<Vec<Row<'a, D::Doc>>, BuildError> {
+    let mut rows = Vec::new(place.memory());
+    push(&mut rows, indented(place))?;
+    push(&mut rows, apart(place))?;
+    push(&mut rows, text(place))?;
+    push(&mut rows, nested_suffixes(place))?;
+    push(&mut rows, payload(place))?;
+    push(&mut rows, payload_behind_a_suffix(place))?;
+    push(&mut rows, second_line_too_long(place))?;
+    push(&mut rows, kept(place))?;
+    push(&mut rows, pending(place))?;
+    push(&mut rows, kept_in_rejected(place))?;
+    push(&mut rows, failing(place))?;
     Ok(rows)
+}
+
+pub(crate) fn boxed_rows<'a>(boxes: &'a BoxAllocator) -> Result<Vec<BoxRow<'a>>, BuildError> {
+    rows(boxes)
+}
+
+// A character of two bytes.
+pub(crate) fn accented<'a, D: DocPlace<'a>>(place: &'a D) -> Result<D::Doc, BuildError> {
+    place.pretty("\u{e9}")?.into_doc()
 }

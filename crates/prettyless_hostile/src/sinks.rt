@@ -3,13 +3,12 @@ ghost use Rattle.std.specs.Prelude.{◌≡◌, ◌↔◌, ◌<◌, ⊤, IsTrue, 
 ghost use Rattle.std.specs.Str.{IsCharBoundary};
 ghost use Rattle.prettyless_hostile.specs.declared.sinks.Fault.TheVariants.{Count, Document};
 
-use crate::rows::{BoxRow, rows};
+use crate::rows::{BoxRow, accented, boxed_rows};
 use bumpalo::Bump;
 use prettyless::prelude::*;
 use prettyless::text::BuildError;
 use prettyless::{
-    Arena, BoxAllocator, BoxDoc, DocPtr, LineEnding, RcAllocator, Render, RenderError,
-    RenderOptions,
+    Arena, BoxAllocator, DocPtr, LineEnding, RcAllocator, Render, RenderError, RenderOptions,
 };
 use std::alloc::Global;
 use std::process::Abort;
@@ -139,6 +138,35 @@ fn fault_of(wrong: Wrong) -> Fault {
     }
 }
 
+// Compares what a sink has whose call went wrong.
+fn compare_ended(rt: &impl Abort, row: &BoxRow<'_>, sink: &Hostile, fault: &Fault) {
+    let layout = row.layout;
+    let wrong = sink.wrong;
+    let wrong_call = sink.wrong_call;
+    assert_eq!(rt; *fault, fault_of(wrong), "{layout}");
+    assert_eq!(rt; sink.failures, 1, "{layout}");
+    assert_eq!(rt; sink.calls, wrong_call, "{layout}");
+    assert!(rt;
+        layout.as_bytes().starts_with(sink.bytes.as_slice()),
+        "{layout} {wrong:?} {wrong_call}"
+    );
+}
+
+// Compares what a sink has whose call did not come.
+fn compare_undisturbed(rt: &impl Abort, row: &BoxRow<'_>, sink: &Hostile, fails: bool) {
+    let layout = row.layout;
+    assert_eq!(rt; fails, row.fails, "{layout}");
+    assert_eq!(rt; sink.failures, 0, "{layout}");
+    assert!(rt; sink.calls < sink.wrong_call, "{layout}");
+    assert_eq!(rt; sink.bytes.as_slice(), layout.as_bytes(), "{layout}");
+}
+
+// How a render to this sink ends.
+fn ending(memory: Global, row: &BoxRow<'_>, sink: &mut Hostile) -> Result<(), RenderError<Fault>> {
+    let options = RenderOptions::new(row.width);
+    row.document.doc().render_raw_with(memory, options, sink)
+}
+
 // Compares how a render ends of which one call goes wrong, and answers whether it comes to that call.
 fn compare(
     rt: &impl Abort,
@@ -149,33 +177,19 @@ fn compare(
     wrong_call: usize,
 ) -> Result<bool, Fail> {
     let layout = row.layout;
-    let options = RenderOptions::new(row.width);
     let mut sink = Hostile::new(memory, step, wrong, wrong_call);
-    let result = row
-        .document
-        .doc()
-        .render_raw_with(memory, options, &mut sink);
-    if let Err(RenderError::Sink(fault)) = result {
-        assert_eq!(rt; fault, fault_of(wrong), "{layout}");
-        assert_eq!(rt; sink.failures, 1, "{layout}");
-        assert_eq!(rt; sink.calls, wrong_call, "{layout}");
-        assert!(rt;
-            layout.as_bytes().starts_with(sink.bytes.as_slice()),
-            "{layout} {wrong:?} {wrong_call}"
-        );
-        return Ok(true);
-    }
-    match result {
-        Ok(()) => assert!(rt; !row.fails, "{layout}"),
+    match ending(memory, row, &mut sink) {
+        Ok(()) => compare_undisturbed(rt, row, &sink, false),
         Err(RenderError::Document(fault)) => {
-            assert!(rt; row.fails, "{layout}");
             assert_eq!(rt; fault, Fault::Document, "{layout}");
+            compare_undisturbed(rt, row, &sink, true);
         }
-        _ => panic!(rt; "{layout} {wrong:?} {wrong_call}"),
+        Err(RenderError::Sink(fault)) => {
+            compare_ended(rt, row, &sink, &fault);
+            return Ok(true);
+        }
+        Err(RenderError::Memory(_)) => return Err(Fail::new("no memory")),
     }
-    assert_eq!(rt; sink.failures, 0, "{layout}");
-    assert!(rt; sink.calls < wrong_call, "{layout}");
-    assert_eq!(rt; sink.bytes.as_slice(), layout.as_bytes(), "{layout}");
     Ok(false)
 }
 
@@ -197,7 +211,7 @@ fn compare_calls(
 
 fn compare_all(rt: &impl Abort, memory: Global, step: Step, wrong: Wrong) -> Result<(), Fail> {
     let boxes = BoxAllocator::new(memory);
-    let rows = rows(&boxes)?;
+    let rows = boxed_rows(&boxes)?;
     for row in rows.iter() {
         let ends_at = compare_calls(rt, memory, row, step, wrong)?;
         assert!(rt; 1 < ends_at);
@@ -235,50 +249,73 @@ fn sinks_that_count_too_much(rt: HostRuntime) -> Result<(), Fail> {
     Ok(())
 }
 
-// A character of two bytes is taken by characters, and not by bytes.
-#[test]
-fn counts_inside_a_character(rt: HostRuntime) -> Result<(), Fail> {
-    let boxes = BoxAllocator::new(rt.alloc());
-    let document = boxes.pretty("\u{e9}")?.into_doc()?;
-    for (step, bytes, ends_well) in [
-        (Step::Whole, b"\xc3\xa9".as_slice(), true),
-        (Step::Character, b"\xc3\xa9".as_slice(), true),
-        (Step::Byte, b"\xc3".as_slice(), false),
-    ] {
-        let mut sink = Hostile::new(rt.alloc(), step, Wrong::Refuses, usize::MAX);
-        match document.doc().render_raw(rt.alloc(), 80, &mut sink) {
-            Ok(()) => assert!(rt; ends_well),
-            Err(RenderError::Sink(fault)) => assert_eq!(rt; fault, Fault::Count),
-            Err(_) => panic!(rt; "{step:?}"),
-        }
-        assert_eq!(rt; sink.bytes.as_slice(), bytes, "{step:?}");
-        assert_eq!(rt; sink.failures, u64::from(!ends_well), "{step:?}");
-        assert_eq!(rt; sink.calls, 1, "{step:?}");
+// Compares what a sink has of a character of two bytes.
+fn compare_character<'a, T: DocPtr<'a>>(
+    rt: &impl Abort,
+    memory: Global,
+    document: &T,
+    step: Step,
+    bytes: &[u8],
+    ends_well: bool,
+) {
+    let mut sink = Hostile::new(memory, step, Wrong::Refuses, usize::MAX);
+    match document.doc().render_raw(memory, 80, &mut sink) {
+        Ok(()) => assert!(rt; ends_well),
+        Err(RenderError::Sink(fault)) => assert_eq!(rt; fault, Fault::Count),
+        Err(_) => panic!(rt; "{step:?}"),
     }
+    assert_eq!(rt; sink.bytes.as_slice(), bytes, "{step:?}");
+    assert_eq!(rt; sink.failures, u64::from(!ends_well), "{step:?}");
+    assert_eq!(rt; sink.calls, 1, "{step:?}");
+}
+
+fn compare_steps<'a, D: DocPlace<'a>>(rt: &impl Abort, place: &'a D) -> Result<(), Fail> {
+    let memory = place.memory();
+    let document = accented(place)?;
+    let whole = b"\xc3\xa9".as_slice();
+    compare_character(rt, memory, &document, Step::Whole, whole, true);
+    compare_character(rt, memory, &document, Step::Character, whole, true);
+    let first = b"\xc3".as_slice();
+    compare_character(rt, memory, &document, Step::Byte, first, false);
     Ok(())
 }
 
-// Compares what a sink has that answers a bad count for its second piece, which is a space.
-fn compare_spaces(
+// A character of two bytes is taken by characters, and not by bytes.
+#[test]
+fn counts_inside_a_character(rt: HostRuntime) -> Result<(), Fail> {
+    compare_steps(&rt, &BoxAllocator::new(rt.alloc()))
+}
+
+// Compares what a sink has that answers this count for its second piece.
+fn compare_count<'a, T: DocPtr<'a>>(
     rt: &impl Abort,
     memory: Global,
-    document: &BoxDoc<'_>,
+    document: &T,
+    options: RenderOptions,
+    wrong: Wrong,
+    layout: &str,
+) {
+    let mut sink = Hostile::new(memory, Step::Whole, wrong, 2);
+    let result = document.doc().render_raw_with(memory, options, &mut sink);
+    assert!(rt; matches!(result, Err(RenderError::Sink(Fault::Count))));
+    assert_eq!(rt; sink.failures, 1, "{wrong:?}");
+    assert_eq!(rt; sink.bytes.as_slice(), layout.as_bytes(), "{wrong:?}");
+}
+
+// Compares what a sink has that answers a bad count for its second piece, which is a space.
+fn compare_spaces<'a, T: DocPtr<'a>>(
+    rt: &impl Abort,
+    memory: Global,
+    document: &T,
     ending: LineEnding,
     first: &str,
 ) -> Result<(), Fail> {
     let options = RenderOptions::new(80).with_line_ending(ending);
-    for (wrong, space) in [
-        (Wrong::TakesNothing, ""),
-        (Wrong::CountsOneMore, " "),
-        (Wrong::CountsAll, " "),
-    ] {
-        let mut sink = Hostile::new(memory, Step::Whole, wrong, 2);
-        let result = document.doc().render_raw_with(memory, options, &mut sink);
-        assert!(rt; matches!(result, Err(RenderError::Sink(Fault::Count))));
-        assert_eq!(rt; sink.failures, 1, "{wrong:?}");
-        let bytes = format!(in memory; "{first}{space}")?;
-        assert_eq!(rt; sink.bytes.as_slice(), bytes.as_bytes(), "{wrong:?}");
-    }
+    let both = format!(in memory; "{first} ")?;
+    let both = both.as_str();
+    compare_count(rt, memory, document, options, Wrong::TakesNothing, first);
+    compare_count(rt, memory, document, options, Wrong::CountsOneMore, both);
+    compare_count(rt, memory, document, options, Wrong::CountsAll, both);
     Ok(())
 }
 
@@ -292,14 +329,18 @@ fn indented_line<'a, D: DocPlace<'a>>(place: &'a D) -> Result<D::Doc, BuildError
     place.pretty(nest(1, hard_line()))?.into_doc()
 }
 
+fn compare_bad_counts<'a, D: DocPlace<'a>>(rt: &impl Abort, place: &'a D) -> Result<(), Fail> {
+    let memory = place.memory();
+    let apart = letters_apart(place)?;
+    compare_spaces(rt, memory, &apart, LineEnding::Lf, "a")?;
+    let indent = indented_line(place)?;
+    compare_spaces(rt, memory, &indent, LineEnding::Lf, "\n")?;
+    compare_spaces(rt, memory, &indent, LineEnding::Crlf, "\r\n")
+}
+
 #[test]
 fn bad_counts_of_spaces(rt: HostRuntime) -> Result<(), Fail> {
-    let boxes = BoxAllocator::new(rt.alloc());
-    let apart = letters_apart(&boxes)?;
-    compare_spaces(&rt, rt.alloc(), &apart, LineEnding::Lf, "a")?;
-    let indent = indented_line(&boxes)?;
-    compare_spaces(&rt, rt.alloc(), &indent, LineEnding::Lf, "\n")?;
-    compare_spaces(&rt, rt.alloc(), &indent, LineEnding::Crlf, "\r\n")
+    compare_bad_counts(&rt, &BoxAllocator::new(rt.alloc()))
 }
 
 // A sink that takes one byte a call, and refuses at its third.

@@ -1,7 +1,7 @@
 //! Byte writers and text writers of which one call goes wrong.
 ghost use Rattle.std.specs.Prelude.{Some};
 
-use crate::rows::{BoxRow, rows};
+use crate::rows::{BoxRow, accented, boxed_rows};
 use prettyless::prelude::*;
 use prettyless::{
     BoxAllocator, BoxDoc, DocPtr, FmtWrite, IoWrite, RenderError, RenderOptions, TextWriter, Untold,
@@ -101,6 +101,37 @@ fn ending_of_bytes(
     }
 }
 
+// Compares what a writer has whose call did not come.
+fn compare_all_of_bytes(
+    rt: &impl Abort,
+    row: &BoxRow<'_>,
+    writer: &ByBytes,
+    ending: &Ending<ErrorKind>,
+) {
+    let layout = row.layout;
+    assert_eq!(rt; *ending, undisturbed(row), "{layout}");
+    assert_eq!(rt; writer.bytes.as_slice(), layout.as_bytes(), "{layout}");
+    assert_eq!(rt; writer.failures, 0, "{layout}");
+}
+
+// Compares what a writer has whose call went wrong.
+fn compare_ended_bytes(
+    rt: &impl Abort,
+    layout: &str,
+    before: &[u8],
+    writer: &ByBytes,
+    ending: &Ending<ErrorKind>,
+) {
+    let kind = match writer.wrong {
+        Wrong::IsInterrupted => ErrorKind::Interrupted,
+        Wrong::TakesNothing => ErrorKind::WriteZero,
+    };
+    assert_eq!(rt; *ending, Ending::Sink(kind), "{layout}");
+    assert_eq!(rt; writer.bytes.as_slice(), before, "{layout}");
+    assert_eq!(rt; writer.failures, 1, "{layout}");
+    assert_eq!(rt; writer.calls, writer.wrong_call, "{layout}");
+}
+
 // Compares how a render ends of which one call goes wrong, and answers whether it comes to that call.
 fn compare_bytes(
     rt: &impl Abort,
@@ -109,27 +140,15 @@ fn compare_bytes(
     wrong: Wrong,
     wrong_call: usize,
 ) -> Result<bool, Fail> {
-    let layout = row.layout;
     let mut writer = ByBytes::new(memory, wrong, wrong_call);
     let ending = ending_of_bytes(memory, &row.document, row.width, &mut writer)?;
+    let layout = row.layout;
     if layout.len() < wrong_call {
-        assert_eq!(rt; ending, undisturbed(row), "{layout}");
-        assert_eq!(rt; writer.bytes.as_slice(), layout.as_bytes(), "{layout}");
-        assert_eq!(rt; writer.failures, 0, "{layout}");
+        compare_all_of_bytes(rt, row, &writer, &ending);
         return Ok(false);
     }
-    let kind = match wrong {
-        Wrong::IsInterrupted => ErrorKind::Interrupted,
-        Wrong::TakesNothing => ErrorKind::WriteZero,
-    };
-    assert_eq!(rt; ending, Ending::Sink(kind), "{layout}");
-    assert_eq!(rt;
-        writer.bytes.as_slice(),
-        &layout.as_bytes()[..wrong_call.saturating_sub(1)],
-        "{layout}"
-    );
-    assert_eq!(rt; writer.failures, 1, "{layout}");
-    assert_eq!(rt; writer.calls, wrong_call, "{layout}");
+    let before = &layout.as_bytes()[..wrong_call.saturating_sub(1)];
+    compare_ended_bytes(rt, layout, before, &writer, &ending);
     Ok(true)
 }
 
@@ -150,7 +169,7 @@ fn compare_calls(
 
 fn compare_all_bytes(rt: &impl Abort, memory: Global, wrong: Wrong) -> Result<(), Fail> {
     let boxes = BoxAllocator::new(memory);
-    let rows = rows(&boxes)?;
+    let rows = boxed_rows(&boxes)?;
     for row in rows.iter() {
         compare_calls(rt, memory, row, wrong)?;
     }
@@ -170,7 +189,7 @@ fn writers_that_take_nothing(rt: HostRuntime) -> Result<(), Fail> {
 #[test]
 fn a_character_is_written_byte_by_byte(rt: HostRuntime) -> Result<(), Fail> {
     let boxes = BoxAllocator::new(rt.alloc());
-    let document = boxes.pretty("\u{e9}")?.into_doc()?;
+    let document = accented(&boxes)?;
     let mut writer = ByBytes::new(rt.alloc(), Wrong::TakesNothing, usize::MAX);
     let ending = ending_of_bytes(rt.alloc(), &document, 80, &mut writer)?;
     assert_eq!(rt; ending, Ending::Laid);
@@ -232,6 +251,51 @@ fn ending_of_text<W: TextWriter>(
     }
 }
 
+// How a render to such a writer ends, of which all or nothing is told.
+fn ending_of_pieces(
+    memory: Global,
+    row: &BoxRow<'_>,
+    told: bool,
+    writer: &mut ByPieces,
+) -> Result<Ending<fmt::Error>, Fail> {
+    if told {
+        ending_of_text(memory, row, writer)
+    } else {
+        ending_of_text(memory, row, &mut Untold(writer))
+    }
+}
+
+// Compares what a writer has whose piece did not come.
+fn compare_all_of_pieces(
+    rt: &impl Abort,
+    row: &BoxRow<'_>,
+    writer: &ByPieces,
+    ending: &Ending<fmt::Error>,
+) {
+    let layout = row.layout;
+    assert_eq!(rt; *ending, undisturbed(row), "{layout}");
+    assert_eq!(rt; writer.bytes.as_slice(), layout.as_bytes(), "{layout}");
+    assert!(rt; writer.pieces < writer.wrong_piece, "{layout}");
+}
+
+// Compares what a writer has whose piece went wrong.
+fn compare_ended_pieces(
+    rt: &impl Abort,
+    layout: &str,
+    writer: &ByPieces,
+    ending: &Ending<fmt::Error>,
+) {
+    let wrong_piece = writer.wrong_piece;
+    assert_eq!(rt; *ending, Ending::Sink(fmt::Error), "{layout}");
+    assert!(rt;
+        layout.as_bytes().starts_with(writer.bytes.as_slice()),
+        "{layout} {wrong_piece}"
+    );
+    assert!(rt; wrong_piece <= writer.bytes.len(), "{layout} {wrong_piece}");
+    assert_eq!(rt; writer.failures, 1, "{layout}");
+    assert_eq!(rt; writer.pieces, wrong_piece, "{layout}");
+}
+
 // Compares how a render ends of which one piece goes wrong, and answers whether it comes to that piece.
 fn compare_pieces(
     rt: &impl Abort,
@@ -240,33 +304,20 @@ fn compare_pieces(
     told: bool,
     wrong_piece: usize,
 ) -> Result<bool, Fail> {
-    let layout = row.layout;
     let mut writer = ByPieces {
         wrong_piece,
         pieces: 0,
         bytes: Vec::new(memory),
         failures: 0,
     };
-    let ending = if told {
-        ending_of_text(memory, row, &mut writer)?
+    let ending = ending_of_pieces(memory, row, told, &mut writer)?;
+    let comes = writer.failures != 0;
+    if comes {
+        compare_ended_pieces(rt, row.layout, &writer, &ending);
     } else {
-        ending_of_text(memory, row, &mut Untold(&mut writer))?
-    };
-    if writer.failures == 0 {
-        assert_eq!(rt; ending, undisturbed(row), "{layout}");
-        assert_eq!(rt; writer.bytes.as_slice(), layout.as_bytes(), "{layout}");
-        assert!(rt; writer.pieces < wrong_piece, "{layout}");
-        return Ok(false);
+        compare_all_of_pieces(rt, row, &writer, &ending);
     }
-    assert_eq!(rt; ending, Ending::Sink(fmt::Error), "{layout}");
-    assert!(rt;
-        layout.as_bytes().starts_with(writer.bytes.as_slice()),
-        "{layout} {wrong_piece}"
-    );
-    assert!(rt; wrong_piece <= writer.bytes.len(), "{layout} {wrong_piece}");
-    assert_eq!(rt; writer.failures, 1, "{layout}");
-    assert_eq!(rt; writer.pieces, wrong_piece, "{layout}");
-    Ok(true)
+    Ok(comes)
 }
 
 // Each piece goes wrong in turn, until a render ends without it.
@@ -287,7 +338,7 @@ fn compare_all_pieces(
 #[test]
 fn text_writers_that_fail(rt: HostRuntime) -> Result<(), Fail> {
     let boxes = BoxAllocator::new(rt.alloc());
-    let rows = rows(&boxes)?;
+    let rows = boxed_rows(&boxes)?;
     for row in rows.iter() {
         compare_all_pieces(&rt, rt.alloc(), row, true)?;
         compare_all_pieces(&rt, rt.alloc(), row, false)?;

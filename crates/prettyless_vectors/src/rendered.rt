@@ -33,52 +33,13 @@ pub(crate) fn options(ending: LineEnding, policy: IndentationPolicy) -> RenderOp
 // A width, a document as the reader takes it, and what it has to be rendered as.
 pub(crate) type Case<'a> = (usize, &'a str, &'a str);
 
-// What a document that is put into this place is rendered as.
-fn outcome_in<'a, D: DocPlace<'a>>(
-    place: &'a D,
-    written: &'a str,
-    options: RenderOptions,
-) -> Result<Result<String, String>, Fail> {
-    let document = read(place, written)?;
-    outcome(place.memory(), &document, options)
-}
-
-// The same for one pointer after the other.
-fn outcomes(
-    memory: Global,
-    written: &str,
-    options: RenderOptions,
-) -> Result<[Result<String, String>; 3], Fail> {
-    let boxed = outcome_in(&BoxAllocator::new(memory), written, options)?;
-    let counted = outcome_in(&RcAllocator::new(memory), written, options)?;
-    let bump = Bump::new(memory);
-    let arena = Arena::new(memory, &bump);
-    let lent = outcome_in(&arena, written, options)?;
-    Ok([boxed, counted, lent])
-}
-
 // What a document is printed as.
-fn displayed<'a, T: DocPtr<'a>>(
+pub(crate) fn displayed<'a, T: DocPtr<'a>>(
     memory: Global,
     document: &T,
     options: RenderOptions,
 ) -> Result<String, Fail> {
     Ok(format!(in memory; "{}", document.doc().print_with(memory, options))?)
-}
-
-// What a document that is put into this place is printed as.
-fn printed_in<'a, D: DocPlace<'a>>(
-    place: &'a D,
-    written: &'a str,
-    options: RenderOptions,
-) -> Result<String, Fail> {
-    let document = read(place, written)?;
-    displayed(place.memory(), &document, options)
-}
-
-// The same in boxes.
-fn printed(memory: Global, written: &str, options: RenderOptions) -> Result<String, Fail> {
-    printed_in(&BoxAllocator::new(memory), written, options)
 }
 
 // What is rendered: all of a layout, or the bytes before the node that fails.
@@ -89,7 +50,45 @@ fn with_crlf(memory: Global, layout: &str) -> Result<String, Fail> {
     Ok(layout.replace(memory, '\n', "\r\n")?)
 }
 
-// Compares what a document is rendered as through each pointer, and what it is printed as.
+fn compare_outcome(
+    rt: &impl Abort,
+    outcome: &Result<String, String>,
+    width: usize,
+    written: &str,
+    expected: Expected<'_>,
+) {
+    match (outcome, expected) {
+        (Ok(out), Ok(layout)) => {
+            assert_eq!(rt; out.as_str(), layout, "{written} at {width}");
+        }
+        (Err(out), Err(before)) => {
+            assert_eq!(rt; out.as_str(), before, "{written} at {width}");
+        }
+        _ => panic!(rt; "{written} at {width} is {outcome:?}"),
+    }
+}
+
+// Compares what a document that is put into this place is rendered as, and what it is printed as.
+fn compare_in<'a, D: DocPlace<'a>>(
+    rt: &impl Abort,
+    place: &'a D,
+    options: RenderOptions,
+    written: &'a str,
+    expected: Expected<'_>,
+) -> Result<(), Fail> {
+    let memory = place.memory();
+    let width = options.width;
+    let document = read(place, written)?;
+    let outcome = outcome(memory, &document, options)?;
+    compare_outcome(rt, &outcome, width, written, expected);
+    if let Ok(layout) = expected {
+        let printed = displayed(memory, &document, options)?;
+        assert_eq!(rt; printed.as_str(), layout, "{written} at {width}");
+    }
+    Ok(())
+}
+
+// The same through one pointer after the other.
 fn compare_through(
     rt: &impl Abort,
     memory: Global,
@@ -97,23 +96,13 @@ fn compare_through(
     written: &str,
     expected: Expected<'_>,
 ) -> Result<(), Fail> {
-    let width = options.width;
-    for outcome in outcomes(memory, written, options)? {
-        match (&outcome, expected) {
-            (Ok(out), Ok(layout)) => {
-                assert_eq!(rt; out.as_str(), layout, "{written} at {width}");
-            }
-            (Err(out), Err(before)) => {
-                assert_eq!(rt; out.as_str(), before, "{written} at {width}");
-            }
-            _ => panic!(rt; "{written} at {width} is {outcome:?}"),
-        }
-    }
-    if let Ok(layout) = expected {
-        let printed = printed(memory, written, options)?;
-        assert_eq!(rt; printed.as_str(), layout, "{written} at {width}");
-    }
-    Ok(())
+    let boxes = BoxAllocator::new(memory);
+    compare_in(rt, &boxes, options, written, expected)?;
+    let owners = RcAllocator::new(memory);
+    compare_in(rt, &owners, options, written, expected)?;
+    let bump = Bump::new(memory);
+    let arena = Arena::new(memory, &bump);
+    compare_in(rt, &arena, options, written, expected)
 }
 
 // The same, and again with CR LF for LF at the end of each line, if no text of the document has a line end.

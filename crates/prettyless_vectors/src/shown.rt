@@ -64,24 +64,41 @@ const LINES: [Case<'static>; 10] = [
     ),
 ];
 
-// What a document that is put into this place is shown as.
-fn shown_in<'a, D: DocPlace<'a>>(place: &'a D, written: &'a str) -> Result<String, Fail>
+// Compares what a document that is put into this place is shown as.
+fn compare_in<'a, D: DocPlace<'a>>(
+    rt: &impl Abort,
+    place: &'a D,
+    written: &'a str,
+    shown: &str,
+) -> Result<(), Fail>
 where
     D::Doc: fmt::Debug,
 {
     let document = read(place, written)?;
-    Ok(format!(in place.memory(); "{document:?}")?)
+    let printed = format!(in place.memory(); "{document:?}")?;
+    assert_eq!(rt; printed.as_str(), shown);
+    Ok(())
+}
+
+// The same through one pointer after the other.
+fn compare_through(
+    rt: &impl Abort,
+    memory: Global,
+    written: &str,
+    shown: &str,
+) -> Result<(), Fail> {
+    let boxes = BoxAllocator::new(memory);
+    compare_in(rt, &boxes, written, shown)?;
+    let owners = RcAllocator::new(memory);
+    compare_in(rt, &owners, written, shown)?;
+    let bump = Bump::new(memory);
+    let arena = Arena::new(memory, &bump);
+    compare_in(rt, &arena, written, shown)
 }
 
 fn compare(rt: &impl Abort, memory: Global, cases: &[Case<'_>]) -> Result<(), Fail> {
     for &(written, shown) in cases {
-        let boxes = BoxAllocator::new(memory);
-        assert_eq!(rt; shown_in(&boxes, written)?.as_str(), shown);
-        let owners = RcAllocator::new(memory);
-        assert_eq!(rt; shown_in(&owners, written)?.as_str(), shown);
-        let bump = Bump::new(memory);
-        let arena = Arena::new(memory, &bump);
-        assert_eq!(rt; shown_in(&arena, written)?.as_str(), shown);
+        compare_through(rt, memory, written, shown)?;
     }
     Ok(())
 }
@@ -119,18 +136,25 @@ fn lines_have_a_borrowed_space(rt: HostRuntime) -> Result<(), Fail> {
     Ok(())
 }
 
+// Compares what a builder is shown as.
+fn compare_builder<'a, D: DocPlace<'a>>(rt: &impl Abort, place: &'a D) -> Result<(), Fail> {
+    let builder = place.softline()?;
+    let shown = format!(in place.memory(); "{builder:?}")?;
+    assert_eq!(rt; shown.as_str(), "SoftLineOrSpace");
+    Ok(())
+}
+
+// Compares what a node is shown as that is not placed yet.
+fn compare_node<'a, D: DocPlace<'a>>(rt: &impl Abort, place: &'a D) -> Result<(), Fail> {
+    let node: BuildDoc<'a, D::Doc> = BuildDoc::Doc(Doc::Nest(2, place.line_()?.into_doc()?));
+    let shown = format!(in place.memory(); "{node:?}")?;
+    assert_eq!(rt; shown.as_str(), "Nest(2, LineOrNil)");
+    Ok(())
+}
+
 #[test]
 fn shows_what_is_in_the_making(rt: HostRuntime) -> Result<(), Fail> {
     let boxes = BoxAllocator::new(rt.alloc());
-    let builder = boxes.softline()?;
-    assert_eq!(rt;
-        format!(in rt.alloc(); "{builder:?}")?.as_str(),
-        "SoftLineOrSpace"
-    );
-    let node = BuildDoc::Doc(Doc::Nest(2, boxes.line_()?.into_doc()?));
-    assert_eq!(rt;
-        format!(in rt.alloc(); "{node:?}")?.as_str(),
-        "Nest(2, LineOrNil)"
-    );
-    Ok(())
+    compare_builder(&rt, &boxes)?;
+    compare_node(&rt, &boxes)
 }

@@ -1,6 +1,6 @@
 //! How many nodes a render takes up.
 use crate::reader::read;
-use prettyless::{BoxAllocator, DocPtr, FmtWrite, RenderError, RenderOptions, Visits};
+use prettyless::{BoxAllocator, DocPlace, DocPtr, FmtWrite, RenderError, RenderOptions, Visits};
 use std::alloc::Global;
 use std::test::Fail;
 
@@ -23,23 +23,38 @@ const CASES: [Case<'static>; 6] = [
     (80, "Nil", 1, 0),
 ];
 
-fn visits(memory: Global, width: usize, written: &str) -> Result<Visits, Fail> {
-    let boxes = BoxAllocator::new(memory);
-    let document = read(&boxes, written)?;
+// The visits, and whether the document fails.
+fn visits_in<'a, D: DocPlace<'a>>(
+    place: &'a D,
+    width: usize,
+    written: &'a str,
+) -> Result<(Visits, bool), Fail> {
+    let memory = place.memory();
+    let document = read(place, written)?;
     let mut out = String::new(memory);
     let mut sink = FmtWrite::new(&mut out);
     let mut visits = Visits::default();
     let options = RenderOptions::new(width);
-    document
+    match document
         .doc()
-        .render_raw_counted_with(memory, options, &mut sink, &mut visits)?;
-    Ok(visits)
+        .render_raw_counted_with(memory, options, &mut sink, &mut visits)
+    {
+        Ok(()) => Ok((visits, false)),
+        Err(RenderError::Document(_)) => Ok((visits, true)),
+        Err(_) => Err(Fail::new("no memory")),
+    }
+}
+
+// The same in boxes.
+fn visits(memory: Global, width: usize, written: &str) -> Result<(Visits, bool), Fail> {
+    visits_in(&BoxAllocator::new(memory), width, written)
 }
 
 #[test]
 fn nodes_are_counted(rt: HostRuntime) -> Result<(), Fail> {
     for (width, written, printer, probes) in CASES {
-        let visits = visits(rt.alloc(), width, written)?;
+        let (visits, fails) = visits(rt.alloc(), width, written)?;
+        assert!(rt; !fails, "{written} at {width}");
         assert_eq!(rt; visits.printer, printer, "{written} at {width}");
         assert_eq!(rt; visits.probes, probes, "{written} at {width}");
     }
@@ -48,16 +63,8 @@ fn nodes_are_counted(rt: HostRuntime) -> Result<(), Fail> {
 
 #[test]
 fn a_failing_node_is_counted(rt: HostRuntime) -> Result<(), Fail> {
-    let boxes = BoxAllocator::new(rt.alloc());
-    let document = read(&boxes, "Fail")?;
-    let mut out = String::new(rt.alloc());
-    let mut sink = FmtWrite::new(&mut out);
-    let mut visits = Visits::default();
-    let options = RenderOptions::new(80);
-    let result = document
-        .doc()
-        .render_raw_counted_with(rt.alloc(), options, &mut sink, &mut visits);
-    assert!(rt; matches!(result, Err(RenderError::Document(_))));
+    let (visits, fails) = visits(rt.alloc(), 80, "Fail")?;
+    assert!(rt; fails);
     assert_eq!(rt; visits.printer, 1);
     assert_eq!(rt; visits.probes, 0);
     Ok(())

@@ -1,95 +1,157 @@
 //! The ways to render, each with the same bytes.
 use crate::reader::read;
-use crate::rendered::options;
+use crate::rendered::{displayed, options};
 use prettyless::{
-    BoxAllocator, DocPtr, FmtWrite, IndentationPolicy, IoWrite, LineEnding, RenderError,
+    BoxAllocator, DocPlace, DocPtr, FmtWrite, IndentationPolicy, IoWrite, LineEnding, RenderError,
+    RenderOptions,
 };
+use std::alloc::Global;
 use std::fmt::Write;
+use std::process::Abort;
 use std::test::Fail;
 
 const WRITTEN: &str = "Nest 2 Append Append Append Text 'ab' HardLine HardLine Text 'c'";
 
-#[test]
-fn to_a_byte_writer(rt: HostRuntime) -> Result<(), Fail> {
-    let boxes = BoxAllocator::new(rt.alloc());
-    let document = read(&boxes, WRITTEN)?;
-    let mut out = Vec::new(rt.alloc());
-    document.doc().render(rt.alloc(), 80, &mut out)?;
+// With lines that end in CR LF, and late indents.
+fn late() -> RenderOptions {
+    options(LineEnding::Crlf, IndentationPolicy::Deferred)
+}
+
+fn compare_bytes<'a, D: DocPlace<'a>>(rt: &impl Abort, place: &'a D) -> Result<(), Fail> {
+    let memory = place.memory();
+    let document = read(place, WRITTEN)?;
+    let mut out = Vec::new(memory);
+    document.doc().render(memory, 80, &mut out)?;
     assert_eq!(rt; out.as_slice(), b"ab\n  \n  c".as_slice());
-    let late = options(LineEnding::Crlf, IndentationPolicy::Deferred);
-    let mut out = Vec::new(rt.alloc());
-    document.doc().render_with(rt.alloc(), late, &mut out)?;
+    let mut out = Vec::new(memory);
+    document.doc().render_with(memory, late(), &mut out)?;
     assert_eq!(rt; out.as_slice(), b"ab\r\n\r\n  c".as_slice());
     Ok(())
 }
 
 #[test]
-fn to_what_is_displayed(rt: HostRuntime) -> Result<(), Fail> {
-    let boxes = BoxAllocator::new(rt.alloc());
-    let document = read(&boxes, WRITTEN)?;
-    let printed = format!(in rt.alloc(); "{}", document.doc().print(rt.alloc(), 80))?;
+fn to_a_byte_writer(rt: HostRuntime) -> Result<(), Fail> {
+    compare_bytes(&rt, &BoxAllocator::new(rt.alloc()))
+}
+
+// What is printed at the width 80.
+fn printed<'a, T: DocPtr<'a>>(memory: Global, document: &T) -> Result<String, Fail> {
+    Ok(format!(in memory; "{}", document.doc().print(memory, 80))?)
+}
+
+fn compare_displayed<'a, D: DocPlace<'a>>(rt: &impl Abort, place: &'a D) -> Result<(), Fail> {
+    let memory = place.memory();
+    let document = read(place, WRITTEN)?;
+    let printed = printed(memory, &document)?;
     assert_eq!(rt; printed.as_str(), "ab\n  \n  c");
-    let late = options(LineEnding::Crlf, IndentationPolicy::Deferred);
-    let printed = format!(in rt.alloc(); "{}", document.doc().print_with(rt.alloc(), late))?;
+    let printed = displayed(memory, &document, late())?;
     assert_eq!(rt; printed.as_str(), "ab\r\n\r\n  c");
     Ok(())
 }
 
-// What a formatter is asked for changes nothing.
 #[test]
-fn flags_change_nothing(rt: HostRuntime) -> Result<(), Fail> {
-    let boxes = BoxAllocator::new(rt.alloc());
-    let document = read(&boxes, WRITTEN)?;
-    let shown = document.doc().print(rt.alloc(), 80);
+fn to_what_is_displayed(rt: HostRuntime) -> Result<(), Fail> {
+    compare_displayed(&rt, &BoxAllocator::new(rt.alloc()))
+}
+
+fn compare_flags<'a, T: DocPtr<'a>>(
+    rt: &impl Abort,
+    memory: Global,
+    document: &T,
+) -> Result<(), Fail> {
+    let shown = document.doc().print(memory, 80);
     for printed in [
-        format!(in rt.alloc(); "{shown:>20}")?,
-        format!(in rt.alloc(); "{shown:*^20}")?,
-        format!(in rt.alloc(); "{shown:.1}")?,
-        format!(in rt.alloc(); "{shown:-<020.3}")?,
-        format!(in rt.alloc(); "{shown:+#}")?,
+        format!(in memory; "{shown:>20}")?,
+        format!(in memory; "{shown:*^20}")?,
+        format!(in memory; "{shown:.1}")?,
+        format!(in memory; "{shown:-<020.3}")?,
+        format!(in memory; "{shown:+#}")?,
     ] {
         assert_eq!(rt; printed.as_str(), "ab\n  \n  c");
     }
     Ok(())
 }
 
+fn compare_flags_in<'a, D: DocPlace<'a>>(rt: &impl Abort, place: &'a D) -> Result<(), Fail> {
+    let document = read(place, WRITTEN)?;
+    compare_flags(rt, place.memory(), &document)
+}
+
+// What a formatter is asked for changes nothing.
 #[test]
-fn to_a_sink(rt: HostRuntime) -> Result<(), Fail> {
-    let boxes = BoxAllocator::new(rt.alloc());
-    let document = read(&boxes, WRITTEN)?;
-    let mut out = String::new(rt.alloc());
-    document
-        .doc()
-        .render_raw(rt.alloc(), 80, &mut FmtWrite::new(&mut out))?;
+fn flags_change_nothing(rt: HostRuntime) -> Result<(), Fail> {
+    compare_flags_in(&rt, &BoxAllocator::new(rt.alloc()))
+}
+
+fn compare_text_sink<'a, T: DocPtr<'a>>(
+    rt: &impl Abort,
+    memory: Global,
+    document: &T,
+) -> Result<(), Fail> {
+    let mut out = String::new(memory);
+    let mut sink = FmtWrite::new(&mut out);
+    document.doc().render_raw(memory, 80, &mut sink)?;
     assert_eq!(rt; out.as_str(), "ab\n  \n  c");
-    let late = options(LineEnding::Crlf, IndentationPolicy::Deferred);
-    let mut out = Vec::new(rt.alloc());
-    document
-        .doc()
-        .render_raw_with(rt.alloc(), late, &mut IoWrite::new(&mut out))?;
+    Ok(())
+}
+
+fn compare_byte_sink<'a, T: DocPtr<'a>>(
+    rt: &impl Abort,
+    memory: Global,
+    document: &T,
+) -> Result<(), Fail> {
+    let mut out = Vec::new(memory);
+    let mut sink = IoWrite::new(&mut out);
+    document.doc().render_raw_with(memory, late(), &mut sink)?;
     assert_eq!(rt; out.as_slice(), b"ab\r\n\r\n  c".as_slice());
     Ok(())
 }
 
-// A document that fails is not printed, and what stands there is a beginning of its bytes.
+fn compare_sinks<'a, D: DocPlace<'a>>(rt: &impl Abort, place: &'a D) -> Result<(), Fail> {
+    let document = read(place, WRITTEN)?;
+    compare_text_sink(rt, place.memory(), &document)?;
+    compare_byte_sink(rt, place.memory(), &document)
+}
+
 #[test]
-fn no_failing_document_is_displayed(rt: HostRuntime) -> Result<(), Fail> {
-    let boxes = BoxAllocator::new(rt.alloc());
-    let document = read(&boxes, "Append Text 'a' Fail")?;
-    let shown = document.doc().print(rt.alloc(), 80);
-    let mut out = String::from_str(rt.alloc(), "b")?;
+fn to_a_sink(rt: HostRuntime) -> Result<(), Fail> {
+    compare_sinks(&rt, &BoxAllocator::new(rt.alloc()))
+}
+
+fn compare_failing<'a, T: DocPtr<'a>>(
+    rt: &impl Abort,
+    memory: Global,
+    document: &T,
+) -> Result<(), Fail> {
+    let shown = document.doc().print(memory, 80);
+    let mut out = String::from_str(memory, "b")?;
     assert!(rt; write!(out, "{shown}").is_err());
     assert!(rt; "ba".starts_with(out.as_str()));
     Ok(())
 }
 
+fn compare_failing_in<'a, D: DocPlace<'a>>(rt: &impl Abort, place: &'a D) -> Result<(), Fail> {
+    let document = read(place, "Append Text 'a' Fail")?;
+    compare_failing(rt, place.memory(), &document)
+}
+
+// A document that fails is not printed, and what stands there is a beginning of its bytes.
 #[test]
-fn fails_behind_what_stands_before(rt: HostRuntime) -> Result<(), Fail> {
-    let boxes = BoxAllocator::new(rt.alloc());
-    let document = read(&boxes, "Append LineSuffix Fail Text 'a'")?;
-    let mut out = Vec::new(rt.alloc());
-    let result = document.doc().render(rt.alloc(), 80, &mut out);
+fn no_failing_document_is_displayed(rt: HostRuntime) -> Result<(), Fail> {
+    compare_failing_in(&rt, &BoxAllocator::new(rt.alloc()))
+}
+
+fn compare_before<'a, D: DocPlace<'a>>(rt: &impl Abort, place: &'a D) -> Result<(), Fail> {
+    let memory = place.memory();
+    let document = read(place, "Append LineSuffix Fail Text 'a'")?;
+    let mut out = Vec::new(memory);
+    let result = document.doc().render(memory, 80, &mut out);
     assert!(rt; matches!(result, Err(RenderError::Document(_))));
     assert_eq!(rt; out.as_slice(), b"a".as_slice());
     Ok(())
+}
+
+#[test]
+fn fails_behind_what_stands_before(rt: HostRuntime) -> Result<(), Fail> {
+    compare_before(&rt, &BoxAllocator::new(rt.alloc()))
 }
