@@ -1,7 +1,9 @@
 //! The documents of texts and of printed values.
 use prettyless::text::{BuildError, CowStr, Text};
 use prettyless::{BoxDoc, Doc};
+use std::alloc::Global;
 use std::fmt;
+use std::process::Abort;
 use std::test::Fail;
 
 type Node = Doc<'static, BoxDoc<'static>>;
@@ -15,17 +17,36 @@ impl fmt::Display for Failing {
     }
 }
 
-#[test]
-fn counts_a_text(rt: HostRuntime) -> Result<(), Fail> {
-    let doc: Node = Doc::text(rt.alloc(), CowStr::Borrowed(""))?;
+fn counts_nothing(rt: &impl Abort, memory: Global) -> Result<(), Fail> {
+    let doc: Node = Doc::text(memory, CowStr::Borrowed(""))?;
     assert!(rt; matches!(doc, Doc::Nil));
-    let doc: Node = Doc::text(rt.alloc(), CowStr::Borrowed("a\nb"))?;
+    Ok(())
+}
+
+fn counts_bytes(rt: &impl Abort, memory: Global) -> Result<(), Fail> {
+    let doc: Node = Doc::text(memory, CowStr::Borrowed("a\nb"))?;
     assert!(rt; matches!(doc, Doc::Text(Text::Borrowed("a\nb"))));
-    let doc: Node = Doc::text(rt.alloc(), CowStr::Borrowed("\u{c5}\u{4f60}"))?;
+    Ok(())
+}
+
+fn counts_columns(rt: &impl Abort, memory: Global) -> Result<(), Fail> {
+    let doc: Node = Doc::text(memory, CowStr::Borrowed("\u{c5}\u{4f60}"))?;
     assert!(rt; matches!(doc, Doc::TextWithLen(3, Text::Borrowed("\u{c5}\u{4f60}"))));
-    let doc: Node = Doc::text(rt.alloc(), CowStr::Borrowed("\u{301}"))?;
+    Ok(())
+}
+
+fn counts_no_column(rt: &impl Abort, memory: Global) -> Result<(), Fail> {
+    let doc: Node = Doc::text(memory, CowStr::Borrowed("\u{301}"))?;
     assert!(rt; matches!(doc, Doc::TextWithLen(0, Text::Borrowed("\u{301}"))));
     Ok(())
+}
+
+#[test]
+fn counts_a_text(rt: HostRuntime) -> Result<(), Fail> {
+    counts_nothing(&rt, rt.alloc())?;
+    counts_bytes(&rt, rt.alloc())?;
+    counts_columns(&rt, rt.alloc())?;
+    counts_no_column(&rt, rt.alloc())
 }
 
 #[test]
