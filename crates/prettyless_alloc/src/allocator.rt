@@ -38,13 +38,13 @@ pub trait DocAllocator<'a>: DocPlace<'a> {
         ensures { IsOkAnd result (λ b. built Self.Doc.tree b.1
             ≡ TextTree (cow_str_bytes text.entry)) };
 
-    /// A text, written as it is: nothing if it is empty. It counts as its bytes if it is ASCII, and
-    /// else as its display width. It takes no memory.
+    /// A text, written as it is: nothing if it is empty. It counts as its bytes if it is ASCII, and else as its display
+    /// width. A line end in it is not seen by the layout: `multiline_text` is for such texts. It takes no memory.
     fn text(&'a self, text: CowStr<'a>) -> Result<DocBuilder<'a, Self>, BuildError>
         ensures { IsOkAnd result (λ b. built Self.Doc.tree b.1
             ≡ counted.text (cow_str_bytes text.entry)) };
 
-    /// What `{}` shows of the value, also if that is empty. It counts as its bytes if it is ASCII, and
+    /// What `{}` shows of the value: an empty text where it shows nothing. It counts as its bytes if it is ASCII, and
     /// else as its display width.
     ///
     /// Answers `Memory` where memory was refused, and `Display` where only the value's
@@ -56,8 +56,8 @@ pub trait DocAllocator<'a>: DocPlace<'a> {
         ensures { IfOk result (λ b. counted.IsStringOf (V.output value)
             (built Self.Doc.tree b.1)) };
 
-    /// A text whose line breaks, each LF or CR, are written as they are, and are seen by the layout.
-    /// Without one it is as `text` makes it. It takes no memory.
+    /// A text whose line ends, each LF or CR, are written as they are, with no indent behind them. It keeps the groups
+    /// around it from being flat, and fails under `flatten`. Without one it is as `text` makes it. It takes no memory.
     fn multiline_text(&'a self, text: CowStr<'a>) -> Result<DocBuilder<'a, Self>, BuildError>
         ensures { IsOkAnd result (λ b. built Self.Doc.tree b.1
             ≡ counted.multiline_text (cow_str_bytes text.entry)) };
@@ -68,7 +68,7 @@ pub trait DocAllocator<'a>: DocPlace<'a> {
         ensures ok { IfOk result (λ b. built Self.Doc.tree b.1 ≡ words.reflow text.now) }
         ensures err { IfErr result IsMemory };
 
-    /// A line break, which fails where lines are flat. It takes no memory.
+    /// A line break. It keeps the groups around it from being flat, and fails under `flatten`. It takes no memory.
     fn hard_line(&'a self) -> Result<DocBuilder<'a, Self>, BuildError>
         ensures { IsOkAnd result (λ b. built Self.Doc.tree b.1 ≡ HardLine) };
 
@@ -76,7 +76,8 @@ pub trait DocAllocator<'a>: DocPlace<'a> {
     fn hardline(&'a self) -> Result<DocBuilder<'a, Self>, BuildError>
         ensures { IsOkAnd result (λ b. built Self.Doc.tree b.1 ≡ HardLine) };
 
-    /// A line break, also where lines are flat; nothing on a fresh line where no suffix is pending. It takes no memory.
+    /// A line break, under `flatten` too. It keeps the groups around it from being flat. It is nothing on a fresh line
+    /// where no suffix is pending. It takes no memory.
     fn weak_line(&'a self) -> Result<DocBuilder<'a, Self>, BuildError>
         ensures { IsOkAnd result (λ b. built Self.Doc.tree b.1 ≡ WeakLine) };
 
@@ -90,8 +91,8 @@ pub trait DocAllocator<'a>: DocPlace<'a> {
         ensures ok { IfOk result (λ b. built Self.Doc.tree b.1 ≡ to.spaces count) }
         ensures err { IfErr result (λ e. IsMemory e × (100 < count)) };
 
-    /// A space, which is nothing at the start of a line, nor at its end unless a suffix follows
-    /// there. It takes no memory.
+    /// A space; nothing at the start of a line, and nothing at its end unless a suffix is pending there. It takes no
+    /// memory.
     fn weak_space(&'a self) -> Result<DocBuilder<'a, Self>, BuildError>
         ensures { IsOkAnd result (λ b. built Self.Doc.tree b.1 ≡ WeakSpace) };
 
@@ -109,12 +110,14 @@ pub trait DocAllocator<'a>: DocPlace<'a> {
         ensures ok { IfOk result (λ b. built Self.Doc.tree b.1 ≡ lines.line_) }
         ensures err { IfErr result IsMemory };
 
-    /// One space, or a line break where the line has no room. It fails where memory is refused.
+    /// One space, or a line break where what follows, up to the next break that may stand there, would go past the
+    /// width. It fails where memory is refused.
     fn softline(&'a self) -> Result<DocBuilder<'a, Self>, BuildError>
         ensures ok { IfOk result (λ b. built Self.Doc.tree b.1 ≡ to.softline) }
         ensures err { IfErr result IsMemory };
 
-    /// Nothing, or a line break where the line has no room. It fails where memory is refused.
+    /// Nothing, or a line break where what follows, up to the next break that may stand there, would go past the width.
+    /// It fails where memory is refused.
     fn softline_(&'a self) -> Result<DocBuilder<'a, Self>, BuildError>
         ensures ok { IfOk result (λ b. built Self.Doc.tree b.1 ≡ to.softline_) }
         ensures err { IfErr result IsMemory };

@@ -22,7 +22,7 @@ where
     /// The items' documents in order, with the separator in each gap: nothing if there is none. The
     /// separator becomes a document once, and only where there is a gap.
     ///
-    /// `docs` has to end, and to be one that can be walked.
+    /// `docs` has to be an iterator whose `next` may be called, and one that ends: the prover asks for both.
     fn intersperse(&'a self, docs: I, separator: S) -> Result<DocBuilder<'a, Self>, BuildError>
         requires { IsFiniteIterable I.into_iter_gives I.IntoIter.can_next I.IntoIter.remaining docs }
         ensures ok { IfOk result (λ b. (xs : List I.Item)

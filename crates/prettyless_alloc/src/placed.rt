@@ -31,7 +31,7 @@ pub trait PlacedDoc<'a, D: DocPlace<'a, Doc = Self>>: DocPtr<'a> {
         ensures ok { IfOk result (λ p. Self.tree p ≡ Fail) }
         ensures err { IfErr result IsMemory };
 
-    /// A line break, which fails where lines are flat.
+    /// A line break. It keeps the groups around it from being flat, and fails under `flatten`.
     fn hard_line(place: &'a D) -> Result<Self, BuildError>
         ensures ok { IfOk result (λ p. Self.tree p ≡ HardLine) }
         ensures err { IfErr result IsMemory };
@@ -41,7 +41,8 @@ pub trait PlacedDoc<'a, D: DocPlace<'a, Doc = Self>>: DocPtr<'a> {
         ensures ok { IfOk result (λ p. Self.tree p ≡ HardLine) }
         ensures err { IfErr result IsMemory };
 
-    /// A line break, also where lines are flat; nothing on a fresh line where no suffix is pending.
+    /// A line break, under `flatten` too. It keeps the groups around it from being flat. It is nothing on a fresh line
+    /// where no suffix is pending.
     fn weak_line(place: &'a D) -> Result<Self, BuildError>
         ensures ok { IfOk result (λ p. Self.tree p ≡ WeakLine) }
         ensures err { IfErr result IsMemory };
@@ -51,8 +52,7 @@ pub trait PlacedDoc<'a, D: DocPlace<'a, Doc = Self>>: DocPtr<'a> {
         ensures ok { IfOk result (λ p. Self.tree p ≡ lines.space) }
         ensures err { IfErr result IsMemory };
 
-    /// A space, which is nothing at the start of a line, nor at its end unless a suffix follows
-    /// there.
+    /// A space; nothing at the start of a line, and nothing at its end unless a suffix is pending there.
     fn weak_space(place: &'a D) -> Result<Self, BuildError>
         ensures ok { IfOk result (λ p. Self.tree p ≡ WeakSpace) }
         ensures err { IfErr result IsMemory };
@@ -72,23 +72,24 @@ pub trait PlacedDoc<'a, D: DocPlace<'a, Doc = Self>>: DocPtr<'a> {
         ensures ok { IfOk result (λ p. Self.tree p ≡ lines.line_) }
         ensures err { IfErr result IsMemory };
 
-    /// One space, or a line break where the line has no room.
+    /// One space, or a line break where what follows, up to the next break that may stand there, would go past the
+    /// width.
     fn softline(place: &'a D) -> Result<Self, BuildError>
         ensures ok { IfOk result (λ p. Self.tree p ≡ to.softline) }
         ensures err { IfErr result IsMemory };
 
-    /// Nothing, or a line break where the line has no room.
+    /// Nothing, or a line break where what follows, up to the next break that may stand there, would go past the width.
     fn softline_(place: &'a D) -> Result<Self, BuildError>
         ensures ok { IfOk result (λ p. Self.tree p ≡ to.softline_) }
         ensures err { IfErr result IsMemory };
 
-    /// A text, written as it is: nothing if it is empty. It counts as its bytes if it is ASCII, and
-    /// else as its display width.
+    /// A text, written as it is: nothing if it is empty. It counts as its bytes if it is ASCII, and else as its display
+    /// width. A line end in it is not seen by the layout: `multiline_text` is for such texts.
     fn text(place: &'a D, text: CowStr<'a>) -> Result<Self, BuildError>
         ensures ok { IfOk result (λ p. Self.tree p ≡ counted.text (cow_str_bytes text.entry)) }
         ensures err { IfErr result IsMemory };
 
-    /// What `{}` shows of the value, also if that is empty. It counts as its bytes if it is ASCII, and
+    /// What `{}` shows of the value: an empty text where it shows nothing. It counts as its bytes if it is ASCII, and
     /// else as its display width.
     ///
     /// Answers `Memory` where memory was refused, and `Display` where only the value's
@@ -96,15 +97,15 @@ pub trait PlacedDoc<'a, D: DocPlace<'a, Doc = Self>>: DocPtr<'a> {
     fn as_string<V: fmt::Display + Drop>(place: &'a D, value: V) -> Result<Self, BuildError>
         ensures { IfOk result (λ p. counted.IsStringOf (V.output value) (Self.tree p)) };
 
-    /// A text whose line breaks, each LF or CR, are written as they are, and are seen by the layout.
-    /// Without one it is as `text` makes it.
+    /// A text whose line ends, each LF or CR, are written as they are, with no indent behind them. It keeps the groups
+    /// around it from being flat, and fails under `flatten`. Without one it is as `text` makes it.
     fn multiline_text(place: &'a D, text: CowStr<'a>) -> Result<Self, BuildError>
         ensures ok { IfOk result (λ p. Self.tree p
             ≡ counted.multiline_text (cow_str_bytes text.entry)) }
         ensures err { IfErr result IsMemory };
 
-    /// This document, laid flat where it fits the line with what follows, and else broken. Where it is nothing, a text
-    /// or a group, it stays as it is, which takes no memory.
+    /// This document, laid flat where it fits the line with what follows up to the next line break, and else broken.
+    /// Where it is nothing, a text or a group, it stays as it is, which takes no memory.
     fn group(self, place: &'a D) -> Result<Self, BuildError>
         ensures ok { IfOk result (λ p. Self.tree p ≡ to.group (Self.tree self)) }
         ensures same { IsTrue (to.keeps_grouped (Self.tree self)) → result ≡ Ok self }
@@ -117,7 +118,8 @@ pub trait PlacedDoc<'a, D: DocPlace<'a, Doc = Self>>: DocPtr<'a> {
         ensures same { IsTrue (to.keeps_nested offset (Self.tree self)) → result ≡ Ok self }
         ensures err { IfErr result IsMemory };
 
-    /// This document where all its lines fit, and else `that`.
+    /// This document where it can be laid with each text within the width, and else `that`; where lines are flat, this
+    /// one.
     fn union(self, place: &'a D, that: BuildDoc<'a, Self>) -> Result<Self, BuildError>
         ensures ok { IfOk result (λ p. Self.tree p
             ≡ Union (Self.tree self) (built Self.tree that.entry)) }
@@ -253,7 +255,7 @@ where
 {
     /// The items' documents, appended in order: nothing if there is none.
     ///
-    /// `docs` has to end, and to be one that can be walked.
+    /// `docs` has to be an iterator whose `next` may be called, and one that ends: the prover asks for both.
     fn concat(place: &'a D, docs: I) -> Result<Self, BuildError>
         requires { IsFiniteIterable I.into_iter_gives I.IntoIter.can_next I.IntoIter.remaining docs }
         ensures ok { IfOk result (λ p. (xs : List I.Item)
@@ -286,7 +288,7 @@ where
     /// The items' documents in order, with the separator in each gap: nothing if there is none. The
     /// separator becomes a document once, and only where there is a gap.
     ///
-    /// `docs` has to end, and to be one that can be walked.
+    /// `docs` has to be an iterator whose `next` may be called, and one that ends: the prover asks for both.
     fn intersperse(place: &'a D, docs: I, separator: S) -> Result<Self, BuildError>
         requires { IsFiniteIterable I.into_iter_gives I.IntoIter.can_next I.IntoIter.remaining docs }
         ensures ok { IfOk result (λ p. (xs : List I.Item)

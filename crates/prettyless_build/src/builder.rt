@@ -89,8 +89,8 @@ impl<'a, D: DocPlace<'a>> DocBuilder<'a, D> {
         self.join(that)
     }
 
-    /// This document, laid flat where it fits the line with what follows, and else broken. Where it is nothing, a text
-    /// or a group, it stays as it is, which takes no memory; else memory may be refused.
+    /// This document, laid flat where it fits the line with what follows up to the next line break, and else broken.
+    /// Where it is nothing, a text or a group, it stays as it is, which takes no memory; else memory may be refused.
     pub fn group(self) -> Result<Self, BuildError>
         ensures ok { IfOk result (λ b. built D.Doc.tree b.1
             ≡ to.group (built D.Doc.tree self.entry.1)) }

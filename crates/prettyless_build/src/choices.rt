@@ -49,7 +49,8 @@ impl<'a, D: DocPlace<'a>> DocBuilder<'a, D> {
         Ok(DocBuilder::new(allocator, Doc::BreakOrFlat(broken, flat)))
     }
 
-    /// This document where all its lines fit, and else `that`. It fails where memory is refused.
+    /// This document where it can be laid with each text within the width, and else `that`; where lines are flat, this
+    /// one. It fails where memory is refused.
     pub fn union(self, that: BuildDoc<'a, D::Doc>) -> Result<Self, BuildError>
         ensures ok { IfOk result (λ b. built D.Doc.tree b.1
             ≡ Union (built D.Doc.tree self.entry.1) (built D.Doc.tree that.entry)) }
@@ -61,7 +62,8 @@ impl<'a, D: DocPlace<'a>> DocBuilder<'a, D> {
         Ok(DocBuilder::new(allocator, Doc::Union(first, second)))
     }
 
-    /// This document where its first line fits, and else `that`. It fails where memory is refused.
+    /// This document where its first line fits, whatever stands behind that, and else `that`; where lines are flat,
+    /// this one. It fails where memory is refused.
     pub fn partial_union(self, that: BuildDoc<'a, D::Doc>) -> Result<Self, BuildError>
         ensures ok { IfOk result (λ b. built D.Doc.tree b.1
             ≡ PartialUnion (built D.Doc.tree self.entry.1) (built D.Doc.tree that.entry)) }

@@ -10,8 +10,8 @@ use crate::pretty::Pretty;
 use prettyless_doc::{BuildError, Doc, DocPlace, Text};
 
 impl<'a, D: DocPlace<'a>> DocBuilder<'a, D> {
-    /// `before`, this document and `after`, appended. The making of `before` and `after` can fail, and
-    /// memory where two of the three are something.
+    /// `before`, this document and `after`, appended. It fails as the making of `before` or of `after` does, and where
+    /// memory is refused, which it wants only where two of the three are something.
     pub fn enclose<B: Pretty<'a, D>, A: Pretty<'a, D>>(
         self,
         before: B,

@@ -9,7 +9,8 @@ ghost use Rattle.prettyless_build.specs.Built.{refused};
 use prettyless_build::{DocBuilder, Pretty};
 use prettyless_doc::{BuildDoc, BuildError, DocPlace};
 
-/// The first document where all its lines fit, and else the second.
+/// The first document where it can be laid with each text within the width, and else the second; where lines are flat,
+/// the first.
 #[derive(Clone, Debug, Drop)]
 pub struct Union<T, U>(pub(crate) T, pub(crate) U);
 
@@ -27,7 +28,8 @@ impl<'a, D: DocPlace<'a>, T: Pretty<'a, D>, U: Pretty<'a, D>> Pretty<'a, D> for 
     }
 }
 
-/// The first document where its first line fits, and else the second.
+/// The first document where its first line fits, whatever stands behind that, and else the second; where lines are
+/// flat, the first.
 #[derive(Clone, Debug, Drop)]
 pub struct PartialUnion<T, U>(pub(crate) T, pub(crate) U);
 

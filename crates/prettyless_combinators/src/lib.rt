@@ -25,7 +25,7 @@ pub fn fail() -> Fail {
     Fail
 }
 
-/// A line break, which fails where lines are flat.
+/// A line break. It keeps the groups around it from being flat, and fails under `flatten`.
 pub fn hard_line() -> HardLine {
     HardLine
 }
@@ -40,17 +40,18 @@ pub fn line_or_space() -> LineOrSpace {
     LineOrSpace
 }
 
-/// Nothing, or a line break where the line has no room.
+/// Nothing, or a line break where what follows, up to the next break that may stand there, would go past the width.
 pub fn soft_line_or_nil() -> SoftLineOrNil {
     SoftLineOrNil
 }
 
-/// One space, or a line break where the line has no room.
+/// One space, or a line break where what follows, up to the next break that may stand there, would go past the width.
 pub fn soft_line_or_space() -> SoftLineOrSpace {
     SoftLineOrSpace
 }
 
-/// A line break, also where lines are flat; nothing on a fresh line where no suffix is pending.
+/// A line break, under `flatten` too. It keeps the groups around it from being flat. It is nothing on a fresh line
+/// where no suffix is pending.
 pub fn weak_line() -> WeakLine {
     WeakLine
 }
@@ -60,8 +61,7 @@ pub fn space() -> Space {
     Space
 }
 
-/// A space, which is nothing at the start of a line, nor at its end unless a suffix follows
-/// there.
+/// A space; nothing at the start of a line, and nothing at its end unless a suffix is pending there.
 pub fn weak_space() -> WeakSpace {
     WeakSpace
 }
@@ -78,14 +78,15 @@ pub fn spaces(count: usize) -> Spaces
     Spaces(count)
 }
 
-/// What `{}` shows of the value, also if that is empty.
+/// What `{}` shows of the value: an empty text where it shows nothing.
 pub fn as_string<T: fmt::Display>(value: T) -> AsString<T>
     ensures { result.0 ≡ value }
 {
     AsString(value)
 }
 
-/// A text whose line breaks, each LF or CR, are written as they are, and are seen by the layout.
+/// A text whose line ends, each LF or CR, are written as they are, with no indent behind them. It keeps the groups
+/// around it from being flat, and fails under `flatten`.
 pub fn multiline_text<'a>(text: CowStr<'a>) -> MultilineText<'a>
     ensures { result.0 ≡ text.entry }
 {
@@ -118,7 +119,7 @@ pub fn dedent<T>(offset: usize, doc: T) -> Nest<T>
     Nest(-(offset as isize), doc)
 }
 
-/// The document, laid flat where it fits the line with what follows, and else broken.
+/// The document, laid flat where it fits the line with what follows up to the next line break, and else broken.
 pub fn group<T>(doc: T) -> Group<T>
     ensures { result.0 ≡ doc }
 {
@@ -139,7 +140,8 @@ pub fn dedent_to_root<T>(doc: T) -> DedentToRoot<T>
     DedentToRoot(doc)
 }
 
-/// The document, laid flat.
+/// The document, laid flat whether it fits or not. A hard line or a payload shown in it fails; a weak line still
+/// breaks.
 pub fn flatten<T>(doc: T) -> Flatten<T>
     ensures { result.0 ≡ doc }
 {
@@ -153,7 +155,8 @@ pub fn line_suffix<T>(doc: T) -> LineSuffix<T>
     LineSuffix(doc)
 }
 
-/// The first document where all its lines fit, and else the second.
+/// The first document where it can be laid with each text within the width, and else the second; where lines are flat,
+/// the first.
 pub fn union<T, U>(first: T, second: U) -> Union<T, U>
     ensures first { result.0 ≡ first }
     ensures second { result.1 ≡ second }
@@ -161,7 +164,8 @@ pub fn union<T, U>(first: T, second: U) -> Union<T, U>
     Union(first, second)
 }
 
-/// The first document where its first line fits, and else the second.
+/// The first document where its first line fits, whatever stands behind that, and else the second; where lines are
+/// flat, the first.
 pub fn partial_union<T, U>(first: T, second: U) -> PartialUnion<T, U>
     ensures first { result.0 ≡ first }
     ensures second { result.1 ≡ second }
@@ -179,7 +183,7 @@ pub fn flat_alt<T, U>(broken: T, flat: U) -> FlatAlt<T, U>
 
 /// The documents of all items, appended in order: nothing if there is none.
 ///
-/// `docs` has to end, and to be one that can be walked.
+/// `docs` has to be an iterator whose `next` may be called, and one that ends: the prover asks for both.
 pub fn concat<I: IntoIterator>(docs: I) -> Concat<I::IntoIter>
     requires { IsFiniteIterable I.into_iter_gives I.IntoIter.can_next I.IntoIter.remaining docs }
     ensures { I.into_iter_gives docs result }
@@ -190,7 +194,7 @@ pub fn concat<I: IntoIterator>(docs: I) -> Concat<I::IntoIter>
 /// The documents of all items in order, with the separator in each gap: nothing if there is none. The
 /// separator becomes a document once, and only where there is a gap.
 ///
-/// `docs` has to end, and to be one that can be walked.
+/// `docs` has to be an iterator whose `next` may be called, and one that ends: the prover asks for both.
 pub fn intersperse<I: IntoIterator, S>(separator: S, docs: I) -> Intersperse<I::IntoIter, S>
     requires { IsFiniteIterable I.into_iter_gives I.IntoIter.can_next I.IntoIter.remaining docs }
     ensures items { I.into_iter_gives docs result.0 }

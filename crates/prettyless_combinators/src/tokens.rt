@@ -37,7 +37,7 @@ impl<'a, D: DocPlace<'a>> Pretty<'a, D> for Fail {
     }
 }
 
-/// A line break, which fails where lines are flat. It takes no memory.
+/// A line break. It keeps the groups around it from being flat, and fails under `flatten`. It takes no memory.
 #[derive(Clone, Copy, Debug)]
 pub struct HardLine;
 
@@ -79,7 +79,8 @@ impl<'a, D: DocPlace<'a>> Pretty<'a, D> for LineOrSpace {
     }
 }
 
-/// Nothing, or a line break where the line has no room. It fails where memory is refused.
+/// Nothing, or a line break where what follows, up to the next break that may stand there, would go past the width. It
+/// fails where memory is refused.
 #[derive(Clone, Copy, Debug)]
 pub struct SoftLineOrNil;
 
@@ -93,7 +94,8 @@ impl<'a, D: DocPlace<'a>> Pretty<'a, D> for SoftLineOrNil {
     }
 }
 
-/// One space, or a line break where the line has no room. It fails where memory is refused.
+/// One space, or a line break where what follows, up to the next break that may stand there, would go past the width.
+/// It fails where memory is refused.
 #[derive(Clone, Copy, Debug)]
 pub struct SoftLineOrSpace;
 
@@ -107,7 +109,8 @@ impl<'a, D: DocPlace<'a>> Pretty<'a, D> for SoftLineOrSpace {
     }
 }
 
-/// A line break, also where lines are flat; nothing on a fresh line where no suffix is pending. It takes no memory.
+/// A line break, under `flatten` too. It keeps the groups around it from being flat. It is nothing on a fresh line
+/// where no suffix is pending. It takes no memory.
 #[derive(Clone, Copy, Debug)]
 pub struct WeakLine;
 
@@ -135,8 +138,8 @@ impl<'a, D: DocPlace<'a>> Pretty<'a, D> for Space {
     }
 }
 
-/// A space, which is nothing at the start of a line, nor at its end unless a suffix follows
-/// there. It takes no memory.
+/// A space; nothing at the start of a line, and nothing at its end unless a suffix is pending there. It takes no
+/// memory.
 #[derive(Clone, Copy, Debug)]
 pub struct WeakSpace;
 

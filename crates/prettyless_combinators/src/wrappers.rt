@@ -40,7 +40,7 @@ impl<'a, D: DocPlace<'a>, T: Pretty<'a, D>> Pretty<'a, D> for Repeat<T> {
     }
 }
 
-/// A document that is laid flat where it fits the line with what follows, and else broken.
+/// A document that is laid flat where it fits the line with what follows up to the next line break, and else broken.
 #[derive(Clone, Debug, Drop)]
 pub struct Group<T>(pub(crate) T);
 
@@ -85,7 +85,8 @@ impl<'a, D: DocPlace<'a>, T: Pretty<'a, D>> Pretty<'a, D> for DedentToRoot<T> {
     }
 }
 
-/// A document that is laid flat.
+/// A document that is laid flat whether it fits or not. A hard line or a payload shown in it fails; a weak line still
+/// breaks.
 #[derive(Clone, Debug, Drop)]
 pub struct Flatten<T>(pub(crate) T);
 

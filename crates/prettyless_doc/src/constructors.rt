@@ -28,7 +28,7 @@ impl<'a, T: DocPtr<'a>> Doc<'a, T> {
         Doc::Fail
     }
 
-    /// A line break, which fails where lines are flat.
+    /// A line break. It keeps the groups around it from being flat, and fails under `flatten`.
     pub fn hard_line() -> Self
         ensures { tree_of T.tree result ≡ tree.HardLine }
     {
@@ -42,7 +42,8 @@ impl<'a, T: DocPtr<'a>> Doc<'a, T> {
         Doc::hard_line()
     }
 
-    /// A line break, also where lines are flat; nothing on a fresh line where no suffix is pending.
+    /// A line break, under `flatten` too. It keeps the groups around it from being flat. It is nothing on a fresh line
+    /// where no suffix is pending.
     pub fn weak_line() -> Self
         ensures { tree_of T.tree result ≡ tree.WeakLine }
     {
@@ -56,7 +57,7 @@ impl<'a, T: DocPtr<'a>> Doc<'a, T> {
         Doc::Text(Text::Borrowed(" "))
     }
 
-    /// A space, which is nothing at the start of a line, nor at its end unless a suffix follows there.
+    /// A space; nothing at the start of a line, and nothing at its end unless a suffix is pending there.
     pub fn weak_space() -> Self
         ensures { tree_of T.tree result ≡ tree.WeakSpace }
     {
@@ -108,7 +109,7 @@ impl<'a, D: DocPtr<'a>> BuildDoc<'a, D> {
         BuildDoc::Doc(Doc::fail())
     }
 
-    /// A line break, which fails where lines are flat.
+    /// A line break. It keeps the groups around it from being flat, and fails under `flatten`.
     pub fn hard_line() -> Self
         ensures { built D.tree result ≡ tree.HardLine }
     {
@@ -122,7 +123,8 @@ impl<'a, D: DocPtr<'a>> BuildDoc<'a, D> {
         BuildDoc::Doc(Doc::hardline())
     }
 
-    /// A line break, also where lines are flat; nothing on a fresh line where no suffix is pending.
+    /// A line break, under `flatten` too. It keeps the groups around it from being flat. It is nothing on a fresh line
+    /// where no suffix is pending.
     pub fn weak_line() -> Self
         ensures { built D.tree result ≡ tree.WeakLine }
     {
@@ -136,7 +138,7 @@ impl<'a, D: DocPtr<'a>> BuildDoc<'a, D> {
         BuildDoc::Doc(Doc::space())
     }
 
-    /// A space, which is nothing at the start of a line, nor at its end unless a suffix follows there.
+    /// A space; nothing at the start of a line, and nothing at its end unless a suffix is pending there.
     pub fn weak_space() -> Self
         ensures { built D.tree result ≡ tree.WeakSpace }
     {
@@ -150,15 +152,15 @@ impl<'a, D: DocPtr<'a>> BuildDoc<'a, D> {
         BuildDoc::Doc(Doc::expand_parent())
     }
 
-    /// A text, written as it is: nothing if it is empty. It counts as its bytes if it is ASCII, and
-    /// else as its display width. It takes no memory.
+    /// A text, written as it is: nothing if it is empty. It counts as its bytes if it is ASCII, and else as its display
+    /// width. A line end in it is not seen by the layout: `multiline_text` is for such texts. It takes no memory.
     pub fn text(alloc: Global, text: CowStr<'a>) -> Result<Self, BuildError>
         ensures { IsOkAnd result (λ d. built D.tree d ≡ to.text (cow_str_bytes text.entry)) }
     {
         Ok(BuildDoc::Doc(Doc::text(alloc, text)?))
     }
 
-    /// What `{}` shows of the value, also if that is empty. It counts as its bytes if it is ASCII, and
+    /// What `{}` shows of the value: an empty text where it shows nothing. It counts as its bytes if it is ASCII, and
     /// else as its display width.
     ///
     /// Answers `Memory` where memory was refused, and `Display` where only the value's
@@ -169,8 +171,8 @@ impl<'a, D: DocPtr<'a>> BuildDoc<'a, D> {
         Ok(BuildDoc::Doc(Doc::as_string(alloc, value)?))
     }
 
-    /// A text whose line breaks, each LF or CR, are written as they are, and are seen by the layout.
-    /// Without one it is as `text` makes it. It takes no memory.
+    /// A text whose line ends, each LF or CR, are written as they are, with no indent behind them. It keeps the groups
+    /// around it from being flat, and fails under `flatten`. Without one it is as `text` makes it. It takes no memory.
     pub fn multiline_text(alloc: Global, text: CowStr<'a>) -> Result<Self, BuildError>
         ensures { IsOkAnd result (λ d. built D.tree d
             ≡ to.multiline_text (cow_str_bytes text.entry)) }

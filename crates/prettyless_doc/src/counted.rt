@@ -24,8 +24,8 @@ impl<'a, T: DocPtr<'a>> Doc<'a, T> {
         Doc::TextWithLen(width, text)
     }
 
-    /// A text, written as it is: nothing if it is empty. It counts as its bytes if it is ASCII, and
-    /// else as its display width. It takes no memory.
+    /// A text, written as it is: nothing if it is empty. It counts as its bytes if it is ASCII, and else as its display
+    /// width. A line end in it is not seen by the layout: `multiline_text` is for such texts. It takes no memory.
     pub fn text(alloc: Global, text: CowStr<'a>) -> Result<Self, BuildError>
         ensures { IsOkAnd result (λ d. tree_of T.tree d ≡ to.text (cow_str_bytes text.entry)) }
     {
@@ -35,7 +35,7 @@ impl<'a, T: DocPtr<'a>> Doc<'a, T> {
         Ok(Doc::counted(Text::from_cow(alloc, text)?))
     }
 
-    /// What `{}` shows of the value, also if that is empty. It counts as its bytes if it is ASCII, and
+    /// What `{}` shows of the value: an empty text where it shows nothing. It counts as its bytes if it is ASCII, and
     /// else as its display width.
     ///
     /// Answers `Memory` where memory was refused, and `Display` where only the value's
@@ -46,8 +46,8 @@ impl<'a, T: DocPtr<'a>> Doc<'a, T> {
         Ok(Doc::counted(Text::from_display(alloc, value)?))
     }
 
-    /// A text whose line breaks, each LF or CR, are written as they are, and are seen by the layout.
-    /// Without one it is as `text` makes it. It takes no memory.
+    /// A text whose line ends, each LF or CR, are written as they are, with no indent behind them. It keeps the groups
+    /// around it from being flat, and fails under `flatten`. Without one it is as `text` makes it. It takes no memory.
     pub fn multiline_text(alloc: Global, text: CowStr<'a>) -> Result<Self, BuildError>
         ensures { IsOkAnd result (λ d. tree_of T.tree d
             ≡ to.multiline_text (cow_str_bytes text.entry)) }

@@ -9,26 +9,30 @@ use crate::text::{MultilineTextData, Text};
 pub enum Doc<'a, T> {
     /// Nothing.
     Nil,
-    /// A document that cannot be laid: a render that meets it answers `RenderError::Document`, and a union rejects a first
-    /// branch that meets it.
+    /// A document that cannot be laid: a render that meets it answers `RenderError::Document`, and a union that is met
+    /// in broken lines rejects a first branch whose laying comes to it.
     Fail,
     /// A text, counted as one column a byte.
     Text(Text<'a>),
     /// A text and the columns that it counts as.
     TextWithLen(usize, Text<'a>),
-    /// A text that holds line breaks of its own, and is written byte for byte. It fails where lines are flat.
+    /// A text that holds line ends of its own, and is written byte for byte. It keeps the groups around it from being
+    /// flat, and fails under `flatten`.
     MultilineText(MultilineTextData<'a>),
-    /// A space, which is nothing at the start of a line, nor at its end unless a suffix follows there.
+    /// A space; nothing at the start of a line, and nothing at its end unless a suffix is pending there.
     WeakSpace,
-    /// A line break. It fails where lines are flat.
+    /// A line break. It keeps the groups around it from being flat, and fails under `flatten`.
     HardLine,
-    /// A line break, also where lines are flat; nothing on a fresh line where no suffix is pending.
+    /// A line break, under `flatten` too. It keeps the groups around it from being flat. It is nothing on a fresh line
+    /// where no suffix is pending.
     WeakLine,
     /// Two documents, one after the other.
     Append(T, T),
-    /// A document that stays pending until its line ends, and is laid there.
+    /// A document that stays pending until its line ends, at the next line break or at the end of the document, and is
+    /// laid there, at the indent of that break and flat or broken as it is. Its width does not count for what fits.
     LineSuffix(T),
-    /// A document with its indent moved by so many columns, to the left where negative; it stays within 0 and `usize::MAX`.
+    /// A document with its indent moved by so many columns, to the left where negative; it stays within 0 and
+    /// `usize::MAX`. A line takes the indent of the document behind its break, not that of the break.
     Nest(isize, T),
     /// A document with indent 0.
     DedentToRoot(T),
@@ -36,18 +40,20 @@ pub enum Doc<'a, T> {
     Align(T),
     /// Nothing, but it keeps the groups around it from being flat.
     ExpandParent,
-    /// A document that is laid flat.
+    /// A document that is laid flat whether it fits or not. A hard line or a payload shown in it fails; a weak line
+    /// still breaks.
     Flatten(T),
     /// The first document where lines are broken, and the second where they are flat.
     BreakOrFlat(T, T),
     /// A document that is laid flat where it fits the line together with what follows up to the next line break, and else
     /// broken.
     Group(T),
-    /// The first document where it can be laid with all its lines within the width, whatever follows, or where lines are
-    /// flat; else the second.
+    /// The first document where it can be laid and no text of it ends past the width, nor any line of a payload,
+    /// whatever follows; else the second. Where lines are flat it is always the first.
     Union(T, T),
-    /// The first document where its first line fits, together with what follows if it has no line break, or where lines are
-    /// flat; else the second.
+    /// The first document where its first line fits, together with what follows if it has no line break; else the
+    /// second. What stands behind that line is not looked at, and may fail. Where lines are flat it is always the
+    /// first.
     PartialUnion(T, T),
 }
 

@@ -24,7 +24,8 @@ use std::{fmt, io};
 /// Renders. On success all bytes of the layout were appended. Where the document fails, the bytes before the failing
 /// node were, and the error is one that says so. Where the sink failed, or memory was refused, a beginning of the
 /// layout's bytes was. A width is in columns; lines end in LF and indents are written at once, unless options say
-/// otherwise.
+/// otherwise. All of this holds where the sink or the writer tells its bytes; of others, as of one within `Untold`,
+/// nothing is said.
 impl<'a, T: DocPtr<'a>> Doc<'a, T> {
     /// Renders to a sink. `Sink` is answered only where its failures rose by one in this call (at their greatest value
     /// they stay); else they stay.
@@ -46,8 +47,8 @@ impl<'a, T: DocPtr<'a>> Doc<'a, T> {
 
     /// Renders to a sink, and adds to `visits` how many nodes the printer and its probes took up.
     ///
-    /// A document with no line suffix is taken up by the printer at most once a node, also where a trial was not kept.
-    /// Each of its groups and partial unions asks one probe at most, which takes up a node at most once.
+    /// Of a document with no line suffix the printer takes up each node at most once, also where a trial was not kept.
+    /// Each group and partial union asks at most one probe, which takes up each node at most once.
     ///
     /// On success the printer has taken up at least the nodes that the layout lays, and its probes at least one node for
     /// each probe that the layout asks, up to the greatest `u64`. A rejected branch of a union counts nothing here, and
@@ -93,8 +94,8 @@ impl<'a, T: DocPtr<'a>> Doc<'a, T> {
         self.render_raw_with(alloc, RenderOptions::new(width), out)
     }
 
-    /// Renders to a byte writer, piece by piece: hand in a `BufWriter` where writes are dear. An interruption is answered as
-    /// `Sink`, and not tried again.
+    /// Renders to a byte writer, piece by piece: hand in a `BufWriter` where writes are dear, and flush it afterwards,
+    /// since nothing here does. An interruption is answered as `Sink`, and not tried again.
     pub fn render_with<W: io::Write>(
         &self,
         alloc: Global,

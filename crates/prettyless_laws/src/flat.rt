@@ -1,10 +1,10 @@
 ghost use Rattle.prettyless_laws.specs.FlatLines.{WhatFitsLiesOnOneLine, GroupsThatFitAreFlat, BreaksSkipWeakLines, WhatFitsIsToldOnOneLine, GroupsThatFitAreToldFlat, ToldBreaksPassWeakLines};
 
-/// A document to which the probe answers yes in Flat is laid without a failure and without a break, no text goes past
-/// the width, and nothing that was pending is laid. A group is laid so wherever its probe answers yes.
+/// A document that the probe finds to fit when flat is laid flat without a failure and without a line break; no text of
+/// it ends past the width, and no pending suffix is laid. A group is laid so wherever its probe answers yes.
 ///
-/// The trace tells it so: of the document gaps and texts alone, each text within the width, and of the group that its
-/// first alternative was taken, and then these.
+/// Its trace has gaps and texts alone, each text ending within the width; that of the group has in front that the first
+/// alternative was taken.
 pub fn law_flat_group()
     ensures one_line { WhatFitsLiesOnOneLine }
     ensures group { GroupsThatFitAreFlat }

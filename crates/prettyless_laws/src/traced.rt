@@ -5,8 +5,8 @@ pub fn law_endings()
     ensures { TracesGoByWidth }
 {}
 
-/// What a layout writes is its trace, piece by piece: the options say only what ends a line, and whether an indent is
-/// written that no content uses.
+/// What a layout writes is its trace, piece by piece. Apart from the width, by which the trace goes, the options say
+/// only what ends a line, and whether an indent is written that no content uses.
 pub fn law_deferred()
     ensures { LayoutsAreTracesWrittenOut }
 {}

@@ -58,7 +58,7 @@ impl<'a> Pretty<'a, Arena<'a>> for RefDoc<'a> {
     }
 }
 
-/// What ends in a pointer to a node in an arena. A trait, as the builder is of a crate below.
+/// The call `into_ref` of a builder over an arena. It stands in a trait, since `DocBuilder` is of another crate.
 pub trait IntoRef<'a> {
     // the tree of the document that it is
     ghost tree: { Self → Tree };

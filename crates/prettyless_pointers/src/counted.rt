@@ -9,7 +9,9 @@ use std::alloc::Global;
 use std::fmt;
 use std::rc::Rc;
 
-/// A pointer that owns its node together with its clones. The last of them gives it up.
+/// A pointer that owns its node together with its clones. The last of them gives it up, and with it, by calls within
+/// calls, all that only it held: a document of many thousand levels may run out of stack, and a chain of appended
+/// documents is as deep as it is long.
 #[derive(Drop)]
 pub struct RcDoc<'a>(Rc<Doc<'a, RcDoc<'a>>>);
 
@@ -56,7 +58,7 @@ impl<'a> From<RcDoc<'a>> for BuildDoc<'a, RcDoc<'a>> {
     }
 }
 
-/// Puts each node where its pointers count its owners.
+/// Puts each node into an `Rc`.
 #[derive(Clone, Copy)]
 pub struct RcAllocator {
     memory: Global,

@@ -30,8 +30,8 @@ pub enum IndentationPolicy {
     /// At the line's beginning, also where no text follows on the line.
     #[default]
     Eager,
-    /// Before the first content of the line, which is a text that is not empty or a pending suffix: a line without one gets
-    /// no indent.
+    /// Before the first content of the line: a text that is not empty, a payload whose first line is not empty, or a
+    /// pending suffix. A line without one gets no indent.
     Deferred,
 }
 
@@ -40,7 +40,7 @@ pub enum IndentationPolicy {
 pub struct RenderOptions {
     /// The columns of a line that a layout aims to stay within.
     pub width: usize,
-    /// What a line break writes. Breaks that a text holds itself are written as they are.
+    /// What a line break writes. Line ends inside a text are written as they are.
     pub line_ending: LineEnding,
     /// When the spaces of an indent are written.
     pub indentation_policy: IndentationPolicy,
