@@ -88,10 +88,10 @@ fn pointers_are_documents(rt: HostRuntime) -> Result<(), Fail> {
     of_arenas(&rt, rt.alloc())
 }
 
-fn nodes<'a, D: DocPlace<'a>>(rt: &impl Abort, place: &'a D) -> Result<(), Fail> {
-    shows(rt, Doc::HardLine.pretty(place), "HardLine")?;
-    shows(rt, BuildDoc::Doc(Doc::HardLine).pretty(place), "HardLine")?;
-    shows(rt, place.hard_line()?.pretty(place), "HardLine")
+fn nodes<'a>(rt: &impl Abort, boxes: &'a BoxAllocator) -> Result<(), Fail> {
+    becomes(rt, boxes, Doc::HardLine, "HardLine")?;
+    becomes(rt, boxes, BuildDoc::Doc(Doc::HardLine), "HardLine")?;
+    becomes(rt, boxes, boxes.hard_line()?, "HardLine")
 }
 
 #[test]
