@@ -77,17 +77,6 @@ fn weak_lines_break_a_group<'a, D: DocPlace<'a>>(
     compare(rt, document, &[(80, "a\nb")])
 }
 
-fn suffixes_stand_behind_a_payload<'a, D: DocPlace<'a>>(
-    rt: &impl Abort,
-    place: &'a D,
-) -> Result<(), Fail> {
-    let payload = place.multiline_text(CowStr::Borrowed("\"b\nc\""))?;
-    let document = place.line_suffix(" // 1")?.join(payload)?.into_doc()?;
-    let out = rendered(place.memory(), &document, RenderOptions::new(80))?;
-    assert_eq!(rt; out.as_str(), "\"b\nc\" // 1");
-    Ok(())
-}
-
 fn unions_fit_all_their_lines<'a, D: DocPlace<'a>>(
     rt: &impl Abort,
     place: &'a D,
@@ -124,21 +113,6 @@ fn dedents_to_the_root<'a, D: DocPlace<'a>>(rt: &impl Abort, place: &'a D) -> Re
     compare(rt, document, &[(10, "ab\nc\n    e")])
 }
 
-// A text behind what fails, but for where it is flat.
-fn behind_a_failure<'a, D: DocPlace<'a>>(
-    place: &'a D,
-    next: &'a str,
-) -> Result<DocBuilder<'a, D>, BuildError> {
-    let failure = place.fail()?.flat_alt(())?;
-    failure.join(text(place, next)?)?.group()
-}
-
-fn failures_count_by_mode<'a, D: DocPlace<'a>>(rt: &impl Abort, place: &'a D) -> Result<(), Fail> {
-    let second = placed(text(place, "abc")?)?;
-    let document = behind_a_failure(place, "12345")?.union(second);
-    compare(rt, document, &[(5, "12345"), (4, "abc")])
-}
-
 fn flattened_breaks_fail<'a, D: DocPlace<'a>>(rt: &impl Abort, place: &'a D) -> Result<(), Fail> {
     let document = place.hard_line()?.flatten()?.into_doc()?;
     let mut out = String::new(place.memory());
@@ -151,8 +125,7 @@ fn flattened_breaks_fail<'a, D: DocPlace<'a>>(rt: &impl Abort, place: &'a D) -> 
 fn breaks<'a, D: DocPlace<'a>>(rt: &impl Abort, place: &'a D) -> Result<(), Fail> {
     lines_are_spaces(rt, place)?;
     tight_lines_are_nothing_or_breaks(rt, place)?;
-    weak_lines_break_a_group(rt, place)?;
-    suffixes_stand_behind_a_payload(rt, place)
+    weak_lines_break_a_group(rt, place)
 }
 
 fn indents<'a, D: DocPlace<'a>>(rt: &impl Abort, place: &'a D) -> Result<(), Fail> {
@@ -166,22 +139,40 @@ fn alternatives<'a, D: DocPlace<'a>>(rt: &impl Abort, place: &'a D) -> Result<()
     partial_unions_fit_their_first_line(rt, place)
 }
 
-fn failures<'a, D: DocPlace<'a>>(rt: &impl Abort, place: &'a D) -> Result<(), Fail> {
-    failures_count_by_mode(rt, place)?;
-    flattened_breaks_fail(rt, place)
-}
-
 #[test]
 fn builders_make_documents(rt: HostRuntime) -> Result<(), Fail> {
     let boxes = BoxAllocator::new(rt.alloc());
     breaks(&rt, &boxes)?;
     indents(&rt, &boxes)?;
     alternatives(&rt, &boxes)?;
-    failures(&rt, &boxes)
+    flattened_breaks_fail(&rt, &boxes)
 }
 
 #[test]
 fn builders_take_builders(rt: HostRuntime) -> Result<(), Fail> {
     let boxes = BoxAllocator::new(rt.alloc());
     nests_breaks(&rt, &boxes, text(&boxes, "x")?)
+}
+
+#[test]
+fn suffixes_stand_behind_a_payload(rt: HostRuntime) -> Result<(), Fail> {
+    let boxes = BoxAllocator::new(rt.alloc());
+    let payload = boxes.multiline_text(CowStr::Borrowed("\"b\nc\""))?;
+    let document = boxes.line_suffix(text(&boxes, " // 1")?)?.append(payload)?;
+    let out = rendered(rt.alloc(), &document.into_doc()?, RenderOptions::new(80))?;
+    assert_eq!(rt; out.as_str(), "\"b\nc\" // 1");
+    Ok(())
+}
+
+#[test]
+fn failures_count_by_mode(rt: HostRuntime) -> Result<(), Fail> {
+    let boxes = BoxAllocator::new(rt.alloc());
+    let second = placed(text(&boxes, "abc")?)?;
+    let document = boxes
+        .fail()?
+        .flat_alt(boxes.nil()?)?
+        .append(text(&boxes, "12345")?)?
+        .group()?
+        .union(second);
+    compare(&rt, document, &[(5, "12345"), (4, "abc")])
 }
