@@ -5,7 +5,7 @@ ghost use Rattle.prettyless_doc.specs.Shown.{IsBelow};
 
 use crate::doc::{BuildDoc, Doc, DocPtr};
 use crate::text::Text;
-use prettyless_printer::walk::{View, Walk};
+use prettyless_step::walk::{View, Walk};
 use std::fmt;
 
 impl<'a, T: DocPtr<'a>> fmt::Debug for Doc<'a, T> {

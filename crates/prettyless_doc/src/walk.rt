@@ -1,7 +1,7 @@
 ghost use Rattle.prettyless_doc.specs.DocTree.{tree_of};
 
 use crate::doc::{Doc, DocPtr};
-use prettyless_printer::walk::{View, Walk};
+use prettyless_step::walk::{View, Walk};
 
 /// A document as the printer walks it.
 impl<'d, 'a, T: DocPtr<'a>> Walk for &'d Doc<'a, T> {

@@ -1,10 +1,7 @@
-pub mod Stacks
-pub mod Queues
 pub mod Runs
 pub mod Steps
 pub mod Within
 pub mod Progresses
-pub mod Shown
 pub mod Turnings
 pub mod Trying
 pub mod Working

@@ -16,14 +16,15 @@ use Rattle.prettyless_model.specs.Counts.{Weight, each_node, each_probe, counted
 use Rattle.prettyless_model.proofs.Levels.{settle_fixed}
 use Rattle.prettyless_model.specs.declared.mode.Mode.{Mode}
 use Rattle.prettyless_model.specs.declared.mode.Mode.TheVariants.{Break, Flat}
-use Rattle.prettyless_printer.specs.Stack.{Task, make_task, tasks, follow, stack_of}
-use Rattle.prettyless_printer.specs.Steps.{Step, Move, Stuck, Choose, step_of, union_step, decided_by_metrics, break_step, at_once}
-use Rattle.prettyless_printer.specs.Printing.{state_of, ShowsAt, TookNext, TookWriting, WritesAt}
+use Rattle.prettyless_step.specs.Stack.{Task, make_task, tasks, follow, stack_of}
+use Rattle.prettyless_step.specs.Steps.{Step, Move, Stuck, Choose, step_of, union_step, decided_by_metrics, break_step, at_once}
+use Rattle.prettyless_step.specs.Printing.{state_of, ShowsAt, TookNext, TookWriting, WritesAt}
 use Rattle.prettyless_printer.specs.Trials.{TrialDid}
 use Rattle.prettyless_printer.specs.Visits.{Rise}
-use Rattle.prettyless_printer.specs.Meets.{tally_above, tally_choice, nothing_left, RisesBy, Meets, stack_tally, choice_tally, trial_tally, VisitedAtLeast}
-use Rattle.prettyless_printer.specs.declared.printer.Taken.TheVariants.{Chosen}
-use Rattle.prettyless_printer.specs.declared.printer.Printer.{Printer}
+use Rattle.prettyless_printer.specs.Meets.{tally_above, tally_choice, nothing_left, Meets, stack_tally, choice_tally, trial_tally, VisitedAtLeast}
+use Rattle.prettyless_step.specs.Probing.{RisesBy}
+use Rattle.prettyless_step.specs.declared.printer.Taken.TheVariants.{Chosen}
+use Rattle.prettyless_step.specs.declared.printer.Printer.{Printer}
 use Rattle.prettyless_printer.proofs.Runs.{follow-tasks, payload_branch, no_padding}
 
 -- what a task counts, and then those behind it

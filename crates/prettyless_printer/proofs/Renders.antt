@@ -12,15 +12,15 @@ use Rattle.prettyless_model.specs.Levels.{settle, settle_end}
 use Rattle.prettyless_model.specs.declared.mode.Mode.TheVariants.{Break}
 use Rattle.prettyless_model.proofs.Outcomes.{after-nil, after-after, then-done}
 use Rattle.prettyless_model.proofs.Levels.{end_fixed, layout_is}
-use Rattle.prettyless_printer.specs.Stack.{Task, make_task, nodes, stack_of, tasks}
-use Rattle.prettyless_printer.specs.Steps.{lay_all, owed}
-use Rattle.prettyless_printer.specs.Printing.{state_of}
+use Rattle.prettyless_step.specs.Stack.{Task, make_task, nodes, stack_of, tasks}
+use Rattle.prettyless_step.specs.Steps.{lay_all, owed}
+use Rattle.prettyless_step.specs.Printing.{state_of}
 use Rattle.prettyless_printer.specs.Turns.{bytes_before}
 use Rattle.prettyless_printer.specs.Renders.{rest_of, to_end, Stopped, Flushed, Rendered}
 use Rattle.prettyless_printer.proofs.Progresses.{bytes_before-after}
 use Rattle.prettyless_printer.proofs.Runs.{lay_all-tasks}
 use Rattle.prettyless_printer.proofs.Steps.{nodes-tasks}
-use Rattle.prettyless_printer.specs.declared.printer.Printer.{Printer}
+use Rattle.prettyless_step.specs.declared.printer.Printer.{Printer}
 
 -- What was written since `old`, and then what the commands and the end lay, is the whole.
 pub record Finishing {N : Type 0} (f : N → Tree) (whole : Outcome) (p : Printer N) (old out : List ℕ) : Type 0 where

@@ -7,8 +7,8 @@ use Rattle.prettyless_model.specs.Tree.{Tree, Nil, Fail, Text, TextWithLen, Mult
 use Rattle.prettyless_model.specs.Layout.{State, Done, Entry, lay_text, lay_ending, next_indent, is_suppressed, plain_break, probe}
 use Rattle.prettyless_model.specs.declared.mode.Mode.{Mode}
 use Rattle.prettyless_model.specs.declared.mode.Mode.TheVariants.{Break, Flat}
-use Rattle.prettyless_printer.specs.Stack.{Task, make_task, tasks, nodes}
-use Rattle.prettyless_printer.specs.Steps.{Step, Move, Stuck, Choose, step_of, union_step, decided_by_metrics, break_step, at_once, owed}
+use Rattle.prettyless_step.specs.Stack.{Task, make_task, tasks, nodes}
+use Rattle.prettyless_step.specs.Steps.{Step, Move, Stuck, Choose, step_of, union_step, decided_by_metrics, break_step, at_once, owed}
 
 -- the step leaves less work than n, where p is owed for the documents that wait
 abbrev pub LeavesLess : ℕ → ℕ → Step → Type 0

@@ -13,15 +13,15 @@ use Rattle.prettyless_model.specs.Layout.{State, Outcome, Done, accept, tried, l
 use Rattle.prettyless_model.specs.Levels.{settle}
 use Rattle.prettyless_model.specs.declared.mode.Mode.TheVariants.{Break}
 use Rattle.prettyless_model.proofs.Outcomes.{after-nil, then-done}
-use Rattle.prettyless_printer.specs.Stack.{Task, make_task, follow, stack_of, trees}
-use Rattle.prettyless_printer.specs.Steps.{lay_all, owed}
+use Rattle.prettyless_step.specs.Stack.{Task, make_task, follow, stack_of, trees}
+use Rattle.prettyless_step.specs.Steps.{lay_all, owed}
 use Rattle.prettyless_printer.specs.Progress.{Inside, Waits, Decides}
-use Rattle.prettyless_printer.specs.Printing.{state_of, Grows}
+use Rattle.prettyless_step.specs.Printing.{state_of, Grows}
 use Rattle.prettyless_printer.specs.Trials.{Restores, TrialDid}
 use Rattle.prettyless_printer.specs.Turns.{ForWholes}
 use Rattle.prettyless_printer.proofs.Progresses.{waits_kept, waits_other, inside_end}
 use Rattle.prettyless_printer.proofs.Turnings.{inside_at}
-use Rattle.prettyless_printer.specs.declared.printer.Printer.{Printer}
+use Rattle.prettyless_step.specs.declared.printer.Printer.{Printer}
 use Rattle.prettyless_printer.specs.declared.trial.Mark.{Mark}
 
 -- what a trial of d at i from p lays

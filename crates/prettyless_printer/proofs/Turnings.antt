@@ -6,17 +6,17 @@ use Rattle.prettyless_sink.specs.declared.options.RenderOptions.{RenderOptions}
 use Rattle.prettyless_model.specs.Tree.{Tree, size}
 use Rattle.prettyless_model.specs.Layout.{State, Outcome, after_bytes}
 use Rattle.prettyless_model.specs.Levels.{settle}
-use Rattle.prettyless_printer.specs.Stack.{Task, follow, nodes, stack_of}
-use Rattle.prettyless_printer.specs.Steps.{lay_all, work, owed, Step, Move, Stuck, Choose, step_of}
+use Rattle.prettyless_step.specs.Stack.{Task, follow, nodes, stack_of}
+use Rattle.prettyless_step.specs.Steps.{lay_all, work, owed, Step, Move, Stuck, Choose, step_of}
 use Rattle.prettyless_printer.specs.Progress.{Inside, Waits}
-use Rattle.prettyless_printer.specs.Printing.{state_of, ShowsAt, TookNext, TookWriting, WritesAt}
+use Rattle.prettyless_step.specs.Printing.{state_of, ShowsAt, TookNext, TookWriting, WritesAt}
 use Rattle.prettyless_printer.specs.Turns.{bytes_before, ForWholes, Goes, Lessens}
-use Rattle.prettyless_printer.proofs.Stacks.{nodes-append}
+use Rattle.prettyless_step.proofs.Stacks.{nodes-append}
 use Rattle.prettyless_printer.proofs.Steps.{LeavesLess, step_less}
 use Rattle.prettyless_printer.proofs.Progresses.{Steps, stepping, inside_beginning}
-use Rattle.prettyless_printer.specs.declared.printer.Printer.{Printer}
-use Rattle.prettyless_printer.specs.declared.printer.Taken.TheVariants.{Failed, Chosen}
-use Rattle.prettyless_printer.specs.declared.printer.Turn.TheVariants as turn
+use Rattle.prettyless_step.specs.declared.printer.Printer.{Printer}
+use Rattle.prettyless_step.specs.declared.printer.Taken.TheVariants.{Failed, Chosen}
+use Rattle.prettyless_printer.specs.declared.answer.Turn.TheVariants as turn
 
 -- the same progress, where stack, state and bytes are named otherwise
 pub inside_at : (o : RenderOptions) (whole : Outcome) (limit : ℕ) (below : List Task) (old : List ℕ) (stack stack' : List Task) (st st' : State) (out out' : List ℕ) →

@@ -1,5 +1,5 @@
 -- The visits of a step, of a turn, and of turns in a row.
-use Rattle.std.proofs.Common.{◌≡◌, ℕ, ◌+◌, ◌*◌, ◌<◌, ◌≤◌, List, [], ◌∷◌, ◌++◌, arith, refl, ap, sym, ◌∙◌, Bool, true, false, Option, Some, None, Result, Ok, Err, if◌then◌else◌, length}
+use Rattle.std.proofs.Common.{◌≡◌, ℕ, ◌+◌, ◌*◌, ◌≤◌, List, [], ◌∷◌, ◌++◌, arith, refl, ap, sym, ◌∙◌, Bool, true, false, Option, Some, None, Result, Ok, Err, if◌then◌else◌, length}
 use Rattle.std.specs.Result.{IsErr}
 use Rattle.prettyless_sink.specs.declared.options.RenderOptions.{RenderOptions}
 use Rattle.prettyless_sink.specs.declared.options.IndentationPolicy.{IndentationPolicy}
@@ -10,36 +10,16 @@ use Rattle.prettyless_model.specs.Content.{suffix_depth}
 use Rattle.prettyless_model.specs.Layout.{State, Done, Entry, lay_text, lay_ending, next_indent, is_suppressed, plain_break, probe}
 use Rattle.prettyless_model.specs.declared.mode.Mode.{Mode}
 use Rattle.prettyless_model.specs.declared.mode.Mode.TheVariants.{Break, Flat}
-use Rattle.prettyless_printer.specs.Stack.{Task, make_task, follow, nodes, stack_of}
-use Rattle.prettyless_printer.specs.Steps.{Step, Move, Stuck, Choose, step_of, union_step, decided_by_metrics, break_step, at_once, owed}
-use Rattle.prettyless_printer.specs.Printing.{state_of, ShowsAt, TookNext, TookWriting, WritesAt}
-use Rattle.prettyless_printer.specs.Visits.{suffixes, Plain, asked, charges, Rise, Pays, RunPays, Visited}
-use Rattle.prettyless_printer.specs.declared.printer.Printer.{Printer}
-use Rattle.prettyless_printer.specs.declared.printer.Taken.TheVariants.{Failed, Chosen}
-use Rattle.prettyless_printer.proofs.Stacks.{nodes-append}
+use Rattle.prettyless_step.specs.Stack.{Task, make_task, follow, nodes, stack_of}
+use Rattle.prettyless_step.specs.Steps.{Step, Move, Stuck, Choose, step_of, union_step, decided_by_metrics, break_step, at_once, owed}
+use Rattle.prettyless_step.specs.Printing.{state_of, ShowsAt, TookNext, TookWriting, WritesAt}
+use Rattle.prettyless_printer.specs.Visits.{suffixes, Plain, charges, Rise, Pays, RunPays, Visited}
+use Rattle.prettyless_step.specs.declared.printer.Printer.{Printer}
+use Rattle.prettyless_step.specs.declared.printer.Taken.TheVariants.{Failed, Chosen}
+use Rattle.prettyless_step.specs.Probing.{asked}
+use Rattle.prettyless_step.proofs.Sizes.{size_positive}
+use Rattle.prettyless_step.proofs.Stacks.{nodes-append}
 use Rattle.prettyless_printer.proofs.Steps.{LeavesLess, step_less}
-
--- a node is one at least
-pub size_positive : (d : Tree) → 0 < size d
-size_positive Nil = omega arith
-size_positive Fail = omega arith
-size_positive (Text s) = omega arith
-size_positive (TextWithLen w s) = omega arith
-size_positive (MultilineText s) = omega arith
-size_positive WeakSpace = omega arith
-size_positive HardLine = omega arith
-size_positive WeakLine = omega arith
-size_positive (Append l r) = omega arith
-size_positive (LineSuffix d) = omega arith
-size_positive (Nest k d) = omega arith
-size_positive (DedentToRoot d) = omega arith
-size_positive (Align d) = omega arith
-size_positive ExpandParent = omega arith
-size_positive (Flatten d) = omega arith
-size_positive (BreakOrFlat b f) = omega arith
-size_positive (Group d) = omega arith
-size_positive (Union l r) = omega arith
-size_positive (PartialUnion l r) = omega arith
 
 -- what a node asks for is paid by it
 pub asked_paid : (d : Tree) (k n : ℕ) → size d + k ≤ n → asked d k ≤ n * probed d

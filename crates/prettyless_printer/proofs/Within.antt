@@ -12,8 +12,8 @@ use Rattle.prettyless_model.specs.Layout.{State, Outcome, Done, Failed, Entry, B
 use Rattle.prettyless_model.specs.Levels.{settle, queued}
 use Rattle.prettyless_model.specs.declared.mode.Mode.{Mode}
 use Rattle.prettyless_model.specs.declared.mode.Mode.TheVariants.{Break, Flat}
-use Rattle.prettyless_printer.specs.Stack.{Task, follow}
-use Rattle.prettyless_printer.specs.Steps.{lay_all}
+use Rattle.prettyless_step.specs.Stack.{Task, follow}
+use Rattle.prettyless_step.specs.Steps.{lay_all}
 
 -- something went past the width, or failed
 abbrev pub Past : Outcome → Type 0

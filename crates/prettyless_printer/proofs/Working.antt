@@ -7,14 +7,14 @@ use Rattle.prettyless_sink.specs.declared.error.RenderError.TheVariants.{Documen
 use Rattle.prettyless_model.specs.Tree.{Tree}
 use Rattle.prettyless_model.specs.Layout.{Outcome, Done}
 use Rattle.prettyless_model.proofs.Outcomes.{after-nil}
-use Rattle.prettyless_printer.specs.Stack.{Task, stack_of}
-use Rattle.prettyless_printer.specs.Steps.{work}
-use Rattle.prettyless_printer.specs.Printing.{state_of}
+use Rattle.prettyless_step.specs.Stack.{Task, stack_of}
+use Rattle.prettyless_step.specs.Steps.{work}
+use Rattle.prettyless_step.specs.Printing.{state_of}
 use Rattle.prettyless_printer.specs.Progress.{Inside, Waits}
 use Rattle.prettyless_printer.specs.Turns.{bytes_before, ForWholes, ForWaits, Turned, Chose}
 use Rattle.prettyless_printer.specs.Renders.{rest_of, Stopped}
 use Rattle.prettyless_printer.proofs.Progresses.{inside_beginning, inside_end, waits_beginning}
-use Rattle.prettyless_printer.specs.declared.printer.Printer.{Printer}
+use Rattle.prettyless_step.specs.declared.printer.Printer.{Printer}
 
 abbrev limit_at : {N : Type 0} → (N → Tree) → Printer N → ℕ
 limit_at f p = work (stack_of f p.commands.items) (state_of f p)

@@ -1,9 +1,3 @@
-pub mod View
-pub mod Stack
-pub mod Piece
-pub mod Probing
-pub mod Steps
-pub mod Printing
 pub mod Progress
 pub mod Trials
 pub mod Turns

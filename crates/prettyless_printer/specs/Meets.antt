@@ -1,5 +1,5 @@
 -- Counts from below: what tasks are still to count, and counts that keep up with it.
-use Rattle.std.specs.Prelude.{ℕ, ◌+◌, ◌-◌, ◌^◌, ◌<◌, ◌≤◌, min, nat_le, List, [], ◌∷◌, length, if◌then◌else◌, Result, Ok, Err, Bool, true, false}
+use Rattle.std.specs.Prelude.{ℕ, ◌+◌, ◌<◌, nat_le, List, [], ◌∷◌, length, if◌then◌else◌, Result, Ok, Err, Bool, true, false}
 use Rattle.prettyless_sink.specs.declared.options.RenderOptions.{RenderOptions}
 use Rattle.prettyless_sink.specs.declared.visits.Visits.{Visits}
 use Rattle.prettyless_model.specs.Tree.{Tree}
@@ -7,12 +7,13 @@ use Rattle.prettyless_model.specs.Layout.{State, lay, tried}
 use Rattle.prettyless_model.specs.Levels.{settle}
 use Rattle.prettyless_model.specs.Counts.{Weight, each_node, each_probe, counted_then, counted_accept, tally, laid_nodes, laid_probes}
 use Rattle.prettyless_model.specs.declared.mode.Mode.TheVariants.{Break}
-use Rattle.prettyless_printer.specs.Stack.{Task, follow, stack_of}
-use Rattle.prettyless_printer.specs.Steps.{chosen}
-use Rattle.prettyless_printer.specs.Printing.{state_of}
-use Rattle.prettyless_printer.specs.declared.printer.Printer.{Printer}
-use Rattle.prettyless_printer.specs.declared.printer.Turn.{Turn}
-use Rattle.prettyless_printer.specs.declared.printer.Turn.TheVariants.{Went, Failed, Chosen}
+use Rattle.prettyless_step.specs.Stack.{Task, follow, stack_of}
+use Rattle.prettyless_step.specs.Steps.{chosen}
+use Rattle.prettyless_step.specs.Printing.{state_of}
+use Rattle.prettyless_step.specs.Probing.{RisesBy}
+use Rattle.prettyless_step.specs.declared.printer.Printer.{Printer}
+use Rattle.prettyless_printer.specs.declared.answer.Turn.{Turn}
+use Rattle.prettyless_printer.specs.declared.answer.Turn.TheVariants.{Went, Failed, Chosen}
 
 -- what tasks count, one after another, until only n of them are left
 unfoldable pub tally_above : RenderOptions → ℕ → List Task → State → Weight → ℕ
@@ -31,10 +32,6 @@ tally_choice o n i x y ts st w =
 -- nothing is left to count
 abbrev pub nothing_left : Weight → ℕ
 nothing_left w = 0
-
--- a count that rose by k at least, or stands at the greatest value
-abbrev pub RisesBy : ℕ → ℕ → ℕ → Type 0
-RisesBy k old new = min (old + k) (2 ^ 64 - 1) ≤ new
 
 -- The counts keep up: with what is left to count they have no less than before, or are at the greatest value.
 pub record Meets (before left : Weight → ℕ) (v w : Visits) : Type 0 where

@@ -4,8 +4,8 @@ use Rattle.prettyless_sink.specs.declared.options.RenderOptions.{RenderOptions}
 use Rattle.prettyless_model.specs.Tree.{Tree, size}
 use Rattle.prettyless_model.specs.Layout.{State, Outcome, Done, after_bytes, and_then, accept}
 use Rattle.prettyless_model.specs.Levels.{settle}
-use Rattle.prettyless_printer.specs.Stack.{Task, follow}
-use Rattle.prettyless_printer.specs.Steps.{lay_all, chosen, work}
+use Rattle.prettyless_step.specs.Stack.{Task, follow}
+use Rattle.prettyless_step.specs.Steps.{lay_all, chosen, work}
 
 -- What was written since `old`, and then what the tasks above `below` lay, is the whole.
 pub record Inside (o : RenderOptions) (whole : Outcome) (limit : ℕ) (below : List Task) (old : List ℕ) (stack : List Task) (st : State) (out : List ℕ) : Type 0 where

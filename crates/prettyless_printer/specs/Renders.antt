@@ -8,11 +8,11 @@ use Rattle.prettyless_sink.specs.Spaces.{spaces}
 use Rattle.prettyless_model.specs.Column.{gap}
 use Rattle.prettyless_model.specs.Layout.{Outcome, Done, Failed, Bytes, Whole, Cut, bytes_in, bytes_of, and_then}
 use Rattle.prettyless_model.specs.Levels.{settle, settle_end}
-use Rattle.prettyless_printer.specs.Stack.{stack_of}
-use Rattle.prettyless_printer.specs.Steps.{lay_all}
-use Rattle.prettyless_printer.specs.Printing.{state_of}
+use Rattle.prettyless_step.specs.Stack.{stack_of}
+use Rattle.prettyless_step.specs.Steps.{lay_all}
+use Rattle.prettyless_step.specs.Printing.{state_of}
 use Rattle.prettyless_printer.specs.Turns.{bytes_before}
-use Rattle.prettyless_printer.specs.declared.printer.Printer.{Printer}
+use Rattle.prettyless_step.specs.declared.printer.Printer.{Printer}
 
 -- what the commands that are left lay
 abbrev pub rest_of : {N : Type 0} → (N → Tree) → Printer N → Outcome

@@ -4,11 +4,11 @@ use Rattle.prettyless_model.specs.Tree.{Tree, size}
 use Rattle.prettyless_model.specs.Layout.{lay, tried}
 use Rattle.prettyless_model.specs.Levels.{settle}
 use Rattle.prettyless_model.specs.declared.mode.Mode.TheVariants.{Break}
-use Rattle.prettyless_printer.specs.Stack.{Task, stack_of, follow}
-use Rattle.prettyless_printer.specs.Steps.{owed}
-use Rattle.prettyless_printer.specs.Printing.{state_of, Grows}
+use Rattle.prettyless_step.specs.Stack.{Task, stack_of, follow}
+use Rattle.prettyless_step.specs.Steps.{owed}
+use Rattle.prettyless_step.specs.Printing.{state_of, Grows}
 use Rattle.prettyless_printer.specs.Progress.{Decides}
-use Rattle.prettyless_printer.specs.declared.printer.Printer.{Printer}
+use Rattle.prettyless_step.specs.declared.printer.Printer.{Printer}
 use Rattle.prettyless_printer.specs.declared.trial.Mark.{Mark}
 
 -- the printer is back where the mark was set

@@ -7,13 +7,13 @@ use Rattle.prettyless_sink.specs.declared.error.RenderError.TheVariants.{Documen
 use Rattle.prettyless_model.specs.Tree.{Tree, size}
 use Rattle.prettyless_model.specs.Layout as layout
 use Rattle.prettyless_model.specs.Layout.{Outcome, Done}
-use Rattle.prettyless_printer.specs.Stack.{Task, stack_of}
-use Rattle.prettyless_printer.specs.Steps.{work}
-use Rattle.prettyless_printer.specs.Printing.{state_of}
+use Rattle.prettyless_step.specs.Stack.{Task, stack_of}
+use Rattle.prettyless_step.specs.Steps.{work}
+use Rattle.prettyless_step.specs.Printing.{state_of}
 use Rattle.prettyless_printer.specs.Progress.{Inside, Waits}
-use Rattle.prettyless_printer.specs.declared.printer.Printer.{Printer}
-use Rattle.prettyless_printer.specs.declared.printer.Turn.{Turn}
-use Rattle.prettyless_printer.specs.declared.printer.Turn.TheVariants.{Went, Failed, Chosen}
+use Rattle.prettyless_step.specs.declared.printer.Printer.{Printer}
+use Rattle.prettyless_printer.specs.declared.answer.Turn.{Turn}
+use Rattle.prettyless_printer.specs.declared.answer.Turn.TheVariants.{Went, Failed, Chosen}
 
 -- the bytes of an outcome, done or not
 abbrev pub bytes_before : Outcome → List ℕ

@@ -2,14 +2,14 @@
 -- printer; a probe takes up each node of the commands at most once, and is asked at most once by each node that asks.
 use Rattle.std.specs.Prelude.{◌≡◌, ℕ, ◌+◌, ◌*◌, ◌≤◌, List, [], ◌∷◌, Result, Ok, Err}
 use Rattle.prettyless_sink.specs.declared.visits.Visits.{Visits}
-use Rattle.prettyless_model.specs.Tree.{Tree, Group, PartialUnion, size, probed}
+use Rattle.prettyless_model.specs.Tree.{Tree, size, probed}
 use Rattle.prettyless_model.specs.Content.{suffix_depth}
 use Rattle.prettyless_model.specs.declared.mode.Mode.TheVariants.{Break}
-use Rattle.prettyless_printer.specs.Stack.{Task, make_task, nodes, stack_of}
-use Rattle.prettyless_printer.specs.Printing.{state_of}
-use Rattle.prettyless_printer.specs.declared.printer.Printer.{Printer}
-use Rattle.prettyless_printer.specs.declared.printer.Turn.{Turn}
-use Rattle.prettyless_printer.specs.declared.printer.Turn.TheVariants.{Went, Failed, Chosen}
+use Rattle.prettyless_step.specs.Stack.{Task, make_task, nodes, stack_of}
+use Rattle.prettyless_step.specs.Printing.{state_of}
+use Rattle.prettyless_step.specs.declared.printer.Printer.{Printer}
+use Rattle.prettyless_printer.specs.declared.answer.Turn.{Turn}
+use Rattle.prettyless_printer.specs.declared.answer.Turn.TheVariants.{Went, Failed, Chosen}
 
 -- how deep line suffixes stand in tasks, added up: 0 where there are none
 abbrev pub suffixes : List Task → ℕ
@@ -20,12 +20,6 @@ suffixes (t ∷ ts) = suffix_depth t.tree + suffixes ts
 pub record Plain {N : Type 0} (f : N → Tree) (p : Printer N) : Type 0 where
   pub none : suffixes (stack_of f p.commands.items) ≡ 0
   pub pending : (state_of f p).pending ≡ []
-
--- how many nodes the probe that a node asks may take up, where k nodes follow the node
-abbrev pub asked : Tree → ℕ → ℕ
-asked (Group d) k = size d + k
-asked (PartialUnion l r) k = size l + k
-asked _ k = 0
 
 -- what the probes of tasks may take up, each at most n nodes
 abbrev pub charges : ℕ → List Task → ℕ

@@ -1,20 +1,11 @@
-//! The printer: it walks a document by a list of commands, and writes the document's layout to a sink.
+//! The printer: it works off a document's nodes by steps, tries alternatives, and writes the document's layout to a sink.
 //!
-//! It is proved once, over any nodes that can show themselves (`walk`), and against the definitions of
+//! It is proved once, over any nodes that can show themselves (`prettyless_step::walk`), and against the definitions of
 //! `prettyless_model`.
 #![tactic(auto)]
 
+pub mod answer;
 pub mod buffer;
-pub mod command;
-pub mod content;
-pub mod pending;
-pub mod piece;
-pub mod printer;
-pub mod probe;
 pub mod run;
-pub mod stack;
-pub mod step;
 pub mod trial;
 pub mod turn;
-pub mod unread;
-pub mod walk;

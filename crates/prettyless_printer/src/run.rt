@@ -4,21 +4,18 @@ ghost use Rattle.prettyless_model.specs.Tree.{size};
 ghost use Rattle.prettyless_model.specs.Content.{suffix_depth};
 ghost use Rattle.prettyless_model.specs.Layout.{flushed, layout};
 ghost use Rattle.prettyless_model.specs.declared.mode.Mode.TheVariants.{Break};
-ghost use Rattle.prettyless_printer.specs.Stack.{make_task, stack_of, tasks};
-ghost use Rattle.prettyless_printer.specs.Steps.{owed, work};
-ghost use Rattle.prettyless_printer.specs.Printing.{state_of};
+ghost use Rattle.prettyless_step.specs.Stack.{make_task, stack_of, tasks};
+ghost use Rattle.prettyless_step.specs.Steps.{owed, work};
+ghost use Rattle.prettyless_step.specs.Printing.{state_of};
 ghost use Rattle.prettyless_printer.specs.Turns.{Chose};
 ghost use Rattle.prettyless_printer.specs.Renders.{Flushed, RanToEnd, Rendered, WorkedOff};
 ghost use Rattle.prettyless_printer.specs.Visits.{Plain, Rise, RunPays, Visited};
 ghost use Rattle.prettyless_printer.specs.Meets.{Meets, VisitedAtLeast, choice_tally, nothing_left, stack_tally};
 
+use crate::answer::Turn;
 use crate::buffer::Buffer;
-use crate::pending::{is_pending, take_pending};
-use crate::printer::{Printer, Turn};
-use crate::stack::push_node;
 use crate::trial::print_branch;
 use crate::turn::turn;
-use crate::walk::Walk;
 use prettyless_model::column::Column;
 use prettyless_model::mode::Mode;
 use prettyless_sink::error::RenderError;
@@ -26,6 +23,10 @@ use prettyless_sink::options::RenderOptions;
 use prettyless_sink::pieces::write_gap_and_text;
 use prettyless_sink::render::Render;
 use prettyless_sink::visits::Visits;
+use prettyless_step::pending::{is_pending, take_pending};
+use prettyless_step::printer::Printer;
+use prettyless_step::stack::push_node;
+use prettyless_step::walk::Walk;
 use std::alloc::Global;
 
 // Lays the branch of a union that its trial chooses. A kept one goes to the sink in one piece.

@@ -4,21 +4,22 @@ ghost use Rattle.std.specs.String.{string_bytes};
 ghost use Rattle.std.specs.String.Boundary.{IsSplitPoint};
 ghost use Rattle.prettyless_model.specs.Content.{suffix_depth};
 ghost use Rattle.prettyless_model.specs.declared.mode.Mode.TheVariants.{Break};
-ghost use Rattle.prettyless_printer.specs.Stack.{make_task, stack_of};
+ghost use Rattle.prettyless_step.specs.Stack.{make_task, stack_of};
 ghost use Rattle.prettyless_printer.specs.Trials.{Restores, TrialDid};
 ghost use Rattle.prettyless_printer.specs.Visits.{Plain, Rise, RunPays};
 ghost use Rattle.prettyless_printer.specs.Meets.{TrialMeets};
 
+use crate::answer::Turn;
 use crate::buffer::Buffer;
-use crate::pending::is_pending;
-use crate::printer::{Printer, Turn};
-use crate::stack::{cut, push_node};
 use crate::turn::turn;
-use crate::walk::Walk;
 use prettyless_model::column::Column;
 use prettyless_model::mode::Mode;
 use prettyless_sink::error::RenderError;
 use prettyless_sink::visits::Visits;
+use prettyless_step::pending::is_pending;
+use prettyless_step::printer::Printer;
+use prettyless_step::stack::{cut, push_node};
+use prettyless_step::walk::Walk;
 use std::alloc::AllocError;
 
 /// What a trial goes back to if it is not kept.

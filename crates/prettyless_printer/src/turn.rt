@@ -1,19 +1,20 @@
 //! A turn: a command is taken, stepped and written.
 ghost use Rattle.std.specs.Prelude.{◌≡◌, ◌<◌, ◌≤◌, OnOk, IfOk, vec_len};
 ghost use Rattle.prettyless_sink.specs.Sink.{rise};
-ghost use Rattle.prettyless_printer.specs.Printing.{Grows};
+ghost use Rattle.prettyless_step.specs.Printing.{Grows};
 ghost use Rattle.prettyless_printer.specs.Turns.{Lessens, Turned};
 ghost use Rattle.prettyless_printer.specs.Visits.{Plain, Rise, TurnPays};
 ghost use Rattle.prettyless_printer.specs.Meets.{TurnMeets};
 
-use crate::piece::write_piece;
-use crate::printer::{Printer, Taken, Turn};
-use crate::stack::pop_command;
-use crate::step::step;
-use crate::walk::Walk;
+use crate::answer::Turn;
 use prettyless_sink::error::RenderError;
 use prettyless_sink::render::Render;
 use prettyless_sink::visits::{Visits, one_more};
+use prettyless_step::piece::write_piece;
+use prettyless_step::printer::{Printer, Taken};
+use prettyless_step::stack::pop_command;
+use prettyless_step::step::step;
+use prettyless_step::walk::Walk;
 
 /// Takes the next command, and writes what it gives. The command is a visit.
 #[inline(always)]

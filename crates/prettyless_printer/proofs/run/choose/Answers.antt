@@ -1,8 +1,8 @@
 use Rattle.std.proofs.Common.{◌≡◌, ◌++◌, ◌∙◌, ℕ, List, ap, arith, refl, subst}
 use Rattle.std.specs.String.{string_bytes}
 use Rattle.prettyless_sink.specs.Sink.{AppendsBeginning}
-use Rattle.prettyless_printer.specs.Stack.{stack_of}
-use Rattle.prettyless_printer.specs.Printing.{state_of}
+use Rattle.prettyless_step.specs.Stack.{stack_of}
+use Rattle.prettyless_step.specs.Printing.{state_of}
 use Rattle.prettyless_printer.specs.Trials.{TrialDid}
 use Rattle.prettyless_printer.specs.Turns.{bytes_before}
 use Rattle.prettyless_printer.proofs.Progresses.{inside_beginning}

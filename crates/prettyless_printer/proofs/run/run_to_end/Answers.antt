@@ -1,11 +1,11 @@
 use Rattle.std.proofs.Common.{◌∙◌, ap, arith, length, refl, sym, subst}
 use Rattle.prettyless_sink.specs.declared.options.RenderOptions.{RenderOptions}
 use Rattle.prettyless_model.specs.Layout.{State}
-use Rattle.prettyless_printer.specs.Stack.{nodes, stack_of}
-use Rattle.prettyless_printer.specs.Steps.{owed}
-use Rattle.prettyless_printer.specs.Printing.{state_of}
+use Rattle.prettyless_step.specs.Stack.{nodes, stack_of}
+use Rattle.prettyless_step.specs.Steps.{owed}
+use Rattle.prettyless_step.specs.Printing.{state_of}
 use Rattle.prettyless_printer.specs.Renders.{to_end}
-use Rattle.prettyless_printer.proofs.Queues.{length_some, length_none}
+use Rattle.prettyless_step.proofs.Queues.{length_some, length_none}
 use Rattle.prettyless_printer.proofs.Renders.{Ending, finishing_begins, finishing_stopped, finishing_ends, ending_done, ending_again, ending_stopped, round_less}
 use Rattle.prettyless_printer.proofs.Visits.{rise_same, rise_then, pays_same, pays_then}
 use Rattle.prettyless_printer.specs.Meets.{stack_tally}

@@ -1,7 +1,7 @@
 use Rattle.std.proofs.Common.{◌≡◌, ◌≤◌, vec_len}
-use Rattle.prettyless_printer.specs.Stack.{stack_of}
-use Rattle.prettyless_printer.specs.Steps.{work}
-use Rattle.prettyless_printer.specs.Printing.{state_of}
+use Rattle.prettyless_step.specs.Stack.{stack_of}
+use Rattle.prettyless_step.specs.Steps.{work}
+use Rattle.prettyless_step.specs.Printing.{state_of}
 use Rattle.prettyless_printer.specs.Visits.{Plain, Rise, Pays}
 use Rattle.prettyless_printer.specs.Meets.{Meets, stack_tally}
 use Rattle.prettyless_printer.specs.Renders.{to_end}

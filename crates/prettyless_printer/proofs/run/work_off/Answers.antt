@@ -1,11 +1,11 @@
 use Rattle.std.proofs.Common.{◌<◌, ◌≤◌, ◌∙◌, length, arith, refl}
 use Rattle.prettyless_sink.specs.declared.options.RenderOptions.{RenderOptions}
-use Rattle.prettyless_printer.specs.Stack.{stack_of}
-use Rattle.prettyless_printer.specs.Printing.{state_of}
+use Rattle.prettyless_step.specs.Stack.{stack_of}
+use Rattle.prettyless_step.specs.Printing.{state_of}
 use Rattle.prettyless_printer.specs.Progress.{Inside}
 use Rattle.prettyless_printer.specs.Turns.{Goes}
-use Rattle.prettyless_printer.specs.declared.printer.Turn.TheVariants as turn
-use Rattle.prettyless_printer.proofs.Stacks.{length-stack_of}
+use Rattle.prettyless_printer.specs.declared.answer.Turn.TheVariants as turn
+use Rattle.prettyless_step.proofs.Stacks.{length-stack_of}
 use Rattle.prettyless_printer.proofs.Working.{working_begins, working_turn, working_end, turn_broke, working_choice, choice_broke}
 use Rattle.prettyless_printer.proofs.Visits.{rise_same, rise_then, pays_same, pays_then, pays_all}
 use Rattle.prettyless_printer.specs.Meets.{stack_tally}

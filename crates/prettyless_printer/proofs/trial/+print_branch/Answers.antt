@@ -4,13 +4,13 @@ use Rattle.prettyless_sink.specs.declared.options.RenderOptions.{RenderOptions}
 use Rattle.prettyless_model.specs.Column.{padding_fits}
 use Rattle.prettyless_model.specs.Layout.{some_pending}
 use Rattle.prettyless_model.specs.declared.mode.Mode.TheVariants.{Break}
-use Rattle.prettyless_printer.specs.Stack.{make_task, stack_of}
-use Rattle.prettyless_printer.specs.Printing.{state_of}
+use Rattle.prettyless_step.specs.Stack.{make_task, stack_of}
+use Rattle.prettyless_step.specs.Printing.{state_of}
 use Rattle.prettyless_printer.specs.Trials.{TrialDid}
 use Rattle.prettyless_printer.specs.Turns.{Goes}
-use Rattle.prettyless_printer.specs.declared.printer.Turn.TheVariants as turn
+use Rattle.prettyless_printer.specs.declared.answer.Turn.TheVariants as turn
 use Rattle.prettyless_printer.specs.declared.trial.Mark.{Mark}
-use Rattle.prettyless_printer.proofs.Stacks.{length-stack_of}
+use Rattle.prettyless_step.proofs.Stacks.{length-stack_of}
 use Rattle.prettyless_printer.proofs.Progresses.{inside_past}
 use Rattle.prettyless_printer.proofs.Within.{Past, accept_past}
 use Rattle.prettyless_printer.proofs.Trying.{Trying, trial_of, limit_of, trying_begins, trying_turn, trial_ends, trial_rejected, padding_rejects, trial_kept, grows-grows, choice_kept, choice_other, cut_back, length-string_bytes}

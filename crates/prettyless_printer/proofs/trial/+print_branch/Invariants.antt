@@ -2,9 +2,9 @@ use Rattle.std.proofs.Common.{◌≡◌, ◌+◌, ◌*◌, ◌≤◌, ◌∷◌,
 use Rattle.prettyless_model.specs.Tree.{size}
 use Rattle.prettyless_model.specs.Content.{suffix_depth}
 use Rattle.prettyless_model.specs.declared.mode.Mode.TheVariants.{Break}
-use Rattle.prettyless_printer.specs.Stack.{make_task, stack_of}
-use Rattle.prettyless_printer.specs.Steps.{owed, work}
-use Rattle.prettyless_printer.specs.Printing.{state_of, Grows}
+use Rattle.prettyless_step.specs.Stack.{make_task, stack_of}
+use Rattle.prettyless_step.specs.Steps.{owed, work}
+use Rattle.prettyless_step.specs.Printing.{state_of, Grows}
 use Rattle.prettyless_printer.specs.Visits.{Plain, Rise, Pays}
 use Rattle.prettyless_printer.specs.Meets.{Meets, stack_tally, trial_tally}
 use Rattle.prettyless_printer.proofs.Trying.{Trying}

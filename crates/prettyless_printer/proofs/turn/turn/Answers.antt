@@ -1,10 +1,10 @@
 use Rattle.std.proofs.Common.{[], length, ap, append-nil, arith, refl, subst, sym}
 use Rattle.prettyless_sink.specs.declared.visits.Visits.{Visits}
-use Rattle.prettyless_printer.specs.Stack.{stack_of, task}
-use Rattle.prettyless_printer.specs.Piece.{piece_bytes}
-use Rattle.prettyless_printer.specs.Printing.{TookNext}
-use Rattle.prettyless_printer.proofs.Stacks.{length-stack_of}
-use Rattle.prettyless_printer.proofs.Shown.{took}
+use Rattle.prettyless_step.specs.Stack.{stack_of, task}
+use Rattle.prettyless_step.specs.Piece.{piece_bytes}
+use Rattle.prettyless_step.specs.Printing.{TookNext}
+use Rattle.prettyless_step.proofs.Stacks.{length-stack_of}
+use Rattle.prettyless_step.proofs.Shown.{took}
 use Rattle.prettyless_printer.proofs.Turnings.{went, lessens, failed, chosen, choice_lessens, sink_broke}
 use Rattle.prettyless_printer.proofs.Visits.{OneMore, went_pays, failed_pays, chosen_pays, broke_pays}
 use Rattle.prettyless_printer.proofs.Meets.{OneLaid, went_meets, chosen_meets}

@@ -1,0 +1,9 @@
+//! What a turn answers.
+
+/// What a turn came to: one node was taken up and written, or fails, or two branches are to be chosen from.
+#[derive(Drop)]
+pub enum Turn<N> {
+    Went,
+    Failed,
+    Chosen(usize, N, N),
+}

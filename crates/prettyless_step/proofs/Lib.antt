@@ -1,0 +1,4 @@
+pub mod Sizes
+pub mod Stacks
+pub mod Queues
+pub mod Shown

@@ -1,0 +1,6 @@
+pub mod View
+pub mod Stack
+pub mod Piece
+pub mod Probing
+pub mod Steps
+pub mod Printing

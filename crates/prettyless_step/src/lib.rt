@@ -1,0 +1,17 @@
+//! One step of the printer: what taking up one node of a document does to the line, to the nodes that are still to be laid
+//! and to the line suffixes that are pending, and what it writes.
+//!
+//! It is proved over any nodes that can show themselves (`walk`), against the definitions of `prettyless_model`; so is the
+//! probe, by which a step decides whether a group stays on its line.
+#![tactic(auto)]
+
+pub mod command;
+pub mod content;
+pub mod pending;
+pub mod piece;
+pub mod printer;
+pub mod probe;
+pub mod stack;
+pub mod step;
+pub mod unread;
+pub mod walk;

@@ -1,0 +1,32 @@
+//! The printer's state, and what steps and turns answer.
+use crate::command::Command;
+use crate::piece::Piece;
+use crate::unread::Unread;
+use prettyless_model::column::Column;
+use prettyless_sink::options::RenderOptions;
+
+/// The printer's state: the column, the commands that are left, and the pending line suffixes.
+#[derive(Drop)]
+pub struct Printer<N> {
+    pub options: RenderOptions,
+    pub column: Column,
+    /// Whether, since the open trial began, no text went past the width.
+    pub within: bool,
+    /// The commands that are left, the next one last.
+    pub commands: Vec<Command<N>>,
+    /// The probe's own list of work, kept for its memory.
+    pub scratch: Vec<Unread<N>>,
+    /// The line suffixes that were met, the oldest first: those from `start` on are pending.
+    pub queue: Vec<N>,
+    pub start: usize,
+}
+
+/// What taking up one node asks for: nothing, a piece to be written, or a choice between two branches at an indent; or the
+/// node fails.
+#[derive(Drop)]
+pub enum Taken<'v, N> {
+    Quiet,
+    Written(Piece<'v>),
+    Failed,
+    Chosen(usize, N, N),
+}

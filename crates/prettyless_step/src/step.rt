@@ -1,0 +1,337 @@
+//! What taking up one node does.
+ghost use Rattle.std.specs.Prelude.{◌≡◌, ◌++◌, ◌+◌, ◌∷◌, ◌≤◌, ◌&&◌, [], true, vec_len, IfOk, OnOk, if◌then◌else◌};
+ghost use Rattle.prettyless_model.specs.Tree.{size};
+ghost use Rattle.prettyless_model.specs.Reading.{by_mode};
+ghost use Rattle.prettyless_model.specs.Counts.{each_probe};
+ghost use Rattle.prettyless_model.specs.Layout.{is_suppressed, lay_ending, nested, some_pending, next_indent, probe as probe_of};
+ghost use Rattle.prettyless_model.specs.declared.mode.Mode.TheVariants.{Break, Flat};
+ghost use Rattle.prettyless_step.specs.Stack.{follow, make_task, nodes, stack_of};
+ghost use Rattle.prettyless_step.specs.Steps.{Move, at_once, break_step, decided_by_metrics, step_of, union_step};
+ghost use Rattle.prettyless_step.specs.Printing.{Shows, state_of};
+ghost use Rattle.prettyless_step.specs.Probing.{RisesBy, asked};
+ghost use Rattle.prettyless_step.specs.declared.printer.Taken.TheVariants.{Written};
+
+use crate::command::Command;
+use crate::content::{payload_fits, put_payload, put_text};
+use crate::pending::{is_pending, take_pending};
+use crate::piece::Piece;
+use crate::printer::{Printer, Taken};
+use crate::probe::{Line, either, probe};
+use crate::stack::push_node;
+use crate::walk::{View, Walk};
+use prettyless_model::column::Column;
+use prettyless_model::mode::Mode;
+use prettyless_sink::options::IndentationPolicy;
+use std::alloc::AllocError;
+
+// An indent that a nesting changes, kept within 0 and the greatest `usize`.
+fn nested_indent(indent: usize, offset: isize) -> usize
+    ensures { result ≡ nested indent offset }
+{
+    indent.saturating_add_signed(offset)
+}
+
+// Whether a node fits the line in this mode, with the printer's commands following it.
+fn probe_here<N: Walk>(
+    printer: &mut Printer<N>,
+    node: N,
+    mode: Mode,
+    probes: &mut u64,
+) -> Result<bool, AllocError>
+    requires { printer.old.start ≤ vec_len printer.old.queue }
+    ensures answer { IfOk result (λ fit. fit ≡ probe_of printer.old.options (N.tree node) mode
+        (follow (stack_of N.tree printer.old.commands.items)) (state_of N.tree printer.old)) }
+    ensures others { printer.new ≡ record printer.old { scratch = printer.new.scratch } }
+    ensures rises { probes.old ≤ probes.new }
+    ensures counted { probes.new ≤ probes.old + (size (N.tree node) + nodes (stack_of N.tree printer.old.commands.items)) }
+    ensures asked { OnOk result (RisesBy 1 probes.old probes.new) }
+{
+    let start = Line {
+        column: printer.column,
+        pending: is_pending(printer),
+    };
+    probe(
+        printer.options.width,
+        start,
+        node,
+        mode,
+        &printer.commands,
+        &mut printer.scratch,
+        probes,
+    )
+}
+
+// The mode in which a group's document is laid.
+fn group_mode<N: Walk>(
+    printer: &mut Printer<N>,
+    mode: Mode,
+    inner: N,
+    probes: &mut u64,
+) -> Result<Mode, AllocError>
+    requires { printer.old.start ≤ vec_len printer.old.queue }
+    ensures mode { IfOk result (λ m. m ≡ by_mode mode
+        (if probe_of printer.old.options (N.tree inner) Flat (follow (stack_of N.tree printer.old.commands.items)) (state_of N.tree printer.old)
+        then Flat else Break)
+        Flat) }
+    ensures others { printer.new ≡ record printer.old { scratch = printer.new.scratch } }
+    ensures rises { probes.old ≤ probes.new }
+    ensures counted { probes.new ≤ probes.old + (size (N.tree inner) + nodes (stack_of N.tree printer.old.commands.items)) }
+    ensures asked { OnOk result (RisesBy (by_mode mode 1 0) probes.old probes.new) }
+{
+    if let Mode::Flat = mode {
+        return Ok(Mode::Flat);
+    }
+    let flat = probe_here(printer, inner, Mode::Flat, probes)?;
+    Ok(if flat { Mode::Flat } else { Mode::Break })
+}
+
+// The branch of a partial union that is laid.
+fn partial_choice<N: Walk>(
+    printer: &mut Printer<N>,
+    mode: Mode,
+    first: N,
+    second: N,
+    probes: &mut u64,
+) -> Result<N, AllocError>
+    requires { printer.old.start ≤ vec_len printer.old.queue }
+    ensures branch { IfOk result (λ n. N.tree n ≡ by_mode mode
+        (if probe_of printer.old.options (N.tree first) Break (follow (stack_of N.tree printer.old.commands.items)) (state_of N.tree printer.old)
+        then N.tree first else N.tree second)
+        (N.tree first)) }
+    ensures others { printer.new ≡ record printer.old { scratch = printer.new.scratch } }
+    ensures rises { probes.old ≤ probes.new }
+    ensures counted { probes.new ≤ probes.old + (size (N.tree first) + nodes (stack_of N.tree printer.old.commands.items)) }
+    ensures asked { OnOk result (RisesBy (by_mode mode 1 0) probes.old probes.new) }
+{
+    if let Mode::Flat = mode {
+        return Ok(first);
+    }
+    let fits = probe_here(printer, first, Mode::Break, probes)?;
+    Ok(if fits { first } else { second })
+}
+
+// What decides between the branches of a union before one is laid: the metrics of a first one that is a payload.
+fn metrics_choice<N: Walk>(printer: &Printer<N>, first: &N) -> Option<bool>
+    ensures { result ≡ decided_by_metrics printer.now.options (N.tree first.now) (state_of N.tree printer.now) }
+{
+    match first.view() {
+        View::MultilineText(_, metrics) => Some(payload_fits(
+            printer.options,
+            printer.column,
+            metrics,
+        )),
+        _ => None,
+    }
+}
+
+// The indent of what follows, or the break's own where nothing does.
+#[tactic(auto, using(crate::proofs::Stacks::stack_of_take))]
+fn indent_after<N: Walk>(commands: &[Command<N>], indent: usize) -> usize
+    ensures { result ≡ next_indent indent (follow (stack_of N.tree commands.now)) }
+{
+    let len = commands.len();
+    if len == 0 {
+        return indent;
+    }
+    let next = commands[len - 1];
+    next.indent
+}
+
+// The end of a line, and the indent of the next.
+#[tactic(auto, using(crate::proofs::Queues::queues))]
+fn end_line<N: Walk>(printer: &mut Printer<N>, indent: usize) -> Piece<'static>
+    ensures step { Shows N.tree (Written result)
+        (at_once (lay_ending printer.old.options printer.old.options.indentation_policy
+        (next_indent indent (follow (stack_of N.tree printer.old.commands.items))) (state_of N.tree printer.old)))
+        printer.old printer.new }
+    ensures start { printer.new.start ≡ printer.old.start }
+    ensures queue { printer.new.queue ≡ printer.old.queue }
+{
+    let next = indent_after(&printer.commands, indent);
+    let text = printer.options.line_ending.as_str();
+    match printer.options.indentation_policy {
+        IndentationPolicy::Eager => {
+            printer.column = Column::indented(next);
+            Piece {
+                gap: 0,
+                text,
+                indent: next,
+            }
+        }
+        IndentationPolicy::Deferred => {
+            printer.column = Column::deferred(next);
+            Piece {
+                gap: 0,
+                text,
+                indent: 0,
+            }
+        }
+    }
+}
+
+// The documents that wait come next, and behind them the break again.
+fn flush_line<N: Walk>(
+    printer: &mut Printer<N>,
+    indent: usize,
+    mode: Mode,
+    node: N,
+) -> Result<Piece<'static>, AllocError>
+    requires queue { printer.old.start ≤ vec_len printer.old.queue }
+    requires pending { some_pending (state_of N.tree printer.old).pending ≡ true }
+    ensures queue { printer.new.start ≤ vec_len printer.new.queue }
+    ensures step { IfOk result (λ piece. Shows N.tree (Written piece)
+        (break_step printer.old.options (state_of N.tree printer.old).pending (N.tree node) indent mode
+        (follow (stack_of N.tree printer.old.commands.items)) (state_of N.tree printer.old))
+        printer.old printer.new) }
+{
+    push_node(&mut printer.commands, indent, mode, node)?;
+    let gap = take_pending(printer, indent, mode)?;
+    Ok(Piece {
+        gap,
+        text: "",
+        indent: 0,
+    })
+}
+
+// A break: a hard one, or a weak one, which is nothing at the beginning of a line.
+fn break_line<N: Walk>(
+    printer: &mut Printer<N>,
+    indent: usize,
+    mode: Mode,
+    node: N,
+    weak: bool,
+) -> Result<Piece<'static>, AllocError>
+    requires queue { printer.old.start ≤ vec_len printer.old.queue }
+    requires kind { is_suppressed (N.tree node) printer.old.column ≡ (weak && printer.old.column.fresh) }
+    ensures queue { printer.new.start ≤ vec_len printer.new.queue }
+    ensures step { IfOk result (λ piece. Shows N.tree (Written piece)
+        (break_step printer.old.options (state_of N.tree printer.old).pending (N.tree node) indent mode
+        (follow (stack_of N.tree printer.old.commands.items)) (state_of N.tree printer.old))
+        printer.old printer.new) }
+{
+    if is_pending(printer) {
+        return flush_line(printer, indent, mode, node);
+    }
+    if weak && printer.column.fresh {
+        return Ok(Piece::nothing());
+    }
+    Ok(end_line(printer, indent))
+}
+
+// One node in the place of another.
+#[inline(always)]
+#[tactic(auto, using(crate::proofs::Queues::queues))]
+fn go_on_with<N: Walk>(
+    printer: &mut Printer<N>,
+    indent: usize,
+    mode: Mode,
+    node: N,
+) -> Result<Taken<'static, N>, AllocError>
+    requires { printer.old.start ≤ vec_len printer.old.queue }
+    ensures queue { printer.new.start ≤ vec_len printer.new.queue }
+    ensures step { IfOk result (λ taken. Shows N.tree taken
+        (Move [] (make_task indent mode (N.tree node) ∷ []) (state_of N.tree printer.old)) printer.old printer.new) }
+{
+    push_node(&mut printer.commands, indent, mode, node)?;
+    Ok(Taken::Quiet)
+}
+
+// A union in Break: the metrics of its first branch decide, or a trial is asked for.
+#[inline(always)]
+fn union<N: Walk>(
+    printer: &mut Printer<N>,
+    indent: usize,
+    first: N,
+    second: N,
+) -> Result<Taken<'static, N>, AllocError>
+    requires { printer.old.start ≤ vec_len printer.old.queue }
+    ensures queue { printer.new.start ≤ vec_len printer.new.queue }
+    ensures step { IfOk result (λ taken. Shows N.tree taken
+        (union_step (decided_by_metrics printer.old.options (N.tree first) (state_of N.tree printer.old))
+        (N.tree first) (N.tree second) indent (state_of N.tree printer.old))
+        printer.old printer.new) }
+{
+    match metrics_choice(printer, &first) {
+        Some(true) => go_on_with(printer, indent, Mode::Break, first),
+        Some(false) => go_on_with(printer, indent, Mode::Break, second),
+        None => Ok(Taken::Chosen(indent, first, second)),
+    }
+}
+
+/// Takes up one node, with the printer's commands following it. What a probe takes up is counted in `probes`.
+#[inline(always)]
+#[tactic(auto, using(crate::proofs::Queues::queues))]
+pub fn step<'v, N: Walk>(
+    printer: &mut Printer<N>,
+    command: &'v Command<N>,
+    probes: &mut u64,
+) -> Result<Taken<'v, N>, AllocError>
+    requires { printer.old.start ≤ vec_len printer.old.queue }
+    ensures queue { printer.new.start ≤ vec_len printer.new.queue }
+    ensures step { IfOk result (λ taken. Shows N.tree taken
+        (step_of printer.old.options (N.tree command.now.node) command.now.indent command.now.mode
+        (follow (stack_of N.tree printer.old.commands.items)) (state_of N.tree printer.old))
+        printer.old printer.new) }
+    ensures rises { probes.old ≤ probes.new }
+    ensures counted { probes.new ≤ probes.old + asked (N.tree command.now.node) (nodes (stack_of N.tree printer.old.commands.items)) }
+    ensures asked { OnOk result (RisesBy (each_probe (N.tree command.now.node) command.now.mode) probes.old probes.new) }
+{
+    let indent = command.indent;
+    let mode = command.mode;
+    match command.node.view() {
+        View::Nil | View::ExpandParent => Ok(Taken::Quiet),
+        View::Fail => Ok(Taken::Failed),
+        View::Text(s) => Ok(Taken::Written(put_text(printer, s.len(), s))),
+        View::TextWithLen(counted, s) => Ok(Taken::Written(put_text(printer, counted, s))),
+        View::MultilineText(s, metrics) => match mode {
+            Mode::Break => Ok(Taken::Written(put_payload(printer, s, metrics))),
+            Mode::Flat => Ok(Taken::Failed),
+        },
+        View::WeakSpace => {
+            printer.column = printer.column.blank();
+            Ok(Taken::Quiet)
+        }
+        View::HardLine => match mode {
+            Mode::Break => Ok(Taken::Written(break_line(
+                printer,
+                indent,
+                mode,
+                command.node,
+                false,
+            )?)),
+            Mode::Flat => Ok(Taken::Failed),
+        },
+        View::WeakLine => Ok(Taken::Written(break_line(
+            printer,
+            indent,
+            mode,
+            command.node,
+            true,
+        )?)),
+        View::Append(l, r) => {
+            push_node(&mut printer.commands, indent, mode, r)?;
+            go_on_with(printer, indent, mode, l)
+        }
+        View::LineSuffix(d) => {
+            printer.queue.push(d)?;
+            Ok(Taken::Quiet)
+        }
+        View::Nest(offset, d) => go_on_with(printer, nested_indent(indent, offset), mode, d),
+        View::DedentToRoot(d) => go_on_with(printer, 0, mode, d),
+        View::Align(d) => go_on_with(printer, printer.column.prospective(), mode, d),
+        View::Flatten(d) => go_on_with(printer, indent, Mode::Flat, d),
+        View::BreakOrFlat(b, f) => go_on_with(printer, indent, mode, either(mode, b, f)),
+        View::Group(d) => {
+            let inner = group_mode(printer, mode, d, probes)?;
+            go_on_with(printer, indent, inner, d)
+        }
+        View::Union(l, r) => match mode {
+            Mode::Break => union(printer, indent, l, r),
+            Mode::Flat => go_on_with(printer, indent, mode, l),
+        },
+        View::PartialUnion(l, r) => {
+            let taken = partial_choice(printer, mode, l, r, probes)?;
+            go_on_with(printer, indent, mode, taken)
+        }
+    }
+}
