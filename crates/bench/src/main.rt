@@ -2,26 +2,12 @@
 //! how long large ones take.
 #![tactic(auto)]
 
-mod checksum;
-mod document;
-mod failure;
-mod groups;
-mod json;
-mod lists;
-mod measure;
-mod parts;
-mod report;
-mod request;
-mod trials;
-mod words;
-mod workload;
-
-use failure::Failure;
-use report::{compare, time_all, time_workload};
-use request::{Request, requested};
 use std::env;
 use std::process::ExitCode;
 use std::rt::{Clock, Env};
+use workloads::failure::Failure;
+use workloads::report::{compare, time_all, time_workload};
+use workloads::request::{Request, requested};
 
 fn run<R: AllocGlobal + Clock + Env + Print>(rt: &R) -> Result<(), Failure> {
     let words: Vec<String> = env::args(rt)?.skip(1).collect(rt.alloc())?;
