@@ -2,21 +2,8 @@
 //! answers with what comes of it on a line of standard output.
 #![tactic(auto)]
 
-mod answer;
-mod case;
-mod hexadecimal;
-mod number;
-mod operand;
-mod operator;
-mod outcome;
-mod pointer;
-mod reading;
-mod refusal;
-mod replayed;
-mod run;
-
+use cases::run::run;
 use prettyless::IoWrite;
-use run::run;
 use std::io;
 use std::io::{BufReader, BufWriter, Write};
 
@@ -26,6 +13,3 @@ fn main(rt: HostRuntime) -> io::Result<()> {
     run(rt.alloc(), &mut reader, &mut IoWrite::new(&mut out))?;
     out.flush()
 }
-
-#[cfg(test)]
-mod tests;

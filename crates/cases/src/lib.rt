@@ -1,0 +1,17 @@
+//! Cases, one a line: a document and what is asked of its layout, and the answer.
+#![tactic(auto)]
+
+mod answer;
+mod case;
+mod hexadecimal;
+mod number;
+mod operand;
+mod operator;
+mod outcome;
+mod pointer;
+mod reading;
+mod refusal;
+mod replayed;
+pub mod run;
+#[cfg(test)]
+mod tests;

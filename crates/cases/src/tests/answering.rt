@@ -1,0 +1,66 @@
+use crate::run::run;
+use prettyless::IoWrite;
+use std::io;
+use std::io::{BufReader, ErrorKind, Read, Write};
+use std::test::Fail;
+
+#[test]
+fn answers_lines(rt: HostRuntime) -> Result<(), Fail> {
+    let mut input = b"# a comment\n80 crlf eager hl\n\n\xff\n80 lf eager t c3a4".as_slice();
+    let mut written = Vec::new(rt.alloc());
+    run(rt.alloc(), &mut input, &mut IoWrite::new(&mut written))?;
+    assert_eq!(rt;
+        written.as_slice(),
+        b"ok 0d0a\nerror not a case\nok c3a4\n".as_slice()
+    );
+    Ok(())
+}
+
+/// A writer that is full.
+#[derive(Drop)]
+struct Full;
+
+impl Write for Full {
+    fn write(&mut self, _buf: &[u8]) -> io::Result<usize> {
+        Err(io::Error::from(ErrorKind::StorageFull))
+    }
+
+    fn flush(&mut self) -> io::Result<()> {
+        Ok(())
+    }
+}
+
+#[test]
+fn reports_a_writer_that_is_full(rt: HostRuntime) -> Result<(), Fail> {
+    let mut input = b"80 lf eager nil".as_slice();
+    let error = run(rt.alloc(), &mut input, &mut IoWrite::new(&mut Full))
+        .err()
+        .ok_or("written")?;
+    assert_eq!(rt; error.kind(), ErrorKind::StorageFull);
+    Ok(())
+}
+
+/// A reader that fails once it has given all its bytes.
+#[derive(Drop)]
+struct Broken(&'static [u8]);
+
+impl Read for Broken {
+    fn read(&mut self, buf: &mut [u8]) -> io::Result<usize> {
+        if self.0.is_empty() {
+            return Err(io::Error::from(ErrorKind::ConnectionReset));
+        }
+        self.0.read(buf)
+    }
+}
+
+#[test]
+fn reports_a_reader_that_fails(rt: HostRuntime) -> Result<(), Fail> {
+    let mut reader = BufReader::new(rt.alloc(), Broken(b"80 lf eager nil\n80 lf"))?;
+    let mut written = Vec::new(rt.alloc());
+    let error = run(rt.alloc(), &mut reader, &mut IoWrite::new(&mut written))
+        .err()
+        .ok_or("read")?;
+    assert_eq!(rt; error.kind(), ErrorKind::ConnectionReset);
+    assert_eq!(rt; written.as_slice(), b"ok -\n".as_slice());
+    Ok(())
+}

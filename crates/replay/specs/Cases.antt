@@ -1,8 +1,0 @@
--- The case that a `ReadCase` stands for.
-use Rattle.replay.specs.declared.case.ReadCase.{ReadCase}
-use Rattle.replay.specs.Notation.{Case}
-use Rattle.replay.specs.Pointers.{pointer_tree}
-
--- a case as it was read
-abbrev pub case_of : ReadCase → Case
-case_of c = record { options = c.options; tree = pointer_tree c.document }
