@@ -1,4 +1,4 @@
-//! The printer's state, and what steps and turns answer.
+//! The printer's state, and what a step answers.
 use crate::command::Command;
 use crate::piece::Piece;
 use crate::unread::Unread;
