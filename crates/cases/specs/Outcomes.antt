@@ -1,4 +1,4 @@
--- What is answered to a line.
+-- What comes of the case that a line writes.
 use Rattle.std.specs.Prelude.{◌≡◌, ℕ, List, ◌++◌, codes}
 use Rattle.prettyless.specs.Layout.{Bytes, Whole, Cut, layout}
 use Rattle.cases.specs.Notation.{Case, Denotes, hex_word}

@@ -7,7 +7,7 @@ ghost use Rattle.cases.specs.declared.refusal.Refusal.TheVariants.{OutOfMemory};
 use crate::refusal::Refusal;
 use prettyless::{Arena, Doc, DocPlace, RefDoc};
 
-/// Where nodes stand. It gives them up all at once, so that a document may be of any depth.
+/// Where nodes stand. It gives them up all at once, so that giving up a deep document calls nothing for each node.
 pub type Place<'a> = Arena<'a>;
 
 /// The pointer between nodes.

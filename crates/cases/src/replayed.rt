@@ -20,7 +20,7 @@ fn replayed_in<'a>(place: &'a Place<'a>, line: &'a [u8]) -> Result<String, Refus
     Ok(outcome(place.memory(), &case)?)
 }
 
-/// What comes of the case that a line writes, as words. All memory is given back.
+/// What comes of the case that a line writes, as words. The memory of its document is given back.
 pub fn replayed(alloc: Global, line: &[u8]) -> Result<String, Refusal>
     ensures ok { IfOk result (λ text. IsReplayed line.now (string_bytes text)) }
     ensures err { IfErr result (λ e. RefusesLine e line.now) }

@@ -27,7 +27,7 @@ fn next_line<R: BufRead>(reader: &mut R, line: &mut Vec<u8>) -> io::Result<bool>
 /// Answers the lines of a reader to its end, one after the other. Where the reader and the sink tell their bytes, what was
 /// written answers each of them, in order.
 ///
-/// It stops at an error of the reader or the sink, and where the reader has not ended after 2^64 lines. The sink then has
+/// It stops at an error of the reader or the sink, and after 2^64 - 1 lines. The sink then has
 /// a beginning of the answers.
 pub fn run<R: BufRead, S: Render<Error = io::Error>>(
     alloc: Global,

@@ -1,4 +1,4 @@
--- The queue: what waits, what is put off, and that it only grows.
+-- The queue: what waits, what is put off, and whether anything does.
 use Rattle.std.proofs.Common.{◌≡◌, ℕ, suc, ◌+◌, ◌-◌, ◌≤◌, ◌<◌, List, [], ◌∷◌, ◌++◌, length, refl, ap, sym, ◌∙◌, append_assoc, append-nil, arith, drop, length-append, length-drop, true, false}
 use Rattle.std.proofs.lemmas.List.{drop-append-le, drop_all}
 use Rattle.prettyless_model.specs.Tree.{Tree}

@@ -1,4 +1,4 @@
--- What the reading of one node by a probe comes to, and how many nodes a probe takes up.
+-- What the reading of one node by a probe comes to, and how many nodes a probe may take up.
 use Rattle.std.specs.Prelude.{◌≡◌, ℕ, ◌+◌, ◌-◌, ◌^◌, ◌≤◌, min, Bool, List, [], Option, Some, None}
 use Rattle.prettyless_model.specs.Tree.{Tree, Group, PartialUnion, size}
 use Rattle.prettyless_model.specs.Reading.{Atom, reading}

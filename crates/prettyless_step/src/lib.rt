@@ -2,7 +2,7 @@
 //! and to the line suffixes that are pending, and what it writes.
 //!
 //! It is proved over any nodes that can show themselves (`walk`), against the definitions of `prettyless_model`; so is the
-//! probe, by which a step decides whether a group stays on its line.
+//! probe, by which a step decides whether a group is laid flat, and which document of a partial union is laid.
 #![tactic(auto)]
 
 pub mod command;

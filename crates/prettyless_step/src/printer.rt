@@ -10,7 +10,7 @@ use prettyless_sink::options::RenderOptions;
 pub struct Printer<N> {
     pub options: RenderOptions,
     pub column: Column,
-    /// Whether, since the open trial began, no text went past the width.
+    /// Whether, since the open trial began, nothing went past the width.
     pub within: bool,
     /// The commands that are left, the next one last.
     pub commands: Vec<Command<N>>,

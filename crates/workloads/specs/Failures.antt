@@ -1,4 +1,4 @@
--- What the program says of a failure, and the status that it ends with.
+-- What `bench` says of a failure, and the status that it ends with.
 use Rattle.std.specs.Prelude.{ℕ, List, codes}
 use Rattle.workloads.specs.declared.failure.Failure.{Failure}
 use Rattle.workloads.specs.declared.failure.Failure.TheVariants.{Words, Build, Render, Memory, System}
@@ -11,7 +11,7 @@ message_of (Render e) = codes "error: a document was not laid out"
 message_of (Memory e) = codes "error: out of memory"
 message_of (System e) = codes "error: the system refused"
 
--- the program's status behind it
+-- the status of `bench` behind it
 abbrev pub status_of : Failure → ℕ
 status_of Words = 2
 status_of (Build e) = 1

@@ -1,4 +1,4 @@
--- What the words that the program is started with ask for.
+-- What the words that `bench` is started with ask for.
 use Rattle.std.specs.Prelude.{List, [], ◌∷◌, String, string_bytes, codes, Option, Some, None, if◌then◌else◌}
 use Rattle.std.specs.Global.{Global}
 use Rattle.std.specs.Str.{bytes_eq}

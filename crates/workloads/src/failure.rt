@@ -36,7 +36,7 @@ impl Failure {
         }
     }
 
-    /// The status that the program ends with.
+    /// The status that `bench` ends with.
     pub fn status(&self) -> u8
         ensures { result ≡ status_of self.now }
     {

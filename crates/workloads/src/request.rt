@@ -3,7 +3,7 @@ ghost use Rattle.workloads.specs.Requests.{asked};
 
 use crate::workload::{Workload, workload_named};
 
-/// What the program is asked for.
+/// What `bench` is asked for.
 #[derive(Clone, Copy, Debug, PartialEq, Eq)]
 pub enum Request {
     /// The layouts of small documents.
@@ -14,7 +14,7 @@ pub enum Request {
     Time(Workload),
 }
 
-/// What the program's words ask for: nothing, `time`, or `time` and a workload's name.
+/// What the words of `bench` ask for: nothing, `time`, or `time` and a workload's name.
 pub fn requested(words: &[String]) -> Option<Request>
     ensures { result ≡ asked words.now }
 {
