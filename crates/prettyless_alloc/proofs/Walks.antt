@@ -5,7 +5,7 @@ use Rattle.std.specs.List.{FoldsTo}
 use Rattle.prettyless_doc.specs.DocTree.{is_nil}
 use Rattle.prettyless_doc.specs.Tree.{Tree, Nil, Fail, Text, TextWithLen, MultilineText, WeakSpace, HardLine, WeakLine, Append, LineSuffix, Nest, DedentToRoot, Align, ExpandParent, Flatten, BreakOrFlat, Group, Union, PartialUnion}
 use Rattle.prettyless_build.specs.Built.{append, appends}
-use Rattle.prettyless_build.specs.Iterated.{GivesNext, appends_after}
+use Rattle.prettyless_build.specs.Iterated.{GivesNext, GivesTwo, appends_after}
 
 module _ {S A : Type 0} (steps : S → Option A → S → Type 0) (it j : S) (x : A) (step : steps it (Some x) j) where
   -- the next item
@@ -15,6 +15,10 @@ module _ {S A : Type 0} (steps : S → Option A → S → Type 0) (it j : S) (x 
   -- a later item
   pub gives_later : (P : A → Type 0) → GivesNext steps j P → GivesNext steps it P
   gives_later P h = (x ∷ h.0, h.1, h.2, (h.3.0, (j, step, h.3.1), h.3.2), h.4)
+
+  -- a first item and a second
+  pub gives_two : (y : A) (u : S) → steps j (Some y) u → GivesTwo steps it
+  gives_two y u next = (x, y, u, (j, (j, step, refl), next))
 
   -- all the items
   pub drains_later : (xs : List A) → Drains steps j xs → Drains steps it (x ∷ xs)

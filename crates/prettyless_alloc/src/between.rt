@@ -5,7 +5,7 @@ ghost use Rattle.std.specs.List.{FoldsTo};
 ghost use Rattle.prettyless_doc.specs.BuildErrors.{IsMemory};
 ghost use Rattle.prettyless_doc.specs.DocTree.{built};
 ghost use Rattle.prettyless_build.specs.Built.{append};
-ghost use Rattle.prettyless_build.specs.Iterated.{GivesAll, GivesSome, GivesNext, Intersperses, appends_after};
+ghost use Rattle.prettyless_build.specs.Iterated.{GivesAll, GivesSome, GivesNext, HasGap, Intersperses, appends_after};
 
 use crate::over::append_all;
 use prettyless_build::{DocBuilder, Pretty};
@@ -28,7 +28,8 @@ where
         ensures ok { IfOk result (λ b. (xs : List I.Item)
             × GivesAll I.into_iter_gives I.IntoIter.next_gives docs xs
             × Intersperses I.Item.becomes (S.becomes separator) xs (built Self.Doc.tree b.1)) }
-        ensures err { IfErr result (λ e. IsMemory e ⊎ S.refuses separator e
+        ensures err { IfErr result (λ e. IsMemory e
+            ⊎ (S.refuses separator e × HasGap I.into_iter_gives I.IntoIter.next_gives docs)
             ⊎ GivesSome I.into_iter_gives I.IntoIter.next_gives docs (λ x. I.Item.refuses x e)) };
 }
 

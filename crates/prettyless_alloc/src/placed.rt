@@ -8,7 +8,7 @@ ghost use Rattle.prettyless_doc.specs.Counted as counted;
 ghost use Rattle.prettyless_doc.specs.DocTree.{built};
 ghost use Rattle.prettyless_doc.specs.Lines as lines;
 ghost use Rattle.prettyless_build.specs.Built as to;
-ghost use Rattle.prettyless_build.specs.Iterated.{GivesAll, GivesSome, Concatenates, Intersperses};
+ghost use Rattle.prettyless_build.specs.Iterated.{GivesAll, GivesSome, HasGap, Concatenates, Intersperses};
 
 use crate::allocator::DocAllocator;
 use crate::between::DocAllocatorBetween;
@@ -294,7 +294,8 @@ where
         ensures ok { IfOk result (λ p. (xs : List I.Item)
             × GivesAll I.into_iter_gives I.IntoIter.next_gives docs xs
             × Intersperses I.Item.becomes (S.becomes separator) xs (Self.tree p)) }
-        ensures err { IfErr result (λ e. IsMemory e ⊎ S.refuses separator e
+        ensures err { IfErr result (λ e. IsMemory e
+            ⊎ (S.refuses separator e × HasGap I.into_iter_gives I.IntoIter.next_gives docs)
             ⊎ GivesSome I.into_iter_gives I.IntoIter.next_gives docs (λ x. I.Item.refuses x e)) };
 }
 

@@ -9,6 +9,10 @@ use Rattle.prettyless_build.specs.Built.{append, appends}
 abbrev pub GivesNext : {S A : Type 0} → (S → Option A → S → Type 0) → S → (A → Type 0) → Type 0
 GivesNext {S} {A} steps it P = (xs : List A) × (x : A) × (u : S) × YieldsThen steps it xs (Some x) u × P x
 
+-- walked on from a state, an iterator gives two items at least
+abbrev pub GivesTwo : {S A : Type 0} → (S → Option A → S → Type 0) → S → Type 0
+GivesTwo {S} {A} steps it = (x : A) × (y : A) × (u : S) × YieldsThen steps it (x ∷ []) (Some y) u
+
 module _ {U S A : Type 0} (becomes : U → S → Type 0) (steps : S → Option A → S → Type 0) (docs : U) where
   -- walked to its end, it gives xs
   abbrev pub GivesAll : List A → Type 0
@@ -17,6 +21,10 @@ module _ {U S A : Type 0} (becomes : U → S → Type 0) (steps : S → Option A
   -- walked on, it gives an item with P
   abbrev pub GivesSome : (A → Type 0) → Type 0
   GivesSome P = (it : S) × becomes docs it × GivesNext steps it P
+
+  -- walked on, it gives two items at least, so that there is a gap between them
+  abbrev pub HasGap : Type 0
+  HasGap = (it : S) × becomes docs it × GivesTwo steps it
 
 -- the trees that items may become, appended in order
 abbrev pub Concatenates : {A : Type 0} → (A → Tree → Type 0) → List A → Tree → Type 0

@@ -6,7 +6,7 @@
 ghost use Rattle.std.specs.Prelude.{◌≡◌, ◌⊎◌, List};
 ghost use Rattle.std.specs.Iterator.{IsFinite, Drains};
 ghost use Rattle.prettyless_doc.specs.BuildErrors.{IsMemory};
-ghost use Rattle.prettyless_build.specs.Iterated.{GivesNext, Concatenates, Intersperses};
+ghost use Rattle.prettyless_build.specs.Iterated.{GivesNext, GivesTwo, Concatenates, Intersperses};
 
 use prettyless_alloc::{DocAllocatorBetween, DocAllocatorOver};
 use prettyless_build::{DocBuilder, Pretty};
@@ -60,7 +60,7 @@ where
     ghost becomes = { λ c y. (xs : List I.Item) × Drains I.next_gives c.0 xs
         × Intersperses I.Item.becomes (S.becomes c.1) xs y };
 
-    ghost refuses = { λ c e. IsMemory e ⊎ S.refuses c.1 e
+    ghost refuses = { λ c e. IsMemory e ⊎ (S.refuses c.1 e × GivesTwo I.next_gives c.0)
         ⊎ GivesNext I.next_gives c.0 (λ x. I.Item.refuses x e) };
 
     fn pretty(self, allocator: &'a D) -> Result<DocBuilder<'a, D>, BuildError> {

@@ -2,7 +2,7 @@ use Rattle.std.proofs.Common.{rules, refl, sym, ◌∙◌, subst, inl, inr, [], 
 use Rattle.std.proofs.lemmas.Result.{IfOk-weaker, IfErr-weaker}
 use Rattle.prettyless_doc.specs.DocTree.{built}
 use Rattle.prettyless_doc.specs.Tree.{Tree}
-use Rattle.prettyless_alloc.proofs.Walks.{gives_first, gives_later, drains_later, nil_from, between_nothing, behind_nothing}
+use Rattle.prettyless_alloc.proofs.Walks.{gives_first, gives_later, gives_two, drains_later, nil_from, between_nothing, behind_nothing}
 use Rattle.prettyless_alloc.proofs.between.AnyDocAllocatorBetween.intersperse.Goals as goal
 
 pub returns-in_err-first-clause-err : goal.returns-in_err-first-clause-err
@@ -22,6 +22,12 @@ pub returns-in_err-second-clause-err : goal.returns-in_err-second-clause-err
 returns-in_err-second-clause-err g c =
     IfErr-weaker c.from_residual-in_err-second.result (g.I.Item.Pretty.refuses c.in-Some-next.second) _
     (λ e p. inr (inr (c.into_iter-items.result, c.into_iter-items.ensures.into_iter_gives, gives_later g.I.IntoIter.Iterator.next_gives c.into_iter-items.result c.next.new.self c.in-Some.first c.in-Some.ensures.steps _ (gives_first g.I.IntoIter.Iterator.next_gives c.next.new.self c.next-2.new.self c.in-Some-next.second c.in-Some-next.ensures.steps _ p))))
+    (search rules)
+
+pub returns-in_err-separator-clause-err : goal.returns-in_err-separator-clause-err
+returns-in_err-separator-clause-err g c =
+    IfErr-weaker c.from_residual-in_err-separator.result (g.S.Pretty.refuses c.args.separator) _
+    (λ e p. inr (inl (p, (c.into_iter-items.result, c.into_iter-items.ensures.into_iter_gives, gives_two g.I.IntoIter.Iterator.next_gives c.into_iter-items.result c.next.new.self c.in-Some.first c.in-Some.ensures.steps c.in-Some-next.second c.next-2.new.self c.in-Some-next.ensures.steps))))
     (search rules)
 
 pub returns-then-is_nil-clause-ok : goal.returns-then-is_nil-clause-ok
