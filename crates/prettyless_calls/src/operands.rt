@@ -2,7 +2,9 @@
 use crate::expected::{becomes, shows};
 use bumpalo::Bump;
 use prettyless::prelude::*;
-use prettyless::{Arena, BoxAllocator, BuildDoc, Doc, DocBuilder, DocPtr, RcAllocator, docs};
+use prettyless::{
+    Arena, BoxAllocator, BoxDoc, BuildDoc, Doc, DocBuilder, DocPtr, RcAllocator, docs,
+};
 use std::alloc::Global;
 use std::process::Abort;
 use std::test::Fail;
@@ -138,6 +140,18 @@ where
 fn documents_of_others(rt: HostRuntime) -> Result<(), Fail> {
     let boxes = BoxAllocator::new(rt.alloc());
     others(&rt, &boxes)?;
+    places(&rt, &boxes, BuildDoc::from(Some(Doc::HardLine)), "HardLine")?;
+    let none: Option<Doc<'_, BoxDoc<'_>>> = None;
+    places(&rt, &boxes, BuildDoc::from(none), "Nil")
+}
+
+#[test]
+fn documents_of_pointers(rt: HostRuntime) -> Result<(), Fail> {
+    let boxes = BoxAllocator::new(rt.alloc());
     placed(&rt, &boxes)?;
-    places(&rt, &boxes, BuildDoc::from(Some(Doc::HardLine)), "HardLine")
+    let nodes = RcAllocator::new(rt.alloc());
+    placed(&rt, &nodes)?;
+    let bump = Bump::new(rt.alloc());
+    let arena = Arena::new(rt.alloc(), &bump);
+    placed(&rt, &arena)
 }

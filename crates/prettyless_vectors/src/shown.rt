@@ -152,9 +152,18 @@ fn compare_node<'a, D: DocPlace<'a>>(rt: &impl Abort, place: &'a D) -> Result<()
     Ok(())
 }
 
+// The same of a node that is placed.
+fn compare_placed<'a, D: DocPlace<'a>>(rt: &impl Abort, place: &'a D) -> Result<(), Fail> {
+    let node: BuildDoc<'a, D::Doc> = BuildDoc::DocPtr(place.line_()?.nest(2)?.into_doc()?);
+    let shown = format!(in place.memory(); "{node:?}")?;
+    assert_eq!(rt; shown.as_str(), "Nest(2, LineOrNil)");
+    Ok(())
+}
+
 #[test]
 fn shows_what_is_in_the_making(rt: HostRuntime) -> Result<(), Fail> {
     let boxes = BoxAllocator::new(rt.alloc());
     compare_builder(&rt, &boxes)?;
-    compare_node(&rt, &boxes)
+    compare_node(&rt, &boxes)?;
+    compare_placed(&rt, &boxes)
 }
