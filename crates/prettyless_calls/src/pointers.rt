@@ -171,3 +171,32 @@ fn arenas_are_empty_at_first(rt: HostRuntime) -> Result<(), Fail> {
     let arena = Arena::new(rt.alloc(), &bump);
     counts(&rt, &arena)
 }
+
+// Another tree with an owned text.
+fn other<'a, D: DocPlace<'a>>(place: &'a D) -> Result<D::Doc, BuildError> {
+    let text = String::from_str(place.memory(), "another text of more than 22 bytes")?;
+    let lines = place.text(CowStr::Owned(text))?.append(hard_line())?;
+    lines.append("three")?.nest(4)?.into_doc()
+}
+
+fn compare_other<'a, D: DocPlace<'a>>(rt: &impl Abort, place: &'a D) -> Result<(), Fail> {
+    let out = rendered(place.memory(), &other(place)?, 80)?;
+    assert_eq!(rt;
+        out.as_str(),
+        "another text of more than 22 bytes\n    three"
+    );
+    Ok(())
+}
+
+// A bump that is reset takes the nodes of another arena.
+#[test]
+fn memory_is_used_again(rt: HostRuntime) -> Result<(), Fail> {
+    let mut bump = Bump::new(rt.alloc());
+    {
+        let arena = Arena::new(rt.alloc(), &bump);
+        clones(&rt, &arena)?;
+    }
+    bump.reset()?;
+    let arena = Arena::new(rt.alloc(), &bump);
+    compare_other(&rt, &arena)
+}
