@@ -1,5 +1,5 @@
 //! The constructors of pointers, what outlives its owner, and what only one of the pointers has.
-use crate::expected::{points, rendered};
+use crate::expected::{Failing, points, rendered};
 use bumpalo::Bump;
 use prettyless::prelude::*;
 use prettyless::text::{BuildError, CowStr};
@@ -90,6 +90,18 @@ pub(crate) fn sequences<'a, D: DocPlace<'a, Doc = T>, T: DocPtr<'a> + fmt::Debug
     points(rt, memory, items, "[\"a\", \"b\"]")?;
     let items = T::intersperse(place, ["a", "b"].into_iter(), line_or_space());
     points(rt, memory, items, "[\"a\", LineOrSpace, \"b\"]")
+}
+
+pub(crate) fn separators<'a, D: DocPlace<'a, Doc = T>, T: DocPtr<'a> + fmt::Debug>(
+    rt: &impl Abort,
+    place: &'a D,
+) -> Result<(), Fail> {
+    let memory = place.memory();
+    let item = T::intersperse(place, ["a"].into_iter(), as_string(Failing));
+    points(rt, memory, item, "\"a\"")?;
+    let items = T::intersperse(place, ["a", "b"].into_iter(), as_string(Failing));
+    assert!(rt; matches!(items, Err(BuildError::Display)));
+    Ok(())
 }
 
 const LAYOUT: &str = "an owned text of more than 22 bytes\n  one\ntwo";
