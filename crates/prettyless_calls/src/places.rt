@@ -87,7 +87,8 @@ fn convert<'a, D: DocPlace<'a>>(
     values::options(rt, place)?;
     values::several(rt, place)?;
     values::longest(rt, place)?;
-    values::macros(rt, place)
+    values::macros(rt, place)?;
+    values::refusals(rt, place)
 }
 
 fn all<'a, D: DocPlace<'a>>(rt: &impl Abort, place: &'a D, owned: &'a String) -> Result<(), Fail>
