@@ -1,5 +1,5 @@
 //! Each call of an allocator once, with ample memory.
-use crate::expected::{points, shows};
+use crate::expected::{Failing, points, refuses, shows};
 use prettyless::prelude::*;
 use prettyless::text::{CowStr, Text};
 use prettyless::{BuildDoc, Doc, DocPtr};
@@ -75,6 +75,16 @@ pub(crate) fn sequences<'a, D: DocPlace<'a>>(rt: &impl Abort, place: &'a D) -> R
     shows(rt, items, "[\"a\", LineOrSpace, \"b\", LineOrSpace, \"c\"]")?;
     let item = place.intersperse(["a"].into_iter(), ",");
     shows(rt, item, "\"a\"")
+}
+
+// A separator becomes a document only where there is a gap.
+pub(crate) fn separators<'a, D: DocPlace<'a>>(rt: &impl Abort, place: &'a D) -> Result<(), Fail> {
+    let none = place.intersperse([""; 0].into_iter(), as_string(Failing));
+    shows(rt, none, "Nil")?;
+    let item = place.intersperse(["a"].into_iter(), as_string(Failing));
+    shows(rt, item, "\"a\"")?;
+    let items = place.intersperse(["a", "b"].into_iter(), as_string(Failing));
+    refuses(rt, items)
 }
 
 pub(crate) fn words<'a, D: DocPlace<'a>>(rt: &impl Abort, place: &'a D) -> Result<(), Fail> {

@@ -42,6 +42,25 @@ pub(crate) fn becomes<'a, D: DocPlace<'a>, P: Pretty<'a, D>>(
     shows(rt, place.pretty(value), shown)
 }
 
+// What cannot be printed.
+#[derive(Drop)]
+pub(crate) struct Failing;
+
+impl fmt::Display for Failing {
+    fn fmt<W: fmt::Write>(&self, _f: &mut fmt::Formatter<W>) -> fmt::Result {
+        Err(fmt::Error)
+    }
+}
+
+// Compares the answer of a call that is given what cannot be printed.
+pub(crate) fn refuses<'a, D: DocPlace<'a>>(
+    rt: &impl Abort,
+    built: Result<DocBuilder<'a, D>, BuildError>,
+) -> Result<(), Fail> {
+    assert!(rt; matches!(built, Err(BuildError::Display)));
+    Ok(())
+}
+
 // What a document is rendered as at this width.
 pub(crate) fn rendered<'a, T: DocPtr<'a>>(
     memory: Global,

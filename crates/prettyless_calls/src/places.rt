@@ -19,6 +19,7 @@ where
     calls::strings(rt, place)?;
     calls::operands(rt, place)?;
     calls::sequences(rt, place)?;
+    calls::separators(rt, place)?;
     calls::words(rt, place)?;
     calls::gaps(rt, place)?;
     calls::chains(rt, place)?;
@@ -63,6 +64,7 @@ where
     pointers::wrappers(rt, place)?;
     pointers::sums(rt, place)?;
     pointers::sequences(rt, place)?;
+    pointers::separators(rt, place)?;
     pointers::clones(rt, place)
 }
 
@@ -85,7 +87,8 @@ fn convert<'a, D: DocPlace<'a>>(
     values::options(rt, place)?;
     values::several(rt, place)?;
     values::longest(rt, place)?;
-    values::macros(rt, place)
+    values::macros(rt, place)?;
+    values::refusals(rt, place)
 }
 
 fn all<'a, D: DocPlace<'a>>(rt: &impl Abort, place: &'a D, owned: &'a String) -> Result<(), Fail>

@@ -1,5 +1,5 @@
 //! The constructors of pointers, what outlives its owner, and what only one of the pointers has.
-use crate::expected::{points, rendered};
+use crate::expected::{Failing, points, rendered};
 use bumpalo::Bump;
 use prettyless::prelude::*;
 use prettyless::text::{BuildError, CowStr};
@@ -92,6 +92,18 @@ pub(crate) fn sequences<'a, D: DocPlace<'a, Doc = T>, T: DocPtr<'a> + fmt::Debug
     points(rt, memory, items, "[\"a\", LineOrSpace, \"b\"]")
 }
 
+pub(crate) fn separators<'a, D: DocPlace<'a, Doc = T>, T: DocPtr<'a> + fmt::Debug>(
+    rt: &impl Abort,
+    place: &'a D,
+) -> Result<(), Fail> {
+    let memory = place.memory();
+    let item = T::intersperse(place, ["a"].into_iter(), as_string(Failing));
+    points(rt, memory, item, "\"a\"")?;
+    let items = T::intersperse(place, ["a", "b"].into_iter(), as_string(Failing));
+    assert!(rt; matches!(items, Err(BuildError::Display)));
+    Ok(())
+}
+
 const LAYOUT: &str = "an owned text of more than 22 bytes\n  one\ntwo";
 
 fn text<'a, D: DocPlace<'a>>(place: &'a D) -> Result<DocBuilder<'a, D>, BuildError> {
@@ -170,4 +182,33 @@ fn arenas_are_empty_at_first(rt: HostRuntime) -> Result<(), Fail> {
     let bump = Bump::new(rt.alloc());
     let arena = Arena::new(rt.alloc(), &bump);
     counts(&rt, &arena)
+}
+
+// Another tree with an owned text.
+fn other<'a, D: DocPlace<'a>>(place: &'a D) -> Result<D::Doc, BuildError> {
+    let text = String::from_str(place.memory(), "another text of more than 22 bytes")?;
+    let lines = place.text(CowStr::Owned(text))?.append(hard_line())?;
+    lines.append("three")?.nest(4)?.into_doc()
+}
+
+fn compare_other<'a, D: DocPlace<'a>>(rt: &impl Abort, place: &'a D) -> Result<(), Fail> {
+    let out = rendered(place.memory(), &other(place)?, 80)?;
+    assert_eq!(rt;
+        out.as_str(),
+        "another text of more than 22 bytes\n    three"
+    );
+    Ok(())
+}
+
+// A bump that is reset takes the nodes of another arena.
+#[test]
+fn memory_is_used_again(rt: HostRuntime) -> Result<(), Fail> {
+    let mut bump = Bump::new(rt.alloc());
+    {
+        let arena = Arena::new(rt.alloc(), &bump);
+        clones(&rt, &arena)?;
+    }
+    bump.reset()?;
+    let arena = Arena::new(rt.alloc(), &bump);
+    compare_other(&rt, &arena)
 }

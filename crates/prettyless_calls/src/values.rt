@@ -1,8 +1,10 @@
 //! What can become a document.
-use crate::expected::{becomes, shows};
+use crate::expected::{Failing, becomes, refuses, shows};
+use prettyless::combinators::types::HardLine;
 use prettyless::docs;
 use prettyless::prelude::*;
 use prettyless::text::CowStr;
+use std::cell::Cell;
 use std::process::Abort;
 use std::test::Fail;
 
@@ -46,4 +48,20 @@ pub(crate) fn macros<'a, D: DocPlace<'a>>(rt: &impl Abort, place: &'a D) -> Resu
     shows(rt, docs![place, "a"], "\"a\"")?;
     let pair = docs![place, "a", hard_line()];
     shows(rt, pair, "[\"a\", HardLine]")
+}
+
+// A line, and a note that it was asked for.
+fn noted(asked: &Cell<bool>) -> HardLine {
+    asked.set(true);
+    hard_line()
+}
+
+// What stands behind a refused document is not evaluated.
+pub(crate) fn refusals<'a, D: DocPlace<'a>>(rt: &impl Abort, place: &'a D) -> Result<(), Fail> {
+    let asked = Cell::new(false);
+    refuses(rt, docs![place, "a", as_string(Failing), noted(&asked)])?;
+    assert!(rt; !asked.get());
+    shows(rt, docs![place, "a", noted(&asked)], "[\"a\", HardLine]")?;
+    assert!(rt; asked.get());
+    Ok(())
 }
