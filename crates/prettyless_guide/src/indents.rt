@@ -13,6 +13,17 @@ fn nests_indent_lines<'a, D: DocPlace<'a>>(rt: &impl Abort, place: &'a D) -> Res
     compare(rt, place, block, &layouts)
 }
 
+fn dedents_move_to_the_left<'a, D: DocPlace<'a>>(
+    rt: &impl Abort,
+    place: &'a D,
+) -> Result<(), Fail> {
+    let label = dedent(2, (line_or_space(), "b:"));
+    let lines = ("{", line_or_space(), "a;", label, line_or_space(), "c;");
+    let block = group(indent(4, lines));
+    let layouts = [(10, "{ a; b: c;"), (9, "{\n    a;\n  b:\n    c;")];
+    compare(rt, place, block, &layouts)
+}
+
 fn breaks_stand_inside_of_a_nest<'a, D: DocPlace<'a>>(
     rt: &impl Abort,
     place: &'a D,
@@ -49,6 +60,7 @@ fn payloads_keep_their_lines<'a, D: DocPlace<'a>>(
 
 fn all<'a, D: DocPlace<'a>>(rt: &impl Abort, place: &'a D) -> Result<(), Fail> {
     nests_indent_lines(rt, place)?;
+    dedents_move_to_the_left(rt, place)?;
     breaks_stand_inside_of_a_nest(rt, place)?;
     alignments_go_back_to_their_column(rt, place)?;
     dedents_go_to_the_root(rt, place)?;

@@ -4,6 +4,8 @@
 #[cfg(test)]
 mod alternatives;
 #[cfg(test)]
+mod first;
+#[cfg(test)]
 mod indents;
 #[cfg(test)]
 mod layouts;
@@ -13,5 +15,7 @@ mod line_ends;
 mod lines;
 #[cfg(test)]
 mod lists;
+#[cfg(test)]
+mod own;
 #[cfg(test)]
 mod rendering;

@@ -1,7 +1,7 @@
 //! Spaces and lines that vanish, and what waits for the end of its line.
-use crate::layouts::compare;
-use prettyless::BoxAllocator;
+use crate::layouts::{compare, compare_built};
 use prettyless::prelude::*;
+use prettyless::{BoxAllocator, docs};
 use std::process::Abort;
 use std::test::Fail;
 
@@ -31,6 +31,16 @@ fn suffixes_wait_for_the_end_of_their_line<'a, D: DocPlace<'a>>(
     compare(rt, place, pair, &[(4, "a, b // why"), (3, "a, // why\nb")])
 }
 
+fn builders_become_suffixes<'a, D: DocPlace<'a>>(
+    rt: &impl Abort,
+    place: &'a D,
+) -> Result<(), Fail> {
+    let remark = docs![place, " // ", as_string(1)]?.as_line_suffix()?;
+    let end = (",", line_or_space(), "b");
+    let pair = place.pretty("a")?.join(remark)?.append(end)?;
+    compare_built(rt, pair.group()?, &[(4, "a, b // 1"), (3, "a, // 1\nb")])
+}
+
 fn weak_spaces_stand_before_a_suffix<'a, D: DocPlace<'a>>(
     rt: &impl Abort,
     place: &'a D,
@@ -44,6 +54,7 @@ fn all<'a, D: DocPlace<'a>>(rt: &impl Abort, place: &'a D) -> Result<(), Fail> {
     weak_spaces_and_lines_vanish(rt, place)?;
     weak_lines_break_their_group(rt, place)?;
     suffixes_wait_for_the_end_of_their_line(rt, place)?;
+    builders_become_suffixes(rt, place)?;
     weak_spaces_stand_before_a_suffix(rt, place)
 }
 

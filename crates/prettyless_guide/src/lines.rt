@@ -13,6 +13,22 @@ fn texts_are_counted_in_columns<'a, D: DocPlace<'a>>(
     compare(rt, place, row, &[(7, "42 你好"), (6, "42\n你好")])
 }
 
+fn spaces_are_texts<'a, D: DocPlace<'a>>(rt: &impl Abort, place: &'a D) -> Result<(), Fail> {
+    let row = group(("a", spaces(3), "b", line_or_space(), "c"));
+    compare(rt, place, row, &[(7, "a   b c"), (6, "a   b\nc")])
+}
+
+fn what_is_none_is_nothing<'a, D: DocPlace<'a>>(rt: &impl Abort, place: &'a D) -> Result<(), Fail> {
+    let value = Some((line_or_space(), "= 1"));
+    let binding = group(("let x", None::<&str>, value, ";"));
+    compare(
+        rt,
+        place,
+        binding,
+        &[(10, "let x = 1;"), (9, "let x\n= 1;")],
+    )
+}
+
 fn groups_stand_on_a_line_where_they_fit<'a, D: DocPlace<'a>>(
     rt: &impl Abort,
     place: &'a D,
@@ -65,6 +81,8 @@ fn expanded_groups_break<'a, D: DocPlace<'a>>(rt: &impl Abort, place: &'a D) -> 
 
 fn all<'a, D: DocPlace<'a>>(rt: &impl Abort, place: &'a D) -> Result<(), Fail> {
     texts_are_counted_in_columns(rt, place)?;
+    spaces_are_texts(rt, place)?;
+    what_is_none_is_nothing(rt, place)?;
     groups_stand_on_a_line_where_they_fit(rt, place)?;
     lines_may_be_nothing(rt, place)?;
     hard_lines_always_break(rt, place)?;

@@ -10,6 +10,47 @@ fn macros_append_in_order<'a, D: DocPlace<'a>>(rt: &impl Abort, place: &'a D) ->
     compare_built(rt, pair, &[(4, "(ab)"), (3, "(a\nb)")])
 }
 
+fn builders_append_and_join<'a, D: DocPlace<'a>>(
+    rt: &impl Abort,
+    place: &'a D,
+) -> Result<(), Fail> {
+    let end = place.pretty("b;")?;
+    let pair = place.pretty("a,")?.append(line_or_space())?.join(end)?;
+    compare_built(rt, pair.group()?, &[(5, "a, b;"), (4, "a,\nb;")])
+}
+
+fn builders_are_enclosed<'a, D: DocPlace<'a>>(rt: &impl Abort, place: &'a D) -> Result<(), Fail> {
+    let name = place.pretty("x")?.double_quotes()?;
+    let call = name.enclose(("f(", line_or_nil()), (line_or_nil(), ")"))?;
+    let layouts = [(6, "f(\"x\")"), (5, "f(\n\"x\"\n)")];
+    compare_built(rt, call.group()?, &layouts)
+}
+
+fn places_choose_by_the_group<'a, D: DocPlace<'a>>(
+    rt: &impl Abort,
+    place: &'a D,
+) -> Result<(), Fail> {
+    let end = place.if_group_flat(";")?;
+    let comma = place.if_group_break(",")?;
+    let first = place.pretty("a")?.join(end)?;
+    let pair = first.append((line_or_space(), "b"))?.join(comma)?;
+    compare_built(rt, pair.group()?, &[(4, "a; b"), (3, "a\nb,")])
+}
+
+fn builders_choose_by_the_group<'a, D: DocPlace<'a>>(
+    rt: &impl Abort,
+    place: &'a D,
+) -> Result<(), Fail> {
+    let then = place.pretty(" then")?.when_group_flat()?;
+    let open = place.pretty(" {")?.when_group_break()?;
+    let close = place.pretty((hard_line(), "}"))?.when_group_break()?;
+    let head = place.pretty("if a")?.join(then)?.join(open)?;
+    let body = nest(2, (line_or_space(), "f()"));
+    let choice = head.append(body)?.join(close)?;
+    let layouts = [(13, "if a then f()"), (12, "if a {\n  f()\n}")];
+    compare_built(rt, choice.group()?, &layouts)
+}
+
 fn soft_lines_fill<'a, D: DocPlace<'a>>(rt: &impl Abort, place: &'a D) -> Result<(), Fail> {
     let words = ("aa", soft_line_or_space(), "bb", soft_line_or_space(), "cc");
     compare(rt, place, words, &[(7, "aa bb\ncc"), (4, "aa\nbb\ncc")])
@@ -46,6 +87,10 @@ fn broken_lists_end_in_a_comma<'a, D: DocPlace<'a>>(
 
 fn all<'a, D: DocPlace<'a>>(rt: &impl Abort, place: &'a D) -> Result<(), Fail> {
     macros_append_in_order(rt, place)?;
+    builders_append_and_join(rt, place)?;
+    builders_are_enclosed(rt, place)?;
+    places_choose_by_the_group(rt, place)?;
+    builders_choose_by_the_group(rt, place)?;
     soft_lines_fill(rt, place)?;
     words_are_laid_anew(rt, place)?;
     copies_stand_one_after_the_other(rt, place)?;

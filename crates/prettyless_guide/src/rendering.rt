@@ -20,6 +20,9 @@ fn options_choose_line_ends_and_indents<'a, D: DocPlace<'a>>(
         (eager, "a\n  \n  b"),
         (deferred, "a\n\n  b"),
         (crlf, "a\r\n\r\n  b"),
+        (eager.with_width(0), "a\n  \n  b"),
+        (deferred.with_width(0), "a\n\n  b"),
+        (crlf.with_width(0), "a\r\n\r\n  b"),
     ];
     compare_with(rt, place, lines, &layouts)
 }
