@@ -3,14 +3,14 @@
 
 pub mod allocator;
 pub mod allocator_of;
-pub mod between;
-pub mod over;
+pub mod concat;
+pub mod intersperse;
 pub mod placed;
 mod spaces;
 mod words;
 
 pub use allocator::DocAllocator;
 pub use allocator_of::DocAllocatorOf;
-pub use between::DocAllocatorBetween;
-pub use over::DocAllocatorOver;
+pub use concat::DocAllocatorOver;
+pub use intersperse::DocAllocatorBetween;
 pub use placed::{PlacedDoc, PlacedDocBetween, PlacedDocOf, PlacedDocOver};

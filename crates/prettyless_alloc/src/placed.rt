@@ -11,8 +11,8 @@ ghost use Rattle.prettyless_build.specs.Built as to;
 ghost use Rattle.prettyless_build.specs.Iterated.{GivesAll, GivesSome, HasGap, Concatenates, Intersperses};
 
 use crate::allocator::DocAllocator;
-use crate::between::DocAllocatorBetween;
-use crate::over::DocAllocatorOver;
+use crate::concat::DocAllocatorOver;
+use crate::intersperse::DocAllocatorBetween;
 use prettyless_build::{DocBuilder, Pretty};
 use prettyless_doc::text::CowStr;
 use prettyless_doc::{BuildDoc, BuildError, DocPlace, DocPtr};

@@ -6,7 +6,7 @@ ghost use Rattle.prettyless_build.specs.Built as to;
 ghost use Rattle.prettyless_alloc.specs.Words as words;
 
 use crate::allocator::DocAllocator;
-use crate::between::DocAllocatorBetween;
+use crate::intersperse::DocAllocatorBetween;
 use prettyless_build::{DocBuilder, Pretty};
 use prettyless_doc::{BuildError, DocPlace};
 

@@ -8,8 +8,8 @@ mod chains;
 #[cfg(test)]
 mod combined;
 #[cfg(test)]
-mod counted;
-#[cfg(test)]
 mod derived;
 #[cfg(test)]
 mod layouts;
+#[cfg(test)]
+mod texts;

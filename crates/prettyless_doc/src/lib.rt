@@ -5,7 +5,6 @@ mod cached;
 mod clone;
 mod constructors;
 mod conversions;
-mod counted;
 mod debug;
 mod display;
 pub mod doc;
@@ -15,6 +14,7 @@ pub mod place;
 pub mod print;
 pub mod render;
 pub mod text;
+mod texts;
 pub mod walk;
 
 pub use doc::{BuildDoc, Doc, DocPtr};

@@ -3,7 +3,7 @@ use Rattle.prettyless_model.specs.Tree.{Tree}
 use Rattle.prettyless_doc.specs.DocTree.{tree_of}
 use Rattle.prettyless_pointers.specs.declared.arena.RefDoc.{RefDoc, fold-RefDoc}
 use Rattle.prettyless_pointers.specs.declared.boxes.BoxDoc.{BoxDoc, fold-BoxDoc}
-use Rattle.prettyless_pointers.specs.declared.counted.RcDoc.{RcDoc, fold-RcDoc}
+use Rattle.prettyless_pointers.specs.declared.rc.RcDoc.{RcDoc, fold-RcDoc}
 
 -- the tree of a boxed document
 abbrev pub box_tree : BoxDoc → Tree

@@ -5,9 +5,9 @@ pub mod arena;
 pub mod boxes;
 mod children;
 mod copying;
-pub mod counted;
 mod pretty;
+pub mod rc;
 
 pub use arena::{Arena, IntoRef, RefDoc};
 pub use boxes::{BoxAllocator, BoxDoc};
-pub use counted::{RcAllocator, RcDoc};
+pub use rc::{RcAllocator, RcDoc};

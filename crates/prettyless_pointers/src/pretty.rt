@@ -3,7 +3,7 @@ ghost use Rattle.std.specs.Prelude.{◌≡◌};
 ghost use Rattle.prettyless_pointers.specs.Trees.{box_tree, rc_tree};
 
 use crate::boxes::{BoxAllocator, BoxDoc};
-use crate::counted::{RcAllocator, RcDoc};
+use crate::rc::{RcAllocator, RcDoc};
 use prettyless_build::{DocBuilder, Pretty};
 use prettyless_doc::{BuildDoc, BuildError};
 

@@ -90,15 +90,11 @@ fn work_off<N: Walk, W: Render>(
     ensures meets { OnOk result (Meets (stack_tally N.tree printer.old 0) nothing_left visits.old visits.new) }
 {
     'work: while printer.commands.len() > 0 {
-        match turn(printer, out, visits) {
-            Err(e) => return Err(e),
-            Ok(Turn::Failed) => return Err(RenderError::Document(out.fail_doc())),
-            Ok(Turn::Went) => {}
-            Ok(Turn::Chosen(indent, first, second)) => {
-                match choose(printer, buffer, out, indent, first, second, visits) {
-                    Ok(()) => {}
-                    Err(e) => return Err(e),
-                }
+        match turn(printer, out, visits)? {
+            Turn::Failed => return Err(RenderError::Document(out.fail_doc())),
+            Turn::Went => {}
+            Turn::Chosen(indent, first, second) => {
+                choose(printer, buffer, out, indent, first, second, visits)?;
             }
         }
     }
@@ -146,17 +142,11 @@ fn run_to_end<N: Walk, W: Render>(
     ensures meets { OnOk result (Meets (stack_tally N.tree printer.old 0) nothing_left visits.old visits.new) }
 {
     'rounds: loop {
-        match work_off(printer, buffer, out, visits) {
-            Ok(()) => {}
-            Err(e) => return Err(e),
-        }
+        work_off(printer, buffer, out, visits)?;
         if !is_pending(printer) {
             return Ok(());
         }
-        match flush_end(printer, out) {
-            Ok(()) => {}
-            Err(e) => return Err(e),
-        }
+        flush_end(printer, out)?;
     }
 }
 

@@ -1,4 +1,5 @@
 use Rattle.std.proofs.Common.{◌∙◌, ap, arith, length, refl, sym, subst}
+use Rattle.std.proofs.lemmas.Result.{err_from_is_err_and}
 use Rattle.prettyless_sink.specs.declared.options.RenderOptions.{RenderOptions}
 use Rattle.prettyless_model.specs.Layout.{State}
 use Rattle.prettyless_step.specs.Stack.{nodes, stack_of}
@@ -22,8 +23,10 @@ rounds-init g c = record {
   meets = meets_same (stack_tally g.N.Walk.tree c.args.printer.now 0) c.args.visits.now;
 }
 
-pub returns-in-Err-clause-told : goal.returns-in-Err-clause-told
-returns-in-Err-clause-told g c =
+pub returns-in_err-work_off-clause-told : goal.returns-in_err-work_off-clause-told
+returns-in_err-work_off-clause-told g c =
+    let residual = err_from_is_err_and c.from_residual.result c.from_residual.ensures.1 in
+    rw (residual.1, residual.2)
     let f = g.N.Walk.tree in
     let w = g.W.Render.written in
     let fails = g.W.Render.failures in
@@ -35,8 +38,8 @@ returns-in-Err-clause-told g c =
     let new = c.work_off.new.out in
     λ told.
     let y = c.rounds.invariant.told told in
-    let e = c.in-Err.ensures.told y.0 in
-    (e.0, finishing_stopped (Unit {0}) f whole p (g.W.Render.document_errors new) (w old) (w out) (w new) (fails old) (fails out) (fails new) c.in-Err.e y.1 y.2 e.1)
+    let e = c.in_err-work_off.ensures.told y.0 in
+    (e.0, finishing_stopped (Unit {0}) f whole p (g.W.Render.document_errors new) (w old) (w out) (w new) (fails old) (fails out) (fails new) c.in_err-work_off.field-0.0 y.1 y.2 e.1)
 
 pub returns-then-not-is_pending-clause-told : goal.returns-then-not-is_pending-clause-told
 returns-then-not-is_pending-clause-told g c =
@@ -52,7 +55,7 @@ returns-then-not-is_pending-clause-told g c =
     let none = length_none (state_of f q).pending (sym c.is_pending.ensures ∙ c.if-not-is_pending.true) in
     λ told.
     let y = c.rounds.invariant.told told in
-    let e = c.in-Ok.ensures.told y.0 in
+    let e = c.in_ok-work_off.ensures.told y.0 in
     let k = finishing_ends f whole p q (w old) (w out) (w new) e.1.0 y.1 e.1.1 e.1.2 in
     let z = ending_done f whole p.options q (w old) (w new) k none in
     (e.0, (z.0, z.1, z.2, e.1.3 ∙ y.2))
@@ -69,7 +72,7 @@ rounds-smaller g c =
     let out = c.rounds.out in
     let new = c.work_off.new.out in
     let some = length_some (state_of f q).pending (sym c.is_pending.ensures ∙ c.if-not-is_pending.false) in
-    omega (arith, ap nodes c.in-Ok-flush_end.ensures.stack, ap (λ (x : State). owed x.pending) c.in-Ok-flush_end.ensures.state, round_less (state_of f q).pending some, c.in-Ok.ensures.lessens)
+    omega (arith, ap nodes c.in_ok-flush_end.ensures.stack, ap (λ (x : State). owed x.pending) c.in_ok-flush_end.ensures.state, round_less (state_of f q).pending some, c.in_ok-work_off.ensures.lessens)
 
 pub rounds-preserved : goal.rounds-preserved
 rounds-preserved g c =
@@ -90,19 +93,21 @@ rounds-preserved g c =
       same_lender = c.flush_end.ensures.same_lender ∙ c.work_off.ensures.same_lender ∙ c.rounds.invariant.same_lender;
       told = λ told.
           let y = c.rounds.invariant.told told in
-          let e = c.in-Ok.ensures.told y.0 in
+          let e = c.in_ok-work_off.ensures.told y.0 in
           let k = finishing_ends f whole p q (w old) (w out) (w new) e.1.0 y.1 e.1.1 e.1.2 in
-          let h = c.in-Ok-flush_end.ensures.told e.0 in
-          (h.0, ending_again f whole q.options q r (w old) (w new) (w last) (subst (λ (o : RenderOptions). Ending f whole o q (w old) (w new)) (sym c.in-Ok.ensures.options) k) c.in-Ok-flush_end.ensures.options some c.in-Ok-flush_end.ensures.stack c.in-Ok-flush_end.ensures.state h.1.0, h.1.1 ∙ e.1.3 ∙ y.2);
+          let h = c.in_ok-flush_end.ensures.told e.0 in
+          (h.0, ending_again f whole q.options q r (w old) (w new) (w last) (subst (λ (o : RenderOptions). Ending f whole o q (w old) (w new)) (sym c.in_ok-work_off.ensures.options) k) c.in_ok-flush_end.ensures.options some c.in_ok-flush_end.ensures.stack c.in_ok-flush_end.ensures.state h.1.0, h.1.1 ∙ e.1.3 ∙ y.2);
       rise = rise_then c.rounds.invariant.rise c.work_off.ensures.rise;
       pays = λ plain.
-          let z = c.in-Ok.ensures.pays (c.rounds.invariant.pays plain).0 in
+          let z = c.in_ok-work_off.ensures.pays (c.rounds.invariant.pays plain).0 in
           absurd (omega (arith, some, ap length z.0.pending));
-      meets = meets_at (λ k. omega arith) (λ k. omega arith) (meets_then c.rounds.invariant.meets c.in-Ok.ensures.meets);
+      meets = meets_at (λ k. omega arith) (λ k. omega arith) (meets_then c.rounds.invariant.meets c.in_ok-work_off.ensures.meets);
     }
 
-pub returns-in-Err-flush_end-clause-told : goal.returns-in-Err-flush_end-clause-told
-returns-in-Err-flush_end-clause-told g c =
+pub returns-in_err-flush_end-clause-told : goal.returns-in_err-flush_end-clause-told
+returns-in_err-flush_end-clause-told g c =
+    let residual = err_from_is_err_and c.from_residual-in_err-flush_end.result c.from_residual-in_err-flush_end.ensures.1 in
+    rw (residual.1, residual.2)
     let f = g.N.Walk.tree in
     let w = g.W.Render.written in
     let fails = g.W.Render.failures in
@@ -116,18 +121,21 @@ returns-in-Err-flush_end-clause-told g c =
     let some = length_some (state_of f q).pending (sym c.is_pending.ensures ∙ c.if-not-is_pending.false) in
     λ told.
     let y = c.rounds.invariant.told told in
-    let e = c.in-Ok.ensures.told y.0 in
+    let e = c.in_ok-work_off.ensures.told y.0 in
     let k = finishing_ends f whole p q (w old) (w out) (w new) e.1.0 y.1 e.1.1 e.1.2 in
-    let h = c.in-Err-flush_end.ensures.told e.0 in
-    (h.0, ending_stopped (Unit {0}) f whole p.options q (g.W.Render.document_errors last) (w old) (w new) (w last) (fails old) (fails new) (fails last) c.in-Err-flush_end.e k some (e.1.3 ∙ y.2) h.1)
+    let h = c.in_err-flush_end.ensures.told e.0 in
+    (h.0, ending_stopped (Unit {0}) f whole p.options q (g.W.Render.document_errors last) (w old) (w new) (w last) (fails old) (fails new) (fails last) c.in_err-flush_end.field-0.0 k some (e.1.3 ∙ y.2) h.1)
 
-pub returns-in-Err-clause-rise : goal.returns-in-Err-clause-rise
-returns-in-Err-clause-rise g c = rise_then c.rounds.invariant.rise c.work_off.ensures.rise
+pub returns-in_err-work_off-clause-rise : goal.returns-in_err-work_off-clause-rise
+returns-in_err-work_off-clause-rise g c = rise_then c.rounds.invariant.rise c.work_off.ensures.rise
 
-pub returns-in-Err-clause-pays : goal.returns-in-Err-clause-pays
-returns-in-Err-clause-pays g c = λ plain.
+pub returns-in_err-work_off-clause-pays : goal.returns-in_err-work_off-clause-pays
+returns-in_err-work_off-clause-pays g c =
+    let residual = err_from_is_err_and c.from_residual.result c.from_residual.ensures.1 in
+    rw residual.1
+    λ plain.
     let y = c.rounds.invariant.pays plain in
-    pays_then y.1 (c.in-Err.ensures.pays y.0)
+    pays_then y.1 (c.in_err-work_off.ensures.pays y.0)
 
 pub returns-then-not-is_pending-clause-rise : goal.returns-then-not-is_pending-clause-rise
 returns-then-not-is_pending-clause-rise g c = rise_then c.rounds.invariant.rise c.work_off.ensures.rise
@@ -135,19 +143,19 @@ returns-then-not-is_pending-clause-rise g c = rise_then c.rounds.invariant.rise 
 pub returns-then-not-is_pending-clause-pays : goal.returns-then-not-is_pending-clause-pays
 returns-then-not-is_pending-clause-pays g c = λ plain.
     let y = c.rounds.invariant.pays plain in
-    let z = c.in-Ok.ensures.pays y.0 in
+    let z = c.in_ok-work_off.ensures.pays y.0 in
     (z.0, pays_then y.1 z.1)
 
-pub returns-in-Err-flush_end-clause-rise : goal.returns-in-Err-flush_end-clause-rise
-returns-in-Err-flush_end-clause-rise g c = rise_then c.rounds.invariant.rise c.work_off.ensures.rise
+pub returns-in_err-flush_end-clause-rise : goal.returns-in_err-flush_end-clause-rise
+returns-in_err-flush_end-clause-rise g c = rise_then c.rounds.invariant.rise c.work_off.ensures.rise
 
-pub returns-in-Err-flush_end-clause-pays : goal.returns-in-Err-flush_end-clause-pays
-returns-in-Err-flush_end-clause-pays g c =
+pub returns-in_err-flush_end-clause-pays : goal.returns-in_err-flush_end-clause-pays
+returns-in_err-flush_end-clause-pays g c =
     let q = c.work_off.new.printer in
     let some = length_some (state_of g.N.Walk.tree q).pending (sym c.is_pending.ensures ∙ c.if-not-is_pending.false) in
     λ plain.
-    let z = c.in-Ok.ensures.pays (c.rounds.invariant.pays plain).0 in
+    let z = c.in_ok-work_off.ensures.pays (c.rounds.invariant.pays plain).0 in
     absurd (omega (arith, some, ap length z.0.pending))
 
 pub returns-then-not-is_pending-clause-meets : goal.returns-then-not-is_pending-clause-meets
-returns-then-not-is_pending-clause-meets g c = meets_then c.rounds.invariant.meets c.in-Ok.ensures.meets
+returns-then-not-is_pending-clause-meets g c = meets_then c.rounds.invariant.meets c.in_ok-work_off.ensures.meets

@@ -1,4 +1,5 @@
 use Rattle.std.proofs.Common.{◌<◌, ◌≤◌, ◌∙◌, length, arith, refl}
+use Rattle.std.proofs.lemmas.Result.{err_from_is_err_and}
 use Rattle.prettyless_sink.specs.declared.options.RenderOptions.{RenderOptions}
 use Rattle.prettyless_step.specs.Stack.{stack_of}
 use Rattle.prettyless_step.specs.Printing.{state_of}
@@ -24,8 +25,8 @@ work-init g c = record {
   meets = meets_same (stack_tally g.N.Walk.tree c.args.printer.now 0) c.args.visits.now;
 }
 
-pub work-preserved-in-Ok-Went : goal.work-preserved-in-Ok-Went
-work-preserved-in-Ok-Went g c =
+pub work-preserved-in-Went : goal.work-preserved-in-Went
+work-preserved-in-Went g c =
     let f = g.N.Walk.tree in
     let w = g.W.Render.written in
     let fails = g.W.Render.failures in
@@ -34,12 +35,12 @@ work-preserved-in-Ok-Went g c =
     let q = c.turn.new.printer in
     let new = c.turn.new.out in
     let l : 0 < length (stack_of f v.commands.items) = omega (arith, length-stack_of f v.commands.items, v.commands.ok.0, c.work-test.true, c.len.ensures) in
-    let d = rw c.in-Ok-Went.field-0-is at c.in-Ok-Went.ensures.told in
-    let less = rw c.in-Ok-Went.field-0-is at c.in-Ok-Went.ensures.lessens in
+    let d = rw c.in-Went.is at c.in_ok-turn.ensures.told in
+    let less = rw c.in-Went.is at c.in_ok-turn.ensures.lessens in
     let was = c.work.invariant.less in
     record {
       queue = c.turn.ensures.queue;
-      options = c.in-Ok-Went.ensures.options ∙ c.work.invariant.options;
+      options = c.in_ok-turn.ensures.options ∙ c.work.invariant.options;
       less = omega (arith, less, was);
       same_lender = c.turn.ensures.same_lender ∙ c.work.invariant.same_lender;
       told = λ told.
@@ -49,13 +50,13 @@ work-preserved-in-Ok-Went g c =
       rise = rise_then c.work.invariant.rise c.turn.ensures.rise;
       pays = λ plain.
           let y = c.work.invariant.pays plain in
-          let z = (rw c.in-Ok-Went.field-0-is at c.in-Ok-Went.ensures.pays) y.0 in
+          let z = (rw c.in-Went.is at c.in_ok-turn.ensures.pays) y.0 in
           (z.0, pays_then y.1 z.1);
-      meets = meets_then c.work.invariant.meets ((rw c.in-Ok-Went.field-0-is at c.in-Ok-Went.ensures.meets) 0 l);
+      meets = meets_then c.work.invariant.meets ((rw c.in-Went.is at c.in_ok-turn.ensures.meets) 0 l);
     }
 
-pub returns-in-Ok-Failed-clause-told : goal.returns-in-Ok-Failed-clause-told
-returns-in-Ok-Failed-clause-told g c =
+pub returns-in-Failed-clause-told : goal.returns-in-Failed-clause-told
+returns-in-Failed-clause-told g c =
     let f = g.N.Walk.tree in
     let w = g.W.Render.written in
     let fails = g.W.Render.failures in
@@ -64,15 +65,17 @@ returns-in-Ok-Failed-clause-told g c =
     let q = c.turn.new.printer in
     let new = c.turn.new.out in
     let l : 0 < length (stack_of f v.commands.items) = omega (arith, length-stack_of f v.commands.items, v.commands.ok.0, c.work-test.true, c.len.ensures) in
-    let d = rw c.in-Ok-Failed.field-0-is at c.in-Ok-Failed.ensures.told in
+    let d = rw c.in-Failed.is at c.in_ok-turn.ensures.told in
     λ told.
     let y = c.work.invariant.told told in
     let e = d y.0 in
     let z = working_turn f p v (w c.args.out.now) (w c.work.out) (λ o. Goes f o q (w new) turn.Failed) c.work.invariant.options l y.1 e.1.0 in
     (e.0, (z.0, z.3, z.2, e.1.1 ∙ y.2, c.fail_doc.ensures))
 
-pub returns-in-Err-clause-told : goal.returns-in-Err-clause-told
-returns-in-Err-clause-told g c =
+pub returns-in_err-turn-clause-told : goal.returns-in_err-turn-clause-told
+returns-in_err-turn-clause-told g c =
+    let residual = err_from_is_err_and c.from_residual.result c.from_residual.ensures.1 in
+    rw (residual.1, residual.2)
     let f = g.N.Walk.tree in
     let w = g.W.Render.written in
     let fails = g.W.Render.failures in
@@ -83,8 +86,8 @@ returns-in-Err-clause-told g c =
     let l : 0 < length (stack_of f v.commands.items) = omega (arith, length-stack_of f v.commands.items, v.commands.ok.0, c.work-test.true, c.len.ensures) in
     λ told.
     let y = c.work.invariant.told told in
-    let e = c.in-Err.ensures.told y.0 in
-    (e.0, turn_broke f p v q (g.W.Render.document_errors new) (w c.args.out.now) (w c.work.out) (w new) (fails c.args.out.now) (fails c.work.out) (fails new) c.in-Err.e c.work.invariant.options l y.1 y.2 e.1)
+    let e = c.in_err-turn.ensures.told y.0 in
+    (e.0, turn_broke f p v q (g.W.Render.document_errors new) (w c.args.out.now) (w c.work.out) (w new) (fails c.args.out.now) (fails c.work.out) (fails new) c.in_err-turn.field-0.0 c.work.invariant.options l y.1 y.2 e.1)
 
 pub work-preserved : goal.work-preserved
 work-preserved g c =
@@ -96,24 +99,24 @@ work-preserved g c =
     let q = c.turn.new.printer in
     let new = c.turn.new.out in
     let l : 0 < length (stack_of f v.commands.items) = omega (arith, length-stack_of f v.commands.items, v.commands.ok.0, c.work-test.true, c.len.ensures) in
-    let d = rw c.in-Ok-Chosen.field-0-is at c.in-Ok-Chosen.ensures.told in
-    let fall = rw c.in-Ok-Chosen.field-0-is at c.in-Ok-Chosen.ensures.lessens in
+    let d = rw c.in-Chosen.is at c.in_ok-turn.ensures.told in
+    let fall = rw c.in-Chosen.is at c.in_ok-turn.ensures.lessens in
     let was = c.work.invariant.less in
     let r = c.choose.new.printer in
-    let i = c.in-Ok-Chosen.indent in
-    let x = c.in-Ok-Chosen.first in
-    let z = c.in-Ok-Chosen.second in
-    let same = c.in-Ok-Chosen.ensures.options ∙ c.work.invariant.options in
+    let i = c.in-Chosen.indent in
+    let x = c.in-Chosen.first in
+    let z = c.in-Chosen.second in
+    let same = c.in_ok-turn.ensures.options ∙ c.work.invariant.options in
     record {
       queue = c.choose.ensures.queue;
-      options = c.in-Ok.ensures.options ∙ same;
-      less = omega (arith, fall.0, was, c.in-Ok.ensures.lessens);
+      options = c.in_ok-choose-in-Chosen.ensures.options ∙ same;
+      less = omega (arith, fall.0, was, c.in_ok-choose-in-Chosen.ensures.lessens);
       same_lender = c.choose.ensures.same_lender ∙ c.turn.ensures.same_lender ∙ c.work.invariant.same_lender;
       told = λ told.
           let y = c.work.invariant.told told in
           let e = d y.0 in
           let b = working_turn f p v (w c.args.out.now) (w c.work.out) (λ o. Goes f o q (w new) (turn.Chosen i x z)) c.work.invariant.options l y.1 e.1.0 in
-          let k = c.in-Ok.ensures.told e.0 in (
+          let k = c.in_ok-choose-in-Chosen.ensures.told e.0 in (
             k.0,
             working_choice f p q i (f x) (f z) (w c.args.out.now) (w new)
                 (λ (o : RenderOptions) whole limit below old. Inside o whole limit below old (stack_of f r.commands.items) (state_of f r) (w c.choose.new.out)) same b k.1.0,
@@ -122,14 +125,16 @@ work-preserved g c =
       rise = rise_then c.work.invariant.rise (rise_then c.turn.ensures.rise c.choose.ensures.rise);
       pays = λ plain.
           let y = c.work.invariant.pays plain in
-          let j = (rw c.in-Ok-Chosen.field-0-is at c.in-Ok-Chosen.ensures.pays) y.0 in
-          let k = c.in-Ok.ensures.pays j.0 j.1 j.2 in
+          let j = (rw c.in-Chosen.is at c.in_ok-turn.ensures.pays) y.0 in
+          let k = c.in_ok-choose-in-Chosen.ensures.pays j.0 j.1 j.2 in
           (k.0, pays_then y.1 (pays_then j.3 k.1));
-      meets = meets_then c.work.invariant.meets (meets_then ((rw c.in-Ok-Chosen.field-0-is at c.in-Ok-Chosen.ensures.meets) 0 l) c.in-Ok.ensures.meets);
+      meets = meets_then c.work.invariant.meets (meets_then ((rw c.in-Chosen.is at c.in_ok-turn.ensures.meets) 0 l) c.in_ok-choose-in-Chosen.ensures.meets);
     }
 
-pub returns-in-Err-choose-clause-told : goal.returns-in-Err-choose-clause-told
-returns-in-Err-choose-clause-told g c =
+pub returns-in_err-choose-in-Chosen-clause-told : goal.returns-in_err-choose-in-Chosen-clause-told
+returns-in_err-choose-in-Chosen-clause-told g c =
+    let residual = err_from_is_err_and c.from_residual-in_err-choose-in-Chosen.result c.from_residual-in_err-choose-in-Chosen.ensures.1 in
+    rw (residual.1, residual.2)
     let f = g.N.Walk.tree in
     let w = g.W.Render.written in
     let fails = g.W.Render.failures in
@@ -138,19 +143,19 @@ returns-in-Err-choose-clause-told g c =
     let q = c.turn.new.printer in
     let new = c.turn.new.out in
     let l : 0 < length (stack_of f v.commands.items) = omega (arith, length-stack_of f v.commands.items, v.commands.ok.0, c.work-test.true, c.len.ensures) in
-    let d = rw c.in-Ok-Chosen.field-0-is at c.in-Ok-Chosen.ensures.told in
+    let d = rw c.in-Chosen.is at c.in_ok-turn.ensures.told in
     let r = c.choose.new.printer in
-    let i = c.in-Ok-Chosen.indent in
-    let x = c.in-Ok-Chosen.first in
-    let z = c.in-Ok-Chosen.second in
+    let i = c.in-Chosen.indent in
+    let x = c.in-Chosen.first in
+    let z = c.in-Chosen.second in
     let last = c.choose.new.out in
-    let same = c.in-Ok-Chosen.ensures.options ∙ c.work.invariant.options in
+    let same = c.in_ok-turn.ensures.options ∙ c.work.invariant.options in
     λ told.
     let y = c.work.invariant.told told in
     let e = d y.0 in
     let b = working_turn f p v (w c.args.out.now) (w c.work.out) (λ o. Goes f o q (w new) (turn.Chosen i x z)) c.work.invariant.options l y.1 e.1.0 in
-    let k = c.in-Err-choose.ensures.told e.0 in
-    (k.0, choice_broke (Unit {0}) f p q r i (f x) (f z) (g.W.Render.document_errors last) (w c.args.out.now) (w new) (w last) (fails c.args.out.now) (fails new) (fails last) c.in-Err-choose.e same b (e.1.1 ∙ y.2) k.1)
+    let k = c.in_err-choose-in-Chosen.ensures.told e.0 in
+    (k.0, choice_broke (Unit {0}) f p q r i (f x) (f z) (g.W.Render.document_errors last) (w c.args.out.now) (w new) (w last) (fails c.args.out.now) (fails new) (fails last) c.in_err-choose-in-Chosen.field-0.0 same b (e.1.1 ∙ y.2) k.1)
 
 pub returns-clause-told : goal.returns-clause-told
 returns-clause-told g c =
@@ -163,30 +168,36 @@ returns-clause-told g c =
     let e = working_end f c.args.printer.now q (w c.args.out.now) (w c.work.out) y.1 l in
     (y.0, (e.0, e.1, e.2, y.2))
 
-pub returns-in-Err-clause-rise : goal.returns-in-Err-clause-rise
-returns-in-Err-clause-rise g c = rise_then c.work.invariant.rise c.turn.ensures.rise
+pub returns-in_err-turn-clause-rise : goal.returns-in_err-turn-clause-rise
+returns-in_err-turn-clause-rise g c = rise_then c.work.invariant.rise c.turn.ensures.rise
 
-pub returns-in-Err-clause-pays : goal.returns-in-Err-clause-pays
-returns-in-Err-clause-pays g c = λ plain.
+pub returns-in_err-turn-clause-pays : goal.returns-in_err-turn-clause-pays
+returns-in_err-turn-clause-pays g c =
+    let residual = err_from_is_err_and c.from_residual.result c.from_residual.ensures.1 in
+    rw residual.1
+    λ plain.
     let y = c.work.invariant.pays plain in
-    pays_then y.1 (c.in-Err.ensures.pays y.0)
+    pays_then y.1 (c.in_err-turn.ensures.pays y.0)
 
-pub returns-in-Ok-Failed-clause-rise : goal.returns-in-Ok-Failed-clause-rise
-returns-in-Ok-Failed-clause-rise g c = rise_then c.work.invariant.rise c.turn.ensures.rise
+pub returns-in-Failed-clause-rise : goal.returns-in-Failed-clause-rise
+returns-in-Failed-clause-rise g c = rise_then c.work.invariant.rise c.turn.ensures.rise
 
-pub returns-in-Ok-Failed-clause-pays : goal.returns-in-Ok-Failed-clause-pays
-returns-in-Ok-Failed-clause-pays g c = λ plain.
+pub returns-in-Failed-clause-pays : goal.returns-in-Failed-clause-pays
+returns-in-Failed-clause-pays g c = λ plain.
     let y = c.work.invariant.pays plain in
-    pays_all (pays_then y.1 ((rw c.in-Ok-Failed.field-0-is at c.in-Ok-Failed.ensures.pays) y.0))
+    pays_all (pays_then y.1 ((rw c.in-Failed.is at c.in_ok-turn.ensures.pays) y.0))
 
-pub returns-in-Err-choose-clause-rise : goal.returns-in-Err-choose-clause-rise
-returns-in-Err-choose-clause-rise g c = rise_then c.work.invariant.rise (rise_then c.turn.ensures.rise c.choose.ensures.rise)
+pub returns-in_err-choose-in-Chosen-clause-rise : goal.returns-in_err-choose-in-Chosen-clause-rise
+returns-in_err-choose-in-Chosen-clause-rise g c = rise_then c.work.invariant.rise (rise_then c.turn.ensures.rise c.choose.ensures.rise)
 
-pub returns-in-Err-choose-clause-pays : goal.returns-in-Err-choose-clause-pays
-returns-in-Err-choose-clause-pays g c = λ plain.
+pub returns-in_err-choose-in-Chosen-clause-pays : goal.returns-in_err-choose-in-Chosen-clause-pays
+returns-in_err-choose-in-Chosen-clause-pays g c =
+    let residual = err_from_is_err_and c.from_residual-in_err-choose-in-Chosen.result c.from_residual-in_err-choose-in-Chosen.ensures.1 in
+    rw residual.1
+    λ plain.
     let y = c.work.invariant.pays plain in
-    let j = (rw c.in-Ok-Chosen.field-0-is at c.in-Ok-Chosen.ensures.pays) y.0 in
-    pays_then y.1 (pays_then j.3 (c.in-Err-choose.ensures.pays j.0 j.1 j.2))
+    let j = (rw c.in-Chosen.is at c.in_ok-turn.ensures.pays) y.0 in
+    pays_then y.1 (pays_then j.3 (c.in_err-choose-in-Chosen.ensures.pays j.0 j.1 j.2))
 
 pub returns-clause-rise : goal.returns-clause-rise
 returns-clause-rise g c = c.work.invariant.rise

@@ -3,7 +3,7 @@ use Rattle.std.proofs.lemmas.Result.{IfOk-weaker, IfErr-weaker}
 use Rattle.prettyless_doc.specs.DocTree.{built}
 use Rattle.prettyless_doc.specs.Tree.{Tree}
 use Rattle.prettyless_alloc.proofs.Walks.{gives_first, gives_later, gives_two, drains_later, nil_from, between_nothing, behind_nothing}
-use Rattle.prettyless_alloc.proofs.between.AnyDocAllocatorBetween.intersperse.Goals as goal
+use Rattle.prettyless_alloc.proofs.intersperse.AnyDocAllocatorBetween.intersperse.Goals as goal
 
 pub returns-in_err-first-clause-err : goal.returns-in_err-first-clause-err
 returns-in_err-first-clause-err g c =

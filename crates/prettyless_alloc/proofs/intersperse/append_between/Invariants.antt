@@ -2,7 +2,7 @@ use Rattle.std.specs.List.{FoldsTo}
 use Rattle.prettyless_doc.specs.DocTree.{built}
 use Rattle.prettyless_build.specs.Built.{append}
 use Rattle.prettyless_build.specs.Iterated.{appends_after}
-use Rattle.prettyless_alloc.proofs.between.append_between.Given as goal
+use Rattle.prettyless_alloc.proofs.intersperse.append_between.Given as goal
 
 abbrev pub invariant-loop-item : goal.invariant-loop-item
 invariant-loop-item g l =

@@ -3,7 +3,7 @@ use Rattle.std.proofs.lemmas.Fn.{FoldsTo-push}
 use Rattle.prettyless_doc.specs.Tree.{Tree}
 use Rattle.prettyless_doc.specs.DocTree.{built}
 use Rattle.prettyless_build.specs.Built.{append}
-use Rattle.prettyless_alloc.proofs.between.append_between.Goals as goal
+use Rattle.prettyless_alloc.proofs.intersperse.append_between.Goals as goal
 
 pub loop-item-preserved : goal.loop-item-preserved
 loop-item-preserved g c =

@@ -1,7 +1,7 @@
 use Rattle.std.specs.List.{FoldsTo}
 use Rattle.prettyless_doc.specs.DocTree.{built}
 use Rattle.prettyless_build.specs.Built.{appends}
-use Rattle.prettyless_alloc.proofs.over.append_all.Given as goal
+use Rattle.prettyless_alloc.proofs.concat.append_all.Given as goal
 
 abbrev pub invariant-loop-item : goal.invariant-loop-item
 invariant-loop-item g l =

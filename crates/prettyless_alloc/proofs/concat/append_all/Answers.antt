@@ -1,6 +1,6 @@
 use Rattle.std.proofs.Common.{rules}
 use Rattle.std.proofs.lemmas.Fn.{FoldsTo-push}
-use Rattle.prettyless_alloc.proofs.over.append_all.Goals as goal
+use Rattle.prettyless_alloc.proofs.concat.append_all.Goals as goal
 
 pub loop-item-preserved : goal.loop-item-preserved
 loop-item-preserved g c =

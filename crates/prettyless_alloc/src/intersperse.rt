@@ -7,7 +7,7 @@ ghost use Rattle.prettyless_doc.specs.DocTree.{built};
 ghost use Rattle.prettyless_build.specs.Built.{append};
 ghost use Rattle.prettyless_build.specs.Iterated.{GivesAll, GivesSome, GivesNext, HasGap, Intersperses, appends_after};
 
-use crate::over::append_all;
+use crate::concat::append_all;
 use prettyless_build::{DocBuilder, Pretty};
 use prettyless_doc::{BuildDoc, BuildError, Doc, DocPlace};
 
