@@ -2,12 +2,12 @@
 //! how long large ones take.
 #![tactic(auto)]
 
+use bench_workloads::failure::Failure;
+use bench_workloads::report::{compare, time_all, time_workload};
+use bench_workloads::request::{Request, requested};
 use std::env;
 use std::process::ExitCode;
 use std::rt::{Clock, Env};
-use workloads::failure::Failure;
-use workloads::report::{compare, time_all, time_workload};
-use workloads::request::{Request, requested};
 
 fn run<R: AllocGlobal + Clock + Env + Print>(rt: &R) -> Result<(), Failure> {
     let words: Vec<String> = env::args(rt)?.skip(1).collect(rt.alloc())?;

@@ -25,5 +25,5 @@ pub use Rattle.prettyless_model.specs.Reading
 pub use Rattle.prettyless_model.specs.Spelling
 pub use Rattle.prettyless_pointers.specs.Trees
 pub use Rattle.prettyless_printer.specs.Renders
-pub use Rattle.prettyless_sink.specs.Options
+pub use Rattle.prettyless_model.specs.Options
 pub use Rattle.prettyless_sink.specs.Sink

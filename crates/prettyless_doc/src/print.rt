@@ -1,12 +1,12 @@
 ghost use Rattle.std.specs.Prelude.{◌≡◌, IfSome, IsOk, IsSome};
 ghost use Rattle.std.specs.Fmt.{DisplaysOnOk, DisplaysStyledOnOk};
-ghost use Rattle.prettyless_sink.specs.Options.{options_at};
+ghost use Rattle.prettyless_model.specs.Options.{options_at};
 ghost use Rattle.prettyless_model.specs.Content.{HasContent};
 ghost use Rattle.prettyless_model.specs.Layout.{layout, whole_bytes};
 ghost use Rattle.prettyless_doc.specs.DocTree.{tree_of};
 
 use crate::doc::{Doc, DocPtr};
-use prettyless_sink::options::RenderOptions;
+use prettyless_model::options::RenderOptions;
 use std::alloc::Global;
 use std::fmt;
 

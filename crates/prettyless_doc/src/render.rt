@@ -1,7 +1,7 @@
 ghost use Rattle.std.specs.Prelude.{◌≡◌, ◌+◌, ◌*◌, ◌-◌, ◌^◌, ◌≤◌, ⊤, min, IfOk, OnOk};
 ghost use Rattle.std.specs.IoError.{error_kind};
 ghost use Rattle.std.specs.declared.io.ErrorKind.TheVariants.{Other};
-ghost use Rattle.prettyless_sink.specs.Options.{options_at};
+ghost use Rattle.prettyless_model.specs.Options.{options_at};
 ghost use Rattle.prettyless_model.specs.Content.{AppendsContent, AppendsKnownContent, suffix_depth};
 ghost use Rattle.prettyless_model.specs.Counts.{laid_nodes, laid_probes};
 ghost use Rattle.prettyless_model.specs.Layout.{layout};
@@ -10,11 +10,11 @@ ghost use Rattle.prettyless_printer.specs.Renders.{Rendered, RendersKnown};
 ghost use Rattle.prettyless_doc.specs.DocTree.{tree_of};
 
 use crate::doc::{Doc, DocPtr};
+use prettyless_model::options::RenderOptions;
 use prettyless_printer::run;
 use prettyless_sink::error::RenderError;
 use prettyless_sink::fmt_write::FmtWrite;
 use prettyless_sink::io_write::IoWrite;
-use prettyless_sink::options::RenderOptions;
 use prettyless_sink::render::Render;
 use prettyless_sink::text_writer::TextWriter;
 use prettyless_sink::visits::Visits;

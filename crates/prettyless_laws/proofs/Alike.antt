@@ -1,6 +1,6 @@
 -- Columns that are alike: content would begin at the same place behind the same weak spaces. What is read of them agrees.
 use Rattle.std.proofs.Common.{◌≡◌, ℕ, ◌+◌, ◌-◌, ◌^◌, List, [], ◌∷◌, ◌++◌, refl, ap, ap₂, ◌∙◌, min, arith, Bool, true, false, not, ◌&&◌, ◌||◌, ◌==◌, nat_le, if◌then◌else◌}
-use Rattle.prettyless_sink.specs.declared.options.RenderOptions.{RenderOptions}
+use Rattle.prettyless_model.specs.declared.options.RenderOptions.{RenderOptions}
 use Rattle.prettyless_model.specs.Tree.{Tree, WeakLine}
 use Rattle.prettyless_model.specs.Column.{saturating_add, prospective, commit, blank, padding_fits}
 use Rattle.prettyless_model.specs.Reading.{Atom, Ink, Blank, Queue, Stop, Hard, Weak, Payload, reading, by_mode, fits}

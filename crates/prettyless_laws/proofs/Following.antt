@@ -1,7 +1,7 @@
 -- What follows a document: a layout takes of it the indent of the nearest and what a probe reads, and nothing else.
 use Rattle.std.proofs.Common.{◌≡◌, ℕ, zero, suc, List, [], ◌∷◌, ◌++◌, refl, ap, ◌∙◌, Bool, if◌then◌else◌}
-use Rattle.prettyless_sink.specs.Spaces.{spaces}
-use Rattle.prettyless_sink.specs.declared.options.RenderOptions.{RenderOptions}
+use Rattle.prettyless_model.specs.Spaces.{spaces}
+use Rattle.prettyless_model.specs.declared.options.RenderOptions.{RenderOptions}
 use Rattle.prettyless_model.specs.Tree.{Tree, Nil, Fail, Text, TextWithLen, MultilineText, WeakSpace, HardLine, WeakLine, Append, LineSuffix, Nest, DedentToRoot, Align, ExpandParent, Flatten, BreakOrFlat, Group, Union, PartialUnion}
 use Rattle.prettyless_model.specs.Column.{gap, prospective}
 use Rattle.prettyless_model.specs.Reading.{Atom, reading, fits, by_mode}

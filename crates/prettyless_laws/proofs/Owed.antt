@@ -1,10 +1,10 @@
 -- Pieces written out while spaces may be owed: those of an indent that is written with the first content of its line.
 use Rattle.std.proofs.Common.{◌≡◌, ℕ, List, [], ◌∷◌, ◌++◌, refl, ap, sym, ◌∙◌, append_assoc, Bool, true, false, if◌then◌else◌}
-use Rattle.prettyless_sink.specs.Options.{ending}
-use Rattle.prettyless_sink.specs.Spaces.{spaces}
-use Rattle.prettyless_sink.specs.declared.options.RenderOptions.{RenderOptions}
-use Rattle.prettyless_sink.specs.declared.options.IndentationPolicy.{IndentationPolicy}
-use Rattle.prettyless_sink.specs.declared.options.IndentationPolicy.TheVariants.{Eager, Deferred}
+use Rattle.prettyless_model.specs.Options.{ending}
+use Rattle.prettyless_model.specs.Spaces.{spaces}
+use Rattle.prettyless_model.specs.declared.options.RenderOptions.{RenderOptions}
+use Rattle.prettyless_model.specs.declared.options.IndentationPolicy.{IndentationPolicy}
+use Rattle.prettyless_model.specs.declared.options.IndentationPolicy.TheVariants.{Eager, Deferred}
 use Rattle.prettyless_laws.specs.Trace.{Piece, Ending, Indent, Gap, Text, Source, Chose, has_content, settled, indent_bytes, written}
 
 -- what is written of an indent with the end of the line before it

@@ -3,10 +3,10 @@ use Rattle.std.proofs.Common.{◌≡◌, ℕ, zero, suc, ◌+◌, ◌<◌, ◌�
 use Rattle.std.specs.Prelude.{All}
 use Rattle.std.proofs.Math.Numerals.{add-one}
 use Rattle.std.proofs.lemmas.List.Elements.{All-nil, All-cons, All-head, All-tail, All-append, All-push, All-same}
-use Rattle.prettyless_sink.specs.Spaces.{spaces}
-use Rattle.prettyless_sink.specs.declared.options.RenderOptions.{RenderOptions}
-use Rattle.prettyless_sink.specs.declared.options.IndentationPolicy.{IndentationPolicy}
-use Rattle.prettyless_sink.specs.declared.options.IndentationPolicy.TheVariants.{Eager, Deferred}
+use Rattle.prettyless_model.specs.Spaces.{spaces}
+use Rattle.prettyless_model.specs.declared.options.RenderOptions.{RenderOptions}
+use Rattle.prettyless_model.specs.declared.options.IndentationPolicy.{IndentationPolicy}
+use Rattle.prettyless_model.specs.declared.options.IndentationPolicy.TheVariants.{Eager, Deferred}
 use Rattle.prettyless_model.specs.Tree.{Tree, Nil, Fail, Text, TextWithLen, MultilineText, WeakSpace, HardLine, WeakLine, Append, LineSuffix, Nest, DedentToRoot, Align, ExpandParent, Flatten, BreakOrFlat, Group, Union, PartialUnion, size}
 use Rattle.prettyless_model.specs.Column.{gap, prospective}
 use Rattle.prettyless_model.specs.Layout.{State, Outcome, Done, Failed, Whole, Entry, Breaks, after_bytes, and_then, lay, lay_each, lay_text, lay_ending, nested, probe, tried, is_suppressed, plain_break, flushed, entry, entries, next_indent, break_with, end_with, breaks, finish, layout, layout_by, initial, bytes_of}

@@ -1,6 +1,6 @@
 -- Laws of flat lines: what the probe answers yes to is laid on one line, and told so by the trace.
 use Rattle.std.specs.Prelude.{◌≡◌, ℕ, suc, ◌≤◌, true, List, [], ◌∷◌, ◌++◌, All, ⊤}
-use Rattle.prettyless_sink.specs.declared.options.RenderOptions.{RenderOptions}
+use Rattle.prettyless_model.specs.declared.options.RenderOptions.{RenderOptions}
 use Rattle.prettyless_model.specs.Tree.{Tree, Nil, Fail, Text, TextWithLen, MultilineText, WeakSpace, HardLine, WeakLine, Append, LineSuffix, Nest, DedentToRoot, Align, ExpandParent, Flatten, BreakOrFlat, Group, Union, PartialUnion}
 use Rattle.prettyless_model.specs.Reading.{Atom, fits}
 use Rattle.prettyless_model.specs.Layout.{State, Done, Breaks, Entry, lay, probe, rest_atoms, some_pending, tried, breaks}

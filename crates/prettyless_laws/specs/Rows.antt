@@ -1,7 +1,7 @@
 -- What it is for a small document to be told as these pieces.
 use Rattle.std.specs.Prelude.{◌≡◌, ℕ, pos, List, [], ◌∷◌, codes}
 use Prim.Native.String.{String}
-use Rattle.prettyless_sink.specs.Options.{options_at}
+use Rattle.prettyless_model.specs.Options.{options_at}
 use Rattle.prettyless_model.specs.Tree.{Tree, HardLine, Nest}
 use Rattle.prettyless_model.specs.Rows.{deferred_at, in_turn, text}
 use Rattle.prettyless_laws.specs.Trace.{Piece, Text, Complete, Partial, trace}

@@ -1,6 +1,6 @@
 -- Documents that cannot fail.
 use Rattle.std.specs.Prelude.{◌≡◌, ℕ, List, ⊤}
-use Rattle.prettyless_sink.specs.declared.options.RenderOptions.{RenderOptions}
+use Rattle.prettyless_model.specs.declared.options.RenderOptions.{RenderOptions}
 use Rattle.prettyless_model.specs.Tree.{Tree, Nil, Fail, Text, TextWithLen, MultilineText, WeakSpace, HardLine, WeakLine, Append, LineSuffix, Nest, DedentToRoot, Align, ExpandParent, Flatten, BreakOrFlat, Group, Union, PartialUnion}
 use Rattle.prettyless_model.specs.Layout.{layout, Whole}
 

@@ -1,6 +1,6 @@
 -- What holds of traces.
 use Rattle.std.specs.Prelude.{◌≡◌}
-use Rattle.prettyless_sink.specs.declared.options.RenderOptions.{RenderOptions}
+use Rattle.prettyless_model.specs.declared.options.RenderOptions.{RenderOptions}
 use Rattle.prettyless_model.specs.Tree.{Tree}
 use Rattle.prettyless_model.specs.Layout.{layout}
 use Rattle.prettyless_laws.specs.Trace.{trace, written_out}

@@ -1,6 +1,6 @@
 -- Whole layouts have the content of their documents.
 use Rattle.std.proofs.Common.{◌≡◌, List, ℕ}
-use Rattle.prettyless_sink.specs.declared.options.RenderOptions.{RenderOptions}
+use Rattle.prettyless_model.specs.declared.options.RenderOptions.{RenderOptions}
 use Rattle.prettyless_model.specs.Tree.{Tree}
 use Rattle.prettyless_model.specs.Layout.{layout, Whole}
 use Rattle.prettyless_model.specs.Content.{HasContent}

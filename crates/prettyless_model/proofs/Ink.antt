@@ -1,10 +1,10 @@
 -- Ink: what stays of bytes without space, CR and LF.
 use Rattle.std.proofs.Common.{◌≡◌, ℕ, zero, suc, List, [], ◌++◌, refl, ap, ◌∙◌, not}
 use Rattle.std.proofs.lemmas.List.Elements.{filter-append}
-use Rattle.prettyless_sink.specs.Options.{ending}
-use Rattle.prettyless_sink.specs.Spaces.{spaces}
-use Rattle.prettyless_sink.specs.declared.options.LineEnding.{LineEnding}
-use Rattle.prettyless_sink.specs.declared.options.LineEnding.TheVariants.{Lf, Crlf}
+use Rattle.prettyless_model.specs.Options.{ending}
+use Rattle.prettyless_model.specs.Spaces.{spaces}
+use Rattle.prettyless_model.specs.declared.options.LineEnding.{LineEnding}
+use Rattle.prettyless_model.specs.declared.options.LineEnding.TheVariants.{Lf, Crlf}
 use Rattle.prettyless_model.specs.Spelling.{is_blank_byte, ink}
 
 pub ink-append : (a b : List ℕ) → ink (a ++ b) ≡ ink a ++ ink b

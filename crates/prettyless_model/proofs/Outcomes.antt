@@ -1,6 +1,6 @@
 -- Outcomes: bytes before them, one after another, and one of two.
 use Rattle.std.proofs.Common.{◌≡◌, ℕ, List, [], ◌++◌, refl, ap, sym, append_assoc, append-nil, Bool, true, false, ◌&&◌, if◌then◌else◌}
-use Rattle.prettyless_sink.specs.declared.options.RenderOptions.{RenderOptions}
+use Rattle.prettyless_model.specs.declared.options.RenderOptions.{RenderOptions}
 use Rattle.prettyless_model.specs.Column.{padding_fits}
 use Rattle.prettyless_model.specs.Layout.{State, Outcome, Done, Failed, after_bytes, and_then, some_pending, accept}
 

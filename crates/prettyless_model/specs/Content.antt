@@ -1,6 +1,6 @@
 -- The content of a layout: what a document spells is what its layout writes, but for space, CR and LF.
 use Rattle.std.specs.Prelude.{◌≡◌, ℕ, ◌+◌, ◌≤◌, max, ◌==◌, List, [], ◌∷◌, ◌++◌, Option, Some, ◌⊎◌, ⊤, count_by}
-use Rattle.prettyless_sink.specs.declared.options.RenderOptions.{RenderOptions}
+use Rattle.prettyless_model.specs.declared.options.RenderOptions.{RenderOptions}
 use Rattle.prettyless_model.specs.Tree.{Tree, Nil, Fail, Text, TextWithLen, MultilineText, WeakSpace, HardLine, WeakLine, Append, LineSuffix, Nest, DedentToRoot, Align, ExpandParent, Flatten, BreakOrFlat, Group, Union, PartialUnion}
 use Rattle.prettyless_model.specs.Layout.{Whole, layout}
 use Rattle.prettyless_model.specs.Spelling.{ink, spells, parts}

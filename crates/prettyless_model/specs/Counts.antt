@@ -1,7 +1,7 @@
 -- What a layout counts: the nodes that it lays, and the probes that it asks. What a rejected branch of a union counts is
 -- left out. A LineSuffix counts as a node, and the document in it is left out, as are breaks that are begun again.
 use Rattle.std.specs.Prelude.{ℕ, ◌+◌, ◌&&◌, if◌then◌else◌, ◌∷◌, [], List}
-use Rattle.prettyless_sink.specs.declared.options.RenderOptions.{RenderOptions}
+use Rattle.prettyless_model.specs.declared.options.RenderOptions.{RenderOptions}
 use Rattle.prettyless_model.specs.Tree as t
 use Rattle.prettyless_model.specs.Tree.{Tree}
 use Rattle.prettyless_model.specs.Column.{prospective, padding_fits}

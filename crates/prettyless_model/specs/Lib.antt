@@ -1,3 +1,5 @@
+pub mod Options
+pub mod Spaces
 pub mod Tree
 pub mod Metrics
 pub mod Column

@@ -1,10 +1,10 @@
 -- Small documents, and what it is for one to be laid out as bytes.
 use Rattle.std.specs.Prelude.{◌≡◌, ℕ, pos, List, [], ◌∷◌, codes}
 use Prim.Native.String.{String}
-use Rattle.prettyless_sink.specs.Options.{options_at}
-use Rattle.prettyless_sink.specs.declared.options.RenderOptions.{RenderOptions}
-use Rattle.prettyless_sink.specs.declared.options.LineEnding.TheVariants.{Lf, Crlf}
-use Rattle.prettyless_sink.specs.declared.options.IndentationPolicy.TheVariants.{Eager, Deferred}
+use Rattle.prettyless_model.specs.Options.{options_at}
+use Rattle.prettyless_model.specs.declared.options.RenderOptions.{RenderOptions}
+use Rattle.prettyless_model.specs.declared.options.LineEnding.TheVariants.{Lf, Crlf}
+use Rattle.prettyless_model.specs.declared.options.IndentationPolicy.TheVariants.{Eager, Deferred}
 use Rattle.prettyless_model.specs.Tree.{Tree, Nil, Fail, Text, WeakSpace, HardLine, Append, LineSuffix, Nest, BreakOrFlat, Group, Union}
 use Rattle.prettyless_model.specs.Layout.{layout, Whole, Cut}
 use Rattle.prettyless_model.specs.Counts.{laid_nodes, laid_probes}

@@ -8,4 +8,5 @@ pub mod column;
 pub mod laws;
 pub mod metrics;
 pub mod mode;
+pub mod options;
 pub mod rows;

@@ -1,7 +1,7 @@
 -- A render that ends well has appended the content of its document.
 use Rattle.std.proofs.Common.{◌≡◌, List, ℕ, Ok, Err, Result, refl}
 use Rattle.std.specs.Prelude.{IfOk, IfSome}
-use Rattle.prettyless_sink.specs.declared.options.RenderOptions.{RenderOptions}
+use Rattle.prettyless_model.specs.declared.options.RenderOptions.{RenderOptions}
 use Rattle.prettyless_sink.specs.declared.error.RenderError.{RenderError}
 use Rattle.prettyless_model.specs.Tree.{Tree}
 use Rattle.prettyless_model.specs.Layout.{Bytes, Whole, Cut, layout, whole_bytes}

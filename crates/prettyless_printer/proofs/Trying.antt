@@ -6,7 +6,7 @@ use Rattle.std.proofs.lemmas.Str.{IsUtf8-string_bytes, IsCharBoundary-from_take}
 use Rattle.std.specs.Str.{IsUtf8}
 use Rattle.std.specs.String.Boundary.{IsSplitPoint}
 use Rattle.std.specs.declared.string.String.{String}
-use Rattle.prettyless_sink.specs.declared.options.RenderOptions.{RenderOptions}
+use Rattle.prettyless_model.specs.declared.options.RenderOptions.{RenderOptions}
 use Rattle.prettyless_model.specs.Tree.{Tree, size}
 use Rattle.prettyless_model.specs.Column.{padding_fits}
 use Rattle.prettyless_model.specs.Layout.{State, Outcome, Done, accept, tried, lay, some_pending}

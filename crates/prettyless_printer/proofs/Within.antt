@@ -1,9 +1,9 @@
 -- A text past the width: the flag stays down, and a trial is not kept.
 use Rattle.std.proofs.Common.{◌≡◌, ℕ, zero, suc, List, [], ◌∷◌, ◌++◌, length, refl, ap, Bool, true, false, ◌&&◌, nat_le, if◌then◌else◌}
-use Rattle.prettyless_sink.specs.Spaces.{spaces}
-use Rattle.prettyless_sink.specs.declared.options.RenderOptions.{RenderOptions}
-use Rattle.prettyless_sink.specs.declared.options.IndentationPolicy.{IndentationPolicy}
-use Rattle.prettyless_sink.specs.declared.options.IndentationPolicy.TheVariants.{Eager, Deferred}
+use Rattle.prettyless_model.specs.Spaces.{spaces}
+use Rattle.prettyless_model.specs.declared.options.RenderOptions.{RenderOptions}
+use Rattle.prettyless_model.specs.declared.options.IndentationPolicy.{IndentationPolicy}
+use Rattle.prettyless_model.specs.declared.options.IndentationPolicy.TheVariants.{Eager, Deferred}
 use Rattle.prettyless_model.specs.Tree.{Tree, Nil, Fail, Text, TextWithLen, MultilineText, WeakSpace, HardLine, WeakLine, Append, LineSuffix, Nest, DedentToRoot, Align, ExpandParent, Flatten, BreakOrFlat, Group, Union, PartialUnion}
 use Rattle.prettyless_model.specs.Metrics.{metrics}
 use Rattle.prettyless_model.specs.Column.{gap, commit, prospective, padding_fits}

@@ -4,7 +4,7 @@ use Rattle.prettyless_sink.specs.Sink.{AppendsBeginning, rise}
 use Rattle.prettyless_sink.specs.declared.error.RenderError.{RenderError}
 use Rattle.prettyless_sink.specs.declared.error.RenderError.TheVariants.{Document, Sink, Memory}
 use Rattle.prettyless_model.specs.Tree.{Tree}
-use Rattle.prettyless_sink.specs.Spaces.{spaces}
+use Rattle.prettyless_model.specs.Spaces.{spaces}
 use Rattle.prettyless_model.specs.Column.{gap}
 use Rattle.prettyless_model.specs.Layout.{Outcome, Done, Failed, Bytes, Whole, Cut, bytes_in, bytes_of, and_then}
 use Rattle.prettyless_model.specs.Levels.{settle, settle_end}

@@ -1,7 +1,7 @@
 -- What a turn does to the work: it takes some of it away, and carries it on inside every whole that it was inside of.
 use Rattle.std.specs.Prelude.{◌≡◌, ℕ, ◌+◌, ◌*◌, ◌<◌, List, ◌++◌, length, Result, Ok, Err}
 use Rattle.prettyless_sink.specs.Sink.{AppendsBeginning, rise}
-use Rattle.prettyless_sink.specs.declared.options.RenderOptions.{RenderOptions}
+use Rattle.prettyless_model.specs.declared.options.RenderOptions.{RenderOptions}
 use Rattle.prettyless_sink.specs.declared.error.RenderError.{RenderError}
 use Rattle.prettyless_sink.specs.declared.error.RenderError.TheVariants.{Document, Sink, Memory}
 use Rattle.prettyless_model.specs.Tree.{Tree, size}

@@ -5,7 +5,7 @@ use Rattle.std.proofs.lemmas.List.{get_or-replicate, take-replicate, length-repl
 use Rattle.std.specs.List.{slice_range}
 use Rattle.std.specs.Str.{IsCharBoundary}
 use Rattle.prettyless_sink.specs.Sink.{AppendsBeginning}
-use Rattle.prettyless_sink.specs.Spaces.{spaces}
+use Rattle.prettyless_model.specs.Spaces.{spaces}
 use Rattle.prettyless_sink.proofs.Beginnings.{beginning_of_more, beginning_after}
 
 -- spaces may be cut anywhere

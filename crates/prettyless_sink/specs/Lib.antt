@@ -1,3 +1,1 @@
-pub mod Options
 pub mod Sink
-pub mod Spaces

@@ -1,10 +1,9 @@
-//! What a layout is asked for and where it goes: options, sinks, and the causes for which a render stops.
+//! Where a layout goes: sinks, and the causes for which a render stops.
 #![tactic(auto)]
 
 pub mod error;
 pub mod fmt_write;
 pub mod io_write;
-pub mod options;
 pub mod pieces;
 pub mod render;
 pub mod text_writer;

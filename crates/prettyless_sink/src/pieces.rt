@@ -1,7 +1,7 @@
 //! Gaps and texts, written in pieces.
 ghost use Rattle.std.specs.Prelude.{◌≡◌, ◌++◌, ◌≤◌, OnOk, OnErr};
 ghost use Rattle.prettyless_sink.specs.Sink.{AppendsBeginning, rise};
-ghost use Rattle.prettyless_sink.specs.Spaces.{spaces};
+ghost use Rattle.prettyless_model.specs.Spaces.{spaces};
 
 use crate::render::Render;
 

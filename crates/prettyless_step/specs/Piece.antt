@@ -1,6 +1,6 @@
 -- The bytes of a piece.
 use Rattle.std.specs.Prelude.{ℕ, List, ◌++◌}
-use Rattle.prettyless_sink.specs.Spaces.{spaces}
+use Rattle.prettyless_model.specs.Spaces.{spaces}
 use Rattle.prettyless_step.specs.declared.piece.Piece.{Piece}
 
 -- the bytes of a piece

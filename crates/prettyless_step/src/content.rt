@@ -10,7 +10,7 @@ use crate::printer::Printer;
 use crate::walk::Walk;
 use prettyless_model::column::Column;
 use prettyless_model::metrics::Metrics;
-use prettyless_sink::options::RenderOptions;
+use prettyless_model::options::RenderOptions;
 
 /// Content of this counted width, in columns: the column moves behind it, and `within` falls where that is past the width.
 /// An empty text is nothing.

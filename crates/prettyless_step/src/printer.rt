@@ -3,7 +3,7 @@ use crate::command::Command;
 use crate::piece::Piece;
 use crate::unread::Unread;
 use prettyless_model::column::Column;
-use prettyless_sink::options::RenderOptions;
+use prettyless_model::options::RenderOptions;
 
 /// The printer's state: the column, the commands that are left, and the pending line suffixes.
 #[derive(Drop)]

@@ -21,7 +21,7 @@ use crate::stack::push_node;
 use crate::walk::{View, Walk};
 use prettyless_model::column::Column;
 use prettyless_model::mode::Mode;
-use prettyless_sink::options::IndentationPolicy;
+use prettyless_model::options::IndentationPolicy;
 use std::alloc::AllocError;
 
 // An indent that a nesting changes, kept within 0 and the greatest `usize`.

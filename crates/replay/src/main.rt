@@ -2,8 +2,8 @@
 //! answers with what comes of it on a line of standard output.
 #![tactic(auto)]
 
-use cases::run::run;
 use prettyless::IoWrite;
+use replay_cases::run::run;
 use std::io;
 use std::io::{BufReader, BufWriter, Write};
 

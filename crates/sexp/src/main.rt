@@ -2,29 +2,13 @@
 //! this many columns to standard output. With `crlf` lines end in CR LF, and with `deferred` indents are written late.
 #![tactic(auto)]
 
-mod document;
-mod ending;
-mod error;
-mod expression;
-mod input;
-mod number;
-mod output;
-mod parse;
-mod run;
-mod words;
-
-pub use ending::Ending;
-pub use error::RunError;
-pub use expression::SExp;
-pub use parse::parse;
-pub use run::run;
+use sexp_formatter::{Ending, RunError, options, run};
 use std::io::{BufWriter, ErrorKind, Write};
 use std::process::ExitCode;
 use std::rt::Env;
 use std::{env, io};
-pub use words::options;
 
-// The words behind the program's name. One that is no text is a bad word, like any that asks for no layout.
+// The words after the program's name. One that is no text is a bad word, like any that asks for no layout.
 fn arguments<R: Env + AllocGlobal>(rt: &R) -> Result<Vec<String>, Ending> {
     let words = env::args(rt).map_err(|error| match error.kind() {
         ErrorKind::OutOfMemory => Ending::Failed,
@@ -55,6 +39,3 @@ fn main(rt: HostRuntime) -> ExitCode {
         }
     }
 }
-
-#[cfg(test)]
-mod tests;

@@ -1,6 +1,6 @@
 ghost use Rattle.std.specs.Prelude.{◌≡◌, ◌++◌, IsSome, OnOk, OnErr, Some};
 ghost use Rattle.prettyless_sink.specs.Sink.{AppendsBeginning, known};
-ghost use Rattle.prettyless_sink.specs.Spaces.{spaces};
+ghost use Rattle.prettyless_model.specs.Spaces.{spaces};
 
 use super::IoWrite;
 use crate::pieces::write_gap_and_text;

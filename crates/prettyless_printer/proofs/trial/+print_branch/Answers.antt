@@ -1,6 +1,6 @@
 use Rattle.std.proofs.Common.{◌≡◌, ◌<◌, ◌≤◌, ◌∷◌, ◌∙◌, ℕ, [], length, take, refl, sym, ap, append-nil, length-append, arith, subst, Bool, true, false}
 use Rattle.std.specs.String.{string_bytes}
-use Rattle.prettyless_sink.specs.declared.options.RenderOptions.{RenderOptions}
+use Rattle.prettyless_model.specs.declared.options.RenderOptions.{RenderOptions}
 use Rattle.prettyless_model.specs.Column.{padding_fits}
 use Rattle.prettyless_model.specs.Layout.{some_pending}
 use Rattle.prettyless_model.specs.declared.mode.Mode.TheVariants.{Break}

@@ -1,7 +1,7 @@
 use Rattle.std.proofs.Common.{◌≡◌, refl, ◌++◌, ◌∙◌, ap, arith}
 use Rattle.std.proofs.lemmas.Result.{on_err_weaker}
 use Rattle.prettyless_sink.specs.Sink.{rise}
-use Rattle.prettyless_sink.specs.Spaces.{spaces}
+use Rattle.prettyless_model.specs.Spaces.{spaces}
 use Rattle.prettyless_sink.proofs.Beginnings.{on_err, beginning_of_more, beginning_after}
 use Rattle.prettyless_sink.proofs.Gaps.{after_no_gap}
 use Rattle.prettyless_sink.proofs.pieces.write_gap_and_text.Goals as goal

@@ -1,5 +1,5 @@
 use Rattle.std.proofs.Common.{◌≡◌, ◌++◌, ◌≤◌, ◌-◌}
-use Rattle.prettyless_sink.specs.Spaces.{spaces}
+use Rattle.prettyless_model.specs.Spaces.{spaces}
 use Rattle.prettyless_sink.proofs.pieces.write_spaces.Given as goal
 
 abbrev pub invariant-loop-left : goal.invariant-loop-left

@@ -1,6 +1,6 @@
 use Rattle.std.proofs.Common.{◌≡◌, ◌++◌, ◌∙◌, [], ap, append-nil, subst}
 use Rattle.prettyless_sink.specs.Sink.{AppendsBeginning, rise}
-use Rattle.prettyless_sink.specs.Spaces.{spaces}
+use Rattle.prettyless_model.specs.Spaces.{spaces}
 use Rattle.prettyless_sink.proofs.Beginnings.{on_err, beginning_of_more, beginning_after}
 use Rattle.prettyless_step.specs.Piece.{piece_bytes}
 use Rattle.prettyless_step.proofs.piece.write_piece.Goals as goal

@@ -1,0 +1,151 @@
+-- The trees of documents that are measured.
+use Rattle.std.specs.Prelude.{◌≡◌, ℕ, zero, suc, ◌*◌, ◌%◌, ◌^◌, ◌≤◌, ◌<◌, max, List, replicate, codes, pos}
+use Rattle.std.specs.Fmt.{decimal}
+use Rattle.prettyless.specs.Tree.{Tree, Text, HardLine, Group, Union}
+use Rattle.prettyless.specs.Built.{append, nest, group, softline}
+use Rattle.prettyless.specs.Counted as counted
+use Rattle.prettyless.specs.Lines.{line, line_}
+use Rattle.prettyless.specs.Words.{intersperse}
+use Rattle.bench_workloads.specs.declared.workload.Workload.{Workload}
+use Rattle.bench_workloads.specs.declared.workload.Workload.TheVariants as w
+
+-- items between parentheses, nested by 1 and grouped
+abbrev pub parenthesised : Tree → Tree
+parenthesised items = append (append (Text (codes "(")) (group (nest (pos 1) items))) (Text (codes ")"))
+
+-- so many atoms in one list
+abbrev pub list : ℕ → Tree
+list n = parenthesised (intersperse line (replicate n (Text (codes "atom"))))
+
+-- a document behind another, with a line between them
+abbrev pub behind : Tree → Tree → Tree
+behind front next = append (append front line) next
+
+-- so many of a tree, and one at least, each behind the one before it
+abbrev pub row : ℕ → Tree → Tree
+row zero x = x
+row (suc zero) x = x
+row (suc (suc n)) x = behind (row (suc n) x) x
+
+-- an atom, or a list of ten trees that have one level less
+abbrev pub tree : ℕ → Tree
+tree zero = Text (codes "atom")
+tree (suc k) = parenthesised (row 10 (tree k))
+
+-- a tree that has as many atoms as the greatest power of ten up to n has, and one at least
+abbrev pub IsTree : ℕ → Tree → Type 0
+IsTree n x = (k : ℕ) × (10 ^ k ≤ max n 1) × (max n 1 < 10 * 10 ^ k) × (x ≡ tree k)
+
+-- values between brackets, each on lines of their own where they don't fit one
+abbrev pub bracketed : Tree → Tree → Tree → Tree
+bracketed opening values closing = group (append (append opening (nest (pos 2) (append line_ values))) (append line_ closing))
+
+-- a document, a comma and a line, and the next one
+abbrev pub with_comma : Tree → Tree → Tree
+with_comma front next = append (append front (append (Text (codes ",")) line)) next
+
+-- a document, a soft line, and the next word
+abbrev pub with_word : Tree → List ℕ → Tree
+with_word front next = append (append front softline) (Text next)
+
+-- a word for a number below 5
+abbrev pub word : ℕ → List ℕ
+word zero = codes "to"
+word (suc zero) = codes "fill"
+word (suc (suc zero)) = codes "a"
+word (suc (suc (suc zero))) = codes "line"
+word (suc (suc (suc (suc n)))) = codes "greedily"
+
+-- so many words, and one at least, with a break only where a line has no room
+abbrev pub fill : ℕ → Tree
+fill zero = Text (word 0)
+fill (suc zero) = Text (word 0)
+fill (suc (suc n)) = with_word (fill (suc n)) (word (suc n % 5))
+
+-- so many lines of 60 bytes, each but the first with an indent of 4
+abbrev pub lines : ℕ → Tree
+lines n = nest (pos 4) (intersperse HardLine (replicate n (Text (codes "a line of text that is as long as it has to be for sixty is."))))
+
+-- three texts in brackets
+abbrev pub tags : Tree
+tags = bracketed (Text (codes "[")) (with_comma (with_comma (Text (codes "\"red\"")) (Text (codes "\"green\""))) (Text (codes "\"blue\""))) (Text (codes "]"))
+
+-- the fields of a record: its number, a word for that, the tags and a text
+abbrev pub id_field : ℕ → Tree
+id_field n = append (Text (codes "\"id\": ")) (counted.as_string (decimal n))
+
+abbrev pub name_field : ℕ → Tree
+name_field n = append (append (Text (codes "\"name\": \"")) (Text (word (n % 5)))) (Text (codes "\""))
+
+abbrev pub tags_field : Tree
+tags_field = append (Text (codes "\"tags\": ")) tags
+
+abbrev pub note_field : Tree
+note_field = Text (codes "\"note\": \"as wide as makes a record wider than a line\"")
+
+-- a record: its four fields in braces
+abbrev pub record_of : ℕ → Tree
+record_of n = bracketed (Text (codes "{")) (with_comma (with_comma (with_comma (id_field n) (name_field n)) tags_field) note_field) (Text (codes "}"))
+
+-- so many records, and one at least, with commas between them
+abbrev pub records : ℕ → Tree
+records zero = record_of 0
+records (suc zero) = record_of 0
+records (suc (suc n)) = with_comma (records (suc n)) (record_of (suc n))
+
+-- these in brackets
+abbrev pub array : ℕ → Tree
+array n = bracketed (Text (codes "[")) (records n) (Text (codes "]"))
+
+-- a text, a line and this, grouped
+abbrev pub text_group : Tree → Tree
+text_group inner = group (append (append (Text (codes "a")) line) inner)
+
+-- so many of these in one another
+abbrev pub text_groups : ℕ → Tree
+text_groups zero = Text (codes "a")
+text_groups (suc n) = text_group (text_groups n)
+
+-- two texts and a line between them
+abbrev pub wide : Tree
+wide = append (append (Text (codes "a text of fifty columns, of which two fill a line.")) line) (Text (codes "a text of fifty columns, of which two fill a line."))
+
+-- so many groups around them
+abbrev pub bare_groups : ℕ → Tree
+bare_groups zero = wide
+bare_groups (suc n) = Group (bare_groups n)
+
+-- a text, a line break and this, or else another text
+abbrev pub kept_trial : Tree → Tree
+kept_trial inner = Union (append (append (Text (codes "a")) HardLine) inner) (Text (codes "b"))
+
+-- so many of these in one another
+abbrev pub kept_trials : ℕ → Tree
+kept_trials zero = Text (codes "a")
+kept_trials (suc n) = kept_trial (kept_trials n)
+
+-- a line break, this and a text, or else a text
+abbrev pub rejected_trial : Tree → Tree
+rejected_trial inner = Union (append (append HardLine inner) (Text (codes "toolong"))) (Text (codes "x"))
+
+-- so many of these in one another
+abbrev pub rejected : ℕ → Tree
+rejected zero = Text (codes "x")
+rejected (suc n) = rejected_trial (rejected n)
+
+-- these behind a text
+abbrev pub rejected_trials : ℕ → Tree
+rejected_trials n = append (Text (codes "p")) (rejected n)
+
+-- the document of a workload at a size
+abbrev pub IsDocument : Workload → ℕ → Tree → Type 0
+IsDocument w.Tree n x = IsTree n x
+IsDocument w.List n x = x ≡ list n
+IsDocument w.FlatList n x = x ≡ list n
+IsDocument w.Json n x = x ≡ array n
+IsDocument w.TextGroups n x = x ≡ text_groups n
+IsDocument w.BareGroups n x = x ≡ bare_groups n
+IsDocument w.Fill n x = x ≡ fill n
+IsDocument w.Lines n x = x ≡ lines n
+IsDocument w.KeptTrials n x = x ≡ kept_trials n
+IsDocument w.RejectedTrials n x = x ≡ rejected_trials n

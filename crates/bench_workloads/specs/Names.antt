@@ -1,0 +1,60 @@
+-- The words for workloads, the widths that they are laid out within, and their sizes.
+use Rattle.std.specs.Prelude.{ℕ, ◌-◌, ◌^◌, nat_lt, List, [], ◌∷◌, codes, Option, Some, None, if◌then◌else◌}
+use Rattle.std.specs.Str.{bytes_eq}
+use Rattle.bench_workloads.specs.declared.workload.Workload.{Workload}
+use Rattle.bench_workloads.specs.declared.workload.Workload.TheVariants as w
+
+-- the names of the workloads
+abbrev pub names : List (List ℕ × Workload)
+names =
+    (codes "tree", w.Tree) ∷ (codes "list", w.List) ∷ (codes "flat", w.FlatList) ∷ (codes "json", w.Json)
+    ∷ (codes "texts", w.TextGroups) ∷ (codes "bare", w.BareGroups) ∷ (codes "fill", w.Fill) ∷ (codes "lines", w.Lines)
+    ∷ (codes "kept", w.KeptTrials) ∷ (codes "lost", w.RejectedTrials) ∷ []
+
+-- what a word names in a table of names
+abbrev pub named_in : List (List ℕ × Workload) → List ℕ → Option Workload
+named_in [] word = None
+named_in (e ∷ es) word = if bytes_eq word e.0 then Some e.1 else named_in es word
+
+-- what a name means
+abbrev pub workload_of : List ℕ → Option Workload
+workload_of word = named_in names word
+
+-- the width that a workload is laid out within
+abbrev pub width_of : Workload → ℕ
+width_of w.FlatList = 2 ^ 64 - 1
+width_of w.RejectedTrials = 4
+width_of _ = 80
+
+-- the size at which its layout is compared
+abbrev pub small_size_of : Workload → ℕ
+small_size_of w.Json = 50
+small_size_of w.Lines = 50
+small_size_of w.BareGroups = 100
+small_size_of w.KeptTrials = 100
+small_size_of w.RejectedTrials = 100
+small_size_of _ = 1000
+
+-- the sizes at which groups and trials are timed
+abbrev pub depths : List ℕ
+depths = 1000 ∷ 10000 ∷ 100000 ∷ []
+
+-- the sizes at which it is timed
+abbrev pub full_sizes_of : Workload → List ℕ
+full_sizes_of w.Json = 80000 ∷ []
+full_sizes_of w.TextGroups = depths
+full_sizes_of w.BareGroups = depths
+full_sizes_of w.KeptTrials = depths
+full_sizes_of w.RejectedTrials = depths
+full_sizes_of _ = 1000000 ∷ []
+
+-- a reason that counts above 10,000
+abbrev pub beyond : ℕ → List ℕ → Option (List ℕ)
+beyond size reason = if nat_lt 10000 size then Some reason else None
+
+-- why it is not timed at a size, if so
+abbrev pub obstacle_of : Workload → ℕ → Option (List ℕ)
+obstacle_of w.BareGroups size = beyond size (codes "its probes are quadratic")
+obstacle_of w.KeptTrials size = beyond size (codes "its trials are nested calls")
+obstacle_of w.RejectedTrials size = beyond size (codes "its trials are nested calls")
+obstacle_of _ size = None

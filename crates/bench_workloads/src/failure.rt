@@ -1,0 +1,80 @@
+ghost use Rattle.std.specs.Prelude.{◌≡◌};
+ghost use Rattle.bench_workloads.specs.Failures.{message_of, status_of};
+ghost use Rattle.bench_workloads.specs.declared.failure.Failure.TheVariants.{Build, Render, Memory, System};
+
+use prettyless::RenderError;
+use prettyless::text::BuildError;
+use std::alloc::AllocError;
+use std::{fmt, io};
+
+/// Why a run stopped.
+#[derive(Debug, Drop)]
+pub enum Failure {
+    /// The words ask for nothing.
+    Words,
+    /// A document was not built.
+    Build(BuildError),
+    /// A document was not laid out.
+    Render(RenderError<fmt::Error>),
+    /// Memory was refused for something else.
+    Memory(AllocError),
+    /// The words or the clock could not be read, or a line was not written.
+    System(io::Error),
+}
+
+impl Failure {
+    /// What standard error is told.
+    pub fn message(&self) -> &'static str
+        ensures { result.now ≡ message_of self.now }
+    {
+        match self {
+            Failure::Words => "usage: bench [time [WORKLOAD]]",
+            Failure::Build(_) => "error: a document was not built",
+            Failure::Render(_) => "error: a document was not laid out",
+            Failure::Memory(_) => "error: out of memory",
+            Failure::System(_) => "error: the system refused",
+        }
+    }
+
+    /// The status that `bench` ends with.
+    pub fn status(&self) -> u8
+        ensures { result ≡ status_of self.now }
+    {
+        match self {
+            Failure::Words => 2,
+            _ => 1,
+        }
+    }
+}
+
+impl From<BuildError> for Failure {
+    ghost from_gives = { λ e f. f ≡ Build e };
+
+    fn from(error: BuildError) -> Failure {
+        Failure::Build(error)
+    }
+}
+
+impl From<RenderError<fmt::Error>> for Failure {
+    ghost from_gives = { λ e f. f ≡ Render e };
+
+    fn from(error: RenderError<fmt::Error>) -> Failure {
+        Failure::Render(error)
+    }
+}
+
+impl From<AllocError> for Failure {
+    ghost from_gives = { λ e f. f ≡ Memory e };
+
+    fn from(error: AllocError) -> Failure {
+        Failure::Memory(error)
+    }
+}
+
+impl From<io::Error> for Failure {
+    ghost from_gives = { λ e f. f ≡ System e };
+
+    fn from(error: io::Error) -> Failure {
+        Failure::System(error)
+    }
+}

@@ -1,0 +1,52 @@
+//! Groups in groups.
+ghost use Rattle.std.specs.Prelude.{◌≡◌, IfOk, IfErr};
+ghost use Rattle.prettyless.specs.BuildErrors.{IsMemory};
+ghost use Rattle.prettyless.specs.DocTree.{built};
+ghost use Rattle.bench_workloads.specs.Documents as to;
+
+use crate::parts::text;
+use prettyless::text::BuildError;
+use prettyless::{BuildDoc, Doc, DocAllocator, DocBuilder, DocPlace};
+
+/// Groups nested so deep, with a text and a line in each in front of the next.
+pub fn text_groups<'a, D: DocPlace<'a>>(
+    place: &'a D,
+    depth: usize,
+) -> Result<DocBuilder<'a, D>, BuildError>
+    ensures ok { IfOk result (λ b. built D.Doc.tree b.1 ≡ to.text_groups depth) }
+    ensures err { IfErr result IsMemory }
+{
+    let mut all = text(place, "a");
+    for _ in 0..depth {
+        let front = text(place, "a").join(place.line()?)?;
+        all = front.join(all)?.group()?;
+    }
+    Ok(all)
+}
+
+// Two texts that don't fit a line of 80 columns together, and a line between them.
+fn wide<'a, D: DocPlace<'a>>(place: &'a D) -> Result<DocBuilder<'a, D>, BuildError>
+    ensures ok { IfOk result (λ b. built D.Doc.tree b.1 ≡ to.wide) }
+    ensures err { IfErr result IsMemory }
+{
+    let half = "a text of fifty columns, of which two fill a line.";
+    let front = text(place, half).join(place.line()?)?;
+    front.join(text(place, half))
+}
+
+/// Groups nested so deep, around two texts that don't fit a line.
+pub fn bare_groups<'a, D: DocPlace<'a>>(
+    place: &'a D,
+    depth: usize,
+) -> Result<DocBuilder<'a, D>, BuildError>
+    ensures ok { IfOk result (λ b. built D.Doc.tree b.1 ≡ to.bare_groups depth) }
+    ensures err { IfErr result IsMemory }
+{
+    let mut all = wide(place)?;
+    for _ in 0..depth {
+        // A builder makes no group of a group.
+        let inner = all.into_doc()?;
+        all = DocBuilder(place, BuildDoc::Doc(Doc::Group(inner)));
+    }
+    Ok(all)
+}

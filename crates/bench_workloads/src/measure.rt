@@ -1,0 +1,150 @@
+//! Building and laying out, and how long it takes.
+ghost use Rattle.std.specs.Prelude.{◌≡◌, ℕ, List, length, IfErr, IfOk, OnOk};
+ghost use Rattle.std.specs.String.{string_bytes};
+ghost use Rattle.prettyless.specs.DocTree.{tree_of};
+ghost use Rattle.prettyless.specs.Layout as laid;
+ghost use Rattle.prettyless.specs.Options.{options_at};
+ghost use Rattle.bench_workloads.specs.Failures.{IsOfLayout, IsOfTiming};
+ghost use Rattle.bench_workloads.specs.Layouts.{IsLayout, IsOf};
+
+use crate::checksum::checksum;
+use crate::document::document;
+use crate::failure::Failure;
+use crate::workload::Workload;
+use bumpalo::Bump;
+use prettyless::{Arena, Doc, DocPtr};
+use std::alloc::Global;
+use std::rt::Clock;
+use std::time::{Duration, Instant};
+
+/// How often a document is laid out again. The least time counts.
+const RENDERS: usize = 5;
+
+/// A document in an arena, and its layout.
+#[derive(Clone, Copy)]
+pub struct Laid {
+    /// How many nodes the arena placed.
+    pub nodes: usize,
+    /// The length of the layout, in bytes.
+    pub bytes: usize,
+    /// That of the layout's bytes.
+    pub checksum: u64,
+}
+
+/// How long it took to build a document, and to lay it out.
+#[derive(Clone, Copy)]
+pub struct Timed {
+    /// How many nodes the arena placed.
+    pub nodes: usize,
+    /// The length of the layout, in bytes.
+    pub bytes: usize,
+    /// What building took.
+    pub build: Duration,
+    /// What the fastest render took.
+    pub render: Duration,
+}
+
+// The layout of a workload.
+fn layout<'a>(
+    alloc: Global,
+    arena: &'a Arena<'a>,
+    workload: Workload,
+    size: usize,
+) -> Result<String, Failure>
+    ensures ok { IfOk result (λ out. IsLayout workload size (string_bytes out)) }
+    ensures err { IfErr result IsOfLayout }
+{
+    let root = document(arena, workload, size)?.into_doc()?;
+    let mut out = String::new(alloc);
+    root.doc().render_fmt(alloc, workload.width(), &mut out)?;
+    Ok(out)
+}
+
+/// Lays a workload out.
+pub fn lay(alloc: Global, workload: Workload, size: usize) -> Result<Laid, Failure>
+    ensures ok { IfOk result (λ laid. (bytes : List ℕ) × IsLayout workload size bytes × IsOf laid bytes) }
+    ensures err { IfErr result IsOfLayout }
+{
+    let bump = Bump::new(alloc);
+    let arena = Arena::new(alloc, &bump);
+    let out = layout(alloc, &arena, workload, size)?;
+    Ok(Laid {
+        nodes: arena.len(),
+        bytes: out.len(),
+        checksum: checksum(out.as_bytes()),
+    })
+}
+
+// Lays a document out, and tells the time that it took.
+fn time_render<'a, C: Clock, T: DocPtr<'a>>(
+    clock: &C,
+    alloc: Global,
+    width: usize,
+    doc: &Doc<'a, T>,
+    out: &mut String,
+) -> Result<Duration, Failure>
+    ensures ok { OnOk result (laid.layout (options_at width) (tree_of T.tree doc.now) ≡ laid.Whole (string_bytes out.new)) }
+    ensures err { IfErr result IsOfTiming }
+{
+    out.clear();
+    let start = Instant::now(clock)?;
+    doc.render_fmt(alloc, width, out)?;
+    Ok(start.elapsed(clock)?)
+}
+
+// The least of several times.
+fn least_render<'a, C: Clock, T: DocPtr<'a>>(
+    clock: &C,
+    alloc: Global,
+    width: usize,
+    doc: &Doc<'a, T>,
+    out: &mut String,
+) -> Result<Duration, Failure>
+    ensures ok { OnOk result (laid.layout (options_at width) (tree_of T.tree doc.now) ≡ laid.Whole (string_bytes out.new)) }
+    ensures err { IfErr result IsOfTiming }
+{
+    let mut least = time_render(clock, alloc, width, doc, out)?;
+    for _ in 0..RENDERS {
+        least = least.min(time_render(clock, alloc, width, doc, out)?);
+    }
+    Ok(least)
+}
+
+fn time_in<'a, C: Clock>(
+    clock: &C,
+    alloc: Global,
+    arena: &'a Arena<'a>,
+    workload: Workload,
+    size: usize,
+) -> Result<(usize, Duration, Duration), Failure>
+    ensures ok { IfOk result (λ r. (bytes : List ℕ) × IsLayout workload size bytes × (r.0 ≡ length bytes)) }
+    ensures err { IfErr result IsOfTiming }
+{
+    let start = Instant::now(clock)?;
+    let root = document(arena, workload, size)?.into_doc()?;
+    let build = start.elapsed(clock)?;
+    let mut out = String::new(alloc);
+    let render = least_render(clock, alloc, workload.width(), root.doc(), &mut out)?;
+    Ok((out.len(), build, render))
+}
+
+/// Builds a workload and lays it out several times.
+pub fn time<C: Clock>(
+    clock: &C,
+    alloc: Global,
+    workload: Workload,
+    size: usize,
+) -> Result<Timed, Failure>
+    ensures ok { IfOk result (λ timed. (bytes : List ℕ) × IsLayout workload size bytes × (timed.bytes ≡ length bytes)) }
+    ensures err { IfErr result IsOfTiming }
+{
+    let bump = Bump::new(alloc);
+    let arena = Arena::new(alloc, &bump);
+    let (bytes, build, render) = time_in(clock, alloc, &arena, workload, size)?;
+    Ok(Timed {
+        nodes: arena.len(),
+        bytes,
+        build,
+        render,
+    })
+}

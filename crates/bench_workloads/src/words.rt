@@ -1,0 +1,67 @@
+//! Texts that fill lines, and texts that are lines.
+ghost use Rattle.std.specs.Prelude.{◌≡◌, ◌%◌, IfOk, IfErr};
+ghost use Rattle.prettyless.specs.BuildErrors.{IsMemory};
+ghost use Rattle.prettyless.specs.DocTree.{built};
+ghost use Rattle.bench_workloads.specs.Documents as to;
+
+use crate::parts::text;
+use prettyless::combinators::hard_line;
+use prettyless::text::BuildError;
+use prettyless::{DocAllocator, DocAllocatorBetween, DocBuilder, DocPlace};
+use std::iter;
+
+const LINE: &str = "a line of text that is as long as it has to be for sixty is.";
+
+/// A word for a number.
+pub fn word<'a>(number: usize) -> &'a str
+    ensures { result.now ≡ to.word (number % 5) }
+{
+    match number % 5 {
+        0 => "to",
+        1 => "fill",
+        2 => "a",
+        3 => "line",
+        _ => "greedily",
+    }
+}
+
+// A text, one space or a line break, and a word.
+fn with_word<'a, D: DocPlace<'a>>(
+    front: DocBuilder<'a, D>,
+    next: &'a str,
+) -> Result<DocBuilder<'a, D>, BuildError>
+    ensures ok { IfOk result (λ b. built D.Doc.tree b.1 ≡ to.with_word (built D.Doc.tree front.entry.1) next.now) }
+    ensures err { IfErr result IsMemory }
+{
+    let place = front.0;
+    front.join(place.softline()?)?.join(text(place, next))
+}
+
+/// So many words, and one at least, with breaks only where a line has no room.
+pub fn fill<'a, D: DocPlace<'a>>(
+    place: &'a D,
+    words: usize,
+) -> Result<DocBuilder<'a, D>, BuildError>
+    ensures ok { IfOk result (λ b. built D.Doc.tree b.1 ≡ to.fill words) }
+    ensures err { IfErr result IsMemory }
+{
+    let mut all = text(place, word(0));
+    for number in 1..words {
+        all = with_word(all, word(number))?;
+    }
+    Ok(all)
+}
+
+/// So many lines of 60 bytes, each but the first with an indent of 4.
+pub fn lines<'a, D: DocPlace<'a>>(
+    place: &'a D,
+    lines: usize,
+) -> Result<DocBuilder<'a, D>, BuildError>
+    ensures ok { IfOk result (λ b. built D.Doc.tree b.1 ≡ to.lines lines) }
+    ensures err { IfErr result IsMemory }
+{
+    let line: &'a str = LINE;
+    place
+        .intersperse(iter::repeat_n(line, lines), hard_line())?
+        .nest(4)
+}

@@ -1,0 +1,131 @@
+//! What is measured.
+ghost use Rattle.std.specs.Prelude.{◌≡◌, Some};
+ghost use Rattle.std.specs.Option.{option_copied};
+ghost use Rattle.bench_workloads.specs.Names as names;
+
+/// A kind of document. Its size is a number of atoms, records, groups, words, lines or trials.
+#[derive(Clone, Copy, Debug, PartialEq, Eq)]
+pub enum Workload {
+    /// Lists of ten, in lists of ten, and so on. The atoms are the greatest power of ten up to the size.
+    Tree,
+    /// One list that is broken.
+    List,
+    /// The same in one line.
+    FlatList,
+    /// Records of several fields.
+    Json,
+    /// Groups in groups, with a text in each.
+    TextGroups,
+    /// Groups in groups, with nothing else in each, around what does not fit a line.
+    BareGroups,
+    /// Words, with breaks only where a line has no room.
+    Fill,
+    /// Lines of 60 bytes with an indent.
+    Lines,
+    /// Alternatives in alternatives, of which each first one is kept.
+    KeptTrials,
+    /// Alternatives in alternatives, of which each first one is rejected.
+    RejectedTrials,
+}
+
+/// All of them, as they are printed.
+pub const WORKLOADS: [Workload; 10] = [
+    Workload::Tree,
+    Workload::List,
+    Workload::FlatList,
+    Workload::Json,
+    Workload::TextGroups,
+    Workload::BareGroups,
+    Workload::Fill,
+    Workload::Lines,
+    Workload::KeptTrials,
+    Workload::RejectedTrials,
+];
+
+impl Workload {
+    /// The word that names it.
+    pub fn name(self) -> &'static str
+        ensures { names.workload_of result.now ≡ Some self }
+    {
+        match self {
+            Workload::Tree => "tree",
+            Workload::List => "list",
+            Workload::FlatList => "flat",
+            Workload::Json => "json",
+            Workload::TextGroups => "texts",
+            Workload::BareGroups => "bare",
+            Workload::Fill => "fill",
+            Workload::Lines => "lines",
+            Workload::KeptTrials => "kept",
+            Workload::RejectedTrials => "lost",
+        }
+    }
+
+    /// The width that it is laid out within, in columns.
+    pub fn width(self) -> usize
+        ensures { result ≡ names.width_of self }
+    {
+        match self {
+            Workload::FlatList => usize::MAX,
+            Workload::RejectedTrials => 4,
+            _ => 80,
+        }
+    }
+
+    /// The size at which its layout is compared.
+    pub fn small_size(self) -> usize
+        ensures { result ≡ names.small_size_of self }
+    {
+        match self {
+            Workload::Json | Workload::Lines => 50,
+            Workload::BareGroups | Workload::KeptTrials | Workload::RejectedTrials => 100,
+            _ => 1000,
+        }
+    }
+
+    /// The sizes at which it is timed.
+    pub fn full_sizes(self) -> &'static [usize]
+        ensures { result.now ≡ names.full_sizes_of self }
+    {
+        match self {
+            Workload::Json => &[80_000],
+            Workload::TextGroups
+            | Workload::BareGroups
+            | Workload::KeptTrials
+            | Workload::RejectedTrials => &[1_000, 10_000, 100_000],
+            _ => &[1_000_000],
+        }
+    }
+
+    /// Why it is not timed at a size, if so.
+    pub fn obstacle(self, size: usize) -> Option<&'static str>
+        ensures { option_copied result ≡ names.obstacle_of self size }
+    {
+        match self {
+            Workload::BareGroups if size > 10_000 => Some("its probes are quadratic"),
+            Workload::KeptTrials | Workload::RejectedTrials if size > 10_000 => {
+                Some("its trials are nested calls")
+            }
+            _ => None,
+        }
+    }
+}
+
+/// The workload of that name.
+pub fn workload_named(word: &str) -> Option<Workload>
+    ensures { result ≡ names.workload_of word.now }
+{
+    match word.as_bytes() {
+        b"tree" => Some(Workload::Tree),
+        b"list" => Some(Workload::List),
+        b"flat" => Some(Workload::FlatList),
+        b"json" => Some(Workload::Json),
+        b"texts" => Some(Workload::TextGroups),
+        b"bare" => Some(Workload::BareGroups),
+        b"fill" => Some(Workload::Fill),
+        b"lines" => Some(Workload::Lines),
+        b"kept" => Some(Workload::KeptTrials),
+        b"lost" => Some(Workload::RejectedTrials),
+        _ => None,
+    }
+}

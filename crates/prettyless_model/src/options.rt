@@ -1,0 +1,87 @@
+//! What a caller chooses of a layout.
+ghost use Rattle.std.specs.Prelude.{◌≡◌};
+ghost use Rattle.prettyless_model.specs.Options.{ending, options_at};
+
+/// How a line of the layout ends.
+#[derive(Clone, Copy, Debug, Default, PartialEq, Eq)]
+pub enum LineEnding {
+    /// By the byte 10.
+    #[default]
+    Lf,
+    /// By the bytes 13 and 10.
+    Crlf,
+}
+
+impl LineEnding {
+    /// The bytes that end a line.
+    pub fn as_str(self) -> &'static str
+        ensures { result.now ≡ ending self }
+    {
+        match self {
+            LineEnding::Lf => "\n",
+            LineEnding::Crlf => "\r\n",
+        }
+    }
+}
+
+/// When the indent of a line is written: at its beginning, or once something stands on the line.
+#[derive(Clone, Copy, Debug, Default, PartialEq, Eq)]
+pub enum IndentationPolicy {
+    /// At the line's beginning, also where no text follows on the line.
+    #[default]
+    Eager,
+    /// Before the first content of the line: a text that is not empty, a payload whose first line is not empty, or a
+    /// pending suffix. A line without one gets no indent.
+    Deferred,
+}
+
+/// What a caller chooses of a layout.
+#[derive(Clone, Copy, Debug)]
+pub struct RenderOptions {
+    /// The columns of a line that a layout aims to stay within.
+    pub width: usize,
+    /// What a line break writes. Line ends inside a text are written as they are.
+    pub line_ending: LineEnding,
+    /// When the spaces of an indent are written.
+    pub indentation_policy: IndentationPolicy,
+}
+
+impl RenderOptions {
+    /// This width, with lines that end in LF and indents that are written at once.
+    pub fn new(width: usize) -> Self
+        ensures { result ≡ options_at width }
+    {
+        RenderOptions {
+            width,
+            line_ending: LineEnding::Lf,
+            indentation_policy: IndentationPolicy::Eager,
+        }
+    }
+
+    /// These options at another width, in columns.
+    pub fn with_width(self, width: usize) -> Self
+        ensures { result ≡ record self { width = width } }
+    {
+        RenderOptions { width, ..self }
+    }
+
+    /// These options with another end of lines.
+    pub fn with_line_ending(self, line_ending: LineEnding) -> Self
+        ensures { result ≡ record self { line_ending = line_ending } }
+    {
+        RenderOptions {
+            line_ending,
+            ..self
+        }
+    }
+
+    /// These options with indents written by another policy.
+    pub fn with_indentation_policy(self, indentation_policy: IndentationPolicy) -> Self
+        ensures { result ≡ record self { indentation_policy = indentation_policy } }
+    {
+        RenderOptions {
+            indentation_policy,
+            ..self
+        }
+    }
+}

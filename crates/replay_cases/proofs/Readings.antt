@@ -1,0 +1,326 @@
+-- What the words of a document leave where they are read from the last to the first: the document, and nothing else.
+use Rattle.std.proofs.Common.{◌≡◌, ℕ, ◌+◌, ◌≤◌, Bool, true, false, Bor, List, [], ◌∷◌, ◌++◌, map, length, take, drop, get_or, Option, Some, None, refl, sym, ap, subst, ◌∙◌, append_assoc, append-nil, arith, rules}
+use Rattle.std.specs.Prelude.{ℤ, codes, if◌then◌else◌}
+use Rattle.std.specs.Str.{bytes_eq}
+use Rattle.std.specs.Str.Parse.{digits_value}
+use Rattle.std.proofs.lemmas.List.{drop_more, map-append, take-append-drop}
+use Rattle.std.proofs.lemmas.Slice.Eq.{bytes_eq-Decides}
+use Rattle.prettyless_doc.specs.Breaks.{holds_break}
+use Rattle.prettyless.specs.Tree as t
+use Rattle.prettyless.specs.Tree.{Tree}
+use Rattle.replay_cases.specs.declared.operator.Leaf.{Leaf}
+use Rattle.replay_cases.specs.declared.operator.Leaf.TheVariants as leaves
+use Rattle.replay_cases.specs.declared.operator.Wrapper.{Wrapper}
+use Rattle.replay_cases.specs.declared.operator.Wrapper.TheVariants as wrappers
+use Rattle.replay_cases.specs.declared.operator.Join.{Join}
+use Rattle.replay_cases.specs.declared.operator.Join.TheVariants as joins
+use Rattle.replay_cases.specs.declared.operator.Operator.{Operator}
+use Rattle.replay_cases.specs.declared.operator.Operator.TheVariants as operators
+use Rattle.replay_cases.specs.Notation.{named_in, IsTextWord, IsSpelled, signed_value}
+use Rattle.replay_cases.specs.Reading.{Item, word, document, operator_of, operator_names, leaf_tree, wrapped, joined, BeginsWithText, Makes, Puts, Steps}
+use Rattle.replay_cases.specs.declared.refusal.Refusal.{Refusal}
+use Rattle.replay_cases.specs.Refusals.{Refuses}
+use Rattle.replay_cases.proofs.HexWords.{one_text}
+use Rattle.replay_cases.proofs.Refusing.{refuses_more}
+use Rattle.replay_cases.proofs.Operands.{text_names_none, number_names_none, offset_names_none}
+
+-- the items that the words leave
+abbrev pub Leaves : List (List ℕ) → List Item → Type 0
+Leaves [] items = items ≡ []
+Leaves (w ∷ ws) items = (before : List Item) × Leaves ws before × Steps w before items
+
+-- ---- words leave one list of items
+
+one_word : (a b : List ℕ) (r s : List Item) (items : List Item) → items ≡ word a ∷ r → items ≡ word b ∷ s → (a ≡ b) × (r ≡ s)
+one_word a b r s items h k = (cc, cc)
+
+one_document : (d e : Tree) (r s : List Item) (items : List Item) → items ≡ document d ∷ r → items ≡ document e ∷ s → (d ≡ e) × (r ≡ s)
+one_document d e r s items h k = (cc, cc)
+
+one_beginning : (items : List Item) (a b : List ℕ) (r s : List Item) → BeginsWithText items a r → BeginsWithText items b s → (a ≡ b) × (r ≡ s)
+one_beginning items a b r s h k =
+    let e = one_word h.0 k.0 r s items h.1 k.1 in
+    (one_text a b h.0 h.2 (subst (IsTextWord b) (sym e.0) k.2), e.1)
+
+makes_one : (o : Operator) (items : List Item) (d e : Tree) (r s : List Item) → Makes o items d r → Makes o items e s → (d ≡ e) × (r ≡ s)
+makes_one (operators.Leaf leaf) items d e r s h k = (h.0 ∙ sym k.0, sym h.1 ∙ k.1)
+makes_one operators.Text items d e r s h k =
+    let x = one_beginning items h.0 k.0 r s h.2 k.2 in
+    (h.1 ∙ ap t.Text x.0 ∙ sym k.1, x.1)
+makes_one operators.Payload items d e r s h k =
+    let x = one_beginning items h.0 k.0 r s h.2 k.2 in
+    (h.1 ∙ ap t.MultilineText x.0 ∙ sym k.1, x.1)
+makes_one operators.TextWithLen items d e r s (u, n, os, a, dd, begins, number, text) (v, m, ps, b, ee, begins', number', text') =
+    let x = one_word u v os ps items begins begins' in
+    let y = one_beginning os a b r s text (subst (λ (i : List Item). BeginsWithText i b s) (sym x.1) text') in
+    let same : n ≡ m = number.2 ∙ ap (digits_value 10) x.0 ∙ sym number'.2 in
+    (dd ∙ ap (λ (i : ℕ). t.TextWithLen i a) same ∙ ap (t.TextWithLen m) y.0 ∙ sym ee, y.1)
+makes_one operators.Nest items d e r s (u, k, inner, dd, begins, offset) (v, l, other, ee, begins', offset') =
+    let x = one_word u v (document inner ∷ r) (document other ∷ s) items begins begins' in
+    let y = one_document inner other r s (document inner ∷ r) refl x.1 in
+    let same : k ≡ l = offset.2 ∙ ap signed_value x.0 ∙ sym offset'.2 in
+    (dd ∙ ap (λ (i : ℤ). t.Nest i inner) same ∙ ap (t.Nest l) y.0 ∙ sym ee, y.1)
+makes_one (operators.Wrapper w) items d e r s h k =
+    let x = one_document h.0 k.0 r s items h.2 k.2 in
+    (h.1 ∙ ap (wrapped w) x.0 ∙ sym k.1, x.1)
+makes_one (operators.Join j) items d e r s (f, g, dd, begins) (f', g', ee, begins') =
+    let x = one_document f f' (document g ∷ r) (document g' ∷ s) items begins begins' in
+    let y = one_document g g' r s (document g ∷ r) refl x.1 in
+    (dd ∙ ap (λ (i : Tree). joined j i g) x.0 ∙ ap (joined j f') y.0 ∙ sym ee, y.1)
+
+-- a text without a line break makes no payload
+pub no_payload : (items left : List Item) (w s : List ℕ) → items ≡ word w ∷ left → IsTextWord s w → holds_break s ≡ false → (d : Tree) (rest : List Item) → Makes operators.Payload items d rest → ⊥
+no_payload items left w s begins text unbroken d rest makes =
+    let same = one_beginning items s makes.0 left rest (w, begins, text) makes.2 in
+    let e : true ≡ false = sym makes.3 ∙ ap holds_break (sym same.0) ∙ unbroken in
+    absurd cc
+
+puts_one : (o : Option Operator) (w : List ℕ) (items new other : List Item) → Puts o w items new → Puts o w items other → new ≡ other
+puts_one None w items new other h k = h ∙ sym k
+puts_one (Some o) w items new other (d, r, makes, is) (e, s, makes', is') =
+    let x = makes_one o items d e r s makes makes' in
+    is ∙ ap (λ (i : Tree). document i ∷ r) x.0 ∙ ap (λ (i : List Item). document e ∷ i) x.1 ∙ sym is'
+
+pub leaves_one : (ws : List (List ℕ)) (items others : List Item) → Leaves ws items → Leaves ws others → items ≡ others
+leaves_one [] items others h k = h ∙ sym k
+leaves_one (w ∷ ws) items others h k =
+    let before = leaves_one ws h.0 k.0 h.1 k.1 in
+    puts_one (operator_of w) w k.0 items others (subst (λ (i : List Item). Steps w i items) before h.2) k.2
+
+-- the last of the words leave something too
+pub last_leave : (front ws : List (List ℕ)) (items : List Item) → Leaves (front ++ ws) items → (before : List Item) × Leaves ws before
+last_leave [] ws items h = (items, h)
+last_leave (w ∷ front) ws items h = last_leave front ws h.0 h.1
+
+-- ---- what was read is spelled so
+
+abbrev pub AreSpelled : List Item → List (List ℕ) → Type 0
+AreSpelled [] ws = ws ≡ []
+AreSpelled (word w ∷ items) ws = (others : List (List ℕ)) × (ws ≡ w ∷ others) × AreSpelled items others
+AreSpelled (document d ∷ items) ws = (front : List (List ℕ)) × (others : List (List ℕ)) × (ws ≡ front ++ others) × IsSpelled d front × AreSpelled items others
+
+abbrev name_of : Operator → List ℕ
+name_of (operators.Leaf leaves.Nil) = codes "nil"
+name_of (operators.Leaf leaves.Fail) = codes "fail"
+name_of (operators.Leaf leaves.WeakSpace) = codes "ws"
+name_of (operators.Leaf leaves.HardLine) = codes "hl"
+name_of (operators.Leaf leaves.WeakLine) = codes "wl"
+name_of (operators.Leaf leaves.ExpandParent) = codes "exp"
+name_of operators.Text = codes "t"
+name_of operators.TextWithLen = codes "w"
+name_of operators.Payload = codes "m"
+name_of operators.Nest = codes "nest"
+name_of (operators.Wrapper wrappers.LineSuffix) = codes "sfx"
+name_of (operators.Wrapper wrappers.DedentToRoot) = codes "root"
+name_of (operators.Wrapper wrappers.Align) = codes "align"
+name_of (operators.Wrapper wrappers.Flatten) = codes "flat"
+name_of (operators.Wrapper wrappers.Group) = codes "grp"
+name_of (operators.Join joins.Append) = codes "app"
+name_of (operators.Join joins.BreakOrFlat) = codes "bof"
+name_of (operators.Join joins.Union) = codes "uni"
+name_of (operators.Join joins.PartialUnion) = codes "puni"
+
+abbrev AreNames : List (List ℕ × Operator) → Type 0
+AreNames [] = Unit {0}
+AreNames (e ∷ es) = (e.0 ≡ name_of e.1) × AreNames es
+
+some_is : (o p : Operator) → Some o ≡ Some p → o ≡ p
+some_is o p e = cc
+
+named_first : (b : Bool) (w : List ℕ) (e : List ℕ × Operator) (es : List (List ℕ × Operator)) (o : Operator) → (b ≡ true → w ≡ e.0) → e.0 ≡ name_of e.1 → (named_in es w ≡ Some o → w ≡ name_of o)
+    → (if b then Some e.1 else named_in es w) ≡ Some o → w ≡ name_of o
+named_first true w e es o same name others h = same refl ∙ name ∙ ap name_of (some_is e.1 o h)
+named_first false w e es o same name others h = others h
+
+is_named : (es : List (List ℕ × Operator)) (w : List ℕ) (o : Operator) → AreNames es → named_in es w ≡ Some o → w ≡ name_of o
+is_named [] w o names h = absurd cc
+is_named (e ∷ es) w o names h = named_first (bytes_eq w e.0) w e es o (bytes_eq-Decides w e.0).0 names.0 (is_named es w o names.1) h
+
+operator_is : (w : List ℕ) (o : Operator) → operator_of w ≡ Some o → w ≡ name_of o
+operator_is w o h = is_named operator_names w o (search rules) h
+
+leaf_spelled : (leaf : Leaf) → IsSpelled (leaf_tree leaf) (name_of (operators.Leaf leaf) ∷ [])
+leaf_spelled leaves.Nil = refl
+leaf_spelled leaves.Fail = refl
+leaf_spelled leaves.WeakSpace = refl
+leaf_spelled leaves.HardLine = refl
+leaf_spelled leaves.WeakLine = refl
+leaf_spelled leaves.ExpandParent = refl
+
+wrapper_spelled : (w : Wrapper) (d : Tree) (ws : List (List ℕ)) → IsSpelled d ws → IsSpelled (wrapped w d) (name_of (operators.Wrapper w) ∷ ws)
+wrapper_spelled wrappers.LineSuffix d ws h = (ws, refl, h)
+wrapper_spelled wrappers.DedentToRoot d ws h = (ws, refl, h)
+wrapper_spelled wrappers.Align d ws h = (ws, refl, h)
+wrapper_spelled wrappers.Flatten d ws h = (ws, refl, h)
+wrapper_spelled wrappers.Group d ws h = (ws, refl, h)
+
+join_spelled : (j : Join) (d e : Tree) (us vs : List (List ℕ)) → IsSpelled d us → IsSpelled e vs → IsSpelled (joined j d e) (name_of (operators.Join j) ∷ us ++ vs)
+join_spelled joins.Append d e us vs h k = (us, vs, refl, h, k)
+join_spelled joins.BreakOrFlat d e us vs h k = (us, vs, refl, h, k)
+join_spelled joins.Union d e us vs h k = (us, vs, refl, h, k)
+join_spelled joins.PartialUnion d e us vs h k = (us, vs, refl, h, k)
+
+-- these words spell the document, and the others the items behind it
+spells : (d : Tree) (items : List Item) (front others ws : List (List ℕ)) → IsSpelled d front → AreSpelled items others → ws ≡ front ++ others → AreSpelled (document d ∷ items) ws
+spells d items front others ws h k e = (front, others, e, h, k)
+
+abbrev Spells : List (List ℕ) → List Item → Type 0
+Spells ws items = AreSpelled items ws
+
+makes_spelled : (o : Operator) (items : List Item) (d : Tree) (rest : List Item) (ws : List (List ℕ)) → Makes o items d rest → AreSpelled items ws → AreSpelled (document d ∷ rest) (name_of o ∷ ws)
+makes_spelled (operators.Leaf leaf) items d rest ws h k =
+    spells d rest (name_of (operators.Leaf leaf) ∷ []) ws _ (subst (λ (x : Tree). IsSpelled x (name_of (operators.Leaf leaf) ∷ [])) (sym h.0) (leaf_spelled leaf)) (subst (Spells ws) h.1 k) refl
+makes_spelled operators.Text items d rest ws (s, is, (w, begins, text)) k =
+    let x = subst (Spells ws) begins k in
+    spells d rest (codes "t" ∷ w ∷ []) x.0 _ (subst (λ (y : Tree). IsSpelled y (codes "t" ∷ w ∷ [])) (sym is) (w, refl, text)) x.2 (ap (λ (y : List (List ℕ)). codes "t" ∷ y) x.1)
+makes_spelled operators.Payload items d rest ws (s, is, (w, begins, text), broken) k =
+    let x = subst (Spells ws) begins k in
+    spells d rest (codes "m" ∷ w ∷ []) x.0 _ (subst (λ (y : Tree). IsSpelled y (codes "m" ∷ w ∷ [])) (sym is) (w, refl, text, broken)) x.2 (ap (λ (y : List (List ℕ)). codes "m" ∷ y) x.1)
+makes_spelled operators.TextWithLen items d rest ws (u, n, os, s, is, begins, number, (w, begins', text)) k =
+    let x = subst (Spells ws) begins k in
+    let y = subst (Spells x.0) begins' x.2 in
+    spells d rest (codes "w" ∷ u ∷ w ∷ []) y.0 _ (subst (λ (z : Tree). IsSpelled z (codes "w" ∷ u ∷ w ∷ [])) (sym is) (u, w, refl, number, text)) y.2
+    (ap (λ (z : List (List ℕ)). codes "w" ∷ z) (x.1 ∙ ap (λ (z : List (List ℕ)). u ∷ z) y.1))
+makes_spelled operators.Nest items d rest ws (u, k', inner, is, begins, offset) k =
+    let x = subst (Spells ws) begins k in
+    let y = x.2 in
+    spells d rest (codes "nest" ∷ u ∷ y.0) y.1 _ (subst (λ (z : Tree). IsSpelled z (codes "nest" ∷ u ∷ y.0)) (sym is) (u, y.0, refl, offset, y.3)) y.4
+    (ap (λ (z : List (List ℕ)). codes "nest" ∷ z) (x.1 ∙ ap (λ (z : List (List ℕ)). u ∷ z) y.2))
+makes_spelled (operators.Wrapper w) items d rest ws h k =
+    let x = subst (Spells ws) h.2 k in
+    let name = name_of (operators.Wrapper w) in
+    spells d rest (name ∷ x.0) x.1 _ (subst (λ (z : Tree). IsSpelled z (name ∷ x.0)) (sym h.1) (wrapper_spelled w h.0 x.0 x.3)) x.4 (ap (λ (z : List (List ℕ)). name ∷ z) x.2)
+makes_spelled (operators.Join j) items d rest ws (f, g, is, begins) k =
+    let x = subst (Spells ws) begins k in
+    let y = x.4 in
+    let name = name_of (operators.Join j) in
+    spells d rest (name ∷ x.0 ++ y.0) y.1 _ (subst (λ (z : Tree). IsSpelled z (name ∷ x.0 ++ y.0)) (sym is) (join_spelled j f g x.0 y.0 x.3 y.3)) y.4
+    (ap (λ (z : List (List ℕ)). name ∷ z) (x.2 ∙ ap (λ (z : List (List ℕ)). x.0 ++ z) y.2 ∙ sym (append_assoc x.0 y.0 y.1)))
+
+puts_spelled : (o : Option Operator) (w : List ℕ) (before items : List Item) (ws : List (List ℕ)) → operator_of w ≡ o → Puts o w before items → AreSpelled before ws → AreSpelled items (w ∷ ws)
+puts_spelled None w before items ws e h k = subst (Spells (w ∷ ws)) (sym h) (ws, refl, k)
+puts_spelled (Some o) w before items ws e (d, rest, makes, is) k =
+    subst (Spells (w ∷ ws)) (sym is) (subst (λ (x : List ℕ). AreSpelled (document d ∷ rest) (x ∷ ws)) (sym (operator_is w o e)) (makes_spelled o before d rest ws makes k))
+
+leaves_spelled : (ws : List (List ℕ)) (items : List Item) → Leaves ws items → AreSpelled items ws
+leaves_spelled [] items h = subst (Spells []) (sym h) refl
+leaves_spelled (w ∷ ws) items h = puts_spelled (operator_of w) w h.0 items ws refl h.2 (leaves_spelled ws h.0 h.1)
+
+pub left_is_spelled : (ws : List (List ℕ)) (d : Tree) → Leaves ws (document d ∷ []) → IsSpelled d ws
+left_is_spelled ws d h =
+    let x = leaves_spelled ws (document d ∷ []) h in
+    subst (IsSpelled d) (sym (x.2 ∙ ap (λ (z : List (List ℕ)). x.0 ++ z) x.4 ∙ append-nil x.0)) x.3
+
+-- ---- what is spelled so is read
+
+-- the words that begin with these leave the document, where the others leave the items
+abbrev IsLeft : Tree → List (List ℕ) → List (List ℕ) → List Item → Type 0
+IsLeft d ws others items = Leaves (ws ++ others) (document d ∷ items)
+
+-- a word that names no operator is left as it stands
+word_left : (w : List ℕ) (others : List (List ℕ)) (items : List Item) → operator_of w ≡ None → Leaves others items → Leaves (w ∷ others) (word w ∷ items)
+word_left w others items e h = (items, h, rw e refl)
+
+-- an operator leaves what it makes
+made_left : (name : List ℕ) (o : Operator) (others : List (List ℕ)) (before items : List Item) (d : Tree) → operator_of name ≡ Some o → Leaves others before → Makes o before d items → Leaves (name ∷ others) (document d ∷ items)
+made_left name o others before items d e h makes = (before, h, rw e (d, items, makes, refl))
+
+leaf_left : (name : List ℕ) (leaf : Leaf) (ws others : List (List ℕ)) (items : List Item) → operator_of name ≡ Some (operators.Leaf leaf) → ws ≡ name ∷ [] → Leaves others items → IsLeft (leaf_tree leaf) ws others items
+leaf_left name leaf ws others items e is h =
+    subst (λ (x : List (List ℕ)). IsLeft (leaf_tree leaf) x others items) (sym is) (made_left name (operators.Leaf leaf) others items items (leaf_tree leaf) e h (refl, refl))
+
+wrapper_left : (name : List ℕ) (w : Wrapper) (d : Tree) (inner ws others : List (List ℕ)) (items : List Item) → operator_of name ≡ Some (operators.Wrapper w) → ws ≡ name ∷ inner → IsLeft d inner others items → IsLeft (wrapped w d) ws others items
+wrapper_left name w d inner ws others items e is h =
+    subst (λ (x : List (List ℕ)). IsLeft (wrapped w d) x others items) (sym is) (made_left name (operators.Wrapper w) (inner ++ others) (document d ∷ items) items (wrapped w d) e h (d, refl, refl))
+
+join_left : (name : List ℕ) (j : Join) (d f : Tree) (us vs ws others : List (List ℕ)) (items : List Item) → operator_of name ≡ Some (operators.Join j) → ws ≡ name ∷ us ++ vs
+    → IsLeft d us (vs ++ others) (document f ∷ items) → IsLeft (joined j d f) ws others items
+join_left name j d f us vs ws others items e is h =
+    let regrouped = subst (λ (x : List (List ℕ)). Leaves x (document d ∷ document f ∷ items)) (sym (append_assoc us vs others)) h in
+    subst (λ (x : List (List ℕ)). IsLeft (joined j d f) x others items) (sym is) (made_left name (operators.Join j) ((us ++ vs) ++ others) (document d ∷ document f ∷ items) items (joined j d f) e regrouped (d, f, refl, refl))
+
+spelled_is_left : (d : Tree) (ws others : List (List ℕ)) (items : List Item) → IsSpelled d ws → Leaves others items → IsLeft d ws others items
+spelled_is_left t.Nil ws others items h k = leaf_left (codes "nil") leaves.Nil ws others items refl h k
+spelled_is_left t.Fail ws others items h k = leaf_left (codes "fail") leaves.Fail ws others items refl h k
+spelled_is_left (t.Text s) ws others items (w, is, text) k =
+    subst (λ (x : List (List ℕ)). IsLeft (t.Text s) x others items) (sym is)
+    (made_left (codes "t") operators.Text (w ∷ others) (word w ∷ items) items (t.Text s) refl (word_left w others items (text_names_none s w text) k) (s, refl, (w, refl, text)))
+spelled_is_left (t.TextWithLen n s) ws others items (u, w, is, number, text) k =
+    let text_left = word_left w others items (text_names_none s w text) k in
+    let both_left = word_left u (w ∷ others) (word w ∷ items) (number_names_none n u number) text_left in
+    subst (λ (x : List (List ℕ)). IsLeft (t.TextWithLen n s) x others items) (sym is)
+    (made_left (codes "w") operators.TextWithLen (u ∷ w ∷ others) (word u ∷ word w ∷ items) items (t.TextWithLen n s) refl both_left (u, n, word w ∷ items, s, refl, refl, number, (w, refl, text)))
+spelled_is_left (t.MultilineText s) ws others items (w, is, text, broken) k =
+    subst (λ (x : List (List ℕ)). IsLeft (t.MultilineText s) x others items) (sym is)
+    (made_left (codes "m") operators.Payload (w ∷ others) (word w ∷ items) items (t.MultilineText s) refl (word_left w others items (text_names_none s w text) k) (s, refl, (w, refl, text), broken))
+spelled_is_left t.WeakSpace ws others items h k = leaf_left (codes "ws") leaves.WeakSpace ws others items refl h k
+spelled_is_left t.HardLine ws others items h k = leaf_left (codes "hl") leaves.HardLine ws others items refl h k
+spelled_is_left t.WeakLine ws others items h k = leaf_left (codes "wl") leaves.WeakLine ws others items refl h k
+spelled_is_left (t.Append l r) ws others items (us, vs, is, first, second) k =
+    join_left (codes "app") joins.Append l r us vs ws others items refl is (spelled_is_left l us (vs ++ others) (document r ∷ items) first (spelled_is_left r vs others items second k))
+spelled_is_left (t.LineSuffix d) ws others items (inner, is, h) k = wrapper_left (codes "sfx") wrappers.LineSuffix d inner ws others items refl is (spelled_is_left d inner others items h k)
+spelled_is_left (t.Nest n d) ws others items (u, inner, is, offset, h) k =
+    let inner_left = spelled_is_left d inner others items h k in
+    subst (λ (x : List (List ℕ)). IsLeft (t.Nest n d) x others items) (sym is)
+    (made_left (codes "nest") operators.Nest (u ∷ inner ++ others) (word u ∷ document d ∷ items) items (t.Nest n d) refl (word_left u (inner ++ others) (document d ∷ items) (offset_names_none n u offset) inner_left) (u, n, d, refl, refl, offset))
+spelled_is_left (t.DedentToRoot d) ws others items (inner, is, h) k = wrapper_left (codes "root") wrappers.DedentToRoot d inner ws others items refl is (spelled_is_left d inner others items h k)
+spelled_is_left (t.Align d) ws others items (inner, is, h) k = wrapper_left (codes "align") wrappers.Align d inner ws others items refl is (spelled_is_left d inner others items h k)
+spelled_is_left t.ExpandParent ws others items h k = leaf_left (codes "exp") leaves.ExpandParent ws others items refl h k
+spelled_is_left (t.Flatten d) ws others items (inner, is, h) k = wrapper_left (codes "flat") wrappers.Flatten d inner ws others items refl is (spelled_is_left d inner others items h k)
+spelled_is_left (t.BreakOrFlat l r) ws others items (us, vs, is, first, second) k =
+    join_left (codes "bof") joins.BreakOrFlat l r us vs ws others items refl is (spelled_is_left l us (vs ++ others) (document r ∷ items) first (spelled_is_left r vs others items second k))
+spelled_is_left (t.Group d) ws others items (inner, is, h) k = wrapper_left (codes "grp") wrappers.Group d inner ws others items refl is (spelled_is_left d inner others items h k)
+spelled_is_left (t.Union l r) ws others items (us, vs, is, first, second) k =
+    join_left (codes "uni") joins.Union l r us vs ws others items refl is (spelled_is_left l us (vs ++ others) (document r ∷ items) first (spelled_is_left r vs others items second k))
+spelled_is_left (t.PartialUnion l r) ws others items (us, vs, is, first, second) k =
+    join_left (codes "puni") joins.PartialUnion l r us vs ws others items refl is (spelled_is_left l us (vs ++ others) (document r ∷ items) first (spelled_is_left r vs others items second k))
+
+pub spelled_leaves : (ws : List (List ℕ)) (d : Tree) → IsSpelled d ws → Leaves ws (document d ∷ [])
+spelled_leaves ws d h = subst (λ (x : List (List ℕ)). Leaves x (document d ∷ [])) (append-nil ws) (spelled_is_left d ws [] [] h refl)
+
+-- ---- one word
+
+pub steps_by_operator : (w : List ℕ) (o : Operator) (items rest new : List Item) (d : Tree) → operator_of w ≡ Some o → Makes o items d rest → new ≡ document d ∷ rest → Steps w items new
+steps_by_operator w o items rest new d e makes is = rw e (d, rest, makes, is)
+
+pub steps_by_word : (w : List ℕ) (items new : List Item) → operator_of w ≡ None → new ≡ word w ∷ items → Steps w items new
+steps_by_word w items new e is = rw e is
+
+-- ---- all the words
+
+-- where a word takes no step, the words spell nothing
+pub step_refused : (words front read : List (List ℕ)) (w : List ℕ) (before : List Item) (e : Refusal) → words ≡ front ++ w ∷ read → Leaves read before
+    → Refuses e ((new : List Item) → Steps w before new → ⊥) → Refuses e ((d : Tree) → IsSpelled d words → ⊥)
+step_refused words front read w before e parts left h =
+    refuses_more e _ _ (λ none d spelled.
+    let all = subst (λ (x : List (List ℕ)). Leaves x (document d ∷ [])) parts (spelled_leaves words d spelled) in
+    let behind = last_leave front (w ∷ read) (document d ∷ []) all in
+    let same = leaves_one read behind.1.0 before behind.1.1 left in
+    none behind.0 (subst (λ (x : List Item). Steps w x behind.0) same behind.1.2)) h
+
+-- where they leave no document on top, neither
+pub top_refused : (words : List (List ℕ)) (items : List Item) (e : Refusal) → Leaves words items
+    → Refuses e ((d : Tree) (rest : List Item) → items ≡ document d ∷ rest → ⊥) → Refuses e ((d : Tree) → IsSpelled d words → ⊥)
+top_refused words items e left h = refuses_more e _ _ (λ none d spelled. none d [] (leaves_one words items (document d ∷ []) left (spelled_leaves words d spelled))) h
+
+same_document : (d e : Tree) (rest : List Item) → document d ∷ [] ≡ document e ∷ rest → (d ≡ e) × (rest ≡ [])
+same_document d e rest h = (cc, cc)
+
+-- what they leave is what they spell, and nothing else
+pub spelled_is_top : (words : List (List ℕ)) (d e : Tree) (rest : List Item) → Leaves words (document e ∷ rest) → IsSpelled d words → (d ≡ e) × (rest ≡ [])
+spelled_is_top words d e rest left spelled = same_document d e rest (leaves_one words (document d ∷ []) (document e ∷ rest) (spelled_leaves words d spelled) left)
+
+-- ---- the words, as they lie in memory
+
+-- the words from a place on, one more
+one_more : (ws : List (Bor (List ℕ))) (at i : ℕ) (d : Bor (List ℕ)) → i + 1 ≡ at → at ≤ length ws → map (λ w. w.now) ws ≡ map (λ w. w.now) (take i ws) ++ (get_or ws i d).now ∷ map (λ w. w.now) (drop at ws)
+one_more ws at i d e le =
+    let now : Bor (List ℕ) → List ℕ = λ w. w.now in
+    let split : drop i ws ≡ get_or ws i d ∷ drop at ws = rw (← e) (drop_more ws i d (omega arith)) in
+    ap (map now) (sym (take-append-drop i ws)) ∙ map-append now (take i ws) (drop i ws) ∙ ap (λ (x : List (Bor (List ℕ))). map now (take i ws) ++ map now x) split
+
+-- where the word before a place takes no step, the words spell nothing
+pub place_refused : (ws : List (Bor (List ℕ))) (at i : ℕ) (d : Bor (List ℕ)) (before : List Item) (e : Refusal) → i + 1 ≡ at → at ≤ length ws → Leaves (map (λ w. w.now) (drop at ws)) before
+    → Refuses e ((new : List Item) → Steps (get_or ws i d).now before new → ⊥) → Refuses e ((t : Tree) → IsSpelled t (map (λ w. w.now) ws) → ⊥)
+place_refused ws at i d before e next le left h =
+    step_refused (map (λ w. w.now) ws) (map (λ w. w.now) (take i ws)) (map (λ w. w.now) (drop at ws)) (get_or ws i d).now before e (one_more ws at i d next le) left h

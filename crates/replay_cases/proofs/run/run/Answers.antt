@@ -1,0 +1,63 @@
+use Rattle.std.proofs.Common.{refl, ◌∙◌, ap, inl, inr}
+use Rattle.std.proofs.lemmas.Result.{err_from_is_err_and}
+use Rattle.prettyless_sink.specs.Sink.{rise}
+use Rattle.replay_cases.proofs.Lines.{answers_start, answers_one_more, answers_end, answers_stop, answers_break}
+use Rattle.replay_cases.proofs.run.run.Goals as goal
+
+pub loop-init : goal.loop-init
+loop-init g c = λ told. (told, answers_start (g.R.Read.remaining c.args.reader.now) (g.S.Render.written c.args.out.now), refl)
+
+pub loop-preserved : goal.loop-preserved
+loop-preserved g c = λ told.
+    let left = g.R.Read.remaining in
+    let written = g.S.Render.written in
+    let before = c.loop.invariant told in
+    let wrote = (rw c.deref.ensures.value at c.in_ok-answer.ensures) before.0 in
+    let answer = wrote.1 in (
+      wrote.0,
+      answers_one_more (left c.args.reader.now) (left c.loop.reader) (left c.next_line.new.reader) (written c.args.out.now) (written c.loop.out) (written c.answer.new.out) c.next_line.new.line.items answer.0 c.in_ok-next_line.field-0
+          c.if-not-branch.false before.1 c.in_ok-next_line.ensures.ok answer.1 answer.2.0,
+      answer.2.1 ∙ before.2,
+    )
+
+pub returns-then-not-branch : goal.returns-then-not-branch
+returns-then-not-branch g c = λ told.
+    let left = g.R.Read.remaining in
+    let written = g.S.Render.written in
+    let before = c.loop.invariant told in (
+      before.0,
+      (
+        answers_end (left c.args.reader.now) (left c.loop.reader) (left c.next_line.new.reader) (written c.args.out.now) (written c.loop.out) c.next_line.new.line.items c.in_ok-next_line.field-0
+            c.if-not-branch.true before.1 c.in_ok-next_line.ensures.ok,
+        before.2,
+      ),
+    )
+
+pub returns-in_err-next_line : goal.returns-in_err-next_line
+returns-in_err-next_line g c =
+    let p = err_from_is_err_and c.from_residual.result c.from_residual.ensures.1 in
+    rw p.1 (λ told.
+    let before = c.loop.invariant told in
+    (before.0, (answers_stop (g.R.Read.remaining c.args.reader.now) (g.R.Read.remaining c.loop.reader) (g.S.Render.written c.args.out.now) (g.S.Render.written c.loop.out) before.1, inl before.2)))
+
+pub returns-in_err-answer : goal.returns-in_err-answer
+returns-in_err-answer g c =
+    let left = g.R.Read.remaining in
+    let written = g.S.Render.written in
+    let p = err_from_is_err_and c.from_residual-in_err-answer.result c.from_residual-in_err-answer.ensures.1 in
+    rw p.1 (λ told.
+    let before = c.loop.invariant told in
+    let wrote = (rw c.deref.ensures.value at c.in_err-answer.ensures) before.0 in
+    let answer = wrote.1 in (
+      wrote.0,
+      (
+        answers_break (left c.args.reader.now) (left c.loop.reader) (left c.next_line.new.reader) (written c.args.out.now) (written c.loop.out) (written c.answer.new.out) c.next_line.new.line.items answer.0 c.in_ok-next_line.field-0
+            c.if-not-branch.false before.1 c.in_ok-next_line.ensures.ok answer.1 answer.2.0,
+        inr (answer.2.1 ∙ ap rise before.2),
+      ),
+    ))
+
+pub returns : goal.returns
+returns g c = λ told.
+    let before = c.loop.invariant told in
+    (before.0, (answers_stop (g.R.Read.remaining c.args.reader.now) (g.R.Read.remaining c.loop.reader) (g.S.Render.written c.args.out.now) (g.S.Render.written c.loop.out) before.1, inl before.2))

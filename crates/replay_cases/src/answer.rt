@@ -1,0 +1,39 @@
+ghost use Rattle.std.specs.Prelude.{◌≡◌, ◌∷◌, ◌++◌, []};
+ghost use Rattle.replay_cases.specs.Answers.{is_skipped, Writes, Answers};
+
+use crate::replayed::replayed;
+use prettyless::Render;
+use std::alloc::Global;
+
+// Nothing stands on the line, or a comment.
+fn is_skipped(line: &[u8]) -> bool
+    ensures { result ≡ is_skipped line.now }
+{
+    matches!(line, [] | [b'#', ..])
+}
+
+fn write_line<S: Render>(out: &mut S, label: &str, text: &str) -> Result<(), S::Error>
+    ensures { S.tells out.old → S.tells out.new
+        × Writes (label.now ++ text.now ++ 10 ∷ []) (S.written out.old) (S.written out.new) (S.failures out.old) (S.failures out.new) result }
+{
+    out.write_str_all(label)?;
+    out.write_str_all(text)?;
+    out.write_str_all("\n")
+}
+
+/// Writes the answer to a line, and LF: what comes of its case, or `error` and why it has none.
+///
+/// A blank line and a comment, which begins with `#`, have no answer. An error is the sink's: it then has a beginning of
+/// the answer, and got no piece after that.
+pub fn answer<S: Render>(alloc: Global, line: &[u8], out: &mut S) -> Result<(), S::Error>
+    ensures { S.tells out.old → S.tells out.new
+        × Answers line.now (S.written out.old) (S.written out.new) (S.failures out.old) (S.failures out.new) result }
+{
+    if is_skipped(line) {
+        return Ok(());
+    }
+    match replayed(alloc, line) {
+        Ok(outcome) => write_line(out, "", outcome.as_str()),
+        Err(refusal) => write_line(out, "error ", refusal.message()),
+    }
+}

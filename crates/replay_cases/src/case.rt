@@ -1,0 +1,77 @@
+ghost use Rattle.std.specs.Prelude.{◌≡◌, map, IfOk, IfErr, IfSome, IfNone};
+ghost use Rattle.prettyless_model.specs.declared.options.RenderOptions.{RenderOptions};
+ghost use Rattle.replay_cases.specs.Notation.{Case, Denotes, AreOptions, named_in, line_endings, indentation_policies, case_words};
+ghost use Rattle.replay_cases.specs.Cases.{case_of};
+ghost use Rattle.replay_cases.specs.Refusals.{Refuses};
+
+use crate::number::number;
+use crate::pointer::{Place, Pointer};
+use crate::reading::read_document;
+use crate::refusal::Refusal;
+use prettyless::DocPlace;
+use prettyless_model::options::{IndentationPolicy, LineEnding, RenderOptions};
+use std::alloc::{AllocError, Global};
+
+/// A case that was read: a document, and what is asked of its layout.
+#[derive(Drop)]
+pub struct ReadCase<'a> {
+    pub options: RenderOptions,
+    pub document: Pointer<'a>,
+}
+
+fn line_ending(word: &[u8]) -> Option<LineEnding>
+    ensures { result ≡ named_in line_endings word.now }
+{
+    match word {
+        b"lf" => Some(LineEnding::Lf),
+        b"crlf" => Some(LineEnding::Crlf),
+        _ => None,
+    }
+}
+
+fn indentation_policy(word: &[u8]) -> Option<IndentationPolicy>
+    ensures { result ≡ named_in indentation_policies word.now }
+{
+    match word {
+        b"eager" => Some(IndentationPolicy::Eager),
+        b"deferred" => Some(IndentationPolicy::Deferred),
+        _ => None,
+    }
+}
+
+fn options(width: &[u8], ending: &[u8], policy: &[u8]) -> Option<RenderOptions>
+    ensures some { IfSome result (λ o. AreOptions o width.now ending.now policy.now) }
+    ensures none { IfNone result ((o : RenderOptions) → AreOptions o width.now ending.now policy.now → ⊥) }
+{
+    Some(RenderOptions {
+        width: number(width)?,
+        line_ending: line_ending(ending)?,
+        indentation_policy: indentation_policy(policy)?,
+    })
+}
+
+// The words of a line up to the first `=>`, or all.
+fn case_words<'a>(alloc: Global, line: &'a [u8]) -> Result<Vec<&'a [u8]>, AllocError>
+    ensures { IfOk result (λ v. map (λ w. w.now) v.items ≡ case_words line.now) }
+{
+    line.split(|byte| *byte == b' ')
+        .take_while(|word| *word != b"=>".as_slice())
+        .collect(alloc)
+}
+
+/// The case that a line writes.
+pub fn read_case<'a>(place: &'a Place<'a>, line: &'a [u8]) -> Result<ReadCase<'a>, Refusal>
+    ensures ok { IfOk result (λ c. Denotes line.now (case_of c)) }
+    // It is read as this case, and as no other.
+    ensures only { IfOk result (λ c. (d : Case) → Denotes line.now d → d ≡ case_of c) }
+    ensures err { IfErr result (λ e. Refuses e ((c : Case) → Denotes line.now c → ⊥)) }
+{
+    let words = case_words(place.memory(), line)?;
+    let [width, ending, policy, document @ ..] = words.as_slice() else {
+        return Err(Refusal::NotACase);
+    };
+    Ok(ReadCase {
+        options: options(width, ending, policy).ok_or(Refusal::NotACase)?,
+        document: read_document(place, document)?,
+    })
+}

@@ -1,0 +1,44 @@
+//! Texts as words: two digits for each byte, and `-` for no byte.
+ghost use Rattle.std.specs.Prelude.{◌≡◌, ℕ, List, IfOk, IfErr, codes};
+ghost use Rattle.std.specs.String.{string_bytes};
+ghost use Rattle.std.specs.Str.{IsUtf8};
+ghost use Rattle.replay_cases.specs.Notation.{hex_word, IsTextWord};
+ghost use Rattle.replay_cases.specs.Refusals.{Refuses};
+
+use crate::refusal::Refusal;
+use std::alloc::{AllocError, Global};
+
+/// The word that writes these bytes.
+pub fn word_of(alloc: Global, bytes: &[u8]) -> Result<String, AllocError>
+    ensures { IfOk result (λ w. string_bytes w ≡ hex_word bytes.now) }
+{
+    if bytes.is_empty() {
+        String::from_str(alloc, "-")
+    } else {
+        hex::encode(alloc, bytes)
+    }
+}
+
+// The bytes that the digits write, in upper case too, or none for `-`.
+fn decoded(alloc: Global, word: &[u8]) -> Result<Vec<u8>, Refusal>
+    ensures only { IfOk result (λ v. (s : List ℕ) → IsTextWord s word.now → s ≡ v.items) }
+    ensures err { IfErr result (λ e. Refuses e ((s : List ℕ) → IsTextWord s word.now → ⊥)) }
+{
+    if word == b"-".as_slice() {
+        return Ok(Vec::new(alloc));
+    }
+    Ok(hex::decode(alloc, word)?)
+}
+
+/// The text that a word writes.
+pub fn text(alloc: Global, word: &[u8]) -> Result<String, Refusal>
+    ensures ok { IfOk result (λ s. IsTextWord (string_bytes s) word.now) }
+    ensures err { IfErr result (λ e. Refuses e ((s : List ℕ) → IsTextWord s word.now → ⊥)) }
+{
+    let bytes = decoded(alloc, word)?;
+    // Each text has one word: upper case letters, or no digit at all, write none.
+    if word_of(alloc, &bytes)?.as_bytes() != word {
+        return Err(Refusal::NotACase);
+    }
+    String::from_utf8(bytes).map_err(|_| Refusal::NotACase)
+}

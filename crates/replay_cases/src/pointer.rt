@@ -1,0 +1,22 @@
+//! Where the nodes of a document that is read stand, and the pointer between them: their types are named here alone.
+ghost use Rattle.std.specs.Prelude.{◌≡◌, IfOk, IfErr};
+ghost use Rattle.prettyless.specs.DocTree.{tree_of};
+ghost use Rattle.replay_cases.specs.Pointers.{pointer_tree};
+ghost use Rattle.replay_cases.specs.declared.refusal.Refusal.TheVariants.{OutOfMemory};
+
+use crate::refusal::Refusal;
+use prettyless::{Arena, Doc, DocPlace, RefDoc};
+
+/// Where nodes stand. It gives them up all at once, so that giving up a deep document calls nothing for each node.
+pub type Place<'a> = Arena<'a>;
+
+/// The pointer between nodes.
+pub type Pointer<'a> = RefDoc<'a>;
+
+/// Puts a node in its place.
+pub fn put<'a>(place: &'a Place<'a>, doc: Doc<'a, Pointer<'a>>) -> Result<Pointer<'a>, Refusal>
+    ensures ok { IfOk result (λ p. pointer_tree p ≡ tree_of pointer_tree doc.entry) }
+    ensures err { IfErr result (λ e. e ≡ OutOfMemory) }
+{
+    Ok(place.alloc(doc)?)
+}

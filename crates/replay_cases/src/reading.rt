@@ -1,0 +1,113 @@
+ghost use Rattle.std.specs.Prelude.{◌≡◌, ℕ, List, map, IfOk, OnOk, IfErr};
+ghost use Rattle.prettyless.specs.DocTree.{tree_of};
+ghost use Rattle.prettyless.specs.TextBytes.{bytes_of};
+ghost use Rattle.prettyless.specs.Tree.{Tree};
+ghost use Rattle.replay_cases.specs.Notation.{IsSpelled};
+ghost use Rattle.replay_cases.specs.Pointers.{pointer_tree};
+ghost use Rattle.replay_cases.specs.Reading.{Item, items_of, BeginsWithText, Makes, Steps};
+ghost use Rattle.replay_cases.specs.Refusals.{Refuses};
+ghost use Rattle.replay_cases.specs.declared.operator.Operator.TheVariants.{Payload};
+
+use crate::hexadecimal::text;
+use crate::number::{number, offset};
+use crate::operand::{Operand, take_document, take_word};
+use crate::operator::{Operator, operator_named};
+use crate::pointer::{Place, Pointer, put};
+use crate::refusal::Refusal;
+use prettyless::text::{CowStr, Text};
+use prettyless::{Doc, DocPlace};
+use prettyless_doc::measure::holds_break;
+use std::alloc::Global;
+
+// Takes the text whose word comes next.
+fn take_text<'a>(alloc: Global, operands: &mut Vec<Operand<'a>>) -> Result<Text<'a>, Refusal>
+    ensures ok { IfOk result (λ s. BeginsWithText (items_of operands.old.items) (bytes_of s) (items_of operands.new.items)) }
+    ensures err { IfErr result (λ e. Refuses e ((s : List ℕ) (rest : List Item) → BeginsWithText (items_of operands.old.items) s rest → ⊥)) }
+{
+    let text = text(alloc, take_word(operands)?)?;
+    Ok(Text::from_cow(alloc, CowStr::Owned(text))?)
+}
+
+// Takes the payload whose word comes next: a text that holds a line break.
+fn take_payload<'a>(
+    alloc: Global,
+    operands: &mut Vec<Operand<'a>>,
+) -> Result<Doc<'a, Pointer<'a>>, Refusal>
+    ensures ok { IfOk result (λ d. Makes Payload (items_of operands.old.items) (tree_of pointer_tree d) (items_of operands.new.items)) }
+    ensures err { IfErr result (λ e. Refuses e ((d : Tree) (rest : List Item) → Makes Payload (items_of operands.old.items) d rest → ⊥)) }
+{
+    let text = text(alloc, take_word(operands)?)?;
+    if !holds_break(text.as_str()) {
+        return Err(Refusal::NotACase);
+    }
+    Ok(Doc::multiline_text(alloc, CowStr::Owned(text))?)
+}
+
+// Takes what comes behind an operator, and makes the operator's document of it.
+fn make<'a>(
+    place: &'a Place<'a>,
+    operator: Operator,
+    operands: &mut Vec<Operand<'a>>,
+) -> Result<Pointer<'a>, Refusal>
+    ensures ok { IfOk result (λ d. Makes operator (items_of operands.old.items) (pointer_tree d) (items_of operands.new.items)) }
+    ensures err { IfErr result (λ e. Refuses e ((d : Tree) (rest : List Item) → Makes operator (items_of operands.old.items) d rest → ⊥)) }
+{
+    match operator {
+        Operator::Leaf(leaf) => put(place, leaf.doc()),
+        Operator::Text => put(place, Doc::Text(take_text(place.memory(), operands)?)),
+        Operator::TextWithLen => {
+            let width = number(take_word(operands)?).ok_or(Refusal::NotACase)?;
+            let text = take_text(place.memory(), operands)?;
+            put(place, Doc::TextWithLen(width, text))
+        }
+        Operator::Payload => put(place, take_payload(place.memory(), operands)?),
+        Operator::Nest => {
+            let offset = offset(take_word(operands)?).ok_or(Refusal::NotACase)?;
+            let inner = take_document(operands)?;
+            put(place, Doc::Nest(offset, inner))
+        }
+        Operator::Wrapper(wrapper) => put(place, wrapper.doc(take_document(operands)?)),
+        Operator::Join(join) => {
+            let first = take_document(operands)?;
+            let second = take_document(operands)?;
+            put(place, join.doc(first, second))
+        }
+    }
+}
+
+// Puts one word more in front: an operator makes a document of what comes behind it.
+fn put_in_front<'a>(
+    place: &'a Place<'a>,
+    word: &'a [u8],
+    operands: &mut Vec<Operand<'a>>,
+) -> Result<(), Refusal>
+    ensures ok { OnOk result (Steps word.now (items_of operands.old.items) (items_of operands.new.items)) }
+    ensures err { IfErr result (λ e. Refuses e ((new : List Item) → Steps word.now (items_of operands.old.items) new → ⊥)) }
+{
+    let operand = match operator_named(word) {
+        Some(operator) => Operand::Document(make(place, operator, operands)?),
+        None => Operand::Word(word),
+    };
+    operands.push(operand)?;
+    Ok(())
+}
+
+/// The document that the words write, all of them.
+pub fn read_document<'a>(place: &'a Place<'a>, words: &[&'a [u8]]) -> Result<Pointer<'a>, Refusal>
+    ensures ok { IfOk result (λ d. IsSpelled (pointer_tree d) (map (λ w. w.now) words.now)) }
+    ensures only { IfOk result (λ d. (t : Tree) → IsSpelled t (map (λ w. w.now) words.now) → t ≡ pointer_tree d) }
+    ensures err { IfErr result (λ e. Refuses e ((t : Tree) → IsSpelled t (map (λ w. w.now) words.now) → ⊥)) }
+{
+    let mut operands = Vec::new(place.memory());
+    let mut at = words.len();
+    while at > 0 {
+        at -= 1;
+        put_in_front(place, words[at], &mut operands)?;
+    }
+    let document = take_document(&mut operands)?;
+    if operands.is_empty() {
+        Ok(document)
+    } else {
+        Err(Refusal::NotACase)
+    }
+}

@@ -1,0 +1,48 @@
+ghost use Rattle.std.specs.Prelude.{IfOk, IfSome, OnErr};
+ghost use Rattle.std.specs.Io.KnownBytes.{Consumes};
+ghost use Rattle.replay_cases.specs.Runs.{ReadsLine, Runs};
+
+use crate::answer::answer;
+use prettyless::Render;
+use std::alloc::Global;
+use std::io;
+use std::io::{BufRead, ErrorKind};
+
+// Reads the next line, without the LF behind it. It is false where none is left. Where the reader fails, the bytes that
+// it gave stand on the line.
+fn next_line<R: BufRead>(reader: &mut R, line: &mut Vec<u8>) -> io::Result<bool>
+    ensures ok { IfOk result (λ found. IfSome (R.remaining reader.old) (λ bytes. ReadsLine found bytes line.new.items (R.remaining reader.new))) }
+    ensures err { OnErr result (Consumes (R.remaining reader.old) (R.remaining reader.new) line.new.items) }
+{
+    line.clear();
+    if reader.read_until(b'\n', line)? == 0 {
+        return Ok(false);
+    }
+    if line.ends_with(b"\n".as_slice()) {
+        line.pop();
+    }
+    Ok(true)
+}
+
+/// Answers the lines of a reader to its end, one after the other. Where the reader and the sink tell their bytes, what was
+/// written answers each of them, in order.
+///
+/// It stops at an error of the reader or the sink, and after 2^64 - 1 lines. The sink then has
+/// a beginning of the answers.
+pub fn run<R: BufRead, S: Render<Error = io::Error>>(
+    alloc: Global,
+    reader: &mut R,
+    out: &mut S,
+) -> io::Result<()>
+    ensures { S.tells out.old → S.tells out.new
+        × Runs (R.remaining reader.old) (S.written out.old) (S.written out.new) (S.failures out.old) (S.failures out.new) result }
+{
+    let mut line = Vec::new(alloc);
+    for _ in 0..u64::MAX {
+        if !next_line(reader, &mut line)? {
+            return Ok(());
+        }
+        answer(alloc, &line, out)?;
+    }
+    Err(io::Error::from(ErrorKind::FileTooLarge))
+}

@@ -1,0 +1,88 @@
+-- What was read and written in a run, put together.
+use Rattle.std.proofs.Common.{◌≡◌, ℕ, ◌<◌, List, [], ◌∷◌, ◌++◌, length, length-append, append_assoc, Option, Some, None, Result, Ok, Err, refl, sym, ap, subst, ◌∙◌, ◌⊎◌, inl, inr, arith}
+use Rattle.std.specs.Prelude.{OnOk, OnErr, IfErr, IsErrAnd}
+use Rattle.std.specs.Io.KnownBytes.{Appends, Consumes, IsAtEnd}
+use Rattle.std.proofs.KnownBytes.{Appends-nil, Appends-trans}
+use Rattle.std.proofs.lemmas.List.{append-nil}
+use Rattle.prettyless.specs.Layout.{Whole, bytes_in}
+use Rattle.prettyless.specs.Renders.{RendersKnown}
+use Rattle.prettyless_model.specs.declared.options.RenderOptions.{RenderOptions}
+use Rattle.prettyless_sink.specs.declared.error.RenderError.{RenderError}
+use Rattle.prettyless_sink.specs.declared.error.RenderError.TheVariants as stops
+use Rattle.sexp_formatter.specs.Value.{Value}
+use Rattle.sexp_formatter.specs.Grammar.{line_feed, Reads}
+use Rattle.sexp_formatter.specs.Transfer.{IsMemory, IsWriting, AppendsBeginning}
+use Rattle.sexp_formatter.specs.Runs.{layout_of, WritesBeginning, Writes, GivesValue, Runs}
+use Rattle.sexp_formatter.specs.declared.error.RunError.{RunError}
+use Rattle.sexp_formatter.specs.declared.error.RunError.TheVariants.{NotAnSexp, Memory, Read, Write}
+use Rattle.sexp_formatter.proofs.Total.{layout_not_cut, layout_whole}
+
+-- what was read is all that was given, where it is short enough to be read as a value
+pub gives_value : (given left : Option (List ℕ)) (input : List ℕ) (v : Value) → Consumes given left input → IsAtEnd left ⊎ (1048576 < length input) → Reads input v → GivesValue given v
+gives_value None left input v taken all r = (input, tt, r)
+gives_value (Some bytes) None input v taken all r = absurd taken
+gives_value (Some bytes) (Some rest) input v taken (inl end) r = (input, taken ∙ ap (λ (x : List ℕ). input ++ x) end ∙ append-nil input, r)
+gives_value (Some bytes) (Some rest) input v taken (inr long) r = absurd (omega (arith, r.size))
+
+-- ---- the layout
+
+-- a beginning of the layout, which its line feed is missing behind
+begins : (o : RenderOptions) (v : Value) (old new : Option (List ℕ)) (front back : List ℕ) → bytes_in (layout_of o v) ≡ front ++ back → Appends old new front → WritesBeginning o v old new
+begins o v old new front back e appended = (
+  front,
+  back ++ line_feed ∷ [],
+  ap (λ (x : List ℕ). x ++ line_feed ∷ []) e ∙ append_assoc front back (line_feed ∷ []),
+  omega (arith, length-append back (line_feed ∷ [])),
+  appended,
+)
+
+-- nothing of it was written
+pub not_begun : {A : Type 0} (o : RenderOptions) (v : Value) (old : Option (List ℕ)) (r : Result A RunError) (e : RunError) → IsErrAnd r (λ f. f ≡ e) → IsMemory e → Writes o v old old r
+not_begun o v old (Ok done) e failed refused = absurd failed
+not_begun o v old (Err (Memory f)) e failed refused = begins o v old old [] (bytes_in (layout_of o v)) refl (Appends-nil old)
+not_begun o v old (Err NotAnSexp) e failed refused = subst IsMemory (sym failed) refused
+not_begun o v old (Err (Read f)) e failed refused = absurd (subst IsMemory (sym failed) refused)
+not_begun o v old (Err (Write f)) e failed refused = absurd (subst IsMemory (sym failed) refused)
+
+-- a render stopped, which the document did not fail
+pub begun : (A : Type 0) {E : Type 0} (fails : E → Type 0) (o : RenderOptions) (v : Value) (old new : Option (List ℕ)) (e : RenderError E) → RendersKnown {A = A} fails (layout_of o v) old new (Err e) → WritesBeginning o v old new
+begun A fails o v None new e rendered = begins o v None new [] (bytes_in (layout_of o v)) refl tt
+begun A fails o v (Some x) None e rendered = absurd rendered
+begun A fails o v (Some x) (Some y) (stops.Document d) rendered = absurd (layout_not_cut o v rendered.0 rendered.1)
+begun A fails o v (Some x) (Some y) (stops.Sink d) rendered = begins o v (Some x) (Some y) rendered.0 rendered.1 rendered.2 rendered.3
+begun A fails o v (Some x) (Some y) (stops.Memory d) rendered = begins o v (Some x) (Some y) rendered.0 rendered.1 rendered.2 rendered.3
+
+-- all of it was written
+abbrev IsLaid : RenderOptions → Value → Option (List ℕ) → Option (List ℕ) → Type 0
+IsLaid o v old new = (bytes : List ℕ) × (layout_of o v ≡ Whole bytes) × Appends old new bytes
+
+pub laid : {A E : Type 0} (fails : E → Type 0) (o : RenderOptions) (v : Value) (old new : Option (List ℕ)) (done : A) → RendersKnown fails (layout_of o v) old new (Ok done) → IsLaid o v old new
+laid fails o v None new done rendered = ((layout_whole o v).0, (layout_whole o v).1, tt)
+laid fails o v (Some x) None done rendered = absurd rendered
+laid fails o v (Some x) (Some y) done rendered = rendered
+
+-- ---- the line feed behind it
+
+pub line_ended : {A : Type 0} (o : RenderOptions) (v : Value) (old mid new : Option (List ℕ)) (r : Result A RunError) → IsLaid o v old mid
+    → OnOk r (Appends mid new (line_feed ∷ [])) → OnErr r (AppendsBeginning mid new (line_feed ∷ [])) → IfErr r IsWriting → Writes o v old new r
+line_ended o v old mid new (Ok done) whole ok beginning err = (whole.0, whole.1, Appends-trans old mid new whole.0 (line_feed ∷ []) whole.2 ok)
+line_ended o v old mid new (Err NotAnSexp) whole ok beginning err = absurd err
+line_ended o v old mid new (Err (Memory e)) whole ok beginning err = absurd err
+line_ended o v old mid new (Err (Read e)) whole ok beginning err = absurd err
+line_ended o v old mid new (Err (Write e)) whole ok b err = (
+  whole.0 ++ b.0,
+  b.1,
+  ap (λ y. bytes_in y ++ line_feed ∷ []) whole.1 ∙ ap (λ (x : List ℕ). whole.0 ++ x) b.2 ∙ sym (append_assoc whole.0 b.0 b.1),
+  b.3,
+  Appends-trans old mid new whole.0 b.0 whole.2 b.4,
+)
+
+-- ---- both
+
+-- what was written is of the value that was given
+pub ran : {A : Type 0} (o : RenderOptions) (given old new : Option (List ℕ)) (v : Value) (r : Result A RunError) → GivesValue given v → Writes o v old new r → Runs o given old new r
+ran o given old new v (Ok done) gives written = (v, gives, written)
+ran o given old new v (Err NotAnSexp) gives written = absurd written
+ran o given old new v (Err (Read e)) gives written = absurd written
+ran o given old new v (Err (Memory e)) gives written = inr (v, gives, written)
+ran o given old new v (Err (Write e)) gives written = (v, gives, written)

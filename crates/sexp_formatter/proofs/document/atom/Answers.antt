@@ -1,0 +1,16 @@
+use Rattle.std.proofs.Common.{◌≡◌, ◌<◌, ◌^◌, ◌∙◌, ℕ, true, refl, ap, arith}
+use Rattle.std.specs.Fmt.{decimal}
+use Rattle.std.proofs.lemmas.Fmt.{IsAscii-decimal}
+use Rattle.prettyless.specs.Counted.{as_string}
+use Rattle.prettyless.specs.Tree.{Text}
+use Rattle.prettyless_doc.proofs.Ascii.{same_ascii}
+use Rattle.sexp_formatter.proofs.document.atom.Goals as goal
+
+-- digits are ASCII
+counts_digits : (n : ℕ) → n < 2 ^ 64 → as_string (decimal n) ≡ Text (decimal n)
+counts_digits n small = rw (← same_ascii true (decimal n) (IsAscii-decimal n small)) refl
+
+pub returns-clause-ok : goal.returns-clause-ok
+returns-clause-ok g c =
+    let shown = c.in_ok-as_string.ensures in
+    c.in_ok-into_doc.ensures.ok ∙ shown.1 ∙ ap as_string shown.2 ∙ counts_digits c.args.number (omega arith)

@@ -1,0 +1,25 @@
+-- What the program says of an ending, and the status that it ends with.
+use Rattle.std.specs.Prelude.{ℕ, List, codes}
+use Rattle.sexp_formatter.specs.declared.error.RunError.{RunError}
+use Rattle.sexp_formatter.specs.declared.error.RunError.TheVariants as errors
+use Rattle.sexp_formatter.specs.declared.ending.Ending.{Ending}
+use Rattle.sexp_formatter.specs.declared.ending.Ending.TheVariants.{BadWords, NotAnSexp, Failed}
+
+-- the program's status
+abbrev pub status_of : Ending → ℕ
+status_of BadWords = 2
+status_of NotAnSexp = 1
+status_of Failed = 3
+
+-- what it says
+abbrev pub message_of : Ending → List ℕ
+message_of BadWords = codes "usage: sexp WIDTH [crlf] [deferred]"
+message_of NotAnSexp = codes "error: not an S-expression"
+message_of Failed = codes "error: render failed"
+
+-- how a run that stopped ends the program
+abbrev pub ending_of : RunError → Ending
+ending_of errors.NotAnSexp = NotAnSexp
+ending_of (errors.Memory e) = Failed
+ending_of (errors.Read e) = Failed
+ending_of (errors.Write e) = Failed

@@ -1,0 +1,53 @@
+use crate::error::RunError;
+
+/// How the program ends where it doesn't write a whole layout.
+#[derive(Clone, Copy, Debug, PartialEq, Eq)]
+pub enum Ending {
+    /// The words ask for no layout.
+    BadWords,
+    /// The input is no S-expression.
+    NotAnSexp,
+    /// Reading, laying out or writing failed, or memory was refused.
+    Failed,
+}
+
+impl Ending {
+    ghost use Rattle.std.specs.Prelude.{◌≡◌};
+    ghost use Rattle.sexp_formatter.specs.Endings.{status_of, message_of};
+
+    /// The status that the process ends with.
+    pub fn status(self) -> u8
+        ensures { result ≡ status_of self }
+    {
+        match self {
+            Ending::BadWords => 2,
+            Ending::NotAnSexp => 1,
+            Ending::Failed => 3,
+        }
+    }
+
+    /// What standard error is told, without a line's end.
+    pub fn message(self) -> &'static str
+        ensures { result.now ≡ message_of self }
+    {
+        match self {
+            Ending::BadWords => "usage: sexp WIDTH [crlf] [deferred]",
+            Ending::NotAnSexp => "error: not an S-expression",
+            Ending::Failed => "error: render failed",
+        }
+    }
+}
+
+impl From<RunError> for Ending {
+    ghost use Rattle.std.specs.Prelude.{◌≡◌};
+    ghost use Rattle.sexp_formatter.specs.Endings.{ending_of};
+
+    ghost from_gives = { λ error ending. ending ≡ ending_of error };
+
+    fn from(error: RunError) -> Ending {
+        match error {
+            RunError::NotAnSexp => Ending::NotAnSexp,
+            RunError::Memory(_) | RunError::Read(_) | RunError::Write(_) => Ending::Failed,
+        }
+    }
+}

@@ -1,0 +1,201 @@
+//! The pieces that a layout goes out in.
+ghost use Rattle.std.specs.Prelude.{◌≡◌, ⊤};
+ghost use Rattle.test_hostile.specs.declared.sinks.Fault.TheVariants.{Document};
+
+use crate::sinks::Fault;
+use prettyless::prelude::*;
+use prettyless::text::{BuildError, CowStr};
+use prettyless::{BoxAllocator, BoxDoc, DocPtr, LineEnding, Render, RenderError, RenderOptions};
+use std::alloc::Global;
+use std::process::Abort;
+use std::test::Fail;
+
+// A sink that takes so many pieces, each whole, and fails at the next, of which it takes nothing.
+#[derive(Drop)]
+struct Pieces {
+    room: usize,
+    lengths: Vec<usize>,
+    bytes: Vec<u8>,
+    failures: u64,
+}
+
+impl Pieces {
+    fn new(memory: Global, room: usize) -> Self {
+        Pieces {
+            room,
+            lengths: Vec::new(memory),
+            bytes: Vec::new(memory),
+            failures: 0,
+        }
+    }
+}
+
+impl Render for Pieces {
+    type Error = Fault;
+
+    ghost tells = { λ _. ⊤ };
+
+    ghost written = { λ sink. sink.bytes.items };
+
+    ghost failures = { λ sink. sink.failures };
+
+    ghost document_errors = { λ _ e. e ≡ Document };
+
+    fn write_str(&mut self, s: &str) -> Result<usize, Fault> {
+        if self.lengths.len() >= self.room {
+            self.failures = self.failures.saturating_add(1);
+            return Err(Fault::Refused);
+        }
+        if self.lengths.push(s.len()).is_err()
+            || self.bytes.extend_from_slice(s.as_bytes()).is_err()
+        {
+            self.failures = self.failures.saturating_add(1);
+            return Err(Fault::Memory);
+        }
+        Ok(s.len())
+    }
+
+    fn fail_doc(&self) -> Fault {
+        Fault::Document
+    }
+}
+
+// What a sink of so much room has of a render, and whether it ended that.
+fn rendered(
+    memory: Global,
+    document: &BoxDoc<'_>,
+    options: RenderOptions,
+    room: usize,
+) -> Result<(Pieces, bool), Fail> {
+    let mut sink = Pieces::new(memory, room);
+    match document.doc().render_raw_with(memory, options, &mut sink) {
+        Ok(()) => Ok((sink, false)),
+        Err(RenderError::Sink(Fault::Refused)) => Ok((sink, true)),
+        Err(_) => Err(Fail::new("no memory")),
+    }
+}
+
+// Compares the sink's pieces.
+fn compare_pieces(
+    rt: &impl Abort,
+    memory: Global,
+    sink: &Pieces,
+    pieces: &[&str],
+) -> Result<(), Fail> {
+    assert_eq!(rt; sink.lengths.len(), pieces.len());
+    let mut bytes = Vec::new(memory);
+    for (length, piece) in sink.lengths.iter().zip(pieces) {
+        assert_eq!(rt; *length, piece.len(), "{piece}");
+        bytes.extend_from_slice(piece.as_bytes())?;
+    }
+    assert_eq!(rt; sink.bytes.as_slice(), bytes.as_slice());
+    Ok(())
+}
+
+// Compares the pieces of a layout, and those before each of them that is refused in turn.
+fn compare(
+    rt: &impl Abort,
+    memory: Global,
+    document: &BoxDoc<'_>,
+    options: RenderOptions,
+    pieces: &[&str],
+) -> Result<(), Fail> {
+    let (sink, ended) = rendered(memory, document, options, usize::MAX)?;
+    assert!(rt; !ended);
+    compare_pieces(rt, memory, &sink, pieces)?;
+    assert_eq!(rt; sink.failures, 0);
+    for room in 0..pieces.len() {
+        let (sink, ended) = rendered(memory, document, options, room)?;
+        assert!(rt; ended);
+        compare_pieces(rt, memory, &sink, &pieces[..room])?;
+        assert_eq!(rt; sink.failures, 1);
+    }
+    Ok(())
+}
+
+// With lines that end in CR LF.
+fn with_crlf(width: usize) -> RenderOptions {
+    RenderOptions::new(width).with_line_ending(LineEnding::Crlf)
+}
+
+// An alternative that is kept, with a suffix in front of it.
+fn kept<'a, D: DocPlace<'a>>(place: &'a D) -> Result<D::Doc, BuildError> {
+    let kept = union(("b", hard_line()), "x");
+    let document = ("a", line_suffix("//outer"), kept, "c");
+    place.pretty(document)?.into_doc()
+}
+
+// One that is a payload.
+fn kept_payload<'a, D: DocPlace<'a>>(place: &'a D) -> Result<D::Doc, BuildError> {
+    let kept = union(multiline_text(CowStr::Borrowed("b\nc")), "x");
+    place.pretty(("a", weak_space(), kept))?.into_doc()
+}
+
+// One that is nothing.
+fn kept_nothing<'a, D: DocPlace<'a>>(place: &'a D) -> Result<D::Doc, BuildError> {
+    place.pretty(union(nil(), "x"))?.into_doc()
+}
+
+// A line break with a long indent.
+fn long_indent<'a, D: DocPlace<'a>>(place: &'a D) -> Result<D::Doc, BuildError> {
+    place.pretty(nest(205, hard_line()))?.into_doc()
+}
+
+// An alternative that is kept is a piece of its own, with the suffixes and the line ends in it.
+#[test]
+fn kept_alternatives_are_pieces(rt: HostRuntime) -> Result<(), Fail> {
+    let memory = rt.alloc();
+    let boxes = BoxAllocator::new(memory);
+    let document = kept(&boxes)?;
+    let options = RenderOptions::new(80);
+    compare(&rt, memory, &document, options, &["a", "b//outer\n", "c"])?;
+    compare(
+        &rt,
+        memory,
+        &document,
+        with_crlf(80),
+        &["a", "b//outer\r\n", "c"],
+    )
+}
+
+// One that is a payload needs no trial, and its spaces are a piece.
+#[test]
+fn payloads_need_no_trial(rt: HostRuntime) -> Result<(), Fail> {
+    let memory = rt.alloc();
+    let boxes = BoxAllocator::new(memory);
+    let document = kept_payload(&boxes)?;
+    let options = RenderOptions::new(80);
+    compare(&rt, memory, &document, options, &["a", " ", "b\nc"])
+}
+
+#[test]
+fn no_piece_is_empty(rt: HostRuntime) -> Result<(), Fail> {
+    let memory = rt.alloc();
+    let boxes = BoxAllocator::new(memory);
+    let document = kept_nothing(&boxes)?;
+    compare(&rt, memory, &document, RenderOptions::new(80), &[])
+}
+
+#[test]
+fn long_indents_are_in_pieces(rt: HostRuntime) -> Result<(), Fail> {
+    let memory = rt.alloc();
+    let boxes = BoxAllocator::new(memory);
+    let hundred = format!(in memory; "{:100}", "")?;
+    let hundred = hundred.as_str();
+    let document = long_indent(&boxes)?;
+    let options = RenderOptions::new(0);
+    compare(
+        &rt,
+        memory,
+        &document,
+        options,
+        &["\n", hundred, hundred, "     "],
+    )?;
+    compare(
+        &rt,
+        memory,
+        &document,
+        with_crlf(0),
+        &["\r\n", hundred, hundred, "     "],
+    )
+}

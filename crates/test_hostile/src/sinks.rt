@@ -1,0 +1,366 @@
+//! Sinks of which one call goes wrong.
+ghost use Rattle.std.specs.Prelude.{◌≡◌, ◌↔◌, ◌<◌, ⊤, IsTrue, length};
+ghost use Rattle.std.specs.Str.{IsCharBoundary};
+ghost use Rattle.test_hostile.specs.declared.sinks.Fault.TheVariants.{Count, Document};
+
+use crate::rows::{BoxRow, accented, boxed_rows};
+use bumpalo::Bump;
+use prettyless::prelude::*;
+use prettyless::text::BuildError;
+use prettyless::{
+    Arena, BoxAllocator, DocPtr, LineEnding, RcAllocator, Render, RenderError, RenderOptions,
+};
+use std::alloc::Global;
+use std::process::Abort;
+use std::test::Fail;
+
+#[derive(Debug, PartialEq, Drop)]
+pub(crate) enum Fault {
+    Document,
+    Count,
+    Refused,
+    Memory,
+}
+
+// How much of a piece a sink takes at a call.
+#[derive(Clone, Copy, Debug)]
+enum Step {
+    Whole,
+    Character,
+    Byte,
+}
+
+// What it does at the call that goes wrong.
+#[derive(Clone, Copy, Debug)]
+enum Wrong {
+    Refuses,
+    TakesNothing,
+    CountsOneMore,
+    CountsAll,
+}
+
+// A sink of which one call goes wrong.
+#[derive(Drop)]
+struct Hostile {
+    step: Step,
+    wrong: Wrong,
+    wrong_call: usize,
+    calls: usize,
+    bytes: Vec<u8>,
+    failures: u64,
+}
+
+impl Hostile {
+    fn new(memory: Global, step: Step, wrong: Wrong, wrong_call: usize) -> Self {
+        Hostile {
+            step,
+            wrong,
+            wrong_call,
+            calls: 0,
+            bytes: Vec::new(memory),
+            failures: 0,
+        }
+    }
+
+    // What it answers for this piece, if it does not refuse it.
+    fn count(&self, piece: &str) -> Option<usize> {
+        if self.calls == self.wrong_call {
+            return match self.wrong {
+                Wrong::Refuses => None,
+                Wrong::TakesNothing => Some(0),
+                Wrong::CountsOneMore => Some(piece.len().saturating_add(1)),
+                Wrong::CountsAll => Some(usize::MAX),
+            };
+        }
+        Some(match self.step {
+            Step::Whole => piece.len(),
+            Step::Character => piece.chars().next().map_or(0, |c| c.len_utf8()),
+            Step::Byte => 1,
+        })
+    }
+}
+
+impl Render for Hostile {
+    type Error = Fault;
+
+    ghost tells = { λ _. ⊤ };
+
+    ghost written = { λ sink. sink.bytes.items };
+
+    ghost failures = { λ sink. sink.failures };
+
+    ghost document_errors = { λ _ e. e ≡ Document };
+
+    ghost fault_errors = { λ _ e. e ≡ Count };
+
+    fn write_str(&mut self, s: &str) -> Result<usize, Fault> {
+        self.calls = self.calls.saturating_add(1);
+        let Some(count) = self.count(s) else {
+            self.failures = self.failures.saturating_add(1);
+            return Err(Fault::Refused);
+        };
+        let taken = count.min(s.len());
+        match self.bytes.extend_from_slice(&s.as_bytes()[..taken]) {
+            Ok(()) => {
+                if !is_fair_count(s, count) {
+                    self.failures = self.failures.saturating_add(1);
+                }
+                Ok(count)
+            }
+            Err(_) => {
+                self.failures = self.failures.saturating_add(1);
+                Err(Fault::Memory)
+            }
+        }
+    }
+
+    fn fail_doc(&self) -> Fault {
+        Fault::Document
+    }
+
+    fn write_fault(&self) -> Fault {
+        Fault::Count
+    }
+}
+
+// Whether so many bytes end between two characters of the text, and are some unless it is empty.
+fn is_fair_count(text: &str, count: usize) -> bool
+    ensures { IsTrue result ↔ (IsCharBoundary text.now count × (0 < length text.now → 0 < count)) }
+{
+    (count > 0 || text.is_empty()) && text.is_char_boundary(count)
+}
+
+// What a render that a sink ends has to say.
+fn fault_of(wrong: Wrong) -> Fault {
+    match wrong {
+        Wrong::Refuses => Fault::Refused,
+        Wrong::TakesNothing | Wrong::CountsOneMore | Wrong::CountsAll => Fault::Count,
+    }
+}
+
+// Compares what a sink has whose call went wrong.
+fn compare_ended(rt: &impl Abort, row: &BoxRow<'_>, sink: &Hostile, fault: &Fault) {
+    let layout = row.layout;
+    let wrong = sink.wrong;
+    let wrong_call = sink.wrong_call;
+    assert_eq!(rt; *fault, fault_of(wrong), "{layout}");
+    assert_eq!(rt; sink.failures, 1, "{layout}");
+    assert_eq!(rt; sink.calls, wrong_call, "{layout}");
+    assert!(rt;
+        layout.as_bytes().starts_with(sink.bytes.as_slice()),
+        "{layout} {wrong:?} {wrong_call}"
+    );
+}
+
+// Compares what a sink has whose call did not come.
+fn compare_undisturbed(rt: &impl Abort, row: &BoxRow<'_>, sink: &Hostile, fails: bool) {
+    let layout = row.layout;
+    assert_eq!(rt; fails, row.fails, "{layout}");
+    assert_eq!(rt; sink.failures, 0, "{layout}");
+    assert!(rt; sink.calls < sink.wrong_call, "{layout}");
+    assert_eq!(rt; sink.bytes.as_slice(), layout.as_bytes(), "{layout}");
+}
+
+// How a render to this sink ends.
+fn ending(memory: Global, row: &BoxRow<'_>, sink: &mut Hostile) -> Result<(), RenderError<Fault>> {
+    let options = RenderOptions::new(row.width);
+    row.document.doc().render_raw_with(memory, options, sink)
+}
+
+// Compares how a render ends of which one call goes wrong, and answers whether it comes to that call.
+fn compare(
+    rt: &impl Abort,
+    memory: Global,
+    row: &BoxRow<'_>,
+    step: Step,
+    wrong: Wrong,
+    wrong_call: usize,
+) -> Result<bool, Fail> {
+    let layout = row.layout;
+    let mut sink = Hostile::new(memory, step, wrong, wrong_call);
+    match ending(memory, row, &mut sink) {
+        Ok(()) => compare_undisturbed(rt, row, &sink, false),
+        Err(RenderError::Document(fault)) => {
+            assert_eq!(rt; fault, Fault::Document, "{layout}");
+            compare_undisturbed(rt, row, &sink, true);
+        }
+        Err(RenderError::Sink(fault)) => {
+            compare_ended(rt, row, &sink, &fault);
+            return Ok(true);
+        }
+        Err(RenderError::Memory(_)) => return Err(Fail::new("no memory")),
+    }
+    Ok(false)
+}
+
+// Each call goes wrong in turn, until a render ends without it. Answers which that is.
+fn compare_calls(
+    rt: &impl Abort,
+    memory: Global,
+    row: &BoxRow<'_>,
+    step: Step,
+    wrong: Wrong,
+) -> Result<usize, Fail> {
+    for wrong_call in 1..100 {
+        if !compare(rt, memory, row, step, wrong, wrong_call)? {
+            return Ok(wrong_call);
+        }
+    }
+    Err(Fail::new("no render ends well"))
+}
+
+fn compare_all(rt: &impl Abort, memory: Global, step: Step, wrong: Wrong) -> Result<(), Fail> {
+    let boxes = BoxAllocator::new(memory);
+    let rows = boxed_rows(&boxes)?;
+    for row in rows.iter() {
+        let ends_at = compare_calls(rt, memory, row, step, wrong)?;
+        assert!(rt; 1 < ends_at);
+        if !matches!(step, Step::Whole) {
+            assert_eq!(rt; ends_at, row.layout.len().saturating_add(1));
+        }
+    }
+    Ok(())
+}
+
+const STEPS: [Step; 3] = [Step::Whole, Step::Character, Step::Byte];
+
+#[test]
+fn sinks_that_refuse_a_piece(rt: HostRuntime) -> Result<(), Fail> {
+    for step in STEPS {
+        compare_all(&rt, rt.alloc(), step, Wrong::Refuses)?;
+    }
+    Ok(())
+}
+
+#[test]
+fn sinks_that_take_nothing(rt: HostRuntime) -> Result<(), Fail> {
+    for step in STEPS {
+        compare_all(&rt, rt.alloc(), step, Wrong::TakesNothing)?;
+    }
+    Ok(())
+}
+
+#[test]
+fn sinks_that_count_too_much(rt: HostRuntime) -> Result<(), Fail> {
+    for step in STEPS {
+        compare_all(&rt, rt.alloc(), step, Wrong::CountsOneMore)?;
+        compare_all(&rt, rt.alloc(), step, Wrong::CountsAll)?;
+    }
+    Ok(())
+}
+
+// Compares what a sink has of a character of two bytes.
+fn compare_character<'a, T: DocPtr<'a>>(
+    rt: &impl Abort,
+    memory: Global,
+    document: &T,
+    step: Step,
+    bytes: &[u8],
+    ends_well: bool,
+) {
+    let mut sink = Hostile::new(memory, step, Wrong::Refuses, usize::MAX);
+    match document.doc().render_raw(memory, 80, &mut sink) {
+        Ok(()) => assert!(rt; ends_well),
+        Err(RenderError::Sink(fault)) => assert_eq!(rt; fault, Fault::Count),
+        Err(_) => panic!(rt; "{step:?}"),
+    }
+    assert_eq!(rt; sink.bytes.as_slice(), bytes, "{step:?}");
+    assert_eq!(rt; sink.failures, u64::from(!ends_well), "{step:?}");
+    assert_eq!(rt; sink.calls, 1, "{step:?}");
+}
+
+fn compare_steps<'a, D: DocPlace<'a>>(rt: &impl Abort, place: &'a D) -> Result<(), Fail> {
+    let memory = place.memory();
+    let document = accented(place)?;
+    let whole = b"\xc3\xa9".as_slice();
+    compare_character(rt, memory, &document, Step::Whole, whole, true);
+    compare_character(rt, memory, &document, Step::Character, whole, true);
+    let first = b"\xc3".as_slice();
+    compare_character(rt, memory, &document, Step::Byte, first, false);
+    Ok(())
+}
+
+// A character of two bytes is taken by characters, and not by bytes.
+#[test]
+fn counts_inside_a_character(rt: HostRuntime) -> Result<(), Fail> {
+    compare_steps(&rt, &BoxAllocator::new(rt.alloc()))
+}
+
+// Compares what a sink has that answers this count for its second piece.
+fn compare_count<'a, T: DocPtr<'a>>(
+    rt: &impl Abort,
+    memory: Global,
+    document: &T,
+    options: RenderOptions,
+    wrong: Wrong,
+    layout: &str,
+) {
+    let mut sink = Hostile::new(memory, Step::Whole, wrong, 2);
+    let result = document.doc().render_raw_with(memory, options, &mut sink);
+    assert!(rt; matches!(result, Err(RenderError::Sink(Fault::Count))));
+    assert_eq!(rt; sink.failures, 1, "{wrong:?}");
+    assert_eq!(rt; sink.bytes.as_slice(), layout.as_bytes(), "{wrong:?}");
+}
+
+// Compares what a sink has that answers a bad count for its second piece, which is a space.
+fn compare_spaces<'a, T: DocPtr<'a>>(
+    rt: &impl Abort,
+    memory: Global,
+    document: &T,
+    ending: LineEnding,
+    first: &str,
+) -> Result<(), Fail> {
+    let options = RenderOptions::new(80).with_line_ending(ending);
+    let both = format!(in memory; "{first} ")?;
+    let both = both.as_str();
+    compare_count(rt, memory, document, options, Wrong::TakesNothing, first);
+    compare_count(rt, memory, document, options, Wrong::CountsOneMore, both);
+    compare_count(rt, memory, document, options, Wrong::CountsAll, both);
+    Ok(())
+}
+
+// Two letters and a weak space between them.
+fn letters_apart<'a, D: DocPlace<'a>>(place: &'a D) -> Result<D::Doc, BuildError> {
+    place.pretty(("a", weak_space(), "b"))?.into_doc()
+}
+
+// A line break, and an indent of one space.
+fn indented_line<'a, D: DocPlace<'a>>(place: &'a D) -> Result<D::Doc, BuildError> {
+    place.pretty(nest(1, hard_line()))?.into_doc()
+}
+
+fn compare_bad_counts<'a, D: DocPlace<'a>>(rt: &impl Abort, place: &'a D) -> Result<(), Fail> {
+    let memory = place.memory();
+    let apart = letters_apart(place)?;
+    compare_spaces(rt, memory, &apart, LineEnding::Lf, "a")?;
+    let indent = indented_line(place)?;
+    compare_spaces(rt, memory, &indent, LineEnding::Lf, "\n")?;
+    compare_spaces(rt, memory, &indent, LineEnding::Crlf, "\r\n")
+}
+
+#[test]
+fn bad_counts_of_spaces(rt: HostRuntime) -> Result<(), Fail> {
+    compare_bad_counts(&rt, &BoxAllocator::new(rt.alloc()))
+}
+
+// A sink that takes one byte a call, and refuses at its third.
+fn compare_full<'a, D: DocPlace<'a>>(rt: &impl Abort, place: &'a D) -> Result<(), Fail> {
+    let memory = place.memory();
+    let kept = union(("abcd", line_suffix("!")), "fallback");
+    let document = place.pretty(kept)?;
+    let mut sink = Hostile::new(memory, Step::Byte, Wrong::Refuses, 3);
+    let result = document.doc().render_raw(memory, 80, &mut sink);
+    assert!(rt; matches!(result, Err(RenderError::Sink(Fault::Refused))));
+    assert_eq!(rt; sink.bytes.as_slice(), b"ab".as_slice());
+    assert_eq!(rt; sink.failures, 1);
+    Ok(())
+}
+
+#[test]
+fn full_inside_an_alternative(rt: HostRuntime) -> Result<(), Fail> {
+    compare_full(&rt, &BoxAllocator::new(rt.alloc()))?;
+    compare_full(&rt, &RcAllocator::new(rt.alloc()))?;
+    let bump = Bump::new(rt.alloc());
+    let arena = Arena::new(rt.alloc(), &bump);
+    compare_full(&rt, &arena)
+}
