@@ -2,7 +2,8 @@
 //! this many columns to standard output. With `crlf` lines end in CR LF, and with `deferred` indents are written late.
 #![tactic(auto)]
 
-use sexp_formatter::{Ending, RunError, options, run};
+use sexp_formatter::run::run;
+use sexp_formatter::{Ending, RunError, options};
 use std::io::{BufWriter, ErrorKind, Write};
 use std::process::ExitCode;
 use std::rt::Env;

@@ -8,15 +8,13 @@ mod expression;
 mod input;
 mod number;
 mod output;
-mod parse;
-mod run;
+pub mod parse;
+pub mod run;
 mod words;
 
 pub use ending::Ending;
 pub use error::RunError;
 pub use expression::SExp;
-pub use parse::parse;
-pub use run::run;
 pub use words::options;
 
 #[cfg(test)]

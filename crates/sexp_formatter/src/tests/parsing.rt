@@ -1,4 +1,5 @@
-use crate::{RunError, SExp, options, parse};
+use crate::parse::parse;
+use crate::{RunError, SExp, options};
 use prettyless::{IndentationPolicy, LineEnding};
 use std::alloc::Global;
 use std::test::*;

@@ -1,4 +1,5 @@
-use crate::{Ending, RunError, run};
+use crate::run::run;
+use crate::{Ending, RunError};
 use prettyless::{IndentationPolicy, LineEnding, RenderOptions};
 use std::alloc::Global;
 use std::io;
