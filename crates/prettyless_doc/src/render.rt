@@ -1,6 +1,7 @@
 ghost use Rattle.std.specs.Prelude.{◌≡◌, ◌+◌, ◌*◌, ◌-◌, ◌^◌, ◌≤◌, ⊤, min, IfOk, OnOk};
 ghost use Rattle.std.specs.IoError.{error_kind};
 ghost use Rattle.std.specs.declared.io.ErrorKind.TheVariants.{Other};
+ghost use Rattle.prettyless_sink.specs.Sink.{IfKnown};
 ghost use Rattle.prettyless_model.specs.Options.{options_at};
 ghost use Rattle.prettyless_model.specs.Content.{AppendsContent, AppendsKnownContent, suffix_depth};
 ghost use Rattle.prettyless_model.specs.Counts.{laid_nodes, laid_probes};
@@ -36,11 +37,11 @@ impl<'a, T: DocPtr<'a>> Doc<'a, T> {
         out: &mut W,
     ) -> Result<(), RenderError<W::Error>>
         ensures same_lender { W.lender out.new ≡ W.lender out.old }
-        ensures told { W.tells out.old → W.tells out.new
-            × Rendered (W.document_errors out.new) (layout options (tree_of T.tree self.now))
-            (W.written out.old) (W.written out.new) (W.failures out.old) (W.failures out.new) result }
-        ensures content { W.tells out.old
-            → IfOk result (λ _. AppendsContent (tree_of T.tree self.now) (W.written out.old) (W.written out.new)) }
+        ensures told { IfKnown (W.bytes out.old) (W.bytes out.new) (λ before after.
+            Rendered (W.document_errors out.new) (layout options (tree_of T.tree self.now))
+            before after (W.failures out.old) (W.failures out.new) result) }
+        ensures content { IfKnown (W.bytes out.old) (W.bytes out.new) (λ before after.
+            IfOk result (λ _. AppendsContent (tree_of T.tree self.now) before after)) }
     {
         self.render_raw_counted_with(alloc, options, out, &mut Visits::default())
     }
@@ -61,11 +62,11 @@ impl<'a, T: DocPtr<'a>> Doc<'a, T> {
         visits: &mut Visits,
     ) -> Result<(), RenderError<W::Error>>
         ensures same_lender { W.lender out.new ≡ W.lender out.old }
-        ensures told { W.tells out.old → W.tells out.new
-            × Rendered (W.document_errors out.new) (layout options (tree_of T.tree self.now))
-            (W.written out.old) (W.written out.new) (W.failures out.old) (W.failures out.new) result }
-        ensures content { W.tells out.old
-            → IfOk result (λ _. AppendsContent (tree_of T.tree self.now) (W.written out.old) (W.written out.new)) }
+        ensures told { IfKnown (W.bytes out.old) (W.bytes out.new) (λ before after.
+            Rendered (W.document_errors out.new) (layout options (tree_of T.tree self.now))
+            before after (W.failures out.old) (W.failures out.new) result) }
+        ensures content { IfKnown (W.bytes out.old) (W.bytes out.new) (λ before after.
+            IfOk result (λ _. AppendsContent (tree_of T.tree self.now) before after)) }
         ensures rise { (visits.old.printer ≤ visits.new.printer) × (visits.old.probes ≤ visits.new.probes) }
         ensures printer { suffix_depth (tree_of T.tree self.now) ≡ 0
             → visits.new.printer ≤ visits.old.printer + size (tree_of T.tree self.now) }
@@ -85,11 +86,11 @@ impl<'a, T: DocPtr<'a>> Doc<'a, T> {
         out: &mut W,
     ) -> Result<(), RenderError<W::Error>>
         ensures same_lender { W.lender out.new ≡ W.lender out.old }
-        ensures told { W.tells out.old → W.tells out.new
-            × Rendered (W.document_errors out.new) (layout (options_at width) (tree_of T.tree self.now))
-            (W.written out.old) (W.written out.new) (W.failures out.old) (W.failures out.new) result }
-        ensures content { W.tells out.old
-            → IfOk result (λ _. AppendsContent (tree_of T.tree self.now) (W.written out.old) (W.written out.new)) }
+        ensures told { IfKnown (W.bytes out.old) (W.bytes out.new) (λ before after.
+            Rendered (W.document_errors out.new) (layout (options_at width) (tree_of T.tree self.now))
+            before after (W.failures out.old) (W.failures out.new) result) }
+        ensures content { IfKnown (W.bytes out.old) (W.bytes out.new) (λ before after.
+            IfOk result (λ _. AppendsContent (tree_of T.tree self.now) before after)) }
     {
         self.render_raw_with(alloc, RenderOptions::new(width), out)
     }

@@ -1,5 +1,5 @@
 //! The text that open trials write to.
-ghost use Rattle.std.specs.Prelude.{⊤, ◌≡◌, []};
+ghost use Rattle.std.specs.Prelude.{⊤, ◌≡◌, [], Some};
 ghost use Rattle.std.specs.String.{string_bytes};
 
 use prettyless_sink::render::Render;
@@ -28,9 +28,7 @@ impl Buffer {
 impl Render for Buffer {
     type Error = AllocError;
 
-    ghost tells = { λ _. ⊤ };
-
-    ghost written = { λ b. string_bytes b.text };
+    ghost bytes = { λ b. Some (string_bytes b.text) };
 
     ghost failures = { λ b. b.failures };
 

@@ -1,5 +1,6 @@
 //! The run: commands are worked off into a sink, and then what is pending at the end.
 ghost use Rattle.std.specs.Prelude.{◌≡◌, ◌+◌, ◌*◌, ◌∷◌, ◌<◌, ◌≤◌, [], OnOk, vec_len};
+ghost use Rattle.prettyless_sink.specs.Sink.{IfKnown};
 ghost use Rattle.prettyless_model.specs.Tree.{size};
 ghost use Rattle.prettyless_model.specs.Content.{suffix_depth};
 ghost use Rattle.prettyless_model.specs.Layout.{flushed, layout};
@@ -45,9 +46,9 @@ fn choose<N: Walk, W: Render>(
     ensures same_lender { W.lender out.new ≡ W.lender out.old }
     ensures lessens { OnOk result (work (stack_of N.tree printer.new.commands.items) (state_of N.tree printer.new)
         ≤ 2 * (size (N.tree first) + size (N.tree second)) + work (stack_of N.tree printer.old.commands.items) (state_of N.tree printer.old)) }
-    ensures told { W.tells out.old → W.tells out.new
-        × Chose N.tree printer.old printer.new indent (N.tree first) (N.tree second)
-        (W.written out.old) (W.written out.new) (W.failures out.old) (W.failures out.new) result }
+    ensures told { IfKnown (W.bytes out.old) (W.bytes out.new) (λ before after.
+        Chose N.tree printer.old printer.new indent (N.tree first) (N.tree second)
+        before after (W.failures out.old) (W.failures out.new) result) }
     ensures rise { Rise visits.old visits.new }
     ensures pays { Plain N.tree printer.old → suffix_depth (N.tree first) ≡ 0 → suffix_depth (N.tree second) ≡ 0
         → RunPays N.tree (make_task indent Break (N.tree first) ∷ make_task indent Break (N.tree second) ∷ stack_of N.tree printer.old.commands.items)
@@ -82,9 +83,9 @@ fn work_off<N: Walk, W: Render>(
     ensures lessens { OnOk result (owed (state_of N.tree printer.new).pending
         ≤ work (stack_of N.tree printer.old.commands.items) (state_of N.tree printer.old)) }
     ensures same_lender { W.lender out.new ≡ W.lender out.old }
-    ensures told { W.tells out.old → W.tells out.new
-        × WorkedOff N.tree printer.old printer.new (W.document_errors out.new)
-        (W.written out.old) (W.written out.new) (W.failures out.old) (W.failures out.new) result }
+    ensures told { IfKnown (W.bytes out.old) (W.bytes out.new) (λ before after.
+        WorkedOff N.tree printer.old printer.new (W.document_errors out.new)
+        before after (W.failures out.old) (W.failures out.new) result) }
     ensures rise { Rise visits.old visits.new }
     ensures pays { Plain N.tree printer.old → RunPays N.tree (stack_of N.tree printer.old.commands.items) printer.new visits.old visits.new result }
     ensures meets { OnOk result (Meets (stack_tally N.tree printer.old 0) nothing_left visits.old visits.new) }
@@ -113,8 +114,8 @@ fn flush_end<N: Walk, W: Render>(
     ensures stack { OnOk result (stack_of N.tree printer.new.commands.items ≡ tasks 0 Break (state_of N.tree printer.old).pending) }
     ensures state { OnOk result (state_of N.tree printer.new ≡ flushed printer.old.options (state_of N.tree printer.old)) }
     ensures same_lender { W.lender out.new ≡ W.lender out.old }
-    ensures told { W.tells out.old → W.tells out.new
-        × Flushed printer.old (W.written out.old) (W.written out.new) (W.failures out.old) (W.failures out.new) result }
+    ensures told { IfKnown (W.bytes out.old) (W.bytes out.new) (λ before after.
+        Flushed printer.old before after (W.failures out.old) (W.failures out.new) result) }
 {
     match take_pending(printer, 0, Mode::Break) {
         Err(e) => Err(RenderError::Memory(e)),
@@ -134,9 +135,9 @@ fn run_to_end<N: Walk, W: Render>(
 ) -> Result<(), RenderError<W::Error>>
     requires { printer.old.start ≤ vec_len printer.old.queue }
     ensures same_lender { W.lender out.new ≡ W.lender out.old }
-    ensures told { W.tells out.old → W.tells out.new
-        × RanToEnd N.tree printer.old (W.document_errors out.new)
-        (W.written out.old) (W.written out.new) (W.failures out.old) (W.failures out.new) result }
+    ensures told { IfKnown (W.bytes out.old) (W.bytes out.new) (λ before after.
+        RanToEnd N.tree printer.old (W.document_errors out.new)
+        before after (W.failures out.old) (W.failures out.new) result) }
     ensures rise { Rise visits.old visits.new }
     ensures pays { Plain N.tree printer.old → RunPays N.tree (stack_of N.tree printer.old.commands.items) printer.new visits.old visits.new result }
     ensures meets { OnOk result (Meets (stack_tally N.tree printer.old 0) nothing_left visits.old visits.new) }
@@ -169,9 +170,9 @@ pub fn render<N: Walk, W: Render>(
     visits: &mut Visits,
 ) -> Result<(), RenderError<W::Error>>
     ensures same_lender { W.lender out.new ≡ W.lender out.old }
-    ensures told { W.tells out.old → W.tells out.new
-        × Rendered (W.document_errors out.new) (layout options (N.tree node))
-        (W.written out.old) (W.written out.new) (W.failures out.old) (W.failures out.new) result }
+    ensures told { IfKnown (W.bytes out.old) (W.bytes out.new) (λ before after.
+        Rendered (W.document_errors out.new) (layout options (N.tree node))
+        before after (W.failures out.old) (W.failures out.new) result) }
     ensures rise { Rise visits.old visits.new }
     ensures visited { Visited (N.tree node) visits.old visits.new }
     ensures at_least { OnOk result (VisitedAtLeast options (N.tree node) visits.old visits.new) }

@@ -1,6 +1,6 @@
 //! A turn: a command is taken, stepped and written.
 ghost use Rattle.std.specs.Prelude.{◌≡◌, ◌<◌, ◌≤◌, OnOk, IfOk, vec_len};
-ghost use Rattle.prettyless_sink.specs.Sink.{rise};
+ghost use Rattle.prettyless_sink.specs.Sink.{IfKnown, rise};
 ghost use Rattle.prettyless_step.specs.Printing.{Grows};
 ghost use Rattle.prettyless_printer.specs.Turns.{Lessens, Turned};
 ghost use Rattle.prettyless_printer.specs.Visits.{Plain, Rise, TurnPays};
@@ -30,8 +30,8 @@ pub fn turn<N: Walk, W: Render>(
     ensures grows { OnOk result (Grows printer.old printer.new) }
     ensures lessens { IfOk result (Lessens N.tree printer.old printer.new) }
     ensures same_lender { W.lender out.new ≡ W.lender out.old }
-    ensures told { W.tells out.old → W.tells out.new
-        × Turned N.tree printer.old printer.new (W.written out.old) (W.written out.new) (W.failures out.old) (W.failures out.new) result }
+    ensures told { IfKnown (W.bytes out.old) (W.bytes out.new) (λ before after.
+        Turned N.tree printer.old printer.new before after (W.failures out.old) (W.failures out.new) result) }
     ensures one { visits.new.printer ≡ rise visits.old.printer }
     ensures rise { Rise visits.old visits.new }
     ensures pays { Plain N.tree printer.old → TurnPays N.tree printer.old printer.new visits.old visits.new result }

@@ -1,7 +1,7 @@
 -- What was appended so far is a beginning of the text, step by step.
-use Rattle.std.proofs.Common.{◌≡◌, ℕ, List, ◌++◌, ap, sym, ◌∙◌, subst, append_assoc, append-nil, refl, [], take, drop, take-append-drop, length, ◌-◌, Result, Ok, Err, OnErr}
+use Rattle.std.proofs.Common.{◌≡◌, ℕ, List, ◌++◌, ap, sym, ◌∙◌, subst, append_assoc, append-nil, refl, [], take, drop, take-append-drop, length, ◌-◌, Option, Result, Ok, Err, OnErr}
 use Rattle.std.proofs.lemmas.List.{take_rest}
-use Rattle.prettyless_sink.specs.Sink.{AppendsBeginning}
+use Rattle.prettyless_sink.specs.Sink.{Accepts, AppendsBeginning, Refuses, rise}
 
 -- what holds anyway holds of an error
 pub on_err : {T E P : Type 0} (r : Result T E) → P → OnErr r P
@@ -33,6 +33,20 @@ beginning_of_rest old mid new text done rest split before p =
 -- what was appended in two pieces was appended as one
 pub appended_on : (old mid new done more : List ℕ) → mid ≡ old ++ done → new ≡ mid ++ more → new ≡ old ++ (done ++ more)
 appended_on old mid new done more before after = after ∙ ap (λ (x : List ℕ). x ++ more) before ∙ append_assoc old done more
+
+-- a text was accepted, and then another
+pub accepted_both : (old mid new : Option (List ℕ)) (text next : List ℕ) (n m k : ℕ) → Accepts old mid text n m → Accepts mid new next m k → Accepts old new (text ++ next) n k
+accepted_both old mid new text next n m k first second = λ is_known.
+    let before = first is_known in
+    let after = second before.0 in
+    (after.0, (appended_on _ _ _ text next before.1.0 after.1.0, after.1.1 ∙ before.1.1))
+
+-- a text was accepted, and then another was refused
+pub refused_after : (old mid new : Option (List ℕ)) (text next : List ℕ) (n m k : ℕ) → Accepts old mid text n m → Refuses mid new next m k → Refuses old new (text ++ next) n k
+refused_after old mid new text next n m k first second = λ is_known.
+    let before = first is_known in
+    let after = second before.0 in
+    (after.0, (beginning_after _ _ _ text next before.1.0 after.1.0, after.1.1 ∙ ap rise before.1.1))
 
 -- so many bytes of the rest are done too
 pub split_on : (text done rest : List ℕ) (n : ℕ) → text ≡ done ++ rest → text ≡ (done ++ take n rest) ++ drop n rest

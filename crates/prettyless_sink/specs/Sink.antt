@@ -1,5 +1,5 @@
--- What a sink shows of itself: the bytes that it was given, and how often it failed.
-use Rattle.std.specs.Prelude.{◌≡◌, ℕ, List, ◌++◌, ◌+◌, ◌-◌, ◌^◌, ◌<◌, ◌≤◌, min, length, take, Option, None, Some, []}
+-- What a call does to a sink's bytes, where those are known, and to its count of failures.
+use Rattle.std.specs.Prelude.{◌≡◌, ℕ, List, ◌++◌, ◌+◌, ◌-◌, ◌^◌, ◌<◌, ◌≤◌, min, length, take, Option, None, Some, IsSome, []}
 use Rattle.std.specs.Str.{IsCharBoundary}
 use Rattle.std.specs.Io.KnownBytes.{Appends}
 
@@ -27,6 +27,26 @@ RisesIfUnfair old new text count = (IsFairCount text count → new ≡ old) × (
 abbrev pub known : Option (List ℕ) → List ℕ
 known None = []
 known (Some bytes) = bytes
+
+-- the bytes that are known of a sink
+abbrev pub known_of : {S : Type 0} → (S → Option (List ℕ)) → S → List ℕ
+known_of bytes sink = known (bytes sink)
+
+-- Known bytes stay known, and P holds of those before and after.
+abbrev pub IfKnown : Option (List ℕ) → Option (List ℕ) → (List ℕ → List ℕ → Type 0) → Type 0
+IfKnown old new P = IsSome old → IsSome new × P (known old) (known new)
+
+-- All of the text was appended, and the failures stayed, from n to m.
+abbrev pub Accepts : Option (List ℕ) → Option (List ℕ) → List ℕ → ℕ → ℕ → Type 0
+Accepts old new text n m = IfKnown old new (λ before after. (after ≡ before ++ text) × (m ≡ n))
+
+-- A beginning of the text was appended, and the failures rose by one, from n to m.
+abbrev pub Refuses : Option (List ℕ) → Option (List ℕ) → List ℕ → ℕ → ℕ → Type 0
+Refuses old new text n m = IfKnown old new (λ before after. AppendsBeginning before after text × (m ≡ rise n))
+
+-- So many bytes of the text were appended, and the failures rose where that count is not fair.
+abbrev pub Takes : Option (List ℕ) → Option (List ℕ) → List ℕ → ℕ → ℕ → ℕ → Type 0
+Takes old new text count n m = IfKnown old new (λ before after. AppendsCount before after text count × RisesIfUnfair n m text count)
 
 -- a beginning of the bytes was appended to those that are known
 abbrev pub AppendsKnownBeginning : Option (List ℕ) → Option (List ℕ) → List ℕ → Type 0

@@ -1,6 +1,5 @@
 //! A sink over a text writer.
-ghost use Rattle.std.specs.Prelude.{◌≡◌, ⊤, Some, IsSome};
-ghost use Rattle.prettyless_sink.specs.Sink.{known};
+ghost use Rattle.std.specs.Prelude.{◌≡◌, ⊤, Some};
 
 use crate::render::Render;
 use crate::text_writer::TextWriter;
@@ -28,10 +27,7 @@ impl<W> FmtWrite<W> {
 impl<'w, W: TextWriter> Render for FmtWrite<&'w mut W> {
     type Error = fmt::Error;
 
-    // where the writer tells its text
-    ghost tells = { λ sink. IsSome (W.text sink.upstream.now) };
-
-    ghost written = { λ sink. known (W.text sink.upstream.now) };
+    ghost bytes = { λ sink. W.text sink.upstream.now };
 
     ghost failures = { λ sink. sink.failures };
 

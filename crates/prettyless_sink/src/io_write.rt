@@ -1,9 +1,9 @@
 //! A sink over a byte writer.
-ghost use Rattle.std.specs.Prelude.{◌≡◌, ◌++◌, List, ℕ, Some, IsSome, OnOk, OnErr};
+ghost use Rattle.std.specs.Prelude.{◌≡◌, ◌++◌, List, ℕ, Some, OnOk, OnErr};
 ghost use Rattle.std.specs.IoError.{error_kind};
 ghost use Rattle.std.specs.declared.io.ErrorKind.TheVariants.{Other};
 ghost use Rattle.std.specs.Io.KnownBytes.{Appends};
-ghost use Rattle.prettyless_sink.specs.Sink.{known, AppendsKnownBeginning};
+ghost use Rattle.prettyless_sink.specs.Sink.{AppendsKnownBeginning};
 
 use crate::render::{Render, is_fair_count};
 use std::io;
@@ -30,10 +30,7 @@ impl<W> IoWrite<W> {
 impl<'w, W: io::Write> Render for IoWrite<&'w mut W> {
     type Error = io::Error;
 
-    // where the writer's bytes are known
-    ghost tells = { λ sink. IsSome (W.contents sink.upstream.now) };
-
-    ghost written = { λ sink. known (W.contents sink.upstream.now) };
+    ghost bytes = { λ sink. W.contents sink.upstream.now };
 
     ghost failures = { λ sink. sink.failures };
 

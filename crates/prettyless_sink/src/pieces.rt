@@ -1,6 +1,6 @@
 //! Gaps and texts, written in pieces.
 ghost use Rattle.std.specs.Prelude.{◌≡◌, ◌++◌, ◌≤◌, OnOk, OnErr};
-ghost use Rattle.prettyless_sink.specs.Sink.{AppendsBeginning, rise};
+ghost use Rattle.prettyless_sink.specs.Sink.{Accepts, Refuses};
 ghost use Rattle.prettyless_model.specs.Spaces.{spaces};
 
 use crate::render::Render;
@@ -15,10 +15,8 @@ const HUNDRED_SPACES: &str =
 #[inline]
 pub fn write_gap_and_text<W: Render>(out: &mut W, gap: usize, text: &str) -> Result<(), W::Error>
     ensures same_lender { W.lender out.new ≡ W.lender out.old }
-    ensures ok { OnOk result (W.tells out.old → W.tells out.new
-        × (W.written out.new ≡ W.written out.old ++ (spaces gap ++ text.now)) × (W.failures out.new ≡ W.failures out.old)) }
-    ensures err { OnErr result (W.tells out.old → W.tells out.new
-        × AppendsBeginning (W.written out.old) (W.written out.new) (spaces gap ++ text.now) × (W.failures out.new ≡ rise (W.failures out.old))) }
+    ensures ok { OnOk result (Accepts (W.bytes out.old) (W.bytes out.new) (spaces gap ++ text.now) (W.failures out.old) (W.failures out.new)) }
+    ensures err { OnErr result (Refuses (W.bytes out.old) (W.bytes out.new) (spaces gap ++ text.now) (W.failures out.old) (W.failures out.new)) }
 {
     if gap > 0 {
         write_spaces(out, gap)?;
@@ -32,10 +30,8 @@ pub fn write_gap_and_text<W: Render>(out: &mut W, gap: usize, text: &str) -> Res
 // Writes so many spaces, or fails behind fewer.
 fn write_spaces<W: Render>(out: &mut W, count: usize) -> Result<(), W::Error>
     ensures same_lender { W.lender out.new ≡ W.lender out.old }
-    ensures ok { OnOk result (W.tells out.old → W.tells out.new
-        × (W.written out.new ≡ W.written out.old ++ spaces count) × (W.failures out.new ≡ W.failures out.old)) }
-    ensures err { OnErr result (W.tells out.old → W.tells out.new
-        × AppendsBeginning (W.written out.old) (W.written out.new) (spaces count) × (W.failures out.new ≡ rise (W.failures out.old))) }
+    ensures ok { OnOk result (Accepts (W.bytes out.old) (W.bytes out.new) (spaces count) (W.failures out.old) (W.failures out.new)) }
+    ensures err { OnErr result (Refuses (W.bytes out.old) (W.bytes out.new) (spaces count) (W.failures out.old) (W.failures out.new)) }
 {
     let mut left = count;
     while left > 0 {

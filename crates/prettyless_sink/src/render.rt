@@ -1,6 +1,6 @@
-ghost use Rattle.std.specs.Prelude.{◌≡◌, ◌++◌, ◌⊎◌, ◌↔◌, IsTrue, ℕ, List, Option, None, IfOk, OnOk, OnErr};
+ghost use Rattle.std.specs.Prelude.{◌≡◌, ◌⊎◌, ◌↔◌, IsTrue, ℕ, List, Option, None, IfOk, OnOk, OnErr};
 ghost use Rattle.std.specs.Borrow.{GName};
-ghost use Rattle.prettyless_sink.specs.Sink.{AppendsBeginning, AppendsCount, IsFairCount, RisesIfUnfair, rise};
+ghost use Rattle.prettyless_sink.specs.Sink.{Accepts, IsFairCount, Refuses, Takes};
 
 /// A sink: where the bytes of a layout go.
 ///
@@ -10,11 +10,8 @@ pub trait Render {
     /// What the sink answers where it or the document fails.
     type Error;
 
-    // whether the sink tells its bytes
-    ghost tells: { Self → Type 0 };
-
-    // the bytes written so far
-    ghost written: { Self → List ℕ };
+    // the bytes written so far, where they are known
+    ghost bytes: { Self → Option (List ℕ) };
 
     // how often it failed, at most the greatest `u64`
     ghost failures: { Self → ℕ };
@@ -34,11 +31,8 @@ pub trait Render {
     /// character. A beginning of the text is written then too.
     fn write_str(&mut self, s: &str) -> Result<usize, Self::Error>
         ensures same_lender { lender self.new ≡ lender self.old }
-        ensures ok { IfOk result (λ count. tells self.old → tells self.new
-            × AppendsCount (written self.old) (written self.new) s.now count
-            × RisesIfUnfair (failures self.old) (failures self.new) s.now count) }
-        ensures err { OnErr result (tells self.old → tells self.new
-            × AppendsBeginning (written self.old) (written self.new) s.now × (failures self.new ≡ rise (failures self.old))) };
+        ensures ok { IfOk result (λ count. Takes (bytes self.old) (bytes self.new) s.now count (failures self.old) (failures self.new)) }
+        ensures err { OnErr result (Refuses (bytes self.old) (bytes self.new) s.now (failures self.old) (failures self.new)) };
 
     /// Writes the whole text, or fails behind a beginning of it.
     ///
@@ -46,10 +40,8 @@ pub trait Render {
     /// An error is answered as it comes, and a count that fails is `write_fault`.
     fn write_str_all(&mut self, s: &str) -> Result<(), Self::Error>
         ensures same_lender { lender self.new ≡ lender self.old }
-        ensures ok { OnOk result (tells self.old → tells self.new
-            × (written self.new ≡ written self.old ++ s.now) × (failures self.new ≡ failures self.old)) }
-        ensures err { OnErr result (tells self.old → tells self.new
-            × AppendsBeginning (written self.old) (written self.new) s.now × (failures self.new ≡ rise (failures self.old))) }
+        ensures ok { OnOk result (Accepts (bytes self.old) (bytes self.new) s.now (failures self.old) (failures self.new)) }
+        ensures err { OnErr result (Refuses (bytes self.old) (bytes self.new) s.now (failures self.old) (failures self.new)) }
     {
         let mut rest = s;
         while !rest.is_empty() {

@@ -1,13 +1,21 @@
 -- The printer's state as the definitions see it, and what a step of the code shows of the step that is defined.
 use Rattle.std.specs.Prelude.{◌≡◌, ℕ, List, [], ◌∷◌, ◌++◌, drop}
 use Rattle.prettyless_model.specs.Tree.{Tree}
-use Rattle.prettyless_model.specs.Layout.{State}
+use Rattle.prettyless_model.specs.Layout.{State, Entry}
 use Rattle.prettyless_step.specs.Stack.{Task, follow, stack_of, trees}
 use Rattle.prettyless_step.specs.Steps.{Step, Move, Stuck, Choose, step_of}
 use Rattle.prettyless_step.specs.Piece.{piece_bytes}
 use Rattle.prettyless_step.specs.declared.printer.Printer.{Printer}
 use Rattle.prettyless_step.specs.declared.printer.Taken.{Taken}
 use Rattle.prettyless_step.specs.declared.printer.Taken.TheVariants.{Quiet, Written, Failed, Chosen}
+
+-- the tasks that the printer has still to lay, the next one first
+abbrev pub tasks_of : {N : Type 0} → (N → Tree) → Printer N → List Task
+tasks_of f p = stack_of f p.commands.items
+
+-- what follows the node that is laid now
+abbrev pub following : {N : Type 0} → (N → Tree) → Printer N → List Entry
+following f p = follow (tasks_of f p)
 
 -- the state between two nodes: the pending documents are those of the queue from its start on
 abbrev pub state_of : {N : Type 0} → (N → Tree) → Printer N → State

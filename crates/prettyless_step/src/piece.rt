@@ -1,6 +1,6 @@
 //! What one node writes.
-ghost use Rattle.std.specs.Prelude.{◌≡◌, ◌++◌, [], OnOk, OnErr};
-ghost use Rattle.prettyless_sink.specs.Sink.{AppendsBeginning, rise};
+ghost use Rattle.std.specs.Prelude.{◌≡◌, [], OnOk, OnErr};
+ghost use Rattle.prettyless_sink.specs.Sink.{Accepts, Refuses};
 ghost use Rattle.prettyless_step.specs.Piece.{piece_bytes};
 
 use prettyless_sink::pieces::write_gap_and_text;
@@ -31,10 +31,8 @@ impl<'v> Piece<'v> {
 #[inline(always)]
 pub fn write_piece<W: Render>(out: &mut W, piece: Piece<'_>) -> Result<(), W::Error>
     ensures same_lender { W.lender out.new ≡ W.lender out.old }
-    ensures ok { OnOk result (W.tells out.old → W.tells out.new
-        × (W.written out.new ≡ W.written out.old ++ piece_bytes piece.entry) × (W.failures out.new ≡ W.failures out.old)) }
-    ensures err { OnErr result (W.tells out.old → W.tells out.new
-        × AppendsBeginning (W.written out.old) (W.written out.new) (piece_bytes piece.entry) × (W.failures out.new ≡ rise (W.failures out.old))) }
+    ensures ok { OnOk result (Accepts (W.bytes out.old) (W.bytes out.new) (piece_bytes piece.entry) (W.failures out.old) (W.failures out.new)) }
+    ensures err { OnErr result (Refuses (W.bytes out.old) (W.bytes out.new) (piece_bytes piece.entry) (W.failures out.old) (W.failures out.new)) }
 {
     write_gap_and_text(out, piece.gap, piece.text)?;
     if piece.indent > 0 {

@@ -1,4 +1,5 @@
 ghost use Rattle.std.specs.Prelude.{◌≡◌, ◌∷◌, ◌++◌, []};
+ghost use Rattle.prettyless_sink.specs.Sink.{IfKnown};
 ghost use Rattle.replay_cases.specs.Answers.{is_skipped, Writes, Answers};
 
 use crate::replayed::replayed;
@@ -13,8 +14,8 @@ fn is_skipped(line: &[u8]) -> bool
 }
 
 fn write_line<S: Render>(out: &mut S, label: &str, text: &str) -> Result<(), S::Error>
-    ensures { S.tells out.old → S.tells out.new
-        × Writes (label.now ++ text.now ++ 10 ∷ []) (S.written out.old) (S.written out.new) (S.failures out.old) (S.failures out.new) result }
+    ensures { IfKnown (S.bytes out.old) (S.bytes out.new) (λ before after.
+        Writes (label.now ++ text.now ++ 10 ∷ []) before after (S.failures out.old) (S.failures out.new) result) }
 {
     out.write_str_all(label)?;
     out.write_str_all(text)?;
@@ -26,8 +27,8 @@ fn write_line<S: Render>(out: &mut S, label: &str, text: &str) -> Result<(), S::
 /// A blank line and a comment, which begins with `#`, have no answer. An error is the sink's: it then has a beginning of
 /// the answer, and got no piece after that.
 pub fn answer<S: Render>(alloc: Global, line: &[u8], out: &mut S) -> Result<(), S::Error>
-    ensures { S.tells out.old → S.tells out.new
-        × Answers line.now (S.written out.old) (S.written out.new) (S.failures out.old) (S.failures out.new) result }
+    ensures { IfKnown (S.bytes out.old) (S.bytes out.new) (λ before after.
+        Answers line.now before after (S.failures out.old) (S.failures out.new) result) }
 {
     if is_skipped(line) {
         return Ok(());

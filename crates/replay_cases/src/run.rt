@@ -1,5 +1,6 @@
 ghost use Rattle.std.specs.Prelude.{IfOk, IfSome, OnErr};
 ghost use Rattle.std.specs.Io.KnownBytes.{Consumes};
+ghost use Rattle.prettyless_sink.specs.Sink.{IfKnown};
 ghost use Rattle.replay_cases.specs.Runs.{ReadsLine, Runs};
 
 use crate::answer::answer;
@@ -34,8 +35,8 @@ pub fn run<R: BufRead, S: Render<Error = io::Error>>(
     reader: &mut R,
     out: &mut S,
 ) -> io::Result<()>
-    ensures { S.tells out.old → S.tells out.new
-        × Runs (R.remaining reader.old) (S.written out.old) (S.written out.new) (S.failures out.old) (S.failures out.new) result }
+    ensures { IfKnown (S.bytes out.old) (S.bytes out.new) (λ before after.
+        Runs (R.remaining reader.old) before after (S.failures out.old) (S.failures out.new) result) }
 {
     let mut line = Vec::new(alloc);
     for _ in 0..u64::MAX {

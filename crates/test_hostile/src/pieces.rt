@@ -33,9 +33,7 @@ impl Pieces {
 impl Render for Pieces {
     type Error = Fault;
 
-    ghost tells = { λ _. ⊤ };
-
-    ghost written = { λ sink. sink.bytes.items };
+    ghost bytes = { λ sink. Some sink.bytes.items };
 
     ghost failures = { λ sink. sink.failures };
 

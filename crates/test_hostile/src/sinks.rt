@@ -83,9 +83,7 @@ impl Hostile {
 impl Render for Hostile {
     type Error = Fault;
 
-    ghost tells = { λ _. ⊤ };
-
-    ghost written = { λ sink. sink.bytes.items };
+    ghost bytes = { λ sink. Some sink.bytes.items };
 
     ghost failures = { λ sink. sink.failures };
 

@@ -1,4 +1,4 @@
-ghost use Rattle.std.specs.Prelude.{⊤};
+ghost use Rattle.std.specs.Prelude.{⊤, Some};
 
 use crate::pieces::write_gap_and_text;
 use crate::render::Render;
@@ -26,9 +26,7 @@ impl Lengths {
 impl Render for Lengths {
     type Error = AllocError;
 
-    ghost tells = { λ _. ⊤ };
-
-    ghost written = { λ sink. sink.bytes.items };
+    ghost bytes = { λ sink. Some sink.bytes.items };
 
     ghost failures = { λ sink. sink.failures };
 

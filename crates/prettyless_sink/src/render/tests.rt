@@ -1,4 +1,4 @@
-ghost use Rattle.std.specs.Prelude.{◌≡◌, ⊤};
+ghost use Rattle.std.specs.Prelude.{◌≡◌, Some};
 ghost use Rattle.prettyless_sink.specs.declared.render.tests.Fault.TheVariants.{Count, Document};
 
 use super::{Render, is_fair_count};
@@ -25,9 +25,7 @@ struct Short {
 impl Render for Short {
     type Error = Fault;
 
-    ghost tells = { λ _. ⊤ };
-
-    ghost written = { λ sink. sink.bytes.items };
+    ghost bytes = { λ sink. Some sink.bytes.items };
 
     ghost failures = { λ sink. sink.failures };
 

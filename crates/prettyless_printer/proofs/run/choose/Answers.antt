@@ -1,6 +1,6 @@
 use Rattle.std.proofs.Common.{◌≡◌, ◌++◌, ◌∙◌, ℕ, List, ap, arith, refl, subst}
 use Rattle.std.specs.String.{string_bytes}
-use Rattle.prettyless_sink.specs.Sink.{AppendsBeginning}
+use Rattle.prettyless_sink.specs.Sink.{AppendsBeginning, known}
 use Rattle.prettyless_step.specs.Stack.{stack_of}
 use Rattle.prettyless_step.specs.Printing.{state_of}
 use Rattle.prettyless_printer.specs.Trials.{TrialDid}
@@ -19,8 +19,8 @@ returns-in-Err-write_gap_and_text-clause-told g c =
     let q = c.print_branch.new.printer in
     let x = f c.args.first in
     let y = f c.args.second in
-    let out = g.W.Render.written c.args.out.now in
-    let new = g.W.Render.written c.write_gap_and_text.new.out in
+    let out = known (g.W.Render.bytes c.args.out.now) in
+    let new = known (g.W.Render.bytes c.write_gap_and_text.new.out) in
     let before = string_bytes c.clear.new.self in
     let after = string_bytes c.print_branch.new.buffer.text in
     let n = subst (TrialDid f p q c.args.indent x before after) c.in-Ok-true.field-0-test c.in-Ok-true.ensures.decided in
@@ -31,9 +31,9 @@ returns-in-Err-write_gap_and_text-clause-told g c =
         (λ whole limit below old w.
             let k = choice_kept f p q p.options whole limit below old out c.args.indent x y before after w refl n in
             let piece : c.as_str.result.now ≡ k.0 = c.as_str.ensures.value ∙ k.1 ∙ ap (λ (z : List ℕ). z ++ k.0) c.clear.ensures.bytes in
-            beginning_less old out new k.0 (bytes_before whole) (subst (AppendsBeginning out new) piece e.1)
+            beginning_less old out new k.0 (bytes_before whole) (subst (AppendsBeginning out new) piece e.1.0)
             (inside_beginning p.options whole limit below old (stack_of f q.commands.items) (state_of f q) (out ++ k.0) k.2) (w.bytes, w.out_is)),
-        e.2,
+        e.1.1,
       ),
     )
 
@@ -45,7 +45,7 @@ returns-in-Ok-push_node-clause-told g c =
     let u = record q { commands = c.push_node.new.stack } in
     let x = f c.args.first in
     let y = f c.args.second in
-    let out = g.W.Render.written c.args.out.now in
+    let out = known (g.W.Render.bytes c.args.out.now) in
     let before = string_bytes c.clear.new.self in
     let after = string_bytes c.print_branch.new.buffer.text in
     let n = subst (TrialDid f p q c.args.indent x before after) c.in-Ok-false.field-0-test c.in-Ok-false.ensures.decided in

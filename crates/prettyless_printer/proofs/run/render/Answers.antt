@@ -1,4 +1,5 @@
 use Rattle.std.proofs.Common.{◌≡◌, ◌∷◌, [], ◌∙◌, true, ap, sym, subst, drop}
+use Rattle.prettyless_sink.specs.Sink.{known_of}
 use Rattle.prettyless_model.specs.Layout.{Bytes, initial}
 use Rattle.prettyless_model.specs.declared.mode.Mode.TheVariants.{Break}
 use Rattle.prettyless_step.specs.Stack.{make_task, stack_of, trees}
@@ -12,7 +13,7 @@ use Rattle.prettyless_printer.proofs.run.render.Goals as goal
 pub returns-in-Ok-clause-told : goal.returns-in-Ok-clause-told
 returns-in-Ok-clause-told g c =
     let f = g.N.Walk.tree in
-    let w = g.W.Render.written in
+    let w = known_of g.W.Render.bytes in
     let fails = g.W.Render.failures in
     let d = f c.args.node in
     let new = c.run_to_end.new.out in

@@ -1,5 +1,6 @@
 use Rattle.std.proofs.Common.{◌∙◌, ap, arith, length, refl, sym, subst}
 use Rattle.std.proofs.lemmas.Result.{err_from_is_err_and}
+use Rattle.prettyless_sink.specs.Sink.{known, known_of}
 use Rattle.prettyless_model.specs.declared.options.RenderOptions.{RenderOptions}
 use Rattle.prettyless_model.specs.Layout.{State}
 use Rattle.prettyless_step.specs.Stack.{nodes, stack_of}
@@ -17,7 +18,7 @@ pub rounds-init : goal.rounds-init
 rounds-init g c = record {
   queue = c.requires;
   same_lender = refl;
-  told = λ told. (told, finishing_begins g.N.Walk.tree c.args.printer.now (g.W.Render.written c.args.out.now), refl);
+  told = λ told. (told, finishing_begins g.N.Walk.tree c.args.printer.now (known (g.W.Render.bytes c.args.out.now)), refl);
   rise = rise_same c.args.visits.now;
   pays = λ plain. (plain, pays_same (stack_of g.N.Walk.tree c.args.printer.now.commands.items) c.args.visits.now);
   meets = meets_same (stack_tally g.N.Walk.tree c.args.printer.now 0) c.args.visits.now;
@@ -28,7 +29,7 @@ returns-in_err-work_off-clause-told g c =
     let residual = err_from_is_err_and c.from_residual.result c.from_residual.ensures.1 in
     rw (residual.1, residual.2)
     let f = g.N.Walk.tree in
-    let w = g.W.Render.written in
+    let w = known_of g.W.Render.bytes in
     let fails = g.W.Render.failures in
     let whole = to_end f c.args.printer.now in
     let p = c.rounds.printer in
@@ -44,7 +45,7 @@ returns-in_err-work_off-clause-told g c =
 pub returns-then-not-is_pending-clause-told : goal.returns-then-not-is_pending-clause-told
 returns-then-not-is_pending-clause-told g c =
     let f = g.N.Walk.tree in
-    let w = g.W.Render.written in
+    let w = known_of g.W.Render.bytes in
     let fails = g.W.Render.failures in
     let whole = to_end f c.args.printer.now in
     let p = c.rounds.printer in
@@ -63,7 +64,7 @@ returns-then-not-is_pending-clause-told g c =
 pub rounds-smaller : goal.rounds-smaller
 rounds-smaller g c =
     let f = g.N.Walk.tree in
-    let w = g.W.Render.written in
+    let w = known_of g.W.Render.bytes in
     let fails = g.W.Render.failures in
     let whole = to_end f c.args.printer.now in
     let p = c.rounds.printer in
@@ -77,7 +78,7 @@ rounds-smaller g c =
 pub rounds-preserved : goal.rounds-preserved
 rounds-preserved g c =
     let f = g.N.Walk.tree in
-    let w = g.W.Render.written in
+    let w = known_of g.W.Render.bytes in
     let fails = g.W.Render.failures in
     let whole = to_end f c.args.printer.now in
     let p = c.rounds.printer in
@@ -109,7 +110,7 @@ returns-in_err-flush_end-clause-told g c =
     let residual = err_from_is_err_and c.from_residual-in_err-flush_end.result c.from_residual-in_err-flush_end.ensures.1 in
     rw (residual.1, residual.2)
     let f = g.N.Walk.tree in
-    let w = g.W.Render.written in
+    let w = known_of g.W.Render.bytes in
     let fails = g.W.Render.failures in
     let whole = to_end f c.args.printer.now in
     let p = c.rounds.printer in

@@ -1,4 +1,5 @@
-use Rattle.std.proofs.Common.{◌≡◌, ◌≤◌, vec_len}
+use Rattle.std.proofs.Common.{◌≡◌, ◌≤◌, vec_len, IsSome}
+use Rattle.prettyless_sink.specs.Sink.{known}
 use Rattle.prettyless_step.specs.Stack.{stack_of}
 use Rattle.prettyless_step.specs.Steps.{work}
 use Rattle.prettyless_step.specs.Printing.{state_of}
@@ -12,8 +13,8 @@ abbrev pub invariant-rounds : goal.invariant-rounds
 invariant-rounds g l = record {
   queue : l.printer.start ≤ vec_len l.printer.queue;
   same_lender : g.W.Render.lender l.out ≡ g.W.Render.lender l.fn.out;
-  told : g.W.Render.tells l.fn.out → g.W.Render.tells l.out
-      × Finishing g.N.Walk.tree (to_end g.N.Walk.tree l.fn.printer) l.printer (g.W.Render.written l.fn.out) (g.W.Render.written l.out)
+  told : IsSome (g.W.Render.bytes l.fn.out) → IsSome (g.W.Render.bytes l.out)
+      × Finishing g.N.Walk.tree (to_end g.N.Walk.tree l.fn.printer) l.printer (known (g.W.Render.bytes l.fn.out)) (known (g.W.Render.bytes l.out))
       × (g.W.Render.failures l.out ≡ g.W.Render.failures l.fn.out);
   rise : Rise l.fn.visits l.visits;
   pays : Plain g.N.Walk.tree l.fn.printer → Plain g.N.Walk.tree l.printer

@@ -1,5 +1,6 @@
 use Rattle.std.proofs.Common.{◌<◌, ◌≤◌, ◌∙◌, length, arith, refl}
 use Rattle.std.proofs.lemmas.Result.{err_from_is_err_and}
+use Rattle.prettyless_sink.specs.Sink.{known, known_of}
 use Rattle.prettyless_model.specs.declared.options.RenderOptions.{RenderOptions}
 use Rattle.prettyless_step.specs.Stack.{stack_of}
 use Rattle.prettyless_step.specs.Printing.{state_of}
@@ -19,7 +20,7 @@ work-init g c = record {
   options = refl;
   less = omega arith;
   same_lender = refl;
-  told = λ told. (told, working_begins g.N.Walk.tree c.args.printer.now (g.W.Render.written c.args.out.now), refl);
+  told = λ told. (told, working_begins g.N.Walk.tree c.args.printer.now (known (g.W.Render.bytes c.args.out.now)), refl);
   rise = rise_same c.args.visits.now;
   pays = λ plain. (plain, pays_same (stack_of g.N.Walk.tree c.args.printer.now.commands.items) c.args.visits.now);
   meets = meets_same (stack_tally g.N.Walk.tree c.args.printer.now 0) c.args.visits.now;
@@ -28,7 +29,7 @@ work-init g c = record {
 pub work-preserved-in-Went : goal.work-preserved-in-Went
 work-preserved-in-Went g c =
     let f = g.N.Walk.tree in
-    let w = g.W.Render.written in
+    let w = known_of g.W.Render.bytes in
     let fails = g.W.Render.failures in
     let p = c.args.printer.now in
     let v = c.work.printer in
@@ -58,7 +59,7 @@ work-preserved-in-Went g c =
 pub returns-in-Failed-clause-told : goal.returns-in-Failed-clause-told
 returns-in-Failed-clause-told g c =
     let f = g.N.Walk.tree in
-    let w = g.W.Render.written in
+    let w = known_of g.W.Render.bytes in
     let fails = g.W.Render.failures in
     let p = c.args.printer.now in
     let v = c.work.printer in
@@ -77,7 +78,7 @@ returns-in_err-turn-clause-told g c =
     let residual = err_from_is_err_and c.from_residual.result c.from_residual.ensures.1 in
     rw (residual.1, residual.2)
     let f = g.N.Walk.tree in
-    let w = g.W.Render.written in
+    let w = known_of g.W.Render.bytes in
     let fails = g.W.Render.failures in
     let p = c.args.printer.now in
     let v = c.work.printer in
@@ -92,7 +93,7 @@ returns-in_err-turn-clause-told g c =
 pub work-preserved : goal.work-preserved
 work-preserved g c =
     let f = g.N.Walk.tree in
-    let w = g.W.Render.written in
+    let w = known_of g.W.Render.bytes in
     let fails = g.W.Render.failures in
     let p = c.args.printer.now in
     let v = c.work.printer in
@@ -136,7 +137,7 @@ returns-in_err-choose-in-Chosen-clause-told g c =
     let residual = err_from_is_err_and c.from_residual-in_err-choose-in-Chosen.result c.from_residual-in_err-choose-in-Chosen.ensures.1 in
     rw (residual.1, residual.2)
     let f = g.N.Walk.tree in
-    let w = g.W.Render.written in
+    let w = known_of g.W.Render.bytes in
     let fails = g.W.Render.failures in
     let p = c.args.printer.now in
     let v = c.work.printer in
@@ -160,7 +161,7 @@ returns-in_err-choose-in-Chosen-clause-told g c =
 pub returns-clause-told : goal.returns-clause-told
 returns-clause-told g c =
     let f = g.N.Walk.tree in
-    let w = g.W.Render.written in
+    let w = known_of g.W.Render.bytes in
     let q = c.work.printer in
     let l : length (stack_of f q.commands.items) ≤ 0 = omega (arith, length-stack_of f q.commands.items, q.commands.ok.0, c.work-test.false, c.len.ensures) in
     λ told.

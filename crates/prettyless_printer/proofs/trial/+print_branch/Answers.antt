@@ -54,7 +54,7 @@ take_back-requires g t c =
     let l : length (stack_of f p.commands.items) < length (stack_of f v.commands.items) =
     omega (arith, length-stack_of f p.commands.items, length-stack_of f v.commands.items, p.commands.ok.0, v.commands.ok.0, ap (λ (x : Mark). x.commands) m, c.work-test.true, c.len.ensures) in
     let t' = rw c.in-Ok-Failed.field-0-is at c.in-Ok-Failed.ensures.told in
-    let e = trying_turn f p v i d old out (λ o. Goes f o q new turn.Failed) c.work.invariant.options l c.work.invariant.trying (t' tt).1.0 in
+    let e = trying_turn f p v i d old out (λ o. Goes f o q new turn.Failed) c.work.invariant.options l c.work.invariant.trying (t' refl).1.0 in
     cut_back c.args.buffer.now.text c.turn.new.out.text c.len-written.result e.0 c.len-written.ensures e.2
 
 pub returns-in-Ok-Failed-clause-decided : goal.returns-in-Ok-Failed-clause-decided
@@ -72,7 +72,7 @@ returns-in-Ok-Failed-clause-decided g t c =
     let l : length (stack_of f p.commands.items) < length (stack_of f v.commands.items) =
     omega (arith, length-stack_of f p.commands.items, length-stack_of f v.commands.items, p.commands.ok.0, v.commands.ok.0, ap (λ (x : Mark). x.commands) m, c.work-test.true, c.len.ensures) in
     let t' = rw c.in-Ok-Failed.field-0-is at c.in-Ok-Failed.ensures.told in
-    let e = trying_turn f p v i d old out (λ o. Goes f o q new turn.Failed) c.work.invariant.options l c.work.invariant.trying (t' tt).1.0 in
+    let e = trying_turn f p v i d old out (λ o. Goes f o q new turn.Failed) c.work.invariant.options l c.work.invariant.trying (t' refl).1.0 in
     let k : length (stack_of f p.commands.items) ≡ p.commands.len = omega (arith, length-stack_of f p.commands.items, p.commands.ok.0) in
     let cut = c.take_back.ensures.buffer ∙ ap (λ (x : ℕ). take x new) (length-string_bytes c.args.buffer.now.text c.len-written.result c.len-written.ensures) in
     trial_rejected f p q c.take_back.new.printer i d c.mark_of-mark.result old new (string_bytes c.take_back.new.buffer.text) e.0 m e.1 e.4 k
@@ -94,7 +94,7 @@ take_back-requires-then-not-printer g t c =
     let l : length (stack_of f p.commands.items) < length (stack_of f v.commands.items) =
     omega (arith, length-stack_of f p.commands.items, length-stack_of f v.commands.items, p.commands.ok.0, v.commands.ok.0, ap (λ (x : Mark). x.commands) m, c.work-test.true, c.len.ensures) in
     let t' = rw c.in-Ok-Went.field-0-is at c.in-Ok-Went.ensures.told in
-    let e = trying_turn f p v i d old out (λ o. Goes f o q new turn.Went) c.work.invariant.options l c.work.invariant.trying (t' tt).1.0 in
+    let e = trying_turn f p v i d old out (λ o. Goes f o q new turn.Went) c.work.invariant.options l c.work.invariant.trying (t' refl).1.0 in
     cut_back c.args.buffer.now.text c.turn.new.out.text c.len-written.result e.bytes c.len-written.ensures e.out_is
 
 pub returns-then-not-printer-clause-decided : goal.returns-then-not-printer-clause-decided
@@ -112,7 +112,7 @@ returns-then-not-printer-clause-decided g t c =
     let l : length (stack_of f p.commands.items) < length (stack_of f v.commands.items) =
     omega (arith, length-stack_of f p.commands.items, length-stack_of f v.commands.items, p.commands.ok.0, v.commands.ok.0, ap (λ (x : Mark). x.commands) m, c.work-test.true, c.len.ensures) in
     let t' = rw c.in-Ok-Went.field-0-is at c.in-Ok-Went.ensures.told in
-    let e = trying_turn f p v i d old out (λ o. Goes f o q new turn.Went) c.work.invariant.options l c.work.invariant.trying (t' tt).1.0 in
+    let e = trying_turn f p v i d old out (λ o. Goes f o q new turn.Went) c.work.invariant.options l c.work.invariant.trying (t' refl).1.0 in
     let k : length (stack_of f p.commands.items) ≡ p.commands.len = omega (arith, length-stack_of f p.commands.items, p.commands.ok.0) in
     let cut = c.take_back-then-not-printer.ensures.buffer ∙ ap (λ (x : ℕ). take x new) (length-string_bytes c.args.buffer.now.text c.len-written.result c.len-written.ensures) in
     trial_rejected f p q c.take_back-then-not-printer.new.printer i d c.mark_of-mark.result old new (string_bytes c.take_back-then-not-printer.new.buffer.text) e.bytes m e.above e.stack_is k
@@ -135,7 +135,7 @@ work-preserved-else-not-printer g t c =
     let l : length (stack_of f p.commands.items) < length (stack_of f v.commands.items) =
     omega (arith, length-stack_of f p.commands.items, length-stack_of f v.commands.items, p.commands.ok.0, v.commands.ok.0, ap (λ (x : Mark). x.commands) m, c.work-test.true, c.len.ensures) in
     let t' = rw c.in-Ok-Went.field-0-is at c.in-Ok-Went.ensures.told in
-    let e = trying_turn f p v i d old out (λ o. Goes f o q new turn.Went) c.work.invariant.options l c.work.invariant.trying (t' tt).1.0 in
+    let e = trying_turn f p v i d old out (λ o. Goes f o q new turn.Went) c.work.invariant.options l c.work.invariant.trying (t' refl).1.0 in
     record {
       trying = e;
       options = c.in-Ok-Went.ensures.options ∙ c.work.invariant.options;
@@ -165,7 +165,7 @@ print_branch-requires g t c κs within =
     let l : length (stack_of f p.commands.items) < length (stack_of f v.commands.items) =
     omega (arith, length-stack_of f p.commands.items, length-stack_of f v.commands.items, p.commands.ok.0, v.commands.ok.0, ap (λ (x : Mark). x.commands) m, c.work-test.true, c.len.ensures) in
     let t' = rw c.in-Ok-Chosen.field-0-is at c.in-Ok-Chosen.ensures.told in
-    let e = trying_turn f p v i d old out (λ o. Goes f o q new (turn.Chosen c.in-Ok-Chosen.i c.in-Ok-Chosen.first c.in-Ok-Chosen.second)) c.work.invariant.options l c.work.invariant.trying (t' tt).1.0 in
+    let e = trying_turn f p v i d old out (λ o. Goes f o q new (turn.Chosen c.in-Ok-Chosen.i c.in-Ok-Chosen.first c.in-Ok-Chosen.second)) c.work.invariant.options l c.work.invariant.trying (t' refl).1.0 in
     let b = e.bound in
     (omega (arith, b, c.decreases), (within, c.turn.ensures.queue))
 
@@ -184,7 +184,7 @@ work-preserved g t c =
     let l : length (stack_of f p.commands.items) < length (stack_of f v.commands.items) =
     omega (arith, length-stack_of f p.commands.items, length-stack_of f v.commands.items, p.commands.ok.0, v.commands.ok.0, ap (λ (x : Mark). x.commands) m, c.work-test.true, c.len.ensures) in
     let t' = rw c.in-Ok-Chosen.field-0-is at c.in-Ok-Chosen.ensures.told in
-    let e = trying_turn f p v i d old out (λ o. Goes f o q new (turn.Chosen c.in-Ok-Chosen.i c.in-Ok-Chosen.first c.in-Ok-Chosen.second)) c.work.invariant.options l c.work.invariant.trying (t' tt).1.0 in
+    let e = trying_turn f p v i d old out (λ o. Goes f o q new (turn.Chosen c.in-Ok-Chosen.i c.in-Ok-Chosen.first c.in-Ok-Chosen.second)) c.work.invariant.options l c.work.invariant.trying (t' refl).1.0 in
     let r = c.print_branch.new.printer in
     let x = f c.in-Ok-Chosen.first in
     let y = f c.in-Ok-Chosen.second in
@@ -226,7 +226,7 @@ work-preserved-in_ok-push_node-in-Ok-Chosen g t c =
     let l : length (stack_of f p.commands.items) < length (stack_of f v.commands.items) =
     omega (arith, length-stack_of f p.commands.items, length-stack_of f v.commands.items, p.commands.ok.0, v.commands.ok.0, ap (λ (x : Mark). x.commands) m, c.work-test.true, c.len.ensures) in
     let t' = rw c.in-Ok-Chosen.field-0-is at c.in-Ok-Chosen.ensures.told in
-    let e = trying_turn f p v i d old out (λ o. Goes f o q new (turn.Chosen c.in-Ok-Chosen.i c.in-Ok-Chosen.first c.in-Ok-Chosen.second)) c.work.invariant.options l c.work.invariant.trying (t' tt).1.0 in
+    let e = trying_turn f p v i d old out (λ o. Goes f o q new (turn.Chosen c.in-Ok-Chosen.i c.in-Ok-Chosen.first c.in-Ok-Chosen.second)) c.work.invariant.options l c.work.invariant.trying (t' refl).1.0 in
     let r = c.print_branch.new.printer in
     let u = record r { commands = c.push_node-then-not-branch.new.stack } in
     let x = f c.in-Ok-Chosen.first in
@@ -331,7 +331,7 @@ returns-in-Ok-Failed-clause-pays g t c =
     let l : length (stack_of f p.commands.items) < length (stack_of f v.commands.items) =
     omega (arith, length-stack_of f p.commands.items, length-stack_of f v.commands.items, p.commands.ok.0, v.commands.ok.0, ap (λ (x : Mark). x.commands) m, c.work-test.true, c.len.ensures) in
     let t' = rw c.in-Ok-Failed.field-0-is at c.in-Ok-Failed.ensures.told in
-    let e = trying_turn f p v i d old out (λ o. Goes f o q new turn.Failed) c.work.invariant.options l c.work.invariant.trying (t' tt).1.0 in
+    let e = trying_turn f p v i d old out (λ o. Goes f o q new turn.Failed) c.work.invariant.options l c.work.invariant.trying (t' refl).1.0 in
     let r = c.take_back.new.printer in
     let back : TrialDid f p r i d old (string_bytes c.take_back.new.buffer.text) false = returns-in-Ok-Failed-clause-decided g t c in
     λ plain none.
@@ -357,7 +357,7 @@ returns-then-not-printer-clause-pays g t c =
     let l : length (stack_of f p.commands.items) < length (stack_of f v.commands.items) =
     omega (arith, length-stack_of f p.commands.items, length-stack_of f v.commands.items, p.commands.ok.0, v.commands.ok.0, ap (λ (x : Mark). x.commands) m, c.work-test.true, c.len.ensures) in
     let t' = rw c.in-Ok-Went.field-0-is at c.in-Ok-Went.ensures.told in
-    let e = trying_turn f p v i d old out (λ o. Goes f o q new turn.Went) c.work.invariant.options l c.work.invariant.trying (t' tt).1.0 in
+    let e = trying_turn f p v i d old out (λ o. Goes f o q new turn.Went) c.work.invariant.options l c.work.invariant.trying (t' refl).1.0 in
     let r = c.take_back-then-not-printer.new.printer in
     let back : TrialDid f p r i d old (string_bytes c.take_back-then-not-printer.new.buffer.text) false = returns-then-not-printer-clause-decided g t c in
     λ plain none.

@@ -1,4 +1,5 @@
 use Rattle.std.proofs.Common.{[], length, ap, append-nil, arith, refl, subst, sym}
+use Rattle.prettyless_sink.specs.Sink.{known}
 use Rattle.prettyless_sink.specs.declared.visits.Visits.{Visits}
 use Rattle.prettyless_step.specs.Stack.{stack_of, task}
 use Rattle.prettyless_step.specs.Piece.{piece_bytes}
@@ -39,7 +40,7 @@ returns-in-Ok-Failed-clause-told g c =
     let q = c.step.new.printer in
     let k = took f p (record p { commands = c.pop_command.new.stack }) q c.in-Some.command c.in-Ok-Failed.field-0 c.in-Some.ensures refl refl refl c.in-Ok-Failed.ensures.step in
     let h = subst (TookNext f p q) c.in-Ok-Failed.field-0-is k in
-    λ told. (told, (failed f p q (g.W.Render.written c.args.out.now) h, refl))
+    λ told. (told, (failed f p q (known (g.W.Render.bytes c.args.out.now)) h, refl))
 
 pub returns-in-Ok-Chosen-clause-options : goal.returns-in-Ok-Chosen-clause-options
 returns-in-Ok-Chosen-clause-options g c =
@@ -75,7 +76,7 @@ returns-in-Ok-Chosen-clause-told g c =
     let q = c.step.new.printer in
     let k = took f p (record p { commands = c.pop_command.new.stack }) q c.in-Some.command c.in-Ok-Chosen.field-0 c.in-Some.ensures refl refl refl c.in-Ok-Chosen.ensures.step in
     let h = subst (TookNext f p q) c.in-Ok-Chosen.field-0-is k in
-    λ told. (told, (chosen f p q (g.W.Render.written c.args.out.now) c.in-Ok-Chosen.indent c.in-Ok-Chosen.first c.in-Ok-Chosen.second h, refl))
+    λ told. (told, (chosen f p q (known (g.W.Render.bytes c.args.out.now)) c.in-Ok-Chosen.indent c.in-Ok-Chosen.first c.in-Ok-Chosen.second h, refl))
 
 pub returns-in-Ok-clause-options : goal.returns-in-Ok-clause-options
 returns-in-Ok-clause-options g c =
@@ -140,7 +141,7 @@ returns-in-Ok-clause-told g c =
     let h = subst (TookNext f p q) c.in-Ok-Written.field-0-is k in
     λ told.
     let e = c.in-Ok.ensures.ok told in
-    (e.0, (went f p q (g.W.Render.written c.args.out.now) (g.W.Render.written c.write_piece.new.out) (piece_bytes c.in-Ok-Written.piece) h e.1, e.2))
+    (e.0, (went f p q (known (g.W.Render.bytes c.args.out.now)) (known (g.W.Render.bytes c.write_piece.new.out)) (piece_bytes c.in-Ok-Written.piece) h e.1.0, e.1.1))
 
 pub returns-in-Ok-Quiet-clause-told : goal.returns-in-Ok-Quiet-clause-told
 returns-in-Ok-Quiet-clause-told g c =
@@ -149,7 +150,7 @@ returns-in-Ok-Quiet-clause-told g c =
     let q = c.step.new.printer in
     let k = took f p (record p { commands = c.pop_command.new.stack }) q c.in-Some.command c.in-Ok-Quiet.field-0 c.in-Some.ensures refl refl refl c.in-Ok-Quiet.ensures.step in
     let h = subst (TookNext f p q) c.in-Ok-Quiet.field-0-is k in
-    let out = g.W.Render.written c.args.out.now in
+    let out = known (g.W.Render.bytes c.args.out.now) in
     λ told. (told, (went f p q out out [] h (sym (append-nil out)), refl))
 
 pub returns-in-Err-write_piece-clause-told : goal.returns-in-Err-write_piece-clause-told
@@ -161,7 +162,7 @@ returns-in-Err-write_piece-clause-told g c =
     let h = subst (TookNext f p q) c.in-Ok-Written.field-0-is k in
     λ told.
     let e = c.in-Err-write_piece.ensures.err told in
-    (e.0, (sink_broke f p q (g.W.Render.written c.args.out.now) (g.W.Render.written c.write_piece.new.out) (piece_bytes c.in-Ok-Written.piece) h e.1, e.2))
+    (e.0, (sink_broke f p q (known (g.W.Render.bytes c.args.out.now)) (known (g.W.Render.bytes c.write_piece.new.out)) (piece_bytes c.in-Ok-Written.piece) h e.1.0, e.1.1))
 
 pub returns-in-Ok-Chosen-clause-pays : goal.returns-in-Ok-Chosen-clause-pays
 returns-in-Ok-Chosen-clause-pays g c =

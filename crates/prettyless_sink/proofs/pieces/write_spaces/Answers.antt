@@ -11,8 +11,10 @@ returns-in_err-write_str_all-clause-err g c =
     let before = c.loop-left.invariant.2 t in
     let failed = c.in_err-write_str_all.ensures.err before.0 in (
       failed.0,
-      beginning_of_gap _ _ _ _ c.args.count (c.args.count - c.loop-left.left) c.min-piece.result (omega arith) c.some_spaces.ensures before.1 failed.1,
-      failed.2 ∙ ap rise before.2,
+      (
+        beginning_of_gap _ _ _ _ c.args.count (c.args.count - c.loop-left.left) c.min-piece.result (omega arith) c.some_spaces.ensures before.1.0 failed.1.0,
+        failed.1.1 ∙ ap rise before.1.1,
+      ),
     ))
 
 pub loop-left-preserved : goal.loop-left-preserved
@@ -23,7 +25,9 @@ loop-left-preserved g c = (
       let before = c.loop-left.invariant.2 t in
       let wrote = c.in_ok-write_str_all.ensures.ok before.0 in (
         wrote.0,
-        piece_after_gap _ _ _ _ _ (c.args.count - c.loop-left.left) c.min-piece.result (omega arith) c.some_spaces.ensures before.1 wrote.1,
-        wrote.2 ∙ before.2,
+        (
+          piece_after_gap _ _ _ _ _ (c.args.count - c.loop-left.left) c.min-piece.result (omega arith) c.some_spaces.ensures before.1.0 wrote.1.0,
+          wrote.1.1 ∙ before.1.1,
+        ),
       ),
 )

@@ -1,11 +1,12 @@
 use Rattle.std.proofs.Common.{◌∷◌, ◌++◌, [], refl, sym, ap, ◌∙◌, inl, inr, subst, append-nil}
 use Rattle.std.specs.Prelude.{codes}
+use Rattle.prettyless_sink.specs.Sink.{known}
 use Rattle.replay_cases.specs.Outcomes.{IsReplayed}
 use Rattle.replay_cases.proofs.Answering.{answered}
 use Rattle.replay_cases.proofs.answer.answer.Goals as goal
 
 pub returns-then-is_skipped : goal.returns-then-is_skipped
-returns-then-is_skipped g c = λ told. (told, ([], rw (sym c.is_skipped.ensures ∙ c.if-is_skipped.true) refl, (sym (append-nil (g.S.Render.written c.args.out.now)), refl)))
+returns-then-is_skipped g c = λ told. (told, ([], rw (sym c.is_skipped.ensures ∙ c.if-is_skipped.true) refl, (sym (append-nil (known (g.S.Render.bytes c.args.out.now))), refl)))
 
 pub returns-in-Ok : goal.returns-in-Ok
 returns-in-Ok g c = λ told.

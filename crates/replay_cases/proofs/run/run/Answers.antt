@@ -1,16 +1,16 @@
 use Rattle.std.proofs.Common.{refl, ◌∙◌, ap, inl, inr}
 use Rattle.std.proofs.lemmas.Result.{err_from_is_err_and}
-use Rattle.prettyless_sink.specs.Sink.{rise}
+use Rattle.prettyless_sink.specs.Sink.{known, known_of, rise}
 use Rattle.replay_cases.proofs.Lines.{answers_start, answers_one_more, answers_end, answers_stop, answers_break}
 use Rattle.replay_cases.proofs.run.run.Goals as goal
 
 pub loop-init : goal.loop-init
-loop-init g c = λ told. (told, answers_start (g.R.Read.remaining c.args.reader.now) (g.S.Render.written c.args.out.now), refl)
+loop-init g c = λ told. (told, answers_start (g.R.Read.remaining c.args.reader.now) (known (g.S.Render.bytes c.args.out.now)), refl)
 
 pub loop-preserved : goal.loop-preserved
 loop-preserved g c = λ told.
     let left = g.R.Read.remaining in
-    let written = g.S.Render.written in
+    let written = known_of g.S.Render.bytes in
     let before = c.loop.invariant told in
     let wrote = (rw c.deref.ensures.value at c.in_ok-answer.ensures) before.0 in
     let answer = wrote.1 in (
@@ -23,7 +23,7 @@ loop-preserved g c = λ told.
 pub returns-then-not-branch : goal.returns-then-not-branch
 returns-then-not-branch g c = λ told.
     let left = g.R.Read.remaining in
-    let written = g.S.Render.written in
+    let written = known_of g.S.Render.bytes in
     let before = c.loop.invariant told in (
       before.0,
       (
@@ -38,12 +38,12 @@ returns-in_err-next_line g c =
     let p = err_from_is_err_and c.from_residual.result c.from_residual.ensures.1 in
     rw p.1 (λ told.
     let before = c.loop.invariant told in
-    (before.0, (answers_stop (g.R.Read.remaining c.args.reader.now) (g.R.Read.remaining c.loop.reader) (g.S.Render.written c.args.out.now) (g.S.Render.written c.loop.out) before.1, inl before.2)))
+    (before.0, (answers_stop (g.R.Read.remaining c.args.reader.now) (g.R.Read.remaining c.loop.reader) (known (g.S.Render.bytes c.args.out.now)) (known (g.S.Render.bytes c.loop.out)) before.1, inl before.2)))
 
 pub returns-in_err-answer : goal.returns-in_err-answer
 returns-in_err-answer g c =
     let left = g.R.Read.remaining in
-    let written = g.S.Render.written in
+    let written = known_of g.S.Render.bytes in
     let p = err_from_is_err_and c.from_residual-in_err-answer.result c.from_residual-in_err-answer.ensures.1 in
     rw p.1 (λ told.
     let before = c.loop.invariant told in
@@ -60,4 +60,4 @@ returns-in_err-answer g c =
 pub returns : goal.returns
 returns g c = λ told.
     let before = c.loop.invariant told in
-    (before.0, (answers_stop (g.R.Read.remaining c.args.reader.now) (g.R.Read.remaining c.loop.reader) (g.S.Render.written c.args.out.now) (g.S.Render.written c.loop.out) before.1, inl before.2))
+    (before.0, (answers_stop (g.R.Read.remaining c.args.reader.now) (g.R.Read.remaining c.loop.reader) (known (g.S.Render.bytes c.args.out.now)) (known (g.S.Render.bytes c.loop.out)) before.1, inl before.2))

@@ -8,8 +8,10 @@ returns-then-not-is_fair_count-clause-ok c =
     let appended : c.extend_from_slice.new.self.items ≡ c.args.self.now.bytes.items ++ take c.min-taken.result c.args.s.now = search rules in
     λ told. (
       tt,
-      appended_count _ _ c.args.s.now c.min-taken.result c.if-short.count taken appended,
-      ((λ fair. cc (c.if-not-is_fair_count.ensures.1 fair)), λ unfair. c.saturating_add-self.ensures),
+      (
+        appended_count _ _ c.args.s.now c.min-taken.result c.if-short.count taken appended,
+        ((λ fair. cc (c.if-not-is_fair_count.ensures.1 fair)), λ unfair. c.saturating_add-self.ensures),
+      ),
     )
 
 pub returns-else-not-is_fair_count-clause-ok : goal.returns-else-not-is_fair_count-clause-ok
@@ -18,6 +20,8 @@ returns-else-not-is_fair_count-clause-ok c =
     let appended : c.extend_from_slice.new.self.items ≡ c.args.self.now.bytes.items ++ take c.min-taken.result c.args.s.now = search rules in
     λ told. (
       tt,
-      appended_count _ _ c.args.s.now c.min-taken.result c.if-short.count taken appended,
-      ((λ fair. refl), λ unfair. absurd (unfair (c.if-not-is_fair_count.ensures.0 refl))),
+      (
+        appended_count _ _ c.args.s.now c.min-taken.result c.if-short.count taken appended,
+        ((λ fair. refl), λ unfair. absurd (unfair (c.if-not-is_fair_count.ensures.0 refl))),
+      ),
     )
