@@ -1,4 +1,4 @@
-ghost use Rattle.prettyless_laws.specs.FlatLines.{WhatFitsLiesOnOneLine, GroupsThatFitAreFlat, BreaksSkipWeakLines, WhatFitsIsToldOnOneLine, GroupsThatFitAreToldFlat, ToldBreaksPassWeakLines};
+ghost use Rattle.prettyless_laws.specs.FlatLines.{WhatFitsLiesOnOneLine, GroupsThatFitAreFlat, BreaksSkipWeakLines, WhatFitsIsTracedOnOneLine, GroupsThatFitAreTracedFlat, TraceBreaksPassWeakLines};
 
 /// A document that the probe finds to fit when flat is laid flat without a failure and without a line break; no text of
 /// it ends past the width, and no pending suffix is laid. A group is laid so wherever its probe answers yes.
@@ -9,7 +9,7 @@ pub fn law_flat_group()
     ensures one_line { WhatFitsLiesOnOneLine }
     ensures group { GroupsThatFitAreFlat }
     ensures breaks { BreaksSkipWeakLines }
-    ensures traced { WhatFitsIsToldOnOneLine }
-    ensures traced_group { GroupsThatFitAreToldFlat }
-    ensures traced_breaks { ToldBreaksPassWeakLines }
+    ensures traced { WhatFitsIsTracedOnOneLine }
+    ensures traced_group { GroupsThatFitAreTracedFlat }
+    ensures traced_breaks { TraceBreaksPassWeakLines }
 {}
