@@ -110,7 +110,8 @@ pub trait DocAllocator<'a>: DocPlace<'a> {
         ensures ok { IfOk result (λ b. built Self.Doc.tree b.1 ≡ lines.line_) }
         ensures err { IfErr result IsMemory };
 
-    /// One space, or a line break where what follows, up to the next possible break, would go past the width. It fails where memory is refused.
+    /// One space, or a line break where what follows, up to the next possible break, would go past the width.
+    /// It fails where memory is refused.
     fn softline(&'a self) -> Result<DocBuilder<'a, Self>, BuildError>
         ensures ok { IfOk result (λ b. built Self.Doc.tree b.1 ≡ to.softline) }
         ensures err { IfErr result IsMemory };
