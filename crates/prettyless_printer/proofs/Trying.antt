@@ -17,7 +17,7 @@ use Rattle.prettyless_step.specs.Stack.{Task, make_task, follow, stack_of, trees
 use Rattle.prettyless_step.specs.Steps.{lay_all, owed}
 use Rattle.prettyless_printer.specs.Progress.{Inside, Waits, Decides}
 use Rattle.prettyless_step.specs.Printing.{state_of, Grows}
-use Rattle.prettyless_printer.specs.Trials.{Restores, TrialDid}
+use Rattle.prettyless_printer.specs.Trials.{Marks, Restores, TrialDid}
 use Rattle.prettyless_printer.specs.Turns.{ForWholes}
 use Rattle.prettyless_printer.proofs.Progresses.{waits_kept, waits_other, inside_end}
 use Rattle.prettyless_printer.proofs.Turnings.{inside_at}
@@ -34,10 +34,6 @@ limit_of f p d = 2 * size d + owed (state_of f p).pending
 -- the trial is on its way, in q
 abbrev pub Trying : {N : Type 0} → (N → Tree) → Printer N → ℕ → Tree → List ℕ → Printer N → List ℕ → Type 0
 Trying f p i d old q out = Inside p.options (trial_of f p i d) (limit_of f p d) (stack_of f p.commands.items) old (stack_of f q.commands.items) (state_of f q) out
-
--- the printer's mark
-abbrev pub marked : {N : Type 0} → Printer N → Mark
-marked p = record { commands = vec_len p.commands; queued = vec_len p.queue; start = p.start; column = p.column; within = p.within }
 
 lay_all-one : (o : RenderOptions) (i : ℕ) (d : Tree) (ts : List Task) (st : State) → lay_all o (settle o) (make_task i Break d ∷ []) (follow ts) st ≡ lay o (settle o) d i Break (follow ts) st
 unfolding lay_all
@@ -57,33 +53,37 @@ trying_begins {N} f p q i d old e s =
     })
 
 pub grows-grows : {N : Type 0} (p q r : Printer N) → Grows p q → Grows q r → Grows p r
-grows-grows {N} p q r a b = (a.0 ++ b.0, b.1 ∙ ap (λ (x : List N). x ++ b.0) a.1 ∙ append_assoc p.queue.items a.0 b.0)
+grows-grows {N} p q r a b = (a.0 ++ b.0, b.1 ∙ ap (λ (x : List N). x ++ b.0) a.1 ∙ append_assoc p.queue.nodes.items a.0 b.0)
 
-restored_queue : {N : Type 0} (f : N → Tree) (p q r : Printer N) (m : Mark) → m ≡ marked p → Grows p q → Restores f m q r → r.queue.items ≡ p.queue.items
+-- what was added since the mark is all that the queue has more
+pub queue_marked : {N : Type 0} (p q : Printer N) (m : Mark) → Marks m p → Grows p q → m.queue.len ≤ vec_len q.queue.nodes
+queue_marked {N} p q m e g = omega (arith, e.queued, p.queue.nodes.ok.0, q.queue.nodes.ok.0, ap length g.1, length-append p.queue.nodes.items g.0)
+
+restored_queue : {N : Type 0} (f : N → Tree) (p q r : Printer N) (m : Mark) → Marks m p → Grows p q → Restores f m q r → r.queue.nodes.items ≡ p.queue.nodes.items
 restored_queue {N} f p q r m e g h =
-    h.1 ∙ ap (λ (x : ℕ). take x q.queue.items) (ap (λ (x : Mark). x.queued) e) ∙ ap (take (vec_len p.queue)) g.1 ∙ take_at p.queue.items g.0 (vec_len p.queue) (sym p.queue.ok.0)
+    h.1 ∙ ap (λ (x : ℕ). take x q.queue.nodes.items) (e.queued) ∙ ap (take (vec_len p.queue.nodes)) g.1 ∙ take_at p.queue.nodes.items g.0 (vec_len p.queue.nodes) (sym p.queue.nodes.ok.0)
 
 -- the state is as before
-restored : {N : Type 0} (f : N → Tree) (p q r : Printer N) (m : Mark) → m ≡ marked p → Grows p q → Restores f m q r → state_of f r ≡ state_of f p
+restored : {N : Type 0} (f : N → Tree) (p q r : Printer N) (m : Mark) → Marks m p → Grows p q → Restores f m q r → state_of f r ≡ state_of f p
 restored {N} f p q r m e g h =
-    let n : r.start ≡ p.start = h.2 ∙ ap (λ (x : Mark). x.start) e in
+    let n : r.queue.start ≡ p.queue.start = h.2 ∙ e.start in
     let k = restored_queue f p q r m e g h in
-    let a : trees f (drop r.start r.queue.items) ≡ trees f (drop p.start p.queue.items) = ap (λ (x : ℕ). trees f (drop x r.queue.items)) n ∙ ap (λ (x : List N). trees f (drop p.start x)) k in
-    let c : r.column ≡ p.column = h.3 ∙ ap (λ (x : Mark). x.column) e in
-    let o : r.within ≡ p.within = h.4 ∙ ap (λ (x : Mark). x.within) e in
+    let a : trees f (drop r.queue.start r.queue.nodes.items) ≡ trees f (drop p.queue.start p.queue.nodes.items) = ap (λ (x : ℕ). trees f (drop x r.queue.nodes.items)) n ∙ ap (λ (x : List N). trees f (drop p.queue.start x)) k in
+    let c : r.column ≡ p.column = h.3 ∙ e.column in
+    let o : r.within ≡ p.within = h.4 ∙ e.within in
     λ j. record { column = c j; pending = a j; within = o j }
 
 -- a trial that is taken back: what it wrote is cut off, and its outcome is not accepted
-pub trial_rejected : {N : Type 0} (f : N → Tree) (p q r : Printer N) (i : ℕ) (d : Tree) (m : Mark) (old out new bytes : List ℕ) → m ≡ marked p →
+pub trial_rejected : {N : Type 0} (f : N → Tree) (p q r : Printer N) (i : ℕ) (d : Tree) (m : Mark) (old out new bytes : List ℕ) → Marks m p →
     (above : List Task) → stack_of f q.commands.items ≡ above ++ stack_of f p.commands.items → length (stack_of f p.commands.items) ≡ vec_len p.commands → q.options ≡ p.options → Grows p q → Restores f m q r →
     out ≡ old ++ bytes → new ≡ take (length old) out →
     ((other : Outcome) → accept p.options p.within (trial_of f p i d) other ≡ other) → TrialDid f p r i d old new false
 trial_rejected {N} f p q r i d m old out new bytes e above k l w g h b t rejected =
     let s : state_of f r ≡ state_of f p = restored f p q r m e g h in (
-      h.0 above (stack_of f p.commands.items) k (l ∙ sym (ap (λ (x : Mark). x.commands) e)),
+      h.0 above (stack_of f p.commands.items) k (l ∙ sym (e.commands)),
       h.5 ∙ w,
-      ([], restored_queue f p q r m e g h ∙ sym (append-nil p.queue.items)),
-      h.4 ∙ ap (λ (x : Mark). x.within) e,
+      ([], restored_queue f p q r m e g h ∙ sym (append-nil p.queue.nodes.items)),
+      h.4 ∙ e.within,
       omega (arith, ap (λ (x : State). owed x.pending) s),
       (t ∙ ap (take (length old)) b ∙ take_at old bytes (length old) refl, s, rejected),
     )

@@ -1,5 +1,5 @@
 -- What a trial of a branch leaves.
-use Rattle.std.specs.Prelude.{◌≡◌, ℕ, ◌+◌, ◌*◌, ◌≤◌, List, ◌++◌, length, take, Bool}
+use Rattle.std.specs.Prelude.{◌≡◌, ℕ, ◌+◌, ◌*◌, ◌≤◌, List, ◌++◌, length, take, vec_len, Bool}
 use Rattle.prettyless_model.specs.Tree.{Tree, size}
 use Rattle.prettyless_model.specs.Layout.{lay, tried}
 use Rattle.prettyless_model.specs.Levels.{settle}
@@ -11,12 +11,20 @@ use Rattle.prettyless_printer.specs.Progress.{Decides}
 use Rattle.prettyless_step.specs.declared.printer.Printer.{Printer}
 use Rattle.prettyless_printer.specs.declared.trial.Mark.{Mark}
 
+-- where a printer is, to go back to
+pub record Marks {N : Type 0} (m : Mark) (p : Printer N) : Type 0 where
+  pub commands : m.commands ≡ vec_len p.commands
+  pub queued : m.queue.len ≡ vec_len p.queue.nodes
+  pub start : m.queue.start ≡ p.queue.start
+  pub column : m.column ≡ p.column
+  pub within : m.within ≡ p.within
+
 -- the printer is back where the mark was set
 abbrev pub Restores : {N : Type 0} → (N → Tree) → Mark → Printer N → Printer N → Type 0
 Restores f m p q =
     ((above below : List Task) → stack_of f p.commands.items ≡ above ++ below → length below ≡ m.commands → stack_of f q.commands.items ≡ below)
-    × (q.queue.items ≡ take m.queued p.queue.items)
-    × (q.start ≡ m.start) × (q.column ≡ m.column) × (q.within ≡ m.within) × (q.options ≡ p.options)
+    × (q.queue.nodes.items ≡ take m.queue.len p.queue.nodes.items)
+    × (q.queue.start ≡ m.queue.start) × (q.column ≡ m.column) × (q.within ≡ m.within) × (q.options ≡ p.options)
 
 -- A trial of a branch: what follows is still on the stack and the flag is as before; kept, its bytes are written and its
 -- state has come; not kept, all is as before.

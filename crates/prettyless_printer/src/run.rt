@@ -1,5 +1,5 @@
 //! The run: commands are worked off into a sink, and then what is pending at the end.
-ghost use Rattle.std.specs.Prelude.{◌≡◌, ◌+◌, ◌*◌, ◌∷◌, ◌<◌, ◌≤◌, [], OnOk, vec_len};
+ghost use Rattle.std.specs.Prelude.{◌≡◌, ◌+◌, ◌*◌, ◌∷◌, ◌<◌, ◌≤◌, [], OnOk};
 ghost use Rattle.prettyless_sink.specs.Sink.{IfKnown};
 ghost use Rattle.prettyless_model.specs.Tree.{size};
 ghost use Rattle.prettyless_model.specs.Content.{suffix_depth};
@@ -26,6 +26,7 @@ use prettyless_sink::render::Render;
 use prettyless_sink::visits::Visits;
 use prettyless_step::pending::{is_pending, take_pending};
 use prettyless_step::printer::Printer;
+use prettyless_step::queue::Queue;
 use prettyless_step::stack::push_node;
 use prettyless_step::walk::Walk;
 use std::alloc::Global;
@@ -40,8 +41,6 @@ fn choose<N: Walk, W: Render>(
     second: N,
     visits: &mut Visits,
 ) -> Result<(), RenderError<W::Error>>
-    requires { printer.old.start ≤ vec_len printer.old.queue }
-    ensures queue { printer.new.start ≤ vec_len printer.new.queue }
     ensures options { OnOk result (printer.new.options ≡ printer.old.options) }
     ensures same_lender { W.lender out.new ≡ W.lender out.old }
     ensures lessens { OnOk result (work (stack_of N.tree printer.new.commands.items) (state_of N.tree printer.new)
@@ -76,8 +75,6 @@ fn work_off<N: Walk, W: Render>(
     out: &mut W,
     visits: &mut Visits,
 ) -> Result<(), RenderError<W::Error>>
-    requires { printer.old.start ≤ vec_len printer.old.queue }
-    ensures queue { printer.new.start ≤ vec_len printer.new.queue }
     ensures options { OnOk result (printer.new.options ≡ printer.old.options) }
     ensures done { OnOk result (stack_of N.tree printer.new.commands.items ≡ []) }
     ensures lessens { OnOk result (owed (state_of N.tree printer.new).pending
@@ -107,9 +104,7 @@ fn flush_end<N: Walk, W: Render>(
     printer: &mut Printer<N>,
     out: &mut W,
 ) -> Result<(), RenderError<W::Error>>
-    requires queue { printer.old.start ≤ vec_len printer.old.queue }
-    requires none { stack_of N.tree printer.old.commands.items ≡ [] }
-    ensures queue { printer.new.start ≤ vec_len printer.new.queue }
+    requires { stack_of N.tree printer.old.commands.items ≡ [] }
     ensures options { OnOk result (printer.new.options ≡ printer.old.options) }
     ensures stack { OnOk result (stack_of N.tree printer.new.commands.items ≡ tasks 0 Break (state_of N.tree printer.old).pending) }
     ensures state { OnOk result (state_of N.tree printer.new ≡ flushed printer.old.options (state_of N.tree printer.old)) }
@@ -133,7 +128,6 @@ fn run_to_end<N: Walk, W: Render>(
     out: &mut W,
     visits: &mut Visits,
 ) -> Result<(), RenderError<W::Error>>
-    requires { printer.old.start ≤ vec_len printer.old.queue }
     ensures same_lender { W.lender out.new ≡ W.lender out.old }
     ensures told { IfKnown (W.bytes out.old) (W.bytes out.new) (λ before after.
         RanToEnd N.tree printer.old (W.document_errors out.new)
@@ -183,8 +177,7 @@ pub fn render<N: Walk, W: Render>(
         within: true,
         commands: Vec::new(alloc),
         scratch: Vec::new(alloc),
-        queue: Vec::new(alloc),
-        start: 0,
+        queue: Queue::new(alloc),
     };
     let mut buffer = Buffer::new(alloc);
     match push_node(&mut printer.commands, 0, Mode::Break, node) {

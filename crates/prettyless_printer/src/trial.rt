@@ -5,7 +5,7 @@ ghost use Rattle.std.specs.String.Boundary.{IsSplitPoint};
 ghost use Rattle.prettyless_model.specs.Content.{suffix_depth};
 ghost use Rattle.prettyless_model.specs.declared.mode.Mode.TheVariants.{Break};
 ghost use Rattle.prettyless_step.specs.Stack.{make_task, stack_of};
-ghost use Rattle.prettyless_printer.specs.Trials.{Restores, TrialDid};
+ghost use Rattle.prettyless_printer.specs.Trials.{Marks, Restores, TrialDid};
 ghost use Rattle.prettyless_printer.specs.Visits.{Plain, Rise, RunPays};
 ghost use Rattle.prettyless_printer.specs.Meets.{TrialMeets};
 
@@ -18,6 +18,7 @@ use prettyless_sink::error::RenderError;
 use prettyless_sink::visits::Visits;
 use prettyless_step::pending::is_pending;
 use prettyless_step::printer::Printer;
+use prettyless_step::queue::QueueMark;
 use prettyless_step::stack::{cut, push_node};
 use prettyless_step::walk::Walk;
 use std::alloc::AllocError;
@@ -26,25 +27,17 @@ use std::alloc::AllocError;
 #[derive(Clone, Copy)]
 pub struct Mark {
     pub commands: usize,
-    pub queued: usize,
-    pub start: usize,
+    pub queue: QueueMark,
     pub column: Column,
     pub within: bool,
 }
 
 fn mark_of<N: Walk>(printer: &Printer<N>) -> Mark
-    ensures { result ≡ record {
-      commands = vec_len printer.now.commands;
-      queued = vec_len printer.now.queue;
-      start = printer.now.start;
-      column = printer.now.column;
-      within = printer.now.within;
-    } }
+    ensures { Marks result printer.now }
 {
     Mark {
         commands: printer.commands.len(),
-        queued: printer.queue.len(),
-        start: printer.start,
+        queue: printer.queue.mark(),
         column: printer.column,
         within: printer.within,
     }
@@ -52,13 +45,13 @@ fn mark_of<N: Walk>(printer: &Printer<N>) -> Mark
 
 // Goes back to where a trial began: nothing of it is left.
 fn take_back<N: Walk>(printer: &mut Printer<N>, mark: Mark, buffer: &mut Buffer, written: usize)
-    requires { IsSplitPoint (string_bytes buffer.old.text) written }
+    requires mark { mark.queue.len ≤ vec_len printer.old.queue.nodes }
+    requires buffer { IsSplitPoint (string_bytes buffer.old.text) written }
     ensures printer { Restores N.tree mark printer.old printer.new }
     ensures buffer { string_bytes buffer.new.text ≡ take written (string_bytes buffer.old.text) }
 {
     cut(&mut printer.commands, mark.commands);
-    printer.queue.truncate(mark.queued);
-    printer.start = mark.start;
+    printer.queue.go_back(mark.queue);
     printer.column = mark.column;
     printer.within = mark.within;
     buffer.text.truncate(written);
@@ -82,8 +75,6 @@ pub fn print_branch<N: Walk>(
     branch: N,
     visits: &mut Visits,
 ) -> Result<bool, AllocError>
-    requires { printer.old.start ≤ vec_len printer.old.queue }
-    ensures queue { printer.new.start ≤ vec_len printer.new.queue }
     ensures decided { IfOk result (λ kept. TrialDid N.tree printer.old printer.new indent (N.tree branch)
         (string_bytes buffer.old.text) (string_bytes buffer.new.text) kept) }
     ensures rise { Rise visits.old visits.new }

@@ -1,5 +1,5 @@
 //! A turn: a command is taken, stepped and written.
-ghost use Rattle.std.specs.Prelude.{◌≡◌, ◌<◌, ◌≤◌, OnOk, IfOk, vec_len};
+ghost use Rattle.std.specs.Prelude.{◌≡◌, ◌<◌, OnOk, IfOk, vec_len};
 ghost use Rattle.prettyless_sink.specs.Sink.{IfKnown, rise};
 ghost use Rattle.prettyless_step.specs.Printing.{Grows};
 ghost use Rattle.prettyless_printer.specs.Turns.{Lessens, Turned};
@@ -23,9 +23,7 @@ pub fn turn<N: Walk, W: Render>(
     out: &mut W,
     visits: &mut Visits,
 ) -> Result<Turn<N>, RenderError<W::Error>>
-    requires queue { printer.old.start ≤ vec_len printer.old.queue }
-    requires some { 0 < vec_len printer.old.commands }
-    ensures queue { printer.new.start ≤ vec_len printer.new.queue }
+    requires { 0 < vec_len printer.old.commands }
     ensures options { OnOk result (printer.new.options ≡ printer.old.options) }
     ensures grows { OnOk result (Grows printer.old printer.new) }
     ensures lessens { IfOk result (Lessens N.tree printer.old printer.new) }

@@ -13,7 +13,7 @@ use Rattle.prettyless_step.specs.declared.printer.Taken.{Taken}
 use Rattle.prettyless_step.specs.declared.printer.Taken.TheVariants.{Quiet, Written, Failed, Chosen}
 
 grows_same : {N : Type 0} (p q : Printer N) → q ≡ p → Grows p q
-grows_same {N} p q e = ([], ap (λ (x : Printer N). x.queue.items) e ∙ sym (append-nil p.queue.items))
+grows_same {N} p q e = ([], ap (λ (x : Printer N). x.queue.nodes.items) e ∙ sym (append-nil p.queue.nodes.items))
 
 writes_at : {N : Type 0} (f : N → Tree) (bytes : List ℕ) (step : Step) (p q : Printer N) → Writes f bytes step p q → WritesAt f bytes step (stack_of f p.commands.items) q × (q.options ≡ p.options) × Grows p q
 writes_at {N} f bytes (Move b pushed u) p q h = ((h.0, h.1, h.2), h.3, h.4)
@@ -33,7 +33,7 @@ shows_at {N} f (Chosen i l r) Stuck p q h = absurd h
 
 -- a command taken, and then stepped
 pub took : {N : Type 0} (f : N → Tree) (p p' q : Printer N) (c : Command N) (r : Taken N) → stack_of f p.commands.items ≡ task f c ∷ stack_of f p'.commands.items →
-    state_of f p' ≡ state_of f p → p'.options ≡ p.options → p'.queue.items ≡ p.queue.items →
+    state_of f p' ≡ state_of f p → p'.options ≡ p.options → p'.queue.nodes.items ≡ p.queue.nodes.items →
     Shows f r (step_of p'.options (f c.node) c.indent c.mode (follow (stack_of f p'.commands.items)) (state_of f p')) p' q → TookNext f p q r
 took {N} f p p' q c r e s w k h =
     let ts : List Task = stack_of f p'.commands.items in

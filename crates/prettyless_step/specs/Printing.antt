@@ -19,11 +19,11 @@ following f p = follow (tasks_of f p)
 
 -- the state between two nodes: the pending documents are those of the queue from its start on
 abbrev pub state_of : {N : Type 0} → (N → Tree) → Printer N → State
-state_of f p = record { column = p.column; pending = trees f (drop p.start p.queue.items); within = p.within }
+state_of f p = record { column = p.column; pending = trees f (drop p.queue.start p.queue.nodes.items); within = p.within }
 
 -- the queue only grows
 abbrev pub Grows : {N : Type 0} → Printer N → Printer N → Type 0
-Grows {N} p q = (more : List N) × (q.queue.items ≡ p.queue.items ++ more)
+Grows {N} p q = (more : List N) × (q.queue.nodes.items ≡ p.queue.nodes.items ++ more)
 
 -- these bytes are what the step writes, and the printer has gone along
 abbrev pub Writes : {N : Type 0} → (N → Tree) → List ℕ → Step → Printer N → Printer N → Type 0

@@ -16,10 +16,8 @@ use prettyless_model::options::RenderOptions;
 /// An empty text is nothing.
 #[tactic(auto, using(crate::proofs::Queues::queues))]
 pub fn put_text<'v, N: Walk>(printer: &mut Printer<N>, counted: usize, text: &'v str) -> Piece<'v>
-    ensures step { Shows N.tree (Written result)
+    ensures { Shows N.tree (Written result)
         (at_once (lay_text printer.old.options counted text.now (state_of N.tree printer.old))) printer.old printer.new }
-    ensures start { printer.new.start ≡ printer.old.start }
-    ensures queue { printer.new.queue ≡ printer.old.queue }
 {
     if text.is_empty() {
         return Piece::nothing();
@@ -62,10 +60,8 @@ pub fn put_payload<'v, N: Walk>(
     text: &'v str,
     metrics: Metrics,
 ) -> Piece<'v>
-    ensures step { Shows N.tree (Written result)
+    ensures { Shows N.tree (Written result)
         (at_once (lay_payload printer.old.options metrics text.now (state_of N.tree printer.old))) printer.old printer.new }
-    ensures start { printer.new.start ≡ printer.old.start }
-    ensures queue { printer.new.queue ≡ printer.old.queue }
 {
     let gap = if metrics.first_nonempty {
         printer.column.gap()

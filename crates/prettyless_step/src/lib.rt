@@ -11,6 +11,7 @@ pub mod pending;
 pub mod piece;
 pub mod printer;
 pub mod probe;
+pub mod queue;
 pub mod stack;
 pub mod step;
 pub mod unread;

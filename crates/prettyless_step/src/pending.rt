@@ -1,5 +1,5 @@
 //! Pending line suffixes, and their way back to the commands.
-ghost use Rattle.std.specs.Prelude.{◌≡◌, ◌++◌, ◌≤◌, vec_len, IfOk, OnOk};
+ghost use Rattle.std.specs.Prelude.{◌≡◌, ◌++◌, IfOk, OnOk};
 ghost use Rattle.prettyless_model.specs.Column.{gap as gap_of};
 ghost use Rattle.prettyless_model.specs.Layout.{flushed, some_pending};
 ghost use Rattle.prettyless_step.specs.Stack.{stack_of, tasks};
@@ -14,10 +14,9 @@ use std::alloc::AllocError;
 /// Whether a line suffix is pending.
 #[tactic(auto, using(crate::proofs::Queues::queues))]
 pub fn is_pending<N: Walk>(printer: &Printer<N>) -> bool
-    requires { printer.now.start ≤ vec_len printer.now.queue }
     ensures { result ≡ some_pending (state_of N.tree printer.now).pending }
 {
-    printer.start < printer.queue.len()
+    printer.queue.is_pending()
 }
 
 /// Makes the pending line suffixes the next commands, in their order. The line's gap is to be written before them, as before
@@ -28,8 +27,6 @@ pub fn take_pending<N: Walk>(
     indent: usize,
     mode: Mode,
 ) -> Result<usize, AllocError>
-    requires { printer.old.start ≤ vec_len printer.old.queue }
-    ensures queue { printer.new.start ≤ vec_len printer.new.queue }
     ensures gap { IfOk result (λ gap. gap ≡ gap_of printer.old.column) }
     ensures options { printer.new.options ≡ printer.old.options }
     ensures stack { OnOk result (stack_of N.tree printer.new.commands.items
@@ -39,13 +36,8 @@ pub fn take_pending<N: Walk>(
 {
     let gap = printer.column.gap();
     let fits = printer.column.padding_fits(printer.options.width, true);
-    push_each(
-        &mut printer.commands,
-        indent,
-        mode,
-        &printer.queue[printer.start..],
-    )?;
-    printer.start = printer.queue.len();
+    push_each(&mut printer.commands, indent, mode, printer.queue.pending())?;
+    printer.queue.clear_pending();
     printer.within = printer.within && fits;
     printer.column = printer.column.committed(0);
     Ok(gap)

@@ -1,6 +1,7 @@
 //! The printer's state, and what a step answers.
 use crate::command::Command;
 use crate::piece::Piece;
+use crate::queue::Queue;
 use crate::unread::Unread;
 use prettyless_model::column::Column;
 use prettyless_model::options::RenderOptions;
@@ -16,9 +17,8 @@ pub struct Printer<N> {
     pub commands: Vec<Command<N>>,
     /// The probe's own list of work, kept for its memory.
     pub scratch: Vec<Unread<N>>,
-    /// The line suffixes that were met, the oldest first: those from `start` on are pending.
-    pub queue: Vec<N>,
-    pub start: usize,
+    /// The line suffixes that were visited.
+    pub queue: Queue<N>,
 }
 
 /// What taking up one node asks for: nothing, a piece to be written, or a choice between two branches at an indent; or the

@@ -1,5 +1,5 @@
 //! What taking up one node does.
-ghost use Rattle.std.specs.Prelude.{◌≡◌, ◌++◌, ◌+◌, ◌∷◌, ◌≤◌, ◌&&◌, [], true, vec_len, IfOk, OnOk, if◌then◌else◌};
+ghost use Rattle.std.specs.Prelude.{◌≡◌, ◌++◌, ◌+◌, ◌∷◌, ◌≤◌, ◌&&◌, [], true, IfOk, OnOk, if◌then◌else◌};
 ghost use Rattle.prettyless_model.specs.Tree.{size};
 ghost use Rattle.prettyless_model.specs.Reading.{by_mode};
 ghost use Rattle.prettyless_model.specs.Counts.{each_probe};
@@ -38,7 +38,6 @@ fn probe_here<N: Walk>(
     mode: Mode,
     probes: &mut u64,
 ) -> Result<bool, AllocError>
-    requires { printer.old.start ≤ vec_len printer.old.queue }
     ensures answer { IfOk result (λ fit. fit ≡ probe_of printer.old.options (N.tree node) mode
         (follow (stack_of N.tree printer.old.commands.items)) (state_of N.tree printer.old)) }
     ensures others { printer.new ≡ record printer.old { scratch = printer.new.scratch } }
@@ -68,7 +67,6 @@ fn group_mode<N: Walk>(
     inner: N,
     probes: &mut u64,
 ) -> Result<Mode, AllocError>
-    requires { printer.old.start ≤ vec_len printer.old.queue }
     ensures mode { IfOk result (λ m. m ≡ by_mode mode
         (if probe_of printer.old.options (N.tree inner) Flat (follow (stack_of N.tree printer.old.commands.items)) (state_of N.tree printer.old)
         then Flat else Break)
@@ -93,7 +91,6 @@ fn partial_choice<N: Walk>(
     second: N,
     probes: &mut u64,
 ) -> Result<N, AllocError>
-    requires { printer.old.start ≤ vec_len printer.old.queue }
     ensures branch { IfOk result (λ n. N.tree n ≡ by_mode mode
         (if probe_of printer.old.options (N.tree first) Break (follow (stack_of N.tree printer.old.commands.items)) (state_of N.tree printer.old)
         then N.tree first else N.tree second)
@@ -140,12 +137,10 @@ fn indent_after<N: Walk>(commands: &[Command<N>], indent: usize) -> usize
 // The end of a line, and the indent of the next.
 #[tactic(auto, using(crate::proofs::Queues::queues))]
 fn end_line<N: Walk>(printer: &mut Printer<N>, indent: usize) -> Piece<'static>
-    ensures step { Shows N.tree (Written result)
+    ensures { Shows N.tree (Written result)
         (at_once (lay_ending printer.old.options printer.old.options.indentation_policy
         (next_indent indent (follow (stack_of N.tree printer.old.commands.items))) (state_of N.tree printer.old)))
         printer.old printer.new }
-    ensures start { printer.new.start ≡ printer.old.start }
-    ensures queue { printer.new.queue ≡ printer.old.queue }
 {
     let next = indent_after(&printer.commands, indent);
     let text = printer.options.line_ending.as_str();
@@ -176,10 +171,8 @@ fn flush_line<N: Walk>(
     mode: Mode,
     node: N,
 ) -> Result<Piece<'static>, AllocError>
-    requires queue { printer.old.start ≤ vec_len printer.old.queue }
-    requires pending { some_pending (state_of N.tree printer.old).pending ≡ true }
-    ensures queue { printer.new.start ≤ vec_len printer.new.queue }
-    ensures step { IfOk result (λ piece. Shows N.tree (Written piece)
+    requires { some_pending (state_of N.tree printer.old).pending ≡ true }
+    ensures { IfOk result (λ piece. Shows N.tree (Written piece)
         (break_step printer.old.options (state_of N.tree printer.old).pending (N.tree node) indent mode
         (follow (stack_of N.tree printer.old.commands.items)) (state_of N.tree printer.old))
         printer.old printer.new) }
@@ -201,10 +194,8 @@ fn break_line<N: Walk>(
     node: N,
     weak: bool,
 ) -> Result<Piece<'static>, AllocError>
-    requires queue { printer.old.start ≤ vec_len printer.old.queue }
-    requires kind { is_suppressed (N.tree node) printer.old.column ≡ (weak && printer.old.column.fresh) }
-    ensures queue { printer.new.start ≤ vec_len printer.new.queue }
-    ensures step { IfOk result (λ piece. Shows N.tree (Written piece)
+    requires { is_suppressed (N.tree node) printer.old.column ≡ (weak && printer.old.column.fresh) }
+    ensures { IfOk result (λ piece. Shows N.tree (Written piece)
         (break_step printer.old.options (state_of N.tree printer.old).pending (N.tree node) indent mode
         (follow (stack_of N.tree printer.old.commands.items)) (state_of N.tree printer.old))
         printer.old printer.new) }
@@ -227,9 +218,7 @@ fn go_on_with<N: Walk>(
     mode: Mode,
     node: N,
 ) -> Result<Taken<'static, N>, AllocError>
-    requires { printer.old.start ≤ vec_len printer.old.queue }
-    ensures queue { printer.new.start ≤ vec_len printer.new.queue }
-    ensures step { IfOk result (λ taken. Shows N.tree taken
+    ensures { IfOk result (λ taken. Shows N.tree taken
         (Move [] (make_task indent mode (N.tree node) ∷ []) (state_of N.tree printer.old)) printer.old printer.new) }
 {
     push_node(&mut printer.commands, indent, mode, node)?;
@@ -244,9 +233,7 @@ fn union<N: Walk>(
     first: N,
     second: N,
 ) -> Result<Taken<'static, N>, AllocError>
-    requires { printer.old.start ≤ vec_len printer.old.queue }
-    ensures queue { printer.new.start ≤ vec_len printer.new.queue }
-    ensures step { IfOk result (λ taken. Shows N.tree taken
+    ensures { IfOk result (λ taken. Shows N.tree taken
         (union_step (decided_by_metrics printer.old.options (N.tree first) (state_of N.tree printer.old))
         (N.tree first) (N.tree second) indent (state_of N.tree printer.old))
         printer.old printer.new) }
@@ -266,8 +253,6 @@ pub fn step<'v, N: Walk>(
     command: &'v Command<N>,
     probes: &mut u64,
 ) -> Result<Taken<'v, N>, AllocError>
-    requires { printer.old.start ≤ vec_len printer.old.queue }
-    ensures queue { printer.new.start ≤ vec_len printer.new.queue }
     ensures step { IfOk result (λ taken. Shows N.tree taken
         (step_of printer.old.options (N.tree command.now.node) command.now.indent command.now.mode
         (follow (stack_of N.tree printer.old.commands.items)) (state_of N.tree printer.old))

@@ -227,7 +227,7 @@ impl TextWriter for ByPieces {
     }
 }
 
-// The same, of which nothing is told.
+// The same, of which no bytes are known.
 impl fmt::Write for ByPieces {
     fn write_str(&mut self, s: &str) -> fmt::Result {
         self.write_text(s)
@@ -251,7 +251,7 @@ fn ending_of_text<W: TextWriter>(
     }
 }
 
-// How a render to such a writer ends, of which all or nothing is told.
+// How a render to such a writer ends, whose bytes are known or not.
 fn ending_of_pieces(
     memory: Global,
     row: &BoxRow<'_>,

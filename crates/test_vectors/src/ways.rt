@@ -135,7 +135,7 @@ fn compare_failing_in<'a, D: DocPlace<'a>>(rt: &impl Abort, place: &'a D) -> Res
     compare_failing(rt, place.memory(), &document)
 }
 
-// A document that fails is not printed, and what stands there is a beginning of its bytes.
+// A document that fails is not printed, and what was written is a beginning of its bytes.
 #[test]
 fn no_failing_document_is_displayed(rt: HostRuntime) -> Result<(), Fail> {
     compare_failing_in(&rt, &BoxAllocator::new(rt.alloc()))

@@ -1,9 +1,10 @@
-use Rattle.std.proofs.Common.{◌≡◌, ◌∷◌, [], ◌∙◌, true, ap, sym, subst, drop}
+use Rattle.std.proofs.Common.{◌≡◌, ◌∷◌, [], ◌∙◌, true, ap, sym, subst, drop, arith}
 use Rattle.prettyless_sink.specs.Sink.{known_of}
 use Rattle.prettyless_model.specs.Layout.{Bytes, initial}
 use Rattle.prettyless_model.specs.declared.mode.Mode.TheVariants.{Break}
 use Rattle.prettyless_step.specs.Stack.{make_task, stack_of, trees}
 use Rattle.prettyless_step.specs.Printing.{state_of}
+use Rattle.prettyless_step.proofs.Queues.{trees_none}
 use Rattle.prettyless_printer.specs.Renders.{Rendered}
 use Rattle.prettyless_printer.proofs.Renders.{begins}
 use Rattle.prettyless_printer.proofs.Visits.{visited}
@@ -18,8 +19,8 @@ returns-in-Ok-clause-told g c =
     let d = f c.args.node in
     let new = c.run_to_end.new.out in
     let q = c.run_to_end.new.printer in
-    let p = record q { options = c.args.options; column = c.start.result; within = true; commands = c.push_node.new.stack; scratch = c.new-2.result; queue = c.new-3.result; start = 0 } in
-    let n : trees f (drop 0 c.new-3.result.items) ≡ [] = ap (λ x. trees f (drop 0 x)) c.new-3.ensures.items in
+    let p = record q { options = c.args.options; column = c.start.result; within = true; commands = c.push_node.new.stack; scratch = c.new-2.result; queue = c.new-3.result } in
+    let n : trees f (drop c.new-3.result.start c.new-3.result.nodes.items) ≡ [] = ap (λ x. trees f (drop c.new-3.result.start x)) c.new-3.ensures ∙ trees_none f [] c.new-3.result.start (omega arith) in
     let s : state_of f p ≡ initial = λ j. record { column = c.start.ensures j; pending = n j; within = true } in
     let e : stack_of f p.commands.items ≡ make_task 0 Break d ∷ [] = c.in-Ok.ensures ∙ ap (λ x. make_task 0 Break d ∷ stack_of f x) c.new.ensures.items in
     λ told.
@@ -31,8 +32,8 @@ returns-in-Ok-clause-visited g c =
     let f = g.N.Walk.tree in
     let d = f c.args.node in
     let q = c.run_to_end.new.printer in
-    let p = record q { options = c.args.options; column = c.start.result; within = true; commands = c.push_node.new.stack; scratch = c.new-2.result; queue = c.new-3.result; start = 0 } in
-    let n : trees f (drop 0 c.new-3.result.items) ≡ [] = ap (λ x. trees f (drop 0 x)) c.new-3.ensures.items in
+    let p = record q { options = c.args.options; column = c.start.result; within = true; commands = c.push_node.new.stack; scratch = c.new-2.result; queue = c.new-3.result } in
+    let n : trees f (drop c.new-3.result.start c.new-3.result.nodes.items) ≡ [] = ap (λ x. trees f (drop c.new-3.result.start x)) c.new-3.ensures ∙ trees_none f [] c.new-3.result.start (omega arith) in
     let e : stack_of f p.commands.items ≡ make_task 0 Break d ∷ [] = c.in-Ok.ensures ∙ ap (λ x. make_task 0 Break d ∷ stack_of f x) c.new.ensures.items in
     visited f d p q c.args.visits.now c.run_to_end.new.visits c.run_to_end.result e n c.run_to_end.ensures.pays
 
@@ -41,8 +42,8 @@ returns-in-Ok-clause-at_least g c =
     let f = g.N.Walk.tree in
     let d = f c.args.node in
     let q = c.run_to_end.new.printer in
-    let p = record q { options = c.args.options; column = c.start.result; within = true; commands = c.push_node.new.stack; scratch = c.new-2.result; queue = c.new-3.result; start = 0 } in
-    let n : trees f (drop 0 c.new-3.result.items) ≡ [] = ap (λ x. trees f (drop 0 x)) c.new-3.ensures.items in
+    let p = record q { options = c.args.options; column = c.start.result; within = true; commands = c.push_node.new.stack; scratch = c.new-2.result; queue = c.new-3.result } in
+    let n : trees f (drop c.new-3.result.start c.new-3.result.nodes.items) ≡ [] = ap (λ x. trees f (drop c.new-3.result.start x)) c.new-3.ensures ∙ trees_none f [] c.new-3.result.start (omega arith) in
     let s : state_of f p ≡ initial = λ j. record { column = c.start.ensures j; pending = n j; within = true } in
     let e : stack_of f p.commands.items ≡ make_task 0 Break d ∷ [] = c.in-Ok.ensures ∙ ap (λ x. make_task 0 Break d ∷ stack_of f x) c.new.ensures.items in
     at_least f d p c.args.visits.now c.run_to_end.new.visits c.run_to_end.result e s c.run_to_end.ensures.meets

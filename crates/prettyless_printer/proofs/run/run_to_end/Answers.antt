@@ -16,7 +16,6 @@ use Rattle.prettyless_printer.proofs.run.run_to_end.Goals as goal
 
 pub rounds-init : goal.rounds-init
 rounds-init g c = record {
-  queue = c.requires;
   same_lender = refl;
   told = λ told. (told, finishing_begins g.N.Walk.tree c.args.printer.now (known (g.W.Render.bytes c.args.out.now)), refl);
   rise = rise_same c.args.visits.now;
@@ -90,7 +89,6 @@ rounds-preserved g c =
     let last = c.flush_end.new.out in
     let some = length_some (state_of f q).pending (sym c.is_pending.ensures ∙ c.if-not-is_pending.false) in
     record {
-      queue = c.flush_end.ensures.queue;
       same_lender = c.flush_end.ensures.same_lender ∙ c.work_off.ensures.same_lender ∙ c.rounds.invariant.same_lender;
       told = λ told.
           let y = c.rounds.invariant.told told in

@@ -11,7 +11,6 @@ use Rattle.prettyless_printer.proofs.run.run_to_end.Given as goal
 
 abbrev pub invariant-rounds : goal.invariant-rounds
 invariant-rounds g l = record {
-  queue : l.printer.start ≤ vec_len l.printer.queue;
   same_lender : g.W.Render.lender l.out ≡ g.W.Render.lender l.fn.out;
   told : IsSome (g.W.Render.bytes l.fn.out) → IsSome (g.W.Render.bytes l.out)
       × Finishing g.N.Walk.tree (to_end g.N.Walk.tree l.fn.printer) l.printer (known (g.W.Render.bytes l.fn.out)) (known (g.W.Render.bytes l.out))

@@ -16,7 +16,6 @@ use Rattle.prettyless_printer.proofs.run.work_off.Goals as goal
 
 pub work-init : goal.work-init
 work-init g c = record {
-  queue = c.requires;
   options = refl;
   less = omega arith;
   same_lender = refl;
@@ -40,7 +39,6 @@ work-preserved-in-Went g c =
     let less = rw c.in-Went.is at c.in_ok-turn.ensures.lessens in
     let was = c.work.invariant.less in
     record {
-      queue = c.turn.ensures.queue;
       options = c.in_ok-turn.ensures.options ∙ c.work.invariant.options;
       less = omega (arith, less, was);
       same_lender = c.turn.ensures.same_lender ∙ c.work.invariant.same_lender;
@@ -109,7 +107,6 @@ work-preserved g c =
     let z = c.in-Chosen.second in
     let same = c.in_ok-turn.ensures.options ∙ c.work.invariant.options in
     record {
-      queue = c.choose.ensures.queue;
       options = c.in_ok-choose-in-Chosen.ensures.options ∙ same;
       less = omega (arith, fall.0, was, c.in_ok-choose-in-Chosen.ensures.lessens);
       same_lender = c.choose.ensures.same_lender ∙ c.turn.ensures.same_lender ∙ c.work.invariant.same_lender;

@@ -10,7 +10,6 @@ use Rattle.prettyless_printer.proofs.run.work_off.Given as goal
 
 abbrev pub invariant-work : goal.invariant-work
 invariant-work g l = record {
-  queue : l.printer.start ≤ vec_len l.printer.queue;
   options : l.printer.options ≡ l.fn.printer.options;
   less : work (stack_of g.N.Walk.tree l.printer.commands.items) (state_of g.N.Walk.tree l.printer)
       ≤ work (stack_of g.N.Walk.tree l.fn.printer.commands.items) (state_of g.N.Walk.tree l.fn.printer);

@@ -13,7 +13,7 @@ use Rattle.prettyless_printer.specs.declared.trial.Mark.{Mark}
 use Rattle.prettyless_step.proofs.Stacks.{length-stack_of}
 use Rattle.prettyless_printer.proofs.Progresses.{inside_past}
 use Rattle.prettyless_printer.proofs.Within.{Past, accept_past}
-use Rattle.prettyless_printer.proofs.Trying.{Trying, trial_of, limit_of, trying_begins, trying_turn, trial_ends, trial_rejected, padding_rejects, trial_kept, grows-grows, choice_kept, choice_other, cut_back, length-string_bytes}
+use Rattle.prettyless_printer.proofs.Trying.{Trying, trial_of, limit_of, trying_begins, trying_turn, trial_ends, trial_rejected, queue_marked, padding_rejects, trial_kept, grows-grows, choice_kept, choice_other, cut_back, length-string_bytes}
 use Rattle.prettyless_printer.proofs.Visits.{plain_at, plain_push, rise_same, rise_then, pays_same, pays_then, pays_cut, pays_all, pays_at, pays_first, pays_besides, run_broke}
 use Rattle.prettyless_printer.specs.Meets.{TrialMeets}
 use Rattle.prettyless_printer.proofs.Meets.{meets_then, meets_end, kept_meets, other_meets, trial_begins}
@@ -28,8 +28,7 @@ work-init g t c =
       trying = trying_begins f p q c.args.indent (f c.args.branch) (string_bytes c.args.buffer.now.text) c.in_ok-push_node.ensures refl;
       options = refl;
       within = refl;
-      queue = c.requires;
-      grows = ([], sym (append-nil p.queue.items));
+      grows = ([], sym (append-nil p.queue.nodes.items));
       rise = rise_same c.args.visits.now;
       pays = λ plain none. (
         plain_push f p q (make_task c.args.indent Break (f c.args.branch)) c.in_ok-push_node.ensures refl none plain,
@@ -52,10 +51,13 @@ take_back-requires g t c =
     let q = c.turn.new.printer in
     let new = string_bytes c.turn.new.out.text in
     let l : length (stack_of f p.commands.items) < length (stack_of f v.commands.items) =
-    omega (arith, length-stack_of f p.commands.items, length-stack_of f v.commands.items, p.commands.ok.0, v.commands.ok.0, ap (λ (x : Mark). x.commands) m, c.work-test.true, c.len.ensures) in
+    omega (arith, length-stack_of f p.commands.items, length-stack_of f v.commands.items, p.commands.ok.0, v.commands.ok.0, m.commands, c.work-test.true, c.len.ensures) in
     let t' = rw c.in-Ok-Failed.field-0-is at c.in-Ok-Failed.ensures.told in
     let e = trying_turn f p v i d old out (λ o. Goes f o q new turn.Failed) c.work.invariant.options l c.work.invariant.trying (t' refl).1.0 in
-    cut_back c.args.buffer.now.text c.turn.new.out.text c.len-written.result e.0 c.len-written.ensures e.2
+    record {
+      mark = queue_marked p q c.mark_of-mark.result m (grows-grows p v q c.work.invariant.grows c.in-Ok-Failed.ensures.grows);
+      buffer = cut_back c.args.buffer.now.text c.turn.new.out.text c.len-written.result e.0 c.len-written.ensures e.2;
+    }
 
 pub returns-in-Ok-Failed-clause-decided : goal.returns-in-Ok-Failed-clause-decided
 returns-in-Ok-Failed-clause-decided g t c =
@@ -70,7 +72,7 @@ returns-in-Ok-Failed-clause-decided g t c =
     let q = c.turn.new.printer in
     let new = string_bytes c.turn.new.out.text in
     let l : length (stack_of f p.commands.items) < length (stack_of f v.commands.items) =
-    omega (arith, length-stack_of f p.commands.items, length-stack_of f v.commands.items, p.commands.ok.0, v.commands.ok.0, ap (λ (x : Mark). x.commands) m, c.work-test.true, c.len.ensures) in
+    omega (arith, length-stack_of f p.commands.items, length-stack_of f v.commands.items, p.commands.ok.0, v.commands.ok.0, m.commands, c.work-test.true, c.len.ensures) in
     let t' = rw c.in-Ok-Failed.field-0-is at c.in-Ok-Failed.ensures.told in
     let e = trying_turn f p v i d old out (λ o. Goes f o q new turn.Failed) c.work.invariant.options l c.work.invariant.trying (t' refl).1.0 in
     let k : length (stack_of f p.commands.items) ≡ p.commands.len = omega (arith, length-stack_of f p.commands.items, p.commands.ok.0) in
@@ -92,10 +94,13 @@ take_back-requires-then-not-printer g t c =
     let q = c.turn.new.printer in
     let new = string_bytes c.turn.new.out.text in
     let l : length (stack_of f p.commands.items) < length (stack_of f v.commands.items) =
-    omega (arith, length-stack_of f p.commands.items, length-stack_of f v.commands.items, p.commands.ok.0, v.commands.ok.0, ap (λ (x : Mark). x.commands) m, c.work-test.true, c.len.ensures) in
+    omega (arith, length-stack_of f p.commands.items, length-stack_of f v.commands.items, p.commands.ok.0, v.commands.ok.0, m.commands, c.work-test.true, c.len.ensures) in
     let t' = rw c.in-Ok-Went.field-0-is at c.in-Ok-Went.ensures.told in
     let e = trying_turn f p v i d old out (λ o. Goes f o q new turn.Went) c.work.invariant.options l c.work.invariant.trying (t' refl).1.0 in
-    cut_back c.args.buffer.now.text c.turn.new.out.text c.len-written.result e.bytes c.len-written.ensures e.out_is
+    record {
+      mark = queue_marked p q c.mark_of-mark.result m (grows-grows p v q c.work.invariant.grows c.in-Ok-Went.ensures.grows);
+      buffer = cut_back c.args.buffer.now.text c.turn.new.out.text c.len-written.result e.bytes c.len-written.ensures e.out_is;
+    }
 
 pub returns-then-not-printer-clause-decided : goal.returns-then-not-printer-clause-decided
 returns-then-not-printer-clause-decided g t c =
@@ -110,7 +115,7 @@ returns-then-not-printer-clause-decided g t c =
     let q = c.turn.new.printer in
     let new = string_bytes c.turn.new.out.text in
     let l : length (stack_of f p.commands.items) < length (stack_of f v.commands.items) =
-    omega (arith, length-stack_of f p.commands.items, length-stack_of f v.commands.items, p.commands.ok.0, v.commands.ok.0, ap (λ (x : Mark). x.commands) m, c.work-test.true, c.len.ensures) in
+    omega (arith, length-stack_of f p.commands.items, length-stack_of f v.commands.items, p.commands.ok.0, v.commands.ok.0, m.commands, c.work-test.true, c.len.ensures) in
     let t' = rw c.in-Ok-Went.field-0-is at c.in-Ok-Went.ensures.told in
     let e = trying_turn f p v i d old out (λ o. Goes f o q new turn.Went) c.work.invariant.options l c.work.invariant.trying (t' refl).1.0 in
     let k : length (stack_of f p.commands.items) ≡ p.commands.len = omega (arith, length-stack_of f p.commands.items, p.commands.ok.0) in
@@ -133,14 +138,13 @@ work-preserved-else-not-printer g t c =
     let q = c.turn.new.printer in
     let new = string_bytes c.turn.new.out.text in
     let l : length (stack_of f p.commands.items) < length (stack_of f v.commands.items) =
-    omega (arith, length-stack_of f p.commands.items, length-stack_of f v.commands.items, p.commands.ok.0, v.commands.ok.0, ap (λ (x : Mark). x.commands) m, c.work-test.true, c.len.ensures) in
+    omega (arith, length-stack_of f p.commands.items, length-stack_of f v.commands.items, p.commands.ok.0, v.commands.ok.0, m.commands, c.work-test.true, c.len.ensures) in
     let t' = rw c.in-Ok-Went.field-0-is at c.in-Ok-Went.ensures.told in
     let e = trying_turn f p v i d old out (λ o. Goes f o q new turn.Went) c.work.invariant.options l c.work.invariant.trying (t' refl).1.0 in
     record {
       trying = e;
       options = c.in-Ok-Went.ensures.options ∙ c.work.invariant.options;
       within = c.if-not-printer.false;
-      queue = c.turn.ensures.queue;
       grows = grows-grows p v q c.work.invariant.grows c.in-Ok-Went.ensures.grows;
       rise = rise_then c.work.invariant.rise c.turn.ensures.rise;
       pays = λ plain none.
@@ -163,11 +167,11 @@ print_branch-requires g t c κs within =
     let q = c.turn.new.printer in
     let new = string_bytes c.turn.new.out.text in
     let l : length (stack_of f p.commands.items) < length (stack_of f v.commands.items) =
-    omega (arith, length-stack_of f p.commands.items, length-stack_of f v.commands.items, p.commands.ok.0, v.commands.ok.0, ap (λ (x : Mark). x.commands) m, c.work-test.true, c.len.ensures) in
+    omega (arith, length-stack_of f p.commands.items, length-stack_of f v.commands.items, p.commands.ok.0, v.commands.ok.0, m.commands, c.work-test.true, c.len.ensures) in
     let t' = rw c.in-Ok-Chosen.field-0-is at c.in-Ok-Chosen.ensures.told in
     let e = trying_turn f p v i d old out (λ o. Goes f o q new (turn.Chosen c.in-Ok-Chosen.i c.in-Ok-Chosen.first c.in-Ok-Chosen.second)) c.work.invariant.options l c.work.invariant.trying (t' refl).1.0 in
     let b = e.bound in
-    (omega (arith, b, c.decreases), (within, c.turn.ensures.queue))
+    (omega (arith, b, c.decreases), within)
 
 pub work-preserved : goal.work-preserved
 work-preserved g t c =
@@ -182,7 +186,7 @@ work-preserved g t c =
     let q = c.turn.new.printer in
     let new = string_bytes c.turn.new.out.text in
     let l : length (stack_of f p.commands.items) < length (stack_of f v.commands.items) =
-    omega (arith, length-stack_of f p.commands.items, length-stack_of f v.commands.items, p.commands.ok.0, v.commands.ok.0, ap (λ (x : Mark). x.commands) m, c.work-test.true, c.len.ensures) in
+    omega (arith, length-stack_of f p.commands.items, length-stack_of f v.commands.items, p.commands.ok.0, v.commands.ok.0, m.commands, c.work-test.true, c.len.ensures) in
     let t' = rw c.in-Ok-Chosen.field-0-is at c.in-Ok-Chosen.ensures.told in
     let e = trying_turn f p v i d old out (λ o. Goes f o q new (turn.Chosen c.in-Ok-Chosen.i c.in-Ok-Chosen.first c.in-Ok-Chosen.second)) c.work.invariant.options l c.work.invariant.trying (t' refl).1.0 in
     let r = c.print_branch.new.printer in
@@ -196,7 +200,6 @@ work-preserved g t c =
       trying = subst (Trying f p i d old r) (sym z.1) z.2;
       options = n.1 ∙ h;
       within = n.3 ∙ (rw c.in-Ok-Chosen.field-0-is at c.in-Ok-Chosen.ensures.lessens).1 ∙ c.work.invariant.within;
-      queue = c.print_branch.ensures.queue;
       grows = grows-grows p q r (grows-grows p v q c.work.invariant.grows c.in-Ok-Chosen.ensures.grows) n.2;
       rise = rise_then c.work.invariant.rise (rise_then c.turn.ensures.rise c.print_branch.ensures.rise);
       pays = λ plain none.
@@ -224,7 +227,7 @@ work-preserved-in_ok-push_node-in-Ok-Chosen g t c =
     let q = c.turn.new.printer in
     let new = string_bytes c.turn.new.out.text in
     let l : length (stack_of f p.commands.items) < length (stack_of f v.commands.items) =
-    omega (arith, length-stack_of f p.commands.items, length-stack_of f v.commands.items, p.commands.ok.0, v.commands.ok.0, ap (λ (x : Mark). x.commands) m, c.work-test.true, c.len.ensures) in
+    omega (arith, length-stack_of f p.commands.items, length-stack_of f v.commands.items, p.commands.ok.0, v.commands.ok.0, m.commands, c.work-test.true, c.len.ensures) in
     let t' = rw c.in-Ok-Chosen.field-0-is at c.in-Ok-Chosen.ensures.told in
     let e = trying_turn f p v i d old out (λ o. Goes f o q new (turn.Chosen c.in-Ok-Chosen.i c.in-Ok-Chosen.first c.in-Ok-Chosen.second)) c.work.invariant.options l c.work.invariant.trying (t' refl).1.0 in
     let r = c.print_branch.new.printer in
@@ -239,7 +242,6 @@ work-preserved-in_ok-push_node-in-Ok-Chosen g t c =
       trying = subst (Trying f p i d old u) (sym z.0) z.1;
       options = n.1 ∙ h;
       within = n.3 ∙ (rw c.in-Ok-Chosen.field-0-is at c.in-Ok-Chosen.ensures.lessens).1 ∙ c.work.invariant.within;
-      queue = c.print_branch.ensures.queue;
       grows = grows-grows p q r (grows-grows p v q c.work.invariant.grows c.in-Ok-Chosen.ensures.grows) n.2;
       rise = rise_then c.work.invariant.rise (rise_then c.turn.ensures.rise c.print_branch.ensures.rise);
       pays = λ plain none.
@@ -260,8 +262,10 @@ work-preserved-in_ok-push_node-in-Ok-Chosen g t c =
     }
 
 pub take_back-requires-then-not-padding_fits : goal.take_back-requires-then-not-padding_fits
-take_back-requires-then-not-padding_fits g t c =
-    cut_back c.args.buffer.now.text c.work.buffer.text c.len-written.result c.work.invariant.trying.bytes c.len-written.ensures c.work.invariant.trying.out_is
+take_back-requires-then-not-padding_fits g t c = record {
+  mark = queue_marked c.args.printer.now c.work.printer c.mark_of-mark.result c.mark_of-mark.ensures c.work.invariant.grows;
+  buffer = cut_back c.args.buffer.now.text c.work.buffer.text c.len-written.result c.work.invariant.trying.bytes c.len-written.ensures c.work.invariant.trying.out_is;
+}
 
 pub returns-then-not-padding_fits-clause-decided : goal.returns-then-not-padding_fits-clause-decided
 returns-then-not-padding_fits-clause-decided g t c =
@@ -274,7 +278,7 @@ returns-then-not-padding_fits-clause-decided g t c =
     let out = string_bytes c.work.buffer.text in
     let m = c.mark_of-mark.ensures in
     let l : length (stack_of f v.commands.items) ≤ length (stack_of f p.commands.items) =
-    omega (arith, length-stack_of f p.commands.items, length-stack_of f v.commands.items, p.commands.ok.0, v.commands.ok.0, ap (λ (x : Mark). x.commands) m, c.work-test.false, c.len.ensures) in
+    omega (arith, length-stack_of f p.commands.items, length-stack_of f v.commands.items, p.commands.ok.0, v.commands.ok.0, m.commands, c.work-test.false, c.len.ensures) in
     let k : length (stack_of f p.commands.items) ≡ p.commands.len = omega (arith, length-stack_of f p.commands.items, p.commands.ok.0) in
     let e = trial_ends f p v i d old out c.work.invariant.trying l in
     let r = c.take_back-then-not-padding_fits.new.printer in
@@ -297,13 +301,13 @@ returns-clause-decided g t c =
     let out = string_bytes c.work.buffer.text in
     let m = c.mark_of-mark.ensures in
     let l : length (stack_of f v.commands.items) ≤ length (stack_of f p.commands.items) =
-    omega (arith, length-stack_of f p.commands.items, length-stack_of f v.commands.items, p.commands.ok.0, v.commands.ok.0, ap (λ (x : Mark). x.commands) m, c.work-test.false, c.len.ensures) in
+    omega (arith, length-stack_of f p.commands.items, length-stack_of f v.commands.items, p.commands.ok.0, v.commands.ok.0, m.commands, c.work-test.false, c.len.ensures) in
     let r = record v { within = c.mark_of-mark.result.within } in
     let fits : padding_fits p.options.width (some_pending (state_of f v).pending) v.column ≡ true =
     ap (λ (x : RenderOptions). padding_fits x.width (some_pending (state_of f v).pending) v.column) (sym c.work.invariant.options)
     ∙ ap (λ (x : Bool). padding_fits v.options.width x v.column) (sym c.is_pending.ensures) ∙ sym c.padding_fits.ensures ∙ c.if-not-padding_fits.false in
     trial_kept f p v r i d old out c.work.invariant.trying l c.work.invariant.within fits refl
-    (ap (λ (x : _). record { column = v.column; pending = (state_of f v).pending; within = x }) (ap (λ (x : Mark). x.within) m)) c.work.invariant.options c.work.invariant.grows
+    (ap (λ (x : _). record { column = v.column; pending = (state_of f v).pending; within = x }) m.within) c.work.invariant.options c.work.invariant.grows
 
 pub returns-in-Err-clause-rise : goal.returns-in-Err-clause-rise
 returns-in-Err-clause-rise g t c = rise_then c.work.invariant.rise c.turn.ensures.rise
@@ -329,7 +333,7 @@ returns-in-Ok-Failed-clause-pays g t c =
     let q = c.turn.new.printer in
     let new = string_bytes c.turn.new.out.text in
     let l : length (stack_of f p.commands.items) < length (stack_of f v.commands.items) =
-    omega (arith, length-stack_of f p.commands.items, length-stack_of f v.commands.items, p.commands.ok.0, v.commands.ok.0, ap (λ (x : Mark). x.commands) m, c.work-test.true, c.len.ensures) in
+    omega (arith, length-stack_of f p.commands.items, length-stack_of f v.commands.items, p.commands.ok.0, v.commands.ok.0, m.commands, c.work-test.true, c.len.ensures) in
     let t' = rw c.in-Ok-Failed.field-0-is at c.in-Ok-Failed.ensures.told in
     let e = trying_turn f p v i d old out (λ o. Goes f o q new turn.Failed) c.work.invariant.options l c.work.invariant.trying (t' refl).1.0 in
     let r = c.take_back.new.printer in
@@ -355,7 +359,7 @@ returns-then-not-printer-clause-pays g t c =
     let q = c.turn.new.printer in
     let new = string_bytes c.turn.new.out.text in
     let l : length (stack_of f p.commands.items) < length (stack_of f v.commands.items) =
-    omega (arith, length-stack_of f p.commands.items, length-stack_of f v.commands.items, p.commands.ok.0, v.commands.ok.0, ap (λ (x : Mark). x.commands) m, c.work-test.true, c.len.ensures) in
+    omega (arith, length-stack_of f p.commands.items, length-stack_of f v.commands.items, p.commands.ok.0, v.commands.ok.0, m.commands, c.work-test.true, c.len.ensures) in
     let t' = rw c.in-Ok-Went.field-0-is at c.in-Ok-Went.ensures.told in
     let e = trying_turn f p v i d old out (λ o. Goes f o q new turn.Went) c.work.invariant.options l c.work.invariant.trying (t' refl).1.0 in
     let r = c.take_back-then-not-printer.new.printer in
@@ -429,5 +433,5 @@ returns-clause-meets g t c =
     let v = c.work.printer in
     let m = c.mark_of-mark.ensures in
     let l : length (stack_of f v.commands.items) ≤ length (stack_of f p.commands.items) =
-    omega (arith, length-stack_of f p.commands.items, length-stack_of f v.commands.items, p.commands.ok.0, v.commands.ok.0, ap (λ (x : Mark). x.commands) m, c.work-test.false, c.len.ensures) in
+    omega (arith, length-stack_of f p.commands.items, length-stack_of f v.commands.items, p.commands.ok.0, v.commands.ok.0, m.commands, c.work-test.false, c.len.ensures) in
     meets_end f v (length (stack_of f p.commands.items)) l c.work.invariant.meets

@@ -18,7 +18,6 @@ invariant-work g l = record {
   trying : Trying g.N.Walk.tree l.fn.printer l.fn.indent (g.N.Walk.tree l.fn.branch) (string_bytes l.fn.buffer.text) l.printer (string_bytes l.buffer.text);
   options : l.printer.options ≡ l.fn.printer.options;
   within : l.printer.within ≡ true;
-  queue : l.printer.start ≤ vec_len l.printer.queue;
   grows : Grows l.fn.printer l.printer;
   rise : Rise l.fn.visits l.visits;
   pays : Plain g.N.Walk.tree l.fn.printer → suffix_depth (g.N.Walk.tree l.fn.branch) ≡ 0 → Plain g.N.Walk.tree l.printer
