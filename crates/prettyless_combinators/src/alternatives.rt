@@ -1,6 +1,6 @@
-//! Values that become one of two documents, by the mode or by what fits the line. The making of each
-//! can fail, and memory may be refused. Both are made, also where the first failed, since a value that no one takes
-//! cannot be let go.
+//! Values that become one of two documents, by the mode or by what fits the line. Making each of the two can fail, and
+//! memory may be refused. Both are made, also where the first failed, since a value that is not consumed cannot be
+//! dropped.
 ghost use Rattle.std.specs.Prelude.{◌≡◌};
 ghost use Rattle.prettyless_doc.specs.Tree as tree;
 ghost use Rattle.prettyless_doc.specs.Tree.{Tree};
@@ -28,7 +28,7 @@ impl<'a, D: DocPlace<'a>, T: Pretty<'a, D>, U: Pretty<'a, D>> Pretty<'a, D> for 
     }
 }
 
-/// The first document where its first line fits, whatever stands behind that, and else the second; where lines are
+/// The first document where its first line fits, whatever comes after that line, and else the second; where lines are
 /// flat, the first.
 #[derive(Clone, Debug, Drop)]
 pub struct PartialUnion<T, U>(pub(crate) T, pub(crate) U);

@@ -20,7 +20,7 @@ pub fn nil() -> Nil {
     Nil
 }
 
-/// A document that cannot be laid: a render that meets it fails.
+/// A document that cannot be laid: a render that comes to it fails.
 pub fn fail() -> Fail {
     Fail
 }
@@ -40,12 +40,12 @@ pub fn line_or_space() -> LineOrSpace {
     LineOrSpace
 }
 
-/// Nothing, or a line break where what follows, up to the next break that may stand there, would go past the width.
+/// Nothing, or a line break where what follows, up to the next possible break, would go past the width.
 pub fn soft_line_or_nil() -> SoftLineOrNil {
     SoftLineOrNil
 }
 
-/// One space, or a line break where what follows, up to the next break that may stand there, would go past the width.
+/// One space, or a line break where what follows, up to the next possible break, would go past the width.
 pub fn soft_line_or_space() -> SoftLineOrSpace {
     SoftLineOrSpace
 }
@@ -85,7 +85,7 @@ pub fn as_string<T: fmt::Display>(value: T) -> AsString<T>
     AsString(value)
 }
 
-/// A text whose line ends, each LF or CR, are written as they are, with no indent behind them. It keeps the groups
+/// A text whose line ends, each LF or CR, are written as they are, with no indent after them. It keeps the groups
 /// around it from being flat, and fails under `flatten`.
 pub fn multiline_text<'a>(text: CowStr<'a>) -> MultilineText<'a>
     ensures { result.0 ≡ text.entry }
@@ -164,7 +164,7 @@ pub fn union<T, U>(first: T, second: U) -> Union<T, U>
     Union(first, second)
 }
 
-/// The first document where its first line fits, whatever stands behind that, and else the second; where lines are
+/// The first document where its first line fits, whatever comes after that line, and else the second; where lines are
 /// flat, the first.
 pub fn partial_union<T, U>(first: T, second: U) -> PartialUnion<T, U>
     ensures first { result.0 ≡ first }

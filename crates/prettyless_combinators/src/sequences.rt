@@ -1,8 +1,8 @@
-//! Values that become the documents of all the items of an iterator. The making of an item can fail,
-//! and memory may be refused.
+//! Values that become the documents of all the items of an iterator. Making the document of an item can fail, and memory
+//! may be refused.
 //!
-//! That the iterator can be walked, and ends, is asked where such a value is made, and kept by its
-//! model. Nothing says that a clone of an iterator ends, so these are not cloned.
+//! Such a value is made only of an iterator that can be walked and ends, and its model keeps that. Nothing says that a
+//! clone of an iterator ends, so these are not cloned.
 ghost use Rattle.std.specs.Prelude.{◌≡◌, ◌⊎◌, List};
 ghost use Rattle.std.specs.Iterator.{IsFinite, Drains};
 ghost use Rattle.prettyless_doc.specs.BuildErrors.{IsMemory};

@@ -24,8 +24,7 @@ impl<'a, D: DocPlace<'a>, T: fmt::Display + Drop> Pretty<'a, D> for AsString<T> 
     }
 }
 
-/// A text whose line breaks are written as they are, as `multiline_text` of an allocator makes it. It
-/// takes no memory.
+/// A text whose line ends are written as they are, as `multiline_text` of an allocator makes it. It takes no memory.
 #[derive(Debug, Drop)]
 pub struct MultilineText<'a>(pub(crate) CowStr<'a>);
 

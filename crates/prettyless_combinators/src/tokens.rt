@@ -23,7 +23,7 @@ impl<'a, D: DocPlace<'a>> Pretty<'a, D> for Nil {
     }
 }
 
-/// A document that cannot be laid: a render that meets it fails. It takes no memory.
+/// A document that cannot be laid: a render that comes to it fails. It takes no memory.
 #[derive(Clone, Copy, Debug)]
 pub struct Fail;
 
@@ -79,8 +79,8 @@ impl<'a, D: DocPlace<'a>> Pretty<'a, D> for LineOrSpace {
     }
 }
 
-/// Nothing, or a line break where what follows, up to the next break that may stand there, would go past the width. It
-/// fails where memory is refused.
+/// Nothing, or a line break where what follows, up to the next possible break, would go past the width. It fails where
+/// memory is refused.
 #[derive(Clone, Copy, Debug)]
 pub struct SoftLineOrNil;
 
@@ -94,8 +94,8 @@ impl<'a, D: DocPlace<'a>> Pretty<'a, D> for SoftLineOrNil {
     }
 }
 
-/// One space, or a line break where what follows, up to the next break that may stand there, would go past the width.
-/// It fails where memory is refused.
+/// One space, or a line break where what follows, up to the next possible break, would go past the width. It fails where
+/// memory is refused.
 #[derive(Clone, Copy, Debug)]
 pub struct SoftLineOrSpace;
 
@@ -167,8 +167,7 @@ impl<'a, D: DocPlace<'a>> Pretty<'a, D> for ExpandParent {
     }
 }
 
-/// So many spaces, in texts of at most 100. Up to 100 it takes no memory; beyond that memory can
-/// fail.
+/// So many spaces, in texts of at most 100. Up to 100 it takes no memory; beyond that memory may be refused.
 #[derive(Clone, Copy, Debug)]
 pub struct Spaces(pub(crate) usize);
 

@@ -1,5 +1,5 @@
-//! Values that become what a builder's call makes of one document. The making of that one can fail,
-//! and memory may be refused.
+//! Values that become what a builder's call makes of one document. Making that document can fail, and memory may be
+//! refused.
 ghost use Rattle.std.specs.Prelude.{◌≡◌, ◌⊎◌};
 ghost use Rattle.prettyless_doc.specs.Tree as tree;
 ghost use Rattle.prettyless_doc.specs.Tree.{Tree};

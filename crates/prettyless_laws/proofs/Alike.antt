@@ -1,4 +1,4 @@
--- Columns that are alike: content would begin at the same place behind the same weak spaces. What is read of them agrees.
+-- Columns that are alike: content would begin at the same place after the same weak spaces. What is read of them agrees.
 use Rattle.std.proofs.Common.{◌≡◌, ℕ, ◌+◌, ◌-◌, ◌^◌, List, [], ◌∷◌, ◌++◌, refl, ap, ap₂, ◌∙◌, min, arith, Bool, true, false, not, ◌&&◌, ◌||◌, ◌==◌, nat_le, if◌then◌else◌}
 use Rattle.prettyless_model.specs.declared.options.RenderOptions.{RenderOptions}
 use Rattle.prettyless_model.specs.Tree.{Tree, WeakLine}

@@ -13,9 +13,9 @@ use Rattle.prettyless_model.specs.Levels.{settle, queued}
 use Rattle.prettyless_model.specs.declared.column.Column.{Column}
 use Rattle.prettyless_model.specs.declared.mode.Mode.{Mode}
 use Rattle.prettyless_model.specs.declared.mode.Mode.TheVariants.{Break, Flat}
-use Rattle.prettyless_laws.specs.Trace as told
-use Rattle.prettyless_laws.specs.Trace.{Gap, First, Second, Telling, Told, BreakTellings, after_pieces, told_then, tell_text, tell_ending, chosen, tell, tell_break_with, tell_breaks}
-use Rattle.prettyless_laws.specs.FlatLines.{flat_suffixes, SkipsWeakLines, LaysFlat, LiesOnOneLine, PassesWeakLines, TellsFlat, IsOnOneLine, IsToldOnOneLine, IsToldAsFlatGroup}
+use Rattle.prettyless_laws.specs.Trace as traces
+use Rattle.prettyless_laws.specs.Trace.{Gap, First, Second, Tracing, Traced, BreakTraces, after_pieces, traced_then, trace_text, trace_ending, chosen, trace_at, trace_break_with, trace_breaks}
+use Rattle.prettyless_laws.specs.FlatLines.{flat_suffixes, SkipsWeakLines, LaysFlat, LiesOnOneLine, PassesWeakLines, TracesFlat, IsOnOneLine, IsTracedOnOneLine, IsTracedAsFlatGroup}
 
 -- the atoms fit from a state
 abbrev Fits : RenderOptions → List Atom → State → Type 0
@@ -34,7 +34,7 @@ only_then true x e = (refl, e)
 only_then false x e = absurd (cc)
 
 -- a tree that writes nothing and leaves nothing pending
-flows_by : (o : RenderOptions) (d : Tree) (atoms : List Atom) (st u : State) → LaysFlat o d st [] u → LaysFlat o d (tried st) [] (tried u) → TellsFlat o d st [] u → u.within ≡ st.within → u.pending ≡ st.pending → flat_suffixes d ≡ [] → Fits o atoms u → IsToldOnOneLine o d atoms st
+flows_by : (o : RenderOptions) (d : Tree) (atoms : List Atom) (st u : State) → LaysFlat o d st [] u → LaysFlat o d (tried st) [] (tried u) → TracesFlat o d st [] u → u.within ≡ st.within → u.pending ≡ st.pending → flat_suffixes d ≡ [] → Fits o atoms u → IsTracedOnOneLine o d atoms st
 flows_by o d atoms st u e f t w p n h = record {
   lies = record {
     bytes = [];
@@ -46,12 +46,12 @@ flows_by o d atoms st u e f t w p n h = record {
     follows = h;
   };
   pieces = [];
-  told = t;
+  traced = t;
   on_one_line = All-nil (IsOnOneLine o.width);
 }
 
--- a tree that is laid and told as another at an indent of its own
-flows_as : (o : RenderOptions) (d x : Tree) (atoms : List Atom) (st : State) (f : ℕ → ℕ) → ((brk : Breaks) (i : ℕ) (rest : List Entry) (u : State) → u.column ≡ st.column → lay o brk d i Flat rest u ≡ lay o brk x (f i) Flat rest u) → ((brk : BreakTellings) (i : ℕ) (rest : List Entry) → tell o brk d i Flat rest st ≡ tell o brk x (f i) Flat rest st) → flat_suffixes d ≡ flat_suffixes x → IsToldOnOneLine o x atoms st → IsToldOnOneLine o d atoms st
+-- a tree that is laid and traced as another at an indent of its own
+flows_as : (o : RenderOptions) (d x : Tree) (atoms : List Atom) (st : State) (f : ℕ → ℕ) → ((brk : Breaks) (i : ℕ) (rest : List Entry) (u : State) → u.column ≡ st.column → lay o brk d i Flat rest u ≡ lay o brk x (f i) Flat rest u) → ((brk : BreakTraces) (i : ℕ) (rest : List Entry) → trace_at o brk d i Flat rest st ≡ trace_at o brk x (f i) Flat rest st) → flat_suffixes d ≡ flat_suffixes x → IsTracedOnOneLine o x atoms st → IsTracedOnOneLine o d atoms st
 flows_as o d x atoms st f e t n h = record {
   lies = record {
     bytes = h.lies.bytes;
@@ -63,7 +63,7 @@ flows_as o d x atoms st f e t n h = record {
     follows = h.lies.follows;
   };
   pieces = h.pieces;
-  told = λ brk k i rest. t brk i rest ∙ h.told brk k (f i) rest;
+  traced = λ brk k i rest. t brk i rest ∙ h.traced brk k (f i) rest;
   on_one_line = h.on_one_line;
 }
 
@@ -72,13 +72,13 @@ inked : (o : RenderOptions) (w : ℕ) (st : State) → nat_le (commit w st.colum
 inked o w st h t =
     ap (λ (x : Bool). record st { column = commit w st.column; within = x }) (ap (λ (x : Bool). t && x) h ∙ and-true t)
 
-text_flows : (o : RenderOptions) (d : Tree) (w : ℕ) (s : List ℕ) (atoms : List Atom) (st : State) → ((brk : Breaks) (i : ℕ) (rest : List Entry) (u : State) → lay o brk d i Flat rest u ≡ lay_text o w s u) → ((brk : BreakTellings) (i : ℕ) (rest : List Entry) → tell o brk d i Flat rest st ≡ tell_text o w s st) → flat_suffixes d ≡ [] → Fits o (ink_of w s ++ atoms) st → IsToldOnOneLine o d atoms st
+text_flows : (o : RenderOptions) (d : Tree) (w : ℕ) (s : List ℕ) (atoms : List Atom) (st : State) → ((brk : Breaks) (i : ℕ) (rest : List Entry) (u : State) → lay o brk d i Flat rest u ≡ lay_text o w s u) → ((brk : BreakTraces) (i : ℕ) (rest : List Entry) → trace_at o brk d i Flat rest st ≡ trace_text o w s st) → flat_suffixes d ≡ [] → Fits o (ink_of w s ++ atoms) st → IsTracedOnOneLine o d atoms st
 text_flows o d w [] atoms st e t n h =
     flows_by o d atoms st st (λ brk k i rest. e brk i rest st) (λ brk k i rest. e brk i rest (tried st)) (λ brk k i rest. t brk i rest) refl refl n h
 text_flows o d w (b ∷ bs) atoms st e t n h =
     let parts = and_parts _ _ h in
     let bytes = spaces (gap st.column) ++ (b ∷ bs) in
-    let text = told.Text (b ∷ bs) (commit w st.column).position in
+    let text = traces.Text (b ∷ bs) (commit w st.column).position in
     record {
       lies = record {
         bytes = bytes;
@@ -90,14 +90,14 @@ text_flows o d w (b ∷ bs) atoms st e t n h =
         follows = parts.1;
       };
       pieces = Gap st.column.padding ∷ text ∷ [];
-      told = λ brk k i rest. t brk i rest ∙ ap (Told (Gap st.column.padding ∷ text ∷ [])) (inked o w st parts.0 st.within);
+      traced = λ brk k i rest. t brk i rest ∙ ap (Traced (Gap st.column.padding ∷ text ∷ [])) (inked o w st parts.0 st.within);
       on_one_line =
           All-cons (IsOnOneLine o.width) (Gap st.column.padding) (text ∷ []) tt
           (All-cons (IsOnOneLine o.width) text [] (leb-true _ _ parts.0) (All-nil (IsOnOneLine o.width)));
     }
 
-flows : (o : RenderOptions) (d : Tree) (atoms : List Atom) (st : State) → Fits o (reading d Flat ++ atoms) st → IsToldOnOneLine o d atoms st
-unfolding lay tell
+flows : (o : RenderOptions) (d : Tree) (atoms : List Atom) (st : State) → Fits o (reading d Flat ++ atoms) st → IsTracedOnOneLine o d atoms st
+unfolding lay trace_at
 flows o Nil atoms st h = flows_by o Nil atoms st st (λ brk k i rest. refl) (λ brk k i rest. refl) (λ brk k i rest. refl) refl refl refl h
 flows o Fail atoms st h = absurd (cc)
 flows o (Text s) atoms st h = text_flows o (Text s) (length s) s atoms st (λ brk i rest u. refl) (λ brk i rest. refl) refl h
@@ -130,9 +130,9 @@ flows o (Append l r) atoms st h =
         follows = y.lies.follows;
       };
       pieces = x.pieces ++ y.pieces;
-      told = λ brk k i rest.
-          ap (λ (z : Telling). told_then z (λ u. tell o brk r i Flat rest u)) (x.told brk k i (entry i r ∷ rest))
-          ∙ ap (after_pieces x.pieces) (y.told brk k i rest);
+      traced = λ brk k i rest.
+          ap (λ (z : Tracing). traced_then z (λ u. trace_at o brk r i Flat rest u)) (x.traced brk k i (entry i r ∷ rest))
+          ∙ ap (after_pieces x.pieces) (y.traced brk k i rest);
       on_one_line = All-append (IsOnOneLine o.width) x.pieces y.pieces x.on_one_line y.on_one_line;
     }
 flows o (LineSuffix d) atoms st h = record {
@@ -146,7 +146,7 @@ flows o (LineSuffix d) atoms st h = record {
     follows = rw (some_pending-more st.pending d) h;
   };
   pieces = [];
-  told = λ brk k i rest. refl;
+  traced = λ brk k i rest. refl;
   on_one_line = All-nil (IsOnOneLine o.width);
 }
 flows o (Nest n d) atoms st h = flows_as o (Nest n d) d atoms st (λ i. nested i n) (λ brk i rest u e. refl) (λ brk i rest. refl) refl (flows o d atoms st h)
@@ -163,24 +163,24 @@ flows o (PartialUnion l r) atoms st h = flows_as o (PartialUnion l r) l atoms st
 pub one_line : (o : RenderOptions) (d : Tree) (rest : List Entry) (st : State) → probe o d Flat rest st ≡ true → LiesOnOneLine o d (rest_atoms rest) st
 one_line o d rest st h = (flows o d (rest_atoms rest) st h).lies
 
-pub told_on_one_line : (o : RenderOptions) (d : Tree) (rest : List Entry) (st : State) → probe o d Flat rest st ≡ true → IsToldOnOneLine o d (rest_atoms rest) st
-told_on_one_line o d rest st h = flows o d (rest_atoms rest) st h
+pub traced_on_one_line : (o : RenderOptions) (d : Tree) (rest : List Entry) (st : State) → probe o d Flat rest st ≡ true → IsTracedOnOneLine o d (rest_atoms rest) st
+traced_on_one_line o d rest st h = flows o d (rest_atoms rest) st h
 
 pub group_is_flat : (o : RenderOptions) (brk : Breaks) (d : Tree) (i : ℕ) (m : Mode) (rest : List Entry) (st : State) → probe o d Flat rest st ≡ true → lay o brk (Group d) i m rest st ≡ lay o brk d i Flat rest st
 unfolding lay
 group_is_flat o brk d i Break rest st h = ap (λ (t : Bool). lay o brk d i (if t then Flat else Break) rest st) h
 group_is_flat o brk d i Flat rest st h = refl
 
--- a group in Break whose probe answers yes is told as its first alternative, and then as its document in Flat
-group_chooses : (o : RenderOptions) (brk : BreakTellings) (d : Tree) (i : ℕ) (rest : List Entry) (st : State) → probe o d Flat rest st ≡ true → tell o brk (Group d) i Break rest st ≡ chosen First (tell o brk d i Flat rest st)
-unfolding tell
+-- the trace of a group in Break whose probe answers yes: its first alternative, and then its document in Flat
+group_chooses : (o : RenderOptions) (brk : BreakTraces) (d : Tree) (i : ℕ) (rest : List Entry) (st : State) → probe o d Flat rest st ≡ true → trace_at o brk (Group d) i Break rest st ≡ chosen First (trace_at o brk d i Flat rest st)
+unfolding trace_at
 group_chooses o brk d i rest st h =
-    ap (λ (t : Bool). if t then chosen First (tell o brk d i Flat rest st) else chosen Second (tell o brk d i Break rest st)) h
+    ap (λ (t : Bool). if t then chosen First (trace_at o brk d i Flat rest st) else chosen Second (trace_at o brk d i Break rest st)) h
 
-pub told_as_flat_group : (o : RenderOptions) (d : Tree) (rest : List Entry) (st : State) → probe o d Flat rest st ≡ true → IsToldAsFlatGroup o d rest st
-told_as_flat_group o d rest st h =
-    let x = told_on_one_line o d rest st h in
-    record { document = x; told = λ brk k i. group_chooses o brk d i rest st h ∙ ap (chosen First) (x.told brk k i rest) }
+pub traced_as_flat_group : (o : RenderOptions) (d : Tree) (rest : List Entry) (st : State) → probe o d Flat rest st ≡ true → IsTracedAsFlatGroup o d rest st
+traced_as_flat_group o d rest st h =
+    let x = traced_on_one_line o d rest st h in
+    record { document = x; traced = λ brk k i. group_chooses o brk d i rest st h ∙ ap (chosen First) (x.traced brk k i rest) }
 
 -- a break runs `plain_break` where nothing is pending, and that skips a fresh weak line
 skips : (o : RenderOptions) (brk : Breaks) (i : ℕ) (rest : List Entry) (st : State) → st.pending ≡ [] → st.column.fresh ≡ true → break_with o brk st.pending WeakLine i Flat rest st ≡ Done [] st
@@ -196,12 +196,12 @@ pub settle_skips : (o : RenderOptions) → SkipsWeakLines (settle o)
 unfolding settle
 settle_skips o = λ i rest st e f. breaks_skip o (queued st.pending) i rest st e f
 
--- the same of a break that is told
-passes : (o : RenderOptions) (brk : BreakTellings) (i : ℕ) (rest : List Entry) (st : State) → st.pending ≡ [] → st.column.fresh ≡ true → tell_break_with o brk st.pending WeakLine i Flat rest st ≡ Told [] st
+-- the same of the trace of a break
+passes : (o : RenderOptions) (brk : BreakTraces) (i : ℕ) (rest : List Entry) (st : State) → st.pending ≡ [] → st.column.fresh ≡ true → trace_break_with o brk st.pending WeakLine i Flat rest st ≡ Traced [] st
 passes o brk i rest st e f =
-    ap (λ (ps : List Tree). tell_break_with o brk ps WeakLine i Flat rest st) e
-    ∙ ap (λ (t : Bool). if t then Told [] st else tell_ending o.indentation_policy (next_indent i rest) st) f
+    ap (λ (ps : List Tree). trace_break_with o brk ps WeakLine i Flat rest st) e
+    ∙ ap (λ (t : Bool). if t then Traced [] st else trace_ending o.indentation_policy (next_indent i rest) st) f
 
-pub told_breaks_pass : (o : RenderOptions) (n : ℕ) → PassesWeakLines (tell_breaks o (suc n))
-unfolding tell_breaks
-told_breaks_pass o n = λ i rest st e f. passes o (tell_breaks o n) i rest st e f
+pub trace_breaks_pass : (o : RenderOptions) (n : ℕ) → PassesWeakLines (trace_breaks o (suc n))
+unfolding trace_breaks
+trace_breaks_pass o n = λ i rest st e f. passes o (trace_breaks o n) i rest st e f

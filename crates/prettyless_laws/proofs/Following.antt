@@ -17,13 +17,13 @@ pub alike_same : (a : List Entry) → Alike a a
 alike_same a = (λ i. refl, refl)
 
 -- documents that read the same, at one indent before what is alike
-pub alike_behind : (i : ℕ) (d e : Tree) (a b : List Entry) → reading d Break ≡ reading e Break → Alike a b → Alike (entry i d ∷ a) (entry i e ∷ b)
-alike_behind i d e a b r h =
+pub alike_after : (i : ℕ) (d e : Tree) (a b : List Entry) → reading d Break ≡ reading e Break → Alike a b → Alike (entry i d ∷ a) (entry i e ∷ b)
+alike_after i d e a b r h =
     (λ k. refl, ap (λ (x : List Atom). x ++ rest_atoms a) r ∙ ap (λ (x : List Atom). reading e Break ++ x) h.1)
 
 alike_entries : (i : ℕ) (ds : List Tree) (a b : List Entry) → Alike a b → Alike (entries i ds ++ a) (entries i ds ++ b)
 alike_entries i [] a b h = h
-alike_entries i (d ∷ ds) a b h = alike_behind i d d (entries i ds ++ a) (entries i ds ++ b) refl (alike_entries i ds a b h)
+alike_entries i (d ∷ ds) a b h = alike_after i d d (entries i ds ++ a) (entries i ds ++ b) refl (alike_entries i ds a b h)
 
 then-each : (x : Outcome) (f g : State → Outcome) → ((u : State) → f u ≡ g u) → and_then x f ≡ and_then x g
 then-each (Done b st) f g h = ap (after_bytes b) (h st)
@@ -57,7 +57,7 @@ lay_alike o brk k HardLine i Flat a b st h = refl
 lay_alike o brk k WeakLine i m a b st h = k WeakLine i m a b st h
 lay_alike o brk k (Append l r) i m a b st h =
     then-same (lay o brk l i m (entry i r ∷ a) st) (lay o brk l i m (entry i r ∷ b) st) (λ u. lay o brk r i m a u) (λ u. lay o brk r i m b u)
-    (lay_alike o brk k l i m (entry i r ∷ a) (entry i r ∷ b) st (alike_behind i r r a b refl h))
+    (lay_alike o brk k l i m (entry i r ∷ a) (entry i r ∷ b) st (alike_after i r r a b refl h))
     (λ u. lay_alike o brk k r i m a b u h)
 lay_alike o brk k (LineSuffix d) i m a b st h = refl
 lay_alike o brk k (Nest n d) i m a b st h = lay_alike o brk k d (nested i n) m a b st h
@@ -93,7 +93,7 @@ break_alike o brk k [] d i m a b st h =
 break_alike o brk k (p ∷ ps) d i m a b st h =
     ap (after_bytes (spaces (gap st.column)))
     (then-same (lay_each o brk (p ∷ ps) i m (entry i d ∷ a) (flushed o st)) (lay_each o brk (p ∷ ps) i m (entry i d ∷ b) (flushed o st)) (brk d i m a) (brk d i m b)
-    (each_alike o brk k (p ∷ ps) i m (entry i d ∷ a) (entry i d ∷ b) (flushed o st) (alike_behind i d d a b refl h))
+    (each_alike o brk k (p ∷ ps) i m (entry i d ∷ a) (entry i d ∷ b) (flushed o st) (alike_after i d d a b refl h))
     (λ u. k d i m a b u h))
 
 pub breaks_alike : (o : RenderOptions) (n : ℕ) → ReadsAlike (breaks o n)

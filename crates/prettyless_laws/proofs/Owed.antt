@@ -1,4 +1,4 @@
--- Pieces written out while spaces may be owed: those of an indent that is written with the first content of its line.
+-- Pieces written out while spaces may be pending: those of an indent that is written with the first content of its line.
 use Rattle.std.proofs.Common.{◌≡◌, ℕ, List, [], ◌∷◌, ◌++◌, refl, ap, sym, ◌∙◌, append_assoc, Bool, true, false, if◌then◌else◌}
 use Rattle.prettyless_model.specs.Options.{ending}
 use Rattle.prettyless_model.specs.Spaces.{spaces}
@@ -12,12 +12,12 @@ abbrev pub at_once : IndentationPolicy → ℕ → ℕ
 at_once Eager k = k
 at_once Deferred k = 0
 
--- and what is owed
+-- and what stays pending
 abbrev pub later : IndentationPolicy → ℕ → ℕ
 later Eager k = 0
 later Deferred k = k
 
--- the bytes of pieces, where so many spaces are owed before them
+-- the bytes of pieces, where so many spaces are pending before them
 abbrev pub owed : RenderOptions → ℕ → List Piece → List ℕ
 owed o k [] = []
 owed o k (Ending ∷ ps) = ending o.line_ending ++ owed o 0 ps
@@ -27,7 +27,7 @@ owed o k (Text s c ∷ ps) = spaces k ++ (s ++ owed o 0 ps)
 owed o k (Source s ∷ ps) = s ++ owed o 0 ps
 owed o k (Chose side ∷ ps) = owed o k ps
 
--- how many spaces are owed behind them
+-- how many spaces are pending after them
 abbrev pub left : RenderOptions → ℕ → List Piece → ℕ
 left o k [] = k
 left o k (Ending ∷ ps) = left o 0 ps
@@ -65,7 +65,7 @@ left-append o k (Text s c ∷ ps) qs = left-append o 0 ps qs
 left-append o k (Source s ∷ ps) qs = left-append o 0 ps qs
 left-append o k (Chose side ∷ ps) qs = left-append o k ps qs
 
--- nothing is owed, used or not
+-- nothing is pending, used or not
 pub none_owed : (b : Bool) (x : List ℕ) → (if b then spaces 0 else []) ++ x ≡ x
 none_owed true x = refl
 none_owed false x = refl
@@ -76,7 +76,7 @@ indent_owed Eager j false x = refl
 indent_owed Deferred j true x = refl
 indent_owed Deferred j false x = refl
 
--- what is owed is written at once where content uses it, and else not at all
+-- what is pending is written at once where content uses it, and else not at all
 pub owed_settled : (o : RenderOptions) (k : ℕ) (ps : List Piece) → owed o k ps ≡ (if has_content ps then spaces k else []) ++ written o (settled ps)
 owed_settled o k [] = refl
 owed_settled o k (Ending ∷ ps) =

@@ -11,7 +11,7 @@ use Rattle.prettyless_model.specs.Layout.{State, Outcome, Done, Failed, Entry, B
 use Rattle.prettyless_model.specs.declared.mode.Mode.{Mode}
 use Rattle.prettyless_model.specs.declared.mode.Mode.TheVariants.{Break, Flat}
 use Rattle.prettyless_laws.specs.Regrouped.{right}
-use Rattle.prettyless_laws.proofs.Following.{Alike, alike_same, alike_behind, ReadsAlike, either-same, breaks_alike}
+use Rattle.prettyless_laws.proofs.Following.{Alike, alike_same, alike_after, ReadsAlike, either-same, breaks_alike}
 use Rattle.prettyless_laws.proofs.Appended.{appended_lays, right_reads, right_size}
 
 -- the pending documents, regrouped
@@ -85,7 +85,7 @@ lay_right o brk a k WeakLine i m r s st h = k WeakLine i m r s st h
 lay_right o brk a k (Append x y) i m r s st h =
     appended_lays o brk a (right x) (right y) i m s (right_state st)
     ∙ right-then (lay o brk x i m (entry i y ∷ r) st) (lay o brk (right x) i m (entry i (right y) ∷ s) (right_state st)) (λ u. lay o brk y i m r u) (λ u. lay o brk (right y) i m s u)
-    (lay_right o brk a k x i m (entry i y ∷ r) (entry i (right y) ∷ s) st (alike_behind i (right y) y s r (right_reads y Break) h))
+    (lay_right o brk a k x i m (entry i y ∷ r) (entry i (right y) ∷ s) st (alike_after i (right y) y s r (right_reads y Break) h))
     (λ u. lay_right o brk a k y i m r s u h)
 lay_right o brk a k (LineSuffix d) i m r s st h = ap (λ (x : List Tree). Done [] (record st { pending = x })) (sym (rights-one st.pending d))
 lay_right o brk a k (Nest n d) i m r s st h = lay_right o brk a k d (nested i n) m r s st h
@@ -112,7 +112,7 @@ lay_right o brk a k (PartialUnion x y) i Flat r s st h = lay_right o brk a k x i
 
 alike_rights : (i : ℕ) (ds : List Tree) (r s : List Entry) → Alike s r → Alike (entries i (rights ds) ++ s) (entries i ds ++ r)
 alike_rights i [] r s h = h
-alike_rights i (d ∷ ds) r s h = alike_behind i (right d) d (entries i (rights ds) ++ s) (entries i ds ++ r) (right_reads d Break) (alike_rights i ds r s h)
+alike_rights i (d ∷ ds) r s h = alike_after i (right d) d (entries i (rights ds) ++ s) (entries i ds ++ r) (right_reads d Break) (alike_rights i ds r s h)
 
 each_right : (o : RenderOptions) (brk : Breaks) → ReadsAlike brk → BreaksRegrouped brk → (ds : List Tree) (i : ℕ) (m : Mode) (r s : List Entry) (st : State) → Alike s r → lay_each o brk (rights ds) i m s (right_state st) ≡ right_outcome (lay_each o brk ds i m r st)
 unfolding lay_each
@@ -130,7 +130,7 @@ break_right o brk a k [] d i m r s st h =
 break_right o brk a k (p ∷ ps) d i m r s st h =
     ap (after_bytes (spaces (gap st.column)))
     (right-then (lay_each o brk (p ∷ ps) i m (entry i d ∷ r) (flushed o st)) (lay_each o brk (rights (p ∷ ps)) i m (entry i d ∷ s) (flushed o (right_state st))) (brk d i m r) (brk d i m s)
-    (each_right o brk a k (p ∷ ps) i m (entry i d ∷ r) (entry i d ∷ s) (flushed o st) (alike_behind i d d s r refl h))
+    (each_right o brk a k (p ∷ ps) i m (entry i d ∷ r) (entry i d ∷ s) (flushed o st) (alike_after i d d s r refl h))
     (λ u. k d i m r s u h))
     ∙ right-after (spaces (gap st.column)) (and_then (lay_each o brk (p ∷ ps) i m (entry i d ∷ r) (flushed o st)) (brk d i m r))
 

@@ -1,4 +1,4 @@
--- Columns as a layout meets them: on a fresh line no weak space waits, and behind content no indent. So nothing that waits
+-- Columns as a layout comes to them: on a fresh line no weak space waits, and after content no indent. So nothing that waits
 -- is cut off at the greatest `usize`.
 use Rattle.std.proofs.Common.{◌≡◌, ℕ, ◌+◌, ◌-◌, ◌^◌, ◌≤◌, ℤ, pos, negsuc, List, [], ◌∷◌, ◌++◌, refl, ap, ◌∙◌, sym, arith, add-zero, zero-add, le_trans, sub-le, Bool, true, false, if◌then◌else◌}
 use Rattle.std.proofs.Math.Nat.{min-le_right, min-eq_left}
@@ -48,7 +48,7 @@ whole_gap : (f : Bool) (i g : ℕ) → SoundAt f i g → saturating_add i g ≡ 
 whole_gap true i g h = rw h.1 (min-eq_left (rw add-zero h.0))
 whole_gap false i g h = rw h.0 (min-eq_left (rw zero-add h.1))
 
--- a gap is the indent that is owed, and the weak spaces
+-- a gap is the indent that is pending, and the weak spaces
 pub gap_spaces : (c : Column) → Sound c → spaces (gap c) ≡ spaces c.indent ++ spaces c.padding
 gap_spaces c h = ap spaces (whole_gap c.fresh c.indent c.padding h) ∙ sym (replicate-append-replicate {A = ℕ} c.indent c.padding 32)
 
@@ -73,12 +73,12 @@ either_sound : (b : Bool) (w : ℕ) → Sound (if b then commit w start else sta
 either_sound true w = commit_sound w start
 either_sound false w = (zero_in_range, refl)
 
-pub behind_sound : (m : Metrics) → Sound (behind_payload m)
-behind_sound m = either_sound m.last_nonempty m.last_width
+pub after_sound : (m : Metrics) → Sound (behind_payload m)
+after_sound m = either_sound m.last_nonempty m.last_width
 
 either_indent : (b : Bool) (w : ℕ) → 0 ≡ (if b then commit w start else start).indent
 either_indent true w = refl
 either_indent false w = refl
 
-pub behind_indent : (m : Metrics) → 0 ≡ (behind_payload m).indent
-behind_indent m = either_indent m.last_nonempty m.last_width
+pub after_indent : (m : Metrics) → 0 ≡ (behind_payload m).indent
+after_indent m = either_indent m.last_nonempty m.last_width

@@ -19,7 +19,7 @@ use Rattle.prettyless_laws.specs.FlatLines.{flat_suffixes, SkipsWeakLines}
 use Rattle.prettyless_laws.specs.TotalTrees.{IsTotal}
 use Rattle.prettyless_laws.proofs.FlatLines.{one_line, breaks_skip}
 
--- the outcome is no failure, and what is pending behind it is total
+-- the outcome is no failure, and what is pending after it is total
 abbrev Lays : Outcome → Type 0
 Lays (Done b st) = All IsTotal st.pending
 Lays (Failed b) = ⊥

@@ -1,4 +1,4 @@
--- Traces at one width: states that are alike tell the same pieces, under any options of that width.
+-- Traces at one width: states that are alike have the same pieces, under any options of that width.
 use Rattle.std.proofs.Common.{◌≡◌, ℕ, zero, suc, ◌+◌, List, [], ◌∷◌, ◌++◌, length, refl, ap, ap₂, sym, subst, ◌∙◌, Bool, true, false, ◌&&◌, nat_le, if◌then◌else◌}
 use Rattle.prettyless_model.specs.declared.options.RenderOptions.{RenderOptions}
 use Rattle.prettyless_model.specs.declared.options.IndentationPolicy.{IndentationPolicy}
@@ -11,44 +11,44 @@ use Rattle.prettyless_model.specs.declared.column.Column.{Column}
 use Rattle.prettyless_model.specs.declared.metrics.Metrics.{Metrics}
 use Rattle.prettyless_model.specs.declared.mode.Mode.{Mode}
 use Rattle.prettyless_model.specs.declared.mode.Mode.TheVariants.{Break, Flat}
-use Rattle.prettyless_laws.specs.Trace as told
-use Rattle.prettyless_laws.specs.Trace.{Piece, Ending, Indent, Gap, Source, Chose, Telling, Told, Untold, First, Second, after_pieces, told_then, tell_text, tell_payload, tell_ending, chosen, tell_accept, BreakTellings, tell, tell_each, tell_plain_break, tell_break_with, tell_breaks, tell_end_with, tell_finish, tell_by, settled, trace_of, trace, Complete, Partial}
+use Rattle.prettyless_laws.specs.Trace as traces
+use Rattle.prettyless_laws.specs.Trace.{Piece, Ending, Indent, Gap, Source, Chose, Tracing, Traced, Stopped, First, Second, after_pieces, traced_then, trace_text, trace_payload, trace_ending, chosen, trace_accept, BreakTraces, trace_at, trace_each, trace_plain_break, trace_break_with, trace_breaks, trace_end_with, trace_finish, trace_by, settled, trace_of, trace, Complete, Partial}
 use Rattle.prettyless_laws.proofs.Alike.{AlikeStates, alike_equal, prospective_alike, commit_alike, blank_alike, ending_alike, padding_fits_alike, probe_alike, payload_alike, flushed_alike, suppressed_alike}
 
--- the same pieces, and states that are alike behind them
-abbrev pub Same : Telling → Telling → Type 0
-Same (Told ps s) (Told qs u) = (ps ≡ qs) × AlikeStates s u
-Same (Told ps s) (Untold qs) = ⊥
-Same (Untold ps) (Told qs u) = ⊥
-Same (Untold ps) (Untold qs) = ps ≡ qs
+-- the same pieces, and states that are alike after them
+abbrev pub Same : Tracing → Tracing → Type 0
+Same (Traced ps s) (Traced qs u) = (ps ≡ qs) × AlikeStates s u
+Same (Traced ps s) (Stopped qs) = ⊥
+Same (Stopped ps) (Traced qs u) = ⊥
+Same (Stopped ps) (Stopped qs) = ps ≡ qs
 
-same-after : (xs ys : List Piece) (x y : Telling) → xs ≡ ys → Same x y → Same (after_pieces xs x) (after_pieces ys y)
-same-after xs ys (Told ps s) (Told qs u) e h = (ap₂ (λ (v w : List Piece). v ++ w) e h.0, h.1)
-same-after xs ys (Told ps s) (Untold qs) e h = absurd h
-same-after xs ys (Untold ps) (Told qs u) e h = absurd h
-same-after xs ys (Untold ps) (Untold qs) e h = ap₂ (λ (v w : List Piece). v ++ w) e h
+same-after : (xs ys : List Piece) (x y : Tracing) → xs ≡ ys → Same x y → Same (after_pieces xs x) (after_pieces ys y)
+same-after xs ys (Traced ps s) (Traced qs u) e h = (ap₂ (λ (v w : List Piece). v ++ w) e h.0, h.1)
+same-after xs ys (Traced ps s) (Stopped qs) e h = absurd h
+same-after xs ys (Stopped ps) (Traced qs u) e h = absurd h
+same-after xs ys (Stopped ps) (Stopped qs) e h = ap₂ (λ (v w : List Piece). v ++ w) e h
 
-same-then : (x y : Telling) (f g : State → Telling) → Same x y → ((s u : State) → AlikeStates s u → Same (f s) (g u)) → Same (told_then x f) (told_then y g)
-same-then (Told ps s) (Told qs u) f g h k = same-after ps qs (f s) (g u) h.0 (k s u h.1)
-same-then (Told ps s) (Untold qs) f g h k = absurd h
-same-then (Untold ps) (Told qs u) f g h k = absurd h
-same-then (Untold ps) (Untold qs) f g h k = h
+same-then : (x y : Tracing) (f g : State → Tracing) → Same x y → ((s u : State) → AlikeStates s u → Same (f s) (g u)) → Same (traced_then x f) (traced_then y g)
+same-then (Traced ps s) (Traced qs u) f g h k = same-after ps qs (f s) (g u) h.0 (k s u h.1)
+same-then (Traced ps s) (Stopped qs) f g h k = absurd h
+same-then (Stopped ps) (Traced qs u) f g h k = absurd h
+same-then (Stopped ps) (Stopped qs) f g h k = h
 
-same-either : (a b : Bool) (x y z w : Telling) → a ≡ b → Same x z → Same y w → Same (if a then x else y) (if b then z else w)
+same-either : (a b : Bool) (x y z w : Tracing) → a ≡ b → Same x z → Same y w → Same (if a then x else y) (if b then z else w)
 same-either true true x y z w e h k = h
 same-either false false x y z w e h k = k
 same-either true false x y z w e h k = absurd (cc e)
 same-either false true x y z w e h k = absurd (cc e)
 
-same-chosen : (a b : Bool) (x y z w : Telling) → a ≡ b → Same x z → Same y w → Same (if a then chosen First x else chosen Second y) (if b then chosen First z else chosen Second w)
+same-chosen : (a b : Bool) (x y z w : Tracing) → a ≡ b → Same x z → Same y w → Same (if a then chosen First x else chosen Second y) (if b then chosen First z else chosen Second w)
 same-chosen a b x y z w e h k =
     same-either a b (chosen First x) (chosen Second y) (chosen First z) (chosen Second w) e
     (same-after (Chose First ∷ []) (Chose First ∷ []) x z refl h) (same-after (Chose Second ∷ []) (Chose Second ∷ []) y w refl k)
 
-text_same : (o p : RenderOptions) → o.width ≡ p.width → (w : ℕ) (t : List ℕ) (s u : State) → AlikeStates s u → Same (tell_text o w t s) (tell_text p w t u)
+text_same : (o p : RenderOptions) → o.width ≡ p.width → (w : ℕ) (t : List ℕ) (s u : State) → AlikeStates s u → Same (trace_text o w t s) (trace_text p w t u)
 text_same o p e w [] s u h = (refl, h)
 text_same o p e w (b ∷ bs) s u h = (
-  ap₂ (λ (g : ℕ) (c : Column). Gap g ∷ told.Text (b ∷ bs) c.position ∷ []) h.column.padding (commit_alike w s.column u.column h.column),
+  ap₂ (λ (g : ℕ) (c : Column). Gap g ∷ traces.Text (b ∷ bs) c.position ∷ []) h.column.padding (commit_alike w s.column u.column h.column),
   record {
     column = alike_equal (commit w s.column) (commit w u.column) (commit_alike w s.column u.column h.column);
     pending = h.pending;
@@ -57,7 +57,7 @@ text_same o p e w (b ∷ bs) s u h = (
   },
 )
 
-payload_same : (o p : RenderOptions) → o.width ≡ p.width → (m : Metrics) (t : List ℕ) (s u : State) → AlikeStates s u → Same (tell_payload o m t s) (tell_payload p m t u)
+payload_same : (o p : RenderOptions) → o.width ≡ p.width → (m : Metrics) (t : List ℕ) (s u : State) → AlikeStates s u → Same (trace_payload o m t s) (trace_payload p m t u)
 payload_same o p e m t s u h = (
   ap (λ (g : ℕ). (if m.first_nonempty then Gap g ∷ [] else []) ++ (Source t ∷ [])) h.column.padding,
   record {
@@ -67,7 +67,7 @@ payload_same o p e m t s u h = (
   },
 )
 
-ending_same : (q r : IndentationPolicy) (k : ℕ) (s u : State) → AlikeStates s u → Same (tell_ending q k s) (tell_ending r k u)
+ending_same : (q r : IndentationPolicy) (k : ℕ) (s u : State) → AlikeStates s u → Same (trace_ending q k s) (trace_ending r k u)
 ending_same Eager Eager k s u h = (refl, record { column = alike_equal (indented k) (indented k) refl; pending = h.pending; within = h.within })
 ending_same Deferred Deferred k s u h = (refl, record { column = alike_equal (deferred k) (deferred k) refl; pending = h.pending; within = h.within })
 ending_same Eager Deferred k s u h =
@@ -75,126 +75,126 @@ ending_same Eager Deferred k s u h =
 ending_same Deferred Eager k s u h =
     (refl, record { column = record { fresh = refl; padding = refl; place = sym (ending_alike k) }; pending = h.pending; within = h.within })
 
-accept_same : (o p : RenderOptions) → o.width ≡ p.width → (a b : Bool) → a ≡ b → (x y z w : Telling) → Same x z → Same y w → Same (tell_accept o a x y) (tell_accept p b z w)
-accept_same o p e a b f (Told ps s) y (Told qs u) w h k =
+accept_same : (o p : RenderOptions) → o.width ≡ p.width → (a b : Bool) → a ≡ b → (x y z w : Tracing) → Same x z → Same y w → Same (trace_accept o a x y) (trace_accept p b z w)
+accept_same o p e a b f (Traced ps s) y (Traced qs u) w h k =
     same-chosen (s.within && padding_fits o.width (some_pending s.pending) s.column) (u.within && padding_fits p.width (some_pending u.pending) u.column)
-    (Told ps (record s { within = a })) y (Told qs (record u { within = b })) w
+    (Traced ps (record s { within = a })) y (Traced qs (record u { within = b })) w
     (ap₂ (λ (v w : Bool). v && w) h.1.within
     (padding_fits_alike o.width (some_pending s.pending) s.column u.column h.1.column
     ∙ ap₂ (λ (n : ℕ) (ds : List Tree). padding_fits n (some_pending ds) u.column) e h.1.pending))
     (h.0, record { column = h.1.column; pending = h.1.pending; within = f })
     k
-accept_same o p e a b f (Told ps s) y (Untold qs) w h k = absurd h
-accept_same o p e a b f (Untold ps) y (Told qs u) w h k = absurd h
-accept_same o p e a b f (Untold ps) y (Untold qs) w h k = same-after (Chose Second ∷ []) (Chose Second ∷ []) y w refl k
+accept_same o p e a b f (Traced ps s) y (Stopped qs) w h k = absurd h
+accept_same o p e a b f (Stopped ps) y (Traced qs u) w h k = absurd h
+accept_same o p e a b f (Stopped ps) y (Stopped qs) w h k = same-after (Chose Second ∷ []) (Chose Second ∷ []) y w refl k
 
--- two breaks that tell the same from states that are alike
-abbrev pub SameBreaks : BreakTellings → BreakTellings → Type 0
+-- two breaks with the same trace from states that are alike
+abbrev pub SameBreaks : BreakTraces → BreakTraces → Type 0
 SameBreaks a b = (d : Tree) (i : ℕ) (m : Mode) (rest : List Entry) (s u : State) → AlikeStates s u → Same (a d i m rest s) (b d i m rest u)
 
-tell_same : (o p : RenderOptions) → o.width ≡ p.width → (a b : BreakTellings) → SameBreaks a b → (d : Tree) (i : ℕ) (m : Mode) (rest : List Entry) (s u : State) → AlikeStates s u → Same (tell o a d i m rest s) (tell p b d i m rest u)
-unfolding tell
-tell_same o p e a b k Nil i m rest s u h = (refl, h)
-tell_same o p e a b k Fail i m rest s u h = refl
-tell_same o p e a b k (Text t) i m rest s u h = text_same o p e (length t) t s u h
-tell_same o p e a b k (TextWithLen w t) i m rest s u h = text_same o p e w t s u h
-tell_same o p e a b k (MultilineText t) i Break rest s u h = payload_same o p e (metrics t) t s u h
-tell_same o p e a b k (MultilineText t) i Flat rest s u h = refl
-tell_same o p e a b k WeakSpace i m rest s u h =
+traces_same : (o p : RenderOptions) → o.width ≡ p.width → (a b : BreakTraces) → SameBreaks a b → (d : Tree) (i : ℕ) (m : Mode) (rest : List Entry) (s u : State) → AlikeStates s u → Same (trace_at o a d i m rest s) (trace_at p b d i m rest u)
+unfolding trace_at
+traces_same o p e a b k Nil i m rest s u h = (refl, h)
+traces_same o p e a b k Fail i m rest s u h = refl
+traces_same o p e a b k (Text t) i m rest s u h = text_same o p e (length t) t s u h
+traces_same o p e a b k (TextWithLen w t) i m rest s u h = text_same o p e w t s u h
+traces_same o p e a b k (MultilineText t) i Break rest s u h = payload_same o p e (metrics t) t s u h
+traces_same o p e a b k (MultilineText t) i Flat rest s u h = refl
+traces_same o p e a b k WeakSpace i m rest s u h =
     (refl, record { column = blank_alike s.column u.column h.column; pending = h.pending; within = h.within })
-tell_same o p e a b k HardLine i Break rest s u h = k HardLine i Break rest s u h
-tell_same o p e a b k HardLine i Flat rest s u h = refl
-tell_same o p e a b k WeakLine i m rest s u h = k WeakLine i m rest s u h
-tell_same o p e a b k (Append x y) i m rest s u h =
-    same-then (tell o a x i m (entry i y ∷ rest) s) (tell p b x i m (entry i y ∷ rest) u) (λ v. tell o a y i m rest v) (λ v. tell p b y i m rest v)
-    (tell_same o p e a b k x i m (entry i y ∷ rest) s u h)
-    (λ v w q. tell_same o p e a b k y i m rest v w q)
-tell_same o p e a b k (LineSuffix d) i m rest s u h =
+traces_same o p e a b k HardLine i Break rest s u h = k HardLine i Break rest s u h
+traces_same o p e a b k HardLine i Flat rest s u h = refl
+traces_same o p e a b k WeakLine i m rest s u h = k WeakLine i m rest s u h
+traces_same o p e a b k (Append x y) i m rest s u h =
+    same-then (trace_at o a x i m (entry i y ∷ rest) s) (trace_at p b x i m (entry i y ∷ rest) u) (λ v. trace_at o a y i m rest v) (λ v. trace_at p b y i m rest v)
+    (traces_same o p e a b k x i m (entry i y ∷ rest) s u h)
+    (λ v w q. traces_same o p e a b k y i m rest v w q)
+traces_same o p e a b k (LineSuffix d) i m rest s u h =
     (refl, record { column = h.column; pending = ap (λ (ps : List Tree). ps ++ d ∷ []) h.pending; within = h.within })
-tell_same o p e a b k (Nest n d) i m rest s u h = tell_same o p e a b k d (nested i n) m rest s u h
-tell_same o p e a b k (DedentToRoot d) i m rest s u h = tell_same o p e a b k d 0 m rest s u h
-tell_same o p e a b k (Align d) i m rest s u h =
-    subst (λ (n : ℕ). Same (tell o a d (prospective s.column) m rest s) (tell p b d n m rest u)) (prospective_alike s.column u.column h.column)
-    (tell_same o p e a b k d (prospective s.column) m rest s u h)
-tell_same o p e a b k ExpandParent i m rest s u h = (refl, h)
-tell_same o p e a b k (Flatten d) i m rest s u h = tell_same o p e a b k d i Flat rest s u h
-tell_same o p e a b k (BreakOrFlat x y) i Break rest s u h = tell_same o p e a b k x i Break rest s u h
-tell_same o p e a b k (BreakOrFlat x y) i Flat rest s u h = tell_same o p e a b k y i Flat rest s u h
-tell_same o p e a b k (Group d) i Break rest s u h =
-    same-chosen (probe o d Flat rest s) (probe p d Flat rest u) (tell o a d i Flat rest s) (tell o a d i Break rest s) (tell p b d i Flat rest u) (tell p b d i Break rest u)
+traces_same o p e a b k (Nest n d) i m rest s u h = traces_same o p e a b k d (nested i n) m rest s u h
+traces_same o p e a b k (DedentToRoot d) i m rest s u h = traces_same o p e a b k d 0 m rest s u h
+traces_same o p e a b k (Align d) i m rest s u h =
+    subst (λ (n : ℕ). Same (trace_at o a d (prospective s.column) m rest s) (trace_at p b d n m rest u)) (prospective_alike s.column u.column h.column)
+    (traces_same o p e a b k d (prospective s.column) m rest s u h)
+traces_same o p e a b k ExpandParent i m rest s u h = (refl, h)
+traces_same o p e a b k (Flatten d) i m rest s u h = traces_same o p e a b k d i Flat rest s u h
+traces_same o p e a b k (BreakOrFlat x y) i Break rest s u h = traces_same o p e a b k x i Break rest s u h
+traces_same o p e a b k (BreakOrFlat x y) i Flat rest s u h = traces_same o p e a b k y i Flat rest s u h
+traces_same o p e a b k (Group d) i Break rest s u h =
+    same-chosen (probe o d Flat rest s) (probe p d Flat rest u) (trace_at o a d i Flat rest s) (trace_at o a d i Break rest s) (trace_at p b d i Flat rest u) (trace_at p b d i Break rest u)
     (probe_alike o p e d Flat rest s u h)
-    (tell_same o p e a b k d i Flat rest s u h)
-    (tell_same o p e a b k d i Break rest s u h)
-tell_same o p e a b k (Group d) i Flat rest s u h = tell_same o p e a b k d i Flat rest s u h
-tell_same o p e a b k (Union x y) i Break rest s u h =
-    accept_same o p e s.within u.within h.within (tell o a x i Break rest (tried s)) (tell o a y i Break rest s) (tell p b x i Break rest (tried u)) (tell p b y i Break rest u)
-    (tell_same o p e a b k x i Break rest (tried s) (tried u) (record { column = h.column; pending = h.pending; within = refl }))
-    (tell_same o p e a b k y i Break rest s u h)
-tell_same o p e a b k (Union x y) i Flat rest s u h = tell_same o p e a b k x i Flat rest s u h
-tell_same o p e a b k (PartialUnion x y) i Break rest s u h =
-    same-chosen (probe o x Break rest s) (probe p x Break rest u) (tell o a x i Break rest s) (tell o a y i Break rest s) (tell p b x i Break rest u) (tell p b y i Break rest u)
+    (traces_same o p e a b k d i Flat rest s u h)
+    (traces_same o p e a b k d i Break rest s u h)
+traces_same o p e a b k (Group d) i Flat rest s u h = traces_same o p e a b k d i Flat rest s u h
+traces_same o p e a b k (Union x y) i Break rest s u h =
+    accept_same o p e s.within u.within h.within (trace_at o a x i Break rest (tried s)) (trace_at o a y i Break rest s) (trace_at p b x i Break rest (tried u)) (trace_at p b y i Break rest u)
+    (traces_same o p e a b k x i Break rest (tried s) (tried u) (record { column = h.column; pending = h.pending; within = refl }))
+    (traces_same o p e a b k y i Break rest s u h)
+traces_same o p e a b k (Union x y) i Flat rest s u h = traces_same o p e a b k x i Flat rest s u h
+traces_same o p e a b k (PartialUnion x y) i Break rest s u h =
+    same-chosen (probe o x Break rest s) (probe p x Break rest u) (trace_at o a x i Break rest s) (trace_at o a y i Break rest s) (trace_at p b x i Break rest u) (trace_at p b y i Break rest u)
     (probe_alike o p e x Break rest s u h)
-    (tell_same o p e a b k x i Break rest s u h)
-    (tell_same o p e a b k y i Break rest s u h)
-tell_same o p e a b k (PartialUnion x y) i Flat rest s u h = tell_same o p e a b k x i Flat rest s u h
+    (traces_same o p e a b k x i Break rest s u h)
+    (traces_same o p e a b k y i Break rest s u h)
+traces_same o p e a b k (PartialUnion x y) i Flat rest s u h = traces_same o p e a b k x i Flat rest s u h
 
-each_same : (o p : RenderOptions) → o.width ≡ p.width → (a b : BreakTellings) → SameBreaks a b → (ds : List Tree) (i : ℕ) (m : Mode) (rest : List Entry) (s u : State) → AlikeStates s u → Same (tell_each o a ds i m rest s) (tell_each p b ds i m rest u)
-unfolding tell_each
+each_same : (o p : RenderOptions) → o.width ≡ p.width → (a b : BreakTraces) → SameBreaks a b → (ds : List Tree) (i : ℕ) (m : Mode) (rest : List Entry) (s u : State) → AlikeStates s u → Same (trace_each o a ds i m rest s) (trace_each p b ds i m rest u)
+unfolding trace_each
 each_same o p e a b k [] i m rest s u h = (refl, h)
 each_same o p e a b k (d ∷ ds) i m rest s u h =
-    same-then (tell o a d i m (entries i ds ++ rest) s) (tell p b d i m (entries i ds ++ rest) u) (λ v. tell_each o a ds i m rest v) (λ v. tell_each p b ds i m rest v)
-    (tell_same o p e a b k d i m (entries i ds ++ rest) s u h)
+    same-then (trace_at o a d i m (entries i ds ++ rest) s) (trace_at p b d i m (entries i ds ++ rest) u) (λ v. trace_each o a ds i m rest v) (λ v. trace_each p b ds i m rest v)
+    (traces_same o p e a b k d i m (entries i ds ++ rest) s u h)
     (λ v w q. each_same o p e a b k ds i m rest v w q)
 
--- pending documents are told the same, and then what follows them
-waiting_same : (o p : RenderOptions) → o.width ≡ p.width → (a b : BreakTellings) → SameBreaks a b → (ds : List Tree) (i : ℕ) (m : Mode) (rest : List Entry) (f g : State → Telling) → ((v w : State) → AlikeStates v w → Same (f v) (g w)) → (s u : State) → AlikeStates s u → Same (after_pieces (Gap s.column.padding ∷ []) (told_then (tell_each o a ds i m rest (flushed o s)) f)) (after_pieces (Gap u.column.padding ∷ []) (told_then (tell_each p b ds i m rest (flushed p u)) g))
+-- pending documents have the same trace, and then what follows them
+waiting_same : (o p : RenderOptions) → o.width ≡ p.width → (a b : BreakTraces) → SameBreaks a b → (ds : List Tree) (i : ℕ) (m : Mode) (rest : List Entry) (f g : State → Tracing) → ((v w : State) → AlikeStates v w → Same (f v) (g w)) → (s u : State) → AlikeStates s u → Same (after_pieces (Gap s.column.padding ∷ []) (traced_then (trace_each o a ds i m rest (flushed o s)) f)) (after_pieces (Gap u.column.padding ∷ []) (traced_then (trace_each p b ds i m rest (flushed p u)) g))
 waiting_same o p e a b k ds i m rest f g q s u h =
-    same-after (Gap s.column.padding ∷ []) (Gap u.column.padding ∷ []) (told_then (tell_each o a ds i m rest (flushed o s)) f) (told_then (tell_each p b ds i m rest (flushed p u)) g)
+    same-after (Gap s.column.padding ∷ []) (Gap u.column.padding ∷ []) (traced_then (trace_each o a ds i m rest (flushed o s)) f) (traced_then (trace_each p b ds i m rest (flushed p u)) g)
     (ap (λ (n : ℕ). Gap n ∷ []) h.column.padding)
-    (same-then (tell_each o a ds i m rest (flushed o s)) (tell_each p b ds i m rest (flushed p u)) f g
+    (same-then (trace_each o a ds i m rest (flushed o s)) (trace_each p b ds i m rest (flushed p u)) f g
     (each_same o p e a b k ds i m rest (flushed o s) (flushed p u) (flushed_alike o p e s u h)) q)
 
-break_same : (o p : RenderOptions) → o.width ≡ p.width → (a b : BreakTellings) → SameBreaks a b → (ps : List Tree) (d : Tree) (i : ℕ) (m : Mode) (rest : List Entry) (s u : State) → AlikeStates s u → Same (tell_break_with o a ps d i m rest s) (tell_break_with p b ps d i m rest u)
+break_same : (o p : RenderOptions) → o.width ≡ p.width → (a b : BreakTraces) → SameBreaks a b → (ps : List Tree) (d : Tree) (i : ℕ) (m : Mode) (rest : List Entry) (s u : State) → AlikeStates s u → Same (trace_break_with o a ps d i m rest s) (trace_break_with p b ps d i m rest u)
 break_same o p e a b k [] d i m rest s u h =
-    same-either (is_suppressed d s.column) (is_suppressed d u.column) (Told [] s) (tell_ending o.indentation_policy (next_indent i rest) s) (Told [] u) (tell_ending p.indentation_policy (next_indent i rest) u)
+    same-either (is_suppressed d s.column) (is_suppressed d u.column) (Traced [] s) (trace_ending o.indentation_policy (next_indent i rest) s) (Traced [] u) (trace_ending p.indentation_policy (next_indent i rest) u)
     (suppressed_alike d s.column u.column h.column)
     (refl, h)
     (ending_same o.indentation_policy p.indentation_policy (next_indent i rest) s u h)
 break_same o p e a b k (t ∷ ts) d i m rest s u h =
     waiting_same o p e a b k (t ∷ ts) i m (entry i d ∷ rest) (a d i m rest) (b d i m rest) (k d i m rest) s u h
 
-breaks_same : (o p : RenderOptions) → o.width ≡ p.width → (n : ℕ) → SameBreaks (tell_breaks o n) (tell_breaks p n)
-unfolding tell_breaks
+breaks_same : (o p : RenderOptions) → o.width ≡ p.width → (n : ℕ) → SameBreaks (trace_breaks o n) (trace_breaks p n)
+unfolding trace_breaks
 breaks_same o p e zero = λ d i m rest s u h. refl
 breaks_same o p e (suc n) = λ d i m rest s u h.
-    subst (λ (ps : List Tree). Same (tell_break_with o (tell_breaks o n) s.pending d i m rest s) (tell_break_with p (tell_breaks p n) ps d i m rest u)) h.pending
-    (break_same o p e (tell_breaks o n) (tell_breaks p n) (breaks_same o p e n) s.pending d i m rest s u h)
+    subst (λ (ps : List Tree). Same (trace_break_with o (trace_breaks o n) s.pending d i m rest s) (trace_break_with p (trace_breaks p n) ps d i m rest u)) h.pending
+    (break_same o p e (trace_breaks o n) (trace_breaks p n) (breaks_same o p e n) s.pending d i m rest s u h)
 
-end_same : (o p : RenderOptions) → o.width ≡ p.width → (a b : BreakTellings) → SameBreaks a b → (f g : State → Telling) → ((v w : State) → AlikeStates v w → Same (f v) (g w)) → (ps : List Tree) (s u : State) → AlikeStates s u → Same (tell_end_with o a f ps s) (tell_end_with p b g ps u)
+end_same : (o p : RenderOptions) → o.width ≡ p.width → (a b : BreakTraces) → SameBreaks a b → (f g : State → Tracing) → ((v w : State) → AlikeStates v w → Same (f v) (g w)) → (ps : List Tree) (s u : State) → AlikeStates s u → Same (trace_end_with o a f ps s) (trace_end_with p b g ps u)
 end_same o p e a b k f g q [] s u h = (refl, h)
 end_same o p e a b k f g q (t ∷ ts) s u h = waiting_same o p e a b k (t ∷ ts) 0 Break [] f g q s u h
 
-finish_same : (o p : RenderOptions) → o.width ≡ p.width → (a b : BreakTellings) → SameBreaks a b → (n : ℕ) (s u : State) → AlikeStates s u → Same (tell_finish o a n s) (tell_finish p b n u)
-unfolding tell_finish
+finish_same : (o p : RenderOptions) → o.width ≡ p.width → (a b : BreakTraces) → SameBreaks a b → (n : ℕ) (s u : State) → AlikeStates s u → Same (trace_finish o a n s) (trace_finish p b n u)
+unfolding trace_finish
 finish_same o p e a b k zero s u h = refl
 finish_same o p e a b k (suc n) s u h =
-    subst (λ (ps : List Tree). Same (tell_end_with o a (tell_finish o a n) s.pending s) (tell_end_with p b (tell_finish p b n) ps u)) h.pending
-    (end_same o p e a b k (tell_finish o a n) (tell_finish p b n) (finish_same o p e a b k n) s.pending s u h)
+    subst (λ (ps : List Tree). Same (trace_end_with o a (trace_finish o a n) s.pending s) (trace_end_with p b (trace_finish p b n) ps u)) h.pending
+    (end_same o p e a b k (trace_finish o a n) (trace_finish p b n) (finish_same o p e a b k n) s.pending s u h)
 
-by_same : (o p : RenderOptions) → o.width ≡ p.width → (n : ℕ) (d : Tree) → Same (tell_by o n d) (tell_by p n d)
-unfolding tell_by
+by_same : (o p : RenderOptions) → o.width ≡ p.width → (n : ℕ) (d : Tree) → Same (trace_by o n d) (trace_by p n d)
+unfolding trace_by
 by_same o p e n d =
-    same-then (tell o (tell_breaks o n) d 0 Break [] initial) (tell p (tell_breaks p n) d 0 Break [] initial) (λ v. tell_finish o (tell_breaks o n) n v) (λ v. tell_finish p (tell_breaks p n) n v)
-    (tell_same o p e (tell_breaks o n) (tell_breaks p n) (breaks_same o p e n) d 0 Break [] initial initial
+    same-then (trace_at o (trace_breaks o n) d 0 Break [] initial) (trace_at p (trace_breaks p n) d 0 Break [] initial) (λ v. trace_finish o (trace_breaks o n) n v) (λ v. trace_finish p (trace_breaks p n) n v)
+    (traces_same o p e (trace_breaks o n) (trace_breaks p n) (breaks_same o p e n) d 0 Break [] initial initial
     (record { column = alike_equal initial.column initial.column refl; pending = refl; within = refl }))
-    (finish_same o p e (tell_breaks o n) (tell_breaks p n) (breaks_same o p e n) n)
+    (finish_same o p e (trace_breaks o n) (trace_breaks p n) (breaks_same o p e n) n)
 
-trace_of_same : (x y : Telling) → Same x y → trace_of x ≡ trace_of y
-trace_of_same (Told ps s) (Told qs u) h = ap (λ (v : List Piece). Complete (settled v)) h.0
-trace_of_same (Told ps s) (Untold qs) h = absurd h
-trace_of_same (Untold ps) (Told qs u) h = absurd h
-trace_of_same (Untold ps) (Untold qs) h = ap (λ (v : List Piece). Partial (settled v)) h
+trace_of_same : (x y : Tracing) → Same x y → trace_of x ≡ trace_of y
+trace_of_same (Traced ps s) (Traced qs u) h = ap (λ (v : List Piece). Complete (settled v)) h.0
+trace_of_same (Traced ps s) (Stopped qs) h = absurd h
+trace_of_same (Stopped ps) (Traced qs u) h = absurd h
+trace_of_same (Stopped ps) (Stopped qs) h = ap (λ (v : List Piece). Partial (settled v)) h
 
 pub traces_go_by_width : (o p : RenderOptions) (d : Tree) → o.width ≡ p.width → trace o d ≡ trace p d
 unfolding trace
-traces_go_by_width o p d e = trace_of_same (tell_by o (size d + 1) d) (tell_by p (size d + 1) d) (by_same o p e (size d + 1) d)
+traces_go_by_width o p d e = trace_of_same (trace_by o (size d + 1) d) (trace_by p (size d + 1) d) (by_same o p e (size d + 1) d)

@@ -1,4 +1,4 @@
--- Laws of flat lines: what the probe answers yes to is laid on one line, and told so by the trace.
+-- Laws of flat lines: what the probe answers yes to is laid on one line, and its trace shows that.
 use Rattle.std.specs.Prelude.{◌≡◌, ℕ, suc, ◌≤◌, true, List, [], ◌∷◌, ◌++◌, All, ⊤}
 use Rattle.prettyless_model.specs.declared.options.RenderOptions.{RenderOptions}
 use Rattle.prettyless_model.specs.Tree.{Tree, Nil, Fail, Text, TextWithLen, MultilineText, WeakSpace, HardLine, WeakLine, Append, LineSuffix, Nest, DedentToRoot, Align, ExpandParent, Flatten, BreakOrFlat, Group, Union, PartialUnion}
@@ -7,8 +7,8 @@ use Rattle.prettyless_model.specs.Layout.{State, Done, Breaks, Entry, lay, probe
 use Rattle.prettyless_model.specs.Levels.{settle}
 use Rattle.prettyless_model.specs.declared.mode.Mode.{Mode}
 use Rattle.prettyless_model.specs.declared.mode.Mode.TheVariants.{Break, Flat}
-use Rattle.prettyless_laws.specs.Trace as told
-use Rattle.prettyless_laws.specs.Trace.{Piece, Ending, Indent, Gap, Source, Chose, First, Told, BreakTellings, tell, tell_breaks}
+use Rattle.prettyless_laws.specs.Trace as traces
+use Rattle.prettyless_laws.specs.Trace.{Piece, Ending, Indent, Gap, Source, Chose, First, Traced, BreakTraces, trace_at, trace_breaks}
 
 -- the documents that a tree leaves pending in Flat, in their order
 abbrev pub flat_suffixes : Tree → List Tree
@@ -41,14 +41,14 @@ SkipsWeakLines brk =
 -- a tree is laid in Flat from a state to these bytes and this state, whatever a break means, at any indent and before
 -- anything: so no break is laid
 abbrev pub LaysFlat : RenderOptions → Tree → State → List ℕ → State → Type 0
-LaysFlat o d st bytes behind =
-    (brk : Breaks) → SkipsWeakLines brk → (i : ℕ) (rest : List Entry) → lay o brk d i Flat rest st ≡ Done bytes behind
+LaysFlat o d st bytes after =
+    (brk : Breaks) → SkipsWeakLines brk → (i : ℕ) (rest : List Entry) → lay o brk d i Flat rest st ≡ Done bytes after
 
--- a tree that is laid in Flat from a state on one line, with what is read behind it
+-- a tree that is laid in Flat from a state on one line, with what is read after it
 pub record LiesOnOneLine (o : RenderOptions) (d : Tree) (atoms : List Atom) (st : State) : Type 0 where
   -- what it writes
   pub bytes : List ℕ
-  -- the state behind it
+  -- the state after it
   pub state : State
   -- without a failure and without a break
   pub done : LaysFlat o d st bytes state
@@ -56,9 +56,9 @@ pub record LiesOnOneLine (o : RenderOptions) (d : Tree) (atoms : List Atom) (st 
   pub within : state.within ≡ st.within
   -- also where it is set anew, and then it stays set
   pub anew : LaysFlat o d (tried st) bytes (tried state)
-  -- nothing that was pending is laid, and the tree's own line suffixes wait behind it
+  -- nothing that was pending is laid, and the tree's own line suffixes are pending after it
   pub pending : state.pending ≡ st.pending ++ flat_suffixes d
-  -- what is read behind it, up to the end of the line, stays within the width
+  -- what is read after it, up to the end of the line, stays within the width
   pub follows : fits o.width state.column (some_pending state.pending) atoms ≡ true
 
 -- what the probe answers yes to in Flat is laid on one line
@@ -79,48 +79,48 @@ abbrev pub IsOnOneLine : ℕ → Piece → Type 0
 IsOnOneLine width Ending = ⊥
 IsOnOneLine width (Indent k used) = ⊥
 IsOnOneLine width (Gap g) = ⊤
-IsOnOneLine width (told.Text s column) = column ≤ width
+IsOnOneLine width (traces.Text s column) = column ≤ width
 IsOnOneLine width (Source s) = ⊥
 IsOnOneLine width (Chose side) = ⊥
 
--- a telling of breaks that tells nothing of a weak line where the line is fresh and nothing is pending; of every other
+-- a trace of breaks that has nothing of a weak line where the line is fresh and nothing is pending; of every other
 -- break it says nothing
-abbrev pub PassesWeakLines : BreakTellings → Type 0
+abbrev pub PassesWeakLines : BreakTraces → Type 0
 PassesWeakLines brk =
-    (i : ℕ) (rest : List Entry) (st : State) → st.pending ≡ [] → st.column.fresh ≡ true → brk WeakLine i Flat rest st ≡ Told [] st
+    (i : ℕ) (rest : List Entry) (st : State) → st.pending ≡ [] → st.column.fresh ≡ true → brk WeakLine i Flat rest st ≡ Traced [] st
 
--- a tree is told in Flat from a state as these pieces, up to this state, however a break is told, at any indent and
+-- the trace of a tree in Flat from a state is these pieces, up to this state, whatever the trace of a break, at any indent and
 -- before anything
-abbrev pub TellsFlat : RenderOptions → Tree → State → List Piece → State → Type 0
-TellsFlat o d st pieces behind =
-    (brk : BreakTellings) → PassesWeakLines brk → (i : ℕ) (rest : List Entry) → tell o brk d i Flat rest st ≡ Told pieces behind
+abbrev pub TracesFlat : RenderOptions → Tree → State → List Piece → State → Type 0
+TracesFlat o d st pieces after =
+    (brk : BreakTraces) → PassesWeakLines brk → (i : ℕ) (rest : List Entry) → trace_at o brk d i Flat rest st ≡ Traced pieces after
 
--- a tree that lies on one line, and is told so
-pub record IsToldOnOneLine (o : RenderOptions) (d : Tree) (atoms : List Atom) (st : State) : Type 0 where
+-- a tree that is laid on one line, and its trace
+pub record IsTracedOnOneLine (o : RenderOptions) (d : Tree) (atoms : List Atom) (st : State) : Type 0 where
   -- how it is laid
   pub lies : LiesOnOneLine o d atoms st
-  -- what it is told as
+  -- its trace
   pub pieces : List Piece
   -- these, up to the state that its layout comes to
-  pub told : TellsFlat o d st pieces lies.state
+  pub traced : TracesFlat o d st pieces lies.state
   -- no end of a line is among them, no indent, no payload and no alternative, and no text that ends past the width
   pub on_one_line : All (IsOnOneLine o.width) pieces
 
--- a group that is met in Break is told as its first alternative, and then as its document on one line
-pub record IsToldAsFlatGroup (o : RenderOptions) (d : Tree) (rest : List Entry) (st : State) : Type 0 where
+-- the trace of a group in Break is its first alternative, and then its document on one line
+pub record IsTracedAsFlatGroup (o : RenderOptions) (d : Tree) (rest : List Entry) (st : State) : Type 0 where
   -- the document
-  pub document : IsToldOnOneLine o d (rest_atoms rest) st
-  -- the group, however a break is told
-  pub told : (brk : BreakTellings) → PassesWeakLines brk → (i : ℕ) → tell o brk (Group d) i Break rest st ≡ Told (Chose First ∷ document.pieces) document.lies.state
+  pub document : IsTracedOnOneLine o d (rest_atoms rest) st
+  -- the group, whatever the trace of a break
+  pub traced : (brk : BreakTraces) → PassesWeakLines brk → (i : ℕ) → trace_at o brk (Group d) i Break rest st ≡ Traced (Chose First ∷ document.pieces) document.lies.state
 
--- what the probe answers yes to in Flat is told on one line
-abbrev pub WhatFitsIsToldOnOneLine : Type 0
-WhatFitsIsToldOnOneLine = (o : RenderOptions) (d : Tree) (rest : List Entry) (st : State) → probe o d Flat rest st ≡ true → IsToldOnOneLine o d (rest_atoms rest) st
+-- what the probe answers yes to in Flat has its trace on one line
+abbrev pub WhatFitsIsTracedOnOneLine : Type 0
+WhatFitsIsTracedOnOneLine = (o : RenderOptions) (d : Tree) (rest : List Entry) (st : State) → probe o d Flat rest st ≡ true → IsTracedOnOneLine o d (rest_atoms rest) st
 
--- a group is told so wherever its probe answers yes
-abbrev pub GroupsThatFitAreToldFlat : Type 0
-GroupsThatFitAreToldFlat = (o : RenderOptions) (d : Tree) (rest : List Entry) (st : State) → probe o d Flat rest st ≡ true → IsToldAsFlatGroup o d rest st
+-- a group has such a trace wherever its probe answers yes
+abbrev pub GroupsThatFitAreTracedFlat : Type 0
+GroupsThatFitAreTracedFlat = (o : RenderOptions) (d : Tree) (rest : List Entry) (st : State) → probe o d Flat rest st ≡ true → IsTracedAsFlatGroup o d rest st
 
--- the trace's own breaks, of at least one level, tell nothing of such weak lines
-abbrev pub ToldBreaksPassWeakLines : Type 0
-ToldBreaksPassWeakLines = (o : RenderOptions) (n : ℕ) → PassesWeakLines (tell_breaks o (suc n))
+-- the trace's own breaks, of at least one level, have nothing of such weak lines
+abbrev pub TraceBreaksPassWeakLines : Type 0
+TraceBreaksPassWeakLines = (o : RenderOptions) (n : ℕ) → PassesWeakLines (trace_breaks o (suc n))

@@ -4,7 +4,7 @@ use Rattle.prettyless_model.specs.declared.options.RenderOptions.{RenderOptions}
 use Rattle.prettyless_model.specs.Tree.{Tree, Nil, Fail, Text, TextWithLen, MultilineText, WeakSpace, HardLine, WeakLine, Append, LineSuffix, Nest, DedentToRoot, Align, ExpandParent, Flatten, BreakOrFlat, Group, Union, PartialUnion}
 use Rattle.prettyless_model.specs.Layout.{layout}
 
--- a document behind another, at the end of the latter's right arms
+-- a document after another, at the end of the latter's right arms
 abbrev pub appended : Tree → Tree → Tree
 appended (Append a b) d = Append a (appended b d)
 appended l d = Append l d

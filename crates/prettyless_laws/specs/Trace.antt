@@ -30,121 +30,121 @@ pub data Piece : Type 0 where
   Source : List ℕ → Piece
   Chose : Side → Piece
 
--- the pieces, and the state behind them; or the pieces before the node that failed
-pub data Telling : Type 0 where
-  Told : List Piece → State → Telling
-  Untold : List Piece → Telling
+-- the pieces, and the state after them; or the pieces before the node that failed
+pub data Tracing : Type 0 where
+  Traced : List Piece → State → Tracing
+  Stopped : List Piece → Tracing
 
--- pieces that come before a telling
-abbrev pub after_pieces : List Piece → Telling → Telling
-after_pieces ps (Told qs st) = Told (ps ++ qs) st
-after_pieces ps (Untold qs) = Untold (ps ++ qs)
+-- pieces that come before a trace
+abbrev pub after_pieces : List Piece → Tracing → Tracing
+after_pieces ps (Traced qs st) = Traced (ps ++ qs) st
+after_pieces ps (Stopped qs) = Stopped (ps ++ qs)
 
--- one telling, and where it is done the next from its state
-abbrev pub told_then : Telling → (State → Telling) → Telling
-told_then (Told ps st) next = after_pieces ps (next st)
-told_then (Untold ps) next = Untold ps
+-- one trace, and where it ends well the next from its state
+abbrev pub traced_then : Tracing → (State → Tracing) → Tracing
+traced_then (Traced ps st) next = after_pieces ps (next st)
+traced_then (Stopped ps) next = Stopped ps
 
--- a text: the weak spaces before it are told first
-abbrev pub tell_text : RenderOptions → ℕ → List ℕ → State → Telling
-tell_text o w [] st = Told [] st
-tell_text o w (b ∷ bs) st =
+-- a text: the weak spaces before it come first
+abbrev pub trace_text : RenderOptions → ℕ → List ℕ → State → Tracing
+trace_text o w [] st = Traced [] st
+trace_text o w (b ∷ bs) st =
     let c = commit w st.column in
-    Told (Gap st.column.padding ∷ Text (b ∷ bs) c.position ∷ []) (record st { column = c; within = st.within && nat_le c.position o.width })
+    Traced (Gap st.column.padding ∷ Text (b ∷ bs) c.position ∷ []) (record st { column = c; within = st.within && nat_le c.position o.width })
 
--- a payload: the weak spaces before it are told first unless its first part is empty
-abbrev pub tell_payload : RenderOptions → Metrics → List ℕ → State → Telling
-tell_payload o m s st =
-    Told ((if m.first_nonempty then Gap st.column.padding ∷ [] else []) ++ (Source s ∷ []))
+-- a payload: the weak spaces before it come first, unless its first part is empty
+abbrev pub trace_payload : RenderOptions → Metrics → List ℕ → State → Tracing
+trace_payload o m s st =
+    Traced ((if m.first_nonempty then Gap st.column.padding ∷ [] else []) ++ (Source s ∷ []))
     (record st { column = behind_payload m; within = st.within && payload_fits o m st.column })
 
--- the end of a line, and the indent of the next; what is behind them will say whether it is used
-abbrev pub tell_ending : IndentationPolicy → ℕ → State → Telling
-tell_ending Eager k st = Told (Ending ∷ Indent k false ∷ []) (record st { column = indented k })
-tell_ending Deferred k st = Told (Ending ∷ Indent k false ∷ []) (record st { column = deferred k })
+-- the end of a line, and the indent of the next; what follows them will say whether it is used
+abbrev pub trace_ending : IndentationPolicy → ℕ → State → Tracing
+trace_ending Eager k st = Traced (Ending ∷ Indent k false ∷ []) (record st { column = indented k })
+trace_ending Deferred k st = Traced (Ending ∷ Indent k false ∷ []) (record st { column = deferred k })
 
--- an alternative, told before what it lays
-abbrev pub chosen : Side → Telling → Telling
+-- an alternative, noted before what it lays
+abbrev pub chosen : Side → Tracing → Tracing
 chosen side x = after_pieces (Chose side ∷ []) x
 
 -- the first branch of a union if it is kept, and else the second
-abbrev pub tell_accept : RenderOptions → Bool → Telling → Telling → Telling
-tell_accept o was (Told ps st) other =
-    if st.within && padding_fits o.width (some_pending st.pending) st.column then chosen First (Told ps (record st { within = was })) else chosen Second other
-tell_accept o was (Untold ps) other = chosen Second other
+abbrev pub trace_accept : RenderOptions → Bool → Tracing → Tracing → Tracing
+trace_accept o was (Traced ps st) other =
+    if st.within && padding_fits o.width (some_pending st.pending) st.column then chosen First (Traced ps (record st { within = was })) else chosen Second other
+trace_accept o was (Stopped ps) other = chosen Second other
 
--- How a break is told.
-abbrev pub BreakTellings : Type 0
-BreakTellings = Tree → ℕ → Mode → List Entry → State → Telling
+-- The trace of a break.
+abbrev pub BreakTraces : Type 0
+BreakTraces = Tree → ℕ → Mode → List Entry → State → Tracing
 
 -- A document at an indent in a mode, as `lay` lays it.
-unfoldable pub tell : RenderOptions → BreakTellings → Tree → ℕ → Mode → List Entry → State → Telling
-tell o brk t.Nil i m rest st = Told [] st
-tell o brk t.Fail i m rest st = Untold []
-tell o brk (t.Text s) i m rest st = tell_text o (length s) s st
-tell o brk (t.TextWithLen w s) i m rest st = tell_text o w s st
-tell o brk (t.MultilineText s) i m rest st = by_mode m (tell_payload o (metrics s) s st) (Untold [])
-tell o brk t.WeakSpace i m rest st = Told [] (record st { column = blank st.column })
-tell o brk t.HardLine i m rest st = by_mode m (brk t.HardLine i m rest st) (Untold [])
-tell o brk t.WeakLine i m rest st = brk t.WeakLine i m rest st
-tell o brk (t.Append l r) i m rest st = told_then (tell o brk l i m (entry i r ∷ rest) st) (λ u. tell o brk r i m rest u)
-tell o brk (t.LineSuffix d) i m rest st = Told [] (record st { pending = st.pending ++ d ∷ [] })
-tell o brk (t.Nest k d) i m rest st = tell o brk d (nested i k) m rest st
-tell o brk (t.DedentToRoot d) i m rest st = tell o brk d 0 m rest st
-tell o brk (t.Align d) i m rest st = tell o brk d (prospective st.column) m rest st
-tell o brk t.ExpandParent i m rest st = Told [] st
-tell o brk (t.Flatten d) i m rest st = tell o brk d i Flat rest st
-tell o brk (t.BreakOrFlat b f) i m rest st = by_mode m (tell o brk b i m rest st) (tell o brk f i m rest st)
-tell o brk (t.Group d) i m rest st =
+unfoldable pub trace_at : RenderOptions → BreakTraces → Tree → ℕ → Mode → List Entry → State → Tracing
+trace_at o brk t.Nil i m rest st = Traced [] st
+trace_at o brk t.Fail i m rest st = Stopped []
+trace_at o brk (t.Text s) i m rest st = trace_text o (length s) s st
+trace_at o brk (t.TextWithLen w s) i m rest st = trace_text o w s st
+trace_at o brk (t.MultilineText s) i m rest st = by_mode m (trace_payload o (metrics s) s st) (Stopped [])
+trace_at o brk t.WeakSpace i m rest st = Traced [] (record st { column = blank st.column })
+trace_at o brk t.HardLine i m rest st = by_mode m (brk t.HardLine i m rest st) (Stopped [])
+trace_at o brk t.WeakLine i m rest st = brk t.WeakLine i m rest st
+trace_at o brk (t.Append l r) i m rest st = traced_then (trace_at o brk l i m (entry i r ∷ rest) st) (λ u. trace_at o brk r i m rest u)
+trace_at o brk (t.LineSuffix d) i m rest st = Traced [] (record st { pending = st.pending ++ d ∷ [] })
+trace_at o brk (t.Nest k d) i m rest st = trace_at o brk d (nested i k) m rest st
+trace_at o brk (t.DedentToRoot d) i m rest st = trace_at o brk d 0 m rest st
+trace_at o brk (t.Align d) i m rest st = trace_at o brk d (prospective st.column) m rest st
+trace_at o brk t.ExpandParent i m rest st = Traced [] st
+trace_at o brk (t.Flatten d) i m rest st = trace_at o brk d i Flat rest st
+trace_at o brk (t.BreakOrFlat b f) i m rest st = by_mode m (trace_at o brk b i m rest st) (trace_at o brk f i m rest st)
+trace_at o brk (t.Group d) i m rest st =
     by_mode m
-    (if probe o d Flat rest st then chosen First (tell o brk d i Flat rest st) else chosen Second (tell o brk d i Break rest st))
-    (tell o brk d i Flat rest st)
-tell o brk (t.Union l r) i m rest st =
-    by_mode m (tell_accept o st.within (tell o brk l i m rest (tried st)) (tell o brk r i m rest st)) (tell o brk l i m rest st)
-tell o brk (t.PartialUnion l r) i m rest st =
+    (if probe o d Flat rest st then chosen First (trace_at o brk d i Flat rest st) else chosen Second (trace_at o brk d i Break rest st))
+    (trace_at o brk d i Flat rest st)
+trace_at o brk (t.Union l r) i m rest st =
+    by_mode m (trace_accept o st.within (trace_at o brk l i m rest (tried st)) (trace_at o brk r i m rest st)) (trace_at o brk l i m rest st)
+trace_at o brk (t.PartialUnion l r) i m rest st =
     by_mode m
-    (if probe o l Break rest st then chosen First (tell o brk l i m rest st) else chosen Second (tell o brk r i m rest st))
-    (tell o brk l i m rest st)
+    (if probe o l Break rest st then chosen First (trace_at o brk l i m rest st) else chosen Second (trace_at o brk r i m rest st))
+    (trace_at o brk l i m rest st)
 
 -- trees one after another at one indent
-unfoldable pub tell_each : RenderOptions → BreakTellings → List Tree → ℕ → Mode → List Entry → State → Telling
-tell_each o brk [] i m rest st = Told [] st
-tell_each o brk (d ∷ ds) i m rest st =
-    told_then (tell o brk d i m (entries i ds ++ rest) st) (λ u. tell_each o brk ds i m rest u)
+unfoldable pub trace_each : RenderOptions → BreakTraces → List Tree → ℕ → Mode → List Entry → State → Tracing
+trace_each o brk [] i m rest st = Traced [] st
+trace_each o brk (d ∷ ds) i m rest st =
+    traced_then (trace_at o brk d i m (entries i ds ++ rest) st) (λ u. trace_each o brk ds i m rest u)
 
 -- a break where nothing is pending
-abbrev pub tell_plain_break : RenderOptions → Tree → ℕ → List Entry → State → Telling
-tell_plain_break o d i rest st =
-    if is_suppressed d st.column then Told [] st else tell_ending o.indentation_policy (next_indent i rest) st
+abbrev pub trace_plain_break : RenderOptions → Tree → ℕ → List Entry → State → Tracing
+trace_plain_break o d i rest st =
+    if is_suppressed d st.column then Traced [] st else trace_ending o.indentation_policy (next_indent i rest) st
 
--- a break: weak spaces are told before the pending documents
-abbrev pub tell_break_with : RenderOptions → BreakTellings → List Tree → BreakTellings
-tell_break_with o brk [] d i m rest st = tell_plain_break o d i rest st
-tell_break_with o brk (p ∷ ps) d i m rest st =
+-- a break: weak spaces come before the pending documents
+abbrev pub trace_break_with : RenderOptions → BreakTraces → List Tree → BreakTraces
+trace_break_with o brk [] d i m rest st = trace_plain_break o d i rest st
+trace_break_with o brk (p ∷ ps) d i m rest st =
     after_pieces (Gap st.column.padding ∷ [])
-    (told_then (tell_each o brk (p ∷ ps) i m (entry i d ∷ rest) (flushed o st)) (brk d i m rest))
+    (traced_then (trace_each o brk (p ∷ ps) i m (entry i d ∷ rest) (flushed o st)) (brk d i m rest))
 
 -- breaks of this many levels
-unfoldable pub tell_breaks : RenderOptions → ℕ → BreakTellings
-tell_breaks o zero d i m rest st = Untold []
-tell_breaks o (suc n) d i m rest st = tell_break_with o (tell_breaks o n) st.pending d i m rest st
+unfoldable pub trace_breaks : RenderOptions → ℕ → BreakTraces
+trace_breaks o zero d i m rest st = Stopped []
+trace_breaks o (suc n) d i m rest st = trace_break_with o (trace_breaks o n) st.pending d i m rest st
 
 -- the end of the document
-abbrev pub tell_end_with : RenderOptions → BreakTellings → (State → Telling) → List Tree → State → Telling
-tell_end_with o brk again [] st = Told [] st
-tell_end_with o brk again (p ∷ ps) st =
-    after_pieces (Gap st.column.padding ∷ []) (told_then (tell_each o brk (p ∷ ps) 0 Break [] (flushed o st)) again)
+abbrev pub trace_end_with : RenderOptions → BreakTraces → (State → Tracing) → List Tree → State → Tracing
+trace_end_with o brk again [] st = Traced [] st
+trace_end_with o brk again (p ∷ ps) st =
+    after_pieces (Gap st.column.padding ∷ []) (traced_then (trace_each o brk (p ∷ ps) 0 Break [] (flushed o st)) again)
 
 -- the end, of this many rounds
-unfoldable pub tell_finish : RenderOptions → BreakTellings → ℕ → State → Telling
-tell_finish o brk zero st = Untold []
-tell_finish o brk (suc n) st = tell_end_with o brk (tell_finish o brk n) st.pending st
+unfoldable pub trace_finish : RenderOptions → BreakTraces → ℕ → State → Tracing
+trace_finish o brk zero st = Stopped []
+trace_finish o brk (suc n) st = trace_end_with o brk (trace_finish o brk n) st.pending st
 
--- a telling with this many levels and rounds
-unfoldable pub tell_by : RenderOptions → ℕ → Tree → Telling
-tell_by o n d =
-    let brk = tell_breaks o n in
-    told_then (tell o brk d 0 Break [] initial) (λ st. tell_finish o brk n st)
+-- a trace with this many levels and rounds
+unfoldable pub trace_by : RenderOptions → ℕ → Tree → Tracing
+trace_by o n d =
+    let brk = trace_breaks o n in
+    traced_then (trace_at o brk d 0 Break [] initial) (λ st. trace_finish o brk n st)
 
 -- content comes before the line ends; a payload counts by the gap before it, which an empty first part has not
 abbrev pub has_content : List Piece → Bool
@@ -156,29 +156,29 @@ has_content (Text s c ∷ ps) = true
 has_content (Source s ∷ ps) = false
 has_content (Chose side ∷ ps) = has_content ps
 
--- a piece, told whether content follows it
-abbrev pub told_use : Piece → Bool → Piece
-told_use (Indent k used) follows = Indent k follows
-told_use piece follows = piece
+-- a piece, given whether content follows it
+abbrev pub use_of : Piece → Bool → Piece
+use_of (Indent k used) follows = Indent k follows
+use_of piece follows = piece
 
--- an indent is used if content comes behind it on its line
+-- an indent is used if content comes after it on its line
 abbrev pub settled : List Piece → List Piece
 settled [] = []
-settled (piece ∷ ps) = told_use piece (has_content ps) ∷ settled ps
+settled (piece ∷ ps) = use_of piece (has_content ps) ∷ settled ps
 
 -- the pieces of a layout: all, or those before the node that failed
 pub data Trace : Type 0 where
   Complete : List Piece → Trace
   Partial : List Piece → Trace
 
--- the trace of a telling, with its indents settled
-abbrev pub trace_of : Telling → Trace
-trace_of (Told ps st) = Complete (settled ps)
-trace_of (Untold ps) = Partial (settled ps)
+-- the whole trace, with its indents settled
+abbrev pub trace_of : Tracing → Trace
+trace_of (Traced ps st) = Complete (settled ps)
+trace_of (Stopped ps) = Partial (settled ps)
 
 -- The trace of a document's layout.
 unfoldable pub trace : RenderOptions → Tree → Trace
-trace o d = trace_of (tell_by o (size d + 1) d)
+trace o d = trace_of (trace_by o (size d + 1) d)
 
 -- an indent is written if the policy is Eager, or if content uses it
 abbrev pub indent_bytes : IndentationPolicy → ℕ → Bool → List ℕ

@@ -1,4 +1,4 @@
-//! Options, documents that fail, what a document shows of itself, and what a render takes up.
+//! Options, documents that fail, what a document shows of itself, and what a render visits.
 use crate::layouts::compare_with;
 use prettyless::prelude::*;
 use prettyless::{

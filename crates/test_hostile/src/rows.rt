@@ -10,7 +10,7 @@ pub(crate) struct Row<'a, T> {
     pub(crate) document: T,
     // What a sink has that takes all.
     pub(crate) layout: &'a str,
-    // Whether the document fails behind that.
+    // Whether the document fails after that.
     pub(crate) fails: bool,
 }
 
@@ -55,7 +55,7 @@ fn payload<'a, D: DocPlace<'a>>(place: &'a D) -> Result<Row<'a, D::Doc>, BuildEr
     whole(place, 80, alone, "a\r\n\nb\n")
 }
 
-fn payload_behind_a_suffix<'a, D: DocPlace<'a>>(
+fn payload_after_a_suffix<'a, D: DocPlace<'a>>(
     place: &'a D,
 ) -> Result<Row<'a, D::Doc>, BuildError> {
     let payload = multiline_text(CowStr::Borrowed("\"b\nc\""));
@@ -90,7 +90,7 @@ fn kept_in_rejected<'a, D: DocPlace<'a>>(place: &'a D) -> Result<Row<'a, D::Doc>
     whole(place, 10, caller, "outer fallback // caller")
 }
 
-// A suffix that fails, behind an alternative that is kept.
+// A suffix that fails, after an alternative that is kept.
 fn failing<'a, D: DocPlace<'a>>(place: &'a D) -> Result<Row<'a, D::Doc>, BuildError> {
     let kept = union(("a", line_suffix(fail())), "x");
     let mut row = whole(place, 2, (kept, "b"), "ab")?;
@@ -98,7 +98,7 @@ fn failing<'a, D: DocPlace<'a>>(place: &'a D) -> Result<Row<'a, D::Doc>, BuildEr
     Ok(row)
 }
 
-// Puts it behind the others, if there was memory for it.
+// Adds it after the others, if there was memory for it.
 fn push<T: Drop>(rows: &mut Vec<T>, row: Result<T, BuildError>) -> Result<(), BuildError> {
     rows.push(row?)?;
     Ok(())
@@ -112,7 +112,7 @@ fn rows<'a, D: DocPlace<'a>>(place: &'a D) -> Result<Vec<Row<'a, D::Doc>>, Build
     push(&mut rows, text(place))?;
     push(&mut rows, nested_suffixes(place))?;
     push(&mut rows, payload(place))?;
-    push(&mut rows, payload_behind_a_suffix(place))?;
+    push(&mut rows, payload_after_a_suffix(place))?;
     push(&mut rows, second_line_too_long(place))?;
     push(&mut rows, kept(place))?;
     push(&mut rows, pending(place))?;

@@ -56,7 +56,7 @@ fn compare(
     Ok(visits)
 }
 
-// Letters appended behind one another.
+// Letters appended one after another.
 fn to_the_left<'a>(arena: &'a Arena<'a>) -> Result<RefDoc<'a>, BuildError> {
     let mut chain = text(arena, "a")?;
     for _ in 1..TIMES {
@@ -111,7 +111,7 @@ fn nests_in_nests(rt: HostRuntime) -> Result<(), Fail> {
     Ok(())
 }
 
-// An alternative in an alternative and so on, of which each second one does not fit behind the first.
+// An alternative in an alternative and so on. Each first branch ends in a text that does not fit after the inner one.
 fn alternatives<'a>(arena: &'a Arena<'a>, depth: usize) -> Result<RefDoc<'a>, BuildError> {
     let mut nested = text(arena, "x")?;
     for _ in 0..depth {
@@ -123,16 +123,16 @@ fn alternatives<'a>(arena: &'a Arena<'a>, depth: usize) -> Result<RefDoc<'a>, Bu
 }
 
 // A letter in front of them.
-fn behind_a_letter<'a>(arena: &'a Arena<'a>, depth: usize) -> Result<RefDoc<'a>, BuildError> {
+fn after_a_letter<'a>(arena: &'a Arena<'a>, depth: usize) -> Result<RefDoc<'a>, BuildError> {
     append(arena, text(arena, "p")?, alternatives(arena, depth)?)
 }
 
-// Every node of the alternatives is taken up once, though all but the last are rejected.
+// Every node of the alternatives is visited once, though all but the last are rejected.
 #[test]
-fn alternatives_are_taken_up_once(rt: HostRuntime) -> Result<(), Fail> {
+fn alternatives_are_visited_once(rt: HostRuntime) -> Result<(), Fail> {
     let bump = Bump::new(rt.alloc());
     let arena = Arena::new(rt.alloc(), &bump);
-    let document = behind_a_letter(&arena, 64)?;
+    let document = after_a_letter(&arena, 64)?;
     assert_eq!(rt; arena.len(), 387);
     let visits = compare(&rt, rt.alloc(), document, 4, "px")?;
     assert_eq!(rt; visits.printer, 387);

@@ -227,7 +227,7 @@ impl TextWriter for ByPieces {
     }
 }
 
-// The same, of which nothing is told.
+// The same, of which no bytes are known.
 impl fmt::Write for ByPieces {
     fn write_str(&mut self, s: &str) -> fmt::Result {
         self.write_text(s)
@@ -251,14 +251,14 @@ fn ending_of_text<W: TextWriter>(
     }
 }
 
-// How a render to such a writer ends, of which all or nothing is told.
+// How a render to such a writer ends, whose bytes are known or not.
 fn ending_of_pieces(
     memory: Global,
     row: &BoxRow<'_>,
-    told: bool,
+    known: bool,
     writer: &mut ByPieces,
 ) -> Result<Ending<fmt::Error>, Fail> {
-    if told {
+    if known {
         ending_of_text(memory, row, writer)
     } else {
         ending_of_text(memory, row, &mut Untold(writer))
@@ -301,7 +301,7 @@ fn compare_pieces(
     rt: &impl Abort,
     memory: Global,
     row: &BoxRow<'_>,
-    told: bool,
+    known: bool,
     wrong_piece: usize,
 ) -> Result<bool, Fail> {
     let mut writer = ByPieces {
@@ -310,7 +310,7 @@ fn compare_pieces(
         bytes: Vec::new(memory),
         failures: 0,
     };
-    let ending = ending_of_pieces(memory, row, told, &mut writer)?;
+    let ending = ending_of_pieces(memory, row, known, &mut writer)?;
     let comes = writer.failures != 0;
     if comes {
         compare_ended_pieces(rt, row.layout, &writer, &ending);
@@ -325,10 +325,10 @@ fn compare_all_pieces(
     rt: &impl Abort,
     memory: Global,
     row: &BoxRow<'_>,
-    told: bool,
+    known: bool,
 ) -> Result<(), Fail> {
     for wrong_piece in 1..100 {
-        if !compare_pieces(rt, memory, row, told, wrong_piece)? {
+        if !compare_pieces(rt, memory, row, known, wrong_piece)? {
             return Ok(());
         }
     }

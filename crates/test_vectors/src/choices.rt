@@ -19,7 +19,7 @@ const UNIONS: [Case<'static>; 13] = [
     // With what follows on the line.
     (4, "Append PartialUnion Text 'ab' Text 'c' Text 'dddd'", "cdddd"),
     (6, "Append PartialUnion Text 'ab' Text 'c' Text 'dddd'", "abdddd"),
-    // Its last line goes on behind it.
+    // Its last line goes on after it.
     (1, "Nest 2 Append Union Append Text 'a' HardLine Text 'x' Text 'b'", "a\n  b"),
     // What follows a group counts as its second alternative.
     (5, "Append Append Text 'aa' Group Append BreakOrFlat HardLine Text ' ' Text 'bb' Union Nil Text 'cccccccc'",

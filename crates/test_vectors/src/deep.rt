@@ -13,7 +13,7 @@ fn push_times(text: &mut String, piece: &str, times: usize) -> Result<(), AllocE
     Ok(())
 }
 
-// An alternative in an alternative and so on, of which each second one does not fit behind the first.
+// An alternative in an alternative and so on. Each first branch ends in a text that does not fit after the inner one.
 fn nested(memory: Global, front: &str, choice: &str) -> Result<String, AllocError> {
     let mut written = String::from_str(memory, front)?;
     push_times(&mut written, choice, DEPTH)?;

@@ -1,4 +1,4 @@
-//! The smallest documents that tell a printer with one rule wrong from a right one.
+//! The smallest documents that show the difference between a printer with one wrong rule and a right one.
 use crate::rendered::{Case, compare, compare_failing, compare_with, options};
 use prettyless::{IndentationPolicy, LineEnding};
 use std::test::Fail;
@@ -24,7 +24,7 @@ const LAYOUTS: [Case<'static>; 14] = [
     // What a rejected alternative took is back.
     (1, "Union Append Text 'so' LineSuffix TextWithLen 0 '你' Nest 9 Text 'cvzmwcc'", "cvzmwcc"),
     (0, "Union Text 'a' WeakLine", ""),
-    // A suffix has the indent that stands around it.
+    // A suffix has the indent of what is around it.
     (80, "Append Text 'a' Nest 2 Append LineSuffix Append WeakLine Text 'km' Append WeakLine WeakLine", "a\n  km\n  "),
     // A break has the indent of what follows it.
     (0, "Append Nest 2 HardLine WeakSpace", "\n"),
@@ -59,7 +59,7 @@ const LINE_ENDS: [Case<'static>; 3] = [
 
 #[rattlefmt::skip]
 const LATE_INDENTS: [Case<'static>; 1] = [
-    // A weak line behind a suffix is a break in flat lines too.
+    // A weak line after a suffix is a break in flat lines too.
     (13, "Group Append LineSuffix WeakLine Append WeakLine HardLine", "\n\n"),
 ];
 

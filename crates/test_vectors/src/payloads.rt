@@ -13,12 +13,12 @@ const PAYLOADS: [Case<'static>; 8] = [
     (80, "Append LineSuffix Text ' // 1' MultilineText '\"b\nc\"'", "\"b\nc\" // 1"),
     // No group around one is flat.
     (80, "Group Append Append Text 'a' BreakOrFlat HardLine Text ' ' MultilineText 'b\nc'", "a\nb\nc"),
-    // The first line has to fit with what stands before it.
+    // The first line has to fit with what is before it.
     (8, "Append Append Text 'aaaa' Group Append BreakOrFlat HardLine Text ' ' Text 'b' MultilineText 'cc\nd'",
      "aaaa bcc\nd"),
     (7, "Append Append Text 'aaaa' Group Append BreakOrFlat HardLine Text ' ' Text 'b' MultilineText 'cc\nd'",
      "aaaa\nbcc\nd"),
-    // Behind a last break the line is fresh.
+    // After a last break the line is fresh.
     (80, "Append MultilineText 'a\n' Text 'b'", "a\nb"),
 ];
 

@@ -3,7 +3,7 @@ use prettyless::{Doc, DocPlace, DocPtr};
 use std::alloc::Global;
 use std::test::Fail;
 
-// A variant, with the number and the text that stand behind it where it has them.
+// A variant, with the number and the text that follow it where it has them.
 #[derive(Clone, Copy)]
 struct Node<'a> {
     variant: &'a str,
@@ -12,7 +12,7 @@ struct Node<'a> {
 }
 
 // Reads documents that are written as their variants, each in front of what it holds: words with a space between them,
-// and texts in quotes. The nodes are put together as they stand, with no builder.
+// and texts in quotes. The nodes are put together as they are written, with no builder.
 #[derive(Drop)]
 struct Reader<'a> {
     rest: &'a str,
@@ -26,7 +26,7 @@ impl<'a> Reader<'a> {
         word
     }
 
-    // What stands in the next quotes.
+    // What is in the next quotes.
     fn quoted(&mut self) -> Result<&'a str, Fail> {
         let rest = self.rest.strip_prefix('\'').ok_or("no text")?;
         let (text, rest) = rest.split_once('\'').ok_or("a text without end")?;
@@ -129,7 +129,7 @@ fn over<'a, T: DocPtr<'a>>(
     pair(node, first, second)
 }
 
-// The document that is written so, and nothing behind it.
+// The document that is written so, and nothing after it.
 pub(crate) fn read<'a, D: DocPlace<'a>>(place: &'a D, written: &'a str) -> Result<D::Doc, Fail> {
     let memory = place.memory();
     let mut documents = Vec::new(memory);

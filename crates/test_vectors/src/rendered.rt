@@ -148,7 +148,7 @@ pub(crate) fn compare(rt: &impl Abort, memory: Global, cases: &[Case<'_>]) -> Re
     compare_with(rt, memory, RenderOptions::new(0), cases)
 }
 
-// Compares what stands before the node at which each document fails.
+// Compares what comes before the node at which each document fails.
 pub(crate) fn compare_failing(
     rt: &impl Abort,
     memory: Global,

@@ -10,7 +10,7 @@ const SUFFIXES: [Case<'static>; 7] = [
      "a // 1\nb // 2"),
     (5, "Group Append Append Append Append Text 'a' LineSuffix Text ' // 1' BreakOrFlat HardLine Text ' ' LineSuffix \
          Text ' // 2' Text 'b'", "a b // 1 // 2"),
-    // A suffix in a suffix right behind it.
+    // A suffix in a suffix right after it.
     (80, "Append Append Append Text 'a' LineSuffix Append Text 'x' LineSuffix Text 'y' HardLine Text 'b'", "axy\nb"),
     // A weak line in front of which one is pending breaks, also on a fresh line.
     (80, "Append Append LineSuffix Text '//' WeakLine Text 'x'", "//\nx"),
@@ -43,7 +43,7 @@ const CHOICES: [Case<'static>; 7] = [
 
 #[rattlefmt::skip]
 const FAILURES: [Case<'static>; 2] = [
-    // A suffix fails where it is laid, behind the text of its line.
+    // A suffix fails where it is laid, after the text of its line.
     (80, "Append LineSuffix Fail Text 'a'", "a"),
     (2, "Append Union Append Text 'a' LineSuffix Fail Text 'x' Text 'b'", "ab"),
 ];

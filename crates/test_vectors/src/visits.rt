@@ -1,4 +1,4 @@
-//! How many nodes a render takes up.
+//! How many nodes a render visits.
 use crate::reader::read;
 use prettyless::{BoxAllocator, DocPlace, DocPtr, FmtWrite, RenderError, RenderOptions, Visits};
 use std::alloc::Global;
@@ -18,7 +18,7 @@ const CASES: [Case<'static>; 6] = [
     (2, PAIR, 7, 6),
     (1, PAIR, 7, 5),
     (0, PAIR, 7, 3),
-    // A rejected branch is taken up once, and so is the second.
+    // A rejected branch is visited once, and so is the second.
     (10, LINES, 11, 0),
     (80, "Nil", 1, 0),
 ];

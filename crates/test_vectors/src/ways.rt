@@ -135,7 +135,7 @@ fn compare_failing_in<'a, D: DocPlace<'a>>(rt: &impl Abort, place: &'a D) -> Res
     compare_failing(rt, place.memory(), &document)
 }
 
-// A document that fails is not printed, and what stands there is a beginning of its bytes.
+// A document that fails is not printed, and what was written is a beginning of its bytes.
 #[test]
 fn no_failing_document_is_displayed(rt: HostRuntime) -> Result<(), Fail> {
     compare_failing_in(&rt, &BoxAllocator::new(rt.alloc()))
@@ -152,6 +152,6 @@ fn compare_before<'a, D: DocPlace<'a>>(rt: &impl Abort, place: &'a D) -> Result<
 }
 
 #[test]
-fn fails_behind_what_stands_before(rt: HostRuntime) -> Result<(), Fail> {
+fn fails_after_what_comes_before(rt: HostRuntime) -> Result<(), Fail> {
     compare_before(&rt, &BoxAllocator::new(rt.alloc()))
 }

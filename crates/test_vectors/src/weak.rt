@@ -33,7 +33,7 @@ const SPACES: [Case<'static>; 15] = [
 const LINES: [Case<'static>; 10] = [
     // A break that no group takes away.
     (80, "Group Append Append Text 'a' WeakLine Text 'b'", "a\nb"),
-    // Flat where an alternative stands in its place.
+    // Flat where an alternative is in its place.
     (3, "Group Append Append Text 'a' BreakOrFlat WeakLine Text ' ' Text 'b'", "a b"),
     (2, "Group Append Append Text 'a' BreakOrFlat WeakLine Text ' ' Text 'b'", "a\nb"),
     (2, "Group Append Append Text 'a' BreakOrFlat WeakLine Nil Text 'b'", "ab"),

@@ -29,7 +29,7 @@ const GROUPS: [Case<'static>; 21] = [
     (usize::MAX, "Group Append Append Text 'test' BreakOrFlat HardLine Text ' ' Text 'test'", "test test"),
     (80, "Group Append Append Text 'a' BreakOrFlat BreakOrFlat HardLine Text ' ' Text ',' Text 'b'", "a,b"),
     (2, "Group Append Append Text 'a' BreakOrFlat BreakOrFlat HardLine Text ' ' Text ',' Text 'b'", "a\nb"),
-    // A text that stands in flat lines alone.
+    // A text that only flat lines have.
     (10, "Group BreakOrFlat Nil Text 'flat-only'", "flat-only"),
     (0, "Group BreakOrFlat Nil Text 'flat-only'", ""),
     // Each gap of a text by itself.

@@ -1,9 +1,9 @@
 use Rattle.std.proofs.Common.{refl}
-use Rattle.prettyless_laws.specs.Trace.{tell, tell_each, tell_breaks, tell_finish, tell_by, trace}
+use Rattle.prettyless_laws.specs.Trace.{trace_at, trace_each, trace_breaks, trace_finish, trace_by, trace}
 use Rattle.prettyless_laws.proofs.rows.rows.Goals as goal
 
 pub returns : goal.returns
-unfolding tell tell_each tell_breaks tell_finish tell_by trace
+unfolding trace_at trace_each trace_breaks trace_finish trace_by trace
 returns c = record {
   lines = (refl, refl);
   nothing = (refl, refl);
