@@ -1,5 +1,6 @@
 -- What taking up one node does, and what the tasks that are left lay.
-use Rattle.std.specs.Prelude.{ℕ, ◌+◌, ◌*◌, List, [], ◌∷◌, ◌++◌, length, Bool, Option, Some, None, if◌then◌else◌}
+use Rattle.std.specs.Prelude.{ℕ, ◌+◌, ◌*◌, List, [], ◌∷◌, ◌++◌, length, Bool, true, false, Option, Some, None, if◌then◌else◌}
+use Rattle.prettyless_sink.specs.Sink.{rise}
 use Rattle.prettyless_model.specs.Spaces.{spaces}
 use Rattle.prettyless_model.specs.declared.options.RenderOptions.{RenderOptions}
 use Rattle.prettyless_model.specs.Tree as t
@@ -38,6 +39,21 @@ break_step o (p ∷ ps) d i m rest st = Move (spaces (gap st.column)) (tasks i m
 abbrev pub decided_by_metrics : RenderOptions → Tree → State → Option Bool
 decided_by_metrics o (t.MultilineText s) st = Some (payload_fits o (metrics s) st.column)
 decided_by_metrics o _ st = None
+
+-- whether the metrics of a payload reject it
+abbrev pub is_rejected : Option Bool → Bool
+is_rejected (Some false) = true
+is_rejected _ = false
+
+-- whether a node's step visits a payload that its metrics reject, as the first branch of a union: it is never laid
+abbrev pub rejects_payload : RenderOptions → Tree → Mode → State → Bool
+rejects_payload o (t.Union l r) Break st = is_rejected (decided_by_metrics o l st)
+rejects_payload o _ m st = false
+
+-- the printer's count after a step that visits such a payload, or none
+abbrev pub counted_payload : Bool → ℕ → ℕ
+counted_payload true n = rise n
+counted_payload false n = n
 
 -- a union in Break: by metrics, or by a trial
 abbrev pub union_step : Option Bool → Tree → Tree → ℕ → State → Step

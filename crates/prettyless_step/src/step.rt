@@ -6,7 +6,7 @@ ghost use Rattle.prettyless_model.specs.Counts.{each_probe};
 ghost use Rattle.prettyless_model.specs.Layout.{is_suppressed, lay_ending, nested, some_pending, next_indent, probe as probe_of};
 ghost use Rattle.prettyless_model.specs.declared.mode.Mode.TheVariants.{Break, Flat};
 ghost use Rattle.prettyless_step.specs.Stack.{follow, make_task, nodes, stack_of};
-ghost use Rattle.prettyless_step.specs.Steps.{Move, at_once, break_step, decided_by_metrics, step_of, union_step};
+ghost use Rattle.prettyless_step.specs.Steps.{Move, at_once, break_step, counted_payload, decided_by_metrics, is_rejected, rejects_payload, step_of, union_step};
 ghost use Rattle.prettyless_step.specs.Printing.{Shows, state_of};
 ghost use Rattle.prettyless_step.specs.Probing.{RisesBy, asked};
 ghost use Rattle.prettyless_step.specs.declared.printer.Taken.TheVariants.{Written};
@@ -22,6 +22,7 @@ use crate::walk::{View, Walk};
 use prettyless_model::column::Column;
 use prettyless_model::mode::Mode;
 use prettyless_model::options::IndentationPolicy;
+use prettyless_sink::visits::{Visits, one_more};
 use std::alloc::AllocError;
 
 // An indent that a nesting changes, kept within 0 and the greatest `usize`.
@@ -225,41 +226,51 @@ fn go_on_with<N: Walk>(
     Ok(Taken::Quiet)
 }
 
-// A union in Break: the metrics of its first branch decide, or a trial is asked for.
+// A union in Break: the metrics of its first branch decide, or a trial is asked for. A payload that they reject is a visit.
 #[inline(always)]
 fn union<N: Walk>(
     printer: &mut Printer<N>,
     indent: usize,
     first: N,
     second: N,
+    visits: &mut Visits,
 ) -> Result<Taken<'static, N>, AllocError>
-    ensures { IfOk result (λ taken. Shows N.tree taken
+    ensures step { IfOk result (λ taken. Shows N.tree taken
         (union_step (decided_by_metrics printer.old.options (N.tree first) (state_of N.tree printer.old))
         (N.tree first) (N.tree second) indent (state_of N.tree printer.old))
         printer.old printer.new) }
+    ensures printer { visits.new.printer
+        ≡ counted_payload (is_rejected (decided_by_metrics printer.old.options (N.tree first) (state_of N.tree printer.old))) visits.old.printer }
+    ensures probes { visits.new.probes ≡ visits.old.probes }
 {
     match metrics_choice(printer, &first) {
         Some(true) => go_on_with(printer, indent, Mode::Break, first),
-        Some(false) => go_on_with(printer, indent, Mode::Break, second),
+        Some(false) => {
+            visits.printer = one_more(visits.printer);
+            go_on_with(printer, indent, Mode::Break, second)
+        }
         None => Ok(Taken::Chosen(indent, first, second)),
     }
 }
 
-/// Takes up one node, with the printer's commands following it. What a probe takes up is counted in `probes`.
+/// Visits one node, with the printer's commands following it. What a probe visits is counted in `visits`, and so is a payload
+/// that its metrics reject as the first branch of a union; the node itself is not.
 #[inline(always)]
 #[tactic(auto, using(crate::proofs::Queues::queues))]
 pub fn step<'v, N: Walk>(
     printer: &mut Printer<N>,
     command: &'v Command<N>,
-    probes: &mut u64,
+    visits: &mut Visits,
 ) -> Result<Taken<'v, N>, AllocError>
     ensures step { IfOk result (λ taken. Shows N.tree taken
         (step_of printer.old.options (N.tree command.now.node) command.now.indent command.now.mode
         (follow (stack_of N.tree printer.old.commands.items)) (state_of N.tree printer.old))
         printer.old printer.new) }
-    ensures rises { probes.old ≤ probes.new }
-    ensures counted { probes.new ≤ probes.old + asked (N.tree command.now.node) (nodes (stack_of N.tree printer.old.commands.items)) }
-    ensures asked { OnOk result (RisesBy (each_probe (N.tree command.now.node) command.now.mode) probes.old probes.new) }
+    ensures printer { visits.new.printer
+        ≡ counted_payload (rejects_payload printer.old.options (N.tree command.now.node) command.now.mode (state_of N.tree printer.old)) visits.old.printer }
+    ensures rises { visits.old.probes ≤ visits.new.probes }
+    ensures counted { visits.new.probes ≤ visits.old.probes + asked (N.tree command.now.node) (nodes (stack_of N.tree printer.old.commands.items)) }
+    ensures asked { OnOk result (RisesBy (each_probe (N.tree command.now.node) command.now.mode) visits.old.probes visits.new.probes) }
 {
     let indent = command.indent;
     let mode = command.mode;
@@ -307,15 +318,15 @@ pub fn step<'v, N: Walk>(
         View::Flatten(d) => go_on_with(printer, indent, Mode::Flat, d),
         View::BreakOrFlat(b, f) => go_on_with(printer, indent, mode, either(mode, b, f)),
         View::Group(d) => {
-            let inner = group_mode(printer, mode, d, probes)?;
+            let inner = group_mode(printer, mode, d, &mut visits.probes)?;
             go_on_with(printer, indent, inner, d)
         }
         View::Union(l, r) => match mode {
-            Mode::Break => union(printer, indent, l, r),
+            Mode::Break => union(printer, indent, l, r, visits),
             Mode::Flat => go_on_with(printer, indent, mode, l),
         },
         View::PartialUnion(l, r) => {
-            let taken = partial_choice(printer, mode, l, r, probes)?;
+            let taken = partial_choice(printer, mode, l, r, &mut visits.probes)?;
             go_on_with(printer, indent, mode, taken)
         }
     }
