@@ -1,3 +1,10 @@
+ghost use Rattle.std.specs.Prelude.{IfOk, IfErr};
+ghost use Rattle.prettyless_doc.specs.DocTree.{built};
+ghost use Rattle.prettyless_build.specs.Built.{joined, refused};
+
+use prettyless_build::{DocBuilder, Pretty};
+use prettyless_doc::{BuildError, DocPlace};
+
 /// The documents, appended in order, as a `Result` of a builder: `docs![allocator, first, rest..]`.
 ///
 /// An operand is evaluated and becomes a document after those before it, and not where one of them was
@@ -27,4 +34,26 @@ macro_rules! docs_onto {
             Err(error) => Err(error),
         }
     };
+}
+
+/// Four documents, appended in order by `docs!`: what the macro writes, with its contract.
+///
+/// The tree is that of the first three with the fourth appended, and so on down to the first. An error is one
+/// that an operand may answer, or memory was refused.
+pub fn four_in_order<
+    'a,
+    D: DocPlace<'a>,
+    A: Pretty<'a, D> + Drop,
+    B: Pretty<'a, D> + Drop,
+    C: Pretty<'a, D> + Drop,
+    E: Pretty<'a, D> + Drop,
+>(place: &'a D, first: A, second: B, third: C, fourth: E) -> Result<DocBuilder<'a, D>, BuildError>
+    ensures ok { IfOk result (λ b. joined
+        (joined (joined (A.becomes first) (B.becomes second)) (C.becomes third))
+        (E.becomes fourth) (built D.Doc.tree b.1)) }
+    ensures err { IfErr result (refused
+        (refused (refused (A.refuses first) (B.refuses second)) (C.refuses third))
+        (E.refuses fourth)) }
+{
+    docs![place, first, second, third, fourth]
 }

@@ -31,6 +31,6 @@ pub hundreds_of_some : (n : ℕ) → IsNotNil (hundreds n) → 0 < n
 hundreds_of_some zero h = absurd h
 hundreds_of_some (suc n) h = omega arith
 
--- behind a hundred stands more than one
+-- after a hundred there is more than one
 pub more_than_hundred : (n k : ℕ) → 0 < k → k < n / 100 → 100 < n
 more_than_hundred n k some before = omega arith

@@ -25,7 +25,7 @@ cut_at : (ds : List ℕ) (c : ℕ) (fs : List ℕ) → NonePass is_whitespace ds
 cut_at [] c fs h w = rw w refl
 cut_at (d ∷ ds) c fs h w = rw h.0 (ap (onto_first d) (cut_at ds c fs h.1 w))
 
--- a text that begins with these characters has others behind them
+-- a text that begins with these characters has others after them
 front : (ds cs rest : List ℕ) → encode_utf8_all cs ≡ encode_utf8_all ds ++ rest → (es : List ℕ) × (cs ≡ ds ++ es) × (encode_utf8_all es ≡ rest)
 front [] cs rest e = (cs, refl, e)
 front (d ∷ ds) cs rest e =
@@ -90,7 +90,7 @@ module _ {P : Type 0} (by : P → (ℕ → Bool) → Type 0) where
 abbrev IsPiece : Bor (List ℕ) → Tree → Type 0
 IsPiece x y = y ≡ counted.text x.now
 
--- pieces appended, each behind s
+-- pieces appended, each after s
 folded : (s : Tree) (xs : List (Bor (List ℕ))) (a z : Tree) → FoldsTo (appends_after s IsPiece) a xs z
     → z ≡ fold (λ b y. append (append b s) y) a (map counted.text (map (λ (x : Bor (List ℕ)). x.now) xs))
 folded s [] a z h = sym h

@@ -28,7 +28,7 @@ pub trait DocAllocator<'a>: DocPlace<'a> {
     fn nil(&'a self) -> Result<DocBuilder<'a, Self>, BuildError>
         ensures { IsOkAnd result (λ b. built Self.Doc.tree b.1 ≡ Nil) };
 
-    /// A document that cannot be laid: a render that meets it fails. It takes no memory.
+    /// A document that cannot be laid: a render that comes to it fails. It takes no memory.
     fn fail(&'a self) -> Result<DocBuilder<'a, Self>, BuildError>
         ensures { IsOkAnd result (λ b. built Self.Doc.tree b.1 ≡ Fail) };
 
@@ -56,7 +56,7 @@ pub trait DocAllocator<'a>: DocPlace<'a> {
         ensures { IfOk result (λ b. counted.IsStringOf (V.output value)
             (built Self.Doc.tree b.1)) };
 
-    /// A text whose line ends, each LF or CR, are written as they are, with no indent behind them. It keeps the groups
+    /// A text whose line ends, each LF or CR, are written as they are, with no indent after them. It keeps the groups
     /// around it from being flat, and fails under `flatten`. Without one it is as `text` makes it. It takes no memory.
     fn multiline_text(&'a self, text: CowStr<'a>) -> Result<DocBuilder<'a, Self>, BuildError>
         ensures { IsOkAnd result (λ b. built Self.Doc.tree b.1
@@ -110,13 +110,13 @@ pub trait DocAllocator<'a>: DocPlace<'a> {
         ensures ok { IfOk result (λ b. built Self.Doc.tree b.1 ≡ lines.line_) }
         ensures err { IfErr result IsMemory };
 
-    /// One space, or a line break where what follows, up to the next break that may stand there, would go past the
-    /// width. It fails where memory is refused.
+    /// One space, or a line break where what follows, up to the next possible break, would go past the width.
+    /// It fails where memory is refused.
     fn softline(&'a self) -> Result<DocBuilder<'a, Self>, BuildError>
         ensures ok { IfOk result (λ b. built Self.Doc.tree b.1 ≡ to.softline) }
         ensures err { IfErr result IsMemory };
 
-    /// Nothing, or a line break where what follows, up to the next break that may stand there, would go past the width.
+    /// Nothing, or a line break where what follows, up to the next possible break, would go past the width.
     /// It fails where memory is refused.
     fn softline_(&'a self) -> Result<DocBuilder<'a, Self>, BuildError>
         ensures ok { IfOk result (λ b. built Self.Doc.tree b.1 ≡ to.softline_) }

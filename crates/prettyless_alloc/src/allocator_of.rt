@@ -7,10 +7,10 @@ ghost use Rattle.prettyless_doc.specs.DocTree.{built};
 use prettyless_build::{DocBuilder, Pretty};
 use prettyless_doc::{BuildError, Doc, DocPlace};
 
-/// The documents that every place of nodes can make of one of type `P`. Each call fails as the making of that one does, and
-/// all but `pretty` where memory is refused.
+/// The documents that every place of nodes can make of one of type `P`. Each call fails as making that one does; all but
+/// `pretty` also fail where memory is refused.
 ///
-/// `P` stands on the trait and not on its calls, which cannot bind a type to the trait's lifetime.
+/// `P` is a parameter of the trait and not of its calls, which cannot bind a type to the trait's lifetime.
 /// It follows from the operand: `allocator.line_suffix(doc)` is written without it.
 pub trait DocAllocatorOf<'a, P: Pretty<'a, Self>>: DocPlace<'a> {
     /// The document that it becomes. Only the making of it can fail.

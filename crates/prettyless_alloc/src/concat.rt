@@ -13,7 +13,7 @@ use prettyless_doc::{BuildError, Doc, DocPlace};
 /// The documents that every place of nodes can make of the items of an `I`. The making of an item
 /// can fail, and memory may be refused.
 ///
-/// `I` stands on the trait and not on its calls, as the parameter of `DocAllocatorOf` does.
+/// `I` is a parameter of the trait and not of its calls, as for `DocAllocatorOf`.
 pub trait DocAllocatorOver<'a, I: IntoIterator>: DocPlace<'a>
 where
     I::Item: Pretty<'a, Self>,

@@ -14,7 +14,7 @@ use prettyless_doc::{BuildDoc, BuildError, Doc, DocPlace};
 /// The documents that every place of nodes can make of the items of an `I` and a separator `S`. The
 /// making of an item or of the separator can fail, and memory may be refused.
 ///
-/// Both stand on the trait and not on its call, as the parameter of `DocAllocatorOf` does.
+/// Both are parameters of the trait and not of its call, as for `DocAllocatorOf`.
 pub trait DocAllocatorBetween<'a, I: IntoIterator, S: Pretty<'a, Self> + Drop>: DocPlace<'a>
 where
     I::Item: Pretty<'a, Self>,
@@ -57,8 +57,7 @@ where
     }
 }
 
-// `all`, the gap and `last`, and for each item the gap and its document. The gap itself stands last,
-// behind its copies.
+// `all`, the gap and `last`, and for each item the gap and its document. The gap itself comes last, after its copies.
 fn append_between<'a, D: DocPlace<'a>, I: Iterator>(
     all: DocBuilder<'a, D>,
     gap: D::Doc,

@@ -26,7 +26,7 @@ pub trait PlacedDoc<'a, D: DocPlace<'a, Doc = Self>>: DocPtr<'a> {
         ensures ok { IfOk result (λ p. Self.tree p ≡ Nil) }
         ensures err { IfErr result IsMemory };
 
-    /// A document that cannot be laid: a render that meets it fails.
+    /// A document that cannot be laid: a render that comes to it fails.
     fn fail(place: &'a D) -> Result<Self, BuildError>
         ensures ok { IfOk result (λ p. Self.tree p ≡ Fail) }
         ensures err { IfErr result IsMemory };
@@ -72,13 +72,12 @@ pub trait PlacedDoc<'a, D: DocPlace<'a, Doc = Self>>: DocPtr<'a> {
         ensures ok { IfOk result (λ p. Self.tree p ≡ lines.line_) }
         ensures err { IfErr result IsMemory };
 
-    /// One space, or a line break where what follows, up to the next break that may stand there, would go past the
-    /// width.
+    /// One space, or a line break where what follows, up to the next possible break, would go past the width.
     fn softline(place: &'a D) -> Result<Self, BuildError>
         ensures ok { IfOk result (λ p. Self.tree p ≡ to.softline) }
         ensures err { IfErr result IsMemory };
 
-    /// Nothing, or a line break where what follows, up to the next break that may stand there, would go past the width.
+    /// Nothing, or a line break where what follows, up to the next possible break, would go past the width.
     fn softline_(place: &'a D) -> Result<Self, BuildError>
         ensures ok { IfOk result (λ p. Self.tree p ≡ to.softline_) }
         ensures err { IfErr result IsMemory };
@@ -97,7 +96,7 @@ pub trait PlacedDoc<'a, D: DocPlace<'a, Doc = Self>>: DocPtr<'a> {
     fn as_string<V: fmt::Display + Drop>(place: &'a D, value: V) -> Result<Self, BuildError>
         ensures { IfOk result (λ p. counted.IsStringOf (V.output value) (Self.tree p)) };
 
-    /// A text whose line ends, each LF or CR, are written as they are, with no indent behind them. It keeps the groups
+    /// A text whose line ends, each LF or CR, are written as they are, with no indent after them. It keeps the groups
     /// around it from being flat, and fails under `flatten`. Without one it is as `text` makes it.
     fn multiline_text(place: &'a D, text: CowStr<'a>) -> Result<Self, BuildError>
         ensures ok { IfOk result (λ p. Self.tree p
@@ -213,7 +212,7 @@ impl<'a, D: DocPlace<'a, Doc = T>, T: DocPtr<'a>> PlacedDoc<'a, D> for T {
 /// The calls of a pointer that take a document of type `P`. The making of that one can fail, and
 /// memory may be refused.
 ///
-/// `P` stands on the trait and not on its calls, as the parameter of `DocAllocatorOf` does.
+/// `P` is a parameter of the trait and not of its calls, as for `DocAllocatorOf`.
 pub trait PlacedDocOf<'a, D: DocPlace<'a, Doc = Self>, P: Pretty<'a, D>>: DocPtr<'a> {
     /// This document, then `that`. Where this one is nothing it is `that`. Where `that` is nothing it
     /// stays as it is, which takes no memory.

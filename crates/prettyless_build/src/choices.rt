@@ -62,7 +62,7 @@ impl<'a, D: DocPlace<'a>> DocBuilder<'a, D> {
         Ok(DocBuilder::new(allocator, Doc::Union(first, second)))
     }
 
-    /// This document where its first line fits, whatever stands behind that, and else `that`; where lines are flat,
+    /// This document where its first line fits, whatever comes after it, and else `that`; where lines are flat,
     /// this one. It fails where memory is refused.
     pub fn partial_union(self, that: BuildDoc<'a, D::Doc>) -> Result<Self, BuildError>
         ensures ok { IfOk result (λ b. built D.Doc.tree b.1

@@ -20,7 +20,7 @@ parts-plain b s h = ap (λ t. cond t ([] ∷ parts s) (on_first b (parts s))) h
 parts-cut : (b : ℕ) (s : List ℕ) → is_break b ≡ true → parts (b ∷ s) ≡ [] ∷ parts s
 parts-cut b s h = ap (λ t. cond t ([] ∷ parts s) (on_first b (parts s))) h
 
--- the parts behind a break at n
+-- the parts after a break at n
 abbrev parts_behind : List ℕ → ℕ → List (List ℕ)
 parts_behind [] n = []
 parts_behind (b ∷ s) zero = parts s

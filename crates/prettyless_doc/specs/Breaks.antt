@@ -3,11 +3,11 @@ use Rattle.std.specs.Prelude.{◌≡◌, ℕ, ◌<◌, ◌≤◌, Bool, true, fa
 use Rattle.std.specs.List.{list_any}
 use Rattle.prettyless_model.specs.Metrics.{is_break, parts}
 
--- LF or CR stands in the text
+-- LF or CR is in the text
 abbrev pub holds_break : List ℕ → Bool
 holds_break s = list_any is_break s
 
--- the first part ends at n: no break stands before, and one stands there, or the text ends
+-- the first part ends at n: no break is before it, and one is there, or the text ends
 pub record EndsFirstPart (s : List ℕ) (n : ℕ) : Type 0 where
   pub within : n ≤ length s
   pub before : (k : ℕ) → k < n → is_break (slice_index s k) ≡ false

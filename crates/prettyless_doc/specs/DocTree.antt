@@ -1,4 +1,4 @@
--- The tree that a document stands for, given the trees of its pointers.
+-- The tree of a document, given the trees of its pointers.
 use Rattle.std.specs.Prelude.{Bool, true, false}
 use Rattle.prettyless_model.specs.Tree as t
 use Rattle.prettyless_model.specs.Tree.{Tree}
@@ -42,7 +42,7 @@ abbrev pub is_nil : Tree → Bool
 is_nil t.Nil = true
 is_nil _ = false
 
--- the node holds memory of its own, beside what is behind its pointers
+-- the node holds memory of its own, beside what its pointers lead to
 abbrev pub holds_memory : {T : Type 0} → Doc T → Bool
 holds_memory (Text s) = is_owned s
 holds_memory (TextWithLen w s) = is_owned s

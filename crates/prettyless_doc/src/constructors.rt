@@ -21,7 +21,7 @@ impl<'a, T: DocPtr<'a>> Doc<'a, T> {
         Doc::Nil
     }
 
-    /// A document that cannot be laid: a render that meets it fails.
+    /// A document that cannot be laid: a render that comes to it fails.
     pub fn fail() -> Self
         ensures { tree_of T.tree result ≡ tree.Fail }
     {
@@ -102,7 +102,7 @@ impl<'a, D: DocPtr<'a>> BuildDoc<'a, D> {
         BuildDoc::Doc(Doc::nil())
     }
 
-    /// A document that cannot be laid: a render that meets it fails.
+    /// A document that cannot be laid: a render that comes to it fails.
     pub fn fail() -> Self
         ensures { built D.tree result ≡ tree.Fail }
     {
@@ -171,7 +171,7 @@ impl<'a, D: DocPtr<'a>> BuildDoc<'a, D> {
         Ok(BuildDoc::Doc(Doc::as_string(alloc, value)?))
     }
 
-    /// A text whose line ends, each LF or CR, are written as they are, with no indent behind them. It keeps the groups
+    /// A text whose line ends, each LF or CR, are written as they are, with no indent after them. It keeps the groups
     /// around it from being flat, and fails under `flatten`. Without one it is as `text` makes it. It takes no memory.
     pub fn multiline_text(alloc: Global, text: CowStr<'a>) -> Result<Self, BuildError>
         ensures { IsOkAnd result (λ d. built D.tree d

@@ -117,7 +117,7 @@ fn line_of<N: Shown>(broken: &N, flat: &N) -> Option<Line> {
     }
 }
 
-// Shows the node, and all below it. An item stands in the list of the chain that it is part of.
+// Shows the node, and all below it. An item is in the list of the chain that it is part of.
 fn show<N: Shown, W: fmt::Write>(node: N, is_item: bool, f: &mut fmt::Formatter<W>) -> fmt::Result {
     match shape_of(&node) {
         Shape::Name(name) => f.write_str(name),

@@ -9,8 +9,8 @@ use crate::text::{MultilineTextData, Text};
 pub enum Doc<'a, T> {
     /// Nothing.
     Nil,
-    /// A document that cannot be laid: a render that meets it answers `RenderError::Document`, and a union that is met
-    /// in broken lines rejects a first branch whose laying comes to it.
+    /// A document that cannot be laid: a render that comes to it answers `RenderError::Document`, and a union in broken
+    /// lines rejects a first branch whose laying comes to it.
     Fail,
     /// A text, counted as one column a byte.
     Text(Text<'a>),
@@ -32,7 +32,7 @@ pub enum Doc<'a, T> {
     /// laid there, at the indent of that break and flat or broken as it is. Its width does not count for what fits.
     LineSuffix(T),
     /// A document with its indent moved by so many columns, to the left where negative; it stays within 0 and
-    /// `usize::MAX`. A line takes the indent of the document behind its break, not that of the break.
+    /// `usize::MAX`. A line takes the indent of the document after its break, not that of the break.
     Nest(isize, T),
     /// A document with indent 0.
     DedentToRoot(T),
@@ -52,7 +52,7 @@ pub enum Doc<'a, T> {
     /// whatever follows; else the second. Where lines are flat it is always the first.
     Union(T, T),
     /// The first document where its first line fits, together with what follows if it has no line break; else the
-    /// second. What stands behind that line is not looked at, and may fail. Where lines are flat it is always the
+    /// second. What comes after that line is not looked at, and may fail. Where lines are flat it is always the
     /// first.
     PartialUnion(T, T),
 }
@@ -66,7 +66,7 @@ impl<'a, T: DocPtr<'a>> Doc<'a, T> {
     }
 }
 
-/// A pointer to a node. It stands for a whole tree.
+/// A pointer to a node, and so to a whole tree.
 pub trait DocPtr<'a>: Sized + Drop {
     // the tree of which the node is the root
     ghost tree: { Self → Tree };

@@ -35,7 +35,7 @@ pub fn holds_break(text: &str) -> bool
     text.as_bytes().iter().any(|byte| is_break(*byte))
 }
 
-// What is measured of a part, which is what stands between two breaks.
+// What is measured of a part, which is what is between two breaks.
 #[derive(Clone, Copy)]
 struct Part {
     width: usize,
@@ -60,7 +60,7 @@ fn scan_part(text: &str) -> (usize, bool)
     (bytes.len(), ascii)
 }
 
-// The first part of a text, and what follows the break behind it, if there is one.
+// The first part of a text, and what follows the break after it, if there is one.
 fn split_part(text: &str) -> (Part, Option<&str>)
     ensures width { result.0.width ≡ spec.text_width (spec.first_of_parts (spec.parts text.now)) }
     ensures nonempty { result.0.nonempty

@@ -46,7 +46,7 @@ impl<'a, T: DocPtr<'a>> Doc<'a, T> {
         Ok(Doc::counted(Text::from_display(alloc, value)?))
     }
 
-    /// A text whose line ends, each LF or CR, are written as they are, with no indent behind them. It keeps the groups
+    /// A text whose line ends, each LF or CR, are written as they are, with no indent after them. It keeps the groups
     /// around it from being flat, and fails under `flatten`. Without one it is as `text` makes it. It takes no memory.
     pub fn multiline_text(alloc: Global, text: CowStr<'a>) -> Result<Self, BuildError>
         ensures { IsOkAnd result (λ d. tree_of T.tree d

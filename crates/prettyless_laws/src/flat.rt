@@ -1,10 +1,10 @@
 ghost use Rattle.prettyless_laws.specs.FlatLines.{WhatFitsLiesOnOneLine, GroupsThatFitAreFlat, BreaksSkipWeakLines, WhatFitsIsTracedOnOneLine, GroupsThatFitAreTracedFlat, TraceBreaksPassWeakLines};
 
-/// A document that the probe finds to fit when flat is laid flat without a failure and without a line break; no text of
-/// it ends past the width, and no pending suffix is laid. A group is laid so wherever its probe answers yes.
+/// Where the probe finds that a document fits when flat, the document is laid flat without a failure and without a line
+/// break; no text of it ends past the width, and no pending suffix is laid. So is a group whose probe answers yes.
 ///
-/// Its trace has gaps and texts alone, each text ending within the width; that of the group has in front that the first
-/// alternative was taken.
+/// The trace of the document has gaps and texts alone, and each text ends within the width. The trace of the group is
+/// the same, after a note that the first alternative was taken.
 pub fn law_flat_group()
     ensures one_line { WhatFitsLiesOnOneLine }
     ensures group { GroupsThatFitAreFlat }

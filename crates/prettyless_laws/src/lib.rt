@@ -1,5 +1,5 @@
-//! Laws over whole layouts, for whoever rewrites documents or compares their layouts. The functions do nothing: their
-//! contracts speak, over the definitions alone.
+//! Laws over whole layouts, for people who rewrite documents or compare their layouts. The functions do nothing: their
+//! contracts are theorems over the definitions.
 #![tactic(auto)]
 
 mod flat;

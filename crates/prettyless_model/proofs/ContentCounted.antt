@@ -18,7 +18,7 @@ use Rattle.prettyless_model.proofs.Endings.{NothingPending, layout_by_ends}
 use Rattle.prettyless_model.proofs.Outcomes.{holds-either, holds-accept}
 use Rattle.prettyless_model.proofs.Writes.{Writes, text_writes, payload_writes, plain_writes}
 
--- the byte stands n times in the bytes and in some word that the pending documents spell, taken together
+-- the byte is n times in the bytes and in some word that the pending documents spell, taken together
 abbrev pub Leaves : ℕ → ℕ → Outcome → Type 0
 Leaves c n (Done b st) = (q : List ℕ) × spells (row st.pending) q × (count c (ink b) + count c q ≡ n)
 Leaves c n (Failed b) = Unit {0}

@@ -23,7 +23,7 @@ use Rattle.prettyless_model.proofs.Merges.{merge_of_first, merge_of_second, merg
 abbrev pub Waits : State → List ℕ → Type 0
 Waits st q = spells (row st.pending) q × (suffix_depth (row st.pending) ≡ 0)
 
--- the bytes interleave the first word with a beginning of the second, whose rest waits behind them
+-- the bytes interleave the first word with a beginning of the second, whose rest is pending after them
 abbrev pub Merges : List ℕ → List ℕ → Outcome → Type 0
 Merges v q (Done b st) = (x : List ℕ) × (rest : List ℕ) × (q ≡ x ++ rest) × IsMerge (ink b) v x × Waits st rest
 Merges v q (Failed b) = Unit {0}

@@ -1,4 +1,4 @@
--- The end of a layout: where it does not fail, nothing is pending behind it.
+-- The end of a layout: where it does not fail, nothing is pending after it.
 use Rattle.std.proofs.Common.{◌≡◌, ℕ, zero, suc, List, [], ◌∷◌, refl}
 use Rattle.prettyless_model.specs.Spaces.{spaces}
 use Rattle.prettyless_model.specs.declared.options.RenderOptions.{RenderOptions}
@@ -7,7 +7,7 @@ use Rattle.prettyless_model.specs.Column.{gap}
 use Rattle.prettyless_model.specs.Layout.{State, Outcome, Done, Failed, Breaks, after_bytes, and_then, lay, lay_each, flushed, end_with, breaks, finish, layout_by, initial}
 use Rattle.prettyless_model.specs.declared.mode.Mode.TheVariants.{Break}
 
--- no document is pending behind an outcome
+-- no document is pending after an outcome
 abbrev pub NothingPending : Outcome → Type 0
 NothingPending (Done b st) = st.pending ≡ []
 NothingPending (Failed b) = Unit {0}

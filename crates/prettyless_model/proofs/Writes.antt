@@ -13,7 +13,7 @@ use Rattle.prettyless_model.specs.declared.metrics.Metrics.{Metrics}
 use Rattle.prettyless_model.proofs.Ink.{ink-spaces, ink-ending, ink-behind}
 use Rattle.prettyless_model.proofs.Outcomes.{holds-either}
 
--- the ink of the bytes is this word, and these documents are pending behind them
+-- the ink of the bytes is this word, and these documents are pending after them
 abbrev pub Writes : List ℕ → List Tree → Outcome → Type 0
 Writes w ps (Done b st) = (ink b ≡ w) × (st.pending ≡ ps)
 Writes w ps (Failed b) = Unit {0}

@@ -1,4 +1,4 @@
--- Columns: where a printer stands on its line.
+-- Columns: where a printer is on its line.
 use Rattle.std.specs.Prelude.{ℕ, ◌+◌, ◌-◌, ◌^◌, Bool, true, false, ◌==◌, ◌||◌, not, nat_le, min, if◌then◌else◌}
 use Rattle.prettyless_model.specs.declared.column.Column.{Column}
 

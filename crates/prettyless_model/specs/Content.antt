@@ -5,7 +5,7 @@ use Rattle.prettyless_model.specs.Tree.{Tree, Nil, Fail, Text, TextWithLen, Mult
 use Rattle.prettyless_model.specs.Layout.{Whole, layout}
 use Rattle.prettyless_model.specs.Spelling.{ink, spells, parts}
 
--- how deep line suffixes stand in one another: 0 where there are none, 1 where none stands inside another
+-- how deep line suffixes are in one another: 0 where there are none, 1 where none is inside another
 abbrev pub suffix_depth : Tree → ℕ
 suffix_depth Nil = 0
 suffix_depth Fail = 0
@@ -54,7 +54,7 @@ LayoutsHaveContent = (o : RenderOptions) (d : Tree) (b : List ℕ) → layout o 
 abbrev pub AppendsContent : Tree → List ℕ → List ℕ → Type 0
 AppendsContent d old new = (b : List ℕ) × (new ≡ old ++ b) × HasContent d b
 
--- the same where it is known what stood there before and afterwards
+-- the same where it is known what was there before and afterwards
 abbrev pub AppendsKnownContent : Tree → Option (List ℕ) → Option (List ℕ) → Type 0
 AppendsKnownContent d (Some old) (Some new) = AppendsContent d old new
 AppendsKnownContent d _ _ = ⊤

@@ -25,7 +25,7 @@ each_probe (t.Group d) m = by_mode m 1 0
 each_probe (t.PartialUnion l r) m = by_mode m 1 0
 each_probe _ m = 0
 
--- what is counted from the state behind an outcome on: nothing where it failed
+-- what is counted from the state after an outcome on: nothing where it failed
 abbrev pub counted_then : Outcome → (State → ℕ) → ℕ
 counted_then (Done b st) next = next st
 counted_then (Failed b) next = 0

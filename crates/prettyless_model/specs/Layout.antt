@@ -21,7 +21,7 @@ pub record State : Type 0 where
   pub pending : List Tree
   pub within : Bool
 
--- the bytes, and the state behind them; or the bytes before the node that failed
+-- the bytes, and the state after them; or the bytes before the node that failed
 pub data Outcome : Type 0 where
   Done : List ℕ → State → Outcome
   Failed : List ℕ → Outcome
@@ -57,7 +57,7 @@ lay_text o w (b ∷ bs) st =
 abbrev pub payload_fits : RenderOptions → Metrics → Column → Bool
 payload_fits o m c = (not m.first_nonempty || nat_le (saturating_add (prospective c) m.first_width) o.width) && nat_le m.rest_width o.width
 
--- the column behind a payload: that of its last part
+-- the column after a payload: that of its last part
 abbrev pub behind_payload : Metrics → Column
 behind_payload m = if m.last_nonempty then commit m.last_width start else start
 
@@ -86,7 +86,7 @@ abbrev pub entries : ℕ → List Tree → List Entry
 entries i [] = []
 entries i (d ∷ ds) = entry i d ∷ entries i ds
 
--- what is read behind the probed document: each document that follows, in Break
+-- what is read after the probed document: each document that follows, in Break
 abbrev pub rest_atoms : List Entry → List Atom
 rest_atoms [] = []
 rest_atoms (e ∷ es) = reading e.tree Break ++ rest_atoms es

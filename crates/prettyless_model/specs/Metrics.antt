@@ -12,7 +12,7 @@ abbrev pub on_first : ℕ → List (List ℕ) → List (List ℕ)
 on_first b [] = (b ∷ []) ∷ []
 on_first b (p ∷ ps) = (b ∷ p) ∷ ps
 
--- what stands between the breaks: the text cut at every LF and at every CR
+-- what is between the breaks: the text cut at every LF and at every CR
 abbrev pub parts : List ℕ → List (List ℕ)
 parts [] = [] ∷ []
 parts (b ∷ bs) = if is_break b then [] ∷ parts bs else on_first b (parts bs)
@@ -46,7 +46,7 @@ abbrev pub later_parts : List (List ℕ) → List (List ℕ)
 later_parts [] = []
 later_parts (p ∷ ps) = ps
 
--- the last of a part and those behind it
+-- the last of a part and those after it
 abbrev pub last_of_parts : List ℕ → List (List ℕ) → List ℕ
 last_of_parts p [] = p
 last_of_parts p (q ∷ qs) = last_of_parts q qs

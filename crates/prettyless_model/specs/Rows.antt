@@ -13,7 +13,7 @@ use Rattle.prettyless_model.specs.Counts.{laid_nodes, laid_probes}
 abbrev pub Shows : ℕ → Tree → List ℕ → Type 0
 Shows width d bytes = layout (options_at width) d ≡ Whole bytes
 
--- at this width the document fails behind these bytes
+-- at this width the document fails after these bytes
 abbrev pub Fails : ℕ → Tree → List ℕ → Type 0
 Fails width d bytes = layout (options_at width) d ≡ Cut bytes
 
@@ -66,7 +66,7 @@ below = Append HardLine (text "x")
 abbrev pub accent : List ℕ
 accent = 0xCC ∷ 0x81 ∷ []
 
--- a letter, and a text for the end of its line behind a weak space
+-- a letter, and a text for the end of its line after a weak space
 abbrev pub noted : Tree
 noted = in_turn (text "a") (WeakSpace ∷ LineSuffix (text "//") ∷ [])
 
@@ -74,7 +74,7 @@ noted = in_turn (text "a") (WeakSpace ∷ LineSuffix (text "//") ∷ [])
 abbrev pub two_lines : String → String → Tree
 two_lines a b = in_turn (text a) (HardLine ∷ text b ∷ [])
 
--- words on one line or on two, with a union behind them
+-- words on one line or on two, with a union after them
 abbrev pub tail : Tree
 tail = in_turn (text "aa") (Group (Append line (text "bb")) ∷ Union Nil (text "cccccccc") ∷ [])
 

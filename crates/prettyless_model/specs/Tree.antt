@@ -23,7 +23,7 @@ pub data Tree : Type 0 where
   Union : Tree → Tree → Tree
   PartialUnion : Tree → Tree → Tree
 
--- how many nodes a tree has; a subtree that stands in several places counts each time
+-- how many nodes a tree has; a subtree that is in several places counts each time
 abbrev pub size : Tree → ℕ
 size Nil = 1
 size Fail = 1

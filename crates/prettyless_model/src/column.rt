@@ -1,7 +1,7 @@
 ghost use Rattle.std.specs.Prelude.{◌≡◌};
 ghost use Rattle.prettyless_model.specs.Column as spec;
 
-/// Where a printer stands on its line, in columns. Sums stop at the greatest `usize`.
+/// Where a printer is on its line, in columns. Sums stop at the greatest `usize`.
 #[derive(Clone, Copy)]
 pub struct Column {
     /// What was written of the line.
@@ -10,7 +10,7 @@ pub struct Column {
     pub indent: usize,
     /// Weak spaces that are not written yet.
     pub padding: usize,
-    /// Whether nothing stands on the line but its indent.
+    /// Whether the line has nothing but its indent.
     pub fresh: bool,
 }
 
@@ -55,7 +55,7 @@ impl Column {
             .saturating_add(self.padding)
     }
 
-    /// The column behind a weak space, which is nothing on a fresh line.
+    /// The column after a weak space, which is nothing on a fresh line.
     pub fn blank(self) -> Self
         ensures { result ≡ spec.blank self }
     {
@@ -84,7 +84,7 @@ impl Column {
         self.indent.saturating_add(self.padding)
     }
 
-    /// The column behind content of this width.
+    /// The column after content of this width.
     pub fn committed(self, width: usize) -> Self
         ensures { result ≡ spec.commit width self }
     {

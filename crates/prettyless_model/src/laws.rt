@@ -9,7 +9,7 @@ pub fn law_levels()
 {}
 
 /// What a document spells is what its layout writes, but for space, CR and LF, where the layout does not fail: in its
-/// order without line suffixes, each byte as often with them, and interleaved where none stands inside another.
+/// order without line suffixes, each byte as often with them, and interleaved where none is inside another.
 pub fn law_content()
     ensures { LayoutsHaveContent }
 {}

@@ -1,6 +1,6 @@
 /// What is measured of a payload, a text that holds line breaks of its own. Widths are columns.
 ///
-/// A part is what stands between two breaks, each LF or CR.
+/// A part is what is between two breaks, each LF or CR.
 #[derive(Clone, Copy)]
 pub struct Metrics {
     pub first_width: usize,

@@ -24,7 +24,7 @@ impl LineEnding {
     }
 }
 
-/// When the indent of a line is written: at its beginning, or once something stands on the line.
+/// When the indent of a line is written: at its beginning, or with its first content.
 #[derive(Clone, Copy, Debug, Default, PartialEq, Eq)]
 pub enum IndentationPolicy {
     /// At the line's beginning, also where no text follows on the line.

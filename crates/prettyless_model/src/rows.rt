@@ -6,7 +6,7 @@ ghost use Rattle.prettyless_model.specs.Layout.{layout, Whole};
 ghost use Rattle.prettyless_model.specs.Spelling.{ink, parts, spells};
 ghost use Rattle.prettyless_model.specs.Rows.{Counts, Fails, Shows, accent, below, crlf_at, deferred_at, flat_or_failed, in_turn, line, noted, numbers, pair, remarked, tail, text, tight_pair, two_lines};
 
-/// A group stands on one line where it fits, and is broken where it does not.
+/// A group is laid on one line where it fits, and is broken where it does not.
 pub fn groups()
     ensures numbers_fit { Shows 10 numbers (codes "(1 2 3)") }
     ensures numbers_break { Shows 5 numbers (codes "(1\n 2\n 3)") }
@@ -58,7 +58,7 @@ pub fn weak_lines()
     ensures spaces_at_both_ends { Shows 80 (in_turn WeakSpace (text "a" ∷ WeakSpace ∷ [])) (codes "a") }
 {}
 
-/// A payload goes out byte for byte. It breaks the group that it stands in, and its first line counts for what is
+/// A payload goes out byte for byte. It breaks the group that it is in, and its first line counts for what is
 /// before it.
 pub fn payloads()
     ensures as_it_is { Shows 80 (MultilineText (codes "a\r\n\nb\n")) (codes "a\r\n\nb\n") }
@@ -135,7 +135,7 @@ pub fn alternatives()
         ≡ Whole (codes "z\r\nw") }
 {}
 
-/// A document fails behind what is before the node that fails. A branch that fails is not kept, and what is not laid does
+/// A document fails after what is before the node that fails. A branch that fails is not kept, and what is not laid does
 /// not fail.
 pub fn failures()
     ensures at_once { Fails 80 (Group Fail) [] }

@@ -1,4 +1,4 @@
--- The trees that pointers stand for.
+-- The trees of pointers.
 use Rattle.prettyless_model.specs.Tree.{Tree}
 use Rattle.prettyless_doc.specs.DocTree.{tree_of}
 use Rattle.prettyless_pointers.specs.declared.arena.RefDoc.{RefDoc, fold-RefDoc}

@@ -58,7 +58,7 @@ impl<'a> Pretty<'a, Arena<'a>> for RefDoc<'a> {
     }
 }
 
-/// The call `into_ref` of a builder over an arena. It stands in a trait, since `DocBuilder` is of another crate.
+/// The call `into_ref` of a builder over an arena. It is a call of a trait, since `DocBuilder` is of another crate.
 pub trait IntoRef<'a> {
     // the tree of the document that it is
     ghost tree: { Self → Tree };
@@ -93,7 +93,7 @@ pub struct Arena<'a> {
 }
 
 impl<'a> Arena<'a> {
-    /// Nodes, and the owned texts in them, will stand in `bump`. A text is first made in memory from `alloc`.
+    /// Nodes, and the owned texts in them, will be in `bump`. A text is first made in memory from `alloc`.
     pub fn new(alloc: Global, bump: &'a Bump) -> Self {
         Arena {
             memory: alloc,

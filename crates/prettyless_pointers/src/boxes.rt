@@ -39,7 +39,7 @@ impl<'a> BoxDoc<'a> {
 }
 
 // A chain of appended documents is as deep as it is long, so a tree is taken apart in a loop, which asks for no
-// memory and takes the same stack at any depth. Where a pair (a, b) stands in front of c, what is left to drop
+// memory and takes the same stack at any depth. Where a pair (a, b) is in front of c, what is left to drop
 // becomes a in front of (b, c), and the box that (a, b) had takes (b, c).
 impl<'a> Drop for BoxDoc<'a> {
     fn drop(self) {

@@ -1,4 +1,4 @@
-//! A boxed document is copied in a loop, which takes the same stack at any depth. What is copied stands in nodes that
+//! A boxed document is copied in a loop, which takes the same stack at any depth. What is copied is in nodes that
 //! are still to be made: a node is made once all that it holds is copied.
 ghost use Rattle.std.specs.Prelude.{◌≡◌, ◌+◌, ◌<◌, OnOk, IfOk, IfErr, IfSome, MatchOption};
 ghost use Rattle.prettyless_doc.specs.BuildErrors.{IsMemory};

@@ -55,7 +55,7 @@ fn payload<'a, D: DocPlace<'a>>(place: &'a D) -> Result<Row<'a, D::Doc>, BuildEr
     whole(place, 80, alone, "a\r\n\nb\n")
 }
 
-fn payload_behind_a_suffix<'a, D: DocPlace<'a>>(
+fn payload_after_a_suffix<'a, D: DocPlace<'a>>(
     place: &'a D,
 ) -> Result<Row<'a, D::Doc>, BuildError> {
     let payload = multiline_text(CowStr::Borrowed("\"b\nc\""));
@@ -112,7 +112,7 @@ fn rows<'a, D: DocPlace<'a>>(place: &'a D) -> Result<Vec<Row<'a, D::Doc>>, Build
     push(&mut rows, text(place))?;
     push(&mut rows, nested_suffixes(place))?;
     push(&mut rows, payload(place))?;
-    push(&mut rows, payload_behind_a_suffix(place))?;
+    push(&mut rows, payload_after_a_suffix(place))?;
     push(&mut rows, second_line_too_long(place))?;
     push(&mut rows, kept(place))?;
     push(&mut rows, pending(place))?;

@@ -123,16 +123,16 @@ fn alternatives<'a>(arena: &'a Arena<'a>, depth: usize) -> Result<RefDoc<'a>, Bu
 }
 
 // A letter in front of them.
-fn behind_a_letter<'a>(arena: &'a Arena<'a>, depth: usize) -> Result<RefDoc<'a>, BuildError> {
+fn after_a_letter<'a>(arena: &'a Arena<'a>, depth: usize) -> Result<RefDoc<'a>, BuildError> {
     append(arena, text(arena, "p")?, alternatives(arena, depth)?)
 }
 
 // Every node of the alternatives is visited once, though all but the last are rejected.
 #[test]
-fn alternatives_are_taken_up_once(rt: HostRuntime) -> Result<(), Fail> {
+fn alternatives_are_visited_once(rt: HostRuntime) -> Result<(), Fail> {
     let bump = Bump::new(rt.alloc());
     let arena = Arena::new(rt.alloc(), &bump);
-    let document = behind_a_letter(&arena, 64)?;
+    let document = after_a_letter(&arena, 64)?;
     assert_eq!(rt; arena.len(), 387);
     let visits = compare(&rt, rt.alloc(), document, 4, "px")?;
     assert_eq!(rt; visits.printer, 387);

@@ -255,10 +255,10 @@ fn ending_of_text<W: TextWriter>(
 fn ending_of_pieces(
     memory: Global,
     row: &BoxRow<'_>,
-    told: bool,
+    known: bool,
     writer: &mut ByPieces,
 ) -> Result<Ending<fmt::Error>, Fail> {
-    if told {
+    if known {
         ending_of_text(memory, row, writer)
     } else {
         ending_of_text(memory, row, &mut Untold(writer))
@@ -301,7 +301,7 @@ fn compare_pieces(
     rt: &impl Abort,
     memory: Global,
     row: &BoxRow<'_>,
-    told: bool,
+    known: bool,
     wrong_piece: usize,
 ) -> Result<bool, Fail> {
     let mut writer = ByPieces {
@@ -310,7 +310,7 @@ fn compare_pieces(
         bytes: Vec::new(memory),
         failures: 0,
     };
-    let ending = ending_of_pieces(memory, row, told, &mut writer)?;
+    let ending = ending_of_pieces(memory, row, known, &mut writer)?;
     let comes = writer.failures != 0;
     if comes {
         compare_ended_pieces(rt, row.layout, &writer, &ending);
@@ -325,10 +325,10 @@ fn compare_all_pieces(
     rt: &impl Abort,
     memory: Global,
     row: &BoxRow<'_>,
-    told: bool,
+    known: bool,
 ) -> Result<(), Fail> {
     for wrong_piece in 1..100 {
-        if !compare_pieces(rt, memory, row, told, wrong_piece)? {
+        if !compare_pieces(rt, memory, row, known, wrong_piece)? {
             return Ok(());
         }
     }

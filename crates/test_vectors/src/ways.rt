@@ -152,6 +152,6 @@ fn compare_before<'a, D: DocPlace<'a>>(rt: &impl Abort, place: &'a D) -> Result<
 }
 
 #[test]
-fn fails_behind_what_stands_before(rt: HostRuntime) -> Result<(), Fail> {
+fn fails_after_what_comes_before(rt: HostRuntime) -> Result<(), Fail> {
     compare_before(&rt, &BoxAllocator::new(rt.alloc()))
 }

@@ -8,7 +8,7 @@ use Rattle.prettyless_doc.proofs.display.print.Goals as goal
 abbrev took : Printer → List ℕ → Printer → Type 0
 took p bs q = bytes_so_far q.text ≡ bytes_so_far p.text ++ bs
 
--- what a value writes in pieces stands at the end
+-- what a value writes in pieces is at the end
 added : (p q : Printer) (o : Option (List ℕ)) → WritesText took p o q → IfSome o (λ bs. took p bs q)
 added p q None h = tt
 added p q (Some bs) h = contents_after_writes took (λ r. bytes_so_far r.text) (λ _ _ _ e. e) p bs q h

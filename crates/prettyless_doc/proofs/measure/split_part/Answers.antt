@@ -4,7 +4,7 @@ use Rattle.prettyless_model.specs.Metrics.{text_width, parts}
 use Rattle.prettyless_doc.proofs.Parts.{first-front, first-nonempty, later-inside, later-end, break-ascii}
 use Rattle.prettyless_doc.proofs.measure.split_part.Goals as goal
 
--- a text may be cut behind a break
+-- a text may be cut after a break
 pub range_from-requires : goal.range_from-requires
 range_from-requires c =
     λ _. (
