@@ -1,15 +1,25 @@
 //! What a caller chooses of a layout.
 ghost use Rattle.std.specs.Prelude.{◌≡◌};
 ghost use Rattle.prettyless_model.specs.Options.{ending, options_at};
+ghost use Rattle.prettyless_model.specs.declared.options.LineEnding.TheVariants.{Lf};
+ghost use Rattle.prettyless_model.specs.declared.options.IndentationPolicy.TheVariants.{Eager};
 
 /// How a line of the layout ends.
-#[derive(Clone, Copy, Debug, Default, PartialEq, Eq)]
+#[derive(Clone, Copy, Debug, PartialEq, Eq)]
 pub enum LineEnding {
     /// By the byte 10.
-    #[default]
     Lf,
     /// By the bytes 13 and 10.
     Crlf,
+}
+
+impl Default for LineEnding {
+    ghost is_default = { λ ending. ending ≡ Lf };
+
+    /// LF.
+    fn default() -> Self {
+        Self::Lf
+    }
 }
 
 impl LineEnding {
@@ -25,14 +35,22 @@ impl LineEnding {
 }
 
 /// When the indent of a line is written: at its beginning, or with its first content.
-#[derive(Clone, Copy, Debug, Default, PartialEq, Eq)]
+#[derive(Clone, Copy, Debug, PartialEq, Eq)]
 pub enum IndentationPolicy {
     /// At the line's beginning, also where no text follows on the line.
-    #[default]
     Eager,
     /// Before the first content of the line: a text that is not empty, a payload whose first line is not empty, or a
     /// pending suffix. A line without one gets no indent.
     Deferred,
+}
+
+impl Default for IndentationPolicy {
+    ghost is_default = { λ policy. policy ≡ Eager };
+
+    /// At the line's beginning.
+    fn default() -> Self {
+        Self::Eager
+    }
 }
 
 /// What a caller chooses of a layout.
@@ -44,6 +62,15 @@ pub struct RenderOptions {
     pub line_ending: LineEnding,
     /// When the spaces of an indent are written.
     pub indentation_policy: IndentationPolicy,
+}
+
+impl Default for RenderOptions {
+    ghost is_default = { λ options. options ≡ options_at 80 };
+
+    /// 80 columns, with lines that end in LF and indents that are written at once.
+    fn default() -> Self {
+        Self::new(80)
+    }
 }
 
 impl RenderOptions {

@@ -192,7 +192,7 @@ meets_rise {a} {b} {v} {w} r h = record { printer = omega (arith, h each_node, r
 -- one node was counted, and the probe that it asks
 pub record OneLaid {N : Type 0} (f : N → Tree) (p : Printer N) (t : Task) (ts : List Task) (v w : Visits) : Type 0 where
   pub stack_is : stack_of f p.commands.items ≡ t ∷ ts
-  pub printer : w.printer ≡ rise v.printer
+  pub printer : rise v.printer ≤ w.printer
   pub probes : RisesBy (each_probe t.tree t.mode) v.probes w.probes
 
 -- the node that was counted is the one on top

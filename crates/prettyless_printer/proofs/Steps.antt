@@ -1,14 +1,16 @@
 -- A step takes more work away than it brings.
-use Rattle.std.proofs.Common.{◌≡◌, ℕ, ◌+◌, ◌*◌, ◌<◌, List, [], ◌∷◌, ◌++◌, length, arith, Bool, true, false, Option, Some, None, if◌then◌else◌}
+use Rattle.std.proofs.Common.{◌≡◌, ℕ, ◌+◌, ◌-◌, ◌*◌, ◌<◌, ◌≤◌, List, [], ◌∷◌, ◌++◌, length, arith, Bool, true, false, Option, Some, None, if◌then◌else◌}
 use Rattle.prettyless_model.specs.declared.options.RenderOptions.{RenderOptions}
 use Rattle.prettyless_model.specs.declared.options.IndentationPolicy.{IndentationPolicy}
 use Rattle.prettyless_model.specs.declared.options.IndentationPolicy.TheVariants.{Eager, Deferred}
 use Rattle.prettyless_model.specs.Tree.{Tree, Nil, Fail, Text, TextWithLen, MultilineText, WeakSpace, HardLine, WeakLine, Append, LineSuffix, Nest, DedentToRoot, Align, ExpandParent, Flatten, BreakOrFlat, Group, Union, PartialUnion, size}
-use Rattle.prettyless_model.specs.Layout.{State, Done, Entry, lay_text, lay_ending, next_indent, is_suppressed, plain_break, probe}
+use Rattle.prettyless_model.specs.Metrics.{metrics}
+use Rattle.prettyless_model.specs.Layout.{State, Done, Entry, lay_text, lay_ending, next_indent, is_suppressed, plain_break, payload_fits, probe}
 use Rattle.prettyless_model.specs.declared.mode.Mode.{Mode}
 use Rattle.prettyless_model.specs.declared.mode.Mode.TheVariants.{Break, Flat}
 use Rattle.prettyless_step.specs.Stack.{Task, make_task, tasks, nodes}
-use Rattle.prettyless_step.specs.Steps.{Step, Move, Stuck, Choose, step_of, union_step, decided_by_metrics, break_step, at_once, owed}
+use Rattle.prettyless_step.specs.Steps.{Step, Move, Stuck, Choose, step_of, union_step, decided_by_metrics, is_rejected, rejects_payload, break_step, at_once, owed}
+use Rattle.prettyless_step.proofs.Sizes.{size_positive}
 
 -- the step leaves less work than n, where p is owed for the documents that wait
 abbrev pub LeavesLess : ℕ → ℕ → Step → Type 0
@@ -75,3 +77,35 @@ step_less o (Union l r) i Break rest st = union_less l r i st (decided_by_metric
 step_less o (Union l r) i Flat rest st = omega arith
 step_less o (PartialUnion l r) i Break rest st = omega (arith, either_less l r (2 * size l + 2 * size r + 1) (probe o l Break rest st) (omega arith))
 step_less o (PartialUnion l r) i Flat rest st = omega arith
+
+-- how many visits a step adds to that of its node: one where it rejects a payload
+abbrev pub extra : Bool → ℕ
+extra true = 1
+extra false = 0
+
+less_by : (p n : ℕ) (step : Step) → LeavesLess p n step → LeavesLess p (n - 2 * 0) step
+less_by p n (Move b pushed u) h = omega arith
+less_by p n Stuck h = tt
+less_by p n (Choose i l r) h = omega arith
+
+payload_less : (s : List ℕ) (r : Tree) (i : ℕ) (st : State) (v : Bool) →
+    LeavesLess (owed st.pending) (2 * (size (MultilineText s) + size r + 1) + owed st.pending - 2 * extra (is_rejected (Some v))) (union_step (Some v) (MultilineText s) r i st)
+payload_less s r i st true = omega arith
+payload_less s r i st false = omega arith
+
+-- the same, where the visit of a payload that is rejected takes a node too
+pub step_less_visits : (o : RenderOptions) (d : Tree) (i : ℕ) (m : Mode) (rest : List Entry) (st : State) →
+    LeavesLess (owed st.pending) (2 * size d + owed st.pending - 2 * extra (rejects_payload o d m st)) (step_of o d i m rest st)
+step_less_visits o (Union (MultilineText s) r) i Break rest st = payload_less s r i st (payload_fits o (metrics s) st.column)
+step_less_visits o (Union l r) i Break rest st = less_by (owed st.pending) (2 * (size l + size r + 1) + owed st.pending) (union_step (decided_by_metrics o l st) l r i st) (union_less l r i st (decided_by_metrics o l st))
+step_less_visits o d i m rest st = less_by (owed st.pending) (2 * size d + owed st.pending) (step_of o d i m rest st) (step_less o d i m rest st)
+
+extra_rejected : (v : Option Bool) → extra (is_rejected v) ≤ 1
+extra_rejected (Some true) = omega arith
+extra_rejected (Some false) = omega arith
+extra_rejected None = omega arith
+
+-- the nodes of a document are no fewer than what its step visits
+pub visits_within : (o : RenderOptions) (d : Tree) (m : Mode) (st : State) → extra (rejects_payload o d m st) + 1 ≤ size d
+visits_within o (Union l r) Break st = omega (arith, extra_rejected (decided_by_metrics o l st), size_positive l)
+visits_within o d m st = omega (arith, size_positive d)

@@ -1,9 +1,10 @@
 -- The visits of a step, of a turn, and of turns in a row.
-use Rattle.std.proofs.Common.{◌≡◌, ℕ, ◌+◌, ◌*◌, ◌≤◌, List, [], ◌∷◌, ◌++◌, arith, refl, ap, sym, ◌∙◌, Bool, true, false, Option, Some, None, Result, Ok, Err, if◌then◌else◌, length}
+use Rattle.std.proofs.Common.{◌≡◌, ℕ, ◌+◌, ◌-◌, ◌*◌, ◌≤◌, List, [], ◌∷◌, ◌++◌, arith, refl, ap, sym, ◌∙◌, Bool, true, false, Option, Some, None, Result, Ok, Err, if◌then◌else◌, length}
 use Rattle.std.specs.Result.{IsErr}
 use Rattle.prettyless_model.specs.declared.options.RenderOptions.{RenderOptions}
 use Rattle.prettyless_model.specs.declared.options.IndentationPolicy.{IndentationPolicy}
 use Rattle.prettyless_model.specs.declared.options.IndentationPolicy.TheVariants.{Eager, Deferred}
+use Rattle.prettyless_sink.specs.Sink.{rise}
 use Rattle.prettyless_sink.specs.declared.visits.Visits.{Visits}
 use Rattle.prettyless_model.specs.Tree.{Tree, Nil, Fail, Text, TextWithLen, MultilineText, WeakSpace, HardLine, WeakLine, Append, LineSuffix, Nest, DedentToRoot, Align, ExpandParent, Flatten, BreakOrFlat, Group, Union, PartialUnion, size, probed}
 use Rattle.prettyless_model.specs.Content.{suffix_depth}
@@ -11,15 +12,29 @@ use Rattle.prettyless_model.specs.Layout.{State, Done, Entry, lay_text, lay_endi
 use Rattle.prettyless_model.specs.declared.mode.Mode.{Mode}
 use Rattle.prettyless_model.specs.declared.mode.Mode.TheVariants.{Break, Flat}
 use Rattle.prettyless_step.specs.Stack.{Task, make_task, follow, nodes, stack_of}
-use Rattle.prettyless_step.specs.Steps.{Step, Move, Stuck, Choose, step_of, union_step, decided_by_metrics, break_step, at_once, owed}
+use Rattle.prettyless_step.specs.Steps.{Step, Move, Stuck, Choose, step_of, union_step, decided_by_metrics, break_step, at_once, counted_payload, rejects_payload, owed}
 use Rattle.prettyless_step.specs.Printing.{state_of, ShowsAt, TookNext, TookWriting, WritesAt}
 use Rattle.prettyless_printer.specs.Visits.{suffixes, Plain, charges, Rise, Pays, RunPays, Visited}
 use Rattle.prettyless_step.specs.declared.printer.Printer.{Printer}
 use Rattle.prettyless_step.specs.declared.printer.Taken.TheVariants.{Failed, Chosen}
 use Rattle.prettyless_step.specs.Probing.{asked}
-use Rattle.prettyless_step.proofs.Sizes.{size_positive}
 use Rattle.prettyless_step.proofs.Stacks.{nodes-append}
-use Rattle.prettyless_printer.proofs.Steps.{LeavesLess, step_less}
+use Rattle.prettyless_printer.proofs.Steps.{LeavesLess, extra, step_less_visits, visits_within}
+
+-- a visit more at most where a payload is rejected, and no visit less
+pub payload_visits-least : (b : Bool) (v w x : ℕ) → w ≡ rise v → x ≡ counted_payload b w → rise v ≤ x
+payload_visits-least true v w x h k = omega arith
+payload_visits-least false v w x h k = omega arith
+
+pub payload_visits-most : (b : Bool) (v w x : ℕ) → w ≡ rise v → x ≡ counted_payload b w → x ≤ rise (rise v)
+payload_visits-most true v w x h k = omega arith
+payload_visits-most false v w x h k = omega arith
+
+pub payload_visits-plus : (b : Bool) (v w x : ℕ) → w ≡ rise v → x ≡ counted_payload b w → x ≤ v + 1 + extra b
+payload_visits-plus true v w x h k = omega arith
+payload_visits-plus false v w x h k = omega arith
+
+pub ruleset payload_visits = (payload_visits-least, payload_visits-most)
 
 -- what a node asks for is paid by it
 pub asked_paid : (d : Tree) (k n : ℕ) → size d + k ≤ n → asked d k ≤ n * probed d
@@ -109,20 +124,20 @@ charges-append : (n : ℕ) (ts us : List Task) → charges n (ts ++ us) ≡ char
 charges-append n [] us = omega arith
 charges-append n (t ∷ ts) us = omega (arith, charges-append n ts us)
 
--- one node was taken up, and what it asked for
+-- one node was visited, a payload that it rejected, and what it asked for
 pub record OneMore {N : Type 0} (f : N → Tree) (p : Printer N) (t : Task) (ts : List Task) (v w : Visits) : Type 0 where
   pub stack_is : stack_of f p.commands.items ≡ t ∷ ts
-  pub printer : w.printer ≤ v.printer + 1
+  pub printer : w.printer ≤ v.printer + 1 + extra (rejects_payload p.options t.tree t.mode (state_of f p))
   pub probes : w.probes ≤ v.probes + asked t.tree (nodes ts)
 
 abbrev Stepped : {N : Type 0} → (N → Tree) → Printer N → Task → List Task → Step → Type 0
 Stepped f p t ts step =
-    LeavesLess (owed (state_of f p).pending) (2 * size t.tree + owed (state_of f p).pending) step
+    LeavesLess (owed (state_of f p).pending) (2 * size t.tree + owed (state_of f p).pending - 2 * extra (rejects_payload p.options t.tree t.mode (state_of f p))) step
     × ((n : ℕ) → size t.tree + nodes ts ≤ n → StepPays n (asked t.tree (nodes ts)) (n * probed t.tree) step)
 
 stepped : {N : Type 0} (f : N → Tree) (p : Printer N) (t : Task) (ts : List Task) → stack_of f p.commands.items ≡ t ∷ ts → Plain f p → Stepped f p t ts (step_of p.options t.tree t.indent t.mode (follow ts) (state_of f p))
 stepped {N} f p t ts e plain = (
-  step_less p.options t.tree t.indent t.mode (follow ts) (state_of f p),
+  step_less_visits p.options t.tree t.indent t.mode (follow ts) (state_of f p),
   λ n l. step_pays p.options t.tree t.indent t.mode (follow ts) (state_of f p) n (nodes ts) (omega (arith, plain.none, ap suffixes e)) plain.pending l,
 )
 
@@ -132,7 +147,7 @@ went_by : {N : Type 0} (f : N → Tree) (p q : Printer N) (bytes : List ℕ) (v 
 went_by {N} f p q bytes v w t ts (Move b pushed u) more plain s h =
     let a = s.1 (size t.tree + nodes ts) (omega arith) in
     let none : owed (state_of f p).pending ≡ 0 = ap owed plain.pending in
-    let less : nodes pushed + 1 ≤ size t.tree = omega (arith, s.0, none) in (
+    let less : nodes pushed + 1 + extra (rejects_payload p.options t.tree t.mode (state_of f p)) ≤ size t.tree = omega (arith, s.0, none) in (
       record {
         none = omega (arith, ap suffixes h.1, suffixes-append pushed ts, a.0, plain.none, ap suffixes more.stack_is);
         pending = ap (λ (x : State). x.pending) h.2 ∙ a.1;
@@ -153,7 +168,7 @@ failed_by : {N : Type 0} (f : N → Tree) (p q : Printer N) (v w : Visits) (t : 
 failed_by {N} f p q v w t ts (Move b pushed u) more h = absurd h
 failed_by {N} f p q v w t ts Stuck more h = record {
   left = omega (arith, ap nodes h, ap nodes more.stack_is);
-  printer = omega (arith, more.printer, size_positive t.tree, ap nodes h, ap nodes more.stack_is);
+  printer = omega (arith, more.printer, visits_within p.options t.tree t.mode (state_of f p), ap nodes h, ap nodes more.stack_is);
   probes = λ n l. omega (arith, asked_paid t.tree (nodes ts) n (omega (arith, l, ap nodes more.stack_is)), more.probes, ap (charges n) h, ap (charges n) more.stack_is);
 }
 failed_by {N} f p q v w t ts (Choose i x y) more h = absurd h
@@ -166,7 +181,7 @@ chosen_by {N} f p q i a b v w t ts (Move c pushed u) more plain s h = absurd h
 chosen_by {N} f p q i a b v w t ts Stuck more plain s h = absurd h
 chosen_by {N} f p q i a b v w t ts (Choose j x y) more plain s h =
     let z = s.1 (size t.tree + nodes ts) (omega arith) in
-    let less : size (f a) + size (f b) + 1 ≤ size t.tree = omega (arith, s.0, ap size h.1, ap size h.2) in (
+    let less : size (f a) + size (f b) + 1 + extra (rejects_payload p.options t.tree t.mode (state_of f p)) ≤ size t.tree = omega (arith, s.0, ap size h.1, ap size h.2) in (
       record {
         none = omega (arith, ap suffixes h.3, plain.none, ap suffixes more.stack_is);
         pending = ap (λ (x : State). x.pending) h.4 ∙ plain.pending;
@@ -190,7 +205,7 @@ one_more {N} f p s t rest ts v w more e =
     let b : rest ≡ ts = cc in
     record {
       stack_is = e;
-      printer = more.printer;
+      printer = omega (arith, more.printer, ap (λ (x : Task). extra (rejects_payload p.options x.tree x.mode (state_of f p))) a);
       probes = omega (arith, more.probes, ap (λ (x : Task). asked x.tree (nodes rest)) a, ap (λ (x : List Task). asked t.tree (nodes x)) b);
     }
 
@@ -213,7 +228,7 @@ chosen_pays {N} f p q i a b v w s rest more h plain =
 pub broke_pays : {N : Type 0} (f : N → Tree) (p : Printer N) (v w : Visits) (t : Task) (ts : List Task) → OneMore f p t ts v w → Pays (stack_of f p.commands.items) [] v w
 broke_pays {N} f p v w t ts more = record {
   left = omega arith;
-  printer = omega (arith, more.printer, size_positive t.tree, ap nodes more.stack_is);
+  printer = omega (arith, more.printer, visits_within p.options t.tree t.mode (state_of f p), ap nodes more.stack_is);
   probes = λ n l. omega (arith, asked_paid t.tree (nodes ts) n (omega (arith, l, ap nodes more.stack_is)), more.probes, ap (charges n) more.stack_is);
 }
 

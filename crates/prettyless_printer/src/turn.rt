@@ -1,5 +1,5 @@
 //! A turn: a command is taken, stepped and written.
-ghost use Rattle.std.specs.Prelude.{◌≡◌, ◌<◌, OnOk, IfOk, vec_len};
+ghost use Rattle.std.specs.Prelude.{◌≡◌, ◌<◌, ◌≤◌, OnOk, IfOk, vec_len};
 ghost use Rattle.prettyless_sink.specs.Sink.{IfKnown, rise};
 ghost use Rattle.prettyless_step.specs.Printing.{Grows};
 ghost use Rattle.prettyless_printer.specs.Turns.{Lessens, Turned};
@@ -16,8 +16,9 @@ use prettyless_step::stack::pop_command;
 use prettyless_step::step::step;
 use prettyless_step::walk::Walk;
 
-/// Takes the next command, and writes what it gives. The command is a visit.
+/// Takes the next command, and writes what it gives. The command is a visit, and so is a payload that its step rejects.
 #[inline(always)]
+#[tactic(auto, using(crate::proofs::Visits::payload_visits))]
 pub fn turn<N: Walk, W: Render>(
     printer: &mut Printer<N>,
     out: &mut W,
@@ -30,7 +31,8 @@ pub fn turn<N: Walk, W: Render>(
     ensures same_lender { W.lender out.new ≡ W.lender out.old }
     ensures told { IfKnown (W.bytes out.old) (W.bytes out.new) (λ before after.
         Turned N.tree printer.old printer.new before after (W.failures out.old) (W.failures out.new) result) }
-    ensures one { visits.new.printer ≡ rise visits.old.printer }
+    ensures one { rise visits.old.printer ≤ visits.new.printer }
+    ensures two { visits.new.printer ≤ rise (rise visits.old.printer) }
     ensures rise { Rise visits.old visits.new }
     ensures pays { Plain N.tree printer.old → TurnPays N.tree printer.old printer.new visits.old visits.new result }
     ensures meets { TurnMeets N.tree printer.old printer.new visits.old visits.new result }
@@ -39,7 +41,7 @@ pub fn turn<N: Walk, W: Render>(
         unreachable!()
     };
     visits.printer = one_more(visits.printer);
-    match step(printer, &command, &mut visits.probes) {
+    match step(printer, &command, visits) {
         Err(e) => Err(RenderError::Memory(e)),
         Ok(Taken::Quiet) => Ok(Turn::Went),
         Ok(Taken::Failed) => Ok(Turn::Failed),

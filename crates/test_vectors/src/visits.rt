@@ -12,7 +12,10 @@ const PAIR: &str = "Group Append Append Text 'a' BreakOrFlat HardLine Text ' ' T
 const LINES: &str = "Union Append Append Text 'short' HardLine Text 'long long long' \
                      Append Append Text 'short' HardLine Text 'short'";
 
-const CASES: [Case<'static>; 6] = [
+// At a width of 3 the metrics reject the payload.
+const PAYLOAD: &str = "Union MultilineText 'long\nb' Text 'c'";
+
+const CASES: [Case<'static>; 8] = [
     // A group asks one probe, which ends at the first text past the width.
     (80, PAIR, 7, 6),
     (2, PAIR, 7, 6),
@@ -20,6 +23,9 @@ const CASES: [Case<'static>; 6] = [
     (0, PAIR, 7, 3),
     // A rejected branch is visited once, and so is the second.
     (10, LINES, 11, 0),
+    // A payload as the first branch of a union is visited, kept or not; where it is rejected, so is the second branch.
+    (80, PAYLOAD, 2, 0),
+    (3, PAYLOAD, 3, 0),
     (80, "Nil", 1, 0),
 ];
 

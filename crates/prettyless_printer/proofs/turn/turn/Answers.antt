@@ -3,11 +3,12 @@ use Rattle.prettyless_sink.specs.Sink.{known}
 use Rattle.prettyless_sink.specs.declared.visits.Visits.{Visits}
 use Rattle.prettyless_step.specs.Stack.{stack_of, task}
 use Rattle.prettyless_step.specs.Piece.{piece_bytes}
-use Rattle.prettyless_step.specs.Printing.{TookNext}
+use Rattle.prettyless_step.specs.Steps.{rejects_payload}
+use Rattle.prettyless_step.specs.Printing.{TookNext, state_of}
 use Rattle.prettyless_step.proofs.Stacks.{length-stack_of}
 use Rattle.prettyless_step.proofs.Shown.{took}
 use Rattle.prettyless_printer.proofs.Turnings.{went, lessens, failed, chosen, choice_lessens, sink_broke}
-use Rattle.prettyless_printer.proofs.Visits.{OneMore, went_pays, failed_pays, chosen_pays, broke_pays}
+use Rattle.prettyless_printer.proofs.Visits.{OneMore, payload_visits-least, payload_visits-plus, went_pays, failed_pays, chosen_pays, broke_pays}
 use Rattle.prettyless_printer.proofs.Meets.{OneLaid, went_meets, chosen_meets}
 use Rattle.prettyless_printer.proofs.turn.turn.Goals as goal
 
@@ -170,10 +171,10 @@ returns-in-Ok-Chosen-clause-pays g c =
     let p = c.args.printer.now in
     let q = c.step.new.printer in
     let rest = stack_of f c.pop_command.new.stack.items in
-    let w : Visits = record { printer = c.one_more-visits.result; probes = c.step.new.probes } in
+    let w : Visits = c.step.new.visits in
     let k = took f p (record p { commands = c.pop_command.new.stack }) q c.in-Some.command c.in-Ok-Chosen.field-0 c.in-Some.ensures refl refl refl c.in-Ok-Chosen.ensures.step in
     let h = subst (TookNext f p q) c.in-Ok-Chosen.field-0-is k in
-    let more : OneMore f p (task f c.in-Some.command) rest c.args.visits.now w = record { stack_is = c.in-Some.ensures; printer = c.one_more-visits.ensures.at_most; probes = c.step.ensures.counted } in
+    let more : OneMore f p (task f c.in-Some.command) rest c.args.visits.now w = record { stack_is = c.in-Some.ensures; printer = payload_visits-plus (rejects_payload p.options (f c.in-Some.command.node) c.in-Some.command.mode (state_of f p)) c.args.visits.now.printer c.one_more-visits.result w.printer c.one_more-visits.ensures.one c.step.ensures.printer; probes = c.step.ensures.counted } in
     chosen_pays f p q c.in-Ok-Chosen.indent c.in-Ok-Chosen.first c.in-Ok-Chosen.second c.args.visits.now w (task f c.in-Some.command) rest more h
 
 pub returns-in-Ok-clause-pays : goal.returns-in-Ok-clause-pays
@@ -182,10 +183,10 @@ returns-in-Ok-clause-pays g c =
     let p = c.args.printer.now in
     let q = c.step.new.printer in
     let rest = stack_of f c.pop_command.new.stack.items in
-    let w : Visits = record { printer = c.one_more-visits.result; probes = c.step.new.probes } in
+    let w : Visits = c.step.new.visits in
     let k = took f p (record p { commands = c.pop_command.new.stack }) q c.in-Some.command c.in-Ok-Written.field-0 c.in-Some.ensures refl refl refl c.in-Ok-Written.ensures.step in
     let h = subst (TookNext f p q) c.in-Ok-Written.field-0-is k in
-    let more : OneMore f p (task f c.in-Some.command) rest c.args.visits.now w = record { stack_is = c.in-Some.ensures; printer = c.one_more-visits.ensures.at_most; probes = c.step.ensures.counted } in
+    let more : OneMore f p (task f c.in-Some.command) rest c.args.visits.now w = record { stack_is = c.in-Some.ensures; printer = payload_visits-plus (rejects_payload p.options (f c.in-Some.command.node) c.in-Some.command.mode (state_of f p)) c.args.visits.now.printer c.one_more-visits.result w.printer c.one_more-visits.ensures.one c.step.ensures.printer; probes = c.step.ensures.counted } in
     went_pays f p q (piece_bytes c.in-Ok-Written.piece) c.args.visits.now w (task f c.in-Some.command) rest more h
 
 pub returns-in-Ok-Quiet-clause-pays : goal.returns-in-Ok-Quiet-clause-pays
@@ -194,10 +195,10 @@ returns-in-Ok-Quiet-clause-pays g c =
     let p = c.args.printer.now in
     let q = c.step.new.printer in
     let rest = stack_of f c.pop_command.new.stack.items in
-    let w : Visits = record { printer = c.one_more-visits.result; probes = c.step.new.probes } in
+    let w : Visits = c.step.new.visits in
     let k = took f p (record p { commands = c.pop_command.new.stack }) q c.in-Some.command c.in-Ok-Quiet.field-0 c.in-Some.ensures refl refl refl c.in-Ok-Quiet.ensures.step in
     let h = subst (TookNext f p q) c.in-Ok-Quiet.field-0-is k in
-    let more : OneMore f p (task f c.in-Some.command) rest c.args.visits.now w = record { stack_is = c.in-Some.ensures; printer = c.one_more-visits.ensures.at_most; probes = c.step.ensures.counted } in
+    let more : OneMore f p (task f c.in-Some.command) rest c.args.visits.now w = record { stack_is = c.in-Some.ensures; printer = payload_visits-plus (rejects_payload p.options (f c.in-Some.command.node) c.in-Some.command.mode (state_of f p)) c.args.visits.now.printer c.one_more-visits.result w.printer c.one_more-visits.ensures.one c.step.ensures.printer; probes = c.step.ensures.counted } in
     went_pays f p q [] c.args.visits.now w (task f c.in-Some.command) rest more h
 
 pub returns-in-Ok-Failed-clause-pays : goal.returns-in-Ok-Failed-clause-pays
@@ -206,10 +207,10 @@ returns-in-Ok-Failed-clause-pays g c =
     let p = c.args.printer.now in
     let q = c.step.new.printer in
     let rest = stack_of f c.pop_command.new.stack.items in
-    let w : Visits = record { printer = c.one_more-visits.result; probes = c.step.new.probes } in
+    let w : Visits = c.step.new.visits in
     let k = took f p (record p { commands = c.pop_command.new.stack }) q c.in-Some.command c.in-Ok-Failed.field-0 c.in-Some.ensures refl refl refl c.in-Ok-Failed.ensures.step in
     let h = subst (TookNext f p q) c.in-Ok-Failed.field-0-is k in
-    let more : OneMore f p (task f c.in-Some.command) rest c.args.visits.now w = record { stack_is = c.in-Some.ensures; printer = c.one_more-visits.ensures.at_most; probes = c.step.ensures.counted } in
+    let more : OneMore f p (task f c.in-Some.command) rest c.args.visits.now w = record { stack_is = c.in-Some.ensures; printer = payload_visits-plus (rejects_payload p.options (f c.in-Some.command.node) c.in-Some.command.mode (state_of f p)) c.args.visits.now.printer c.one_more-visits.result w.printer c.one_more-visits.ensures.one c.step.ensures.printer; probes = c.step.ensures.counted } in
     λ _. failed_pays f p q c.args.visits.now w (task f c.in-Some.command) rest more h
 
 pub returns-in-Err-clause-pays : goal.returns-in-Err-clause-pays
@@ -217,8 +218,8 @@ returns-in-Err-clause-pays g c =
     let f = g.N.Walk.tree in
     let p = c.args.printer.now in
     let rest = stack_of f c.pop_command.new.stack.items in
-    let w : Visits = record { printer = c.one_more-visits.result; probes = c.step.new.probes } in
-    let more : OneMore f p (task f c.in-Some.command) rest c.args.visits.now w = record { stack_is = c.in-Some.ensures; printer = c.one_more-visits.ensures.at_most; probes = c.step.ensures.counted } in
+    let w : Visits = c.step.new.visits in
+    let more : OneMore f p (task f c.in-Some.command) rest c.args.visits.now w = record { stack_is = c.in-Some.ensures; printer = payload_visits-plus (rejects_payload p.options (f c.in-Some.command.node) c.in-Some.command.mode (state_of f p)) c.args.visits.now.printer c.one_more-visits.result w.printer c.one_more-visits.ensures.one c.step.ensures.printer; probes = c.step.ensures.counted } in
     λ _. broke_pays f p c.args.visits.now w (task f c.in-Some.command) rest more
 
 pub returns-in-Err-write_piece-clause-pays : goal.returns-in-Err-write_piece-clause-pays
@@ -226,8 +227,8 @@ returns-in-Err-write_piece-clause-pays g c =
     let f = g.N.Walk.tree in
     let p = c.args.printer.now in
     let rest = stack_of f c.pop_command.new.stack.items in
-    let w : Visits = record { printer = c.one_more-visits.result; probes = c.step.new.probes } in
-    let more : OneMore f p (task f c.in-Some.command) rest c.args.visits.now w = record { stack_is = c.in-Some.ensures; printer = c.one_more-visits.ensures.at_most; probes = c.step.ensures.counted } in
+    let w : Visits = c.step.new.visits in
+    let more : OneMore f p (task f c.in-Some.command) rest c.args.visits.now w = record { stack_is = c.in-Some.ensures; printer = payload_visits-plus (rejects_payload p.options (f c.in-Some.command.node) c.in-Some.command.mode (state_of f p)) c.args.visits.now.printer c.one_more-visits.result w.printer c.one_more-visits.ensures.one c.step.ensures.printer; probes = c.step.ensures.counted } in
     λ _. broke_pays f p c.args.visits.now w (task f c.in-Some.command) rest more
 
 pub returns-in-Ok-Chosen-clause-meets : goal.returns-in-Ok-Chosen-clause-meets
@@ -236,10 +237,10 @@ returns-in-Ok-Chosen-clause-meets g c =
     let p = c.args.printer.now in
     let q = c.step.new.printer in
     let rest = stack_of f c.pop_command.new.stack.items in
-    let w : Visits = record { printer = c.one_more-visits.result; probes = c.step.new.probes } in
+    let w : Visits = c.step.new.visits in
     let k = took f p (record p { commands = c.pop_command.new.stack }) q c.in-Some.command c.in-Ok-Chosen.field-0 c.in-Some.ensures refl refl refl c.in-Ok-Chosen.ensures.step in
     let h = subst (TookNext f p q) c.in-Ok-Chosen.field-0-is k in
-    let one : OneLaid f p (task f c.in-Some.command) rest c.args.visits.now w = record { stack_is = c.in-Some.ensures; printer = c.one_more-visits.ensures.one; probes = c.in-Ok-Chosen.ensures.asked } in
+    let one : OneLaid f p (task f c.in-Some.command) rest c.args.visits.now w = record { stack_is = c.in-Some.ensures; printer = payload_visits-least (rejects_payload p.options (f c.in-Some.command.node) c.in-Some.command.mode (state_of f p)) c.args.visits.now.printer c.one_more-visits.result w.printer c.one_more-visits.ensures.one c.step.ensures.printer; probes = c.in-Ok-Chosen.ensures.asked } in
     chosen_meets f p q c.in-Ok-Chosen.indent c.in-Ok-Chosen.first c.in-Ok-Chosen.second c.args.visits.now w (task f c.in-Some.command) rest one h
 
 pub returns-in-Ok-clause-meets : goal.returns-in-Ok-clause-meets
@@ -248,10 +249,10 @@ returns-in-Ok-clause-meets g c =
     let p = c.args.printer.now in
     let q = c.step.new.printer in
     let rest = stack_of f c.pop_command.new.stack.items in
-    let w : Visits = record { printer = c.one_more-visits.result; probes = c.step.new.probes } in
+    let w : Visits = c.step.new.visits in
     let k = took f p (record p { commands = c.pop_command.new.stack }) q c.in-Some.command c.in-Ok-Written.field-0 c.in-Some.ensures refl refl refl c.in-Ok-Written.ensures.step in
     let h = subst (TookNext f p q) c.in-Ok-Written.field-0-is k in
-    let one : OneLaid f p (task f c.in-Some.command) rest c.args.visits.now w = record { stack_is = c.in-Some.ensures; printer = c.one_more-visits.ensures.one; probes = c.in-Ok-Written.ensures.asked } in
+    let one : OneLaid f p (task f c.in-Some.command) rest c.args.visits.now w = record { stack_is = c.in-Some.ensures; printer = payload_visits-least (rejects_payload p.options (f c.in-Some.command.node) c.in-Some.command.mode (state_of f p)) c.args.visits.now.printer c.one_more-visits.result w.printer c.one_more-visits.ensures.one c.step.ensures.printer; probes = c.in-Ok-Written.ensures.asked } in
     went_meets f p q (piece_bytes c.in-Ok-Written.piece) c.args.visits.now w (task f c.in-Some.command) rest one h
 
 pub returns-in-Ok-Quiet-clause-meets : goal.returns-in-Ok-Quiet-clause-meets
@@ -260,8 +261,8 @@ returns-in-Ok-Quiet-clause-meets g c =
     let p = c.args.printer.now in
     let q = c.step.new.printer in
     let rest = stack_of f c.pop_command.new.stack.items in
-    let w : Visits = record { printer = c.one_more-visits.result; probes = c.step.new.probes } in
+    let w : Visits = c.step.new.visits in
     let k = took f p (record p { commands = c.pop_command.new.stack }) q c.in-Some.command c.in-Ok-Quiet.field-0 c.in-Some.ensures refl refl refl c.in-Ok-Quiet.ensures.step in
     let h = subst (TookNext f p q) c.in-Ok-Quiet.field-0-is k in
-    let one : OneLaid f p (task f c.in-Some.command) rest c.args.visits.now w = record { stack_is = c.in-Some.ensures; printer = c.one_more-visits.ensures.one; probes = c.in-Ok-Quiet.ensures.asked } in
+    let one : OneLaid f p (task f c.in-Some.command) rest c.args.visits.now w = record { stack_is = c.in-Some.ensures; printer = payload_visits-least (rejects_payload p.options (f c.in-Some.command.node) c.in-Some.command.mode (state_of f p)) c.args.visits.now.printer c.one_more-visits.result w.printer c.one_more-visits.ensures.one c.step.ensures.printer; probes = c.in-Ok-Quiet.ensures.asked } in
     went_meets f p q [] c.args.visits.now w (task f c.in-Some.command) rest one h
