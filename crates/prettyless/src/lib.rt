@@ -12,6 +12,7 @@
 pub mod macros;
 pub mod prelude;
 
+pub use bumpalo::Bump;
 pub use prettyless_alloc::{
     DocAllocator, DocAllocatorBetween, DocAllocatorOf, DocAllocatorOver, PlacedDoc,
     PlacedDocBetween, PlacedDocOf, PlacedDocOver,

@@ -1,8 +1,8 @@
 use Rattle.std.proofs.Common.{◌≡◌, ◌+◌, ◌<◌, length, take, arith, sym, ◌∙◌}
 use Rattle.std.proofs.lemmas.Bool.Decides.{nat_tests}
 use Rattle.std.proofs.lemmas.List.{take_all}
-use Rattle.replay_cases.proofs.Digits.{not_all_digits, digits_go_on, value_goes_on, value_grows}
-use Rattle.replay_cases.proofs.number.number.Goals as goal
+use Rattle.decimals.proofs.Digits.{not_all_digits, digits_go_on, value_goes_on, value_grows}
+use Rattle.decimals.proofs.number.Goals as goal
 
 pub returns-then-not-is_ascii_digit : goal.returns-then-not-is_ascii_digit
 returns-then-not-is_ascii_digit c = λ h.

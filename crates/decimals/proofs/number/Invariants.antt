@@ -1,6 +1,6 @@
 use Rattle.std.proofs.Common.{◌≡◌, ◌^◌, ◌<◌, take}
 use Rattle.std.specs.Str.Parse.{AllDigits, digits_value}
-use Rattle.sexp_formatter.proofs.number.number.Given as goal
+use Rattle.decimals.proofs.number.Given as goal
 
 -- the bytes so far are digits, and the value is theirs
 abbrev pub invariant-loop-byte : goal.invariant-loop-byte
