@@ -8,4 +8,4 @@ pub mod Working
 pub mod Renders
 pub mod Contents
 pub mod Visits
-pub mod Meets
+pub mod AtLeast

@@ -3,4 +3,4 @@ pub mod Trials
 pub mod Turns
 pub mod Renders
 pub mod Visits
-pub mod Meets
+pub mod AtLeast

@@ -8,15 +8,14 @@ use Rattle.prettyless_model.specs.Spaces.{spaces}
 use Rattle.prettyless_model.specs.Column.{gap}
 use Rattle.prettyless_model.specs.Layout.{Outcome, Done, Failed, Bytes, Whole, Cut, bytes_in, bytes_of, and_then}
 use Rattle.prettyless_model.specs.Levels.{settle, settle_end}
-use Rattle.prettyless_step.specs.Stack.{stack_of}
 use Rattle.prettyless_step.specs.Steps.{lay_all}
-use Rattle.prettyless_step.specs.Printing.{state_of}
+use Rattle.prettyless_step.specs.Printing.{state_of, tasks_of}
 use Rattle.prettyless_printer.specs.Turns.{bytes_before}
 use Rattle.prettyless_step.specs.declared.printer.Printer.{Printer}
 
 -- what the commands that are left lay
 abbrev pub rest_of : {N : Type 0} → (N → Tree) → Printer N → Outcome
-rest_of f p = lay_all p.options (settle p.options) (stack_of f p.commands.items) [] (state_of f p)
+rest_of f p = lay_all p.options (settle p.options) (tasks_of f p) [] (state_of f p)
 
 -- a run that stopped, with its bytes from old to new and its failures from n to m
 abbrev pub Stopped : {E : Type 0} → (E → Type 0) → Outcome → List ℕ → List ℕ → ℕ → ℕ → RenderError E → Type 0

@@ -7,9 +7,9 @@ use Rattle.prettyless_sink.specs.declared.error.RenderError.TheVariants.{Documen
 use Rattle.prettyless_model.specs.Tree.{Tree, size}
 use Rattle.prettyless_model.specs.Layout as layout
 use Rattle.prettyless_model.specs.Layout.{Outcome, Done}
-use Rattle.prettyless_step.specs.Stack.{Task, stack_of}
+use Rattle.prettyless_step.specs.Stack.{Task}
 use Rattle.prettyless_step.specs.Steps.{work}
-use Rattle.prettyless_step.specs.Printing.{state_of}
+use Rattle.prettyless_step.specs.Printing.{state_of, tasks_of}
 use Rattle.prettyless_printer.specs.Progress.{Inside, Waits}
 use Rattle.prettyless_step.specs.declared.printer.Printer.{Printer}
 use Rattle.prettyless_printer.specs.declared.answer.Turn.{Turn}
@@ -23,22 +23,22 @@ bytes_before (layout.Failed b) = b
 -- for every whole that the printer's work was inside of
 abbrev pub ForWholes : {N : Type 0} → (N → Tree) → Printer N → List ℕ → (Outcome → ℕ → List Task → List ℕ → Type 0) → Type 0
 ForWholes f p out goal =
-    (whole : Outcome) (limit : ℕ) (below : List Task) (old : List ℕ) → length below < length (stack_of f p.commands.items) →
-    Inside p.options whole limit below old (stack_of f p.commands.items) (state_of f p) out → goal whole limit below old
+    (whole : Outcome) (limit : ℕ) (below : List Task) (old : List ℕ) → length below < length (tasks_of f p) →
+    Inside p.options whole limit below old (tasks_of f p) (state_of f p) out → goal whole limit below old
 
 -- what holds after a turn: the work is inside the whole, or the whole fails behind what was written, or a choice waits
 abbrev pub Goes : {N : Type 0} → (N → Tree) → RenderOptions → Printer N → List ℕ → Turn N → Outcome → ℕ → List Task → List ℕ → Type 0
-Goes f o q out Went whole limit below old = Inside o whole limit below old (stack_of f q.commands.items) (state_of f q) out
+Goes f o q out Went whole limit below old = Inside o whole limit below old (tasks_of f q) (state_of f q) out
 Goes f o q out Failed whole limit below old =
-    (bytes : List ℕ) × (above : List Task) × (out ≡ old ++ bytes) × (whole ≡ layout.Failed bytes) × (stack_of f q.commands.items ≡ above ++ below)
-Goes f o q out (Chosen i x y) whole limit below old = Waits o whole limit below old i (f x) (f y) (stack_of f q.commands.items) (state_of f q) out
+    (bytes : List ℕ) × (above : List Task) × (out ≡ old ++ bytes) × (whole ≡ layout.Failed bytes) × (tasks_of f q ≡ above ++ below)
+Goes f o q out (Chosen i x y) whole limit below old = Waits o whole limit below old i (f x) (f y) (tasks_of f q) (state_of f q) out
 
 -- work is taken away
 abbrev pub Lessens : {N : Type 0} → (N → Tree) → Printer N → Printer N → Turn N → Type 0
-Lessens f p q Went = work (stack_of f q.commands.items) (state_of f q) < work (stack_of f p.commands.items) (state_of f p)
+Lessens f p q Went = work (tasks_of f q) (state_of f q) < work (tasks_of f p) (state_of f p)
 Lessens f p q Failed = Unit {0}
 Lessens f p q (Chosen i x y) =
-    (2 * (size (f x) + size (f y)) + work (stack_of f q.commands.items) (state_of f q) < work (stack_of f p.commands.items) (state_of f p)) × (q.within ≡ p.within)
+    (2 * (size (f x) + size (f y)) + work (tasks_of f q) (state_of f q) < work (tasks_of f p) (state_of f p)) × (q.within ≡ p.within)
 
 -- what a turn leaves in a sink that tells its bytes
 abbrev pub Turned : {N E : Type 0} → (N → Tree) → Printer N → Printer N → List ℕ → List ℕ → ℕ → ℕ → Result (Turn N) (RenderError E) → Type 0
@@ -51,12 +51,12 @@ Turned f p q out new n m (Err (Memory e)) = (new ≡ out) × (m ≡ n)
 abbrev pub ForWaits : {N : Type 0} → (N → Tree) → Printer N → ℕ → Tree → Tree → List ℕ → (Outcome → ℕ → List Task → List ℕ → Type 0) → Type 0
 ForWaits f p i x y out goal =
     (whole : Outcome) (limit : ℕ) (below : List Task) (old : List ℕ) →
-    Waits p.options whole limit below old i x y (stack_of f p.commands.items) (state_of f p) out → goal whole limit below old
+    Waits p.options whole limit below old i x y (tasks_of f p) (state_of f p) out → goal whole limit below old
 
 -- what a choice leaves in a sink that tells its bytes
 abbrev pub Chose : {N A E : Type 0} → (N → Tree) → Printer N → Printer N → ℕ → Tree → Tree → List ℕ → List ℕ → ℕ → ℕ → Result A (RenderError E) → Type 0
 Chose f p q i x y out new n m (Ok r) =
-    ForWaits f p i x y out (λ whole limit below old. Inside p.options whole limit below old (stack_of f q.commands.items) (state_of f q) new) × (m ≡ n)
+    ForWaits f p i x y out (λ whole limit below old. Inside p.options whole limit below old (tasks_of f q) (state_of f q) new) × (m ≡ n)
 Chose f p q i x y out new n m (Err (Document e)) = ⊥
 Chose f p q i x y out new n m (Err (Sink e)) = ForWaits f p i x y out (λ whole limit below old. AppendsBeginning old new (bytes_before whole)) × (m ≡ rise n)
 Chose f p q i x y out new n m (Err (Memory e)) = (new ≡ out) × (m ≡ n)

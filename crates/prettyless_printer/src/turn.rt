@@ -3,8 +3,8 @@ ghost use Rattle.std.specs.Prelude.{◌≡◌, ◌<◌, ◌≤◌, OnOk, IfOk, v
 ghost use Rattle.prettyless_sink.specs.Sink.{IfKnown, rise};
 ghost use Rattle.prettyless_step.specs.Printing.{Grows};
 ghost use Rattle.prettyless_printer.specs.Turns.{Lessens, Turned};
-ghost use Rattle.prettyless_printer.specs.Visits.{Plain, Rise, TurnPays};
-ghost use Rattle.prettyless_printer.specs.Meets.{TurnMeets};
+ghost use Rattle.prettyless_printer.specs.Visits.{Plain, Rise, TurnCountsAtMost};
+ghost use Rattle.prettyless_printer.specs.AtLeast.{TurnCountsAtLeast};
 
 use crate::answer::Turn;
 use prettyless_sink::error::RenderError;
@@ -29,13 +29,13 @@ pub fn turn<N: Walk, W: Render>(
     ensures grows { OnOk result (Grows printer.old printer.new) }
     ensures lessens { IfOk result (Lessens N.tree printer.old printer.new) }
     ensures same_lender { W.lender out.new ≡ W.lender out.old }
-    ensures told { IfKnown (W.bytes out.old) (W.bytes out.new) (λ before after.
+    ensures bytes { IfKnown (W.bytes out.old) (W.bytes out.new) (λ before after.
         Turned N.tree printer.old printer.new before after (W.failures out.old) (W.failures out.new) result) }
     ensures one { rise visits.old.printer ≤ visits.new.printer }
     ensures two { visits.new.printer ≤ rise (rise visits.old.printer) }
     ensures rise { Rise visits.old visits.new }
-    ensures pays { Plain N.tree printer.old → TurnPays N.tree printer.old printer.new visits.old visits.new result }
-    ensures meets { TurnMeets N.tree printer.old printer.new visits.old visits.new result }
+    ensures at_most { Plain N.tree printer.old → TurnCountsAtMost N.tree printer.old printer.new visits.old visits.new result }
+    ensures at_least { TurnCountsAtLeast N.tree printer.old printer.new visits.old visits.new result }
 {
     let Some(command) = pop_command(&mut printer.commands) else {
         unreachable!()

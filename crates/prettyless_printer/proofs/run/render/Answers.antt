@@ -3,16 +3,16 @@ use Rattle.prettyless_sink.specs.Sink.{known_of}
 use Rattle.prettyless_model.specs.Layout.{Bytes, initial}
 use Rattle.prettyless_model.specs.declared.mode.Mode.TheVariants.{Break}
 use Rattle.prettyless_step.specs.Stack.{make_task, stack_of, trees}
-use Rattle.prettyless_step.specs.Printing.{state_of}
+use Rattle.prettyless_step.specs.Printing.{state_of, tasks_of}
 use Rattle.prettyless_step.proofs.Queues.{trees_none}
 use Rattle.prettyless_printer.specs.Renders.{Rendered}
 use Rattle.prettyless_printer.proofs.Renders.{begins}
 use Rattle.prettyless_printer.proofs.Visits.{visited}
-use Rattle.prettyless_printer.proofs.Meets.{at_least}
+use Rattle.prettyless_printer.proofs.AtLeast.{at_least}
 use Rattle.prettyless_printer.proofs.run.render.Goals as goal
 
-pub returns-in-Ok-clause-told : goal.returns-in-Ok-clause-told
-returns-in-Ok-clause-told g c =
+pub returns-in-Ok-clause-bytes : goal.returns-in-Ok-clause-bytes
+returns-in-Ok-clause-bytes g c =
     let f = g.N.Walk.tree in
     let w = known_of g.W.Render.bytes in
     let fails = g.W.Render.failures in
@@ -22,9 +22,9 @@ returns-in-Ok-clause-told g c =
     let p = record q { options = c.args.options; column = c.start.result; within = true; commands = c.push_node.new.stack; scratch = c.new-2.result; queue = c.new-3.result } in
     let n : trees f (drop c.new-3.result.start c.new-3.result.nodes.items) ≡ [] = ap (λ x. trees f (drop c.new-3.result.start x)) c.new-3.ensures ∙ trees_none f [] c.new-3.result.start (omega arith) in
     let s : state_of f p ≡ initial = λ j. record { column = c.start.ensures j; pending = n j; within = true } in
-    let e : stack_of f p.commands.items ≡ make_task 0 Break d ∷ [] = c.in-Ok.ensures ∙ ap (λ x. make_task 0 Break d ∷ stack_of f x) c.new.ensures.items in
-    λ told.
-    let h = c.run_to_end.ensures.told told in
+    let e : tasks_of f p ≡ make_task 0 Break d ∷ [] = c.in-Ok.ensures ∙ ap (λ x. make_task 0 Break d ∷ stack_of f x) c.new.ensures.items in
+    λ is_known.
+    let h = c.run_to_end.ensures.bytes is_known in
     (h.0, subst (λ (y : Bytes). Rendered (g.W.Render.document_errors new) y (w c.args.out.now) (w new) (fails c.args.out.now) (fails new) c.run_to_end.result) (sym (begins f p d e s)) h.1)
 
 pub returns-in-Ok-clause-visited : goal.returns-in-Ok-clause-visited
@@ -34,8 +34,8 @@ returns-in-Ok-clause-visited g c =
     let q = c.run_to_end.new.printer in
     let p = record q { options = c.args.options; column = c.start.result; within = true; commands = c.push_node.new.stack; scratch = c.new-2.result; queue = c.new-3.result } in
     let n : trees f (drop c.new-3.result.start c.new-3.result.nodes.items) ≡ [] = ap (λ x. trees f (drop c.new-3.result.start x)) c.new-3.ensures ∙ trees_none f [] c.new-3.result.start (omega arith) in
-    let e : stack_of f p.commands.items ≡ make_task 0 Break d ∷ [] = c.in-Ok.ensures ∙ ap (λ x. make_task 0 Break d ∷ stack_of f x) c.new.ensures.items in
-    visited f d p q c.args.visits.now c.run_to_end.new.visits c.run_to_end.result e n c.run_to_end.ensures.pays
+    let e : tasks_of f p ≡ make_task 0 Break d ∷ [] = c.in-Ok.ensures ∙ ap (λ x. make_task 0 Break d ∷ stack_of f x) c.new.ensures.items in
+    visited f d p q c.args.visits.now c.run_to_end.new.visits c.run_to_end.result e n c.run_to_end.ensures.at_most
 
 pub returns-in-Ok-clause-at_least : goal.returns-in-Ok-clause-at_least
 returns-in-Ok-clause-at_least g c =
@@ -45,5 +45,5 @@ returns-in-Ok-clause-at_least g c =
     let p = record q { options = c.args.options; column = c.start.result; within = true; commands = c.push_node.new.stack; scratch = c.new-2.result; queue = c.new-3.result } in
     let n : trees f (drop c.new-3.result.start c.new-3.result.nodes.items) ≡ [] = ap (λ x. trees f (drop c.new-3.result.start x)) c.new-3.ensures ∙ trees_none f [] c.new-3.result.start (omega arith) in
     let s : state_of f p ≡ initial = λ j. record { column = c.start.ensures j; pending = n j; within = true } in
-    let e : stack_of f p.commands.items ≡ make_task 0 Break d ∷ [] = c.in-Ok.ensures ∙ ap (λ x. make_task 0 Break d ∷ stack_of f x) c.new.ensures.items in
-    at_least f d p c.args.visits.now c.run_to_end.new.visits c.run_to_end.result e s c.run_to_end.ensures.meets
+    let e : tasks_of f p ≡ make_task 0 Break d ∷ [] = c.in-Ok.ensures ∙ ap (λ x. make_task 0 Break d ∷ stack_of f x) c.new.ensures.items in
+    at_least f d p c.args.visits.now c.run_to_end.new.visits c.run_to_end.result e s c.run_to_end.ensures.at_least
