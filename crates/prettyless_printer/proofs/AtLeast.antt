@@ -27,7 +27,7 @@ use Rattle.prettyless_step.specs.declared.printer.Taken.TheVariants.{Chosen}
 use Rattle.prettyless_step.specs.declared.printer.Printer.{Printer}
 use Rattle.prettyless_printer.proofs.Runs.{follow-tasks, payload_branch, no_padding}
 
--- what a task counts, and then those behind it
+-- what a task counts, and then those after it
 abbrev tally_with : RenderOptions → ℕ → Task → List Task → State → Weight → ℕ
 tally_with o n t ts st w =
     tally o t.tree t.indent t.mode (follow ts) st w + counted_then (lay o (settle o) t.tree t.indent t.mode (follow ts) st) (λ u. tally_above o n ts u w)
@@ -57,12 +57,12 @@ counted_less : (out : Outcome) (j k : State → ℕ) → ((u : State) → j u �
 counted_less (Done b st) j k h = h st
 counted_less (Failed b) j k h = omega arith
 
--- two counts behind an outcome, added up
+-- two counts after an outcome, added up
 appended : (out : Outcome) (j k both : State → ℕ) → ((u : State) → both u ≡ j u + k u) → counted_then out both ≡ counted_then out j + counted_then out k
 appended (Done b st) j k both h = h st
 appended (Failed b) j k both h = refl
 
--- a step behind which no less is left to count, but for what its node counts
+-- a step after which no less is left to count, but for what its node counts
 abbrev StepCounts : RenderOptions → ℕ → List Task → State → Weight → ℕ → ℕ → Step → Type 0
 StepCounts o n ts st w was self (Move b pushed u) = was ≤ self + tally_above o n (pushed ++ ts) u w
 StepCounts o n ts st w was self Stuck = Unit {0}
@@ -134,7 +134,7 @@ union_counts o n (MultilineText s) r i ts st w self h =
     omega (arith, a, b, either_counts o n (MultilineText s) r i ts st w self v h)
 union_counts o n _ r i ts st w self h = omega arith
 
--- Behind a step no less is left to count, but for what its node counts.
+-- After a step no less is left to count, but for what its node counts.
 step_counts : (o : RenderOptions) (n : ℕ) (d : Tree) (i : ℕ) (m : Mode) (ts : List Task) (st : State) (w : Weight) → n ≤ length ts →
     StepCounts o n ts st w (tally_with o n (make_task i m d) ts st w) (w d m) (step_of o d i m (follow ts) st)
 unfolding lay tally
@@ -253,7 +253,7 @@ chosen_by {N} f p q i a b n t ts (Choose j x y) w e s h =
     ∙ ap (λ (z : State). tally_choice p.options n j x y ts z w) h.4 in
     omega (arith, s, same)
 
--- a turn behind which two branches are to be chosen from
+-- a turn after which two branches are to be chosen from
 pub chosen_at_least : {N : Type 0} (f : N → Tree) (p q : Printer N) (i : ℕ) (a b : N) (v w : Visits) (s : Task) (rest : List Task) → OneLaid f p s rest v w → TookNext f p q (Chosen i a b) →
     (n : ℕ) → n < length (tasks_of f p) → CountsAtLeast (stack_tally f p n) (choice_tally f q n i (f a) (f b)) v w
 chosen_at_least {N} f p q i a b v w s rest one h n l =

@@ -106,7 +106,7 @@ choice_lessens {N} f p q i l r h =
     choice_lessens_by f p q i l r h.0 h.1 (step_of p.options h.0.tree h.0.indent h.0.mode (follow h.1) (state_of f p)) h.2
     (step_less p.options h.0.tree h.0.indent h.0.mode (follow h.1) (state_of f p)) h.3
 
--- a beginning of the next piece, behind what was written, is a beginning of the whole
+-- a beginning of the next piece, after what was written, is a beginning of the whole
 pub beginning_less : (old out new b text : List ℕ) → AppendsBeginning out new b → AppendsBeginning old (out ++ b) text → (front : List ℕ) × (out ≡ old ++ front) → AppendsBeginning old new text
 beginning_less old out new b text p q w =
     let c : w.0 ++ b ≡ q.0 = append_cancel_left old (w.0 ++ b) q.0 (sym (append_assoc old w.0 b) ∙ ap (λ (x : List ℕ). x ++ b) (sym w.1) ∙ q.3) in (

@@ -197,7 +197,7 @@ chosen_by {N} f p q i a b v w t ts (Choose j x y) more plain s h =
       },
     )
 
--- the node that was taken up is the one on top
+-- the node that was visited is the one on top
 one_more : {N : Type 0} (f : N → Tree) (p : Printer N) (s t : Task) (rest ts : List Task) (v w : Visits) → OneMore f p s rest v w → tasks_of f p ≡ t ∷ ts → OneMore f p t ts v w
 one_more {N} f p s t rest ts v w more e =
     let same : s ∷ rest ≡ t ∷ ts = sym more.stack_is ∙ e in
@@ -224,7 +224,7 @@ pub chosen_at_most : {N : Type 0} (f : N → Tree) (p q : Printer N) (i : ℕ) (
 chosen_at_most {N} f p q i a b v w s rest more h plain =
     chosen_by f p q i a b v w h.0 h.1 (step_of p.options h.0.tree h.0.indent h.0.mode (follow h.1) (state_of f p)) (one_more f p s h.0 rest h.1 v w more h.2) plain (stepped f p h.0 h.1 h.2 plain) h.3
 
--- a node was taken up, and memory or the sink failed
+-- a node was visited, and memory or the sink failed
 pub broke_at_most : {N : Type 0} (f : N → Tree) (p : Printer N) (v w : Visits) (t : Task) (ts : List Task) → OneMore f p t ts v w → CountsAtMost (tasks_of f p) [] v w
 broke_at_most {N} f p v w t ts more = record {
   left = omega arith;

@@ -23,7 +23,7 @@ tally_above o n (t ∷ ts) st w =
     then tally o t.tree t.indent t.mode (follow ts) st w + counted_then (lay o (settle o) t.tree t.indent t.mode (follow ts) st) (λ u. tally_above o n ts u w)
     else 0
 
--- what a choice between two branches counts, and then the tasks behind it
+-- what a choice between two branches counts, and then the tasks after it
 abbrev pub tally_choice : RenderOptions → ℕ → ℕ → Tree → Tree → List Task → State → Weight → ℕ
 tally_choice o n i x y ts st w =
     counted_accept o (lay o (settle o) x i Break (follow ts) (tried st)) (tally o x i Break (follow ts) (tried st) w) (tally o y i Break (follow ts) st w)

@@ -1,5 +1,5 @@
--- How many nodes a run takes up. Where no line suffix is, each node of the commands is taken up at most once by the
--- printer; a probe takes up each node of the commands at most once, and is asked at most once by each node that asks.
+-- How many nodes a run visits. Where no line suffix is, each node of the commands is visited at most once by the
+-- printer; a probe visits each node of the commands at most once, and is asked at most once by each node that asks.
 use Rattle.std.specs.Prelude.{◌≡◌, ℕ, ◌+◌, ◌*◌, ◌≤◌, List, [], ◌∷◌, Result, Ok, Err}
 use Rattle.prettyless_sink.specs.declared.visits.Visits.{Visits}
 use Rattle.prettyless_model.specs.Tree.{Tree, size, probed}
@@ -11,7 +11,7 @@ use Rattle.prettyless_step.specs.declared.printer.Printer.{Printer}
 use Rattle.prettyless_printer.specs.declared.answer.Turn.{Turn}
 use Rattle.prettyless_printer.specs.declared.answer.Turn.TheVariants.{Went, Failed, Chosen}
 
--- how deep line suffixes stand in tasks, added up: 0 where there are none
+-- how deep line suffixes are in tasks, added up: 0 where there are none
 abbrev pub suffixes : List Task → ℕ
 suffixes [] = 0
 suffixes (t ∷ ts) = suffix_depth t.tree + suffixes ts

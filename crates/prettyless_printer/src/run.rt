@@ -147,14 +147,14 @@ fn run_to_end<N: Walk, W: Render>(
 
 /// Renders the document of a node to a sink: what is written is its layout.
 ///
-/// Where the sink tells its bytes: on success all of the layout was appended. `Document` is answered only where the
-/// layout fails, behind the bytes before the failing node. `Sink` is answered where the sink failed, once in this call,
+/// Where the sink's bytes are known: on success all of the layout was appended. `Document` is answered only where the
+/// layout fails, after the bytes before the failing node. `Sink` is answered where the sink failed, once in this call,
 /// and `Memory` where a growth was refused, which leaves the sink's failures as they were: what was appended then is a
 /// beginning of the layout's bytes.
 ///
-/// The nodes that are taken up are added to `visits`. On success the printer has taken up at least the nodes that the layout
+/// The nodes that are visited are added to `visits`. On success the printer has visited at least the nodes that the layout
 /// lays, and its probes at least one node for each probe that the layout asks; a rejected branch counts nothing here.
-/// Without line suffixes the printer takes up at most as many nodes as the document has, and its probes together at most
+/// Without line suffixes the printer visits at most as many nodes as the document has, and its probes together at most
 /// that many for each node that asks one.
 pub fn render<N: Walk, W: Render>(
     alloc: Global,

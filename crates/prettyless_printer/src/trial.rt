@@ -66,7 +66,7 @@ fn memory_of(error: RenderError<AllocError>) -> AllocError {
     }
 }
 
-/// Prints a branch behind what the buffer has, without what follows it but with that known. It is kept if it does not
+/// Prints a branch after what the buffer has, without what follows it but with that known. It is kept if it does not
 /// fail, nothing of it goes past the width, and at its end the padding fits; else all is as before. Want of memory is
 /// an error, and never a reason not to keep a branch. The answer is whether it is kept.
 pub fn print_branch<N: Walk>(

@@ -8,7 +8,7 @@ use Rattle.prettyless_step.proofs.Queues.{trees_none}
 use Rattle.prettyless_printer.specs.Renders.{Rendered}
 use Rattle.prettyless_printer.proofs.Renders.{begins}
 use Rattle.prettyless_printer.proofs.Visits.{visited}
-use Rattle.prettyless_printer.proofs.AtLeast.{at_least}
+use Rattle.prettyless_printer.proofs.AtLeast.{visited_at_least}
 use Rattle.prettyless_printer.proofs.run.render.Goals as goal
 
 pub returns-in-Ok-clause-bytes : goal.returns-in-Ok-clause-bytes
@@ -46,4 +46,4 @@ returns-in-Ok-clause-at_least g c =
     let n : trees f (drop c.new-3.result.start c.new-3.result.nodes.items) ≡ [] = ap (λ x. trees f (drop c.new-3.result.start x)) c.new-3.ensures ∙ trees_none f [] c.new-3.result.start (omega arith) in
     let s : state_of f p ≡ initial = λ j. record { column = c.start.ensures j; pending = n j; within = true } in
     let e : tasks_of f p ≡ make_task 0 Break d ∷ [] = c.in-Ok.ensures ∙ ap (λ x. make_task 0 Break d ∷ stack_of f x) c.new.ensures.items in
-    at_least f d p c.args.visits.now c.run_to_end.new.visits c.run_to_end.result e s c.run_to_end.ensures.at_least
+    visited_at_least f d p c.args.visits.now c.run_to_end.new.visits c.run_to_end.result e s c.run_to_end.ensures.at_least
