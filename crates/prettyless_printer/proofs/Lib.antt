@@ -9,3 +9,4 @@ pub mod Renders
 pub mod Contents
 pub mod Visits
 pub mod AtLeast
+pub mod Advancing

@@ -3,15 +3,16 @@ ghost use Rattle.std.specs.Prelude.{◌≡◌, ◌+◌, ◌*◌, ◌∷◌, ◌<
 ghost use Rattle.prettyless_sink.specs.Sink.{IfKnown};
 ghost use Rattle.prettyless_model.specs.Tree.{size};
 ghost use Rattle.prettyless_model.specs.Content.{suffix_depth};
-ghost use Rattle.prettyless_model.specs.Layout.{flushed, layout};
+ghost use Rattle.prettyless_model.specs.Layout.{flushed};
 ghost use Rattle.prettyless_model.specs.declared.mode.Mode.TheVariants.{Break};
 ghost use Rattle.prettyless_step.specs.Stack.{make_task, tasks};
 ghost use Rattle.prettyless_step.specs.Steps.{owed, work};
 ghost use Rattle.prettyless_step.specs.Printing.{state_of, tasks_of};
+ghost use Rattle.prettyless_printer.specs.Points.{seen};
 ghost use Rattle.prettyless_printer.specs.Turns.{Chose};
-ghost use Rattle.prettyless_printer.specs.Renders.{Flushed, RanToEnd, Rendered, WorkedOff};
-ghost use Rattle.prettyless_printer.specs.Visits.{Plain, Rise, RunCountsAtMost, Visited};
-ghost use Rattle.prettyless_printer.specs.AtLeast.{CountsAtLeast, VisitedAtLeast, choice_tally, nothing_left, stack_tally};
+ghost use Rattle.prettyless_printer.specs.Renders.{Flushed, RanToEnd, Renders, WorkedOff};
+ghost use Rattle.prettyless_printer.specs.Visits.{Plain, Rise, RunCountsAtMost};
+ghost use Rattle.prettyless_printer.specs.AtLeast.{CountsAtLeast, choice_tally, nothing_left, stack_tally};
 
 use crate::answer::Turn;
 use crate::buffer::Buffer;
@@ -163,13 +164,9 @@ pub fn render<N: Walk, W: Render>(
     out: &mut W,
     visits: &mut Visits,
 ) -> Result<(), RenderError<W::Error>>
-    ensures same_lender { W.lender out.new ≡ W.lender out.old }
-    ensures bytes { IfKnown (W.bytes out.old) (W.bytes out.new) (λ before after.
-        Rendered (W.document_errors out.new) (layout options (N.tree node))
-        before after (W.failures out.old) (W.failures out.new) result) }
-    ensures rise { Rise visits.old visits.new }
-    ensures visited { Visited (N.tree node) visits.old visits.new }
-    ensures at_least { OnOk result (VisitedAtLeast options (N.tree node) visits.old visits.new) }
+    ensures { Renders (W.document_errors out.new) options (N.tree node)
+        (seen W.bytes W.failures W.lender out.old) (seen W.bytes W.failures W.lender out.new)
+        visits.old visits.new result }
 {
     let mut printer = Printer {
         options,
