@@ -33,8 +33,8 @@ returns-in-Ok g c =
       at_least = visited_at_least f d p c.args.visits.now c.run_to_end.new.visits c.run_to_end.result e s c.run_to_end.ensures.at_least;
     }
 
-pub returns-in-Err : goal.returns-in-Err
-returns-in-Err g c = record {
+pub returns : goal.returns
+returns g c = record {
   same_lender = refl;
   bytes = λ is_known. (is_known, (([], bytes_in (layout c.args.options (g.N.Walk.tree c.args.node)), refl, sym (append-nil (known (g.W.Render.bytes c.args.out.now)))), refl));
   rise = rise_same c.args.visits.now;
