@@ -8,4 +8,5 @@ pub mod Working
 pub mod Renders
 pub mod Contents
 pub mod Visits
-pub mod Meets
+pub mod AtLeast
+pub mod Advancing

@@ -37,7 +37,7 @@ taken o whole limit below old t ts st out l p =
       subst (λ (x : List Task). work x st ≤ limit) w.1 p.bound,
     )
 
--- what holds behind a step: the work is inside the whole, or the whole fails behind what was written, or a choice waits
+-- what holds after a step: the work is inside the whole, or the whole fails after what was written, or a choice waits
 abbrev pub Steps : (o : RenderOptions) (whole : Outcome) (limit : ℕ) (below : List Task) (old : List ℕ) (ts : List Task) (st : State) (out : List ℕ) → Step → Type 0
 Steps o whole limit below old ts st out (Move b pushed u) = Inside o whole limit below old (pushed ++ ts) u (out ++ b)
 Steps o whole limit below old ts st out Stuck = (bytes : List ℕ) × (above : List Task) × (out ≡ old ++ bytes) × (whole ≡ Failed bytes) × (ts ≡ above ++ below)

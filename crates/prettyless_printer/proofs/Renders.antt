@@ -12,9 +12,9 @@ use Rattle.prettyless_model.specs.Levels.{settle, settle_end}
 use Rattle.prettyless_model.specs.declared.mode.Mode.TheVariants.{Break}
 use Rattle.prettyless_model.proofs.Outcomes.{after-nil, after-after, then-done}
 use Rattle.prettyless_model.proofs.Levels.{end_fixed, layout_is}
-use Rattle.prettyless_step.specs.Stack.{Task, make_task, nodes, stack_of, tasks}
+use Rattle.prettyless_step.specs.Stack.{Task, make_task, nodes, tasks}
 use Rattle.prettyless_step.specs.Steps.{lay_all, owed}
-use Rattle.prettyless_step.specs.Printing.{state_of}
+use Rattle.prettyless_step.specs.Printing.{state_of, tasks_of}
 use Rattle.prettyless_printer.specs.Turns.{bytes_before}
 use Rattle.prettyless_printer.specs.Renders.{rest_of, to_end, Stopped, Flushed, Rendered}
 use Rattle.prettyless_printer.proofs.Progresses.{bytes_before-after}
@@ -100,11 +100,11 @@ round o brk again (d ∷ ds) st l =
 
 -- the documents that wait are the commands, and the gap before them is written
 pub ending_again : {N : Type 0} (f : N → Tree) (whole : Outcome) (o : RenderOptions) (q r : Printer N) (old new out : List ℕ) → Ending f whole o q old new → r.options ≡ o → 0 < length (state_of f q).pending →
-    stack_of f r.commands.items ≡ tasks 0 Break (state_of f q).pending → state_of f r ≡ flushed o (state_of f q) → out ≡ new ++ spaces (gap q.column) → Finishing f whole r old out
+    tasks_of f r ≡ tasks 0 Break (state_of f q).pending → state_of f r ≡ flushed o (state_of f q) → out ≡ new ++ spaces (gap q.column) → Finishing f whole r old out
 ending_again {N} f whole o q r old new out h e l k u x =
     let st = state_of f q in
     let rest : rest_of f r ≡ lay_all o (settle o) (tasks 0 Break st.pending) [] (flushed o st) =
-    ap (λ (z : RenderOptions). lay_all z (settle z) (stack_of f r.commands.items) [] (state_of f r)) e
+    ap (λ (z : RenderOptions). lay_all z (settle z) (tasks_of f r) [] (state_of f r)) e
     ∙ ap (λ (z : List Task). lay_all o (settle o) z [] (state_of f r)) k ∙ ap (λ (z : State). lay_all o (settle o) (tasks 0 Break st.pending) [] z) u in
     record {
       bytes = h.bytes ++ spaces (gap q.column);
@@ -147,7 +147,7 @@ unfolding lay_all
 lay_all-one o d st = then-done (lay o (settle o) d 0 Break [] st)
 
 -- what a printer that begins lays to the end is the layout
-pub begins : {N : Type 0} (f : N → Tree) (p : Printer N) (d : Tree) → stack_of f p.commands.items ≡ make_task 0 Break d ∷ [] → state_of f p ≡ initial → layout p.options d ≡ bytes_of (to_end f p)
+pub begins : {N : Type 0} (f : N → Tree) (p : Printer N) (d : Tree) → tasks_of f p ≡ make_task 0 Break d ∷ [] → state_of f p ≡ initial → layout p.options d ≡ bytes_of (to_end f p)
 begins {N} f p d e s =
     layout_is p.options d
     ∙ ap (λ (x : Outcome). bytes_of (and_then x (settle_end p.options)))

@@ -50,7 +50,7 @@ ending_at_once : (o : RenderOptions) (p : IndentationPolicy) (k : ℕ) (st : Sta
 ending_at_once o Eager k st = tt
 ending_at_once o Deferred k st = tt
 
--- a task that is a break, and the tasks behind it
+-- a task that is a break, and the tasks after it
 lay_again : (o : RenderOptions) (brk : Breaks) (t : Task) (ts : List Task) (outer : List Entry) → lay o brk t.tree t.indent t.mode (follow ts ++ outer) ≡ brk t.tree t.indent t.mode (follow ts ++ outer) →
     lay_all o brk (t ∷ ts) outer ≡ (λ u. and_then (brk t.tree t.indent t.mode (follow ts ++ outer) u) (λ v. lay_all o brk ts outer v))
 unfolding lay_all
@@ -82,7 +82,7 @@ break_runs o brk (p ∷ ps) d i m ts outer st e =
 moved : (o : RenderOptions) (brk : Breaks) (ts : List Task) (outer : List Entry) (st : State) → lay_all o brk ts outer st ≡ after_bytes [] (lay_all o brk ts outer st)
 moved o brk ts outer st = sym (after-nil (lay_all o brk ts outer st))
 
--- one of two nodes in Break, alone on the tasks behind it
+-- one of two nodes in Break, alone on the tasks after it
 partial_runs : (o : RenderOptions) (brk : Breaks) (l r : Tree) (i : ℕ) (ts : List Task) (outer : List Entry) (st : State) (v : Bool) →
     and_then (if v then lay o brk l i Break (follow ts ++ outer) st else lay o brk r i Break (follow ts ++ outer) st) (λ u. lay_all o brk ts outer u)
     ≡ after_bytes [] (lay_all o brk (make_task i Break (if v then l else r) ∷ ts) outer st)
@@ -90,12 +90,12 @@ unfolding lay_all
 partial_runs o brk l r i ts outer st true = moved o brk (make_task i Break l ∷ ts) outer st
 partial_runs o brk l r i ts outer st false = moved o brk (make_task i Break r ∷ ts) outer st
 
--- the flag behind a payload that fits
+-- the flag after a payload that fits
 flag-and : (v : Bool) → v ≡ v && true
 flag-and true = refl
 flag-and false = refl
 
--- no padding stands behind a payload
+-- no padding follows a payload
 pub no_padding : (width : ℕ) (pending last : Bool) (m : Metrics) → padding_fits width pending (if last then commit m.last_width start else start) ≡ true
 no_padding width true true m = refl
 no_padding width true false m = refl
@@ -125,7 +125,7 @@ union_runs o brk (MultilineText s) r i ts outer st =
     ∙ partial_runs o brk (MultilineText s) r i ts outer st (payload_fits o (metrics s) st.column)
 union_runs o brk _ r i ts outer st = refl
 
--- a node and the tasks behind it lay what its step and they lay
+-- a node and the tasks after it lay what its step and they lay
 pub step_runs : (o : RenderOptions) (brk : Breaks) → Fixed o brk → (d : Tree) (i : ℕ) (m : Mode) (ts : List Task) (outer : List Entry) (st : State) →
     lay_all o brk (make_task i m d ∷ ts) outer st ≡ runs o brk (step_of o d i m (follow ts ++ outer) st) ts outer st
 unfolding lay lay_all

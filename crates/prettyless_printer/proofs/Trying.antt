@@ -13,10 +13,10 @@ use Rattle.prettyless_model.specs.Layout.{State, Outcome, Done, accept, tried, l
 use Rattle.prettyless_model.specs.Levels.{settle}
 use Rattle.prettyless_model.specs.declared.mode.Mode.TheVariants.{Break}
 use Rattle.prettyless_model.proofs.Outcomes.{after-nil, then-done}
-use Rattle.prettyless_step.specs.Stack.{Task, make_task, follow, stack_of, trees}
+use Rattle.prettyless_step.specs.Stack.{Task, make_task, follow, trees}
 use Rattle.prettyless_step.specs.Steps.{lay_all, owed}
 use Rattle.prettyless_printer.specs.Progress.{Inside, Waits, Decides}
-use Rattle.prettyless_step.specs.Printing.{state_of, Grows}
+use Rattle.prettyless_step.specs.Printing.{state_of, Grows, tasks_of}
 use Rattle.prettyless_printer.specs.Trials.{Marks, Restores, TrialDid}
 use Rattle.prettyless_printer.specs.Turns.{ForWholes}
 use Rattle.prettyless_printer.proofs.Progresses.{waits_kept, waits_other, inside_end}
@@ -26,29 +26,29 @@ use Rattle.prettyless_printer.specs.declared.trial.Mark.{Mark}
 
 -- what a trial of d at i from p lays
 abbrev pub trial_of : {N : Type 0} → (N → Tree) → Printer N → ℕ → Tree → Outcome
-trial_of f p i d = lay p.options (settle p.options) d i Break (follow (stack_of f p.commands.items)) (tried (state_of f p))
+trial_of f p i d = lay p.options (settle p.options) d i Break (follow (tasks_of f p)) (tried (state_of f p))
 
 abbrev pub limit_of : {N : Type 0} → (N → Tree) → Printer N → Tree → ℕ
 limit_of f p d = 2 * size d + owed (state_of f p).pending
 
 -- the trial is on its way, in q
 abbrev pub Trying : {N : Type 0} → (N → Tree) → Printer N → ℕ → Tree → List ℕ → Printer N → List ℕ → Type 0
-Trying f p i d old q out = Inside p.options (trial_of f p i d) (limit_of f p d) (stack_of f p.commands.items) old (stack_of f q.commands.items) (state_of f q) out
+Trying f p i d old q out = Inside p.options (trial_of f p i d) (limit_of f p d) (tasks_of f p) old (tasks_of f q) (state_of f q) out
 
 lay_all-one : (o : RenderOptions) (i : ℕ) (d : Tree) (ts : List Task) (st : State) → lay_all o (settle o) (make_task i Break d ∷ []) (follow ts) st ≡ lay o (settle o) d i Break (follow ts) st
 unfolding lay_all
 lay_all-one o i d ts st = then-done (lay o (settle o) d i Break (follow ts) st)
 
-pub trying_begins : {N : Type 0} (f : N → Tree) (p q : Printer N) (i : ℕ) (d : Tree) (old : List ℕ) → stack_of f q.commands.items ≡ make_task i Break d ∷ stack_of f p.commands.items → state_of f q ≡ tried (state_of f p) → Trying f p i d old q old
+pub trying_begins : {N : Type 0} (f : N → Tree) (p q : Printer N) (i : ℕ) (d : Tree) (old : List ℕ) → tasks_of f q ≡ make_task i Break d ∷ tasks_of f p → state_of f q ≡ tried (state_of f p) → Trying f p i d old q old
 trying_begins {N} f p q i d old e s =
-    inside_at p.options (trial_of f p i d) (limit_of f p d) (stack_of f p.commands.items) old (make_task i Break d ∷ stack_of f p.commands.items) (stack_of f q.commands.items) (tried (state_of f p)) (state_of f q) old old e s refl
+    inside_at p.options (trial_of f p i d) (limit_of f p d) (tasks_of f p) old (make_task i Break d ∷ tasks_of f p) (tasks_of f q) (tried (state_of f p)) (state_of f q) old old e s refl
     (record {
       above = make_task i Break d ∷ [];
       bytes = [];
       stack_is = refl;
       out_is = sym (append-nil old);
-      same = after-nil (lay_all p.options (settle p.options) (make_task i Break d ∷ []) (follow (stack_of f p.commands.items)) (tried (state_of f p)))
-          ∙ lay_all-one p.options i d (stack_of f p.commands.items) (tried (state_of f p));
+      same = after-nil (lay_all p.options (settle p.options) (make_task i Break d ∷ []) (follow (tasks_of f p)) (tried (state_of f p)))
+          ∙ lay_all-one p.options i d (tasks_of f p) (tried (state_of f p));
       bound = omega arith;
     })
 
@@ -75,12 +75,12 @@ restored {N} f p q r m e g h =
 
 -- a trial that is taken back: what it wrote is cut off, and its outcome is not accepted
 pub trial_rejected : {N : Type 0} (f : N → Tree) (p q r : Printer N) (i : ℕ) (d : Tree) (m : Mark) (old out new bytes : List ℕ) → Marks m p →
-    (above : List Task) → stack_of f q.commands.items ≡ above ++ stack_of f p.commands.items → length (stack_of f p.commands.items) ≡ vec_len p.commands → q.options ≡ p.options → Grows p q → Restores f m q r →
+    (above : List Task) → tasks_of f q ≡ above ++ tasks_of f p → length (tasks_of f p) ≡ vec_len p.commands → q.options ≡ p.options → Grows p q → Restores f m q r →
     out ≡ old ++ bytes → new ≡ take (length old) out →
     ((other : Outcome) → accept p.options p.within (trial_of f p i d) other ≡ other) → TrialDid f p r i d old new false
 trial_rejected {N} f p q r i d m old out new bytes e above k l w g h b t rejected =
     let s : state_of f r ≡ state_of f p = restored f p q r m e g h in (
-      h.0 above (stack_of f p.commands.items) k (l ∙ sym (e.commands)),
+      h.0 above (tasks_of f p) k (l ∙ sym (e.commands)),
       h.5 ∙ w,
       ([], restored_queue f p q r m e g h ∙ sym (append-nil p.queue.nodes.items)),
       h.4 ∙ e.within,
@@ -93,11 +93,11 @@ none_above [] below stack e l = e
 none_above (a ∷ above) below stack e l = absurd (omega (arith, ap length e, length-append above below))
 
 -- a trial that came to its end
-pub trial_ends : {N : Type 0} (f : N → Tree) (p q : Printer N) (i : ℕ) (d : Tree) (old out : List ℕ) → Trying f p i d old q out → length (stack_of f q.commands.items) ≤ length (stack_of f p.commands.items) →
-    (stack_of f q.commands.items ≡ stack_of f p.commands.items) × (bytes : List ℕ) × (out ≡ old ++ bytes) × (trial_of f p i d ≡ Done bytes (state_of f q)) × (owed (state_of f q).pending ≤ limit_of f p d)
+pub trial_ends : {N : Type 0} (f : N → Tree) (p q : Printer N) (i : ℕ) (d : Tree) (old out : List ℕ) → Trying f p i d old q out → length (tasks_of f q) ≤ length (tasks_of f p) →
+    (tasks_of f q ≡ tasks_of f p) × (bytes : List ℕ) × (out ≡ old ++ bytes) × (trial_of f p i d ≡ Done bytes (state_of f q)) × (owed (state_of f q).pending ≤ limit_of f p d)
 trial_ends {N} f p q i d old out y l =
-    let z = inside_end p.options (trial_of f p i d) (limit_of f p d) (stack_of f p.commands.items) old (stack_of f q.commands.items) (state_of f q) out y l in
-    (none_above y.above (stack_of f p.commands.items) (stack_of f q.commands.items) y.stack_is l, z.0, z.1, z.2, z.3)
+    let z = inside_end p.options (trial_of f p i d) (limit_of f p d) (tasks_of f p) old (tasks_of f q) (state_of f q) out y l in
+    (none_above y.above (tasks_of f p) (tasks_of f q) y.stack_is l, z.0, z.1, z.2, z.3)
 
 -- at its end the padding does not fit
 pub padding_rejects : {N : Type 0} (f : N → Tree) (p q : Printer N) (i : ℕ) (d : Tree) (bytes : List ℕ) → trial_of f p i d ≡ Done bytes (state_of f q) → q.within ≡ true →
@@ -108,9 +108,9 @@ padding_rejects {N} f p q i d bytes e w h other =
     ∙ ap (λ (v : Bool). if v then Done bytes (record { column = q.column; pending = (state_of f q).pending; within = p.within }) else other) h
 
 -- a trial that is kept
-pub trial_kept : {N : Type 0} (f : N → Tree) (p q r : Printer N) (i : ℕ) (d : Tree) (old out : List ℕ) → Trying f p i d old q out → length (stack_of f q.commands.items) ≤ length (stack_of f p.commands.items) →
+pub trial_kept : {N : Type 0} (f : N → Tree) (p q r : Printer N) (i : ℕ) (d : Tree) (old out : List ℕ) → Trying f p i d old q out → length (tasks_of f q) ≤ length (tasks_of f p) →
     q.within ≡ true → padding_fits p.options.width (some_pending (state_of f q).pending) q.column ≡ true →
-    stack_of f r.commands.items ≡ stack_of f q.commands.items → state_of f r ≡ record { column = q.column; pending = (state_of f q).pending; within = p.within } → r.options ≡ p.options → Grows p r → TrialDid f p r i d old out true
+    tasks_of f r ≡ tasks_of f q → state_of f r ≡ record { column = q.column; pending = (state_of f q).pending; within = p.within } → r.options ≡ p.options → Grows p r → TrialDid f p r i d old out true
 trial_kept {N} f p q r i d old out y l w h e s o g =
     let z = trial_ends f p q i d old out y l in
     let kept : (other : Outcome) → accept p.options p.within (trial_of f p i d) other ≡ Done z.1 (state_of f r) = λ other.
@@ -121,44 +121,44 @@ trial_kept {N} f p q r i d old out y l w h e s o g =
     (e ∙ z.0, o, g, ap (λ (x : State). x.within) s, omega (arith, z.4, ap (λ (x : State). owed x.pending) s), (z.1, z.2, kept))
 
 -- what a turn does to a trial
-pub trying_turn : {N : Type 0} (f : N → Tree) (p q : Printer N) (i : ℕ) (d : Tree) (old out : List ℕ) (goal : RenderOptions → Outcome → ℕ → List Task → List ℕ → Type 0) → q.options ≡ p.options → length (stack_of f p.commands.items) < length (stack_of f q.commands.items) →
-    Trying f p i d old q out → ForWholes f q out (goal q.options) → goal p.options (trial_of f p i d) (limit_of f p d) (stack_of f p.commands.items) old
+pub trying_turn : {N : Type 0} (f : N → Tree) (p q : Printer N) (i : ℕ) (d : Tree) (old out : List ℕ) (goal : RenderOptions → Outcome → ℕ → List Task → List ℕ → Type 0) → q.options ≡ p.options → length (tasks_of f p) < length (tasks_of f q) →
+    Trying f p i d old q out → ForWholes f q out (goal q.options) → goal p.options (trial_of f p i d) (limit_of f p d) (tasks_of f p) old
 trying_turn {N} f p q i d old out goal e l y h =
-    subst (λ (w : RenderOptions). goal w (trial_of f p i d) (limit_of f p d) (stack_of f p.commands.items) old) e
-    (h (trial_of f p i d) (limit_of f p d) (stack_of f p.commands.items) old l
-    (subst (λ (w : RenderOptions). Inside w (trial_of f p i d) (limit_of f p d) (stack_of f p.commands.items) old (stack_of f q.commands.items) (state_of f q) out) (sym e) y))
+    subst (λ (w : RenderOptions). goal w (trial_of f p i d) (limit_of f p d) (tasks_of f p) old) e
+    (h (trial_of f p i d) (limit_of f p d) (tasks_of f p) old l
+    (subst (λ (w : RenderOptions). Inside w (trial_of f p i d) (limit_of f p d) (tasks_of f p) old (tasks_of f q) (state_of f q) out) (sym e) y))
 
 -- what a trial decides, under options that are the same
 decides_at : {N : Type 0} (f : N → Tree) (q r : Printer N) (o : RenderOptions) (j : ℕ) (x : Tree) (kept : Bool) (old new : List ℕ) → q.options ≡ o →
     Decides kept q.options (trial_of f q j x) q.within old new (state_of f q) (state_of f r) →
-    Decides kept o (lay o (settle o) x j Break (follow (stack_of f q.commands.items)) (tried (state_of f q))) q.within old new (state_of f q) (state_of f r)
+    Decides kept o (lay o (settle o) x j Break (follow (tasks_of f q)) (tried (state_of f q))) q.within old new (state_of f q) (state_of f r)
 decides_at {N} f q r o j x kept old new e h =
-    subst (λ (z : RenderOptions). Decides kept z (lay z (settle z) x j Break (follow (stack_of f q.commands.items)) (tried (state_of f q))) q.within old new (state_of f q) (state_of f r)) e h
+    subst (λ (z : RenderOptions). Decides kept z (lay z (settle z) x j Break (follow (tasks_of f q)) (tried (state_of f q))) q.within old new (state_of f q) (state_of f r)) e h
 
 -- a choice, and its trial kept
 pub choice_kept : {N : Type 0} (f : N → Tree) (q r : Printer N) (o : RenderOptions) (whole : Outcome) (limit : ℕ) (below : List Task) (old out : List ℕ) (j : ℕ) (x y : Tree) (before after : List ℕ) →
-    Waits o whole limit below old j x y (stack_of f q.commands.items) (state_of f q) out → q.options ≡ o → TrialDid f q r j x before after true →
-    (bytes : List ℕ) × (after ≡ before ++ bytes) × Inside o whole limit below old (stack_of f r.commands.items) (state_of f r) (out ++ bytes)
+    Waits o whole limit below old j x y (tasks_of f q) (state_of f q) out → q.options ≡ o → TrialDid f q r j x before after true →
+    (bytes : List ℕ) × (after ≡ before ++ bytes) × Inside o whole limit below old (tasks_of f r) (state_of f r) (out ++ bytes)
 choice_kept {N} f q r o whole limit below old out j x y before after h e d =
     let k = decides_at f q r o j x true before after e d.5 in (
       k.0,
       k.1,
-      inside_at o whole limit below old (stack_of f q.commands.items) (stack_of f r.commands.items) (state_of f r) (state_of f r) (out ++ k.0) (out ++ k.0) d.0 refl refl
-          (waits_kept o whole limit below old j x y (stack_of f q.commands.items) (state_of f q) out h k.0 (state_of f r)
-          (k.2 (lay o (settle o) y j Break (follow (stack_of f q.commands.items)) (state_of f q))) d.4),
+      inside_at o whole limit below old (tasks_of f q) (tasks_of f r) (state_of f r) (state_of f r) (out ++ k.0) (out ++ k.0) d.0 refl refl
+          (waits_kept o whole limit below old j x y (tasks_of f q) (state_of f q) out h k.0 (state_of f r)
+          (k.2 (lay o (settle o) y j Break (follow (tasks_of f q)) (state_of f q))) d.4),
     )
 
 -- a choice, and its trial not kept: the second branch comes next
 pub choice_other : {N : Type 0} (f : N → Tree) (q r u : Printer N) (o : RenderOptions) (whole : Outcome) (limit : ℕ) (below : List Task) (old out : List ℕ) (j : ℕ) (x y : Tree) (before after : List ℕ) →
-    Waits o whole limit below old j x y (stack_of f q.commands.items) (state_of f q) out → q.options ≡ o → TrialDid f q r j x before after false →
-    stack_of f u.commands.items ≡ make_task j Break y ∷ stack_of f r.commands.items → state_of f u ≡ state_of f r →
-    (after ≡ before) × Inside o whole limit below old (stack_of f u.commands.items) (state_of f u) out
+    Waits o whole limit below old j x y (tasks_of f q) (state_of f q) out → q.options ≡ o → TrialDid f q r j x before after false →
+    tasks_of f u ≡ make_task j Break y ∷ tasks_of f r → state_of f u ≡ state_of f r →
+    (after ≡ before) × Inside o whole limit below old (tasks_of f u) (state_of f u) out
 choice_other {N} f q r u o whole limit below old out j x y before after h e d a s =
     let k = decides_at f q r o j x false before after e d.5 in (
       k.0,
-      inside_at o whole limit below old (make_task j Break y ∷ stack_of f q.commands.items) (stack_of f u.commands.items) (state_of f q) (state_of f u) out out
+      inside_at o whole limit below old (make_task j Break y ∷ tasks_of f q) (tasks_of f u) (state_of f q) (state_of f u) out out
           (a ∙ ap (λ (z : List Task). make_task j Break y ∷ z) d.0) (s ∙ k.1) refl
-          (waits_other o whole limit below old j x y (stack_of f q.commands.items) (state_of f q) out h k.2),
+          (waits_other o whole limit below old j x y (tasks_of f q) (state_of f q) out h k.2),
     )
 
 pub length-string_bytes : {Z : Type 0} (s : String Z) (n : ℕ) → n ≡ string_len s → n ≡ length (string_bytes s)

@@ -6,10 +6,10 @@ use Rattle.prettyless_model.specs.declared.options.RenderOptions.{RenderOptions}
 use Rattle.prettyless_model.specs.Tree.{Tree, size}
 use Rattle.prettyless_model.specs.Layout.{State, Outcome, after_bytes}
 use Rattle.prettyless_model.specs.Levels.{settle}
-use Rattle.prettyless_step.specs.Stack.{Task, follow, nodes, stack_of}
+use Rattle.prettyless_step.specs.Stack.{Task, follow, nodes}
 use Rattle.prettyless_step.specs.Steps.{lay_all, work, owed, Step, Move, Stuck, Choose, step_of}
 use Rattle.prettyless_printer.specs.Progress.{Inside, Waits}
-use Rattle.prettyless_step.specs.Printing.{state_of, ShowsAt, TookNext, TookWriting, WritesAt}
+use Rattle.prettyless_step.specs.Printing.{state_of, ShowsAt, TookNext, TookWriting, WritesAt, tasks_of}
 use Rattle.prettyless_printer.specs.Turns.{bytes_before, ForWholes, Goes, Lessens}
 use Rattle.prettyless_step.proofs.Stacks.{nodes-append}
 use Rattle.prettyless_printer.proofs.Steps.{LeavesLess, step_less}
@@ -32,17 +32,17 @@ inside_at o whole limit below old stack stack' st st' out out' e f h p = record 
 
 -- what a turn does to a whole, by the step
 abbrev ByStep : {N : Type 0} → (N → Tree) → Printer N → List ℕ → List Task → Step → Type 0
-ByStep f p out ts step = (whole : Outcome) (limit : ℕ) (below : List Task) (old : List ℕ) → length below < length (stack_of f p.commands.items) →
-    Inside p.options whole limit below old (stack_of f p.commands.items) (state_of f p) out → Steps p.options whole limit below old ts (state_of f p) out step
+ByStep f p out ts step = (whole : Outcome) (limit : ℕ) (below : List Task) (old : List ℕ) → length below < length (tasks_of f p) →
+    Inside p.options whole limit below old (tasks_of f p) (state_of f p) out → Steps p.options whole limit below old ts (state_of f p) out step
 
-by_step : {N : Type 0} (f : N → Tree) (p : Printer N) (out : List ℕ) (t : Task) (ts : List Task) → stack_of f p.commands.items ≡ t ∷ ts →
+by_step : {N : Type 0} (f : N → Tree) (p : Printer N) (out : List ℕ) (t : Task) (ts : List Task) → tasks_of f p ≡ t ∷ ts →
     ByStep f p out ts (step_of p.options t.tree t.indent t.mode (follow ts) (state_of f p))
 by_step {N} f p out t ts e = λ whole limit below old l h.
     stepping p.options whole limit below old t ts (state_of f p) out (omega (arith, ap length e))
-    (inside_at p.options whole limit below old (stack_of f p.commands.items) (t ∷ ts) (state_of f p) (state_of f p) out out (sym e) refl refl h)
+    (inside_at p.options whole limit below old (tasks_of f p) (t ∷ ts) (state_of f p) (state_of f p) out out (sym e) refl refl h)
 
 lessens_by : {N : Type 0} (f : N → Tree) (p q : Printer N) (bytes : List ℕ) (t : Task) (ts : List Task) (step : Step) →
-    stack_of f p.commands.items ≡ t ∷ ts → LeavesLess (owed (state_of f p).pending) (2 * size t.tree + owed (state_of f p).pending) step →
+    tasks_of f p ≡ t ∷ ts → LeavesLess (owed (state_of f p).pending) (2 * size t.tree + owed (state_of f p).pending) step →
     WritesAt f bytes step ts q → Lessens f p q turn.Went
 lessens_by {N} f p q bytes t ts (Move b pushed u) e less h =
     omega (arith, ap nodes h.1, nodes-append pushed ts, ap nodes e, ap (λ (x : State). owed x.pending) h.2)
@@ -57,7 +57,7 @@ lessens {N} f p q bytes h =
 went_by : {N : Type 0} (f : N → Tree) (p q : Printer N) (out new : List ℕ) (bytes : List ℕ) (t : Task) (ts : List Task) (step : Step) →
     ByStep f p out ts step → WritesAt f bytes step ts q → new ≡ out ++ bytes → ForWholes f p out (Goes f p.options q new turn.Went)
 went_by {N} f p q out new bytes t ts (Move b pushed u) g h w = λ whole limit below old l k.
-    inside_at p.options whole limit below old (pushed ++ ts) (stack_of f q.commands.items) u (state_of f q) (out ++ b) new h.1 h.2 (w ∙ ap (λ (x : List ℕ). out ++ x) h.0) (g whole limit below old l k)
+    inside_at p.options whole limit below old (pushed ++ ts) (tasks_of f q) u (state_of f q) (out ++ b) new h.1 h.2 (w ∙ ap (λ (x : List ℕ). out ++ x) h.0) (g whole limit below old l k)
 went_by {N} f p q out new bytes t ts Stuck g h w = absurd h
 went_by {N} f p q out new bytes t ts (Choose i x y) g h w = absurd h
 
@@ -87,14 +87,14 @@ chosen_by : {N : Type 0} (f : N → Tree) (p q : Printer N) (out : List ℕ) (i 
 chosen_by {N} f p q out i l r ts (Move b pushed u) g h = absurd h
 chosen_by {N} f p q out i l r ts Stuck g h = absurd h
 chosen_by {N} f p q out i l r ts (Choose j x y) g h = λ whole limit below old v k.
-    waits_at p.options whole limit below old j i x (f l) y (f r) ts (stack_of f q.commands.items) (state_of f p) (state_of f q) out h.0 h.1 h.2 h.3 h.4 (g whole limit below old v k)
+    waits_at p.options whole limit below old j i x (f l) y (f r) ts (tasks_of f q) (state_of f p) (state_of f q) out h.0 h.1 h.2 h.3 h.4 (g whole limit below old v k)
 
 pub chosen : {N : Type 0} (f : N → Tree) (p q : Printer N) (out : List ℕ) (i : ℕ) (l r : N) → TookNext f p q (Chosen i l r) → ForWholes f p out (Goes f p.options q out (turn.Chosen i l r))
 chosen {N} f p q out i l r h =
     chosen_by f p q out i l r h.1 (step_of p.options h.0.tree h.0.indent h.0.mode (follow h.1) (state_of f p)) (by_step f p out h.0 h.1 h.2) h.3
 
 choice_lessens_by : {N : Type 0} (f : N → Tree) (p q : Printer N) (i : ℕ) (l r : N) (t : Task) (ts : List Task) (step : Step) →
-    stack_of f p.commands.items ≡ t ∷ ts → LeavesLess (owed (state_of f p).pending) (2 * size t.tree + owed (state_of f p).pending) step →
+    tasks_of f p ≡ t ∷ ts → LeavesLess (owed (state_of f p).pending) (2 * size t.tree + owed (state_of f p).pending) step →
     ShowsAt f (Chosen i l r) step ts (state_of f p) q → Lessens f p q (turn.Chosen i l r)
 choice_lessens_by {N} f p q i l r t ts (Move b pushed u) e less h = absurd h
 choice_lessens_by {N} f p q i l r t ts Stuck e less h = absurd h
@@ -106,7 +106,7 @@ choice_lessens {N} f p q i l r h =
     choice_lessens_by f p q i l r h.0 h.1 (step_of p.options h.0.tree h.0.indent h.0.mode (follow h.1) (state_of f p)) h.2
     (step_less p.options h.0.tree h.0.indent h.0.mode (follow h.1) (state_of f p)) h.3
 
--- a beginning of the next piece, behind what was written, is a beginning of the whole
+-- a beginning of the next piece, after what was written, is a beginning of the whole
 pub beginning_less : (old out new b text : List ℕ) → AppendsBeginning out new b → AppendsBeginning old (out ++ b) text → (front : List ℕ) × (out ≡ old ++ front) → AppendsBeginning old new text
 beginning_less old out new b text p q w =
     let c : w.0 ++ b ≡ q.0 = append_cancel_left old (w.0 ++ b) q.0 (sym (append_assoc old w.0 b) ∙ ap (λ (x : List ℕ). x ++ b) (sym w.1) ∙ q.3) in (
@@ -121,4 +121,4 @@ pub sink_broke : {N : Type 0} (f : N → Tree) (p q : Printer N) (out new : List
 sink_broke {N} f p q out new bytes h part = λ whole limit below old l k.
     let i = went f p q out (out ++ bytes) bytes h refl whole limit below old l k in
     beginning_less old out new (bytes) (bytes_before whole) part
-    (inside_beginning p.options whole limit below old (stack_of f q.commands.items) (state_of f q) (out ++ bytes) i) (k.bytes, k.out_is)
+    (inside_beginning p.options whole limit below old (tasks_of f q) (state_of f q) (out ++ bytes) i) (k.bytes, k.out_is)

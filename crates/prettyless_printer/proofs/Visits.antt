@@ -11,10 +11,10 @@ use Rattle.prettyless_model.specs.Content.{suffix_depth}
 use Rattle.prettyless_model.specs.Layout.{State, Done, Entry, lay_text, lay_ending, next_indent, is_suppressed, plain_break, probe}
 use Rattle.prettyless_model.specs.declared.mode.Mode.{Mode}
 use Rattle.prettyless_model.specs.declared.mode.Mode.TheVariants.{Break, Flat}
-use Rattle.prettyless_step.specs.Stack.{Task, make_task, follow, nodes, stack_of}
+use Rattle.prettyless_step.specs.Stack.{Task, make_task, follow, nodes}
 use Rattle.prettyless_step.specs.Steps.{Step, Move, Stuck, Choose, step_of, union_step, decided_by_metrics, break_step, at_once, counted_payload, rejects_payload, owed}
-use Rattle.prettyless_step.specs.Printing.{state_of, ShowsAt, TookNext, TookWriting, WritesAt}
-use Rattle.prettyless_printer.specs.Visits.{suffixes, Plain, charges, Rise, Pays, RunPays, Visited}
+use Rattle.prettyless_step.specs.Printing.{state_of, ShowsAt, TookNext, TookWriting, WritesAt, tasks_of}
+use Rattle.prettyless_printer.specs.Visits.{suffixes, Plain, charges, Rise, CountsAtMost, RunCountsAtMost, Visited}
 use Rattle.prettyless_step.specs.declared.printer.Printer.{Printer}
 use Rattle.prettyless_step.specs.declared.printer.Taken.TheVariants.{Failed, Chosen}
 use Rattle.prettyless_step.specs.Probing.{asked}
@@ -36,85 +36,85 @@ payload_visits-plus false v w x h k = omega arith
 
 pub ruleset payload_visits = (payload_visits-least, payload_visits-most)
 
--- what a node asks for is paid by it
-pub asked_paid : (d : Tree) (k n : ℕ) → size d + k ≤ n → asked d k ≤ n * probed d
-asked_paid Nil k n h = omega arith
-asked_paid Fail k n h = omega arith
-asked_paid (Text s) k n h = omega arith
-asked_paid (TextWithLen w s) k n h = omega arith
-asked_paid (MultilineText s) k n h = omega arith
-asked_paid WeakSpace k n h = omega arith
-asked_paid HardLine k n h = omega arith
-asked_paid WeakLine k n h = omega arith
-asked_paid (Append l r) k n h = omega arith
-asked_paid (LineSuffix d) k n h = omega arith
-asked_paid (Nest i d) k n h = omega arith
-asked_paid (DedentToRoot d) k n h = omega arith
-asked_paid (Align d) k n h = omega arith
-asked_paid ExpandParent k n h = omega arith
-asked_paid (Flatten d) k n h = omega arith
-asked_paid (BreakOrFlat b f) k n h = omega arith
-asked_paid (Group d) k n h = omega arith
-asked_paid (Union l r) k n h = omega arith
-asked_paid (PartialUnion l r) k n h = omega arith
+-- what a node asks for is most by it
+pub asked_at_most : (d : Tree) (k n : ℕ) → size d + k ≤ n → asked d k ≤ n * probed d
+asked_at_most Nil k n h = omega arith
+asked_at_most Fail k n h = omega arith
+asked_at_most (Text s) k n h = omega arith
+asked_at_most (TextWithLen w s) k n h = omega arith
+asked_at_most (MultilineText s) k n h = omega arith
+asked_at_most WeakSpace k n h = omega arith
+asked_at_most HardLine k n h = omega arith
+asked_at_most WeakLine k n h = omega arith
+asked_at_most (Append l r) k n h = omega arith
+asked_at_most (LineSuffix d) k n h = omega arith
+asked_at_most (Nest i d) k n h = omega arith
+asked_at_most (DedentToRoot d) k n h = omega arith
+asked_at_most (Align d) k n h = omega arith
+asked_at_most ExpandParent k n h = omega arith
+asked_at_most (Flatten d) k n h = omega arith
+asked_at_most (BreakOrFlat b f) k n h = omega arith
+asked_at_most (Group d) k n h = omega arith
+asked_at_most (Union l r) k n h = omega arith
+asked_at_most (PartialUnion l r) k n h = omega arith
 
 -- a step of a node that asked for a, in what a node may ask for
-abbrev StepPays : ℕ → ℕ → ℕ → Step → Type 0
-StepPays n a paid (Move b pushed u) = (suffixes pushed ≡ 0) × (u.pending ≡ []) × (a + charges n pushed ≤ paid)
-StepPays n a paid Stuck = Unit {0}
-StepPays n a paid (Choose i l r) = (suffix_depth l ≡ 0) × (suffix_depth r ≡ 0) × (a + (n * probed l + n * probed r) ≤ paid)
+abbrev StepAtMost : ℕ → ℕ → ℕ → Step → Type 0
+StepAtMost n a most (Move b pushed u) = (suffixes pushed ≡ 0) × (u.pending ≡ []) × (a + charges n pushed ≤ most)
+StepAtMost n a most Stuck = Unit {0}
+StepAtMost n a most (Choose i l r) = (suffix_depth l ≡ 0) × (suffix_depth r ≡ 0) × (a + (n * probed l + n * probed r) ≤ most)
 
-text_pays : (o : RenderOptions) (w : ℕ) (s : List ℕ) (st : State) (n : ℕ) → st.pending ≡ [] → StepPays n 0 (n * 0) (at_once (lay_text o w s st))
-text_pays o w [] st n h = (refl, h, omega arith)
-text_pays o w (b ∷ bs) st n h = (refl, h, omega arith)
+text_at_most : (o : RenderOptions) (w : ℕ) (s : List ℕ) (st : State) (n : ℕ) → st.pending ≡ [] → StepAtMost n 0 (n * 0) (at_once (lay_text o w s st))
+text_at_most o w [] st n h = (refl, h, omega arith)
+text_at_most o w (b ∷ bs) st n h = (refl, h, omega arith)
 
-ending_pays : (o : RenderOptions) (p : IndentationPolicy) (k : ℕ) (st : State) (n : ℕ) → st.pending ≡ [] → StepPays n 0 (n * 0) (at_once (lay_ending o p k st))
-ending_pays o Eager k st n h = (refl, h, omega arith)
-ending_pays o Deferred k st n h = (refl, h, omega arith)
+ending_at_most : (o : RenderOptions) (p : IndentationPolicy) (k : ℕ) (st : State) (n : ℕ) → st.pending ≡ [] → StepAtMost n 0 (n * 0) (at_once (lay_ending o p k st))
+ending_at_most o Eager k st n h = (refl, h, omega arith)
+ending_at_most o Deferred k st n h = (refl, h, omega arith)
 
-plain_pays : (o : RenderOptions) (d : Tree) (i : ℕ) (rest : List Entry) (st : State) (n : ℕ) → st.pending ≡ [] → StepPays n 0 (n * 0) (at_once (plain_break o d i rest st))
-plain_pays o d i rest st n h =
-    elim (is_suppressed d st.column) as (λ v. StepPays n 0 (n * 0) (at_once (if v then Done [] st else lay_ending o o.indentation_policy (next_indent i rest) st)))
-    [ true ↦ (refl, h, omega arith) | false ↦ ending_pays o o.indentation_policy (next_indent i rest) st n h ]
+plain_at_most : (o : RenderOptions) (d : Tree) (i : ℕ) (rest : List Entry) (st : State) (n : ℕ) → st.pending ≡ [] → StepAtMost n 0 (n * 0) (at_once (plain_break o d i rest st))
+plain_at_most o d i rest st n h =
+    elim (is_suppressed d st.column) as (λ v. StepAtMost n 0 (n * 0) (at_once (if v then Done [] st else lay_ending o o.indentation_policy (next_indent i rest) st)))
+    [ true ↦ (refl, h, omega arith) | false ↦ ending_at_most o o.indentation_policy (next_indent i rest) st n h ]
 
-break_pays : (o : RenderOptions) (ps : List Tree) (d : Tree) (i : ℕ) (m : Mode) (rest : List Entry) (st : State) (n : ℕ) → ps ≡ [] → st.pending ≡ [] → StepPays n 0 (n * 0) (break_step o ps d i m rest st)
-break_pays o [] d i m rest st n e h = plain_pays o d i rest st n h
-break_pays o (p ∷ ps) d i m rest st n e h = absurd (cc)
+break_at_most : (o : RenderOptions) (ps : List Tree) (d : Tree) (i : ℕ) (m : Mode) (rest : List Entry) (st : State) (n : ℕ) → ps ≡ [] → st.pending ≡ [] → StepAtMost n 0 (n * 0) (break_step o ps d i m rest st)
+break_at_most o [] d i m rest st n e h = plain_at_most o d i rest st n h
+break_at_most o (p ∷ ps) d i m rest st n e h = absurd (cc)
 
 -- one of two nodes
-either_pays : (l r : Tree) (i : ℕ) (m : Mode) (st : State) (n a paid : ℕ) (v : Bool) → suffix_depth l ≡ 0 → suffix_depth r ≡ 0 → st.pending ≡ [] → a + (n * probed l + n * probed r) ≤ paid → StepPays n a paid (Move [] (make_task i m (if v then l else r) ∷ []) st)
-either_pays l r i m st n a paid true x y h k = (omega arith, h, omega arith)
-either_pays l r i m st n a paid false x y h k = (omega arith, h, omega arith)
+either_at_most : (l r : Tree) (i : ℕ) (m : Mode) (st : State) (n a most : ℕ) (v : Bool) → suffix_depth l ≡ 0 → suffix_depth r ≡ 0 → st.pending ≡ [] → a + (n * probed l + n * probed r) ≤ most → StepAtMost n a most (Move [] (make_task i m (if v then l else r) ∷ []) st)
+either_at_most l r i m st n a most true x y h k = (omega arith, h, omega arith)
+either_at_most l r i m st n a most false x y h k = (omega arith, h, omega arith)
 
-union_pays : (l r : Tree) (i : ℕ) (st : State) (n paid : ℕ) (v : Option Bool) → suffix_depth l ≡ 0 → suffix_depth r ≡ 0 → st.pending ≡ [] → n * probed l + n * probed r ≤ paid → StepPays n 0 paid (union_step v l r i st)
-union_pays l r i st n paid (Some v) x y h k = either_pays l r i Break st n 0 paid v x y h (omega (arith, k))
-union_pays l r i st n paid None x y h k = (x, y, omega (arith, k))
+union_at_most : (l r : Tree) (i : ℕ) (st : State) (n most : ℕ) (v : Option Bool) → suffix_depth l ≡ 0 → suffix_depth r ≡ 0 → st.pending ≡ [] → n * probed l + n * probed r ≤ most → StepAtMost n 0 most (union_step v l r i st)
+union_at_most l r i st n most (Some v) x y h k = either_at_most l r i Break st n 0 most v x y h (omega (arith, k))
+union_at_most l r i st n most None x y h k = (x, y, omega (arith, k))
 
-step_pays : (o : RenderOptions) (d : Tree) (i : ℕ) (m : Mode) (rest : List Entry) (st : State) (n k : ℕ) → suffix_depth d ≡ 0 → st.pending ≡ [] → size d + k ≤ n → StepPays n (asked d k) (n * probed d) (step_of o d i m rest st)
-step_pays o Nil i m rest st n k z h l = (refl, h, omega arith)
-step_pays o Fail i m rest st n k z h l = tt
-step_pays o (Text s) i m rest st n k z h l = text_pays o (length s) s st n h
-step_pays o (TextWithLen w s) i m rest st n k z h l = text_pays o w s st n h
-step_pays o (MultilineText s) i Break rest st n k z h l = (refl, h, omega arith)
-step_pays o (MultilineText s) i Flat rest st n k z h l = tt
-step_pays o WeakSpace i m rest st n k z h l = (refl, h, omega arith)
-step_pays o HardLine i Break rest st n k z h l = break_pays o st.pending HardLine i Break rest st n h h
-step_pays o HardLine i Flat rest st n k z h l = tt
-step_pays o WeakLine i m rest st n k z h l = break_pays o st.pending WeakLine i m rest st n h h
-step_pays o (Append a b) i m rest st n k z h l = (omega arith, h, omega arith)
-step_pays o (LineSuffix d) i m rest st n k z h l = absurd (omega arith)
-step_pays o (Nest j d) i m rest st n k z h l = (omega arith, h, omega arith)
-step_pays o (DedentToRoot d) i m rest st n k z h l = (omega arith, h, omega arith)
-step_pays o (Align d) i m rest st n k z h l = (omega arith, h, omega arith)
-step_pays o ExpandParent i m rest st n k z h l = (refl, h, omega arith)
-step_pays o (Flatten d) i m rest st n k z h l = (omega arith, h, omega arith)
-step_pays o (BreakOrFlat b f) i Break rest st n k z h l = (omega arith, h, omega arith)
-step_pays o (BreakOrFlat b f) i Flat rest st n k z h l = (omega arith, h, omega arith)
-step_pays o (Group d) i m rest st n k z h l = (omega arith, h, omega arith)
-step_pays o (Union a b) i Break rest st n k z h l = union_pays a b i st n (n * (probed a + probed b)) (decided_by_metrics o a st) (omega arith) (omega arith) h (omega arith)
-step_pays o (Union a b) i Flat rest st n k z h l = (omega arith, h, omega arith)
-step_pays o (PartialUnion a b) i Break rest st n k z h l = either_pays a b i Break st n (size a + k) (n * (probed a + probed b + 1)) (probe o a Break rest st) (omega arith) (omega arith) h (omega arith)
-step_pays o (PartialUnion a b) i Flat rest st n k z h l = (omega arith, h, omega arith)
+step_at_most : (o : RenderOptions) (d : Tree) (i : ℕ) (m : Mode) (rest : List Entry) (st : State) (n k : ℕ) → suffix_depth d ≡ 0 → st.pending ≡ [] → size d + k ≤ n → StepAtMost n (asked d k) (n * probed d) (step_of o d i m rest st)
+step_at_most o Nil i m rest st n k z h l = (refl, h, omega arith)
+step_at_most o Fail i m rest st n k z h l = tt
+step_at_most o (Text s) i m rest st n k z h l = text_at_most o (length s) s st n h
+step_at_most o (TextWithLen w s) i m rest st n k z h l = text_at_most o w s st n h
+step_at_most o (MultilineText s) i Break rest st n k z h l = (refl, h, omega arith)
+step_at_most o (MultilineText s) i Flat rest st n k z h l = tt
+step_at_most o WeakSpace i m rest st n k z h l = (refl, h, omega arith)
+step_at_most o HardLine i Break rest st n k z h l = break_at_most o st.pending HardLine i Break rest st n h h
+step_at_most o HardLine i Flat rest st n k z h l = tt
+step_at_most o WeakLine i m rest st n k z h l = break_at_most o st.pending WeakLine i m rest st n h h
+step_at_most o (Append a b) i m rest st n k z h l = (omega arith, h, omega arith)
+step_at_most o (LineSuffix d) i m rest st n k z h l = absurd (omega arith)
+step_at_most o (Nest j d) i m rest st n k z h l = (omega arith, h, omega arith)
+step_at_most o (DedentToRoot d) i m rest st n k z h l = (omega arith, h, omega arith)
+step_at_most o (Align d) i m rest st n k z h l = (omega arith, h, omega arith)
+step_at_most o ExpandParent i m rest st n k z h l = (refl, h, omega arith)
+step_at_most o (Flatten d) i m rest st n k z h l = (omega arith, h, omega arith)
+step_at_most o (BreakOrFlat b f) i Break rest st n k z h l = (omega arith, h, omega arith)
+step_at_most o (BreakOrFlat b f) i Flat rest st n k z h l = (omega arith, h, omega arith)
+step_at_most o (Group d) i m rest st n k z h l = (omega arith, h, omega arith)
+step_at_most o (Union a b) i Break rest st n k z h l = union_at_most a b i st n (n * (probed a + probed b)) (decided_by_metrics o a st) (omega arith) (omega arith) h (omega arith)
+step_at_most o (Union a b) i Flat rest st n k z h l = (omega arith, h, omega arith)
+step_at_most o (PartialUnion a b) i Break rest st n k z h l = either_at_most a b i Break st n (size a + k) (n * (probed a + probed b + 1)) (probe o a Break rest st) (omega arith) (omega arith) h (omega arith)
+step_at_most o (PartialUnion a b) i Flat rest st n k z h l = (omega arith, h, omega arith)
 
 suffixes-append : (ts us : List Task) → suffixes (ts ++ us) ≡ suffixes ts + suffixes us
 suffixes-append [] us = omega arith
@@ -126,24 +126,24 @@ charges-append n (t ∷ ts) us = omega (arith, charges-append n ts us)
 
 -- one node was visited, a payload that it rejected, and what it asked for
 pub record OneMore {N : Type 0} (f : N → Tree) (p : Printer N) (t : Task) (ts : List Task) (v w : Visits) : Type 0 where
-  pub stack_is : stack_of f p.commands.items ≡ t ∷ ts
+  pub stack_is : tasks_of f p ≡ t ∷ ts
   pub printer : w.printer ≤ v.printer + 1 + extra (rejects_payload p.options t.tree t.mode (state_of f p))
   pub probes : w.probes ≤ v.probes + asked t.tree (nodes ts)
 
 abbrev Stepped : {N : Type 0} → (N → Tree) → Printer N → Task → List Task → Step → Type 0
 Stepped f p t ts step =
     LeavesLess (owed (state_of f p).pending) (2 * size t.tree + owed (state_of f p).pending - 2 * extra (rejects_payload p.options t.tree t.mode (state_of f p))) step
-    × ((n : ℕ) → size t.tree + nodes ts ≤ n → StepPays n (asked t.tree (nodes ts)) (n * probed t.tree) step)
+    × ((n : ℕ) → size t.tree + nodes ts ≤ n → StepAtMost n (asked t.tree (nodes ts)) (n * probed t.tree) step)
 
-stepped : {N : Type 0} (f : N → Tree) (p : Printer N) (t : Task) (ts : List Task) → stack_of f p.commands.items ≡ t ∷ ts → Plain f p → Stepped f p t ts (step_of p.options t.tree t.indent t.mode (follow ts) (state_of f p))
+stepped : {N : Type 0} (f : N → Tree) (p : Printer N) (t : Task) (ts : List Task) → tasks_of f p ≡ t ∷ ts → Plain f p → Stepped f p t ts (step_of p.options t.tree t.indent t.mode (follow ts) (state_of f p))
 stepped {N} f p t ts e plain = (
   step_less_visits p.options t.tree t.indent t.mode (follow ts) (state_of f p),
-  λ n l. step_pays p.options t.tree t.indent t.mode (follow ts) (state_of f p) n (nodes ts) (omega (arith, plain.none, ap suffixes e)) plain.pending l,
+  λ n l. step_at_most p.options t.tree t.indent t.mode (follow ts) (state_of f p) n (nodes ts) (omega (arith, plain.none, ap suffixes e)) plain.pending l,
 )
 
 went_by : {N : Type 0} (f : N → Tree) (p q : Printer N) (bytes : List ℕ) (v w : Visits) (t : Task) (ts : List Task) (step : Step) →
     OneMore f p t ts v w → Plain f p → Stepped f p t ts step → WritesAt f bytes step ts q →
-    Plain f q × Pays (stack_of f p.commands.items) (stack_of f q.commands.items) v w
+    Plain f q × CountsAtMost (tasks_of f p) (tasks_of f q) v w
 went_by {N} f p q bytes v w t ts (Move b pushed u) more plain s h =
     let a = s.1 (size t.tree + nodes ts) (omega arith) in
     let none : owed (state_of f p).pending ≡ 0 = ap owed plain.pending in
@@ -164,19 +164,19 @@ went_by {N} f p q bytes v w t ts Stuck more plain s h = absurd h
 went_by {N} f p q bytes v w t ts (Choose i x y) more plain s h = absurd h
 
 failed_by : {N : Type 0} (f : N → Tree) (p q : Printer N) (v w : Visits) (t : Task) (ts : List Task) (step : Step) →
-    OneMore f p t ts v w → ShowsAt f Failed step ts (state_of f p) q → Pays (stack_of f p.commands.items) (stack_of f q.commands.items) v w
+    OneMore f p t ts v w → ShowsAt f Failed step ts (state_of f p) q → CountsAtMost (tasks_of f p) (tasks_of f q) v w
 failed_by {N} f p q v w t ts (Move b pushed u) more h = absurd h
 failed_by {N} f p q v w t ts Stuck more h = record {
   left = omega (arith, ap nodes h, ap nodes more.stack_is);
   printer = omega (arith, more.printer, visits_within p.options t.tree t.mode (state_of f p), ap nodes h, ap nodes more.stack_is);
-  probes = λ n l. omega (arith, asked_paid t.tree (nodes ts) n (omega (arith, l, ap nodes more.stack_is)), more.probes, ap (charges n) h, ap (charges n) more.stack_is);
+  probes = λ n l. omega (arith, asked_at_most t.tree (nodes ts) n (omega (arith, l, ap nodes more.stack_is)), more.probes, ap (charges n) h, ap (charges n) more.stack_is);
 }
 failed_by {N} f p q v w t ts (Choose i x y) more h = absurd h
 
 chosen_by : {N : Type 0} (f : N → Tree) (p q : Printer N) (i : ℕ) (a b : N) (v w : Visits) (t : Task) (ts : List Task) (step : Step) →
     OneMore f p t ts v w → Plain f p → Stepped f p t ts step → ShowsAt f (Chosen i a b) step ts (state_of f p) q →
     Plain f q × (suffix_depth (f a) ≡ 0) × (suffix_depth (f b) ≡ 0)
-    × Pays (stack_of f p.commands.items) (make_task i Break (f a) ∷ make_task i Break (f b) ∷ stack_of f q.commands.items) v w
+    × CountsAtMost (tasks_of f p) (make_task i Break (f a) ∷ make_task i Break (f b) ∷ tasks_of f q) v w
 chosen_by {N} f p q i a b v w t ts (Move c pushed u) more plain s h = absurd h
 chosen_by {N} f p q i a b v w t ts Stuck more plain s h = absurd h
 chosen_by {N} f p q i a b v w t ts (Choose j x y) more plain s h =
@@ -197,8 +197,8 @@ chosen_by {N} f p q i a b v w t ts (Choose j x y) more plain s h =
       },
     )
 
--- the node that was taken up is the one on top
-one_more : {N : Type 0} (f : N → Tree) (p : Printer N) (s t : Task) (rest ts : List Task) (v w : Visits) → OneMore f p s rest v w → stack_of f p.commands.items ≡ t ∷ ts → OneMore f p t ts v w
+-- the node that was visited is the one on top
+one_more : {N : Type 0} (f : N → Tree) (p : Printer N) (s t : Task) (rest ts : List Task) (v w : Visits) → OneMore f p s rest v w → tasks_of f p ≡ t ∷ ts → OneMore f p t ts v w
 one_more {N} f p s t rest ts v w more e =
     let same : s ∷ rest ≡ t ∷ ts = sym more.stack_is ∙ e in
     let a : s ≡ t = cc in
@@ -209,27 +209,27 @@ one_more {N} f p s t rest ts v w more e =
       probes = omega (arith, more.probes, ap (λ (x : Task). asked x.tree (nodes rest)) a, ap (λ (x : List Task). asked t.tree (nodes x)) b);
     }
 
-pub went_pays : {N : Type 0} (f : N → Tree) (p q : Printer N) (bytes : List ℕ) (v w : Visits) (s : Task) (rest : List Task) → OneMore f p s rest v w → TookWriting f p q bytes → Plain f p →
-    Plain f q × Pays (stack_of f p.commands.items) (stack_of f q.commands.items) v w
-went_pays {N} f p q bytes v w s rest more h plain =
+pub went_at_most : {N : Type 0} (f : N → Tree) (p q : Printer N) (bytes : List ℕ) (v w : Visits) (s : Task) (rest : List Task) → OneMore f p s rest v w → TookWriting f p q bytes → Plain f p →
+    Plain f q × CountsAtMost (tasks_of f p) (tasks_of f q) v w
+went_at_most {N} f p q bytes v w s rest more h plain =
     went_by f p q bytes v w h.0 h.1 (step_of p.options h.0.tree h.0.indent h.0.mode (follow h.1) (state_of f p)) (one_more f p s h.0 rest h.1 v w more h.2) plain (stepped f p h.0 h.1 h.2 plain) h.3
 
-pub failed_pays : {N : Type 0} (f : N → Tree) (p q : Printer N) (v w : Visits) (s : Task) (rest : List Task) → OneMore f p s rest v w → TookNext f p q Failed → Pays (stack_of f p.commands.items) (stack_of f q.commands.items) v w
-failed_pays {N} f p q v w s rest more h =
+pub failed_at_most : {N : Type 0} (f : N → Tree) (p q : Printer N) (v w : Visits) (s : Task) (rest : List Task) → OneMore f p s rest v w → TookNext f p q Failed → CountsAtMost (tasks_of f p) (tasks_of f q) v w
+failed_at_most {N} f p q v w s rest more h =
     failed_by f p q v w h.0 h.1 (step_of p.options h.0.tree h.0.indent h.0.mode (follow h.1) (state_of f p)) (one_more f p s h.0 rest h.1 v w more h.2) h.3
 
-pub chosen_pays : {N : Type 0} (f : N → Tree) (p q : Printer N) (i : ℕ) (a b : N) (v w : Visits) (s : Task) (rest : List Task) → OneMore f p s rest v w → TookNext f p q (Chosen i a b) → Plain f p →
+pub chosen_at_most : {N : Type 0} (f : N → Tree) (p q : Printer N) (i : ℕ) (a b : N) (v w : Visits) (s : Task) (rest : List Task) → OneMore f p s rest v w → TookNext f p q (Chosen i a b) → Plain f p →
     Plain f q × (suffix_depth (f a) ≡ 0) × (suffix_depth (f b) ≡ 0)
-    × Pays (stack_of f p.commands.items) (make_task i Break (f a) ∷ make_task i Break (f b) ∷ stack_of f q.commands.items) v w
-chosen_pays {N} f p q i a b v w s rest more h plain =
+    × CountsAtMost (tasks_of f p) (make_task i Break (f a) ∷ make_task i Break (f b) ∷ tasks_of f q) v w
+chosen_at_most {N} f p q i a b v w s rest more h plain =
     chosen_by f p q i a b v w h.0 h.1 (step_of p.options h.0.tree h.0.indent h.0.mode (follow h.1) (state_of f p)) (one_more f p s h.0 rest h.1 v w more h.2) plain (stepped f p h.0 h.1 h.2 plain) h.3
 
--- a node was taken up, and memory or the sink failed
-pub broke_pays : {N : Type 0} (f : N → Tree) (p : Printer N) (v w : Visits) (t : Task) (ts : List Task) → OneMore f p t ts v w → Pays (stack_of f p.commands.items) [] v w
-broke_pays {N} f p v w t ts more = record {
+-- a node was visited, and memory or the sink failed
+pub broke_at_most : {N : Type 0} (f : N → Tree) (p : Printer N) (v w : Visits) (t : Task) (ts : List Task) → OneMore f p t ts v w → CountsAtMost (tasks_of f p) [] v w
+broke_at_most {N} f p v w t ts more = record {
   left = omega arith;
   printer = omega (arith, more.printer, visits_within p.options t.tree t.mode (state_of f p), ap nodes more.stack_is);
-  probes = λ n l. omega (arith, asked_paid t.tree (nodes ts) n (omega (arith, l, ap nodes more.stack_is)), more.probes, ap (charges n) more.stack_is);
+  probes = λ n l. omega (arith, asked_at_most t.tree (nodes ts) n (omega (arith, l, ap nodes more.stack_is)), more.probes, ap (charges n) more.stack_is);
 }
 
 pub rise_same : (v : Visits) → Rise v v
@@ -238,72 +238,72 @@ rise_same v = record { printer = omega arith; probes = omega arith }
 pub rise_then : {v w x : Visits} → Rise v w → Rise w x → Rise v x
 rise_then {v} {w} {x} a b = record { printer = omega (arith, a.printer, b.printer); probes = omega (arith, a.probes, b.probes) }
 
-pub pays_same : (ts : List Task) (v : Visits) → Pays ts ts v v
-pays_same ts v = record { left = omega arith; printer = omega arith; probes = λ n l. omega arith }
+pub at_most_same : (ts : List Task) (v : Visits) → CountsAtMost ts ts v v
+at_most_same ts v = record { left = omega arith; printer = omega arith; probes = λ n l. omega arith }
 
-pub pays_then : {ts us xs : List Task} {v w x : Visits} → Pays ts us v w → Pays us xs w x → Pays ts xs v x
-pays_then {ts} {us} {xs} {v} {w} {x} a b = record {
+pub at_most_then : {ts us xs : List Task} {v w x : Visits} → CountsAtMost ts us v w → CountsAtMost us xs w x → CountsAtMost ts xs v x
+at_most_then {ts} {us} {xs} {v} {w} {x} a b = record {
   left = omega (arith, a.left, b.left);
   printer = omega (arith, a.printer, b.printer);
   probes = λ n l. omega (arith, a.probes n l, b.probes n (omega (arith, l, a.left)));
 }
 
 -- what is left is cut off down to what is below
-pub pays_cut : {ts us : List Task} {v w : Visits} (above below xs : List Task) → us ≡ above ++ below → xs ≡ below → Pays ts us v w → Pays ts xs v w
-pays_cut {ts} {us} {v} {w} above below xs e h a = record {
+pub at_most_cut : {ts us : List Task} {v w : Visits} (above below xs : List Task) → us ≡ above ++ below → xs ≡ below → CountsAtMost ts us v w → CountsAtMost ts xs v w
+at_most_cut {ts} {us} {v} {w} above below xs e h a = record {
   left = omega (arith, a.left, ap nodes e, nodes-append above below, ap nodes h);
   printer = omega (arith, a.printer, ap nodes e, nodes-append above below, ap nodes h);
   probes = λ n l. omega (arith, a.probes n l, ap (charges n) e, charges-append n above below, ap (charges n) h);
 }
 
 -- none of it is left
-pub pays_all : {ts us : List Task} {v w : Visits} → Pays ts us v w → Pays ts [] v w
-pays_all {ts} {us} {v} {w} a = record {
+pub at_most_all : {ts us : List Task} {v w : Visits} → CountsAtMost ts us v w → CountsAtMost ts [] v w
+at_most_all {ts} {us} {v} {w} a = record {
   left = omega arith;
   printer = omega (arith, a.printer);
   probes = λ n l. omega (arith, a.probes n l);
 }
 
 -- the first of two branches, with the second one kept for later
-pub pays_besides : {ts us : List Task} {v w : Visits} (s t : Task) → Pays (s ∷ ts) us v w → Pays (s ∷ t ∷ ts) (t ∷ us) v w
-pays_besides {ts} {us} {v} {w} s t a = record {
+pub at_most_besides : {ts us : List Task} {v w : Visits} (s t : Task) → CountsAtMost (s ∷ ts) us v w → CountsAtMost (s ∷ t ∷ ts) (t ∷ us) v w
+at_most_besides {ts} {us} {v} {w} s t a = record {
   left = omega (arith, a.left);
   printer = omega (arith, a.printer);
   probes = λ n l. omega (arith, a.probes n (omega (arith, l)));
 }
 
 -- the same where only the first branch is of use
-pub pays_first : {ts us : List Task} {v w : Visits} (s t : Task) → Pays (s ∷ ts) us v w → Pays (s ∷ t ∷ ts) us v w
-pays_first {ts} {us} {v} {w} s t a = record {
+pub at_most_first : {ts us : List Task} {v w : Visits} (s t : Task) → CountsAtMost (s ∷ ts) us v w → CountsAtMost (s ∷ t ∷ ts) us v w
+at_most_first {ts} {us} {v} {w} s t a = record {
   left = omega (arith, a.left);
   printer = omega (arith, a.printer);
   probes = λ n l. omega (arith, a.probes n (omega (arith, l)));
 }
 
-pub pays_at : {ts us : List Task} {v w : Visits} (xs : List Task) → xs ≡ us → Pays ts us v w → Pays ts xs v w
-pays_at {ts} {us} {v} {w} xs e a = pays_cut [] us xs refl e a
+pub at_most_at : {ts us : List Task} {v w : Visits} (xs : List Task) → xs ≡ us → CountsAtMost ts us v w → CountsAtMost ts xs v w
+at_most_at {ts} {us} {v} {w} xs e a = at_most_cut [] us xs refl e a
 
-pub plain_at : {N : Type 0} (f : N → Tree) (p q : Printer N) → stack_of f q.commands.items ≡ stack_of f p.commands.items → state_of f q ≡ state_of f p → Plain f p → Plain f q
+pub plain_at : {N : Type 0} (f : N → Tree) (p q : Printer N) → tasks_of f q ≡ tasks_of f p → state_of f q ≡ state_of f p → Plain f p → Plain f q
 plain_at {N} f p q e h a = record {
   none = ap suffixes e ∙ a.none;
   pending = ap (λ (x : State). x.pending) h ∙ a.pending;
 }
 
 -- a task more on a stack
-pub plain_push : {N : Type 0} (f : N → Tree) (p q : Printer N) (t : Task) → stack_of f q.commands.items ≡ t ∷ stack_of f p.commands.items → (state_of f q).pending ≡ (state_of f p).pending → suffix_depth t.tree ≡ 0 → Plain f p → Plain f q
+pub plain_push : {N : Type 0} (f : N → Tree) (p q : Printer N) (t : Task) → tasks_of f q ≡ t ∷ tasks_of f p → (state_of f q).pending ≡ (state_of f p).pending → suffix_depth t.tree ≡ 0 → Plain f p → Plain f q
 plain_push {N} f p q t e h z a = record {
   none = omega (arith, ap suffixes e, a.none, z);
   pending = h ∙ a.pending;
 }
 
 -- a run that broke off
-pub run_broke : {N A E : Type 0} (f : N → Tree) (ts : List Task) (q : Printer N) (v w : Visits) (r : Result A E) → IsErr r → Pays ts [] v w → RunPays f ts q v w r
+pub run_broke : {N A E : Type 0} (f : N → Tree) (ts : List Task) (q : Printer N) (v w : Visits) (r : Result A E) → IsErr r → CountsAtMost ts [] v w → RunCountsAtMost f ts q v w r
 run_broke {N} {A} {E} f ts q v w (Ok r) h a = cc
 run_broke {N} {A} {E} f ts q v w (Err e) h a = a
 
 -- a run that has worked on one tree
-pub visited : {N A E : Type 0} (f : N → Tree) (d : Tree) (p q : Printer N) (v w : Visits) (r : Result A E) → stack_of f p.commands.items ≡ make_task 0 Break d ∷ [] → (state_of f p).pending ≡ [] →
-    (Plain f p → RunPays f (stack_of f p.commands.items) q v w r) → Visited d v w
+pub visited : {N A E : Type 0} (f : N → Tree) (d : Tree) (p q : Printer N) (v w : Visits) (r : Result A E) → tasks_of f p ≡ make_task 0 Break d ∷ [] → (state_of f p).pending ≡ [] →
+    (Plain f p → RunCountsAtMost f (tasks_of f p) q v w r) → Visited d v w
 visited {N} {A} {E} f d p q v w (Ok r) e h k =
     let plain : suffix_depth d ≡ 0 → Plain f p = λ z. record { none = omega (arith, ap suffixes e, z); pending = h } in
     record {

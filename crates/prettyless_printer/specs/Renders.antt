@@ -1,22 +1,26 @@
 -- How a render ends, against the layout.
-use Rattle.std.specs.Prelude.{◌≡◌, ℕ, List, [], ◌++◌, Option, Some, None, Result, Ok, Err}
-use Rattle.prettyless_sink.specs.Sink.{AppendsBeginning, rise}
+use Rattle.std.specs.Prelude.{◌≡◌, ℕ, List, [], ◌++◌, Option, Some, None, Result, Ok, Err, OnOk}
+use Rattle.prettyless_sink.specs.Sink.{AppendsBeginning, IfKnown, rise}
 use Rattle.prettyless_sink.specs.declared.error.RenderError.{RenderError}
 use Rattle.prettyless_sink.specs.declared.error.RenderError.TheVariants.{Document, Sink, Memory}
+use Rattle.prettyless_sink.specs.declared.visits.Visits.{Visits}
+use Rattle.prettyless_model.specs.declared.options.RenderOptions.{RenderOptions}
 use Rattle.prettyless_model.specs.Tree.{Tree}
 use Rattle.prettyless_model.specs.Spaces.{spaces}
 use Rattle.prettyless_model.specs.Column.{gap}
-use Rattle.prettyless_model.specs.Layout.{Outcome, Done, Failed, Bytes, Whole, Cut, bytes_in, bytes_of, and_then}
+use Rattle.prettyless_model.specs.Layout.{Outcome, Done, Failed, Bytes, Whole, Cut, bytes_in, bytes_of, and_then, layout}
 use Rattle.prettyless_model.specs.Levels.{settle, settle_end}
-use Rattle.prettyless_step.specs.Stack.{stack_of}
 use Rattle.prettyless_step.specs.Steps.{lay_all}
-use Rattle.prettyless_step.specs.Printing.{state_of}
+use Rattle.prettyless_step.specs.Printing.{state_of, tasks_of}
+use Rattle.prettyless_printer.specs.Points.{Seen}
+use Rattle.prettyless_printer.specs.Visits.{Rise, Visited}
+use Rattle.prettyless_printer.specs.AtLeast.{VisitedAtLeast}
 use Rattle.prettyless_printer.specs.Turns.{bytes_before}
 use Rattle.prettyless_step.specs.declared.printer.Printer.{Printer}
 
 -- what the commands that are left lay
 abbrev pub rest_of : {N : Type 0} → (N → Tree) → Printer N → Outcome
-rest_of f p = lay_all p.options (settle p.options) (stack_of f p.commands.items) [] (state_of f p)
+rest_of f p = lay_all p.options (settle p.options) (tasks_of f p) [] (state_of f p)
 
 -- a run that stopped, with its bytes from old to new and its failures from n to m
 abbrev pub Stopped : {E : Type 0} → (E → Type 0) → Outcome → List ℕ → List ℕ → ℕ → ℕ → RenderError E → Type 0
@@ -52,6 +56,19 @@ to_end f p = and_then (rest_of f p) (settle_end p.options)
 -- the commands and the rounds of the end are worked off
 abbrev pub RanToEnd : {N A E : Type 0} → (N → Tree) → Printer N → (E → Type 0) → List ℕ → List ℕ → ℕ → ℕ → Result A (RenderError E) → Type 0
 RanToEnd f p fails old new n m r = Rendered fails (bytes_of (to_end f p)) old new n m r
+
+-- A render of a document to a sink, seen before and after, with the visits before and after.
+pub record Renders {A E : Type 0} (fails : E → Type 0) (o : RenderOptions) (d : Tree) (s t : Seen) (v w : Visits) (r : Result A (RenderError E)) : Type 0 where
+  -- the sink writes through the same reference
+  pub same_lender : t.lender ≡ s.lender
+  -- where the sink's bytes are known, the layout's bytes were appended, as far as the result says
+  pub bytes : IfKnown s.bytes t.bytes (λ before after. Rendered fails (layout o d) before after s.failures t.failures r)
+  -- no count of visits fell
+  pub rise : Rise v w
+  -- without line suffixes, the printer visits each node at most once, and probes as often as nodes ask
+  pub visited : Visited d v w
+  -- on success, at least the nodes that the layout lays are counted, and the probes that it asks
+  pub at_least : OnOk r (VisitedAtLeast o d v w)
 
 -- The same where no failures are seen: what a render appended.
 abbrev pub RendersInto : {A E : Type 0} → (E → Type 0) → Bytes → List ℕ → List ℕ → Result A (RenderError E) → Type 0

@@ -4,9 +4,9 @@ use Rattle.prettyless_model.specs.Tree.{Tree, size}
 use Rattle.prettyless_model.specs.Layout.{lay, tried}
 use Rattle.prettyless_model.specs.Levels.{settle}
 use Rattle.prettyless_model.specs.declared.mode.Mode.TheVariants.{Break}
-use Rattle.prettyless_step.specs.Stack.{Task, stack_of, follow}
+use Rattle.prettyless_step.specs.Stack.{Task, follow}
 use Rattle.prettyless_step.specs.Steps.{owed}
-use Rattle.prettyless_step.specs.Printing.{state_of, Grows}
+use Rattle.prettyless_step.specs.Printing.{state_of, Grows, tasks_of}
 use Rattle.prettyless_printer.specs.Progress.{Decides}
 use Rattle.prettyless_step.specs.declared.printer.Printer.{Printer}
 use Rattle.prettyless_printer.specs.declared.trial.Mark.{Mark}
@@ -22,7 +22,7 @@ pub record Marks {N : Type 0} (m : Mark) (p : Printer N) : Type 0 where
 -- the printer is back where the mark was set
 abbrev pub Restores : {N : Type 0} → (N → Tree) → Mark → Printer N → Printer N → Type 0
 Restores f m p q =
-    ((above below : List Task) → stack_of f p.commands.items ≡ above ++ below → length below ≡ m.commands → stack_of f q.commands.items ≡ below)
+    ((above below : List Task) → tasks_of f p ≡ above ++ below → length below ≡ m.commands → tasks_of f q ≡ below)
     × (q.queue.nodes.items ≡ take m.queue.len p.queue.nodes.items)
     × (q.queue.start ≡ m.queue.start) × (q.column ≡ m.column) × (q.within ≡ m.within) × (q.options ≡ p.options)
 
@@ -30,6 +30,6 @@ Restores f m p q =
 -- state has come; not kept, all is as before.
 abbrev pub TrialDid : {N : Type 0} → (N → Tree) → Printer N → Printer N → ℕ → Tree → List ℕ → List ℕ → Bool → Type 0
 TrialDid f p q i d old new kept =
-    (stack_of f q.commands.items ≡ stack_of f p.commands.items) × (q.options ≡ p.options) × Grows p q × (q.within ≡ p.within)
+    (tasks_of f q ≡ tasks_of f p) × (q.options ≡ p.options) × Grows p q × (q.within ≡ p.within)
     × (owed (state_of f q).pending ≤ 2 * size d + owed (state_of f p).pending)
-    × Decides kept p.options (lay p.options (settle p.options) d i Break (follow (stack_of f p.commands.items)) (tried (state_of f p))) p.within old new (state_of f p) (state_of f q)
+    × Decides kept p.options (lay p.options (settle p.options) d i Break (follow (tasks_of f p)) (tried (state_of f p))) p.within old new (state_of f p) (state_of f q)

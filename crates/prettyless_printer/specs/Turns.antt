@@ -1,15 +1,18 @@
 -- What a turn does to the work: it takes some of it away, and carries it on inside every whole that it was inside of.
-use Rattle.std.specs.Prelude.{◌≡◌, ℕ, ◌+◌, ◌*◌, ◌<◌, List, ◌++◌, length, Result, Ok, Err}
-use Rattle.prettyless_sink.specs.Sink.{AppendsBeginning, rise}
+use Rattle.std.specs.Prelude.{◌≡◌, ℕ, ◌+◌, ◌*◌, ◌<◌, ◌≤◌, List, ◌++◌, length, Result, Ok, Err, IfOk, OnOk}
+use Rattle.prettyless_sink.specs.Sink.{AppendsBeginning, IfKnown, rise}
 use Rattle.prettyless_model.specs.declared.options.RenderOptions.{RenderOptions}
 use Rattle.prettyless_sink.specs.declared.error.RenderError.{RenderError}
 use Rattle.prettyless_sink.specs.declared.error.RenderError.TheVariants.{Document, Sink, Memory}
 use Rattle.prettyless_model.specs.Tree.{Tree, size}
 use Rattle.prettyless_model.specs.Layout as layout
 use Rattle.prettyless_model.specs.Layout.{Outcome, Done}
-use Rattle.prettyless_step.specs.Stack.{Task, stack_of}
+use Rattle.prettyless_step.specs.Stack.{Task}
 use Rattle.prettyless_step.specs.Steps.{work}
-use Rattle.prettyless_step.specs.Printing.{state_of}
+use Rattle.prettyless_step.specs.Printing.{state_of, tasks_of, Grows}
+use Rattle.prettyless_printer.specs.Points.{Point}
+use Rattle.prettyless_printer.specs.Visits.{Plain, Rise, TurnCountsAtMost}
+use Rattle.prettyless_printer.specs.AtLeast.{TurnCountsAtLeast}
 use Rattle.prettyless_printer.specs.Progress.{Inside, Waits}
 use Rattle.prettyless_step.specs.declared.printer.Printer.{Printer}
 use Rattle.prettyless_printer.specs.declared.answer.Turn.{Turn}
@@ -23,22 +26,22 @@ bytes_before (layout.Failed b) = b
 -- for every whole that the printer's work was inside of
 abbrev pub ForWholes : {N : Type 0} → (N → Tree) → Printer N → List ℕ → (Outcome → ℕ → List Task → List ℕ → Type 0) → Type 0
 ForWholes f p out goal =
-    (whole : Outcome) (limit : ℕ) (below : List Task) (old : List ℕ) → length below < length (stack_of f p.commands.items) →
-    Inside p.options whole limit below old (stack_of f p.commands.items) (state_of f p) out → goal whole limit below old
+    (whole : Outcome) (limit : ℕ) (below : List Task) (old : List ℕ) → length below < length (tasks_of f p) →
+    Inside p.options whole limit below old (tasks_of f p) (state_of f p) out → goal whole limit below old
 
--- what holds after a turn: the work is inside the whole, or the whole fails behind what was written, or a choice waits
+-- what holds after a turn: the work is inside the whole, or the whole fails after what was written, or a choice waits
 abbrev pub Goes : {N : Type 0} → (N → Tree) → RenderOptions → Printer N → List ℕ → Turn N → Outcome → ℕ → List Task → List ℕ → Type 0
-Goes f o q out Went whole limit below old = Inside o whole limit below old (stack_of f q.commands.items) (state_of f q) out
+Goes f o q out Went whole limit below old = Inside o whole limit below old (tasks_of f q) (state_of f q) out
 Goes f o q out Failed whole limit below old =
-    (bytes : List ℕ) × (above : List Task) × (out ≡ old ++ bytes) × (whole ≡ layout.Failed bytes) × (stack_of f q.commands.items ≡ above ++ below)
-Goes f o q out (Chosen i x y) whole limit below old = Waits o whole limit below old i (f x) (f y) (stack_of f q.commands.items) (state_of f q) out
+    (bytes : List ℕ) × (above : List Task) × (out ≡ old ++ bytes) × (whole ≡ layout.Failed bytes) × (tasks_of f q ≡ above ++ below)
+Goes f o q out (Chosen i x y) whole limit below old = Waits o whole limit below old i (f x) (f y) (tasks_of f q) (state_of f q) out
 
 -- work is taken away
 abbrev pub Lessens : {N : Type 0} → (N → Tree) → Printer N → Printer N → Turn N → Type 0
-Lessens f p q Went = work (stack_of f q.commands.items) (state_of f q) < work (stack_of f p.commands.items) (state_of f p)
+Lessens f p q Went = work (tasks_of f q) (state_of f q) < work (tasks_of f p) (state_of f p)
 Lessens f p q Failed = Unit {0}
 Lessens f p q (Chosen i x y) =
-    (2 * (size (f x) + size (f y)) + work (stack_of f q.commands.items) (state_of f q) < work (stack_of f p.commands.items) (state_of f p)) × (q.within ≡ p.within)
+    (2 * (size (f x) + size (f y)) + work (tasks_of f q) (state_of f q) < work (tasks_of f p) (state_of f p)) × (q.within ≡ p.within)
 
 -- what a turn leaves in a sink that tells its bytes
 abbrev pub Turned : {N E : Type 0} → (N → Tree) → Printer N → Printer N → List ℕ → List ℕ → ℕ → ℕ → Result (Turn N) (RenderError E) → Type 0
@@ -47,16 +50,38 @@ Turned f p q out new n m (Err (Document e)) = ⊥
 Turned f p q out new n m (Err (Sink e)) = ForWholes f p out (λ whole limit below old. AppendsBeginning old new (bytes_before whole)) × (m ≡ rise n)
 Turned f p q out new n m (Err (Memory e)) = (new ≡ out) × (m ≡ n)
 
+-- A turn, from one point to another.
+pub record Advances {N E : Type 0} (f : N → Tree) (a b : Point N) (r : Result (Turn N) (RenderError E)) : Type 0 where
+  -- the options are the same
+  pub options : OnOk r (b.printer.options ≡ a.printer.options)
+  -- the queue of line suffixes only grows
+  pub grows : OnOk r (Grows a.printer b.printer)
+  -- there is less work left
+  pub lessens : IfOk r (Lessens f a.printer b.printer)
+  -- the sink writes through the same reference
+  pub same_lender : b.sink.lender ≡ a.sink.lender
+  -- where the sink's bytes are known, they go on in every whole that the work was inside of
+  pub bytes : IfKnown a.sink.bytes b.sink.bytes (λ before after. Turned f a.printer b.printer before after a.sink.failures b.sink.failures r)
+  -- the node is a visit, and so may be a payload that its step rejects
+  pub one : rise a.visits.printer ≤ b.visits.printer
+  pub two : b.visits.printer ≤ rise (rise a.visits.printer)
+  -- no count of visits fell
+  pub rise : Rise a.visits b.visits
+  -- without line suffixes, the node that leaves allows for the visits
+  pub at_most : Plain f a.printer → TurnCountsAtMost f a.printer b.printer a.visits b.visits r
+  -- what the node lays is counted
+  pub at_least : TurnCountsAtLeast f a.printer b.printer a.visits b.visits r
+
 -- for every whole in which a choice between two branches waits
 abbrev pub ForWaits : {N : Type 0} → (N → Tree) → Printer N → ℕ → Tree → Tree → List ℕ → (Outcome → ℕ → List Task → List ℕ → Type 0) → Type 0
 ForWaits f p i x y out goal =
     (whole : Outcome) (limit : ℕ) (below : List Task) (old : List ℕ) →
-    Waits p.options whole limit below old i x y (stack_of f p.commands.items) (state_of f p) out → goal whole limit below old
+    Waits p.options whole limit below old i x y (tasks_of f p) (state_of f p) out → goal whole limit below old
 
 -- what a choice leaves in a sink that tells its bytes
 abbrev pub Chose : {N A E : Type 0} → (N → Tree) → Printer N → Printer N → ℕ → Tree → Tree → List ℕ → List ℕ → ℕ → ℕ → Result A (RenderError E) → Type 0
 Chose f p q i x y out new n m (Ok r) =
-    ForWaits f p i x y out (λ whole limit below old. Inside p.options whole limit below old (stack_of f q.commands.items) (state_of f q) new) × (m ≡ n)
+    ForWaits f p i x y out (λ whole limit below old. Inside p.options whole limit below old (tasks_of f q) (state_of f q) new) × (m ≡ n)
 Chose f p q i x y out new n m (Err (Document e)) = ⊥
 Chose f p q i x y out new n m (Err (Sink e)) = ForWaits f p i x y out (λ whole limit below old. AppendsBeginning old new (bytes_before whole)) × (m ≡ rise n)
 Chose f p q i x y out new n m (Err (Memory e)) = (new ≡ out) × (m ≡ n)

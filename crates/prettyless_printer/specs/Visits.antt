@@ -1,24 +1,24 @@
--- How many nodes a run takes up. Where no line suffix is, each node of the commands is taken up at most once by the
--- printer; a probe takes up each node of the commands at most once, and is asked at most once by each node that asks.
+-- How many nodes a run visits. Where no line suffix is, each node of the commands is visited at most once by the
+-- printer; a probe visits each node of the commands at most once, and is asked at most once by each node that asks.
 use Rattle.std.specs.Prelude.{◌≡◌, ℕ, ◌+◌, ◌*◌, ◌≤◌, List, [], ◌∷◌, Result, Ok, Err}
 use Rattle.prettyless_sink.specs.declared.visits.Visits.{Visits}
 use Rattle.prettyless_model.specs.Tree.{Tree, size, probed}
 use Rattle.prettyless_model.specs.Content.{suffix_depth}
 use Rattle.prettyless_model.specs.declared.mode.Mode.TheVariants.{Break}
-use Rattle.prettyless_step.specs.Stack.{Task, make_task, nodes, stack_of}
-use Rattle.prettyless_step.specs.Printing.{state_of}
+use Rattle.prettyless_step.specs.Stack.{Task, make_task, nodes}
+use Rattle.prettyless_step.specs.Printing.{state_of, tasks_of}
 use Rattle.prettyless_step.specs.declared.printer.Printer.{Printer}
 use Rattle.prettyless_printer.specs.declared.answer.Turn.{Turn}
 use Rattle.prettyless_printer.specs.declared.answer.Turn.TheVariants.{Went, Failed, Chosen}
 
--- how deep line suffixes stand in tasks, added up: 0 where there are none
+-- how deep line suffixes are in tasks, added up: 0 where there are none
 abbrev pub suffixes : List Task → ℕ
 suffixes [] = 0
 suffixes (t ∷ ts) = suffix_depth t.tree + suffixes ts
 
 -- no line suffix is on the stack, and no document is pending
 pub record Plain {N : Type 0} (f : N → Tree) (p : Printer N) : Type 0 where
-  pub none : suffixes (stack_of f p.commands.items) ≡ 0
+  pub none : suffixes (tasks_of f p) ≡ 0
   pub pending : (state_of f p).pending ≡ []
 
 -- what the probes of tasks may take up, each at most n nodes
@@ -32,24 +32,24 @@ pub record Rise (v w : Visits) : Type 0 where
   pub probes : v.probes ≤ w.probes
 
 -- the nodes that leave, as the tasks ts become us, pay for the visits from v to w
-pub record Pays (ts us : List Task) (v w : Visits) : Type 0 where
+pub record CountsAtMost (ts us : List Task) (v w : Visits) : Type 0 where
   pub left : nodes us ≤ nodes ts
   pub printer : w.printer + nodes us ≤ v.printer + nodes ts
   pub probes : (n : ℕ) → nodes ts ≤ n → w.probes + charges n us ≤ v.probes + charges n ts
 
 -- the visits of a turn
-abbrev pub TurnPays : {N E : Type 0} → (N → Tree) → Printer N → Printer N → Visits → Visits → Result (Turn N) E → Type 0
-TurnPays f p q v w (Ok Went) = Plain f q × Pays (stack_of f p.commands.items) (stack_of f q.commands.items) v w
-TurnPays f p q v w (Ok Failed) = Pays (stack_of f p.commands.items) (stack_of f q.commands.items) v w
-TurnPays f p q v w (Ok (Chosen i x y)) =
+abbrev pub TurnCountsAtMost : {N E : Type 0} → (N → Tree) → Printer N → Printer N → Visits → Visits → Result (Turn N) E → Type 0
+TurnCountsAtMost f p q v w (Ok Went) = Plain f q × CountsAtMost (tasks_of f p) (tasks_of f q) v w
+TurnCountsAtMost f p q v w (Ok Failed) = CountsAtMost (tasks_of f p) (tasks_of f q) v w
+TurnCountsAtMost f p q v w (Ok (Chosen i x y)) =
     Plain f q × (suffix_depth (f x) ≡ 0) × (suffix_depth (f y) ≡ 0)
-    × Pays (stack_of f p.commands.items) (make_task i Break (f x) ∷ make_task i Break (f y) ∷ stack_of f q.commands.items) v w
-TurnPays f p q v w (Err e) = Pays (stack_of f p.commands.items) [] v w
+    × CountsAtMost (tasks_of f p) (make_task i Break (f x) ∷ make_task i Break (f y) ∷ tasks_of f q) v w
+TurnCountsAtMost f p q v w (Err e) = CountsAtMost (tasks_of f p) [] v w
 
 -- the visits of a run from tasks to what the printer has left
-abbrev pub RunPays : {N A E : Type 0} → (N → Tree) → List Task → Printer N → Visits → Visits → Result A E → Type 0
-RunPays f ts q v w (Ok r) = Plain f q × Pays ts (stack_of f q.commands.items) v w
-RunPays f ts q v w (Err e) = Pays ts [] v w
+abbrev pub RunCountsAtMost : {N A E : Type 0} → (N → Tree) → List Task → Printer N → Visits → Visits → Result A E → Type 0
+RunCountsAtMost f ts q v w (Ok r) = Plain f q × CountsAtMost ts (tasks_of f q) v w
+RunCountsAtMost f ts q v w (Err e) = CountsAtMost ts [] v w
 
 -- the visits of a render: with no line suffix, at most the nodes, and for probes as often as nodes ask
 pub record Visited (d : Tree) (v w : Visits) : Type 0 where

@@ -3,15 +3,16 @@ ghost use Rattle.std.specs.Prelude.{◌≡◌, ◌+◌, ◌*◌, ◌∷◌, ◌<
 ghost use Rattle.prettyless_sink.specs.Sink.{IfKnown};
 ghost use Rattle.prettyless_model.specs.Tree.{size};
 ghost use Rattle.prettyless_model.specs.Content.{suffix_depth};
-ghost use Rattle.prettyless_model.specs.Layout.{flushed, layout};
+ghost use Rattle.prettyless_model.specs.Layout.{flushed};
 ghost use Rattle.prettyless_model.specs.declared.mode.Mode.TheVariants.{Break};
-ghost use Rattle.prettyless_step.specs.Stack.{make_task, stack_of, tasks};
+ghost use Rattle.prettyless_step.specs.Stack.{make_task, tasks};
 ghost use Rattle.prettyless_step.specs.Steps.{owed, work};
-ghost use Rattle.prettyless_step.specs.Printing.{state_of};
+ghost use Rattle.prettyless_step.specs.Printing.{state_of, tasks_of};
+ghost use Rattle.prettyless_printer.specs.Points.{seen};
 ghost use Rattle.prettyless_printer.specs.Turns.{Chose};
-ghost use Rattle.prettyless_printer.specs.Renders.{Flushed, RanToEnd, Rendered, WorkedOff};
-ghost use Rattle.prettyless_printer.specs.Visits.{Plain, Rise, RunPays, Visited};
-ghost use Rattle.prettyless_printer.specs.Meets.{Meets, VisitedAtLeast, choice_tally, nothing_left, stack_tally};
+ghost use Rattle.prettyless_printer.specs.Renders.{Flushed, RanToEnd, Renders, WorkedOff};
+ghost use Rattle.prettyless_printer.specs.Visits.{Plain, Rise, RunCountsAtMost};
+ghost use Rattle.prettyless_printer.specs.AtLeast.{CountsAtLeast, choice_tally, nothing_left, stack_tally};
 
 use crate::answer::Turn;
 use crate::buffer::Buffer;
@@ -43,16 +44,16 @@ fn choose<N: Walk, W: Render>(
 ) -> Result<(), RenderError<W::Error>>
     ensures options { OnOk result (printer.new.options ≡ printer.old.options) }
     ensures same_lender { W.lender out.new ≡ W.lender out.old }
-    ensures lessens { OnOk result (work (stack_of N.tree printer.new.commands.items) (state_of N.tree printer.new)
-        ≤ 2 * (size (N.tree first) + size (N.tree second)) + work (stack_of N.tree printer.old.commands.items) (state_of N.tree printer.old)) }
-    ensures told { IfKnown (W.bytes out.old) (W.bytes out.new) (λ before after.
+    ensures lessens { OnOk result (work (tasks_of N.tree printer.new) (state_of N.tree printer.new)
+        ≤ 2 * (size (N.tree first) + size (N.tree second)) + work (tasks_of N.tree printer.old) (state_of N.tree printer.old)) }
+    ensures bytes { IfKnown (W.bytes out.old) (W.bytes out.new) (λ before after.
         Chose N.tree printer.old printer.new indent (N.tree first) (N.tree second)
         before after (W.failures out.old) (W.failures out.new) result) }
     ensures rise { Rise visits.old visits.new }
-    ensures pays { Plain N.tree printer.old → suffix_depth (N.tree first) ≡ 0 → suffix_depth (N.tree second) ≡ 0
-        → RunPays N.tree (make_task indent Break (N.tree first) ∷ make_task indent Break (N.tree second) ∷ stack_of N.tree printer.old.commands.items)
+    ensures at_most { Plain N.tree printer.old → suffix_depth (N.tree first) ≡ 0 → suffix_depth (N.tree second) ≡ 0
+        → RunCountsAtMost N.tree (make_task indent Break (N.tree first) ∷ make_task indent Break (N.tree second) ∷ tasks_of N.tree printer.old)
         printer.new visits.old visits.new result }
-    ensures meets { OnOk result (Meets (choice_tally N.tree printer.old 0 indent (N.tree first) (N.tree second)) (stack_tally N.tree printer.new 0) visits.old visits.new) }
+    ensures at_least { OnOk result (CountsAtLeast (choice_tally N.tree printer.old 0 indent (N.tree first) (N.tree second)) (stack_tally N.tree printer.new 0) visits.old visits.new) }
 {
     buffer.text.clear();
     match print_branch(printer, buffer, indent, first, visits) {
@@ -76,16 +77,16 @@ fn work_off<N: Walk, W: Render>(
     visits: &mut Visits,
 ) -> Result<(), RenderError<W::Error>>
     ensures options { OnOk result (printer.new.options ≡ printer.old.options) }
-    ensures done { OnOk result (stack_of N.tree printer.new.commands.items ≡ []) }
+    ensures done { OnOk result (tasks_of N.tree printer.new ≡ []) }
     ensures lessens { OnOk result (owed (state_of N.tree printer.new).pending
-        ≤ work (stack_of N.tree printer.old.commands.items) (state_of N.tree printer.old)) }
+        ≤ work (tasks_of N.tree printer.old) (state_of N.tree printer.old)) }
     ensures same_lender { W.lender out.new ≡ W.lender out.old }
-    ensures told { IfKnown (W.bytes out.old) (W.bytes out.new) (λ before after.
+    ensures bytes { IfKnown (W.bytes out.old) (W.bytes out.new) (λ before after.
         WorkedOff N.tree printer.old printer.new (W.document_errors out.new)
         before after (W.failures out.old) (W.failures out.new) result) }
     ensures rise { Rise visits.old visits.new }
-    ensures pays { Plain N.tree printer.old → RunPays N.tree (stack_of N.tree printer.old.commands.items) printer.new visits.old visits.new result }
-    ensures meets { OnOk result (Meets (stack_tally N.tree printer.old 0) nothing_left visits.old visits.new) }
+    ensures at_most { Plain N.tree printer.old → RunCountsAtMost N.tree (tasks_of N.tree printer.old) printer.new visits.old visits.new result }
+    ensures at_least { OnOk result (CountsAtLeast (stack_tally N.tree printer.old 0) nothing_left visits.old visits.new) }
 {
     'work: while printer.commands.len() > 0 {
         match turn(printer, out, visits)? {
@@ -104,12 +105,12 @@ fn flush_end<N: Walk, W: Render>(
     printer: &mut Printer<N>,
     out: &mut W,
 ) -> Result<(), RenderError<W::Error>>
-    requires { stack_of N.tree printer.old.commands.items ≡ [] }
+    requires { tasks_of N.tree printer.old ≡ [] }
     ensures options { OnOk result (printer.new.options ≡ printer.old.options) }
-    ensures stack { OnOk result (stack_of N.tree printer.new.commands.items ≡ tasks 0 Break (state_of N.tree printer.old).pending) }
+    ensures stack { OnOk result (tasks_of N.tree printer.new ≡ tasks 0 Break (state_of N.tree printer.old).pending) }
     ensures state { OnOk result (state_of N.tree printer.new ≡ flushed printer.old.options (state_of N.tree printer.old)) }
     ensures same_lender { W.lender out.new ≡ W.lender out.old }
-    ensures told { IfKnown (W.bytes out.old) (W.bytes out.new) (λ before after.
+    ensures bytes { IfKnown (W.bytes out.old) (W.bytes out.new) (λ before after.
         Flushed printer.old before after (W.failures out.old) (W.failures out.new) result) }
 {
     match take_pending(printer, 0, Mode::Break) {
@@ -129,12 +130,12 @@ fn run_to_end<N: Walk, W: Render>(
     visits: &mut Visits,
 ) -> Result<(), RenderError<W::Error>>
     ensures same_lender { W.lender out.new ≡ W.lender out.old }
-    ensures told { IfKnown (W.bytes out.old) (W.bytes out.new) (λ before after.
+    ensures bytes { IfKnown (W.bytes out.old) (W.bytes out.new) (λ before after.
         RanToEnd N.tree printer.old (W.document_errors out.new)
         before after (W.failures out.old) (W.failures out.new) result) }
     ensures rise { Rise visits.old visits.new }
-    ensures pays { Plain N.tree printer.old → RunPays N.tree (stack_of N.tree printer.old.commands.items) printer.new visits.old visits.new result }
-    ensures meets { OnOk result (Meets (stack_tally N.tree printer.old 0) nothing_left visits.old visits.new) }
+    ensures at_most { Plain N.tree printer.old → RunCountsAtMost N.tree (tasks_of N.tree printer.old) printer.new visits.old visits.new result }
+    ensures at_least { OnOk result (CountsAtLeast (stack_tally N.tree printer.old 0) nothing_left visits.old visits.new) }
 {
     'rounds: loop {
         work_off(printer, buffer, out, visits)?;
@@ -147,14 +148,14 @@ fn run_to_end<N: Walk, W: Render>(
 
 /// Renders the document of a node to a sink: what is written is its layout.
 ///
-/// Where the sink tells its bytes: on success all of the layout was appended. `Document` is answered only where the
-/// layout fails, behind the bytes before the failing node. `Sink` is answered where the sink failed, once in this call,
+/// Where the sink's bytes are known: on success all of the layout was appended. `Document` is answered only where the
+/// layout fails, after the bytes before the failing node. `Sink` is answered where the sink failed, once in this call,
 /// and `Memory` where a growth was refused, which leaves the sink's failures as they were: what was appended then is a
 /// beginning of the layout's bytes.
 ///
-/// The nodes that are taken up are added to `visits`. On success the printer has taken up at least the nodes that the layout
+/// The nodes that are visited are added to `visits`. On success the printer has visited at least the nodes that the layout
 /// lays, and its probes at least one node for each probe that the layout asks; a rejected branch counts nothing here.
-/// Without line suffixes the printer takes up at most as many nodes as the document has, and its probes together at most
+/// Without line suffixes the printer visits at most as many nodes as the document has, and its probes together at most
 /// that many for each node that asks one.
 pub fn render<N: Walk, W: Render>(
     alloc: Global,
@@ -163,13 +164,9 @@ pub fn render<N: Walk, W: Render>(
     out: &mut W,
     visits: &mut Visits,
 ) -> Result<(), RenderError<W::Error>>
-    ensures same_lender { W.lender out.new ≡ W.lender out.old }
-    ensures told { IfKnown (W.bytes out.old) (W.bytes out.new) (λ before after.
-        Rendered (W.document_errors out.new) (layout options (N.tree node))
-        before after (W.failures out.old) (W.failures out.new) result) }
-    ensures rise { Rise visits.old visits.new }
-    ensures visited { Visited (N.tree node) visits.old visits.new }
-    ensures at_least { OnOk result (VisitedAtLeast options (N.tree node) visits.old visits.new) }
+    ensures { Renders (W.document_errors out.new) options (N.tree node)
+        (seen W.bytes W.failures W.lender out.old) (seen W.bytes W.failures W.lender out.new)
+        visits.old visits.new result }
 {
     let mut printer = Printer {
         options,

@@ -4,10 +4,11 @@ ghost use Rattle.std.specs.String.{string_bytes};
 ghost use Rattle.std.specs.String.Boundary.{IsSplitPoint};
 ghost use Rattle.prettyless_model.specs.Content.{suffix_depth};
 ghost use Rattle.prettyless_model.specs.declared.mode.Mode.TheVariants.{Break};
-ghost use Rattle.prettyless_step.specs.Stack.{make_task, stack_of};
+ghost use Rattle.prettyless_step.specs.Stack.{make_task};
+ghost use Rattle.prettyless_step.specs.Printing.{tasks_of};
 ghost use Rattle.prettyless_printer.specs.Trials.{Marks, Restores, TrialDid};
-ghost use Rattle.prettyless_printer.specs.Visits.{Plain, Rise, RunPays};
-ghost use Rattle.prettyless_printer.specs.Meets.{TrialMeets};
+ghost use Rattle.prettyless_printer.specs.Visits.{Plain, Rise, RunCountsAtMost};
+ghost use Rattle.prettyless_printer.specs.AtLeast.{TrialCountsAtLeast};
 
 use crate::answer::Turn;
 use crate::buffer::Buffer;
@@ -65,7 +66,7 @@ fn memory_of(error: RenderError<AllocError>) -> AllocError {
     }
 }
 
-/// Prints a branch behind what the buffer has, without what follows it but with that known. It is kept if it does not
+/// Prints a branch after what the buffer has, without what follows it but with that known. It is kept if it does not
 /// fail, nothing of it goes past the width, and at its end the padding fits; else all is as before. Want of memory is
 /// an error, and never a reason not to keep a branch. The answer is whether it is kept.
 pub fn print_branch<N: Walk>(
@@ -78,9 +79,9 @@ pub fn print_branch<N: Walk>(
     ensures decided { IfOk result (λ kept. TrialDid N.tree printer.old printer.new indent (N.tree branch)
         (string_bytes buffer.old.text) (string_bytes buffer.new.text) kept) }
     ensures rise { Rise visits.old visits.new }
-    ensures pays { Plain N.tree printer.old → suffix_depth (N.tree branch) ≡ 0
-        → RunPays N.tree (make_task indent Break (N.tree branch) ∷ stack_of N.tree printer.old.commands.items) printer.new visits.old visits.new result }
-    ensures meets { IfOk result (λ kept. TrialMeets N.tree printer.old indent (N.tree branch) visits.old visits.new kept) }
+    ensures at_most { Plain N.tree printer.old → suffix_depth (N.tree branch) ≡ 0
+        → RunCountsAtMost N.tree (make_task indent Break (N.tree branch) ∷ tasks_of N.tree printer.old) printer.new visits.old visits.new result }
+    ensures at_least { IfOk result (λ kept. TrialCountsAtLeast N.tree printer.old indent (N.tree branch) visits.old visits.new kept) }
 {
     let mark = mark_of(printer);
     let written = buffer.text.len();

@@ -1,10 +1,7 @@
 //! A turn: a command is taken, stepped and written.
-ghost use Rattle.std.specs.Prelude.{◌≡◌, ◌<◌, ◌≤◌, OnOk, IfOk, vec_len};
-ghost use Rattle.prettyless_sink.specs.Sink.{IfKnown, rise};
-ghost use Rattle.prettyless_step.specs.Printing.{Grows};
-ghost use Rattle.prettyless_printer.specs.Turns.{Lessens, Turned};
-ghost use Rattle.prettyless_printer.specs.Visits.{Plain, Rise, TurnPays};
-ghost use Rattle.prettyless_printer.specs.Meets.{TurnMeets};
+ghost use Rattle.std.specs.Prelude.{◌<◌, vec_len};
+ghost use Rattle.prettyless_printer.specs.Points.{point, seen};
+ghost use Rattle.prettyless_printer.specs.Turns.{Advances};
 
 use crate::answer::Turn;
 use prettyless_sink::error::RenderError;
@@ -18,24 +15,15 @@ use prettyless_step::walk::Walk;
 
 /// Takes the next command, and writes what it gives. The command is a visit, and so is a payload that its step rejects.
 #[inline(always)]
-#[tactic(auto, using(crate::proofs::Visits::payload_visits))]
 pub fn turn<N: Walk, W: Render>(
     printer: &mut Printer<N>,
     out: &mut W,
     visits: &mut Visits,
 ) -> Result<Turn<N>, RenderError<W::Error>>
     requires { 0 < vec_len printer.old.commands }
-    ensures options { OnOk result (printer.new.options ≡ printer.old.options) }
-    ensures grows { OnOk result (Grows printer.old printer.new) }
-    ensures lessens { IfOk result (Lessens N.tree printer.old printer.new) }
-    ensures same_lender { W.lender out.new ≡ W.lender out.old }
-    ensures told { IfKnown (W.bytes out.old) (W.bytes out.new) (λ before after.
-        Turned N.tree printer.old printer.new before after (W.failures out.old) (W.failures out.new) result) }
-    ensures one { rise visits.old.printer ≤ visits.new.printer }
-    ensures two { visits.new.printer ≤ rise (rise visits.old.printer) }
-    ensures rise { Rise visits.old visits.new }
-    ensures pays { Plain N.tree printer.old → TurnPays N.tree printer.old printer.new visits.old visits.new result }
-    ensures meets { TurnMeets N.tree printer.old printer.new visits.old visits.new result }
+    ensures { Advances N.tree
+        (point printer.old (seen W.bytes W.failures W.lender out.old) visits.old)
+        (point printer.new (seen W.bytes W.failures W.lender out.new) visits.new) result }
 {
     let Some(command) = pop_command(&mut printer.commands) else {
         unreachable!()

@@ -4,8 +4,8 @@ use Rattle.prettyless_model.specs.Spaces.{spaces}
 use Rattle.prettyless_sink.specs.Sink.{Refuses}
 use Rattle.prettyless_printer.proofs.run.flush_end.Goals as goal
 
-pub returns-in-Err-write_gap_and_text-clause-told : goal.returns-in-Err-write_gap_and_text-clause-told
-returns-in-Err-write_gap_and_text-clause-told g c =
+pub returns-in-Err-write_gap_and_text-clause-bytes : goal.returns-in-Err-write_gap_and_text-clause-bytes
+returns-in-Err-write_gap_and_text-clause-bytes g c =
     let bytes = g.W.Render.bytes in
     let failures = g.W.Render.failures in
     let old = c.args.out.now in

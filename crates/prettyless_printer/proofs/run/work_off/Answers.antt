@@ -2,16 +2,15 @@ use Rattle.std.proofs.Common.{◌<◌, ◌≤◌, ◌∙◌, length, arith, refl
 use Rattle.std.proofs.lemmas.Result.{err_from_is_err_and}
 use Rattle.prettyless_sink.specs.Sink.{known, known_of}
 use Rattle.prettyless_model.specs.declared.options.RenderOptions.{RenderOptions}
-use Rattle.prettyless_step.specs.Stack.{stack_of}
-use Rattle.prettyless_step.specs.Printing.{state_of}
+use Rattle.prettyless_step.specs.Printing.{state_of, tasks_of}
 use Rattle.prettyless_printer.specs.Progress.{Inside}
 use Rattle.prettyless_printer.specs.Turns.{Goes}
 use Rattle.prettyless_printer.specs.declared.answer.Turn.TheVariants as turn
 use Rattle.prettyless_step.proofs.Stacks.{length-stack_of}
 use Rattle.prettyless_printer.proofs.Working.{working_begins, working_turn, working_end, turn_broke, working_choice, choice_broke}
-use Rattle.prettyless_printer.proofs.Visits.{rise_same, rise_then, pays_same, pays_then, pays_all}
-use Rattle.prettyless_printer.specs.Meets.{stack_tally}
-use Rattle.prettyless_printer.proofs.Meets.{meets_same, meets_then, meets_end}
+use Rattle.prettyless_printer.proofs.Visits.{rise_same, rise_then, at_most_same, at_most_then, at_most_all}
+use Rattle.prettyless_printer.specs.AtLeast.{stack_tally}
+use Rattle.prettyless_printer.proofs.AtLeast.{at_least_same, at_least_then, at_least_end}
 use Rattle.prettyless_printer.proofs.run.work_off.Goals as goal
 
 pub work-init : goal.work-init
@@ -19,10 +18,10 @@ work-init g c = record {
   options = refl;
   less = omega arith;
   same_lender = refl;
-  told = λ told. (told, working_begins g.N.Walk.tree c.args.printer.now (known (g.W.Render.bytes c.args.out.now)), refl);
+  bytes = λ is_known. (is_known, working_begins g.N.Walk.tree c.args.printer.now (known (g.W.Render.bytes c.args.out.now)), refl);
   rise = rise_same c.args.visits.now;
-  pays = λ plain. (plain, pays_same (stack_of g.N.Walk.tree c.args.printer.now.commands.items) c.args.visits.now);
-  meets = meets_same (stack_tally g.N.Walk.tree c.args.printer.now 0) c.args.visits.now;
+  at_most = λ plain. (plain, at_most_same (tasks_of g.N.Walk.tree c.args.printer.now) c.args.visits.now);
+  at_least = at_least_same (stack_tally g.N.Walk.tree c.args.printer.now 0) c.args.visits.now;
 }
 
 pub work-preserved-in-Went : goal.work-preserved-in-Went
@@ -34,28 +33,28 @@ work-preserved-in-Went g c =
     let v = c.work.printer in
     let q = c.turn.new.printer in
     let new = c.turn.new.out in
-    let l : 0 < length (stack_of f v.commands.items) = omega (arith, length-stack_of f v.commands.items, v.commands.ok.0, c.work-test.true, c.len.ensures) in
-    let d = rw c.in-Went.is at c.in_ok-turn.ensures.told in
+    let l : 0 < length (tasks_of f v) = omega (arith, length-stack_of f v.commands.items, v.commands.ok.0, c.work-test.true, c.len.ensures) in
+    let d = rw c.in-Went.is at c.in_ok-turn.ensures.bytes in
     let less = rw c.in-Went.is at c.in_ok-turn.ensures.lessens in
     let was = c.work.invariant.less in
     record {
       options = c.in_ok-turn.ensures.options ∙ c.work.invariant.options;
       less = omega (arith, less, was);
       same_lender = c.turn.ensures.same_lender ∙ c.work.invariant.same_lender;
-      told = λ told.
-          let y = c.work.invariant.told told in
+      bytes = λ is_known.
+          let y = c.work.invariant.bytes is_known in
           let e = d y.0 in
           (e.0, working_turn f p v (w c.args.out.now) (w c.work.out) (λ o. Goes f o q (w new) turn.Went) c.work.invariant.options l y.1 e.1.0, e.1.1 ∙ y.2);
       rise = rise_then c.work.invariant.rise c.turn.ensures.rise;
-      pays = λ plain.
-          let y = c.work.invariant.pays plain in
-          let z = (rw c.in-Went.is at c.in_ok-turn.ensures.pays) y.0 in
-          (z.0, pays_then y.1 z.1);
-      meets = meets_then c.work.invariant.meets ((rw c.in-Went.is at c.in_ok-turn.ensures.meets) 0 l);
+      at_most = λ plain.
+          let y = c.work.invariant.at_most plain in
+          let z = (rw c.in-Went.is at c.in_ok-turn.ensures.at_most) y.0 in
+          (z.0, at_most_then y.1 z.1);
+      at_least = at_least_then c.work.invariant.at_least ((rw c.in-Went.is at c.in_ok-turn.ensures.at_least) 0 l);
     }
 
-pub returns-in-Failed-clause-told : goal.returns-in-Failed-clause-told
-returns-in-Failed-clause-told g c =
+pub returns-in-Failed-clause-bytes : goal.returns-in-Failed-clause-bytes
+returns-in-Failed-clause-bytes g c =
     let f = g.N.Walk.tree in
     let w = known_of g.W.Render.bytes in
     let fails = g.W.Render.failures in
@@ -63,16 +62,16 @@ returns-in-Failed-clause-told g c =
     let v = c.work.printer in
     let q = c.turn.new.printer in
     let new = c.turn.new.out in
-    let l : 0 < length (stack_of f v.commands.items) = omega (arith, length-stack_of f v.commands.items, v.commands.ok.0, c.work-test.true, c.len.ensures) in
-    let d = rw c.in-Failed.is at c.in_ok-turn.ensures.told in
-    λ told.
-    let y = c.work.invariant.told told in
+    let l : 0 < length (tasks_of f v) = omega (arith, length-stack_of f v.commands.items, v.commands.ok.0, c.work-test.true, c.len.ensures) in
+    let d = rw c.in-Failed.is at c.in_ok-turn.ensures.bytes in
+    λ is_known.
+    let y = c.work.invariant.bytes is_known in
     let e = d y.0 in
     let z = working_turn f p v (w c.args.out.now) (w c.work.out) (λ o. Goes f o q (w new) turn.Failed) c.work.invariant.options l y.1 e.1.0 in
     (e.0, (z.0, z.3, z.2, e.1.1 ∙ y.2, c.fail_doc.ensures))
 
-pub returns-in_err-turn-clause-told : goal.returns-in_err-turn-clause-told
-returns-in_err-turn-clause-told g c =
+pub returns-in_err-turn-clause-bytes : goal.returns-in_err-turn-clause-bytes
+returns-in_err-turn-clause-bytes g c =
     let residual = err_from_is_err_and c.from_residual.result c.from_residual.ensures.1 in
     rw (residual.1, residual.2)
     let f = g.N.Walk.tree in
@@ -82,10 +81,10 @@ returns-in_err-turn-clause-told g c =
     let v = c.work.printer in
     let q = c.turn.new.printer in
     let new = c.turn.new.out in
-    let l : 0 < length (stack_of f v.commands.items) = omega (arith, length-stack_of f v.commands.items, v.commands.ok.0, c.work-test.true, c.len.ensures) in
-    λ told.
-    let y = c.work.invariant.told told in
-    let e = c.in_err-turn.ensures.told y.0 in
+    let l : 0 < length (tasks_of f v) = omega (arith, length-stack_of f v.commands.items, v.commands.ok.0, c.work-test.true, c.len.ensures) in
+    λ is_known.
+    let y = c.work.invariant.bytes is_known in
+    let e = c.in_err-turn.ensures.bytes y.0 in
     (e.0, turn_broke f p v q (g.W.Render.document_errors new) (w c.args.out.now) (w c.work.out) (w new) (fails c.args.out.now) (fails c.work.out) (fails new) c.in_err-turn.field-0.0 c.work.invariant.options l y.1 y.2 e.1)
 
 pub work-preserved : goal.work-preserved
@@ -97,8 +96,8 @@ work-preserved g c =
     let v = c.work.printer in
     let q = c.turn.new.printer in
     let new = c.turn.new.out in
-    let l : 0 < length (stack_of f v.commands.items) = omega (arith, length-stack_of f v.commands.items, v.commands.ok.0, c.work-test.true, c.len.ensures) in
-    let d = rw c.in-Chosen.is at c.in_ok-turn.ensures.told in
+    let l : 0 < length (tasks_of f v) = omega (arith, length-stack_of f v.commands.items, v.commands.ok.0, c.work-test.true, c.len.ensures) in
+    let d = rw c.in-Chosen.is at c.in_ok-turn.ensures.bytes in
     let fall = rw c.in-Chosen.is at c.in_ok-turn.ensures.lessens in
     let was = c.work.invariant.less in
     let r = c.choose.new.printer in
@@ -110,27 +109,27 @@ work-preserved g c =
       options = c.in_ok-choose-in-Chosen.ensures.options ∙ same;
       less = omega (arith, fall.0, was, c.in_ok-choose-in-Chosen.ensures.lessens);
       same_lender = c.choose.ensures.same_lender ∙ c.turn.ensures.same_lender ∙ c.work.invariant.same_lender;
-      told = λ told.
-          let y = c.work.invariant.told told in
+      bytes = λ is_known.
+          let y = c.work.invariant.bytes is_known in
           let e = d y.0 in
           let b = working_turn f p v (w c.args.out.now) (w c.work.out) (λ o. Goes f o q (w new) (turn.Chosen i x z)) c.work.invariant.options l y.1 e.1.0 in
-          let k = c.in_ok-choose-in-Chosen.ensures.told e.0 in (
+          let k = c.in_ok-choose-in-Chosen.ensures.bytes e.0 in (
             k.0,
             working_choice f p q i (f x) (f z) (w c.args.out.now) (w new)
-                (λ (o : RenderOptions) whole limit below old. Inside o whole limit below old (stack_of f r.commands.items) (state_of f r) (w c.choose.new.out)) same b k.1.0,
+                (λ (o : RenderOptions) whole limit below old. Inside o whole limit below old (tasks_of f r) (state_of f r) (w c.choose.new.out)) same b k.1.0,
             k.1.1 ∙ e.1.1 ∙ y.2,
           );
       rise = rise_then c.work.invariant.rise (rise_then c.turn.ensures.rise c.choose.ensures.rise);
-      pays = λ plain.
-          let y = c.work.invariant.pays plain in
-          let j = (rw c.in-Chosen.is at c.in_ok-turn.ensures.pays) y.0 in
-          let k = c.in_ok-choose-in-Chosen.ensures.pays j.0 j.1 j.2 in
-          (k.0, pays_then y.1 (pays_then j.3 k.1));
-      meets = meets_then c.work.invariant.meets (meets_then ((rw c.in-Chosen.is at c.in_ok-turn.ensures.meets) 0 l) c.in_ok-choose-in-Chosen.ensures.meets);
+      at_most = λ plain.
+          let y = c.work.invariant.at_most plain in
+          let j = (rw c.in-Chosen.is at c.in_ok-turn.ensures.at_most) y.0 in
+          let k = c.in_ok-choose-in-Chosen.ensures.at_most j.0 j.1 j.2 in
+          (k.0, at_most_then y.1 (at_most_then j.3 k.1));
+      at_least = at_least_then c.work.invariant.at_least (at_least_then ((rw c.in-Chosen.is at c.in_ok-turn.ensures.at_least) 0 l) c.in_ok-choose-in-Chosen.ensures.at_least);
     }
 
-pub returns-in_err-choose-in-Chosen-clause-told : goal.returns-in_err-choose-in-Chosen-clause-told
-returns-in_err-choose-in-Chosen-clause-told g c =
+pub returns-in_err-choose-in-Chosen-clause-bytes : goal.returns-in_err-choose-in-Chosen-clause-bytes
+returns-in_err-choose-in-Chosen-clause-bytes g c =
     let residual = err_from_is_err_and c.from_residual-in_err-choose-in-Chosen.result c.from_residual-in_err-choose-in-Chosen.ensures.1 in
     rw (residual.1, residual.2)
     let f = g.N.Walk.tree in
@@ -140,72 +139,72 @@ returns-in_err-choose-in-Chosen-clause-told g c =
     let v = c.work.printer in
     let q = c.turn.new.printer in
     let new = c.turn.new.out in
-    let l : 0 < length (stack_of f v.commands.items) = omega (arith, length-stack_of f v.commands.items, v.commands.ok.0, c.work-test.true, c.len.ensures) in
-    let d = rw c.in-Chosen.is at c.in_ok-turn.ensures.told in
+    let l : 0 < length (tasks_of f v) = omega (arith, length-stack_of f v.commands.items, v.commands.ok.0, c.work-test.true, c.len.ensures) in
+    let d = rw c.in-Chosen.is at c.in_ok-turn.ensures.bytes in
     let r = c.choose.new.printer in
     let i = c.in-Chosen.indent in
     let x = c.in-Chosen.first in
     let z = c.in-Chosen.second in
     let last = c.choose.new.out in
     let same = c.in_ok-turn.ensures.options ∙ c.work.invariant.options in
-    λ told.
-    let y = c.work.invariant.told told in
+    λ is_known.
+    let y = c.work.invariant.bytes is_known in
     let e = d y.0 in
     let b = working_turn f p v (w c.args.out.now) (w c.work.out) (λ o. Goes f o q (w new) (turn.Chosen i x z)) c.work.invariant.options l y.1 e.1.0 in
-    let k = c.in_err-choose-in-Chosen.ensures.told e.0 in
+    let k = c.in_err-choose-in-Chosen.ensures.bytes e.0 in
     (k.0, choice_broke (Unit {0}) f p q r i (f x) (f z) (g.W.Render.document_errors last) (w c.args.out.now) (w new) (w last) (fails c.args.out.now) (fails new) (fails last) c.in_err-choose-in-Chosen.field-0.0 same b (e.1.1 ∙ y.2) k.1)
 
-pub returns-clause-told : goal.returns-clause-told
-returns-clause-told g c =
+pub returns-clause-bytes : goal.returns-clause-bytes
+returns-clause-bytes g c =
     let f = g.N.Walk.tree in
     let w = known_of g.W.Render.bytes in
     let q = c.work.printer in
-    let l : length (stack_of f q.commands.items) ≤ 0 = omega (arith, length-stack_of f q.commands.items, q.commands.ok.0, c.work-test.false, c.len.ensures) in
-    λ told.
-    let y = c.work.invariant.told told in
+    let l : length (tasks_of f q) ≤ 0 = omega (arith, length-stack_of f q.commands.items, q.commands.ok.0, c.work-test.false, c.len.ensures) in
+    λ is_known.
+    let y = c.work.invariant.bytes is_known in
     let e = working_end f c.args.printer.now q (w c.args.out.now) (w c.work.out) y.1 l in
     (y.0, (e.0, e.1, e.2, y.2))
 
 pub returns-in_err-turn-clause-rise : goal.returns-in_err-turn-clause-rise
 returns-in_err-turn-clause-rise g c = rise_then c.work.invariant.rise c.turn.ensures.rise
 
-pub returns-in_err-turn-clause-pays : goal.returns-in_err-turn-clause-pays
-returns-in_err-turn-clause-pays g c =
+pub returns-in_err-turn-clause-at_most : goal.returns-in_err-turn-clause-at_most
+returns-in_err-turn-clause-at_most g c =
     let residual = err_from_is_err_and c.from_residual.result c.from_residual.ensures.1 in
     rw residual.1
     λ plain.
-    let y = c.work.invariant.pays plain in
-    pays_then y.1 (c.in_err-turn.ensures.pays y.0)
+    let y = c.work.invariant.at_most plain in
+    at_most_then y.1 (c.in_err-turn.ensures.at_most y.0)
 
 pub returns-in-Failed-clause-rise : goal.returns-in-Failed-clause-rise
 returns-in-Failed-clause-rise g c = rise_then c.work.invariant.rise c.turn.ensures.rise
 
-pub returns-in-Failed-clause-pays : goal.returns-in-Failed-clause-pays
-returns-in-Failed-clause-pays g c = λ plain.
-    let y = c.work.invariant.pays plain in
-    pays_all (pays_then y.1 ((rw c.in-Failed.is at c.in_ok-turn.ensures.pays) y.0))
+pub returns-in-Failed-clause-at_most : goal.returns-in-Failed-clause-at_most
+returns-in-Failed-clause-at_most g c = λ plain.
+    let y = c.work.invariant.at_most plain in
+    at_most_all (at_most_then y.1 ((rw c.in-Failed.is at c.in_ok-turn.ensures.at_most) y.0))
 
 pub returns-in_err-choose-in-Chosen-clause-rise : goal.returns-in_err-choose-in-Chosen-clause-rise
 returns-in_err-choose-in-Chosen-clause-rise g c = rise_then c.work.invariant.rise (rise_then c.turn.ensures.rise c.choose.ensures.rise)
 
-pub returns-in_err-choose-in-Chosen-clause-pays : goal.returns-in_err-choose-in-Chosen-clause-pays
-returns-in_err-choose-in-Chosen-clause-pays g c =
+pub returns-in_err-choose-in-Chosen-clause-at_most : goal.returns-in_err-choose-in-Chosen-clause-at_most
+returns-in_err-choose-in-Chosen-clause-at_most g c =
     let residual = err_from_is_err_and c.from_residual-in_err-choose-in-Chosen.result c.from_residual-in_err-choose-in-Chosen.ensures.1 in
     rw residual.1
     λ plain.
-    let y = c.work.invariant.pays plain in
-    let j = (rw c.in-Chosen.is at c.in_ok-turn.ensures.pays) y.0 in
-    pays_then y.1 (pays_then j.3 (c.in_err-choose-in-Chosen.ensures.pays j.0 j.1 j.2))
+    let y = c.work.invariant.at_most plain in
+    let j = (rw c.in-Chosen.is at c.in_ok-turn.ensures.at_most) y.0 in
+    at_most_then y.1 (at_most_then j.3 (c.in_err-choose-in-Chosen.ensures.at_most j.0 j.1 j.2))
 
 pub returns-clause-rise : goal.returns-clause-rise
 returns-clause-rise g c = c.work.invariant.rise
 
-pub returns-clause-pays : goal.returns-clause-pays
-returns-clause-pays g c = c.work.invariant.pays
+pub returns-clause-at_most : goal.returns-clause-at_most
+returns-clause-at_most g c = c.work.invariant.at_most
 
-pub returns-clause-meets : goal.returns-clause-meets
-returns-clause-meets g c =
+pub returns-clause-at_least : goal.returns-clause-at_least
+returns-clause-at_least g c =
     let f = g.N.Walk.tree in
     let q = c.work.printer in
-    let l : length (stack_of f q.commands.items) ≤ 0 = omega (arith, length-stack_of f q.commands.items, q.commands.ok.0, c.work-test.false, c.len.ensures) in
-    meets_end f q 0 l c.work.invariant.meets
+    let l : length (tasks_of f q) ≤ 0 = omega (arith, length-stack_of f q.commands.items, q.commands.ok.0, c.work-test.false, c.len.ensures) in
+    at_least_end f q 0 l c.work.invariant.at_least

@@ -2,11 +2,11 @@ use Rattle.std.proofs.Common.{◌≡◌, ◌+◌, ◌*◌, ◌≤◌, ◌∷◌,
 use Rattle.prettyless_model.specs.Tree.{size}
 use Rattle.prettyless_model.specs.Content.{suffix_depth}
 use Rattle.prettyless_model.specs.declared.mode.Mode.TheVariants.{Break}
-use Rattle.prettyless_step.specs.Stack.{make_task, stack_of}
+use Rattle.prettyless_step.specs.Stack.{make_task}
 use Rattle.prettyless_step.specs.Steps.{owed, work}
-use Rattle.prettyless_step.specs.Printing.{state_of, Grows}
-use Rattle.prettyless_printer.specs.Visits.{Plain, Rise, Pays}
-use Rattle.prettyless_printer.specs.Meets.{Meets, stack_tally, trial_tally}
+use Rattle.prettyless_step.specs.Printing.{state_of, Grows, tasks_of}
+use Rattle.prettyless_printer.specs.Visits.{Plain, Rise, CountsAtMost}
+use Rattle.prettyless_printer.specs.AtLeast.{CountsAtLeast, stack_tally, trial_tally}
 use Rattle.prettyless_printer.proofs.Trying.{Trying}
 use Rattle.prettyless_printer.proofs.trial.+print_branch.Given as goal
 
@@ -20,12 +20,12 @@ invariant-work g l = record {
   within : l.printer.within ≡ true;
   grows : Grows l.fn.printer l.printer;
   rise : Rise l.fn.visits l.visits;
-  pays : Plain g.N.Walk.tree l.fn.printer → suffix_depth (g.N.Walk.tree l.fn.branch) ≡ 0 → Plain g.N.Walk.tree l.printer
-      × Pays (make_task l.fn.indent Break (g.N.Walk.tree l.fn.branch) ∷ stack_of g.N.Walk.tree l.fn.printer.commands.items)
-      (stack_of g.N.Walk.tree l.printer.commands.items) l.fn.visits l.visits;
-  meets : Meets (trial_tally g.N.Walk.tree l.fn.printer l.fn.indent (g.N.Walk.tree l.fn.branch))
-      (stack_tally g.N.Walk.tree l.printer (length (stack_of g.N.Walk.tree l.fn.printer.commands.items))) l.fn.visits l.visits;
+  at_most : Plain g.N.Walk.tree l.fn.printer → suffix_depth (g.N.Walk.tree l.fn.branch) ≡ 0 → Plain g.N.Walk.tree l.printer
+      × CountsAtMost (make_task l.fn.indent Break (g.N.Walk.tree l.fn.branch) ∷ tasks_of g.N.Walk.tree l.fn.printer)
+      (tasks_of g.N.Walk.tree l.printer) l.fn.visits l.visits;
+  at_least : CountsAtLeast (trial_tally g.N.Walk.tree l.fn.printer l.fn.indent (g.N.Walk.tree l.fn.branch))
+      (stack_tally g.N.Walk.tree l.printer (length (tasks_of g.N.Walk.tree l.fn.printer))) l.fn.visits l.visits;
 }
 
 abbrev pub decreases-work : goal.decreases-work
-decreases-work g l = work (stack_of g.N.Walk.tree l.printer.commands.items) (state_of g.N.Walk.tree l.printer)
+decreases-work g l = work (tasks_of g.N.Walk.tree l.printer) (state_of g.N.Walk.tree l.printer)

@@ -1,268 +1,106 @@
 use Rattle.std.proofs.Common.{[], length, ap, append-nil, arith, refl, subst, sym}
 use Rattle.prettyless_sink.specs.Sink.{known}
-use Rattle.prettyless_sink.specs.declared.visits.Visits.{Visits}
 use Rattle.prettyless_step.specs.Stack.{stack_of, task}
 use Rattle.prettyless_step.specs.Piece.{piece_bytes}
-use Rattle.prettyless_step.specs.Steps.{rejects_payload}
-use Rattle.prettyless_step.specs.Printing.{TookNext, state_of}
+use Rattle.prettyless_step.specs.Printing.{TookNext}
 use Rattle.prettyless_step.proofs.Stacks.{length-stack_of}
 use Rattle.prettyless_step.proofs.Shown.{took}
-use Rattle.prettyless_printer.proofs.Turnings.{went, lessens, failed, chosen, choice_lessens, sink_broke}
-use Rattle.prettyless_printer.proofs.Visits.{OneMore, payload_visits-least, payload_visits-plus, went_pays, failed_pays, chosen_pays, broke_pays}
-use Rattle.prettyless_printer.proofs.Meets.{OneLaid, went_meets, chosen_meets}
+use Rattle.prettyless_printer.specs.Points.{seen}
+use Rattle.prettyless_printer.proofs.AtLeast.{OneLaid}
+use Rattle.prettyless_printer.proofs.Advancing.{advances_chosen, advances_failed, advances_refused, advances_sink_failed, advances_went, one_turn}
 use Rattle.prettyless_printer.proofs.turn.turn.Goals as goal
 
 pub unreachable-requires : goal.unreachable-requires
 unreachable-requires g c =
     omega (arith, ap length c.in_default.ensures.0, length-stack_of g.N.Walk.tree c.args.printer.now.commands.items, c.args.printer.now.commands.ok.0)
 
-pub returns-in-Ok-Failed-clause-options : goal.returns-in-Ok-Failed-clause-options
-returns-in-Ok-Failed-clause-options g c =
+pub returns-in-Ok-Quiet : goal.returns-in-Ok-Quiet
+returns-in-Ok-Quiet g c =
     let f = g.N.Walk.tree in
+    let see = seen g.W.Render.bytes g.W.Render.failures g.W.Render.lender in
     let p = c.args.printer.now in
     let q = c.step.new.printer in
+    let v = c.args.visits.now in
+    let w = c.step.new.visits in
+    let d = task f c.in-Some.command in
+    let ds = stack_of f c.pop_command.new.stack.items in
+    let one = one_turn f p d ds v w c.one_more-visits.result c.in-Some.ensures c.one_more-visits.ensures.one c.one_more-visits.ensures.rises c.step.ensures.printer c.step.ensures.rises c.step.ensures.counted in
+    let laid : OneLaid f p d ds v w = record { stack_is = c.in-Some.ensures; printer = one.one; probes = c.in-Ok-Quiet.ensures.asked } in
+    let k = took f p (record p { commands = c.pop_command.new.stack }) q c.in-Some.command c.in-Ok-Quiet.field-0 c.in-Some.ensures refl refl refl c.in-Ok-Quiet.ensures.step in
+    let h = subst (TookNext f p q) c.in-Ok-Quiet.field-0-is k in
+    advances_went f p q (see c.args.out.now) (see c.args.out.now) v w [] d ds one laid h refl (λ is_known. (is_known, (sym (append-nil (known (g.W.Render.bytes c.args.out.now))), refl)))
+
+pub returns-in-Ok-Failed : goal.returns-in-Ok-Failed
+returns-in-Ok-Failed g c =
+    let f = g.N.Walk.tree in
+    let see = seen g.W.Render.bytes g.W.Render.failures g.W.Render.lender in
+    let p = c.args.printer.now in
+    let q = c.step.new.printer in
+    let v = c.args.visits.now in
+    let w = c.step.new.visits in
+    let d = task f c.in-Some.command in
+    let ds = stack_of f c.pop_command.new.stack.items in
+    let one = one_turn f p d ds v w c.one_more-visits.result c.in-Some.ensures c.one_more-visits.ensures.one c.one_more-visits.ensures.rises c.step.ensures.printer c.step.ensures.rises c.step.ensures.counted in
     let k = took f p (record p { commands = c.pop_command.new.stack }) q c.in-Some.command c.in-Ok-Failed.field-0 c.in-Some.ensures refl refl refl c.in-Ok-Failed.ensures.step in
     let h = subst (TookNext f p q) c.in-Ok-Failed.field-0-is k in
-    h.4
+    advances_failed f p q (see c.args.out.now) v w d ds one h
 
-pub returns-in-Ok-Failed-clause-grows : goal.returns-in-Ok-Failed-clause-grows
-returns-in-Ok-Failed-clause-grows g c =
+pub returns-in-Ok-Chosen : goal.returns-in-Ok-Chosen
+returns-in-Ok-Chosen g c =
     let f = g.N.Walk.tree in
+    let see = seen g.W.Render.bytes g.W.Render.failures g.W.Render.lender in
     let p = c.args.printer.now in
     let q = c.step.new.printer in
-    let k = took f p (record p { commands = c.pop_command.new.stack }) q c.in-Some.command c.in-Ok-Failed.field-0 c.in-Some.ensures refl refl refl c.in-Ok-Failed.ensures.step in
-    let h = subst (TookNext f p q) c.in-Ok-Failed.field-0-is k in
-    h.5
-
-pub returns-in-Ok-Failed-clause-told : goal.returns-in-Ok-Failed-clause-told
-returns-in-Ok-Failed-clause-told g c =
-    let f = g.N.Walk.tree in
-    let p = c.args.printer.now in
-    let q = c.step.new.printer in
-    let k = took f p (record p { commands = c.pop_command.new.stack }) q c.in-Some.command c.in-Ok-Failed.field-0 c.in-Some.ensures refl refl refl c.in-Ok-Failed.ensures.step in
-    let h = subst (TookNext f p q) c.in-Ok-Failed.field-0-is k in
-    λ told. (told, (failed f p q (known (g.W.Render.bytes c.args.out.now)) h, refl))
-
-pub returns-in-Ok-Chosen-clause-options : goal.returns-in-Ok-Chosen-clause-options
-returns-in-Ok-Chosen-clause-options g c =
-    let f = g.N.Walk.tree in
-    let p = c.args.printer.now in
-    let q = c.step.new.printer in
+    let v = c.args.visits.now in
+    let w = c.step.new.visits in
+    let d = task f c.in-Some.command in
+    let ds = stack_of f c.pop_command.new.stack.items in
+    let one = one_turn f p d ds v w c.one_more-visits.result c.in-Some.ensures c.one_more-visits.ensures.one c.one_more-visits.ensures.rises c.step.ensures.printer c.step.ensures.rises c.step.ensures.counted in
+    let laid : OneLaid f p d ds v w = record { stack_is = c.in-Some.ensures; printer = one.one; probes = c.in-Ok-Chosen.ensures.asked } in
     let k = took f p (record p { commands = c.pop_command.new.stack }) q c.in-Some.command c.in-Ok-Chosen.field-0 c.in-Some.ensures refl refl refl c.in-Ok-Chosen.ensures.step in
     let h = subst (TookNext f p q) c.in-Ok-Chosen.field-0-is k in
-    h.4
+    advances_chosen f p q (see c.args.out.now) v w c.in-Ok-Chosen.indent c.in-Ok-Chosen.first c.in-Ok-Chosen.second d ds one laid h
 
-pub returns-in-Ok-Chosen-clause-grows : goal.returns-in-Ok-Chosen-clause-grows
-returns-in-Ok-Chosen-clause-grows g c =
+pub returns-in-Ok : goal.returns-in-Ok
+returns-in-Ok g c =
     let f = g.N.Walk.tree in
+    let see = seen g.W.Render.bytes g.W.Render.failures g.W.Render.lender in
     let p = c.args.printer.now in
     let q = c.step.new.printer in
-    let k = took f p (record p { commands = c.pop_command.new.stack }) q c.in-Some.command c.in-Ok-Chosen.field-0 c.in-Some.ensures refl refl refl c.in-Ok-Chosen.ensures.step in
-    let h = subst (TookNext f p q) c.in-Ok-Chosen.field-0-is k in
-    h.5
-
-pub returns-in-Ok-Chosen-clause-lessens : goal.returns-in-Ok-Chosen-clause-lessens
-returns-in-Ok-Chosen-clause-lessens g c =
-    let f = g.N.Walk.tree in
-    let p = c.args.printer.now in
-    let q = c.step.new.printer in
-    let k = took f p (record p { commands = c.pop_command.new.stack }) q c.in-Some.command c.in-Ok-Chosen.field-0 c.in-Some.ensures refl refl refl c.in-Ok-Chosen.ensures.step in
-    let h = subst (TookNext f p q) c.in-Ok-Chosen.field-0-is k in
-    choice_lessens f p q c.in-Ok-Chosen.indent c.in-Ok-Chosen.first c.in-Ok-Chosen.second h
-
-pub returns-in-Ok-Chosen-clause-told : goal.returns-in-Ok-Chosen-clause-told
-returns-in-Ok-Chosen-clause-told g c =
-    let f = g.N.Walk.tree in
-    let p = c.args.printer.now in
-    let q = c.step.new.printer in
-    let k = took f p (record p { commands = c.pop_command.new.stack }) q c.in-Some.command c.in-Ok-Chosen.field-0 c.in-Some.ensures refl refl refl c.in-Ok-Chosen.ensures.step in
-    let h = subst (TookNext f p q) c.in-Ok-Chosen.field-0-is k in
-    λ told. (told, (chosen f p q (known (g.W.Render.bytes c.args.out.now)) c.in-Ok-Chosen.indent c.in-Ok-Chosen.first c.in-Ok-Chosen.second h, refl))
-
-pub returns-in-Ok-clause-options : goal.returns-in-Ok-clause-options
-returns-in-Ok-clause-options g c =
-    let f = g.N.Walk.tree in
-    let p = c.args.printer.now in
-    let q = c.step.new.printer in
+    let v = c.args.visits.now in
+    let w = c.step.new.visits in
+    let d = task f c.in-Some.command in
+    let ds = stack_of f c.pop_command.new.stack.items in
+    let one = one_turn f p d ds v w c.one_more-visits.result c.in-Some.ensures c.one_more-visits.ensures.one c.one_more-visits.ensures.rises c.step.ensures.printer c.step.ensures.rises c.step.ensures.counted in
+    let laid : OneLaid f p d ds v w = record { stack_is = c.in-Some.ensures; printer = one.one; probes = c.in-Ok-Written.ensures.asked } in
     let k = took f p (record p { commands = c.pop_command.new.stack }) q c.in-Some.command c.in-Ok-Written.field-0 c.in-Some.ensures refl refl refl c.in-Ok-Written.ensures.step in
     let h = subst (TookNext f p q) c.in-Ok-Written.field-0-is k in
-    h.4
+    advances_went f p q (see c.args.out.now) (see c.write_piece.new.out) v w (piece_bytes c.in-Ok-Written.piece) d ds one laid h c.write_piece.ensures.same_lender c.in-Ok.ensures.ok
 
-pub returns-in-Ok-Quiet-clause-options : goal.returns-in-Ok-Quiet-clause-options
-returns-in-Ok-Quiet-clause-options g c =
+pub returns-in-Err : goal.returns-in-Err
+returns-in-Err g c =
     let f = g.N.Walk.tree in
+    let see = seen g.W.Render.bytes g.W.Render.failures g.W.Render.lender in
     let p = c.args.printer.now in
     let q = c.step.new.printer in
-    let k = took f p (record p { commands = c.pop_command.new.stack }) q c.in-Some.command c.in-Ok-Quiet.field-0 c.in-Some.ensures refl refl refl c.in-Ok-Quiet.ensures.step in
-    let h = subst (TookNext f p q) c.in-Ok-Quiet.field-0-is k in
-    h.4
+    let v = c.args.visits.now in
+    let w = c.step.new.visits in
+    let d = task f c.in-Some.command in
+    let ds = stack_of f c.pop_command.new.stack.items in
+    let one = one_turn f p d ds v w c.one_more-visits.result c.in-Some.ensures c.one_more-visits.ensures.one c.one_more-visits.ensures.rises c.step.ensures.printer c.step.ensures.rises c.step.ensures.counted in
+    advances_refused f p q (see c.args.out.now) v w c.in-Err.e d ds one
 
-pub returns-in-Ok-clause-grows : goal.returns-in-Ok-clause-grows
-returns-in-Ok-clause-grows g c =
+pub returns-in-Err-write_piece : goal.returns-in-Err-write_piece
+returns-in-Err-write_piece g c =
     let f = g.N.Walk.tree in
+    let see = seen g.W.Render.bytes g.W.Render.failures g.W.Render.lender in
     let p = c.args.printer.now in
     let q = c.step.new.printer in
+    let v = c.args.visits.now in
+    let w = c.step.new.visits in
+    let d = task f c.in-Some.command in
+    let ds = stack_of f c.pop_command.new.stack.items in
+    let one = one_turn f p d ds v w c.one_more-visits.result c.in-Some.ensures c.one_more-visits.ensures.one c.one_more-visits.ensures.rises c.step.ensures.printer c.step.ensures.rises c.step.ensures.counted in
     let k = took f p (record p { commands = c.pop_command.new.stack }) q c.in-Some.command c.in-Ok-Written.field-0 c.in-Some.ensures refl refl refl c.in-Ok-Written.ensures.step in
     let h = subst (TookNext f p q) c.in-Ok-Written.field-0-is k in
-    h.5
-
-pub returns-in-Ok-Quiet-clause-grows : goal.returns-in-Ok-Quiet-clause-grows
-returns-in-Ok-Quiet-clause-grows g c =
-    let f = g.N.Walk.tree in
-    let p = c.args.printer.now in
-    let q = c.step.new.printer in
-    let k = took f p (record p { commands = c.pop_command.new.stack }) q c.in-Some.command c.in-Ok-Quiet.field-0 c.in-Some.ensures refl refl refl c.in-Ok-Quiet.ensures.step in
-    let h = subst (TookNext f p q) c.in-Ok-Quiet.field-0-is k in
-    h.5
-
-pub returns-in-Ok-clause-lessens : goal.returns-in-Ok-clause-lessens
-returns-in-Ok-clause-lessens g c =
-    let f = g.N.Walk.tree in
-    let p = c.args.printer.now in
-    let q = c.step.new.printer in
-    let k = took f p (record p { commands = c.pop_command.new.stack }) q c.in-Some.command c.in-Ok-Written.field-0 c.in-Some.ensures refl refl refl c.in-Ok-Written.ensures.step in
-    let h = subst (TookNext f p q) c.in-Ok-Written.field-0-is k in
-    lessens f p q (piece_bytes c.in-Ok-Written.piece) h
-
-pub returns-in-Ok-Quiet-clause-lessens : goal.returns-in-Ok-Quiet-clause-lessens
-returns-in-Ok-Quiet-clause-lessens g c =
-    let f = g.N.Walk.tree in
-    let p = c.args.printer.now in
-    let q = c.step.new.printer in
-    let k = took f p (record p { commands = c.pop_command.new.stack }) q c.in-Some.command c.in-Ok-Quiet.field-0 c.in-Some.ensures refl refl refl c.in-Ok-Quiet.ensures.step in
-    let h = subst (TookNext f p q) c.in-Ok-Quiet.field-0-is k in
-    lessens f p q [] h
-
-pub returns-in-Ok-clause-told : goal.returns-in-Ok-clause-told
-returns-in-Ok-clause-told g c =
-    let f = g.N.Walk.tree in
-    let p = c.args.printer.now in
-    let q = c.step.new.printer in
-    let k = took f p (record p { commands = c.pop_command.new.stack }) q c.in-Some.command c.in-Ok-Written.field-0 c.in-Some.ensures refl refl refl c.in-Ok-Written.ensures.step in
-    let h = subst (TookNext f p q) c.in-Ok-Written.field-0-is k in
-    λ told.
-    let e = c.in-Ok.ensures.ok told in
-    (e.0, (went f p q (known (g.W.Render.bytes c.args.out.now)) (known (g.W.Render.bytes c.write_piece.new.out)) (piece_bytes c.in-Ok-Written.piece) h e.1.0, e.1.1))
-
-pub returns-in-Ok-Quiet-clause-told : goal.returns-in-Ok-Quiet-clause-told
-returns-in-Ok-Quiet-clause-told g c =
-    let f = g.N.Walk.tree in
-    let p = c.args.printer.now in
-    let q = c.step.new.printer in
-    let k = took f p (record p { commands = c.pop_command.new.stack }) q c.in-Some.command c.in-Ok-Quiet.field-0 c.in-Some.ensures refl refl refl c.in-Ok-Quiet.ensures.step in
-    let h = subst (TookNext f p q) c.in-Ok-Quiet.field-0-is k in
-    let out = known (g.W.Render.bytes c.args.out.now) in
-    λ told. (told, (went f p q out out [] h (sym (append-nil out)), refl))
-
-pub returns-in-Err-write_piece-clause-told : goal.returns-in-Err-write_piece-clause-told
-returns-in-Err-write_piece-clause-told g c =
-    let f = g.N.Walk.tree in
-    let p = c.args.printer.now in
-    let q = c.step.new.printer in
-    let k = took f p (record p { commands = c.pop_command.new.stack }) q c.in-Some.command c.in-Ok-Written.field-0 c.in-Some.ensures refl refl refl c.in-Ok-Written.ensures.step in
-    let h = subst (TookNext f p q) c.in-Ok-Written.field-0-is k in
-    λ told.
-    let e = c.in-Err-write_piece.ensures.err told in
-    (e.0, (sink_broke f p q (known (g.W.Render.bytes c.args.out.now)) (known (g.W.Render.bytes c.write_piece.new.out)) (piece_bytes c.in-Ok-Written.piece) h e.1.0, e.1.1))
-
-pub returns-in-Ok-Chosen-clause-pays : goal.returns-in-Ok-Chosen-clause-pays
-returns-in-Ok-Chosen-clause-pays g c =
-    let f = g.N.Walk.tree in
-    let p = c.args.printer.now in
-    let q = c.step.new.printer in
-    let rest = stack_of f c.pop_command.new.stack.items in
-    let w : Visits = c.step.new.visits in
-    let k = took f p (record p { commands = c.pop_command.new.stack }) q c.in-Some.command c.in-Ok-Chosen.field-0 c.in-Some.ensures refl refl refl c.in-Ok-Chosen.ensures.step in
-    let h = subst (TookNext f p q) c.in-Ok-Chosen.field-0-is k in
-    let more : OneMore f p (task f c.in-Some.command) rest c.args.visits.now w = record { stack_is = c.in-Some.ensures; printer = payload_visits-plus (rejects_payload p.options (f c.in-Some.command.node) c.in-Some.command.mode (state_of f p)) c.args.visits.now.printer c.one_more-visits.result w.printer c.one_more-visits.ensures.one c.step.ensures.printer; probes = c.step.ensures.counted } in
-    chosen_pays f p q c.in-Ok-Chosen.indent c.in-Ok-Chosen.first c.in-Ok-Chosen.second c.args.visits.now w (task f c.in-Some.command) rest more h
-
-pub returns-in-Ok-clause-pays : goal.returns-in-Ok-clause-pays
-returns-in-Ok-clause-pays g c =
-    let f = g.N.Walk.tree in
-    let p = c.args.printer.now in
-    let q = c.step.new.printer in
-    let rest = stack_of f c.pop_command.new.stack.items in
-    let w : Visits = c.step.new.visits in
-    let k = took f p (record p { commands = c.pop_command.new.stack }) q c.in-Some.command c.in-Ok-Written.field-0 c.in-Some.ensures refl refl refl c.in-Ok-Written.ensures.step in
-    let h = subst (TookNext f p q) c.in-Ok-Written.field-0-is k in
-    let more : OneMore f p (task f c.in-Some.command) rest c.args.visits.now w = record { stack_is = c.in-Some.ensures; printer = payload_visits-plus (rejects_payload p.options (f c.in-Some.command.node) c.in-Some.command.mode (state_of f p)) c.args.visits.now.printer c.one_more-visits.result w.printer c.one_more-visits.ensures.one c.step.ensures.printer; probes = c.step.ensures.counted } in
-    went_pays f p q (piece_bytes c.in-Ok-Written.piece) c.args.visits.now w (task f c.in-Some.command) rest more h
-
-pub returns-in-Ok-Quiet-clause-pays : goal.returns-in-Ok-Quiet-clause-pays
-returns-in-Ok-Quiet-clause-pays g c =
-    let f = g.N.Walk.tree in
-    let p = c.args.printer.now in
-    let q = c.step.new.printer in
-    let rest = stack_of f c.pop_command.new.stack.items in
-    let w : Visits = c.step.new.visits in
-    let k = took f p (record p { commands = c.pop_command.new.stack }) q c.in-Some.command c.in-Ok-Quiet.field-0 c.in-Some.ensures refl refl refl c.in-Ok-Quiet.ensures.step in
-    let h = subst (TookNext f p q) c.in-Ok-Quiet.field-0-is k in
-    let more : OneMore f p (task f c.in-Some.command) rest c.args.visits.now w = record { stack_is = c.in-Some.ensures; printer = payload_visits-plus (rejects_payload p.options (f c.in-Some.command.node) c.in-Some.command.mode (state_of f p)) c.args.visits.now.printer c.one_more-visits.result w.printer c.one_more-visits.ensures.one c.step.ensures.printer; probes = c.step.ensures.counted } in
-    went_pays f p q [] c.args.visits.now w (task f c.in-Some.command) rest more h
-
-pub returns-in-Ok-Failed-clause-pays : goal.returns-in-Ok-Failed-clause-pays
-returns-in-Ok-Failed-clause-pays g c =
-    let f = g.N.Walk.tree in
-    let p = c.args.printer.now in
-    let q = c.step.new.printer in
-    let rest = stack_of f c.pop_command.new.stack.items in
-    let w : Visits = c.step.new.visits in
-    let k = took f p (record p { commands = c.pop_command.new.stack }) q c.in-Some.command c.in-Ok-Failed.field-0 c.in-Some.ensures refl refl refl c.in-Ok-Failed.ensures.step in
-    let h = subst (TookNext f p q) c.in-Ok-Failed.field-0-is k in
-    let more : OneMore f p (task f c.in-Some.command) rest c.args.visits.now w = record { stack_is = c.in-Some.ensures; printer = payload_visits-plus (rejects_payload p.options (f c.in-Some.command.node) c.in-Some.command.mode (state_of f p)) c.args.visits.now.printer c.one_more-visits.result w.printer c.one_more-visits.ensures.one c.step.ensures.printer; probes = c.step.ensures.counted } in
-    λ _. failed_pays f p q c.args.visits.now w (task f c.in-Some.command) rest more h
-
-pub returns-in-Err-clause-pays : goal.returns-in-Err-clause-pays
-returns-in-Err-clause-pays g c =
-    let f = g.N.Walk.tree in
-    let p = c.args.printer.now in
-    let rest = stack_of f c.pop_command.new.stack.items in
-    let w : Visits = c.step.new.visits in
-    let more : OneMore f p (task f c.in-Some.command) rest c.args.visits.now w = record { stack_is = c.in-Some.ensures; printer = payload_visits-plus (rejects_payload p.options (f c.in-Some.command.node) c.in-Some.command.mode (state_of f p)) c.args.visits.now.printer c.one_more-visits.result w.printer c.one_more-visits.ensures.one c.step.ensures.printer; probes = c.step.ensures.counted } in
-    λ _. broke_pays f p c.args.visits.now w (task f c.in-Some.command) rest more
-
-pub returns-in-Err-write_piece-clause-pays : goal.returns-in-Err-write_piece-clause-pays
-returns-in-Err-write_piece-clause-pays g c =
-    let f = g.N.Walk.tree in
-    let p = c.args.printer.now in
-    let rest = stack_of f c.pop_command.new.stack.items in
-    let w : Visits = c.step.new.visits in
-    let more : OneMore f p (task f c.in-Some.command) rest c.args.visits.now w = record { stack_is = c.in-Some.ensures; printer = payload_visits-plus (rejects_payload p.options (f c.in-Some.command.node) c.in-Some.command.mode (state_of f p)) c.args.visits.now.printer c.one_more-visits.result w.printer c.one_more-visits.ensures.one c.step.ensures.printer; probes = c.step.ensures.counted } in
-    λ _. broke_pays f p c.args.visits.now w (task f c.in-Some.command) rest more
-
-pub returns-in-Ok-Chosen-clause-meets : goal.returns-in-Ok-Chosen-clause-meets
-returns-in-Ok-Chosen-clause-meets g c =
-    let f = g.N.Walk.tree in
-    let p = c.args.printer.now in
-    let q = c.step.new.printer in
-    let rest = stack_of f c.pop_command.new.stack.items in
-    let w : Visits = c.step.new.visits in
-    let k = took f p (record p { commands = c.pop_command.new.stack }) q c.in-Some.command c.in-Ok-Chosen.field-0 c.in-Some.ensures refl refl refl c.in-Ok-Chosen.ensures.step in
-    let h = subst (TookNext f p q) c.in-Ok-Chosen.field-0-is k in
-    let one : OneLaid f p (task f c.in-Some.command) rest c.args.visits.now w = record { stack_is = c.in-Some.ensures; printer = payload_visits-least (rejects_payload p.options (f c.in-Some.command.node) c.in-Some.command.mode (state_of f p)) c.args.visits.now.printer c.one_more-visits.result w.printer c.one_more-visits.ensures.one c.step.ensures.printer; probes = c.in-Ok-Chosen.ensures.asked } in
-    chosen_meets f p q c.in-Ok-Chosen.indent c.in-Ok-Chosen.first c.in-Ok-Chosen.second c.args.visits.now w (task f c.in-Some.command) rest one h
-
-pub returns-in-Ok-clause-meets : goal.returns-in-Ok-clause-meets
-returns-in-Ok-clause-meets g c =
-    let f = g.N.Walk.tree in
-    let p = c.args.printer.now in
-    let q = c.step.new.printer in
-    let rest = stack_of f c.pop_command.new.stack.items in
-    let w : Visits = c.step.new.visits in
-    let k = took f p (record p { commands = c.pop_command.new.stack }) q c.in-Some.command c.in-Ok-Written.field-0 c.in-Some.ensures refl refl refl c.in-Ok-Written.ensures.step in
-    let h = subst (TookNext f p q) c.in-Ok-Written.field-0-is k in
-    let one : OneLaid f p (task f c.in-Some.command) rest c.args.visits.now w = record { stack_is = c.in-Some.ensures; printer = payload_visits-least (rejects_payload p.options (f c.in-Some.command.node) c.in-Some.command.mode (state_of f p)) c.args.visits.now.printer c.one_more-visits.result w.printer c.one_more-visits.ensures.one c.step.ensures.printer; probes = c.in-Ok-Written.ensures.asked } in
-    went_meets f p q (piece_bytes c.in-Ok-Written.piece) c.args.visits.now w (task f c.in-Some.command) rest one h
-
-pub returns-in-Ok-Quiet-clause-meets : goal.returns-in-Ok-Quiet-clause-meets
-returns-in-Ok-Quiet-clause-meets g c =
-    let f = g.N.Walk.tree in
-    let p = c.args.printer.now in
-    let q = c.step.new.printer in
-    let rest = stack_of f c.pop_command.new.stack.items in
-    let w : Visits = c.step.new.visits in
-    let k = took f p (record p { commands = c.pop_command.new.stack }) q c.in-Some.command c.in-Ok-Quiet.field-0 c.in-Some.ensures refl refl refl c.in-Ok-Quiet.ensures.step in
-    let h = subst (TookNext f p q) c.in-Ok-Quiet.field-0-is k in
-    let one : OneLaid f p (task f c.in-Some.command) rest c.args.visits.now w = record { stack_is = c.in-Some.ensures; printer = payload_visits-least (rejects_payload p.options (f c.in-Some.command.node) c.in-Some.command.mode (state_of f p)) c.args.visits.now.printer c.one_more-visits.result w.printer c.one_more-visits.ensures.one c.step.ensures.printer; probes = c.in-Ok-Quiet.ensures.asked } in
-    went_meets f p q [] c.args.visits.now w (task f c.in-Some.command) rest one h
+    advances_sink_failed f p q (see c.args.out.now) (see c.write_piece.new.out) v w (piece_bytes c.in-Ok-Written.piece) c.in-Err-write_piece.e d ds one h c.write_piece.ensures.same_lender c.in-Err-write_piece.ensures.err

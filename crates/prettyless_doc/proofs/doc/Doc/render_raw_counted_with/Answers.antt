@@ -5,9 +5,9 @@ use Rattle.prettyless_doc.proofs.doc.Doc.render_raw_counted_with.Goals as goal
 pub returns-clause-rendered : goal.returns-clause-rendered
 returns-clause-rendered g c = record {
   same_lender = c.render.ensures.same_lender;
-  bytes = c.render.ensures.told;
+  bytes = c.render.ensures.bytes;
   content = λ is_known.
-      let rendered = c.render.ensures.told is_known in
+      let rendered = c.render.ensures.bytes is_known in
       (rendered.0, rendered_content _ _ _ _ _ _ _ _ rendered.1);
 }
 

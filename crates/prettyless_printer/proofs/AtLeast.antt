@@ -16,18 +16,18 @@ use Rattle.prettyless_model.specs.Counts.{Weight, each_node, each_probe, counted
 use Rattle.prettyless_model.proofs.Levels.{settle_fixed}
 use Rattle.prettyless_model.specs.declared.mode.Mode.{Mode}
 use Rattle.prettyless_model.specs.declared.mode.Mode.TheVariants.{Break, Flat}
-use Rattle.prettyless_step.specs.Stack.{Task, make_task, tasks, follow, stack_of}
+use Rattle.prettyless_step.specs.Stack.{Task, make_task, tasks, follow}
 use Rattle.prettyless_step.specs.Steps.{Step, Move, Stuck, Choose, step_of, union_step, decided_by_metrics, break_step, at_once}
-use Rattle.prettyless_step.specs.Printing.{state_of, ShowsAt, TookNext, TookWriting, WritesAt}
+use Rattle.prettyless_step.specs.Printing.{state_of, ShowsAt, TookNext, TookWriting, WritesAt, tasks_of}
 use Rattle.prettyless_printer.specs.Trials.{TrialDid}
 use Rattle.prettyless_printer.specs.Visits.{Rise}
-use Rattle.prettyless_printer.specs.Meets.{tally_above, tally_choice, nothing_left, Meets, stack_tally, choice_tally, trial_tally, VisitedAtLeast}
+use Rattle.prettyless_printer.specs.AtLeast.{tally_above, tally_choice, nothing_left, CountsAtLeast, stack_tally, choice_tally, trial_tally, VisitedAtLeast}
 use Rattle.prettyless_step.specs.Probing.{RisesBy}
 use Rattle.prettyless_step.specs.declared.printer.Taken.TheVariants.{Chosen}
 use Rattle.prettyless_step.specs.declared.printer.Printer.{Printer}
 use Rattle.prettyless_printer.proofs.Runs.{follow-tasks, payload_branch, no_padding}
 
--- what a task counts, and then those behind it
+-- what a task counts, and then those after it
 abbrev tally_with : RenderOptions → ℕ → Task → List Task → State → Weight → ℕ
 tally_with o n t ts st w =
     tally o t.tree t.indent t.mode (follow ts) st w + counted_then (lay o (settle o) t.tree t.indent t.mode (follow ts) st) (λ u. tally_above o n ts u w)
@@ -57,12 +57,12 @@ counted_less : (out : Outcome) (j k : State → ℕ) → ((u : State) → j u �
 counted_less (Done b st) j k h = h st
 counted_less (Failed b) j k h = omega arith
 
--- two counts behind an outcome, added up
+-- two counts after an outcome, added up
 appended : (out : Outcome) (j k both : State → ℕ) → ((u : State) → both u ≡ j u + k u) → counted_then out both ≡ counted_then out j + counted_then out k
 appended (Done b st) j k both h = h st
 appended (Failed b) j k both h = refl
 
--- a step behind which no less is left to count, but for what its node counts
+-- a step after which no less is left to count, but for what its node counts
 abbrev StepCounts : RenderOptions → ℕ → List Task → State → Weight → ℕ → ℕ → Step → Type 0
 StepCounts o n ts st w was self (Move b pushed u) = was ≤ self + tally_above o n (pushed ++ ts) u w
 StepCounts o n ts st w was self Stuck = Unit {0}
@@ -134,7 +134,7 @@ union_counts o n (MultilineText s) r i ts st w self h =
     omega (arith, a, b, either_counts o n (MultilineText s) r i ts st w self v h)
 union_counts o n _ r i ts st w self h = omega arith
 
--- Behind a step no less is left to count, but for what its node counts.
+-- After a step no less is left to count, but for what its node counts.
 step_counts : (o : RenderOptions) (n : ℕ) (d : Tree) (i : ℕ) (m : Mode) (ts : List Task) (st : State) (w : Weight) → n ≤ length ts →
     StepCounts o n ts st w (tally_with o n (make_task i m d) ts st w) (w d m) (step_of o d i m (follow ts) st)
 unfolding lay tally
@@ -175,45 +175,45 @@ step_counts o n (PartialUnion l r) i Break ts st w h =
     omega (arith, either_counts o n l r i ts st w (w (PartialUnion l r) Break) (probe o l Break (follow ts) st) h)
 step_counts o n (PartialUnion l r) i Flat ts st w h = omega (arith, above_is o n (make_task i Flat l) ts st w h)
 
-pub meets_same : (a : Weight → ℕ) (v : Visits) → Meets a a v v
-meets_same a v = record { printer = omega arith; probes = omega arith }
+pub at_least_same : (a : Weight → ℕ) (v : Visits) → CountsAtLeast a a v v
+at_least_same a v = record { printer = omega arith; probes = omega arith }
 
-pub meets_then : {a b c : Weight → ℕ} {v w x : Visits} → Meets a b v w → Meets b c w x → Meets a c v x
-meets_then {a} {b} {c} {v} {w} {x} h k = record { printer = omega (arith, h.printer, k.printer); probes = omega (arith, h.probes, k.probes) }
+pub at_least_then : {a b c : Weight → ℕ} {v w x : Visits} → CountsAtLeast a b v w → CountsAtLeast b c w x → CountsAtLeast a c v x
+at_least_then {a} {b} {c} {v} {w} {x} h k = record { printer = omega (arith, h.printer, k.printer); probes = omega (arith, h.probes, k.probes) }
 
 -- less was left before, and more is left afterwards
-pub meets_at : {a b c e : Weight → ℕ} {v w : Visits} → ((k : Weight) → c k ≤ a k) → ((k : Weight) → b k ≤ e k) → Meets a b v w → Meets c e v w
-meets_at {a} {b} {c} {e} {v} {w} g h m = record { printer = omega (arith, g each_node, h each_node, m.printer); probes = omega (arith, g each_probe, h each_probe, m.probes) }
+pub at_least_at : {a b c e : Weight → ℕ} {v w : Visits} → ((k : Weight) → c k ≤ a k) → ((k : Weight) → b k ≤ e k) → CountsAtLeast a b v w → CountsAtLeast c e v w
+at_least_at {a} {b} {c} {e} {v} {w} g h m = record { printer = omega (arith, g each_node, h each_node, m.printer); probes = omega (arith, g each_probe, h each_probe, m.probes) }
 
 -- counts that did not fall, where no less is left
-pub meets_rise : {a b : Weight → ℕ} {v w : Visits} → Rise v w → ((k : Weight) → a k ≤ b k) → Meets a b v w
-meets_rise {a} {b} {v} {w} r h = record { printer = omega (arith, h each_node, r.printer); probes = omega (arith, h each_probe, r.probes) }
+pub at_least_rise : {a b : Weight → ℕ} {v w : Visits} → Rise v w → ((k : Weight) → a k ≤ b k) → CountsAtLeast a b v w
+at_least_rise {a} {b} {v} {w} r h = record { printer = omega (arith, h each_node, r.printer); probes = omega (arith, h each_probe, r.probes) }
 
 -- one node was counted, and the probe that it asks
 pub record OneLaid {N : Type 0} (f : N → Tree) (p : Printer N) (t : Task) (ts : List Task) (v w : Visits) : Type 0 where
-  pub stack_is : stack_of f p.commands.items ≡ t ∷ ts
+  pub stack_is : tasks_of f p ≡ t ∷ ts
   pub printer : rise v.printer ≤ w.printer
   pub probes : RisesBy (each_probe t.tree t.mode) v.probes w.probes
 
 -- the node that was counted is the one on top
-laid_top : {N : Type 0} (f : N → Tree) (p : Printer N) (s t : Task) (rest ts : List Task) (v w : Visits) → OneLaid f p s rest v w → stack_of f p.commands.items ≡ t ∷ ts → OneLaid f p t ts v w
+laid_top : {N : Type 0} (f : N → Tree) (p : Printer N) (s t : Task) (rest ts : List Task) (v w : Visits) → OneLaid f p s rest v w → tasks_of f p ≡ t ∷ ts → OneLaid f p t ts v w
 laid_top {N} f p s t rest ts v w one e =
     let same : s ∷ rest ≡ t ∷ ts = sym one.stack_is ∙ e in
     let a : s ≡ t = cc in
     record { stack_is = e; printer = one.printer; probes = subst (λ (x : Task). RisesBy (each_probe x.tree x.mode) v.probes w.probes) a one.probes }
 
 -- a node was counted, and no less is left but for that
-laid_meets : {N : Type 0} (f : N → Tree) (p : Printer N) (t : Task) (ts : List Task) (a b : Weight → ℕ) (v w : Visits) → OneLaid f p t ts v w → ((k : Weight) → a k ≤ k t.tree t.mode + b k) → Meets a b v w
-laid_meets {N} f p t ts a b v w one h = record { printer = omega (arith, h each_node, one.printer); probes = omega (arith, h each_probe, one.probes) }
+laid_at_least : {N : Type 0} (f : N → Tree) (p : Printer N) (t : Task) (ts : List Task) (a b : Weight → ℕ) (v w : Visits) → OneLaid f p t ts v w → ((k : Weight) → a k ≤ k t.tree t.mode + b k) → CountsAtLeast a b v w
+laid_at_least {N} f p t ts a b v w one h = record { printer = omega (arith, h each_node, one.printer); probes = omega (arith, h each_probe, one.probes) }
 
 -- the stack counts what its tasks do
-stack_counts : {N : Type 0} (f : N → Tree) (p : Printer N) (n : ℕ) (o : RenderOptions) (ts : List Task) (st : State) (w : Weight) → p.options ≡ o → stack_of f p.commands.items ≡ ts → state_of f p ≡ st → stack_tally f p n w ≡ tally_above o n ts st w
+stack_counts : {N : Type 0} (f : N → Tree) (p : Printer N) (n : ℕ) (o : RenderOptions) (ts : List Task) (st : State) (w : Weight) → p.options ≡ o → tasks_of f p ≡ ts → state_of f p ≡ st → stack_tally f p n w ≡ tally_above o n ts st w
 stack_counts {N} f p n o ts st w e h k =
-    ap (λ (x : RenderOptions). tally_above x n (stack_of f p.commands.items) (state_of f p) w) e
+    ap (λ (x : RenderOptions). tally_above x n (tasks_of f p) (state_of f p) w) e
     ∙ ap (λ (x : List Task). tally_above o n x (state_of f p) w) h ∙ ap (λ (x : State). tally_above o n ts x w) k
 
 -- what the top of the stack counts
-top_counts : {N : Type 0} (f : N → Tree) (p : Printer N) (n : ℕ) (t : Task) (ts : List Task) (w : Weight) → n < length (stack_of f p.commands.items) → stack_of f p.commands.items ≡ t ∷ ts → stack_tally f p n w ≡ tally_with p.options n t ts (state_of f p) w
+top_counts : {N : Type 0} (f : N → Tree) (p : Printer N) (n : ℕ) (t : Task) (ts : List Task) (w : Weight) → n < length (tasks_of f p) → tasks_of f p ≡ t ∷ ts → stack_tally f p n w ≡ tally_with p.options n t ts (state_of f p) w
 top_counts {N} f p n t ts w l e = stack_counts f p n p.options (t ∷ ts) (state_of f p) w refl e refl ∙ above_is p.options n t ts (state_of f p) w (omega (arith, l, ap length e))
 
 went_by : {N : Type 0} (f : N → Tree) (p q : Printer N) (bytes : List ℕ) (n : ℕ) (t : Task) (ts : List Task) (step : Step) (w : Weight) → q.options ≡ p.options →
@@ -224,17 +224,17 @@ went_by {N} f p q bytes n t ts Stuck w e s h = absurd h
 went_by {N} f p q bytes n t ts (Choose i x y) w e s h = absurd h
 
 -- the stack counts no more than the step of its top allows
-stepped_counts : {N : Type 0} (f : N → Tree) (p : Printer N) (n : ℕ) (t : Task) (ts : List Task) (w : Weight) → n < length (stack_of f p.commands.items) → stack_of f p.commands.items ≡ t ∷ ts →
+stepped_counts : {N : Type 0} (f : N → Tree) (p : Printer N) (n : ℕ) (t : Task) (ts : List Task) (w : Weight) → n < length (tasks_of f p) → tasks_of f p ≡ t ∷ ts →
     StepCounts p.options n ts (state_of f p) w (stack_tally f p n w) (w t.tree t.mode) (step_of p.options t.tree t.indent t.mode (follow ts) (state_of f p))
 stepped_counts {N} f p n t ts w l e =
     subst (λ (x : ℕ). StepCounts p.options n ts (state_of f p) w x (w t.tree t.mode) (step_of p.options t.tree t.indent t.mode (follow ts) (state_of f p))) (sym (top_counts f p n t ts w l e))
     (step_counts p.options n t.tree t.indent t.mode ts (state_of f p) w (omega (arith, l, ap length e)))
 
 -- a turn that took up one node
-pub went_meets : {N : Type 0} (f : N → Tree) (p q : Printer N) (bytes : List ℕ) (v w : Visits) (s : Task) (rest : List Task) → OneLaid f p s rest v w → TookWriting f p q bytes →
-    (n : ℕ) → n < length (stack_of f p.commands.items) → Meets (stack_tally f p n) (stack_tally f q n) v w
-went_meets {N} f p q bytes v w s rest one h n l =
-    laid_meets f p h.0 h.1 (stack_tally f p n) (stack_tally f q n) v w (laid_top f p s h.0 rest h.1 v w one h.2)
+pub went_at_least : {N : Type 0} (f : N → Tree) (p q : Printer N) (bytes : List ℕ) (v w : Visits) (s : Task) (rest : List Task) → OneLaid f p s rest v w → TookWriting f p q bytes →
+    (n : ℕ) → n < length (tasks_of f p) → CountsAtLeast (stack_tally f p n) (stack_tally f q n) v w
+went_at_least {N} f p q bytes v w s rest one h n l =
+    laid_at_least f p h.0 h.1 (stack_tally f p n) (stack_tally f q n) v w (laid_top f p s h.0 rest h.1 v w one h.2)
     (λ k. went_by f p q bytes n h.0 h.1 (step_of p.options h.0.tree h.0.indent h.0.mode (follow h.1) (state_of f p)) k h.4 (stepped_counts f p n h.0 h.1 k l h.2) h.3)
 
 chosen_by : {N : Type 0} (f : N → Tree) (p q : Printer N) (i : ℕ) (a b : N) (n : ℕ) (t : Task) (ts : List Task) (step : Step) (w : Weight) → q.options ≡ p.options →
@@ -245,19 +245,19 @@ chosen_by {N} f p q i a b n t ts Stuck w e s h = absurd h
 chosen_by {N} f p q i a b n t ts (Choose j x y) w e s h =
     let st : State = state_of f p in
     let same : choice_tally f q n i (f a) (f b) w ≡ tally_choice p.options n j x y ts st w =
-    ap (λ (z : RenderOptions). tally_choice z n i (f a) (f b) (stack_of f q.commands.items) (state_of f q) w) e
-    ∙ ap (λ (z : ℕ). tally_choice p.options n z (f a) (f b) (stack_of f q.commands.items) (state_of f q) w) h.0
-    ∙ ap (λ (z : Tree). tally_choice p.options n j z (f b) (stack_of f q.commands.items) (state_of f q) w) h.1
-    ∙ ap (λ (z : Tree). tally_choice p.options n j x z (stack_of f q.commands.items) (state_of f q) w) h.2
+    ap (λ (z : RenderOptions). tally_choice z n i (f a) (f b) (tasks_of f q) (state_of f q) w) e
+    ∙ ap (λ (z : ℕ). tally_choice p.options n z (f a) (f b) (tasks_of f q) (state_of f q) w) h.0
+    ∙ ap (λ (z : Tree). tally_choice p.options n j z (f b) (tasks_of f q) (state_of f q) w) h.1
+    ∙ ap (λ (z : Tree). tally_choice p.options n j x z (tasks_of f q) (state_of f q) w) h.2
     ∙ ap (λ (z : List Task). tally_choice p.options n j x y z (state_of f q) w) h.3
     ∙ ap (λ (z : State). tally_choice p.options n j x y ts z w) h.4 in
     omega (arith, s, same)
 
--- a turn behind which two branches are to be chosen from
-pub chosen_meets : {N : Type 0} (f : N → Tree) (p q : Printer N) (i : ℕ) (a b : N) (v w : Visits) (s : Task) (rest : List Task) → OneLaid f p s rest v w → TookNext f p q (Chosen i a b) →
-    (n : ℕ) → n < length (stack_of f p.commands.items) → Meets (stack_tally f p n) (choice_tally f q n i (f a) (f b)) v w
-chosen_meets {N} f p q i a b v w s rest one h n l =
-    laid_meets f p h.0 h.1 (stack_tally f p n) (choice_tally f q n i (f a) (f b)) v w (laid_top f p s h.0 rest h.1 v w one h.2)
+-- a turn after which two branches are to be chosen from
+pub chosen_at_least : {N : Type 0} (f : N → Tree) (p q : Printer N) (i : ℕ) (a b : N) (v w : Visits) (s : Task) (rest : List Task) → OneLaid f p s rest v w → TookNext f p q (Chosen i a b) →
+    (n : ℕ) → n < length (tasks_of f p) → CountsAtLeast (stack_tally f p n) (choice_tally f q n i (f a) (f b)) v w
+chosen_at_least {N} f p q i a b v w s rest one h n l =
+    laid_at_least f p h.0 h.1 (stack_tally f p n) (choice_tally f q n i (f a) (f b)) v w (laid_top f p s h.0 rest h.1 v w one h.2)
     (λ k. chosen_by f p q i a b n h.0 h.1 (step_of p.options h.0.tree h.0.indent h.0.mode (follow h.1) (state_of f p)) k h.4 (stepped_counts f p n h.0 h.1 k l h.2) h.3)
 
 -- the first branch counts where it is accepted
@@ -275,10 +275,10 @@ rejected_counts o was (Done b st) x y e =
 rejected_counts o was (Failed b) x y e = refl
 
 -- a choice whose first branch is kept
-pub kept_meets : {N : Type 0} (f : N → Tree) (p q : Printer N) (i : ℕ) (x y : Tree) (old new : List ℕ) (v w : Visits) (n : ℕ) → TrialDid f p q i x old new true →
-    Meets (trial_tally f p i x) nothing_left v w → Meets (choice_tally f p n i x y) (stack_tally f q n) v w
-kept_meets {N} f p q i x y old new v w n d m =
-    let ts : List Task = stack_of f p.commands.items in
+pub kept_at_least : {N : Type 0} (f : N → Tree) (p q : Printer N) (i : ℕ) (x y : Tree) (old new : List ℕ) (v w : Visits) (n : ℕ) → TrialDid f p q i x old new true →
+    CountsAtLeast (trial_tally f p i x) nothing_left v w → CountsAtLeast (choice_tally f p n i x y) (stack_tally f q n) v w
+kept_at_least {N} f p q i x y old new v w n d m =
+    let ts : List Task = tasks_of f p in
     let out : Outcome = lay p.options (settle p.options) x i Break (follow ts) (tried (state_of f p)) in
     let other : Outcome = lay p.options (settle p.options) y i Break (follow ts) (state_of f p) in
     let same : (k : Weight) → choice_tally f p n i x y k ≡ trial_tally f p i x k + stack_tally f q n k = λ k.
@@ -291,14 +291,14 @@ kept_meets {N} f p q i x y old new v w n d m =
     record { printer = omega (arith, same each_node, m.printer); probes = omega (arith, same each_probe, m.probes) }
 
 -- a choice whose second branch comes next
-pub other_meets : {N : Type 0} (f : N → Tree) (p q r : Printer N) (i : ℕ) (x y : Tree) (old new : List ℕ) (v w : Visits) (n : ℕ) → n ≤ length (stack_of f p.commands.items) → TrialDid f p q i x old new false →
-    stack_of f r.commands.items ≡ make_task i Break y ∷ stack_of f q.commands.items → state_of f r ≡ state_of f q → r.options ≡ q.options →
-    Rise v w → Meets (choice_tally f p n i x y) (stack_tally f r n) v w
-other_meets {N} f p q r i x y old new v w n l d e s z rise =
-    let ts : List Task = stack_of f p.commands.items in
+pub other_at_least : {N : Type 0} (f : N → Tree) (p q r : Printer N) (i : ℕ) (x y : Tree) (old new : List ℕ) (v w : Visits) (n : ℕ) → n ≤ length (tasks_of f p) → TrialDid f p q i x old new false →
+    tasks_of f r ≡ make_task i Break y ∷ tasks_of f q → state_of f r ≡ state_of f q → r.options ≡ q.options →
+    Rise v w → CountsAtLeast (choice_tally f p n i x y) (stack_tally f r n) v w
+other_at_least {N} f p q r i x y old new v w n l d e s z rise =
+    let ts : List Task = tasks_of f p in
     let out : Outcome = lay p.options (settle p.options) x i Break (follow ts) (tried (state_of f p)) in
     let other : Outcome = lay p.options (settle p.options) y i Break (follow ts) (state_of f p) in
-    meets_rise rise (λ k.
+    at_least_rise rise (λ k.
     omega (
       arith,
       rejected_counts p.options p.within out (trial_tally f p i x k) (tally p.options y i Break (follow ts) (state_of f p) k) (d.5.2 (Failed [])),
@@ -308,23 +308,23 @@ other_meets {N} f p q r i x y old new v w n l d e s z rise =
     ))
 
 -- a trial begins
-pub trial_begins : {N : Type 0} (f : N → Tree) (p q : Printer N) (i : ℕ) (d : Tree) (v : Visits) → q.options ≡ p.options → stack_of f q.commands.items ≡ make_task i Break d ∷ stack_of f p.commands.items → state_of f q ≡ tried (state_of f p) →
-    Meets (trial_tally f p i d) (stack_tally f q (length (stack_of f p.commands.items))) v v
+pub trial_begins : {N : Type 0} (f : N → Tree) (p q : Printer N) (i : ℕ) (d : Tree) (v : Visits) → q.options ≡ p.options → tasks_of f q ≡ make_task i Break d ∷ tasks_of f p → state_of f q ≡ tried (state_of f p) →
+    CountsAtLeast (trial_tally f p i d) (stack_tally f q (length (tasks_of f p))) v v
 trial_begins {N} f p q i d v o e s =
-    let ts : List Task = stack_of f p.commands.items in
+    let ts : List Task = tasks_of f p in
     let t : Task = make_task i Break d in
-    meets_rise (record { printer = omega arith; probes = omega arith })
+    at_least_rise (record { printer = omega arith; probes = omega arith })
     (λ k. omega (arith, stack_counts f q (length ts) p.options (t ∷ ts) (tried (state_of f p)) k o e s, above_is p.options (length ts) t ts (tried (state_of f p)) k (omega arith)))
 
 -- no more than n tasks are left
-pub meets_end : {N : Type 0} {a : Weight → ℕ} {v w : Visits} (f : N → Tree) (p : Printer N) (n : ℕ) → length (stack_of f p.commands.items) ≤ n → Meets a (stack_tally f p n) v w → Meets a nothing_left v w
-meets_end {N} {a} {v} {w} f p n l m = meets_at (λ k. omega arith) (λ k. omega (arith, above_none p.options n (stack_of f p.commands.items) (state_of f p) k l)) m
+pub at_least_end : {N : Type 0} {a : Weight → ℕ} {v w : Visits} (f : N → Tree) (p : Printer N) (n : ℕ) → length (tasks_of f p) ≤ n → CountsAtLeast a (stack_tally f p n) v w → CountsAtLeast a nothing_left v w
+at_least_end {N} {a} {v} {w} f p n l m = at_least_at (λ k. omega arith) (λ k. omega (arith, above_none p.options n (tasks_of f p) (state_of f p) k l)) m
 
 -- a run that has worked on one tree from the beginning
-pub at_least : {N A E : Type 0} (f : N → Tree) (d : Tree) (p : Printer N) (v w : Visits) (r : Result A E) → stack_of f p.commands.items ≡ make_task 0 Break d ∷ [] → state_of f p ≡ initial →
-    OnOk r (Meets (stack_tally f p 0) nothing_left v w) → OnOk r (VisitedAtLeast p.options d v w)
-at_least {N} {A} {E} f d p v w (Ok x) e s m =
+pub visited_at_least : {N A E : Type 0} (f : N → Tree) (d : Tree) (p : Printer N) (v w : Visits) (r : Result A E) → tasks_of f p ≡ make_task 0 Break d ∷ [] → state_of f p ≡ initial →
+    OnOk r (CountsAtLeast (stack_tally f p 0) nothing_left v w) → OnOk r (VisitedAtLeast p.options d v w)
+visited_at_least {N} {A} {E} f d p v w (Ok x) e s m =
     let less : (k : Weight) → tally p.options d 0 Break [] initial k ≤ stack_tally f p 0 k = λ k.
     omega (arith, stack_counts f p 0 p.options (make_task 0 Break d ∷ []) initial k refl e s, above_is p.options 0 (make_task 0 Break d) [] initial k (omega arith)) in
     record { printer = omega (arith, less each_node, m.printer); probes = omega (arith, less each_probe, m.probes) }
-at_least {N} {A} {E} f d p v w (Err x) e s m = tt
+visited_at_least {N} {A} {E} f d p v w (Err x) e s m = tt

@@ -7,9 +7,9 @@ use Rattle.prettyless_model.specs.Layout.{State, lay, tried}
 use Rattle.prettyless_model.specs.Levels.{settle}
 use Rattle.prettyless_model.specs.Counts.{Weight, each_node, each_probe, counted_then, counted_accept, tally, laid_nodes, laid_probes}
 use Rattle.prettyless_model.specs.declared.mode.Mode.TheVariants.{Break}
-use Rattle.prettyless_step.specs.Stack.{Task, follow, stack_of}
+use Rattle.prettyless_step.specs.Stack.{Task, follow}
 use Rattle.prettyless_step.specs.Steps.{chosen}
-use Rattle.prettyless_step.specs.Printing.{state_of}
+use Rattle.prettyless_step.specs.Printing.{state_of, tasks_of}
 use Rattle.prettyless_step.specs.Probing.{RisesBy}
 use Rattle.prettyless_step.specs.declared.printer.Printer.{Printer}
 use Rattle.prettyless_printer.specs.declared.answer.Turn.{Turn}
@@ -23,7 +23,7 @@ tally_above o n (t ∷ ts) st w =
     then tally o t.tree t.indent t.mode (follow ts) st w + counted_then (lay o (settle o) t.tree t.indent t.mode (follow ts) st) (λ u. tally_above o n ts u w)
     else 0
 
--- what a choice between two branches counts, and then the tasks behind it
+-- what a choice between two branches counts, and then the tasks after it
 abbrev pub tally_choice : RenderOptions → ℕ → ℕ → Tree → Tree → List Task → State → Weight → ℕ
 tally_choice o n i x y ts st w =
     counted_accept o (lay o (settle o) x i Break (follow ts) (tried st)) (tally o x i Break (follow ts) (tried st) w) (tally o y i Break (follow ts) st w)
@@ -34,34 +34,34 @@ abbrev pub nothing_left : Weight → ℕ
 nothing_left w = 0
 
 -- The counts keep up: with what is left to count they have no less than before, or are at the greatest value.
-pub record Meets (before left : Weight → ℕ) (v w : Visits) : Type 0 where
+pub record CountsAtLeast (before left : Weight → ℕ) (v w : Visits) : Type 0 where
   pub printer : RisesBy (before each_node) v.printer (w.printer + left each_node)
   pub probes : RisesBy (before each_probe) v.probes (w.probes + left each_probe)
 
 -- what the printer's stack is to count until only n tasks are left
 abbrev pub stack_tally : {N : Type 0} → (N → Tree) → Printer N → ℕ → Weight → ℕ
-stack_tally f p n w = tally_above p.options n (stack_of f p.commands.items) (state_of f p) w
+stack_tally f p n w = tally_above p.options n (tasks_of f p) (state_of f p) w
 
 -- what a choice is to count, and then the printer's stack
 abbrev pub choice_tally : {N : Type 0} → (N → Tree) → Printer N → ℕ → ℕ → Tree → Tree → Weight → ℕ
-choice_tally f p n i x y w = tally_choice p.options n i x y (stack_of f p.commands.items) (state_of f p) w
+choice_tally f p n i x y w = tally_choice p.options n i x y (tasks_of f p) (state_of f p) w
 
 -- what a trial of a branch is to count
 abbrev pub trial_tally : {N : Type 0} → (N → Tree) → Printer N → ℕ → Tree → Weight → ℕ
-trial_tally f p i d w = tally p.options d i Break (follow (stack_of f p.commands.items)) (tried (state_of f p)) w
+trial_tally f p i d w = tally p.options d i Break (follow (tasks_of f p)) (tried (state_of f p)) w
 
 -- what a turn counts, seen from each place below the top of the stack
-abbrev pub TurnMeets : {N E : Type 0} → (N → Tree) → Printer N → Printer N → Visits → Visits → Result (Turn N) E → Type 0
-TurnMeets f p q v w (Ok Went) = (n : ℕ) → n < length (stack_of f p.commands.items) → Meets (stack_tally f p n) (stack_tally f q n) v w
-TurnMeets f p q v w (Ok Failed) = Unit {0}
-TurnMeets f p q v w (Ok (Chosen i x y)) =
-    (n : ℕ) → n < length (stack_of f p.commands.items) → Meets (stack_tally f p n) (choice_tally f q n i (f x) (f y)) v w
-TurnMeets f p q v w (Err e) = Unit {0}
+abbrev pub TurnCountsAtLeast : {N E : Type 0} → (N → Tree) → Printer N → Printer N → Visits → Visits → Result (Turn N) E → Type 0
+TurnCountsAtLeast f p q v w (Ok Went) = (n : ℕ) → n < length (tasks_of f p) → CountsAtLeast (stack_tally f p n) (stack_tally f q n) v w
+TurnCountsAtLeast f p q v w (Ok Failed) = Unit {0}
+TurnCountsAtLeast f p q v w (Ok (Chosen i x y)) =
+    (n : ℕ) → n < length (tasks_of f p) → CountsAtLeast (stack_tally f p n) (choice_tally f q n i (f x) (f y)) v w
+TurnCountsAtLeast f p q v w (Err e) = Unit {0}
 
 -- a trial that is kept has counted its branch
-abbrev pub TrialMeets : {N : Type 0} → (N → Tree) → Printer N → ℕ → Tree → Visits → Visits → Bool → Type 0
-TrialMeets f p i d v w true = Meets (trial_tally f p i d) nothing_left v w
-TrialMeets f p i d v w false = Unit {0}
+abbrev pub TrialCountsAtLeast : {N : Type 0} → (N → Tree) → Printer N → ℕ → Tree → Visits → Visits → Bool → Type 0
+TrialCountsAtLeast f p i d v w true = CountsAtLeast (trial_tally f p i d) nothing_left v w
+TrialCountsAtLeast f p i d v w false = Unit {0}
 
 -- A render counts at least the nodes that the layout lays, and at least the probes that it asks, up to the greatest count.
 pub record VisitedAtLeast (o : RenderOptions) (d : Tree) (v w : Visits) : Type 0 where
