@@ -2,7 +2,7 @@
 -- document counts and reads as it did.
 use Rattle.std.proofs.Common.{◌≡◌, ℕ, ◌+◌, List, ◌∷◌, ◌++◌, refl, ap, sym, ◌∙◌, append_assoc, arith}
 use Rattle.prettyless_model.specs.declared.options.RenderOptions.{RenderOptions}
-use Rattle.prettyless_model.specs.Tree.{Tree, Nil, Fail, Text, TextWithLen, MultilineText, WeakSpace, HardLine, WeakLine, Append, LineSuffix, Nest, DedentToRoot, Align, ExpandParent, Flatten, BreakOrFlat, Group, Union, PartialUnion, size}
+use Rattle.prettyless_model.specs.Tree.{Tree, Append, LineSuffix, Nest, DedentToRoot, Align, Flatten, BreakOrFlat, Group, Union, PartialUnion, size}
 use Rattle.prettyless_model.specs.Reading.{Atom, reading}
 use Rattle.prettyless_model.specs.Layout.{State, Entry, Breaks, and_then, lay, entry, rest_atoms}
 use Rattle.prettyless_model.specs.declared.mode.Mode.{Mode}
@@ -13,25 +13,8 @@ use Rattle.prettyless_laws.proofs.Following.{Alike, ReadsAlike, then-same, lay_a
 
 -- what holds of each tree and its `Append` before r, and goes past a left arm, holds of what is appended
 appended_by : (P : Tree → Tree → Type 0) (r : Tree) → ((l : Tree) → P l (Append l r)) → ((a b : Tree) → P b (appended b r) → P (Append a b) (Append a (appended b r))) → (l : Tree) → P l (appended l r)
-appended_by P r f g Nil = f Nil
-appended_by P r f g Fail = f Fail
-appended_by P r f g (Text s) = f (Text s)
-appended_by P r f g (TextWithLen w s) = f (TextWithLen w s)
-appended_by P r f g (MultilineText s) = f (MultilineText s)
-appended_by P r f g WeakSpace = f WeakSpace
-appended_by P r f g HardLine = f HardLine
-appended_by P r f g WeakLine = f WeakLine
 appended_by P r f g (Append a b) = g a b (appended_by P r f g b)
-appended_by P r f g (LineSuffix d) = f (LineSuffix d)
-appended_by P r f g (Nest k d) = f (Nest k d)
-appended_by P r f g (DedentToRoot d) = f (DedentToRoot d)
-appended_by P r f g (Align d) = f (Align d)
-appended_by P r f g ExpandParent = f ExpandParent
-appended_by P r f g (Flatten d) = f (Flatten d)
-appended_by P r f g (BreakOrFlat x y) = f (BreakOrFlat x y)
-appended_by P r f g (Group d) = f (Group d)
-appended_by P r f g (Union x y) = f (Union x y)
-appended_by P r f g (PartialUnion x y) = f (PartialUnion x y)
+appended_by P r f g l = f l
 
 appended_size : (l r : Tree) → size (appended l r) ≡ size l + size r + 1
 appended_size l r =
@@ -64,43 +47,25 @@ unfolding lay
 appended_lays o brk k l r = appended_by (LaidBefore o brk r) r (λ x i m s st. refl) (past_left o brk k r) l
 
 pub right_size : (d : Tree) → size (right d) ≡ size d
-right_size Nil = refl
-right_size Fail = refl
-right_size (Text s) = refl
-right_size (TextWithLen w s) = refl
-right_size (MultilineText s) = refl
-right_size WeakSpace = refl
-right_size HardLine = refl
-right_size WeakLine = refl
 right_size (Append l r) = omega (arith, appended_size (right l) (right r), right_size l, right_size r)
 right_size (LineSuffix d) = omega (arith, right_size d)
 right_size (Nest k d) = omega (arith, right_size d)
 right_size (DedentToRoot d) = omega (arith, right_size d)
 right_size (Align d) = omega (arith, right_size d)
-right_size ExpandParent = refl
 right_size (Flatten d) = omega (arith, right_size d)
 right_size (BreakOrFlat b f) = omega (arith, right_size b, right_size f)
 right_size (Group d) = omega (arith, right_size d)
 right_size (Union l r) = omega (arith, right_size l, right_size r)
 right_size (PartialUnion l r) = omega (arith, right_size l, right_size r)
+right_size _ = refl
 
 pub right_reads : (d : Tree) (m : Mode) → reading (right d) m ≡ reading d m
-right_reads Nil m = refl
-right_reads Fail m = refl
-right_reads (Text s) m = refl
-right_reads (TextWithLen w s) m = refl
-right_reads (MultilineText s) m = refl
-right_reads WeakSpace m = refl
-right_reads HardLine m = refl
-right_reads WeakLine m = refl
 right_reads (Append l r) m =
     appended_reads (right l) (right r) m ∙ ap (λ (x : List Atom). x ++ reading (right r) m) (right_reads l m)
     ∙ ap (λ (x : List Atom). reading l m ++ x) (right_reads r m)
-right_reads (LineSuffix d) m = refl
 right_reads (Nest k d) m = right_reads d m
 right_reads (DedentToRoot d) m = right_reads d m
 right_reads (Align d) m = right_reads d m
-right_reads ExpandParent m = refl
 right_reads (Flatten d) m = right_reads d Flat
 right_reads (BreakOrFlat b f) Break = right_reads b Break
 right_reads (BreakOrFlat b f) Flat = right_reads f Flat
@@ -109,3 +74,4 @@ right_reads (Union l r) Break = right_reads r Break
 right_reads (Union l r) Flat = right_reads l Flat
 right_reads (PartialUnion l r) Break = right_reads r Break
 right_reads (PartialUnion l r) Flat = right_reads l Flat
+right_reads _ m = refl

@@ -2,7 +2,7 @@
 use Rattle.std.proofs.Common.{◌≡◌, ℕ, zero, suc, List, [], ◌∷◌, ◌++◌, refl, ap, ◌∙◌, Bool, if◌then◌else◌}
 use Rattle.prettyless_model.specs.Spaces.{spaces}
 use Rattle.prettyless_model.specs.declared.options.RenderOptions.{RenderOptions}
-use Rattle.prettyless_model.specs.Tree.{Tree, Nil, Fail, Text, TextWithLen, MultilineText, WeakSpace, HardLine, WeakLine, Append, LineSuffix, Nest, DedentToRoot, Align, ExpandParent, Flatten, BreakOrFlat, Group, Union, PartialUnion}
+use Rattle.prettyless_model.specs.Tree.{Tree, HardLine, WeakLine, Append, Nest, DedentToRoot, Align, Flatten, BreakOrFlat, Group, Union, PartialUnion}
 use Rattle.prettyless_model.specs.Column.{gap, prospective}
 use Rattle.prettyless_model.specs.Reading.{Atom, reading, fits, by_mode}
 use Rattle.prettyless_model.specs.Layout.{State, Outcome, Done, Failed, Entry, Breaks, after_bytes, and_then, lay, lay_each, lay_ending, nested, some_pending, probe, accept, tried, is_suppressed, flushed, entry, entries, next_indent, rest_atoms, break_with, breaks}
@@ -46,24 +46,15 @@ either-same s t x y z w e f g =
 
 pub lay_alike : (o : RenderOptions) (brk : Breaks) → ReadsAlike brk → (d : Tree) (i : ℕ) (m : Mode) (a b : List Entry) (st : State) → Alike a b → lay o brk d i m a st ≡ lay o brk d i m b st
 unfolding lay
-lay_alike o brk k Nil i m a b st h = refl
-lay_alike o brk k Fail i m a b st h = refl
-lay_alike o brk k (Text s) i m a b st h = refl
-lay_alike o brk k (TextWithLen w s) i m a b st h = refl
-lay_alike o brk k (MultilineText s) i m a b st h = refl
-lay_alike o brk k WeakSpace i m a b st h = refl
 lay_alike o brk k HardLine i Break a b st h = k HardLine i Break a b st h
-lay_alike o brk k HardLine i Flat a b st h = refl
 lay_alike o brk k WeakLine i m a b st h = k WeakLine i m a b st h
 lay_alike o brk k (Append l r) i m a b st h =
     then-same (lay o brk l i m (entry i r ∷ a) st) (lay o brk l i m (entry i r ∷ b) st) (λ u. lay o brk r i m a u) (λ u. lay o brk r i m b u)
     (lay_alike o brk k l i m (entry i r ∷ a) (entry i r ∷ b) st (alike_after i r r a b refl h))
     (λ u. lay_alike o brk k r i m a b u h)
-lay_alike o brk k (LineSuffix d) i m a b st h = refl
 lay_alike o brk k (Nest n d) i m a b st h = lay_alike o brk k d (nested i n) m a b st h
 lay_alike o brk k (DedentToRoot d) i m a b st h = lay_alike o brk k d 0 m a b st h
 lay_alike o brk k (Align d) i m a b st h = lay_alike o brk k d (prospective st.column) m a b st h
-lay_alike o brk k ExpandParent i m a b st h = refl
 lay_alike o brk k (Flatten d) i m a b st h = lay_alike o brk k d i Flat a b st h
 lay_alike o brk k (BreakOrFlat x y) i Break a b st h = lay_alike o brk k x i Break a b st h
 lay_alike o brk k (BreakOrFlat x y) i Flat a b st h = lay_alike o brk k y i Flat a b st h
@@ -78,6 +69,7 @@ lay_alike o brk k (PartialUnion x y) i Break a b st h =
     either-same (probe o x Break a st) (probe o x Break b st) (lay o brk x i Break a st) (lay o brk y i Break a st) (lay o brk x i Break b st) (lay o brk y i Break b st)
     (probe_alike o x Break a b st h) (lay_alike o brk k x i Break a b st h) (lay_alike o brk k y i Break a b st h)
 lay_alike o brk k (PartialUnion x y) i Flat a b st h = lay_alike o brk k x i Flat a b st h
+lay_alike o brk k _ i m a b st h = refl
 
 each_alike : (o : RenderOptions) (brk : Breaks) → ReadsAlike brk → (ds : List Tree) (i : ℕ) (m : Mode) (a b : List Entry) (st : State) → Alike a b → lay_each o brk ds i m a st ≡ lay_each o brk ds i m b st
 unfolding lay_each

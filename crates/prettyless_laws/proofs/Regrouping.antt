@@ -4,7 +4,7 @@ use Rattle.prettyless_model.specs.Spaces.{spaces}
 use Rattle.prettyless_model.specs.declared.options.RenderOptions.{RenderOptions}
 use Rattle.prettyless_model.specs.declared.options.IndentationPolicy.{IndentationPolicy}
 use Rattle.prettyless_model.specs.declared.options.IndentationPolicy.TheVariants.{Eager, Deferred}
-use Rattle.prettyless_model.specs.Tree.{Tree, Nil, Fail, Text, TextWithLen, MultilineText, WeakSpace, HardLine, WeakLine, Append, LineSuffix, Nest, DedentToRoot, Align, ExpandParent, Flatten, BreakOrFlat, Group, Union, PartialUnion, size}
+use Rattle.prettyless_model.specs.Tree.{Tree, Text, TextWithLen, HardLine, WeakLine, Append, LineSuffix, Nest, DedentToRoot, Align, Flatten, BreakOrFlat, Group, Union, PartialUnion, size}
 use Rattle.prettyless_model.specs.Column.{gap, prospective, padding_fits}
 use Rattle.prettyless_model.specs.Reading.{Atom, reading, fits, by_mode}
 use Rattle.prettyless_model.specs.Layout.{State, Outcome, Done, Failed, Entry, Breaks, after_bytes, and_then, lay, lay_each, lay_text, lay_ending, nested, some_pending, probe, accept, tried, is_suppressed, flushed, entry, entries, next_indent, rest_atoms, break_with, end_with, breaks, finish, layout, layout_by, initial, bytes_of}
@@ -72,15 +72,9 @@ right_probe o d m r s st h =
 
 lay_right : (o : RenderOptions) (brk : Breaks) → ReadsAlike brk → BreaksRegrouped brk → (d : Tree) (i : ℕ) (m : Mode) (r s : List Entry) (st : State) → Alike s r → lay o brk (right d) i m s (right_state st) ≡ right_outcome (lay o brk d i m r st)
 unfolding lay
-lay_right o brk a k Nil i m r s st h = refl
-lay_right o brk a k Fail i m r s st h = refl
 lay_right o brk a k (Text t) i m r s st h = right-text o (length t) t st
 lay_right o brk a k (TextWithLen w t) i m r s st h = right-text o w t st
-lay_right o brk a k (MultilineText t) i Break r s st h = refl
-lay_right o brk a k (MultilineText t) i Flat r s st h = refl
-lay_right o brk a k WeakSpace i m r s st h = refl
 lay_right o brk a k HardLine i Break r s st h = k HardLine i Break r s st h
-lay_right o brk a k HardLine i Flat r s st h = refl
 lay_right o brk a k WeakLine i m r s st h = k WeakLine i m r s st h
 lay_right o brk a k (Append x y) i m r s st h =
     appended_lays o brk a (right x) (right y) i m s (right_state st)
@@ -91,7 +85,6 @@ lay_right o brk a k (LineSuffix d) i m r s st h = ap (λ (x : List Tree). Done [
 lay_right o brk a k (Nest n d) i m r s st h = lay_right o brk a k d (nested i n) m r s st h
 lay_right o brk a k (DedentToRoot d) i m r s st h = lay_right o brk a k d 0 m r s st h
 lay_right o brk a k (Align d) i m r s st h = lay_right o brk a k d (prospective st.column) m r s st h
-lay_right o brk a k ExpandParent i m r s st h = refl
 lay_right o brk a k (Flatten d) i m r s st h = lay_right o brk a k d i Flat r s st h
 lay_right o brk a k (BreakOrFlat x y) i Break r s st h = lay_right o brk a k x i Break r s st h
 lay_right o brk a k (BreakOrFlat x y) i Flat r s st h = lay_right o brk a k y i Flat r s st h
@@ -109,6 +102,8 @@ lay_right o brk a k (PartialUnion x y) i Break r s st h =
     (right_probe o x Break r s st h) (lay_right o brk a k x i Break r s st h) (lay_right o brk a k y i Break r s st h)
     ∙ right-either (probe o x Break r st) (lay o brk x i Break r st) (lay o brk y i Break r st)
 lay_right o brk a k (PartialUnion x y) i Flat r s st h = lay_right o brk a k x i Flat r s st h
+lay_right o brk a k _ i Break r s st h = refl
+lay_right o brk a k _ i Flat r s st h = refl
 
 alike_rights : (i : ℕ) (ds : List Tree) (r s : List Entry) → Alike s r → Alike (entries i (rights ds) ++ s) (entries i ds ++ r)
 alike_rights i [] r s h = h

@@ -5,16 +5,14 @@ use Rattle.std.proofs.Math.Numerals.{add-one}
 use Rattle.std.proofs.lemmas.List.Elements.{All-nil, All-cons, All-head, All-tail, All-append, All-push, All-same}
 use Rattle.prettyless_model.specs.Spaces.{spaces}
 use Rattle.prettyless_model.specs.declared.options.RenderOptions.{RenderOptions}
-use Rattle.prettyless_model.specs.declared.options.IndentationPolicy.{IndentationPolicy}
-use Rattle.prettyless_model.specs.declared.options.IndentationPolicy.TheVariants.{Eager, Deferred}
-use Rattle.prettyless_model.specs.Tree.{Tree, Nil, Fail, Text, TextWithLen, MultilineText, WeakSpace, HardLine, WeakLine, Append, LineSuffix, Nest, DedentToRoot, Align, ExpandParent, Flatten, BreakOrFlat, Group, Union, PartialUnion, size}
+use Rattle.prettyless_model.specs.Tree.{Tree, Fail, Text, TextWithLen, HardLine, WeakLine, Append, LineSuffix, Nest, DedentToRoot, Align, Flatten, BreakOrFlat, Group, Union, PartialUnion, size}
 use Rattle.prettyless_model.specs.Column.{gap, prospective}
-use Rattle.prettyless_model.specs.Layout.{State, Outcome, Done, Failed, Whole, Entry, Breaks, after_bytes, and_then, lay, lay_each, lay_text, lay_ending, nested, probe, tried, is_suppressed, plain_break, flushed, entry, entries, next_indent, break_with, end_with, breaks, finish, layout, layout_by, initial, bytes_of}
+use Rattle.prettyless_model.specs.Layout.{State, Outcome, Done, Failed, Whole, Entry, Breaks, after_bytes, and_then, lay, lay_each, nested, probe, tried, flushed, entry, entries, break_with, end_with, breaks, finish, layout, layout_by, initial, bytes_of}
 use Rattle.prettyless_model.specs.Levels.{suffixes, queued}
 use Rattle.prettyless_model.specs.declared.mode.Mode.{Mode}
 use Rattle.prettyless_model.specs.declared.mode.Mode.TheVariants.{Break, Flat}
 use Rattle.prettyless_model.proofs.Levels.{LeavesAtMost, Keeps, lay_keeps, all_suffixes, suffixes_queued, each_keeps, breaks_keep, suffixes_size}
-use Rattle.prettyless_model.proofs.Outcomes.{holds-either, holds-accept}
+use Rattle.prettyless_model.proofs.Outcomes.{holds-either, holds-accept, holds-text, holds-plain}
 use Rattle.prettyless_laws.specs.FlatLines.{flat_suffixes, SkipsWeakLines}
 use Rattle.prettyless_laws.specs.TotalTrees.{IsTotal}
 use Rattle.prettyless_laws.proofs.FlatLines.{one_line, breaks_skip}
@@ -37,25 +35,18 @@ abbrev LaysTo : ℕ → Breaks → Type 0
 LaysTo h brk = (d : Tree) (i : ℕ) (rest : List Entry) (st : State) → All IsTotal st.pending → queued st.pending ≤ h → Lays (brk d i Break rest st)
 
 suffixes_total : (d : Tree) → IsTotal d → All IsTotal (flat_suffixes d)
-suffixes_total Nil t = All-nil IsTotal
 suffixes_total Fail t = absurd t
-suffixes_total (Text s) t = All-nil IsTotal
-suffixes_total (TextWithLen w s) t = All-nil IsTotal
-suffixes_total (MultilineText s) t = All-nil IsTotal
-suffixes_total WeakSpace t = All-nil IsTotal
-suffixes_total HardLine t = All-nil IsTotal
-suffixes_total WeakLine t = All-nil IsTotal
 suffixes_total (Append l r) t = All-append IsTotal (flat_suffixes l) (flat_suffixes r) (suffixes_total l t.0) (suffixes_total r t.1)
 suffixes_total (LineSuffix d) t = All-cons IsTotal d [] t (All-nil IsTotal)
 suffixes_total (Nest k d) t = suffixes_total d t
 suffixes_total (DedentToRoot d) t = suffixes_total d t
 suffixes_total (Align d) t = suffixes_total d t
-suffixes_total ExpandParent t = All-nil IsTotal
 suffixes_total (Flatten d) t = absurd t
 suffixes_total (BreakOrFlat b f) t = suffixes_total f t.1
 suffixes_total (Group d) t = suffixes_total d t
 suffixes_total (Union l r) t = suffixes_total l t.0
 suffixes_total (PartialUnion l r) t = suffixes_total l t.0
+suffixes_total _ t = All-nil IsTotal
 
 flat_lays : (o : RenderOptions) (brk : Breaks) → SkipsWeakLines brk → (d : Tree) (i : ℕ) (rest : List Entry) (st : State) → IsTotal d → All IsTotal st.pending → probe o d Flat rest st ≡ true → Lays (lay o brk d i Flat rest st)
 flat_lays o brk k d i rest st t p h =
@@ -68,18 +59,11 @@ in_mode : (P : Mode → Type 0) (t : Bool) → (t ≡ true → P Flat) → P Bre
 in_mode P true f b = f refl
 in_mode P false f b = b
 
-text_lays : (o : RenderOptions) (w : ℕ) (s : List ℕ) (st : State) → All IsTotal st.pending → Lays (lay_text o w s st)
-text_lays o w [] st p = p
-text_lays o w (b ∷ bs) st p = p
-
 lay_lays : (o : RenderOptions) (brk : Breaks) (h : ℕ) → SkipsWeakLines brk → Keeps brk → LaysTo h brk → (d : Tree) (i : ℕ) (rest : List Entry) (st : State) → IsTotal d → All IsTotal st.pending → suffixes d + queued st.pending ≤ h → Lays (lay o brk d i Break rest st)
 unfolding lay
-lay_lays o brk h s k g Nil i rest st t p l = p
 lay_lays o brk h s k g Fail i rest st t p l = absurd t
-lay_lays o brk h s k g (Text x) i rest st t p l = text_lays o (length x) x st p
-lay_lays o brk h s k g (TextWithLen w x) i rest st t p l = text_lays o w x st p
-lay_lays o brk h s k g (MultilineText x) i rest st t p l = p
-lay_lays o brk h s k g WeakSpace i rest st t p l = p
+lay_lays o brk h s k g (Text x) i rest st t p l = holds-text Lays o (length x) x st (λ b c v. p)
+lay_lays o brk h s k g (TextWithLen w x) i rest st t p l = holds-text Lays o w x st (λ b c v. p)
 lay_lays o brk h s k g HardLine i rest st t p l = g HardLine i rest st p (omega arith)
 lay_lays o brk h s k g WeakLine i rest st t p l = g WeakLine i rest st p (omega arith)
 lay_lays o brk h s k g (Append x y) i rest st t p l =
@@ -91,7 +75,6 @@ lay_lays o brk h s k g (LineSuffix d) i rest st t p l = All-push IsTotal st.pend
 lay_lays o brk h s k g (Nest n d) i rest st t p l = lay_lays o brk h s k g d (nested i n) rest st t p l
 lay_lays o brk h s k g (DedentToRoot d) i rest st t p l = lay_lays o brk h s k g d 0 rest st t p l
 lay_lays o brk h s k g (Align d) i rest st t p l = lay_lays o brk h s k g d (prospective st.column) rest st t p l
-lay_lays o brk h s k g ExpandParent i rest st t p l = p
 lay_lays o brk h s k g (Flatten d) i rest st t p l = absurd t
 lay_lays o brk h s k g (BreakOrFlat x y) i rest st t p l = lay_lays o brk h s k g x i rest st t.0 p (omega arith)
 lay_lays o brk h s k g (Group d) i rest st t p l =
@@ -106,6 +89,7 @@ lay_lays o brk h s k g (PartialUnion x y) i rest st t p l =
     holds-either Lays (probe o x Break rest st) (lay o brk x i Break rest st) (lay o brk y i Break rest st)
     (lay_lays o brk h s k g x i rest st t.0 p (omega arith))
     (lay_lays o brk h s k g y i rest st t.1 p (omega arith))
+lay_lays o brk h s k g _ i rest st t p l = p
 
 each_lays : (o : RenderOptions) (brk : Breaks) (h : ℕ) → SkipsWeakLines brk → Keeps brk → LaysTo h brk → (ds : List Tree) (i : ℕ) (rest : List Entry) (st : State) → All IsTotal ds → All IsTotal st.pending → all_suffixes ds + queued st.pending ≤ h → Lays (lay_each o brk ds i Break rest st)
 unfolding lay_each
@@ -125,20 +109,12 @@ pending_lays o brk h s k g ps i rest st again t l f =
     (each_lays o brk h s k g ps i rest (flushed o st) t (All-nil IsTotal) (omega arith))
     (λ u q n. f u q (omega arith)))
 
-ending_lays : (o : RenderOptions) (p : IndentationPolicy) (k : ℕ) (st : State) → All IsTotal st.pending → Lays (lay_ending o p k st)
-ending_lays o Eager k st p = p
-ending_lays o Deferred k st p = p
-
-plain_lays : (o : RenderOptions) (d : Tree) (i : ℕ) (rest : List Entry) (st : State) → All IsTotal st.pending → Lays (plain_break o d i rest st)
-plain_lays o d i rest st p =
-    holds-either Lays (is_suppressed d st.column) (Done [] st) (lay_ending o o.indentation_policy (next_indent i rest) st) p (ending_lays o o.indentation_policy (next_indent i rest) st p)
-
 none_lays : (o : RenderOptions) (brk : Breaks) (ps : List Tree) (d : Tree) (i : ℕ) (rest : List Entry) (st : State) → All IsTotal st.pending → queued ps ≤ 0 → Lays (break_with o brk ps d i Break rest st)
-none_lays o brk [] d i rest st p l = plain_lays o d i rest st p
+none_lays o brk [] d i rest st p l = holds-plain Lays o d i rest st (λ b c v. p)
 none_lays o brk (x ∷ xs) d i rest st p l = absurd (omega arith)
 
 break_lays : (o : RenderOptions) (brk : Breaks) (h : ℕ) → SkipsWeakLines brk → Keeps brk → LaysTo h brk → (ps : List Tree) (d : Tree) (i : ℕ) (rest : List Entry) (st : State) → All IsTotal ps → All IsTotal st.pending → queued ps ≤ suc h → Lays (break_with o brk ps d i Break rest st)
-break_lays o brk h s k g [] d i rest st t p l = plain_lays o d i rest st p
+break_lays o brk h s k g [] d i rest st t p l = holds-plain Lays o d i rest st (λ b c v. p)
 break_lays o brk h s k g (x ∷ xs) d i rest st t p l =
     pending_lays o brk h s k g (x ∷ xs) i (entry i d ∷ rest) st (brk d i Break rest) t (omega (arith, suffixes_queued xs))
     (λ u q n. g d i rest u q (omega (arith, suffixes_queued xs)))

@@ -1,7 +1,7 @@
 -- Laws of flat lines: what the probe answers yes to is laid on one line, and its trace shows that.
 use Rattle.std.specs.Prelude.{◌≡◌, ℕ, suc, ◌≤◌, true, List, [], ◌∷◌, ◌++◌, All, ⊤}
 use Rattle.prettyless_model.specs.declared.options.RenderOptions.{RenderOptions}
-use Rattle.prettyless_model.specs.Tree.{Tree, Nil, Fail, Text, TextWithLen, MultilineText, WeakSpace, HardLine, WeakLine, Append, LineSuffix, Nest, DedentToRoot, Align, ExpandParent, Flatten, BreakOrFlat, Group, Union, PartialUnion}
+use Rattle.prettyless_model.specs.Tree.{Tree, WeakLine, Append, LineSuffix, Nest, DedentToRoot, Align, Flatten, BreakOrFlat, Group, Union, PartialUnion}
 use Rattle.prettyless_model.specs.Reading.{Atom, fits}
 use Rattle.prettyless_model.specs.Layout.{State, Done, Breaks, Entry, lay, probe, rest_atoms, some_pending, tried, breaks}
 use Rattle.prettyless_model.specs.Levels.{settle}
@@ -12,25 +12,17 @@ use Rattle.prettyless_laws.specs.Trace.{Piece, Ending, Indent, Gap, Source, Chos
 
 -- the documents that a tree leaves pending in Flat, in their order
 abbrev pub flat_suffixes : Tree → List Tree
-flat_suffixes Nil = []
-flat_suffixes Fail = []
-flat_suffixes (Text s) = []
-flat_suffixes (TextWithLen w s) = []
-flat_suffixes (MultilineText s) = []
-flat_suffixes WeakSpace = []
-flat_suffixes HardLine = []
-flat_suffixes WeakLine = []
 flat_suffixes (Append l r) = flat_suffixes l ++ flat_suffixes r
 flat_suffixes (LineSuffix d) = d ∷ []
 flat_suffixes (Nest k d) = flat_suffixes d
 flat_suffixes (DedentToRoot d) = flat_suffixes d
 flat_suffixes (Align d) = flat_suffixes d
-flat_suffixes ExpandParent = []
 flat_suffixes (Flatten d) = flat_suffixes d
 flat_suffixes (BreakOrFlat b f) = flat_suffixes f
 flat_suffixes (Group d) = flat_suffixes d
 flat_suffixes (Union l r) = flat_suffixes l
 flat_suffixes (PartialUnion l r) = flat_suffixes l
+flat_suffixes _ = []
 
 -- a meaning of a break that leaves out a weak line where the line is fresh and nothing is pending; of every other
 -- break it says nothing

@@ -1,7 +1,7 @@
 -- How documents are grouped: one after another, in any grouping, they have one layout.
 use Rattle.std.specs.Prelude.{◌≡◌}
 use Rattle.prettyless_model.specs.declared.options.RenderOptions.{RenderOptions}
-use Rattle.prettyless_model.specs.Tree.{Tree, Nil, Fail, Text, TextWithLen, MultilineText, WeakSpace, HardLine, WeakLine, Append, LineSuffix, Nest, DedentToRoot, Align, ExpandParent, Flatten, BreakOrFlat, Group, Union, PartialUnion}
+use Rattle.prettyless_model.specs.Tree.{Tree, Append, LineSuffix, Nest, DedentToRoot, Align, Flatten, BreakOrFlat, Group, Union, PartialUnion}
 use Rattle.prettyless_model.specs.Layout.{layout}
 
 -- a document after another, at the end of the latter's right arms
@@ -11,25 +11,17 @@ appended l d = Append l d
 
 -- every `Append (Append a b) c`, at any depth, as `Append a (Append b c)`
 abbrev pub right : Tree → Tree
-right Nil = Nil
-right Fail = Fail
-right (Text s) = Text s
-right (TextWithLen w s) = TextWithLen w s
-right (MultilineText s) = MultilineText s
-right WeakSpace = WeakSpace
-right HardLine = HardLine
-right WeakLine = WeakLine
 right (Append l r) = appended (right l) (right r)
 right (LineSuffix d) = LineSuffix (right d)
 right (Nest k d) = Nest k (right d)
 right (DedentToRoot d) = DedentToRoot (right d)
 right (Align d) = Align (right d)
-right ExpandParent = ExpandParent
 right (Flatten d) = Flatten (right d)
 right (BreakOrFlat b f) = BreakOrFlat (right b) (right f)
 right (Group d) = Group (right d)
 right (Union l r) = Union (right l) (right r)
 right (PartialUnion l r) = PartialUnion (right l) (right r)
+right d = d
 
 -- regrouping changes no layout
 abbrev pub RegroupingKeepsLayouts : Type 0

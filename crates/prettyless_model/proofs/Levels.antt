@@ -3,16 +3,14 @@ use Rattle.std.proofs.Common.{◌≡◌, ℕ, zero, suc, ◌+◌, ◌<◌, ◌�
 use Rattle.std.proofs.Math.Numerals.{add-one}
 use Rattle.prettyless_model.specs.Spaces.{spaces}
 use Rattle.prettyless_model.specs.declared.options.RenderOptions.{RenderOptions}
-use Rattle.prettyless_model.specs.declared.options.IndentationPolicy.{IndentationPolicy}
-use Rattle.prettyless_model.specs.declared.options.IndentationPolicy.TheVariants.{Eager, Deferred}
-use Rattle.prettyless_model.specs.Tree.{Tree, Nil, Fail, Text, TextWithLen, MultilineText, WeakSpace, HardLine, WeakLine, Append, LineSuffix, Nest, DedentToRoot, Align, ExpandParent, Flatten, BreakOrFlat, Group, Union, PartialUnion, size}
+use Rattle.prettyless_model.specs.Tree.{Tree, Fail, Text, TextWithLen, MultilineText, HardLine, WeakLine, Append, LineSuffix, Nest, DedentToRoot, Align, Flatten, BreakOrFlat, Group, Union, PartialUnion, size}
 use Rattle.prettyless_model.specs.Column.{gap, prospective}
 use Rattle.prettyless_model.specs.Reading.{by_mode}
-use Rattle.prettyless_model.specs.Layout.{State, Outcome, Done, Failed, Entry, Breaks, after_bytes, and_then, lay, lay_each, lay_text, lay_ending, nested, probe, accept, tried, is_suppressed, plain_break, flushed, entry, entries, next_indent, break_with, end_with, breaks, finish, layout, layout_by, initial, bytes_of}
+use Rattle.prettyless_model.specs.Layout.{State, Outcome, Done, Failed, Entry, Breaks, after_bytes, and_then, lay, lay_each, nested, probe, accept, tried, flushed, entry, entries, break_with, end_with, breaks, finish, layout, layout_by, initial, bytes_of}
 use Rattle.prettyless_model.specs.Levels.{suffixes, queued, settle, settle_end}
 use Rattle.prettyless_model.specs.declared.mode.Mode.{Mode}
 use Rattle.prettyless_model.specs.declared.mode.Mode.TheVariants.{Break, Flat}
-use Rattle.prettyless_model.proofs.Outcomes.{holds-either, holds-accept}
+use Rattle.prettyless_model.proofs.Outcomes.{holds-either, holds-accept, holds-text, holds-plain}
 
 -- at most this much is pending afterwards
 abbrev pub LeavesAtMost : ℕ → Outcome → Type 0
@@ -47,27 +45,13 @@ Keeps brk = (d : Tree) (i : ℕ) (m : Mode) (rest : List Entry) (st : State) →
 abbrev pub Agree : ℕ → Breaks → Breaks → Type 0
 Agree h a b = (d : Tree) (i : ℕ) (m : Mode) (rest : List Entry) (st : State) → queued st.pending ≤ h → a d i m rest st ≡ b d i m rest st
 
-text_keeps : (o : RenderOptions) (w : ℕ) (s : List ℕ) (st : State) → LeavesAtMost (queued st.pending) (lay_text o w s st)
-text_keeps o w [] st = omega arith
-text_keeps o w (b ∷ bs) st = omega arith
-
-ending_keeps : (o : RenderOptions) (p : IndentationPolicy) (k : ℕ) (st : State) → LeavesAtMost (queued st.pending) (lay_ending o p k st)
-ending_keeps o Eager k st = omega arith
-ending_keeps o Deferred k st = omega arith
-
-plain_keeps : (o : RenderOptions) (d : Tree) (i : ℕ) (rest : List Entry) (st : State) → LeavesAtMost (queued st.pending) (plain_break o d i rest st)
-plain_keeps o d i rest st =
-    holds-either (LeavesAtMost (queued st.pending)) (is_suppressed d st.column) (Done [] st) (lay_ending o o.indentation_policy (next_indent i rest) st) (omega arith) (ending_keeps o o.indentation_policy (next_indent i rest) st)
-
 pub lay_keeps : (o : RenderOptions) (brk : Breaks) → Keeps brk → (d : Tree) (i : ℕ) (m : Mode) (rest : List Entry) (st : State) → LeavesAtMost (suffixes d + queued st.pending) (lay o brk d i m rest st)
 unfolding lay
-lay_keeps o brk k Nil i m rest st = omega arith
 lay_keeps o brk k Fail i m rest st = tt
-lay_keeps o brk k (Text s) i m rest st = leaves-more _ _ (lay_text o (length s) s st) (omega arith) (text_keeps o (length s) s st)
-lay_keeps o brk k (TextWithLen w s) i m rest st = leaves-more _ _ (lay_text o w s st) (omega arith) (text_keeps o w s st)
+lay_keeps o brk k (Text s) i m rest st = holds-text (LeavesAtMost (0 + queued st.pending)) o (length s) s st (λ b c t. omega arith)
+lay_keeps o brk k (TextWithLen w s) i m rest st = holds-text (LeavesAtMost (0 + queued st.pending)) o w s st (λ b c t. omega arith)
 lay_keeps o brk k (MultilineText s) i Break rest st = omega arith
 lay_keeps o brk k (MultilineText s) i Flat rest st = tt
-lay_keeps o brk k WeakSpace i m rest st = omega arith
 lay_keeps o brk k HardLine i Break rest st = leaves-more _ _ (brk HardLine i Break rest st) (omega arith) (k HardLine i Break rest st)
 lay_keeps o brk k HardLine i Flat rest st = tt
 lay_keeps o brk k WeakLine i m rest st = leaves-more _ _ (brk WeakLine i m rest st) (omega arith) (k WeakLine i m rest st)
@@ -78,7 +62,6 @@ lay_keeps o brk k (LineSuffix d) i m rest st = omega (arith, queued-one st.pendi
 lay_keeps o brk k (Nest n d) i m rest st = lay_keeps o brk k d (nested i n) m rest st
 lay_keeps o brk k (DedentToRoot d) i m rest st = lay_keeps o brk k d 0 m rest st
 lay_keeps o brk k (Align d) i m rest st = lay_keeps o brk k d (prospective st.column) m rest st
-lay_keeps o brk k ExpandParent i m rest st = omega arith
 lay_keeps o brk k (Flatten d) i m rest st = lay_keeps o brk k d i Flat rest st
 lay_keeps o brk k (BreakOrFlat b f) i Break rest st = leaves-more _ _ (lay o brk b i Break rest st) (omega arith) (lay_keeps o brk k b i Break rest st)
 lay_keeps o brk k (BreakOrFlat b f) i Flat rest st = leaves-more _ _ (lay o brk f i Flat rest st) (omega arith) (lay_keeps o brk k f i Flat rest st)
@@ -93,6 +76,7 @@ lay_keeps o brk k (PartialUnion l r) i Break rest st =
     (leaves-more _ _ (lay o brk l i Break rest st) (omega arith) (lay_keeps o brk k l i Break rest st))
     (leaves-more _ _ (lay o brk r i Break rest st) (omega arith) (lay_keeps o brk k r i Break rest st))
 lay_keeps o brk k (PartialUnion l r) i Flat rest st = leaves-more _ _ (lay o brk l i Flat rest st) (omega arith) (lay_keeps o brk k l i Flat rest st)
+lay_keeps o brk k _ i m rest st = omega arith
 
 abbrev pub all_suffixes : List Tree → ℕ
 all_suffixes [] = 0
@@ -110,8 +94,7 @@ each_keeps o brk k (d ∷ ds) i m rest st =
     (λ u h. leaves-more (all_suffixes ds + queued u.pending) _ (lay_each o brk ds i m rest u) (omega arith) (each_keeps o brk k ds i m rest u))
 
 break_keeps : (o : RenderOptions) (brk : Breaks) → Keeps brk → (ps : List Tree) (d : Tree) (i : ℕ) (m : Mode) (rest : List Entry) (st : State) → queued st.pending ≤ queued ps → LeavesAtMost (queued ps) (break_with o brk ps d i m rest st)
-break_keeps o brk k [] d i m rest st l =
-    leaves-more _ _ (plain_break o d i rest st) l (plain_keeps o d i rest st)
+break_keeps o brk k [] d i m rest st l = holds-plain (LeavesAtMost (queued [])) o d i rest st (λ b c t. l)
 break_keeps o brk k (p ∷ ps) d i m rest st l =
     leaves-after _ (spaces (gap st.column)) (and_then (lay_each o brk (p ∷ ps) i m (entry i d ∷ rest) (flushed o st)) (brk d i m rest))
     (leaves-then (all_suffixes (p ∷ ps) + queued (flushed o st).pending) _ (lay_each o brk (p ∷ ps) i m (entry i d ∷ rest) (flushed o st)) (brk d i m rest)
@@ -125,26 +108,16 @@ breaks_keep o (suc n) = λ d i m rest st. break_keeps o (breaks o n) (breaks_kee
 
 lay_agrees : (o : RenderOptions) (h : ℕ) (a b : Breaks) → Agree h a b → Keeps a → (d : Tree) (i : ℕ) (m : Mode) (rest : List Entry) (st : State) → suffixes d + queued st.pending ≤ h → lay o a d i m rest st ≡ lay o b d i m rest st
 unfolding lay
-lay_agrees o h a b e k Nil i m rest st l = refl
-lay_agrees o h a b e k Fail i m rest st l = refl
-lay_agrees o h a b e k (Text s) i m rest st l = refl
-lay_agrees o h a b e k (TextWithLen w s) i m rest st l = refl
-lay_agrees o h a b e k (MultilineText s) i Break rest st l = refl
-lay_agrees o h a b e k (MultilineText s) i Flat rest st l = refl
-lay_agrees o h a b e k WeakSpace i m rest st l = refl
 lay_agrees o h a b e k HardLine i Break rest st l = e HardLine i Break rest st (omega arith)
-lay_agrees o h a b e k HardLine i Flat rest st l = refl
 lay_agrees o h a b e k WeakLine i m rest st l = e WeakLine i m rest st (omega arith)
 lay_agrees o h a b e k (Append x y) i m rest st l =
     then-agrees (suffixes x + queued st.pending) (lay o a x i m (entry i y ∷ rest) st) (λ u. lay o a y i m rest u) (λ u. lay o b y i m rest u)
     (lay_keeps o a k x i m (entry i y ∷ rest) st)
     (λ u q. lay_agrees o h a b e k y i m rest u (omega arith))
     ∙ ap (λ (x : Outcome). and_then x (λ u. lay o b y i m rest u)) (lay_agrees o h a b e k x i m (entry i y ∷ rest) st (omega arith))
-lay_agrees o h a b e k (LineSuffix d) i m rest st l = refl
 lay_agrees o h a b e k (Nest n d) i m rest st l = lay_agrees o h a b e k d (nested i n) m rest st l
 lay_agrees o h a b e k (DedentToRoot d) i m rest st l = lay_agrees o h a b e k d 0 m rest st l
 lay_agrees o h a b e k (Align d) i m rest st l = lay_agrees o h a b e k d (prospective st.column) m rest st l
-lay_agrees o h a b e k ExpandParent i m rest st l = refl
 lay_agrees o h a b e k (Flatten d) i m rest st l = lay_agrees o h a b e k d i Flat rest st l
 lay_agrees o h a b e k (BreakOrFlat x y) i Break rest st l = lay_agrees o h a b e k x i Break rest st (omega arith)
 lay_agrees o h a b e k (BreakOrFlat x y) i Flat rest st l = lay_agrees o h a b e k y i Flat rest st (omega arith)
@@ -157,6 +130,7 @@ lay_agrees o h a b e k (PartialUnion x y) i Break rest st l =
     ap (λ (z : Outcome). if probe o x Break rest st then z else lay o a y i Break rest st) (lay_agrees o h a b e k x i Break rest st (omega arith))
     ∙ ap (λ (z : Outcome). if probe o x Break rest st then lay o b x i Break rest st else z) (lay_agrees o h a b e k y i Break rest st (omega arith))
 lay_agrees o h a b e k (PartialUnion x y) i Flat rest st l = lay_agrees o h a b e k x i Flat rest st (omega arith)
+lay_agrees o h a b e k _ i m rest st l = refl
 
 each_agrees : (o : RenderOptions) (h : ℕ) (a b : Breaks) → Agree h a b → Keeps a → (ds : List Tree) (i : ℕ) (m : Mode) (rest : List Entry) (st : State) → all_suffixes ds + queued st.pending ≤ h → lay_each o a ds i m rest st ≡ lay_each o b ds i m rest st
 unfolding lay_each
@@ -238,25 +212,17 @@ unfolding settle_end finish
 end_fixed o st = end_fixed_at o (queued st.pending) st.pending st (omega arith)
 
 pub suffixes_size : (d : Tree) → suffixes d < size d
-suffixes_size Nil = omega arith
-suffixes_size Fail = omega arith
-suffixes_size (Text s) = omega arith
-suffixes_size (TextWithLen w s) = omega arith
-suffixes_size (MultilineText s) = omega arith
-suffixes_size WeakSpace = omega arith
-suffixes_size HardLine = omega arith
-suffixes_size WeakLine = omega arith
 suffixes_size (Append l r) = omega (arith, suffixes_size l, suffixes_size r)
 suffixes_size (LineSuffix d) = omega (arith, suffixes_size d)
 suffixes_size (Nest k d) = omega (arith, suffixes_size d)
 suffixes_size (DedentToRoot d) = omega (arith, suffixes_size d)
 suffixes_size (Align d) = omega (arith, suffixes_size d)
-suffixes_size ExpandParent = omega arith
 suffixes_size (Flatten d) = omega (arith, suffixes_size d)
 suffixes_size (BreakOrFlat l r) = omega (arith, suffixes_size l, suffixes_size r)
 suffixes_size (Group d) = omega (arith, suffixes_size d)
 suffixes_size (Union l r) = omega (arith, suffixes_size l, suffixes_size r)
 suffixes_size (PartialUnion l r) = omega (arith, suffixes_size l, suffixes_size r)
+suffixes_size _ = omega arith
 
 layout_at : (o : RenderOptions) (n : ℕ) (d : Tree) → suffixes d ≤ n → layout_by o (suc n) d ≡ and_then (lay o (settle o) d 0 Break [] initial) (settle_end o)
 unfolding layout_by settle_end

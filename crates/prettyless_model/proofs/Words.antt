@@ -1,6 +1,6 @@
 -- Words: what documents spell in a row, and what one with no line suffix spells in parts.
 use Rattle.std.proofs.Common.{◌≡◌, ℕ, List, [], ◌∷◌, ◌++◌, refl, ap, sym, ◌∙◌, append_assoc, append-nil, arith}
-use Rattle.prettyless_model.specs.Tree.{Tree, Nil, Fail, Text, TextWithLen, MultilineText, WeakSpace, HardLine, WeakLine, Append, LineSuffix, Nest, DedentToRoot, Align, ExpandParent, Flatten, BreakOrFlat, Group, Union, PartialUnion}
+use Rattle.prettyless_model.specs.Tree.{Tree, Nil, Fail, Append, LineSuffix, Nest, DedentToRoot, Align, Flatten, BreakOrFlat, Group, Union, PartialUnion}
 use Rattle.prettyless_model.specs.Spelling.{spells, parts}
 use Rattle.prettyless_model.specs.Content.{suffix_depth}
 
@@ -21,23 +21,16 @@ depth_one_more (t ∷ ts) d p q = omega (arith, depth_one_more ts d (omega arith
 
 -- a document with no line suffix has one part
 pub parts_in_order : (d : Tree) (w : List ℕ) → spells d w → suffix_depth d ≡ 0 → parts d w []
-parts_in_order Nil w h l = (h, refl)
 parts_in_order Fail w h l = tt
-parts_in_order (Text s) w h l = (h, refl)
-parts_in_order (TextWithLen n s) w h l = (h, refl)
-parts_in_order (MultilineText s) w h l = (h, refl)
-parts_in_order WeakSpace w h l = (h, refl)
-parts_in_order HardLine w h l = (h, refl)
-parts_in_order WeakLine w h l = (h, refl)
 parts_in_order (Append x y) w h l =
     (h.0, [], h.1, [], parts_in_order x h.0 h.2 (omega arith), parts_in_order y h.1 h.3 (omega arith), h.4, refl)
 parts_in_order (LineSuffix d) w h l = absurd (omega arith)
 parts_in_order (Nest k d) w h l = parts_in_order d w h l
 parts_in_order (DedentToRoot d) w h l = parts_in_order d w h l
 parts_in_order (Align d) w h l = parts_in_order d w h l
-parts_in_order ExpandParent w h l = (h, refl)
 parts_in_order (Flatten d) w h l = parts_in_order d w h l
 parts_in_order (BreakOrFlat x y) w h l = (parts_in_order x w h.0 (omega arith), parts_in_order y w h.1 (omega arith))
 parts_in_order (Group d) w h l = parts_in_order d w h l
 parts_in_order (Union x y) w h l = (parts_in_order x w h.0 (omega arith), parts_in_order y w h.1 (omega arith))
 parts_in_order (PartialUnion x y) w h l = (parts_in_order x w h.0 (omega arith), parts_in_order y w h.1 (omega arith))
+parts_in_order _ w h l = (h, refl)

@@ -1,5 +1,5 @@
 -- The layout of a document: a recursion on its tree, from state to state.
-use Rattle.std.specs.Prelude.{ℕ, zero, suc, ◌+◌, ◌-◌, ℤ, pos, negsuc, Bool, true, false, Option, Some, None, not, ◌&&◌, ◌||◌, nat_le, List, [], ◌∷◌, ◌++◌, length, if◌then◌else◌}
+use Rattle.std.specs.Prelude.{ℕ, zero, suc, ◌+◌, ◌-◌, ℤ, pos, negsuc, Bool, true, false, Option, Some, None, not, ◌&&◌, ◌||◌, nat_le, List, [], ◌∷◌, ◌++◌, length, map, if◌then◌else◌}
 use Rattle.prettyless_model.specs.Options.{ending}
 use Rattle.prettyless_model.specs.Spaces.{spaces}
 use Rattle.prettyless_model.specs.declared.options.RenderOptions.{RenderOptions}
@@ -83,8 +83,7 @@ entry i d = record { indent = i; tree = d }
 
 -- trees that follow at one indent
 abbrev pub entries : ℕ → List Tree → List Entry
-entries i [] = []
-entries i (d ∷ ds) = entry i d ∷ entries i ds
+entries i ds = map (entry i) ds
 
 -- what is read after the probed document: each document that follows, in Break
 abbrev pub rest_atoms : List Entry → List Atom
@@ -114,27 +113,46 @@ tried st = record st { within = true }
 abbrev pub Breaks : Type 0
 Breaks = Tree → ℕ → Mode → List Entry → State → Outcome
 
--- A document at an indent in a mode, with what follows it. The recursion is on the tree; `brk` lays breaks.
+-- The layout of a document at an indent and in a mode, with what follows it: a recursion on the tree. `brk` lays breaks.
 unfoldable pub lay : RenderOptions → Breaks → Tree → ℕ → Mode → List Entry → State → Outcome
+-- the empty document writes nothing
 lay o brk t.Nil i m rest st = Done [] st
+-- a failure ends the layout; what was written before it stays written
 lay o brk t.Fail i m rest st = Failed []
+-- a text takes a column for each byte
 lay o brk (t.Text s) i m rest st = lay_text o (length s) s st
+-- a text with a width of its own takes so many columns
 lay o brk (t.TextWithLen w s) i m rest st = lay_text o w s st
+-- a payload is written as it is; on a flat line it is a failure
 lay o brk (t.MultilineText s) i m rest st = by_mode m (lay_payload o (metrics s) s st) (Failed [])
+-- a weak space is kept until content follows on its line
 lay o brk t.WeakSpace i m rest st = Done [] (record st { column = blank st.column })
+-- a hard line breaks the line; on a flat line it is a failure
 lay o brk t.HardLine i m rest st = by_mode m (brk t.HardLine i m rest st) (Failed [])
+-- a weak line breaks the line in both modes, unless the line has no content yet
 lay o brk t.WeakLine i m rest st = brk t.WeakLine i m rest st
+-- the left document, then the right one; the right one follows the left one, so probes in the left one read it too
 lay o brk (t.Append l r) i m rest st = and_then (lay o brk l i m (entry i r ∷ rest) st) (λ u. lay o brk r i m rest u)
+-- a line suffix is kept until the line ends, after those that are kept already
 lay o brk (t.LineSuffix d) i m rest st = Done [] (record st { pending = st.pending ++ d ∷ [] })
+-- the indent changes by so many columns
 lay o brk (t.Nest k d) i m rest st = lay o brk d (nested i k) m rest st
+-- the indent is 0
 lay o brk (t.DedentToRoot d) i m rest st = lay o brk d 0 m rest st
+-- the indent is the column at which the next content would begin
 lay o brk (t.Align d) i m rest st = lay o brk d (prospective st.column) m rest st
+-- nothing is written; the probe of a group answers no to it
 lay o brk t.ExpandParent i m rest st = Done [] st
+-- the document is laid flat
 lay o brk (t.Flatten d) i m rest st = lay o brk d i Flat rest st
+-- one document for a broken line, another for a flat one
 lay o brk (t.BreakOrFlat b f) i m rest st = by_mode m (lay o brk b i m rest st) (lay o brk f i m rest st)
+-- a group is flat where it fits with what follows it, up to the end of the line, and broken where it does not
 lay o brk (t.Group d) i m rest st = lay o brk d i (by_mode m (if probe o d Flat rest st then Flat else Break) Flat) rest st
+-- the first branch is laid on trial and kept if nothing in it goes past the width, else the second is laid; on a flat line, the first
 lay o brk (t.Union l r) i m rest st =
     by_mode m (accept o st.within (lay o brk l i m rest (tried st)) (lay o brk r i m rest st)) (lay o brk l i m rest st)
+-- the first branch where its first line fits, else the second; on a flat line, the first
 lay o brk (t.PartialUnion l r) i m rest st =
     by_mode m (if probe o l Break rest st then lay o brk l i m rest st else lay o brk r i m rest st) (lay o brk l i m rest st)
 

@@ -14,45 +14,37 @@ ink bytes = filter (λ b. not (is_blank_byte b)) bytes
 -- a document spells a word where it has the word's bytes in their order, by every choice among its alternatives; a
 -- failure spells each word
 abbrev pub spells : Tree → List ℕ → Type 0
-spells t.Nil w = w ≡ []
 spells t.Fail w = Unit {0}
 spells (t.Text s) w = w ≡ ink s
 spells (t.TextWithLen n s) w = w ≡ ink s
 spells (t.MultilineText s) w = w ≡ ink s
-spells t.WeakSpace w = w ≡ []
-spells t.HardLine w = w ≡ []
-spells t.WeakLine w = w ≡ []
 spells (t.Append l r) w = (v : List ℕ) × (u : List ℕ) × spells l v × spells r u × (w ≡ v ++ u)
 spells (t.LineSuffix d) w = spells d w
 spells (t.Nest k d) w = spells d w
 spells (t.DedentToRoot d) w = spells d w
 spells (t.Align d) w = spells d w
-spells t.ExpandParent w = w ≡ []
 spells (t.Flatten d) w = spells d w
 spells (t.BreakOrFlat b f) w = spells b w × spells f w
 spells (t.Group d) w = spells d w
 spells (t.Union l r) w = spells l w × spells r w
 spells (t.PartialUnion l r) w = spells l w × spells r w
+spells _ w = w ≡ []
 
 -- the same with two words: outside line suffixes, and inside them
 abbrev pub parts : Tree → List ℕ → List ℕ → Type 0
-parts t.Nil v u = (v ≡ []) × (u ≡ [])
 parts t.Fail v u = Unit {0}
 parts (t.Text s) v u = (v ≡ ink s) × (u ≡ [])
 parts (t.TextWithLen n s) v u = (v ≡ ink s) × (u ≡ [])
 parts (t.MultilineText s) v u = (v ≡ ink s) × (u ≡ [])
-parts t.WeakSpace v u = (v ≡ []) × (u ≡ [])
-parts t.HardLine v u = (v ≡ []) × (u ≡ [])
-parts t.WeakLine v u = (v ≡ []) × (u ≡ [])
 parts (t.Append l r) v u =
     (v1 : List ℕ) × (u1 : List ℕ) × (v2 : List ℕ) × (u2 : List ℕ) × parts l v1 u1 × parts r v2 u2 × (v ≡ v1 ++ v2) × (u ≡ u1 ++ u2)
 parts (t.LineSuffix d) v u = (v ≡ []) × spells d u
 parts (t.Nest k d) v u = parts d v u
 parts (t.DedentToRoot d) v u = parts d v u
 parts (t.Align d) v u = parts d v u
-parts t.ExpandParent v u = (v ≡ []) × (u ≡ [])
 parts (t.Flatten d) v u = parts d v u
 parts (t.BreakOrFlat b f) v u = parts b v u × parts f v u
 parts (t.Group d) v u = parts d v u
 parts (t.Union l r) v u = parts l v u × parts r v u
 parts (t.PartialUnion l r) v u = parts l v u × parts r v u
+parts _ v u = (v ≡ []) × (u ≡ [])
