@@ -26,6 +26,7 @@ module _ {S A : Type 0} (steps : S → Option A → S → Type 0) (it j : S) (x 
 
 -- nothing appended
 append_nothing : (x : Tree) → append x Nil ≡ x
+append_nothing Nil = refl
 append_nothing _ = refl
 
 -- the tree of which it is said is Nil
