@@ -22,7 +22,7 @@ fn main(rt: HostRuntime) -> ExitCode {
     match run(&rt) {
         Ok(()) => ExitCode::SUCCESS,
         Err(failure) => {
-            // Where standard error takes no message, the status still tells.
+            // Where standard error takes no message, the status is what is left.
             let _ = rt.eprintln(failure.message());
             ExitCode::from(failure.status())
         }

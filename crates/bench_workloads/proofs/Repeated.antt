@@ -24,7 +24,7 @@ module _ {A : Type 0} where
       ∙ ap (λ (n : ℕ). replicate n (repeat_n_item it)) more
 
   module _ (f : A → Tree) where
-    -- items appended, each behind s
+    -- items appended, each after s
     folded : (s : Tree) (xs : List A) (a z : Tree) → FoldsTo (appends_after s (λ x y. y ≡ f x)) a xs z
         → z ≡ fold (λ b y. append (append b s) y) a (map f xs)
     folded s [] a z h = sym h

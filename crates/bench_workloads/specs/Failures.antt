@@ -11,7 +11,7 @@ message_of (Render e) = codes "error: a document was not laid out"
 message_of (Memory e) = codes "error: out of memory"
 message_of (System e) = codes "error: the system refused"
 
--- the status of `bench` behind it
+-- the status of `bench` after it
 abbrev pub status_of : Failure → ℕ
 status_of Words = 2
 status_of (Build e) = 1

@@ -23,7 +23,7 @@ pub enum Failure {
 }
 
 impl Failure {
-    /// What standard error is told.
+    /// What standard error gets.
     pub fn message(&self) -> &'static str
         ensures { result.now ≡ message_of self.now }
     {

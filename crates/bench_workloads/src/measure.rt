@@ -75,7 +75,7 @@ pub fn lay(alloc: Global, workload: Workload, size: usize) -> Result<Laid, Failu
     })
 }
 
-// Lays a document out, and tells the time that it took.
+// Lays a document out, and answers the time that it took.
 fn time_render<'a, C: Clock, T: DocPtr<'a>>(
     clock: &C,
     alloc: Global,

@@ -25,7 +25,7 @@ pub fn kept_trials<'a, D: DocPlace<'a>>(
     Ok(all)
 }
 
-/// Alternatives nested so deep, behind a text. Each first one, which ends in a text that does not fit a line of 4 columns,
+/// Alternatives nested so deep, after a text. Each first one, which ends in a text that does not fit a line of 4 columns,
 /// is rejected.
 pub fn rejected_trials<'a, D: DocPlace<'a>>(
     place: &'a D,

@@ -12,13 +12,14 @@
 pub mod macros;
 pub mod prelude;
 
+pub use bumpalo::Bump;
 pub use prettyless_alloc::{
     DocAllocator, DocAllocatorBetween, DocAllocatorOf, DocAllocatorOver, PlacedDoc,
     PlacedDocBetween, PlacedDocOf, PlacedDocOver,
 };
 pub use prettyless_build::{DocBuilder, Pretty};
 pub use prettyless_combinators as combinators;
-pub use prettyless_doc::{BuildDoc, Doc, DocPlace, DocPtr, PrettyFmt, text};
+pub use prettyless_doc::{BuildDoc, Doc, DocPlace, DocPtr, PrettyError, PrettyFmt, text};
 pub use prettyless_laws as laws;
 pub use prettyless_model::options::{IndentationPolicy, LineEnding, RenderOptions};
 pub use prettyless_pointers::{Arena, BoxAllocator, BoxDoc, IntoRef, RcAllocator, RcDoc, RefDoc};

@@ -9,7 +9,7 @@ use Rattle.prettyless_doc.specs.Breaks.{holds_break}
 abbrev pub as_string : List ℕ → Tree
 as_string s = if is_ascii s then Text s else TextWithLen (str_width false (chars s)) s
 
--- the tree of what a value prints: of its output, if it tells that, and else of some text
+-- the tree of what a value prints: of its output, where that is known, and else of some text
 abbrev pub IsStringOf : Option (List ℕ) → Tree → Type 0
 IsStringOf output d = (s : List ℕ) × (d ≡ as_string s) × IfSome output (λ o. s ≡ o)
 

@@ -6,6 +6,7 @@ pub mod Breaks
 pub mod Lines
 pub mod Payload
 pub mod Printed
+pub mod Rendering
 pub mod Shown
 pub mod TextBytes
 pub use Rattle.prettyless_model.specs.Tree

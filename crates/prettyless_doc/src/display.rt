@@ -1,9 +1,10 @@
 //! Texts that values print.
-ghost use Rattle.std.specs.Prelude.{◌≡◌, ◌++◌, IfOk, IfSome, IsErr, IsOk, MatchResult, OnOk, ⊤};
+ghost use Rattle.std.specs.Prelude.{◌≡◌, ◌++◌, Err, IfErr, IfOk, IfSome, IsErr, IsOk, MatchResult, OnOk, ⊤};
 ghost use Rattle.std.specs.Result.{ForOk};
 ghost use Rattle.std.specs.String.{string_bytes};
 ghost use Rattle.prettyless_doc.specs.TextBytes.{bytes_of, IsSmallIfItFits};
 ghost use Rattle.prettyless_doc.specs.Printed.{printed_bytes, bytes_so_far, IsPrinted};
+ghost use Rattle.prettyless_doc.specs.declared.text.BuildError.TheVariants.{Display, Memory};
 
 use crate::text::{BuildError, Text};
 use arrayvec::ArrayString;
@@ -11,7 +12,7 @@ use std::alloc::{AllocError, Global};
 use std::fmt::Write;
 use std::{fmt, mem};
 
-// A text that was printed: in place where it fits there, and else in memory of its own.
+// A text that was printed: in place where it has at most 22 bytes, and else in memory of its own.
 #[derive(Drop)]
 enum Printed {
     Short(ArrayString<22>),
@@ -19,7 +20,7 @@ enum Printed {
 }
 
 impl Printed {
-    // With a piece at its end. Where memory is refused, all of it is given up.
+    // Adds a piece at the end. Where memory is refused, all of the text is given up.
     fn with(self, alloc: Global, piece: &str) -> Result<Self, AllocError>
         requires { IsPrinted self }
         ensures sized { IfOk result IsPrinted }
@@ -60,7 +61,7 @@ fn joined(alloc: Global, front: &str, back: &str) -> Result<String, AllocError>
 // Takes what a value prints.
 #[derive(Drop)]
 struct Printer {
-    // Once memory was refused it stays so, also where the value goes on.
+    // After a refusal of memory it stays an error, also where the value goes on.
     text: Result<Printed, AllocError>,
     alloc: Global,
     ghost sized: { ForOk text IsPrinted },
@@ -87,6 +88,27 @@ impl fmt::Write for Printer {
     }
 }
 
+impl Printer {
+    // What comes of a value that was printed, and answered `outcome`.
+    //
+    // `Memory` comes where memory was refused, whatever the value answered, and only there. `Display` comes where the
+    // value failed and no memory was refused, and only there.
+    fn finished<'a>(self, outcome: fmt::Result) -> Result<Text<'a>, BuildError>
+        ensures memory { IfErr self.text (λ error. result ≡ Err (Memory error)) }
+        ensures display { IsOk self.text → IsErr outcome → result ≡ Err Display }
+        ensures text { IsOk self.text → IsOk outcome → IsOk result }
+        ensures ended { IfOk result (λ _. IsOk outcome) }
+        ensures bytes { IfOk result (λ t. bytes_of t ≡ bytes_so_far self.text) }
+        ensures small { IfOk result IsSmallIfItFits }
+    {
+        let text = self.text?;
+        match outcome {
+            Ok(()) => Ok(text.into_text()),
+            Err(_) => Err(BuildError::Display),
+        }
+    }
+}
+
 fn print<V: fmt::Display + Drop>(printer: &mut Printer, value: V) -> fmt::Result
     ensures { OnOk result (IfSome (V.output value)
         (λ o. bytes_so_far printer.new.text ≡ bytes_so_far printer.old.text ++ o)) }
@@ -95,11 +117,10 @@ fn print<V: fmt::Display + Drop>(printer: &mut Printer, value: V) -> fmt::Result
 }
 
 impl<'a> Text<'a> {
-    /// What `{}` shows of the value: in the node itself if that has at most 22 bytes, and else
-    /// owned.
+    /// What `{}` shows of the value: in the node itself if that has at most 22 bytes, and else owned.
     ///
-    /// Answers `Memory` where memory was refused, also if the value went on, and `Display`
-    /// where only the value's formatting failed.
+    /// Answers `Memory` where memory was refused, also if the value went on, and `Display` where the value's formatting
+    /// failed and no memory was refused.
     pub fn from_display<V: fmt::Display + Drop>(alloc: Global, value: V) -> Result<Self, BuildError>
         ensures bytes { IfOk result (λ t. IfSome (V.output value) (λ o. bytes_of t ≡ o)) }
         ensures small { IfOk result IsSmallIfItFits }
@@ -109,12 +130,7 @@ impl<'a> Text<'a> {
             alloc,
         };
         let outcome = print(&mut printer, value);
-        let Printer { text, .. } = printer;
-        let text = text?;
-        match outcome {
-            Ok(()) => Ok(text.into_text()),
-            Err(_) => Err(BuildError::Display),
-        }
+        printer.finished(outcome)
     }
 }
 
@@ -147,7 +163,18 @@ mod tests {
         }
     }
 
-    // Goes on after a refused piece, and ends well.
+    // Fails after more bytes than a node has room for.
+    #[derive(Drop)]
+    struct FailingLate;
+
+    impl fmt::Display for FailingLate {
+        fn fmt<W: fmt::Write>(&self, f: &mut fmt::Formatter<W>) -> fmt::Result {
+            f.write_str("a piece of 23 bytes ...")?;
+            Err(fmt::Error)
+        }
+    }
+
+    // Ignores what its writes answer, and ends well.
     #[derive(Drop)]
     struct Stubborn;
 
@@ -188,6 +215,38 @@ mod tests {
     fn answers_a_failed_value(rt: HostRuntime) {
         let answer = Text::from_display(rt.alloc(), Failing);
         assert!(rt; matches!(answer, Err(BuildError::Display)));
+    }
+
+    #[test]
+    fn answers_a_value_that_failed_late(rt: HostRuntime) {
+        let answer = Text::from_display(rt.alloc(), FailingLate);
+        assert!(rt; matches!(answer, Err(BuildError::Display)));
+    }
+
+    // What comes of a value that is printed where memory was refused.
+    fn printed_without_memory<V: fmt::Display + Drop>(
+        alloc: Global,
+        value: V,
+    ) -> Result<(), BuildError> {
+        let mut printer = Printer {
+            text: Err(AllocError),
+            alloc,
+        };
+        let outcome = print(&mut printer, value);
+        printer.finished(outcome)?;
+        Ok(())
+    }
+
+    #[test]
+    fn answers_memory_where_the_value_ends_well(rt: HostRuntime) {
+        let answer = printed_without_memory(rt.alloc(), Stubborn);
+        assert!(rt; matches!(answer, Err(BuildError::Memory(_))));
+    }
+
+    #[test]
+    fn answers_memory_where_the_value_fails_too(rt: HostRuntime) {
+        let answer = printed_without_memory(rt.alloc(), Failing);
+        assert!(rt; matches!(answer, Err(BuildError::Memory(_))));
     }
 
     #[test]

@@ -8,6 +8,7 @@ mod conversions;
 mod debug;
 mod display;
 pub mod doc;
+pub mod error;
 pub mod measure;
 mod multiline;
 pub mod place;
@@ -18,6 +19,7 @@ mod texts;
 pub mod walk;
 
 pub use doc::{BuildDoc, Doc, DocPtr};
+pub use error::PrettyError;
 pub use place::DocPlace;
 pub use print::PrettyFmt;
 pub use text::{BuildError, Text};

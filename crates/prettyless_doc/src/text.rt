@@ -9,6 +9,7 @@ use arrayvec::ArrayString;
 use std::alloc::{AllocError, AllocFailed, Global};
 pub use std::borrow::CowStr;
 use std::boxed::BoxedStr;
+use std::error::Error;
 use std::fmt;
 
 /// Why a document was not built. What the call took is given up, and all else is as it was.
@@ -35,6 +36,18 @@ impl<T: Drop> From<AllocFailed<T>> for BuildError {
         BuildError::Memory(AllocError::from(error))
     }
 }
+
+/// Writes a sentence that names the cause.
+impl fmt::Display for BuildError {
+    fn fmt<W: fmt::Write>(&self, f: &mut fmt::Formatter<W>) -> fmt::Result {
+        match self {
+            BuildError::Memory(_) => f.write_str("memory was refused while a document was built"),
+            BuildError::Display => f.write_str("a value of the document cannot be formatted"),
+        }
+    }
+}
+
+impl Error for BuildError {}
 
 /// The text of a node.
 #[derive(Drop)]
@@ -70,7 +83,7 @@ impl<'a> Text<'a> {
         }
     }
 
-    /// The same bytes. Only an owned text takes memory for them, and fails where none was had.
+    /// The same bytes. Only an owned text takes memory for them, and fails where that is refused.
     pub fn clone(&self, alloc: Global) -> Result<Self, BuildError>
         ensures ok { IfOk result (λ t. bytes_of t ≡ bytes_of self.now) }
         ensures same { IfUnowned self.now (result ≡ Ok self.now) }
@@ -105,6 +118,21 @@ mod tests {
         assert_eq!(rt; format!(in rt.alloc(); "{borrowed:?}")?.as_str(), "\"ab\"");
         assert_eq!(rt; format!(in rt.alloc(); "{owned:?}")?.as_str(), "\"ab\"");
         assert_eq!(rt; format!(in rt.alloc(); "{small:?}")?.as_str(), "\"ab\"");
+        Ok(())
+    }
+
+    #[test]
+    fn says_why_nothing_was_built(rt: HostRuntime) -> Result<(), Fail> {
+        let memory = BuildError::Memory(AllocError);
+        let display = BuildError::Display;
+        assert_eq!(rt;
+            format!(in rt.alloc(); "{memory}")?.as_str(),
+            "memory was refused while a document was built"
+        );
+        assert_eq!(rt;
+            format!(in rt.alloc(); "{display}")?.as_str(),
+            "a value of the document cannot be formatted"
+        );
         Ok(())
     }
 

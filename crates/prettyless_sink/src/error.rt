@@ -1,14 +1,57 @@
-//! The causes for which a render stops.
+//! Why a render stops.
 use std::alloc::AllocError;
+use std::error::Error;
+use std::fmt;
 
-/// Why a render stopped.
+/// Why a render stopped. What is said of the sink's bytes holds where they are known.
 #[derive(Debug, Drop)]
 pub enum RenderError<E> {
-    /// The document fails. A sink that tells its bytes has, behind what it had, exactly those before the failing node.
-    /// The error is the sink's own, by `fail_doc`.
+    /// The document fails. The bytes before its failing node were appended to the sink's, exactly.
+    /// The error is one that the sink's `fail_doc` makes.
     Document(E),
-    /// The sink failed, with this error. It has a beginning of the layout's bytes, where it tells them.
+    /// The sink failed, with this error. A beginning of the layout's bytes was appended.
     Sink(E),
-    /// Memory was refused. The sink has a beginning of the layout's bytes, where it tells them.
+    /// Memory was refused. A beginning of the layout's bytes was appended.
     Memory(AllocError),
+}
+
+/// Writes a sentence that names the cause.
+impl<E: fmt::Display> fmt::Display for RenderError<E> {
+    fn fmt<W: fmt::Write>(&self, f: &mut fmt::Formatter<W>) -> fmt::Result {
+        match self {
+            RenderError::Document(_) => f.write_str("the document cannot be laid out"),
+            RenderError::Sink(error) => write!(f, "the layout cannot be written: {error}"),
+            RenderError::Memory(_) => f.write_str(
+                "memory was refused while the document was laid out",
+            ),
+        }
+    }
+}
+
+impl<E: fmt::Debug + fmt::Display + Drop> Error for RenderError<E> {}
+
+#[cfg(test)]
+mod tests {
+    use super::*;
+    use std::test::Fail;
+
+    #[test]
+    fn says_each_cause(rt: HostRuntime) -> Result<(), Fail> {
+        let fails = RenderError::Document(fmt::Error);
+        let sink = RenderError::Sink("the disk is full");
+        let memory = RenderError::Memory::<fmt::Error>(AllocError);
+        assert_eq!(rt;
+            format!(in rt.alloc(); "{fails}")?.as_str(),
+            "the document cannot be laid out"
+        );
+        assert_eq!(rt;
+            format!(in rt.alloc(); "{sink}")?.as_str(),
+            "the layout cannot be written: the disk is full"
+        );
+        assert_eq!(rt;
+            format!(in rt.alloc(); "{memory}")?.as_str(),
+            "memory was refused while the document was laid out"
+        );
+        Ok(())
+    }
 }

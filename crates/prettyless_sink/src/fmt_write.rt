@@ -13,7 +13,7 @@ pub struct FmtWrite<W> {
 }
 
 impl<W> FmtWrite<W> {
-    /// A sink that writes behind what `upstream` has, and has not failed.
+    /// A sink that appends to what `upstream` has. It has not failed.
     pub fn new(upstream: W) -> Self
         ensures { result ≡ record { upstream = upstream; failures = 0 } }
     {

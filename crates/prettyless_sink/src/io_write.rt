@@ -16,7 +16,7 @@ pub struct IoWrite<W> {
 }
 
 impl<W> IoWrite<W> {
-    /// A sink that writes behind what `upstream` has, and has not failed.
+    /// A sink that appends to what `upstream` has. It has not failed.
     pub fn new(upstream: W) -> Self
         ensures { result ≡ record { upstream = upstream; failures = 0 } }
     {
@@ -73,7 +73,7 @@ impl<'w, W: io::Write> Render for IoWrite<&'w mut W> {
     }
 }
 
-// Writes all of the bytes, or fails behind a beginning of them. The writer's contract lets no count past the end come.
+// Writes all of the bytes, or fails after a beginning of them. By the writer's contract no count is past the end.
 #[inline]
 fn write_whole<W: io::Write>(upstream: &mut W, bytes: &[u8]) -> io::Result<()>
     ensures ok { OnOk result (Appends (W.contents upstream.old) (W.contents upstream.new) bytes.now) }

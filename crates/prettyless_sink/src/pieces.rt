@@ -27,7 +27,7 @@ pub fn write_gap_and_text<W: Render>(out: &mut W, gap: usize, text: &str) -> Res
     out.write_str_all(text)
 }
 
-// Writes so many spaces, or fails behind fewer.
+// Writes so many spaces, or fails after a beginning of them.
 fn write_spaces<W: Render>(out: &mut W, count: usize) -> Result<(), W::Error>
     ensures same_lender { W.lender out.new ≡ W.lender out.old }
     ensures ok { OnOk result (Accepts (W.bytes out.old) (W.bytes out.new) (spaces count) (W.failures out.old) (W.failures out.new)) }

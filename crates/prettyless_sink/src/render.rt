@@ -4,8 +4,8 @@ ghost use Rattle.prettyless_sink.specs.Sink.{Accepts, IsFairCount, Refuses, Take
 
 /// A sink: where the bytes of a layout go.
 ///
-/// A piece goes in whole and the failures stay, or a beginning of it does and they rise by one. That is promised
-/// where the sink tells its bytes.
+/// A write appends its whole text and leaves the failures, or it appends a beginning and the failures rise by one. That
+/// is promised where the sink's bytes are known.
 pub trait Render {
     /// What the sink answers where it or the document fails.
     type Error;
@@ -34,7 +34,7 @@ pub trait Render {
         ensures ok { IfOk result (λ count. Takes (bytes self.old) (bytes self.new) s.now count (failures self.old) (failures self.new)) }
         ensures err { OnErr result (Refuses (bytes self.old) (bytes self.new) s.now (failures self.old) (failures self.new)) };
 
-    /// Writes the whole text, or fails behind a beginning of it.
+    /// Writes the whole text, or fails after a beginning of it.
     ///
     /// Where a sink has none of its own, it calls `write_str` until the text is done, and for an empty text not at all.
     /// An error is answered as it comes, and a count that fails is `write_fault`.

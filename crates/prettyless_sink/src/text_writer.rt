@@ -1,4 +1,4 @@
-//! Text writers, and what they tell of their text.
+//! Text writers, and what is known of their text.
 ghost use Rattle.std.specs.Prelude.{◌≡◌, ◌+◌, ◌<◌, List, ℕ, Option, None, Some, OnOk, OnErr, length};
 ghost use Rattle.std.specs.String.{string_bytes, string_len, string_capacity};
 ghost use Rattle.std.specs.Io.KnownBytes.{Appends};
@@ -7,7 +7,7 @@ ghost use Rattle.prettyless_sink.specs.Sink.{AppendsKnownBeginning};
 use std::alloc::Allocator;
 use std::fmt;
 
-/// A text writer that tells its text: a write appends the piece, and one that fails a beginning of it.
+/// A text writer whose text may be known: a write appends its piece, and one that fails appends a beginning of it.
 ///
 /// `fmt::Write` says nothing of a write that fails, so a writer says it here, by an `impl` whose `write_text` is mostly
 /// its `write_str`. A `fmt::Write` without one is written to through `Untold`.
@@ -15,7 +15,7 @@ pub trait TextWriter {
     // the text written so far, where it is known
     ghost text: { Self → Option (List ℕ) } = { λ _. None };
 
-    /// Appends a piece, or fails behind a beginning of it.
+    /// Appends a piece, or fails after a beginning of it.
     fn write_text(&mut self, piece: &str) -> fmt::Result
         ensures ok { OnOk result (Appends (text self.old) (text self.new) piece.now) }
         ensures err { OnErr result (AppendsKnownBeginning (text self.old) (text self.new) piece.now) };
@@ -48,7 +48,7 @@ impl<W: TextWriter> TextWriter for &mut W {
     }
 }
 
-/// Any `fmt::Write`, as a text writer that tells nothing.
+/// Any `fmt::Write`, as a text writer whose text is not known.
 #[derive(Drop)]
 pub struct Untold<W>(pub W);
 

@@ -1,8 +1,8 @@
-//! How many nodes a render takes up.
+//! How many nodes a render visits.
 ghost use Rattle.std.specs.Prelude.{◌≡◌, ◌+◌, ◌≤◌};
 ghost use Rattle.prettyless_sink.specs.Sink.{rise};
 
-/// How many nodes were taken up. Each count stops at the greatest `u64`.
+/// How many nodes were visited. Each count stops at the greatest `u64`.
 #[derive(Clone, Copy, Debug, Default)]
 pub struct Visits {
     /// By the printer: to be laid, also in a trial that was not kept.

@@ -1,13 +1,12 @@
 -- The queue: what waits, what is put off, and whether anything does.
 use Rattle.std.proofs.Common.{◌≡◌, ℕ, suc, ◌+◌, ◌-◌, ◌≤◌, ◌<◌, List, [], ◌∷◌, ◌++◌, length, refl, ap, sym, ◌∙◌, append_assoc, append-nil, arith, drop, length-append, length-drop, true, false}
-use Rattle.std.proofs.lemmas.List.{drop-append-le, drop_all}
+use Rattle.std.proofs.lemmas.List.{map-append, drop-append-le, drop_all}
 use Rattle.prettyless_model.specs.Tree.{Tree}
 use Rattle.prettyless_model.specs.Layout.{some_pending}
 use Rattle.prettyless_step.specs.Stack.{trees}
 
 pub trees-append : {N : Type 0} (f : N → Tree) (xs ys : List N) → trees f (xs ++ ys) ≡ trees f xs ++ trees f ys
-trees-append f [] ys = refl
-trees-append f (x ∷ xs) ys = ap (λ (z : List Tree). f x ∷ z) (trees-append f xs ys)
+trees-append f xs ys = map-append f xs ys
 
 -- what waits, one document on
 pub trees_push : {N : Type 0} (f : N → Tree) (xs : List N) (n : ℕ) (x : N) → n ≤ length xs → trees f (drop n (xs ++ x ∷ [])) ≡ trees f (drop n xs) ++ f x ∷ []

@@ -1,20 +1,23 @@
 -- Lists of commands as tasks: what is pushed, popped and read downwards.
 use Rattle.std.proofs.Common.{◌≡◌, ℕ, ◌+◌, ◌-◌, ◌<◌, ◌≤◌, List, [], ◌∷◌, ◌++◌, length, refl, ap, sym, ◌∙◌, append_assoc, append-nil, arith, take, drop, get_or, length-append, length-drop}
-use Rattle.std.proofs.lemmas.List.{take_all, take_more, drop_at, take-append-drop}
+use Rattle.std.proofs.lemmas.List.{map-append, take_all, take_more, drop_at, take-append-drop}
 use Rattle.prettyless_model.specs.Tree.{Tree}
 use Rattle.prettyless_model.specs.Reading.{Atom}
 use Rattle.prettyless_model.specs.Layout.{Entry, entry, next_indent}
-use Rattle.prettyless_step.specs.Stack.{Task, make_task, task, stack_of, unread, follow, nodes}
+use Rattle.prettyless_step.specs.Stack.{Task, downwards, make_task, task, stack_of, unread, unread_task, follow, nodes}
 use Rattle.prettyless_step.specs.declared.command.Command.{Command}
 use Rattle.prettyless_step.specs.declared.unread.Unread.{Unread}
 
+-- an item that is added at the end is the first task
+downwards_push : {A : Type 0} (g : A → Task) (xs : List A) (x : A) → downwards g (xs ++ x ∷ []) ≡ g x ∷ downwards g xs
+downwards_push g [] x = refl
+downwards_push g (y ∷ xs) x = ap (λ (z : List Task). z ++ g y ∷ []) (downwards_push g xs x)
+
 pub stack_of_push : {N : Type 0} (f : N → Tree) (cs : List (Command N)) (c : Command N) → stack_of f (cs ++ c ∷ []) ≡ task f c ∷ stack_of f cs
-stack_of_push f [] c = refl
-stack_of_push f (d ∷ cs) c = ap (λ (x : List Task). x ++ task f d ∷ []) (stack_of_push f cs c)
+stack_of_push f cs c = downwards_push (task f) cs c
 
 pub unread_push : {N : Type 0} (f : N → Tree) (rs : List (Unread N)) (r : Unread N) → unread f (rs ++ r ∷ []) ≡ make_task 0 r.mode (f r.node) ∷ unread f rs
-unread_push f [] r = refl
-unread_push f (s ∷ rs) r = ap (λ (x : List Task). x ++ make_task 0 s.mode (f s.node) ∷ []) (unread_push f rs r)
+unread_push f rs r = downwards_push (unread_task f) rs r
 
 -- two readings, before more
 pub reading_more : (xs ys zs ws : List Atom) → (xs ++ ys) ++ (zs ++ ws) ≡ (xs ++ (ys ++ zs)) ++ ws
@@ -31,8 +34,7 @@ length-stack_of f [] = refl
 length-stack_of f (c ∷ cs) = omega (arith, length-append (stack_of f cs) (task f c ∷ []), length-stack_of f cs)
 
 pub follow-append : (ts us : List Task) → follow (ts ++ us) ≡ follow ts ++ follow us
-follow-append [] us = refl
-follow-append (t ∷ ts) us = ap (λ (z : List Entry). entry t.indent t.tree ∷ z) (follow-append ts us)
+follow-append ts us = map-append (λ (t : Task). entry t.indent t.tree) ts us
 
 pub nodes-append : (ts us : List Task) → nodes (ts ++ us) ≡ nodes ts + nodes us
 nodes-append [] us = omega arith

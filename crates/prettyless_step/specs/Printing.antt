@@ -28,7 +28,7 @@ Grows {N} p q = (more : List N) × (q.queue.nodes.items ≡ p.queue.nodes.items 
 -- these bytes are what the step writes, and the printer has gone along
 abbrev pub Writes : {N : Type 0} → (N → Tree) → List ℕ → Step → Printer N → Printer N → Type 0
 Writes f bytes (Move b pushed u) p q =
-    (bytes ≡ b) × (stack_of f q.commands.items ≡ pushed ++ stack_of f p.commands.items) × (state_of f q ≡ u) × (q.options ≡ p.options) × Grows p q
+    (bytes ≡ b) × (tasks_of f q ≡ pushed ++ tasks_of f p) × (state_of f q ≡ u) × (q.options ≡ p.options) × Grows p q
 Writes f bytes Stuck p q = ⊥
 Writes f bytes (Choose j x y) p q = ⊥
 
@@ -45,7 +45,7 @@ Shows f (Chosen i l r) Stuck p q = ⊥
 
 -- these bytes are what the step writes, seen from before the command was taken from above the rest
 abbrev pub WritesAt : {N : Type 0} → (N → Tree) → List ℕ → Step → List Task → Printer N → Type 0
-WritesAt f bytes (Move b pushed u) ts q = (bytes ≡ b) × (stack_of f q.commands.items ≡ pushed ++ ts) × (state_of f q ≡ u)
+WritesAt f bytes (Move b pushed u) ts q = (bytes ≡ b) × (tasks_of f q ≡ pushed ++ ts) × (state_of f q ≡ u)
 WritesAt f bytes Stuck ts q = ⊥
 WritesAt f bytes (Choose j x y) ts q = ⊥
 
@@ -53,8 +53,8 @@ WritesAt f bytes (Choose j x y) ts q = ⊥
 abbrev pub ShowsAt : {N : Type 0} → (N → Tree) → Taken N → Step → List Task → State → Printer N → Type 0
 ShowsAt f Quiet step ts st q = WritesAt f [] step ts q
 ShowsAt f (Written piece) step ts st q = WritesAt f (piece_bytes piece) step ts q
-ShowsAt f Failed Stuck ts st q = stack_of f q.commands.items ≡ ts
-ShowsAt f (Chosen i l r) (Choose j x y) ts st q = (i ≡ j) × (f l ≡ x) × (f r ≡ y) × (stack_of f q.commands.items ≡ ts) × (state_of f q ≡ st)
+ShowsAt f Failed Stuck ts st q = tasks_of f q ≡ ts
+ShowsAt f (Chosen i l r) (Choose j x y) ts st q = (i ≡ j) × (f l ≡ x) × (f r ≡ y) × (tasks_of f q ≡ ts) × (state_of f q ≡ st)
 ShowsAt f Failed (Move b pushed u) ts st q = ⊥
 ShowsAt f Failed (Choose j x y) ts st q = ⊥
 ShowsAt f (Chosen i l r) (Move b pushed u) ts st q = ⊥
@@ -63,11 +63,11 @@ ShowsAt f (Chosen i l r) Stuck ts st q = ⊥
 -- the next command was taken, and its step writes these bytes
 abbrev pub TookWriting : {N : Type 0} → (N → Tree) → Printer N → Printer N → List ℕ → Type 0
 TookWriting f p q bytes =
-    (t : Task) × (ts : List Task) × (stack_of f p.commands.items ≡ t ∷ ts)
+    (t : Task) × (ts : List Task) × (tasks_of f p ≡ t ∷ ts)
     × WritesAt f bytes (step_of p.options t.tree t.indent t.mode (follow ts) (state_of f p)) ts q × (q.options ≡ p.options) × Grows p q
 
 -- the next command was taken and stepped
 abbrev pub TookNext : {N : Type 0} → (N → Tree) → Printer N → Printer N → Taken N → Type 0
 TookNext f p q r =
-    (t : Task) × (ts : List Task) × (stack_of f p.commands.items ≡ t ∷ ts)
+    (t : Task) × (ts : List Task) × (tasks_of f p ≡ t ∷ ts)
     × ShowsAt f r (step_of p.options t.tree t.indent t.mode (follow ts) (state_of f p)) ts (state_of f p) q × (q.options ≡ p.options) × Grows p q

@@ -1,5 +1,5 @@
 -- Lists of work, seen as tasks.
-use Rattle.std.specs.Prelude.{◌≡◌, ℕ, ◌+◌, List, [], ◌∷◌, ◌++◌, Option, Some, None, Bool}
+use Rattle.std.specs.Prelude.{◌≡◌, ℕ, ◌+◌, List, [], ◌∷◌, ◌++◌, map, Option, Some, None, Bool}
 use Rattle.prettyless_model.specs.Tree.{Tree, size}
 use Rattle.prettyless_model.specs.Reading.{Atom, reading}
 use Rattle.prettyless_model.specs.Layout.{Entry, entry}
@@ -21,25 +21,30 @@ make_task i m d = record { indent = i; mode = m; tree = d }
 abbrev pub task : {N : Type 0} → (N → Tree) → Command N → Task
 task f c = make_task c.indent c.mode (f c.node)
 
+-- the tasks of a list's items, the last item first
+abbrev pub downwards : {A : Type 0} → (A → Task) → List A → List Task
+downwards g [] = []
+downwards g (x ∷ xs) = downwards g xs ++ g x ∷ []
+
 -- the tasks of a list of commands, the last command first
 abbrev pub stack_of : {N : Type 0} → (N → Tree) → List (Command N) → List Task
-stack_of f [] = []
-stack_of f (c ∷ cs) = stack_of f cs ++ task f c ∷ []
+stack_of f = downwards (task f)
+
+-- a node that is still to be read as a task
+abbrev pub unread_task : {N : Type 0} → (N → Tree) → Unread N → Task
+unread_task f r = make_task 0 r.mode (f r.node)
 
 -- the tasks of a list of nodes that are still to be read, the last node first
 abbrev pub unread : {N : Type 0} → (N → Tree) → List (Unread N) → List Task
-unread f [] = []
-unread f (r ∷ rs) = unread f rs ++ make_task 0 r.mode (f r.node) ∷ []
+unread f = downwards (unread_task f)
 
 -- the tasks of trees at one indent in one mode
 abbrev pub tasks : ℕ → Mode → List Tree → List Task
-tasks i m [] = []
-tasks i m (d ∷ ds) = make_task i m d ∷ tasks i m ds
+tasks i m = map (make_task i m)
 
 -- the tasks as what follows a node
 abbrev pub follow : List Task → List Entry
-follow [] = []
-follow (t ∷ ts) = entry t.indent t.tree ∷ follow ts
+follow = map (λ t. entry t.indent t.tree)
 
 -- what a probe reads of tasks, each in its own mode
 abbrev pub read_tasks : List Task → List Atom
@@ -58,5 +63,4 @@ AnswersAs None x y = x ≡ y
 
 -- the trees of nodes
 abbrev pub trees : {N : Type 0} → (N → Tree) → List N → List Tree
-trees f [] = []
-trees f (n ∷ ns) = f n ∷ trees f ns
+trees f = map f

@@ -1,4 +1,4 @@
--- What taking up one node does, and what the tasks that are left lay.
+-- What the visit of one node does, and what the tasks that are left lay.
 use Rattle.std.specs.Prelude.{ℕ, ◌+◌, ◌*◌, List, [], ◌∷◌, ◌++◌, length, Bool, true, false, Option, Some, None, if◌then◌else◌}
 use Rattle.prettyless_sink.specs.Sink.{rise}
 use Rattle.prettyless_model.specs.Spaces.{spaces}
@@ -18,7 +18,7 @@ unfoldable pub lay_all : RenderOptions → Breaks → List Task → List Entry �
 lay_all o brk [] outer st = Done [] st
 lay_all o brk (t ∷ ts) outer st = and_then (lay o brk t.tree t.indent t.mode (follow ts ++ outer) st) (λ u. lay_all o brk ts outer u)
 
--- what taking up one node does: it writes bytes, puts tasks in its place and changes the state; or it fails; or two
+-- what the visit of one node does: it writes bytes, puts tasks in its place and changes the state; or it fails; or two
 -- branches at an indent are to be chosen from by a trial
 pub data Step : Type 0 where
   Move : List ℕ → List Task → State → Step
@@ -60,7 +60,7 @@ abbrev pub union_step : Option Bool → Tree → Tree → ℕ → State → Step
 union_step (Some v) l r i st = Move [] (make_task i Break (if v then l else r) ∷ []) st
 union_step None l r i st = Choose i l r
 
--- what taking up one node does
+-- the step of one node
 abbrev pub step_of : RenderOptions → Tree → ℕ → Mode → List Entry → State → Step
 step_of o t.Nil i m rest st = Move [] [] st
 step_of o t.Fail i m rest st = Stuck
@@ -86,7 +86,7 @@ step_of o (t.PartialUnion l r) i m rest st = Move [] (make_task i m (by_mode m (
 abbrev pub chosen : RenderOptions → Breaks → ℕ → Tree → Tree → List Entry → State → Outcome
 chosen o brk i l r rest st = accept o st.within (lay o brk l i Break rest (tried st)) (lay o brk r i Break rest st)
 
--- what a step from a state and the tasks behind it lay
+-- what a step from a state and the tasks after it lay
 abbrev pub runs : RenderOptions → Breaks → Step → List Task → List Entry → State → Outcome
 runs o brk (Move b pushed u) ts outer st = after_bytes b (lay_all o brk (pushed ++ ts) outer u)
 runs o brk Stuck ts outer st = Failed []

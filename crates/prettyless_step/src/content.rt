@@ -12,7 +12,7 @@ use prettyless_model::column::Column;
 use prettyless_model::metrics::Metrics;
 use prettyless_model::options::RenderOptions;
 
-/// Content of this counted width, in columns: the column moves behind it, and `within` falls where that is past the width.
+/// Content of this counted width, in columns: the column moves past it, and `within` falls where that is past the width.
 /// An empty text is nothing.
 #[tactic(auto, using(crate::proofs::Queues::queues))]
 pub fn put_text<'v, N: Walk>(printer: &mut Printer<N>, counted: usize, text: &'v str) -> Piece<'v>
@@ -43,7 +43,7 @@ pub fn payload_fits(options: RenderOptions, column: Column, metrics: Metrics) ->
     first_fits && metrics.rest_width <= options.width
 }
 
-// The column behind a payload: that of its last part.
+// The column after a payload: that of its last part.
 fn behind_payload(metrics: Metrics) -> Column
     ensures { result ≡ behind_payload_of metrics }
 {

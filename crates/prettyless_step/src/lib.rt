@@ -1,4 +1,4 @@
-//! One step of the printer: what taking up one node of a document does to the line, to the nodes that are still to be laid
+//! One step of the printer: what the visit of one node of a document does to the line, to the nodes that are still to be laid
 //! and to the line suffixes that are pending, and what it writes.
 //!
 //! It is proved over any nodes that can show themselves (`walk`), against the definitions of `prettyless_model`; so is the

@@ -2,8 +2,8 @@
 ghost use Rattle.std.specs.Prelude.{◌≡◌, ◌++◌, IfOk, OnOk};
 ghost use Rattle.prettyless_model.specs.Column.{gap as gap_of};
 ghost use Rattle.prettyless_model.specs.Layout.{flushed, some_pending};
-ghost use Rattle.prettyless_step.specs.Stack.{stack_of, tasks};
-ghost use Rattle.prettyless_step.specs.Printing.{Grows, state_of};
+ghost use Rattle.prettyless_step.specs.Stack.{tasks};
+ghost use Rattle.prettyless_step.specs.Printing.{Grows, state_of, tasks_of};
 
 use crate::printer::Printer;
 use crate::stack::push_each;
@@ -29,8 +29,8 @@ pub fn take_pending<N: Walk>(
 ) -> Result<usize, AllocError>
     ensures gap { IfOk result (λ gap. gap ≡ gap_of printer.old.column) }
     ensures options { printer.new.options ≡ printer.old.options }
-    ensures stack { OnOk result (stack_of N.tree printer.new.commands.items
-        ≡ tasks indent mode (state_of N.tree printer.old).pending ++ stack_of N.tree printer.old.commands.items) }
+    ensures stack { OnOk result (tasks_of N.tree printer.new
+        ≡ tasks indent mode (state_of N.tree printer.old).pending ++ tasks_of N.tree printer.old) }
     ensures state { OnOk result (state_of N.tree printer.new ≡ flushed printer.old.options (state_of N.tree printer.old)) }
     ensures grows { Grows printer.old printer.new }
 {

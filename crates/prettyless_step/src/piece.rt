@@ -27,7 +27,7 @@ impl<'v> Piece<'v> {
     }
 }
 
-/// Writes a piece to a sink, or fails behind a beginning of it.
+/// Writes a piece to a sink, or fails after a beginning of it.
 #[inline(always)]
 pub fn write_piece<W: Render>(out: &mut W, piece: Piece<'_>) -> Result<(), W::Error>
     ensures same_lender { W.lender out.new ≡ W.lender out.old }

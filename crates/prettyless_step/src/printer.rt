@@ -21,7 +21,7 @@ pub struct Printer<N> {
     pub queue: Queue<N>,
 }
 
-/// What taking up one node asks for: nothing, a piece to be written, or a choice between two branches at an indent; or the
+/// What the visit of one node asks for: nothing, a piece to be written, or a choice between two branches at an indent; or the
 /// node fails.
 #[derive(Drop)]
 pub enum Taken<'v, N> {

@@ -16,7 +16,7 @@ use prettyless_model::mode::Mode;
 use prettyless_sink::visits::one_more;
 use std::alloc::AllocError;
 
-/// How a line stands where a probe has come to.
+/// The state of a line where a probe has come to.
 #[derive(Clone, Copy)]
 pub struct Line {
     pub column: Column,
@@ -189,8 +189,8 @@ fn next_unread<N: Walk>(
     })
 }
 
-/// Whether a node, laid in this mode from where the line stands, stays within the width together with what follows it,
-/// up to the first line end. `stack` is only a place to work in. The nodes that it takes up are counted in `probes`: one at
+/// Whether a node, laid in this mode from where the line is, stays within the width together with what follows it,
+/// up to the first line end. `stack` is only a place to work in. The nodes that it visits are counted in `probes`: one at
 /// least.
 #[tactic(auto, using(crate::proofs::Sizes::size_positive))]
 pub fn probe<N: Walk>(

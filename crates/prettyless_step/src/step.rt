@@ -1,4 +1,4 @@
-//! What taking up one node does.
+//! What the visit of one node does.
 ghost use Rattle.std.specs.Prelude.{◌≡◌, ◌++◌, ◌+◌, ◌∷◌, ◌≤◌, ◌&&◌, [], true, IfOk, OnOk, if◌then◌else◌};
 ghost use Rattle.prettyless_model.specs.Tree.{size};
 ghost use Rattle.prettyless_model.specs.Reading.{by_mode};
@@ -7,7 +7,7 @@ ghost use Rattle.prettyless_model.specs.Layout.{is_suppressed, lay_ending, neste
 ghost use Rattle.prettyless_model.specs.declared.mode.Mode.TheVariants.{Break, Flat};
 ghost use Rattle.prettyless_step.specs.Stack.{follow, make_task, nodes, stack_of};
 ghost use Rattle.prettyless_step.specs.Steps.{Move, at_once, break_step, counted_payload, decided_by_metrics, is_rejected, rejects_payload, step_of, union_step};
-ghost use Rattle.prettyless_step.specs.Printing.{Shows, state_of};
+ghost use Rattle.prettyless_step.specs.Printing.{Shows, following, state_of, tasks_of};
 ghost use Rattle.prettyless_step.specs.Probing.{RisesBy, asked};
 ghost use Rattle.prettyless_step.specs.declared.printer.Taken.TheVariants.{Written};
 
@@ -40,10 +40,10 @@ fn probe_here<N: Walk>(
     probes: &mut u64,
 ) -> Result<bool, AllocError>
     ensures answer { IfOk result (λ fit. fit ≡ probe_of printer.old.options (N.tree node) mode
-        (follow (stack_of N.tree printer.old.commands.items)) (state_of N.tree printer.old)) }
+        (following N.tree printer.old) (state_of N.tree printer.old)) }
     ensures others { printer.new ≡ record printer.old { scratch = printer.new.scratch } }
     ensures rises { probes.old ≤ probes.new }
-    ensures counted { probes.new ≤ probes.old + (size (N.tree node) + nodes (stack_of N.tree printer.old.commands.items)) }
+    ensures counted { probes.new ≤ probes.old + (size (N.tree node) + nodes (tasks_of N.tree printer.old)) }
     ensures asked { OnOk result (RisesBy 1 probes.old probes.new) }
 {
     let start = Line {
@@ -69,12 +69,12 @@ fn group_mode<N: Walk>(
     probes: &mut u64,
 ) -> Result<Mode, AllocError>
     ensures mode { IfOk result (λ m. m ≡ by_mode mode
-        (if probe_of printer.old.options (N.tree inner) Flat (follow (stack_of N.tree printer.old.commands.items)) (state_of N.tree printer.old)
+        (if probe_of printer.old.options (N.tree inner) Flat (following N.tree printer.old) (state_of N.tree printer.old)
         then Flat else Break)
         Flat) }
     ensures others { printer.new ≡ record printer.old { scratch = printer.new.scratch } }
     ensures rises { probes.old ≤ probes.new }
-    ensures counted { probes.new ≤ probes.old + (size (N.tree inner) + nodes (stack_of N.tree printer.old.commands.items)) }
+    ensures counted { probes.new ≤ probes.old + (size (N.tree inner) + nodes (tasks_of N.tree printer.old)) }
     ensures asked { OnOk result (RisesBy (by_mode mode 1 0) probes.old probes.new) }
 {
     if let Mode::Flat = mode {
@@ -93,12 +93,12 @@ fn partial_choice<N: Walk>(
     probes: &mut u64,
 ) -> Result<N, AllocError>
     ensures branch { IfOk result (λ n. N.tree n ≡ by_mode mode
-        (if probe_of printer.old.options (N.tree first) Break (follow (stack_of N.tree printer.old.commands.items)) (state_of N.tree printer.old)
+        (if probe_of printer.old.options (N.tree first) Break (following N.tree printer.old) (state_of N.tree printer.old)
         then N.tree first else N.tree second)
         (N.tree first)) }
     ensures others { printer.new ≡ record printer.old { scratch = printer.new.scratch } }
     ensures rises { probes.old ≤ probes.new }
-    ensures counted { probes.new ≤ probes.old + (size (N.tree first) + nodes (stack_of N.tree printer.old.commands.items)) }
+    ensures counted { probes.new ≤ probes.old + (size (N.tree first) + nodes (tasks_of N.tree printer.old)) }
     ensures asked { OnOk result (RisesBy (by_mode mode 1 0) probes.old probes.new) }
 {
     if let Mode::Flat = mode {
@@ -140,7 +140,7 @@ fn indent_after<N: Walk>(commands: &[Command<N>], indent: usize) -> usize
 fn end_line<N: Walk>(printer: &mut Printer<N>, indent: usize) -> Piece<'static>
     ensures { Shows N.tree (Written result)
         (at_once (lay_ending printer.old.options printer.old.options.indentation_policy
-        (next_indent indent (follow (stack_of N.tree printer.old.commands.items))) (state_of N.tree printer.old)))
+        (next_indent indent (following N.tree printer.old)) (state_of N.tree printer.old)))
         printer.old printer.new }
 {
     let next = indent_after(&printer.commands, indent);
@@ -165,7 +165,7 @@ fn end_line<N: Walk>(printer: &mut Printer<N>, indent: usize) -> Piece<'static>
     }
 }
 
-// The documents that wait come next, and behind them the break again.
+// The pending line suffixes come next, and after them the break again.
 fn flush_line<N: Walk>(
     printer: &mut Printer<N>,
     indent: usize,
@@ -175,7 +175,7 @@ fn flush_line<N: Walk>(
     requires { some_pending (state_of N.tree printer.old).pending ≡ true }
     ensures { IfOk result (λ piece. Shows N.tree (Written piece)
         (break_step printer.old.options (state_of N.tree printer.old).pending (N.tree node) indent mode
-        (follow (stack_of N.tree printer.old.commands.items)) (state_of N.tree printer.old))
+        (following N.tree printer.old) (state_of N.tree printer.old))
         printer.old printer.new) }
 {
     push_node(&mut printer.commands, indent, mode, node)?;
@@ -194,20 +194,20 @@ fn break_line<N: Walk>(
     mode: Mode,
     node: N,
     weak: bool,
-) -> Result<Piece<'static>, AllocError>
+) -> Result<Taken<'static, N>, AllocError>
     requires { is_suppressed (N.tree node) printer.old.column ≡ (weak && printer.old.column.fresh) }
-    ensures { IfOk result (λ piece. Shows N.tree (Written piece)
+    ensures { IfOk result (λ taken. Shows N.tree taken
         (break_step printer.old.options (state_of N.tree printer.old).pending (N.tree node) indent mode
-        (follow (stack_of N.tree printer.old.commands.items)) (state_of N.tree printer.old))
+        (following N.tree printer.old) (state_of N.tree printer.old))
         printer.old printer.new) }
 {
     if is_pending(printer) {
-        return flush_line(printer, indent, mode, node);
+        return Ok(Taken::Written(flush_line(printer, indent, mode, node)?));
     }
     if weak && printer.column.fresh {
-        return Ok(Piece::nothing());
+        return Ok(Taken::Quiet);
     }
-    Ok(end_line(printer, indent))
+    Ok(Taken::Written(end_line(printer, indent)))
 }
 
 // One node in the place of another.
@@ -224,6 +224,52 @@ fn go_on_with<N: Walk>(
 {
     push_node(&mut printer.commands, indent, mode, node)?;
     Ok(Taken::Quiet)
+}
+
+// A group, whose document is laid flat where it fits.
+#[inline(always)]
+fn group<N: Walk>(
+    printer: &mut Printer<N>,
+    indent: usize,
+    mode: Mode,
+    inner: N,
+    probes: &mut u64,
+) -> Result<Taken<'static, N>, AllocError>
+    ensures step { IfOk result (λ taken. Shows N.tree taken
+        (Move [] (make_task indent (by_mode mode
+        (if probe_of printer.old.options (N.tree inner) Flat (following N.tree printer.old) (state_of N.tree printer.old) then Flat else Break)
+        Flat) (N.tree inner) ∷ []) (state_of N.tree printer.old))
+        printer.old printer.new) }
+    ensures rises { probes.old ≤ probes.new }
+    ensures counted { probes.new ≤ probes.old + (size (N.tree inner) + nodes (tasks_of N.tree printer.old)) }
+    ensures asked { OnOk result (RisesBy (by_mode mode 1 0) probes.old probes.new) }
+{
+    let chosen = group_mode(printer, mode, inner, probes)?;
+    go_on_with(printer, indent, chosen, inner)
+}
+
+// A partial union: the first document where it fits.
+#[inline(always)]
+fn partial_union<N: Walk>(
+    printer: &mut Printer<N>,
+    indent: usize,
+    mode: Mode,
+    first: N,
+    second: N,
+    probes: &mut u64,
+) -> Result<Taken<'static, N>, AllocError>
+    ensures step { IfOk result (λ taken. Shows N.tree taken
+        (Move [] (make_task indent mode (by_mode mode
+        (if probe_of printer.old.options (N.tree first) Break (following N.tree printer.old) (state_of N.tree printer.old)
+        then N.tree first else N.tree second)
+        (N.tree first)) ∷ []) (state_of N.tree printer.old))
+        printer.old printer.new) }
+    ensures rises { probes.old ≤ probes.new }
+    ensures counted { probes.new ≤ probes.old + (size (N.tree first) + nodes (tasks_of N.tree printer.old)) }
+    ensures asked { OnOk result (RisesBy (by_mode mode 1 0) probes.old probes.new) }
+{
+    let chosen = partial_choice(printer, mode, first, second, probes)?;
+    go_on_with(printer, indent, mode, chosen)
 }
 
 // A union in Break: the metrics of its first branch decide, or a trial is asked for. A payload that they reject is a visit.
@@ -264,12 +310,12 @@ pub fn step<'v, N: Walk>(
 ) -> Result<Taken<'v, N>, AllocError>
     ensures step { IfOk result (λ taken. Shows N.tree taken
         (step_of printer.old.options (N.tree command.now.node) command.now.indent command.now.mode
-        (follow (stack_of N.tree printer.old.commands.items)) (state_of N.tree printer.old))
+        (following N.tree printer.old) (state_of N.tree printer.old))
         printer.old printer.new) }
     ensures printer { visits.new.printer
         ≡ counted_payload (rejects_payload printer.old.options (N.tree command.now.node) command.now.mode (state_of N.tree printer.old)) visits.old.printer }
     ensures rises { visits.old.probes ≤ visits.new.probes }
-    ensures counted { visits.new.probes ≤ visits.old.probes + asked (N.tree command.now.node) (nodes (stack_of N.tree printer.old.commands.items)) }
+    ensures counted { visits.new.probes ≤ visits.old.probes + asked (N.tree command.now.node) (nodes (tasks_of N.tree printer.old)) }
     ensures asked { OnOk result (RisesBy (each_probe (N.tree command.now.node) command.now.mode) visits.old.probes visits.new.probes) }
 {
     let indent = command.indent;
@@ -288,22 +334,10 @@ pub fn step<'v, N: Walk>(
             Ok(Taken::Quiet)
         }
         View::HardLine => match mode {
-            Mode::Break => Ok(Taken::Written(break_line(
-                printer,
-                indent,
-                mode,
-                command.node,
-                false,
-            )?)),
+            Mode::Break => break_line(printer, indent, mode, command.node, false),
             Mode::Flat => Ok(Taken::Failed),
         },
-        View::WeakLine => Ok(Taken::Written(break_line(
-            printer,
-            indent,
-            mode,
-            command.node,
-            true,
-        )?)),
+        View::WeakLine => break_line(printer, indent, mode, command.node, true),
         View::Append(l, r) => {
             push_node(&mut printer.commands, indent, mode, r)?;
             go_on_with(printer, indent, mode, l)
@@ -317,17 +351,11 @@ pub fn step<'v, N: Walk>(
         View::Align(d) => go_on_with(printer, printer.column.prospective(), mode, d),
         View::Flatten(d) => go_on_with(printer, indent, Mode::Flat, d),
         View::BreakOrFlat(b, f) => go_on_with(printer, indent, mode, either(mode, b, f)),
-        View::Group(d) => {
-            let inner = group_mode(printer, mode, d, &mut visits.probes)?;
-            go_on_with(printer, indent, inner, d)
-        }
+        View::Group(d) => group(printer, indent, mode, d, &mut visits.probes),
         View::Union(l, r) => match mode {
             Mode::Break => union(printer, indent, l, r, visits),
             Mode::Flat => go_on_with(printer, indent, mode, l),
         },
-        View::PartialUnion(l, r) => {
-            let taken = partial_choice(printer, mode, l, r, &mut visits.probes)?;
-            go_on_with(printer, indent, mode, taken)
-        }
+        View::PartialUnion(l, r) => partial_union(printer, indent, mode, l, r, &mut visits.probes),
     }
 }

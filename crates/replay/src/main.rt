@@ -1,15 +1,49 @@
 //! Lays out cases: `replay` reads a document and what is asked of its layout from each line of standard input, and
-//! answers with what comes of it on a line of standard output.
+//! answers with what comes of it on a line of standard output. `replay --help` writes the usage.
 #![tactic(auto)]
 
 use prettyless::IoWrite;
+use replay_cases::request::{Ending, Request, USAGE, requested};
 use replay_cases::run::run;
-use std::io;
-use std::io::{BufReader, BufWriter, Write};
+use std::io::{BufReader, BufWriter, ErrorKind, Write};
+use std::process::ExitCode;
+use std::rt::Env;
+use std::{env, io};
 
-fn main(rt: HostRuntime) -> io::Result<()> {
+// The words after the program's name. One that is no text is a wrong word.
+fn words<R: AllocGlobal + Env>(rt: &R) -> Result<Vec<String>, Ending> {
+    let words = env::args(rt).map_err(|error| match error.kind() {
+        ErrorKind::OutOfMemory => Ending::Failed(error),
+        _ => Ending::Words,
+    })?;
+    words
+        .skip(1)
+        .collect(rt.alloc())
+        .map_err(|error| Ending::Failed(io::Error::from(error)))
+}
+
+fn answer_cases<R: AllocGlobal + Input + Print>(rt: &R) -> io::Result<()> {
     let mut reader = BufReader::new(rt.alloc(), rt.reader())?;
-    let mut out = BufWriter::new(rt.alloc(), io::writer(&rt))?;
+    let mut out = BufWriter::new(rt.alloc(), io::writer(rt))?;
     run(rt.alloc(), &mut reader, &mut IoWrite::new(&mut out))?;
     out.flush()
+}
+
+fn replay<R: AllocGlobal + Env + Input + Print>(rt: &R) -> Result<(), Ending> {
+    match requested(&words(rt)?).ok_or(Ending::Words)? {
+        Request::Replay => answer_cases(rt)?,
+        Request::Help => println!(rt; "{USAGE}")?,
+    }
+    Ok(())
+}
+
+fn main(rt: HostRuntime) -> ExitCode {
+    match replay(&rt) {
+        Ok(()) => ExitCode::SUCCESS,
+        Err(ending) => {
+            // Where standard error takes no message, the status is what is left.
+            let _ = rt.eprintln(ending.message());
+            ExitCode::from(ending.status())
+        }
+    }
 }

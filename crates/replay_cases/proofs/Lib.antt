@@ -1,5 +1,4 @@
 pub mod Answering
-pub mod Digits
 pub mod HexWords
 pub mod Items
 pub mod Lines

@@ -1,5 +1,5 @@
--- The first line of some bytes, and the answers to the lines behind it.
-use Rattle.std.proofs.Common.{◌≡◌, ◌≢◌, ℕ, Bool, true, false, cond, eqb, List, [], ◌∷◌, ◌++◌, refl, sym, ap, subst, ◌∙◌, inl, inr, append_assoc, append-nil, arith}
+-- The first line of some bytes, and the answers to the lines after it.
+use Rattle.std.proofs.Common.{◌≡◌, ◌≢◌, ℕ, ◌+◌, Bool, true, false, cond, eqb, List, [], ◌∷◌, ◌++◌, refl, sym, ap, subst, ◌∙◌, inl, inr, append_assoc, append-nil, arith}
 use Rattle.std.specs.Prelude.{Option, None, Some, IfSome}
 use Rattle.std.specs.Io.BufRead.{take_through, drop_through, DropsThrough}
 use Rattle.std.specs.List.{onto_first}
@@ -67,26 +67,26 @@ last_line bytes none = inr (line_is_last bytes none)
 
 -- ---- answers
 
-pub no_answers : (bytes : List ℕ) → bytes ≡ [] → AreAnswers (lines_of bytes) []
-no_answers bytes e = subst (λ (x : List ℕ). AreAnswers (lines_of x) []) (sym e) ([], [], refl, refl, refl)
+pub no_answers : (n : ℕ) (bytes : List ℕ) → bytes ≡ [] → AreAnswers n (lines_of bytes) []
+no_answers n bytes e = subst (λ (x : List ℕ). AreAnswers n (lines_of x) []) (sym e) ([], [], refl, refl, refl)
 
-end_answers : (more : List ℕ) → AreAnswers (lines_of []) more → more ≡ []
-end_answers more (first, others, e, is, none) = e ∙ ap (λ (x : List ℕ). x ++ others) is ∙ none
+end_answers : (n : ℕ) (more : List ℕ) → AreAnswers n (lines_of []) more → more ≡ []
+end_answers n more (first, others, e, is, none) = e ∙ ap (λ (x : List ℕ). x ++ others) is ∙ none
 
-pub answers_go_on : (bytes line rest first more : List ℕ) → BeginsWithLine bytes line rest → AnswerLine line first → AreAnswers (lines_of rest) more → AreAnswers (lines_of bytes) (first ++ more)
-answers_go_on bytes line rest first more (inl e) is others = rw e (first, more, refl, is, others)
-answers_go_on bytes line rest first more (inr last) is others =
-    rw last.0 (first, more, refl, is, end_answers more (subst (λ (x : List ℕ). AreAnswers (lines_of x) more) last.1 others))
+pub answers_go_on : (n : ℕ) (bytes line rest first more : List ℕ) → BeginsWithLine bytes line rest → AnswerLine (n + 1) line first → AreAnswers (n + 1) (lines_of rest) more → AreAnswers n (lines_of bytes) (first ++ more)
+answers_go_on n bytes line rest first more (inl e) is others = rw e (first, more, refl, is, others)
+answers_go_on n bytes line rest first more (inr last) is others =
+    rw last.0 (first, more, refl, is, end_answers (n + 1) more (subst (λ (x : List ℕ). AreAnswers (n + 1) (lines_of x) more) last.1 others))
 
 -- all lines have answers
-some_answers : (lines : List (List ℕ)) → (written : List ℕ) × AreAnswers lines written
-some_answers [] = ([], refl)
-some_answers (line ∷ lines) =
-    let first = some_answer line in
-    let others = some_answers lines in
+some_answers : (n : ℕ) (lines : List (List ℕ)) → (written : List ℕ) × AreAnswers n lines written
+some_answers n [] = ([], refl)
+some_answers n (line ∷ lines) =
+    let first = some_answer (n + 1) line in
+    let others = some_answers (n + 1) lines in
     (first.0 ++ others.0, (first.0, others.0, refl, first.1, others.1))
 
--- ---- what a reader that tells its bytes has read
+-- ---- what a reader whose bytes are known has read
 
 -- a line that ends was read up to its line feed, which is taken off
 pub reads_ended : (known left : Option (List ℕ)) (read line : List ℕ) → IfSome known (λ bytes. read ≡ take_through 10 bytes) → DropsThrough known left 10 → read ≡ line ++ 10 ∷ [] → IfSome known (λ bytes. ReadsLine true bytes line left)
@@ -100,13 +100,13 @@ reads_last (Some bytes) left read h d none =
     let last = last_line bytes (λ front e. none front (h ∙ e)) in
     (drop_through 10 bytes, d, subst (λ (x : List ℕ). BeginsWithLine bytes x (drop_through 10 bytes)) (sym h) last)
 
--- what was written so far, before the answers to what is left, are the answers to all
-abbrev pub AnswersSoFar : Option (List ℕ) → Option (List ℕ) → List ℕ → List ℕ → Type 0
-AnswersSoFar None left old new = Unit {0}
-AnswersSoFar (Some bytes) left old new =
-    (rest : List ℕ) × (written : List ℕ) × (left ≡ Some rest) × (new ≡ old ++ written) × ((more : List ℕ) → AreAnswers (lines_of rest) more → AreAnswers (lines_of bytes) (written ++ more))
+-- what was written for the first n lines, and then the answers to what is left, are the answers to all
+abbrev pub AnswersSoFar : Option (List ℕ) → ℕ → Option (List ℕ) → List ℕ → List ℕ → Type 0
+AnswersSoFar None n left old new = Unit {0}
+AnswersSoFar (Some bytes) n left old new =
+    (rest : List ℕ) × (written : List ℕ) × (left ≡ Some rest) × (new ≡ old ++ written) × ((more : List ℕ) → AreAnswers n (lines_of rest) more → AreAnswers 0 (lines_of bytes) (written ++ more))
 
-pub answers_start : (known : Option (List ℕ)) (old : List ℕ) → AnswersSoFar known known old old
+pub answers_start : (known : Option (List ℕ)) (old : List ℕ) → AnswersSoFar known 0 known old old
 answers_start None old = tt
 answers_start (Some bytes) old = (bytes, [], refl, sym (append-nil old), λ more h. h)
 
@@ -116,39 +116,39 @@ if_some P known bytes e h = subst (λ (o : Option (List ℕ)). IfSome o P) e h
 line_read : (left after : Option (List ℕ)) (rest line : List ℕ) (found : Bool) → found ≡ true → left ≡ Some rest → IfSome left (λ bytes. ReadsLine found bytes line after) → ReadsLine true rest line after
 line_read left after rest line found f e r = if_some (λ x. ReadsLine true x line after) left rest e (subst (λ (b : Bool). IfSome left (λ x. ReadsLine b x line after)) f r)
 
-pub answers_one_more : (known left after : Option (List ℕ)) (old mid new line first : List ℕ) (found : Bool) → found ≡ true → AnswersSoFar known left old mid → IfSome left (λ bytes. ReadsLine found bytes line after)
-    → AnswerLine line first → new ≡ mid ++ first → AnswersSoFar known after old new
-answers_one_more None left after old mid new line first found f h r is added = tt
-answers_one_more (Some bytes) left after old mid new line first found f (rest, written, e, appended, more) r is added =
+pub answers_one_more : (known : Option (List ℕ)) (n : ℕ) (left after : Option (List ℕ)) (old mid new line first : List ℕ) (found : Bool) → found ≡ true → AnswersSoFar known n left old mid → IfSome left (λ bytes. ReadsLine found bytes line after)
+    → AnswerLine (n + 1) line first → new ≡ mid ++ first → AnswersSoFar known (n + 1) after old new
+answers_one_more None n left after old mid new line first found f h r is added = tt
+answers_one_more (Some bytes) n left after old mid new line first found f (rest, written, e, appended, more) r is added =
     let read = line_read left after rest line found f e r in (
       read.0,
       written ++ first,
       read.1,
       appended_on old mid new written first appended added,
-      λ others h. subst (AreAnswers (lines_of bytes)) (sym (append_assoc written first others)) (more (first ++ others) (answers_go_on rest line read.0 first others read.2 is h)),
+      λ others h. subst (AreAnswers 0 (lines_of bytes)) (sym (append_assoc written first others)) (more (first ++ others) (answers_go_on n rest line read.0 first others read.2 is h)),
     )
 
-pub answers_end : (known left after : Option (List ℕ)) (old new line : List ℕ) (found : Bool) → found ≡ false → AnswersSoFar known left old new → IfSome left (λ bytes. ReadsLine found bytes line after) → IfSome known (λ bytes. AnswersAll bytes old new)
-answers_end None left after old new line found f h r = tt
-answers_end (Some bytes) left after old new line found f (rest, written, e, appended, more) r =
+pub answers_end : (known : Option (List ℕ)) (n : ℕ) (left after : Option (List ℕ)) (old new line : List ℕ) (found : Bool) → found ≡ false → AnswersSoFar known n left old new → IfSome left (λ bytes. ReadsLine found bytes line after) → IfSome known (λ bytes. AnswersAll bytes old new)
+answers_end None n left after old new line found f h r = tt
+answers_end (Some bytes) n left after old new line found f (rest, written, e, appended, more) r =
     let none = if_some (λ x. ReadsLine false x line after) left rest e (subst (λ (b : Bool). IfSome left (λ x. ReadsLine b x line after)) f r) in
-    (written, subst (AreAnswers (lines_of bytes)) (append-nil written) (more [] (no_answers rest none)), appended)
+    (written, subst (AreAnswers 0 (lines_of bytes)) (append-nil written) (more [] (no_answers n rest none)), appended)
 
 -- where it stops between two lines, the answers so far are a beginning of those to all
-pub answers_stop : (known left : Option (List ℕ)) (old new : List ℕ) → AnswersSoFar known left old new → IfSome known (λ bytes. BeginsAnswers bytes old new)
-answers_stop None left old new h = tt
-answers_stop (Some bytes) left old new (rest, written, e, appended, more) =
-    let others = some_answers (lines_of rest) in
+pub answers_stop : (known : Option (List ℕ)) (n : ℕ) (left : Option (List ℕ)) (old new : List ℕ) → AnswersSoFar known n left old new → IfSome known (λ bytes. BeginsAnswers bytes old new)
+answers_stop None n left old new h = tt
+answers_stop (Some bytes) n left old new (rest, written, e, appended, more) =
+    let others = some_answers n (lines_of rest) in
     (written ++ others.0, more others.0 others.1, (written, others.0, refl, appended))
 
 -- and so they are with a beginning of the next
-pub answers_break : (known left after : Option (List ℕ)) (old mid new line first : List ℕ) (found : Bool) → found ≡ true → AnswersSoFar known left old mid → IfSome left (λ bytes. ReadsLine found bytes line after)
-    → AnswerLine line first → AppendsBeginning mid new first → IfSome known (λ bytes. BeginsAnswers bytes old new)
-answers_break None left after old mid new line first found f h r is begun = tt
-answers_break (Some bytes) left after old mid new line first found f (rest, written, e, appended, more) r is begun =
+pub answers_break : (known : Option (List ℕ)) (n : ℕ) (left after : Option (List ℕ)) (old mid new line first : List ℕ) (found : Bool) → found ≡ true → AnswersSoFar known n left old mid → IfSome left (λ bytes. ReadsLine found bytes line after)
+    → AnswerLine (n + 1) line first → AppendsBeginning mid new first → IfSome known (λ bytes. BeginsAnswers bytes old new)
+answers_break None n left after old mid new line first found f h r is begun = tt
+answers_break (Some bytes) n left after old mid new line first found f (rest, written, e, appended, more) r is begun =
     let read = line_read left after rest line found f e r in
-    let others = some_answers (lines_of read.0) in (
+    let others = some_answers (n + 1) (lines_of read.0) in (
       written ++ (first ++ others.0),
-      more (first ++ others.0) (answers_go_on rest line read.0 first others.0 read.2 is others.1),
+      more (first ++ others.0) (answers_go_on n rest line read.0 first others.0 read.2 is others.1),
       beginning_after old mid new written (first ++ others.0) appended (beginning_of_more mid new first others.0 begun),
     )

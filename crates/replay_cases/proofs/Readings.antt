@@ -160,7 +160,7 @@ join_spelled joins.BreakOrFlat d e us vs h k = (us, vs, refl, h, k)
 join_spelled joins.Union d e us vs h k = (us, vs, refl, h, k)
 join_spelled joins.PartialUnion d e us vs h k = (us, vs, refl, h, k)
 
--- these words spell the document, and the others the items behind it
+-- these words spell the document, and the others the items after it
 spells : (d : Tree) (items : List Item) (front others ws : List (List ℕ)) → IsSpelled d front → AreSpelled items others → ws ≡ front ++ others → AreSpelled (document d ∷ items) ws
 spells d items front others ws h k e = (front, others, e, h, k)
 
@@ -217,7 +217,7 @@ left_is_spelled ws d h =
 abbrev IsLeft : Tree → List (List ℕ) → List (List ℕ) → List Item → Type 0
 IsLeft d ws others items = Leaves (ws ++ others) (document d ∷ items)
 
--- a word that names no operator is left as it stands
+-- a word that names no operator is left as it is
 word_left : (w : List ℕ) (others : List (List ℕ)) (items : List Item) → operator_of w ≡ None → Leaves others items → Leaves (w ∷ others) (word w ∷ items)
 word_left w others items e h = (items, h, rw e refl)
 
@@ -294,9 +294,9 @@ pub step_refused : (words front read : List (List ℕ)) (w : List ℕ) (before :
 step_refused words front read w before e parts left h =
     refuses_more e _ _ (λ none d spelled.
     let all = subst (λ (x : List (List ℕ)). Leaves x (document d ∷ [])) parts (spelled_leaves words d spelled) in
-    let behind = last_leave front (w ∷ read) (document d ∷ []) all in
-    let same = leaves_one read behind.1.0 before behind.1.1 left in
-    none behind.0 (subst (λ (x : List Item). Steps w x behind.0) same behind.1.2)) h
+    let after = last_leave front (w ∷ read) (document d ∷ []) all in
+    let same = leaves_one read after.1.0 before after.1.1 left in
+    none after.0 (subst (λ (x : List Item). Steps w x after.0) same after.1.2)) h
 
 -- where they leave no document on top, neither
 pub top_refused : (words : List (List ℕ)) (items : List Item) (e : Refusal) → Leaves words items

@@ -13,7 +13,7 @@ use Rattle.replay_cases.specs.Reading.{Item, word, BeginsWithText, Makes}
 use Rattle.replay_cases.specs.Refusals.{Refuses, hex_refusal}
 
 pub refuses_more : (e : Refusal) (P Q : Type 0) → (P → Q) → Refuses e P → Refuses e Q
-refuses_more NotACase P Q f h = f h
+refuses_more (NotACase expected) P Q f h = f h
 refuses_more OutOfMemory P Q f h = h
 
 -- digits that were not decoded

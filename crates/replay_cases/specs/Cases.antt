@@ -1,4 +1,4 @@
--- The case that a `ReadCase` stands for.
+-- The case that a `ReadCase` is.
 use Rattle.replay_cases.specs.declared.case.ReadCase.{ReadCase}
 use Rattle.replay_cases.specs.Notation.{Case}
 use Rattle.replay_cases.specs.Pointers.{pointer_tree}

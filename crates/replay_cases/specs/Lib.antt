@@ -5,4 +5,5 @@ pub mod Outcomes
 pub mod Reading
 pub mod Pointers
 pub mod Refusals
+pub mod Requests
 pub mod Runs

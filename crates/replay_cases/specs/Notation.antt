@@ -17,7 +17,7 @@ use Rattle.prettyless_model.specs.declared.options.IndentationPolicy.TheVariants
 
 -- ---- words
 
--- the words of a line: what stands between its spaces
+-- the words of a line: what is between its spaces
 abbrev pub words : List ℕ → List (List ℕ)
 words line = slice_split (λ b. b == 32) line
 
@@ -34,7 +34,7 @@ named_in (e ∷ es) w = if bytes_eq w e.0 then Some e.1 else named_in es w
 abbrev pub IsNumber : ℕ → List ℕ → Type 0
 IsNumber n w = IsNumeral 10 w × (digits_value 10 w < 2 ^ 64) × (n ≡ digits_value 10 w)
 
--- the digits of a number that may be negative: behind "-", where that stands in front
+-- the digits of a number that may be negative: after "-", where that is in front
 abbrev pub digits_of : List ℕ → List ℕ
 digits_of w = if starts_with_minus w then drop 1 w else w
 

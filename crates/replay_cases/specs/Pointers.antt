@@ -1,4 +1,4 @@
--- The trees that the pointers of a document stand for.
+-- The trees of the pointers of a document.
 use Rattle.prettyless.specs.Tree.{Tree}
 use Rattle.prettyless.specs.Trees.{ref_tree}
 use Rattle.prettyless_pointers.specs.declared.arena.RefDoc.{RefDoc}

@@ -1,40 +1,70 @@
-ghost use Rattle.std.specs.Prelude.{◌≡◌, ◌∷◌, ◌++◌, []};
+ghost use Rattle.std.specs.Prelude.{◌≡◌, ◌∷◌, ◌++◌, [], IfOk};
+ghost use Rattle.std.specs.String.{string_bytes};
 ghost use Rattle.prettyless_sink.specs.Sink.{IfKnown};
-ghost use Rattle.replay_cases.specs.Answers.{is_skipped, Writes, Answers};
+ghost use Rattle.replay_cases.specs.Answers.{is_skipped, IsAnswer, Writes, Answers};
+ghost use Rattle.replay_cases.specs.Refusals.{complaint};
 
+use crate::expected::Expected;
+use crate::refusal::Refusal;
 use crate::replayed::replayed;
 use prettyless::Render;
-use std::alloc::Global;
+use std::alloc::{AllocError, Global};
 
-// Nothing stands on the line, or a comment.
+// The line is empty, or a comment.
 fn is_skipped(line: &[u8]) -> bool
     ensures { result ≡ is_skipped line.now }
 {
     matches!(line, [] | [b'#', ..])
 }
 
-fn write_line<S: Render>(out: &mut S, label: &str, text: &str) -> Result<(), S::Error>
-    ensures { IfKnown (S.bytes out.old) (S.bytes out.new) (λ before after.
-        Writes (label.now ++ text.now ++ 10 ∷ []) before after (S.failures out.old) (S.failures out.new) result) }
+// What is said of the line of this number, which is no case.
+fn complaint(alloc: Global, number: u64, expected: Expected) -> Result<String, AllocError>
+    ensures { IfOk result (λ text. string_bytes text ≡ complaint number expected) }
 {
-    out.write_str_all(label)?;
+    let mut text = String::from_str(alloc, "error line ")?;
+    text.push_str(number.to_string(alloc)?.as_str())?;
+    text.push_str(": expected ")?;
+    text.push_str(expected.description())?;
+    Ok(text)
+}
+
+// The answer to the line of this number, where memory suffices.
+fn answer_text(alloc: Global, number: u64, line: &[u8]) -> Result<String, AllocError>
+    ensures { IfOk result (λ text. IsAnswer number line.now (string_bytes text)) }
+{
+    match replayed(alloc, line) {
+        Ok(outcome) => Ok(outcome),
+        Err(Refusal::NotACase(expected)) => complaint(alloc, number, expected),
+        Err(Refusal::OutOfMemory) => Err(AllocError),
+    }
+}
+
+fn write_line<S: Render>(out: &mut S, text: &str) -> Result<(), S::Error>
+    ensures { IfKnown (S.bytes out.old) (S.bytes out.new) (λ before after.
+        Writes (text.now ++ 10 ∷ []) before after (S.failures out.old) (S.failures out.new) result) }
+{
     out.write_str_all(text)?;
     out.write_str_all("\n")
 }
 
-/// Writes the answer to a line, and LF: what comes of its case, or `error` and why it has none.
+/// Writes the answer to the line of this number, and LF: what comes of its case, or `error` and why it has none.
 ///
-/// A blank line and a comment, which begins with `#`, have no answer. An error is the sink's: it then has a beginning of
+/// An empty line and a comment, which begins with `#`, have no answer. An error is the sink's: it then has a beginning of
 /// the answer, and got no piece after that.
-pub fn answer<S: Render>(alloc: Global, line: &[u8], out: &mut S) -> Result<(), S::Error>
+pub fn answer<S: Render>(
+    alloc: Global,
+    number: u64,
+    line: &[u8],
+    out: &mut S,
+) -> Result<(), S::Error>
     ensures { IfKnown (S.bytes out.old) (S.bytes out.new) (λ before after.
-        Answers line.now before after (S.failures out.old) (S.failures out.new) result) }
+        Answers number line.now before after (S.failures out.old) (S.failures out.new) result) }
 {
     if is_skipped(line) {
         return Ok(());
     }
-    match replayed(alloc, line) {
-        Ok(outcome) => write_line(out, "", outcome.as_str()),
-        Err(refusal) => write_line(out, "error ", refusal.message()),
+    match answer_text(alloc, number, line) {
+        Ok(text) => write_line(out, text.as_str()),
+        Err(_) => write_line(out, "error out of memory"),
     }
 }

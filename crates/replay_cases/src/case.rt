@@ -1,13 +1,14 @@
-ghost use Rattle.std.specs.Prelude.{◌≡◌, map, IfOk, IfErr, IfSome, IfNone};
+ghost use Rattle.std.specs.Prelude.{◌≡◌, map, IfOk, IfErr};
 ghost use Rattle.prettyless_model.specs.declared.options.RenderOptions.{RenderOptions};
 ghost use Rattle.replay_cases.specs.Notation.{Case, Denotes, AreOptions, named_in, line_endings, indentation_policies, case_words};
 ghost use Rattle.replay_cases.specs.Cases.{case_of};
-ghost use Rattle.replay_cases.specs.Refusals.{Refuses};
+ghost use Rattle.replay_cases.specs.Refusals.{LacksOption, Refuses};
 
-use crate::number::number;
+use crate::expected::Expected;
 use crate::pointer::{Place, Pointer};
 use crate::reading::read_document;
 use crate::refusal::Refusal;
+use decimals::number;
 use prettyless::DocPlace;
 use prettyless_model::options::{IndentationPolicy, LineEnding, RenderOptions};
 use std::alloc::{AllocError, Global};
@@ -39,14 +40,14 @@ fn indentation_policy(word: &[u8]) -> Option<IndentationPolicy>
     }
 }
 
-fn options(width: &[u8], ending: &[u8], policy: &[u8]) -> Option<RenderOptions>
-    ensures some { IfSome result (λ o. AreOptions o width.now ending.now policy.now) }
-    ensures none { IfNone result ((o : RenderOptions) → AreOptions o width.now ending.now policy.now → ⊥) }
+fn options(width: &[u8], ending: &[u8], policy: &[u8]) -> Result<RenderOptions, Expected>
+    ensures ok { IfOk result (λ o. AreOptions o width.now ending.now policy.now) }
+    ensures err { IfErr result (λ e. LacksOption e width.now ending.now policy.now) }
 {
-    Some(RenderOptions {
-        width: number(width)?,
-        line_ending: line_ending(ending)?,
-        indentation_policy: indentation_policy(policy)?,
+    Ok(RenderOptions {
+        width: number(width).ok_or(Expected::Width)?,
+        line_ending: line_ending(ending).ok_or(Expected::LineEnding)?,
+        indentation_policy: indentation_policy(policy).ok_or(Expected::IndentationPolicy)?,
     })
 }
 
@@ -68,10 +69,10 @@ pub fn read_case<'a>(place: &'a Place<'a>, line: &'a [u8]) -> Result<ReadCase<'a
 {
     let words = case_words(place.memory(), line)?;
     let [width, ending, policy, document @ ..] = words.as_slice() else {
-        return Err(Refusal::NotACase);
+        return Err(Refusal::NotACase(Expected::Case));
     };
     Ok(ReadCase {
-        options: options(width, ending, policy).ok_or(Refusal::NotACase)?,
+        options: options(width, ending, policy)?,
         document: read_document(place, document)?,
     })
 }

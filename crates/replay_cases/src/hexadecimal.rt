@@ -5,6 +5,7 @@ ghost use Rattle.std.specs.Str.{IsUtf8};
 ghost use Rattle.replay_cases.specs.Notation.{hex_word, IsTextWord};
 ghost use Rattle.replay_cases.specs.Refusals.{Refuses};
 
+use crate::expected::Expected;
 use crate::refusal::Refusal;
 use std::alloc::{AllocError, Global};
 
@@ -38,7 +39,7 @@ pub fn text(alloc: Global, word: &[u8]) -> Result<String, Refusal>
     let bytes = decoded(alloc, word)?;
     // Each text has one word: upper case letters, or no digit at all, write none.
     if word_of(alloc, &bytes)?.as_bytes() != word {
-        return Err(Refusal::NotACase);
+        return Err(Refusal::NotACase(Expected::Text));
     }
-    String::from_utf8(bytes).map_err(|_| Refusal::NotACase)
+    String::from_utf8(bytes).map_err(|_| Refusal::NotACase(Expected::Text))
 }

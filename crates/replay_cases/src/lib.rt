@@ -3,8 +3,9 @@
 
 mod answer;
 mod case;
+mod expected;
 mod hexadecimal;
-mod number;
+mod offset;
 mod operand;
 mod operator;
 mod outcome;
@@ -12,6 +13,7 @@ mod pointer;
 mod reading;
 mod refusal;
 mod replayed;
+pub mod request;
 pub mod run;
 #[cfg(test)]
 mod tests;

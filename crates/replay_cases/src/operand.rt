@@ -4,6 +4,7 @@ ghost use Rattle.replay_cases.specs.Pointers.{pointer_tree};
 ghost use Rattle.replay_cases.specs.Reading.{Item, word, document, items_of};
 ghost use Rattle.replay_cases.specs.Refusals.{Refuses};
 
+use crate::expected::Expected;
 use crate::pointer::Pointer;
 use crate::refusal::Refusal;
 
@@ -15,15 +16,18 @@ pub enum Operand<'a> {
     Document(Pointer<'a>),
 }
 
-/// Takes the word that comes next.
+/// Takes the word that comes next, which is expected to be one of these.
 #[tactic(auto, using(crate::proofs::Items::items_of_push))]
-pub fn take_word<'a>(operands: &mut Vec<Operand<'a>>) -> Result<&'a [u8], Refusal>
+pub fn take_word<'a>(
+    operands: &mut Vec<Operand<'a>>,
+    expected: Expected,
+) -> Result<&'a [u8], Refusal>
     ensures ok { IfOk result (λ w. items_of operands.old.items ≡ word w.now ∷ items_of operands.new.items) }
     ensures err { IfErr result (λ e. Refuses e ((w : List ℕ) (rest : List Item) → items_of operands.old.items ≡ word w ∷ rest → ⊥)) }
 {
     match operands.pop() {
         Some(Operand::Word(word)) => Ok(word),
-        _ => Err(Refusal::NotACase),
+        _ => Err(Refusal::NotACase(expected)),
     }
 }
 
@@ -35,6 +39,6 @@ pub fn take_document<'a>(operands: &mut Vec<Operand<'a>>) -> Result<Pointer<'a>,
 {
     match operands.pop() {
         Some(Operand::Document(document)) => Ok(document),
-        _ => Err(Refusal::NotACase),
+        _ => Err(Refusal::NotACase(Expected::Document)),
     }
 }

@@ -1,4 +1,4 @@
-//! Where the nodes of a document that is read stand, and the pointer between them: their types are named here alone.
+//! Where the nodes of a document that is read are, and the pointer between them: their types are named here alone.
 ghost use Rattle.std.specs.Prelude.{◌≡◌, IfOk, IfErr};
 ghost use Rattle.prettyless.specs.DocTree.{tree_of};
 ghost use Rattle.replay_cases.specs.Pointers.{pointer_tree};
@@ -7,7 +7,7 @@ ghost use Rattle.replay_cases.specs.declared.refusal.Refusal.TheVariants.{OutOfM
 use crate::refusal::Refusal;
 use prettyless::{Arena, Doc, DocPlace, RefDoc};
 
-/// Where nodes stand. It gives them up all at once, so that giving up a deep document calls nothing for each node.
+/// Where nodes are. It gives them up all at once, so that giving up a deep document calls nothing for each node.
 pub type Place<'a> = Arena<'a>;
 
 /// The pointer between nodes.

@@ -8,12 +8,14 @@ ghost use Rattle.replay_cases.specs.Reading.{Item, items_of, BeginsWithText, Mak
 ghost use Rattle.replay_cases.specs.Refusals.{Refuses};
 ghost use Rattle.replay_cases.specs.declared.operator.Operator.TheVariants.{Payload};
 
+use crate::expected::Expected;
 use crate::hexadecimal::text;
-use crate::number::{number, offset};
+use crate::offset::offset;
 use crate::operand::{Operand, take_document, take_word};
 use crate::operator::{Operator, operator_named};
 use crate::pointer::{Place, Pointer, put};
 use crate::refusal::Refusal;
+use decimals::number;
 use prettyless::text::{CowStr, Text};
 use prettyless::{Doc, DocPlace};
 use prettyless_doc::measure::holds_break;
@@ -24,7 +26,7 @@ fn take_text<'a>(alloc: Global, operands: &mut Vec<Operand<'a>>) -> Result<Text<
     ensures ok { IfOk result (λ s. BeginsWithText (items_of operands.old.items) (bytes_of s) (items_of operands.new.items)) }
     ensures err { IfErr result (λ e. Refuses e ((s : List ℕ) (rest : List Item) → BeginsWithText (items_of operands.old.items) s rest → ⊥)) }
 {
-    let text = text(alloc, take_word(operands)?)?;
+    let text = text(alloc, take_word(operands, Expected::Text)?)?;
     Ok(Text::from_cow(alloc, CowStr::Owned(text))?)
 }
 
@@ -36,14 +38,14 @@ fn take_payload<'a>(
     ensures ok { IfOk result (λ d. Makes Payload (items_of operands.old.items) (tree_of pointer_tree d) (items_of operands.new.items)) }
     ensures err { IfErr result (λ e. Refuses e ((d : Tree) (rest : List Item) → Makes Payload (items_of operands.old.items) d rest → ⊥)) }
 {
-    let text = text(alloc, take_word(operands)?)?;
+    let text = text(alloc, take_word(operands, Expected::Payload)?)?;
     if !holds_break(text.as_str()) {
-        return Err(Refusal::NotACase);
+        return Err(Refusal::NotACase(Expected::Payload));
     }
     Ok(Doc::multiline_text(alloc, CowStr::Owned(text))?)
 }
 
-// Takes what comes behind an operator, and makes the operator's document of it.
+// Takes what comes after an operator, and makes the operator's document of it.
 fn make<'a>(
     place: &'a Place<'a>,
     operator: Operator,
@@ -56,13 +58,15 @@ fn make<'a>(
         Operator::Leaf(leaf) => put(place, leaf.doc()),
         Operator::Text => put(place, Doc::Text(take_text(place.memory(), operands)?)),
         Operator::TextWithLen => {
-            let width = number(take_word(operands)?).ok_or(Refusal::NotACase)?;
+            let word = take_word(operands, Expected::Columns)?;
+            let width = number(word).ok_or(Expected::Columns)?;
             let text = take_text(place.memory(), operands)?;
             put(place, Doc::TextWithLen(width, text))
         }
         Operator::Payload => put(place, take_payload(place.memory(), operands)?),
         Operator::Nest => {
-            let offset = offset(take_word(operands)?).ok_or(Refusal::NotACase)?;
+            let word = take_word(operands, Expected::Offset)?;
+            let offset = offset(word).ok_or(Expected::Offset)?;
             let inner = take_document(operands)?;
             put(place, Doc::Nest(offset, inner))
         }
@@ -75,7 +79,7 @@ fn make<'a>(
     }
 }
 
-// Puts one word more in front: an operator makes a document of what comes behind it.
+// Puts one word more in front: an operator makes a document of what comes after it.
 fn put_in_front<'a>(
     place: &'a Place<'a>,
     word: &'a [u8],
@@ -108,6 +112,6 @@ pub fn read_document<'a>(place: &'a Place<'a>, words: &[&'a [u8]]) -> Result<Poi
     if operands.is_empty() {
         Ok(document)
     } else {
-        Err(Refusal::NotACase)
+        Err(Refusal::NotACase(Expected::End))
     }
 }

@@ -1,6 +1,7 @@
 ghost use Rattle.std.specs.Prelude.{◌≡◌};
-ghost use Rattle.replay_cases.specs.declared.refusal.Refusal.TheVariants.{OutOfMemory};
+ghost use Rattle.replay_cases.specs.declared.refusal.Refusal.TheVariants.{NotACase, OutOfMemory};
 
+use crate::expected::Expected;
 use hex::FromHexError;
 use prettyless::text::BuildError;
 use std::alloc::{AllocError, AllocFailed};
@@ -9,22 +10,16 @@ use std::alloc::{AllocError, AllocFailed};
 #[derive(Clone, Copy, Debug, PartialEq, Eq)]
 pub enum Refusal {
     /// It writes no case.
-    NotACase,
+    NotACase(Expected),
     /// Memory was refused.
     OutOfMemory,
 }
 
-impl Refusal {
-    ghost use Rattle.replay_cases.specs.Refusals.{message_of};
+impl From<Expected> for Refusal {
+    ghost from_gives = { λ e r. r ≡ NotACase e };
 
-    /// What the answer to the line says of it.
-    pub fn message(self) -> &'static str
-        ensures { result.now ≡ message_of self }
-    {
-        match self {
-            Refusal::NotACase => "not a case",
-            Refusal::OutOfMemory => "out of memory",
-        }
+    fn from(expected: Expected) -> Refusal {
+        Refusal::NotACase(expected)
     }
 }
 
@@ -61,7 +56,7 @@ impl From<FromHexError> for Refusal {
     fn from(error: FromHexError) -> Refusal {
         match error {
             FromHexError::OutOfMemory => Refusal::OutOfMemory,
-            _ => Refusal::NotACase,
+            _ => Refusal::NotACase(Expected::Text),
         }
     }
 }

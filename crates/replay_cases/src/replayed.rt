@@ -11,7 +11,7 @@ use bumpalo::Bump;
 use prettyless::DocPlace;
 use std::alloc::Global;
 
-// What comes of the case, whose nodes will stand here.
+// What comes of the case, whose nodes will be here.
 fn replayed_in<'a>(place: &'a Place<'a>, line: &'a [u8]) -> Result<String, Refusal>
     ensures ok { IfOk result (λ text. IsReplayed line.now (string_bytes text)) }
     ensures err { IfErr result (λ e. RefusesLine e line.now) }

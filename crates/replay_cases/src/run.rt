@@ -9,8 +9,8 @@ use std::alloc::Global;
 use std::io;
 use std::io::{BufRead, ErrorKind};
 
-// Reads the next line, without the LF behind it. It is false where none is left. Where the reader fails, the bytes that
-// it gave stand on the line.
+// Reads the next line, without its LF. It is false where none is left. Where the reader fails, the line has the bytes that
+// it gave.
 fn next_line<R: BufRead>(reader: &mut R, line: &mut Vec<u8>) -> io::Result<bool>
     ensures ok { IfOk result (λ found. IfSome (R.remaining reader.old) (λ bytes. ReadsLine found bytes line.new.items (R.remaining reader.new))) }
     ensures err { OnErr result (Consumes (R.remaining reader.old) (R.remaining reader.new) line.new.items) }
@@ -25,8 +25,8 @@ fn next_line<R: BufRead>(reader: &mut R, line: &mut Vec<u8>) -> io::Result<bool>
     Ok(true)
 }
 
-/// Answers the lines of a reader to its end, one after the other. Where the reader and the sink tell their bytes, what was
-/// written answers each of them, in order.
+/// Answers the lines of a reader to its end, one after the other, and counts them from 1. Where the contracts know the bytes
+/// of the reader and of the sink, what was written answers each line, in order.
 ///
 /// It stops at an error of the reader or the sink, and after 2^64 - 1 lines. The sink then has
 /// a beginning of the answers.
@@ -39,11 +39,11 @@ pub fn run<R: BufRead, S: Render<Error = io::Error>>(
         Runs (R.remaining reader.old) before after (S.failures out.old) (S.failures out.new) result) }
 {
     let mut line = Vec::new(alloc);
-    for _ in 0..u64::MAX {
+    for before in 0..u64::MAX {
         if !next_line(reader, &mut line)? {
             return Ok(());
         }
-        answer(alloc, &line, out)?;
+        answer(alloc, before + 1, &line, out)?;
     }
     Err(io::Error::from(ErrorKind::FileTooLarge))
 }

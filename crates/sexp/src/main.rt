@@ -34,7 +34,7 @@ fn main(rt: HostRuntime) -> ExitCode {
     match lay_out(&rt) {
         Ok(()) => ExitCode::SUCCESS,
         Err(ending) => {
-            // Where standard error takes no message, the status still tells.
+            // Where standard error takes no message, the status is what is left.
             let _ = rt.eprintln(ending.message());
             ExitCode::from(ending.status())
         }

@@ -1,4 +1,4 @@
--- Reading a list from the left: each value is the only one that can stand there.
+-- Reading a list from the left: each value is the only one that can be there.
 use Rattle.std.proofs.Common.{◌≡◌, ℕ, ◌<◌, ◌≤◌, true, List, [], ◌∷◌, ◌++◌, refl, sym, ap, subst, ◌∙◌, append_assoc, arith, ◌⊎◌, inl, inr}
 use Rattle.std.specs.Char.{digit_value, is_ascii_digit}
 use Rattle.std.specs.Str.Parse.{IsNumeral}
@@ -19,7 +19,7 @@ space_or_closing xs ys e = let same = head_is space closing xs ys e in omega ari
 
 -- ---- the parts of a list
 
--- the values behind the first, up to the parenthesis
+-- the values after the first, up to the parenthesis
 abbrev Follows : Values → List ℕ → List ℕ → Type 0
 Follows vs bytes rest = (text : List ℕ) × (bytes ≡ text ++ closing ∷ rest) × AreSpaced vs text
 
@@ -51,7 +51,7 @@ join_first v vs bytes middle rest b f =
 follows_none : (bytes rest : List ℕ) → Follows none bytes rest → bytes ≡ closing ∷ rest
 follows_none bytes rest h = h.1 ∙ ap (λ (x : List ℕ). x ++ closing ∷ rest) h.2
 
--- behind a value that others follow a space comes
+-- after a value that others follow a space comes
 split_space : (v : Value) (vs : Values) (bytes rest : List ℕ) → Follows (first v vs) bytes rest → (inner : List ℕ) × (bytes ≡ space ∷ inner) × Closes (first v vs) inner rest
 split_space v vs bytes rest h =
     let front = h.2.0 in
@@ -62,7 +62,7 @@ join_space : (v : Value) (vs : Values) (inner rest : List ℕ) → Closes (first
 join_space v vs inner rest h =
     (space ∷ h.0, ap (λ (x : List ℕ). space ∷ x) h.1, (h.2.0, h.2.1, ap (λ (x : List ℕ). space ∷ x) h.2.2, h.2.3, h.2.4))
 
--- what stands behind a value of a list is a space or the parenthesis, and no digit
+-- what follows a value of a list is a space or the parenthesis, and no digit
 ends_number : (vs : Values) (bytes rest : List ℕ) → Follows vs bytes rest → EndsNumber bytes
 ends_number none bytes rest h = subst EndsNumber (sym (follows_none bytes rest h)) refl
 ends_number (first v vs) bytes rest h = let s = split_space v vs bytes rest h in subst EndsNumber (sym s.1) refl
@@ -132,15 +132,15 @@ list_is_empty levels rest = record {
 }
 
 -- the value that comes next is the one that was read
-next_value : (levels : ℕ) (bytes : List ℕ) (v : Value) (behind : List ℕ) → IsFront levels bytes v behind → (vs : Values) (other : List ℕ) → GoesOn vs bytes other → depth_of_all vs ≤ levels
-    → (ws : Values) × (vs ≡ first v ws) × Follows ws behind other × (depth_of_all ws ≤ levels)
-next_value levels bytes v behind front none other g d = absurd g
-next_value levels bytes v behind front (first w ws) other g d =
+next_value : (levels : ℕ) (bytes : List ℕ) (v : Value) (after : List ℕ) → IsFront levels bytes v after → (vs : Values) (other : List ℕ) → GoesOn vs bytes other → depth_of_all vs ≤ levels
+    → (ws : Values) × (vs ≡ first v ws) × Follows ws after other × (depth_of_all ws ≤ levels)
+next_value levels bytes v after front none other g d = absurd g
+next_value levels bytes v after front (first w ws) other g d =
     let s = split_first w ws bytes other g in
     let same = front.only w s.0 s.1 (omega arith) (ends_number ws s.0 other s.2) in
     (ws, ap (λ (x : Value). first x ws) same.0, subst (λ (x : List ℕ). Follows ws x other) same.1 s.2, omega arith)
 
--- behind a space the list goes on
+-- after a space the list goes on
 space_found : (levels : ℕ) (bytes : List ℕ) (read : List Value) (rest : List ℕ) (v : Value) (next : List ℕ) → IsUnderWay levels bytes read rest → IsFront levels rest v (space ∷ next)
     → (vs : Values) (other : List ℕ) → GoesOn vs next other → depth_of_all vs ≤ levels → Closes (joined read (first v vs)) bytes other × (depth_of_all (joined read (first v vs)) ≤ levels)
 space_found levels bytes read rest v next way front none other g d = absurd g
@@ -164,7 +164,7 @@ list_goes_on levels bytes read rest v next way front = record {
   only = λ ws other c d. let s = space_only levels bytes read rest v next way front ws other c d in (s.0, s.1 ∙ sym (joined_more read v s.0), s.2, s.3);
 }
 
--- behind a parenthesis the list is read
+-- after a parenthesis the list is read
 closes_here : (ws : Values) (tail other : List ℕ) → Follows ws (closing ∷ tail) other → (ws ≡ none) × (other ≡ tail)
 closes_here none tail other f = (refl, sym (tail_is closing closing tail other (follows_none (closing ∷ tail) other f)))
 closes_here (first w ws) tail other f = let s = split_space w ws (closing ∷ tail) other f in absurd (space_or_closing s.0 tail (sym s.1))
@@ -189,19 +189,19 @@ no_first levels bytes missing (first v vs) other g d =
     let s = split_first v vs bytes other g in
     missing v s.0 s.1 (omega arith) (ends_number vs s.0 other s.2)
 
--- the list stops where its next value doesn't begin, or where neither comes behind it
+-- the list stops where its next value doesn't begin, or where neither comes after it
 pub no_value : (levels : ℕ) (bytes : List ℕ) (read : List Value) (rest : List ℕ) → IsUnderWay levels bytes read rest → HasNoFront levels rest → HasNoListFront levels bytes
 no_value levels bytes read rest way missing ws other c d =
     let a = way.only ws other c d in
     no_first levels rest missing a.0 other a.2 a.3
 
-no_behind : (ws : Values) (behind other : List ℕ) → ((tail : List ℕ) → behind ≡ closing ∷ tail → ⊥) → ((next : List ℕ) → behind ≡ space ∷ next → ⊥) → Follows ws behind other → ⊥
-no_behind none behind other no_closing no_space f = no_closing other (follows_none behind other f)
-no_behind (first w ws) behind other no_closing no_space f = let s = split_space w ws behind other f in no_space s.0 s.1
+no_after : (ws : Values) (after other : List ℕ) → ((tail : List ℕ) → after ≡ closing ∷ tail → ⊥) → ((next : List ℕ) → after ≡ space ∷ next → ⊥) → Follows ws after other → ⊥
+no_after none after other no_closing no_space f = no_closing other (follows_none after other f)
+no_after (first w ws) after other no_closing no_space f = let s = split_space w ws after other f in no_space s.0 s.1
 
-pub no_next : (levels : ℕ) (bytes : List ℕ) (read : List Value) (rest : List ℕ) (v : Value) (behind : List ℕ) → IsUnderWay levels bytes read rest → IsFront levels rest v behind
-    → ((tail : List ℕ) → behind ≡ closing ∷ tail → ⊥) → ((next : List ℕ) → behind ≡ space ∷ next → ⊥) → HasNoListFront levels bytes
-no_next levels bytes read rest v behind way front no_closing no_space ws other c d =
+pub no_next : (levels : ℕ) (bytes : List ℕ) (read : List Value) (rest : List ℕ) (v : Value) (after : List ℕ) → IsUnderWay levels bytes read rest → IsFront levels rest v after
+    → ((tail : List ℕ) → after ≡ closing ∷ tail → ⊥) → ((next : List ℕ) → after ≡ space ∷ next → ⊥) → HasNoListFront levels bytes
+no_next levels bytes read rest v after way front no_closing no_space ws other c d =
     let a = way.only ws other c d in
-    let b = next_value levels rest v behind front a.0 other a.2 a.3 in
-    no_behind b.0 behind other no_closing no_space b.2
+    let b = next_value levels rest v after front a.0 other a.2 a.3 in
+    no_after b.0 after other no_closing no_space b.2

@@ -26,7 +26,7 @@ gives_value (Some bytes) (Some rest) input v taken (inr long) r = absurd (omega 
 
 -- ---- the layout
 
--- a beginning of the layout, which its line feed is missing behind
+-- a beginning of the layout, without its line feed
 begins : (o : RenderOptions) (v : Value) (old new : Option (List ℕ)) (front back : List ℕ) → bytes_in (layout_of o v) ≡ front ++ back → Appends old new front → WritesBeginning o v old new
 begins o v old new front back e appended = (
   front,
@@ -61,7 +61,7 @@ laid fails o v None new done rendered = ((layout_whole o v).0, (layout_whole o v
 laid fails o v (Some x) None done rendered = absurd rendered
 laid fails o v (Some x) (Some y) done rendered = rendered
 
--- ---- the line feed behind it
+-- ---- the line feed after it
 
 pub line_ended : {A : Type 0} (o : RenderOptions) (v : Value) (old mid new : Option (List ℕ)) (r : Result A RunError) → IsLaid o v old mid
     → OnOk r (Appends mid new (line_feed ∷ [])) → OnErr r (AppendsBeginning mid new (line_feed ∷ [])) → IfErr r IsWriting → Writes o v old new r

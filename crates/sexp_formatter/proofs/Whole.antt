@@ -1,4 +1,4 @@
--- An input that is read as a value begins with it, and ends behind it.
+-- An input that is read as a value begins with it, and ends after it.
 use Rattle.std.proofs.Common.{◌≡◌, ℕ, List, [], ◌∷◌, refl, sym, subst, inl, inr}
 use Rattle.std.proofs.lemmas.List.{append-nil}
 use Rattle.sexp_formatter.specs.Value.{Value}
@@ -14,13 +14,13 @@ line_front : (v : Value) (input : List ℕ) → IsLine v input → (rest : List 
 line_front v input (inl text) = ([], (input, sym (append-nil input), text), inl refl)
 line_front v input (inr line) = (line_feed ∷ [], (line.0, line.1, line.2), inr refl)
 
--- where no value stands in front, nothing is read
+-- where no value is in front, nothing is read
 pub nothing_read : (input : List ℕ) → HasNoFront 200 input → (v : Value) → Reads input v → ⊥
 nothing_read input missing v r =
     let f = line_front v input r.line in
     missing v f.0 f.1 r.nesting (end_ends_number f.0 f.2)
 
--- what is read is the front, and ends behind it
+-- what is read is the front, and ends after it
 pub front_is_read : (input : List ℕ) (w : Value) (rest : List ℕ) → IsFront 200 input w rest → (v : Value) → Reads input v → (v ≡ w) × IsEnd rest
 front_is_read input w rest front v r =
     let f = line_front v input r.line in

@@ -18,7 +18,7 @@ abbrev mutual
   interspersed none = Nil
   interspersed (first v vs) = followed_by (document_of v) vs
 
-  -- this tree, and behind it a line and a value for each
+  -- this tree, and after it a line and a value for each
   pub followed_by : Tree → Values → Tree
   followed_by front none = front
   followed_by front (first v vs) = followed_by (append (append front line) (document_of v)) vs

@@ -1,4 +1,4 @@
--- What bytes begin with, as a reader finds it from the left, and what is behind it.
+-- What bytes begin with, as a reader finds it from the left, and what is after it.
 use Rattle.std.specs.Prelude.{◌≡◌, ℕ, ◌≤◌, ◌⊎◌, false, List, [], ◌∷◌, ◌++◌}
 use Rattle.std.specs.Char.{is_ascii_digit}
 use Rattle.sexp_formatter.specs.Value.{Value, Values, number, depth, depth_of_all}
@@ -6,12 +6,12 @@ use Rattle.sexp_formatter.specs.Grammar.{closing, line_feed, IsText, AreTexts}
 use Rattle.sexp_formatter.specs.declared.error.RunError.{RunError}
 use Rattle.sexp_formatter.specs.declared.error.RunError.TheVariants.{NotAnSexp, Memory, Read, Write}
 
--- behind a number no digit comes
+-- after a number no digit comes
 abbrev pub EndsNumber : List ℕ → Type 0
 EndsNumber [] = Unit {0}
 EndsNumber (b ∷ bs) = is_ascii_digit b ≡ false
 
--- behind the whole value nothing comes, or one line feed
+-- after the whole value nothing comes, or one line feed
 abbrev pub IsEnd : List ℕ → Type 0
 IsEnd rest = (rest ≡ []) ⊎ (rest ≡ line_feed ∷ [])
 

@@ -40,7 +40,7 @@ abbrev mutual
   AreSpaced none text = text ≡ []
   AreSpaced (first v vs) text = (front : List ℕ) × (back : List ℕ) × (text ≡ space ∷ front ++ back) × IsText v front × AreSpaced vs back
 
--- the text of the value, with a line feed behind it or without
+-- the text of the value, with a line feed after it or without
 abbrev pub IsLine : Value → List ℕ → Type 0
 IsLine v line = IsText v line ⊎ ((text : List ℕ) × (line ≡ text ++ line_feed ∷ []) × IsText v text)
 

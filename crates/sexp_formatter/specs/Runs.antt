@@ -30,7 +30,7 @@ Writes o v old new (Err (Read e)) = ⊥
 Writes o v old new (Err (Memory e)) = WritesBeginning o v old new
 Writes o v old new (Err (Write e)) = WritesBeginning o v old new
 
--- The reader gave an input, all that it had where it tells its bytes, and that is read as the value.
+-- The reader gave an input, all that it had where its bytes are known, and that is read as the value.
 abbrev pub GivesValue : Option (List ℕ) → Value → Type 0
 GivesValue given v = (input : List ℕ) × IfSome given (λ bytes. bytes ≡ input) × Reads input v
 
@@ -38,7 +38,7 @@ GivesValue given v = (input : List ℕ) × IfSome given (λ bytes. bytes ≡ inp
 abbrev pub OfGiven : Option (List ℕ) → (Value → Type 0) → Type 0
 OfGiven given P = (v : Value) × GivesValue given v × P v
 
--- A run that was given bytes, where it tells them, and took what the writer holds from old to new. Where the input is
+-- A run that was given bytes, where they are known, and took what the writer holds from old to new. Where the input is
 -- refused no value is read from it. Where memory was refused nothing was written, or a beginning.
 abbrev pub Runs : {A : Type 0} → RenderOptions → Option (List ℕ) → Option (List ℕ) → Option (List ℕ) → Result A RunError → Type 0
 Runs o given old new (Ok done) = OfGiven given (λ v. WritesWhole o v old new)

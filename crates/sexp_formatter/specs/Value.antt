@@ -1,4 +1,4 @@
--- What an S-expression stands for, wherever it lies in memory.
+-- What an S-expression is, wherever it lies in memory.
 use Rattle.std.specs.Prelude.{ℕ, suc, max, List, [], ◌∷◌}
 
 mutual

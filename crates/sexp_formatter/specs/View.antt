@@ -1,4 +1,4 @@
--- The value that an `SExp` stands for.
+-- The value that an `SExp` has.
 use Rattle.std.specs.Prelude.{List, map}
 use Rattle.sexp_formatter.specs.Value.{Value, number, list, values_of}
 use Rattle.sexp_formatter.specs.declared.expression.SExp.{SExp}

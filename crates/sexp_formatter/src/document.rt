@@ -39,8 +39,8 @@ fn list<'a, D: DocPlace<'a>>(place: &'a D, inside: D::Doc) -> Result<D::Doc, Run
     Ok(inside.nest(1)?.group()?.parens()?.into_doc()?)
 }
 
-/// A document, the gap behind it and the next one.
-fn join_behind<'a, D: DocPlace<'a>>(
+/// A document, the gap after it and the next one.
+fn join_after<'a, D: DocPlace<'a>>(
     place: &'a D,
     all: D::Doc,
     gap: &D::Doc,
@@ -92,7 +92,7 @@ fn lines<'a>(arena: &'a Arena<'a>, expressions: &[SExp]) -> Result<RefDoc<'a>, R
     let gap = gap(arena)?;
     for expression in rest {
         let next = document(arena, expression)?;
-        all = join_behind(arena, all, &gap, next)?;
+        all = join_after(arena, all, &gap, next)?;
     }
     Ok(all)
 }

@@ -26,7 +26,7 @@ impl Ending {
         }
     }
 
-    /// What standard error is told, without a line's end.
+    /// What standard error gets, without the end of a line.
     pub fn message(self) -> &'static str
         ensures { result.now ≡ message_of self }
     {

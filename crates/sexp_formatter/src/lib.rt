@@ -6,7 +6,6 @@ mod ending;
 mod error;
 mod expression;
 mod input;
-mod number;
 mod output;
 pub mod parse;
 pub mod run;

@@ -6,7 +6,7 @@ use crate::error::RunError;
 use std::io;
 use std::io::{ErrorKind, Write};
 
-/// Writes the whole text, or fails behind a beginning of it that isn't all.
+/// Writes the whole text, or fails after a beginning of it that isn't all.
 ///
 /// An error of the writer, an interruption too, is answered as `Write`, and so is a write that takes nothing, with the
 /// kind `WriteZero`.

@@ -7,7 +7,7 @@ ghost use Rattle.sexp_formatter.specs.Fronts.{EndsNumber, IsEnd, IsNumberFront, 
 
 use crate::error::RunError;
 use crate::expression::SExp;
-use crate::number::number;
+use decimals::number;
 use std::alloc::Global;
 
 /// The most bytes that an input has.
@@ -28,7 +28,7 @@ fn digits_len(bytes: &[u8]) -> usize
         .unwrap_or(bytes.len())
 }
 
-/// The number that the bytes begin with, and the bytes behind its digits.
+/// The number that the bytes begin with, and the bytes after its digits.
 fn atom(bytes: &[u8]) -> Option<(u32, &[u8])>
     ensures some { IfSome result (λ x. IsNumberFront bytes.now x.0 x.1.now) }
     ensures none { IfNone result (HasNoNumberFront bytes.now) }
@@ -38,8 +38,8 @@ fn atom(bytes: &[u8]) -> Option<(u32, &[u8])>
     Some((value, rest))
 }
 
-/// The bytes behind this one, where they begin with it.
-fn behind(bytes: &[u8], byte: u8) -> Option<&[u8]>
+/// The bytes after this one, where they begin with it.
+fn after(bytes: &[u8], byte: u8) -> Option<&[u8]>
     ensures some { IfSome result (λ rest. bytes.now ≡ byte ∷ rest.now) }
     ensures none { IfNone result ((rest : List ℕ) → bytes.now ≡ byte ∷ rest → ⊥) }
 {
@@ -49,13 +49,13 @@ fn behind(bytes: &[u8], byte: u8) -> Option<&[u8]>
     }
 }
 
-/// The value that the bytes begin with, and the bytes behind it. At most this many parentheses are open at once.
+/// The value that the bytes begin with, and the bytes after it. At most this many parentheses are open at once.
 #[cycle(value)]
 fn value(alloc: Global, bytes: &[u8], levels: usize) -> Result<(SExp, &[u8]), RunError>
     ensures ok { IfOk result (λ x. IsFront levels bytes.now (value_of x.0) x.1.now) }
     ensures err { IfErr result (λ e. Refuses e (HasNoFront levels bytes.now)) }
 {
-    if let Some(inner) = behind(bytes, b'(') {
+    if let Some(inner) = after(bytes, b'(') {
         if levels == 0 {
             return Err(RunError::NotAnSexp);
         }
@@ -68,24 +68,24 @@ fn value(alloc: Global, bytes: &[u8], levels: usize) -> Result<(SExp, &[u8]), Ru
     }
 }
 
-/// The values of a list behind its opening parenthesis, and the bytes behind its closing one.
+/// The values of a list after its opening parenthesis, and the bytes after its closing one.
 #[cycle(value)]
 fn list(alloc: Global, bytes: &[u8], levels: usize) -> Result<(Vec<SExp>, &[u8]), RunError>
     ensures ok { IfOk result (λ x. IsListFront levels bytes.now (values_of (values_in x.0.items)) x.1.now) }
     ensures err { IfErr result (λ e. Refuses e (HasNoListFront levels bytes.now)) }
 {
     let mut items = Vec::new(alloc);
-    if let Some(rest) = behind(bytes, b')') {
+    if let Some(rest) = after(bytes, b')') {
         return Ok((items, rest));
     }
     let mut rest = bytes;
     loop {
         let (item, next) = value(alloc, rest, levels)?;
         items.push(item)?;
-        if let Some(end) = behind(next, b')') {
+        if let Some(end) = after(next, b')') {
             return Ok((items, end));
         }
-        match behind(next, b' ') {
+        match after(next, b' ') {
             Some(more) => rest = more,
             None => return Err(RunError::NotAnSexp),
         }
@@ -99,7 +99,7 @@ fn is_end(rest: &[u8]) -> bool
     matches!(rest, [] | [b'\n'])
 }
 
-/// The S-expression that the input is, whole: its text, and at most one LF behind it.
+/// The S-expression that the input is, whole: its text, and at most one LF after it.
 ///
 /// `NotAnSexp` where it is the text of none, and else `Memory` where memory is refused.
 pub fn parse(alloc: Global, input: &[u8]) -> Result<SExp, RunError>

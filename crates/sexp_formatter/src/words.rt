@@ -3,11 +3,11 @@ ghost use Rattle.std.specs.String.{string_bytes};
 ghost use Rattle.prettyless_model.specs.declared.options.RenderOptions.{RenderOptions as Options};
 ghost use Rattle.sexp_formatter.specs.Words.{AskFor};
 
-use crate::number::number;
+use decimals::number;
 use prettyless::{IndentationPolicy, LineEnding, RenderOptions};
 
-/// The words behind this one, where they begin with it.
-fn behind<'w>(words: &'w [String], word: &str) -> Option<&'w [String]>
+/// The words after this one, where they begin with it.
+fn after<'w>(words: &'w [String], word: &str) -> Option<&'w [String]>
     ensures some { IfSome result (λ rest. map string_bytes words.now
         ≡ word.now ∷ map string_bytes rest.now) }
     ensures none { IfNone result ((rest : List (List ℕ)) → map string_bytes words.now
@@ -17,20 +17,20 @@ fn behind<'w>(words: &'w [String], word: &str) -> Option<&'w [String]>
     (first.as_str() == word).then_some(rest)
 }
 
-/// The options that the program's words ask for: a width in columns, as decimal digits of a value below 2^64; behind it
-/// `crlf`, for lines that end in CR LF; and behind that `deferred`, for indents that are written late. Either may be
-/// missing, and nothing else may stand there.
+/// The options that the program's words ask for: a width in columns, as decimal digits of a value below 2^64; after it
+/// `crlf`, for lines that end in CR LF; and after that `deferred`, for indents that are written late. Either may be
+/// missing, and nothing else may follow.
 pub fn options(words: &[String]) -> Option<RenderOptions>
     ensures some { IfSome result (AskFor words.now) }
     ensures none { IfNone result ((options : Options) → AskFor words.now options → ⊥) }
 {
     let (width, words) = words.split_first()?;
     let width = number(width.as_bytes())?;
-    let (line_ending, words) = match behind(words, "crlf") {
+    let (line_ending, words) = match after(words, "crlf") {
         Some(rest) => (LineEnding::Crlf, rest),
         None => (LineEnding::Lf, words),
     };
-    let (indentation_policy, words) = match behind(words, "deferred") {
+    let (indentation_policy, words) = match after(words, "deferred") {
         Some(rest) => (IndentationPolicy::Deferred, rest),
         None => (IndentationPolicy::Eager, words),
     };

@@ -11,7 +11,7 @@ fn answers_lines(rt: HostRuntime) -> Result<(), Fail> {
     run(rt.alloc(), &mut input, &mut IoWrite::new(&mut written))?;
     assert_eq!(rt;
         written.as_slice(),
-        b"ok 0d0a\nerror not a case\nok c3a4\n".as_slice()
+        b"ok 0d0a\nerror line 4: expected WIDTH lf|crlf eager|deferred NODE\nok c3a4\n".as_slice()
     );
     Ok(())
 }

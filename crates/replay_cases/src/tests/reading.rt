@@ -1,5 +1,6 @@
+use crate::expected::Expected;
 use crate::hexadecimal::{text, word_of};
-use crate::number::{number, offset};
+use crate::offset::offset;
 use crate::refusal::Refusal;
 use crate::replayed::replayed;
 use std::test::Fail;
@@ -26,19 +27,23 @@ fn lays_out_cases(rt: HostRuntime) -> Result<(), Fail> {
 
 #[test]
 fn refuses_lines(rt: HostRuntime) {
-    for line in [
-        "80 lf eager",
-        "80 lf eager nil nil",
-        "80 lf eager app nil",
-        "80 lf eager t 6",
-        "80 lf eager m 61",
+    for (line, missing) in [
+        ("80 lf", Expected::Case),
+        ("-1 lf eager nil", Expected::Width),
+        ("80 cr eager nil", Expected::LineEnding),
+        ("80 lf late nil", Expected::IndentationPolicy),
+        ("80 lf eager", Expected::Document),
+        ("80 lf eager app nil", Expected::Document),
+        ("80 lf eager t 6", Expected::Text),
+        ("80 lf eager w -1 61", Expected::Columns),
+        ("80 lf eager nest x nil", Expected::Offset),
+        ("80 lf eager m 61", Expected::Payload),
+        ("80 lf eager nil nil", Expected::End),
     ] {
-        assert!(rt;
-            matches!(
-                replayed(rt.alloc(), line.as_bytes()),
-                Err(Refusal::NotACase)
-            )
-        );
+        match replayed(rt.alloc(), line.as_bytes()) {
+            Err(Refusal::NotACase(expected)) => assert_eq!(rt; expected, missing),
+            _ => panic!(rt; "{line} is not refused"),
+        }
     }
 }
 
@@ -68,15 +73,18 @@ fn texts_are_words(rt: HostRuntime) -> Result<(), Fail> {
     assert_eq!(rt; word_of(rt.alloc(), b"".as_slice())?.as_str(), "-");
     assert_eq!(rt; text(rt.alloc(), b"41c3a40a")?.as_str(), "Aä\n");
     for word in ["", "4", "4G", "4A", "ff"] {
-        assert!(rt; matches!(text(rt.alloc(), word.as_bytes()), Err(Refusal::NotACase)));
+        assert!(rt;
+            matches!(
+                text(rt.alloc(), word.as_bytes()),
+                Err(Refusal::NotACase(Expected::Text))
+            )
+        );
     }
     Ok(())
 }
 
 #[test]
-fn numbers_are_words(rt: HostRuntime) {
-    assert_eq!(rt; number(b"18446744073709551615"), Some(u64::MAX as usize));
-    assert_eq!(rt; number(b"18446744073709551616"), None);
+fn offsets_are_words(rt: HostRuntime) {
     assert_eq!(rt; offset(b"-9223372036854775808"), Some(isize::MIN));
     assert_eq!(rt; offset(b"9223372036854775807"), Some(isize::MAX));
     assert_eq!(rt; offset(b"9223372036854775808"), None);

@@ -37,7 +37,7 @@ fn a_word_of_digits_is_a_width(rt: HostRuntime) -> Result<(), Fail> {
 }
 
 #[test]
-fn words_behind_a_width_choose(rt: HostRuntime) -> Result<(), Fail> {
+fn words_after_a_width_choose(rt: HostRuntime) -> Result<(), Fail> {
     for (texts, line_ending, indentation_policy) in [
         (
             ["5", "crlf"].as_slice(),

@@ -186,7 +186,7 @@ fn deep_inputs_are_refused(rt: HostRuntime) -> Result<(), Fail> {
     Ok(())
 }
 
-/// Each read fails in turn, also one behind what is no S-expression, and the one that finds the end.
+/// Each read fails in turn, also one after what is no S-expression, and the one that finds the end.
 #[test]
 fn a_failing_reader_ends_the_run(rt: HostRuntime) {
     for (input, reads, ending) in [

@@ -11,7 +11,7 @@ returns-in_err-take_text-in-Text-clause-err c =
 pub returns-in_err-text-in-TextWithLen-clause-err : goal.returns-in_err-text-in-TextWithLen-clause-err
 returns-in_err-text-in-TextWithLen-clause-err c =
     let p = err_from_is_err_and c.from_residual-in_err-text-in-TextWithLen.result c.from_residual-in_err-text-in-TextWithLen.ensures.1 in
-    rw (p.1, p.2) (counted_text_refused c.args.operator (items_of c.args.operands.now.items) _ _ _ c.in-TextWithLen.is c.in_ok-take_word-in-TextWithLen.ensures.ok c.in_err-text-in-TextWithLen.ensures.err)
+    rw (p.1, p.2) (counted_text_refused c.args.operator (items_of c.args.operands.now.items) _ _ _ c.in-TextWithLen.is c.in_ok-word-in-TextWithLen.ensures.ok c.in_err-text-in-TextWithLen.ensures.err)
 
 pub returns-in_err-take_payload-in-Payload-clause-err : goal.returns-in_err-take_payload-in-Payload-clause-err
 returns-in_err-take_payload-in-Payload-clause-err c =

@@ -22,24 +22,24 @@ list-returns-in_err-item-clause-err t c =
     rw (p.1, p.2) (refuses_more c.in_err-item.field-0.0 (HasNoFront c.args.levels l.rest.now) (HasNoListFront c.args.levels c.args.bytes.now)
     (no_value c.args.levels c.args.bytes.now (values_in l.items.items) l.rest.now l.invariant) c.in_err-item.ensures.err)
 
-pub list-returns-in-Some-behind-clause-ok : goal.list-returns-in-Some-behind-clause-ok
-list-returns-in-Some-behind-clause-ok t c =
+pub list-returns-in-Some-after-clause-ok : goal.list-returns-in-Some-after-clause-ok
+list-returns-in-Some-after-clause-ok t c =
     let l = c.loop-items in
-    let front = rw c.in-Some-behind.ensures.some at c.in_ok-item.ensures.ok in
+    let front = rw c.in-Some-after.ensures.some at c.in_ok-item.ensures.ok in
     rw (c.in_ok-push.ensures.items, map_push value_of l.items.items c.in_ok-item.item)
-    (list_closes c.args.levels c.args.bytes.now (values_in l.items.items) l.rest.now (value_of c.in_ok-item.item) c.in-Some-behind.end.now l.invariant front)
+    (list_closes c.args.levels c.args.bytes.now (values_in l.items.items) l.rest.now (value_of c.in_ok-item.item) c.in-Some-after.end.now l.invariant front)
 
 pub list-loop-items-preserved : goal.list-loop-items-preserved
 list-loop-items-preserved t c =
     let l = c.loop-items in
-    let front = rw c.in-Some-behind-2.ensures.some at c.in_ok-item.ensures.ok in
+    let front = rw c.in-Some-after-2.ensures.some at c.in_ok-item.ensures.ok in
     rw (c.in_ok-push.ensures.items, map_push value_of l.items.items c.in_ok-item.item)
-    (list_goes_on c.args.levels c.args.bytes.now (values_in l.items.items) l.rest.now (value_of c.in_ok-item.item) c.in-Some-behind-2.more.now l.invariant front)
+    (list_goes_on c.args.levels c.args.bytes.now (values_in l.items.items) l.rest.now (value_of c.in_ok-item.item) c.in-Some-after-2.more.now l.invariant front)
 
 pub list-returns-in-None-clause-err : goal.list-returns-in-None-clause-err
 list-returns-in-None-clause-err t c =
     let l = c.loop-items in
-    no_next c.args.levels c.args.bytes.now (values_in l.items.items) l.rest.now (value_of c.in_ok-item.item) c.in_ok-item.next.now l.invariant c.in_ok-item.ensures.ok c.in_default-behind.ensures.none c.in-None.ensures.none
+    no_next c.args.levels c.args.bytes.now (values_in l.items.items) l.rest.now (value_of c.in_ok-item.item) c.in_ok-item.next.now l.invariant c.in_ok-item.ensures.ok c.in_default-after.ensures.none c.in-None.ensures.none
 
 -- ---- value
 

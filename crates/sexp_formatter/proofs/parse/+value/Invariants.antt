@@ -3,7 +3,7 @@ use Rattle.sexp_formatter.specs.View.{values_in}
 use Rattle.sexp_formatter.proofs.Fronts.{IsUnderWay}
 use Rattle.sexp_formatter.proofs.parse.+value.Given as goal
 
--- a list stands above its values, and a value above the list that it opens
+-- a list is above its values, and a value above the list that it opens
 abbrev pub decreases-list : goal.decreases-list
 decreases-list l = 2 * l.levels + 1
 

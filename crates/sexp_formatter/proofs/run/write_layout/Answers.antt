@@ -11,13 +11,13 @@ returns-in-Ok g c =
     let v = value_of c.args.expression.now in
     let old = g.W.Write.contents c.args.writer.now in
     let mid = g.W.Write.contents c.render_with.new.out in
-    let whole = laid _ c.args.options v old mid tt (rw (c.doc.ensures, c.in_ok-document.ensures.ok) at c.in-Ok.ensures.told) in
+    let whole = laid _ c.args.options v old mid tt (rw (c.doc.ensures, c.in_ok-document.ensures.ok) at c.in-Ok.ensures.bytes) in
     let w = c.write_text.ensures in
     line_ended c.args.options v old mid (g.W.Write.contents c.write_text.new.writer) c.write_text.result whole w.ok w.beginning w.err
 
 pub returns-in-Err-Memory : goal.returns-in-Err-Memory
 returns-in-Err-Memory g c =
-    begun (Unit {0}) _ c.args.options (value_of c.args.expression.now) (g.W.Write.contents c.args.writer.now) (g.W.Write.contents c.render_with.new.out) c.in-Err-Memory.field-0 (rw (c.doc.ensures, c.in_ok-document.ensures.ok) at c.in-Err-Memory.ensures.told)
+    begun (Unit {0}) _ c.args.options (value_of c.args.expression.now) (g.W.Write.contents c.args.writer.now) (g.W.Write.contents c.render_with.new.out) c.in-Err-Memory.field-0 (rw (c.doc.ensures, c.in_ok-document.ensures.ok) at c.in-Err-Memory.ensures.bytes)
 
 pub returns-in-Err-Sink : goal.returns-in-Err-Sink
-returns-in-Err-Sink g c = begun (Unit {0}) _ c.args.options (value_of c.args.expression.now) (g.W.Write.contents c.args.writer.now) (g.W.Write.contents c.render_with.new.out) c.in-Err-Sink.field-0 (rw (c.doc.ensures, c.in_ok-document.ensures.ok) at c.in-Err-Sink.ensures.told)
+returns-in-Err-Sink g c = begun (Unit {0}) _ c.args.options (value_of c.args.expression.now) (g.W.Write.contents c.args.writer.now) (g.W.Write.contents c.render_with.new.out) c.in-Err-Sink.field-0 (rw (c.doc.ensures, c.in_ok-document.ensures.ok) at c.in-Err-Sink.ensures.bytes)

@@ -1,0 +1,49 @@
+-- What a render of a document leaves.
+use Rattle.std.specs.Prelude.{◌≡◌, ◌+◌, ◌*◌, ◌-◌, ◌^◌, ◌≤◌, ℕ, List, Option, Result, min, IfOk, OnOk}
+use Rattle.std.specs.Borrow.{GName}
+use Rattle.prettyless_model.specs.Content.{AppendsContent, AppendsKnownContent, suffix_depth}
+use Rattle.prettyless_model.specs.Counts.{laid_nodes, laid_probes}
+use Rattle.prettyless_model.specs.Layout.{layout}
+use Rattle.prettyless_model.specs.Tree.{Tree, size, probed}
+use Rattle.prettyless_model.specs.declared.options.RenderOptions.{RenderOptions}
+use Rattle.prettyless_printer.specs.Renders.{Rendered, RendersKnown}
+use Rattle.prettyless_sink.specs.Sink.{IfKnown}
+use Rattle.prettyless_sink.specs.declared.error.RenderError.{RenderError}
+use Rattle.prettyless_sink.specs.declared.visits.Visits.{Visits}
+
+-- A render of the tree d to a sink, and its result. The sink writes through `lender`, then through `lender_after`; its
+-- bytes are `old`, then `new`, where they are known; its count of failures is n, then m. `fails` holds of the errors
+-- that say that the document fails.
+pub record RendersDoc {A E : Type 0} (o : RenderOptions) (d : Tree) (fails : E → Type 0) (lender lender_after : Option GName) (old new : Option (List ℕ)) (n m : ℕ) (result : Result A (RenderError E)) : Type 0 where
+  -- The sink writes through the same reference as before, if it has one.
+  pub same_lender : lender_after ≡ lender
+  -- Known bytes stay known, and grow by bytes of the layout. `Ok`: the layout is whole, and by exactly its bytes.
+  -- `Document`: the layout fails, by exactly the bytes before its failing node, and the error says that it fails.
+  -- `Sink`: by a beginning of the layout's bytes, and the failures rose by one. `Memory`: by a beginning. Where the
+  -- answer is not `Sink`, the failures stay.
+  pub bytes : IfKnown old new (λ before after. Rendered fails (layout o d) before after n m result)
+  -- `Ok`, where the bytes are known: what was appended has the document's content. Where the document spells a word,
+  -- it is that word but for spaces, CR and LF: in order without line suffixes, else each byte as often.
+  pub content : IfKnown old new (λ before after. IfOk result (λ _. AppendsContent d before after))
+
+-- The same of a writer that is lent to the call: its bytes are `old`, then `new`, where they are known.
+pub record RendersDocInto {A E : Type 0} (o : RenderOptions) (d : Tree) (fails : E → Type 0) (old new : Option (List ℕ)) (result : Result A (RenderError E)) : Type 0 where
+  -- Known bytes stay known, and grow by bytes of the layout. `Ok`: the layout is whole, and by exactly its bytes.
+  -- `Document`: the layout fails, by exactly the bytes before its failing node, and the error says that it fails.
+  -- `Sink` and `Memory`: by a beginning of the layout's bytes.
+  pub bytes : RendersKnown fails (layout o d) old new result
+  -- `Ok`, where the bytes are known: what was appended has the document's content.
+  pub content : IfOk result (λ _. AppendsKnownContent d old new)
+
+-- The visits of a render of the tree d, whose counts are v before and w after.
+pub record CountsVisits {A E : Type 0} (o : RenderOptions) (d : Tree) (v w : Visits) (result : Result A E) : Type 0 where
+  -- No count falls.
+  pub rise : (v.printer ≤ w.printer) × (v.probes ≤ w.probes)
+  -- Without line suffixes the printer visits each node at most once, whatever the answer.
+  pub printer : suffix_depth d ≡ 0 → w.printer ≤ v.printer + size d
+  -- Without line suffixes each group and partial union asks one probe, which visits each node at most once.
+  pub probes : suffix_depth d ≡ 0 → w.probes ≤ v.probes + size d * probed d
+  -- `Ok`: the printer visits at least the nodes that the layout lays, up to the greatest count.
+  pub laid : OnOk result (min (v.printer + laid_nodes o d) (2 ^ 64 - 1) ≤ w.printer)
+  -- `Ok`: the probes visit at least one node for each probe that the layout asks, up to the greatest count.
+  pub asked : OnOk result (min (v.probes + laid_probes o d) (2 ^ 64 - 1) ≤ w.probes)

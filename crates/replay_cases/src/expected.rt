@@ -1,0 +1,43 @@
+ghost use Rattle.std.specs.Prelude.{◌≡◌};
+
+/// What a line that writes no case was expected to have.
+#[derive(Clone, Copy, Debug, PartialEq, Eq)]
+pub enum Expected {
+    /// Three words and a document.
+    Case,
+    Width,
+    LineEnding,
+    IndentationPolicy,
+    Document,
+    Text,
+    /// The columns that a text counts as.
+    Columns,
+    /// The columns that a nesting adds.
+    Offset,
+    /// A text that a payload is made of.
+    Payload,
+    /// Nothing after the document.
+    End,
+}
+
+impl Expected {
+    ghost use Rattle.replay_cases.specs.Refusals.{description_of};
+
+    /// The same in words.
+    pub fn description(self) -> &'static str
+        ensures { result.now ≡ description_of self }
+    {
+        match self {
+            Expected::Case => "WIDTH lf|crlf eager|deferred NODE",
+            Expected::Width => "a width in decimal, below 2^64",
+            Expected::LineEnding => "lf or crlf",
+            Expected::IndentationPolicy => "eager or deferred",
+            Expected::Document => "a document",
+            Expected::Text => "a text in hexadecimal, lower case, or -",
+            Expected::Columns => "a number of columns in decimal, below 2^64",
+            Expected::Offset => "a number of columns in decimal, from -2^63 on and below 2^63",
+            Expected::Payload => "a text that holds LF or CR",
+            Expected::End => "nothing after the document",
+        }
+    }
+}
