@@ -3,7 +3,7 @@ use Rattle.std.proofs.Common.{◌≡◌, refl, sym, ◌∙◌, ap, true, List, [
 use Rattle.std.specs.Iterator.{Drains}
 use Rattle.std.specs.List.{FoldsTo}
 use Rattle.prettyless_doc.specs.DocTree.{is_nil}
-use Rattle.prettyless_doc.specs.Tree.{Tree, Nil, Fail, Text, TextWithLen, MultilineText, WeakSpace, HardLine, WeakLine, Append, LineSuffix, Nest, DedentToRoot, Align, ExpandParent, Flatten, BreakOrFlat, Group, Union, PartialUnion}
+use Rattle.prettyless_doc.specs.Tree.{Tree, Nil}
 use Rattle.prettyless_build.specs.Built.{append, appends}
 use Rattle.prettyless_build.specs.Iterated.{GivesNext, GivesTwo, appends_after}
 
@@ -27,46 +27,12 @@ module _ {S A : Type 0} (steps : S → Option A → S → Type 0) (it j : S) (x 
 -- nothing appended
 append_nothing : (x : Tree) → append x Nil ≡ x
 append_nothing Nil = refl
-append_nothing Fail = refl
-append_nothing (Text a) = refl
-append_nothing (TextWithLen a b) = refl
-append_nothing (MultilineText a) = refl
-append_nothing WeakSpace = refl
-append_nothing HardLine = refl
-append_nothing WeakLine = refl
-append_nothing (Append a b) = refl
-append_nothing (LineSuffix a) = refl
-append_nothing (Nest a b) = refl
-append_nothing (DedentToRoot a) = refl
-append_nothing (Align a) = refl
-append_nothing ExpandParent = refl
-append_nothing (Flatten a) = refl
-append_nothing (BreakOrFlat a b) = refl
-append_nothing (Group a) = refl
-append_nothing (Union a b) = refl
-append_nothing (PartialUnion a b) = refl
+append_nothing _ = refl
 
 -- the tree of which it is said is Nil
 pub nil_from : (x : Tree) → is_nil x ≡ true → x ≡ Nil
 nil_from Nil e = refl
-nil_from Fail e = cc
-nil_from (Text a) e = cc
-nil_from (TextWithLen a b) e = cc
-nil_from (MultilineText a) e = cc
-nil_from WeakSpace e = cc
-nil_from HardLine e = cc
-nil_from WeakLine e = cc
-nil_from (Append a b) e = cc
-nil_from (LineSuffix a) e = cc
-nil_from (Nest a b) e = cc
-nil_from (DedentToRoot a) e = cc
-nil_from (Align a) e = cc
-nil_from ExpandParent e = cc
-nil_from (Flatten a) e = cc
-nil_from (BreakOrFlat a b) e = cc
-nil_from (Group a) e = cc
-nil_from (Union a b) e = cc
-nil_from (PartialUnion a b) e = cc
+nil_from _ e = cc
 
 -- with nothing between them, trees are appended
 pub between_nothing : {A : Type 0} (R : A → Tree → Type 0) (s : Tree) (xs : List A) (a z : Tree) → s ≡ Nil

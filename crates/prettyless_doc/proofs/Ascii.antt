@@ -1,5 +1,5 @@
 -- `is_ascii` by its bytes.
-use Rattle.std.proofs.Common.{◌≡◌, ℕ, suc, zero, ◌+◌, ◌<◌, ◌≤◌, ◌∙◌, ap, add-one, Bool, true, false, List, [], ◌∷◌, length, take, get_or, MatchBool, nat_lt, cond, sym, refl, arith}
+use Rattle.std.proofs.Common.{◌≡◌, ℕ, suc, zero, ◌+◌, ◌<◌, ◌≤◌, ◌∙◌, ap, add-one, Bool, true, false, List, [], ◌∷◌, length, take, get_or, MatchBool, nat_lt, ◌&&◌, sym, refl, arith}
 use Rattle.std.specs.Str.{IsAscii, IsNotAscii}
 use Rattle.std.proofs.lemmas.Bool.{lt-ltb, le-ltb}
 use Rattle.prettyless_model.specs.Metrics.{is_ascii}
@@ -12,7 +12,7 @@ ascii-false : (s : List ℕ) (i : ℕ) → 128 ≤ get_or s i 0 → is_ascii s �
 ascii-false [] i h = absurd (omega arith)
 ascii-false (b ∷ s) zero h = rw (le-ltb b 128 h) refl
 ascii-false (b ∷ s) (suc i) h =
-    elim (nat_lt b 128) as (λ t. cond t (is_ascii s) false ≡ false) [ true ↦ ascii-false s i h | false ↦ refl ]
+    elim (nat_lt b 128) as (λ t. t && is_ascii s ≡ false) [ true ↦ ascii-false s i h | false ↦ refl ]
 
 -- the test of std answers it
 pub same_ascii : (r : Bool) (s : List ℕ) → MatchBool r (IsAscii s) (IsNotAscii s) → r ≡ is_ascii s
@@ -29,7 +29,7 @@ above-next : (s : List ℕ) (i : ℕ) → i < length s → 128 ≤ get_or s i 0 
 above-next [] i l h = absurd (omega arith)
 above-next (b ∷ s) zero l h = rw (le-ltb b 128 h) refl
 above-next (b ∷ s) (suc i) l h =
-    elim (nat_lt b 128) as (λ t. cond t (is_ascii (take (suc i) s)) false ≡ false)
+    elim (nat_lt b 128) as (λ t. t && is_ascii (take (suc i) s) ≡ false)
     [ true ↦ above-next s i (omega arith) h | false ↦ refl ]
 
 -- one byte more, which is ASCII

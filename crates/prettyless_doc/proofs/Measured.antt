@@ -1,6 +1,7 @@
 -- The metrics of a payload, found a part at a time.
 use Rattle.std.proofs.Common.{◌≡◌, ℕ, suc, ◌∙◌, ap, Bool, true, false, not, List, [], ◌∷◌, length, max, Option, Some, None, cond, sym, refl, arith}
-use Rattle.prettyless_model.specs.Metrics.{is_break, on_first, parts, text_width, is_empty, widest, first_of_parts, later_parts, last_of_parts, metrics}
+use Rattle.std.specs.List.{onto_first}
+use Rattle.prettyless_model.specs.Metrics.{is_break, parts, text_width, is_empty, widest, first_of_parts, later_parts, last_of_parts, metrics}
 use Rattle.prettyless_model.specs.declared.metrics.Metrics.{Metrics}
 
 -- how much of a text is left, with the break in front of it
@@ -46,17 +47,17 @@ measured-all first rest p (q ∷ ps) =
     measured-all first (max rest (text_width q)) q ps
     ∙ ap (λ n. metrics_of first n (last_of_parts q ps)) (max-assoc rest (text_width q) (widest ps))
 
-on_first-cons : (b : ℕ) (ps : List (List ℕ)) → on_first b ps ≡ first_of_parts (on_first b ps) ∷ later_parts (on_first b ps)
-on_first-cons b [] = refl
-on_first-cons b (p ∷ ps) = refl
+onto_first-cons : (b : ℕ) (ps : List (List ℕ)) → onto_first b ps ≡ first_of_parts (onto_first b ps) ∷ later_parts (onto_first b ps)
+onto_first-cons b [] = refl
+onto_first-cons b (p ∷ ps) = refl
 
 -- there is a first part
 parts-cons : (s : List ℕ) → parts s ≡ first_of_parts (parts s) ∷ later_parts (parts s)
 parts-cons [] = refl
 parts-cons (b ∷ s) =
     elim (is_break b)
-    as (λ t. let ps = cond t ([] ∷ parts s) (on_first b (parts s)) in ps ≡ first_of_parts ps ∷ later_parts ps)
-    [ true ↦ refl | false ↦ on_first-cons b (parts s) ]
+    as (λ t. let ps = cond t ([] ∷ parts s) (onto_first b (parts s)) in ps ≡ first_of_parts ps ∷ later_parts ps)
+    [ true ↦ refl | false ↦ onto_first-cons b (parts s) ]
 
 -- a text by its first part
 pub record Splits (s : List ℕ) (width : ℕ) (nonempty : Bool) (left : List (List ℕ)) : Type 0 where

@@ -1,9 +1,9 @@
 -- The parts of a text, by where its first part ends.
 use Rattle.std.proofs.Common.{◌≡◌, ℕ, suc, zero, ◌+◌, ◌<◌, ◌≤◌, ◌∙◌, ap, add-one, true, false, not, List, [], ◌∷◌, length, take, drop, nat_lt, cond, sym, refl, arith}
 use Rattle.std.proofs.Math.Nat.{sub-zero}
-use Rattle.std.specs.List.{slice_range}
+use Rattle.std.specs.List.{onto_first, slice_range}
 use Rattle.std.proofs.lemmas.Bool.{lt-ltb}
-use Rattle.prettyless_model.specs.Metrics.{is_break, on_first, parts, is_empty, first_of_parts, later_parts}
+use Rattle.prettyless_model.specs.Metrics.{is_break, parts, is_empty, first_of_parts, later_parts}
 use Rattle.prettyless_doc.specs.Breaks.{EndsFirstPart}
 
 EndsFirstPart-tail : (b : ℕ) (s : List ℕ) (n : ℕ) → EndsFirstPart (b ∷ s) (suc n) → EndsFirstPart s n
@@ -14,11 +14,11 @@ EndsFirstPart-tail b s n h = record {
 }
 
 -- a byte that is no break belongs to the first part
-parts-plain : (b : ℕ) (s : List ℕ) → is_break b ≡ false → parts (b ∷ s) ≡ on_first b (parts s)
-parts-plain b s h = ap (λ t. cond t ([] ∷ parts s) (on_first b (parts s))) h
+parts-plain : (b : ℕ) (s : List ℕ) → is_break b ≡ false → parts (b ∷ s) ≡ onto_first b (parts s)
+parts-plain b s h = ap (λ t. cond t ([] ∷ parts s) (onto_first b (parts s))) h
 
 parts-cut : (b : ℕ) (s : List ℕ) → is_break b ≡ true → parts (b ∷ s) ≡ [] ∷ parts s
-parts-cut b s h = ap (λ t. cond t ([] ∷ parts s) (on_first b (parts s))) h
+parts-cut b s h = ap (λ t. cond t ([] ∷ parts s) (onto_first b (parts s))) h
 
 -- the parts after a break at n
 abbrev parts_behind : List ℕ → ℕ → List (List ℕ)
@@ -31,7 +31,7 @@ parts-first [] zero h = refl
 parts-first [] (suc n) h = refl
 parts-first (b ∷ s) zero h = parts-cut b s (h.found (omega arith))
 parts-first (b ∷ s) (suc n) h =
-    parts-plain b s (h.before 0 (omega arith)) ∙ ap (on_first b) (parts-first s n (EndsFirstPart-tail b s n h))
+    parts-plain b s (h.before 0 (omega arith)) ∙ ap (onto_first b) (parts-first s n (EndsFirstPart-tail b s n h))
 
 parts_behind-inside : (s : List ℕ) (n : ℕ) → n < length s → parts_behind s n ≡ parts (drop (suc n) s)
 parts_behind-inside [] n l = absurd (omega arith)

@@ -1,31 +1,23 @@
 -- The content of a layout: what a document spells is what its layout writes, but for space, CR and LF.
 use Rattle.std.specs.Prelude.{◌≡◌, ℕ, ◌+◌, ◌≤◌, max, ◌==◌, List, [], ◌∷◌, ◌++◌, Option, Some, ◌⊎◌, ⊤, count_by}
 use Rattle.prettyless_model.specs.declared.options.RenderOptions.{RenderOptions}
-use Rattle.prettyless_model.specs.Tree.{Tree, Nil, Fail, Text, TextWithLen, MultilineText, WeakSpace, HardLine, WeakLine, Append, LineSuffix, Nest, DedentToRoot, Align, ExpandParent, Flatten, BreakOrFlat, Group, Union, PartialUnion}
+use Rattle.prettyless_model.specs.Tree.{Tree, Append, LineSuffix, Nest, DedentToRoot, Align, Flatten, BreakOrFlat, Group, Union, PartialUnion}
 use Rattle.prettyless_model.specs.Layout.{Whole, layout}
 use Rattle.prettyless_model.specs.Spelling.{ink, spells, parts}
 
 -- how deep line suffixes are in one another: 0 where there are none, 1 where none is inside another
 abbrev pub suffix_depth : Tree → ℕ
-suffix_depth Nil = 0
-suffix_depth Fail = 0
-suffix_depth (Text s) = 0
-suffix_depth (TextWithLen w s) = 0
-suffix_depth (MultilineText s) = 0
-suffix_depth WeakSpace = 0
-suffix_depth HardLine = 0
-suffix_depth WeakLine = 0
 suffix_depth (Append l r) = max (suffix_depth l) (suffix_depth r)
 suffix_depth (LineSuffix d) = suffix_depth d + 1
 suffix_depth (Nest k d) = suffix_depth d
 suffix_depth (DedentToRoot d) = suffix_depth d
 suffix_depth (Align d) = suffix_depth d
-suffix_depth ExpandParent = 0
 suffix_depth (Flatten d) = suffix_depth d
 suffix_depth (BreakOrFlat b f) = max (suffix_depth b) (suffix_depth f)
 suffix_depth (Group d) = suffix_depth d
 suffix_depth (Union l r) = max (suffix_depth l) (suffix_depth r)
 suffix_depth (PartialUnion l r) = max (suffix_depth l) (suffix_depth r)
+suffix_depth _ = 0
 
 -- how often a byte occurs
 abbrev pub count : ℕ → List ℕ → ℕ

@@ -38,22 +38,12 @@ counted_accept o (Failed b) first second = second
 
 -- The weights of the nodes that are laid, added up: of a node, and of those below it that `lay` goes on with.
 unfoldable pub tally : RenderOptions → Tree → ℕ → Mode → List Entry → State → Weight → ℕ
-tally o t.Nil i m rest st w = w t.Nil m
-tally o t.Fail i m rest st w = w t.Fail m
-tally o (t.Text s) i m rest st w = w (t.Text s) m
-tally o (t.TextWithLen n s) i m rest st w = w (t.TextWithLen n s) m
-tally o (t.MultilineText s) i m rest st w = w (t.MultilineText s) m
-tally o t.WeakSpace i m rest st w = w t.WeakSpace m
-tally o t.HardLine i m rest st w = w t.HardLine m
-tally o t.WeakLine i m rest st w = w t.WeakLine m
 tally o (t.Append l r) i m rest st w =
     w (t.Append l r) m + (tally o l i m (entry i r ∷ rest) st w
     + counted_then (lay o (settle o) l i m (entry i r ∷ rest) st) (λ u. tally o r i m rest u w))
-tally o (t.LineSuffix d) i m rest st w = w (t.LineSuffix d) m
 tally o (t.Nest k d) i m rest st w = w (t.Nest k d) m + tally o d (nested i k) m rest st w
 tally o (t.DedentToRoot d) i m rest st w = w (t.DedentToRoot d) m + tally o d 0 m rest st w
 tally o (t.Align d) i m rest st w = w (t.Align d) m + tally o d (prospective st.column) m rest st w
-tally o t.ExpandParent i m rest st w = w t.ExpandParent m
 tally o (t.Flatten d) i m rest st w = w (t.Flatten d) m + tally o d i Flat rest st w
 tally o (t.BreakOrFlat b f) i m rest st w =
     w (t.BreakOrFlat b f) m + by_mode m (tally o b i m rest st w) (tally o f i m rest st w)
@@ -67,6 +57,8 @@ tally o (t.PartialUnion l r) i m rest st w =
     w (t.PartialUnion l r) m + by_mode m
     (if probe o l Break rest st then tally o l i m rest st w else tally o r i m rest st w)
     (tally o l i m rest st w)
+-- a node with no document below it, or a line suffix, whose document is laid at the end of the line
+tally o d i m rest st w = w d m
 
 -- how many nodes the layout of a document lays
 abbrev pub laid_nodes : RenderOptions → Tree → ℕ

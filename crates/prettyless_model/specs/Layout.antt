@@ -1,5 +1,5 @@
 -- The layout of a document: a recursion on its tree, from state to state.
-use Rattle.std.specs.Prelude.{ℕ, zero, suc, ◌+◌, ◌-◌, ℤ, pos, negsuc, Bool, true, false, Option, Some, None, not, ◌&&◌, ◌||◌, nat_le, List, [], ◌∷◌, ◌++◌, length, if◌then◌else◌}
+use Rattle.std.specs.Prelude.{ℕ, zero, suc, ◌+◌, ◌-◌, ℤ, pos, negsuc, Bool, true, false, Option, Some, None, not, ◌&&◌, ◌||◌, nat_le, List, [], ◌∷◌, ◌++◌, length, map, if◌then◌else◌}
 use Rattle.prettyless_model.specs.Options.{ending}
 use Rattle.prettyless_model.specs.Spaces.{spaces}
 use Rattle.prettyless_model.specs.declared.options.RenderOptions.{RenderOptions}
@@ -83,8 +83,7 @@ entry i d = record { indent = i; tree = d }
 
 -- trees that follow at one indent
 abbrev pub entries : ℕ → List Tree → List Entry
-entries i [] = []
-entries i (d ∷ ds) = entry i d ∷ entries i ds
+entries i ds = map (entry i) ds
 
 -- what is read after the probed document: each document that follows, in Break
 abbrev pub rest_atoms : List Entry → List Atom

@@ -1,30 +1,22 @@
 -- How many levels a layout can spend, and breaks that have as many as they need.
 use Rattle.std.specs.Prelude.{◌≡◌, ℕ, suc, ◌+◌, ◌<◌, List, [], ◌∷◌}
 use Rattle.prettyless_model.specs.declared.options.RenderOptions.{RenderOptions}
-use Rattle.prettyless_model.specs.Tree.{Tree, Nil, Fail, Text, TextWithLen, MultilineText, WeakSpace, HardLine, WeakLine, Append, LineSuffix, Nest, DedentToRoot, Align, ExpandParent, Flatten, BreakOrFlat, Group, Union, PartialUnion, size}
+use Rattle.prettyless_model.specs.Tree.{Tree, Append, LineSuffix, Nest, DedentToRoot, Align, Flatten, BreakOrFlat, Group, Union, PartialUnion, size}
 use Rattle.prettyless_model.specs.Layout.{State, Outcome, Breaks, breaks, finish, layout_by, layout, bytes_of}
 
 -- how many LineSuffix nodes a tree has, those inside another too
 abbrev pub suffixes : Tree → ℕ
-suffixes Nil = 0
-suffixes Fail = 0
-suffixes (Text s) = 0
-suffixes (TextWithLen w s) = 0
-suffixes (MultilineText s) = 0
-suffixes WeakSpace = 0
-suffixes HardLine = 0
-suffixes WeakLine = 0
 suffixes (Append l r) = suffixes l + suffixes r
 suffixes (LineSuffix d) = suffixes d + 1
 suffixes (Nest k d) = suffixes d
 suffixes (DedentToRoot d) = suffixes d
 suffixes (Align d) = suffixes d
-suffixes ExpandParent = 0
 suffixes (Flatten d) = suffixes d
 suffixes (BreakOrFlat b f) = suffixes b + suffixes f
 suffixes (Group d) = suffixes d
 suffixes (Union l r) = suffixes l + suffixes r
 suffixes (PartialUnion l r) = suffixes l + suffixes r
+suffixes _ = 0
 
 -- how many documents the pending ones are, with those that they may leave pending in turn
 abbrev pub queued : List Tree → ℕ

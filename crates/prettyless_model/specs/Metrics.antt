@@ -1,5 +1,6 @@
 -- What is measured of a payload, a text that holds line breaks of its own.
 use Rattle.std.specs.Prelude.{ℕ, Bool, true, false, not, ◌||◌, ◌==◌, nat_lt, List, [], ◌∷◌, length, max, chars, if◌then◌else◌}
+use Rattle.std.specs.List.{list_all, slice_split}
 use Rattle.unicode_width.specs.Width.{str_width}
 use Rattle.prettyless_model.specs.declared.metrics.Metrics.{Metrics}
 
@@ -7,20 +8,13 @@ use Rattle.prettyless_model.specs.declared.metrics.Metrics.{Metrics}
 abbrev pub is_break : ℕ → Bool
 is_break b = (b == 10) || (b == 13)
 
--- a byte put before the first part
-abbrev pub on_first : ℕ → List (List ℕ) → List (List ℕ)
-on_first b [] = (b ∷ []) ∷ []
-on_first b (p ∷ ps) = (b ∷ p) ∷ ps
-
 -- what is between the breaks: the text cut at every LF and at every CR
 abbrev pub parts : List ℕ → List (List ℕ)
-parts [] = [] ∷ []
-parts (b ∷ bs) = if is_break b then [] ∷ parts bs else on_first b (parts bs)
+parts s = slice_split is_break s
 
 -- each byte is below 128
 abbrev pub is_ascii : List ℕ → Bool
-is_ascii [] = true
-is_ascii (b ∷ bs) = if nat_lt b 128 then is_ascii bs else false
+is_ascii s = list_all (λ b. nat_lt b 128) s
 
 -- the columns that a text takes: its bytes if ASCII, else its display width
 abbrev pub text_width : List ℕ → ℕ

@@ -25,44 +25,28 @@ pub data Tree : Type 0 where
 
 -- how many nodes a tree has; a subtree that is in several places counts each time
 abbrev pub size : Tree → ℕ
-size Nil = 1
-size Fail = 1
-size (Text s) = 1
-size (TextWithLen w s) = 1
-size (MultilineText s) = 1
-size WeakSpace = 1
-size HardLine = 1
-size WeakLine = 1
 size (Append l r) = size l + size r + 1
 size (LineSuffix d) = size d + 1
 size (Nest k d) = size d + 1
 size (DedentToRoot d) = size d + 1
 size (Align d) = size d + 1
-size ExpandParent = 1
 size (Flatten d) = size d + 1
 size (BreakOrFlat b f) = size b + size f + 1
 size (Group d) = size d + 1
 size (Union l r) = size l + size r + 1
 size (PartialUnion l r) = size l + size r + 1
+size _ = 1
 
 -- how many nodes of a tree ask the probe: its groups and its partial unions
 abbrev pub probed : Tree → ℕ
-probed Nil = 0
-probed Fail = 0
-probed (Text s) = 0
-probed (TextWithLen w s) = 0
-probed (MultilineText s) = 0
-probed WeakSpace = 0
-probed HardLine = 0
-probed WeakLine = 0
 probed (Append l r) = probed l + probed r
 probed (LineSuffix d) = probed d
 probed (Nest k d) = probed d
 probed (DedentToRoot d) = probed d
 probed (Align d) = probed d
-probed ExpandParent = 0
 probed (Flatten d) = probed d
 probed (BreakOrFlat b f) = probed b + probed f
 probed (Group d) = probed d + 1
 probed (Union l r) = probed l + probed r
 probed (PartialUnion l r) = probed l + probed r + 1
+probed _ = 0

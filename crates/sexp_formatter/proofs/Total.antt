@@ -90,28 +90,8 @@ module _ (o : RenderOptions) (brk : Breaks) (ends : EndsLines brk) where
         | false ↦ lay_done d i Break rest st h s.1
       ]
   lay_done (t.Group d) i Flat rest st h s = lay_done d i Flat rest st h s
-  lay_done t.Fail i Break rest st h s = absurd s
-  lay_done t.Fail i Flat rest st h s = absurd s
-  lay_done (t.MultilineText x) i Break rest st h s = absurd s
-  lay_done (t.MultilineText x) i Flat rest st h s = absurd s
-  lay_done t.WeakSpace i Break rest st h s = absurd s
-  lay_done t.WeakSpace i Flat rest st h s = absurd s
-  lay_done t.WeakLine i Break rest st h s = absurd s
-  lay_done t.WeakLine i Flat rest st h s = absurd s
-  lay_done (t.LineSuffix d) i Break rest st h s = absurd s
-  lay_done (t.LineSuffix d) i Flat rest st h s = absurd s
-  lay_done (t.DedentToRoot d) i Break rest st h s = absurd s
-  lay_done (t.DedentToRoot d) i Flat rest st h s = absurd s
-  lay_done (t.Align d) i Break rest st h s = absurd s
-  lay_done (t.Align d) i Flat rest st h s = absurd s
-  lay_done t.ExpandParent i Break rest st h s = absurd s
-  lay_done t.ExpandParent i Flat rest st h s = absurd s
-  lay_done (t.Flatten d) i Break rest st h s = absurd s
-  lay_done (t.Flatten d) i Flat rest st h s = absurd s
-  lay_done (t.Union l r) i Break rest st h s = absurd s
-  lay_done (t.Union l r) i Flat rest st h s = absurd s
-  lay_done (t.PartialUnion l r) i Break rest st h s = absurd s
-  lay_done (t.PartialUnion l r) i Flat rest st h s = absurd s
+  lay_done _ i Break rest st h s = absurd s
+  lay_done _ i Flat rest st h s = absurd s
 
 ending_done : (o : RenderOptions) (p : IndentationPolicy) (k : ℕ) (st : State) → st.pending ≡ [] → IsDone (lay_ending o p k st)
 ending_done o Eager k st h = h
@@ -154,17 +134,7 @@ append_to_safe x (t.Append l r) a b = ((a.0, b.0), (a.1, b.1))
 append_to_safe x (t.Nest k d) a b = ((a.0, b.0), (a.1, b.1))
 append_to_safe x (t.BreakOrFlat l r) a b = ((a.0, b.0), (a.1, b.1))
 append_to_safe x (t.Group d) a b = ((a.0, b.0), (a.1, b.1))
-append_to_safe x t.Fail a b = absurd b.0
-append_to_safe x (t.MultilineText s) a b = absurd b.0
-append_to_safe x t.WeakSpace a b = absurd b.0
-append_to_safe x t.WeakLine a b = absurd b.0
-append_to_safe x (t.LineSuffix d) a b = absurd b.0
-append_to_safe x (t.DedentToRoot d) a b = absurd b.0
-append_to_safe x (t.Align d) a b = absurd b.0
-append_to_safe x t.ExpandParent a b = absurd b.0
-append_to_safe x (t.Flatten d) a b = absurd b.0
-append_to_safe x (t.Union l r) a b = absurd b.0
-append_to_safe x (t.PartialUnion l r) a b = absurd b.0
+append_to_safe x _ a b = absurd b.0
 
 append_safe : (x y : Tree) → IsBothSafe x → IsBothSafe y → IsBothSafe (append x y)
 append_safe t.Nil y a b = b
@@ -175,17 +145,7 @@ append_safe (t.Append l r) y a b = append_to_safe (t.Append l r) y a b
 append_safe (t.Nest k d) y a b = append_to_safe (t.Nest k d) y a b
 append_safe (t.BreakOrFlat l r) y a b = append_to_safe (t.BreakOrFlat l r) y a b
 append_safe (t.Group d) y a b = append_to_safe (t.Group d) y a b
-append_safe t.Fail y a b = absurd a.0
-append_safe (t.MultilineText x) y a b = absurd a.0
-append_safe t.WeakSpace y a b = absurd a.0
-append_safe t.WeakLine y a b = absurd a.0
-append_safe (t.LineSuffix d) y a b = absurd a.0
-append_safe (t.DedentToRoot d) y a b = absurd a.0
-append_safe (t.Align d) y a b = absurd a.0
-append_safe t.ExpandParent y a b = absurd a.0
-append_safe (t.Flatten d) y a b = absurd a.0
-append_safe (t.Union l r) y a b = absurd a.0
-append_safe (t.PartialUnion l r) y a b = absurd a.0
+append_safe _ y a b = absurd a.0
 
 nest_safe : (x : Tree) → IsBothSafe x → IsBothSafe (nest (pos 1) x)
 nest_safe t.Nil a = a
@@ -196,17 +156,7 @@ nest_safe (t.Append l r) a = a
 nest_safe (t.Nest k d) a = a
 nest_safe (t.BreakOrFlat l r) a = a
 nest_safe (t.Group d) a = a
-nest_safe t.Fail a = absurd a.0
-nest_safe (t.MultilineText x) a = absurd a.0
-nest_safe t.WeakSpace a = absurd a.0
-nest_safe t.WeakLine a = absurd a.0
-nest_safe (t.LineSuffix d) a = absurd a.0
-nest_safe (t.DedentToRoot d) a = absurd a.0
-nest_safe (t.Align d) a = absurd a.0
-nest_safe t.ExpandParent a = absurd a.0
-nest_safe (t.Flatten d) a = absurd a.0
-nest_safe (t.Union l r) a = absurd a.0
-nest_safe (t.PartialUnion l r) a = absurd a.0
+nest_safe _ a = absurd a.0
 
 group_safe : (x : Tree) → IsBothSafe x → IsBothSafe (group x)
 group_safe t.Nil a = a
@@ -217,17 +167,7 @@ group_safe (t.Append l r) a = (a.0, a)
 group_safe (t.Nest k d) a = (a.0, a)
 group_safe (t.BreakOrFlat l r) a = (a.0, a)
 group_safe (t.Group d) a = a
-group_safe t.Fail a = absurd a.0
-group_safe (t.MultilineText x) a = absurd a.0
-group_safe t.WeakSpace a = absurd a.0
-group_safe t.WeakLine a = absurd a.0
-group_safe (t.LineSuffix d) a = absurd a.0
-group_safe (t.DedentToRoot d) a = absurd a.0
-group_safe (t.Align d) a = absurd a.0
-group_safe t.ExpandParent a = absurd a.0
-group_safe (t.Flatten d) a = absurd a.0
-group_safe (t.Union l r) a = absurd a.0
-group_safe (t.PartialUnion l r) a = absurd a.0
+group_safe _ a = absurd a.0
 
 mutual
   document_safe : (v : Value) → IsBothSafe (document_of v)
