@@ -8,6 +8,8 @@ mod calls;
 #[cfg(test)]
 mod combined;
 #[cfg(test)]
+mod deep;
+#[cfg(test)]
 mod derived;
 #[cfg(test)]
 mod expected;

@@ -64,11 +64,8 @@ fn chains_of_nests(rt: HostRuntime) -> Result<(), Fail> {
     Ok(())
 }
 
-// The chain behind one more node of each kind that holds one.
-fn behind_singles<'a>(
-    boxes: &'a BoxAllocator,
-    chain: BoxDoc<'a>,
-) -> Result<BoxDoc<'a>, BuildError> {
+// The chain in one more node of each kind that holds one.
+fn in_singles<'a>(boxes: &'a BoxAllocator, chain: BoxDoc<'a>) -> Result<BoxDoc<'a>, BuildError> {
     let chain = boxes.alloc(Doc::LineSuffix(chain))?;
     let chain = boxes.alloc(Doc::Nest(-1, chain))?;
     let chain = boxes.alloc(Doc::DedentToRoot(chain))?;
@@ -77,8 +74,8 @@ fn behind_singles<'a>(
     boxes.alloc(Doc::Group(chain))
 }
 
-// The chain behind one more node of each kind that holds a pair.
-fn behind_pairs<'a>(boxes: &'a BoxAllocator, chain: BoxDoc<'a>) -> Result<BoxDoc<'a>, BuildError> {
+// The chain in one more node of each kind that holds a pair.
+fn in_pairs<'a>(boxes: &'a BoxAllocator, chain: BoxDoc<'a>) -> Result<BoxDoc<'a>, BuildError> {
     let chain = boxes.alloc(Doc::Append(boxes.alloc(Doc::WeakSpace)?, chain))?;
     let chain = boxes.alloc(Doc::BreakOrFlat(chain, boxes.alloc(Doc::WeakLine)?))?;
     let chain = boxes.alloc(Doc::Union(boxes.alloc(Doc::Fail)?, chain))?;
@@ -90,8 +87,8 @@ fn chains_of_all_kinds(rt: HostRuntime) -> Result<(), Fail> {
     let boxes = BoxAllocator::new(rt.alloc());
     let mut chain = boxes.alloc(Doc::Nil)?;
     for _ in 0..DEPTH / 10 {
-        chain = behind_singles(&boxes, chain)?;
-        chain = behind_pairs(&boxes, chain)?;
+        chain = in_singles(&boxes, chain)?;
+        chain = in_pairs(&boxes, chain)?;
     }
     drop(chain);
     Ok(())
