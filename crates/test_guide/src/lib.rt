@@ -4,6 +4,8 @@
 #[cfg(test)]
 mod alternatives;
 #[cfg(test)]
+mod errors;
+#[cfg(test)]
 mod first;
 #[cfg(test)]
 mod indents;
