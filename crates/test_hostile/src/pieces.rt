@@ -1,5 +1,5 @@
 //! The pieces that a layout goes out in.
-ghost use Rattle.std.specs.Prelude.{◌≡◌, ⊤};
+ghost use Rattle.std.specs.Prelude.{Some, ◌≡◌, ⊤};
 ghost use Rattle.test_hostile.specs.declared.sinks.Fault.TheVariants.{Document};
 
 use crate::sinks::Fault;
