@@ -6,18 +6,22 @@ pub returns-then-not-is_fair_count-clause-ok : goal.returns-then-not-is_fair_cou
 returns-then-not-is_fair_count-clause-ok c =
     let taken : c.min-taken.result ≡ min c.in-Some.count (length c.args.s.now) = search rules in
     let appended : c.extend_from_slice.new.self.items ≡ c.args.self.now.bytes.items ++ take c.min-taken.result c.args.s.now = search rules in
-    λ told. (
-      tt,
-      appended_count _ _ c.args.s.now c.min-taken.result c.in-Some.count taken appended,
-      ((λ fair. cc (c.if-not-is_fair_count.ensures.1 fair)), λ unfair. c.saturating_add-self-then-not-is_fair_count.ensures),
+    λ is_known. (
+      refl,
+      (
+        appended_count _ _ c.args.s.now c.min-taken.result c.in-Some.count taken appended,
+        ((λ fair. cc (c.if-not-is_fair_count.ensures.1 fair)), λ unfair. c.saturating_add-self-then-not-is_fair_count.ensures),
+      ),
     )
 
 pub returns-else-not-is_fair_count-clause-ok : goal.returns-else-not-is_fair_count-clause-ok
 returns-else-not-is_fair_count-clause-ok c =
     let taken : c.min-taken.result ≡ min c.in-Some.count (length c.args.s.now) = search rules in
     let appended : c.extend_from_slice.new.self.items ≡ c.args.self.now.bytes.items ++ take c.min-taken.result c.args.s.now = search rules in
-    λ told. (
-      tt,
-      appended_count _ _ c.args.s.now c.min-taken.result c.in-Some.count taken appended,
-      ((λ fair. refl), λ unfair. absurd (unfair (c.if-not-is_fair_count.ensures.0 refl))),
+    λ is_known. (
+      refl,
+      (
+        appended_count _ _ c.args.s.now c.min-taken.result c.in-Some.count taken appended,
+        ((λ fair. refl), λ unfair. absurd (unfair (c.if-not-is_fair_count.ensures.0 refl))),
+      ),
     )
