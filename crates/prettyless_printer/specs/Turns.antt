@@ -43,7 +43,7 @@ Lessens f p q Failed = Unit {0}
 Lessens f p q (Chosen i x y) =
     (2 * (size (f x) + size (f y)) + work (tasks_of f q) (state_of f q) < work (tasks_of f p) (state_of f p)) × (q.within ≡ p.within)
 
--- what a turn leaves in a sink that tells its bytes
+-- what a turn leaves in a sink whose bytes are known
 abbrev pub Turned : {N E : Type 0} → (N → Tree) → Printer N → Printer N → List ℕ → List ℕ → ℕ → ℕ → Result (Turn N) (RenderError E) → Type 0
 Turned f p q out new n m (Ok r) = ForWholes f p out (Goes f p.options q new r) × (m ≡ n)
 Turned f p q out new n m (Err (Document e)) = ⊥
@@ -78,7 +78,7 @@ ForWaits f p i x y out goal =
     (whole : Outcome) (limit : ℕ) (below : List Task) (old : List ℕ) →
     Waits p.options whole limit below old i x y (tasks_of f p) (state_of f p) out → goal whole limit below old
 
--- what a choice leaves in a sink that tells its bytes
+-- what a choice leaves in a sink whose bytes are known
 abbrev pub Chose : {N A E : Type 0} → (N → Tree) → Printer N → Printer N → ℕ → Tree → Tree → List ℕ → List ℕ → ℕ → ℕ → Result A (RenderError E) → Type 0
 Chose f p q i x y out new n m (Ok r) =
     ForWaits f p i x y out (λ whole limit below old. Inside p.options whole limit below old (tasks_of f q) (state_of f q) new) × (m ≡ n)
