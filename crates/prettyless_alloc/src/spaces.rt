@@ -6,9 +6,7 @@ ghost use Rattle.prettyless_build.specs.Built as to;
 
 use prettyless_build::DocBuilder;
 use prettyless_doc::{BuildError, Doc, DocPlace, Text};
-
-const HUNDRED_SPACES: &str =
-    "                                                                                                    ";
+use prettyless_model::spaces::some_spaces;
 
 // So many spaces. Up to 100 it takes no memory.
 pub(crate) fn spaces<'a, D: DocPlace<'a>>(
@@ -33,5 +31,5 @@ fn gap<'a, D: DocPlace<'a>>(place: &'a D, count: usize) -> DocBuilder<'a, D>
     if count == 0 {
         return DocBuilder::new(place, Doc::Nil);
     }
-    DocBuilder::new(place, Doc::Text(Text::Borrowed(&HUNDRED_SPACES[..count])))
+    DocBuilder::new(place, Doc::Text(Text::Borrowed(some_spaces(count))))
 }

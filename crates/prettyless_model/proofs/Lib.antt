@@ -8,3 +8,4 @@ pub mod Writes
 pub mod ContentMerged
 pub mod ContentCounted
 pub mod Content
+pub mod SpaceRuns

@@ -10,3 +10,4 @@ pub mod metrics;
 pub mod mode;
 pub mod options;
 pub mod rows;
+pub mod spaces;

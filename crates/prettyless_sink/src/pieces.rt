@@ -1,12 +1,10 @@
 //! Gaps and texts, written in pieces.
-ghost use Rattle.std.specs.Prelude.{◌≡◌, ◌++◌, ◌≤◌, OnOk, OnErr};
+ghost use Rattle.std.specs.Prelude.{◌≡◌, ◌++◌, OnOk, OnErr};
 ghost use Rattle.prettyless_sink.specs.Sink.{Accepts, Refuses};
 ghost use Rattle.prettyless_model.specs.Spaces.{spaces};
 
 use crate::render::Render;
-
-const HUNDRED_SPACES: &str =
-    "                                                                                                    ";
+use prettyless_model::spaces::some_spaces;
 
 /// Writes `gap` spaces and then the text.
 ///
@@ -40,15 +38,6 @@ fn write_spaces<W: Render>(out: &mut W, count: usize) -> Result<(), W::Error>
         left -= piece;
     }
     Ok(())
-}
-
-// A text of at most 100 spaces.
-#[inline]
-fn some_spaces(count: usize) -> &'static str
-    requires { count ≤ 100 }
-    ensures { result.now ≡ spaces count }
-{
-    &HUNDRED_SPACES[..count]
 }
 
 #[cfg(test)]
