@@ -99,13 +99,10 @@ text_flows o d w (b ∷ bs) atoms st e t n h =
 flows : (o : RenderOptions) (d : Tree) (atoms : List Atom) (st : State) → Fits o (reading d Flat ++ atoms) st → IsTracedOnOneLine o d atoms st
 unfolding lay trace_at
 flows o Nil atoms st h = flows_by o Nil atoms st st (λ brk k i rest. refl) (λ brk k i rest. refl) (λ brk k i rest. refl) refl refl refl h
-flows o Fail atoms st h = absurd (cc)
 flows o (Text s) atoms st h = text_flows o (Text s) (length s) s atoms st (λ brk i rest u. refl) (λ brk i rest. refl) refl h
 flows o (TextWithLen w s) atoms st h = text_flows o (TextWithLen w s) w s atoms st (λ brk i rest u. refl) (λ brk i rest. refl) refl h
-flows o (MultilineText s) atoms st h = absurd (cc)
 flows o WeakSpace atoms st h =
     flows_by o WeakSpace atoms st (record st { column = blank st.column }) (λ brk k i rest. refl) (λ brk k i rest. refl) (λ brk k i rest. refl) refl refl refl h
-flows o HardLine atoms st h = absurd (cc)
 flows o WeakLine atoms st h =
     let taken = only_then _ _ h in
     let parts = and_parts _ _ taken.0 in
@@ -153,12 +150,13 @@ flows o (Nest n d) atoms st h = flows_as o (Nest n d) d atoms st (λ i. nested i
 flows o (DedentToRoot d) atoms st h = flows_as o (DedentToRoot d) d atoms st (λ i. 0) (λ brk i rest u e. refl) (λ brk i rest. refl) refl (flows o d atoms st h)
 flows o (Align d) atoms st h =
     flows_as o (Align d) d atoms st (λ i. prospective st.column) (λ brk i rest u e. ap (λ (c : Column). lay o brk d (prospective c) Flat rest u) e) (λ brk i rest. refl) refl (flows o d atoms st h)
-flows o ExpandParent atoms st h = absurd (cc)
 flows o (Flatten d) atoms st h = flows_as o (Flatten d) d atoms st (λ i. i) (λ brk i rest u e. refl) (λ brk i rest. refl) refl (flows o d atoms st h)
 flows o (BreakOrFlat b f) atoms st h = flows_as o (BreakOrFlat b f) f atoms st (λ i. i) (λ brk i rest u e. refl) (λ brk i rest. refl) refl (flows o f atoms st h)
 flows o (Group d) atoms st h = flows_as o (Group d) d atoms st (λ i. i) (λ brk i rest u e. refl) (λ brk i rest. refl) refl (flows o d atoms st h)
 flows o (Union l r) atoms st h = flows_as o (Union l r) l atoms st (λ i. i) (λ brk i rest u e. refl) (λ brk i rest. refl) refl (flows o l atoms st h)
 flows o (PartialUnion l r) atoms st h = flows_as o (PartialUnion l r) l atoms st (λ i. i) (λ brk i rest u e. refl) (λ brk i rest. refl) refl (flows o l atoms st h)
+-- the probe of a flat line answers no to every other node
+flows o _ atoms st h = absurd (cc)
 
 pub one_line : (o : RenderOptions) (d : Tree) (rest : List Entry) (st : State) → probe o d Flat rest st ≡ true → LiesOnOneLine o d (rest_atoms rest) st
 one_line o d rest st h = (flows o d (rest_atoms rest) st h).lies

@@ -94,7 +94,6 @@ SameBreaks a b = (d : Tree) (i : ℕ) (m : Mode) (rest : List Entry) (s u : Stat
 
 traces_same : (o p : RenderOptions) → o.width ≡ p.width → (a b : BreakTraces) → SameBreaks a b → (d : Tree) (i : ℕ) (m : Mode) (rest : List Entry) (s u : State) → AlikeStates s u → Same (trace_at o a d i m rest s) (trace_at p b d i m rest u)
 unfolding trace_at
-traces_same o p e a b k Nil i m rest s u h = (refl, h)
 traces_same o p e a b k Fail i m rest s u h = refl
 traces_same o p e a b k (Text t) i m rest s u h = text_same o p e (length t) t s u h
 traces_same o p e a b k (TextWithLen w t) i m rest s u h = text_same o p e w t s u h
@@ -116,7 +115,6 @@ traces_same o p e a b k (DedentToRoot d) i m rest s u h = traces_same o p e a b 
 traces_same o p e a b k (Align d) i m rest s u h =
     subst (λ (n : ℕ). Same (trace_at o a d (prospective s.column) m rest s) (trace_at p b d n m rest u)) (prospective_alike s.column u.column h.column)
     (traces_same o p e a b k d (prospective s.column) m rest s u h)
-traces_same o p e a b k ExpandParent i m rest s u h = (refl, h)
 traces_same o p e a b k (Flatten d) i m rest s u h = traces_same o p e a b k d i Flat rest s u h
 traces_same o p e a b k (BreakOrFlat x y) i Break rest s u h = traces_same o p e a b k x i Break rest s u h
 traces_same o p e a b k (BreakOrFlat x y) i Flat rest s u h = traces_same o p e a b k y i Flat rest s u h
@@ -137,6 +135,8 @@ traces_same o p e a b k (PartialUnion x y) i Break rest s u h =
     (traces_same o p e a b k x i Break rest s u h)
     (traces_same o p e a b k y i Break rest s u h)
 traces_same o p e a b k (PartialUnion x y) i Flat rest s u h = traces_same o p e a b k x i Flat rest s u h
+-- every other node leaves the state as it is
+traces_same o p e a b k _ i m rest s u h = (refl, h)
 
 each_same : (o p : RenderOptions) → o.width ≡ p.width → (a b : BreakTraces) → SameBreaks a b → (ds : List Tree) (i : ℕ) (m : Mode) (rest : List Entry) (s u : State) → AlikeStates s u → Same (trace_each o a ds i m rest s) (trace_each p b ds i m rest u)
 unfolding trace_each

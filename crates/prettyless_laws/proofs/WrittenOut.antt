@@ -116,7 +116,6 @@ BreaksMatch o a b = (d : Tree) (i : ℕ) (m : Mode) (rest : List Entry) (s : Sta
 
 lay_matches : (o : RenderOptions) (a : Breaks) (b : BreakTraces) → BreaksMatch o a b → (d : Tree) (i : ℕ) (m : Mode) (rest : List Entry) (s : State) → InRange i → EntriesInRange rest → Sound s.column → Matches o s.column.indent (lay o a d i m rest s) (trace_at o b d i m rest s)
 unfolding lay trace_at
-lay_matches o a b k Nil i m rest s r e h = (refl, refl, refl, h)
 lay_matches o a b k Fail i m rest s r e h = refl
 lay_matches o a b k (Text t) i m rest s r e h = text_matches o (length t) t s h
 lay_matches o a b k (TextWithLen w t) i m rest s r e h = text_matches o w t s h
@@ -130,12 +129,10 @@ lay_matches o a b k (Append x y) i m rest s r e h =
     matches-then o s.column.indent (lay o a x i m (entry i y ∷ rest) s) (trace_at o b x i m (entry i y ∷ rest) s) (λ v. lay o a y i m rest v) (λ v. trace_at o b y i m rest v)
     (lay_matches o a b k x i m (entry i y ∷ rest) s r (r, e) h)
     (λ v q. lay_matches o a b k y i m rest v r e q)
-lay_matches o a b k (LineSuffix d) i m rest s r e h = (refl, refl, refl, h)
 lay_matches o a b k (Nest n d) i m rest s r e h = lay_matches o a b k d (nested i n) m rest s (nested_in_range i n r) e h
 lay_matches o a b k (DedentToRoot d) i m rest s r e h = lay_matches o a b k d 0 m rest s zero_in_range e h
 lay_matches o a b k (Align d) i m rest s r e h =
     lay_matches o a b k d (prospective s.column) m rest s (sum_in_range (saturating_add s.column.position s.column.indent) s.column.padding) e h
-lay_matches o a b k ExpandParent i m rest s r e h = (refl, refl, refl, h)
 lay_matches o a b k (Flatten d) i m rest s r e h = lay_matches o a b k d i Flat rest s r e h
 lay_matches o a b k (BreakOrFlat x y) i Break rest s r e h = lay_matches o a b k x i Break rest s r e h
 lay_matches o a b k (BreakOrFlat x y) i Flat rest s r e h = lay_matches o a b k y i Flat rest s r e h
@@ -154,6 +151,8 @@ lay_matches o a b k (PartialUnion x y) i Break rest s r e h =
     (lay_matches o a b k x i Break rest s r e h)
     (lay_matches o a b k y i Break rest s r e h)
 lay_matches o a b k (PartialUnion x y) i Flat rest s r e h = lay_matches o a b k x i Flat rest s r e h
+-- every other node leaves the column as it is
+lay_matches o a b k _ i m rest s r e h = (refl, refl, refl, h)
 
 each_matches : (o : RenderOptions) (a : Breaks) (b : BreakTraces) → BreaksMatch o a b → (ds : List Tree) (i : ℕ) (m : Mode) (rest : List Entry) (s : State) → InRange i → EntriesInRange rest → Sound s.column → Matches o s.column.indent (lay_each o a ds i m rest s) (trace_each o b ds i m rest s)
 unfolding lay_each trace_each
