@@ -1,4 +1,4 @@
--- The words of texts and of numbers name no operator.
+-- The words of texts and of numbers name no node.
 use Rattle.std.proofs.Common.{◌≡◌, ℕ, ◌<◌, Bool, true, false, not, ◌&&◌, ◌||◌, cond, List, [], ◌∷◌, None, refl, sym, subst, arith}
 use Rattle.std.specs.Prelude.{ℤ, nat_eq}
 use Rattle.std.specs.Char.{digit_value}
@@ -12,7 +12,7 @@ use Rattle.std.proofs.lemmas.Slice.Eq.{bytes_eq-Decides}
 use Rattle.std.proofs.lemmas.Str.Parse.{digit_from_value}
 use Rattle.hex.specs.Hex.{is_hex_digit, encode_lower}
 use Rattle.hex.proofs.HexLemmas.{decode_of-encode_lower, decode_of-ok}
-use Rattle.replay_cases.specs.Notation.{named_in, IsNumber, IsOffset, IsTextWord, digits_of}
+use Rattle.replay_cases.specs.Notation.{leaf_of, leaf_words, named_in, IsNumber, IsOffset, IsTextWord, digits_of}
 use Rattle.replay_cases.specs.Reading.{operator_of, operator_names}
 use Rattle.replay_cases.proofs.HexWords.{text_bytes}
 
@@ -37,8 +37,12 @@ not_named (e ∷ es) w others plain =
     let p = and_parts (not (is_plain e.0)) (names_others es) others in
     rw (plain_is_other w e.0 (bytes_eq w e.0) (bytes_eq-Decides w e.0).0 plain p.0) (not_named es w p.1 plain)
 
-plain_names_none : (w : List ℕ) → is_plain w ≡ true → operator_of w ≡ None
-plain_names_none w plain = not_named operator_names w refl plain
+-- the word names no node, neither one with nothing below it nor another
+abbrev pub NamesNone : List ℕ → Type 0
+NamesNone w = (leaf_of w ≡ None) × (operator_of w ≡ None)
+
+plain_names_none : (w : List ℕ) → is_plain w ≡ true → NamesNone w
+plain_names_none w plain = (not_named leaf_words w refl plain, not_named operator_names w refl plain)
 
 -- ---- texts
 
@@ -48,11 +52,11 @@ hex_is_plain (c ∷ cs) e =
     let p = and_parts (is_hex_digit c) (list_all is_hex_digit cs) e in
     rw (p.0, hex_is_plain cs p.1) refl
 
-pub text_names_none : (s w : List ℕ) → IsTextWord s w → operator_of w ≡ None
-text_names_none [] w h = subst (λ (x : List ℕ). operator_of x ≡ None) (sym h.1) refl
+pub text_names_none : (s w : List ℕ) → IsTextWord s w → NamesNone w
+text_names_none [] w h = subst NamesNone (sym h.1) (refl, refl)
 text_names_none (b ∷ bs) w h =
     let d = decode_of-ok (encode_lower (b ∷ bs)) (b ∷ bs) (decode_of-encode_lower (b ∷ bs) (text_bytes (b ∷ bs) h.0)) in
-    subst (λ (x : List ℕ). operator_of x ≡ None) (sym h.1) (plain_names_none (encode_lower (b ∷ bs)) (hex_is_plain (encode_lower (b ∷ bs)) (list_all-from_AllPass is_hex_digit (encode_lower (b ∷ bs)) d.1)))
+    subst NamesNone (sym h.1) (plain_names_none (encode_lower (b ∷ bs)) (hex_is_plain (encode_lower (b ∷ bs)) (list_all-from_AllPass is_hex_digit (encode_lower (b ∷ bs)) d.1)))
 
 -- ---- numbers
 
@@ -63,7 +67,7 @@ digits_are_plain : (w : List ℕ) → AllDigits 10 w → is_plain w ≡ true
 digits_are_plain [] h = refl
 digits_are_plain (c ∷ cs) h = rw (digit_is_hex c h.0, digits_are_plain cs h.1) refl
 
-pub number_names_none : (n : ℕ) (w : List ℕ) → IsNumber n w → operator_of w ≡ None
+pub number_names_none : (n : ℕ) (w : List ℕ) → IsNumber n w → NamesNone w
 number_names_none n w h = plain_names_none w (digits_are_plain w h.0.1)
 
 minus_is_plain : (c : ℕ) (cs : List ℕ) (b : Bool) → b ≡ nat_eq c 45 → AllDigits 10 (cond b cs (c ∷ cs)) → is_plain (c ∷ cs) ≡ true
@@ -74,5 +78,5 @@ offset_is_plain : (w : List ℕ) → AllDigits 10 (digits_of w) → is_plain w �
 offset_is_plain [] h = refl
 offset_is_plain (c ∷ cs) h = minus_is_plain c cs (starts_with_minus (c ∷ cs)) refl h
 
-pub offset_names_none : (k : ℤ) (w : List ℕ) → IsOffset k w → operator_of w ≡ None
+pub offset_names_none : (k : ℤ) (w : List ℕ) → IsOffset k w → NamesNone w
 offset_names_none k w h = plain_names_none w (offset_is_plain w h.0.1)

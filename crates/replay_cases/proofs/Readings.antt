@@ -8,21 +8,19 @@ use Rattle.std.proofs.lemmas.Slice.Eq.{bytes_eq-Decides}
 use Rattle.prettyless_doc.specs.Breaks.{holds_break}
 use Rattle.prettyless.specs.Tree as t
 use Rattle.prettyless.specs.Tree.{Tree}
-use Rattle.replay_cases.specs.declared.operator.Leaf.{Leaf}
-use Rattle.replay_cases.specs.declared.operator.Leaf.TheVariants as leaves
 use Rattle.replay_cases.specs.declared.operator.Wrapper.{Wrapper}
 use Rattle.replay_cases.specs.declared.operator.Wrapper.TheVariants as wrappers
 use Rattle.replay_cases.specs.declared.operator.Join.{Join}
 use Rattle.replay_cases.specs.declared.operator.Join.TheVariants as joins
 use Rattle.replay_cases.specs.declared.operator.Operator.{Operator}
 use Rattle.replay_cases.specs.declared.operator.Operator.TheVariants as operators
-use Rattle.replay_cases.specs.Notation.{named_in, IsTextWord, IsSpelled, signed_value}
-use Rattle.replay_cases.specs.Reading.{Item, word, document, operator_of, operator_names, leaf_tree, wrapped, joined, BeginsWithText, Makes, Puts, Steps}
+use Rattle.replay_cases.specs.Notation.{named_in, leaf_words, leaf_of, leaf_alone, IsTextWord, IsSpelled, signed_value}
+use Rattle.replay_cases.specs.Reading.{Item, word, document, operator_of, operator_names, wrapped, joined, BeginsWithText, Makes, Puts, Steps}
 use Rattle.replay_cases.specs.declared.refusal.Refusal.{Refusal}
 use Rattle.replay_cases.specs.Refusals.{Refuses}
 use Rattle.replay_cases.proofs.HexWords.{one_text}
 use Rattle.replay_cases.proofs.Refusing.{refuses_more}
-use Rattle.replay_cases.proofs.Operands.{text_names_none, number_names_none, offset_names_none}
+use Rattle.replay_cases.proofs.Operands.{NamesNone, text_names_none, number_names_none, offset_names_none}
 
 -- the items that the words leave
 abbrev pub Leaves : List (List ℕ) → List Item → Type 0
@@ -43,7 +41,6 @@ one_beginning items a b r s h k =
     (one_text a b h.0 h.2 (subst (IsTextWord b) (sym e.0) k.2), e.1)
 
 makes_one : (o : Operator) (items : List Item) (d e : Tree) (r s : List Item) → Makes o items d r → Makes o items e s → (d ≡ e) × (r ≡ s)
-makes_one (operators.Leaf leaf) items d e r s h k = (h.0 ∙ sym k.0, sym h.1 ∙ k.1)
 makes_one operators.Text items d e r s h k =
     let x = one_beginning items h.0 k.0 r s h.2 k.2 in
     (h.1 ∙ ap t.Text x.0 ∙ sym k.1, x.1)
@@ -75,9 +72,10 @@ no_payload items left w s begins text unbroken d rest makes =
     let e : true ≡ false = sym makes.3 ∙ ap holds_break (sym same.0) ∙ unbroken in
     absurd cc
 
-puts_one : (o : Option Operator) (w : List ℕ) (items new other : List Item) → Puts o w items new → Puts o w items other → new ≡ other
-puts_one None w items new other h k = h ∙ sym k
-puts_one (Some o) w items new other (d, r, makes, is) (e, s, makes', is') =
+puts_one : (l : Option Tree) (o : Option Operator) (w : List ℕ) (items new other : List Item) → Puts l o w items new → Puts l o w items other → new ≡ other
+puts_one (Some leaf) o w items new other h k = h ∙ sym k
+puts_one None None w items new other h k = h ∙ sym k
+puts_one None (Some o) w items new other (d, r, makes, is) (e, s, makes', is') =
     let x = makes_one o items d e r s makes makes' in
     is ∙ ap (λ (i : Tree). document i ∷ r) x.0 ∙ ap (λ (i : List Item). document e ∷ i) x.1 ∙ sym is'
 
@@ -85,7 +83,7 @@ pub leaves_one : (ws : List (List ℕ)) (items others : List Item) → Leaves ws
 leaves_one [] items others h k = h ∙ sym k
 leaves_one (w ∷ ws) items others h k =
     let before = leaves_one ws h.0 k.0 h.1 k.1 in
-    puts_one (operator_of w) w k.0 items others (subst (λ (i : List Item). Steps w i items) before h.2) k.2
+    puts_one (leaf_of w) (operator_of w) w k.0 items others (subst (λ (i : List Item). Steps w i items) before h.2) k.2
 
 -- the last of the words leave something too
 pub last_leave : (front ws : List (List ℕ)) (items : List Item) → Leaves (front ++ ws) items → (before : List Item) × Leaves ws before
@@ -100,12 +98,6 @@ AreSpelled (word w ∷ items) ws = (others : List (List ℕ)) × (ws ≡ w ∷ o
 AreSpelled (document d ∷ items) ws = (front : List (List ℕ)) × (others : List (List ℕ)) × (ws ≡ front ++ others) × IsSpelled d front × AreSpelled items others
 
 abbrev name_of : Operator → List ℕ
-name_of (operators.Leaf leaves.Nil) = codes "nil"
-name_of (operators.Leaf leaves.Fail) = codes "fail"
-name_of (operators.Leaf leaves.WeakSpace) = codes "ws"
-name_of (operators.Leaf leaves.HardLine) = codes "hl"
-name_of (operators.Leaf leaves.WeakLine) = codes "wl"
-name_of (operators.Leaf leaves.ExpandParent) = codes "exp"
 name_of operators.Text = codes "t"
 name_of operators.TextWithLen = codes "w"
 name_of operators.Payload = codes "m"
@@ -139,26 +131,33 @@ is_named (e ∷ es) w o names h = named_first (bytes_eq w e.0) w e es o (bytes_e
 operator_is : (w : List ℕ) (o : Operator) → operator_of w ≡ Some o → w ≡ name_of o
 operator_is w o h = is_named operator_names w o (search rules) h
 
-leaf_spelled : (leaf : Leaf) → IsSpelled (leaf_tree leaf) (name_of (operators.Leaf leaf) ∷ [])
-leaf_spelled leaves.Nil = refl
-leaf_spelled leaves.Fail = refl
-leaf_spelled leaves.WeakSpace = refl
-leaf_spelled leaves.HardLine = refl
-leaf_spelled leaves.WeakLine = refl
-leaf_spelled leaves.ExpandParent = refl
+-- each node of a table is spelled by its word alone
+abbrev AreSpelledAlone : List (List ℕ × Tree) → Type 0
+AreSpelledAlone [] = Unit {0}
+AreSpelledAlone (e ∷ es) = IsSpelled e.1 (e.0 ∷ []) × AreSpelledAlone es
+
+some_tree_is : (d e : Tree) → Some d ≡ Some e → d ≡ e
+some_tree_is d e h = cc
+
+alone_first : (b : Bool) (w : List ℕ) (e : List ℕ × Tree) (es : List (List ℕ × Tree)) (d : Tree) → (b ≡ true → w ≡ e.0) → IsSpelled e.1 (e.0 ∷ []) → (named_in es w ≡ Some d → IsSpelled d (w ∷ []))
+    → (if b then Some e.1 else named_in es w) ≡ Some d → IsSpelled d (w ∷ [])
+alone_first true w e es d same spelled others h = rw (same refl, ← some_tree_is e.1 d h) spelled
+alone_first false w e es d same spelled others h = others h
+
+is_alone : (es : List (List ℕ × Tree)) (w : List ℕ) (d : Tree) → AreSpelledAlone es → named_in es w ≡ Some d → IsSpelled d (w ∷ [])
+is_alone [] w d spelled h = absurd cc
+is_alone (e ∷ es) w d spelled h = alone_first (bytes_eq w e.0) w e es d (bytes_eq-Decides w e.0).0 spelled.0 (is_alone es w d spelled.1) h
+
+leaf_spelled : (w : List ℕ) (d : Tree) → leaf_of w ≡ Some d → IsSpelled d (w ∷ [])
+leaf_spelled w d h = is_alone leaf_words w d (search rules) h
 
 wrapper_spelled : (w : Wrapper) (d : Tree) (ws : List (List ℕ)) → IsSpelled d ws → IsSpelled (wrapped w d) (name_of (operators.Wrapper w) ∷ ws)
 wrapper_spelled wrappers.LineSuffix d ws h = (ws, refl, h)
-wrapper_spelled wrappers.DedentToRoot d ws h = (ws, refl, h)
-wrapper_spelled wrappers.Align d ws h = (ws, refl, h)
-wrapper_spelled wrappers.Flatten d ws h = (ws, refl, h)
-wrapper_spelled wrappers.Group d ws h = (ws, refl, h)
+wrapper_spelled _ d ws h = (ws, refl, h)
 
 join_spelled : (j : Join) (d e : Tree) (us vs : List (List ℕ)) → IsSpelled d us → IsSpelled e vs → IsSpelled (joined j d e) (name_of (operators.Join j) ∷ us ++ vs)
 join_spelled joins.Append d e us vs h k = (us, vs, refl, h, k)
-join_spelled joins.BreakOrFlat d e us vs h k = (us, vs, refl, h, k)
-join_spelled joins.Union d e us vs h k = (us, vs, refl, h, k)
-join_spelled joins.PartialUnion d e us vs h k = (us, vs, refl, h, k)
+join_spelled _ d e us vs h k = (us, vs, refl, h, k)
 
 -- these words spell the document, and the others the items after it
 spells : (d : Tree) (items : List Item) (front others ws : List (List ℕ)) → IsSpelled d front → AreSpelled items others → ws ≡ front ++ others → AreSpelled (document d ∷ items) ws
@@ -168,8 +167,6 @@ abbrev Spells : List (List ℕ) → List Item → Type 0
 Spells ws items = AreSpelled items ws
 
 makes_spelled : (o : Operator) (items : List Item) (d : Tree) (rest : List Item) (ws : List (List ℕ)) → Makes o items d rest → AreSpelled items ws → AreSpelled (document d ∷ rest) (name_of o ∷ ws)
-makes_spelled (operators.Leaf leaf) items d rest ws h k =
-    spells d rest (name_of (operators.Leaf leaf) ∷ []) ws _ (subst (λ (x : Tree). IsSpelled x (name_of (operators.Leaf leaf) ∷ [])) (sym h.0) (leaf_spelled leaf)) (subst (Spells ws) h.1 k) refl
 makes_spelled operators.Text items d rest ws (s, is, (w, begins, text)) k =
     let x = subst (Spells ws) begins k in
     spells d rest (codes "t" ∷ w ∷ []) x.0 _ (subst (λ (y : Tree). IsSpelled y (codes "t" ∷ w ∷ [])) (sym is) (w, refl, text)) x.2 (ap (λ (y : List (List ℕ)). codes "t" ∷ y) x.1)
@@ -197,14 +194,16 @@ makes_spelled (operators.Join j) items d rest ws (f, g, is, begins) k =
     spells d rest (name ∷ x.0 ++ y.0) y.1 _ (subst (λ (z : Tree). IsSpelled z (name ∷ x.0 ++ y.0)) (sym is) (join_spelled j f g x.0 y.0 x.3 y.3)) y.4
     (ap (λ (z : List (List ℕ)). name ∷ z) (x.2 ∙ ap (λ (z : List (List ℕ)). x.0 ++ z) y.2 ∙ sym (append_assoc x.0 y.0 y.1)))
 
-puts_spelled : (o : Option Operator) (w : List ℕ) (before items : List Item) (ws : List (List ℕ)) → operator_of w ≡ o → Puts o w before items → AreSpelled before ws → AreSpelled items (w ∷ ws)
-puts_spelled None w before items ws e h k = subst (Spells (w ∷ ws)) (sym h) (ws, refl, k)
-puts_spelled (Some o) w before items ws e (d, rest, makes, is) k =
+puts_spelled : (l : Option Tree) (o : Option Operator) (w : List ℕ) (before items : List Item) (ws : List (List ℕ)) → leaf_of w ≡ l → operator_of w ≡ o → Puts l o w before items → AreSpelled before ws → AreSpelled items (w ∷ ws)
+puts_spelled (Some leaf) o w before items ws named e h k =
+    subst (Spells (w ∷ ws)) (sym h) (spells leaf before (w ∷ []) ws (w ∷ ws) (leaf_spelled w leaf named) k refl)
+puts_spelled None None w before items ws named e h k = subst (Spells (w ∷ ws)) (sym h) (ws, refl, k)
+puts_spelled None (Some o) w before items ws named e (d, rest, makes, is) k =
     subst (Spells (w ∷ ws)) (sym is) (subst (λ (x : List ℕ). AreSpelled (document d ∷ rest) (x ∷ ws)) (sym (operator_is w o e)) (makes_spelled o before d rest ws makes k))
 
 leaves_spelled : (ws : List (List ℕ)) (items : List Item) → Leaves ws items → AreSpelled items ws
 leaves_spelled [] items h = subst (Spells []) (sym h) refl
-leaves_spelled (w ∷ ws) items h = puts_spelled (operator_of w) w h.0 items ws refl h.2 (leaves_spelled ws h.0 h.1)
+leaves_spelled (w ∷ ws) items h = puts_spelled (leaf_of w) (operator_of w) w h.0 items ws refl refl h.2 (leaves_spelled ws h.0 h.1)
 
 pub left_is_spelled : (ws : List (List ℕ)) (d : Tree) → Leaves ws (document d ∷ []) → IsSpelled d ws
 left_is_spelled ws d h =
@@ -217,74 +216,79 @@ left_is_spelled ws d h =
 abbrev IsLeft : Tree → List (List ℕ) → List (List ℕ) → List Item → Type 0
 IsLeft d ws others items = Leaves (ws ++ others) (document d ∷ items)
 
--- a word that names no operator is left as it is
-word_left : (w : List ℕ) (others : List (List ℕ)) (items : List Item) → operator_of w ≡ None → Leaves others items → Leaves (w ∷ others) (word w ∷ items)
-word_left w others items e h = (items, h, rw e refl)
+-- a word that names no node is left as it is
+word_left : (w : List ℕ) (others : List (List ℕ)) (items : List Item) → NamesNone w → Leaves others items → Leaves (w ∷ others) (word w ∷ items)
+word_left w others items e h = (items, h, rw (e.0, e.1) refl)
+
+-- the word names this operator, and no node alone
+abbrev Names : List ℕ → Operator → Type 0
+Names w o = (leaf_of w ≡ None) × (operator_of w ≡ Some o)
 
 -- an operator leaves what it makes
-made_left : (name : List ℕ) (o : Operator) (others : List (List ℕ)) (before items : List Item) (d : Tree) → operator_of name ≡ Some o → Leaves others before → Makes o before d items → Leaves (name ∷ others) (document d ∷ items)
-made_left name o others before items d e h makes = (before, h, rw e (d, items, makes, refl))
+made_left : (name : List ℕ) (o : Operator) (others : List (List ℕ)) (before items : List Item) (d : Tree) → Names name o → Leaves others before → Makes o before d items → Leaves (name ∷ others) (document d ∷ items)
+made_left name o others before items d e h makes = (before, h, rw (e.0, e.1) (d, items, makes, refl))
 
-leaf_left : (name : List ℕ) (leaf : Leaf) (ws others : List (List ℕ)) (items : List Item) → operator_of name ≡ Some (operators.Leaf leaf) → ws ≡ name ∷ [] → Leaves others items → IsLeft (leaf_tree leaf) ws others items
-leaf_left name leaf ws others items e is h =
-    subst (λ (x : List (List ℕ)). IsLeft (leaf_tree leaf) x others items) (sym is) (made_left name (operators.Leaf leaf) others items items (leaf_tree leaf) e h (refl, refl))
+-- a word that names a node leaves it
+leaf_left : (d : Tree) (ws others : List (List ℕ)) (items : List Item) → leaf_alone ws ≡ Some d → Leaves others items → IsLeft d ws others items
+leaf_left d [] others items e h = absurd cc
+leaf_left d (w ∷ []) others items e h = (items, h, rw e refl)
+leaf_left d (w ∷ v ∷ ws) others items e h = absurd cc
 
-wrapper_left : (name : List ℕ) (w : Wrapper) (d : Tree) (inner ws others : List (List ℕ)) (items : List Item) → operator_of name ≡ Some (operators.Wrapper w) → ws ≡ name ∷ inner → IsLeft d inner others items → IsLeft (wrapped w d) ws others items
+wrapper_left : (name : List ℕ) (w : Wrapper) (d : Tree) (inner ws others : List (List ℕ)) (items : List Item) → Names name (operators.Wrapper w) → ws ≡ name ∷ inner → IsLeft d inner others items → IsLeft (wrapped w d) ws others items
 wrapper_left name w d inner ws others items e is h =
     subst (λ (x : List (List ℕ)). IsLeft (wrapped w d) x others items) (sym is) (made_left name (operators.Wrapper w) (inner ++ others) (document d ∷ items) items (wrapped w d) e h (d, refl, refl))
 
-join_left : (name : List ℕ) (j : Join) (d f : Tree) (us vs ws others : List (List ℕ)) (items : List Item) → operator_of name ≡ Some (operators.Join j) → ws ≡ name ∷ us ++ vs
+join_left : (name : List ℕ) (j : Join) (d f : Tree) (us vs ws others : List (List ℕ)) (items : List Item) → Names name (operators.Join j) → ws ≡ name ∷ us ++ vs
     → IsLeft d us (vs ++ others) (document f ∷ items) → IsLeft (joined j d f) ws others items
 join_left name j d f us vs ws others items e is h =
     let regrouped = subst (λ (x : List (List ℕ)). Leaves x (document d ∷ document f ∷ items)) (sym (append_assoc us vs others)) h in
     subst (λ (x : List (List ℕ)). IsLeft (joined j d f) x others items) (sym is) (made_left name (operators.Join j) ((us ++ vs) ++ others) (document d ∷ document f ∷ items) items (joined j d f) e regrouped (d, f, refl, refl))
 
 spelled_is_left : (d : Tree) (ws others : List (List ℕ)) (items : List Item) → IsSpelled d ws → Leaves others items → IsLeft d ws others items
-spelled_is_left t.Nil ws others items h k = leaf_left (codes "nil") leaves.Nil ws others items refl h k
-spelled_is_left t.Fail ws others items h k = leaf_left (codes "fail") leaves.Fail ws others items refl h k
 spelled_is_left (t.Text s) ws others items (w, is, text) k =
     subst (λ (x : List (List ℕ)). IsLeft (t.Text s) x others items) (sym is)
-    (made_left (codes "t") operators.Text (w ∷ others) (word w ∷ items) items (t.Text s) refl (word_left w others items (text_names_none s w text) k) (s, refl, (w, refl, text)))
+    (made_left (codes "t") operators.Text (w ∷ others) (word w ∷ items) items (t.Text s) (refl, refl) (word_left w others items (text_names_none s w text) k) (s, refl, (w, refl, text)))
 spelled_is_left (t.TextWithLen n s) ws others items (u, w, is, number, text) k =
     let text_left = word_left w others items (text_names_none s w text) k in
     let both_left = word_left u (w ∷ others) (word w ∷ items) (number_names_none n u number) text_left in
     subst (λ (x : List (List ℕ)). IsLeft (t.TextWithLen n s) x others items) (sym is)
-    (made_left (codes "w") operators.TextWithLen (u ∷ w ∷ others) (word u ∷ word w ∷ items) items (t.TextWithLen n s) refl both_left (u, n, word w ∷ items, s, refl, refl, number, (w, refl, text)))
+    (made_left (codes "w") operators.TextWithLen (u ∷ w ∷ others) (word u ∷ word w ∷ items) items (t.TextWithLen n s) (refl, refl) both_left (u, n, word w ∷ items, s, refl, refl, number, (w, refl, text)))
 spelled_is_left (t.MultilineText s) ws others items (w, is, text, broken) k =
     subst (λ (x : List (List ℕ)). IsLeft (t.MultilineText s) x others items) (sym is)
-    (made_left (codes "m") operators.Payload (w ∷ others) (word w ∷ items) items (t.MultilineText s) refl (word_left w others items (text_names_none s w text) k) (s, refl, (w, refl, text), broken))
-spelled_is_left t.WeakSpace ws others items h k = leaf_left (codes "ws") leaves.WeakSpace ws others items refl h k
-spelled_is_left t.HardLine ws others items h k = leaf_left (codes "hl") leaves.HardLine ws others items refl h k
-spelled_is_left t.WeakLine ws others items h k = leaf_left (codes "wl") leaves.WeakLine ws others items refl h k
+    (made_left (codes "m") operators.Payload (w ∷ others) (word w ∷ items) items (t.MultilineText s) (refl, refl) (word_left w others items (text_names_none s w text) k) (s, refl, (w, refl, text), broken))
 spelled_is_left (t.Append l r) ws others items (us, vs, is, first, second) k =
-    join_left (codes "app") joins.Append l r us vs ws others items refl is (spelled_is_left l us (vs ++ others) (document r ∷ items) first (spelled_is_left r vs others items second k))
-spelled_is_left (t.LineSuffix d) ws others items (inner, is, h) k = wrapper_left (codes "sfx") wrappers.LineSuffix d inner ws others items refl is (spelled_is_left d inner others items h k)
+    join_left (codes "app") joins.Append l r us vs ws others items (refl, refl) is (spelled_is_left l us (vs ++ others) (document r ∷ items) first (spelled_is_left r vs others items second k))
+spelled_is_left (t.LineSuffix d) ws others items (inner, is, h) k = wrapper_left (codes "sfx") wrappers.LineSuffix d inner ws others items (refl, refl) is (spelled_is_left d inner others items h k)
 spelled_is_left (t.Nest n d) ws others items (u, inner, is, offset, h) k =
     let inner_left = spelled_is_left d inner others items h k in
     subst (λ (x : List (List ℕ)). IsLeft (t.Nest n d) x others items) (sym is)
-    (made_left (codes "nest") operators.Nest (u ∷ inner ++ others) (word u ∷ document d ∷ items) items (t.Nest n d) refl (word_left u (inner ++ others) (document d ∷ items) (offset_names_none n u offset) inner_left) (u, n, d, refl, refl, offset))
-spelled_is_left (t.DedentToRoot d) ws others items (inner, is, h) k = wrapper_left (codes "root") wrappers.DedentToRoot d inner ws others items refl is (spelled_is_left d inner others items h k)
-spelled_is_left (t.Align d) ws others items (inner, is, h) k = wrapper_left (codes "align") wrappers.Align d inner ws others items refl is (spelled_is_left d inner others items h k)
-spelled_is_left t.ExpandParent ws others items h k = leaf_left (codes "exp") leaves.ExpandParent ws others items refl h k
-spelled_is_left (t.Flatten d) ws others items (inner, is, h) k = wrapper_left (codes "flat") wrappers.Flatten d inner ws others items refl is (spelled_is_left d inner others items h k)
+    (made_left (codes "nest") operators.Nest (u ∷ inner ++ others) (word u ∷ document d ∷ items) items (t.Nest n d) (refl, refl) (word_left u (inner ++ others) (document d ∷ items) (offset_names_none n u offset) inner_left) (u, n, d, refl, refl, offset))
+spelled_is_left (t.DedentToRoot d) ws others items (inner, is, h) k = wrapper_left (codes "root") wrappers.DedentToRoot d inner ws others items (refl, refl) is (spelled_is_left d inner others items h k)
+spelled_is_left (t.Align d) ws others items (inner, is, h) k = wrapper_left (codes "align") wrappers.Align d inner ws others items (refl, refl) is (spelled_is_left d inner others items h k)
+spelled_is_left (t.Flatten d) ws others items (inner, is, h) k = wrapper_left (codes "flat") wrappers.Flatten d inner ws others items (refl, refl) is (spelled_is_left d inner others items h k)
 spelled_is_left (t.BreakOrFlat l r) ws others items (us, vs, is, first, second) k =
-    join_left (codes "bof") joins.BreakOrFlat l r us vs ws others items refl is (spelled_is_left l us (vs ++ others) (document r ∷ items) first (spelled_is_left r vs others items second k))
-spelled_is_left (t.Group d) ws others items (inner, is, h) k = wrapper_left (codes "grp") wrappers.Group d inner ws others items refl is (spelled_is_left d inner others items h k)
+    join_left (codes "bof") joins.BreakOrFlat l r us vs ws others items (refl, refl) is (spelled_is_left l us (vs ++ others) (document r ∷ items) first (spelled_is_left r vs others items second k))
+spelled_is_left (t.Group d) ws others items (inner, is, h) k = wrapper_left (codes "grp") wrappers.Group d inner ws others items (refl, refl) is (spelled_is_left d inner others items h k)
 spelled_is_left (t.Union l r) ws others items (us, vs, is, first, second) k =
-    join_left (codes "uni") joins.Union l r us vs ws others items refl is (spelled_is_left l us (vs ++ others) (document r ∷ items) first (spelled_is_left r vs others items second k))
+    join_left (codes "uni") joins.Union l r us vs ws others items (refl, refl) is (spelled_is_left l us (vs ++ others) (document r ∷ items) first (spelled_is_left r vs others items second k))
 spelled_is_left (t.PartialUnion l r) ws others items (us, vs, is, first, second) k =
-    join_left (codes "puni") joins.PartialUnion l r us vs ws others items refl is (spelled_is_left l us (vs ++ others) (document r ∷ items) first (spelled_is_left r vs others items second k))
+    join_left (codes "puni") joins.PartialUnion l r us vs ws others items (refl, refl) is (spelled_is_left l us (vs ++ others) (document r ∷ items) first (spelled_is_left r vs others items second k))
+-- every other node is one word
+spelled_is_left d ws others items h k = leaf_left d ws others items h k
 
 pub spelled_leaves : (ws : List (List ℕ)) (d : Tree) → IsSpelled d ws → Leaves ws (document d ∷ [])
 spelled_leaves ws d h = subst (λ (x : List (List ℕ)). Leaves x (document d ∷ [])) (append-nil ws) (spelled_is_left d ws [] [] h refl)
 
 -- ---- one word
 
-pub steps_by_operator : (w : List ℕ) (o : Operator) (items rest new : List Item) (d : Tree) → operator_of w ≡ Some o → Makes o items d rest → new ≡ document d ∷ rest → Steps w items new
-steps_by_operator w o items rest new d e makes is = rw e (d, rest, makes, is)
+pub steps_by_leaf : (w : List ℕ) (items new : List Item) (d : Tree) → leaf_of w ≡ Some d → new ≡ document d ∷ items → Steps w items new
+steps_by_leaf w items new d e is = rw e is
 
-pub steps_by_word : (w : List ℕ) (items new : List Item) → operator_of w ≡ None → new ≡ word w ∷ items → Steps w items new
-steps_by_word w items new e is = rw e is
+pub steps_by_operator : (w : List ℕ) (o : Operator) (items rest new : List Item) (d : Tree) → leaf_of w ≡ None → operator_of w ≡ Some o → Makes o items d rest → new ≡ document d ∷ rest → Steps w items new
+steps_by_operator w o items rest new d named e makes is = rw (named, e) (d, rest, makes, is)
+
+pub steps_by_word : (w : List ℕ) (items new : List Item) → leaf_of w ≡ None → operator_of w ≡ None → new ≡ word w ∷ items → Steps w items new
+steps_by_word w items new named e is = rw (named, e) is
 
 -- ---- all the words
 

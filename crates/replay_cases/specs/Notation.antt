@@ -3,6 +3,7 @@
 use Rattle.std.specs.Prelude.{◌≡◌, ℕ, ◌^◌, ◌<◌, ℤ, pos, neg_ℤ, FitsSigned, not, true, List, [], ◌∷◌, ◌++◌, drop, codes, Option, Some, None, ◌==◌, if◌then◌else◌}
 use Rattle.std.specs.Int.{w64}
 use Rattle.std.specs.List.{slice_split, take_while}
+use Rattle.std.specs.Map.{lookup}
 use Rattle.std.specs.Str.{IsUtf8, bytes_eq}
 use Rattle.std.specs.Str.Parse.{IsNumeral, digits_value, starts_with_minus}
 use Rattle.hex.specs.Hex.{encode_lower}
@@ -27,8 +28,7 @@ case_words line = take_while (λ w. not (bytes_eq w (codes "=>"))) (words line)
 
 -- what a word names in a table of names
 abbrev pub named_in : {A : Type 0} → List (List ℕ × A) → List ℕ → Option A
-named_in [] w = None
-named_in (e ∷ es) w = if bytes_eq w e.0 then Some e.1 else named_in es w
+named_in names w = lookup (bytes_eq w) names
 
 -- a number below 2^64: its decimal digits, with leading zeros or without
 abbrev pub IsNumber : ℕ → List ℕ → Type 0
@@ -57,6 +57,26 @@ IsTextWord s w = IsUtf8 s × (w ≡ hex_word s)
 
 -- ---- documents
 
+-- the words of nodes with nothing below them and no text
+abbrev pub leaf_words : List (List ℕ × Tree)
+leaf_words =
+    (codes "nil", t.Nil)
+    ∷ (codes "fail", t.Fail)
+    ∷ (codes "ws", t.WeakSpace)
+    ∷ (codes "hl", t.HardLine)
+    ∷ (codes "wl", t.WeakLine)
+    ∷ (codes "exp", t.ExpandParent)
+    ∷ []
+
+-- the node that a word names, with nothing below it and no text
+abbrev pub leaf_of : List ℕ → Option Tree
+leaf_of w = named_in leaf_words w
+
+-- the node that words name where they are one word
+abbrev pub leaf_alone : List (List ℕ) → Option Tree
+leaf_alone (w ∷ []) = leaf_of w
+leaf_alone _ = None
+
 -- a node in front of one document
 abbrev pub Wraps : List ℕ → (List (List ℕ) → Type 0) → List (List ℕ) → Type 0
 Wraps name Inner ws = (inner : List (List ℕ)) × (ws ≡ name ∷ inner) × Inner inner
@@ -67,25 +87,21 @@ Joins name First Second ws = (first : List (List ℕ)) × (second : List (List �
 
 -- the words of a document
 abbrev pub IsSpelled : Tree → List (List ℕ) → Type 0
-IsSpelled t.Nil ws = ws ≡ codes "nil" ∷ []
-IsSpelled t.Fail ws = ws ≡ codes "fail" ∷ []
 IsSpelled (t.Text s) ws = (v : List ℕ) × (ws ≡ codes "t" ∷ v ∷ []) × IsTextWord s v
 IsSpelled (t.TextWithLen n s) ws = (u : List ℕ) × (v : List ℕ) × (ws ≡ codes "w" ∷ u ∷ v ∷ []) × IsNumber n u × IsTextWord s v
 IsSpelled (t.MultilineText s) ws = (v : List ℕ) × (ws ≡ codes "m" ∷ v ∷ []) × IsTextWord s v × (holds_break s ≡ true)
-IsSpelled t.WeakSpace ws = ws ≡ codes "ws" ∷ []
-IsSpelled t.HardLine ws = ws ≡ codes "hl" ∷ []
-IsSpelled t.WeakLine ws = ws ≡ codes "wl" ∷ []
 IsSpelled (t.Append l r) ws = Joins (codes "app") (IsSpelled l) (IsSpelled r) ws
 IsSpelled (t.LineSuffix d) ws = Wraps (codes "sfx") (IsSpelled d) ws
 IsSpelled (t.Nest k d) ws = (u : List ℕ) × (inner : List (List ℕ)) × (ws ≡ codes "nest" ∷ u ∷ inner) × IsOffset k u × IsSpelled d inner
 IsSpelled (t.DedentToRoot d) ws = Wraps (codes "root") (IsSpelled d) ws
 IsSpelled (t.Align d) ws = Wraps (codes "align") (IsSpelled d) ws
-IsSpelled t.ExpandParent ws = ws ≡ codes "exp" ∷ []
 IsSpelled (t.Flatten d) ws = Wraps (codes "flat") (IsSpelled d) ws
 IsSpelled (t.BreakOrFlat b f) ws = Joins (codes "bof") (IsSpelled b) (IsSpelled f) ws
 IsSpelled (t.Group d) ws = Wraps (codes "grp") (IsSpelled d) ws
 IsSpelled (t.Union l r) ws = Joins (codes "uni") (IsSpelled l) (IsSpelled r) ws
 IsSpelled (t.PartialUnion l r) ws = Joins (codes "puni") (IsSpelled l) (IsSpelled r) ws
+-- every other node is one word, which names it
+IsSpelled d ws = leaf_alone ws ≡ Some d
 
 -- ---- cases
 

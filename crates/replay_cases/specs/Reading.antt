@@ -3,8 +3,6 @@ use Rattle.std.specs.Prelude.{◌≡◌, ℕ, ℤ, List, [], ◌∷◌, ◌++◌
 use Rattle.prettyless_doc.specs.Breaks.{holds_break}
 use Rattle.prettyless.specs.Tree as t
 use Rattle.prettyless.specs.Tree.{Tree}
-use Rattle.replay_cases.specs.declared.operator.Leaf.{Leaf}
-use Rattle.replay_cases.specs.declared.operator.Leaf.TheVariants as leaves
 use Rattle.replay_cases.specs.declared.operator.Wrapper.{Wrapper}
 use Rattle.replay_cases.specs.declared.operator.Wrapper.TheVariants as wrappers
 use Rattle.replay_cases.specs.declared.operator.Join.{Join}
@@ -13,7 +11,7 @@ use Rattle.replay_cases.specs.declared.operator.Operator.{Operator}
 use Rattle.replay_cases.specs.declared.operator.Operator.TheVariants as operators
 use Rattle.replay_cases.specs.declared.operand.Operand.{Operand}
 use Rattle.replay_cases.specs.declared.operand.Operand.TheVariants.{Word, Document}
-use Rattle.replay_cases.specs.Notation.{named_in, IsNumber, IsOffset, IsTextWord}
+use Rattle.replay_cases.specs.Notation.{leaf_of, named_in, IsNumber, IsOffset, IsTextWord}
 use Rattle.replay_cases.specs.Pointers.{pointer_tree}
 
 -- ---- operators
@@ -21,13 +19,7 @@ use Rattle.replay_cases.specs.Pointers.{pointer_tree}
 -- the names of the operators
 abbrev pub operator_names : List (List ℕ × Operator)
 operator_names =
-    (codes "nil", operators.Leaf leaves.Nil)
-    ∷ (codes "fail", operators.Leaf leaves.Fail)
-    ∷ (codes "ws", operators.Leaf leaves.WeakSpace)
-    ∷ (codes "hl", operators.Leaf leaves.HardLine)
-    ∷ (codes "wl", operators.Leaf leaves.WeakLine)
-    ∷ (codes "exp", operators.Leaf leaves.ExpandParent)
-    ∷ (codes "t", operators.Text)
+    (codes "t", operators.Text)
     ∷ (codes "w", operators.TextWithLen)
     ∷ (codes "m", operators.Payload)
     ∷ (codes "nest", operators.Nest)
@@ -45,15 +37,6 @@ operator_names =
 -- the operator that a word names
 abbrev pub operator_of : List ℕ → Option Operator
 operator_of w = named_in operator_names w
-
--- the tree of a leaf
-abbrev pub leaf_tree : Leaf → Tree
-leaf_tree leaves.Nil = t.Nil
-leaf_tree leaves.Fail = t.Fail
-leaf_tree leaves.WeakSpace = t.WeakSpace
-leaf_tree leaves.HardLine = t.HardLine
-leaf_tree leaves.WeakLine = t.WeakLine
-leaf_tree leaves.ExpandParent = t.ExpandParent
 
 -- the tree of a node over one document
 abbrev pub wrapped : Wrapper → Tree → Tree
@@ -93,7 +76,6 @@ BeginsWithText items s rest = (w : List ℕ) × (items ≡ word w ∷ rest) × I
 
 -- an operator takes what it needs from the items, makes a document of it, and leaves the others
 abbrev pub Makes : Operator → List Item → Tree → List Item → Type 0
-Makes (operators.Leaf leaf) items d rest = (d ≡ leaf_tree leaf) × (items ≡ rest)
 Makes operators.Text items d rest = (s : List ℕ) × (d ≡ t.Text s) × BeginsWithText items s rest
 Makes operators.TextWithLen items d rest =
     (u : List ℕ) × (n : ℕ) × (others : List Item) × (s : List ℕ) × (d ≡ t.TextWithLen n s) × (items ≡ word u ∷ others) × IsNumber n u × BeginsWithText others s rest
@@ -104,11 +86,12 @@ Makes (operators.Wrapper wrapper) items d rest = (inner : Tree) × (d ≡ wrappe
 Makes (operators.Join join) items d rest =
     (first : Tree) × (second : Tree) × (d ≡ joined join first second) × (items ≡ document first ∷ document second ∷ rest)
 
--- what becomes of the items where this comes in front of them: a word, or what an operator makes
-abbrev pub Puts : Option Operator → List ℕ → List Item → List Item → Type 0
-Puts None w items new = new ≡ word w ∷ items
-Puts (Some o) w items new = (d : Tree) × (rest : List Item) × Makes o items d rest × (new ≡ document d ∷ rest)
+-- what becomes of the items where this comes in front of them: a node, what an operator makes, or a word
+abbrev pub Puts : Option Tree → Option Operator → List ℕ → List Item → List Item → Type 0
+Puts (Some leaf) o w items new = new ≡ document leaf ∷ items
+Puts None (Some o) w items new = (d : Tree) × (rest : List Item) × Makes o items d rest × (new ≡ document d ∷ rest)
+Puts None None w items new = new ≡ word w ∷ items
 
 -- what becomes of the items where this word comes in front of them
 abbrev pub Steps : List ℕ → List Item → List Item → Type 0
-Steps w items new = Puts (operator_of w) w items new
+Steps w items new = Puts (leaf_of w) (operator_of w) w items new

@@ -1,21 +1,11 @@
-ghost use Rattle.std.specs.Prelude.{◌≡◌};
+ghost use Rattle.std.specs.Prelude.{◌≡◌, option_map};
 ghost use Rattle.prettyless.specs.DocTree.{tree_of};
+ghost use Rattle.replay_cases.specs.Notation.{leaf_of};
 ghost use Rattle.replay_cases.specs.Pointers.{pointer_tree};
-ghost use Rattle.replay_cases.specs.Reading.{operator_of, leaf_tree, wrapped, joined};
+ghost use Rattle.replay_cases.specs.Reading.{operator_of, wrapped, joined};
 
 use crate::pointer::Pointer;
 use prettyless::Doc;
-
-/// A node with nothing below it and no text.
-#[derive(Clone, Copy)]
-pub enum Leaf {
-    Nil,
-    Fail,
-    WeakSpace,
-    HardLine,
-    WeakLine,
-    ExpandParent,
-}
 
 /// A node with a document below it, and nothing else.
 #[derive(Clone, Copy)]
@@ -36,10 +26,9 @@ pub enum Join {
     PartialUnion,
 }
 
-/// What a node's first word names: the node's variant.
+/// What the first word of a node with a text or a document in it names: the node's variant.
 #[derive(Clone, Copy)]
 pub enum Operator {
-    Leaf(Leaf),
     Text,
     TextWithLen,
     Payload,
@@ -48,17 +37,26 @@ pub enum Operator {
     Join(Join),
 }
 
+/// The node that a word names, with nothing below it and no text.
+pub fn leaf_named<'a>(word: &[u8]) -> Option<Doc<'a, Pointer<'a>>>
+    ensures { option_map (tree_of pointer_tree) result ≡ leaf_of word.now }
+{
+    match word {
+        b"nil" => Some(Doc::Nil),
+        b"fail" => Some(Doc::Fail),
+        b"ws" => Some(Doc::WeakSpace),
+        b"hl" => Some(Doc::HardLine),
+        b"wl" => Some(Doc::WeakLine),
+        b"exp" => Some(Doc::ExpandParent),
+        _ => None,
+    }
+}
+
 /// The operator that a word names.
 pub fn operator_named(word: &[u8]) -> Option<Operator>
     ensures { result ≡ operator_of word.now }
 {
     match word {
-        b"nil" => Some(Operator::Leaf(Leaf::Nil)),
-        b"fail" => Some(Operator::Leaf(Leaf::Fail)),
-        b"ws" => Some(Operator::Leaf(Leaf::WeakSpace)),
-        b"hl" => Some(Operator::Leaf(Leaf::HardLine)),
-        b"wl" => Some(Operator::Leaf(Leaf::WeakLine)),
-        b"exp" => Some(Operator::Leaf(Leaf::ExpandParent)),
         b"t" => Some(Operator::Text),
         b"w" => Some(Operator::TextWithLen),
         b"m" => Some(Operator::Payload),
@@ -73,22 +71,6 @@ pub fn operator_named(word: &[u8]) -> Option<Operator>
         b"uni" => Some(Operator::Join(Join::Union)),
         b"puni" => Some(Operator::Join(Join::PartialUnion)),
         _ => None,
-    }
-}
-
-impl Leaf {
-    /// The node.
-    pub fn doc<'a>(self) -> Doc<'a, Pointer<'a>>
-        ensures { tree_of pointer_tree result ≡ leaf_tree self }
-    {
-        match self {
-            Leaf::Nil => Doc::Nil,
-            Leaf::Fail => Doc::Fail,
-            Leaf::WeakSpace => Doc::WeakSpace,
-            Leaf::HardLine => Doc::HardLine,
-            Leaf::WeakLine => Doc::WeakLine,
-            Leaf::ExpandParent => Doc::ExpandParent,
-        }
     }
 }
 

@@ -12,7 +12,7 @@ use crate::expected::Expected;
 use crate::hexadecimal::text;
 use crate::offset::offset;
 use crate::operand::{Operand, take_document, take_word};
-use crate::operator::{Operator, operator_named};
+use crate::operator::{Operator, leaf_named, operator_named};
 use crate::pointer::{Place, Pointer, put};
 use crate::refusal::Refusal;
 use decimals::number;
@@ -55,7 +55,6 @@ fn make<'a>(
     ensures err { IfErr result (λ e. Refuses e ((d : Tree) (rest : List Item) → Makes operator (items_of operands.old.items) d rest → ⊥)) }
 {
     match operator {
-        Operator::Leaf(leaf) => put(place, leaf.doc()),
         Operator::Text => put(place, Doc::Text(take_text(place.memory(), operands)?)),
         Operator::TextWithLen => {
             let word = take_word(operands, Expected::Columns)?;
@@ -79,7 +78,7 @@ fn make<'a>(
     }
 }
 
-// Puts one word more in front: an operator makes a document of what comes after it.
+// Puts one word more in front: it names a node, or an operator, which makes a document of what comes after it.
 fn put_in_front<'a>(
     place: &'a Place<'a>,
     word: &'a [u8],
@@ -88,9 +87,12 @@ fn put_in_front<'a>(
     ensures ok { OnOk result (Steps word.now (items_of operands.old.items) (items_of operands.new.items)) }
     ensures err { IfErr result (λ e. Refuses e ((new : List Item) → Steps word.now (items_of operands.old.items) new → ⊥)) }
 {
-    let operand = match operator_named(word) {
-        Some(operator) => Operand::Document(make(place, operator, operands)?),
-        None => Operand::Word(word),
+    let operand = match leaf_named(word) {
+        Some(leaf) => Operand::Document(put(place, leaf)?),
+        None => match operator_named(word) {
+            Some(operator) => Operand::Document(make(place, operator, operands)?),
+            None => Operand::Word(word),
+        },
     };
     operands.push(operand)?;
     Ok(())
