@@ -2,7 +2,7 @@
 ghost use Rattle.std.specs.Prelude.{◌≡◌, []};
 ghost use Rattle.prettyless_step.specs.Printing.{tasks_of};
 ghost use Rattle.prettyless_printer.specs.Points.{point, seen};
-ghost use Rattle.prettyless_printer.specs.Turns.{Chooses};
+ghost use Rattle.prettyless_printer.specs.Paths.{Chooses};
 ghost use Rattle.prettyless_printer.specs.Renders.{FlushesEnd, Renders, RunsToEnd, WorksOff};
 
 use crate::answer::Turn;
