@@ -1,5 +1,5 @@
 -- A run of turns.
-use Rattle.std.proofs.Common.{◌≡◌, ℕ, ◌<◌, ◌≤◌, List, [], ◌++◌, length, ap, sym, ◌∙◌, append-nil, arith, subst, Err}
+use Rattle.std.proofs.Common.{◌≡◌, ℕ, ◌<◌, ◌≤◌, List, [], ◌∷◌, ◌++◌, length, refl, ap, sym, ◌∙◌, append-nil, arith, subst, Err}
 use Rattle.prettyless_sink.specs.Sink.{AppendsBeginning, rise}
 use Rattle.prettyless_model.specs.declared.options.RenderOptions.{RenderOptions}
 use Rattle.prettyless_sink.specs.declared.error.RenderError.{RenderError}
@@ -82,3 +82,8 @@ choice_broke A {N} {E} f p v q i x y fails old out new n k m (Memory e) w l a h 
       (waits_beginning p.options (rest_of f p) (limit_at f p) [] old i x y (tasks_of f v) (state_of f v) out l),
   h.1 ∙ a,
 )
+
+-- no task is left
+pub no_tasks : (ts : List Task) → length ts ≤ 0 → ts ≡ []
+no_tasks [] l = refl
+no_tasks (t ∷ ts) l = absurd (omega arith)

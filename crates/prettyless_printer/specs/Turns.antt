@@ -1,5 +1,5 @@
 -- What a turn does to the work: it takes some of it away, and carries it on inside every whole that it was inside of.
-use Rattle.std.specs.Prelude.{◌≡◌, ℕ, ◌+◌, ◌*◌, ◌<◌, ◌≤◌, List, ◌++◌, length, Result, Ok, Err, IfOk, OnOk}
+use Rattle.std.specs.Prelude.{◌≡◌, ℕ, ◌+◌, ◌*◌, ◌<◌, ◌≤◌, List, ◌∷◌, ◌++◌, length, Result, Ok, Err, IfOk, OnOk}
 use Rattle.prettyless_sink.specs.Sink.{AppendsBeginning, IfKnown, rise}
 use Rattle.prettyless_model.specs.declared.options.RenderOptions.{RenderOptions}
 use Rattle.prettyless_sink.specs.declared.error.RenderError.{RenderError}
@@ -7,12 +7,14 @@ use Rattle.prettyless_sink.specs.declared.error.RenderError.TheVariants.{Documen
 use Rattle.prettyless_model.specs.Tree.{Tree, size}
 use Rattle.prettyless_model.specs.Layout as layout
 use Rattle.prettyless_model.specs.Layout.{Outcome, Done}
-use Rattle.prettyless_step.specs.Stack.{Task}
+use Rattle.prettyless_model.specs.Content.{suffix_depth}
+use Rattle.prettyless_model.specs.declared.mode.Mode.TheVariants.{Break}
+use Rattle.prettyless_step.specs.Stack.{Task, make_task}
 use Rattle.prettyless_step.specs.Steps.{work}
 use Rattle.prettyless_step.specs.Printing.{state_of, tasks_of, Grows}
 use Rattle.prettyless_printer.specs.Points.{Point}
-use Rattle.prettyless_printer.specs.Visits.{Plain, Rise, TurnCountsAtMost}
-use Rattle.prettyless_printer.specs.AtLeast.{TurnCountsAtLeast}
+use Rattle.prettyless_printer.specs.Visits.{Plain, Rise, RunCountsAtMost, TurnCountsAtMost}
+use Rattle.prettyless_printer.specs.AtLeast.{CountsAtLeast, TurnCountsAtLeast, choice_tally, stack_tally}
 use Rattle.prettyless_printer.specs.Progress.{Inside, Waits}
 use Rattle.prettyless_step.specs.declared.printer.Printer.{Printer}
 use Rattle.prettyless_printer.specs.declared.answer.Turn.{Turn}
@@ -85,3 +87,21 @@ Chose f p q i x y out new n m (Ok r) =
 Chose f p q i x y out new n m (Err (Document e)) = ⊥
 Chose f p q i x y out new n m (Err (Sink e)) = ForWaits f p i x y out (λ whole limit below old. AppendsBeginning old new (bytes_before whole)) × (m ≡ rise n)
 Chose f p q i x y out new n m (Err (Memory e)) = (new ≡ out) × (m ≡ n)
+
+-- A choice between two branches at an indent, from where it waits: one was laid, or comes next.
+pub record Chooses {N A E : Type 0} (f : N → Tree) (i : ℕ) (x y : Tree) (a b : Point N) (r : Result A (RenderError E)) : Type 0 where
+  -- the options are the same
+  pub options : OnOk r (b.printer.options ≡ a.printer.options)
+  -- the sink writes through the same reference
+  pub same_lender : b.sink.lender ≡ a.sink.lender
+  -- there is no more work than with both branches
+  pub lessens : OnOk r (work (tasks_of f b.printer) (state_of f b.printer) ≤ 2 * (size x + size y) + work (tasks_of f a.printer) (state_of f a.printer))
+  -- where the sink's bytes are known, they go on in every whole that the choice waits in
+  pub bytes : IfKnown a.sink.bytes b.sink.bytes (λ before after. Chose f a.printer b.printer i x y before after a.sink.failures b.sink.failures r)
+  -- no count of visits fell
+  pub rise : Rise a.visits b.visits
+  -- without line suffixes, a visit is counted at most once for each node of the branches
+  pub at_most : Plain f a.printer → suffix_depth x ≡ 0 → suffix_depth y ≡ 0
+      → RunCountsAtMost f (make_task i Break x ∷ make_task i Break y ∷ tasks_of f a.printer) b.printer a.visits b.visits r
+  -- what was laid is counted
+  pub at_least : OnOk r (CountsAtLeast (choice_tally f a.printer 0 i x y) (stack_tally f b.printer 0) a.visits b.visits)

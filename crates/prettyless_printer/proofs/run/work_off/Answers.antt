@@ -7,7 +7,7 @@ use Rattle.prettyless_printer.specs.Progress.{Inside}
 use Rattle.prettyless_printer.specs.Turns.{Goes}
 use Rattle.prettyless_printer.specs.declared.answer.Turn.TheVariants as turn
 use Rattle.prettyless_step.proofs.Stacks.{length-stack_of}
-use Rattle.prettyless_printer.proofs.Working.{working_begins, working_turn, working_end, turn_broke, working_choice, choice_broke}
+use Rattle.prettyless_printer.proofs.Working.{no_tasks, working_begins, working_turn, working_end, turn_broke, working_choice, choice_broke}
 use Rattle.prettyless_printer.proofs.Visits.{rise_same, rise_then, at_most_same, at_most_then, at_most_all}
 use Rattle.prettyless_printer.specs.AtLeast.{stack_tally}
 use Rattle.prettyless_printer.proofs.AtLeast.{at_least_same, at_least_then, at_least_end}
@@ -53,25 +53,35 @@ work-preserved-in-Went g c =
       at_least = at_least_then c.work.invariant.at_least ((rw c.in-Went.is at c.in_ok-turn.ensures.at_least) 0 l);
     }
 
-pub returns-in-Failed-clause-bytes : goal.returns-in-Failed-clause-bytes
-returns-in-Failed-clause-bytes g c =
+pub returns-in-Failed : goal.returns-in-Failed
+returns-in-Failed g c =
     let f = g.N.Walk.tree in
     let w = known_of g.W.Render.bytes in
-    let fails = g.W.Render.failures in
     let p = c.args.printer.now in
     let v = c.work.printer in
     let q = c.turn.new.printer in
     let new = c.turn.new.out in
     let l : 0 < length (tasks_of f v) = omega (arith, length-stack_of f v.commands.items, v.commands.ok.0, c.work-test.true, c.len.ensures) in
     let d = rw c.in-Failed.is at c.in_ok-turn.ensures.bytes in
-    λ is_known.
-    let y = c.work.invariant.bytes is_known in
-    let e = d y.0 in
-    let z = working_turn f p v (w c.args.out.now) (w c.work.out) (λ o. Goes f o q (w new) turn.Failed) c.work.invariant.options l y.1 e.1.0 in
-    (e.0, (z.0, z.3, z.2, e.1.1 ∙ y.2, c.fail_doc.ensures))
+    record {
+      options = tt;
+      done = tt;
+      lessens = tt;
+      same_lender = c.turn.ensures.same_lender ∙ c.work.invariant.same_lender;
+      bytes = λ is_known.
+          let y = c.work.invariant.bytes is_known in
+          let e = d y.0 in
+          let z = working_turn f p v (w c.args.out.now) (w c.work.out) (λ o. Goes f o q (w new) turn.Failed) c.work.invariant.options l y.1 e.1.0 in
+          (e.0, (z.0, z.3, z.2, e.1.1 ∙ y.2, c.fail_doc.ensures));
+      rise = rise_then c.work.invariant.rise c.turn.ensures.rise;
+      at_most = λ plain.
+          let y = c.work.invariant.at_most plain in
+          at_most_all (at_most_then y.1 ((rw c.in-Failed.is at c.in_ok-turn.ensures.at_most) y.0));
+      at_least = tt;
+    }
 
-pub returns-in_err-turn-clause-bytes : goal.returns-in_err-turn-clause-bytes
-returns-in_err-turn-clause-bytes g c =
+pub returns-in_err-turn : goal.returns-in_err-turn
+returns-in_err-turn g c =
     let residual = err_from_is_err_and c.from_residual.result c.from_residual.ensures.1 in
     rw (residual.1, residual.2)
     let f = g.N.Walk.tree in
@@ -82,10 +92,21 @@ returns-in_err-turn-clause-bytes g c =
     let q = c.turn.new.printer in
     let new = c.turn.new.out in
     let l : 0 < length (tasks_of f v) = omega (arith, length-stack_of f v.commands.items, v.commands.ok.0, c.work-test.true, c.len.ensures) in
-    λ is_known.
-    let y = c.work.invariant.bytes is_known in
-    let e = c.in_err-turn.ensures.bytes y.0 in
-    (e.0, turn_broke f p v q (g.W.Render.document_errors new) (w c.args.out.now) (w c.work.out) (w new) (fails c.args.out.now) (fails c.work.out) (fails new) c.in_err-turn.field-0.0 c.work.invariant.options l y.1 y.2 e.1)
+    record {
+      options = tt;
+      done = tt;
+      lessens = tt;
+      same_lender = c.turn.ensures.same_lender ∙ c.work.invariant.same_lender;
+      bytes = λ is_known.
+          let y = c.work.invariant.bytes is_known in
+          let e = c.in_err-turn.ensures.bytes y.0 in
+          (e.0, turn_broke f p v q (g.W.Render.document_errors new) (w c.args.out.now) (w c.work.out) (w new) (fails c.args.out.now) (fails c.work.out) (fails new) c.in_err-turn.field-0.0 c.work.invariant.options l y.1 y.2 e.1);
+      rise = rise_then c.work.invariant.rise c.turn.ensures.rise;
+      at_most = λ plain.
+          let y = c.work.invariant.at_most plain in
+          at_most_then y.1 (c.in_err-turn.ensures.at_most y.0);
+      at_least = tt;
+    }
 
 pub work-preserved : goal.work-preserved
 work-preserved g c =
@@ -128,8 +149,8 @@ work-preserved g c =
       at_least = at_least_then c.work.invariant.at_least (at_least_then ((rw c.in-Chosen.is at c.in_ok-turn.ensures.at_least) 0 l) c.in_ok-choose-in-Chosen.ensures.at_least);
     }
 
-pub returns-in_err-choose-in-Chosen-clause-bytes : goal.returns-in_err-choose-in-Chosen-clause-bytes
-returns-in_err-choose-in-Chosen-clause-bytes g c =
+pub returns-in_err-choose-in-Chosen : goal.returns-in_err-choose-in-Chosen
+returns-in_err-choose-in-Chosen g c =
     let residual = err_from_is_err_and c.from_residual-in_err-choose-in-Chosen.result c.from_residual-in_err-choose-in-Chosen.ensures.1 in
     rw (residual.1, residual.2)
     let f = g.N.Walk.tree in
@@ -147,64 +168,41 @@ returns-in_err-choose-in-Chosen-clause-bytes g c =
     let z = c.in-Chosen.second in
     let last = c.choose.new.out in
     let same = c.in_ok-turn.ensures.options ∙ c.work.invariant.options in
-    λ is_known.
-    let y = c.work.invariant.bytes is_known in
-    let e = d y.0 in
-    let b = working_turn f p v (w c.args.out.now) (w c.work.out) (λ o. Goes f o q (w new) (turn.Chosen i x z)) c.work.invariant.options l y.1 e.1.0 in
-    let k = c.in_err-choose-in-Chosen.ensures.bytes e.0 in
-    (k.0, choice_broke (Unit {0}) f p q r i (f x) (f z) (g.W.Render.document_errors last) (w c.args.out.now) (w new) (w last) (fails c.args.out.now) (fails new) (fails last) c.in_err-choose-in-Chosen.field-0.0 same b (e.1.1 ∙ y.2) k.1)
+    record {
+      options = tt;
+      done = tt;
+      lessens = tt;
+      same_lender = c.choose.ensures.same_lender ∙ c.turn.ensures.same_lender ∙ c.work.invariant.same_lender;
+      bytes = λ is_known.
+          let y = c.work.invariant.bytes is_known in
+          let e = d y.0 in
+          let b = working_turn f p v (w c.args.out.now) (w c.work.out) (λ o. Goes f o q (w new) (turn.Chosen i x z)) c.work.invariant.options l y.1 e.1.0 in
+          let k = c.in_err-choose-in-Chosen.ensures.bytes e.0 in
+          (k.0, choice_broke (Unit {0}) f p q r i (f x) (f z) (g.W.Render.document_errors last) (w c.args.out.now) (w new) (w last) (fails c.args.out.now) (fails new) (fails last) c.in_err-choose-in-Chosen.field-0.0 same b (e.1.1 ∙ y.2) k.1);
+      rise = rise_then c.work.invariant.rise (rise_then c.turn.ensures.rise c.choose.ensures.rise);
+      at_most = λ plain.
+          let y = c.work.invariant.at_most plain in
+          let j = (rw c.in-Chosen.is at c.in_ok-turn.ensures.at_most) y.0 in
+          at_most_then y.1 (at_most_then j.3 (c.in_err-choose-in-Chosen.ensures.at_most j.0 j.1 j.2));
+      at_least = tt;
+    }
 
-pub returns-clause-bytes : goal.returns-clause-bytes
-returns-clause-bytes g c =
+pub returns : goal.returns
+returns g c =
     let f = g.N.Walk.tree in
     let w = known_of g.W.Render.bytes in
     let q = c.work.printer in
     let l : length (tasks_of f q) ≤ 0 = omega (arith, length-stack_of f q.commands.items, q.commands.ok.0, c.work-test.false, c.len.ensures) in
-    λ is_known.
-    let y = c.work.invariant.bytes is_known in
-    let e = working_end f c.args.printer.now q (w c.args.out.now) (w c.work.out) y.1 l in
-    (y.0, (e.0, e.1, e.2, y.2))
-
-pub returns-in_err-turn-clause-rise : goal.returns-in_err-turn-clause-rise
-returns-in_err-turn-clause-rise g c = rise_then c.work.invariant.rise c.turn.ensures.rise
-
-pub returns-in_err-turn-clause-at_most : goal.returns-in_err-turn-clause-at_most
-returns-in_err-turn-clause-at_most g c =
-    let residual = err_from_is_err_and c.from_residual.result c.from_residual.ensures.1 in
-    rw residual.1
-    λ plain.
-    let y = c.work.invariant.at_most plain in
-    at_most_then y.1 (c.in_err-turn.ensures.at_most y.0)
-
-pub returns-in-Failed-clause-rise : goal.returns-in-Failed-clause-rise
-returns-in-Failed-clause-rise g c = rise_then c.work.invariant.rise c.turn.ensures.rise
-
-pub returns-in-Failed-clause-at_most : goal.returns-in-Failed-clause-at_most
-returns-in-Failed-clause-at_most g c = λ plain.
-    let y = c.work.invariant.at_most plain in
-    at_most_all (at_most_then y.1 ((rw c.in-Failed.is at c.in_ok-turn.ensures.at_most) y.0))
-
-pub returns-in_err-choose-in-Chosen-clause-rise : goal.returns-in_err-choose-in-Chosen-clause-rise
-returns-in_err-choose-in-Chosen-clause-rise g c = rise_then c.work.invariant.rise (rise_then c.turn.ensures.rise c.choose.ensures.rise)
-
-pub returns-in_err-choose-in-Chosen-clause-at_most : goal.returns-in_err-choose-in-Chosen-clause-at_most
-returns-in_err-choose-in-Chosen-clause-at_most g c =
-    let residual = err_from_is_err_and c.from_residual-in_err-choose-in-Chosen.result c.from_residual-in_err-choose-in-Chosen.ensures.1 in
-    rw residual.1
-    λ plain.
-    let y = c.work.invariant.at_most plain in
-    let j = (rw c.in-Chosen.is at c.in_ok-turn.ensures.at_most) y.0 in
-    at_most_then y.1 (at_most_then j.3 (c.in_err-choose-in-Chosen.ensures.at_most j.0 j.1 j.2))
-
-pub returns-clause-rise : goal.returns-clause-rise
-returns-clause-rise g c = c.work.invariant.rise
-
-pub returns-clause-at_most : goal.returns-clause-at_most
-returns-clause-at_most g c = c.work.invariant.at_most
-
-pub returns-clause-at_least : goal.returns-clause-at_least
-returns-clause-at_least g c =
-    let f = g.N.Walk.tree in
-    let q = c.work.printer in
-    let l : length (tasks_of f q) ≤ 0 = omega (arith, length-stack_of f q.commands.items, q.commands.ok.0, c.work-test.false, c.len.ensures) in
-    at_least_end f q 0 l c.work.invariant.at_least
+    record {
+      options = c.work.invariant.options;
+      done = no_tasks (tasks_of f q) l;
+      lessens = omega (arith, c.work.invariant.less);
+      same_lender = c.work.invariant.same_lender;
+      bytes = λ is_known.
+          let y = c.work.invariant.bytes is_known in
+          let e = working_end f c.args.printer.now q (w c.args.out.now) (w c.work.out) y.1 l in
+          (y.0, (e.0, e.1, e.2, y.2));
+      rise = c.work.invariant.rise;
+      at_most = c.work.invariant.at_most;
+      at_least = at_least_end f q 0 l c.work.invariant.at_least;
+    }
