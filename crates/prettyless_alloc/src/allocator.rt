@@ -1,4 +1,4 @@
-ghost use Rattle.std.specs.Prelude.{◌≡◌, ◌<◌, IfOk, IfErr, IsOkAnd};
+ghost use Rattle.std.specs.Prelude.{◌≡◌, ◌<◌, IfOk, IfErr, IsOkAnd, map};
 ghost use Rattle.std.specs.Cow.{cow_str_bytes};
 ghost use Rattle.prettyless_doc.specs.Tree.{Nil, Fail, Text as TextTree, WeakSpace, HardLine, WeakLine, ExpandParent};
 ghost use Rattle.prettyless_doc.specs.BuildErrors.{IsMemory};
@@ -8,6 +8,7 @@ ghost use Rattle.prettyless_doc.specs.Lines as lines;
 ghost use Rattle.prettyless_build.specs.Built as to;
 ghost use Rattle.prettyless_alloc.specs.Words as words;
 
+use crate::separate::separate;
 use crate::spaces::spaces;
 use crate::words::reflow;
 use prettyless_build::{DocBuilder, Pretty};
@@ -121,6 +122,20 @@ pub trait DocAllocator<'a>: DocPlace<'a> {
     fn softline_(&'a self) -> Result<DocBuilder<'a, Self>, BuildError>
         ensures ok { IfOk result (λ b. built Self.Doc.tree b.1 ≡ to.softline_) }
         ensures err { IfErr result IsMemory };
+
+    /// The documents in order, with the separator in each gap: nothing if there is none. It fails where memory is
+    /// refused.
+    ///
+    /// It is `intersperse` of documents that are made already. So it serves a function that calls itself, whose
+    /// iterator would call it too.
+    fn separate(
+        &'a self,
+        docs: Vec<Self::Doc>,
+        separator: DocBuilder<'a, Self>,
+    ) -> Result<DocBuilder<'a, Self>, BuildError>
+        ensures ok { IfOk result (λ b. built Self.Doc.tree b.1
+            ≡ words.intersperse (built Self.Doc.tree separator.entry.1) (map Self.Doc.tree docs.items)) }
+        ensures err { IfErr result IsMemory };
 }
 
 impl<'a, D: DocPlace<'a>> DocAllocator<'a> for D {
@@ -208,5 +223,17 @@ impl<'a, D: DocPlace<'a>> DocAllocator<'a> for D {
 
     fn softline_(&'a self) -> Result<DocBuilder<'a, D>, BuildError> {
         self.line_()?.group()
+    }
+
+    fn separate(
+        &'a self,
+        docs: Vec<D::Doc>,
+        separator: DocBuilder<'a, D>,
+    ) -> Result<DocBuilder<'a, D>, BuildError>
+        ensures ok { IfOk result (λ b. built D.Doc.tree b.1
+            ≡ words.intersperse (built D.Doc.tree separator.entry.1) (map D.Doc.tree docs.items)) }
+        ensures err { IfErr result IsMemory }
+    {
+        separate(self, docs, separator)
     }
 }

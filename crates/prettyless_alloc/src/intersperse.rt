@@ -87,7 +87,7 @@ where
 }
 
 // `all`, the gap and `doc`, one after the other.
-fn join_after<'a, D: DocPlace<'a>>(
+pub(crate) fn join_after<'a, D: DocPlace<'a>>(
     all: DocBuilder<'a, D>,
     gap: D::Doc,
     doc: DocBuilder<'a, D>,

@@ -6,6 +6,7 @@ pub mod allocator_of;
 pub mod concat;
 pub mod intersperse;
 pub mod placed;
+mod separate;
 mod spaces;
 mod words;
 

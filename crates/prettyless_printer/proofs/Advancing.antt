@@ -10,7 +10,7 @@ use Rattle.prettyless_step.specs.Probing.{asked}
 use Rattle.prettyless_step.specs.Printing.{state_of, tasks_of, TookNext, TookWriting}
 use Rattle.prettyless_step.specs.declared.printer.Printer.{Printer}
 use Rattle.prettyless_step.specs.declared.printer.Taken.TheVariants.{Failed, Chosen}
-use Rattle.prettyless_printer.specs.Points.{Point, Seen, point}
+use Rattle.prettyless_printer.specs.Points.{Seen, point}
 use Rattle.prettyless_printer.specs.Visits.{Rise}
 use Rattle.prettyless_printer.specs.Turns.{Advances}
 use Rattle.prettyless_printer.specs.declared.answer.Turn.TheVariants as turn

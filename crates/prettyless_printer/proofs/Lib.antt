@@ -4,7 +4,8 @@ pub mod Within
 pub mod Progresses
 pub mod Turnings
 pub mod Trying
-pub mod Working
+pub mod PathSteps
+pub mod TrialSteps
 pub mod Renders
 pub mod Contents
 pub mod Visits

@@ -1,5 +1,5 @@
 -- A trial: begun, on its way, kept or taken back.
-use Rattle.std.proofs.Common.{◌≡◌, ℕ, ◌+◌, ◌*◌, ◌≤◌, ◌<◌, List, [], ◌∷◌, ◌++◌, length, refl, ap, sym, ◌∙◌, append_assoc, append-nil, length-append, arith, Bool, true, false, ◌&&◌, subst, take, drop, vec_len, if◌then◌else◌}
+use Rattle.std.proofs.Common.{◌≡◌, ℕ, ◌+◌, ◌*◌, ◌≤◌, List, [], ◌∷◌, ◌++◌, length, refl, ap, sym, ◌∙◌, append_assoc, append-nil, length-append, arith, Bool, true, false, ◌&&◌, subst, take, drop, vec_len, if◌then◌else◌}
 use Rattle.std.specs.String.{string_bytes, string_len}
 use Rattle.std.proofs.lemmas.List.{take_at}
 use Rattle.std.proofs.lemmas.Str.{IsUtf8-string_bytes, IsCharBoundary-from_take}
@@ -18,7 +18,6 @@ use Rattle.prettyless_step.specs.Steps.{lay_all, owed}
 use Rattle.prettyless_printer.specs.Progress.{Inside, Waits, Decides}
 use Rattle.prettyless_step.specs.Printing.{state_of, Grows, tasks_of}
 use Rattle.prettyless_printer.specs.Trials.{Marks, Restores, TrialDid}
-use Rattle.prettyless_printer.specs.Turns.{ForWholes}
 use Rattle.prettyless_printer.proofs.Progresses.{waits_kept, waits_other, inside_end}
 use Rattle.prettyless_printer.proofs.Turnings.{inside_at}
 use Rattle.prettyless_step.specs.declared.printer.Printer.{Printer}
@@ -119,14 +118,6 @@ trial_kept {N} f p q r i d old out y l w h e s o g =
     ∙ ap (λ (v : Bool). if v then Done z.1 (record { column = q.column; pending = (state_of f q).pending; within = p.within }) else other) h
     ∙ ap (Done z.1) (sym s) in
     (e ∙ z.0, o, g, ap (λ (x : State). x.within) s, omega (arith, z.4, ap (λ (x : State). owed x.pending) s), (z.1, z.2, kept))
-
--- what a turn does to a trial
-pub trying_turn : {N : Type 0} (f : N → Tree) (p q : Printer N) (i : ℕ) (d : Tree) (old out : List ℕ) (goal : RenderOptions → Outcome → ℕ → List Task → List ℕ → Type 0) → q.options ≡ p.options → length (tasks_of f p) < length (tasks_of f q) →
-    Trying f p i d old q out → ForWholes f q out (goal q.options) → goal p.options (trial_of f p i d) (limit_of f p d) (tasks_of f p) old
-trying_turn {N} f p q i d old out goal e l y h =
-    subst (λ (w : RenderOptions). goal w (trial_of f p i d) (limit_of f p d) (tasks_of f p) old) e
-    (h (trial_of f p i d) (limit_of f p d) (tasks_of f p) old l
-    (subst (λ (w : RenderOptions). Inside w (trial_of f p i d) (limit_of f p d) (tasks_of f p) old (tasks_of f q) (state_of f q) out) (sym e) y))
 
 -- what a trial decides, under options that are the same
 decides_at : {N : Type 0} (f : N → Tree) (q r : Printer N) (o : RenderOptions) (j : ℕ) (x : Tree) (kept : Bool) (old new : List ℕ) → q.options ≡ o →

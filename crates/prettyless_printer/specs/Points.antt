@@ -1,6 +1,8 @@
 -- Where a run is.
 use Rattle.std.specs.Prelude.{ℕ, List, Option, None, Some}
 use Rattle.std.specs.Borrow.{GName}
+use Rattle.std.specs.String.{string_bytes}
+use Rattle.prettyless_printer.specs.declared.buffer.Buffer.{Buffer}
 use Rattle.prettyless_sink.specs.declared.visits.Visits.{Visits}
 use Rattle.prettyless_step.specs.declared.printer.Printer.{Printer}
 
@@ -26,3 +28,7 @@ pub record Point (N : Type 0) : Type 0 where
 -- a point of these parts
 abbrev pub point : {N : Type 0} → Printer N → Seen → Visits → Point N
 point p s v = record { printer = p; sink = s; visits = v }
+
+-- the buffer of trials as a sink
+abbrev pub buffer_seen : Buffer → Seen
+buffer_seen b = record { bytes = Some (string_bytes b.text); failures = b.failures; lender = None }

@@ -1,20 +1,22 @@
 -- How a render ends, against the layout.
-use Rattle.std.specs.Prelude.{◌≡◌, ℕ, List, [], ◌++◌, Option, Some, None, Result, Ok, Err, OnOk}
+use Rattle.std.specs.Prelude.{◌≡◌, ℕ, ◌≤◌, List, [], ◌++◌, Option, Some, None, Result, Ok, Err, OnOk}
 use Rattle.prettyless_sink.specs.Sink.{AppendsBeginning, IfKnown, rise}
 use Rattle.prettyless_sink.specs.declared.error.RenderError.{RenderError}
 use Rattle.prettyless_sink.specs.declared.error.RenderError.TheVariants.{Document, Sink, Memory}
 use Rattle.prettyless_sink.specs.declared.visits.Visits.{Visits}
 use Rattle.prettyless_model.specs.declared.options.RenderOptions.{RenderOptions}
+use Rattle.prettyless_model.specs.declared.mode.Mode.TheVariants.{Break}
 use Rattle.prettyless_model.specs.Tree.{Tree}
 use Rattle.prettyless_model.specs.Spaces.{spaces}
 use Rattle.prettyless_model.specs.Column.{gap}
-use Rattle.prettyless_model.specs.Layout.{Outcome, Done, Failed, Bytes, Whole, Cut, bytes_in, bytes_of, and_then, layout}
+use Rattle.prettyless_model.specs.Layout.{Outcome, Done, Failed, Bytes, Whole, Cut, bytes_in, bytes_of, and_then, flushed, layout}
 use Rattle.prettyless_model.specs.Levels.{settle, settle_end}
-use Rattle.prettyless_step.specs.Steps.{lay_all}
+use Rattle.prettyless_step.specs.Stack.{tasks}
+use Rattle.prettyless_step.specs.Steps.{lay_all, owed, work}
 use Rattle.prettyless_step.specs.Printing.{state_of, tasks_of}
-use Rattle.prettyless_printer.specs.Points.{Seen}
-use Rattle.prettyless_printer.specs.Visits.{Rise, Visited}
-use Rattle.prettyless_printer.specs.AtLeast.{VisitedAtLeast}
+use Rattle.prettyless_printer.specs.Points.{Point, Seen}
+use Rattle.prettyless_printer.specs.Visits.{Plain, Rise, RunCountsAtMost, Visited}
+use Rattle.prettyless_printer.specs.AtLeast.{CountsAtLeast, VisitedAtLeast, nothing_left, stack_tally}
 use Rattle.prettyless_printer.specs.Turns.{bytes_before}
 use Rattle.prettyless_step.specs.declared.printer.Printer.{Printer}
 
@@ -56,6 +58,51 @@ to_end f p = and_then (rest_of f p) (settle_end p.options)
 -- the commands and the rounds of the end are worked off
 abbrev pub RanToEnd : {N A E : Type 0} → (N → Tree) → Printer N → (E → Type 0) → List ℕ → List ℕ → ℕ → ℕ → Result A (RenderError E) → Type 0
 RanToEnd f p fails old new n m r = Rendered fails (bytes_of (to_end f p)) old new n m r
+
+-- A run until no command is left.
+pub record WorksOff {N A E : Type 0} (f : N → Tree) (fails : E → Type 0) (a b : Point N) (r : Result A (RenderError E)) : Type 0 where
+  -- the options are the same
+  pub options : OnOk r (b.printer.options ≡ a.printer.options)
+  -- no command is left
+  pub done : OnOk r (tasks_of f b.printer ≡ [])
+  -- what is pending is no more work than there was
+  pub lessens : OnOk r (owed (state_of f b.printer).pending ≤ work (tasks_of f a.printer) (state_of f a.printer))
+  -- the sink writes through the same reference
+  pub same_lender : b.sink.lender ≡ a.sink.lender
+  -- where the sink's bytes are known, what the commands lay was written, as far as the result says
+  pub bytes : IfKnown a.sink.bytes b.sink.bytes (λ before after. WorkedOff f a.printer b.printer fails before after a.sink.failures b.sink.failures r)
+  -- no count of visits fell
+  pub rise : Rise a.visits b.visits
+  -- without line suffixes, a visit is counted at most once for each node
+  pub at_most : Plain f a.printer → RunCountsAtMost f (tasks_of f a.printer) b.printer a.visits b.visits r
+  -- what was laid is counted
+  pub at_least : OnOk r (CountsAtLeast (stack_tally f a.printer 0) nothing_left a.visits b.visits)
+
+-- The pending documents become the commands at the end, and the gap before them is written.
+pub record FlushesEnd {N A E : Type 0} (f : N → Tree) (p q : Printer N) (s t : Seen) (r : Result A (RenderError E)) : Type 0 where
+  -- the options are the same
+  pub options : OnOk r (q.options ≡ p.options)
+  -- what was pending is to be laid next, from the root and in Break
+  pub stack : OnOk r (tasks_of f q ≡ tasks 0 Break (state_of f p).pending)
+  -- nothing is pending any more
+  pub state : OnOk r (state_of f q ≡ flushed p.options (state_of f p))
+  -- the sink writes through the same reference
+  pub same_lender : t.lender ≡ s.lender
+  -- where the sink's bytes are known, the gap was written, as far as the result says
+  pub bytes : IfKnown s.bytes t.bytes (λ before after. Flushed p before after s.failures t.failures r)
+
+-- A run of the commands, and then of what is pending at the end, round by round.
+pub record RunsToEnd {N A E : Type 0} (f : N → Tree) (fails : E → Type 0) (a b : Point N) (r : Result A (RenderError E)) : Type 0 where
+  -- the sink writes through the same reference
+  pub same_lender : b.sink.lender ≡ a.sink.lender
+  -- where the sink's bytes are known, what the commands and the end lay was written, as far as the result says
+  pub bytes : IfKnown a.sink.bytes b.sink.bytes (λ before after. RanToEnd f a.printer fails before after a.sink.failures b.sink.failures r)
+  -- no count of visits fell
+  pub rise : Rise a.visits b.visits
+  -- without line suffixes, a visit is counted at most once for each node
+  pub at_most : Plain f a.printer → RunCountsAtMost f (tasks_of f a.printer) b.printer a.visits b.visits r
+  -- what was laid is counted
+  pub at_least : OnOk r (CountsAtLeast (stack_tally f a.printer 0) nothing_left a.visits b.visits)
 
 -- A render of a document to a sink, seen before and after, with the visits before and after.
 pub record Renders {A E : Type 0} (fails : E → Type 0) (o : RenderOptions) (d : Tree) (s t : Seen) (v w : Visits) (r : Result A (RenderError E)) : Type 0 where

@@ -71,17 +71,3 @@ pub record Advances {N E : Type 0} (f : N → Tree) (a b : Point N) (r : Result 
   pub at_most : Plain f a.printer → TurnCountsAtMost f a.printer b.printer a.visits b.visits r
   -- what the node lays is counted
   pub at_least : TurnCountsAtLeast f a.printer b.printer a.visits b.visits r
-
--- for every whole in which a choice between two branches waits
-abbrev pub ForWaits : {N : Type 0} → (N → Tree) → Printer N → ℕ → Tree → Tree → List ℕ → (Outcome → ℕ → List Task → List ℕ → Type 0) → Type 0
-ForWaits f p i x y out goal =
-    (whole : Outcome) (limit : ℕ) (below : List Task) (old : List ℕ) →
-    Waits p.options whole limit below old i x y (tasks_of f p) (state_of f p) out → goal whole limit below old
-
--- what a choice leaves in a sink whose bytes are known
-abbrev pub Chose : {N A E : Type 0} → (N → Tree) → Printer N → Printer N → ℕ → Tree → Tree → List ℕ → List ℕ → ℕ → ℕ → Result A (RenderError E) → Type 0
-Chose f p q i x y out new n m (Ok r) =
-    ForWaits f p i x y out (λ whole limit below old. Inside p.options whole limit below old (tasks_of f q) (state_of f q) new) × (m ≡ n)
-Chose f p q i x y out new n m (Err (Document e)) = ⊥
-Chose f p q i x y out new n m (Err (Sink e)) = ForWaits f p i x y out (λ whole limit below old. AppendsBeginning old new (bytes_before whole)) × (m ≡ rise n)
-Chose f p q i x y out new n m (Err (Memory e)) = (new ≡ out) × (m ≡ n)

@@ -1,18 +1,9 @@
 //! The run: commands are worked off into a sink, and then what is pending at the end.
-ghost use Rattle.std.specs.Prelude.{◌≡◌, ◌+◌, ◌*◌, ◌∷◌, ◌<◌, ◌≤◌, [], OnOk};
-ghost use Rattle.prettyless_sink.specs.Sink.{IfKnown};
-ghost use Rattle.prettyless_model.specs.Tree.{size};
-ghost use Rattle.prettyless_model.specs.Content.{suffix_depth};
-ghost use Rattle.prettyless_model.specs.Layout.{flushed};
-ghost use Rattle.prettyless_model.specs.declared.mode.Mode.TheVariants.{Break};
-ghost use Rattle.prettyless_step.specs.Stack.{make_task, tasks};
-ghost use Rattle.prettyless_step.specs.Steps.{owed, work};
-ghost use Rattle.prettyless_step.specs.Printing.{state_of, tasks_of};
-ghost use Rattle.prettyless_printer.specs.Points.{seen};
-ghost use Rattle.prettyless_printer.specs.Turns.{Chose};
-ghost use Rattle.prettyless_printer.specs.Renders.{Flushed, RanToEnd, Renders, WorkedOff};
-ghost use Rattle.prettyless_printer.specs.Visits.{Plain, Rise, RunCountsAtMost};
-ghost use Rattle.prettyless_printer.specs.AtLeast.{CountsAtLeast, choice_tally, nothing_left, stack_tally};
+ghost use Rattle.std.specs.Prelude.{◌≡◌, []};
+ghost use Rattle.prettyless_step.specs.Printing.{tasks_of};
+ghost use Rattle.prettyless_printer.specs.Points.{point, seen};
+ghost use Rattle.prettyless_printer.specs.Paths.{Chooses};
+ghost use Rattle.prettyless_printer.specs.Renders.{FlushesEnd, Renders, RunsToEnd, WorksOff};
 
 use crate::answer::Turn;
 use crate::buffer::Buffer;
@@ -42,18 +33,9 @@ fn choose<N: Walk, W: Render>(
     second: N,
     visits: &mut Visits,
 ) -> Result<(), RenderError<W::Error>>
-    ensures options { OnOk result (printer.new.options ≡ printer.old.options) }
-    ensures same_lender { W.lender out.new ≡ W.lender out.old }
-    ensures lessens { OnOk result (work (tasks_of N.tree printer.new) (state_of N.tree printer.new)
-        ≤ 2 * (size (N.tree first) + size (N.tree second)) + work (tasks_of N.tree printer.old) (state_of N.tree printer.old)) }
-    ensures bytes { IfKnown (W.bytes out.old) (W.bytes out.new) (λ before after.
-        Chose N.tree printer.old printer.new indent (N.tree first) (N.tree second)
-        before after (W.failures out.old) (W.failures out.new) result) }
-    ensures rise { Rise visits.old visits.new }
-    ensures at_most { Plain N.tree printer.old → suffix_depth (N.tree first) ≡ 0 → suffix_depth (N.tree second) ≡ 0
-        → RunCountsAtMost N.tree (make_task indent Break (N.tree first) ∷ make_task indent Break (N.tree second) ∷ tasks_of N.tree printer.old)
-        printer.new visits.old visits.new result }
-    ensures at_least { OnOk result (CountsAtLeast (choice_tally N.tree printer.old 0 indent (N.tree first) (N.tree second)) (stack_tally N.tree printer.new 0) visits.old visits.new) }
+    ensures { Chooses N.tree indent (N.tree first) (N.tree second)
+        (point printer.old (seen W.bytes W.failures W.lender out.old) visits.old)
+        (point printer.new (seen W.bytes W.failures W.lender out.new) visits.new) result }
 {
     buffer.text.clear();
     match print_branch(printer, buffer, indent, first, visits) {
@@ -76,17 +58,9 @@ fn work_off<N: Walk, W: Render>(
     out: &mut W,
     visits: &mut Visits,
 ) -> Result<(), RenderError<W::Error>>
-    ensures options { OnOk result (printer.new.options ≡ printer.old.options) }
-    ensures done { OnOk result (tasks_of N.tree printer.new ≡ []) }
-    ensures lessens { OnOk result (owed (state_of N.tree printer.new).pending
-        ≤ work (tasks_of N.tree printer.old) (state_of N.tree printer.old)) }
-    ensures same_lender { W.lender out.new ≡ W.lender out.old }
-    ensures bytes { IfKnown (W.bytes out.old) (W.bytes out.new) (λ before after.
-        WorkedOff N.tree printer.old printer.new (W.document_errors out.new)
-        before after (W.failures out.old) (W.failures out.new) result) }
-    ensures rise { Rise visits.old visits.new }
-    ensures at_most { Plain N.tree printer.old → RunCountsAtMost N.tree (tasks_of N.tree printer.old) printer.new visits.old visits.new result }
-    ensures at_least { OnOk result (CountsAtLeast (stack_tally N.tree printer.old 0) nothing_left visits.old visits.new) }
+    ensures { WorksOff N.tree (W.document_errors out.new)
+        (point printer.old (seen W.bytes W.failures W.lender out.old) visits.old)
+        (point printer.new (seen W.bytes W.failures W.lender out.new) visits.new) result }
 {
     'work: while printer.commands.len() > 0 {
         match turn(printer, out, visits)? {
@@ -106,12 +80,8 @@ fn flush_end<N: Walk, W: Render>(
     out: &mut W,
 ) -> Result<(), RenderError<W::Error>>
     requires { tasks_of N.tree printer.old ≡ [] }
-    ensures options { OnOk result (printer.new.options ≡ printer.old.options) }
-    ensures stack { OnOk result (tasks_of N.tree printer.new ≡ tasks 0 Break (state_of N.tree printer.old).pending) }
-    ensures state { OnOk result (state_of N.tree printer.new ≡ flushed printer.old.options (state_of N.tree printer.old)) }
-    ensures same_lender { W.lender out.new ≡ W.lender out.old }
-    ensures bytes { IfKnown (W.bytes out.old) (W.bytes out.new) (λ before after.
-        Flushed printer.old before after (W.failures out.old) (W.failures out.new) result) }
+    ensures { FlushesEnd N.tree printer.old printer.new
+        (seen W.bytes W.failures W.lender out.old) (seen W.bytes W.failures W.lender out.new) result }
 {
     match take_pending(printer, 0, Mode::Break) {
         Err(e) => Err(RenderError::Memory(e)),
@@ -129,13 +99,9 @@ fn run_to_end<N: Walk, W: Render>(
     out: &mut W,
     visits: &mut Visits,
 ) -> Result<(), RenderError<W::Error>>
-    ensures same_lender { W.lender out.new ≡ W.lender out.old }
-    ensures bytes { IfKnown (W.bytes out.old) (W.bytes out.new) (λ before after.
-        RanToEnd N.tree printer.old (W.document_errors out.new)
-        before after (W.failures out.old) (W.failures out.new) result) }
-    ensures rise { Rise visits.old visits.new }
-    ensures at_most { Plain N.tree printer.old → RunCountsAtMost N.tree (tasks_of N.tree printer.old) printer.new visits.old visits.new result }
-    ensures at_least { OnOk result (CountsAtLeast (stack_tally N.tree printer.old 0) nothing_left visits.old visits.new) }
+    ensures { RunsToEnd N.tree (W.document_errors out.new)
+        (point printer.old (seen W.bytes W.failures W.lender out.old) visits.old)
+        (point printer.new (seen W.bytes W.failures W.lender out.new) visits.new) result }
 {
     'rounds: loop {
         work_off(printer, buffer, out, visits)?;

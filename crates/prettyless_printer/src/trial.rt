@@ -1,14 +1,9 @@
 //! Trials: a union's first branch is printed, and kept or taken back.
-ghost use Rattle.std.specs.Prelude.{◌≡◌, ◌∷◌, ◌≤◌, IfOk, take, vec_len};
+ghost use Rattle.std.specs.Prelude.{◌≡◌, ◌≤◌, take, vec_len};
 ghost use Rattle.std.specs.String.{string_bytes};
 ghost use Rattle.std.specs.String.Boundary.{IsSplitPoint};
-ghost use Rattle.prettyless_model.specs.Content.{suffix_depth};
-ghost use Rattle.prettyless_model.specs.declared.mode.Mode.TheVariants.{Break};
-ghost use Rattle.prettyless_step.specs.Stack.{make_task};
-ghost use Rattle.prettyless_step.specs.Printing.{tasks_of};
-ghost use Rattle.prettyless_printer.specs.Trials.{Marks, Restores, TrialDid};
-ghost use Rattle.prettyless_printer.specs.Visits.{Plain, Rise, RunCountsAtMost};
-ghost use Rattle.prettyless_printer.specs.AtLeast.{TrialCountsAtLeast};
+ghost use Rattle.prettyless_printer.specs.Points.{buffer_seen, point};
+ghost use Rattle.prettyless_printer.specs.Trials.{Marks, Restores, Tries};
 
 use crate::answer::Turn;
 use crate::buffer::Buffer;
@@ -50,6 +45,7 @@ fn take_back<N: Walk>(printer: &mut Printer<N>, mark: Mark, buffer: &mut Buffer,
     requires buffer { IsSplitPoint (string_bytes buffer.old.text) written }
     ensures printer { Restores N.tree mark printer.old printer.new }
     ensures buffer { string_bytes buffer.new.text ≡ take written (string_bytes buffer.old.text) }
+    ensures failures { buffer.new.failures ≡ buffer.old.failures }
 {
     cut(&mut printer.commands, mark.commands);
     printer.queue.go_back(mark.queue);
@@ -76,12 +72,9 @@ pub fn print_branch<N: Walk>(
     branch: N,
     visits: &mut Visits,
 ) -> Result<bool, AllocError>
-    ensures decided { IfOk result (λ kept. TrialDid N.tree printer.old printer.new indent (N.tree branch)
-        (string_bytes buffer.old.text) (string_bytes buffer.new.text) kept) }
-    ensures rise { Rise visits.old visits.new }
-    ensures at_most { Plain N.tree printer.old → suffix_depth (N.tree branch) ≡ 0
-        → RunCountsAtMost N.tree (make_task indent Break (N.tree branch) ∷ tasks_of N.tree printer.old) printer.new visits.old visits.new result }
-    ensures at_least { IfOk result (λ kept. TrialCountsAtLeast N.tree printer.old indent (N.tree branch) visits.old visits.new kept) }
+    ensures { Tries N.tree indent (N.tree branch)
+        (point printer.old (buffer_seen buffer.old) visits.old)
+        (point printer.new (buffer_seen buffer.new) visits.new) result }
 {
     let mark = mark_of(printer);
     let written = buffer.text.len();

@@ -20,4 +20,7 @@ mod lists;
 #[cfg(test)]
 mod own;
 #[cfg(test)]
+mod recursive;
+#[cfg(test)]
 mod rendering;
+pub mod values;

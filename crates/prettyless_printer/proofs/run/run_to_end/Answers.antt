@@ -23,8 +23,8 @@ rounds-init g c = record {
   at_least = at_least_same (stack_tally g.N.Walk.tree c.args.printer.now 0) c.args.visits.now;
 }
 
-pub returns-in_err-work_off-clause-bytes : goal.returns-in_err-work_off-clause-bytes
-returns-in_err-work_off-clause-bytes g c =
+pub returns-in_err-work_off : goal.returns-in_err-work_off
+returns-in_err-work_off g c =
     let residual = err_from_is_err_and c.from_residual.result c.from_residual.ensures.1 in
     rw (residual.1, residual.2)
     let f = g.N.Walk.tree in
@@ -36,16 +36,23 @@ returns-in_err-work_off-clause-bytes g c =
     let old = c.args.out.now in
     let out = c.rounds.out in
     let new = c.work_off.new.out in
-    λ is_known.
-    let y = c.rounds.invariant.bytes is_known in
-    let e = c.in_err-work_off.ensures.bytes y.0 in
-    (e.0, finishing_stopped (Unit {0}) f whole p (g.W.Render.document_errors new) (w old) (w out) (w new) (fails old) (fails out) (fails new) c.in_err-work_off.field-0.0 y.1 y.2 e.1)
+    record {
+      same_lender = c.work_off.ensures.same_lender ∙ c.rounds.invariant.same_lender;
+      bytes = λ is_known.
+          let y = c.rounds.invariant.bytes is_known in
+          let e = c.in_err-work_off.ensures.bytes y.0 in
+          (e.0, finishing_stopped (Unit {0}) f whole p (g.W.Render.document_errors new) (w old) (w out) (w new) (fails old) (fails out) (fails new) c.in_err-work_off.field-0.0 y.1 y.2 e.1);
+      rise = rise_then c.rounds.invariant.rise c.work_off.ensures.rise;
+      at_most = λ plain.
+          let y = c.rounds.invariant.at_most plain in
+          at_most_then y.1 (c.in_err-work_off.ensures.at_most y.0);
+      at_least = tt;
+    }
 
-pub returns-then-not-is_pending-clause-bytes : goal.returns-then-not-is_pending-clause-bytes
-returns-then-not-is_pending-clause-bytes g c =
+pub returns-then-not-is_pending : goal.returns-then-not-is_pending
+returns-then-not-is_pending g c =
     let f = g.N.Walk.tree in
     let w = known_of g.W.Render.bytes in
-    let fails = g.W.Render.failures in
     let whole = to_end f c.args.printer.now in
     let p = c.rounds.printer in
     let q = c.work_off.new.printer in
@@ -53,12 +60,21 @@ returns-then-not-is_pending-clause-bytes g c =
     let out = c.rounds.out in
     let new = c.work_off.new.out in
     let none = length_none (state_of f q).pending (sym c.is_pending.ensures ∙ c.if-not-is_pending.true) in
-    λ is_known.
-    let y = c.rounds.invariant.bytes is_known in
-    let e = c.in_ok-work_off.ensures.bytes y.0 in
-    let k = finishing_ends f whole p q (w old) (w out) (w new) e.1.0 y.1 e.1.1 e.1.2 in
-    let z = ending_done f whole p.options q (w old) (w new) k none in
-    (e.0, (z.0, z.1, z.2, e.1.3 ∙ y.2))
+    record {
+      same_lender = c.work_off.ensures.same_lender ∙ c.rounds.invariant.same_lender;
+      bytes = λ is_known.
+          let y = c.rounds.invariant.bytes is_known in
+          let e = c.in_ok-work_off.ensures.bytes y.0 in
+          let k = finishing_ends f whole p q (w old) (w out) (w new) e.1.0 y.1 e.1.1 e.1.2 in
+          let z = ending_done f whole p.options q (w old) (w new) k none in
+          (e.0, (z.0, z.1, z.2, e.1.3 ∙ y.2));
+      rise = rise_then c.rounds.invariant.rise c.work_off.ensures.rise;
+      at_most = λ plain.
+          let y = c.rounds.invariant.at_most plain in
+          let z = c.in_ok-work_off.ensures.at_most y.0 in
+          (z.0, at_most_then y.1 z.1);
+      at_least = at_least_then c.rounds.invariant.at_least c.in_ok-work_off.ensures.at_least;
+    }
 
 pub rounds-smaller : goal.rounds-smaller
 rounds-smaller g c =
@@ -103,8 +119,8 @@ rounds-preserved g c =
       at_least = at_least_at (λ k. omega arith) (λ k. omega arith) (at_least_then c.rounds.invariant.at_least c.in_ok-work_off.ensures.at_least);
     }
 
-pub returns-in_err-flush_end-clause-bytes : goal.returns-in_err-flush_end-clause-bytes
-returns-in_err-flush_end-clause-bytes g c =
+pub returns-in_err-flush_end : goal.returns-in_err-flush_end
+returns-in_err-flush_end g c =
     let residual = err_from_is_err_and c.from_residual-in_err-flush_end.result c.from_residual-in_err-flush_end.ensures.1 in
     rw (residual.1, residual.2)
     let f = g.N.Walk.tree in
@@ -118,43 +134,17 @@ returns-in_err-flush_end-clause-bytes g c =
     let new = c.work_off.new.out in
     let last = c.flush_end.new.out in
     let some = length_some (state_of f q).pending (sym c.is_pending.ensures ∙ c.if-not-is_pending.false) in
-    λ is_known.
-    let y = c.rounds.invariant.bytes is_known in
-    let e = c.in_ok-work_off.ensures.bytes y.0 in
-    let k = finishing_ends f whole p q (w old) (w out) (w new) e.1.0 y.1 e.1.1 e.1.2 in
-    let h = c.in_err-flush_end.ensures.bytes e.0 in
-    (h.0, ending_stopped (Unit {0}) f whole p.options q (g.W.Render.document_errors last) (w old) (w new) (w last) (fails old) (fails new) (fails last) c.in_err-flush_end.field-0.0 k some (e.1.3 ∙ y.2) h.1)
-
-pub returns-in_err-work_off-clause-rise : goal.returns-in_err-work_off-clause-rise
-returns-in_err-work_off-clause-rise g c = rise_then c.rounds.invariant.rise c.work_off.ensures.rise
-
-pub returns-in_err-work_off-clause-at_most : goal.returns-in_err-work_off-clause-at_most
-returns-in_err-work_off-clause-at_most g c =
-    let residual = err_from_is_err_and c.from_residual.result c.from_residual.ensures.1 in
-    rw residual.1
-    λ plain.
-    let y = c.rounds.invariant.at_most plain in
-    at_most_then y.1 (c.in_err-work_off.ensures.at_most y.0)
-
-pub returns-then-not-is_pending-clause-rise : goal.returns-then-not-is_pending-clause-rise
-returns-then-not-is_pending-clause-rise g c = rise_then c.rounds.invariant.rise c.work_off.ensures.rise
-
-pub returns-then-not-is_pending-clause-at_most : goal.returns-then-not-is_pending-clause-at_most
-returns-then-not-is_pending-clause-at_most g c = λ plain.
-    let y = c.rounds.invariant.at_most plain in
-    let z = c.in_ok-work_off.ensures.at_most y.0 in
-    (z.0, at_most_then y.1 z.1)
-
-pub returns-in_err-flush_end-clause-rise : goal.returns-in_err-flush_end-clause-rise
-returns-in_err-flush_end-clause-rise g c = rise_then c.rounds.invariant.rise c.work_off.ensures.rise
-
-pub returns-in_err-flush_end-clause-at_most : goal.returns-in_err-flush_end-clause-at_most
-returns-in_err-flush_end-clause-at_most g c =
-    let q = c.work_off.new.printer in
-    let some = length_some (state_of g.N.Walk.tree q).pending (sym c.is_pending.ensures ∙ c.if-not-is_pending.false) in
-    λ plain.
-    let z = c.in_ok-work_off.ensures.at_most (c.rounds.invariant.at_most plain).0 in
-    absurd (omega (arith, some, ap length z.0.pending))
-
-pub returns-then-not-is_pending-clause-at_least : goal.returns-then-not-is_pending-clause-at_least
-returns-then-not-is_pending-clause-at_least g c = at_least_then c.rounds.invariant.at_least c.in_ok-work_off.ensures.at_least
+    record {
+      same_lender = c.flush_end.ensures.same_lender ∙ c.work_off.ensures.same_lender ∙ c.rounds.invariant.same_lender;
+      bytes = λ is_known.
+          let y = c.rounds.invariant.bytes is_known in
+          let e = c.in_ok-work_off.ensures.bytes y.0 in
+          let k = finishing_ends f whole p q (w old) (w out) (w new) e.1.0 y.1 e.1.1 e.1.2 in
+          let h = c.in_err-flush_end.ensures.bytes e.0 in
+          (h.0, ending_stopped (Unit {0}) f whole p.options q (g.W.Render.document_errors last) (w old) (w new) (w last) (fails old) (fails new) (fails last) c.in_err-flush_end.field-0.0 k some (e.1.3 ∙ y.2) h.1);
+      rise = rise_then c.rounds.invariant.rise c.work_off.ensures.rise;
+      at_most = λ plain.
+          let z = c.in_ok-work_off.ensures.at_most (c.rounds.invariant.at_most plain).0 in
+          absurd (omega (arith, some, ap length z.0.pending));
+      at_least = tt;
+    }

@@ -1,4 +1,4 @@
-use Rattle.std.proofs.Common.{◌≡◌, ◌≤◌, vec_len, IsSome}
+use Rattle.std.proofs.Common.{◌≡◌, IsSome}
 use Rattle.prettyless_sink.specs.Sink.{known}
 use Rattle.prettyless_step.specs.Steps.{work}
 use Rattle.prettyless_step.specs.Printing.{state_of, tasks_of}

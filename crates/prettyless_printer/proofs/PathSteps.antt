@@ -1,0 +1,318 @@
+-- Paths of a run: each step of it leads on, ends it, or breaks it off.
+use Rattle.std.proofs.Common.{◌≡◌, ℕ, ◌≤◌, ◌<◌, List, [], ◌∷◌, ◌++◌, length, refl, ap, sym, ◌∙◌, append-nil, arith, subst, Ok, Err, true, false}
+use Rattle.prettyless_sink.specs.Sink.{AppendsBeginning, IfKnown, known, rise}
+use Rattle.prettyless_sink.specs.declared.error.RenderError.{RenderError}
+use Rattle.prettyless_sink.specs.declared.error.RenderError.TheVariants.{Document, Sink, Memory}
+use Rattle.prettyless_model.specs.declared.options.RenderOptions.{RenderOptions}
+use Rattle.prettyless_model.specs.declared.mode.Mode.TheVariants.{Break}
+use Rattle.prettyless_model.specs.Tree.{Tree}
+use Rattle.prettyless_model.specs.Content.{suffix_depth}
+use Rattle.prettyless_model.specs.Layout.{State, Outcome}
+use Rattle.prettyless_model.proofs.Outcomes.{after-nil}
+use Rattle.prettyless_step.specs.Stack.{Task, make_task, nodes}
+use Rattle.prettyless_step.specs.Steps.{work, owed}
+use Rattle.prettyless_step.specs.Printing.{state_of, tasks_of, Grows}
+use Rattle.prettyless_step.specs.declared.printer.Printer.{Printer}
+use Rattle.prettyless_printer.specs.declared.answer.Turn.TheVariants as turn
+use Rattle.prettyless_printer.specs.Points.{Point, Seen, point}
+use Rattle.prettyless_printer.specs.Progress.{Inside}
+use Rattle.prettyless_printer.specs.Turns.{Advances, ForWholes, Goes, Turned, bytes_before}
+use Rattle.prettyless_printer.specs.Trials.{Tries}
+use Rattle.prettyless_printer.specs.Visits.{Plain, Rise, CountsAtMost}
+use Rattle.prettyless_printer.specs.AtLeast.{stack_tally}
+use Rattle.prettyless_printer.specs.Renders.{rest_of, Stopped, WorksOff}
+use Rattle.prettyless_printer.specs.Paths.{Run, Path, Waiting, Broke}
+use Rattle.prettyless_printer.proofs.Progresses.{inside_beginning, inside_end, waits_beginning}
+use Rattle.prettyless_printer.proofs.Turnings.{beginning_less}
+use Rattle.prettyless_printer.proofs.Trying.{grows-grows, choice_kept, choice_other}
+use Rattle.prettyless_printer.proofs.Visits.{rise_same, rise_then, at_most_same, at_most_then, at_most_all, at_most_at, at_most_first, at_most_besides, plain_push}
+use Rattle.prettyless_printer.proofs.AtLeast.{at_least_same, at_least_then, at_least_end, kept_at_least, other_at_least}
+
+-- what a turn says of every whole, at the whole of a run
+pub at_run : {N : Type 0} (f : N → Tree) (r : Run N) (q : Printer N) (old out : List ℕ) (goal : RenderOptions → Outcome → ℕ → List Task → List ℕ → Type 0) →
+    q.options ≡ r.start.printer.options → length r.below < length (tasks_of f q) →
+    Inside r.start.printer.options r.whole r.limit r.below old (tasks_of f q) (state_of f q) out → ForWholes f q out (goal q.options) → goal r.start.printer.options r.whole r.limit r.below old
+at_run {N} f r q old out goal e l y h =
+    subst (λ (w : RenderOptions). goal w r.whole r.limit r.below old) e
+    (h r.whole r.limit r.below old l
+    (subst (λ (w : RenderOptions). Inside w r.whole r.limit r.below old (tasks_of f q) (state_of f q) out) (sym e) y))
+
+-- a turn that goes on
+pub goes_on : {N E : Type 0} (f : N → Tree) {r : Run N} {a b : Point N} → Path f r a → length r.below < length (tasks_of f a.printer) →
+    Advances {N = N} {E = E} f a b (Ok turn.Went) → Path f r b
+goes_on {N} {E} f {r} {a} {b} p l h = record {
+  options = h.options ∙ p.options;
+  grows = grows-grows r.start.printer a.printer b.printer p.grows h.grows;
+  same_lender = h.same_lender ∙ p.same_lender;
+  less = omega (arith, h.lessens, p.less);
+  bytes = λ is_known.
+      let y = p.bytes is_known in
+      let e = h.bytes y.0 in
+      (e.0, (at_run f r a.printer (known r.start.sink.bytes) (known a.sink.bytes) (λ o. Goes f o b.printer (known b.sink.bytes) turn.Went) p.options l y.1.0 e.1.0, e.1.1 ∙ y.1.1));
+  rise = rise_then p.rise h.rise;
+  at_most = λ plain.
+      let y = p.at_most plain in
+      let z = h.at_most y.0 in
+      (z.0, at_most_then y.1 z.1);
+  at_least = at_least_then p.at_least (h.at_least (length r.below) l);
+}
+
+-- a turn after which two branches are to be chosen from
+pub comes_to_wait : {N E : Type 0} (f : N → Tree) {r : Run N} {a b : Point N} (i : ℕ) (x y : N) → Path f r a → length r.below < length (tasks_of f a.printer) →
+    Advances {N = N} {E = E} f a b (Ok (turn.Chosen i x y)) → length r.below ≤ length (tasks_of f b.printer) → Waiting f r i (f x) (f y) b
+comes_to_wait {N} {E} f {r} {a} {b} i x y p l h long = record {
+  options = h.options ∙ p.options;
+  grows = grows-grows r.start.printer a.printer b.printer p.grows h.grows;
+  same_lender = h.same_lender ∙ p.same_lender;
+  less = omega (arith, h.lessens.0, p.less);
+  long = long;
+  bytes = λ is_known.
+      let y' = p.bytes is_known in
+      let e = h.bytes y'.0 in
+      (e.0, (at_run f r a.printer (known r.start.sink.bytes) (known a.sink.bytes) (λ o. Goes f o b.printer (known b.sink.bytes) (turn.Chosen i x y)) p.options l y'.1.0 e.1.0, e.1.1 ∙ y'.1.1));
+  rise = rise_then p.rise h.rise;
+  at_most = λ plain.
+      let y' = p.at_most plain in
+      let z = h.at_most y'.0 in
+      (z.0, z.1, z.2, at_most_then y'.1 z.3);
+  at_least = at_least_then p.at_least (h.at_least (length r.below) l);
+}
+
+-- the bytes of a turn that broke off
+broke_bytes : {N E : Type 0} (f : N → Tree) (r : Run N) (a b : Printer N) (fails : E → Type 0) (old out new : List ℕ) (n k m : ℕ) (e : RenderError E) → a.options ≡ r.start.printer.options → length r.below < length (tasks_of f a) →
+    Inside r.start.printer.options r.whole r.limit r.below old (tasks_of f a) (state_of f a) out → k ≡ n → Turned f a b out new k m (Err e) → Stopped fails r.whole old new n m e
+broke_bytes {N} {E} f r a b fails old out new n k m (Document e) w l y s h = absurd h
+broke_bytes {N} {E} f r a b fails old out new n k m (Sink e) w l y s h =
+    (at_run f r a old out (λ (z : RenderOptions) whole limit below o. AppendsBeginning o new (bytes_before whole)) w l y h.0, h.1 ∙ ap rise s)
+broke_bytes {N} {E} f r a b fails old out new n k m (Memory e) w l y s h = (
+  subst (λ (z : List ℕ). AppendsBeginning old z (bytes_before r.whole)) (sym h.0) (inside_beginning r.start.printer.options r.whole r.limit r.below old (tasks_of f a) (state_of f a) out y),
+  h.1 ∙ s,
+)
+
+-- a turn that broke off
+pub breaks_off : {N E : Type 0} (f : N → Tree) (fails : E → Type 0) {r : Run N} {a b : Point N} (e : RenderError E) → Path f r a → length r.below < length (tasks_of f a.printer) →
+    Advances {N = N} {E = E} f a b (Err e) → Broke f fails r e b
+breaks_off {N} {E} f fails {r} {a} {b} e p l h = record {
+  same_lender = h.same_lender ∙ p.same_lender;
+  bytes = λ is_known.
+      let y = p.bytes is_known in
+      let z = h.bytes y.0 in
+      (z.0, broke_bytes f r a.printer b.printer fails (known r.start.sink.bytes) (known a.sink.bytes) (known b.sink.bytes) r.start.sink.failures a.sink.failures b.sink.failures e p.options l y.1.0 y.1.1 z.1);
+  rise = rise_then p.rise h.rise;
+  at_most = λ plain.
+      let y = p.at_most plain in
+      at_most_then y.1 (h.at_most y.0);
+}
+
+-- what a turn at a node that fails says of the whole, where the sink's bytes are known
+pub at_failing : {N E : Type 0} (f : N → Tree) {r : Run N} {a b : Point N} → Path f r a → length r.below < length (tasks_of f a.printer) → Advances {N = N} {E = E} f a b (Ok turn.Failed) →
+    IfKnown r.start.sink.bytes b.sink.bytes (λ old out. Goes f r.start.printer.options b.printer out turn.Failed r.whole r.limit r.below old × (b.sink.failures ≡ r.start.sink.failures))
+at_failing {N} {E} f {r} {a} {b} p l h = λ is_known.
+    let y = p.bytes is_known in
+    let k = h.bytes y.0 in
+    (k.0, (at_run f r a.printer (known r.start.sink.bytes) (known a.sink.bytes) (λ o. Goes f o b.printer (known b.sink.bytes) turn.Failed) p.options l y.1.0 k.1.0, k.1.1 ∙ y.1.1))
+
+-- a turn at a node that fails
+pub fails_there : {N E : Type 0} (f : N → Tree) (fails : E → Type 0) {r : Run N} {a b : Point N} (e : E) → Path f r a → length r.below < length (tasks_of f a.printer) →
+    Advances {N = N} {E = E} f a b (Ok turn.Failed) → fails e → Broke f fails r (Document e) b
+fails_there {N} {E} f fails {r} {a} {b} e p l h w = record {
+  same_lender = h.same_lender ∙ p.same_lender;
+  bytes = λ is_known.
+      let k = at_failing f p l h is_known in
+      let z = k.1.0 in
+      (k.0, (z.0, z.3, z.2, k.1.1, w));
+  rise = rise_then p.rise h.rise;
+  at_most = λ plain.
+      let y = p.at_most plain in
+      at_most_all (at_most_then y.1 (h.at_most y.0));
+}
+
+-- the first branch is kept, and what the trial wrote is appended
+pub goes_on_kept : {N E : Type 0} (f : N → Tree) {r : Run N} {b c : Point N} {s t : Seen} (i : ℕ) (x y : Tree) → Waiting f r i x y b →
+    Tries {N = N} {E = E} f i x (point b.printer s b.visits) (point c.printer t c.visits) (Ok true) → c.sink.lender ≡ b.sink.lender →
+    IfKnown b.sink.bytes c.sink.bytes (λ out new. ((piece : List ℕ) → known t.bytes ≡ known s.bytes ++ piece → new ≡ out ++ piece) × (c.sink.failures ≡ b.sink.failures)) → Path f r c
+goes_on_kept {N} {E} f {r} {b} {c} {s} {t} i x y w tries lender wrote =
+    let before = known s.bytes in
+    let after = known t.bytes in
+    let o = r.start.printer.options in
+    let d = tries.decided in
+    record {
+      options = d.1 ∙ w.options;
+      grows = grows-grows r.start.printer b.printer c.printer w.grows d.2;
+      same_lender = lender ∙ w.same_lender;
+      less = omega (arith, w.less, d.4, ap nodes d.0);
+      bytes = λ is_known.
+          let h = w.bytes is_known in
+          let z = wrote h.0 in
+          let n = choice_kept f b.printer c.printer o r.whole r.limit r.below (known r.start.sink.bytes) (known b.sink.bytes) i x y before after h.1.0 w.options d in
+          (z.0, (subst (Inside o r.whole r.limit r.below (known r.start.sink.bytes) (tasks_of f c.printer) (state_of f c.printer)) (sym (z.1.0 n.0 n.1)) n.2, z.1.1 ∙ h.1.1));
+      rise = rise_then w.rise tries.rise;
+      at_most = λ plain.
+          let h = w.at_most plain in
+          let z = tries.at_most h.0 h.1 in
+          (z.0, at_most_then h.3 (at_most_first (make_task i Break x) (make_task i Break y) z.1));
+      at_least = at_least_then w.at_least (kept_at_least f b.printer c.printer i x y before after b.visits c.visits (length r.below) d tries.at_least);
+    }
+
+-- the first branch is not kept, and the second one comes next
+pub goes_on_other : {N E : Type 0} (f : N → Tree) {r : Run N} {b c : Point N} {s t : Seen} (q : Printer N) (i : ℕ) (x y : Tree) → Waiting f r i x y b →
+    Tries {N = N} {E = E} f i x (point b.printer s b.visits) (point q t c.visits) (Ok false) →
+    tasks_of f c.printer ≡ make_task i Break y ∷ tasks_of f q → state_of f c.printer ≡ state_of f q → c.printer.options ≡ q.options → Grows q c.printer → c.sink.lender ≡ b.sink.lender →
+    IfKnown b.sink.bytes c.sink.bytes (λ out new. (known t.bytes ≡ known s.bytes → new ≡ out) × (c.sink.failures ≡ b.sink.failures)) → Path f r c
+goes_on_other {N} {E} f {r} {b} {c} {s} {t} q i x y w tries pushed same options grows lender wrote =
+    let before = known s.bytes in
+    let after = known t.bytes in
+    let o = r.start.printer.options in
+    let d = tries.decided in
+    record {
+      options = options ∙ d.1 ∙ w.options;
+      grows = grows-grows r.start.printer b.printer c.printer w.grows (grows-grows b.printer q c.printer d.2 grows);
+      same_lender = lender ∙ w.same_lender;
+      less = omega (arith, w.less, d.4, ap nodes d.0, ap nodes pushed, ap (λ (s : State). owed s.pending) same);
+      bytes = λ is_known.
+          let h = w.bytes is_known in
+          let z = wrote h.0 in
+          let n = choice_other f b.printer q c.printer o r.whole r.limit r.below (known r.start.sink.bytes) (known b.sink.bytes) i x y before after h.1.0 w.options d pushed same in
+          (z.0, (subst (Inside o r.whole r.limit r.below (known r.start.sink.bytes) (tasks_of f c.printer) (state_of f c.printer)) (sym (z.1.0 n.0)) n.1, z.1.1 ∙ h.1.1));
+      rise = rise_then w.rise tries.rise;
+      at_most = λ plain.
+          let h = w.at_most plain in
+          let z = tries.at_most h.0 h.1 in (
+            plain_push f q c.printer (make_task i Break y) pushed (ap (λ (s : State). s.pending) same) h.2 z.0,
+            at_most_at (tasks_of f c.printer) pushed (at_most_then h.3 (at_most_besides (make_task i Break x) (make_task i Break y) z.1)),
+          );
+      at_least = at_least_then w.at_least (other_at_least f b.printer q c.printer i x y before after b.visits c.visits (length r.below) w.long d pushed same options tries.rise);
+    }
+
+-- a choice that is refused memory, before anything of it is written
+pub choice_refused : {N E : Type 0} (f : N → Tree) (fails : E → Type 0) {r : Run N} {b c : Point N} (i : ℕ) (x y : Tree) (e : _) → Waiting f r i x y b → c.sink.lender ≡ b.sink.lender →
+    IfKnown b.sink.bytes c.sink.bytes (λ out new. (new ≡ out) × (c.sink.failures ≡ b.sink.failures)) → Rise b.visits c.visits →
+    (Plain f b.printer → suffix_depth x ≡ 0 → CountsAtMost (make_task i Break x ∷ tasks_of f b.printer) [] b.visits c.visits) → Broke {N = N} {E = E} f fails r (Memory e) c
+choice_refused {N} {E} f fails {r} {b} {c} i x y e w lender wrote rise counts = record {
+  same_lender = lender ∙ w.same_lender;
+  bytes = λ is_known.
+      let h = w.bytes is_known in
+      let z = wrote h.0 in (
+        z.0,
+        (
+          subst (λ (s : List ℕ). AppendsBeginning (known r.start.sink.bytes) s (bytes_before r.whole)) (sym z.1.0)
+              (waits_beginning r.start.printer.options r.whole r.limit r.below (known r.start.sink.bytes) i x y (tasks_of f b.printer) (state_of f b.printer) (known b.sink.bytes) h.1.0),
+          z.1.1 ∙ h.1.1,
+        ),
+      );
+  rise = rise_then w.rise rise;
+  at_most = λ plain.
+      let h = w.at_most plain in
+      at_most_then h.3 (at_most_first (make_task i Break x) (make_task i Break y) (counts h.0 h.1));
+}
+
+-- the first branch is kept, and the sink fails at what the trial wrote
+pub choice_unwritten : {N E D : Type 0} (f : N → Tree) (fails : E → Type 0) {r : Run N} {b c : Point N} {s t : Seen} (i : ℕ) (x y : Tree) (e : E) → Waiting f r i x y b →
+    Tries {N = N} {E = D} f i x (point b.printer s b.visits) (point c.printer t c.visits) (Ok true) → c.sink.lender ≡ b.sink.lender →
+    IfKnown b.sink.bytes c.sink.bytes (λ out new. ((piece : List ℕ) → known t.bytes ≡ known s.bytes ++ piece → AppendsBeginning out new piece) × (c.sink.failures ≡ rise b.sink.failures)) → Broke f fails r (Sink e) c
+choice_unwritten {N} {E} {D} f fails {r} {b} {c} {s} {t} i x y e w tries lender wrote =
+    let before = known s.bytes in
+    let after = known t.bytes in
+    let o = r.start.printer.options in
+    let old = known r.start.sink.bytes in
+    let out = known b.sink.bytes in
+    record {
+      same_lender = lender ∙ w.same_lender;
+      bytes = λ is_known.
+          let h = w.bytes is_known in
+          let z = wrote h.0 in
+          let n = choice_kept f b.printer c.printer o r.whole r.limit r.below old out i x y before after h.1.0 w.options tries.decided in (
+            z.0,
+            (
+              beginning_less old out (known c.sink.bytes) n.0 (bytes_before r.whole) (z.1.0 n.0 n.1)
+                  (inside_beginning o r.whole r.limit r.below old (tasks_of f c.printer) (state_of f c.printer) (out ++ n.0) n.2) (h.1.0.bytes, h.1.0.out_is),
+              z.1.1 ∙ ap rise h.1.1,
+            ),
+          );
+      rise = rise_then w.rise tries.rise;
+      at_most = λ plain.
+          let h = w.at_most plain in
+          at_most_then h.3 (at_most_all (at_most_first (make_task i Break x) (make_task i Break y) (tries.at_most h.0 h.1).1));
+    }
+
+-- A run of all commands.
+abbrev pub run_of : {N : Type 0} → (N → Tree) → Point N → Run N
+run_of f a = record {
+  start = a;
+  whole = rest_of f a.printer;
+  limit = work (tasks_of f a.printer) (state_of f a.printer);
+  first = tasks_of f a.printer;
+  below = [];
+  tally = stack_tally f a.printer 0;
+}
+
+-- it begins
+pub run_begins : {N : Type 0} (f : N → Tree) (a : Point N) → Path f (run_of f a) a
+run_begins {N} f a = record {
+  options = refl;
+  grows = ([], sym (append-nil a.printer.queue.nodes.items));
+  same_lender = refl;
+  less = omega arith;
+  bytes = λ is_known. (
+    is_known,
+    (
+      record {
+        above = tasks_of f a.printer;
+        bytes = [];
+        stack_is = sym (append-nil (tasks_of f a.printer));
+        out_is = sym (append-nil (known a.sink.bytes));
+        same = after-nil (rest_of f a.printer);
+        bound = omega arith;
+      },
+      refl,
+    ),
+  );
+  rise = rise_same a.visits;
+  at_most = λ plain. (record { none = plain.0; pending = plain.1 }, at_most_same (tasks_of f a.printer) a.visits);
+  at_least = at_least_same (stack_tally f a.printer 0) a.visits;
+}
+
+-- no task is left
+no_tasks : (ts : List Task) → length ts ≤ 0 → ts ≡ []
+no_tasks [] l = refl
+no_tasks (t ∷ ts) l = absurd (omega arith)
+
+-- it ends
+pub run_ends : {N A E : Type 0} (f : N → Tree) (fails : E → Type 0) {a b : Point N} (x : A) → Path f (run_of f a) b → length (tasks_of f b.printer) ≤ 0 → WorksOff f fails a b (Ok x)
+run_ends {N} {A} {E} f fails {a} {b} x p l = record {
+  options = p.options;
+  done = no_tasks (tasks_of f b.printer) l;
+  lessens = omega (arith, p.less);
+  same_lender = p.same_lender;
+  bytes = λ is_known.
+      let y = p.bytes is_known in
+      let e = inside_end a.printer.options (rest_of f a.printer) (work (tasks_of f a.printer) (state_of f a.printer)) [] (known a.sink.bytes) (tasks_of f b.printer) (state_of f b.printer) (known b.sink.bytes) y.1.0 l in
+      (y.0, (e.0, e.2, e.1, y.1.1));
+  rise = p.rise;
+  at_most = λ plain. p.at_most (plain.none, plain.pending);
+  at_least = at_least_end f b.printer 0 l p.at_least;
+}
+
+-- what breaks off where no document fails, breaks off where some may
+pub broke_anyhow : {N E : Type 0} (f : N → Tree) (fails : E → Type 0) {r : Run N} {b : Point N} (e : RenderError E) → Broke f (λ _. ⊥) r e b → Broke f fails r e b
+broke_anyhow {N} {E} f fails {r} {b} (Document e) h = record {
+  same_lender = h.same_lender;
+  bytes = λ is_known. absurd ((h.bytes is_known).1.4);
+  rise = h.rise;
+  at_most = h.at_most;
+}
+broke_anyhow {N} {E} f fails {r} {b} (Sink e) h = record { same_lender = h.same_lender; bytes = h.bytes; rise = h.rise; at_most = h.at_most }
+broke_anyhow {N} {E} f fails {r} {b} (Memory e) h = record { same_lender = h.same_lender; bytes = h.bytes; rise = h.rise; at_most = h.at_most }
+
+-- it broke off
+pub run_broke_off : {N A E : Type 0} (f : N → Tree) (fails : E → Type 0) {a b : Point N} (e : RenderError E) → Broke f fails (run_of f a) e b → WorksOff {N = N} {A = A} {E = E} f fails a b (Err e)
+run_broke_off {N} {A} {E} f fails {a} {b} e h = record {
+  options = tt;
+  done = tt;
+  lessens = tt;
+  same_lender = h.same_lender;
+  bytes = h.bytes;
+  rise = h.rise;
+  at_most = λ plain. h.at_most (plain.none, plain.pending);
+  at_least = tt;
+}

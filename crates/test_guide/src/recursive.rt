@@ -1,0 +1,25 @@
+//! The layouts of values of a type that contains itself.
+use crate::values::{Value, document};
+use prettyless::{Arena, Bump, DocPtr};
+use std::test::Fail;
+
+#[test]
+fn values_of_the_guide(rt: HostRuntime) -> Result<(), Fail> {
+    let alloc = rt.alloc();
+    let bump = Bump::new(alloc);
+    let arena = Arena::new(alloc, &bump);
+    let inner = Value::List(vec![in alloc; Value::Number(2), Value::Number(3)]?);
+    let value = Value::List(vec![in alloc; Value::Number(1), inner]?);
+    let document = document(&arena, &value)?;
+    let layouts = [
+        (11, "[1, [2, 3]]"),
+        (10, "[\n  1,\n  [2, 3]\n]"),
+        (7, "[\n  1,\n  [\n    2,\n    3\n  ]\n]"),
+    ];
+    for (width, layout) in layouts {
+        let mut out = String::new(alloc);
+        document.doc().render_fmt(alloc, width, &mut out)?;
+        assert_eq!(rt; out.as_str(), layout, "at {width}");
+    }
+    Ok(())
+}

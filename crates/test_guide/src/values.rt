@@ -1,0 +1,42 @@
+//! A small formatter: the document of a value that holds values is made by recursion.
+ghost use Rattle.std.specs.Prelude.{◌≡◌, IfOk, map};
+ghost use Rattle.prettyless.specs.Trees.{ref_tree};
+ghost use Rattle.test_guide.specs.Values.{document_of, list_of};
+
+use prettyless::prelude::*;
+use prettyless::text::BuildError;
+use prettyless::{Arena, RefDoc};
+
+/// A number, or a list of values.
+#[derive(Drop)]
+pub enum Value {
+    Number(u32),
+    List(Vec<Value>),
+}
+
+/// A list of these documents: on one line where it fits, and else each of them on its own.
+fn list<'a, D: DocPlace<'a>>(place: &'a D, docs: Vec<D::Doc>) -> Result<D::Doc, BuildError>
+    ensures { IfOk result (λ p. D.Doc.tree p ≡ list_of (map D.Doc.tree docs.items)) }
+{
+    let comma: &'a str = ",";
+    let gap = place.pretty(comma)?.join(place.line()?)?;
+    let inside = place.line_()?.join(place.separate(docs, gap)?)?.nest(2)?;
+    let end = place.line_()?;
+    inside.join(end)?.brackets()?.group()?.into_doc()
+}
+
+/// The document of a value.
+pub fn document<'a>(arena: &'a Arena<'a>, value: &Value) -> Result<RefDoc<'a>, BuildError>
+    ensures { IfOk result (λ p. ref_tree p ≡ document_of value.now) }
+{
+    match value {
+        Value::Number(number) => arena.as_string(*number)?.into_doc(),
+        Value::List(values) => {
+            let mut docs = Vec::new(arena.memory());
+            for value in values {
+                docs.push(document(arena, value)?)?;
+            }
+            list(arena, docs)
+        }
+    }
+}
