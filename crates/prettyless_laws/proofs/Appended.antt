@@ -1,8 +1,8 @@
--- A document at the end of another's right arms: the two count, read and are laid as their `Append`, and so a regrouped
--- document counts and reads as it did.
-use Rattle.std.proofs.Common.{◌≡◌, ℕ, ◌+◌, List, ◌∷◌, ◌++◌, refl, ap, sym, ◌∙◌, append_assoc, arith}
+-- A document at the end of another's right arms: the two read and are laid as their `Append`, and so a regrouped document
+-- reads as it did.
+use Rattle.std.proofs.Common.{◌≡◌, ℕ, List, ◌∷◌, ◌++◌, refl, ap, sym, ◌∙◌, append_assoc}
 use Rattle.prettyless_model.specs.declared.options.RenderOptions.{RenderOptions}
-use Rattle.prettyless_model.specs.Tree.{Tree, Append, LineSuffix, Nest, DedentToRoot, Align, Flatten, BreakOrFlat, Group, Union, PartialUnion, size}
+use Rattle.prettyless_model.specs.Tree.{Tree, Append, Nest, DedentToRoot, Align, Flatten, BreakOrFlat, Group, Union, PartialUnion}
 use Rattle.prettyless_model.specs.Reading.{Atom, reading}
 use Rattle.prettyless_model.specs.Layout.{State, Entry, Breaks, and_then, lay, entry, rest_atoms}
 use Rattle.prettyless_model.specs.declared.mode.Mode.{Mode}
@@ -15,10 +15,6 @@ use Rattle.prettyless_laws.proofs.Following.{Alike, ReadsAlike, then-same, lay_a
 appended_by : (P : Tree → Tree → Type 0) (r : Tree) → ((l : Tree) → P l (Append l r)) → ((a b : Tree) → P b (appended b r) → P (Append a b) (Append a (appended b r))) → (l : Tree) → P l (appended l r)
 appended_by P r f g (Append a b) = g a b (appended_by P r f g b)
 appended_by P r f g l = f l
-
-appended_size : (l r : Tree) → size (appended l r) ≡ size l + size r + 1
-appended_size l r =
-    appended_by (λ x y. size y ≡ size x + size r + 1) r (λ x. refl) (λ a b e. omega (arith, e)) l
 
 appended_reads : (l r : Tree) (m : Mode) → reading (appended l r) m ≡ reading l m ++ reading r m
 appended_reads l r m =
@@ -45,19 +41,6 @@ past_left o brk k r a b h = λ i m s st.
 pub appended_lays : (o : RenderOptions) (brk : Breaks) → ReadsAlike brk → (l r : Tree) → LaidBefore o brk r l (appended l r)
 unfolding lay
 appended_lays o brk k l r = appended_by (LaidBefore o brk r) r (λ x i m s st. refl) (past_left o brk k r) l
-
-pub right_size : (d : Tree) → size (right d) ≡ size d
-right_size (Append l r) = omega (arith, appended_size (right l) (right r), right_size l, right_size r)
-right_size (LineSuffix d) = omega (arith, right_size d)
-right_size (Nest k d) = omega (arith, right_size d)
-right_size (DedentToRoot d) = omega (arith, right_size d)
-right_size (Align d) = omega (arith, right_size d)
-right_size (Flatten d) = omega (arith, right_size d)
-right_size (BreakOrFlat b f) = omega (arith, right_size b, right_size f)
-right_size (Group d) = omega (arith, right_size d)
-right_size (Union l r) = omega (arith, right_size l, right_size r)
-right_size (PartialUnion l r) = omega (arith, right_size l, right_size r)
-right_size _ = refl
 
 pub right_reads : (d : Tree) (m : Mode) → reading (right d) m ≡ reading d m
 right_reads (Append l r) m =

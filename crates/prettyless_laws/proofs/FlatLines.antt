@@ -5,7 +5,7 @@ use Rattle.std.proofs.lemmas.Bool.{and_parts, leb-true}
 use Rattle.std.proofs.lemmas.List.Elements.{All-nil, All-cons, All-append}
 use Rattle.prettyless_model.specs.Spaces.{spaces}
 use Rattle.prettyless_model.specs.declared.options.RenderOptions.{RenderOptions}
-use Rattle.prettyless_model.specs.Tree.{Tree, Nil, Fail, Text, TextWithLen, MultilineText, WeakSpace, HardLine, WeakLine, Append, LineSuffix, Nest, DedentToRoot, Align, ExpandParent, Flatten, BreakOrFlat, Group, Union, PartialUnion}
+use Rattle.prettyless_model.specs.Tree.{Tree, Nil, Text, TextWithLen, WeakSpace, WeakLine, Append, LineSuffix, Nest, DedentToRoot, Align, Flatten, BreakOrFlat, Group, Union, PartialUnion}
 use Rattle.prettyless_model.specs.Column.{commit, blank, gap, prospective}
 use Rattle.prettyless_model.specs.Reading.{Atom, reading, fits, ink_of}
 use Rattle.prettyless_model.specs.Layout.{State, Outcome, Done, Entry, Breaks, after_bytes, and_then, lay, lay_text, nested, entry, probe, rest_atoms, some_pending, tried, lay_ending, next_indent, break_with, breaks}

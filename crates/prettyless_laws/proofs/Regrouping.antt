@@ -1,5 +1,5 @@
 -- Regrouping: from a state whose pending documents are regrouped, a regrouped document is laid as the document itself.
-use Rattle.std.proofs.Common.{◌≡◌, ℕ, zero, suc, ◌+◌, List, [], ◌∷◌, ◌++◌, length, refl, ap, sym, ◌∙◌, Bool, true, false, ◌&&◌, if◌then◌else◌}
+use Rattle.std.proofs.Common.{◌≡◌, ℕ, zero, suc, ◌+◌, List, [], ◌∷◌, ◌++◌, length, refl, ap, sym, ◌∙◌, arith, Bool, true, false, ◌&&◌, if◌then◌else◌}
 use Rattle.prettyless_model.specs.Spaces.{spaces}
 use Rattle.prettyless_model.specs.declared.options.RenderOptions.{RenderOptions}
 use Rattle.prettyless_model.specs.declared.options.IndentationPolicy.{IndentationPolicy}
@@ -10,9 +10,10 @@ use Rattle.prettyless_model.specs.Reading.{Atom, reading, fits, by_mode}
 use Rattle.prettyless_model.specs.Layout.{State, Outcome, Done, Failed, Entry, Breaks, after_bytes, and_then, lay, lay_each, lay_text, lay_ending, nested, some_pending, probe, accept, tried, is_suppressed, flushed, entry, entries, next_indent, rest_atoms, break_with, end_with, breaks, finish, layout, layout_by, initial, bytes_of}
 use Rattle.prettyless_model.specs.declared.mode.Mode.{Mode}
 use Rattle.prettyless_model.specs.declared.mode.Mode.TheVariants.{Break, Flat}
+use Rattle.prettyless_model.proofs.Levels.{more_levels, suffixes_size}
 use Rattle.prettyless_laws.specs.Regrouped.{right}
 use Rattle.prettyless_laws.proofs.Following.{Alike, alike_same, alike_after, ReadsAlike, either-same, breaks_alike}
-use Rattle.prettyless_laws.proofs.Appended.{appended_lays, right_reads, right_size}
+use Rattle.prettyless_laws.proofs.Appended.{appended_lays, right_reads}
 
 -- the pending documents, regrouped
 abbrev pub rights : List Tree → List Tree
@@ -159,13 +160,13 @@ right-bytes : (x : Outcome) → bytes_of (right_outcome x) ≡ bytes_of x
 right-bytes (Done b st) = refl
 right-bytes (Failed b) = refl
 
+-- with as many levels as either needs
 pub layout_right : (o : RenderOptions) (d : Tree) → layout o d ≡ layout o (right d)
-unfolding layout
 layout_right o d =
-    sym
-    (ap (λ (n : ℕ). bytes_of (layout_by o (n + 1) (right d))) (right_size d)
-    ∙ ap bytes_of (layout_by_right o (size d + 1) d)
-    ∙ right-bytes (layout_by o (size d + 1) d))
+    let n = size d + size (right d) in
+    sym (more_levels o n d (omega (arith, suffixes_size d)))
+    ∙ sym (ap bytes_of (layout_by_right o n d) ∙ right-bytes (layout_by o n d))
+    ∙ more_levels o n (right d) (omega (arith, suffixes_size (right d)))
 
 pub layouts_shared : (o : RenderOptions) (d e : Tree) → right d ≡ right e → layout o d ≡ layout o e
 layouts_shared o d e h = layout_right o d ∙ ap (layout o) h ∙ sym (layout_right o e)

@@ -3,7 +3,7 @@ use Rattle.std.proofs.Common.{◌≡◌, ℕ, zero, suc, ◌+◌, List, [], ◌�
 use Rattle.prettyless_model.specs.declared.options.RenderOptions.{RenderOptions}
 use Rattle.prettyless_model.specs.declared.options.IndentationPolicy.{IndentationPolicy}
 use Rattle.prettyless_model.specs.declared.options.IndentationPolicy.TheVariants.{Eager, Deferred}
-use Rattle.prettyless_model.specs.Tree.{Tree, Nil, Fail, Text, TextWithLen, MultilineText, WeakSpace, HardLine, WeakLine, Append, LineSuffix, Nest, DedentToRoot, Align, ExpandParent, Flatten, BreakOrFlat, Group, Union, PartialUnion, size}
+use Rattle.prettyless_model.specs.Tree.{Tree, Fail, Text, TextWithLen, MultilineText, WeakSpace, HardLine, WeakLine, Append, LineSuffix, Nest, DedentToRoot, Align, Flatten, BreakOrFlat, Group, Union, PartialUnion, size}
 use Rattle.prettyless_model.specs.Metrics.{metrics}
 use Rattle.prettyless_model.specs.Column.{indented, deferred, prospective, commit, padding_fits}
 use Rattle.prettyless_model.specs.Layout.{State, Entry, nested, behind_payload, next_indent, entry, entries, some_pending, probe, tried, flushed, is_suppressed, initial}
@@ -12,7 +12,7 @@ use Rattle.prettyless_model.specs.declared.metrics.Metrics.{Metrics}
 use Rattle.prettyless_model.specs.declared.mode.Mode.{Mode}
 use Rattle.prettyless_model.specs.declared.mode.Mode.TheVariants.{Break, Flat}
 use Rattle.prettyless_laws.specs.Trace as traces
-use Rattle.prettyless_laws.specs.Trace.{Piece, Ending, Indent, Gap, Source, Chose, Tracing, Traced, Stopped, First, Second, after_pieces, traced_then, trace_text, trace_payload, trace_ending, chosen, trace_accept, BreakTraces, trace_at, trace_each, trace_plain_break, trace_break_with, trace_breaks, trace_end_with, trace_finish, trace_by, settled, trace_of, trace, Complete, Partial}
+use Rattle.prettyless_laws.specs.Trace.{Piece, Gap, Source, Chose, Tracing, Traced, Stopped, First, Second, after_pieces, traced_then, trace_text, trace_payload, trace_ending, chosen, trace_accept, BreakTraces, trace_at, trace_each, trace_break_with, trace_breaks, trace_end_with, trace_finish, trace_by, settled, trace_of, trace, Complete, Partial}
 use Rattle.prettyless_laws.proofs.Alike.{AlikeStates, alike_equal, prospective_alike, commit_alike, blank_alike, ending_alike, padding_fits_alike, probe_alike, payload_alike, flushed_alike, suppressed_alike}
 
 -- the same pieces, and states that are alike after them

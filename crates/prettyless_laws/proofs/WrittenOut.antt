@@ -5,7 +5,7 @@ use Rattle.prettyless_model.specs.Spaces.{spaces}
 use Rattle.prettyless_model.specs.declared.options.RenderOptions.{RenderOptions}
 use Rattle.prettyless_model.specs.declared.options.IndentationPolicy.{IndentationPolicy}
 use Rattle.prettyless_model.specs.declared.options.IndentationPolicy.TheVariants.{Eager, Deferred}
-use Rattle.prettyless_model.specs.Tree.{Tree, Nil, Fail, Text, TextWithLen, MultilineText, WeakSpace, HardLine, WeakLine, Append, LineSuffix, Nest, DedentToRoot, Align, ExpandParent, Flatten, BreakOrFlat, Group, Union, PartialUnion, size}
+use Rattle.prettyless_model.specs.Tree.{Tree, Fail, Text, TextWithLen, MultilineText, WeakSpace, HardLine, WeakLine, Append, Nest, DedentToRoot, Align, Flatten, BreakOrFlat, Group, Union, PartialUnion, size}
 use Rattle.prettyless_model.specs.Metrics.{metrics}
 use Rattle.prettyless_model.specs.Column.{gap, prospective, padding_fits, saturating_add}
 use Rattle.prettyless_model.specs.Layout.{State, Outcome, Done, Failed, Entry, Breaks, Whole, Cut, after_bytes, and_then, lay, lay_each, lay_text, lay_payload, lay_ending, nested, next_indent, probe, accept, tried, some_pending, is_suppressed, flushed, entry, entries, break_with, end_with, breaks, finish, layout, layout_by, initial, bytes_of}
