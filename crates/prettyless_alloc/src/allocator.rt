@@ -66,8 +66,7 @@ pub trait DocAllocator<'a>: DocPlace<'a> {
     /// The pieces of a text between its whitespace, each as `text` makes it, with a `softline` in place
     /// of each whitespace character. It fails where memory is refused.
     fn reflow(&'a self, text: &'a str) -> Result<DocBuilder<'a, Self>, BuildError>
-        ensures ok { IfOk result (λ b. built Self.Doc.tree b.1 ≡ words.reflow text.now) }
-        ensures err { IfErr result IsMemory };
+        ensures { to.Builds result (λ b. built Self.Doc.tree b.1) (words.reflow text.now) };
 
     /// A line break. It keeps the groups around it from being flat, and fails under `flatten`. It takes no memory.
     fn hard_line(&'a self) -> Result<DocBuilder<'a, Self>, BuildError>
@@ -103,25 +102,21 @@ pub trait DocAllocator<'a>: DocPlace<'a> {
 
     /// A line break, or one space where lines are flat. It fails where memory is refused.
     fn line(&'a self) -> Result<DocBuilder<'a, Self>, BuildError>
-        ensures ok { IfOk result (λ b. built Self.Doc.tree b.1 ≡ lines.line) }
-        ensures err { IfErr result IsMemory };
+        ensures { to.Builds result (λ b. built Self.Doc.tree b.1) lines.line };
 
     /// A line break, or nothing where lines are flat. It fails where memory is refused.
     fn line_(&'a self) -> Result<DocBuilder<'a, Self>, BuildError>
-        ensures ok { IfOk result (λ b. built Self.Doc.tree b.1 ≡ lines.line_) }
-        ensures err { IfErr result IsMemory };
+        ensures { to.Builds result (λ b. built Self.Doc.tree b.1) lines.line_ };
 
     /// One space, or a line break where what follows, up to the next possible break, would go past the width.
     /// It fails where memory is refused.
     fn softline(&'a self) -> Result<DocBuilder<'a, Self>, BuildError>
-        ensures ok { IfOk result (λ b. built Self.Doc.tree b.1 ≡ to.softline) }
-        ensures err { IfErr result IsMemory };
+        ensures { to.Builds result (λ b. built Self.Doc.tree b.1) to.softline };
 
     /// Nothing, or a line break where what follows, up to the next possible break, would go past the width.
     /// It fails where memory is refused.
     fn softline_(&'a self) -> Result<DocBuilder<'a, Self>, BuildError>
-        ensures ok { IfOk result (λ b. built Self.Doc.tree b.1 ≡ to.softline_) }
-        ensures err { IfErr result IsMemory };
+        ensures { to.Builds result (λ b. built Self.Doc.tree b.1) to.softline_ };
 
     /// The documents in order, with the separator in each gap: nothing if there is none. It fails where memory is
     /// refused.
@@ -133,9 +128,8 @@ pub trait DocAllocator<'a>: DocPlace<'a> {
         docs: Vec<Self::Doc>,
         separator: DocBuilder<'a, Self>,
     ) -> Result<DocBuilder<'a, Self>, BuildError>
-        ensures ok { IfOk result (λ b. built Self.Doc.tree b.1
-            ≡ words.intersperse (built Self.Doc.tree separator.entry.1) (map Self.Doc.tree docs.items)) }
-        ensures err { IfErr result IsMemory };
+        ensures { to.Builds result (λ b. built Self.Doc.tree b.1)
+            (words.intersperse (built Self.Doc.tree separator.entry.1) (map Self.Doc.tree docs.items)) };
 }
 
 impl<'a, D: DocPlace<'a>> DocAllocator<'a> for D {
@@ -230,9 +224,8 @@ impl<'a, D: DocPlace<'a>> DocAllocator<'a> for D {
         docs: Vec<D::Doc>,
         separator: DocBuilder<'a, D>,
     ) -> Result<DocBuilder<'a, D>, BuildError>
-        ensures ok { IfOk result (λ b. built D.Doc.tree b.1
-            ≡ words.intersperse (built D.Doc.tree separator.entry.1) (map D.Doc.tree docs.items)) }
-        ensures err { IfErr result IsMemory }
+        ensures { to.Builds result (λ b. built D.Doc.tree b.1)
+            (words.intersperse (built D.Doc.tree separator.entry.1) (map D.Doc.tree docs.items)) }
     {
         separate(self, docs, separator)
     }

@@ -1,8 +1,8 @@
 //! The calls of an allocator that take a document.
-ghost use Rattle.std.specs.Prelude.{◌≡◌, ◌⊎◌, IfOk, IfErr};
-ghost use Rattle.prettyless_doc.specs.Tree.{Tree, Nil, LineSuffix, BreakOrFlat};
-ghost use Rattle.prettyless_doc.specs.BuildErrors.{IsMemory};
+ghost use Rattle.std.specs.Prelude.{IfOk, IfErr};
+ghost use Rattle.prettyless_doc.specs.Tree.{Nil, LineSuffix, BreakOrFlat};
 ghost use Rattle.prettyless_doc.specs.DocTree.{built};
+ghost use Rattle.prettyless_build.specs.Built as to;
 
 use prettyless_build::{DocBuilder, Pretty};
 use prettyless_doc::{BuildError, Doc, DocPlace};
@@ -20,21 +20,15 @@ pub trait DocAllocatorOf<'a, P: Pretty<'a, Self>>: DocPlace<'a> {
 
     /// The document as a line suffix, pending until its line ends, also where it is nothing.
     fn line_suffix(&'a self, doc: P) -> Result<DocBuilder<'a, Self>, BuildError>
-        ensures ok { IfOk result (λ b. (y : Tree) × P.becomes doc y
-            × (built Self.Doc.tree b.1 ≡ LineSuffix y)) }
-        ensures err { IfErr result (λ e. P.refuses doc e ⊎ IsMemory e) };
+        ensures { to.BuildsOf result (λ b. built Self.Doc.tree b.1) (P.becomes doc) (P.refuses doc) LineSuffix };
 
     /// Nothing where lines are broken, and the document where they are flat.
     fn if_group_flat(&'a self, doc: P) -> Result<DocBuilder<'a, Self>, BuildError>
-        ensures ok { IfOk result (λ b. (y : Tree) × P.becomes doc y
-            × (built Self.Doc.tree b.1 ≡ BreakOrFlat Nil y)) }
-        ensures err { IfErr result (λ e. P.refuses doc e ⊎ IsMemory e) };
+        ensures { to.BuildsOf result (λ b. built Self.Doc.tree b.1) (P.becomes doc) (P.refuses doc) (BreakOrFlat Nil) };
 
     /// The document where lines are broken, and nothing where they are flat.
     fn if_group_break(&'a self, doc: P) -> Result<DocBuilder<'a, Self>, BuildError>
-        ensures ok { IfOk result (λ b. (y : Tree) × P.becomes doc y
-            × (built Self.Doc.tree b.1 ≡ BreakOrFlat y Nil)) }
-        ensures err { IfErr result (λ e. P.refuses doc e ⊎ IsMemory e) };
+        ensures { to.BuildsOf result (λ b. built Self.Doc.tree b.1) (P.becomes doc) (P.refuses doc) (λ y. BreakOrFlat y Nil) };
 }
 
 impl<'a, D: DocPlace<'a>, P: Pretty<'a, D>> DocAllocatorOf<'a, P> for D {

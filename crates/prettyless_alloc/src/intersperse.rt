@@ -4,7 +4,7 @@ ghost use Rattle.std.specs.Iterator.{IsFinite, IsFiniteIterable, Drains};
 ghost use Rattle.std.specs.List.{FoldsTo};
 ghost use Rattle.prettyless_doc.specs.BuildErrors.{IsMemory};
 ghost use Rattle.prettyless_doc.specs.DocTree.{built};
-ghost use Rattle.prettyless_build.specs.Built.{append};
+ghost use Rattle.prettyless_build.specs.Built.{Builds, append};
 ghost use Rattle.prettyless_build.specs.Iterated.{GivesAll, GivesSome, GivesNext, HasGap, Intersperses, appends_after};
 
 use crate::concat::append_all;
@@ -92,9 +92,8 @@ pub(crate) fn join_after<'a, D: DocPlace<'a>>(
     gap: D::Doc,
     doc: DocBuilder<'a, D>,
 ) -> Result<DocBuilder<'a, D>, BuildError>
-    ensures ok { IfOk result (λ b. built D.Doc.tree b.1
-        ≡ append (append (built D.Doc.tree all.entry.1) (D.Doc.tree gap)) (built D.Doc.tree doc.entry.1)) }
-    ensures err { IfErr result IsMemory }
+    ensures { Builds result (λ b. built D.Doc.tree b.1)
+        (append (append (built D.Doc.tree all.entry.1) (D.Doc.tree gap)) (built D.Doc.tree doc.entry.1)) }
 {
     let gap = DocBuilder(all.0, BuildDoc::DocPtr(gap));
     all.join(gap)?.join(doc)

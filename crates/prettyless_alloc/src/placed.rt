@@ -1,5 +1,5 @@
 //! The constructors of pointers: each document has its place at once.
-ghost use Rattle.std.specs.Prelude.{◌≡◌, ◌⊎◌, IfOk, IfErr, IsTrue, List};
+ghost use Rattle.std.specs.Prelude.{◌≡◌, ◌⊎◌, IfOk, IfErr, List};
 ghost use Rattle.std.specs.Cow.{cow_str_bytes};
 ghost use Rattle.std.specs.Iterator.{IsFiniteIterable};
 ghost use Rattle.prettyless_doc.specs.Tree.{Tree, Nil, Fail, WeakSpace, HardLine, WeakLine, ExpandParent, BreakOrFlat, Union};
@@ -23,70 +23,57 @@ use std::fmt;
 pub trait PlacedDoc<'a, D: DocPlace<'a, Doc = Self>>: DocPtr<'a> {
     /// Nothing.
     fn nil(place: &'a D) -> Result<Self, BuildError>
-        ensures ok { IfOk result (λ p. Self.tree p ≡ Nil) }
-        ensures err { IfErr result IsMemory };
+        ensures { to.Builds result Self.tree Nil };
 
     /// A document that cannot be laid: a render that comes to it fails.
     fn fail(place: &'a D) -> Result<Self, BuildError>
-        ensures ok { IfOk result (λ p. Self.tree p ≡ Fail) }
-        ensures err { IfErr result IsMemory };
+        ensures { to.Builds result Self.tree Fail };
 
     /// A line break. It keeps the groups around it from being flat, and fails under `flatten`.
     fn hard_line(place: &'a D) -> Result<Self, BuildError>
-        ensures ok { IfOk result (λ p. Self.tree p ≡ HardLine) }
-        ensures err { IfErr result IsMemory };
+        ensures { to.Builds result Self.tree HardLine };
 
     /// `hard_line` by another name.
     fn hardline(place: &'a D) -> Result<Self, BuildError>
-        ensures ok { IfOk result (λ p. Self.tree p ≡ HardLine) }
-        ensures err { IfErr result IsMemory };
+        ensures { to.Builds result Self.tree HardLine };
 
     /// A line break, under `flatten` too. It keeps the groups around it from being flat. It is nothing on a fresh line
     /// where no suffix is pending.
     fn weak_line(place: &'a D) -> Result<Self, BuildError>
-        ensures ok { IfOk result (λ p. Self.tree p ≡ WeakLine) }
-        ensures err { IfErr result IsMemory };
+        ensures { to.Builds result Self.tree WeakLine };
 
     /// The text of one space.
     fn space(place: &'a D) -> Result<Self, BuildError>
-        ensures ok { IfOk result (λ p. Self.tree p ≡ lines.space) }
-        ensures err { IfErr result IsMemory };
+        ensures { to.Builds result Self.tree lines.space };
 
     /// A space; nothing at the start of a line, and nothing at its end unless a suffix is pending there.
     fn weak_space(place: &'a D) -> Result<Self, BuildError>
-        ensures ok { IfOk result (λ p. Self.tree p ≡ WeakSpace) }
-        ensures err { IfErr result IsMemory };
+        ensures { to.Builds result Self.tree WeakSpace };
 
     /// Nothing, but it keeps the groups around it from being flat.
     fn expand_parent(place: &'a D) -> Result<Self, BuildError>
-        ensures ok { IfOk result (λ p. Self.tree p ≡ ExpandParent) }
-        ensures err { IfErr result IsMemory };
+        ensures { to.Builds result Self.tree ExpandParent };
 
     /// A line break, or one space where lines are flat.
     fn line(place: &'a D) -> Result<Self, BuildError>
-        ensures ok { IfOk result (λ p. Self.tree p ≡ lines.line) }
-        ensures err { IfErr result IsMemory };
+        ensures { to.Builds result Self.tree lines.line };
 
     /// A line break, or nothing where lines are flat.
     fn line_(place: &'a D) -> Result<Self, BuildError>
-        ensures ok { IfOk result (λ p. Self.tree p ≡ lines.line_) }
-        ensures err { IfErr result IsMemory };
+        ensures { to.Builds result Self.tree lines.line_ };
 
     /// One space, or a line break where what follows, up to the next possible break, would go past the width.
     fn softline(place: &'a D) -> Result<Self, BuildError>
-        ensures ok { IfOk result (λ p. Self.tree p ≡ to.softline) }
-        ensures err { IfErr result IsMemory };
+        ensures { to.Builds result Self.tree to.softline };
 
     /// Nothing, or a line break where what follows, up to the next possible break, would go past the width.
     fn softline_(place: &'a D) -> Result<Self, BuildError>
-        ensures ok { IfOk result (λ p. Self.tree p ≡ to.softline_) }
-        ensures err { IfErr result IsMemory };
+        ensures { to.Builds result Self.tree to.softline_ };
 
     /// A text, written as it is: nothing if it is empty. It counts as its bytes if it is ASCII, and else as its display
     /// width. A line end in it is not seen by the layout: `multiline_text` is for such texts.
     fn text(place: &'a D, text: CowStr<'a>) -> Result<Self, BuildError>
-        ensures ok { IfOk result (λ p. Self.tree p ≡ counted.text (cow_str_bytes text.entry)) }
-        ensures err { IfErr result IsMemory };
+        ensures { to.Builds result Self.tree (counted.text (cow_str_bytes text.entry)) };
 
     /// What `{}` shows of the value: an empty text where it shows nothing. It counts as its bytes if it is ASCII, and
     /// else as its display width.
@@ -99,30 +86,26 @@ pub trait PlacedDoc<'a, D: DocPlace<'a, Doc = Self>>: DocPtr<'a> {
     /// A text whose line ends, each LF or CR, are written as they are, with no indent after them. It keeps the groups
     /// around it from being flat, and fails under `flatten`. Without one it is as `text` makes it.
     fn multiline_text(place: &'a D, text: CowStr<'a>) -> Result<Self, BuildError>
-        ensures ok { IfOk result (λ p. Self.tree p
-            ≡ counted.multiline_text (cow_str_bytes text.entry)) }
-        ensures err { IfErr result IsMemory };
+        ensures { to.Builds result Self.tree (counted.multiline_text (cow_str_bytes text.entry)) };
 
     /// This document, laid flat where it fits the line with what follows up to the next line break, and else broken.
     /// Where it is nothing, a text or a group, it stays as it is, which takes no memory.
     fn group(self, place: &'a D) -> Result<Self, BuildError>
-        ensures ok { IfOk result (λ p. Self.tree p ≡ to.group (Self.tree self)) }
-        ensures same { IsTrue (to.keeps_grouped (Self.tree self)) → result ≡ Ok self }
-        ensures err { IfErr result IsMemory };
+        ensures { to.BuildsOrKeeps result Self.tree
+            (to.group (Self.tree self))
+            (to.keeps_grouped (Self.tree self)) self };
 
     /// This document with its indent moved by so many columns. By 0, or where it is nothing, it stays
     /// as it is, which takes no memory.
     fn nest(self, place: &'a D, offset: isize) -> Result<Self, BuildError>
-        ensures ok { IfOk result (λ p. Self.tree p ≡ to.nest offset (Self.tree self)) }
-        ensures same { IsTrue (to.keeps_nested offset (Self.tree self)) → result ≡ Ok self }
-        ensures err { IfErr result IsMemory };
+        ensures { to.BuildsOrKeeps result Self.tree
+            (to.nest offset (Self.tree self))
+            (to.keeps_nested offset (Self.tree self)) self };
 
     /// This document where it can be laid with each text within the width, and else `that`; where lines are flat, this
     /// one.
     fn union(self, place: &'a D, that: BuildDoc<'a, Self>) -> Result<Self, BuildError>
-        ensures ok { IfOk result (λ p. Self.tree p
-            ≡ Union (Self.tree self) (built Self.tree that.entry)) }
-        ensures err { IfErr result IsMemory };
+        ensures { to.Builds result Self.tree (Union (Self.tree self) (built Self.tree that.entry)) };
 }
 
 impl<'a, D: DocPlace<'a, Doc = T>, T: DocPtr<'a>> PlacedDoc<'a, D> for T {
@@ -199,9 +182,7 @@ impl<'a, D: DocPlace<'a, Doc = T>, T: DocPtr<'a>> PlacedDoc<'a, D> for T {
     }
 
     fn union(self, place: &'a D, that: BuildDoc<'a, T>) -> Result<T, BuildError>
-        ensures ok { IfOk result (λ p. T.tree p
-            ≡ Union (T.tree self) (built T.tree that.entry)) }
-        ensures err { IfErr result IsMemory }
+        ensures { to.Builds result T.tree (Union (T.tree self) (built T.tree that.entry)) }
     {
         DocBuilder(place, BuildDoc::DocPtr(self))
             .union(that)?
@@ -224,9 +205,7 @@ pub trait PlacedDocOf<'a, D: DocPlace<'a, Doc = Self>, P: Pretty<'a, D>>: DocPtr
 
     /// This document where lines are broken, and `that` where they are flat.
     fn flat_alt(self, place: &'a D, that: P) -> Result<Self, BuildError>
-        ensures ok { IfOk result (λ p. (y : Tree) × P.becomes that y
-            × (Self.tree p ≡ BreakOrFlat (Self.tree self) y)) }
-        ensures err { IfErr result (λ e. P.refuses that e ⊎ IsMemory e) };
+        ensures { to.BuildsOf result Self.tree (P.becomes that) (P.refuses that) (BreakOrFlat (Self.tree self)) };
 }
 
 impl<'a, D: DocPlace<'a, Doc = T>, P: Pretty<'a, D>, T: DocPtr<'a>> PlacedDocOf<'a, D, P> for T {

@@ -1,7 +1,7 @@
 //! Documents of a vector, with a separator in each gap.
-ghost use Rattle.std.specs.Prelude.{◌≡◌, IfOk, IfErr, map};
-ghost use Rattle.prettyless_doc.specs.BuildErrors.{IsMemory};
+ghost use Rattle.std.specs.Prelude.{map};
 ghost use Rattle.prettyless_doc.specs.DocTree.{built};
+ghost use Rattle.prettyless_build.specs.Built as to;
 ghost use Rattle.prettyless_alloc.specs.Words.{intersperse};
 
 use crate::intersperse::join_after;
@@ -14,9 +14,8 @@ pub(crate) fn separate<'a, D: DocPlace<'a>>(
     docs: Vec<D::Doc>,
     separator: DocBuilder<'a, D>,
 ) -> Result<DocBuilder<'a, D>, BuildError>
-    ensures ok { IfOk result (λ b. built D.Doc.tree b.1
-        ≡ intersperse (built D.Doc.tree separator.entry.1) (map D.Doc.tree docs.items)) }
-    ensures err { IfErr result IsMemory }
+    ensures { to.Builds result (λ b. built D.Doc.tree b.1)
+        (intersperse (built D.Doc.tree separator.entry.1) (map D.Doc.tree docs.items)) }
 {
     let gap = separator.into_doc()?;
     let mut docs = docs.into_iter();

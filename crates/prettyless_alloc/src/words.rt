@@ -1,5 +1,5 @@
 //! Texts laid out anew, word by word.
-ghost use Rattle.std.specs.Prelude.{◌≡◌, IfOk, IfErr};
+ghost use Rattle.std.specs.Prelude.{◌≡◌};
 ghost use Rattle.prettyless_doc.specs.BuildErrors.{IsMemory};
 ghost use Rattle.prettyless_doc.specs.DocTree.{built};
 ghost use Rattle.prettyless_build.specs.Built as to;
@@ -29,8 +29,7 @@ pub(crate) fn reflow<'a, D: DocPlace<'a>>(
     place: &'a D,
     text: &'a str,
 ) -> Result<DocBuilder<'a, D>, BuildError>
-    ensures ok { IfOk result (λ b. built D.Doc.tree b.1 ≡ words.reflow text.now) }
-    ensures err { IfErr result IsMemory }
+    ensures { to.Builds result (λ b. built D.Doc.tree b.1) (words.reflow text.now) }
 {
     place.intersperse(text.split(|c: char| c.is_whitespace()), SoftLine)
 }

@@ -1,5 +1,5 @@
 -- The trees that building makes of the trees that it is given, and when it gives one back as it is.
-use Rattle.std.specs.Prelude.{◌≡◌, ℕ, ℤ, pos, zero, suc, ◌/◌, ◌%◌, ◌⊎◌, [], ◌∷◌, replicate, Bool, true, false}
+use Rattle.std.specs.Prelude.{◌≡◌, ℕ, ℤ, pos, zero, suc, ◌/◌, ◌%◌, ◌⊎◌, [], ◌∷◌, replicate, Bool, true, false, IsTrue, Result, Ok, IfOk, IfErr}
 use Rattle.prettyless_doc.specs.Tree.{Tree, Nil, Fail, Text, TextWithLen, MultilineText, HardLine, Append, LineSuffix, Nest, DedentToRoot, Align, Flatten, Group}
 use Rattle.prettyless_doc.specs.DocTree.{is_nil}
 use Rattle.prettyless_doc.specs.BuildErrors.{IsMemory}
@@ -7,6 +7,29 @@ use Rattle.prettyless_doc.specs.Lines.{line, line_}
 use Rattle.prettyless_doc.specs.declared.doc.BuildDoc.{BuildDoc}
 use Rattle.prettyless_doc.specs.declared.doc.BuildDoc.TheVariants.{DocPtr as Placed, Doc as Plain}
 use Rattle.prettyless_doc.specs.declared.text.BuildError.{BuildError}
+
+-- What a call that builds promises of its result: `seen` is the tree of what it answers, and `wanted` the tree it makes.
+pub record Builds {B : Type 0} (result : Result B BuildError) (seen : B → Tree) (wanted : Tree) : Type 0 where
+  -- `Ok`: what it answers has this tree.
+  pub ok : IfOk result (λ b. seen b ≡ wanted)
+  -- `Err`: memory was refused.
+  pub err : IfErr result IsMemory
+
+-- The same of a call that gives `before` back as it is where it `keeps` it, which takes no memory.
+pub record BuildsOrKeeps {B : Type 0} (result : Result B BuildError) (seen : B → Tree) (wanted : Tree) (keeps : Bool) (before : B) : Type 0 where
+  -- `Ok`: what it answers has this tree.
+  pub ok : IfOk result (λ b. seen b ≡ wanted)
+  -- Where nothing is to be done, the call succeeds, and changes nothing.
+  pub same : IsTrue keeps → result ≡ Ok before
+  -- `Err`: memory was refused.
+  pub err : IfErr result IsMemory
+
+-- The same of a call that makes a tree of the one that its operand becomes, and may answer an error of that operand.
+pub record BuildsOf {B : Type 0} (result : Result B BuildError) (seen : B → Tree) (becomes : Tree → Type 0) (refuses : BuildError → Type 0) (makes : Tree → Tree) : Type 0 where
+  -- `Ok`: what it answers has the tree that is made of one that the operand may become.
+  pub ok : IfOk result (λ b. (y : Tree) × becomes y × (seen b ≡ makes y))
+  -- `Err`: the operand answered this error, or memory was refused.
+  pub err : IfErr result (λ e. refuses e ⊎ IsMemory e)
 
 -- P of the pointer, if the document has one already
 abbrev pub IfPlaced : {T : Type 0} → BuildDoc T → (T → Type 0) → Type 0

@@ -92,11 +92,9 @@ impl<'a, D: DocPlace<'a>> DocBuilder<'a, D> {
     /// This document, laid flat where it fits the line with what follows up to the next line break, and else broken.
     /// Where it is nothing, a text or a group, it stays as it is, which takes no memory; else memory may be refused.
     pub fn group(self) -> Result<Self, BuildError>
-        ensures ok { IfOk result (λ b. built D.Doc.tree b.1
-            ≡ to.group (built D.Doc.tree self.entry.1)) }
-        ensures same { IsTrue (to.keeps_grouped (built D.Doc.tree self.entry.1))
-            → result ≡ Ok self.entry }
-        ensures err { IfErr result IsMemory }
+        ensures { to.BuildsOrKeeps result (λ b. built D.Doc.tree b.1)
+            (to.group (built D.Doc.tree self.entry.1))
+            (to.keeps_grouped (built D.Doc.tree self.entry.1)) self.entry }
     {
         match self.doc() {
             Doc::Nil
@@ -116,13 +114,11 @@ impl<'a, D: DocPlace<'a>> DocBuilder<'a, D> {
     /// hard line break or a payload, which no flat line holds, becomes a document that fails. Neither takes
     /// memory; else memory may be refused.
     pub fn flatten(self) -> Result<Self, BuildError>
-        ensures ok { IfOk result (λ b. built D.Doc.tree b.1
-            ≡ to.flatten (built D.Doc.tree self.entry.1)) }
-        ensures same { IsTrue (to.keeps_flattened (built D.Doc.tree self.entry.1))
-            → result ≡ Ok self.entry }
+        ensures builds { to.BuildsOrKeeps result (λ b. built D.Doc.tree b.1)
+            (to.flatten (built D.Doc.tree self.entry.1))
+            (to.keeps_flattened (built D.Doc.tree self.entry.1)) self.entry }
         ensures hard { IsTrue (to.is_hard (built D.Doc.tree self.entry.1))
             → IsOkAnd result (λ b. built D.Doc.tree b.1 ≡ Fail) }
-        ensures err { IfErr result IsMemory }
     {
         let allocator = self.0;
         match self.doc() {
@@ -138,11 +134,9 @@ impl<'a, D: DocPlace<'a>> DocBuilder<'a, D> {
     /// This document as a line suffix, pending until its line ends. Where it is nothing or one already, it
     /// stays as it is, which takes no memory; else memory may be refused.
     pub fn as_line_suffix(self) -> Result<Self, BuildError>
-        ensures ok { IfOk result (λ b. built D.Doc.tree b.1
-            ≡ to.as_line_suffix (built D.Doc.tree self.entry.1)) }
-        ensures same { IsTrue (to.keeps_put_off (built D.Doc.tree self.entry.1))
-            → result ≡ Ok self.entry }
-        ensures err { IfErr result IsMemory }
+        ensures { to.BuildsOrKeeps result (λ b. built D.Doc.tree b.1)
+            (to.as_line_suffix (built D.Doc.tree self.entry.1))
+            (to.keeps_put_off (built D.Doc.tree self.entry.1)) self.entry }
     {
         match self.doc() {
             Doc::Nil | Doc::LineSuffix(_) => Ok(self),

@@ -1,8 +1,7 @@
 //! Documents of which a part is laid, by the mode or by what fits the line.
-ghost use Rattle.std.specs.Prelude.{◌≡◌, ◌⊎◌, IfOk, IfErr};
-ghost use Rattle.prettyless_doc.specs.Tree.{Tree, Nil, BreakOrFlat, Union, PartialUnion};
-ghost use Rattle.prettyless_doc.specs.BuildErrors.{IsMemory};
+ghost use Rattle.prettyless_doc.specs.Tree.{Nil, BreakOrFlat, Union, PartialUnion};
 ghost use Rattle.prettyless_doc.specs.DocTree.{built};
+ghost use Rattle.prettyless_build.specs.Built as to;
 
 use crate::builder::DocBuilder;
 use crate::pretty::Pretty;
@@ -12,9 +11,8 @@ impl<'a, D: DocPlace<'a>> DocBuilder<'a, D> {
     /// This document where lines are broken, and `that` where they are flat. The making of `that` can
     /// fail, and memory may be refused.
     pub fn flat_alt<E: Pretty<'a, D>>(self, that: E) -> Result<Self, BuildError>
-        ensures ok { IfOk result (λ b. (y : Tree) × E.becomes that y
-            × (built D.Doc.tree b.1 ≡ BreakOrFlat (built D.Doc.tree self.entry.1) y)) }
-        ensures err { IfErr result (λ e. E.refuses that e ⊎ IsMemory e) }
+        ensures { to.BuildsOf result (λ b. built D.Doc.tree b.1) (E.becomes that) (E.refuses that)
+            (BreakOrFlat (built D.Doc.tree self.entry.1)) }
     {
         let allocator = self.0;
         let that = that.pretty(allocator)?;
@@ -26,9 +24,7 @@ impl<'a, D: DocPlace<'a>> DocBuilder<'a, D> {
     /// Nothing where lines are broken, and this document where they are flat. It fails where
     /// memory is refused.
     pub fn when_group_flat(self) -> Result<Self, BuildError>
-        ensures ok { IfOk result (λ b. built D.Doc.tree b.1
-            ≡ BreakOrFlat Nil (built D.Doc.tree self.entry.1)) }
-        ensures err { IfErr result IsMemory }
+        ensures { to.Builds result (λ b. built D.Doc.tree b.1) (BreakOrFlat Nil (built D.Doc.tree self.entry.1)) }
     {
         let allocator = self.0;
         let broken = allocator.alloc(Doc::Nil)?;
@@ -39,9 +35,7 @@ impl<'a, D: DocPlace<'a>> DocBuilder<'a, D> {
     /// This document where lines are broken, and nothing where they are flat. It fails where
     /// memory is refused.
     pub fn when_group_break(self) -> Result<Self, BuildError>
-        ensures ok { IfOk result (λ b. built D.Doc.tree b.1
-            ≡ BreakOrFlat (built D.Doc.tree self.entry.1) Nil) }
-        ensures err { IfErr result IsMemory }
+        ensures { to.Builds result (λ b. built D.Doc.tree b.1) (BreakOrFlat (built D.Doc.tree self.entry.1) Nil) }
     {
         let allocator = self.0;
         let broken = self.into_doc()?;
@@ -52,9 +46,8 @@ impl<'a, D: DocPlace<'a>> DocBuilder<'a, D> {
     /// This document where it can be laid with each text within the width, and else `that`; where lines are flat, this
     /// one. It fails where memory is refused.
     pub fn union(self, that: BuildDoc<'a, D::Doc>) -> Result<Self, BuildError>
-        ensures ok { IfOk result (λ b. built D.Doc.tree b.1
-            ≡ Union (built D.Doc.tree self.entry.1) (built D.Doc.tree that.entry)) }
-        ensures err { IfErr result IsMemory }
+        ensures { to.Builds result (λ b. built D.Doc.tree b.1)
+            (Union (built D.Doc.tree self.entry.1) (built D.Doc.tree that.entry)) }
     {
         let allocator = self.0;
         let first = self.into_doc()?;
@@ -65,9 +58,8 @@ impl<'a, D: DocPlace<'a>> DocBuilder<'a, D> {
     /// This document where its first line fits, whatever comes after it, and else `that`; where lines are flat,
     /// this one. It fails where memory is refused.
     pub fn partial_union(self, that: BuildDoc<'a, D::Doc>) -> Result<Self, BuildError>
-        ensures ok { IfOk result (λ b. built D.Doc.tree b.1
-            ≡ PartialUnion (built D.Doc.tree self.entry.1) (built D.Doc.tree that.entry)) }
-        ensures err { IfErr result IsMemory }
+        ensures { to.Builds result (λ b. built D.Doc.tree b.1)
+            (PartialUnion (built D.Doc.tree self.entry.1) (built D.Doc.tree that.entry)) }
     {
         let allocator = self.0;
         let first = self.into_doc()?;

@@ -37,8 +37,7 @@ impl<'a, D: DocPlace<'a>> DocBuilder<'a, D> {
 
     /// The same document once more. It fails where memory is refused.
     pub fn clone(&self) -> Result<Self, BuildError>
-        ensures ok { IfOk result (λ b. built D.Doc.tree b.1 ≡ built D.Doc.tree self.now.1) }
-        ensures err { IfErr result IsMemory }
+        ensures { to.Builds result (λ b. built D.Doc.tree b.1) (built D.Doc.tree self.now.1) }
     {
         Ok(DocBuilder(self.0, self.1.clone(self.0)?))
     }

@@ -33,9 +33,8 @@ impl<'a, D: DocPlace<'a>> DocBuilder<'a, D> {
 
     // This document between two texts, each of which counts as its bytes.
     fn between(self, before: &'a str, after: &'a str) -> Result<Self, BuildError>
-        ensures ok { IfOk result (λ b. built D.Doc.tree b.1 ≡ to.enclose
-            (TextTree before.now) (built D.Doc.tree self.entry.1) (TextTree after.now)) }
-        ensures err { IfErr result IsMemory }
+        ensures { to.Builds result (λ b. built D.Doc.tree b.1)
+            (to.enclose (TextTree before.now) (built D.Doc.tree self.entry.1) (TextTree after.now)) }
     {
         let allocator = self.0;
         let before = DocBuilder::new(allocator, Doc::Text(Text::Borrowed(before)));
@@ -45,54 +44,42 @@ impl<'a, D: DocPlace<'a>> DocBuilder<'a, D> {
 
     /// This document between single quotes. It fails where memory is refused.
     pub fn single_quotes(self) -> Result<Self, BuildError>
-        ensures ok { IfOk result (λ b. built D.Doc.tree b.1
-            ≡ to.between 39 39 (built D.Doc.tree self.entry.1)) }
-        ensures err { IfErr result IsMemory }
+        ensures { to.Builds result (λ b. built D.Doc.tree b.1) (to.between 39 39 (built D.Doc.tree self.entry.1)) }
     {
         self.between("'", "'")
     }
 
     /// This document between double quotes. It fails where memory is refused.
     pub fn double_quotes(self) -> Result<Self, BuildError>
-        ensures ok { IfOk result (λ b. built D.Doc.tree b.1
-            ≡ to.between 34 34 (built D.Doc.tree self.entry.1)) }
-        ensures err { IfErr result IsMemory }
+        ensures { to.Builds result (λ b. built D.Doc.tree b.1) (to.between 34 34 (built D.Doc.tree self.entry.1)) }
     {
         self.between("\"", "\"")
     }
 
     /// This document between parentheses. It fails where memory is refused.
     pub fn parens(self) -> Result<Self, BuildError>
-        ensures ok { IfOk result (λ b. built D.Doc.tree b.1
-            ≡ to.between 40 41 (built D.Doc.tree self.entry.1)) }
-        ensures err { IfErr result IsMemory }
+        ensures { to.Builds result (λ b. built D.Doc.tree b.1) (to.between 40 41 (built D.Doc.tree self.entry.1)) }
     {
         self.between("(", ")")
     }
 
     /// This document between angle brackets. It fails where memory is refused.
     pub fn angles(self) -> Result<Self, BuildError>
-        ensures ok { IfOk result (λ b. built D.Doc.tree b.1
-            ≡ to.between 60 62 (built D.Doc.tree self.entry.1)) }
-        ensures err { IfErr result IsMemory }
+        ensures { to.Builds result (λ b. built D.Doc.tree b.1) (to.between 60 62 (built D.Doc.tree self.entry.1)) }
     {
         self.between("<", ">")
     }
 
     /// This document between braces. It fails where memory is refused.
     pub fn braces(self) -> Result<Self, BuildError>
-        ensures ok { IfOk result (λ b. built D.Doc.tree b.1
-            ≡ to.between 123 125 (built D.Doc.tree self.entry.1)) }
-        ensures err { IfErr result IsMemory }
+        ensures { to.Builds result (λ b. built D.Doc.tree b.1) (to.between 123 125 (built D.Doc.tree self.entry.1)) }
     {
         self.between("{", "}")
     }
 
     /// This document between square brackets. It fails where memory is refused.
     pub fn brackets(self) -> Result<Self, BuildError>
-        ensures ok { IfOk result (λ b. built D.Doc.tree b.1
-            ≡ to.between 91 93 (built D.Doc.tree self.entry.1)) }
-        ensures err { IfErr result IsMemory }
+        ensures { to.Builds result (λ b. built D.Doc.tree b.1) (to.between 91 93 (built D.Doc.tree self.entry.1)) }
     {
         self.between("[", "]")
     }

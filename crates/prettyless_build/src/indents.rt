@@ -1,6 +1,5 @@
 //! Documents with another indent, in columns.
-ghost use Rattle.std.specs.Prelude.{◌≡◌, ◌≤◌, ◌-◌, ◌^◌, IfOk, IfErr, IsTrue, pos, neg_ℤ};
-ghost use Rattle.prettyless_doc.specs.BuildErrors.{IsMemory};
+ghost use Rattle.std.specs.Prelude.{◌≤◌, ◌-◌, ◌^◌, pos, neg_ℤ};
 ghost use Rattle.prettyless_doc.specs.DocTree.{built};
 ghost use Rattle.prettyless_build.specs.Built as to;
 
@@ -11,11 +10,9 @@ impl<'a, D: DocPlace<'a>> DocBuilder<'a, D> {
     /// This document with its indent moved by so many columns. By 0, or where it is nothing, it stays
     /// as it is, which takes no memory; else memory may be refused.
     pub fn nest(self, offset: isize) -> Result<Self, BuildError>
-        ensures ok { IfOk result (λ b. built D.Doc.tree b.1
-            ≡ to.nest offset (built D.Doc.tree self.entry.1)) }
-        ensures same { IsTrue (to.keeps_nested offset (built D.Doc.tree self.entry.1))
-            → result ≡ Ok self.entry }
-        ensures err { IfErr result IsMemory }
+        ensures { to.BuildsOrKeeps result (λ b. built D.Doc.tree b.1)
+            (to.nest offset (built D.Doc.tree self.entry.1))
+            (to.keeps_nested offset (built D.Doc.tree self.entry.1)) self.entry }
     {
         if offset == 0 || self.doc().is_nil() {
             return Ok(self);
@@ -28,11 +25,9 @@ impl<'a, D: DocPlace<'a>> DocBuilder<'a, D> {
     /// This document with its indent moved right by so many columns, as `nest` does it. They have to be at most `isize::MAX`.
     pub fn indent(self, offset: usize) -> Result<Self, BuildError>
         requires { offset ≤ 2 ^ 63 - 1 }
-        ensures ok { IfOk result (λ b. built D.Doc.tree b.1
-            ≡ to.nest (pos offset) (built D.Doc.tree self.entry.1)) }
-        ensures same { IsTrue (to.keeps_nested (pos offset) (built D.Doc.tree self.entry.1))
-            → result ≡ Ok self.entry }
-        ensures err { IfErr result IsMemory }
+        ensures { to.BuildsOrKeeps result (λ b. built D.Doc.tree b.1)
+            (to.nest (pos offset) (built D.Doc.tree self.entry.1))
+            (to.keeps_nested (pos offset) (built D.Doc.tree self.entry.1)) self.entry }
     {
         self.nest(offset as isize)
     }
@@ -40,11 +35,9 @@ impl<'a, D: DocPlace<'a>> DocBuilder<'a, D> {
     /// This document with its indent moved left by so many columns, as `nest` does it. They have to be at most `isize::MAX`.
     pub fn dedent(self, offset: usize) -> Result<Self, BuildError>
         requires { offset ≤ 2 ^ 63 - 1 }
-        ensures ok { IfOk result (λ b. built D.Doc.tree b.1
-            ≡ to.nest (neg_ℤ (pos offset)) (built D.Doc.tree self.entry.1)) }
-        ensures same { IsTrue (to.keeps_nested (neg_ℤ (pos offset)) (built D.Doc.tree self.entry.1))
-            → result ≡ Ok self.entry }
-        ensures err { IfErr result IsMemory }
+        ensures { to.BuildsOrKeeps result (λ b. built D.Doc.tree b.1)
+            (to.nest (neg_ℤ (pos offset)) (built D.Doc.tree self.entry.1))
+            (to.keeps_nested (neg_ℤ (pos offset)) (built D.Doc.tree self.entry.1)) self.entry }
     {
         self.nest(-(offset as isize))
     }
@@ -52,11 +45,9 @@ impl<'a, D: DocPlace<'a>> DocBuilder<'a, D> {
     /// This document with indent 0. Where it is nothing, or has that already, it stays as it is,
     /// which takes no memory; else memory may be refused.
     pub fn dedent_to_root(self) -> Result<Self, BuildError>
-        ensures ok { IfOk result (λ b. built D.Doc.tree b.1
-            ≡ to.dedent_to_root (built D.Doc.tree self.entry.1)) }
-        ensures same { IsTrue (to.keeps_dedented (built D.Doc.tree self.entry.1))
-            → result ≡ Ok self.entry }
-        ensures err { IfErr result IsMemory }
+        ensures { to.BuildsOrKeeps result (λ b. built D.Doc.tree b.1)
+            (to.dedent_to_root (built D.Doc.tree self.entry.1))
+            (to.keeps_dedented (built D.Doc.tree self.entry.1)) self.entry }
     {
         match self.doc() {
             Doc::Nil | Doc::DedentToRoot(_) => Ok(self),
@@ -71,11 +62,9 @@ impl<'a, D: DocPlace<'a>> DocBuilder<'a, D> {
     /// This document with its indent at the column where it starts. Where it is nothing, or has that
     /// already, it stays as it is, which takes no memory; else memory may be refused.
     pub fn align(self) -> Result<Self, BuildError>
-        ensures ok { IfOk result (λ b. built D.Doc.tree b.1
-            ≡ to.align (built D.Doc.tree self.entry.1)) }
-        ensures same { IsTrue (to.keeps_aligned (built D.Doc.tree self.entry.1))
-            → result ≡ Ok self.entry }
-        ensures err { IfErr result IsMemory }
+        ensures { to.BuildsOrKeeps result (λ b. built D.Doc.tree b.1)
+            (to.align (built D.Doc.tree self.entry.1))
+            (to.keeps_aligned (built D.Doc.tree self.entry.1)) self.entry }
     {
         match self.doc() {
             Doc::Nil | Doc::Align(_) => Ok(self),

@@ -49,7 +49,7 @@ pub(crate) fn widths<'a, D: DocPlace<'a>>(rt: &impl Abort, place: &'a D) -> Resu
     Ok(())
 }
 
-// A short value stands in its node.
+// A short value is in its node.
 pub(crate) fn strings<'a, D: DocPlace<'a>>(rt: &impl Abort, place: &'a D) -> Result<(), Fail> {
     let value = place.as_string(16)?;
     assert!(rt; matches!(value.doc(), Doc::Text(Text::Small(_))));

@@ -83,7 +83,7 @@ fn between<'a, D: DocPlace<'a>>(
 }
 
 // Compares what a document in the making is shown as, and what it is rendered as between two letters.
-pub(crate) fn stands<'a, D: DocPlace<'a>>(
+pub(crate) fn is_built<'a, D: DocPlace<'a>>(
     rt: &impl Abort,
     place: &'a D,
     made: BuildDoc<'a, D::Doc>,
@@ -98,7 +98,7 @@ pub(crate) fn stands<'a, D: DocPlace<'a>>(
     Ok(())
 }
 
-// The same of one that fails, behind the first letter.
+// The same of one that fails, after the first letter.
 pub(crate) fn fails<'a, D: DocPlace<'a>>(
     rt: &impl Abort,
     place: &'a D,

@@ -1,5 +1,5 @@
 //! Documents of one node, not placed yet, and documents in the making.
-use crate::expected::{fails, stands};
+use crate::expected::{fails, is_built};
 use prettyless::prelude::*;
 use prettyless::text::CowStr;
 use prettyless::{BuildDoc, Doc};
@@ -7,64 +7,64 @@ use std::process::Abort;
 use std::test::Fail;
 
 pub(crate) fn leaves<'a, D: DocPlace<'a>>(rt: &impl Abort, place: &'a D) -> Result<(), Fail> {
-    stands(rt, place, BuildDoc::Doc(Doc::nil()), "Nil", "ab")?;
+    is_built(rt, place, BuildDoc::Doc(Doc::nil()), "Nil", "ab")?;
     fails(rt, place, BuildDoc::Doc(Doc::fail()), "Fail")?;
     let line = BuildDoc::Doc(Doc::hard_line());
-    stands(rt, place, line, "HardLine", "a\nb")?;
+    is_built(rt, place, line, "HardLine", "a\nb")?;
     let line = BuildDoc::Doc(Doc::hardline());
-    stands(rt, place, line, "HardLine", "a\nb")?;
+    is_built(rt, place, line, "HardLine", "a\nb")?;
     let line = BuildDoc::Doc(Doc::weak_line());
-    stands(rt, place, line, "WeakLine", "a\nb")
+    is_built(rt, place, line, "WeakLine", "a\nb")
 }
 
 pub(crate) fn blanks<'a, D: DocPlace<'a>>(rt: &impl Abort, place: &'a D) -> Result<(), Fail> {
-    stands(rt, place, BuildDoc::Doc(Doc::space()), "\" \"", "a b")?;
+    is_built(rt, place, BuildDoc::Doc(Doc::space()), "\" \"", "a b")?;
     let space = BuildDoc::Doc(Doc::weak_space());
-    stands(rt, place, space, "WeakSpace", "a b")?;
+    is_built(rt, place, space, "WeakSpace", "a b")?;
     let nothing = BuildDoc::Doc(Doc::expand_parent());
-    stands(rt, place, nothing, "ExpandParent", "ab")
+    is_built(rt, place, nothing, "ExpandParent", "ab")
 }
 
 pub(crate) fn texts<'a, D: DocPlace<'a>>(rt: &impl Abort, place: &'a D) -> Result<(), Fail> {
     let memory = place.memory();
     let text = BuildDoc::Doc(Doc::text(memory, CowStr::Borrowed("xy"))?);
-    stands(rt, place, text, "\"xy\"", "axyb")?;
+    is_built(rt, place, text, "\"xy\"", "axyb")?;
     let value = BuildDoc::Doc(Doc::as_string(memory, 16)?);
-    stands(rt, place, value, "\"16\"", "a16b")?;
+    is_built(rt, place, value, "\"16\"", "a16b")?;
     let payload = BuildDoc::Doc(Doc::multiline_text(memory, CowStr::Borrowed("x\ny"))?);
-    stands(rt, place, payload, "MultilineText(\"x\\ny\")", "ax\nyb")
+    is_built(rt, place, payload, "MultilineText(\"x\\ny\")", "ax\nyb")
 }
 
 pub(crate) fn made_leaves<'a, D: DocPlace<'a>>(rt: &impl Abort, place: &'a D) -> Result<(), Fail> {
-    stands(rt, place, BuildDoc::nil(), "Nil", "ab")?;
+    is_built(rt, place, BuildDoc::nil(), "Nil", "ab")?;
     fails(rt, place, BuildDoc::fail(), "Fail")?;
-    stands(rt, place, BuildDoc::hard_line(), "HardLine", "a\nb")?;
-    stands(rt, place, BuildDoc::hardline(), "HardLine", "a\nb")?;
-    stands(rt, place, BuildDoc::weak_line(), "WeakLine", "a\nb")
+    is_built(rt, place, BuildDoc::hard_line(), "HardLine", "a\nb")?;
+    is_built(rt, place, BuildDoc::hardline(), "HardLine", "a\nb")?;
+    is_built(rt, place, BuildDoc::weak_line(), "WeakLine", "a\nb")
 }
 
 pub(crate) fn made_blanks<'a, D: DocPlace<'a>>(rt: &impl Abort, place: &'a D) -> Result<(), Fail> {
-    stands(rt, place, BuildDoc::space(), "\" \"", "a b")?;
-    stands(rt, place, BuildDoc::weak_space(), "WeakSpace", "a b")?;
+    is_built(rt, place, BuildDoc::space(), "\" \"", "a b")?;
+    is_built(rt, place, BuildDoc::weak_space(), "WeakSpace", "a b")?;
     let nothing = BuildDoc::expand_parent();
-    stands(rt, place, nothing, "ExpandParent", "ab")
+    is_built(rt, place, nothing, "ExpandParent", "ab")
 }
 
 pub(crate) fn made_texts<'a, D: DocPlace<'a>>(rt: &impl Abort, place: &'a D) -> Result<(), Fail> {
     let memory = place.memory();
     let text = BuildDoc::text(memory, CowStr::Borrowed("xy"))?;
-    stands(rt, place, text, "\"xy\"", "axyb")?;
+    is_built(rt, place, text, "\"xy\"", "axyb")?;
     let value = BuildDoc::as_string(memory, 16)?;
-    stands(rt, place, value, "\"16\"", "a16b")?;
+    is_built(rt, place, value, "\"16\"", "a16b")?;
     let payload = BuildDoc::multiline_text(memory, CowStr::Borrowed("x\ny"))?;
-    stands(rt, place, payload, "MultilineText(\"x\\ny\")", "ax\nyb")
+    is_built(rt, place, payload, "MultilineText(\"x\\ny\")", "ax\nyb")
 }
 
 pub(crate) fn lines<'a, D: DocPlace<'a>>(rt: &impl Abort, place: &'a D) -> Result<(), Fail> {
     let line = BuildDoc::Doc(Doc::line(place)?);
-    stands(rt, place, line, "LineOrSpace", "a\nb")?;
+    is_built(rt, place, line, "LineOrSpace", "a\nb")?;
     let line = BuildDoc::Doc(Doc::line_(place)?);
-    stands(rt, place, line, "LineOrNil", "a\nb")?;
-    stands(rt, place, BuildDoc::line(place)?, "LineOrSpace", "a\nb")?;
-    stands(rt, place, BuildDoc::line_(place)?, "LineOrNil", "a\nb")
+    is_built(rt, place, line, "LineOrNil", "a\nb")?;
+    is_built(rt, place, BuildDoc::line(place)?, "LineOrSpace", "a\nb")?;
+    is_built(rt, place, BuildDoc::line_(place)?, "LineOrNil", "a\nb")
 }

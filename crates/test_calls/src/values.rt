@@ -56,7 +56,7 @@ fn noted(asked: &Cell<bool>) -> HardLine {
     hard_line()
 }
 
-// What stands behind a refused document is not evaluated.
+// What comes after a refused document is not evaluated.
 pub(crate) fn refusals<'a, D: DocPlace<'a>>(rt: &impl Abort, place: &'a D) -> Result<(), Fail> {
     let asked = Cell::new(false);
     refuses(rt, docs![place, "a", as_string(Failing), noted(&asked)])?;
