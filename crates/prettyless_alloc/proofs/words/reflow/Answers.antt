@@ -18,21 +18,21 @@ returns g c =
     let characters : List ℕ = read.0 in
     record {
       ok = IfOk-weaker c.intersperse.result _ _
-      (λ b h.
-      let start = h.1.1 in
-      let text = read.1.1 ∙ sym (ap split_text start ∙ c.split.ensures.text) in
-      let more = ap split_has_more start ∙ c.split.ensures.has_more in
-      let come = pieces_come (λ p k. AlwaysReturns _ (λ a r. r ≡ k a.0) p) h.0 h.1.0 h.1.2.1.0 h.1.2.0 characters text more (answers_always _ _ _ (λ f a r f' called. search rules)) h.1.2.1.1 h.1.2.1.2 in
-      let known = come ∙ ap (λ (cs : List ℕ). map encode_utf8_all (cut cs)) (sym (chars-encodes characters read.1.0) ∙ ap chars read.1.1) in
-      pieces_interspersed h.0 _ h.2 ∙ ap (λ (ps : List (List ℕ)). intersperse softline (map counted.text ps)) known)
-      c.intersperse.ensures.ok;
+          (λ b h.
+          let start = h.1.1 in
+          let text = read.1.1 ∙ sym (ap split_text start ∙ c.split.ensures.text) in
+          let more = ap split_has_more start ∙ c.split.ensures.has_more in
+          let come = pieces_come (λ p k. AlwaysReturns _ (λ a r. r ≡ k a.0) p) h.0 h.1.0 h.1.2.1.0 h.1.2.0 characters text more (answers_always _ _ _ (λ f a r f' called. search rules)) h.1.2.1.1 h.1.2.1.2 in
+          let known = come ∙ ap (λ (cs : List ℕ). map encode_utf8_all (cut cs)) (sym (chars-encodes characters read.1.0) ∙ ap chars read.1.1) in
+          pieces_interspersed h.0 _ h.2 ∙ ap (λ (ps : List (List ℕ)). intersperse softline (map counted.text ps)) known)
+          c.intersperse.ensures.ok;
       err = IfErr-weaker c.intersperse.result _ _
-      (λ e h. elim h [
-        | inl m ↦ m
-        | inr k ↦ elim k [
-          | inl s ↦ s.0
-          | inr n ↦ absurd n.2.4
-        ]
-      ])
-      c.intersperse.ensures.err;
+          (λ e h. elim h [
+            | inl m ↦ m
+            | inr k ↦ elim k [
+              | inl s ↦ s.0
+              | inr n ↦ absurd n.2.4
+            ]
+          ])
+          c.intersperse.ensures.err;
     }
