@@ -9,8 +9,8 @@ ghost use Rattle.prettyless_build.specs.Built.{refused};
 use prettyless_build::{DocBuilder, Pretty};
 use prettyless_doc::{BuildDoc, BuildError, DocPlace};
 
-/// The first document where it can be laid with each text within the width, and else the second; where lines are flat,
-/// the first.
+/// The first document where it can be laid with each text, and each line of a payload, within the width, and else the
+/// second; where lines are flat, the first.
 #[derive(Clone, Debug, Drop)]
 pub struct Union<T, U>(pub(crate) T, pub(crate) U);
 

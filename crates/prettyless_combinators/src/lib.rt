@@ -155,8 +155,8 @@ pub fn line_suffix<T>(doc: T) -> LineSuffix<T>
     LineSuffix(doc)
 }
 
-/// The first document where it can be laid with each text within the width, and else the second; where lines are flat,
-/// the first.
+/// The first document where it can be laid with each text, and each line of a payload, within the width, and else the
+/// second; where lines are flat, the first.
 pub fn union<T, U>(first: T, second: U) -> Union<T, U>
     ensures first { result.0 ≡ first }
     ensures second { result.1 ≡ second }

@@ -7,7 +7,7 @@ use std::fmt;
 #[derive(Debug, Drop)]
 pub enum RenderError<E> {
     /// The document fails. The bytes before its failing node were appended to the sink's, exactly.
-    /// The error is one that the sink's `fail_doc` makes.
+    /// The error is one that the sink's `fail_doc` may answer.
     Document(E),
     /// The sink failed, with this error. A beginning of the layout's bytes was appended.
     Sink(E),

@@ -4,8 +4,8 @@ ghost use Rattle.prettyless_sink.specs.Sink.{Accepts, IsFairCount, Refuses, Take
 
 /// A sink: where the bytes of a layout go.
 ///
-/// A write appends its whole text and leaves the failures, or it appends a beginning and the failures rise by one. That
-/// is promised where the sink's bytes are known.
+/// A write appends what it answers and leaves the failures, or it appends a beginning of its text and the failures rise
+/// by one (at their greatest value they stay). That is promised where the sink's bytes are known.
 pub trait Render {
     /// What the sink answers where it or the document fails.
     type Error;

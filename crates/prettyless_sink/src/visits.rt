@@ -5,7 +5,7 @@ ghost use Rattle.prettyless_sink.specs.Sink.{rise};
 /// How many nodes were visited. Each count stops at the greatest `u64`.
 #[derive(Clone, Copy, Debug, Default)]
 pub struct Visits {
-    /// By the printer: to be laid, also in a trial that was not kept.
+    /// By the printer: to be laid, also in a trial that was not kept; and a payload that a union rejected by its metrics.
     pub printer: u64,
     /// By probes: to be read.
     pub probes: u64,
