@@ -8,6 +8,7 @@ pub use Rattle.prettyless_doc.specs.DocTree
 pub use Rattle.prettyless_doc.specs.Lines
 pub use Rattle.prettyless_doc.specs.Payload
 pub use Rattle.prettyless_doc.specs.Rendering
+pub use Rattle.prettyless_doc.specs.Small
 pub use Rattle.prettyless_doc.specs.TextBytes
 pub use Rattle.prettyless_doc.specs.Tree
 pub use Rattle.prettyless_laws.specs.FlatLines

@@ -1,10 +1,11 @@
-ghost use Rattle.std.specs.Prelude.{◌≡◌, ◌<◌, IfOk, IfErr, IsOkAnd, map};
+ghost use Rattle.std.specs.Prelude.{◌≡◌, ◌<◌, IfOk, IfErr, IsOk, IsOkAnd, map};
 ghost use Rattle.std.specs.Cow.{cow_str_bytes};
 ghost use Rattle.prettyless_doc.specs.Tree.{Nil, Fail, Text as TextTree, WeakSpace, HardLine, WeakLine, ExpandParent};
 ghost use Rattle.prettyless_doc.specs.BuildErrors.{IsMemory};
 ghost use Rattle.prettyless_doc.specs.Counted as counted;
 ghost use Rattle.prettyless_doc.specs.DocTree.{built};
 ghost use Rattle.prettyless_doc.specs.Lines as lines;
+ghost use Rattle.prettyless_doc.specs.TextBytes.{IfLent};
 ghost use Rattle.prettyless_build.specs.Built as to;
 ghost use Rattle.prettyless_alloc.specs.Words as words;
 
@@ -33,17 +34,20 @@ pub trait DocAllocator<'a>: DocPlace<'a> {
     fn fail(&'a self) -> Result<DocBuilder<'a, Self>, BuildError>
         ensures { IsOkAnd result (λ b. built Self.Doc.tree b.1 ≡ Fail) };
 
-    /// A text that counts as one column a byte, also where it is empty or not ASCII. It takes no
-    /// memory.
+    /// A text that counts as one column a byte, also where it is empty or not ASCII. Only an owned
+    /// text takes memory, and fails where that is refused.
     fn ascii_text(&'a self, text: CowStr<'a>) -> Result<DocBuilder<'a, Self>, BuildError>
-        ensures { IsOkAnd result (λ b. built Self.Doc.tree b.1
-            ≡ TextTree (cow_str_bytes text.entry)) };
+        ensures ok { IfOk result (λ b. built Self.Doc.tree b.1 ≡ TextTree (cow_str_bytes text.entry)) }
+        ensures borrowed { IfLent text.entry (IsOk result) }
+        ensures err { IfErr result IsMemory };
 
     /// A text, written as it is: nothing if it is empty. It counts as its bytes if it is ASCII, and else as its display
-    /// width. A line end in it is not seen by the layout: `multiline_text` is for such texts. It takes no memory.
+    /// width. A line end in it is not seen by the layout: `multiline_text` is for such texts. Only an
+    /// owned text takes memory, and fails where that is refused.
     fn text(&'a self, text: CowStr<'a>) -> Result<DocBuilder<'a, Self>, BuildError>
-        ensures { IsOkAnd result (λ b. built Self.Doc.tree b.1
-            ≡ counted.text (cow_str_bytes text.entry)) };
+        ensures ok { IfOk result (λ b. built Self.Doc.tree b.1 ≡ counted.text (cow_str_bytes text.entry)) }
+        ensures borrowed { IfLent text.entry (IsOk result) }
+        ensures err { IfErr result IsMemory };
 
     /// What `{}` shows of the value: an empty text where it shows nothing. It counts as its bytes if it is ASCII, and
     /// else as its display width.
@@ -58,10 +62,12 @@ pub trait DocAllocator<'a>: DocPlace<'a> {
             (built Self.Doc.tree b.1)) };
 
     /// A text whose line ends, each LF or CR, are written as they are, with no indent after them. It keeps the groups
-    /// around it from being flat, and fails under `flatten`. Without one it is as `text` makes it. It takes no memory.
+    /// around it from being flat, and fails under `flatten`. Without one it is as `text` makes it. Only an owned
+    /// text takes memory, and fails where that is refused.
     fn multiline_text(&'a self, text: CowStr<'a>) -> Result<DocBuilder<'a, Self>, BuildError>
-        ensures { IsOkAnd result (λ b. built Self.Doc.tree b.1
-            ≡ counted.multiline_text (cow_str_bytes text.entry)) };
+        ensures ok { IfOk result (λ b. built Self.Doc.tree b.1 ≡ counted.multiline_text (cow_str_bytes text.entry)) }
+        ensures borrowed { IfLent text.entry (IsOk result) }
+        ensures err { IfErr result IsMemory };
 
     /// The pieces of a text between its whitespace, each as `text` makes it, with a `softline` in place
     /// of each whitespace character. It fails where memory is refused.

@@ -1,8 +1,10 @@
-//! Texts become documents as `text` of an allocator makes them, and take no memory for it.
+//! Texts become documents as `text` of an allocator makes them. Only an owned one takes memory.
 ghost use Rattle.std.specs.Prelude.{◌≡◌};
 ghost use Rattle.std.specs.Cow.{cow_str_bytes};
 ghost use Rattle.std.specs.String.{string_bytes};
+ghost use Rattle.prettyless_doc.specs.BuildErrors.{IsMemory};
 ghost use Rattle.prettyless_doc.specs.Counted as counted;
+ghost use Rattle.prettyless_doc.specs.TextBytes.{IsOwnedAnd};
 
 use crate::builder::DocBuilder;
 use crate::pretty::Pretty;
@@ -12,7 +14,7 @@ use prettyless_doc::{BuildError, Doc, DocPlace};
 impl<'a, D: DocPlace<'a>> Pretty<'a, D> for CowStr<'a> {
     ghost becomes = { λ s y. y ≡ counted.text (cow_str_bytes s) };
 
-    ghost refuses = { λ _ _. ⊥ };
+    ghost refuses = { λ s e. IsOwnedAnd s (IsMemory e) };
 
     fn pretty(self, allocator: &'a D) -> Result<DocBuilder<'a, D>, BuildError> {
         let doc = Doc::text(allocator.memory(), self)?;
@@ -43,7 +45,7 @@ impl<'a, D: DocPlace<'a>> Pretty<'a, D> for &'a String {
 impl<'a, D: DocPlace<'a>> Pretty<'a, D> for String {
     ghost becomes = { λ s y. y ≡ counted.text (string_bytes s) };
 
-    ghost refuses = { λ _ _. ⊥ };
+    ghost refuses = { λ _ e. IsMemory e };
 
     fn pretty(self, allocator: &'a D) -> Result<DocBuilder<'a, D>, BuildError> {
         CowStr::Owned(self).pretty(allocator)

@@ -1,7 +1,9 @@
 //! Values that become texts.
 ghost use Rattle.std.specs.Prelude.{◌≡◌, ⊤};
 ghost use Rattle.std.specs.Cow.{cow_str_bytes};
+ghost use Rattle.prettyless_doc.specs.BuildErrors.{IsMemory};
 ghost use Rattle.prettyless_doc.specs.Counted as counted;
+ghost use Rattle.prettyless_doc.specs.TextBytes.{IsOwnedAnd};
 
 use prettyless_alloc::DocAllocator;
 use prettyless_build::{DocBuilder, Pretty};
@@ -24,14 +26,15 @@ impl<'a, D: DocPlace<'a>, T: fmt::Display + Drop> Pretty<'a, D> for AsString<T> 
     }
 }
 
-/// A text whose line ends are written as they are, as `multiline_text` of an allocator makes it. It takes no memory.
+/// A text whose line ends are written as they are, as `multiline_text` of an allocator makes it. Only an owned
+/// text takes memory, and fails where that is refused.
 #[derive(Debug, Drop)]
 pub struct MultilineText<'a>(pub(crate) CowStr<'a>);
 
 impl<'a, D: DocPlace<'a>> Pretty<'a, D> for MultilineText<'a> {
     ghost becomes = { λ t y. y ≡ counted.multiline_text (cow_str_bytes t.0) };
 
-    ghost refuses = { λ _ _. ⊥ };
+    ghost refuses = { λ t e. IsOwnedAnd t.0 (IsMemory e) };
 
     fn pretty(self, allocator: &'a D) -> Result<DocBuilder<'a, D>, BuildError> {
         let MultilineText(text) = self;

@@ -8,5 +8,7 @@ pub mod Payload
 pub mod Printed
 pub mod Rendering
 pub mod Shown
+pub mod Small
+pub mod Source
 pub mod TextBytes
 pub use Rattle.prettyless_model.specs.Tree

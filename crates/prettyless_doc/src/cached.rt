@@ -1,15 +1,16 @@
-//! Metrics in the room of two words.
+//! Metrics in few bytes.
 ghost use Rattle.std.specs.Prelude.{◌≡◌, ◌^◌, ◌<◌, true, false, MatchOption};
 ghost use Rattle.prettyless_doc.specs.Cached.{IsCacheOf, widened};
 
 use prettyless_model::metrics::Metrics;
 
-// Metrics with widths of 32 bits, so that a node stays small. Where one width needs more, none is kept.
+// Metrics with widths of 32 bits, so that a node stays small. Where one width needs more, none is kept. The widths are
+// bytes, so that it may be at any address.
 #[derive(Clone, Copy)]
 pub(crate) struct CachedMetrics {
-    first_width: u32,
-    rest_width: u32,
-    last_width: u32,
+    first_width: [u8; 4],
+    rest_width: [u8; 4],
+    last_width: [u8; 4],
     first_nonempty: bool,
     last_nonempty: bool,
     kept: bool,
@@ -27,18 +28,18 @@ impl CachedMetrics {
             .max(metrics.last_width);
         if widest > u32::MAX as usize {
             return CachedMetrics {
-                first_width: 0,
-                rest_width: 0,
-                last_width: 0,
+                first_width: [0; 4],
+                rest_width: [0; 4],
+                last_width: [0; 4],
                 first_nonempty: false,
                 last_nonempty: false,
                 kept: false,
             };
         }
         CachedMetrics {
-            first_width: metrics.first_width as u32,
-            rest_width: metrics.rest_width as u32,
-            last_width: metrics.last_width as u32,
+            first_width: (metrics.first_width as u32).to_le_bytes(),
+            rest_width: (metrics.rest_width as u32).to_le_bytes(),
+            last_width: (metrics.last_width as u32).to_le_bytes(),
             first_nonempty: metrics.first_nonempty,
             last_nonempty: metrics.last_nonempty,
             kept: true,
@@ -54,10 +55,10 @@ impl CachedMetrics {
             return None;
         }
         Some(Metrics {
-            first_width: self.first_width as usize,
+            first_width: u32::from_le_bytes(self.first_width) as usize,
             first_nonempty: self.first_nonempty,
-            rest_width: self.rest_width as usize,
-            last_width: self.last_width as usize,
+            rest_width: u32::from_le_bytes(self.rest_width) as usize,
+            last_width: u32::from_le_bytes(self.last_width) as usize,
             last_nonempty: self.last_nonempty,
         })
     }

@@ -1,10 +1,11 @@
 //! Documents of one node, or of few.
-ghost use Rattle.std.specs.Prelude.{◌≡◌, IfOk, IfErr, IsOkAnd};
+ghost use Rattle.std.specs.Prelude.{◌≡◌, IfOk, IfErr, IsOk};
 ghost use Rattle.std.specs.Cow.{cow_str_bytes};
 ghost use Rattle.prettyless_doc.specs.BuildErrors.{IsMemory};
 ghost use Rattle.prettyless_doc.specs.Counted as to;
 ghost use Rattle.prettyless_doc.specs.DocTree.{tree_of, built};
 ghost use Rattle.prettyless_doc.specs.Lines.{space, line, line_};
+ghost use Rattle.prettyless_doc.specs.TextBytes.{IfLent};
 ghost use Rattle.prettyless_doc.specs.Tree as tree;
 
 use crate::doc::{BuildDoc, Doc, DocPtr};
@@ -153,9 +154,12 @@ impl<'a, D: DocPtr<'a>> BuildDoc<'a, D> {
     }
 
     /// A text, written as it is: nothing if it is empty. It counts as its bytes if it is ASCII, and else as its display
-    /// width. A line end in it is not seen by the layout: `multiline_text` is for such texts. It takes no memory.
+    /// width. A line end in it is not seen by the layout: `multiline_text` is for such texts. Only an owned
+    /// text takes memory, and fails where that is refused.
     pub fn text(alloc: Global, text: CowStr<'a>) -> Result<Self, BuildError>
-        ensures { IsOkAnd result (λ d. built D.tree d ≡ to.text (cow_str_bytes text.entry)) }
+        ensures ok { IfOk result (λ d. built D.tree d ≡ to.text (cow_str_bytes text.entry)) }
+        ensures borrowed { IfLent text.entry (IsOk result) }
+        ensures err { IfErr result IsMemory }
     {
         Ok(BuildDoc::Doc(Doc::text(alloc, text)?))
     }
@@ -172,10 +176,12 @@ impl<'a, D: DocPtr<'a>> BuildDoc<'a, D> {
     }
 
     /// A text whose line ends, each LF or CR, are written as they are, with no indent after them. It keeps the groups
-    /// around it from being flat, and fails under `flatten`. Without one it is as `text` makes it. It takes no memory.
+    /// around it from being flat, and fails under `flatten`. Without one it is as `text` makes it. Only an owned
+    /// text takes memory, and fails where that is refused.
     pub fn multiline_text(alloc: Global, text: CowStr<'a>) -> Result<Self, BuildError>
-        ensures { IsOkAnd result (λ d. built D.tree d
-            ≡ to.multiline_text (cow_str_bytes text.entry)) }
+        ensures ok { IfOk result (λ d. built D.tree d ≡ to.multiline_text (cow_str_bytes text.entry)) }
+        ensures borrowed { IfLent text.entry (IsOk result) }
+        ensures err { IfErr result IsMemory }
     {
         Ok(BuildDoc::Doc(Doc::multiline_text(alloc, text)?))
     }

@@ -4,8 +4,10 @@ ghost use Rattle.std.specs.Result.{ForOk};
 ghost use Rattle.std.specs.String.{string_bytes};
 ghost use Rattle.prettyless_doc.specs.TextBytes.{bytes_of, IsSmallIfItFits};
 ghost use Rattle.prettyless_doc.specs.Printed.{printed_bytes, bytes_so_far, IsPrinted};
+ghost use Rattle.prettyless_doc.specs.BuildErrors.{IsMemory};
 ghost use Rattle.prettyless_doc.specs.declared.text.BuildError.TheVariants.{Display, Memory};
 
+use crate::small::SmallText;
 use crate::text::{BuildError, Text};
 use arrayvec::ArrayString;
 use std::alloc::{AllocError, Global};
@@ -38,14 +40,15 @@ impl Printed {
         }
     }
 
-    fn into_text<'a>(self) -> Text<'a>
+    fn into_text<'a>(self, alloc: Global) -> Result<Text<'a>, BuildError>
         requires { IsPrinted self }
-        ensures bytes { bytes_of result ≡ printed_bytes self }
-        ensures small { IsSmallIfItFits result }
+        ensures bytes { IfOk result (λ t. bytes_of t ≡ printed_bytes self) }
+        ensures small { IfOk result IsSmallIfItFits }
+        ensures err { IfErr result IsMemory }
     {
         match self {
-            Printed::Short(text) => Text::Small(text),
-            Printed::Long(text) => Text::Owned(text.into_boxed_str()),
+            Printed::Short(text) => Ok(Text::Small(SmallText::from(text))),
+            Printed::Long(text) => Ok(Text::Owned(Box::new(alloc, text.into_boxed_str())?)),
         }
     }
 }
@@ -96,14 +99,14 @@ impl Printer {
     fn finished<'a>(self, outcome: fmt::Result) -> Result<Text<'a>, BuildError>
         ensures memory { IfErr self.text (λ error. result ≡ Err (Memory error)) }
         ensures display { IsOk self.text → IsErr outcome → result ≡ Err Display }
-        ensures text { IsOk self.text → IsOk outcome → IsOk result }
+        ensures text { IsOk self.text → IsOk outcome → IfErr result IsMemory }
         ensures ended { IfOk result (λ _. IsOk outcome) }
         ensures bytes { IfOk result (λ t. bytes_of t ≡ bytes_so_far self.text) }
         ensures small { IfOk result IsSmallIfItFits }
     {
         let text = self.text?;
         match outcome {
-            Ok(()) => Ok(text.into_text()),
+            Ok(()) => text.into_text(self.alloc),
             Err(_) => Err(BuildError::Display),
         }
     }

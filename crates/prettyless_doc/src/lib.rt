@@ -14,6 +14,7 @@ mod multiline;
 pub mod place;
 pub mod print;
 pub mod render;
+mod small;
 pub mod text;
 mod texts;
 pub mod walk;

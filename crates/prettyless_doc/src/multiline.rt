@@ -4,33 +4,61 @@ ghost use Rattle.std.specs.Cow.{cow_str_bytes};
 ghost use Rattle.prettyless_model.specs.Metrics.{metrics};
 ghost use Rattle.prettyless_doc.specs.Breaks.{holds_break};
 ghost use Rattle.prettyless_doc.specs.Cached.{IsCacheOf};
+ghost use Rattle.prettyless_doc.specs.Source.{cache_of, source_bytes};
+ghost use Rattle.prettyless_doc.specs.TextBytes.{IfLent};
 
 use crate::cached::CachedMetrics;
 use crate::measure::measure;
 use crate::text::{BuildError, CowStr};
 use prettyless_model::metrics::Metrics;
 use std::alloc::Global;
+use std::boxed::BoxedStr;
 use std::fmt;
+
+// Where the source of a payload is, with its metrics beside it. It takes 32 bytes.
+#[derive(Drop)]
+enum Source<'a> {
+    Owned(CachedMetrics, Box<BoxedStr>),
+    Borrowed(CachedMetrics, &'a str),
+}
 
 /// A text that holds LF or CR, with its metrics. It is written byte for byte.
 #[derive(Drop)]
 pub struct MultilineTextData<'a> {
-    source: CowStr<'a>,
-    cached: CachedMetrics,
-    ghost broken: { holds_break (cow_str_bytes source) ≡ true },
-    ghost measured: { IsCacheOf cached (metrics (cow_str_bytes source)) },
+    source: Source<'a>,
+    ghost broken: { holds_break (source_bytes source) ≡ true },
+    ghost measured: { IsCacheOf (cache_of source) (metrics (source_bytes source)) },
 }
 
 impl<'a> MultilineTextData<'a> {
     ghost use Rattle.prettyless_doc.specs.BuildErrors.{IsMemory};
     ghost use Rattle.prettyless_doc.specs.Payload.{payload_bytes, is_owned, IfBorrowed};
 
-    pub(crate) fn new(source: CowStr<'a>) -> Self
-        requires { holds_break (cow_str_bytes source) ≡ true }
-        ensures { payload_bytes result ≡ cow_str_bytes source.entry }
+    pub(crate) fn new(alloc: Global, text: CowStr<'a>) -> Result<Self, BuildError>
+        requires { holds_break (cow_str_bytes text) ≡ true }
+        ensures ok { IfOk result (λ p. payload_bytes p ≡ cow_str_bytes text.entry) }
+        ensures borrowed { IfLent text.entry (IsOk result) }
+        ensures err { IfErr result IsMemory }
     {
-        let cached = CachedMetrics::new(measure(source.as_str()));
-        MultilineTextData { source, cached }
+        let cached = CachedMetrics::new(measure(text.as_str()));
+        let source = match text {
+            CowStr::Owned(text) => {
+                Source::Owned(cached, Box::new(alloc, text.into_boxed_str())?)
+            }
+            CowStr::Borrowed(text) => Source::Borrowed(cached, text),
+        };
+        Ok(MultilineTextData { source })
+    }
+
+    // The metrics that are kept, if any are.
+    #[inline(always)]
+    fn cached(&self) -> CachedMetrics
+        ensures { result ≡ cache_of self.now.source }
+    {
+        match &self.source {
+            Source::Owned(cached, _) => *cached,
+            Source::Borrowed(cached, _) => *cached,
+        }
     }
 
     /// The source.
@@ -38,7 +66,10 @@ impl<'a> MultilineTextData<'a> {
         ensures value { result.now ≡ payload_bytes self.now }
         ensures broken { holds_break result.now ≡ true }
     {
-        self.source.as_str()
+        match &self.source {
+            Source::Owned(_, text) => text.as_str(),
+            Source::Borrowed(_, text) => text,
+        }
     }
 
     /// The metrics of the source. They are measured anew only where a part is 2^32 columns wide or
@@ -47,7 +78,7 @@ impl<'a> MultilineTextData<'a> {
     pub fn metrics(&self) -> Metrics
         ensures { result ≡ metrics (payload_bytes self.now) }
     {
-        match self.cached.get() {
+        match self.cached().get() {
             Some(metrics) => metrics,
             None => measure(self.as_str()),
         }
@@ -57,7 +88,7 @@ impl<'a> MultilineTextData<'a> {
     pub fn is_owned(&self) -> bool
         ensures { result ≡ is_owned self.now }
     {
-        matches!(self.source, CowStr::Owned(_))
+        matches!(self.source, Source::Owned(..))
     }
 
     /// The payload of another text of the same bytes, which is not measured again.
@@ -67,8 +98,7 @@ impl<'a> MultilineTextData<'a> {
         ensures borrowed { is_owned result ≡ false }
     {
         MultilineTextData {
-            source: CowStr::Borrowed(source),
-            cached: self.cached,
+            source: Source::Borrowed(self.cached(), source),
         }
     }
 
@@ -79,13 +109,13 @@ impl<'a> MultilineTextData<'a> {
         ensures err { IfErr result IsMemory }
     {
         let source = match &self.source {
-            CowStr::Owned(text) => CowStr::Owned(String::from_str(alloc, text.as_str())?),
-            CowStr::Borrowed(text) => CowStr::Borrowed(text),
+            Source::Owned(cached, text) => {
+                let copy = BoxedStr::from_str(alloc, text.as_str())?;
+                Source::Owned(*cached, Box::new(alloc, copy)?)
+            }
+            Source::Borrowed(cached, text) => Source::Borrowed(*cached, text),
         };
-        Ok(MultilineTextData {
-            source,
-            cached: self.cached,
-        })
+        Ok(MultilineTextData { source })
     }
 }
 
@@ -104,7 +134,7 @@ mod tests {
 
     #[test]
     fn shows_its_source(rt: HostRuntime) -> Result<(), Fail> {
-        let payload = MultilineTextData::new(CowStr::Borrowed("a\r\nb"));
+        let payload = MultilineTextData::new(rt.alloc(), CowStr::Borrowed("a\r\nb"))?;
         assert_eq!(rt;
             format!(in rt.alloc(); "{payload:?}")?.as_str(),
             "\"a\\r\\nb\""
@@ -115,18 +145,19 @@ mod tests {
     #[test]
     fn clones(rt: HostRuntime) -> Result<(), Fail> {
         let source = String::from_str(rt.alloc(), "one\n  two")?;
-        let owned = MultilineTextData::new(CowStr::Owned(source));
+        let owned = MultilineTextData::new(rt.alloc(), CowStr::Owned(source))?;
         let copy = owned.clone(rt.alloc())?;
         assert_eq!(rt; copy.as_str(), "one\n  two");
         assert_eq!(rt; copy.metrics().rest_width, 5);
-        let borrowed = MultilineTextData::new(CowStr::Borrowed("a\n"));
+        let borrowed = MultilineTextData::new(rt.alloc(), CowStr::Borrowed("a\n"))?;
         assert_eq!(rt; borrowed.clone(rt.alloc())?.as_str(), "a\n");
         Ok(())
     }
 
-    // The metrics make no node larger.
+    // The metrics make no node larger: it is as small as a text with a width.
     #[test]
-    fn is_as_small_as_a_counted_text(rt: HostRuntime) {
-        assert!(rt; size_of::<MultilineTextData>() <= size_of::<(usize, Text)>());
+    fn takes_32_bytes(rt: HostRuntime) {
+        assert_eq!(rt; size_of::<MultilineTextData>(), 32);
+        assert_eq!(rt; size_of::<(usize, Text)>(), 32);
     }
 }

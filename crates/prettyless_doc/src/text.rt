@@ -1,11 +1,11 @@
-ghost use Rattle.std.specs.Prelude.{◌≡◌, IfOk, IfErr, IsOkAnd, Ok, alloc_error};
+ghost use Rattle.std.specs.Prelude.{◌≡◌, IfOk, IfErr, IsOk, Ok, alloc_error};
 ghost use Rattle.std.specs.Cow.{cow_str_bytes};
-ghost use Rattle.prettyless_doc.specs.TextBytes.{bytes_of, IfUnowned};
+ghost use Rattle.prettyless_doc.specs.TextBytes.{bytes_of, IfLent, IfUnowned};
 ghost use Rattle.prettyless_doc.specs.BuildErrors.{IsMemory};
 ghost use Rattle.prettyless_doc.specs.declared.text.BuildError.TheVariants.{Memory};
 
 pub use crate::multiline::MultilineTextData;
-use arrayvec::ArrayString;
+pub use crate::small::SmallText;
 use std::alloc::{AllocError, AllocFailed, Global};
 pub use std::borrow::CowStr;
 use std::boxed::BoxedStr;
@@ -52,22 +52,24 @@ impl Error for BuildError {}
 /// The text of a node.
 #[derive(Drop)]
 pub enum Text<'a> {
-    /// In memory of its own.
-    Owned(BoxedStr),
+    /// In memory of its own, behind one pointer, so that a node is no larger for it.
+    Owned(Box<BoxedStr>),
     /// In memory that is lent for `'a`.
     Borrowed(&'a str),
     /// In the node itself: at most 22 bytes.
-    Small(ArrayString<22>),
+    Small(SmallText),
 }
 
 impl<'a> Text<'a> {
-    /// The same bytes. It takes no memory: a borrowed text stays borrowed, and an owned one keeps
-    /// its buffer.
-    pub fn from_cow(_alloc: Global, text: CowStr<'a>) -> Result<Self, BuildError>
-        ensures { IsOkAnd result (λ t. bytes_of t ≡ cow_str_bytes text.entry) }
+    /// The same bytes. A borrowed text stays borrowed, which takes no memory. An owned one keeps its buffer; it takes
+    /// memory for the pointer to it. Where that is refused, the text is given up, and nothing else changes.
+    pub fn from_cow(alloc: Global, text: CowStr<'a>) -> Result<Self, BuildError>
+        ensures ok { IfOk result (λ t. bytes_of t ≡ cow_str_bytes text.entry) }
+        ensures borrowed { IfLent text.entry (IsOk result) }
+        ensures err { IfErr result IsMemory }
     {
         match text {
-            CowStr::Owned(s) => Ok(Text::Owned(s.into_boxed_str())),
+            CowStr::Owned(s) => Ok(Text::Owned(Box::new(alloc, s.into_boxed_str())?)),
             CowStr::Borrowed(s) => Ok(Text::Borrowed(s)),
         }
     }
@@ -90,7 +92,10 @@ impl<'a> Text<'a> {
         ensures err { IfErr result IsMemory }
     {
         match self {
-            Text::Owned(s) => Ok(Text::Owned(BoxedStr::from_str(alloc, s.as_str())?)),
+            Text::Owned(s) => {
+                let copy = BoxedStr::from_str(alloc, s.as_str())?;
+                Ok(Text::Owned(Box::new(alloc, copy)?))
+            }
             Text::Borrowed(s) => Ok(Text::Borrowed(s)),
             Text::Small(s) => Ok(Text::Small(*s)),
         }
@@ -148,5 +153,11 @@ mod tests {
         assert!(rt; matches!(copy, Text::Small(_)));
         assert_eq!(rt; copy.as_str(), "ef");
         Ok(())
+    }
+
+    // One byte more than the largest way to hold a text, with what aligns it.
+    #[test]
+    fn takes_24_bytes(rt: HostRuntime) {
+        assert_eq!(rt; size_of::<Text>(), 24);
     }
 }

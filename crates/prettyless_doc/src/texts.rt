@@ -1,9 +1,10 @@
 //! Documents of texts, with the columns that they count as.
-ghost use Rattle.std.specs.Prelude.{◌≡◌, IfOk, IsOkAnd};
+ghost use Rattle.std.specs.Prelude.{◌≡◌, IfOk, IfErr, IsOk};
 ghost use Rattle.std.specs.Cow.{cow_str_bytes};
 ghost use Rattle.prettyless_doc.specs.Counted as to;
 ghost use Rattle.prettyless_doc.specs.DocTree.{tree_of};
-ghost use Rattle.prettyless_doc.specs.TextBytes.{bytes_of};
+ghost use Rattle.prettyless_doc.specs.BuildErrors.{IsMemory};
+ghost use Rattle.prettyless_doc.specs.TextBytes.{bytes_of, IfLent};
 
 use crate::doc::{Doc, DocPtr};
 use crate::measure::{holds_break, is_ascii};
@@ -25,9 +26,12 @@ impl<'a, T: DocPtr<'a>> Doc<'a, T> {
     }
 
     /// A text, written as it is: nothing if it is empty. It counts as its bytes if it is ASCII, and else as its display
-    /// width. A line end in it is not seen by the layout: `multiline_text` is for such texts. It takes no memory.
+    /// width. A line end in it is not seen by the layout: `multiline_text` is for such texts. Only an owned
+    /// text takes memory, and fails where that is refused.
     pub fn text(alloc: Global, text: CowStr<'a>) -> Result<Self, BuildError>
-        ensures { IsOkAnd result (λ d. tree_of T.tree d ≡ to.text (cow_str_bytes text.entry)) }
+        ensures ok { IfOk result (λ d. tree_of T.tree d ≡ to.text (cow_str_bytes text.entry)) }
+        ensures borrowed { IfLent text.entry (IsOk result) }
+        ensures err { IfErr result IsMemory }
     {
         if text.len() == 0 {
             return Ok(Doc::Nil);
@@ -47,13 +51,15 @@ impl<'a, T: DocPtr<'a>> Doc<'a, T> {
     }
 
     /// A text whose line ends, each LF or CR, are written as they are, with no indent after them. It keeps the groups
-    /// around it from being flat, and fails under `flatten`. Without one it is as `text` makes it. It takes no memory.
+    /// around it from being flat, and fails under `flatten`. Without one it is as `text` makes it. Only an owned
+    /// text takes memory, and fails where that is refused.
     pub fn multiline_text(alloc: Global, text: CowStr<'a>) -> Result<Self, BuildError>
-        ensures { IsOkAnd result (λ d. tree_of T.tree d
-            ≡ to.multiline_text (cow_str_bytes text.entry)) }
+        ensures ok { IfOk result (λ d. tree_of T.tree d ≡ to.multiline_text (cow_str_bytes text.entry)) }
+        ensures borrowed { IfLent text.entry (IsOk result) }
+        ensures err { IfErr result IsMemory }
     {
         if holds_break(text.as_str()) {
-            return Ok(Doc::MultilineText(MultilineTextData::new(text)));
+            return Ok(Doc::MultilineText(MultilineTextData::new(alloc, text)?));
         }
         Doc::text(alloc, text)
     }

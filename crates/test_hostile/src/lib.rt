@@ -1,8 +1,10 @@
-//! Awkward trees, sinks that fail or lie, and the pieces that sinks are given.
+//! Awkward trees, sinks that fail or lie, the pieces that sinks are given, and arenas that are refused memory.
 #![tactic(auto)]
 
 #[cfg(test)]
 mod pieces;
+#[cfg(test)]
+mod refusals;
 #[cfg(test)]
 mod rows;
 #[cfg(test)]

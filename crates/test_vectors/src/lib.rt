@@ -20,6 +20,8 @@ mod rendered;
 #[cfg(test)]
 mod shown;
 #[cfg(test)]
+mod sizes;
+#[cfg(test)]
 mod suffixes;
 #[cfg(test)]
 mod visits;
