@@ -1,122 +1,199 @@
 -- The contract of a turn, for each way that it ends.
-use Rattle.std.proofs.Common.{◌≡◌, ℕ, ◌+◌, ◌≤◌, List, ◌∷◌, arith, refl, Ok, Err}
+use Rattle.std.proofs.Common.{◌≡◌, ℕ, ◌+◌, ◌≤◌, List, [], ◌∷◌, sym, ◌∙◌, arith, refl, subst, Ok, Err}
 use Rattle.prettyless_sink.specs.Sink.{Accepts, Refuses, known, rise}
 use Rattle.prettyless_sink.specs.declared.error.RenderError.TheVariants.{Sink, Memory}
 use Rattle.prettyless_sink.specs.declared.visits.Visits.{Visits}
+use Rattle.prettyless_model.specs.declared.options.RenderOptions.{RenderOptions}
 use Rattle.prettyless_model.specs.Tree.{Tree}
-use Rattle.prettyless_step.specs.Stack.{Task, nodes}
-use Rattle.prettyless_step.specs.Steps.{counted_payload, rejects_payload}
-use Rattle.prettyless_step.specs.Probing.{asked}
-use Rattle.prettyless_step.specs.Printing.{state_of, tasks_of, TookNext, TookWriting}
+use Rattle.prettyless_model.specs.Counts.{each_probe}
+use Rattle.prettyless_step.specs.Stack.{Task}
+use Rattle.prettyless_step.specs.Probing.{RisesBy}
+use Rattle.prettyless_step.specs.Printing.{state_of, tasks_of, Shows, Writes}
 use Rattle.prettyless_step.specs.declared.printer.Printer.{Printer}
 use Rattle.prettyless_step.specs.declared.printer.Taken.TheVariants.{Failed, Chosen}
-use Rattle.prettyless_printer.specs.Points.{Seen, point}
-use Rattle.prettyless_printer.specs.Visits.{Rise}
-use Rattle.prettyless_printer.specs.Turns.{Advances}
+use Rattle.prettyless_step.proofs.Shown.{IsStuck, Asks, written, stuck, asks}
+use Rattle.prettyless_printer.specs.Points.{Point, Seen, point}
+use Rattle.prettyless_printer.specs.Progress.{Inside}
+use Rattle.prettyless_printer.specs.Visits.{Plain, CountsAtMost}
+use Rattle.prettyless_printer.specs.AtLeast.{CountsAtLeast, tally_above, tally_choice}
+use Rattle.prettyless_printer.specs.Turns.{Advances, next_size}
 use Rattle.prettyless_printer.specs.declared.answer.Turn.TheVariants as turn
+use Rattle.prettyless_printer.proofs.Steps.{visits_within}
+use Rattle.prettyless_printer.proofs.Hands.{InHand, Visit, hand_step, from_start}
+use Rattle.prettyless_printer.proofs.Trying.{grows-grows}
 use Rattle.prettyless_printer.proofs.Turnings.{went, lessens, failed, chosen, choice_lessens, sink_broke}
-use Rattle.prettyless_printer.proofs.Visits.{OneMore, payload_visits-least, payload_visits-most, payload_visits-plus, went_at_most, failed_at_most, chosen_at_most, broke_at_most}
-use Rattle.prettyless_printer.proofs.AtLeast.{OneLaid, went_at_least, chosen_at_least}
+use Rattle.prettyless_printer.proofs.Visits.{went_at_most, failed_at_most, chosen_at_most, at_most_then, at_most_all, rise_then}
+use Rattle.prettyless_printer.proofs.AtLeast.{OneLaid, went_at_least, chosen_at_least, at_least_then}
 
--- a node was visited, and maybe a payload that it rejected
-pub record OneTurn {N : Type 0} (f : N → Tree) (p : Printer N) (t : Task) (ts : List Task) (v w : Visits) : Type 0 where
-  pub more : OneMore f p t ts v w
-  pub one : rise v.printer ≤ w.printer
-  pub two : w.printer ≤ rise (rise v.printer)
-  pub rises : Rise v w
+-- what a turn counts: the first node is a visit, and no more nodes are than the next task has
+record Counted {N : Type 0} (f : N → Tree) (a : Point N) (x : Visits) : Type 0 where
+  least : rise a.visits.printer ≤ x.printer
+  most : x.printer ≤ a.visits.printer + next_size (tasks_of f a.printer)
 
-pub one_turn : {N : Type 0} (f : N → Tree) (p : Printer N) (t : Task) (ts : List Task) (v w : Visits) (n : ℕ) → tasks_of f p ≡ t ∷ ts → n ≡ rise v.printer → v.printer ≤ n →
-    w.printer ≡ counted_payload (rejects_payload p.options t.tree t.mode (state_of f p)) n → v.probes ≤ w.probes → w.probes ≤ v.probes + asked t.tree (nodes ts) → OneTurn f p t ts v w
-one_turn {N} f p t ts v w n e h k x y z =
-    let rejected = rejects_payload p.options t.tree t.mode (state_of f p) in
-    let one : rise v.printer ≤ w.printer = payload_visits-least rejected v.printer n w.printer h x in
-    record {
-      more = record { stack_is = e; printer = payload_visits-plus rejected v.printer n w.printer h x; probes = z };
-      one = one;
-      two = payload_visits-most rejected v.printer n w.printer h x;
-      rises = record { printer = omega (arith, one, h, k); probes = y };
-    }
+counted : {N : Type 0} (f : N → Tree) {a : Point N} {t : Task} {b : Point N} {x : Visits} → InHand f a t b → Visit f a.printer.options t b x → Counted f a x
+counted {N} f {a} {t} {b} {x} h one = record {
+  least = omega (arith, h.rise.printer, one.least);
+  most = omega (arith, h.most, one.more.printer, visits_within a.printer.options t.tree t.mode (state_of f b.printer));
+}
 
 -- its bytes were written
-pub advances_went : {N E : Type 0} (f : N → Tree) (p q : Printer N) (s t : Seen) (v w : Visits) (bytes : List ℕ) (d : Task) (ds : List Task) → OneTurn f p d ds v w → OneLaid f p d ds v w → TookWriting f p q bytes →
-    t.lender ≡ s.lender → Accepts s.bytes t.bytes bytes s.failures t.failures → Advances {N = N} {E = E} f (point p s v) (point q t w) (Ok turn.Went)
-advances_went {N} {E} f p q s t v w bytes d ds one laid h lender wrote = record {
-  options = h.4;
-  grows = h.5;
-  lessens = lessens f p q bytes h;
-  same_lender = lender;
-  bytes = λ is_known.
-      let y = wrote is_known in
-      (y.0, (went f p q (known s.bytes) (known t.bytes) bytes h y.1.0, y.1.1));
-  one = one.one;
-  two = one.two;
-  rise = one.rises;
-  at_most = went_at_most f p q bytes v w d ds one.more h;
-  at_least = went_at_least f p q bytes v w d ds laid h;
-}
+pub advances_went : {N E : Type 0} (f : N → Tree) {a : Point N} {t : Task} {b : Point N} (q : Printer N) (s : Seen) (x : Visits) (bytes : List ℕ) → InHand f a t b → Visit f a.printer.options t b x →
+    RisesBy (each_probe t.tree t.mode) b.visits.probes x.probes → Writes f bytes (hand_step f a.printer.options t b.printer) b.printer q →
+    s.lender ≡ b.sink.lender → Accepts b.sink.bytes s.bytes bytes b.sink.failures s.failures → Advances {N = N} {E = E} f a (point q s x) (Ok turn.Went)
+advances_went {N} {E} f {a} {t} {b} q s x bytes h one probes writes lender wrote =
+    let o = a.printer.options in
+    let ts : List Task = tasks_of f b.printer in
+    let us : List Task = tasks_of f q in
+    let st = state_of f b.printer in
+    let u = state_of f q in
+    let out = known b.sink.bytes in
+    let k = written f bytes (hand_step f o t b.printer) b.printer q writes in
+    let laid : OneLaid t b.visits x = record { printer = one.least; probes = probes } in
+    let count = counted f h one in
+    from_start f (Ok turn.Went) h
+    (record {
+      options = k.1 ∙ h.options;
+      grows = grows-grows a.printer b.printer q h.grows k.2;
+      lessens = omega (arith, h.less, lessens o t ts us st u bytes k.0);
+      same_lender = lender;
+      bytes = λ is_known.
+          let y = wrote is_known in (
+            y.0,
+            (
+              λ whole limit below old l m.
+                  subst (λ (z : List ℕ). Inside o whole limit below old us u z) (sym y.1.0) (went o whole limit below old t ts us st u out bytes (omega (arith, l, h.long)) (h.inside out whole limit below old l m) k.0),
+              y.1.1,
+            ),
+          );
+      least = count.least;
+      most = count.most;
+      rise = rise_then h.rise one.rise;
+      at_most = λ plain.
+          let y = h.at_most plain in
+          let z = went_at_most o t ts us st u bytes b.visits x one.more y.0 k.0 in
+          (record { none = z.0.0; pending = z.0.1 }, at_most_then y.1 z.1);
+      at_least = λ n l. at_least_then (h.at_least n l)
+          (subst (λ (z : RenderOptions). CountsAtLeast (tally_above o n (t ∷ ts) st) (tally_above z n us u) b.visits x) (sym (k.1 ∙ h.options))
+          (went_at_least o n t ts us st u bytes b.visits x laid (omega (arith, l, h.long)) k.0));
+    })
+
+failed_here : {N E : Type 0} (f : N → Tree) {a : Point N} {t : Task} {b : Point N} (x : Visits) → InHand f a t b → Visit f a.printer.options t b x →
+    IsStuck (hand_step f a.printer.options t b.printer) → Advances {N = N} {E = E} f a (point b.printer b.sink x) (Ok turn.Failed)
+failed_here {N} {E} f {a} {t} {b} x h one fails =
+    let o = a.printer.options in
+    let ts : List Task = tasks_of f b.printer in
+    let st = state_of f b.printer in
+    let out = known b.sink.bytes in
+    let count = counted f h one in
+    from_start f (Ok turn.Failed) h
+    (record {
+      options = h.options;
+      grows = h.grows;
+      lessens = tt;
+      same_lender = refl;
+      bytes = λ is_known. (is_known, ((λ whole limit below old l m. failed o whole limit below old t ts st out (omega (arith, l, h.long)) (h.inside out whole limit below old l m) fails), refl));
+      least = count.least;
+      most = count.most;
+      rise = rise_then h.rise one.rise;
+      at_most = λ plain. at_most_then (h.at_most plain).1 (failed_at_most o t ts st b.visits x one.more);
+      at_least = tt;
+    })
 
 -- it fails
-pub advances_failed : {N E : Type 0} (f : N → Tree) (p q : Printer N) (s : Seen) (v w : Visits) (d : Task) (ds : List Task) → OneTurn f p d ds v w → TookNext f p q Failed →
-    Advances {N = N} {E = E} f (point p s v) (point q s w) (Ok turn.Failed)
-advances_failed {N} {E} f p q s v w d ds one h = record {
-  options = h.4;
-  grows = h.5;
-  lessens = tt;
-  same_lender = refl;
-  bytes = λ is_known. (is_known, (failed f p q (known s.bytes) h, refl));
-  one = one.one;
-  two = one.two;
-  rise = one.rises;
-  at_most = λ _. failed_at_most f p q v w d ds one.more h;
-  at_least = tt;
-}
+pub advances_failed : {N E : Type 0} (f : N → Tree) {a : Point N} {t : Task} {b : Point N} (q : Printer N) (x : Visits) → InHand f a t b → Visit f a.printer.options t b x →
+    Shows f t.mode Failed (hand_step f a.printer.options t b.printer) b.printer q → Advances {N = N} {E = E} f a (point q b.sink x) (Ok turn.Failed)
+advances_failed {N} {E} f {a} {t} {b} q x h one shows =
+    let k = stuck f t.mode (hand_step f a.printer.options t b.printer) b.printer q shows in
+    subst (λ (z : Printer N). Advances {N = N} {E = E} f a (point z b.sink x) (Ok turn.Failed)) (sym k.1) (failed_here f x h one k.0)
+
+chosen_here : {N E : Type 0} (f : N → Tree) {a : Point N} {t : Task} {b : Point N} (x : Visits) (i : ℕ) (l r : N) → InHand f a t b → Visit f a.printer.options t b x →
+    RisesBy (each_probe t.tree t.mode) b.visits.probes x.probes → Asks (hand_step f a.printer.options t b.printer) i (f l) (f r) → Advances {N = N} {E = E} f a (point b.printer b.sink x) (Ok (turn.Chosen i l r))
+chosen_here {N} {E} f {a} {t} {b} x i l r h one probes wants =
+    let o = a.printer.options in
+    let ts : List Task = tasks_of f b.printer in
+    let st = state_of f b.printer in
+    let out = known b.sink.bytes in
+    let laid : OneLaid t b.visits x = record { printer = one.least; probes = probes } in
+    let count = counted f h one in
+    from_start f (Ok (turn.Chosen i l r)) h
+    (record {
+      options = h.options;
+      grows = h.grows;
+      lessens = (omega (arith, h.less, choice_lessens o t ts st i (f l) (f r) wants), h.within);
+      same_lender = refl;
+      bytes = λ is_known. (is_known, ((λ whole limit below old n m. chosen o whole limit below old t ts st out i (f l) (f r) (omega (arith, n, h.long)) (h.inside out whole limit below old n m) wants), refl));
+      least = count.least;
+      most = count.most;
+      rise = rise_then h.rise one.rise;
+      at_most = λ plain.
+          let y = h.at_most plain in
+          let z = chosen_at_most o t ts st i (f l) (f r) b.visits x one.more y.0 wants in
+          (record { none = omega (arith, y.0.0); pending = y.0.1 }, z.0, z.1, at_most_then y.1 z.2);
+      at_least = λ n m. at_least_then (h.at_least n m)
+          (subst (λ (z : RenderOptions). CountsAtLeast (tally_above o n (t ∷ ts) st) (tally_choice z n i (f l) (f r) ts st) b.visits x) (sym h.options)
+          (chosen_at_least o n t ts st i (f l) (f r) b.visits x laid (omega (arith, m, h.long)) wants));
+    })
 
 -- two branches are to be chosen from
-pub advances_chosen : {N E : Type 0} (f : N → Tree) (p q : Printer N) (s : Seen) (v w : Visits) (i : ℕ) (x y : N) (d : Task) (ds : List Task) → OneTurn f p d ds v w → OneLaid f p d ds v w → TookNext f p q (Chosen i x y) →
-    Advances {N = N} {E = E} f (point p s v) (point q s w) (Ok (turn.Chosen i x y))
-advances_chosen {N} {E} f p q s v w i x y d ds one laid h = record {
-  options = h.4;
-  grows = h.5;
-  lessens = choice_lessens f p q i x y h;
-  same_lender = refl;
-  bytes = λ is_known. (is_known, (chosen f p q (known s.bytes) i x y h, refl));
-  one = one.one;
-  two = one.two;
-  rise = one.rises;
-  at_most = chosen_at_most f p q i x y v w d ds one.more h;
-  at_least = chosen_at_least f p q i x y v w d ds laid h;
-}
+pub advances_chosen : {N E : Type 0} (f : N → Tree) {a : Point N} {t : Task} {b : Point N} (q : Printer N) (x : Visits) (i : ℕ) (l r : N) → InHand f a t b → Visit f a.printer.options t b x →
+    RisesBy (each_probe t.tree t.mode) b.visits.probes x.probes → Shows f t.mode (Chosen i l r) (hand_step f a.printer.options t b.printer) b.printer q → Advances {N = N} {E = E} f a (point q b.sink x) (Ok (turn.Chosen i l r))
+advances_chosen {N} {E} f {a} {t} {b} q x i l r h one probes shows =
+    let k = asks f t.mode i l r (hand_step f a.printer.options t b.printer) b.printer q shows in
+    subst (λ (z : Printer N). Advances {N = N} {E = E} f a (point z b.sink x) (Ok (turn.Chosen i l r))) (sym k.1) (chosen_here f x i l r h one probes k.0)
+
+-- what broke off has counted no more than the tasks allow
+broke_at_most : {N : Type 0} (f : N → Tree) {a : Point N} {t : Task} {b : Point N} (x : Visits) → InHand f a t b → Visit f a.printer.options t b x → Plain f a.printer → CountsAtMost (tasks_of f a.printer) [] a.visits x
+broke_at_most {N} f {a} {t} {b} x h one plain =
+    at_most_all (at_most_then (h.at_most plain).1 (failed_at_most a.printer.options t (tasks_of f b.printer) (state_of f b.printer) b.visits x one.more))
 
 -- memory was refused
-pub advances_refused : {N E : Type 0} (f : N → Tree) (p q : Printer N) (s : Seen) (v w : Visits) (e : _) (d : Task) (ds : List Task) → OneTurn f p d ds v w →
-    Advances {N = N} {E = E} f (point p s v) (point q s w) (Err (Memory e))
-advances_refused {N} {E} f p q s v w e d ds one = record {
-  options = tt;
-  grows = tt;
-  lessens = tt;
-  same_lender = refl;
-  bytes = λ is_known. (is_known, (refl, refl));
-  one = one.one;
-  two = one.two;
-  rise = one.rises;
-  at_most = λ _. broke_at_most f p v w d ds one.more;
-  at_least = tt;
-}
+pub advances_refused : {N E : Type 0} (f : N → Tree) {a : Point N} {t : Task} {b : Point N} (q : Printer N) (x : Visits) (e : _) → InHand f a t b → Visit f a.printer.options t b x →
+    Advances {N = N} {E = E} f a (point q b.sink x) (Err (Memory e))
+advances_refused {N} {E} f {a} {t} {b} q x e h one =
+    let count = counted f h one in
+    from_start f (Err (Memory e)) h
+    (record {
+      options = tt;
+      grows = tt;
+      lessens = tt;
+      same_lender = refl;
+      bytes = λ is_known. (is_known, (refl, refl));
+      least = count.least;
+      most = count.most;
+      rise = rise_then h.rise one.rise;
+      at_most = λ plain. broke_at_most f x h one plain;
+      at_least = tt;
+    })
 
 -- the sink failed in its bytes
-pub advances_sink_failed : {N E : Type 0} (f : N → Tree) (p q : Printer N) (s t : Seen) (v w : Visits) (bytes : List ℕ) (e : E) (d : Task) (ds : List Task) → OneTurn f p d ds v w → TookWriting f p q bytes →
-    t.lender ≡ s.lender → Refuses s.bytes t.bytes bytes s.failures t.failures → Advances {N = N} {E = E} f (point p s v) (point q t w) (Err (Sink e))
-advances_sink_failed {N} {E} f p q s t v w bytes e d ds one h lender refused = record {
-  options = tt;
-  grows = tt;
-  lessens = tt;
-  same_lender = lender;
-  bytes = λ is_known.
-      let y = refused is_known in
-      (y.0, (sink_broke f p q (known s.bytes) (known t.bytes) bytes h y.1.0, y.1.1));
-  one = one.one;
-  two = one.two;
-  rise = one.rises;
-  at_most = λ _. broke_at_most f p v w d ds one.more;
-  at_least = tt;
-}
+pub advances_sink_failed : {N E : Type 0} (f : N → Tree) {a : Point N} {t : Task} {b : Point N} (q : Printer N) (s : Seen) (x : Visits) (bytes : List ℕ) (e : E) → InHand f a t b → Visit f a.printer.options t b x →
+    Writes f bytes (hand_step f a.printer.options t b.printer) b.printer q →
+    s.lender ≡ b.sink.lender → Refuses b.sink.bytes s.bytes bytes b.sink.failures s.failures → Advances {N = N} {E = E} f a (point q s x) (Err (Sink e))
+advances_sink_failed {N} {E} f {a} {t} {b} q s x bytes e h one writes lender refused =
+    let o = a.printer.options in
+    let ts : List Task = tasks_of f b.printer in
+    let st = state_of f b.printer in
+    let out = known b.sink.bytes in
+    let k = written f bytes (hand_step f o t b.printer) b.printer q writes in
+    let count = counted f h one in
+    from_start f (Err (Sink e)) h
+    (record {
+      options = tt;
+      grows = tt;
+      lessens = tt;
+      same_lender = lender;
+      bytes = λ is_known.
+          let y = refused is_known in (
+            y.0,
+            (
+              λ whole limit below old l m.
+                  sink_broke o whole limit below old t ts (tasks_of f q) st (state_of f q) out bytes (known s.bytes) (omega (arith, l, h.long)) (h.inside out whole limit below old l m) k.0 y.1.0,
+              y.1.1,
+            ),
+          );
+      least = count.least;
+      most = count.most;
+      rise = rise_then h.rise one.rise;
+      at_most = λ plain. broke_at_most f x h one plain;
+      at_least = tt;
+    })

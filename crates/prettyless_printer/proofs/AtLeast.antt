@@ -1,5 +1,5 @@
 -- Counts from below: of a step, of a choice, and of turns in a row.
-use Rattle.std.proofs.Common.{◌≡◌, ℕ, ◌+◌, ◌<◌, ◌≤◌, nat_le, List, [], ◌∷◌, ◌++◌, length, arith, refl, ap, sym, ◌∙◌, append_assoc, length-append, subst, Bool, true, false, ◌&&◌, Result, Ok, Err, if◌then◌else◌}
+use Rattle.std.proofs.Common.{◌≡◌, ℕ, ◌+◌, ◌≤◌, nat_le, List, [], ◌∷◌, ◌++◌, length, arith, refl, ap, sym, ◌∙◌, append_assoc, length-append, subst, Bool, true, false, ◌&&◌, Result, Ok, Err, if◌then◌else◌}
 use Rattle.std.specs.Prelude.{OnOk}
 use Rattle.std.proofs.lemmas.Bool.{le-leb, leb-true}
 use Rattle.prettyless_sink.specs.Sink.{rise}
@@ -18,12 +18,12 @@ use Rattle.prettyless_model.specs.declared.mode.Mode.{Mode}
 use Rattle.prettyless_model.specs.declared.mode.Mode.TheVariants.{Break, Flat}
 use Rattle.prettyless_step.specs.Stack.{Task, make_task, tasks, follow}
 use Rattle.prettyless_step.specs.Steps.{Step, Move, Stuck, Choose, step_of, union_step, decided_by_metrics, break_step, at_once}
-use Rattle.prettyless_step.specs.Printing.{state_of, ShowsAt, TookNext, TookWriting, WritesAt, tasks_of}
+use Rattle.prettyless_step.specs.Printing.{state_of, tasks_of}
+use Rattle.prettyless_step.proofs.Shown.{step_at, Leads, Asks}
 use Rattle.prettyless_printer.specs.Trials.{TrialDid}
 use Rattle.prettyless_printer.specs.Visits.{Rise}
 use Rattle.prettyless_printer.specs.AtLeast.{tally_above, tally_choice, nothing_left, CountsAtLeast, stack_tally, choice_tally, trial_tally, VisitedAtLeast}
 use Rattle.prettyless_step.specs.Probing.{RisesBy}
-use Rattle.prettyless_step.specs.declared.printer.Taken.TheVariants.{Chosen}
 use Rattle.prettyless_step.specs.declared.printer.Printer.{Printer}
 use Rattle.prettyless_printer.proofs.Runs.{follow-tasks, payload_branch, no_padding}
 
@@ -190,21 +190,13 @@ pub at_least_rise : {a b : Weight → ℕ} {v w : Visits} → Rise v w → ((k :
 at_least_rise {a} {b} {v} {w} r h = record { printer = omega (arith, h each_node, r.printer); probes = omega (arith, h each_probe, r.probes) }
 
 -- one node was counted, and the probe that it asks
-pub record OneLaid {N : Type 0} (f : N → Tree) (p : Printer N) (t : Task) (ts : List Task) (v w : Visits) : Type 0 where
-  pub stack_is : tasks_of f p ≡ t ∷ ts
+pub record OneLaid (t : Task) (v w : Visits) : Type 0 where
   pub printer : rise v.printer ≤ w.printer
   pub probes : RisesBy (each_probe t.tree t.mode) v.probes w.probes
 
--- the node that was counted is the one on top
-laid_top : {N : Type 0} (f : N → Tree) (p : Printer N) (s t : Task) (rest ts : List Task) (v w : Visits) → OneLaid f p s rest v w → tasks_of f p ≡ t ∷ ts → OneLaid f p t ts v w
-laid_top {N} f p s t rest ts v w one e =
-    let same : s ∷ rest ≡ t ∷ ts = sym one.stack_is ∙ e in
-    let a : s ≡ t = cc in
-    record { stack_is = e; printer = one.printer; probes = subst (λ (x : Task). RisesBy (each_probe x.tree x.mode) v.probes w.probes) a one.probes }
-
 -- a node was counted, and no less is left but for that
-laid_at_least : {N : Type 0} (f : N → Tree) (p : Printer N) (t : Task) (ts : List Task) (a b : Weight → ℕ) (v w : Visits) → OneLaid f p t ts v w → ((k : Weight) → a k ≤ k t.tree t.mode + b k) → CountsAtLeast a b v w
-laid_at_least {N} f p t ts a b v w one h = record { printer = omega (arith, h each_node, one.printer); probes = omega (arith, h each_probe, one.probes) }
+laid_at_least : (t : Task) (a b : Weight → ℕ) (v w : Visits) → OneLaid t v w → ((k : Weight) → a k ≤ k t.tree t.mode + b k) → CountsAtLeast a b v w
+laid_at_least t a b v w one h = record { printer = omega (arith, h each_node, one.printer); probes = omega (arith, h each_probe, one.probes) }
 
 -- the stack counts what its tasks do
 stack_counts : {N : Type 0} (f : N → Tree) (p : Printer N) (n : ℕ) (o : RenderOptions) (ts : List Task) (st : State) (w : Weight) → p.options ≡ o → tasks_of f p ≡ ts → state_of f p ≡ st → stack_tally f p n w ≡ tally_above o n ts st w
@@ -212,53 +204,35 @@ stack_counts {N} f p n o ts st w e h k =
     ap (λ (x : RenderOptions). tally_above x n (tasks_of f p) (state_of f p) w) e
     ∙ ap (λ (x : List Task). tally_above o n x (state_of f p) w) h ∙ ap (λ (x : State). tally_above o n ts x w) k
 
--- what the top of the stack counts
-top_counts : {N : Type 0} (f : N → Tree) (p : Printer N) (n : ℕ) (t : Task) (ts : List Task) (w : Weight) → n < length (tasks_of f p) → tasks_of f p ≡ t ∷ ts → stack_tally f p n w ≡ tally_with p.options n t ts (state_of f p) w
-top_counts {N} f p n t ts w l e = stack_counts f p n p.options (t ∷ ts) (state_of f p) w refl e refl ∙ above_is p.options n t ts (state_of f p) w (omega (arith, l, ap length e))
+went_by : (o : RenderOptions) (n : ℕ) (t : Task) (ts us : List Task) (st u : State) (bytes : List ℕ) (w : Weight) (step : Step) →
+    StepCounts o n ts st w (tally_with o n t ts st w) (w t.tree t.mode) step → Leads step ts bytes us u → tally_with o n t ts st w ≤ w t.tree t.mode + tally_above o n us u w
+went_by o n t ts us st u bytes w (Move b pushed x) s h =
+    omega (arith, s, ap (λ (z : List Task). tally_above o n z u w) h.1, ap (λ (z : State). tally_above o n (pushed ++ ts) z w) h.2)
+went_by o n t ts us st u bytes w Stuck s h = absurd h
+went_by o n t ts us st u bytes w (Choose i x y) s h = absurd h
 
-went_by : {N : Type 0} (f : N → Tree) (p q : Printer N) (bytes : List ℕ) (n : ℕ) (t : Task) (ts : List Task) (step : Step) (w : Weight) → q.options ≡ p.options →
-    StepCounts p.options n ts (state_of f p) w (stack_tally f p n w) (w t.tree t.mode) step → WritesAt f bytes step ts q →
-    stack_tally f p n w ≤ w t.tree t.mode + stack_tally f q n w
-went_by {N} f p q bytes n t ts (Move b pushed u) w e s h = omega (arith, s, stack_counts f q n p.options (pushed ++ ts) u w e h.1 h.2)
-went_by {N} f p q bytes n t ts Stuck w e s h = absurd h
-went_by {N} f p q bytes n t ts (Choose i x y) w e s h = absurd h
+-- a step of the node in hand
+pub went_at_least : (o : RenderOptions) (n : ℕ) (t : Task) (ts us : List Task) (st u : State) (bytes : List ℕ) (v w : Visits) → OneLaid t v w → n ≤ length ts → Leads (step_at o t ts st) ts bytes us u →
+    CountsAtLeast (tally_above o n (t ∷ ts) st) (tally_above o n us u) v w
+went_at_least o n t ts us st u bytes v w one l h =
+    laid_at_least t (tally_above o n (t ∷ ts) st) (tally_above o n us u) v w one
+    (λ k. omega (arith, above_is o n t ts st k l, went_by o n t ts us st u bytes k (step_at o t ts st) (step_counts o n t.tree t.indent t.mode ts st k l) h))
 
--- the stack counts no more than the step of its top allows
-stepped_counts : {N : Type 0} (f : N → Tree) (p : Printer N) (n : ℕ) (t : Task) (ts : List Task) (w : Weight) → n < length (tasks_of f p) → tasks_of f p ≡ t ∷ ts →
-    StepCounts p.options n ts (state_of f p) w (stack_tally f p n w) (w t.tree t.mode) (step_of p.options t.tree t.indent t.mode (follow ts) (state_of f p))
-stepped_counts {N} f p n t ts w l e =
-    subst (λ (x : ℕ). StepCounts p.options n ts (state_of f p) w x (w t.tree t.mode) (step_of p.options t.tree t.indent t.mode (follow ts) (state_of f p))) (sym (top_counts f p n t ts w l e))
-    (step_counts p.options n t.tree t.indent t.mode ts (state_of f p) w (omega (arith, l, ap length e)))
-
--- a turn that took up one node
-pub went_at_least : {N : Type 0} (f : N → Tree) (p q : Printer N) (bytes : List ℕ) (v w : Visits) (s : Task) (rest : List Task) → OneLaid f p s rest v w → TookWriting f p q bytes →
-    (n : ℕ) → n < length (tasks_of f p) → CountsAtLeast (stack_tally f p n) (stack_tally f q n) v w
-went_at_least {N} f p q bytes v w s rest one h n l =
-    laid_at_least f p h.0 h.1 (stack_tally f p n) (stack_tally f q n) v w (laid_top f p s h.0 rest h.1 v w one h.2)
-    (λ k. went_by f p q bytes n h.0 h.1 (step_of p.options h.0.tree h.0.indent h.0.mode (follow h.1) (state_of f p)) k h.4 (stepped_counts f p n h.0 h.1 k l h.2) h.3)
-
-chosen_by : {N : Type 0} (f : N → Tree) (p q : Printer N) (i : ℕ) (a b : N) (n : ℕ) (t : Task) (ts : List Task) (step : Step) (w : Weight) → q.options ≡ p.options →
-    StepCounts p.options n ts (state_of f p) w (stack_tally f p n w) (w t.tree t.mode) step → ShowsAt f (Chosen i a b) step ts (state_of f p) q →
-    stack_tally f p n w ≤ w t.tree t.mode + choice_tally f q n i (f a) (f b) w
-chosen_by {N} f p q i a b n t ts (Move c pushed u) w e s h = absurd h
-chosen_by {N} f p q i a b n t ts Stuck w e s h = absurd h
-chosen_by {N} f p q i a b n t ts (Choose j x y) w e s h =
-    let st : State = state_of f p in
-    let same : choice_tally f q n i (f a) (f b) w ≡ tally_choice p.options n j x y ts st w =
-    ap (λ (z : RenderOptions). tally_choice z n i (f a) (f b) (tasks_of f q) (state_of f q) w) e
-    ∙ ap (λ (z : ℕ). tally_choice p.options n z (f a) (f b) (tasks_of f q) (state_of f q) w) h.0
-    ∙ ap (λ (z : Tree). tally_choice p.options n j z (f b) (tasks_of f q) (state_of f q) w) h.1
-    ∙ ap (λ (z : Tree). tally_choice p.options n j x z (tasks_of f q) (state_of f q) w) h.2
-    ∙ ap (λ (z : List Task). tally_choice p.options n j x y z (state_of f q) w) h.3
-    ∙ ap (λ (z : State). tally_choice p.options n j x y ts z w) h.4 in
+chosen_by : (o : RenderOptions) (n : ℕ) (t : Task) (ts : List Task) (st : State) (i : ℕ) (x y : Tree) (w : Weight) (step : Step) →
+    StepCounts o n ts st w (tally_with o n t ts st w) (w t.tree t.mode) step → Asks step i x y → tally_with o n t ts st w ≤ w t.tree t.mode + tally_choice o n i x y ts st w
+chosen_by o n t ts st i x y w (Move b pushed u) s h = absurd h
+chosen_by o n t ts st i x y w Stuck s h = absurd h
+chosen_by o n t ts st i x y w (Choose j l r) s h =
+    let same : tally_choice o n i x y ts st w ≡ tally_choice o n j l r ts st w =
+    ap (λ (z : ℕ). tally_choice o n z x y ts st w) h.0 ∙ ap (λ (z : Tree). tally_choice o n j z y ts st w) h.1 ∙ ap (λ (z : Tree). tally_choice o n j l z ts st w) h.2 in
     omega (arith, s, same)
 
--- a turn after which two branches are to be chosen from
-pub chosen_at_least : {N : Type 0} (f : N → Tree) (p q : Printer N) (i : ℕ) (a b : N) (v w : Visits) (s : Task) (rest : List Task) → OneLaid f p s rest v w → TookNext f p q (Chosen i a b) →
-    (n : ℕ) → n < length (tasks_of f p) → CountsAtLeast (stack_tally f p n) (choice_tally f q n i (f a) (f b)) v w
-chosen_at_least {N} f p q i a b v w s rest one h n l =
-    laid_at_least f p h.0 h.1 (stack_tally f p n) (choice_tally f q n i (f a) (f b)) v w (laid_top f p s h.0 rest h.1 v w one h.2)
-    (λ k. chosen_by f p q i a b n h.0 h.1 (step_of p.options h.0.tree h.0.indent h.0.mode (follow h.1) (state_of f p)) k h.4 (stepped_counts f p n h.0 h.1 k l h.2) h.3)
+-- a step after which two branches are to be chosen from
+pub chosen_at_least : (o : RenderOptions) (n : ℕ) (t : Task) (ts : List Task) (st : State) (i : ℕ) (x y : Tree) (v w : Visits) → OneLaid t v w → n ≤ length ts → Asks (step_at o t ts st) i x y →
+    CountsAtLeast (tally_above o n (t ∷ ts) st) (tally_choice o n i x y ts st) v w
+chosen_at_least o n t ts st i x y v w one l h =
+    laid_at_least t (tally_above o n (t ∷ ts) st) (tally_choice o n i x y ts st) v w one
+    (λ k. omega (arith, above_is o n t ts st k l, chosen_by o n t ts st i x y k (step_at o t ts st) (step_counts o n t.tree t.indent t.mode ts st k l) h))
 
 -- the first branch counts where it is accepted
 accepted_counts : (o : RenderOptions) (was : Bool) (out : Outcome) (bytes : List ℕ) (u : State) (x y : ℕ) → accept o was out (Failed []) ≡ Done bytes u → counted_accept o out x y ≡ x

@@ -10,4 +10,5 @@ pub mod Renders
 pub mod Contents
 pub mod Visits
 pub mod AtLeast
+pub mod Hands
 pub mod Advancing

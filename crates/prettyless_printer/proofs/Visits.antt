@@ -1,5 +1,5 @@
 -- The visits of a step, of a turn, and of turns in a row.
-use Rattle.std.proofs.Common.{◌≡◌, ℕ, ◌+◌, ◌-◌, ◌*◌, ◌≤◌, List, [], ◌∷◌, ◌++◌, arith, refl, ap, sym, ◌∙◌, Bool, true, false, Option, Some, None, Result, Ok, Err, if◌then◌else◌, length}
+use Rattle.std.proofs.Common.{◌≡◌, ℕ, ◌+◌, ◌-◌, ◌*◌, ◌≤◌, List, [], ◌∷◌, ◌++◌, arith, refl, ap, ◌∙◌, Bool, true, false, Option, Some, None, Result, Ok, Err, if◌then◌else◌, length}
 use Rattle.std.specs.Result.{IsErr}
 use Rattle.prettyless_model.specs.declared.options.RenderOptions.{RenderOptions}
 use Rattle.prettyless_model.specs.declared.options.IndentationPolicy.{IndentationPolicy}
@@ -13,12 +13,12 @@ use Rattle.prettyless_model.specs.declared.mode.Mode.{Mode}
 use Rattle.prettyless_model.specs.declared.mode.Mode.TheVariants.{Break, Flat}
 use Rattle.prettyless_step.specs.Stack.{Task, make_task, follow, nodes}
 use Rattle.prettyless_step.specs.Steps.{Step, Move, Stuck, Choose, step_of, union_step, decided_by_metrics, break_step, at_once, counted_payload, rejects_payload, owed}
-use Rattle.prettyless_step.specs.Printing.{state_of, ShowsAt, TookNext, TookWriting, WritesAt, tasks_of}
+use Rattle.prettyless_step.specs.Printing.{state_of, tasks_of}
 use Rattle.prettyless_printer.specs.Visits.{suffixes, Plain, charges, Rise, CountsAtMost, RunCountsAtMost, Visited}
 use Rattle.prettyless_step.specs.declared.printer.Printer.{Printer}
-use Rattle.prettyless_step.specs.declared.printer.Taken.TheVariants.{Failed, Chosen}
 use Rattle.prettyless_step.specs.Probing.{asked}
 use Rattle.prettyless_step.proofs.Stacks.{nodes-append}
+use Rattle.prettyless_step.proofs.Shown.{step_at, Leads, Asks}
 use Rattle.prettyless_printer.proofs.Steps.{LeavesLess, extra, step_less_visits, visits_within}
 
 -- a visit more at most where a payload is rejected, and no visit less
@@ -125,112 +125,76 @@ charges-append n [] us = omega arith
 charges-append n (t ∷ ts) us = omega (arith, charges-append n ts us)
 
 -- one node was visited, a payload that it rejected, and what it asked for
-pub record OneMore {N : Type 0} (f : N → Tree) (p : Printer N) (t : Task) (ts : List Task) (v w : Visits) : Type 0 where
-  pub stack_is : tasks_of f p ≡ t ∷ ts
-  pub printer : w.printer ≤ v.printer + 1 + extra (rejects_payload p.options t.tree t.mode (state_of f p))
+pub record OneMore (o : RenderOptions) (t : Task) (ts : List Task) (st : State) (v w : Visits) : Type 0 where
+  pub printer : w.printer ≤ v.printer + 1 + extra (rejects_payload o t.tree t.mode st)
   pub probes : w.probes ≤ v.probes + asked t.tree (nodes ts)
 
-abbrev Stepped : {N : Type 0} → (N → Tree) → Printer N → Task → List Task → Step → Type 0
-Stepped f p t ts step =
-    LeavesLess (owed (state_of f p).pending) (2 * size t.tree + owed (state_of f p).pending - 2 * extra (rejects_payload p.options t.tree t.mode (state_of f p))) step
+-- no line suffix is among tasks, and no document is pending
+abbrev pub NoSuffix : List Task → State → Type 0
+NoSuffix ts st = (suffixes ts ≡ 0) × (st.pending ≡ [])
+
+abbrev Stepped : RenderOptions → Task → List Task → State → Step → Type 0
+Stepped o t ts st step =
+    LeavesLess (owed st.pending) (2 * size t.tree + owed st.pending - 2 * extra (rejects_payload o t.tree t.mode st)) step
     × ((n : ℕ) → size t.tree + nodes ts ≤ n → StepAtMost n (asked t.tree (nodes ts)) (n * probed t.tree) step)
 
-stepped : {N : Type 0} (f : N → Tree) (p : Printer N) (t : Task) (ts : List Task) → tasks_of f p ≡ t ∷ ts → Plain f p → Stepped f p t ts (step_of p.options t.tree t.indent t.mode (follow ts) (state_of f p))
-stepped {N} f p t ts e plain = (
-  step_less_visits p.options t.tree t.indent t.mode (follow ts) (state_of f p),
-  λ n l. step_at_most p.options t.tree t.indent t.mode (follow ts) (state_of f p) n (nodes ts) (omega (arith, plain.none, ap suffixes e)) plain.pending l,
+stepped : (o : RenderOptions) (t : Task) (ts : List Task) (st : State) → NoSuffix (t ∷ ts) st → Stepped o t ts st (step_at o t ts st)
+stepped o t ts st plain = (
+  step_less_visits o t.tree t.indent t.mode (follow ts) st,
+  λ n l. step_at_most o t.tree t.indent t.mode (follow ts) st n (nodes ts) (omega (arith, plain.0)) plain.1 l,
 )
 
-went_by : {N : Type 0} (f : N → Tree) (p q : Printer N) (bytes : List ℕ) (v w : Visits) (t : Task) (ts : List Task) (step : Step) →
-    OneMore f p t ts v w → Plain f p → Stepped f p t ts step → WritesAt f bytes step ts q →
-    Plain f q × CountsAtMost (tasks_of f p) (tasks_of f q) v w
-went_by {N} f p q bytes v w t ts (Move b pushed u) more plain s h =
+went_by : (o : RenderOptions) (t : Task) (ts us : List Task) (st u : State) (bytes : List ℕ) (v w : Visits) (step : Step) →
+    OneMore o t ts st v w → NoSuffix (t ∷ ts) st → Stepped o t ts st step → Leads step ts bytes us u → NoSuffix us u × CountsAtMost (t ∷ ts) us v w
+went_by o t ts us st u bytes v w (Move b pushed x) more plain s h =
     let a = s.1 (size t.tree + nodes ts) (omega arith) in
-    let none : owed (state_of f p).pending ≡ 0 = ap owed plain.pending in
-    let less : nodes pushed + 1 + extra (rejects_payload p.options t.tree t.mode (state_of f p)) ≤ size t.tree = omega (arith, s.0, none) in (
+    let none : owed st.pending ≡ 0 = ap owed plain.1 in
+    let less : nodes pushed + 1 + extra (rejects_payload o t.tree t.mode st) ≤ size t.tree = omega (arith, s.0, none) in (
+      (omega (arith, ap suffixes h.1, suffixes-append pushed ts, a.0, plain.0), ap (λ (z : State). z.pending) h.2 ∙ a.1),
       record {
-        none = omega (arith, ap suffixes h.1, suffixes-append pushed ts, a.0, plain.none, ap suffixes more.stack_is);
-        pending = ap (λ (x : State). x.pending) h.2 ∙ a.1;
-      },
-      record {
-        left = omega (arith, less, ap nodes h.1, nodes-append pushed ts, ap nodes more.stack_is);
-        printer = omega (arith, less, more.printer, ap nodes h.1, nodes-append pushed ts, ap nodes more.stack_is);
+        left = omega (arith, less, ap nodes h.1, nodes-append pushed ts);
+        printer = omega (arith, less, more.printer, ap nodes h.1, nodes-append pushed ts);
         probes = λ n l.
-            let k = s.1 n (omega (arith, l, ap nodes more.stack_is)) in
-            omega (arith, k.2, more.probes, ap (charges n) h.1, charges-append n pushed ts, ap (charges n) more.stack_is);
+            let k = s.1 n l in
+            omega (arith, k.2, more.probes, ap (charges n) h.1, charges-append n pushed ts);
       },
     )
-went_by {N} f p q bytes v w t ts Stuck more plain s h = absurd h
-went_by {N} f p q bytes v w t ts (Choose i x y) more plain s h = absurd h
+went_by o t ts us st u bytes v w Stuck more plain s h = absurd h
+went_by o t ts us st u bytes v w (Choose i x y) more plain s h = absurd h
 
-failed_by : {N : Type 0} (f : N → Tree) (p q : Printer N) (v w : Visits) (t : Task) (ts : List Task) (step : Step) →
-    OneMore f p t ts v w → ShowsAt f Failed step ts (state_of f p) q → CountsAtMost (tasks_of f p) (tasks_of f q) v w
-failed_by {N} f p q v w t ts (Move b pushed u) more h = absurd h
-failed_by {N} f p q v w t ts Stuck more h = record {
-  left = omega (arith, ap nodes h, ap nodes more.stack_is);
-  printer = omega (arith, more.printer, visits_within p.options t.tree t.mode (state_of f p), ap nodes h, ap nodes more.stack_is);
-  probes = λ n l. omega (arith, asked_at_most t.tree (nodes ts) n (omega (arith, l, ap nodes more.stack_is)), more.probes, ap (charges n) h, ap (charges n) more.stack_is);
+pub went_at_most : (o : RenderOptions) (t : Task) (ts us : List Task) (st u : State) (bytes : List ℕ) (v w : Visits) → OneMore o t ts st v w → NoSuffix (t ∷ ts) st → Leads (step_at o t ts st) ts bytes us u →
+    NoSuffix us u × CountsAtMost (t ∷ ts) us v w
+went_at_most o t ts us st u bytes v w more plain h = went_by o t ts us st u bytes v w (step_at o t ts st) more plain (stepped o t ts st plain) h
+
+pub failed_at_most : (o : RenderOptions) (t : Task) (ts : List Task) (st : State) (v w : Visits) → OneMore o t ts st v w → CountsAtMost (t ∷ ts) ts v w
+failed_at_most o t ts st v w more = record {
+  left = omega arith;
+  printer = omega (arith, more.printer, visits_within o t.tree t.mode st);
+  probes = λ n l. omega (arith, asked_at_most t.tree (nodes ts) n l, more.probes);
 }
-failed_by {N} f p q v w t ts (Choose i x y) more h = absurd h
 
-chosen_by : {N : Type 0} (f : N → Tree) (p q : Printer N) (i : ℕ) (a b : N) (v w : Visits) (t : Task) (ts : List Task) (step : Step) →
-    OneMore f p t ts v w → Plain f p → Stepped f p t ts step → ShowsAt f (Chosen i a b) step ts (state_of f p) q →
-    Plain f q × (suffix_depth (f a) ≡ 0) × (suffix_depth (f b) ≡ 0)
-    × CountsAtMost (tasks_of f p) (make_task i Break (f a) ∷ make_task i Break (f b) ∷ tasks_of f q) v w
-chosen_by {N} f p q i a b v w t ts (Move c pushed u) more plain s h = absurd h
-chosen_by {N} f p q i a b v w t ts Stuck more plain s h = absurd h
-chosen_by {N} f p q i a b v w t ts (Choose j x y) more plain s h =
+chosen_by : (o : RenderOptions) (t : Task) (ts : List Task) (st : State) (i : ℕ) (x y : Tree) (v w : Visits) (step : Step) →
+    OneMore o t ts st v w → NoSuffix (t ∷ ts) st → Stepped o t ts st step → Asks step i x y →
+    (suffix_depth x ≡ 0) × (suffix_depth y ≡ 0) × CountsAtMost (t ∷ ts) (make_task i Break x ∷ make_task i Break y ∷ ts) v w
+chosen_by o t ts st i x y v w (Move b pushed u) more plain s h = absurd h
+chosen_by o t ts st i x y v w Stuck more plain s h = absurd h
+chosen_by o t ts st i x y v w (Choose j l r) more plain s h =
     let z = s.1 (size t.tree + nodes ts) (omega arith) in
-    let less : size (f a) + size (f b) + 1 + extra (rejects_payload p.options t.tree t.mode (state_of f p)) ≤ size t.tree = omega (arith, s.0, ap size h.1, ap size h.2) in (
-      record {
-        none = omega (arith, ap suffixes h.3, plain.none, ap suffixes more.stack_is);
-        pending = ap (λ (x : State). x.pending) h.4 ∙ plain.pending;
-      },
+    let less : size x + size y + 1 + extra (rejects_payload o t.tree t.mode st) ≤ size t.tree = omega (arith, s.0, ap size h.1, ap size h.2) in (
       ap suffix_depth h.1 ∙ z.0,
       ap suffix_depth h.2 ∙ z.1,
       record {
-        left = omega (arith, less, ap nodes h.3, ap nodes more.stack_is);
-        printer = omega (arith, less, more.printer, ap nodes h.3, ap nodes more.stack_is);
-        probes = λ n l.
-            let k = s.1 n (omega (arith, l, ap nodes more.stack_is)) in
-            omega (arith, k.2, more.probes, ap (λ (d : Tree). n * probed d) h.1, ap (λ (d : Tree). n * probed d) h.2, ap (charges n) h.3, ap (charges n) more.stack_is);
+        left = omega (arith, less);
+        printer = omega (arith, less, more.printer);
+        probes = λ n m.
+            let k = s.1 n m in
+            omega (arith, k.2, more.probes, ap (λ (d : Tree). n * probed d) h.1, ap (λ (d : Tree). n * probed d) h.2);
       },
     )
 
--- the node that was visited is the one on top
-one_more : {N : Type 0} (f : N → Tree) (p : Printer N) (s t : Task) (rest ts : List Task) (v w : Visits) → OneMore f p s rest v w → tasks_of f p ≡ t ∷ ts → OneMore f p t ts v w
-one_more {N} f p s t rest ts v w more e =
-    let same : s ∷ rest ≡ t ∷ ts = sym more.stack_is ∙ e in
-    let a : s ≡ t = cc in
-    let b : rest ≡ ts = cc in
-    record {
-      stack_is = e;
-      printer = omega (arith, more.printer, ap (λ (x : Task). extra (rejects_payload p.options x.tree x.mode (state_of f p))) a);
-      probes = omega (arith, more.probes, ap (λ (x : Task). asked x.tree (nodes rest)) a, ap (λ (x : List Task). asked t.tree (nodes x)) b);
-    }
-
-pub went_at_most : {N : Type 0} (f : N → Tree) (p q : Printer N) (bytes : List ℕ) (v w : Visits) (s : Task) (rest : List Task) → OneMore f p s rest v w → TookWriting f p q bytes → Plain f p →
-    Plain f q × CountsAtMost (tasks_of f p) (tasks_of f q) v w
-went_at_most {N} f p q bytes v w s rest more h plain =
-    went_by f p q bytes v w h.0 h.1 (step_of p.options h.0.tree h.0.indent h.0.mode (follow h.1) (state_of f p)) (one_more f p s h.0 rest h.1 v w more h.2) plain (stepped f p h.0 h.1 h.2 plain) h.3
-
-pub failed_at_most : {N : Type 0} (f : N → Tree) (p q : Printer N) (v w : Visits) (s : Task) (rest : List Task) → OneMore f p s rest v w → TookNext f p q Failed → CountsAtMost (tasks_of f p) (tasks_of f q) v w
-failed_at_most {N} f p q v w s rest more h =
-    failed_by f p q v w h.0 h.1 (step_of p.options h.0.tree h.0.indent h.0.mode (follow h.1) (state_of f p)) (one_more f p s h.0 rest h.1 v w more h.2) h.3
-
-pub chosen_at_most : {N : Type 0} (f : N → Tree) (p q : Printer N) (i : ℕ) (a b : N) (v w : Visits) (s : Task) (rest : List Task) → OneMore f p s rest v w → TookNext f p q (Chosen i a b) → Plain f p →
-    Plain f q × (suffix_depth (f a) ≡ 0) × (suffix_depth (f b) ≡ 0)
-    × CountsAtMost (tasks_of f p) (make_task i Break (f a) ∷ make_task i Break (f b) ∷ tasks_of f q) v w
-chosen_at_most {N} f p q i a b v w s rest more h plain =
-    chosen_by f p q i a b v w h.0 h.1 (step_of p.options h.0.tree h.0.indent h.0.mode (follow h.1) (state_of f p)) (one_more f p s h.0 rest h.1 v w more h.2) plain (stepped f p h.0 h.1 h.2 plain) h.3
-
--- a node was visited, and memory or the sink failed
-pub broke_at_most : {N : Type 0} (f : N → Tree) (p : Printer N) (v w : Visits) (t : Task) (ts : List Task) → OneMore f p t ts v w → CountsAtMost (tasks_of f p) [] v w
-broke_at_most {N} f p v w t ts more = record {
-  left = omega arith;
-  printer = omega (arith, more.printer, visits_within p.options t.tree t.mode (state_of f p), ap nodes more.stack_is);
-  probes = λ n l. omega (arith, asked_at_most t.tree (nodes ts) n (omega (arith, l, ap nodes more.stack_is)), more.probes, ap (charges n) more.stack_is);
-}
+pub chosen_at_most : (o : RenderOptions) (t : Task) (ts : List Task) (st : State) (i : ℕ) (x y : Tree) (v w : Visits) → OneMore o t ts st v w → NoSuffix (t ∷ ts) st → Asks (step_at o t ts st) i x y →
+    (suffix_depth x ≡ 0) × (suffix_depth y ≡ 0) × CountsAtMost (t ∷ ts) (make_task i Break x ∷ make_task i Break y ∷ ts) v w
+chosen_at_most o t ts st i x y v w more plain h = chosen_by o t ts st i x y v w (step_at o t ts st) more plain (stepped o t ts st plain) h
 
 pub rise_same : (v : Visits) → Rise v v
 rise_same v = record { printer = omega arith; probes = omega arith }

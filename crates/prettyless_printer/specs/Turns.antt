@@ -1,5 +1,5 @@
 -- What a turn does to the work: it takes some of it away, and carries it on inside every whole that it was inside of.
-use Rattle.std.specs.Prelude.{◌≡◌, ℕ, ◌+◌, ◌*◌, ◌<◌, ◌≤◌, List, ◌++◌, length, Result, Ok, Err, IfOk, OnOk}
+use Rattle.std.specs.Prelude.{◌≡◌, ℕ, ◌+◌, ◌*◌, ◌<◌, ◌≤◌, List, [], ◌∷◌, ◌++◌, length, Result, Ok, Err, IfOk, OnOk}
 use Rattle.prettyless_sink.specs.Sink.{AppendsBeginning, IfKnown, rise}
 use Rattle.prettyless_model.specs.declared.options.RenderOptions.{RenderOptions}
 use Rattle.prettyless_sink.specs.declared.error.RenderError.{RenderError}
@@ -43,6 +43,11 @@ Lessens f p q Failed = Unit {0}
 Lessens f p q (Chosen i x y) =
     (2 * (size (f x) + size (f y)) + work (tasks_of f q) (state_of f q) < work (tasks_of f p) (state_of f p)) × (q.within ≡ p.within)
 
+-- how many nodes the next task has
+abbrev pub next_size : List Task → ℕ
+next_size [] = 0
+next_size (t ∷ ts) = size t.tree
+
 -- what a turn leaves in a sink whose bytes are known
 abbrev pub Turned : {N E : Type 0} → (N → Tree) → Printer N → Printer N → List ℕ → List ℕ → ℕ → ℕ → Result (Turn N) (RenderError E) → Type 0
 Turned f p q out new n m (Ok r) = ForWholes f p out (Goes f p.options q new r) × (m ≡ n)
@@ -62,12 +67,12 @@ pub record Advances {N E : Type 0} (f : N → Tree) (a b : Point N) (r : Result 
   pub same_lender : b.sink.lender ≡ a.sink.lender
   -- where the sink's bytes are known, they go on in every whole that the work was inside of
   pub bytes : IfKnown a.sink.bytes b.sink.bytes (λ before after. Turned f a.printer b.printer before after a.sink.failures b.sink.failures r)
-  -- the node is a visit, and so may be a payload that its step rejects
-  pub one : rise a.visits.printer ≤ b.visits.printer
-  pub two : b.visits.printer ≤ rise (rise a.visits.printer)
+  -- the next node is a visit, and no more nodes are than its document has
+  pub least : rise a.visits.printer ≤ b.visits.printer
+  pub most : b.visits.printer ≤ a.visits.printer + next_size (tasks_of f a.printer)
   -- no count of visits fell
   pub rise : Rise a.visits b.visits
-  -- without line suffixes, the node that leaves allows for the visits
+  -- without line suffixes, the nodes that leave allow for the visits
   pub at_most : Plain f a.printer → TurnCountsAtMost f a.printer b.printer a.visits b.visits r
-  -- what the node lays is counted
+  -- what the nodes lay is counted
   pub at_least : TurnCountsAtLeast f a.printer b.printer a.visits b.visits r

@@ -1,9 +1,10 @@
-//! A turn: a command is taken, stepped and written.
+//! A turn: a command is taken and stepped, and so is each that comes in hand; the last one is written.
 ghost use Rattle.std.specs.Prelude.{◌<◌, vec_len};
 ghost use Rattle.prettyless_printer.specs.Points.{point, seen};
 ghost use Rattle.prettyless_printer.specs.Turns.{Advances};
 
 use crate::answer::Turn;
+use prettyless_model::mode::Mode;
 use prettyless_sink::error::RenderError;
 use prettyless_sink::render::Render;
 use prettyless_sink::visits::{Visits, one_more};
@@ -13,7 +14,8 @@ use prettyless_step::stack::pop_command;
 use prettyless_step::step::step;
 use prettyless_step::walk::Walk;
 
-/// Takes the next command, and writes what it gives. The command is a visit, and so is a payload that its step rejects.
+/// Takes the next command, goes on with what is in hand down to a node that leads to no other, and writes what that one gives.
+/// Each of these nodes is a visit, and so is a payload that a step rejects.
 #[inline(always)]
 pub fn turn<N: Walk, W: Render>(
     printer: &mut Printer<N>,
@@ -28,15 +30,33 @@ pub fn turn<N: Walk, W: Render>(
     let Some(command) = pop_command(&mut printer.commands) else {
         unreachable!()
     };
-    visits.printer = one_more(visits.printer);
-    match step(printer, &command, visits) {
-        Err(e) => Err(RenderError::Memory(e)),
-        Ok(Taken::Quiet) => Ok(Turn::Went),
-        Ok(Taken::Failed) => Ok(Turn::Failed),
-        Ok(Taken::Chosen(indent, first, second)) => Ok(Turn::Chosen(indent, first, second)),
-        Ok(Taken::Written(piece)) => match write_piece(out, piece) {
-            Ok(()) => Ok(Turn::Went),
-            Err(e) => Err(RenderError::Sink(e)),
-        },
+    let mut indent = command.indent;
+    let mut mode = command.mode;
+    let mut node = command.node;
+    'down: loop {
+        visits.printer = one_more(visits.printer);
+        match step(printer, indent, mode, &node, visits) {
+            Err(e) => return Err(RenderError::Memory(e)),
+            Ok(Taken::Next(next_indent, next)) => {
+                indent = next_indent;
+                node = next;
+            }
+            Ok(Taken::NextFlat(next_indent, next)) => {
+                indent = next_indent;
+                mode = Mode::Flat;
+                node = next;
+            }
+            Ok(Taken::Quiet) => return Ok(Turn::Went),
+            Ok(Taken::Failed) => return Ok(Turn::Failed),
+            Ok(Taken::Chosen(indent, first, second)) => {
+                return Ok(Turn::Chosen(indent, first, second));
+            }
+            Ok(Taken::Written(piece)) => {
+                return match write_piece(out, piece) {
+                    Ok(()) => Ok(Turn::Went),
+                    Err(e) => Err(RenderError::Sink(e)),
+                };
+            }
+        }
     }
 }

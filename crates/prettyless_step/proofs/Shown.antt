@@ -1,44 +1,75 @@
--- What the code's step shows, seen from before the command was taken.
-use Rattle.std.proofs.Common.{◌≡◌, ℕ, List, [], ◌∷◌, ◌++◌, ap, sym, ◌∙◌, append-nil, subst}
+-- What the code's step shows, in tasks and states alone.
+use Rattle.std.proofs.Common.{◌≡◌, ℕ, ◌≤◌, List, [], ◌∷◌, ◌++◌, length, ap, sym, ◌∙◌, arith, length-append}
 use Rattle.prettyless_model.specs.declared.options.RenderOptions.{RenderOptions}
 use Rattle.prettyless_model.specs.Tree.{Tree}
 use Rattle.prettyless_model.specs.Layout.{State}
-use Rattle.prettyless_step.specs.Stack.{Task, task, follow}
+use Rattle.prettyless_model.specs.declared.mode.Mode.{Mode}
+use Rattle.prettyless_step.specs.Stack.{Task, make_task, follow, nodes}
 use Rattle.prettyless_step.specs.Steps.{Step, Move, Stuck, Choose, step_of}
-use Rattle.prettyless_step.specs.Printing.{following, state_of, tasks_of, Grows, Shows, ShowsAt, TookNext, Writes, WritesAt}
-use Rattle.prettyless_step.specs.Piece.{piece_bytes}
-use Rattle.prettyless_step.specs.declared.command.Command.{Command}
+use Rattle.prettyless_step.specs.Printing.{state_of, tasks_of, Grows, Hands, Shows, Writes}
 use Rattle.prettyless_step.specs.declared.printer.Printer.{Printer}
-use Rattle.prettyless_step.specs.declared.printer.Taken.{Taken}
-use Rattle.prettyless_step.specs.declared.printer.Taken.TheVariants.{Quiet, Written, Failed, Chosen}
+use Rattle.prettyless_step.specs.declared.printer.Taken.TheVariants.{Failed, Chosen}
+use Rattle.prettyless_step.proofs.Stacks.{nodes-append}
 
-grows_same : {N : Type 0} (p q : Printer N) → q ≡ p → Grows p q
-grows_same {N} p q e = ([], ap (λ (x : Printer N). x.queue.nodes.items) e ∙ sym (append-nil p.queue.nodes.items))
+-- the step of a task with others after it
+abbrev pub step_at : RenderOptions → Task → List Task → State → Step
+step_at o t ts st = step_of o t.tree t.indent t.mode (follow ts) st
 
-writes_at : {N : Type 0} (f : N → Tree) (bytes : List ℕ) (step : Step) (p q : Printer N) → Writes f bytes step p q → WritesAt f bytes step (tasks_of f p) q × (q.options ≡ p.options) × Grows p q
-writes_at {N} f bytes (Move b pushed u) p q h = ((h.0, h.1, h.2), h.3, h.4)
-writes_at {N} f bytes Stuck p q h = absurd h
-writes_at {N} f bytes (Choose j x y) p q h = absurd h
+-- the step writes these bytes, and leads from the tasks after it to these tasks and this state
+abbrev pub Leads : Step → List Task → List ℕ → List Task → State → Type 0
+Leads (Move b pushed u) ts bytes us v = (bytes ≡ b) × (us ≡ pushed ++ ts) × (v ≡ u)
+Leads Stuck ts bytes us v = ⊥
+Leads (Choose i x y) ts bytes us v = ⊥
 
-shows_at : {N : Type 0} (f : N → Tree) (r : Taken N) (step : Step) (p q : Printer N) → Shows f r step p q → ShowsAt f r step (tasks_of f p) (state_of f p) q × (q.options ≡ p.options) × Grows p q
-shows_at {N} f Quiet step p q h = writes_at f [] step p q h
-shows_at {N} f (Written piece) step p q h = writes_at f (piece_bytes piece) step p q h
-shows_at {N} f Failed Stuck p q h = (ap (tasks_of f) h, ap (λ (x : Printer N). x.options) h, grows_same p q h)
-shows_at {N} f (Chosen i l r) (Choose j x y) p q h =
-    ((h.0, h.1, h.2, ap (tasks_of f) h.3, ap (state_of f) h.3), ap (λ (x : Printer N). x.options) h.3, grows_same p q h.3)
-shows_at {N} f Failed (Move b pushed u) p q h = absurd h
-shows_at {N} f Failed (Choose j x y) p q h = absurd h
-shows_at {N} f (Chosen i l r) (Move b pushed u) p q h = absurd h
-shows_at {N} f (Chosen i l r) Stuck p q h = absurd h
+-- the step fails
+abbrev pub IsStuck : Step → Type 0
+IsStuck (Move b pushed u) = ⊥
+IsStuck Stuck = Unit {0}
+IsStuck (Choose i x y) = ⊥
 
--- a command taken, and then stepped
-pub took : {N : Type 0} (f : N → Tree) (p p' q : Printer N) (c : Command N) (r : Taken N) → tasks_of f p ≡ task f c ∷ tasks_of f p' →
-    state_of f p' ≡ state_of f p → p'.options ≡ p.options → p'.queue.nodes.items ≡ p.queue.nodes.items →
-    Shows f r (step_of p'.options (f c.node) c.indent c.mode (following f p') (state_of f p')) p' q → TookNext f p q r
-took {N} f p p' q c r e s w k h =
-    let ts : List Task = tasks_of f p' in
-    let a = shows_at f r (step_of p'.options (f c.node) c.indent c.mode (follow ts) (state_of f p')) p' q h in
-    let b = subst (λ (x : State). ShowsAt f r (step_of p'.options (f c.node) c.indent c.mode (follow ts) x) ts x q) s a.0 in
-    let d = subst (λ (x : RenderOptions). ShowsAt f r (step_of x (f c.node) c.indent c.mode (follow ts) (state_of f p)) ts (state_of f p) q) w b in
-    let i : Grows p q = (a.2.0, a.2.1 ∙ ap (λ (x : List N). x ++ a.2.0) k) in
-    (task f c, ts, e, d, a.1 ∙ w, i)
+-- the step asks for a choice between two branches at an indent
+abbrev pub Asks : Step → ℕ → Tree → Tree → Type 0
+Asks (Move b pushed u) i x y = ⊥
+Asks Stuck i x y = ⊥
+Asks (Choose j v w) i x y = (i ≡ j) × (x ≡ v) × (y ≡ w)
+
+-- bytes were written
+pub written : {N : Type 0} (f : N → Tree) (bytes : List ℕ) (step : Step) (p q : Printer N) → Writes f bytes step p q →
+    Leads step (tasks_of f p) bytes (tasks_of f q) (state_of f q) × (q.options ≡ p.options) × Grows p q
+written {N} f bytes (Move b pushed u) p q h = ((h.0, h.1, h.2), h.3, h.4)
+written {N} f bytes Stuck p q h = absurd h
+written {N} f bytes (Choose j x y) p q h = absurd h
+
+-- A task is in hand: the step leads to it, above the others, and the stack has lost nothing.
+pub record Handed {N : Type 0} (f : N → Tree) (t : Task) (step : Step) (p q : Printer N) : Type 0 where
+  pub leads : Leads step (tasks_of f p) [] (t ∷ tasks_of f q) (state_of f q)
+  pub state : state_of f q ≡ state_of f p
+  pub options : q.options ≡ p.options
+  pub grows : Grows p q
+  pub long : length (tasks_of f p) ≤ length (tasks_of f q)
+  pub heavy : nodes (tasks_of f p) ≤ nodes (tasks_of f q)
+
+pub handed : {N : Type 0} (f : N → Tree) (i : ℕ) (m : Mode) (n : N) (step : Step) (p q : Printer N) → Hands f i m n step p q → Handed f (make_task i m (f n)) step p q
+handed {N} f i m n (Move b [] u) p q h = absurd h
+handed {N} f i m n (Move b (t ∷ pushed) u) p q h = record {
+  leads = (sym h.0, ap (λ (x : Task). x ∷ tasks_of f q) h.1 ∙ ap (λ (x : List Task). t ∷ x) h.2, h.4 ∙ sym h.3);
+  state = h.4;
+  options = h.5;
+  grows = h.6;
+  long = omega (arith, ap length h.2, length-append pushed (tasks_of f p));
+  heavy = omega (arith, ap nodes h.2, nodes-append pushed (tasks_of f p));
+}
+handed {N} f i m n Stuck p q h = absurd h
+handed {N} f i m n (Choose j x y) p q h = absurd h
+
+-- the node fails
+pub stuck : {N : Type 0} (f : N → Tree) (m : Mode) (step : Step) (p q : Printer N) → Shows f m Failed step p q → IsStuck step × (q ≡ p)
+stuck {N} f m (Move b pushed u) p q h = absurd h
+stuck {N} f m Stuck p q h = (tt, h)
+stuck {N} f m (Choose j x y) p q h = absurd h
+
+-- two branches are to be chosen from
+pub asks : {N : Type 0} (f : N → Tree) (m : Mode) (i : ℕ) (l r : N) (step : Step) (p q : Printer N) → Shows f m (Chosen i l r) step p q → Asks step i (f l) (f r) × (q ≡ p)
+asks {N} f m i l r (Move b pushed u) p q h = absurd h
+asks {N} f m i l r Stuck p q h = absurd h
+asks {N} f m i l r (Choose j x y) p q h = ((h.0, h.1, h.2), h.3)

@@ -3,7 +3,7 @@ use Rattle.std.proofs.Common.{◌≡◌, ℕ, ◌+◌, ◌-◌, ◌<◌, ◌≤�
 use Rattle.std.proofs.lemmas.List.{map-append, take_all, take_more, drop_at, take-append-drop}
 use Rattle.prettyless_model.specs.Tree.{Tree}
 use Rattle.prettyless_model.specs.Reading.{Atom}
-use Rattle.prettyless_model.specs.Layout.{Entry, entry, next_indent}
+use Rattle.prettyless_model.specs.Layout.{entry, next_indent}
 use Rattle.prettyless_step.specs.Stack.{Task, downwards, make_task, task, stack_of, unread, unread_task, follow, nodes}
 use Rattle.prettyless_step.specs.declared.command.Command.{Command}
 use Rattle.prettyless_step.specs.declared.unread.Unread.{Unread}

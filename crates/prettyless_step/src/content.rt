@@ -2,8 +2,8 @@
 ghost use Rattle.std.specs.Prelude.{◌≡◌};
 ghost use Rattle.prettyless_model.specs.Layout.{behind_payload as behind_payload_of, lay_payload, lay_text, payload_fits as payload_fits_of};
 ghost use Rattle.prettyless_step.specs.Steps.{at_once};
-ghost use Rattle.prettyless_step.specs.Printing.{Shows, state_of};
-ghost use Rattle.prettyless_step.specs.declared.printer.Taken.TheVariants.{Written};
+ghost use Rattle.prettyless_step.specs.Printing.{Writes, state_of};
+ghost use Rattle.prettyless_step.specs.Piece.{piece_bytes};
 
 use crate::piece::Piece;
 use crate::printer::Printer;
@@ -16,7 +16,7 @@ use prettyless_model::options::RenderOptions;
 /// An empty text is nothing.
 #[tactic(auto, using(crate::proofs::Queues::queues))]
 pub fn put_text<'v, N: Walk>(printer: &mut Printer<N>, counted: usize, text: &'v str) -> Piece<'v>
-    ensures { Shows N.tree (Written result)
+    ensures { Writes N.tree (piece_bytes result)
         (at_once (lay_text printer.old.options counted text.now (state_of N.tree printer.old))) printer.old printer.new }
 {
     if text.is_empty() {
@@ -60,7 +60,7 @@ pub fn put_payload<'v, N: Walk>(
     text: &'v str,
     metrics: Metrics,
 ) -> Piece<'v>
-    ensures { Shows N.tree (Written result)
+    ensures { Writes N.tree (piece_bytes result)
         (at_once (lay_payload printer.old.options metrics text.now (state_of N.tree printer.old))) printer.old printer.new }
 {
     let gap = if metrics.first_nonempty {

@@ -21,11 +21,13 @@ pub struct Printer<N> {
     pub queue: Queue<N>,
 }
 
-/// What the visit of one node asks for: nothing, a piece to be written, or a choice between two branches at an indent; or the
-/// node fails.
+/// What the visit of one node asks for: nothing, a node to go on with at an indent, in the same mode or flat, a piece to be
+/// written, or a choice between two branches at an indent; or the node fails.
 #[derive(Drop)]
 pub enum Taken<'v, N> {
     Quiet,
+    Next(usize, N),
+    NextFlat(usize, N),
     Written(Piece<'v>),
     Failed,
     Chosen(usize, N, N),

@@ -7,9 +7,9 @@ ghost use Rattle.prettyless_model.specs.Layout.{is_suppressed, lay_ending, neste
 ghost use Rattle.prettyless_model.specs.declared.mode.Mode.TheVariants.{Break, Flat};
 ghost use Rattle.prettyless_step.specs.Stack.{follow, make_task, nodes, stack_of};
 ghost use Rattle.prettyless_step.specs.Steps.{Move, at_once, break_step, counted_payload, decided_by_metrics, is_rejected, rejects_payload, step_of, union_step};
-ghost use Rattle.prettyless_step.specs.Printing.{Shows, following, state_of, tasks_of};
+ghost use Rattle.prettyless_step.specs.Piece.{piece_bytes};
+ghost use Rattle.prettyless_step.specs.Printing.{Shows, Writes, following, state_of, tasks_of};
 ghost use Rattle.prettyless_step.specs.Probing.{RisesBy, asked};
-ghost use Rattle.prettyless_step.specs.declared.printer.Taken.TheVariants.{Written};
 
 use crate::command::Command;
 use crate::content::{payload_fits, put_payload, put_text};
@@ -59,29 +59,6 @@ fn probe_here<N: Walk>(
         &mut printer.scratch,
         probes,
     )
-}
-
-// The mode in which a group's document is laid.
-fn group_mode<N: Walk>(
-    printer: &mut Printer<N>,
-    mode: Mode,
-    inner: N,
-    probes: &mut u64,
-) -> Result<Mode, AllocError>
-    ensures mode { IfOk result (λ m. m ≡ by_mode mode
-        (if probe_of printer.old.options (N.tree inner) Flat (following N.tree printer.old) (state_of N.tree printer.old)
-        then Flat else Break)
-        Flat) }
-    ensures others { printer.new ≡ record printer.old { scratch = printer.new.scratch } }
-    ensures rises { probes.old ≤ probes.new }
-    ensures counted { probes.new ≤ probes.old + (size (N.tree inner) + nodes (tasks_of N.tree printer.old)) }
-    ensures asked { OnOk result (RisesBy (by_mode mode 1 0) probes.old probes.new) }
-{
-    if let Mode::Flat = mode {
-        return Ok(Mode::Flat);
-    }
-    let flat = probe_here(printer, inner, Mode::Flat, probes)?;
-    Ok(if flat { Mode::Flat } else { Mode::Break })
 }
 
 // The branch of a partial union that is laid.
@@ -138,7 +115,7 @@ fn indent_after<N: Walk>(commands: &[Command<N>], indent: usize) -> usize
 // The end of a line, and the indent of the next.
 #[tactic(auto, using(crate::proofs::Queues::queues))]
 fn end_line<N: Walk>(printer: &mut Printer<N>, indent: usize) -> Piece<'static>
-    ensures { Shows N.tree (Written result)
+    ensures { Writes N.tree (piece_bytes result)
         (at_once (lay_ending printer.old.options printer.old.options.indentation_policy
         (next_indent indent (following N.tree printer.old)) (state_of N.tree printer.old)))
         printer.old printer.new }
@@ -173,7 +150,7 @@ fn flush_line<N: Walk>(
     node: N,
 ) -> Result<Piece<'static>, AllocError>
     requires { some_pending (state_of N.tree printer.old).pending ≡ true }
-    ensures { IfOk result (λ piece. Shows N.tree (Written piece)
+    ensures { IfOk result (λ piece. Writes N.tree (piece_bytes piece)
         (break_step printer.old.options (state_of N.tree printer.old).pending (N.tree node) indent mode
         (following N.tree printer.old) (state_of N.tree printer.old))
         printer.old printer.new) }
@@ -196,7 +173,7 @@ fn break_line<N: Walk>(
     weak: bool,
 ) -> Result<Taken<'static, N>, AllocError>
     requires { is_suppressed (N.tree node) printer.old.column ≡ (weak && printer.old.column.fresh) }
-    ensures { IfOk result (λ taken. Shows N.tree taken
+    ensures { IfOk result (λ taken. Shows N.tree mode taken
         (break_step printer.old.options (state_of N.tree printer.old).pending (N.tree node) indent mode
         (following N.tree printer.old) (state_of N.tree printer.old))
         printer.old printer.new) }
@@ -210,22 +187,6 @@ fn break_line<N: Walk>(
     Ok(Taken::Written(end_line(printer, indent)))
 }
 
-// One node in the place of another.
-#[inline(always)]
-#[tactic(auto, using(crate::proofs::Queues::queues))]
-fn go_on_with<N: Walk>(
-    printer: &mut Printer<N>,
-    indent: usize,
-    mode: Mode,
-    node: N,
-) -> Result<Taken<'static, N>, AllocError>
-    ensures { IfOk result (λ taken. Shows N.tree taken
-        (Move [] (make_task indent mode (N.tree node) ∷ []) (state_of N.tree printer.old)) printer.old printer.new) }
-{
-    push_node(&mut printer.commands, indent, mode, node)?;
-    Ok(Taken::Quiet)
-}
-
 // A group, whose document is laid flat where it fits.
 #[inline(always)]
 fn group<N: Walk>(
@@ -235,7 +196,7 @@ fn group<N: Walk>(
     inner: N,
     probes: &mut u64,
 ) -> Result<Taken<'static, N>, AllocError>
-    ensures step { IfOk result (λ taken. Shows N.tree taken
+    ensures step { IfOk result (λ taken. Shows N.tree mode taken
         (Move [] (make_task indent (by_mode mode
         (if probe_of printer.old.options (N.tree inner) Flat (following N.tree printer.old) (state_of N.tree printer.old) then Flat else Break)
         Flat) (N.tree inner) ∷ []) (state_of N.tree printer.old))
@@ -244,8 +205,12 @@ fn group<N: Walk>(
     ensures counted { probes.new ≤ probes.old + (size (N.tree inner) + nodes (tasks_of N.tree printer.old)) }
     ensures asked { OnOk result (RisesBy (by_mode mode 1 0) probes.old probes.new) }
 {
-    let chosen = group_mode(printer, mode, inner, probes)?;
-    go_on_with(printer, indent, chosen, inner)
+    if let Mode::Break = mode {
+        if !probe_here(printer, inner, Mode::Flat, probes)? {
+            return Ok(Taken::Next(indent, inner));
+        }
+    }
+    Ok(Taken::NextFlat(indent, inner))
 }
 
 // A partial union: the first document where it fits.
@@ -258,7 +223,7 @@ fn partial_union<N: Walk>(
     second: N,
     probes: &mut u64,
 ) -> Result<Taken<'static, N>, AllocError>
-    ensures step { IfOk result (λ taken. Shows N.tree taken
+    ensures step { IfOk result (λ taken. Shows N.tree mode taken
         (Move [] (make_task indent mode (by_mode mode
         (if probe_of printer.old.options (N.tree first) Break (following N.tree printer.old) (state_of N.tree printer.old)
         then N.tree first else N.tree second)
@@ -269,7 +234,7 @@ fn partial_union<N: Walk>(
     ensures asked { OnOk result (RisesBy (by_mode mode 1 0) probes.old probes.new) }
 {
     let chosen = partial_choice(printer, mode, first, second, probes)?;
-    go_on_with(printer, indent, mode, chosen)
+    Ok(Taken::Next(indent, chosen))
 }
 
 // A union in Break: the metrics of its first branch decide, or a trial is asked for. A payload that they reject is a visit.
@@ -281,7 +246,7 @@ fn union<N: Walk>(
     second: N,
     visits: &mut Visits,
 ) -> Result<Taken<'static, N>, AllocError>
-    ensures step { IfOk result (λ taken. Shows N.tree taken
+    ensures step { IfOk result (λ taken. Shows N.tree Break taken
         (union_step (decided_by_metrics printer.old.options (N.tree first) (state_of N.tree printer.old))
         (N.tree first) (N.tree second) indent (state_of N.tree printer.old))
         printer.old printer.new) }
@@ -290,37 +255,37 @@ fn union<N: Walk>(
     ensures probes { visits.new.probes ≡ visits.old.probes }
 {
     match metrics_choice(printer, &first) {
-        Some(true) => go_on_with(printer, indent, Mode::Break, first),
+        Some(true) => Ok(Taken::Next(indent, first)),
         Some(false) => {
             visits.printer = one_more(visits.printer);
-            go_on_with(printer, indent, Mode::Break, second)
+            Ok(Taken::Next(indent, second))
         }
         None => Ok(Taken::Chosen(indent, first, second)),
     }
 }
 
-/// Visits one node, with the printer's commands following it. What a probe visits is counted in `visits`, and so is a payload
-/// that its metrics reject as the first branch of a union; the node itself is not.
+/// Visits one node at an indent in a mode, with the printer's commands following it. What a probe visits is counted in `visits`,
+/// and so is a payload that its metrics reject as the first branch of a union; the node itself is not.
 #[inline(always)]
 #[tactic(auto, using(crate::proofs::Queues::queues))]
 pub fn step<'v, N: Walk>(
     printer: &mut Printer<N>,
-    command: &'v Command<N>,
+    indent: usize,
+    mode: Mode,
+    node: &'v N,
     visits: &mut Visits,
 ) -> Result<Taken<'v, N>, AllocError>
-    ensures step { IfOk result (λ taken. Shows N.tree taken
-        (step_of printer.old.options (N.tree command.now.node) command.now.indent command.now.mode
+    ensures step { IfOk result (λ taken. Shows N.tree mode taken
+        (step_of printer.old.options (N.tree node.now) indent mode
         (following N.tree printer.old) (state_of N.tree printer.old))
         printer.old printer.new) }
     ensures printer { visits.new.printer
-        ≡ counted_payload (rejects_payload printer.old.options (N.tree command.now.node) command.now.mode (state_of N.tree printer.old)) visits.old.printer }
+        ≡ counted_payload (rejects_payload printer.old.options (N.tree node.now) mode (state_of N.tree printer.old)) visits.old.printer }
     ensures rises { visits.old.probes ≤ visits.new.probes }
-    ensures counted { visits.new.probes ≤ visits.old.probes + asked (N.tree command.now.node) (nodes (tasks_of N.tree printer.old)) }
-    ensures asked { OnOk result (RisesBy (each_probe (N.tree command.now.node) command.now.mode) visits.old.probes visits.new.probes) }
+    ensures counted { visits.new.probes ≤ visits.old.probes + asked (N.tree node.now) (nodes (tasks_of N.tree printer.old)) }
+    ensures asked { OnOk result (RisesBy (each_probe (N.tree node.now) mode) visits.old.probes visits.new.probes) }
 {
-    let indent = command.indent;
-    let mode = command.mode;
-    match command.node.view() {
+    match node.view() {
         View::Nil | View::ExpandParent => Ok(Taken::Quiet),
         View::Fail => Ok(Taken::Failed),
         View::Text(s) => Ok(Taken::Written(put_text(printer, s.len(), s))),
@@ -334,27 +299,27 @@ pub fn step<'v, N: Walk>(
             Ok(Taken::Quiet)
         }
         View::HardLine => match mode {
-            Mode::Break => break_line(printer, indent, mode, command.node, false),
+            Mode::Break => break_line(printer, indent, mode, *node, false),
             Mode::Flat => Ok(Taken::Failed),
         },
-        View::WeakLine => break_line(printer, indent, mode, command.node, true),
+        View::WeakLine => break_line(printer, indent, mode, *node, true),
         View::Append(l, r) => {
             push_node(&mut printer.commands, indent, mode, r)?;
-            go_on_with(printer, indent, mode, l)
+            Ok(Taken::Next(indent, l))
         }
         View::LineSuffix(d) => {
             printer.queue.push(d)?;
             Ok(Taken::Quiet)
         }
-        View::Nest(offset, d) => go_on_with(printer, nested_indent(indent, offset), mode, d),
-        View::DedentToRoot(d) => go_on_with(printer, 0, mode, d),
-        View::Align(d) => go_on_with(printer, printer.column.prospective(), mode, d),
-        View::Flatten(d) => go_on_with(printer, indent, Mode::Flat, d),
-        View::BreakOrFlat(b, f) => go_on_with(printer, indent, mode, either(mode, b, f)),
+        View::Nest(offset, d) => Ok(Taken::Next(nested_indent(indent, offset), d)),
+        View::DedentToRoot(d) => Ok(Taken::Next(0, d)),
+        View::Align(d) => Ok(Taken::Next(printer.column.prospective(), d)),
+        View::Flatten(d) => Ok(Taken::NextFlat(indent, d)),
+        View::BreakOrFlat(b, f) => Ok(Taken::Next(indent, either(mode, b, f))),
         View::Group(d) => group(printer, indent, mode, d, &mut visits.probes),
         View::Union(l, r) => match mode {
             Mode::Break => union(printer, indent, l, r, visits),
-            Mode::Flat => go_on_with(printer, indent, mode, l),
+            Mode::Flat => Ok(Taken::NextFlat(indent, l)),
         },
         View::PartialUnion(l, r) => partial_union(printer, indent, mode, l, r, &mut visits.probes),
     }

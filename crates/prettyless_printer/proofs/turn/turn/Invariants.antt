@@ -1,0 +1,18 @@
+use Rattle.std.proofs.Common.{◌∷◌}
+use Rattle.prettyless_step.specs.Stack.{make_task}
+use Rattle.prettyless_step.specs.Steps.{work}
+use Rattle.prettyless_step.specs.Printing.{state_of, tasks_of}
+use Rattle.prettyless_printer.specs.Points.{point, seen}
+use Rattle.prettyless_printer.proofs.Hands.{InHand}
+use Rattle.prettyless_printer.proofs.turn.turn.Given as goal
+
+abbrev pub invariant-down : goal.invariant-down
+invariant-down g l =
+    let f = g.N.Walk.tree in
+    let sink = seen g.W.Render.bytes g.W.Render.failures g.W.Render.lender in
+    InHand f (point l.fn.printer (sink l.fn.out) l.fn.visits) (make_task l.indent l.mode (f l.node)) (point l.printer (sink l.out) l.visits)
+
+abbrev pub decreases-down : goal.decreases-down
+decreases-down g l =
+    let f = g.N.Walk.tree in
+    work (make_task l.indent l.mode (f l.node) ∷ tasks_of f l.printer) (state_of f l.printer)
