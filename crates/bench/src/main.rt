@@ -1,18 +1,19 @@
-//! Measures building and laying out in an arena: `bench` prints what comes of small documents, and `bench time [WORKLOAD]`
-//! how long large ones take.
+//! Measures building and laying out in an arena: `bench` prints what comes of small documents, `bench time [WORKLOAD]` how
+//! long large ones take and how much memory, and `bench sizes` how large the types are that make a node.
 #![tactic(auto)]
 
 use bench_workloads::failure::Failure;
-use bench_workloads::report::{compare, time_all, time_workload};
+use bench_workloads::report::{compare, sizes, time_all, time_workload};
 use bench_workloads::request::{Request, requested};
 use std::env;
 use std::process::ExitCode;
-use std::rt::{Clock, Env};
+use std::rt::{Clock, Env, Files};
 
-fn run<R: AllocGlobal + Clock + Env + Print>(rt: &R) -> Result<(), Failure> {
+fn run<R: AllocGlobal + Clock + Env + Files + Print>(rt: &R) -> Result<(), Failure> {
     let words: Vec<String> = env::args(rt)?.skip(1).collect(rt.alloc())?;
     match requested(&words).ok_or(Failure::Words)? {
         Request::Compare => compare(rt),
+        Request::Sizes => sizes(rt),
         Request::TimeAll => time_all(rt),
         Request::Time(workload) => time_workload(rt, workload),
     }

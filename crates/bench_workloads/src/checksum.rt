@@ -5,7 +5,7 @@ ghost use Rattle.bench_workloads.specs.Checksum.{checksum};
 const MODULUS: u64 = 4_294_967_291;
 
 /// The bytes as digits to base 257, modulo a prime.
-pub fn checksum(bytes: &[u8]) -> u64
+pub(crate) fn checksum(bytes: &[u8]) -> u64
     ensures { result ≡ checksum bytes.now }
 {
     let mut sum: u64 = 0;

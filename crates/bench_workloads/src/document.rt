@@ -16,7 +16,7 @@ use prettyless::text::BuildError;
 use prettyless::{Arena, DocBuilder};
 
 /// The document of a workload at a size, with its nodes in this arena.
-pub fn document<'a>(
+pub(crate) fn document<'a>(
     arena: &'a Arena<'a>,
     workload: Workload,
     size: usize,

@@ -9,7 +9,7 @@ use prettyless::text::BuildError;
 use prettyless::{BuildDoc, Doc, DocAllocator, DocBuilder, DocPlace};
 
 /// Groups nested so deep, with a text and a line in each in front of the next.
-pub fn text_groups<'a, D: DocPlace<'a>>(
+pub(crate) fn text_groups<'a, D: DocPlace<'a>>(
     place: &'a D,
     depth: usize,
 ) -> Result<DocBuilder<'a, D>, BuildError>
@@ -35,7 +35,7 @@ fn wide<'a, D: DocPlace<'a>>(place: &'a D) -> Result<DocBuilder<'a, D>, BuildErr
 }
 
 /// Groups nested so deep, around two texts that don't fit a line.
-pub fn bare_groups<'a, D: DocPlace<'a>>(
+pub(crate) fn bare_groups<'a, D: DocPlace<'a>>(
     place: &'a D,
     depth: usize,
 ) -> Result<DocBuilder<'a, D>, BuildError>

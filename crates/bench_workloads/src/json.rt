@@ -66,7 +66,7 @@ fn record<'a, D: DocPlace<'a>>(place: &'a D, number: usize) -> Result<DocBuilder
 }
 
 /// So many records in one list, and one at least.
-pub fn array<'a, D: DocPlace<'a>>(
+pub(crate) fn array<'a, D: DocPlace<'a>>(
     place: &'a D,
     records: usize,
 ) -> Result<DocBuilder<'a, D>, BuildError>

@@ -11,6 +11,7 @@ mod json;
 mod lists;
 mod measure;
 mod parts;
+mod peak;
 pub mod report;
 pub mod request;
 mod trials;

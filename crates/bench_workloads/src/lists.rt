@@ -31,7 +31,7 @@ fn parenthesised<'a, D: DocPlace<'a>>(
 }
 
 /// So many atoms in one list.
-pub fn list<'a, D: DocPlace<'a>>(
+pub(crate) fn list<'a, D: DocPlace<'a>>(
     place: &'a D,
     atoms: usize,
 ) -> Result<DocBuilder<'a, D>, BuildError>
@@ -90,7 +90,10 @@ fn levels<'a>(arena: &'a Arena<'a>, height: u32) -> Result<RefDoc<'a>, BuildErro
 
 /// Lists of ten, in lists of ten, and so on, with as many atoms as the greatest power of ten up to this number has, and
 /// with one at least.
-pub fn tree<'a>(arena: &'a Arena<'a>, atoms: usize) -> Result<DocBuilder<'a, Arena<'a>>, BuildError>
+pub(crate) fn tree<'a>(
+    arena: &'a Arena<'a>,
+    atoms: usize,
+) -> Result<DocBuilder<'a, Arena<'a>>, BuildError>
     ensures ok { IfOk result (λ b. to.IsTree atoms (built ref_tree b.1)) }
     ensures err { IfErr result IsMemory }
 {

@@ -22,7 +22,7 @@ const RENDERS: usize = 5;
 
 /// A document in an arena, and its layout.
 #[derive(Clone, Copy)]
-pub struct Laid {
+pub(crate) struct Laid {
     /// How many nodes the arena placed.
     pub nodes: usize,
     /// The length of the layout, in bytes.
@@ -33,7 +33,7 @@ pub struct Laid {
 
 /// How long it took to build a document, and to lay it out.
 #[derive(Clone, Copy)]
-pub struct Timed {
+pub(crate) struct Timed {
     /// How many nodes the arena placed.
     pub nodes: usize,
     /// The length of the layout, in bytes.
@@ -61,7 +61,7 @@ fn layout<'a>(
 }
 
 /// Lays a workload out.
-pub fn lay(alloc: Global, workload: Workload, size: usize) -> Result<Laid, Failure>
+pub(crate) fn lay(alloc: Global, workload: Workload, size: usize) -> Result<Laid, Failure>
     ensures ok { IfOk result (λ laid. (bytes : List ℕ) × IsLayout workload size bytes × IsOf laid bytes) }
     ensures err { IfErr result IsOfLayout }
 {
@@ -129,7 +129,7 @@ fn time_in<'a, C: Clock>(
 }
 
 /// Builds a workload and lays it out several times.
-pub fn time<C: Clock>(
+pub(crate) fn time<C: Clock>(
     clock: &C,
     alloc: Global,
     workload: Workload,

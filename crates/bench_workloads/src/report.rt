@@ -4,8 +4,11 @@ ghost use Rattle.bench_workloads.specs.Failures.{IsOfTiming};
 
 use crate::failure::Failure;
 use crate::measure::{lay, time};
+use crate::peak::{forget_peak, peak};
 use crate::workload::{WORKLOADS, Workload};
-use std::rt::Clock;
+use prettyless::text::{BuildError, MultilineTextData, Text};
+use prettyless::{Arena, BoxDoc, BuildDoc, Doc, DocBuilder, RcDoc, RefDoc};
+use std::rt::{Clock, Files};
 
 /// Prints a line for the layout of each workload at its small size.
 pub fn compare<R: AllocGlobal + Print>(rt: &R) -> Result<(), Failure>
@@ -22,8 +25,50 @@ pub fn compare<R: AllocGlobal + Print>(rt: &R) -> Result<(), Failure>
     Ok(())
 }
 
-// Prints a line for a workload at one size: nodes, bytes, milliseconds of building and of laying out, nanoseconds a node.
-fn time_at<R: AllocGlobal + Clock + Print>(
+// The sizes in bytes of the types that make nodes, and of what the calls of an arena answer.
+fn type_sizes() -> [(&'static str, usize); 11] {
+    [
+        ("Text", size_of::<Text<'_>>()),
+        ("MultilineTextData", size_of::<MultilineTextData<'_>>()),
+        ("BoxDoc", size_of::<BoxDoc<'_>>()),
+        ("RcDoc", size_of::<RcDoc<'_>>()),
+        ("RefDoc", size_of::<RefDoc<'_>>()),
+        ("Doc<BoxDoc>", size_of::<Doc<'_, BoxDoc<'_>>>()),
+        ("Doc<RcDoc>", size_of::<Doc<'_, RcDoc<'_>>>()),
+        ("Doc<RefDoc>", size_of::<Doc<'_, RefDoc<'_>>>()),
+        ("BuildDoc<RefDoc>", size_of::<BuildDoc<'_, RefDoc<'_>>>()),
+        ("DocBuilder<Arena>", size_of::<DocBuilder<'_, Arena<'_>>>()),
+        (
+            "Result<DocBuilder<Arena>>",
+            size_of::<Result<DocBuilder<'_, Arena<'_>>, BuildError>>(),
+        ),
+    ]
+}
+
+/// Prints a line for each of these types.
+pub fn sizes<R: Print>(rt: &R) -> Result<(), Failure>
+    ensures err { IfErr result IsOfTiming }
+{
+    for (name, bytes) in type_sizes() {
+        println!(rt; "{name:<25} {bytes:>3}")?;
+    }
+    Ok(())
+}
+
+// Prints the greatest memory of a run, where it is known, and ends the line.
+fn print_peak<R: AllocGlobal + Files + Print>(rt: &R, counts: bool) -> Result<(), Failure>
+    ensures err { IfErr result IsOfTiming }
+{
+    match peak(rt) {
+        Some(figure) if counts => println!(rt; ", peak memory {figure} KiB")?,
+        _ => println!(rt; "")?,
+    }
+    Ok(())
+}
+
+// Prints a line for a workload at one size: nodes, bytes, microseconds of building and of laying out, nanoseconds a node,
+// and the peak of memory.
+fn time_at<R: AllocGlobal + Clock + Files + Print>(
     rt: &R,
     workload: Workload,
     size: usize,
@@ -35,20 +80,21 @@ fn time_at<R: AllocGlobal + Clock + Print>(
         println!(rt; "{name} {size}: skipped, since {obstacle}")?;
         return Ok(());
     }
+    let counts = forget_peak(rt);
     let timed = time(rt, rt.alloc(), workload, size)?;
     let nanos = timed.render.as_nanos() / timed.nodes.max(1) as u128;
-    println!(rt;
-        "{name} {size}: {} nodes, {} bytes, built in {} ms, laid out in {} ms, {nanos} ns a node",
+    print!(rt;
+        "{name} {size}: {} nodes, {} bytes, built in {} us, laid out in {} us, {nanos} ns a node",
         timed.nodes,
         timed.bytes,
-        timed.build.as_millis(),
-        timed.render.as_millis()
+        timed.build.as_micros(),
+        timed.render.as_micros()
     )?;
-    Ok(())
+    print_peak(rt, counts)
 }
 
 /// Prints a line for each full size of a workload.
-pub fn time_workload<R: AllocGlobal + Clock + Print>(
+pub fn time_workload<R: AllocGlobal + Clock + Files + Print>(
     rt: &R,
     workload: Workload,
 ) -> Result<(), Failure>
@@ -61,7 +107,7 @@ pub fn time_workload<R: AllocGlobal + Clock + Print>(
 }
 
 /// Prints these lines for all workloads.
-pub fn time_all<R: AllocGlobal + Clock + Print>(rt: &R) -> Result<(), Failure>
+pub fn time_all<R: AllocGlobal + Clock + Files + Print>(rt: &R) -> Result<(), Failure>
     ensures err { IfErr result IsOfTiming }
 {
     for workload in WORKLOADS {

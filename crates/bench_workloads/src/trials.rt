@@ -9,7 +9,7 @@ use prettyless::text::{BuildError, Text};
 use prettyless::{BuildDoc, Doc, DocAllocator, DocBuilder, DocPlace};
 
 /// Alternatives nested so deep. Each first one, a text and a line in front of the next, is kept.
-pub fn kept_trials<'a, D: DocPlace<'a>>(
+pub(crate) fn kept_trials<'a, D: DocPlace<'a>>(
     place: &'a D,
     depth: usize,
 ) -> Result<DocBuilder<'a, D>, BuildError>
@@ -27,7 +27,7 @@ pub fn kept_trials<'a, D: DocPlace<'a>>(
 
 /// Alternatives nested so deep, after a text. Each first one, which ends in a text that does not fit a line of 4 columns,
 /// is rejected.
-pub fn rejected_trials<'a, D: DocPlace<'a>>(
+pub(crate) fn rejected_trials<'a, D: DocPlace<'a>>(
     place: &'a D,
     depth: usize,
 ) -> Result<DocBuilder<'a, D>, BuildError>

@@ -13,7 +13,7 @@ use std::iter;
 const LINE: &str = "a line of text that is as long as it has to be for sixty is.";
 
 /// A word for a number.
-pub fn word<'a>(number: usize) -> &'a str
+pub(crate) fn word<'a>(number: usize) -> &'a str
     ensures { result.now ≡ to.word (number % 5) }
 {
     match number % 5 {
@@ -38,7 +38,7 @@ fn with_word<'a, D: DocPlace<'a>>(
 }
 
 /// So many words, and one at least, with breaks only where a line has no room.
-pub fn fill<'a, D: DocPlace<'a>>(
+pub(crate) fn fill<'a, D: DocPlace<'a>>(
     place: &'a D,
     words: usize,
 ) -> Result<DocBuilder<'a, D>, BuildError>
@@ -53,7 +53,7 @@ pub fn fill<'a, D: DocPlace<'a>>(
 }
 
 /// So many lines of 60 bytes, each but the first with an indent of 4.
-pub fn lines<'a, D: DocPlace<'a>>(
+pub(crate) fn lines<'a, D: DocPlace<'a>>(
     place: &'a D,
     lines: usize,
 ) -> Result<DocBuilder<'a, D>, BuildError>

@@ -44,7 +44,7 @@ pub const WORKLOADS: [Workload; 10] = [
 
 impl Workload {
     /// The word that names it.
-    pub fn name(self) -> &'static str
+    pub(crate) fn name(self) -> &'static str
         ensures { names.workload_of result.now ≡ Some self }
     {
         match self {
@@ -62,7 +62,7 @@ impl Workload {
     }
 
     /// The width that it is laid out within, in columns.
-    pub fn width(self) -> usize
+    pub(crate) fn width(self) -> usize
         ensures { result ≡ names.width_of self }
     {
         match self {
@@ -73,7 +73,7 @@ impl Workload {
     }
 
     /// The size at which its layout is compared.
-    pub fn small_size(self) -> usize
+    pub(crate) fn small_size(self) -> usize
         ensures { result ≡ names.small_size_of self }
     {
         match self {
@@ -84,7 +84,7 @@ impl Workload {
     }
 
     /// The sizes at which it is timed.
-    pub fn full_sizes(self) -> &'static [usize]
+    pub(crate) fn full_sizes(self) -> &'static [usize]
         ensures { result.now ≡ names.full_sizes_of self }
     {
         match self {
@@ -98,7 +98,7 @@ impl Workload {
     }
 
     /// Why it is not timed at a size, if so.
-    pub fn obstacle(self, size: usize) -> Option<&'static str>
+    pub(crate) fn obstacle(self, size: usize) -> Option<&'static str>
         ensures { option_copied result ≡ names.obstacle_of self size }
     {
         match self {
@@ -112,7 +112,7 @@ impl Workload {
 }
 
 /// The workload of that name.
-pub fn workload_named(word: &str) -> Option<Workload>
+pub(crate) fn workload_named(word: &str) -> Option<Workload>
     ensures { result ≡ names.workload_of word.now }
 {
     match word.as_bytes() {
