@@ -147,10 +147,12 @@ impl<'a, D: DocPlace<'a>> DocAllocator<'a> for D {
         DocBuilder(self, doc).into_doc()
     }
 
+    #[inline(always)]
     fn nil(&'a self) -> Result<DocBuilder<'a, D>, BuildError> {
         Ok(DocBuilder::new(self, Doc::Nil))
     }
 
+    #[inline(always)]
     fn fail(&'a self) -> Result<DocBuilder<'a, D>, BuildError> {
         Ok(DocBuilder::new(self, Doc::Fail))
     }
@@ -160,6 +162,7 @@ impl<'a, D: DocPlace<'a>> DocAllocator<'a> for D {
         Ok(DocBuilder::new(self, Doc::Text(text)))
     }
 
+    #[inline(always)]
     fn text(&'a self, text: CowStr<'a>) -> Result<DocBuilder<'a, D>, BuildError> {
         text.pretty(self)
     }
@@ -181,6 +184,7 @@ impl<'a, D: DocPlace<'a>> DocAllocator<'a> for D {
         reflow(self, text)
     }
 
+    #[inline(always)]
     fn hard_line(&'a self) -> Result<DocBuilder<'a, D>, BuildError> {
         Ok(DocBuilder::new(self, Doc::HardLine))
     }
@@ -189,10 +193,12 @@ impl<'a, D: DocPlace<'a>> DocAllocator<'a> for D {
         self.hard_line()
     }
 
+    #[inline(always)]
     fn weak_line(&'a self) -> Result<DocBuilder<'a, D>, BuildError> {
         Ok(DocBuilder::new(self, Doc::WeakLine))
     }
 
+    #[inline(always)]
     fn space(&'a self) -> Result<DocBuilder<'a, D>, BuildError> {
         Ok(DocBuilder::new(self, Doc::space()))
     }
@@ -201,26 +207,32 @@ impl<'a, D: DocPlace<'a>> DocAllocator<'a> for D {
         spaces(self, count)
     }
 
+    #[inline(always)]
     fn weak_space(&'a self) -> Result<DocBuilder<'a, D>, BuildError> {
         Ok(DocBuilder::new(self, Doc::WeakSpace))
     }
 
+    #[inline(always)]
     fn expand_parent(&'a self) -> Result<DocBuilder<'a, D>, BuildError> {
         Ok(DocBuilder::new(self, Doc::ExpandParent))
     }
 
+    #[inline(always)]
     fn line(&'a self) -> Result<DocBuilder<'a, D>, BuildError> {
         Ok(DocBuilder::new(self, Doc::line(self)?))
     }
 
+    #[inline(always)]
     fn line_(&'a self) -> Result<DocBuilder<'a, D>, BuildError> {
         Ok(DocBuilder::new(self, Doc::line_(self)?))
     }
 
+    #[inline(always)]
     fn softline(&'a self) -> Result<DocBuilder<'a, D>, BuildError> {
         self.line()?.group()
     }
 
+    #[inline(always)]
     fn softline_(&'a self) -> Result<DocBuilder<'a, D>, BuildError> {
         self.line_()?.group()
     }

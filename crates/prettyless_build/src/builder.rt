@@ -21,6 +21,7 @@ impl<'a, D: DocPlace<'a>> Drop for DocBuilder<'a, D> {
 
 impl<'a, D: DocPlace<'a>> DocBuilder<'a, D> {
     /// A node that is not placed yet.
+    #[inline(always)]
     pub fn new(allocator: &'a D, doc: Doc<'a, D::Doc>) -> Self
         ensures { result.1 ≡ Plain doc.entry }
     {
@@ -28,6 +29,7 @@ impl<'a, D: DocPlace<'a>> DocBuilder<'a, D> {
     }
 
     /// The node, wherever it is.
+    #[inline(always)]
     pub fn doc(&self) -> &Doc<'a, D::Doc>
         ensures { tree_of D.Doc.tree result.now ≡ built D.Doc.tree self.now.1 }
     {
@@ -36,6 +38,7 @@ impl<'a, D: DocPlace<'a>> DocBuilder<'a, D> {
 
     /// A pointer to the document: its own where it has one, which takes no memory, and else that of
     /// a new node, or an error where memory is refused.
+    #[inline(always)]
     pub fn into_doc(self) -> Result<D::Doc, BuildError>
         ensures ok { IfOk result (λ p. D.Doc.tree p ≡ built D.Doc.tree self.entry.1) }
         ensures placed { to.IfPlaced self.entry.1 (λ p. result ≡ Ok p) }
@@ -48,6 +51,7 @@ impl<'a, D: DocPlace<'a>> DocBuilder<'a, D> {
     }
 
     // The document alone.
+    #[inline(always)]
     pub(crate) fn into_build_doc(self) -> BuildDoc<'a, D::Doc>
         ensures { result ≡ self.entry.1 }
     {
@@ -57,6 +61,7 @@ impl<'a, D: DocPlace<'a>> DocBuilder<'a, D> {
 
     /// `append` of what is a builder already. Where one of the two is nothing it is the other as it is,
     /// which takes no memory; else memory may be refused.
+    #[inline(always)]
     pub fn join(self, that: DocBuilder<'a, D>) -> Result<Self, BuildError>
         ensures ok { IfOk result (λ b. built D.Doc.tree b.1
             ≡ to.append (built D.Doc.tree self.entry.1) (built D.Doc.tree that.entry.1)) }
@@ -78,6 +83,7 @@ impl<'a, D: DocPlace<'a>> DocBuilder<'a, D> {
 
     /// This document, then `that`. Where one of them is nothing it is the other as it is, and only
     /// the making of `that` can fail; else memory may be refused too.
+    #[inline(always)]
     pub fn append<E: Pretty<'a, D>>(self, that: E) -> Result<Self, BuildError>
         ensures ok { IfOk result (λ b. (y : Tree) × E.becomes that y
             × (built D.Doc.tree b.1 ≡ to.append (built D.Doc.tree self.entry.1) y)) }
@@ -91,6 +97,7 @@ impl<'a, D: DocPlace<'a>> DocBuilder<'a, D> {
 
     /// This document, laid flat where it fits the line with what follows up to the next line break, and else broken.
     /// Where it is nothing, a text or a group, it stays as it is, which takes no memory; else memory may be refused.
+    #[inline(always)]
     pub fn group(self) -> Result<Self, BuildError>
         ensures { to.BuildsOrKeeps result (λ b. built D.Doc.tree b.1)
             (to.group (built D.Doc.tree self.entry.1))

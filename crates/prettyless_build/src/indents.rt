@@ -9,6 +9,7 @@ use prettyless_doc::{BuildError, Doc, DocPlace};
 impl<'a, D: DocPlace<'a>> DocBuilder<'a, D> {
     /// This document with its indent moved by so many columns. By 0, or where it is nothing, it stays
     /// as it is, which takes no memory; else memory may be refused.
+    #[inline(always)]
     pub fn nest(self, offset: isize) -> Result<Self, BuildError>
         ensures { to.BuildsOrKeeps result (λ b. built D.Doc.tree b.1)
             (to.nest offset (built D.Doc.tree self.entry.1))

@@ -26,6 +26,7 @@ impl<'a, D: DocPlace<'a>> Pretty<'a, D> for Doc<'a, D::Doc> {
 
     ghost refuses = { λ _ _. ⊥ };
 
+    #[inline(always)]
     fn pretty(self, allocator: &'a D) -> Result<DocBuilder<'a, D>, BuildError> {
         Ok(DocBuilder::new(allocator, self))
     }
@@ -37,6 +38,7 @@ impl<'a, D: DocPlace<'a>> Pretty<'a, D> for BuildDoc<'a, D::Doc> {
 
     ghost refuses = { λ _ _. ⊥ };
 
+    #[inline(always)]
     fn pretty(self, allocator: &'a D) -> Result<DocBuilder<'a, D>, BuildError> {
         Ok(DocBuilder(allocator, self))
     }
@@ -48,6 +50,7 @@ impl<'a, D: DocPlace<'a>> Pretty<'a, D> for DocBuilder<'a, D> {
 
     ghost refuses = { λ _ _. ⊥ };
 
+    #[inline(always)]
     fn pretty(self, _allocator: &'a D) -> Result<DocBuilder<'a, D>, BuildError> {
         Ok(self)
     }
@@ -59,6 +62,7 @@ impl<'a, D: DocPlace<'a>, T: Pretty<'a, D>> Pretty<'a, D> for Option<T> {
 
     ghost refuses = { λ o e. MatchOption o ⊥ (λ v. T.refuses v e) };
 
+    #[inline(always)]
     fn pretty(self, allocator: &'a D) -> Result<DocBuilder<'a, D>, BuildError> {
         match self {
             Some(value) => value.pretty(allocator),
@@ -73,6 +77,7 @@ impl<'a, D: DocPlace<'a>> Pretty<'a, D> for () {
 
     ghost refuses = { λ _ _. ⊥ };
 
+    #[inline(always)]
     fn pretty(self, allocator: &'a D) -> Result<DocBuilder<'a, D>, BuildError> {
         Ok(DocBuilder::new(allocator, Doc::Nil))
     }

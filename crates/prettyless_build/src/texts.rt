@@ -16,6 +16,7 @@ impl<'a, D: DocPlace<'a>> Pretty<'a, D> for CowStr<'a> {
 
     ghost refuses = { λ s e. IsOwnedAnd s (IsMemory e) };
 
+    #[inline(always)]
     fn pretty(self, allocator: &'a D) -> Result<DocBuilder<'a, D>, BuildError> {
         let doc = Doc::text(allocator.memory(), self)?;
         Ok(DocBuilder::new(allocator, doc))
@@ -27,6 +28,7 @@ impl<'a, D: DocPlace<'a>> Pretty<'a, D> for &'a str {
 
     ghost refuses = { λ _ _. ⊥ };
 
+    #[inline(always)]
     fn pretty(self, allocator: &'a D) -> Result<DocBuilder<'a, D>, BuildError> {
         CowStr::Borrowed(self).pretty(allocator)
     }
@@ -37,6 +39,7 @@ impl<'a, D: DocPlace<'a>> Pretty<'a, D> for &'a String {
 
     ghost refuses = { λ _ _. ⊥ };
 
+    #[inline(always)]
     fn pretty(self, allocator: &'a D) -> Result<DocBuilder<'a, D>, BuildError> {
         CowStr::Borrowed(self.as_str()).pretty(allocator)
     }
@@ -47,6 +50,7 @@ impl<'a, D: DocPlace<'a>> Pretty<'a, D> for String {
 
     ghost refuses = { λ _ e. IsMemory e };
 
+    #[inline(always)]
     fn pretty(self, allocator: &'a D) -> Result<DocBuilder<'a, D>, BuildError> {
         CowStr::Owned(self).pretty(allocator)
     }

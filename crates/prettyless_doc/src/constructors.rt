@@ -75,6 +75,7 @@ impl<'a, T: DocPtr<'a>> Doc<'a, T> {
 
 impl<'a, T> Doc<'a, T> {
     /// A line break, or one space where lines are flat. It fails where memory is refused.
+    #[inline(always)]
     pub fn line<D: DocPlace<'a, Doc = T>>(place: &'a D) -> Result<Self, BuildError>
         ensures ok { IfOk result (λ d. tree_of T.tree d ≡ line) }
         ensures err { IfErr result IsMemory }
@@ -85,6 +86,7 @@ impl<'a, T> Doc<'a, T> {
     }
 
     /// A line break, or nothing where lines are flat. It fails where memory is refused.
+    #[inline(always)]
     pub fn line_<D: DocPlace<'a, Doc = T>>(place: &'a D) -> Result<Self, BuildError>
         ensures ok { IfOk result (λ d. tree_of T.tree d ≡ line_) }
         ensures err { IfErr result IsMemory }
@@ -189,6 +191,7 @@ impl<'a, D: DocPtr<'a>> BuildDoc<'a, D> {
 
 impl<'a, T> BuildDoc<'a, T> {
     /// A line break, or one space where lines are flat. It fails where memory is refused.
+    #[inline(always)]
     pub fn line<D: DocPlace<'a, Doc = T>>(place: &'a D) -> Result<Self, BuildError>
         ensures ok { IfOk result (λ d. built T.tree d ≡ line) }
         ensures err { IfErr result IsMemory }
@@ -197,6 +200,7 @@ impl<'a, T> BuildDoc<'a, T> {
     }
 
     /// A line break, or nothing where lines are flat. It fails where memory is refused.
+    #[inline(always)]
     pub fn line_<D: DocPlace<'a, Doc = T>>(place: &'a D) -> Result<Self, BuildError>
         ensures ok { IfOk result (λ d. built T.tree d ≡ line_) }
         ensures err { IfErr result IsMemory }

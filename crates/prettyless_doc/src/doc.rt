@@ -59,6 +59,7 @@ pub enum Doc<'a, T> {
 
 impl<'a, T: DocPtr<'a>> Doc<'a, T> {
     /// Whether the document is nothing.
+    #[inline(always)]
     pub fn is_nil(&self) -> bool
         ensures { result ≡ is_nil (tree_of T.tree self.now) }
     {
@@ -87,6 +88,7 @@ pub enum BuildDoc<'a, D> {
 
 impl<'a, D: DocPtr<'a>> BuildDoc<'a, D> {
     /// The node, wherever it is.
+    #[inline(always)]
     pub fn doc(&self) -> &Doc<'a, D>
         ensures { tree_of D.tree result.now ≡ built D.tree self.now }
     {

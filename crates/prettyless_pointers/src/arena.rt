@@ -26,6 +26,7 @@ pub struct RefDoc<'a>(pub &'a Doc<'a, RefDoc<'a>>);
 impl<'a> DocPtr<'a> for RefDoc<'a> {
     ghost tree = { ref_tree };
 
+    #[inline(always)]
     fn doc(&self) -> &Doc<'a, RefDoc<'a>> {
         self.0
     }
@@ -53,6 +54,7 @@ impl<'a> Pretty<'a, Arena<'a>> for RefDoc<'a> {
 
     ghost refuses = { λ _ _. ⊥ };
 
+    #[inline(always)]
     fn pretty(self, allocator: &'a Arena<'a>) -> Result<DocBuilder<'a, Arena<'a>>, BuildError> {
         Ok(DocBuilder(allocator, BuildDoc::DocPtr(self)))
     }
@@ -142,6 +144,8 @@ fn settle_payload<'a>(
     Ok(payload.over(source))
 }
 
+// A node that holds a box gives up the box for a copy in the arena.
+#[cold]
 fn settle<'a>(bump: &'a Bump, doc: Doc<'a, RefDoc<'a>>) -> Result<Doc<'a, RefDoc<'a>>, BuildError>
     ensures same { IfOk result (λ d. tree_of ref_tree d ≡ tree_of ref_tree doc.entry) }
     ensures settled { IfOk result (λ d. holds_memory d ≡ false) }
@@ -155,24 +159,54 @@ fn settle<'a>(bump: &'a Bump, doc: Doc<'a, RefDoc<'a>>) -> Result<Doc<'a, RefDoc
     })
 }
 
-impl<'a> DocPlace<'a> for Arena<'a> {
-    type Doc = RefDoc<'a>;
+// Whether a node holds a box.
+#[inline(always)]
+fn holds_box<'a>(doc: &Doc<'a, RefDoc<'a>>) -> bool
+    ensures { result ≡ holds_memory doc.now }
+{
+    match doc {
+        Doc::Text(text) | Doc::TextWithLen(_, text) => matches!(text, Text::Owned(_)),
+        Doc::MultilineText(payload) => payload.is_owned(),
+        _ => false,
+    }
+}
 
-    /// Puts a node into the arena, with a copy of its text where it has memory of its own, so that no node in the arena
-    /// holds a box.
-    fn alloc(&'a self, doc: Doc<'a, RefDoc<'a>>) -> Result<RefDoc<'a>, BuildError>
+impl<'a> Arena<'a> {
+    // Puts a node without a box into the bump.
+    #[inline(always)]
+    fn put(&self, doc: Doc<'a, RefDoc<'a>>) -> Result<RefDoc<'a>, BuildError>
+        requires { holds_memory doc ≡ false }
         ensures ok { IfOk result (λ p. ref_tree p ≡ tree_of ref_tree doc.entry) }
         ensures settled { IfOk result (λ p. holds_memory (out-RefDoc p).0.now ≡ false) }
         ensures err { IfErr result IsMemory }
     {
         let bump: &'a Bump = self.bump;
-        let doc = settle(bump, doc)?;
         let node: &'a Doc<'a, RefDoc<'a>> = bump.try_alloc(doc)?;
         self.placed.set(self.placed.get().saturating_add(1));
         Ok(RefDoc(node))
     }
+}
+
+impl<'a> DocPlace<'a> for Arena<'a> {
+    type Doc = RefDoc<'a>;
+
+    /// Puts a node into the arena, with a copy of its text where it has memory of its own, so that no node in the arena
+    /// holds a box.
+    #[inline(always)]
+    fn alloc(&'a self, doc: Doc<'a, RefDoc<'a>>) -> Result<RefDoc<'a>, BuildError>
+        ensures ok { IfOk result (λ p. ref_tree p ≡ tree_of ref_tree doc.entry) }
+        ensures settled { IfOk result (λ p. holds_memory (out-RefDoc p).0.now ≡ false) }
+        ensures err { IfErr result IsMemory }
+    {
+        if holds_box(&doc) {
+            let doc = settle(self.bump, doc)?;
+            return self.put(doc);
+        }
+        self.put(doc)
+    }
 
     /// The same pointer, which takes no memory.
+    #[inline(always)]
     fn clone_ptr(&'a self, pointer: &RefDoc<'a>) -> Result<RefDoc<'a>, BuildError>
         ensures ok { IfOk result (λ p. ref_tree p ≡ ref_tree pointer.now) }
         ensures same { result ≡ Ok pointer.now }
