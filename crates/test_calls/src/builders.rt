@@ -1,130 +1,155 @@
 //! Each call of a builder once, with ample memory.
-use crate::expected::shows;
+use crate::expected::{built, shows};
 use prettyless::prelude::*;
-use prettyless::text::{BuildError, CowStr};
+use prettyless::text::CowStr;
 use prettyless::{BuildDoc, Doc, DocBuilder};
 use std::process::Abort;
-use std::test::Fail;
+
+fn nothing<'a, D: DocPlace<'a>>(place: &'a D) -> DocBuilder<'a, D> {
+    DocBuilder::new(place, Doc::Nil)
+}
+
+fn failure<'a, D: DocPlace<'a>>(place: &'a D) -> DocBuilder<'a, D> {
+    DocBuilder::new(place, Doc::Fail)
+}
+
+fn blank<'a, D: DocPlace<'a>>(place: &'a D) -> DocBuilder<'a, D> {
+    DocBuilder::new(place, Doc::space())
+}
 
 fn line<'a, D: DocPlace<'a>>(place: &'a D) -> DocBuilder<'a, D> {
     DocBuilder::new(place, Doc::HardLine)
 }
 
-pub(crate) fn sums<'a, D: DocPlace<'a>>(rt: &impl Abort, place: &'a D) -> Result<(), Fail> {
-    shows(rt, place.hard_line()?.append("a"), "[HardLine, \"a\"]")?;
-    shows(rt, place.hard_line()?.append(""), "HardLine")?;
-    shows(rt, place.nil()?.append("a"), "\"a\"")?;
-    shows(rt, place.hard_line()? + "a", "[HardLine, \"a\"]")
+fn weak<'a, D: DocPlace<'a>>(place: &'a D) -> DocBuilder<'a, D> {
+    DocBuilder::new(place, Doc::WeakLine)
 }
 
-pub(crate) fn joins<'a, D: DocPlace<'a>>(rt: &impl Abort, place: &'a D) -> Result<(), Fail> {
-    shows(rt, place.space()?.join(line(place)), "[\" \", HardLine]")?;
-    shows(rt, place.nil()?.join(line(place)), "HardLine")
+pub(crate) fn sums<'a, D: DocPlace<'a>>(rt: &impl Abort, place: &'a D) {
+    shows(rt, line(place).append("a"), "[HardLine, \"a\"]");
+    shows(rt, line(place).append(""), "HardLine");
+    shows(rt, nothing(place).append("a"), "\"a\"");
+    shows(rt, line(place) + "a", "[HardLine, \"a\"]");
 }
 
-pub(crate) fn repeats<'a, D: DocPlace<'a>>(rt: &impl Abort, place: &'a D) -> Result<(), Fail> {
-    shows(rt, place.weak_line()?.repeat(0), "Nil")?;
-    shows(rt, place.weak_line()?.repeat(1), "WeakLine")?;
-    let three = place.weak_line()?.repeat(3);
-    shows(rt, three, "[WeakLine, WeakLine, WeakLine]")
+pub(crate) fn joins<'a, D: DocPlace<'a>>(rt: &impl Abort, place: &'a D) {
+    shows(rt, blank(place).join(line(place)), "[\" \", HardLine]");
+    shows(rt, nothing(place).join(line(place)), "HardLine");
 }
 
-pub(crate) fn choices<'a, D: DocPlace<'a>>(rt: &impl Abort, place: &'a D) -> Result<(), Fail> {
-    let comma = place.hard_line()?.flat_alt(",");
-    shows(rt, comma, "FlatOrBreak(\",\", HardLine)")?;
-    shows(rt, place.space()?.when_group_flat(), "WhenFlat(\" \")")?;
-    shows(rt, place.space()?.when_group_break(), "WhenBreak(\" \")")
+pub(crate) fn repeats<'a, D: DocPlace<'a>>(rt: &impl Abort, place: &'a D) {
+    shows(rt, weak(place).repeat(0), "Nil");
+    shows(rt, weak(place).repeat(1), "WeakLine");
+    shows(rt, weak(place).repeat(3), "[WeakLine, WeakLine, WeakLine]");
 }
 
-pub(crate) fn unions<'a, D: DocPlace<'a>>(rt: &impl Abort, place: &'a D) -> Result<(), Fail> {
-    let whole = place.space()?.union(BuildDoc::Doc(Doc::HardLine));
-    shows(rt, whole, "Union(\" \", HardLine)")?;
-    let first_line = place.space()?.partial_union(BuildDoc::Doc(Doc::Fail));
-    shows(rt, first_line, "PartialUnion(\" \", Fail)")
-}
-
-pub(crate) fn nests<'a, D: DocPlace<'a>>(rt: &impl Abort, place: &'a D) -> Result<(), Fail> {
-    shows(rt, place.hard_line()?.nest(-2), "Nest(-2, HardLine)")?;
-    shows(rt, place.hard_line()?.nest(0), "HardLine")?;
-    shows(rt, place.nil()?.nest(2), "Nil")?;
-    shows(rt, place.hard_line()?.indent(2), "Nest(2, HardLine)")?;
-    shows(rt, place.hard_line()?.dedent(2), "Nest(-2, HardLine)")
-}
-
-pub(crate) fn roots<'a, D: DocPlace<'a>>(rt: &impl Abort, place: &'a D) -> Result<(), Fail> {
-    shows(rt, place.hard_line()?.align(), "Align(HardLine)")?;
-    let root = place.hard_line()?.dedent_to_root();
-    shows(rt, root, "DedentToRoot(HardLine)")
-}
-
-pub(crate) fn groups<'a, D: DocPlace<'a>>(rt: &impl Abort, place: &'a D) -> Result<(), Fail> {
-    shows(rt, place.hard_line()?.group(), "Group(HardLine)")?;
-    shows(rt, place.nil()?.group(), "Nil")?;
-    shows(rt, place.space()?.group(), "\" \"")?;
-    shows(rt, place.softline()?.group(), "SoftLineOrSpace")
-}
-
-pub(crate) fn flat<'a, D: DocPlace<'a>>(rt: &impl Abort, place: &'a D) -> Result<(), Fail> {
-    shows(rt, place.weak_line()?.flatten(), "Flatten(WeakLine)")?;
+pub(crate) fn choices<'a, D: DocPlace<'a>>(rt: &impl Abort, place: &'a D) {
     shows(
         rt,
-        place.weak_line()?.flatten()?.flatten(),
+        line(place).flat_alt(","),
+        "FlatOrBreak(\",\", HardLine)",
+    );
+    shows(rt, blank(place).when_group_flat(), "WhenFlat(\" \")");
+    shows(rt, blank(place).when_group_break(), "WhenBreak(\" \")");
+}
+
+pub(crate) fn unions<'a, D: DocPlace<'a>>(rt: &impl Abort, place: &'a D) {
+    let whole = blank(place).union(BuildDoc::Doc(Doc::HardLine));
+    shows(rt, whole, "Union(\" \", HardLine)");
+    let first_line = blank(place).partial_union(BuildDoc::Doc(Doc::Fail));
+    shows(rt, first_line, "PartialUnion(\" \", Fail)");
+}
+
+pub(crate) fn nests<'a, D: DocPlace<'a>>(rt: &impl Abort, place: &'a D) {
+    shows(rt, line(place).nest(-2), "Nest(-2, HardLine)");
+    shows(rt, line(place).nest(0), "HardLine");
+    shows(rt, nothing(place).nest(2), "Nil");
+    shows(rt, line(place).indent(2), "Nest(2, HardLine)");
+    shows(rt, line(place).dedent(2), "Nest(-2, HardLine)");
+}
+
+pub(crate) fn roots<'a, D: DocPlace<'a>>(rt: &impl Abort, place: &'a D) {
+    shows(rt, line(place).align(), "Align(HardLine)");
+    shows(rt, line(place).dedent_to_root(), "DedentToRoot(HardLine)");
+}
+
+pub(crate) fn groups<'a, D: DocPlace<'a>>(rt: &impl Abort, place: &'a D) {
+    shows(rt, line(place).group(), "Group(HardLine)");
+    shows(rt, nothing(place).group(), "Nil");
+    shows(rt, blank(place).group(), "\" \"");
+    shows(rt, built(rt, place.softline()).group(), "SoftLineOrSpace");
+}
+
+pub(crate) fn flat<'a, D: DocPlace<'a>>(rt: &impl Abort, place: &'a D) {
+    shows(rt, weak(place).flatten(), "Flatten(WeakLine)");
+    shows(
+        rt,
+        built(rt, weak(place).flatten()).flatten(),
         "Flatten(WeakLine)",
-    )?;
-    shows(rt, place.space()?.flatten(), "\" \"")?;
-    shows(rt, place.hard_line()?.flatten(), "Fail")
+    );
+    shows(rt, blank(place).flatten(), "\" \"");
+    shows(rt, line(place).flatten(), "Fail");
 }
 
-fn payload<'a, D: DocPlace<'a>>(place: &'a D) -> Result<DocBuilder<'a, D>, BuildError> {
-    place.multiline_text(CowStr::Borrowed("a\n"))
+fn payload<'a, D: DocPlace<'a>>(rt: &impl Abort, place: &'a D) -> DocBuilder<'a, D> {
+    built(rt, place.multiline_text(CowStr::Borrowed("a\n")))
 }
 
-pub(crate) fn payloads<'a, D: DocPlace<'a>>(rt: &impl Abort, place: &'a D) -> Result<(), Fail> {
-    shows(rt, payload(place)?.group(), "MultilineText(\"a\\n\")")?;
-    shows(rt, payload(place)?.flatten(), "Fail")
+pub(crate) fn payloads<'a, D: DocPlace<'a>>(rt: &impl Abort, place: &'a D) {
+    shows(rt, payload(rt, place).group(), "MultilineText(\"a\\n\")");
+    shows(rt, payload(rt, place).flatten(), "Fail");
 }
 
-pub(crate) fn suffixes<'a, D: DocPlace<'a>>(rt: &impl Abort, place: &'a D) -> Result<(), Fail> {
+pub(crate) fn suffixes<'a, D: DocPlace<'a>>(rt: &impl Abort, place: &'a D) {
     let once = "LineSuffix(\" \")";
-    shows(rt, place.space()?.as_line_suffix(), once)?;
-    shows(rt, place.space()?.as_line_suffix()?.as_line_suffix(), once)?;
-    shows(rt, place.nil()?.as_line_suffix(), "Nil")
-}
-
-pub(crate) fn quotes<'a, D: DocPlace<'a>>(rt: &impl Abort, place: &'a D) -> Result<(), Fail> {
-    shows(rt, place.nil()?.single_quotes(), "[\"'\", \"'\"]")?;
-    let quoted = place.fail()?.double_quotes();
-    shows(rt, quoted, "[\"\\\"\", Fail, \"\\\"\"]")
-}
-
-pub(crate) fn brackets<'a, D: DocPlace<'a>>(rt: &impl Abort, place: &'a D) -> Result<(), Fail> {
-    shows(rt, place.fail()?.parens(), "[\"(\", Fail, \")\"]")?;
-    shows(rt, place.fail()?.angles(), "[\"<\", Fail, \">\"]")?;
-    shows(rt, place.fail()?.braces(), "[\"{\", Fail, \"}\"]")?;
-    shows(rt, place.fail()?.brackets(), "[\"[\", Fail, \"]\"]")?;
+    shows(rt, blank(place).as_line_suffix(), once);
     shows(
         rt,
-        place.fail()?.enclose("a", space()),
-        "[\"a\", Fail, \" \"]",
-    )
+        built(rt, blank(place).as_line_suffix()).as_line_suffix(),
+        once,
+    );
+    shows(rt, nothing(place).as_line_suffix(), "Nil");
 }
 
-// A space, or else `second`.
+pub(crate) fn quotes<'a, D: DocPlace<'a>>(rt: &impl Abort, place: &'a D) {
+    shows(rt, nothing(place).single_quotes(), "[\"'\", \"'\"]");
+    let quoted = failure(place).double_quotes();
+    shows(rt, quoted, "[\"\\\"\", Fail, \"\\\"\"]");
+}
+
+pub(crate) fn brackets<'a, D: DocPlace<'a>>(rt: &impl Abort, place: &'a D) {
+    shows(rt, failure(place).parens(), "[\"(\", Fail, \")\"]");
+    shows(rt, failure(place).angles(), "[\"<\", Fail, \">\"]");
+    shows(rt, failure(place).braces(), "[\"{\", Fail, \"}\"]");
+    shows(rt, failure(place).brackets(), "[\"[\", Fail, \"]\"]");
+    shows(
+        rt,
+        failure(place).enclose("a", space()),
+        "[\"a\", Fail, \" \"]",
+    );
+}
+
+// A space, or else what is made.
 fn space_or<'a, D: DocPlace<'a>>(
+    rt: &impl Abort,
     place: &'a D,
-    second: BuildDoc<'a, D::Doc>,
-) -> Result<DocBuilder<'a, D>, BuildError> {
-    DocBuilder::new(place, Doc::space()).union(second)
+    made: BuildDoc<'a, D::Doc>,
+    shown: &str,
+) {
+    shows(rt, blank(place).union(made), shown);
 }
 
 // Documents once more, as nodes, in the making and with a builder.
-pub(crate) fn copies<'a, D: DocPlace<'a>>(rt: &impl Abort, place: &'a D) -> Result<(), Fail> {
-    let line = place.hard_line()?.nest(2)?;
+pub(crate) fn copies<'a, D: DocPlace<'a>>(rt: &impl Abort, place: &'a D) {
+    let line = built(rt, line(place).nest(2));
     let copy = line.clone();
     drop(line);
-    shows(rt, copy, "Nest(2, HardLine)")?;
-    let line = BuildDoc::Doc(Doc::HardLine).clone(place)?;
-    shows(rt, space_or(place, line), "Union(\" \", HardLine)")?;
-    let line = BuildDoc::Doc(Doc::WeakLine.clone(place)?);
-    shows(rt, space_or(place, line), "Union(\" \", WeakLine)")
+    shows(rt, copy, "Nest(2, HardLine)");
+    let line = BuildDoc::Doc(Doc::HardLine).clone(place);
+    let line = line.expect(rt, "a document was not copied");
+    space_or(rt, place, line, "Union(\" \", HardLine)");
+    let line = Doc::WeakLine
+        .clone(place)
+        .expect(rt, "a node was not copied");
+    space_or(rt, place, BuildDoc::Doc(line), "Union(\" \", WeakLine)");
 }

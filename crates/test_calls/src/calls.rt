@@ -1,107 +1,102 @@
 //! Each call of an allocator once, with ample memory.
-use crate::expected::{Failing, points, refuses, shows};
+use crate::expected::{Failing, built, points, refuses, shows};
 use prettyless::prelude::*;
 use prettyless::text::{CowStr, Text};
 use prettyless::{BuildDoc, Doc, DocPtr};
 use std::fmt;
 use std::process::Abort;
-use std::test::Fail;
 
-pub(crate) fn leaves<'a, D: DocPlace<'a>>(rt: &impl Abort, place: &'a D) -> Result<(), Fail> {
-    shows(rt, place.nil(), "Nil")?;
-    shows(rt, place.fail(), "Fail")?;
-    shows(rt, place.hard_line(), "HardLine")?;
-    shows(rt, place.hardline(), "HardLine")?;
-    shows(rt, place.weak_line(), "WeakLine")
+pub(crate) fn leaves<'a, D: DocPlace<'a>>(rt: &impl Abort, place: &'a D) {
+    shows(rt, place.nil(), "Nil");
+    shows(rt, place.fail(), "Fail");
+    shows(rt, place.hard_line(), "HardLine");
+    shows(rt, place.hardline(), "HardLine");
+    shows(rt, place.weak_line(), "WeakLine");
 }
 
-pub(crate) fn blanks<'a, D: DocPlace<'a>>(rt: &impl Abort, place: &'a D) -> Result<(), Fail> {
-    shows(rt, place.space(), "\" \"")?;
-    shows(rt, place.weak_space(), "WeakSpace")?;
-    shows(rt, place.expand_parent(), "ExpandParent")
+pub(crate) fn blanks<'a, D: DocPlace<'a>>(rt: &impl Abort, place: &'a D) {
+    shows(rt, place.space(), "\" \"");
+    shows(rt, place.weak_space(), "WeakSpace");
+    shows(rt, place.expand_parent(), "ExpandParent");
 }
 
-pub(crate) fn lines<'a, D: DocPlace<'a>>(rt: &impl Abort, place: &'a D) -> Result<(), Fail> {
-    shows(rt, place.line(), "LineOrSpace")?;
-    shows(rt, place.line_(), "LineOrNil")?;
-    shows(rt, place.softline(), "SoftLineOrSpace")?;
-    shows(rt, place.softline_(), "SoftLineOrNil")
+pub(crate) fn lines<'a, D: DocPlace<'a>>(rt: &impl Abort, place: &'a D) {
+    shows(rt, place.line(), "LineOrSpace");
+    shows(rt, place.line_(), "LineOrNil");
+    shows(rt, place.softline(), "SoftLineOrSpace");
+    shows(rt, place.softline_(), "SoftLineOrNil");
 }
 
-pub(crate) fn texts<'a, D: DocPlace<'a>>(rt: &impl Abort, place: &'a D) -> Result<(), Fail> {
-    shows(rt, place.text(CowStr::Borrowed("ab")), "\"ab\"")?;
-    shows(rt, place.text(CowStr::Borrowed("")), "Nil")?;
-    shows(rt, place.ascii_text(CowStr::Borrowed("")), "\"\"")?;
-    shows(rt, place.as_string(16), "\"16\"")
+pub(crate) fn texts<'a, D: DocPlace<'a>>(rt: &impl Abort, place: &'a D) {
+    shows(rt, place.text(CowStr::Borrowed("ab")), "\"ab\"");
+    shows(rt, place.text(CowStr::Borrowed("")), "Nil");
+    shows(rt, place.ascii_text(CowStr::Borrowed("")), "\"\"");
+    shows(rt, place.as_string(16), "\"16\"");
 }
 
-pub(crate) fn payloads<'a, D: DocPlace<'a>>(rt: &impl Abort, place: &'a D) -> Result<(), Fail> {
+pub(crate) fn payloads<'a, D: DocPlace<'a>>(rt: &impl Abort, place: &'a D) {
     let payload = place.multiline_text(CowStr::Borrowed("a\nb"));
-    shows(rt, payload, "MultilineText(\"a\\nb\")")?;
-    shows(rt, place.multiline_text(CowStr::Borrowed("ab")), "\"ab\"")?;
-    shows(rt, place.multiline_text(CowStr::Borrowed("")), "Nil")
+    shows(rt, payload, "MultilineText(\"a\\nb\")");
+    shows(rt, place.multiline_text(CowStr::Borrowed("ab")), "\"ab\"");
+    shows(rt, place.multiline_text(CowStr::Borrowed("")), "Nil");
 }
 
 // A text that is not ASCII counts as its width.
-pub(crate) fn widths<'a, D: DocPlace<'a>>(rt: &impl Abort, place: &'a D) -> Result<(), Fail> {
-    let text = place.text(CowStr::Borrowed("\u{e9}"))?;
+pub(crate) fn widths<'a, D: DocPlace<'a>>(rt: &impl Abort, place: &'a D) {
+    let text = built(rt, place.text(CowStr::Borrowed("\u{e9}")));
     assert!(rt; matches!(text.doc(), Doc::TextWithLen(1, Text::Borrowed(_))));
-    Ok(())
 }
 
 // A short value is in its node.
-pub(crate) fn strings<'a, D: DocPlace<'a>>(rt: &impl Abort, place: &'a D) -> Result<(), Fail> {
-    let value = place.as_string(16)?;
+pub(crate) fn strings<'a, D: DocPlace<'a>>(rt: &impl Abort, place: &'a D) {
+    let value = built(rt, place.as_string(16));
     assert!(rt; matches!(value.doc(), Doc::Text(Text::Small(_))));
-    Ok(())
 }
 
-pub(crate) fn operands<'a, D: DocPlace<'a>>(rt: &impl Abort, place: &'a D) -> Result<(), Fail> {
-    shows(rt, place.pretty("a"), "\"a\"")?;
-    shows(rt, place.line_suffix("//"), "LineSuffix(\"//\")")?;
-    shows(rt, place.line_suffix(()), "LineSuffix(Nil)")?;
-    shows(rt, place.if_group_flat("a"), "WhenFlat(\"a\")")?;
-    shows(rt, place.if_group_break("b"), "WhenBreak(\"b\")")
+pub(crate) fn operands<'a, D: DocPlace<'a>>(rt: &impl Abort, place: &'a D) {
+    shows(rt, place.pretty("a"), "\"a\"");
+    shows(rt, place.line_suffix("//"), "LineSuffix(\"//\")");
+    shows(rt, place.line_suffix(()), "LineSuffix(Nil)");
+    shows(rt, place.if_group_flat("a"), "WhenFlat(\"a\")");
+    shows(rt, place.if_group_break("b"), "WhenBreak(\"b\")");
 }
 
-pub(crate) fn sequences<'a, D: DocPlace<'a>>(rt: &impl Abort, place: &'a D) -> Result<(), Fail> {
-    shows(
-        rt,
-        place.concat(["a", "", "b"].into_iter()),
-        "[\"a\", \"b\"]",
-    )?;
-    shows(rt, place.concat([""; 0].into_iter()), "Nil")?;
+pub(crate) fn sequences<'a, D: DocPlace<'a>>(rt: &impl Abort, place: &'a D) {
+    let items = place.concat(["a", "", "b"].into_iter());
+    shows(rt, items, "[\"a\", \"b\"]");
+    shows(rt, place.concat([""; 0].into_iter()), "Nil");
     let items = place.intersperse(["a", "b", "c"].into_iter(), line_or_space());
-    shows(rt, items, "[\"a\", LineOrSpace, \"b\", LineOrSpace, \"c\"]")?;
+    shows(rt, items, "[\"a\", LineOrSpace, \"b\", LineOrSpace, \"c\"]");
     let item = place.intersperse(["a"].into_iter(), ",");
-    shows(rt, item, "\"a\"")
+    shows(rt, item, "\"a\"");
 }
 
 // A separator becomes a document only where there is a gap.
-pub(crate) fn separators<'a, D: DocPlace<'a>>(rt: &impl Abort, place: &'a D) -> Result<(), Fail> {
+pub(crate) fn separators<'a, D: DocPlace<'a>>(rt: &impl Abort, place: &'a D) {
     let none = place.intersperse([""; 0].into_iter(), as_string(Failing));
-    shows(rt, none, "Nil")?;
+    shows(rt, none, "Nil");
     let item = place.intersperse(["a"].into_iter(), as_string(Failing));
-    shows(rt, item, "\"a\"")?;
+    shows(rt, item, "\"a\"");
     let items = place.intersperse(["a", "b"].into_iter(), as_string(Failing));
-    refuses(rt, items)
+    refuses(rt, items);
 }
 
-pub(crate) fn words<'a, D: DocPlace<'a>>(rt: &impl Abort, place: &'a D) -> Result<(), Fail> {
+pub(crate) fn words<'a, D: DocPlace<'a>>(rt: &impl Abort, place: &'a D) {
     let words = "[\"a\", SoftLineOrSpace, SoftLineOrSpace, \"b\"]";
-    shows(rt, place.reflow("a  b"), words)?;
-    shows(rt, place.reflow(" a"), "[SoftLineOrSpace, \"a\"]")?;
-    shows(rt, place.reflow(""), "Nil")
+    shows(rt, place.reflow("a  b"), words);
+    shows(rt, place.reflow(" a"), "[SoftLineOrSpace, \"a\"]");
+    shows(rt, place.reflow(""), "Nil");
 }
 
-pub(crate) fn gaps<'a, D: DocPlace<'a>>(rt: &impl Abort, place: &'a D) -> Result<(), Fail> {
-    shows(rt, place.spaces(0), "Nil")?;
-    shows(rt, place.spaces(3), "\"   \"")?;
+pub(crate) fn gaps<'a, D: DocPlace<'a>>(rt: &impl Abort, place: &'a D) {
+    shows(rt, place.spaces(0), "Nil");
+    shows(rt, place.spaces(3), "\"   \"");
     let memory = place.memory();
-    let hundred = format!(in memory; "\"{:100}\"", "")?;
-    shows(rt, place.spaces(100), hundred.as_str())?;
-    let three = format!(in memory; "[\"{:100}\", \"{:100}\", \"{:5}\"]", "", "", "")?;
-    shows(rt, place.spaces(205), three.as_str())
+    let hundred = format!(in memory; "\"{:100}\"", "").expect(rt, "memory was refused");
+    shows(rt, place.spaces(100), hundred.as_str());
+    let three = format!(in memory; "[\"{:100}\", \"{:100}\", \"{:5}\"]", "", "", "");
+    let three = three.expect(rt, "memory was refused");
+    shows(rt, place.spaces(205), three.as_str());
 }
 
 // The text of a node that is one.
@@ -112,38 +107,44 @@ fn text_of<'d, T>(node: &'d Doc<'_, T>) -> Option<&'d str> {
     }
 }
 
-// Two texts of this one and five spaces, in a chain to the left.
-fn chain<'a, T: DocPtr<'a>>(rt: &impl Abort, gap: &Doc<'a, T>, hundred: &str) -> Result<(), Fail> {
+// Whether a gap is two texts of this one and five spaces, in a chain to the left.
+fn is_chain<'a, T: DocPtr<'a>>(gap: &Doc<'a, T>, hundred: &str) -> bool {
     let Doc::Append(front, last) = gap else {
-        return Err(Fail::from("no chain"));
+        return false;
     };
     let Doc::Append(first, second) = front.doc() else {
-        return Err(Fail::from("no chain to the left"));
+        return false;
     };
-    assert_eq!(rt; text_of(first.doc()), Some(hundred));
-    assert_eq!(rt; text_of(second.doc()), Some(hundred));
-    assert_eq!(rt; text_of(last.doc()), Some("     "));
-    Ok(())
+    text_of(first.doc()) == Some(hundred)
+        && text_of(second.doc()) == Some(hundred)
+        && text_of(last.doc()) == Some("     ")
 }
 
 // A long gap is a chain to the left.
-pub(crate) fn chains<'a, D: DocPlace<'a>>(rt: &impl Abort, place: &'a D) -> Result<(), Fail> {
-    let hundred = format!(in place.memory(); "{:100}", "")?;
-    let gap = place.spaces(205)?;
-    chain(rt, gap.doc(), hundred.as_str())
+pub(crate) fn chains<'a, D: DocPlace<'a>>(rt: &impl Abort, place: &'a D) {
+    let hundred = format!(in place.memory(); "{:100}", "").expect(rt, "memory was refused");
+    let gap = built(rt, place.spaces(205));
+    assert!(rt; is_chain(gap.doc(), hundred.as_str()));
 }
 
 // Documents in the making, and what places them.
-pub(crate) fn nodes<'a, D: DocPlace<'a>>(rt: &impl Abort, place: &'a D) -> Result<(), Fail>
+pub(crate) fn nodes<'a, D: DocPlace<'a>>(rt: &impl Abort, place: &'a D)
 where
     D::Doc: fmt::Debug,
 {
     let memory = place.memory();
     let line = BuildDoc::Doc(Doc::HardLine);
-    points(rt, memory, place.alloc_cow(line), "HardLine")?;
-    let pointer = place.alloc(Doc::HardLine)?;
+    points(rt, memory, place.alloc_cow(line), "HardLine");
+    let pointer = place
+        .alloc(Doc::HardLine)
+        .expect(rt, "a node was not placed");
     let copy = place.clone_ptr(&pointer);
     drop(pointer);
-    points(rt, memory, copy, "HardLine")?;
-    points(rt, memory, place.line()?.into_doc(), "LineOrSpace")
+    points(rt, memory, copy, "HardLine");
+    points(
+        rt,
+        memory,
+        built(rt, place.line()).into_doc(),
+        "LineOrSpace",
+    );
 }

@@ -1,22 +1,28 @@
-//! What has to come out of a call.
+//! What has to come out of a call. A test ends at the first call that answers otherwise.
 use prettyless::prelude::*;
 use prettyless::text::{BuildError, CowStr};
-use prettyless::{BuildDoc, DocBuilder, DocPtr, RenderError};
+use prettyless::{BuildDoc, Doc, DocBuilder, DocPtr, RenderError};
 use std::alloc::Global;
 use std::fmt;
 use std::process::Abort;
-use std::test::Fail;
+
+// The document that a call answers.
+pub(crate) fn built<'a, D: DocPlace<'a>>(
+    rt: &impl Abort,
+    built: Result<DocBuilder<'a, D>, BuildError>,
+) -> DocBuilder<'a, D> {
+    built.expect(rt, "a document was not built")
+}
 
 // Compares what a document is shown as.
 pub(crate) fn shows<'a, D: DocPlace<'a>>(
     rt: &impl Abort,
     built: Result<DocBuilder<'a, D>, BuildError>,
     shown: &str,
-) -> Result<(), Fail> {
-    let built = built?;
-    let text = format!(in built.0.memory(); "{built:?}")?;
+) {
+    let built = built.expect(rt, "a document was not built");
+    let text = format!(in built.0.memory(); "{built:?}").expect(rt, "memory was refused");
     assert_eq!(rt; text.as_str(), shown);
-    Ok(())
 }
 
 // Compares what a placed document is shown as.
@@ -25,11 +31,10 @@ pub(crate) fn points<'a, T: DocPtr<'a> + fmt::Debug>(
     memory: Global,
     placed: Result<T, BuildError>,
     shown: &str,
-) -> Result<(), Fail> {
-    let pointer = placed?;
-    let text = format!(in memory; "{pointer:?}")?;
+) {
+    let pointer = placed.expect(rt, "a document was not placed");
+    let text = format!(in memory; "{pointer:?}").expect(rt, "memory was refused");
     assert_eq!(rt; text.as_str(), shown);
-    Ok(())
 }
 
 // Compares what the document of a value is shown as.
@@ -38,8 +43,8 @@ pub(crate) fn becomes<'a, D: DocPlace<'a>, P: Pretty<'a, D>>(
     place: &'a D,
     value: P,
     shown: &str,
-) -> Result<(), Fail> {
-    shows(rt, place.pretty(value), shown)
+) {
+    shows(rt, place.pretty(value), shown);
 }
 
 // What cannot be printed.
@@ -56,30 +61,46 @@ impl fmt::Display for Failing {
 pub(crate) fn refuses<'a, D: DocPlace<'a>>(
     rt: &impl Abort,
     built: Result<DocBuilder<'a, D>, BuildError>,
-) -> Result<(), Fail> {
+) {
     assert!(rt; matches!(built, Err(BuildError::Display)));
-    Ok(())
 }
 
-// What a document is rendered as at this width.
+// What a document is rendered as within 80 columns.
 pub(crate) fn rendered<'a, T: DocPtr<'a>>(
+    rt: &impl Abort,
     memory: Global,
-    document: &T,
-    width: usize,
-) -> Result<String, Fail> {
+    document: &Doc<'a, T>,
+) -> String {
     let mut out = String::new(memory);
-    document.doc().render_fmt(memory, width, &mut out)?;
-    Ok(out)
+    document
+        .render_fmt(memory, 80, &mut out)
+        .expect(rt, "a document was not laid out");
+    out
+}
+
+// Compares what a copy of a document in the making is shown as.
+fn copies<'a, D: DocPlace<'a>>(
+    rt: &impl Abort,
+    place: &'a D,
+    made: &BuildDoc<'a, D::Doc>,
+    shown: &str,
+) {
+    let copy = made.clone(place).expect(rt, "a document was not copied");
+    shows(rt, Ok(DocBuilder(place, copy)), shown);
 }
 
 // A document in the making between two letters.
 fn between<'a, D: DocPlace<'a>>(
+    rt: &impl Abort,
     place: &'a D,
     made: BuildDoc<'a, D::Doc>,
-) -> Result<DocBuilder<'a, D>, BuildError> {
-    let front = place.text(CowStr::Borrowed("a"))?;
-    let back = place.text(CowStr::Borrowed("b"))?;
-    front.join(DocBuilder(place, made))?.join(back)
+) -> DocBuilder<'a, D> {
+    let front = built(rt, place.text(CowStr::Borrowed("a")));
+    let back = built(rt, place.text(CowStr::Borrowed("b")));
+    built(
+        rt,
+        built(rt, front.join(DocBuilder(place, made))).join(back),
+    )
 }
 
 // Compares what a document in the making is shown as, and what it is rendered as between two letters.
@@ -89,13 +110,10 @@ pub(crate) fn is_built<'a, D: DocPlace<'a>>(
     made: BuildDoc<'a, D::Doc>,
     shown: &str,
     layout: &str,
-) -> Result<(), Fail> {
-    let copy = made.clone(place)?;
-    shows(rt, Ok(DocBuilder(place, copy)), shown)?;
-    let document = between(place, made)?.into_doc()?;
-    let out = rendered(place.memory(), &document, 80)?;
+) {
+    copies(rt, place, &made, shown);
+    let out = rendered(rt, place.memory(), between(rt, place, made).doc());
     assert_eq!(rt; out.as_str(), layout);
-    Ok(())
 }
 
 // The same of one that fails, after the first letter.
@@ -104,13 +122,11 @@ pub(crate) fn fails<'a, D: DocPlace<'a>>(
     place: &'a D,
     made: BuildDoc<'a, D::Doc>,
     shown: &str,
-) -> Result<(), Fail> {
-    let copy = made.clone(place)?;
-    shows(rt, Ok(DocBuilder(place, copy)), shown)?;
-    let document = between(place, made)?;
+) {
+    copies(rt, place, &made, shown);
+    let document = between(rt, place, made);
     let mut out = String::new(place.memory());
     let result = document.doc().render_fmt(place.memory(), 80, &mut out);
     assert!(rt; matches!(result, Err(RenderError::Document(_))));
     assert_eq!(rt; out.as_str(), "a");
-    Ok(())
 }

@@ -1,107 +1,107 @@
 //! The constructors of pointers, what outlives its owner, and what only one of the pointers has.
-use crate::expected::{Failing, points, rendered};
+use crate::expected::{Failing, built, points, rendered};
 use bumpalo::Bump;
 use prettyless::prelude::*;
 use prettyless::text::{BuildError, CowStr};
-use prettyless::{
-    Arena, BoxAllocator, BoxDoc, BuildDoc, Doc, DocBuilder, DocPtr, IntoRef, RcAllocator, RcDoc,
-};
+use prettyless::{Arena, BoxDoc, BuildDoc, Doc, DocBuilder, DocPtr, IntoRef, RcDoc};
 use std::alloc::Global;
 use std::fmt;
 use std::process::Abort;
-use std::test::Fail;
 
 pub(crate) fn leaves<'a, D: DocPlace<'a, Doc = T>, T: DocPtr<'a> + fmt::Debug>(
     rt: &impl Abort,
     place: &'a D,
-) -> Result<(), Fail> {
+) {
     let memory = place.memory();
-    points(rt, memory, T::nil(place), "Nil")?;
-    points(rt, memory, T::fail(place), "Fail")?;
-    points(rt, memory, T::hard_line(place), "HardLine")?;
-    points(rt, memory, T::hardline(place), "HardLine")?;
-    points(rt, memory, T::weak_line(place), "WeakLine")
+    points(rt, memory, T::nil(place), "Nil");
+    points(rt, memory, T::fail(place), "Fail");
+    points(rt, memory, T::hard_line(place), "HardLine");
+    points(rt, memory, T::hardline(place), "HardLine");
+    points(rt, memory, T::weak_line(place), "WeakLine");
 }
 
 pub(crate) fn blanks<'a, D: DocPlace<'a, Doc = T>, T: DocPtr<'a> + fmt::Debug>(
     rt: &impl Abort,
     place: &'a D,
-) -> Result<(), Fail> {
+) {
     let memory = place.memory();
-    points(rt, memory, T::space(place), "\" \"")?;
-    points(rt, memory, T::weak_space(place), "WeakSpace")?;
-    points(rt, memory, T::expand_parent(place), "ExpandParent")
+    points(rt, memory, T::space(place), "\" \"");
+    points(rt, memory, T::weak_space(place), "WeakSpace");
+    points(rt, memory, T::expand_parent(place), "ExpandParent");
 }
 
 pub(crate) fn lines<'a, D: DocPlace<'a, Doc = T>, T: DocPtr<'a> + fmt::Debug>(
     rt: &impl Abort,
     place: &'a D,
-) -> Result<(), Fail> {
+) {
     let memory = place.memory();
-    points(rt, memory, T::line(place), "LineOrSpace")?;
-    points(rt, memory, T::line_(place), "LineOrNil")?;
-    points(rt, memory, T::softline(place), "SoftLineOrSpace")?;
-    points(rt, memory, T::softline_(place), "SoftLineOrNil")
+    points(rt, memory, T::line(place), "LineOrSpace");
+    points(rt, memory, T::line_(place), "LineOrNil");
+    points(rt, memory, T::softline(place), "SoftLineOrSpace");
+    points(rt, memory, T::softline_(place), "SoftLineOrNil");
 }
 
 pub(crate) fn texts<'a, D: DocPlace<'a, Doc = T>, T: DocPtr<'a> + fmt::Debug>(
     rt: &impl Abort,
     place: &'a D,
-) -> Result<(), Fail> {
+) {
     let memory = place.memory();
-    points(rt, memory, T::text(place, CowStr::Borrowed("ab")), "\"ab\"")?;
-    points(rt, memory, T::as_string(place, 16), "\"16\"")?;
+    points(rt, memory, T::text(place, CowStr::Borrowed("ab")), "\"ab\"");
+    points(rt, memory, T::as_string(place, 16), "\"16\"");
     let payload = T::multiline_text(place, CowStr::Borrowed("a\nb"));
-    points(rt, memory, payload, "MultilineText(\"a\\nb\")")
+    points(rt, memory, payload, "MultilineText(\"a\\nb\")");
+}
+
+fn line<'a, D: DocPlace<'a>>(rt: &impl Abort, place: &'a D) -> D::Doc {
+    place
+        .alloc(Doc::HardLine)
+        .expect(rt, "a node was not placed")
 }
 
 pub(crate) fn wrappers<'a, D: DocPlace<'a, Doc = T>, T: DocPtr<'a> + fmt::Debug>(
     rt: &impl Abort,
     place: &'a D,
-) -> Result<(), Fail> {
+) {
     let memory = place.memory();
-    let line = place.alloc(Doc::HardLine)?;
-    points(rt, memory, line.group(place), "Group(HardLine)")?;
-    let line = place.alloc(Doc::HardLine)?;
-    points(rt, memory, line.nest(place, 2), "Nest(2, HardLine)")?;
-    let line = place.alloc(Doc::HardLine)?;
-    let union = line.union(place, BuildDoc::Doc(Doc::Fail));
-    points(rt, memory, union, "Union(HardLine, Fail)")
+    let grouped = line(rt, place).group(place);
+    points(rt, memory, grouped, "Group(HardLine)");
+    let nested = line(rt, place).nest(place, 2);
+    points(rt, memory, nested, "Nest(2, HardLine)");
+    let union = line(rt, place).union(place, BuildDoc::Doc(Doc::Fail));
+    points(rt, memory, union, "Union(HardLine, Fail)");
 }
 
 pub(crate) fn sums<'a, D: DocPlace<'a, Doc = T>, T: DocPtr<'a> + fmt::Debug>(
     rt: &impl Abort,
     place: &'a D,
-) -> Result<(), Fail> {
+) {
     let memory = place.memory();
-    let line = place.alloc(Doc::HardLine)?;
-    points(rt, memory, line.append(place, "a"), "[HardLine, \"a\"]")?;
-    let line = place.alloc(Doc::HardLine)?;
-    let comma = line.flat_alt(place, ",");
-    points(rt, memory, comma, "FlatOrBreak(\",\", HardLine)")
+    let sum = line(rt, place).append(place, "a");
+    points(rt, memory, sum, "[HardLine, \"a\"]");
+    let comma = line(rt, place).flat_alt(place, ",");
+    points(rt, memory, comma, "FlatOrBreak(\",\", HardLine)");
 }
 
 pub(crate) fn sequences<'a, D: DocPlace<'a, Doc = T>, T: DocPtr<'a> + fmt::Debug>(
     rt: &impl Abort,
     place: &'a D,
-) -> Result<(), Fail> {
+) {
     let memory = place.memory();
     let items = T::concat(place, ["a", "b"].into_iter());
-    points(rt, memory, items, "[\"a\", \"b\"]")?;
+    points(rt, memory, items, "[\"a\", \"b\"]");
     let items = T::intersperse(place, ["a", "b"].into_iter(), line_or_space());
-    points(rt, memory, items, "[\"a\", LineOrSpace, \"b\"]")
+    points(rt, memory, items, "[\"a\", LineOrSpace, \"b\"]");
 }
 
 pub(crate) fn separators<'a, D: DocPlace<'a, Doc = T>, T: DocPtr<'a> + fmt::Debug>(
     rt: &impl Abort,
     place: &'a D,
-) -> Result<(), Fail> {
+) {
     let memory = place.memory();
     let item = T::intersperse(place, ["a"].into_iter(), as_string(Failing));
-    points(rt, memory, item, "\"a\"")?;
+    points(rt, memory, item, "\"a\"");
     let items = T::intersperse(place, ["a", "b"].into_iter(), as_string(Failing));
     assert!(rt; matches!(items, Err(BuildError::Display)));
-    Ok(())
 }
 
 const LAYOUT: &str = "an owned text of more than 22 bytes\n  one\ntwo";
@@ -122,66 +122,65 @@ fn tree<'a, D: DocPlace<'a>>(place: &'a D) -> Result<D::Doc, BuildError> {
     lines.join(payload(place)?)?.nest(2)?.into_doc()
 }
 
-fn compare<'a, T: DocPtr<'a>>(rt: &impl Abort, memory: Global, document: &T) -> Result<(), Fail> {
-    let out = rendered(memory, document, 80)?;
-    assert_eq!(rt; out.as_str(), LAYOUT);
-    Ok(())
+fn compare<'a, D: DocPlace<'a>>(rt: &impl Abort, place: &'a D, document: &D::Doc, layout: &str) {
+    let out = rendered(rt, place.memory(), document.doc());
+    assert_eq!(rt; out.as_str(), layout);
 }
 
 // The first tree is given up before the second is rendered.
-pub(crate) fn clones<'a, D: DocPlace<'a>>(rt: &impl Abort, place: &'a D) -> Result<(), Fail> {
-    let first = tree(place)?;
-    compare(rt, place.memory(), &first)?;
-    let second = place.clone_ptr(&first)?;
+pub(crate) fn clones<'a, D: DocPlace<'a>>(rt: &impl Abort, place: &'a D) {
+    let first = tree(place).expect(rt, "a tree was not built");
+    compare(rt, place, &first, LAYOUT);
+    let second = place.clone_ptr(&first).expect(rt, "a tree was not copied");
     drop(first);
-    compare(rt, place.memory(), &second)
+    compare(rt, place, &second, LAYOUT);
 }
 
 #[test]
-fn boxes_are_cloned(rt: HostRuntime) -> Result<(), Fail> {
-    let line = BoxDoc::new(rt.alloc(), Doc::HardLine)?;
+fn boxes_are_cloned(rt: HostRuntime) {
+    let line = BoxDoc::new(rt.alloc(), Doc::HardLine).expect(&rt, "a node was not placed");
     let copy = line.clone(rt.alloc());
     drop(line);
-    points(&rt, rt.alloc(), copy, "HardLine")
+    points(&rt, rt.alloc(), copy, "HardLine");
 }
 
 #[test]
-fn counted_nodes_are_cloned(rt: HostRuntime) -> Result<(), Fail> {
-    let line = RcDoc::new(rt.alloc(), Doc::HardLine)?;
+fn counted_nodes_are_cloned(rt: HostRuntime) {
+    let line = RcDoc::new(rt.alloc(), Doc::HardLine).expect(&rt, "a node was not placed");
     let copy = line.clone();
     drop(line);
-    points(&rt, rt.alloc(), copy, "HardLine")
+    points(&rt, rt.alloc(), copy, "HardLine");
 }
 
-fn ends<'a, B: IntoRef<'a>>(rt: &impl Abort, memory: Global, line: B) -> Result<(), Fail> {
-    points(rt, memory, line.into_ref(), "LineOrSpace")
+fn ends<'a, B: IntoRef<'a>>(rt: &impl Abort, memory: Global, line: B) {
+    points(rt, memory, line.into_ref(), "LineOrSpace");
 }
 
-fn lent<'a>(rt: &impl Abort, memory: Global, arena: &'a Arena<'a>) -> Result<(), Fail> {
-    ends(rt, memory, arena.line()?)
+fn lent<'a>(rt: &impl Abort, memory: Global, arena: &'a Arena<'a>) {
+    ends(rt, memory, built(rt, arena.line()));
 }
 
 #[test]
-fn builders_end_in_an_arena(rt: HostRuntime) -> Result<(), Fail> {
+fn builders_end_in_an_arena(rt: HostRuntime) {
     let bump = Bump::new(rt.alloc());
     let arena = Arena::new(rt.alloc(), &bump);
-    lent(&rt, rt.alloc(), &arena)
+    lent(&rt, rt.alloc(), &arena);
 }
 
-fn counts<'a>(rt: &impl Abort, arena: &'a Arena<'a>) -> Result<(), Fail> {
+fn counts<'a>(rt: &impl Abort, arena: &'a Arena<'a>) {
     assert!(rt; arena.is_empty());
     assert_eq!(rt; arena.is_empty(), arena.len() == 0);
-    arena.alloc(Doc::HardLine)?;
+    let placed = arena.alloc(Doc::HardLine);
+    assert!(rt; placed.is_ok());
     assert_eq!(rt; arena.len(), 1);
     assert_eq!(rt; arena.is_empty(), arena.len() == 0);
-    Ok(())
 }
 
 #[test]
-fn arenas_are_empty_at_first(rt: HostRuntime) -> Result<(), Fail> {
+fn arenas_are_empty_at_first(rt: HostRuntime) {
     let bump = Bump::new(rt.alloc());
     let arena = Arena::new(rt.alloc(), &bump);
-    counts(&rt, &arena)
+    counts(&rt, &arena);
 }
 
 // Another tree with an owned text.
@@ -191,24 +190,25 @@ fn other<'a, D: DocPlace<'a>>(place: &'a D) -> Result<D::Doc, BuildError> {
     lines.append("three")?.nest(4)?.into_doc()
 }
 
-fn compare_other<'a, D: DocPlace<'a>>(rt: &impl Abort, place: &'a D) -> Result<(), Fail> {
-    let out = rendered(place.memory(), &other(place)?, 80)?;
-    assert_eq!(rt;
-        out.as_str(),
-        "another text of more than 22 bytes\n    three"
+fn compare_other<'a, D: DocPlace<'a>>(rt: &impl Abort, place: &'a D) {
+    let other = other(place).expect(rt, "a tree was not built");
+    compare(
+        rt,
+        place,
+        &other,
+        "another text of more than 22 bytes\n    three",
     );
-    Ok(())
 }
 
 // A bump that is reset takes the nodes of another arena.
 #[test]
-fn memory_is_used_again(rt: HostRuntime) -> Result<(), Fail> {
+fn memory_is_used_again(rt: HostRuntime) {
     let mut bump = Bump::new(rt.alloc());
     {
         let arena = Arena::new(rt.alloc(), &bump);
-        clones(&rt, &arena)?;
+        clones(&rt, &arena);
     }
-    bump.reset()?;
+    bump.reset().expect(&rt, "the bump was not reset");
     let arena = Arena::new(rt.alloc(), &bump);
-    compare_other(&rt, &arena)
+    compare_other(&rt, &arena);
 }

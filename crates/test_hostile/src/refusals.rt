@@ -108,25 +108,3 @@ fn a_payload_keeps_its_measures(rt: HostRuntime) -> Result<(), Fail> {
     assert_eq!(rt; payload.metrics().last_width, 1);
     Ok(())
 }
-
-// Borrowed texts take no room but that of their nodes. Where there is none left for a node, those before it stay.
-#[test]
-fn a_node_finds_no_room(rt: HostRuntime) -> Result<(), Fail> {
-    let memory = rt.alloc();
-    let bump = Bump::new(memory);
-    let arena = Arena::new(memory, &bump);
-    let first = arena.alloc(Doc::Text(Text::Borrowed("ab")))?;
-    bump.set_allocation_limit(Some(bump.allocated_bytes()));
-    let mut last = first;
-    let mut placed = 1;
-    for _ in 0..LETTERS {
-        if let Ok(group) = arena.alloc(Doc::Group(last)) {
-            last = group;
-            placed += 1;
-        }
-    }
-    assert!(rt; placed < 100);
-    assert_eq!(rt; arena.len(), placed);
-    assert_eq!(rt; layout(memory, last)?.as_str(), "ab");
-    Ok(())
-}
