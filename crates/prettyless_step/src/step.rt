@@ -165,6 +165,7 @@ fn flush_line<N: Walk>(
 }
 
 // A break: a hard one, or a weak one, which is nothing at the beginning of a line where no suffix is pending.
+#[inline(always)]
 fn break_line<N: Walk>(
     printer: &mut Printer<N>,
     indent: usize,
