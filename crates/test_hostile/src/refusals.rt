@@ -57,49 +57,57 @@ fn compare<'a>(
     Ok(placed)
 }
 
-#[test]
-fn an_owned_text_finds_no_room(rt: HostRuntime) -> Result<(), Fail> {
-    let memory = rt.alloc();
-    let bump = Bump::new(memory);
-    let arena = Arena::new(memory, &bump);
+fn texts<'a>(rt: &impl Abort, bump: &'a Bump, arena: &'a Arena<'a>) -> Result<(), Fail> {
+    let memory = arena.memory();
     let refused = Doc::Text(text_of(memory)?);
     let again = Doc::Text(text_of(memory)?);
-    let placed = compare(&rt, memory, &bump, &arena, refused, again)?;
+    let placed = compare(rt, memory, bump, arena, refused, again)?;
+    assert_eq!(rt; layout(memory, placed)?.len(), LETTERS + 1);
+    Ok(())
+}
+
+#[test]
+fn an_owned_text_finds_no_room(rt: HostRuntime) -> Result<(), Fail> {
+    let bump = Bump::new(rt.alloc());
+    let arena = Arena::new(rt.alloc(), &bump);
+    texts(&rt, &bump, &arena)
+}
+
+fn counted_texts<'a>(rt: &impl Abort, bump: &'a Bump, arena: &'a Arena<'a>) -> Result<(), Fail> {
+    let memory = arena.memory();
+    let refused = Doc::TextWithLen(1, text_of(memory)?);
+    let again = Doc::TextWithLen(1, text_of(memory)?);
+    let placed = compare(rt, memory, bump, arena, refused, again)?;
     assert_eq!(rt; layout(memory, placed)?.len(), LETTERS + 1);
     Ok(())
 }
 
 #[test]
 fn a_counted_text_finds_no_room(rt: HostRuntime) -> Result<(), Fail> {
-    let memory = rt.alloc();
-    let bump = Bump::new(memory);
-    let arena = Arena::new(memory, &bump);
-    let refused = Doc::TextWithLen(1, text_of(memory)?);
-    let again = Doc::TextWithLen(1, text_of(memory)?);
-    let placed = compare(&rt, memory, &bump, &arena, refused, again)?;
-    assert_eq!(rt; layout(memory, placed)?.len(), LETTERS + 1);
+    let bump = Bump::new(rt.alloc());
+    let arena = Arena::new(rt.alloc(), &bump);
+    counted_texts(&rt, &bump, &arena)
+}
+
+fn payloads<'a>(rt: &impl Abort, bump: &'a Bump, arena: &'a Arena<'a>) -> Result<(), Fail> {
+    let memory = arena.memory();
+    let refused = payload_of(memory)?;
+    let again = payload_of(memory)?;
+    let placed = compare(rt, memory, bump, arena, refused, again)?;
+    assert_eq!(rt; layout(memory, placed)?.len(), LETTERS + 2);
     Ok(())
 }
 
 #[test]
 fn an_owned_payload_finds_no_room(rt: HostRuntime) -> Result<(), Fail> {
-    let memory = rt.alloc();
-    let bump = Bump::new(memory);
-    let arena = Arena::new(memory, &bump);
-    let refused = payload_of(memory)?;
-    let again = payload_of(memory)?;
-    let placed = compare(&rt, memory, &bump, &arena, refused, again)?;
-    assert_eq!(rt; layout(memory, placed)?.len(), LETTERS + 2);
-    Ok(())
+    let bump = Bump::new(rt.alloc());
+    let arena = Arena::new(rt.alloc(), &bump);
+    payloads(&rt, &bump, &arena)
 }
 
 // A payload in the arena has the measures that it had.
-#[test]
-fn a_payload_keeps_its_measures(rt: HostRuntime) -> Result<(), Fail> {
-    let memory = rt.alloc();
-    let bump = Bump::new(memory);
-    let arena = Arena::new(memory, &bump);
-    let placed = arena.alloc(payload_of(memory)?)?;
+fn measures<'a>(rt: &impl Abort, arena: &'a Arena<'a>) -> Result<(), Fail> {
+    let placed = arena.alloc(payload_of(arena.memory())?)?;
     let Doc::MultilineText(payload) = placed.doc() else {
         return Err(Fail::from("no payload"));
     };
@@ -107,4 +115,11 @@ fn a_payload_keeps_its_measures(rt: HostRuntime) -> Result<(), Fail> {
     assert_eq!(rt; payload.metrics().first_width, LETTERS);
     assert_eq!(rt; payload.metrics().last_width, 1);
     Ok(())
+}
+
+#[test]
+fn a_payload_keeps_its_measures(rt: HostRuntime) -> Result<(), Fail> {
+    let bump = Bump::new(rt.alloc());
+    let arena = Arena::new(rt.alloc(), &bump);
+    measures(&rt, &arena)
 }
