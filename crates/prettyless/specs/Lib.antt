@@ -3,6 +3,7 @@ pub use Rattle.prettyless_build.specs.Built
 pub use Rattle.prettyless_build.specs.Iterated
 pub use Rattle.prettyless_doc.specs.Breaks
 pub use Rattle.prettyless_doc.specs.BuildErrors
+pub use Rattle.prettyless_doc.specs.Constants
 pub use Rattle.prettyless_doc.specs.Counted
 pub use Rattle.prettyless_doc.specs.DocTree
 pub use Rattle.prettyless_doc.specs.Lines
@@ -25,6 +26,7 @@ pub use Rattle.prettyless_model.specs.Levels
 pub use Rattle.prettyless_model.specs.Metrics
 pub use Rattle.prettyless_model.specs.Reading
 pub use Rattle.prettyless_model.specs.Spelling
+pub use Rattle.prettyless_model.specs.Texts
 pub use Rattle.prettyless_pointers.specs.Trees
 pub use Rattle.prettyless_printer.specs.Renders
 pub use Rattle.prettyless_model.specs.Options

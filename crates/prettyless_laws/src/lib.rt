@@ -5,10 +5,12 @@
 mod flat;
 mod regrouped;
 pub mod rows;
+mod texts;
 mod total;
 mod traced;
 
 pub use flat::law_flat_group;
 pub use regrouped::law_regroup;
+pub use texts::law_texts;
 pub use total::law_total;
 pub use traced::{law_deferred, law_endings};

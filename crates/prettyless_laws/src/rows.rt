@@ -1,10 +1,12 @@
-//! Traces of small documents, as the definitions alone compute them. The function does nothing: its contract speaks.
+//! Traces of small documents, and the texts that small documents tell, as the definitions alone compute them. The
+//! functions do nothing: their contracts speak.
 
 ghost use Rattle.std.specs.Prelude.{pos, codes, true, false, ◌∷◌, []};
 ghost use Rattle.prettyless_model.specs.Tree.{Nil, Fail, MultilineText, WeakSpace, HardLine, WeakLine, Append, LineSuffix, Nest, Flatten, Union, PartialUnion};
-ghost use Rattle.prettyless_model.specs.Rows.{in_turn, noted, numbers, pair, text, two_lines};
+ghost use Rattle.prettyless_model.specs.Rows.{flat_or_failed, in_turn, noted, numbers, pair, text, tight_pair, two_lines};
+ghost use Rattle.prettyless_model.specs.Texts.{Apart, Shown, IsShown};
 ghost use Rattle.prettyless_laws.specs.Trace.{Ending, Indent, Gap, Source, Chose, First, Second};
-ghost use Rattle.prettyless_laws.specs.Rows.{FailsAfter, HasTrace, apart, text_piece};
+ghost use Rattle.prettyless_laws.specs.Rows.{DoesNotShow, FailsAfter, HasTrace, LinedTextsStandApart, ShowsItems, TellsNothing, apart, joined_items, numbers_items, padded, parted_items, spaced, text_item, text_piece};
 
 /// Each line end is followed by the indent of the next line, and each text comes after its weak spaces.
 pub fn rows()
@@ -41,4 +43,27 @@ pub fn rows()
     ensures empty_suffix { HasTrace 80 (Nest (pos 2) (in_turn HardLine (LineSuffix Nil ∷ HardLine ∷ text "b" ∷ [])))
         (Ending ∷ Indent 2 true ∷ Gap 0 ∷ Ending ∷ Indent 2 true ∷ Gap 0 ∷ text_piece "b" 3 ∷ []) }
     ensures failure { FailsAfter 80 (in_turn (text "a") (HardLine ∷ Fail ∷ [])) (Gap 0 ∷ text_piece "a" 1 ∷ Ending ∷ Indent 0 false ∷ []) }
+{}
+
+/// Each text is told whole, and a break or a space between two texts sets them apart.
+pub fn texts()
+    ensures fits { ShowsItems 80 numbers numbers_items (codes "(1 2 3)") }
+    ensures breaks { ShowsItems 5 numbers numbers_items (codes "(1\n 2\n 3)") }
+    ensures joined { ShowsItems 80 (tight_pair "1" "2") joined_items (codes "12") }
+    ensures on_two_lines { ShowsItems 1 (tight_pair "1" "2") joined_items (codes "1\n2") }
+    ensures weak_space { ShowsItems 80 (in_turn (text "1") (WeakSpace ∷ text "2" ∷ [])) parted_items (codes "1 2") }
+    ensures padding { ShowsItems 80 padded parted_items (codes "1\n2") }
+    ensures spaces { ShowsItems 80 spaced parted_items (codes "1  2") }
+    ensures spaces_as_text { ShowsItems 80 spaced (text_item "1" ∷ text_item "  " ∷ text_item "2" ∷ []) (codes "1  2") }
+    ensures spaces_within { ShowsItems 80 (text "x = 1") (text_item "x = 1" ∷ []) (codes "x = 1") }
+    ensures payload { ShowsItems 80 (in_turn (text "a") (WeakSpace ∷ MultilineText (codes "b\nc") ∷ []))
+        (text_item "a" ∷ Apart ∷ text_item "b\nc" ∷ []) (codes "a b\nc") }
+    ensures list { LinedTextsStandApart }
+    ensures failed_alternative { ShowsItems 80 flat_or_failed (text_item "12345" ∷ []) (codes "12345") }
+
+    // What is not told, and what is not shown.
+    ensures other_texts { TellsNothing (Union (text "1") (text "12")) }
+    ensures suffix { TellsNothing noted }
+    ensures shown_joined { IsShown (codes "12") joined_items }
+    ensures not_parted { DoesNotShow (codes "12") parted_items }
 {}

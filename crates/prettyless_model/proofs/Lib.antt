@@ -7,5 +7,7 @@ pub mod Endings
 pub mod Writes
 pub mod ContentMerged
 pub mod ContentCounted
+pub mod ShownTexts
 pub mod Content
+pub mod AppendedTexts
 pub mod SpaceRuns

@@ -9,4 +9,5 @@ pub mod Levels
 pub mod Counts
 pub mod Rows
 pub mod Spelling
+pub mod Texts
 pub mod Content

@@ -9,7 +9,8 @@ pub fn law_levels()
 {}
 
 /// What a document spells is what its layout writes, but for space, CR and LF, where the layout does not fail: in its
-/// order without line suffixes, each byte as often with them, and interleaved where none is inside another.
+/// order without line suffixes, each byte as often with them, and interleaved where none is inside another. The texts that
+/// it tells are shown whole, in their order, with gaps around them.
 pub fn law_content()
     ensures { LayoutsHaveContent }
 {}

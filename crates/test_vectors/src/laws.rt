@@ -1,6 +1,8 @@
 //! Laws over whole layouts, seen in renders.
 use crate::rendered::{Case, compare, compare_with, options};
-use prettyless::laws::{law_deferred, law_endings, law_flat_group, law_regroup, law_total};
+use prettyless::laws::{
+    law_deferred, law_endings, law_flat_group, law_regroup, law_texts, law_total,
+};
 use prettyless::{IndentationPolicy, LineEnding};
 use std::test::Fail;
 
@@ -58,5 +60,17 @@ fn groups_that_fit_are_flat(rt: HostRuntime) -> Result<(), Fail> {
         &rt,
         rt.alloc(),
         &[(3, written, "a b"), (2, written, "a\nb")],
+    )
+}
+
+#[test]
+fn breaks_and_spaces_set_texts_apart(rt: HostRuntime) -> Result<(), Fail> {
+    law_texts();
+    let line_end = "Append Append Append Append Text '1' WeakSpace HardLine WeakSpace Text '2'";
+    let space = "Append Append Text '1' WeakSpace Text '2'";
+    compare(
+        &rt,
+        rt.alloc(),
+        &[(80, line_end, "1\n2"), (80, space, "1 2")],
     )
 }
