@@ -14,7 +14,7 @@ use crate::spaces::spaces;
 use crate::words::reflow;
 use prettyless_build::{DocBuilder, Pretty};
 use prettyless_doc::text::CowStr;
-use prettyless_doc::{BuildDoc, BuildError, Doc, DocPlace, Text};
+use prettyless_doc::{BuildDoc, BuildError, Constant, Doc, DocPlace, Text};
 use std::fmt;
 
 /// The documents that every place of nodes can start.
@@ -219,22 +219,28 @@ impl<'a, D: DocPlace<'a>> DocAllocator<'a> for D {
 
     #[inline(always)]
     fn line(&'a self) -> Result<DocBuilder<'a, D>, BuildError> {
-        Ok(DocBuilder::new(self, Doc::line(self)?))
+        Ok(DocBuilder(self, BuildDoc::line(self)?))
     }
 
     #[inline(always)]
     fn line_(&'a self) -> Result<DocBuilder<'a, D>, BuildError> {
-        Ok(DocBuilder::new(self, Doc::line_(self)?))
+        Ok(DocBuilder(self, BuildDoc::line_(self)?))
     }
 
     #[inline(always)]
     fn softline(&'a self) -> Result<DocBuilder<'a, D>, BuildError> {
-        self.line()?.group()
+        match self.constant(Constant::SoftLineOrSpace) {
+            Some(softline) => Ok(DocBuilder(self, BuildDoc::DocPtr(softline))),
+            None => self.line()?.group(),
+        }
     }
 
     #[inline(always)]
     fn softline_(&'a self) -> Result<DocBuilder<'a, D>, BuildError> {
-        self.line_()?.group()
+        match self.constant(Constant::SoftLineOrNil) {
+            Some(softline) => Ok(DocBuilder(self, BuildDoc::DocPtr(softline))),
+            None => self.line_()?.group(),
+        }
     }
 
     fn separate(

@@ -87,6 +87,7 @@ where
 }
 
 // `all`, the gap and `doc`, one after the other.
+#[inline(always)]
 pub(crate) fn join_after<'a, D: DocPlace<'a>>(
     all: DocBuilder<'a, D>,
     gap: D::Doc,

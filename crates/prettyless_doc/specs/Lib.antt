@@ -1,5 +1,6 @@
 pub mod BuildErrors
 pub mod Cached
+pub mod Constants
 pub mod Counted
 pub mod DocTree
 pub mod Breaks

@@ -8,6 +8,7 @@ ghost use Rattle.prettyless_doc.specs.Lines.{space, line, line_};
 ghost use Rattle.prettyless_doc.specs.TextBytes.{IfLent};
 ghost use Rattle.prettyless_doc.specs.Tree as tree;
 
+use crate::constant::Constant;
 use crate::doc::{BuildDoc, Doc, DocPtr};
 use crate::place::DocPlace;
 use crate::text::{BuildError, CowStr, Text};
@@ -196,7 +197,10 @@ impl<'a, T> BuildDoc<'a, T> {
         ensures ok { IfOk result (λ d. built T.tree d ≡ line) }
         ensures err { IfErr result IsMemory }
     {
-        Ok(BuildDoc::Doc(Doc::line(place)?))
+        match place.constant(Constant::LineOrSpace) {
+            Some(line) => Ok(BuildDoc::DocPtr(line)),
+            None => Ok(BuildDoc::Doc(Doc::line(place)?)),
+        }
     }
 
     /// A line break, or nothing where lines are flat. It fails where memory is refused.
@@ -205,6 +209,9 @@ impl<'a, T> BuildDoc<'a, T> {
         ensures ok { IfOk result (λ d. built T.tree d ≡ line_) }
         ensures err { IfErr result IsMemory }
     {
-        Ok(BuildDoc::Doc(Doc::line_(place)?))
+        match place.constant(Constant::LineOrNil) {
+            Some(line) => Ok(BuildDoc::DocPtr(line)),
+            None => Ok(BuildDoc::Doc(Doc::line_(place)?)),
+        }
     }
 }

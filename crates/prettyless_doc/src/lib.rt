@@ -3,6 +3,7 @@
 
 mod cached;
 mod clone;
+mod constant;
 mod constructors;
 mod conversions;
 mod debug;
@@ -19,6 +20,7 @@ pub mod text;
 mod texts;
 pub mod walk;
 
+pub use constant::Constant;
 pub use doc::{BuildDoc, Doc, DocPtr};
 pub use error::PrettyError;
 pub use place::DocPlace;

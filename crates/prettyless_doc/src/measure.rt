@@ -8,10 +8,17 @@ use prettyless_model::metrics::Metrics;
 use unicode_width::UnicodeWidthStr;
 
 /// Whether each byte is below 128.
+///
+/// It looks at every byte, in steps of several, where `str::is_ascii` ends at the first that is not, in steps of one.
 pub fn is_ascii(text: &str) -> bool
     ensures { result ≡ spec.is_ascii text.now }
 {
-    text.is_ascii()
+    let bytes = text.as_bytes();
+    let mut all = 0;
+    for byte in bytes {
+        all |= *byte;
+    }
+    all < 128
 }
 
 // The columns that a text takes, where it is known whether it is ASCII: its bytes, and else its display width.

@@ -63,6 +63,7 @@ pub enum Text<'a> {
 impl<'a> Text<'a> {
     /// The same bytes. A borrowed text stays borrowed, which takes no memory. An owned one keeps its buffer; it takes
     /// memory for the pointer to it. Where that is refused, the text is given up, and nothing else changes.
+    #[inline(always)]
     pub fn from_cow(alloc: Global, text: CowStr<'a>) -> Result<Self, BuildError>
         ensures ok { IfOk result (λ t. bytes_of t ≡ cow_str_bytes text.entry) }
         ensures borrowed { IfLent text.entry (IsOk result) }
@@ -75,6 +76,7 @@ impl<'a> Text<'a> {
     }
 
     /// The text, wherever its bytes are.
+    #[inline(always)]
     pub fn as_str(&self) -> &str
         ensures { result.now ≡ bytes_of self.now }
     {

@@ -15,6 +15,7 @@ use unicode_width::UnicodeWidthStr;
 
 impl<'a, T: DocPtr<'a>> Doc<'a, T> {
     // A text that counts as its bytes if it is ASCII, and else as its display width.
+    #[inline(always)]
     fn counted(text: Text<'a>) -> Self
         ensures { tree_of T.tree result ≡ to.as_string (bytes_of text.entry) }
     {
@@ -28,6 +29,7 @@ impl<'a, T: DocPtr<'a>> Doc<'a, T> {
     /// A text, written as it is: nothing if it is empty. It counts as its bytes if it is ASCII, and else as its display
     /// width. A line end in it is not seen by the layout: `multiline_text` is for such texts. Only an owned
     /// text takes memory, and fails where that is refused.
+    #[inline(always)]
     pub fn text(alloc: Global, text: CowStr<'a>) -> Result<Self, BuildError>
         ensures ok { IfOk result (λ d. tree_of T.tree d ≡ to.text (cow_str_bytes text.entry)) }
         ensures borrowed { IfLent text.entry (IsOk result) }

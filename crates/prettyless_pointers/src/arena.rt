@@ -1,20 +1,24 @@
 //! Documents in an arena, whose nodes are given up all at once.
-ghost use Rattle.std.specs.Prelude.{◌≡◌, false, IfOk, IfErr, Ok};
+ghost use Rattle.std.specs.Prelude.{◌≡◌, false, IfOk, IfErr, IfSome, Ok};
+ghost use Rattle.std.proofs.Props.{props};
 ghost use Rattle.prettyless_doc.specs.BuildErrors.{IsMemory};
 ghost use Rattle.prettyless_doc.specs.declared.doc.BuildDoc.TheVariants.{DocPtr as Placed};
+ghost use Rattle.prettyless_doc.specs.Constants.{constant_tree};
 ghost use Rattle.prettyless_doc.specs.DocTree.{tree_of, built, holds_memory};
 ghost use Rattle.prettyless_doc.specs.Payload as source;
 ghost use Rattle.prettyless_doc.specs.Payload.{payload_bytes};
 ghost use Rattle.prettyless_doc.specs.TextBytes.{bytes_of, is_owned};
 ghost use Rattle.prettyless_doc.specs.Tree.{Tree};
 ghost use Rattle.prettyless_build.specs.Built.{IfPlaced};
+ghost use Rattle.prettyless_pointers.specs.Constants.{IsTable};
 ghost use Rattle.prettyless_pointers.specs.declared.arena.RefDoc.{out-RefDoc};
 ghost use Rattle.prettyless_pointers.specs.Trees.{ref_tree};
 
+use crate::constants::{constant_of, find, table};
 use bumpalo::Bump;
 use prettyless_build::{DocBuilder, Pretty};
 use prettyless_doc::text::MultilineTextData;
-use prettyless_doc::{BuildDoc, BuildError, Doc, DocPlace, DocPtr, Text};
+use prettyless_doc::{BuildDoc, BuildError, Constant, Doc, DocPlace, DocPtr, Text};
 use std::alloc::Global;
 use std::cell::Cell;
 use std::fmt;
@@ -92,6 +96,9 @@ pub struct Arena<'a> {
     memory: Global,
     bump: &'a Bump,
     placed: Cell<usize>,
+    // Pointers to its constants; none where memory was refused for them.
+    constants: &'a [RefDoc<'a>],
+    ghost table: { IsTable constants.now } by { Prim.hlevel props },
 }
 
 impl<'a> Arena<'a> {
@@ -101,6 +108,7 @@ impl<'a> Arena<'a> {
             memory: alloc,
             bump,
             placed: Cell::new(0),
+            constants: table(bump).unwrap_or(&[]),
         }
     }
 
@@ -172,6 +180,24 @@ fn holds_box<'a>(doc: &Doc<'a, RefDoc<'a>>) -> bool
 }
 
 impl<'a> Arena<'a> {
+    // The pointer to a constant, if the arena has them.
+    #[inline(always)]
+    fn find(&self, which: Constant) -> Option<RefDoc<'a>>
+        ensures same { IfSome result (λ p. ref_tree p ≡ constant_tree which) }
+        ensures settled { IfSome result (λ p. holds_memory (out-RefDoc p).0.now ≡ false) }
+    {
+        find(self.constants, which)
+    }
+
+    // The constant that this node is, if it is one and the arena has them.
+    #[inline(always)]
+    fn find_same(&self, doc: &Doc<'a, RefDoc<'a>>) -> Option<RefDoc<'a>>
+        ensures same { IfSome result (λ p. ref_tree p ≡ tree_of ref_tree doc.now) }
+        ensures settled { IfSome result (λ p. holds_memory (out-RefDoc p).0.now ≡ false) }
+    {
+        self.find(constant_of(doc)?)
+    }
+
     // Puts a node without a box into the bump.
     #[inline(always)]
     fn put(&self, doc: Doc<'a, RefDoc<'a>>) -> Result<RefDoc<'a>, BuildError>
@@ -198,6 +224,9 @@ impl<'a> DocPlace<'a> for Arena<'a> {
         ensures settled { IfOk result (λ p. holds_memory (out-RefDoc p).0.now ≡ false) }
         ensures err { IfErr result IsMemory }
     {
+        if let Some(constant) = self.find_same(&doc) {
+            return Ok(constant);
+        }
         if holds_box(&doc) {
             let doc = settle(self.bump, doc)?;
             return self.put(doc);
@@ -217,5 +246,12 @@ impl<'a> DocPlace<'a> for Arena<'a> {
 
     fn memory(&'a self) -> Global {
         self.memory
+    }
+
+    #[inline(always)]
+    fn constant(&'a self, which: Constant) -> Option<RefDoc<'a>>
+        ensures { IfSome result (λ p. ref_tree p ≡ constant_tree which) }
+    {
+        self.find(which)
     }
 }

@@ -4,6 +4,7 @@
 pub mod arena;
 pub mod boxes;
 mod children;
+mod constants;
 mod copying;
 mod pretty;
 pub mod rc;

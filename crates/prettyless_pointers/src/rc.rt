@@ -4,7 +4,7 @@ ghost use Rattle.prettyless_doc.specs.declared.doc.BuildDoc.TheVariants.{DocPtr 
 ghost use Rattle.prettyless_doc.specs.DocTree.{tree_of};
 ghost use Rattle.prettyless_pointers.specs.Trees.{rc_tree};
 
-use prettyless_doc::{BuildDoc, BuildError, Doc, DocPlace, DocPtr};
+use prettyless_doc::{BuildDoc, BuildError, Constant, Doc, DocPlace, DocPtr};
 use std::alloc::Global;
 use std::fmt;
 use std::rc::Rc;
@@ -90,5 +90,11 @@ impl<'a> DocPlace<'a> for RcAllocator {
 
     fn memory(&'a self) -> Global {
         self.memory
+    }
+
+    /// None: the last pointer to a node gives it up.
+    #[inline(always)]
+    fn constant(&'a self, _which: Constant) -> Option<RcDoc<'a>> {
+        None
     }
 }

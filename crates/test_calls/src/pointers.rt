@@ -2,7 +2,7 @@
 use crate::expected::{Failing, built, points, rendered};
 use bumpalo::Bump;
 use prettyless::prelude::*;
-use prettyless::text::{BuildError, CowStr};
+use prettyless::text::{BuildError, CowStr, Text};
 use prettyless::{Arena, BoxDoc, BuildDoc, Doc, DocBuilder, DocPtr, IntoRef, RcDoc};
 use std::alloc::Global;
 use std::fmt;
@@ -170,7 +170,7 @@ fn builders_end_in_an_arena(rt: HostRuntime) {
 fn counts<'a>(rt: &impl Abort, arena: &'a Arena<'a>) {
     assert!(rt; arena.is_empty());
     assert_eq!(rt; arena.is_empty(), arena.len() == 0);
-    let placed = arena.alloc(Doc::HardLine);
+    let placed = arena.alloc(Doc::Text(Text::Borrowed("a")));
     assert!(rt; placed.is_ok());
     assert_eq!(rt; arena.len(), 1);
     assert_eq!(rt; arena.is_empty(), arena.len() == 0);

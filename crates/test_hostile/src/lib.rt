@@ -1,6 +1,9 @@
-//! Awkward trees, sinks that fail or lie, the pieces that sinks are given, and arenas that are refused memory.
+//! Awkward trees, sinks that fail or lie, the pieces that sinks are given, the constants of an arena, and arenas that are refused
+//! memory.
 #![tactic(auto)]
 
+#[cfg(test)]
+mod constants;
 #[cfg(test)]
 mod pieces;
 #[cfg(test)]

@@ -133,7 +133,7 @@ fn alternatives_are_visited_once(rt: HostRuntime) -> Result<(), Fail> {
     let bump = Bump::new(rt.alloc());
     let arena = Arena::new(rt.alloc(), &bump);
     let document = after_a_letter(&arena, 64)?;
-    assert_eq!(rt; arena.len(), 387);
+    assert_eq!(rt; arena.len(), 323);
     let visits = compare(&rt, rt.alloc(), document, 4, "px")?;
     assert_eq!(rt; visits.printer, 387);
     assert_eq!(rt; visits.probes, 0);

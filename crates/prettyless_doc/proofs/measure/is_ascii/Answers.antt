@@ -1,5 +1,6 @@
-use Rattle.prettyless_doc.proofs.Ascii.{same_ascii}
+use Rattle.prettyless_doc.proofs.Ascii.{is_ascii-or}
 use Rattle.prettyless_doc.proofs.measure.is_ascii.Goals as goal
 
-pub returns : goal.returns
-returns c = same_ascii _ _ c.is_ascii.ensures.cases
+pub loop-byte-preserved : goal.loop-byte-preserved
+loop-byte-preserved c =
+    is_ascii-or c.loop-byte.all c.as_bytes-bytes.result.now c.loop-byte.byte-index c.loop-byte-test.true c.loop-byte.invariant

@@ -1,0 +1,90 @@
+-- Tables of constants: what is in its place is the constant, and a table that was filled in order has each in its place.
+use Rattle.std.proofs.Common.{◌≡◌, refl, ap, Bool, true, List, [], ◌∷◌}
+use Rattle.std.proofs.lemmas.Bool.{eqb-true}
+use Rattle.prettyless_model.specs.Tree as t
+use Rattle.prettyless_model.specs.Tree.{Tree}
+use Rattle.prettyless_doc.specs.Constants.{constant_tree}
+use Rattle.prettyless_doc.specs.Lines.{space}
+use Rattle.prettyless_doc.specs.declared.constant.Constant.{Constant}
+use Rattle.prettyless_doc.specs.declared.constant.Constant.TheVariants.{Nil, Fail, Space, WeakSpace, HardLine, WeakLine, ExpandParent, LineOrSpace, LineOrNil, SoftLineOrSpace, SoftLineOrNil}
+use Rattle.prettyless_pointers.specs.Constants.{IsTable, LeadsTo, is_space, is_nil, is_line, is_grouped, is_constant}
+use Rattle.prettyless_pointers.specs.declared.arena.RefDoc.{RefDoc}
+
+spaces-are : (d : Tree) → is_space d ≡ true → d ≡ space
+spaces-are (t.Text (b ∷ [])) h = ap (λ c. t.Text (c ∷ [])) (eqb-true b 32 h)
+spaces-are _ h = absurd cc
+
+nothings-are : (d : Tree) → is_nil d ≡ true → d ≡ t.Nil
+nothings-are t.Nil h = refl
+nothings-are _ h = absurd cc
+
+lines-are : (is_flat : Tree → Bool) (flat : Tree) → ((d : Tree) → is_flat d ≡ true → d ≡ flat) → (d : Tree) → is_line is_flat d ≡ true → d ≡ t.BreakOrFlat t.HardLine flat
+lines-are is_flat flat same (t.BreakOrFlat t.HardLine f) h = ap (t.BreakOrFlat t.HardLine) (same f h)
+lines-are is_flat flat same _ h = absurd cc
+
+groups-are : (is_inner : Tree → Bool) (inner : Tree) → ((d : Tree) → is_inner d ≡ true → d ≡ inner) → (d : Tree) → is_grouped is_inner d ≡ true → d ≡ t.Group inner
+groups-are is_inner inner same (t.Group d) h = ap t.Group (same d h)
+groups-are is_inner inner same _ h = absurd cc
+
+-- a tree that is found to be a constant is it
+pub constants-are : (c : Constant) (d : Tree) → is_constant c d ≡ true → d ≡ constant_tree c
+constants-are Nil d h = nothings-are d h
+constants-are Fail t.Fail h = refl
+constants-are Space d h = spaces-are d h
+constants-are WeakSpace t.WeakSpace h = refl
+constants-are HardLine t.HardLine h = refl
+constants-are WeakLine t.WeakLine h = refl
+constants-are ExpandParent t.ExpandParent h = refl
+constants-are LineOrSpace d h = lines-are is_space space spaces-are d h
+constants-are LineOrNil d h = lines-are is_nil t.Nil nothings-are d h
+constants-are SoftLineOrSpace d h = groups-are _ _ (lines-are is_space space spaces-are) d h
+constants-are SoftLineOrNil d h = groups-are _ _ (lines-are is_nil t.Nil nothings-are) d h
+constants-are _ _ h = absurd cc
+
+-- each constant is found to be one
+pub is-found : (c : Constant) → is_constant c (constant_tree c) ≡ true
+is-found Nil = refl
+is-found Fail = refl
+is-found Space = refl
+is-found WeakSpace = refl
+is-found HardLine = refl
+is-found WeakLine = refl
+is-found ExpandParent = refl
+is-found LineOrSpace = refl
+is-found LineOrNil = refl
+is-found SoftLineOrSpace = refl
+is-found SoftLineOrNil = refl
+
+-- the pointers to the constants, in order
+pub record InOrder (p0 p1 p2 p3 p4 p5 p6 p7 p8 p9 p10 : RefDoc) : Type 0 where
+  pub nil : LeadsTo Nil p0
+  pub fail : LeadsTo Fail p1
+  pub space : LeadsTo Space p2
+  pub weak_space : LeadsTo WeakSpace p3
+  pub hard_line : LeadsTo HardLine p4
+  pub weak_line : LeadsTo WeakLine p5
+  pub expand_parent : LeadsTo ExpandParent p6
+  pub line : LeadsTo LineOrSpace p7
+  pub line_ : LeadsTo LineOrNil p8
+  pub softline : LeadsTo SoftLineOrSpace p9
+  pub softline_ : LeadsTo SoftLineOrNil p10
+
+in-place :
+    {p0 p1 p2 p3 p4 p5 p6 p7 p8 p9 p10 : RefDoc} → InOrder p0 p1 p2 p3 p4 p5 p6 p7 p8 p9 p10
+    → IsTable (p0 ∷ p1 ∷ p2 ∷ p3 ∷ p4 ∷ p5 ∷ p6 ∷ p7 ∷ p8 ∷ p9 ∷ p10 ∷ [])
+in-place h Nil = h.nil
+in-place h Fail = h.fail
+in-place h Space = h.space
+in-place h WeakSpace = h.weak_space
+in-place h HardLine = h.hard_line
+in-place h WeakLine = h.weak_line
+in-place h ExpandParent = h.expand_parent
+in-place h LineOrSpace = h.line
+in-place h LineOrNil = h.line_
+in-place h SoftLineOrSpace = h.softline
+in-place h SoftLineOrNil = h.softline_
+
+pub is-table :
+    {p0 p1 p2 p3 p4 p5 p6 p7 p8 p9 p10 : RefDoc} {ps : List RefDoc} → InOrder p0 p1 p2 p3 p4 p5 p6 p7 p8 p9 p10
+    → ps ≡ p0 ∷ p1 ∷ p2 ∷ p3 ∷ p4 ∷ p5 ∷ p6 ∷ p7 ∷ p8 ∷ p9 ∷ p10 ∷ [] → IsTable ps
+is-table h e = rw e (in-place h)
