@@ -1,14 +1,20 @@
-use Rattle.std.proofs.Common.{◌≡◌, ◌<◌, ◌^◌, ◌∙◌, ℕ, true, refl, ap, arith}
+use Rattle.std.proofs.Common.{◌≡◌, ◌<◌, ◌^◌, ◌∙◌, ℕ, suc, true, List, [], ◌∷◌, refl, ap, arith}
 use Rattle.std.specs.Fmt.{decimal}
+use Rattle.std.specs.Str.{IsAscii}
+use Rattle.std.proofs.lemmas.Bool.{lt-ltb}
 use Rattle.std.proofs.lemmas.Fmt.{IsAscii-decimal}
 use Rattle.prettyless.specs.Counted.{as_string}
 use Rattle.prettyless.specs.Tree.{Text}
-use Rattle.prettyless_doc.proofs.Ascii.{same_ascii}
+use Rattle.prettyless_model.specs.Metrics.{is_ascii}
 use Rattle.sexp_formatter.proofs.document.atom.Goals as goal
+
+all_ascii : (s : List ℕ) → IsAscii s → is_ascii s ≡ true
+all_ascii [] h = refl
+all_ascii (b ∷ s) h = rw (lt-ltb b 128 (h 0)) (all_ascii s (λ i. h (suc i)))
 
 -- digits are ASCII
 counts_digits : (n : ℕ) → n < 2 ^ 64 → as_string (decimal n) ≡ Text (decimal n)
-counts_digits n small = rw (← same_ascii true (decimal n) (IsAscii-decimal n small)) refl
+counts_digits n small = rw (all_ascii (decimal n) (IsAscii-decimal n small)) refl
 
 pub returns-clause-ok : goal.returns-clause-ok
 returns-clause-ok g c =
