@@ -6,7 +6,7 @@ use Rattle.prettyless_doc.specs.BuildErrors.{IsMemory}
 use Rattle.prettyless_doc.specs.Lines.{line, line_}
 use Rattle.prettyless_doc.specs.declared.doc.BuildDoc.{BuildDoc}
 use Rattle.prettyless_doc.specs.declared.doc.BuildDoc.TheVariants.{DocPtr as Placed, Doc as Plain}
-use Rattle.prettyless_doc.specs.declared.text.BuildError.{BuildError}
+use Rattle.prettyless_text.specs.declared.text.BuildError.{BuildError}
 
 -- What a call that builds promises of its result: `seen` is the tree of what it answers, and `wanted` the tree it makes.
 pub record Builds {B : Type 0} (result : Result B BuildError) (seen : B → Tree) (wanted : Tree) : Type 0 where

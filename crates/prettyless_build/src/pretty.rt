@@ -1,7 +1,7 @@
 ghost use Rattle.std.specs.Prelude.{◌≡◌, IfOk, IfErr, MatchOption};
 ghost use Rattle.prettyless_doc.specs.Tree.{Tree, Nil};
 ghost use Rattle.prettyless_doc.specs.DocTree.{tree_of, built};
-ghost use Rattle.prettyless_doc.specs.declared.text.BuildError.{BuildError};
+ghost use Rattle.prettyless_text.specs.declared.text.BuildError.{BuildError};
 
 use crate::builder::DocBuilder;
 use prettyless_doc::{BuildDoc, BuildError, Doc, DocPlace};

@@ -98,15 +98,3 @@ impl<'a, D: DocPtr<'a>> BuildDoc<'a, D> {
         }
     }
 }
-
-#[cfg(test)]
-mod tests {
-    use super::*;
-
-    // With pointers of 8 bytes.
-    #[test]
-    fn takes_40_bytes(rt: HostRuntime) {
-        assert_eq!(rt; size_of::<Doc<'static, &'static u8>>(), 40);
-        assert_eq!(rt; size_of::<BuildDoc<'static, &'static u8>>(), 48);
-    }
-}

@@ -1,7 +1,7 @@
 //! One error for what builds and renders.
 ghost use Rattle.std.specs.Prelude.{◌≡◌, alloc_error};
 ghost use Rattle.prettyless_doc.specs.declared.error.PrettyError.TheVariants.{Build, Render};
-ghost use Rattle.prettyless_doc.specs.declared.text.BuildError.TheVariants.{Memory};
+ghost use Rattle.prettyless_text.specs.declared.text.BuildError.TheVariants.{Memory};
 
 use crate::text::BuildError;
 use prettyless_sink::error::RenderError;
@@ -62,6 +62,3 @@ impl<E: fmt::Display> fmt::Display for PrettyError<E> {
 }
 
 impl<E: fmt::Debug + fmt::Display + Drop> Error for PrettyError<E> {}
-
-#[cfg(test)]
-mod tests;

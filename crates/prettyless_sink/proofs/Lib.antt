@@ -1,3 +1,3 @@
 pub mod Beginnings
 mod Gaps
-mod Known
+pub mod Known

@@ -29,29 +29,3 @@ impl<E: fmt::Display> fmt::Display for RenderError<E> {
 }
 
 impl<E: fmt::Debug + fmt::Display + Drop> Error for RenderError<E> {}
-
-#[cfg(test)]
-mod tests {
-    use super::*;
-    use std::test::Fail;
-
-    #[test]
-    fn says_each_cause(rt: HostRuntime) -> Result<(), Fail> {
-        let fails = RenderError::Document(fmt::Error);
-        let sink = RenderError::Sink("the disk is full");
-        let memory = RenderError::Memory::<fmt::Error>(AllocError);
-        assert_eq!(rt;
-            format!(in rt.alloc(); "{fails}")?.as_str(),
-            "the document cannot be laid out"
-        );
-        assert_eq!(rt;
-            format!(in rt.alloc(); "{sink}")?.as_str(),
-            "the layout cannot be written: the disk is full"
-        );
-        assert_eq!(rt;
-            format!(in rt.alloc(); "{memory}")?.as_str(),
-            "memory was refused while the document was laid out"
-        );
-        Ok(())
-    }
-}

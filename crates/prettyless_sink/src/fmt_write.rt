@@ -58,6 +58,3 @@ impl<'w, W: TextWriter> Render for FmtWrite<&'w mut W> {
         fmt::Error
     }
 }
-
-#[cfg(test)]
-mod tests;

@@ -89,6 +89,3 @@ fn write_whole<W: io::Write>(upstream: &mut W, bytes: &[u8]) -> io::Result<()>
     }
     Ok(())
 }
-
-#[cfg(test)]
-mod tests;

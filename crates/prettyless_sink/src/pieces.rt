@@ -39,6 +39,3 @@ fn write_spaces<W: Render>(out: &mut W, count: usize) -> Result<(), W::Error>
     }
     Ok(())
 }
-
-#[cfg(test)]
-mod tests;

@@ -66,13 +66,10 @@ pub trait Render {
     }
 }
 
-// Whether so many bytes end between two characters of the text, and are some unless it is empty.
+/// Whether so many bytes end between two characters of the text, and are some unless it is empty.
 #[inline]
-pub(crate) fn is_fair_count(text: &str, count: usize) -> bool
+pub fn is_fair_count(text: &str, count: usize) -> bool
     ensures { IsTrue result ↔ IsFairCount text.now count }
 {
     (count > 0 || text.is_empty()) && text.is_char_boundary(count)
 }
-
-#[cfg(test)]
-mod tests;

@@ -1,0 +1,8 @@
+pub mod Breaks
+pub mod BuildErrors
+pub mod Cached
+pub mod Payload
+pub mod Printed
+pub mod Small
+pub mod Source
+pub mod TextBytes

@@ -1,0 +1,261 @@
+//! Texts that values print.
+ghost use Rattle.std.specs.Prelude.{◌≡◌, ◌++◌, Err, IfErr, IfOk, IfSome, IsErr, IsOk, MatchResult, OnOk, ⊤};
+ghost use Rattle.std.specs.Result.{ForOk};
+ghost use Rattle.std.specs.String.{string_bytes};
+ghost use Rattle.prettyless_text.specs.TextBytes.{bytes_of, IsSmallIfItFits};
+ghost use Rattle.prettyless_text.specs.Printed.{printed_bytes, bytes_so_far, IsPrinted};
+ghost use Rattle.prettyless_text.specs.BuildErrors.{IsMemory};
+ghost use Rattle.prettyless_text.specs.declared.text.BuildError.TheVariants.{Display, Memory};
+
+use crate::small::SmallText;
+use crate::text::{BuildError, Text};
+use arrayvec::ArrayString;
+use std::alloc::{AllocError, Global};
+use std::fmt::Write;
+use std::{fmt, mem};
+
+// A text that was printed: in place where it has at most 22 bytes, and else in memory of its own.
+#[derive(Drop)]
+enum Printed {
+    Short(ArrayString<22>),
+    Long(String),
+}
+
+impl Printed {
+    // Adds a piece at the end. Where memory is refused, all of the text is given up.
+    fn with(self, alloc: Global, piece: &str) -> Result<Self, AllocError>
+        requires { IsPrinted self }
+        ensures sized { IfOk result IsPrinted }
+        ensures added { IfOk result (λ t. printed_bytes t ≡ printed_bytes self ++ piece.now) }
+    {
+        match self {
+            Printed::Short(mut text) => match text.try_push_str(piece) {
+                Ok(()) => Ok(Printed::Short(text)),
+                Err(_) => Ok(Printed::Long(joined(alloc, text.as_str(), piece)?)),
+            },
+            Printed::Long(mut text) => {
+                text.push_str(piece)?;
+                Ok(Printed::Long(text))
+            }
+        }
+    }
+
+    fn into_text<'a>(self, alloc: Global) -> Result<Text<'a>, BuildError>
+        requires { IsPrinted self }
+        ensures bytes { IfOk result (λ t. bytes_of t ≡ printed_bytes self) }
+        ensures small { IfOk result IsSmallIfItFits }
+        ensures err { IfErr result IsMemory }
+    {
+        match self {
+            Printed::Short(text) => Ok(Text::Small(SmallText::from(text))),
+            Printed::Long(text) => Ok(Text::Owned(Box::new(alloc, text.into_boxed_str())?)),
+        }
+    }
+}
+
+fn joined(alloc: Global, front: &str, back: &str) -> Result<String, AllocError>
+    ensures { IfOk result (λ s. string_bytes s ≡ front.now ++ back.now) }
+{
+    let mut text = String::from_str(alloc, front)?;
+    text.push_str(back)?;
+    Ok(text)
+}
+
+// Takes what a value prints.
+#[derive(Drop)]
+struct Printer {
+    // After a refusal of memory it stays an error, also where the value goes on.
+    text: Result<Printed, AllocError>,
+    alloc: Global,
+    ghost sized: { ForOk text IsPrinted },
+}
+
+impl fmt::Write for Printer {
+    ghost write_str_gives = { λ p bs q. bytes_so_far q.text ≡ bytes_so_far p.text ++ bs };
+
+    // It fails where memory was refused, now or before, and only there.
+    fn write_str(&mut self, piece: &str) -> fmt::Result
+        ensures ok { IsOk result → bytes_so_far self.new.text ≡ bytes_so_far self.old.text ++ piece.now }
+        ensures refused { MatchResult result (λ _. IsOk self.new.text) (λ _. IsErr self.new.text) }
+        ensures stays { IsErr self.old.text → IsErr self.new.text }
+    {
+        let Ok(text) = mem::replace(&mut self.text, Err(AllocError)) else {
+            return Err(fmt::Error);
+        };
+        self.text = text.with(self.alloc, piece);
+        if self.text.is_ok() {
+            Ok(())
+        } else {
+            Err(fmt::Error)
+        }
+    }
+}
+
+impl Printer {
+    // What comes of a value that was printed, and answered `outcome`.
+    //
+    // `Memory` comes where memory was refused, whatever the value answered, and only there. `Display` comes where the
+    // value failed and no memory was refused, and only there.
+    fn finished<'a>(self, outcome: fmt::Result) -> Result<Text<'a>, BuildError>
+        ensures memory { IfErr self.text (λ error. result ≡ Err (Memory error)) }
+        ensures display { IsOk self.text → IsErr outcome → result ≡ Err Display }
+        ensures text { IsOk self.text → IsOk outcome → IfErr result IsMemory }
+        ensures ended { IfOk result (λ _. IsOk outcome) }
+        ensures bytes { IfOk result (λ t. bytes_of t ≡ bytes_so_far self.text) }
+        ensures small { IfOk result IsSmallIfItFits }
+    {
+        let text = self.text?;
+        match outcome {
+            Ok(()) => text.into_text(self.alloc),
+            Err(_) => Err(BuildError::Display),
+        }
+    }
+}
+
+fn print<V: fmt::Display + Drop>(printer: &mut Printer, value: V) -> fmt::Result
+    ensures { OnOk result (IfSome (V.output value)
+        (λ o. bytes_so_far printer.new.text ≡ bytes_so_far printer.old.text ++ o)) }
+{
+    printer.write(value)
+}
+
+impl<'a> Text<'a> {
+    /// What `{}` shows of the value: in the node itself if that has at most 22 bytes, and else owned.
+    ///
+    /// Answers `Memory` where memory was refused, also if the value went on, and `Display` where the value's formatting
+    /// failed and no memory was refused.
+    pub fn from_display<V: fmt::Display + Drop>(alloc: Global, value: V) -> Result<Self, BuildError>
+        ensures bytes { IfOk result (λ t. IfSome (V.output value) (λ o. bytes_of t ≡ o)) }
+        ensures small { IfOk result IsSmallIfItFits }
+    {
+        let mut printer = Printer {
+            text: Ok(Printed::Short(ArrayString::new())),
+            alloc,
+        };
+        let outcome = print(&mut printer, value);
+        printer.finished(outcome)
+    }
+}
+
+#[cfg(test)]
+mod tests {
+    use super::*;
+    use std::test::Fail;
+
+    // Prints each of its pieces in turn.
+    #[derive(Drop)]
+    struct Pieces(&'static [&'static str]);
+
+    impl fmt::Display for Pieces {
+        fn fmt<W: fmt::Write>(&self, f: &mut fmt::Formatter<W>) -> fmt::Result {
+            for piece in self.0 {
+                f.write_str(piece)?;
+            }
+            Ok(())
+        }
+    }
+
+    // Fails after a piece.
+    #[derive(Drop)]
+    struct Failing;
+
+    impl fmt::Display for Failing {
+        fn fmt<W: fmt::Write>(&self, f: &mut fmt::Formatter<W>) -> fmt::Result {
+            f.write_str("ab")?;
+            Err(fmt::Error)
+        }
+    }
+
+    // Fails after more bytes than a node has room for.
+    #[derive(Drop)]
+    struct FailingLate;
+
+    impl fmt::Display for FailingLate {
+        fn fmt<W: fmt::Write>(&self, f: &mut fmt::Formatter<W>) -> fmt::Result {
+            f.write_str("a piece of 23 bytes ...")?;
+            Err(fmt::Error)
+        }
+    }
+
+    // Ignores what its writes answer, and ends well.
+    #[derive(Drop)]
+    struct Stubborn;
+
+    impl fmt::Display for Stubborn {
+        fn fmt<W: fmt::Write>(&self, f: &mut fmt::Formatter<W>) -> fmt::Result {
+            let _ = f.write_str("a piece of 23 bytes ...");
+            let _ = f.write_str("c");
+            Ok(())
+        }
+    }
+
+    #[test]
+    fn keeps_22_bytes_in_place(rt: HostRuntime) -> Result<(), Fail> {
+        let text = Text::from_display(rt.alloc(), "1234567890123456789012")?;
+        assert!(rt; matches!(text, Text::Small(_)));
+        assert_eq!(rt; text.as_str(), "1234567890123456789012");
+        Ok(())
+    }
+
+    #[test]
+    fn owns_23_bytes(rt: HostRuntime) -> Result<(), Fail> {
+        let text = Text::from_display(rt.alloc(), "12345678901234567890123")?;
+        assert!(rt; matches!(text, Text::Owned(_)));
+        assert_eq!(rt; text.as_str(), "12345678901234567890123");
+        Ok(())
+    }
+
+    #[test]
+    fn owns_pieces_of_20_and_3_bytes(rt: HostRuntime) -> Result<(), Fail> {
+        let pieces = Pieces(&["12345678901234567890", "123"]);
+        let text = Text::from_display(rt.alloc(), pieces)?;
+        assert!(rt; matches!(text, Text::Owned(_)));
+        assert_eq!(rt; text.as_str(), "12345678901234567890123");
+        Ok(())
+    }
+
+    #[test]
+    fn answers_a_failed_value(rt: HostRuntime) {
+        let answer = Text::from_display(rt.alloc(), Failing);
+        assert!(rt; matches!(answer, Err(BuildError::Display)));
+    }
+
+    #[test]
+    fn answers_a_value_that_failed_late(rt: HostRuntime) {
+        let answer = Text::from_display(rt.alloc(), FailingLate);
+        assert!(rt; matches!(answer, Err(BuildError::Display)));
+    }
+
+    // What comes of a value that is printed where memory was refused.
+    fn printed_without_memory<V: fmt::Display + Drop>(
+        alloc: Global,
+        value: V,
+    ) -> Result<(), BuildError> {
+        let mut printer = Printer {
+            text: Err(AllocError),
+            alloc,
+        };
+        let outcome = print(&mut printer, value);
+        printer.finished(outcome)?;
+        Ok(())
+    }
+
+    #[test]
+    fn answers_memory_where_the_value_ends_well(rt: HostRuntime) {
+        let answer = printed_without_memory(rt.alloc(), Stubborn);
+        assert!(rt; matches!(answer, Err(BuildError::Memory(_))));
+    }
+
+    #[test]
+    fn answers_memory_where_the_value_fails_too(rt: HostRuntime) {
+        let answer = printed_without_memory(rt.alloc(), Failing);
+        assert!(rt; matches!(answer, Err(BuildError::Memory(_))));
+    }
+
+    #[test]
+    fn prints_a_stubborn_value(rt: HostRuntime) -> Result<(), Fail> {
+        let text = Text::from_display(rt.alloc(), Stubborn)?;
+        assert_eq!(rt; text.as_str(), "a piece of 23 bytes ...c");
+        Ok(())
+    }
+}

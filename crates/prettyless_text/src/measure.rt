@@ -1,0 +1,146 @@
+//! The widths of texts, and the metrics of payloads.
+ghost use Rattle.std.specs.Prelude.{◌≡◌, ◌<◌, not, length, take, IfSome};
+ghost use Rattle.std.specs.Option.{option_copied};
+ghost use Rattle.prettyless_model.specs.Metrics as spec;
+ghost use Rattle.prettyless_text.specs.Breaks.{EndsFirstPart, holds_break, parts_left};
+
+use prettyless_model::metrics::Metrics;
+use unicode_width::UnicodeWidthStr;
+
+/// Whether each byte is below 128.
+///
+/// It looks at every byte, in steps of several, where `str::is_ascii` ends at the first that is not, in steps of one.
+pub fn is_ascii(text: &str) -> bool
+    ensures { result ≡ spec.is_ascii text.now }
+{
+    let bytes = text.as_bytes();
+    let mut all = 0;
+    for byte in bytes {
+        all |= *byte;
+    }
+    all < 128
+}
+
+// The columns that a text takes, where it is known whether it is ASCII: its bytes, and else its display width.
+fn width_of(text: &str, ascii: bool) -> usize
+    requires { ascii ≡ spec.is_ascii text.now }
+    ensures { result ≡ spec.text_width text.now }
+{
+    if ascii { text.len() } else { text.width() }
+}
+
+fn is_break(byte: u8) -> bool
+    ensures { result ≡ spec.is_break byte }
+{
+    byte == b'\n' || byte == b'\r'
+}
+
+/// Whether a text holds LF or CR.
+pub fn holds_break(text: &str) -> bool
+    ensures { result ≡ holds_break text.now }
+{
+    text.as_bytes().iter().any(|byte| is_break(*byte))
+}
+
+// What is measured of a part, which is what is between two breaks.
+#[derive(Clone, Copy)]
+struct Part {
+    width: usize,
+    nonempty: bool,
+}
+
+// Where the first part of a text ends, and whether it is ASCII.
+fn scan_part(text: &str) -> (usize, bool)
+    ensures end { EndsFirstPart text.now result.0 }
+    ensures ascii { result.1 ≡ spec.is_ascii (take result.0 text.now) }
+{
+    let bytes = text.as_bytes();
+    let mut ascii = true;
+    for (i, byte) in bytes.iter().enumerate() {
+        if is_break(*byte) {
+            return (i, ascii);
+        }
+        if *byte >= 128 {
+            ascii = false;
+        }
+    }
+    (bytes.len(), ascii)
+}
+
+// The first part of a text, and what follows the break after it, if there is one.
+fn split_part(text: &str) -> (Part, Option<&str>)
+    ensures width { result.0.width ≡ spec.text_width (spec.first_of_parts (spec.parts text.now)) }
+    ensures nonempty { result.0.nonempty
+        ≡ not (spec.is_empty (spec.first_of_parts (spec.parts text.now))) }
+    ensures rest { spec.later_parts (spec.parts text.now) ≡ parts_left (option_copied result.1) }
+    ensures shorter { IfSome result.1 (λ r. length r.now < length text.now) }
+{
+    let (end, ascii) = scan_part(text);
+    let part = Part {
+        width: width_of(&text[..end], ascii),
+        nonempty: end > 0,
+    };
+    if end < text.len() {
+        (part, Some(&text[end + 1..]))
+    } else {
+        (part, None)
+    }
+}
+
+/// The metrics of a source, found in one pass.
+pub fn measure(source: &str) -> Metrics
+    ensures { result ≡ spec.metrics source.now }
+{
+    let (first, mut rest) = split_part(source);
+    let mut metrics = Metrics {
+        first_width: first.width,
+        first_nonempty: first.nonempty,
+        rest_width: 0,
+        last_width: first.width,
+        last_nonempty: first.nonempty,
+    };
+    while let Some(text) = rest {
+        let (part, after) = split_part(text);
+        metrics.rest_width = metrics.rest_width.max(part.width);
+        metrics.last_width = part.width;
+        metrics.last_nonempty = part.nonempty;
+        rest = after;
+    }
+    metrics
+}
+
+#[cfg(test)]
+mod tests {
+    use super::*;
+
+    #[test]
+    fn measures_each_part(rt: HostRuntime) {
+        let metrics = measure("a\r\n\nb\n");
+        assert_eq!(rt; metrics.first_width, 1);
+        assert!(rt; metrics.first_nonempty);
+        assert_eq!(rt; metrics.rest_width, 1);
+        assert_eq!(rt; metrics.last_width, 0);
+        assert!(rt; !metrics.last_nonempty);
+    }
+
+    #[test]
+    fn parts_stand_between_break_bytes(rt: HostRuntime) {
+        let mut rest = Some("a\r\n\nb\n");
+        for width in [1, 0, 0, 1, 0] {
+            let (part, after) = split_part(rest.unwrap_or("no part"));
+            assert_eq!(rt; part.width, width);
+            assert_eq!(rt; part.nonempty, width > 0);
+            rest = after;
+        }
+        assert!(rt; rest.is_none());
+    }
+
+    #[test]
+    fn measures_columns(rt: HostRuntime) {
+        let metrics = measure("\u{4f60}\u{597d}\nabc\n\u{e9}");
+        assert_eq!(rt; metrics.first_width, 4);
+        assert_eq!(rt; metrics.rest_width, 3);
+        assert_eq!(rt; metrics.last_width, 1);
+        assert!(rt; metrics.last_nonempty);
+    }
+}

@@ -1,0 +1,157 @@
+//! Payloads: texts that hold line breaks of their own.
+ghost use Rattle.std.specs.Prelude.{◌≡◌, true, false, IfOk, IfErr, IsOk};
+ghost use Rattle.std.specs.Cow.{cow_str_bytes};
+ghost use Rattle.prettyless_model.specs.Metrics.{metrics};
+ghost use Rattle.prettyless_text.specs.Breaks.{holds_break};
+ghost use Rattle.prettyless_text.specs.Cached.{IsCacheOf};
+ghost use Rattle.prettyless_text.specs.Source.{cache_of, source_bytes};
+ghost use Rattle.prettyless_text.specs.TextBytes.{IfLent};
+
+use crate::cached::CachedMetrics;
+use crate::measure::measure;
+use crate::text::{BuildError, CowStr};
+use prettyless_model::metrics::Metrics;
+use std::alloc::Global;
+use std::boxed::BoxedStr;
+use std::fmt;
+
+// Where the source of a payload is, with its metrics beside it. It takes 32 bytes.
+#[derive(Drop)]
+enum Source<'a> {
+    Owned(CachedMetrics, Box<BoxedStr>),
+    Borrowed(CachedMetrics, &'a str),
+}
+
+/// A text that holds LF or CR, with its metrics. It is written byte for byte.
+#[derive(Drop)]
+pub struct MultilineTextData<'a> {
+    source: Source<'a>,
+    ghost broken: { holds_break (source_bytes source) ≡ true },
+    ghost measured: { IsCacheOf (cache_of source) (metrics (source_bytes source)) },
+}
+
+impl<'a> MultilineTextData<'a> {
+    ghost use Rattle.prettyless_text.specs.BuildErrors.{IsMemory};
+    ghost use Rattle.prettyless_text.specs.Payload.{payload_bytes, is_owned, IfBorrowed};
+
+    /// A payload of this source, which has to hold LF or CR. Only an owned source takes memory, and fails where that is
+    /// refused.
+    pub fn new(alloc: Global, text: CowStr<'a>) -> Result<Self, BuildError>
+        requires { holds_break (cow_str_bytes text) ≡ true }
+        ensures ok { IfOk result (λ p. payload_bytes p ≡ cow_str_bytes text.entry) }
+        ensures borrowed { IfLent text.entry (IsOk result) }
+        ensures err { IfErr result IsMemory }
+    {
+        let cached = CachedMetrics::new(measure(text.as_str()));
+        let source = match text {
+            CowStr::Owned(text) => {
+                Source::Owned(cached, Box::new(alloc, text.into_boxed_str())?)
+            }
+            CowStr::Borrowed(text) => Source::Borrowed(cached, text),
+        };
+        Ok(MultilineTextData { source })
+    }
+
+    // The metrics that are kept, if any are.
+    #[inline(always)]
+    fn cached(&self) -> CachedMetrics
+        ensures { result ≡ cache_of self.now.source }
+    {
+        match &self.source {
+            Source::Owned(cached, _) => *cached,
+            Source::Borrowed(cached, _) => *cached,
+        }
+    }
+
+    /// The source.
+    pub fn as_str(&self) -> &str
+        ensures value { result.now ≡ payload_bytes self.now }
+        ensures broken { holds_break result.now ≡ true }
+    {
+        match &self.source {
+            Source::Owned(_, text) => text.as_str(),
+            Source::Borrowed(_, text) => text,
+        }
+    }
+
+    /// The metrics of the source. They are measured anew only where a part is 2^32 columns wide or
+    /// more.
+    #[inline(always)]
+    pub fn metrics(&self) -> Metrics
+        ensures { result ≡ metrics (payload_bytes self.now) }
+    {
+        match self.cached().get() {
+            Some(metrics) => metrics,
+            None => measure(self.as_str()),
+        }
+    }
+
+    /// Whether the source has memory of its own.
+    pub fn is_owned(&self) -> bool
+        ensures { result ≡ is_owned self.now }
+    {
+        matches!(self.source, Source::Owned(..))
+    }
+
+    /// The payload of another text of the same bytes, which is not measured again.
+    pub fn over<'b>(&self, source: &'b str) -> MultilineTextData<'b>
+        requires { source.now ≡ payload_bytes self.now }
+        ensures bytes { payload_bytes result ≡ payload_bytes self.now }
+        ensures borrowed { is_owned result ≡ false }
+    {
+        MultilineTextData {
+            source: Source::Borrowed(self.cached(), source),
+        }
+    }
+
+    /// The same bytes. Only an owned source takes memory for them, and fails where none was had.
+    pub fn clone(&self, alloc: Global) -> Result<Self, BuildError>
+        ensures ok { IfOk result (λ p. payload_bytes p ≡ payload_bytes self.now) }
+        ensures borrowed { IfBorrowed self.now (IsOk result) }
+        ensures err { IfErr result IsMemory }
+    {
+        let source = match &self.source {
+            Source::Owned(cached, text) => {
+                let copy = BoxedStr::from_str(alloc, text.as_str())?;
+                Source::Owned(*cached, Box::new(alloc, copy)?)
+            }
+            Source::Borrowed(cached, text) => Source::Borrowed(*cached, text),
+        };
+        Ok(MultilineTextData { source })
+    }
+}
+
+/// Shows what `Debug` shows of the source.
+impl fmt::Debug for MultilineTextData<'_> {
+    fn fmt<W: fmt::Write>(&self, f: &mut fmt::Formatter<W>) -> fmt::Result {
+        fmt::Debug::fmt(self.as_str(), f)
+    }
+}
+
+#[cfg(test)]
+mod tests {
+    use super::*;
+    use std::test::Fail;
+
+    #[test]
+    fn shows_its_source(rt: HostRuntime) -> Result<(), Fail> {
+        let payload = MultilineTextData::new(rt.alloc(), CowStr::Borrowed("a\r\nb"))?;
+        assert_eq!(rt;
+            format!(in rt.alloc(); "{payload:?}")?.as_str(),
+            "\"a\\r\\nb\""
+        );
+        Ok(())
+    }
+
+    #[test]
+    fn clones(rt: HostRuntime) -> Result<(), Fail> {
+        let source = String::from_str(rt.alloc(), "one\n  two")?;
+        let owned = MultilineTextData::new(rt.alloc(), CowStr::Owned(source))?;
+        let copy = owned.clone(rt.alloc())?;
+        assert_eq!(rt; copy.as_str(), "one\n  two");
+        assert_eq!(rt; copy.metrics().rest_width, 5);
+        let borrowed = MultilineTextData::new(rt.alloc(), CowStr::Borrowed("a\n"))?;
+        assert_eq!(rt; borrowed.clone(rt.alloc())?.as_str(), "a\n");
+        Ok(())
+    }
+}

@@ -1,0 +1,69 @@
+//! A gap and a text, in pieces.
+ghost use Rattle.std.specs.Prelude.{⊤, Some};
+
+use prettyless_sink::pieces::write_gap_and_text;
+use prettyless_sink::render::Render;
+use std::alloc::{AllocError, Global};
+use std::test::Fail;
+
+// A sink that keeps the lengths of its pieces beside their bytes.
+#[derive(Drop)]
+struct Lengths {
+    pieces: Vec<usize>,
+    bytes: Vec<u8>,
+    failures: u64,
+}
+
+impl Lengths {
+    fn new(memory: Global) -> Self {
+        Lengths {
+            pieces: Vec::new(memory),
+            bytes: Vec::new(memory),
+            failures: 0,
+        }
+    }
+}
+
+impl Render for Lengths {
+    type Error = AllocError;
+
+    ghost bytes = { λ sink. Some sink.bytes.items };
+
+    ghost failures = { λ sink. sink.failures };
+
+    ghost document_errors = { λ _ _. ⊤ };
+
+    fn write_str(&mut self, s: &str) -> Result<usize, AllocError> {
+        if self.pieces.push(s.len()).is_err()
+            || self.bytes.extend_from_slice(s.as_bytes()).is_err()
+        {
+            self.failures = self.failures.saturating_add(1);
+            return Err(AllocError);
+        }
+        Ok(s.len())
+    }
+
+    fn fail_doc(&self) -> AllocError {
+        AllocError
+    }
+}
+
+#[test]
+fn cuts_gaps_at_100(rt: HostRuntime) -> Result<(), Fail> {
+    let mut out = Lengths::new(rt.alloc());
+    write_gap_and_text(&mut out, 205, "x")?;
+    assert_eq!(rt; out.pieces.as_slice(), [100, 100, 5, 1].as_slice());
+    assert_eq!(rt; out.bytes.len(), 206);
+    assert_eq!(rt; out.failures, 0);
+    Ok(())
+}
+
+#[test]
+fn writes_no_empty_piece(rt: HostRuntime) -> Result<(), Fail> {
+    let mut out = Lengths::new(rt.alloc());
+    write_gap_and_text(&mut out, 0, "")?;
+    assert!(rt; out.pieces.is_empty());
+    write_gap_and_text(&mut out, 200, "")?;
+    assert_eq!(rt; out.pieces.as_slice(), [100, 100].as_slice());
+    Ok(())
+}
