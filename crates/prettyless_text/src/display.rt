@@ -193,7 +193,7 @@ mod tests {
     fn keeps_22_bytes_in_place(rt: HostRuntime) -> Result<(), Fail> {
         let text = Text::from_display(rt.alloc(), "1234567890123456789012")?;
         assert!(rt; matches!(text, Text::Small(_)));
-        assert_eq!(rt; text.as_str(), "1234567890123456789012");
+        assert!(rt; text.as_str() == "1234567890123456789012");
         Ok(())
     }
 
@@ -201,7 +201,7 @@ mod tests {
     fn owns_23_bytes(rt: HostRuntime) -> Result<(), Fail> {
         let text = Text::from_display(rt.alloc(), "12345678901234567890123")?;
         assert!(rt; matches!(text, Text::Owned(_)));
-        assert_eq!(rt; text.as_str(), "12345678901234567890123");
+        assert!(rt; text.as_str() == "12345678901234567890123");
         Ok(())
     }
 
@@ -210,7 +210,7 @@ mod tests {
         let pieces = Pieces(&["12345678901234567890", "123"]);
         let text = Text::from_display(rt.alloc(), pieces)?;
         assert!(rt; matches!(text, Text::Owned(_)));
-        assert_eq!(rt; text.as_str(), "12345678901234567890123");
+        assert!(rt; text.as_str() == "12345678901234567890123");
         Ok(())
     }
 
@@ -255,7 +255,7 @@ mod tests {
     #[test]
     fn prints_a_stubborn_value(rt: HostRuntime) -> Result<(), Fail> {
         let text = Text::from_display(rt.alloc(), Stubborn)?;
-        assert_eq!(rt; text.as_str(), "a piece of 23 bytes ...c");
+        assert!(rt; text.as_str() == "a piece of 23 bytes ...c");
         Ok(())
     }
 }

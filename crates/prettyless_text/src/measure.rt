@@ -116,10 +116,10 @@ mod tests {
     #[test]
     fn measures_each_part(rt: HostRuntime) {
         let metrics = measure("a\r\n\nb\n");
-        assert_eq!(rt; metrics.first_width, 1);
+        assert!(rt; metrics.first_width == 1);
         assert!(rt; metrics.first_nonempty);
-        assert_eq!(rt; metrics.rest_width, 1);
-        assert_eq!(rt; metrics.last_width, 0);
+        assert!(rt; metrics.rest_width == 1);
+        assert!(rt; metrics.last_width == 0);
         assert!(rt; !metrics.last_nonempty);
     }
 
@@ -128,8 +128,8 @@ mod tests {
         let mut rest = Some("a\r\n\nb\n");
         for width in [1, 0, 0, 1, 0] {
             let (part, after) = split_part(rest.unwrap_or("no part"));
-            assert_eq!(rt; part.width, width);
-            assert_eq!(rt; part.nonempty, width > 0);
+            assert!(rt; part.width == width);
+            assert!(rt; part.nonempty == (width > 0));
             rest = after;
         }
         assert!(rt; rest.is_none());
@@ -138,9 +138,9 @@ mod tests {
     #[test]
     fn measures_columns(rt: HostRuntime) {
         let metrics = measure("\u{4f60}\u{597d}\nabc\n\u{e9}");
-        assert_eq!(rt; metrics.first_width, 4);
-        assert_eq!(rt; metrics.rest_width, 3);
-        assert_eq!(rt; metrics.last_width, 1);
+        assert!(rt; metrics.first_width == 4);
+        assert!(rt; metrics.rest_width == 3);
+        assert!(rt; metrics.last_width == 1);
         assert!(rt; metrics.last_nonempty);
     }
 }

@@ -93,7 +93,7 @@ fn others<'a>(rt: &impl Abort, arena: &'a Arena<'a>) -> Result<(), Fail> {
     arena.alloc(Doc::Text(Text::Borrowed("  ")))?;
     arena.alloc(Doc::TextWithLen(1, Text::Borrowed(" ")))?;
     arena.alloc(Doc::Append(space, space))?;
-    assert_eq!(rt; arena.len(), 3);
+    assert!(rt; arena.len() == 3);
     Ok(())
 }
 
@@ -112,7 +112,7 @@ fn placed<'a>(rt: &impl Abort, bump: &'a Bump, arena: &'a Arena<'a>) -> Result<(
     bump.set_allocation_limit(None);
     let line = arena.softline()?.into_doc()?;
     assert!(rt; matches!(line.doc(), Doc::Group(_)));
-    assert_eq!(rt; arena.len(), 4);
+    assert!(rt; arena.len() == 4);
     Ok(())
 }
 

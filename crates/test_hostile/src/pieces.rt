@@ -80,13 +80,13 @@ fn compare_pieces(
     sink: &Pieces,
     pieces: &[&str],
 ) -> Result<(), Fail> {
-    assert_eq!(rt; sink.lengths.len(), pieces.len());
+    assert!(rt; sink.lengths.len() == pieces.len());
     let mut bytes = Vec::new(memory);
     for (length, piece) in sink.lengths.iter().zip(pieces) {
-        assert_eq!(rt; *length, piece.len(), "{piece}");
+        assert!(rt; *length == piece.len(), "{piece}");
         bytes.extend_from_slice(piece.as_bytes())?;
     }
-    assert_eq!(rt; sink.bytes.as_slice(), bytes.as_slice());
+    assert!(rt; sink.bytes.as_slice() == bytes.as_slice());
     Ok(())
 }
 
@@ -101,12 +101,12 @@ fn compare(
     let (sink, ended) = rendered(memory, document, options, usize::MAX)?;
     assert!(rt; !ended);
     compare_pieces(rt, memory, &sink, pieces)?;
-    assert_eq!(rt; sink.failures, 0);
+    assert!(rt; sink.failures == 0);
     for room in 0..pieces.len() {
         let (sink, ended) = rendered(memory, document, options, room)?;
         assert!(rt; ended);
         compare_pieces(rt, memory, &sink, &pieces[..room])?;
-        assert_eq!(rt; sink.failures, 1);
+        assert!(rt; sink.failures == 1);
     }
     Ok(())
 }

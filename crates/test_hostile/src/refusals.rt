@@ -46,14 +46,14 @@ fn compare<'a>(
     let before = arena.alloc(Doc::Text(Text::Borrowed("ab")))?;
     bump.set_allocation_limit(Some(bump.allocated_bytes()));
     assert!(rt; matches!(arena.alloc(refused), Err(BuildError::Memory(_))));
-    assert_eq!(rt; arena.len(), 1);
+    assert!(rt; arena.len() == 1);
     let after = arena.alloc(Doc::Append(before, before))?;
-    assert_eq!(rt; arena.len(), 2);
+    assert!(rt; arena.len() == 2);
     bump.set_allocation_limit(None);
     let placed = arena.alloc(again)?;
-    assert_eq!(rt; arena.len(), 3);
-    assert_eq!(rt; layout(memory, before)?.as_str(), "ab");
-    assert_eq!(rt; layout(memory, after)?.as_str(), "abab");
+    assert!(rt; arena.len() == 3);
+    assert!(rt; layout(memory, before)?.as_str() == "ab");
+    assert!(rt; layout(memory, after)?.as_str() == "abab");
     Ok(placed)
 }
 
@@ -62,7 +62,7 @@ fn texts<'a>(rt: &impl Abort, bump: &'a Bump, arena: &'a Arena<'a>) -> Result<()
     let refused = Doc::Text(text_of(memory)?);
     let again = Doc::Text(text_of(memory)?);
     let placed = compare(rt, memory, bump, arena, refused, again)?;
-    assert_eq!(rt; layout(memory, placed)?.len(), LETTERS + 1);
+    assert!(rt; layout(memory, placed)?.len() == LETTERS + 1);
     Ok(())
 }
 
@@ -78,7 +78,7 @@ fn counted_texts<'a>(rt: &impl Abort, bump: &'a Bump, arena: &'a Arena<'a>) -> R
     let refused = Doc::TextWithLen(1, text_of(memory)?);
     let again = Doc::TextWithLen(1, text_of(memory)?);
     let placed = compare(rt, memory, bump, arena, refused, again)?;
-    assert_eq!(rt; layout(memory, placed)?.len(), LETTERS + 1);
+    assert!(rt; layout(memory, placed)?.len() == LETTERS + 1);
     Ok(())
 }
 
@@ -94,7 +94,7 @@ fn payloads<'a>(rt: &impl Abort, bump: &'a Bump, arena: &'a Arena<'a>) -> Result
     let refused = payload_of(memory)?;
     let again = payload_of(memory)?;
     let placed = compare(rt, memory, bump, arena, refused, again)?;
-    assert_eq!(rt; layout(memory, placed)?.len(), LETTERS + 2);
+    assert!(rt; layout(memory, placed)?.len() == LETTERS + 2);
     Ok(())
 }
 
@@ -112,8 +112,8 @@ fn measures<'a>(rt: &impl Abort, arena: &'a Arena<'a>) -> Result<(), Fail> {
         return Err(Fail::from("no payload"));
     };
     assert!(rt; !payload.is_owned());
-    assert_eq!(rt; payload.metrics().first_width, LETTERS);
-    assert_eq!(rt; payload.metrics().last_width, 1);
+    assert!(rt; payload.metrics().first_width == LETTERS);
+    assert!(rt; payload.metrics().last_width == 1);
     Ok(())
 }
 

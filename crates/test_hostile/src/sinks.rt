@@ -141,9 +141,9 @@ fn compare_ended(rt: &impl Abort, row: &BoxRow<'_>, sink: &Hostile, fault: &Faul
     let layout = row.layout;
     let wrong = sink.wrong;
     let wrong_call = sink.wrong_call;
-    assert_eq!(rt; *fault, fault_of(wrong), "{layout}");
-    assert_eq!(rt; sink.failures, 1, "{layout}");
-    assert_eq!(rt; sink.calls, wrong_call, "{layout}");
+    assert!(rt; *fault == fault_of(wrong), "{layout}");
+    assert!(rt; sink.failures == 1, "{layout}");
+    assert!(rt; sink.calls == wrong_call, "{layout}");
     assert!(rt;
         layout.as_bytes().starts_with(sink.bytes.as_slice()),
         "{layout} {wrong:?} {wrong_call}"
@@ -153,10 +153,10 @@ fn compare_ended(rt: &impl Abort, row: &BoxRow<'_>, sink: &Hostile, fault: &Faul
 // Compares what a sink has whose call did not come.
 fn compare_undisturbed(rt: &impl Abort, row: &BoxRow<'_>, sink: &Hostile, fails: bool) {
     let layout = row.layout;
-    assert_eq!(rt; fails, row.fails, "{layout}");
-    assert_eq!(rt; sink.failures, 0, "{layout}");
+    assert!(rt; fails == row.fails, "{layout}");
+    assert!(rt; sink.failures == 0, "{layout}");
     assert!(rt; sink.calls < sink.wrong_call, "{layout}");
-    assert_eq!(rt; sink.bytes.as_slice(), layout.as_bytes(), "{layout}");
+    assert!(rt; sink.bytes.as_slice() == layout.as_bytes(), "{layout}");
 }
 
 // How a render to this sink ends.
@@ -179,7 +179,7 @@ fn compare(
     match ending(memory, row, &mut sink) {
         Ok(()) => compare_undisturbed(rt, row, &sink, false),
         Err(RenderError::Document(fault)) => {
-            assert_eq!(rt; fault, Fault::Document, "{layout}");
+            assert!(rt; fault == Fault::Document, "{layout}");
             compare_undisturbed(rt, row, &sink, true);
         }
         Err(RenderError::Sink(fault)) => {
@@ -214,7 +214,7 @@ fn compare_all(rt: &impl Abort, memory: Global, step: Step, wrong: Wrong) -> Res
         let ends_at = compare_calls(rt, memory, row, step, wrong)?;
         assert!(rt; 1 < ends_at);
         if !matches!(step, Step::Whole) {
-            assert_eq!(rt; ends_at, row.layout.len().saturating_add(1));
+            assert!(rt; ends_at == row.layout.len().saturating_add(1));
         }
     }
     Ok(())
@@ -259,12 +259,12 @@ fn compare_character<'a, T: DocPtr<'a>>(
     let mut sink = Hostile::new(memory, step, Wrong::Refuses, usize::MAX);
     match document.doc().render_raw(memory, 80, &mut sink) {
         Ok(()) => assert!(rt; ends_well),
-        Err(RenderError::Sink(fault)) => assert_eq!(rt; fault, Fault::Count),
+        Err(RenderError::Sink(fault)) => assert!(rt; fault == Fault::Count),
         Err(_) => panic!(rt; "{step:?}"),
     }
-    assert_eq!(rt; sink.bytes.as_slice(), bytes, "{step:?}");
-    assert_eq!(rt; sink.failures, u64::from(!ends_well), "{step:?}");
-    assert_eq!(rt; sink.calls, 1, "{step:?}");
+    assert!(rt; sink.bytes.as_slice() == bytes, "{step:?}");
+    assert!(rt; sink.failures == u64::from(!ends_well), "{step:?}");
+    assert!(rt; sink.calls == 1, "{step:?}");
 }
 
 fn compare_steps<'a, D: DocPlace<'a>>(rt: &impl Abort, place: &'a D) -> Result<(), Fail> {
@@ -296,8 +296,8 @@ fn compare_count<'a, T: DocPtr<'a>>(
     let mut sink = Hostile::new(memory, Step::Whole, wrong, 2);
     let result = document.doc().render_raw_with(memory, options, &mut sink);
     assert!(rt; matches!(result, Err(RenderError::Sink(Fault::Count))));
-    assert_eq!(rt; sink.failures, 1, "{wrong:?}");
-    assert_eq!(rt; sink.bytes.as_slice(), layout.as_bytes(), "{wrong:?}");
+    assert!(rt; sink.failures == 1, "{wrong:?}");
+    assert!(rt; sink.bytes.as_slice() == layout.as_bytes(), "{wrong:?}");
 }
 
 // Compares what a sink has that answers a bad count for its second piece, which is a space.
@@ -349,8 +349,8 @@ fn compare_full<'a, D: DocPlace<'a>>(rt: &impl Abort, place: &'a D) -> Result<()
     let mut sink = Hostile::new(memory, Step::Byte, Wrong::Refuses, 3);
     let result = document.doc().render_raw(memory, 80, &mut sink);
     assert!(rt; matches!(result, Err(RenderError::Sink(Fault::Refused))));
-    assert_eq!(rt; sink.bytes.as_slice(), b"ab".as_slice());
-    assert_eq!(rt; sink.failures, 1);
+    assert!(rt; sink.bytes.as_slice() == b"ab".as_slice());
+    assert!(rt; sink.failures == 1);
     Ok(())
 }
 

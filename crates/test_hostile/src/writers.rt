@@ -109,9 +109,9 @@ fn compare_all_of_bytes(
     ending: &Ending<ErrorKind>,
 ) {
     let layout = row.layout;
-    assert_eq!(rt; *ending, undisturbed(row), "{layout}");
-    assert_eq!(rt; writer.bytes.as_slice(), layout.as_bytes(), "{layout}");
-    assert_eq!(rt; writer.failures, 0, "{layout}");
+    assert!(rt; *ending == undisturbed(row), "{layout}");
+    assert!(rt; writer.bytes.as_slice() == layout.as_bytes(), "{layout}");
+    assert!(rt; writer.failures == 0, "{layout}");
 }
 
 // Compares what a writer has whose call went wrong.
@@ -126,10 +126,10 @@ fn compare_ended_bytes(
         Wrong::IsInterrupted => ErrorKind::Interrupted,
         Wrong::TakesNothing => ErrorKind::WriteZero,
     };
-    assert_eq!(rt; *ending, Ending::Sink(kind), "{layout}");
-    assert_eq!(rt; writer.bytes.as_slice(), before, "{layout}");
-    assert_eq!(rt; writer.failures, 1, "{layout}");
-    assert_eq!(rt; writer.calls, writer.wrong_call, "{layout}");
+    assert!(rt; *ending == Ending::Sink(kind), "{layout}");
+    assert!(rt; writer.bytes.as_slice() == before, "{layout}");
+    assert!(rt; writer.failures == 1, "{layout}");
+    assert!(rt; writer.calls == writer.wrong_call, "{layout}");
 }
 
 // Compares how a render ends of which one call goes wrong, and answers whether it comes to that call.
@@ -192,8 +192,8 @@ fn a_character_is_written_byte_by_byte(rt: HostRuntime) -> Result<(), Fail> {
     let document = accented(&boxes)?;
     let mut writer = ByBytes::new(rt.alloc(), Wrong::TakesNothing, usize::MAX);
     let ending = ending_of_bytes(rt.alloc(), &document, 80, &mut writer)?;
-    assert_eq!(rt; ending, Ending::Laid);
-    assert_eq!(rt; writer.bytes.as_slice(), b"\xc3\xa9".as_slice());
+    assert!(rt; ending == Ending::Laid);
+    assert!(rt; writer.bytes.as_slice() == b"\xc3\xa9".as_slice());
     Ok(())
 }
 
@@ -273,8 +273,8 @@ fn compare_all_of_pieces(
     ending: &Ending<fmt::Error>,
 ) {
     let layout = row.layout;
-    assert_eq!(rt; *ending, undisturbed(row), "{layout}");
-    assert_eq!(rt; writer.bytes.as_slice(), layout.as_bytes(), "{layout}");
+    assert!(rt; *ending == undisturbed(row), "{layout}");
+    assert!(rt; writer.bytes.as_slice() == layout.as_bytes(), "{layout}");
     assert!(rt; writer.pieces < writer.wrong_piece, "{layout}");
 }
 
@@ -286,14 +286,14 @@ fn compare_ended_pieces(
     ending: &Ending<fmt::Error>,
 ) {
     let wrong_piece = writer.wrong_piece;
-    assert_eq!(rt; *ending, Ending::Sink(fmt::Error), "{layout}");
+    assert!(rt; *ending == Ending::Sink(fmt::Error), "{layout}");
     assert!(rt;
         layout.as_bytes().starts_with(writer.bytes.as_slice()),
         "{layout} {wrong_piece}"
     );
     assert!(rt; wrong_piece <= writer.bytes.len(), "{layout} {wrong_piece}");
-    assert_eq!(rt; writer.failures, 1, "{layout}");
-    assert_eq!(rt; writer.pieces, wrong_piece, "{layout}");
+    assert!(rt; writer.failures == 1, "{layout}");
+    assert!(rt; writer.pieces == wrong_piece, "{layout}");
 }
 
 // Compares how a render ends of which one piece goes wrong, and answers whether it comes to that piece.

@@ -23,7 +23,7 @@ fn write_indented<W: TextWriter>(out: &mut W, text: &str) -> fmt::Result
 fn appends_to_the_text(rt: HostRuntime) -> Result<(), Fail> {
     let mut text = String::from_str(rt.alloc(), "ab\n")?;
     write_indented(&mut text, "é")?;
-    assert_eq!(rt; text.as_str(), "ab\n  é");
+    assert!(rt; text.as_str() == "ab\n  é");
     Ok(())
 }
 
@@ -31,8 +31,8 @@ fn appends_to_the_text(rt: HostRuntime) -> Result<(), Fail> {
 fn answers_the_whole_length(rt: HostRuntime) -> Result<(), Fail> {
     let mut text = String::new(rt.alloc());
     let mut sink = FmtWrite::new(&mut text);
-    assert_eq!(rt; sink.write_str("é")?, 2);
-    assert_eq!(rt; text.as_str(), "é");
+    assert!(rt; sink.write_str("é")? == 2);
+    assert!(rt; text.as_str() == "é");
     Ok(())
 }
 
@@ -41,7 +41,7 @@ fn writes_to_any_text_writer(rt: HostRuntime) -> Result<(), Fail> {
     let mut text = String::new(rt.alloc());
     let mut writer = Untold(&mut text);
     FmtWrite::new(&mut writer).write_str_all("a")?;
-    assert_eq!(rt; text.as_str(), "a");
+    assert!(rt; text.as_str() == "a");
     Ok(())
 }
 
@@ -77,8 +77,8 @@ fn writes_no_refused_piece_again(rt: HostRuntime) -> Result<(), Fail> {
         bytes: Vec::new(rt.alloc()),
     };
     let mut sink = FmtWrite::new(&mut writer);
-    assert_eq!(rt; write_gap_and_text(&mut sink, 2, "é"), Err(fmt::Error));
-    assert_eq!(rt; writer.pieces, 2);
-    assert_eq!(rt; writer.bytes.as_slice(), b"  \xc3".as_slice());
+    assert!(rt; write_gap_and_text(&mut sink, 2, "é") == Err(fmt::Error));
+    assert!(rt; writer.pieces == 2);
+    assert!(rt; writer.bytes.as_slice() == b"  \xc3".as_slice());
     Ok(())
 }

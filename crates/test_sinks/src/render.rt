@@ -73,18 +73,18 @@ fn sink_with(rt: &HostRuntime, count: usize, of_everything: bool) -> Short {
 #[test]
 fn stops_inside_a_character(rt: HostRuntime) -> Result<(), Fail> {
     let mut sink = sink_with(&rt, 1, true);
-    assert_eq!(rt; sink.write_str_all("é"), Err(Fault::Count));
-    assert_eq!(rt; sink.bytes.as_slice(), b"\xc3".as_slice());
-    assert_eq!(rt; sink.failures, 1);
+    assert!(rt; sink.write_str_all("é") == Err(Fault::Count));
+    assert!(rt; sink.bytes.as_slice() == b"\xc3".as_slice());
+    assert!(rt; sink.failures == 1);
     Ok(())
 }
 
 #[test]
 fn goes_on_between_characters(rt: HostRuntime) -> Result<(), Fail> {
     let mut sink = sink_with(&rt, 1, true);
-    assert_eq!(rt; sink.write_str_all("abc"), Ok(()));
-    assert_eq!(rt; sink.bytes.as_slice(), b"abc".as_slice());
-    assert_eq!(rt; sink.failures, 0);
+    assert!(rt; sink.write_str_all("abc") == Ok(()));
+    assert!(rt; sink.bytes.as_slice() == b"abc".as_slice());
+    assert!(rt; sink.failures == 0);
     Ok(())
 }
 
@@ -92,10 +92,10 @@ fn goes_on_between_characters(rt: HostRuntime) -> Result<(), Fail> {
 fn stops_at_a_bad_count(rt: HostRuntime) -> Result<(), Fail> {
     for (count, bytes) in [(0, "a"), (2, "a "), (usize::MAX, "a ")] {
         let mut sink = sink_with(&rt, count, false);
-        assert_eq!(rt; sink.write_str_all("a"), Ok(()));
-        assert_eq!(rt; write_gap_and_text(&mut sink, 1, "b"), Err(Fault::Count));
-        assert_eq!(rt; sink.bytes.as_slice(), bytes.as_bytes());
-        assert_eq!(rt; sink.failures, 1);
+        assert!(rt; sink.write_str_all("a") == Ok(()));
+        assert!(rt; write_gap_and_text(&mut sink, 1, "b") == Err(Fault::Count));
+        assert!(rt; sink.bytes.as_slice() == bytes.as_bytes());
+        assert!(rt; sink.failures == 1);
     }
     Ok(())
 }
@@ -103,6 +103,6 @@ fn stops_at_a_bad_count(rt: HostRuntime) -> Result<(), Fail> {
 #[test]
 fn the_document_fails(rt: HostRuntime) -> Result<(), Fail> {
     let sink = sink_with(&rt, 0, false);
-    assert_eq!(rt; sink.fail_doc(), Fault::Document);
+    assert!(rt; sink.fail_doc() == Fault::Document);
     Ok(())
 }

@@ -76,7 +76,7 @@ where
 {
     let document = read(place, written)?;
     let printed = format!(in place.memory(); "{document:?}")?;
-    assert_eq!(rt; printed.as_str(), shown);
+    assert!(rt; printed.as_str() == shown);
     Ok(())
 }
 
@@ -132,7 +132,7 @@ fn lines_have_a_borrowed_space(rt: HostRuntime) -> Result<(), Fail> {
     let boxes = BoxAllocator::new(rt.alloc());
     let line = line_of_an_owned_space(rt.alloc(), &boxes)?;
     let shown = format!(in rt.alloc(); "{line:?}")?;
-    assert_eq!(rt; shown.as_str(), "FlatOrBreak(\" \", HardLine)");
+    assert!(rt; shown.as_str() == "FlatOrBreak(\" \", HardLine)");
     Ok(())
 }
 
@@ -140,7 +140,7 @@ fn lines_have_a_borrowed_space(rt: HostRuntime) -> Result<(), Fail> {
 fn compare_builder<'a, D: DocPlace<'a>>(rt: &impl Abort, place: &'a D) -> Result<(), Fail> {
     let builder = place.softline()?;
     let shown = format!(in place.memory(); "{builder:?}")?;
-    assert_eq!(rt; shown.as_str(), "SoftLineOrSpace");
+    assert!(rt; shown.as_str() == "SoftLineOrSpace");
     Ok(())
 }
 
@@ -148,7 +148,7 @@ fn compare_builder<'a, D: DocPlace<'a>>(rt: &impl Abort, place: &'a D) -> Result
 fn compare_node<'a, D: DocPlace<'a>>(rt: &impl Abort, place: &'a D) -> Result<(), Fail> {
     let node: BuildDoc<'a, D::Doc> = BuildDoc::Doc(Doc::Nest(2, place.line_()?.into_doc()?));
     let shown = format!(in place.memory(); "{node:?}")?;
-    assert_eq!(rt; shown.as_str(), "Nest(2, LineOrNil)");
+    assert!(rt; shown.as_str() == "Nest(2, LineOrNil)");
     Ok(())
 }
 
@@ -156,7 +156,7 @@ fn compare_node<'a, D: DocPlace<'a>>(rt: &impl Abort, place: &'a D) -> Result<()
 fn compare_placed<'a, D: DocPlace<'a>>(rt: &impl Abort, place: &'a D) -> Result<(), Fail> {
     let node: BuildDoc<'a, D::Doc> = BuildDoc::DocPtr(place.line_()?.nest(2)?.into_doc()?);
     let shown = format!(in place.memory(); "{node:?}")?;
-    assert_eq!(rt; shown.as_str(), "Nest(2, LineOrNil)");
+    assert!(rt; shown.as_str() == "Nest(2, LineOrNil)");
     Ok(())
 }
 

@@ -4,28 +4,28 @@ use prettyless::{BoxDoc, BuildDoc, Doc, RcDoc, RefDoc};
 
 #[test]
 fn texts_and_payloads(rt: HostRuntime) {
-    assert_eq!(rt; size_of::<SmallText>(), 23);
-    assert_eq!(rt; size_of::<Text<'static>>(), 24);
-    assert_eq!(rt; size_of::<MultilineTextData<'static>>(), 32);
+    assert!(rt; size_of::<SmallText>() == 23);
+    assert!(rt; size_of::<Text<'static>>() == 24);
+    assert!(rt; size_of::<MultilineTextData<'static>>() == 32);
 }
 
 #[test]
 fn pointers(rt: HostRuntime) {
-    assert_eq!(rt; size_of::<BoxDoc<'static>>(), 8);
-    assert_eq!(rt; size_of::<RcDoc<'static>>(), 8);
-    assert_eq!(rt; size_of::<RefDoc<'static>>(), 8);
+    assert!(rt; size_of::<BoxDoc<'static>>() == 8);
+    assert!(rt; size_of::<RcDoc<'static>>() == 8);
+    assert!(rt; size_of::<RefDoc<'static>>() == 8);
 }
 
 #[test]
 fn nodes(rt: HostRuntime) {
-    assert_eq!(rt; size_of::<Doc<'static, BoxDoc<'static>>>(), 40);
-    assert_eq!(rt; size_of::<Doc<'static, RcDoc<'static>>>(), 40);
-    assert_eq!(rt; size_of::<Doc<'static, RefDoc<'static>>>(), 40);
+    assert!(rt; size_of::<Doc<'static, BoxDoc<'static>>>() == 40);
+    assert!(rt; size_of::<Doc<'static, RcDoc<'static>>>() == 40);
+    assert!(rt; size_of::<Doc<'static, RefDoc<'static>>>() == 40);
 }
 
 #[test]
 fn documents_in_the_making(rt: HostRuntime) {
-    assert_eq!(rt; size_of::<BuildDoc<'static, BoxDoc<'static>>>(), 48);
-    assert_eq!(rt; size_of::<BuildDoc<'static, RcDoc<'static>>>(), 48);
-    assert_eq!(rt; size_of::<BuildDoc<'static, RefDoc<'static>>>(), 48);
+    assert!(rt; size_of::<BuildDoc<'static, BoxDoc<'static>>>() == 48);
+    assert!(rt; size_of::<BuildDoc<'static, RcDoc<'static>>>() == 48);
+    assert!(rt; size_of::<BuildDoc<'static, RefDoc<'static>>>() == 48);
 }

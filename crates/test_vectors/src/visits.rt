@@ -61,8 +61,8 @@ fn nodes_are_counted(rt: HostRuntime) -> Result<(), Fail> {
     for (width, written, printer, probes) in CASES {
         let (visits, fails) = visits(rt.alloc(), width, written)?;
         assert!(rt; !fails, "{written} at {width}");
-        assert_eq!(rt; visits.printer, printer, "{written} at {width}");
-        assert_eq!(rt; visits.probes, probes, "{written} at {width}");
+        assert!(rt; visits.printer == printer, "{written} at {width}");
+        assert!(rt; visits.probes == probes, "{written} at {width}");
     }
     Ok(())
 }
@@ -71,7 +71,7 @@ fn nodes_are_counted(rt: HostRuntime) -> Result<(), Fail> {
 fn a_failing_node_is_counted(rt: HostRuntime) -> Result<(), Fail> {
     let (visits, fails) = visits(rt.alloc(), 80, "Fail")?;
     assert!(rt; fails);
-    assert_eq!(rt; visits.printer, 1);
-    assert_eq!(rt; visits.probes, 0);
+    assert!(rt; visits.printer == 1);
+    assert!(rt; visits.probes == 0);
     Ok(())
 }

@@ -22,10 +22,10 @@ fn compare_bytes<'a, D: DocPlace<'a>>(rt: &impl Abort, place: &'a D) -> Result<(
     let document = read(place, WRITTEN)?;
     let mut out = Vec::new(memory);
     document.doc().render(memory, 80, &mut out)?;
-    assert_eq!(rt; out.as_slice(), b"ab\n  \n  c".as_slice());
+    assert!(rt; out.as_slice() == b"ab\n  \n  c".as_slice());
     let mut out = Vec::new(memory);
     document.doc().render_with(memory, late(), &mut out)?;
-    assert_eq!(rt; out.as_slice(), b"ab\r\n\r\n  c".as_slice());
+    assert!(rt; out.as_slice() == b"ab\r\n\r\n  c".as_slice());
     Ok(())
 }
 
@@ -43,9 +43,9 @@ fn compare_displayed<'a, D: DocPlace<'a>>(rt: &impl Abort, place: &'a D) -> Resu
     let memory = place.memory();
     let document = read(place, WRITTEN)?;
     let printed = printed(memory, &document)?;
-    assert_eq!(rt; printed.as_str(), "ab\n  \n  c");
+    assert!(rt; printed.as_str() == "ab\n  \n  c");
     let printed = displayed(memory, &document, late())?;
-    assert_eq!(rt; printed.as_str(), "ab\r\n\r\n  c");
+    assert!(rt; printed.as_str() == "ab\r\n\r\n  c");
     Ok(())
 }
 
@@ -67,7 +67,7 @@ fn compare_flags<'a, T: DocPtr<'a>>(
         format!(in memory; "{shown:-<020.3}")?,
         format!(in memory; "{shown:+#}")?,
     ] {
-        assert_eq!(rt; printed.as_str(), "ab\n  \n  c");
+        assert!(rt; printed.as_str() == "ab\n  \n  c");
     }
     Ok(())
 }
@@ -91,7 +91,7 @@ fn compare_text_sink<'a, T: DocPtr<'a>>(
     let mut out = String::new(memory);
     let mut sink = FmtWrite::new(&mut out);
     document.doc().render_raw(memory, 80, &mut sink)?;
-    assert_eq!(rt; out.as_str(), "ab\n  \n  c");
+    assert!(rt; out.as_str() == "ab\n  \n  c");
     Ok(())
 }
 
@@ -103,7 +103,7 @@ fn compare_byte_sink<'a, T: DocPtr<'a>>(
     let mut out = Vec::new(memory);
     let mut sink = IoWrite::new(&mut out);
     document.doc().render_raw_with(memory, late(), &mut sink)?;
-    assert_eq!(rt; out.as_slice(), b"ab\r\n\r\n  c".as_slice());
+    assert!(rt; out.as_slice() == b"ab\r\n\r\n  c".as_slice());
     Ok(())
 }
 
@@ -147,7 +147,7 @@ fn compare_before<'a, D: DocPlace<'a>>(rt: &impl Abort, place: &'a D) -> Result<
     let mut out = Vec::new(memory);
     let result = document.doc().render(memory, 80, &mut out);
     assert!(rt; matches!(result, Err(RenderError::Document(_))));
-    assert_eq!(rt; out.as_slice(), b"a".as_slice());
+    assert!(rt; out.as_slice() == b"a".as_slice());
     Ok(())
 }
 

@@ -9,9 +9,9 @@ fn answers_lines(rt: HostRuntime) -> Result<(), Fail> {
     let mut input = b"# a comment\n80 crlf eager hl\n\n\xff\n80 lf eager t c3a4".as_slice();
     let mut written = Vec::new(rt.alloc());
     run(rt.alloc(), &mut input, &mut IoWrite::new(&mut written))?;
-    assert_eq!(rt;
-        written.as_slice(),
-        b"ok 0d0a\nerror line 4: expected WIDTH lf|crlf eager|deferred NODE\nok c3a4\n".as_slice()
+    assert!(rt;
+        written.as_slice()
+            == b"ok 0d0a\nerror line 4: expected WIDTH lf|crlf eager|deferred NODE\nok c3a4\n".as_slice()
     );
     Ok(())
 }
@@ -36,7 +36,7 @@ fn reports_a_writer_that_is_full(rt: HostRuntime) -> Result<(), Fail> {
     let error = run(rt.alloc(), &mut input, &mut IoWrite::new(&mut Full))
         .err()
         .ok_or("written")?;
-    assert_eq!(rt; error.kind(), ErrorKind::StorageFull);
+    assert!(rt; error.kind() == ErrorKind::StorageFull);
     Ok(())
 }
 
@@ -60,7 +60,7 @@ fn reports_a_reader_that_fails(rt: HostRuntime) -> Result<(), Fail> {
     let error = run(rt.alloc(), &mut reader, &mut IoWrite::new(&mut written))
         .err()
         .ok_or("read")?;
-    assert_eq!(rt; error.kind(), ErrorKind::ConnectionReset);
-    assert_eq!(rt; written.as_slice(), b"ok -\n".as_slice());
+    assert!(rt; error.kind() == ErrorKind::ConnectionReset);
+    assert!(rt; written.as_slice() == b"ok -\n".as_slice());
     Ok(())
 }

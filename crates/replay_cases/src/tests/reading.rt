@@ -20,7 +20,7 @@ fn lays_out_cases(rt: HostRuntime) -> Result<(), Fail> {
         ("80 lf eager app m 610a t 62", "ok 610a62"),
     ] {
         let written = replayed(rt.alloc(), line.as_bytes())?;
-        assert_eq!(rt; written.as_str(), outcome);
+        assert!(rt; written.as_str() == outcome);
     }
     Ok(())
 }
@@ -41,7 +41,7 @@ fn refuses_lines(rt: HostRuntime) {
         ("80 lf eager nil nil", Expected::End),
     ] {
         match replayed(rt.alloc(), line.as_bytes()) {
-            Err(Refusal::NotACase(expected)) => assert_eq!(rt; expected, missing),
+            Err(Refusal::NotACase(expected)) => assert!(rt; expected == missing),
             _ => panic!(rt; "{line} is not refused"),
         }
     }
@@ -60,18 +60,15 @@ fn groups(rt: &HostRuntime, count: u32) -> Result<String, Fail> {
 #[test]
 fn lays_out_deep_documents(rt: HostRuntime) -> Result<(), Fail> {
     let line = groups(&rt, 50_000)?;
-    assert_eq!(rt; replayed(rt.alloc(), line.as_bytes())?.as_str(), "ok -");
+    assert!(rt; replayed(rt.alloc(), line.as_bytes())?.as_str() == "ok -");
     Ok(())
 }
 
 #[test]
 fn texts_are_words(rt: HostRuntime) -> Result<(), Fail> {
-    assert_eq!(rt;
-        word_of(rt.alloc(), "Aä\n".as_bytes())?.as_str(),
-        "41c3a40a"
-    );
-    assert_eq!(rt; word_of(rt.alloc(), b"".as_slice())?.as_str(), "-");
-    assert_eq!(rt; text(rt.alloc(), b"41c3a40a")?.as_str(), "Aä\n");
+    assert!(rt; word_of(rt.alloc(), "Aä\n".as_bytes())?.as_str() == "41c3a40a");
+    assert!(rt; word_of(rt.alloc(), b"".as_slice())?.as_str() == "-");
+    assert!(rt; text(rt.alloc(), b"41c3a40a")?.as_str() == "Aä\n");
     for word in ["", "4", "4G", "4A", "ff"] {
         assert!(rt;
             matches!(
@@ -85,7 +82,7 @@ fn texts_are_words(rt: HostRuntime) -> Result<(), Fail> {
 
 #[test]
 fn offsets_are_words(rt: HostRuntime) {
-    assert_eq!(rt; offset(b"-9223372036854775808"), Some(isize::MIN));
-    assert_eq!(rt; offset(b"9223372036854775807"), Some(isize::MAX));
-    assert_eq!(rt; offset(b"9223372036854775808"), None);
+    assert!(rt; offset(b"-9223372036854775808") == Some(isize::MIN));
+    assert!(rt; offset(b"9223372036854775807") == Some(isize::MAX));
+    assert!(rt; offset(b"9223372036854775808") == None);
 }

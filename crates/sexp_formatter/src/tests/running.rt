@@ -86,7 +86,10 @@ fn layouts_are_written(rt: HostRuntime) -> Result<(), Fail> {
         )
         .ok()
         .ok_or(input)?;
-        assert_eq!(rt; written.as_slice(), layout.as_bytes(), "{input} at {width}");
+        assert!(rt;
+            written.as_slice() == layout.as_bytes(),
+            "{input} at {width}"
+        );
     }
     Ok(())
 }
@@ -105,9 +108,8 @@ fn no_width_loses_content(rt: HostRuntime) -> Result<(), Fail> {
         .ok()
         .ok_or("a layout")?;
         written.retain(|byte| !matches!(*byte, b' ' | b'\n'));
-        assert_eq!(rt;
-            written.as_slice(),
-            b"((1)(23)(456))".as_slice(),
+        assert!(rt;
+            written.as_slice() == b"((1)(23)(456))".as_slice(),
             "at {width}"
         );
     }
@@ -127,7 +129,7 @@ fn lines_end_as_chosen(rt: HostRuntime) -> Result<(), Fail> {
         run(rt.alloc(), options, &mut reader, &mut written)
             .ok()
             .ok_or("a layout")?;
-        assert_eq!(rt; written.as_slice(), b"(1\r\n 2\r\n 3)\n".as_slice());
+        assert!(rt; written.as_slice() == b"(1\r\n 2\r\n 3)\n".as_slice());
     }
     Ok(())
 }
@@ -137,9 +139,8 @@ fn other_inputs_are_refused(rt: HostRuntime) {
     for input in ["", "(1 2", "( 1)", "(1  2)", "4294967296", "1\r\n"] {
         let mut reader = input.as_bytes();
         let mut written = Vec::new(rt.alloc());
-        assert_eq!(rt;
-            status(run(rt.alloc(), RenderOptions::new(5), &mut reader, &mut written)),
-            1,
+        assert!(rt;
+            status(run(rt.alloc(), RenderOptions::new(5), &mut reader, &mut written)) == 1,
             "{input}"
         );
         assert!(rt; written.is_empty(), "{input}");
@@ -152,9 +153,8 @@ fn long_inputs_are_refused(rt: HostRuntime) -> Result<(), Fail> {
         let input = vec![in rt.alloc(); b'0'; len]?;
         let mut reader = input.as_slice();
         let mut written = Vec::new(rt.alloc());
-        assert_eq!(rt;
-            status(run(rt.alloc(), RenderOptions::new(5), &mut reader, &mut written)),
-            ending,
+        assert!(rt;
+            status(run(rt.alloc(), RenderOptions::new(5), &mut reader, &mut written)) == ending,
             "{len}"
         );
     }
@@ -170,15 +170,14 @@ fn deep_inputs_are_refused(rt: HostRuntime) -> Result<(), Fail> {
         }
         let mut reader = input.as_slice();
         let mut written = Vec::new(rt.alloc());
-        assert_eq!(rt;
-            status(run(rt.alloc(), RenderOptions::new(5), &mut reader, &mut written)),
-            ending,
+        assert!(rt;
+            status(run(rt.alloc(), RenderOptions::new(5), &mut reader, &mut written)) == ending,
             "{levels}"
         );
         // A list of one document is laid out on one line.
         if ending == 0 {
             input.push(b'\n')?;
-            assert_eq!(rt; written.as_slice(), input.as_slice());
+            assert!(rt; written.as_slice() == input.as_slice());
         } else {
             assert!(rt; written.is_empty(), "{levels}");
         }
@@ -208,14 +207,13 @@ fn a_failing_reader_ends_the_run(rt: HostRuntime) {
                 &mut written,
             );
             let fails = calls < reads;
-            assert_eq!(rt;
-                matches!(result, Err(RunError::Read(_))),
-                fails,
+            assert!(rt;
+                matches!(result, Err(RunError::Read(_))) == fails,
                 "{input} at {calls}"
             );
             let ending = if fails { 3 } else { ending };
-            assert_eq!(rt; status(result), ending, "{input} at {calls}");
-            assert_eq!(rt; written.is_empty(), ending != 0, "{input} at {calls}");
+            assert!(rt; status(result) == ending, "{input} at {calls}");
+            assert!(rt; written.is_empty() == (ending != 0), "{input} at {calls}");
         }
     }
 }
@@ -240,8 +238,8 @@ fn a_failing_writer_ends_the_run(rt: HostRuntime) {
             } else {
                 ErrorKind::WriteZero
             };
-            assert_eq!(rt; kind, Some(wanted), "{room}");
-            assert_eq!(rt; writer.taken.as_slice(), &layout[..room], "{room}");
+            assert!(rt; kind == Some(wanted), "{room}");
+            assert!(rt; writer.taken.as_slice() == &layout[..room], "{room}");
         }
     }
 }
@@ -254,11 +252,8 @@ fn a_slow_writer_gets_all(rt: HostRuntime) {
         room: 100,
         interrupted: true,
     };
-    assert_eq!(rt;
-        status(run(rt.alloc(), RenderOptions::new(5), &mut reader, &mut writer)),
-        0
-    );
-    assert_eq!(rt; writer.taken.as_slice(), b"(1\n 2\n 3)\n".as_slice());
+    assert!(rt; status(run(rt.alloc(), RenderOptions::new(5), &mut reader, &mut writer)) == 0);
+    assert!(rt; writer.taken.as_slice() == b"(1\n 2\n 3)\n".as_slice());
 }
 
 #[test]
@@ -268,7 +263,7 @@ fn endings_have_their_statuses_and_texts(rt: HostRuntime) {
         (Ending::NotAnSexp, 1, "error: not an S-expression"),
         (Ending::Failed, 3, "error: render failed"),
     ] {
-        assert_eq!(rt; ending.status(), status);
-        assert_eq!(rt; ending.message(), message);
+        assert!(rt; ending.status() == status);
+        assert!(rt; ending.message() == message);
     }
 }
