@@ -1,0 +1,2 @@
+mod Classes
+mod Gaps
