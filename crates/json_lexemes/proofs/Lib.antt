@@ -1,2 +1,4 @@
 mod Classes
 mod Gaps
+mod Ended
+mod Words
