@@ -2,3 +2,4 @@ mod Classes
 mod Gaps
 mod Ended
 mod Words
+mod Strings
