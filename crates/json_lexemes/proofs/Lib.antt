@@ -3,3 +3,5 @@ mod Gaps
 mod Ended
 mod Words
 mod Strings
+mod Following
+mod Reading

@@ -1,8 +1,9 @@
 -- A word in the text: the lexer and the cut pass over it up to an operator, a space or the end.
-use Rattle.std.proofs.Common.{◌≡◌, ℕ, Bool, true, false, ◌||◌, ◌⊎◌, inl, inr, List, [], ◌∷◌, ◌++◌, refl, sym, ap, ap₂, ◌∙◌}
+use Rattle.std.proofs.Common.{◌≡◌, ℕ, Bool, true, false, ◌||◌, ◌⊎◌, inl, inr, List, [], ◌∷◌, ◌++◌, Option, Some, None, cond, ◌==◌, refl, sym, ap, ap₂, ◌∙◌}
 use Rattle.std.proofs.lemmas.Bool.{or_parts, cases_Bool, or_cases, false≢true, true≢false}
 use Rattle.std.specs.Prelude.{⊤}
-use Rattle.json.specs.Word.{is_operator, is_space, ends_word, word}
+use Rattle.json.specs.Token.{Token, begin_object, end_object, begin_array, end_array, key, string, number, boolean, null, bad}
+use Rattle.json.specs.Word.{is_operator, is_space, head, ends_word, after_number, number_before, word}
 use Rattle.json.specs.Lex.{Lexeme, token, Mode, between, in_word, Class, quote, backslash, operator, space, other, class, lex, lex_byte}
 use Rattle.json.proofs.Printed.Numbers.{in_word-ended}
 use Rattle.json_lexemes.specs.Lexemes.{lengthened, cut, cut_byte}
@@ -69,3 +70,31 @@ lex-word x w r is run ended =
 pub cut-word : (x : ℕ) (w r : List ℕ) → class x ≡ other → IsRun w → ends_word r ≡ true → cut between ((x ∷ w) ++ r) ≡ (x ∷ w) ∷ cut between r
 unfolding cut
 cut-word x w r is run ended = ap (λ c. cut_byte between c x (λ m. cut m (w ++ r))) is ∙ ap (lengthened x) (cut-run w r run ended)
+
+-- ---- a word is a number, a literal or bad
+
+abbrev pub IsWord : Token → Type 0
+IsWord begin_object = ⊥
+IsWord end_object = ⊥
+IsWord begin_array = ⊥
+IsWord end_array = ⊥
+IsWord (key s) = ⊥
+IsWord (string s) = ⊥
+IsWord (number s) = ⊤
+IsWord (boolean v) = ⊤
+IsWord null = ⊤
+IsWord bad = ⊤
+
+either : (b : Bool) (s t : Token) → IsWord s → IsWord t → IsWord (cond b s t)
+either true s t p q = p
+either false s t p q = q
+
+number_word : (t : List ℕ) (o : Option (List ℕ)) → IsWord (number_before t o)
+number_word t None = tt
+number_word t (Some r) = either (ends_word r) _ bad tt tt
+
+pub IsWord-word : (t : List ℕ) → IsWord (word t)
+unfolding word
+IsWord-word t =
+    either (head t == 116) _ _ (either _ (boolean true) bad tt tt) (either (head t == 102) _ _ (either _ (boolean false) bad tt tt)
+    (either (head t == 110) _ _ (either _ null bad tt tt) (number_word t (after_number t))))
