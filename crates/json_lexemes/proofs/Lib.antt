@@ -5,3 +5,5 @@ mod Words
 mod Strings
 mod Following
 mod Reading
+mod Places
+mod Firsts

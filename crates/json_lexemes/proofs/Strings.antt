@@ -64,13 +64,13 @@ passes false true x r k l = (refl, refl)
 passes false false x r k l = (refl, refl)
 
 module _ (x : ℕ) (r : List ℕ) (q : (x == 34) ≡ false) (b : (x == 92) ≡ false) where
-  lex-inside : lex in_string (x ∷ r) ≡ lex in_string r
+  pub lex-inside : lex in_string (x ∷ r) ≡ lex in_string r
   unfolding lex
   lex-inside =
       (λ i. lex_byte in_string (cond (q i) quote (cond (b i) backslash (cond (is_operator x) operator (cond (is_space x) space other)))) x r (λ m. lex m r))
       ∙ (passes (is_operator x) (is_space x) x r (λ m. lex m r) (λ m. cut m r)).0
 
-  cut-inside : cut in_string (x ∷ r) ≡ lengthened x (cut in_string r)
+  pub cut-inside : cut in_string (x ∷ r) ≡ lengthened x (cut in_string r)
   unfolding cut
   cut-inside =
       (λ i. cut_byte in_string (cond (q i) quote (cond (b i) backslash (cond (is_operator x) operator (cond (is_space x) space other)))) x (λ m. cut m r))

@@ -54,7 +54,7 @@ cut-ended (x ∷ xs) h = go (or_cases _ _ h)
     go (inl e) = rw (class-operator x e)
     go (inr e) = rw (class-space x e)
 
-cut-run : (w r : List ℕ) → IsRun w → ends_word r ≡ true → cut in_word (w ++ r) ≡ w ∷ cut between r
+pub cut-run : (w r : List ℕ) → IsRun w → ends_word r ≡ true → cut in_word (w ++ r) ≡ w ∷ cut between r
 unfolding cut
 cut-run [] r h ended = cut-ended r ended
 cut-run (x ∷ w) r h ended =

@@ -1,3 +1,4 @@
 pub mod Lexemes
 pub mod Spaced
 pub mod Laws
+pub mod View
