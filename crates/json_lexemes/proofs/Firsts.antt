@@ -1,14 +1,16 @@
 -- The first lexeme from a place of the text on.
-use Rattle.std.proofs.Common.{◌≡◌, ℕ, suc, ◌+◌, ◌-◌, ◌<◌, ◌≤◌, ◌≢◌, Bool, true, false, ◌||◌, ◌==◌, cond, List, [], ◌∷◌, length, take, drop, get_or, inl, inr, ◌⊎◌, refl, sym, ap, ◌∙◌, subst, arith, length-drop}
+use Rattle.std.proofs.Common.{◌≡◌, ℕ, suc, ◌+◌, ◌-◌, ◌<◌, ◌≤◌, ◌≢◌, Bool, true, false, ◌||◌, ◌==◌, cond, List, [], ◌∷◌, length, take, drop, get_or, inl, inr, ◌⊎◌, refl, sym, ap, ◌∙◌, subst, arith, length-drop, ◌++◌, map, append_assoc, append-nil}
 use Rattle.std.proofs.lemmas.Bool.{cases_lt, ne_eqb, or_from}
-use Rattle.std.proofs.lemmas.List.{drop_more, length-take-le}
+use Rattle.std.proofs.lemmas.List.{drop_more, drop_all, length-take-le, map_push}
 use Rattle.std.proofs.lemmas.Str.{IsCharBoundary-after_ascii, IsCharBoundary-before_ascii, IsCharBoundary-end}
 use Rattle.std.specs.Str.{IsUtf8, IsCharBoundary}
 use Rattle.json.specs.Word.{head, is_operator, is_space}
 use Rattle.json.specs.Lex.{Class, quote, backslash, operator, space, other, class, Mode, between, in_word, in_string}
 use Rattle.json_lexemes.specs.Lexemes.{lengthened, cut, cut_byte}
-use Rattle.json_lexemes.specs.View.{IsFirst}
-use Rattle.json_lexemes.proofs.Classes.{class-operator, each_operator}
+use Rattle.json_lexemes.specs.View.{text_of, IsFirst}
+use Rattle.json_lexemes.specs.declared.lexeme.Lexeme.{Lexeme}
+use Rattle.json_lexemes.proofs.Classes.{class-operator, class-space, each_operator, each_space}
+use Rattle.json_lexemes.proofs.Reading.{cut-space}
 
 pub no_operator : (x : ℕ) → x ≢ 123 → x ≢ 125 → x ≢ 91 → x ≢ 93 → x ≢ 58 → x ≢ 44 → is_operator x ≡ false
 no_operator x a b c d e f =
@@ -31,6 +33,7 @@ module _ (d : List ℕ) (place : ℕ) (lt : place < length d) where
   unfolding cut
   first_sign x utf8 here h =
       record {
+        some = omega arith;
         within = omega arith;
         boundary = IsCharBoundary-after_ascii d place utf8 lt (subst (λ y. y < 128) (sym here) (ascii x h));
         cuts = ap (cut between) (drop_more d place 0 lt ∙ ap (λ y. y ∷ drop (place + 1) d) here) ∙ ap (λ c. cut_byte between c x (λ m. cut m (drop (place + 1) d))) (class-operator x h);
@@ -61,6 +64,7 @@ module _ (d : List ℕ) (place : ℕ) (lt : place < length d) where
         → cut m (drop (place + 1) d) ≡ tail ∷ cut between (drop end d) → IsCharBoundary d end → IsFirst d place slice
     first_slice m begun rest boundary =
         record {
+          some = omega (arith, slice_end);
           within = omega (arith, slice_end);
           boundary = subst (IsCharBoundary d) (sym slice_end) boundary;
           cuts = ap (cut between) (drop_more d place 0 lt) ∙ begun ∙ ap (lengthened (get_or d place 0)) rest
@@ -98,3 +102,24 @@ boundary_before d end within small = go (cases_lt end (length d))
     go : (end < length d) ⊎ (length d ≤ end) → IsCharBoundary d end
     go (inl more) = IsCharBoundary-before_ascii d end more (small more)
     go (inr past) = let k : length d ≡ end = omega arith in subst (IsCharBoundary d) k (IsCharBoundary-end d)
+
+-- ---- the lexemes so far
+
+abbrev Found : List ℕ → List Lexeme → ℕ → Type 0
+Found d found place = map text_of found ++ cut between (drop place d) ≡ cut between d
+
+pub found_more : (d : List ℕ) (found : List Lexeme) (l : Lexeme) (place : ℕ) → IsFirst d place (text_of l) → Found d found place → Found d (found ++ l ∷ []) (place + length (text_of l))
+found_more d found l place first h =
+    ap (λ ss. ss ++ cut between (drop (place + length (text_of l)) d)) (map_push text_of found l)
+    ∙ append_assoc (map text_of found) (text_of l ∷ []) (cut between (drop (place + length (text_of l)) d)) ∙ ap (λ ss. map text_of found ++ ss) (sym first.cuts) ∙ h
+
+pub found_past_space : (d : List ℕ) (found : List Lexeme) (place : ℕ) → place < length d → is_space (get_or d place 0) ≡ true → Found d found place → Found d found (place + 1)
+found_past_space d found place lt e h =
+    ap (λ ss. map text_of found ++ ss) (sym (ap (cut between) (drop_more d place 0 lt) ∙ cut-space (get_or d place 0) (drop (place + 1) d) (class-space (get_or d place 0) e))) ∙ h
+
+pub found_all : (d : List ℕ) (found : List Lexeme) (place : ℕ) → length d ≤ place → Found d found place → map text_of found ≡ cut between d
+unfolding cut
+found_all d found place past h = sym (append-nil (map text_of found)) ∙ ap (λ xs. map text_of found ++ cut between xs) (sym (drop_all place d past)) ∙ h
+
+pub space_ascii : (x : ℕ) → is_space x ≡ true → x < 128
+space_ascii = each_space (λ y. y < 128) (omega arith) (omega arith) (omega arith) (omega arith)

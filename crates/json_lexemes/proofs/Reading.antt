@@ -20,7 +20,7 @@ lex-space : (x : ℕ) (xs : List ℕ) → class x ≡ space → lex between (x �
 unfolding lex
 lex-space x xs e = ap (λ c. lex_byte between c x xs (λ m. lex m xs)) e
 
-cut-space : (x : ℕ) (xs : List ℕ) → class x ≡ space → cut between (x ∷ xs) ≡ cut between xs
+pub cut-space : (x : ℕ) (xs : List ℕ) → class x ≡ space → cut between (x ∷ xs) ≡ cut between xs
 unfolding cut
 cut-space x xs e = ap (λ c. cut_byte between c x (λ m. cut m xs)) e
 

@@ -1,5 +1,5 @@
 -- What a clause sees of a lexeme.
-use Rattle.std.specs.Prelude.{◌≡◌, ◌≢◌, ℕ, ◌+◌, ◌≤◌, false, List, [], ◌∷◌, length, drop, ⊤}
+use Rattle.std.specs.Prelude.{◌≡◌, ◌≢◌, ℕ, ◌+◌, ◌<◌, ◌≤◌, false, List, [], ◌∷◌, length, drop, ⊤}
 use Rattle.std.specs.Str.{IsCharBoundary}
 use Rattle.json.specs.Ascii as ascii
 use Rattle.json.specs.Word.{head, is_operator}
@@ -32,6 +32,7 @@ IsNamed (Word s) = (head s.now ≢ ascii.quote) × (is_operator (head s.now) ≡
 
 -- the first lexeme from a place of the text on, after which the others come
 pub record IsFirst (text : List ℕ) (place : ℕ) (lexeme : List ℕ) : Type 0 where
+  pub some : 0 < length lexeme
   pub within : place + length lexeme ≤ length text
   pub boundary : IsCharBoundary text (place + length lexeme)
   pub cuts : cut between (drop place text) ≡ lexeme ∷ cut between (drop (place + length lexeme) text)
