@@ -1,5 +1,5 @@
 -- What a byte's class says of the byte.
-use Rattle.std.proofs.Common.{◌≡◌, ℕ, Bool, true, false, cond, ◌==◌, ◌||◌, ◌⊎◌, inl, inr, refl, sym, ap, ◌∙◌, subst}
+use Rattle.std.proofs.Common.{◌≡◌, ℕ, Bool, true, false, cond, ◌==◌, ◌||◌, ◌⊎◌, inl, inr, refl, sym, subst}
 use Rattle.std.proofs.lemmas.Bool.{eqb-true, or_cases}
 use Rattle.json.specs.Word.{is_operator, is_space}
 use Rattle.json.specs.Lex.{Class, quote, backslash, operator, space, other, class}

@@ -1,11 +1,11 @@
 -- The first lexeme from a place of the text on.
-use Rattle.std.proofs.Common.{◌≡◌, ℕ, suc, ◌+◌, ◌-◌, ◌<◌, ◌≤◌, ◌≢◌, Bool, true, false, ◌||◌, ◌==◌, cond, List, [], ◌∷◌, length, take, drop, get_or, inl, inr, ◌⊎◌, refl, sym, ap, ◌∙◌, subst, arith, length-drop, ◌++◌, map, append_assoc, append-nil}
+use Rattle.std.proofs.Common.{◌≡◌, ℕ, suc, ◌+◌, ◌-◌, ◌<◌, ◌≤◌, ◌≢◌, Bool, true, false, ◌==◌, cond, List, [], ◌∷◌, length, take, drop, get_or, inl, inr, ◌⊎◌, refl, sym, ap, ◌∙◌, subst, arith, length-drop, ◌++◌, map, append_assoc, append-nil}
 use Rattle.std.proofs.lemmas.Bool.{cases_lt, ne_eqb, or_from}
 use Rattle.std.proofs.lemmas.List.{drop_more, drop_all, length-take-le, map_push}
 use Rattle.std.proofs.lemmas.Str.{IsCharBoundary-after_ascii, IsCharBoundary-before_ascii, IsCharBoundary-end}
 use Rattle.std.specs.Str.{IsUtf8, IsCharBoundary}
 use Rattle.json.specs.Word.{head, is_operator, is_space}
-use Rattle.json.specs.Lex.{Class, quote, backslash, operator, space, other, class, Mode, between, in_word, in_string}
+use Rattle.json.specs.Lex.{quote, backslash, operator, space, other, class, Mode, between, in_word, in_string}
 use Rattle.json_lexemes.specs.Lexemes.{lengthened, cut, cut_byte}
 use Rattle.json_lexemes.specs.View.{text_of, IsFirst}
 use Rattle.json_lexemes.specs.declared.lexeme.Lexeme.{Lexeme}

@@ -1,10 +1,9 @@
 -- A text is its lexemes, with gaps around them.
-use Rattle.std.proofs.Common.{◌≡◌, ℕ, true, List, [], ◌∷◌, ◌++◌, refl, sym, ap, ◌∙◌}
-use Rattle.std.specs.Prelude.{⊤}
+use Rattle.std.proofs.Common.{◌≡◌, ℕ, true, List, [], ◌∷◌, ◌++◌, refl, ap}
 use Rattle.json.specs.Word.{is_space}
 use Rattle.json.specs.Lex.{Mode, between, in_word, in_string, in_escape, Class, quote, backslash, operator, space, other, class}
 use Rattle.json_lexemes.specs.Lexemes.{lengthened, cut_byte, cut}
-use Rattle.json_lexemes.specs.Spaced.{IsGap, IsSpaced}
+use Rattle.json_lexemes.specs.Spaced.{IsSpaced}
 use Rattle.json_lexemes.proofs.Classes.{Says, Says-class}
 
 -- the text goes on with what is left of a lexeme, and then with the others

@@ -1,5 +1,5 @@
 -- The cut of a text, between two places of it.
-use Rattle.std.proofs.Common.{◌≡◌, ℕ, suc, ◌+◌, ◌-◌, ◌<◌, ◌≤◌, ◌≢◌, Bool, true, false, ◌||◌, ◌==◌, List, [], ◌∷◌, ◌++◌, length, take, drop, get_or, inl, inr, ◌⊎◌, refl, sym, ap, ap₂, ◌∙◌, subst, arith, append_assoc, append-nil, length-drop, take-append-drop, drop-drop}
+use Rattle.std.proofs.Common.{◌≡◌, ℕ, ◌+◌, ◌-◌, ◌<◌, ◌≤◌, ◌≢◌, true, false, List, [], ◌∷◌, ◌++◌, length, take, drop, get_or, inl, inr, ◌⊎◌, sym, ap, ap₂, ◌∙◌, subst, arith, append_assoc, append-nil, length-drop, take-append-drop, drop-drop}
 use Rattle.std.proofs.lemmas.Bool.{or_cases, cases_lt, ne_eqb}
 use Rattle.std.proofs.lemmas.List.{take_more, drop_more, drop_all, take_all, get_or-drop}
 use Rattle.json.specs.Word.{is_operator, is_space, ends_word}

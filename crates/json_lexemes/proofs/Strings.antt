@@ -5,7 +5,7 @@ use Rattle.std.specs.Char.{is_digit, encode_utf8}
 use Rattle.json.specs.Text.{code_unit, short_escape, is_high_surrogate, is_low_surrogate, surrogate_pair, Within, plain, after_backslash, after_u, after_high, prepend, content}
 use Rattle.json.specs.Word.{is_operator, is_space}
 use Rattle.json.specs.Token.{string}
-use Rattle.json.specs.Lex.{Lexeme, token, string_token, Class, quote, backslash, operator, space, other, class, Mode, between, in_string, in_escape, lex, lex_byte}
+use Rattle.json.specs.Lex.{Lexeme, token, string_token, quote, backslash, operator, space, other, Mode, between, in_string, in_escape, lex, lex_byte}
 use Rattle.json.proofs.Found.{not_found}
 use Rattle.json_lexemes.specs.Lexemes.{lengthened, cut, cut_byte}
 

@@ -1,8 +1,7 @@
-use Rattle.std.proofs.Common.{◌≡◌, ◌≢◌, ◌+◌, ◌≤◌, length, take, drop, get_or, false, refl, sym, ap, ◌∙◌, subst, arith}
-use Rattle.std.specs.Str.{IsCharBoundary}
+use Rattle.std.proofs.Common.{◌≡◌, ◌≢◌, ◌+◌, ◌≤◌, length, get_or, false, refl, sym, ◌∙◌, subst, arith}
 use Rattle.json.specs.Word.{is_operator}
 use Rattle.json_lexemes.specs.View.{IsFirst}
-use Rattle.json_lexemes.proofs.Firsts.{no_operator, first_sign, first_string, first_word, slice_head, boundary_after, boundary_before}
+use Rattle.json_lexemes.proofs.Firsts.{no_operator, first_sign, first_string, first_word, boundary_after, boundary_before}
 use Rattle.json_lexemes.proofs.cut.lexeme_at.Goals as goal
 
 pub returns-in-123-clause-some : goal.returns-in-123-clause-some

@@ -1,4 +1,4 @@
-use Rattle.std.proofs.Common.{◌≡◌, ◌-◌, ◌≤◌, ◌++◌, length, drop, map, All}
+use Rattle.std.proofs.Common.{◌≡◌, ◌-◌, ◌++◌, length, drop, map, All}
 use Rattle.std.specs.Str.{IsCharBoundary}
 use Rattle.json.specs.Lex.{between}
 use Rattle.json_lexemes.specs.Lexemes.{cut}

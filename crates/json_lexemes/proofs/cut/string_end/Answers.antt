@@ -1,4 +1,4 @@
-use Rattle.std.proofs.Common.{◌≡◌, get_or, sym, ◌∙◌, arith}
+use Rattle.std.proofs.Common.{arith}
 use Rattle.json_lexemes.proofs.Places.{inside_more, inside_escape, closes_here, never_closes}
 use Rattle.json_lexemes.proofs.cut.string_end.Goals as goal
 
