@@ -7,8 +7,7 @@ use Rattle.std.specs.Str.{IsUtf8, IsCharBoundary}
 use Rattle.json.specs.Word.{head, is_operator, is_space}
 use Rattle.json.specs.Lex.{quote, backslash, operator, space, other, class, Mode, between, in_word, in_string}
 use Rattle.json_lexemes.specs.Lexemes.{lengthened, cut, cut_byte}
-use Rattle.json_lexemes.specs.View.{text_of, IsFirst}
-use Rattle.json_lexemes.specs.declared.lexeme.Lexeme.{Lexeme}
+use Rattle.json_lexemes.specs.View.{IsFirst}
 use Rattle.json_lexemes.proofs.Classes.{class-operator, class-space, each_operator, each_space}
 use Rattle.json_lexemes.proofs.Reading.{cut-space}
 
@@ -103,23 +102,26 @@ boundary_before d end within small = go (cases_lt end (length d))
     go (inl more) = IsCharBoundary-before_ascii d end more (small more)
     go (inr past) = let k : length d ≡ end = omega arith in subst (IsCharBoundary d) k (IsCharBoundary-end d)
 
--- ---- the lexemes so far
+-- ---- spaces
 
-abbrev Found : List ℕ → List Lexeme → ℕ → Type 0
-Found d found place = map text_of found ++ cut between (drop place d) ≡ cut between d
-
-pub found_more : (d : List ℕ) (found : List Lexeme) (l : Lexeme) (place : ℕ) → IsFirst d place (text_of l) → Found d found place → Found d (found ++ l ∷ []) (place + length (text_of l))
-found_more d found l place first h =
-    ap (λ ss. ss ++ cut between (drop (place + length (text_of l)) d)) (map_push text_of found l)
-    ∙ append_assoc (map text_of found) (text_of l ∷ []) (cut between (drop (place + length (text_of l)) d)) ∙ ap (λ ss. map text_of found ++ ss) (sym first.cuts) ∙ h
-
-pub found_past_space : (d : List ℕ) (found : List Lexeme) (place : ℕ) → place < length d → is_space (get_or d place 0) ≡ true → Found d found place → Found d found (place + 1)
-found_past_space d found place lt e h =
-    ap (λ ss. map text_of found ++ ss) (sym (ap (cut between) (drop_more d place 0 lt) ∙ cut-space (get_or d place 0) (drop (place + 1) d) (class-space (get_or d place 0) e))) ∙ h
-
-pub found_all : (d : List ℕ) (found : List Lexeme) (place : ℕ) → length d ≤ place → Found d found place → map text_of found ≡ cut between d
-unfolding cut
-found_all d found place past h = sym (append-nil (map text_of found)) ∙ ap (λ xs. map text_of found ++ cut between xs) (sym (drop_all place d past)) ∙ h
+pub past_space : (d : List ℕ) (place : ℕ) → place < length d → is_space (get_or d place 0) ≡ true → cut between (drop (place + 1) d) ≡ cut between (drop place d)
+past_space d place lt e =
+    sym (ap (cut between) (drop_more d place 0 lt) ∙ cut-space (get_or d place 0) (drop (place + 1) d) (class-space (get_or d place 0) e))
 
 pub space_ascii : (x : ℕ) → is_space x ≡ true → x < 128
 space_ascii = each_space (λ y. y < 128) (omega arith) (omega arith) (omega arith) (omega arith)
+
+-- a text may be cut after spaces, where it may be cut before them
+pub boundary_past : (d : List ℕ) (from place : ℕ) → IsUtf8 d → IsCharBoundary d from → from ≤ place → place ≤ length d → (from < place → get_or d (place - 1) 0 < 128) → IsCharBoundary d place
+boundary_past d from place utf8 before le within after = go (cases_lt from place)
+  where
+    go : (from < place) ⊎ (place ≤ from) → IsCharBoundary d place
+    go (inl more) =
+        let k : place - 1 + 1 ≡ place = omega arith in
+        subst (IsCharBoundary d) k (IsCharBoundary-after_ascii d (place - 1) utf8 (omega arith) (after more))
+    go (inr none) = let k : from ≡ place = omega arith in subst (IsCharBoundary d) k before
+
+-- at the end of the text no lexeme is left
+pub cut-past : (d : List ℕ) (place : ℕ) → length d ≤ place → cut between (drop place d) ≡ []
+unfolding cut
+cut-past d place past = ap (cut between) (drop_all place d past)

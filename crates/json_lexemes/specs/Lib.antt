@@ -2,3 +2,4 @@ pub mod Lexemes
 pub mod Spaced
 pub mod Laws
 pub mod View
+pub mod Lexer

@@ -4,10 +4,11 @@
 mod cut;
 mod laws;
 mod lexeme;
+mod lexer;
 
-pub use cut::lexemes;
 pub use laws::{law_reading, law_spacing};
 pub use lexeme::Lexeme;
+pub use lexer::{Lexer, lexemes};
 
 #[cfg(test)]
 mod tests;
