@@ -1,0 +1,9 @@
+mod Classes
+mod Gaps
+mod Ended
+mod Words
+mod Strings
+mod Following
+mod Reading
+mod Places
+mod Firsts

@@ -1,0 +1,19 @@
+use Rattle.std.proofs.Common.{◌≡◌, ◌≤◌, [], length, drop, sym, ap, ◌∙◌, arith}
+use Rattle.json.specs.Lex.{between}
+use Rattle.json_lexemes.specs.Lexemes.{cut}
+use Rattle.json_lexemes.proofs.Firsts.{boundary_past, cut-past}
+use Rattle.json_lexemes.proofs.lexer.Lexer.next.Goals as goal
+
+pub returns-then-place-text-clause-next : goal.returns-then-place-text-clause-next
+returns-then-place-text-clause-next c =
+    let d = c.self.inside.text.now in
+    let place = c.spaces_end-place.result in
+    let none : cut between (drop place d) ≡ [] = cut-past d place (omega arith) in
+    let passed : cut between (drop place d) ≡ cut between (drop c.self.inside.place d) = rw (← c.as_bytes.ensures.value) c.spaces_end-place.ensures.cut in
+    (sym c.self.view_is ∙ sym passed ∙ none, none)
+
+pub lexeme_at-lexeme-requires-clause-boundary : goal.lexeme_at-lexeme-requires-clause-boundary
+lexeme_at-lexeme-requires-clause-boundary c =
+    let same = c.as_bytes.ensures.value in
+    boundary_past c.self.inside.text.now c.self.inside.place c.spaces_end-place.result c.self.invariant.utf8 c.self.invariant.boundary c.spaces_end-place.ensures.bounds.0
+    (rw (← same) c.spaces_end-place.ensures.bounds.1) (rw (← same) c.spaces_end-place.ensures.after)

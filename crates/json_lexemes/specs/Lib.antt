@@ -1,0 +1,5 @@
+pub mod Lexemes
+pub mod Spaced
+pub mod Laws
+pub mod View
+pub mod Lexer

@@ -1,0 +1,12 @@
+ghost use Rattle.json_lexemes.specs.Laws.{GapsKeepReadings, TextsAreSpacedLexemes};
+
+/// A text is its lexemes in their order, with nothing but spaces before, between and after them.
+pub fn law_spacing()
+    ensures { TextsAreSpacedLexemes }
+{}
+
+/// The lexemes of a text that is a JSON value, with any spaces around them or none, are a text of the same value, and of
+/// the same lexemes.
+pub fn law_reading()
+    ensures { GapsKeepReadings }
+{}
