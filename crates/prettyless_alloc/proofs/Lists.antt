@@ -1,0 +1,20 @@
+-- Marks after all documents but the last, and brackets around some documents.
+use Rattle.std.proofs.Common.{◌≡◌, refl, ap, ◌<◌, ℤ, arith, List, [], ◌∷◌, ◌++◌, length, map}
+use Rattle.prettyless_doc.specs.Lines.{line, line_}
+use Rattle.prettyless_doc.specs.Tree.{Tree}
+use Rattle.prettyless_build.specs.Built.{append, enclose, group, nest}
+use Rattle.prettyless_alloc.specs.Lists.{change_all_but_last, bracketed}
+use Rattle.prettyless_alloc.specs.Words.{intersperse}
+
+module _ {A : Type 0} (f : A → A) where
+  -- of items and a last one each of the items is changed
+  pub changed_before_last : (xs : List A) (last : A) → change_all_but_last f (xs ++ last ∷ []) ≡ map f xs ++ last ∷ []
+  changed_before_last [] last = refl
+  changed_before_last (x ∷ []) last = refl
+  changed_before_last (x ∷ y ∷ ys) last = ap (λ (zs : List A). f x ∷ zs) (changed_before_last (y ∷ ys) last)
+
+-- between brackets some trees are nested, each on its line
+pub bracketed_some : (before after : Tree) (k : ℤ) (xs : List Tree) → 0 < length xs
+    → bracketed before xs after k ≡ group (enclose before (append (nest k (append line_ (intersperse line xs))) line_) after)
+bracketed_some before after k [] some = absurd (omega arith)
+bracketed_some before after k (x ∷ xs) some = refl
