@@ -2,12 +2,12 @@
 use Rattle.std.proofs.Common.{◌≡◌, refl, sym, ◌∙◌, ap, subst, ℕ, zero, ℤ, pos, List, [], ◌∷◌, ◌++◌, append_assoc, append-nil, inl, inr, Bool, true, false, if◌then◌else◌}
 use Rattle.std.specs.List.{AllZip, fold}
 use Rattle.prettyless_model.specs.Metrics.{is_ascii}
-use Rattle.prettyless_model.specs.Texts.{Item, Shown, HasNoText, text_tells, tells}
+use Rattle.prettyless_model.specs.Texts.{Item, HasNoText, text_tells, tells}
 use Rattle.prettyless_doc.specs.Counted as counted
 use Rattle.prettyless_doc.specs.Lines.{line, line_}
 use Rattle.prettyless_doc.specs.Tree.{Tree, Nil, Text, TextWithLen}
 use Rattle.prettyless_build.specs.Built.{append, append_to, group, nest, nest_by}
-use Rattle.prettyless_alloc.specs.Lists.{change_all_but_last, punctuated, bracketed}
+use Rattle.prettyless_alloc.specs.Lists.{change_all_but_last}
 use Rattle.prettyless_alloc.specs.Told.{text_items, after_gaps, with_gaps, TextsTell, SeparatedTell, PunctuatedTell, BracketedTell, MarksStandInGaps}
 use Rattle.prettyless_alloc.specs.Words.{intersperse}
 
