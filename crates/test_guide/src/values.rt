@@ -1,7 +1,7 @@
 //! A small formatter: the document of a value that holds values is made by recursion.
 ghost use Rattle.std.specs.Prelude.{◌≡◌, IfOk, map};
 ghost use Rattle.prettyless.specs.Trees.{ref_tree};
-ghost use Rattle.test_guide.specs.Values.{document_of, list_of};
+ghost use Rattle.test_guide.specs.Values.{ListsTell, document_of, list_of};
 
 use prettyless::prelude::*;
 use prettyless::text::BuildError;
@@ -19,11 +19,14 @@ fn list<'a, D: DocPlace<'a>>(place: &'a D, docs: Vec<D::Doc>) -> Result<D::Doc, 
     ensures { IfOk result (λ p. D.Doc.tree p ≡ list_of (map D.Doc.tree docs.items)) }
 {
     let comma: &'a str = ",";
-    let gap = place.pretty(comma)?.join(place.line()?)?;
-    let inside = place.line_()?.join(place.separate(docs, gap)?)?.nest(2)?;
-    let end = place.line_()?;
-    inside.join(end)?.brackets()?.group()?.into_doc()
+    let commas = place.punctuated(docs, place.pretty(comma)?)?;
+    place.bracketed("[", commas, "]", 2)?.into_doc()
 }
+
+/// A list tells the texts that its documents tell, with a comma in each gap and brackets around them.
+pub fn law_list()
+    ensures { ListsTell }
+{}
 
 /// The document of a value.
 pub fn document<'a>(arena: &'a Arena<'a>, value: &Value) -> Result<RefDoc<'a>, BuildError>
