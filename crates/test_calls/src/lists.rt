@@ -17,20 +17,12 @@ fn placed<'a, D: DocPlace<'a>>(
     Ok(docs)
 }
 
-fn letters<'a, D: DocPlace<'a>>(
-    rt: &impl Abort,
-    place: &'a D,
-    letters: &[&'a str],
-) -> Vec<D::Doc> {
+fn letters<'a, D: DocPlace<'a>>(rt: &impl Abort, place: &'a D, letters: &[&'a str]) -> Vec<D::Doc> {
     placed(place, letters).expect(rt, "a text was not placed")
 }
 
 // Each letter but the last with a comma.
-fn marked<'a, D: DocPlace<'a>>(
-    rt: &impl Abort,
-    place: &'a D,
-    docs: &[&'a str],
-) -> Vec<D::Doc> {
+fn marked<'a, D: DocPlace<'a>>(rt: &impl Abort, place: &'a D, docs: &[&'a str]) -> Vec<D::Doc> {
     let comma = built(rt, place.pretty(","));
     let marked = place.punctuated(letters(rt, place, docs), comma);
     marked.expect(rt, "no marks were placed")
@@ -58,7 +50,8 @@ where
 
 pub(crate) fn brackets<'a, D: DocPlace<'a>>(rt: &impl Abort, place: &'a D) {
     let list = place.bracketed("[", marked(rt, place, &["a", "b"]), "]", 2);
-    let shown = "Group([\"[\", Nest(2, [LineOrNil, \"a\", \",\", LineOrSpace, \"b\"]), LineOrNil, \"]\"])";
+    let shown =
+        "Group([\"[\", Nest(2, [LineOrNil, \"a\", \",\", LineOrSpace, \"b\"]), LineOrNil, \"]\"])";
     shows(rt, list, shown);
     let none = place.bracketed("[", letters(rt, place, &[]), "]", 2);
     shows(rt, none, "[\"[\", \"]\"]");
