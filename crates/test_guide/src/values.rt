@@ -1,7 +1,7 @@
 //! A small formatter: the document of a value that holds values is made by recursion.
 ghost use Rattle.std.specs.Prelude.{◌≡◌, IfOk, map};
 ghost use Rattle.prettyless.specs.Trees.{ref_tree};
-ghost use Rattle.test_guide.specs.Values.{ListsTell, document_of, list_of};
+ghost use Rattle.test_guide.specs.Values.{document_of, list_of};
 
 use prettyless::prelude::*;
 use prettyless::text::BuildError;
@@ -22,11 +22,6 @@ fn list<'a, D: DocPlace<'a>>(place: &'a D, docs: Vec<D::Doc>) -> Result<D::Doc, 
     let commas = place.punctuated(docs, place.pretty(comma)?)?;
     place.bracketed("[", commas, "]", 2)?.into_doc()
 }
-
-/// A list tells the texts that its documents tell, with a comma in each gap and brackets around them.
-pub fn law_list()
-    ensures { ListsTell }
-{}
 
 /// The document of a value.
 pub fn document<'a>(arena: &'a Arena<'a>, value: &Value) -> Result<RefDoc<'a>, BuildError>

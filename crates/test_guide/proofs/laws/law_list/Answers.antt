@@ -4,7 +4,7 @@ use Rattle.prettyless.specs.Lists.{change_all_but_last, punctuated}
 use Rattle.prettyless.specs.Texts.{Item, Shown, tells}
 use Rattle.prettyless.proofs.ToldItems.{bracketed_tell, marks_stand_in_gaps, punctuated_tell}
 use Rattle.test_guide.specs.Values.{list_of}
-use Rattle.test_guide.proofs.values.law_list.Goals as goal
+use Rattle.test_guide.proofs.laws.law_list.Goals as goal
 
 -- the commas are marks first, and then stand in the gaps
 pub returns : goal.returns
