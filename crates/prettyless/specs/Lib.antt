@@ -1,3 +1,5 @@
+pub use Rattle.prettyless_alloc.specs.Lists
+pub use Rattle.prettyless_alloc.specs.Told
 pub use Rattle.prettyless_alloc.specs.Words
 pub use Rattle.prettyless_build.specs.Built
 pub use Rattle.prettyless_build.specs.Iterated

@@ -10,6 +10,7 @@
 //! while it has nothing but its indent. A line suffix is pending until its line ends.
 #![tactic(auto)]
 
+pub mod laws;
 pub mod macros;
 pub mod prelude;
 
@@ -21,7 +22,6 @@ pub use prettyless_alloc::{
 pub use prettyless_build::{DocBuilder, Pretty};
 pub use prettyless_combinators as combinators;
 pub use prettyless_doc::{BuildDoc, Constant, Doc, DocPlace, DocPtr, PrettyError, PrettyFmt, text};
-pub use prettyless_laws as laws;
 pub use prettyless_model::options::{IndentationPolicy, LineEnding, RenderOptions};
 pub use prettyless_pointers::{Arena, BoxAllocator, BoxDoc, IntoRef, RcAllocator, RcDoc, RefDoc};
 pub use prettyless_sink::error::RenderError;

@@ -1,3 +1,5 @@
+pub mod Lists
+pub mod Told
 pub mod Words
 pub use Rattle.prettyless_build.specs.Built
 pub use Rattle.prettyless_build.specs.Iterated

@@ -7,8 +7,11 @@ ghost use Rattle.prettyless_doc.specs.DocTree.{built};
 ghost use Rattle.prettyless_doc.specs.Lines as lines;
 ghost use Rattle.prettyless_doc.specs.TextBytes.{IfLent};
 ghost use Rattle.prettyless_build.specs.Built as to;
+ghost use Rattle.prettyless_alloc.specs.Lists as lists;
 ghost use Rattle.prettyless_alloc.specs.Words as words;
 
+use crate::bracketed::bracketed;
+use crate::punctuated::punctuated;
 use crate::separate::separate;
 use crate::spaces::spaces;
 use crate::words::reflow;
@@ -136,6 +139,31 @@ pub trait DocAllocator<'a>: DocPlace<'a> {
     ) -> Result<DocBuilder<'a, Self>, BuildError>
         ensures { to.Builds result (λ b. built Self.Doc.tree b.1)
             (words.intersperse (built Self.Doc.tree separator.entry.1) (map Self.Doc.tree docs.items)) };
+
+    /// The documents in order, each but the last with the mark after it. It fails where memory is refused.
+    fn punctuated(
+        &'a self,
+        docs: Vec<Self::Doc>,
+        mark: DocBuilder<'a, Self>,
+    ) -> Result<Vec<Self::Doc>, BuildError>
+        ensures ok { IfOk result (λ marked. map Self.Doc.tree marked.items
+            ≡ lists.punctuated (built Self.Doc.tree mark.entry.1) (map Self.Doc.tree docs.items)) }
+        ensures err { IfErr result IsMemory };
+
+    /// The documents between two texts, each as `text` makes it, in a group: where it fits the line, flat with one space
+    /// between two documents; else each document on a line of its own, `indent` columns further in than the texts. Where
+    /// there is no document, the two texts stand side by side. It fails where memory is refused.
+    ///
+    /// With marks, as commas, it takes the documents that `punctuated` answers.
+    fn bracketed(
+        &'a self,
+        before: &'a str,
+        docs: Vec<Self::Doc>,
+        after: &'a str,
+        indent: isize,
+    ) -> Result<DocBuilder<'a, Self>, BuildError>
+        ensures { to.Builds result (λ b. built Self.Doc.tree b.1)
+            (lists.bracketed (counted.text before.now) (map Self.Doc.tree docs.items) (counted.text after.now) indent) };
 }
 
 impl<'a, D: DocPlace<'a>> DocAllocator<'a> for D {
@@ -252,5 +280,30 @@ impl<'a, D: DocPlace<'a>> DocAllocator<'a> for D {
             (words.intersperse (built D.Doc.tree separator.entry.1) (map D.Doc.tree docs.items)) }
     {
         separate(self, docs, separator)
+    }
+
+    fn punctuated(
+        &'a self,
+        docs: Vec<D::Doc>,
+        mark: DocBuilder<'a, D>,
+    ) -> Result<Vec<D::Doc>, BuildError>
+        ensures ok { IfOk result (λ marked. map D.Doc.tree marked.items
+            ≡ lists.punctuated (built D.Doc.tree mark.entry.1) (map D.Doc.tree docs.items)) }
+        ensures err { IfErr result IsMemory }
+    {
+        punctuated(self, docs, mark)
+    }
+
+    fn bracketed(
+        &'a self,
+        before: &'a str,
+        docs: Vec<D::Doc>,
+        after: &'a str,
+        indent: isize,
+    ) -> Result<DocBuilder<'a, D>, BuildError>
+        ensures { to.Builds result (λ b. built D.Doc.tree b.1)
+            (lists.bracketed (counted.text before.now) (map D.Doc.tree docs.items) (counted.text after.now) indent) }
+    {
+        bracketed(self, before, docs, after, indent)
     }
 }

@@ -3,11 +3,14 @@
 
 pub mod allocator;
 pub mod allocator_of;
+mod bracketed;
 pub mod concat;
 pub mod intersperse;
 pub mod placed;
+mod punctuated;
 mod separate;
 mod spaces;
+mod told;
 mod words;
 
 pub use allocator::DocAllocator;
@@ -15,3 +18,4 @@ pub use allocator_of::DocAllocatorOf;
 pub use concat::DocAllocatorOver;
 pub use intersperse::DocAllocatorBetween;
 pub use placed::{PlacedDoc, PlacedDocBetween, PlacedDocOf, PlacedDocOver};
+pub use told::law_lists;

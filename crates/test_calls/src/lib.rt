@@ -14,6 +14,8 @@ mod derived;
 #[cfg(test)]
 mod expected;
 #[cfg(test)]
+mod lists;
+#[cfg(test)]
 mod nodes;
 #[cfg(test)]
 mod operands;

@@ -1,5 +1,5 @@
 //! All calls in each place of nodes.
-use crate::{builders, calls, combined, nodes, pointers, values};
+use crate::{builders, calls, combined, lists, nodes, pointers, values};
 use bumpalo::Bump;
 use prettyless::{Arena, BoxAllocator, DocPlace, RcAllocator};
 use std::fmt;
@@ -20,6 +20,9 @@ where
     calls::operands(rt, place);
     calls::sequences(rt, place);
     calls::separators(rt, place);
+    lists::gaps(rt, place);
+    lists::marks(rt, place);
+    lists::brackets(rt, place);
     calls::words(rt, place);
     calls::gaps(rt, place);
     calls::chains(rt, place);

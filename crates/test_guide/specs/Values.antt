@@ -1,22 +1,25 @@
 -- The document of a value, as a tree.
-use Rattle.std.specs.Prelude.{pos, List, [], ◌∷◌}
+use Rattle.std.specs.Prelude.{pos, codes, List, [], ◌∷◌, ◌++◌}
 use Rattle.std.specs.Fmt.{decimal}
+use Rattle.std.specs.List.{AllZip}
 use Rattle.prettyless.specs.Tree.{Tree}
-use Rattle.prettyless.specs.Built.{append, between, group, nest}
 use Rattle.prettyless.specs.Counted.{as_string, text}
-use Rattle.prettyless.specs.Lines.{line, line_}
-use Rattle.prettyless.specs.Words.{intersperse}
+use Rattle.prettyless.specs.Lists.{bracketed, punctuated}
+use Rattle.prettyless.specs.Texts.{Item, Shown, tells}
+use Rattle.prettyless.specs.Told.{with_gaps}
 use Rattle.test_guide.specs.declared.values.Value.{Value}
 use Rattle.test_guide.specs.declared.values.Value.TheOpen.{Value-F}
 use Rattle.test_guide.specs.declared.values.Value.TheFolds.{fold-Value}
 
--- a comma and a line
-abbrev pub gap : Tree
-gap = append (text (44 ∷ [])) line
-
--- trees between brackets, with a comma and a line in each gap
+-- trees between brackets, each but the last with a comma
 abbrev pub list_of : List Tree → Tree
-list_of xs = group (between 91 93 (append (nest (pos 2) (append line_ (intersperse gap xs))) line_))
+list_of xs = bracketed (text (91 ∷ [])) (punctuated (text (44 ∷ [])) xs) (text (93 ∷ [])) (pos 2)
+
+-- documents between brackets tell what they tell, with a comma in each gap and brackets around them all
+abbrev pub ListsTell : Type 0
+ListsTell =
+    (xs : List Tree) (told : List (List Item)) → AllZip tells xs told
+    → tells (list_of xs) (Shown (codes "[") ∷ (with_gaps (Shown (codes ",") ∷ []) told ++ Shown (codes "]") ∷ []))
 
 -- one level, with the tree of each value in its place
 abbrev pub level : Value-F Tree → Tree

@@ -9,6 +9,7 @@ mod errors;
 mod first;
 #[cfg(test)]
 mod indents;
+pub mod laws;
 #[cfg(test)]
 mod layouts;
 #[cfg(test)]

@@ -85,6 +85,20 @@ fn broken_lists_end_in_a_comma<'a, D: DocPlace<'a>>(
     compare(rt, place, list, &[(9, "[1, 2, 3]"), (8, broken)])
 }
 
+fn brackets_hold_marked_documents<'a, D: DocPlace<'a>>(
+    rt: &impl Abort,
+    place: &'a D,
+) -> Result<(), Fail> {
+    let mut docs = Vec::new(place.memory());
+    for number in ["1", "2", "3"] {
+        docs.push(place.pretty(number)?.into_doc()?)?;
+    }
+    let comma = place.pretty(",")?;
+    let list = place.bracketed("[", place.punctuated(docs, comma)?, "]", 2)?;
+    let broken = "[\n  1,\n  2,\n  3\n]";
+    compare_built(rt, list, &[(9, "[1, 2, 3]"), (8, broken)])
+}
+
 fn all<'a, D: DocPlace<'a>>(rt: &impl Abort, place: &'a D) -> Result<(), Fail> {
     macros_append_in_order(rt, place)?;
     builders_append_and_join(rt, place)?;
@@ -95,7 +109,8 @@ fn all<'a, D: DocPlace<'a>>(rt: &impl Abort, place: &'a D) -> Result<(), Fail> {
     words_are_laid_anew(rt, place)?;
     copies_stand_one_after_the_other(rt, place)?;
     items_are_appended(rt, place)?;
-    broken_lists_end_in_a_comma(rt, place)
+    broken_lists_end_in_a_comma(rt, place)?;
+    brackets_hold_marked_documents(rt, place)
 }
 
 #[test]

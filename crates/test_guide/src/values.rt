@@ -19,10 +19,8 @@ fn list<'a, D: DocPlace<'a>>(place: &'a D, docs: Vec<D::Doc>) -> Result<D::Doc, 
     ensures { IfOk result (λ p. D.Doc.tree p ≡ list_of (map D.Doc.tree docs.items)) }
 {
     let comma: &'a str = ",";
-    let gap = place.pretty(comma)?.join(place.line()?)?;
-    let inside = place.line_()?.join(place.separate(docs, gap)?)?.nest(2)?;
-    let end = place.line_()?;
-    inside.join(end)?.brackets()?.group()?.into_doc()
+    let commas = place.punctuated(docs, place.pretty(comma)?)?;
+    place.bracketed("[", commas, "]", 2)?.into_doc()
 }
 
 /// The document of a value.

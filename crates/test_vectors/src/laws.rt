@@ -1,7 +1,7 @@
 //! Laws over whole layouts, seen in renders.
 use crate::rendered::{Case, compare, compare_with, options};
 use prettyless::laws::{
-    law_deferred, law_endings, law_flat_group, law_regroup, law_texts, law_total,
+    law_deferred, law_endings, law_flat_group, law_lists, law_regroup, law_texts, law_total,
 };
 use prettyless::{IndentationPolicy, LineEnding};
 use std::test::Fail;
@@ -66,6 +66,7 @@ fn groups_that_fit_are_flat(rt: HostRuntime) -> Result<(), Fail> {
 #[test]
 fn breaks_and_spaces_set_texts_apart(rt: HostRuntime) -> Result<(), Fail> {
     law_texts();
+    law_lists();
     let line_end = "Append Append Append Append Text '1' WeakSpace HardLine WeakSpace Text '2'";
     let space = "Append Append Text '1' WeakSpace Text '2'";
     compare(

@@ -1,0 +1,1 @@
+pub use Rattle.prettyless_alloc.proofs.ToldItems

@@ -1,0 +1,9 @@
+use Rattle.std.proofs.Common.{◌≡◌, map}
+use Rattle.prettyless_build.specs.Built.{append}
+use Rattle.prettyless_alloc.proofs.punctuated.with_marks.Given as goal
+
+-- the mark after each document that came
+abbrev pub invariant-loop-doc : goal.invariant-loop-doc
+invariant-loop-doc g l =
+    let tree = g.D.Doc.DocPtr.tree in
+    map tree l.marked.items ≡ map (λ x. append x (tree l.mark)) (map tree l.yielded)
