@@ -140,7 +140,8 @@ pub trait DocAllocator<'a>: DocPlace<'a> {
         ensures { to.Builds result (λ b. built Self.Doc.tree b.1)
             (words.intersperse (built Self.Doc.tree separator.entry.1) (map Self.Doc.tree docs.items)) };
 
-    /// The documents in order, each but the last with the mark after it. It fails where memory is refused.
+    /// The documents in order, each but the last with the mark after it: a comma, for instance. It fails where memory is
+    /// refused.
     fn punctuated(
         &'a self,
         docs: Vec<Self::Doc>,
@@ -150,11 +151,11 @@ pub trait DocAllocator<'a>: DocPlace<'a> {
             ≡ lists.punctuated (built Self.Doc.tree mark.entry.1) (map Self.Doc.tree docs.items)) }
         ensures err { IfErr result IsMemory };
 
-    /// The documents between two texts, each as `text` makes it, in a group: where it fits the line, flat with one space
-    /// between two documents; else each document on a line of its own, `indent` columns further in than the texts. Where
-    /// there is no document, the two texts stand side by side. It fails where memory is refused.
+    /// The documents between two texts, each of which is as `text` makes it. They are in a group: flat, with one space
+    /// between two documents, or broken, with each document on a line of its own and its indent moved by so many columns.
+    /// Where there is no document, the two texts stand side by side, with no break. It fails where memory is refused.
     ///
-    /// With marks, as commas, it takes the documents that `punctuated` answers.
+    /// For a list with commas it takes the documents that `punctuated` answers.
     fn bracketed(
         &'a self,
         before: &'a str,
