@@ -1,4 +1,4 @@
-use Rattle.std.proofs.Common.{◌≡◌, ◌≤◌, [], length, drop, sym, ap, ◌∙◌, arith}
+use Rattle.std.proofs.Common.{◌≡◌, [], drop, sym, ◌∙◌, arith}
 use Rattle.json.specs.Lex.{between}
 use Rattle.json_lexemes.specs.Lexemes.{cut}
 use Rattle.json_lexemes.proofs.Firsts.{boundary_past, cut-past}
