@@ -1,5 +1,5 @@
 -- What a clause sees of a lexeme.
-use Rattle.std.specs.Prelude.{◌≡◌, ◌≢◌, ℕ, ◌+◌, ◌<◌, ◌≤◌, false, List, [], ◌∷◌, length, drop, ⊤}
+use Rattle.std.specs.Prelude.{◌≡◌, ◌≢◌, ℕ, ◌+◌, ◌<◌, ◌≤◌, false, List, [], ◌∷◌, length, drop, Option, MatchOption, ⊤}
 use Rattle.std.specs.Str.{IsCharBoundary}
 use Rattle.json.specs.Ascii as ascii
 use Rattle.json.specs.Word.{head, ends_word}
@@ -29,6 +29,10 @@ IsNamed Comma = ⊤
 IsNamed Colon = ⊤
 IsNamed (String s) = head s.now ≡ ascii.quote
 IsNamed (Word s) = (head s.now ≢ ascii.quote) × (ends_word s.now ≡ false)
+
+-- of these texts the first is handed out, as a lexeme, and the others are left; or none was left
+abbrev pub HandsOut : List (List ℕ) → Option Lexeme → List (List ℕ) → Type 0
+HandsOut old r new = MatchOption r ((old ≡ []) × (new ≡ [])) (λ l. (old ≡ text_of l ∷ new) × IsNamed l)
 
 -- the first lexeme from a place of the text on, after which the others come
 pub record IsFirst (text : List ℕ) (place : ℕ) (lexeme : List ℕ) : Type 0 where
