@@ -1,9 +1,10 @@
 mod Classes
-mod Gaps
+pub mod Gaps
 mod Ended
 mod Words
 mod Strings
 mod Following
-mod Reading
+pub mod Reading
 mod Places
 mod Firsts
+pub mod NotEmpty

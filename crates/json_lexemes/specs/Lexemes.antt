@@ -7,14 +7,14 @@ abbrev pub lengthened : ℕ → List (List ℕ) → List (List ℕ)
 lengthened x [] = (x ∷ []) ∷ []
 lengthened x (s ∷ ss) = (x ∷ s) ∷ ss
 
--- What the end of the text leaves: nothing, or the end of the lexeme that it cuts short.
+-- what the end of the text leaves: nothing, or the end of the lexeme that it cuts short
 abbrev pub cut_end : Mode → List (List ℕ)
 cut_end between = []
 cut_end in_word = [] ∷ []
 cut_end in_string = [] ∷ []
 cut_end in_escape = [] ∷ []
 
--- The byte x of class c. A quote or the first byte of a word begins a lexeme, which k goes on with.
+-- the byte x of class c: a quote or the first byte of a word begins a lexeme, which k goes on with
 abbrev pub cut_byte : Mode → Class → ℕ → (Mode → List (List ℕ)) → List (List ℕ)
 cut_byte between quote x k = lengthened x (k in_string)
 cut_byte between backslash x k = lengthened x (k in_word)
@@ -33,7 +33,7 @@ cut_byte in_string space x k = lengthened x (k in_string)
 cut_byte in_string other x k = lengthened x (k in_string)
 cut_byte in_escape c x k = lengthened x (k in_string)
 
--- What is left of the lexeme that is being read, where one is, and then the lexemes after it.
+-- what is left of the lexeme that is being read, where one is, and then the lexemes after it
 unfoldable pub cut : Mode → List ℕ → List (List ℕ)
 cut m [] = cut_end m
 cut m (x ∷ xs) = cut_byte m (class x) x (λ next. cut next xs)

@@ -1,8 +1,8 @@
 -- What a clause sees of a lexeme.
-use Rattle.std.specs.Prelude.{◌≡◌, ◌≢◌, ℕ, ◌+◌, ◌<◌, ◌≤◌, false, List, [], ◌∷◌, length, drop, ⊤}
+use Rattle.std.specs.Prelude.{◌≡◌, ◌≢◌, ℕ, ◌+◌, ◌<◌, ◌≤◌, false, List, [], ◌∷◌, length, drop, Option, MatchOption, ⊤}
 use Rattle.std.specs.Str.{IsCharBoundary}
 use Rattle.json.specs.Ascii as ascii
-use Rattle.json.specs.Word.{head, is_operator}
+use Rattle.json.specs.Word.{head, ends_word}
 use Rattle.json.specs.Lex.{between}
 use Rattle.json_lexemes.specs.Lexemes.{cut}
 use Rattle.json_lexemes.specs.declared.lexeme.Lexeme.{Lexeme}
@@ -19,7 +19,7 @@ text_of Colon = ascii.colon ∷ []
 text_of (String s) = s.now
 text_of (Word s) = s.now
 
--- a string begins with a quote; a word begins with no quote, and is no sign
+-- a string begins with a quote; a word begins neither with a quote nor with what ends a word, so it is not empty
 abbrev pub IsNamed : Lexeme → Type 0
 IsNamed OpenObject = ⊤
 IsNamed CloseObject = ⊤
@@ -28,7 +28,11 @@ IsNamed CloseArray = ⊤
 IsNamed Comma = ⊤
 IsNamed Colon = ⊤
 IsNamed (String s) = head s.now ≡ ascii.quote
-IsNamed (Word s) = (head s.now ≢ ascii.quote) × (is_operator (head s.now) ≡ false)
+IsNamed (Word s) = (head s.now ≢ ascii.quote) × (ends_word s.now ≡ false)
+
+-- of these texts the first is handed out, as a lexeme, and the others are left; or none was left
+abbrev pub HandsOut : List (List ℕ) → Option Lexeme → List (List ℕ) → Type 0
+HandsOut old r new = MatchOption r ((old ≡ []) × (new ≡ [])) (λ l. (old ≡ text_of l ∷ new) × IsNamed l)
 
 -- the first lexeme from a place of the text on, after which the others come
 pub record IsFirst (text : List ℕ) (place : ℕ) (lexeme : List ℕ) : Type 0 where

@@ -1,8 +1,9 @@
-ghost use Rattle.json_lexemes.specs.Laws.{GapsKeepReadings, TextsAreSpacedLexemes};
+ghost use Rattle.json_lexemes.specs.Laws.{GapsKeepReadings, LexemesAreNotEmpty, TextsAreSpacedLexemes};
 
-/// A text is its lexemes in their order, with nothing but spaces before, between and after them.
+/// A text is its lexemes in their order, with nothing but spaces before, between and after them. No lexeme is empty.
 pub fn law_spacing()
-    ensures { TextsAreSpacedLexemes }
+    ensures spaced { TextsAreSpacedLexemes }
+    ensures some { LexemesAreNotEmpty }
 {}
 
 /// The lexemes of a text that is a JSON value, with any spaces around them or none, are a text of the same value, and of

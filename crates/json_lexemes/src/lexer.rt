@@ -1,4 +1,4 @@
-ghost use Rattle.std.specs.Prelude.{◌≡◌, [], ◌∷◌, map, IfOk, IfSome, MatchOption, All};
+ghost use Rattle.std.specs.Prelude.{◌≡◌, map, IfOk, All};
 ghost use Rattle.json_lexemes.specs.Lexemes.{lexemes};
 ghost use Rattle.json_lexemes.specs.View.{text_of, IsNamed};
 
@@ -32,13 +32,19 @@ impl<'a> Lexer<'a> {
     {
         Lexer { text, place: 0 }
     }
+}
 
-    /// The next lexeme, or `None` where none is left.
-    pub fn next(&mut self) -> Option<Lexeme<'a>>
-        ensures next { MatchOption result ((self.old ≡ []) × (self.new ≡ []))
-            (λ lexeme. self.old ≡ text_of lexeme ∷ self.new) }
-        ensures named { IfSome result IsNamed }
-    {
+impl<'a> Iterator for Lexer<'a> {
+    type Item = Lexeme<'a>;
+
+    ghost use Rattle.std.specs.Iterator.{item_count};
+    ghost use Rattle.json_lexemes.specs.View.{HandsOut};
+
+    ghost next_gives = { HandsOut };
+
+    ghost remaining = { item_count (λ left. left) };
+
+    fn next(&mut self) -> Option<Lexeme<'a>> {
         let text = self.text;
         let place = spaces_end(text.as_bytes(), self.place);
         if place == text.len() {
@@ -58,9 +64,8 @@ pub fn lexemes<'a>(alloc: Global, text: &'a str) -> Result<Vec<Lexeme<'a>>, Allo
     ensures texts { IfOk result (λ found. map text_of found.items ≡ lexemes text.now) }
     ensures names { IfOk result (λ found. All IsNamed found.items) }
 {
-    let mut lexer = Lexer::new(text);
     let mut found = Vec::new(alloc);
-    while let Some(lexeme) = lexer.next() {
+    for lexeme in Lexer::new(text) {
         found.push(lexeme)?;
     }
     Ok(found)

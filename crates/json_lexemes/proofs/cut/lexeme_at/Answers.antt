@@ -1,4 +1,4 @@
-use Rattle.std.proofs.Common.{◌≡◌, ◌≢◌, ◌+◌, ◌≤◌, length, get_or, false, refl, sym, ◌∙◌, subst, arith}
+use Rattle.std.proofs.Common.{◌≡◌, ◌≢◌, ◌+◌, ◌≤◌, length, get_or, false, refl, sym, subst, arith}
 use Rattle.json.specs.Word.{is_operator}
 use Rattle.json_lexemes.specs.View.{IsFirst}
 use Rattle.json_lexemes.proofs.Firsts.{no_operator, first_sign, first_string, first_word, boundary_after, boundary_before}

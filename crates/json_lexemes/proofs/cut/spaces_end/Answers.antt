@@ -1,4 +1,4 @@
-use Rattle.std.proofs.Common.{◌≡◌, ◌+◌, ◌-◌, ◌<◌, true, get_or, sym, ap, ◌∙◌, subst, arith}
+use Rattle.std.proofs.Common.{◌≡◌, ◌+◌, ◌-◌, ◌<◌, true, get_or, sym, ◌∙◌, subst, arith}
 use Rattle.json.specs.Word.{is_space}
 use Rattle.json_lexemes.proofs.Firsts.{past_space, space_ascii}
 use Rattle.json_lexemes.proofs.cut.spaces_end.Goals as goal

@@ -1,5 +1,9 @@
 use Rattle.json_lexemes.proofs.Gaps.{IsSpaced-lexemes}
+use Rattle.json_lexemes.proofs.NotEmpty.{lexemes_some}
 use Rattle.json_lexemes.proofs.laws.law_spacing.Goals as goal
 
-pub returns : goal.returns
-returns c = IsSpaced-lexemes
+pub returns-clause-spaced : goal.returns-clause-spaced
+returns-clause-spaced c = IsSpaced-lexemes
+
+pub returns-clause-some : goal.returns-clause-some
+returns-clause-some c = lexemes_some

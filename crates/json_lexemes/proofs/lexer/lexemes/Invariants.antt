@@ -1,4 +1,4 @@
-use Rattle.std.proofs.Common.{◌≡◌, ◌++◌, length, map, All}
+use Rattle.std.proofs.Common.{◌≡◌, ◌++◌, map, All}
 use Rattle.json_lexemes.specs.Lexemes.{lexemes}
 use Rattle.json_lexemes.specs.View.{text_of, IsNamed}
 use Rattle.json_lexemes.proofs.lexer.lexemes.Given as goal
@@ -6,9 +6,6 @@ use Rattle.json_lexemes.proofs.lexer.lexemes.Given as goal
 -- the lexemes so far, and then those that are left
 abbrev pub invariant-loop-lexeme : goal.invariant-loop-lexeme
 invariant-loop-lexeme l = record {
-  texts : map text_of l.found.items ++ l.lexer ≡ lexemes l.text;
+  texts : map text_of l.found.items ++ l.lexeme-iterator ≡ lexemes l.text;
   names : All IsNamed l.found.items;
 }
-
-abbrev pub decreases-loop-lexeme : goal.decreases-loop-lexeme
-decreases-loop-lexeme l = length l.lexer

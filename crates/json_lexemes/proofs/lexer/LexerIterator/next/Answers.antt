@@ -1,11 +1,11 @@
-use Rattle.std.proofs.Common.{◌≡◌, ◌≤◌, [], length, drop, sym, ap, ◌∙◌, arith}
+use Rattle.std.proofs.Common.{◌≡◌, [], drop, sym, ◌∙◌, arith}
 use Rattle.json.specs.Lex.{between}
 use Rattle.json_lexemes.specs.Lexemes.{cut}
 use Rattle.json_lexemes.proofs.Firsts.{boundary_past, cut-past}
-use Rattle.json_lexemes.proofs.lexer.Lexer.next.Goals as goal
+use Rattle.json_lexemes.proofs.lexer.LexerIterator.next.Goals as goal
 
-pub returns-then-place-text-clause-next : goal.returns-then-place-text-clause-next
-returns-then-place-text-clause-next c =
+pub returns-then-place-text-clause-steps : goal.returns-then-place-text-clause-steps
+returns-then-place-text-clause-steps c =
     let d = c.self.inside.text.now in
     let place = c.spaces_end-place.result in
     let none : cut between (drop place d) ≡ [] = cut-past d place (omega arith) in
