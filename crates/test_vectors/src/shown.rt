@@ -1,8 +1,11 @@
-//! What `Debug` shows of documents, through each pointer, and of documents in the making.
+//! What `Debug` shows of documents, through each pointer, and of documents in the making; what an error of either kind says.
 use crate::reader::read;
 use bumpalo::Bump;
-use prettyless::text::{CowStr, Text};
-use prettyless::{Arena, BoxAllocator, BoxDoc, BuildDoc, Doc, DocAllocator, DocPlace, RcAllocator};
+use prettyless::text::{BuildError, CowStr, Text};
+use prettyless::{
+    Arena, BoxAllocator, BoxDoc, BuildDoc, Doc, DocAllocator, DocPlace, PrettyError, RcAllocator,
+    RenderError,
+};
 use std::alloc::Global;
 use std::fmt;
 use std::process::Abort;
@@ -166,4 +169,15 @@ fn shows_what_is_in_the_making(rt: HostRuntime) -> Result<(), Fail> {
     compare_builder(&rt, &boxes)?;
     compare_node(&rt, &boxes)?;
     compare_placed(&rt, &boxes)
+}
+
+#[test]
+fn errors_of_either_kind(rt: HostRuntime) -> Result<(), Fail> {
+    let build = PrettyError::<fmt::Error>::from(BuildError::Display);
+    let shown = format!(in rt.alloc(); "{build}")?;
+    assert!(rt; shown.as_str() == "a value of the document cannot be formatted");
+    let render = PrettyError::from(RenderError::Document(fmt::Error));
+    let shown = format!(in rt.alloc(); "{render}")?;
+    assert!(rt; shown.as_str() == "the document cannot be laid out");
+    Ok(())
 }
