@@ -4,6 +4,6 @@ mod Ended
 mod Words
 mod Strings
 mod Following
-mod Reading
+pub mod Reading
 mod Places
 mod Firsts

@@ -1,4 +1,4 @@
-ghost use Rattle.std.specs.Prelude.{◌≡◌, [], ◌∷◌, map, IfOk, IfSome, MatchOption, All};
+ghost use Rattle.std.specs.Prelude.{◌≡◌, ◌<◌, [], ◌∷◌, length, map, IfOk, IfSome, MatchOption, All};
 ghost use Rattle.json_lexemes.specs.Lexemes.{lexemes};
 ghost use Rattle.json_lexemes.specs.View.{text_of, IsNamed};
 
@@ -38,6 +38,7 @@ impl<'a> Lexer<'a> {
         ensures next { MatchOption result ((self.old ≡ []) × (self.new ≡ []))
             (λ lexeme. self.old ≡ text_of lexeme ∷ self.new) }
         ensures named { IfSome result IsNamed }
+        ensures some { IfSome result (λ lexeme. 0 < length (text_of lexeme)) }
     {
         let text = self.text;
         let place = spaces_end(text.as_bytes(), self.place);
