@@ -1,0 +1,48 @@
+-- What formatting a text writes.
+use Rattle.std.specs.Prelude.{◌≡◌, ◌<◌, ℕ, List, [], ◌∷◌, ◌++◌, length, Option, None, IsSome, Result, Ok, Err}
+use Rattle.std.specs.Io.KnownBytes.{Keeps, Appends}
+use Rattle.json.specs.Ascii.{line_feed}
+use Rattle.json.specs.Json.{document}
+use Rattle.json_lexemes.specs.Lexemes.{lexemes}
+use Rattle.json_formatter.specs.declared.error.FormatError.{FormatError}
+use Rattle.json_formatter.specs.declared.error.FormatError.TheVariants.{NotJson, Memory, Write}
+
+-- These bytes are the text laid out.
+pub record IsFormatted (text bytes : List ℕ) : Type 0 where
+  -- The text is a JSON value.
+  pub is_json : IsSome (document text)
+  -- They are the same value.
+  pub value : document bytes ≡ document text
+  -- They have the same lexemes in the same order, each as it was spelled.
+  pub lexemes : lexemes bytes ≡ lexemes text
+  -- They end in a line feed.
+  pub ended : (front : List ℕ) × (bytes ≡ front ++ line_feed ∷ [])
+
+-- memory was refused
+abbrev pub IsMemory : FormatError → Type 0
+IsMemory NotJson = ⊥
+IsMemory (Memory e) = Unit {0}
+IsMemory (Write e) = ⊥
+
+-- the writer failed
+abbrev pub IsWriting : FormatError → Type 0
+IsWriting NotJson = ⊥
+IsWriting (Memory e) = ⊥
+IsWriting (Write e) = Unit {0}
+
+-- the text is no JSON, or memory was refused
+abbrev pub IsRefused : List ℕ → FormatError → Type 0
+IsRefused text NotJson = document text ≡ None
+IsRefused text (Memory e) = Unit {0}
+IsRefused text (Write e) = ⊥
+
+-- a beginning of the bytes was appended, and not all of it
+abbrev pub AppendsBeginning : Option (List ℕ) → Option (List ℕ) → List ℕ → Type 0
+AppendsBeginning old new bytes = (front : List ℕ) × (back : List ℕ) × (bytes ≡ front ++ back) × (0 < length back) × Appends old new front
+
+-- What a writer holds goes from old to new. Where the text is no JSON, or memory was refused, nothing was written.
+abbrev pub Formats : {A : Type 0} → List ℕ → Option (List ℕ) → Option (List ℕ) → Result A FormatError → Type 0
+Formats text old new (Ok done) = (bytes : List ℕ) × IsFormatted text bytes × Appends old new bytes
+Formats text old new (Err NotJson) = Keeps old new × (document text ≡ None)
+Formats text old new (Err (Memory e)) = Keeps old new
+Formats text old new (Err (Write e)) = (bytes : List ℕ) × IsFormatted text bytes × AppendsBeginning old new bytes

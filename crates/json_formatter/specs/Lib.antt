@@ -1,0 +1,3 @@
+pub mod Ahead
+pub mod Formats
+pub mod Takes

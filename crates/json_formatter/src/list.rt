@@ -1,0 +1,78 @@
+ghost use Rattle.std.specs.Prelude.{◌≡◌, pos, [], ◌++◌, List, IfOk, map};
+ghost use Rattle.std.specs.List.{AllZip};
+ghost use Rattle.prettyless.specs.Built.{append, nest, softline};
+ghost use Rattle.prettyless.specs.DocTree.{built};
+ghost use Rattle.prettyless.specs.Lines.{line_};
+ghost use Rattle.prettyless.specs.Texts.{Item, tells};
+ghost use Rattle.prettyless.specs.Told.{text_items, with_gaps};
+ghost use Rattle.prettyless.specs.Words.{intersperse};
+
+use prettyless::text::BuildError;
+use prettyless::{DocAllocator, DocBuilder, DocPlace, Pretty};
+
+/// The documents between two texts: flat, or each on a line of its own, so many columns further in.
+fn on_lines<'a, D: DocPlace<'a>>(
+    place: &'a D,
+    before: &'a str,
+    docs: Vec<D::Doc>,
+    after: &'a str,
+    indent: u32,
+) -> Result<D::Doc, BuildError>
+    ensures { IfOk result (λ p. (items : List (List Item)) → AllZip tells (map D.Doc.tree docs.items) items
+        → tells (D.Doc.tree p) (text_items before.now ++ (with_gaps [] items ++ text_items after.now))) }
+{
+    let list = place.bracketed(before, docs, after, indent as isize)?;
+    Ok(list.into_doc()?)
+}
+
+/// The documents in lines that are filled, so many columns further in, and a line after them.
+fn in_lines<'a, D: DocPlace<'a>>(
+    place: &'a D,
+    docs: Vec<D::Doc>,
+    indent: u32,
+) -> Result<DocBuilder<'a, D>, BuildError>
+    ensures { IfOk result (λ b. built D.Doc.tree b.1
+        ≡ append (nest (pos indent) (append line_ (intersperse softline (map D.Doc.tree docs.items)))) line_) }
+{
+    let gap = place.softline()?;
+    let docs = place.separate(docs, gap)?;
+    let nested = place.line_()?.join(docs)?.nest(indent as isize)?;
+    nested.join(place.line_()?)
+}
+
+/// The documents between two texts: flat, or in lines that are filled, so many columns further in.
+fn filled<'a, D: DocPlace<'a>>(
+    place: &'a D,
+    before: &'a str,
+    docs: Vec<D::Doc>,
+    after: &'a str,
+    indent: u32,
+) -> Result<D::Doc, BuildError>
+    ensures { IfOk result (λ p. (items : List (List Item)) → AllZip tells (map D.Doc.tree docs.items) items
+        → tells (D.Doc.tree p) (text_items before.now ++ (with_gaps [] items ++ text_items after.now))) }
+{
+    let before = Pretty::pretty(before, place)?;
+    let after = Pretty::pretty(after, place)?;
+    let inside = in_lines(place, docs, indent)?;
+    Ok(before.join(inside)?.join(after)?.group()?.into_doc()?)
+}
+
+/// The documents between two texts: flat, or else so many columns further in, where they fill lines or each is on one of
+/// its own.
+pub(crate) fn list<'a, D: DocPlace<'a>>(
+    place: &'a D,
+    before: &'a str,
+    docs: Vec<D::Doc>,
+    after: &'a str,
+    indent: u32,
+    fills: bool,
+) -> Result<D::Doc, BuildError>
+    ensures { IfOk result (λ p. (items : List (List Item)) → AllZip tells (map D.Doc.tree docs.items) items
+        → tells (D.Doc.tree p) (text_items before.now ++ (with_gaps [] items ++ text_items after.now))) }
+{
+    if fills && !docs.is_empty() {
+        filled(place, before, docs, after, indent)
+    } else {
+        on_lines(place, before, docs, after, indent)
+    }
+}

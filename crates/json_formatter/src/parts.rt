@@ -1,0 +1,66 @@
+ghost use Rattle.std.specs.Prelude.{◌≡◌, [], ◌∷◌, IfOk};
+ghost use Rattle.prettyless.specs.Built.{append};
+ghost use Rattle.prettyless.specs.Counted.{text};
+ghost use Rattle.prettyless.specs.Lines.{space};
+ghost use Rattle.prettyless.specs.Tree.{Nil};
+
+use prettyless::text::BuildError;
+use prettyless::{BuildDoc, Doc, DocAllocator, DocBuilder, DocPlace, Pretty};
+
+/// A text.
+pub(crate) fn text<'a, D: DocPlace<'a>>(
+    place: &'a D,
+    spelling: &'a str,
+) -> Result<D::Doc, BuildError>
+    ensures { IfOk result (λ p. D.Doc.tree p ≡ text spelling.now) }
+{
+    Pretty::pretty(spelling, place)?.into_doc()
+}
+
+/// Nothing.
+pub(crate) fn nothing<'a, D: DocPlace<'a>>(place: &'a D) -> Result<D::Doc, BuildError>
+    ensures { IfOk result (λ p. D.Doc.tree p ≡ Nil) }
+{
+    place.alloc(Doc::Nil)
+}
+
+/// Two documents, one after the other.
+pub(crate) fn joined<'a, D: DocPlace<'a>>(
+    place: &'a D,
+    front: D::Doc,
+    next: D::Doc,
+) -> Result<D::Doc, BuildError>
+    ensures { IfOk result (λ p. D.Doc.tree p ≡ append (D.Doc.tree front) (D.Doc.tree next)) }
+{
+    let next = DocBuilder(place, BuildDoc::DocPtr(next));
+    DocBuilder(place, BuildDoc::DocPtr(front))
+        .join(next)?
+        .into_doc()
+}
+
+/// A document with a comma after it.
+pub(crate) fn with_comma<'a, D: DocPlace<'a>>(
+    place: &'a D,
+    front: D::Doc,
+) -> Result<D::Doc, BuildError>
+    ensures { IfOk result (λ p. D.Doc.tree p ≡ append (D.Doc.tree front) (text (44 ∷ []))) }
+{
+    let comma: &'a str = ",";
+    let comma = Pretty::pretty(comma, place)?;
+    DocBuilder(place, BuildDoc::DocPtr(front))
+        .join(comma)?
+        .into_doc()
+}
+
+/// A document with a colon and a space after it.
+pub(crate) fn with_colon<'a, D: DocPlace<'a>>(
+    place: &'a D,
+    front: D::Doc,
+) -> Result<D::Doc, BuildError>
+    ensures { IfOk result (λ p. D.Doc.tree p ≡ append (append (D.Doc.tree front) (text (58 ∷ []))) space) }
+{
+    let colon: &'a str = ":";
+    let colon = Pretty::pretty(colon, place)?;
+    let front = DocBuilder(place, BuildDoc::DocPtr(front)).join(colon)?;
+    front.join(place.space()?)?.into_doc()
+}
