@@ -28,6 +28,7 @@ impl<'a> Model for Ahead<'a> {
 
 impl<'a> Ahead<'a> {
     /// All lexemes of this text.
+    #[tactic(auto, using(crate::proofs::Named::named_is_some))]
     pub(crate) fn new(text: &'a str) -> Ahead<'a>
         ensures { result ≡ lexemes text.now }
     {
@@ -37,6 +38,7 @@ impl<'a> Ahead<'a> {
     }
 
     /// Takes the next lexeme, or answers `None` where none is left.
+    #[tactic(auto, using(crate::proofs::Named::named_is_some))]
     pub(crate) fn next(&mut self) -> Option<Lexeme<'a>>
         ensures next { MatchOption result ((self.old ≡ []) × (self.new ≡ []))
             (λ lexeme. self.old ≡ text_of lexeme ∷ self.new) }
