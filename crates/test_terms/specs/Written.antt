@@ -13,7 +13,8 @@ use Rattle.test_terms.specs.Reader.{expression_in}
 abbrev pub layout_at : ℕ → Expression → Bytes
 layout_at width e = layout (options_at width) (document_of e)
 
--- The whole layout was appended, and it reads back as the expression; or nothing was appended; or a beginning of the layout.
+-- The whole layout was appended, and it reads back as the expression; or nothing, where the document was not built; or a
+-- beginning of the layout, where its render stopped.
 abbrev pub Writes : {A E : Type 0} → ℕ → Expression → List ℕ → List ℕ → Result A (PrettyError E) → Type 0
 Writes width e old new (Ok done) =
     (bytes : List ℕ) × (layout_at width e ≡ Whole bytes) × (new ≡ old ++ bytes) × (expression_in bytes ≡ Some e)

@@ -9,7 +9,7 @@ use prettyless::{Arena, Bump, DocPlace, DocPtr, PrettyError};
 use std::alloc::Global;
 use std::fmt;
 
-/// The same with the arena that the nodes are to be in.
+/// Appends the layout of a term at this width, with the nodes of its document in this arena.
 fn write_in<'a>(
     arena: &'a Arena<'a>,
     width: usize,
