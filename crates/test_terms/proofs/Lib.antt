@@ -1,0 +1,4 @@
+pub mod Back
+pub mod Lexed
+pub mod Reading
+pub mod Told
