@@ -30,8 +30,8 @@ fn lay_out<R: AllocGlobal + Eprint + Print>(
     let Ok(text) = from_utf8(bytes) else {
         return refuse(rt, name, bytes);
     };
-    match formatted(rt.alloc(), text, request.style) {
-        Ok(layout) if request.task == Task::Check => Ok(if layout.as_str() == text {
+    match formatted(rt.alloc(), text, request.options.style) {
+        Ok(layout) if request.options.task == Task::Check => Ok(if layout.as_str() == text {
             Ending::Good
         } else {
             Ending::Refused
@@ -100,7 +100,7 @@ fn run<R: AllocGlobal + Env + Files + Input + Eprint + Print>(rt: &R) -> io::Res
         eprintln!(rt; "{USAGE}")?;
         return Ok(Ending::BadWords);
     };
-    match request.task {
+    match request.options.task {
         Task::Help => println!(rt; "{USAGE}")?,
         Task::Version => println!(rt; "jsonfmt 0.4.0")?,
         Task::LayOut | Task::Check => return Ok(lay_out_all(rt, &request)),

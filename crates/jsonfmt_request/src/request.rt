@@ -1,5 +1,6 @@
 //! What the words of `jsonfmt` ask for.
-ghost use Rattle.std.specs.Prelude.{◌≤◌, length, IfSome};
+ghost use Rattle.std.specs.Prelude.{◌≡◌, ◌≤◌, length, IfSome};
+ghost use Rattle.jsonfmt_request.specs.Options.{with_flag, HasValue};
 
 use decimals::number;
 use json_formatter::Style;
@@ -21,45 +22,80 @@ pub enum Task {
     Version,
 }
 
-/// What the words ask for.
-#[derive(Clone, Copy, Drop)]
-pub struct Request<'w> {
+/// What the options say.
+#[derive(Clone, Copy, Debug, Drop, PartialEq, Eq)]
+pub struct Options {
     /// What is to be done. The last word that says so decides.
     pub task: Task,
     /// How files are laid out.
     pub style: Style,
+}
+
+/// What the words ask for.
+#[derive(Clone, Copy, Drop)]
+pub struct Request<'w> {
+    pub options: Options,
     /// The names of files. Where there is none, standard input is meant.
     pub files: &'w [String],
 }
 
-/// The request with one option more, and with the words after it as its files. `--width` and `--indent` take the next word.
-fn with_option<'w>(request: Request<'w>, option: &str, rest: &'w [String]) -> Option<Request<'w>>
-    ensures { IfSome result (λ found. length found.files.now ≤ length rest.now) }
+/// The options with one more that takes no value. `None` where the word is none.
+pub fn with_flag(options: Options, word: &str) -> Option<Options>
+    ensures { result ≡ with_flag options word.now }
 {
-    let Request { task, style, .. } = request;
-    let mut found = Request {
-        task,
-        style,
-        files: rest,
-    };
-    match option {
-        "--check" => found.task = Task::Check,
-        "--help" => found.task = Task::Help,
-        "--version" => found.task = Task::Version,
-        "--fill" => found.style.fill = true,
-        "--width" => {
-            let (value, files) = rest.split_first()?;
-            found.style.width = number(value.as_bytes())?;
-            found.files = files;
-        }
-        "--indent" => {
-            let (value, files) = rest.split_first()?;
-            found.style.indent = u32::try_from(number(value.as_bytes())?).ok()?;
-            found.files = files;
-        }
-        _ => return None,
+    let Options { task, style } = options;
+    let Style { width, indent, .. } = style;
+    match word {
+        "--check" => Some(Options {
+            task: Task::Check,
+            style,
+        }),
+        "--help" => Some(Options {
+            task: Task::Help,
+            style,
+        }),
+        "--version" => Some(Options {
+            task: Task::Version,
+            style,
+        }),
+        "--fill" => Some(Options {
+            task,
+            style: Style {
+                width,
+                indent,
+                fill: true,
+            },
+        }),
+        _ => None,
     }
-    Some(found)
+}
+
+/// The options with a width or an indent, which is a number in decimal digits, below 2^64 and 2^32. `None` where the word
+/// is neither, or the value is no such number.
+pub fn with_value(options: Options, word: &str, value: &str) -> Option<Options>
+    ensures { IfSome result (HasValue options word.now value.now) }
+{
+    let Options { task, style } = options;
+    let Style {
+        width,
+        indent,
+        fill,
+    } = style;
+    let value = number(value.as_bytes())?;
+    let style = match word {
+        "--width" => Style {
+            width: value,
+            indent,
+            fill,
+        },
+        "--indent" => Style {
+            width,
+            indent: u32::try_from(value).ok()?,
+            fill,
+        },
+        _ => return None,
+    };
+    Some(Options { task, style })
 }
 
 /// What the words ask for: options, and then names of files, from the first word that begins with no `-`. `None` where a
@@ -67,16 +103,25 @@ fn with_option<'w>(request: Request<'w>, option: &str, rest: &'w [String]) -> Op
 pub fn requested(words: &[String]) -> Option<Request<'_>>
     ensures { IfSome result (λ found. length found.files.now ≤ length words.now) }
 {
-    let mut request = Request {
+    let mut options = Options {
         task: Task::LayOut,
         style: Style::default(),
-        files: words,
     };
-    while let Some((word, rest)) = request.files.split_first() {
-        if !word.as_str().starts_with('-') {
+    let mut files = words;
+    while let Some((word, rest)) = files.split_first() {
+        let word = word.as_str();
+        if !word.starts_with('-') {
             break;
         }
-        request = with_option(request, word.as_str(), rest)?;
+        files = rest;
+        options = match with_flag(options, word) {
+            Some(options) => options,
+            None => {
+                let (value, after) = rest.split_first()?;
+                files = after;
+                with_value(options, word, value.as_str())?
+            }
+        };
     }
-    Some(request)
+    Some(Request { options, files })
 }
