@@ -1,0 +1,114 @@
+//! Lays JSON texts out: `jsonfmt [--width N] [--indent N] [--fill] [FILE]..` writes the layout of each file, or of standard
+//! input, to standard output. With `--check` it writes nothing and says by its status whether each is laid out already.
+#![tactic(auto)]
+
+use json_formatter::{FormatError, formatted};
+use jsonfmt_request::ending::Ending;
+use jsonfmt_request::fault::fault_of;
+use jsonfmt_request::request::{Request, Task, USAGE, requested};
+use std::fs::Files;
+use std::io::{Read, Write};
+use std::process::ExitCode;
+use std::rt::Env;
+use std::str::from_utf8;
+use std::{env, fs, io};
+
+// Says where the bytes stop being JSON.
+fn refuse<R: AllocGlobal + Eprint>(rt: &R, name: &str, bytes: &[u8]) -> io::Result<Ending> {
+    let place = fault_of(rt.alloc(), bytes)?;
+    eprintln!(rt; "{name}:{}:{}: expected JSON", place.line, place.column)?;
+    Ok(Ending::Refused)
+}
+
+// Writes the layout of a text, or compares it with the text. Nothing is written before the whole layout is made.
+fn lay_out<R: AllocGlobal + Eprint + Print>(
+    rt: &R,
+    request: &Request<'_>,
+    name: &str,
+    bytes: &[u8],
+) -> io::Result<Ending> {
+    let Ok(text) = from_utf8(bytes) else {
+        return refuse(rt, name, bytes);
+    };
+    match formatted(rt.alloc(), text, request.options.style) {
+        Ok(layout) if request.options.task == Task::Check => Ok(if layout.as_str() == text {
+            Ending::Good
+        } else {
+            Ending::Refused
+        }),
+        Ok(layout) => {
+            io::writer(rt).write_all(layout.as_bytes())?;
+            Ok(Ending::Good)
+        }
+        Err(FormatError::NotJson) => refuse(rt, name, bytes),
+        Err(FormatError::Memory(error)) => Err(io::Error::from(error)),
+        Err(FormatError::Write(error)) => Err(error),
+    }
+}
+
+fn lay_out_input<R: AllocGlobal + Input + Eprint + Print>(
+    rt: &R,
+    request: &Request<'_>,
+) -> io::Result<Ending> {
+    let mut bytes = Vec::new(rt.alloc());
+    rt.reader().read_to_end(&mut bytes)?;
+    lay_out(rt, request, "<stdin>", &bytes)
+}
+
+fn lay_out_file<R: AllocGlobal + Files + Eprint + Print>(
+    rt: &R,
+    request: &Request<'_>,
+    name: &str,
+) -> io::Result<Ending> {
+    let bytes = fs::read(rt, name)?;
+    lay_out(rt, request, name, &bytes)
+}
+
+// How a file came out. Where standard error takes no message, the status is what is left.
+fn ending_of<R: Eprint>(rt: &R, name: &str, outcome: io::Result<Ending>) -> Ending {
+    match outcome {
+        Ok(ending) => ending,
+        Err(error) => {
+            let _ = eprintln!(rt; "jsonfmt: {name}: {error}");
+            Ending::Failed
+        }
+    }
+}
+
+fn lay_out_all<R: AllocGlobal + Files + Input + Eprint + Print>(
+    rt: &R,
+    request: &Request<'_>,
+) -> Ending {
+    if request.files.is_empty() {
+        return ending_of(rt, "<stdin>", lay_out_input(rt, request));
+    }
+    let mut all = Ending::Good;
+    for file in request.files {
+        let result = lay_out_file(rt, request, file.as_str());
+        all = all.and(ending_of(rt, file.as_str(), result));
+    }
+    all
+}
+
+fn words<R: AllocGlobal + Env>(rt: &R) -> io::Result<Vec<String>> {
+    Ok(env::args(rt)?.skip(1).collect(rt.alloc())?)
+}
+
+fn run<R: AllocGlobal + Env + Files + Input + Eprint + Print>(rt: &R) -> io::Result<Ending> {
+    let words = words(rt)?;
+    let Some(request) = requested(&words) else {
+        eprintln!(rt; "{USAGE}")?;
+        return Ok(Ending::BadWords);
+    };
+    match request.options.task {
+        Task::Help => println!(rt; "{USAGE}")?,
+        Task::Version => println!(rt; "jsonfmt 0.4.0")?,
+        Task::LayOut | Task::Check => return Ok(lay_out_all(rt, &request)),
+    }
+    Ok(Ending::Good)
+}
+
+fn main(rt: HostRuntime) -> ExitCode {
+    let result = run(&rt);
+    ExitCode::from(ending_of(&rt, "arguments", result).status())
+}

@@ -1,0 +1,7 @@
+//! What the words of `jsonfmt` ask for, where a text is no JSON, and how the program ends.
+#![tactic(auto)]
+
+pub mod ending;
+pub mod fault;
+pub mod place;
+pub mod request;

@@ -1,0 +1,5 @@
+//! Tests of the JSON formatter: what it makes of texts, and which it refuses.
+#![tactic(auto)]
+
+#[cfg(test)]
+mod layouts;
