@@ -3,3 +3,7 @@
 
 #[cfg(test)]
 mod layouts;
+#[cfg(test)]
+mod refusals;
+#[cfg(test)]
+mod values;
