@@ -39,7 +39,7 @@ fn operation<'a, D: DocPlace<'a>>(
     both.parens()?.group()?.into_doc()
 }
 
-/// The document of a term, with its nodes in this arena. It fails where memory is refused.
+/// The document of a term, with its nodes in this arena, or an error.
 pub fn document<'a>(arena: &'a Arena<'a>, term: &Term) -> Result<RefDoc<'a>, BuildError>
     ensures tree { IfOk result (λ p. ref_tree p ≡ document_of (expression_of term.now)) }
     ensures numbers { IfOk result (λ _. HasSmallNumbers (expression_of term.now)) }
