@@ -1,6 +1,6 @@
 -- The model of the lexemes with one that is read ahead.
-use Rattle.std.specs.Prelude.{◌≡◌, ℕ, ◌<◌, List, [], ◌∷◌, length, Option, Some, None}
-use Rattle.json_lexemes.specs.View.{text_of}
+use Rattle.std.specs.Prelude.{◌≡◌, ℕ, List, [], ◌∷◌, Option, Some, None}
+use Rattle.json_lexemes.specs.View.{text_of, IsNamed}
 use Rattle.json_lexemes.specs.declared.lexeme.Lexeme.{Lexeme}
 
 -- the lexemes that are left: the one that was read, and those after it
@@ -8,7 +8,7 @@ abbrev pub left : Option Lexeme → List (List ℕ) → List (List ℕ)
 left None later = later
 left (Some lexeme) later = text_of lexeme ∷ later
 
--- where none was read, none is left; the one that was read is not empty
+-- where none was read, none is left; the one that was read begins as its kind does
 abbrev pub IsAhead : Option Lexeme → List (List ℕ) → Type 0
 IsAhead None later = later ≡ []
-IsAhead (Some lexeme) later = 0 < length (text_of lexeme)
+IsAhead (Some lexeme) later = IsNamed lexeme

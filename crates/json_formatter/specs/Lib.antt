@@ -1,3 +1,4 @@
 pub mod Ahead
+pub mod Documents
 pub mod Formats
 pub mod Takes

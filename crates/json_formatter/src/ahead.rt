@@ -1,10 +1,11 @@
-ghost use Rattle.std.specs.Prelude.{◌≡◌, ◌<◌, [], ◌∷◌, ◌++◌, length, IfSome, IfNone, MatchOption};
-ghost use Rattle.std.specs.Bool.{MatchBool};
+ghost use Rattle.std.specs.Prelude.{◌≡◌, [], ◌∷◌, true, false, drop, IfSome, IfNone, MatchOption, if◌then◌else◌};
+ghost use Rattle.json.specs.Ascii.{colon, comma};
 ghost use Rattle.json_lexemes.specs.Lexemes.{lexemes};
-ghost use Rattle.json_lexemes.specs.View.{text_of};
-ghost use Rattle.prettyless.specs.Texts.{texts};
-ghost use Rattle.prettyless.specs.Told.{text_items};
+ghost use Rattle.json_lexemes.specs.View.{text_of, IsNamed};
+ghost use Rattle.prettyless.specs.Counted.{text};
+ghost use Rattle.json_formatter.specs.Documents.{closes, is_sign, lexeme_alone, next_is, read, stops};
 
+use crate::kind::{closes, is_colon, is_comma};
 use json_lexemes::{Lexeme, Lexer};
 use std::marker::Model;
 
@@ -28,7 +29,6 @@ impl<'a> Model for Ahead<'a> {
 
 impl<'a> Ahead<'a> {
     /// All lexemes of this text.
-    #[tactic(auto, using(crate::proofs::Named::named_is_some))]
     pub(crate) fn new(text: &'a str) -> Ahead<'a>
         ensures { result ≡ lexemes text.now }
     {
@@ -38,11 +38,10 @@ impl<'a> Ahead<'a> {
     }
 
     /// Takes the next lexeme, or answers `None` where none is left.
-    #[tactic(auto, using(crate::proofs::Named::named_is_some))]
     pub(crate) fn next(&mut self) -> Option<Lexeme<'a>>
         ensures next { MatchOption result ((self.old ≡ []) × (self.new ≡ []))
             (λ lexeme. self.old ≡ text_of lexeme ∷ self.new) }
-        ensures some { IfSome result (λ lexeme. 0 < length (text_of lexeme)) }
+        ensures named { IfSome result IsNamed }
     {
         let taken = self.next;
         if taken.is_some() {
@@ -54,18 +53,19 @@ impl<'a> Ahead<'a> {
     /// Takes the next lexeme, unless it closes a list.
     pub(crate) fn next_of_list(&mut self) -> Option<Lexeme<'a>>
         ensures some { IfSome result (λ lexeme. (self.old ≡ text_of lexeme ∷ self.new)
-            × (0 < length (text_of lexeme))) }
-        ensures none { IfNone result (self.new ≡ self.old) }
+            × (closes (text_of lexeme) ≡ false)) }
+        ensures named { IfSome result IsNamed }
+        ensures none { IfNone result ((self.new ≡ self.old) × (stops closes self.old ≡ true)) }
     {
         match self.next {
-            Some(Lexeme::CloseObject | Lexeme::CloseArray) => None,
+            Some(lexeme) if closes(lexeme) => None,
             _ => self.next(),
         }
     }
 
     /// Takes the next lexeme and answers its text, which is empty where none is left.
     pub(crate) fn next_text(&mut self) -> &'a str
-        ensures { self.old ≡ texts (text_items result.now) ++ self.new }
+        ensures { lexeme_alone self.old ≡ read (text result.now) self.new }
     {
         match self.next() {
             Some(lexeme) => lexeme.text(),
@@ -73,11 +73,32 @@ impl<'a> Ahead<'a> {
         }
     }
 
+    /// Whether a colon comes next.
+    fn next_is_colon(&self) -> bool
+        ensures { result ≡ next_is (is_sign colon) self.now }
+    {
+        match self.next {
+            Some(lexeme) => is_colon(lexeme),
+            None => false,
+        }
+    }
+
+    /// Whether a comma comes next.
+    fn next_is_comma(&self) -> bool
+        ensures { result ≡ next_is (is_sign comma) self.now }
+    {
+        match self.next {
+            Some(lexeme) => is_comma(lexeme),
+            None => false,
+        }
+    }
+
     /// Takes a colon, if it comes next.
     pub(crate) fn takes_colon(&mut self) -> bool
-        ensures { MatchBool result (self.old ≡ (58 ∷ []) ∷ self.new) (self.new ≡ self.old) }
+        ensures is_next { result ≡ next_is (is_sign colon) self.old }
+        ensures rest { self.new ≡ (if result then drop 1 self.old else self.old) }
     {
-        let is_next = matches!(self.next, Some(Lexeme::Colon));
+        let is_next = self.next_is_colon();
         if is_next {
             self.next();
         }
@@ -86,9 +107,10 @@ impl<'a> Ahead<'a> {
 
     /// Takes a comma, if it comes next.
     pub(crate) fn takes_comma(&mut self) -> bool
-        ensures { MatchBool result (self.old ≡ (44 ∷ []) ∷ self.new) (self.new ≡ self.old) }
+        ensures is_next { result ≡ next_is (is_sign comma) self.old }
+        ensures rest { self.new ≡ (if result then drop 1 self.old else self.old) }
     {
-        let is_next = matches!(self.next, Some(Lexeme::Comma));
+        let is_next = self.next_is_comma();
         if is_next {
             self.next();
         }

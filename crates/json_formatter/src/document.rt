@@ -1,10 +1,11 @@
-ghost use Rattle.std.specs.Prelude.{◌<◌, ◌≤◌, ℕ, List, [], ◌∷◌, length, IfOk, OnOk, map};
+ghost use Rattle.std.specs.Prelude.{◌≡◌, ◌≤◌, [], ◌∷◌, length, IfOk, OnOk, map};
 ghost use Rattle.json_lexemes.specs.Lexemes.{lexemes as lexemes_of};
-ghost use Rattle.json_lexemes.specs.View.{text_of};
+ghost use Rattle.json_lexemes.specs.View.{text_of, IsNamed};
 ghost use Rattle.prettyless.specs.Trees.{ref_tree};
-ghost use Rattle.json_formatter.specs.Takes.{Takes, AllTake};
+ghost use Rattle.json_formatter.specs.Documents.{member as member_of, members as members_of, read, tree_of, value as value_of, with_comma, with_value, GoesOn};
 
 use crate::ahead::Ahead;
+use crate::kind::{is_number, opens};
 use crate::list::list;
 use crate::parts::{joined, nothing, text, with_colon, with_comma};
 use crate::style::Style;
@@ -19,8 +20,7 @@ fn with_next_comma<'a, D: DocPlace<'a>>(
     lexemes: &mut Ahead<'_>,
     member: D::Doc,
 ) -> Result<D::Doc, BuildError>
-    ensures takes { IfOk result (λ p. (given : List (List ℕ)) → Takes given lexemes.old (D.Doc.tree member)
-        → Takes given lexemes.new (D.Doc.tree p)) }
+    ensures made { IfOk result (λ p. with_comma (D.Doc.tree member) lexemes.old ≡ read (D.Doc.tree p) lexemes.new) }
     ensures fewer { OnOk result (length lexemes.new ≤ length lexemes.old) }
 {
     if lexemes.takes_comma() {
@@ -40,11 +40,12 @@ fn value<'a>(
     first: Lexeme<'a>,
     depth: usize,
 ) -> Result<RefDoc<'a>, BuildError>
-    requires { 0 < length (text_of first) }
-    ensures takes { IfOk result (λ p. Takes (text_of first.entry ∷ lexemes.old) lexemes.new (ref_tree p)) }
+    requires { IsNamed first }
+    ensures made { IfOk result (λ p. value_of style depth (text_of first.entry ∷ lexemes.old)
+        ≡ read (ref_tree p) lexemes.new) }
     ensures fewer { OnOk result (length lexemes.new ≤ length lexemes.old) }
 {
-    if depth == 0 || !matches!(first, Lexeme::OpenObject | Lexeme::OpenArray) {
+    if depth == 0 || !opens(first) {
         return Ok(text(arena, first.text())?);
     }
     let (docs, are_numbers) = members(arena, style, lexemes, depth - 1)?;
@@ -61,12 +62,13 @@ fn members<'a>(
     lexemes: &mut Ahead<'a>,
     depth: usize,
 ) -> Result<(Vec<RefDoc<'a>>, bool), BuildError>
-    ensures { IfOk result (λ found. AllTake lexemes.old lexemes.new (map ref_tree found.0.items)) }
+    ensures { IfOk result (λ found. GoesOn (members_of (value_of style depth) lexemes.old)
+        (read [] lexemes.new) (map ref_tree found.0.items) found.1) }
 {
     let mut docs = Vec::new(arena.memory());
     let mut are_numbers = true;
     while let Some(first) = lexemes.next_of_list() {
-        are_numbers = are_numbers && is_number(first);
+        are_numbers &= is_number(first);
         docs.push(member(arena, style, lexemes, first, depth)?)?;
     }
     Ok((docs, are_numbers))
@@ -81,8 +83,9 @@ fn member<'a>(
     first: Lexeme<'a>,
     depth: usize,
 ) -> Result<RefDoc<'a>, BuildError>
-    requires { 0 < length (text_of first) }
-    ensures takes { IfOk result (λ p. Takes (text_of first.entry ∷ lexemes.old) lexemes.new (ref_tree p)) }
+    requires { IsNamed first }
+    ensures made { IfOk result (λ p. member_of (value_of style depth) (text_of first.entry ∷ lexemes.old)
+        ≡ read (ref_tree p) lexemes.new) }
     ensures fewer { OnOk result (length lexemes.new ≤ length lexemes.old) }
 {
     let key = value(arena, style, lexemes, first, depth)?;
@@ -99,8 +102,8 @@ fn pair<'a>(
     key: RefDoc<'a>,
     depth: usize,
 ) -> Result<RefDoc<'a>, BuildError>
-    ensures takes { IfOk result (λ p. (given : List (List ℕ)) → Takes given lexemes.old (ref_tree key.entry)
-        → Takes given lexemes.new (ref_tree p)) }
+    ensures made { IfOk result (λ p. with_value (value_of style depth) (ref_tree key.entry) lexemes.old
+        ≡ read (ref_tree p) lexemes.new) }
     ensures fewer { OnOk result (length lexemes.new ≤ length lexemes.old) }
 {
     if !lexemes.takes_colon() {
@@ -114,21 +117,13 @@ fn pair<'a>(
     Ok(joined(arena, key, value)?)
 }
 
-/// Whether the lexeme is a number, where it is one of a JSON text.
-fn is_number(lexeme: Lexeme<'_>) -> bool {
-    match lexeme {
-        Lexeme::Word(word) => matches!(word.as_bytes(), [b'-' | b'0'..=b'9', ..]),
-        _ => false,
-    }
-}
-
-/// The document of a text: its lexemes in their order, with gaps alone between them.
+/// The document of a text.
 pub(crate) fn document<'a>(
     arena: &'a Arena<'a>,
     text: &'a str,
     style: Style,
 ) -> Result<RefDoc<'a>, BuildError>
-    ensures { IfOk result (λ p. Takes (lexemes_of text.now) [] (ref_tree p)) }
+    ensures { IfOk result (λ p. ref_tree p ≡ tree_of style (lexemes_of text.now)) }
 {
     let mut lexemes = Ahead::new(text);
     let mut all = nothing(arena)?;

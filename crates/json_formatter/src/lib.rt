@@ -4,6 +4,7 @@
 mod ahead;
 mod document;
 mod error;
+mod kind;
 mod layout;
 mod list;
 mod output;

@@ -1,11 +1,11 @@
-ghost use Rattle.std.specs.Prelude.{◌≡◌, pos, [], ◌++◌, List, IfOk, map};
-ghost use Rattle.std.specs.List.{AllZip};
+ghost use Rattle.std.specs.Prelude.{◌≡◌, ◌<◌, pos, IfOk, map, vec_len};
 ghost use Rattle.prettyless.specs.Built.{append, nest, softline};
+ghost use Rattle.prettyless.specs.Counted.{text};
 ghost use Rattle.prettyless.specs.DocTree.{built};
 ghost use Rattle.prettyless.specs.Lines.{line_};
-ghost use Rattle.prettyless.specs.Texts.{Item, tells};
-ghost use Rattle.prettyless.specs.Told.{text_items, with_gaps};
+ghost use Rattle.prettyless.specs.Lists.{bracketed};
 ghost use Rattle.prettyless.specs.Words.{intersperse};
+ghost use Rattle.json_formatter.specs.Documents.{filled, listed};
 
 use prettyless::text::BuildError;
 use prettyless::{DocAllocator, DocBuilder, DocPlace, Pretty};
@@ -18,8 +18,8 @@ fn on_lines<'a, D: DocPlace<'a>>(
     after: &'a str,
     indent: u32,
 ) -> Result<D::Doc, BuildError>
-    ensures { IfOk result (λ p. (items : List (List Item)) → AllZip tells (map D.Doc.tree docs.items) items
-        → tells (D.Doc.tree p) (text_items before.now ++ (with_gaps [] items ++ text_items after.now))) }
+    ensures { IfOk result (λ p. D.Doc.tree p
+        ≡ bracketed (text before.now) (map D.Doc.tree docs.items) (text after.now) (pos indent)) }
 {
     let list = place.bracketed(before, docs, after, indent as isize)?;
     Ok(list.into_doc()?)
@@ -48,8 +48,9 @@ fn filled<'a, D: DocPlace<'a>>(
     after: &'a str,
     indent: u32,
 ) -> Result<D::Doc, BuildError>
-    ensures { IfOk result (λ p. (items : List (List Item)) → AllZip tells (map D.Doc.tree docs.items) items
-        → tells (D.Doc.tree p) (text_items before.now ++ (with_gaps [] items ++ text_items after.now))) }
+    requires { 0 < vec_len docs }
+    ensures { IfOk result (λ p. D.Doc.tree p
+        ≡ filled (text before.now) (map D.Doc.tree docs.items) (text after.now) (pos indent)) }
 {
     let before = Pretty::pretty(before, place)?;
     let after = Pretty::pretty(after, place)?;
@@ -67,8 +68,8 @@ pub(crate) fn list<'a, D: DocPlace<'a>>(
     indent: u32,
     fills: bool,
 ) -> Result<D::Doc, BuildError>
-    ensures { IfOk result (λ p. (items : List (List Item)) → AllZip tells (map D.Doc.tree docs.items) items
-        → tells (D.Doc.tree p) (text_items before.now ++ (with_gaps [] items ++ text_items after.now))) }
+    ensures { IfOk result (λ p. D.Doc.tree p
+        ≡ listed fills (text before.now) (map D.Doc.tree docs.items) (text after.now) (pos indent)) }
 {
     if fills && !docs.is_empty() {
         filled(place, before, docs, after, indent)

@@ -1,0 +1,168 @@
+-- The document of a JSON text, and its layout: what stands on a line is read off the lexemes alone.
+use Rattle.std.specs.Prelude.{◌≡◌, ℕ, zero, suc, ℤ, pos, Bool, true, false, ◌&&◌, ◌||◌, ◌==◌, List, [], ◌∷◌, ◌++◌, length, drop, map, if◌then◌else◌}
+use Rattle.std.specs.Char.{is_ascii_digit}
+use Rattle.std.specs.List.{fold, list_all}
+use Rattle.json.specs.Ascii as ascii
+use Rattle.json.specs.Json.{max_depth}
+use Rattle.json.specs.Word.{head}
+use Rattle.json_lexemes.specs.Lexemes.{lexemes}
+use Rattle.prettyless.specs.Built.{append, enclose, group, nest, softline}
+use Rattle.prettyless.specs.Counted.{text}
+use Rattle.prettyless.specs.Layout.{bytes_in, layout}
+use Rattle.prettyless.specs.Lines.{line_, space}
+use Rattle.prettyless.specs.Lists.{bracketed}
+use Rattle.prettyless.specs.Options.{options_at}
+use Rattle.prettyless.specs.Tree.{Tree, Nil}
+use Rattle.prettyless.specs.Words.{intersperse}
+use Rattle.json_formatter.specs.declared.style.Style.{Style}
+
+-- ---- which lexeme it is
+
+-- this sign
+abbrev pub is_sign : ℕ → List ℕ → Bool
+is_sign sign (b ∷ []) = b == sign
+is_sign sign _ = false
+
+-- it opens a list, which is an object or an array
+abbrev pub opens : List ℕ → Bool
+opens s = is_sign ascii.open_brace s || is_sign ascii.open_bracket s
+
+-- it closes one
+abbrev pub closes : List ℕ → Bool
+closes s = is_sign ascii.close_brace s || is_sign ascii.close_bracket s
+
+-- a number, where it is a lexeme of a JSON text
+abbrev pub is_number : List ℕ → Bool
+is_number s = (head s == ascii.minus) || is_ascii_digit (head s)
+
+-- a lexeme is next of which `test` holds
+abbrev pub next_is : (List ℕ → Bool) → List (List ℕ) → Bool
+next_is test [] = false
+next_is test (s ∷ ss) = test s
+
+-- ---- reading lexemes from the left
+
+-- what was found, and the lexemes that are left
+pub record Read (A : Type 0) : Type 0 where
+  pub found : A
+  pub left : List (List ℕ)
+
+-- what is found at the beginning of lexemes
+abbrev pub Reader : Type 0 → Type 0
+Reader A = List (List ℕ) → Read A
+
+abbrev pub read : {A : Type 0} → A → Reader A
+read found left = record { found = found; left = left }
+
+-- one after the other; the second knows what the first found
+abbrev pub and_then : {A B : Type 0} → Read A → (A → Reader B) → Read B
+and_then first next = next first.found first.left
+
+-- found in front of what is found later
+abbrev pub onto : {A : Type 0} → A → Read (List A) → Read (List A)
+onto x later = read (x ∷ later.found) later.left
+
+-- nothing more is read: none is left, or one of which `ends` holds
+abbrev pub stops : (List ℕ → Bool) → List (List ℕ) → Bool
+stops ends [] = true
+stops ends (s ∷ ss) = ends s
+
+-- again and again until that, and at most so many times
+unfoldable pub many : {A : Type 0} → (List ℕ → Bool) → Reader A → ℕ → Reader (List A)
+many ends reader zero ss = read [] ss
+many ends reader (suc n) ss =
+    if stops ends ss then read [] ss else and_then (reader ss) (λ x left. onto x (many ends reader n left))
+
+-- again and again until that; each takes a lexeme at least
+abbrev pub until : {A : Type 0} → (List ℕ → Bool) → Reader A → Reader (List A)
+until ends reader ss = many ends reader (length ss) ss
+
+-- ---- the document of a value
+
+-- a member of a list: its document, and whether it begins with a number
+pub record Member : Type 0 where
+  pub tree : Tree
+  pub is_number : Bool
+
+-- a lexeme alone, or nothing where none is left
+abbrev pub lexeme_alone : Reader Tree
+lexeme_alone [] = read Nil []
+lexeme_alone (s ∷ ss) = read (text s) ss
+
+-- a key, and if a colon is next: it, a space, and the value
+abbrev pub with_value : Reader Tree → Tree → Reader Tree
+with_value value key ss =
+    if next_is (is_sign ascii.colon) ss
+    then and_then (value (drop 1 ss)) (λ v. read (append (append (append key (text (ascii.colon ∷ []))) space) v))
+    else read key ss
+
+-- a document, and the comma, if it is next
+abbrev pub with_comma : Tree → Reader Tree
+with_comma tree ss =
+    if next_is (is_sign ascii.comma) ss then read (append tree (text (ascii.comma ∷ []))) (drop 1 ss) else read tree ss
+
+-- a value, or a key with its value; with the comma after it
+abbrev pub member : Reader Tree → Reader Tree
+member value ss = and_then (and_then (value ss) (with_value value)) with_comma
+
+-- the same, as a member of a list
+abbrev pub list_member : Reader Tree → Reader Member
+list_member value ss = and_then (member value ss) (λ tree. read (record { tree = tree; is_number = next_is is_number ss }))
+
+-- the documents of members
+abbrev pub trees_of : List Member → List Tree
+trees_of ms = map (λ m. m.tree) ms
+
+-- whether each begins with a number
+abbrev pub all_numbers : List Member → Bool
+all_numbers ms = list_all (λ m. m.is_number) ms
+
+-- the members of a list, up to what closes it
+abbrev pub members : Reader Tree → Reader (List Member)
+members value = until closes (list_member value)
+
+-- members that were read after others: these trees came first, and so much is known of whether all are numbers
+pub record GoesOn (all later : Read (List Member)) (trees : List Tree) (are_numbers : Bool) : Type 0 where
+  pub documents : trees_of all.found ≡ trees ++ trees_of later.found
+  pub numbers : all_numbers all.found ≡ (are_numbers && all_numbers later.found)
+  pub left : all.left ≡ later.left
+
+-- documents between two others: flat, or in lines that are filled, k columns further in
+abbrev pub filled : Tree → List Tree → Tree → ℤ → Tree
+filled before [] after k = append before after
+filled before (x ∷ xs) after k =
+    group (enclose before (append (nest k (append line_ (intersperse softline (x ∷ xs)))) line_) after)
+
+-- they fill lines, or each has a line of its own where they aren't flat
+abbrev pub listed : Bool → Tree → List Tree → Tree → ℤ → Tree
+listed true before xs after k = filled before xs after k
+listed false before xs after k = bracketed before xs after k
+
+-- a list between its brackets; numbers alone fill lines where the style says so
+abbrev pub list : Style → List ℕ → List Member → Tree → Tree
+list style opening ms close =
+    listed (style.fill && all_numbers ms) (text opening) (trees_of ms) close (pos style.indent)
+
+-- a list, whose values are read by `value`, or a lexeme alone
+abbrev pub list_or_lexeme : Style → Reader Tree → Reader Tree
+list_or_lexeme style value [] = read Nil []
+list_or_lexeme style value (s ∷ ss) =
+    if opens s
+    then and_then (members value ss) (λ ms left. and_then (lexeme_alone left) (λ close. read (list style s ms close)))
+    else read (text s) ss
+
+-- the value that comes next; past so many lists inside one another a bracket stands alone
+unfoldable pub value : Style → ℕ → Reader Tree
+value style zero = lexeme_alone
+value style (suc depth) = list_or_lexeme style (value style depth)
+
+-- ---- the document of a text
+
+-- the values of the lexemes, one after the other; those of a JSON text are one value
+abbrev pub tree_of : Style → List (List ℕ) → Tree
+tree_of style ss = fold append Nil (until (λ _. false) (value style max_depth) ss).found
+
+-- the layout of a text in a style: that of its document, and a line feed
+abbrev pub layout_of : Style → List ℕ → List ℕ
+layout_of style text =
+    bytes_in (layout (options_at style.width) (tree_of style (lexemes text))) ++ ascii.line_feed ∷ []

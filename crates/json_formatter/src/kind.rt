@@ -1,0 +1,49 @@
+ghost use Rattle.std.specs.Prelude.{◌≡◌};
+ghost use Rattle.json.specs.Ascii.{colon, comma};
+ghost use Rattle.json_lexemes.specs.View.{text_of, IsNamed};
+ghost use Rattle.json_formatter.specs.Documents.{closes, is_number, is_sign, opens};
+
+use json_lexemes::Lexeme;
+
+/// Whether the lexeme opens a list, which is an object or an array.
+pub(crate) fn opens(lexeme: Lexeme<'_>) -> bool
+    requires { IsNamed lexeme }
+    ensures { result ≡ opens (text_of lexeme.entry) }
+{
+    matches!(lexeme, Lexeme::OpenObject | Lexeme::OpenArray)
+}
+
+/// Whether the lexeme closes a list.
+pub(crate) fn closes(lexeme: Lexeme<'_>) -> bool
+    requires { IsNamed lexeme }
+    ensures { result ≡ closes (text_of lexeme.entry) }
+{
+    matches!(lexeme, Lexeme::CloseObject | Lexeme::CloseArray)
+}
+
+/// Whether the lexeme is a colon.
+pub(crate) fn is_colon(lexeme: Lexeme<'_>) -> bool
+    requires { IsNamed lexeme }
+    ensures { result ≡ is_sign colon (text_of lexeme.entry) }
+{
+    matches!(lexeme, Lexeme::Colon)
+}
+
+/// Whether the lexeme is a comma.
+pub(crate) fn is_comma(lexeme: Lexeme<'_>) -> bool
+    requires { IsNamed lexeme }
+    ensures { result ≡ is_sign comma (text_of lexeme.entry) }
+{
+    matches!(lexeme, Lexeme::Comma)
+}
+
+/// Whether the lexeme is a number, where it is one of a JSON text.
+pub(crate) fn is_number(lexeme: Lexeme<'_>) -> bool
+    requires { IsNamed lexeme }
+    ensures { result ≡ is_number (text_of lexeme.entry) }
+{
+    match lexeme {
+        Lexeme::Word(word) => matches!(word.as_bytes(), [b'-' | b'0'..=b'9', ..]),
+        _ => false,
+    }
+}
