@@ -70,7 +70,7 @@ fn is_kept(alloc: Global, text: &str, value: &[u8], style: Style) -> Result<bool
     Ok(found.as_slice() == value && again.as_str() == layout.as_str())
 }
 
-/// Whether the layouts of a text are its value, which stands flat here. The widest one is to be the flat text itself.
+/// Whether each layout of a text has its value. `flat` is that value on one line, and the widest layout is to be `flat` itself.
 fn are_kept(alloc: Global, text: &str, flat: &str) -> Result<bool, FormatError> {
     let value = without_gaps(alloc, flat)?;
     for style in STYLES {
