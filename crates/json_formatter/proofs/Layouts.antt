@@ -2,19 +2,24 @@
 use Rattle.std.proofs.Common.{◌≡◌, refl, sym, ◌∙◌, ap, ℕ, Bool, true, false, ◌||◌, ◌==◌, List, [], ◌∷◌, ◌++◌, append_assoc, append-nil, inl, inr, ◌⊎◌, Option, Some, None}
 use Rattle.std.specs.Prelude.{IsSome}
 use Rattle.std.proofs.lemmas.Bool.{cases_Bool}
+use Rattle.json.specs.Ascii.{line_feed}
 use Rattle.json.specs.Word.{is_space}
 use Rattle.json.specs.Json.{Json, document}
 use Rattle.json_lexemes.specs.Lexemes.{lexemes}
 use Rattle.json_lexemes.specs.Spaced.{IsGap, IsSpaced}
 use Rattle.prettyless_model.specs.Spelling.{is_blank_byte, ink}
 use Rattle.prettyless.specs.Content.{AppendsContent}
+use Rattle.prettyless.specs.Layout.{bytes_in, layout}
+use Rattle.prettyless.specs.Options.{options_at}
 use Rattle.prettyless.specs.Texts.{texts}
 use Rattle.prettyless.specs.Tree.{Tree}
 use Rattle.prettyless_model.specs.Texts as model
 use Rattle.prettyless_model.proofs.AppendedTexts.{appended_shown, shown_spaced}
 use Rattle.json_lexemes.proofs.Reading.{same_reading}
+use Rattle.json_formatter.specs.declared.style.Style.{Style}
+use Rattle.json_formatter.specs.Documents.{layout_of, tree_of}
 use Rattle.json_formatter.specs.Formats.{IsFormatted}
-use Rattle.json_formatter.specs.Takes.{Takes}
+use Rattle.json_formatter.proofs.Taken.{Takes}
 
 -- ---- gaps
 
@@ -64,19 +69,30 @@ spaced_ended (s ∷ ss) bytes h = (
 -- ---- a layout
 
 -- what was appended to nothing, and a line feed, are the lexemes with gaps around them
-pub laid_spaced : (text layout : List ℕ) (d : Tree) → Takes (lexemes text) [] d → AppendsContent d [] layout → IsSpaced (layout ++ 10 ∷ []) (lexemes text)
-laid_spaced text layout d h a =
-    let shown = appended_shown d [] layout h.items a h.told in
+pub laid_spaced : (text bytes : List ℕ) (d : Tree) → Takes (lexemes text) [] d → AppendsContent d [] bytes → IsSpaced (bytes ++ 10 ∷ []) (lexemes text)
+laid_spaced text bytes d h a =
+    let shown = appended_shown d [] bytes h.items a h.told in
     let spaced = spaced_json (texts h.items) shown.0 (shown_spaced shown.0 h.items shown.2) in
     let all : texts h.items ≡ lexemes text = sym (h.taken ∙ append-nil (texts h.items)) in
     rw (← all) (rw shown.1 (spaced_ended (texts h.items) shown.0 spaced))
 
--- so it is the same value
-pub is_formatted : (text bytes : List ℕ) → IsSome (document text) → IsSpaced bytes (lexemes text) → (front : List ℕ) × (bytes ≡ front ++ 10 ∷ []) → IsFormatted text bytes
-is_formatted text bytes some spaced ended = by (document text) refl
+-- texts of the same lexemes have the same layout
+same_layout : (style : Style) (a b : List ℕ) → lexemes a ≡ lexemes b → layout_of style a ≡ layout_of style b
+same_layout style a b e = ap (λ (ss : List (List ℕ)). bytes_in (layout (options_at style.width) (tree_of style ss)) ++ line_feed ∷ []) e
+
+-- so it is the same value, and stays as it is
+pub is_formatted : (style : Style) (text bytes : List ℕ) → IsSome (document text) → IsSpaced bytes (lexemes text) → bytes ≡ layout_of style text → IsFormatted style text bytes
+is_formatted style text bytes some spaced laid = by (document text) refl
   where
-    by : (o : Option Json) → document text ≡ o → IsFormatted text bytes
+    by : (o : Option Json) → document text ≡ o → IsFormatted style text bytes
     by None e = let none : false ≡ true = rw e at some in absurd (cc)
     by (Some j) e =
         let same = same_reading text bytes j e spaced in
-        record { is_json = some; value = same.0 ∙ sym e; lexemes = same.1; ended = ended }
+        record {
+          is_json = some;
+          value = same.0 ∙ sym e;
+          lexemes = same.1;
+          layout = laid;
+          again = same_layout style bytes text same.1 ∙ sym laid;
+          ended = (bytes_in (layout (options_at style.width) (tree_of style (lexemes text))), laid);
+        }

@@ -1,21 +1,14 @@
--- What documents between two texts tell.
-use Rattle.std.proofs.Common.{refl, subst, ℕ, ℤ, List, [], ◌++◌, append_assoc, append-nil, inr}
+-- What documents between two others tell.
+use Rattle.std.proofs.Common.{subst, ℤ, List, [], ◌∷◌, ◌++◌, append_assoc, append-nil, refl, inr, Bool, true, false}
 use Rattle.std.specs.List.{AllZip}
-use Rattle.prettyless.specs.Built.{append, nest, group, softline}
-use Rattle.prettyless.specs.Counted.{text}
+use Rattle.prettyless.specs.Built.{append, nest, softline}
 use Rattle.prettyless.specs.Lines.{line_}
-use Rattle.prettyless.specs.Lists.{bracketed}
 use Rattle.prettyless.specs.Texts.{Item, tells}
-use Rattle.prettyless.specs.Told.{text_items, with_gaps}
+use Rattle.prettyless.specs.Told.{with_gaps}
 use Rattle.prettyless.specs.Tree.{Tree}
 use Rattle.prettyless.specs.Words.{intersperse}
-use Rattle.prettyless.proofs.ToldItems.{append_tells, nest_tells, group_tells, texts_tell, separated_tell, bracketed_tell}
-
--- each on a line of its own
-pub list_tells : (before after : List ℕ) (k : ℤ) (xs : List Tree) (items : List (List Item)) → AllZip tells xs items
-    → tells (bracketed (text before) xs (text after) k) (text_items before ++ (with_gaps [] items ++ text_items after))
-list_tells before after k xs items each =
-    bracketed_tell (text before) (text after) k xs (text_items before) [] (text_items after) items (texts_tell before).0 (texts_tell after).0 tt each
+use Rattle.prettyless.proofs.ToldItems.{append_tells, nest_tells, group_tells, separated_tell, bracketed_tell}
+use Rattle.json_formatter.specs.Documents.{filled, listed}
 
 abbrev lines_of : ℤ → List Tree → Tree
 lines_of k xs = append (nest k (append line_ (intersperse softline xs))) line_
@@ -29,12 +22,20 @@ lines_tell k xs items each =
     subst (tells (lines_of k xs)) (append-nil told) all
 
 -- in lines that are filled
-pub filled_tells : (before after : List ℕ) (k : ℤ) (xs : List Tree) (items : List (List Item)) → AllZip tells xs items
-    → tells (group (append (append (text before) (lines_of k xs)) (text after))) (text_items before ++ (with_gaps [] items ++ text_items after))
-filled_tells before after k xs items each =
+filled_tells : (before after : Tree) (k : ℤ) (xs : List Tree) (first last : List Item) (items : List (List Item)) → tells before first → tells after last → AllZip tells xs items
+    → tells (filled before xs after k) (first ++ (with_gaps [] items ++ last))
+filled_tells before after k [] first last [] h j each = append_tells before after first last h j
+filled_tells before after k [] first last (next ∷ items) h j each = absurd each
+filled_tells before after k (x ∷ xs) first last items h j each =
     let told = with_gaps [] items in
-    let inside = lines_of k xs in
-    let front = append_tells (text before) inside (text_items before) told (texts_tell before).0 (lines_tell k xs items each) in
-    let whole = append_tells (append (text before) inside) (text after) (text_items before ++ told) (text_items after) front (texts_tell after).0 in
-    group_tells (append (append (text before) inside) (text after)) (text_items before ++ (told ++ text_items after))
-    (subst (tells (append (append (text before) inside) (text after))) (append_assoc (text_items before) told (text_items after)) whole)
+    let inside = lines_of k (x ∷ xs) in
+    let front = append_tells before inside first told h (lines_tell k (x ∷ xs) items each) in
+    let whole = append_tells (append before inside) after (first ++ told) last front j in
+    group_tells (append (append before inside) after) (first ++ (told ++ last))
+    (subst (tells (append (append before inside) after)) (append_assoc first told last) whole)
+
+-- in lines that are filled, or each on a line of its own
+pub listed_tells : (fills : Bool) (before after : Tree) (k : ℤ) (xs : List Tree) (first last : List Item) (items : List (List Item)) → tells before first → tells after last → AllZip tells xs items
+    → tells (listed fills before xs after k) (first ++ (with_gaps [] items ++ last))
+listed_tells true before after k xs first last items h j each = filled_tells before after k xs first last items h j each
+listed_tells false before after k xs first last items h j each = bracketed_tell before after k xs first [] last items h j tt each

@@ -1,5 +1,5 @@
 -- What the steps of the code come to: each reads on where the one before it stopped.
-use Rattle.std.proofs.Common.{◌≡◌, refl, sym, ◌∙◌, ap, subst, ℕ, zero, suc, ◌-◌, ◌<◌, Bool, true, false, ◌&&◌, ◌||◌, List, [], ◌∷◌, ◌++◌, length, map, append_assoc, append-nil, drop, arith}
+use Rattle.std.proofs.Common.{◌≡◌, refl, sym, ◌∙◌, ap, subst, ℕ, zero, suc, ◌-◌, ◌<◌, Bool, true, false, ◌&&◌, List, [], ◌∷◌, ◌++◌, length, append_assoc, append-nil, drop, arith}
 use Rattle.std.specs.Prelude.{if◌then◌else◌, pos}
 use Rattle.std.specs.List.{fold}
 use Rattle.json.specs.Ascii as ascii
@@ -9,7 +9,7 @@ use Rattle.prettyless.specs.Counted.{text}
 use Rattle.prettyless.specs.Lines.{space}
 use Rattle.prettyless.specs.Tree.{Tree, Nil}
 use Rattle.json_formatter.specs.declared.style.Style.{Style}
-use Rattle.json_formatter.specs.Documents.{Read, Reader, Member, GoesOn, read, and_then, onto, until, many, stops, next_is, is_sign, is_number, opens, closes, lexeme_alone, with_value, with_comma, member, list_member, members, trees_of, all_numbers, listed, list, list_or_lexeme, value, tree_of}
+use Rattle.json_formatter.specs.Documents.{Read, Reader, Member, GoesOn, read, and_then, onto, until, many, stops, next_is, is_sign, is_number, opens, closes, lexeme_alone, with_value, with_comma, member, list_member, members, trees_of, all_numbers, listed, list, value, tree_of}
 use Rattle.json_formatter.proofs.Readers.{many_stops, until_more}
 use Rattle.json_formatter.proofs.Shrinking.{value_none, value_shrinks, value_keeps, list_member_shrinks}
 

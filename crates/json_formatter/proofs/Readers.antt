@@ -1,7 +1,7 @@
 -- How readers go on: what is read again and again, step by step.
-use Rattle.std.proofs.Common.{◌≡◌, refl, sym, ◌∙◌, ap, ℕ, zero, suc, ◌≤◌, Bool, true, false, List, [], ◌∷◌, length, inl, inr, ◌⊎◌, arith, if◌then◌else◌}
+use Rattle.std.proofs.Common.{◌≡◌, refl, sym, ◌∙◌, ap, ℕ, zero, suc, ◌≤◌, Bool, true, false, List, [], ◌∷◌, length, inl, inr, ◌⊎◌, arith}
 use Rattle.std.proofs.lemmas.Bool.{cases_Bool}
-use Rattle.json_formatter.specs.Documents.{Read, Reader, read, and_then, onto, stops, many, until}
+use Rattle.json_formatter.specs.Documents.{Reader, read, and_then, onto, stops, many, until}
 
 -- a reader takes a lexeme where one is left
 abbrev pub Shrinks : {A : Type 0} → Reader A → Type 0
@@ -56,3 +56,13 @@ many_shrinks ends reader shrinks zero ss = omega arith
 many_shrinks ends reader shrinks (suc n) [] = omega arith
 many_shrinks ends reader shrinks (suc n) (s ∷ ss) =
     one_shrinks ends reader shrinks n s ss (cases_Bool (ends s)) (many_shrinks ends reader shrinks n (reader (s ∷ ss)).left)
+
+-- where no lexeme ends it, and so many times are enough, none is left
+pub many_read_all : {A : Type 0} (reader : Reader A) → Shrinks reader → (n : ℕ) (ss : List (List ℕ)) → length ss ≤ n → (many (λ _. false) reader n ss).left ≡ []
+unfolding many
+many_read_all reader shrinks zero [] l = refl
+many_read_all reader shrinks zero (s ∷ ss) l = absurd (omega arith)
+many_read_all reader shrinks (suc n) [] l = refl
+many_read_all reader shrinks (suc n) (s ∷ ss) l =
+    let h = shrinks s ss in
+    many_read_all reader shrinks n (reader (s ∷ ss)).left (omega (arith, h))

@@ -1,10 +1,10 @@
 -- No reader gives a lexeme back.
-use Rattle.std.proofs.Common.{◌≡◌, refl, sym, ap, ℕ, zero, suc, ◌≤◌, Bool, true, false, List, [], ◌∷◌, length, drop, length-drop, inl, inr, ◌⊎◌, arith}
+use Rattle.std.proofs.Common.{◌≡◌, refl, ap, ℕ, zero, suc, ◌≤◌, true, false, List, [], ◌∷◌, length, drop, length-drop, inl, inr, ◌⊎◌, arith}
 use Rattle.std.proofs.lemmas.Bool.{cases_Bool}
 use Rattle.json.specs.Ascii as ascii
 use Rattle.prettyless.specs.Tree.{Tree, Nil}
 use Rattle.json_formatter.specs.declared.style.Style.{Style}
-use Rattle.json_formatter.specs.Documents.{Read, Reader, read, next_is, is_sign, opens, closes, lexeme_alone, with_value, with_comma, member, list_member, members, list_or_lexeme, value}
+use Rattle.json_formatter.specs.Documents.{Read, Reader, read, next_is, is_sign, opens, closes, lexeme_alone, with_value, with_comma, list_member, members, list_or_lexeme, value}
 use Rattle.json_formatter.proofs.Readers.{Shrinks, many_shrinks}
 
 -- where no lexeme is left, there is no value

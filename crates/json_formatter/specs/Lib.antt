@@ -1,4 +1,3 @@
 pub mod Ahead
 pub mod Documents
 pub mod Formats
-pub mod Takes

@@ -1,7 +1,8 @@
-ghost use Rattle.std.specs.Prelude.{◌≡◌, ℕ, List, [], ◌∷◌, ◌++◌, IfOk, IfErr};
+ghost use Rattle.std.specs.Prelude.{◌≡◌, IfOk, IfErr};
 ghost use Rattle.std.specs.String.{string_bytes};
 ghost use Rattle.json_lexemes.specs.Lexemes.{lexemes};
 ghost use Rattle.json_lexemes.specs.Spaced.{IsSpaced};
+ghost use Rattle.json_formatter.specs.Documents.{layout_of};
 ghost use Rattle.json_formatter.specs.Formats.{IsFormatted, IsMemory, IsRefused, Formats};
 
 use crate::document::document;
@@ -14,10 +15,10 @@ use prettyless::{Arena, DocPlace, DocPtr};
 use std::alloc::Global;
 use std::io::Write;
 
-/// The layout of a text's lexemes, and a line feed.
+/// The layout of a text in this style, and a line feed: its lexemes, with spaces around them.
 fn laid<'a>(arena: &'a Arena<'a>, text: &'a str, style: Style) -> Result<String, FormatError>
-    ensures ok { IfOk result (λ layout. IsSpaced (string_bytes layout) (lexemes text.now)) }
-    ensures ended { IfOk result (λ layout. (front : List ℕ) × (string_bytes layout ≡ front ++ 10 ∷ [])) }
+    ensures laid { IfOk result (λ layout. string_bytes layout ≡ layout_of style text.now) }
+    ensures spaced { IfOk result (λ layout. IsSpaced (string_bytes layout) (lexemes text.now)) }
     ensures err { IfErr result IsMemory }
 {
     let document = document(arena, text, style)?;
@@ -29,11 +30,12 @@ fn laid<'a>(arena: &'a Arena<'a>, text: &'a str, style: Style) -> Result<String,
     Ok(layout)
 }
 
-/// The layout of a JSON text in this style, and a line feed. It is the same value, and has the same lexemes.
+/// The layout of a JSON text in this style, and a line feed. It is the same value, and has the same lexemes. Laid out again
+/// in this style, it stays as it is.
 ///
 /// `NotJson` exactly where the text is no JSON, and else `Memory` where memory is refused.
 pub fn formatted(alloc: Global, text: &str, style: Style) -> Result<String, FormatError>
-    ensures ok { IfOk result (λ layout. IsFormatted text.now (string_bytes layout)) }
+    ensures ok { IfOk result (λ layout. IsFormatted style text.now (string_bytes layout)) }
     ensures err { IfErr result (IsRefused text.now) }
 {
     if !is_valid(text, &mut Scratch::new(alloc))? {
@@ -44,7 +46,7 @@ pub fn formatted(alloc: Global, text: &str, style: Style) -> Result<String, Form
     Ok(laid(&arena, text, style)?)
 }
 
-/// Writes the layout of a JSON text in this style, and a line feed. It is the same value, and has the same lexemes.
+/// Writes the layout of a JSON text in this style, and a line feed, as `formatted` does.
 ///
 /// `NotJson` exactly where the text is no JSON: then nothing was written, nor was it where memory was refused. Where the
 /// writer fails a beginning was written.
@@ -54,7 +56,7 @@ pub fn format<W: Write>(
     style: Style,
     writer: &mut W,
 ) -> Result<(), FormatError>
-    ensures { Formats text.now (W.contents writer.old) (W.contents writer.new) result }
+    ensures { Formats style text.now (W.contents writer.old) (W.contents writer.new) result }
 {
     let layout = formatted(alloc, text, style)?;
     write_text(writer, layout.as_bytes())
