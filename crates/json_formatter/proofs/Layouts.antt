@@ -1,5 +1,5 @@
 -- What a layout shows is the text's lexemes with gaps around them, so it is the same value.
-use Rattle.std.proofs.Common.{◌≡◌, refl, sym, ◌∙◌, ap, ℕ, Bool, true, false, ◌||◌, ◌==◌, List, [], ◌∷◌, ◌++◌, append_assoc, append-nil, inl, inr, ◌⊎◌, Option, Some, None}
+use Rattle.std.proofs.Common.{◌≡◌, refl, sym, ◌∙◌, ap, subst, ℕ, Bool, true, false, ◌||◌, ◌==◌, List, [], ◌∷◌, ◌++◌, append_assoc, append-nil, inl, inr, ◌⊎◌, Option, Some, None}
 use Rattle.std.specs.Prelude.{IsSome}
 use Rattle.std.proofs.lemmas.Bool.{cases_Bool}
 use Rattle.json.specs.Ascii.{line_feed}
@@ -8,18 +8,18 @@ use Rattle.json.specs.Json.{Json, document}
 use Rattle.json_lexemes.specs.Lexemes.{lexemes}
 use Rattle.json_lexemes.specs.Spaced.{IsGap, IsSpaced}
 use Rattle.prettyless_model.specs.Spelling.{is_blank_byte, ink}
-use Rattle.prettyless.specs.Content.{AppendsContent}
 use Rattle.prettyless.specs.Layout.{bytes_in, layout}
 use Rattle.prettyless.specs.Options.{options_at}
 use Rattle.prettyless.specs.Texts.{texts}
-use Rattle.prettyless.specs.Tree.{Tree}
 use Rattle.prettyless_model.specs.Texts as model
-use Rattle.prettyless_model.proofs.AppendedTexts.{appended_shown, shown_spaced}
+use Rattle.prettyless_model.proofs.ShownTexts.{texts_of_layout}
+use Rattle.prettyless_laws.proofs.TotalTrees.{total_layout}
 use Rattle.json_lexemes.proofs.Reading.{same_reading}
 use Rattle.json_formatter.specs.declared.style.Style.{Style}
 use Rattle.json_formatter.specs.Documents.{layout_of, tree_of}
 use Rattle.json_formatter.specs.Formats.{IsFormatted}
-use Rattle.json_formatter.proofs.Taken.{Takes}
+use Rattle.json_formatter.proofs.Telling.{tree_takes}
+use Rattle.json_formatter.proofs.Total.{tree_total}
 
 -- ---- gaps
 
@@ -68,26 +68,30 @@ spaced_ended (s ∷ ss) bytes h = (
 
 -- ---- a layout
 
--- what was appended to nothing, and a line feed, are the lexemes with gaps around them
-pub laid_spaced : (text bytes : List ℕ) (d : Tree) → Takes (lexemes text) [] d → AppendsContent d [] bytes → IsSpaced (bytes ++ 10 ∷ []) (lexemes text)
-laid_spaced text bytes d h a =
-    let shown = appended_shown d [] bytes h.items a h.told in
-    let spaced = spaced_json (texts h.items) shown.0 (shown_spaced shown.0 h.items shown.2) in
-    let all : texts h.items ≡ lexemes text = sym (h.taken ∙ append-nil (texts h.items)) in
-    rw (← all) (rw shown.1 (spaced_ended (texts h.items) shown.0 spaced))
+-- the layout of a text is its lexemes with gaps around them
+layout_spaced : (style : Style) (text : List ℕ) → IsSpaced (layout_of style text) (lexemes text)
+layout_spaced style text =
+    let options = options_at style.width in
+    let tree = tree_of style (lexemes text) in
+    let takes = tree_takes style text in
+    let whole = total_layout options tree (tree_total style (lexemes text)) in
+    let told = texts_of_layout options tree whole.0 takes.items takes.told whole.1 in
+    let spaced = spaced_ended (texts takes.items) whole.0 (spaced_json (texts takes.items) whole.0 told) in
+    let all : texts takes.items ≡ lexemes text = sym (takes.taken ∙ append-nil (texts takes.items)) in
+    rw (whole.1) (subst (IsSpaced (whole.0 ++ line_feed ∷ [])) all spaced)
 
 -- texts of the same lexemes have the same layout
 same_layout : (style : Style) (a b : List ℕ) → lexemes a ≡ lexemes b → layout_of style a ≡ layout_of style b
 same_layout style a b e = ap (λ (ss : List (List ℕ)). bytes_in (layout (options_at style.width) (tree_of style ss)) ++ line_feed ∷ []) e
 
 -- so it is the same value, and stays as it is
-pub is_formatted : (style : Style) (text bytes : List ℕ) → IsSome (document text) → IsSpaced bytes (lexemes text) → bytes ≡ layout_of style text → IsFormatted style text bytes
-is_formatted style text bytes some spaced laid = by (document text) refl
+pub is_formatted : (style : Style) (text bytes : List ℕ) → IsSome (document text) → bytes ≡ layout_of style text → IsFormatted style text bytes
+is_formatted style text bytes some laid = by (document text) refl
   where
     by : (o : Option Json) → document text ≡ o → IsFormatted style text bytes
     by None e = let none : false ≡ true = rw e at some in absurd (cc)
     by (Some j) e =
-        let same = same_reading text bytes j e spaced in
+        let same = same_reading text bytes j e (rw laid (layout_spaced style text)) in
         record {
           is_json = some;
           value = same.0 ∙ sym e;

@@ -5,3 +5,4 @@ pub mod ReadOn
 pub mod Shrinking
 pub mod Taken
 pub mod Telling
+pub mod Total

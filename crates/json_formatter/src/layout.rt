@@ -1,7 +1,5 @@
 ghost use Rattle.std.specs.Prelude.{◌≡◌, IfOk, IfErr};
 ghost use Rattle.std.specs.String.{string_bytes};
-ghost use Rattle.json_lexemes.specs.Lexemes.{lexemes};
-ghost use Rattle.json_lexemes.specs.Spaced.{IsSpaced};
 ghost use Rattle.json_formatter.specs.Documents.{layout_of};
 ghost use Rattle.json_formatter.specs.Formats.{IsFormatted, IsMemory, IsRefused, Formats};
 
@@ -15,10 +13,9 @@ use prettyless::{Arena, DocPlace, DocPtr};
 use std::alloc::Global;
 use std::io::Write;
 
-/// The layout of a text in this style, and a line feed: its lexemes, with spaces around them.
+/// The layout of a text in this style, and a line feed.
 fn laid<'a>(arena: &'a Arena<'a>, text: &'a str, style: Style) -> Result<String, FormatError>
-    ensures laid { IfOk result (λ layout. string_bytes layout ≡ layout_of style text.now) }
-    ensures spaced { IfOk result (λ layout. IsSpaced (string_bytes layout) (lexemes text.now)) }
+    ensures ok { IfOk result (λ layout. string_bytes layout ≡ layout_of style text.now) }
     ensures err { IfErr result IsMemory }
 {
     let document = document(arena, text, style)?;
