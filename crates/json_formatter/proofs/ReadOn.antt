@@ -106,10 +106,10 @@ pub one_more : (style : Style) (depth : ℕ) (r : Read (List Member)) (given mor
 one_more style depth r given more left s trees are_numbers tree h g e m =
     let v = value style depth in
     let first : list_member v (s ∷ more) ≡ read (record { tree = tree; is_number = is_number s }) left =
-        ap (λ (p : Read Tree). and_then p (λ (t : Tree). read (record { tree = t; is_number = is_number s }))) m in
+    ap (λ (p : Read Tree). and_then p (λ (t : Tree). read (record { tree = t; is_number = is_number s }))) m in
     let next : members v given ≡ onto (record { tree = tree; is_number = is_number s }) (members v left) =
-        ap (members v) g ∙ until_more closes (list_member v) (list_member_shrinks v (value_shrinks style depth) (value_keeps style depth)) s more e
-        ∙ ap (λ (p : Read Member). onto p.found (members v p.left)) first in
+    ap (members v) g ∙ until_more closes (list_member v) (list_member_shrinks v (value_shrinks style depth) (value_keeps style depth)) s more e
+    ∙ ap (λ (p : Read Member). onto p.found (members v p.left)) first in
     let later = members v left in
     record {
       documents = h.documents ∙ ap (λ (q : Read (List Member)). trees ++ trees_of q.found) next ∙ sym (append_assoc trees (tree ∷ []) (trees_of later.found));
@@ -136,7 +136,7 @@ one_value_more style all given more left s before tree made h g e m =
     let never = λ (s : List ℕ). false in
     let v = value style max_depth in
     let next : until never v given ≡ onto tree (until never v left) =
-        ap (until never v) g ∙ until_more never v (value_shrinks style max_depth) s more refl ∙ ap (λ (p : Read Tree). onto p.found (until never v p.left)) e in
+    ap (until never v) g ∙ until_more never v (value_shrinks style max_depth) s more refl ∙ ap (λ (p : Read Tree). onto p.found (until never v p.left)) e in
     ap (λ (x : Tree). fold append x (until never v left).found) m ∙ sym (ap (λ (q : Read (List Tree)). fold append before q.found) next) ∙ h
 
 pub no_value_more : (style : Style) (all given : List (List ℕ)) (tree : Tree) → IsSoFar style all given tree → given ≡ [] → tree ≡ tree_of style all

@@ -24,12 +24,6 @@ pub record IsFormatted (style : Style) (text bytes : List ℕ) : Type 0 where
   -- They end in a line feed.
   pub ended : (front : List ℕ) × (bytes ≡ front ++ line_feed ∷ [])
 
--- memory was refused
-abbrev pub IsMemory : FormatError → Type 0
-IsMemory NotJson = ⊥
-IsMemory (Memory e) = Unit {0}
-IsMemory (Write e) = ⊥
-
 -- the writer failed
 abbrev pub IsWriting : FormatError → Type 0
 IsWriting NotJson = ⊥

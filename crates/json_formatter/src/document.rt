@@ -1,6 +1,7 @@
-ghost use Rattle.std.specs.Prelude.{◌≡◌, ◌≤◌, [], ◌∷◌, length, IfOk, OnOk, map};
+ghost use Rattle.std.specs.Prelude.{◌≡◌, ◌≤◌, [], ◌∷◌, length, IfOk, IfErr, OnOk, map};
 ghost use Rattle.json_lexemes.specs.Lexemes.{lexemes as lexemes_of};
 ghost use Rattle.json_lexemes.specs.View.{text_of, IsNamed};
+ghost use Rattle.prettyless.specs.BuildErrors.{IsMemory};
 ghost use Rattle.prettyless.specs.Trees.{ref_tree};
 ghost use Rattle.json_formatter.specs.Documents.{member as member_of, members as members_of, read, tree_of, value as value_of, with_comma, with_value, GoesOn};
 
@@ -22,6 +23,7 @@ fn with_next_comma<'a, D: DocPlace<'a>>(
 ) -> Result<D::Doc, BuildError>
     ensures made { IfOk result (λ p. with_comma (D.Doc.tree member) lexemes.old ≡ read (D.Doc.tree p) lexemes.new) }
     ensures fewer { OnOk result (length lexemes.new ≤ length lexemes.old) }
+    ensures err { IfErr result IsMemory }
 {
     if lexemes.takes_comma() {
         Ok(with_comma(place, member)?)
@@ -44,6 +46,7 @@ fn value<'a>(
     ensures made { IfOk result (λ p. value_of style depth (text_of first.entry ∷ lexemes.old)
         ≡ read (ref_tree p) lexemes.new) }
     ensures fewer { OnOk result (length lexemes.new ≤ length lexemes.old) }
+    ensures err { IfErr result IsMemory }
 {
     if depth == 0 || !opens(first) {
         return Ok(text(arena, first.text())?);
@@ -62,8 +65,9 @@ fn members<'a>(
     lexemes: &mut Ahead<'a>,
     depth: usize,
 ) -> Result<(Vec<RefDoc<'a>>, bool), BuildError>
-    ensures { IfOk result (λ found. GoesOn (members_of (value_of style depth) lexemes.old)
+    ensures ok { IfOk result (λ found. GoesOn (members_of (value_of style depth) lexemes.old)
         (read [] lexemes.new) (map ref_tree found.0.items) found.1) }
+    ensures err { IfErr result IsMemory }
 {
     let mut docs = Vec::new(arena.memory());
     let mut are_numbers = true;
@@ -87,6 +91,7 @@ fn member<'a>(
     ensures made { IfOk result (λ p. member_of (value_of style depth) (text_of first.entry ∷ lexemes.old)
         ≡ read (ref_tree p) lexemes.new) }
     ensures fewer { OnOk result (length lexemes.new ≤ length lexemes.old) }
+    ensures err { IfErr result IsMemory }
 {
     let key = value(arena, style, lexemes, first, depth)?;
     let pair = pair(arena, style, lexemes, key, depth)?;
@@ -105,6 +110,7 @@ fn pair<'a>(
     ensures made { IfOk result (λ p. with_value (value_of style depth) (ref_tree key.entry) lexemes.old
         ≡ read (ref_tree p) lexemes.new) }
     ensures fewer { OnOk result (length lexemes.new ≤ length lexemes.old) }
+    ensures err { IfErr result IsMemory }
 {
     if !lexemes.takes_colon() {
         return Ok(key);
@@ -123,7 +129,8 @@ pub(crate) fn document<'a>(
     text: &'a str,
     style: Style,
 ) -> Result<RefDoc<'a>, BuildError>
-    ensures { IfOk result (λ p. ref_tree p ≡ tree_of style (lexemes_of text.now)) }
+    ensures ok { IfOk result (λ p. ref_tree p ≡ tree_of style (lexemes_of text.now)) }
+    ensures err { IfErr result IsMemory }
 {
     let mut lexemes = Ahead::new(text);
     let mut all = nothing(arena)?;

@@ -1,7 +1,9 @@
 ghost use Rattle.std.specs.Prelude.{◌≡◌, IfOk, IfErr};
 ghost use Rattle.std.specs.String.{string_bytes};
-ghost use Rattle.json_formatter.specs.Documents.{layout_of};
-ghost use Rattle.json_formatter.specs.Formats.{IsFormatted, IsMemory, IsRefused, Formats};
+ghost use Rattle.json_lexemes.specs.Lexemes.{lexemes};
+ghost use Rattle.prettyless.specs.Trees.{ref_tree};
+ghost use Rattle.json_formatter.specs.Documents.{layout_of, tree_of};
+ghost use Rattle.json_formatter.specs.Formats.{IsFormatted, IsRefused, Formats};
 
 use crate::document::document;
 use crate::error::FormatError;
@@ -9,21 +11,36 @@ use crate::output::write_text;
 use crate::style::Style;
 use bumpalo::Bump;
 use json::{Scratch, is_valid};
-use prettyless::{Arena, DocPlace, DocPtr};
-use std::alloc::Global;
+use prettyless::text::BuildError;
+use prettyless::{Arena, DocPlace, DocPtr, RefDoc, RenderError};
+use std::alloc::{AllocError, Global};
 use std::io::Write;
 
-/// The layout of a text in this style, and a line feed.
-fn laid<'a>(arena: &'a Arena<'a>, text: &'a str, style: Style) -> Result<String, FormatError>
-    ensures ok { IfOk result (λ layout. string_bytes layout ≡ layout_of style text.now) }
-    ensures err { IfErr result IsMemory }
+/// The document of a text, or memory was refused: each of its lexemes is a text that is there.
+fn built<'a>(arena: &'a Arena<'a>, text: &'a str, style: Style) -> Result<RefDoc<'a>, AllocError>
+    ensures { IfOk result (λ p. ref_tree p ≡ tree_of style (lexemes text.now)) }
 {
-    let document = document(arena, text, style)?;
+    match document(arena, text, style) {
+        Ok(document) => Ok(document),
+        Err(BuildError::Memory(error)) => Err(error),
+        Err(BuildError::Display) => unreachable!(),
+    }
+}
+
+/// The layout of a text in this style, and a line feed, or memory was refused: no document of lexemes fails.
+fn laid<'a>(arena: &'a Arena<'a>, text: &'a str, style: Style) -> Result<String, AllocError>
+    ensures { IfOk result (λ layout. string_bytes layout ≡ layout_of style text.now) }
+{
+    let document = built(arena, text, style)?;
     let mut layout = String::new(arena.memory());
-    document
-        .doc()
-        .render_fmt(arena.memory(), style.width, &mut layout)?;
-    layout.push('\n')?;
+    let doc = document.doc();
+    match doc.render_fmt(arena.memory(), style.width, &mut layout) {
+        Ok(()) => layout.push('\n')?,
+        Err(RenderError::Memory(error)) => return Err(error),
+        // A `String` fails for want of memory alone.
+        Err(RenderError::Sink(_)) => return Err(AllocError),
+        Err(RenderError::Document(_)) => unreachable!(),
+    }
     Ok(layout)
 }
 

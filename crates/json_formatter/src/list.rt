@@ -1,4 +1,5 @@
-ghost use Rattle.std.specs.Prelude.{◌≡◌, ◌<◌, pos, IfOk, map, vec_len};
+ghost use Rattle.std.specs.Prelude.{◌≡◌, ◌<◌, pos, IfOk, IfErr, map, vec_len};
+ghost use Rattle.prettyless.specs.BuildErrors.{IsMemory};
 ghost use Rattle.prettyless.specs.Built.{append, nest, softline};
 ghost use Rattle.prettyless.specs.Counted.{text};
 ghost use Rattle.prettyless.specs.DocTree.{built};
@@ -18,8 +19,9 @@ fn on_lines<'a, D: DocPlace<'a>>(
     after: &'a str,
     indent: u32,
 ) -> Result<D::Doc, BuildError>
-    ensures { IfOk result (λ p. D.Doc.tree p
+    ensures ok { IfOk result (λ p. D.Doc.tree p
         ≡ bracketed (text before.now) (map D.Doc.tree docs.items) (text after.now) (pos indent)) }
+    ensures err { IfErr result IsMemory }
 {
     let list = place.bracketed(before, docs, after, indent as isize)?;
     Ok(list.into_doc()?)
@@ -31,8 +33,9 @@ fn in_lines<'a, D: DocPlace<'a>>(
     docs: Vec<D::Doc>,
     indent: u32,
 ) -> Result<DocBuilder<'a, D>, BuildError>
-    ensures { IfOk result (λ b. built D.Doc.tree b.1
+    ensures ok { IfOk result (λ b. built D.Doc.tree b.1
         ≡ append (nest (pos indent) (append line_ (intersperse softline (map D.Doc.tree docs.items)))) line_) }
+    ensures err { IfErr result IsMemory }
 {
     let gap = place.softline()?;
     let docs = place.separate(docs, gap)?;
@@ -49,8 +52,9 @@ fn filled<'a, D: DocPlace<'a>>(
     indent: u32,
 ) -> Result<D::Doc, BuildError>
     requires { 0 < vec_len docs }
-    ensures { IfOk result (λ p. D.Doc.tree p
+    ensures ok { IfOk result (λ p. D.Doc.tree p
         ≡ filled (text before.now) (map D.Doc.tree docs.items) (text after.now) (pos indent)) }
+    ensures err { IfErr result IsMemory }
 {
     let before = Pretty::pretty(before, place)?;
     let after = Pretty::pretty(after, place)?;
@@ -68,8 +72,9 @@ pub(crate) fn list<'a, D: DocPlace<'a>>(
     indent: u32,
     fills: bool,
 ) -> Result<D::Doc, BuildError>
-    ensures { IfOk result (λ p. D.Doc.tree p
+    ensures ok { IfOk result (λ p. D.Doc.tree p
         ≡ listed fills (text before.now) (map D.Doc.tree docs.items) (text after.now) (pos indent)) }
+    ensures err { IfErr result IsMemory }
 {
     if fills && !docs.is_empty() {
         filled(place, before, docs, after, indent)

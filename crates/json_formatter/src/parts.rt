@@ -1,4 +1,5 @@
-ghost use Rattle.std.specs.Prelude.{◌≡◌, [], ◌∷◌, IfOk};
+ghost use Rattle.std.specs.Prelude.{◌≡◌, [], ◌∷◌, IfOk, IfErr};
+ghost use Rattle.prettyless.specs.BuildErrors.{IsMemory};
 ghost use Rattle.prettyless.specs.Built.{append};
 ghost use Rattle.prettyless.specs.Counted.{text};
 ghost use Rattle.prettyless.specs.Lines.{space};
@@ -12,14 +13,16 @@ pub(crate) fn text<'a, D: DocPlace<'a>>(
     place: &'a D,
     spelling: &'a str,
 ) -> Result<D::Doc, BuildError>
-    ensures { IfOk result (λ p. D.Doc.tree p ≡ text spelling.now) }
+    ensures ok { IfOk result (λ p. D.Doc.tree p ≡ text spelling.now) }
+    ensures err { IfErr result IsMemory }
 {
     Pretty::pretty(spelling, place)?.into_doc()
 }
 
 /// Nothing.
 pub(crate) fn nothing<'a, D: DocPlace<'a>>(place: &'a D) -> Result<D::Doc, BuildError>
-    ensures { IfOk result (λ p. D.Doc.tree p ≡ Nil) }
+    ensures ok { IfOk result (λ p. D.Doc.tree p ≡ Nil) }
+    ensures err { IfErr result IsMemory }
 {
     place.alloc(Doc::Nil)
 }
@@ -30,7 +33,8 @@ pub(crate) fn joined<'a, D: DocPlace<'a>>(
     front: D::Doc,
     next: D::Doc,
 ) -> Result<D::Doc, BuildError>
-    ensures { IfOk result (λ p. D.Doc.tree p ≡ append (D.Doc.tree front) (D.Doc.tree next)) }
+    ensures ok { IfOk result (λ p. D.Doc.tree p ≡ append (D.Doc.tree front) (D.Doc.tree next)) }
+    ensures err { IfErr result IsMemory }
 {
     let next = DocBuilder(place, BuildDoc::DocPtr(next));
     DocBuilder(place, BuildDoc::DocPtr(front))
@@ -43,7 +47,8 @@ pub(crate) fn with_comma<'a, D: DocPlace<'a>>(
     place: &'a D,
     front: D::Doc,
 ) -> Result<D::Doc, BuildError>
-    ensures { IfOk result (λ p. D.Doc.tree p ≡ append (D.Doc.tree front) (text (44 ∷ []))) }
+    ensures ok { IfOk result (λ p. D.Doc.tree p ≡ append (D.Doc.tree front) (text (44 ∷ []))) }
+    ensures err { IfErr result IsMemory }
 {
     let comma: &'a str = ",";
     let comma = Pretty::pretty(comma, place)?;
@@ -57,7 +62,8 @@ pub(crate) fn with_colon<'a, D: DocPlace<'a>>(
     place: &'a D,
     front: D::Doc,
 ) -> Result<D::Doc, BuildError>
-    ensures { IfOk result (λ p. D.Doc.tree p ≡ append (append (D.Doc.tree front) (text (58 ∷ []))) space) }
+    ensures ok { IfOk result (λ p. D.Doc.tree p ≡ append (append (D.Doc.tree front) (text (58 ∷ []))) space) }
+    ensures err { IfErr result IsMemory }
 {
     let colon: &'a str = ":";
     let colon = Pretty::pretty(colon, place)?;

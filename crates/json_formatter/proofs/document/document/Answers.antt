@@ -8,9 +8,9 @@ pub loop-first-preserved : goal.loop-first-preserved
 loop-first-preserved c =
     let l = c.loop-first in
     one_value_more c.args.style (lexemes c.args.text.now) l.lexemes c.next.new.self c.value.new.lexemes (text_of c.in-Some.first) (ref_tree l.all) (ref_tree c.in_ok-next.next) (ref_tree c.in_ok-all-2.all) l.invariant c.in-Some.ensures.next
-    c.in_ok-next.ensures.made c.in_ok-all-2.ensures
+    c.in_ok-next.ensures.made c.in_ok-all-2.ensures.ok
 
-pub returns : goal.returns
-returns c =
+pub returns-clause-ok : goal.returns-clause-ok
+returns-clause-ok c =
     let l = c.loop-first in
     no_value_more c.args.style (lexemes c.args.text.now) l.lexemes (ref_tree l.all) l.invariant c.in_default.ensures.next.0

@@ -12,9 +12,9 @@ filled_some : {A : Type 0} (f : A → Tree) (before after : Tree) (k : ℤ) (ds 
 filled_some f before after k [] h = absurd (omega arith)
 filled_some f before after k (d ∷ ds) h = refl
 
-pub returns : goal.returns
-returns g c =
-    let joined = rw (c.in_ok-before.ensures.ok, c.in_ok-inside.ensures) at c.in_ok-join.ensures.ok in
+pub returns-clause-ok : goal.returns-clause-ok
+returns-clause-ok g c =
+    let joined = rw (c.in_ok-before.ensures.ok, c.in_ok-inside.ensures.ok) at c.in_ok-join.ensures.ok in
     let closed = rw (joined, c.in_ok-after.ensures.ok) at c.in_ok-join-2.ensures.ok in
     rw (c.in_ok-into_doc.ensures.ok, c.in_ok-group.ensures.ok, closed)
     (filled_some g.D.Doc.DocPtr.tree _ _ (pos c.args.indent) c.args.docs.items (omega (arith, c.requires)))
