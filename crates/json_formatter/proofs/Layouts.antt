@@ -1,6 +1,7 @@
 -- What a layout shows is the text's lexemes with gaps around them, so it is the same value.
 use Rattle.std.proofs.Common.{◌≡◌, refl, sym, ◌∙◌, ap, subst, ℕ, Bool, true, false, ◌||◌, ◌==◌, List, [], ◌∷◌, ◌++◌, append_assoc, append-nil, inl, inr, ◌⊎◌, Option, Some, None}
-use Rattle.std.specs.Prelude.{IsSome}
+use Rattle.std.specs.Prelude.{IsSome, Result, Ok, Err, OnOk, OnErr, IfErr}
+use Rattle.std.specs.Io.KnownBytes.{Appends}
 use Rattle.std.proofs.lemmas.Bool.{cases_Bool}
 use Rattle.json.specs.Ascii.{line_feed}
 use Rattle.json.specs.Word.{is_space}
@@ -8,16 +9,19 @@ use Rattle.json.specs.Json.{Json, document}
 use Rattle.json_lexemes.specs.Lexemes.{lexemes}
 use Rattle.json_lexemes.specs.Spaced.{IsGap, IsSpaced}
 use Rattle.prettyless_model.specs.Spelling.{is_blank_byte, ink}
-use Rattle.prettyless.specs.Layout.{bytes_in, layout}
+use Rattle.prettyless.specs.Layout.{Whole, Cut, bytes_in, layout}
 use Rattle.prettyless.specs.Options.{options_at}
 use Rattle.prettyless.specs.Texts.{texts}
+use Rattle.prettyless.specs.Tree.{Tree}
 use Rattle.prettyless_model.specs.Texts as model
 use Rattle.prettyless_model.proofs.ShownTexts.{texts_of_layout}
 use Rattle.prettyless_laws.proofs.TotalTrees.{total_layout}
 use Rattle.json_lexemes.proofs.Reading.{same_reading}
 use Rattle.json_formatter.specs.declared.style.Style.{Style}
 use Rattle.json_formatter.specs.Documents.{layout_of, tree_of}
-use Rattle.json_formatter.specs.Formats.{IsFormatted}
+use Rattle.json_formatter.specs.Formats.{AppendsBeginning, Formats, IsFormatted, IsWriting}
+use Rattle.json_formatter.specs.declared.error.FormatError.{FormatError}
+use Rattle.json_formatter.specs.declared.error.FormatError.TheVariants.{NotJson, Memory, Write}
 use Rattle.json_formatter.proofs.Telling.{tree_takes}
 use Rattle.json_formatter.proofs.Total.{tree_total}
 
@@ -80,6 +84,16 @@ layout_spaced style text =
     let all : texts takes.items ≡ lexemes text = sym (takes.taken ∙ append-nil (texts takes.items)) in
     rw (whole.1) (subst (IsSpaced (whole.0 ++ line_feed ∷ [])) all spaced)
 
+whole_or_cut : (whole cut : List ℕ) → Whole whole ≡ Cut cut → ⊥
+whole_or_cut whole cut e = absurd (cc)
+
+-- no document of lexemes fails
+pub never_fails : (style : Style) (ss : List (List ℕ)) (tree : Tree) (cut : List ℕ) → tree ≡ tree_of style ss → layout (options_at style.width) tree ≡ Cut cut → ⊥
+never_fails style ss tree cut e failed =
+    let options = options_at style.width in
+    let whole = total_layout options (tree_of style ss) (tree_total style ss) in
+    whole_or_cut whole.0 cut (sym whole.1 ∙ ap (layout options) (sym e) ∙ failed)
+
 -- texts of the same lexemes have the same layout
 same_layout : (style : Style) (a b : List ℕ) → lexemes a ≡ lexemes b → layout_of style a ≡ layout_of style b
 same_layout style a b e = ap (λ (ss : List (List ℕ)). bytes_in (layout (options_at style.width) (tree_of style ss)) ++ line_feed ∷ []) e
@@ -100,3 +114,13 @@ is_formatted style text bytes some laid = by (document text) refl
           again = same_layout style bytes text same.1 ∙ sym laid;
           ended = (bytes_in (layout (options_at style.width) (tree_of style (lexemes text))), laid);
         }
+
+-- ---- a layout that is written
+
+-- a writer that took it, or a beginning of it, was handed the text laid out
+pub written : {A : Type 0} (style : Style) (text bytes : List ℕ) (old new : Option (List ℕ)) (result : Result A FormatError) → IsFormatted style text bytes
+    → OnOk result (Appends old new bytes) → OnErr result (AppendsBeginning old new bytes) → IfErr result IsWriting → Formats style text old new result
+written style text bytes old new (Ok done) is all beginning err = (bytes, is, all)
+written style text bytes old new (Err NotJson) is all beginning err = absurd err
+written style text bytes old new (Err (Memory e)) is all beginning err = absurd err
+written style text bytes old new (Err (Write e)) is all beginning err = (bytes, is, beginning)

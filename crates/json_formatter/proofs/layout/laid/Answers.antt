@@ -1,8 +1,18 @@
+use Rattle.std.proofs.Common.{refl}
+use Rattle.json_lexemes.specs.Lexemes.{lexemes}
+use Rattle.prettyless.specs.Trees.{ref_tree}
+use Rattle.json_formatter.proofs.Layouts.{never_fails}
 use Rattle.json_formatter.proofs.layout.laid.Goals as goal
 
 -- what was appended to nothing is the whole layout, and the line feed follows
-pub returns-clause-ok : goal.returns-clause-ok
+pub returns : goal.returns
 unfolding lib.Utf8.encode
-returns-clause-ok c =
-    let whole = rw (c.doc.ensures, c.new-layout.ensures.bytes) at c.in_ok-render_fmt.ensures.bytes in
-    rw (c.in_ok-push.ensures.bytes, whole.2, ← c.in_ok-document.ensures, whole.1) refl
+returns c =
+    let whole = rw (c.doc-doc.ensures, c.new-layout.ensures.bytes) at c.in-Ok.ensures.bytes in
+    rw (c.in_ok-push-in-Ok.ensures.bytes, whole.2, ← c.in_ok-document.ensures, whole.1) refl
+
+pub unreachable-requires : goal.unreachable-requires
+unreachable-requires c =
+    let failed = c.in-Err-Document in
+    let cut = rw (failed.field-0-is, c.doc-doc.ensures) at failed.ensures.bytes in
+    never_fails c.args.style (lexemes c.args.text.now) (ref_tree c.in_ok-document.document) cut.0 c.in_ok-document.ensures cut.1
