@@ -1,11 +1,10 @@
-use Rattle.std.proofs.Common.{◌∙◌, sym, refl, ap, map, ◌&&◌, ◌≡◌, List, ℕ, ◌∷◌, length, true, arith}
+use Rattle.std.proofs.Common.{◌∙◌, sym, refl, ap, map, ◌&&◌, ◌≡◌, List, ℕ, length, true, arith}
 use Rattle.std.proofs.lemmas.List.{map_push}
 use Rattle.json_lexemes.specs.View.{text_of}
 use Rattle.prettyless.specs.Counted.{text}
 use Rattle.prettyless.specs.Trees.{ref_tree}
 use Rattle.prettyless.specs.Tree.{Tree}
-use Rattle.std.specs.Prelude.{pos}
-use Rattle.json_formatter.specs.Documents.{Read, read, listed, members, value}
+use Rattle.json_formatter.specs.Documents.{Read, read, members, value}
 use Rattle.json_formatter.proofs.ReadOn.{colon_next, no_value, value_alone, value_plain, list_reads, one_more, no_more}
 use Rattle.json_formatter.proofs.Shrinking.{value_shrinks}
 use Rattle.json_formatter.proofs.document.+value.Goals as goal
