@@ -3,7 +3,9 @@
 #![tactic(auto)]
 
 use json_formatter::{FormatError, formatted};
+use json_lexemes::Lexeme;
 use jsonfmt_request::ending::Ending;
+use jsonfmt_request::expected::Expected;
 use jsonfmt_request::fault::fault_of;
 use jsonfmt_request::request::{Request, Task, USAGE, requested};
 use std::fs::Files;
@@ -13,10 +15,24 @@ use std::rt::Env;
 use std::str::from_utf8;
 use std::{env, fs, io};
 
-// Says where the bytes stop being JSON.
+// The longest word that a message shows, in bytes.
+const SHOWN: usize = 32;
+
+// Says where the bytes stop being JSON, and what was expected there.
 fn refuse<R: AllocGlobal + Eprint>(rt: &R, name: &str, bytes: &[u8]) -> io::Result<Ending> {
-    let place = fault_of(rt.alloc(), bytes)?;
-    eprintln!(rt; "{name}:{}:{}: expected JSON", place.line, place.column)?;
+    let fault = fault_of(rt.alloc(), bytes)?;
+    let (line, column, expected) = (fault.place.line, fault.place.column, fault.expected.name());
+    eprint!(rt; "{name}:{line}:{column}: expected {expected}")?;
+    match fault.found {
+        Some(Lexeme::String(_)) => eprintln!(rt; ", found a string")?,
+        Some(lexeme) if lexeme.text().len() <= SHOWN => eprintln!(rt;
+            ", found `{}`",
+            lexeme.text()
+        )?,
+        Some(_) => eprintln!(rt; ", found a long word")?,
+        None if fault.expected == Expected::Utf8 => eprintln!(rt)?,
+        None => eprintln!(rt; ", found the end of the text")?,
+    }
     Ok(Ending::Refused)
 }
 
