@@ -1,12 +1,17 @@
-//! The first document of the guide and of the README, in boxes.
+//! The first document of the guide, in boxes.
 use prettyless::prelude::*;
+use prettyless::text::BuildError;
 use prettyless::{BoxAllocator, DocPtr, docs};
 use std::alloc::Global;
 use std::test::Fail;
 
+fn pair<'a, D: DocPlace<'a>>(place: &'a D) -> Result<D::Doc, BuildError> {
+    docs![place, "a", line_or_space(), "b"]?.group()?.into_doc()
+}
+
 fn first_document(alloc: Global, width: usize) -> Result<String, Fail> {
     let boxes = BoxAllocator::new(alloc);
-    let pair = docs![&boxes, "a", boxes.line()?, "b"]?.group()?.into_doc()?;
+    let pair = pair(&boxes)?;
     let mut out = String::new(alloc);
     pair.doc().render_fmt(alloc, width, &mut out)?;
     Ok(out)
