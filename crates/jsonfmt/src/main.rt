@@ -7,7 +7,7 @@ use json_lexemes::Lexeme;
 use jsonfmt_request::ending::Ending;
 use jsonfmt_request::expected::Expected;
 use jsonfmt_request::fault::fault_of;
-use jsonfmt_request::request::{Request, Task, USAGE, requested};
+use jsonfmt_request::request::{Request, requested};
 use std::fs::Files;
 use std::io::{Read, Write};
 use std::process::ExitCode;
@@ -46,8 +46,8 @@ fn lay_out<R: AllocGlobal + Eprint + Print>(
     let Ok(text) = from_utf8(bytes) else {
         return refuse(rt, name, bytes);
     };
-    match formatted(rt.alloc(), text, request.options.style) {
-        Ok(layout) if request.options.task == Task::Check => Ok(if layout.as_str() == text {
+    match formatted(rt.alloc(), text, request.style) {
+        Ok(layout) if request.check => Ok(if layout.as_str() == text {
             Ending::Good
         } else {
             Ending::Refused
@@ -99,29 +99,26 @@ fn lay_out_all<R: AllocGlobal + Files + Input + Eprint + Print>(
         return ending_of(rt, "<stdin>", lay_out_input(rt, request));
     }
     let mut all = Ending::Good;
-    for file in request.files {
-        let result = lay_out_file(rt, request, file.as_str());
-        all = all.and(ending_of(rt, file.as_str(), result));
+    for file in &request.files {
+        let result = lay_out_file(rt, request, file);
+        all = all.and(ending_of(rt, file, result));
     }
     all
 }
 
 fn words<R: AllocGlobal + Env>(rt: &R) -> io::Result<Vec<String>> {
-    Ok(env::args(rt)?.skip(1).collect(rt.alloc())?)
+    Ok(env::args(rt)?.collect(rt.alloc())?)
 }
 
 fn run<R: AllocGlobal + Env + Files + Input + Eprint + Print>(rt: &R) -> io::Result<Ending> {
     let words = words(rt)?;
-    let Some(request) = requested(&words) else {
-        eprintln!(rt; "{USAGE}")?;
-        return Ok(Ending::BadWords);
-    };
-    match request.options.task {
-        Task::Help => println!(rt; "{USAGE}")?,
-        Task::Version => println!(rt; "jsonfmt 0.4.0")?,
-        Task::LayOut | Task::Check => return Ok(lay_out_all(rt, &request)),
+    match requested(rt.alloc(), &words) {
+        Ok(request) => Ok(lay_out_all(rt, &request)),
+        Err(error) => {
+            error.print(rt)?;
+            Ok(Ending::after(error.kind()))
+        }
     }
-    Ok(Ending::Good)
 }
 
 fn main(rt: HostRuntime) -> ExitCode {

@@ -1,5 +1,5 @@
 pub mod Endings
 pub mod Expected
 pub mod Grammar
-pub mod Options
 pub mod Places
+pub mod Words

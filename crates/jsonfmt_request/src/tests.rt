@@ -1,6 +1,8 @@
-//! Texts that are no JSON, and what was expected where.
+//! Texts that are no JSON, and what was expected where; words, and what they ask for.
 use crate::expected::Expected;
 use crate::fault::fault_of;
+use crate::request::requested;
+use clap::error::ErrorKind;
 use std::test::Fail;
 
 #[test]
@@ -33,4 +35,34 @@ fn faults_are_named(rt: HostRuntime) -> Result<(), Fail> {
     let fault = fault_of(rt.alloc(), b"[\"\xFF\"]")?;
     assert!(rt; fault.expected == Expected::Utf8 && fault.place.column == 3);
     Ok(())
+}
+
+#[test]
+fn words_are_read(rt: HostRuntime) -> Result<(), Fail> {
+    let words = ["jsonfmt", "a", "--width=40", "b", "--check", "--", "--fill"];
+    let asked = requested(rt.alloc(), words.as_slice())?;
+    assert_eq!(rt; (asked.style.width, asked.style.indent), (40, 2));
+    assert!(rt; asked.check && !asked.style.fill);
+    assert!(rt; asked.files.as_slice() == ["a", "b", "--fill"].as_slice());
+    Ok(())
+}
+
+#[test]
+fn bad_words_are_refused(rt: HostRuntime) {
+    let rows = [
+        ("--widht", ErrorKind::UnknownArgument),
+        ("--width=-1", ErrorKind::ValueValidation),
+        ("--indent=4294967296", ErrorKind::ValueValidation),
+        ("--check=no", ErrorKind::TooManyValues),
+        ("--indent", ErrorKind::InvalidValue),
+        ("--help", ErrorKind::DisplayHelp),
+        ("--version", ErrorKind::DisplayVersion),
+    ];
+    for (word, kind) in rows {
+        let words = ["jsonfmt", word];
+        match requested(rt.alloc(), words.as_slice()) {
+            Ok(_) => assert!(rt; false, "{word}"),
+            Err(error) => assert!(rt; error.kind() == kind, "{word}"),
+        }
+    }
 }
