@@ -1,5 +1,6 @@
 //! Lays JSON texts out: `jsonfmt [--width N] [--indent N] [--fill] [FILE]..` writes the layout of each file, or of standard
-//! input, to standard output. With `--check` it writes nothing and says by its status whether each is laid out already.
+//! input, to standard output. With `--check` it writes nothing and says by its status whether each is laid out already. A text
+//! that is no JSON is named with the place where it stops being JSON, what was expected there, and what stands there.
 #![tactic(auto)]
 
 use json_formatter::{FormatError, formatted};
@@ -18,6 +19,11 @@ use std::{env, fs, io};
 // The longest word that a message shows, in bytes.
 const SHOWN: usize = 32;
 
+// Whether a terminal shows the word as it is spelled.
+fn is_plain(word: &str) -> bool {
+    word.bytes().all(|byte| byte.is_ascii_graphic())
+}
+
 // Says where the bytes stop being JSON, and what was expected there.
 fn refuse<R: AllocGlobal + Eprint>(rt: &R, name: &str, bytes: &[u8]) -> io::Result<Ending> {
     let fault = fault_of(rt.alloc(), bytes)?;
@@ -25,11 +31,9 @@ fn refuse<R: AllocGlobal + Eprint>(rt: &R, name: &str, bytes: &[u8]) -> io::Resu
     eprint!(rt; "{name}:{line}:{column}: expected {expected}")?;
     match fault.found {
         Some(Lexeme::String(_)) => eprintln!(rt; ", found a string")?,
-        Some(lexeme) if lexeme.text().len() <= SHOWN => eprintln!(rt;
-            ", found `{}`",
-            lexeme.text()
-        )?,
-        Some(_) => eprintln!(rt; ", found a long word")?,
+        Some(lexeme) if lexeme.text().len() > SHOWN => eprintln!(rt; ", found a long word")?,
+        Some(lexeme) if is_plain(lexeme.text()) => eprintln!(rt; ", found `{}`", lexeme.text())?,
+        Some(lexeme) => eprintln!(rt; ", found {:?}", lexeme.text())?,
         None if fault.expected == Expected::Utf8 => eprintln!(rt)?,
         None => eprintln!(rt; ", found the end of the text")?,
     }
