@@ -35,7 +35,7 @@ program = record {
   subs = [];
 }
 
--- the options of a program: widths, then flags
+-- the options of a program: numbers, then flags
 abbrev pub with_options : App → App
 with_options a = with_rule (with_rule (with_rule (with_rule a (number (codes "width") most_64)) (number (codes "indent") most_32)) (flag (codes "fill"))) (flag (codes "check"))
 
@@ -60,10 +60,10 @@ abbrev pub IsNumberUpTo : ℕ → Option Text → Type 0
 IsNumberUpTo most None = ⊤
 IsNumberUpTo most (Some text) = IsNumeral 10 (without_leading_plus text) × (digits_value 10 (without_leading_plus text) ≤ most)
 
--- the number is the one that an option's text writes, or `default` where the option isn't given
+-- an option's text writes the number in decimal digits; where the option is not given, the number is `default`
 abbrev pub HasNumber : ℕ → Option Text → ℕ → Type 0
 HasNumber default None n = n ≡ default
-HasNumber default (Some text) n = n ≡ digits_value 10 (without_leading_plus text)
+HasNumber default (Some text) n = IsNumeral 10 (without_leading_plus text) × (n ≡ digits_value 10 (without_leading_plus text))
 
 -- the texts of the options that take a number are numbers
 abbrev pub HasNumbers : List Row → Type 0

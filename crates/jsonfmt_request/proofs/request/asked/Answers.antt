@@ -14,7 +14,7 @@ module _ (E : Type 0) (gives : Text → Result ℕ E → Type 0) (bits most defa
   read (Some text) None fits number none some =
       let failed = some text refl in
       absurd (parses text (Err failed.0) failed.1 (number.0, omega (arith, number.1)))
-  read (Some text) (Some n) fits number none some = (parses text (Ok n) (some text refl)).1
+  read (Some text) (Some n) fits number none some = (number.0, (parses text (Ok n) (some text refl)).1)
 
 -- the files, of which there may be no list
 abbrev texts : Bor (List (Bor Text)) → List Text
