@@ -118,10 +118,10 @@ fn run<R: AllocGlobal + Env + Files + Input + Eprint + Print>(rt: &R) -> io::Res
     let words = words(rt)?;
     match requested(rt.alloc(), &words) {
         Ok(request) => Ok(lay_out_all(rt, &request)),
-        Err(error) => {
-            error.print(rt)?;
-            Ok(Ending::after(error.kind()))
-        }
+        Err(error) => match error.print(rt) {
+            Ok(()) => Ok(Ending::after(error.kind())),
+            Err(failure) => Ok(ending_of(rt, "<stdout>", Err(failure))),
+        },
     }
 }
 
