@@ -1,11 +1,14 @@
 //! Lays JSON texts out: `jsonfmt [--width N] [--indent N] [--fill] [FILE]..` writes the layout of each file, or of standard
-//! input, to standard output. With `--check` it writes nothing and says by its status whether each is laid out already.
+//! input, to standard output. With `--check` it writes nothing and says by its status whether each is laid out already. A text
+//! that is no JSON is named with the place where it stops being JSON, what was expected there, and what stands there.
 #![tactic(auto)]
 
 use json_formatter::{FormatError, formatted};
+use json_lexemes::Lexeme;
 use jsonfmt_request::ending::Ending;
+use jsonfmt_request::expected::Expected;
 use jsonfmt_request::fault::fault_of;
-use jsonfmt_request::request::{Request, Task, USAGE, requested};
+use jsonfmt_request::request::{Request, requested};
 use std::fs::Files;
 use std::io::{Read, Write};
 use std::process::ExitCode;
@@ -13,10 +16,27 @@ use std::rt::Env;
 use std::str::from_utf8;
 use std::{env, fs, io};
 
-// Says where the bytes stop being JSON.
+// The longest word that a message shows, in bytes.
+const SHOWN: usize = 32;
+
+// Whether a terminal shows the word as it is spelled.
+fn is_plain(word: &str) -> bool {
+    word.bytes().all(|byte| byte.is_ascii_graphic())
+}
+
+// Says where the bytes stop being JSON, and what was expected there.
 fn refuse<R: AllocGlobal + Eprint>(rt: &R, name: &str, bytes: &[u8]) -> io::Result<Ending> {
-    let place = fault_of(rt.alloc(), bytes)?;
-    eprintln!(rt; "{name}:{}:{}: expected JSON", place.line, place.column)?;
+    let fault = fault_of(rt.alloc(), bytes)?;
+    let (line, column, expected) = (fault.place.line, fault.place.column, fault.expected.name());
+    eprint!(rt; "{name}:{line}:{column}: expected {expected}")?;
+    match fault.found {
+        Some(Lexeme::String(_)) => eprintln!(rt; ", found a string")?,
+        Some(lexeme) if lexeme.text().len() > SHOWN => eprintln!(rt; ", found a long word")?,
+        Some(lexeme) if is_plain(lexeme.text()) => eprintln!(rt; ", found `{}`", lexeme.text())?,
+        Some(lexeme) => eprintln!(rt; ", found {:?}", lexeme.text())?,
+        None if fault.expected == Expected::Utf8 => eprintln!(rt)?,
+        None => eprintln!(rt; ", found the end of the text")?,
+    }
     Ok(Ending::Refused)
 }
 
@@ -30,8 +50,8 @@ fn lay_out<R: AllocGlobal + Eprint + Print>(
     let Ok(text) = from_utf8(bytes) else {
         return refuse(rt, name, bytes);
     };
-    match formatted(rt.alloc(), text, request.options.style) {
-        Ok(layout) if request.options.task == Task::Check => Ok(if layout.as_str() == text {
+    match formatted(rt.alloc(), text, request.style) {
+        Ok(layout) if request.check => Ok(if layout.as_str() == text {
             Ending::Good
         } else {
             Ending::Refused
@@ -83,29 +103,26 @@ fn lay_out_all<R: AllocGlobal + Files + Input + Eprint + Print>(
         return ending_of(rt, "<stdin>", lay_out_input(rt, request));
     }
     let mut all = Ending::Good;
-    for file in request.files {
-        let result = lay_out_file(rt, request, file.as_str());
-        all = all.and(ending_of(rt, file.as_str(), result));
+    for file in &request.files {
+        let result = lay_out_file(rt, request, file);
+        all = all.and(ending_of(rt, file, result));
     }
     all
 }
 
 fn words<R: AllocGlobal + Env>(rt: &R) -> io::Result<Vec<String>> {
-    Ok(env::args(rt)?.skip(1).collect(rt.alloc())?)
+    Ok(env::args(rt)?.collect(rt.alloc())?)
 }
 
 fn run<R: AllocGlobal + Env + Files + Input + Eprint + Print>(rt: &R) -> io::Result<Ending> {
     let words = words(rt)?;
-    let Some(request) = requested(&words) else {
-        eprintln!(rt; "{USAGE}")?;
-        return Ok(Ending::BadWords);
-    };
-    match request.options.task {
-        Task::Help => println!(rt; "{USAGE}")?,
-        Task::Version => println!(rt; "jsonfmt 0.4.0")?,
-        Task::LayOut | Task::Check => return Ok(lay_out_all(rt, &request)),
+    match requested(rt.alloc(), &words) {
+        Ok(request) => Ok(lay_out_all(rt, &request)),
+        Err(error) => match error.print(rt) {
+            Ok(()) => Ok(Ending::after(error.kind())),
+            Err(failure) => Ok(ending_of(rt, "<stdout>", Err(failure))),
+        },
     }
-    Ok(Ending::Good)
 }
 
 fn main(rt: HostRuntime) -> ExitCode {

@@ -1,3 +1,5 @@
 pub mod Endings
-pub mod Options
+pub mod Expected
+pub mod Grammar
 pub mod Places
+pub mod Words

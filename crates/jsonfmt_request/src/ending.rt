@@ -1,6 +1,8 @@
 //! How `jsonfmt` ends.
 ghost use Rattle.std.specs.Prelude.{◌≡◌, max};
-ghost use Rattle.jsonfmt_request.specs.Endings.{status_of};
+ghost use Rattle.jsonfmt_request.specs.Endings.{ending_after, status_of};
+
+use clap::error::ErrorKind;
 
 /// How a file, or all of them, came out.
 #[derive(Clone, Copy, Debug, Drop, PartialEq, Eq)]
@@ -25,6 +27,17 @@ impl Ending {
             Ending::Refused => 1,
             Ending::BadWords => 2,
             Ending::Failed => 3,
+        }
+    }
+
+    /// How the program ends where the words gave an error of this kind.
+    pub fn after(kind: ErrorKind) -> Ending
+        ensures { result ≡ ending_after kind }
+    {
+        match kind {
+            ErrorKind::DisplayHelp | ErrorKind::DisplayVersion => Ending::Good,
+            ErrorKind::OutOfMemory => Ending::Failed,
+            _ => Ending::BadWords,
         }
     }
 

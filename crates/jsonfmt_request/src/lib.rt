@@ -2,6 +2,10 @@
 #![tactic(auto)]
 
 pub mod ending;
+pub mod expected;
 pub mod fault;
+mod grammar;
 pub mod place;
 pub mod request;
+#[cfg(test)]
+mod tests;

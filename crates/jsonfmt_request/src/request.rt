@@ -1,127 +1,130 @@
 //! What the words of `jsonfmt` ask for.
-ghost use Rattle.std.specs.Prelude.{◌≡◌, ◌≤◌, length, IfSome};
-ghost use Rattle.jsonfmt_request.specs.Options.{with_flag, HasValue};
+ghost use Rattle.std.specs.Prelude.{◌≡◌, IfOk, false, map};
+ghost use Rattle.clap.specs.Words.{FailsBy, app_of, found_of, rows_of, rule_of};
+ghost use Rattle.jsonfmt_request.specs.Words.{AsksFor, HasNumbers, faults, files, flag, has_flag, jsonfmt, matches, number, program};
 
-use decimals::number;
+use clap::builder::ValueParser;
+use clap::{Arg, ArgAction, ArgMatches, Command, Error};
 use json_formatter::Style;
-
-/// How `jsonfmt` is used.
-pub const USAGE: &str =
-    "usage: jsonfmt [--width N] [--indent N] [--fill] [--check] [--help] [--version] [FILE]..";
-
-/// What is to be done.
-#[derive(Clone, Copy, Debug, Drop, PartialEq, Eq)]
-pub enum Task {
-    /// Each file is laid out.
-    LayOut,
-    /// Each file is compared with its layout.
-    Check,
-    /// The usage is written.
-    Help,
-    /// The version is written.
-    Version,
-}
-
-/// What the options say.
-#[derive(Clone, Copy, Debug, Drop, PartialEq, Eq)]
-pub struct Options {
-    /// What is to be done. The last word that says so decides.
-    pub task: Task,
-    /// How files are laid out.
-    pub style: Style,
-}
+use std::alloc::{AllocError, Global};
+use std::convert::AsStr;
 
 /// What the words ask for.
-#[derive(Clone, Copy, Drop)]
+#[derive(Drop)]
 pub struct Request<'w> {
-    pub options: Options,
+    /// How files are laid out.
+    pub style: Style,
+    /// Whether each file is compared with its layout, in place of writing the layout.
+    pub check: bool,
     /// The names of files. Where there is none, standard input is meant.
-    pub files: &'w [String],
+    pub files: Vec<&'w str>,
 }
 
-/// The options with one more that takes no value. `None` where the word is none.
-pub fn with_flag(options: Options, word: &str) -> Option<Options>
-    ensures { result ≡ with_flag options word.now }
+/// An option that takes a number, no greater than `most`.
+fn number<'w>(alloc: Global, name: &'w str, most: u64, help: &'w str) -> Arg<'w>
+    ensures rule { rule_of result ≡ number name.entry.now most }
+    ensures local { result.global ≡ false }
 {
-    let Options { task, style } = options;
-    let Style { width, indent, .. } = style;
-    match word {
-        "--check" => Some(Options {
-            task: Task::Check,
-            style,
-        }),
-        "--help" => Some(Options {
-            task: Task::Help,
-            style,
-        }),
-        "--version" => Some(Options {
-            task: Task::Version,
-            style,
-        }),
-        "--fill" => Some(Options {
-            task,
-            style: Style {
-                width,
-                indent,
-                fill: true,
-            },
-        }),
-        _ => None,
+    Arg::new(alloc, name)
+        .long(name)
+        .value_name("N")
+        .value_parser(ValueParser::unsigned(0, most))
+        .help(help)
+}
+
+/// An option that takes no value.
+fn flag<'w>(alloc: Global, name: &'w str, help: &'w str) -> Arg<'w>
+    ensures rule { rule_of result ≡ flag name.entry.now }
+    ensures local { result.global ≡ false }
+{
+    Arg::new(alloc, name)
+        .long(name)
+        .action(ArgAction::SetTrue)
+        .help(help)
+}
+
+/// The files, as many as there are.
+fn files<'w>(alloc: Global) -> Arg<'w>
+    ensures rule { rule_of result ≡ files }
+    ensures local { result.global ≡ false }
+{
+    Arg::new(alloc, "FILE")
+        .action(ArgAction::Append)
+        .help("Files to lay out [default: standard input]")
+}
+
+/// The program, with no option yet.
+fn program<'w>(alloc: Global) -> Command<'w>
+    ensures { app_of result ≡ program }
+{
+    Command::new(alloc, "jsonfmt").version("0.4.0").about(
+        "Lays JSON texts out, and changes nothing but their white space",
+    )
+}
+
+/// The command `jsonfmt`.
+fn command<'w>(alloc: Global) -> Result<Command<'w>, AllocError>
+    ensures { IfOk result (λ made. app_of made ≡ jsonfmt) }
+{
+    let width = number(
+        alloc,
+        "width",
+        u64::MAX,
+        "The width of a line, in columns [default: 80]",
+    );
+    let indent = number(
+        alloc,
+        "indent",
+        u64::from(u32::MAX),
+        "How far in the members of an array or an object are [default: 2]",
+    );
+    let fill = flag(alloc, "fill", "Fill the lines of arrays of numbers");
+    let check = flag(
+        alloc,
+        "check",
+        "Write nothing, and end with 1 where a file is not laid out so",
+    );
+    program(alloc)
+        .arg(width)?
+        .arg(indent)?
+        .arg(fill)?
+        .arg(check)?
+        .arg(files(alloc))
+}
+
+/// Whether the flag is given: its value is `true` where it is.
+fn has_flag(matches: &ArgMatches<'_>, name: &str) -> bool
+    ensures { result ≡ has_flag name.now (rows_of (found_of matches.now)) }
+{
+    match matches.get_str(name) {
+        Some(value) => value == "true",
+        None => false,
     }
 }
 
-/// The options with a width or an indent, which is a number in decimal digits, below 2^64 and 2^32. `None` where the word
-/// is neither, or the value is no such number.
-pub fn with_value(options: Options, word: &str, value: &str) -> Option<Options>
-    ensures { IfSome result (HasValue options word.now value.now) }
+/// What is asked for by what was read in the words.
+fn asked<'w>(alloc: Global, matches: &ArgMatches<'w>) -> Result<Request<'w>, AllocError>
+    requires { HasNumbers (rows_of (found_of matches.now)) }
+    ensures { IfOk result (AsksFor (rows_of (found_of matches.now))) }
 {
-    let Options { task, style } = options;
-    let Style {
-        width,
-        indent,
-        fill,
-    } = style;
-    let value = number(value.as_bytes())?;
-    let style = match word {
-        "--width" => Style {
-            width: value,
-            indent,
-            fill,
+    Ok(Request {
+        style: Style {
+            width: matches.get_one("width").unwrap_or(80),
+            indent: matches.get_one("indent").unwrap_or(2),
+            fill: has_flag(matches, "fill"),
         },
-        "--indent" => Style {
-            width,
-            indent: u32::try_from(value).ok()?,
-            fill,
-        },
-        _ => return None,
-    };
-    Some(Options { task, style })
+        check: has_flag(matches, "check"),
+        files: Vec::from_slice(alloc, matches.get_strs("FILE").unwrap_or(&[]))?,
+    })
 }
 
-/// What the words ask for: options, and then names of files, from the first word that begins with no `-`. `None` where a
-/// word is no option, or its value is none.
-pub fn requested(words: &[String]) -> Option<Request<'_>>
-    ensures { IfSome result (λ found. length found.files.now ≤ length words.now) }
+/// What the words ask for, of which the first names the program: what `clap` reads in them by the options of `jsonfmt`.
+///
+/// Its error where they are not such words, and where they ask for help or the version: it has the text for the user.
+pub fn requested<'w, S: AsStr>(alloc: Global, words: &'w [S]) -> Result<Request<'w>, Error>
+    ensures ok { IfOk result (AsksFor (matches (map S.text words.entry.now))) }
+    ensures err { FailsBy (faults (map S.text words.entry.now)) result }
 {
-    let mut options = Options {
-        task: Task::LayOut,
-        style: Style::default(),
-    };
-    let mut files = words;
-    while let Some((word, rest)) = files.split_first() {
-        let word = word.as_str();
-        if !word.starts_with('-') {
-            break;
-        }
-        files = rest;
-        options = match with_flag(options, word) {
-            Some(options) => options,
-            None => {
-                let (value, after) = rest.split_first()?;
-                files = after;
-                with_value(options, word, value.as_str())?
-            }
-        };
-    }
-    Some(Request { options, files })
+    let matches = command(alloc)?.try_get_matches_from(words)?;
+    Ok(asked(alloc, &matches)?)
 }

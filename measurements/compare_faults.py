@@ -1,0 +1,78 @@
+#!/usr/bin/env python3
+"""Breaks JSON texts at random, and compares where `jsonfmt` and python find that they are none.
+
+usage: compare_faults.py JSONFMT [TEXTS] [SEED]     (3,000 texts and the seed 1 if none are named)
+
+Where a lexeme is none itself, as `01` or a string with a bad escape, `jsonfmt` names where it begins, and python a place within it
+or its end. Ends with status 1 where only one of the two takes a text, or where `jsonfmt` names a later place.
+"""
+import json
+import random
+import subprocess
+import sys
+
+LEAVES = ["1", '"s"', "true", "null", "-2.5e3"]
+PIECES = ["{", "}", "[", "]", ",", ":", '"a"', "1", "true", " ", "\n", "é", "01", '"x', "1e", "nul", "\\"]
+
+
+def text_of(depth):
+    """A JSON text that is at most so deep."""
+    kind = random.random()
+    if depth == 0 or kind < 0.3:
+        return random.choice(LEAVES)
+    members = [text_of(depth - 1) for _ in range(random.randrange(4))]
+    if kind < 0.65:
+        return "[" + ", ".join(members) + "]"
+    return "{" + ",\n".join(f'"k{at}": {it}' for at, it in enumerate(members)) + "}"
+
+
+def broken(text):
+    """The text with a piece more, a character less, or cut off, once or twice."""
+    for _ in range(random.choice([1, 1, 2])):
+        at, kind = random.randrange(len(text) + 1), random.random()
+        if kind < 0.4:
+            text = text[:at] + random.choice(PIECES) + text[at:]
+        else:
+            text = text[:at] + (text[at + 1 :] if kind < 0.8 else "")
+    return text
+
+
+def place_of_python(text):
+    """The line and the column that python names, and None where it takes the text."""
+    try:
+        json.loads(text, parse_constant=lambda word: json.loads(""))
+    except json.JSONDecodeError as error:
+        return error.lineno, error.colno
+    return None
+
+
+def place_of_program(program, text):
+    """The line and the column that the program names, and None where it takes the text."""
+    ran = subprocess.run([program], input=text.encode(), capture_output=True)
+    if ran.returncode == 0:
+        return None
+    assert ran.returncode == 1 and not ran.stdout, ran
+    line, column = ran.stderr.decode().split(":")[1:3]
+    return int(line), int(column)
+
+
+def main():
+    program, *words = sys.argv[1:]
+    count, seed = (int(it) for it in words + ["3000", "1"][len(words) :])
+    random.seed(seed)
+    good, same, earlier, differ = 0, 0, 0, 0
+    for _ in range(count):
+        text = broken(text_of(3))
+        found, wanted = place_of_program(program, text), place_of_python(text)
+        if found == wanted:
+            good, same = good + (found is None), same + (found is not None)
+        elif found and wanted and found < wanted:
+            earlier += 1
+        else:
+            differ += 1
+            print(f"{text!r}: {found}, and {wanted} by python")
+    print(f"{good} are JSON; {same} at the same place, {earlier} at the beginning of a lexeme that is none, {differ} differ")
+    return 1 if differ else 0
+
+
+sys.exit(main())
