@@ -5,6 +5,11 @@ use prettyless::{Arena, Constant, Doc, DocAllocator, DocPlace, DocPtr, RefDoc};
 use std::process::Abort;
 use std::test::Fail;
 
+// Whether a place has one node for the constant.
+fn has<'a, D: DocPlace<'a>>(place: &'a D, which: Constant) -> bool {
+    place.constant(which).is_some()
+}
+
 // Whether the arena has the constant, and places nothing for a node that is the same.
 fn compare<'a>(
     rt: &impl Abort,
@@ -12,7 +17,7 @@ fn compare<'a>(
     which: Constant,
     same: Doc<'a, RefDoc<'a>>,
 ) -> Result<(), Fail> {
-    assert!(rt; arena.constant(which).is_some());
+    assert!(rt; has(arena, which));
     arena.alloc(same)?;
     assert!(rt; arena.is_empty());
     Ok(())
@@ -71,7 +76,7 @@ fn other_nodes_are_placed(rt: HostRuntime) -> Result<(), Fail> {
 
 // An arena that has no constants refuses a node while it has no room, and then places it as any other.
 fn placed<'a>(rt: &impl Abort, bump: &'a Bump, arena: &'a Arena<'a>) -> Result<(), Fail> {
-    assert!(rt; arena.constant(Constant::HardLine).is_none());
+    assert!(rt; !has(arena, Constant::HardLine));
     assert!(rt; matches!(arena.alloc(Doc::HardLine), Err(BuildError::Memory(_))));
     assert!(rt; arena.is_empty());
     bump.set_allocation_limit(None);
