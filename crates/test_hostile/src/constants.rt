@@ -5,32 +5,41 @@ use prettyless::{Arena, Constant, Doc, DocAllocator, DocPlace, DocPtr, RefDoc};
 use std::process::Abort;
 use std::test::Fail;
 
+const LEAVES: [Constant; 7] = [
+    Constant::Nil,
+    Constant::Fail,
+    Constant::Space,
+    Constant::WeakSpace,
+    Constant::HardLine,
+    Constant::WeakLine,
+    Constant::ExpandParent,
+];
+
 // Whether a place has one node for the constant.
 fn has<'a, D: DocPlace<'a>>(place: &'a D, which: Constant) -> bool {
     place.constant(which).is_some()
 }
 
-// Whether the arena has the constant, and places nothing for a node that is the same.
-fn compare<'a>(
-    rt: &impl Abort,
-    arena: &'a Arena<'a>,
-    which: Constant,
-    same: Doc<'a, RefDoc<'a>>,
-) -> Result<(), Fail> {
-    assert!(rt; has(arena, which));
-    arena.alloc(same)?;
-    assert!(rt; arena.is_empty());
+// Hands the arena a node that is the same as each of them.
+fn place_leaves<'a>(arena: &'a Arena<'a>) -> Result<(), BuildError> {
+    arena.alloc(Doc::Nil)?;
+    arena.alloc(Doc::Fail)?;
+    arena.alloc(Doc::Text(Text::Borrowed(" ")))?;
+    arena.alloc(Doc::WeakSpace)?;
+    arena.alloc(Doc::HardLine)?;
+    arena.alloc(Doc::WeakLine)?;
+    arena.alloc(Doc::ExpandParent)?;
     Ok(())
 }
 
+// The arena has each constant, and places nothing for a node that is the same.
 fn leaves<'a>(rt: &impl Abort, arena: &'a Arena<'a>) -> Result<(), Fail> {
-    compare(rt, arena, Constant::Nil, Doc::Nil)?;
-    compare(rt, arena, Constant::Fail, Doc::Fail)?;
-    compare(rt, arena, Constant::Space, Doc::Text(Text::Borrowed(" ")))?;
-    compare(rt, arena, Constant::WeakSpace, Doc::WeakSpace)?;
-    compare(rt, arena, Constant::HardLine, Doc::HardLine)?;
-    compare(rt, arena, Constant::WeakLine, Doc::WeakLine)?;
-    compare(rt, arena, Constant::ExpandParent, Doc::ExpandParent)
+    for which in LEAVES {
+        assert!(rt; has(arena, which));
+    }
+    place_leaves(arena)?;
+    assert!(rt; arena.is_empty());
+    Ok(())
 }
 
 #[test]
