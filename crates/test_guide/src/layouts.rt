@@ -1,31 +1,6 @@
 use prettyless::{DocBuilder, DocPlace, DocPtr, Pretty, RenderOptions};
-use std::alloc::Global;
 use std::process::Abort;
 use std::test::Fail;
-
-// What a document is laid out as.
-pub(crate) fn laid_out<'a, T: DocPtr<'a>>(
-    memory: Global,
-    document: &T,
-    options: RenderOptions,
-) -> Result<String, Fail> {
-    let mut out = String::new(memory);
-    document.doc().render_fmt_with(memory, options, &mut out)?;
-    Ok(out)
-}
-
-// Compares what a document is laid out as.
-fn compare_layout<'a, T: DocPtr<'a>>(
-    rt: &impl Abort,
-    memory: Global,
-    document: &T,
-    options: RenderOptions,
-    layout: &str,
-) -> Result<(), Fail> {
-    let out = laid_out(memory, document, options)?;
-    assert_eq!(rt; out.as_str(), layout, "{options:?}");
-    Ok(())
-}
 
 // Compares what a value's document is laid out as with each of the options.
 pub(crate) fn compare_with<'a, D: DocPlace<'a>, P: Pretty<'a, D>>(
@@ -34,9 +9,12 @@ pub(crate) fn compare_with<'a, D: DocPlace<'a>, P: Pretty<'a, D>>(
     value: P,
     layouts: &[(RenderOptions, &str)],
 ) -> Result<(), Fail> {
+    let memory = place.memory();
     let document = value.pretty(place)?.into_doc()?;
     for &(options, layout) in layouts {
-        compare_layout(rt, place.memory(), &document, options, layout)?;
+        let mut out = String::new(memory);
+        document.doc().render_fmt_with(memory, options, &mut out)?;
+        assert_eq!(rt; out.as_str(), layout);
     }
     Ok(())
 }
@@ -50,7 +28,9 @@ pub(crate) fn compare_built<'a, D: DocPlace<'a>>(
     let memory = built.0.memory();
     let document = built.into_doc()?;
     for &(width, layout) in layouts {
-        compare_layout(rt, memory, &document, RenderOptions::new(width), layout)?;
+        let mut out = String::new(memory);
+        document.doc().render_fmt(memory, width, &mut out)?;
+        assert_eq!(rt; out.as_str(), layout, "at {width}");
     }
     Ok(())
 }
