@@ -26,7 +26,9 @@ pub use Rattle.prettyless_model.specs.Counts
 pub use Rattle.prettyless_model.specs.Layout
 pub use Rattle.prettyless_model.specs.Levels
 pub use Rattle.prettyless_model.specs.Metrics
-pub use Rattle.prettyless_model.specs.Reading
+pub use Rattle.prettyless_laws.specs.Reading
+pub use Rattle.prettyless_model.specs.Choice
+pub use Rattle.prettyless_model.specs.Look
 pub use Rattle.prettyless_model.specs.Spelling
 pub use Rattle.prettyless_model.specs.Texts
 pub use Rattle.prettyless_pointers.specs.Trees

@@ -3,6 +3,7 @@
 
 pub mod allocator;
 pub mod allocator_of;
+pub mod allocator_of_two;
 mod bracketed;
 pub mod concat;
 pub mod intersperse;
@@ -15,7 +16,8 @@ mod words;
 
 pub use allocator::DocAllocator;
 pub use allocator_of::DocAllocatorOf;
+pub use allocator_of_two::DocAllocatorOfTwo;
 pub use concat::DocAllocatorOver;
 pub use intersperse::DocAllocatorBetween;
-pub use placed::{PlacedDoc, PlacedDocBetween, PlacedDocOf, PlacedDocOver};
+pub use placed::{PlacedDoc, PlacedDocBetween, PlacedDocOf, PlacedDocOfTwo, PlacedDocOver};
 pub use told::law_lists;

@@ -2,7 +2,7 @@
 ghost use Rattle.std.specs.Prelude.{◌≡◌, ◌⊎◌, IfOk, IfErr, List};
 ghost use Rattle.std.specs.Cow.{cow_str_bytes};
 ghost use Rattle.std.specs.Iterator.{IsFiniteIterable};
-ghost use Rattle.prettyless_doc.specs.Tree.{Tree, Nil, Fail, WeakSpace, HardLine, WeakLine, ExpandParent, BreakOrFlat, Union};
+ghost use Rattle.prettyless_doc.specs.Tree.{Tree, Nil, Fail, WeakSpace, HardLine, WeakLine, ExpandParent, BreakOrFlat, Union, OnColumn, OnNesting};
 ghost use Rattle.prettyless_doc.specs.BuildErrors.{IsMemory};
 ghost use Rattle.prettyless_doc.specs.Counted as counted;
 ghost use Rattle.prettyless_doc.specs.DocTree.{built};
@@ -11,11 +11,13 @@ ghost use Rattle.prettyless_build.specs.Built as to;
 ghost use Rattle.prettyless_build.specs.Iterated.{GivesAll, GivesSome, HasGap, Concatenates, Intersperses};
 
 use crate::allocator::DocAllocator;
+use crate::allocator_of_two::DocAllocatorOfTwo;
 use crate::concat::DocAllocatorOver;
 use crate::intersperse::DocAllocatorBetween;
 use prettyless_build::{DocBuilder, Pretty};
 use prettyless_doc::text::CowStr;
 use prettyless_doc::{BuildDoc, BuildError, DocPlace, DocPtr};
+use prettyless_model::choice::{ColumnTest, NestingTest};
 use std::fmt;
 
 /// The calls of every pointer to the nodes of a `D`. Each places what it makes, and fails where
@@ -223,6 +225,39 @@ impl<'a, D: DocPlace<'a, Doc = T>, P: Pretty<'a, D>, T: DocPtr<'a>> PlacedDocOf<
         DocBuilder(place, BuildDoc::DocPtr(self))
             .flat_alt(that)?
             .into_doc()
+    }
+}
+
+/// The calls of a pointer that take a document of type `P` and one of type `Q`. The making of each can fail, and memory may be
+/// refused.
+pub trait PlacedDocOfTwo<
+    'a,
+    D: DocPlace<'a, Doc = Self>,
+    P: Pretty<'a, D>,
+    Q: Pretty<'a, D>,
+>: DocPtr<'a> {
+    /// The first document where the test of the column at which it would start holds, else the second, flat or broken.
+    fn if_column(place: &'a D, test: ColumnTest, first: P, second: Q) -> Result<Self, BuildError>
+        ensures { to.BuildsOfTwo result Self.tree (P.becomes first) (Q.becomes second) (P.refuses first) (Q.refuses second) (OnColumn test) };
+
+    /// The first document where the test of the indent holds, else the second, flat or broken.
+    fn if_nesting(place: &'a D, test: NestingTest, first: P, second: Q) -> Result<Self, BuildError>
+        ensures { to.BuildsOfTwo result Self.tree (P.becomes first) (Q.becomes second) (P.refuses first) (Q.refuses second) (OnNesting test) };
+}
+
+impl<
+    'a,
+    D: DocPlace<'a, Doc = T>,
+    P: Pretty<'a, D>,
+    Q: Pretty<'a, D>,
+    T: DocPtr<'a>,
+> PlacedDocOfTwo<'a, D, P, Q> for T {
+    fn if_column(place: &'a D, test: ColumnTest, first: P, second: Q) -> Result<T, BuildError> {
+        place.if_column(test, first, second)?.into_doc()
+    }
+
+    fn if_nesting(place: &'a D, test: NestingTest, first: P, second: Q) -> Result<T, BuildError> {
+        place.if_nesting(test, first, second)?.into_doc()
     }
 }
 

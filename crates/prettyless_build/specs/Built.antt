@@ -31,6 +31,13 @@ pub record BuildsOf {B : Type 0} (result : Result B BuildError) (seen : B → Tr
   -- `Err`: the operand answered this error, or memory was refused.
   pub err : IfErr result (λ e. refuses e ⊎ IsMemory e)
 
+-- The same of a call that makes a tree of those that two operands become.
+pub record BuildsOfTwo {B : Type 0} (result : Result B BuildError) (seen : B → Tree) (first second : Tree → Type 0) (refuses_first refuses_second : BuildError → Type 0) (makes : Tree → Tree → Tree) : Type 0 where
+  -- `Ok`: what it answers has the tree that is made of one that the first operand may become and one of the second.
+  pub ok : IfOk result (λ b. (x : Tree) × (y : Tree) × first x × second y × (seen b ≡ makes x y))
+  -- `Err`: one of the operands answered this error, or memory was refused.
+  pub err : IfErr result (λ e. refuses_first e ⊎ refuses_second e ⊎ IsMemory e)
+
 -- P of the pointer, if the document has one already
 abbrev pub IfPlaced : {T : Type 0} → BuildDoc T → (T → Type 0) → Type 0
 IfPlaced (Placed p) P = P p

@@ -1,13 +1,15 @@
-//! Values that become one of two documents, by the mode or by what fits the line. Making each of the two can fail, and
-//! memory may be refused. Both are made, also where the first failed, since a value that is not consumed cannot be
+//! Values that become one of two documents, by the mode, by what fits the line, by the column or by the indent. Making each
+//! of the two can fail, and memory may be refused. Both are made, also where the first failed, since a value that is not consumed cannot be
 //! dropped.
 ghost use Rattle.std.specs.Prelude.{◌≡◌};
 ghost use Rattle.prettyless_doc.specs.Tree as tree;
 ghost use Rattle.prettyless_doc.specs.Tree.{Tree};
 ghost use Rattle.prettyless_build.specs.Built.{refused};
 
+use prettyless_alloc::DocAllocatorOfTwo;
 use prettyless_build::{DocBuilder, Pretty};
 use prettyless_doc::{BuildDoc, BuildError, DocPlace};
+use prettyless_model::choice::{ColumnTest, NestingTest};
 
 /// The first document where it can be laid with each text, and each line of a payload, within the width, and else the
 /// second; where lines are flat, the first.
@@ -66,5 +68,37 @@ impl<'a, D: DocPlace<'a>, T: Pretty<'a, D>, U: Pretty<'a, D>> Pretty<'a, D> for 
                 Err(error)
             }
         }
+    }
+}
+
+/// The first document where the test of the column at which it would start holds, else the second, flat or broken.
+#[derive(Clone, Debug, Drop)]
+pub struct IfColumn<T, U>(pub(crate) ColumnTest, pub(crate) T, pub(crate) U);
+
+impl<'a, D: DocPlace<'a>, T: Pretty<'a, D>, U: Pretty<'a, D>> Pretty<'a, D> for IfColumn<T, U> {
+    ghost becomes = { λ d z. (x : Tree) × (y : Tree) × T.becomes d.1 x × U.becomes d.2 y
+        × (z ≡ tree.OnColumn d.0 x y) };
+
+    ghost refuses = { λ d. refused (T.refuses d.1) (U.refuses d.2) };
+
+    fn pretty(self, allocator: &'a D) -> Result<DocBuilder<'a, D>, BuildError> {
+        let IfColumn(test, first, second) = self;
+        allocator.if_column(test, first, second)
+    }
+}
+
+/// The first document where the test of the indent holds, else the second, flat or broken.
+#[derive(Clone, Debug, Drop)]
+pub struct IfNesting<T, U>(pub(crate) NestingTest, pub(crate) T, pub(crate) U);
+
+impl<'a, D: DocPlace<'a>, T: Pretty<'a, D>, U: Pretty<'a, D>> Pretty<'a, D> for IfNesting<T, U> {
+    ghost becomes = { λ d z. (x : Tree) × (y : Tree) × T.becomes d.1 x × U.becomes d.2 y
+        × (z ≡ tree.OnNesting d.0 x y) };
+
+    ghost refuses = { λ d. refused (T.refuses d.1) (U.refuses d.2) };
+
+    fn pretty(self, allocator: &'a D) -> Result<DocBuilder<'a, D>, BuildError> {
+        let IfNesting(test, first, second) = self;
+        allocator.if_nesting(test, first, second)
     }
 }

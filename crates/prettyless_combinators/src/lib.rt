@@ -12,6 +12,7 @@ pub mod types;
 mod wrappers;
 
 use prettyless_doc::text::CowStr;
+use prettyless_model::choice::{ColumnTest, NestingTest};
 use std::fmt;
 use types::*;
 
@@ -179,6 +180,24 @@ pub fn flat_alt<T, U>(broken: T, flat: U) -> FlatAlt<T, U>
     ensures flat { result.1 ≡ flat }
 {
     FlatAlt(broken, flat)
+}
+
+/// The first document where the test of the column at which it would start holds, else the second, flat or broken.
+pub fn if_column<T, U>(test: ColumnTest, first: T, second: U) -> IfColumn<T, U>
+    ensures test { result.0 ≡ test }
+    ensures first { result.1 ≡ first }
+    ensures second { result.2 ≡ second }
+{
+    IfColumn(test, first, second)
+}
+
+/// The first document where the test of the indent holds, else the second, flat or broken.
+pub fn if_nesting<T, U>(test: NestingTest, first: T, second: U) -> IfNesting<T, U>
+    ensures test { result.0 ≡ test }
+    ensures first { result.1 ≡ first }
+    ensures second { result.2 ≡ second }
+{
+    IfNesting(test, first, second)
 }
 
 /// The documents of all items, appended in order: nothing if there is none.

@@ -1,6 +1,6 @@
 //! The types of the combinators.
 
-pub use crate::alternatives::{FlatAlt, PartialUnion, Union};
+pub use crate::alternatives::{FlatAlt, IfColumn, IfNesting, PartialUnion, Union};
 pub use crate::sequences::{Concat, Intersperse};
 pub use crate::texts::{AsString, MultilineText};
 pub use crate::tokens::{

@@ -6,7 +6,7 @@ use Rattle.prettyless_doc.specs.Payload as payload
 use Rattle.prettyless_doc.specs.Payload.{payload_bytes}
 use Rattle.prettyless_doc.specs.TextBytes.{bytes_of, is_owned}
 use Rattle.prettyless_doc.specs.declared.doc.Doc.{Doc}
-use Rattle.prettyless_doc.specs.declared.doc.Doc.TheVariants.{Nil, Fail, Text, TextWithLen, MultilineText, WeakSpace, HardLine, WeakLine, Append, LineSuffix, Nest, DedentToRoot, Align, ExpandParent, Flatten, BreakOrFlat, Group, Union, PartialUnion}
+use Rattle.prettyless_doc.specs.declared.doc.Doc.TheVariants.{Nil, Fail, Text, TextWithLen, MultilineText, WeakSpace, HardLine, WeakLine, Append, LineSuffix, Nest, DedentToRoot, Align, ExpandParent, Flatten, BreakOrFlat, Group, Union, PartialUnion, OnColumn, OnNesting}
 use Rattle.prettyless_doc.specs.declared.doc.BuildDoc.{BuildDoc}
 use Rattle.prettyless_doc.specs.declared.doc.BuildDoc.TheVariants.{DocPtr as Placed, Doc as Plain}
 
@@ -31,6 +31,8 @@ tree_of tree (BreakOrFlat b f) = t.BreakOrFlat (tree b) (tree f)
 tree_of tree (Group d) = t.Group (tree d)
 tree_of tree (Union l r) = t.Union (tree l) (tree r)
 tree_of tree (PartialUnion l r) = t.PartialUnion (tree l) (tree r)
+tree_of tree (OnColumn test y n) = t.OnColumn test (tree y) (tree n)
+tree_of tree (OnNesting test y n) = t.OnNesting test (tree y) (tree n)
 
 -- the tree of a document in the making
 abbrev pub built : {T : Type 0} → (T → Tree) → BuildDoc T → Tree

@@ -42,6 +42,12 @@ impl<'a, T> Doc<'a, T> {
             Doc::PartialUnion(first, second) => {
                 Doc::PartialUnion(place.clone_ptr(first)?, place.clone_ptr(second)?)
             }
+            Doc::OnColumn(test, first, second) => {
+                Doc::OnColumn(*test, place.clone_ptr(first)?, place.clone_ptr(second)?)
+            }
+            Doc::OnNesting(test, first, second) => {
+                Doc::OnNesting(*test, place.clone_ptr(first)?, place.clone_ptr(second)?)
+            }
         })
     }
 }

@@ -5,6 +5,7 @@ ghost use Rattle.prettyless_doc.specs.Shown.{IsBelow};
 
 use crate::doc::{BuildDoc, Doc, DocPtr};
 use crate::text::Text;
+use prettyless_model::choice::{ColumnTest, NestingTest};
 use prettyless_step::walk::{View, Walk};
 use std::fmt;
 
@@ -33,6 +34,13 @@ impl<'d, 'a, T: DocPtr<'a>> Shown for &'d Doc<'a, T> {
     }
 }
 
+// What is shown before two documents: a name, or the test by which one of them is taken.
+enum Head {
+    Name(&'static str),
+    OnColumn(ColumnTest),
+    OnNesting(NestingTest),
+}
+
 // How a node is shown.
 enum Shape<'v, N> {
     Name(&'static str),
@@ -41,7 +49,7 @@ enum Shape<'v, N> {
     Items(N, N),
     Nest(isize, N),
     One(&'static str, N),
-    Two(&'static str, N, N),
+    Two(Head, N, N),
 }
 
 // How the node is shown. Its children are below it.
@@ -65,8 +73,10 @@ fn shape_of<N: Shown>(node: &N) -> Shape<'_, N>
         View::Flatten(inner) => Shape::One("Flatten", inner),
         View::BreakOrFlat(broken, flat) => shape_of_choice(broken, flat),
         View::Group(inner) => shape_of_group(inner),
-        View::Union(first, second) => Shape::Two("Union", first, second),
-        View::PartialUnion(first, second) => Shape::Two("PartialUnion", first, second),
+        View::Union(first, second) => Shape::Two(Head::Name("Union"), first, second),
+        View::PartialUnion(first, second) => Shape::Two(Head::Name("PartialUnion"), first, second),
+        View::OnColumn(test, first, second) => Shape::Two(Head::OnColumn(test), first, second),
+        View::OnNesting(test, first, second) => Shape::Two(Head::OnNesting(test), first, second),
     }
 }
 
@@ -79,7 +89,7 @@ fn shape_of_choice<N: Shown>(broken: N, flat: N) -> Shape<'static, N>
         Some(Line::OrNil) => Shape::Name("LineOrNil"),
         None if matches!(flat.view(), View::Nil) => Shape::One("WhenBreak", broken),
         None if matches!(broken.view(), View::Nil) => Shape::One("WhenFlat", flat),
-        None => Shape::Two("FlatOrBreak", flat, broken),
+        None => Shape::Two(Head::Name("FlatOrBreak"), flat, broken),
     }
 }
 
@@ -117,6 +127,15 @@ fn line_of<N: Shown>(broken: &N, flat: &N) -> Option<Line> {
     }
 }
 
+// Shows what is before two documents, and the bracket around them.
+fn show_head<W: fmt::Write>(head: Head, f: &mut fmt::Formatter<W>) -> fmt::Result {
+    match head {
+        Head::Name(name) => write!(f, "{name}("),
+        Head::OnColumn(test) => write!(f, "OnColumn({test:?}, "),
+        Head::OnNesting(test) => write!(f, "OnNesting({test:?}, "),
+    }
+}
+
 // Shows the node, and all below it. An item is in the list of the chain that it is part of.
 fn show<N: Shown, W: fmt::Write>(node: N, is_item: bool, f: &mut fmt::Formatter<W>) -> fmt::Result {
     match shape_of(&node) {
@@ -144,8 +163,8 @@ fn show<N: Shown, W: fmt::Write>(node: N, is_item: bool, f: &mut fmt::Formatter<
             show(inner, false, f)?;
             f.write_str(")")
         }
-        Shape::Two(name, first, second) => {
-            write!(f, "{name}(")?;
+        Shape::Two(head, first, second) => {
+            show_head(head, f)?;
             show(first, false, f)?;
             f.write_str(", ")?;
             show(second, false, f)?;

@@ -3,6 +3,7 @@ ghost use Rattle.prettyless_model.specs.Tree.{Tree};
 ghost use Rattle.prettyless_doc.specs.DocTree.{tree_of, built, is_nil};
 
 use crate::text::{MultilineTextData, Text};
+use prettyless_model::choice::{ColumnTest, NestingTest};
 
 /// A node of a document. `T` is the pointer to the nodes below it.
 #[derive(Drop)]
@@ -55,6 +56,10 @@ pub enum Doc<'a, T> {
     /// second. What comes after that line is not looked at, and may fail. Where lines are flat it is always the
     /// first.
     PartialUnion(T, T),
+    /// The first document where the test of the column at which it would start holds, else the second, flat or broken.
+    OnColumn(ColumnTest, T, T),
+    /// The first document where the test of the indent holds, else the second, flat or broken.
+    OnNesting(NestingTest, T, T),
 }
 
 impl<'a, T: DocPtr<'a>> Doc<'a, T> {

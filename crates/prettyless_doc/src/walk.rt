@@ -35,6 +35,16 @@ impl<'d, 'a, T: DocPtr<'a>> Walk for &'d Doc<'a, T> {
                 first.doc(),
                 second.doc(),
             ),
+            Doc::OnColumn(test, ref first, ref second) => View::OnColumn(
+                test,
+                first.doc(),
+                second.doc(),
+            ),
+            Doc::OnNesting(test, ref first, ref second) => View::OnNesting(
+                test,
+                first.doc(),
+                second.doc(),
+            ),
         }
     }
 }

@@ -1,13 +1,16 @@
 -- Columns that are alike: content would begin at the same place after the same weak spaces. What is read of them agrees.
-use Rattle.std.proofs.Common.{◌≡◌, ℕ, ◌+◌, ◌-◌, ◌^◌, List, [], ◌∷◌, ◌++◌, refl, ap, ap₂, ◌∙◌, min, arith, Bool, true, false, not, ◌&&◌, ◌||◌, ◌==◌, nat_le, if◌then◌else◌}
+use Rattle.std.proofs.Common.{◌≡◌, ℕ, length, subst, ◌+◌, ◌-◌, ◌^◌, List, [], ◌∷◌, refl, ap, ap₂, ◌∙◌, min, arith, Bool, true, false, not, ◌&&◌, ◌||◌, ◌==◌, nat_le, if◌then◌else◌}
 use Rattle.prettyless_model.specs.declared.options.RenderOptions.{RenderOptions}
-use Rattle.prettyless_model.specs.Tree.{Tree, WeakLine}
-use Rattle.prettyless_model.specs.Column.{saturating_add, prospective, commit, blank, padding_fits}
-use Rattle.prettyless_model.specs.Reading.{Atom, Ink, Blank, Queue, Stop, Hard, Weak, Payload, reading, by_mode, fits}
-use Rattle.prettyless_model.specs.Layout.{State, Entry, payload_fits, some_pending, rest_atoms, probe, flushed, is_suppressed}
+use Rattle.prettyless_model.specs.Tree.{Tree, Fail, Text, TextWithLen, MultilineText, WeakSpace, HardLine, WeakLine, Append, Nest, DedentToRoot, Align, ExpandParent, Flatten, BreakOrFlat, Group, Union, PartialUnion, OnColumn, OnNesting}
+use Rattle.prettyless_model.specs.Column.{saturating_add, prospective, commit, blank, nested, padding_fits}
+use Rattle.prettyless_model.specs.Choice.{column_holds, nesting_holds}
+use Rattle.prettyless_model.specs.Look.{Look, Answers, GoesOn, answer_of, by_mode, look, look_end, look_text, look_then}
+use Rattle.prettyless_model.specs.Metrics.{metrics}
+use Rattle.prettyless_model.specs.Layout.{State, Entry, payload_fits, some_pending, rest_fits, probe, flushed, is_suppressed}
 use Rattle.prettyless_model.specs.declared.column.Column.{Column}
 use Rattle.prettyless_model.specs.declared.metrics.Metrics.{Metrics}
 use Rattle.prettyless_model.specs.declared.mode.Mode.{Mode}
+use Rattle.prettyless_model.specs.declared.mode.Mode.TheVariants.{Break, Flat}
 
 -- columns that may differ in what is written of an indent
 pub record Alike (c e : Column) : Type 0 where
@@ -54,30 +57,102 @@ ending_alike k =
 pub padding_fits_alike : (w : ℕ) (b : Bool) (c e : Column) → Alike c e → padding_fits w b c ≡ padding_fits w b e
 padding_fits_alike w b c e h = ap₂ (λ (x y : ℕ). not b || (x == 0) || nat_le y w) h.padding (prospective_alike c e h)
 
-same-if : (a b : Bool) (x y z w : Bool) → a ≡ b → x ≡ z → y ≡ w → (if a then x else y) ≡ (if b then z else w)
-same-if true true x y z w e f g = f
-same-if false false x y z w e f g = g
-same-if true false x y z w e f g = absurd (cc e)
-same-if false true x y z w e f g = absurd (cc e)
+-- looks with one answer, or columns that are alike after them
+abbrev pub AlikeLooks : Look → Look → Type 0
+AlikeLooks (Answers a) (Answers b) = a ≡ b
+AlikeLooks (Answers a) (GoesOn e q) = ⊥
+AlikeLooks (GoesOn c p) (Answers b) = ⊥
+AlikeLooks (GoesOn c p) (GoesOn e q) = Alike c e × (p ≡ q)
 
-pub fits_alike : (w : ℕ) (c e : Column) → Alike c e → (b : Bool) (atoms : List Atom) → fits w c b atoms ≡ fits w e b atoms
-fits_alike w c e h b [] = padding_fits_alike w b c e h
-fits_alike w c e h b (Ink n ∷ atoms) = ap (λ (x : Column). nat_le x.position w && fits w x b atoms) (commit_alike n c e h)
-fits_alike w c e h b (Blank ∷ atoms) = fits_alike w (blank c) (blank e) (blank_alike c e h) b atoms
-fits_alike w c e h b (Queue ∷ atoms) = fits_alike w c e h true atoms
-fits_alike w c e h b (Stop ∷ atoms) = refl
-fits_alike w c e h b (Hard ∷ atoms) = padding_fits_alike w b c e h
-fits_alike w c e h b (Weak m ∷ atoms) =
-    same-if (c.fresh && not b) (e.fresh && not b) (fits w c b atoms) (by_mode m (padding_fits w b c) false) (fits w e b atoms) (by_mode m (padding_fits w b e) false)
-    (ap (λ (x : Bool). x && not b) h.fresh)
-    (fits_alike w c e h b atoms)
-    (ap (λ (x : Bool). by_mode m x false) (padding_fits_alike w b c e h))
-fits_alike w c e h b (Payload n t ∷ atoms) = ap (λ (x : Column). not t || nat_le x.position w) (commit_alike n c e h)
+looks-same : (x : Look) → AlikeLooks x x
+looks-same (Answers a) = refl
+looks-same (GoesOn c p) = (alike_equal c c refl, refl)
 
-pub probe_alike : (o p : RenderOptions) → o.width ≡ p.width → (d : Tree) (m : Mode) (rest : List Entry) (s u : State) → AlikeStates s u → probe o d m rest s ≡ probe p d m rest u
-probe_alike o p e d m rest s u h =
-    fits_alike o.width s.column u.column h.column (some_pending s.pending) (reading d m ++ rest_atoms rest)
-    ∙ ap₂ (λ (w : ℕ) (ps : List Tree). fits w u.column (some_pending ps) (reading d m ++ rest_atoms rest)) e h.pending
+looks-equal : (x y : Look) → x ≡ y → AlikeLooks x y
+looks-equal x y e = rw (← e) (looks-same x)
+
+looks-then : (x y : Look) (f g : Column → Bool → Look) → AlikeLooks x y → ((c e : Column) (p : Bool) → Alike c e → AlikeLooks (f c p) (g e p)) → AlikeLooks (look_then x f) (look_then y g)
+looks-then (Answers a) (Answers b) f g h k = h
+looks-then (Answers a) (GoesOn e q) f g h k = absurd h
+looks-then (GoesOn c p) (Answers b) f g h k = absurd h
+looks-then (GoesOn c p) (GoesOn e q) f g h k = rw (← h.1) (k c e p h.0)
+
+-- one of two looks, by equal tests
+looks-either : (a b : Bool) (x y z w : Look) → a ≡ b → AlikeLooks x z → AlikeLooks y w → AlikeLooks (if a then x else y) (if b then z else w)
+looks-either true true x y z w e f g = f
+looks-either false false x y z w e f g = g
+looks-either true false x y z w e f g = absurd (cc e)
+looks-either false true x y z w e f g = absurd (cc e)
+
+text_alike : (w n : ℕ) (s : List ℕ) (c e : Column) (p : Bool) → Alike c e → AlikeLooks (look_text w n s c p) (look_text w n s e p)
+text_alike w n [] c e p h = (h, refl)
+text_alike w n (b ∷ bs) c e p h =
+    looks-equal (look_text w n (b ∷ bs) c p) (look_text w n (b ∷ bs) e p)
+    (ap (λ (x : Column). if nat_le x.position w then GoesOn x p else Answers false) (commit_alike n c e h))
+
+end_alike : (w : ℕ) (m : Mode) (c e : Column) (p : Bool) → Alike c e → AlikeLooks (look_end w m c p) (look_end w m e p)
+end_alike w m c e p h = ap (λ (x : Bool). by_mode m x false) (padding_fits_alike w p c e h)
+
+-- what a probe comes to from columns that are alike
+pub look_alike : (w : ℕ) (d : Tree) (i : ℕ) (m : Mode) (c e : Column) (p : Bool) → Alike c e → AlikeLooks (look w d i m c p) (look w d i m e p)
+look_alike w Fail i m c e p h = refl
+look_alike w (Text s) i m c e p h = text_alike w (length s) s c e p h
+look_alike w (TextWithLen n s) i m c e p h = text_alike w n s c e p h
+look_alike w (MultilineText s) i m c e p h =
+    ap (λ (x : Column). by_mode m (not (metrics s).first_nonempty || nat_le x.position w) false) (commit_alike (metrics s).first_width c e h)
+look_alike w WeakSpace i m c e p h = (blank_alike c e h, refl)
+look_alike w HardLine i m c e p h = end_alike w m c e p h
+look_alike w WeakLine i m c e p h =
+    looks-either (c.fresh && not p) (e.fresh && not p) (GoesOn c p) (look_end w m c p) (GoesOn e p) (look_end w m e p)
+    (ap (λ (x : Bool). x && not p) h.fresh)
+    (h, refl)
+    (end_alike w m c e p h)
+look_alike w (Append l r) i m c e p h =
+    looks-then (look w l i m c p) (look w l i m e p) (λ u q. look w r i m u q) (λ u q. look w r i m u q)
+    (look_alike w l i m c e p h) (λ u v q k. look_alike w r i m u v q k)
+look_alike w (Nest k d) i m c e p h = look_alike w d (nested i k) m c e p h
+look_alike w (DedentToRoot d) i m c e p h = look_alike w d 0 m c e p h
+look_alike w (Align d) i m c e p h =
+    subst (λ (n : ℕ). AlikeLooks (look w d (prospective c) m c p) (look w d n m e p)) (prospective_alike c e h) (look_alike w d (prospective c) m c e p h)
+look_alike w ExpandParent i Break c e p h = (h, refl)
+look_alike w ExpandParent i Flat c e p h = refl
+look_alike w (Flatten d) i m c e p h = look_alike w d i Flat c e p h
+look_alike w (BreakOrFlat b f) i Break c e p h = look_alike w b i Break c e p h
+look_alike w (BreakOrFlat b f) i Flat c e p h = look_alike w f i Flat c e p h
+look_alike w (Group d) i m c e p h = look_alike w d i m c e p h
+look_alike w (Union l r) i Break c e p h = look_alike w r i Break c e p h
+look_alike w (Union l r) i Flat c e p h = look_alike w l i Flat c e p h
+look_alike w (PartialUnion l r) i Break c e p h = look_alike w r i Break c e p h
+look_alike w (PartialUnion l r) i Flat c e p h = look_alike w l i Flat c e p h
+look_alike w (OnColumn test y n) i m c e p h =
+    looks-either (column_holds test (prospective c) i) (column_holds test (prospective e) i) (look w y i m c p) (look w n i m c p) (look w y i m e p) (look w n i m e p)
+    (ap (λ (x : ℕ). column_holds test x i) (prospective_alike c e h))
+    (look_alike w y i m c e p h)
+    (look_alike w n i m c e p h)
+look_alike w (OnNesting test y n) i m c e p h =
+    looks-either (nesting_holds test i) (nesting_holds test i) (look w y i m c p) (look w n i m c p) (look w y i m e p) (look w n i m e p) refl
+    (look_alike w y i m c e p h)
+    (look_alike w n i m c e p h)
+-- every other node leaves the column as it is
+look_alike w _ i m c e p h = (h, refl)
+
+answers-alike : (x y : Look) (f : Column → Bool → Bool) → AlikeLooks x y → ((c e : Column) (p : Bool) → Alike c e → f c p ≡ f e p) → answer_of x f ≡ answer_of y f
+answers-alike (Answers a) (Answers b) f h k = h
+answers-alike (Answers a) (GoesOn e q) f h k = absurd h
+answers-alike (GoesOn c p) (Answers b) f h k = absurd h
+answers-alike (GoesOn c p) (GoesOn e q) f h k = k c e p h.0 ∙ ap (f e) h.1
+
+pub rest_alike : (w : ℕ) (rest : List Entry) (c e : Column) (p : Bool) → Alike c e → rest_fits w rest c p ≡ rest_fits w rest e p
+rest_alike w [] c e p h = padding_fits_alike w p c e h
+rest_alike w (x ∷ rest) c e p h =
+    answers-alike (look w x.tree x.indent Break c p) (look w x.tree x.indent Break e p) (λ u q. rest_fits w rest u q)
+    (look_alike w x.tree x.indent Break c e p h) (λ u v q k. rest_alike w rest u v q k)
+
+pub probe_alike : (o p : RenderOptions) → o.width ≡ p.width → (d : Tree) (i : ℕ) (m : Mode) (rest : List Entry) (s u : State) → AlikeStates s u → probe o d i m rest s ≡ probe p d i m rest u
+probe_alike o p e d i m rest s u h =
+    answers-alike (look o.width d i m s.column (some_pending s.pending)) (look o.width d i m u.column (some_pending s.pending)) (λ c q. rest_fits o.width rest c q)
+    (look_alike o.width d i m s.column u.column (some_pending s.pending) h.column) (λ a b q k. rest_alike o.width rest a b q k)
+    ∙ ap₂ (λ (w : ℕ) (ps : List Tree). answer_of (look w d i m u.column (some_pending ps)) (λ c q. rest_fits w rest c q)) e h.pending
 
 pub payload_alike : (o p : RenderOptions) → o.width ≡ p.width → (m : Metrics) (c e : Column) → Alike c e → payload_fits o m c ≡ payload_fits p m e
 payload_alike o p q m c e h =

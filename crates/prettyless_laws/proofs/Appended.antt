@@ -1,12 +1,16 @@
--- A document at the end of another's right arms: the two read and are laid as their `Append`, and so a regrouped document
--- reads as it did.
-use Rattle.std.proofs.Common.{◌≡◌, ℕ, List, ◌∷◌, ◌++◌, refl, ap, sym, ◌∙◌, append_assoc}
+-- A document at the end of another's right arms: the two are looked at and laid as their `Append`, and so a probe comes to the
+-- same at a regrouped document.
+use Rattle.std.proofs.Common.{◌≡◌, ℕ, List, ◌∷◌, refl, ap, sym, ◌∙◌, Bool}
 use Rattle.prettyless_model.specs.declared.options.RenderOptions.{RenderOptions}
-use Rattle.prettyless_model.specs.Tree.{Tree, Append, Nest, DedentToRoot, Align, Flatten, BreakOrFlat, Group, Union, PartialUnion}
-use Rattle.prettyless_model.specs.Reading.{Atom, reading}
-use Rattle.prettyless_model.specs.Layout.{State, Entry, Breaks, and_then, lay, entry, rest_atoms}
+use Rattle.prettyless_model.specs.Tree.{Tree, Append, Nest, DedentToRoot, Align, Flatten, BreakOrFlat, Group, Union, PartialUnion, OnColumn, OnNesting}
+use Rattle.prettyless_model.specs.Choice.{column_holds, nesting_holds}
+use Rattle.prettyless_model.specs.Column.{nested, prospective}
+use Rattle.prettyless_model.specs.Look.{Look, answer_of, look, look_then}
+use Rattle.prettyless_model.specs.Layout.{State, Entry, Breaks, and_then, lay, entry, rest_fits}
+use Rattle.prettyless_model.specs.declared.column.Column.{Column}
 use Rattle.prettyless_model.specs.declared.mode.Mode.{Mode}
 use Rattle.prettyless_model.specs.declared.mode.Mode.TheVariants.{Break, Flat}
+use Rattle.prettyless_model.proofs.Looks.{answer-then, look-each, look-either, look-same, look-then-then}
 use Rattle.prettyless_model.proofs.Outcomes.{then-then}
 use Rattle.prettyless_laws.specs.Regrouped.{appended, right}
 use Rattle.prettyless_laws.proofs.Following.{Alike, ReadsAlike, then-same, lay_alike}
@@ -16,10 +20,16 @@ appended_by : (P : Tree → Tree → Type 0) (r : Tree) → ((l : Tree) → P l 
 appended_by P r f g (Append a b) = g a b (appended_by P r f g b)
 appended_by P r f g l = f l
 
-appended_reads : (l r : Tree) (m : Mode) → reading (appended l r) m ≡ reading l m ++ reading r m
-appended_reads l r m =
-    appended_by (λ x y. reading y m ≡ reading x m ++ reading r m) r (λ x. refl)
-    (λ a b e. ap (λ (x : List Atom). reading a m ++ x) e ∙ sym (append_assoc (reading a m) (reading b m) (reading r m))) l
+-- what a probe comes to at one document after another
+abbrev in_turn : ℕ → Tree → Tree → ℕ → Mode → Column → Bool → Look
+in_turn w l r i m c p = look_then (look w l i m c p) (λ e q. look w r i m e q)
+
+appended_looks : (w : ℕ) (l r : Tree) (i : ℕ) (m : Mode) (c : Column) (p : Bool) → look w (appended l r) i m c p ≡ in_turn w l r i m c p
+appended_looks w l r i m =
+    appended_by (λ x y. (c : Column) (p : Bool) → look w y i m c p ≡ in_turn w x r i m c p) r (λ x c p. refl)
+    (λ a b h c p.
+    look-each (look w a i m c p) (λ e q. look w (appended b r) i m e q) (λ e q. in_turn w b r i m e q) h
+    ∙ sym (look-then-then (look w a i m c p) (λ e q. look w b i m e q) (λ e q. look w r i m e q))) l
 
 -- the second tree is laid as the first one and then r
 abbrev LaidBefore : RenderOptions → Breaks → Tree → Tree → Tree → Type 0
@@ -27,8 +37,12 @@ LaidBefore o brk r l t = (i : ℕ) (m : Mode) (s : List Entry) (st : State) → 
 
 -- what follows a left arm is alike in both groupings
 alike_appended : (i : ℕ) (b r : Tree) (s : List Entry) → Alike (entry i (appended b r) ∷ s) (entry i b ∷ entry i r ∷ s)
-alike_appended i b r s =
-    (λ j. refl, ap (λ (x : List Atom). x ++ rest_atoms s) (appended_reads b r Break) ∙ append_assoc (reading b Break) (reading r Break) (rest_atoms s))
+alike_appended i b r s = (
+  λ j. refl,
+  λ w c p.
+      ap (λ (x : Look). answer_of x (λ e q. rest_fits w s e q)) (appended_looks w b r i Break c p)
+      ∙ answer-then (look w b i Break c p) (λ e q. look w r i Break e q) (λ e q. rest_fits w s e q),
+)
 
 past_left : (o : RenderOptions) (brk : Breaks) → ReadsAlike brk → (r a b : Tree) → LaidBefore o brk r b (appended b r) → LaidBefore o brk r (Append a b) (Append a (appended b r))
 unfolding lay
@@ -42,19 +56,26 @@ pub appended_lays : (o : RenderOptions) (brk : Breaks) → ReadsAlike brk → (l
 unfolding lay
 appended_lays o brk k l r = appended_by (LaidBefore o brk r) r (λ x i m s st. refl) (past_left o brk k r) l
 
-pub right_reads : (d : Tree) (m : Mode) → reading (right d) m ≡ reading d m
-right_reads (Append l r) m =
-    appended_reads (right l) (right r) m ∙ ap (λ (x : List Atom). x ++ reading (right r) m) (right_reads l m)
-    ∙ ap (λ (x : List Atom). reading l m ++ x) (right_reads r m)
-right_reads (Nest k d) m = right_reads d m
-right_reads (DedentToRoot d) m = right_reads d m
-right_reads (Align d) m = right_reads d m
-right_reads (Flatten d) m = right_reads d Flat
-right_reads (BreakOrFlat b f) Break = right_reads b Break
-right_reads (BreakOrFlat b f) Flat = right_reads f Flat
-right_reads (Group d) m = right_reads d m
-right_reads (Union l r) Break = right_reads r Break
-right_reads (Union l r) Flat = right_reads l Flat
-right_reads (PartialUnion l r) Break = right_reads r Break
-right_reads (PartialUnion l r) Flat = right_reads l Flat
-right_reads _ m = refl
+pub right_looks : (d : Tree) (w i : ℕ) (m : Mode) (c : Column) (p : Bool) → look w (right d) i m c p ≡ look w d i m c p
+right_looks (Append l r) w i m c p =
+    appended_looks w (right l) (right r) i m c p
+    ∙ look-same (look w (right l) i m c p) (look w l i m c p) (λ e q. look w (right r) i m e q) (λ e q. look w r i m e q)
+    (right_looks l w i m c p) (λ e q. right_looks r w i m e q)
+right_looks (Nest k d) w i m c p = right_looks d w (nested i k) m c p
+right_looks (DedentToRoot d) w i m c p = right_looks d w 0 m c p
+right_looks (Align d) w i m c p = right_looks d w (prospective c) m c p
+right_looks (Flatten d) w i m c p = right_looks d w i Flat c p
+right_looks (BreakOrFlat b f) w i Break c p = right_looks b w i Break c p
+right_looks (BreakOrFlat b f) w i Flat c p = right_looks f w i Flat c p
+right_looks (Group d) w i m c p = right_looks d w i m c p
+right_looks (Union l r) w i Break c p = right_looks r w i Break c p
+right_looks (Union l r) w i Flat c p = right_looks l w i Flat c p
+right_looks (PartialUnion l r) w i Break c p = right_looks r w i Break c p
+right_looks (PartialUnion l r) w i Flat c p = right_looks l w i Flat c p
+right_looks (OnColumn test y n) w i m c p =
+    look-either (column_holds test (prospective c) i) (look w (right y) i m c p) (look w (right n) i m c p) (look w y i m c p) (look w n i m c p)
+    (right_looks y w i m c p) (right_looks n w i m c p)
+right_looks (OnNesting test y n) w i m c p =
+    look-either (nesting_holds test i) (look w (right y) i m c p) (look w (right n) i m c p) (look w y i m c p) (look w n i m c p)
+    (right_looks y w i m c p) (right_looks n w i m c p)
+right_looks _ w i m c p = refl

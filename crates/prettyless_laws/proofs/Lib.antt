@@ -8,3 +8,4 @@ pub mod Widths
 pub mod Owed
 pub mod Sound
 pub mod WrittenOut
+pub mod Readings

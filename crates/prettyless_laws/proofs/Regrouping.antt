@@ -4,16 +4,19 @@ use Rattle.prettyless_model.specs.Spaces.{spaces}
 use Rattle.prettyless_model.specs.declared.options.RenderOptions.{RenderOptions}
 use Rattle.prettyless_model.specs.declared.options.IndentationPolicy.{IndentationPolicy}
 use Rattle.prettyless_model.specs.declared.options.IndentationPolicy.TheVariants.{Eager, Deferred}
-use Rattle.prettyless_model.specs.Tree.{Tree, Text, TextWithLen, HardLine, WeakLine, Append, LineSuffix, Nest, DedentToRoot, Align, Flatten, BreakOrFlat, Group, Union, PartialUnion, size}
-use Rattle.prettyless_model.specs.Column.{gap, prospective, padding_fits}
-use Rattle.prettyless_model.specs.Reading.{Atom, reading, fits, by_mode}
-use Rattle.prettyless_model.specs.Layout.{State, Outcome, Done, Failed, Entry, Breaks, after_bytes, and_then, lay, lay_each, lay_text, lay_ending, nested, some_pending, probe, accept, tried, is_suppressed, flushed, entry, entries, next_indent, rest_atoms, break_with, end_with, breaks, finish, layout, layout_by, initial, bytes_of}
+use Rattle.prettyless_model.specs.Tree.{Tree, Text, TextWithLen, HardLine, WeakLine, Append, LineSuffix, Nest, DedentToRoot, Align, Flatten, BreakOrFlat, Group, Union, PartialUnion, OnColumn, OnNesting, size}
+use Rattle.prettyless_model.specs.Column.{gap, prospective, padding_fits, nested}
+use Rattle.prettyless_model.specs.Choice.{column_holds, nesting_holds}
+use Rattle.prettyless_model.specs.Look.{answer_of, by_mode, look}
+use Rattle.prettyless_model.specs.Layout.{State, Outcome, Done, Failed, Entry, Breaks, after_bytes, and_then, lay, lay_each, lay_text, lay_ending, some_pending, probe, accept, tried, is_suppressed, flushed, entry, entries, next_indent, rest_fits, break_with, end_with, breaks, finish, layout, layout_by, initial, bytes_of}
 use Rattle.prettyless_model.specs.declared.mode.Mode.{Mode}
 use Rattle.prettyless_model.specs.declared.mode.Mode.TheVariants.{Break, Flat}
 use Rattle.prettyless_model.proofs.Levels.{more_levels, suffixes_size}
+use Rattle.prettyless_model.proofs.Looks.{answer-same}
+use Rattle.prettyless_model.proofs.Outcomes.{same-either}
 use Rattle.prettyless_laws.specs.Regrouped.{right}
 use Rattle.prettyless_laws.proofs.Following.{Alike, alike_same, alike_after, ReadsAlike, either-same, breaks_alike}
-use Rattle.prettyless_laws.proofs.Appended.{appended_lays, right_reads}
+use Rattle.prettyless_laws.proofs.Appended.{appended_lays, right_looks}
 
 -- the pending documents, regrouped
 abbrev pub rights : List Tree → List Tree
@@ -65,11 +68,12 @@ right-ending o Deferred k st = refl
 abbrev pub BreaksRegrouped : Breaks → Type 0
 BreaksRegrouped brk = (d : Tree) (i : ℕ) (m : Mode) (r s : List Entry) (st : State) → Alike s r → brk d i m s (right_state st) ≡ right_outcome (brk d i m r st)
 
-right_probe : (o : RenderOptions) (d : Tree) (m : Mode) (r s : List Entry) (st : State) → Alike s r → probe o (right d) m s (right_state st) ≡ probe o d m r st
-right_probe o d m r s st h =
-    ap (λ (t : Bool). fits o.width st.column t (reading (right d) m ++ rest_atoms s)) (some-rights st.pending)
-    ∙ ap (λ (x : List Atom). fits o.width st.column (some_pending st.pending) (x ++ rest_atoms s)) (right_reads d m)
-    ∙ ap (λ (x : List Atom). fits o.width st.column (some_pending st.pending) (reading d m ++ x)) h.1
+right_probe : (o : RenderOptions) (d : Tree) (i : ℕ) (m : Mode) (r s : List Entry) (st : State) → Alike s r → probe o (right d) i m s (right_state st) ≡ probe o d i m r st
+right_probe o d i m r s st h =
+    ap (λ (t : Bool). answer_of (look o.width (right d) i m st.column t) (λ c p. rest_fits o.width s c p)) (some-rights st.pending)
+    ∙ answer-same (look o.width (right d) i m st.column (some_pending st.pending)) (look o.width d i m st.column (some_pending st.pending))
+    (λ c p. rest_fits o.width s c p) (λ c p. rest_fits o.width r c p)
+    (right_looks d o.width i m st.column (some_pending st.pending)) (λ c p. h.1 o.width c p)
 
 lay_right : (o : RenderOptions) (brk : Breaks) → ReadsAlike brk → BreaksRegrouped brk → (d : Tree) (i : ℕ) (m : Mode) (r s : List Entry) (st : State) → Alike s r → lay o brk (right d) i m s (right_state st) ≡ right_outcome (lay o brk d i m r st)
 unfolding lay
@@ -80,7 +84,7 @@ lay_right o brk a k WeakLine i m r s st h = k WeakLine i m r s st h
 lay_right o brk a k (Append x y) i m r s st h =
     appended_lays o brk a (right x) (right y) i m s (right_state st)
     ∙ right-then (lay o brk x i m (entry i y ∷ r) st) (lay o brk (right x) i m (entry i (right y) ∷ s) (right_state st)) (λ u. lay o brk y i m r u) (λ u. lay o brk (right y) i m s u)
-    (lay_right o brk a k x i m (entry i y ∷ r) (entry i (right y) ∷ s) st (alike_after i (right y) y s r (right_reads y Break) h))
+    (lay_right o brk a k x i m (entry i y ∷ r) (entry i (right y) ∷ s) st (alike_after i (right y) y s r (λ w c p. right_looks y w i Break c p) h))
     (λ u. lay_right o brk a k y i m r s u h)
 lay_right o brk a k (LineSuffix d) i m r s st h = ap (λ (x : List Tree). Done [] (record st { pending = x })) (sym (rights-one st.pending d))
 lay_right o brk a k (Nest n d) i m r s st h = lay_right o brk a k d (nested i n) m r s st h
@@ -90,25 +94,35 @@ lay_right o brk a k (Flatten d) i m r s st h = lay_right o brk a k d i Flat r s 
 lay_right o brk a k (BreakOrFlat x y) i Break r s st h = lay_right o brk a k x i Break r s st h
 lay_right o brk a k (BreakOrFlat x y) i Flat r s st h = lay_right o brk a k y i Flat r s st h
 lay_right o brk a k (Group d) i m r s st h =
-    ap (λ (t : Bool). lay o brk (right d) i (by_mode m (if t then Flat else Break) Flat) s (right_state st)) (right_probe o d Flat r s st h)
-    ∙ lay_right o brk a k d i (by_mode m (if probe o d Flat r st then Flat else Break) Flat) r s st h
+    ap (λ (t : Bool). lay o brk (right d) i (by_mode m (if t then Flat else Break) Flat) s (right_state st)) (right_probe o d i Flat r s st h)
+    ∙ lay_right o brk a k d i (by_mode m (if probe o d i Flat r st then Flat else Break) Flat) r s st h
 lay_right o brk a k (Union x y) i Break r s st h =
     ap (λ (z : Outcome). accept o st.within z (lay o brk (right y) i Break s (right_state st))) (lay_right o brk a k x i Break r s (tried st) h)
     ∙ ap (accept o st.within (right_outcome (lay o brk x i Break r (tried st)))) (lay_right o brk a k y i Break r s st h)
     ∙ right-accept o st.within (lay o brk x i Break r (tried st)) (lay o brk y i Break r st)
 lay_right o brk a k (Union x y) i Flat r s st h = lay_right o brk a k x i Flat r s st h
 lay_right o brk a k (PartialUnion x y) i Break r s st h =
-    either-same (probe o (right x) Break s (right_state st)) (probe o x Break r st)
+    either-same (probe o (right x) i Break s (right_state st)) (probe o x i Break r st)
     (lay o brk (right x) i Break s (right_state st)) (lay o brk (right y) i Break s (right_state st)) (right_outcome (lay o brk x i Break r st)) (right_outcome (lay o brk y i Break r st))
-    (right_probe o x Break r s st h) (lay_right o brk a k x i Break r s st h) (lay_right o brk a k y i Break r s st h)
-    ∙ right-either (probe o x Break r st) (lay o brk x i Break r st) (lay o brk y i Break r st)
+    (right_probe o x i Break r s st h) (lay_right o brk a k x i Break r s st h) (lay_right o brk a k y i Break r s st h)
+    ∙ right-either (probe o x i Break r st) (lay o brk x i Break r st) (lay o brk y i Break r st)
 lay_right o brk a k (PartialUnion x y) i Flat r s st h = lay_right o brk a k x i Flat r s st h
+lay_right o brk a k (OnColumn test x y) i m r s st h =
+    same-either (column_holds test (prospective st.column) i)
+    (lay o brk (right x) i m s (right_state st)) (lay o brk (right y) i m s (right_state st)) (right_outcome (lay o brk x i m r st)) (right_outcome (lay o brk y i m r st))
+    (lay_right o brk a k x i m r s st h) (lay_right o brk a k y i m r s st h)
+    ∙ right-either (column_holds test (prospective st.column) i) (lay o brk x i m r st) (lay o brk y i m r st)
+lay_right o brk a k (OnNesting test x y) i m r s st h =
+    same-either (nesting_holds test i)
+    (lay o brk (right x) i m s (right_state st)) (lay o brk (right y) i m s (right_state st)) (right_outcome (lay o brk x i m r st)) (right_outcome (lay o brk y i m r st))
+    (lay_right o brk a k x i m r s st h) (lay_right o brk a k y i m r s st h)
+    ∙ right-either (nesting_holds test i) (lay o brk x i m r st) (lay o brk y i m r st)
 lay_right o brk a k _ i Break r s st h = refl
 lay_right o brk a k _ i Flat r s st h = refl
 
 alike_rights : (i : ℕ) (ds : List Tree) (r s : List Entry) → Alike s r → Alike (entries i (rights ds) ++ s) (entries i ds ++ r)
 alike_rights i [] r s h = h
-alike_rights i (d ∷ ds) r s h = alike_after i (right d) d (entries i (rights ds) ++ s) (entries i ds ++ r) (right_reads d Break) (alike_rights i ds r s h)
+alike_rights i (d ∷ ds) r s h = alike_after i (right d) d (entries i (rights ds) ++ s) (entries i ds ++ r) (λ w c p. right_looks d w i Break c p) (alike_rights i ds r s h)
 
 each_right : (o : RenderOptions) (brk : Breaks) → ReadsAlike brk → BreaksRegrouped brk → (ds : List Tree) (i : ℕ) (m : Mode) (r s : List Entry) (st : State) → Alike s r → lay_each o brk (rights ds) i m s (right_state st) ≡ right_outcome (lay_each o brk ds i m r st)
 unfolding lay_each
@@ -126,7 +140,7 @@ break_right o brk a k [] d i m r s st h =
 break_right o brk a k (p ∷ ps) d i m r s st h =
     ap (after_bytes (spaces (gap st.column)))
     (right-then (lay_each o brk (p ∷ ps) i m (entry i d ∷ r) (flushed o st)) (lay_each o brk (rights (p ∷ ps)) i m (entry i d ∷ s) (flushed o (right_state st))) (brk d i m r) (brk d i m s)
-    (each_right o brk a k (p ∷ ps) i m (entry i d ∷ r) (entry i d ∷ s) (flushed o st) (alike_after i d d s r refl h))
+    (each_right o brk a k (p ∷ ps) i m (entry i d ∷ r) (entry i d ∷ s) (flushed o st) (alike_after i d d s r (λ w c p. refl) h))
     (λ u. k d i m r s u h))
     ∙ right-after (spaces (gap st.column)) (and_then (lay_each o brk (p ∷ ps) i m (entry i d ∷ r) (flushed o st)) (brk d i m r))
 

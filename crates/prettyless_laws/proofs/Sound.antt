@@ -5,8 +5,8 @@ use Rattle.std.proofs.Math.Nat.{min-le_right, min-eq_left}
 use Rattle.std.proofs.lemmas.List.{replicate-append-replicate}
 use Rattle.prettyless_model.specs.Spaces.{spaces}
 use Rattle.prettyless_model.specs.Tree.{Tree}
-use Rattle.prettyless_model.specs.Column.{start, saturating_add, gap, commit, blank}
-use Rattle.prettyless_model.specs.Layout.{Entry, nested, behind_payload, next_indent, entries}
+use Rattle.prettyless_model.specs.Column.{start, saturating_add, gap, commit, blank, nested}
+use Rattle.prettyless_model.specs.Layout.{Entry, behind_payload, next_indent, entries}
 use Rattle.prettyless_model.specs.declared.column.Column.{Column}
 use Rattle.prettyless_model.specs.declared.metrics.Metrics.{Metrics}
 

@@ -1,19 +1,20 @@
 -- Total trees: in Break nothing in them fails, and in Flat only what the probe answered yes to is laid.
-use Rattle.std.proofs.Common.{◌≡◌, ℕ, zero, suc, ◌+◌, ◌<◌, ◌≤◌, List, [], ◌∷◌, ◌++◌, length, refl, arith, Bool, true, false, if◌then◌else◌}
+use Rattle.std.proofs.Common.{◌≡◌, ℕ, zero, suc, ◌+◌, ◌<◌, ◌≤◌, List, [], ◌∷◌, ◌++◌, length, refl, arith, Bool, true, false, if◌then◌else◌, inl, inr}
 use Rattle.std.specs.Prelude.{All}
 use Rattle.std.proofs.Math.Numerals.{add-one}
 use Rattle.std.proofs.lemmas.List.Elements.{All-nil, All-cons, All-head, All-tail, All-append, All-push, All-same}
 use Rattle.prettyless_model.specs.Spaces.{spaces}
 use Rattle.prettyless_model.specs.declared.options.RenderOptions.{RenderOptions}
-use Rattle.prettyless_model.specs.Tree.{Tree, Fail, Text, TextWithLen, HardLine, WeakLine, Append, LineSuffix, Nest, DedentToRoot, Align, Flatten, BreakOrFlat, Group, Union, PartialUnion, size}
-use Rattle.prettyless_model.specs.Column.{gap, prospective}
-use Rattle.prettyless_model.specs.Layout.{State, Outcome, Done, Failed, Whole, Entry, Breaks, after_bytes, and_then, lay, lay_each, nested, probe, tried, flushed, entry, entries, break_with, end_with, breaks, finish, layout, layout_by, initial, bytes_of}
+use Rattle.prettyless_model.specs.Tree.{Tree, Fail, Text, TextWithLen, HardLine, WeakLine, Append, LineSuffix, Nest, DedentToRoot, Align, Flatten, BreakOrFlat, Group, Union, PartialUnion, OnColumn, OnNesting, size}
+use Rattle.prettyless_model.specs.Choice.{column_holds, nesting_holds}
+use Rattle.prettyless_model.specs.Column.{gap, prospective, nested}
+use Rattle.prettyless_model.specs.Layout.{State, Outcome, Done, Failed, Whole, Entry, Breaks, after_bytes, and_then, lay, lay_each, probe, tried, flushed, entry, entries, break_with, end_with, breaks, finish, layout, layout_by, initial, bytes_of}
 use Rattle.prettyless_model.specs.Levels.{suffixes, queued}
 use Rattle.prettyless_model.specs.declared.mode.Mode.{Mode}
 use Rattle.prettyless_model.specs.declared.mode.Mode.TheVariants.{Break, Flat}
 use Rattle.prettyless_model.proofs.Levels.{LeavesAtMost, Keeps, lay_keeps, all_suffixes, suffixes_queued, each_keeps, breaks_keep, suffixes_size}
 use Rattle.prettyless_model.proofs.Outcomes.{holds-either, holds-accept, holds-text, holds-plain}
-use Rattle.prettyless_laws.specs.FlatLines.{flat_suffixes, SkipsWeakLines}
+use Rattle.prettyless_laws.specs.FlatLines.{LeavesPending, SkipsWeakLines}
 use Rattle.prettyless_laws.specs.TotalTrees.{IsTotal}
 use Rattle.prettyless_laws.proofs.FlatLines.{one_line, breaks_skip}
 
@@ -34,25 +35,30 @@ lays-then n (Failed b) f l h g = absurd h
 abbrev LaysTo : ℕ → Breaks → Type 0
 LaysTo h brk = (d : Tree) (i : ℕ) (rest : List Entry) (st : State) → All IsTotal st.pending → queued st.pending ≤ h → Lays (brk d i Break rest st)
 
-suffixes_total : (d : Tree) → IsTotal d → All IsTotal (flat_suffixes d)
-suffixes_total Fail t = absurd t
-suffixes_total (Append l r) t = All-append IsTotal (flat_suffixes l) (flat_suffixes r) (suffixes_total l t.0) (suffixes_total r t.1)
-suffixes_total (LineSuffix d) t = All-cons IsTotal d [] t (All-nil IsTotal)
-suffixes_total (Nest k d) t = suffixes_total d t
-suffixes_total (DedentToRoot d) t = suffixes_total d t
-suffixes_total (Align d) t = suffixes_total d t
-suffixes_total (Flatten d) t = absurd t
-suffixes_total (BreakOrFlat b f) t = suffixes_total f t.1
-suffixes_total (Group d) t = suffixes_total d t
-suffixes_total (Union l r) t = suffixes_total l t.0
-suffixes_total (PartialUnion l r) t = suffixes_total l t.0
-suffixes_total _ t = All-nil IsTotal
+suffixes_total : (d : Tree) (ds : List Tree) → IsTotal d → LeavesPending d ds → All IsTotal ds
+suffixes_total Fail ds t h = absurd t
+suffixes_total (Append l r) ds t h =
+    All-same IsTotal ds (h.0 ++ h.1) h.4 (All-append IsTotal h.0 h.1 (suffixes_total l h.0 t.0 h.2) (suffixes_total r h.1 t.1 h.3))
+suffixes_total (LineSuffix d) ds t h = All-same IsTotal ds (d ∷ []) h (All-cons IsTotal d [] t (All-nil IsTotal))
+suffixes_total (Nest k d) ds t h = suffixes_total d ds t h
+suffixes_total (DedentToRoot d) ds t h = suffixes_total d ds t h
+suffixes_total (Align d) ds t h = suffixes_total d ds t h
+suffixes_total (Flatten d) ds t h = absurd t
+suffixes_total (BreakOrFlat b f) ds t h = suffixes_total f ds t.1 h
+suffixes_total (Group d) ds t h = suffixes_total d ds t h
+suffixes_total (Union l r) ds t h = suffixes_total l ds t.0 h
+suffixes_total (PartialUnion l r) ds t h = suffixes_total l ds t.0 h
+suffixes_total (OnColumn test y n) ds t (inl h) = suffixes_total y ds t.0 h
+suffixes_total (OnColumn test y n) ds t (inr h) = suffixes_total n ds t.1 h
+suffixes_total (OnNesting test y n) ds t (inl h) = suffixes_total y ds t.0 h
+suffixes_total (OnNesting test y n) ds t (inr h) = suffixes_total n ds t.1 h
+suffixes_total _ ds t h = All-same IsTotal ds [] h (All-nil IsTotal)
 
-flat_lays : (o : RenderOptions) (brk : Breaks) → SkipsWeakLines brk → (d : Tree) (i : ℕ) (rest : List Entry) (st : State) → IsTotal d → All IsTotal st.pending → probe o d Flat rest st ≡ true → Lays (lay o brk d i Flat rest st)
+flat_lays : (o : RenderOptions) (brk : Breaks) → SkipsWeakLines brk → (d : Tree) (i : ℕ) (rest : List Entry) (st : State) → IsTotal d → All IsTotal st.pending → probe o d i Flat rest st ≡ true → Lays (lay o brk d i Flat rest st)
 flat_lays o brk k d i rest st t p h =
-    let x = one_line o d rest st h in
-    rw (x.done brk k i rest)
-    (All-same IsTotal x.state.pending (st.pending ++ flat_suffixes d) x.pending (All-append IsTotal st.pending (flat_suffixes d) p (suffixes_total d t)))
+    let x = one_line o d i rest st h in
+    rw (x.done brk k i (inr refl) rest)
+    (All-same IsTotal x.state.pending (st.pending ++ x.own) x.pending (All-append IsTotal st.pending x.own p (suffixes_total d x.own t x.leaves)))
 
 -- what holds in Flat where a probe answers yes, and in Break, holds in the mode that it chooses
 in_mode : (P : Mode → Type 0) (t : Bool) → (t ≡ true → P Flat) → P Break → P (if t then Flat else Break)
@@ -78,7 +84,7 @@ lay_lays o brk h s k g (Align d) i rest st t p l = lay_lays o brk h s k g d (pro
 lay_lays o brk h s k g (Flatten d) i rest st t p l = absurd t
 lay_lays o brk h s k g (BreakOrFlat x y) i rest st t p l = lay_lays o brk h s k g x i rest st t.0 p (omega arith)
 lay_lays o brk h s k g (Group d) i rest st t p l =
-    in_mode (λ m. Lays (lay o brk d i m rest st)) (probe o d Flat rest st)
+    in_mode (λ m. Lays (lay o brk d i m rest st)) (probe o d i Flat rest st)
     (λ e. flat_lays o brk s d i rest st t p e)
     (lay_lays o brk h s k g d i rest st t p l)
 lay_lays o brk h s k g (Union x y) i rest st t p l =
@@ -86,7 +92,15 @@ lay_lays o brk h s k g (Union x y) i rest st t p l =
     (lay_lays o brk h s k g x i rest (tried st) t.0 p (omega arith))
     (lay_lays o brk h s k g y i rest st t.1 p (omega arith))
 lay_lays o brk h s k g (PartialUnion x y) i rest st t p l =
-    holds-either Lays (probe o x Break rest st) (lay o brk x i Break rest st) (lay o brk y i Break rest st)
+    holds-either Lays (probe o x i Break rest st) (lay o brk x i Break rest st) (lay o brk y i Break rest st)
+    (lay_lays o brk h s k g x i rest st t.0 p (omega arith))
+    (lay_lays o brk h s k g y i rest st t.1 p (omega arith))
+lay_lays o brk h s k g (OnColumn test x y) i rest st t p l =
+    holds-either Lays (column_holds test (prospective st.column) i) (lay o brk x i Break rest st) (lay o brk y i Break rest st)
+    (lay_lays o brk h s k g x i rest st t.0 p (omega arith))
+    (lay_lays o brk h s k g y i rest st t.1 p (omega arith))
+lay_lays o brk h s k g (OnNesting test x y) i rest st t p l =
+    holds-either Lays (nesting_holds test i) (lay o brk x i Break rest st) (lay o brk y i Break rest st)
     (lay_lays o brk h s k g x i rest st t.0 p (omega arith))
     (lay_lays o brk h s k g y i rest st t.1 p (omega arith))
 lay_lays o brk h s k g _ i rest st t p l = p

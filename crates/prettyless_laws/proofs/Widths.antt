@@ -3,10 +3,11 @@ use Rattle.std.proofs.Common.{◌≡◌, ℕ, zero, suc, ◌+◌, List, [], ◌�
 use Rattle.prettyless_model.specs.declared.options.RenderOptions.{RenderOptions}
 use Rattle.prettyless_model.specs.declared.options.IndentationPolicy.{IndentationPolicy}
 use Rattle.prettyless_model.specs.declared.options.IndentationPolicy.TheVariants.{Eager, Deferred}
-use Rattle.prettyless_model.specs.Tree.{Tree, Fail, Text, TextWithLen, MultilineText, WeakSpace, HardLine, WeakLine, Append, LineSuffix, Nest, DedentToRoot, Align, Flatten, BreakOrFlat, Group, Union, PartialUnion, size}
+use Rattle.prettyless_model.specs.Tree.{Tree, Fail, Text, TextWithLen, MultilineText, WeakSpace, HardLine, WeakLine, Append, LineSuffix, Nest, DedentToRoot, Align, Flatten, BreakOrFlat, Group, Union, PartialUnion, OnColumn, OnNesting, size}
 use Rattle.prettyless_model.specs.Metrics.{metrics}
-use Rattle.prettyless_model.specs.Column.{indented, deferred, prospective, commit, padding_fits}
-use Rattle.prettyless_model.specs.Layout.{State, Entry, nested, behind_payload, next_indent, entry, entries, some_pending, probe, tried, flushed, is_suppressed, initial}
+use Rattle.prettyless_model.specs.Choice.{column_holds, nesting_holds}
+use Rattle.prettyless_model.specs.Column.{indented, deferred, prospective, commit, padding_fits, nested}
+use Rattle.prettyless_model.specs.Layout.{State, Entry, behind_payload, next_indent, entry, entries, some_pending, probe, tried, flushed, is_suppressed, initial}
 use Rattle.prettyless_model.specs.declared.column.Column.{Column}
 use Rattle.prettyless_model.specs.declared.metrics.Metrics.{Metrics}
 use Rattle.prettyless_model.specs.declared.mode.Mode.{Mode}
@@ -119,8 +120,8 @@ traces_same o p e a b k (Flatten d) i m rest s u h = traces_same o p e a b k d i
 traces_same o p e a b k (BreakOrFlat x y) i Break rest s u h = traces_same o p e a b k x i Break rest s u h
 traces_same o p e a b k (BreakOrFlat x y) i Flat rest s u h = traces_same o p e a b k y i Flat rest s u h
 traces_same o p e a b k (Group d) i Break rest s u h =
-    same-chosen (probe o d Flat rest s) (probe p d Flat rest u) (trace_at o a d i Flat rest s) (trace_at o a d i Break rest s) (trace_at p b d i Flat rest u) (trace_at p b d i Break rest u)
-    (probe_alike o p e d Flat rest s u h)
+    same-chosen (probe o d i Flat rest s) (probe p d i Flat rest u) (trace_at o a d i Flat rest s) (trace_at o a d i Break rest s) (trace_at p b d i Flat rest u) (trace_at p b d i Break rest u)
+    (probe_alike o p e d i Flat rest s u h)
     (traces_same o p e a b k d i Flat rest s u h)
     (traces_same o p e a b k d i Break rest s u h)
 traces_same o p e a b k (Group d) i Flat rest s u h = traces_same o p e a b k d i Flat rest s u h
@@ -130,11 +131,20 @@ traces_same o p e a b k (Union x y) i Break rest s u h =
     (traces_same o p e a b k y i Break rest s u h)
 traces_same o p e a b k (Union x y) i Flat rest s u h = traces_same o p e a b k x i Flat rest s u h
 traces_same o p e a b k (PartialUnion x y) i Break rest s u h =
-    same-chosen (probe o x Break rest s) (probe p x Break rest u) (trace_at o a x i Break rest s) (trace_at o a y i Break rest s) (trace_at p b x i Break rest u) (trace_at p b y i Break rest u)
-    (probe_alike o p e x Break rest s u h)
+    same-chosen (probe o x i Break rest s) (probe p x i Break rest u) (trace_at o a x i Break rest s) (trace_at o a y i Break rest s) (trace_at p b x i Break rest u) (trace_at p b y i Break rest u)
+    (probe_alike o p e x i Break rest s u h)
     (traces_same o p e a b k x i Break rest s u h)
     (traces_same o p e a b k y i Break rest s u h)
 traces_same o p e a b k (PartialUnion x y) i Flat rest s u h = traces_same o p e a b k x i Flat rest s u h
+traces_same o p e a b k (OnColumn test x y) i m rest s u h =
+    same-chosen (column_holds test (prospective s.column) i) (column_holds test (prospective u.column) i) (trace_at o a x i m rest s) (trace_at o a y i m rest s) (trace_at p b x i m rest u) (trace_at p b y i m rest u)
+    (ap (λ (n : ℕ). column_holds test n i) (prospective_alike s.column u.column h.column))
+    (traces_same o p e a b k x i m rest s u h)
+    (traces_same o p e a b k y i m rest s u h)
+traces_same o p e a b k (OnNesting test x y) i m rest s u h =
+    same-chosen (nesting_holds test i) (nesting_holds test i) (trace_at o a x i m rest s) (trace_at o a y i m rest s) (trace_at p b x i m rest u) (trace_at p b y i m rest u) refl
+    (traces_same o p e a b k x i m rest s u h)
+    (traces_same o p e a b k y i m rest s u h)
 -- every other node leaves the state as it is
 traces_same o p e a b k _ i m rest s u h = (refl, h)
 

@@ -5,10 +5,11 @@ use Rattle.prettyless_model.specs.Spaces.{spaces}
 use Rattle.prettyless_model.specs.declared.options.RenderOptions.{RenderOptions}
 use Rattle.prettyless_model.specs.declared.options.IndentationPolicy.{IndentationPolicy}
 use Rattle.prettyless_model.specs.declared.options.IndentationPolicy.TheVariants.{Eager, Deferred}
-use Rattle.prettyless_model.specs.Tree.{Tree, Fail, Text, TextWithLen, MultilineText, WeakSpace, HardLine, WeakLine, Append, Nest, DedentToRoot, Align, Flatten, BreakOrFlat, Group, Union, PartialUnion, size}
+use Rattle.prettyless_model.specs.Tree.{Tree, Fail, Text, TextWithLen, MultilineText, WeakSpace, HardLine, WeakLine, Append, Nest, DedentToRoot, Align, Flatten, BreakOrFlat, Group, Union, PartialUnion, OnColumn, OnNesting, size}
 use Rattle.prettyless_model.specs.Metrics.{metrics}
-use Rattle.prettyless_model.specs.Column.{gap, prospective, padding_fits, saturating_add}
-use Rattle.prettyless_model.specs.Layout.{State, Outcome, Done, Failed, Entry, Breaks, Whole, Cut, after_bytes, and_then, lay, lay_each, lay_text, lay_payload, lay_ending, nested, next_indent, probe, accept, tried, some_pending, is_suppressed, flushed, entry, entries, break_with, end_with, breaks, finish, layout, layout_by, initial, bytes_of}
+use Rattle.prettyless_model.specs.Choice.{column_holds, nesting_holds}
+use Rattle.prettyless_model.specs.Column.{gap, prospective, padding_fits, saturating_add, nested}
+use Rattle.prettyless_model.specs.Layout.{State, Outcome, Done, Failed, Entry, Breaks, Whole, Cut, after_bytes, and_then, lay, lay_each, lay_text, lay_payload, lay_ending, next_indent, probe, accept, tried, some_pending, is_suppressed, flushed, entry, entries, break_with, end_with, breaks, finish, layout, layout_by, initial, bytes_of}
 use Rattle.prettyless_model.specs.declared.metrics.Metrics.{Metrics}
 use Rattle.prettyless_model.specs.declared.mode.Mode.{Mode}
 use Rattle.prettyless_model.specs.declared.mode.Mode.TheVariants.{Break, Flat}
@@ -137,7 +138,7 @@ lay_matches o a b k (Flatten d) i m rest s r e h = lay_matches o a b k d i Flat 
 lay_matches o a b k (BreakOrFlat x y) i Break rest s r e h = lay_matches o a b k x i Break rest s r e h
 lay_matches o a b k (BreakOrFlat x y) i Flat rest s r e h = lay_matches o a b k y i Flat rest s r e h
 lay_matches o a b k (Group d) i Break rest s r e h =
-    matches-group o s.column.indent (probe o d Flat rest s) (λ m. lay o a d i m rest s) (trace_at o b d i Flat rest s) (trace_at o b d i Break rest s)
+    matches-group o s.column.indent (probe o d i Flat rest s) (λ m. lay o a d i m rest s) (trace_at o b d i Flat rest s) (trace_at o b d i Break rest s)
     (lay_matches o a b k d i Flat rest s r e h)
     (lay_matches o a b k d i Break rest s r e h)
 lay_matches o a b k (Group d) i Flat rest s r e h = lay_matches o a b k d i Flat rest s r e h
@@ -147,10 +148,18 @@ lay_matches o a b k (Union x y) i Break rest s r e h =
     (lay_matches o a b k y i Break rest s r e h)
 lay_matches o a b k (Union x y) i Flat rest s r e h = lay_matches o a b k x i Flat rest s r e h
 lay_matches o a b k (PartialUnion x y) i Break rest s r e h =
-    matches-either o s.column.indent (probe o x Break rest s) (lay o a x i Break rest s) (lay o a y i Break rest s) (trace_at o b x i Break rest s) (trace_at o b y i Break rest s)
+    matches-either o s.column.indent (probe o x i Break rest s) (lay o a x i Break rest s) (lay o a y i Break rest s) (trace_at o b x i Break rest s) (trace_at o b y i Break rest s)
     (lay_matches o a b k x i Break rest s r e h)
     (lay_matches o a b k y i Break rest s r e h)
 lay_matches o a b k (PartialUnion x y) i Flat rest s r e h = lay_matches o a b k x i Flat rest s r e h
+lay_matches o a b k (OnColumn test x y) i m rest s r e h =
+    matches-either o s.column.indent (column_holds test (prospective s.column) i) (lay o a x i m rest s) (lay o a y i m rest s) (trace_at o b x i m rest s) (trace_at o b y i m rest s)
+    (lay_matches o a b k x i m rest s r e h)
+    (lay_matches o a b k y i m rest s r e h)
+lay_matches o a b k (OnNesting test x y) i m rest s r e h =
+    matches-either o s.column.indent (nesting_holds test i) (lay o a x i m rest s) (lay o a y i m rest s) (trace_at o b x i m rest s) (trace_at o b y i m rest s)
+    (lay_matches o a b k x i m rest s r e h)
+    (lay_matches o a b k y i m rest s r e h)
 -- every other node leaves the column as it is
 lay_matches o a b k _ i m rest s r e h = (refl, refl, refl, h)
 

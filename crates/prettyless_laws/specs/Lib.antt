@@ -1,3 +1,4 @@
+pub mod Reading
 pub mod Regrouped
 pub use Rattle.prettyless_model.specs.Layout
 pub use Rattle.prettyless_model.specs.Tree

@@ -1,7 +1,7 @@
 -- How documents are grouped: one after another, in any grouping, they have one layout.
 use Rattle.std.specs.Prelude.{◌≡◌}
 use Rattle.prettyless_model.specs.declared.options.RenderOptions.{RenderOptions}
-use Rattle.prettyless_model.specs.Tree.{Tree, Append, LineSuffix, Nest, DedentToRoot, Align, Flatten, BreakOrFlat, Group, Union, PartialUnion}
+use Rattle.prettyless_model.specs.Tree.{Tree, Append, LineSuffix, Nest, DedentToRoot, Align, Flatten, BreakOrFlat, Group, Union, PartialUnion, OnColumn, OnNesting}
 use Rattle.prettyless_model.specs.Layout.{layout}
 
 -- a document after another, at the end of the latter's right arms
@@ -21,6 +21,8 @@ right (BreakOrFlat b f) = BreakOrFlat (right b) (right f)
 right (Group d) = Group (right d)
 right (Union l r) = Union (right l) (right r)
 right (PartialUnion l r) = PartialUnion (right l) (right r)
+right (OnColumn test y n) = OnColumn test (right y) (right n)
+right (OnNesting test y n) = OnNesting test (right y) (right n)
 right d = d
 
 -- regrouping changes no layout

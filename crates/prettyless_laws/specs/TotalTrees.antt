@@ -1,7 +1,7 @@
 -- Documents that cannot fail.
 use Rattle.std.specs.Prelude.{◌≡◌, ℕ, List, ⊤}
 use Rattle.prettyless_model.specs.declared.options.RenderOptions.{RenderOptions}
-use Rattle.prettyless_model.specs.Tree.{Tree, Fail, Append, LineSuffix, Nest, DedentToRoot, Align, Flatten, BreakOrFlat, Group, Union, PartialUnion}
+use Rattle.prettyless_model.specs.Tree.{Tree, Fail, Append, LineSuffix, Nest, DedentToRoot, Align, Flatten, BreakOrFlat, Group, Union, PartialUnion, OnColumn, OnNesting}
 use Rattle.prettyless_model.specs.Layout.{layout, Whole}
 
 -- a tree with no Fail and no Flatten
@@ -17,6 +17,8 @@ IsTotal (BreakOrFlat b f) = IsTotal b × IsTotal f
 IsTotal (Group d) = IsTotal d
 IsTotal (Union l r) = IsTotal l × IsTotal r
 IsTotal (PartialUnion l r) = IsTotal l × IsTotal r
+IsTotal (OnColumn test y n) = IsTotal y × IsTotal n
+IsTotal (OnNesting test y n) = IsTotal y × IsTotal n
 IsTotal _ = ⊤
 
 -- such a tree is laid to its end

@@ -8,20 +8,22 @@ use Rattle.prettyless_model.specs.declared.options.IndentationPolicy.TheVariants
 use Rattle.prettyless_model.specs.Tree as t
 use Rattle.prettyless_model.specs.Tree.{Tree, size}
 use Rattle.prettyless_model.specs.Metrics.{metrics}
-use Rattle.prettyless_model.specs.Column.{indented, deferred, prospective, commit, blank, padding_fits}
-use Rattle.prettyless_model.specs.Reading.{by_mode}
-use Rattle.prettyless_model.specs.Layout.{State, Entry, Bytes, Whole, Cut, nested, payload_fits, behind_payload, next_indent, entry, entries, some_pending, probe, tried, flushed, is_suppressed, initial}
+use Rattle.prettyless_model.specs.Column.{indented, deferred, prospective, commit, blank, padding_fits, nested}
+use Rattle.prettyless_model.specs.Choice.{column_holds, nesting_holds}
+use Rattle.prettyless_model.specs.Look.{by_mode}
+use Rattle.prettyless_model.specs.Layout.{State, Entry, Bytes, Whole, Cut, payload_fits, behind_payload, next_indent, entry, entries, some_pending, probe, tried, flushed, is_suppressed, initial}
 use Rattle.prettyless_model.specs.declared.metrics.Metrics.{Metrics}
 use Rattle.prettyless_model.specs.declared.mode.Mode.{Mode}
 use Rattle.prettyless_model.specs.declared.mode.Mode.TheVariants.{Break, Flat}
 
--- an alternative: of a union, or of a group, which is flat or else broken
+-- an alternative: of a union, of a group, which is flat or else broken, or of a choice by column or nesting
 pub data Side : Type 0 where
   First : Side
   Second : Side
 
 -- the end of a line; the indent of the next, and whether content uses it; weak spaces before content, also none; a text,
--- and the column where it ends; a payload; the alternative taken at a union or a group that is laid in Break
+-- and the column where it ends; a payload; the alternative taken at a union or a group that is laid in Break,
+-- or at a choice by column or nesting
 pub data Piece : Type 0 where
   Ending : Piece
   Indent : ℕ → Bool → Piece
@@ -97,14 +99,18 @@ trace_at o brk (t.Flatten d) i m rest st = trace_at o brk d i Flat rest st
 trace_at o brk (t.BreakOrFlat b f) i m rest st = by_mode m (trace_at o brk b i m rest st) (trace_at o brk f i m rest st)
 trace_at o brk (t.Group d) i m rest st =
     by_mode m
-    (if probe o d Flat rest st then chosen First (trace_at o brk d i Flat rest st) else chosen Second (trace_at o brk d i Break rest st))
+    (if probe o d i Flat rest st then chosen First (trace_at o brk d i Flat rest st) else chosen Second (trace_at o brk d i Break rest st))
     (trace_at o brk d i Flat rest st)
 trace_at o brk (t.Union l r) i m rest st =
     by_mode m (trace_accept o st.within (trace_at o brk l i m rest (tried st)) (trace_at o brk r i m rest st)) (trace_at o brk l i m rest st)
 trace_at o brk (t.PartialUnion l r) i m rest st =
     by_mode m
-    (if probe o l Break rest st then chosen First (trace_at o brk l i m rest st) else chosen Second (trace_at o brk r i m rest st))
+    (if probe o l i Break rest st then chosen First (trace_at o brk l i m rest st) else chosen Second (trace_at o brk r i m rest st))
     (trace_at o brk l i m rest st)
+trace_at o brk (t.OnColumn test y n) i m rest st =
+    if column_holds test (prospective st.column) i then chosen First (trace_at o brk y i m rest st) else chosen Second (trace_at o brk n i m rest st)
+trace_at o brk (t.OnNesting test y n) i m rest st =
+    if nesting_holds test i then chosen First (trace_at o brk y i m rest st) else chosen Second (trace_at o brk n i m rest st)
 
 -- trees one after another at one indent
 unfoldable pub trace_each : RenderOptions → BreakTraces → List Tree → ℕ → Mode → List Entry → State → Tracing

@@ -3,6 +3,7 @@
 #![tactic(auto)]
 
 mod flat;
+mod probed;
 mod regrouped;
 pub mod rows;
 mod texts;
@@ -10,6 +11,7 @@ mod total;
 mod traced;
 
 pub use flat::law_flat_group;
+pub use probed::law_probe;
 pub use regrouped::law_regroup;
 pub use texts::law_texts;
 pub use total::law_total;

@@ -2,8 +2,9 @@
 //! functions do nothing: their contracts speak.
 
 ghost use Rattle.std.specs.Prelude.{pos, codes, true, false, ◌∷◌, []};
+ghost use Rattle.prettyless_model.specs.declared.choice.ColumnTest.TheVariants as by_column;
 ghost use Rattle.prettyless_model.specs.Tree.{Nil, Fail, MultilineText, WeakSpace, HardLine, WeakLine, Append, LineSuffix, Nest, Flatten, Union, PartialUnion};
-ghost use Rattle.prettyless_model.specs.Rows.{flat_or_failed, in_turn, noted, numbers, pair, text, tight_pair, two_lines};
+ghost use Rattle.prettyless_model.specs.Rows.{at_indent, flat_or_failed, in_turn, letter, letter_in_group, noted, numbers, pair, text, tight_pair, two_lines};
 ghost use Rattle.prettyless_model.specs.Texts.{Apart, Shown, IsShown};
 ghost use Rattle.prettyless_laws.specs.Trace.{Ending, Indent, Gap, Source, Chose, First, Second};
 ghost use Rattle.prettyless_laws.specs.Rows.{DoesNotShow, FailsAfter, HasTrace, LinedTextsStandApart, ShowsItems, TellsNothing, apart, joined_items, numbers_items, padded, parted_items, spaced, text_item, text_piece};
@@ -30,6 +31,13 @@ pub fn rows()
     ensures too_long { HasTrace 1 (PartialUnion (text "long") (text "x")) (Chose Second ∷ Gap 0 ∷ text_piece "x" 1 ∷ []) }
     ensures failed_branch { HasTrace 80 (Union (Append (text "a") Fail) (pair "a" "b"))
         (Chose Second ∷ Chose First ∷ Gap 0 ∷ text_piece "a" 1 ∷ Gap 0 ∷ text_piece " " 2 ∷ Gap 0 ∷ text_piece "b" 3 ∷ []) }
+
+    // A choice by column or nesting is noted in both modes.
+    ensures first_flat { HasTrace 80 letter_in_group
+        (Chose First ∷ Chose First ∷ Gap 0 ∷ text_piece "a" 1 ∷ Gap 0 ∷ text_piece " " 2 ∷ Gap 0 ∷ text_piece "c" 3 ∷ []) }
+    ensures second { HasTrace 80 (Append (text "prefix ") (letter (by_column.AtMost 6) "a" "b"))
+        (Gap 0 ∷ text_piece "prefix " 7 ∷ Chose Second ∷ Gap 0 ∷ text_piece "b" 8 ∷ []) }
+    ensures at_indent { HasTrace 80 at_indent (Ending ∷ Indent 2 true ∷ Chose First ∷ Gap 0 ∷ text_piece "x" 3 ∷ []) }
 
     // A payload uses an indent by its first part, where that is not empty.
     ensures payload { HasTrace 80 (Nest (pos 2) (Append HardLine (MultilineText (codes "a\nb"))))

@@ -3,11 +3,12 @@ use Rattle.std.proofs.Common.{◌≡◌, ℕ, zero, suc, ◌+◌, ◌==◌, List
 use Rattle.std.proofs.lemmas.List.Sums.{sum_by-append}
 use Rattle.prettyless_model.specs.Spaces.{spaces}
 use Rattle.prettyless_model.specs.declared.options.RenderOptions.{RenderOptions}
-use Rattle.prettyless_model.specs.Tree.{Tree, Nil, Fail, Text, TextWithLen, MultilineText, WeakSpace, HardLine, WeakLine, Append, LineSuffix, Nest, DedentToRoot, Align, ExpandParent, Flatten, BreakOrFlat, Group, Union, PartialUnion, size}
-use Rattle.prettyless_model.specs.Column.{gap, blank, prospective}
+use Rattle.prettyless_model.specs.Tree.{Tree, Nil, Fail, Text, TextWithLen, MultilineText, WeakSpace, HardLine, WeakLine, Append, LineSuffix, Nest, DedentToRoot, Align, ExpandParent, Flatten, BreakOrFlat, Group, Union, PartialUnion, OnColumn, OnNesting, size}
+use Rattle.prettyless_model.specs.Column.{gap, blank, prospective, nested}
 use Rattle.prettyless_model.specs.Metrics.{metrics}
-use Rattle.prettyless_model.specs.Reading.{by_mode}
-use Rattle.prettyless_model.specs.Layout.{State, Outcome, Done, Failed, Entry, Breaks, Whole, after_bytes, and_then, lay, lay_each, lay_text, lay_payload, nested, probe, tried, plain_break, flushed, entry, entries, break_with, end_with, breaks, finish, layout, layout_by, initial, bytes_of}
+use Rattle.prettyless_model.specs.Choice.{column_holds, nesting_holds}
+use Rattle.prettyless_model.specs.Look.{by_mode}
+use Rattle.prettyless_model.specs.Layout.{State, Outcome, Done, Failed, Entry, Breaks, Whole, after_bytes, and_then, lay, lay_each, lay_text, lay_payload, probe, tried, plain_break, flushed, entry, entries, break_with, end_with, breaks, finish, layout, layout_by, initial, bytes_of}
 use Rattle.prettyless_model.specs.Spelling.{ink, spells}
 use Rattle.prettyless_model.specs.Content.{count}
 use Rattle.prettyless_model.specs.declared.mode.Mode.{Mode}
@@ -84,17 +85,25 @@ lay_counts o brk c k (Flatten d) i m rest st w q h s = lay_counts o brk c k d i 
 lay_counts o brk c k (BreakOrFlat x y) i Break rest st w q h s = lay_counts o brk c k x i Break rest st w q h.0 s
 lay_counts o brk c k (BreakOrFlat x y) i Flat rest st w q h s = lay_counts o brk c k y i Flat rest st w q h.1 s
 lay_counts o brk c k (Group d) i m rest st w q h s =
-    lay_counts o brk c k d i (by_mode m (if probe o d Flat rest st then Flat else Break) Flat) rest st w q h s
+    lay_counts o brk c k d i (by_mode m (if probe o d i Flat rest st then Flat else Break) Flat) rest st w q h s
 lay_counts o brk c k (Union x y) i Break rest st w q h s =
     holds-accept (Leaves c (count c w + count c q)) (λ b z was e. e) o st.within (lay o brk x i Break rest (tried st)) (lay o brk y i Break rest st)
     (lay_counts o brk c k x i Break rest (tried st) w q h.0 s)
     (lay_counts o brk c k y i Break rest st w q h.1 s)
 lay_counts o brk c k (Union x y) i Flat rest st w q h s = lay_counts o brk c k x i Flat rest st w q h.0 s
 lay_counts o brk c k (PartialUnion x y) i Break rest st w q h s =
-    holds-either (Leaves c (count c w + count c q)) (probe o x Break rest st) (lay o brk x i Break rest st) (lay o brk y i Break rest st)
+    holds-either (Leaves c (count c w + count c q)) (probe o x i Break rest st) (lay o brk x i Break rest st) (lay o brk y i Break rest st)
     (lay_counts o brk c k x i Break rest st w q h.0 s)
     (lay_counts o brk c k y i Break rest st w q h.1 s)
 lay_counts o brk c k (PartialUnion x y) i Flat rest st w q h s = lay_counts o brk c k x i Flat rest st w q h.0 s
+lay_counts o brk c k (OnColumn test x y) i m rest st w q h s =
+    holds-either (Leaves c (count c w + count c q)) (column_holds test (prospective st.column) i) (lay o brk x i m rest st) (lay o brk y i m rest st)
+    (lay_counts o brk c k x i m rest st w q h.0 s)
+    (lay_counts o brk c k y i m rest st w q h.1 s)
+lay_counts o brk c k (OnNesting test x y) i m rest st w q h s =
+    holds-either (Leaves c (count c w + count c q)) (nesting_holds test i) (lay o brk x i m rest st) (lay o brk y i m rest st)
+    (lay_counts o brk c k x i m rest st w q h.0 s)
+    (lay_counts o brk c k y i m rest st w q h.1 s)
 
 each_counts : (o : RenderOptions) (brk : Breaks) (c : ℕ) → Conserves c brk → (ds : List Tree) (i : ℕ) (m : Mode) (rest : List Entry) (st : State) (w q : List ℕ) → spells (row ds) w → spells (row st.pending) q → Leaves c (count c w + count c q) (lay_each o brk ds i m rest st)
 unfolding lay_each

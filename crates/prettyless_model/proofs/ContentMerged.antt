@@ -3,11 +3,12 @@
 use Rattle.std.proofs.Common.{◌≡◌, ℕ, zero, suc, ◌+◌, ◌≤◌, List, [], ◌∷◌, ◌++◌, length, refl, ap, sym, ◌∙◌, append_assoc, append-nil, arith, if◌then◌else◌}
 use Rattle.prettyless_model.specs.Spaces.{spaces}
 use Rattle.prettyless_model.specs.declared.options.RenderOptions.{RenderOptions}
-use Rattle.prettyless_model.specs.Tree.{Tree, Nil, Fail, Text, TextWithLen, MultilineText, WeakSpace, HardLine, WeakLine, Append, LineSuffix, Nest, DedentToRoot, Align, ExpandParent, Flatten, BreakOrFlat, Group, Union, PartialUnion, size}
-use Rattle.prettyless_model.specs.Column.{gap, blank, prospective}
+use Rattle.prettyless_model.specs.Tree.{Tree, Nil, Fail, Text, TextWithLen, MultilineText, WeakSpace, HardLine, WeakLine, Append, LineSuffix, Nest, DedentToRoot, Align, ExpandParent, Flatten, BreakOrFlat, Group, Union, PartialUnion, OnColumn, OnNesting, size}
+use Rattle.prettyless_model.specs.Column.{gap, blank, prospective, nested}
 use Rattle.prettyless_model.specs.Metrics.{metrics}
-use Rattle.prettyless_model.specs.Reading.{by_mode}
-use Rattle.prettyless_model.specs.Layout.{State, Outcome, Done, Failed, Entry, Breaks, Whole, after_bytes, and_then, lay, lay_each, lay_text, lay_payload, nested, probe, tried, plain_break, flushed, entry, entries, break_with, end_with, breaks, finish, layout, layout_by, initial, bytes_of}
+use Rattle.prettyless_model.specs.Choice.{column_holds, nesting_holds}
+use Rattle.prettyless_model.specs.Look.{by_mode}
+use Rattle.prettyless_model.specs.Layout.{State, Outcome, Done, Failed, Entry, Breaks, Whole, after_bytes, and_then, lay, lay_each, lay_text, lay_payload, probe, tried, plain_break, flushed, entry, entries, break_with, end_with, breaks, finish, layout, layout_by, initial, bytes_of}
 use Rattle.prettyless_model.specs.Spelling.{ink, spells, parts}
 use Rattle.prettyless_model.specs.Content.{suffix_depth, IsMerge}
 use Rattle.prettyless_model.specs.declared.mode.Mode.{Mode}
@@ -111,17 +112,25 @@ lay_merges o brk k (Flatten d) i m rest st v u q h l w = lay_merges o brk k d i 
 lay_merges o brk k (BreakOrFlat x y) i Break rest st v u q h l w = lay_merges o brk k x i Break rest st v u q h.0 (omega arith) w
 lay_merges o brk k (BreakOrFlat x y) i Flat rest st v u q h l w = lay_merges o brk k y i Flat rest st v u q h.1 (omega arith) w
 lay_merges o brk k (Group d) i m rest st v u q h l w =
-    lay_merges o brk k d i (by_mode m (if probe o d Flat rest st then Flat else Break) Flat) rest st v u q h l w
+    lay_merges o brk k d i (by_mode m (if probe o d i Flat rest st then Flat else Break) Flat) rest st v u q h l w
 lay_merges o brk k (Union x y) i Break rest st v u q h l w =
     holds-accept (Merges v (q ++ u)) (λ b z was e. e) o st.within (lay o brk x i Break rest (tried st)) (lay o brk y i Break rest st)
     (lay_merges o brk k x i Break rest (tried st) v u q h.0 (omega arith) w)
     (lay_merges o brk k y i Break rest st v u q h.1 (omega arith) w)
 lay_merges o brk k (Union x y) i Flat rest st v u q h l w = lay_merges o brk k x i Flat rest st v u q h.0 (omega arith) w
 lay_merges o brk k (PartialUnion x y) i Break rest st v u q h l w =
-    holds-either (Merges v (q ++ u)) (probe o x Break rest st) (lay o brk x i Break rest st) (lay o brk y i Break rest st)
+    holds-either (Merges v (q ++ u)) (probe o x i Break rest st) (lay o brk x i Break rest st) (lay o brk y i Break rest st)
     (lay_merges o brk k x i Break rest st v u q h.0 (omega arith) w)
     (lay_merges o brk k y i Break rest st v u q h.1 (omega arith) w)
 lay_merges o brk k (PartialUnion x y) i Flat rest st v u q h l w = lay_merges o brk k x i Flat rest st v u q h.0 (omega arith) w
+lay_merges o brk k (OnColumn test x y) i m rest st v u q h l w =
+    holds-either (Merges v (q ++ u)) (column_holds test (prospective st.column) i) (lay o brk x i m rest st) (lay o brk y i m rest st)
+    (lay_merges o brk k x i m rest st v u q h.0 (omega arith) w)
+    (lay_merges o brk k y i m rest st v u q h.1 (omega arith) w)
+lay_merges o brk k (OnNesting test x y) i m rest st v u q h l w =
+    holds-either (Merges v (q ++ u)) (nesting_holds test i) (lay o brk x i m rest st) (lay o brk y i m rest st)
+    (lay_merges o brk k x i m rest st v u q h.0 (omega arith) w)
+    (lay_merges o brk k y i m rest st v u q h.1 (omega arith) w)
 
 -- documents in a row, each with no line suffix, write what they spell before what waits already
 each_merges : (o : RenderOptions) (brk : Breaks) → WritesWaiting brk → (ds : List Tree) (i : ℕ) (m : Mode) (rest : List Entry) (st : State) (w q : List ℕ) → spells (row ds) w → suffix_depth (row ds) ≡ 0 → Waits st q → Merges w q (lay_each o brk ds i m rest st)

@@ -3,14 +3,15 @@ use Rattle.std.proofs.Common.{◌≡◌, ℕ, zero, suc, ◌+◌, ◌<◌, ◌�
 use Rattle.std.proofs.Math.Numerals.{add-one}
 use Rattle.prettyless_model.specs.Spaces.{spaces}
 use Rattle.prettyless_model.specs.declared.options.RenderOptions.{RenderOptions}
-use Rattle.prettyless_model.specs.Tree.{Tree, Fail, Text, TextWithLen, MultilineText, HardLine, WeakLine, Append, LineSuffix, Nest, DedentToRoot, Align, Flatten, BreakOrFlat, Group, Union, PartialUnion, size}
-use Rattle.prettyless_model.specs.Column.{gap, prospective}
-use Rattle.prettyless_model.specs.Reading.{by_mode}
-use Rattle.prettyless_model.specs.Layout.{State, Outcome, Done, Failed, Entry, Breaks, after_bytes, and_then, lay, lay_each, nested, probe, accept, tried, flushed, entry, entries, break_with, end_with, breaks, finish, layout, layout_by, initial, bytes_of}
+use Rattle.prettyless_model.specs.Tree.{Tree, Fail, Text, TextWithLen, MultilineText, HardLine, WeakLine, Append, LineSuffix, Nest, DedentToRoot, Align, Flatten, BreakOrFlat, Group, Union, PartialUnion, OnColumn, OnNesting, size}
+use Rattle.prettyless_model.specs.Column.{gap, prospective, nested}
+use Rattle.prettyless_model.specs.Choice.{column_holds, nesting_holds}
+use Rattle.prettyless_model.specs.Look.{by_mode}
+use Rattle.prettyless_model.specs.Layout.{State, Outcome, Done, Failed, Entry, Breaks, after_bytes, and_then, lay, lay_each, probe, accept, tried, flushed, entry, entries, break_with, end_with, breaks, finish, layout, layout_by, initial, bytes_of}
 use Rattle.prettyless_model.specs.Levels.{suffixes, queued, settle, settle_end}
 use Rattle.prettyless_model.specs.declared.mode.Mode.{Mode}
 use Rattle.prettyless_model.specs.declared.mode.Mode.TheVariants.{Break, Flat}
-use Rattle.prettyless_model.proofs.Outcomes.{holds-either, holds-accept, holds-text, holds-plain}
+use Rattle.prettyless_model.proofs.Outcomes.{same-either, holds-either, holds-accept, holds-text, holds-plain}
 
 -- at most this much is pending afterwards
 abbrev pub LeavesAtMost : ℕ → Outcome → Type 0
@@ -65,17 +66,25 @@ lay_keeps o brk k (Align d) i m rest st = lay_keeps o brk k d (prospective st.co
 lay_keeps o brk k (Flatten d) i m rest st = lay_keeps o brk k d i Flat rest st
 lay_keeps o brk k (BreakOrFlat b f) i Break rest st = leaves-more _ _ (lay o brk b i Break rest st) (omega arith) (lay_keeps o brk k b i Break rest st)
 lay_keeps o brk k (BreakOrFlat b f) i Flat rest st = leaves-more _ _ (lay o brk f i Flat rest st) (omega arith) (lay_keeps o brk k f i Flat rest st)
-lay_keeps o brk k (Group d) i m rest st = lay_keeps o brk k d i (by_mode m (if probe o d Flat rest st then Flat else Break) Flat) rest st
+lay_keeps o brk k (Group d) i m rest st = lay_keeps o brk k d i (by_mode m (if probe o d i Flat rest st then Flat else Break) Flat) rest st
 lay_keeps o brk k (Union l r) i Break rest st =
     holds-accept (LeavesAtMost (suffixes l + suffixes r + queued st.pending)) (λ b z was e. e) o st.within (lay o brk l i Break rest (tried st)) (lay o brk r i Break rest st)
     (leaves-more _ _ (lay o brk l i Break rest (tried st)) (omega arith) (lay_keeps o brk k l i Break rest (tried st)))
     (leaves-more _ _ (lay o brk r i Break rest st) (omega arith) (lay_keeps o brk k r i Break rest st))
 lay_keeps o brk k (Union l r) i Flat rest st = leaves-more _ _ (lay o brk l i Flat rest st) (omega arith) (lay_keeps o brk k l i Flat rest st)
 lay_keeps o brk k (PartialUnion l r) i Break rest st =
-    holds-either (LeavesAtMost (suffixes l + suffixes r + queued st.pending)) (probe o l Break rest st) (lay o brk l i Break rest st) (lay o brk r i Break rest st)
+    holds-either (LeavesAtMost (suffixes l + suffixes r + queued st.pending)) (probe o l i Break rest st) (lay o brk l i Break rest st) (lay o brk r i Break rest st)
     (leaves-more _ _ (lay o brk l i Break rest st) (omega arith) (lay_keeps o brk k l i Break rest st))
     (leaves-more _ _ (lay o brk r i Break rest st) (omega arith) (lay_keeps o brk k r i Break rest st))
 lay_keeps o brk k (PartialUnion l r) i Flat rest st = leaves-more _ _ (lay o brk l i Flat rest st) (omega arith) (lay_keeps o brk k l i Flat rest st)
+lay_keeps o brk k (OnColumn test l r) i m rest st =
+    holds-either (LeavesAtMost (suffixes l + suffixes r + queued st.pending)) (column_holds test (prospective st.column) i) (lay o brk l i m rest st) (lay o brk r i m rest st)
+    (leaves-more _ _ (lay o brk l i m rest st) (omega arith) (lay_keeps o brk k l i m rest st))
+    (leaves-more _ _ (lay o brk r i m rest st) (omega arith) (lay_keeps o brk k r i m rest st))
+lay_keeps o brk k (OnNesting test l r) i m rest st =
+    holds-either (LeavesAtMost (suffixes l + suffixes r + queued st.pending)) (nesting_holds test i) (lay o brk l i m rest st) (lay o brk r i m rest st)
+    (leaves-more _ _ (lay o brk l i m rest st) (omega arith) (lay_keeps o brk k l i m rest st))
+    (leaves-more _ _ (lay o brk r i m rest st) (omega arith) (lay_keeps o brk k r i m rest st))
 lay_keeps o brk k _ i m rest st = omega arith
 
 abbrev pub all_suffixes : List Tree → ℕ
@@ -121,15 +130,21 @@ lay_agrees o h a b e k (Align d) i m rest st l = lay_agrees o h a b e k d (prosp
 lay_agrees o h a b e k (Flatten d) i m rest st l = lay_agrees o h a b e k d i Flat rest st l
 lay_agrees o h a b e k (BreakOrFlat x y) i Break rest st l = lay_agrees o h a b e k x i Break rest st (omega arith)
 lay_agrees o h a b e k (BreakOrFlat x y) i Flat rest st l = lay_agrees o h a b e k y i Flat rest st (omega arith)
-lay_agrees o h a b e k (Group d) i m rest st l = lay_agrees o h a b e k d i (by_mode m (if probe o d Flat rest st then Flat else Break) Flat) rest st l
+lay_agrees o h a b e k (Group d) i m rest st l = lay_agrees o h a b e k d i (by_mode m (if probe o d i Flat rest st then Flat else Break) Flat) rest st l
 lay_agrees o h a b e k (Union x y) i Break rest st l =
     ap (λ (z : Outcome). accept o st.within z (lay o a y i Break rest st)) (lay_agrees o h a b e k x i Break rest (tried st) (omega arith))
     ∙ ap (accept o st.within (lay o b x i Break rest (tried st))) (lay_agrees o h a b e k y i Break rest st (omega arith))
 lay_agrees o h a b e k (Union x y) i Flat rest st l = lay_agrees o h a b e k x i Flat rest st (omega arith)
 lay_agrees o h a b e k (PartialUnion x y) i Break rest st l =
-    ap (λ (z : Outcome). if probe o x Break rest st then z else lay o a y i Break rest st) (lay_agrees o h a b e k x i Break rest st (omega arith))
-    ∙ ap (λ (z : Outcome). if probe o x Break rest st then lay o b x i Break rest st else z) (lay_agrees o h a b e k y i Break rest st (omega arith))
+    same-either (probe o x i Break rest st) (lay o a x i Break rest st) (lay o a y i Break rest st) (lay o b x i Break rest st) (lay o b y i Break rest st)
+    (lay_agrees o h a b e k x i Break rest st (omega arith)) (lay_agrees o h a b e k y i Break rest st (omega arith))
 lay_agrees o h a b e k (PartialUnion x y) i Flat rest st l = lay_agrees o h a b e k x i Flat rest st (omega arith)
+lay_agrees o h a b e k (OnColumn test x y) i m rest st l =
+    same-either (column_holds test (prospective st.column) i) (lay o a x i m rest st) (lay o a y i m rest st) (lay o b x i m rest st) (lay o b y i m rest st)
+    (lay_agrees o h a b e k x i m rest st (omega arith)) (lay_agrees o h a b e k y i m rest st (omega arith))
+lay_agrees o h a b e k (OnNesting test x y) i m rest st l =
+    same-either (nesting_holds test i) (lay o a x i m rest st) (lay o a y i m rest st) (lay o b x i m rest st) (lay o b y i m rest st)
+    (lay_agrees o h a b e k x i m rest st (omega arith)) (lay_agrees o h a b e k y i m rest st (omega arith))
 lay_agrees o h a b e k _ i m rest st l = refl
 
 each_agrees : (o : RenderOptions) (h : ℕ) (a b : Breaks) → Agree h a b → Keeps a → (ds : List Tree) (i : ℕ) (m : Mode) (rest : List Entry) (st : State) → all_suffixes ds + queued st.pending ≤ h → lay_each o a ds i m rest st ≡ lay_each o b ds i m rest st
@@ -222,6 +237,8 @@ suffixes_size (BreakOrFlat l r) = omega (arith, suffixes_size l, suffixes_size r
 suffixes_size (Group d) = omega (arith, suffixes_size d)
 suffixes_size (Union l r) = omega (arith, suffixes_size l, suffixes_size r)
 suffixes_size (PartialUnion l r) = omega (arith, suffixes_size l, suffixes_size r)
+suffixes_size (OnColumn test l r) = omega (arith, suffixes_size l, suffixes_size r)
+suffixes_size (OnNesting test l r) = omega (arith, suffixes_size l, suffixes_size r)
 suffixes_size _ = omega arith
 
 layout_at : (o : RenderOptions) (n : ℕ) (d : Tree) → suffixes d ≤ n → layout_by o (suc n) d ≡ and_then (lay o (settle o) d 0 Break [] initial) (settle_end o)

@@ -1,4 +1,5 @@
 pub mod Outcomes
+pub mod Looks
 pub mod Levels
 pub mod Ink
 pub mod Words

@@ -30,6 +30,11 @@ pub then-done : (o : Outcome) → and_then o (λ u. Done [] u) ≡ o
 then-done (Done b st) = ap (λ (x : List ℕ). Done x st) (append-nil b)
 then-done (Failed b) = refl
 
+-- one of two outcomes, by one test
+pub same-either : (t : Bool) (x y z w : Outcome) → x ≡ z → y ≡ w → (if t then x else y) ≡ (if t then z else w)
+same-either true x y z w e f = e
+same-either false x y z w e f = f
+
 -- what holds of both outcomes holds of the one that is taken
 pub holds-either : (P : Outcome → Type 0) (t : Bool) (x y : Outcome) → P x → P y → P (if t then x else y)
 holds-either P true x y h g = h

@@ -11,11 +11,12 @@ use Rattle.prettyless_model.specs.declared.options.IndentationPolicy.{Indentatio
 use Rattle.prettyless_model.specs.declared.options.IndentationPolicy.TheVariants.{Eager, Deferred}
 use Rattle.prettyless_model.specs.declared.column.Column.{Column}
 use Rattle.prettyless_model.specs.declared.metrics.Metrics.{Metrics}
-use Rattle.prettyless_model.specs.Tree.{Tree, Nil, Fail, Text, TextWithLen, MultilineText, WeakSpace, HardLine, WeakLine, Append, LineSuffix, Nest, DedentToRoot, Align, ExpandParent, Flatten, BreakOrFlat, Group, Union, PartialUnion, size}
-use Rattle.prettyless_model.specs.Column.{start, gap, blank, commit, deferred, indented, prospective, saturating_add}
+use Rattle.prettyless_model.specs.Tree.{Tree, Nil, Fail, Text, TextWithLen, MultilineText, WeakSpace, HardLine, WeakLine, Append, LineSuffix, Nest, DedentToRoot, Align, ExpandParent, Flatten, BreakOrFlat, Group, Union, PartialUnion, OnColumn, OnNesting, size}
+use Rattle.prettyless_model.specs.Column.{start, gap, blank, commit, deferred, indented, prospective, saturating_add, nested}
 use Rattle.prettyless_model.specs.Metrics.{metrics}
-use Rattle.prettyless_model.specs.Reading.{by_mode}
-use Rattle.prettyless_model.specs.Layout.{State, Outcome, Done, Failed, Entry, Breaks, Whole, after_bytes, and_then, lay, lay_text, lay_payload, lay_ending, payload_fits, behind_payload, nested, probe, tried, is_suppressed, plain_break, next_indent, entry, break_with, end_with, breaks, finish, layout, layout_by, initial, bytes_of}
+use Rattle.prettyless_model.specs.Choice.{column_holds, nesting_holds}
+use Rattle.prettyless_model.specs.Look.{by_mode}
+use Rattle.prettyless_model.specs.Layout.{State, Outcome, Done, Failed, Entry, Breaks, Whole, after_bytes, and_then, lay, lay_text, lay_payload, lay_ending, payload_fits, behind_payload, probe, tried, is_suppressed, plain_break, next_indent, entry, break_with, end_with, breaks, finish, layout, layout_by, initial, bytes_of}
 use Rattle.prettyless_model.specs.Spelling.{is_blank_byte}
 use Rattle.prettyless_model.specs.Texts.{Item, Shown, Apart, texts, HasNoText, IsGap, text_tells, payload_tells, tells, IsSpaced, Place, Start, Joined, Parted, parted, IsWide, IsShownFrom, IsShown}
 use Rattle.prettyless_model.specs.declared.mode.Mode.{Mode}
@@ -238,17 +239,25 @@ lay_follows o brk k (Flatten d) i m rest st items p g h n s = lay_follows o brk 
 lay_follows o brk k (BreakOrFlat x y) i Break rest st items p g h n s = lay_follows o brk k x i Break rest st items p g h.0 n s
 lay_follows o brk k (BreakOrFlat x y) i Flat rest st items p g h n s = lay_follows o brk k y i Flat rest st items p g h.1 n s
 lay_follows o brk k (Group d) i m rest st items p g h n s =
-    lay_follows o brk k d i (by_mode m (if probe o d Flat rest st then Flat else Break) Flat) rest st items p g h n s
+    lay_follows o brk k d i (by_mode m (if probe o d i Flat rest st then Flat else Break) Flat) rest st items p g h n s
 lay_follows o brk k (Union x y) i Break rest st items p g h n s =
     holds-accept (Follows p g items) (λ b z was e. e) o st.within (lay o brk x i Break rest (tried st)) (lay o brk y i Break rest st)
     (lay_follows o brk k x i Break rest (tried st) items p g h.0 n s)
     (lay_follows o brk k y i Break rest st items p g h.1 n s)
 lay_follows o brk k (Union x y) i Flat rest st items p g h n s = lay_follows o brk k x i Flat rest st items p g h.0 n s
 lay_follows o brk k (PartialUnion x y) i Break rest st items p g h n s =
-    holds-either (Follows p g items) (probe o x Break rest st) (lay o brk x i Break rest st) (lay o brk y i Break rest st)
+    holds-either (Follows p g items) (probe o x i Break rest st) (lay o brk x i Break rest st) (lay o brk y i Break rest st)
     (lay_follows o brk k x i Break rest st items p g h.0 n s)
     (lay_follows o brk k y i Break rest st items p g h.1 n s)
 lay_follows o brk k (PartialUnion x y) i Flat rest st items p g h n s = lay_follows o brk k x i Flat rest st items p g h.0 n s
+lay_follows o brk k (OnColumn test x y) i m rest st items p g h n s =
+    holds-either (Follows p g items) (column_holds test (prospective st.column) i) (lay o brk x i m rest st) (lay o brk y i m rest st)
+    (lay_follows o brk k x i m rest st items p g h.0 n s)
+    (lay_follows o brk k y i m rest st items p g h.1 n s)
+lay_follows o brk k (OnNesting test x y) i m rest st items p g h n s =
+    holds-either (Follows p g items) (nesting_holds test i) (lay o brk x i m rest st) (lay o brk y i m rest st)
+    (lay_follows o brk k x i m rest st items p g h.0 n s)
+    (lay_follows o brk k y i m rest st items p g h.1 n s)
 
 break_follows : (o : RenderOptions) (brk : Breaks) (ps : List Tree) (d : Tree) (i : ℕ) (m : Mode) (rest : List Entry) (st : State) (items : List Item) (p : Place) (g : List ℕ) → ps ≡ [] → HasNoText items → st.pending ≡ [] → Stands p g st.column → Follows p g items (break_with o brk ps d i m rest st)
 break_follows o brk [] d i m rest st items p g e h n s = plain_follows o d i rest items st p g h n s

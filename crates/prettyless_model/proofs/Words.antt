@@ -1,6 +1,6 @@
 -- Words: what documents spell in a row, and what one with no line suffix spells in parts.
 use Rattle.std.proofs.Common.{◌≡◌, ℕ, List, [], ◌∷◌, ◌++◌, refl, ap, sym, ◌∙◌, append_assoc, append-nil, arith}
-use Rattle.prettyless_model.specs.Tree.{Tree, Nil, Fail, Append, LineSuffix, Nest, DedentToRoot, Align, Flatten, BreakOrFlat, Group, Union, PartialUnion}
+use Rattle.prettyless_model.specs.Tree.{Tree, Nil, Fail, Append, LineSuffix, Nest, DedentToRoot, Align, Flatten, BreakOrFlat, Group, Union, PartialUnion, OnColumn, OnNesting}
 use Rattle.prettyless_model.specs.Spelling.{spells, parts}
 use Rattle.prettyless_model.specs.Content.{suffix_depth}
 
@@ -33,4 +33,6 @@ parts_in_order (BreakOrFlat x y) w h l = (parts_in_order x w h.0 (omega arith), 
 parts_in_order (Group d) w h l = parts_in_order d w h l
 parts_in_order (Union x y) w h l = (parts_in_order x w h.0 (omega arith), parts_in_order y w h.1 (omega arith))
 parts_in_order (PartialUnion x y) w h l = (parts_in_order x w h.0 (omega arith), parts_in_order y w h.1 (omega arith))
+parts_in_order (OnColumn test x y) w h l = (parts_in_order x w h.0 (omega arith), parts_in_order y w h.1 (omega arith))
+parts_in_order (OnNesting test x y) w h l = (parts_in_order x w h.0 (omega arith), parts_in_order y w h.1 (omega arith))
 parts_in_order _ w h l = (h, refl)

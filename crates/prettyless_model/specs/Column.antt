@@ -1,10 +1,15 @@
 -- Columns: where a printer is on its line.
-use Rattle.std.specs.Prelude.{ℕ, ◌+◌, ◌-◌, ◌^◌, Bool, true, false, ◌==◌, ◌||◌, not, nat_le, min, if◌then◌else◌}
+use Rattle.std.specs.Prelude.{ℕ, ◌+◌, ◌-◌, ◌^◌, ℤ, pos, negsuc, Bool, true, false, ◌==◌, ◌||◌, not, nat_le, min, if◌then◌else◌}
 use Rattle.prettyless_model.specs.declared.column.Column.{Column}
 
 -- a sum that stops at the greatest `usize`
 abbrev pub saturating_add : ℕ → ℕ → ℕ
 saturating_add a b = min (a + b) (2 ^ 64 - 1)
+
+-- an indent that a nesting changes, kept within 0 and the greatest `usize`
+abbrev pub nested : ℕ → ℤ → ℕ
+nested i (pos k) = saturating_add i k
+nested i (negsuc k) = i - (k + 1)
 
 -- the beginning of a document
 abbrev pub start : Column

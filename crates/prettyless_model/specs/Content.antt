@@ -2,7 +2,7 @@
 -- are shown whole.
 use Rattle.std.specs.Prelude.{◌≡◌, ℕ, ◌+◌, ◌≤◌, max, ◌==◌, List, [], ◌∷◌, ◌++◌, Option, Some, ◌⊎◌, ⊤, count_by}
 use Rattle.prettyless_model.specs.declared.options.RenderOptions.{RenderOptions}
-use Rattle.prettyless_model.specs.Tree.{Tree, Append, LineSuffix, Nest, DedentToRoot, Align, Flatten, BreakOrFlat, Group, Union, PartialUnion}
+use Rattle.prettyless_model.specs.Tree.{Tree, Append, LineSuffix, Nest, DedentToRoot, Align, Flatten, BreakOrFlat, Group, Union, PartialUnion, OnColumn, OnNesting}
 use Rattle.prettyless_model.specs.Layout.{Whole, layout}
 use Rattle.prettyless_model.specs.Spelling.{ink, spells, parts}
 use Rattle.prettyless_model.specs.Texts.{Item, IsShown, tells}
@@ -19,6 +19,8 @@ suffix_depth (BreakOrFlat b f) = max (suffix_depth b) (suffix_depth f)
 suffix_depth (Group d) = suffix_depth d
 suffix_depth (Union l r) = max (suffix_depth l) (suffix_depth r)
 suffix_depth (PartialUnion l r) = max (suffix_depth l) (suffix_depth r)
+suffix_depth (OnColumn test y n) = max (suffix_depth y) (suffix_depth n)
+suffix_depth (OnNesting test y n) = max (suffix_depth y) (suffix_depth n)
 suffix_depth _ = 0
 
 -- how often a byte occurs

@@ -4,9 +4,10 @@ use Rattle.std.specs.Prelude.{ℕ, ◌+◌, ◌&&◌, if◌then◌else◌, ◌�
 use Rattle.prettyless_model.specs.declared.options.RenderOptions.{RenderOptions}
 use Rattle.prettyless_model.specs.Tree as t
 use Rattle.prettyless_model.specs.Tree.{Tree}
-use Rattle.prettyless_model.specs.Column.{prospective, padding_fits}
-use Rattle.prettyless_model.specs.Reading.{by_mode}
-use Rattle.prettyless_model.specs.Layout.{State, Outcome, Done, Failed, Entry, entry, lay, nested, probe, some_pending, tried, initial}
+use Rattle.prettyless_model.specs.Column.{prospective, padding_fits, nested}
+use Rattle.prettyless_model.specs.Choice.{column_holds, nesting_holds}
+use Rattle.prettyless_model.specs.Look.{by_mode}
+use Rattle.prettyless_model.specs.Layout.{State, Outcome, Done, Failed, Entry, entry, lay, probe, some_pending, tried, initial}
 use Rattle.prettyless_model.specs.Levels.{settle}
 use Rattle.prettyless_model.specs.declared.mode.Mode.{Mode}
 use Rattle.prettyless_model.specs.declared.mode.Mode.TheVariants.{Break, Flat}
@@ -48,15 +49,19 @@ tally o (t.Flatten d) i m rest st w = w (t.Flatten d) m + tally o d i Flat rest 
 tally o (t.BreakOrFlat b f) i m rest st w =
     w (t.BreakOrFlat b f) m + by_mode m (tally o b i m rest st w) (tally o f i m rest st w)
 tally o (t.Group d) i m rest st w =
-    w (t.Group d) m + tally o d i (by_mode m (if probe o d Flat rest st then Flat else Break) Flat) rest st w
+    w (t.Group d) m + tally o d i (by_mode m (if probe o d i Flat rest st then Flat else Break) Flat) rest st w
 tally o (t.Union l r) i m rest st w =
     w (t.Union l r) m + by_mode m
     (counted_accept o (lay o (settle o) l i m rest (tried st)) (tally o l i m rest (tried st) w) (tally o r i m rest st w))
     (tally o l i m rest st w)
 tally o (t.PartialUnion l r) i m rest st w =
     w (t.PartialUnion l r) m + by_mode m
-    (if probe o l Break rest st then tally o l i m rest st w else tally o r i m rest st w)
+    (if probe o l i Break rest st then tally o l i m rest st w else tally o r i m rest st w)
     (tally o l i m rest st w)
+tally o (t.OnColumn test y n) i m rest st w =
+    w (t.OnColumn test y n) m + (if column_holds test (prospective st.column) i then tally o y i m rest st w else tally o n i m rest st w)
+tally o (t.OnNesting test y n) i m rest st w =
+    w (t.OnNesting test y n) m + (if nesting_holds test i then tally o y i m rest st w else tally o n i m rest st w)
 -- a node with no document below it, or a line suffix, whose document is laid at the end of the line
 tally o d i m rest st w = w d m
 

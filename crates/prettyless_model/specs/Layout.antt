@@ -1,5 +1,5 @@
 -- The layout of a document: a recursion on its tree, from state to state.
-use Rattle.std.specs.Prelude.{ℕ, zero, suc, ◌+◌, ◌-◌, ℤ, pos, negsuc, Bool, true, false, Option, Some, None, not, ◌&&◌, ◌||◌, nat_le, List, [], ◌∷◌, ◌++◌, length, map, if◌then◌else◌}
+use Rattle.std.specs.Prelude.{ℕ, zero, suc, ◌+◌, Bool, true, false, Option, Some, None, not, ◌&&◌, ◌||◌, nat_le, List, [], ◌∷◌, ◌++◌, length, map, if◌then◌else◌}
 use Rattle.prettyless_model.specs.Options.{ending}
 use Rattle.prettyless_model.specs.Spaces.{spaces}
 use Rattle.prettyless_model.specs.declared.options.RenderOptions.{RenderOptions}
@@ -8,8 +8,9 @@ use Rattle.prettyless_model.specs.declared.options.IndentationPolicy.TheVariants
 use Rattle.prettyless_model.specs.Tree as t
 use Rattle.prettyless_model.specs.Tree.{Tree, size}
 use Rattle.prettyless_model.specs.Metrics.{metrics}
-use Rattle.prettyless_model.specs.Column.{start, indented, deferred, gap, prospective, commit, blank, padding_fits, saturating_add}
-use Rattle.prettyless_model.specs.Reading.{Atom, reading, fits, by_mode}
+use Rattle.prettyless_model.specs.Column.{start, indented, deferred, gap, prospective, commit, blank, nested, padding_fits, saturating_add}
+use Rattle.prettyless_model.specs.Look.{by_mode, look, answer_of}
+use Rattle.prettyless_model.specs.Choice.{column_holds, nesting_holds}
 use Rattle.prettyless_model.specs.declared.column.Column.{Column}
 use Rattle.prettyless_model.specs.declared.metrics.Metrics.{Metrics}
 use Rattle.prettyless_model.specs.declared.mode.Mode.{Mode}
@@ -40,11 +41,6 @@ after_bytes b (Failed c) = Failed (b ++ c)
 abbrev pub and_then : Outcome → (State → Outcome) → Outcome
 and_then (Done b st) next = after_bytes b (next st)
 and_then (Failed b) next = Failed b
-
--- an indent that a nesting changes, kept within 0 and the greatest `usize`
-abbrev pub nested : ℕ → ℤ → ℕ
-nested i (pos k) = saturating_add i k
-nested i (negsuc k) = i - (k + 1)
 
 -- a text of counted width w: the gap is written before it; an empty text is nothing
 abbrev pub lay_text : RenderOptions → ℕ → List ℕ → State → Outcome
@@ -85,19 +81,19 @@ entry i d = record { indent = i; tree = d }
 abbrev pub entries : ℕ → List Tree → List Entry
 entries i ds = map (entry i) ds
 
--- what is read after the probed document: each document that follows, in Break
-abbrev pub rest_atoms : List Entry → List Atom
-rest_atoms [] = []
-rest_atoms (e ∷ es) = reading e.tree Break ++ rest_atoms es
+-- whether what follows stays within the width: each document at its own indent in Break, up to the end of the line
+abbrev pub rest_fits : ℕ → List Entry → Column → Bool → Bool
+rest_fits width [] c p = padding_fits width p c
+rest_fits width (e ∷ es) c p = answer_of (look width e.tree e.indent Break c p) (λ d q. rest_fits width es d q)
 
 -- whether a document is pending
 abbrev pub some_pending : List Tree → Bool
 some_pending [] = false
 some_pending (d ∷ ds) = true
 
--- whether a document, read in this mode, and what follows it stay within the width, up to the end of the line
-abbrev pub probe : RenderOptions → Tree → Mode → List Entry → State → Bool
-probe o d m rest st = fits o.width st.column (some_pending st.pending) (reading d m ++ rest_atoms rest)
+-- whether a document, at this indent and in this mode, and what follows it stay within the width, up to the end of the line
+abbrev pub probe : RenderOptions → Tree → ℕ → Mode → List Entry → State → Bool
+probe o d i m rest st = answer_of (look o.width d i m st.column (some_pending st.pending)) (λ c p. rest_fits o.width rest c p)
 
 -- a first branch if it is kept, with the flag as it was before it, and else the second
 abbrev pub accept : RenderOptions → Bool → Outcome → Outcome → Outcome
@@ -148,13 +144,18 @@ lay o brk (t.Flatten d) i m rest st = lay o brk d i Flat rest st
 -- one document for a broken line, another for a flat one
 lay o brk (t.BreakOrFlat b f) i m rest st = by_mode m (lay o brk b i m rest st) (lay o brk f i m rest st)
 -- a group is flat where it fits with what follows it, up to the end of the line, and broken where it does not
-lay o brk (t.Group d) i m rest st = lay o brk d i (by_mode m (if probe o d Flat rest st then Flat else Break) Flat) rest st
+lay o brk (t.Group d) i m rest st = lay o brk d i (by_mode m (if probe o d i Flat rest st then Flat else Break) Flat) rest st
 -- the first branch is laid on trial and kept if nothing in it goes past the width, else the second is laid; on a flat line, the first
 lay o brk (t.Union l r) i m rest st =
     by_mode m (accept o st.within (lay o brk l i m rest (tried st)) (lay o brk r i m rest st)) (lay o brk l i m rest st)
 -- the first branch where its first line fits, else the second; on a flat line, the first
 lay o brk (t.PartialUnion l r) i m rest st =
-    by_mode m (if probe o l Break rest st then lay o brk l i m rest st else lay o brk r i m rest st) (lay o brk l i m rest st)
+    by_mode m (if probe o l i Break rest st then lay o brk l i m rest st else lay o brk r i m rest st) (lay o brk l i m rest st)
+-- the first document where the test of the column at which the next content would begin holds, else the second
+lay o brk (t.OnColumn test y n) i m rest st =
+    if column_holds test (prospective st.column) i then lay o brk y i m rest st else lay o brk n i m rest st
+-- the first document where the test of the indent holds, else the second
+lay o brk (t.OnNesting test y n) i m rest st = if nesting_holds test i then lay o brk y i m rest st else lay o brk n i m rest st
 
 -- trees one after another at one indent, each with the later ones following
 unfoldable pub lay_each : RenderOptions → Breaks → List Tree → ℕ → Mode → List Entry → State → Outcome

@@ -1,7 +1,7 @@
 -- How many levels a layout can spend, and breaks that have as many as they need.
 use Rattle.std.specs.Prelude.{◌≡◌, ℕ, suc, ◌+◌, ◌<◌, List, [], ◌∷◌}
 use Rattle.prettyless_model.specs.declared.options.RenderOptions.{RenderOptions}
-use Rattle.prettyless_model.specs.Tree.{Tree, Append, LineSuffix, Nest, DedentToRoot, Align, Flatten, BreakOrFlat, Group, Union, PartialUnion, size}
+use Rattle.prettyless_model.specs.Tree.{Tree, Append, LineSuffix, Nest, DedentToRoot, Align, Flatten, BreakOrFlat, Group, Union, PartialUnion, OnColumn, OnNesting, size}
 use Rattle.prettyless_model.specs.Layout.{State, Outcome, Breaks, breaks, finish, layout_by, layout, bytes_of}
 
 -- how many LineSuffix nodes a tree has, those inside another too
@@ -16,6 +16,8 @@ suffixes (BreakOrFlat b f) = suffixes b + suffixes f
 suffixes (Group d) = suffixes d
 suffixes (Union l r) = suffixes l + suffixes r
 suffixes (PartialUnion l r) = suffixes l + suffixes r
+suffixes (OnColumn test y n) = suffixes y + suffixes n
+suffixes (OnNesting test y n) = suffixes y + suffixes n
 suffixes _ = 0
 
 -- how many documents the pending ones are, with those that they may leave pending in turn

@@ -3,7 +3,8 @@ pub mod Spaces
 pub mod Tree
 pub mod Metrics
 pub mod Column
-pub mod Reading
+pub mod Choice
+pub mod Look
 pub mod Layout
 pub mod Levels
 pub mod Counts

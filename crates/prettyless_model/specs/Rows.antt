@@ -5,7 +5,10 @@ use Rattle.prettyless_model.specs.Options.{options_at}
 use Rattle.prettyless_model.specs.declared.options.RenderOptions.{RenderOptions}
 use Rattle.prettyless_model.specs.declared.options.LineEnding.TheVariants.{Lf, Crlf}
 use Rattle.prettyless_model.specs.declared.options.IndentationPolicy.TheVariants.{Eager, Deferred}
-use Rattle.prettyless_model.specs.Tree.{Tree, Nil, Fail, Text, WeakSpace, HardLine, Append, LineSuffix, Nest, BreakOrFlat, Group, Union}
+use Rattle.prettyless_model.specs.declared.choice.ColumnTest.{ColumnTest}
+use Rattle.prettyless_model.specs.declared.choice.ColumnTest.TheVariants as by_column
+use Rattle.prettyless_model.specs.declared.choice.NestingTest.TheVariants as by_nesting
+use Rattle.prettyless_model.specs.Tree.{Tree, Nil, Fail, Text, WeakSpace, HardLine, Append, LineSuffix, Nest, Align, BreakOrFlat, Group, Union, OnColumn, OnNesting}
 use Rattle.prettyless_model.specs.Layout.{layout, Whole, Cut}
 use Rattle.prettyless_model.specs.Counts.{laid_nodes, laid_probes}
 
@@ -81,3 +84,34 @@ tail = in_turn (text "aa") (Group (Append line (text "bb")) ∷ Union Nil (text 
 -- a group that fails where it is broken
 abbrev pub flat_or_failed : Tree
 flat_or_failed = Group (Append (BreakOrFlat Fail Nil) (text "12345"))
+
+-- a document after a space, or two columns in on the next line
+abbrev pub hung : Tree → Tree
+hung d = Append (Group line) (OnColumn by_column.IsNesting (Nest (pos 2) (Append (text "  ") d)) d)
+
+-- a name, and a function that hangs from it
+abbrev pub binding : Tree
+binding =
+    Group (Append (Group (in_turn (text "let") (line ∷ text "x" ∷ line ∷ text "=" ∷ [])))
+    (hung (Append (text "\\y ->") (Group (Nest (pos 2) (Append line (text "y")))))))
+
+-- one of two letters, by a test of the column
+abbrev pub letter : ColumnTest → String → String → Tree
+letter test a b = OnColumn test (text a) (text b)
+
+-- letters that are aligned behind two others, of which one asks for an indent of 2
+abbrev pub behind_two : Tree
+behind_two =
+    Group (Append (text "ab") (Align (in_turn (OnNesting (by_nesting.AtLeast 2) (text "c") Fail) (line ∷ text "d" ∷ []))))
+
+-- two letters, and between them a failure where the column is the indent
+abbrev pub not_at_indent : Tree
+not_at_indent = in_turn (text "a") (OnColumn by_column.IsNesting Fail Nil ∷ text "b" ∷ [])
+
+-- the first letter at the beginning of a line that is indented
+abbrev pub at_indent : Tree
+at_indent = Nest (pos 2) (Append HardLine (letter by_column.IsNesting "x" "y"))
+
+-- a letter by the column in a group
+abbrev pub letter_in_group : Tree
+letter_in_group = Group (in_turn (letter (by_column.AtMost 0) "a" "b") (line ∷ text "c" ∷ []))

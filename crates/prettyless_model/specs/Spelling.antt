@@ -28,6 +28,8 @@ spells (t.BreakOrFlat b f) w = spells b w × spells f w
 spells (t.Group d) w = spells d w
 spells (t.Union l r) w = spells l w × spells r w
 spells (t.PartialUnion l r) w = spells l w × spells r w
+spells (t.OnColumn test y n) w = spells y w × spells n w
+spells (t.OnNesting test y n) w = spells y w × spells n w
 spells _ w = w ≡ []
 
 -- the same with two words: outside line suffixes, and inside them
@@ -47,4 +49,6 @@ parts (t.BreakOrFlat b f) v u = parts b v u × parts f v u
 parts (t.Group d) v u = parts d v u
 parts (t.Union l r) v u = parts l v u × parts r v u
 parts (t.PartialUnion l r) v u = parts l v u × parts r v u
+parts (t.OnColumn test y n) v u = parts y v u × parts n v u
+parts (t.OnNesting test y n) v u = parts y v u × parts n v u
 parts _ v u = (v ≡ []) × (u ≡ [])

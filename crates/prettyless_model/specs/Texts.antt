@@ -62,6 +62,8 @@ tells (t.BreakOrFlat b f) items = tells b items × tells f items
 tells (t.Group d) items = tells d items
 tells (t.Union l r) items = tells l items × tells r items
 tells (t.PartialUnion l r) items = tells l items × tells r items
+tells (t.OnColumn test y n) items = tells y items × tells n items
+tells (t.OnNesting test y n) items = tells y items × tells n items
 
 -- bytes that are these texts in their order, with gaps before, between and after them, any of which may be empty
 abbrev pub IsSpaced : List ℕ → List (List ℕ) → Type 0

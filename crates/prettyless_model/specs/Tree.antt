@@ -1,5 +1,7 @@
 -- Documents as trees: the variants of `Doc`, with trees in place of pointers.
 use Rattle.std.specs.Prelude.{ℕ, ℤ, ◌+◌, List}
+use Rattle.prettyless_model.specs.declared.choice.ColumnTest.{ColumnTest}
+use Rattle.prettyless_model.specs.declared.choice.NestingTest.{NestingTest}
 
 -- a document
 pub data Tree : Type 0 where
@@ -22,6 +24,8 @@ pub data Tree : Type 0 where
   Group : Tree → Tree
   Union : Tree → Tree → Tree
   PartialUnion : Tree → Tree → Tree
+  OnColumn : ColumnTest → Tree → Tree → Tree
+  OnNesting : NestingTest → Tree → Tree → Tree
 
 -- how many nodes a tree has; a subtree that is in several places counts each time
 abbrev pub size : Tree → ℕ
@@ -35,6 +39,8 @@ size (BreakOrFlat b f) = size b + size f + 1
 size (Group d) = size d + 1
 size (Union l r) = size l + size r + 1
 size (PartialUnion l r) = size l + size r + 1
+size (OnColumn test y n) = size y + size n + 1
+size (OnNesting test y n) = size y + size n + 1
 size _ = 1
 
 -- how many nodes of a tree ask the probe: its groups and its partial unions
@@ -49,4 +55,6 @@ probed (BreakOrFlat b f) = probed b + probed f
 probed (Group d) = probed d + 1
 probed (Union l r) = probed l + probed r
 probed (PartialUnion l r) = probed l + probed r + 1
+probed (OnColumn test y n) = probed y + probed n
+probed (OnNesting test y n) = probed y + probed n
 probed _ = 0

@@ -1,10 +1,12 @@
 //! Layouts of small documents, as the definitions alone compute them. The functions do nothing: their contracts speak.
 
 ghost use Rattle.std.specs.Prelude.{◌≡◌, ◌^◌, ◌-◌, ◌++◌, List, ◌∷◌, [], ℕ, pos, negsuc, codes};
-ghost use Rattle.prettyless_model.specs.Tree.{Nil, Fail, Text, TextWithLen, MultilineText, WeakSpace, HardLine, WeakLine, Append, LineSuffix, Nest, DedentToRoot, Align, ExpandParent, Flatten, BreakOrFlat, Group, Union, PartialUnion, probed, size};
+ghost use Rattle.prettyless_model.specs.declared.choice.ColumnTest.TheVariants as by_column;
+ghost use Rattle.prettyless_model.specs.declared.choice.NestingTest.TheVariants as by_nesting;
+ghost use Rattle.prettyless_model.specs.Tree.{Nil, Fail, Text, TextWithLen, MultilineText, WeakSpace, HardLine, WeakLine, Append, LineSuffix, Nest, DedentToRoot, Align, ExpandParent, Flatten, BreakOrFlat, Group, Union, PartialUnion, OnNesting, probed, size};
 ghost use Rattle.prettyless_model.specs.Layout.{layout, Whole};
 ghost use Rattle.prettyless_model.specs.Spelling.{ink, parts, spells};
-ghost use Rattle.prettyless_model.specs.Rows.{Counts, Fails, Shows, accent, below, crlf_at, deferred_at, flat_or_failed, in_turn, line, noted, numbers, pair, remarked, tail, text, tight_pair, two_lines};
+ghost use Rattle.prettyless_model.specs.Rows.{Counts, Fails, Shows, accent, at_indent, behind_two, below, binding, crlf_at, deferred_at, flat_or_failed, in_turn, letter, letter_in_group, line, not_at_indent, noted, numbers, pair, remarked, tail, text, tight_pair, two_lines};
 
 /// A group is laid on one line where it fits, and is broken where it does not.
 pub fn groups()
@@ -135,6 +137,24 @@ pub fn alternatives()
         ≡ Whole (codes "z\r\nw") }
 {}
 
+/// A choice by column looks at where the next content would begin, one by nesting at the indent, in both modes. A probe
+/// takes the document that the layout takes.
+pub fn choices()
+    ensures hung_on_one_line { Shows 70 binding (codes "let x = \\y -> y") }
+    ensures hung_on_two_lines { Shows 14 binding (codes "let x = \\y ->\n  y") }
+    ensures hung_on_three_lines { Shows 8 binding (codes "let x =\n  \\y ->\n    y") }
+    ensures nested { Shows 5 behind_two (codes "abc d") }
+    ensures nested_in_break { Shows 4 behind_two (codes "abc\n  d") }
+    ensures at_most { Shows 80 (Append (text "prefix ") (letter (by_column.AtMost 7) "a" "b")) (codes "prefix a") }
+    ensures past { Shows 80 (Append (text "prefix ") (letter (by_column.AtMost 6) "a" "b")) (codes "prefix b") }
+    ensures behind_space { Shows 80 (in_turn (text "a") (WeakSpace ∷ letter (by_column.AtLeast 2) "b" "c" ∷ [])) (codes "a b") }
+    ensures not_taken { Shows 80 not_at_indent (codes "ab") }
+    ensures taken { Fails 80 (Nest (pos 1) not_at_indent) (codes "a") }
+    ensures indented { Shows 80 at_indent (codes "\n  x") }
+    ensures indented_later { layout (deferred_at 80) at_indent ≡ Whole (codes "\n  x") }
+    ensures in_group { Shows 80 letter_in_group (codes "a c") }
+{}
+
 /// A document fails after what is before the node that fails. A branch that fails is not kept, and what is not laid does
 /// not fail.
 pub fn failures()
@@ -154,6 +174,8 @@ pub fn contents()
     ensures parted { parts remarked (codes "ab") (codes "//1//2") }
     ensures written { ink (codes "a // 1\nb // 2") ≡ codes "a//1b//2" }
     ensures by_every_choice { spells (Union (text "a b") (text "ab")) (codes "ab") }
+    ensures by_every_test { spells (letter by_column.IsNesting "a b" "ab") (codes "ab") }
+    ensures by_one_test { (w : List ℕ) → spells (OnNesting (by_nesting.AtMost 0) (text "a") (text "b")) w → ⊥ }
     ensures by_no_word { (w : List ℕ) → spells (Union (text "a") (text "b")) w → ⊥ }
 {}
 
@@ -167,6 +189,9 @@ pub fn counts()
     ensures group_breaks { Counts 2 (pair "a" "b") 7 1 }
     ensures flat_group { Counts 80 (Flatten (pair "a" "b")) 8 0 }
     ensures partial { Counts 80 (PartialUnion (text "a") Nil) 2 1 }
+
+    ensures letter_nodes { size letter_in_group ≡ 10 }
+    ensures letter { Counts 80 letter_in_group 8 1 }
 
     // A kept branch counts, and a rejected one does not.
     ensures kept { Counts 80 (Union (Group (two_lines "a" "b")) Nil) 7 1 }

@@ -1,6 +1,6 @@
 -- The pointers of a node.
 use Rattle.prettyless_doc.specs.declared.doc.Doc.{Doc}
-use Rattle.prettyless_doc.specs.declared.doc.Doc.TheVariants.{Nil, Fail, Text, TextWithLen, MultilineText, WeakSpace, HardLine, WeakLine, Append, LineSuffix, Nest, DedentToRoot, Align, ExpandParent, Flatten, BreakOrFlat, Group, Union, PartialUnion}
+use Rattle.prettyless_doc.specs.declared.doc.Doc.TheVariants.{Nil, Fail, Text, TextWithLen, MultilineText, WeakSpace, HardLine, WeakLine, Append, LineSuffix, Nest, DedentToRoot, Align, ExpandParent, Flatten, BreakOrFlat, Group, Union, PartialUnion, OnColumn, OnNesting}
 use Rattle.prettyless_pointers.specs.declared.children.Children.{Children}
 use Rattle.prettyless_pointers.specs.declared.children.Children.TheVariants.{None, One, Two}
 
@@ -25,3 +25,5 @@ children_of (BreakOrFlat l r) = Two l r
 children_of (Group x) = One x
 children_of (Union l r) = Two l r
 children_of (PartialUnion l r) = Two l r
+children_of (OnColumn test l r) = Two l r
+children_of (OnNesting test l r) = Two l r

@@ -7,7 +7,7 @@ use Rattle.prettyless_pointers.specs.Trees.{box_tree}
 use Rattle.prettyless_pointers.specs.declared.copying.Single.{Single}
 use Rattle.prettyless_pointers.specs.declared.copying.Single.TheVariants.{LineSuffix, Nest, DedentToRoot, Align, Flatten, Group}
 use Rattle.prettyless_pointers.specs.declared.copying.Pair.{Pair}
-use Rattle.prettyless_pointers.specs.declared.copying.Pair.TheVariants.{Append, BreakOrFlat, Union, PartialUnion}
+use Rattle.prettyless_pointers.specs.declared.copying.Pair.TheVariants.{Append, BreakOrFlat, Union, PartialUnion, OnColumn, OnNesting}
 use Rattle.prettyless_pointers.specs.declared.copying.Frame.{Frame}
 use Rattle.prettyless_pointers.specs.declared.copying.Frame.TheVariants.{Around, First, Second}
 use Rattle.prettyless_pointers.specs.declared.copying.Parts.{Parts}
@@ -30,6 +30,8 @@ of_two Append x y = t.Append x y
 of_two BreakOrFlat x y = t.BreakOrFlat x y
 of_two Union x y = t.Union x y
 of_two PartialUnion x y = t.PartialUnion x y
+of_two (OnColumn test) x y = t.OnColumn test x y
+of_two (OnNesting test) x y = t.OnNesting test x y
 
 -- the node of a frame, where what it waits for is copied as x
 abbrev pub filled : Frame → Tree → Tree

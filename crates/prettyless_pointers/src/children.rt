@@ -33,6 +33,8 @@ pub(crate) fn into_children<'a, T>(doc: Doc<'a, T>) -> Children<T>
         Doc::Append(first, second)
         | Doc::BreakOrFlat(first, second)
         | Doc::Union(first, second)
-        | Doc::PartialUnion(first, second) => Children::Two(first, second),
+        | Doc::PartialUnion(first, second)
+        | Doc::OnColumn(_, first, second)
+        | Doc::OnNesting(_, first, second) => Children::Two(first, second),
     }
 }

@@ -9,6 +9,7 @@ ghost use Rattle.prettyless_pointers.specs.Trees.{box_tree};
 
 use crate::boxes::BoxDoc;
 use prettyless_doc::{BuildError, Doc, DocPtr};
+use prettyless_model::choice::{ColumnTest, NestingTest};
 use std::alloc::Global;
 
 // The kinds of node that hold one document.
@@ -44,6 +45,8 @@ pub(crate) enum Pair {
     BreakOrFlat,
     Union,
     PartialUnion,
+    OnColumn(ColumnTest),
+    OnNesting(NestingTest),
 }
 
 impl Pair {
@@ -56,6 +59,8 @@ impl Pair {
             Pair::BreakOrFlat => Doc::BreakOrFlat(first, second),
             Pair::Union => Doc::Union(first, second),
             Pair::PartialUnion => Doc::PartialUnion(first, second),
+            Pair::OnColumn(test) => Doc::OnColumn(test, first, second),
+            Pair::OnNesting(test) => Doc::OnNesting(test, first, second),
         }
     }
 }
@@ -135,6 +140,8 @@ fn parts_of<'d, 'a>(
         Doc::Group(inner) => Parts::One(Single::Group, inner),
         Doc::Union(first, second) => Parts::Two(Pair::Union, first, second),
         Doc::PartialUnion(first, second) => Parts::Two(Pair::PartialUnion, first, second),
+        Doc::OnColumn(test, first, second) => Parts::Two(Pair::OnColumn(*test), first, second),
+        Doc::OnNesting(test, first, second) => Parts::Two(Pair::OnNesting(*test), first, second),
     })
 }
 

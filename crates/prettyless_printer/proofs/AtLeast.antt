@@ -6,11 +6,12 @@ use Rattle.prettyless_sink.specs.Sink.{rise}
 use Rattle.prettyless_model.specs.Spaces.{spaces}
 use Rattle.prettyless_model.specs.declared.options.RenderOptions.{RenderOptions}
 use Rattle.prettyless_sink.specs.declared.visits.Visits.{Visits}
-use Rattle.prettyless_model.specs.Tree.{Tree, Nil, Fail, Text, TextWithLen, MultilineText, WeakSpace, HardLine, WeakLine, Append, LineSuffix, Nest, DedentToRoot, Align, ExpandParent, Flatten, BreakOrFlat, Group, Union, PartialUnion}
+use Rattle.prettyless_model.specs.Tree.{Tree, Nil, Fail, Text, TextWithLen, MultilineText, WeakSpace, HardLine, WeakLine, Append, LineSuffix, Nest, DedentToRoot, Align, ExpandParent, Flatten, BreakOrFlat, Group, Union, PartialUnion, OnColumn, OnNesting}
+use Rattle.prettyless_model.specs.Choice.{column_holds, nesting_holds}
 use Rattle.prettyless_model.specs.Metrics.{metrics}
-use Rattle.prettyless_model.specs.Column.{gap, prospective, padding_fits}
-use Rattle.prettyless_model.specs.Reading.{by_mode}
-use Rattle.prettyless_model.specs.Layout.{State, Outcome, Done, Failed, Entry, after_bytes, and_then, accept, lay, lay_each, lay_text, lay_payload, payload_fits, behind_payload, nested, probe, some_pending, tried, initial, flushed, entry, entries, plain_break, break_with}
+use Rattle.prettyless_model.specs.Column.{gap, prospective, padding_fits, nested}
+use Rattle.prettyless_model.specs.Look.{by_mode}
+use Rattle.prettyless_model.specs.Layout.{State, Outcome, Done, Failed, Entry, after_bytes, and_then, accept, lay, lay_each, lay_text, lay_payload, payload_fits, behind_payload, probe, some_pending, tried, initial, flushed, entry, entries, plain_break, break_with}
 use Rattle.prettyless_model.specs.Levels.{settle}
 use Rattle.prettyless_model.specs.Counts.{Weight, each_node, each_probe, counted_then, counted_accept, tally}
 use Rattle.prettyless_model.proofs.Levels.{settle_fixed}
@@ -106,12 +107,12 @@ break_counts o n (p ∷ ps) d i m ts st w self l e =
     omega (arith, a, b, c, x)
 
 -- one of two nodes
-either_counts : (o : RenderOptions) (n : ℕ) (l r : Tree) (i : ℕ) (ts : List Task) (st : State) (w : Weight) (self : ℕ) (v : Bool) → n ≤ length ts →
-    self + (if v then tally o l i Break (follow ts) st w else tally o r i Break (follow ts) st w)
-    + counted_then (if v then lay o (settle o) l i Break (follow ts) st else lay o (settle o) r i Break (follow ts) st) (λ u. tally_above o n ts u w)
-    ≤ self + tally_above o n (make_task i Break (if v then l else r) ∷ ts) st w
-either_counts o n l r i ts st w self true h = omega (arith, above_is o n (make_task i Break l) ts st w h)
-either_counts o n l r i ts st w self false h = omega (arith, above_is o n (make_task i Break r) ts st w h)
+either_counts : (o : RenderOptions) (n : ℕ) (l r : Tree) (i : ℕ) (m : Mode) (ts : List Task) (st : State) (w : Weight) (self : ℕ) (v : Bool) → n ≤ length ts →
+    self + (if v then tally o l i m (follow ts) st w else tally o r i m (follow ts) st w)
+    + counted_then (if v then lay o (settle o) l i m (follow ts) st else lay o (settle o) r i m (follow ts) st) (λ u. tally_above o n ts u w)
+    ≤ self + tally_above o n (make_task i m (if v then l else r) ∷ ts) st w
+either_counts o n l r i m ts st w self true h = omega (arith, above_is o n (make_task i m l) ts st w h)
+either_counts o n l r i m ts st w self false h = omega (arith, above_is o n (make_task i m r) ts st w h)
 
 -- a payload as the first branch counts where its metrics say so
 payload_counts : (o : RenderOptions) (b : List ℕ) (st : State) (x y : ℕ) (v : Bool) → v ≡ payload_fits o (metrics b) st.column →
@@ -131,7 +132,7 @@ union_counts o n (MultilineText s) r i ts st w self h =
     let next : State → ℕ = λ u. tally_above o n ts u w in
     let a = payload_counts o s st (w (MultilineText s) Break) (tally o r i Break (follow ts) st w) v refl in
     let b = ap (λ (z : Outcome). counted_then z next) (payload_branch o (metrics s) s st (lay o (settle o) r i Break (follow ts) st) v refl) in
-    omega (arith, a, b, either_counts o n (MultilineText s) r i ts st w self v h)
+    omega (arith, a, b, either_counts o n (MultilineText s) r i Break ts st w self v h)
 union_counts o n _ r i ts st w self h = omega arith
 
 -- After a step no less is left to count, but for what its node counts.
@@ -167,13 +168,17 @@ step_counts o n (Flatten d) i m ts st w h = omega (arith, above_is o n (make_tas
 step_counts o n (BreakOrFlat b f) i Break ts st w h = omega (arith, above_is o n (make_task i Break b) ts st w h)
 step_counts o n (BreakOrFlat b f) i Flat ts st w h = omega (arith, above_is o n (make_task i Flat f) ts st w h)
 step_counts o n (Group d) i m ts st w h =
-    omega (arith, above_is o n (make_task i (by_mode m (if probe o d Flat (follow ts) st then Flat else Break) Flat) d) ts st w h)
+    omega (arith, above_is o n (make_task i (by_mode m (if probe o d i Flat (follow ts) st then Flat else Break) Flat) d) ts st w h)
 step_counts o n (Union l r) i Break ts st w h =
     subst (λ (z : ℕ). StepCounts o n ts st w z (w (Union l r) Break) (union_step (decided_by_metrics o l st) l r i st)) (omega arith) (union_counts o n l r i ts st w (w (Union l r) Break) h)
 step_counts o n (Union l r) i Flat ts st w h = omega (arith, above_is o n (make_task i Flat l) ts st w h)
 step_counts o n (PartialUnion l r) i Break ts st w h =
-    omega (arith, either_counts o n l r i ts st w (w (PartialUnion l r) Break) (probe o l Break (follow ts) st) h)
+    omega (arith, either_counts o n l r i Break ts st w (w (PartialUnion l r) Break) (probe o l i Break (follow ts) st) h)
 step_counts o n (PartialUnion l r) i Flat ts st w h = omega (arith, above_is o n (make_task i Flat l) ts st w h)
+step_counts o n (OnColumn test l r) i m ts st w h =
+    omega (arith, either_counts o n l r i m ts st w (w (OnColumn test l r) m) (column_holds test (prospective st.column) i) h)
+step_counts o n (OnNesting test l r) i m ts st w h =
+    omega (arith, either_counts o n l r i m ts st w (w (OnNesting test l r) m) (nesting_holds test i) h)
 
 pub at_least_same : (a : Weight → ℕ) (v : Visits) → CountsAtLeast a a v v
 at_least_same a v = record { printer = omega arith; probes = omega arith }

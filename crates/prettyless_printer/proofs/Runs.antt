@@ -4,12 +4,13 @@ use Rattle.prettyless_model.specs.Spaces.{spaces}
 use Rattle.prettyless_model.specs.declared.options.RenderOptions.{RenderOptions}
 use Rattle.prettyless_model.specs.declared.options.IndentationPolicy.{IndentationPolicy}
 use Rattle.prettyless_model.specs.declared.options.IndentationPolicy.TheVariants.{Eager, Deferred}
-use Rattle.prettyless_model.specs.Tree.{Tree, Nil, Fail, Text, TextWithLen, MultilineText, WeakSpace, HardLine, WeakLine, Append, LineSuffix, Nest, DedentToRoot, Align, ExpandParent, Flatten, BreakOrFlat, Group, Union, PartialUnion}
+use Rattle.prettyless_model.specs.Tree.{Tree, Nil, Fail, Text, TextWithLen, MultilineText, WeakSpace, HardLine, WeakLine, Append, LineSuffix, Nest, DedentToRoot, Align, ExpandParent, Flatten, BreakOrFlat, Group, Union, PartialUnion, OnColumn, OnNesting}
+use Rattle.prettyless_model.specs.Choice.{column_holds, nesting_holds}
 use Rattle.prettyless_model.specs.Metrics.{metrics}
-use Rattle.prettyless_model.specs.Column.{gap, prospective, start, commit, padding_fits}
+use Rattle.prettyless_model.specs.Column.{gap, prospective, start, commit, padding_fits, nested}
 use Rattle.prettyless_model.specs.declared.metrics.Metrics.{Metrics}
-use Rattle.prettyless_model.specs.Reading.{by_mode}
-use Rattle.prettyless_model.specs.Layout.{State, Outcome, Done, Failed, Entry, Breaks, after_bytes, and_then, lay, lay_each, lay_text, lay_payload, payload_fits, behind_payload, lay_ending, nested, probe, some_pending, accept, tried, flushed, entry, entries, next_indent, is_suppressed, plain_break, break_with}
+use Rattle.prettyless_model.specs.Look.{by_mode}
+use Rattle.prettyless_model.specs.Layout.{State, Outcome, Done, Failed, Entry, Breaks, after_bytes, and_then, lay, lay_each, lay_text, lay_payload, payload_fits, behind_payload, lay_ending, probe, some_pending, accept, tried, flushed, entry, entries, next_indent, is_suppressed, plain_break, break_with}
 use Rattle.prettyless_model.proofs.Outcomes.{after-nil, then-after, then-then}
 use Rattle.prettyless_model.proofs.Levels.{Fixed}
 use Rattle.prettyless_model.specs.declared.mode.Mode.{Mode}
@@ -82,13 +83,13 @@ break_runs o brk (p ∷ ps) d i m ts outer st e =
 moved : (o : RenderOptions) (brk : Breaks) (ts : List Task) (outer : List Entry) (st : State) → lay_all o brk ts outer st ≡ after_bytes [] (lay_all o brk ts outer st)
 moved o brk ts outer st = sym (after-nil (lay_all o brk ts outer st))
 
--- one of two nodes in Break, alone on the tasks after it
-partial_runs : (o : RenderOptions) (brk : Breaks) (l r : Tree) (i : ℕ) (ts : List Task) (outer : List Entry) (st : State) (v : Bool) →
-    and_then (if v then lay o brk l i Break (follow ts ++ outer) st else lay o brk r i Break (follow ts ++ outer) st) (λ u. lay_all o brk ts outer u)
-    ≡ after_bytes [] (lay_all o brk (make_task i Break (if v then l else r) ∷ ts) outer st)
+-- one of two nodes, alone on the tasks after it
+either_runs : (o : RenderOptions) (brk : Breaks) (l r : Tree) (i : ℕ) (m : Mode) (ts : List Task) (outer : List Entry) (st : State) (v : Bool) →
+    and_then (if v then lay o brk l i m (follow ts ++ outer) st else lay o brk r i m (follow ts ++ outer) st) (λ u. lay_all o brk ts outer u)
+    ≡ after_bytes [] (lay_all o brk (make_task i m (if v then l else r) ∷ ts) outer st)
 unfolding lay_all
-partial_runs o brk l r i ts outer st true = moved o brk (make_task i Break l ∷ ts) outer st
-partial_runs o brk l r i ts outer st false = moved o brk (make_task i Break r ∷ ts) outer st
+either_runs o brk l r i m ts outer st true = moved o brk (make_task i m l ∷ ts) outer st
+either_runs o brk l r i m ts outer st false = moved o brk (make_task i m r ∷ ts) outer st
 
 -- the flag after a payload that fits
 flag-and : (v : Bool) → v ≡ v && true
@@ -122,7 +123,7 @@ unfolding lay lay_all
 union_runs o brk (MultilineText s) r i ts outer st =
     ap (λ (x : Outcome). and_then x (λ u. lay_all o brk ts outer u))
     (payload_branch o (metrics s) s st (lay o brk r i Break (follow ts ++ outer) st) (payload_fits o (metrics s) st.column) refl)
-    ∙ partial_runs o brk (MultilineText s) r i ts outer st (payload_fits o (metrics s) st.column)
+    ∙ either_runs o brk (MultilineText s) r i Break ts outer st (payload_fits o (metrics s) st.column)
 union_runs o brk _ r i ts outer st = refl
 
 -- a node and the tasks after it lay what its step and they lay
@@ -155,9 +156,11 @@ step_runs o brk fixed (Flatten d) i m ts outer st = moved o brk (make_task i Fla
 step_runs o brk fixed (BreakOrFlat b f) i Break ts outer st = moved o brk (make_task i Break b ∷ ts) outer st
 step_runs o brk fixed (BreakOrFlat b f) i Flat ts outer st = moved o brk (make_task i Flat f ∷ ts) outer st
 step_runs o brk fixed (Group d) i m ts outer st =
-    moved o brk (make_task i (by_mode m (if probe o d Flat (follow ts ++ outer) st then Flat else Break) Flat) d ∷ ts) outer st
+    moved o brk (make_task i (by_mode m (if probe o d i Flat (follow ts ++ outer) st then Flat else Break) Flat) d ∷ ts) outer st
 step_runs o brk fixed (Union l r) i Break ts outer st = union_runs o brk l r i ts outer st
 step_runs o brk fixed (Union l r) i Flat ts outer st = moved o brk (make_task i Flat l ∷ ts) outer st
 step_runs o brk fixed (PartialUnion l r) i Break ts outer st =
-    partial_runs o brk l r i ts outer st (probe o l Break (follow ts ++ outer) st)
+    either_runs o brk l r i Break ts outer st (probe o l i Break (follow ts ++ outer) st)
 step_runs o brk fixed (PartialUnion l r) i Flat ts outer st = moved o brk (make_task i Flat l ∷ ts) outer st
+step_runs o brk fixed (OnColumn test l r) i m ts outer st = either_runs o brk l r i m ts outer st (column_holds test (prospective st.column) i)
+step_runs o brk fixed (OnNesting test l r) i m ts outer st = either_runs o brk l r i m ts outer st (nesting_holds test i)

@@ -3,7 +3,9 @@ use Rattle.std.proofs.Common.{◌≡◌, ℕ, ◌+◌, ◌-◌, ◌*◌, ◌<◌
 use Rattle.prettyless_model.specs.declared.options.RenderOptions.{RenderOptions}
 use Rattle.prettyless_model.specs.declared.options.IndentationPolicy.{IndentationPolicy}
 use Rattle.prettyless_model.specs.declared.options.IndentationPolicy.TheVariants.{Eager, Deferred}
-use Rattle.prettyless_model.specs.Tree.{Tree, Nil, Fail, Text, TextWithLen, MultilineText, WeakSpace, HardLine, WeakLine, Append, LineSuffix, Nest, DedentToRoot, Align, ExpandParent, Flatten, BreakOrFlat, Group, Union, PartialUnion, size}
+use Rattle.prettyless_model.specs.Tree.{Tree, Nil, Fail, Text, TextWithLen, MultilineText, WeakSpace, HardLine, WeakLine, Append, LineSuffix, Nest, DedentToRoot, Align, ExpandParent, Flatten, BreakOrFlat, Group, Union, PartialUnion, OnColumn, OnNesting, size}
+use Rattle.prettyless_model.specs.Choice.{column_holds, nesting_holds}
+use Rattle.prettyless_model.specs.Column.{prospective}
 use Rattle.prettyless_model.specs.Metrics.{metrics}
 use Rattle.prettyless_model.specs.Layout.{State, Done, Entry, lay_text, lay_ending, next_indent, is_suppressed, plain_break, payload_fits, probe}
 use Rattle.prettyless_model.specs.declared.mode.Mode.{Mode}
@@ -75,8 +77,10 @@ step_less o (BreakOrFlat b f) i Flat rest st = omega arith
 step_less o (Group d) i m rest st = omega arith
 step_less o (Union l r) i Break rest st = union_less l r i st (decided_by_metrics o l st)
 step_less o (Union l r) i Flat rest st = omega arith
-step_less o (PartialUnion l r) i Break rest st = omega (arith, either_less l r (2 * size l + 2 * size r + 1) (probe o l Break rest st) (omega arith))
+step_less o (PartialUnion l r) i Break rest st = omega (arith, either_less l r (2 * size l + 2 * size r + 1) (probe o l i Break rest st) (omega arith))
 step_less o (PartialUnion l r) i Flat rest st = omega arith
+step_less o (OnColumn test l r) i m rest st = omega (arith, either_less l r (2 * size l + 2 * size r + 1) (column_holds test (prospective st.column) i) (omega arith))
+step_less o (OnNesting test l r) i m rest st = omega (arith, either_less l r (2 * size l + 2 * size r + 1) (nesting_holds test i) (omega arith))
 
 -- how many visits a step adds to that of its node: one where it rejects a payload
 abbrev pub extra : Bool → ℕ

@@ -6,8 +6,10 @@ use Rattle.prettyless_model.specs.declared.options.IndentationPolicy.{Indentatio
 use Rattle.prettyless_model.specs.declared.options.IndentationPolicy.TheVariants.{Eager, Deferred}
 use Rattle.prettyless_sink.specs.Sink.{rise}
 use Rattle.prettyless_sink.specs.declared.visits.Visits.{Visits}
-use Rattle.prettyless_model.specs.Tree.{Tree, Nil, Fail, Text, TextWithLen, MultilineText, WeakSpace, HardLine, WeakLine, Append, LineSuffix, Nest, DedentToRoot, Align, ExpandParent, Flatten, BreakOrFlat, Group, Union, PartialUnion, size, probed}
+use Rattle.prettyless_model.specs.Tree.{Tree, Nil, Fail, Text, TextWithLen, MultilineText, WeakSpace, HardLine, WeakLine, Append, LineSuffix, Nest, DedentToRoot, Align, ExpandParent, Flatten, BreakOrFlat, Group, Union, PartialUnion, OnColumn, OnNesting, size, probed}
 use Rattle.prettyless_model.specs.Content.{suffix_depth}
+use Rattle.prettyless_model.specs.Choice.{column_holds, nesting_holds}
+use Rattle.prettyless_model.specs.Column.{prospective}
 use Rattle.prettyless_model.specs.Layout.{State, Done, Entry, lay_text, lay_ending, next_indent, is_suppressed, plain_break, probe}
 use Rattle.prettyless_model.specs.declared.mode.Mode.{Mode}
 use Rattle.prettyless_model.specs.declared.mode.Mode.TheVariants.{Break, Flat}
@@ -57,6 +59,8 @@ asked_at_most (BreakOrFlat b f) k n h = omega arith
 asked_at_most (Group d) k n h = omega arith
 asked_at_most (Union l r) k n h = omega arith
 asked_at_most (PartialUnion l r) k n h = omega arith
+asked_at_most (OnColumn test l r) k n h = omega arith
+asked_at_most (OnNesting test l r) k n h = omega arith
 
 -- a step of a node that asked for a, in what a node may ask for
 abbrev StepAtMost : ℕ → ℕ → ℕ → Step → Type 0
@@ -113,8 +117,10 @@ step_at_most o (BreakOrFlat b f) i Flat rest st n k z h l = (omega arith, h, ome
 step_at_most o (Group d) i m rest st n k z h l = (omega arith, h, omega arith)
 step_at_most o (Union a b) i Break rest st n k z h l = union_at_most a b i st n (n * (probed a + probed b)) (decided_by_metrics o a st) (omega arith) (omega arith) h (omega arith)
 step_at_most o (Union a b) i Flat rest st n k z h l = (omega arith, h, omega arith)
-step_at_most o (PartialUnion a b) i Break rest st n k z h l = either_at_most a b i Break st n (size a + k) (n * (probed a + probed b + 1)) (probe o a Break rest st) (omega arith) (omega arith) h (omega arith)
+step_at_most o (PartialUnion a b) i Break rest st n k z h l = either_at_most a b i Break st n (size a + k) (n * (probed a + probed b + 1)) (probe o a i Break rest st) (omega arith) (omega arith) h (omega arith)
 step_at_most o (PartialUnion a b) i Flat rest st n k z h l = (omega arith, h, omega arith)
+step_at_most o (OnColumn test a b) i m rest st n k z h l = either_at_most a b i m st n 0 (n * (probed a + probed b)) (column_holds test (prospective st.column) i) (omega arith) (omega arith) h (omega arith)
+step_at_most o (OnNesting test a b) i m rest st n k z h l = either_at_most a b i m st n 0 (n * (probed a + probed b)) (nesting_holds test i) (omega arith) (omega arith) h (omega arith)
 
 suffixes-append : (ts us : List Task) → suffixes (ts ++ us) ≡ suffixes ts + suffixes us
 suffixes-append [] us = omega arith

@@ -4,11 +4,12 @@ use Rattle.prettyless_model.specs.Spaces.{spaces}
 use Rattle.prettyless_model.specs.declared.options.RenderOptions.{RenderOptions}
 use Rattle.prettyless_model.specs.declared.options.IndentationPolicy.{IndentationPolicy}
 use Rattle.prettyless_model.specs.declared.options.IndentationPolicy.TheVariants.{Eager, Deferred}
-use Rattle.prettyless_model.specs.Tree.{Tree, Nil, Fail, Text, TextWithLen, MultilineText, WeakSpace, HardLine, WeakLine, Append, LineSuffix, Nest, DedentToRoot, Align, ExpandParent, Flatten, BreakOrFlat, Group, Union, PartialUnion}
+use Rattle.prettyless_model.specs.Tree.{Tree, Nil, Fail, Text, TextWithLen, MultilineText, WeakSpace, HardLine, WeakLine, Append, LineSuffix, Nest, DedentToRoot, Align, ExpandParent, Flatten, BreakOrFlat, Group, Union, PartialUnion, OnColumn, OnNesting}
 use Rattle.prettyless_model.specs.Metrics.{metrics}
-use Rattle.prettyless_model.specs.Column.{gap, commit, prospective, padding_fits}
-use Rattle.prettyless_model.specs.Reading.{by_mode}
-use Rattle.prettyless_model.specs.Layout.{State, Outcome, Done, Failed, Entry, Breaks, after_bytes, and_then, lay, lay_each, lay_text, lay_ending, payload_fits, nested, probe, some_pending, accept, tried, is_suppressed, flushed, entry, entries, next_indent, break_with, breaks}
+use Rattle.prettyless_model.specs.Choice.{column_holds, nesting_holds}
+use Rattle.prettyless_model.specs.Column.{gap, commit, prospective, padding_fits, nested}
+use Rattle.prettyless_model.specs.Look.{by_mode}
+use Rattle.prettyless_model.specs.Layout.{State, Outcome, Done, Failed, Entry, Breaks, after_bytes, and_then, lay, lay_each, lay_text, lay_ending, payload_fits, probe, some_pending, accept, tried, is_suppressed, flushed, entry, entries, next_indent, break_with, breaks}
 use Rattle.prettyless_model.specs.Levels.{settle, queued}
 use Rattle.prettyless_model.specs.declared.mode.Mode.{Mode}
 use Rattle.prettyless_model.specs.declared.mode.Mode.TheVariants.{Break, Flat}
@@ -71,13 +72,17 @@ lay_past o brk k ExpandParent i m rest st h = h
 lay_past o brk k (Flatten d) i m rest st h = lay_past o brk k d i Flat rest st h
 lay_past o brk k (BreakOrFlat b f) i Break rest st h = lay_past o brk k b i Break rest st h
 lay_past o brk k (BreakOrFlat b f) i Flat rest st h = lay_past o brk k f i Flat rest st h
-lay_past o brk k (Group d) i m rest st h = lay_past o brk k d i (by_mode m (if probe o d Flat rest st then Flat else Break) Flat) rest st h
+lay_past o brk k (Group d) i m rest st h = lay_past o brk k d i (by_mode m (if probe o d i Flat rest st then Flat else Break) Flat) rest st h
 lay_past o brk k (Union l r) i Break rest st h =
     past-accept o st.within (lay o brk l i Break rest (tried st)) (lay o brk r i Break rest st) h (lay_past o brk k r i Break rest st h)
 lay_past o brk k (Union l r) i Flat rest st h = lay_past o brk k l i Flat rest st h
 lay_past o brk k (PartialUnion l r) i Break rest st h =
-    past-either (probe o l Break rest st) (lay o brk l i Break rest st) (lay o brk r i Break rest st) (lay_past o brk k l i Break rest st h) (lay_past o brk k r i Break rest st h)
+    past-either (probe o l i Break rest st) (lay o brk l i Break rest st) (lay o brk r i Break rest st) (lay_past o brk k l i Break rest st h) (lay_past o brk k r i Break rest st h)
 lay_past o brk k (PartialUnion l r) i Flat rest st h = lay_past o brk k l i Flat rest st h
+lay_past o brk k (OnColumn test l r) i m rest st h =
+    past-either (column_holds test (prospective st.column) i) (lay o brk l i m rest st) (lay o brk r i m rest st) (lay_past o brk k l i m rest st h) (lay_past o brk k r i m rest st h)
+lay_past o brk k (OnNesting test l r) i m rest st h =
+    past-either (nesting_holds test i) (lay o brk l i m rest st) (lay o brk r i m rest st) (lay_past o brk k l i m rest st h) (lay_past o brk k r i m rest st h)
 
 each_past : (o : RenderOptions) (brk : Breaks) → StaysPast brk → (ds : List Tree) (i : ℕ) (m : Mode) (rest : List Entry) (st : State) → st.within ≡ false → Past (lay_each o brk ds i m rest st)
 unfolding lay_each

@@ -2,11 +2,9 @@
 use Rattle.std.proofs.Common.{◌≡◌, ℕ, ◌+◌, ◌-◌, ◌<◌, ◌≤◌, List, [], ◌∷◌, ◌++◌, length, refl, ap, sym, ◌∙◌, append_assoc, append-nil, arith, take, drop, get_or, length-append, length-drop}
 use Rattle.std.proofs.lemmas.List.{map-append, take_all, take_more, drop_at, take-append-drop}
 use Rattle.prettyless_model.specs.Tree.{Tree}
-use Rattle.prettyless_model.specs.Reading.{Atom}
 use Rattle.prettyless_model.specs.Layout.{entry, next_indent}
-use Rattle.prettyless_step.specs.Stack.{Task, downwards, make_task, task, stack_of, unread, unread_task, follow, nodes}
+use Rattle.prettyless_step.specs.Stack.{Task, downwards, task, stack_of, follow, nodes}
 use Rattle.prettyless_step.specs.declared.command.Command.{Command}
-use Rattle.prettyless_step.specs.declared.unread.Unread.{Unread}
 
 -- an item that is added at the end is the first task
 downwards_push : {A : Type 0} (g : A → Task) (xs : List A) (x : A) → downwards g (xs ++ x ∷ []) ≡ g x ∷ downwards g xs
@@ -15,13 +13,6 @@ downwards_push g (y ∷ xs) x = ap (λ (z : List Task). z ++ g y ∷ []) (downwa
 
 pub stack_of_push : {N : Type 0} (f : N → Tree) (cs : List (Command N)) (c : Command N) → stack_of f (cs ++ c ∷ []) ≡ task f c ∷ stack_of f cs
 stack_of_push f cs c = downwards_push (task f) cs c
-
-pub unread_push : {N : Type 0} (f : N → Tree) (rs : List (Unread N)) (r : Unread N) → unread f (rs ++ r ∷ []) ≡ make_task 0 r.mode (f r.node) ∷ unread f rs
-unread_push f rs r = downwards_push (unread_task f) rs r
-
--- two readings, before more
-pub reading_more : (xs ys zs ws : List Atom) → (xs ++ ys) ++ (zs ++ ws) ≡ (xs ++ (ys ++ zs)) ++ ws
-reading_more xs ys zs ws = simp append_assoc
 
 -- the commands below an index, one index lower
 pub stack_of_take : {N : Type 0} (f : N → Tree) (cs : List (Command N)) (i : ℕ) (d : Command N) → i < length cs → stack_of f (take (i + 1) cs) ≡ task f (get_or cs i d) ∷ stack_of f (take i cs)

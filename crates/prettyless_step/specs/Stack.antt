@@ -1,11 +1,13 @@
 -- Lists of work, seen as tasks.
 use Rattle.std.specs.Prelude.{◌≡◌, ℕ, ◌+◌, List, [], ◌∷◌, ◌++◌, map, Option, Some, None, Bool}
 use Rattle.prettyless_model.specs.Tree.{Tree, size}
-use Rattle.prettyless_model.specs.Reading.{Atom, reading}
+use Rattle.prettyless_model.specs.Column.{padding_fits}
+use Rattle.prettyless_model.specs.Look.{answer_of, look}
 use Rattle.prettyless_model.specs.Layout.{Entry, entry}
+use Rattle.prettyless_model.specs.declared.column.Column.{Column}
 use Rattle.prettyless_model.specs.declared.mode.Mode.{Mode}
+use Rattle.prettyless_model.specs.declared.mode.Mode.TheVariants.{Break}
 use Rattle.prettyless_step.specs.declared.command.Command.{Command}
-use Rattle.prettyless_step.specs.declared.unread.Unread.{Unread}
 
 -- a tree to be laid, with its indent and mode
 pub record Task : Type 0 where
@@ -30,14 +32,6 @@ downwards g (x ∷ xs) = downwards g xs ++ g x ∷ []
 abbrev pub stack_of : {N : Type 0} → (N → Tree) → List (Command N) → List Task
 stack_of f = downwards (task f)
 
--- a node that is still to be read as a task
-abbrev pub unread_task : {N : Type 0} → (N → Tree) → Unread N → Task
-unread_task f r = make_task 0 r.mode (f r.node)
-
--- the tasks of a list of nodes that are still to be read, the last node first
-abbrev pub unread : {N : Type 0} → (N → Tree) → List (Unread N) → List Task
-unread f = downwards (unread_task f)
-
 -- the tasks of trees at one indent in one mode
 abbrev pub tasks : ℕ → Mode → List Tree → List Task
 tasks i m = map (make_task i m)
@@ -46,10 +40,14 @@ tasks i m = map (make_task i m)
 abbrev pub follow : List Task → List Entry
 follow = map (λ t. entry t.indent t.tree)
 
--- what a probe reads of tasks, each in its own mode
-abbrev pub read_tasks : List Task → List Atom
-read_tasks [] = []
-read_tasks (t ∷ ts) = reading t.tree t.mode ++ read_tasks ts
+-- the tasks, each in Break
+abbrev pub in_break : List Task → List Task
+in_break = map (λ t. make_task t.indent Break t.tree)
+
+-- whether tasks stay within the width, each at its own indent in its own mode, up to the end of the line
+abbrev pub tasks_fit : ℕ → List Task → Column → Bool → Bool
+tasks_fit width [] c p = padding_fits width p c
+tasks_fit width (t ∷ ts) c p = answer_of (look width t.tree t.indent t.mode c p) (λ e q. tasks_fit width ts e q)
 
 -- how many nodes tasks have
 abbrev pub nodes : List Task → ℕ

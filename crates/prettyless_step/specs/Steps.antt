@@ -6,9 +6,10 @@ use Rattle.prettyless_model.specs.declared.options.RenderOptions.{RenderOptions}
 use Rattle.prettyless_model.specs.Tree as t
 use Rattle.prettyless_model.specs.Tree.{Tree, size}
 use Rattle.prettyless_model.specs.Metrics.{metrics}
-use Rattle.prettyless_model.specs.Column.{gap, prospective, blank}
-use Rattle.prettyless_model.specs.Reading.{by_mode}
-use Rattle.prettyless_model.specs.Layout.{State, Outcome, Done, Failed, Entry, Breaks, after_bytes, and_then, lay, lay_text, lay_payload, payload_fits, plain_break, nested, probe, accept, tried, flushed}
+use Rattle.prettyless_model.specs.Column.{gap, prospective, blank, nested}
+use Rattle.prettyless_model.specs.Choice.{column_holds, nesting_holds}
+use Rattle.prettyless_model.specs.Look.{by_mode}
+use Rattle.prettyless_model.specs.Layout.{State, Outcome, Done, Failed, Entry, Breaks, after_bytes, and_then, lay, lay_text, lay_payload, payload_fits, plain_break, probe, accept, tried, flushed}
 use Rattle.prettyless_model.specs.declared.mode.Mode.{Mode}
 use Rattle.prettyless_model.specs.declared.mode.Mode.TheVariants.{Break, Flat}
 use Rattle.prettyless_step.specs.Stack.{Task, make_task, tasks, follow, nodes}
@@ -78,9 +79,11 @@ step_of o (t.Align d) i m rest st = Move [] (make_task (prospective st.column) m
 step_of o t.ExpandParent i m rest st = Move [] [] st
 step_of o (t.Flatten d) i m rest st = Move [] (make_task i Flat d ∷ []) st
 step_of o (t.BreakOrFlat b f) i m rest st = Move [] (make_task i m (by_mode m b f) ∷ []) st
-step_of o (t.Group d) i m rest st = Move [] (make_task i (by_mode m (if probe o d Flat rest st then Flat else Break) Flat) d ∷ []) st
+step_of o (t.Group d) i m rest st = Move [] (make_task i (by_mode m (if probe o d i Flat rest st then Flat else Break) Flat) d ∷ []) st
 step_of o (t.Union l r) i m rest st = by_mode m (union_step (decided_by_metrics o l st) l r i st) (Move [] (make_task i Flat l ∷ []) st)
-step_of o (t.PartialUnion l r) i m rest st = Move [] (make_task i m (by_mode m (if probe o l Break rest st then l else r) l) ∷ []) st
+step_of o (t.PartialUnion l r) i m rest st = Move [] (make_task i m (by_mode m (if probe o l i Break rest st then l else r) l) ∷ []) st
+step_of o (t.OnColumn test y n) i m rest st = Move [] (make_task i m (if column_holds test (prospective st.column) i then y else n) ∷ []) st
+step_of o (t.OnNesting test y n) i m rest st = Move [] (make_task i m (if nesting_holds test i then y else n) ∷ []) st
 
 -- the outcome of two branches, the first one tried from a state
 abbrev pub chosen : RenderOptions → Breaks → ℕ → Tree → Tree → List Entry → State → Outcome

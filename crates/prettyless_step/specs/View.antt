@@ -4,7 +4,7 @@ use Rattle.prettyless_model.specs.Tree as t
 use Rattle.prettyless_model.specs.Tree.{Tree}
 use Rattle.prettyless_model.specs.Metrics.{metrics}
 use Rattle.prettyless_step.specs.declared.walk.View.{View}
-use Rattle.prettyless_step.specs.declared.walk.View.TheVariants.{Nil, Fail, Text, TextWithLen, MultilineText, WeakSpace, HardLine, WeakLine, Append, LineSuffix, Nest, DedentToRoot, Align, ExpandParent, Flatten, BreakOrFlat, Group, Union, PartialUnion}
+use Rattle.prettyless_step.specs.declared.walk.View.TheVariants.{Nil, Fail, Text, TextWithLen, MultilineText, WeakSpace, HardLine, WeakLine, Append, LineSuffix, Nest, DedentToRoot, Align, ExpandParent, Flatten, BreakOrFlat, Group, Union, PartialUnion, OnColumn, OnNesting}
 
 -- the tree that a view shows, given the trees of the children
 abbrev pub view_tree : {N : Type 0} → (N → Tree) → View N → Tree
@@ -27,6 +27,8 @@ view_tree f (BreakOrFlat b d) = t.BreakOrFlat (f b) (f d)
 view_tree f (Group d) = t.Group (f d)
 view_tree f (Union l r) = t.Union (f l) (f r)
 view_tree f (PartialUnion l r) = t.PartialUnion (f l) (f r)
+view_tree f (OnColumn test y n) = t.OnColumn test (f y) (f n)
+view_tree f (OnNesting test y n) = t.OnNesting test (f y) (f n)
 
 -- the metrics of a payload that a view shows are those of its text
 abbrev pub IsMeasured : {N : Type 0} → View N → Type 0

@@ -1,5 +1,6 @@
 //! One node that is still to be laid.
 ghost use Rattle.std.specs.Prelude.{◌≡◌, ⊤};
+ghost use Rattle.prettyless_model.specs.Column.{nested};
 
 use prettyless_model::mode::Mode;
 use std::alloc::AllocError;
@@ -22,3 +23,11 @@ impl<N: Copy> Clone for Command<N> {
 }
 
 impl<N: Copy> Copy for Command<N> {}
+
+/// An indent that a nesting changes, kept within 0 and the greatest `usize`.
+#[inline(always)]
+pub fn nested_indent(indent: usize, offset: isize) -> usize
+    ensures { result ≡ nested indent offset }
+{
+    indent.saturating_add_signed(offset)
+}

@@ -14,5 +14,4 @@ pub mod probe;
 pub mod queue;
 pub mod stack;
 pub mod step;
-pub mod unread;
 pub mod walk;

@@ -2,7 +2,6 @@
 use crate::command::Command;
 use crate::piece::Piece;
 use crate::queue::Queue;
-use crate::unread::Unread;
 use prettyless_model::column::Column;
 use prettyless_model::options::RenderOptions;
 
@@ -16,7 +15,7 @@ pub struct Printer<N> {
     /// The commands that are left, the next one last.
     pub commands: Vec<Command<N>>,
     /// The probe's own list of work, kept for its memory.
-    pub scratch: Vec<Unread<N>>,
+    pub scratch: Vec<Command<N>>,
     /// The line suffixes that were visited.
     pub queue: Queue<N>,
 }

@@ -1,14 +1,14 @@
 //! The probe: whether a node fits the line with what follows it.
-ghost use Rattle.std.specs.Prelude.{◌≡◌, ◌++◌, ◌∷◌, [], IfOk, OnOk, IfSome, MatchOption, List, false, ◌+◌, ◌<◌, ◌≤◌, ⊤, length, take};
-ghost use Rattle.prettyless_model.specs.Tree.{size};
+ghost use Rattle.std.specs.Prelude.{◌≡◌, ◌++◌, ◌∷◌, [], IfOk, OnOk, IfSome, MatchOption, List, Bool, false, ◌+◌, ◌<◌, ◌≤◌, ℕ, ⊤, length, take, if◌then◌else◌};
+ghost use Rattle.prettyless_model.specs.Tree.{WeakLine, size};
 ghost use Rattle.prettyless_model.specs.Column.{padding_fits};
-ghost use Rattle.prettyless_model.specs.Reading.{Atom, Payload, Stop, Weak, by_mode, fits, ink_of, reading};
-ghost use Rattle.prettyless_model.specs.Layout.{rest_atoms};
+ghost use Rattle.prettyless_model.specs.Look.{answer_of, by_mode, look, look_text, payload_begins};
+ghost use Rattle.prettyless_model.specs.Layout.{rest_fits};
 ghost use Rattle.prettyless_step.specs.Probing.{ReadsAs, RisesBy, nodes_next, read_of};
-ghost use Rattle.prettyless_step.specs.Stack.{AnswersAs, follow, nodes, read_tasks, stack_of, unread};
+ghost use Rattle.prettyless_step.specs.Stack.{AnswersAs, Task, follow, in_break, make_task, nodes, stack_of, task, tasks_fit};
 
-use crate::command::Command;
-use crate::unread::{Unread, pop_unread, push_unread};
+use crate::command::{Command, nested_indent};
+use crate::stack::{pop_command, push_node};
 use crate::walk::{View, Walk};
 use prettyless_model::column::Column;
 use prettyless_model::metrics::Metrics;
@@ -26,9 +26,9 @@ pub struct Line {
 
 // Reads content: an empty text is nothing, another commits the column.
 fn read_content(width: usize, line: &mut Line, counted: usize, text: &str) -> Option<bool>
-    ensures { (more : List Atom) → AnswersAs result
-        (fits width line.old.column line.old.pending (ink_of counted text.now ++ more))
-        (fits width line.new.column line.new.pending more) }
+    ensures { (ts : List Task) → AnswersAs result
+        (answer_of (look_text width counted text.now line.old.column line.old.pending) (λ c p. tasks_fit width ts c p))
+        (tasks_fit width ts line.new.column line.new.pending) }
 {
     if !text.is_empty() {
         line.column = line.column.committed(counted);
@@ -41,8 +41,7 @@ fn read_content(width: usize, line: &mut Line, counted: usize, text: &str) -> Op
 
 // Reads a payload, which ends the line: with its first part, in Break, and not at all when flat.
 fn read_payload(width: usize, line: &Line, mode: Mode, metrics: Metrics) -> bool
-    ensures { (more : List Atom) → result ≡ fits width line.now.column line.now.pending
-        (by_mode mode (Payload metrics.first_width metrics.first_nonempty ∷ []) (Stop ∷ []) ++ more) }
+    ensures { result ≡ by_mode mode (payload_begins width metrics line.now.column) false }
 {
     match mode {
         Mode::Break => {
@@ -62,11 +61,11 @@ fn read_line_end(width: usize, line: &Line, mode: Mode) -> bool
     }
 }
 
-// Reads a weak line, which is nothing on a fresh line where no suffix is pending.
+// Reads a weak line, which is nothing on a fresh line where no suffix is pending. Its indent does not matter.
 fn read_weak_line(width: usize, line: &Line, mode: Mode) -> Option<bool>
-    ensures { (more : List Atom) → AnswersAs result
-        (fits width line.now.column line.now.pending (Weak mode ∷ more))
-        (fits width line.now.column line.now.pending more) }
+    ensures { (ts : List Task) → AnswersAs result
+        (tasks_fit width (make_task 0 mode WeakLine ∷ ts) line.now.column line.now.pending)
+        (tasks_fit width ts line.now.column line.now.pending) }
 {
     if line.column.fresh && !line.pending {
         return None;
@@ -84,13 +83,21 @@ pub fn either<N: Copy>(mode: Mode, broken: N, flat: N) -> N
     }
 }
 
-/// What the reading of one node comes to: an answer, the node that is read next, or neither.
+/// The first of two nodes where a test holds, else the second.
+#[inline(always)]
+pub fn chosen<N: Walk>(holds: bool, first: N, second: N) -> N
+    ensures { N.tree result ≡ if holds then N.tree first else N.tree second }
+{
+    if holds { first } else { second }
+}
+
+/// What a probe comes to at one node: an answer, the node that it looks at next, or neither.
 #[derive(Clone, Copy)]
 pub enum Read<N> {
     /// Whether the line stays within the width.
     Answer(bool),
-    /// A node and its mode.
-    Next(Mode, N),
+    /// A node, with its indent and its mode.
+    Next(usize, Mode, N),
     Done,
 }
 
@@ -104,21 +111,21 @@ fn answered<N>(answer: Option<bool>) -> Read<N>
     }
 }
 
-// Reads one node. The nodes below it are read next: the first is answered, and a second one is now on the stack.
-#[tactic(auto, using(crate::proofs::Stacks::reading_more))]
+// Looks at one node. The nodes below it are looked at next: the first is answered, and a second one is now on the stack.
+#[tactic(auto, using(crate::proofs::Probes::looks))]
 fn probe_one<N: Walk>(
     width: usize,
     line: &mut Line,
+    indent: usize,
     mode: Mode,
     node: N,
-    stack: &mut Vec<Unread<N>>,
+    stack: &mut Vec<Command<N>>,
 ) -> Result<Read<N>, AllocError>
-    ensures answer { IfOk result (λ a. (more : List Atom) → ReadsAs N.tree a
-        (fits width line.old.column line.old.pending
-        (reading (N.tree node) mode ++ (read_tasks (unread N.tree stack.old.items) ++ more)))
-        (λ atoms. fits width line.new.column line.new.pending (atoms ++ (read_tasks (unread N.tree stack.new.items) ++ more)))) }
+    ensures answer { IfOk result (λ a. (ts : List Task) → ReadsAs N.tree width a
+        (tasks_fit width (make_task indent mode (N.tree node) ∷ (stack_of N.tree stack.old.items ++ ts)) line.old.column line.old.pending)
+        (stack_of N.tree stack.new.items ++ ts) line.new.column line.new.pending) }
     ensures smaller { IfOk result (λ a.
-        nodes_next N.tree a + nodes (unread N.tree stack.new.items) < size (N.tree node) + nodes (unread N.tree stack.old.items)) }
+        nodes_next N.tree a + nodes (stack_of N.tree stack.new.items) < size (N.tree node) + nodes (stack_of N.tree stack.old.items)) }
 {
     match node.view() {
         View::Nil => Ok(Read::Done),
@@ -143,81 +150,93 @@ fn probe_one<N: Walk>(
             Mode::Flat => Ok(Read::Answer(false)),
         },
         View::Append(first, second) => {
-            push_unread(stack, mode, second)?;
-            Ok(Read::Next(mode, first))
+            push_node(stack, indent, mode, second)?;
+            Ok(Read::Next(indent, mode, first))
         }
-        View::Nest(_, inner) => Ok(Read::Next(mode, inner)),
-        View::DedentToRoot(inner) => Ok(Read::Next(mode, inner)),
-        View::Align(inner) => Ok(Read::Next(mode, inner)),
-        View::Group(inner) => Ok(Read::Next(mode, inner)),
-        View::Flatten(inner) => Ok(Read::Next(Mode::Flat, inner)),
-        View::BreakOrFlat(broken, flat) => Ok(Read::Next(mode, either(mode, broken, flat))),
-        View::Union(first, second) => Ok(Read::Next(mode, either(mode, second, first))),
-        View::PartialUnion(first, second) => Ok(Read::Next(mode, either(mode, second, first))),
+        View::Nest(offset, inner) => Ok(Read::Next(nested_indent(indent, offset), mode, inner)),
+        View::DedentToRoot(inner) => Ok(Read::Next(0, mode, inner)),
+        View::Align(inner) => Ok(Read::Next(line.column.prospective(), mode, inner)),
+        View::Group(inner) => Ok(Read::Next(indent, mode, inner)),
+        View::Flatten(inner) => Ok(Read::Next(indent, Mode::Flat, inner)),
+        View::BreakOrFlat(broken, flat) => Ok(Read::Next(indent, mode, either(mode, broken, flat))),
+        View::Union(first, second) | View::PartialUnion(first, second) => {
+            Ok(Read::Next(indent, mode, either(mode, second, first)))
+        }
+        View::OnColumn(test, first, second) => {
+            let holds = test.holds(line.column.prospective(), indent);
+            Ok(Read::Next(indent, mode, chosen(holds, first, second)))
+        }
+        View::OnNesting(test, first, second) => {
+            Ok(Read::Next(indent, mode, chosen(test.holds(indent), first, second)))
+        }
     }
 }
 
-// The next node that the probe reads: one of its own, and then the printer's commands downwards, each in Break.
+// The next node that the probe looks at: one of its own, and then the printer's commands downwards, each in Break.
 #[tactic(auto, using(crate::proofs::Stacks::below_steps))]
 fn next_unread<N: Walk>(
     commands: &[Command<N>],
     below: &mut usize,
-    stack: &mut Vec<Unread<N>>,
-) -> Option<Unread<N>>
+    stack: &mut Vec<Command<N>>,
+) -> Option<Command<N>>
     requires { below.old ≤ length commands.now }
     ensures within { below.new ≤ length commands.now }
     ensures ahead { MatchOption result
-        (read_tasks (unread N.tree stack.old.items) ++ rest_atoms (follow (stack_of N.tree (take below.old commands.now))) ≡ [])
-        (λ c. read_tasks (unread N.tree stack.old.items) ++ rest_atoms (follow (stack_of N.tree (take below.old commands.now)))
-        ≡ reading (N.tree c.node) c.mode
-        ++ (read_tasks (unread N.tree stack.new.items) ++ rest_atoms (follow (stack_of N.tree (take below.new commands.now))))) }
+        (stack_of N.tree stack.old.items ++ in_break (stack_of N.tree (take below.old commands.now)) ≡ [])
+        (λ c. stack_of N.tree stack.old.items ++ in_break (stack_of N.tree (take below.old commands.now))
+        ≡ task N.tree c ∷ (stack_of N.tree stack.new.items ++ in_break (stack_of N.tree (take below.new commands.now)))) }
     ensures left { IfSome result
-        (λ c. nodes (unread N.tree stack.old.items) + nodes (stack_of N.tree (take below.old commands.now))
-        ≡ size (N.tree c.node) + (nodes (unread N.tree stack.new.items) + nodes (stack_of N.tree (take below.new commands.now)))) }
-    ensures own_first { MatchOption result (nodes (unread N.tree stack.old.items) ≡ 0) (λ _. ⊤) }
+        (λ c. nodes (stack_of N.tree stack.old.items) + nodes (stack_of N.tree (take below.old commands.now))
+        ≡ size (N.tree c.node) + (nodes (stack_of N.tree stack.new.items) + nodes (stack_of N.tree (take below.new commands.now)))) }
+    ensures own_first { MatchOption result (nodes (stack_of N.tree stack.old.items) ≡ 0) (λ _. ⊤) }
 {
-    if let Some(next) = pop_unread(stack) {
+    if let Some(next) = pop_command(stack) {
         return Some(next);
     }
     if *below == 0 {
         return None;
     }
     *below -= 1;
-    Some(Unread {
+    Some(Command {
+        indent: commands[*below].indent,
         mode: Mode::Break,
         node: commands[*below].node,
     })
 }
 
-/// Whether a node, laid in this mode from where the line is, stays within the width together with what follows it,
-/// up to the first line end. `stack` is only a place to work in. The nodes that it visits are counted in `probes`: one at
+/// Whether a node, laid at this indent and in this mode from where the line is, stays within the width together with what
+/// follows it, up to the first line end. `stack` is only a place to work in. The nodes that it visits are counted in `probes`: one at
 /// least.
-#[tactic(auto, using(crate::proofs::Sizes::size_positive))]
+#[tactic(auto, using(crate::proofs::Sizes::size_positive, crate::proofs::Probes::probe_fits))]
 pub fn probe<N: Walk>(
     width: usize,
     start: Line,
     node: N,
+    indent: usize,
     mode: Mode,
     commands: &[Command<N>],
-    stack: &mut Vec<Unread<N>>,
+    stack: &mut Vec<Command<N>>,
     probes: &mut u64,
 ) -> Result<bool, AllocError>
     ensures answer { IfOk result
-        (λ r. r ≡ fits width start.column start.pending (reading (N.tree node) mode ++ rest_atoms (follow (stack_of N.tree commands.now)))) }
+        (λ r. r ≡ answer_of (look width (N.tree node) indent mode start.column start.pending)
+        (λ c p. rest_fits width (follow (stack_of N.tree commands.now)) c p)) }
     ensures rises { probes.old ≤ probes.new }
     ensures counted { probes.new ≤ probes.old + (size (N.tree node) + nodes (stack_of N.tree commands.now)) }
     ensures asked { OnOk result (RisesBy 1 probes.old probes.new) }
 {
     let mut line = start;
     let mut below = commands.len();
+    let mut indent = indent;
     let mut mode = mode;
     let mut node = node;
     stack.clear();
     'read: loop {
         *probes = one_more(*probes);
-        match probe_one(width, &mut line, mode, node, stack)? {
+        match probe_one(width, &mut line, indent, mode, node, stack)? {
             Read::Answer(answer) => return Ok(answer),
-            Read::Next(next_mode, next) => {
+            Read::Next(next_indent, next_mode, next) => {
+                indent = next_indent;
                 mode = next_mode;
                 node = next;
             }
@@ -225,6 +244,7 @@ pub fn probe<N: Walk>(
                 let Some(next) = next_unread(commands, &mut below, stack) else {
                     return Ok(line.column.padding_fits(width, line.pending));
                 };
+                indent = next.indent;
                 mode = next.mode;
                 node = next.node;
             }

@@ -1,9 +1,9 @@
 //! What the visit of one node does.
 ghost use Rattle.std.specs.Prelude.{◌≡◌, ◌++◌, ◌+◌, ◌∷◌, ◌≤◌, ◌&&◌, [], true, IfOk, OnOk, if◌then◌else◌};
 ghost use Rattle.prettyless_model.specs.Tree.{size};
-ghost use Rattle.prettyless_model.specs.Reading.{by_mode};
+ghost use Rattle.prettyless_model.specs.Look.{by_mode};
 ghost use Rattle.prettyless_model.specs.Counts.{each_probe};
-ghost use Rattle.prettyless_model.specs.Layout.{is_suppressed, lay_ending, nested, some_pending, next_indent, probe as probe_of};
+ghost use Rattle.prettyless_model.specs.Layout.{is_suppressed, lay_ending, some_pending, next_indent, probe as probe_of};
 ghost use Rattle.prettyless_model.specs.declared.mode.Mode.TheVariants.{Break, Flat};
 ghost use Rattle.prettyless_step.specs.Stack.{follow, make_task, nodes, stack_of};
 ghost use Rattle.prettyless_step.specs.Steps.{Move, at_once, break_step, counted_payload, decided_by_metrics, is_rejected, rejects_payload, step_of, union_step};
@@ -11,12 +11,12 @@ ghost use Rattle.prettyless_step.specs.Piece.{piece_bytes};
 ghost use Rattle.prettyless_step.specs.Printing.{Shows, Writes, following, state_of, tasks_of};
 ghost use Rattle.prettyless_step.specs.Probing.{RisesBy, asked};
 
-use crate::command::Command;
+use crate::command::{Command, nested_indent};
 use crate::content::{payload_fits, put_payload, put_text};
 use crate::pending::{is_pending, take_pending};
 use crate::piece::Piece;
 use crate::printer::{Printer, Taken};
-use crate::probe::{Line, either, probe};
+use crate::probe::{Line, chosen, either, probe};
 use crate::stack::push_node;
 use crate::walk::{View, Walk};
 use prettyless_model::column::Column;
@@ -25,21 +25,15 @@ use prettyless_model::options::IndentationPolicy;
 use prettyless_sink::visits::{Visits, one_more};
 use std::alloc::AllocError;
 
-// An indent that a nesting changes, kept within 0 and the greatest `usize`.
-fn nested_indent(indent: usize, offset: isize) -> usize
-    ensures { result ≡ nested indent offset }
-{
-    indent.saturating_add_signed(offset)
-}
-
-// Whether a node fits the line in this mode, with the printer's commands following it.
+// Whether a node fits the line at this indent and in this mode, with the printer's commands following it.
 fn probe_here<N: Walk>(
     printer: &mut Printer<N>,
     node: N,
+    indent: usize,
     mode: Mode,
     probes: &mut u64,
 ) -> Result<bool, AllocError>
-    ensures answer { IfOk result (λ fit. fit ≡ probe_of printer.old.options (N.tree node) mode
+    ensures answer { IfOk result (λ fit. fit ≡ probe_of printer.old.options (N.tree node) indent mode
         (following N.tree printer.old) (state_of N.tree printer.old)) }
     ensures others { printer.new ≡ record printer.old { scratch = printer.new.scratch } }
     ensures rises { probes.old ≤ probes.new }
@@ -54,6 +48,7 @@ fn probe_here<N: Walk>(
         printer.options.width,
         start,
         node,
+        indent,
         mode,
         &printer.commands,
         &mut printer.scratch,
@@ -64,13 +59,14 @@ fn probe_here<N: Walk>(
 // The branch of a partial union that is laid.
 fn partial_choice<N: Walk>(
     printer: &mut Printer<N>,
+    indent: usize,
     mode: Mode,
     first: N,
     second: N,
     probes: &mut u64,
 ) -> Result<N, AllocError>
     ensures branch { IfOk result (λ n. N.tree n ≡ by_mode mode
-        (if probe_of printer.old.options (N.tree first) Break (following N.tree printer.old) (state_of N.tree printer.old)
+        (if probe_of printer.old.options (N.tree first) indent Break (following N.tree printer.old) (state_of N.tree printer.old)
         then N.tree first else N.tree second)
         (N.tree first)) }
     ensures others { printer.new ≡ record printer.old { scratch = printer.new.scratch } }
@@ -81,7 +77,7 @@ fn partial_choice<N: Walk>(
     if let Mode::Flat = mode {
         return Ok(first);
     }
-    let fits = probe_here(printer, first, Mode::Break, probes)?;
+    let fits = probe_here(printer, first, indent, Mode::Break, probes)?;
     Ok(if fits { first } else { second })
 }
 
@@ -199,7 +195,7 @@ fn group<N: Walk>(
 ) -> Result<Taken<'static, N>, AllocError>
     ensures step { IfOk result (λ taken. Shows N.tree mode taken
         (Move [] (make_task indent (by_mode mode
-        (if probe_of printer.old.options (N.tree inner) Flat (following N.tree printer.old) (state_of N.tree printer.old) then Flat else Break)
+        (if probe_of printer.old.options (N.tree inner) indent Flat (following N.tree printer.old) (state_of N.tree printer.old) then Flat else Break)
         Flat) (N.tree inner) ∷ []) (state_of N.tree printer.old))
         printer.old printer.new) }
     ensures rises { probes.old ≤ probes.new }
@@ -207,7 +203,7 @@ fn group<N: Walk>(
     ensures asked { OnOk result (RisesBy (by_mode mode 1 0) probes.old probes.new) }
 {
     if let Mode::Break = mode {
-        if !probe_here(printer, inner, Mode::Flat, probes)? {
+        if !probe_here(printer, inner, indent, Mode::Flat, probes)? {
             return Ok(Taken::Next(indent, inner));
         }
     }
@@ -226,7 +222,7 @@ fn partial_union<N: Walk>(
 ) -> Result<Taken<'static, N>, AllocError>
     ensures step { IfOk result (λ taken. Shows N.tree mode taken
         (Move [] (make_task indent mode (by_mode mode
-        (if probe_of printer.old.options (N.tree first) Break (following N.tree printer.old) (state_of N.tree printer.old)
+        (if probe_of printer.old.options (N.tree first) indent Break (following N.tree printer.old) (state_of N.tree printer.old)
         then N.tree first else N.tree second)
         (N.tree first)) ∷ []) (state_of N.tree printer.old))
         printer.old printer.new) }
@@ -234,7 +230,7 @@ fn partial_union<N: Walk>(
     ensures counted { probes.new ≤ probes.old + (size (N.tree first) + nodes (tasks_of N.tree printer.old)) }
     ensures asked { OnOk result (RisesBy (by_mode mode 1 0) probes.old probes.new) }
 {
-    let chosen = partial_choice(printer, mode, first, second, probes)?;
+    let chosen = partial_choice(printer, indent, mode, first, second, probes)?;
     Ok(Taken::Next(indent, chosen))
 }
 
@@ -323,5 +319,10 @@ pub fn step<'v, N: Walk>(
             Mode::Flat => Ok(Taken::NextFlat(indent, l)),
         },
         View::PartialUnion(l, r) => partial_union(printer, indent, mode, l, r, &mut visits.probes),
+        View::OnColumn(test, l, r) => {
+            let holds = test.holds(printer.column.prospective(), indent);
+            Ok(Taken::Next(indent, chosen(holds, l, r)))
+        }
+        View::OnNesting(test, l, r) => Ok(Taken::Next(indent, chosen(test.holds(indent), l, r))),
     }
 }

@@ -3,6 +3,7 @@ ghost use Rattle.std.specs.Prelude.{◌≡◌};
 ghost use Rattle.prettyless_model.specs.Tree.{Tree};
 ghost use Rattle.prettyless_step.specs.View.{IsMeasured, view_tree};
 
+use prettyless_model::choice::{ColumnTest, NestingTest};
 use prettyless_model::metrics::Metrics;
 
 /// One node, as the printer sees it: its variant, its text and its children. Widths are columns.
@@ -28,6 +29,8 @@ pub enum View<'v, N> {
     Group(N),
     Union(N, N),
     PartialUnion(N, N),
+    OnColumn(ColumnTest, N, N),
+    OnNesting(NestingTest, N, N),
 }
 
 /// A node that the printer can walk.

@@ -6,6 +6,10 @@ use Rattle.std.specs.Str.Parse.{digits_value}
 use Rattle.std.proofs.lemmas.List.{drop_more, map-append, take-append-drop}
 use Rattle.std.proofs.lemmas.Slice.Eq.{bytes_eq-Decides}
 use Rattle.prettyless_doc.specs.Breaks.{holds_break}
+use Rattle.prettyless_model.specs.declared.choice.ColumnTest.{ColumnTest}
+use Rattle.prettyless_model.specs.declared.choice.ColumnTest.TheVariants as by_column
+use Rattle.prettyless_model.specs.declared.choice.NestingTest.{NestingTest}
+use Rattle.prettyless_model.specs.declared.choice.NestingTest.TheVariants as by_nesting
 use Rattle.prettyless.specs.Tree as t
 use Rattle.prettyless.specs.Tree.{Tree}
 use Rattle.replay_cases.specs.declared.operator.Wrapper.{Wrapper}
@@ -14,8 +18,8 @@ use Rattle.replay_cases.specs.declared.operator.Join.{Join}
 use Rattle.replay_cases.specs.declared.operator.Join.TheVariants as joins
 use Rattle.replay_cases.specs.declared.operator.Operator.{Operator}
 use Rattle.replay_cases.specs.declared.operator.Operator.TheVariants as operators
-use Rattle.replay_cases.specs.Notation.{named_in, leaf_words, leaf_of, leaf_alone, IsTextWord, IsSpelled, signed_value}
-use Rattle.replay_cases.specs.Reading.{Item, word, document, operator_of, operator_names, wrapped, joined, BeginsWithText, Makes, Puts, Steps}
+use Rattle.replay_cases.specs.Notation.{named_in, leaf_words, leaf_of, leaf_alone, IsColumnTest, IsNestingTest, IsNumber, IsTextWord, IsSpelled, signed_value}
+use Rattle.replay_cases.specs.Reading.{Item, word, document, operator_of, operator_names, wrapped, joined, BeginsWithText, TakesColumnTest, TakesNestingTest, Makes, Puts, Steps}
 use Rattle.replay_cases.specs.declared.refusal.Refusal.{Refusal}
 use Rattle.replay_cases.specs.Refusals.{Refuses}
 use Rattle.replay_cases.proofs.HexWords.{one_text}
@@ -39,6 +43,58 @@ one_beginning : (items : List Item) (a b : List ℕ) (r s : List Item) → Begin
 one_beginning items a b r s h k =
     let e = one_word h.0 k.0 r s items h.1 k.1 in
     (one_text a b h.0 h.2 (subst (IsTextWord b) (sym e.0) k.2), e.1)
+
+-- words that are not the same
+pub other_word : (a b : List ℕ) → bytes_eq a a ≡ true → bytes_eq a b ≡ false → a ≡ b → ⊥
+other_word a b same other e = let x : true ≡ false = sym same ∙ ap (bytes_eq a) e ∙ other in absurd cc
+
+one_limit : (name : List ℕ) (k l : ℕ) (items r s : List Item) (w v : List ℕ) → items ≡ word name ∷ word w ∷ r → IsNumber k w → items ≡ word name ∷ word v ∷ s → IsNumber l v → (k ≡ l) × (r ≡ s)
+one_limit name k l items r s w v begins number begins' number' =
+    let x = one_word name name (word w ∷ r) (word v ∷ s) items begins begins' in
+    let y = one_word w v r s (word w ∷ r) refl x.1 in
+    (number.2 ∙ ap (digits_value 10) y.0 ∙ sym number'.2, y.1)
+
+first_words : (a b : List ℕ) (r s items : List Item) → items ≡ word a ∷ r → items ≡ word b ∷ s → a ≡ b
+first_words a b r s items h k = (one_word a b r s items h k).0
+
+pub one_column_test : (items : List Item) (a b : ColumnTest) (r s : List Item) → TakesColumnTest items a r → TakesColumnTest items b s → (a ≡ b) × (r ≡ s)
+one_column_test items (by_column.AtMost k) (by_column.AtMost l) r s (w, begins, number) (v, begins', number') =
+    let x = one_limit (codes "atmost") k l items r s w v begins number begins' number' in
+    (ap by_column.AtMost x.0, x.1)
+one_column_test items (by_column.AtLeast k) (by_column.AtLeast l) r s (w, begins, number) (v, begins', number') =
+    let x = one_limit (codes "atleast") k l items r s w v begins number begins' number' in
+    (ap by_column.AtLeast x.0, x.1)
+one_column_test items by_column.IsNesting by_column.IsNesting r s h k = (refl, (one_word (codes "nesting") (codes "nesting") r s items h k).1)
+one_column_test items (by_column.AtMost k) (by_column.AtLeast l) r s (w, begins, number) (v, begins', number') =
+    absurd (other_word (codes "atmost") (codes "atleast") refl refl (first_words (codes "atmost") (codes "atleast") (word w ∷ r) (word v ∷ s) items begins begins'))
+one_column_test items (by_column.AtLeast k) (by_column.AtMost l) r s (w, begins, number) (v, begins', number') =
+    absurd (other_word (codes "atleast") (codes "atmost") refl refl (first_words (codes "atleast") (codes "atmost") (word w ∷ r) (word v ∷ s) items begins begins'))
+one_column_test items (by_column.AtMost k) by_column.IsNesting r s (w, begins, number) begins' =
+    absurd (other_word (codes "atmost") (codes "nesting") refl refl (first_words (codes "atmost") (codes "nesting") (word w ∷ r) s items begins begins'))
+one_column_test items (by_column.AtLeast k) by_column.IsNesting r s (w, begins, number) begins' =
+    absurd (other_word (codes "atleast") (codes "nesting") refl refl (first_words (codes "atleast") (codes "nesting") (word w ∷ r) s items begins begins'))
+one_column_test items by_column.IsNesting (by_column.AtMost l) r s begins (v, begins', number') =
+    absurd (other_word (codes "nesting") (codes "atmost") refl refl (first_words (codes "nesting") (codes "atmost") r (word v ∷ s) items begins begins'))
+one_column_test items by_column.IsNesting (by_column.AtLeast l) r s begins (v, begins', number') =
+    absurd (other_word (codes "nesting") (codes "atleast") refl refl (first_words (codes "nesting") (codes "atleast") r (word v ∷ s) items begins begins'))
+
+pub one_nesting_test : (items : List Item) (a b : NestingTest) (r s : List Item) → TakesNestingTest items a r → TakesNestingTest items b s → (a ≡ b) × (r ≡ s)
+one_nesting_test items (by_nesting.AtMost k) (by_nesting.AtMost l) r s (w, begins, number) (v, begins', number') =
+    let x = one_limit (codes "atmost") k l items r s w v begins number begins' number' in
+    (ap by_nesting.AtMost x.0, x.1)
+one_nesting_test items (by_nesting.AtLeast k) (by_nesting.AtLeast l) r s (w, begins, number) (v, begins', number') =
+    let x = one_limit (codes "atleast") k l items r s w v begins number begins' number' in
+    (ap by_nesting.AtLeast x.0, x.1)
+one_nesting_test items (by_nesting.AtMost k) (by_nesting.AtLeast l) r s (w, begins, number) (v, begins', number') =
+    absurd (other_word (codes "atmost") (codes "atleast") refl refl (first_words (codes "atmost") (codes "atleast") (word w ∷ r) (word v ∷ s) items begins begins'))
+one_nesting_test items (by_nesting.AtLeast k) (by_nesting.AtMost l) r s (w, begins, number) (v, begins', number') =
+    absurd (other_word (codes "atleast") (codes "atmost") refl refl (first_words (codes "atleast") (codes "atmost") (word w ∷ r) (word v ∷ s) items begins begins'))
+
+one_pair : (f g f' g' : Tree) (r s : List Item) → document f ∷ document g ∷ r ≡ document f' ∷ document g' ∷ s → (f ≡ f') × (g ≡ g') × (r ≡ s)
+one_pair f g f' g' r s e =
+    let x = one_document f f' (document g ∷ r) (document g' ∷ s) (document f ∷ document g ∷ r) refl e in
+    let y = one_document g g' r s (document g ∷ r) refl x.1 in
+    (x.0, y.0, y.1)
 
 makes_one : (o : Operator) (items : List Item) (d e : Tree) (r s : List Item) → Makes o items d r → Makes o items e s → (d ≡ e) × (r ≡ s)
 makes_one operators.Text items d e r s h k =
@@ -64,6 +120,14 @@ makes_one (operators.Join j) items d e r s (f, g, dd, begins) (f', g', ee, begin
     let x = one_document f f' (document g ∷ r) (document g' ∷ s) items begins begins' in
     let y = one_document g g' r s (document g ∷ r) refl x.1 in
     (dd ∙ ap (λ (i : Tree). joined j i g) x.0 ∙ ap (joined j f') y.0 ∙ sym ee, y.1)
+makes_one operators.OnColumn items d e r s (a, f, g, dd, takes) (b, f', g', ee, takes') =
+    let x = one_column_test items a b (document f ∷ document g ∷ r) (document f' ∷ document g' ∷ s) takes takes' in
+    let y = one_pair f g f' g' r s x.1 in
+    (dd ∙ ap (λ (i : ColumnTest). t.OnColumn i f g) x.0 ∙ ap (λ (i : Tree). t.OnColumn b i g) y.0 ∙ ap (t.OnColumn b f') y.1 ∙ sym ee, y.2)
+makes_one operators.OnNesting items d e r s (a, f, g, dd, takes) (b, f', g', ee, takes') =
+    let x = one_nesting_test items a b (document f ∷ document g ∷ r) (document f' ∷ document g' ∷ s) takes takes' in
+    let y = one_pair f g f' g' r s x.1 in
+    (dd ∙ ap (λ (i : NestingTest). t.OnNesting i f g) x.0 ∙ ap (λ (i : Tree). t.OnNesting b i g) y.0 ∙ ap (t.OnNesting b f') y.1 ∙ sym ee, y.2)
 
 -- a text without a line break makes no payload
 pub no_payload : (items left : List Item) (w s : List ℕ) → items ≡ word w ∷ left → IsTextWord s w → holds_break s ≡ false → (d : Tree) (rest : List Item) → Makes operators.Payload items d rest → ⊥
@@ -111,6 +175,8 @@ name_of (operators.Join joins.Append) = codes "app"
 name_of (operators.Join joins.BreakOrFlat) = codes "bof"
 name_of (operators.Join joins.Union) = codes "uni"
 name_of (operators.Join joins.PartialUnion) = codes "puni"
+name_of operators.OnColumn = codes "oncol"
+name_of operators.OnNesting = codes "onnest"
 
 abbrev AreNames : List (List ℕ × Operator) → Type 0
 AreNames [] = Unit {0}
@@ -166,6 +232,41 @@ spells d items front others ws h k e = (front, others, e, h, k)
 abbrev Spells : List (List ℕ) → List Item → Type 0
 Spells ws items = AreSpelled items ws
 
+-- the words of a test come first, and the others spell what is left
+abbrev TestSpelled : (List (List ℕ) → Type 0) → List Item → List (List ℕ) → Type 0
+TestSpelled Test rest ws = (us : List (List ℕ)) × (others : List (List ℕ)) × (ws ≡ us ++ others) × Test us × AreSpelled rest others
+
+limit_spelled : (name : List ℕ) (Test : List (List ℕ) → Type 0) (w : List ℕ) (items rest : List Item) (ws : List (List ℕ)) → items ≡ word name ∷ word w ∷ rest → Test (name ∷ w ∷ []) → AreSpelled items ws → TestSpelled Test rest ws
+limit_spelled name Test w items rest ws begins test k =
+    let x = subst (Spells ws) begins k in
+    let y = x.2 in
+    (name ∷ w ∷ [], y.0, x.1 ∙ ap (λ (z : List (List ℕ)). name ∷ z) y.1, test, y.2)
+
+column_test_spelled : (test : ColumnTest) (items rest : List Item) (ws : List (List ℕ)) → TakesColumnTest items test rest → AreSpelled items ws → TestSpelled (IsColumnTest test) rest ws
+column_test_spelled (by_column.AtMost k) items rest ws (w, begins, number) h =
+    limit_spelled (codes "atmost") (IsColumnTest (by_column.AtMost k)) w items rest ws begins (w, refl, number) h
+column_test_spelled (by_column.AtLeast k) items rest ws (w, begins, number) h =
+    limit_spelled (codes "atleast") (IsColumnTest (by_column.AtLeast k)) w items rest ws begins (w, refl, number) h
+column_test_spelled by_column.IsNesting items rest ws begins h =
+    let x = subst (Spells ws) begins h in
+    (codes "nesting" ∷ [], x.0, x.1, refl, x.2)
+
+nesting_test_spelled : (test : NestingTest) (items rest : List Item) (ws : List (List ℕ)) → TakesNestingTest items test rest → AreSpelled items ws → TestSpelled (IsNestingTest test) rest ws
+nesting_test_spelled (by_nesting.AtMost k) items rest ws (w, begins, number) h =
+    limit_spelled (codes "atmost") (IsNestingTest (by_nesting.AtMost k)) w items rest ws begins (w, refl, number) h
+nesting_test_spelled (by_nesting.AtLeast k) items rest ws (w, begins, number) h =
+    limit_spelled (codes "atleast") (IsNestingTest (by_nesting.AtLeast k)) w items rest ws begins (w, refl, number) h
+
+-- a choice, after the words of its test
+choice_spelled : (name : List ℕ) (Test : List (List ℕ) → Type 0) (d f g : Tree) (rest : List Item) (ws : List (List ℕ)) → ((us vs zs : List (List ℕ)) → Test us → IsSpelled f vs → IsSpelled g zs → IsSpelled d (name ∷ us ++ (vs ++ zs))) → TestSpelled Test (document f ∷ document g ∷ rest) ws → AreSpelled (document d ∷ rest) (name ∷ ws)
+choice_spelled name Test d f g rest ws spelled x =
+    let y = x.4 in
+    let z = y.4 in
+    spells d rest (name ∷ x.0 ++ (y.0 ++ z.0)) z.1 _ (spelled x.0 y.0 z.0 x.3 y.3 z.3) z.4
+    (ap (λ (v : List (List ℕ)). name ∷ v)
+    (x.2 ∙ ap (λ (v : List (List ℕ)). x.0 ++ v) (y.2 ∙ ap (λ (v : List (List ℕ)). y.0 ++ v) z.2 ∙ sym (append_assoc y.0 z.0 z.1))
+    ∙ sym (append_assoc x.0 (y.0 ++ z.0) z.1)))
+
 makes_spelled : (o : Operator) (items : List Item) (d : Tree) (rest : List Item) (ws : List (List ℕ)) → Makes o items d rest → AreSpelled items ws → AreSpelled (document d ∷ rest) (name_of o ∷ ws)
 makes_spelled operators.Text items d rest ws (s, is, (w, begins, text)) k =
     let x = subst (Spells ws) begins k in
@@ -193,6 +294,14 @@ makes_spelled (operators.Join j) items d rest ws (f, g, is, begins) k =
     let name = name_of (operators.Join j) in
     spells d rest (name ∷ x.0 ++ y.0) y.1 _ (subst (λ (z : Tree). IsSpelled z (name ∷ x.0 ++ y.0)) (sym is) (join_spelled j f g x.0 y.0 x.3 y.3)) y.4
     (ap (λ (z : List (List ℕ)). name ∷ z) (x.2 ∙ ap (λ (z : List (List ℕ)). x.0 ++ z) y.2 ∙ sym (append_assoc x.0 y.0 y.1)))
+makes_spelled operators.OnColumn items d rest ws (test, f, g, is, takes) k =
+    choice_spelled (codes "oncol") (IsColumnTest test) d f g rest ws
+    (λ us vs zs tested first second. subst (λ (z : Tree). IsSpelled z (codes "oncol" ∷ us ++ (vs ++ zs))) (sym is) (us, vs, zs, refl, tested, first, second))
+    (column_test_spelled test items (document f ∷ document g ∷ rest) ws takes k)
+makes_spelled operators.OnNesting items d rest ws (test, f, g, is, takes) k =
+    choice_spelled (codes "onnest") (IsNestingTest test) d f g rest ws
+    (λ us vs zs tested first second. subst (λ (z : Tree). IsSpelled z (codes "onnest" ∷ us ++ (vs ++ zs))) (sym is) (us, vs, zs, refl, tested, first, second))
+    (nesting_test_spelled test items (document f ∷ document g ∷ rest) ws takes k)
 
 puts_spelled : (l : Option Tree) (o : Option Operator) (w : List ℕ) (before items : List Item) (ws : List (List ℕ)) → leaf_of w ≡ l → operator_of w ≡ o → Puts l o w before items → AreSpelled before ws → AreSpelled items (w ∷ ws)
 puts_spelled (Some leaf) o w before items ws named e h k =
@@ -244,6 +353,39 @@ join_left name j d f us vs ws others items e is h =
     let regrouped = subst (λ (x : List (List ℕ)). Leaves x (document d ∷ document f ∷ items)) (sym (append_assoc us vs others)) h in
     subst (λ (x : List (List ℕ)). IsLeft (joined j d f) x others items) (sym is) (made_left name (operators.Join j) ((us ++ vs) ++ others) (document d ∷ document f ∷ items) items (joined j d f) e regrouped (d, f, refl, refl))
 
+-- the words of a test are left as they are, before what is left after them
+abbrev TestLeft : (List Item → Type 0) → List (List ℕ) → List (List ℕ) → Type 0
+TestLeft Takes us others = (before : List Item) × Leaves (us ++ others) before × Takes before
+
+limit_left : (name : List ℕ) (k : ℕ) (w : List ℕ) (us others : List (List ℕ)) (items : List Item) → NamesNone name → us ≡ name ∷ w ∷ [] → IsNumber k w → Leaves others items → Leaves (us ++ others) (word name ∷ word w ∷ items)
+limit_left name k w us others items none is number h =
+    subst (λ (x : List (List ℕ)). Leaves (x ++ others) (word name ∷ word w ∷ items)) (sym is)
+    (word_left name (w ∷ others) (word w ∷ items) none (word_left w others items (number_names_none k w number) h))
+
+column_test_left : (test : ColumnTest) (us others : List (List ℕ)) (items : List Item) → IsColumnTest test us → Leaves others items → TestLeft (λ before. TakesColumnTest before test items) us others
+column_test_left (by_column.AtMost k) us others items (w, is, number) h =
+    (word (codes "atmost") ∷ word w ∷ items, limit_left (codes "atmost") k w us others items (refl, refl) is number h, (w, refl, number))
+column_test_left (by_column.AtLeast k) us others items (w, is, number) h =
+    (word (codes "atleast") ∷ word w ∷ items, limit_left (codes "atleast") k w us others items (refl, refl) is number h, (w, refl, number))
+column_test_left by_column.IsNesting us others items is h = (
+  word (codes "nesting") ∷ items,
+  subst (λ (x : List (List ℕ)). Leaves (x ++ others) (word (codes "nesting") ∷ items)) (sym is) (word_left (codes "nesting") others items (refl, refl) h),
+  refl,
+)
+
+nesting_test_left : (test : NestingTest) (us others : List (List ℕ)) (items : List Item) → IsNestingTest test us → Leaves others items → TestLeft (λ before. TakesNestingTest before test items) us others
+nesting_test_left (by_nesting.AtMost k) us others items (w, is, number) h =
+    (word (codes "atmost") ∷ word w ∷ items, limit_left (codes "atmost") k w us others items (refl, refl) is number h, (w, refl, number))
+nesting_test_left (by_nesting.AtLeast k) us others items (w, is, number) h =
+    (word (codes "atleast") ∷ word w ∷ items, limit_left (codes "atleast") k w us others items (refl, refl) is number h, (w, refl, number))
+
+choice_left : (name : List ℕ) (o : Operator) (d : Tree) (us vs zs ws others : List (List ℕ)) (before items : List Item) → Names name o → ws ≡ name ∷ us ++ (vs ++ zs) → Leaves (us ++ (vs ++ (zs ++ others))) before → Makes o before d items → IsLeft d ws others items
+choice_left name o d us vs zs ws others before items e is h makes =
+    subst (λ (x : List (List ℕ)). IsLeft d x others items) (sym is)
+    (subst (λ (x : List (List ℕ)). Leaves (name ∷ x) (document d ∷ items))
+    (sym (append_assoc us (vs ++ zs) others ∙ ap (λ (x : List (List ℕ)). us ++ x) (append_assoc vs zs others)))
+    (made_left name o (us ++ (vs ++ (zs ++ others))) before items d e h makes))
+
 spelled_is_left : (d : Tree) (ws others : List (List ℕ)) (items : List Item) → IsSpelled d ws → Leaves others items → IsLeft d ws others items
 spelled_is_left (t.Text s) ws others items (w, is, text) k =
     subst (λ (x : List (List ℕ)). IsLeft (t.Text s) x others items) (sym is)
@@ -273,6 +415,14 @@ spelled_is_left (t.Union l r) ws others items (us, vs, is, first, second) k =
     join_left (codes "uni") joins.Union l r us vs ws others items (refl, refl) is (spelled_is_left l us (vs ++ others) (document r ∷ items) first (spelled_is_left r vs others items second k))
 spelled_is_left (t.PartialUnion l r) ws others items (us, vs, is, first, second) k =
     join_left (codes "puni") joins.PartialUnion l r us vs ws others items (refl, refl) is (spelled_is_left l us (vs ++ others) (document r ∷ items) first (spelled_is_left r vs others items second k))
+spelled_is_left (t.OnColumn test l r) ws others items (us, vs, zs, is, tested, first, second) k =
+    let both = spelled_is_left l vs (zs ++ others) (document r ∷ items) first (spelled_is_left r zs others items second k) in
+    let x = column_test_left test us (vs ++ (zs ++ others)) (document l ∷ document r ∷ items) tested both in
+    choice_left (codes "oncol") operators.OnColumn (t.OnColumn test l r) us vs zs ws others x.0 items (refl, refl) is x.1 (test, l, r, refl, x.2)
+spelled_is_left (t.OnNesting test l r) ws others items (us, vs, zs, is, tested, first, second) k =
+    let both = spelled_is_left l vs (zs ++ others) (document r ∷ items) first (spelled_is_left r zs others items second k) in
+    let x = nesting_test_left test us (vs ++ (zs ++ others)) (document l ∷ document r ∷ items) tested both in
+    choice_left (codes "onnest") operators.OnNesting (t.OnNesting test l r) us vs zs ws others x.0 items (refl, refl) is x.1 (test, l, r, refl, x.2)
 -- every other node is one word
 spelled_is_left d ws others items h k = leaf_left d ws others items h k
 

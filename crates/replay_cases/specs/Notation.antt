@@ -8,6 +8,10 @@ use Rattle.std.specs.Str.{IsUtf8, bytes_eq}
 use Rattle.std.specs.Str.Parse.{IsNumeral, digits_value, starts_with_minus}
 use Rattle.hex.specs.Hex.{encode_lower}
 use Rattle.prettyless_doc.specs.Breaks.{holds_break}
+use Rattle.prettyless_model.specs.declared.choice.ColumnTest.{ColumnTest}
+use Rattle.prettyless_model.specs.declared.choice.ColumnTest.TheVariants as by_column
+use Rattle.prettyless_model.specs.declared.choice.NestingTest.{NestingTest}
+use Rattle.prettyless_model.specs.declared.choice.NestingTest.TheVariants as by_nesting
 use Rattle.prettyless.specs.Tree as t
 use Rattle.prettyless.specs.Tree.{Tree}
 use Rattle.prettyless_model.specs.declared.options.RenderOptions.{RenderOptions}
@@ -85,6 +89,22 @@ Wraps name Inner ws = (inner : List (List ℕ)) × (ws ≡ name ∷ inner) × In
 abbrev pub Joins : List ℕ → (List (List ℕ) → Type 0) → (List (List ℕ) → Type 0) → List (List ℕ) → Type 0
 Joins name First Second ws = (first : List (List ℕ)) × (second : List (List ℕ)) × (ws ≡ name ∷ first ++ second) × First first × Second second
 
+-- the words of a test of the column
+abbrev pub IsColumnTest : ColumnTest → List (List ℕ) → Type 0
+IsColumnTest (by_column.AtMost k) ws = (w : List ℕ) × (ws ≡ codes "atmost" ∷ w ∷ []) × IsNumber k w
+IsColumnTest (by_column.AtLeast k) ws = (w : List ℕ) × (ws ≡ codes "atleast" ∷ w ∷ []) × IsNumber k w
+IsColumnTest by_column.IsNesting ws = ws ≡ codes "nesting" ∷ []
+
+-- the words of a test of the indent
+abbrev pub IsNestingTest : NestingTest → List (List ℕ) → Type 0
+IsNestingTest (by_nesting.AtMost k) ws = (w : List ℕ) × (ws ≡ codes "atmost" ∷ w ∷ []) × IsNumber k w
+IsNestingTest (by_nesting.AtLeast k) ws = (w : List ℕ) × (ws ≡ codes "atleast" ∷ w ∷ []) × IsNumber k w
+
+-- a test, and two documents after it
+abbrev pub Chooses : List ℕ → (List (List ℕ) → Type 0) → (List (List ℕ) → Type 0) → (List (List ℕ) → Type 0) → List (List ℕ) → Type 0
+Chooses name Test First Second ws =
+    (test : List (List ℕ)) × (first : List (List ℕ)) × (second : List (List ℕ)) × (ws ≡ name ∷ test ++ (first ++ second)) × Test test × First first × Second second
+
 -- the words of a document
 abbrev pub IsSpelled : Tree → List (List ℕ) → Type 0
 IsSpelled (t.Text s) ws = (v : List ℕ) × (ws ≡ codes "t" ∷ v ∷ []) × IsTextWord s v
@@ -100,6 +120,8 @@ IsSpelled (t.BreakOrFlat b f) ws = Joins (codes "bof") (IsSpelled b) (IsSpelled 
 IsSpelled (t.Group d) ws = Wraps (codes "grp") (IsSpelled d) ws
 IsSpelled (t.Union l r) ws = Joins (codes "uni") (IsSpelled l) (IsSpelled r) ws
 IsSpelled (t.PartialUnion l r) ws = Joins (codes "puni") (IsSpelled l) (IsSpelled r) ws
+IsSpelled (t.OnColumn test y n) ws = Chooses (codes "oncol") (IsColumnTest test) (IsSpelled y) (IsSpelled n) ws
+IsSpelled (t.OnNesting test y n) ws = Chooses (codes "onnest") (IsNestingTest test) (IsSpelled y) (IsSpelled n) ws
 -- every other node is one word, which names it
 IsSpelled d ws = leaf_alone ws ≡ Some d
 

@@ -1,6 +1,10 @@
 -- Reading the words of a document from the last to the first.
 use Rattle.std.specs.Prelude.{◌≡◌, ℕ, ℤ, List, [], ◌∷◌, ◌++◌, codes, true, Option, Some, None}
 use Rattle.prettyless_doc.specs.Breaks.{holds_break}
+use Rattle.prettyless_model.specs.declared.choice.ColumnTest.{ColumnTest}
+use Rattle.prettyless_model.specs.declared.choice.ColumnTest.TheVariants as by_column
+use Rattle.prettyless_model.specs.declared.choice.NestingTest.{NestingTest}
+use Rattle.prettyless_model.specs.declared.choice.NestingTest.TheVariants as by_nesting
 use Rattle.prettyless.specs.Tree as t
 use Rattle.prettyless.specs.Tree.{Tree}
 use Rattle.replay_cases.specs.declared.operator.Wrapper.{Wrapper}
@@ -19,7 +23,9 @@ use Rattle.replay_cases.specs.Pointers.{pointer_tree}
 -- the names of the operators
 abbrev pub operator_names : List (List ℕ × Operator)
 operator_names =
-    (codes "t", operators.Text)
+    (codes "oncol", operators.OnColumn)
+    ∷ (codes "onnest", operators.OnNesting)
+    ∷ (codes "t", operators.Text)
     ∷ (codes "w", operators.TextWithLen)
     ∷ (codes "m", operators.Payload)
     ∷ (codes "nest", operators.Nest)
@@ -74,6 +80,17 @@ items_of (o ∷ os) = items_of os ++ item_of o ∷ []
 abbrev pub BeginsWithText : List Item → List ℕ → List Item → Type 0
 BeginsWithText items s rest = (w : List ℕ) × (items ≡ word w ∷ rest) × IsTextWord s w
 
+-- the items begin with the words of a test of the column, and then come the others
+abbrev pub TakesColumnTest : List Item → ColumnTest → List Item → Type 0
+TakesColumnTest items (by_column.AtMost k) rest = (w : List ℕ) × (items ≡ word (codes "atmost") ∷ word w ∷ rest) × IsNumber k w
+TakesColumnTest items (by_column.AtLeast k) rest = (w : List ℕ) × (items ≡ word (codes "atleast") ∷ word w ∷ rest) × IsNumber k w
+TakesColumnTest items by_column.IsNesting rest = items ≡ word (codes "nesting") ∷ rest
+
+-- and with those of a test of the indent
+abbrev pub TakesNestingTest : List Item → NestingTest → List Item → Type 0
+TakesNestingTest items (by_nesting.AtMost k) rest = (w : List ℕ) × (items ≡ word (codes "atmost") ∷ word w ∷ rest) × IsNumber k w
+TakesNestingTest items (by_nesting.AtLeast k) rest = (w : List ℕ) × (items ≡ word (codes "atleast") ∷ word w ∷ rest) × IsNumber k w
+
 -- an operator takes what it needs from the items, makes a document of it, and leaves the others
 abbrev pub Makes : Operator → List Item → Tree → List Item → Type 0
 Makes operators.Text items d rest = (s : List ℕ) × (d ≡ t.Text s) × BeginsWithText items s rest
@@ -85,6 +102,10 @@ Makes operators.Nest items d rest =
 Makes (operators.Wrapper wrapper) items d rest = (inner : Tree) × (d ≡ wrapped wrapper inner) × (items ≡ document inner ∷ rest)
 Makes (operators.Join join) items d rest =
     (first : Tree) × (second : Tree) × (d ≡ joined join first second) × (items ≡ document first ∷ document second ∷ rest)
+Makes operators.OnColumn items d rest =
+    (test : ColumnTest) × (first : Tree) × (second : Tree) × (d ≡ t.OnColumn test first second) × TakesColumnTest items test (document first ∷ document second ∷ rest)
+Makes operators.OnNesting items d rest =
+    (test : NestingTest) × (first : Tree) × (second : Tree) × (d ≡ t.OnNesting test first second) × TakesNestingTest items test (document first ∷ document second ∷ rest)
 
 -- what becomes of the items where this comes in front of them: a node, what an operator makes, or a word
 abbrev pub Puts : Option Tree → Option Operator → List ℕ → List Item → List Item → Type 0

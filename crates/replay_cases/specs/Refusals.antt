@@ -44,6 +44,8 @@ description_of lacks.Text = codes "a text in hexadecimal, lower case, or -"
 description_of lacks.Columns = codes "a number of columns in decimal, below 2^64"
 description_of lacks.Offset = codes "a number of columns in decimal, from -2^63 on and below 2^63"
 description_of lacks.Payload = codes "a text that holds LF or CR"
+description_of lacks.ColumnTest = codes "atmost, atleast or nesting"
+description_of lacks.NestingTest = codes "atmost or atleast"
 description_of lacks.End = codes "nothing after the document"
 
 -- the answer to a line that is no case: the line's number, and what was expected

@@ -16,6 +16,10 @@ pub enum Expected {
     Offset,
     /// A text that a payload is made of.
     Payload,
+    /// What a choice by column asks.
+    ColumnTest,
+    /// What a choice by nesting asks.
+    NestingTest,
     /// Nothing after the document.
     End,
 }
@@ -37,6 +41,8 @@ impl Expected {
             Expected::Columns => "a number of columns in decimal, below 2^64",
             Expected::Offset => "a number of columns in decimal, from -2^63 on and below 2^63",
             Expected::Payload => "a text that holds LF or CR",
+            Expected::ColumnTest => "atmost, atleast or nesting",
+            Expected::NestingTest => "atmost or atleast",
             Expected::End => "nothing after the document",
         }
     }

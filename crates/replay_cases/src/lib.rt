@@ -3,6 +3,7 @@
 
 mod answer;
 mod case;
+mod condition;
 mod expected;
 mod hexadecimal;
 mod offset;

@@ -35,6 +35,8 @@ pub enum Operator {
     Nest,
     Wrapper(Wrapper),
     Join(Join),
+    OnColumn,
+    OnNesting,
 }
 
 /// The node that a word names, with nothing below it and no text.
@@ -56,7 +58,11 @@ pub fn leaf_named<'a>(word: &[u8]) -> Option<Doc<'a, Pointer<'a>>>
 pub fn operator_named(word: &[u8]) -> Option<Operator>
     ensures { result ≡ operator_of word.now }
 {
+    if word == b"onnest".as_slice() {
+        return Some(Operator::OnNesting);
+    }
     match word {
+        b"oncol" => Some(Operator::OnColumn),
         b"t" => Some(Operator::Text),
         b"w" => Some(Operator::TextWithLen),
         b"m" => Some(Operator::Payload),

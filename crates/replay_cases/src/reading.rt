@@ -8,6 +8,7 @@ ghost use Rattle.replay_cases.specs.Reading.{Item, items_of, BeginsWithText, Mak
 ghost use Rattle.replay_cases.specs.Refusals.{Refuses};
 ghost use Rattle.replay_cases.specs.declared.operator.Operator.TheVariants.{Payload};
 
+use crate::condition::{take_column_test, take_nesting_test};
 use crate::expected::Expected;
 use crate::hexadecimal::text;
 use crate::offset::offset;
@@ -70,6 +71,18 @@ fn make<'a>(
             put(place, Doc::Nest(offset, inner))
         }
         Operator::Wrapper(wrapper) => put(place, wrapper.doc(take_document(operands)?)),
+        Operator::OnColumn => {
+            let test = take_column_test(operands)?;
+            let first = take_document(operands)?;
+            let second = take_document(operands)?;
+            put(place, Doc::OnColumn(test, first, second))
+        }
+        Operator::OnNesting => {
+            let test = take_nesting_test(operands)?;
+            let first = take_document(operands)?;
+            let second = take_document(operands)?;
+            put(place, Doc::OnNesting(test, first, second))
+        }
         Operator::Join(join) => {
             let first = take_document(operands)?;
             let second = take_document(operands)?;

@@ -4,7 +4,8 @@ use Rattle.prettyless.specs.Tree as t
 use Rattle.prettyless.specs.Tree.{Tree, size}
 use Rattle.prettyless.specs.Built.{append, append_to, nest, group}
 use Rattle.prettyless.specs.Lines.{line}
-use Rattle.prettyless.specs.Layout.{State, Outcome, Bytes, Done, Failed, Entry, Breaks, Whole, Cut, after_bytes, and_then, entry, initial, lay, lay_text, breaks, finish, layout_by, layout, probe, nested, lay_ending, next_indent, bytes_of}
+use Rattle.prettyless.specs.Column.{nested}
+use Rattle.prettyless.specs.Layout.{State, Outcome, Bytes, Done, Failed, Entry, Breaks, Whole, Cut, after_bytes, and_then, entry, initial, lay, lay_text, breaks, finish, layout_by, layout, probe, lay_ending, next_indent, bytes_of}
 use Rattle.prettyless_model.specs.declared.options.RenderOptions.{RenderOptions}
 use Rattle.prettyless_model.specs.declared.options.IndentationPolicy.{IndentationPolicy}
 use Rattle.prettyless_model.specs.declared.options.IndentationPolicy.TheVariants.{Eager, Deferred}
@@ -85,7 +86,7 @@ module _ (o : RenderOptions) (brk : Breaks) (ends : EndsLines brk) where
   lay_done (t.BreakOrFlat b f) i Break rest st h s = lay_done b i Break rest st h s
   lay_done (t.BreakOrFlat b f) i Flat rest st h s = lay_done f i Flat rest st h s
   lay_done (t.Group d) i Break rest st h s =
-      elim (probe o d Flat rest st) as (λ (b : Bool). IsDone (lay o brk d i (cond b Flat Break) rest st)) [
+      elim (probe o d i Flat rest st) as (λ (b : Bool). IsDone (lay o brk d i (cond b Flat Break) rest st)) [
         | true ↦ lay_done d i Flat rest st h s.0
         | false ↦ lay_done d i Break rest st h s.1
       ]

@@ -2,7 +2,7 @@
 use crate::expected::{Failing, built, points, refuses, shows};
 use prettyless::prelude::*;
 use prettyless::text::{CowStr, Text};
-use prettyless::{BuildDoc, Doc, DocPtr};
+use prettyless::{BuildDoc, ColumnTest, Doc, DocPtr, NestingTest};
 use std::fmt;
 use std::process::Abort;
 
@@ -59,6 +59,13 @@ pub(crate) fn operands<'a, D: DocPlace<'a>>(rt: &impl Abort, place: &'a D) {
     shows(rt, place.line_suffix(()), "LineSuffix(Nil)");
     shows(rt, place.if_group_flat("a"), "WhenFlat(\"a\")");
     shows(rt, place.if_group_break("b"), "WhenBreak(\"b\")");
+}
+
+pub(crate) fn by_place<'a, D: DocPlace<'a>>(rt: &impl Abort, place: &'a D) {
+    let hung = place.if_column(ColumnTest::AtMost(7), "a", ());
+    shows(rt, hung, "OnColumn(AtMost(7), \"a\", Nil)");
+    let deep = place.if_nesting(NestingTest::AtLeast(2), (), "b");
+    shows(rt, deep, "OnNesting(AtLeast(2), Nil, \"b\")");
 }
 
 pub(crate) fn sequences<'a, D: DocPlace<'a>>(rt: &impl Abort, place: &'a D) {

@@ -2,6 +2,7 @@
 use crate::expected::becomes;
 use prettyless::prelude::*;
 use prettyless::text::CowStr;
+use prettyless::{ColumnTest, NestingTest};
 use std::process::Abort;
 
 pub(crate) fn leaves<'a, D: DocPlace<'a>>(rt: &impl Abort, place: &'a D) {
@@ -49,6 +50,13 @@ pub(crate) fn choices<'a, D: DocPlace<'a>>(rt: &impl Abort, place: &'a D) {
     becomes(rt, place, either, "PartialUnion(\"a\", Fail)");
     let comma = flat_alt(hard_line(), ",");
     becomes(rt, place, comma, "FlatOrBreak(\",\", HardLine)");
+}
+
+pub(crate) fn by_place<'a, D: DocPlace<'a>>(rt: &impl Abort, place: &'a D) {
+    let hung = if_column(ColumnTest::IsNesting, "a", fail());
+    becomes(rt, place, hung, "OnColumn(IsNesting, \"a\", Fail)");
+    let deep = if_nesting(NestingTest::AtLeast(2), "", "b");
+    becomes(rt, place, deep, "OnNesting(AtLeast(2), Nil, \"b\")");
 }
 
 pub(crate) fn sequences<'a, D: DocPlace<'a>>(rt: &impl Abort, place: &'a D) {

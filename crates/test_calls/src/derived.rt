@@ -2,6 +2,7 @@
 //! shown.
 use prettyless::combinators::*;
 use prettyless::text::CowStr;
+use prettyless::{ColumnTest, NestingTest};
 use std::test::Fail;
 
 #[test]
@@ -65,6 +66,15 @@ fn alternatives_are_cloned(rt: HostRuntime) -> Result<(), Fail> {
     let either = union("a", partial_union("b", flat_alt("c", "d")));
     let copy = format!(in rt.alloc(); "{:?}", either.clone()?)?;
     assert!(rt; copy.as_str() == "Union(\"a\", PartialUnion(\"b\", FlatAlt(\"c\", \"d\")))");
+    Ok(())
+}
+
+#[test]
+fn choices_by_place_are_cloned(rt: HostRuntime) -> Result<(), Fail> {
+    let deep = if_nesting(NestingTest::AtMost(1), "b", "c");
+    let hung = if_column(ColumnTest::AtLeast(2), "a", deep);
+    let copy = format!(in rt.alloc(); "{:?}", hung.clone()?)?;
+    assert!(rt; copy.as_str() == "IfColumn(AtLeast(2), \"a\", IfNesting(AtMost(1), \"b\", \"c\"))");
     Ok(())
 }
 

@@ -18,6 +18,7 @@ where
     calls::widths(rt, place);
     calls::strings(rt, place);
     calls::operands(rt, place);
+    calls::by_place(rt, place);
     calls::sequences(rt, place);
     calls::separators(rt, place);
     lists::gaps(rt, place);
@@ -66,6 +67,7 @@ where
     pointers::texts(rt, place);
     pointers::wrappers(rt, place);
     pointers::sums(rt, place);
+    pointers::by_place(rt, place);
     pointers::sequences(rt, place);
     pointers::separators(rt, place);
     pointers::clones(rt, place);
@@ -78,6 +80,7 @@ fn combine<'a, D: DocPlace<'a>>(rt: &impl Abort, place: &'a D) {
     combined::indents(rt, place);
     combined::wrappers(rt, place);
     combined::choices(rt, place);
+    combined::by_place(rt, place);
     combined::sequences(rt, place);
 }
 

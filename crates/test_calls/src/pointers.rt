@@ -3,7 +3,9 @@ use crate::expected::{Failing, built, points, rendered};
 use bumpalo::Bump;
 use prettyless::prelude::*;
 use prettyless::text::{BuildError, CowStr, Text};
-use prettyless::{Arena, BoxDoc, BuildDoc, Doc, DocBuilder, DocPtr, IntoRef, RcDoc};
+use prettyless::{
+    Arena, BoxDoc, BuildDoc, ColumnTest, Doc, DocBuilder, DocPtr, IntoRef, NestingTest, RcDoc,
+};
 use std::alloc::Global;
 use std::fmt;
 use std::process::Abort;
@@ -80,6 +82,17 @@ pub(crate) fn sums<'a, D: DocPlace<'a, Doc = T>, T: DocPtr<'a> + fmt::Debug>(
     points(rt, memory, sum, "[HardLine, \"a\"]");
     let comma = line(rt, place).flat_alt(place, ",");
     points(rt, memory, comma, "FlatOrBreak(\",\", HardLine)");
+}
+
+pub(crate) fn by_place<'a, D: DocPlace<'a, Doc = T>, T: DocPtr<'a> + fmt::Debug>(
+    rt: &impl Abort,
+    place: &'a D,
+) {
+    let memory = place.memory();
+    let hung = T::if_column(place, ColumnTest::IsNesting, "a", ());
+    points(rt, memory, hung, "OnColumn(IsNesting, \"a\", Nil)");
+    let deep = T::if_nesting(place, NestingTest::AtMost(1), (), "b");
+    points(rt, memory, deep, "OnNesting(AtMost(1), Nil, \"b\")");
 }
 
 pub(crate) fn sequences<'a, D: DocPlace<'a, Doc = T>, T: DocPtr<'a> + fmt::Debug>(

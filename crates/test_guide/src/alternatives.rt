@@ -1,7 +1,7 @@
 //! Documents that are chosen from.
 use crate::layouts::compare;
-use prettyless::BoxAllocator;
 use prettyless::prelude::*;
+use prettyless::{BoxAllocator, ColumnTest};
 use std::process::Abort;
 use std::test::Fail;
 
@@ -51,11 +51,37 @@ fn failures_reject_their_branch<'a, D: DocPlace<'a>>(
     compare(rt, place, either, &[(3, "a b"), (2, "c")])
 }
 
+fn values_hang_from_their_names<'a, D: DocPlace<'a>>(
+    rt: &impl Abort,
+    place: &'a D,
+) -> Result<(), Fail> {
+    let value = if_column(ColumnTest::IsNesting, ("  ", "f(x)"), "f(x)");
+    let binding = ("let y =", soft_line_or_space(), value);
+    compare(
+        rt,
+        place,
+        binding,
+        &[(12, "let y = f(x)"), (11, "let y =\n  f(x)")],
+    )
+}
+
+fn commas_follow_what_is_near_the_margin<'a, D: DocPlace<'a>>(
+    rt: &impl Abort,
+    place: &'a D,
+) -> Result<(), Fail> {
+    let items = nest(2, (line_or_nil(), "a,", line_or_space(), "b"));
+    let comma = if_column(ColumnTest::AtMost(3), ",", nil());
+    let list = group(("[", items, comma, line_or_nil(), "]"));
+    compare(rt, place, list, &[(6, "[a, b]"), (5, "[\n  a,\n  b,\n]")])
+}
+
 fn all<'a, D: DocPlace<'a>>(rt: &impl Abort, place: &'a D) -> Result<(), Fail> {
     unions_look_at_all_lines(rt, place)?;
     partial_unions_look_at_the_first_line(rt, place)?;
     rejected_branches_leave_nothing(rt, place)?;
-    failures_reject_their_branch(rt, place)
+    failures_reject_their_branch(rt, place)?;
+    values_hang_from_their_names(rt, place)?;
+    commas_follow_what_is_near_the_margin(rt, place)
 }
 
 #[test]

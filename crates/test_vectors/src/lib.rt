@@ -14,6 +14,8 @@ mod near_misses;
 #[cfg(test)]
 mod payloads;
 #[cfg(test)]
+mod places;
+#[cfg(test)]
 mod reader;
 #[cfg(test)]
 mod rendered;

@@ -1,9 +1,23 @@
 use prettyless::text::{CowStr, Text};
-use prettyless::{Doc, DocPlace, DocPtr};
+use prettyless::{ColumnTest, Doc, DocPlace, DocPtr, NestingTest};
 use std::alloc::Global;
 use std::test::Fail;
 
-// A variant, with the number and the text that follow it where it has them.
+// Whether a number follows the variant.
+fn has_number(variant: &str) -> bool {
+    matches!(
+        variant,
+        "TextWithLen"
+            | "Nest"
+            | "OnColumnAtMost"
+            | "OnColumnAtLeast"
+            | "OnNestingAtMost"
+            | "OnNestingAtLeast"
+    )
+}
+
+// A variant, with the number and the text that follow it where it has them. A choice by column or nesting has its test in the
+// variant's name.
 #[derive(Clone, Copy)]
 struct Node<'a> {
     variant: &'a str,
@@ -37,11 +51,7 @@ impl<'a> Reader<'a> {
     // The next node.
     fn node(&mut self) -> Result<Node<'a>, Fail> {
         let variant = self.word();
-        let number = if matches!(variant, "TextWithLen" | "Nest") {
-            self.word()
-        } else {
-            ""
-        };
+        let number = if has_number(variant) { self.word() } else { "" };
         let text = if matches!(variant, "Text" | "TextWithLen" | "MultilineText") {
             self.quoted()?
         } else {
@@ -105,6 +115,23 @@ fn pair<'a, T: DocPtr<'a>>(node: Node<'a>, first: T, second: T) -> Result<Doc<'a
         "BreakOrFlat" => Ok(Doc::BreakOrFlat(first, second)),
         "Union" => Ok(Doc::Union(first, second)),
         "PartialUnion" => Ok(Doc::PartialUnion(first, second)),
+        "OnColumnIsNesting" => Ok(Doc::OnColumn(ColumnTest::IsNesting, first, second)),
+        _ => choice(node.variant, node.number.parse()?, first, second),
+    }
+}
+
+// The choice by column or nesting, with a number in its test.
+fn choice<'a, T: DocPtr<'a>>(
+    variant: &str,
+    number: usize,
+    first: T,
+    second: T,
+) -> Result<Doc<'a, T>, Fail> {
+    match variant {
+        "OnColumnAtMost" => Ok(Doc::OnColumn(ColumnTest::AtMost(number), first, second)),
+        "OnColumnAtLeast" => Ok(Doc::OnColumn(ColumnTest::AtLeast(number), first, second)),
+        "OnNestingAtMost" => Ok(Doc::OnNesting(NestingTest::AtMost(number), first, second)),
+        "OnNestingAtLeast" => Ok(Doc::OnNesting(NestingTest::AtLeast(number), first, second)),
         _ => Err(Fail::new("no variant")),
     }
 }
@@ -122,7 +149,8 @@ fn over<'a, T: DocPtr<'a>>(
     if !matches!(
         node.variant,
         "Append" | "BreakOrFlat" | "Union" | "PartialUnion"
-    ) {
+    ) && !node.variant.starts_with("On")
+    {
         return around(node, first);
     }
     let second = documents.pop().ok_or("no second document")?;

@@ -14,7 +14,7 @@ use std::test::Fail;
 // A document as the reader takes it, and what it has to be shown as.
 type Case<'a> = (&'a str, &'a str);
 
-const NODES: [Case<'static>; 13] = [
+const NODES: [Case<'static>; 15] = [
     ("Nil", "Nil"),
     ("Fail", "Fail"),
     ("WeakSpace", "WeakSpace"),
@@ -36,6 +36,14 @@ const NODES: [Case<'static>; 13] = [
     (
         "Union Text 'a' PartialUnion Text 'b' Nil",
         "Union(\"a\", PartialUnion(\"b\", Nil))",
+    ),
+    (
+        "OnColumnAtMost 7 Text 'a' OnColumnIsNesting Nil Fail",
+        "OnColumn(AtMost(7), \"a\", OnColumn(IsNesting, Nil, Fail))",
+    ),
+    (
+        "OnNestingAtLeast 2 Text 'a' Nil",
+        "OnNesting(AtLeast(2), \"a\", Nil)",
     ),
 ];
 

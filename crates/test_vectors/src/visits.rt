@@ -15,7 +15,11 @@ const LINES: &str = "Union Append Append Text 'short' HardLine Text 'long long l
 // At a width of 3 the metrics reject the payload.
 const PAYLOAD: &str = "Union MultilineText 'long\nb' Text 'c'";
 
-const CASES: [Case<'static>; 8] = [
+// The document that is not taken is visited neither by the printer nor by the probe.
+const LETTER: &str =
+    "Group Append Append OnColumnAtMost 0 Text 'a' Text 'b' BreakOrFlat HardLine Text ' ' Text 'c'";
+
+const CASES: [Case<'static>; 9] = [
     // A group asks one probe, which ends at the first text past the width.
     (80, PAIR, 7, 6),
     (2, PAIR, 7, 6),
@@ -26,6 +30,7 @@ const CASES: [Case<'static>; 8] = [
     // A payload as the first branch of a union is visited, kept or not; where it is rejected, so is the second branch.
     (80, PAYLOAD, 2, 0),
     (3, PAYLOAD, 3, 0),
+    (80, LETTER, 8, 7),
     (80, "Nil", 1, 0),
 ];
 

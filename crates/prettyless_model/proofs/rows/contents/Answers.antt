@@ -12,3 +12,6 @@ returns-clause-written c = refl
 
 pub returns-clause-by_every_choice : goal.returns-clause-by_every_choice
 returns-clause-by_every_choice c = (refl, refl)
+
+pub returns-clause-by_every_test : goal.returns-clause-by_every_test
+returns-clause-by_every_test c = (refl, refl)

@@ -1,0 +1,63 @@
+//! The calls of an allocator that take two documents.
+ghost use Rattle.prettyless_doc.specs.Tree.{OnColumn, OnNesting};
+ghost use Rattle.prettyless_doc.specs.DocTree.{built};
+ghost use Rattle.prettyless_build.specs.Built as to;
+
+use prettyless_build::{DocBuilder, Pretty};
+use prettyless_doc::{BuildError, Doc, DocPlace};
+use prettyless_model::choice::{ColumnTest, NestingTest};
+
+/// The documents that every place of nodes can make of one of type `P` and one of type `Q`. Each call fails as making one
+/// of the two does, or where memory is refused. The first becomes a document before the second, and both do, also where the
+/// first is refused.
+///
+/// `P` and `Q` are parameters of the trait and not of its calls, as for `DocAllocatorOf`.
+pub trait DocAllocatorOfTwo<'a, P: Pretty<'a, Self>, Q: Pretty<'a, Self>>: DocPlace<'a> {
+    /// The first document where the test of the column at which it would start holds, else the second, flat or broken.
+    fn if_column(
+        &'a self,
+        test: ColumnTest,
+        first: P,
+        second: Q,
+    ) -> Result<DocBuilder<'a, Self>, BuildError>
+        ensures { to.BuildsOfTwo result (λ b. built Self.Doc.tree b.1) (P.becomes first) (Q.becomes second) (P.refuses first) (Q.refuses second)
+            (OnColumn test) };
+
+    /// The first document where the test of the indent holds, else the second, flat or broken.
+    fn if_nesting(
+        &'a self,
+        test: NestingTest,
+        first: P,
+        second: Q,
+    ) -> Result<DocBuilder<'a, Self>, BuildError>
+        ensures { to.BuildsOfTwo result (λ b. built Self.Doc.tree b.1) (P.becomes first) (Q.becomes second) (P.refuses first) (Q.refuses second)
+            (OnNesting test) };
+}
+
+impl<'a, D: DocPlace<'a>, P: Pretty<'a, D>, Q: Pretty<'a, D>> DocAllocatorOfTwo<'a, P, Q> for D {
+    fn if_column(
+        &'a self,
+        test: ColumnTest,
+        first: P,
+        second: Q,
+    ) -> Result<DocBuilder<'a, D>, BuildError> {
+        let first = first.pretty(self);
+        let second = second.pretty(self);
+        let first = first?.into_doc()?;
+        let second = second?.into_doc()?;
+        Ok(DocBuilder::new(self, Doc::OnColumn(test, first, second)))
+    }
+
+    fn if_nesting(
+        &'a self,
+        test: NestingTest,
+        first: P,
+        second: Q,
+    ) -> Result<DocBuilder<'a, D>, BuildError> {
+        let first = first.pretty(self);
+        let second = second.pretty(self);
+        let first = first?.into_doc()?;
+        let second = second?.into_doc()?;
+        Ok(DocBuilder::new(self, Doc::OnNesting(test, first, second)))
+    }
+}
