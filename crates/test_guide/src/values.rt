@@ -1,5 +1,7 @@
 //! A small formatter: the document of a value that holds values is made by recursion.
 ghost use Rattle.std.specs.Prelude.{◌≡◌, IfOk, map};
+ghost use Rattle.std.specs.Fmt.{decimal};
+ghost use Rattle.prettyless.specs.Counted.{as_string};
 ghost use Rattle.prettyless.specs.Trees.{ref_tree};
 ghost use Rattle.test_guide.specs.Values.{document_of, list_of};
 
@@ -23,18 +25,25 @@ fn list<'a, D: DocPlace<'a>>(place: &'a D, docs: Vec<D::Doc>) -> Result<D::Doc, 
     place.bracketed("[", commas, "]", 2)?.into_doc()
 }
 
+/// A number.
+fn number<'a, D: DocPlace<'a>>(place: &'a D, number: u32) -> Result<D::Doc, BuildError>
+    ensures { IfOk result (λ p. D.Doc.tree p ≡ as_string (decimal number)) }
+{
+    place.as_string(number)?.into_doc()
+}
+
 /// The document of a value.
 pub fn document<'a>(arena: &'a Arena<'a>, value: &Value) -> Result<RefDoc<'a>, BuildError>
     ensures { IfOk result (λ p. ref_tree p ≡ document_of value.now) }
 {
     match value {
-        Value::Number(number) => arena.as_string(*number)?.into_doc(),
+        Value::Number(n) => Ok(number(arena, *n)?),
         Value::List(values) => {
             let mut docs = Vec::new(arena.memory());
             for value in values {
                 docs.push(document(arena, value)?)?;
             }
-            list(arena, docs)
+            Ok(list(arena, docs)?)
         }
     }
 }

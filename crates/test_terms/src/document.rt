@@ -1,7 +1,8 @@
 //! The document of a term, by recursion.
+ghost use Rattle.std.specs.Fmt.{decimal};
 ghost use Rattle.std.specs.Prelude.{◌≡◌, IfOk};
 ghost use Rattle.prettyless.specs.Built.{append};
-ghost use Rattle.prettyless.specs.Counted.{text};
+ghost use Rattle.prettyless.specs.Counted.{as_string, text};
 ghost use Rattle.prettyless.specs.Trees.{ref_tree};
 ghost use Rattle.test_terms.specs.Documents.{document_of, operation_of};
 ghost use Rattle.test_terms.specs.Expression.{HasSmallNumbers};
@@ -12,6 +13,13 @@ use crate::term::Term;
 use prettyless::prelude::*;
 use prettyless::text::BuildError;
 use prettyless::{Arena, BuildDoc, RefDoc};
+
+/// A number.
+fn number<'a, D: DocPlace<'a>>(place: &'a D, number: u32) -> Result<D::Doc, BuildError>
+    ensures { IfOk result (λ p. D.Doc.tree p ≡ as_string (decimal number)) }
+{
+    place.as_string(number)?.into_doc()
+}
 
 /// An operand with a minus before it.
 fn negation<'a, D: DocPlace<'a>>(place: &'a D, operand: D::Doc) -> Result<D::Doc, BuildError>
@@ -45,7 +53,7 @@ pub fn document<'a>(arena: &'a Arena<'a>, term: &Term) -> Result<RefDoc<'a>, Bui
     ensures numbers { IfOk result (λ _. HasSmallNumbers (expression_of term.now)) }
 {
     match term {
-        Term::Number(number) => arena.as_string(*number)?.into_doc(),
+        Term::Number(n) => Ok(number(arena, *n)?),
         Term::Negate(operand) => negation(arena, document(arena, operand)?),
         Term::Sum(left, right) => {
             let left = document(arena, left)?;
