@@ -1,10 +1,10 @@
 //! The document of a workload.
-ghost use Rattle.std.specs.Prelude.{◌≡◌, ◌⊎◌, IfErr, IfOk};
+ghost use Rattle.std.specs.Prelude.{◌≡◌, ◌⊎◌, IfErr, IfNone, IfOk, IfSome};
 ghost use Rattle.prettyless.specs.BuildErrors.{IsMemory};
 ghost use Rattle.prettyless.specs.DocTree.{built};
 ghost use Rattle.prettyless.specs.Trees.{ref_tree};
 ghost use Rattle.bench_workloads.specs.Documents.{IsDocument};
-ghost use Rattle.bench_workloads.specs.declared.workload.Workload.TheVariants.{Json};
+ghost use Rattle.bench_workloads.specs.declared.workload.Workload.TheVariants.{Json, Tree};
 
 use crate::groups::{bare_groups, text_groups};
 use crate::json::array;
@@ -13,7 +13,31 @@ use crate::trials::{kept_trials, rejected_trials};
 use crate::words::{fill, lines};
 use crate::workload::Workload;
 use prettyless::text::BuildError;
-use prettyless::{Arena, DocBuilder};
+use prettyless::{Arena, DocBuilder, DocPlace};
+
+// The document of a workload at a size, for all but trees, whose recursion names the arena.
+fn document_over<'a, D: DocPlace<'a>>(
+    place: &'a D,
+    workload: Workload,
+    size: usize,
+) -> Result<Option<DocBuilder<'a, D>>, BuildError>
+    ensures ok { IfOk result (λ found. IfSome found (λ b. IsDocument workload size (built D.Doc.tree b.1))) }
+    ensures none { IfOk result (λ found. IfNone found (workload ≡ Tree)) }
+    // A number is shown in a record, and no contract says when that fails.
+    ensures err { IfErr result (λ e. IsMemory e ⊎ (workload ≡ Json)) }
+{
+    match workload {
+        Workload::Tree => Ok(None),
+        Workload::List | Workload::FlatList => Ok(Some(list(place, size)?)),
+        Workload::Json => Ok(Some(array(place, size)?)),
+        Workload::TextGroups => Ok(Some(text_groups(place, size)?)),
+        Workload::BareGroups => Ok(Some(bare_groups(place, size)?)),
+        Workload::Fill => Ok(Some(fill(place, size)?)),
+        Workload::Lines => Ok(Some(lines(place, size)?)),
+        Workload::KeptTrials => Ok(Some(kept_trials(place, size)?)),
+        Workload::RejectedTrials => Ok(Some(rejected_trials(place, size)?)),
+    }
+}
 
 /// The document of a workload at a size, with its nodes in this arena.
 pub(crate) fn document<'a>(
@@ -22,18 +46,10 @@ pub(crate) fn document<'a>(
     size: usize,
 ) -> Result<DocBuilder<'a, Arena<'a>>, BuildError>
     ensures ok { IfOk result (λ b. IsDocument workload size (built ref_tree b.1)) }
-    // A number is shown in a record, and no contract says when that fails.
     ensures err { IfErr result (λ e. IsMemory e ⊎ (workload ≡ Json)) }
 {
-    match workload {
-        Workload::Tree => tree(arena, size),
-        Workload::List | Workload::FlatList => list(arena, size),
-        Workload::Json => array(arena, size),
-        Workload::TextGroups => text_groups(arena, size),
-        Workload::BareGroups => bare_groups(arena, size),
-        Workload::Fill => fill(arena, size),
-        Workload::Lines => lines(arena, size),
-        Workload::KeptTrials => kept_trials(arena, size),
-        Workload::RejectedTrials => rejected_trials(arena, size),
+    match document_over(arena, workload, size)? {
+        Some(document) => Ok(document),
+        None => tree(arena, size),
     }
 }

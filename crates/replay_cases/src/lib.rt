@@ -16,5 +16,3 @@ mod refusal;
 mod replayed;
 pub mod request;
 pub mod run;
-#[cfg(test)]
-mod tests;

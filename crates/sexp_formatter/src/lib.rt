@@ -15,6 +15,3 @@ pub use ending::Ending;
 pub use error::RunError;
 pub use expression::SExp;
 pub use words::options;
-
-#[cfg(test)]
-mod tests;

@@ -1,4 +1,5 @@
 //! The layouts of values of a type that contains itself.
+use crate::layouts::compare_doc;
 use crate::values::{Value, document};
 use prettyless::{Arena, Bump, DocPtr};
 use std::test::Fail;
@@ -16,10 +17,5 @@ fn values_of_the_guide(rt: HostRuntime) -> Result<(), Fail> {
         (10, "[\n  1,\n  [2, 3]\n]"),
         (7, "[\n  1,\n  [\n    2,\n    3\n  ]\n]"),
     ];
-    for (width, layout) in layouts {
-        let mut out = String::new(alloc);
-        document.doc().render_fmt(alloc, width, &mut out)?;
-        assert_eq!(rt; out.as_str(), layout, "at {width}");
-    }
-    Ok(())
+    compare_doc(&rt, alloc, document.doc(), &layouts)
 }

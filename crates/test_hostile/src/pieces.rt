@@ -3,12 +3,11 @@ ghost use Rattle.std.specs.Prelude.{Some, ◌≡◌, ⊤};
 ghost use Rattle.test_hostile.specs.declared.sinks.Fault.TheVariants.{Document};
 
 use crate::sinks::Fault;
-use prettyless::prelude::*;
-use prettyless::text::{BuildError, CowStr};
 use prettyless::{BoxAllocator, BoxDoc, DocPtr, LineEnding, Render, RenderError, RenderOptions};
 use std::alloc::Global;
 use std::process::Abort;
 use std::test::Fail;
+use test_documents::read;
 
 // A sink that takes so many pieces, each whole, and fails at the next, of which it takes nothing.
 #[derive(Drop)]
@@ -117,34 +116,24 @@ fn with_crlf(width: usize) -> RenderOptions {
 }
 
 // An alternative that is kept, with a suffix in front of it.
-fn kept<'a, D: DocPlace<'a>>(place: &'a D) -> Result<D::Doc, BuildError> {
-    let kept = union(("b", hard_line()), "x");
-    let document = ("a", line_suffix("//outer"), kept, "c");
-    place.pretty(document)?.into_doc()
-}
+const KEPT: &str =
+    "Append Append Append Text 'a' LineSuffix Text '//outer' Union Append Text 'b' HardLine Text 'x' Text 'c'";
 
 // One that is a payload.
-fn kept_payload<'a, D: DocPlace<'a>>(place: &'a D) -> Result<D::Doc, BuildError> {
-    let kept = union(multiline_text(CowStr::Borrowed("b\nc")), "x");
-    place.pretty(("a", weak_space(), kept))?.into_doc()
-}
+const KEPT_PAYLOAD: &str = "Append Append Text 'a' WeakSpace Union MultilineText 'b\nc' Text 'x'";
 
 // One that is nothing.
-fn kept_nothing<'a, D: DocPlace<'a>>(place: &'a D) -> Result<D::Doc, BuildError> {
-    place.pretty(union(nil(), "x"))?.into_doc()
-}
+const KEPT_NOTHING: &str = "Union Nil Text 'x'";
 
 // A line break with a long indent.
-fn long_indent<'a, D: DocPlace<'a>>(place: &'a D) -> Result<D::Doc, BuildError> {
-    place.pretty(nest(205, hard_line()))?.into_doc()
-}
+const LONG_INDENT: &str = "Nest 205 HardLine";
 
 // An alternative that is kept is a piece of its own, with the suffixes and the line ends in it.
 #[test]
 fn kept_alternatives_are_pieces(rt: HostRuntime) -> Result<(), Fail> {
     let memory = rt.alloc();
     let boxes = BoxAllocator::new(memory);
-    let document = kept(&boxes)?;
+    let document = read(&boxes, KEPT)?;
     let options = RenderOptions::new(80);
     compare(&rt, memory, &document, options, &["a", "b//outer\n", "c"])?;
     compare(
@@ -161,7 +150,7 @@ fn kept_alternatives_are_pieces(rt: HostRuntime) -> Result<(), Fail> {
 fn payloads_need_no_trial(rt: HostRuntime) -> Result<(), Fail> {
     let memory = rt.alloc();
     let boxes = BoxAllocator::new(memory);
-    let document = kept_payload(&boxes)?;
+    let document = read(&boxes, KEPT_PAYLOAD)?;
     let options = RenderOptions::new(80);
     compare(&rt, memory, &document, options, &["a", " ", "b\nc"])
 }
@@ -170,7 +159,7 @@ fn payloads_need_no_trial(rt: HostRuntime) -> Result<(), Fail> {
 fn no_piece_is_empty(rt: HostRuntime) -> Result<(), Fail> {
     let memory = rt.alloc();
     let boxes = BoxAllocator::new(memory);
-    let document = kept_nothing(&boxes)?;
+    let document = read(&boxes, KEPT_NOTHING)?;
     compare(&rt, memory, &document, RenderOptions::new(80), &[])
 }
 
@@ -180,7 +169,7 @@ fn long_indents_are_in_pieces(rt: HostRuntime) -> Result<(), Fail> {
     let boxes = BoxAllocator::new(memory);
     let hundred = format!(in memory; "{:100}", "")?;
     let hundred = hundred.as_str();
-    let document = long_indent(&boxes)?;
+    let document = read(&boxes, LONG_INDENT)?;
     let options = RenderOptions::new(0);
     compare(
         &rt,

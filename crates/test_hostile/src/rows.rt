@@ -1,7 +1,7 @@
 //! Documents, and what a sink has of each that takes all.
-use prettyless::prelude::*;
-use prettyless::text::{BuildError, CowStr};
-use prettyless::{BoxAllocator, BoxDoc};
+use prettyless::{BoxAllocator, BoxDoc, DocPlace};
+use std::test::Fail;
+use test_documents::read;
 
 // A document, and what comes of it.
 #[derive(Drop)]
@@ -16,116 +16,70 @@ pub(crate) struct Row<'a, T> {
 
 pub(crate) type BoxRow<'a> = Row<'a, BoxDoc<'a>>;
 
-// What is laid out whole.
-fn whole<'a, D: DocPlace<'a>, P: Pretty<'a, D>>(
+// A width, a document as the reader takes it, and what it is laid out as. All characters are of one byte.
+#[rattlefmt::skip]
+const ROWS: [(usize, &str, &str); 10] = [
+    // Lines in a nest, of which one is empty.
+    (80, "Nest 2 Append Append Append Text 'aaa' HardLine HardLine Text 'bbb'", "aaa\n  \n  bbb"),
+    (80, APART, "a b"),
+    (80, "Text 'ab'", "ab"),
+    // A suffix in a suffix.
+    (80, "Append Append Append Text 'a' LineSuffix Append Text 'x' LineSuffix Text 'y' HardLine Text 'b'", "axy\nb"),
+    // Payloads, the second after a suffix.
+    (80, "MultilineText 'a\r\n\nb\n'", "a\r\n\nb\n"),
+    (80, "Append LineSuffix Text ' // 1' MultilineText '\"b\nc\"'", "\"b\nc\" // 1"),
+    // An alternative whose second line is too long, and one that is kept.
+    (10, "Union Append Append Text 'short' HardLine Text 'long long long' \
+          Append Append Text 'short' HardLine Text 'short'", "short\nshort"),
+    (80, KEPT, "abcd!"),
+    // A suffix in front of alternatives that have their own.
+    (5, "Append Append Append Text 'a' LineSuffix Text ' // 1' Text 'a' \
+         Union Append LineSuffix Text ' // 3' Text '6666666' Append LineSuffix Text ' // 4' Text '77'", "aa77 // 1 // 4"),
+    // An alternative that is kept in one that is not.
+    (10, "Append LineSuffix Text ' // caller' Union Append Union Append Text 'inner' LineSuffix Text ' // s' \
+          Text 'inner fallback' Text ' long overflow' Text 'outer fallback'", "outer fallback // caller"),
+];
+
+// A suffix that fails, after an alternative that is kept.
+const FAILING: (usize, &str, &str) = (
+    2,
+    "Append Union Append Text 'a' LineSuffix Fail Text 'x' Text 'b'",
+    "ab",
+);
+
+// Two letters and a weak space between them.
+pub(crate) const APART: &str = "Append Append Text 'a' WeakSpace Text 'b'";
+
+// An alternative that is kept, with a suffix.
+pub(crate) const KEPT: &str = "Union Append Text 'abcd' LineSuffix Text '!' Text 'fallback'";
+
+// A character of two bytes.
+pub(crate) const ACCENTED: &str = "TextWithLen 1 '\u{e9}'";
+
+// The row of a document that is written so.
+fn read_row<'a, D: DocPlace<'a>>(
     place: &'a D,
-    width: usize,
-    value: P,
-    layout: &'a str,
-) -> Result<Row<'a, D::Doc>, BuildError> {
+    written: (usize, &'a str, &'a str),
+    fails: bool,
+) -> Result<Row<'a, D::Doc>, Fail> {
+    let (width, written, layout) = written;
     Ok(Row {
         width,
-        document: place.pretty(value)?.into_doc()?,
+        document: read(place, written)?,
         layout,
-        fails: false,
+        fails,
     })
 }
 
-// Lines in a nest, of which one is empty.
-fn indented<'a, D: DocPlace<'a>>(place: &'a D) -> Result<Row<'a, D::Doc>, BuildError> {
-    let indented = nest(2, ("aaa", hard_line(), hard_line(), "bbb"));
-    whole(place, 80, indented, "aaa\n  \n  bbb")
-}
-
-fn apart<'a, D: DocPlace<'a>>(place: &'a D) -> Result<Row<'a, D::Doc>, BuildError> {
-    whole(place, 80, ("a", weak_space(), "b"), "a b")
-}
-
-fn text<'a, D: DocPlace<'a>>(place: &'a D) -> Result<Row<'a, D::Doc>, BuildError> {
-    whole(place, 80, "ab", "ab")
-}
-
-fn nested_suffixes<'a, D: DocPlace<'a>>(place: &'a D) -> Result<Row<'a, D::Doc>, BuildError> {
-    let nested = ("a", line_suffix(("x", line_suffix("y"))), hard_line(), "b");
-    whole(place, 80, nested, "axy\nb")
-}
-
-fn payload<'a, D: DocPlace<'a>>(place: &'a D) -> Result<Row<'a, D::Doc>, BuildError> {
-    let alone = multiline_text(CowStr::Borrowed("a\r\n\nb\n"));
-    whole(place, 80, alone, "a\r\n\nb\n")
-}
-
-fn payload_after_a_suffix<'a, D: DocPlace<'a>>(
-    place: &'a D,
-) -> Result<Row<'a, D::Doc>, BuildError> {
-    let payload = multiline_text(CowStr::Borrowed("\"b\nc\""));
-    let behind = (line_suffix(" // 1"), payload);
-    whole(place, 80, behind, "\"b\nc\" // 1")
-}
-
-fn second_line_too_long<'a, D: DocPlace<'a>>(place: &'a D) -> Result<Row<'a, D::Doc>, BuildError> {
-    let long = ("short", hard_line(), "long long long");
-    let short = ("short", hard_line(), "short");
-    whole(place, 10, union(long, short), "short\nshort")
-}
-
-fn kept<'a, D: DocPlace<'a>>(place: &'a D) -> Result<Row<'a, D::Doc>, BuildError> {
-    let kept = union(("abcd", line_suffix("!")), "fallback");
-    whole(place, 80, kept, "abcd!")
-}
-
-// A suffix in front of alternatives that have their own.
-fn pending<'a, D: DocPlace<'a>>(place: &'a D) -> Result<Row<'a, D::Doc>, BuildError> {
-    let first = (line_suffix(" // 3"), "6666666");
-    let second = (line_suffix(" // 4"), "77");
-    let pending = ("a", line_suffix(" // 1"), "a", union(first, second));
-    whole(place, 5, pending, "aa77 // 1 // 4")
-}
-
-// An alternative that is kept in one that is not.
-fn kept_in_rejected<'a, D: DocPlace<'a>>(place: &'a D) -> Result<Row<'a, D::Doc>, BuildError> {
-    let inner = union(("inner", line_suffix(" // s")), "inner fallback");
-    let outer = union((inner, " long overflow"), "outer fallback");
-    let caller = (line_suffix(" // caller"), outer);
-    whole(place, 10, caller, "outer fallback // caller")
-}
-
-// A suffix that fails, after an alternative that is kept.
-fn failing<'a, D: DocPlace<'a>>(place: &'a D) -> Result<Row<'a, D::Doc>, BuildError> {
-    let kept = union(("a", line_suffix(fail())), "x");
-    let mut row = whole(place, 2, (kept, "b"), "ab")?;
-    row.fails = true;
-    Ok(row)
-}
-
-// Adds it after the others, if there was memory for it.
-fn push<T: Drop>(rows: &mut Vec<T>, row: Result<T, BuildError>) -> Result<(), BuildError> {
-    rows.push(row?)?;
-    Ok(())
-}
-
-// All characters of these documents are of one byte.
-fn rows<'a, D: DocPlace<'a>>(place: &'a D) -> Result<Vec<Row<'a, D::Doc>>, BuildError> {
+fn rows<'a, D: DocPlace<'a>>(place: &'a D) -> Result<Vec<Row<'a, D::Doc>>, Fail> {
     let mut rows = Vec::new(place.memory());
-    push(&mut rows, indented(place))?;
-    push(&mut rows, apart(place))?;
-    push(&mut rows, text(place))?;
-    push(&mut rows, nested_suffixes(place))?;
-    push(&mut rows, payload(place))?;
-    push(&mut rows, payload_after_a_suffix(place))?;
-    push(&mut rows, second_line_too_long(place))?;
-    push(&mut rows, kept(place))?;
-    push(&mut rows, pending(place))?;
-    push(&mut rows, kept_in_rejected(place))?;
-    push(&mut rows, failing(place))?;
+    for written in ROWS {
+        rows.push(read_row(place, written, false)?)?;
+    }
+    rows.push(read_row(place, FAILING, true)?)?;
     Ok(rows)
 }
 
-pub(crate) fn boxed_rows<'a>(boxes: &'a BoxAllocator) -> Result<Vec<BoxRow<'a>>, BuildError> {
+pub(crate) fn boxed_rows<'a>(boxes: &'a BoxAllocator) -> Result<Vec<BoxRow<'a>>, Fail> {
     rows(boxes)
-}
-
-// A character of two bytes.
-pub(crate) fn accented<'a, D: DocPlace<'a>>(place: &'a D) -> Result<D::Doc, BuildError> {
-    place.pretty("\u{e9}")?.into_doc()
 }

@@ -3,16 +3,16 @@ ghost use Rattle.std.specs.Prelude.{Some, ◌≡◌, ◌↔◌, ◌<◌, ⊤, Is
 ghost use Rattle.std.specs.Str.{IsCharBoundary};
 ghost use Rattle.test_hostile.specs.declared.sinks.Fault.TheVariants.{Count, Document};
 
-use crate::rows::{BoxRow, accented, boxed_rows};
+use crate::rows::{ACCENTED, APART, BoxRow, KEPT, boxed_rows};
 use bumpalo::Bump;
-use prettyless::prelude::*;
-use prettyless::text::BuildError;
 use prettyless::{
-    Arena, BoxAllocator, DocPtr, LineEnding, RcAllocator, Render, RenderError, RenderOptions,
+    Arena, BoxAllocator, DocPlace, DocPtr, LineEnding, RcAllocator, Render, RenderError,
+    RenderOptions,
 };
 use std::alloc::Global;
 use std::process::Abort;
 use std::test::Fail;
+use test_documents::read;
 
 #[derive(Debug, PartialEq, Drop)]
 pub(crate) enum Fault {
@@ -269,7 +269,7 @@ fn compare_character<'a, T: DocPtr<'a>>(
 
 fn compare_steps<'a, D: DocPlace<'a>>(rt: &impl Abort, place: &'a D) -> Result<(), Fail> {
     let memory = place.memory();
-    let document = accented(place)?;
+    let document = read(place, ACCENTED)?;
     let whole = b"\xc3\xa9".as_slice();
     compare_character(rt, memory, &document, Step::Whole, whole, true);
     compare_character(rt, memory, &document, Step::Character, whole, true);
@@ -317,21 +317,11 @@ fn compare_spaces<'a, T: DocPtr<'a>>(
     Ok(())
 }
 
-// Two letters and a weak space between them.
-fn letters_apart<'a, D: DocPlace<'a>>(place: &'a D) -> Result<D::Doc, BuildError> {
-    place.pretty(("a", weak_space(), "b"))?.into_doc()
-}
-
-// A line break, and an indent of one space.
-fn indented_line<'a, D: DocPlace<'a>>(place: &'a D) -> Result<D::Doc, BuildError> {
-    place.pretty(nest(1, hard_line()))?.into_doc()
-}
-
 fn compare_bad_counts<'a, D: DocPlace<'a>>(rt: &impl Abort, place: &'a D) -> Result<(), Fail> {
     let memory = place.memory();
-    let apart = letters_apart(place)?;
+    let apart = read(place, APART)?;
     compare_spaces(rt, memory, &apart, LineEnding::Lf, "a")?;
-    let indent = indented_line(place)?;
+    let indent = read(place, "Nest 1 HardLine")?;
     compare_spaces(rt, memory, &indent, LineEnding::Lf, "\n")?;
     compare_spaces(rt, memory, &indent, LineEnding::Crlf, "\r\n")
 }
@@ -344,8 +334,7 @@ fn bad_counts_of_spaces(rt: HostRuntime) -> Result<(), Fail> {
 // A sink that takes one byte a call, and refuses at its third.
 fn compare_full<'a, D: DocPlace<'a>>(rt: &impl Abort, place: &'a D) -> Result<(), Fail> {
     let memory = place.memory();
-    let kept = union(("abcd", line_suffix("!")), "fallback");
-    let document = place.pretty(kept)?;
+    let document = read(place, KEPT)?;
     let mut sink = Hostile::new(memory, Step::Byte, Wrong::Refuses, 3);
     let result = document.doc().render_raw(memory, 80, &mut sink);
     assert!(rt; matches!(result, Err(RenderError::Sink(Fault::Refused))));

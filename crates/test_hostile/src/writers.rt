@@ -1,8 +1,7 @@
 //! Byte writers and text writers of which one call goes wrong.
 ghost use Rattle.std.specs.Prelude.{Some};
 
-use crate::rows::{BoxRow, accented, boxed_rows};
-use prettyless::prelude::*;
+use crate::rows::{ACCENTED, BoxRow, boxed_rows};
 use prettyless::{
     BoxAllocator, BoxDoc, DocPtr, FmtWrite, IoWrite, RenderError, RenderOptions, TextWriter, Untold,
 };
@@ -11,6 +10,7 @@ use std::io::{ErrorKind, Write};
 use std::process::Abort;
 use std::test::Fail;
 use std::{fmt, io};
+use test_documents::read;
 
 // What a writer does at the call that goes wrong.
 #[derive(Clone, Copy)]
@@ -189,7 +189,7 @@ fn writers_that_take_nothing(rt: HostRuntime) -> Result<(), Fail> {
 #[test]
 fn a_character_is_written_byte_by_byte(rt: HostRuntime) -> Result<(), Fail> {
     let boxes = BoxAllocator::new(rt.alloc());
-    let document = accented(&boxes)?;
+    let document = read(&boxes, ACCENTED)?;
     let mut writer = ByBytes::new(rt.alloc(), Wrong::TakesNothing, usize::MAX);
     let ending = ending_of_bytes(rt.alloc(), &document, 80, &mut writer)?;
     assert!(rt; ending == Ending::Laid);

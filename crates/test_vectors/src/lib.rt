@@ -16,8 +16,6 @@ mod payloads;
 #[cfg(test)]
 mod places;
 #[cfg(test)]
-mod reader;
-#[cfg(test)]
 mod rendered;
 #[cfg(test)]
 mod shown;

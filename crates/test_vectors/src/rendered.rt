@@ -1,4 +1,3 @@
-use crate::reader::read;
 use bumpalo::Bump;
 use prettyless::{
     Arena, BoxAllocator, DocPlace, DocPtr, FmtWrite, IndentationPolicy, LineEnding, RcAllocator,
@@ -7,6 +6,7 @@ use prettyless::{
 use std::alloc::Global;
 use std::process::Abort;
 use std::test::Fail;
+use test_documents::read;
 
 // The bytes before the node that fails, or all of them.
 fn outcome<'a, T: DocPtr<'a>>(

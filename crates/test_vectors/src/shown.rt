@@ -1,5 +1,4 @@
 //! What `Debug` shows of documents, through each pointer, and of documents in the making; what an error of either kind says.
-use crate::reader::read;
 use bumpalo::Bump;
 use prettyless::text::{BuildError, CowStr, Text};
 use prettyless::{
@@ -10,6 +9,7 @@ use std::alloc::Global;
 use std::fmt;
 use std::process::Abort;
 use std::test::Fail;
+use test_documents::read;
 
 // A document as the reader takes it, and what it has to be shown as.
 type Case<'a> = (&'a str, &'a str);

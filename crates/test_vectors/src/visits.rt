@@ -1,8 +1,8 @@
 //! How many nodes a render visits.
-use crate::reader::read;
 use prettyless::{BoxAllocator, DocPlace, DocPtr, FmtWrite, RenderError, RenderOptions, Visits};
 use std::alloc::Global;
 use std::test::Fail;
+use test_documents::read;
 
 // A width, a document as the reader takes it, and the visits of the printer and of its probes.
 type Case<'a> = (usize, &'a str, u64, u64);

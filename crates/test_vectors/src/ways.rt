@@ -1,5 +1,4 @@
 //! The ways to render, each with the same bytes.
-use crate::reader::read;
 use crate::rendered::{displayed, options};
 use prettyless::{
     BoxAllocator, DocPlace, DocPtr, FmtWrite, IndentationPolicy, IoWrite, LineEnding, RenderError,
@@ -9,6 +8,7 @@ use std::alloc::Global;
 use std::fmt::Write;
 use std::process::Abort;
 use std::test::Fail;
+use test_documents::read;
 
 const WRITTEN: &str = "Nest 2 Append Append Append Text 'ab' HardLine HardLine Text 'c'";
 

@@ -1,8 +1,9 @@
-use crate::parse::parse;
-use crate::{RunError, SExp, options};
+//! The words of `sexp`, and the inputs that it takes.
 use prettyless::{IndentationPolicy, LineEnding};
+use sexp_formatter::parse::parse;
+use sexp_formatter::{RunError, SExp, options};
 use std::alloc::Global;
-use std::test::*;
+use std::test::Fail;
 
 /// What `parse` answers, as a word.
 fn verdict(alloc: Global, input: &[u8]) -> &'static str {

@@ -1,3 +1,6 @@
+//! A reader of documents that are written down, for the tests.
+#![tactic(auto)]
+
 use prettyless::text::{CowStr, Text};
 use prettyless::{ColumnTest, Doc, DocPlace, DocPtr, NestingTest};
 use std::alloc::Global;
@@ -157,8 +160,8 @@ fn over<'a, T: DocPtr<'a>>(
     pair(node, first, second)
 }
 
-// The document that is written so, and nothing after it.
-pub(crate) fn read<'a, D: DocPlace<'a>>(place: &'a D, written: &'a str) -> Result<D::Doc, Fail> {
+/// The document that is written so, with nothing after it: the variants of its nodes, each in front of what it holds.
+pub fn read<'a, D: DocPlace<'a>>(place: &'a D, written: &'a str) -> Result<D::Doc, Fail> {
     let memory = place.memory();
     let mut documents = Vec::new(memory);
     for node in nodes(memory, written)?.into_iter().rev() {

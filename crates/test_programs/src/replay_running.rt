@@ -1,14 +1,26 @@
-use crate::run::run;
+//! What is read and written, and what comes of readers and writers that fail.
 use prettyless::IoWrite;
+use replay_cases::run::run;
+use std::alloc::Global;
 use std::io;
-use std::io::{BufReader, ErrorKind, Read, Write};
+use std::io::{BufRead, BufReader, ErrorKind, Read, Write};
 use std::test::Fail;
+
+// How the answers to a reader's lines end, written to this writer.
+fn ending<R: BufRead, W: Write>(
+    alloc: Global,
+    reader: &mut R,
+    writer: &mut W,
+) -> Option<ErrorKind> {
+    let error = run(alloc, reader, &mut IoWrite::new(writer)).err()?;
+    Some(error.kind())
+}
 
 #[test]
 fn answers_lines(rt: HostRuntime) -> Result<(), Fail> {
     let mut input = b"# a comment\n80 crlf eager hl\n\n\xff\n80 lf eager t c3a4".as_slice();
     let mut written = Vec::new(rt.alloc());
-    run(rt.alloc(), &mut input, &mut IoWrite::new(&mut written))?;
+    assert!(rt; ending(rt.alloc(), &mut input, &mut written).is_none());
     assert!(rt;
         written.as_slice()
             == b"ok 0d0a\nerror line 4: expected WIDTH lf|crlf eager|deferred NODE\nok c3a4\n".as_slice()
@@ -31,13 +43,10 @@ impl Write for Full {
 }
 
 #[test]
-fn reports_a_writer_that_is_full(rt: HostRuntime) -> Result<(), Fail> {
+fn reports_a_writer_that_is_full(rt: HostRuntime) {
     let mut input = b"80 lf eager nil".as_slice();
-    let error = run(rt.alloc(), &mut input, &mut IoWrite::new(&mut Full))
-        .err()
-        .ok_or("written")?;
-    assert!(rt; error.kind() == ErrorKind::StorageFull);
-    Ok(())
+    let kind = ending(rt.alloc(), &mut input, &mut Full);
+    assert!(rt; kind == Some(ErrorKind::StorageFull));
 }
 
 /// A reader that fails once it has given all its bytes.
@@ -57,10 +66,8 @@ impl Read for Broken {
 fn reports_a_reader_that_fails(rt: HostRuntime) -> Result<(), Fail> {
     let mut reader = BufReader::new(rt.alloc(), Broken(b"80 lf eager nil\n80 lf"))?;
     let mut written = Vec::new(rt.alloc());
-    let error = run(rt.alloc(), &mut reader, &mut IoWrite::new(&mut written))
-        .err()
-        .ok_or("read")?;
-    assert!(rt; error.kind() == ErrorKind::ConnectionReset);
+    let kind = ending(rt.alloc(), &mut reader, &mut written);
+    assert!(rt; kind == Some(ErrorKind::ConnectionReset));
     assert!(rt; written.as_slice() == b"ok -\n".as_slice());
     Ok(())
 }

@@ -1,2 +1,0 @@
-mod answering;
-mod reading;

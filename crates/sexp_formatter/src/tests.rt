@@ -1,2 +1,0 @@
-mod parsing;
-mod running;
