@@ -1,0 +1,209 @@
+//! Documents, and what each is laid out as.
+use prettyless::docs;
+use prettyless::prelude::*;
+use prettyless::text::BuildError;
+
+/// A text that has no room in a node.
+pub const LONG: &str = "a text of 23 characters";
+
+/// Which document it is.
+#[derive(Clone, Copy, Drop)]
+pub enum Kind {
+    SecondLineTooLong,
+    SuffixesPending,
+    KeptAfterLine,
+    KeptInRejected,
+    NestedSuffixes,
+    KeptInKept,
+    Repeated,
+    Interspersed,
+    Reflowed,
+    Macro,
+    OwnedText,
+}
+
+/// A document, and what it is laid out as at a width.
+#[derive(Clone, Copy, Drop)]
+pub struct Row<'s> {
+    pub name: &'s str,
+    pub kind: Kind,
+    pub width: usize,
+    pub layout: &'s str,
+}
+
+const SECOND_LINE_TOO_LONG: Row<'static> = Row {
+    name: "a second line that is too long",
+    kind: Kind::SecondLineTooLong,
+    width: 10,
+    layout: "short\nshort",
+};
+
+const SUFFIXES_PENDING: Row<'static> = Row {
+    name: "suffixes pending",
+    kind: Kind::SuffixesPending,
+    width: 5,
+    layout: "aa77 // 1 // 4",
+};
+
+const KEPT_AFTER_LINE: Row<'static> = Row {
+    name: "a branch that ends a line",
+    kind: Kind::KeptAfterLine,
+    width: 1,
+    layout: "a\n  b",
+};
+
+const KEPT_IN_REJECTED: Row<'static> = Row {
+    name: "a branch kept in a rejected one",
+    kind: Kind::KeptInRejected,
+    width: 10,
+    layout: "outer fallback // caller",
+};
+
+const NESTED_SUFFIXES: Row<'static> = Row {
+    name: "a suffix in a suffix",
+    kind: Kind::NestedSuffixes,
+    width: 80,
+    layout: "axy\nb",
+};
+
+const KEPT_IN_KEPT: Row<'static> = Row {
+    name: "a branch kept in a kept one",
+    kind: Kind::KeptInKept,
+    width: 80,
+    layout: "pinner // s",
+};
+
+const REPEATED: Row<'static> = Row {
+    name: "copies",
+    kind: Kind::Repeated,
+    width: 80,
+    layout: "a\na\na\na\na\n",
+};
+
+const INTERSPERSED: Row<'static> = Row {
+    name: "separators",
+    kind: Kind::Interspersed,
+    width: 5,
+    layout: "(\n a\n b\n c\n)",
+};
+
+const REFLOWED: Row<'static> = Row {
+    name: "words",
+    kind: Kind::Reflowed,
+    width: 2,
+    layout: "a \nb",
+};
+
+const MACRO: Row<'static> = Row {
+    name: "operands of a macro",
+    kind: Kind::Macro,
+    width: 80,
+    layout: "let x = 123",
+};
+
+const OWNED_TEXT: Row<'static> = Row {
+    name: "an owned text",
+    kind: Kind::OwnedText,
+    width: 80,
+    layout: "a text of 23 characters\n  b",
+};
+
+/// The documents that are built.
+pub const ROWS: [Row<'static>; 11] = [
+    SECOND_LINE_TOO_LONG,
+    SUFFIXES_PENDING,
+    KEPT_AFTER_LINE,
+    KEPT_IN_REJECTED,
+    NESTED_SUFFIXES,
+    KEPT_IN_KEPT,
+    REPEATED,
+    INTERSPERSED,
+    REFLOWED,
+    MACRO,
+    OWNED_TEXT,
+];
+
+/// A document that stays while others are built.
+pub const KEPT: Row<'static> = NESTED_SUFFIXES;
+
+/// The documents that are copied.
+pub const COPIED: [Row<'static>; 3] = [KEPT_IN_REJECTED, INTERSPERSED, OWNED_TEXT];
+
+fn second_line_too_long<'a, D: DocPlace<'a>>(place: &'a D) -> Result<D::Doc, BuildError> {
+    let long = ("short", hard_line(), "long long long");
+    let short = ("short", hard_line(), "short");
+    place.pretty(union(long, short))?.into_doc()
+}
+
+fn suffixes_pending<'a, D: DocPlace<'a>>(place: &'a D) -> Result<D::Doc, BuildError> {
+    let first = (line_suffix(" // 3"), "6666666");
+    let second = (line_suffix(" // 4"), "77");
+    let pending = ("a", line_suffix(" // 1"), "a", union(first, second));
+    place.pretty(pending)?.into_doc()
+}
+
+fn kept_after_line<'a, D: DocPlace<'a>>(place: &'a D) -> Result<D::Doc, BuildError> {
+    let kept = union(("a", hard_line()), "x");
+    place.pretty(nest(2, (kept, "b")))?.into_doc()
+}
+
+fn kept_in_rejected<'a, D: DocPlace<'a>>(place: &'a D) -> Result<D::Doc, BuildError> {
+    let inner = union(("inner", line_suffix(" // s")), "inner fallback");
+    let outer = union((inner, " long overflow"), "outer fallback");
+    place.pretty((line_suffix(" // caller"), outer))?.into_doc()
+}
+
+fn nested_suffixes<'a, D: DocPlace<'a>>(place: &'a D) -> Result<D::Doc, BuildError> {
+    let nested = ("a", line_suffix(("x", line_suffix("y"))), hard_line(), "b");
+    place.pretty(nested)?.into_doc()
+}
+
+fn kept_in_kept<'a, D: DocPlace<'a>>(place: &'a D) -> Result<D::Doc, BuildError> {
+    let inner = union(("inner", line_suffix(" // s")), "q");
+    place.pretty(union(("p", inner), "r"))?.into_doc()
+}
+
+fn repeated<'a, D: DocPlace<'a>>(place: &'a D) -> Result<D::Doc, BuildError> {
+    place.pretty(("a", hard_line()))?.repeat(5)?.into_doc()
+}
+
+fn interspersed<'a, D: DocPlace<'a>>(place: &'a D) -> Result<D::Doc, BuildError> {
+    let items = intersperse(line_or_space(), ["a", "b", "c"].into_iter());
+    let nested = nest(1, (line_or_space(), items));
+    place
+        .pretty(group(("(", nested, line_or_space(), ")")))?
+        .into_doc()
+}
+
+fn reflowed<'a, D: DocPlace<'a>>(place: &'a D) -> Result<D::Doc, BuildError> {
+    place.reflow("a  b")?.into_doc()
+}
+
+fn of_a_macro<'a, D: DocPlace<'a>>(place: &'a D) -> Result<D::Doc, BuildError> {
+    let gap = soft_line_or_space();
+    docs![place, "let", gap, "x", gap, "=", gap, Some("123")]?.into_doc()
+}
+
+fn owned_text<'a, D: DocPlace<'a>>(place: &'a D) -> Result<D::Doc, BuildError> {
+    let indented = nest(2, (hard_line(), "b"));
+    place.pretty((as_string(LONG), indented))?.into_doc()
+}
+
+impl Row<'_> {
+    /// Builds its document in this place.
+    pub fn document<'a, D: DocPlace<'a>>(self, place: &'a D) -> Result<D::Doc, BuildError> {
+        match self.kind {
+            Kind::SecondLineTooLong => second_line_too_long(place),
+            Kind::SuffixesPending => suffixes_pending(place),
+            Kind::KeptAfterLine => kept_after_line(place),
+            Kind::KeptInRejected => kept_in_rejected(place),
+            Kind::NestedSuffixes => nested_suffixes(place),
+            Kind::KeptInKept => kept_in_kept(place),
+            Kind::Repeated => repeated(place),
+            Kind::Interspersed => interspersed(place),
+            Kind::Reflowed => reflowed(place),
+            Kind::Macro => of_a_macro(place),
+            Kind::OwnedText => owned_text(place),
+        }
+    }
+}
