@@ -10,7 +10,6 @@ use Rattle.prettyless_step.specs.Stack.{Task, make_task, nodes}
 use Rattle.prettyless_step.specs.Steps.{owed}
 use Rattle.prettyless_step.specs.Printing.{state_of, tasks_of, Grows}
 use Rattle.prettyless_step.specs.declared.printer.Printer.{Printer}
-use Rattle.prettyless_step.proofs.Stacks.{length-stack_of}
 use Rattle.prettyless_printer.specs.declared.trial.Mark.{Mark}
 use Rattle.prettyless_printer.specs.Points.{Point, point}
 use Rattle.prettyless_printer.specs.Trials.{Marks, Restores, TrialDid, Tries}
@@ -55,14 +54,6 @@ trial_run_begins {N} f a q i d e s o grows = record {
   at_least = trial_begins f a.printer q i d a.visits o e s;
 }
 
--- the tasks of a printer, by its commands
-pub commands_are : {N : Type 0} (f : N → Tree) (p : Printer N) → length (tasks_of f p) ≡ vec_len p.commands
-commands_are {N} f p = omega (arith, length-stack_of f p.commands.items, p.commands.ok.0)
-
--- there are more tasks than when it began
-pub has_tasks : {N : Type 0} (f : N → Tree) (p q : Printer N) → vec_len p.commands < vec_len q.commands → length (tasks_of f p) < length (tasks_of f q)
-has_tasks {N} f p q l = omega (arith, commands_are f p, commands_are f q, l)
-
 -- a turn after which two branches are to be chosen from
 pub trial_waits : {N E : Type 0} (f : N → Tree) (a : Point N) {b c : Point N} (i : ℕ) (d : Tree) (j : ℕ) (x y : N) → IsSome a.sink.bytes → Path f (trial_run f a i d) b →
     length (tasks_of f a.printer) < length (tasks_of f b.printer) → Advances {N = N} {E = E} f b c (Ok (turn.Chosen j x y)) → Waiting f (trial_run f a i d) j (f x) (f y) c
@@ -84,7 +75,7 @@ trial_broke_off {N} {E} f a b i d (Err e) h rise counts = record {
 }
 
 -- it is taken back
-pub trial_undone : {N E : Type 0} (f : N → Tree) (a b : Point N) (q : Printer N) (out bytes : List ℕ) (i : ℕ) (d : Tree) (m : Mark) → Marks m a.printer →
+pub trial_undone : {N E : Type 0} (f : N → Tree) (a b : Point N) (q : Printer N) (out bytes : List ℕ) (i : ℕ) (d : Tree) (m : Mark) → Marks f m a.printer →
     (above : List Task) → tasks_of f q ≡ above ++ tasks_of f a.printer → q.options ≡ a.printer.options → Grows a.printer q → Restores f m q b.printer →
     out ≡ known a.sink.bytes ++ bytes → known b.sink.bytes ≡ take (length (known a.sink.bytes)) out → b.sink.failures ≡ a.sink.failures →
     ((other : Outcome) → accept a.printer.options a.printer.within (trial_of f a.printer i d) other ≡ other) → Rise a.visits b.visits →
@@ -92,7 +83,7 @@ pub trial_undone : {N E : Type 0} (f : N → Tree) (a b : Point N) (q : Printer 
 trial_undone {N} {E} f a b q out bytes i d m marks above e o grows back wrote cut failures rejected rise counts =
     let old = known a.sink.bytes in
     let new = known b.sink.bytes in
-    let did : TrialDid f a.printer b.printer i d old new false = trial_rejected f a.printer q b.printer i d m old out new bytes marks above e (commands_are f a.printer) o grows back wrote cut rejected in
+    let did : TrialDid f a.printer b.printer i d old new false = trial_rejected f a.printer q b.printer i d m old out new bytes marks above e o grows back wrote cut rejected in
     record {
       decided = did;
       failures = failures;

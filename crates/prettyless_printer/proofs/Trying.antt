@@ -55,15 +55,15 @@ pub grows-grows : {N : Type 0} (p q r : Printer N) → Grows p q → Grows q r �
 grows-grows {N} p q r a b = (a.0 ++ b.0, b.1 ∙ ap (λ (x : List N). x ++ b.0) a.1 ∙ append_assoc p.queue.nodes.items a.0 b.0)
 
 -- what was added since the mark is all that the queue has more
-pub queue_marked : {N : Type 0} (p q : Printer N) (m : Mark) → Marks m p → Grows p q → m.queue.len ≤ vec_len q.queue.nodes
-queue_marked {N} p q m e g = omega (arith, e.queued, p.queue.nodes.ok.0, q.queue.nodes.ok.0, ap length g.1, length-append p.queue.nodes.items g.0)
+pub queue_marked : {N : Type 0} (f : N → Tree) (p q : Printer N) (m : Mark) → Marks f m p → Grows p q → m.queue.len ≤ vec_len q.queue.nodes
+queue_marked {N} f p q m e g = omega (arith, e.queued, p.queue.nodes.ok.0, q.queue.nodes.ok.0, ap length g.1, length-append p.queue.nodes.items g.0)
 
-restored_queue : {N : Type 0} (f : N → Tree) (p q r : Printer N) (m : Mark) → Marks m p → Grows p q → Restores f m q r → r.queue.nodes.items ≡ p.queue.nodes.items
+restored_queue : {N : Type 0} (f : N → Tree) (p q r : Printer N) (m : Mark) → Marks f m p → Grows p q → Restores f m q r → r.queue.nodes.items ≡ p.queue.nodes.items
 restored_queue {N} f p q r m e g h =
     h.1 ∙ ap (λ (x : ℕ). take x q.queue.nodes.items) (e.queued) ∙ ap (take (vec_len p.queue.nodes)) g.1 ∙ take_at p.queue.nodes.items g.0 (vec_len p.queue.nodes) (sym p.queue.nodes.ok.0)
 
 -- the state is as before
-restored : {N : Type 0} (f : N → Tree) (p q r : Printer N) (m : Mark) → Marks m p → Grows p q → Restores f m q r → state_of f r ≡ state_of f p
+restored : {N : Type 0} (f : N → Tree) (p q r : Printer N) (m : Mark) → Marks f m p → Grows p q → Restores f m q r → state_of f r ≡ state_of f p
 restored {N} f p q r m e g h =
     let n : r.queue.start ≡ p.queue.start = h.2 ∙ e.start in
     let k = restored_queue f p q r m e g h in
@@ -73,13 +73,13 @@ restored {N} f p q r m e g h =
     λ j. record { column = c j; pending = a j; within = o j }
 
 -- a trial that is taken back: what it wrote is cut off, and its outcome is not accepted
-pub trial_rejected : {N : Type 0} (f : N → Tree) (p q r : Printer N) (i : ℕ) (d : Tree) (m : Mark) (old out new bytes : List ℕ) → Marks m p →
-    (above : List Task) → tasks_of f q ≡ above ++ tasks_of f p → length (tasks_of f p) ≡ vec_len p.commands → q.options ≡ p.options → Grows p q → Restores f m q r →
+pub trial_rejected : {N : Type 0} (f : N → Tree) (p q r : Printer N) (i : ℕ) (d : Tree) (m : Mark) (old out new bytes : List ℕ) → Marks f m p →
+    (above : List Task) → tasks_of f q ≡ above ++ tasks_of f p → q.options ≡ p.options → Grows p q → Restores f m q r →
     out ≡ old ++ bytes → new ≡ take (length old) out →
     ((other : Outcome) → accept p.options p.within (trial_of f p i d) other ≡ other) → TrialDid f p r i d old new false
-trial_rejected {N} f p q r i d m old out new bytes e above k l w g h b t rejected =
+trial_rejected {N} f p q r i d m old out new bytes e above k w g h b t rejected =
     let s : state_of f r ≡ state_of f p = restored f p q r m e g h in (
-      h.0 above (tasks_of f p) k (l ∙ sym (e.commands)),
+      h.0 above (tasks_of f p) k (sym e.commands),
       h.5 ∙ w,
       ([], restored_queue f p q r m e g h ∙ sym (append-nil p.queue.nodes.items)),
       h.4 ∙ e.within,

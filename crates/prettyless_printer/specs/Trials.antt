@@ -17,8 +17,8 @@ use Rattle.prettyless_step.specs.declared.printer.Printer.{Printer}
 use Rattle.prettyless_printer.specs.declared.trial.Mark.{Mark}
 
 -- where a printer is, to go back to
-pub record Marks {N : Type 0} (m : Mark) (p : Printer N) : Type 0 where
-  pub commands : m.commands ≡ vec_len p.commands
+pub record Marks {N : Type 0} (f : N → Tree) (m : Mark) (p : Printer N) : Type 0 where
+  pub commands : m.commands ≡ length (tasks_of f p)
   pub queued : m.queue.len ≡ vec_len p.queue.nodes
   pub start : m.queue.start ≡ p.queue.start
   pub column : m.column ≡ p.column

@@ -19,7 +19,7 @@ use prettyless_sink::visits::Visits;
 use prettyless_step::pending::{is_pending, take_pending};
 use prettyless_step::printer::Printer;
 use prettyless_step::queue::Queue;
-use prettyless_step::stack::push_node;
+use prettyless_step::stack::Stack;
 use prettyless_step::walk::Walk;
 use std::alloc::Global;
 
@@ -44,7 +44,7 @@ fn choose<N: Walk, W: Render>(
             Ok(()) => Ok(()),
             Err(e) => Err(RenderError::Sink(e)),
         },
-        Ok(false) => match push_node(&mut printer.commands, indent, Mode::Break, second) {
+        Ok(false) => match printer.commands.push(indent, Mode::Break, second) {
             Ok(()) => Ok(()),
             Err(e) => Err(RenderError::Memory(e)),
         },
@@ -138,12 +138,12 @@ pub fn render<N: Walk, W: Render>(
         options,
         column: Column::start(),
         within: true,
-        commands: Vec::new(alloc),
-        scratch: Vec::new(alloc),
+        commands: Stack::new(alloc),
+        scratch: Stack::new(alloc),
         queue: Queue::new(alloc),
     };
     let mut buffer = Buffer::new(alloc);
-    match push_node(&mut printer.commands, 0, Mode::Break, node) {
+    match printer.commands.push(0, Mode::Break, node) {
         Ok(()) => run_to_end(&mut printer, &mut buffer, out, visits),
         Err(e) => Err(RenderError::Memory(e)),
     }

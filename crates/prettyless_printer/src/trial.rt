@@ -15,7 +15,6 @@ use prettyless_sink::visits::Visits;
 use prettyless_step::pending::is_pending;
 use prettyless_step::printer::Printer;
 use prettyless_step::queue::QueueMark;
-use prettyless_step::stack::{cut, push_node};
 use prettyless_step::walk::Walk;
 use std::alloc::AllocError;
 
@@ -29,7 +28,7 @@ pub struct Mark {
 }
 
 fn mark_of<N: Walk>(printer: &Printer<N>) -> Mark
-    ensures { Marks result printer.now }
+    ensures { Marks N.tree result printer.now }
 {
     Mark {
         commands: printer.commands.len(),
@@ -47,7 +46,7 @@ fn take_back<N: Walk>(printer: &mut Printer<N>, mark: Mark, buffer: &mut Buffer,
     ensures buffer { string_bytes buffer.new.text ≡ take written (string_bytes buffer.old.text) }
     ensures failures { buffer.new.failures ≡ buffer.old.failures }
 {
-    cut(&mut printer.commands, mark.commands);
+    printer.commands.cut(mark.commands);
     printer.queue.go_back(mark.queue);
     printer.column = mark.column;
     printer.within = mark.within;
@@ -79,7 +78,7 @@ pub fn print_branch<N: Walk>(
     let mark = mark_of(printer);
     let written = buffer.text.len();
     printer.within = true;
-    push_node(&mut printer.commands, indent, Mode::Break, branch)?;
+    printer.commands.push(indent, Mode::Break, branch)?;
     'work: while printer.commands.len() > mark.commands {
         match turn(printer, buffer, visits) {
             Err(e) => return Err(memory_of(e)),
@@ -95,7 +94,7 @@ pub fn print_branch<N: Walk>(
             }
             Ok(Turn::Chosen(i, first, second)) => {
                 if !print_branch(printer, buffer, i, first, visits)? {
-                    push_node(&mut printer.commands, i, Mode::Break, second)?;
+                    printer.commands.push(i, Mode::Break, second)?;
                 }
             }
         }

@@ -1,5 +1,6 @@
 //! A turn: a command is taken and stepped, and so is each that comes in hand; the last one is written.
-ghost use Rattle.std.specs.Prelude.{◌<◌, vec_len};
+ghost use Rattle.std.specs.Prelude.{◌<◌, length};
+ghost use Rattle.prettyless_step.specs.Printing.{tasks_of};
 ghost use Rattle.prettyless_printer.specs.Points.{point, seen};
 ghost use Rattle.prettyless_printer.specs.Turns.{Advances};
 
@@ -10,7 +11,6 @@ use prettyless_sink::render::Render;
 use prettyless_sink::visits::{Visits, one_more};
 use prettyless_step::piece::write_piece;
 use prettyless_step::printer::{Printer, Taken};
-use prettyless_step::stack::pop_command;
 use prettyless_step::step::step;
 use prettyless_step::walk::Walk;
 
@@ -22,12 +22,12 @@ pub fn turn<N: Walk, W: Render>(
     out: &mut W,
     visits: &mut Visits,
 ) -> Result<Turn<N>, RenderError<W::Error>>
-    requires { 0 < vec_len printer.old.commands }
+    requires { 0 < length (tasks_of N.tree printer.old) }
     ensures { Advances N.tree
         (point printer.old (seen W.bytes W.failures W.lender out.old) visits.old)
         (point printer.new (seen W.bytes W.failures W.lender out.new) visits.new) result }
 {
-    let Some(command) = pop_command(&mut printer.commands) else {
+    let Some(command) = printer.commands.pop() else {
         unreachable!()
     };
     let mut indent = command.indent;

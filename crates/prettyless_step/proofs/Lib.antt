@@ -1,4 +1,5 @@
 pub mod Sizes
+pub mod Frames
 pub mod Stacks
 pub mod Probes
 pub mod Queues

@@ -1,4 +1,5 @@
 pub mod View
+pub mod Frames
 pub mod Stack
 pub mod Piece
 pub mod Probing

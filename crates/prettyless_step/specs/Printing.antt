@@ -13,7 +13,7 @@ use Rattle.prettyless_step.specs.declared.printer.Taken.TheVariants.{Quiet, Next
 
 -- the tasks that the printer has still to lay, the next one first
 abbrev pub tasks_of : {N : Type 0} → (N → Tree) → Printer N → List Task
-tasks_of f p = stack_of f p.commands.items
+tasks_of f p = stack_of f p.commands
 
 -- what follows the node that is laid now
 abbrev pub following : {N : Type 0} → (N → Tree) → Printer N → List Entry

@@ -1,5 +1,5 @@
--- Lists of work, seen as tasks.
-use Rattle.std.specs.Prelude.{◌≡◌, ℕ, ◌+◌, List, [], ◌∷◌, ◌++◌, map, Option, Some, None, Bool}
+-- Stacks of nodes, seen as tasks.
+use Rattle.std.specs.Prelude.{◌≡◌, ℕ, ◌+◌, ◌≤◌, List, [], ◌∷◌, ◌++◌, map, take, length, Option, Some, None, Bool}
 use Rattle.prettyless_model.specs.Tree.{Tree, size}
 use Rattle.prettyless_model.specs.Column.{padding_fits}
 use Rattle.prettyless_model.specs.Look.{answer_of, look}
@@ -8,6 +8,10 @@ use Rattle.prettyless_model.specs.declared.column.Column.{Column}
 use Rattle.prettyless_model.specs.declared.mode.Mode.{Mode}
 use Rattle.prettyless_model.specs.declared.mode.Mode.TheVariants.{Break}
 use Rattle.prettyless_step.specs.declared.command.Command.{Command}
+use Rattle.prettyless_step.specs.declared.command.Frame.{Frame}
+use Rattle.prettyless_step.specs.declared.stack.Cursor.{Cursor}
+use Rattle.prettyless_step.specs.declared.stack.Stack.{Stack}
+use Rattle.prettyless_step.specs.Frames.{Covers, spread}
 
 -- a tree to be laid, with its indent and mode
 pub record Task : Type 0 where
@@ -28,9 +32,23 @@ abbrev pub downwards : {A : Type 0} → (A → Task) → List A → List Task
 downwards g [] = []
 downwards g (x ∷ xs) = downwards g xs ++ g x ∷ []
 
--- the tasks of a list of commands, the last command first
-abbrev pub stack_of : {N : Type 0} → (N → Tree) → List (Command N) → List Task
-stack_of f = downwards (task f)
+-- the tasks of nodes in frames, the last node first
+abbrev pub framed_tasks : {N : Type 0} → (N → Tree) → List Frame → Frame → List N → List Task
+framed_tasks f frames here nodes = downwards (task f) (spread frames here nodes)
+
+-- the tasks of a stack, the one on top first
+abbrev pub stack_of : {N : Type 0} → (N → Tree) → Stack N → List Task
+stack_of f s = framed_tasks f s.frames.items s.here s.nodes.items
+
+-- the tasks of a stack that are not read yet, the one that is read next first
+abbrev pub unread : {N : Type 0} → (N → Tree) → Stack N → Cursor → List Task
+unread f s c = framed_tasks f (take c.frames s.frames.items) c.here (take c.nodes s.nodes.items)
+
+-- the cursor is one of the stack: its frames are the lowest ones, and they cover the nodes that are not read yet
+pub record Reads {N : Type 0} (s : Stack N) (c : Cursor) : Type 0 where
+  pub frames : c.frames ≤ length s.frames.items
+  pub nodes : c.nodes ≤ length s.nodes.items
+  pub covers : Covers (take c.frames s.frames.items) c.here c.nodes
 
 -- the tasks of trees at one indent in one mode
 abbrev pub tasks : ℕ → Mode → List Tree → List Task

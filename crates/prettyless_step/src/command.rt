@@ -1,4 +1,4 @@
-//! One node that is still to be laid.
+//! A node that is still to be laid, with its indent and its mode.
 ghost use Rattle.std.specs.Prelude.{◌≡◌, ⊤};
 ghost use Rattle.prettyless_model.specs.Column.{nested};
 
@@ -30,4 +30,12 @@ pub fn nested_indent(indent: usize, offset: isize) -> usize
     ensures { result ≡ nested indent offset }
 {
     indent.saturating_add_signed(offset)
+}
+
+/// An indent and a mode, for all nodes from a height on, up to where the next frame begins.
+#[derive(Clone, Copy)]
+pub struct Frame {
+    pub indent: usize,
+    pub mode: Mode,
+    pub below: usize,
 }

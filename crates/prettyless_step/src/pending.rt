@@ -6,7 +6,6 @@ ghost use Rattle.prettyless_step.specs.Stack.{tasks};
 ghost use Rattle.prettyless_step.specs.Printing.{Grows, state_of, tasks_of};
 
 use crate::printer::Printer;
-use crate::stack::push_each;
 use crate::walk::Walk;
 use prettyless_model::mode::Mode;
 use std::alloc::AllocError;
@@ -36,7 +35,9 @@ pub fn take_pending<N: Walk>(
 {
     let gap = printer.column.gap();
     let fits = printer.column.padding_fits(printer.options.width, true);
-    push_each(&mut printer.commands, indent, mode, printer.queue.pending())?;
+    printer
+        .commands
+        .push_each(indent, mode, printer.queue.pending())?;
     printer.queue.clear_pending();
     printer.within = printer.within && fits;
     printer.column = printer.column.committed(0);

@@ -1,7 +1,7 @@
 //! The printer's state, and what a step answers.
-use crate::command::Command;
 use crate::piece::Piece;
 use crate::queue::Queue;
+use crate::stack::Stack;
 use prettyless_model::column::Column;
 use prettyless_model::options::RenderOptions;
 
@@ -12,10 +12,10 @@ pub struct Printer<N> {
     pub column: Column,
     /// Whether, since the open trial began, nothing went past the width.
     pub within: bool,
-    /// The commands that are left, the next one last.
-    pub commands: Vec<Command<N>>,
+    /// The nodes that are left.
+    pub commands: Stack<N>,
     /// The probe's own list of work, kept for its memory.
-    pub scratch: Vec<Command<N>>,
+    pub scratch: Stack<N>,
     /// The line suffixes that were visited.
     pub queue: Queue<N>,
 }

@@ -1,14 +1,14 @@
 //! The probe: whether a node fits the line with what follows it.
-ghost use Rattle.std.specs.Prelude.{◌≡◌, ◌++◌, ◌∷◌, [], IfOk, OnOk, IfSome, MatchOption, List, Bool, false, ◌+◌, ◌<◌, ◌≤◌, ℕ, ⊤, length, take, if◌then◌else◌};
+ghost use Rattle.std.specs.Prelude.{◌≡◌, ◌++◌, ◌∷◌, [], IfOk, OnOk, IfSome, MatchOption, List, Bool, false, ◌+◌, ◌<◌, ◌≤◌, ℕ, ⊤, if◌then◌else◌};
 ghost use Rattle.prettyless_model.specs.Tree.{WeakLine, size};
 ghost use Rattle.prettyless_model.specs.Column.{padding_fits};
 ghost use Rattle.prettyless_model.specs.Look.{answer_of, by_mode, look, look_text, payload_begins};
 ghost use Rattle.prettyless_model.specs.Layout.{rest_fits};
 ghost use Rattle.prettyless_step.specs.Probing.{ReadsAs, RisesBy, nodes_next, read_of};
-ghost use Rattle.prettyless_step.specs.Stack.{AnswersAs, Task, follow, in_break, make_task, nodes, stack_of, task, tasks_fit};
+ghost use Rattle.prettyless_step.specs.Stack.{AnswersAs, Reads, Task, follow, in_break, make_task, nodes, stack_of, task, tasks_fit, unread};
 
 use crate::command::{Command, nested_indent};
-use crate::stack::{pop_command, push_node};
+use crate::stack::{Cursor, Stack};
 use crate::walk::{View, Walk};
 use prettyless_model::column::Column;
 use prettyless_model::metrics::Metrics;
@@ -119,13 +119,13 @@ fn probe_one<N: Walk>(
     indent: usize,
     mode: Mode,
     node: N,
-    stack: &mut Vec<Command<N>>,
+    stack: &mut Stack<N>,
 ) -> Result<Read<N>, AllocError>
     ensures answer { IfOk result (λ a. (ts : List Task) → ReadsAs N.tree width a
-        (tasks_fit width (make_task indent mode (N.tree node) ∷ (stack_of N.tree stack.old.items ++ ts)) line.old.column line.old.pending)
-        (stack_of N.tree stack.new.items ++ ts) line.new.column line.new.pending) }
+        (tasks_fit width (make_task indent mode (N.tree node) ∷ (stack_of N.tree stack.old ++ ts)) line.old.column line.old.pending)
+        (stack_of N.tree stack.new ++ ts) line.new.column line.new.pending) }
     ensures smaller { IfOk result (λ a.
-        nodes_next N.tree a + nodes (stack_of N.tree stack.new.items) < size (N.tree node) + nodes (stack_of N.tree stack.old.items)) }
+        nodes_next N.tree a + nodes (stack_of N.tree stack.new) < size (N.tree node) + nodes (stack_of N.tree stack.old)) }
 {
     match node.view() {
         View::Nil => Ok(Read::Done),
@@ -150,7 +150,7 @@ fn probe_one<N: Walk>(
             Mode::Flat => Ok(Read::Answer(false)),
         },
         View::Append(first, second) => {
-            push_node(stack, indent, mode, second)?;
+            stack.push(indent, mode, second)?;
             Ok(Read::Next(indent, mode, first))
         }
         View::Nest(offset, inner) => Ok(Read::Next(nested_indent(indent, offset), mode, inner)),
@@ -175,32 +175,29 @@ fn probe_one<N: Walk>(
 // The next node that the probe looks at: one of its own, and then the printer's commands downwards, each in Break.
 #[tactic(auto, using(crate::proofs::Stacks::below_steps))]
 fn next_unread<N: Walk>(
-    commands: &[Command<N>],
-    below: &mut usize,
-    stack: &mut Vec<Command<N>>,
+    commands: &Stack<N>,
+    below: &mut Cursor,
+    stack: &mut Stack<N>,
 ) -> Option<Command<N>>
-    requires { below.old ≤ length commands.now }
-    ensures within { below.new ≤ length commands.now }
+    requires { Reads commands.now below.old }
+    ensures of_this { Reads commands.now below.new }
     ensures ahead { MatchOption result
-        (stack_of N.tree stack.old.items ++ in_break (stack_of N.tree (take below.old commands.now)) ≡ [])
-        (λ c. stack_of N.tree stack.old.items ++ in_break (stack_of N.tree (take below.old commands.now))
-        ≡ task N.tree c ∷ (stack_of N.tree stack.new.items ++ in_break (stack_of N.tree (take below.new commands.now)))) }
+        (stack_of N.tree stack.old ++ in_break (unread N.tree commands.now below.old) ≡ [])
+        (λ c. stack_of N.tree stack.old ++ in_break (unread N.tree commands.now below.old)
+        ≡ task N.tree c ∷ (stack_of N.tree stack.new ++ in_break (unread N.tree commands.now below.new))) }
     ensures left { IfSome result
-        (λ c. nodes (stack_of N.tree stack.old.items) + nodes (stack_of N.tree (take below.old commands.now))
-        ≡ size (N.tree c.node) + (nodes (stack_of N.tree stack.new.items) + nodes (stack_of N.tree (take below.new commands.now)))) }
-    ensures own_first { MatchOption result (nodes (stack_of N.tree stack.old.items) ≡ 0) (λ _. ⊤) }
+        (λ c. nodes (stack_of N.tree stack.old) + nodes (unread N.tree commands.now below.old)
+        ≡ size (N.tree c.node) + (nodes (stack_of N.tree stack.new) + nodes (unread N.tree commands.now below.new))) }
+    ensures own_first { MatchOption result (nodes (stack_of N.tree stack.old) ≡ 0) (λ _. ⊤) }
 {
-    if let Some(next) = pop_command(stack) {
+    if let Some(next) = stack.pop() {
         return Some(next);
     }
-    if *below == 0 {
-        return None;
-    }
-    *below -= 1;
+    let next = commands.read_down(below)?;
     Some(Command {
-        indent: commands[*below].indent,
+        indent: next.indent,
         mode: Mode::Break,
-        node: commands[*below].node,
+        node: next.node,
     })
 }
 
@@ -214,8 +211,8 @@ pub fn probe<N: Walk>(
     node: N,
     indent: usize,
     mode: Mode,
-    commands: &[Command<N>],
-    stack: &mut Vec<Command<N>>,
+    commands: &Stack<N>,
+    stack: &mut Stack<N>,
     probes: &mut u64,
 ) -> Result<bool, AllocError>
     ensures answer { IfOk result
@@ -226,7 +223,7 @@ pub fn probe<N: Walk>(
     ensures asked { OnOk result (RisesBy 1 probes.old probes.new) }
 {
     let mut line = start;
-    let mut below = commands.len();
+    let mut below = commands.cursor();
     let mut indent = indent;
     let mut mode = mode;
     let mut node = node;

@@ -5,19 +5,18 @@ ghost use Rattle.prettyless_model.specs.Look.{by_mode};
 ghost use Rattle.prettyless_model.specs.Counts.{each_probe};
 ghost use Rattle.prettyless_model.specs.Layout.{is_suppressed, lay_ending, some_pending, next_indent, probe as probe_of};
 ghost use Rattle.prettyless_model.specs.declared.mode.Mode.TheVariants.{Break, Flat};
-ghost use Rattle.prettyless_step.specs.Stack.{follow, make_task, nodes, stack_of};
+ghost use Rattle.prettyless_step.specs.Stack.{make_task, nodes};
 ghost use Rattle.prettyless_step.specs.Steps.{Move, at_once, break_step, counted_payload, decided_by_metrics, is_rejected, rejects_payload, step_of, union_step};
 ghost use Rattle.prettyless_step.specs.Piece.{piece_bytes};
 ghost use Rattle.prettyless_step.specs.Printing.{Shows, Writes, following, state_of, tasks_of};
 ghost use Rattle.prettyless_step.specs.Probing.{RisesBy, asked};
 
-use crate::command::{Command, nested_indent};
+use crate::command::nested_indent;
 use crate::content::{payload_fits, put_payload, put_text};
 use crate::pending::{is_pending, take_pending};
 use crate::piece::Piece;
 use crate::printer::{Printer, Taken};
 use crate::probe::{Line, chosen, either, probe};
-use crate::stack::push_node;
 use crate::walk::{View, Walk};
 use prettyless_model::column::Column;
 use prettyless_model::mode::Mode;
@@ -95,19 +94,6 @@ fn metrics_choice<N: Walk>(printer: &Printer<N>, first: &N) -> Option<bool>
     }
 }
 
-// The indent of what follows, or the break's own where nothing does.
-#[tactic(auto, using(crate::proofs::Stacks::stack_of_take))]
-fn indent_after<N: Walk>(commands: &[Command<N>], indent: usize) -> usize
-    ensures { result ≡ next_indent indent (follow (stack_of N.tree commands.now)) }
-{
-    let len = commands.len();
-    if len == 0 {
-        return indent;
-    }
-    let next = commands[len - 1];
-    next.indent
-}
-
 // The end of a line, and the indent of the next.
 #[tactic(auto, using(crate::proofs::Queues::queues))]
 fn end_line<N: Walk>(printer: &mut Printer<N>, indent: usize) -> Piece<'static>
@@ -116,7 +102,7 @@ fn end_line<N: Walk>(printer: &mut Printer<N>, indent: usize) -> Piece<'static>
         (next_indent indent (following N.tree printer.old)) (state_of N.tree printer.old)))
         printer.old printer.new }
 {
-    let next = indent_after(&printer.commands, indent);
+    let next = printer.commands.next_indent(indent);
     let text = printer.options.line_ending.as_str();
     match printer.options.indentation_policy {
         IndentationPolicy::Eager => {
@@ -139,6 +125,7 @@ fn end_line<N: Walk>(printer: &mut Printer<N>, indent: usize) -> Piece<'static>
 }
 
 // The pending line suffixes come next, and after them the break again.
+#[tactic(auto, using(crate::proofs::Stacks::below_steps))]
 fn flush_line<N: Walk>(
     printer: &mut Printer<N>,
     indent: usize,
@@ -151,7 +138,7 @@ fn flush_line<N: Walk>(
         (following N.tree printer.old) (state_of N.tree printer.old))
         printer.old printer.new) }
 {
-    push_node(&mut printer.commands, indent, mode, node)?;
+    printer.commands.push(indent, mode, node)?;
     let gap = take_pending(printer, indent, mode)?;
     Ok(Piece {
         gap,
@@ -301,7 +288,7 @@ pub fn step<'v, N: Walk>(
         },
         View::WeakLine => break_line(printer, indent, mode, *node, true),
         View::Append(l, r) => {
-            push_node(&mut printer.commands, indent, mode, r)?;
+            printer.commands.push(indent, mode, r)?;
             Ok(Taken::Next(indent, l))
         }
         View::LineSuffix(d) => {

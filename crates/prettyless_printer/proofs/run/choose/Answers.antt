@@ -40,16 +40,16 @@ returns-in-Err-write_gap_and_text g c =
     }
 
 -- it is not kept
-pub returns-in-Ok-push_node : goal.returns-in-Ok-push_node
-returns-in-Ok-push_node g c =
+pub returns-in-Ok-push : goal.returns-in-Ok-push
+returns-in-Ok-push g c =
     let f = g.N.Walk.tree in
     let q = c.print_branch.new.printer in
     let x = f c.args.first in
     let tries = subst (λ b. Tries {E = _} f c.args.indent x (point c.args.printer.now (buffer_seen (record c.args.buffer.now { text = c.clear.new.self })) c.args.visits.now) (point q (buffer_seen c.print_branch.new.buffer) c.print_branch.new.visits) (Ok b)) c.in-Ok-false.field-0-test c.in-Ok-false.ensures in
     record {
-      lessens = omega (arith, tries.decided.4, ap nodes tries.decided.0, ap nodes c.in-Ok-push_node.ensures);
+      lessens = omega (arith, tries.decided.4, ap nodes tries.decided.0, ap nodes c.in-Ok-push.ensures);
       runs = λ run waiting.
-          goes_on_other f q c.args.indent x (f c.args.second) waiting tries c.in-Ok-push_node.ensures refl refl ([], sym (append-nil q.queue.nodes.items)) refl
+          goes_on_other f q c.args.indent x (f c.args.second) waiting tries c.in-Ok-push.ensures refl refl ([], sym (append-nil q.queue.nodes.items)) refl
           (λ is_known. (is_known, (λ _. refl, refl)));
     }
 
@@ -62,8 +62,8 @@ returns-in-Err g c =
           choice_refused f (λ _. ⊥) c.args.indent (f c.args.first) (f c.args.second) _ waiting refl (λ is_known. (is_known, (refl, refl))) c.in-Err.ensures.rise c.in-Err.ensures.at_most;
     }
 
-pub returns-in-Err-push_node : goal.returns-in-Err-push_node
-returns-in-Err-push_node g c =
+pub returns-in-Err-push : goal.returns-in-Err-push
+returns-in-Err-push g c =
     let f = g.N.Walk.tree in
     record {
       lessens = tt;

@@ -2,7 +2,7 @@ use Rattle.std.proofs.Common.{◌≡◌, ◌∷◌, [], ◌∙◌, true, ap, app
 use Rattle.prettyless_sink.specs.Sink.{known, known_of}
 use Rattle.prettyless_model.specs.Layout.{Bytes, bytes_in, initial, layout}
 use Rattle.prettyless_model.specs.declared.mode.Mode.TheVariants.{Break}
-use Rattle.prettyless_step.specs.Stack.{make_task, stack_of, trees}
+use Rattle.prettyless_step.specs.Stack.{make_task, trees}
 use Rattle.prettyless_step.specs.Printing.{state_of, tasks_of}
 use Rattle.prettyless_step.proofs.Queues.{trees_none}
 use Rattle.prettyless_printer.specs.Renders.{Rendered}
@@ -19,10 +19,10 @@ returns-in-Ok g c =
     let d = f c.args.node in
     let new = c.run_to_end.new.out in
     let q = c.run_to_end.new.printer in
-    let p = record q { options = c.args.options; column = c.start.result; within = true; commands = c.push_node.new.stack; scratch = c.new-2.result; queue = c.new-3.result } in
+    let p = record q { options = c.args.options; column = c.start.result; within = true; commands = c.push.new.self; scratch = c.new-2.result; queue = c.new-3.result } in
     let n : trees f (drop c.new-3.result.start c.new-3.result.nodes.items) ≡ [] = ap (λ x. trees f (drop c.new-3.result.start x)) c.new-3.ensures ∙ trees_none f [] c.new-3.result.start (omega arith) in
     let s : state_of f p ≡ initial = λ j. record { column = c.start.ensures j; pending = n j; within = true } in
-    let e : tasks_of f p ≡ make_task 0 Break d ∷ [] = c.in-Ok.ensures ∙ ap (λ x. make_task 0 Break d ∷ stack_of f x) c.new.ensures.items in
+    let e : tasks_of f p ≡ make_task 0 Break d ∷ [] = c.in-Ok.ensures ∙ ap (λ x. make_task 0 Break d ∷ x) c.new.ensures in
     record {
       same_lender = c.run_to_end.ensures.same_lender;
       bytes = λ is_known.

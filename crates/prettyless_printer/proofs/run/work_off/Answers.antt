@@ -1,7 +1,6 @@
 use Rattle.std.proofs.Common.{◌<◌, ◌≤◌, length, arith}
 use Rattle.std.proofs.lemmas.Result.{err_from_is_err_and}
 use Rattle.prettyless_step.specs.Printing.{tasks_of}
-use Rattle.prettyless_step.proofs.Stacks.{length-stack_of}
 use Rattle.prettyless_printer.specs.Points.{point, seen}
 use Rattle.prettyless_printer.proofs.PathSteps.{run_of, run_begins, run_ends, run_broke_off, goes_on, comes_to_wait, breaks_off, fails_there, broke_anyhow}
 use Rattle.prettyless_printer.proofs.run.work_off.Goals as goal
@@ -13,14 +12,14 @@ pub work-preserved-in-Went : goal.work-preserved-in-Went
 work-preserved-in-Went g c =
     let f = g.N.Walk.tree in
     let v = c.work.printer in
-    let l : 0 < length (tasks_of f v) = omega (arith, length-stack_of f v.commands.items, v.commands.ok.0, c.work-test.true, c.len.ensures) in
+    let l : 0 < length (tasks_of f v) = omega (arith, c.work-test.true, c.len.ensures) in
     goes_on f c.work.invariant l (rw c.in-Went.is at c.in_ok-turn.ensures)
 
 pub work-preserved : goal.work-preserved
 work-preserved g c =
     let f = g.N.Walk.tree in
     let v = c.work.printer in
-    let l : 0 < length (tasks_of f v) = omega (arith, length-stack_of f v.commands.items, v.commands.ok.0, c.work-test.true, c.len.ensures) in
+    let l : 0 < length (tasks_of f v) = omega (arith, c.work-test.true, c.len.ensures) in
     let waiting = comes_to_wait f c.in-Chosen.indent c.in-Chosen.first c.in-Chosen.second c.work.invariant l (rw c.in-Chosen.is at c.in_ok-turn.ensures) (omega arith) in
     c.in_ok-choose-in-Chosen.ensures.runs (run_of f (point c.args.printer.now (seen g.W.Render.bytes g.W.Render.failures g.W.Render.lender c.args.out.now) c.args.visits.now)) waiting
 
@@ -29,7 +28,7 @@ returns-in-Failed g c =
     let f = g.N.Walk.tree in
     let v = c.work.printer in
     let fails = g.W.Render.document_errors c.turn.new.out in
-    let l : 0 < length (tasks_of f v) = omega (arith, length-stack_of f v.commands.items, v.commands.ok.0, c.work-test.true, c.len.ensures) in
+    let l : 0 < length (tasks_of f v) = omega (arith, c.work-test.true, c.len.ensures) in
     run_broke_off f fails _ (fails_there f fails c.fail_doc.result c.work.invariant l (rw c.in-Failed.is at c.in_ok-turn.ensures) c.fail_doc.ensures)
 
 pub returns-in_err-turn : goal.returns-in_err-turn
@@ -39,7 +38,7 @@ returns-in_err-turn g c =
     let f = g.N.Walk.tree in
     let v = c.work.printer in
     let fails = g.W.Render.document_errors c.turn.new.out in
-    let l : 0 < length (tasks_of f v) = omega (arith, length-stack_of f v.commands.items, v.commands.ok.0, c.work-test.true, c.len.ensures) in
+    let l : 0 < length (tasks_of f v) = omega (arith, c.work-test.true, c.len.ensures) in
     run_broke_off f fails c.in_err-turn.field-0.0 (breaks_off f fails c.in_err-turn.field-0.0 c.work.invariant l c.in_err-turn.ensures)
 
 pub returns-in_err-choose-in-Chosen : goal.returns-in_err-choose-in-Chosen
@@ -50,7 +49,7 @@ returns-in_err-choose-in-Chosen g c =
     let v = c.work.printer in
     let fails = g.W.Render.document_errors c.choose.new.out in
     let e = c.in_err-choose-in-Chosen.field-0.0 in
-    let l : 0 < length (tasks_of f v) = omega (arith, length-stack_of f v.commands.items, v.commands.ok.0, c.work-test.true, c.len.ensures) in
+    let l : 0 < length (tasks_of f v) = omega (arith, c.work-test.true, c.len.ensures) in
     let waiting = comes_to_wait f c.in-Chosen.indent c.in-Chosen.first c.in-Chosen.second c.work.invariant l (rw c.in-Chosen.is at c.in_ok-turn.ensures) (omega arith) in
     run_broke_off f fails e
     (broke_anyhow f fails e (c.in_err-choose-in-Chosen.ensures.runs (run_of f (point c.args.printer.now (seen g.W.Render.bytes g.W.Render.failures g.W.Render.lender c.args.out.now) c.args.visits.now)) waiting))
@@ -59,5 +58,5 @@ pub returns : goal.returns
 returns g c =
     let f = g.N.Walk.tree in
     let q = c.work.printer in
-    let l : length (tasks_of f q) ≤ 0 = omega (arith, length-stack_of f q.commands.items, q.commands.ok.0, c.work-test.false, c.len.ensures) in
+    let l : length (tasks_of f q) ≤ 0 = omega (arith, c.work-test.false, c.len.ensures) in
     run_ends f (g.W.Render.document_errors c.work.out) tt c.work.invariant l

@@ -4,7 +4,6 @@ use Rattle.prettyless_model.specs.declared.mode.Mode.TheVariants.{Flat}
 use Rattle.prettyless_step.specs.Stack.{task}
 use Rattle.prettyless_step.specs.Piece.{piece_bytes}
 use Rattle.prettyless_step.specs.declared.printer.Taken.TheVariants as taken
-use Rattle.prettyless_step.proofs.Stacks.{length-stack_of}
 use Rattle.prettyless_printer.specs.Points.{point, seen}
 use Rattle.prettyless_printer.proofs.Hands.{goes_down, in_hand, shown, visit}
 use Rattle.prettyless_printer.proofs.Advancing.{advances_chosen, advances_failed, advances_refused, advances_sink_failed, advances_went}
@@ -12,12 +11,12 @@ use Rattle.prettyless_printer.proofs.turn.turn.Goals as goal
 
 pub unreachable-requires : goal.unreachable-requires
 unreachable-requires g c =
-    omega (arith, ap length c.in_default.ensures.0, length-stack_of g.N.Walk.tree c.args.printer.now.commands.items, c.args.printer.now.commands.ok.0)
+    omega (arith, ap length c.in_default.ensures.0)
 
 pub down-init : goal.down-init
 down-init g c =
     let p = c.args.printer.now in
-    in_hand g.N.Walk.tree (point p (seen g.W.Render.bytes g.W.Render.failures g.W.Render.lender c.args.out.now) c.args.visits.now) (record p { commands = c.pop_command.new.stack })
+    in_hand g.N.Walk.tree (point p (seen g.W.Render.bytes g.W.Render.failures g.W.Render.lender c.args.out.now) c.args.visits.now) (record p { commands = c.pop.new.self })
     (task g.N.Walk.tree c.in-Some.command) c.in-Some.ensures refl refl ([], sym (append-nil p.queue.nodes.items))
 
 pub down-preserved-in-Ok-Next : goal.down-preserved-in-Ok-Next

@@ -1,12 +1,12 @@
 use Rattle.std.proofs.Common.{◌≡◌, ◌++◌, ◌≤◌, length, drop}
 use Rattle.prettyless_step.specs.Stack.{stack_of, tasks, trees}
-use Rattle.prettyless_step.proofs.stack.push_each.Given as goal
+use Rattle.prettyless_step.proofs.stack.Stack.push_each.Given as goal
 
 abbrev pub invariant-loop-k : goal.invariant-loop-k
 invariant-loop-k g l = record {
   within : l.k ≤ length l.nodes;
-  pushed : stack_of g.N.Walk.tree l.stack.items
-      ≡ tasks l.fn.indent l.mode (trees g.N.Walk.tree (drop l.k l.nodes)) ++ stack_of g.N.Walk.tree l.fn.stack.items;
+  pushed : stack_of g.N.Walk.tree l.self
+      ≡ tasks l.fn.indent l.mode (trees g.N.Walk.tree (drop l.k l.nodes)) ++ stack_of g.N.Walk.tree l.fn.self;
 }
 
 abbrev pub decreases-loop-k : goal.decreases-loop-k

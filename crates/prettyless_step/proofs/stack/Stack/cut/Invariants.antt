@@ -1,0 +1,10 @@
+use Rattle.std.proofs.Common.{◌≡◌, ◌++◌, List, length}
+use Rattle.prettyless_step.specs.Stack.{Task, stack_of}
+use Rattle.prettyless_step.proofs.stack.Stack.cut.Given as goal
+
+abbrev pub invariant-frames : goal.invariant-frames
+invariant-frames g l =
+    (above below : List Task) → stack_of g.N.Walk.tree l.fn.self ≡ above ++ below → length below ≡ l.kept → (rest : List Task) × (stack_of g.N.Walk.tree l.self ≡ rest ++ below)
+
+abbrev pub decreases-frames : goal.decreases-frames
+decreases-frames g l = l.self.here.below
