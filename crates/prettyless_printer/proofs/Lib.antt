@@ -6,6 +6,8 @@ pub mod Turnings
 pub mod Trying
 pub mod PathSteps
 pub mod TrialSteps
+pub mod Chains
+pub mod Costs
 pub mod Renders
 pub mod Contents
 pub mod Visits

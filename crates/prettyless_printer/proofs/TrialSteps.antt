@@ -1,46 +1,39 @@
--- A trial as a run of its own: begun, ended or taken back.
-use Rattle.std.proofs.Common.{◌≡◌, ℕ, ◌≤◌, ◌<◌, List, [], ◌∷◌, ◌++◌, length, refl, ap, ◌∙◌, arith, Ok, true, false, vec_len, take, length-append, IsErr, Result, Err, Bool, IsSome}
+-- A trial as a run of its own: begun, gone on with, ended or taken back.
+use Rattle.std.proofs.Common.{◌≡◌, ℕ, ◌+◌, ◌*◌, ◌≤◌, ◌<◌, List, [], ◌∷◌, ◌++◌, length, refl, ap, ◌∙◌, sym, arith, subst, Ok, true, false, take, length-append, IsErr, Result, Err, Bool, IsSome}
 use Rattle.prettyless_sink.specs.Sink.{known}
+use Rattle.prettyless_sink.specs.declared.error.RenderError.{RenderError}
+use Rattle.prettyless_sink.specs.declared.visits.Visits.{Visits}
+use Rattle.prettyless_model.specs.declared.options.RenderOptions.{RenderOptions}
 use Rattle.prettyless_model.specs.Column.{padding_fits}
 use Rattle.prettyless_model.specs.Layout.{State, accept, tried, some_pending, Outcome}
 use Rattle.prettyless_model.specs.declared.mode.Mode.TheVariants.{Break}
 use Rattle.prettyless_model.specs.Content.{suffix_depth}
-use Rattle.prettyless_model.specs.Tree.{Tree}
+use Rattle.prettyless_model.specs.Tree.{Tree, size}
 use Rattle.prettyless_step.specs.Stack.{Task, make_task, nodes}
 use Rattle.prettyless_step.specs.Steps.{owed}
 use Rattle.prettyless_step.specs.Printing.{state_of, tasks_of, Grows}
 use Rattle.prettyless_step.specs.declared.printer.Printer.{Printer}
 use Rattle.prettyless_printer.specs.declared.trial.Mark.{Mark}
-use Rattle.prettyless_printer.specs.Points.{Point, point}
-use Rattle.prettyless_printer.specs.Trials.{Marks, Restores, TrialDid, Tries}
-use Rattle.prettyless_printer.specs.Visits.{Plain, Rise, CountsAtMost, suffixes}
-use Rattle.prettyless_printer.specs.AtLeast.{trial_tally}
-use Rattle.prettyless_printer.specs.Paths.{BeganPlain, Path, Run, Waiting}
+use Rattle.prettyless_printer.specs.Points.{Point, Seen, point}
+use Rattle.prettyless_printer.specs.Trials.{Attempt, AtChoice, Fallen, Lasts, Marks, OnTrial, Restores, TrialBroke, TrialDid, Tries, attempt, limit_of, trial_of, trial_run, work_at}
+use Rattle.prettyless_printer.specs.Visits.{Plain, suffixes}
+use Rattle.prettyless_printer.specs.Paths.{BeganPlain, Path, Waiting}
 use Rattle.prettyless_printer.specs.Turns.{Advances, Goes}
 use Rattle.prettyless_printer.specs.declared.answer.Turn.TheVariants as turn
-use Rattle.prettyless_printer.proofs.PathSteps.{at_run, comes_to_wait}
-use Rattle.prettyless_printer.proofs.Trying.{trial_of, limit_of, trying_begins, trial_rejected, trial_kept}
-use Rattle.prettyless_printer.proofs.Visits.{rise_same, at_most_same, at_most_at, at_most_cut, plain_at, plain_push}
+use Rattle.prettyless_printer.proofs.PathSteps.{at_failing, at_run, comes_to_wait, goes_on}
+use Rattle.prettyless_printer.proofs.Progresses.{inside_past}
+use Rattle.prettyless_printer.proofs.Within.{Past, accept_past}
+use Rattle.prettyless_printer.proofs.Trying.{grows-grows, padding_rejects, trial_ends, trying_begins, trial_rejected, trial_kept}
+use Rattle.prettyless_printer.proofs.Visits.{rise_same, rise_then, at_most_all, at_most_same, at_most_at, at_most_cut, at_most_then, plain_at, plain_push}
 use Rattle.prettyless_printer.proofs.AtLeast.{at_least_end, trial_begins}
 
--- A trial of a branch at an indent, as a run.
-abbrev pub trial_run : {N : Type 0} → (N → Tree) → Point N → ℕ → Tree → Run N
-trial_run f a i d = record {
-  start = a;
-  whole = trial_of f a.printer i d;
-  limit = limit_of f a.printer d;
-  first = make_task i Break d ∷ tasks_of f a.printer;
-  below = tasks_of f a.printer;
-  tally = trial_tally f a.printer i d;
-}
-
 -- it began without line suffixes, if there were none and the branch has none
-pub began_plain : {N : Type 0} (f : N → Tree) (a : Point N) (i : ℕ) (d : Tree) → Plain f a.printer → suffix_depth d ≡ 0 → BeganPlain f (trial_run f a i d)
-began_plain {N} f a i d plain none = (omega (arith, plain.none, none), plain.pending)
+pub began_plain : {N : Type 0} (f : N → Tree) (t : Attempt N) → Plain f t.start.printer → suffix_depth t.branch ≡ 0 → BeganPlain f (trial_run f t)
+began_plain {N} f t plain none = (omega (arith, plain.none, none), plain.pending)
 
 -- it begins: the branch is the next task
 pub trial_run_begins : {N : Type 0} (f : N → Tree) (a : Point N) (q : Printer N) (i : ℕ) (d : Tree) → tasks_of f q ≡ make_task i Break d ∷ tasks_of f a.printer → state_of f q ≡ tried (state_of f a.printer) →
-    q.options ≡ a.printer.options → Grows a.printer q → Path f (trial_run f a i d) (point q a.sink a.visits)
+    q.options ≡ a.printer.options → Grows a.printer q → Path f (trial_run f (attempt a i d)) (point q a.sink a.visits)
 trial_run_begins {N} f a q i d e s o grows = record {
   options = o;
   grows = grows;
@@ -54,61 +47,181 @@ trial_run_begins {N} f a q i d e s o grows = record {
   at_least = trial_begins f a.printer q i d a.visits o e s;
 }
 
--- a turn after which two branches are to be chosen from
-pub trial_waits : {N E : Type 0} (f : N → Tree) (a : Point N) {b c : Point N} (i : ℕ) (d : Tree) (j : ℕ) (x y : N) → IsSome a.sink.bytes → Path f (trial_run f a i d) b →
-    length (tasks_of f a.printer) < length (tasks_of f b.printer) → Advances {N = N} {E = E} f b c (Ok (turn.Chosen j x y)) → Waiting f (trial_run f a i d) j (f x) (f y) c
-trial_waits {N} {E} f a {b} {c} i d j x y is_known p l h =
-    let k = p.bytes is_known in
-    let e = at_run f (trial_run f a i d) b.printer (known a.sink.bytes) (known b.sink.bytes) (λ o. Goes f o c.printer (known c.sink.bytes) (turn.Chosen j x y)) p.options l k.1.0 (h.bytes k.0).1.0 in
-    comes_to_wait f j x y p l h (omega (arith, ap length e.stack_is, length-append e.above (tasks_of f a.printer)))
+-- a turn that goes on within the width
+pub course_goes : {N E : Type 0} (f : N → Tree) {t : Attempt N} {below : ℕ} {a b : Point N} → OnTrial f t below a → below < length (tasks_of f a.printer) → Advances {N = N} {E = E} f a b (Ok turn.Went) →
+    b.printer.within ≡ true → OnTrial f t below b × (work_at f b < work_at f a)
+course_goes {N} {E} f {t} {below} {a} {b} on l h within = (
+  record { is_known = on.is_known; path = goes_on f on.path (omega (arith, l, on.height)) h; within = within; height = on.height },
+  h.lessens,
+)
 
--- it broke off
-pub trial_broke_off : {N E : Type 0} (f : N → Tree) (a b : Point N) (i : ℕ) (d : Tree) (r : Result Bool E) → IsErr r → Rise a.visits b.visits →
-    (BeganPlain f (trial_run f a i d) → CountsAtMost (make_task i Break d ∷ tasks_of f a.printer) [] a.visits b.visits) → Tries f i d a b r
-trial_broke_off {N} {E} f a b i d (Ok x) h rise counts = cc
-trial_broke_off {N} {E} f a b i d (Err e) h rise counts = record {
-  decided = tt;
-  failures = tt;
-  rise = rise;
-  at_most = λ plain none. counts (began_plain f a i d plain none);
-  at_least = tt;
+-- a turn after which something is past the width
+pub course_past : {N E : Type 0} (f : N → Tree) {t : Attempt N} {below : ℕ} {a b : Point N} → OnTrial f t below a → below < length (tasks_of f a.printer) → Advances {N = N} {E = E} f a b (Ok turn.Went) →
+    b.printer.within ≡ false → Fallen f t b
+course_past {N} {E} f {t} {below} {a} {b} on l h past =
+    let p = t.start.printer in
+    let path = goes_on f on.path (omega (arith, l, on.height)) h in
+    let k = path.bytes on.is_known in
+    let e = k.1.0 in
+    record {
+      above = e.above;
+      stack = e.stack_is;
+      options = path.options;
+      grows = path.grows;
+      same_lender = path.same_lender;
+      is_known = k.0;
+      bytes = e.bytes;
+      wrote = e.out_is;
+      failures = k.1.1;
+      rejected = λ other. accept_past p.options p.within (trial_of f p t.indent t.branch) other
+          (inside_past p.options (trial_of f p t.indent t.branch) (limit_of f p t.branch) (tasks_of f p) (known t.start.sink.bytes) (tasks_of f b.printer) (state_of f b.printer) (known b.sink.bytes) e past);
+      rise = path.rise;
+      at_most = λ began. (path.at_most began).1;
+    }
+
+-- a turn at a node that fails
+pub course_failed : {N E : Type 0} (f : N → Tree) {t : Attempt N} {below : ℕ} {a b : Point N} → OnTrial f t below a → below < length (tasks_of f a.printer) → Advances {N = N} {E = E} f a b (Ok turn.Failed) → Fallen f t b
+course_failed {N} {E} f {t} {below} {a} {b} on l h =
+    let p = t.start.printer in
+    let k = at_failing f on.path (omega (arith, l, on.height)) h on.is_known in
+    let e = k.1.0 in
+    record {
+      above = e.1;
+      stack = e.4;
+      options = h.options ∙ on.path.options;
+      grows = grows-grows p a.printer b.printer on.path.grows h.grows;
+      same_lender = h.same_lender ∙ on.path.same_lender;
+      is_known = k.0;
+      bytes = e.0;
+      wrote = e.2;
+      failures = k.1.1;
+      rejected = λ other. accept_past p.options p.within (trial_of f p t.indent t.branch) other (subst Past (sym e.3) tt);
+      rise = rise_then on.path.rise h.rise;
+      at_most = λ began.
+          let y = on.path.at_most began in
+          at_most_then y.1 (h.at_most y.0);
+    }
+
+-- a turn after which two branches are to be chosen from
+pub course_chosen : {N E : Type 0} (f : N → Tree) {t : Attempt N} {below : ℕ} {a b : Point N} (i : ℕ) (x y : N) → OnTrial f t below a → below < length (tasks_of f a.printer) → Advances {N = N} {E = E} f a b (Ok (turn.Chosen i x y)) →
+    AtChoice f t i (f x) (f y) b × (2 * (size (f x) + size (f y)) + work_at f b < work_at f a)
+course_chosen {N} {E} f {t} {below} {a} {b} i x y on l h =
+    let r = trial_run f t in
+    let path = on.path in
+    let less : length (tasks_of f t.start.printer) < length (tasks_of f a.printer) = omega (arith, l, on.height) in
+    let k = path.bytes on.is_known in
+    let e = at_run f r a.printer (known t.start.sink.bytes) (known a.sink.bytes) (λ o. Goes f o b.printer (known b.sink.bytes) (turn.Chosen i x y)) path.options less k.1.0 (h.bytes k.0).1.0 in (
+      record {
+        is_known = (h.bytes k.0).0;
+        waiting = comes_to_wait f i x y path less h (omega (arith, ap length e.stack_is, length-append e.above (tasks_of f t.start.printer)));
+        within = h.lessens.1 ∙ on.within;
+      },
+      h.lessens.0,
+    )
+
+-- a turn that broke off
+pub course_broke : {N E : Type 0} (f : N → Tree) {t : Attempt N} {below : ℕ} {a b : Point N} (e : RenderError E) → OnTrial f t below a → Advances {N = N} {E = E} f a b (Err e) → TrialBroke f t b
+course_broke {N} {E} f {t} {below} {a} {b} e on h = record {
+  rise = rise_then on.path.rise h.rise;
+  at_most = λ began.
+      let y = on.path.at_most began in
+      at_most_then y.1 (h.at_most y.0);
 }
 
+-- it came to its end, and the padding fits
+pub course_over : {N : Type 0} (f : N → Tree) {t : Attempt N} {below : ℕ} {a : Point N} → OnTrial f t below a → length (tasks_of f a.printer) ≤ below →
+    padding_fits a.printer.options.width (some_pending (state_of f a.printer).pending) a.printer.column ≡ true → Lasts f t a × (work_at f a ≤ work_at f a)
+course_over {N} f {t} {below} {a} on l fits = (
+  record {
+    is_known = on.is_known;
+    path = on.path;
+    within = on.within;
+    ended = omega (arith, l, on.height);
+    fits = subst (λ (o : RenderOptions). padding_fits o.width (some_pending (state_of f a.printer).pending) a.printer.column ≡ true) on.path.options fits;
+  },
+  omega arith,
+)
+
+-- it came to its end, and the padding does not fit
+pub course_unfit : {N : Type 0} (f : N → Tree) {t : Attempt N} {below : ℕ} {a : Point N} → OnTrial f t below a → length (tasks_of f a.printer) ≤ below →
+    padding_fits a.printer.options.width (some_pending (state_of f a.printer).pending) a.printer.column ≡ false → Fallen f t a
+course_unfit {N} f {t} {below} {a} on l unfit =
+    let p = t.start.printer in
+    let path = on.path in
+    let k = path.bytes on.is_known in
+    let z = k.1.0 in
+    let e = trial_ends f p a.printer t.indent t.branch (known t.start.sink.bytes) (known a.sink.bytes) z (omega (arith, l, on.height)) in
+    record {
+      above = z.above;
+      stack = z.stack_is;
+      options = path.options;
+      grows = path.grows;
+      same_lender = path.same_lender;
+      is_known = k.0;
+      bytes = e.1;
+      wrote = e.2;
+      failures = k.1.1;
+      rejected = padding_rejects f p a.printer t.indent t.branch e.1 e.3 on.within
+          (subst (λ (o : RenderOptions). padding_fits o.width (some_pending (state_of f a.printer).pending) a.printer.column ≡ false) path.options unfit);
+      rise = path.rise;
+      at_most = λ began. (path.at_most began).1;
+    }
+
+-- what fell, or waits for a choice, may break off
+pub fallen_broke : {N : Type 0} (f : N → Tree) {t : Attempt N} {b : Point N} → Fallen f t b → TrialBroke f t b
+fallen_broke {N} f {t} {b} h = record { rise = h.rise; at_most = λ began. at_most_all (h.at_most began) }
+
+pub choice_broke : {N : Type 0} (f : N → Tree) {t : Attempt N} (i : ℕ) (x y : Tree) {b : Point N} → AtChoice f t i x y b → TrialBroke f t b
+choice_broke {N} f {t} i x y {b} h = record { rise = h.waiting.rise; at_most = λ began. at_most_all (h.waiting.at_most began).3 }
+
+-- it broke off
+pub trial_broke_off : {N E : Type 0} (f : N → Tree) {t : Attempt N} {b : Point N} (c : Point N) (r : Result Bool E) → IsErr r → c.visits ≡ b.visits → TrialBroke f t b → Tries f t.indent t.branch t.start c r
+trial_broke_off {N} {E} f {t} {b} c (Ok x) h e broke = cc
+trial_broke_off {N} {E} f {t} {b} c (Err x) h e broke =
+    subst (λ (v : Visits). Tries {N = N} {E = E} f t.indent t.branch t.start (record c { visits = v }) (Err x)) (sym e)
+    (record {
+      decided = tt;
+      failures = tt;
+      rise = broke.rise;
+      at_most = λ plain none. broke.at_most (began_plain f t plain none);
+      at_least = tt;
+    })
+
 -- it is taken back
-pub trial_undone : {N E : Type 0} (f : N → Tree) (a b : Point N) (q : Printer N) (out bytes : List ℕ) (i : ℕ) (d : Tree) (m : Mark) → Marks f m a.printer →
-    (above : List Task) → tasks_of f q ≡ above ++ tasks_of f a.printer → q.options ≡ a.printer.options → Grows a.printer q → Restores f m q b.printer →
-    out ≡ known a.sink.bytes ++ bytes → known b.sink.bytes ≡ take (length (known a.sink.bytes)) out → b.sink.failures ≡ a.sink.failures →
-    ((other : Outcome) → accept a.printer.options a.printer.within (trial_of f a.printer i d) other ≡ other) → Rise a.visits b.visits →
-    (BeganPlain f (trial_run f a i d) → CountsAtMost (make_task i Break d ∷ tasks_of f a.printer) (tasks_of f q) a.visits b.visits) → Tries {N = N} {E = E} f i d a b (Ok false)
-trial_undone {N} {E} f a b q out bytes i d m marks above e o grows back wrote cut failures rejected rise counts =
-    let old = known a.sink.bytes in
-    let new = known b.sink.bytes in
-    let did : TrialDid f a.printer b.printer i d old new false = trial_rejected f a.printer q b.printer i d m old out new bytes marks above e o grows back wrote cut rejected in
+pub trial_undone : {N E : Type 0} (f : N → Tree) {t : Attempt N} {b : Point N} (m : Mark) (r : Printer N) (s : Seen) → Fallen f t b → Marks f m t.start.printer t.start.sink → Restores f m b.printer r →
+    known s.bytes ≡ take m.written (known b.sink.bytes) → s.failures ≡ b.sink.failures → Tries {N = N} {E = E} f t.indent t.branch t.start (point r s b.visits) (Ok false)
+trial_undone {N} {E} f {t} {b} m r s fell marks back cut failures =
+    let p = t.start.printer in
+    let old = known t.start.sink.bytes in
+    let out = known b.sink.bytes in
+    let cut' : known s.bytes ≡ take (length old) out = cut ∙ ap (λ (n : ℕ). take n out) marks.written in
+    let did : TrialDid f p r t.indent t.branch old (known s.bytes) false =
+    trial_rejected f p b.printer r t.indent t.branch m t.start.sink old out (known s.bytes) fell.bytes marks fell.above fell.stack fell.options fell.grows back fell.wrote cut' fell.rejected in
     record {
       decided = did;
-      failures = failures;
-      rise = rise;
+      failures = failures ∙ fell.failures;
+      rise = fell.rise;
       at_most = λ plain none. (
-        plain_at f a.printer b.printer did.0 did.5.1 plain,
-        at_most_cut above (tasks_of f a.printer) (tasks_of f b.printer) e did.0 (counts (began_plain f a i d plain none)),
+        plain_at f p r did.0 did.5.1 plain,
+        at_most_cut fell.above (tasks_of f p) (tasks_of f r) fell.stack did.0 (fell.at_most (began_plain f t plain none)),
       );
       at_least = tt;
     }
 
--- it comes to its end, and is kept
-pub trial_over : {N E : Type 0} (f : N → Tree) (a : Point N) {b : Point N} (r : Printer N) (i : ℕ) (d : Tree) → IsSome a.sink.bytes → Path f (trial_run f a i d) b →
-    length (tasks_of f b.printer) ≤ length (tasks_of f a.printer) → b.printer.within ≡ true →
-    padding_fits a.printer.options.width (some_pending (state_of f b.printer).pending) b.printer.column ≡ true →
-    tasks_of f r ≡ tasks_of f b.printer → state_of f r ≡ record { column = b.printer.column; pending = (state_of f b.printer).pending; within = a.printer.within } →
-    r.options ≡ b.printer.options → Grows a.printer r → Tries {N = N} {E = E} f i d a (point r b.sink b.visits) (Ok true)
-trial_over {N} {E} f a {b} r i d is_known p l within fits e s o grows =
-    let h = p.bytes is_known in
+-- it is kept
+pub trial_over : {N E : Type 0} (f : N → Tree) {t : Attempt N} {b : Point N} (r : Printer N) → Lasts f t b →
+    tasks_of f r ≡ tasks_of f b.printer → state_of f r ≡ record { column = b.printer.column; pending = (state_of f b.printer).pending; within = t.start.printer.within } →
+    r.options ≡ b.printer.options → Grows t.start.printer r → Tries {N = N} {E = E} f t.indent t.branch t.start (point r b.sink b.visits) (Ok true)
+trial_over {N} {E} f {t} {b} r lasts e s o grows =
+    let p = lasts.path in
+    let a = t.start in
+    let h = p.bytes lasts.is_known in
     record {
-      decided = trial_kept f a.printer b.printer r i d (known a.sink.bytes) (known b.sink.bytes) h.1.0 l within fits e s (o ∙ p.options) grows;
+      decided = trial_kept f a.printer b.printer r t.indent t.branch (known a.sink.bytes) (known b.sink.bytes) h.1.0 lasts.ended lasts.within lasts.fits e s (o ∙ p.options) grows;
       failures = h.1.1;
       rise = p.rise;
       at_most = λ plain none.
-          let y = p.at_most (began_plain f a i d plain none) in
+          let y = p.at_most (began_plain f t plain none) in
           (record { none = ap suffixes e ∙ y.0.none; pending = ap (λ (z : State). z.pending) s ∙ y.0.pending }, at_most_at (tasks_of f r) e y.1);
-      at_least = at_least_end f b.printer (length (tasks_of f a.printer)) l p.at_least;
+      at_least = at_least_end f b.printer (length (tasks_of f a.printer)) lasts.ended p.at_least;
     }

@@ -17,18 +17,12 @@ use Rattle.prettyless_step.specs.Stack.{Task, make_task, follow, trees}
 use Rattle.prettyless_step.specs.Steps.{lay_all, owed}
 use Rattle.prettyless_printer.specs.Progress.{Inside, Waits, Decides}
 use Rattle.prettyless_step.specs.Printing.{state_of, Grows, tasks_of}
-use Rattle.prettyless_printer.specs.Trials.{Marks, Restores, TrialDid}
+use Rattle.prettyless_printer.specs.Points.{Seen}
+use Rattle.prettyless_printer.specs.Trials.{Marks, Restores, TrialDid, limit_of, trial_of}
 use Rattle.prettyless_printer.proofs.Progresses.{waits_kept, waits_other, inside_end}
 use Rattle.prettyless_printer.proofs.Turnings.{inside_at}
 use Rattle.prettyless_step.specs.declared.printer.Printer.{Printer}
 use Rattle.prettyless_printer.specs.declared.trial.Mark.{Mark}
-
--- what a trial of d at i from p lays
-abbrev pub trial_of : {N : Type 0} → (N → Tree) → Printer N → ℕ → Tree → Outcome
-trial_of f p i d = lay p.options (settle p.options) d i Break (follow (tasks_of f p)) (tried (state_of f p))
-
-abbrev pub limit_of : {N : Type 0} → (N → Tree) → Printer N → Tree → ℕ
-limit_of f p d = 2 * size d + owed (state_of f p).pending
 
 -- the trial is on its way, in q
 abbrev pub Trying : {N : Type 0} → (N → Tree) → Printer N → ℕ → Tree → List ℕ → Printer N → List ℕ → Type 0
@@ -55,33 +49,33 @@ pub grows-grows : {N : Type 0} (p q r : Printer N) → Grows p q → Grows q r �
 grows-grows {N} p q r a b = (a.0 ++ b.0, b.1 ∙ ap (λ (x : List N). x ++ b.0) a.1 ∙ append_assoc p.queue.nodes.items a.0 b.0)
 
 -- what was added since the mark is all that the queue has more
-pub queue_marked : {N : Type 0} (f : N → Tree) (p q : Printer N) (m : Mark) → Marks f m p → Grows p q → m.queue.len ≤ vec_len q.queue.nodes
-queue_marked {N} f p q m e g = omega (arith, e.queued, p.queue.nodes.ok.0, q.queue.nodes.ok.0, ap length g.1, length-append p.queue.nodes.items g.0)
+pub queue_marked : {N : Type 0} (f : N → Tree) (p q : Printer N) (m : Mark) (s : Seen) → Marks f m p s → Grows p q → m.queue.len ≤ vec_len q.queue.nodes
+queue_marked {N} f p q m s e g = omega (arith, e.queued, p.queue.nodes.ok.0, q.queue.nodes.ok.0, ap length g.1, length-append p.queue.nodes.items g.0)
 
-restored_queue : {N : Type 0} (f : N → Tree) (p q r : Printer N) (m : Mark) → Marks f m p → Grows p q → Restores f m q r → r.queue.nodes.items ≡ p.queue.nodes.items
-restored_queue {N} f p q r m e g h =
+pub restored_queue : {N : Type 0} (f : N → Tree) (p q r : Printer N) (m : Mark) (s : Seen) → Marks f m p s → Grows p q → Restores f m q r → r.queue.nodes.items ≡ p.queue.nodes.items
+restored_queue {N} f p q r m s e g h =
     h.1 ∙ ap (λ (x : ℕ). take x q.queue.nodes.items) (e.queued) ∙ ap (take (vec_len p.queue.nodes)) g.1 ∙ take_at p.queue.nodes.items g.0 (vec_len p.queue.nodes) (sym p.queue.nodes.ok.0)
 
 -- the state is as before
-restored : {N : Type 0} (f : N → Tree) (p q r : Printer N) (m : Mark) → Marks f m p → Grows p q → Restores f m q r → state_of f r ≡ state_of f p
-restored {N} f p q r m e g h =
+pub restored : {N : Type 0} (f : N → Tree) (p q r : Printer N) (m : Mark) (s : Seen) → Marks f m p s → Grows p q → Restores f m q r → state_of f r ≡ state_of f p
+restored {N} f p q r m s e g h =
     let n : r.queue.start ≡ p.queue.start = h.2 ∙ e.start in
-    let k = restored_queue f p q r m e g h in
+    let k = restored_queue f p q r m s e g h in
     let a : trees f (drop r.queue.start r.queue.nodes.items) ≡ trees f (drop p.queue.start p.queue.nodes.items) = ap (λ (x : ℕ). trees f (drop x r.queue.nodes.items)) n ∙ ap (λ (x : List N). trees f (drop p.queue.start x)) k in
     let c : r.column ≡ p.column = h.3 ∙ e.column in
     let o : r.within ≡ p.within = h.4 ∙ e.within in
     λ j. record { column = c j; pending = a j; within = o j }
 
 -- a trial that is taken back: what it wrote is cut off, and its outcome is not accepted
-pub trial_rejected : {N : Type 0} (f : N → Tree) (p q r : Printer N) (i : ℕ) (d : Tree) (m : Mark) (old out new bytes : List ℕ) → Marks f m p →
+pub trial_rejected : {N : Type 0} (f : N → Tree) (p q r : Printer N) (i : ℕ) (d : Tree) (m : Mark) (s : Seen) (old out new bytes : List ℕ) → Marks f m p s →
     (above : List Task) → tasks_of f q ≡ above ++ tasks_of f p → q.options ≡ p.options → Grows p q → Restores f m q r →
     out ≡ old ++ bytes → new ≡ take (length old) out →
     ((other : Outcome) → accept p.options p.within (trial_of f p i d) other ≡ other) → TrialDid f p r i d old new false
-trial_rejected {N} f p q r i d m old out new bytes e above k w g h b t rejected =
-    let s : state_of f r ≡ state_of f p = restored f p q r m e g h in (
+trial_rejected {N} f p q r i d m seen old out new bytes e above k w g h b t rejected =
+    let s : state_of f r ≡ state_of f p = restored f p q r m seen e g h in (
       h.0 above (tasks_of f p) k (sym e.commands),
       h.5 ∙ w,
-      ([], restored_queue f p q r m e g h ∙ sym (append-nil p.queue.nodes.items)),
+      ([], restored_queue f p q r m seen e g h ∙ sym (append-nil p.queue.nodes.items)),
       h.4 ∙ e.within,
       omega (arith, ap (λ (x : State). owed x.pending) s),
       (t ∙ ap (take (length old)) b ∙ take_at old bytes (length old) refl, s, rejected),
@@ -156,10 +150,9 @@ pub length-string_bytes : {Z : Type 0} (s : String Z) (n : ℕ) → n ≡ string
 length-string_bytes s n e = e ∙ s.bytes.ok.0
 
 -- a text may be cut where it ended before something was appended
-pub cut_back : {Z : Type 0} (s t : String Z) (n : ℕ) (bytes : List ℕ) → n ≡ string_len s → string_bytes t ≡ string_bytes s ++ bytes → IsSplitPoint (string_bytes t) n
-cut_back s t n bytes k e =
-    let z = length-string_bytes s n k in
-    let l : n ≤ length (string_bytes t) = omega (arith, ap length e, length-append (string_bytes s) bytes) in
-    let front : take n (string_bytes t) ≡ string_bytes s = ap (take n) e ∙ take_at (string_bytes s) bytes n (sym z) in
-    let b = IsCharBoundary-from_take (string_bytes t) n (IsUtf8-string_bytes t) l (subst IsUtf8 (sym front) (IsUtf8-string_bytes s)) in
+pub cut_back : {Z : Type 0} (old : List ℕ) (t : String Z) (n : ℕ) (bytes : List ℕ) → IsUtf8 old → n ≡ length old → string_bytes t ≡ old ++ bytes → IsSplitPoint (string_bytes t) n
+cut_back old t n bytes u k e =
+    let l : n ≤ length (string_bytes t) = omega (arith, ap length e, length-append old bytes) in
+    let front : take n (string_bytes t) ≡ old = ap (take n) e ∙ take_at old bytes n (sym k) in
+    let b = IsCharBoundary-from_take (string_bytes t) n (IsUtf8-string_bytes t) l (subst IsUtf8 (sym front) u) in
     (l, λ _ h. b.1 h)

@@ -6,8 +6,7 @@ ghost use Rattle.prettyless_printer.specs.Paths.{Chooses};
 ghost use Rattle.prettyless_printer.specs.Renders.{FlushesEnd, Renders, RunsToEnd, WorksOff};
 
 use crate::answer::Turn;
-use crate::buffer::Buffer;
-use crate::trial::print_branch;
+use crate::trial::{Trials, print_branch};
 use crate::turn::turn;
 use prettyless_model::column::Column;
 use prettyless_model::mode::Mode;
@@ -26,7 +25,7 @@ use std::alloc::Global;
 // Lays the branch of a union that its trial chooses. A kept one goes to the sink in one piece.
 fn choose<N: Walk, W: Render>(
     printer: &mut Printer<N>,
-    buffer: &mut Buffer,
+    trials: &mut Trials<N>,
     out: &mut W,
     indent: usize,
     first: N,
@@ -37,10 +36,10 @@ fn choose<N: Walk, W: Render>(
         (point printer.old (seen W.bytes W.failures W.lender out.old) visits.old)
         (point printer.new (seen W.bytes W.failures W.lender out.new) visits.new) result }
 {
-    buffer.text.clear();
-    match print_branch(printer, buffer, indent, first, visits) {
+    trials.buffer.text.clear();
+    match print_branch(printer, trials, indent, first, visits) {
         Err(e) => Err(RenderError::Memory(e)),
-        Ok(true) => match write_gap_and_text(out, 0, buffer.text.as_str()) {
+        Ok(true) => match write_gap_and_text(out, 0, trials.buffer.text.as_str()) {
             Ok(()) => Ok(()),
             Err(e) => Err(RenderError::Sink(e)),
         },
@@ -54,7 +53,7 @@ fn choose<N: Walk, W: Render>(
 // Takes commands until none is left.
 fn work_off<N: Walk, W: Render>(
     printer: &mut Printer<N>,
-    buffer: &mut Buffer,
+    trials: &mut Trials<N>,
     out: &mut W,
     visits: &mut Visits,
 ) -> Result<(), RenderError<W::Error>>
@@ -67,7 +66,7 @@ fn work_off<N: Walk, W: Render>(
             Turn::Failed => return Err(RenderError::Document(out.fail_doc())),
             Turn::Went => {}
             Turn::Chosen(indent, first, second) => {
-                choose(printer, buffer, out, indent, first, second, visits)?;
+                choose(printer, trials, out, indent, first, second, visits)?;
             }
         }
     }
@@ -95,7 +94,7 @@ fn flush_end<N: Walk, W: Render>(
 // Works off the commands and then, round by round, the line suffixes that are pending at the end.
 fn run_to_end<N: Walk, W: Render>(
     printer: &mut Printer<N>,
-    buffer: &mut Buffer,
+    trials: &mut Trials<N>,
     out: &mut W,
     visits: &mut Visits,
 ) -> Result<(), RenderError<W::Error>>
@@ -104,7 +103,7 @@ fn run_to_end<N: Walk, W: Render>(
         (point printer.new (seen W.bytes W.failures W.lender out.new) visits.new) result }
 {
     'rounds: loop {
-        work_off(printer, buffer, out, visits)?;
+        work_off(printer, trials, out, visits)?;
         if !is_pending(printer) {
             return Ok(());
         }
@@ -142,9 +141,9 @@ pub fn render<N: Walk, W: Render>(
         scratch: Stack::new(alloc),
         queue: Queue::new(alloc),
     };
-    let mut buffer = Buffer::new(alloc);
+    let mut trials = Trials::new(alloc);
     match printer.commands.push(0, Mode::Break, node) {
-        Ok(()) => run_to_end(&mut printer, &mut buffer, out, visits),
+        Ok(()) => run_to_end(&mut printer, &mut trials, out, visits),
         Err(e) => Err(RenderError::Memory(e)),
     }
 }

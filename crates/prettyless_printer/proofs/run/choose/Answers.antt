@@ -13,7 +13,7 @@ returns-in-Ok g c =
     let f = g.N.Walk.tree in
     let x = f c.args.first in
     let out = known (g.W.Render.bytes c.args.out.now) in
-    let tries = subst (λ b. Tries {E = _} f c.args.indent x (point c.args.printer.now (buffer_seen (record c.args.buffer.now { text = c.clear.new.self })) c.args.visits.now) (point c.print_branch.new.printer (buffer_seen c.print_branch.new.buffer) c.print_branch.new.visits) (Ok b)) c.in-Ok-true.field-0-test c.in-Ok-true.ensures in
+    let tries = subst (λ b. Tries {E = _} f c.args.indent x (point c.args.printer.now (buffer_seen (record c.args.trials.now.buffer { text = c.clear.new.self })) c.args.visits.now) (point c.print_branch.new.printer (buffer_seen c.print_branch.new.trials.buffer) c.print_branch.new.visits) (Ok b)) c.in-Ok-true.field-0-test c.in-Ok-true.ensures in
     record {
       lessens = omega (arith, tries.decided.4, ap nodes tries.decided.0);
       runs = λ run waiting.
@@ -29,7 +29,7 @@ returns-in-Err-write_gap_and_text g c =
     let x = f c.args.first in
     let out = known (g.W.Render.bytes c.args.out.now) in
     let new = known (g.W.Render.bytes c.write_gap_and_text.new.out) in
-    let tries = subst (λ b. Tries {E = _} f c.args.indent x (point c.args.printer.now (buffer_seen (record c.args.buffer.now { text = c.clear.new.self })) c.args.visits.now) (point c.print_branch.new.printer (buffer_seen c.print_branch.new.buffer) c.print_branch.new.visits) (Ok b)) c.in-Ok-true.field-0-test c.in-Ok-true.ensures in
+    let tries = subst (λ b. Tries {E = _} f c.args.indent x (point c.args.printer.now (buffer_seen (record c.args.trials.now.buffer { text = c.clear.new.self })) c.args.visits.now) (point c.print_branch.new.printer (buffer_seen c.print_branch.new.trials.buffer) c.print_branch.new.visits) (Ok b)) c.in-Ok-true.field-0-test c.in-Ok-true.ensures in
     record {
       lessens = tt;
       runs = λ run waiting.
@@ -45,7 +45,7 @@ returns-in-Ok-push g c =
     let f = g.N.Walk.tree in
     let q = c.print_branch.new.printer in
     let x = f c.args.first in
-    let tries = subst (λ b. Tries {E = _} f c.args.indent x (point c.args.printer.now (buffer_seen (record c.args.buffer.now { text = c.clear.new.self })) c.args.visits.now) (point q (buffer_seen c.print_branch.new.buffer) c.print_branch.new.visits) (Ok b)) c.in-Ok-false.field-0-test c.in-Ok-false.ensures in
+    let tries = subst (λ b. Tries {E = _} f c.args.indent x (point c.args.printer.now (buffer_seen (record c.args.trials.now.buffer { text = c.clear.new.self })) c.args.visits.now) (point q (buffer_seen c.print_branch.new.trials.buffer) c.print_branch.new.visits) (Ok b)) c.in-Ok-false.field-0-test c.in-Ok-false.ensures in
     record {
       lessens = omega (arith, tries.decided.4, ap nodes tries.decided.0, ap nodes c.in-Ok-push.ensures);
       runs = λ run waiting.
