@@ -1,18 +1,18 @@
 -- Open trials, each inside the next outer one: what each waits for, and what becomes of all of them.
-use Rattle.std.proofs.Common.{◌≡◌, ℕ, ◌+◌, ◌*◌, ◌≤◌, ◌<◌, List, [], ◌∷◌, ◌++◌, length, refl, ap, ◌∙◌, sym, arith, subst, append_assoc, Ok, Err, true, false, take, IsErr, Result, Bool, IsSome}
+use Rattle.std.proofs.Common.{◌≡◌, ℕ, List, [], ◌∷◌, ◌++◌, refl, ap, ◌∙◌, sym, subst, append_assoc, Ok, Err, true, false, take, IsErr, Result, Bool, IsSome}
 use Rattle.std.specs.Str.{IsUtf8}
 use Rattle.prettyless_sink.specs.Sink.{known}
 use Rattle.prettyless_model.specs.Layout.{State, tried}
 use Rattle.prettyless_model.specs.declared.mode.Mode.TheVariants.{Break}
 use Rattle.prettyless_model.specs.Tree.{Tree}
-use Rattle.prettyless_step.specs.Stack.{Task, make_task}
+use Rattle.prettyless_step.specs.Stack.{make_task}
 use Rattle.prettyless_step.specs.Printing.{state_of, tasks_of, Grows}
 use Rattle.prettyless_step.specs.declared.printer.Printer.{Printer}
 use Rattle.prettyless_printer.specs.declared.trial.Mark.{Mark}
 use Rattle.prettyless_printer.specs.declared.trial.Inner.{Inner}
 use Rattle.prettyless_printer.specs.declared.answer.Course.TheVariants as course
 use Rattle.prettyless_printer.specs.Points.{Point, Seen, point}
-use Rattle.prettyless_printer.specs.Trials.{Attempt, AtChoice, Courses, Fallen, Lasts, Marks, OnTrial, Restores, TrialBroke, Tries, attempt, trial_run}
+use Rattle.prettyless_printer.specs.Trials.{Attempt, AtChoice, Courses, Marks, OnTrial, Restores, TrialBroke, Tries, attempt, trial_run}
 use Rattle.prettyless_printer.proofs.PathSteps.{goes_on_kept, goes_on_other}
 use Rattle.prettyless_printer.proofs.TrialSteps.{began_plain, choice_broke, fallen_broke, trial_broke_off, trial_over, trial_run_begins, trial_undone}
 use Rattle.prettyless_printer.proofs.Visits.{rise_then, at_most_first, at_most_then}
@@ -110,15 +110,15 @@ pub already_tried : {N : Type 0} (f : N → Tree) (p : Printer N) → p.within �
 already_tried {N} f p e = λ j. record { column = p.column; pending = (state_of f p).pending; within = e j }
 
 -- the innermost one goes on
-pub open_goes : {N E : Type 0} (f : N → Tree) {s : Attempt N} {us : List (Inner N)} {m : Mark} {a b : Point N} → Open f s us m a → Courses {N = N} {E = E} f m.commands a b (Ok course.Goes) → Open f s us m b
-open_goes {N} {E} f {s} {us} {m} {a} {b} h c = record { outermost = h.outermost; first = h.first; trial = h.trial; chain = h.chain; on = (c h.trial h.on).0 }
+pub open_goes : {N : Type 0} (E : Type 0) (f : N → Tree) {s : Attempt N} {us : List (Inner N)} {m : Mark} {a b : Point N} → Open f s us m a → Courses {N = N} {E = E} f m.commands a b (Ok course.Goes) → Open f s us m b
+open_goes {N} E f {s} {us} {m} {a} {b} h c = record { outermost = h.outermost; first = h.first; trial = h.trial; chain = h.chain; on = (c h.trial h.on).0 }
 
 -- a trial of a first branch is opened
-pub open_more : {N E : Type 0} (f : N → Tree) {s : Attempt N} {us : List (Inner N)} {m : Mark} {a b : Point N} (n : Mark) (u : Inner N) (x : N) (q : Printer N) → Open f s us m a →
+pub open_more : {N : Type 0} (E : Type 0) (f : N → Tree) {s : Attempt N} {us : List (Inner N)} {m : Mark} {a b : Point N} (n : Mark) (u : Inner N) (x : N) (q : Printer N) → Open f s us m a →
     Courses {N = N} {E = E} f m.commands a b (Ok (course.Chosen u.indent x u.second)) → u.outer ≡ m → Marks f n b.printer b.sink → IsUtf8 (known b.sink.bytes) →
     tasks_of f q ≡ make_task u.indent Break (f x) ∷ tasks_of f b.printer → state_of f q ≡ state_of f b.printer → q.options ≡ b.printer.options → Grows b.printer q →
     Open f s (us ++ u ∷ []) n (point q b.sink b.visits)
-open_more {N} {E} f {s} {us} {m} {a} {b} n u x q h c outer marks text e st o g =
+open_more {N} E f {s} {us} {m} {a} {b} n u x q h c outer marks text e st o g =
     let choice = (c h.trial h.on).0 in
     let marked : Marked f n b = record { marks = marks; is_known = choice.is_known; text = text } in
     let t : Attempt N = attempt b u.indent (f x) in
@@ -131,9 +131,9 @@ open_more {N} {E} f {s} {us} {m} {a} {b} n u x q h c outer marks text e st o g =
     }
 
 -- the innermost one is kept
-pub open_kept : {N E : Type 0} (f : N → Tree) {s : Attempt N} {us vs : List (Inner N)} {m : Mark} {a b : Point N} (u : Inner N) → Open f s us m a →
+pub open_kept : {N : Type 0} (E : Type 0) (f : N → Tree) {s : Attempt N} {us vs : List (Inner N)} {m : Mark} {a b : Point N} (u : Inner N) → Open f s us m a →
     Courses {N = N} {E = E} f m.commands a b (Ok course.Over) → us ≡ vs ++ u ∷ [] → Open f s vs u.outer b
-open_kept {N} {E} f {s} {us} {vs} {m} {a} {b} u h c popped =
+open_kept {N} E f {s} {us} {vs} {m} {a} {b} u h c popped =
     let t = h.trial in
     let p = b.printer in
     let lasts = (c t h.on).0 in
@@ -159,12 +159,12 @@ open_kept {N} {E} f {s} {us} {vs} {m} {a} {b} u h c popped =
     }
 
 -- the innermost one is taken back, and its second branch comes next
-pub open_other : {N E : Type 0} (f : N → Tree) {s : Attempt N} {us vs : List (Inner N)} {m : Mark} {a b : Point N} (u : Inner N) (r q : Printer N) (w : Seen) → Open f s us m a →
+pub open_other : {N : Type 0} (E : Type 0) (f : N → Tree) {s : Attempt N} {us vs : List (Inner N)} {m : Mark} {a b : Point N} (u : Inner N) (r q : Printer N) (w : Seen) → Open f s us m a →
     Courses {N = N} {E = E} f m.commands a b (Ok course.Rejected) → us ≡ vs ++ u ∷ [] → Restores f m b.printer r →
     IsSome w.bytes → known w.bytes ≡ take m.written (known b.sink.bytes) → w.failures ≡ b.sink.failures → w.lender ≡ b.sink.lender →
     tasks_of f q ≡ make_task u.indent Break (f u.second) ∷ tasks_of f r → state_of f q ≡ state_of f r → q.options ≡ r.options → Grows r q →
     Open f s vs u.outer (point q w b.visits)
-open_other {N} {E} f {s} {us} {vs} {m} {a} {b} u r q w h c popped back some cut failures lender e st o g =
+open_other {N} E f {s} {us} {vs} {m} {a} {b} u r q w h c popped back some cut failures lender e st o g =
     let t = h.trial in
     let fell = c t h.on in
     let marked = innermost f h in
@@ -213,19 +213,19 @@ open_undone {N} {E} f {s} {us} {m} {a} {b} r w h c none back cut failures =
     subst (λ (z : Attempt N). Tries {N = N} {E = E} f z.indent z.branch z.start (point r w b.visits) (Ok false)) same.0 tries
 
 -- all of them broke off
-pub open_broke : {N D E : Type 0} (f : N → Tree) {s : Attempt N} {us : List (Inner N)} {m : Mark} {a b : Point N} (c : Point N) (e : D) (r : Result Bool E) → Open f s us m a →
+pub open_broke : {N E : Type 0} (D : Type 0) (f : N → Tree) {s : Attempt N} {us : List (Inner N)} {m : Mark} {a b : Point N} (c : Point N) (e : D) (r : Result Bool E) → Open f s us m a →
     Courses {N = N} {E = D} f m.commands a b (Err e) → IsErr r → c.visits ≡ b.visits → Tries f s.indent s.branch s.start c r
-open_broke {N} {D} {E} f {s} {us} {m} {a} {b} c e r h k err v =
+open_broke {N} {E} D f {s} {us} {m} {a} {b} c e r h k err v =
     trial_broke_off f {b = b} c r err v (chain_broke f s h.outermost us h.trial m b h.chain (k h.trial h.on))
 
 -- they broke off where the innermost one fell
-pub open_fallen_broke : {N D E : Type 0} (f : N → Tree) {s : Attempt N} {us : List (Inner N)} {m : Mark} {a b : Point N} (c : Point N) (r : Result Bool E) → Open f s us m a →
+pub open_fallen_broke : {N E : Type 0} (D : Type 0) (f : N → Tree) {s : Attempt N} {us : List (Inner N)} {m : Mark} {a b : Point N} (c : Point N) (r : Result Bool E) → Open f s us m a →
     Courses {N = N} {E = D} f m.commands a b (Ok course.Rejected) → IsErr r → c.visits ≡ b.visits → Tries f s.indent s.branch s.start c r
-open_fallen_broke {N} {D} {E} f {s} {us} {m} {a} {b} c r h k err v =
+open_fallen_broke {N} {E} D f {s} {us} {m} {a} {b} c r h k err v =
     trial_broke_off f {b = b} c r err v (chain_broke f s h.outermost us h.trial m b h.chain (fallen_broke f (k h.trial h.on)))
 
 -- they broke off where two branches were to be chosen from
-pub open_choice_broke : {N D E : Type 0} (f : N → Tree) {s : Attempt N} {us : List (Inner N)} {m : Mark} {a b : Point N} (i : ℕ) (x y : N) (c : Point N) (r : Result Bool E) → Open f s us m a →
+pub open_choice_broke : {N E : Type 0} (D : Type 0) (f : N → Tree) {s : Attempt N} {us : List (Inner N)} {m : Mark} {a b : Point N} (i : ℕ) (x y : N) (c : Point N) (r : Result Bool E) → Open f s us m a →
     Courses {N = N} {E = D} f m.commands a b (Ok (course.Chosen i x y)) → IsErr r → c.visits ≡ b.visits → Tries f s.indent s.branch s.start c r
-open_choice_broke {N} {D} {E} f {s} {us} {m} {a} {b} i x y c r h k err v =
+open_choice_broke {N} {E} D f {s} {us} {m} {a} {b} i x y c r h k err v =
     trial_broke_off f {b = b} c r err v (chain_broke f s h.outermost us h.trial m b h.chain (choice_broke f i (f x) (f y) (k h.trial h.on).0))

@@ -122,17 +122,17 @@ pow_two a b zero l h = absurd (omega arith)
 pow_two a b (suc c) l h = omega (arith, two-pow-succ c, pow_le a c (omega arith), pow_le b c (omega arith))
 
 -- the innermost trial goes on
-pub less_goes : {N E : Type 0} (f : N → Tree) {s : Attempt N} {us : List (Inner N)} {m : Mark} {a b : Point N} → Open f s us m a → Courses {N = N} {E = E} f m.commands a b (Ok course.Goes) → left_at f b us m < left_at f a us m
-less_goes {N} {E} f {s} {us} {m} {a} {b} h c =
+pub less_goes : {N : Type 0} (E : Type 0) (f : N → Tree) {s : Attempt N} {us : List (Inner N)} {m : Mark} {a b : Point N} → Open f s us m a → Courses {N = N} {E = E} f m.commands a b (Ok course.Goes) → left_at f b us m < left_at f a us m
+less_goes {N} E f {s} {us} {m} {a} {b} h c =
     let z = c h.trial h.on in
     omega (arith, pow-lt {i = work_at f b} {j = work_at f a} z.1, cost_same f s h.outermost us h.trial m a.printer b.printer h.chain (above_trial f h.on) (above_trial f z.0))
 
 -- a trial more is open
-pub less_more : {N E : Type 0} (f : N → Tree) {s : Attempt N} {us : List (Inner N)} {m : Mark} {a b : Point N} (n : Mark) (u : Inner N) (x : N) (q : Printer N) (w : Seen) (v : Visits) → Open f s us m a →
+pub less_more : {N : Type 0} (E : Type 0) (f : N → Tree) {s : Attempt N} {us : List (Inner N)} {m : Mark} {a b : Point N} (n : Mark) (u : Inner N) (x : N) (q : Printer N) (w : Seen) (v : Visits) → Open f s us m a →
     Courses {N = N} {E = E} f m.commands a b (Ok (course.Chosen u.indent x u.second)) → u.outer ≡ m → Marks f n b.printer b.sink → IsUtf8 (known b.sink.bytes) →
     tasks_of f q ≡ make_task u.indent Break (f x) ∷ tasks_of f b.printer → state_of f q ≡ state_of f b.printer → Grows b.printer q →
     left_at f (point q w v) (us ++ u ∷ []) n < left_at f a us m
-less_more {N} {E} f {s} {us} {m} {a} {b} n u x q w v h c outer marks text e st g =
+less_more {N} E f {s} {us} {m} {a} {b} n u x q w v h c outer marks text e st g =
     let t = h.trial in
     let z = c t h.on in
     let y : Tree = f u.second in
@@ -149,9 +149,9 @@ less_more {N} {E} f {s} {us} {m} {a} {b} n u x q w v h c outer marks text e st g
     omega (arith, two, same, split, at_m, pow-lt {i = work_at f a - 1} {j = work_at f a} (omega (arith, z.1)))
 
 -- the innermost trial is kept
-pub less_kept : {N E : Type 0} (f : N → Tree) {s : Attempt N} {us vs : List (Inner N)} {m : Mark} {a b : Point N} (u : Inner N) → Open f s us m a →
+pub less_kept : {N : Type 0} (E : Type 0) (f : N → Tree) {s : Attempt N} {us : List (Inner N)} (vs : List (Inner N)) {m : Mark} {a b : Point N} (u : Inner N) → Open f s us m a →
     Courses {N = N} {E = E} f m.commands a b (Ok course.Over) → us ≡ vs ++ u ∷ [] → left_at f b vs u.outer < left_at f a us m
-less_kept {N} {E} f {s} {us} {vs} {m} {a} {b} u h c popped =
+less_kept {N} E f {s} {us} vs {m} {a} {b} u h c popped =
     let t = h.trial in
     let z = c t h.on in
     let lasts = z.0 in
@@ -168,11 +168,11 @@ less_kept {N} {E} f {s} {us} {vs} {m} {a} {b} u h c popped =
     omega (arith, pow_le (work_at f b) (work_at f a) z.1, same, at_b, at_a, split, pow_one (second_work f a.printer m (f u.second)))
 
 -- the innermost trial is taken back
-pub less_other : {N E : Type 0} (f : N → Tree) {s : Attempt N} {us vs : List (Inner N)} {m : Mark} {a b : Point N} (u : Inner N) (r q : Printer N) (w : Seen) (v : Visits) → Open f s us m a →
+pub less_other : {N : Type 0} (E : Type 0) (f : N → Tree) {s : Attempt N} {us : List (Inner N)} (vs : List (Inner N)) {m : Mark} {a b : Point N} (u : Inner N) (r q : Printer N) (w : Seen) (v : Visits) → Open f s us m a →
     Courses {N = N} {E = E} f m.commands a b (Ok course.Rejected) → us ≡ vs ++ u ∷ [] → Restores f m b.printer r →
     tasks_of f q ≡ make_task u.indent Break (f u.second) ∷ tasks_of f r → state_of f q ≡ state_of f r → Grows r q →
     left_at f (point q w v) vs u.outer < left_at f a us m
-less_other {N} {E} f {s} {us} {vs} {m} {a} {b} u r q w v h c popped back e st g =
+less_other {N} E f {s} {us} vs {m} {a} {b} u r q w v h c popped back e st g =
     let t = h.trial in
     let fell = c t h.on in
     let start = innermost f h in

@@ -1,15 +1,15 @@
 -- A trial as a run of its own: begun, gone on with, ended or taken back.
-use Rattle.std.proofs.Common.{◌≡◌, ℕ, ◌+◌, ◌*◌, ◌≤◌, ◌<◌, List, [], ◌∷◌, ◌++◌, length, refl, ap, ◌∙◌, sym, arith, subst, Ok, true, false, take, length-append, IsErr, Result, Err, Bool, IsSome}
+use Rattle.std.proofs.Common.{◌≡◌, ℕ, ◌+◌, ◌*◌, ◌≤◌, ◌<◌, ◌∷◌, length, refl, ap, ◌∙◌, sym, arith, subst, Ok, true, false, take, length-append, IsErr, Result, Err, Bool}
 use Rattle.prettyless_sink.specs.Sink.{known}
 use Rattle.prettyless_sink.specs.declared.error.RenderError.{RenderError}
 use Rattle.prettyless_sink.specs.declared.visits.Visits.{Visits}
 use Rattle.prettyless_model.specs.declared.options.RenderOptions.{RenderOptions}
 use Rattle.prettyless_model.specs.Column.{padding_fits}
-use Rattle.prettyless_model.specs.Layout.{State, accept, tried, some_pending, Outcome}
+use Rattle.prettyless_model.specs.Layout.{State, tried, some_pending}
 use Rattle.prettyless_model.specs.declared.mode.Mode.TheVariants.{Break}
 use Rattle.prettyless_model.specs.Content.{suffix_depth}
 use Rattle.prettyless_model.specs.Tree.{Tree, size}
-use Rattle.prettyless_step.specs.Stack.{Task, make_task, nodes}
+use Rattle.prettyless_step.specs.Stack.{make_task, nodes}
 use Rattle.prettyless_step.specs.Steps.{owed}
 use Rattle.prettyless_step.specs.Printing.{state_of, tasks_of, Grows}
 use Rattle.prettyless_step.specs.declared.printer.Printer.{Printer}
@@ -17,7 +17,7 @@ use Rattle.prettyless_printer.specs.declared.trial.Mark.{Mark}
 use Rattle.prettyless_printer.specs.Points.{Point, Seen, point}
 use Rattle.prettyless_printer.specs.Trials.{Attempt, AtChoice, Fallen, Lasts, Marks, OnTrial, Restores, TrialBroke, TrialDid, Tries, attempt, limit_of, trial_of, trial_run, work_at}
 use Rattle.prettyless_printer.specs.Visits.{Plain, suffixes}
-use Rattle.prettyless_printer.specs.Paths.{BeganPlain, Path, Waiting}
+use Rattle.prettyless_printer.specs.Paths.{BeganPlain, Path}
 use Rattle.prettyless_printer.specs.Turns.{Advances, Goes}
 use Rattle.prettyless_printer.specs.declared.answer.Turn.TheVariants as turn
 use Rattle.prettyless_printer.proofs.PathSteps.{at_failing, at_run, comes_to_wait, goes_on}
