@@ -103,9 +103,6 @@ impl Workload {
     {
         match self {
             Workload::BareGroups if size > 10_000 => Some("its probes are quadratic"),
-            Workload::KeptTrials | Workload::RejectedTrials if size > 10_000 => {
-                Some("its trials are nested calls")
-            }
             _ => None,
         }
     }
