@@ -34,7 +34,7 @@ tally_with o n t ts st w =
     tally o t.tree t.indent t.mode (follow ts) st w + counted_then (lay o (settle o) t.tree t.indent t.mode (follow ts) st) (λ u. tally_above o n ts u w)
 
 -- more than n tasks: the first one counts
-above_is : (o : RenderOptions) (n : ℕ) (t : Task) (ts : List Task) (st : State) (w : Weight) → n ≤ length ts → tally_above o n (t ∷ ts) st w ≡ tally_with o n t ts st w
+pub above_is : (o : RenderOptions) (n : ℕ) (t : Task) (ts : List Task) (st : State) (w : Weight) → n ≤ length ts → tally_above o n (t ∷ ts) st w ≡ tally_with o n t ts st w
 unfolding tally_above
 above_is o n t ts st w l = ap (λ (v : Bool). if v then tally_with o n t ts st w else 0) (le-leb n (length ts) l)
 
@@ -50,7 +50,7 @@ counted_after : (b : List ℕ) (out : Outcome) (k : State → ℕ) → counted_t
 counted_after b (Done c st) k = refl
 counted_after b (Failed c) k = refl
 
-counted_then-then : (out : Outcome) (next : State → Outcome) (k : State → ℕ) → counted_then (and_then out next) k ≡ counted_then out (λ u. counted_then (next u) k)
+pub counted_then-then : (out : Outcome) (next : State → Outcome) (k : State → ℕ) → counted_then (and_then out next) k ≡ counted_then out (λ u. counted_then (next u) k)
 counted_then-then (Done b st) next k = counted_after b (next st) k
 counted_then-then (Failed b) next k = refl
 
@@ -136,7 +136,7 @@ union_counts o n (MultilineText s) r i ts st w self h =
 union_counts o n _ r i ts st w self h = omega arith
 
 -- After a step no less is left to count, but for what its node counts.
-step_counts : (o : RenderOptions) (n : ℕ) (d : Tree) (i : ℕ) (m : Mode) (ts : List Task) (st : State) (w : Weight) → n ≤ length ts →
+pub step_counts : (o : RenderOptions) (n : ℕ) (d : Tree) (i : ℕ) (m : Mode) (ts : List Task) (st : State) (w : Weight) → n ≤ length ts →
     StepCounts o n ts st w (tally_with o n (make_task i m d) ts st w) (w d m) (step_of o d i m (follow ts) st)
 unfolding lay tally
 step_counts o n Nil i m ts st w h = omega arith

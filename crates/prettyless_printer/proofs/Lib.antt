@@ -13,4 +13,5 @@ pub mod Contents
 pub mod Visits
 pub mod AtLeast
 pub mod Hands
+pub mod FlatTexts
 pub mod Advancing

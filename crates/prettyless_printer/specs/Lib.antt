@@ -5,4 +5,5 @@ pub mod AtLeast
 pub mod Trials
 pub mod Turns
 pub mod Renders
+pub mod FlatTexts
 pub mod Paths
