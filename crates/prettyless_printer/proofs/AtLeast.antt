@@ -50,7 +50,7 @@ counted_after : (b : List ℕ) (out : Outcome) (k : State → ℕ) → counted_t
 counted_after b (Done c st) k = refl
 counted_after b (Failed c) k = refl
 
-pub counted_then-then : (out : Outcome) (next : State → Outcome) (k : State → ℕ) → counted_then (and_then out next) k ≡ counted_then out (λ u. counted_then (next u) k)
+counted_then-then : (out : Outcome) (next : State → Outcome) (k : State → ℕ) → counted_then (and_then out next) k ≡ counted_then out (λ u. counted_then (next u) k)
 counted_then-then (Done b st) next k = counted_after b (next st) k
 counted_then-then (Failed b) next k = refl
 
@@ -204,7 +204,7 @@ laid_at_least : (t : Task) (a b : Weight → ℕ) (v w : Visits) → OneLaid t v
 laid_at_least t a b v w one h = record { printer = omega (arith, h each_node, one.printer); probes = omega (arith, h each_probe, one.probes) }
 
 -- the stack counts what its tasks do
-stack_counts : {N : Type 0} (f : N → Tree) (p : Printer N) (n : ℕ) (o : RenderOptions) (ts : List Task) (st : State) (w : Weight) → p.options ≡ o → tasks_of f p ≡ ts → state_of f p ≡ st → stack_tally f p n w ≡ tally_above o n ts st w
+pub stack_counts : {N : Type 0} (f : N → Tree) (p : Printer N) (n : ℕ) (o : RenderOptions) (ts : List Task) (st : State) (w : Weight) → p.options ≡ o → tasks_of f p ≡ ts → state_of f p ≡ st → stack_tally f p n w ≡ tally_above o n ts st w
 stack_counts {N} f p n o ts st w e h k =
     ap (λ (x : RenderOptions). tally_above x n (tasks_of f p) (state_of f p) w) e
     ∙ ap (λ (x : List Task). tally_above o n x (state_of f p) w) h ∙ ap (λ (x : State). tally_above o n ts x w) k

@@ -1,25 +1,37 @@
 -- Laying a document flat is laying its texts.
-use Rattle.std.proofs.Common.{◌≡◌, ℕ, ◌+◌, ◌≤◌, List, [], ◌∷◌, ◌++◌, length, refl, ap, sym, ◌∙◌, arith, append_assoc, length-append, subst}
+use Rattle.std.proofs.Common.{◌≡◌, ℕ, ◌+◌, ◌*◌, ◌<◌, ◌≤◌, Ok, Err, List, [], ◌∷◌, ◌++◌, length, refl, ap, sym, ◌∙◌, arith, append_assoc, length-append, subst}
 use Rattle.prettyless_model.specs.declared.options.RenderOptions.{RenderOptions}
-use Rattle.prettyless_model.specs.Tree.{Tree, Nil, Fail, Text, TextWithLen, MultilineText, WeakSpace, HardLine, WeakLine, Append, LineSuffix, Nest, DedentToRoot, Align, ExpandParent, Flatten, BreakOrFlat, Group, Union, PartialUnion, OnColumn, OnNesting, size}
+use Rattle.prettyless_model.specs.Tree.{Tree, Nil, Fail, Text, TextWithLen, MultilineText, WeakSpace, HardLine, WeakLine, Append, LineSuffix, Nest, DedentToRoot, Align, ExpandParent, Flatten, BreakOrFlat, Group, Union, PartialUnion, OnColumn, OnNesting, size, probed}
+use Rattle.prettyless_model.specs.Content.{suffix_depth}
+use Rattle.prettyless_sink.specs.Sink.{known, rise}
+use Rattle.prettyless_sink.specs.declared.visits.Visits.{Visits}
+use Rattle.prettyless_sink.specs.declared.error.RenderError.TheVariants.{Memory}
 use Rattle.prettyless_model.specs.Column.{prospective, nested}
-use Rattle.prettyless_model.specs.Layout.{State, Outcome, Done, Failed, Entry, Breaks, after_bytes, and_then, lay, lay_text, entry}
+use Rattle.prettyless_model.specs.Layout.{State, Outcome, Entry, Breaks, after_bytes, and_then, lay, lay_text, entry}
 use Rattle.prettyless_model.specs.Levels.{settle}
 use Rattle.prettyless_model.specs.Counts.{Weight, each_node, each_probe, counted_then, tally}
 use Rattle.prettyless_model.proofs.Outcomes.{after-nil, then-then}
 use Rattle.prettyless_model.specs.declared.mode.Mode.TheVariants.{Flat}
 use Rattle.prettyless_step.specs.Stack.{Task, make_task, tasks, follow, nodes}
-use Rattle.prettyless_step.specs.Steps.{lay_all}
-use Rattle.prettyless_printer.specs.AtLeast.{tally_above}
-use Rattle.prettyless_printer.specs.FlatTexts.{IsFlat, silent}
-use Rattle.prettyless_printer.proofs.AtLeast.{above_is, step_counts}
+use Rattle.prettyless_step.specs.Steps.{lay_all, owed, work}
+use Rattle.prettyless_step.specs.Probing.{RisesBy}
+use Rattle.prettyless_step.specs.Printing.{state_of, tasks_of, Grows}
+use Rattle.prettyless_step.specs.declared.printer.Printer.{Printer}
+use Rattle.prettyless_step.proofs.Stacks.{nodes-append, split_top}
+use Rattle.prettyless_printer.specs.AtLeast.{stack_tally, tally_above}
+use Rattle.prettyless_printer.specs.Points.{Point, point}
+use Rattle.prettyless_printer.specs.Progress.{Inside}
+use Rattle.prettyless_printer.specs.Turns.{Advances}
+use Rattle.prettyless_printer.specs.Visits.{CountsAtMost, Rise, charges, suffixes}
+use Rattle.prettyless_printer.specs.declared.answer.Turn.TheVariants as turn
+use Rattle.prettyless_printer.proofs.Hands.{InHand, from_start, tasks_with}
+use Rattle.prettyless_printer.proofs.Trying.{grows-grows}
+use Rattle.prettyless_printer.proofs.Turnings.{inside_at}
+use Rattle.prettyless_printer.proofs.Visits.{at_most_all, at_most_then, charges-append, rise_then, suffixes-append}
+use Rattle.prettyless_step.specs.FlatTexts.{IsFlat, IsText, silent}
+use Rattle.prettyless_printer.proofs.AtLeast.{above_is, at_least_then, stack_counts, step_counts}
 
--- a text
-abbrev IsText : Tree → Type 0
-IsText (Text s) = Unit {0}
-IsText (TextWithLen w s) = Unit {0}
-IsText _ = ⊥
-
+-- texts
 abbrev pub AreTexts : List Tree → Type 0
 AreTexts [] = Unit {0}
 AreTexts (x ∷ xs) = IsText x × AreTexts xs
@@ -205,8 +217,15 @@ flat_tallies o n (Append a b) i j xs ts w l h st =
     let first = flat_tallies o n a i j h.0 (make_task i Flat b ∷ ts) w (omega (arith, l)) h.3 st in
     let long : n ≤ length (tasks j Flat h.1 ++ ts) = omega (arith, l, length-append (tasks j Flat h.1) ts) in
     let second = behind_tallies o n j h.0 (make_task i Flat b ∷ ts) (tasks j Flat h.1 ++ ts) w (silent w b) (are_texts a h.0 h.3) (omega (arith, l)) long (λ u. flat_tallies o n b i j h.1 ts w l h.4 u) st in
-    omega (arith, above_is o n (make_task i Flat (Append a b)) ts st w l, step_counts o n (Append a b) i Flat ts st w l, first, second,
-    ap (λ (z : List Task). tally_above o n z st w) (tasks-append j h.0 h.1 ts), ap (λ (z : List Tree). tally_above o n (tasks j Flat z ++ ts) st w) h.2)
+    omega (
+      arith,
+      above_is o n (make_task i Flat (Append a b)) ts st w l,
+      step_counts o n (Append a b) i Flat ts st w l,
+      first,
+      second,
+      ap (λ (z : List Task). tally_above o n z st w) (tasks-append j h.0 h.1 ts),
+      ap (λ (z : List Tree). tally_above o n (tasks j Flat z ++ ts) st w) h.2,
+    )
 flat_tallies o n (Nest k d) i j xs ts w l h st = omega (arith, above_is o n (make_task i Flat (Nest k d)) ts st w l, step_counts o n (Nest k d) i Flat ts st w l, flat_tallies o n d (nested i k) j xs ts w l h st)
 flat_tallies o n (DedentToRoot d) i j xs ts w l h st = omega (arith, above_is o n (make_task i Flat (DedentToRoot d)) ts st w l, step_counts o n (DedentToRoot d) i Flat ts st w l, flat_tallies o n d 0 j xs ts w l h st)
 flat_tallies o n (Align d) i j xs ts w l h st = omega (arith, above_is o n (make_task i Flat (Align d)) ts st w l, step_counts o n (Align d) i Flat ts st w l, flat_tallies o n d (prospective st.column) j xs ts w l h st)
@@ -262,30 +281,142 @@ silent_probes (PartialUnion a b) = omega (arith, silent_probes a)
 silent_probes (Append a b) = omega (arith, silent_probes a, silent_probes b)
 silent_probes _ = refl
 
-text_size : (x : Tree) → IsText x → size x ≡ 1
-text_size (Text s) h = refl
-text_size (TextWithLen k s) h = refl
-text_size Nil h = absurd h
-text_size Fail h = absurd h
-text_size (MultilineText s) h = absurd h
-text_size WeakSpace h = absurd h
-text_size HardLine h = absurd h
-text_size WeakLine h = absurd h
-text_size (Append l r) h = absurd h
-text_size (LineSuffix d) h = absurd h
-text_size (Nest k d) h = absurd h
-text_size (DedentToRoot d) h = absurd h
-text_size (Align d) h = absurd h
-text_size ExpandParent h = absurd h
-text_size (Flatten d) h = absurd h
-text_size (BreakOrFlat b f) h = absurd h
-text_size (Group d) h = absurd h
-text_size (Union l r) h = absurd h
-text_size (PartialUnion l r) h = absurd h
-text_size (OnColumn test y n) h = absurd h
-text_size (OnNesting test y n) h = absurd h
+-- a text is one node, has no suffix and asks no probe
+abbrev OneNode : Tree → Type 0
+OneNode x = (size x ≡ 1) × (suffix_depth x ≡ 0) × (probed x ≡ 0)
+
+text_alone : (x : Tree) → IsText x → OneNode x
+text_alone (Text s) h = (refl, refl, refl)
+text_alone (TextWithLen k s) h = (refl, refl, refl)
+text_alone Nil h = absurd h
+text_alone Fail h = absurd h
+text_alone (MultilineText s) h = absurd h
+text_alone WeakSpace h = absurd h
+text_alone HardLine h = absurd h
+text_alone WeakLine h = absurd h
+text_alone (Append l r) h = absurd h
+text_alone (LineSuffix d) h = absurd h
+text_alone (Nest k d) h = absurd h
+text_alone (DedentToRoot d) h = absurd h
+text_alone (Align d) h = absurd h
+text_alone ExpandParent h = absurd h
+text_alone (Flatten d) h = absurd h
+text_alone (BreakOrFlat b f) h = absurd h
+text_alone (Group d) h = absurd h
+text_alone (Union l r) h = absurd h
+text_alone (PartialUnion l r) h = absurd h
+text_alone (OnColumn test y n) h = absurd h
+text_alone (OnNesting test y n) h = absurd h
 
 -- each text is a node
 pub text_nodes : (j : ℕ) (xs : List Tree) → AreTexts xs → nodes (tasks j Flat xs) ≡ length xs
 text_nodes j [] h = refl
-text_nodes j (x ∷ xs) h = omega (arith, text_size x h.0, text_nodes j xs h.1)
+text_nodes j (x ∷ xs) h = omega (arith, (text_alone x h.0).0, text_nodes j xs h.1)
+
+text_suffixes : (j : ℕ) (xs : List Tree) → AreTexts xs → suffixes (tasks j Flat xs) ≡ 0
+text_suffixes j [] h = refl
+text_suffixes j (x ∷ xs) h = omega (arith, (text_alone x h.0).1, text_suffixes j xs h.1)
+
+text_charges : (n j : ℕ) (xs : List Tree) → AreTexts xs → charges n (tasks j Flat xs) ≡ 0
+text_charges n j [] h = refl
+text_charges n j (x ∷ xs) h = omega (arith, ap (λ (k : ℕ). n * k) (text_alone x h.0).2, text_charges n j xs h.1)
+
+-- the work goes on inside a whole where texts come in place of the document that lays them
+inside_texts : (o : RenderOptions) (whole : Outcome) (limit : ℕ) (below : List Task) (old : List ℕ) (i : ℕ) (d : Tree) (xs : List Tree) (ts : List Task) (st : State) (out : List ℕ) → length below ≤ length ts → IsFlat d xs →
+    Inside o whole limit below old (make_task i Flat d ∷ ts) st out → Inside o whole limit below old (tasks i Flat xs ++ ts) st out
+inside_texts o whole limit below old i d xs ts st out l flat p =
+    let w = split_top p.above below (make_task i Flat d) ts p.stack_is l in
+    record {
+      above = tasks i Flat xs ++ w.0;
+      bytes = p.bytes;
+      stack_is = ap (λ (z : List Task). tasks i Flat xs ++ z) w.2 ∙ sym (append_assoc (tasks i Flat xs) w.0 below);
+      out_is = p.out_is;
+      same = ap (after_bytes p.bytes) (sym (flat_lays o (settle o) d i i xs w.0 (follow below) flat st))
+          ∙ ap (λ (x : List Task). after_bytes p.bytes (lay_all o (settle o) x (follow below) st)) (sym w.1) ∙ p.same;
+      bound = omega (arith, subst (λ (x : List Task). work x st ≤ limit) w.1 p.bound, nodes-append (tasks i Flat xs) w.0, text_nodes i xs (are_texts d xs flat), silent_nodes d xs flat);
+    }
+
+-- the nodes that leave pay for those that are counted
+texts_at_most : (i : ℕ) (d : Tree) (xs : List Tree) (ts : List Task) (v w : Visits) → IsFlat d xs → w.printer ≤ v.printer + silent each_node d → w.probes ≡ v.probes → CountsAtMost (make_task i Flat d ∷ ts) (tasks i Flat xs ++ ts) v w
+texts_at_most i d xs ts v w flat more same =
+    let split = nodes-append (tasks i Flat xs) ts in
+    let few = text_nodes i xs (are_texts d xs flat) in
+    let all = silent_nodes d xs flat in
+    record {
+      left = omega (arith, split, few, all);
+      printer = omega (arith, split, few, all, more);
+      probes = λ n l. omega (arith, same, charges-append n (tasks i Flat xs) ts, text_charges n i xs (are_texts d xs flat));
+    }
+
+-- Texts come in place of the document in hand that lays them flat.
+pub advances_texts : {N E : Type 0} (f : N → Tree) {a b : Point N} (i : ℕ) (d : Tree) (xs : List Tree) (q : Printer N) (x : Visits) → InHand f a (make_task i Flat d) b →
+    work (tasks_with f (make_task i Flat d) b.printer) (state_of f b.printer) < work (tasks_of f a.printer) (state_of f a.printer) → IsFlat d xs →
+    tasks_of f q ≡ tasks i Flat xs ++ tasks_of f b.printer → state_of f q ≡ state_of f b.printer → q.options ≡ b.printer.options → Grows b.printer q →
+    rise a.visits.printer ≤ b.visits.printer → b.visits.printer ≤ x.printer → x.printer ≤ b.visits.printer + silent each_node d → RisesBy (silent each_node d) b.visits.printer x.printer → x.probes ≡ b.visits.probes →
+    Advances {N = N} {E = E} f a (point q b.sink x) (Ok turn.Went)
+advances_texts {N} {E} f {a} {b} i d xs q x h less flat e s o g least no_less more much same =
+    let op = a.printer.options in
+    let t = make_task i Flat d in
+    let ts : List Task = tasks_of f b.printer in
+    let us : List Task = tasks i Flat xs ++ ts in
+    let st = state_of f b.printer in
+    let out = known b.sink.bytes in
+    let texts = are_texts d xs flat in
+    let split = nodes-append (tasks i Flat xs) ts in
+    let few = text_nodes i xs texts in
+    let all = silent_nodes d xs flat in
+    let stay : Rise b.visits x = record { printer = no_less; probes = omega (arith, same) } in
+    from_start f (Ok turn.Went) h
+    (record {
+      options = o ∙ h.options;
+      grows = grows-grows a.printer b.printer q h.grows g;
+      lessens = omega (arith, less, ap nodes e, split, few, all, ap (λ (z : State). owed z.pending) s);
+      same_lender = refl;
+      bytes = λ is_known. (
+        is_known,
+        (
+          λ whole limit below old l m.
+              inside_at op whole limit below old us (tasks_of f q) st (state_of f q) out out e s refl
+              (inside_texts op whole limit below old i d xs ts st out (omega (arith, l, h.long)) flat (h.inside out whole limit below old l m)),
+          refl,
+        ),
+      );
+      least = omega (arith, least, no_less);
+      most = omega (arith, h.most, more, all);
+      rise = rise_then h.rise stay;
+      at_most = λ plain.
+          let y = h.at_most plain in (
+            record {
+              none = omega (arith, ap suffixes e, suffixes-append (tasks i Flat xs) ts, text_suffixes i xs texts, y.0.0);
+              pending = ap (λ (z : State). z.pending) s ∙ y.0.1;
+            },
+            at_most_then y.1 (subst (λ (z : List Task). CountsAtMost (t ∷ ts) z b.visits x) (sym e) (texts_at_most i d xs ts b.visits x flat more same)),
+          );
+      at_least = λ n l.
+          let long : n ≤ length ts = omega (arith, l, h.long) in
+          let left : (w : Weight) → stack_tally f q n w ≡ tally_above op n us st w = λ w. stack_counts f q n op us st w (o ∙ h.options) e s in
+          at_least_then (h.at_least n l)
+          (record {
+            printer = omega (arith, left each_node, flat_tallies op n d i i xs ts each_node long flat st, much);
+            probes = omega (arith, left each_probe, flat_tallies op n d i i xs ts each_probe long flat st, silent_probes d, same);
+          });
+    })
+
+-- memory was refused where a document is in hand
+pub hand_refused : {N E : Type 0} (f : N → Tree) {a : Point N} {t : Task} {b : Point N} (q : Printer N) (x : Visits) (e : _) → InHand f a t b → rise a.visits.printer ≤ b.visits.printer → x ≡ b.visits →
+    Advances {N = N} {E = E} f a (point q b.sink x) (Err (Memory e))
+hand_refused {N} {E} f {a} {t} {b} q x e h least same =
+    subst (λ (v : Visits). Advances {N = N} {E = E} f a (point q b.sink v) (Err (Memory e))) (sym same)
+    (from_start f (Err (Memory e)) h
+    (record {
+      options = tt;
+      grows = tt;
+      lessens = tt;
+      same_lender = refl;
+      bytes = λ is_known. (is_known, (refl, refl));
+      least = least;
+      most = omega (arith, h.most);
+      rise = h.rise;
+      at_most = λ plain. at_most_all (h.at_most plain).1;
+      at_least = tt;
+    }))

@@ -5,5 +5,4 @@ pub mod AtLeast
 pub mod Trials
 pub mod Turns
 pub mod Renders
-pub mod FlatTexts
 pub mod Paths
