@@ -6,11 +6,11 @@ ghost use Rattle.prettyless.specs.Trees.{ref_tree};
 ghost use Rattle.bench_workloads.specs.Documents.{IsDocument};
 ghost use Rattle.bench_workloads.specs.declared.workload.Workload.TheVariants.{Json, Tree};
 
-use crate::groups::{bare_groups, text_groups};
+use crate::groups::{bare_groups, tail_groups, text_groups};
 use crate::json::array;
-use crate::lists::{list, tree};
+use crate::lists::{list, right_list, tree};
 use crate::trials::{kept_trials, rejected_trials};
-use crate::words::{fill, lines};
+use crate::words::{fill, lines, weak_spaces};
 use crate::workload::Workload;
 use prettyless::text::BuildError;
 use prettyless::{Arena, DocBuilder, DocPlace};
@@ -36,6 +36,9 @@ fn document_over<'a, D: DocPlace<'a>>(
         Workload::Lines => Ok(Some(lines(place, size)?)),
         Workload::KeptTrials => Ok(Some(kept_trials(place, size)?)),
         Workload::RejectedTrials => Ok(Some(rejected_trials(place, size)?)),
+        Workload::TailGroups => Ok(Some(tail_groups(place, size)?)),
+        Workload::RightList => Ok(Some(right_list(place, size)?)),
+        Workload::WeakSpaces => Ok(Some(weak_spaces(place, size)?)),
     }
 }
 

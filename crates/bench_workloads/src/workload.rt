@@ -26,10 +26,16 @@ pub enum Workload {
     KeptTrials,
     /// Alternatives in alternatives, of which each first one is rejected.
     RejectedTrials,
+    /// Groups in groups, each with a text behind it.
+    TailGroups,
+    /// A list that leans to the right.
+    RightList,
+    /// Lines with a weak space and a remark at the end of each.
+    WeakSpaces,
 }
 
 /// All of them, as they are printed.
-pub const WORKLOADS: [Workload; 10] = [
+pub const WORKLOADS: [Workload; 13] = [
     Workload::Tree,
     Workload::List,
     Workload::FlatList,
@@ -40,6 +46,9 @@ pub const WORKLOADS: [Workload; 10] = [
     Workload::Lines,
     Workload::KeptTrials,
     Workload::RejectedTrials,
+    Workload::TailGroups,
+    Workload::RightList,
+    Workload::WeakSpaces,
 ];
 
 impl Workload {
@@ -58,6 +67,9 @@ impl Workload {
             Workload::Lines => "lines",
             Workload::KeptTrials => "kept",
             Workload::RejectedTrials => "lost",
+            Workload::TailGroups => "tails",
+            Workload::RightList => "right",
+            Workload::WeakSpaces => "weak",
         }
     }
 
@@ -78,7 +90,10 @@ impl Workload {
     {
         match self {
             Workload::Json | Workload::Lines => 50,
-            Workload::BareGroups | Workload::KeptTrials | Workload::RejectedTrials => 100,
+            Workload::BareGroups
+            | Workload::KeptTrials
+            | Workload::RejectedTrials
+            | Workload::TailGroups => 100,
             _ => 1000,
         }
     }
@@ -92,7 +107,8 @@ impl Workload {
             Workload::TextGroups
             | Workload::BareGroups
             | Workload::KeptTrials
-            | Workload::RejectedTrials => &[1_000, 10_000, 100_000],
+            | Workload::RejectedTrials
+            | Workload::TailGroups => &[1_000, 10_000, 100_000],
             _ => &[1_000_000],
         }
     }
@@ -102,7 +118,9 @@ impl Workload {
         ensures { option_copied result ≡ names.obstacle_of self size }
     {
         match self {
-            Workload::BareGroups if size > 10_000 => Some("its probes are quadratic"),
+            Workload::BareGroups | Workload::TailGroups if size > 10_000 => {
+                Some("its probes are quadratic")
+            }
             _ => None,
         }
     }
@@ -123,6 +141,9 @@ pub(crate) fn workload_named(word: &str) -> Option<Workload>
         b"lines" => Some(Workload::Lines),
         b"kept" => Some(Workload::KeptTrials),
         b"lost" => Some(Workload::RejectedTrials),
+        b"tails" => Some(Workload::TailGroups),
+        b"right" => Some(Workload::RightList),
+        b"weak" => Some(Workload::WeakSpaces),
         _ => None,
     }
 }
