@@ -168,6 +168,47 @@ abbrev pub weak_spaces : ℕ → Tree
 weak_spaces zero = Nil
 weak_spaces (suc n) = append (weak_spaces n) remarked
 
+-- three numbers in brackets
+abbrev pub numbers : Tree
+numbers = bracketed (Text (codes "[")) (with_comma (with_comma (Text (codes "7")) (Text (codes "-12.5"))) (Text (codes "31415926"))) (Text (codes "]"))
+
+-- a key, and the value behind it
+abbrev pub field : List ℕ → Tree → Tree
+field key value = append (Text key) value
+
+-- the fields of an object that hold no other: a string, a number and three of these
+abbrev pub plain_fields : Tree
+plain_fields = with_comma (with_comma
+    (field (codes "\"tag\": ") (Text (codes "\"red and green\"")))
+    (field (codes "\"quantity\": ") (Text (codes "40320"))))
+    (field (codes "\"coordinates\": ") numbers)
+
+-- these, and two fields more
+abbrev pub fields : Tree → Tree → Tree
+fields first second = with_comma (with_comma plain_fields (field (codes "\"nested\": ") first)) (field (codes "\"alternateDescription\": ") second)
+
+-- an object that holds two values
+abbrev pub object : Tree → Tree → Tree
+object first second = bracketed (Text (codes "{")) (fields first second) (Text (codes "}"))
+
+-- a string, or an object that holds two values of one level less
+abbrev pub value : ℕ → Tree
+value zero = Text (codes "\"a value of some words\"")
+value (suc k) = object (value k) (value k)
+
+-- values in square brackets
+abbrev pub listed : Tree → Tree
+listed values = bracketed (Text (codes "[")) values (Text (codes "]"))
+
+-- so many objects of 8 levels in front of a last one, with commas between them
+abbrev pub objects : ℕ → Tree
+objects zero = value 8
+objects (suc n) = with_comma (objects n) (value 8)
+
+-- these in brackets
+abbrev pub real : ℕ → Tree
+real n = listed (objects n)
+
 -- the document of a workload at a size
 abbrev pub IsDocument : Workload → ℕ → Tree → Type 0
 IsDocument w.Tree n x = IsTree n x
@@ -183,3 +224,4 @@ IsDocument w.RejectedTrials n x = x ≡ rejected_trials n
 IsDocument w.TailGroups n x = x ≡ tail_groups n
 IsDocument w.RightList n x = x ≡ right_list n
 IsDocument w.WeakSpaces n x = x ≡ weak_spaces n
+IsDocument w.RealJson n x = x ≡ real n

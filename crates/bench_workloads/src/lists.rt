@@ -44,9 +44,7 @@ pub(crate) fn list<'a, D: DocPlace<'a>>(
 }
 
 // An atom and a line in front of a document.
-fn in_front<'a, D: DocPlace<'a>>(
-    inner: DocBuilder<'a, D>,
-) -> Result<DocBuilder<'a, D>, BuildError>
+fn in_front<'a, D: DocPlace<'a>>(inner: DocBuilder<'a, D>) -> Result<DocBuilder<'a, D>, BuildError>
     ensures ok { IfOk result (λ b. built D.Doc.tree b.1 ≡ to.in_front (built D.Doc.tree inner.entry.1)) }
     ensures err { IfErr result IsMemory }
 {
@@ -55,10 +53,7 @@ fn in_front<'a, D: DocPlace<'a>>(
 }
 
 // So many atoms in front of a last one.
-fn leaning<'a, D: DocPlace<'a>>(
-    place: &'a D,
-    atoms: usize,
-) -> Result<DocBuilder<'a, D>, BuildError>
+fn leaning<'a, D: DocPlace<'a>>(place: &'a D, atoms: usize) -> Result<DocBuilder<'a, D>, BuildError>
     ensures ok { IfOk result (λ b. built D.Doc.tree b.1 ≡ to.leaning atoms) }
     ensures err { IfErr result IsMemory }
 {

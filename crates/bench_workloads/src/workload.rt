@@ -3,7 +3,7 @@ ghost use Rattle.std.specs.Prelude.{◌≡◌, Some};
 ghost use Rattle.std.specs.Option.{option_copied};
 ghost use Rattle.bench_workloads.specs.Names as names;
 
-/// A kind of document. Its size is a number of atoms, records, groups, words, lines or trials.
+/// A kind of document. Its size is a number of atoms, records, groups, words, lines, trials or objects.
 #[derive(Clone, Copy, Debug, PartialEq, Eq)]
 pub enum Workload {
     /// Lists of ten, in lists of ten, and so on. The atoms are the greatest power of ten up to the size.
@@ -32,10 +32,12 @@ pub enum Workload {
     RightList,
     /// Lines with a weak space and a remark at the end of each.
     WeakSpaces,
+    /// Objects in objects, as files of JSON have them.
+    RealJson,
 }
 
 /// All of them, as they are printed.
-pub const WORKLOADS: [Workload; 13] = [
+pub const WORKLOADS: [Workload; 14] = [
     Workload::Tree,
     Workload::List,
     Workload::FlatList,
@@ -49,6 +51,7 @@ pub const WORKLOADS: [Workload; 13] = [
     Workload::TailGroups,
     Workload::RightList,
     Workload::WeakSpaces,
+    Workload::RealJson,
 ];
 
 impl Workload {
@@ -70,6 +73,7 @@ impl Workload {
             Workload::TailGroups => "tails",
             Workload::RightList => "right",
             Workload::WeakSpaces => "weak",
+            Workload::RealJson => "real",
         }
     }
 
@@ -94,6 +98,7 @@ impl Workload {
             | Workload::KeptTrials
             | Workload::RejectedTrials
             | Workload::TailGroups => 100,
+            Workload::RealJson => 1,
             _ => 1000,
         }
     }
@@ -104,6 +109,7 @@ impl Workload {
     {
         match self {
             Workload::Json => &[80_000],
+            Workload::RealJson => &[200],
             Workload::TextGroups
             | Workload::BareGroups
             | Workload::KeptTrials
@@ -144,6 +150,7 @@ pub(crate) fn workload_named(word: &str) -> Option<Workload>
         b"tails" => Some(Workload::TailGroups),
         b"right" => Some(Workload::RightList),
         b"weak" => Some(Workload::WeakSpaces),
+        b"real" => Some(Workload::RealJson),
         _ => None,
     }
 }
