@@ -1,8 +1,8 @@
 -- The trees of documents that are measured.
 use Rattle.std.specs.Prelude.{◌≡◌, ℕ, zero, suc, ◌*◌, ◌%◌, ◌^◌, ◌≤◌, ◌<◌, max, List, replicate, codes, pos}
 use Rattle.std.specs.Fmt.{decimal}
-use Rattle.prettyless.specs.Tree.{Tree, Text, HardLine, Group, Union}
-use Rattle.prettyless.specs.Built.{append, nest, group, softline}
+use Rattle.prettyless.specs.Tree.{Tree, Nil, Text, WeakSpace, HardLine, Group, Union}
+use Rattle.prettyless.specs.Built.{append, nest, group, as_line_suffix, softline}
 use Rattle.prettyless.specs.Counted as counted
 use Rattle.prettyless.specs.Lines.{line, line_}
 use Rattle.prettyless.specs.Words.{intersperse}
@@ -137,6 +137,78 @@ rejected (suc n) = rejected_trial (rejected n)
 abbrev pub rejected_trials : ℕ → Tree
 rejected_trials n = append (Text (codes "p")) (rejected n)
 
+-- a line and this, grouped, and a text behind the group
+abbrev pub tail_group : Tree → Tree
+tail_group inner = append (group (append line_ inner)) (Text (codes "a text of forty columns, behind a group."))
+
+-- so many of these in one another
+abbrev pub tail_groups : ℕ → Tree
+tail_groups zero = Text (codes "a")
+tail_groups (suc n) = tail_group (tail_groups n)
+
+-- an atom, a line, and this behind them
+abbrev pub in_front : Tree → Tree
+in_front inner = append (Text (codes "atom")) (append line inner)
+
+-- so many atoms in front of a last one
+abbrev pub leaning : ℕ → Tree
+leaning zero = Text (codes "atom")
+leaning (suc n) = in_front (leaning n)
+
+-- these nested by 1 and grouped
+abbrev pub right_list : ℕ → Tree
+right_list n = group (nest (pos 1) (leaning n))
+
+-- a text, a weak space, a remark put off to the end of the line, and that end
+abbrev pub remarked : Tree
+remarked = append (append (append (Text (codes "a text with a remark")) WeakSpace) (as_line_suffix (Text (codes "  # why")))) HardLine
+
+-- so many of these
+abbrev pub weak_spaces : ℕ → Tree
+weak_spaces zero = Nil
+weak_spaces (suc n) = append (weak_spaces n) remarked
+
+-- three numbers in brackets
+abbrev pub numbers : Tree
+numbers = bracketed (Text (codes "[")) (with_comma (with_comma (Text (codes "7")) (Text (codes "-12.5"))) (Text (codes "31415926"))) (Text (codes "]"))
+
+-- a key, and the value behind it
+abbrev pub field : List ℕ → Tree → Tree
+field key value = append (Text key) value
+
+-- the fields of an object that hold no other: a string, a number and three of these
+abbrev pub plain_fields : Tree
+plain_fields = with_comma (with_comma
+    (field (codes "\"tag\": ") (Text (codes "\"red and green\"")))
+    (field (codes "\"quantity\": ") (Text (codes "40320"))))
+    (field (codes "\"coordinates\": ") numbers)
+
+-- these, and two fields more
+abbrev pub fields : Tree → Tree → Tree
+fields first second = with_comma (with_comma plain_fields (field (codes "\"nested\": ") first)) (field (codes "\"alternateDescription\": ") second)
+
+-- an object that holds two values
+abbrev pub object : Tree → Tree → Tree
+object first second = bracketed (Text (codes "{")) (fields first second) (Text (codes "}"))
+
+-- a string, or an object that holds two values of one level less
+abbrev pub value : ℕ → Tree
+value zero = Text (codes "\"a value of some words\"")
+value (suc k) = object (value k) (value k)
+
+-- values in square brackets
+abbrev pub listed : Tree → Tree
+listed values = bracketed (Text (codes "[")) values (Text (codes "]"))
+
+-- so many objects of 8 levels in front of a last one, with commas between them
+abbrev pub objects : ℕ → Tree
+objects zero = value 8
+objects (suc n) = with_comma (objects n) (value 8)
+
+-- these in brackets
+abbrev pub real : ℕ → Tree
+real n = listed (objects n)
+
 -- the document of a workload at a size
 abbrev pub IsDocument : Workload → ℕ → Tree → Type 0
 IsDocument w.Tree n x = IsTree n x
@@ -149,3 +221,7 @@ IsDocument w.Fill n x = x ≡ fill n
 IsDocument w.Lines n x = x ≡ lines n
 IsDocument w.KeptTrials n x = x ≡ kept_trials n
 IsDocument w.RejectedTrials n x = x ≡ rejected_trials n
+IsDocument w.TailGroups n x = x ≡ tail_groups n
+IsDocument w.RightList n x = x ≡ right_list n
+IsDocument w.WeakSpaces n x = x ≡ weak_spaces n
+IsDocument w.RealJson n x = x ≡ real n

@@ -9,7 +9,8 @@ abbrev pub names : List (List ℕ × Workload)
 names =
     (codes "tree", w.Tree) ∷ (codes "list", w.List) ∷ (codes "flat", w.FlatList) ∷ (codes "json", w.Json)
     ∷ (codes "texts", w.TextGroups) ∷ (codes "bare", w.BareGroups) ∷ (codes "fill", w.Fill) ∷ (codes "lines", w.Lines)
-    ∷ (codes "kept", w.KeptTrials) ∷ (codes "lost", w.RejectedTrials) ∷ []
+    ∷ (codes "kept", w.KeptTrials) ∷ (codes "lost", w.RejectedTrials) ∷ (codes "tails", w.TailGroups) ∷ (codes "right", w.RightList)
+    ∷ (codes "weak", w.WeakSpaces) ∷ (codes "real", w.RealJson) ∷ []
 
 -- what a word names in a table of names
 abbrev pub named_in : List (List ℕ × Workload) → List ℕ → Option Workload
@@ -33,6 +34,8 @@ small_size_of w.Lines = 50
 small_size_of w.BareGroups = 100
 small_size_of w.KeptTrials = 100
 small_size_of w.RejectedTrials = 100
+small_size_of w.TailGroups = 100
+small_size_of w.RealJson = 1
 small_size_of _ = 1000
 
 -- the sizes at which groups and trials are timed
@@ -46,6 +49,8 @@ full_sizes_of w.TextGroups = depths
 full_sizes_of w.BareGroups = depths
 full_sizes_of w.KeptTrials = depths
 full_sizes_of w.RejectedTrials = depths
+full_sizes_of w.TailGroups = depths
+full_sizes_of w.RealJson = 200 ∷ []
 full_sizes_of _ = 1000000 ∷ []
 
 -- a reason that counts above 10,000
@@ -55,4 +60,5 @@ beyond size reason = if nat_lt 10000 size then Some reason else None
 -- why it is not timed at a size, if so
 abbrev pub obstacle_of : Workload → ℕ → Option (List ℕ)
 obstacle_of w.BareGroups size = beyond size (codes "its probes are quadratic")
+obstacle_of w.TailGroups size = beyond size (codes "its probes are quadratic")
 obstacle_of _ size = None

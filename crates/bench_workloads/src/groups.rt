@@ -50,3 +50,30 @@ pub(crate) fn bare_groups<'a, D: DocPlace<'a>>(
     }
     Ok(all)
 }
+
+// A document on a line of its own where it does not fit, in a group, and a text behind that.
+fn tail_group<'a, D: DocPlace<'a>>(
+    inner: DocBuilder<'a, D>,
+) -> Result<DocBuilder<'a, D>, BuildError>
+    ensures ok { IfOk result (λ b. built D.Doc.tree b.1 ≡ to.tail_group (built D.Doc.tree inner.entry.1)) }
+    ensures err { IfErr result IsMemory }
+{
+    let place = inner.0;
+    let front = place.line_()?.join(inner)?.group()?;
+    front.join(text(place, "a text of forty columns, behind a group."))
+}
+
+/// Groups nested so deep, with a text behind each.
+pub(crate) fn tail_groups<'a, D: DocPlace<'a>>(
+    place: &'a D,
+    depth: usize,
+) -> Result<DocBuilder<'a, D>, BuildError>
+    ensures ok { IfOk result (λ b. built D.Doc.tree b.1 ≡ to.tail_groups depth) }
+    ensures err { IfErr result IsMemory }
+{
+    let mut all = text(place, "a");
+    for _ in 0..depth {
+        all = tail_group(all)?;
+    }
+    Ok(all)
+}

@@ -9,8 +9,8 @@ use crate::words::word;
 use prettyless::text::BuildError;
 use prettyless::{DocAllocator, DocBuilder, DocPlace};
 
-// Values in brackets.
-fn bracketed<'a, D: DocPlace<'a>>(
+/// Values in brackets.
+pub(crate) fn bracketed<'a, D: DocPlace<'a>>(
     opening: DocBuilder<'a, D>,
     values: DocBuilder<'a, D>,
     closing: DocBuilder<'a, D>,
@@ -25,8 +25,8 @@ fn bracketed<'a, D: DocPlace<'a>>(
     opening.join(inner)?.join(end)?.group()
 }
 
-// A value, a comma, a line and another value.
-fn with_comma<'a, D: DocPlace<'a>>(
+/// A value, a comma, a line and another value.
+pub(crate) fn with_comma<'a, D: DocPlace<'a>>(
     front: DocBuilder<'a, D>,
     next: DocBuilder<'a, D>,
 ) -> Result<DocBuilder<'a, D>, BuildError>

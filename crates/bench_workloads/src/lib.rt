@@ -10,6 +10,7 @@ mod groups;
 mod json;
 mod lists;
 mod measure;
+mod objects;
 mod parts;
 mod peak;
 pub mod report;

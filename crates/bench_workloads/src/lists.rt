@@ -43,6 +43,38 @@ pub(crate) fn list<'a, D: DocPlace<'a>>(
     parenthesised(place, items)
 }
 
+// An atom and a line in front of a document.
+fn in_front<'a, D: DocPlace<'a>>(inner: DocBuilder<'a, D>) -> Result<DocBuilder<'a, D>, BuildError>
+    ensures ok { IfOk result (λ b. built D.Doc.tree b.1 ≡ to.in_front (built D.Doc.tree inner.entry.1)) }
+    ensures err { IfErr result IsMemory }
+{
+    let place = inner.0;
+    text(place, ATOM).join(place.line()?.join(inner)?)
+}
+
+// So many atoms in front of a last one.
+fn leaning<'a, D: DocPlace<'a>>(place: &'a D, atoms: usize) -> Result<DocBuilder<'a, D>, BuildError>
+    ensures ok { IfOk result (λ b. built D.Doc.tree b.1 ≡ to.leaning atoms) }
+    ensures err { IfErr result IsMemory }
+{
+    let mut all = text(place, ATOM);
+    for _ in 0..atoms {
+        all = in_front(all)?;
+    }
+    Ok(all)
+}
+
+/// So many atoms in front of a last one, in a group.
+pub(crate) fn right_list<'a, D: DocPlace<'a>>(
+    place: &'a D,
+    atoms: usize,
+) -> Result<DocBuilder<'a, D>, BuildError>
+    ensures ok { IfOk result (λ b. built D.Doc.tree b.1 ≡ to.right_list atoms) }
+    ensures err { IfErr result IsMemory }
+{
+    leaning(place, atoms)?.nest(1)?.group()
+}
+
 // A document behind another, with a line between them.
 fn behind<'a, D: DocPlace<'a>>(
     place: &'a D,

@@ -65,3 +65,28 @@ pub(crate) fn lines<'a, D: DocPlace<'a>>(
         .intersperse(iter::repeat_n(line, lines), hard_line())?
         .nest(4)
 }
+
+// A text, a weak space, a remark put off to the end of the line, and that end.
+fn remarked<'a, D: DocPlace<'a>>(place: &'a D) -> Result<DocBuilder<'a, D>, BuildError>
+    ensures ok { IfOk result (λ b. built D.Doc.tree b.1 ≡ to.remarked) }
+    ensures err { IfErr result IsMemory }
+{
+    let front = text(place, "a text with a remark").join(place.weak_space()?)?;
+    let remark = text(place, "  # why").as_line_suffix()?;
+    front.join(remark)?.join(place.hard_line()?)
+}
+
+/// So many lines with a weak space and a remark at the end of each.
+pub(crate) fn weak_spaces<'a, D: DocPlace<'a>>(
+    place: &'a D,
+    lines: usize,
+) -> Result<DocBuilder<'a, D>, BuildError>
+    ensures ok { IfOk result (λ b. built D.Doc.tree b.1 ≡ to.weak_spaces lines) }
+    ensures err { IfErr result IsMemory }
+{
+    let mut all = place.nil()?;
+    for _ in 0..lines {
+        all = all.join(remarked(place)?)?;
+    }
+    Ok(all)
+}

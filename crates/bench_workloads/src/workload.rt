@@ -3,7 +3,7 @@ ghost use Rattle.std.specs.Prelude.{◌≡◌, Some};
 ghost use Rattle.std.specs.Option.{option_copied};
 ghost use Rattle.bench_workloads.specs.Names as names;
 
-/// A kind of document. Its size is a number of atoms, records, groups, words, lines or trials.
+/// A kind of document. Its size is a number of atoms, records, groups, words, lines, trials or objects.
 #[derive(Clone, Copy, Debug, PartialEq, Eq)]
 pub enum Workload {
     /// Lists of ten, in lists of ten, and so on. The atoms are the greatest power of ten up to the size.
@@ -26,10 +26,18 @@ pub enum Workload {
     KeptTrials,
     /// Alternatives in alternatives, of which each first one is rejected.
     RejectedTrials,
+    /// Groups in groups, each with a text behind it.
+    TailGroups,
+    /// A list that leans to the right.
+    RightList,
+    /// Lines with a weak space and a remark at the end of each.
+    WeakSpaces,
+    /// Objects in objects, as files of JSON have them.
+    RealJson,
 }
 
 /// All of them, as they are printed.
-pub const WORKLOADS: [Workload; 10] = [
+pub const WORKLOADS: [Workload; 14] = [
     Workload::Tree,
     Workload::List,
     Workload::FlatList,
@@ -40,6 +48,10 @@ pub const WORKLOADS: [Workload; 10] = [
     Workload::Lines,
     Workload::KeptTrials,
     Workload::RejectedTrials,
+    Workload::TailGroups,
+    Workload::RightList,
+    Workload::WeakSpaces,
+    Workload::RealJson,
 ];
 
 impl Workload {
@@ -58,6 +70,10 @@ impl Workload {
             Workload::Lines => "lines",
             Workload::KeptTrials => "kept",
             Workload::RejectedTrials => "lost",
+            Workload::TailGroups => "tails",
+            Workload::RightList => "right",
+            Workload::WeakSpaces => "weak",
+            Workload::RealJson => "real",
         }
     }
 
@@ -78,7 +94,11 @@ impl Workload {
     {
         match self {
             Workload::Json | Workload::Lines => 50,
-            Workload::BareGroups | Workload::KeptTrials | Workload::RejectedTrials => 100,
+            Workload::BareGroups
+            | Workload::KeptTrials
+            | Workload::RejectedTrials
+            | Workload::TailGroups => 100,
+            Workload::RealJson => 1,
             _ => 1000,
         }
     }
@@ -89,10 +109,12 @@ impl Workload {
     {
         match self {
             Workload::Json => &[80_000],
+            Workload::RealJson => &[200],
             Workload::TextGroups
             | Workload::BareGroups
             | Workload::KeptTrials
-            | Workload::RejectedTrials => &[1_000, 10_000, 100_000],
+            | Workload::RejectedTrials
+            | Workload::TailGroups => &[1_000, 10_000, 100_000],
             _ => &[1_000_000],
         }
     }
@@ -102,7 +124,9 @@ impl Workload {
         ensures { option_copied result ≡ names.obstacle_of self size }
     {
         match self {
-            Workload::BareGroups if size > 10_000 => Some("its probes are quadratic"),
+            Workload::BareGroups | Workload::TailGroups if size > 10_000 => {
+                Some("its probes are quadratic")
+            }
             _ => None,
         }
     }
@@ -123,6 +147,10 @@ pub(crate) fn workload_named(word: &str) -> Option<Workload>
         b"lines" => Some(Workload::Lines),
         b"kept" => Some(Workload::KeptTrials),
         b"lost" => Some(Workload::RejectedTrials),
+        b"tails" => Some(Workload::TailGroups),
+        b"right" => Some(Workload::RightList),
+        b"weak" => Some(Workload::WeakSpaces),
+        b"real" => Some(Workload::RealJson),
         _ => None,
     }
 }
