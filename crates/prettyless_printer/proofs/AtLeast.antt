@@ -34,7 +34,7 @@ tally_with o n t ts st w =
     tally o t.tree t.indent t.mode (follow ts) st w + counted_then (lay o (settle o) t.tree t.indent t.mode (follow ts) st) (λ u. tally_above o n ts u w)
 
 -- more than n tasks: the first one counts
-pub above_is : (o : RenderOptions) (n : ℕ) (t : Task) (ts : List Task) (st : State) (w : Weight) → n ≤ length ts → tally_above o n (t ∷ ts) st w ≡ tally_with o n t ts st w
+above_is : (o : RenderOptions) (n : ℕ) (t : Task) (ts : List Task) (st : State) (w : Weight) → n ≤ length ts → tally_above o n (t ∷ ts) st w ≡ tally_with o n t ts st w
 unfolding tally_above
 above_is o n t ts st w l = ap (λ (v : Bool). if v then tally_with o n t ts st w else 0) (le-leb n (length ts) l)
 
@@ -136,7 +136,7 @@ union_counts o n (MultilineText s) r i ts st w self h =
 union_counts o n _ r i ts st w self h = omega arith
 
 -- After a step no less is left to count, but for what its node counts.
-pub step_counts : (o : RenderOptions) (n : ℕ) (d : Tree) (i : ℕ) (m : Mode) (ts : List Task) (st : State) (w : Weight) → n ≤ length ts →
+step_counts : (o : RenderOptions) (n : ℕ) (d : Tree) (i : ℕ) (m : Mode) (ts : List Task) (st : State) (w : Weight) → n ≤ length ts →
     StepCounts o n ts st w (tally_with o n (make_task i m d) ts st w) (w d m) (step_of o d i m (follow ts) st)
 unfolding lay tally
 step_counts o n Nil i m ts st w h = omega arith
@@ -204,7 +204,7 @@ laid_at_least : (t : Task) (a b : Weight → ℕ) (v w : Visits) → OneLaid t v
 laid_at_least t a b v w one h = record { printer = omega (arith, h each_node, one.printer); probes = omega (arith, h each_probe, one.probes) }
 
 -- the stack counts what its tasks do
-pub stack_counts : {N : Type 0} (f : N → Tree) (p : Printer N) (n : ℕ) (o : RenderOptions) (ts : List Task) (st : State) (w : Weight) → p.options ≡ o → tasks_of f p ≡ ts → state_of f p ≡ st → stack_tally f p n w ≡ tally_above o n ts st w
+stack_counts : {N : Type 0} (f : N → Tree) (p : Printer N) (n : ℕ) (o : RenderOptions) (ts : List Task) (st : State) (w : Weight) → p.options ≡ o → tasks_of f p ≡ ts → state_of f p ≡ st → stack_tally f p n w ≡ tally_above o n ts st w
 stack_counts {N} f p n o ts st w e h k =
     ap (λ (x : RenderOptions). tally_above x n (tasks_of f p) (state_of f p) w) e
     ∙ ap (λ (x : List Task). tally_above o n x (state_of f p) w) h ∙ ap (λ (x : State). tally_above o n ts x w) k

@@ -147,15 +147,6 @@ goes_down {N} f {a} {t} {b} q s x i m n h same one probes shows =
       at_least = λ j l. at_least_then (h.at_least j l) (went_at_least o j t ts us st u [] b.visits x laid (omega (arith, l, h.long)) k.leads);
     }
 
--- and the work falls
-pub goes_less : {N : Type 0} (f : N → Tree) {a : Point N} {t : Task} {b : Point N} (q : Printer N) (i : ℕ) (m : Mode) (n : N) → InHand f a t b → Hands f i m n (hand_step f a.printer.options t b.printer) b.printer q →
-    work (tasks_with f (make_task i m (f n)) q) (state_of f q) < work (tasks_of f a.printer) (state_of f a.printer)
-goes_less {N} f {a} {t} {b} q i m n h shows =
-    let o = a.printer.options in
-    let ts : List Task = tasks_of f b.printer in
-    let k = handed f i m n (step_at o t ts (state_of f b.printer)) b.printer q shows in
-    omega (arith, h.less, lessens o t ts (tasks_with f (make_task i m (f n)) q) (state_of f b.printer) (state_of f q) [] k.leads)
-
 -- a turn is from where it began
 pub from_start : {N E : Type 0} (f : N → Tree) {a : Point N} {t : Task} {b c : Point N} (r : _) → InHand f a t b → Advances {N = N} {E = E} f (point a.printer b.sink a.visits) c r → Advances {N = N} {E = E} f a c r
 from_start {N} {E} f {a} {t} {b} {c} r hand h = subst (λ (z : Seen). Advances {N = N} {E = E} f (point a.printer z a.visits) c r) hand.sink h

@@ -13,5 +13,4 @@ pub mod Contents
 pub mod Visits
 pub mod AtLeast
 pub mod Hands
-pub mod FlatTexts
 pub mod Advancing

@@ -122,11 +122,11 @@ step_at_most o (PartialUnion a b) i Flat rest st n k z h l = (omega arith, h, om
 step_at_most o (OnColumn test a b) i m rest st n k z h l = either_at_most a b i m st n 0 (n * (probed a + probed b)) (column_holds test (prospective st.column) i) (omega arith) (omega arith) h (omega arith)
 step_at_most o (OnNesting test a b) i m rest st n k z h l = either_at_most a b i m st n 0 (n * (probed a + probed b)) (nesting_holds test i) (omega arith) (omega arith) h (omega arith)
 
-pub suffixes-append : (ts us : List Task) → suffixes (ts ++ us) ≡ suffixes ts + suffixes us
+suffixes-append : (ts us : List Task) → suffixes (ts ++ us) ≡ suffixes ts + suffixes us
 suffixes-append [] us = omega arith
 suffixes-append (t ∷ ts) us = omega (arith, suffixes-append ts us)
 
-pub charges-append : (n : ℕ) (ts us : List Task) → charges n (ts ++ us) ≡ charges n ts + charges n us
+charges-append : (n : ℕ) (ts us : List Task) → charges n (ts ++ us) ≡ charges n ts + charges n us
 charges-append n [] us = omega arith
 charges-append n (t ∷ ts) us = omega (arith, charges-append n ts us)
 

@@ -139,7 +139,6 @@ pub fn render<N: Walk, W: Render>(
         within: true,
         commands: Stack::new(alloc),
         scratch: Stack::new(alloc),
-        texts: Vec::new(alloc),
         queue: Queue::new(alloc),
     };
     let mut trials = Trials::new(alloc);

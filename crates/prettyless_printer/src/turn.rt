@@ -1,7 +1,5 @@
 //! A turn: a command is taken and stepped, and so is each that comes in hand; the last one is written.
-ghost use Rattle.std.specs.Prelude.{◌≡◌, ◌<◌, ◌≤◌, ◌+◌, ◌-◌, ◌^◌, ◌++◌, length, map, min, OnOk, OnErr};
-ghost use Rattle.prettyless_model.specs.declared.mode.Mode.TheVariants.{Flat};
-ghost use Rattle.prettyless_step.specs.Stack.{tasks};
+ghost use Rattle.std.specs.Prelude.{◌<◌, length};
 ghost use Rattle.prettyless_step.specs.Printing.{tasks_of};
 ghost use Rattle.prettyless_printer.specs.Points.{point, seen};
 ghost use Rattle.prettyless_printer.specs.Turns.{Advances};
@@ -15,30 +13,6 @@ use prettyless_step::piece::write_piece;
 use prettyless_step::printer::{Printer, Taken};
 use prettyless_step::step::step;
 use prettyless_step::walk::Walk;
-use std::alloc::AllocError;
-
-// The printer's texts become the commands in place of the document that lays them, flat and at an indent. Its nodes that are no texts
-// are visits.
-fn lay_texts<N: Walk>(
-    printer: &mut Printer<N>,
-    indent: usize,
-    _document: N,
-    silent: u64,
-    visits: &mut Visits,
-) -> Result<(), AllocError>
-    ensures tasks { OnOk result (tasks_of N.tree printer.new ≡ tasks indent Flat (map N.tree printer.old.texts.items) ++ tasks_of N.tree printer.old) }
-    ensures others { printer.new ≡ record printer.old { commands = printer.new.commands } }
-    ensures printer { OnOk result (visits.new.printer ≡ min (visits.old.printer + silent) (2 ^ 64 - 1)) }
-    ensures rises { visits.old.printer ≤ visits.new.printer }
-    ensures refused { OnErr result (visits.new.printer ≡ visits.old.printer) }
-    ensures probes { visits.new.probes ≡ visits.old.probes }
-{
-    printer
-        .commands
-        .push_each(indent, Mode::Flat, &printer.texts)?;
-    visits.printer = visits.printer.saturating_add(silent);
-    Ok(())
-}
 
 /// Takes the next command, goes on with what is in hand down to a node that leads to no other, and writes what that one gives.
 /// Each of these nodes is a visit, and so is a payload that a step rejects.
@@ -71,12 +45,6 @@ pub fn turn<N: Walk, W: Render>(
                 indent = next_indent;
                 mode = Mode::Flat;
                 node = next;
-            }
-            Ok(Taken::Texts(texts_indent, inner, silent)) => {
-                return match lay_texts(printer, texts_indent, inner, silent, visits) {
-                    Ok(()) => Ok(Turn::Went),
-                    Err(e) => Err(RenderError::Memory(e)),
-                };
             }
             Ok(Taken::Quiet) => return Ok(Turn::Went),
             Ok(Taken::Failed) => return Ok(Turn::Failed),

@@ -4,4 +4,3 @@ pub mod Stacks
 pub mod Probes
 pub mod Queues
 pub mod Shown
-pub mod FlatTexts

@@ -1,5 +1,5 @@
 -- What a probe has still to look at, as tasks.
-use Rattle.std.proofs.Common.{◌≡◌, ℕ, ap, sym, ◌∙◌, List, [], ◌∷◌, refl, Bool, true, false, if◌then◌else◌, Option, Some, None}
+use Rattle.std.proofs.Common.{◌≡◌, ℕ, List, [], ◌∷◌, refl, Bool, true, false, if◌then◌else◌}
 use Rattle.prettyless_model.specs.Tree.{Tree, Append, OnColumn, OnNesting}
 use Rattle.prettyless_model.specs.Choice.{column_holds, nesting_holds}
 use Rattle.prettyless_model.specs.Column.{prospective}
@@ -11,8 +11,6 @@ use Rattle.prettyless_model.specs.declared.column.Column.{Column}
 use Rattle.prettyless_model.specs.declared.mode.Mode.{Mode}
 use Rattle.prettyless_model.specs.declared.mode.Mode.TheVariants.{Break}
 use Rattle.prettyless_model.proofs.Looks.{answer-each, answer-then}
-use Rattle.prettyless_step.specs.FlatTexts.{Flattens, IsText}
-use Rattle.prettyless_step.specs.Probing.{told_of}
 use Rattle.prettyless_step.specs.Stack.{Task, follow, in_break, make_task, tasks_fit}
 
 -- one document after another is two tasks
@@ -32,11 +30,6 @@ fit_nesting w i m y n ts c p test = fit-either (nesting_holds test i) w i m y n 
 
 pub ruleset looks = (fit-append, fit_column, fit_nesting)
 
--- a text, within the width or past it
-pub told_flattens : {N : Type 0} (f : N → Tree) (r : Option Bool) (d : Tree) (before : List Task) → IsText d → Flattens f (told_of r) d before before
-told_flattens {N} f (Some b) d before h = tt
-told_flattens {N} f None d before h = (h, refl)
-
 -- what follows a node, as tasks in Break
 in_break_fits : (w : ℕ) (ts : List Task) (c : Column) (p : Bool) → tasks_fit w (in_break ts) c p ≡ rest_fits w (follow ts) c p
 in_break_fits w [] c p = refl
@@ -47,16 +40,3 @@ in_break_fits w (t ∷ ts) c p =
 pub probe_fits : (w i : ℕ) (m : Mode) (d : Tree) (ts : List Task) (c : Column) (p : Bool) → tasks_fit w (make_task i m d ∷ in_break ts) c p ≡ answer_of (look w d i m c p) (λ e q. rest_fits w (follow ts) e q)
 probe_fits w i m d ts c p =
     answer-each (look w d i m c p) (λ e q. tasks_fit w (in_break ts) e q) (λ e q. rest_fits w (follow ts) e q) (λ e q. in_break_fits w ts e q)
-
--- what follows, from its first node on
-pub next_rest_fits : (w : ℕ) (t : Task) (ts us : List Task) (c : Column) (p : Bool) → ts ≡ t ∷ us → tasks_fit w (make_task t.indent Break t.tree ∷ in_break us) c p ≡ rest_fits w (follow ts) c p
-next_rest_fits w t ts us c p e = in_break_fits w (t ∷ us) c p ∙ ap (λ (z : List Task). rest_fits w (follow z) c p) (sym e)
-
--- a document was read, and what follows answers
-pub read_then_rest : (w i : ℕ) (m : Mode) (d : Tree) (ts : List Task) (c e : Column) (p q r : Bool) → tasks_fit w (make_task i m d ∷ in_break ts) c p ≡ tasks_fit w (in_break ts) e q → r ≡ rest_fits w (follow ts) e q →
-    r ≡ answer_of (look w d i m c p) (λ x y. rest_fits w (follow ts) x y)
-read_then_rest w i m d ts c e p q r h k = k ∙ sym (in_break_fits w ts e q) ∙ sym h ∙ probe_fits w i m d ts c p
-
--- the document answers by itself
-pub read_answers : (w i : ℕ) (m : Mode) (d : Tree) (ts : List Task) (c : Column) (p r : Bool) → tasks_fit w (make_task i m d ∷ in_break ts) c p ≡ r → r ≡ answer_of (look w d i m c p) (λ x y. rest_fits w (follow ts) x y)
-read_answers w i m d ts c p r h = sym h ∙ probe_fits w i m d ts c p

@@ -2,7 +2,6 @@ pub mod View
 pub mod Frames
 pub mod Stack
 pub mod Piece
-pub mod FlatTexts
 pub mod Probing
 pub mod Steps
 pub mod Printing

@@ -1,5 +1,5 @@
 -- The printer's state as the definitions see it, and what a step of the code shows of the step that is defined.
-use Rattle.std.specs.Prelude.{◌≡◌, ℕ, List, [], ◌∷◌, ◌++◌, drop, map}
+use Rattle.std.specs.Prelude.{◌≡◌, ℕ, List, [], ◌∷◌, ◌++◌, drop}
 use Rattle.prettyless_model.specs.Tree.{Tree}
 use Rattle.prettyless_model.specs.Layout.{State, Entry}
 use Rattle.prettyless_model.specs.declared.mode.Mode.{Mode}
@@ -7,10 +7,9 @@ use Rattle.prettyless_model.specs.declared.mode.Mode.TheVariants.{Flat}
 use Rattle.prettyless_step.specs.Stack.{Task, make_task, follow, stack_of, trees}
 use Rattle.prettyless_step.specs.Steps.{Step, Move, Stuck, Choose}
 use Rattle.prettyless_step.specs.Piece.{piece_bytes}
-use Rattle.prettyless_step.specs.FlatTexts.{IsFlat, IsSilent}
 use Rattle.prettyless_step.specs.declared.printer.Printer.{Printer}
 use Rattle.prettyless_step.specs.declared.printer.Taken.{Taken}
-use Rattle.prettyless_step.specs.declared.printer.Taken.TheVariants.{Quiet, Next, NextFlat, Texts, Written, Failed, Chosen}
+use Rattle.prettyless_step.specs.declared.printer.Taken.TheVariants.{Quiet, Next, NextFlat, Written, Failed, Chosen}
 
 -- the tasks that the printer has still to lay, the next one first
 abbrev pub tasks_of : {N : Type 0} → (N → Tree) → Printer N → List Task
@@ -48,7 +47,6 @@ abbrev pub Shows : {N : Type 0} → (N → Tree) → Mode → Taken N → Step �
 Shows f m Quiet step p q = Writes f [] step p q
 Shows f m (Next i n) step p q = Hands f i m n step p q
 Shows f m (NextFlat i n) step p q = Hands f i Flat n step p q
-Shows f m (Texts i n k) step p q = Hands f i Flat n step p q × IsFlat (f n) (map f q.texts.items) × IsSilent k (f n)
 Shows f m (Written piece) step p q = Writes f (piece_bytes piece) step p q
 Shows f m Failed Stuck p q = q ≡ p
 Shows f m (Chosen i l r) (Choose j x y) p q = (i ≡ j) × (f l ≡ x) × (f r ≡ y) × (q ≡ p)

@@ -16,21 +16,17 @@ pub struct Printer<N> {
     pub commands: Stack<N>,
     /// The probe's own list of work, kept for its memory.
     pub scratch: Stack<N>,
-    /// The nodes of the texts that the last probe of a group read, kept for their memory too.
-    pub texts: Vec<N>,
     /// The line suffixes that were visited.
     pub queue: Queue<N>,
 }
 
-/// What the visit of one node asks for: nothing, a node to go on with at an indent, in the same mode or flat, one that lays the texts that
-/// the printer has, a piece to be written, or a choice between two branches at an indent; or the node fails.
+/// What the visit of one node asks for: nothing, a node to go on with at an indent, in the same mode or flat, a piece to be
+/// written, or a choice between two branches at an indent; or the node fails.
 #[derive(Drop)]
 pub enum Taken<'v, N> {
     Quiet,
     Next(usize, N),
     NextFlat(usize, N),
-    /// Flat, the node at this indent lays the printer's texts, and has so many nodes that are no texts.
-    Texts(usize, N, u64),
     Written(Piece<'v>),
     Failed,
     Chosen(usize, N, N),

@@ -1,12 +1,10 @@
 //! The probe: whether a node fits the line with what follows it.
-ghost use Rattle.std.specs.Prelude.{◌≡◌, ◌++◌, ◌∷◌, [], IfOk, OnOk, IfSome, MatchOption, List, Bool, false, true, ◌+◌, ◌<◌, ◌≤◌, ℕ, ⊤, map, if◌then◌else◌};
+ghost use Rattle.std.specs.Prelude.{◌≡◌, ◌++◌, ◌∷◌, [], IfOk, OnOk, IfSome, MatchOption, List, Bool, false, ◌+◌, ◌<◌, ◌≤◌, ℕ, ⊤, if◌then◌else◌};
 ghost use Rattle.prettyless_model.specs.Tree.{WeakLine, size};
 ghost use Rattle.prettyless_model.specs.Column.{padding_fits};
-ghost use Rattle.prettyless_model.specs.declared.mode.Mode.TheVariants.{Flat as FlatMode};
 ghost use Rattle.prettyless_model.specs.Look.{answer_of, by_mode, look, look_text, payload_begins};
 ghost use Rattle.prettyless_model.specs.Layout.{rest_fits};
-ghost use Rattle.prettyless_step.specs.FlatTexts.{Flattens, FlatReads, IsRead, IsTold, is_fit};
-ghost use Rattle.prettyless_step.specs.Probing.{ReadsAs, RisesBy, nodes_next, read_of, told_of};
+ghost use Rattle.prettyless_step.specs.Probing.{ReadsAs, RisesBy, nodes_next, read_of};
 ghost use Rattle.prettyless_step.specs.Stack.{AnswersAs, Reads, Task, follow, in_break, make_task, nodes, stack_of, task, tasks_fit, unread};
 
 use crate::command::{Command, nested_indent};
@@ -24,16 +22,13 @@ pub struct Line {
     pub column: Column,
     /// Whether a line suffix is pending.
     pub pending: bool,
-    /// Whether what was read is laid the same wherever it stands.
-    pub plain: bool,
 }
 
 // Reads content: an empty text is nothing, another commits the column.
 fn read_content(width: usize, line: &mut Line, counted: usize, text: &str) -> Option<bool>
-    ensures answer { (ts : List Task) → AnswersAs result
+    ensures { (ts : List Task) → AnswersAs result
         (answer_of (look_text width counted text.now line.old.column line.old.pending) (λ c p. tasks_fit width ts c p))
         (tasks_fit width ts line.new.column line.new.pending) }
-    ensures plain { line.new.plain ≡ line.old.plain }
 {
     if !text.is_empty() {
         line.column = line.column.committed(counted);
@@ -103,8 +98,6 @@ pub enum Read<N> {
     Answer(bool),
     /// A node, with its indent and its mode.
     Next(usize, Mode, N),
-    /// Neither, at a text.
-    Told,
     Done,
 }
 
@@ -118,18 +111,8 @@ fn answered<N>(answer: Option<bool>) -> Read<N>
     }
 }
 
-// An answer, or none at a text.
-fn told<N>(answer: Option<bool>) -> Read<N>
-    ensures { result ≡ told_of answer }
-{
-    match answer {
-        Some(answer) => Read::Answer(answer),
-        None => Read::Told,
-    }
-}
-
 // Looks at one node. The nodes below it are looked at next: the first is answered, and a second one is now on the stack.
-#[tactic(auto, using(crate::proofs::Probes::looks, crate::proofs::Probes::told_flattens))]
+#[tactic(auto, using(crate::proofs::Probes::looks))]
 fn probe_one<N: Walk>(
     width: usize,
     line: &mut Line,
@@ -141,31 +124,24 @@ fn probe_one<N: Walk>(
     ensures answer { IfOk result (λ a. (ts : List Task) → ReadsAs N.tree width a
         (tasks_fit width (make_task indent mode (N.tree node) ∷ (stack_of N.tree stack.old ++ ts)) line.old.column line.old.pending)
         (stack_of N.tree stack.new ++ ts) line.new.column line.new.pending) }
-    ensures plain { IfOk result (λ a. line.new.plain ≡ true → (line.old.plain ≡ true)
-        × (mode ≡ FlatMode → Flattens N.tree a (N.tree node) (stack_of N.tree stack.old) (stack_of N.tree stack.new))) }
     ensures smaller { IfOk result (λ a.
         nodes_next N.tree a + nodes (stack_of N.tree stack.new) < size (N.tree node) + nodes (stack_of N.tree stack.old)) }
 {
     match node.view() {
         View::Nil => Ok(Read::Done),
         View::Fail => Ok(Read::Answer(false)),
-        View::Text(s) => Ok(told(read_content(width, line, s.len(), s))),
-        View::TextWithLen(counted, s) => Ok(told(read_content(width, line, counted, s))),
+        View::Text(s) => Ok(answered(read_content(width, line, s.len(), s))),
+        View::TextWithLen(counted, s) => Ok(answered(read_content(width, line, counted, s))),
         View::MultilineText(_, metrics) => Ok(Read::Answer(read_payload(
             width, line, mode, metrics,
         ))),
         View::WeakSpace => {
-            line.plain = false;
             line.column = line.column.blank();
             Ok(Read::Done)
         }
         View::HardLine => Ok(Read::Answer(read_line_end(width, line, mode))),
-        View::WeakLine => {
-            line.plain = false;
-            Ok(answered(read_weak_line(width, line, mode)))
-        }
+        View::WeakLine => Ok(answered(read_weak_line(width, line, mode))),
         View::LineSuffix(_) => {
-            line.plain = false;
             line.pending = true;
             Ok(Read::Done)
         }
@@ -187,12 +163,10 @@ fn probe_one<N: Walk>(
             Ok(Read::Next(indent, mode, either(mode, second, first)))
         }
         View::OnColumn(test, first, second) => {
-            line.plain = false;
             let holds = test.holds(line.column.prospective(), indent);
             Ok(Read::Next(indent, mode, chosen(holds, first, second)))
         }
         View::OnNesting(test, first, second) => {
-            line.plain = false;
             Ok(Read::Next(indent, mode, chosen(test.holds(indent), first, second)))
         }
     }
@@ -227,31 +201,33 @@ fn next_unread<N: Walk>(
     })
 }
 
-// Whether a node and what is read after it stay within the width, up to the first line end: the probe's own commands, and then
-// the printer's.
-#[tactic(auto, using(crate::proofs::Sizes::size_positive))]
-fn read_on<N: Walk>(
+/// Whether a node, laid at this indent and in this mode from where the line is, stays within the width together with what
+/// follows it, up to the first line end. `stack` is only a place to work in. The nodes that it visits are counted in `probes`: one at
+/// least.
+#[tactic(auto, using(crate::proofs::Sizes::size_positive, crate::proofs::Probes::probe_fits))]
+pub fn probe<N: Walk>(
     width: usize,
     start: Line,
-    first: Command<N>,
-    unread_below: Cursor,
+    node: N,
+    indent: usize,
+    mode: Mode,
     commands: &Stack<N>,
     stack: &mut Stack<N>,
     probes: &mut u64,
 ) -> Result<bool, AllocError>
-    requires { Reads commands.now unread_below }
-    ensures answer { IfOk result (λ r. r ≡ tasks_fit width
-        (task N.tree first ∷ (stack_of N.tree stack.old ++ in_break (unread N.tree commands.now unread_below))) start.column start.pending) }
+    ensures answer { IfOk result
+        (λ r. r ≡ answer_of (look width (N.tree node) indent mode start.column start.pending)
+        (λ c p. rest_fits width (follow (stack_of N.tree commands.now)) c p)) }
     ensures rises { probes.old ≤ probes.new }
-    ensures counted { probes.new ≤ probes.old
-        + (size (N.tree first.node) + (nodes (stack_of N.tree stack.old) + nodes (unread N.tree commands.now unread_below))) }
+    ensures counted { probes.new ≤ probes.old + (size (N.tree node) + nodes (stack_of N.tree commands.now)) }
     ensures asked { OnOk result (RisesBy 1 probes.old probes.new) }
 {
     let mut line = start;
-    let mut below = unread_below;
-    let mut indent = first.indent;
-    let mut mode = first.mode;
-    let mut node = first.node;
+    let mut below = commands.cursor();
+    let mut indent = indent;
+    let mut mode = mode;
+    let mut node = node;
+    stack.clear();
     'read: loop {
         *probes = one_more(*probes);
         match probe_one(width, &mut line, indent, mode, node, stack)? {
@@ -261,7 +237,7 @@ fn read_on<N: Walk>(
                 mode = next_mode;
                 node = next;
             }
-            Read::Told | Read::Done => {
+            Read::Done => {
                 let Some(next) = next_unread(commands, &mut below, stack) else {
                     return Ok(line.column.padding_fits(width, line.pending));
                 };
@@ -269,165 +245,6 @@ fn read_on<N: Walk>(
                 mode = next.mode;
                 node = next.node;
             }
-        }
-    }
-}
-
-/// Whether a node, laid at this indent and in this mode from where the line is, stays within the width together with what
-/// follows it, up to the first line end. `stack` is only a place to work in. The nodes that it visits are counted in `probes`: one at
-/// least.
-#[tactic(auto, using(crate::proofs::Probes::probe_fits))]
-pub fn probe<N: Walk>(
-    width: usize,
-    start: Line,
-    first: Command<N>,
-    commands: &Stack<N>,
-    stack: &mut Stack<N>,
-    probes: &mut u64,
-) -> Result<bool, AllocError>
-    ensures answer { IfOk result
-        (λ r. r ≡ answer_of (look width (N.tree first.node) first.indent first.mode start.column start.pending)
-        (λ c p. rest_fits width (follow (stack_of N.tree commands.now)) c p)) }
-    ensures rises { probes.old ≤ probes.new }
-    ensures counted { probes.new ≤ probes.old + (size (N.tree first.node) + nodes (stack_of N.tree commands.now)) }
-    ensures asked { OnOk result (RisesBy 1 probes.old probes.new) }
-{
-    stack.clear();
-    read_on(
-        width,
-        start,
-        first,
-        commands.cursor(),
-        commands,
-        stack,
-        probes,
-    )
-}
-
-/// How far the reading of a document in flat mode came: to an answer, or to its end. Then it read so many nodes that are no texts.
-#[derive(Clone, Copy)]
-pub enum Flat {
-    Answer(bool),
-    Read(u64),
-}
-
-// Reads a document flat, up to its end. The nodes of its texts are kept.
-#[tactic(auto, using(crate::proofs::Sizes::size_positive))]
-fn read_flat<N: Walk>(
-    width: usize,
-    line: &mut Line,
-    indent: usize,
-    node: N,
-    stack: &mut Stack<N>,
-    texts: &mut Vec<N>,
-    probes: &mut u64,
-) -> Result<Flat, AllocError>
-    ensures answer { IfOk result (λ r. (ts : List Task) → FlatReads r
-        (tasks_fit width (make_task indent FlatMode (N.tree node) ∷ ts) line.old.column line.old.pending)
-        (tasks_fit width ts line.new.column line.new.pending)) }
-    ensures texts { IfOk result (λ r. line.new.plain ≡ true → IsRead r (N.tree node) (map N.tree texts.new.items)) }
-    ensures rises { probes.old ≤ probes.new }
-    ensures counted { probes.new ≤ probes.old + size (N.tree node) }
-    ensures asked { OnOk result (RisesBy 1 probes.old probes.new) }
-{
-    stack.clear();
-    texts.clear();
-    line.plain = true;
-    let mut silent = 0;
-    let mut indent = indent;
-    let mut mode = Mode::Flat;
-    let mut node = node;
-    'read: loop {
-        *probes = one_more(*probes);
-        match probe_one(width, line, indent, mode, node, stack)? {
-            Read::Answer(answer) => return Ok(Flat::Answer(answer)),
-            Read::Next(next_indent, next_mode, next) => {
-                silent = one_more(silent);
-                indent = next_indent;
-                mode = next_mode;
-                node = next;
-                continue 'read;
-            }
-            Read::Told => texts.push(node)?,
-            Read::Done => silent = one_more(silent),
-        }
-        let Some(next) = stack.pop() else {
-            return Ok(Flat::Read(silent));
-        };
-        indent = next.indent;
-        mode = next.mode;
-        node = next.node;
-    }
-}
-
-/// Whether a group fits flat: not at all; or so that it is walked, or that its texts are laid one after another. Then it has so many
-/// nodes that are no texts.
-#[derive(Clone, Copy)]
-pub enum Fit {
-    No,
-    Walked,
-    Texts(u64),
-}
-
-// Whether what follows stays within the width from where a line is, up to the first line end.
-fn rest_stays<N: Walk>(
-    width: usize,
-    line: Line,
-    commands: &Stack<N>,
-    stack: &mut Stack<N>,
-    probes: &mut u64,
-) -> Result<bool, AllocError>
-    ensures answer { IfOk result (λ r. r ≡ rest_fits width (follow (stack_of N.tree commands.now)) line.column line.pending) }
-    ensures rises { probes.old ≤ probes.new }
-    ensures counted { probes.new ≤ probes.old + nodes (stack_of N.tree commands.now) }
-{
-    stack.clear();
-    let mut below = commands.cursor();
-    let Some(next) = commands.read_down(&mut below) else {
-        return Ok(line.column.padding_fits(width, line.pending));
-    };
-    let first = Command {
-        indent: next.indent,
-        mode: Mode::Break,
-        node: next.node,
-    };
-    read_on(width, line, first, below, commands, stack, probes)
-}
-
-/// Whether a document, laid flat from where the line is, stays within the width together with what follows it, up to the first
-/// line end. `stack` is only a place to work in. Where it fits and is laid the same wherever it stands, `texts` has its texts in the
-/// end. The nodes that are visited are counted in `probes`: one at least.
-pub fn probe_flat<N: Walk>(
-    width: usize,
-    start: Line,
-    indent: usize,
-    node: N,
-    commands: &Stack<N>,
-    stack: &mut Stack<N>,
-    texts: &mut Vec<N>,
-    probes: &mut u64,
-) -> Result<Fit, AllocError>
-    ensures answer { IfOk result
-        (λ r. is_fit r ≡ answer_of (look width (N.tree node) indent FlatMode start.column start.pending)
-        (λ c p. rest_fits width (follow (stack_of N.tree commands.now)) c p)) }
-    ensures texts { IfOk result (λ r. IsTold r (N.tree node) (map N.tree texts.new.items)) }
-    ensures rises { probes.old ≤ probes.new }
-    ensures counted { probes.new ≤ probes.old + (size (N.tree node) + nodes (stack_of N.tree commands.now)) }
-    ensures asked { OnOk result (RisesBy 1 probes.old probes.new) }
-{
-    let mut line = start;
-    match read_flat(width, &mut line, indent, node, stack, texts, probes)? {
-        Flat::Answer(true) => Ok(Fit::Walked),
-        Flat::Answer(false) => Ok(Fit::No),
-        Flat::Read(silent) => {
-            if !rest_stays(width, line, commands, stack, probes)? {
-                return Ok(Fit::No);
-            }
-            Ok(if line.plain {
-                Fit::Texts(silent)
-            } else {
-                Fit::Walked
-            })
         }
     }
 }

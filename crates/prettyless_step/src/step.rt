@@ -1,5 +1,5 @@
 //! What the visit of one node does.
-ghost use Rattle.std.specs.Prelude.{◌≡◌, ◌++◌, ◌+◌, ◌∷◌, ◌≤◌, ◌&&◌, [], map, true, IfOk, OnOk, if◌then◌else◌};
+ghost use Rattle.std.specs.Prelude.{◌≡◌, ◌++◌, ◌+◌, ◌∷◌, ◌≤◌, ◌&&◌, [], true, IfOk, OnOk, if◌then◌else◌};
 ghost use Rattle.prettyless_model.specs.Tree.{size};
 ghost use Rattle.prettyless_model.specs.Look.{by_mode};
 ghost use Rattle.prettyless_model.specs.Counts.{each_probe};
@@ -9,15 +9,14 @@ ghost use Rattle.prettyless_step.specs.Stack.{make_task, nodes};
 ghost use Rattle.prettyless_step.specs.Steps.{Move, at_once, break_step, counted_payload, decided_by_metrics, is_rejected, rejects_payload, step_of, union_step};
 ghost use Rattle.prettyless_step.specs.Piece.{piece_bytes};
 ghost use Rattle.prettyless_step.specs.Printing.{Shows, Writes, following, state_of, tasks_of};
-ghost use Rattle.prettyless_step.specs.FlatTexts.{IsTold, is_fit};
 ghost use Rattle.prettyless_step.specs.Probing.{RisesBy, asked};
 
-use crate::command::{Command, nested_indent};
+use crate::command::nested_indent;
 use crate::content::{payload_fits, put_payload, put_text};
 use crate::pending::{is_pending, take_pending};
 use crate::piece::Piece;
 use crate::printer::{Printer, Taken};
-use crate::probe::{Fit, Line, chosen, either, probe, probe_flat};
+use crate::probe::{Line, chosen, either, probe};
 use crate::walk::{View, Walk};
 use prettyless_model::column::Column;
 use prettyless_model::mode::Mode;
@@ -43,46 +42,15 @@ fn probe_here<N: Walk>(
     let start = Line {
         column: printer.column,
         pending: is_pending(printer),
-        plain: true,
     };
     probe(
         printer.options.width,
         start,
-        Command { indent, mode, node },
-        &printer.commands,
-        &mut printer.scratch,
-        probes,
-    )
-}
-
-// Whether a group's document fits flat, with the printer's commands following it, and what its texts are.
-fn probe_group<N: Walk>(
-    printer: &mut Printer<N>,
-    node: N,
-    indent: usize,
-    probes: &mut u64,
-) -> Result<Fit, AllocError>
-    ensures answer { IfOk result (λ r. is_fit r ≡ probe_of printer.old.options (N.tree node) indent Flat
-        (following N.tree printer.old) (state_of N.tree printer.old)) }
-    ensures texts { IfOk result (λ r. IsTold r (N.tree node) (map N.tree printer.new.texts.items)) }
-    ensures others { printer.new ≡ record printer.old { scratch = printer.new.scratch; texts = printer.new.texts } }
-    ensures rises { probes.old ≤ probes.new }
-    ensures counted { probes.new ≤ probes.old + (size (N.tree node) + nodes (tasks_of N.tree printer.old)) }
-    ensures asked { OnOk result (RisesBy 1 probes.old probes.new) }
-{
-    let start = Line {
-        column: printer.column,
-        pending: is_pending(printer),
-        plain: true,
-    };
-    probe_flat(
-        printer.options.width,
-        start,
-        indent,
         node,
+        indent,
+        mode,
         &printer.commands,
         &mut printer.scratch,
-        &mut printer.texts,
         probes,
     )
 }
@@ -222,10 +190,8 @@ fn group<N: Walk>(
     ensures asked { OnOk result (RisesBy (by_mode mode 1 0) probes.old probes.new) }
 {
     if let Mode::Break = mode {
-        match probe_group(printer, inner, indent, probes)? {
-            Fit::No => return Ok(Taken::Next(indent, inner)),
-            Fit::Texts(silent) => return Ok(Taken::Texts(indent, inner, silent)),
-            Fit::Walked => {}
+        if !probe_here(printer, inner, indent, Mode::Flat, probes)? {
+            return Ok(Taken::Next(indent, inner));
         }
     }
     Ok(Taken::NextFlat(indent, inner))

@@ -19,8 +19,8 @@ returns-in-Ok g c =
     let d = f c.args.node in
     let new = c.run_to_end.new.out in
     let q = c.run_to_end.new.printer in
-    let p = record q { options = c.args.options; column = c.start.result; within = true; commands = c.push.new.self; scratch = c.new-2.result; texts = c.new-3.result; queue = c.new-4.result } in
-    let n : trees f (drop c.new-4.result.start c.new-4.result.nodes.items) ≡ [] = ap (λ x. trees f (drop c.new-4.result.start x)) c.new-4.ensures ∙ trees_none f [] c.new-4.result.start (omega arith) in
+    let p = record q { options = c.args.options; column = c.start.result; within = true; commands = c.push.new.self; scratch = c.new-2.result; queue = c.new-3.result } in
+    let n : trees f (drop c.new-3.result.start c.new-3.result.nodes.items) ≡ [] = ap (λ x. trees f (drop c.new-3.result.start x)) c.new-3.ensures ∙ trees_none f [] c.new-3.result.start (omega arith) in
     let s : state_of f p ≡ initial = λ j. record { column = c.start.ensures j; pending = n j; within = true } in
     let e : tasks_of f p ≡ make_task 0 Break d ∷ [] = c.in-Ok.ensures ∙ ap (λ x. make_task 0 Break d ∷ x) c.new.ensures in
     record {

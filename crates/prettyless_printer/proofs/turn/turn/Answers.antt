@@ -1,14 +1,12 @@
-use Rattle.std.proofs.Common.{◌∙◌, map, [], length, ap, append-nil, arith, refl, sym}
+use Rattle.std.proofs.Common.{[], length, ap, append-nil, arith, refl, sym}
 use Rattle.prettyless_sink.specs.Sink.{known}
 use Rattle.prettyless_model.specs.declared.mode.Mode.TheVariants.{Flat}
 use Rattle.prettyless_step.specs.Stack.{task}
 use Rattle.prettyless_step.specs.Piece.{piece_bytes}
 use Rattle.prettyless_step.specs.declared.printer.Taken.TheVariants as taken
 use Rattle.prettyless_printer.specs.Points.{point, seen}
-use Rattle.prettyless_printer.proofs.Hands.{goes_down, goes_less, in_hand, shown, visit}
+use Rattle.prettyless_printer.proofs.Hands.{goes_down, in_hand, shown, visit}
 use Rattle.prettyless_printer.proofs.Advancing.{advances_chosen, advances_failed, advances_refused, advances_sink_failed, advances_went}
-use Rattle.prettyless_step.specs.Printing.{state_of}
-use Rattle.prettyless_printer.proofs.FlatTexts.{advances_texts, hand_refused}
 use Rattle.prettyless_printer.proofs.turn.turn.Goals as goal
 
 pub unreachable-requires : goal.unreachable-requires
@@ -69,8 +67,8 @@ returns-in-Ok-Chosen g c =
     advances_chosen f q x c.in-Ok-Chosen.indent c.in-Ok-Chosen.first c.in-Ok-Chosen.second hand one c.in-Ok-Chosen.ensures.asked
     (shown f q c.in-Ok-Chosen.field-0 (taken.Chosen c.in-Ok-Chosen.indent c.in-Ok-Chosen.first c.in-Ok-Chosen.second) hand c.in-Ok-Chosen.field-0-is c.in-Ok-Chosen.ensures.step)
 
-pub returns-in-Ok-write_piece : goal.returns-in-Ok-write_piece
-returns-in-Ok-write_piece g c =
+pub returns-in-Ok : goal.returns-in-Ok
+returns-in-Ok g c =
     let f = g.N.Walk.tree in
     let see = seen g.W.Render.bytes g.W.Render.failures g.W.Render.lender in
     let q = c.step.new.printer in
@@ -78,7 +76,7 @@ returns-in-Ok-write_piece g c =
     let hand = c.down.invariant in
     let one = visit f x c.one_more-visits.result hand c.one_more-visits.ensures.one c.one_more-visits.ensures.rises c.step.ensures.printer c.step.ensures.rises c.step.ensures.counted in
     advances_went f q (see c.write_piece.new.out) x (piece_bytes c.in-Ok-Written.piece) hand one c.in-Ok-Written.ensures.asked (shown f q c.in-Ok-Written.field-0 (taken.Written c.in-Ok-Written.piece) hand c.in-Ok-Written.field-0-is c.in-Ok-Written.ensures.step)
-    c.write_piece.ensures.same_lender c.in-Ok-write_piece.ensures.ok
+    c.write_piece.ensures.same_lender c.in-Ok.ensures.ok
 
 pub returns-in-Err : goal.returns-in-Err
 returns-in-Err g c =
@@ -99,39 +97,3 @@ returns-in-Err-write_piece g c =
     let one = visit f x c.one_more-visits.result hand c.one_more-visits.ensures.one c.one_more-visits.ensures.rises c.step.ensures.printer c.step.ensures.rises c.step.ensures.counted in
     advances_sink_failed f q (see c.write_piece.new.out) x (piece_bytes c.in-Ok-Written.piece) c.in-Err-write_piece.e hand one (shown f q c.in-Ok-Written.field-0 (taken.Written c.in-Ok-Written.piece) hand c.in-Ok-Written.field-0-is c.in-Ok-Written.ensures.step)
     c.write_piece.ensures.same_lender c.in-Err-write_piece.ensures.err
-
--- its texts come in place of a document
-pub returns-in-Ok : goal.returns-in-Ok
-returns-in-Ok g c =
-    let f = g.N.Walk.tree in
-    let p = c.step.new.printer in
-    let q = c.lay_texts.new.printer in
-    let x = c.step.new.visits in
-    let y = c.lay_texts.new.visits in
-    let hand = c.down.invariant in
-    let one = visit f x c.one_more-visits.result hand c.one_more-visits.ensures.one c.one_more-visits.ensures.rises c.step.ensures.printer c.step.ensures.rises c.step.ensures.counted in
-    let i = c.in-Ok-Texts.texts_indent in
-    let n = c.in-Ok-Texts.inner in
-    let told = shown f p c.in-Ok-Texts.field-0 (taken.Texts i n c.in-Ok-Texts.silent) hand c.in-Ok-Texts.field-0-is c.in-Ok-Texts.ensures.step in
-    let down = goes_down f p _ x i Flat n hand refl one c.in-Ok-Texts.ensures.asked told.0 in
-    let others = c.lay_texts.ensures.others in
-    let sum = c.in-Ok.ensures.printer in
-    advances_texts f i (f n) (map f p.texts.items) q y down (goes_less f p i Flat n hand told.0) told.1 c.in-Ok.ensures.tasks (ap (λ z. state_of f z) others) (ap (λ z. z.options) others)
-    ([], ap (λ z. z.queue.nodes.items) others ∙ sym (append-nil p.queue.nodes.items)) (omega (arith, hand.rise.printer, one.least)) c.lay_texts.ensures.rises (omega (arith, sum, told.2)) (omega (arith, sum, told.2)) c.lay_texts.ensures.probes
-
-pub returns-in-Err-lay_texts : goal.returns-in-Err-lay_texts
-returns-in-Err-lay_texts g c =
-    let f = g.N.Walk.tree in
-    let p = c.step.new.printer in
-    let q = c.lay_texts.new.printer in
-    let x = c.step.new.visits in
-    let y = c.lay_texts.new.visits in
-    let hand = c.down.invariant in
-    let one = visit f x c.one_more-visits.result hand c.one_more-visits.ensures.one c.one_more-visits.ensures.rises c.step.ensures.printer c.step.ensures.rises c.step.ensures.counted in
-    let i = c.in-Ok-Texts.texts_indent in
-    let n = c.in-Ok-Texts.inner in
-    let told = shown f p c.in-Ok-Texts.field-0 (taken.Texts i n c.in-Ok-Texts.silent) hand c.in-Ok-Texts.field-0-is c.in-Ok-Texts.ensures.step in
-    let down = goes_down f p _ x i Flat n hand refl one c.in-Ok-Texts.ensures.asked told.0 in
-    let refused = c.in-Err-lay_texts.ensures.refused in
-    let probes = c.lay_texts.ensures.probes in
-    hand_refused f q y c.in-Err-lay_texts.e down (omega (arith, hand.rise.printer, one.least)) (λ j. record { printer = refused j; probes = probes j })
