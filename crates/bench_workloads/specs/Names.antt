@@ -59,6 +59,5 @@ beyond size reason = if nat_lt 10000 size then Some reason else None
 
 -- why it is not timed at a size, if so
 abbrev pub obstacle_of : Workload → ℕ → Option (List ℕ)
-obstacle_of w.BareGroups size = beyond size (codes "its probes are quadratic")
 obstacle_of w.TailGroups size = beyond size (codes "its probes are quadratic")
 obstacle_of _ size = None

@@ -124,9 +124,7 @@ impl Workload {
         ensures { option_copied result ≡ names.obstacle_of self size }
     {
         match self {
-            Workload::BareGroups | Workload::TailGroups if size > 10_000 => {
-                Some("its probes are quadratic")
-            }
+            Workload::TailGroups if size > 10_000 => Some("its probes are quadratic"),
             _ => None,
         }
     }

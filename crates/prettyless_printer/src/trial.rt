@@ -1,5 +1,5 @@
 //! Trials: a union's first branch is printed, and kept or taken back.
-ghost use Rattle.std.specs.Prelude.{◌≡◌, ◌≤◌, take, vec_len};
+ghost use Rattle.std.specs.Prelude.{◌≡◌, ◌≤◌, [], take, vec_len};
 ghost use Rattle.std.specs.String.{string_bytes};
 ghost use Rattle.std.specs.String.Boundary.{IsSplitPoint};
 ghost use Rattle.prettyless_printer.specs.Points.{buffer_seen, point};
@@ -47,7 +47,10 @@ pub struct Trials<N> {
 
 impl<N: Walk> Trials<N> {
     /// None is open. It takes no memory.
-    pub fn new(alloc: Global) -> Self {
+    pub fn new(alloc: Global) -> Self
+        ensures text { string_bytes result.buffer.text ≡ [] }
+        ensures inner { result.inner.items ≡ [] }
+    {
         Trials {
             buffer: Buffer::new(alloc),
             inner: Vec::new(alloc),

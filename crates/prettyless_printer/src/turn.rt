@@ -33,18 +33,26 @@ pub fn turn<N: Walk, W: Render>(
     let mut indent = command.indent;
     let mut mode = command.mode;
     let mut node = command.node;
+    let mut is_past = false;
     'down: loop {
         visits.printer = one_more(visits.printer);
-        match step(printer, indent, mode, &node, visits) {
+        match step(printer, indent, mode, &node, is_past, visits) {
             Err(e) => return Err(RenderError::Memory(e)),
             Ok(Taken::Next(next_indent, next)) => {
                 indent = next_indent;
                 node = next;
+                is_past = false;
+            }
+            Ok(Taken::NextPast(next_indent, next)) => {
+                indent = next_indent;
+                node = next;
+                is_past = true;
             }
             Ok(Taken::NextFlat(next_indent, next)) => {
                 indent = next_indent;
                 mode = Mode::Flat;
                 node = next;
+                is_past = false;
             }
             Ok(Taken::Quiet) => return Ok(Turn::Went),
             Ok(Taken::Failed) => return Ok(Turn::Failed),

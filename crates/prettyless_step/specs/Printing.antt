@@ -1,7 +1,7 @@
 -- The printer's state as the definitions see it, and what a step of the code shows of the step that is defined.
-use Rattle.std.specs.Prelude.{◌≡◌, ℕ, List, [], ◌∷◌, ◌++◌, drop}
+use Rattle.std.specs.Prelude.{◌≡◌, ℕ, List, [], ◌∷◌, ◌++◌, drop, false}
 use Rattle.prettyless_model.specs.Tree.{Tree}
-use Rattle.prettyless_model.specs.Layout.{State, Entry}
+use Rattle.prettyless_model.specs.Layout.{State, Entry, probe}
 use Rattle.prettyless_model.specs.declared.mode.Mode.{Mode}
 use Rattle.prettyless_model.specs.declared.mode.Mode.TheVariants.{Flat}
 use Rattle.prettyless_step.specs.Stack.{Task, make_task, follow, stack_of, trees}
@@ -9,7 +9,7 @@ use Rattle.prettyless_step.specs.Steps.{Step, Move, Stuck, Choose}
 use Rattle.prettyless_step.specs.Piece.{piece_bytes}
 use Rattle.prettyless_step.specs.declared.printer.Printer.{Printer}
 use Rattle.prettyless_step.specs.declared.printer.Taken.{Taken}
-use Rattle.prettyless_step.specs.declared.printer.Taken.TheVariants.{Quiet, Next, NextFlat, Written, Failed, Chosen}
+use Rattle.prettyless_step.specs.declared.printer.Taken.TheVariants.{Quiet, Next, NextFlat, NextPast, Written, Failed, Chosen}
 
 -- the tasks that the printer has still to lay, the next one first
 abbrev pub tasks_of : {N : Type 0} → (N → Tree) → Printer N → List Task
@@ -22,6 +22,10 @@ following f p = follow (tasks_of f p)
 -- the state between two nodes: the pending documents are those of the queue from its start on
 abbrev pub state_of : {N : Type 0} → (N → Tree) → Printer N → State
 state_of f p = record { column = p.column; pending = trees f (drop p.queue.start p.queue.nodes.items); within = p.within }
+
+-- laid flat at an indent, with the printer's commands following it, a tree does not fit the line
+abbrev pub IsPast : {N : Type 0} → (N → Tree) → ℕ → Tree → Printer N → Type 0
+IsPast f i d p = probe p.options d i Flat (following f p) (state_of f p) ≡ false
 
 -- the queue only grows
 abbrev pub Grows : {N : Type 0} → Printer N → Printer N → Type 0
@@ -47,6 +51,7 @@ abbrev pub Shows : {N : Type 0} → (N → Tree) → Mode → Taken N → Step �
 Shows f m Quiet step p q = Writes f [] step p q
 Shows f m (Next i n) step p q = Hands f i m n step p q
 Shows f m (NextFlat i n) step p q = Hands f i Flat n step p q
+Shows f m (NextPast i n) step p q = Hands f i m n step p q × IsPast f i (f n) q
 Shows f m (Written piece) step p q = Writes f (piece_bytes piece) step p q
 Shows f m Failed Stuck p q = q ≡ p
 Shows f m (Chosen i l r) (Choose j x y) p q = (i ≡ j) × (f l ≡ x) × (f r ≡ y) × (q ≡ p)

@@ -27,6 +27,8 @@ pub enum Taken<'v, N> {
     Quiet,
     Next(usize, N),
     NextFlat(usize, N),
+    /// A node that does not fit its line when it is laid flat.
+    NextPast(usize, N),
     Written(Piece<'v>),
     Failed,
     Chosen(usize, N, N),

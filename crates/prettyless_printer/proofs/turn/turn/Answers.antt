@@ -16,26 +16,48 @@ unreachable-requires g c =
 pub down-init : goal.down-init
 down-init g c =
     let p = c.args.printer.now in
-    in_hand g.N.Walk.tree (point p (seen g.W.Render.bytes g.W.Render.failures g.W.Render.lender c.args.out.now) c.args.visits.now) (record p { commands = c.pop.new.self })
-    (task g.N.Walk.tree c.in-Some.command) c.in-Some.ensures refl refl ([], sym (append-nil p.queue.nodes.items))
+    record {
+      hand = in_hand g.N.Walk.tree (point p (seen g.W.Render.bytes g.W.Render.failures g.W.Render.lender c.args.out.now) c.args.visits.now) (record p { commands = c.pop.new.self })
+          (task g.N.Walk.tree c.in-Some.command) c.in-Some.ensures refl refl ([], sym (append-nil p.queue.nodes.items));
+      past = λ h. absurd (cc);
+    }
 
 pub down-preserved-in-Ok-Next : goal.down-preserved-in-Ok-Next
 down-preserved-in-Ok-Next g c =
     let f = g.N.Walk.tree in
     let q = c.step.new.printer in
     let x = c.step.new.visits in
-    let hand = c.down.invariant in
+    let hand = c.down.invariant.hand in
     let one = visit f x c.one_more-visits.result hand c.one_more-visits.ensures.one c.one_more-visits.ensures.rises c.step.ensures.printer c.step.ensures.rises c.step.ensures.counted in
-    goes_down f q _ x c.in-Ok-Next.next_indent c.down.mode c.in-Ok-Next.next hand refl one c.in-Ok-Next.ensures.asked (shown f q c.in-Ok-Next.field-0 (taken.Next c.in-Ok-Next.next_indent c.in-Ok-Next.next) hand c.in-Ok-Next.field-0-is c.in-Ok-Next.ensures.step)
+    record {
+      hand = goes_down f q _ x c.in-Ok-Next.next_indent c.down.mode c.in-Ok-Next.next hand refl one c.in-Ok-Next.ensures.asked (shown f q c.in-Ok-Next.field-0 (taken.Next c.in-Ok-Next.next_indent c.in-Ok-Next.next) hand c.in-Ok-Next.field-0-is c.in-Ok-Next.ensures.step);
+      past = λ h. absurd (cc);
+    }
+
+pub down-preserved-in-Ok-NextPast : goal.down-preserved-in-Ok-NextPast
+down-preserved-in-Ok-NextPast g c =
+    let f = g.N.Walk.tree in
+    let q = c.step.new.printer in
+    let x = c.step.new.visits in
+    let hand = c.down.invariant.hand in
+    let one = visit f x c.one_more-visits.result hand c.one_more-visits.ensures.one c.one_more-visits.ensures.rises c.step.ensures.printer c.step.ensures.rises c.step.ensures.counted in
+    let told = shown f q c.in-Ok-NextPast.field-0 (taken.NextPast c.in-Ok-NextPast.next_indent c.in-Ok-NextPast.next) hand c.in-Ok-NextPast.field-0-is c.in-Ok-NextPast.ensures.step in
+    record {
+      hand = goes_down f q _ x c.in-Ok-NextPast.next_indent c.down.mode c.in-Ok-NextPast.next hand refl one c.in-Ok-NextPast.ensures.asked told.0;
+      past = λ _. told.1;
+    }
 
 pub down-preserved : goal.down-preserved
 down-preserved g c =
     let f = g.N.Walk.tree in
     let q = c.step.new.printer in
     let x = c.step.new.visits in
-    let hand = c.down.invariant in
+    let hand = c.down.invariant.hand in
     let one = visit f x c.one_more-visits.result hand c.one_more-visits.ensures.one c.one_more-visits.ensures.rises c.step.ensures.printer c.step.ensures.rises c.step.ensures.counted in
-    goes_down f q _ x c.in-Ok-NextFlat.next_indent Flat c.in-Ok-NextFlat.next hand refl one c.in-Ok-NextFlat.ensures.asked (shown f q c.in-Ok-NextFlat.field-0 (taken.NextFlat c.in-Ok-NextFlat.next_indent c.in-Ok-NextFlat.next) hand c.in-Ok-NextFlat.field-0-is c.in-Ok-NextFlat.ensures.step)
+    record {
+      hand = goes_down f q _ x c.in-Ok-NextFlat.next_indent Flat c.in-Ok-NextFlat.next hand refl one c.in-Ok-NextFlat.ensures.asked (shown f q c.in-Ok-NextFlat.field-0 (taken.NextFlat c.in-Ok-NextFlat.next_indent c.in-Ok-NextFlat.next) hand c.in-Ok-NextFlat.field-0-is c.in-Ok-NextFlat.ensures.step);
+      past = λ h. absurd (cc);
+    }
 
 pub returns-in-Ok-Quiet : goal.returns-in-Ok-Quiet
 returns-in-Ok-Quiet g c =
@@ -43,7 +65,7 @@ returns-in-Ok-Quiet g c =
     let see = seen g.W.Render.bytes g.W.Render.failures g.W.Render.lender in
     let q = c.step.new.printer in
     let x = c.step.new.visits in
-    let hand = c.down.invariant in
+    let hand = c.down.invariant.hand in
     let one = visit f x c.one_more-visits.result hand c.one_more-visits.ensures.one c.one_more-visits.ensures.rises c.step.ensures.printer c.step.ensures.rises c.step.ensures.counted in
     advances_went f q (see c.down.out) x [] hand one c.in-Ok-Quiet.ensures.asked (shown f q c.in-Ok-Quiet.field-0 taken.Quiet hand c.in-Ok-Quiet.field-0-is c.in-Ok-Quiet.ensures.step) refl
     (λ is_known. (is_known, (sym (append-nil (known (g.W.Render.bytes c.down.out))), refl)))
@@ -53,7 +75,7 @@ returns-in-Ok-Failed g c =
     let f = g.N.Walk.tree in
     let q = c.step.new.printer in
     let x = c.step.new.visits in
-    let hand = c.down.invariant in
+    let hand = c.down.invariant.hand in
     let one = visit f x c.one_more-visits.result hand c.one_more-visits.ensures.one c.one_more-visits.ensures.rises c.step.ensures.printer c.step.ensures.rises c.step.ensures.counted in
     advances_failed f q x hand one (shown f q c.in-Ok-Failed.field-0 taken.Failed hand c.in-Ok-Failed.field-0-is c.in-Ok-Failed.ensures.step)
 
@@ -62,7 +84,7 @@ returns-in-Ok-Chosen g c =
     let f = g.N.Walk.tree in
     let q = c.step.new.printer in
     let x = c.step.new.visits in
-    let hand = c.down.invariant in
+    let hand = c.down.invariant.hand in
     let one = visit f x c.one_more-visits.result hand c.one_more-visits.ensures.one c.one_more-visits.ensures.rises c.step.ensures.printer c.step.ensures.rises c.step.ensures.counted in
     advances_chosen f q x c.in-Ok-Chosen.indent c.in-Ok-Chosen.first c.in-Ok-Chosen.second hand one c.in-Ok-Chosen.ensures.asked
     (shown f q c.in-Ok-Chosen.field-0 (taken.Chosen c.in-Ok-Chosen.indent c.in-Ok-Chosen.first c.in-Ok-Chosen.second) hand c.in-Ok-Chosen.field-0-is c.in-Ok-Chosen.ensures.step)
@@ -73,7 +95,7 @@ returns-in-Ok g c =
     let see = seen g.W.Render.bytes g.W.Render.failures g.W.Render.lender in
     let q = c.step.new.printer in
     let x = c.step.new.visits in
-    let hand = c.down.invariant in
+    let hand = c.down.invariant.hand in
     let one = visit f x c.one_more-visits.result hand c.one_more-visits.ensures.one c.one_more-visits.ensures.rises c.step.ensures.printer c.step.ensures.rises c.step.ensures.counted in
     advances_went f q (see c.write_piece.new.out) x (piece_bytes c.in-Ok-Written.piece) hand one c.in-Ok-Written.ensures.asked (shown f q c.in-Ok-Written.field-0 (taken.Written c.in-Ok-Written.piece) hand c.in-Ok-Written.field-0-is c.in-Ok-Written.ensures.step)
     c.write_piece.ensures.same_lender c.in-Ok.ensures.ok
@@ -83,7 +105,7 @@ returns-in-Err g c =
     let f = g.N.Walk.tree in
     let q = c.step.new.printer in
     let x = c.step.new.visits in
-    let hand = c.down.invariant in
+    let hand = c.down.invariant.hand in
     let one = visit f x c.one_more-visits.result hand c.one_more-visits.ensures.one c.one_more-visits.ensures.rises c.step.ensures.printer c.step.ensures.rises c.step.ensures.counted in
     advances_refused f q x c.in-Err.e hand one
 
@@ -93,7 +115,7 @@ returns-in-Err-write_piece g c =
     let see = seen g.W.Render.bytes g.W.Render.failures g.W.Render.lender in
     let q = c.step.new.printer in
     let x = c.step.new.visits in
-    let hand = c.down.invariant in
+    let hand = c.down.invariant.hand in
     let one = visit f x c.one_more-visits.result hand c.one_more-visits.ensures.one c.one_more-visits.ensures.rises c.step.ensures.printer c.step.ensures.rises c.step.ensures.counted in
     advances_sink_failed f q (see c.write_piece.new.out) x (piece_bytes c.in-Ok-Written.piece) c.in-Err-write_piece.e hand one (shown f q c.in-Ok-Written.field-0 (taken.Written c.in-Ok-Written.piece) hand c.in-Ok-Written.field-0-is c.in-Ok-Written.ensures.step)
     c.write_piece.ensures.same_lender c.in-Err-write_piece.ensures.err

@@ -1,7 +1,8 @@
 use Rattle.std.proofs.Common.{◌∷◌}
+use Rattle.std.specs.Prelude.{IsTrue}
 use Rattle.prettyless_step.specs.Stack.{make_task}
 use Rattle.prettyless_step.specs.Steps.{work}
-use Rattle.prettyless_step.specs.Printing.{state_of, tasks_of}
+use Rattle.prettyless_step.specs.Printing.{IsPast, state_of, tasks_of}
 use Rattle.prettyless_printer.specs.Points.{point, seen}
 use Rattle.prettyless_printer.proofs.Hands.{InHand}
 use Rattle.prettyless_printer.proofs.turn.turn.Given as goal
@@ -10,7 +11,10 @@ abbrev pub invariant-down : goal.invariant-down
 invariant-down g l =
     let f = g.N.Walk.tree in
     let sink = seen g.W.Render.bytes g.W.Render.failures g.W.Render.lender in
-    InHand f (point l.fn.printer (sink l.fn.out) l.fn.visits) (make_task l.indent l.mode (f l.node)) (point l.printer (sink l.out) l.visits)
+    record {
+      hand : InHand f (point l.fn.printer (sink l.fn.out) l.fn.visits) (make_task l.indent l.mode (f l.node)) (point l.printer (sink l.out) l.visits);
+      past : IsTrue l.is_past → IsPast f l.indent (f l.node) l.printer;
+    }
 
 abbrev pub decreases-down : goal.decreases-down
 decreases-down g l =
