@@ -108,39 +108,3 @@ pub fn measure(source: &str) -> Metrics
     }
     metrics
 }
-
-#[cfg(test)]
-mod tests {
-    use super::*;
-
-    #[test]
-    fn measures_each_part(rt: HostRuntime) {
-        let metrics = measure("a\r\n\nb\n");
-        assert!(rt; metrics.first_width == 1);
-        assert!(rt; metrics.first_nonempty);
-        assert!(rt; metrics.rest_width == 1);
-        assert!(rt; metrics.last_width == 0);
-        assert!(rt; !metrics.last_nonempty);
-    }
-
-    #[test]
-    fn parts_stand_between_break_bytes(rt: HostRuntime) {
-        let mut rest = Some("a\r\n\nb\n");
-        for width in [1, 0, 0, 1, 0] {
-            let (part, after) = split_part(rest.unwrap_or("no part"));
-            assert!(rt; part.width == width);
-            assert!(rt; part.nonempty == (width > 0));
-            rest = after;
-        }
-        assert!(rt; rest.is_none());
-    }
-
-    #[test]
-    fn measures_columns(rt: HostRuntime) {
-        let metrics = measure("\u{4f60}\u{597d}\nabc\n\u{e9}");
-        assert!(rt; metrics.first_width == 4);
-        assert!(rt; metrics.rest_width == 3);
-        assert!(rt; metrics.last_width == 1);
-        assert!(rt; metrics.last_nonempty);
-    }
-}
