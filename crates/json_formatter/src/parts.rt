@@ -42,31 +42,17 @@ pub(crate) fn joined<'a, D: DocPlace<'a>>(
         .into_doc()
 }
 
-/// A document with a comma after it.
-pub(crate) fn with_comma<'a, D: DocPlace<'a>>(
-    place: &'a D,
-    front: D::Doc,
-) -> Result<D::Doc, BuildError>
-    ensures ok { IfOk result (λ p. D.Doc.tree p ≡ append (D.Doc.tree front) (text (44 ∷ []))) }
-    ensures err { IfErr result IsMemory }
-{
-    let comma: &'a str = ",";
-    let comma = Pretty::pretty(comma, place)?;
-    DocBuilder(place, BuildDoc::DocPtr(front))
-        .join(comma)?
-        .into_doc()
-}
-
 /// A document with a colon and a space after it.
 pub(crate) fn with_colon<'a, D: DocPlace<'a>>(
     place: &'a D,
     front: D::Doc,
+    colon: D::Doc,
 ) -> Result<D::Doc, BuildError>
+    requires { D.Doc.tree colon ≡ text (58 ∷ []) }
     ensures ok { IfOk result (λ p. D.Doc.tree p ≡ append (append (D.Doc.tree front) (text (58 ∷ []))) space) }
     ensures err { IfErr result IsMemory }
 {
-    let colon: &'a str = ":";
-    let colon = Pretty::pretty(colon, place)?;
+    let colon = DocBuilder(place, BuildDoc::DocPtr(colon));
     let front = DocBuilder(place, BuildDoc::DocPtr(front)).join(colon)?;
     front.join(place.space()?)?.into_doc()
 }
