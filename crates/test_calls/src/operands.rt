@@ -2,9 +2,7 @@
 use crate::expected::{becomes, built, shows};
 use bumpalo::Bump;
 use prettyless::prelude::*;
-use prettyless::{
-    Arena, BoxAllocator, BoxDoc, BuildDoc, Doc, DocBuilder, DocPtr, RcAllocator, docs,
-};
+use prettyless::{Arena, BoxAllocator, BuildDoc, Doc, DocBuilder, DocPtr, RcAllocator, docs};
 use std::process::Abort;
 
 fn line<'a, D: DocPlace<'a>>(rt: &impl Abort, place: &'a D) -> D::Doc {
@@ -83,11 +81,15 @@ fn boxes_are_documents(rt: HostRuntime) {
 
 // A builder takes the pointer as it is: the proof of a call that meets the bounds of `all` with counted owners is beyond the
 // prover's limits.
+fn pointed<'a, D: DocPlace<'a>>(rt: &impl Abort, place: &'a D) {
+    let line = BuildDoc::DocPtr(line(rt, place));
+    shows(rt, Ok(DocBuilder(place, line)), "WeakLine");
+}
+
 #[test]
 fn counted_nodes_are_documents(rt: HostRuntime) {
     let nodes = RcAllocator::new(rt.alloc());
-    let line = BuildDoc::DocPtr(line(&rt, &nodes));
-    shows(&rt, Ok(DocBuilder(&nodes, line)), "WeakLine");
+    pointed(&rt, &nodes);
 }
 
 #[test]
@@ -95,18 +97,6 @@ fn nodes_of_arenas_are_documents(rt: HostRuntime) {
     let bump = Bump::new(rt.alloc());
     let arena = Arena::new(rt.alloc(), &bump);
     all(&rt, &arena);
-}
-
-fn nodes<'a>(rt: &impl Abort, boxes: &'a BoxAllocator) {
-    becomes(rt, boxes, Doc::HardLine, "HardLine");
-    becomes(rt, boxes, BuildDoc::Doc(Doc::HardLine), "HardLine");
-    becomes(rt, boxes, DocBuilder::new(boxes, Doc::HardLine), "HardLine");
-}
-
-#[test]
-fn nodes_are_documents(rt: HostRuntime) {
-    let boxes = BoxAllocator::new(rt.alloc());
-    nodes(&rt, &boxes);
 }
 
 fn places<'a, D: DocPlace<'a>>(
@@ -131,40 +121,8 @@ fn others<'a, D: DocPlace<'a>>(rt: &impl Abort, place: &'a D) {
     );
 }
 
-fn placed<'a, D: DocPlace<'a>>(rt: &impl Abort, place: &'a D)
-where
-    BuildDoc<'a, D::Doc>: From<D::Doc>,
-{
-    let line = place
-        .alloc(Doc::HardLine)
-        .expect(rt, "a node was not placed");
-    places(rt, place, BuildDoc::from(line), "HardLine");
-}
-
 #[test]
-fn documents_of_others(rt: HostRuntime) {
+fn nodes_are_documents(rt: HostRuntime) {
     let boxes = BoxAllocator::new(rt.alloc());
     others(&rt, &boxes);
-    places(&rt, &boxes, BuildDoc::from(Some(Doc::HardLine)), "HardLine");
-    let none: Option<Doc<'_, BoxDoc<'_>>> = None;
-    places(&rt, &boxes, BuildDoc::from(none), "Nil");
-}
-
-#[test]
-fn documents_of_boxes(rt: HostRuntime) {
-    let boxes = BoxAllocator::new(rt.alloc());
-    placed(&rt, &boxes);
-}
-
-#[test]
-fn documents_of_counted_nodes(rt: HostRuntime) {
-    let nodes = RcAllocator::new(rt.alloc());
-    places(&rt, &nodes, BuildDoc::from(line(&rt, &nodes)), "WeakLine");
-}
-
-#[test]
-fn documents_of_nodes_of_arenas(rt: HostRuntime) {
-    let bump = Bump::new(rt.alloc());
-    let arena = Arena::new(rt.alloc(), &bump);
-    placed(&rt, &arena);
 }

@@ -1,7 +1,7 @@
 //! Documents that are chosen from.
 use crate::layouts::compare;
+use prettyless::ColumnTest;
 use prettyless::prelude::*;
-use prettyless::{BoxAllocator, ColumnTest};
 use std::process::Abort;
 use std::test::Fail;
 
@@ -75,17 +75,11 @@ fn commas_follow_what_is_near_the_margin<'a, D: DocPlace<'a>>(
     compare(rt, place, list, &[(6, "[a, b]"), (5, "[\n  a,\n  b,\n]")])
 }
 
-fn all<'a, D: DocPlace<'a>>(rt: &impl Abort, place: &'a D) -> Result<(), Fail> {
+pub(crate) fn all<'a, D: DocPlace<'a>>(rt: &impl Abort, place: &'a D) -> Result<(), Fail> {
     unions_look_at_all_lines(rt, place)?;
     partial_unions_look_at_the_first_line(rt, place)?;
     rejected_branches_leave_nothing(rt, place)?;
     failures_reject_their_branch(rt, place)?;
     values_hang_from_their_names(rt, place)?;
     commas_follow_what_is_near_the_margin(rt, place)
-}
-
-#[test]
-fn alternatives_of_the_guide(rt: HostRuntime) -> Result<(), Fail> {
-    let boxes = BoxAllocator::new(rt.alloc());
-    all(&rt, &boxes)
 }

@@ -5,22 +5,22 @@ use prettyless::{BoxAllocator, DocPtr, PrettyError, RenderError};
 use std::fmt;
 use std::test::Fail;
 
-fn show<'a, V: fmt::Display + Drop>(
-    boxes: &'a BoxAllocator,
+fn show<'a, D: DocPlace<'a>, V: fmt::Display + Drop>(
+    place: &'a D,
     value: V,
     out: &mut String,
 ) -> Result<(), PrettyError<fmt::Error>> {
-    let doc = boxes.as_string(value)?.into_doc()?;
-    doc.doc().render_fmt(boxes.memory(), 80, out)?;
+    let doc = place.as_string(value)?.into_doc()?;
+    doc.doc().render_fmt(place.memory(), 80, out)?;
     Ok(())
 }
 
-fn show_a_failure<'a>(
-    boxes: &'a BoxAllocator,
+fn show_a_failure<'a, D: DocPlace<'a>>(
+    place: &'a D,
     out: &mut String,
 ) -> Result<(), PrettyError<fmt::Error>> {
-    let doc = boxes.fail()?.into_doc()?;
-    doc.doc().render_fmt(boxes.memory(), 80, out)?;
+    let doc = place.fail()?.into_doc()?;
+    doc.doc().render_fmt(place.memory(), 80, out)?;
     Ok(())
 }
 

@@ -1,6 +1,5 @@
 //! Where lines begin.
 use crate::layouts::compare;
-use prettyless::BoxAllocator;
 use prettyless::prelude::*;
 use prettyless::text::CowStr;
 use std::process::Abort;
@@ -58,17 +57,11 @@ fn payloads_keep_their_lines<'a, D: DocPlace<'a>>(
     compare(rt, place, binding, &[(80, layout), (0, layout)])
 }
 
-fn all<'a, D: DocPlace<'a>>(rt: &impl Abort, place: &'a D) -> Result<(), Fail> {
+pub(crate) fn all<'a, D: DocPlace<'a>>(rt: &impl Abort, place: &'a D) -> Result<(), Fail> {
     nests_indent_lines(rt, place)?;
     dedents_move_to_the_left(rt, place)?;
     breaks_stand_inside_of_a_nest(rt, place)?;
     alignments_go_back_to_their_column(rt, place)?;
     dedents_go_to_the_root(rt, place)?;
     payloads_keep_their_lines(rt, place)
-}
-
-#[test]
-fn indents_of_the_guide(rt: HostRuntime) -> Result<(), Fail> {
-    let boxes = BoxAllocator::new(rt.alloc());
-    all(&rt, &boxes)
 }

@@ -4,6 +4,8 @@
 #[cfg(test)]
 mod alternatives;
 #[cfg(test)]
+mod chapters;
+#[cfg(test)]
 mod errors;
 #[cfg(test)]
 mod first;

@@ -1,7 +1,7 @@
 //! Spaces and lines that vanish, and what waits for the end of its line.
 use crate::layouts::{compare, compare_built};
+use prettyless::docs;
 use prettyless::prelude::*;
-use prettyless::{BoxAllocator, docs};
 use std::process::Abort;
 use std::test::Fail;
 
@@ -50,16 +50,10 @@ fn weak_spaces_stand_before_a_suffix<'a, D: DocPlace<'a>>(
     compare(rt, place, remark, &[(80, layout), (0, layout)])
 }
 
-fn all<'a, D: DocPlace<'a>>(rt: &impl Abort, place: &'a D) -> Result<(), Fail> {
+pub(crate) fn all<'a, D: DocPlace<'a>>(rt: &impl Abort, place: &'a D) -> Result<(), Fail> {
     weak_spaces_and_lines_vanish(rt, place)?;
     weak_lines_break_their_group(rt, place)?;
     suffixes_wait_for_the_end_of_their_line(rt, place)?;
     builders_become_suffixes(rt, place)?;
     weak_spaces_stand_before_a_suffix(rt, place)
-}
-
-#[test]
-fn line_ends_of_the_guide(rt: HostRuntime) -> Result<(), Fail> {
-    let boxes = BoxAllocator::new(rt.alloc());
-    all(&rt, &boxes)
 }

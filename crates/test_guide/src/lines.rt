@@ -1,6 +1,5 @@
 //! Texts, line breaks and groups.
 use crate::layouts::compare;
-use prettyless::BoxAllocator;
 use prettyless::prelude::*;
 use std::process::Abort;
 use std::test::Fail;
@@ -79,7 +78,7 @@ fn expanded_groups_break<'a, D: DocPlace<'a>>(rt: &impl Abort, place: &'a D) -> 
     compare(rt, place, pair, &[(80, "a\nb"), (3, "a\nb")])
 }
 
-fn all<'a, D: DocPlace<'a>>(rt: &impl Abort, place: &'a D) -> Result<(), Fail> {
+pub(crate) fn all<'a, D: DocPlace<'a>>(rt: &impl Abort, place: &'a D) -> Result<(), Fail> {
     texts_are_counted_in_columns(rt, place)?;
     spaces_are_texts(rt, place)?;
     what_is_none_is_nothing(rt, place)?;
@@ -90,10 +89,4 @@ fn all<'a, D: DocPlace<'a>>(rt: &impl Abort, place: &'a D) -> Result<(), Fail> {
     what_follows_counts(rt, place)?;
     flattened_documents_stay_flat(rt, place)?;
     expanded_groups_break(rt, place)
-}
-
-#[test]
-fn lines_of_the_guide(rt: HostRuntime) -> Result<(), Fail> {
-    let boxes = BoxAllocator::new(rt.alloc());
-    all(&rt, &boxes)
 }

@@ -1,7 +1,7 @@
 //! Documents of several others.
 use crate::layouts::{compare, compare_built};
+use prettyless::docs;
 use prettyless::prelude::*;
-use prettyless::{BoxAllocator, docs};
 use std::process::Abort;
 use std::test::Fail;
 
@@ -99,7 +99,7 @@ fn brackets_hold_marked_documents<'a, D: DocPlace<'a>>(
     compare_built(rt, list, &[(9, "[1, 2, 3]"), (8, broken)])
 }
 
-fn all<'a, D: DocPlace<'a>>(rt: &impl Abort, place: &'a D) -> Result<(), Fail> {
+pub(crate) fn all<'a, D: DocPlace<'a>>(rt: &impl Abort, place: &'a D) -> Result<(), Fail> {
     macros_append_in_order(rt, place)?;
     builders_append_and_join(rt, place)?;
     builders_are_enclosed(rt, place)?;
@@ -111,10 +111,4 @@ fn all<'a, D: DocPlace<'a>>(rt: &impl Abort, place: &'a D) -> Result<(), Fail> {
     items_are_appended(rt, place)?;
     broken_lists_end_in_a_comma(rt, place)?;
     brackets_hold_marked_documents(rt, place)
-}
-
-#[test]
-fn lists_of_the_guide(rt: HostRuntime) -> Result<(), Fail> {
-    let boxes = BoxAllocator::new(rt.alloc());
-    all(&rt, &boxes)
 }

@@ -2,7 +2,6 @@
 ghost use Rattle.std.specs.Prelude.{⊤};
 
 use crate::layouts::compare;
-use prettyless::BoxAllocator;
 use prettyless::prelude::*;
 use prettyless::text::BuildError;
 use std::process::Abort;
@@ -22,15 +21,9 @@ impl<'a, D: DocPlace<'a>> Pretty<'a, D> for Point {
     }
 }
 
-fn own_types_become_documents<'a, D: DocPlace<'a>>(
+pub(crate) fn own_types_become_documents<'a, D: DocPlace<'a>>(
     rt: &impl Abort,
     place: &'a D,
 ) -> Result<(), Fail> {
     compare(rt, place, Point(1, 20), &[(7, "(1, 20)"), (6, "(1,\n 20)")])
-}
-
-#[test]
-fn own_types_of_the_guide(rt: HostRuntime) -> Result<(), Fail> {
-    let boxes = BoxAllocator::new(rt.alloc());
-    own_types_become_documents(&rt, &boxes)
 }

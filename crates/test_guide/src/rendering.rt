@@ -2,8 +2,7 @@
 use crate::layouts::compare_with;
 use prettyless::prelude::*;
 use prettyless::{
-    BoxAllocator, DocPtr, FmtWrite, IndentationPolicy, LineEnding, RenderError, RenderOptions,
-    Visits,
+    DocPtr, FmtWrite, IndentationPolicy, LineEnding, RenderError, RenderOptions, Visits,
 };
 use std::process::Abort;
 use std::test::Fail;
@@ -73,15 +72,9 @@ fn visits_are_counted<'a, D: DocPlace<'a>>(rt: &impl Abort, place: &'a D) -> Res
     Ok(())
 }
 
-fn all<'a, D: DocPlace<'a>>(rt: &impl Abort, place: &'a D) -> Result<(), Fail> {
+pub(crate) fn all<'a, D: DocPlace<'a>>(rt: &impl Abort, place: &'a D) -> Result<(), Fail> {
     options_choose_line_ends_and_indents(rt, place)?;
     failures_stop_a_render(rt, place)?;
     documents_show_their_nodes(rt, place)?;
     visits_are_counted(rt, place)
-}
-
-#[test]
-fn rendering_of_the_guide(rt: HostRuntime) -> Result<(), Fail> {
-    let boxes = BoxAllocator::new(rt.alloc());
-    all(&rt, &boxes)
 }

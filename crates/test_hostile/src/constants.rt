@@ -20,15 +20,15 @@ fn has<'a, D: DocPlace<'a>>(place: &'a D, which: Constant) -> bool {
     place.constant(which).is_some()
 }
 
-// Hands the arena a node that is the same as each of them.
-fn place_leaves<'a>(arena: &'a Arena<'a>) -> Result<(), BuildError> {
-    arena.alloc(Doc::Nil)?;
-    arena.alloc(Doc::Fail)?;
-    arena.alloc(Doc::Text(Text::Borrowed(" ")))?;
-    arena.alloc(Doc::WeakSpace)?;
-    arena.alloc(Doc::HardLine)?;
-    arena.alloc(Doc::WeakLine)?;
-    arena.alloc(Doc::ExpandParent)?;
+// Hands the place a node that is the same as each of them.
+fn place_leaves<'a, D: DocPlace<'a>>(place: &'a D) -> Result<(), BuildError> {
+    place.alloc(Doc::Nil)?;
+    place.alloc(Doc::Fail)?;
+    place.alloc(Doc::Text(Text::Borrowed(" ")))?;
+    place.alloc(Doc::WeakSpace)?;
+    place.alloc(Doc::HardLine)?;
+    place.alloc(Doc::WeakLine)?;
+    place.alloc(Doc::ExpandParent)?;
     Ok(())
 }
 
@@ -49,12 +49,17 @@ fn a_leaf_has_one_node(rt: HostRuntime) -> Result<(), Fail> {
     leaves(&rt, &arena)
 }
 
+fn place_lines<'a, D: DocPlace<'a>>(place: &'a D) -> Result<(), BuildError> {
+    place.line()?.into_doc()?;
+    place.line_()?.into_doc()?;
+    place.softline()?.into_doc()?;
+    place.softline_()?.into_doc()?;
+    Ok(())
+}
+
 // Lines are handed out, and none is placed.
 fn lines<'a>(rt: &impl Abort, arena: &'a Arena<'a>) -> Result<(), Fail> {
-    arena.line()?.into_doc()?;
-    arena.line_()?.into_doc()?;
-    arena.softline()?.into_doc()?;
-    arena.softline_()?.into_doc()?;
+    place_lines(arena)?;
     assert!(rt; arena.is_empty());
     Ok(())
 }
@@ -66,12 +71,18 @@ fn a_line_has_one_node(rt: HostRuntime) -> Result<(), Fail> {
     lines(&rt, &arena)
 }
 
+fn place_others<'a, D: DocPlace<'a>>(place: &'a D) -> Result<(), BuildError> {
+    let first = place.alloc(Doc::Text(Text::Borrowed(" ")))?;
+    let second = place.alloc(Doc::Text(Text::Borrowed(" ")))?;
+    place.alloc(Doc::Text(Text::Borrowed("  ")))?;
+    place.alloc(Doc::TextWithLen(1, Text::Borrowed(" ")))?;
+    place.alloc(Doc::Append(first, second))?;
+    Ok(())
+}
+
 // Other texts of spaces, and what only contains constants, have a node each.
 fn others<'a>(rt: &impl Abort, arena: &'a Arena<'a>) -> Result<(), Fail> {
-    let space = arena.alloc(Doc::Text(Text::Borrowed(" ")))?;
-    arena.alloc(Doc::Text(Text::Borrowed("  ")))?;
-    arena.alloc(Doc::TextWithLen(1, Text::Borrowed(" ")))?;
-    arena.alloc(Doc::Append(space, space))?;
+    place_others(arena)?;
     assert!(rt; arena.len() == 3);
     Ok(())
 }
@@ -83,14 +94,22 @@ fn other_nodes_are_placed(rt: HostRuntime) -> Result<(), Fail> {
     others(&rt, &arena)
 }
 
+fn refuses_a_line<'a, D: DocPlace<'a>>(place: &'a D) -> bool {
+    matches!(place.alloc(Doc::HardLine), Err(BuildError::Memory(_)))
+}
+
+fn places_a_group<'a, D: DocPlace<'a>>(place: &'a D) -> Result<bool, BuildError> {
+    let line = place.softline()?.into_doc()?;
+    Ok(matches!(line.doc(), Doc::Group(_)))
+}
+
 // An arena that has no constants refuses a node while it has no room, and then places it as any other.
 fn placed<'a>(rt: &impl Abort, bump: &'a Bump, arena: &'a Arena<'a>) -> Result<(), Fail> {
     assert!(rt; !has(arena, Constant::HardLine));
-    assert!(rt; matches!(arena.alloc(Doc::HardLine), Err(BuildError::Memory(_))));
+    assert!(rt; refuses_a_line(arena));
     assert!(rt; arena.is_empty());
     bump.set_allocation_limit(None);
-    let line = arena.softline()?.into_doc()?;
-    assert!(rt; matches!(line.doc(), Doc::Group(_)));
+    assert!(rt; places_a_group(arena)?);
     assert!(rt; arena.len() == 4);
     Ok(())
 }

@@ -1,23 +1,23 @@
-//! Awkward trees. All are built in an arena, so that nothing deep is dropped.
+//! Awkward trees. All are tried in an arena, so that nothing deep is dropped.
 use bumpalo::Bump;
 use prettyless::text::{BuildError, Text};
-use prettyless::{Arena, Doc, DocPlace, DocPtr, FmtWrite, RefDoc, RenderOptions, Visits};
+use prettyless::{Arena, Doc, DocPlace, DocPtr, FmtWrite, RenderOptions, Visits};
 use std::alloc::{AllocError, Global};
 use std::process::Abort;
 use std::test::Fail;
 
 const TIMES: usize = 100_000;
 
-fn text<'a>(arena: &'a Arena<'a>, text: &'a str) -> Result<RefDoc<'a>, BuildError> {
-    arena.alloc(Doc::Text(Text::Borrowed(text)))
+fn text<'a, D: DocPlace<'a>>(place: &'a D, text: &'a str) -> Result<D::Doc, BuildError> {
+    place.alloc(Doc::Text(Text::Borrowed(text)))
 }
 
-fn append<'a>(
-    arena: &'a Arena<'a>,
-    first: RefDoc<'a>,
-    second: RefDoc<'a>,
-) -> Result<RefDoc<'a>, BuildError> {
-    arena.alloc(Doc::Append(first, second))
+fn append<'a, D: DocPlace<'a>>(
+    place: &'a D,
+    first: D::Doc,
+    second: D::Doc,
+) -> Result<D::Doc, BuildError> {
+    place.alloc(Doc::Append(first, second))
 }
 
 // So many times the letter, and then this text.
@@ -37,10 +37,10 @@ fn repeated(
 }
 
 // Compares what a document is rendered as, and answers its visits.
-fn compare(
+fn compare<'a, T: DocPtr<'a>>(
     rt: &impl Abort,
     memory: Global,
-    document: RefDoc<'_>,
+    document: T,
     width: usize,
     layout: &str,
 ) -> Result<Visits, Fail> {
@@ -57,29 +57,29 @@ fn compare(
 }
 
 // Letters appended one after another.
-fn to_the_left<'a>(arena: &'a Arena<'a>) -> Result<RefDoc<'a>, BuildError> {
-    let mut chain = text(arena, "a")?;
+fn to_the_left<'a, D: DocPlace<'a>>(place: &'a D) -> Result<D::Doc, BuildError> {
+    let mut chain = text(place, "a")?;
     for _ in 1..TIMES {
-        chain = append(arena, chain, text(arena, "a")?)?;
+        chain = append(place, chain, text(place, "a")?)?;
     }
     Ok(chain)
 }
 
 // Letters put in front of one another.
-fn to_the_right<'a>(arena: &'a Arena<'a>) -> Result<RefDoc<'a>, BuildError> {
-    let mut chain = text(arena, "a")?;
+fn to_the_right<'a, D: DocPlace<'a>>(place: &'a D) -> Result<D::Doc, BuildError> {
+    let mut chain = text(place, "a")?;
     for _ in 1..TIMES {
-        chain = append(arena, text(arena, "a")?, chain)?;
+        chain = append(place, text(place, "a")?, chain)?;
     }
     Ok(chain)
 }
 
 // A line and a letter in nests.
-fn nests<'a>(arena: &'a Arena<'a>) -> Result<RefDoc<'a>, BuildError> {
-    let line = arena.alloc(Doc::HardLine)?;
-    let mut nests = append(arena, line, text(arena, "x")?)?;
+fn nests<'a, D: DocPlace<'a>>(place: &'a D) -> Result<D::Doc, BuildError> {
+    let line = place.alloc(Doc::HardLine)?;
+    let mut nests = append(place, line, text(place, "x")?)?;
     for _ in 0..TIMES {
-        nests = arena.alloc(Doc::Nest(1, nests))?;
+        nests = place.alloc(Doc::Nest(1, nests))?;
     }
     Ok(nests)
 }
@@ -112,19 +112,19 @@ fn nests_in_nests(rt: HostRuntime) -> Result<(), Fail> {
 }
 
 // An alternative in an alternative and so on. Each first branch ends in a text that does not fit after the inner one.
-fn alternatives<'a>(arena: &'a Arena<'a>, depth: usize) -> Result<RefDoc<'a>, BuildError> {
-    let mut nested = text(arena, "x")?;
+fn alternatives<'a, D: DocPlace<'a>>(place: &'a D, depth: usize) -> Result<D::Doc, BuildError> {
+    let mut nested = text(place, "x")?;
     for _ in 0..depth {
-        let line = arena.alloc(Doc::HardLine)?;
-        let first = append(arena, append(arena, line, nested)?, text(arena, "toolong")?)?;
-        nested = arena.alloc(Doc::Union(first, text(arena, "x")?))?;
+        let line = place.alloc(Doc::HardLine)?;
+        let first = append(place, append(place, line, nested)?, text(place, "toolong")?)?;
+        nested = place.alloc(Doc::Union(first, text(place, "x")?))?;
     }
     Ok(nested)
 }
 
 // A letter in front of them.
-fn after_a_letter<'a>(arena: &'a Arena<'a>, depth: usize) -> Result<RefDoc<'a>, BuildError> {
-    append(arena, text(arena, "p")?, alternatives(arena, depth)?)
+fn after_a_letter<'a, D: DocPlace<'a>>(place: &'a D, depth: usize) -> Result<D::Doc, BuildError> {
+    append(place, text(place, "p")?, alternatives(place, depth)?)
 }
 
 // Every node of the alternatives is visited once, though all but the last are rejected.
@@ -140,21 +140,43 @@ fn alternatives_are_visited_once(rt: HostRuntime) -> Result<(), Fail> {
     Ok(())
 }
 
+// Trials in trials take no machine stack: here all but the last are rejected.
+#[test]
+fn rejected_alternatives_nest_deep(rt: HostRuntime) -> Result<(), Fail> {
+    let bump = Bump::new(rt.alloc());
+    let arena = Arena::new(rt.alloc(), &bump);
+    let document = after_a_letter(&arena, TIMES)?;
+    compare(&rt, rt.alloc(), document, 4, "px")?;
+    Ok(())
+}
+
+// And here all are kept.
+#[test]
+fn kept_alternatives_nest_deep(rt: HostRuntime) -> Result<(), Fail> {
+    let bump = Bump::new(rt.alloc());
+    let arena = Arena::new(rt.alloc(), &bump);
+    let document = after_a_letter(&arena, TIMES)?;
+    let lines = repeated(rt.alloc(), "p", "\n", TIMES, "x")?;
+    let layout = repeated(rt.alloc(), lines.as_str(), "toolong", TIMES, "")?;
+    compare(&rt, rt.alloc(), document, usize::MAX, layout.as_str())?;
+    Ok(())
+}
+
 // A suffix `a`, with such a suffix in it, and so on.
-fn suffixes<'a>(arena: &'a Arena<'a>, depth: usize) -> Result<RefDoc<'a>, BuildError> {
-    let mut suffix = arena.alloc(Doc::LineSuffix(text(arena, "a")?))?;
+fn suffixes<'a, D: DocPlace<'a>>(place: &'a D, depth: usize) -> Result<D::Doc, BuildError> {
+    let mut suffix = place.alloc(Doc::LineSuffix(text(place, "a")?))?;
     for _ in 1..depth {
-        let both = append(arena, text(arena, "a")?, suffix)?;
-        suffix = arena.alloc(Doc::LineSuffix(both))?;
+        let both = append(place, text(place, "a")?, suffix)?;
+        suffix = place.alloc(Doc::LineSuffix(both))?;
     }
     Ok(suffix)
 }
 
 // The line that they end, and one more letter.
-fn line_of_suffixes<'a>(arena: &'a Arena<'a>, depth: usize) -> Result<RefDoc<'a>, BuildError> {
-    let line = arena.alloc(Doc::HardLine)?;
-    let first = append(arena, suffixes(arena, depth)?, line)?;
-    append(arena, first, text(arena, "b")?)
+fn line_of_suffixes<'a, D: DocPlace<'a>>(place: &'a D, depth: usize) -> Result<D::Doc, BuildError> {
+    let line = place.alloc(Doc::HardLine)?;
+    let first = append(place, suffixes(place, depth)?, line)?;
+    append(place, first, text(place, "b")?)
 }
 
 #[test]
