@@ -10,6 +10,3 @@ mod lexer;
 pub use laws::{law_reading, law_spacing};
 pub use lexeme::Lexeme;
 pub use lexer::{Lexer, lexemes};
-
-#[cfg(test)]
-mod tests;

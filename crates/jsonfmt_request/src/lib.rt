@@ -7,5 +7,3 @@ pub mod fault;
 mod grammar;
 pub mod place;
 pub mod request;
-#[cfg(test)]
-mod tests;

@@ -1,10 +1,13 @@
 //! The calls of an allocator that take two documents.
 ghost use Rattle.prettyless_doc.specs.Tree.{OnColumn, OnNesting};
 ghost use Rattle.prettyless_doc.specs.DocTree.{built};
+ghost use Rattle.prettyless_doc.specs.Parts.{of_two};
 ghost use Rattle.prettyless_build.specs.Built as to;
 
+use prettyless_build::nodes::of_two;
 use prettyless_build::{DocBuilder, Pretty};
-use prettyless_doc::{BuildError, Doc, DocPlace};
+use prettyless_doc::parts::Pair;
+use prettyless_doc::{BuildError, DocPlace};
 use prettyless_model::choice::{ColumnTest, NestingTest};
 
 /// The documents that every place of nodes can make of one of type `P` and one of type `Q`. Each call fails as making one
@@ -41,11 +44,7 @@ impl<'a, D: DocPlace<'a>, P: Pretty<'a, D>, Q: Pretty<'a, D>> DocAllocatorOfTwo<
         first: P,
         second: Q,
     ) -> Result<DocBuilder<'a, D>, BuildError> {
-        let first = first.pretty(self);
-        let second = second.pretty(self);
-        let first = first?.into_doc()?;
-        let second = second?.into_doc()?;
-        Ok(DocBuilder::new(self, Doc::OnColumn(test, first, second)))
+        choice(self, Pair::OnColumn(test), first, second)
     }
 
     fn if_nesting(
@@ -54,10 +53,21 @@ impl<'a, D: DocPlace<'a>, P: Pretty<'a, D>, Q: Pretty<'a, D>> DocAllocatorOfTwo<
         first: P,
         second: Q,
     ) -> Result<DocBuilder<'a, D>, BuildError> {
-        let first = first.pretty(self);
-        let second = second.pretty(self);
-        let first = first?.into_doc()?;
-        let second = second?.into_doc()?;
-        Ok(DocBuilder::new(self, Doc::OnNesting(test, first, second)))
+        choice(self, Pair::OnNesting(test), first, second)
     }
+}
+
+// The choice of this kind. Both documents are made, also where the first is refused.
+fn choice<'a, D: DocPlace<'a>, P: Pretty<'a, D>, Q: Pretty<'a, D>>(
+    place: &'a D,
+    kind: Pair,
+    first: P,
+    second: Q,
+) -> Result<DocBuilder<'a, D>, BuildError>
+    ensures { to.BuildsOfTwo result (λ b. built D.Doc.tree b.1) (P.becomes first) (Q.becomes second) (P.refuses first) (Q.refuses second)
+        (of_two kind) }
+{
+    let first = first.pretty(place);
+    let second = second.pretty(place);
+    of_two(kind, first?, second?)
 }

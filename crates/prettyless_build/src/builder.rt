@@ -5,7 +5,9 @@ ghost use Rattle.prettyless_doc.specs.DocTree.{tree_of, built};
 ghost use Rattle.prettyless_doc.specs.declared.doc.BuildDoc.TheVariants.{Doc as Plain};
 ghost use Rattle.prettyless_build.specs.Built as to;
 
+use crate::nodes::around;
 use crate::pretty::Pretty;
+use prettyless_doc::parts::Single;
 use prettyless_doc::{BuildDoc, BuildError, Doc, DocPlace};
 
 /// The place of nodes (`.0`), and a document in the making there (`.1`).
@@ -127,14 +129,10 @@ impl<'a, D: DocPlace<'a>> DocBuilder<'a, D> {
         ensures hard { IsTrue (to.is_hard (built D.Doc.tree self.entry.1))
             → IsOkAnd result (λ b. built D.Doc.tree b.1 ≡ Fail) }
     {
-        let allocator = self.0;
         match self.doc() {
             Doc::Nil | Doc::Text(_) | Doc::TextWithLen(_, _) | Doc::Flatten(_) => Ok(self),
-            Doc::HardLine | Doc::MultilineText(_) => Ok(DocBuilder::new(allocator, Doc::Fail)),
-            _ => {
-                let inner = self.into_doc()?;
-                Ok(DocBuilder::new(allocator, Doc::Flatten(inner)))
-            }
+            Doc::HardLine | Doc::MultilineText(_) => Ok(DocBuilder::new(self.0, Doc::Fail)),
+            _ => around(Single::Flatten, self),
         }
     }
 
@@ -147,11 +145,7 @@ impl<'a, D: DocPlace<'a>> DocBuilder<'a, D> {
     {
         match self.doc() {
             Doc::Nil | Doc::LineSuffix(_) => Ok(self),
-            _ => {
-                let allocator = self.0;
-                let inner = self.into_doc()?;
-                Ok(DocBuilder::new(allocator, Doc::LineSuffix(inner)))
-            }
+            _ => around(Single::LineSuffix, self),
         }
     }
 }

@@ -4,7 +4,9 @@ ghost use Rattle.prettyless_doc.specs.DocTree.{built};
 ghost use Rattle.prettyless_build.specs.Built as to;
 
 use crate::builder::DocBuilder;
+use crate::nodes::of_two;
 use crate::pretty::Pretty;
+use prettyless_doc::parts::Pair;
 use prettyless_doc::{BuildDoc, BuildError, Doc, DocPlace};
 
 impl<'a, D: DocPlace<'a>> DocBuilder<'a, D> {
@@ -14,11 +16,8 @@ impl<'a, D: DocPlace<'a>> DocBuilder<'a, D> {
         ensures { to.BuildsOf result (λ b. built D.Doc.tree b.1) (E.becomes that) (E.refuses that)
             (BreakOrFlat (built D.Doc.tree self.entry.1)) }
     {
-        let allocator = self.0;
-        let that = that.pretty(allocator)?;
-        let broken = self.into_doc()?;
-        let flat = that.into_doc()?;
-        Ok(DocBuilder::new(allocator, Doc::BreakOrFlat(broken, flat)))
+        let flat = that.pretty(self.0)?;
+        of_two(Pair::BreakOrFlat, self, flat)
     }
 
     /// Nothing where lines are broken, and this document where they are flat. It fails where
@@ -26,10 +25,8 @@ impl<'a, D: DocPlace<'a>> DocBuilder<'a, D> {
     pub fn when_group_flat(self) -> Result<Self, BuildError>
         ensures { to.Builds result (λ b. built D.Doc.tree b.1) (BreakOrFlat Nil (built D.Doc.tree self.entry.1)) }
     {
-        let allocator = self.0;
-        let broken = allocator.alloc(Doc::Nil)?;
-        let flat = self.into_doc()?;
-        Ok(DocBuilder::new(allocator, Doc::BreakOrFlat(broken, flat)))
+        let nothing = DocBuilder::new(self.0, Doc::Nil);
+        of_two(Pair::BreakOrFlat, nothing, self)
     }
 
     /// This document where lines are broken, and nothing where they are flat. It fails where
@@ -37,10 +34,8 @@ impl<'a, D: DocPlace<'a>> DocBuilder<'a, D> {
     pub fn when_group_break(self) -> Result<Self, BuildError>
         ensures { to.Builds result (λ b. built D.Doc.tree b.1) (BreakOrFlat (built D.Doc.tree self.entry.1) Nil) }
     {
-        let allocator = self.0;
-        let broken = self.into_doc()?;
-        let flat = allocator.alloc(Doc::Nil)?;
-        Ok(DocBuilder::new(allocator, Doc::BreakOrFlat(broken, flat)))
+        let nothing = DocBuilder::new(self.0, Doc::Nil);
+        of_two(Pair::BreakOrFlat, self, nothing)
     }
 
     /// This document where it can be laid with each text within the width, and else `that`; where lines are flat, this
@@ -49,10 +44,8 @@ impl<'a, D: DocPlace<'a>> DocBuilder<'a, D> {
         ensures { to.Builds result (λ b. built D.Doc.tree b.1)
             (Union (built D.Doc.tree self.entry.1) (built D.Doc.tree that.entry)) }
     {
-        let allocator = self.0;
-        let first = self.into_doc()?;
-        let second = DocBuilder(allocator, that).into_doc()?;
-        Ok(DocBuilder::new(allocator, Doc::Union(first, second)))
+        let that = DocBuilder(self.0, that);
+        of_two(Pair::Union, self, that)
     }
 
     /// This document where its first line fits, whatever comes after it, and else `that`; where lines are flat,
@@ -61,9 +54,7 @@ impl<'a, D: DocPlace<'a>> DocBuilder<'a, D> {
         ensures { to.Builds result (λ b. built D.Doc.tree b.1)
             (PartialUnion (built D.Doc.tree self.entry.1) (built D.Doc.tree that.entry)) }
     {
-        let allocator = self.0;
-        let first = self.into_doc()?;
-        let second = DocBuilder(allocator, that).into_doc()?;
-        Ok(DocBuilder::new(allocator, Doc::PartialUnion(first, second)))
+        let that = DocBuilder(self.0, that);
+        of_two(Pair::PartialUnion, self, that)
     }
 }

@@ -5,34 +5,31 @@ ghost use Rattle.prettyless_doc.specs.DocTree.{built};
 ghost use Rattle.prettyless_build.specs.Built as to;
 
 use crate::builder::DocBuilder;
+use crate::nodes::of_two;
+use prettyless_doc::parts::Pair;
 use prettyless_doc::{BuildDoc, BuildError, Doc, DocPlace};
 
 impl<'a, D: DocPlace<'a>> DocBuilder<'a, D> {
     /// So many copies of this document, one after the other, also where it is nothing. None is
     /// nothing, and one is the document as it is: neither takes memory. Else memory may be refused.
+    #[tactic(auto, using(crate::proofs::Chains::repeat_more))]
     pub fn repeat(self, count: usize) -> Result<Self, BuildError>
         ensures ok { IfOk result (λ b. built D.Doc.tree b.1
             ≡ to.repeat count (built D.Doc.tree self.entry.1)) }
         ensures same { count ≡ 1 → result ≡ Ok self.entry }
         ensures err { IfErr result (λ e. IsMemory e × (1 < count)) }
     {
-        if count == 1 {
-            return Ok(self);
+        match count {
+            0 => Ok(DocBuilder::new(self.0, Doc::Nil)),
+            1 => Ok(self),
+            _ => {
+                let allocator = self.0;
+                let original = self.into_doc()?;
+                let front = copies(allocator, &original, count - 2)?;
+                let last = DocBuilder(allocator, BuildDoc::DocPtr(original));
+                of_two(Pair::Append, front, last)
+            }
         }
-        let allocator = self.0;
-        if count == 0 {
-            return Ok(DocBuilder::new(allocator, Doc::Nil));
-        }
-        let original = self.into_doc()?;
-        let mut all = BuildDoc::DocPtr(allocator.clone_ptr(&original)?);
-        for _ in 0..count - 2 {
-            let copy = allocator.clone_ptr(&original)?;
-            all = BuildDoc::Doc(Doc::Append(DocBuilder(allocator, all).into_doc()?, copy));
-        }
-        Ok(DocBuilder::new(
-            allocator,
-            Doc::Append(DocBuilder(allocator, all).into_doc()?, original),
-        ))
     }
 
     /// The same document once more. It fails where memory is refused.
@@ -41,4 +38,21 @@ impl<'a, D: DocPlace<'a>> DocBuilder<'a, D> {
     {
         Ok(DocBuilder(self.0, self.1.clone(self.0)?))
     }
+}
+
+// A copy of the document, and so many more after it.
+fn copies<'a, D: DocPlace<'a>>(
+    allocator: &'a D,
+    original: &D::Doc,
+    more: usize,
+) -> Result<DocBuilder<'a, D>, BuildError>
+    ensures ok { IfOk result (λ b. built D.Doc.tree b.1 ≡ to.chain more (D.Doc.tree original.now)) }
+    ensures err { IfErr result IsMemory }
+{
+    let mut all = DocBuilder(allocator, BuildDoc::DocPtr(allocator.clone_ptr(original)?));
+    for _ in 0..more {
+        let copy = DocBuilder(allocator, BuildDoc::DocPtr(allocator.clone_ptr(original)?));
+        all = of_two(Pair::Append, all, copy)?;
+    }
+    Ok(all)
 }

@@ -4,6 +4,8 @@ ghost use Rattle.prettyless_doc.specs.DocTree.{built};
 ghost use Rattle.prettyless_build.specs.Built as to;
 
 use crate::builder::DocBuilder;
+use crate::nodes::around;
+use prettyless_doc::parts::Single;
 use prettyless_doc::{BuildError, Doc, DocPlace};
 
 impl<'a, D: DocPlace<'a>> DocBuilder<'a, D> {
@@ -52,11 +54,7 @@ impl<'a, D: DocPlace<'a>> DocBuilder<'a, D> {
     {
         match self.doc() {
             Doc::Nil | Doc::DedentToRoot(_) => Ok(self),
-            _ => {
-                let allocator = self.0;
-                let inner = self.into_doc()?;
-                Ok(DocBuilder::new(allocator, Doc::DedentToRoot(inner)))
-            }
+            _ => around(Single::DedentToRoot, self),
         }
     }
 
@@ -69,11 +67,7 @@ impl<'a, D: DocPlace<'a>> DocBuilder<'a, D> {
     {
         match self.doc() {
             Doc::Nil | Doc::Align(_) => Ok(self),
-            _ => {
-                let allocator = self.0;
-                let inner = self.into_doc()?;
-                Ok(DocBuilder::new(allocator, Doc::Align(inner)))
-            }
+            _ => around(Single::Align, self),
         }
     }
 }

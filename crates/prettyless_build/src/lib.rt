@@ -8,6 +8,7 @@ pub mod conversions;
 pub mod copies;
 pub mod enclosed;
 pub mod indents;
+pub mod nodes;
 pub mod pretty;
 pub mod texts;
 pub mod tuples;

@@ -2,6 +2,7 @@ pub mod Constants
 pub mod Counted
 pub mod DocTree
 pub mod Lines
+pub mod Parts
 pub mod Rendering
 pub mod Shown
 pub use Rattle.prettyless_model.specs.Tree

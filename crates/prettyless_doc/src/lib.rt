@@ -8,6 +8,7 @@ mod conversions;
 mod debug;
 pub mod doc;
 pub mod error;
+pub mod parts;
 pub mod place;
 pub mod print;
 pub mod render;

@@ -1,5 +1,6 @@
 -- Tables of constants: what is in its place is the constant, and a table that was filled in order has each in its place.
-use Rattle.std.proofs.Common.{◌≡◌, refl, ap, Bool, true, List, [], ◌∷◌}
+use Rattle.std.proofs.Common.{◌≡◌, ◌∙◌, refl, ap, Bool, true, false, List, [], ◌∷◌}
+use Rattle.prettyless_doc.specs.DocTree.{tree_of, holds_memory}
 use Rattle.std.proofs.lemmas.Bool.{eqb-true}
 use Rattle.prettyless_model.specs.Tree as t
 use Rattle.prettyless_model.specs.Tree.{Tree}
@@ -8,7 +9,11 @@ use Rattle.prettyless_doc.specs.Lines.{space}
 use Rattle.prettyless_doc.specs.declared.constant.Constant.{Constant}
 use Rattle.prettyless_doc.specs.declared.constant.Constant.TheVariants.{Nil, Fail, Space, WeakSpace, HardLine, WeakLine, ExpandParent, LineOrSpace, LineOrNil, SoftLineOrSpace, SoftLineOrNil}
 use Rattle.prettyless_pointers.specs.Constants.{IsTable, LeadsTo, is_space, is_nil, is_line, is_grouped, is_constant}
-use Rattle.prettyless_pointers.specs.declared.arena.RefDoc.{RefDoc}
+use Rattle.prettyless_doc.specs.declared.doc.Doc.{Doc}
+use Rattle.prettyless_doc.specs.declared.doc.Doc.TheVariants as n
+use Rattle.prettyless_pointers.specs.Trees.{ref_tree}
+use Rattle.prettyless_pointers.specs.declared.arena.RefDoc.{RefDoc, roll-RefDoc, out-roll-RefDoc}
+use Rattle.prettyless_pointers.specs.declared.arena.RefDoc.TheFolds.{fold-roll-RefDoc}
 
 spaces-are : (d : Tree) → is_space d ≡ true → d ≡ space
 spaces-are (t.Text (b ∷ [])) h = ap (λ c. t.Text (c ∷ [])) (eqb-true b 32 h)
@@ -41,19 +46,22 @@ constants-are SoftLineOrSpace d h = groups-are _ _ (lines-are is_space space spa
 constants-are SoftLineOrNil d h = groups-are _ _ (lines-are is_nil t.Nil nothings-are) d h
 constants-are _ _ h = absurd cc
 
--- each constant is found to be one
-pub is-found : (c : Constant) → is_constant c (constant_tree c) ≡ true
-is-found Nil = refl
-is-found Fail = refl
-is-found Space = refl
-is-found WeakSpace = refl
-is-found HardLine = refl
-is-found WeakLine = refl
-is-found ExpandParent = refl
-is-found LineOrSpace = refl
-is-found LineOrNil = refl
-is-found SoftLineOrSpace = refl
-is-found SoftLineOrNil = refl
+-- the tree of a pointer is that of its node
+node_tree : (a : _) (d : Doc RefDoc) → ref_tree (roll-RefDoc record { 0 = record { ref_ptr = a; now = d } }) ≡ tree_of ref_tree d
+node_tree a n.Nil = fold-roll-RefDoc Tree (λ d. tree_of (λ t. t) d.0.now) _
+node_tree a _ = fold-roll-RefDoc Tree (λ d. tree_of (λ t. t) d.0.now) _
+
+-- a pointer to a node leads to the constant that the node is
+pub leads : (c : Constant) (a : _) (d : Doc RefDoc) → is_constant c (tree_of ref_tree d) ≡ true → holds_memory d ≡ false → LeadsTo c (roll-RefDoc record { 0 = record { ref_ptr = a; now = d } })
+leads c a d same settled = (ap (is_constant c) (node_tree a d) ∙ same, ap (λ p. holds_memory p.0.now) (out-roll-RefDoc record { 0 = record { ref_ptr = a; now = d } }) ∙ settled)
+
+-- a node of two constants
+pub line-is : (c : Constant) (flat : Constant) (p q : RefDoc) → LeadsTo HardLine p → LeadsTo flat q → is_constant c (t.BreakOrFlat t.HardLine (constant_tree flat)) ≡ true → is_constant c (t.BreakOrFlat (ref_tree p) (ref_tree q)) ≡ true
+line-is c flat p q h g same = rw (constants-are HardLine _ h.0) (rw (constants-are flat _ g.0) same)
+
+-- a group of one
+pub soft-line-is : (c : Constant) (inner : Constant) (p : RefDoc) → LeadsTo inner p → is_constant c (t.Group (constant_tree inner)) ≡ true → is_constant c (t.Group (ref_tree p)) ≡ true
+soft-line-is c inner p h same = rw (constants-are inner _ h.0) same
 
 -- the pointers to the constants, in order
 pub record InOrder (p0 p1 p2 p3 p4 p5 p6 p7 p8 p9 p10 : RefDoc) : Type 0 where

@@ -11,42 +11,21 @@ use crate::arena::RefDoc;
 use bumpalo::Bump;
 use prettyless_doc::{BuildError, Constant, Doc, Text};
 
-// Places the node of a constant.
-fn place<'a>(
-    bump: &'a Bump,
-    which: Constant,
-    doc: Doc<'a, RefDoc<'a>>,
-) -> Result<RefDoc<'a>, BuildError>
-    requires same { tree_of ref_tree doc ≡ constant_tree which }
-    requires settled { holds_memory doc ≡ false }
-    ensures ok { IfOk result (λ p. LeadsTo which p × (ref_tree p ≡ constant_tree which)) }
-    ensures err { IfErr result IsMemory }
-{
-    let node: &'a Doc<'a, RefDoc<'a>> = bump.try_alloc(doc)?;
-    Ok(RefDoc(node))
-}
-
 // Places all constants, and a table of pointers to them.
 pub(crate) fn table<'a>(bump: &'a Bump) -> Result<&'a [RefDoc<'a>], BuildError>
     ensures ok { IfOk result (λ ps. IsTable ps.now) }
     ensures err { IfErr result IsMemory }
 {
-    let nil = place(bump, Constant::Nil, Doc::Nil)?;
-    let fail = place(bump, Constant::Fail, Doc::Fail)?;
-    let space = place(bump, Constant::Space, Doc::Text(Text::Borrowed(" ")))?;
-    let weak_space = place(bump, Constant::WeakSpace, Doc::WeakSpace)?;
-    let hard_line = place(bump, Constant::HardLine, Doc::HardLine)?;
-    let weak_line = place(bump, Constant::WeakLine, Doc::WeakLine)?;
-    let expand_parent = place(bump, Constant::ExpandParent, Doc::ExpandParent)?;
-    let line = place(
-        bump,
-        Constant::LineOrSpace,
-        Doc::BreakOrFlat(hard_line, space),
-    )?;
-    let line_ = place(bump, Constant::LineOrNil, Doc::BreakOrFlat(hard_line, nil))?;
-    let softline = place(bump, Constant::SoftLineOrSpace, Doc::Group(line))?;
-    let softline_ = place(bump, Constant::SoftLineOrNil, Doc::Group(line_))?;
-    let table: &'a [RefDoc<'a>] = bump.try_alloc_slice_copy(&[
+    let leaves: &'a [Doc<'a, RefDoc<'a>>; 7] = bump.try_alloc([
+        Doc::Nil,
+        Doc::Fail,
+        Doc::Text(Text::Borrowed(" ")),
+        Doc::WeakSpace,
+        Doc::HardLine,
+        Doc::WeakLine,
+        Doc::ExpandParent,
+    ])?;
+    let [
         nil,
         fail,
         space,
@@ -54,10 +33,29 @@ pub(crate) fn table<'a>(bump: &'a Bump) -> Result<&'a [RefDoc<'a>], BuildError>
         hard_line,
         weak_line,
         expand_parent,
-        line,
-        line_,
-        softline,
-        softline_,
+    ] = leaves;
+    let lines: &'a [Doc<'a, RefDoc<'a>>; 2] = bump.try_alloc([
+        Doc::BreakOrFlat(RefDoc(hard_line), RefDoc(space)),
+        Doc::BreakOrFlat(RefDoc(hard_line), RefDoc(nil)),
+    ])?;
+    let [line, line_] = lines;
+    let soft_lines: &'a [Doc<'a, RefDoc<'a>>; 2] = bump.try_alloc([
+        Doc::Group(RefDoc(line)),
+        Doc::Group(RefDoc(line_)),
+    ])?;
+    let [softline, softline_] = soft_lines;
+    let table: &'a [RefDoc<'a>] = bump.try_alloc_slice_copy(&[
+        RefDoc(nil),
+        RefDoc(fail),
+        RefDoc(space),
+        RefDoc(weak_space),
+        RefDoc(hard_line),
+        RefDoc(weak_line),
+        RefDoc(expand_parent),
+        RefDoc(line),
+        RefDoc(line_),
+        RefDoc(softline),
+        RefDoc(softline_),
     ])?;
     Ok(table)
 }

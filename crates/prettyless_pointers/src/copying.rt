@@ -4,66 +4,13 @@ ghost use Rattle.std.specs.Prelude.{◌≡◌, ◌+◌, ◌<◌, OnOk, IfOk, IfE
 ghost use Rattle.prettyless_doc.specs.BuildErrors.{IsMemory};
 ghost use Rattle.prettyless_doc.specs.DocTree.{tree_of};
 ghost use Rattle.prettyless_doc.specs.Tree.{Tree};
-ghost use Rattle.prettyless_pointers.specs.Copying.{around, of_two, filled, whole, parts_tree, task_tree, task_work, frame_work, frames_work, work, work_at};
+ghost use Rattle.prettyless_pointers.specs.Copying.{filled, whole, task_tree, task_work, frame_work, frames_work, work, work_at};
 ghost use Rattle.prettyless_pointers.specs.Trees.{box_tree};
 
 use crate::boxes::BoxDoc;
+use prettyless_doc::parts::{Pair, Parts, Single, parts_of};
 use prettyless_doc::{BuildError, Doc, DocPtr};
-use prettyless_model::choice::{ColumnTest, NestingTest};
 use std::alloc::Global;
-
-// The kinds of node that hold one document.
-#[derive(Clone, Copy)]
-pub(crate) enum Single {
-    LineSuffix,
-    Nest(isize),
-    DedentToRoot,
-    Align,
-    Flatten,
-    Group,
-}
-
-impl Single {
-    fn around<'a>(self, inner: BoxDoc<'a>) -> Doc<'a, BoxDoc<'a>>
-        ensures { tree_of box_tree result ≡ around self (box_tree inner.entry) }
-    {
-        match self {
-            Single::LineSuffix => Doc::LineSuffix(inner),
-            Single::Nest(offset) => Doc::Nest(offset, inner),
-            Single::DedentToRoot => Doc::DedentToRoot(inner),
-            Single::Align => Doc::Align(inner),
-            Single::Flatten => Doc::Flatten(inner),
-            Single::Group => Doc::Group(inner),
-        }
-    }
-}
-
-// The kinds of node that hold two.
-#[derive(Clone, Copy)]
-pub(crate) enum Pair {
-    Append,
-    BreakOrFlat,
-    Union,
-    PartialUnion,
-    OnColumn(ColumnTest),
-    OnNesting(NestingTest),
-}
-
-impl Pair {
-    fn of<'a>(self, first: BoxDoc<'a>, second: BoxDoc<'a>) -> Doc<'a, BoxDoc<'a>>
-        ensures { tree_of box_tree result
-            ≡ of_two self (box_tree first.entry) (box_tree second.entry) }
-    {
-        match self {
-            Pair::Append => Doc::Append(first, second),
-            Pair::BreakOrFlat => Doc::BreakOrFlat(first, second),
-            Pair::Union => Doc::Union(first, second),
-            Pair::PartialUnion => Doc::PartialUnion(first, second),
-            Pair::OnColumn(test) => Doc::OnColumn(test, first, second),
-            Pair::OnNesting(test) => Doc::OnNesting(test, first, second),
-        }
-    }
-}
 
 // A node that is made once what it holds is copied.
 #[derive(Drop)]
@@ -102,47 +49,6 @@ pub(crate) fn pop<'d, 'a>(frames: &mut Vec<Frame<'d, 'a>>) -> Option<Frame<'d, '
     ensures work { IfSome result (λ f. frames_work frames.old.items ≡ frame_work f + frames_work frames.new.items) }
 {
     frames.pop()
-}
-
-// A node by what it holds.
-#[derive(Drop)]
-pub(crate) enum Parts<'d, 'a> {
-    // A copy of it, as it holds no document.
-    None(Doc<'a, BoxDoc<'a>>),
-    One(Single, &'d BoxDoc<'a>),
-    Two(Pair, &'d BoxDoc<'a>, &'d BoxDoc<'a>),
-}
-
-fn parts_of<'d, 'a>(
-    alloc: Global,
-    node: &'d Doc<'a, BoxDoc<'a>>,
-) -> Result<Parts<'d, 'a>, BuildError>
-    ensures ok { IfOk result (λ p. parts_tree p ≡ tree_of box_tree node.now) }
-    ensures err { IfErr result IsMemory }
-{
-    Ok(match node {
-        Doc::Nil => Parts::None(Doc::Nil),
-        Doc::Fail => Parts::None(Doc::Fail),
-        Doc::Text(text) => Parts::None(Doc::Text(text.clone(alloc)?)),
-        Doc::TextWithLen(width, text) => Parts::None(Doc::TextWithLen(*width, text.clone(alloc)?)),
-        Doc::MultilineText(payload) => Parts::None(Doc::MultilineText(payload.clone(alloc)?)),
-        Doc::WeakSpace => Parts::None(Doc::WeakSpace),
-        Doc::HardLine => Parts::None(Doc::HardLine),
-        Doc::WeakLine => Parts::None(Doc::WeakLine),
-        Doc::Append(first, second) => Parts::Two(Pair::Append, first, second),
-        Doc::LineSuffix(inner) => Parts::One(Single::LineSuffix, inner),
-        Doc::Nest(offset, inner) => Parts::One(Single::Nest(*offset), inner),
-        Doc::DedentToRoot(inner) => Parts::One(Single::DedentToRoot, inner),
-        Doc::Align(inner) => Parts::One(Single::Align, inner),
-        Doc::ExpandParent => Parts::None(Doc::ExpandParent),
-        Doc::Flatten(inner) => Parts::One(Single::Flatten, inner),
-        Doc::BreakOrFlat(broken, flat) => Parts::Two(Pair::BreakOrFlat, broken, flat),
-        Doc::Group(inner) => Parts::One(Single::Group, inner),
-        Doc::Union(first, second) => Parts::Two(Pair::Union, first, second),
-        Doc::PartialUnion(first, second) => Parts::Two(Pair::PartialUnion, first, second),
-        Doc::OnColumn(test, first, second) => Parts::Two(Pair::OnColumn(*test), first, second),
-        Doc::OnNesting(test, first, second) => Parts::Two(Pair::OnNesting(*test), first, second),
-    })
 }
 
 // A node, as a copy that is made.

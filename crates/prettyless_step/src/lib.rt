@@ -5,6 +5,7 @@
 //! probe, by which a step decides whether a group is laid flat, and which document of a partial union is laid.
 #![tactic(auto)]
 
+mod choice;
 pub mod command;
 pub mod content;
 pub mod pending;

@@ -7,6 +7,7 @@ ghost use Rattle.prettyless_model.specs.Layout.{rest_fits};
 ghost use Rattle.prettyless_step.specs.Probing.{ReadsAs, RisesBy, nodes_next, read_of};
 ghost use Rattle.prettyless_step.specs.Stack.{AnswersAs, Reads, Task, follow, in_break, make_task, nodes, stack_of, task, tasks_fit, unread};
 
+use crate::choice::{by_column, by_nesting, either};
 use crate::command::{Command, nested_indent};
 use crate::stack::{Cursor, Stack};
 use crate::walk::{View, Walk};
@@ -71,24 +72,6 @@ fn read_weak_line(width: usize, line: &Line, mode: Mode) -> Option<bool>
         return None;
     }
     Some(read_line_end(width, line, mode))
-}
-
-/// The one that a mode chooses.
-pub fn either<N: Copy>(mode: Mode, broken: N, flat: N) -> N
-    ensures { result ≡ by_mode mode broken flat }
-{
-    match mode {
-        Mode::Break => broken,
-        Mode::Flat => flat,
-    }
-}
-
-/// The first of two nodes where a test holds, else the second.
-#[inline(always)]
-pub fn chosen<N: Walk>(holds: bool, first: N, second: N) -> N
-    ensures { N.tree result ≡ if holds then N.tree first else N.tree second }
-{
-    if holds { first } else { second }
 }
 
 /// What a probe comes to at one node: an answer, the node that it looks at next, or neither.
@@ -163,11 +146,14 @@ fn probe_one<N: Walk>(
             Ok(Read::Next(indent, mode, either(mode, second, first)))
         }
         View::OnColumn(test, first, second) => {
-            let holds = test.holds(line.column.prospective(), indent);
-            Ok(Read::Next(indent, mode, chosen(holds, first, second)))
+            Ok(Read::Next(
+                indent,
+                mode,
+                by_column(test, line.column, indent, first, second),
+            ))
         }
         View::OnNesting(test, first, second) => {
-            Ok(Read::Next(indent, mode, chosen(test.holds(indent), first, second)))
+            Ok(Read::Next(indent, mode, by_nesting(test, indent, first, second)))
         }
     }
 }

@@ -12,12 +12,13 @@ ghost use Rattle.prettyless_step.specs.declared.printer.Taken.TheVariants.{Next,
 ghost use Rattle.prettyless_step.specs.Printing.{IsPast, Shows, Writes, following, state_of, tasks_of};
 ghost use Rattle.prettyless_step.specs.Probing.{RisesBy, asked};
 
+use crate::choice::{by_column, by_nesting, either};
 use crate::command::nested_indent;
 use crate::content::{payload_fits, put_payload, put_text};
 use crate::pending::{is_pending, take_pending};
 use crate::piece::Piece;
 use crate::printer::{Printer, Taken};
-use crate::probe::{Line, chosen, either, probe};
+use crate::probe::{Line, probe};
 use crate::walk::{View, Walk};
 use prettyless_model::column::Column;
 use prettyless_model::mode::Mode;
@@ -330,9 +331,8 @@ pub fn step<'v, N: Walk>(
         },
         View::PartialUnion(l, r) => partial_union(printer, indent, mode, l, r, &mut visits.probes),
         View::OnColumn(test, l, r) => {
-            let holds = test.holds(printer.column.prospective(), indent);
-            Ok(Taken::Next(indent, chosen(holds, l, r)))
+            Ok(Taken::Next(indent, by_column(test, printer.column, indent, l, r)))
         }
-        View::OnNesting(test, l, r) => Ok(Taken::Next(indent, chosen(test.holds(indent), l, r))),
+        View::OnNesting(test, l, r) => Ok(Taken::Next(indent, by_nesting(test, indent, l, r))),
     }
 }

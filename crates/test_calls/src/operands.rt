@@ -1,4 +1,4 @@
-//! Documents as operands: pointers in each place of nodes, and all other forms in boxes.
+//! Documents as operands: pointers in each place of nodes, and documents in the making.
 use crate::expected::{becomes, built, shows};
 use bumpalo::Bump;
 use prettyless::prelude::*;

@@ -144,16 +144,3 @@ fn boxes_by_reference(rt: HostRuntime) {
     let boxes = BoxAllocator::new(rt.alloc());
     lend(&rt, &&boxes);
 }
-
-#[test]
-fn counted_nodes_by_reference(rt: HostRuntime) {
-    let nodes = RcAllocator::new(rt.alloc());
-    lend(&rt, &&nodes);
-}
-
-#[test]
-fn arenas_by_reference(rt: HostRuntime) {
-    let bump = Bump::new(rt.alloc());
-    let arena = Arena::new(rt.alloc(), &bump);
-    lend(&rt, &&arena);
-}

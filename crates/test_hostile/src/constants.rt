@@ -42,13 +42,6 @@ fn leaves<'a>(rt: &impl Abort, arena: &'a Arena<'a>) -> Result<(), Fail> {
     Ok(())
 }
 
-#[test]
-fn a_leaf_has_one_node(rt: HostRuntime) -> Result<(), Fail> {
-    let bump = Bump::new(rt.alloc());
-    let arena = Arena::new(rt.alloc(), &bump);
-    leaves(&rt, &arena)
-}
-
 fn place_lines<'a, D: DocPlace<'a>>(place: &'a D) -> Result<(), BuildError> {
     place.line()?.into_doc()?;
     place.line_()?.into_doc()?;
@@ -62,13 +55,6 @@ fn lines<'a>(rt: &impl Abort, arena: &'a Arena<'a>) -> Result<(), Fail> {
     place_lines(arena)?;
     assert!(rt; arena.is_empty());
     Ok(())
-}
-
-#[test]
-fn a_line_has_one_node(rt: HostRuntime) -> Result<(), Fail> {
-    let bump = Bump::new(rt.alloc());
-    let arena = Arena::new(rt.alloc(), &bump);
-    lines(&rt, &arena)
 }
 
 fn place_others<'a, D: DocPlace<'a>>(place: &'a D) -> Result<(), BuildError> {
@@ -88,9 +74,11 @@ fn others<'a>(rt: &impl Abort, arena: &'a Arena<'a>) -> Result<(), Fail> {
 }
 
 #[test]
-fn other_nodes_are_placed(rt: HostRuntime) -> Result<(), Fail> {
+fn a_constant_has_one_node(rt: HostRuntime) -> Result<(), Fail> {
     let bump = Bump::new(rt.alloc());
     let arena = Arena::new(rt.alloc(), &bump);
+    leaves(&rt, &arena)?;
+    lines(&rt, &arena)?;
     others(&rt, &arena)
 }
 

@@ -3,7 +3,7 @@ ghost use Rattle.std.specs.Prelude.{Some, ◌≡◌, ⊤};
 ghost use Rattle.test_hostile.specs.declared.sinks.Fault.TheVariants.{Document};
 
 use crate::sinks::Fault;
-use prettyless::{BoxAllocator, BoxDoc, DocPtr, LineEnding, Render, RenderError, RenderOptions};
+use prettyless::{BoxAllocator, DocPlace, DocPtr, LineEnding, Render, RenderError, RenderOptions};
 use std::alloc::Global;
 use std::process::Abort;
 use std::test::Fail;
@@ -58,9 +58,9 @@ impl Render for Pieces {
 }
 
 // What a sink of so much room has of a render, and whether it ended that.
-fn rendered(
+fn rendered<'a, T: DocPtr<'a>>(
     memory: Global,
-    document: &BoxDoc<'_>,
+    document: &T,
     options: RenderOptions,
     room: usize,
 ) -> Result<(Pieces, bool), Fail> {
@@ -90,10 +90,10 @@ fn compare_pieces(
 }
 
 // Compares the pieces of a layout, and those before each of them that is refused in turn.
-fn compare(
+fn compare<'a, T: DocPtr<'a>>(
     rt: &impl Abort,
     memory: Global,
-    document: &BoxDoc<'_>,
+    document: &T,
     options: RenderOptions,
     pieces: &[&str],
 ) -> Result<(), Fail> {
@@ -129,15 +129,16 @@ const KEPT_NOTHING: &str = "Union Nil Text 'x'";
 const LONG_INDENT: &str = "Nest 205 HardLine";
 
 // An alternative that is kept is a piece of its own, with the suffixes and the line ends in it.
-#[test]
-fn kept_alternatives_are_pieces(rt: HostRuntime) -> Result<(), Fail> {
-    let memory = rt.alloc();
-    let boxes = BoxAllocator::new(memory);
-    let document = read(&boxes, KEPT)?;
+fn kept_alternatives_are_pieces<'a, D: DocPlace<'a>>(
+    rt: &impl Abort,
+    place: &'a D,
+) -> Result<(), Fail> {
+    let memory = place.memory();
+    let document = read(place, KEPT)?;
     let options = RenderOptions::new(80);
-    compare(&rt, memory, &document, options, &["a", "b//outer\n", "c"])?;
+    compare(rt, memory, &document, options, &["a", "b//outer\n", "c"])?;
     compare(
-        &rt,
+        rt,
         memory,
         &document,
         with_crlf(80),
@@ -146,43 +147,53 @@ fn kept_alternatives_are_pieces(rt: HostRuntime) -> Result<(), Fail> {
 }
 
 // One that is a payload needs no trial, and its spaces are a piece.
-#[test]
-fn payloads_need_no_trial(rt: HostRuntime) -> Result<(), Fail> {
-    let memory = rt.alloc();
-    let boxes = BoxAllocator::new(memory);
-    let document = read(&boxes, KEPT_PAYLOAD)?;
+fn payloads_need_no_trial<'a, D: DocPlace<'a>>(rt: &impl Abort, place: &'a D) -> Result<(), Fail> {
+    let memory = place.memory();
+    let document = read(place, KEPT_PAYLOAD)?;
     let options = RenderOptions::new(80);
-    compare(&rt, memory, &document, options, &["a", " ", "b\nc"])
+    compare(rt, memory, &document, options, &["a", " ", "b\nc"])
 }
 
-#[test]
-fn no_piece_is_empty(rt: HostRuntime) -> Result<(), Fail> {
-    let memory = rt.alloc();
-    let boxes = BoxAllocator::new(memory);
-    let document = read(&boxes, KEPT_NOTHING)?;
-    compare(&rt, memory, &document, RenderOptions::new(80), &[])
+fn no_piece_is_empty<'a, D: DocPlace<'a>>(rt: &impl Abort, place: &'a D) -> Result<(), Fail> {
+    let memory = place.memory();
+    let document = read(place, KEPT_NOTHING)?;
+    compare(rt, memory, &document, RenderOptions::new(80), &[])
 }
 
-#[test]
-fn long_indents_are_in_pieces(rt: HostRuntime) -> Result<(), Fail> {
-    let memory = rt.alloc();
-    let boxes = BoxAllocator::new(memory);
+fn long_indents_are_in_pieces<'a, D: DocPlace<'a>>(
+    rt: &impl Abort,
+    place: &'a D,
+) -> Result<(), Fail> {
+    let memory = place.memory();
     let hundred = format!(in memory; "{:100}", "")?;
     let hundred = hundred.as_str();
-    let document = read(&boxes, LONG_INDENT)?;
+    let document = read(place, LONG_INDENT)?;
     let options = RenderOptions::new(0);
     compare(
-        &rt,
+        rt,
         memory,
         &document,
         options,
         &["\n", hundred, hundred, "     "],
     )?;
     compare(
-        &rt,
+        rt,
         memory,
         &document,
         with_crlf(0),
         &["\r\n", hundred, hundred, "     "],
     )
+}
+
+fn all<'a, D: DocPlace<'a>>(rt: &impl Abort, place: &'a D) -> Result<(), Fail> {
+    kept_alternatives_are_pieces(rt, place)?;
+    payloads_need_no_trial(rt, place)?;
+    no_piece_is_empty(rt, place)?;
+    long_indents_are_in_pieces(rt, place)
+}
+
+#[test]
+fn pieces_of_layouts(rt: HostRuntime) -> Result<(), Fail> {
+    let boxes = BoxAllocator::new(rt.alloc());
+    all(&rt, &boxes)
 }

@@ -73,38 +73,6 @@ fn an_owned_text_finds_no_room(rt: HostRuntime) -> Result<(), Fail> {
     texts(&rt, &bump, &arena)
 }
 
-fn counted_texts<'a>(rt: &impl Abort, bump: &'a Bump, arena: &'a Arena<'a>) -> Result<(), Fail> {
-    let memory = arena.memory();
-    let refused = Doc::TextWithLen(1, text_of(memory)?);
-    let again = Doc::TextWithLen(1, text_of(memory)?);
-    let placed = compare(rt, memory, bump, arena, refused, again)?;
-    assert!(rt; layout(memory, placed)?.len() == LETTERS + 1);
-    Ok(())
-}
-
-#[test]
-fn a_counted_text_finds_no_room(rt: HostRuntime) -> Result<(), Fail> {
-    let bump = Bump::new(rt.alloc());
-    let arena = Arena::new(rt.alloc(), &bump);
-    counted_texts(&rt, &bump, &arena)
-}
-
-fn payloads<'a>(rt: &impl Abort, bump: &'a Bump, arena: &'a Arena<'a>) -> Result<(), Fail> {
-    let memory = arena.memory();
-    let refused = payload_of(memory)?;
-    let again = payload_of(memory)?;
-    let placed = compare(rt, memory, bump, arena, refused, again)?;
-    assert!(rt; layout(memory, placed)?.len() == LETTERS + 2);
-    Ok(())
-}
-
-#[test]
-fn an_owned_payload_finds_no_room(rt: HostRuntime) -> Result<(), Fail> {
-    let bump = Bump::new(rt.alloc());
-    let arena = Arena::new(rt.alloc(), &bump);
-    payloads(&rt, &bump, &arena)
-}
-
 // A payload in the arena has the measures that it had.
 fn measures<'a>(rt: &impl Abort, arena: &'a Arena<'a>) -> Result<(), Fail> {
     let placed = arena.alloc(payload_of(arena.memory())?)?;

@@ -4,11 +4,7 @@ ghost use Rattle.std.specs.Str.{IsCharBoundary};
 ghost use Rattle.test_hostile.specs.declared.sinks.Fault.TheVariants.{Count, Document};
 
 use crate::rows::{ACCENTED, APART, BoxRow, KEPT, boxed_rows};
-use bumpalo::Bump;
-use prettyless::{
-    Arena, BoxAllocator, DocPlace, DocPtr, LineEnding, RcAllocator, Render, RenderError,
-    RenderOptions,
-};
+use prettyless::{BoxAllocator, DocPlace, DocPtr, LineEnding, Render, RenderError, RenderOptions};
 use std::alloc::Global;
 use std::process::Abort;
 use std::test::Fail;
@@ -345,9 +341,5 @@ fn compare_full<'a, D: DocPlace<'a>>(rt: &impl Abort, place: &'a D) -> Result<()
 
 #[test]
 fn full_inside_an_alternative(rt: HostRuntime) -> Result<(), Fail> {
-    compare_full(&rt, &BoxAllocator::new(rt.alloc()))?;
-    compare_full(&rt, &RcAllocator::new(rt.alloc()))?;
-    let bump = Bump::new(rt.alloc());
-    let arena = Arena::new(rt.alloc(), &bump);
-    compare_full(&rt, &arena)
+    compare_full(&rt, &BoxAllocator::new(rt.alloc()))
 }

@@ -84,30 +84,27 @@ fn nests<'a, D: DocPlace<'a>>(place: &'a D) -> Result<D::Doc, BuildError> {
     Ok(nests)
 }
 
-#[test]
-fn chains_to_the_left(rt: HostRuntime) -> Result<(), Fail> {
-    let bump = Bump::new(rt.alloc());
-    let arena = Arena::new(rt.alloc(), &bump);
-    let layout = repeated(rt.alloc(), "", "a", TIMES, "")?;
-    compare(&rt, rt.alloc(), to_the_left(&arena)?, 80, layout.as_str())?;
+fn chains_to_the_left<'a, D: DocPlace<'a>>(rt: &impl Abort, place: &'a D) -> Result<(), Fail> {
+    let layout = repeated(place.memory(), "", "a", TIMES, "")?;
+    compare(rt, place.memory(), to_the_left(place)?, 80, layout.as_str())?;
     Ok(())
 }
 
-#[test]
-fn chains_to_the_right(rt: HostRuntime) -> Result<(), Fail> {
-    let bump = Bump::new(rt.alloc());
-    let arena = Arena::new(rt.alloc(), &bump);
-    let layout = repeated(rt.alloc(), "", "a", TIMES, "")?;
-    compare(&rt, rt.alloc(), to_the_right(&arena)?, 80, layout.as_str())?;
+fn chains_to_the_right<'a, D: DocPlace<'a>>(rt: &impl Abort, place: &'a D) -> Result<(), Fail> {
+    let layout = repeated(place.memory(), "", "a", TIMES, "")?;
+    compare(
+        rt,
+        place.memory(),
+        to_the_right(place)?,
+        80,
+        layout.as_str(),
+    )?;
     Ok(())
 }
 
-#[test]
-fn nests_in_nests(rt: HostRuntime) -> Result<(), Fail> {
-    let bump = Bump::new(rt.alloc());
-    let arena = Arena::new(rt.alloc(), &bump);
-    let layout = repeated(rt.alloc(), "\n", " ", TIMES, "x")?;
-    compare(&rt, rt.alloc(), nests(&arena)?, 80, layout.as_str())?;
+fn nests_in_nests<'a, D: DocPlace<'a>>(rt: &impl Abort, place: &'a D) -> Result<(), Fail> {
+    let layout = repeated(place.memory(), "\n", " ", TIMES, "x")?;
+    compare(rt, place.memory(), nests(place)?, 80, layout.as_str())?;
     Ok(())
 }
 
@@ -127,38 +124,38 @@ fn after_a_letter<'a, D: DocPlace<'a>>(place: &'a D, depth: usize) -> Result<D::
     append(place, text(place, "p")?, alternatives(place, depth)?)
 }
 
-// Every node of the alternatives is visited once, though all but the last are rejected.
-#[test]
-fn alternatives_are_visited_once(rt: HostRuntime) -> Result<(), Fail> {
-    let bump = Bump::new(rt.alloc());
-    let arena = Arena::new(rt.alloc(), &bump);
-    let document = after_a_letter(&arena, 64)?;
-    assert!(rt; arena.len() == 323);
-    let visits = compare(&rt, rt.alloc(), document, 4, "px")?;
+// Every node is visited once, though all but the last of the alternatives are rejected: 323 nodes, and the line, which is one node
+// for all 64 of them, 64 times.
+fn alternatives_are_visited_once<'a, D: DocPlace<'a>>(
+    rt: &impl Abort,
+    place: &'a D,
+) -> Result<(), Fail> {
+    let document = after_a_letter(place, 64)?;
+    let visits = compare(rt, place.memory(), document, 4, "px")?;
     assert!(rt; visits.printer == 387);
     assert!(rt; visits.probes == 0);
     Ok(())
 }
 
 // Trials in trials take no machine stack: here all but the last are rejected.
-#[test]
-fn rejected_alternatives_nest_deep(rt: HostRuntime) -> Result<(), Fail> {
-    let bump = Bump::new(rt.alloc());
-    let arena = Arena::new(rt.alloc(), &bump);
-    let document = after_a_letter(&arena, TIMES)?;
-    compare(&rt, rt.alloc(), document, 4, "px")?;
+fn rejected_alternatives_nest_deep<'a, D: DocPlace<'a>>(
+    rt: &impl Abort,
+    place: &'a D,
+) -> Result<(), Fail> {
+    let document = after_a_letter(place, TIMES)?;
+    compare(rt, place.memory(), document, 4, "px")?;
     Ok(())
 }
 
 // And here all are kept.
-#[test]
-fn kept_alternatives_nest_deep(rt: HostRuntime) -> Result<(), Fail> {
-    let bump = Bump::new(rt.alloc());
-    let arena = Arena::new(rt.alloc(), &bump);
-    let document = after_a_letter(&arena, TIMES)?;
-    let lines = repeated(rt.alloc(), "p", "\n", TIMES, "x")?;
-    let layout = repeated(rt.alloc(), lines.as_str(), "toolong", TIMES, "")?;
-    compare(&rt, rt.alloc(), document, usize::MAX, layout.as_str())?;
+fn kept_alternatives_nest_deep<'a, D: DocPlace<'a>>(
+    rt: &impl Abort,
+    place: &'a D,
+) -> Result<(), Fail> {
+    let document = after_a_letter(place, TIMES)?;
+    let lines = repeated(place.memory(), "p", "\n", TIMES, "x")?;
+    let layout = repeated(place.memory(), lines.as_str(), "toolong", TIMES, "")?;
+    compare(rt, place.memory(), document, usize::MAX, layout.as_str())?;
     Ok(())
 }
 
@@ -179,12 +176,27 @@ fn line_of_suffixes<'a, D: DocPlace<'a>>(place: &'a D, depth: usize) -> Result<D
     append(place, first, text(place, "b")?)
 }
 
+fn suffixes_in_suffixes<'a, D: DocPlace<'a>>(rt: &impl Abort, place: &'a D) -> Result<(), Fail> {
+    let document = line_of_suffixes(place, 1000)?;
+    let layout = repeated(place.memory(), "", "a", 1000, "\nb")?;
+    compare(rt, place.memory(), document, 80, layout.as_str())?;
+    Ok(())
+}
+
+fn all<'a, D: DocPlace<'a>>(rt: &impl Abort, place: &'a D) -> Result<(), Fail> {
+    chains_to_the_left(rt, place)?;
+    chains_to_the_right(rt, place)?;
+    nests_in_nests(rt, place)?;
+    alternatives_are_visited_once(rt, place)?;
+    rejected_alternatives_nest_deep(rt, place)?;
+    kept_alternatives_nest_deep(rt, place)?;
+    suffixes_in_suffixes(rt, place)
+}
+
+// One test for all: what its place of nodes is costs the prover more than what is done with it.
 #[test]
-fn suffixes_in_suffixes(rt: HostRuntime) -> Result<(), Fail> {
+fn awkward_trees(rt: HostRuntime) -> Result<(), Fail> {
     let bump = Bump::new(rt.alloc());
     let arena = Arena::new(rt.alloc(), &bump);
-    let document = line_of_suffixes(&arena, 1000)?;
-    let layout = repeated(rt.alloc(), "", "a", 1000, "\nb")?;
-    compare(&rt, rt.alloc(), document, 80, layout.as_str())?;
-    Ok(())
+    all(&rt, &arena)
 }

@@ -4,6 +4,10 @@
 #[cfg(test)]
 mod layouts;
 #[cfg(test)]
+mod lexemes;
+#[cfg(test)]
 mod refusals;
+#[cfg(test)]
+mod requests;
 #[cfg(test)]
 mod values;

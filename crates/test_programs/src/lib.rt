@@ -2,6 +2,8 @@
 #![tactic(auto)]
 
 #[cfg(test)]
+mod digits;
+#[cfg(test)]
 mod replay_layouts;
 #[cfg(test)]
 mod replay_running;

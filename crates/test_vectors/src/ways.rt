@@ -29,11 +29,6 @@ fn compare_bytes<'a, D: DocPlace<'a>>(rt: &impl Abort, place: &'a D) -> Result<(
     Ok(())
 }
 
-#[test]
-fn to_a_byte_writer(rt: HostRuntime) -> Result<(), Fail> {
-    compare_bytes(&rt, &BoxAllocator::new(rt.alloc()))
-}
-
 // What is printed at the width 80.
 fn printed<'a, T: DocPtr<'a>>(memory: Global, document: &T) -> Result<String, Fail> {
     Ok(format!(in memory; "{}", document.doc().print(memory, 80))?)
@@ -47,11 +42,6 @@ fn compare_displayed<'a, D: DocPlace<'a>>(rt: &impl Abort, place: &'a D) -> Resu
     let printed = displayed(memory, &document, late())?;
     assert!(rt; printed.as_str() == "ab\r\n\r\n  c");
     Ok(())
-}
-
-#[test]
-fn to_what_is_displayed(rt: HostRuntime) -> Result<(), Fail> {
-    compare_displayed(&rt, &BoxAllocator::new(rt.alloc()))
 }
 
 fn compare_flags<'a, T: DocPtr<'a>>(
@@ -72,15 +62,10 @@ fn compare_flags<'a, T: DocPtr<'a>>(
     Ok(())
 }
 
+// What a formatter is asked for changes nothing.
 fn compare_flags_in<'a, D: DocPlace<'a>>(rt: &impl Abort, place: &'a D) -> Result<(), Fail> {
     let document = read(place, WRITTEN)?;
     compare_flags(rt, place.memory(), &document)
-}
-
-// What a formatter is asked for changes nothing.
-#[test]
-fn flags_change_nothing(rt: HostRuntime) -> Result<(), Fail> {
-    compare_flags_in(&rt, &BoxAllocator::new(rt.alloc()))
 }
 
 fn compare_text_sink<'a, T: DocPtr<'a>>(
@@ -113,11 +98,6 @@ fn compare_sinks<'a, D: DocPlace<'a>>(rt: &impl Abort, place: &'a D) -> Result<(
     compare_byte_sink(rt, place.memory(), &document)
 }
 
-#[test]
-fn to_a_sink(rt: HostRuntime) -> Result<(), Fail> {
-    compare_sinks(&rt, &BoxAllocator::new(rt.alloc()))
-}
-
 fn compare_failing<'a, T: DocPtr<'a>>(
     rt: &impl Abort,
     memory: Global,
@@ -130,15 +110,10 @@ fn compare_failing<'a, T: DocPtr<'a>>(
     Ok(())
 }
 
+// A document that fails is not printed, and what was written is a beginning of its bytes.
 fn compare_failing_in<'a, D: DocPlace<'a>>(rt: &impl Abort, place: &'a D) -> Result<(), Fail> {
     let document = read(place, "Append Text 'a' Fail")?;
     compare_failing(rt, place.memory(), &document)
-}
-
-// A document that fails is not printed, and what was written is a beginning of its bytes.
-#[test]
-fn no_failing_document_is_displayed(rt: HostRuntime) -> Result<(), Fail> {
-    compare_failing_in(&rt, &BoxAllocator::new(rt.alloc()))
 }
 
 fn compare_before<'a, D: DocPlace<'a>>(rt: &impl Abort, place: &'a D) -> Result<(), Fail> {
@@ -151,7 +126,17 @@ fn compare_before<'a, D: DocPlace<'a>>(rt: &impl Abort, place: &'a D) -> Result<
     Ok(())
 }
 
+fn all<'a, D: DocPlace<'a>>(rt: &impl Abort, place: &'a D) -> Result<(), Fail> {
+    compare_bytes(rt, place)?;
+    compare_displayed(rt, place)?;
+    compare_flags_in(rt, place)?;
+    compare_sinks(rt, place)?;
+    compare_failing_in(rt, place)?;
+    compare_before(rt, place)
+}
+
+// One test for all: what its place of nodes is costs the prover more than what is done with it.
 #[test]
-fn fails_after_what_comes_before(rt: HostRuntime) -> Result<(), Fail> {
-    compare_before(&rt, &BoxAllocator::new(rt.alloc()))
+fn all_ways_to_render(rt: HostRuntime) -> Result<(), Fail> {
+    all(&rt, &BoxAllocator::new(rt.alloc()))
 }

@@ -1,20 +1,25 @@
-use Rattle.prettyless_pointers.proofs.InPlace.{InOrder, is-table}
+use Rattle.std.proofs.Common.{refl}
+use Rattle.prettyless_doc.specs.declared.constant.Constant.TheVariants.{Nil, Fail, Space, WeakSpace, HardLine, WeakLine, ExpandParent, LineOrSpace, LineOrNil, SoftLineOrSpace, SoftLineOrNil}
+use Rattle.prettyless_pointers.proofs.InPlace.{InOrder, is-table, leads, line-is, soft-line-is}
 use Rattle.prettyless_pointers.proofs.constants.table.Goals as goal
 
 pub returns-clause-ok : goal.returns-clause-ok
 returns-clause-ok c =
+    let leaves = c.in_ok-leaves.ensures in
+    let lines = c.in_ok-lines.ensures in
+    let soft_lines = c.in_ok-soft_lines.ensures in
     let h : InOrder _ _ _ _ _ _ _ _ _ _ _ =
     record {
-      nil = c.in_ok-nil.ensures.ok.0;
-      fail = c.in_ok-fail.ensures.ok.0;
-      space = c.in_ok-space.ensures.ok.0;
-      weak_space = c.in_ok-weak_space.ensures.ok.0;
-      hard_line = c.in_ok-hard_line.ensures.ok.0;
-      weak_line = c.in_ok-weak_line.ensures.ok.0;
-      expand_parent = c.in_ok-expand_parent.ensures.ok.0;
-      line = c.in_ok-line.ensures.ok.0;
-      line_ = c.in_ok-line_.ensures.ok.0;
-      softline = c.in_ok-softline.ensures.ok.0;
-      softline_ = c.in_ok-softline_.ensures.ok.0;
+      nil = leads Nil _ _ (rw leaves refl) (rw leaves refl);
+      fail = leads Fail _ _ (rw leaves refl) (rw leaves refl);
+      space = leads Space _ _ (rw leaves refl) (rw leaves refl);
+      weak_space = leads WeakSpace _ _ (rw leaves refl) (rw leaves refl);
+      hard_line = leads HardLine _ _ (rw leaves refl) (rw leaves refl);
+      weak_line = leads WeakLine _ _ (rw leaves refl) (rw leaves refl);
+      expand_parent = leads ExpandParent _ _ (rw leaves refl) (rw leaves refl);
+      line = leads LineOrSpace _ _ (rw lines (line-is LineOrSpace Space _ _ (leads HardLine _ _ (rw leaves refl) (rw leaves refl)) (leads Space _ _ (rw leaves refl) (rw leaves refl)) refl)) (rw lines refl);
+      line_ = leads LineOrNil _ _ (rw lines (line-is LineOrNil Nil _ _ (leads HardLine _ _ (rw leaves refl) (rw leaves refl)) (leads Nil _ _ (rw leaves refl) (rw leaves refl)) refl)) (rw lines refl);
+      softline = leads SoftLineOrSpace _ _ (rw soft_lines (soft-line-is SoftLineOrSpace LineOrSpace _ (leads LineOrSpace _ _ (rw lines (line-is LineOrSpace Space _ _ (leads HardLine _ _ (rw leaves refl) (rw leaves refl)) (leads Space _ _ (rw leaves refl) (rw leaves refl)) refl)) (rw lines refl)) refl)) (rw soft_lines refl);
+      softline_ = leads SoftLineOrNil _ _ (rw soft_lines (soft-line-is SoftLineOrNil LineOrNil _ (leads LineOrNil _ _ (rw lines (line-is LineOrNil Nil _ _ (leads HardLine _ _ (rw leaves refl) (rw leaves refl)) (leads Nil _ _ (rw leaves refl) (rw leaves refl)) refl)) (rw lines refl)) refl)) (rw soft_lines refl);
     }
     in is-table h c.in_ok-table.ensures

@@ -1,5 +1,8 @@
-use crate::Lexeme::{CloseArray, CloseObject, Colon, Comma, OpenArray, OpenObject, String, Word};
-use crate::lexemes;
+//! What texts are cut into.
+use json_lexemes::Lexeme::{
+    CloseArray, CloseObject, Colon, Comma, OpenArray, OpenObject, String, Word,
+};
+use json_lexemes::lexemes;
 use std::test::Fail;
 
 #[test]

@@ -1,8 +1,8 @@
 //! Texts that are no JSON, and what was expected where; words, and what they ask for.
-use crate::expected::Expected;
-use crate::fault::fault_of;
-use crate::request::requested;
 use clap::error::ErrorKind;
+use jsonfmt_request::expected::Expected;
+use jsonfmt_request::fault::fault_of;
+use jsonfmt_request::request::requested;
 use std::test::Fail;
 
 #[test]

@@ -1,0 +1,37 @@
+//! A document, or two, in a node of some kind.
+ghost use Rattle.prettyless_doc.specs.DocTree.{built};
+ghost use Rattle.prettyless_doc.specs.Parts.{around, of_two};
+ghost use Rattle.prettyless_build.specs.Built as to;
+
+use crate::builder::DocBuilder;
+use prettyless_doc::parts::{Pair, Single};
+use prettyless_doc::{BuildError, DocPlace};
+
+/// A node of this kind around the document. It fails where memory is refused.
+#[inline(always)]
+pub fn around<'a, D: DocPlace<'a>>(
+    kind: Single,
+    inner: DocBuilder<'a, D>,
+) -> Result<DocBuilder<'a, D>, BuildError>
+    ensures { to.Builds result (λ b. built D.Doc.tree b.1) (around kind (built D.Doc.tree inner.entry.1)) }
+{
+    let allocator = inner.0;
+    let inner = inner.into_doc()?;
+    Ok(DocBuilder::new(allocator, kind.around(inner)))
+}
+
+/// A node of this kind of the two documents. It fails where memory is refused.
+#[inline(always)]
+pub fn of_two<'a, D: DocPlace<'a>>(
+    kind: Pair,
+    first: DocBuilder<'a, D>,
+    second: DocBuilder<'a, D>,
+) -> Result<DocBuilder<'a, D>, BuildError>
+    ensures { to.Builds result (λ b. built D.Doc.tree b.1)
+        (of_two kind (built D.Doc.tree first.entry.1) (built D.Doc.tree second.entry.1)) }
+{
+    let allocator = first.0;
+    let first = first.into_doc()?;
+    let second = second.into_doc()?;
+    Ok(DocBuilder::new(allocator, kind.of(first, second)))
+}

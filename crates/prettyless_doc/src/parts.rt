@@ -1,0 +1,108 @@
+//! A node by what it holds: nothing, one document or two. So what is done to each node alike is said once.
+ghost use Rattle.std.specs.Prelude.{◌≡◌, IfOk, IfErr};
+ghost use Rattle.prettyless_doc.specs.BuildErrors.{IsMemory};
+ghost use Rattle.prettyless_doc.specs.DocTree.{tree_of};
+ghost use Rattle.prettyless_doc.specs.Parts.{around, of_two, parts_tree};
+
+use crate::doc::{Doc, DocPtr};
+use crate::text::BuildError;
+use prettyless_model::choice::{ColumnTest, NestingTest};
+use std::alloc::Global;
+
+/// The kinds of node that hold one document.
+#[derive(Clone, Copy)]
+pub enum Single {
+    LineSuffix,
+    Nest(isize),
+    DedentToRoot,
+    Align,
+    Flatten,
+    Group,
+}
+
+impl Single {
+    /// The node of this kind that holds `inner`.
+    pub fn around<'a, T: DocPtr<'a>>(self, inner: T) -> Doc<'a, T>
+        ensures { tree_of T.tree result ≡ around self (T.tree inner) }
+    {
+        match self {
+            Single::LineSuffix => Doc::LineSuffix(inner),
+            Single::Nest(offset) => Doc::Nest(offset, inner),
+            Single::DedentToRoot => Doc::DedentToRoot(inner),
+            Single::Align => Doc::Align(inner),
+            Single::Flatten => Doc::Flatten(inner),
+            Single::Group => Doc::Group(inner),
+        }
+    }
+}
+
+/// The kinds of node that hold two.
+#[derive(Clone, Copy)]
+pub enum Pair {
+    Append,
+    BreakOrFlat,
+    Union,
+    PartialUnion,
+    OnColumn(ColumnTest),
+    OnNesting(NestingTest),
+}
+
+impl Pair {
+    /// The node of this kind that holds these two.
+    pub fn of<'a, T: DocPtr<'a>>(self, first: T, second: T) -> Doc<'a, T>
+        ensures { tree_of T.tree result ≡ of_two self (T.tree first) (T.tree second) }
+    {
+        match self {
+            Pair::Append => Doc::Append(first, second),
+            Pair::BreakOrFlat => Doc::BreakOrFlat(first, second),
+            Pair::Union => Doc::Union(first, second),
+            Pair::PartialUnion => Doc::PartialUnion(first, second),
+            Pair::OnColumn(test) => Doc::OnColumn(test, first, second),
+            Pair::OnNesting(test) => Doc::OnNesting(test, first, second),
+        }
+    }
+}
+
+/// A node by what it holds.
+#[derive(Drop)]
+pub enum Parts<'d, 'a, T> {
+    /// A copy of the node, as it holds no document.
+    None(Doc<'a, T>),
+    One(Single, &'d T),
+    Two(Pair, &'d T, &'d T),
+}
+
+/// The node by what it holds. It fails where memory for a copy of a text is refused.
+pub fn parts_of<'d, 'a, T: DocPtr<'a>>(
+    memory: Global,
+    node: &'d Doc<'a, T>,
+) -> Result<Parts<'d, 'a, T>, BuildError>
+    ensures ok { IfOk result (λ p. parts_tree T.tree p ≡ tree_of T.tree node.now) }
+    ensures err { IfErr result IsMemory }
+{
+    Ok(match node {
+        Doc::Nil => Parts::None(Doc::Nil),
+        Doc::Fail => Parts::None(Doc::Fail),
+        Doc::Text(text) => Parts::None(Doc::Text(text.clone(memory)?)),
+        Doc::TextWithLen(width, text) => {
+            Parts::None(Doc::TextWithLen(*width, text.clone(memory)?))
+        }
+        Doc::MultilineText(payload) => Parts::None(Doc::MultilineText(payload.clone(memory)?)),
+        Doc::WeakSpace => Parts::None(Doc::WeakSpace),
+        Doc::HardLine => Parts::None(Doc::HardLine),
+        Doc::WeakLine => Parts::None(Doc::WeakLine),
+        Doc::Append(first, second) => Parts::Two(Pair::Append, first, second),
+        Doc::LineSuffix(inner) => Parts::One(Single::LineSuffix, inner),
+        Doc::Nest(offset, inner) => Parts::One(Single::Nest(*offset), inner),
+        Doc::DedentToRoot(inner) => Parts::One(Single::DedentToRoot, inner),
+        Doc::Align(inner) => Parts::One(Single::Align, inner),
+        Doc::ExpandParent => Parts::None(Doc::ExpandParent),
+        Doc::Flatten(inner) => Parts::One(Single::Flatten, inner),
+        Doc::BreakOrFlat(broken, flat) => Parts::Two(Pair::BreakOrFlat, broken, flat),
+        Doc::Group(inner) => Parts::One(Single::Group, inner),
+        Doc::Union(first, second) => Parts::Two(Pair::Union, first, second),
+        Doc::PartialUnion(first, second) => Parts::Two(Pair::PartialUnion, first, second),
+        Doc::OnColumn(test, first, second) => Parts::Two(Pair::OnColumn(*test), first, second),
+        Doc::OnNesting(test, first, second) => Parts::Two(Pair::OnNesting(*test), first, second),
+    })
+}
