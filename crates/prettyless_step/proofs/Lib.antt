@@ -4,3 +4,7 @@ pub mod Stacks
 pub mod Probes
 pub mod Queues
 pub mod Shown
+pub mod Ways
+pub mod Fronts
+pub mod Holding
+pub mod Resuming

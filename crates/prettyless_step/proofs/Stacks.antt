@@ -11,7 +11,7 @@ use Rattle.prettyless_step.specs.declared.stack.Stack.{Stack}
 use Rattle.prettyless_step.proofs.Frames.{spread-append, length-spread, spread_at, spread_open, spread_take, rises_under, take_last}
 
 -- an item that is added at the end is the first task
-downwards_push : {A : Type 0} (g : A → Task) (xs : List A) (x : A) → downwards g (xs ++ x ∷ []) ≡ g x ∷ downwards g xs
+pub downwards_push : {A : Type 0} (g : A → Task) (xs : List A) (x : A) → downwards g (xs ++ x ∷ []) ≡ g x ∷ downwards g xs
 downwards_push g [] x = refl
 downwards_push g (y ∷ xs) x = ap (λ (z : List Task). z ++ g y ∷ []) (downwards_push g xs x)
 

@@ -5,3 +5,6 @@ pub mod Piece
 pub mod Probing
 pub mod Steps
 pub mod Printing
+pub mod Ways
+pub mod Front
+pub mod Kept

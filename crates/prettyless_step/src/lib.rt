@@ -8,6 +8,8 @@
 mod choice;
 pub mod command;
 pub mod content;
+pub mod front;
+pub mod kept;
 pub mod pending;
 pub mod piece;
 pub mod printer;
@@ -15,4 +17,6 @@ pub mod probe;
 pub mod queue;
 pub mod stack;
 pub mod step;
+pub mod stepper;
 pub mod walk;
+pub mod way;

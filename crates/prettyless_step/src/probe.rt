@@ -5,7 +5,8 @@ ghost use Rattle.prettyless_model.specs.Column.{padding_fits};
 ghost use Rattle.prettyless_model.specs.Look.{answer_of, by_mode, look, look_text, payload_begins};
 ghost use Rattle.prettyless_model.specs.Layout.{rest_fits};
 ghost use Rattle.prettyless_step.specs.Probing.{ReadsAs, RisesBy, nodes_next, read_of};
-ghost use Rattle.prettyless_step.specs.Stack.{AnswersAs, Reads, Task, follow, in_break, make_task, nodes, stack_of, task, tasks_fit, unread};
+ghost use Rattle.prettyless_step.specs.Stack.{AnswersAs, Reads, Task, follow, in_break, make_task, nodes, stack_of, task, tasks_fit, unread, tasks_next};
+ghost use Rattle.prettyless_step.specs.Ways.{column_after as after, columns_fit as ends_within};
 
 use crate::choice::{by_column, by_nesting, either};
 use crate::command::{Command, nested_indent};
@@ -23,6 +24,24 @@ pub struct Line {
     pub column: Column,
     /// Whether a line suffix is pending.
     pub pending: bool,
+}
+
+/// The column after so many columns of content, or as it was where there are none.
+pub fn column_after(columns: usize, column: Column) -> Column
+    ensures { result ≡ after columns column }
+{
+    if columns == 0 {
+        return column;
+    }
+    column.committed(columns)
+}
+
+/// Whether so many columns of content end within the width; where there are none they do.
+#[inline(always)]
+pub fn columns_fit(width: usize, columns: usize, column: Column) -> bool
+    ensures { result ≡ ends_within width columns column }
+{
+    columns == 0 || column.committed(columns).position <= width
 }
 
 // Reads content: an empty text is nothing, another commits the column.
@@ -187,33 +206,31 @@ fn next_unread<N: Walk>(
     })
 }
 
-/// Whether a node, laid at this indent and in this mode from where the line is, stays within the width together with what
-/// follows it, up to the first line end. `stack` is only a place to work in. The nodes that it visits are counted in `probes`: one at
-/// least.
-#[tactic(auto, using(crate::proofs::Sizes::size_positive, crate::proofs::Probes::probe_fits))]
-pub fn probe<N: Walk>(
+// Visits a node, what is on the stack, and then the printer's commands downwards, up to an answer. Each node is counted in `probes`.
+#[inline(always)]
+#[tactic(auto, using(crate::proofs::Sizes::size_positive))]
+fn visit_all<N: Walk>(
     width: usize,
     start: Line,
-    node: N,
-    indent: usize,
-    mode: Mode,
+    first: Command<N>,
     commands: &Stack<N>,
+    cursor: Cursor,
     stack: &mut Stack<N>,
     probes: &mut u64,
 ) -> Result<bool, AllocError>
+    requires { Reads commands.now cursor }
     ensures answer { IfOk result
-        (λ r. r ≡ answer_of (look width (N.tree node) indent mode start.column start.pending)
-        (λ c p. rest_fits width (follow (stack_of N.tree commands.now)) c p)) }
+        (λ r. r ≡ tasks_fit width (task N.tree first ∷ (stack_of N.tree stack.old ++ in_break (unread N.tree commands.now cursor))) start.column start.pending) }
     ensures rises { probes.old ≤ probes.new }
-    ensures counted { probes.new ≤ probes.old + (size (N.tree node) + nodes (stack_of N.tree commands.now)) }
+    ensures counted { probes.new
+        ≤ probes.old + (size (N.tree first.node) + (nodes (stack_of N.tree stack.old) + nodes (unread N.tree commands.now cursor))) }
     ensures asked { OnOk result (RisesBy 1 probes.old probes.new) }
 {
     let mut line = start;
-    let mut below = commands.cursor();
-    let mut indent = indent;
-    let mut mode = mode;
-    let mut node = node;
-    stack.clear();
+    let mut below = cursor;
+    let mut indent = first.indent;
+    let mut mode = first.mode;
+    let mut node = first.node;
     'read: loop {
         *probes = one_more(*probes);
         match probe_one(width, &mut line, indent, mode, node, stack)? {
@@ -233,4 +250,68 @@ pub fn probe<N: Walk>(
             }
         }
     }
+}
+
+/// Whether a node, laid at this indent and in this mode from where the line is, stays within the width together with what
+/// follows it, up to the first line end. `stack` is only a place to work in. The nodes that it visits are counted in `probes`: one at
+/// least.
+#[tactic(auto, using(crate::proofs::Probes::probe_fits))]
+pub fn probe<N: Walk>(
+    width: usize,
+    start: Line,
+    node: N,
+    indent: usize,
+    mode: Mode,
+    commands: &Stack<N>,
+    stack: &mut Stack<N>,
+    probes: &mut u64,
+) -> Result<bool, AllocError>
+    ensures answer { IfOk result
+        (λ r. r ≡ answer_of (look width (N.tree node) indent mode start.column start.pending)
+        (λ c p. rest_fits width (follow (stack_of N.tree commands.now)) c p)) }
+    ensures rises { probes.old ≤ probes.new }
+    ensures counted { probes.new ≤ probes.old + (size (N.tree node) + nodes (stack_of N.tree commands.now)) }
+    ensures asked { OnOk result (RisesBy 1 probes.old probes.new) }
+{
+    stack.clear();
+    let first = Command { indent, mode, node };
+    visit_all(
+        width,
+        start,
+        first,
+        commands,
+        commands.cursor(),
+        stack,
+        probes,
+    )
+}
+
+/// Whether a node, if there is one, what is on the stack, and what follows both stay within the width from where the line is, up to the
+/// first line end. The nodes that it visits are counted in `probes`.
+pub fn probe_rest<N: Walk>(
+    width: usize,
+    start: Line,
+    next: Option<Command<N>>,
+    commands: &Stack<N>,
+    stack: &mut Stack<N>,
+    probes: &mut u64,
+) -> Result<bool, AllocError>
+    ensures answer { IfOk result (λ r. r
+        ≡ tasks_fit width (tasks_next N.tree next ++ (stack_of N.tree stack.old ++ in_break (stack_of N.tree commands.now))) start.column start.pending) }
+    ensures rises { probes.old ≤ probes.new }
+    ensures counted { probes.new
+        ≤ probes.old + (nodes (tasks_next N.tree next) + (nodes (stack_of N.tree stack.old) + nodes (stack_of N.tree commands.now))) }
+    ensures asked { OnOk result (IfSome next (λ _. RisesBy 1 probes.old probes.new)) }
+{
+    let mut below = commands.cursor();
+    let first = match next {
+        Some(first) => first,
+        None => {
+            let Some(first) = next_unread(commands, &mut below, stack) else {
+                return Ok(start.column.padding_fits(width, start.pending));
+            };
+            first
+        }
+    };
+    visit_all(width, start, first, commands, below, stack, probes)
 }

@@ -1,4 +1,4 @@
-use Rattle.std.proofs.Common.{◌≡◌, ◌≤◌, ◌∙◌, length, ap, arith}
+use Rattle.std.proofs.Common.{◌∙◌, length, ap, arith}
 use Rattle.prettyless_step.specs.Stack.{framed_tasks}
 use Rattle.prettyless_step.proofs.Stacks.{kept_below, kept_at_most}
 use Rattle.prettyless_step.proofs.stack.Stack.keep.Goals as goal

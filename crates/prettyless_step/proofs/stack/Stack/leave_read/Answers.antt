@@ -1,4 +1,4 @@
-use Rattle.std.proofs.Common.{◌≡◌, ◌-◌, ◌∙◌, ◌++◌, ◌∷◌, [], take, length, arith}
+use Rattle.std.proofs.Common.{◌-◌, ◌∙◌, take, arith}
 use Rattle.std.proofs.lemmas.List.{length-take-le}
 use Rattle.prettyless_step.proofs.Frames.{lowest_left, rises_under, take_last}
 use Rattle.prettyless_step.proofs.Stacks.{tasks_left}

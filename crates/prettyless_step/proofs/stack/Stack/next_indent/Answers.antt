@@ -1,4 +1,4 @@
-use Rattle.std.proofs.Common.{◌≡◌, ◌-◌, ap, get_or, length, arith, subst}
+use Rattle.std.proofs.Common.{◌≡◌, ◌-◌, get_or, length, arith, subst}
 use Rattle.prettyless_step.proofs.Stacks.{indent_here, indent_below}
 use Rattle.prettyless_step.proofs.stack.Stack.next_indent.Goals as goal
 

@@ -1,4 +1,4 @@
-use Rattle.std.proofs.Common.{◌<◌, ◌≡◌, ◌∙◌, length, arith, sym, subst}
+use Rattle.std.proofs.Common.{◌∙◌, arith, sym, subst}
 use Rattle.prettyless_step.specs.Frames.{Rises}
 use Rattle.prettyless_step.specs.declared.command.Frame.{Frame}
 use Rattle.prettyless_step.proofs.Frames.{lowest_left, rises_open}

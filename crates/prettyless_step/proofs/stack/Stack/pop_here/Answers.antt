@@ -1,4 +1,4 @@
-use Rattle.std.proofs.Common.{length, ap, arith, length-append}
+use Rattle.std.proofs.Common.{arith}
 use Rattle.prettyless_step.proofs.Stacks.{tasks_last}
 use Rattle.prettyless_step.proofs.stack.Stack.pop_here.Goals as goal
 

@@ -1,16 +1,16 @@
 use Rattle.std.proofs.Common.{◌≡◌, ◌++◌, ◌∷◌, ◌+◌, ◌≤◌}
 use Rattle.prettyless_model.specs.Tree.{size}
-use Rattle.prettyless_step.specs.Stack.{Reads, in_break, make_task, nodes, stack_of, tasks_fit, unread}
-use Rattle.prettyless_step.proofs.probe.probe.Given as goal
+use Rattle.prettyless_step.specs.Stack.{Reads, in_break, make_task, nodes, stack_of, task, tasks_fit, unread}
+use Rattle.prettyless_step.proofs.probe.visit_all.Given as goal
 
 abbrev pub invariant-read : goal.invariant-read
 invariant-read g l = record {
   of_this : Reads l.commands l.below;
   same : tasks_fit l.width (make_task l.indent l.mode (g.N.Walk.tree l.node) ∷ (stack_of g.N.Walk.tree l.stack ++ in_break (unread g.N.Walk.tree l.commands l.below))) l.line.column l.line.pending
-      ≡ tasks_fit l.width (make_task l.fn.indent l.fn.mode (g.N.Walk.tree l.fn.node) ∷ in_break (stack_of g.N.Walk.tree l.commands)) l.fn.start.column l.fn.start.pending;
+      ≡ tasks_fit l.width (task g.N.Walk.tree l.fn.first ∷ (stack_of g.N.Walk.tree l.fn.stack ++ in_break (unread g.N.Walk.tree l.commands l.fn.cursor))) l.fn.start.column l.fn.start.pending;
   rises : l.fn.probes ≤ l.probes;
   counted : l.probes + (size (g.N.Walk.tree l.node) + (nodes (stack_of g.N.Walk.tree l.stack) + nodes (unread g.N.Walk.tree l.commands l.below)))
-      ≤ l.fn.probes + (size (g.N.Walk.tree l.fn.node) + nodes (stack_of g.N.Walk.tree l.commands));
+      ≤ l.fn.probes + (size (g.N.Walk.tree l.fn.first.node) + (nodes (stack_of g.N.Walk.tree l.fn.stack) + nodes (unread g.N.Walk.tree l.commands l.fn.cursor)));
 }
 
 abbrev pub decreases-read : goal.decreases-read
