@@ -55,6 +55,12 @@ Turned f p q out new n m (Err (Document e)) = ⊥
 Turned f p q out new n m (Err (Sink e)) = ForWholes f p out (λ whole limit below old. AppendsBeginning old new (bytes_before whole)) × (m ≡ rise n)
 Turned f p q out new n m (Err (Memory e)) = (new ≡ out) × (m ≡ n)
 
+-- after a turn that went on, this holds of the tasks that are left
+abbrev pub Leaves : {N : Type 0} → (List Task → Type 0) → (N → Tree) → Printer N → Turn N → Type 0
+Leaves holds f q Went = holds (tasks_of f q)
+Leaves holds f q Failed = Unit {0}
+Leaves holds f q (Chosen i x y) = Unit {0}
+
 -- A turn, from one point to another.
 pub record Advances {N E : Type 0} (f : N → Tree) (a b : Point N) (r : Result (Turn N) (RenderError E)) : Type 0 where
   -- the options are the same

@@ -1,9 +1,11 @@
 //! The run: commands are worked off into a sink, and then what is pending at the end.
-ghost use Rattle.std.specs.Prelude.{◌≡◌, []};
+ghost use Rattle.std.specs.Prelude.{◌≡◌, ◌<◌, [], length, IfOk};
+ghost use Rattle.prettyless_step.specs.Kept.{Holds};
 ghost use Rattle.prettyless_step.specs.Printing.{tasks_of};
 ghost use Rattle.prettyless_printer.specs.Points.{point, seen};
 ghost use Rattle.prettyless_printer.specs.Paths.{Chooses};
 ghost use Rattle.prettyless_printer.specs.Renders.{FlushesEnd, Renders, RunsToEnd, WorksOff};
+ghost use Rattle.prettyless_printer.specs.Turns.{Advances, Leaves};
 
 use crate::answer::Turn;
 use crate::trial::{Trials, print_branch};
@@ -15,10 +17,12 @@ use prettyless_sink::error::RenderError;
 use prettyless_sink::pieces::write_gap_and_text;
 use prettyless_sink::render::Render;
 use prettyless_sink::visits::Visits;
+use prettyless_step::kept::{KeptProbe, is_worth_keeping};
 use prettyless_step::pending::{is_pending, take_pending};
 use prettyless_step::printer::Printer;
 use prettyless_step::queue::Queue;
 use prettyless_step::stack::Stack;
+use prettyless_step::stepper::PlainStepper;
 use prettyless_step::walk::Walk;
 use std::alloc::Global;
 
@@ -50,10 +54,51 @@ fn choose<N: Walk, W: Render>(
     }
 }
 
-// Takes commands until none is left.
+// A turn, in which what a probe reads is kept.
+#[inline(never)]
+fn turn_kept<N: Walk, W: Render>(
+    printer: &mut Printer<N>,
+    kept: &mut KeptProbe<N>,
+    out: &mut W,
+    visits: &mut Visits,
+) -> Result<Turn<N>, RenderError<W::Error>>
+    requires some { 0 < length (tasks_of N.tree printer.old) }
+    requires held { Holds N.tree kept.old (tasks_of N.tree printer.old) }
+    ensures advances { Advances N.tree
+        (point printer.old (seen W.bytes W.failures W.lender out.old) visits.old)
+        (point printer.new (seen W.bytes W.failures W.lender out.new) visits.new) result }
+    ensures leaves { IfOk result (λ t. Leaves (Holds N.tree kept.new) N.tree printer.new t) }
+{
+    turn(printer, kept, out, visits)
+}
+
+// A turn, in which what probes read is kept where they read much more than the printer lays.
+#[inline(always)]
+fn next_turn<N: Walk, W: Render>(
+    printer: &mut Printer<N>,
+    kept: &mut KeptProbe<N>,
+    start: Visits,
+    out: &mut W,
+    visits: &mut Visits,
+) -> Result<Turn<N>, RenderError<W::Error>>
+    requires some { 0 < length (tasks_of N.tree printer.old) }
+    requires held { Holds N.tree kept.old (tasks_of N.tree printer.old) }
+    ensures advances { Advances N.tree
+        (point printer.old (seen W.bytes W.failures W.lender out.old) visits.old)
+        (point printer.new (seen W.bytes W.failures W.lender out.new) visits.new) result }
+    ensures leaves { IfOk result (λ t. Leaves (Holds N.tree kept.new) N.tree printer.new t) }
+{
+    if kept.is_kept() || is_worth_keeping(start, visits) {
+        return turn_kept(printer, kept, out, visits);
+    }
+    turn(printer, &mut PlainStepper, out, visits)
+}
+
+// Takes commands until none is left. What a probe has read is kept no longer than that, and not over a choice between branches.
 fn work_off<N: Walk, W: Render>(
     printer: &mut Printer<N>,
     trials: &mut Trials<N>,
+    kept: &mut KeptProbe<N>,
     out: &mut W,
     visits: &mut Visits,
 ) -> Result<(), RenderError<W::Error>>
@@ -61,11 +106,14 @@ fn work_off<N: Walk, W: Render>(
         (point printer.old (seen W.bytes W.failures W.lender out.old) visits.old)
         (point printer.new (seen W.bytes W.failures W.lender out.new) visits.new) result }
 {
+    kept.give_up();
+    let start = *visits;
     'work: while printer.commands.len() > 0 {
-        match turn(printer, out, visits)? {
+        match next_turn(printer, kept, start, out, visits)? {
             Turn::Failed => return Err(RenderError::Document(out.fail_doc())),
             Turn::Went => {}
             Turn::Chosen(indent, first, second) => {
+                kept.give_up();
                 choose(printer, trials, out, indent, first, second, visits)?;
             }
         }
@@ -95,6 +143,7 @@ fn flush_end<N: Walk, W: Render>(
 fn run_to_end<N: Walk, W: Render>(
     printer: &mut Printer<N>,
     trials: &mut Trials<N>,
+    kept: &mut KeptProbe<N>,
     out: &mut W,
     visits: &mut Visits,
 ) -> Result<(), RenderError<W::Error>>
@@ -103,7 +152,7 @@ fn run_to_end<N: Walk, W: Render>(
         (point printer.new (seen W.bytes W.failures W.lender out.new) visits.new) result }
 {
     'rounds: loop {
-        work_off(printer, trials, out, visits)?;
+        work_off(printer, trials, kept, out, visits)?;
         if !is_pending(printer) {
             return Ok(());
         }
@@ -142,8 +191,9 @@ pub fn render<N: Walk, W: Render>(
         queue: Queue::new(alloc),
     };
     let mut trials = Trials::new(alloc);
+    let mut kept = KeptProbe::new(alloc);
     match printer.commands.push(0, Mode::Break, node) {
-        Ok(()) => run_to_end(&mut printer, &mut trials, out, visits),
+        Ok(()) => run_to_end(&mut printer, &mut trials, &mut kept, out, visits),
         Err(e) => Err(RenderError::Memory(e)),
     }
 }

@@ -15,6 +15,7 @@ use prettyless_sink::visits::Visits;
 use prettyless_step::pending::is_pending;
 use prettyless_step::printer::Printer;
 use prettyless_step::queue::QueueMark;
+use prettyless_step::stepper::PlainStepper;
 use prettyless_step::walk::Walk;
 use std::alloc::{AllocError, Global};
 
@@ -113,7 +114,7 @@ fn advance<N: Walk>(
         }
         return Ok(Course::Rejected);
     }
-    match turn(printer, buffer, visits) {
+    match turn(printer, &mut PlainStepper, buffer, visits) {
         Err(e) => Err(memory_of(e)),
         Ok(Turn::Failed) => Ok(Course::Rejected),
         Ok(Turn::Went) => {

@@ -13,15 +13,15 @@ returns-then-len-below g c = λ t on.
 -- a turn goes on
 pub returns-then-printer : goal.returns-then-printer
 returns-then-printer g c = λ t on.
-    course_goes g.N.Walk.tree on (omega (arith, c.if-len-below.false, c.len.ensures)) (rw c.in-Ok-Went.field-0-is at c.in-Ok-Went.ensures) c.if-printer.true
+    course_goes g.N.Walk.tree on (omega (arith, c.if-len-below.false, c.len.ensures)) (rw c.in-Ok-Went.field-0-is at c.in-Ok-Went.ensures.advances) c.if-printer.true
 
 -- a text ends past the width
 pub returns-else-printer : goal.returns-else-printer
 returns-else-printer g c = λ t on.
-    course_past g.N.Walk.tree on (omega (arith, c.if-len-below.false, c.len.ensures)) (rw c.in-Ok-Went.field-0-is at c.in-Ok-Went.ensures) c.if-printer.false
+    course_past g.N.Walk.tree on (omega (arith, c.if-len-below.false, c.len.ensures)) (rw c.in-Ok-Went.field-0-is at c.in-Ok-Went.ensures.advances) c.if-printer.false
 
 -- two branches are to be chosen from
 pub returns-in-Ok-Chosen : goal.returns-in-Ok-Chosen
 returns-in-Ok-Chosen g c = λ t on.
     course_chosen g.N.Walk.tree c.in-Ok-Chosen.indent c.in-Ok-Chosen.first c.in-Ok-Chosen.second on (omega (arith, c.if-len-below.false, c.len.ensures))
-    (rw c.in-Ok-Chosen.field-0-is at c.in-Ok-Chosen.ensures)
+    (rw c.in-Ok-Chosen.field-0-is at c.in-Ok-Chosen.ensures.advances)

@@ -20,6 +20,7 @@ down-init g c =
       hand = in_hand g.N.Walk.tree (point p (seen g.W.Render.bytes g.W.Render.failures g.W.Render.lender c.args.out.now) c.args.visits.now) (record p { commands = c.pop.new.self })
           (task g.N.Walk.tree c.in-Some.command) c.in-Some.ensures refl refl ([], sym (append-nil p.queue.nodes.items));
       past = λ h. absurd (cc);
+      held = rw c.in-Some.ensures at c.requires.held;
     }
 
 pub down-preserved-in-Ok-Next : goal.down-preserved-in-Ok-Next
@@ -32,6 +33,7 @@ down-preserved-in-Ok-Next g c =
     record {
       hand = goes_down f q _ x c.in-Ok-Next.next_indent c.down.mode c.in-Ok-Next.next hand refl one c.in-Ok-Next.ensures.asked (shown f q c.in-Ok-Next.field-0 (taken.Next c.in-Ok-Next.next_indent c.in-Ok-Next.next) hand c.in-Ok-Next.field-0-is c.in-Ok-Next.ensures.step);
       past = λ h. absurd (cc);
+      held = rw c.in-Ok-Next.field-0-is at c.in-Ok-Next.ensures.lands;
     }
 
 pub down-preserved-in-Ok-NextPast : goal.down-preserved-in-Ok-NextPast
@@ -45,6 +47,7 @@ down-preserved-in-Ok-NextPast g c =
     record {
       hand = goes_down f q _ x c.in-Ok-NextPast.next_indent c.down.mode c.in-Ok-NextPast.next hand refl one c.in-Ok-NextPast.ensures.asked told.0;
       past = λ _. told.1;
+      held = rw c.in-Ok-NextPast.field-0-is at c.in-Ok-NextPast.ensures.lands;
     }
 
 pub down-preserved : goal.down-preserved
@@ -57,10 +60,11 @@ down-preserved g c =
     record {
       hand = goes_down f q _ x c.in-Ok-NextFlat.next_indent Flat c.in-Ok-NextFlat.next hand refl one c.in-Ok-NextFlat.ensures.asked (shown f q c.in-Ok-NextFlat.field-0 (taken.NextFlat c.in-Ok-NextFlat.next_indent c.in-Ok-NextFlat.next) hand c.in-Ok-NextFlat.field-0-is c.in-Ok-NextFlat.ensures.step);
       past = λ h. absurd (cc);
+      held = rw c.in-Ok-NextFlat.field-0-is at c.in-Ok-NextFlat.ensures.lands;
     }
 
-pub returns-in-Ok-Quiet : goal.returns-in-Ok-Quiet
-returns-in-Ok-Quiet g c =
+pub returns-in-Ok-Quiet-clause-advances : goal.returns-in-Ok-Quiet-clause-advances
+returns-in-Ok-Quiet-clause-advances g c =
     let f = g.N.Walk.tree in
     let see = seen g.W.Render.bytes g.W.Render.failures g.W.Render.lender in
     let q = c.step.new.printer in
@@ -70,8 +74,8 @@ returns-in-Ok-Quiet g c =
     advances_went f q (see c.down.out) x [] hand one c.in-Ok-Quiet.ensures.asked (shown f q c.in-Ok-Quiet.field-0 taken.Quiet hand c.in-Ok-Quiet.field-0-is c.in-Ok-Quiet.ensures.step) refl
     (λ is_known. (is_known, (sym (append-nil (known (g.W.Render.bytes c.down.out))), refl)))
 
-pub returns-in-Ok-Failed : goal.returns-in-Ok-Failed
-returns-in-Ok-Failed g c =
+pub returns-in-Ok-Failed-clause-advances : goal.returns-in-Ok-Failed-clause-advances
+returns-in-Ok-Failed-clause-advances g c =
     let f = g.N.Walk.tree in
     let q = c.step.new.printer in
     let x = c.step.new.visits in
@@ -79,8 +83,8 @@ returns-in-Ok-Failed g c =
     let one = visit f x c.one_more-visits.result hand c.one_more-visits.ensures.one c.one_more-visits.ensures.rises c.step.ensures.printer c.step.ensures.rises c.step.ensures.counted in
     advances_failed f q x hand one (shown f q c.in-Ok-Failed.field-0 taken.Failed hand c.in-Ok-Failed.field-0-is c.in-Ok-Failed.ensures.step)
 
-pub returns-in-Ok-Chosen : goal.returns-in-Ok-Chosen
-returns-in-Ok-Chosen g c =
+pub returns-in-Ok-Chosen-clause-advances : goal.returns-in-Ok-Chosen-clause-advances
+returns-in-Ok-Chosen-clause-advances g c =
     let f = g.N.Walk.tree in
     let q = c.step.new.printer in
     let x = c.step.new.visits in
@@ -89,8 +93,8 @@ returns-in-Ok-Chosen g c =
     advances_chosen f q x c.in-Ok-Chosen.indent c.in-Ok-Chosen.first c.in-Ok-Chosen.second hand one c.in-Ok-Chosen.ensures.asked
     (shown f q c.in-Ok-Chosen.field-0 (taken.Chosen c.in-Ok-Chosen.indent c.in-Ok-Chosen.first c.in-Ok-Chosen.second) hand c.in-Ok-Chosen.field-0-is c.in-Ok-Chosen.ensures.step)
 
-pub returns-in-Ok : goal.returns-in-Ok
-returns-in-Ok g c =
+pub returns-in-Ok-clause-advances : goal.returns-in-Ok-clause-advances
+returns-in-Ok-clause-advances g c =
     let f = g.N.Walk.tree in
     let see = seen g.W.Render.bytes g.W.Render.failures g.W.Render.lender in
     let q = c.step.new.printer in
@@ -100,8 +104,8 @@ returns-in-Ok g c =
     advances_went f q (see c.write_piece.new.out) x (piece_bytes c.in-Ok-Written.piece) hand one c.in-Ok-Written.ensures.asked (shown f q c.in-Ok-Written.field-0 (taken.Written c.in-Ok-Written.piece) hand c.in-Ok-Written.field-0-is c.in-Ok-Written.ensures.step)
     c.write_piece.ensures.same_lender c.in-Ok.ensures.ok
 
-pub returns-in-Err : goal.returns-in-Err
-returns-in-Err g c =
+pub returns-in-Err-clause-advances : goal.returns-in-Err-clause-advances
+returns-in-Err-clause-advances g c =
     let f = g.N.Walk.tree in
     let q = c.step.new.printer in
     let x = c.step.new.visits in
@@ -109,8 +113,8 @@ returns-in-Err g c =
     let one = visit f x c.one_more-visits.result hand c.one_more-visits.ensures.one c.one_more-visits.ensures.rises c.step.ensures.printer c.step.ensures.rises c.step.ensures.counted in
     advances_refused f q x c.in-Err.e hand one
 
-pub returns-in-Err-write_piece : goal.returns-in-Err-write_piece
-returns-in-Err-write_piece g c =
+pub returns-in-Err-write_piece-clause-advances : goal.returns-in-Err-write_piece-clause-advances
+returns-in-Err-write_piece-clause-advances g c =
     let f = g.N.Walk.tree in
     let see = seen g.W.Render.bytes g.W.Render.failures g.W.Render.lender in
     let q = c.step.new.printer in

@@ -14,6 +14,7 @@ invariant-down g l =
     record {
       hand : InHand f (point l.fn.printer (sink l.fn.out) l.fn.visits) (make_task l.indent l.mode (f l.node)) (point l.printer (sink l.out) l.visits);
       past : IsTrue l.is_past → IsPast f l.indent (f l.node) l.printer;
+      held : g.S.Stepper.holds l.stepper (make_task l.indent l.mode (f l.node) ∷ tasks_of f l.printer);
     }
 
 abbrev pub decreases-down : goal.decreases-down
