@@ -1,5 +1,5 @@
 -- The words for workloads, the widths that they are laid out within, and their sizes.
-use Rattle.std.specs.Prelude.{ℕ, ◌-◌, ◌^◌, nat_lt, List, [], ◌∷◌, codes, Option, Some, None, if◌then◌else◌}
+use Rattle.std.specs.Prelude.{ℕ, ◌-◌, ◌^◌, List, [], ◌∷◌, codes, Option, Some, None, if◌then◌else◌}
 use Rattle.std.specs.Str.{bytes_eq}
 use Rattle.bench_workloads.specs.declared.workload.Workload.{Workload}
 use Rattle.bench_workloads.specs.declared.workload.Workload.TheVariants as w
@@ -52,12 +52,3 @@ full_sizes_of w.RejectedTrials = depths
 full_sizes_of w.TailGroups = depths
 full_sizes_of w.RealJson = 200 ∷ []
 full_sizes_of _ = 1000000 ∷ []
-
--- a reason that counts above 10,000
-abbrev pub beyond : ℕ → List ℕ → Option (List ℕ)
-beyond size reason = if nat_lt 10000 size then Some reason else None
-
--- why it is not timed at a size, if so
-abbrev pub obstacle_of : Workload → ℕ → Option (List ℕ)
-obstacle_of w.TailGroups size = beyond size (codes "its probes are quadratic")
-obstacle_of _ size = None

@@ -76,10 +76,6 @@ fn time_at<R: AllocGlobal + Clock + Files + Print>(
     ensures err { IfErr result IsOfTiming }
 {
     let name = workload.name();
-    if let Some(obstacle) = workload.obstacle(size) {
-        println!(rt; "{name} {size}: skipped, since {obstacle}")?;
-        return Ok(());
-    }
     let counts = forget_peak(rt);
     let timed = time(rt, rt.alloc(), workload, size)?;
     let nanos = timed.render.as_nanos() / timed.nodes.max(1) as u128;

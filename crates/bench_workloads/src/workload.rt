@@ -1,6 +1,5 @@
 //! What is measured.
 ghost use Rattle.std.specs.Prelude.{◌≡◌, Some};
-ghost use Rattle.std.specs.Option.{option_copied};
 ghost use Rattle.bench_workloads.specs.Names as names;
 
 /// A kind of document. Its size is a number of atoms, records, groups, words, lines, trials or objects.
@@ -116,16 +115,6 @@ impl Workload {
             | Workload::RejectedTrials
             | Workload::TailGroups => &[1_000, 10_000, 100_000],
             _ => &[1_000_000],
-        }
-    }
-
-    /// Why it is not timed at a size, if so.
-    pub(crate) fn obstacle(self, size: usize) -> Option<&'static str>
-        ensures { option_copied result ≡ names.obstacle_of self size }
-    {
-        match self {
-            Workload::TailGroups if size > 10_000 => Some("its probes are quadratic"),
-            _ => None,
         }
     }
 }

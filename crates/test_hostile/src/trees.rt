@@ -183,6 +183,70 @@ fn suffixes_in_suffixes<'a, D: DocPlace<'a>>(rt: &impl Abort, place: &'a D) -> R
     Ok(())
 }
 
+// A line end or this text.
+fn line<'a, D: DocPlace<'a>>(place: &'a D, flat: &'a str) -> Result<D::Doc, BuildError> {
+    let broken = place.alloc(Doc::HardLine)?;
+    place.alloc(Doc::BreakOrFlat(broken, text(place, flat)?))
+}
+
+// Groups in groups, each with a letter and a line in front of the next.
+fn groups_after_letters<'a, D: DocPlace<'a>>(place: &'a D) -> Result<D::Doc, BuildError> {
+    let mut nested = text(place, "a")?;
+    for _ in 0..TIMES {
+        let front = append(place, text(place, "a")?, line(place, " ")?)?;
+        nested = place.alloc(Doc::Group(append(place, front, nested)?))?;
+    }
+    Ok(nested)
+}
+
+// Groups in groups, each with a line in front of the next and twenty columns after it.
+fn groups_before_texts<'a, D: DocPlace<'a>>(place: &'a D) -> Result<D::Doc, BuildError> {
+    let mut nested = text(place, "x")?;
+    for _ in 0..TIMES {
+        let group = place.alloc(Doc::Group(append(place, line(place, "")?, nested)?))?;
+        nested = append(place, group, text(place, "after twenty columns")?)?;
+    }
+    Ok(nested)
+}
+
+// Whether probes visited less than five nodes for each that the printer visited: where they have visited more than four, what they
+// read is kept.
+fn reads_little(rt: &impl Abort, visits: Visits) {
+    assert!(rt; visits.probes / 5 < visits.printer);
+}
+
+// Forty letters fit a line of 80 columns.
+fn groups_after_letters_are_read_once<'a, D: DocPlace<'a>>(
+    rt: &impl Abort,
+    place: &'a D,
+) -> Result<(), Fail> {
+    let lines = repeated(place.memory(), "", "a\n", TIMES - 39, "")?;
+    let layout = repeated(place.memory(), lines.as_str(), "a ", 39, "a")?;
+    let document = groups_after_letters(place)?;
+    let visits = compare(rt, place.memory(), document, 80, layout.as_str())?;
+    reads_little(rt, visits);
+    Ok(())
+}
+
+// No group fits with what comes after it.
+fn groups_before_texts_are_read_once<'a, D: DocPlace<'a>>(
+    rt: &impl Abort,
+    place: &'a D,
+) -> Result<(), Fail> {
+    let lines = repeated(place.memory(), "", "\n", TIMES, "x")?;
+    let layout = repeated(
+        place.memory(),
+        lines.as_str(),
+        "after twenty columns",
+        TIMES,
+        "",
+    )?;
+    let document = groups_before_texts(place)?;
+    let visits = compare(rt, place.memory(), document, 80, layout.as_str())?;
+    reads_little(rt, visits);
+    Ok(())
+}
+
 fn all<'a, D: DocPlace<'a>>(rt: &impl Abort, place: &'a D) -> Result<(), Fail> {
     chains_to_the_left(rt, place)?;
     chains_to_the_right(rt, place)?;
@@ -190,7 +254,9 @@ fn all<'a, D: DocPlace<'a>>(rt: &impl Abort, place: &'a D) -> Result<(), Fail> {
     alternatives_are_visited_once(rt, place)?;
     rejected_alternatives_nest_deep(rt, place)?;
     kept_alternatives_nest_deep(rt, place)?;
-    suffixes_in_suffixes(rt, place)
+    suffixes_in_suffixes(rt, place)?;
+    groups_after_letters_are_read_once(rt, place)?;
+    groups_before_texts_are_read_once(rt, place)
 }
 
 // One test for all: what its place of nodes is costs the prover more than what is done with it.

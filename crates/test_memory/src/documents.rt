@@ -1,7 +1,7 @@
 //! Documents, and what each is laid out as.
-use prettyless::docs;
 use prettyless::prelude::*;
 use prettyless::text::BuildError;
+use prettyless::{Doc, docs};
 
 /// A text that has no room in a node.
 pub const LONG: &str = "a text of 23 characters";
@@ -20,6 +20,7 @@ pub enum Kind {
     Reflowed,
     Macro,
     OwnedText,
+    Groups,
 }
 
 /// A document, and what it is laid out as at a width.
@@ -108,7 +109,15 @@ const OWNED_TEXT: Row<'static> = Row {
     layout: "a text of 23 characters\n  b",
 };
 
-/// The documents that are built.
+/// Groups in groups, of which so many are broken that the printer keeps what its probes have read.
+pub const GROUPS: Row<'static> = Row {
+    name: "groups in groups",
+    kind: Kind::Groups,
+    width: 20,
+    layout: "a\na\na\na\na\na\na\na\na a a a a a a a a a",
+};
+
+/// The documents that are built in each place.
 pub const ROWS: [Row<'static>; 11] = [
     SECOND_LINE_TOO_LONG,
     SUFFIXES_PENDING,
@@ -189,6 +198,26 @@ fn owned_text<'a, D: DocPlace<'a>>(place: &'a D) -> Result<D::Doc, BuildError> {
     place.pretty((as_string(LONG), indented))?.into_doc()
 }
 
+// A letter and a line, and then twenty documents that are nothing.
+fn letter_and_line<'a, D: DocPlace<'a>>(place: &'a D) -> Result<D::Doc, BuildError> {
+    let mut front = place.pretty(("a", line_or_space()))?.into_doc()?;
+    for _ in 0..20 {
+        let nothing = place.alloc(Doc::Nil)?;
+        front = place.alloc(Doc::Append(front, nothing))?;
+    }
+    Ok(front)
+}
+
+fn groups_in_groups<'a, D: DocPlace<'a>>(place: &'a D) -> Result<D::Doc, BuildError> {
+    let mut nested = place.pretty("a")?.into_doc()?;
+    for _ in 0..17 {
+        let front = letter_and_line(place)?;
+        let both = place.alloc(Doc::Append(front, nested))?;
+        nested = place.alloc(Doc::Group(both))?;
+    }
+    Ok(nested)
+}
+
 impl Row<'_> {
     /// Builds its document in this place.
     pub fn document<'a, D: DocPlace<'a>>(self, place: &'a D) -> Result<D::Doc, BuildError> {
@@ -204,6 +233,7 @@ impl Row<'_> {
             Kind::Reflowed => reflowed(place),
             Kind::Macro => of_a_macro(place),
             Kind::OwnedText => owned_text(place),
+            Kind::Groups => groups_in_groups(place),
         }
     }
 }

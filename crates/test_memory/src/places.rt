@@ -1,5 +1,5 @@
 //! Documents in each place: built, and laid out into an array.
-use crate::documents::{KEPT, ROWS, Row};
+use crate::documents::{GROUPS, KEPT, ROWS, Row};
 use crate::run::{Answer, Run, Wrong};
 use arrayvec::ArrayVec;
 use prettyless::text::BuildError;
@@ -81,7 +81,10 @@ pub fn counted_owners(memory: Global, run: &mut Run<'_>) -> Result<(), Wrong> {
 }
 
 fn compare_in<'a>(run: &mut Run<'_>, arena: &'a Arena<'a>) -> Result<(), Wrong> {
-    compare_rows(run, "arena", arena)
+    compare_rows(run, "arena", arena)?;
+    run.begin("arena", GROUPS.name);
+    let document = build(run, arena, GROUPS)?;
+    compare(arena.memory(), run, &document, GROUPS)
 }
 
 pub fn arena(memory: Global, run: &mut Run<'_>) -> Result<(), Wrong> {
