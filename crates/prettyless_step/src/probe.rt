@@ -178,6 +178,7 @@ fn probe_one<N: Walk>(
 }
 
 // The next node that the probe looks at: one of its own, and then the printer's commands downwards, each in Break.
+#[inline(always)]
 #[tactic(auto, using(crate::proofs::Stacks::below_steps))]
 fn next_unread<N: Walk>(
     commands: &Stack<N>,
@@ -207,7 +208,6 @@ fn next_unread<N: Walk>(
 }
 
 // Visits a node, what is on the stack, and then the printer's commands downwards, up to an answer. Each node is counted in `probes`.
-#[inline(always)]
 #[tactic(auto, using(crate::proofs::Sizes::size_positive))]
 fn visit_all<N: Walk>(
     width: usize,
