@@ -86,7 +86,7 @@ impl<N: Walk> Front<N> {
     ghost use Rattle.prettyless_model.specs.Tree.{size};
 
     /// Nothing. It takes no memory.
-    pub fn new(alloc: Global) -> Self
+    pub(crate) fn new(alloc: Global) -> Self
         ensures way { result.way.items ≡ [] }
         ensures unread { result.unread.items ≡ [] }
         ensures columns { result.columns ≡ 0 }
@@ -99,7 +99,7 @@ impl<N: Walk> Front<N> {
     }
 
     /// Begins with a node, which comes next.
-    pub fn begin(&mut self, indent: usize, node: N) -> Result<(), AllocError>
+    pub(crate) fn begin(&mut self, indent: usize, node: N) -> Result<(), AllocError>
         ensures { OnOk result (IsFront N.tree self.new 0 0 (N.tree node) indent 0) }
     {
         self.way.clear();
@@ -192,7 +192,7 @@ impl<N: Walk> Front<N> {
     }
 
     /// Reads the node that comes next, on a way of which so many steps are done with.
-    pub fn read_next(&mut self, gone: usize) -> Result<Reading<N>, AllocError>
+    pub(crate) fn read_next(&mut self, gone: usize) -> Result<Reading<N>, AllocError>
         ensures reads { IfOk result (ReadsNext N.tree self.old self.new gone) }
         ensures fewer { IfOk result (IsFewer N.tree (nodes (unread_from N.tree self.old 0)) self.new) }
         ensures stays { IfOk result (Stays self.old self.new) }
@@ -204,7 +204,7 @@ impl<N: Walk> Front<N> {
     }
 
     /// The next step of the way, after so many of them.
-    pub fn way_after(&self, gone: usize) -> Option<Way>
+    pub(crate) fn way_after(&self, gone: usize) -> Option<Way>
         ensures { MatchOption result (length self.now.way.items ≤ gone)
             (λ w. (gone < length self.now.way.items) × (drop gone self.now.way.items ≡ w ∷ drop (gone + 1) self.now.way.items)) }
     {
@@ -215,7 +215,7 @@ impl<N: Walk> Front<N> {
     }
 
     /// Puts the nodes on a stack that are not read yet, from a height on.
-    pub fn copy_unread(&self, after: usize, stack: &mut Stack<N>) -> Result<(), AllocError>
+    pub(crate) fn copy_unread(&self, after: usize, stack: &mut Stack<N>) -> Result<(), AllocError>
         ensures { OnOk result (stack_of N.tree stack.new
             ≡ flat_tasks N.tree (drop after self.now.unread.items) ++ stack_of N.tree stack.old) }
     {

@@ -27,7 +27,7 @@ pub struct Line {
 }
 
 /// The column after so many columns of content, or as it was where there are none.
-pub fn column_after(columns: usize, column: Column) -> Column
+pub(crate) fn column_after(columns: usize, column: Column) -> Column
     ensures { result ≡ after columns column }
 {
     if columns == 0 {
@@ -38,7 +38,7 @@ pub fn column_after(columns: usize, column: Column) -> Column
 
 /// Whether so many columns of content end within the width; where there are none they do.
 #[inline(always)]
-pub fn columns_fit(width: usize, columns: usize, column: Column) -> bool
+pub(crate) fn columns_fit(width: usize, columns: usize, column: Column) -> bool
     ensures { result ≡ ends_within width columns column }
 {
     columns == 0 || column.committed(columns).position <= width
@@ -288,7 +288,7 @@ pub fn probe<N: Walk>(
 
 /// Whether a node, if there is one, what is on the stack, and what follows both stay within the width from where the line is, up to the
 /// first line end. The nodes that it visits are counted in `probes`.
-pub fn probe_rest<N: Walk>(
+pub(crate) fn probe_rest<N: Walk>(
     width: usize,
     start: Line,
     next: Option<Command<N>>,
