@@ -45,6 +45,7 @@ pub(crate) fn columns_fit(width: usize, columns: usize, column: Column) -> bool
 }
 
 // Reads content: an empty text is nothing, another commits the column.
+#[inline(always)]
 fn read_content(width: usize, line: &mut Line, counted: usize, text: &str) -> Option<bool>
     ensures { (ts : List Task) → AnswersAs result
         (answer_of (look_text width counted text.now line.old.column line.old.pending) (λ c p. tasks_fit width ts c p))
@@ -60,6 +61,7 @@ fn read_content(width: usize, line: &mut Line, counted: usize, text: &str) -> Op
 }
 
 // Reads a payload, which ends the line: with its first part, in Break, and not at all when flat.
+#[inline(always)]
 fn read_payload(width: usize, line: &Line, mode: Mode, metrics: Metrics) -> bool
     ensures { result ≡ by_mode mode (payload_begins width metrics line.now.column) false }
 {
@@ -72,6 +74,7 @@ fn read_payload(width: usize, line: &Line, mode: Mode, metrics: Metrics) -> bool
 }
 
 // Reads a line end that no flat line holds.
+#[inline(always)]
 fn read_line_end(width: usize, line: &Line, mode: Mode) -> bool
     ensures { result ≡ by_mode mode (padding_fits width line.now.pending line.now.column) false }
 {
@@ -82,6 +85,7 @@ fn read_line_end(width: usize, line: &Line, mode: Mode) -> bool
 }
 
 // Reads a weak line, which is nothing on a fresh line where no suffix is pending. Its indent does not matter.
+#[inline(always)]
 fn read_weak_line(width: usize, line: &Line, mode: Mode) -> Option<bool>
     ensures { (ts : List Task) → AnswersAs result
         (tasks_fit width (make_task 0 mode WeakLine ∷ ts) line.now.column line.now.pending)
@@ -104,6 +108,7 @@ pub enum Read<N> {
 }
 
 // An answer, or none.
+#[inline(always)]
 fn answered<N>(answer: Option<bool>) -> Read<N>
     ensures { result ≡ read_of answer }
 {
@@ -114,6 +119,7 @@ fn answered<N>(answer: Option<bool>) -> Read<N>
 }
 
 // Looks at one node. The nodes below it are looked at next: the first is answered, and a second one is now on the stack.
+#[inline(always)]
 #[tactic(auto, using(crate::proofs::Probes::looks))]
 fn probe_one<N: Walk>(
     width: usize,
@@ -208,6 +214,7 @@ fn next_unread<N: Walk>(
 }
 
 // Visits a node, what is on the stack, and then the printer's commands downwards, up to an answer. Each node is counted in `probes`.
+#[inline(always)]
 #[tactic(auto, using(crate::proofs::Sizes::size_positive))]
 fn visit_all<N: Walk>(
     width: usize,

@@ -26,7 +26,9 @@ use prettyless_model::options::IndentationPolicy;
 use prettyless_sink::visits::{Visits, one_more};
 use std::alloc::AllocError;
 
-// Whether a node fits the line at this indent and in this mode, with the printer's commands following it.
+// Whether a node fits the line at this indent and in this mode, with the printer's commands following it. The loop of a probe is
+// copied into it, and it is not copied into the printer's loop, which would keep less in registers then.
+#[inline(never)]
 fn probe_here<N: Walk>(
     printer: &mut Printer<N>,
     node: N,
