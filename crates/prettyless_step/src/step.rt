@@ -27,7 +27,7 @@ use prettyless_sink::visits::{Visits, one_more};
 use std::alloc::AllocError;
 
 // Whether a node fits the line at this indent and in this mode, with the printer's commands following it. The loop of a probe is
-// copied into it, and it is not copied into the printer's loop, which would keep less in registers then.
+// copied into it. It is not copied into the printer's loop itself: short probes took longer where it was.
 #[inline(never)]
 fn probe_here<N: Walk>(
     printer: &mut Printer<N>,
