@@ -80,10 +80,10 @@ fn only_below<N: Walk>(indent: usize, node: &N) -> Option<FlatNode<N>>
 }
 
 impl<N: Walk> Front<N> {
-    ghost use Rattle.std.specs.Prelude.{◌+◌, ◌≤◌, ◌<◌, drop, length, MatchOption};
+    ghost use Rattle.std.specs.Prelude.{ℕ, ◌+◌, ◌≤◌, ◌<◌, drop, length, MatchOption};
     ghost use Rattle.prettyless_step.specs.Front.{Drops, DropsText, IsFewer, IsFront, ReadsNext, ReadsTaken, Replaces, Stays, flat_node, flat_tasks, unread_from};
     ghost use Rattle.prettyless_step.specs.Stack.{nodes, stack_of};
-    ghost use Rattle.prettyless_model.specs.Tree.{size};
+    ghost use Rattle.prettyless_model.specs.Tree.{Tree, size};
 
     /// Nothing. It takes no memory.
     pub(crate) fn new(alloc: Global) -> Self
@@ -212,6 +212,14 @@ impl<N: Walk> Front<N> {
             return Some(self.way[gone]);
         }
         None
+    }
+
+    /// Drops so many steps at the beginning of the way, so that the rest is the way from the node that they lead to.
+    pub(crate) fn drop_steps(&mut self, gone: usize)
+        requires { gone ≤ length self.old.way.items }
+        ensures { (after : ℕ) (d : Tree) (i a : ℕ) → IsFront N.tree self.old gone after d i a → IsFront N.tree self.new 0 after d i a }
+    {
+        self.way.drain(..gone);
     }
 
     /// Puts the nodes on a stack that are not read yet, from a height on.

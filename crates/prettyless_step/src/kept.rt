@@ -28,6 +28,9 @@ use prettyless_model::mode::Mode;
 use prettyless_sink::visits::{Visits, one_more};
 use std::alloc::{AllocError, Global};
 
+// How many steps that the printer has gone are not worth dropping.
+const GONE_STEPS: usize = 64;
+
 /// What a probe has read of a group, and where in it the printer is.
 #[derive(Drop)]
 pub struct KeptProbe<N> {
@@ -125,6 +128,21 @@ impl<N: Walk> KeptProbe<N> {
         self.after = 0;
         self.height = Some(height);
         Ok(())
+    }
+
+    // Drops the steps that the printer has gone, if there are many of them, and more than others. So the way takes memory for
+    // those that are ahead.
+    fn drop_gone(&mut self)
+        ensures way { (d : Tree) (i a : ℕ) → OnWay N.tree self.old d i a → OnWay N.tree self.new d i a }
+        ensures height { self.new.height ≡ self.old.height }
+    {
+        let Some(ahead) = self.front.way.len().checked_sub(self.gone) else {
+            return;
+        };
+        if self.gone > ahead.max(GONE_STEPS) {
+            self.front.drop_steps(self.gone);
+            self.gone = 0;
+        }
     }
 
     // The way goes on to the only node below. The answer is how many columns were read before it.
@@ -280,6 +298,7 @@ impl<N: Walk> KeptProbe<N> {
     {
         if self.is_kept() {
             if let Some(columns) = self.go_down() {
+                self.drop_gone();
                 return Ok(columns);
             }
         }
