@@ -9,6 +9,14 @@ use Rattle.prettyless.specs.Words.{intersperse}
 use Rattle.bench_workloads.specs.declared.workload.Workload.{Workload}
 use Rattle.bench_workloads.specs.declared.workload.Workload.TheVariants as w
 
+-- a text and a line behind it
+abbrev pub text_line : List ℕ → Tree
+text_line text = append (Text text) line
+
+-- a document on a line of its own where it does not fit
+abbrev pub on_own_line : Tree → Tree
+on_own_line inner = append line_ inner
+
 -- items between parentheses, nested by 1 and grouped
 abbrev pub parenthesised : Tree → Tree
 parenthesised items = append (append (Text (codes "(")) (group (nest (pos 1) items))) (Text (codes ")"))
@@ -38,11 +46,11 @@ IsTree n x = (k : ℕ) × (10 ^ k ≤ max n 1) × (max n 1 < 10 * 10 ^ k) × (x 
 
 -- values between brackets, each on lines of their own where they don't fit one
 abbrev pub bracketed : Tree → Tree → Tree → Tree
-bracketed opening values closing = group (append (append opening (nest (pos 2) (append line_ values))) (append line_ closing))
+bracketed opening values closing = group (append (append opening (nest (pos 2) (on_own_line values))) (on_own_line closing))
 
 -- a document, a comma and a line, and the next one
 abbrev pub with_comma : Tree → Tree → Tree
-with_comma front next = append (append front (append (Text (codes ",")) line)) next
+with_comma front next = append (append front (text_line (codes ","))) next
 
 -- a document, a soft line, and the next word
 abbrev pub with_word : Tree → List ℕ → Tree
@@ -67,25 +75,32 @@ abbrev pub lines : ℕ → Tree
 lines n = nest (pos 4) (intersperse HardLine (replicate n (Text (codes "a line of text that is as long as it has to be for sixty is."))))
 
 -- three texts in brackets
-abbrev pub tags : Tree
-tags = bracketed (Text (codes "[")) (with_comma (with_comma (Text (codes "\"red\"")) (Text (codes "\"green\""))) (Text (codes "\"blue\""))) (Text (codes "]"))
+abbrev pub triple : List ℕ → List ℕ → List ℕ → Tree
+triple first second third = bracketed (Text (codes "[")) (with_comma (with_comma (Text first) (Text second)) (Text third)) (Text (codes "]"))
 
--- the fields of a record: its number, a word for that, the tags and a text
+-- a key, and the value behind it
+abbrev pub field : List ℕ → Tree → Tree
+field key value = append (Text key) value
+
+-- the fields of a record: its number, a word for that, three texts and another text
 abbrev pub id_field : ℕ → Tree
-id_field n = append (Text (codes "\"id\": ")) (counted.as_string (decimal n))
+id_field n = field (codes "\"id\": ") (counted.as_string (decimal n))
 
 abbrev pub name_field : ℕ → Tree
 name_field n = append (append (Text (codes "\"name\": \"")) (Text (word (n % 5)))) (Text (codes "\""))
 
 abbrev pub tags_field : Tree
-tags_field = append (Text (codes "\"tags\": ")) tags
+tags_field = field (codes "\"tags\": ") (triple (codes "\"red\"") (codes "\"green\"") (codes "\"blue\""))
 
 abbrev pub note_field : Tree
 note_field = Text (codes "\"note\": \"as wide as makes a record wider than a line\"")
 
--- a record: its four fields in braces
+abbrev pub record_fields : ℕ → Tree
+record_fields n = with_comma (with_comma (with_comma (id_field n) (name_field n)) tags_field) note_field
+
+-- these in braces
 abbrev pub record_of : ℕ → Tree
-record_of n = bracketed (Text (codes "{")) (with_comma (with_comma (with_comma (id_field n) (name_field n)) tags_field) note_field) (Text (codes "}"))
+record_of n = bracketed (Text (codes "{")) (record_fields n) (Text (codes "}"))
 
 -- so many records, and one at least, with commas between them
 abbrev pub records : ℕ → Tree
@@ -99,7 +114,7 @@ array n = bracketed (Text (codes "[")) (records n) (Text (codes "]"))
 
 -- a text, a line and this, grouped
 abbrev pub text_group : Tree → Tree
-text_group inner = group (append (append (Text (codes "a")) line) inner)
+text_group inner = group (append (text_line (codes "a")) inner)
 
 -- so many of these in one another
 abbrev pub text_groups : ℕ → Tree
@@ -139,7 +154,7 @@ rejected_trials n = append (Text (codes "p")) (rejected n)
 
 -- a line and this, grouped, and a text behind the group
 abbrev pub tail_group : Tree → Tree
-tail_group inner = append (group (append line_ inner)) (Text (codes "a text of forty columns, behind a group."))
+tail_group inner = append (group (on_own_line inner)) (Text (codes "a text of forty columns, behind a group."))
 
 -- so many of these in one another
 abbrev pub tail_groups : ℕ → Tree
@@ -168,20 +183,12 @@ abbrev pub weak_spaces : ℕ → Tree
 weak_spaces zero = Nil
 weak_spaces (suc n) = append (weak_spaces n) remarked
 
--- three numbers in brackets
-abbrev pub numbers : Tree
-numbers = bracketed (Text (codes "[")) (with_comma (with_comma (Text (codes "7")) (Text (codes "-12.5"))) (Text (codes "31415926"))) (Text (codes "]"))
-
--- a key, and the value behind it
-abbrev pub field : List ℕ → Tree → Tree
-field key value = append (Text key) value
-
 -- the fields of an object that hold no other: a string, a number and three of these
 abbrev pub plain_fields : Tree
 plain_fields = with_comma (with_comma
     (field (codes "\"tag\": ") (Text (codes "\"red and green\"")))
     (field (codes "\"quantity\": ") (Text (codes "40320"))))
-    (field (codes "\"coordinates\": ") numbers)
+    (field (codes "\"coordinates\": ") (triple (codes "7") (codes "-12.5") (codes "31415926")))
 
 -- these, and two fields more
 abbrev pub fields : Tree → Tree → Tree

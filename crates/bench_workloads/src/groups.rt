@@ -4,9 +4,9 @@ ghost use Rattle.prettyless.specs.BuildErrors.{IsMemory};
 ghost use Rattle.prettyless.specs.DocTree.{built};
 ghost use Rattle.bench_workloads.specs.Documents as to;
 
-use crate::parts::text;
+use crate::parts::{on_own_line, text, text_line};
 use prettyless::text::BuildError;
-use prettyless::{BuildDoc, Doc, DocAllocator, DocBuilder, DocPlace};
+use prettyless::{BuildDoc, Doc, DocBuilder, DocPlace};
 
 /// Groups nested so deep, with a text and a line in each in front of the next.
 pub(crate) fn text_groups<'a, D: DocPlace<'a>>(
@@ -18,8 +18,7 @@ pub(crate) fn text_groups<'a, D: DocPlace<'a>>(
 {
     let mut all = text(place, "a");
     for _ in 0..depth {
-        let front = text(place, "a").join(place.line()?)?;
-        all = front.join(all)?.group()?;
+        all = text_line(place, "a")?.join(all)?.group()?;
     }
     Ok(all)
 }
@@ -30,8 +29,7 @@ fn wide<'a, D: DocPlace<'a>>(place: &'a D) -> Result<DocBuilder<'a, D>, BuildErr
     ensures err { IfErr result IsMemory }
 {
     let half = "a text of fifty columns, of which two fill a line.";
-    let front = text(place, half).join(place.line()?)?;
-    front.join(text(place, half))
+    text_line(place, half)?.join(text(place, half))
 }
 
 /// Groups nested so deep, around two texts that don't fit a line.
@@ -59,7 +57,7 @@ fn tail_group<'a, D: DocPlace<'a>>(
     ensures err { IfErr result IsMemory }
 {
     let place = inner.0;
-    let front = place.line_()?.join(inner)?.group()?;
+    let front = on_own_line(inner)?.group()?;
     front.join(text(place, "a text of forty columns, behind a group."))
 }
 

@@ -2,27 +2,28 @@
 ghost use Rattle.std.specs.Prelude.{◌≡◌, IfOk, IfErr};
 ghost use Rattle.prettyless.specs.BuildErrors.{IsMemory};
 ghost use Rattle.prettyless.specs.DocTree.{built};
+ghost use Rattle.prettyless.specs.Tree.{Text};
 ghost use Rattle.bench_workloads.specs.Documents as to;
 
-use crate::parts::text;
+use crate::parts::{on_own_line, text, text_line};
 use crate::words::word;
 use prettyless::text::BuildError;
 use prettyless::{DocAllocator, DocBuilder, DocPlace};
 
-/// Values in brackets.
+/// Values between these.
 pub(crate) fn bracketed<'a, D: DocPlace<'a>>(
-    opening: DocBuilder<'a, D>,
+    opening: &'a str,
     values: DocBuilder<'a, D>,
-    closing: DocBuilder<'a, D>,
+    closing: &'a str,
 ) -> Result<DocBuilder<'a, D>, BuildError>
-    ensures ok { IfOk result (λ b. built D.Doc.tree b.1 ≡ to.bracketed
-        (built D.Doc.tree opening.entry.1) (built D.Doc.tree values.entry.1) (built D.Doc.tree closing.entry.1)) }
+    ensures ok { IfOk result (λ b. built D.Doc.tree b.1
+        ≡ to.bracketed (Text opening.now) (built D.Doc.tree values.entry.1) (Text closing.now)) }
     ensures err { IfErr result IsMemory }
 {
-    let place = opening.0;
-    let inner = place.line_()?.join(values)?.nest(2)?;
-    let end = place.line_()?.join(closing)?;
-    opening.join(inner)?.join(end)?.group()
+    let place = values.0;
+    let inner = on_own_line(values)?.nest(2)?;
+    let end = on_own_line(text(place, closing))?;
+    text(place, opening).join(inner)?.join(end)?.group()
 }
 
 /// A value, a comma, a line and another value.
@@ -34,35 +35,80 @@ pub(crate) fn with_comma<'a, D: DocPlace<'a>>(
         (built D.Doc.tree front.entry.1) (built D.Doc.tree next.entry.1)) }
     ensures err { IfErr result IsMemory }
 {
-    let place = front.0;
-    let gap = text(place, ",").join(place.line()?)?;
+    let gap = text_line(front.0, ",")?;
     front.join(gap)?.join(next)
 }
 
-// A list of texts.
-fn tags<'a, D: DocPlace<'a>>(place: &'a D) -> Result<DocBuilder<'a, D>, BuildError>
-    ensures ok { IfOk result (λ b. built D.Doc.tree b.1 ≡ to.tags) }
+/// A key, and the value behind it.
+pub(crate) fn field<'a, D: DocPlace<'a>>(
+    key: &'a str,
+    value: DocBuilder<'a, D>,
+) -> Result<DocBuilder<'a, D>, BuildError>
+    ensures ok { IfOk result (λ b. built D.Doc.tree b.1 ≡ to.field key.now (built D.Doc.tree value.entry.1)) }
     ensures err { IfErr result IsMemory }
 {
-    let warm = with_comma(text(place, "\"red\""), text(place, "\"green\""))?;
-    let values = with_comma(warm, text(place, "\"blue\""))?;
-    bracketed(text(place, "["), values, text(place, "]"))
+    let place = value.0;
+    text(place, key).join(value)
+}
+
+/// Fields, a comma, a line and another field.
+pub(crate) fn with_field<'a, D: DocPlace<'a>>(
+    front: DocBuilder<'a, D>,
+    key: &'a str,
+    value: DocBuilder<'a, D>,
+) -> Result<DocBuilder<'a, D>, BuildError>
+    ensures ok { IfOk result (λ b. built D.Doc.tree b.1 ≡ to.with_comma
+        (built D.Doc.tree front.entry.1) (to.field key.now (built D.Doc.tree value.entry.1))) }
+    ensures err { IfErr result IsMemory }
+{
+    let next = field(key, value)?;
+    with_comma(front, next)
+}
+
+/// Three texts in square brackets.
+pub(crate) fn triple<'a, D: DocPlace<'a>>(
+    place: &'a D,
+    first: &'a str,
+    second: &'a str,
+    third: &'a str,
+) -> Result<DocBuilder<'a, D>, BuildError>
+    ensures ok { IfOk result (λ b. built D.Doc.tree b.1 ≡ to.triple first.now second.now third.now) }
+    ensures err { IfErr result IsMemory }
+{
+    let pair = with_comma(text(place, first), text(place, second))?;
+    let values = with_comma(pair, text(place, third))?;
+    bracketed("[", values, "]")
+}
+
+// A field whose text depends on the number.
+fn name<'a, D: DocPlace<'a>>(place: &'a D, number: usize) -> Result<DocBuilder<'a, D>, BuildError>
+    ensures ok { IfOk result (λ b. built D.Doc.tree b.1 ≡ to.name_field number) }
+    ensures err { IfErr result IsMemory }
+{
+    let name = text(place, "\"name\": \"").join(text(place, word(number)))?;
+    name.join(text(place, "\""))
 }
 
 // Four fields, of which two depend on the number.
+fn record_fields<'a, D: DocPlace<'a>>(
+    place: &'a D,
+    number: usize,
+) -> Result<DocBuilder<'a, D>, BuildError>
+    ensures { IfOk result (λ b. built D.Doc.tree b.1 ≡ to.record_fields number) }
+{
+    let id = field("\"id\": ", place.as_string(number)?)?;
+    let named = with_comma(id, name(place, number)?)?;
+    let tags = triple(place, "\"red\"", "\"green\"", "\"blue\"")?;
+    let tagged = with_field(named, "\"tags\": ", tags)?;
+    let note = "\"note\": \"as wide as makes a record wider than a line\"";
+    with_comma(tagged, text(place, note))
+}
+
+// The fields of a number in braces.
 fn record<'a, D: DocPlace<'a>>(place: &'a D, number: usize) -> Result<DocBuilder<'a, D>, BuildError>
     ensures { IfOk result (λ b. built D.Doc.tree b.1 ≡ to.record_of number) }
 {
-    let id = text(place, "\"id\": ").join(place.as_string(number)?)?;
-    let name = text(place, "\"name\": \"").join(text(place, word(number)))?;
-    let tags = text(place, "\"tags\": ").join(tags(place)?)?;
-    let note = text(
-        place,
-        "\"note\": \"as wide as makes a record wider than a line\"",
-    );
-    let fields = with_comma(id, name.join(text(place, "\""))?)?;
-    let fields = with_comma(with_comma(fields, tags)?, note)?;
-    bracketed(text(place, "{"), fields, text(place, "}"))
+    bracketed("{", record_fields(place, number)?, "}")
 }
 
 /// So many records in one list, and one at least.
@@ -76,5 +122,5 @@ pub(crate) fn array<'a, D: DocPlace<'a>>(
     for number in 1..records {
         values = with_comma(values, record(place, number)?)?;
     }
-    bracketed(text(place, "["), values, text(place, "]"))
+    bracketed("[", values, "]")
 }

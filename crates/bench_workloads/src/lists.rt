@@ -2,15 +2,13 @@
 ghost use Rattle.std.specs.Prelude.{◌≡◌, IfOk, IfErr};
 ghost use Rattle.prettyless.specs.BuildErrors.{IsMemory};
 ghost use Rattle.prettyless.specs.DocTree.{built};
-ghost use Rattle.prettyless.specs.Trees.{ref_tree};
+ghost use Rattle.prettyless.specs.Tree.{Tree};
 ghost use Rattle.bench_workloads.specs.Documents as to;
 
 use crate::parts::text;
 use prettyless::combinators::line_or_space;
 use prettyless::text::BuildError;
-use prettyless::{
-    Arena, BuildDoc, DocAllocator, DocAllocatorBetween, DocBuilder, DocPlace, RefDoc,
-};
+use prettyless::{BuildDoc, DocAllocator, DocAllocatorBetween, DocBuilder, DocPlace};
 use std::iter;
 
 const ATOM: &str = "atom";
@@ -20,12 +18,12 @@ const CHILDREN: usize = 10;
 
 // Items in parentheses.
 fn parenthesised<'a, D: DocPlace<'a>>(
-    place: &'a D,
     items: DocBuilder<'a, D>,
 ) -> Result<DocBuilder<'a, D>, BuildError>
     ensures ok { IfOk result (λ b. built D.Doc.tree b.1 ≡ to.parenthesised (built D.Doc.tree items.entry.1)) }
     ensures err { IfErr result IsMemory }
 {
+    let place = items.0;
     let inner = items.nest(1)?.group()?;
     text(place, "(").join(inner)?.join(text(place, ")"))
 }
@@ -40,7 +38,7 @@ pub(crate) fn list<'a, D: DocPlace<'a>>(
 {
     let atom: &'a str = ATOM;
     let items = place.intersperse(iter::repeat_n(atom, atoms), line_or_space())?;
-    parenthesised(place, items)
+    parenthesised(items)
 }
 
 // An atom and a line in front of a document.
@@ -49,7 +47,8 @@ fn in_front<'a, D: DocPlace<'a>>(inner: DocBuilder<'a, D>) -> Result<DocBuilder<
     ensures err { IfErr result IsMemory }
 {
     let place = inner.0;
-    text(place, ATOM).join(place.line()?.join(inner)?)
+    let rest = place.line()?.join(inner)?;
+    text(place, ATOM).join(rest)
 }
 
 // So many atoms in front of a last one.
@@ -75,60 +74,73 @@ pub(crate) fn right_list<'a, D: DocPlace<'a>>(
     leaning(place, atoms)?.nest(1)?.group()
 }
 
-// A document behind another, with a line between them.
-fn behind<'a, D: DocPlace<'a>>(
-    place: &'a D,
-    front: D::Doc,
-    next: D::Doc,
-) -> Result<D::Doc, BuildError>
-    ensures ok { IfOk result (λ d. D.Doc.tree d ≡ to.behind (D.Doc.tree front) (D.Doc.tree next)) }
-    ensures err { IfErr result IsMemory }
-{
-    let front = DocBuilder(place, BuildDoc::DocPtr(front)).join(place.line()?)?;
-    let next = DocBuilder(place, BuildDoc::DocPtr(next));
-    front.join(next)?.into_doc()
+/// Where trees are built. It knows no lifetime, so that a function that calls itself may have it as a bound.
+trait TreePlace: Copy {
+    /// The pointer to a tree.
+    type Doc: Drop;
+
+    ghost tree: { Self.Doc → Tree };
+
+    /// An atom.
+    fn atom(self) -> Result<Self::Doc, BuildError>
+        ensures ok { IfOk result (λ d. tree d ≡ to.tree 0) }
+        ensures err { IfErr result IsMemory };
+
+    /// A document behind another, with a line between them.
+    fn behind(self, front: Self::Doc, next: Self::Doc) -> Result<Self::Doc, BuildError>
+        ensures ok { IfOk result (λ d. tree d ≡ to.behind (tree front) (tree next)) }
+        ensures err { IfErr result IsMemory };
+
+    /// A list of these.
+    fn listed(self, items: Self::Doc) -> Result<Self::Doc, BuildError>
+        ensures ok { IfOk result (λ d. tree d ≡ to.parenthesised (tree items)) }
+        ensures err { IfErr result IsMemory };
 }
 
-// An atom.
-fn atom<'a, D: DocPlace<'a>>(place: &'a D) -> Result<D::Doc, BuildError>
-    ensures ok { IfOk result (λ d. D.Doc.tree d ≡ to.tree 0) }
-    ensures err { IfErr result IsMemory }
-{
-    text(place, ATOM).into_doc()
-}
+impl<'a, D: DocPlace<'a>> TreePlace for &'a D {
+    type Doc = D::Doc;
 
-// A list of these.
-fn listed<'a, D: DocPlace<'a>>(place: &'a D, items: D::Doc) -> Result<D::Doc, BuildError>
-    ensures ok { IfOk result (λ d. D.Doc.tree d ≡ to.parenthesised (D.Doc.tree items)) }
-    ensures err { IfErr result IsMemory }
-{
-    parenthesised(place, DocBuilder(place, BuildDoc::DocPtr(items)))?.into_doc()
+    ghost tree = { D.Doc.tree };
+
+    fn atom(self) -> Result<D::Doc, BuildError> {
+        text(self, ATOM).into_doc()
+    }
+
+    fn behind(self, front: D::Doc, next: D::Doc) -> Result<D::Doc, BuildError> {
+        let front = DocBuilder(self, BuildDoc::DocPtr(front)).join(self.line()?)?;
+        let next = DocBuilder(self, BuildDoc::DocPtr(next));
+        front.join(next)?.into_doc()
+    }
+
+    fn listed(self, items: D::Doc) -> Result<D::Doc, BuildError> {
+        parenthesised(DocBuilder(self, BuildDoc::DocPtr(items)))?.into_doc()
+    }
 }
 
 // An atom, or a list of ten trees that have one level less.
-fn levels<'a>(arena: &'a Arena<'a>, height: u32) -> Result<RefDoc<'a>, BuildError>
-    ensures ok { IfOk result (λ d. ref_tree d ≡ to.tree height) }
+fn levels<P: TreePlace>(place: P, height: u32) -> Result<P::Doc, BuildError>
+    ensures ok { IfOk result (λ d. P.tree d ≡ to.tree height) }
     ensures err { IfErr result IsMemory }
 {
     if height == 0 {
-        return atom(arena);
+        return place.atom();
     }
-    let mut items = levels(arena, height - 1)?;
+    let mut items = levels(place, height - 1)?;
     for _ in 1..CHILDREN {
-        items = behind(arena, items, levels(arena, height - 1)?)?;
+        items = place.behind(items, levels(place, height - 1)?)?;
     }
-    listed(arena, items)
+    place.listed(items)
 }
 
 /// Lists of ten, in lists of ten, and so on, with as many atoms as the greatest power of ten up to this number has, and
 /// with one at least.
-pub(crate) fn tree<'a>(
-    arena: &'a Arena<'a>,
+pub(crate) fn tree<'a, D: DocPlace<'a>>(
+    place: &'a D,
     atoms: usize,
-) -> Result<DocBuilder<'a, Arena<'a>>, BuildError>
-    ensures ok { IfOk result (λ b. to.IsTree atoms (built ref_tree b.1)) }
+) -> Result<DocBuilder<'a, D>, BuildError>
+    ensures ok { IfOk result (λ b. to.IsTree atoms (built D.Doc.tree b.1)) }
     ensures err { IfErr result IsMemory }
 {
-    let root = levels(arena, atoms.max(1).ilog10())?;
-    Ok(DocBuilder(arena, BuildDoc::DocPtr(root)))
+    let root = levels(place, atoms.max(1).ilog10())?;
+    Ok(DocBuilder(place, BuildDoc::DocPtr(root)))
 }

@@ -12,7 +12,7 @@ use crate::document::document;
 use crate::failure::Failure;
 use crate::workload::Workload;
 use bumpalo::Bump;
-use prettyless::{Arena, Doc, DocPtr};
+use prettyless::{Arena, Doc, DocPlace, DocPtr};
 use std::alloc::Global;
 use std::rt::Clock;
 use std::time::{Duration, Instant};
@@ -45,16 +45,16 @@ pub(crate) struct Timed {
 }
 
 // The layout of a workload.
-fn layout<'a>(
+fn layout<'a, D: DocPlace<'a>>(
     alloc: Global,
-    arena: &'a Arena<'a>,
+    place: &'a D,
     workload: Workload,
     size: usize,
 ) -> Result<String, Failure>
     ensures ok { IfOk result (λ out. IsLayout workload size (string_bytes out)) }
     ensures err { IfErr result IsOfLayout }
 {
-    let root = document(arena, workload, size)?.into_doc()?;
+    let root = document(place, workload, size)?;
     let mut out = String::new(alloc);
     root.doc().render_fmt(alloc, workload.width(), &mut out)?;
     Ok(out)
@@ -110,10 +110,10 @@ fn least_render<'a, C: Clock, T: DocPtr<'a>>(
     Ok(least)
 }
 
-fn time_in<'a, C: Clock>(
+fn time_in<'a, C: Clock, D: DocPlace<'a>>(
     clock: &C,
     alloc: Global,
-    arena: &'a Arena<'a>,
+    place: &'a D,
     workload: Workload,
     size: usize,
 ) -> Result<(usize, Duration, Duration), Failure>
@@ -121,7 +121,7 @@ fn time_in<'a, C: Clock>(
     ensures err { IfErr result IsOfTiming }
 {
     let start = Instant::now(clock)?;
-    let root = document(arena, workload, size)?.into_doc()?;
+    let root = document(place, workload, size)?;
     let build = start.elapsed(clock)?;
     let mut out = String::new(alloc);
     let render = least_render(clock, alloc, workload.width(), root.doc(), &mut out)?;

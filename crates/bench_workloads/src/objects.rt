@@ -2,38 +2,16 @@
 ghost use Rattle.std.specs.Prelude.{◌≡◌, IfOk, IfErr};
 ghost use Rattle.prettyless.specs.BuildErrors.{IsMemory};
 ghost use Rattle.prettyless.specs.DocTree.{built};
-ghost use Rattle.prettyless.specs.Trees.{ref_tree};
+ghost use Rattle.prettyless.specs.Tree.{Tree};
 ghost use Rattle.bench_workloads.specs.Documents as to;
 
-use crate::json::{bracketed, with_comma};
+use crate::json::{bracketed, field, triple, with_comma, with_field};
 use crate::parts::text;
 use prettyless::text::BuildError;
-use prettyless::{Arena, BuildDoc, DocBuilder, DocPlace, RefDoc};
+use prettyless::{BuildDoc, DocBuilder, DocPlace};
 
 /// How many levels of objects there are.
 const LEVELS: u32 = 8;
-
-// Three numbers in brackets.
-fn numbers<'a, D: DocPlace<'a>>(place: &'a D) -> Result<DocBuilder<'a, D>, BuildError>
-    ensures ok { IfOk result (λ b. built D.Doc.tree b.1 ≡ to.numbers) }
-    ensures err { IfErr result IsMemory }
-{
-    let pair = with_comma(text(place, "7"), text(place, "-12.5"))?;
-    let values = with_comma(pair, text(place, "31415926"))?;
-    bracketed(text(place, "["), values, text(place, "]"))
-}
-
-// A key, and the value behind it.
-fn field<'a, D: DocPlace<'a>>(
-    key: &'a str,
-    value: DocBuilder<'a, D>,
-) -> Result<DocBuilder<'a, D>, BuildError>
-    ensures ok { IfOk result (λ b. built D.Doc.tree b.1 ≡ to.field key.now (built D.Doc.tree value.entry.1)) }
-    ensures err { IfErr result IsMemory }
-{
-    let place = value.0;
-    text(place, key).join(value)
-}
 
 // Fields that hold no object: a string, a number and three of these.
 fn plain_fields<'a, D: DocPlace<'a>>(place: &'a D) -> Result<DocBuilder<'a, D>, BuildError>
@@ -41,9 +19,9 @@ fn plain_fields<'a, D: DocPlace<'a>>(place: &'a D) -> Result<DocBuilder<'a, D>, 
     ensures err { IfErr result IsMemory }
 {
     let tag = field("\"tag\": ", text(place, "\"red and green\""))?;
-    let quantity = field("\"quantity\": ", text(place, "40320"))?;
-    let coordinates = field("\"coordinates\": ", numbers(place)?)?;
-    with_comma(with_comma(tag, quantity)?, coordinates)
+    let counted = with_field(tag, "\"quantity\": ", text(place, "40320"))?;
+    let numbers = triple(place, "7", "-12.5", "31415926")?;
+    with_field(counted, "\"coordinates\": ", numbers)
 }
 
 // These, and two fields more.
@@ -56,32 +34,55 @@ fn fields<'a, D: DocPlace<'a>>(
     ensures err { IfErr result IsMemory }
 {
     let plain = plain_fields(first.0)?;
-    let first = field("\"nested\": ", first)?;
-    let second = field("\"alternateDescription\": ", second)?;
-    with_comma(with_comma(plain, first)?, second)
+    let one = with_field(plain, "\"nested\": ", first)?;
+    with_field(one, "\"alternateDescription\": ", second)
 }
 
-// An object that holds two values.
-fn object<'a, D: DocPlace<'a>>(
-    place: &'a D,
-    first: D::Doc,
-    second: D::Doc,
-) -> Result<D::Doc, BuildError>
-    ensures ok { IfOk result (λ d. D.Doc.tree d ≡ to.object (D.Doc.tree first) (D.Doc.tree second)) }
-    ensures err { IfErr result IsMemory }
-{
-    let first = DocBuilder(place, BuildDoc::DocPtr(first));
-    let second = DocBuilder(place, BuildDoc::DocPtr(second));
-    let fields = fields(first, second)?;
-    bracketed(text(place, "{"), fields, text(place, "}"))?.into_doc()
+/// Where objects are built. It knows no lifetime, so that a function that calls itself may have it as a bound.
+trait ObjectPlace: Copy {
+    /// The pointer to a value.
+    type Doc: Drop;
+
+    ghost tree: { Self.Doc → Tree };
+
+    /// A string.
+    fn string(self) -> Result<Self::Doc, BuildError>
+        ensures ok { IfOk result (λ d. tree d ≡ to.value 0) }
+        ensures err { IfErr result IsMemory };
+
+    /// An object that holds two values.
+    fn object(self, first: Self::Doc, second: Self::Doc) -> Result<Self::Doc, BuildError>
+        ensures ok { IfOk result (λ d. tree d ≡ to.object (tree first) (tree second)) }
+        ensures err { IfErr result IsMemory };
 }
 
-// A string.
-fn string<'a, D: DocPlace<'a>>(place: &'a D) -> Result<D::Doc, BuildError>
-    ensures ok { IfOk result (λ d. D.Doc.tree d ≡ to.value 0) }
+impl<'a, D: DocPlace<'a>> ObjectPlace for &'a D {
+    type Doc = D::Doc;
+
+    ghost tree = { D.Doc.tree };
+
+    fn string(self) -> Result<D::Doc, BuildError> {
+        text(self, "\"a value of some words\"").into_doc()
+    }
+
+    fn object(self, first: D::Doc, second: D::Doc) -> Result<D::Doc, BuildError> {
+        let first = DocBuilder(self, BuildDoc::DocPtr(first));
+        let second = DocBuilder(self, BuildDoc::DocPtr(second));
+        bracketed("{", fields(first, second)?, "}")?.into_doc()
+    }
+}
+
+// A string, or an object that holds two values of one level less.
+fn value<P: ObjectPlace>(place: P, height: u32) -> Result<P::Doc, BuildError>
+    ensures ok { IfOk result (λ d. P.tree d ≡ to.value height) }
     ensures err { IfErr result IsMemory }
 {
-    text(place, "\"a value of some words\"").into_doc()
+    if height == 0 {
+        return place.string();
+    }
+    let first = value(place, height - 1)?;
+    let second = value(place, height - 1)?;
+    place.object(first, second)
 }
 
 // A value, a comma, a line and another value.
@@ -98,50 +99,26 @@ fn behind_comma<'a, D: DocPlace<'a>>(
     with_comma(front, next)?.into_doc()
 }
 
-// Values in square brackets.
-fn listed<'a, D: DocPlace<'a>>(
-    place: &'a D,
-    values: D::Doc,
-) -> Result<DocBuilder<'a, D>, BuildError>
-    ensures ok { IfOk result (λ b. built D.Doc.tree b.1 ≡ to.listed (D.Doc.tree values)) }
-    ensures err { IfErr result IsMemory }
-{
-    let values = DocBuilder(place, BuildDoc::DocPtr(values));
-    bracketed(text(place, "["), values, text(place, "]"))
-}
-
-// A string, or an object that holds two values of one level less.
-fn value<'a>(arena: &'a Arena<'a>, height: u32) -> Result<RefDoc<'a>, BuildError>
-    ensures ok { IfOk result (λ d. ref_tree d ≡ to.value height) }
-    ensures err { IfErr result IsMemory }
-{
-    if height == 0 {
-        return string(arena);
-    }
-    let first = value(arena, height - 1)?;
-    let second = value(arena, height - 1)?;
-    object(arena, first, second)
-}
-
 // So many objects in front of a last one, with commas between them.
-fn objects<'a>(arena: &'a Arena<'a>, count: usize) -> Result<RefDoc<'a>, BuildError>
-    ensures ok { IfOk result (λ d. ref_tree d ≡ to.objects count) }
+fn objects<'a, D: DocPlace<'a>>(place: &'a D, count: usize) -> Result<D::Doc, BuildError>
+    ensures ok { IfOk result (λ d. D.Doc.tree d ≡ to.objects count) }
     ensures err { IfErr result IsMemory }
 {
-    let mut all = value(arena, LEVELS)?;
+    let mut all = value(place, LEVELS)?;
     for _ in 0..count {
-        all = behind_comma(arena, all, value(arena, LEVELS)?)?;
+        all = behind_comma(place, all, value(place, LEVELS)?)?;
     }
     Ok(all)
 }
 
 /// These in brackets.
-pub(crate) fn real<'a>(
-    arena: &'a Arena<'a>,
+pub(crate) fn real<'a, D: DocPlace<'a>>(
+    place: &'a D,
     count: usize,
-) -> Result<DocBuilder<'a, Arena<'a>>, BuildError>
-    ensures ok { IfOk result (λ b. built ref_tree b.1 ≡ to.real count) }
+) -> Result<DocBuilder<'a, D>, BuildError>
+    ensures ok { IfOk result (λ b. built D.Doc.tree b.1 ≡ to.real count) }
     ensures err { IfErr result IsMemory }
 {
-    listed(arena, objects(arena, count)?)
+    let values = objects(place, count)?;
+    bracketed("[", DocBuilder(place, BuildDoc::DocPtr(values)), "]")
 }

@@ -4,9 +4,22 @@ ghost use Rattle.prettyless.specs.BuildErrors.{IsMemory};
 ghost use Rattle.prettyless.specs.DocTree.{built};
 ghost use Rattle.bench_workloads.specs.Documents as to;
 
-use crate::parts::text;
+use crate::parts::{line_break, text};
 use prettyless::text::{BuildError, Text};
-use prettyless::{BuildDoc, Doc, DocAllocator, DocBuilder, DocPlace};
+use prettyless::{BuildDoc, Doc, DocBuilder, DocPlace};
+
+// A text and a line break in front of a document, or else another text.
+#[inline(always)]
+fn kept_trial<'a, D: DocPlace<'a>>(
+    inner: DocBuilder<'a, D>,
+) -> Result<DocBuilder<'a, D>, BuildError>
+    ensures ok { IfOk result (λ b. built D.Doc.tree b.1 ≡ to.kept_trial (built D.Doc.tree inner.entry.1)) }
+    ensures err { IfErr result IsMemory }
+{
+    let place = inner.0;
+    let first = text(place, "a").join(line_break(place))?.join(inner)?;
+    first.union(BuildDoc::Doc(Doc::Text(Text::Borrowed("b"))))
+}
 
 /// Alternatives nested so deep. Each first one, a text and a line in front of the next, is kept.
 pub(crate) fn kept_trials<'a, D: DocPlace<'a>>(
@@ -18,11 +31,22 @@ pub(crate) fn kept_trials<'a, D: DocPlace<'a>>(
 {
     let mut all = text(place, "a");
     for _ in 0..depth {
-        let front = text(place, "a").join(place.hard_line()?)?;
-        let second = BuildDoc::Doc(Doc::Text(Text::Borrowed("b")));
-        all = front.join(all)?.union(second)?;
+        all = kept_trial(all)?;
     }
     Ok(all)
+}
+
+// A line break in front of a document and a text, or else another text.
+#[inline(always)]
+fn rejected_trial<'a, D: DocPlace<'a>>(
+    inner: DocBuilder<'a, D>,
+) -> Result<DocBuilder<'a, D>, BuildError>
+    ensures ok { IfOk result (λ b. built D.Doc.tree b.1 ≡ to.rejected_trial (built D.Doc.tree inner.entry.1)) }
+    ensures err { IfErr result IsMemory }
+{
+    let place = inner.0;
+    let first = line_break(place).join(inner)?.join(text(place, "toolong"))?;
+    first.union(BuildDoc::Doc(Doc::Text(Text::Borrowed("x"))))
 }
 
 /// Alternatives nested so deep, after a text. Each first one, which ends in a text that does not fit a line of 4 columns,
@@ -36,9 +60,7 @@ pub(crate) fn rejected_trials<'a, D: DocPlace<'a>>(
 {
     let mut all = text(place, "x");
     for _ in 0..depth {
-        let first = place.hard_line()?.join(all)?.join(text(place, "toolong"))?;
-        let second = BuildDoc::Doc(Doc::Text(Text::Borrowed("x")));
-        all = first.union(second)?;
+        all = rejected_trial(all)?;
     }
     text(place, "p").join(all)
 }

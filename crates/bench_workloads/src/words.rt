@@ -4,10 +4,10 @@ ghost use Rattle.prettyless.specs.BuildErrors.{IsMemory};
 ghost use Rattle.prettyless.specs.DocTree.{built};
 ghost use Rattle.bench_workloads.specs.Documents as to;
 
-use crate::parts::text;
+use crate::parts::{line_break, text};
 use prettyless::combinators::hard_line;
 use prettyless::text::BuildError;
-use prettyless::{DocAllocator, DocAllocatorBetween, DocBuilder, DocPlace};
+use prettyless::{Doc, DocAllocator, DocAllocatorBetween, DocBuilder, DocPlace};
 use std::iter;
 
 const LINE: &str = "a line of text that is as long as it has to be for sixty is.";
@@ -71,9 +71,10 @@ fn remarked<'a, D: DocPlace<'a>>(place: &'a D) -> Result<DocBuilder<'a, D>, Buil
     ensures ok { IfOk result (λ b. built D.Doc.tree b.1 ≡ to.remarked) }
     ensures err { IfErr result IsMemory }
 {
-    let front = text(place, "a text with a remark").join(place.weak_space()?)?;
+    let space = DocBuilder::new(place, Doc::WeakSpace);
+    let front = text(place, "a text with a remark").join(space)?;
     let remark = text(place, "  # why").as_line_suffix()?;
-    front.join(remark)?.join(place.hard_line()?)
+    front.join(remark)?.join(line_break(place))
 }
 
 /// So many lines with a weak space and a remark at the end of each.
@@ -84,7 +85,7 @@ pub(crate) fn weak_spaces<'a, D: DocPlace<'a>>(
     ensures ok { IfOk result (λ b. built D.Doc.tree b.1 ≡ to.weak_spaces lines) }
     ensures err { IfErr result IsMemory }
 {
-    let mut all = place.nil()?;
+    let mut all = DocBuilder::new(place, Doc::Nil);
     for _ in 0..lines {
         all = all.join(remarked(place)?)?;
     }

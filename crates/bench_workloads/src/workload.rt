@@ -123,21 +123,21 @@ impl Workload {
 pub(crate) fn workload_named(word: &str) -> Option<Workload>
     ensures { result ≡ names.workload_of word.now }
 {
-    match word.as_bytes() {
-        b"tree" => Some(Workload::Tree),
-        b"list" => Some(Workload::List),
-        b"flat" => Some(Workload::FlatList),
-        b"json" => Some(Workload::Json),
-        b"texts" => Some(Workload::TextGroups),
-        b"bare" => Some(Workload::BareGroups),
-        b"fill" => Some(Workload::Fill),
-        b"lines" => Some(Workload::Lines),
-        b"kept" => Some(Workload::KeptTrials),
-        b"lost" => Some(Workload::RejectedTrials),
-        b"tails" => Some(Workload::TailGroups),
-        b"right" => Some(Workload::RightList),
-        b"weak" => Some(Workload::WeakSpaces),
-        b"real" => Some(Workload::RealJson),
+    match word {
+        "tree" => Some(Workload::Tree),
+        "list" => Some(Workload::List),
+        "flat" => Some(Workload::FlatList),
+        "json" => Some(Workload::Json),
+        "texts" => Some(Workload::TextGroups),
+        "bare" => Some(Workload::BareGroups),
+        "fill" => Some(Workload::Fill),
+        "lines" => Some(Workload::Lines),
+        "kept" => Some(Workload::KeptTrials),
+        "lost" => Some(Workload::RejectedTrials),
+        "tails" => Some(Workload::TailGroups),
+        "right" => Some(Workload::RightList),
+        "weak" => Some(Workload::WeakSpaces),
+        "real" => Some(Workload::RealJson),
         _ => None,
     }
 }

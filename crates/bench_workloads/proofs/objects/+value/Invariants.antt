@@ -1,4 +1,4 @@
 use Rattle.bench_workloads.proofs.objects.+value.Given as goal
 
 abbrev pub decreases-value : goal.decreases-value
-decreases-value l = l.height
+decreases-value g l = l.height
