@@ -44,9 +44,13 @@ tree (suc k) = parenthesised (row 10 (tree k))
 abbrev pub IsTree : ℕ → Tree → Type 0
 IsTree n x = (k : ℕ) × (10 ^ k ≤ max n 1) × (max n 1 < 10 * 10 ^ k) × (x ≡ tree k)
 
+-- values behind a text, nested by 2, on lines of their own where they don't fit its line
+abbrev pub opened : Tree → Tree → Tree
+opened opening values = append opening (nest (pos 2) (on_own_line values))
+
 -- values between brackets, each on lines of their own where they don't fit one
 abbrev pub bracketed : Tree → Tree → Tree → Tree
-bracketed opening values closing = group (append (append opening (nest (pos 2) (on_own_line values))) (on_own_line closing))
+bracketed opening values closing = group (append (opened opening values) (on_own_line closing))
 
 -- a document, a comma and a line, and the next one
 abbrev pub with_comma : Tree → Tree → Tree
@@ -95,8 +99,11 @@ tags_field = field (codes "\"tags\": ") (triple (codes "\"red\"") (codes "\"gree
 abbrev pub note_field : Tree
 note_field = Text (codes "\"note\": \"as wide as makes a record wider than a line\"")
 
+abbrev pub numbered_fields : ℕ → Tree
+numbered_fields n = with_comma (id_field n) (name_field n)
+
 abbrev pub record_fields : ℕ → Tree
-record_fields n = with_comma (with_comma (with_comma (id_field n) (name_field n)) tags_field) note_field
+record_fields n = with_comma (with_comma (numbered_fields n) tags_field) note_field
 
 -- these in braces
 abbrev pub record_of : ℕ → Tree

@@ -10,6 +10,20 @@ use crate::words::word;
 use prettyless::text::BuildError;
 use prettyless::{DocAllocator, DocBuilder, DocPlace};
 
+// A text, and values behind it, nested, on lines of their own where they don't fit its line.
+#[inline(always)]
+fn opened<'a, D: DocPlace<'a>>(
+    opening: &'a str,
+    values: DocBuilder<'a, D>,
+) -> Result<DocBuilder<'a, D>, BuildError>
+    ensures ok { IfOk result (λ b. built D.Doc.tree b.1 ≡ to.opened (Text opening.now) (built D.Doc.tree values.entry.1)) }
+    ensures err { IfErr result IsMemory }
+{
+    let place = values.0;
+    let inner = on_own_line(values)?.nest(2)?;
+    text(place, opening).join(inner)
+}
+
 /// Values between these.
 pub(crate) fn bracketed<'a, D: DocPlace<'a>>(
     opening: &'a str,
@@ -21,9 +35,9 @@ pub(crate) fn bracketed<'a, D: DocPlace<'a>>(
     ensures err { IfErr result IsMemory }
 {
     let place = values.0;
-    let inner = on_own_line(values)?.nest(2)?;
+    let front = opened(opening, values)?;
     let end = on_own_line(text(place, closing))?;
-    text(place, opening).join(inner)?.join(end)?.group()
+    front.join(end)?.group()
 }
 
 /// A value, a comma, a line and another value.
@@ -40,6 +54,7 @@ pub(crate) fn with_comma<'a, D: DocPlace<'a>>(
 }
 
 /// A key, and the value behind it.
+#[inline(always)]
 pub(crate) fn field<'a, D: DocPlace<'a>>(
     key: &'a str,
     value: DocBuilder<'a, D>,
@@ -52,6 +67,7 @@ pub(crate) fn field<'a, D: DocPlace<'a>>(
 }
 
 /// Fields, a comma, a line and another field.
+#[inline(always)]
 pub(crate) fn with_field<'a, D: DocPlace<'a>>(
     front: DocBuilder<'a, D>,
     key: &'a str,
@@ -81,6 +97,7 @@ pub(crate) fn triple<'a, D: DocPlace<'a>>(
 }
 
 // A field whose text depends on the number.
+#[inline(always)]
 fn name<'a, D: DocPlace<'a>>(place: &'a D, number: usize) -> Result<DocBuilder<'a, D>, BuildError>
     ensures ok { IfOk result (λ b. built D.Doc.tree b.1 ≡ to.name_field number) }
     ensures err { IfErr result IsMemory }
@@ -89,17 +106,29 @@ fn name<'a, D: DocPlace<'a>>(place: &'a D, number: usize) -> Result<DocBuilder<'
     name.join(text(place, "\""))
 }
 
-// Four fields, of which two depend on the number.
+// The two fields that depend on the number.
+#[inline(always)]
+fn numbered_fields<'a, D: DocPlace<'a>>(
+    place: &'a D,
+    number: usize,
+) -> Result<DocBuilder<'a, D>, BuildError>
+    ensures { IfOk result (λ b. built D.Doc.tree b.1 ≡ to.numbered_fields number) }
+{
+    let id = field("\"id\": ", place.as_string(number)?)?;
+    with_comma(id, name(place, number)?)
+}
+
+// These, and two that are the same in each record.
+#[inline(always)]
 fn record_fields<'a, D: DocPlace<'a>>(
     place: &'a D,
     number: usize,
 ) -> Result<DocBuilder<'a, D>, BuildError>
     ensures { IfOk result (λ b. built D.Doc.tree b.1 ≡ to.record_fields number) }
 {
-    let id = field("\"id\": ", place.as_string(number)?)?;
-    let named = with_comma(id, name(place, number)?)?;
+    let numbered = numbered_fields(place, number)?;
     let tags = triple(place, "\"red\"", "\"green\"", "\"blue\"")?;
-    let tagged = with_field(named, "\"tags\": ", tags)?;
+    let tagged = with_field(numbered, "\"tags\": ", tags)?;
     let note = "\"note\": \"as wide as makes a record wider than a line\"";
     with_comma(tagged, text(place, note))
 }

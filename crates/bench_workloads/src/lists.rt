@@ -18,12 +18,12 @@ const CHILDREN: usize = 10;
 
 // Items in parentheses.
 fn parenthesised<'a, D: DocPlace<'a>>(
+    place: &'a D,
     items: DocBuilder<'a, D>,
 ) -> Result<DocBuilder<'a, D>, BuildError>
     ensures ok { IfOk result (λ b. built D.Doc.tree b.1 ≡ to.parenthesised (built D.Doc.tree items.entry.1)) }
     ensures err { IfErr result IsMemory }
 {
-    let place = items.0;
     let inner = items.nest(1)?.group()?;
     text(place, "(").join(inner)?.join(text(place, ")"))
 }
@@ -38,7 +38,7 @@ pub(crate) fn list<'a, D: DocPlace<'a>>(
 {
     let atom: &'a str = ATOM;
     let items = place.intersperse(iter::repeat_n(atom, atoms), line_or_space())?;
-    parenthesised(items)
+    parenthesised(place, items)
 }
 
 // An atom and a line in front of a document.
@@ -107,13 +107,14 @@ impl<'a, D: DocPlace<'a>> TreePlace for &'a D {
     }
 
     fn behind(self, front: D::Doc, next: D::Doc) -> Result<D::Doc, BuildError> {
-        let front = DocBuilder(self, BuildDoc::DocPtr(front)).join(self.line()?)?;
+        let line = self.line()?;
+        let front = DocBuilder(self, BuildDoc::DocPtr(front)).join(line)?;
         let next = DocBuilder(self, BuildDoc::DocPtr(next));
         front.join(next)?.into_doc()
     }
 
     fn listed(self, items: D::Doc) -> Result<D::Doc, BuildError> {
-        parenthesised(DocBuilder(self, BuildDoc::DocPtr(items)))?.into_doc()
+        parenthesised(self, DocBuilder(self, BuildDoc::DocPtr(items)))?.into_doc()
     }
 }
 

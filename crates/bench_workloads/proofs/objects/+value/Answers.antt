@@ -1,4 +1,4 @@
-use Rattle.std.proofs.Common.{◌≡◌, ◌<◌, arith}
+use Rattle.std.proofs.Common.{◌<◌, arith}
 use Rattle.bench_workloads.proofs.Ends.{value_end}
 use Rattle.bench_workloads.proofs.objects.+value.Goals as goal
 
