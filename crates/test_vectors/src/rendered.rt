@@ -4,6 +4,7 @@ use prettyless::{
     RenderError, RenderOptions,
 };
 use std::alloc::Global;
+use std::fmt;
 use std::process::Abort;
 use std::test::Fail;
 use test_documents::read;
@@ -68,44 +69,104 @@ fn compare_outcome(
     }
 }
 
-// Compares what a document that is put into this place is rendered as, and what it is printed as.
-fn compare_in<'a, D: DocPlace<'a>>(
+// Compares what a document is rendered as, and what it is printed as.
+fn compare_rendered<'a, T: DocPtr<'a>>(
     rt: &impl Abort,
-    place: &'a D,
+    memory: Global,
+    document: &T,
     options: RenderOptions,
-    written: &'a str,
+    written: &str,
     expected: Expected<'_>,
 ) -> Result<(), Fail> {
-    let memory = place.memory();
     let width = options.width;
-    let document = read(place, written)?;
-    let outcome = outcome(memory, &document, options)?;
+    let outcome = outcome(memory, document, options)?;
     compare_outcome(rt, &outcome, width, written, expected);
     if let Ok(layout) = expected {
-        let printed = displayed(memory, &document, options)?;
+        let printed = displayed(memory, document, options)?;
         assert!(rt; printed.as_str() == layout, "{written} at {width}");
     }
     Ok(())
+}
+
+// Compares what `Debug` shows of a document.
+fn compare_shown<T: fmt::Debug>(
+    rt: &impl Abort,
+    memory: Global,
+    document: &T,
+    shown: &str,
+) -> Result<(), Fail> {
+    let printed = format!(in memory; "{document:?}")?;
+    assert!(rt; printed.as_str() == shown);
+    Ok(())
+}
+
+// What is compared of a document: what it is rendered as with some options, or what `Debug` shows of it.
+#[derive(Clone, Copy)]
+enum Compared<'a> {
+    Rendered(RenderOptions, Expected<'a>),
+    Shown(&'a str),
+}
+
+// Compares a document that is put into this place.
+fn compare_in<'a, D: DocPlace<'a>>(
+    rt: &impl Abort,
+    place: &'a D,
+    written: &'a str,
+    compared: Compared<'_>,
+) -> Result<(), Fail>
+where
+    D::Doc: fmt::Debug,
+{
+    let memory = place.memory();
+    let document = read(place, written)?;
+    match compared {
+        Compared::Rendered(options, expected) => {
+            compare_rendered(rt, memory, &document, options, written, expected)
+        }
+        Compared::Shown(shown) => compare_shown(rt, memory, &document, shown),
+    }
 }
 
 // The same through one pointer after the other.
 fn compare_through(
     rt: &impl Abort,
     memory: Global,
+    written: &str,
+    compared: Compared<'_>,
+) -> Result<(), Fail> {
+    let boxes = BoxAllocator::new(memory);
+    compare_in(rt, &boxes, written, compared)?;
+    let owners = RcAllocator::new(memory);
+    compare_in(rt, &owners, written, compared)?;
+    let bump = Bump::new(memory);
+    let arena = Arena::new(memory, &bump);
+    compare_in(rt, &arena, written, compared)
+}
+
+// Compares what each document is shown as, through one pointer after the other.
+pub(crate) fn compare_debug(
+    rt: &impl Abort,
+    memory: Global,
+    cases: &[(&str, &str)],
+) -> Result<(), Fail> {
+    for &(written, shown) in cases {
+        compare_through(rt, memory, written, Compared::Shown(shown))?;
+    }
+    Ok(())
+}
+
+// The same of what it is rendered as.
+fn compare_layouts(
+    rt: &impl Abort,
+    memory: Global,
     options: RenderOptions,
     written: &str,
     expected: Expected<'_>,
 ) -> Result<(), Fail> {
-    let boxes = BoxAllocator::new(memory);
-    compare_in(rt, &boxes, options, written, expected)?;
-    let owners = RcAllocator::new(memory);
-    compare_in(rt, &owners, options, written, expected)?;
-    let bump = Bump::new(memory);
-    let arena = Arena::new(memory, &bump);
-    compare_in(rt, &arena, options, written, expected)
+    compare_through(rt, memory, written, Compared::Rendered(options, expected))
 }
 
-// The same, and again with CR LF for LF at the end of each line, if no text of the document has a line end.
+// Compares what a document is rendered as, and again with CR LF for LF at the end of each line, if no text of the document has a line end.
 fn compare_endings(
     rt: &impl Abort,
     memory: Global,
@@ -113,7 +174,7 @@ fn compare_endings(
     written: &str,
     expected: Expected<'_>,
 ) -> Result<(), Fail> {
-    compare_through(rt, memory, options, written, expected)?;
+    compare_layouts(rt, memory, options, written, expected)?;
     if options.line_ending == LineEnding::Crlf || written.contains('\n') {
         return Ok(());
     }
@@ -121,11 +182,11 @@ fn compare_endings(
     match expected {
         Ok(layout) => {
             let layout = with_crlf(memory, layout)?;
-            compare_through(rt, memory, options, written, Ok(layout.as_str()))
+            compare_layouts(rt, memory, options, written, Ok(layout.as_str()))
         }
         Err(before) => {
             let before = with_crlf(memory, before)?;
-            compare_through(rt, memory, options, written, Err(before.as_str()))
+            compare_layouts(rt, memory, options, written, Err(before.as_str()))
         }
     }
 }

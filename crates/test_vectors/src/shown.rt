@@ -1,15 +1,13 @@
 //! What `Debug` shows of documents, through each pointer, and of documents in the making; what an error of either kind says.
-use bumpalo::Bump;
+use crate::rendered::compare_debug;
 use prettyless::text::{BuildError, CowStr, Text};
 use prettyless::{
-    Arena, BoxAllocator, BoxDoc, BuildDoc, Doc, DocAllocator, DocPlace, PrettyError, RcAllocator,
-    RenderError,
+    BoxAllocator, BoxDoc, BuildDoc, Doc, DocAllocator, DocPlace, PrettyError, RenderError,
 };
 use std::alloc::Global;
 use std::fmt;
 use std::process::Abort;
 use std::test::Fail;
-use test_documents::read;
 
 // A document as the reader takes it, and what it has to be shown as.
 type Case<'a> = (&'a str, &'a str);
@@ -75,58 +73,19 @@ const LINES: [Case<'static>; 10] = [
     ),
 ];
 
-// Compares what a document that is put into this place is shown as.
-fn compare_in<'a, D: DocPlace<'a>>(
-    rt: &impl Abort,
-    place: &'a D,
-    written: &'a str,
-    shown: &str,
-) -> Result<(), Fail>
-where
-    D::Doc: fmt::Debug,
-{
-    let document = read(place, written)?;
-    let printed = format!(in place.memory(); "{document:?}")?;
-    assert!(rt; printed.as_str() == shown);
-    Ok(())
-}
-
-// The same through one pointer after the other.
-fn compare_through(
-    rt: &impl Abort,
-    memory: Global,
-    written: &str,
-    shown: &str,
-) -> Result<(), Fail> {
-    let boxes = BoxAllocator::new(memory);
-    compare_in(rt, &boxes, written, shown)?;
-    let owners = RcAllocator::new(memory);
-    compare_in(rt, &owners, written, shown)?;
-    let bump = Bump::new(memory);
-    let arena = Arena::new(memory, &bump);
-    compare_in(rt, &arena, written, shown)
-}
-
-fn compare(rt: &impl Abort, memory: Global, cases: &[Case<'_>]) -> Result<(), Fail> {
-    for &(written, shown) in cases {
-        compare_through(rt, memory, written, shown)?;
-    }
-    Ok(())
-}
-
 #[test]
 fn shows_nodes(rt: HostRuntime) -> Result<(), Fail> {
-    compare(&rt, rt.alloc(), &NODES)
+    compare_debug(&rt, rt.alloc(), &NODES)
 }
 
 #[test]
 fn shows_chains(rt: HostRuntime) -> Result<(), Fail> {
-    compare(&rt, rt.alloc(), &CHAINS)
+    compare_debug(&rt, rt.alloc(), &CHAINS)
 }
 
 #[test]
 fn shows_lines(rt: HostRuntime) -> Result<(), Fail> {
-    compare(&rt, rt.alloc(), &LINES)
+    compare_debug(&rt, rt.alloc(), &LINES)
 }
 
 // A line whose space is in memory of its own.
@@ -155,9 +114,13 @@ fn compare_builder<'a, D: DocPlace<'a>>(rt: &impl Abort, place: &'a D) -> Result
     Ok(())
 }
 
+fn line_in<'a, D: DocPlace<'a>>(place: &'a D) -> Result<D::Doc, BuildError> {
+    place.line_()?.into_doc()
+}
+
 // Compares what a node is shown as that is not placed yet.
 fn compare_node<'a, D: DocPlace<'a>>(rt: &impl Abort, place: &'a D) -> Result<(), Fail> {
-    let node: BuildDoc<'a, D::Doc> = BuildDoc::Doc(Doc::Nest(2, place.line_()?.into_doc()?));
+    let node = BuildDoc::Doc(Doc::Nest(2, line_in(place)?));
     let shown = format!(in place.memory(); "{node:?}")?;
     assert!(rt; shown.as_str() == "Nest(2, LineOrNil)");
     Ok(())
