@@ -1,18 +1,21 @@
 //! The constants of an arena: each has one node there, and where memory was refused for them they are placed as other nodes.
+use crate::places::{CountedPlace, InArena, in_arena};
 use bumpalo::Bump;
-use prettyless::text::{BuildError, Text};
-use prettyless::{Arena, Constant, Doc, DocAllocator, DocPlace, DocPtr, RefDoc};
+use prettyless::text::BuildError;
+use prettyless::{Constant, Doc, DocAllocator, DocBuilder, DocPlace, DocPtr};
 use std::process::Abort;
 use std::test::Fail;
+use test_documents::read;
 
-const LEAVES: [Constant; 7] = [
-    Constant::Nil,
-    Constant::Fail,
-    Constant::Space,
-    Constant::WeakSpace,
-    Constant::HardLine,
-    Constant::WeakLine,
-    Constant::ExpandParent,
+// Constants, and a node that is the same as each of them.
+const LEAVES: [(Constant, &str); 7] = [
+    (Constant::Nil, "Nil"),
+    (Constant::Fail, "Fail"),
+    (Constant::Space, "Text ' '"),
+    (Constant::WeakSpace, "WeakSpace"),
+    (Constant::HardLine, "HardLine"),
+    (Constant::WeakLine, "WeakLine"),
+    (Constant::ExpandParent, "ExpandParent"),
 ];
 
 // Whether a place has one node for the constant.
@@ -20,66 +23,61 @@ fn has<'a, D: DocPlace<'a>>(place: &'a D, which: Constant) -> bool {
     place.constant(which).is_some()
 }
 
-// Hands the place a node that is the same as each of them.
-fn place_leaves<'a, D: DocPlace<'a>>(place: &'a D) -> Result<(), BuildError> {
-    place.alloc(Doc::Nil)?;
-    place.alloc(Doc::Fail)?;
-    place.alloc(Doc::Text(Text::Borrowed(" ")))?;
-    place.alloc(Doc::WeakSpace)?;
-    place.alloc(Doc::HardLine)?;
-    place.alloc(Doc::WeakLine)?;
-    place.alloc(Doc::ExpandParent)?;
+// The place has each constant, and places nothing for a node that is the same.
+fn leaves<'a, D: CountedPlace<'a>>(rt: &impl Abort, place: &'a D) -> Result<(), Fail> {
+    for (which, written) in LEAVES {
+        assert!(rt; has(place, which), "{written}");
+        read(place, written)?;
+        assert!(rt; place.has_no_node(), "{written}");
+    }
     Ok(())
 }
 
-// The arena has each constant, and places nothing for a node that is the same.
-fn leaves<'a>(rt: &impl Abort, arena: &'a Arena<'a>) -> Result<(), Fail> {
-    for which in LEAVES {
-        assert!(rt; has(arena, which));
-    }
-    place_leaves(arena)?;
-    assert!(rt; arena.is_empty());
+fn place_built<'a, D: DocPlace<'a>>(
+    builder: Result<DocBuilder<'a, D>, BuildError>,
+) -> Result<(), BuildError> {
+    builder?.into_doc()?;
     Ok(())
 }
 
 fn place_lines<'a, D: DocPlace<'a>>(place: &'a D) -> Result<(), BuildError> {
-    place.line()?.into_doc()?;
-    place.line_()?.into_doc()?;
-    place.softline()?.into_doc()?;
-    place.softline_()?.into_doc()?;
-    Ok(())
+    place_built(place.line())?;
+    place_built(place.line_())?;
+    place_built(place.softline())?;
+    place_built(place.softline_())
 }
 
 // Lines are handed out, and none is placed.
-fn lines<'a>(rt: &impl Abort, arena: &'a Arena<'a>) -> Result<(), Fail> {
-    place_lines(arena)?;
-    assert!(rt; arena.is_empty());
+fn lines<'a, D: CountedPlace<'a>>(rt: &impl Abort, place: &'a D) -> Result<(), Fail> {
+    place_lines(place)?;
+    assert!(rt; place.has_no_node());
     Ok(())
 }
 
-fn place_others<'a, D: DocPlace<'a>>(place: &'a D) -> Result<(), BuildError> {
-    let first = place.alloc(Doc::Text(Text::Borrowed(" ")))?;
-    let second = place.alloc(Doc::Text(Text::Borrowed(" ")))?;
-    place.alloc(Doc::Text(Text::Borrowed("  ")))?;
-    place.alloc(Doc::TextWithLen(1, Text::Borrowed(" ")))?;
-    place.alloc(Doc::Append(first, second))?;
+// Other texts of spaces, and what only contains constants.
+const OTHERS: [&str; 3] = ["Text '  '", "TextWithLen 1 ' '", "Append Text ' ' Text ' '"];
+
+// They have a node each.
+fn others<'a, D: CountedPlace<'a>>(rt: &impl Abort, place: &'a D) -> Result<(), Fail> {
+    for written in OTHERS {
+        read(place, written)?;
+    }
+    assert!(rt; place.nodes() == OTHERS.len());
     Ok(())
 }
 
-// Other texts of spaces, and what only contains constants, have a node each.
-fn others<'a>(rt: &impl Abort, arena: &'a Arena<'a>) -> Result<(), Fail> {
-    place_others(arena)?;
-    assert!(rt; arena.len() == 3);
-    Ok(())
+pub(crate) fn one_node_each<'a, D: CountedPlace<'a>>(
+    rt: &impl Abort,
+    place: &'a D,
+) -> Result<(), Fail> {
+    leaves(rt, place)?;
+    lines(rt, place)?;
+    others(rt, place)
 }
 
 #[test]
 fn a_constant_has_one_node(rt: HostRuntime) -> Result<(), Fail> {
-    let bump = Bump::new(rt.alloc());
-    let arena = Arena::new(rt.alloc(), &bump);
-    leaves(&rt, &arena)?;
-    lines(&rt, &arena)?;
-    others(&rt, &arena)
+    in_arena(&rt, rt.alloc(), None, InArena::Constants)
 }
 
 fn refuses_a_line<'a, D: DocPlace<'a>>(place: &'a D) -> bool {
@@ -92,20 +90,21 @@ fn places_a_group<'a, D: DocPlace<'a>>(place: &'a D) -> Result<bool, BuildError>
 }
 
 // An arena that has no constants refuses a node while it has no room, and then places it as any other.
-fn placed<'a>(rt: &impl Abort, bump: &'a Bump, arena: &'a Arena<'a>) -> Result<(), Fail> {
-    assert!(rt; !has(arena, Constant::HardLine));
-    assert!(rt; refuses_a_line(arena));
-    assert!(rt; arena.is_empty());
+pub(crate) fn no_room_at_first<'a, D: CountedPlace<'a>>(
+    rt: &impl Abort,
+    bump: &Bump,
+    place: &'a D,
+) -> Result<(), Fail> {
+    assert!(rt; !has(place, Constant::HardLine));
+    assert!(rt; refuses_a_line(place));
+    assert!(rt; place.has_no_node());
     bump.set_allocation_limit(None);
-    assert!(rt; places_a_group(arena)?);
-    assert!(rt; arena.len() == 4);
+    assert!(rt; places_a_group(place)?);
+    assert!(rt; place.nodes() == 4);
     Ok(())
 }
 
 #[test]
 fn constants_find_no_room(rt: HostRuntime) -> Result<(), Fail> {
-    let bump = Bump::new(rt.alloc());
-    bump.set_allocation_limit(Some(0));
-    let arena = Arena::new(rt.alloc(), &bump);
-    placed(&rt, &bump, &arena)
+    in_arena(&rt, rt.alloc(), Some(0), InArena::ConstantsWithoutRoom)
 }

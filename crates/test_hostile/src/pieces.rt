@@ -2,9 +2,10 @@
 ghost use Rattle.std.specs.Prelude.{Some, ◌≡◌, ⊤};
 ghost use Rattle.test_hostile.specs.declared.sinks.Fault.TheVariants.{Document};
 
+use crate::places::{InBoxes, in_boxes};
 use crate::sinks::Fault;
-use prettyless::{BoxAllocator, DocPlace, DocPtr, LineEnding, Render, RenderError, RenderOptions};
-use std::alloc::Global;
+use prettyless::{DocPlace, DocPtr, LineEnding, Render, RenderError, RenderOptions};
+use std::alloc::{AllocError, Global};
 use std::process::Abort;
 use std::test::Fail;
 use test_documents::read;
@@ -57,19 +58,33 @@ impl Render for Pieces {
     }
 }
 
-// What a sink of so much room has of a render, and whether it ended that.
-fn rendered<'a, T: DocPtr<'a>>(
+// Whether this sink ends a render.
+fn ends<'a, T: DocPtr<'a>>(
     memory: Global,
     document: &T,
     options: RenderOptions,
-    room: usize,
-) -> Result<(Pieces, bool), Fail> {
-    let mut sink = Pieces::new(memory, room);
-    match document.doc().render_raw_with(memory, options, &mut sink) {
-        Ok(()) => Ok((sink, false)),
-        Err(RenderError::Sink(Fault::Refused)) => Ok((sink, true)),
+    sink: &mut Pieces,
+) -> Result<bool, Fail> {
+    match document.doc().render_raw_with(memory, options, sink) {
+        Ok(()) => Ok(false),
+        Err(RenderError::Sink(Fault::Refused)) => Ok(true),
         Err(_) => Err(Fail::new("no memory")),
     }
+}
+
+fn compare_lengths(rt: &impl Abort, lengths: &[usize], pieces: &[&str]) {
+    assert!(rt; lengths.len() == pieces.len());
+    for (length, piece) in lengths.iter().zip(pieces) {
+        assert!(rt; *length == piece.len(), "{piece}");
+    }
+}
+
+fn joined(memory: Global, pieces: &[&str]) -> Result<Vec<u8>, AllocError> {
+    let mut bytes = Vec::new(memory);
+    for piece in pieces {
+        bytes.extend_from_slice(piece.as_bytes())?;
+    }
+    Ok(bytes)
 }
 
 // Compares the sink's pieces.
@@ -79,14 +94,26 @@ fn compare_pieces(
     sink: &Pieces,
     pieces: &[&str],
 ) -> Result<(), Fail> {
-    assert!(rt; sink.lengths.len() == pieces.len());
-    let mut bytes = Vec::new(memory);
-    for (length, piece) in sink.lengths.iter().zip(pieces) {
-        assert!(rt; *length == piece.len(), "{piece}");
-        bytes.extend_from_slice(piece.as_bytes())?;
-    }
+    compare_lengths(rt, sink.lengths.as_slice(), pieces);
+    let bytes = joined(memory, pieces)?;
     assert!(rt; sink.bytes.as_slice() == bytes.as_slice());
     Ok(())
+}
+
+// Compares the pieces that a sink of so much room has, and whether it ends the render.
+fn compare_room<'a, T: DocPtr<'a>>(
+    rt: &impl Abort,
+    memory: Global,
+    document: &T,
+    options: RenderOptions,
+    room: usize,
+    pieces: &[&str],
+    ended: bool,
+) -> Result<(), Fail> {
+    let mut sink = Pieces::new(memory, room);
+    assert!(rt; ends(memory, document, options, &mut sink)? == ended);
+    assert!(rt; sink.failures == u64::from(ended));
+    compare_pieces(rt, memory, &sink, pieces)
 }
 
 // Compares the pieces of a layout, and those before each of them that is refused in turn.
@@ -97,15 +124,9 @@ fn compare<'a, T: DocPtr<'a>>(
     options: RenderOptions,
     pieces: &[&str],
 ) -> Result<(), Fail> {
-    let (sink, ended) = rendered(memory, document, options, usize::MAX)?;
-    assert!(rt; !ended);
-    compare_pieces(rt, memory, &sink, pieces)?;
-    assert!(rt; sink.failures == 0);
+    compare_room(rt, memory, document, options, usize::MAX, pieces, false)?;
     for room in 0..pieces.len() {
-        let (sink, ended) = rendered(memory, document, options, room)?;
-        assert!(rt; ended);
-        compare_pieces(rt, memory, &sink, &pieces[..room])?;
-        assert!(rt; sink.failures == 1);
+        compare_room(rt, memory, document, options, room, &pieces[..room], true)?;
     }
     Ok(())
 }
@@ -185,7 +206,7 @@ fn long_indents_are_in_pieces<'a, D: DocPlace<'a>>(
     )
 }
 
-fn all<'a, D: DocPlace<'a>>(rt: &impl Abort, place: &'a D) -> Result<(), Fail> {
+pub(crate) fn all<'a, D: DocPlace<'a>>(rt: &impl Abort, place: &'a D) -> Result<(), Fail> {
     kept_alternatives_are_pieces(rt, place)?;
     payloads_need_no_trial(rt, place)?;
     no_piece_is_empty(rt, place)?;
@@ -194,6 +215,5 @@ fn all<'a, D: DocPlace<'a>>(rt: &impl Abort, place: &'a D) -> Result<(), Fail> {
 
 #[test]
 fn pieces_of_layouts(rt: HostRuntime) -> Result<(), Fail> {
-    let boxes = BoxAllocator::new(rt.alloc());
-    all(&rt, &boxes)
+    in_boxes(&rt, rt.alloc(), InBoxes::Pieces)
 }

@@ -1,7 +1,8 @@
 //! Memory that an arena's `Bump` refuses: what the call was given is given up, and all else is as before.
+use crate::places::{CountedPlace, InArena, in_arena};
 use bumpalo::Bump;
-use prettyless::text::{BuildError, CowStr, Text};
-use prettyless::{Arena, Doc, DocPlace, DocPtr, RefDoc};
+use prettyless::text::{BuildError, CowStr, MultilineTextData, Text};
+use prettyless::{Doc, DocPlace, DocPtr};
 use std::alloc::{AllocError, Global};
 use std::process::Abort;
 use std::test::Fail;
@@ -19,75 +20,112 @@ fn owned<'a>(memory: Global, end: &str) -> Result<CowStr<'a>, AllocError> {
     Ok(CowStr::Owned(text))
 }
 
-fn text_of<'a>(memory: Global) -> Result<Text<'a>, BuildError> {
-    Text::from_cow(memory, owned(memory, ".")?)
+fn text_of<'a, T: DocPtr<'a>>(memory: Global) -> Result<Doc<'a, T>, BuildError> {
+    Ok(Doc::Text(Text::from_cow(memory, owned(memory, ".")?)?))
 }
 
-fn payload_of<'a>(memory: Global) -> Result<Doc<'a, RefDoc<'a>>, BuildError> {
+fn payload_of<'a, T: DocPtr<'a>>(memory: Global) -> Result<Doc<'a, T>, BuildError> {
     Doc::multiline_text(memory, owned(memory, "\ny")?)
 }
 
-fn layout(memory: Global, document: RefDoc<'_>) -> Result<String, Fail> {
+fn layout<'a, T: DocPtr<'a>>(memory: Global, document: &T) -> Result<String, Fail> {
     let mut out = String::new(memory);
     document.doc().render_fmt(memory, 80, &mut out)?;
     Ok(out)
 }
 
-// Compares what comes of a node whose text finds no room: the nodes that are there stay, and small ones are still placed.
-// The node that is handed in again is placed where the limit is gone.
-fn compare<'a>(
+fn compare_layout<'a, T: DocPtr<'a>>(
     rt: &impl Abort,
     memory: Global,
-    bump: &'a Bump,
-    arena: &'a Arena<'a>,
-    refused: Doc<'a, RefDoc<'a>>,
-    again: Doc<'a, RefDoc<'a>>,
-) -> Result<RefDoc<'a>, Fail> {
-    let before = arena.alloc(Doc::Text(Text::Borrowed("ab")))?;
-    bump.set_allocation_limit(Some(bump.allocated_bytes()));
-    assert!(rt; matches!(arena.alloc(refused), Err(BuildError::Memory(_))));
-    assert!(rt; arena.len() == 1);
-    let after = arena.alloc(Doc::Append(before, before))?;
-    assert!(rt; arena.len() == 2);
-    bump.set_allocation_limit(None);
-    let placed = arena.alloc(again)?;
-    assert!(rt; arena.len() == 3);
-    assert!(rt; layout(memory, before)?.as_str() == "ab");
-    assert!(rt; layout(memory, after)?.as_str() == "abab");
-    Ok(placed)
+    document: &T,
+    expected: &str,
+) -> Result<(), Fail> {
+    assert!(rt; layout(memory, document)?.as_str() == expected);
+    Ok(())
 }
 
-fn texts<'a>(rt: &impl Abort, bump: &'a Bump, arena: &'a Arena<'a>) -> Result<(), Fail> {
-    let memory = arena.memory();
-    let refused = Doc::Text(text_of(memory)?);
-    let again = Doc::Text(text_of(memory)?);
-    let placed = compare(rt, memory, bump, arena, refused, again)?;
-    assert!(rt; layout(memory, placed)?.len() == LETTERS + 1);
+fn compare_length<'a, T: DocPtr<'a>>(
+    rt: &impl Abort,
+    memory: Global,
+    document: &T,
+    length: usize,
+) -> Result<(), Fail> {
+    assert!(rt; layout(memory, document)?.len() == length);
     Ok(())
+}
+
+fn refuses_a_text<'a, D: DocPlace<'a>>(place: &'a D) -> Result<bool, BuildError> {
+    let text = text_of(place.memory())?;
+    Ok(matches!(place.alloc(text), Err(BuildError::Memory(_))))
+}
+
+fn twice<'a, D: DocPlace<'a>>(place: &'a D, document: &D::Doc) -> Result<D::Doc, BuildError> {
+    let first = place.clone_ptr(document)?;
+    let second = place.clone_ptr(document)?;
+    place.alloc(Doc::Append(first, second))
+}
+
+// Where a text finds no room, the nodes that are there stay, and small ones are still placed.
+fn refused<'a, D: CountedPlace<'a>>(
+    rt: &impl Abort,
+    bump: &Bump,
+    place: &'a D,
+    before: &D::Doc,
+) -> Result<D::Doc, Fail> {
+    bump.set_allocation_limit(Some(bump.allocated_bytes()));
+    assert!(rt; refuses_a_text(place)?);
+    assert!(rt; place.nodes() == 1);
+    let after = twice(place, before)?;
+    assert!(rt; place.nodes() == 2);
+    Ok(after)
+}
+
+// The text that is handed in again is placed where the limit is gone.
+fn placed_again<'a, D: CountedPlace<'a>>(
+    rt: &impl Abort,
+    bump: &Bump,
+    place: &'a D,
+) -> Result<(), Fail> {
+    bump.set_allocation_limit(None);
+    let placed = place.alloc(text_of(place.memory())?)?;
+    assert!(rt; place.nodes() == 3);
+    compare_length(rt, place.memory(), &placed, LETTERS + 1)
+}
+
+pub(crate) fn texts<'a, D: CountedPlace<'a>>(
+    rt: &impl Abort,
+    bump: &Bump,
+    place: &'a D,
+) -> Result<(), Fail> {
+    let before = place.alloc(Doc::Text(Text::Borrowed("ab")))?;
+    let after = refused(rt, bump, place, &before)?;
+    placed_again(rt, bump, place)?;
+    compare_layout(rt, place.memory(), &before, "ab")?;
+    compare_layout(rt, place.memory(), &after, "abab")
 }
 
 #[test]
 fn an_owned_text_finds_no_room(rt: HostRuntime) -> Result<(), Fail> {
-    let bump = Bump::new(rt.alloc());
-    let arena = Arena::new(rt.alloc(), &bump);
-    texts(&rt, &bump, &arena)
+    in_arena(&rt, rt.alloc(), None, InArena::OwnedTexts)
 }
 
-// A payload in the arena has the measures that it had.
-fn measures<'a>(rt: &impl Abort, arena: &'a Arena<'a>) -> Result<(), Fail> {
-    let placed = arena.alloc(payload_of(arena.memory())?)?;
-    let Doc::MultilineText(payload) = placed.doc() else {
-        return Err(Fail::from("no payload"));
-    };
+fn compare_measures(rt: &impl Abort, payload: &MultilineTextData<'_>) {
     assert!(rt; !payload.is_owned());
     assert!(rt; payload.metrics().first_width == LETTERS);
     assert!(rt; payload.metrics().last_width == 1);
-    Ok(())
+}
+
+// A payload in the arena has the measures that it had.
+pub(crate) fn measures<'a, D: DocPlace<'a>>(rt: &impl Abort, place: &'a D) -> Result<(), Fail> {
+    let placed = place.alloc(payload_of(place.memory())?)?;
+    if let Doc::MultilineText(payload) = placed.doc() {
+        compare_measures(rt, payload);
+        return Ok(());
+    }
+    Err(Fail::new("no payload"))
 }
 
 #[test]
 fn a_payload_keeps_its_measures(rt: HostRuntime) -> Result<(), Fail> {
-    let bump = Bump::new(rt.alloc());
-    let arena = Arena::new(rt.alloc(), &bump);
-    measures(&rt, &arena)
+    in_arena(&rt, rt.alloc(), None, InArena::Payloads)
 }

@@ -3,8 +3,9 @@ ghost use Rattle.std.specs.Prelude.{Some, ◌≡◌, ◌↔◌, ◌<◌, ⊤, Is
 ghost use Rattle.std.specs.Str.{IsCharBoundary};
 ghost use Rattle.test_hostile.specs.declared.sinks.Fault.TheVariants.{Count, Document};
 
-use crate::rows::{ACCENTED, APART, BoxRow, KEPT, boxed_rows};
-use prettyless::{BoxAllocator, DocPlace, DocPtr, LineEnding, Render, RenderError, RenderOptions};
+use crate::places::{InBoxes, in_boxes};
+use crate::rows::{ACCENTED, APART, KEPT, ROWS, Row};
+use prettyless::{DocPlace, DocPtr, LineEnding, Render, RenderError, RenderOptions};
 use std::alloc::Global;
 use std::process::Abort;
 use std::test::Fail;
@@ -20,7 +21,7 @@ pub(crate) enum Fault {
 
 // How much of a piece a sink takes at a call.
 #[derive(Clone, Copy, Debug)]
-enum Step {
+pub(crate) enum Step {
     Whole,
     Character,
     Byte,
@@ -28,7 +29,7 @@ enum Step {
 
 // What it does at the call that goes wrong.
 #[derive(Clone, Copy, Debug)]
-enum Wrong {
+pub(crate) enum Wrong {
     Refuses,
     TakesNothing,
     CountsOneMore,
@@ -133,7 +134,7 @@ fn fault_of(wrong: Wrong) -> Fault {
 }
 
 // Compares what a sink has whose call went wrong.
-fn compare_ended(rt: &impl Abort, row: &BoxRow<'_>, sink: &Hostile, fault: &Fault) {
+fn compare_ended(rt: &impl Abort, row: &Row<'_>, sink: &Hostile, fault: &Fault) {
     let layout = row.layout;
     let wrong = sink.wrong;
     let wrong_call = sink.wrong_call;
@@ -147,7 +148,7 @@ fn compare_ended(rt: &impl Abort, row: &BoxRow<'_>, sink: &Hostile, fault: &Faul
 }
 
 // Compares what a sink has whose call did not come.
-fn compare_undisturbed(rt: &impl Abort, row: &BoxRow<'_>, sink: &Hostile, fails: bool) {
+fn compare_undisturbed(rt: &impl Abort, row: &Row<'_>, sink: &Hostile, fails: bool) {
     let layout = row.layout;
     assert!(rt; fails == row.fails, "{layout}");
     assert!(rt; sink.failures == 0, "{layout}");
@@ -156,23 +157,28 @@ fn compare_undisturbed(rt: &impl Abort, row: &BoxRow<'_>, sink: &Hostile, fails:
 }
 
 // How a render to this sink ends.
-fn ending(memory: Global, row: &BoxRow<'_>, sink: &mut Hostile) -> Result<(), RenderError<Fault>> {
-    let options = RenderOptions::new(row.width);
-    row.document.doc().render_raw_with(memory, options, sink)
+fn ending<'a, T: DocPtr<'a>>(
+    memory: Global,
+    document: &T,
+    options: RenderOptions,
+    sink: &mut Hostile,
+) -> Result<(), RenderError<Fault>> {
+    document.doc().render_raw_with(memory, options, sink)
 }
 
 // Compares how a render ends of which one call goes wrong, and answers whether it comes to that call.
-fn compare(
+fn compare<'a, T: DocPtr<'a>>(
     rt: &impl Abort,
     memory: Global,
-    row: &BoxRow<'_>,
+    document: &T,
+    row: &Row<'_>,
     step: Step,
     wrong: Wrong,
     wrong_call: usize,
 ) -> Result<bool, Fail> {
     let layout = row.layout;
     let mut sink = Hostile::new(memory, step, wrong, wrong_call);
-    match ending(memory, row, &mut sink) {
+    match ending(memory, document, RenderOptions::new(row.width), &mut sink) {
         Ok(()) => compare_undisturbed(rt, row, &sink, false),
         Err(RenderError::Document(fault)) => {
             assert!(rt; fault == Fault::Document, "{layout}");
@@ -188,30 +194,53 @@ fn compare(
 }
 
 // Each call goes wrong in turn, until a render ends without it. Answers which that is.
-fn compare_calls(
+fn compare_calls<'a, T: DocPtr<'a>>(
     rt: &impl Abort,
     memory: Global,
-    row: &BoxRow<'_>,
+    document: &T,
+    row: &Row<'_>,
     step: Step,
     wrong: Wrong,
 ) -> Result<usize, Fail> {
     for wrong_call in 1..100 {
-        if !compare(rt, memory, row, step, wrong, wrong_call)? {
+        if !compare(rt, memory, document, row, step, wrong, wrong_call)? {
             return Ok(wrong_call);
         }
     }
     Err(Fail::new("no render ends well"))
 }
 
-fn compare_all(rt: &impl Abort, memory: Global, step: Step, wrong: Wrong) -> Result<(), Fail> {
-    let boxes = BoxAllocator::new(memory);
-    let rows = boxed_rows(&boxes)?;
-    for row in rows.iter() {
-        let ends_at = compare_calls(rt, memory, row, step, wrong)?;
-        assert!(rt; 1 < ends_at);
-        if !matches!(step, Step::Whole) {
-            assert!(rt; ends_at == row.layout.len().saturating_add(1));
-        }
+fn compare_row<'a, D: DocPlace<'a>>(
+    rt: &impl Abort,
+    place: &'a D,
+    row: Row<'a>,
+    step: Step,
+    wrong: Wrong,
+) -> Result<(), Fail> {
+    let document = read(place, row.written)?;
+    let ends_at = compare_calls(rt, place.memory(), &document, &row, step, wrong)?;
+    assert!(rt; 1 < ends_at);
+    if !matches!(step, Step::Whole) {
+        assert!(rt; ends_at == row.layout.len().saturating_add(1));
+    }
+    Ok(())
+}
+
+pub(crate) fn compare_rows<'a, D: DocPlace<'a>>(
+    rt: &impl Abort,
+    place: &'a D,
+    step: Step,
+    wrong: Wrong,
+) -> Result<(), Fail> {
+    for row in ROWS {
+        compare_row(rt, place, row, step, wrong)?;
+    }
+    Ok(())
+}
+
+fn compare_all(rt: &impl Abort, memory: Global, wrong: Wrong) -> Result<(), Fail> {
+    for step in STEPS {
+        in_boxes(rt, memory, InBoxes::Sinks(step, wrong))?;
     }
     Ok(())
 }
@@ -220,27 +249,18 @@ const STEPS: [Step; 3] = [Step::Whole, Step::Character, Step::Byte];
 
 #[test]
 fn sinks_that_refuse_a_piece(rt: HostRuntime) -> Result<(), Fail> {
-    for step in STEPS {
-        compare_all(&rt, rt.alloc(), step, Wrong::Refuses)?;
-    }
-    Ok(())
+    compare_all(&rt, rt.alloc(), Wrong::Refuses)
 }
 
 #[test]
 fn sinks_that_take_nothing(rt: HostRuntime) -> Result<(), Fail> {
-    for step in STEPS {
-        compare_all(&rt, rt.alloc(), step, Wrong::TakesNothing)?;
-    }
-    Ok(())
+    compare_all(&rt, rt.alloc(), Wrong::TakesNothing)
 }
 
 #[test]
 fn sinks_that_count_too_much(rt: HostRuntime) -> Result<(), Fail> {
-    for step in STEPS {
-        compare_all(&rt, rt.alloc(), step, Wrong::CountsOneMore)?;
-        compare_all(&rt, rt.alloc(), step, Wrong::CountsAll)?;
-    }
-    Ok(())
+    compare_all(&rt, rt.alloc(), Wrong::CountsOneMore)?;
+    compare_all(&rt, rt.alloc(), Wrong::CountsAll)
 }
 
 // Compares what a sink has of a character of two bytes.
@@ -263,7 +283,10 @@ fn compare_character<'a, T: DocPtr<'a>>(
     assert!(rt; sink.calls == 1, "{step:?}");
 }
 
-fn compare_steps<'a, D: DocPlace<'a>>(rt: &impl Abort, place: &'a D) -> Result<(), Fail> {
+pub(crate) fn compare_steps<'a, D: DocPlace<'a>>(
+    rt: &impl Abort,
+    place: &'a D,
+) -> Result<(), Fail> {
     let memory = place.memory();
     let document = read(place, ACCENTED)?;
     let whole = b"\xc3\xa9".as_slice();
@@ -277,7 +300,26 @@ fn compare_steps<'a, D: DocPlace<'a>>(rt: &impl Abort, place: &'a D) -> Result<(
 // A character of two bytes is taken by characters, and not by bytes.
 #[test]
 fn counts_inside_a_character(rt: HostRuntime) -> Result<(), Fail> {
-    compare_steps(&rt, &BoxAllocator::new(rt.alloc()))
+    in_boxes(&rt, rt.alloc(), InBoxes::Characters)
+}
+
+// Whether a sink ended a render with this fault.
+fn is_fault(ending: &Result<(), RenderError<Fault>>, fault: &Fault) -> bool {
+    matches!(ending, Err(RenderError::Sink(found)) if found == fault)
+}
+
+// Compares how a sink ended a render, and what it has.
+fn compare_fault(
+    rt: &impl Abort,
+    sink: &Hostile,
+    ending: &Result<(), RenderError<Fault>>,
+    fault: &Fault,
+    bytes: &[u8],
+) {
+    let wrong = sink.wrong;
+    assert!(rt; is_fault(ending, fault), "{wrong:?}");
+    assert!(rt; sink.failures == 1, "{wrong:?}");
+    assert!(rt; sink.bytes.as_slice() == bytes, "{wrong:?}");
 }
 
 // Compares what a sink has that answers this count for its second piece.
@@ -290,10 +332,8 @@ fn compare_count<'a, T: DocPtr<'a>>(
     layout: &str,
 ) {
     let mut sink = Hostile::new(memory, Step::Whole, wrong, 2);
-    let result = document.doc().render_raw_with(memory, options, &mut sink);
-    assert!(rt; matches!(result, Err(RenderError::Sink(Fault::Count))));
-    assert!(rt; sink.failures == 1, "{wrong:?}");
-    assert!(rt; sink.bytes.as_slice() == layout.as_bytes(), "{wrong:?}");
+    let ending = ending(memory, document, options, &mut sink);
+    compare_fault(rt, &sink, &ending, &Fault::Count, layout.as_bytes());
 }
 
 // Compares what a sink has that answers a bad count for its second piece, which is a space.
@@ -313,7 +353,10 @@ fn compare_spaces<'a, T: DocPtr<'a>>(
     Ok(())
 }
 
-fn compare_bad_counts<'a, D: DocPlace<'a>>(rt: &impl Abort, place: &'a D) -> Result<(), Fail> {
+pub(crate) fn compare_bad_counts<'a, D: DocPlace<'a>>(
+    rt: &impl Abort,
+    place: &'a D,
+) -> Result<(), Fail> {
     let memory = place.memory();
     let apart = read(place, APART)?;
     compare_spaces(rt, memory, &apart, LineEnding::Lf, "a")?;
@@ -324,22 +367,20 @@ fn compare_bad_counts<'a, D: DocPlace<'a>>(rt: &impl Abort, place: &'a D) -> Res
 
 #[test]
 fn bad_counts_of_spaces(rt: HostRuntime) -> Result<(), Fail> {
-    compare_bad_counts(&rt, &BoxAllocator::new(rt.alloc()))
+    in_boxes(&rt, rt.alloc(), InBoxes::CountsOfSpaces)
 }
 
 // A sink that takes one byte a call, and refuses at its third.
-fn compare_full<'a, D: DocPlace<'a>>(rt: &impl Abort, place: &'a D) -> Result<(), Fail> {
+pub(crate) fn compare_full<'a, D: DocPlace<'a>>(rt: &impl Abort, place: &'a D) -> Result<(), Fail> {
     let memory = place.memory();
     let document = read(place, KEPT)?;
     let mut sink = Hostile::new(memory, Step::Byte, Wrong::Refuses, 3);
-    let result = document.doc().render_raw(memory, 80, &mut sink);
-    assert!(rt; matches!(result, Err(RenderError::Sink(Fault::Refused))));
-    assert!(rt; sink.bytes.as_slice() == b"ab".as_slice());
-    assert!(rt; sink.failures == 1);
+    let ending = document.doc().render_raw(memory, 80, &mut sink);
+    compare_fault(rt, &sink, &ending, &Fault::Refused, b"ab".as_slice());
     Ok(())
 }
 
 #[test]
 fn full_inside_an_alternative(rt: HostRuntime) -> Result<(), Fail> {
-    compare_full(&rt, &BoxAllocator::new(rt.alloc()))
+    in_boxes(&rt, rt.alloc(), InBoxes::FullSinks)
 }

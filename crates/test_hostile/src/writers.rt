@@ -1,9 +1,10 @@
 //! Byte writers and text writers of which one call goes wrong.
 ghost use Rattle.std.specs.Prelude.{Some};
 
-use crate::rows::{ACCENTED, BoxRow, boxed_rows};
+use crate::places::{InBoxes, in_boxes};
+use crate::rows::{ACCENTED, ROWS, Row};
 use prettyless::{
-    BoxAllocator, BoxDoc, DocPtr, FmtWrite, IoWrite, RenderError, RenderOptions, TextWriter, Untold,
+    DocPlace, DocPtr, FmtWrite, IoWrite, RenderError, RenderOptions, TextWriter, Untold,
 };
 use std::alloc::Global;
 use std::io::{ErrorKind, Write};
@@ -14,7 +15,7 @@ use test_documents::read;
 
 // What a writer does at the call that goes wrong.
 #[derive(Clone, Copy)]
-enum Wrong {
+pub(crate) enum Wrong {
     IsInterrupted,
     TakesNothing,
 }
@@ -76,7 +77,7 @@ enum Ending<E> {
 }
 
 // How a render ends that no writer disturbs.
-fn undisturbed<E>(row: &BoxRow<'_>) -> Ending<E> {
+fn undisturbed<E>(row: &Row<'_>) -> Ending<E> {
     if row.fails {
         Ending::Document
     } else {
@@ -85,9 +86,9 @@ fn undisturbed<E>(row: &BoxRow<'_>) -> Ending<E> {
 }
 
 // How a render to such a writer ends, with the kind of the error.
-fn ending_of_bytes(
+fn ending_of_bytes<'a, T: DocPtr<'a>>(
     memory: Global,
-    document: &BoxDoc<'_>,
+    document: &T,
     width: usize,
     writer: &mut ByBytes,
 ) -> Result<Ending<ErrorKind>, Fail> {
@@ -104,7 +105,7 @@ fn ending_of_bytes(
 // Compares what a writer has whose call did not come.
 fn compare_all_of_bytes(
     rt: &impl Abort,
-    row: &BoxRow<'_>,
+    row: &Row<'_>,
     writer: &ByBytes,
     ending: &Ending<ErrorKind>,
 ) {
@@ -133,15 +134,16 @@ fn compare_ended_bytes(
 }
 
 // Compares how a render ends of which one call goes wrong, and answers whether it comes to that call.
-fn compare_bytes(
+fn compare_bytes<'a, T: DocPtr<'a>>(
     rt: &impl Abort,
     memory: Global,
-    row: &BoxRow<'_>,
+    document: &T,
+    row: &Row<'_>,
     wrong: Wrong,
     wrong_call: usize,
 ) -> Result<bool, Fail> {
     let mut writer = ByBytes::new(memory, wrong, wrong_call);
-    let ending = ending_of_bytes(memory, &row.document, row.width, &mut writer)?;
+    let ending = ending_of_bytes(memory, document, row.width, &mut writer)?;
     let layout = row.layout;
     if layout.len() < wrong_call {
         compare_all_of_bytes(rt, row, &writer, &ending);
@@ -153,48 +155,69 @@ fn compare_bytes(
 }
 
 // Each call goes wrong in turn, until a render ends without it.
-fn compare_calls(
+fn compare_calls<'a, T: DocPtr<'a>>(
     rt: &impl Abort,
     memory: Global,
-    row: &BoxRow<'_>,
+    document: &T,
+    row: &Row<'_>,
     wrong: Wrong,
 ) -> Result<(), Fail> {
     for wrong_call in 1..100 {
-        if !compare_bytes(rt, memory, row, wrong, wrong_call)? {
+        if !compare_bytes(rt, memory, document, row, wrong, wrong_call)? {
             return Ok(());
         }
     }
     Err(Fail::new("no render ends well"))
 }
 
-fn compare_all_bytes(rt: &impl Abort, memory: Global, wrong: Wrong) -> Result<(), Fail> {
-    let boxes = BoxAllocator::new(memory);
-    let rows = boxed_rows(&boxes)?;
-    for row in rows.iter() {
-        compare_calls(rt, memory, row, wrong)?;
+fn compare_row_of_bytes<'a, D: DocPlace<'a>>(
+    rt: &impl Abort,
+    place: &'a D,
+    row: Row<'a>,
+    wrong: Wrong,
+) -> Result<(), Fail> {
+    let document = read(place, row.written)?;
+    compare_calls(rt, place.memory(), &document, &row, wrong)
+}
+
+pub(crate) fn compare_all_bytes<'a, D: DocPlace<'a>>(
+    rt: &impl Abort,
+    place: &'a D,
+    wrong: Wrong,
+) -> Result<(), Fail> {
+    for row in ROWS {
+        compare_row_of_bytes(rt, place, row, wrong)?;
     }
     Ok(())
 }
 
 #[test]
 fn writers_that_are_interrupted(rt: HostRuntime) -> Result<(), Fail> {
-    compare_all_bytes(&rt, rt.alloc(), Wrong::IsInterrupted)
+    in_boxes(&rt, rt.alloc(), InBoxes::ByteWriters(Wrong::IsInterrupted))
 }
 
 #[test]
 fn writers_that_take_nothing(rt: HostRuntime) -> Result<(), Fail> {
-    compare_all_bytes(&rt, rt.alloc(), Wrong::TakesNothing)
+    in_boxes(&rt, rt.alloc(), InBoxes::ByteWriters(Wrong::TakesNothing))
+}
+
+// Compares what a writer has of a character of two bytes.
+pub(crate) fn compare_character<'a, D: DocPlace<'a>>(
+    rt: &impl Abort,
+    place: &'a D,
+) -> Result<(), Fail> {
+    let memory = place.memory();
+    let document = read(place, ACCENTED)?;
+    let mut writer = ByBytes::new(memory, Wrong::TakesNothing, usize::MAX);
+    let ending = ending_of_bytes(memory, &document, 80, &mut writer)?;
+    assert!(rt; ending == Ending::Laid);
+    assert!(rt; writer.bytes.as_slice() == b"\xc3\xa9".as_slice());
+    Ok(())
 }
 
 #[test]
 fn a_character_is_written_byte_by_byte(rt: HostRuntime) -> Result<(), Fail> {
-    let boxes = BoxAllocator::new(rt.alloc());
-    let document = read(&boxes, ACCENTED)?;
-    let mut writer = ByBytes::new(rt.alloc(), Wrong::TakesNothing, usize::MAX);
-    let ending = ending_of_bytes(rt.alloc(), &document, 80, &mut writer)?;
-    assert!(rt; ending == Ending::Laid);
-    assert!(rt; writer.bytes.as_slice() == b"\xc3\xa9".as_slice());
-    Ok(())
+    in_boxes(&rt, rt.alloc(), InBoxes::CharacterOfBytes)
 }
 
 // A text writer that takes one byte of one of its pieces and fails.
@@ -235,15 +258,15 @@ impl fmt::Write for ByPieces {
 }
 
 // How a render to a text writer ends.
-fn ending_of_text<W: TextWriter>(
+fn ending_of_text<'a, T: DocPtr<'a>, W: TextWriter>(
     memory: Global,
-    row: &BoxRow<'_>,
+    document: &T,
+    width: usize,
     writer: &mut W,
 ) -> Result<Ending<fmt::Error>, Fail> {
-    let options = RenderOptions::new(row.width);
+    let options = RenderOptions::new(width);
     let mut sink = FmtWrite::new(writer);
-    let document = row.document.doc();
-    match document.render_raw_with(memory, options, &mut sink) {
+    match document.doc().render_raw_with(memory, options, &mut sink) {
         Ok(()) => Ok(Ending::Laid),
         Err(RenderError::Document(_)) => Ok(Ending::Document),
         Err(RenderError::Sink(error)) => Ok(Ending::Sink(error)),
@@ -252,23 +275,24 @@ fn ending_of_text<W: TextWriter>(
 }
 
 // How a render to such a writer ends, whose bytes are known or not.
-fn ending_of_pieces(
+fn ending_of_pieces<'a, T: DocPtr<'a>>(
     memory: Global,
-    row: &BoxRow<'_>,
+    document: &T,
+    width: usize,
     known: bool,
     writer: &mut ByPieces,
 ) -> Result<Ending<fmt::Error>, Fail> {
     if known {
-        ending_of_text(memory, row, writer)
+        ending_of_text(memory, document, width, writer)
     } else {
-        ending_of_text(memory, row, &mut Untold(writer))
+        ending_of_text(memory, document, width, &mut Untold(writer))
     }
 }
 
 // Compares what a writer has whose piece did not come.
 fn compare_all_of_pieces(
     rt: &impl Abort,
-    row: &BoxRow<'_>,
+    row: &Row<'_>,
     writer: &ByPieces,
     ending: &Ending<fmt::Error>,
 ) {
@@ -297,10 +321,11 @@ fn compare_ended_pieces(
 }
 
 // Compares how a render ends of which one piece goes wrong, and answers whether it comes to that piece.
-fn compare_pieces(
+fn compare_pieces<'a, T: DocPtr<'a>>(
     rt: &impl Abort,
     memory: Global,
-    row: &BoxRow<'_>,
+    document: &T,
+    row: &Row<'_>,
     known: bool,
     wrong_piece: usize,
 ) -> Result<bool, Fail> {
@@ -310,7 +335,7 @@ fn compare_pieces(
         bytes: Vec::new(memory),
         failures: 0,
     };
-    let ending = ending_of_pieces(memory, row, known, &mut writer)?;
+    let ending = ending_of_pieces(memory, document, row.width, known, &mut writer)?;
     let comes = writer.failures != 0;
     if comes {
         compare_ended_pieces(rt, row.layout, &writer, &ending);
@@ -321,27 +346,42 @@ fn compare_pieces(
 }
 
 // Each piece goes wrong in turn, until a render ends without it.
-fn compare_all_pieces(
+fn compare_all_pieces<'a, T: DocPtr<'a>>(
     rt: &impl Abort,
     memory: Global,
-    row: &BoxRow<'_>,
+    document: &T,
+    row: &Row<'_>,
     known: bool,
 ) -> Result<(), Fail> {
     for wrong_piece in 1..100 {
-        if !compare_pieces(rt, memory, row, known, wrong_piece)? {
+        if !compare_pieces(rt, memory, document, row, known, wrong_piece)? {
             return Ok(());
         }
     }
     Err(Fail::new("no render ends well"))
 }
 
-#[test]
-fn text_writers_that_fail(rt: HostRuntime) -> Result<(), Fail> {
-    let boxes = BoxAllocator::new(rt.alloc());
-    let rows = boxed_rows(&boxes)?;
-    for row in rows.iter() {
-        compare_all_pieces(&rt, rt.alloc(), row, true)?;
-        compare_all_pieces(&rt, rt.alloc(), row, false)?;
+fn compare_row_of_pieces<'a, D: DocPlace<'a>>(
+    rt: &impl Abort,
+    place: &'a D,
+    row: Row<'a>,
+) -> Result<(), Fail> {
+    let document = read(place, row.written)?;
+    compare_all_pieces(rt, place.memory(), &document, &row, true)?;
+    compare_all_pieces(rt, place.memory(), &document, &row, false)
+}
+
+pub(crate) fn compare_text_writers<'a, D: DocPlace<'a>>(
+    rt: &impl Abort,
+    place: &'a D,
+) -> Result<(), Fail> {
+    for row in ROWS {
+        compare_row_of_pieces(rt, place, row)?;
     }
     Ok(())
+}
+
+#[test]
+fn text_writers_that_fail(rt: HostRuntime) -> Result<(), Fail> {
+    in_boxes(&rt, rt.alloc(), InBoxes::TextWriters)
 }
