@@ -13,7 +13,7 @@ pub(crate) struct Row<'a> {
 }
 
 #[rattlefmt::skip]
-pub(crate) const ROWS: [Row<'static>; 11] = [
+pub(crate) const ROWS: &[Row<'static>] = &[
     // Lines in a nest, of which one is empty.
     Row { width: 80, written: "Nest 2 Append Append Append Text 'aaa' HardLine HardLine Text 'bbb'",
           layout: "aaa\n  \n  bbb", fails: false },

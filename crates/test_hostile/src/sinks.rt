@@ -232,7 +232,7 @@ pub(crate) fn compare_rows<'a, D: DocPlace<'a>>(
     step: Step,
     wrong: Wrong,
 ) -> Result<(), Fail> {
-    for row in ROWS {
+    for &row in ROWS {
         compare_row(rt, place, row, step, wrong)?;
     }
     Ok(())

@@ -37,7 +37,7 @@ const DEEP_ALTERNATIVES: &[(&str, usize)] = &[
 ];
 
 #[rattlefmt::skip]
-const TREES: [Tree<'static>; 9] = [
+const TREES: &[Tree<'static>] = &[
     Tree {
         name: "letters appended one after another",
         width: 80,
@@ -184,7 +184,7 @@ fn compare_in_arena(rt: &impl Abort, memory: Global, tree: &Tree<'_>) -> Result<
 
 #[test]
 fn awkward_trees(rt: HostRuntime) -> Result<(), Fail> {
-    for tree in &TREES {
+    for tree in TREES {
         compare_in_arena(&rt, rt.alloc(), tree)?;
     }
     Ok(())

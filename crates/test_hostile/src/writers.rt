@@ -185,7 +185,7 @@ pub(crate) fn compare_all_bytes<'a, D: DocPlace<'a>>(
     place: &'a D,
     wrong: Wrong,
 ) -> Result<(), Fail> {
-    for row in ROWS {
+    for &row in ROWS {
         compare_row_of_bytes(rt, place, row, wrong)?;
     }
     Ok(())
@@ -375,7 +375,7 @@ pub(crate) fn compare_text_writers<'a, D: DocPlace<'a>>(
     rt: &impl Abort,
     place: &'a D,
 ) -> Result<(), Fail> {
-    for row in ROWS {
+    for &row in ROWS {
         compare_row_of_pieces(rt, place, row)?;
     }
     Ok(())
