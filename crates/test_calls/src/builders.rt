@@ -25,11 +25,16 @@ fn weak<'a, D: DocPlace<'a>>(place: &'a D) -> DocBuilder<'a, D> {
     DocBuilder::new(place, Doc::WeakLine)
 }
 
-pub(crate) fn sums<'a, D: DocPlace<'a>>(rt: &impl Abort, place: &'a D) {
-    shows(rt, line(place).append("a"), "[HardLine, \"a\"]");
-    shows(rt, line(place).append(""), "HardLine");
-    shows(rt, nothing(place).append("a"), "\"a\"");
-    shows(rt, line(place) + "a", "[HardLine, \"a\"]");
+pub(crate) fn sums<'a, D: DocPlace<'a>, P: Pretty<'a, D> + Copy>(
+    rt: &impl Abort,
+    place: &'a D,
+    a: P,
+    empty: P,
+) {
+    shows(rt, line(place).append(a), "[HardLine, \"a\"]");
+    shows(rt, line(place).append(empty), "HardLine");
+    shows(rt, nothing(place).append(a), "\"a\"");
+    shows(rt, line(place) + a, "[HardLine, \"a\"]");
 }
 
 pub(crate) fn joins<'a, D: DocPlace<'a>>(rt: &impl Abort, place: &'a D) {
@@ -139,17 +144,24 @@ fn space_or<'a, D: DocPlace<'a>>(
     shows(rt, blank(place).union(made), shown);
 }
 
-// Documents once more, as nodes, in the making and with a builder.
+// A builder once more.
 pub(crate) fn copies<'a, D: DocPlace<'a>>(rt: &impl Abort, place: &'a D) {
     let line = built(rt, line(place).nest(2));
     let copy = line.clone();
     drop(line);
     shows(rt, copy, "Nest(2, HardLine)");
+}
+
+// A document in the making once more.
+pub(crate) fn copies_in_the_making<'a, D: DocPlace<'a>>(rt: &impl Abort, place: &'a D) {
     let line = BuildDoc::Doc(Doc::HardLine).clone(place);
     let line = line.expect(rt, "a document was not copied");
     space_or(rt, place, line, "Union(\" \", HardLine)");
-    let line = Doc::WeakLine
-        .clone(place)
-        .expect(rt, "a node was not copied");
+}
+
+// A node once more.
+pub(crate) fn copies_of_nodes<'a, D: DocPlace<'a>>(rt: &impl Abort, place: &'a D) {
+    let line = Doc::WeakLine.clone(place);
+    let line = line.expect(rt, "a node was not copied");
     space_or(rt, place, BuildDoc::Doc(line), "Union(\" \", WeakLine)");
 }

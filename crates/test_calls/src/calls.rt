@@ -1,8 +1,8 @@
 //! Each call of an allocator once, with ample memory.
 use crate::expected::{Failing, built, points, refuses, shows};
 use prettyless::prelude::*;
-use prettyless::text::{CowStr, Text};
-use prettyless::{BuildDoc, ColumnTest, Doc, DocPtr, NestingTest};
+use prettyless::text::{BuildError, CowStr, Text};
+use prettyless::{BuildDoc, ColumnTest, Doc, DocBuilder, DocPtr, NestingTest};
 use std::fmt;
 use std::process::Abort;
 
@@ -53,18 +53,29 @@ pub(crate) fn strings<'a, D: DocPlace<'a>>(rt: &impl Abort, place: &'a D) {
     assert!(rt; matches!(value.doc(), Doc::Text(Text::Small(_))));
 }
 
-pub(crate) fn operands<'a, D: DocPlace<'a>>(rt: &impl Abort, place: &'a D) {
-    shows(rt, place.pretty("a"), "\"a\"");
-    shows(rt, place.line_suffix("//"), "LineSuffix(\"//\")");
+pub(crate) fn operands<'a, D: DocPlace<'a>, P: Pretty<'a, D> + Copy>(
+    rt: &impl Abort,
+    place: &'a D,
+    a: P,
+    b: P,
+    comment: P,
+) {
+    shows(rt, place.pretty(a), "\"a\"");
+    shows(rt, place.line_suffix(comment), "LineSuffix(\"//\")");
     shows(rt, place.line_suffix(()), "LineSuffix(Nil)");
-    shows(rt, place.if_group_flat("a"), "WhenFlat(\"a\")");
-    shows(rt, place.if_group_break("b"), "WhenBreak(\"b\")");
+    shows(rt, place.if_group_flat(a), "WhenFlat(\"a\")");
+    shows(rt, place.if_group_break(b), "WhenBreak(\"b\")");
 }
 
-pub(crate) fn by_place<'a, D: DocPlace<'a>>(rt: &impl Abort, place: &'a D) {
-    let hung = place.if_column(ColumnTest::AtMost(7), "a", ());
+pub(crate) fn by_place<'a, D: DocPlace<'a>, P: Pretty<'a, D> + Copy>(
+    rt: &impl Abort,
+    place: &'a D,
+    a: P,
+    b: P,
+) {
+    let hung = place.if_column(ColumnTest::AtMost(7), a, ());
     shows(rt, hung, "OnColumn(AtMost(7), \"a\", Nil)");
-    let deep = place.if_nesting(NestingTest::AtLeast(2), (), "b");
+    let deep = place.if_nesting(NestingTest::AtLeast(2), (), b);
     shows(rt, deep, "OnNesting(AtLeast(2), Nil, \"b\")");
 }
 
@@ -78,14 +89,18 @@ pub(crate) fn sequences<'a, D: DocPlace<'a>>(rt: &impl Abort, place: &'a D) {
     shows(rt, item, "\"a\"");
 }
 
+fn between<'a, D: DocPlace<'a>>(
+    place: &'a D,
+    items: &'a [&'a str],
+) -> Result<DocBuilder<'a, D>, BuildError> {
+    place.intersperse(items.iter().copied(), as_string(Failing))
+}
+
 // A separator becomes a document only where there is a gap.
 pub(crate) fn separators<'a, D: DocPlace<'a>>(rt: &impl Abort, place: &'a D) {
-    let none = place.intersperse([""; 0].into_iter(), as_string(Failing));
-    shows(rt, none, "Nil");
-    let item = place.intersperse(["a"].into_iter(), as_string(Failing));
-    shows(rt, item, "\"a\"");
-    let items = place.intersperse(["a", "b"].into_iter(), as_string(Failing));
-    refuses(rt, items);
+    shows(rt, between(place, &[]), "Nil");
+    shows(rt, between(place, &["a"]), "\"a\"");
+    refuses(rt, between(place, &["a", "b"]));
 }
 
 pub(crate) fn words<'a, D: DocPlace<'a>>(rt: &impl Abort, place: &'a D) {

@@ -1,134 +1,132 @@
 //! Boxed documents deeper by far than the stack has room for calls, and what outlives its owner.
-use prettyless::text::{BuildError, CowStr, Text};
-use prettyless::{BoxAllocator, Doc, DocPlace, DocPtr, RcAllocator};
+use prettyless::text::{CowStr, Text};
+use prettyless::{Doc, DocPlace, DocPtr};
 use std::process::Abort;
-use std::test::Fail;
 
 const DEPTH: u32 = 1_000_000;
 
+fn placed<'a, D: DocPlace<'a>>(rt: &impl Abort, place: &'a D, doc: Doc<'a, D::Doc>) -> D::Doc {
+    place.alloc(doc).expect(rt, "a node was not placed")
+}
+
+fn cloned<'a, D: DocPlace<'a>>(rt: &impl Abort, place: &'a D, pointer: &D::Doc) -> D::Doc {
+    place
+        .clone_ptr(pointer)
+        .expect(rt, "a document was not cloned")
+}
+
 // Lines appended to the left of one another.
-fn to_the_left<'a, D: DocPlace<'a>>(place: &'a D) -> Result<D::Doc, BuildError> {
-    let mut chain = place.alloc(Doc::Nil)?;
+fn to_the_left<'a, D: DocPlace<'a>>(rt: &impl Abort, place: &'a D) -> D::Doc {
+    let mut chain = placed(rt, place, Doc::Nil);
     for _ in 0..DEPTH {
-        let line = place.alloc(Doc::HardLine)?;
-        chain = place.alloc(Doc::Append(chain, line))?;
+        let line = placed(rt, place, Doc::HardLine);
+        chain = placed(rt, place, Doc::Append(chain, line));
     }
-    Ok(chain)
+    chain
 }
 
 // Lines appended to the right of one another.
-fn to_the_right<'a, D: DocPlace<'a>>(place: &'a D) -> Result<D::Doc, BuildError> {
-    let mut chain = place.alloc(Doc::Nil)?;
+fn to_the_right<'a, D: DocPlace<'a>>(rt: &impl Abort, place: &'a D) -> D::Doc {
+    let mut chain = placed(rt, place, Doc::Nil);
     for _ in 0..DEPTH {
-        let line = place.alloc(Doc::HardLine)?;
-        chain = place.alloc(Doc::Append(line, chain))?;
+        let line = placed(rt, place, Doc::HardLine);
+        chain = placed(rt, place, Doc::Append(line, chain));
     }
-    Ok(chain)
+    chain
 }
 
 // Nothing in nests.
-fn in_nests<'a, D: DocPlace<'a>>(place: &'a D) -> Result<D::Doc, BuildError> {
-    let mut chain = place.alloc(Doc::Nil)?;
+fn in_nests<'a, D: DocPlace<'a>>(rt: &impl Abort, place: &'a D) -> D::Doc {
+    let mut chain = placed(rt, place, Doc::Nil);
     for _ in 0..DEPTH {
-        chain = place.alloc(Doc::Nest(1, chain))?;
+        chain = placed(rt, place, Doc::Nest(1, chain));
     }
-    Ok(chain)
+    chain
 }
 
 // The chain in one more node of each kind that holds one.
-fn in_singles<'a, D: DocPlace<'a>>(place: &'a D, chain: D::Doc) -> Result<D::Doc, BuildError> {
-    let chain = place.alloc(Doc::LineSuffix(chain))?;
-    let chain = place.alloc(Doc::Nest(-1, chain))?;
-    let chain = place.alloc(Doc::DedentToRoot(chain))?;
-    let chain = place.alloc(Doc::Align(chain))?;
-    let chain = place.alloc(Doc::Flatten(chain))?;
-    place.alloc(Doc::Group(chain))
+fn in_singles<'a, D: DocPlace<'a>>(rt: &impl Abort, place: &'a D, chain: D::Doc) -> D::Doc {
+    let chain = placed(rt, place, Doc::LineSuffix(chain));
+    let chain = placed(rt, place, Doc::Nest(-1, chain));
+    let chain = placed(rt, place, Doc::DedentToRoot(chain));
+    let chain = placed(rt, place, Doc::Align(chain));
+    let chain = placed(rt, place, Doc::Flatten(chain));
+    placed(rt, place, Doc::Group(chain))
 }
 
 // The chain in one more node of each kind that holds a pair.
-fn in_pairs<'a, D: DocPlace<'a>>(place: &'a D, chain: D::Doc) -> Result<D::Doc, BuildError> {
-    let chain = place.alloc(Doc::Append(place.alloc(Doc::WeakSpace)?, chain))?;
-    let chain = place.alloc(Doc::BreakOrFlat(chain, place.alloc(Doc::WeakLine)?))?;
-    let chain = place.alloc(Doc::Union(place.alloc(Doc::Fail)?, chain))?;
-    place.alloc(Doc::PartialUnion(chain, place.alloc(Doc::ExpandParent)?))
+fn in_pairs<'a, D: DocPlace<'a>>(rt: &impl Abort, place: &'a D, chain: D::Doc) -> D::Doc {
+    let space = placed(rt, place, Doc::WeakSpace);
+    let chain = placed(rt, place, Doc::Append(space, chain));
+    let line = placed(rt, place, Doc::WeakLine);
+    let chain = placed(rt, place, Doc::BreakOrFlat(chain, line));
+    let failure = placed(rt, place, Doc::Fail);
+    let chain = placed(rt, place, Doc::Union(failure, chain));
+    let nothing = placed(rt, place, Doc::ExpandParent);
+    placed(rt, place, Doc::PartialUnion(chain, nothing))
 }
 
 // Nothing in nodes of all these kinds.
-fn in_all_kinds<'a, D: DocPlace<'a>>(place: &'a D) -> Result<D::Doc, BuildError> {
-    let mut chain = place.alloc(Doc::Nil)?;
+fn in_all_kinds<'a, D: DocPlace<'a>>(rt: &impl Abort, place: &'a D) -> D::Doc {
+    let mut chain = placed(rt, place, Doc::Nil);
     for _ in 0..DEPTH / 10 {
-        chain = in_pairs(place, in_singles(place, chain)?)?;
+        chain = in_pairs(rt, place, in_singles(rt, place, chain));
     }
-    Ok(chain)
+    chain
 }
 
 // The chain is dropped, and before that a clone of it.
-fn clone_and_drop<'a, D: DocPlace<'a>>(
-    rt: &impl Abort,
-    place: &'a D,
-    chain: D::Doc,
-) -> Result<(), Fail> {
-    let copy = place.clone_ptr(&chain)?;
+fn clone_and_drop<'a, D: DocPlace<'a>>(rt: &impl Abort, place: &'a D, chain: D::Doc) {
+    let copy = cloned(rt, place, &chain);
     assert!(rt; matches!(copy.doc(), Doc::Append(_, _)));
     drop(copy);
     drop(chain);
-    Ok(())
 }
 
-fn chains<'a, D: DocPlace<'a>>(rt: &impl Abort, place: &'a D) -> Result<(), Fail> {
-    clone_and_drop(rt, place, to_the_left(place)?)?;
-    clone_and_drop(rt, place, to_the_right(place)?)?;
-    drop(in_nests(place)?);
-    drop(in_all_kinds(place)?);
-    Ok(())
+pub(crate) fn chains<'a, D: DocPlace<'a>>(rt: &impl Abort, place: &'a D) {
+    clone_and_drop(rt, place, to_the_left(rt, place));
+    clone_and_drop(rt, place, to_the_right(rt, place));
+    drop(in_nests(rt, place));
+    drop(in_all_kinds(rt, place));
 }
 
-#[test]
-fn deep_chains_are_cloned_and_dropped(rt: HostRuntime) -> Result<(), Fail> {
-    let boxes = BoxAllocator::new(rt.alloc());
-    chains(&rt, &boxes)
+fn owned_text<'a, D: DocPlace<'a>>(rt: &impl Abort, place: &'a D) -> Text<'a> {
+    let text = String::from_str(place.memory(), "ab").expect(rt, "memory was refused");
+    let text = Text::from_cow(place.memory(), CowStr::Owned(text));
+    text.expect(rt, "a text was not made")
 }
 
 // An owned text, or else a payload.
-fn both<'a, D: DocPlace<'a>>(place: &'a D) -> Result<D::Doc, BuildError> {
-    let memory = place.memory();
-    let owned = CowStr::Owned(String::from_str(memory, "ab")?);
-    let text = place.alloc(Doc::Text(Text::from_cow(memory, owned)?))?;
-    let payload = place.alloc(Doc::multiline_text(memory, CowStr::Borrowed("a\nb"))?)?;
-    place.alloc(Doc::Union(text, payload))
+fn both<'a, D: DocPlace<'a>>(rt: &impl Abort, place: &'a D) -> D::Doc {
+    let text = placed(rt, place, Doc::Text(owned_text(rt, place)));
+    let payload = Doc::multiline_text(place.memory(), CowStr::Borrowed("a\nb"));
+    let payload = placed(rt, place, payload.expect(rt, "a payload was not made"));
+    placed(rt, place, Doc::Union(text, payload))
 }
 
-fn compare_clone<'a, D: DocPlace<'a>>(rt: &impl Abort, place: &'a D) -> Result<(), Fail> {
-    let both = both(place)?;
-    let copy = place.clone_ptr(&both)?;
-    drop(both);
-    match copy.doc() {
+fn is_both<'a, T: DocPtr<'a>>(doc: &Doc<'a, T>) -> bool {
+    match doc {
         Doc::Union(text, payload) => {
-            assert!(rt; matches!(text.doc(), Doc::Text(Text::Owned(_))));
-            assert!(rt; matches!(payload.doc(), Doc::MultilineText(_)));
+            matches!(text.doc(), Doc::Text(Text::Owned(_)))
+                && matches!(payload.doc(), Doc::MultilineText(_))
         }
-        _ => assert!(rt; false),
+        _ => false,
     }
-    Ok(())
 }
 
-#[test]
-fn clones_have_texts_of_their_own(rt: HostRuntime) -> Result<(), Fail> {
-    let boxes = BoxAllocator::new(rt.alloc());
-    compare_clone(&rt, &boxes)
+// A clone has texts of its own.
+pub(crate) fn compare_clone<'a, D: DocPlace<'a>>(rt: &impl Abort, place: &'a D) {
+    let both = both(rt, place);
+    let copy = cloned(rt, place, &both);
+    drop(both);
+    assert!(rt; is_both(copy.doc()));
 }
 
-fn compare_owners<'a, D: DocPlace<'a>>(rt: &impl Abort, place: &'a D) -> Result<(), Fail> {
-    let line = place.alloc(Doc::HardLine)?;
-    let first = place.alloc(Doc::Nest(2, line))?;
-    let second = place.clone_ptr(&first)?;
+// Owners outlive one another.
+pub(crate) fn compare_owners<'a, D: DocPlace<'a>>(rt: &impl Abort, place: &'a D) {
+    let line = placed(rt, place, Doc::HardLine);
+    let first = placed(rt, place, Doc::Nest(2, line));
+    let second = cloned(rt, place, &first);
     drop(first);
     assert!(rt; matches!(second.doc(), Doc::Nest(2, _)));
-    Ok(())
-}
-
-#[test]
-fn owners_outlive_one_another(rt: HostRuntime) -> Result<(), Fail> {
-    let owners = RcAllocator::new(rt.alloc());
-    compare_owners(&rt, &owners)
 }

@@ -26,7 +26,7 @@ pub(crate) fn shows<'a, D: DocPlace<'a>>(
 }
 
 // Compares what a placed document is shown as.
-pub(crate) fn points<'a, T: DocPtr<'a> + fmt::Debug>(
+pub(crate) fn points<T: fmt::Debug + Drop>(
     rt: &impl Abort,
     memory: Global,
     placed: Result<T, BuildError>,

@@ -1,24 +1,22 @@
 //! The calls that take documents of a vector, with ample memory.
 use crate::expected::{built, points, shows};
 use prettyless::prelude::*;
-use prettyless::text::BuildError;
 use std::fmt;
 use std::process::Abort;
 
-// A placed text of each letter.
-fn placed<'a, D: DocPlace<'a>>(
-    place: &'a D,
-    letters: &[&'a str],
-) -> Result<Vec<D::Doc>, BuildError> {
-    let mut docs = Vec::new(place.memory());
-    for letter in letters {
-        docs.push(place.pretty(*letter)?.into_doc()?)?;
-    }
-    Ok(docs)
+fn placed<'a, D: DocPlace<'a>>(rt: &impl Abort, place: &'a D, letter: &'a str) -> D::Doc {
+    let text = built(rt, place.pretty(letter));
+    text.into_doc().expect(rt, "a text was not placed")
 }
 
+// A placed text of each letter.
 fn letters<'a, D: DocPlace<'a>>(rt: &impl Abort, place: &'a D, letters: &[&'a str]) -> Vec<D::Doc> {
-    placed(place, letters).expect(rt, "a text was not placed")
+    let mut docs = Vec::new(place.memory());
+    for letter in letters {
+        docs.push(placed(rt, place, letter))
+            .expect(rt, "memory was refused");
+    }
+    docs
 }
 
 // Each letter but the last with a comma.

@@ -1,41 +1,68 @@
 //! Documents of one node, not placed yet, and documents in the making.
 use crate::expected::{fails, is_built};
 use prettyless::prelude::*;
-use prettyless::text::CowStr;
+use prettyless::text::{BuildError, CowStr};
 use prettyless::{BuildDoc, Doc};
 use std::process::Abort;
 
-const REFUSED: &str = "a document was not made";
+// A node, as a document in the making.
+fn is_node<'a, D: DocPlace<'a>>(
+    rt: &impl Abort,
+    place: &'a D,
+    node: Doc<'a, D::Doc>,
+    shown: &str,
+    layout: &str,
+) {
+    is_built(rt, place, BuildDoc::Doc(node), shown, layout);
+}
+
+// What a call makes.
+fn is_made<'a, D: DocPlace<'a>>(
+    rt: &impl Abort,
+    place: &'a D,
+    made: Result<BuildDoc<'a, D::Doc>, BuildError>,
+    shown: &str,
+    layout: &str,
+) {
+    let made = made.expect(rt, "a document was not made");
+    is_built(rt, place, made, shown, layout);
+}
+
+// A node that a call makes.
+fn is_made_node<'a, D: DocPlace<'a>>(
+    rt: &impl Abort,
+    place: &'a D,
+    made: Result<Doc<'a, D::Doc>, BuildError>,
+    shown: &str,
+    layout: &str,
+) {
+    let node = made.expect(rt, "a node was not made");
+    is_node(rt, place, node, shown, layout);
+}
 
 pub(crate) fn leaves<'a, D: DocPlace<'a>>(rt: &impl Abort, place: &'a D) {
-    is_built(rt, place, BuildDoc::Doc(Doc::nil()), "Nil", "ab");
+    is_node(rt, place, Doc::nil(), "Nil", "ab");
     fails(rt, place, BuildDoc::Doc(Doc::fail()), "Fail");
-    let line = BuildDoc::Doc(Doc::hard_line());
-    is_built(rt, place, line, "HardLine", "a\nb");
-    let line = BuildDoc::Doc(Doc::hardline());
-    is_built(rt, place, line, "HardLine", "a\nb");
-    let line = BuildDoc::Doc(Doc::weak_line());
-    is_built(rt, place, line, "WeakLine", "a\nb");
+    is_node(rt, place, Doc::hard_line(), "HardLine", "a\nb");
+    is_node(rt, place, Doc::hardline(), "HardLine", "a\nb");
+    is_node(rt, place, Doc::weak_line(), "WeakLine", "a\nb");
 }
 
 pub(crate) fn blanks<'a, D: DocPlace<'a>>(rt: &impl Abort, place: &'a D) {
-    is_built(rt, place, BuildDoc::Doc(Doc::space()), "\" \"", "a b");
-    let space = BuildDoc::Doc(Doc::weak_space());
-    is_built(rt, place, space, "WeakSpace", "a b");
-    let nothing = BuildDoc::Doc(Doc::expand_parent());
-    is_built(rt, place, nothing, "ExpandParent", "ab");
+    is_node(rt, place, Doc::space(), "\" \"", "a b");
+    is_node(rt, place, Doc::weak_space(), "WeakSpace", "a b");
+    is_node(rt, place, Doc::expand_parent(), "ExpandParent", "ab");
 }
 
 pub(crate) fn texts<'a, D: DocPlace<'a>>(rt: &impl Abort, place: &'a D) {
     let memory = place.memory();
     let text = Doc::text(memory, CowStr::Borrowed("xy"));
-    let text = BuildDoc::Doc(text.expect(rt, REFUSED));
-    is_built(rt, place, text, "\"xy\"", "axyb");
-    let value = BuildDoc::Doc(Doc::as_string(memory, 16).expect(rt, REFUSED));
-    is_built(rt, place, value, "\"16\"", "a16b");
+    is_made_node(rt, place, text, "\"xy\"", "axyb");
+    let value = Doc::as_string(memory, 16);
+    is_made_node(rt, place, value, "\"16\"", "a16b");
     let payload = Doc::multiline_text(memory, CowStr::Borrowed("x\ny"));
-    let payload = BuildDoc::Doc(payload.expect(rt, REFUSED));
-    is_built(rt, place, payload, "MultilineText(\"x\\ny\")", "ax\nyb");
+    let shown = "MultilineText(\"x\\ny\")";
+    is_made_node(rt, place, payload, shown, "ax\nyb");
 }
 
 pub(crate) fn made_leaves<'a, D: DocPlace<'a>>(rt: &impl Abort, place: &'a D) {
@@ -55,22 +82,17 @@ pub(crate) fn made_blanks<'a, D: DocPlace<'a>>(rt: &impl Abort, place: &'a D) {
 
 pub(crate) fn made_texts<'a, D: DocPlace<'a>>(rt: &impl Abort, place: &'a D) {
     let memory = place.memory();
-    let text = BuildDoc::text(memory, CowStr::Borrowed("xy")).expect(rt, REFUSED);
-    is_built(rt, place, text, "\"xy\"", "axyb");
-    let value = BuildDoc::as_string(memory, 16).expect(rt, REFUSED);
-    is_built(rt, place, value, "\"16\"", "a16b");
+    let text = BuildDoc::text(memory, CowStr::Borrowed("xy"));
+    is_made(rt, place, text, "\"xy\"", "axyb");
+    let value = BuildDoc::as_string(memory, 16);
+    is_made(rt, place, value, "\"16\"", "a16b");
     let payload = BuildDoc::multiline_text(memory, CowStr::Borrowed("x\ny"));
-    let payload = payload.expect(rt, REFUSED);
-    is_built(rt, place, payload, "MultilineText(\"x\\ny\")", "ax\nyb");
+    is_made(rt, place, payload, "MultilineText(\"x\\ny\")", "ax\nyb");
 }
 
 pub(crate) fn lines<'a, D: DocPlace<'a>>(rt: &impl Abort, place: &'a D) {
-    let line = BuildDoc::Doc(Doc::line(place).expect(rt, REFUSED));
-    is_built(rt, place, line, "LineOrSpace", "a\nb");
-    let line = BuildDoc::Doc(Doc::line_(place).expect(rt, REFUSED));
-    is_built(rt, place, line, "LineOrNil", "a\nb");
-    let line = BuildDoc::line(place).expect(rt, REFUSED);
-    is_built(rt, place, line, "LineOrSpace", "a\nb");
-    let line = BuildDoc::line_(place).expect(rt, REFUSED);
-    is_built(rt, place, line, "LineOrNil", "a\nb");
+    is_made_node(rt, place, Doc::line(place), "LineOrSpace", "a\nb");
+    is_made_node(rt, place, Doc::line_(place), "LineOrNil", "a\nb");
+    is_made(rt, place, BuildDoc::line(place), "LineOrSpace", "a\nb");
+    is_made(rt, place, BuildDoc::line_(place), "LineOrNil", "a\nb");
 }

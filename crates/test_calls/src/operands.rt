@@ -1,8 +1,7 @@
 //! Documents as operands: pointers in each place of nodes, and documents in the making.
 use crate::expected::{becomes, built, shows};
-use bumpalo::Bump;
 use prettyless::prelude::*;
-use prettyless::{Arena, BoxAllocator, BuildDoc, Doc, DocBuilder, DocPtr, RcAllocator, docs};
+use prettyless::{BuildDoc, Doc, DocBuilder, DocPtr, docs};
 use std::process::Abort;
 
 fn line<'a, D: DocPlace<'a>>(rt: &impl Abort, place: &'a D) -> D::Doc {
@@ -67,36 +66,20 @@ fn of_values<'a, D: DocPlace<'a, Doc = T>, T: DocPtr<'a> + Pretty<'a, D>>(
     becomes(rt, place, grouped, "Group([WeakLine, Fail])");
 }
 
-fn all<'a, D: DocPlace<'a, Doc = T>, T: DocPtr<'a> + Pretty<'a, D>>(rt: &impl Abort, place: &'a D) {
+pub(crate) fn all<'a, D: DocPlace<'a, Doc = T>, T: DocPtr<'a> + Pretty<'a, D>>(
+    rt: &impl Abort,
+    place: &'a D,
+) {
     of_allocators(rt, place);
     of_builders(rt, place);
     of_values(rt, place);
 }
 
-#[test]
-fn boxes_are_documents(rt: HostRuntime) {
-    let boxes = BoxAllocator::new(rt.alloc());
-    all(&rt, &boxes);
-}
-
 // A builder takes the pointer as it is: the proof of a call that meets the bounds of `all` with counted owners is beyond the
 // prover's limits.
-fn pointed<'a, D: DocPlace<'a>>(rt: &impl Abort, place: &'a D) {
+pub(crate) fn pointed<'a, D: DocPlace<'a>>(rt: &impl Abort, place: &'a D) {
     let line = BuildDoc::DocPtr(line(rt, place));
     shows(rt, Ok(DocBuilder(place, line)), "WeakLine");
-}
-
-#[test]
-fn counted_nodes_are_documents(rt: HostRuntime) {
-    let nodes = RcAllocator::new(rt.alloc());
-    pointed(&rt, &nodes);
-}
-
-#[test]
-fn nodes_of_arenas_are_documents(rt: HostRuntime) {
-    let bump = Bump::new(rt.alloc());
-    let arena = Arena::new(rt.alloc(), &bump);
-    all(&rt, &arena);
 }
 
 fn places<'a, D: DocPlace<'a>>(
@@ -109,7 +92,7 @@ fn places<'a, D: DocPlace<'a>>(
 }
 
 // Documents in the making, by default and of what they are made of.
-fn others<'a, D: DocPlace<'a>>(rt: &impl Abort, place: &'a D) {
+pub(crate) fn others<'a, D: DocPlace<'a>>(rt: &impl Abort, place: &'a D) {
     places(rt, place, BuildDoc::Doc(Doc::default()), "Nil");
     places(rt, place, BuildDoc::default(), "Nil");
     places(rt, place, BuildDoc::from(Doc::HardLine), "HardLine");
@@ -119,10 +102,4 @@ fn others<'a, D: DocPlace<'a>>(rt: &impl Abort, place: &'a D) {
         BuildDoc::from(built(rt, place.hard_line())),
         "HardLine",
     );
-}
-
-#[test]
-fn nodes_are_documents(rt: HostRuntime) {
-    let boxes = BoxAllocator::new(rt.alloc());
-    others(&rt, &boxes);
 }

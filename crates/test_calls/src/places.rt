@@ -1,7 +1,11 @@
 //! All calls in each place of nodes.
-use crate::{builders, calls, combined, lists, nodes, pointers, values};
+use crate::expected::{built, points};
+use crate::{builders, calls, combined, deep, lists, nodes, operands, pointers, values};
 use bumpalo::Bump;
-use prettyless::{Arena, BoxAllocator, DocPlace, RcAllocator};
+use prettyless::prelude::*;
+use prettyless::text::Text;
+use prettyless::{Arena, BoxAllocator, Doc, DocBuilder, DocPtr, IntoRef, RcAllocator};
+use std::alloc::Global;
 use std::fmt;
 use std::process::Abort;
 use std::test::Fail;
@@ -17,8 +21,6 @@ where
     calls::payloads(rt, place);
     calls::widths(rt, place);
     calls::strings(rt, place);
-    calls::operands(rt, place);
-    calls::by_place(rt, place);
     calls::sequences(rt, place);
     calls::separators(rt, place);
     lists::gaps(rt, place);
@@ -41,7 +43,6 @@ fn make<'a, D: DocPlace<'a>>(rt: &impl Abort, place: &'a D) {
 }
 
 fn build<'a, D: DocPlace<'a>>(rt: &impl Abort, place: &'a D) {
-    builders::sums(rt, place);
     builders::joins(rt, place);
     builders::repeats(rt, place);
     builders::choices(rt, place);
@@ -55,6 +56,8 @@ fn build<'a, D: DocPlace<'a>>(rt: &impl Abort, place: &'a D) {
     builders::quotes(rt, place);
     builders::brackets(rt, place);
     builders::copies(rt, place);
+    builders::copies_in_the_making(rt, place);
+    builders::copies_of_nodes(rt, place);
 }
 
 fn point<'a, D: DocPlace<'a>>(rt: &impl Abort, place: &'a D)
@@ -77,10 +80,6 @@ fn combine<'a, D: DocPlace<'a>>(rt: &impl Abort, place: &'a D) {
     combined::leaves(rt, place);
     combined::lines(rt, place);
     combined::texts(rt, place);
-    combined::indents(rt, place);
-    combined::wrappers(rt, place);
-    combined::choices(rt, place);
-    combined::by_place(rt, place);
     combined::sequences(rt, place);
 }
 
@@ -88,10 +87,31 @@ fn convert<'a, D: DocPlace<'a>>(rt: &impl Abort, place: &'a D, owned: &'a String
     values::texts(rt, place, owned);
     values::options(rt, place);
     values::several(rt, place);
-    values::longest(rt, place);
     values::macros(rt, place);
     values::refusals(rt, place);
 }
+
+// The texts are of any type, since the proof of a call with `&str` takes much longer.
+fn take<'a, D: DocPlace<'a>, P: Pretty<'a, D> + Copy>(
+    rt: &impl Abort,
+    place: &'a D,
+    letters: [P; 16],
+    [empty, comma, comment, ab]: [P; 4],
+) {
+    let [a, b, ..] = letters;
+    calls::operands(rt, place, a, b, comment);
+    calls::by_place(rt, place, a, b);
+    builders::sums(rt, place, a, empty);
+    combined::indents(rt, place, a);
+    combined::wrappers(rt, place, empty, ab);
+    combined::choices(rt, place, a, comma);
+    combined::by_place(rt, place, a, b, empty);
+    values::longest(rt, place, letters);
+}
+
+const LETTERS: [&str; 16] = [
+    "a", "b", "c", "d", "e", "f", "g", "h", "i", "j", "k", "l", "m", "n", "o", "p",
+];
 
 fn all<'a, D: DocPlace<'a>>(rt: &impl Abort, place: &'a D, owned: &'a String)
 where
@@ -103,31 +123,7 @@ where
     point(rt, place);
     combine(rt, place);
     convert(rt, place, owned);
-}
-
-#[test]
-fn boxes(rt: HostRuntime) -> Result<(), Fail> {
-    let owned = String::from_str(rt.alloc(), "owned")?;
-    let boxes = BoxAllocator::new(rt.alloc());
-    all(&rt, &boxes, &owned);
-    Ok(())
-}
-
-#[test]
-fn counted_nodes(rt: HostRuntime) -> Result<(), Fail> {
-    let owned = String::from_str(rt.alloc(), "owned")?;
-    let nodes = RcAllocator::new(rt.alloc());
-    all(&rt, &nodes, &owned);
-    Ok(())
-}
-
-#[test]
-fn arenas(rt: HostRuntime) -> Result<(), Fail> {
-    let owned = String::from_str(rt.alloc(), "owned")?;
-    let bump = Bump::new(rt.alloc());
-    let arena = Arena::new(rt.alloc(), &bump);
-    all(&rt, &arena, &owned);
-    Ok(())
+    take(rt, place, LETTERS, ["", ",", "//", "ab"]);
 }
 
 // A place by reference is the same place: nodes are put there, and copied.
@@ -139,8 +135,81 @@ where
     pointers::clones(rt, place);
 }
 
+fn in_boxes<'a, D: DocPlace<'a, Doc = T>, T: DocPtr<'a> + Pretty<'a, D> + fmt::Debug>(
+    rt: &impl Abort,
+    place: &'a &'a D,
+    owned: &'a String,
+) {
+    all(rt, *place, owned);
+    lend(rt, place);
+    operands::all(rt, *place);
+    operands::others(rt, *place);
+    deep::chains(rt, *place);
+    deep::compare_clone(rt, *place);
+}
+
+// A test makes one call with its place, since each call with a place of a named type takes long to prove.
 #[test]
-fn boxes_by_reference(rt: HostRuntime) {
+fn boxes(rt: HostRuntime) -> Result<(), Fail> {
+    let owned = String::from_str(rt.alloc(), "owned")?;
     let boxes = BoxAllocator::new(rt.alloc());
-    lend(&rt, &&boxes);
+    in_boxes(&rt, &&boxes, &owned);
+    Ok(())
+}
+
+fn in_counted_nodes<'a, D: DocPlace<'a>>(rt: &impl Abort, place: &'a D, owned: &'a String)
+where
+    D::Doc: fmt::Debug,
+{
+    all(rt, place, owned);
+    operands::pointed(rt, place);
+    deep::compare_owners(rt, place);
+}
+
+#[test]
+fn counted_nodes(rt: HostRuntime) -> Result<(), Fail> {
+    let owned = String::from_str(rt.alloc(), "owned")?;
+    let nodes = RcAllocator::new(rt.alloc());
+    in_counted_nodes(&rt, &nodes, &owned);
+    Ok(())
+}
+
+// Answers a line, for the call that only a builder over an arena has.
+fn in_any_arena<'a, D: DocPlace<'a, Doc = T>, T: DocPtr<'a> + Pretty<'a, D> + fmt::Debug>(
+    rt: &impl Abort,
+    place: &'a D,
+    owned: &'a String,
+) -> DocBuilder<'a, D> {
+    all(rt, place, owned);
+    operands::all(rt, place);
+    pointers::compare_other(rt, place);
+    built(rt, place.line())
+}
+
+fn counts(rt: &impl Abort, arena: &Arena<'_>, len: usize) {
+    assert!(rt; arena.len() == len);
+    assert!(rt; arena.is_empty() == (len == 0));
+}
+
+fn in_arena<'a>(rt: &impl Abort, memory: Global, arena: &'a Arena<'a>, owned: &'a String) {
+    counts(rt, arena, 0);
+    assert!(rt; arena.alloc(Doc::Text(Text::Borrowed("a"))).is_ok());
+    counts(rt, arena, 1);
+    let line = in_any_arena(rt, arena, owned);
+    points(rt, memory, line.into_ref(), "LineOrSpace");
+}
+
+// A bump that is reset takes the nodes of another arena.
+#[test]
+fn arenas(rt: HostRuntime) -> Result<(), Fail> {
+    let owned = String::from_str(rt.alloc(), "owned")?;
+    let mut bump = Bump::new(rt.alloc());
+    {
+        let arena = Arena::new(rt.alloc(), &bump);
+        in_arena(&rt, rt.alloc(), &arena, &owned);
+    }
+    bump.reset()?;
+    let arena = Arena::new(rt.alloc(), &bump);
+    in_arena(&rt, rt.alloc(), &arena, &owned);
+    Ok(())
 }

@@ -1,12 +1,8 @@
 //! The constructors of pointers, what outlives its owner, and what only one of the pointers has.
 use crate::expected::{Failing, built, points, rendered};
-use bumpalo::Bump;
 use prettyless::prelude::*;
 use prettyless::text::{BuildError, CowStr, Text};
-use prettyless::{
-    Arena, BoxDoc, BuildDoc, ColumnTest, Doc, DocBuilder, DocPtr, IntoRef, NestingTest, RcDoc,
-};
-use std::alloc::Global;
+use prettyless::{BoxDoc, BuildDoc, ColumnTest, Doc, DocBuilder, DocPtr, NestingTest, RcDoc};
 use std::fmt;
 use std::process::Abort;
 
@@ -119,20 +115,31 @@ pub(crate) fn separators<'a, D: DocPlace<'a, Doc = T>, T: DocPtr<'a> + fmt::Debu
 
 const LAYOUT: &str = "an owned text of more than 22 bytes\n  one\ntwo";
 
-fn text<'a, D: DocPlace<'a>>(place: &'a D) -> Result<DocBuilder<'a, D>, BuildError> {
-    let text = String::from_str(place.memory(), "an owned text of more than 22 bytes")?;
-    place.text(CowStr::Owned(text))
+fn owned<'a, D: DocPlace<'a>>(rt: &impl Abort, place: &'a D, text: &str) -> CowStr<'a> {
+    let text = String::from_str(place.memory(), text);
+    CowStr::Owned(text.expect(rt, "memory was refused"))
 }
 
-fn payload<'a, D: DocPlace<'a>>(place: &'a D) -> Result<DocBuilder<'a, D>, BuildError> {
-    let payload = String::from_str(place.memory(), "one\ntwo")?;
-    place.multiline_text(CowStr::Owned(payload))
+// An owned text, and the end of its line.
+fn first_line<'a, D: DocPlace<'a>>(rt: &impl Abort, place: &'a D, text: &str) -> DocBuilder<'a, D> {
+    let text = built(rt, place.text(owned(rt, place, text)));
+    built(rt, text.append(hard_line()))
+}
+
+fn nested<'a, D: DocPlace<'a>>(
+    rt: &impl Abort,
+    lines: Result<DocBuilder<'a, D>, BuildError>,
+    offset: isize,
+) -> D::Doc {
+    let nested = built(rt, built(rt, lines).nest(offset));
+    nested.into_doc().expect(rt, "a tree was not placed")
 }
 
 // A tree with an owned text and an owned payload.
-fn tree<'a, D: DocPlace<'a>>(place: &'a D) -> Result<D::Doc, BuildError> {
-    let lines = text(place)?.append(hard_line())?;
-    lines.join(payload(place)?)?.nest(2)?.into_doc()
+fn tree<'a, D: DocPlace<'a>>(rt: &impl Abort, place: &'a D) -> D::Doc {
+    let first = first_line(rt, place, "an owned text of more than 22 bytes");
+    let payload = place.multiline_text(owned(rt, place, "one\ntwo"));
+    nested(rt, first.join(built(rt, payload)), 2)
 }
 
 fn compare<'a, D: DocPlace<'a>>(rt: &impl Abort, place: &'a D, document: &D::Doc, layout: &str) {
@@ -142,7 +149,7 @@ fn compare<'a, D: DocPlace<'a>>(rt: &impl Abort, place: &'a D, document: &D::Doc
 
 // The first tree is given up before the second is rendered.
 pub(crate) fn clones<'a, D: DocPlace<'a>>(rt: &impl Abort, place: &'a D) {
-    let first = tree(place).expect(rt, "a tree was not built");
+    let first = tree(rt, place);
     compare(rt, place, &first, LAYOUT);
     let second = place.clone_ptr(&first).expect(rt, "a tree was not copied");
     drop(first);
@@ -165,65 +172,14 @@ fn counted_nodes_are_cloned(rt: HostRuntime) {
     points(&rt, rt.alloc(), copy, "HardLine");
 }
 
-fn ends<'a, B: IntoRef<'a>>(rt: &impl Abort, memory: Global, line: B) {
-    points(rt, memory, line.into_ref(), "LineOrSpace");
-}
-
-fn lent<'a>(rt: &impl Abort, memory: Global, arena: &'a Arena<'a>) {
-    ends(rt, memory, built(rt, arena.line()));
-}
-
-#[test]
-fn builders_end_in_an_arena(rt: HostRuntime) {
-    let bump = Bump::new(rt.alloc());
-    let arena = Arena::new(rt.alloc(), &bump);
-    lent(&rt, rt.alloc(), &arena);
-}
-
-fn places_a_text<'a, D: DocPlace<'a>>(place: &'a D) -> bool {
-    place.alloc(Doc::Text(Text::Borrowed("a"))).is_ok()
-}
-
-fn counts<'a>(rt: &impl Abort, arena: &'a Arena<'a>) {
-    assert!(rt; arena.is_empty());
-    assert!(rt; places_a_text(arena));
-    assert!(rt; arena.len() == 1);
-    assert!(rt; !arena.is_empty());
-}
-
-#[test]
-fn arenas_are_empty_at_first(rt: HostRuntime) {
-    let bump = Bump::new(rt.alloc());
-    let arena = Arena::new(rt.alloc(), &bump);
-    counts(&rt, &arena);
-}
-
 // Another tree with an owned text.
-fn other<'a, D: DocPlace<'a>>(place: &'a D) -> Result<D::Doc, BuildError> {
-    let text = String::from_str(place.memory(), "another text of more than 22 bytes")?;
-    let lines = place.text(CowStr::Owned(text))?.append(hard_line())?;
-    lines.append("three")?.nest(4)?.into_doc()
+fn other<'a, D: DocPlace<'a>>(rt: &impl Abort, place: &'a D) -> D::Doc {
+    let first = first_line(rt, place, "another text of more than 22 bytes");
+    nested(rt, first.append("three"), 4)
 }
 
-fn compare_other<'a, D: DocPlace<'a>>(rt: &impl Abort, place: &'a D) {
-    let other = other(place).expect(rt, "a tree was not built");
-    compare(
-        rt,
-        place,
-        &other,
-        "another text of more than 22 bytes\n    three",
-    );
-}
+const OTHER_LAYOUT: &str = "another text of more than 22 bytes\n    three";
 
-// A bump that is reset takes the nodes of another arena.
-#[test]
-fn memory_is_used_again(rt: HostRuntime) {
-    let mut bump = Bump::new(rt.alloc());
-    {
-        let arena = Arena::new(rt.alloc(), &bump);
-        clones(&rt, &arena);
-    }
-    bump.reset().expect(&rt, "the bump was not reset");
-    let arena = Arena::new(rt.alloc(), &bump);
-    compare_other(&rt, &arena);
+pub(crate) fn compare_other<'a, D: DocPlace<'a>>(rt: &impl Abort, place: &'a D) {
+    compare(rt, place, &other(rt, place), OTHER_LAYOUT);
 }

@@ -1,5 +1,5 @@
 //! What can become a document.
-use crate::expected::{Failing, becomes, refuses, shows};
+use crate::expected::{Failing, refuses, shows};
 use prettyless::combinators::types::HardLine;
 use prettyless::docs;
 use prettyless::prelude::*;
@@ -9,35 +9,39 @@ use std::process::Abort;
 
 // `owned` is lent to the documents.
 pub(crate) fn texts<'a, D: DocPlace<'a>>(rt: &impl Abort, place: &'a D, owned: &'a String) {
-    becomes(rt, place, "a", "\"a\"");
-    becomes(rt, place, owned, "\"owned\"");
+    shows(rt, "a".pretty(place), "\"a\"");
+    shows(rt, owned.pretty(place), "\"owned\"");
     let copy = String::from_str(place.memory(), owned.as_str());
     let copy = copy.expect(rt, "memory was refused");
-    becomes(rt, place, copy, "\"owned\"");
-    becomes(rt, place, String::new(place.memory()), "Nil");
-    becomes(rt, place, CowStr::Borrowed("a"), "\"a\"");
+    shows(rt, copy.pretty(place), "\"owned\"");
+    shows(rt, String::new(place.memory()).pretty(place), "Nil");
+    shows(rt, CowStr::Borrowed("a").pretty(place), "\"a\"");
 }
 
 pub(crate) fn options<'a, D: DocPlace<'a>>(rt: &impl Abort, place: &'a D) {
-    becomes(rt, place, Some("a"), "\"a\"");
-    becomes(rt, place, None::<&'a str>, "Nil");
+    shows(rt, Some("a").pretty(place), "\"a\"");
+    shows(rt, None::<&'a str>.pretty(place), "Nil");
 }
 
 pub(crate) fn several<'a, D: DocPlace<'a>>(rt: &impl Abort, place: &'a D) {
-    becomes(rt, place, ["a", "b"], "[\"a\", \"b\"]");
-    becomes(rt, place, [""; 0], "Nil");
-    becomes(rt, place, (), "Nil");
-    becomes(rt, place, ("a",), "\"a\"");
-    becomes(rt, place, ("a", nil(), Some("b")), "[\"a\", \"b\"]");
+    shows(rt, ["a", "b"].pretty(place), "[\"a\", \"b\"]");
+    shows(rt, [""; 0].pretty(place), "Nil");
+    shows(rt, ().pretty(place), "Nil");
+    shows(rt, ("a",).pretty(place), "\"a\"");
+    let three = ("a", nil(), Some("b"));
+    shows(rt, three.pretty(place), "[\"a\", \"b\"]");
 }
 
-pub(crate) fn longest<'a, D: DocPlace<'a>>(rt: &impl Abort, place: &'a D) {
-    let letters = (
-        "a", "b", "c", "d", "e", "f", "g", "h", "i", "j", "k", "l", "m", "n", "o", "p",
-    );
+pub(crate) fn longest<'a, D: DocPlace<'a>, P: Pretty<'a, D> + Copy>(
+    rt: &impl Abort,
+    place: &'a D,
+    letters: [P; 16],
+) {
+    let [a, b, c, d, e, f, g, h, i, j, k, l, m, n, o, p] = letters;
+    let all = (a, b, c, d, e, f, g, h, i, j, k, l, m, n, o, p);
     let shown = "[\"a\", \"b\", \"c\", \"d\", \"e\", \"f\", \"g\", \"h\", \
                  \"i\", \"j\", \"k\", \"l\", \"m\", \"n\", \"o\", \"p\"]";
-    becomes(rt, place, letters, shown);
+    shows(rt, all.pretty(place), shown);
 }
 
 pub(crate) fn macros<'a, D: DocPlace<'a>>(rt: &impl Abort, place: &'a D) {
