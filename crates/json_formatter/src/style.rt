@@ -1,3 +1,5 @@
+ghost use Rattle.std.specs.Prelude.{◌≡◌, false};
+
 /// How a text is laid out.
 #[derive(Clone, Copy, Debug, Drop, PartialEq, Eq)]
 pub struct Style {
@@ -10,6 +12,9 @@ pub struct Style {
 }
 
 impl Default for Style {
+    ghost is_default = { λ style. (style.width ≡ 80) × (style.indent ≡ 2) × (style.fill ≡ false) };
+
+    /// 80 columns, indents of 2, and a line for each number of an array that does not fit one line.
     fn default() -> Style {
         Style {
             width: 80,
