@@ -2,24 +2,28 @@
 //!
 //! The making of a field can fail, and memory may be refused. Each field is made, also where one before it failed,
 //! since a field that no one takes cannot be let go.
-ghost use Rattle.std.specs.Prelude.{IfOk, IfErr};
+ghost use Rattle.std.specs.Prelude.{◌≡◌, ◌⊎◌, IfOk, IfErr, IsOkAnd, IsErrAnd};
+ghost use Rattle.prettyless_doc.specs.Tree.{Tree};
+ghost use Rattle.prettyless_doc.specs.BuildErrors.{IsMemory};
 ghost use Rattle.prettyless_doc.specs.DocTree.{built};
-ghost use Rattle.prettyless_build.specs.Built.{joined, refused};
+ghost use Rattle.prettyless_build.specs.Built.{append, joined, refused};
 
 use crate::builder::DocBuilder;
 use crate::pretty::Pretty;
 use prettyless_doc::{BuildError, DocPlace};
 
-// The documents of two, appended.
-fn both<'a, D: DocPlace<'a>, X: Pretty<'a, D>, Y: Pretty<'a, D>>(
+// What was made in front, and then the last, appended: also where the front failed, the last is made. Each tuple calls
+// the shorter one by itself, since to hand that on as a parameter costs a proof of what it is.
+#[inline]
+fn then<'a, D: DocPlace<'a>, Y: Pretty<'a, D>>(
     allocator: &'a D,
-    front: X,
+    front: Result<DocBuilder<'a, D>, BuildError>,
     last: Y,
 ) -> Result<DocBuilder<'a, D>, BuildError>
-    ensures ok { IfOk result (λ b. joined (X.becomes front) (Y.becomes last) (built D.Doc.tree b.1)) }
-    ensures err { IfErr result (refused (X.refuses front) (Y.refuses last)) }
+    ensures ok { IfOk result (λ b. IsOkAnd front.entry (λ f. (y : Tree) × Y.becomes last y
+        × (built D.Doc.tree b.1 ≡ append (built D.Doc.tree f.1) y))) }
+    ensures err { IfErr result (λ e. IsErrAnd front.entry (λ f. f ≡ e) ⊎ Y.refuses last e ⊎ IsMemory e) }
 {
-    let front = front.pretty(allocator);
     let last = last.pretty(allocator);
     front?.join(last?)
 }
@@ -43,7 +47,7 @@ impl<'a, D: DocPlace<'a>, Field1: Pretty<'a, D>, Field2: Pretty<'a, D>> Pretty<'
 
     fn pretty(self, allocator: &'a D) -> Result<DocBuilder<'a, D>, BuildError> {
         let (t1, t2) = self;
-        both(allocator, (t1,), t2)
+        then(allocator, t1.pretty(allocator), t2)
     }
 }
 
@@ -60,7 +64,7 @@ impl<
 
     fn pretty(self, allocator: &'a D) -> Result<DocBuilder<'a, D>, BuildError> {
         let (t1, t2, t3) = self;
-        both(allocator, (t1, t2), t3)
+        then(allocator, (t1, t2).pretty(allocator), t3)
     }
 }
 
@@ -78,7 +82,7 @@ impl<
 
     fn pretty(self, allocator: &'a D) -> Result<DocBuilder<'a, D>, BuildError> {
         let (t1, t2, t3, t4) = self;
-        both(allocator, (t1, t2, t3), t4)
+        then(allocator, (t1, t2, t3).pretty(allocator), t4)
     }
 }
 
@@ -97,7 +101,7 @@ impl<
 
     fn pretty(self, allocator: &'a D) -> Result<DocBuilder<'a, D>, BuildError> {
         let (t1, t2, t3, t4, t5) = self;
-        both(allocator, (t1, t2, t3, t4), t5)
+        then(allocator, (t1, t2, t3, t4).pretty(allocator), t5)
     }
 }
 
@@ -117,7 +121,7 @@ impl<
 
     fn pretty(self, allocator: &'a D) -> Result<DocBuilder<'a, D>, BuildError> {
         let (t1, t2, t3, t4, t5, t6) = self;
-        both(allocator, (t1, t2, t3, t4, t5), t6)
+        then(allocator, (t1, t2, t3, t4, t5).pretty(allocator), t6)
     }
 }
 
@@ -138,7 +142,7 @@ impl<
 
     fn pretty(self, allocator: &'a D) -> Result<DocBuilder<'a, D>, BuildError> {
         let (t1, t2, t3, t4, t5, t6, t7) = self;
-        both(allocator, (t1, t2, t3, t4, t5, t6), t7)
+        then(allocator, (t1, t2, t3, t4, t5, t6).pretty(allocator), t7)
     }
 }
 
@@ -170,7 +174,11 @@ impl<
 
     fn pretty(self, allocator: &'a D) -> Result<DocBuilder<'a, D>, BuildError> {
         let (t1, t2, t3, t4, t5, t6, t7, t8) = self;
-        both(allocator, (t1, t2, t3, t4, t5, t6, t7), t8)
+        then(
+            allocator,
+            (t1, t2, t3, t4, t5, t6, t7).pretty(allocator),
+            t8,
+        )
     }
 }
 
@@ -204,7 +212,11 @@ impl<
 
     fn pretty(self, allocator: &'a D) -> Result<DocBuilder<'a, D>, BuildError> {
         let (t1, t2, t3, t4, t5, t6, t7, t8, t9) = self;
-        both(allocator, (t1, t2, t3, t4, t5, t6, t7, t8), t9)
+        then(
+            allocator,
+            (t1, t2, t3, t4, t5, t6, t7, t8).pretty(allocator),
+            t9,
+        )
     }
 }
 
@@ -240,7 +252,11 @@ impl<
 
     fn pretty(self, allocator: &'a D) -> Result<DocBuilder<'a, D>, BuildError> {
         let (t1, t2, t3, t4, t5, t6, t7, t8, t9, t10) = self;
-        both(allocator, (t1, t2, t3, t4, t5, t6, t7, t8, t9), t10)
+        then(
+            allocator,
+            (t1, t2, t3, t4, t5, t6, t7, t8, t9).pretty(allocator),
+            t10,
+        )
     }
 }
 
@@ -278,7 +294,11 @@ impl<
 
     fn pretty(self, allocator: &'a D) -> Result<DocBuilder<'a, D>, BuildError> {
         let (t1, t2, t3, t4, t5, t6, t7, t8, t9, t10, t11) = self;
-        both(allocator, (t1, t2, t3, t4, t5, t6, t7, t8, t9, t10), t11)
+        then(
+            allocator,
+            (t1, t2, t3, t4, t5, t6, t7, t8, t9, t10).pretty(allocator),
+            t11,
+        )
     }
 }
 
@@ -318,9 +338,9 @@ impl<
 
     fn pretty(self, allocator: &'a D) -> Result<DocBuilder<'a, D>, BuildError> {
         let (t1, t2, t3, t4, t5, t6, t7, t8, t9, t10, t11, t12) = self;
-        both(
+        then(
             allocator,
-            (t1, t2, t3, t4, t5, t6, t7, t8, t9, t10, t11),
+            (t1, t2, t3, t4, t5, t6, t7, t8, t9, t10, t11).pretty(allocator),
             t12,
         )
     }
@@ -364,9 +384,9 @@ impl<
 
     fn pretty(self, allocator: &'a D) -> Result<DocBuilder<'a, D>, BuildError> {
         let (t1, t2, t3, t4, t5, t6, t7, t8, t9, t10, t11, t12, t13) = self;
-        both(
+        then(
             allocator,
-            (t1, t2, t3, t4, t5, t6, t7, t8, t9, t10, t11, t12),
+            (t1, t2, t3, t4, t5, t6, t7, t8, t9, t10, t11, t12).pretty(allocator),
             t13,
         )
     }
@@ -412,9 +432,9 @@ impl<
 
     fn pretty(self, allocator: &'a D) -> Result<DocBuilder<'a, D>, BuildError> {
         let (t1, t2, t3, t4, t5, t6, t7, t8, t9, t10, t11, t12, t13, t14) = self;
-        both(
+        then(
             allocator,
-            (t1, t2, t3, t4, t5, t6, t7, t8, t9, t10, t11, t12, t13),
+            (t1, t2, t3, t4, t5, t6, t7, t8, t9, t10, t11, t12, t13).pretty(allocator),
             t14,
         )
     }
@@ -462,9 +482,9 @@ impl<
 
     fn pretty(self, allocator: &'a D) -> Result<DocBuilder<'a, D>, BuildError> {
         let (t1, t2, t3, t4, t5, t6, t7, t8, t9, t10, t11, t12, t13, t14, t15) = self;
-        both(
+        then(
             allocator,
-            (t1, t2, t3, t4, t5, t6, t7, t8, t9, t10, t11, t12, t13, t14),
+            (t1, t2, t3, t4, t5, t6, t7, t8, t9, t10, t11, t12, t13, t14).pretty(allocator),
             t15,
         )
     }
@@ -514,11 +534,12 @@ impl<
 
     fn pretty(self, allocator: &'a D) -> Result<DocBuilder<'a, D>, BuildError> {
         let (t1, t2, t3, t4, t5, t6, t7, t8, t9, t10, t11, t12, t13, t14, t15, t16) = self;
-        both(
+        then(
             allocator,
             (
                 t1, t2, t3, t4, t5, t6, t7, t8, t9, t10, t11, t12, t13, t14, t15,
-            ),
+            )
+                .pretty(allocator),
             t16,
         )
     }
