@@ -14,4 +14,4 @@ weight_of weight (Two l r) = 2 * weight l + weight r + 1
 
 -- the weight of a boxed document
 abbrev pub box_weight : BoxDoc → ℕ
-box_weight = fold-BoxDoc ℕ (λ d. weight_of (λ w. w) (children_of d.0.value))
+box_weight = fold-BoxDoc ℕ ℕ (λ d. d.0.value) (λ d. weight_of (λ w. w) (children_of d.0))

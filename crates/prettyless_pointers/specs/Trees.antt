@@ -7,7 +7,7 @@ use Rattle.prettyless_pointers.specs.declared.rc.RcDoc.{RcDoc, fold-RcDoc}
 
 -- the tree of a boxed document
 abbrev pub box_tree : BoxDoc → Tree
-box_tree = fold-BoxDoc Tree (λ d. tree_of (λ t. t) d.0.value)
+box_tree = fold-BoxDoc Tree Tree (λ d. d.0.value) (λ d. tree_of (λ t. t) d.0)
 
 -- the tree of a document whose owners are counted
 abbrev pub rc_tree : RcDoc → Tree

@@ -3,6 +3,7 @@ ghost use Rattle.prettyless_doc.specs.BuildErrors.{IsMemory};
 ghost use Rattle.prettyless_doc.specs.declared.doc.BuildDoc.TheVariants.{DocPtr as Placed};
 ghost use Rattle.prettyless_doc.specs.DocTree.{tree_of};
 ghost use Rattle.prettyless_pointers.specs.declared.boxes.BoxDoc.{out-BoxDoc};
+ghost use Rattle.prettyless_pointers.specs.declared.boxes.BoxNode.{out-BoxNode};
 ghost use Rattle.prettyless_pointers.specs.Trees.{box_tree};
 
 use crate::children::{Children, into_children};
@@ -11,7 +12,29 @@ use std::alloc::Global;
 use std::{fmt, mem};
 
 /// A pointer that owns its node, in a box of its own.
-pub struct BoxDoc<'a>(Box<Doc<'a, BoxDoc<'a>>>);
+#[cycle(box_doc)]
+pub struct BoxDoc<'a>(Box<BoxNode<'a>>);
+
+// A node has a type of its own, so that a proof that compares types of pointers need not compare all that they lead to.
+#[cycle(box_doc)]
+struct BoxNode<'a>(Doc<'a, BoxDoc<'a>>);
+
+impl<'a> BoxNode<'a> {
+    // The node itself, with nothing dropped.
+    fn into_doc(self) -> Doc<'a, BoxDoc<'a>>
+        ensures { result ≡ (out-BoxNode self.entry).0 }
+    {
+        let BoxNode(doc) = self;
+        doc
+    }
+}
+
+impl<'a> Drop for BoxNode<'a> {
+    fn drop(self) {
+        let BoxNode(doc) = self;
+        drop(doc);
+    }
+}
 
 impl<'a> BoxDoc<'a> {
     /// Boxes a node: the same tree, or an error where memory is refused, and the node is then given up.
@@ -19,11 +42,11 @@ impl<'a> BoxDoc<'a> {
         ensures ok { IfOk result (λ p. box_tree p ≡ tree_of box_tree doc.entry) }
         ensures err { IfErr result IsMemory }
     {
-        Ok(BoxDoc(Box::new(alloc, doc)?))
+        Ok(BoxDoc(Box::new(alloc, BoxNode(doc))?))
     }
 
     // Its box, with nothing dropped.
-    fn into_box(self) -> Box<Doc<'a, BoxDoc<'a>>>
+    fn into_box(self) -> Box<BoxNode<'a>>
         ensures { result ≡ (out-BoxDoc self.entry).0 }
     {
         let BoxDoc(node) = self;
@@ -32,9 +55,9 @@ impl<'a> BoxDoc<'a> {
 
     // Its node, with the box given back and nothing else dropped.
     fn into_node(self) -> Doc<'a, BoxDoc<'a>>
-        ensures { result ≡ (out-BoxDoc self.entry).0.value }
+        ensures { result ≡ (out-BoxNode (out-BoxDoc self.entry).0.value).0 }
     {
-        Box::into_inner(self.into_box())
+        Box::into_inner(self.into_box()).into_doc()
     }
 }
 
@@ -50,11 +73,17 @@ impl<'a> Drop for BoxDoc<'a> {
                 Children::One(child) => rest = into_children(child.into_node()),
                 Children::Two(front, back) => {
                     let mut room = front.into_box();
-                    match into_children(mem::replace(&mut *room, Doc::Nil)) {
-                        Children::None => rest = into_children(back.into_node()),
-                        Children::One(child) => rest = Children::Two(child, back),
+                    match into_children(mem::replace(&mut room.0, Doc::Nil)) {
+                        Children::None => {
+                            drop(Box::into_inner(room).into_doc());
+                            rest = into_children(back.into_node());
+                        }
+                        Children::One(child) => {
+                            drop(Box::into_inner(room).into_doc());
+                            rest = Children::Two(child, back);
+                        }
                         Children::Two(first, second) => {
-                            *room = Doc::Append(second, back);
+                            room.0 = Doc::Append(second, back);
                             rest = Children::Two(first, BoxDoc(room));
                         }
                     }
@@ -68,7 +97,7 @@ impl<'a> DocPtr<'a> for BoxDoc<'a> {
     ghost tree = { box_tree };
 
     fn doc(&self) -> &Doc<'a, BoxDoc<'a>> {
-        &*self.0
+        &self.0.0
     }
 }
 
