@@ -96,9 +96,9 @@ with_value value key ss =
     then and_then (value (drop 1 ss)) (λ v. read (append (append (append key (text (ascii.colon ∷ []))) space) v))
     else read key ss
 
--- a comma and a colon
-abbrev pub AreMarks : Tree → Tree → Type 0
-AreMarks comma colon = (comma ≡ text (ascii.comma ∷ [])) × (colon ≡ text (ascii.colon ∷ []))
+-- a comma, a colon and a space
+abbrev pub AreMarks : Tree → Tree → Tree → Type 0
+AreMarks comma colon gap = (comma ≡ text (ascii.comma ∷ [])) × (colon ≡ text (ascii.colon ∷ [])) × (gap ≡ space)
 
 -- a document, and the comma, if it is next
 abbrev pub with_comma : Tree → Reader Tree

@@ -17,10 +17,15 @@ use std::alloc::{AllocError, Global};
 use std::io::Write;
 
 /// The document of a text, or memory was refused: each of its lexemes is a text that is there.
-fn built<'a>(arena: &'a Arena<'a>, text: &'a str, style: Style) -> Result<RefDoc<'a>, AllocError>
+fn built<'a>(
+    arena: &'a Arena<'a>,
+    alloc: Global,
+    text: &'a str,
+    style: Style,
+) -> Result<RefDoc<'a>, AllocError>
     ensures { IfOk result (λ p. ref_tree p ≡ tree_of style (lexemes text.now)) }
 {
-    match document(arena, text, style) {
+    match document(arena, alloc, text, style) {
         Ok(document) => Ok(document),
         Err(BuildError::Memory(error)) => Err(error),
         Err(BuildError::Display) => unreachable!(),
@@ -28,13 +33,18 @@ fn built<'a>(arena: &'a Arena<'a>, text: &'a str, style: Style) -> Result<RefDoc
 }
 
 /// The layout of a text in this style, and a line feed, or memory was refused: no document of lexemes fails.
-fn laid<'a>(arena: &'a Arena<'a>, text: &'a str, style: Style) -> Result<String, AllocError>
+fn laid<'a>(
+    arena: &'a Arena<'a>,
+    alloc: Global,
+    text: &'a str,
+    style: Style,
+) -> Result<String, AllocError>
     ensures { IfOk result (λ layout. string_bytes layout ≡ layout_of style text.now) }
 {
-    let document = built(arena, text, style)?;
-    let mut layout = String::new(arena.memory());
+    let document = built(arena, alloc, text, style)?;
+    let mut layout = String::new(alloc);
     let doc = document.doc();
-    match doc.render_fmt(arena.memory(), style.width, &mut layout) {
+    match doc.render_fmt(alloc, style.width, &mut layout) {
         Ok(()) => layout.push('\n')?,
         Err(RenderError::Memory(error)) => return Err(error),
         // A `String` fails for want of memory alone.
@@ -42,6 +52,15 @@ fn laid<'a>(arena: &'a Arena<'a>, text: &'a str, style: Style) -> Result<String,
         Err(RenderError::Document(_)) => unreachable!(),
     }
     Ok(layout)
+}
+
+/// The same, with the document in an arena of its own.
+fn laid_out(alloc: Global, text: &str, style: Style) -> Result<String, AllocError>
+    ensures { IfOk result (λ layout. string_bytes layout ≡ layout_of style text.now) }
+{
+    let bump = Bump::new(alloc);
+    let arena = Arena::new(alloc, &bump);
+    laid(&arena, alloc, text, style)
 }
 
 /// The layout of a JSON text in this style, and a line feed. It is the same value, and has the same lexemes. Laid out again
@@ -55,9 +74,7 @@ pub fn formatted(alloc: Global, text: &str, style: Style) -> Result<String, Form
     if !is_valid(text, &mut Scratch::new(alloc))? {
         return Err(FormatError::NotJson);
     }
-    let bump = Bump::new(alloc);
-    let arena = Arena::new(alloc, &bump);
-    Ok(laid(&arena, text, style)?)
+    Ok(laid_out(alloc, text, style)?)
 }
 
 /// Writes the layout of a JSON text in this style, and a line feed, as `formatted` does.

@@ -9,7 +9,7 @@ ghost use Rattle.prettyless.specs.Words.{intersperse};
 ghost use Rattle.json_formatter.specs.Documents.{filled, listed};
 
 use prettyless::text::BuildError;
-use prettyless::{DocAllocator, DocBuilder, DocPlace, Pretty};
+use prettyless::{DocAllocator, DocBuilder, DocPlace};
 
 /// The documents between two texts: flat, or each on a line of its own, so many columns further in.
 fn on_lines<'a, D: DocPlace<'a>>(
@@ -27,6 +27,31 @@ fn on_lines<'a, D: DocPlace<'a>>(
     Ok(list.into_doc()?)
 }
 
+/// The documents, with a space or a line in each gap: a line where the next one would not fit.
+fn filling<'a, D: DocPlace<'a>>(
+    place: &'a D,
+    docs: Vec<D::Doc>,
+) -> Result<DocBuilder<'a, D>, BuildError>
+    ensures ok { IfOk result (λ b. built D.Doc.tree b.1 ≡ intersperse softline (map D.Doc.tree docs.items)) }
+    ensures err { IfErr result IsMemory }
+{
+    let gap = place.softline()?;
+    place.separate(docs, gap)
+}
+
+/// A document after a line, so many columns further in.
+fn indented<'a, D: DocPlace<'a>>(
+    inner: DocBuilder<'a, D>,
+    indent: u32,
+) -> Result<DocBuilder<'a, D>, BuildError>
+    ensures ok { IfOk result (λ b. built D.Doc.tree b.1
+        ≡ nest (pos indent) (append line_ (built D.Doc.tree inner.entry.1))) }
+    ensures err { IfErr result IsMemory }
+{
+    let place = inner.0;
+    place.line_()?.join(inner)?.nest(indent as isize)
+}
+
 /// The documents in lines that are filled, so many columns further in, and a line after them.
 fn in_lines<'a, D: DocPlace<'a>>(
     place: &'a D,
@@ -37,10 +62,8 @@ fn in_lines<'a, D: DocPlace<'a>>(
         ≡ append (nest (pos indent) (append line_ (intersperse softline (map D.Doc.tree docs.items)))) line_) }
     ensures err { IfErr result IsMemory }
 {
-    let gap = place.softline()?;
-    let docs = place.separate(docs, gap)?;
-    let nested = place.line_()?.join(docs)?.nest(indent as isize)?;
-    nested.join(place.line_()?)
+    let lines = indented(filling(place, docs)?, indent)?;
+    lines.join(place.line_()?)
 }
 
 /// The documents between two texts: flat, or in lines that are filled, so many columns further in.
@@ -56,10 +79,8 @@ fn filled<'a, D: DocPlace<'a>>(
         ≡ filled (text before.now) (map D.Doc.tree docs.items) (text after.now) (pos indent)) }
     ensures err { IfErr result IsMemory }
 {
-    let before = Pretty::pretty(before, place)?;
-    let after = Pretty::pretty(after, place)?;
     let inside = in_lines(place, docs, indent)?;
-    Ok(before.join(inside)?.join(after)?.group()?.into_doc()?)
+    Ok(inside.enclose(before, after)?.group()?.into_doc()?)
 }
 
 /// The documents between two texts: flat, or else so many columns further in, where they fill lines or each is on one of

@@ -1,34 +1,23 @@
-ghost use Rattle.std.specs.Prelude.{◌≡◌, [], ◌∷◌, IfOk, IfErr};
+ghost use Rattle.std.specs.Prelude.{◌≡◌, IfOk, IfErr};
 ghost use Rattle.prettyless.specs.BuildErrors.{IsMemory};
 ghost use Rattle.prettyless.specs.Built.{append};
 ghost use Rattle.prettyless.specs.Counted.{text};
-ghost use Rattle.prettyless.specs.Lines.{space};
 ghost use Rattle.prettyless.specs.Tree.{Nil};
+ghost use Rattle.prettyless.specs.Trees.{ref_tree};
 
 use prettyless::text::BuildError;
-use prettyless::{BuildDoc, Doc, DocAllocator, DocBuilder, DocPlace, Pretty};
+use prettyless::{Arena, BuildDoc, DocBuilder, DocPlace, Pretty, RefDoc};
 
-/// A text.
-pub(crate) fn text<'a, D: DocPlace<'a>>(
-    place: &'a D,
-    spelling: &'a str,
-) -> Result<D::Doc, BuildError>
+// A text, in any place.
+fn text_in<'a, D: DocPlace<'a>>(place: &'a D, spelling: &'a str) -> Result<D::Doc, BuildError>
     ensures ok { IfOk result (λ p. D.Doc.tree p ≡ text spelling.now) }
     ensures err { IfErr result IsMemory }
 {
     Pretty::pretty(spelling, place)?.into_doc()
 }
 
-/// Nothing.
-pub(crate) fn nothing<'a, D: DocPlace<'a>>(place: &'a D) -> Result<D::Doc, BuildError>
-    ensures ok { IfOk result (λ p. D.Doc.tree p ≡ Nil) }
-    ensures err { IfErr result IsMemory }
-{
-    place.alloc(Doc::Nil)
-}
-
-/// Two documents, one after the other.
-pub(crate) fn joined<'a, D: DocPlace<'a>>(
+// Two documents, one after the other, in any place.
+fn joined_in<'a, D: DocPlace<'a>>(
     place: &'a D,
     front: D::Doc,
     next: D::Doc,
@@ -42,17 +31,30 @@ pub(crate) fn joined<'a, D: DocPlace<'a>>(
         .into_doc()
 }
 
-/// A document with a colon and a space after it.
-pub(crate) fn with_colon<'a, D: DocPlace<'a>>(
-    place: &'a D,
-    front: D::Doc,
-    colon: D::Doc,
-) -> Result<D::Doc, BuildError>
-    requires { D.Doc.tree colon ≡ text (58 ∷ []) }
-    ensures ok { IfOk result (λ p. D.Doc.tree p ≡ append (append (D.Doc.tree front) (text (58 ∷ []))) space) }
+/// A text.
+pub(crate) fn text<'a>(arena: &'a Arena<'a>, spelling: &'a str) -> Result<RefDoc<'a>, BuildError>
+    ensures ok { IfOk result (λ p. ref_tree p ≡ text spelling.now) }
     ensures err { IfErr result IsMemory }
 {
-    let colon = DocBuilder(place, BuildDoc::DocPtr(colon));
-    let front = DocBuilder(place, BuildDoc::DocPtr(front)).join(colon)?;
-    front.join(place.space()?)?.into_doc()
+    text_in(arena, spelling)
+}
+
+/// Nothing.
+pub(crate) fn nothing<'a>(arena: &'a Arena<'a>) -> Result<RefDoc<'a>, BuildError>
+    ensures ok { IfOk result (λ p. ref_tree p ≡ Nil) }
+    ensures err { IfErr result IsMemory }
+{
+    text(arena, "")
+}
+
+/// Two documents, one after the other.
+pub(crate) fn joined<'a>(
+    arena: &'a Arena<'a>,
+    front: RefDoc<'a>,
+    next: RefDoc<'a>,
+) -> Result<RefDoc<'a>, BuildError>
+    ensures ok { IfOk result (λ p. ref_tree p ≡ append (ref_tree front.entry) (ref_tree next.entry)) }
+    ensures err { IfErr result IsMemory }
+{
+    joined_in(arena, front, next)
 }

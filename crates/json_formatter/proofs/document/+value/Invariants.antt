@@ -19,7 +19,7 @@ decreases-value l = 4 * l.depth
 -- the documents so far are those of the members that were read
 abbrev pub invariant-members-loop-first : goal.invariant-members-loop-first
 invariant-members-loop-first l =
-    GoesOn (members (value l.style l.depth) l.fn.lexemes) (members (value l.style l.depth) l.lexemes) (map ref_tree l.docs.items) l.are_numbers
+    GoesOn (members (value l.setting.style l.depth) l.fn.lexemes) (members (value l.setting.style l.depth) l.lexemes) (map ref_tree l.docs.items) l.are_numbers
 
 abbrev pub decreases-members-loop-first : goal.decreases-members-loop-first
 decreases-members-loop-first l = length l.lexemes

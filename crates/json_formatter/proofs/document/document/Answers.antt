@@ -7,10 +7,11 @@ use Rattle.json_formatter.proofs.document.document.Goals as goal
 pub loop-first-preserved : goal.loop-first-preserved
 loop-first-preserved c =
     let l = c.loop-first in
-    one_value_more c.args.style (lexemes c.args.text.now) l.lexemes c.next.new.self c.value.new.lexemes (text_of c.in-Some.first) (ref_tree l.all) (ref_tree c.in_ok-next.next) (ref_tree c.in_ok-all-2.all) l.invariant c.in-Some.ensures.next
+    one_value_more c.in_ok-setting.setting.style (lexemes c.args.text.now) l.lexemes c.next.new.self c.value.new.lexemes (text_of c.in-Some.first) (ref_tree l.all) (ref_tree c.in_ok-next.next) (ref_tree c.in_ok-all-2.all) l.invariant c.in-Some.ensures.next
     c.in_ok-next.ensures.made c.in_ok-all-2.ensures.ok
 
 pub returns-clause-ok : goal.returns-clause-ok
 returns-clause-ok c =
     let l = c.loop-first in
-    no_value_more c.args.style (lexemes c.args.text.now) l.lexemes (ref_tree l.all) l.invariant c.in_default.ensures.next.0
+    let made = no_value_more c.in_ok-setting.setting.style (lexemes c.args.text.now) l.lexemes (ref_tree l.all) l.invariant c.in_default.ensures.next.0 in
+    rw c.in_ok-setting.ensures.style at made

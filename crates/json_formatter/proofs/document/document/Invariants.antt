@@ -6,7 +6,7 @@ use Rattle.json_formatter.proofs.document.document.Given as goal
 
 -- the document so far is that of the values that were read
 abbrev pub invariant-loop-first : goal.invariant-loop-first
-invariant-loop-first l = IsSoFar l.style (lexemes l.text) l.lexemes (ref_tree l.all)
+invariant-loop-first l = IsSoFar l.setting.style (lexemes l.text) l.lexemes (ref_tree l.all)
 
 abbrev pub decreases-loop-first : goal.decreases-loop-first
 decreases-loop-first l = length l.lexemes

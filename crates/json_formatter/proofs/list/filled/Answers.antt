@@ -14,7 +14,6 @@ filled_some f before after k (d ∷ ds) h = refl
 
 pub returns-clause-ok : goal.returns-clause-ok
 returns-clause-ok g c =
-    let joined = rw (c.in_ok-before.ensures.ok, c.in_ok-inside.ensures.ok) at c.in_ok-join.ensures.ok in
-    let closed = rw (joined, c.in_ok-after.ensures.ok) at c.in_ok-join-2.ensures.ok in
-    rw (c.in_ok-into_doc.ensures.ok, c.in_ok-group.ensures.ok, closed)
+    let enclosed = c.in_ok-enclose.ensures.ok in
+    rw (c.in_ok-into_doc.ensures.ok, c.in_ok-group.ensures.ok, enclosed.4, enclosed.2, enclosed.3, c.in_ok-inside.ensures.ok)
     (filled_some g.D.Doc.DocPtr.tree _ _ (pos c.args.indent) c.args.docs.items (omega (arith, c.requires)))
