@@ -1,7 +1,7 @@
 -- What was read and written in a run, put together.
 use Rattle.std.proofs.Common.{◌≡◌, ℕ, ◌<◌, List, [], ◌∷◌, ◌++◌, length, length-append, append_assoc, Option, Some, None, Result, Ok, Err, refl, sym, ap, subst, ◌∙◌, ◌⊎◌, inl, inr, arith}
-use Rattle.std.specs.Prelude.{OnOk, OnErr, IfErr, IsErrAnd}
-use Rattle.std.specs.Io.KnownBytes.{Appends, Consumes, IsAtEnd}
+use Rattle.std.specs.Prelude.{OnOk, OnErr, IfErr, IfSome, IsErrAnd}
+use Rattle.std.specs.Io.KnownBytes.{Appends, Consumes, IsAtEnd, Keeps}
 use Rattle.std.proofs.KnownBytes.{Appends-nil, Appends-trans}
 use Rattle.std.proofs.lemmas.List.{append-nil}
 use Rattle.prettyless.specs.Layout.{Whole, bytes_in}
@@ -10,8 +10,9 @@ use Rattle.prettyless_model.specs.declared.options.RenderOptions.{RenderOptions}
 use Rattle.prettyless_sink.specs.declared.error.RenderError.{RenderError}
 use Rattle.prettyless_sink.specs.declared.error.RenderError.TheVariants as stops
 use Rattle.sexp_formatter.specs.Value.{Value}
+use Rattle.sexp_formatter.specs.Fronts.{Refuses}
 use Rattle.sexp_formatter.specs.Grammar.{line_feed, Reads}
-use Rattle.sexp_formatter.specs.Transfer.{IsMemory, IsWriting, AppendsBeginning}
+use Rattle.sexp_formatter.specs.Transfer.{IsMemory, IsReading, IsWriting, AppendsBeginning}
 use Rattle.sexp_formatter.specs.Runs.{layout_of, WritesBeginning, Writes, GivesValue, Runs}
 use Rattle.sexp_formatter.specs.declared.error.RunError.{RunError}
 use Rattle.sexp_formatter.specs.declared.error.RunError.TheVariants.{NotAnSexp, Memory, Read, Write}
@@ -86,3 +87,33 @@ ran o given old new v (Err NotAnSexp) gives written = absurd written
 ran o given old new v (Err (Read e)) gives written = absurd written
 ran o given old new v (Err (Memory e)) gives written = inr (v, gives, written)
 ran o given old new v (Err (Write e)) gives written = (v, gives, written)
+
+-- ---- before anything is written
+
+keeps : (old : Option (List ℕ)) → Keeps old old
+keeps None = tt
+keeps (Some x) = refl
+
+-- the input could not be read
+pub not_read : {A : Type 0} (o : RenderOptions) (given old : Option (List ℕ)) (r : Result A RunError) (e : RunError) → IsErrAnd r (λ f. f ≡ e) → IsReading e → Runs o given old old r
+not_read o given old (Ok done) e failed reading = absurd failed
+not_read o given old (Err NotAnSexp) e failed reading = absurd (subst IsReading (sym failed) reading)
+not_read o given old (Err (Memory f)) e failed reading = inl (keeps old)
+not_read o given old (Err (Read f)) e failed reading = keeps old
+not_read o given old (Err (Write f)) e failed reading = absurd (subst IsReading (sym failed) reading)
+
+-- no value is read from what was given, where none is from the input
+none_given : (given left : Option (List ℕ)) (input : List ℕ) → Consumes given left input → IsAtEnd left ⊎ (1048576 < length input) → ((v : Value) → Reads input v → ⊥) → IfSome given (λ bytes. (v : Value) → Reads bytes v → ⊥)
+none_given None left input taken all none = tt
+none_given (Some bytes) None input taken all none = absurd taken
+none_given (Some bytes) (Some rest) input taken (inl end) none = λ v r. none v (subst (λ bs. Reads bs v) (taken ∙ ap (λ (x : List ℕ). input ++ x) end ∙ append-nil input) r)
+none_given (Some bytes) (Some rest) input taken (inr long) none = λ v r. let size = rw taken at r.size in absurd (omega (arith, size, length-append input rest))
+
+-- the input was refused
+pub not_parsed : {A : Type 0} (o : RenderOptions) (given left old : Option (List ℕ)) (input : List ℕ) (r : Result A RunError) (e : RunError) → IsErrAnd r (λ f. f ≡ e) → Consumes given left input → IsAtEnd left ⊎ (1048576 < length input)
+    → Refuses e ((v : Value) → Reads input v → ⊥) → Runs o given old old r
+not_parsed o given left old input (Ok done) e failed taken all refused = absurd failed
+not_parsed o given left old input (Err NotAnSexp) e failed taken all refused = (keeps old, none_given given left input taken all (subst (λ f. Refuses f ((v : Value) → Reads input v → ⊥)) (sym failed) refused))
+not_parsed o given left old input (Err (Memory f)) e failed taken all refused = inl (keeps old)
+not_parsed o given left old input (Err (Read f)) e failed taken all refused = keeps old
+not_parsed o given left old input (Err (Write f)) e failed taken all refused = absurd (subst (λ f. Refuses f ((v : Value) → Reads input v → ⊥)) (sym failed) refused)

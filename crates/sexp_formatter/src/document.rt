@@ -2,7 +2,7 @@ ghost use Rattle.std.specs.Prelude.{◌≡◌, pos, IfOk, IfErr};
 ghost use Rattle.std.specs.Fmt.{decimal};
 ghost use Rattle.prettyless.specs.Built.{append, between, group, nest};
 ghost use Rattle.prettyless.specs.Lines.{line};
-ghost use Rattle.prettyless.specs.Tree.{Nil, Text};
+ghost use Rattle.prettyless.specs.Tree.{Tree, Nil, Text};
 ghost use Rattle.prettyless.specs.Trees.{ref_tree};
 ghost use Rattle.sexp_formatter.specs.Transfer.{IsMemory};
 ghost use Rattle.sexp_formatter.specs.Value.{values_of};
@@ -11,88 +11,133 @@ ghost use Rattle.sexp_formatter.specs.Documents.{document_of, interspersed};
 
 use crate::error::RunError;
 use crate::expression::SExp;
+use prettyless::text::BuildError;
 use prettyless::{Arena, BuildDoc, Doc, DocAllocator, DocBuilder, DocPlace, RefDoc};
 
+/// Where S-expressions are built. It knows no lifetime, so that functions that call each other may have it as a bound.
+trait SexpPlace: Copy {
+    /// The pointer to a document.
+    type Doc: Drop;
+
+    ghost tree: { Self.Doc → Tree };
+
+    /// A number, in decimal.
+    fn atom(self, number: u32) -> Result<Self::Doc, BuildError>
+        ensures { IfOk result (λ p. tree p ≡ Text (decimal number)) };
+
+    /// Nothing.
+    fn nothing(self) -> Result<Self::Doc, BuildError>
+        ensures { IfOk result (λ p. tree p ≡ Nil) };
+
+    /// A line break, or one space where lines are flat.
+    fn gap(self) -> Result<Self::Doc, BuildError>
+        ensures { IfOk result (λ p. tree p ≡ line) };
+
+    /// A list, from what is between its parentheses.
+    fn list(self, inside: Self::Doc) -> Result<Self::Doc, BuildError>
+        ensures { IfOk result (λ p. tree p ≡ between 40 41 (group (nest (pos 1) (tree inside)))) };
+
+    /// A document, the gap after it and the next one.
+    fn join_after(
+        self,
+        all: Self::Doc,
+        gap: &Self::Doc,
+        next: Self::Doc,
+    ) -> Result<Self::Doc, BuildError>
+        ensures { IfOk result (λ p. tree p ≡ append (append (tree all) (tree gap.now)) (tree next)) };
+}
+
+impl<'a, D: DocPlace<'a>> SexpPlace for &'a D {
+    type Doc = D::Doc;
+
+    ghost tree = { D.Doc.tree };
+
+    fn atom(self, number: u32) -> Result<D::Doc, BuildError> {
+        atom(self, number)
+    }
+
+    fn nothing(self) -> Result<D::Doc, BuildError> {
+        self.alloc(Doc::Nil)
+    }
+
+    fn gap(self) -> Result<D::Doc, BuildError> {
+        self.line()?.into_doc()
+    }
+
+    fn list(self, inside: D::Doc) -> Result<D::Doc, BuildError> {
+        let inside = DocBuilder(self, BuildDoc::DocPtr(inside));
+        inside.nest(1)?.group()?.parens()?.into_doc()
+    }
+
+    fn join_after(self, all: D::Doc, gap: &D::Doc, next: D::Doc) -> Result<D::Doc, BuildError> {
+        let gap = self.clone_ptr(gap)?;
+        joined(self, joined(self, all, gap)?, next)
+    }
+}
+
 /// The document of a number, in decimal.
-fn atom<'a, D: DocPlace<'a>>(place: &'a D, number: u32) -> Result<D::Doc, RunError>
-    ensures ok { IfOk result (λ p. D.Doc.tree p ≡ Text (decimal number)) }
-    ensures err { IfErr result IsMemory }
+fn atom<'a, D: DocPlace<'a>>(place: &'a D, number: u32) -> Result<D::Doc, BuildError>
+    ensures { IfOk result (λ p. D.Doc.tree p ≡ Text (decimal number)) }
 {
     Ok(place.as_string(number)?.into_doc()?)
 }
 
-/// Nothing.
-fn nothing<'a, D: DocPlace<'a>>(place: &'a D) -> Result<D::Doc, RunError>
-    ensures ok { IfOk result (λ p. D.Doc.tree p ≡ Nil) }
-    ensures err { IfErr result IsMemory }
-{
-    Ok(place.alloc(Doc::Nil)?)
-}
-
-/// The document of a list, from that of what is between its parentheses.
-fn list<'a, D: DocPlace<'a>>(place: &'a D, inside: D::Doc) -> Result<D::Doc, RunError>
-    ensures ok { IfOk result (λ p. D.Doc.tree p
-        ≡ between 40 41 (group (nest (pos 1) (D.Doc.tree inside)))) }
-    ensures err { IfErr result IsMemory }
-{
-    let inside = DocBuilder(place, BuildDoc::DocPtr(inside));
-    Ok(inside.nest(1)?.group()?.parens()?.into_doc()?)
-}
-
-/// A document, the gap after it and the next one.
-fn join_after<'a, D: DocPlace<'a>>(
+/// Two documents, one after the other.
+fn joined<'a, D: DocPlace<'a>>(
     place: &'a D,
-    all: D::Doc,
-    gap: &D::Doc,
+    front: D::Doc,
     next: D::Doc,
-) -> Result<D::Doc, RunError>
-    ensures ok { IfOk result (λ p. D.Doc.tree p
-        ≡ append (append (D.Doc.tree all) (D.Doc.tree gap.now)) (D.Doc.tree next)) }
-    ensures err { IfErr result IsMemory }
+) -> Result<D::Doc, BuildError>
+    ensures { IfOk result (λ p. D.Doc.tree p ≡ append (D.Doc.tree front) (D.Doc.tree next)) }
 {
-    let all = DocBuilder(place, BuildDoc::DocPtr(all));
-    let gap = DocBuilder(place, BuildDoc::DocPtr(place.clone_ptr(gap)?));
     let next = DocBuilder(place, BuildDoc::DocPtr(next));
-    Ok(all.join(gap)?.join(next)?.into_doc()?)
+    DocBuilder(place, BuildDoc::DocPtr(front))
+        .join(next)?
+        .into_doc()
 }
 
-/// A line break, or one space where lines are flat.
-fn gap<'a, D: DocPlace<'a>>(place: &'a D) -> Result<D::Doc, RunError>
-    ensures ok { IfOk result (λ p. D.Doc.tree p ≡ line) }
-    ensures err { IfErr result IsMemory }
-{
-    Ok(place.line()?.into_doc()?)
-}
-
-/// The document of an S-expression, with its nodes in this arena.
-#[cycle(document)]
-pub fn document<'a>(arena: &'a Arena<'a>, expression: &SExp) -> Result<RefDoc<'a>, RunError>
-    ensures ok { IfOk result (λ p. ref_tree p ≡ document_of (value_of expression.now)) }
-    ensures err { IfErr result IsMemory }
+/// The document of an S-expression.
+#[cycle(built)]
+fn built<P: SexpPlace>(place: P, expression: &SExp) -> Result<P::Doc, BuildError>
+    ensures { IfOk result (λ p. P.tree p ≡ document_of (value_of expression.now)) }
 {
     match expression {
-        SExp::Atom(number) => atom(arena, *number),
-        SExp::List(items) => list(arena, lines(arena, items)?),
+        SExp::Atom(number) => place.atom(*number),
+        SExp::List(items) => place.list(lines(place, items)?),
     }
 }
 
 /// The documents of the expressions, with a line between two, which is made once.
-#[cycle(document)]
-fn lines<'a>(arena: &'a Arena<'a>, expressions: &[SExp]) -> Result<RefDoc<'a>, RunError>
-    ensures ok { IfOk result (λ p. ref_tree p ≡ interspersed (values_of (values_in expressions.now))) }
-    ensures err { IfErr result IsMemory }
+#[cycle(built)]
+fn lines<P: SexpPlace>(place: P, expressions: &[SExp]) -> Result<P::Doc, BuildError>
+    ensures { IfOk result (λ p. P.tree p ≡ interspersed (values_of (values_in expressions.now))) }
 {
     let [first, rest @ ..] = expressions else {
-        return nothing(arena);
+        return place.nothing();
     };
-    let mut all = document(arena, first)?;
+    let mut all = built(place, first)?;
     if rest.is_empty() {
         return Ok(all);
     }
-    let gap = gap(arena)?;
+    let gap = place.gap()?;
     for expression in rest {
-        let next = document(arena, expression)?;
-        all = join_after(arena, all, &gap, next)?;
+        let next = built(place, expression)?;
+        all = place.join_after(all, &gap, next)?;
     }
     Ok(all)
+}
+
+/// The document of an S-expression, in any place.
+fn document_in<'a, D: DocPlace<'a>>(place: &'a D, expression: &SExp) -> Result<D::Doc, BuildError>
+    ensures { IfOk result (λ p. D.Doc.tree p ≡ document_of (value_of expression.now)) }
+{
+    built(place, expression)
+}
+
+/// The document of an S-expression, with its nodes in this arena.
+pub fn document<'a>(arena: &'a Arena<'a>, expression: &SExp) -> Result<RefDoc<'a>, RunError>
+    ensures ok { IfOk result (λ p. ref_tree p ≡ document_of (value_of expression.now)) }
+    ensures err { IfErr result IsMemory }
+{
+    Ok(document_in(arena, expression)?)
 }

@@ -16,7 +16,7 @@ all_ascii (b ∷ s) h = rw (lt-ltb b 128 (h 0)) (all_ascii s (λ i. h (suc i)))
 counts_digits : (n : ℕ) → n < 2 ^ 64 → as_string (decimal n) ≡ Text (decimal n)
 counts_digits n small = rw (all_ascii (decimal n) (IsAscii-decimal n small)) refl
 
-pub returns-clause-ok : goal.returns-clause-ok
-returns-clause-ok g c =
+pub returns : goal.returns
+returns g c =
     let shown = c.in_ok-as_string.ensures in
     c.in_ok-into_doc.ensures.ok ∙ shown.1 ∙ ap as_string shown.2 ∙ counts_digits c.args.number (omega arith)
