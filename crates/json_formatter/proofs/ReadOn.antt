@@ -1,6 +1,6 @@
 -- What the steps of the code come to: each reads on where the one before it stopped.
 use Rattle.std.proofs.Common.{◌≡◌, refl, sym, ◌∙◌, ap, subst, ℕ, zero, suc, ◌-◌, ◌<◌, Bool, true, false, ◌&&◌, List, [], ◌∷◌, ◌++◌, length, append_assoc, append-nil, drop, arith}
-use Rattle.std.specs.Prelude.{if◌then◌else◌, pos}
+use Rattle.std.specs.Prelude.{if◌then◌else◌, pos, Result, Ok, Err, IfOk}
 use Rattle.std.specs.List.{fold}
 use Rattle.json.specs.Ascii as ascii
 use Rattle.json.specs.Json.{max_depth}
@@ -12,6 +12,11 @@ use Rattle.json_formatter.specs.declared.style.Style.{Style}
 use Rattle.json_formatter.specs.Documents.{Read, Reader, Member, GoesOn, read, and_then, onto, until, many, stops, next_is, is_sign, is_number, opens, closes, lexeme_alone, with_value, with_comma, member, list_member, members, trees_of, all_numbers, listed, list, value, tree_of}
 use Rattle.json_formatter.proofs.Readers.{many_stops, until_more}
 use Rattle.json_formatter.proofs.Shrinking.{value_none, value_shrinks, value_keeps, list_member_shrinks}
+
+-- what is so of an answer, where something else is so of it
+pub if_ok : {A E : Type 0} {P Q : A → Type 0} (r : Result A E) → ((x : A) → P x → Q x) → IfOk r P → IfOk r Q
+if_ok (Ok x) f p = f x p
+if_ok (Err e) f p = tt
 
 -- ---- a member
 

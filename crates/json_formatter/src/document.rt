@@ -37,12 +37,12 @@ impl<'a> Setting<'a> {
         ensures err { IfErr result IsMemory }
     {
         Ok(Setting {
-            arena,
-            alloc,
-            style,
             comma: text(arena, ",")?,
             colon: text(arena, ":")?,
             space: text(arena, " ")?,
+            arena,
+            alloc,
+            style,
         })
     }
 }
@@ -59,7 +59,7 @@ fn with_next_comma<'a>(
     ensures err { IfErr result IsMemory }
 {
     if lexemes.takes_comma() {
-        Ok(joined(setting.arena, member, setting.comma)?)
+        joined(setting.arena, member, setting.comma)
     } else {
         Ok(member)
     }
@@ -92,13 +92,13 @@ fn value<'a>(
     ensures err { IfErr result IsMemory }
 {
     if depth == 0 || !opens(first) {
-        return Ok(text(setting.arena, first.text())?);
+        return text(setting.arena, first.text());
     }
     let (docs, are_numbers) = members(setting, lexemes, depth - 1)?;
     let close = lexemes.next_text();
     let fills = setting.style.fill && are_numbers;
     let indent = setting.style.indent;
-    Ok(list(setting.arena, first.text(), docs, close, indent, fills)?)
+    list(setting.arena, first.text(), docs, close, indent, fills)
 }
 
 /// The documents of the members of a list, up to what closes it, and whether all are numbers.
@@ -139,7 +139,7 @@ fn member<'a>(
 {
     let key = value(setting, lexemes, first, depth)?;
     let pair = pair(setting, lexemes, key, depth)?;
-    Ok(with_next_comma(setting, lexemes, pair)?)
+    with_next_comma(setting, lexemes, pair)
 }
 
 /// The document of a key, with the colon and the value that come next, if a colon does.
@@ -164,7 +164,21 @@ fn pair<'a>(
         return Ok(key);
     };
     let value = value(setting, lexemes, first, depth)?;
-    Ok(joined(setting.arena, key, value)?)
+    joined(setting.arena, key, value)
+}
+
+/// The documents of the values that come next, one after the other: those of a JSON text are one value.
+fn values<'a>(setting: &Setting<'a>, lexemes: &mut Ahead<'a>) -> Result<RefDoc<'a>, BuildError>
+    requires { AreMarks (ref_tree setting.now.comma) (ref_tree setting.now.colon) (ref_tree setting.now.space) }
+    ensures ok { IfOk result (λ p. ref_tree p ≡ tree_of setting.now.style lexemes.old) }
+    ensures err { IfErr result IsMemory }
+{
+    let mut all = nothing(setting.arena)?;
+    while let Some(first) = lexemes.next() {
+        let next = value(setting, lexemes, first, MAX_DEPTH)?;
+        all = joined(setting.arena, all, next)?;
+    }
+    Ok(all)
 }
 
 /// The document of a text.
@@ -178,11 +192,5 @@ pub(crate) fn document<'a>(
     ensures err { IfErr result IsMemory }
 {
     let setting = Setting::new(arena, alloc, style)?;
-    let mut lexemes = Ahead::new(text);
-    let mut all = nothing(arena)?;
-    while let Some(first) = lexemes.next() {
-        let next = value(&setting, &mut lexemes, first, MAX_DEPTH)?;
-        all = joined(arena, all, next)?;
-    }
-    Ok(all)
+    values(&setting, &mut Ahead::new(text))
 }

@@ -1,12 +1,11 @@
 use Rattle.std.proofs.Common.{length}
 use Rattle.prettyless.specs.Trees.{ref_tree}
-use Rattle.json_lexemes.specs.Lexemes.{lexemes}
 use Rattle.json_formatter.proofs.ReadOn.{IsSoFar}
-use Rattle.json_formatter.proofs.document.document.Given as goal
+use Rattle.json_formatter.proofs.document.values.Given as goal
 
 -- the document so far is that of the values that were read
 abbrev pub invariant-loop-first : goal.invariant-loop-first
-invariant-loop-first l = IsSoFar l.setting.style (lexemes l.text) l.lexemes (ref_tree l.all)
+invariant-loop-first l = IsSoFar l.setting.style l.fn.lexemes l.lexemes (ref_tree l.all)
 
 abbrev pub decreases-loop-first : goal.decreases-loop-first
 decreases-loop-first l = length l.lexemes
