@@ -166,7 +166,10 @@ value style (suc depth) = list_or_lexeme style (value style depth)
 abbrev pub tree_of : Style → List (List ℕ) → Tree
 tree_of style ss = fold append Nil (until (λ _. false) (value style max_depth) ss).found
 
--- the layout of a text in a style: that of its document, and a line feed
+-- the layout of a document in a style, and a line feed
+abbrev pub laid : Style → Tree → List ℕ
+laid style tree = bytes_in (layout (options_at style.width) tree) ++ ascii.line_feed ∷ []
+
+-- the layout of a text in a style: that of its document
 abbrev pub layout_of : Style → List ℕ → List ℕ
-layout_of style text =
-    bytes_in (layout (options_at style.width) (tree_of style (lexemes text))) ++ ascii.line_feed ∷ []
+layout_of style text = laid style (tree_of style (lexemes text))

@@ -1,8 +1,8 @@
-ghost use Rattle.std.specs.Prelude.{◌≡◌, IfOk, IfErr};
+ghost use Rattle.std.specs.Prelude.{◌≡◌, ℕ, List, IfOk, IfErr};
 ghost use Rattle.std.specs.String.{string_bytes};
 ghost use Rattle.json_lexemes.specs.Lexemes.{lexemes};
 ghost use Rattle.prettyless.specs.Trees.{ref_tree};
-ghost use Rattle.json_formatter.specs.Documents.{layout_of, tree_of};
+ghost use Rattle.json_formatter.specs.Documents.{laid, layout_of, tree_of};
 ghost use Rattle.json_formatter.specs.Formats.{IsFormatted, IsRefused, Formats};
 
 use crate::document::document;
@@ -32,16 +32,15 @@ fn built<'a>(
     }
 }
 
-/// The layout of a text in this style, and a line feed, or memory was refused: no document of lexemes fails.
-fn laid<'a>(
-    arena: &'a Arena<'a>,
+/// The layout of a document of lexemes, and a line feed, or memory was refused: no such document fails.
+fn rendered<'a, P: DocPtr<'a>>(
+    document: &P,
     alloc: Global,
-    text: &'a str,
     style: Style,
 ) -> Result<String, AllocError>
-    ensures { IfOk result (λ layout. string_bytes layout ≡ layout_of style text.now) }
+    requires { (ss : List (List ℕ)) × (P.tree document.now ≡ tree_of style ss) }
+    ensures { IfOk result (λ layout. string_bytes layout ≡ laid style (P.tree document.now)) }
 {
-    let document = built(arena, alloc, text, style)?;
     let mut layout = String::new(alloc);
     let doc = document.doc();
     match doc.render_fmt(alloc, style.width, &mut layout) {
@@ -52,6 +51,19 @@ fn laid<'a>(
         Err(RenderError::Document(_)) => unreachable!(),
     }
     Ok(layout)
+}
+
+/// The layout of a text in this style, and a line feed, or memory was refused.
+fn laid<'a>(
+    arena: &'a Arena<'a>,
+    alloc: Global,
+    text: &'a str,
+    style: Style,
+) -> Result<String, AllocError>
+    ensures { IfOk result (λ layout. string_bytes layout ≡ layout_of style text.now) }
+{
+    let document = built(arena, alloc, text, style)?;
+    rendered(&document, alloc, style)
 }
 
 /// The same, with the document in an arena of its own.

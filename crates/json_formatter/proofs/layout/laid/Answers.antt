@@ -1,18 +1,12 @@
-use Rattle.std.proofs.Common.{refl}
+use Rattle.std.proofs.Common.{◌∙◌, ap, refl}
 use Rattle.json_lexemes.specs.Lexemes.{lexemes}
-use Rattle.prettyless.specs.Trees.{ref_tree}
-use Rattle.json_formatter.proofs.Layouts.{never_fails}
+use Rattle.json_formatter.specs.Documents.{laid}
+use Rattle.json_formatter.proofs.ReadOn.{if_ok}
 use Rattle.json_formatter.proofs.layout.laid.Goals as goal
 
--- what was appended to nothing is the whole layout, and the line feed follows
-pub returns : goal.returns
-unfolding lib.Utf8.encode
-returns c =
-    let whole = rw (c.doc-doc.ensures, c.new-layout.ensures.bytes) at c.in-Ok.ensures.bytes in
-    rw (c.in_ok-push-in-Ok.ensures.bytes, whole.2, ← c.in_ok-document.ensures, whole.1) refl
+-- the document is that of the text's lexemes
+pub rendered-requires : goal.rendered-requires
+rendered-requires c = λ k. ((refl, tt), (lexemes c.args.text.now, c.in_ok-document.ensures))
 
-pub unreachable-requires : goal.unreachable-requires
-unreachable-requires c =
-    let failed = c.in-Err-Document in
-    let cut = rw (failed.field-0-is, c.doc-doc.ensures) at failed.ensures.bytes in
-    never_fails c.args.style (lexemes c.args.text.now) (ref_tree c.in_ok-document.document) cut.0 c.in_ok-document.ensures cut.1
+pub returns : goal.returns
+returns c = if_ok c.rendered.result (λ layout e. e ∙ ap (laid c.args.style) c.in_ok-document.ensures) c.rendered.ensures
