@@ -1,16 +1,17 @@
 //! The chapters of the guide, in boxes.
-use crate::{alternatives, indents, line_ends, lines, lists, own, rendering};
+use crate::{alternatives, errors, indents, line_ends, lines, lists, own, rendering};
 use prettyless::{BoxAllocator, DocPlace};
 use std::process::Abort;
 use std::test::Fail;
 
 fn chapters<'a, D: DocPlace<'a>>(rt: &impl Abort, place: &'a D) -> Result<(), Fail> {
-    lines::all(rt, place)?;
-    indents::all(rt, place)?;
-    lists::all(rt, place)?;
-    own::own_types_become_documents(rt, place)?;
-    line_ends::all(rt, place)?;
-    alternatives::all(rt, place)?;
+    errors::all(rt, place);
+    lines::all(rt, place);
+    indents::all(rt, place);
+    lists::all(rt, place);
+    own::own_types_become_documents(rt, place);
+    line_ends::all(rt, place);
+    alternatives::all(rt, place);
     rendering::all(rt, place)
 }
 

@@ -1,11 +1,23 @@
 //! A function that builds a document and renders it, with one error for both.
+use crate::parts::pair;
 use prettyless::prelude::*;
 use prettyless::text::BuildError;
-use prettyless::{BoxAllocator, DocPtr, PrettyError, RenderError};
+use prettyless::{DocPtr, PrettyError, RenderError};
 use std::fmt;
-use std::test::Fail;
+use std::process::Abort;
 
-fn show<'a, D: DocPlace<'a>, V: fmt::Display + Drop>(
+// The first document of the guide.
+fn show<'a, D: DocPlace<'a>>(
+    place: &'a D,
+    width: usize,
+    out: &mut String,
+) -> Result<(), PrettyError<fmt::Error>> {
+    let pair = pair(place, "a", "b")?.group()?.into_doc()?;
+    pair.doc().render_fmt(place.memory(), width, out)?;
+    Ok(())
+}
+
+fn show_a_value<'a, D: DocPlace<'a>, V: fmt::Display + Drop>(
     place: &'a D,
     value: V,
     out: &mut String,
@@ -34,23 +46,24 @@ impl fmt::Display for Failing {
     }
 }
 
-#[test]
-fn builds_and_renders(rt: HostRuntime) -> Result<(), Fail> {
-    let boxes = BoxAllocator::new(rt.alloc());
-    let mut text = String::new(rt.alloc());
-    assert!(rt; show(&boxes, 12, &mut text).is_ok());
-    assert_eq!(rt; text.as_str(), "12");
-    Ok(())
+fn builds_and_renders<'a, D: DocPlace<'a>>(rt: &impl Abort, place: &'a D) {
+    for (width, layout) in [(80, "a b"), (2, "a\nb")] {
+        let mut text = String::new(place.memory());
+        assert!(rt; show(place, width, &mut text).is_ok());
+        assert!(rt; text.as_str() == layout);
+    }
 }
 
-#[test]
-fn passes_on_either_error(rt: HostRuntime) -> Result<(), Fail> {
-    let boxes = BoxAllocator::new(rt.alloc());
-    let mut text = String::new(rt.alloc());
-    let built = show(&boxes, Failing, &mut text);
+fn passes_on_either_error<'a, D: DocPlace<'a>>(rt: &impl Abort, place: &'a D) {
+    let mut text = String::new(place.memory());
+    let built = show_a_value(place, Failing, &mut text);
     assert!(rt; matches!(built, Err(PrettyError::Build(BuildError::Display))));
-    let rendered = show_a_failure(&boxes, &mut text);
+    let rendered = show_a_failure(place, &mut text);
     assert!(rt; matches!(rendered, Err(PrettyError::Render(RenderError::Document(_)))));
-    assert_eq!(rt; text.as_str(), "");
-    Ok(())
+    assert!(rt; text.as_str() == "");
+}
+
+pub(crate) fn all<'a, D: DocPlace<'a>>(rt: &impl Abort, place: &'a D) {
+    builds_and_renders(rt, place);
+    passes_on_either_error(rt, place);
 }

@@ -8,10 +8,7 @@ mod chapters;
 #[cfg(test)]
 mod errors;
 #[cfg(test)]
-mod first;
-#[cfg(test)]
 mod indents;
-pub mod laws;
 #[cfg(test)]
 mod layouts;
 #[cfg(test)]
@@ -23,7 +20,10 @@ mod lists;
 #[cfg(test)]
 mod own;
 #[cfg(test)]
-mod recursive;
+mod parts;
 #[cfg(test)]
 mod rendering;
-pub mod values;
+#[cfg(test)]
+mod terms;
+#[cfg(test)]
+mod values;

@@ -5,7 +5,6 @@ use crate::layouts::compare;
 use prettyless::prelude::*;
 use prettyless::text::BuildError;
 use std::process::Abort;
-use std::test::Fail;
 
 struct Point(u32, u32);
 
@@ -16,14 +15,18 @@ impl<'a, D: DocPlace<'a>> Pretty<'a, D> for Point {
 
     fn pretty(self, place: &'a D) -> Result<DocBuilder<'a, D>, BuildError> {
         let Point(x, y) = self;
-        let inside = (as_string(x), ",", line_or_space(), as_string(y));
-        group(nest(1, inside)).pretty(place)?.parens()
+        let end = place.line()?.join(place.as_string(y)?)?;
+        place
+            .as_string(x)?
+            .append(",")?
+            .join(end)?
+            .nest(1)?
+            .group()?
+            .parens()
     }
 }
 
-pub(crate) fn own_types_become_documents<'a, D: DocPlace<'a>>(
-    rt: &impl Abort,
-    place: &'a D,
-) -> Result<(), Fail> {
-    compare(rt, place, Point(1, 20), &[(7, "(1, 20)"), (6, "(1,\n 20)")])
+pub(crate) fn own_types_become_documents<'a, D: DocPlace<'a>>(rt: &impl Abort, place: &'a D) {
+    let point = place.pretty(Point(1, 20));
+    compare(rt, point, &[(7, "(1, 20)"), (6, "(1,\n 20)")]);
 }

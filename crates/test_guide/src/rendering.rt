@@ -1,17 +1,24 @@
 //! Options, documents that fail, what a document shows of itself, and what a render visits.
 use crate::layouts::compare_with;
+use crate::parts::pair;
 use prettyless::prelude::*;
+use prettyless::text::BuildError;
 use prettyless::{
     DocPtr, FmtWrite, IndentationPolicy, LineEnding, RenderError, RenderOptions, Visits,
 };
 use std::process::Abort;
 use std::test::Fail;
 
-fn options_choose_line_ends_and_indents<'a, D: DocPlace<'a>>(
-    rt: &impl Abort,
-    place: &'a D,
-) -> Result<(), Fail> {
-    let lines = nest(2, ("a", hard_line(), hard_line(), "b"));
+fn lines<'a, D: DocPlace<'a>>(place: &'a D) -> Result<DocBuilder<'a, D>, BuildError> {
+    place
+        .pretty("a")?
+        .append(hard_line())?
+        .append(hard_line())?
+        .append("b")?
+        .nest(2)
+}
+
+fn options_choose_line_ends_and_indents<'a, D: DocPlace<'a>>(rt: &impl Abort, place: &'a D) {
     let eager = RenderOptions::new(80);
     let deferred = eager.with_indentation_policy(IndentationPolicy::Deferred);
     let crlf = deferred.with_line_ending(LineEnding::Crlf);
@@ -23,35 +30,42 @@ fn options_choose_line_ends_and_indents<'a, D: DocPlace<'a>>(
         (deferred.with_width(0), "a\n\n  b"),
         (crlf.with_width(0), "a\r\n\r\n  b"),
     ];
-    compare_with(rt, place, lines, &layouts)
+    compare_with(rt, lines(place), &layouts);
+}
+
+fn failing<'a, D: DocPlace<'a>>(place: &'a D) -> Result<D::Doc, BuildError> {
+    place.pretty("a")?.append(fail())?.append("b")?.into_doc()
 }
 
 fn failures_stop_a_render<'a, D: DocPlace<'a>>(rt: &impl Abort, place: &'a D) -> Result<(), Fail> {
-    let failing = place.pretty(("a", fail(), "b"))?.into_doc()?;
+    let failing = failing(place)?;
     let mut out = String::new(place.memory());
     let result = failing.doc().render_fmt(place.memory(), 80, &mut out);
     assert!(rt; matches!(result, Err(RenderError::Document(_))));
-    assert_eq!(rt; out.as_str(), "a");
+    assert!(rt; out.as_str() == "a");
     Ok(())
+}
+
+fn nested<'a, D: DocPlace<'a>>(place: &'a D) -> Result<DocBuilder<'a, D>, BuildError> {
+    pair(place, "a", "b")?.nest(2)?.group()
 }
 
 fn documents_show_their_nodes<'a, D: DocPlace<'a>>(
     rt: &impl Abort,
     place: &'a D,
 ) -> Result<(), Fail> {
-    let pair = place.pretty(group(("a", nest(2, (line_or_space(), "b")))))?;
+    let pair = nested(place)?;
     let shown = format!(in place.memory(); "{pair:?}")?;
-    assert_eq!(rt;
-        shown.as_str(),
-        "Group([\"a\", Nest(2, [LineOrSpace, \"b\"])])"
-    );
+    assert!(rt; shown.as_str() == "Group(Nest(2, [\"a\", LineOrSpace, \"b\"]))");
     Ok(())
 }
 
+fn group_of_two<'a, D: DocPlace<'a>>(place: &'a D) -> Result<D::Doc, BuildError> {
+    pair(place, "first", "second")?.group()?.into_doc()
+}
+
 fn visits_at<'a, D: DocPlace<'a>>(place: &'a D, width: usize) -> Result<Visits, Fail> {
-    let pair = place
-        .pretty(group(("first", line_or_space(), "second")))?
-        .into_doc()?;
+    let pair = group_of_two(place)?;
     let mut out = String::new(place.memory());
     let mut visits = Visits::default();
     pair.doc().render_raw_counted_with(
@@ -66,14 +80,13 @@ fn visits_at<'a, D: DocPlace<'a>>(place: &'a D, width: usize) -> Result<Visits, 
 fn visits_are_counted<'a, D: DocPlace<'a>>(rt: &impl Abort, place: &'a D) -> Result<(), Fail> {
     for (width, probes) in [(80, 6), (11, 6), (4, 3)] {
         let visits = visits_at(place, width)?;
-        assert_eq!(rt; visits.printer, 7);
-        assert_eq!(rt; visits.probes, probes);
+        assert!(rt; visits.printer == 7 && visits.probes == probes);
     }
     Ok(())
 }
 
 pub(crate) fn all<'a, D: DocPlace<'a>>(rt: &impl Abort, place: &'a D) -> Result<(), Fail> {
-    options_choose_line_ends_and_indents(rt, place)?;
+    options_choose_line_ends_and_indents(rt, place);
     failures_stop_a_render(rt, place)?;
     documents_show_their_nodes(rt, place)?;
     visits_are_counted(rt, place)

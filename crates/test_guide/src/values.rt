@@ -1,49 +1,22 @@
-//! A small formatter: the document of a value that holds values is made by recursion.
-ghost use Rattle.std.specs.Prelude.{◌≡◌, IfOk, map};
-ghost use Rattle.std.specs.Fmt.{decimal};
-ghost use Rattle.prettyless.specs.Counted.{as_string};
-ghost use Rattle.prettyless.specs.Trees.{ref_tree};
-ghost use Rattle.test_guide.specs.Values.{document_of, list_of};
+//! The layouts of values of a type that contains itself.
+use crate::layouts::compare_doc;
+use guide_formatters::values::{Value, document};
+use prettyless::{Arena, Bump, DocPtr};
+use std::test::Fail;
 
-use prettyless::prelude::*;
-use prettyless::text::BuildError;
-use prettyless::{Arena, RefDoc};
-
-/// A number, or a list of values.
-#[derive(Drop)]
-pub enum Value {
-    Number(u32),
-    List(Vec<Value>),
-}
-
-/// A list of these documents: on one line where it fits, and else each of them on its own.
-fn list<'a, D: DocPlace<'a>>(place: &'a D, docs: Vec<D::Doc>) -> Result<D::Doc, BuildError>
-    ensures { IfOk result (λ p. D.Doc.tree p ≡ list_of (map D.Doc.tree docs.items)) }
-{
-    let comma: &'a str = ",";
-    let commas = place.punctuated(docs, place.pretty(comma)?)?;
-    place.bracketed("[", commas, "]", 2)?.into_doc()
-}
-
-/// A number.
-fn number<'a, D: DocPlace<'a>>(place: &'a D, number: u32) -> Result<D::Doc, BuildError>
-    ensures { IfOk result (λ p. D.Doc.tree p ≡ as_string (decimal number)) }
-{
-    place.as_string(number)?.into_doc()
-}
-
-/// The document of a value.
-pub fn document<'a>(arena: &'a Arena<'a>, value: &Value) -> Result<RefDoc<'a>, BuildError>
-    ensures { IfOk result (λ p. ref_tree p ≡ document_of value.now) }
-{
-    match value {
-        Value::Number(n) => Ok(number(arena, *n)?),
-        Value::List(values) => {
-            let mut docs = Vec::new(arena.memory());
-            for value in values {
-                docs.push(document(arena, value)?)?;
-            }
-            Ok(list(arena, docs)?)
-        }
-    }
+#[test]
+fn values_of_the_guide(rt: HostRuntime) -> Result<(), Fail> {
+    let alloc = rt.alloc();
+    let bump = Bump::new(alloc);
+    let arena = Arena::new(alloc, &bump);
+    let inner = Value::List(vec![in alloc; Value::Number(2), Value::Number(3)]?);
+    let value = Value::List(vec![in alloc; Value::Number(1), inner]?);
+    let document = document(&arena, &value)?;
+    let layouts = [
+        (11, "[1, [2, 3]]"),
+        (10, "[\n  1,\n  [2, 3]\n]"),
+        (7, "[\n  1,\n  [\n    2,\n    3\n  ]\n]"),
+    ];
+    compare_doc(&rt, alloc, document.doc(), &layouts);
+    Ok(())
 }

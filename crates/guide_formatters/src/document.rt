@@ -1,0 +1,67 @@
+//! The document of a term, by recursion.
+ghost use Rattle.std.specs.Fmt.{decimal};
+ghost use Rattle.std.specs.Prelude.{◌≡◌, IfOk};
+ghost use Rattle.prettyless.specs.Built.{append};
+ghost use Rattle.prettyless.specs.Counted.{as_string, text};
+ghost use Rattle.prettyless.specs.Trees.{ref_tree};
+ghost use Rattle.guide_formatters.specs.Documents.{document_of, operation_of};
+ghost use Rattle.guide_formatters.specs.Expression.{HasSmallNumbers};
+ghost use Rattle.guide_formatters.specs.Tokens.{minus};
+ghost use Rattle.guide_formatters.specs.View.{expression_of};
+
+use crate::term::Term;
+use prettyless::prelude::*;
+use prettyless::text::BuildError;
+use prettyless::{Arena, BuildDoc, RefDoc};
+
+/// A number.
+fn number<'a, D: DocPlace<'a>>(place: &'a D, number: u32) -> Result<D::Doc, BuildError>
+    ensures { IfOk result (λ p. D.Doc.tree p ≡ as_string (decimal number)) }
+{
+    place.as_string(number)?.into_doc()
+}
+
+/// An operand with a minus before it.
+fn negation<'a, D: DocPlace<'a>>(place: &'a D, operand: D::Doc) -> Result<D::Doc, BuildError>
+    ensures { IfOk result (λ p. D.Doc.tree p ≡ append (text minus) (D.Doc.tree operand)) }
+{
+    let sign: &'a str = "-";
+    let operand = DocBuilder(place, BuildDoc::DocPtr(operand));
+    place.pretty(sign)?.join(operand)?.into_doc()
+}
+
+/// Two operands in parentheses: on one line where they fit, and else broken after the operator.
+fn operation<'a, D: DocPlace<'a>>(
+    place: &'a D,
+    left: D::Doc,
+    operator: &'a str,
+    right: D::Doc,
+) -> Result<D::Doc, BuildError>
+    ensures { IfOk result (λ p. D.Doc.tree p
+        ≡ operation_of (D.Doc.tree left) operator.now (D.Doc.tree right)) }
+{
+    let right = DocBuilder(place, BuildDoc::DocPtr(right));
+    let right = place.line()?.join(right)?.nest(2)?;
+    let left = DocBuilder(place, BuildDoc::DocPtr(left)).join(place.space()?)?;
+    let both = left.join(place.pretty(operator)?)?.join(right)?;
+    both.parens()?.group()?.into_doc()
+}
+
+/// The document of a term, with its nodes in this arena, or an error.
+pub fn document<'a>(arena: &'a Arena<'a>, term: &Term) -> Result<RefDoc<'a>, BuildError>
+    ensures tree { IfOk result (λ p. ref_tree p ≡ document_of (expression_of term.now)) }
+    ensures numbers { IfOk result (λ _. HasSmallNumbers (expression_of term.now)) }
+{
+    match term {
+        Term::Number(n) => Ok(number(arena, *n)?),
+        Term::Negate(operand) => negation(arena, document(arena, operand)?),
+        Term::Sum(left, right) => {
+            let left = document(arena, left)?;
+            operation(arena, left, "+", document(arena, right)?)
+        }
+        Term::Product(left, right) => {
+            let left = document(arena, left)?;
+            operation(arena, left, "*", document(arena, right)?)
+        }
+    }
+}

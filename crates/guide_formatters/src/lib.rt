@@ -1,0 +1,8 @@
+//! The formatters of the guide: lists of numbers, and terms whose layouts read back.
+#![tactic(auto)]
+
+pub mod document;
+pub mod laws;
+pub mod term;
+pub mod values;
+pub mod write;

@@ -1,0 +1,40 @@
+//! The layout of a term, which reads back as the term.
+ghost use Rattle.std.specs.String.{string_bytes};
+ghost use Rattle.guide_formatters.specs.View.{expression_of};
+ghost use Rattle.guide_formatters.specs.Written.{Writes};
+
+use crate::document::document;
+use crate::term::Term;
+use prettyless::{Arena, Bump, DocPlace, DocPtr, PrettyError};
+use std::alloc::Global;
+use std::fmt;
+
+/// Appends the layout of a term at this width, with the nodes of its document in this arena.
+fn write_in<'a>(
+    arena: &'a Arena<'a>,
+    width: usize,
+    term: &Term,
+    out: &mut String,
+) -> Result<(), PrettyError<fmt::Error>>
+    ensures { Writes width (expression_of term.now) (string_bytes out.old) (string_bytes out.new) result }
+{
+    let document = document(arena, term)?;
+    document.doc().render_fmt(arena.memory(), width, out)?;
+    Ok(())
+}
+
+/// Appends the layout of a term at this width, in columns. It reads back as the term.
+///
+/// Where the document was not built, nothing was appended. Where its render stopped, a beginning of the layout was.
+pub fn write_term(
+    alloc: Global,
+    width: usize,
+    term: &Term,
+    out: &mut String,
+) -> Result<(), PrettyError<fmt::Error>>
+    ensures { Writes width (expression_of term.now) (string_bytes out.old) (string_bytes out.new) result }
+{
+    let bump = Bump::new(alloc);
+    let arena = Arena::new(alloc, &bump);
+    write_in(&arena, width, term, out)
+}

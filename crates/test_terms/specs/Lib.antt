@@ -1,7 +1,0 @@
-pub mod Documents
-pub mod Expression
-pub mod Lexer
-pub mod Reader
-pub mod Tokens
-pub mod View
-pub mod Written
