@@ -1,55 +1,68 @@
 //! Where lines begin.
 use crate::layouts::compare;
-use crate::parts::{block, pair, then};
+use crate::parts::{Built, grouped, joined, nested, pair, text, then, with};
 use prettyless::prelude::*;
-use prettyless::text::{BuildError, CowStr};
+use prettyless::text::CowStr;
 use std::process::Abort;
 
-fn nested<'a, D: DocPlace<'a>>(place: &'a D) -> Result<DocBuilder<'a, D>, BuildError> {
-    let body = pair(place, "begin", "body")?.nest(2)?;
-    then(body, "end")?.group()
+fn indented<'a, D: DocPlace<'a>>(document: Built<'a, D>) -> Built<'a, D> {
+    document?.indent(4)
 }
 
-fn dedented<'a, D: DocPlace<'a>>(place: &'a D) -> Result<DocBuilder<'a, D>, BuildError> {
-    let label = place.line()?.append("b:")?.dedent(2)?;
-    block(place, label)?.group()
+fn dedented<'a, D: DocPlace<'a>>(document: Built<'a, D>) -> Built<'a, D> {
+    document?.dedent(2)
 }
 
-fn break_outside<'a, D: DocPlace<'a>>(place: &'a D) -> Result<DocBuilder<'a, D>, BuildError> {
-    place.pretty("a")?.append(hard_line())?.append(nest(2, "b"))
+fn aligned<'a, D: DocPlace<'a>>(document: Built<'a, D>) -> Built<'a, D> {
+    document?.align()
 }
 
-fn aligned<'a, D: DocPlace<'a>>(place: &'a D) -> Result<DocBuilder<'a, D>, BuildError> {
-    let sum = pair(place, "one", "+ two")?.group()?.align()?;
-    place.pretty("sum = ")?.join(sum)
+fn at_the_root<'a, D: DocPlace<'a>>(document: Built<'a, D>) -> Built<'a, D> {
+    document?.dedent_to_root()
 }
 
-fn at_the_root<'a, D: DocPlace<'a>>(place: &'a D) -> Result<DocBuilder<'a, D>, BuildError> {
-    let directive = place.hard_line()?.append("#if")?.dedent_to_root()?;
-    block(place, directive)
-}
-
-fn payload<'a, D: DocPlace<'a>>(place: &'a D) -> Result<DocBuilder<'a, D>, BuildError> {
-    let text = place.multiline_text(CowStr::Borrowed("'one\ntwo'"))?;
-    let value = place.line()?.join(text)?.nest(2)?;
-    place.pretty("s =")?.join(value)?.group()
+// Statements in a block, with this document among them.
+fn block<'a, D: DocPlace<'a>>(place: &'a D, between: Built<'a, D>) -> Built<'a, D> {
+    indented(then(joined(pair(place, "{", "a;"), between), "c;"))
 }
 
 fn moved<'a, D: DocPlace<'a>>(rt: &impl Abort, place: &'a D) {
-    let begin = [(14, "begin body end"), (13, "begin\n  body\nend")];
-    compare(rt, nested(place), &begin);
-    let label = [(10, "{ a; b: c;"), (9, "{\n    a;\n  b:\n    c;")];
-    compare(rt, dedented(place), &label);
-    compare(rt, break_outside(place), &[(80, "a\nb"), (0, "a\nb")]);
+    let begin = grouped(then(nested(pair(place, "begin", "body"), 2), "end"));
+    compare(
+        rt,
+        begin,
+        &[(14, "begin body end"), (13, "begin\n  body\nend")],
+    );
+    let label = grouped(block(place, dedented(with(place.line(), "b:"))));
+    compare(
+        rt,
+        label,
+        &[(10, "{ a; b: c;"), (9, "{\n    a;\n  b:\n    c;")],
+    );
+    let a = joined(text(place, "a"), place.hard_line());
+    let outside = joined(a, nested(text(place, "b"), 2));
+    compare(rt, outside, &[(80, "a\nb"), (0, "a\nb")]);
 }
 
 fn placed<'a, D: DocPlace<'a>>(rt: &impl Abort, place: &'a D) {
-    let sum = [(15, "sum = one + two"), (14, "sum = one\n      + two")];
-    compare(rt, aligned(place), &sum);
-    let directive = "{\n    a;\n#if\n    c;";
-    compare(rt, at_the_root(place), &[(80, directive), (0, directive)]);
-    let text = "s =\n  'one\ntwo'";
-    compare(rt, payload(place), &[(80, text), (0, text)]);
+    let sum = aligned(grouped(pair(place, "one", "+ two")));
+    let sum = joined(text(place, "sum = "), sum);
+    compare(
+        rt,
+        sum,
+        &[(15, "sum = one + two"), (14, "sum = one\n      + two")],
+    );
+    let directive = at_the_root(with(place.hard_line(), "#if"));
+    let layout = "{\n    a;\n#if\n    c;";
+    compare(rt, block(place, directive), &[(80, layout), (0, layout)]);
+    let payload = place.multiline_text(CowStr::Borrowed("'one\ntwo'"));
+    let value = nested(joined(place.line(), payload), 2);
+    let layout = "s =\n  'one\ntwo'";
+    compare(
+        rt,
+        grouped(joined(text(place, "s ="), value)),
+        &[(80, layout), (0, layout)],
+    );
 }
 
 pub(crate) fn all<'a, D: DocPlace<'a>>(rt: &impl Abort, place: &'a D) {

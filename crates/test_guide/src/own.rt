@@ -2,6 +2,7 @@
 ghost use Rattle.std.specs.Prelude.{⊤};
 
 use crate::layouts::compare;
+use crate::parts::{grouped, in_parentheses, joined, nested, with};
 use prettyless::prelude::*;
 use prettyless::text::BuildError;
 use std::process::Abort;
@@ -15,14 +16,9 @@ impl<'a, D: DocPlace<'a>> Pretty<'a, D> for Point {
 
     fn pretty(self, place: &'a D) -> Result<DocBuilder<'a, D>, BuildError> {
         let Point(x, y) = self;
-        let end = place.line()?.join(place.as_string(y)?)?;
-        place
-            .as_string(x)?
-            .append(",")?
-            .join(end)?
-            .nest(1)?
-            .group()?
-            .parens()
+        let end = joined(place.line(), place.as_string(y));
+        let inside = joined(with(place.as_string(x), ","), end);
+        in_parentheses(grouped(nested(inside, 1)))
     }
 }
 

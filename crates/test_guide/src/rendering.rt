@@ -1,22 +1,12 @@
 //! Options, documents that fail, what a document shows of itself, and what a render visits.
 use crate::layouts::compare_with;
-use crate::parts::pair;
+use crate::parts::{grouped, joined, nested, pair, pointer_to, text, with};
 use prettyless::prelude::*;
-use prettyless::text::BuildError;
 use prettyless::{
     DocPtr, FmtWrite, IndentationPolicy, LineEnding, RenderError, RenderOptions, Visits,
 };
 use std::process::Abort;
 use std::test::Fail;
-
-fn lines<'a, D: DocPlace<'a>>(place: &'a D) -> Result<DocBuilder<'a, D>, BuildError> {
-    place
-        .pretty("a")?
-        .append(hard_line())?
-        .append(hard_line())?
-        .append("b")?
-        .nest(2)
-}
 
 fn options_choose_line_ends_and_indents<'a, D: DocPlace<'a>>(rt: &impl Abort, place: &'a D) {
     let eager = RenderOptions::new(80);
@@ -30,15 +20,13 @@ fn options_choose_line_ends_and_indents<'a, D: DocPlace<'a>>(rt: &impl Abort, pl
         (deferred.with_width(0), "a\n\n  b"),
         (crlf.with_width(0), "a\r\n\r\n  b"),
     ];
-    compare_with(rt, lines(place), &layouts);
-}
-
-fn failing<'a, D: DocPlace<'a>>(place: &'a D) -> Result<D::Doc, BuildError> {
-    place.pretty("a")?.append(fail())?.append("b")?.into_doc()
+    let first = joined(text(place, "a"), place.hard_line());
+    let lines = with(joined(first, place.hard_line()), "b");
+    compare_with(rt, nested(lines, 2), &layouts);
 }
 
 fn failures_stop_a_render<'a, D: DocPlace<'a>>(rt: &impl Abort, place: &'a D) -> Result<(), Fail> {
-    let failing = failing(place)?;
+    let failing = pointer_to(with(joined(text(place, "a"), place.fail()), "b"))?;
     let mut out = String::new(place.memory());
     let result = failing.doc().render_fmt(place.memory(), 80, &mut out);
     assert!(rt; matches!(result, Err(RenderError::Document(_))));
@@ -46,26 +34,18 @@ fn failures_stop_a_render<'a, D: DocPlace<'a>>(rt: &impl Abort, place: &'a D) ->
     Ok(())
 }
 
-fn nested<'a, D: DocPlace<'a>>(place: &'a D) -> Result<DocBuilder<'a, D>, BuildError> {
-    pair(place, "a", "b")?.nest(2)?.group()
-}
-
 fn documents_show_their_nodes<'a, D: DocPlace<'a>>(
     rt: &impl Abort,
     place: &'a D,
 ) -> Result<(), Fail> {
-    let pair = nested(place)?;
+    let pair = grouped(nested(pair(place, "a", "b"), 2))?;
     let shown = format!(in place.memory(); "{pair:?}")?;
     assert!(rt; shown.as_str() == "Group(Nest(2, [\"a\", LineOrSpace, \"b\"]))");
     Ok(())
 }
 
-fn group_of_two<'a, D: DocPlace<'a>>(place: &'a D) -> Result<D::Doc, BuildError> {
-    pair(place, "first", "second")?.group()?.into_doc()
-}
-
 fn visits_at<'a, D: DocPlace<'a>>(place: &'a D, width: usize) -> Result<Visits, Fail> {
-    let pair = group_of_two(place)?;
+    let pair = pointer_to(grouped(pair(place, "first", "second")))?;
     let mut out = String::new(place.memory());
     let mut visits = Visits::default();
     pair.doc().render_raw_counted_with(
