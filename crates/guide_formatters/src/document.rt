@@ -1,8 +1,10 @@
 //! The document of a term, by recursion.
 ghost use Rattle.std.specs.Fmt.{decimal};
-ghost use Rattle.std.specs.Prelude.{◌≡◌, IfOk};
-ghost use Rattle.prettyless.specs.Built.{append};
+ghost use Rattle.std.specs.Prelude.{◌≡◌, IfOk, pos};
+ghost use Rattle.prettyless.specs.Built as to;
 ghost use Rattle.prettyless.specs.Counted.{as_string, text};
+ghost use Rattle.prettyless.specs.DocTree.{built};
+ghost use Rattle.prettyless.specs.Lines as of;
 ghost use Rattle.prettyless.specs.Trees.{ref_tree};
 ghost use Rattle.guide_formatters.specs.Documents.{document_of, operation_of};
 ghost use Rattle.guide_formatters.specs.Expression.{HasSmallNumbers};
@@ -23,11 +25,31 @@ fn number<'a, D: DocPlace<'a>>(place: &'a D, number: u32) -> Result<D::Doc, Buil
 
 /// An operand with a minus before it.
 fn negation<'a, D: DocPlace<'a>>(place: &'a D, operand: D::Doc) -> Result<D::Doc, BuildError>
-    ensures { IfOk result (λ p. D.Doc.tree p ≡ append (text minus) (D.Doc.tree operand)) }
+    ensures { IfOk result (λ p. D.Doc.tree p ≡ to.append (text minus) (D.Doc.tree operand)) }
 {
     let sign: &'a str = "-";
     let operand = DocBuilder(place, BuildDoc::DocPtr(operand));
     place.pretty(sign)?.join(operand)?.into_doc()
+}
+
+/// A document on the next line, nested by 2.
+fn below<'a, D: DocPlace<'a>>(
+    place: &'a D,
+    document: D::Doc,
+) -> Result<DocBuilder<'a, D>, BuildError>
+    ensures { IfOk result (λ b. built D.Doc.tree b.1
+        ≡ to.nest (pos 2) (to.append of.line (D.Doc.tree document))) }
+{
+    let document = DocBuilder(place, BuildDoc::DocPtr(document));
+    place.line()?.join(document)?.nest(2)
+}
+
+/// A group of a document in parentheses.
+fn in_parentheses<'a, D: DocPlace<'a>>(document: DocBuilder<'a, D>) -> Result<D::Doc, BuildError>
+    ensures { IfOk result (λ p. D.Doc.tree p
+        ≡ to.group (to.between 40 41 (built D.Doc.tree document.entry.1))) }
+{
+    document.parens()?.group()?.into_doc()
 }
 
 /// Two operands in parentheses: on one line where they fit, and else broken after the operator.
@@ -40,11 +62,9 @@ fn operation<'a, D: DocPlace<'a>>(
     ensures { IfOk result (λ p. D.Doc.tree p
         ≡ operation_of (D.Doc.tree left) operator.now (D.Doc.tree right)) }
 {
-    let right = DocBuilder(place, BuildDoc::DocPtr(right));
-    let right = place.line()?.join(right)?.nest(2)?;
     let left = DocBuilder(place, BuildDoc::DocPtr(left)).join(place.space()?)?;
-    let both = left.join(place.pretty(operator)?)?.join(right)?;
-    both.parens()?.group()?.into_doc()
+    let start = left.join(place.pretty(operator)?)?;
+    in_parentheses(start.join(below(place, right)?)?)
 }
 
 /// The document of a term, with its nodes in this arena, or an error.

@@ -1,5 +1,5 @@
 //! A function that builds a document and renders it, with one error for both.
-use crate::parts::{Built, grouped, pair};
+use crate::parts::{Built, grouped, joined, pair, text, with};
 use prettyless::prelude::*;
 use prettyless::text::BuildError;
 use prettyless::{DocPtr, PrettyError, RenderError};
@@ -17,6 +17,11 @@ fn show<'a, D: DocPlace<'a>>(
     Ok(())
 }
 
+// A document that fails.
+fn failing_document<'a, D: DocPlace<'a>>(place: &'a D) -> Built<'a, D> {
+    with(joined(text(place, "a"), place.fail()), "b")
+}
+
 // A value whose formatting fails.
 #[derive(Drop)]
 struct Failing;
@@ -29,20 +34,20 @@ impl fmt::Display for Failing {
 
 fn builds_and_renders<'a, D: DocPlace<'a>>(rt: &impl Abort, place: &'a D) {
     for (width, layout) in [(80, "a b"), (2, "a\nb")] {
-        let mut text = String::new(place.memory());
+        let mut out = String::new(place.memory());
         let pair = grouped(pair(place, "a", "b"));
-        assert!(rt; show(place, pair, width, &mut text).is_ok());
-        assert!(rt; text.as_str() == layout);
+        assert!(rt; show(place, pair, width, &mut out).is_ok());
+        assert!(rt; out.as_str() == layout);
     }
 }
 
 fn passes_on_either_error<'a, D: DocPlace<'a>>(rt: &impl Abort, place: &'a D) {
-    let mut text = String::new(place.memory());
-    let built = show(place, place.as_string(Failing), 80, &mut text);
+    let mut out = String::new(place.memory());
+    let built = show(place, place.as_string(Failing), 80, &mut out);
     assert!(rt; matches!(built, Err(PrettyError::Build(BuildError::Display))));
-    let rendered = show(place, place.fail(), 80, &mut text);
+    let rendered = show(place, failing_document(place), 80, &mut out);
     assert!(rt; matches!(rendered, Err(PrettyError::Render(RenderError::Document(_)))));
-    assert!(rt; text.as_str() == "");
+    assert!(rt; out.as_str() == "a");
 }
 
 pub(crate) fn all<'a, D: DocPlace<'a>>(rt: &impl Abort, place: &'a D) {

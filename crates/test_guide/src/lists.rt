@@ -1,72 +1,109 @@
 //! Documents of several others.
 use crate::layouts::compare;
-use crate::parts::{
-    Built, call, grouped, if_broken, in_parentheses, joined, lined, pair, text, with,
-};
+use crate::parts::{Built, call, grouped, if_broken, joined, lined, pair, text, with};
 use prettyless::prelude::*;
 use std::process::Abort;
 
-fn quoted<'a, D: DocPlace<'a>>(document: Built<'a, D>) -> Built<'a, D> {
-    document?.double_quotes()
+fn in_parentheses<'a, D: DocPlace<'a>>(place: &'a D) -> Built<'a, D> {
+    grouped(pair(place, "a", "b"))?.parens()
 }
 
-fn enclosed<'a, D: DocPlace<'a>>(document: Built<'a, D>) -> Built<'a, D> {
-    document?.enclose("f(", ")")
+fn appended<'a, D: DocPlace<'a>>(place: &'a D) -> Built<'a, D> {
+    grouped(joined(lined(text(place, "a,")), text(place, "b;")))
+}
+
+fn quoted<'a, D: DocPlace<'a>>(place: &'a D) -> Built<'a, D> {
+    text(place, "x")?.double_quotes()
+}
+
+fn enclosed<'a, D: DocPlace<'a>>(place: &'a D) -> Built<'a, D> {
+    quoted(place)?.enclose("f(", ")")
+}
+
+fn filled<'a, D: DocPlace<'a>>(place: &'a D) -> Built<'a, D> {
+    let two = with(joined(text(place, "aa"), place.softline()), "bb");
+    with(joined(two, place.softline()), "cc")
+}
+
+fn words<'a, D: DocPlace<'a>>(place: &'a D) -> Built<'a, D> {
+    place.reflow("aa bb cc")
+}
+
+fn copies<'a, D: DocPlace<'a>>(place: &'a D) -> Built<'a, D> {
+    joined(text(place, "="), place.softline_())?.repeat(3)
+}
+
+fn items<'a, D: DocPlace<'a>>(place: &'a D) -> Built<'a, D> {
+    place.pretty(concat(["a", "b", "c"]))
+}
+
+fn separated<'a, D: DocPlace<'a>>(place: &'a D) -> Built<'a, D> {
+    grouped(place.pretty(intersperse(line_or_space(), ["1", "2", "3"])))
+}
+
+fn with_comma<'a, D: DocPlace<'a>>(place: &'a D) -> Built<'a, D> {
+    pair(place, "a,", "b")?.append(flat_alt(",", nil()))
+}
+
+fn ends_in_a_comma<'a, D: DocPlace<'a>>(place: &'a D) -> Built<'a, D> {
+    call(place, with_comma(place))
+}
+
+// A pair in a group, and after it what is only in flat lines, and only in broken ones.
+fn ended<'a, D: DocPlace<'a>>(
+    place: &'a D,
+    flat: Built<'a, D>,
+    broken: Built<'a, D>,
+) -> Built<'a, D> {
+    grouped(joined(joined(pair(place, "a", "b"), flat), broken))
+}
+
+fn ends_of_a_place<'a, D: DocPlace<'a>>(place: &'a D) -> Built<'a, D> {
+    ended(place, place.if_group_flat(";"), place.if_group_break(","))
 }
 
 fn if_flat<'a, D: DocPlace<'a>>(document: Built<'a, D>) -> Built<'a, D> {
     document?.when_group_flat()
 }
 
-// A document, and a comma after it where its group is broken.
-fn with_comma<'a, D: DocPlace<'a>>(document: Built<'a, D>) -> Built<'a, D> {
-    document?.append(flat_alt(",", nil()))
+fn ends_of_builders<'a, D: DocPlace<'a>>(place: &'a D) -> Built<'a, D> {
+    ended(
+        place,
+        if_flat(text(place, ";")),
+        if_broken(text(place, ",")),
+    )
 }
 
-fn together<'a, D: DocPlace<'a>>(rt: &impl Abort, place: &'a D) {
-    let pair = in_parentheses(grouped(pair(place, "a", "b")));
-    compare(rt, pair, &[(5, "(a b)"), (4, "(a\nb)")]);
-    let pair = joined(lined(text(place, "a,")), text(place, "b;"));
-    compare(rt, grouped(pair), &[(5, "a, b;"), (4, "a,\nb;")]);
-    let call = enclosed(quoted(text(place, "x")));
-    compare(rt, call, &[(80, "f(\"x\")"), (0, "f(\"x\")")]);
+fn compare_appended<'a, D: DocPlace<'a>>(rt: &impl Abort, place: &'a D) {
+    compare(rt, in_parentheses(place), &[(5, "(a b)"), (4, "(a\nb)")]);
+    compare(rt, appended(place), &[(5, "a, b;"), (4, "a,\nb;")]);
+    compare(rt, enclosed(place), &[(80, "f(\"x\")"), (0, "f(\"x\")")]);
 }
 
-fn filling<'a, D: DocPlace<'a>>(rt: &impl Abort, place: &'a D) {
-    let words = with(joined(text(place, "aa"), place.softline()), "bb");
-    let words = with(joined(words, place.softline()), "cc");
-    compare(rt, words, &[(7, "aa bb\ncc"), (4, "aa\nbb\ncc")]);
-    let words = place.reflow("aa bb cc");
-    compare(rt, words, &[(7, "aa bb\ncc"), (4, "aa\nbb\ncc")]);
+fn compare_filled<'a, D: DocPlace<'a>>(rt: &impl Abort, place: &'a D) {
+    compare(rt, filled(place), &[(7, "aa bb\ncc"), (4, "aa\nbb\ncc")]);
+    compare(rt, words(place), &[(7, "aa bb\ncc"), (4, "aa\nbb\ncc")]);
+    compare(rt, copies(place), &[(3, "==="), (2, "==\n=")]);
 }
 
-fn copies<'a, D: DocPlace<'a>>(rt: &impl Abort, place: &'a D) {
-    let rule = place.pretty(repeat(3, ("=", soft_line_or_nil())));
-    compare(rt, rule, &[(3, "==="), (2, "==\n=")]);
+fn compare_items<'a, D: DocPlace<'a>>(rt: &impl Abort, place: &'a D) {
+    compare(rt, items(place), &[(80, "abc"), (0, "abc")]);
+    compare(rt, separated(place), &[(5, "1 2 3"), (4, "1\n2\n3")]);
+    compare(
+        rt,
+        ends_in_a_comma(place),
+        &[(7, "f(a, b)"), (6, "f(\na,\nb,\n)")],
+    );
 }
 
-fn items<'a, D: DocPlace<'a>>(rt: &impl Abort, place: &'a D) {
-    let items = place.pretty(concat(["a", "b", "c"]));
-    compare(rt, items, &[(80, "abc"), (0, "abc")]);
-    let items = place.pretty(intersperse(line_or_space(), ["1", "2", "3"]));
-    compare(rt, grouped(items), &[(5, "1 2 3"), (4, "1\n2\n3")]);
-}
-
-fn ends<'a, D: DocPlace<'a>>(rt: &impl Abort, place: &'a D) {
-    let call = call(place, with_comma(pair(place, "a,", "b")));
-    compare(rt, call, &[(7, "f(a, b)"), (6, "f(\na,\nb,\n)")]);
-    let flat = joined(pair(place, "a", "b"), place.if_group_flat(";"));
-    let ended = grouped(joined(flat, place.if_group_break(",")));
-    compare(rt, ended, &[(4, "a b;"), (3, "a\nb,")]);
-    let flat = joined(pair(place, "a", "b"), if_flat(text(place, ";")));
-    let ended = grouped(joined(flat, if_broken(text(place, ","))));
-    compare(rt, ended, &[(4, "a b;"), (3, "a\nb,")]);
+fn compare_ends<'a, D: DocPlace<'a>>(rt: &impl Abort, place: &'a D) {
+    compare(rt, ends_of_a_place(place), &[(4, "a b;"), (3, "a\nb,")]);
+    compare(rt, ends_of_builders(place), &[(4, "a b;"), (3, "a\nb,")]);
 }
 
 pub(crate) fn all<'a, D: DocPlace<'a>>(rt: &impl Abort, place: &'a D) {
-    together(rt, place);
-    filling(rt, place);
-    copies(rt, place);
-    items(rt, place);
-    ends(rt, place);
+    compare_appended(rt, place);
+    compare_filled(rt, place);
+    compare_items(rt, place);
+    compare_ends(rt, place);
 }

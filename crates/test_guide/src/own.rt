@@ -2,7 +2,7 @@
 ghost use Rattle.std.specs.Prelude.{⊤};
 
 use crate::layouts::compare;
-use crate::parts::{grouped, in_parentheses, joined, nested, with};
+use crate::parts::{joined, with};
 use prettyless::prelude::*;
 use prettyless::text::BuildError;
 use std::process::Abort;
@@ -16,13 +16,11 @@ impl<'a, D: DocPlace<'a>> Pretty<'a, D> for Point {
 
     fn pretty(self, place: &'a D) -> Result<DocBuilder<'a, D>, BuildError> {
         let Point(x, y) = self;
-        let end = joined(place.line(), place.as_string(y));
-        let inside = joined(with(place.as_string(x), ","), end);
-        in_parentheses(grouped(nested(inside, 1)))
+        joined(with(place.as_string(x), ", "), place.as_string(y))?.parens()
     }
 }
 
 pub(crate) fn own_types_become_documents<'a, D: DocPlace<'a>>(rt: &impl Abort, place: &'a D) {
     let point = place.pretty(Point(1, 20));
-    compare(rt, point, &[(7, "(1, 20)"), (6, "(1,\n 20)")]);
+    compare(rt, point, &[(80, "(1, 20)"), (0, "(1, 20)")]);
 }

@@ -1,9 +1,9 @@
 //! What the examples of the guide are made of: the calls of builders, each over the `Result` that an example has by then.
 //!
 //! A `?` on a builder takes the prover longer than a call, so each stands here once.
+use prettyless::docs;
 use prettyless::prelude::*;
 use prettyless::text::BuildError;
-use prettyless::{BuildDoc, docs};
 
 pub(crate) type Built<'a, D> = Result<DocBuilder<'a, D>, BuildError>;
 
@@ -52,10 +52,6 @@ pub(crate) fn nested<'a, D: DocPlace<'a>>(document: Built<'a, D>, offset: isize)
     document?.nest(offset)
 }
 
-pub(crate) fn in_parentheses<'a, D: DocPlace<'a>>(document: Built<'a, D>) -> Built<'a, D> {
-    document?.parens()
-}
-
 // Nothing in a flat group, and this document in a broken one.
 pub(crate) fn if_broken<'a, D: DocPlace<'a>>(document: Built<'a, D>) -> Built<'a, D> {
     document?.when_group_break()
@@ -66,14 +62,6 @@ pub(crate) fn pointer_to<'a, D: DocPlace<'a>>(
     document: Built<'a, D>,
 ) -> Result<D::Doc, BuildError> {
     document?.into_doc()
-}
-
-// The first document where all of its lines fit, and else the second.
-pub(crate) fn either<'a, D: DocPlace<'a>>(
-    first: Built<'a, D>,
-    second: Result<D::Doc, BuildError>,
-) -> Built<'a, D> {
-    first?.union(BuildDoc::DocPtr(second?))
 }
 
 // A call of `f`.

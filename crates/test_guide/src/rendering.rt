@@ -1,12 +1,16 @@
-//! Options, documents that fail, what a document shows of itself, and what a render visits.
+//! Options, what a document shows of itself, and what a render visits.
 use crate::layouts::compare_with;
-use crate::parts::{grouped, joined, nested, pair, pointer_to, text, with};
+use crate::parts::{Built, grouped, joined, nested, pair, pointer_to, text, with};
 use prettyless::prelude::*;
-use prettyless::{
-    DocPtr, FmtWrite, IndentationPolicy, LineEnding, RenderError, RenderOptions, Visits,
-};
+use prettyless::{Doc, DocPtr, FmtWrite, IndentationPolicy, LineEnding, RenderOptions, Visits};
+use std::alloc::Global;
 use std::process::Abort;
 use std::test::Fail;
+
+fn lines<'a, D: DocPlace<'a>>(place: &'a D) -> Built<'a, D> {
+    let first = joined(text(place, "a"), place.hard_line());
+    nested(with(joined(first, place.hard_line()), "b"), 2)
+}
 
 fn options_choose_line_ends_and_indents<'a, D: DocPlace<'a>>(rt: &impl Abort, place: &'a D) {
     let eager = RenderOptions::new(80);
@@ -20,27 +24,24 @@ fn options_choose_line_ends_and_indents<'a, D: DocPlace<'a>>(rt: &impl Abort, pl
         (deferred.with_width(0), "a\n\n  b"),
         (crlf.with_width(0), "a\r\n\r\n  b"),
     ];
-    let first = joined(text(place, "a"), place.hard_line());
-    let lines = with(joined(first, place.hard_line()), "b");
-    compare_with(rt, nested(lines, 2), &layouts);
+    compare_with(rt, lines(place), &layouts);
 }
 
-fn failures_stop_a_render<'a, D: DocPlace<'a>>(rt: &impl Abort, place: &'a D) -> Result<(), Fail> {
-    let failing = pointer_to(with(joined(text(place, "a"), place.fail()), "b"))?;
-    let mut out = String::new(place.memory());
-    let result = failing.doc().render_fmt(place.memory(), 80, &mut out);
-    assert!(rt; matches!(result, Err(RenderError::Document(_))));
-    assert!(rt; out.as_str() == "a");
-    Ok(())
+// Whether `{:?}` shows this of a document.
+fn is_shown_as<'a, T: DocPtr<'a>>(memory: Global, document: &Doc<'a, T>, shown: &str) -> bool {
+    match format!(in memory; "{document:?}") {
+        Ok(text) => text.as_str() == shown,
+        Err(_) => false,
+    }
 }
 
 fn documents_show_their_nodes<'a, D: DocPlace<'a>>(
     rt: &impl Abort,
     place: &'a D,
 ) -> Result<(), Fail> {
-    let pair = grouped(nested(pair(place, "a", "b"), 2))?;
-    let shown = format!(in place.memory(); "{pair:?}")?;
-    assert!(rt; shown.as_str() == "Group(Nest(2, [\"a\", LineOrSpace, \"b\"]))");
+    let pair = pointer_to(grouped(nested(pair(place, "a", "b"), 2)))?;
+    let shown = "Group(Nest(2, [\"a\", LineOrSpace, \"b\"]))";
+    assert!(rt; is_shown_as(place.memory(), pair.doc(), shown));
     Ok(())
 }
 
@@ -67,7 +68,6 @@ fn visits_are_counted<'a, D: DocPlace<'a>>(rt: &impl Abort, place: &'a D) -> Res
 
 pub(crate) fn all<'a, D: DocPlace<'a>>(rt: &impl Abort, place: &'a D) -> Result<(), Fail> {
     options_choose_line_ends_and_indents(rt, place);
-    failures_stop_a_render(rt, place)?;
     documents_show_their_nodes(rt, place)?;
     visits_are_counted(rt, place)
 }
