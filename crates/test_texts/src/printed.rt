@@ -1,7 +1,7 @@
 //! Texts that values print.
-use prettyless_text::text::{BuildError, Text};
+use crate::expected::{is_owned, is_refused, is_small};
+use prettyless_text::text::Text;
 use std::fmt;
-use std::test::Fail;
 
 // Prints each of its pieces in turn.
 #[derive(Drop)]
@@ -51,45 +51,36 @@ impl fmt::Display for Stubborn {
 }
 
 #[test]
-fn keeps_22_bytes_in_place(rt: HostRuntime) -> Result<(), Fail> {
-    let text = Text::from_display(rt.alloc(), "1234567890123456789012")?;
-    assert!(rt; matches!(text, Text::Small(_)));
-    assert!(rt; text.as_str() == "1234567890123456789012");
-    Ok(())
+fn keeps_22_bytes_in_place(rt: HostRuntime) {
+    let letters = "1234567890123456789012";
+    is_small(&rt, Text::from_display(rt.alloc(), letters), letters);
 }
 
 #[test]
-fn owns_23_bytes(rt: HostRuntime) -> Result<(), Fail> {
-    let text = Text::from_display(rt.alloc(), "12345678901234567890123")?;
-    assert!(rt; matches!(text, Text::Owned(_)));
-    assert!(rt; text.as_str() == "12345678901234567890123");
-    Ok(())
+fn owns_23_bytes(rt: HostRuntime) {
+    let letters = "12345678901234567890123";
+    is_owned(&rt, Text::from_display(rt.alloc(), letters), letters);
 }
 
 #[test]
-fn owns_pieces_of_20_and_3_bytes(rt: HostRuntime) -> Result<(), Fail> {
+fn owns_pieces_of_20_and_3_bytes(rt: HostRuntime) {
     let pieces = Pieces(&["12345678901234567890", "123"]);
-    let text = Text::from_display(rt.alloc(), pieces)?;
-    assert!(rt; matches!(text, Text::Owned(_)));
-    assert!(rt; text.as_str() == "12345678901234567890123");
-    Ok(())
+    let text = Text::from_display(rt.alloc(), pieces);
+    is_owned(&rt, text, "12345678901234567890123");
 }
 
 #[test]
 fn answers_a_failed_value(rt: HostRuntime) {
-    let answer = Text::from_display(rt.alloc(), Failing);
-    assert!(rt; matches!(answer, Err(BuildError::Display)));
+    is_refused(&rt, Text::from_display(rt.alloc(), Failing));
 }
 
 #[test]
 fn answers_a_value_that_failed_late(rt: HostRuntime) {
-    let answer = Text::from_display(rt.alloc(), FailingLate);
-    assert!(rt; matches!(answer, Err(BuildError::Display)));
+    is_refused(&rt, Text::from_display(rt.alloc(), FailingLate));
 }
 
 #[test]
-fn prints_a_stubborn_value(rt: HostRuntime) -> Result<(), Fail> {
-    let text = Text::from_display(rt.alloc(), Stubborn)?;
-    assert!(rt; text.as_str() == "a piece of 23 bytes ...c");
-    Ok(())
+fn prints_a_stubborn_value(rt: HostRuntime) {
+    let text = Text::from_display(rt.alloc(), Stubborn);
+    is_owned(&rt, text, "a piece of 23 bytes ...c");
 }

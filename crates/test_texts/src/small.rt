@@ -1,7 +1,8 @@
 //! Texts in few bytes.
+use crate::expected::shows;
 use arrayvec::ArrayString;
 use prettyless_text::text::SmallText;
-use std::test::Fail;
+use std::process::Abort;
 
 #[test]
 fn keeps_22_bytes_in_23(rt: HostRuntime) {
@@ -11,19 +12,21 @@ fn keeps_22_bytes_in_23(rt: HostRuntime) {
 }
 
 #[test]
-fn shows_its_text(rt: HostRuntime) -> Result<(), Fail> {
-    let small = SmallText::new("a\tb");
-    assert!(rt; format!(in rt.alloc(); "{small:?}")?.as_str() == "Some(\"a\\tb\")");
-    Ok(())
+fn shows_its_text(rt: HostRuntime) {
+    shows(&rt, rt.alloc(), &SmallText::new("a\tb"), "Some(\"a\\tb\")");
+}
+
+const LETTERS: &str = "\u{4f60}\u{597d}";
+
+fn compare(rt: &impl Abort, text: &str) {
+    assert!(rt; text == LETTERS);
 }
 
 #[test]
 fn is_the_text_that_it_was(rt: HostRuntime) {
-    let Some(small) = SmallText::new("\u{4f60}\u{597d}") else {
-        return assert!(rt; false);
-    };
-    assert!(rt; small.as_str() == "\u{4f60}\u{597d}");
+    let small = SmallText::new(LETTERS).expect(&rt, "the text has no room");
+    compare(&rt, small.as_str());
     let text: ArrayString<22> = small.into();
-    assert!(rt; text.as_str() == "\u{4f60}\u{597d}");
-    assert!(rt; SmallText::from(text).as_str() == "\u{4f60}\u{597d}");
+    compare(&rt, text.as_str());
+    compare(&rt, SmallText::from(text).as_str());
 }

@@ -1,45 +1,58 @@
 //! Texts, and the sentences of the error of building.
+use crate::expected::{is_owned, is_small, shows};
 use prettyless_text::text::{BuildError, CowStr, Text};
-use std::alloc::AllocError;
-use std::test::Fail;
+use std::alloc::{AllocError, Global};
+use std::process::Abort;
 
-#[test]
-fn shows_its_text(rt: HostRuntime) -> Result<(), Fail> {
-    let borrowed = Text::from_cow(rt.alloc(), CowStr::Borrowed("ab"))?;
-    let owned = String::from_str(rt.alloc(), "ab")?;
-    let owned = Text::from_cow(rt.alloc(), CowStr::Owned(owned))?;
-    let small = Text::from_display(rt.alloc(), "ab")?;
-    assert!(rt; format!(in rt.alloc(); "{borrowed:?}")?.as_str() == "\"ab\"");
-    assert!(rt; format!(in rt.alloc(); "{owned:?}")?.as_str() == "\"ab\"");
-    assert!(rt; format!(in rt.alloc(); "{small:?}")?.as_str() == "\"ab\"");
-    Ok(())
+fn owned(rt: &impl Abort, memory: Global) -> Result<Text<'static>, BuildError> {
+    let text = String::from_str(memory, "ab").expect(rt, "memory was refused");
+    Text::from_cow(memory, CowStr::Owned(text))
+}
+
+fn is_ab(rt: &impl Abort, memory: Global, text: Result<Text<'_>, BuildError>) {
+    let text = text.expect(rt, "a text was not made");
+    shows(rt, memory, &text, "\"ab\"");
 }
 
 #[test]
-fn says_why_nothing_was_built(rt: HostRuntime) -> Result<(), Fail> {
+fn shows_its_text(rt: HostRuntime) {
+    let memory = rt.alloc();
+    is_ab(&rt, memory, Text::from_cow(memory, CowStr::Borrowed("ab")));
+    is_ab(&rt, memory, owned(&rt, memory));
+    is_ab(&rt, memory, Text::from_display(memory, "ab"));
+}
+
+fn says(rt: &impl Abort, memory: Global, error: BuildError, sentence: &str) {
+    let said = format!(in memory; "{error}").expect(rt, "memory was refused");
+    assert!(rt; said.as_str() == sentence);
+}
+
+#[test]
+fn says_why_nothing_was_built(rt: HostRuntime) {
     let memory = BuildError::Memory(AllocError);
-    let display = BuildError::Display;
-    assert!(rt;
-        format!(in rt.alloc(); "{memory}")?.as_str()
-            == "memory was refused while a document was built"
+    says(
+        &rt,
+        rt.alloc(),
+        memory,
+        "memory was refused while a document was built",
     );
-    assert!(rt;
-        format!(in rt.alloc(); "{display}")?.as_str()
-            == "a value of the document cannot be formatted"
+    says(
+        &rt,
+        rt.alloc(),
+        BuildError::Display,
+        "a value of the document cannot be formatted",
     );
-    Ok(())
+}
+
+fn copied<'a>(memory: Global, text: Result<Text<'a>, BuildError>) -> Result<Text<'a>, BuildError> {
+    text?.clone(memory)
 }
 
 #[test]
-fn clones(rt: HostRuntime) -> Result<(), Fail> {
-    let owned = String::from_str(rt.alloc(), "ab")?;
-    let owned = Text::from_cow(rt.alloc(), CowStr::Owned(owned))?;
-    assert!(rt; owned.clone(rt.alloc())?.as_str() == "ab");
-    let borrowed = Text::Borrowed("cd");
-    assert!(rt; matches!(borrowed.clone(rt.alloc())?, Text::Borrowed("cd")));
-    let small = Text::from_display(rt.alloc(), "ef")?;
-    let copy = small.clone(rt.alloc())?;
-    assert!(rt; matches!(copy, Text::Small(_)));
-    assert!(rt; copy.as_str() == "ef");
-    Ok(())
+fn clones(rt: HostRuntime) {
+    let memory = rt.alloc();
+    is_owned(&rt, copied(memory, owned(&rt, memory)), "ab");
+    let borrowed = copied(memory, Ok(Text::Borrowed("cd")));
+    assert!(rt; matches!(borrowed, Ok(Text::Borrowed("cd"))));
+    is_small(&rt, copied(memory, Text::from_display(memory, "ef")), "ef");
 }
