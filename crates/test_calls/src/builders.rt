@@ -37,6 +37,18 @@ pub(crate) fn sums<'a, D: DocPlace<'a>, P: Pretty<'a, D> + Copy>(
     shows(rt, line(place) + a, "[HardLine, \"a\"]");
 }
 
+pub(crate) fn operands<'a, D: DocPlace<'a>, P: Pretty<'a, D> + Copy>(
+    rt: &impl Abort,
+    place: &'a D,
+    a: P,
+    b: P,
+) {
+    let either = line(place).flat_alt(a);
+    shows(rt, either, "FlatOrBreak(\"a\", HardLine)");
+    let enclosed = failure(place).enclose(a, b);
+    shows(rt, enclosed, "[\"a\", Fail, \"b\"]");
+}
+
 pub(crate) fn joins<'a, D: DocPlace<'a>>(rt: &impl Abort, place: &'a D) {
     shows(rt, blank(place).join(line(place)), "[\" \", HardLine]");
     shows(rt, nothing(place).join(line(place)), "HardLine");
@@ -49,11 +61,6 @@ pub(crate) fn repeats<'a, D: DocPlace<'a>>(rt: &impl Abort, place: &'a D) {
 }
 
 pub(crate) fn choices<'a, D: DocPlace<'a>>(rt: &impl Abort, place: &'a D) {
-    shows(
-        rt,
-        line(place).flat_alt(","),
-        "FlatOrBreak(\",\", HardLine)",
-    );
     shows(rt, blank(place).when_group_flat(), "WhenFlat(\" \")");
     shows(rt, blank(place).when_group_break(), "WhenBreak(\" \")");
 }
@@ -127,41 +134,10 @@ pub(crate) fn brackets<'a, D: DocPlace<'a>>(rt: &impl Abort, place: &'a D) {
     shows(rt, failure(place).angles(), "[\"<\", Fail, \">\"]");
     shows(rt, failure(place).braces(), "[\"{\", Fail, \"}\"]");
     shows(rt, failure(place).brackets(), "[\"[\", Fail, \"]\"]");
-    shows(
-        rt,
-        failure(place).enclose("a", space()),
-        "[\"a\", Fail, \" \"]",
-    );
-}
-
-// A space, or else what is made.
-fn space_or<'a, D: DocPlace<'a>>(
-    rt: &impl Abort,
-    place: &'a D,
-    made: BuildDoc<'a, D::Doc>,
-    shown: &str,
-) {
-    shows(rt, blank(place).union(made), shown);
 }
 
 // A builder once more.
 pub(crate) fn copies<'a, D: DocPlace<'a>>(rt: &impl Abort, place: &'a D) {
     let line = built(rt, line(place).nest(2));
-    let copy = line.clone();
-    drop(line);
-    shows(rt, copy, "Nest(2, HardLine)");
-}
-
-// A document in the making once more.
-pub(crate) fn copies_in_the_making<'a, D: DocPlace<'a>>(rt: &impl Abort, place: &'a D) {
-    let line = BuildDoc::Doc(Doc::HardLine).clone(place);
-    let line = line.expect(rt, "a document was not copied");
-    space_or(rt, place, line, "Union(\" \", HardLine)");
-}
-
-// A node once more.
-pub(crate) fn copies_of_nodes<'a, D: DocPlace<'a>>(rt: &impl Abort, place: &'a D) {
-    let line = Doc::WeakLine.clone(place);
-    let line = line.expect(rt, "a node was not copied");
-    space_or(rt, place, BuildDoc::Doc(line), "Union(\" \", WeakLine)");
+    shows(rt, line.clone(), "Nest(2, HardLine)");
 }

@@ -41,30 +41,37 @@ pub(crate) fn payloads<'a, D: DocPlace<'a>>(rt: &impl Abort, place: &'a D) {
     shows(rt, place.multiline_text(CowStr::Borrowed("")), "Nil");
 }
 
+fn is_borrowed_and_wide<T>(node: &Doc<'_, T>) -> bool {
+    matches!(node, Doc::TextWithLen(1, Text::Borrowed(_)))
+}
+
+fn is_small<T>(node: &Doc<'_, T>) -> bool {
+    matches!(node, Doc::Text(Text::Small(_)))
+}
+
 // A text that is not ASCII counts as its width.
 pub(crate) fn widths<'a, D: DocPlace<'a>>(rt: &impl Abort, place: &'a D) {
     let text = built(rt, place.text(CowStr::Borrowed("\u{e9}")));
-    assert!(rt; matches!(text.doc(), Doc::TextWithLen(1, Text::Borrowed(_))));
+    assert!(rt; is_borrowed_and_wide(text.doc()));
 }
 
 // A short value is in its node.
 pub(crate) fn strings<'a, D: DocPlace<'a>>(rt: &impl Abort, place: &'a D) {
     let value = built(rt, place.as_string(16));
-    assert!(rt; matches!(value.doc(), Doc::Text(Text::Small(_))));
+    assert!(rt; is_small(value.doc()));
 }
 
 pub(crate) fn operands<'a, D: DocPlace<'a>, P: Pretty<'a, D> + Copy>(
     rt: &impl Abort,
     place: &'a D,
     a: P,
-    b: P,
-    comment: P,
+    empty: P,
 ) {
     shows(rt, place.pretty(a), "\"a\"");
-    shows(rt, place.line_suffix(comment), "LineSuffix(\"//\")");
-    shows(rt, place.line_suffix(()), "LineSuffix(Nil)");
+    shows(rt, place.line_suffix(a), "LineSuffix(\"a\")");
+    shows(rt, place.line_suffix(empty), "LineSuffix(Nil)");
     shows(rt, place.if_group_flat(a), "WhenFlat(\"a\")");
-    shows(rt, place.if_group_break(b), "WhenBreak(\"b\")");
+    shows(rt, place.if_group_break(a), "WhenBreak(\"a\")");
 }
 
 pub(crate) fn by_place<'a, D: DocPlace<'a>, P: Pretty<'a, D> + Copy>(
@@ -73,34 +80,45 @@ pub(crate) fn by_place<'a, D: DocPlace<'a>, P: Pretty<'a, D> + Copy>(
     a: P,
     b: P,
 ) {
-    let hung = place.if_column(ColumnTest::AtMost(7), a, ());
-    shows(rt, hung, "OnColumn(AtMost(7), \"a\", Nil)");
-    let deep = place.if_nesting(NestingTest::AtLeast(2), (), b);
-    shows(rt, deep, "OnNesting(AtLeast(2), Nil, \"b\")");
+    let hung = place.if_column(ColumnTest::AtMost(7), a, b);
+    shows(rt, hung, "OnColumn(AtMost(7), \"a\", \"b\")");
+    let deep = place.if_nesting(NestingTest::AtLeast(2), a, b);
+    shows(rt, deep, "OnNesting(AtLeast(2), \"a\", \"b\")");
 }
 
-pub(crate) fn sequences<'a, D: DocPlace<'a>>(rt: &impl Abort, place: &'a D) {
-    let items = place.concat(["a", "", "b"].into_iter());
-    shows(rt, items, "[\"a\", \"b\"]");
-    shows(rt, place.concat([""; 0].into_iter()), "Nil");
-    let items = place.intersperse(["a", "b", "c"].into_iter(), line_or_space());
-    shows(rt, items, "[\"a\", LineOrSpace, \"b\", LineOrSpace, \"c\"]");
-    let item = place.intersperse(["a"].into_iter(), ",");
-    shows(rt, item, "\"a\"");
-}
-
-fn between<'a, D: DocPlace<'a>>(
+pub(crate) fn sequences<'a, D: DocPlace<'a>, P: Pretty<'a, D> + Copy>(
+    rt: &impl Abort,
     place: &'a D,
-    items: &'a [&'a str],
+    none: &'a [P],
+    items: &'a [P],
+) {
+    shows(rt, place.concat(none.iter().copied()), "Nil");
+    let all = place.concat(items.iter().copied());
+    shows(rt, all, "[\"a\", \"b\"]");
+}
+
+fn between<'a, D: DocPlace<'a>, P: Pretty<'a, D> + Copy, S: Pretty<'a, D> + Drop>(
+    place: &'a D,
+    items: &'a [P],
+    separator: S,
 ) -> Result<DocBuilder<'a, D>, BuildError> {
-    place.intersperse(items.iter().copied(), as_string(Failing))
+    place.intersperse(items.iter().copied(), separator)
 }
 
 // A separator becomes a document only where there is a gap.
-pub(crate) fn separators<'a, D: DocPlace<'a>>(rt: &impl Abort, place: &'a D) {
-    shows(rt, between(place, &[]), "Nil");
-    shows(rt, between(place, &["a"]), "\"a\"");
-    refuses(rt, between(place, &["a", "b"]));
+pub(crate) fn separators<'a, D: DocPlace<'a>, P: Pretty<'a, D> + Copy>(
+    rt: &impl Abort,
+    place: &'a D,
+    none: &'a [P],
+    one: &'a [P],
+    two: &'a [P],
+    comma: P,
+) {
+    let items = between(place, two, comma);
+    shows(rt, items, "[\"a\", \",\", \"b\"]");
+    shows(rt, between(place, none, as_string(Failing)), "Nil");
+    shows(rt, between(place, one, as_string(Failing)), "\"a\"");
+    refuses(rt, between(place, two, as_string(Failing)));
 }
 
 pub(crate) fn words<'a, D: DocPlace<'a>>(rt: &impl Abort, place: &'a D) {
@@ -110,43 +128,42 @@ pub(crate) fn words<'a, D: DocPlace<'a>>(rt: &impl Abort, place: &'a D) {
     shows(rt, place.reflow(""), "Nil");
 }
 
-pub(crate) fn gaps<'a, D: DocPlace<'a>>(rt: &impl Abort, place: &'a D) {
-    shows(rt, place.spaces(0), "Nil");
-    shows(rt, place.spaces(3), "\"   \"");
-    let memory = place.memory();
-    let hundred = format!(in memory; "\"{:100}\"", "").expect(rt, "memory was refused");
-    shows(rt, place.spaces(100), hundred.as_str());
-    let three = format!(in memory; "[\"{:100}\", \"{:100}\", \"{:5}\"]", "", "", "");
-    let three = three.expect(rt, "memory was refused");
-    shows(rt, place.spaces(205), three.as_str());
-}
+const HUNDRED: &str =
+    "                                                                                                    ";
 
-// The text of a node that is one.
-fn text_of<'d, T>(node: &'d Doc<'_, T>) -> Option<&'d str> {
+// Whether a node is this text.
+fn is_text<T>(node: &Doc<'_, T>, letters: &str) -> bool {
     match node {
-        Doc::Text(text) => Some(text.as_str()),
-        _ => None,
+        Doc::Text(text) => text.as_str() == letters,
+        _ => false,
     }
 }
 
-// Whether a gap is two texts of this one and five spaces, in a chain to the left.
-fn is_chain<'a, T: DocPtr<'a>>(gap: &Doc<'a, T>, hundred: &str) -> bool {
+// Whether a gap is two hundred spaces and five, in a chain to the left.
+fn is_chain<'a, T: DocPtr<'a>>(gap: &Doc<'a, T>) -> bool {
     let Doc::Append(front, last) = gap else {
         return false;
     };
     let Doc::Append(first, second) = front.doc() else {
         return false;
     };
-    text_of(first.doc()) == Some(hundred)
-        && text_of(second.doc()) == Some(hundred)
-        && text_of(last.doc()) == Some("     ")
+    is_text(first.doc(), HUNDRED) && is_text(second.doc(), HUNDRED) && is_text(last.doc(), "     ")
 }
 
-// A long gap is a chain to the left.
+pub(crate) fn gaps<'a, D: DocPlace<'a>>(rt: &impl Abort, place: &'a D) {
+    shows(rt, place.spaces(0), "Nil");
+    shows(rt, place.spaces(3), "\"   \"");
+}
+
+pub(crate) fn hundreds<'a, D: DocPlace<'a>>(rt: &impl Abort, place: &'a D) {
+    let gap = built(rt, place.spaces(100));
+    assert!(rt; is_text(gap.doc(), HUNDRED));
+}
+
+// A long gap is a chain.
 pub(crate) fn chains<'a, D: DocPlace<'a>>(rt: &impl Abort, place: &'a D) {
-    let hundred = format!(in place.memory(); "{:100}", "").expect(rt, "memory was refused");
     let gap = built(rt, place.spaces(205));
-    assert!(rt; is_chain(gap.doc(), hundred.as_str()));
+    assert!(rt; is_chain(gap.doc()));
 }
 
 // Documents in the making, and what places them.

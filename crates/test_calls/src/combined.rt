@@ -44,26 +44,28 @@ pub(crate) fn indents<'a, D: DocPlace<'a>, P: Pretty<'a, D> + Copy>(
 pub(crate) fn wrappers<'a, D: DocPlace<'a>, P: Pretty<'a, D> + Copy>(
     rt: &impl Abort,
     place: &'a D,
-    empty: P,
-    ab: P,
+    line: P,
 ) {
-    shows(rt, group(hard_line()).pretty(place), "Group(HardLine)");
-    shows(rt, flatten(weak_line()).pretty(place), "Flatten(WeakLine)");
-    shows(rt, line_suffix(empty).pretty(place), "LineSuffix(Nil)");
-    shows(rt, repeat(3, ab).pretty(place), "[\"ab\", \"ab\", \"ab\"]");
+    shows(rt, group(line).pretty(place), "Group(WeakLine)");
+    shows(rt, flatten(line).pretty(place), "Flatten(WeakLine)");
+    shows(rt, line_suffix(line).pretty(place), "LineSuffix(WeakLine)");
+    shows(rt, repeat(2, line).pretty(place), "[WeakLine, WeakLine]");
 }
 
 pub(crate) fn choices<'a, D: DocPlace<'a>, P: Pretty<'a, D> + Copy>(
     rt: &impl Abort,
     place: &'a D,
     a: P,
-    comma: P,
+    b: P,
 ) {
-    shows(rt, union(a, fail()).pretty(place), "Union(\"a\", Fail)");
-    let either = partial_union(a, fail());
-    shows(rt, either.pretty(place), "PartialUnion(\"a\", Fail)");
-    let either = flat_alt(hard_line(), comma);
-    shows(rt, either.pretty(place), "FlatOrBreak(\",\", HardLine)");
+    shows(rt, union(a, b).pretty(place), "Union(\"a\", \"b\")");
+    let either = partial_union(a, b);
+    shows(rt, either.pretty(place), "PartialUnion(\"a\", \"b\")");
+    shows(
+        rt,
+        flat_alt(a, b).pretty(place),
+        "FlatOrBreak(\"b\", \"a\")",
+    );
 }
 
 pub(crate) fn by_place<'a, D: DocPlace<'a>, P: Pretty<'a, D> + Copy>(
@@ -71,18 +73,25 @@ pub(crate) fn by_place<'a, D: DocPlace<'a>, P: Pretty<'a, D> + Copy>(
     place: &'a D,
     a: P,
     b: P,
-    empty: P,
 ) {
-    let hung = if_column(ColumnTest::IsNesting, a, fail());
-    shows(rt, hung.pretty(place), "OnColumn(IsNesting, \"a\", Fail)");
-    let deep = if_nesting(NestingTest::AtLeast(2), empty, b);
-    shows(rt, deep.pretty(place), "OnNesting(AtLeast(2), Nil, \"b\")");
+    let hung = if_column(ColumnTest::IsNesting, a, b);
+    shows(rt, hung.pretty(place), "OnColumn(IsNesting, \"a\", \"b\")");
+    let deep = if_nesting(NestingTest::AtLeast(2), a, b);
+    shows(
+        rt,
+        deep.pretty(place),
+        "OnNesting(AtLeast(2), \"a\", \"b\")",
+    );
 }
 
-pub(crate) fn sequences<'a, D: DocPlace<'a>>(rt: &impl Abort, place: &'a D) {
-    let items = concat(["a", "", "b"].into_iter());
-    shows(rt, items.pretty(place), "[\"a\", \"b\"]");
-    let items = intersperse(line_or_space(), ["a", "b", "c"].into_iter());
-    let shown = "[\"a\", LineOrSpace, \"b\", LineOrSpace, \"c\"]";
-    shows(rt, items.pretty(place), shown);
+pub(crate) fn sequences<'a, D: DocPlace<'a>, P: Pretty<'a, D> + Copy>(
+    rt: &impl Abort,
+    place: &'a D,
+    items: &'a [P],
+    comma: P,
+) {
+    let all = concat(items.iter().copied());
+    shows(rt, all.pretty(place), "[\"a\", \"b\"]");
+    let all = intersperse(comma, items.iter().copied());
+    shows(rt, all.pretty(place), "[\"a\", \",\", \"b\"]");
 }

@@ -1,5 +1,4 @@
-//! Boxed documents deeper by far than the stack has room for calls, and what outlives its owner.
-use prettyless::text::{CowStr, Text};
+//! Boxed documents deeper by far than the stack has room for calls.
 use prettyless::{Doc, DocPlace, DocPtr};
 use std::process::Abort;
 
@@ -88,45 +87,4 @@ pub(crate) fn chains<'a, D: DocPlace<'a>>(rt: &impl Abort, place: &'a D) {
     clone_and_drop(rt, place, to_the_right(rt, place));
     drop(in_nests(rt, place));
     drop(in_all_kinds(rt, place));
-}
-
-fn owned_text<'a, D: DocPlace<'a>>(rt: &impl Abort, place: &'a D) -> Text<'a> {
-    let text = String::from_str(place.memory(), "ab").expect(rt, "memory was refused");
-    let text = Text::from_cow(place.memory(), CowStr::Owned(text));
-    text.expect(rt, "a text was not made")
-}
-
-// An owned text, or else a payload.
-fn both<'a, D: DocPlace<'a>>(rt: &impl Abort, place: &'a D) -> D::Doc {
-    let text = placed(rt, place, Doc::Text(owned_text(rt, place)));
-    let payload = Doc::multiline_text(place.memory(), CowStr::Borrowed("a\nb"));
-    let payload = placed(rt, place, payload.expect(rt, "a payload was not made"));
-    placed(rt, place, Doc::Union(text, payload))
-}
-
-fn is_both<'a, T: DocPtr<'a>>(doc: &Doc<'a, T>) -> bool {
-    match doc {
-        Doc::Union(text, payload) => {
-            matches!(text.doc(), Doc::Text(Text::Owned(_)))
-                && matches!(payload.doc(), Doc::MultilineText(_))
-        }
-        _ => false,
-    }
-}
-
-// A clone has texts of its own.
-pub(crate) fn compare_clone<'a, D: DocPlace<'a>>(rt: &impl Abort, place: &'a D) {
-    let both = both(rt, place);
-    let copy = cloned(rt, place, &both);
-    drop(both);
-    assert!(rt; is_both(copy.doc()));
-}
-
-// Owners outlive one another.
-pub(crate) fn compare_owners<'a, D: DocPlace<'a>>(rt: &impl Abort, place: &'a D) {
-    let line = placed(rt, place, Doc::HardLine);
-    let first = placed(rt, place, Doc::Nest(2, line));
-    let second = cloned(rt, place, &first);
-    drop(first);
-    assert!(rt; matches!(second.doc(), Doc::Nest(2, _)));
 }

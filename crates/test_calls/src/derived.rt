@@ -1,12 +1,33 @@
 //! What is derived of the combinators: tokens are copied, wrappers are cloned but for payloads and sequences, and all are
 //! shown.
+use crate::expected::{compare, shown};
 use prettyless::combinators::*;
 use prettyless::text::CowStr;
 use prettyless::{ColumnTest, NestingTest};
-use std::test::Fail;
+use std::alloc::Global;
+use std::fmt;
+use std::process::Abort;
+
+// Compares what a value and a copy of it are shown as.
+fn is_copied<T: Copy + fmt::Debug>(rt: &impl Abort, memory: Global, value: T, text: &str) {
+    let copy = value;
+    compare(rt, memory, &value, text);
+    compare(rt, memory, &copy, text);
+}
+
+// Compares what a clone is shown as.
+fn is_cloned<T: Clone + fmt::Debug + Drop>(rt: &impl Abort, memory: Global, value: T, text: &str) {
+    let copy = value.clone().expect(rt, "a value was not cloned");
+    compare(rt, memory, &copy, text);
+}
+
+// Compares the beginning of what a value is shown as.
+fn begins<T: fmt::Debug + Drop>(rt: &impl Abort, memory: Global, value: T, text: &str) {
+    assert!(rt; shown(rt, memory, &value).as_str().starts_with(text));
+}
 
 #[test]
-fn tokens_are_copied(rt: HostRuntime) -> Result<(), Fail> {
+fn tokens_are_copied(rt: HostRuntime) {
     let tokens = (
         nil(),
         fail(),
@@ -15,84 +36,50 @@ fn tokens_are_copied(rt: HostRuntime) -> Result<(), Fail> {
         space(),
         weak_space(),
     );
-    let (first, second) = (tokens, tokens);
-    assert!(rt;
-        format!(in rt.alloc(); "{first:?}")?.as_str()
-            == "(Nil, Fail, HardLine, WeakLine, Space, WeakSpace)"
-    );
-    assert!(rt; format!(in rt.alloc(); "{:?}", second.2)?.as_str() == "HardLine");
-    Ok(())
+    let text = "(Nil, Fail, HardLine, WeakLine, Space, WeakSpace)";
+    is_copied(&rt, rt.alloc(), tokens, text);
 }
 
 #[test]
-fn lines_are_copied(rt: HostRuntime) -> Result<(), Fail> {
+fn lines_are_copied(rt: HostRuntime) {
     let lines = (
         line_or_nil(),
         line_or_space(),
         soft_line_or_nil(),
         soft_line_or_space(),
+        expand_parent(),
+        spaces(3),
     );
-    let (first, _) = (lines, lines);
-    assert!(rt;
-        format!(in rt.alloc(); "{first:?}")?.as_str()
-            == "(LineOrNil, LineOrSpace, SoftLineOrNil, SoftLineOrSpace)"
-    );
-    let others = (expand_parent(), spaces(3));
-    let (first, _) = (others, others);
-    assert!(rt; format!(in rt.alloc(); "{first:?}")?.as_str() == "(ExpandParent, Spaces(3))");
-    Ok(())
+    let text = "(LineOrNil, LineOrSpace, SoftLineOrNil, SoftLineOrSpace, ExpandParent, Spaces(3))";
+    is_copied(&rt, rt.alloc(), lines, text);
 }
 
 #[test]
-fn wrappers_are_cloned(rt: HostRuntime) -> Result<(), Fail> {
-    let nested = nest(1, group(align("a")));
-    assert!(rt;
-        format!(in rt.alloc(); "{:?}", nested.clone()?)?.as_str() == "Nest(1, Group(Align(\"a\")))"
+fn wrappers_are_cloned(rt: HostRuntime) {
+    let wrapped = nest(
+        1,
+        group(align(flatten(line_suffix(dedent_to_root(repeat(2, as_string(7))))))),
     );
-    let flat = flatten(line_suffix(dedent_to_root("a")));
-    assert!(rt;
-        format!(in rt.alloc(); "{:?}", flat.clone()?)?.as_str()
-            == "Flatten(LineSuffix(DedentToRoot(\"a\")))"
-    );
-    let copies = repeat(2, as_string(7));
-    assert!(rt;
-        format!(in rt.alloc(); "{:?}", copies.clone()?)?.as_str() == "Repeat(2, AsString(7))"
-    );
-    Ok(())
+    let text = "Nest(1, Group(Align(Flatten(LineSuffix(DedentToRoot(Repeat(2, AsString(7))))))))";
+    is_cloned(&rt, rt.alloc(), wrapped, text);
 }
 
 #[test]
-fn alternatives_are_cloned(rt: HostRuntime) -> Result<(), Fail> {
-    let either = union("a", partial_union("b", flat_alt("c", "d")));
-    let copy = format!(in rt.alloc(); "{:?}", either.clone()?)?;
-    assert!(rt; copy.as_str() == "Union(\"a\", PartialUnion(\"b\", FlatAlt(\"c\", \"d\")))");
-    Ok(())
-}
-
-#[test]
-fn choices_by_place_are_cloned(rt: HostRuntime) -> Result<(), Fail> {
+fn alternatives_are_cloned(rt: HostRuntime) {
     let deep = if_nesting(NestingTest::AtMost(1), "b", "c");
     let hung = if_column(ColumnTest::AtLeast(2), "a", deep);
-    let copy = format!(in rt.alloc(); "{:?}", hung.clone()?)?;
-    assert!(rt; copy.as_str() == "IfColumn(AtLeast(2), \"a\", IfNesting(AtMost(1), \"b\", \"c\"))");
-    Ok(())
+    let either = union("d", partial_union("e", flat_alt("f", hung)));
+    let text = "Union(\"d\", PartialUnion(\"e\", FlatAlt(\"f\", \
+                IfColumn(AtLeast(2), \"a\", IfNesting(AtMost(1), \"b\", \"c\")))))";
+    is_cloned(&rt, rt.alloc(), either, text);
 }
 
 #[test]
-fn payloads_are_shown(rt: HostRuntime) -> Result<(), Fail> {
+fn others_are_shown(rt: HostRuntime) {
+    let memory = rt.alloc();
     let payload = multiline_text(CowStr::Borrowed("a"));
-    let shown = format!(in rt.alloc(); "{payload:?}")?;
-    assert!(rt; shown.as_str().starts_with("MultilineText("));
-    Ok(())
-}
-
-#[test]
-fn sequences_are_shown(rt: HostRuntime) -> Result<(), Fail> {
+    begins(&rt, memory, payload, "MultilineText(");
     let items = intersperse(space(), [nil(), nil()]);
-    let shown = format!(in rt.alloc(); "{items:?}")?;
-    assert!(rt; shown.as_str().starts_with("Intersperse("));
-    let items = concat([nil(), nil()]);
-    let shown = format!(in rt.alloc(); "{items:?}")?;
-    assert!(rt; shown.as_str().starts_with("Concat("));
-    Ok(())
+    begins(&rt, memory, items, "Intersperse(");
+    begins(&rt, memory, concat([nil(), nil()]), "Concat(");
 }

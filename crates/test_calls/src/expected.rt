@@ -1,10 +1,21 @@
 //! What has to come out of a call. A test ends at the first call that answers otherwise.
 use prettyless::prelude::*;
-use prettyless::text::{BuildError, CowStr};
-use prettyless::{BuildDoc, Doc, DocBuilder, DocPtr, RenderError};
+use prettyless::text::BuildError;
+use prettyless::{BuildDoc, Doc, DocBuilder, DocPtr};
 use std::alloc::Global;
 use std::fmt;
 use std::process::Abort;
+
+// What a value is shown as.
+pub(crate) fn shown<T: fmt::Debug>(rt: &impl Abort, memory: Global, value: &T) -> String {
+    format!(in memory; "{value:?}").expect(rt, "memory was refused")
+}
+
+// Compares what a value is shown as.
+pub(crate) fn compare<T: fmt::Debug>(rt: &impl Abort, memory: Global, value: &T, text: &str) {
+    let shown = shown(rt, memory, value);
+    assert!(rt; shown.as_str() == text);
+}
 
 // The document that a call answers.
 pub(crate) fn built<'a, D: DocPlace<'a>>(
@@ -18,11 +29,10 @@ pub(crate) fn built<'a, D: DocPlace<'a>>(
 pub(crate) fn shows<'a, D: DocPlace<'a>>(
     rt: &impl Abort,
     built: Result<DocBuilder<'a, D>, BuildError>,
-    shown: &str,
+    text: &str,
 ) {
     let built = built.expect(rt, "a document was not built");
-    let text = format!(in built.0.memory(); "{built:?}").expect(rt, "memory was refused");
-    assert!(rt; text.as_str() == shown);
+    compare(rt, built.0.memory(), &built, text);
 }
 
 // Compares what a placed document is shown as.
@@ -30,21 +40,20 @@ pub(crate) fn points<T: fmt::Debug + Drop>(
     rt: &impl Abort,
     memory: Global,
     placed: Result<T, BuildError>,
-    shown: &str,
+    text: &str,
 ) {
     let pointer = placed.expect(rt, "a document was not placed");
-    let text = format!(in memory; "{pointer:?}").expect(rt, "memory was refused");
-    assert!(rt; text.as_str() == shown);
+    compare(rt, memory, &pointer, text);
 }
 
-// Compares what the document of a value is shown as.
-pub(crate) fn becomes<'a, D: DocPlace<'a>, P: Pretty<'a, D>>(
+// Compares what a document in the making is shown as.
+pub(crate) fn is_made<'a, D: DocPlace<'a>>(
     rt: &impl Abort,
     place: &'a D,
-    value: P,
-    shown: &str,
+    made: BuildDoc<'a, D::Doc>,
+    text: &str,
 ) {
-    shows(rt, place.pretty(value), shown);
+    shows(rt, Ok(DocBuilder(place, made)), text);
 }
 
 // What cannot be printed.
@@ -58,11 +67,8 @@ impl fmt::Display for Failing {
 }
 
 // Compares the answer of a call that is given what cannot be printed.
-pub(crate) fn refuses<'a, D: DocPlace<'a>>(
-    rt: &impl Abort,
-    built: Result<DocBuilder<'a, D>, BuildError>,
-) {
-    assert!(rt; matches!(built, Err(BuildError::Display)));
+pub(crate) fn refuses<T: Drop>(rt: &impl Abort, made: Result<T, BuildError>) {
+    assert!(rt; matches!(made, Err(BuildError::Display)));
 }
 
 // What a document is rendered as within 80 columns.
@@ -76,57 +82,4 @@ pub(crate) fn rendered<'a, T: DocPtr<'a>>(
         .render_fmt(memory, 80, &mut out)
         .expect(rt, "a document was not laid out");
     out
-}
-
-// Compares what a copy of a document in the making is shown as.
-fn copies<'a, D: DocPlace<'a>>(
-    rt: &impl Abort,
-    place: &'a D,
-    made: &BuildDoc<'a, D::Doc>,
-    shown: &str,
-) {
-    let copy = made.clone(place).expect(rt, "a document was not copied");
-    shows(rt, Ok(DocBuilder(place, copy)), shown);
-}
-
-// A document in the making between two letters.
-fn between<'a, D: DocPlace<'a>>(
-    rt: &impl Abort,
-    place: &'a D,
-    made: BuildDoc<'a, D::Doc>,
-) -> DocBuilder<'a, D> {
-    let front = built(rt, place.text(CowStr::Borrowed("a")));
-    let back = built(rt, place.text(CowStr::Borrowed("b")));
-    built(
-        rt,
-        built(rt, front.join(DocBuilder(place, made))).join(back),
-    )
-}
-
-// Compares what a document in the making is shown as, and what it is rendered as between two letters.
-pub(crate) fn is_built<'a, D: DocPlace<'a>>(
-    rt: &impl Abort,
-    place: &'a D,
-    made: BuildDoc<'a, D::Doc>,
-    shown: &str,
-    layout: &str,
-) {
-    copies(rt, place, &made, shown);
-    let out = rendered(rt, place.memory(), between(rt, place, made).doc());
-    assert!(rt; out.as_str() == layout);
-}
-
-// The same of one that fails, after the first letter.
-pub(crate) fn fails<'a, D: DocPlace<'a>>(
-    rt: &impl Abort,
-    place: &'a D,
-    made: BuildDoc<'a, D::Doc>,
-    shown: &str,
-) {
-    copies(rt, place, &made, shown);
-    let document = between(rt, place, made);
-    let mut out = String::new(place.memory());
-    let result = document.doc().render_fmt(place.memory(), 80, &mut out);
-    assert!(rt; matches!(result, Err(RenderError::Document(_))));
-    assert!(rt; out.as_str() == "a");
 }

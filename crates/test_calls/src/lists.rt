@@ -1,11 +1,16 @@
 //! The calls that take documents of a vector, with ample memory.
-use crate::expected::{built, points, shows};
+use crate::expected::{built, shows};
+use prettyless::DocBuilder;
 use prettyless::prelude::*;
-use std::fmt;
+use prettyless::text::CowStr;
 use std::process::Abort;
 
+fn text<'a, D: DocPlace<'a>>(rt: &impl Abort, place: &'a D, text: &'a str) -> DocBuilder<'a, D> {
+    built(rt, place.text(CowStr::Borrowed(text)))
+}
+
 fn placed<'a, D: DocPlace<'a>>(rt: &impl Abort, place: &'a D, letter: &'a str) -> D::Doc {
-    let text = built(rt, place.pretty(letter));
+    let text = text(rt, place, letter);
     text.into_doc().expect(rt, "a text was not placed")
 }
 
@@ -21,28 +26,23 @@ fn letters<'a, D: DocPlace<'a>>(rt: &impl Abort, place: &'a D, letters: &[&'a st
 
 // Each letter but the last with a comma.
 fn marked<'a, D: DocPlace<'a>>(rt: &impl Abort, place: &'a D, docs: &[&'a str]) -> Vec<D::Doc> {
-    let comma = built(rt, place.pretty(","));
-    let marked = place.punctuated(letters(rt, place, docs), comma);
+    let marked = place.punctuated(letters(rt, place, docs), text(rt, place, ","));
     marked.expect(rt, "no marks were placed")
 }
 
-pub(crate) fn gaps<'a, D: DocPlace<'a>>(rt: &impl Abort, place: &'a D) {
-    let docs = letters(rt, place, &["a", "b", "c"]);
-    let items = place.separate(docs, built(rt, place.line()));
-    shows(rt, items, "[\"a\", LineOrSpace, \"b\", LineOrSpace, \"c\"]");
+// The documents, and a line in each gap.
+fn on_lines<'a, D: DocPlace<'a>>(rt: &impl Abort, place: &'a D, docs: Vec<D::Doc>, shown: &str) {
+    shows(rt, place.separate(docs, built(rt, place.line())), shown);
 }
 
-pub(crate) fn marks<'a, D: DocPlace<'a>>(rt: &impl Abort, place: &'a D)
-where
-    D::Doc: fmt::Debug,
-{
-    let memory = place.memory();
-    let mut docs = marked(rt, place, &["a", "b", "c"]).into_iter();
-    for shown in ["[\"a\", \",\"]", "[\"b\", \",\"]", "\"c\""] {
-        let doc = docs.next().expect(rt, "a document is lost");
-        points(rt, memory, Ok(doc), shown);
-    }
-    assert!(rt; docs.next().is_none());
+pub(crate) fn gaps<'a, D: DocPlace<'a>>(rt: &impl Abort, place: &'a D) {
+    let shown = "[\"a\", LineOrSpace, \"b\", LineOrSpace, \"c\"]";
+    on_lines(rt, place, letters(rt, place, &["a", "b", "c"]), shown);
+}
+
+pub(crate) fn marks<'a, D: DocPlace<'a>>(rt: &impl Abort, place: &'a D) {
+    let shown = "[\"a\", \",\", LineOrSpace, \"b\", \",\", LineOrSpace, \"c\"]";
+    on_lines(rt, place, marked(rt, place, &["a", "b", "c"]), shown);
     assert!(rt; marked(rt, place, &[]).is_empty());
 }
 

@@ -1,98 +1,97 @@
 //! Documents of one node, not placed yet, and documents in the making.
-use crate::expected::{fails, is_built};
+use crate::expected::is_made;
 use prettyless::prelude::*;
 use prettyless::text::{BuildError, CowStr};
 use prettyless::{BuildDoc, Doc};
 use std::process::Abort;
 
-// A node, as a document in the making.
-fn is_node<'a, D: DocPlace<'a>>(
-    rt: &impl Abort,
-    place: &'a D,
-    node: Doc<'a, D::Doc>,
-    shown: &str,
-    layout: &str,
-) {
-    is_built(rt, place, BuildDoc::Doc(node), shown, layout);
+// Compares what a node is shown as.
+fn is_node<'a, D: DocPlace<'a>>(rt: &impl Abort, place: &'a D, node: Doc<'a, D::Doc>, text: &str) {
+    is_made(rt, place, BuildDoc::Doc(node), text);
 }
 
-// What a call makes.
-fn is_made<'a, D: DocPlace<'a>>(
-    rt: &impl Abort,
-    place: &'a D,
-    made: Result<BuildDoc<'a, D::Doc>, BuildError>,
-    shown: &str,
-    layout: &str,
-) {
-    let made = made.expect(rt, "a document was not made");
-    is_built(rt, place, made, shown, layout);
-}
-
-// A node that a call makes.
-fn is_made_node<'a, D: DocPlace<'a>>(
+// Compares what a node that a call makes is shown as.
+fn makes_node<'a, D: DocPlace<'a>>(
     rt: &impl Abort,
     place: &'a D,
     made: Result<Doc<'a, D::Doc>, BuildError>,
-    shown: &str,
-    layout: &str,
+    text: &str,
 ) {
-    let node = made.expect(rt, "a node was not made");
-    is_node(rt, place, node, shown, layout);
+    is_node(rt, place, made.expect(rt, "a node was not made"), text);
+}
+
+// Compares what a document that a call makes is shown as.
+fn makes<'a, D: DocPlace<'a>>(
+    rt: &impl Abort,
+    place: &'a D,
+    made: Result<BuildDoc<'a, D::Doc>, BuildError>,
+    text: &str,
+) {
+    is_made(rt, place, made.expect(rt, "a document was not made"), text);
 }
 
 pub(crate) fn leaves<'a, D: DocPlace<'a>>(rt: &impl Abort, place: &'a D) {
-    is_node(rt, place, Doc::nil(), "Nil", "ab");
-    fails(rt, place, BuildDoc::Doc(Doc::fail()), "Fail");
-    is_node(rt, place, Doc::hard_line(), "HardLine", "a\nb");
-    is_node(rt, place, Doc::hardline(), "HardLine", "a\nb");
-    is_node(rt, place, Doc::weak_line(), "WeakLine", "a\nb");
+    is_node(rt, place, Doc::nil(), "Nil");
+    is_node(rt, place, Doc::fail(), "Fail");
+    is_node(rt, place, Doc::hard_line(), "HardLine");
+    is_node(rt, place, Doc::hardline(), "HardLine");
+    is_node(rt, place, Doc::weak_line(), "WeakLine");
 }
 
 pub(crate) fn blanks<'a, D: DocPlace<'a>>(rt: &impl Abort, place: &'a D) {
-    is_node(rt, place, Doc::space(), "\" \"", "a b");
-    is_node(rt, place, Doc::weak_space(), "WeakSpace", "a b");
-    is_node(rt, place, Doc::expand_parent(), "ExpandParent", "ab");
+    is_node(rt, place, Doc::space(), "\" \"");
+    is_node(rt, place, Doc::weak_space(), "WeakSpace");
+    is_node(rt, place, Doc::expand_parent(), "ExpandParent");
 }
 
 pub(crate) fn texts<'a, D: DocPlace<'a>>(rt: &impl Abort, place: &'a D) {
     let memory = place.memory();
     let text = Doc::text(memory, CowStr::Borrowed("xy"));
-    is_made_node(rt, place, text, "\"xy\"", "axyb");
+    makes_node(rt, place, text, "\"xy\"");
     let value = Doc::as_string(memory, 16);
-    is_made_node(rt, place, value, "\"16\"", "a16b");
+    makes_node(rt, place, value, "\"16\"");
     let payload = Doc::multiline_text(memory, CowStr::Borrowed("x\ny"));
-    let shown = "MultilineText(\"x\\ny\")";
-    is_made_node(rt, place, payload, shown, "ax\nyb");
+    makes_node(rt, place, payload, "MultilineText(\"x\\ny\")");
 }
 
 pub(crate) fn made_leaves<'a, D: DocPlace<'a>>(rt: &impl Abort, place: &'a D) {
-    is_built(rt, place, BuildDoc::nil(), "Nil", "ab");
-    fails(rt, place, BuildDoc::fail(), "Fail");
-    is_built(rt, place, BuildDoc::hard_line(), "HardLine", "a\nb");
-    is_built(rt, place, BuildDoc::hardline(), "HardLine", "a\nb");
-    is_built(rt, place, BuildDoc::weak_line(), "WeakLine", "a\nb");
+    is_made(rt, place, BuildDoc::nil(), "Nil");
+    is_made(rt, place, BuildDoc::fail(), "Fail");
+    is_made(rt, place, BuildDoc::hard_line(), "HardLine");
+    is_made(rt, place, BuildDoc::hardline(), "HardLine");
+    is_made(rt, place, BuildDoc::weak_line(), "WeakLine");
 }
 
 pub(crate) fn made_blanks<'a, D: DocPlace<'a>>(rt: &impl Abort, place: &'a D) {
-    is_built(rt, place, BuildDoc::space(), "\" \"", "a b");
-    is_built(rt, place, BuildDoc::weak_space(), "WeakSpace", "a b");
-    let nothing = BuildDoc::expand_parent();
-    is_built(rt, place, nothing, "ExpandParent", "ab");
+    is_made(rt, place, BuildDoc::space(), "\" \"");
+    is_made(rt, place, BuildDoc::weak_space(), "WeakSpace");
+    is_made(rt, place, BuildDoc::expand_parent(), "ExpandParent");
 }
 
 pub(crate) fn made_texts<'a, D: DocPlace<'a>>(rt: &impl Abort, place: &'a D) {
     let memory = place.memory();
     let text = BuildDoc::text(memory, CowStr::Borrowed("xy"));
-    is_made(rt, place, text, "\"xy\"", "axyb");
+    makes(rt, place, text, "\"xy\"");
     let value = BuildDoc::as_string(memory, 16);
-    is_made(rt, place, value, "\"16\"", "a16b");
+    makes(rt, place, value, "\"16\"");
     let payload = BuildDoc::multiline_text(memory, CowStr::Borrowed("x\ny"));
-    is_made(rt, place, payload, "MultilineText(\"x\\ny\")", "ax\nyb");
+    makes(rt, place, payload, "MultilineText(\"x\\ny\")");
 }
 
 pub(crate) fn lines<'a, D: DocPlace<'a>>(rt: &impl Abort, place: &'a D) {
-    is_made_node(rt, place, Doc::line(place), "LineOrSpace", "a\nb");
-    is_made_node(rt, place, Doc::line_(place), "LineOrNil", "a\nb");
-    is_made(rt, place, BuildDoc::line(place), "LineOrSpace", "a\nb");
-    is_made(rt, place, BuildDoc::line_(place), "LineOrNil", "a\nb");
+    makes_node(rt, place, Doc::line(place), "LineOrSpace");
+    makes_node(rt, place, Doc::line_(place), "LineOrNil");
+    makes(rt, place, BuildDoc::line(place), "LineOrSpace");
+    makes(rt, place, BuildDoc::line_(place), "LineOrNil");
+}
+
+// A node and a document in the making once more.
+pub(crate) fn copies<'a, D: DocPlace<'a>>(rt: &impl Abort, place: &'a D) {
+    makes_node(rt, place, Doc::WeakLine.clone(place), "WeakLine");
+    makes(
+        rt,
+        place,
+        BuildDoc::Doc(Doc::HardLine).clone(place),
+        "HardLine",
+    );
 }

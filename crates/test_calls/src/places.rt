@@ -1,5 +1,4 @@
 //! All calls in each place of nodes.
-use crate::expected::{built, points};
 use crate::{builders, calls, combined, deep, lists, nodes, operands, pointers, values};
 use bumpalo::Bump;
 use prettyless::prelude::*;
@@ -8,7 +7,6 @@ use prettyless::{Arena, BoxAllocator, Doc, DocBuilder, DocPtr, IntoRef, RcAlloca
 use std::alloc::Global;
 use std::fmt;
 use std::process::Abort;
-use std::test::Fail;
 
 fn start<'a, D: DocPlace<'a>>(rt: &impl Abort, place: &'a D)
 where
@@ -21,13 +19,12 @@ where
     calls::payloads(rt, place);
     calls::widths(rt, place);
     calls::strings(rt, place);
-    calls::sequences(rt, place);
-    calls::separators(rt, place);
     lists::gaps(rt, place);
     lists::marks(rt, place);
     lists::brackets(rt, place);
     calls::words(rt, place);
     calls::gaps(rt, place);
+    calls::hundreds(rt, place);
     calls::chains(rt, place);
     calls::nodes(rt, place);
 }
@@ -40,6 +37,7 @@ fn make<'a, D: DocPlace<'a>>(rt: &impl Abort, place: &'a D) {
     nodes::made_blanks(rt, place);
     nodes::made_texts(rt, place);
     nodes::lines(rt, place);
+    nodes::copies(rt, place);
 }
 
 fn build<'a, D: DocPlace<'a>>(rt: &impl Abort, place: &'a D) {
@@ -56,8 +54,6 @@ fn build<'a, D: DocPlace<'a>>(rt: &impl Abort, place: &'a D) {
     builders::quotes(rt, place);
     builders::brackets(rt, place);
     builders::copies(rt, place);
-    builders::copies_in_the_making(rt, place);
-    builders::copies_of_nodes(rt, place);
 }
 
 fn point<'a, D: DocPlace<'a>>(rt: &impl Abort, place: &'a D)
@@ -69,10 +65,6 @@ where
     pointers::lines(rt, place);
     pointers::texts(rt, place);
     pointers::wrappers(rt, place);
-    pointers::sums(rt, place);
-    pointers::by_place(rt, place);
-    pointers::sequences(rt, place);
-    pointers::separators(rt, place);
     pointers::clones(rt, place);
 }
 
@@ -80,40 +72,55 @@ fn combine<'a, D: DocPlace<'a>>(rt: &impl Abort, place: &'a D) {
     combined::leaves(rt, place);
     combined::lines(rt, place);
     combined::texts(rt, place);
-    combined::sequences(rt, place);
-}
-
-fn convert<'a, D: DocPlace<'a>>(rt: &impl Abort, place: &'a D, owned: &'a String) {
-    values::texts(rt, place, owned);
-    values::options(rt, place);
-    values::several(rt, place);
-    values::macros(rt, place);
-    values::refusals(rt, place);
+    combined::wrappers(rt, place, weak_line());
 }
 
 // The texts are of any type, since the proof of a call with `&str` takes much longer.
 fn take<'a, D: DocPlace<'a>, P: Pretty<'a, D> + Copy>(
     rt: &impl Abort,
     place: &'a D,
-    letters: [P; 16],
-    [empty, comma, comment, ab]: [P; 4],
-) {
-    let [a, b, ..] = letters;
-    calls::operands(rt, place, a, b, comment);
+    a: P,
+    b: P,
+    empty: P,
+)
+where
+    D::Doc: fmt::Debug,
+{
+    calls::operands(rt, place, a, empty);
     calls::by_place(rt, place, a, b);
     builders::sums(rt, place, a, empty);
+    builders::operands(rt, place, a, b);
+    pointers::sums(rt, place, a);
+    pointers::by_place(rt, place, a, b);
     combined::indents(rt, place, a);
-    combined::wrappers(rt, place, empty, ab);
-    combined::choices(rt, place, a, comma);
-    combined::by_place(rt, place, a, b, empty);
-    values::longest(rt, place, letters);
+    combined::choices(rt, place, a, b);
+    combined::by_place(rt, place, a, b);
+    values::several(rt, place, a, b);
+    values::longest(rt, place, a, b);
+    values::macros(rt, place, a, b);
+    values::refusals(rt, place, a, b);
 }
 
-const LETTERS: [&str; 16] = [
-    "a", "b", "c", "d", "e", "f", "g", "h", "i", "j", "k", "l", "m", "n", "o", "p",
-];
+// Likewise of several texts at once.
+fn take_each<'a, D: DocPlace<'a>, P: Pretty<'a, D> + Copy>(
+    rt: &impl Abort,
+    place: &'a D,
+    none: &'a [P],
+    one: &'a [P],
+    two: &'a [P],
+    comma: P,
+)
+where
+    D::Doc: fmt::Debug,
+{
+    calls::sequences(rt, place, none, two);
+    calls::separators(rt, place, none, one, two, comma);
+    pointers::sequences(rt, place, two, comma);
+    pointers::separators(rt, place, one, two);
+    combined::sequences(rt, place, two, comma);
+}
 
-fn all<'a, D: DocPlace<'a>>(rt: &impl Abort, place: &'a D, owned: &'a String)
+fn all<'a, D: DocPlace<'a>>(rt: &impl Abort, place: &'a D)
 where
     D::Doc: fmt::Debug,
 {
@@ -122,8 +129,10 @@ where
     build(rt, place);
     point(rt, place);
     combine(rt, place);
-    convert(rt, place, owned);
-    take(rt, place, LETTERS, ["", ",", "//", "ab"]);
+    values::texts(rt, place);
+    values::arrays(rt, place, [], ["a", "b"]);
+    take(rt, place, "a", "b", "");
+    take_each(rt, place, &[], &["a"], &["a", "b"], ",");
 }
 
 // A place by reference is the same place: nodes are put there, and copied.
@@ -135,81 +144,70 @@ where
     pointers::clones(rt, place);
 }
 
+// `owned` is lent to the documents.
 fn in_boxes<'a, D: DocPlace<'a, Doc = T>, T: DocPtr<'a> + Pretty<'a, D> + fmt::Debug>(
     rt: &impl Abort,
     place: &'a &'a D,
     owned: &'a String,
 ) {
-    all(rt, *place, owned);
+    all(rt, *place);
     lend(rt, place);
-    operands::all(rt, *place);
+    operands::pointers(rt, *place);
     operands::others(rt, *place);
+    values::lent(rt, *place, owned);
     deep::chains(rt, *place);
-    deep::compare_clone(rt, *place);
 }
 
 // A test makes one call with its place, since each call with a place of a named type takes long to prove.
 #[test]
-fn boxes(rt: HostRuntime) -> Result<(), Fail> {
-    let owned = String::from_str(rt.alloc(), "owned")?;
+fn boxes(rt: HostRuntime) {
+    let owned = String::from_str(rt.alloc(), "owned").expect(&rt, "memory was refused");
     let boxes = BoxAllocator::new(rt.alloc());
     in_boxes(&rt, &&boxes, &owned);
-    Ok(())
 }
 
-fn in_counted_nodes<'a, D: DocPlace<'a>>(rt: &impl Abort, place: &'a D, owned: &'a String)
+fn in_counted_nodes<'a, D: DocPlace<'a>>(rt: &impl Abort, place: &'a D)
 where
     D::Doc: fmt::Debug,
 {
-    all(rt, place, owned);
+    all(rt, place);
     operands::pointed(rt, place);
-    deep::compare_owners(rt, place);
 }
 
 #[test]
-fn counted_nodes(rt: HostRuntime) -> Result<(), Fail> {
-    let owned = String::from_str(rt.alloc(), "owned")?;
+fn counted_nodes(rt: HostRuntime) {
     let nodes = RcAllocator::new(rt.alloc());
-    in_counted_nodes(&rt, &nodes, &owned);
-    Ok(())
+    in_counted_nodes(&rt, &nodes);
 }
 
-// Answers a line, for the call that only a builder over an arena has.
+// Answers a text, for the call that only a builder over an arena has.
 fn in_any_arena<'a, D: DocPlace<'a, Doc = T>, T: DocPtr<'a> + Pretty<'a, D> + fmt::Debug>(
     rt: &impl Abort,
     place: &'a D,
-    owned: &'a String,
 ) -> DocBuilder<'a, D> {
-    all(rt, place, owned);
-    operands::all(rt, place);
-    pointers::compare_other(rt, place);
-    built(rt, place.line())
+    all(rt, place);
+    operands::pointers(rt, place);
+    DocBuilder::new(place, Doc::Text(Text::Borrowed("a")))
 }
 
-fn counts(rt: &impl Abort, arena: &Arena<'_>, len: usize) {
-    assert!(rt; arena.len() == len);
-    assert!(rt; arena.is_empty() == (len == 0));
+fn in_arena<'a>(rt: &impl Abort, arena: &'a Arena<'a>) {
+    assert!(rt; arena.is_empty() && arena.len() == 0);
+    let text = in_any_arena(rt, arena);
+    let placed = arena.len();
+    assert!(rt; text.into_ref().is_ok());
+    assert!(rt; arena.len() == placed.saturating_add(1) && !arena.is_empty());
 }
 
-fn in_arena<'a>(rt: &impl Abort, memory: Global, arena: &'a Arena<'a>, owned: &'a String) {
-    counts(rt, arena, 0);
-    assert!(rt; arena.alloc(Doc::Text(Text::Borrowed("a"))).is_ok());
-    counts(rt, arena, 1);
-    let line = in_any_arena(rt, arena, owned);
-    points(rt, memory, line.into_ref(), "LineOrSpace");
+fn in_new_arena(rt: &impl Abort, memory: Global, bump: &Bump) {
+    let arena = Arena::new(memory, bump);
+    in_arena(rt, &arena);
 }
 
 // A bump that is reset takes the nodes of another arena.
 #[test]
-fn arenas(rt: HostRuntime) -> Result<(), Fail> {
-    let owned = String::from_str(rt.alloc(), "owned")?;
+fn arenas(rt: HostRuntime) {
     let mut bump = Bump::new(rt.alloc());
-    {
-        let arena = Arena::new(rt.alloc(), &bump);
-        in_arena(&rt, rt.alloc(), &arena, &owned);
-    }
-    bump.reset()?;
-    let arena = Arena::new(rt.alloc(), &bump);
-    in_arena(&rt, rt.alloc(), &arena, &owned);
-    Ok(())
+    in_new_arena(&rt, rt.alloc(), &bump);
+    bump.reset().expect(&rt, "memory was refused");
+    in_new_arena(&rt, rt.alloc(), &bump);
 }

@@ -1,7 +1,7 @@
 //! The constructors of pointers, what outlives its owner, and what only one of the pointers has.
-use crate::expected::{Failing, built, points, rendered};
+use crate::expected::{Failing, built, points, refuses, rendered};
 use prettyless::prelude::*;
-use prettyless::text::{BuildError, CowStr, Text};
+use prettyless::text::{BuildError, CowStr};
 use prettyless::{BoxDoc, BuildDoc, ColumnTest, Doc, DocBuilder, DocPtr, NestingTest, RcDoc};
 use std::fmt;
 use std::process::Abort;
@@ -69,48 +69,65 @@ pub(crate) fn wrappers<'a, D: DocPlace<'a, Doc = T>, T: DocPtr<'a> + fmt::Debug>
     points(rt, memory, union, "Union(HardLine, Fail)");
 }
 
-pub(crate) fn sums<'a, D: DocPlace<'a, Doc = T>, T: DocPtr<'a> + fmt::Debug>(
-    rt: &impl Abort,
-    place: &'a D,
-) {
+pub(crate) fn sums<
+    'a,
+    D: DocPlace<'a, Doc = T>,
+    P: Pretty<'a, D> + Copy,
+    T: DocPtr<'a> + fmt::Debug,
+>(rt: &impl Abort, place: &'a D, a: P) {
     let memory = place.memory();
-    let sum = line(rt, place).append(place, "a");
+    let sum = line(rt, place).append(place, a);
     points(rt, memory, sum, "[HardLine, \"a\"]");
-    let comma = line(rt, place).flat_alt(place, ",");
-    points(rt, memory, comma, "FlatOrBreak(\",\", HardLine)");
+    let either = line(rt, place).flat_alt(place, a);
+    points(rt, memory, either, "FlatOrBreak(\"a\", HardLine)");
 }
 
-pub(crate) fn by_place<'a, D: DocPlace<'a, Doc = T>, T: DocPtr<'a> + fmt::Debug>(
-    rt: &impl Abort,
-    place: &'a D,
-) {
+pub(crate) fn by_place<
+    'a,
+    D: DocPlace<'a, Doc = T>,
+    P: Pretty<'a, D> + Copy,
+    T: DocPtr<'a> + fmt::Debug,
+>(rt: &impl Abort, place: &'a D, a: P, b: P) {
     let memory = place.memory();
-    let hung = T::if_column(place, ColumnTest::IsNesting, "a", ());
-    points(rt, memory, hung, "OnColumn(IsNesting, \"a\", Nil)");
-    let deep = T::if_nesting(place, NestingTest::AtMost(1), (), "b");
-    points(rt, memory, deep, "OnNesting(AtMost(1), Nil, \"b\")");
+    let hung = T::if_column(place, ColumnTest::IsNesting, a, b);
+    points(rt, memory, hung, "OnColumn(IsNesting, \"a\", \"b\")");
+    let deep = T::if_nesting(place, NestingTest::AtMost(1), a, b);
+    points(rt, memory, deep, "OnNesting(AtMost(1), \"a\", \"b\")");
 }
 
-pub(crate) fn sequences<'a, D: DocPlace<'a, Doc = T>, T: DocPtr<'a> + fmt::Debug>(
-    rt: &impl Abort,
-    place: &'a D,
-) {
-    let memory = place.memory();
-    let items = T::concat(place, ["a", "b"].into_iter());
-    points(rt, memory, items, "[\"a\", \"b\"]");
-    let items = T::intersperse(place, ["a", "b"].into_iter(), line_or_space());
-    points(rt, memory, items, "[\"a\", LineOrSpace, \"b\"]");
+fn between<
+    'a,
+    D: DocPlace<'a, Doc = T>,
+    P: Pretty<'a, D> + Copy,
+    S: Pretty<'a, D> + Drop,
+    T: DocPtr<'a>,
+>(place: &'a D, items: &'a [P], separator: S) -> Result<T, BuildError> {
+    T::intersperse(place, items.iter().copied(), separator)
 }
 
-pub(crate) fn separators<'a, D: DocPlace<'a, Doc = T>, T: DocPtr<'a> + fmt::Debug>(
-    rt: &impl Abort,
-    place: &'a D,
-) {
+pub(crate) fn sequences<
+    'a,
+    D: DocPlace<'a, Doc = T>,
+    P: Pretty<'a, D> + Copy,
+    T: DocPtr<'a> + fmt::Debug,
+>(rt: &impl Abort, place: &'a D, items: &'a [P], comma: P) {
     let memory = place.memory();
-    let item = T::intersperse(place, ["a"].into_iter(), as_string(Failing));
-    points(rt, memory, item, "\"a\"");
-    let items = T::intersperse(place, ["a", "b"].into_iter(), as_string(Failing));
-    assert!(rt; matches!(items, Err(BuildError::Display)));
+    let all = T::concat(place, items.iter().copied());
+    points(rt, memory, all, "[\"a\", \"b\"]");
+    let all = between(place, items, comma);
+    points(rt, memory, all, "[\"a\", \",\", \"b\"]");
+}
+
+// A separator becomes a document only where there is a gap.
+pub(crate) fn separators<
+    'a,
+    D: DocPlace<'a, Doc = T>,
+    P: Pretty<'a, D> + Copy,
+    T: DocPtr<'a> + fmt::Debug,
+>(rt: &impl Abort, place: &'a D, one: &'a [P], two: &'a [P]) {
+    let item = between(place, one, as_string(Failing));
+    points(rt, place.memory(), item, "\"a\"");
+    refuses(rt, between(place, two, as_string(Failing)));
 }
 
 const LAYOUT: &str = "an owned text of more than 22 bytes\n  one\ntwo";
@@ -120,10 +137,15 @@ fn owned<'a, D: DocPlace<'a>>(rt: &impl Abort, place: &'a D, text: &str) -> CowS
     CowStr::Owned(text.expect(rt, "memory was refused"))
 }
 
-// An owned text, and the end of its line.
-fn first_line<'a, D: DocPlace<'a>>(rt: &impl Abort, place: &'a D, text: &str) -> DocBuilder<'a, D> {
-    let text = built(rt, place.text(owned(rt, place, text)));
-    built(rt, text.append(hard_line()))
+// A tree with an owned text and an owned payload.
+fn tree<'a, D: DocPlace<'a>>(rt: &impl Abort, place: &'a D) -> D::Doc {
+    let text = place.text(owned(rt, place, "an owned text of more than 22 bytes"));
+    let line = built(
+        rt,
+        built(rt, text).join(DocBuilder::new(place, Doc::HardLine)),
+    );
+    let payload = built(rt, place.multiline_text(owned(rt, place, "one\ntwo")));
+    nested(rt, line.join(payload), 2)
 }
 
 fn nested<'a, D: DocPlace<'a>>(
@@ -133,13 +155,6 @@ fn nested<'a, D: DocPlace<'a>>(
 ) -> D::Doc {
     let nested = built(rt, built(rt, lines).nest(offset));
     nested.into_doc().expect(rt, "a tree was not placed")
-}
-
-// A tree with an owned text and an owned payload.
-fn tree<'a, D: DocPlace<'a>>(rt: &impl Abort, place: &'a D) -> D::Doc {
-    let first = first_line(rt, place, "an owned text of more than 22 bytes");
-    let payload = place.multiline_text(owned(rt, place, "one\ntwo"));
-    nested(rt, first.join(built(rt, payload)), 2)
 }
 
 fn compare<'a, D: DocPlace<'a>>(rt: &impl Abort, place: &'a D, document: &D::Doc, layout: &str) {
@@ -170,16 +185,4 @@ fn counted_nodes_are_cloned(rt: HostRuntime) {
     let copy = line.clone();
     drop(line);
     points(&rt, rt.alloc(), copy, "HardLine");
-}
-
-// Another tree with an owned text.
-fn other<'a, D: DocPlace<'a>>(rt: &impl Abort, place: &'a D) -> D::Doc {
-    let first = first_line(rt, place, "another text of more than 22 bytes");
-    nested(rt, first.append("three"), 4)
-}
-
-const OTHER_LAYOUT: &str = "another text of more than 22 bytes\n    three";
-
-pub(crate) fn compare_other<'a, D: DocPlace<'a>>(rt: &impl Abort, place: &'a D) {
-    compare(rt, place, &other(rt, place), OTHER_LAYOUT);
 }

@@ -1,66 +1,95 @@
 //! What can become a document.
 use crate::expected::{Failing, refuses, shows};
-use prettyless::combinators::types::HardLine;
 use prettyless::docs;
 use prettyless::prelude::*;
-use prettyless::text::CowStr;
+use prettyless::text::{BuildError, CowStr};
 use std::cell::Cell;
 use std::process::Abort;
 
-// `owned` is lent to the documents.
-pub(crate) fn texts<'a, D: DocPlace<'a>>(rt: &impl Abort, place: &'a D, owned: &'a String) {
+pub(crate) fn texts<'a, D: DocPlace<'a>>(rt: &impl Abort, place: &'a D) {
     shows(rt, "a".pretty(place), "\"a\"");
-    shows(rt, owned.pretty(place), "\"owned\"");
-    let copy = String::from_str(place.memory(), owned.as_str());
-    let copy = copy.expect(rt, "memory was refused");
-    shows(rt, copy.pretty(place), "\"owned\"");
-    shows(rt, String::new(place.memory()).pretty(place), "Nil");
     shows(rt, CowStr::Borrowed("a").pretty(place), "\"a\"");
+    let owned = String::from_str(place.memory(), "owned").expect(rt, "memory was refused");
+    shows(rt, owned.pretty(place), "\"owned\"");
+    shows(rt, String::new(place.memory()).pretty(place), "Nil");
 }
 
-pub(crate) fn options<'a, D: DocPlace<'a>>(rt: &impl Abort, place: &'a D) {
-    shows(rt, Some("a").pretty(place), "\"a\"");
-    shows(rt, None::<&'a str>.pretty(place), "Nil");
+pub(crate) fn lent<'a, D: DocPlace<'a>>(rt: &impl Abort, place: &'a D, owned: &'a String) {
+    shows(rt, owned.pretty(place), "\"owned\"");
 }
 
-pub(crate) fn several<'a, D: DocPlace<'a>>(rt: &impl Abort, place: &'a D) {
-    shows(rt, ["a", "b"].pretty(place), "[\"a\", \"b\"]");
-    shows(rt, [""; 0].pretty(place), "Nil");
+pub(crate) fn several<'a, D: DocPlace<'a>, P: Pretty<'a, D> + Copy>(
+    rt: &impl Abort,
+    place: &'a D,
+    a: P,
+    b: P,
+) {
+    shows(rt, Some(a).pretty(place), "\"a\"");
+    shows(rt, None::<P>.pretty(place), "Nil");
     shows(rt, ().pretty(place), "Nil");
-    shows(rt, ("a",).pretty(place), "\"a\"");
-    let three = ("a", nil(), Some("b"));
-    shows(rt, three.pretty(place), "[\"a\", \"b\"]");
+    shows(rt, (a,).pretty(place), "\"a\"");
+    shows(rt, (a, (), b).pretty(place), "[\"a\", \"b\"]");
 }
 
+pub(crate) fn arrays<'a, D: DocPlace<'a>, P: Pretty<'a, D> + Copy>(
+    rt: &impl Abort,
+    place: &'a D,
+    none: [P; 0],
+    pair: [P; 2],
+) {
+    shows(rt, none.pretty(place), "Nil");
+    shows(rt, pair.pretty(place), "[\"a\", \"b\"]");
+}
+
+// As many fields as a tuple may have.
 pub(crate) fn longest<'a, D: DocPlace<'a>, P: Pretty<'a, D> + Copy>(
     rt: &impl Abort,
     place: &'a D,
-    letters: [P; 16],
+    a: P,
+    b: P,
 ) {
-    let [a, b, c, d, e, f, g, h, i, j, k, l, m, n, o, p] = letters;
-    let all = (a, b, c, d, e, f, g, h, i, j, k, l, m, n, o, p);
-    let shown = "[\"a\", \"b\", \"c\", \"d\", \"e\", \"f\", \"g\", \"h\", \
-                 \"i\", \"j\", \"k\", \"l\", \"m\", \"n\", \"o\", \"p\"]";
+    let all = (a, b, a, b, a, b, a, b, a, b, a, b, a, b, a, b);
+    let shown = "[\"a\", \"b\", \"a\", \"b\", \"a\", \"b\", \"a\", \"b\", \
+                 \"a\", \"b\", \"a\", \"b\", \"a\", \"b\", \"a\", \"b\"]";
     shows(rt, all.pretty(place), shown);
 }
 
-pub(crate) fn macros<'a, D: DocPlace<'a>>(rt: &impl Abort, place: &'a D) {
-    shows(rt, docs![place, "a"], "\"a\"");
-    let pair = docs![place, "a", hard_line()];
-    shows(rt, pair, "[\"a\", HardLine]");
+pub(crate) fn macros<'a, D: DocPlace<'a>, P: Pretty<'a, D> + Copy>(
+    rt: &impl Abort,
+    place: &'a D,
+    a: P,
+    b: P,
+) {
+    shows(rt, docs![place, a], "\"a\"");
+    shows(rt, docs![place, a, b], "[\"a\", \"b\"]");
 }
 
-// A line, and a note that it was asked for.
-fn noted(asked: &Cell<bool>) -> HardLine {
+// The value, and a note that it was asked for.
+fn noted<P>(asked: &Cell<bool>, value: P) -> P {
     asked.set(true);
-    hard_line()
+    value
+}
+
+// A document before the operand and one after it, which is noted.
+fn around<'a, D: DocPlace<'a>, P: Pretty<'a, D> + Copy, Q: Pretty<'a, D> + Drop>(
+    place: &'a D,
+    a: P,
+    operand: Q,
+    asked: &Cell<bool>,
+) -> Result<DocBuilder<'a, D>, BuildError> {
+    docs![place, a, operand, noted(asked, a)]
 }
 
 // What comes after a refused document is not evaluated.
-pub(crate) fn refusals<'a, D: DocPlace<'a>>(rt: &impl Abort, place: &'a D) {
+pub(crate) fn refusals<'a, D: DocPlace<'a>, P: Pretty<'a, D> + Copy>(
+    rt: &impl Abort,
+    place: &'a D,
+    a: P,
+    b: P,
+) {
     let asked = Cell::new(false);
-    refuses(rt, docs![place, "a", as_string(Failing), noted(&asked)]);
+    refuses(rt, around(place, a, as_string(Failing), &asked));
     assert!(rt; !asked.get());
-    shows(rt, docs![place, "a", noted(&asked)], "[\"a\", HardLine]");
+    shows(rt, around(place, a, b, &asked), "[\"a\", \"b\", \"a\"]");
     assert!(rt; asked.get());
 }
