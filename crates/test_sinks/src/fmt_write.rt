@@ -8,7 +8,6 @@ use prettyless_sink::pieces::write_gap_and_text;
 use prettyless_sink::render::Render;
 use prettyless_sink::text_writer::{TextWriter, Untold};
 use std::fmt;
-use std::test::Fail;
 
 // The owner of a text learns what a sink over it wrote.
 fn write_indented<W: TextWriter>(out: &mut W, text: &str) -> fmt::Result
@@ -20,29 +19,25 @@ fn write_indented<W: TextWriter>(out: &mut W, text: &str) -> fmt::Result
 }
 
 #[test]
-fn appends_to_the_text(rt: HostRuntime) -> Result<(), Fail> {
-    let mut text = String::from_str(rt.alloc(), "ab\n")?;
-    write_indented(&mut text, "é")?;
+fn appends_to_the_text(rt: HostRuntime) {
+    let mut text = String::from_str(rt.alloc(), "ab\n").expect(&rt, "memory was refused");
+    assert!(rt; write_indented(&mut text, "é").is_ok());
     assert!(rt; text.as_str() == "ab\n  é");
-    Ok(())
 }
 
 #[test]
-fn answers_the_whole_length(rt: HostRuntime) -> Result<(), Fail> {
+fn answers_the_whole_length(rt: HostRuntime) {
     let mut text = String::new(rt.alloc());
-    let mut sink = FmtWrite::new(&mut text);
-    assert!(rt; sink.write_str("é")? == 2);
+    assert!(rt; matches!(FmtWrite::new(&mut text).write_str("é"), Ok(2)));
     assert!(rt; text.as_str() == "é");
-    Ok(())
 }
 
 #[test]
-fn writes_to_any_text_writer(rt: HostRuntime) -> Result<(), Fail> {
+fn writes_to_any_text_writer(rt: HostRuntime) {
     let mut text = String::new(rt.alloc());
     let mut writer = Untold(&mut text);
-    FmtWrite::new(&mut writer).write_str_all("a")?;
+    assert!(rt; FmtWrite::new(&mut writer).write_str_all("a").is_ok());
     assert!(rt; text.as_str() == "a");
-    Ok(())
 }
 
 // A text writer that takes one byte of its second piece and fails.
@@ -71,14 +66,12 @@ impl TextWriter for Failing {
 }
 
 #[test]
-fn writes_no_refused_piece_again(rt: HostRuntime) -> Result<(), Fail> {
+fn writes_no_refused_piece_again(rt: HostRuntime) {
     let mut writer = Failing {
         pieces: 0,
         bytes: Vec::new(rt.alloc()),
     };
     let mut sink = FmtWrite::new(&mut writer);
-    assert!(rt; write_gap_and_text(&mut sink, 2, "é") == Err(fmt::Error));
-    assert!(rt; writer.pieces == 2);
-    assert!(rt; writer.bytes.as_slice() == b"  \xc3".as_slice());
-    Ok(())
+    assert!(rt; write_gap_and_text(&mut sink, 2, "é").is_err());
+    assert!(rt; writer.pieces == 2 && writer.bytes.as_slice() == b"  \xc3".as_slice());
 }

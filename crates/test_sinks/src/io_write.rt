@@ -6,9 +6,10 @@ ghost use Rattle.prettyless_model.specs.Spaces.{spaces};
 use prettyless_sink::io_write::IoWrite;
 use prettyless_sink::pieces::write_gap_and_text;
 use prettyless_sink::render::Render;
+use std::alloc::Global;
 use std::io;
 use std::io::Write;
-use std::test::Fail;
+use std::process::Abort;
 
 // What a writer does at its second call.
 #[derive(Clone, Copy)]
@@ -54,63 +55,63 @@ impl Write for ByBytes {
     }
 }
 
-fn writer_with(rt: &HostRuntime, second: Second) -> ByBytes {
+fn writer_with(memory: Global, second: Second) -> ByBytes {
     ByBytes {
         second,
         calls: 0,
-        bytes: Vec::new(rt.alloc()),
+        bytes: Vec::new(memory),
+    }
+}
+
+fn is_of_kind(answer: io::Result<()>, kind: io::ErrorKind) -> bool {
+    match answer {
+        Ok(()) => false,
+        Err(e) => e.kind() == kind,
     }
 }
 
 #[test]
-fn goes_on_inside_a_character(rt: HostRuntime) -> Result<(), Fail> {
-    let mut writer = writer_with(&rt, Second::Takes);
-    IoWrite::new(&mut writer).write_str_all("é")?;
+fn goes_on_inside_a_character(rt: HostRuntime) {
+    let mut writer = writer_with(rt.alloc(), Second::Takes);
+    assert!(rt; IoWrite::new(&mut writer).write_str_all("é").is_ok());
     assert!(rt; writer.bytes.as_slice() == b"\xc3\xa9".as_slice());
-    Ok(())
 }
 
-#[test]
-fn hands_an_interruption_on(rt: HostRuntime) -> Result<(), Fail> {
-    let mut writer = writer_with(&rt, Second::IsInterrupted);
-    let mut sink = IoWrite::new(&mut writer);
-    let Err(e) = sink.write_str_all("ab") else {
-        return Err(Fail::from("the interruption is lost"));
-    };
-    assert!(rt; e.kind() == io::ErrorKind::Interrupted);
+// The second call of the writer stops the sink.
+fn stops(rt: &impl Abort, memory: Global, second: Second, kind: io::ErrorKind) {
+    let mut writer = writer_with(memory, second);
+    let answer = IoWrite::new(&mut writer).write_str_all("ab");
+    assert!(rt; is_of_kind(answer, kind));
     assert!(rt; writer.bytes.as_slice() == b"a".as_slice());
-    Ok(())
 }
 
 #[test]
-fn fails_at_a_count_of_0(rt: HostRuntime) -> Result<(), Fail> {
-    let mut writer = writer_with(&rt, Second::TakesNothing);
-    let mut sink = IoWrite::new(&mut writer);
-    let Err(e) = sink.write_str_all("ab") else {
-        return Err(Fail::from("the count of 0 is lost"));
-    };
-    assert!(rt; e.kind() == io::ErrorKind::WriteZero);
-    assert!(rt; writer.bytes.as_slice() == b"a".as_slice());
-    Ok(())
+fn hands_an_interruption_on(rt: HostRuntime) {
+    let kind = io::ErrorKind::Interrupted;
+    stops(&rt, rt.alloc(), Second::IsInterrupted, kind);
 }
 
 #[test]
-fn answers_the_count_of_one_write(rt: HostRuntime) -> Result<(), Fail> {
-    let mut writer = writer_with(&rt, Second::Takes);
+fn fails_at_a_count_of_0(rt: HostRuntime) {
+    let kind = io::ErrorKind::WriteZero;
+    stops(&rt, rt.alloc(), Second::TakesNothing, kind);
+}
+
+#[test]
+fn answers_the_count_of_one_write(rt: HostRuntime) {
+    let mut writer = writer_with(rt.alloc(), Second::Takes);
     let mut sink = IoWrite::new(&mut writer);
-    assert!(rt; sink.write_str("ab")? == 1);
-    assert!(rt; sink.write_str("é")? == 1);
+    assert!(rt; matches!(sink.write_str("ab"), Ok(1)));
+    assert!(rt; matches!(sink.write_str("é"), Ok(1)));
     assert!(rt; writer.bytes.as_slice() == b"a\xc3".as_slice());
-    Ok(())
 }
 
 #[test]
-fn a_document_that_fails_is_of_kind_other(rt: HostRuntime) -> Result<(), Fail> {
+fn a_document_that_fails_is_of_kind_other(rt: HostRuntime) {
     let mut bytes: Vec<u8> = Vec::new(rt.alloc());
     let sink = IoWrite::new(&mut bytes);
-    assert!(rt; sink.fail_doc().kind() == io::ErrorKind::Other);
-    assert!(rt; sink.write_fault().kind() == io::ErrorKind::Other);
-    Ok(())
+    assert!(rt; is_of_kind(Err(sink.fail_doc()), io::ErrorKind::Other));
+    assert!(rt; is_of_kind(Err(sink.write_fault()), io::ErrorKind::Other));
 }
 
 // The owner of a writer learns what a sink over it wrote.
@@ -123,9 +124,8 @@ fn write_indented<W: Write>(out: &mut W, text: &str) -> io::Result<()>
 }
 
 #[test]
-fn writes_to_a_vector(rt: HostRuntime) -> Result<(), Fail> {
+fn writes_to_a_vector(rt: HostRuntime) {
     let mut bytes = Vec::new(rt.alloc());
-    write_indented(&mut bytes, "one\npiece")?;
+    assert!(rt; write_indented(&mut bytes, "one\npiece").is_ok());
     assert!(rt; bytes.as_slice() == b"  one\npiece".as_slice());
-    Ok(())
 }

@@ -4,7 +4,7 @@ ghost use Rattle.std.specs.Prelude.{⊤, Some};
 use prettyless_sink::pieces::write_gap_and_text;
 use prettyless_sink::render::Render;
 use std::alloc::{AllocError, Global};
-use std::test::Fail;
+use std::process::Abort;
 
 // A sink that keeps the lengths of its pieces beside their bytes.
 #[derive(Drop)]
@@ -48,22 +48,21 @@ impl Render for Lengths {
     }
 }
 
-#[test]
-fn cuts_gaps_at_100(rt: HostRuntime) -> Result<(), Fail> {
-    let mut out = Lengths::new(rt.alloc());
-    write_gap_and_text(&mut out, 205, "x")?;
-    assert!(rt; out.pieces.as_slice() == [100, 100, 5, 1].as_slice());
-    assert!(rt; out.bytes.len() == 206);
+// Writes a gap and a text, and compares the lengths of the pieces.
+fn cuts(rt: &impl Abort, memory: Global, gap: usize, text: &str, pieces: &[usize]) {
+    let mut out = Lengths::new(memory);
+    assert!(rt; write_gap_and_text(&mut out, gap, text).is_ok());
+    assert!(rt; out.pieces.as_slice() == pieces);
     assert!(rt; out.failures == 0);
-    Ok(())
 }
 
 #[test]
-fn writes_no_empty_piece(rt: HostRuntime) -> Result<(), Fail> {
-    let mut out = Lengths::new(rt.alloc());
-    write_gap_and_text(&mut out, 0, "")?;
-    assert!(rt; out.pieces.is_empty());
-    write_gap_and_text(&mut out, 200, "")?;
-    assert!(rt; out.pieces.as_slice() == [100, 100].as_slice());
-    Ok(())
+fn cuts_gaps_at_100(rt: HostRuntime) {
+    cuts(&rt, rt.alloc(), 205, "x", &[100, 100, 5, 1]);
+}
+
+#[test]
+fn writes_no_empty_piece(rt: HostRuntime) {
+    cuts(&rt, rt.alloc(), 0, "", &[]);
+    cuts(&rt, rt.alloc(), 200, "", &[100, 100]);
 }

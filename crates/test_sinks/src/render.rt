@@ -4,9 +4,10 @@ ghost use Rattle.test_sinks.specs.declared.render.Fault.TheVariants.{Count, Docu
 
 use prettyless_sink::pieces::write_gap_and_text;
 use prettyless_sink::render::{Render, is_fair_count};
-use std::test::Fail;
+use std::alloc::Global;
+use std::process::Abort;
 
-#[derive(Debug, PartialEq, Drop)]
+#[derive(Drop)]
 enum Fault {
     Document,
     Count,
@@ -61,48 +62,55 @@ impl Render for Short {
     }
 }
 
-fn sink_with(rt: &HostRuntime, count: usize, of_everything: bool) -> Short {
+fn sink_with(memory: Global, count: usize, of_everything: bool) -> Short {
     Short {
         count,
         of_everything,
-        bytes: Vec::new(rt.alloc()),
+        bytes: Vec::new(memory),
         failures: 0,
     }
 }
 
-#[test]
-fn stops_inside_a_character(rt: HostRuntime) -> Result<(), Fail> {
-    let mut sink = sink_with(&rt, 1, true);
-    assert!(rt; sink.write_str_all("é") == Err(Fault::Count));
-    assert!(rt; sink.bytes.as_slice() == b"\xc3".as_slice());
-    assert!(rt; sink.failures == 1);
-    Ok(())
+fn is_miscounted(answer: Result<(), Fault>) -> bool {
+    matches!(answer, Err(Fault::Count))
+}
+
+// Compares what a sink took, and how often it failed.
+fn holds(rt: &impl Abort, sink: &Short, bytes: &[u8], failures: u64) {
+    assert!(rt; sink.bytes.as_slice() == bytes);
+    assert!(rt; sink.failures == failures);
 }
 
 #[test]
-fn goes_on_between_characters(rt: HostRuntime) -> Result<(), Fail> {
-    let mut sink = sink_with(&rt, 1, true);
-    assert!(rt; sink.write_str_all("abc") == Ok(()));
-    assert!(rt; sink.bytes.as_slice() == b"abc".as_slice());
-    assert!(rt; sink.failures == 0);
-    Ok(())
+fn stops_inside_a_character(rt: HostRuntime) {
+    let mut sink = sink_with(rt.alloc(), 1, true);
+    assert!(rt; is_miscounted(sink.write_str_all("é")));
+    holds(&rt, &sink, b"\xc3", 1);
 }
 
 #[test]
-fn stops_at_a_bad_count(rt: HostRuntime) -> Result<(), Fail> {
-    for (count, bytes) in [(0, "a"), (2, "a "), (usize::MAX, "a ")] {
-        let mut sink = sink_with(&rt, count, false);
-        assert!(rt; sink.write_str_all("a") == Ok(()));
-        assert!(rt; write_gap_and_text(&mut sink, 1, "b") == Err(Fault::Count));
-        assert!(rt; sink.bytes.as_slice() == bytes.as_bytes());
-        assert!(rt; sink.failures == 1);
-    }
-    Ok(())
+fn goes_on_between_characters(rt: HostRuntime) {
+    let mut sink = sink_with(rt.alloc(), 1, true);
+    assert!(rt; sink.write_str_all("abc").is_ok());
+    holds(&rt, &sink, b"abc", 0);
+}
+
+fn stops_at(rt: &impl Abort, memory: Global, count: usize, bytes: &[u8]) {
+    let mut sink = sink_with(memory, count, false);
+    assert!(rt; sink.write_str_all("a").is_ok());
+    assert!(rt; is_miscounted(write_gap_and_text(&mut sink, 1, "b")));
+    holds(rt, &sink, bytes, 1);
 }
 
 #[test]
-fn the_document_fails(rt: HostRuntime) -> Result<(), Fail> {
-    let sink = sink_with(&rt, 0, false);
-    assert!(rt; sink.fail_doc() == Fault::Document);
-    Ok(())
+fn stops_at_a_bad_count(rt: HostRuntime) {
+    stops_at(&rt, rt.alloc(), 0, b"a");
+    stops_at(&rt, rt.alloc(), 2, b"a ");
+    stops_at(&rt, rt.alloc(), usize::MAX, b"a ");
+}
+
+#[test]
+fn the_document_fails(rt: HostRuntime) {
+    let sink = sink_with(rt.alloc(), 0, false);
+    assert!(rt; matches!(sink.fail_doc(), Fault::Document));
 }
