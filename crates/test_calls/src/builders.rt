@@ -1,7 +1,6 @@
 //! Each call of a builder once, with ample memory.
 use crate::expected::{built, shows};
 use prettyless::prelude::*;
-use prettyless::text::CowStr;
 use prettyless::{BuildDoc, Doc, DocBuilder};
 use std::process::Abort;
 
@@ -33,7 +32,6 @@ pub(crate) fn sums<'a, D: DocPlace<'a>, P: Pretty<'a, D> + Copy>(
 ) {
     shows(rt, line(place).append(a), "[HardLine, \"a\"]");
     shows(rt, line(place).append(empty), "HardLine");
-    shows(rt, nothing(place).append(a), "\"a\"");
     shows(rt, line(place) + a, "[HardLine, \"a\"]");
 }
 
@@ -51,12 +49,6 @@ pub(crate) fn operands<'a, D: DocPlace<'a>, P: Pretty<'a, D> + Copy>(
 
 pub(crate) fn joins<'a, D: DocPlace<'a>>(rt: &impl Abort, place: &'a D) {
     shows(rt, blank(place).join(line(place)), "[\" \", HardLine]");
-    shows(rt, nothing(place).join(line(place)), "HardLine");
-}
-
-pub(crate) fn repeats<'a, D: DocPlace<'a>>(rt: &impl Abort, place: &'a D) {
-    shows(rt, weak(place).repeat(0), "Nil");
-    shows(rt, weak(place).repeat(1), "WeakLine");
     shows(rt, weak(place).repeat(3), "[WeakLine, WeakLine, WeakLine]");
 }
 
@@ -74,52 +66,22 @@ pub(crate) fn unions<'a, D: DocPlace<'a>>(rt: &impl Abort, place: &'a D) {
 
 pub(crate) fn nests<'a, D: DocPlace<'a>>(rt: &impl Abort, place: &'a D) {
     shows(rt, line(place).nest(-2), "Nest(-2, HardLine)");
-    shows(rt, line(place).nest(0), "HardLine");
-    shows(rt, nothing(place).nest(2), "Nil");
     shows(rt, line(place).indent(2), "Nest(2, HardLine)");
     shows(rt, line(place).dedent(2), "Nest(-2, HardLine)");
 }
 
-pub(crate) fn roots<'a, D: DocPlace<'a>>(rt: &impl Abort, place: &'a D) {
+pub(crate) fn wrappers<'a, D: DocPlace<'a>>(rt: &impl Abort, place: &'a D) {
     shows(rt, line(place).align(), "Align(HardLine)");
     shows(rt, line(place).dedent_to_root(), "DedentToRoot(HardLine)");
-}
-
-pub(crate) fn groups<'a, D: DocPlace<'a>>(rt: &impl Abort, place: &'a D) {
     shows(rt, line(place).group(), "Group(HardLine)");
-    shows(rt, nothing(place).group(), "Nil");
-    shows(rt, blank(place).group(), "\" \"");
-    shows(rt, built(rt, place.softline()).group(), "SoftLineOrSpace");
-}
-
-pub(crate) fn flat<'a, D: DocPlace<'a>>(rt: &impl Abort, place: &'a D) {
+    shows(rt, line(place).as_line_suffix(), "LineSuffix(HardLine)");
     shows(rt, weak(place).flatten(), "Flatten(WeakLine)");
-    shows(
-        rt,
-        built(rt, weak(place).flatten()).flatten(),
-        "Flatten(WeakLine)",
-    );
-    shows(rt, blank(place).flatten(), "\" \"");
+}
+
+// What fails where it is flat, and what stays as it is.
+pub(crate) fn others<'a, D: DocPlace<'a>>(rt: &impl Abort, place: &'a D) {
     shows(rt, line(place).flatten(), "Fail");
-}
-
-fn payload<'a, D: DocPlace<'a>>(rt: &impl Abort, place: &'a D) -> DocBuilder<'a, D> {
-    built(rt, place.multiline_text(CowStr::Borrowed("a\n")))
-}
-
-pub(crate) fn payloads<'a, D: DocPlace<'a>>(rt: &impl Abort, place: &'a D) {
-    shows(rt, payload(rt, place).group(), "MultilineText(\"a\\n\")");
-    shows(rt, payload(rt, place).flatten(), "Fail");
-}
-
-pub(crate) fn suffixes<'a, D: DocPlace<'a>>(rt: &impl Abort, place: &'a D) {
-    let once = "LineSuffix(\" \")";
-    shows(rt, blank(place).as_line_suffix(), once);
-    shows(
-        rt,
-        built(rt, blank(place).as_line_suffix()).as_line_suffix(),
-        once,
-    );
+    shows(rt, blank(place).group(), "\" \"");
     shows(rt, nothing(place).as_line_suffix(), "Nil");
 }
 

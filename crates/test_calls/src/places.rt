@@ -42,15 +42,11 @@ fn make<'a, D: DocPlace<'a>>(rt: &impl Abort, place: &'a D) {
 
 fn build<'a, D: DocPlace<'a>>(rt: &impl Abort, place: &'a D) {
     builders::joins(rt, place);
-    builders::repeats(rt, place);
     builders::choices(rt, place);
     builders::unions(rt, place);
     builders::nests(rt, place);
-    builders::roots(rt, place);
-    builders::groups(rt, place);
-    builders::flat(rt, place);
-    builders::payloads(rt, place);
-    builders::suffixes(rt, place);
+    builders::wrappers(rt, place);
+    builders::others(rt, place);
     builders::quotes(rt, place);
     builders::brackets(rt, place);
     builders::copies(rt, place);
