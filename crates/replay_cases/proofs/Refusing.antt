@@ -7,7 +7,6 @@ use Rattle.hex.specs.declared.error.FromHexError.TheVariants as errors
 use Rattle.prettyless.specs.Tree.{Tree}
 use Rattle.replay_cases.specs.declared.refusal.Refusal.{Refusal}
 use Rattle.replay_cases.specs.declared.refusal.Refusal.TheVariants.{NotACase, OutOfMemory}
-use Rattle.replay_cases.specs.declared.operator.Operator.{Operator}
 use Rattle.replay_cases.specs.declared.operator.Operator.TheVariants as operators
 use Rattle.replay_cases.specs.Reading.{Item, word, BeginsWithText, Makes}
 use Rattle.replay_cases.specs.Refusals.{Refuses, hex_refusal}
@@ -36,16 +35,10 @@ ok_kept Q P (Err d) to changed h = let e = err_from_is_err_and to changed in sub
 one_beginning : (u v : List ℕ) (r s items : List Item) → items ≡ word u ∷ r → items ≡ word v ∷ s → s ≡ r
 one_beginning u v r s items h k = cc
 
-pub text_refused : (o : Operator) (items : List Item) (e : Refusal) → o ≡ operators.Text → Refuses e ((s : List ℕ) (rest : List Item) → BeginsWithText items s rest → ⊥) → Refuses e ((d : Tree) (rest : List Item) → Makes o items d rest → ⊥)
-text_refused o items e is h =
-    refuses_more e _ _ (λ none d rest makes. let m : Makes operators.Text items d rest = subst (λ (x : Operator). Makes x items d rest) is makes in none m.0 rest m.2) h
+pub text_refused : (items : List Item) (e : Refusal) → Refuses e ((s : List ℕ) (rest : List Item) → BeginsWithText items s rest → ⊥) → Refuses e ((d : Tree) (rest : List Item) → Makes operators.Text items d rest → ⊥)
+text_refused items e h = refuses_more e _ _ (λ none d rest m. none m.0 rest m.2) h
 
-pub payload_refused : (o : Operator) (items : List Item) (e : Refusal) → o ≡ operators.Payload → Refuses e ((d : Tree) (rest : List Item) → Makes operators.Payload items d rest → ⊥) → Refuses e ((d : Tree) (rest : List Item) → Makes o items d rest → ⊥)
-payload_refused o items e is h = subst (λ (x : Operator). Refuses e ((d : Tree) (rest : List Item) → Makes x items d rest → ⊥)) (sym is) h
-
-pub counted_text_refused : (o : Operator) (items others : List Item) (u : List ℕ) (e : Refusal) → o ≡ operators.TextWithLen → items ≡ word u ∷ others
-    → Refuses e ((s : List ℕ) (rest : List Item) → BeginsWithText others s rest → ⊥) → Refuses e ((d : Tree) (rest : List Item) → Makes o items d rest → ⊥)
-counted_text_refused o items others u e is begins h =
-    refuses_more e _ _ (λ none d rest makes.
-    let m : Makes operators.TextWithLen items d rest = subst (λ (x : Operator). Makes x items d rest) is makes in
-    none m.3 rest (subst (λ (i : List Item). BeginsWithText i m.3 rest) (one_beginning u m.0 others m.2 items begins m.5) m.7)) h
+pub counted_text_refused : (items others : List Item) (u : List ℕ) (e : Refusal) → items ≡ word u ∷ others
+    → Refuses e ((s : List ℕ) (rest : List Item) → BeginsWithText others s rest → ⊥) → Refuses e ((d : Tree) (rest : List Item) → Makes operators.TextWithLen items d rest → ⊥)
+counted_text_refused items others u e begins h =
+    refuses_more e _ _ (λ none d rest m. none m.3 rest (subst (λ (i : List Item). BeginsWithText i m.3 rest) (one_beginning u m.0 others m.2 items begins m.5) m.7)) h

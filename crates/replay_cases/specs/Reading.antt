@@ -7,6 +7,8 @@ use Rattle.prettyless_model.specs.declared.choice.NestingTest.{NestingTest}
 use Rattle.prettyless_model.specs.declared.choice.NestingTest.TheVariants as by_nesting
 use Rattle.prettyless.specs.Tree as t
 use Rattle.prettyless.specs.Tree.{Tree}
+use Rattle.replay_cases.specs.declared.operator.Leaf.{Leaf}
+use Rattle.replay_cases.specs.declared.operator.Leaf.TheVariants as leaves
 use Rattle.replay_cases.specs.declared.operator.Wrapper.{Wrapper}
 use Rattle.replay_cases.specs.declared.operator.Wrapper.TheVariants as wrappers
 use Rattle.replay_cases.specs.declared.operator.Join.{Join}
@@ -43,6 +45,15 @@ operator_names =
 -- the operator that a word names
 abbrev pub operator_of : List ℕ → Option Operator
 operator_of w = named_in operator_names w
+
+-- the tree of a node with nothing below it
+abbrev pub leaf_tree : Leaf → Tree
+leaf_tree leaves.Nil = t.Nil
+leaf_tree leaves.Fail = t.Fail
+leaf_tree leaves.WeakSpace = t.WeakSpace
+leaf_tree leaves.HardLine = t.HardLine
+leaf_tree leaves.WeakLine = t.WeakLine
+leaf_tree leaves.ExpandParent = t.ExpandParent
 
 -- the tree of a node over one document
 abbrev pub wrapped : Wrapper → Tree → Tree

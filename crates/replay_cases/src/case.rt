@@ -5,6 +5,7 @@ ghost use Rattle.replay_cases.specs.Cases.{case_of};
 ghost use Rattle.replay_cases.specs.Refusals.{LacksOption, Refuses};
 
 use crate::expected::Expected;
+use crate::names::named_in;
 use crate::pointer::{Place, Pointer};
 use crate::reading::read_document;
 use crate::refusal::Refusal;
@@ -20,24 +21,26 @@ pub struct ReadCase<'a> {
     pub document: Pointer<'a>,
 }
 
+const LINE_ENDINGS: [(&[u8], LineEnding); 2] = [
+    (b"lf", LineEnding::Lf),
+    (b"crlf", LineEnding::Crlf),
+];
+
 fn line_ending(word: &[u8]) -> Option<LineEnding>
     ensures { result ≡ named_in line_endings word.now }
 {
-    match word {
-        b"lf" => Some(LineEnding::Lf),
-        b"crlf" => Some(LineEnding::Crlf),
-        _ => None,
-    }
+    named_in(&LINE_ENDINGS, word)
 }
+
+const INDENTATION_POLICIES: [(&[u8], IndentationPolicy); 2] = [
+    (b"eager", IndentationPolicy::Eager),
+    (b"deferred", IndentationPolicy::Deferred),
+];
 
 fn indentation_policy(word: &[u8]) -> Option<IndentationPolicy>
     ensures { result ≡ named_in indentation_policies word.now }
 {
-    match word {
-        b"eager" => Some(IndentationPolicy::Eager),
-        b"deferred" => Some(IndentationPolicy::Deferred),
-        _ => None,
-    }
+    named_in(&INDENTATION_POLICIES, word)
 }
 
 fn options(width: &[u8], ending: &[u8], policy: &[u8]) -> Result<RenderOptions, Expected>

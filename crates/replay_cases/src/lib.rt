@@ -6,6 +6,7 @@ mod case;
 mod condition;
 mod expected;
 mod hexadecimal;
+mod names;
 mod offset;
 mod operand;
 mod operator;

@@ -2,10 +2,22 @@ ghost use Rattle.std.specs.Prelude.{◌≡◌, option_map};
 ghost use Rattle.prettyless.specs.DocTree.{tree_of};
 ghost use Rattle.replay_cases.specs.Notation.{leaf_of};
 ghost use Rattle.replay_cases.specs.Pointers.{pointer_tree};
-ghost use Rattle.replay_cases.specs.Reading.{operator_of, wrapped, joined};
+ghost use Rattle.replay_cases.specs.Reading.{operator_of, leaf_tree, wrapped, joined};
 
+use crate::names::named_in;
 use crate::pointer::Pointer;
 use prettyless::Doc;
+
+/// A node with nothing below it and no text.
+#[derive(Clone, Copy)]
+pub enum Leaf {
+    Nil,
+    Fail,
+    WeakSpace,
+    HardLine,
+    WeakLine,
+    ExpandParent,
+}
 
 /// A node with a document below it, and nothing else.
 #[derive(Clone, Copy)]
@@ -39,44 +51,62 @@ pub enum Operator {
     OnNesting,
 }
 
+/// The words of nodes with nothing below them and no text.
+const LEAVES: [(&[u8], Leaf); 6] = [
+    (b"nil", Leaf::Nil),
+    (b"fail", Leaf::Fail),
+    (b"ws", Leaf::WeakSpace),
+    (b"hl", Leaf::HardLine),
+    (b"wl", Leaf::WeakLine),
+    (b"exp", Leaf::ExpandParent),
+];
+
 /// The node that a word names, with nothing below it and no text.
-pub fn leaf_named<'a>(word: &[u8]) -> Option<Doc<'a, Pointer<'a>>>
-    ensures { option_map (tree_of pointer_tree) result ≡ leaf_of word.now }
+pub fn leaf_named(word: &[u8]) -> Option<Leaf>
+    ensures { option_map leaf_tree result ≡ leaf_of word.now }
 {
-    match word {
-        b"nil" => Some(Doc::Nil),
-        b"fail" => Some(Doc::Fail),
-        b"ws" => Some(Doc::WeakSpace),
-        b"hl" => Some(Doc::HardLine),
-        b"wl" => Some(Doc::WeakLine),
-        b"exp" => Some(Doc::ExpandParent),
-        _ => None,
-    }
+    named_in(&LEAVES, word)
 }
+
+/// The words of operators.
+const OPERATORS: [(&[u8], Operator); 15] = [
+    (b"oncol", Operator::OnColumn),
+    (b"onnest", Operator::OnNesting),
+    (b"t", Operator::Text),
+    (b"w", Operator::TextWithLen),
+    (b"m", Operator::Payload),
+    (b"nest", Operator::Nest),
+    (b"sfx", Operator::Wrapper(Wrapper::LineSuffix)),
+    (b"root", Operator::Wrapper(Wrapper::DedentToRoot)),
+    (b"align", Operator::Wrapper(Wrapper::Align)),
+    (b"flat", Operator::Wrapper(Wrapper::Flatten)),
+    (b"grp", Operator::Wrapper(Wrapper::Group)),
+    (b"app", Operator::Join(Join::Append)),
+    (b"bof", Operator::Join(Join::BreakOrFlat)),
+    (b"uni", Operator::Join(Join::Union)),
+    (b"puni", Operator::Join(Join::PartialUnion)),
+];
 
 /// The operator that a word names.
 pub fn operator_named(word: &[u8]) -> Option<Operator>
     ensures { result ≡ operator_of word.now }
 {
-    if word == b"onnest".as_slice() {
-        return Some(Operator::OnNesting);
-    }
-    match word {
-        b"oncol" => Some(Operator::OnColumn),
-        b"t" => Some(Operator::Text),
-        b"w" => Some(Operator::TextWithLen),
-        b"m" => Some(Operator::Payload),
-        b"nest" => Some(Operator::Nest),
-        b"sfx" => Some(Operator::Wrapper(Wrapper::LineSuffix)),
-        b"root" => Some(Operator::Wrapper(Wrapper::DedentToRoot)),
-        b"align" => Some(Operator::Wrapper(Wrapper::Align)),
-        b"flat" => Some(Operator::Wrapper(Wrapper::Flatten)),
-        b"grp" => Some(Operator::Wrapper(Wrapper::Group)),
-        b"app" => Some(Operator::Join(Join::Append)),
-        b"bof" => Some(Operator::Join(Join::BreakOrFlat)),
-        b"uni" => Some(Operator::Join(Join::Union)),
-        b"puni" => Some(Operator::Join(Join::PartialUnion)),
-        _ => None,
+    named_in(&OPERATORS, word)
+}
+
+impl Leaf {
+    /// The node.
+    pub fn doc<'a>(self) -> Doc<'a, Pointer<'a>>
+        ensures { tree_of pointer_tree result ≡ leaf_tree self }
+    {
+        match self {
+            Leaf::Nil => Doc::Nil,
+            Leaf::Fail => Doc::Fail,
+            Leaf::WeakSpace => Doc::WeakSpace,
+            Leaf::HardLine => Doc::HardLine,
+            Leaf::WeakLine => Doc::WeakLine,
+            Leaf::ExpandParent => Doc::ExpandParent,
+        }
     }
 }
 

@@ -1,20 +1,21 @@
-ghost use Rattle.std.specs.Prelude.{◌≡◌, ℕ, List, map, IfOk, OnOk, IfErr};
-ghost use Rattle.prettyless.specs.DocTree.{tree_of};
+ghost use Rattle.std.specs.Prelude.{◌≡◌, ℕ, List, map, true, IfOk, OnOk, IfErr};
+ghost use Rattle.std.specs.String.{string_bytes};
+ghost use Rattle.prettyless_doc.specs.Breaks.{holds_break};
 ghost use Rattle.prettyless.specs.TextBytes.{bytes_of};
 ghost use Rattle.prettyless.specs.Tree.{Tree};
 ghost use Rattle.replay_cases.specs.Notation.{IsSpelled};
 ghost use Rattle.replay_cases.specs.Pointers.{pointer_tree};
 ghost use Rattle.replay_cases.specs.Reading.{Item, items_of, BeginsWithText, Makes, Steps};
 ghost use Rattle.replay_cases.specs.Refusals.{Refuses};
-ghost use Rattle.replay_cases.specs.declared.operator.Operator.TheVariants.{Payload};
+ghost use Rattle.replay_cases.specs.declared.operator.Operator.TheVariants as operators;
 
 use crate::condition::{take_column_test, take_nesting_test};
 use crate::expected::Expected;
 use crate::hexadecimal::text;
 use crate::offset::offset;
 use crate::operand::{Operand, take_document, take_word};
-use crate::operator::{Operator, leaf_named, operator_named};
-use crate::pointer::{Place, Pointer, put};
+use crate::operator::{Join, Operator, Wrapper, leaf_named, operator_named};
+use crate::pointer::{Place, Pointer, put, put_multiline};
 use crate::refusal::Refusal;
 use decimals::number;
 use prettyless::text::{CowStr, Text};
@@ -31,19 +32,125 @@ fn take_text<'a>(alloc: Global, operands: &mut Vec<Operand<'a>>) -> Result<Text<
     Ok(Text::from_cow(alloc, CowStr::Owned(text))?)
 }
 
-// Takes the payload whose word comes next: a text that holds a line break.
-fn take_payload<'a>(
-    alloc: Global,
-    operands: &mut Vec<Operand<'a>>,
-) -> Result<Doc<'a, Pointer<'a>>, Refusal>
-    ensures ok { IfOk result (λ d. Makes Payload (items_of operands.old.items) (tree_of pointer_tree d) (items_of operands.new.items)) }
-    ensures err { IfErr result (λ e. Refuses e ((d : Tree) (rest : List Item) → Makes Payload (items_of operands.old.items) d rest → ⊥)) }
+// Takes the text of a payload, which holds a line break, whose word comes next.
+fn take_payload<'a>(alloc: Global, operands: &mut Vec<Operand<'a>>) -> Result<String, Refusal>
+    ensures ok { IfOk result (λ s. BeginsWithText (items_of operands.old.items) (string_bytes s) (items_of operands.new.items)) }
+    ensures breaks { IfOk result (λ s. holds_break (string_bytes s) ≡ true) }
+    ensures err { IfErr result (λ e. Refuses e ((d : Tree) (rest : List Item) → Makes operators.Payload (items_of operands.old.items) d rest → ⊥)) }
 {
     let text = text(alloc, take_word(operands, Expected::Payload)?)?;
-    if !holds_break(text.as_str()) {
-        return Err(Refusal::NotACase(Expected::Payload));
+    if holds_break(text.as_str()) {
+        Ok(text)
+    } else {
+        Err(Refusal::NotACase(Expected::Payload))
     }
-    Ok(Doc::multiline_text(alloc, CowStr::Owned(text))?)
+}
+
+// A text.
+fn make_text<'a>(
+    place: &'a Place<'a>,
+    operands: &mut Vec<Operand<'a>>,
+) -> Result<Pointer<'a>, Refusal>
+    ensures ok { IfOk result (λ d. Makes operators.Text (items_of operands.old.items) (pointer_tree d) (items_of operands.new.items)) }
+    ensures err { IfErr result (λ e. Refuses e ((d : Tree) (rest : List Item) → Makes operators.Text (items_of operands.old.items) d rest → ⊥)) }
+{
+    let text = take_text(place.memory(), operands)?;
+    put(place, Doc::Text(text))
+}
+
+// A text whose columns are counted for it.
+fn make_counted_text<'a>(
+    place: &'a Place<'a>,
+    operands: &mut Vec<Operand<'a>>,
+) -> Result<Pointer<'a>, Refusal>
+    ensures ok { IfOk result (λ d. Makes operators.TextWithLen (items_of operands.old.items) (pointer_tree d) (items_of operands.new.items)) }
+    ensures err { IfErr result (λ e. Refuses e ((d : Tree) (rest : List Item) → Makes operators.TextWithLen (items_of operands.old.items) d rest → ⊥)) }
+{
+    let word = take_word(operands, Expected::Columns)?;
+    let width = number(word).ok_or(Expected::Columns)?;
+    let text = take_text(place.memory(), operands)?;
+    put(place, Doc::TextWithLen(width, text))
+}
+
+// A payload.
+fn make_payload<'a>(
+    place: &'a Place<'a>,
+    operands: &mut Vec<Operand<'a>>,
+) -> Result<Pointer<'a>, Refusal>
+    ensures ok { IfOk result (λ d. Makes operators.Payload (items_of operands.old.items) (pointer_tree d) (items_of operands.new.items)) }
+    ensures err { IfErr result (λ e. Refuses e ((d : Tree) (rest : List Item) → Makes operators.Payload (items_of operands.old.items) d rest → ⊥)) }
+{
+    let text = take_payload(place.memory(), operands)?;
+    put_multiline(place, text)
+}
+
+// A document with another indent.
+fn make_nest<'a>(
+    place: &'a Place<'a>,
+    operands: &mut Vec<Operand<'a>>,
+) -> Result<Pointer<'a>, Refusal>
+    ensures ok { IfOk result (λ d. Makes operators.Nest (items_of operands.old.items) (pointer_tree d) (items_of operands.new.items)) }
+    ensures err { IfErr result (λ e. Refuses e ((d : Tree) (rest : List Item) → Makes operators.Nest (items_of operands.old.items) d rest → ⊥)) }
+{
+    let word = take_word(operands, Expected::Offset)?;
+    let offset = offset(word).ok_or(Expected::Offset)?;
+    let inner = take_document(operands)?;
+    put(place, Doc::Nest(offset, inner))
+}
+
+// A node with a document below it, and nothing else.
+fn make_wrapped<'a>(
+    place: &'a Place<'a>,
+    wrapper: Wrapper,
+    operands: &mut Vec<Operand<'a>>,
+) -> Result<Pointer<'a>, Refusal>
+    ensures ok { IfOk result (λ d. Makes (operators.Wrapper wrapper) (items_of operands.old.items) (pointer_tree d) (items_of operands.new.items)) }
+    ensures err { IfErr result (λ e. Refuses e ((d : Tree) (rest : List Item) → Makes (operators.Wrapper wrapper) (items_of operands.old.items) d rest → ⊥)) }
+{
+    let inner = take_document(operands)?;
+    put(place, wrapper.doc(inner))
+}
+
+// A node with two documents below it.
+fn make_joined<'a>(
+    place: &'a Place<'a>,
+    join: Join,
+    operands: &mut Vec<Operand<'a>>,
+) -> Result<Pointer<'a>, Refusal>
+    ensures ok { IfOk result (λ d. Makes (operators.Join join) (items_of operands.old.items) (pointer_tree d) (items_of operands.new.items)) }
+    ensures err { IfErr result (λ e. Refuses e ((d : Tree) (rest : List Item) → Makes (operators.Join join) (items_of operands.old.items) d rest → ⊥)) }
+{
+    let first = take_document(operands)?;
+    let second = take_document(operands)?;
+    put(place, join.doc(first, second))
+}
+
+// A choice by column.
+fn make_by_column<'a>(
+    place: &'a Place<'a>,
+    operands: &mut Vec<Operand<'a>>,
+) -> Result<Pointer<'a>, Refusal>
+    ensures ok { IfOk result (λ d. Makes operators.OnColumn (items_of operands.old.items) (pointer_tree d) (items_of operands.new.items)) }
+    ensures err { IfErr result (λ e. Refuses e ((d : Tree) (rest : List Item) → Makes operators.OnColumn (items_of operands.old.items) d rest → ⊥)) }
+{
+    let test = take_column_test(operands)?;
+    let first = take_document(operands)?;
+    let second = take_document(operands)?;
+    put(place, Doc::OnColumn(test, first, second))
+}
+
+// A choice by nesting.
+fn make_by_nesting<'a>(
+    place: &'a Place<'a>,
+    operands: &mut Vec<Operand<'a>>,
+) -> Result<Pointer<'a>, Refusal>
+    ensures ok { IfOk result (λ d. Makes operators.OnNesting (items_of operands.old.items) (pointer_tree d) (items_of operands.new.items)) }
+    ensures err { IfErr result (λ e. Refuses e ((d : Tree) (rest : List Item) → Makes operators.OnNesting (items_of operands.old.items) d rest → ⊥)) }
+{
+    let test = take_nesting_test(operands)?;
+    let first = take_document(operands)?;
+    let second = take_document(operands)?;
+    put(place, Doc::OnNesting(test, first, second))
 }
 
 // Takes what comes after an operator, and makes the operator's document of it.
@@ -56,38 +163,14 @@ fn make<'a>(
     ensures err { IfErr result (λ e. Refuses e ((d : Tree) (rest : List Item) → Makes operator (items_of operands.old.items) d rest → ⊥)) }
 {
     match operator {
-        Operator::Text => put(place, Doc::Text(take_text(place.memory(), operands)?)),
-        Operator::TextWithLen => {
-            let word = take_word(operands, Expected::Columns)?;
-            let width = number(word).ok_or(Expected::Columns)?;
-            let text = take_text(place.memory(), operands)?;
-            put(place, Doc::TextWithLen(width, text))
-        }
-        Operator::Payload => put(place, take_payload(place.memory(), operands)?),
-        Operator::Nest => {
-            let word = take_word(operands, Expected::Offset)?;
-            let offset = offset(word).ok_or(Expected::Offset)?;
-            let inner = take_document(operands)?;
-            put(place, Doc::Nest(offset, inner))
-        }
-        Operator::Wrapper(wrapper) => put(place, wrapper.doc(take_document(operands)?)),
-        Operator::OnColumn => {
-            let test = take_column_test(operands)?;
-            let first = take_document(operands)?;
-            let second = take_document(operands)?;
-            put(place, Doc::OnColumn(test, first, second))
-        }
-        Operator::OnNesting => {
-            let test = take_nesting_test(operands)?;
-            let first = take_document(operands)?;
-            let second = take_document(operands)?;
-            put(place, Doc::OnNesting(test, first, second))
-        }
-        Operator::Join(join) => {
-            let first = take_document(operands)?;
-            let second = take_document(operands)?;
-            put(place, join.doc(first, second))
-        }
+        Operator::Text => make_text(place, operands),
+        Operator::TextWithLen => make_counted_text(place, operands),
+        Operator::Payload => make_payload(place, operands),
+        Operator::Nest => make_nest(place, operands),
+        Operator::Wrapper(wrapper) => make_wrapped(place, wrapper, operands),
+        Operator::Join(join) => make_joined(place, join, operands),
+        Operator::OnColumn => make_by_column(place, operands),
+        Operator::OnNesting => make_by_nesting(place, operands),
     }
 }
 
@@ -101,7 +184,7 @@ fn put_in_front<'a>(
     ensures err { IfErr result (λ e. Refuses e ((new : List Item) → Steps word.now (items_of operands.old.items) new → ⊥)) }
 {
     let operand = match leaf_named(word) {
-        Some(leaf) => Operand::Document(put(place, leaf)?),
+        Some(leaf) => Operand::Document(put(place, leaf.doc())?),
         None => match operator_named(word) {
             Some(operator) => Operand::Document(make(place, operator, operands)?),
             None => Operand::Word(word),
