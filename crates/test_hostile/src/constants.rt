@@ -1,4 +1,5 @@
 //! The constants of an arena: each has one node there, and where memory was refused for them they are placed as other nodes.
+use crate::checks::check;
 use crate::places::{CountedPlace, InArena, in_arena};
 use bumpalo::Bump;
 use prettyless::text::BuildError;
@@ -26,9 +27,9 @@ fn has<'a, D: DocPlace<'a>>(place: &'a D, which: Constant) -> bool {
 // The place has each constant, and places nothing for a node that is the same.
 fn leaves<'a, D: CountedPlace<'a>>(rt: &impl Abort, place: &'a D) -> Result<(), Fail> {
     for (which, written) in LEAVES {
-        assert!(rt; has(place, which), "{written}");
+        check(rt, has(place, which), "the constant", written);
         read(place, written)?;
-        assert!(rt; place.has_no_node(), "{written}");
+        check(rt, place.has_no_node(), "the nodes", written);
     }
     Ok(())
 }
@@ -50,7 +51,7 @@ fn place_lines<'a, D: DocPlace<'a>>(place: &'a D) -> Result<(), BuildError> {
 // Lines are handed out, and none is placed.
 fn lines<'a, D: CountedPlace<'a>>(rt: &impl Abort, place: &'a D) -> Result<(), Fail> {
     place_lines(place)?;
-    assert!(rt; place.has_no_node());
+    check(rt, place.has_no_node(), "the nodes", "lines");
     Ok(())
 }
 
@@ -62,7 +63,7 @@ fn others<'a, D: CountedPlace<'a>>(rt: &impl Abort, place: &'a D) -> Result<(), 
     for written in OTHERS {
         read(place, written)?;
     }
-    assert!(rt; place.nodes() == OTHERS.len());
+    check(rt, place.nodes() == OTHERS.len(), "the nodes", "others");
     Ok(())
 }
 
@@ -95,12 +96,17 @@ pub(crate) fn no_room_at_first<'a, D: CountedPlace<'a>>(
     bump: &Bump,
     place: &'a D,
 ) -> Result<(), Fail> {
-    assert!(rt; !has(place, Constant::HardLine));
-    assert!(rt; refuses_a_line(place));
-    assert!(rt; place.has_no_node());
+    check(
+        rt,
+        !has(place, Constant::HardLine),
+        "the constant",
+        "no room",
+    );
+    check(rt, refuses_a_line(place), "the line", "no room");
+    check(rt, place.has_no_node(), "the nodes", "no room");
     bump.set_allocation_limit(None);
-    assert!(rt; places_a_group(place)?);
-    assert!(rt; place.nodes() == 4);
+    check(rt, places_a_group(place)?, "the group", "room");
+    check(rt, place.nodes() == 4, "the nodes", "room");
     Ok(())
 }
 

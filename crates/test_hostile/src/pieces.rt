@@ -2,6 +2,7 @@
 ghost use Rattle.std.specs.Prelude.{Some, ◌≡◌, ⊤};
 ghost use Rattle.test_hostile.specs.declared.sinks.Fault.TheVariants.{Document};
 
+use crate::checks::check;
 use crate::places::{InBoxes, in_boxes};
 use crate::sinks::Fault;
 use prettyless::{DocPlace, DocPtr, LineEnding, Render, RenderError, RenderOptions};
@@ -73,9 +74,9 @@ fn ends<'a, T: DocPtr<'a>>(
 }
 
 fn compare_lengths(rt: &impl Abort, lengths: &[usize], pieces: &[&str]) {
-    assert!(rt; lengths.len() == pieces.len());
+    check(rt, lengths.len() == pieces.len(), "the number", "pieces");
     for (length, piece) in lengths.iter().zip(pieces) {
-        assert!(rt; *length == piece.len(), "{piece}");
+        check(rt, *length == piece.len(), "the length", piece);
     }
 }
 
@@ -96,7 +97,12 @@ fn compare_pieces(
 ) -> Result<(), Fail> {
     compare_lengths(rt, sink.lengths.as_slice(), pieces);
     let bytes = joined(memory, pieces)?;
-    assert!(rt; sink.bytes.as_slice() == bytes.as_slice());
+    check(
+        rt,
+        sink.bytes.as_slice() == bytes.as_slice(),
+        "the bytes",
+        "pieces",
+    );
     Ok(())
 }
 
@@ -111,8 +117,14 @@ fn compare_room<'a, T: DocPtr<'a>>(
     ended: bool,
 ) -> Result<(), Fail> {
     let mut sink = Pieces::new(memory, room);
-    assert!(rt; ends(memory, document, options, &mut sink)? == ended);
-    assert!(rt; sink.failures == u64::from(ended));
+    let ends = ends(memory, document, options, &mut sink)?;
+    check(rt, ends == ended, "the end", "pieces");
+    check(
+        rt,
+        sink.failures == u64::from(ended),
+        "the failures",
+        "pieces",
+    );
     compare_pieces(rt, memory, &sink, pieces)
 }
 
@@ -189,21 +201,11 @@ fn long_indents_are_in_pieces<'a, D: DocPlace<'a>>(
     let hundred = format!(in memory; "{:100}", "")?;
     let hundred = hundred.as_str();
     let document = read(place, LONG_INDENT)?;
-    let options = RenderOptions::new(0);
-    compare(
-        rt,
-        memory,
-        &document,
-        options,
-        &["\n", hundred, hundred, "     "],
-    )?;
-    compare(
-        rt,
-        memory,
-        &document,
-        with_crlf(0),
-        &["\r\n", hundred, hundred, "     "],
-    )
+    for (options, first) in [(RenderOptions::new(0), "\n"), (with_crlf(0), "\r\n")] {
+        let pieces = [first, hundred, hundred, "     "];
+        compare(rt, memory, &document, options, &pieces)?;
+    }
+    Ok(())
 }
 
 pub(crate) fn all<'a, D: DocPlace<'a>>(rt: &impl Abort, place: &'a D) -> Result<(), Fail> {

@@ -1,4 +1,5 @@
 //! Memory that an arena's `Bump` refuses: what the call was given is given up, and all else is as before.
+use crate::checks::check;
 use crate::places::{CountedPlace, InArena, in_arena};
 use bumpalo::Bump;
 use prettyless::text::{BuildError, CowStr, MultilineTextData, Text};
@@ -40,7 +41,8 @@ fn compare_layout<'a, T: DocPtr<'a>>(
     document: &T,
     expected: &str,
 ) -> Result<(), Fail> {
-    assert!(rt; layout(memory, document)?.as_str() == expected);
+    let layout = layout(memory, document)?;
+    check(rt, layout.as_str() == expected, "the layout", expected);
     Ok(())
 }
 
@@ -50,7 +52,8 @@ fn compare_length<'a, T: DocPtr<'a>>(
     document: &T,
     length: usize,
 ) -> Result<(), Fail> {
-    assert!(rt; layout(memory, document)?.len() == length);
+    let layout = layout(memory, document)?;
+    check(rt, layout.len() == length, "the length", "a long text");
     Ok(())
 }
 
@@ -73,10 +76,11 @@ fn refused<'a, D: CountedPlace<'a>>(
     before: &D::Doc,
 ) -> Result<D::Doc, Fail> {
     bump.set_allocation_limit(Some(bump.allocated_bytes()));
-    assert!(rt; refuses_a_text(place)?);
-    assert!(rt; place.nodes() == 1);
+    let refuses = refuses_a_text(place)?;
+    check(rt, refuses, "the answer", "a refused text");
+    check(rt, place.nodes() == 1, "the nodes", "a refused text");
     let after = twice(place, before)?;
-    assert!(rt; place.nodes() == 2);
+    check(rt, place.nodes() == 2, "the nodes", "small texts");
     Ok(after)
 }
 
@@ -88,7 +92,7 @@ fn placed_again<'a, D: CountedPlace<'a>>(
 ) -> Result<(), Fail> {
     bump.set_allocation_limit(None);
     let placed = place.alloc(text_of(place.memory())?)?;
-    assert!(rt; place.nodes() == 3);
+    check(rt, place.nodes() == 3, "the nodes", "a placed text");
     compare_length(rt, place.memory(), &placed, LETTERS + 1)
 }
 

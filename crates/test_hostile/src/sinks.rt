@@ -3,6 +3,7 @@ ghost use Rattle.std.specs.Prelude.{Some, ◌≡◌, ◌↔◌, ◌<◌, ⊤, Is
 ghost use Rattle.std.specs.Str.{IsCharBoundary};
 ghost use Rattle.test_hostile.specs.declared.sinks.Fault.TheVariants.{Count, Document};
 
+use crate::checks::check;
 use crate::places::{InBoxes, in_boxes};
 use crate::rows::{ACCENTED, APART, KEPT, ROWS, Row};
 use prettyless::{DocPlace, DocPtr, LineEnding, Render, RenderError, RenderOptions};
@@ -11,7 +12,7 @@ use std::process::Abort;
 use std::test::Fail;
 use test_documents::read;
 
-#[derive(Debug, PartialEq, Drop)]
+#[derive(PartialEq, Drop)]
 pub(crate) enum Fault {
     Document,
     Count,
@@ -20,7 +21,7 @@ pub(crate) enum Fault {
 }
 
 // How much of a piece a sink takes at a call.
-#[derive(Clone, Copy, Debug)]
+#[derive(Clone, Copy)]
 pub(crate) enum Step {
     Whole,
     Character,
@@ -28,7 +29,7 @@ pub(crate) enum Step {
 }
 
 // What it does at the call that goes wrong.
-#[derive(Clone, Copy, Debug)]
+#[derive(Clone, Copy)]
 pub(crate) enum Wrong {
     Refuses,
     TakesNothing,
@@ -136,24 +137,21 @@ fn fault_of(wrong: Wrong) -> Fault {
 // Compares what a sink has whose call went wrong.
 fn compare_ended(rt: &impl Abort, row: &Row<'_>, sink: &Hostile, fault: &Fault) {
     let layout = row.layout;
-    let wrong = sink.wrong;
-    let wrong_call = sink.wrong_call;
-    assert!(rt; *fault == fault_of(wrong), "{layout}");
-    assert!(rt; sink.failures == 1, "{layout}");
-    assert!(rt; sink.calls == wrong_call, "{layout}");
-    assert!(rt;
-        layout.as_bytes().starts_with(sink.bytes.as_slice()),
-        "{layout} {wrong:?} {wrong_call}"
-    );
+    let is_beginning = layout.as_bytes().starts_with(sink.bytes.as_slice());
+    check(rt, *fault == fault_of(sink.wrong), "the fault", layout);
+    check(rt, sink.failures == 1, "the failures", layout);
+    check(rt, sink.calls == sink.wrong_call, "the calls", layout);
+    check(rt, is_beginning, "the beginning", layout);
 }
 
 // Compares what a sink has whose call did not come.
 fn compare_undisturbed(rt: &impl Abort, row: &Row<'_>, sink: &Hostile, fails: bool) {
     let layout = row.layout;
-    assert!(rt; fails == row.fails, "{layout}");
-    assert!(rt; sink.failures == 0, "{layout}");
-    assert!(rt; sink.calls < sink.wrong_call, "{layout}");
-    assert!(rt; sink.bytes.as_slice() == layout.as_bytes(), "{layout}");
+    let is_whole = sink.bytes.as_slice() == layout.as_bytes();
+    check(rt, fails == row.fails, "the end", layout);
+    check(rt, sink.failures == 0, "the failures", layout);
+    check(rt, sink.calls < sink.wrong_call, "the calls", layout);
+    check(rt, is_whole, "the bytes", layout);
 }
 
 // How a render to this sink ends.
@@ -176,12 +174,11 @@ fn compare<'a, T: DocPtr<'a>>(
     wrong: Wrong,
     wrong_call: usize,
 ) -> Result<bool, Fail> {
-    let layout = row.layout;
     let mut sink = Hostile::new(memory, step, wrong, wrong_call);
     match ending(memory, document, RenderOptions::new(row.width), &mut sink) {
         Ok(()) => compare_undisturbed(rt, row, &sink, false),
         Err(RenderError::Document(fault)) => {
-            assert!(rt; fault == Fault::Document, "{layout}");
+            check(rt, fault == Fault::Document, "the fault", row.layout);
             compare_undisturbed(rt, row, &sink, true);
         }
         Err(RenderError::Sink(fault)) => {
@@ -219,10 +216,10 @@ fn compare_row<'a, D: DocPlace<'a>>(
 ) -> Result<(), Fail> {
     let document = read(place, row.written)?;
     let ends_at = compare_calls(rt, place.memory(), &document, &row, step, wrong)?;
-    assert!(rt; 1 < ends_at);
-    if !matches!(step, Step::Whole) {
-        assert!(rt; ends_at == row.layout.len().saturating_add(1));
-    }
+    let has_all_calls = ends_at == row.layout.len().saturating_add(1);
+    let is_whole = matches!(step, Step::Whole);
+    check(rt, 1 < ends_at, "the first call", row.layout);
+    check(rt, is_whole || has_all_calls, "the last call", row.layout);
     Ok(())
 }
 
@@ -263,37 +260,46 @@ fn sinks_that_count_too_much(rt: HostRuntime) -> Result<(), Fail> {
     compare_all(&rt, rt.alloc(), Wrong::CountsAll)
 }
 
-// Compares what a sink has of a character of two bytes.
+// Compares what a sink has of a character of two bytes, whose count may be refused.
 fn compare_character<'a, T: DocPtr<'a>>(
     rt: &impl Abort,
     memory: Global,
     document: &T,
     step: Step,
     bytes: &[u8],
-    ends_well: bool,
+    name: &str,
 ) {
     let mut sink = Hostile::new(memory, step, Wrong::Refuses, usize::MAX);
-    match document.doc().render_raw(memory, 80, &mut sink) {
-        Ok(()) => assert!(rt; ends_well),
-        Err(RenderError::Sink(fault)) => assert!(rt; fault == Fault::Count),
-        Err(_) => panic!(rt; "{step:?}"),
-    }
-    assert!(rt; sink.bytes.as_slice() == bytes, "{step:?}");
-    assert!(rt; sink.failures == u64::from(!ends_well), "{step:?}");
-    assert!(rt; sink.calls == 1, "{step:?}");
+    let ending = document.doc().render_raw(memory, 80, &mut sink);
+    let is_taken = bytes.len() == 2;
+    let ends = if is_taken {
+        ending.is_ok()
+    } else {
+        is_fault(&ending, &Fault::Count)
+    };
+    check(rt, ends, "the end", name);
+    check(rt, sink.bytes.as_slice() == bytes, "the bytes", name);
+    check(
+        rt,
+        sink.failures == u64::from(!is_taken),
+        "the failures",
+        name,
+    );
+    check(rt, sink.calls == 1, "the calls", name);
 }
 
 pub(crate) fn compare_steps<'a, D: DocPlace<'a>>(
     rt: &impl Abort,
     place: &'a D,
 ) -> Result<(), Fail> {
-    let memory = place.memory();
     let document = read(place, ACCENTED)?;
-    let whole = b"\xc3\xa9".as_slice();
-    compare_character(rt, memory, &document, Step::Whole, whole, true);
-    compare_character(rt, memory, &document, Step::Character, whole, true);
-    let first = b"\xc3".as_slice();
-    compare_character(rt, memory, &document, Step::Byte, first, false);
+    for (step, bytes, name) in [
+        (Step::Whole, b"\xc3\xa9".as_slice(), "a whole piece"),
+        (Step::Character, b"\xc3\xa9".as_slice(), "a character"),
+        (Step::Byte, b"\xc3".as_slice(), "a byte"),
+    ] {
+        compare_character(rt, place.memory(), &document, step, bytes, name);
+    }
     Ok(())
 }
 
@@ -315,54 +321,50 @@ fn compare_fault(
     ending: &Result<(), RenderError<Fault>>,
     fault: &Fault,
     bytes: &[u8],
+    name: &str,
 ) {
-    let wrong = sink.wrong;
-    assert!(rt; is_fault(ending, fault), "{wrong:?}");
-    assert!(rt; sink.failures == 1, "{wrong:?}");
-    assert!(rt; sink.bytes.as_slice() == bytes, "{wrong:?}");
+    check(rt, is_fault(ending, fault), "the fault", name);
+    check(rt, sink.failures == 1, "the failures", name);
+    check(rt, sink.bytes.as_slice() == bytes, "the bytes", name);
 }
 
-// Compares what a sink has that answers this count for its second piece.
-fn compare_count<'a, T: DocPtr<'a>>(
+// Compares what a sink has that answers a bad count for its second piece, which is a space: the first piece, or both.
+fn compare_counts<'a, T: DocPtr<'a>>(
     rt: &impl Abort,
     memory: Global,
     document: &T,
     options: RenderOptions,
-    wrong: Wrong,
-    layout: &str,
+    first: &str,
+    both: &str,
 ) {
-    let mut sink = Hostile::new(memory, Step::Whole, wrong, 2);
-    let ending = ending(memory, document, options, &mut sink);
-    compare_fault(rt, &sink, &ending, &Fault::Count, layout.as_bytes());
+    for (wrong, bytes) in [
+        (Wrong::TakesNothing, first),
+        (Wrong::CountsOneMore, both),
+        (Wrong::CountsAll, both),
+    ] {
+        let mut sink = Hostile::new(memory, Step::Whole, wrong, 2);
+        let ending = ending(memory, document, options, &mut sink);
+        compare_fault(rt, &sink, &ending, &Fault::Count, bytes.as_bytes(), both);
+    }
 }
 
-// Compares what a sink has that answers a bad count for its second piece, which is a space.
-fn compare_spaces<'a, T: DocPtr<'a>>(
-    rt: &impl Abort,
-    memory: Global,
-    document: &T,
-    ending: LineEnding,
-    first: &str,
-) -> Result<(), Fail> {
-    let options = RenderOptions::new(80).with_line_ending(ending);
-    let both = format!(in memory; "{first} ")?;
-    let both = both.as_str();
-    compare_count(rt, memory, document, options, Wrong::TakesNothing, first);
-    compare_count(rt, memory, document, options, Wrong::CountsOneMore, both);
-    compare_count(rt, memory, document, options, Wrong::CountsAll, both);
-    Ok(())
-}
+// Documents whose second piece is a space, the end of their lines, the first piece, and both.
+const SPACES: [(&str, LineEnding, &str, &str); 3] = [
+    (APART, LineEnding::Lf, "a", "a "),
+    ("Nest 1 HardLine", LineEnding::Lf, "\n", "\n "),
+    ("Nest 1 HardLine", LineEnding::Crlf, "\r\n", "\r\n "),
+];
 
 pub(crate) fn compare_bad_counts<'a, D: DocPlace<'a>>(
     rt: &impl Abort,
     place: &'a D,
 ) -> Result<(), Fail> {
-    let memory = place.memory();
-    let apart = read(place, APART)?;
-    compare_spaces(rt, memory, &apart, LineEnding::Lf, "a")?;
-    let indent = read(place, "Nest 1 HardLine")?;
-    compare_spaces(rt, memory, &indent, LineEnding::Lf, "\n")?;
-    compare_spaces(rt, memory, &indent, LineEnding::Crlf, "\r\n")
+    for (written, ending, first, both) in SPACES {
+        let document = read(place, written)?;
+        let options = RenderOptions::new(80).with_line_ending(ending);
+        compare_counts(rt, place.memory(), &document, options, first, both);
+    }
+    Ok(())
 }
 
 #[test]
@@ -376,7 +378,7 @@ pub(crate) fn compare_full<'a, D: DocPlace<'a>>(rt: &impl Abort, place: &'a D) -
     let document = read(place, KEPT)?;
     let mut sink = Hostile::new(memory, Step::Byte, Wrong::Refuses, 3);
     let ending = document.doc().render_raw(memory, 80, &mut sink);
-    compare_fault(rt, &sink, &ending, &Fault::Refused, b"ab".as_slice());
+    compare_fault(rt, &sink, &ending, &Fault::Refused, b"ab".as_slice(), KEPT);
     Ok(())
 }
 

@@ -1,4 +1,5 @@
 //! Awkward trees. All are tried in an arena, so that nothing deep is dropped.
+use crate::checks::check;
 use crate::places::{InArena, in_arena};
 use prettyless::{DocPlace, DocPtr, FmtWrite, RenderOptions, Visits};
 use std::alloc::{AllocError, Global};
@@ -144,21 +145,18 @@ fn render<'a, T: DocPtr<'a>>(
 }
 
 fn compare_layout(rt: &impl Abort, memory: Global, tree: &Tree<'_>, out: &str) -> Result<(), Fail> {
-    let name = tree.name;
     let layout = repeated(memory, tree.layout)?;
-    assert!(rt; out.len() == layout.len(), "{name}");
-    assert!(rt; out == layout.as_str(), "{name}");
+    check(rt, out == layout.as_str(), "the layout", tree.name);
     Ok(())
 }
 
 fn compare_visits(rt: &impl Abort, tree: &Tree<'_>, visits: Visits) {
-    let name = tree.name;
     let as_expected = match tree.visits {
         Visited::Any => true,
         Visited::ByPrinter(printer) => visits.printer == printer && visits.probes == 0,
         Visited::FewByProbes => visits.probes / 5 < visits.printer,
     };
-    assert!(rt; as_expected, "{name}");
+    check(rt, as_expected, "the visits", tree.name);
 }
 
 // Compares what a tree that is written so is rendered as, and its visits.

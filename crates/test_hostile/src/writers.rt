@@ -1,6 +1,7 @@
 //! Byte writers and text writers of which one call goes wrong.
 ghost use Rattle.std.specs.Prelude.{Some};
 
+use crate::checks::check;
 use crate::places::{InBoxes, in_boxes};
 use crate::rows::{ACCENTED, ROWS, Row};
 use prettyless::{
@@ -69,7 +70,7 @@ impl Write for ByBytes {
 }
 
 // How a render ends.
-#[derive(Debug, PartialEq, Drop)]
+#[derive(PartialEq, Drop)]
 enum Ending<E> {
     Laid,
     Document,
@@ -110,9 +111,10 @@ fn compare_all_of_bytes(
     ending: &Ending<ErrorKind>,
 ) {
     let layout = row.layout;
-    assert!(rt; *ending == undisturbed(row), "{layout}");
-    assert!(rt; writer.bytes.as_slice() == layout.as_bytes(), "{layout}");
-    assert!(rt; writer.failures == 0, "{layout}");
+    let is_whole = writer.bytes.as_slice() == layout.as_bytes();
+    check(rt, *ending == undisturbed(row), "the end", layout);
+    check(rt, is_whole, "the bytes", layout);
+    check(rt, writer.failures == 0, "the failures", layout);
 }
 
 // Compares what a writer has whose call went wrong.
@@ -127,10 +129,10 @@ fn compare_ended_bytes(
         Wrong::IsInterrupted => ErrorKind::Interrupted,
         Wrong::TakesNothing => ErrorKind::WriteZero,
     };
-    assert!(rt; *ending == Ending::Sink(kind), "{layout}");
-    assert!(rt; writer.bytes.as_slice() == before, "{layout}");
-    assert!(rt; writer.failures == 1, "{layout}");
-    assert!(rt; writer.calls == writer.wrong_call, "{layout}");
+    check(rt, *ending == Ending::Sink(kind), "the end", layout);
+    check(rt, writer.bytes.as_slice() == before, "the bytes", layout);
+    check(rt, writer.failures == 1, "the failures", layout);
+    check(rt, writer.calls == writer.wrong_call, "the calls", layout);
 }
 
 // Compares how a render ends of which one call goes wrong, and answers whether it comes to that call.
@@ -210,8 +212,13 @@ pub(crate) fn compare_character<'a, D: DocPlace<'a>>(
     let document = read(place, ACCENTED)?;
     let mut writer = ByBytes::new(memory, Wrong::TakesNothing, usize::MAX);
     let ending = ending_of_bytes(memory, &document, 80, &mut writer)?;
-    assert!(rt; ending == Ending::Laid);
-    assert!(rt; writer.bytes.as_slice() == b"\xc3\xa9".as_slice());
+    check(rt, ending == Ending::Laid, "the end", ACCENTED);
+    check(
+        rt,
+        writer.bytes.as_slice() == b"\xc3\xa9".as_slice(),
+        "the bytes",
+        ACCENTED,
+    );
     Ok(())
 }
 
@@ -297,9 +304,10 @@ fn compare_all_of_pieces(
     ending: &Ending<fmt::Error>,
 ) {
     let layout = row.layout;
-    assert!(rt; *ending == undisturbed(row), "{layout}");
-    assert!(rt; writer.bytes.as_slice() == layout.as_bytes(), "{layout}");
-    assert!(rt; writer.pieces < writer.wrong_piece, "{layout}");
+    let is_whole = writer.bytes.as_slice() == layout.as_bytes();
+    check(rt, *ending == undisturbed(row), "the end", layout);
+    check(rt, is_whole, "the bytes", layout);
+    check(rt, writer.pieces < writer.wrong_piece, "the pieces", layout);
 }
 
 // Compares what a writer has whose piece went wrong.
@@ -309,15 +317,22 @@ fn compare_ended_pieces(
     writer: &ByPieces,
     ending: &Ending<fmt::Error>,
 ) {
-    let wrong_piece = writer.wrong_piece;
-    assert!(rt; *ending == Ending::Sink(fmt::Error), "{layout}");
-    assert!(rt;
-        layout.as_bytes().starts_with(writer.bytes.as_slice()),
-        "{layout} {wrong_piece}"
+    let is_beginning = layout.as_bytes().starts_with(writer.bytes.as_slice());
+    check(rt, *ending == Ending::Sink(fmt::Error), "the end", layout);
+    check(rt, is_beginning, "the beginning", layout);
+    check(
+        rt,
+        writer.wrong_piece <= writer.bytes.len(),
+        "the length",
+        layout,
     );
-    assert!(rt; wrong_piece <= writer.bytes.len(), "{layout} {wrong_piece}");
-    assert!(rt; writer.failures == 1, "{layout}");
-    assert!(rt; writer.pieces == wrong_piece, "{layout}");
+    check(rt, writer.failures == 1, "the failures", layout);
+    check(
+        rt,
+        writer.pieces == writer.wrong_piece,
+        "the pieces",
+        layout,
+    );
 }
 
 // Compares how a render ends of which one piece goes wrong, and answers whether it comes to that piece.
