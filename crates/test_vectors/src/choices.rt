@@ -1,6 +1,5 @@
 //! Alternatives of which the first that fits is taken.
-use crate::rendered::{Case, compare, compare_with, options};
-use prettyless::{IndentationPolicy, LineEnding};
+use crate::rendered::{CRLF, Case, LATE, LF, compare};
 use std::test::Fail;
 
 #[rattlefmt::skip]
@@ -44,18 +43,11 @@ const LATE_INDENTS: [Case<'static>; 2] = [
 ];
 
 #[test]
-fn unions(rt: HostRuntime) -> Result<(), Fail> {
-    compare(&rt, rt.alloc(), &UNIONS)
-}
-
-#[test]
-fn line_ends(rt: HostRuntime) -> Result<(), Fail> {
-    let lines = options(LineEnding::Crlf, IndentationPolicy::Eager);
-    compare_with(&rt, rt.alloc(), lines, &LINE_ENDS)
-}
-
-#[test]
-fn late_indents(rt: HostRuntime) -> Result<(), Fail> {
-    let lines = options(LineEnding::Lf, IndentationPolicy::Deferred);
-    compare_with(&rt, rt.alloc(), lines, &LATE_INDENTS)
+fn alternatives(rt: HostRuntime) -> Result<(), Fail> {
+    let tables = [
+        (LF, UNIONS.as_slice()),
+        (CRLF, LINE_ENDS.as_slice()),
+        (LATE, LATE_INDENTS.as_slice()),
+    ];
+    compare(&rt, rt.alloc(), &tables)
 }

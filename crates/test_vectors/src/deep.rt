@@ -1,6 +1,7 @@
 //! Documents far deeper than they are wide.
-use crate::rendered::compare;
+use crate::rendered::{LF, compare_case};
 use std::alloc::{AllocError, Global};
+use std::process::Abort;
 use std::test::Fail;
 
 const DEPTH: usize = 64;
@@ -22,17 +23,23 @@ fn nested(memory: Global, front: &str, choice: &str) -> Result<String, AllocErro
     Ok(written)
 }
 
-#[test]
-fn alternatives_in_alternatives(rt: HostRuntime) -> Result<(), Fail> {
-    let choice = "Union Append Append HardLine ";
-    let written = nested(rt.alloc(), "Append Text 'p' ", choice)?;
-    compare(&rt, rt.alloc(), &[(4, written.as_str(), "px")])
+// Compares what it is rendered as where four columns fit.
+fn compare_nested(
+    rt: &impl Abort,
+    memory: Global,
+    front: &str,
+    choice: &str,
+    layout: &str,
+) -> Result<(), Fail> {
+    let written = nested(memory, front, choice)?;
+    compare_case(rt, memory, LF, (4, written.as_str(), layout))
 }
 
 #[test]
-fn alternatives_with_suffixes(rt: HostRuntime) -> Result<(), Fail> {
+fn alternatives_in_alternatives(rt: HostRuntime) -> Result<(), Fail> {
+    let choice = "Union Append Append HardLine ";
+    compare_nested(&rt, rt.alloc(), "Append Text 'p' ", choice, "px")?;
     let choice = "Union Append Append Append LineSuffix Text 'I' HardLine ";
     let front = "Append Append Text 'p' LineSuffix Text 'O' ";
-    let written = nested(rt.alloc(), front, choice)?;
-    compare(&rt, rt.alloc(), &[(4, written.as_str(), "pxO")])
+    compare_nested(&rt, rt.alloc(), front, choice, "pxO")
 }

@@ -2,7 +2,11 @@
 #![tactic(auto)]
 
 #[cfg(test)]
+mod checks;
+#[cfg(test)]
 mod choices;
+#[cfg(test)]
+mod compared;
 #[cfg(test)]
 mod deep;
 #[cfg(test)]

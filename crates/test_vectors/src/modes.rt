@@ -1,6 +1,5 @@
 //! Flattened documents, failing ones, and other indents than nestings.
-use crate::rendered::{Case, compare, compare_failing, compare_with, options};
-use prettyless::{IndentationPolicy, LineEnding};
+use crate::rendered::{CRLF, Case, FAILING, LATE, LF, compare};
 use std::test::Fail;
 
 #[rattlefmt::skip]
@@ -46,24 +45,12 @@ const LATE_INDENTS: [Case<'static>; 4] = [
 ];
 
 #[test]
-fn layouts(rt: HostRuntime) -> Result<(), Fail> {
-    compare(&rt, rt.alloc(), &LAYOUTS)
-}
-
-#[test]
-fn failures(rt: HostRuntime) -> Result<(), Fail> {
-    let lines = options(LineEnding::Lf, IndentationPolicy::Eager);
-    compare_failing(&rt, rt.alloc(), lines, &FAILURES)
-}
-
-#[test]
-fn line_ends(rt: HostRuntime) -> Result<(), Fail> {
-    let lines = options(LineEnding::Crlf, IndentationPolicy::Eager);
-    compare_with(&rt, rt.alloc(), lines, &LINE_ENDS)
-}
-
-#[test]
-fn late_indents(rt: HostRuntime) -> Result<(), Fail> {
-    let lines = options(LineEnding::Lf, IndentationPolicy::Deferred);
-    compare_with(&rt, rt.alloc(), lines, &LATE_INDENTS)
+fn modes(rt: HostRuntime) -> Result<(), Fail> {
+    let tables = [
+        (LF, LAYOUTS.as_slice()),
+        (FAILING, FAILURES.as_slice()),
+        (CRLF, LINE_ENDS.as_slice()),
+        (LATE, LATE_INDENTS.as_slice()),
+    ];
+    compare(&rt, rt.alloc(), &tables)
 }

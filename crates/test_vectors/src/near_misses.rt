@@ -1,6 +1,5 @@
 //! The smallest documents that show the difference between a printer with one wrong rule and a right one.
-use crate::rendered::{Case, compare, compare_failing, compare_with, options};
-use prettyless::{IndentationPolicy, LineEnding};
+use crate::rendered::{CRLF, Case, LATE, LATE_FAILING, LF, compare};
 use std::test::Fail;
 
 #[rattlefmt::skip]
@@ -70,31 +69,14 @@ const FAILURES: [Case<'static>; 1] = [
 ];
 
 #[test]
-fn layouts(rt: HostRuntime) -> Result<(), Fail> {
-    compare(&rt, rt.alloc(), &LAYOUTS)
-}
-
-#[test]
-fn payloads(rt: HostRuntime) -> Result<(), Fail> {
-    compare(&rt, rt.alloc(), &PAYLOADS)?;
-    let lines = options(LineEnding::Crlf, IndentationPolicy::Eager);
-    compare_with(&rt, rt.alloc(), lines, &PAYLOADS)
-}
-
-#[test]
-fn line_ends(rt: HostRuntime) -> Result<(), Fail> {
-    let lines = options(LineEnding::Crlf, IndentationPolicy::Eager);
-    compare_with(&rt, rt.alloc(), lines, &LINE_ENDS)
-}
-
-#[test]
-fn late_indents(rt: HostRuntime) -> Result<(), Fail> {
-    let lines = options(LineEnding::Lf, IndentationPolicy::Deferred);
-    compare_with(&rt, rt.alloc(), lines, &LATE_INDENTS)
-}
-
-#[test]
-fn failures(rt: HostRuntime) -> Result<(), Fail> {
-    let lines = options(LineEnding::Lf, IndentationPolicy::Deferred);
-    compare_failing(&rt, rt.alloc(), lines, &FAILURES)
+fn near_misses(rt: HostRuntime) -> Result<(), Fail> {
+    let tables = [
+        (LF, LAYOUTS.as_slice()),
+        (LF, PAYLOADS.as_slice()),
+        (CRLF, PAYLOADS.as_slice()),
+        (CRLF, LINE_ENDS.as_slice()),
+        (LATE, LATE_INDENTS.as_slice()),
+        (LATE_FAILING, FAILURES.as_slice()),
+    ];
+    compare(&rt, rt.alloc(), &tables)
 }

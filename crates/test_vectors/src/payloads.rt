@@ -1,6 +1,5 @@
 //! Texts that hold line breaks.
-use crate::rendered::{Case, compare, compare_with, options};
-use prettyless::{IndentationPolicy, LineEnding};
+use crate::rendered::{CRLF, Case, LF, compare};
 use std::test::Fail;
 
 #[rattlefmt::skip]
@@ -40,11 +39,6 @@ const ENDINGS: [Case<'static>; 9] = [
 
 #[test]
 fn payloads(rt: HostRuntime) -> Result<(), Fail> {
-    compare(&rt, rt.alloc(), &PAYLOADS)
-}
-
-#[test]
-fn endings(rt: HostRuntime) -> Result<(), Fail> {
-    let lines = options(LineEnding::Crlf, IndentationPolicy::Eager);
-    compare_with(&rt, rt.alloc(), lines, &ENDINGS)
+    let tables = [(LF, PAYLOADS.as_slice()), (CRLF, ENDINGS.as_slice())];
+    compare(&rt, rt.alloc(), &tables)
 }

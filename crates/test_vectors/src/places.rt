@@ -1,6 +1,5 @@
 //! Choices by column and by nesting: the place where a document is laid decides.
-use crate::rendered::{Case, compare, compare_failing, compare_with, options};
-use prettyless::{IndentationPolicy, LineEnding};
+use crate::rendered::{Case, FAILING, LATE, LF, compare};
 use std::test::Fail;
 
 #[rattlefmt::skip]
@@ -77,23 +76,12 @@ const EDGES: [Case<'static>; 22] = [
 ];
 
 #[test]
-fn rows(rt: HostRuntime) -> Result<(), Fail> {
-    compare(&rt, rt.alloc(), &ROWS)
-}
-
-#[test]
-fn edges(rt: HostRuntime) -> Result<(), Fail> {
-    compare(&rt, rt.alloc(), &EDGES)
-}
-
-#[test]
-fn late_indents(rt: HostRuntime) -> Result<(), Fail> {
-    let lines = options(LineEnding::Lf, IndentationPolicy::Deferred);
-    compare_with(&rt, rt.alloc(), lines, &LATE_INDENTS)
-}
-
-#[test]
-fn failures(rt: HostRuntime) -> Result<(), Fail> {
-    let lines = options(LineEnding::Lf, IndentationPolicy::Eager);
-    compare_failing(&rt, rt.alloc(), lines, &FAILURES)
+fn places(rt: HostRuntime) -> Result<(), Fail> {
+    let tables = [
+        (LF, ROWS.as_slice()),
+        (LF, EDGES.as_slice()),
+        (LATE, LATE_INDENTS.as_slice()),
+        (FAILING, FAILURES.as_slice()),
+    ];
+    compare(&rt, rt.alloc(), &tables)
 }

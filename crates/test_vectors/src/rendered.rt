@@ -1,13 +1,10 @@
-use bumpalo::Bump;
-use prettyless::{
-    Arena, BoxAllocator, DocPlace, DocPtr, FmtWrite, IndentationPolicy, LineEnding, RcAllocator,
-    RenderError, RenderOptions,
-};
+//! What documents are rendered as.
+use crate::checks::check;
+use crate::compared::{Compared, Expected, compare_through};
+use prettyless::{DocPtr, FmtWrite, IndentationPolicy, LineEnding, RenderError, RenderOptions};
 use std::alloc::Global;
-use std::fmt;
 use std::process::Abort;
 use std::test::Fail;
-use test_documents::read;
 
 // The bytes before the node that fails, or all of them.
 fn outcome<'a, T: DocPtr<'a>>(
@@ -24,16 +21,6 @@ fn outcome<'a, T: DocPtr<'a>>(
     }
 }
 
-// At the width 0.
-pub(crate) fn options(ending: LineEnding, policy: IndentationPolicy) -> RenderOptions {
-    RenderOptions::new(0)
-        .with_line_ending(ending)
-        .with_indentation_policy(policy)
-}
-
-// A width, a document as the reader takes it, and what it has to be rendered as.
-pub(crate) type Case<'a> = (usize, &'a str, &'a str);
-
 // What a document is printed as.
 pub(crate) fn displayed<'a, T: DocPtr<'a>>(
     memory: Global,
@@ -43,34 +30,30 @@ pub(crate) fn displayed<'a, T: DocPtr<'a>>(
     Ok(format!(in memory; "{}", document.doc().print_with(memory, options))?)
 }
 
-// What is rendered: all of a layout, or the bytes before the node that fails.
-type Expected<'a> = Result<&'a str, &'a str>;
-
-// The same with lines that end in CR LF, where each line end is one of a break.
-fn with_crlf(memory: Global, layout: &str) -> Result<String, Fail> {
-    Ok(layout.replace(memory, '\n', "\r\n")?)
+// Whether the same comes out, all of a layout or what is before the node that fails.
+fn is_expected(outcome: &Result<String, String>, expected: Expected<'_>) -> bool {
+    match (outcome, expected) {
+        (Ok(out), Ok(layout)) => out.as_str() == layout,
+        (Err(out), Err(before)) => out.as_str() == before,
+        _ => false,
+    }
 }
 
-fn compare_outcome(
-    rt: &impl Abort,
-    outcome: &Result<String, String>,
-    width: usize,
-    written: &str,
+// Whether this is what a document is printed as that is laid out whole.
+fn is_printed<'a, T: DocPtr<'a>>(
+    memory: Global,
+    document: &T,
+    options: RenderOptions,
     expected: Expected<'_>,
-) {
-    match (outcome, expected) {
-        (Ok(out), Ok(layout)) => {
-            assert!(rt; out.as_str() == layout, "{written} at {width}");
-        }
-        (Err(out), Err(before)) => {
-            assert!(rt; out.as_str() == before, "{written} at {width}");
-        }
-        _ => panic!(rt; "{written} at {width} is {outcome:?}"),
+) -> Result<bool, Fail> {
+    match expected {
+        Ok(layout) => Ok(displayed(memory, document, options)?.as_str() == layout),
+        Err(_) => Ok(true),
     }
 }
 
 // Compares what a document is rendered as, and what it is printed as.
-fn compare_rendered<'a, T: DocPtr<'a>>(
+pub(crate) fn compare_rendered<'a, T: DocPtr<'a>>(
     rt: &impl Abort,
     memory: Global,
     document: &T,
@@ -78,146 +61,131 @@ fn compare_rendered<'a, T: DocPtr<'a>>(
     written: &str,
     expected: Expected<'_>,
 ) -> Result<(), Fail> {
-    let width = options.width;
     let outcome = outcome(memory, document, options)?;
-    compare_outcome(rt, &outcome, width, written, expected);
-    if let Ok(layout) = expected {
-        let printed = displayed(memory, document, options)?;
-        assert!(rt; printed.as_str() == layout, "{written} at {width}");
-    }
+    let is_printed = is_printed(memory, document, options, expected)?;
+    let holds = is_expected(&outcome, expected) && is_printed;
+    check(rt, holds, written, options.width);
     Ok(())
 }
 
-// Compares what `Debug` shows of a document.
-fn compare_shown<T: fmt::Debug>(
-    rt: &impl Abort,
-    memory: Global,
-    document: &T,
-    shown: &str,
-) -> Result<(), Fail> {
-    let printed = format!(in memory; "{document:?}")?;
-    assert!(rt; printed.as_str() == shown);
-    Ok(())
-}
-
-// What is compared of a document: what it is rendered as with some options, or what `Debug` shows of it.
+// How documents are rendered, and whether each fails at the end of what is rendered.
 #[derive(Clone, Copy)]
-enum Compared<'a> {
-    Rendered(RenderOptions, Expected<'a>),
-    Shown(&'a str),
+pub(crate) struct Mode {
+    ending: LineEnding,
+    policy: IndentationPolicy,
+    fails: bool,
 }
 
-// Compares a document that is put into this place.
-fn compare_in<'a, D: DocPlace<'a>>(
-    rt: &impl Abort,
-    place: &'a D,
-    written: &'a str,
-    compared: Compared<'_>,
-) -> Result<(), Fail>
-where
-    D::Doc: fmt::Debug,
-{
-    let memory = place.memory();
-    let document = read(place, written)?;
-    match compared {
-        Compared::Rendered(options, expected) => {
-            compare_rendered(rt, memory, &document, options, written, expected)
+pub(crate) const LF: Mode = Mode {
+    ending: LineEnding::Lf,
+    policy: IndentationPolicy::Eager,
+    fails: false,
+};
+
+pub(crate) const CRLF: Mode = Mode {
+    ending: LineEnding::Crlf,
+    policy: IndentationPolicy::Eager,
+    fails: false,
+};
+
+// With indents that are written late.
+pub(crate) const LATE: Mode = Mode {
+    ending: LineEnding::Lf,
+    policy: IndentationPolicy::Deferred,
+    fails: false,
+};
+
+pub(crate) const LATE_CRLF: Mode = Mode {
+    ending: LineEnding::Crlf,
+    policy: IndentationPolicy::Deferred,
+    fails: false,
+};
+
+pub(crate) const FAILING: Mode = Mode {
+    ending: LineEnding::Lf,
+    policy: IndentationPolicy::Eager,
+    fails: true,
+};
+
+pub(crate) const LATE_FAILING: Mode = Mode {
+    ending: LineEnding::Lf,
+    policy: IndentationPolicy::Deferred,
+    fails: true,
+};
+
+impl Mode {
+    // The options at a width.
+    pub(crate) fn options(self, width: usize) -> RenderOptions {
+        RenderOptions::new(width)
+            .with_line_ending(self.ending)
+            .with_indentation_policy(self.policy)
+    }
+
+    fn expected(self, layout: &str) -> Expected<'_> {
+        if self.fails { Err(layout) } else { Ok(layout) }
+    }
+
+    // The same with lines that end in CR LF.
+    fn with_crlf(self) -> Mode {
+        Mode {
+            ending: LineEnding::Crlf,
+            policy: self.policy,
+            fails: self.fails,
         }
-        Compared::Shown(shown) => compare_shown(rt, memory, &document, shown),
     }
 }
 
-// The same through one pointer after the other.
-fn compare_through(
-    rt: &impl Abort,
-    memory: Global,
-    written: &str,
-    compared: Compared<'_>,
-) -> Result<(), Fail> {
-    let boxes = BoxAllocator::new(memory);
-    compare_in(rt, &boxes, written, compared)?;
-    let owners = RcAllocator::new(memory);
-    compare_in(rt, &owners, written, compared)?;
-    let bump = Bump::new(memory);
-    let arena = Arena::new(memory, &bump);
-    compare_in(rt, &arena, written, compared)
+// A width, a document as the reader takes it, and what it has to be rendered as.
+pub(crate) type Case<'a> = (usize, &'a str, &'a str);
+
+// Compares what a document is rendered as.
+fn compare_layout(rt: &impl Abort, memory: Global, mode: Mode, case: Case<'_>) -> Result<(), Fail> {
+    let (width, written, layout) = case;
+    let compared = Compared::Rendered(mode.options(width), mode.expected(layout));
+    compare_through(rt, memory, written, compared)
 }
 
-// Compares what each document is shown as, through one pointer after the other.
-pub(crate) fn compare_debug(
+// The same, and again with CR LF for LF at the end of each line, if no text of the document has a line end.
+pub(crate) fn compare_case(
     rt: &impl Abort,
     memory: Global,
-    cases: &[(&str, &str)],
+    mode: Mode,
+    case: Case<'_>,
 ) -> Result<(), Fail> {
-    for &(written, shown) in cases {
-        compare_through(rt, memory, written, Compared::Shown(shown))?;
-    }
-    Ok(())
-}
-
-// The same of what it is rendered as.
-fn compare_layouts(
-    rt: &impl Abort,
-    memory: Global,
-    options: RenderOptions,
-    written: &str,
-    expected: Expected<'_>,
-) -> Result<(), Fail> {
-    compare_through(rt, memory, written, Compared::Rendered(options, expected))
-}
-
-// Compares what a document is rendered as, and again with CR LF for LF at the end of each line, if no text of the document has a line end.
-fn compare_endings(
-    rt: &impl Abort,
-    memory: Global,
-    options: RenderOptions,
-    written: &str,
-    expected: Expected<'_>,
-) -> Result<(), Fail> {
-    compare_layouts(rt, memory, options, written, expected)?;
-    if options.line_ending == LineEnding::Crlf || written.contains('\n') {
+    compare_layout(rt, memory, mode, case)?;
+    let (width, written, layout) = case;
+    if mode.ending == LineEnding::Crlf || written.contains('\n') {
         return Ok(());
     }
-    let options = options.with_line_ending(LineEnding::Crlf);
-    match expected {
-        Ok(layout) => {
-            let layout = with_crlf(memory, layout)?;
-            compare_layouts(rt, memory, options, written, Ok(layout.as_str()))
-        }
-        Err(before) => {
-            let before = with_crlf(memory, before)?;
-            compare_layouts(rt, memory, options, written, Err(before.as_str()))
-        }
-    }
+    let layout = layout.replace(memory, '\n', "\r\n")?;
+    compare_layout(
+        rt,
+        memory,
+        mode.with_crlf(),
+        (width, written, layout.as_str()),
+    )
 }
 
-// Compares what each document is rendered as with these options at its width.
-pub(crate) fn compare_with(
+fn compare_cases(
     rt: &impl Abort,
     memory: Global,
-    options: RenderOptions,
+    mode: Mode,
     cases: &[Case<'_>],
 ) -> Result<(), Fail> {
-    for &(width, written, layout) in cases {
-        compare_endings(rt, memory, options.with_width(width), written, Ok(layout))?;
+    for &case in cases {
+        compare_case(rt, memory, mode, case)?;
     }
     Ok(())
 }
 
-// The same where lines end in LF, and indents are written at once.
-pub(crate) fn compare(rt: &impl Abort, memory: Global, cases: &[Case<'_>]) -> Result<(), Fail> {
-    compare_with(rt, memory, RenderOptions::new(0), cases)
-}
-
-// Compares what comes before the node at which each document fails.
-pub(crate) fn compare_failing(
+// Compares what the documents of each table are rendered as.
+pub(crate) fn compare(
     rt: &impl Abort,
     memory: Global,
-    options: RenderOptions,
-    cases: &[Case<'_>],
+    tables: &[(Mode, &[Case<'_>])],
 ) -> Result<(), Fail> {
-    for &(width, written, before) in cases {
-        compare_endings(rt, memory, options.with_width(width), written, Err(before))?;
+    for &(mode, cases) in tables {
+        compare_cases(rt, memory, mode, cases)?;
     }
     Ok(())
 }

@@ -1,9 +1,8 @@
 //! What `Debug` shows of documents, through each pointer, and of documents in the making; what an error of either kind says.
-use crate::rendered::compare_debug;
+use crate::checks::check;
+use crate::compared::{Compared, compare_through};
 use prettyless::text::{BuildError, CowStr, Text};
-use prettyless::{
-    BoxAllocator, BoxDoc, BuildDoc, Doc, DocAllocator, DocPlace, PrettyError, RenderError,
-};
+use prettyless::{BuildDoc, Constant, Doc, DocAllocator, DocPlace, PrettyError, RenderError};
 use std::alloc::Global;
 use std::fmt;
 use std::process::Abort;
@@ -73,82 +72,128 @@ const LINES: [Case<'static>; 10] = [
     ),
 ];
 
-#[test]
-fn shows_nodes(rt: HostRuntime) -> Result<(), Fail> {
-    compare_debug(&rt, rt.alloc(), &NODES)
+// Compares what `Debug` shows.
+pub(crate) fn compare_shown<T: fmt::Debug>(
+    rt: &impl Abort,
+    memory: Global,
+    document: &T,
+    shown: &str,
+) -> Result<(), Fail> {
+    let printed = format!(in memory; "{document:?}")?;
+    check(rt, printed.as_str() == shown, shown, 0);
+    Ok(())
 }
 
 #[test]
-fn shows_chains(rt: HostRuntime) -> Result<(), Fail> {
-    compare_debug(&rt, rt.alloc(), &CHAINS)
+fn shows_documents(rt: HostRuntime) -> Result<(), Fail> {
+    for cases in [NODES.as_slice(), CHAINS.as_slice(), LINES.as_slice()] {
+        for &(written, shown) in cases {
+            compare_through(&rt, rt.alloc(), written, Compared::Shown(shown))?;
+        }
+    }
+    Ok(())
 }
 
-#[test]
-fn shows_lines(rt: HostRuntime) -> Result<(), Fail> {
-    compare_debug(&rt, rt.alloc(), &LINES)
-}
-
-// A line whose space is in memory of its own.
-fn line_of_an_owned_space<'a>(memory: Global, boxes: &'a BoxAllocator) -> Result<BoxDoc<'a>, Fail> {
+// A space in memory of its own.
+fn owned_space<'a>(memory: Global) -> Result<Text<'a>, Fail> {
     let space = String::from_str(memory, " ")?;
-    let space = Text::from_cow(memory, CowStr::Owned(space))?;
-    let broken = boxes.alloc(Doc::HardLine)?;
-    let flat = boxes.alloc(Doc::Text(space))?;
-    Ok(boxes.alloc(Doc::BreakOrFlat(broken, flat))?)
+    Ok(Text::from_cow(memory, CowStr::Owned(space))?)
 }
 
-#[test]
-fn lines_have_a_borrowed_space(rt: HostRuntime) -> Result<(), Fail> {
-    let boxes = BoxAllocator::new(rt.alloc());
-    let line = line_of_an_owned_space(rt.alloc(), &boxes)?;
-    let shown = format!(in rt.alloc(); "{line:?}")?;
-    assert!(rt; shown.as_str() == "FlatOrBreak(\" \", HardLine)");
-    Ok(())
+// A line with that space.
+fn line_of_an_owned_space<'a, D: DocPlace<'a>>(place: &'a D) -> Result<D::Doc, Fail> {
+    let broken = place.alloc(Doc::HardLine)?;
+    let flat = place.alloc(Doc::Text(owned_space(place.memory())?))?;
+    Ok(place.alloc(Doc::BreakOrFlat(broken, flat))?)
 }
 
-// Compares what a builder is shown as.
-fn compare_builder<'a, D: DocPlace<'a>>(rt: &impl Abort, place: &'a D) -> Result<(), Fail> {
-    let builder = place.softline()?;
-    let shown = format!(in place.memory(); "{builder:?}")?;
-    assert!(rt; shown.as_str() == "SoftLineOrSpace");
-    Ok(())
+// What that is shown as: an arena has one node for each space, with a borrowed text.
+fn shown_line<'a, D: DocPlace<'a>>(place: &'a D) -> &'a str {
+    match place.constant(Constant::Space) {
+        Some(_) => "LineOrSpace",
+        None => "FlatOrBreak(\" \", HardLine)",
+    }
 }
 
 fn line_in<'a, D: DocPlace<'a>>(place: &'a D) -> Result<D::Doc, BuildError> {
     place.line_()?.into_doc()
 }
 
-// Compares what a node is shown as that is not placed yet.
-fn compare_node<'a, D: DocPlace<'a>>(rt: &impl Abort, place: &'a D) -> Result<(), Fail> {
-    let node = BuildDoc::Doc(Doc::Nest(2, line_in(place)?));
-    let shown = format!(in place.memory(); "{node:?}")?;
-    assert!(rt; shown.as_str() == "Nest(2, LineOrNil)");
-    Ok(())
+// A node that is not placed yet.
+fn node_in<'a, D: DocPlace<'a>>(place: &'a D) -> Result<BuildDoc<'a, D::Doc>, BuildError> {
+    Ok(BuildDoc::Doc(Doc::Nest(2, line_in(place)?)))
 }
 
 // The same of a node that is placed.
-fn compare_placed<'a, D: DocPlace<'a>>(rt: &impl Abort, place: &'a D) -> Result<(), Fail> {
-    let node: BuildDoc<'a, D::Doc> = BuildDoc::DocPtr(place.line_()?.nest(2)?.into_doc()?);
-    let shown = format!(in place.memory(); "{node:?}")?;
-    assert!(rt; shown.as_str() == "Nest(2, LineOrNil)");
-    Ok(())
+fn placed_in<'a, D: DocPlace<'a>>(place: &'a D) -> Result<BuildDoc<'a, D::Doc>, BuildError> {
+    Ok(BuildDoc::DocPtr(place.line_()?.nest(2)?.into_doc()?))
+}
+
+fn compare_line<'a, D: DocPlace<'a>>(rt: &impl Abort, place: &'a D) -> Result<(), Fail>
+where
+    D::Doc: fmt::Debug,
+{
+    let line = line_of_an_owned_space(place)?;
+    compare_shown(rt, place.memory(), &line, shown_line(place))
+}
+
+fn compare_builder<'a, D: DocPlace<'a>>(rt: &impl Abort, place: &'a D) -> Result<(), Fail>
+where
+    D::Doc: fmt::Debug,
+{
+    let builder = place.softline()?;
+    compare_shown(rt, place.memory(), &builder, "SoftLineOrSpace")
+}
+
+fn compare_node<'a, D: DocPlace<'a>>(rt: &impl Abort, place: &'a D) -> Result<(), Fail>
+where
+    D::Doc: fmt::Debug,
+{
+    let node = node_in(place)?;
+    compare_shown(rt, place.memory(), &node, "Nest(2, LineOrNil)")
+}
+
+fn compare_placed<'a, D: DocPlace<'a>>(rt: &impl Abort, place: &'a D) -> Result<(), Fail>
+where
+    D::Doc: fmt::Debug,
+{
+    let placed = placed_in(place)?;
+    compare_shown(rt, place.memory(), &placed, "Nest(2, LineOrNil)")
+}
+
+// Compares what builders and nodes are shown as, and a line that is none of those with a name.
+pub(crate) fn compare_making<'a, D: DocPlace<'a>>(rt: &impl Abort, place: &'a D) -> Result<(), Fail>
+where
+    D::Doc: fmt::Debug,
+{
+    compare_line(rt, place)?;
+    compare_builder(rt, place)?;
+    compare_node(rt, place)?;
+    compare_placed(rt, place)
 }
 
 #[test]
 fn shows_what_is_in_the_making(rt: HostRuntime) -> Result<(), Fail> {
-    let boxes = BoxAllocator::new(rt.alloc());
-    compare_builder(&rt, &boxes)?;
-    compare_node(&rt, &boxes)?;
-    compare_placed(&rt, &boxes)
+    compare_through(&rt, rt.alloc(), "Nil", Compared::Making)
+}
+
+// Compares what an error says.
+fn compare_sentence<E: fmt::Display>(
+    rt: &impl Abort,
+    memory: Global,
+    error: &E,
+    sentence: &str,
+) -> Result<(), Fail> {
+    let said = format!(in memory; "{error}")?;
+    check(rt, said.as_str() == sentence, sentence, 0);
+    Ok(())
 }
 
 #[test]
 fn errors_of_either_kind(rt: HostRuntime) -> Result<(), Fail> {
     let build = PrettyError::<fmt::Error>::from(BuildError::Display);
-    let shown = format!(in rt.alloc(); "{build}")?;
-    assert!(rt; shown.as_str() == "a value of the document cannot be formatted");
+    let sentence = "a value of the document cannot be formatted";
+    compare_sentence(&rt, rt.alloc(), &build, sentence)?;
     let render = PrettyError::from(RenderError::Document(fmt::Error));
-    let shown = format!(in rt.alloc(); "{render}")?;
-    assert!(rt; shown.as_str() == "the document cannot be laid out");
-    Ok(())
+    compare_sentence(&rt, rt.alloc(), &render, "the document cannot be laid out")
 }

@@ -1,6 +1,5 @@
 //! Line suffixes.
-use crate::rendered::{Case, compare, compare_failing, options};
-use prettyless::{IndentationPolicy, LineEnding};
+use crate::rendered::{Case, FAILING, LF, compare};
 use std::test::Fail;
 
 #[rattlefmt::skip]
@@ -50,16 +49,10 @@ const FAILURES: [Case<'static>; 2] = [
 
 #[test]
 fn suffixes(rt: HostRuntime) -> Result<(), Fail> {
-    compare(&rt, rt.alloc(), &SUFFIXES)
-}
-
-#[test]
-fn choices(rt: HostRuntime) -> Result<(), Fail> {
-    compare(&rt, rt.alloc(), &CHOICES)
-}
-
-#[test]
-fn failures(rt: HostRuntime) -> Result<(), Fail> {
-    let lines = options(LineEnding::Lf, IndentationPolicy::Eager);
-    compare_failing(&rt, rt.alloc(), lines, &FAILURES)
+    let tables = [
+        (LF, SUFFIXES.as_slice()),
+        (LF, CHOICES.as_slice()),
+        (FAILING, FAILURES.as_slice()),
+    ];
+    compare(&rt, rt.alloc(), &tables)
 }

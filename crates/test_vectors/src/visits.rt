@@ -1,11 +1,19 @@
 //! How many nodes a render visits.
-use prettyless::{BoxAllocator, DocPlace, DocPtr, FmtWrite, RenderError, RenderOptions, Visits};
+use crate::checks::check;
+use crate::compared::{Compared, compare_through};
+use prettyless::{DocPtr, FmtWrite, RenderError, RenderOptions, Visits};
 use std::alloc::Global;
+use std::process::Abort;
 use std::test::Fail;
-use test_documents::read;
 
-// A width, a document as the reader takes it, and the visits of the printer and of its probes.
-type Case<'a> = (usize, &'a str, u64, u64);
+// A width, the visits of the printer and of its probes, and whether the document fails.
+#[derive(Clone, Copy)]
+pub(crate) struct Visited {
+    width: usize,
+    printer: u64,
+    probes: u64,
+    fails: bool,
+}
 
 const PAIR: &str = "Group Append Append Text 'a' BreakOrFlat HardLine Text ' ' Text 'b'";
 
@@ -19,64 +27,55 @@ const PAYLOAD: &str = "Union MultilineText 'long\nb' Text 'c'";
 const LETTER: &str =
     "Group Append Append OnColumnAtMost 0 Text 'a' Text 'b' BreakOrFlat HardLine Text ' ' Text 'c'";
 
-const CASES: [Case<'static>; 9] = [
+// A document as the reader takes it, and what is visited of it.
+#[rattlefmt::skip]
+const CASES: [(&str, Visited); 10] = [
     // A group asks one probe, which ends at the first text past the width.
-    (80, PAIR, 7, 6),
-    (2, PAIR, 7, 6),
-    (1, PAIR, 7, 5),
-    (0, PAIR, 7, 3),
+    (PAIR, Visited { width: 80, printer: 7, probes: 6, fails: false }),
+    (PAIR, Visited { width: 2, printer: 7, probes: 6, fails: false }),
+    (PAIR, Visited { width: 1, printer: 7, probes: 5, fails: false }),
+    (PAIR, Visited { width: 0, printer: 7, probes: 3, fails: false }),
     // A rejected branch is visited once, and so is the second.
-    (10, LINES, 11, 0),
+    (LINES, Visited { width: 10, printer: 11, probes: 0, fails: false }),
     // A payload as the first branch of a union is visited, kept or not; where it is rejected, so is the second branch.
-    (80, PAYLOAD, 2, 0),
-    (3, PAYLOAD, 3, 0),
-    (80, LETTER, 8, 7),
-    (80, "Nil", 1, 0),
+    (PAYLOAD, Visited { width: 80, printer: 2, probes: 0, fails: false }),
+    (PAYLOAD, Visited { width: 3, printer: 3, probes: 0, fails: false }),
+    (LETTER, Visited { width: 80, printer: 8, probes: 7, fails: false }),
+    ("Nil", Visited { width: 80, printer: 1, probes: 0, fails: false }),
+    // A node that fails is visited.
+    ("Fail", Visited { width: 80, printer: 1, probes: 0, fails: true }),
 ];
 
-// The visits, and whether the document fails.
-fn visits_in<'a, D: DocPlace<'a>>(
-    place: &'a D,
-    width: usize,
-    written: &'a str,
-) -> Result<(Visits, bool), Fail> {
-    let memory = place.memory();
-    let document = read(place, written)?;
+// Compares the visits of a document, and whether it fails.
+pub(crate) fn compare_visits<'a, T: DocPtr<'a>>(
+    rt: &impl Abort,
+    memory: Global,
+    document: &T,
+    written: &str,
+    visited: Visited,
+) -> Result<(), Fail> {
     let mut out = String::new(memory);
     let mut sink = FmtWrite::new(&mut out);
     let mut visits = Visits::default();
-    let options = RenderOptions::new(width);
-    match document
+    let options = RenderOptions::new(visited.width);
+    let fails = match document
         .doc()
         .render_raw_counted_with(memory, options, &mut sink, &mut visits)
     {
-        Ok(()) => Ok((visits, false)),
-        Err(RenderError::Document(_)) => Ok((visits, true)),
-        Err(_) => Err(Fail::new("no memory")),
-    }
-}
-
-// The same in boxes.
-fn visits(memory: Global, width: usize, written: &str) -> Result<(Visits, bool), Fail> {
-    visits_in(&BoxAllocator::new(memory), width, written)
-}
-
-#[test]
-fn nodes_are_counted(rt: HostRuntime) -> Result<(), Fail> {
-    for (width, written, printer, probes) in CASES {
-        let (visits, fails) = visits(rt.alloc(), width, written)?;
-        assert!(rt; !fails, "{written} at {width}");
-        assert!(rt; visits.printer == printer, "{written} at {width}");
-        assert!(rt; visits.probes == probes, "{written} at {width}");
-    }
+        Ok(()) => false,
+        Err(RenderError::Document(_)) => true,
+        Err(_) => return Err(Fail::new("no memory")),
+    };
+    let is_visited = visits.printer == visited.printer && visits.probes == visited.probes;
+    let holds = is_visited && fails == visited.fails;
+    check(rt, holds, written, visited.width);
     Ok(())
 }
 
 #[test]
-fn a_failing_node_is_counted(rt: HostRuntime) -> Result<(), Fail> {
-    let (visits, fails) = visits(rt.alloc(), 80, "Fail")?;
-    assert!(rt; fails);
-    assert!(rt; visits.printer == 1);
-    assert!(rt; visits.probes == 0);
+fn nodes_are_counted(rt: HostRuntime) -> Result<(), Fail> {
+    for (written, visited) in CASES {
+        compare_through(&rt, rt.alloc(), written, Compared::Visits(visited))?;
+    }
     Ok(())
 }

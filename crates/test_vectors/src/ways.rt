@@ -1,31 +1,34 @@
 //! The ways to render, each with the same bytes.
-use crate::rendered::{displayed, options};
-use prettyless::{
-    BoxAllocator, DocPlace, DocPtr, FmtWrite, IndentationPolicy, IoWrite, LineEnding, RenderError,
-    RenderOptions,
-};
-use std::alloc::Global;
+use crate::checks::check;
+use crate::compared::{Compared, compare_through};
+use crate::rendered::{LATE_CRLF, displayed};
+use prettyless::{DocPtr, FmtWrite, IoWrite, RenderError, RenderOptions};
+use std::alloc::{AllocError, Global};
 use std::fmt::Write;
 use std::process::Abort;
 use std::test::Fail;
-use test_documents::read;
 
-const WRITTEN: &str = "Nest 2 Append Append Append Text 'ab' HardLine HardLine Text 'c'";
+// What it is laid out as, and with lines that end in CR LF and late indents.
+const LAID: &str = "ab\n  \n  c";
+
+const LAID_LATE: &str = "ab\r\n\r\n  c";
 
 // With lines that end in CR LF, and late indents.
 fn late() -> RenderOptions {
-    options(LineEnding::Crlf, IndentationPolicy::Deferred)
+    LATE_CRLF.options(0)
 }
 
-fn compare_bytes<'a, D: DocPlace<'a>>(rt: &impl Abort, place: &'a D) -> Result<(), Fail> {
-    let memory = place.memory();
-    let document = read(place, WRITTEN)?;
+fn compare_bytes<'a, T: DocPtr<'a>>(
+    rt: &impl Abort,
+    memory: Global,
+    document: &T,
+) -> Result<(), Fail> {
     let mut out = Vec::new(memory);
     document.doc().render(memory, 80, &mut out)?;
-    assert!(rt; out.as_slice() == b"ab\n  \n  c".as_slice());
+    check(rt, out.as_slice() == LAID.as_bytes(), "bytes", 80);
     let mut out = Vec::new(memory);
     document.doc().render_with(memory, late(), &mut out)?;
-    assert!(rt; out.as_slice() == b"ab\r\n\r\n  c".as_slice());
+    check(rt, out.as_slice() == LAID_LATE.as_bytes(), "bytes", 80);
     Ok(())
 }
 
@@ -34,13 +37,21 @@ fn printed<'a, T: DocPtr<'a>>(memory: Global, document: &T) -> Result<String, Fa
     Ok(format!(in memory; "{}", document.doc().print(memory, 80))?)
 }
 
-fn compare_displayed<'a, D: DocPlace<'a>>(rt: &impl Abort, place: &'a D) -> Result<(), Fail> {
-    let memory = place.memory();
-    let document = read(place, WRITTEN)?;
-    let printed = printed(memory, &document)?;
-    assert!(rt; printed.as_str() == "ab\n  \n  c");
-    let printed = displayed(memory, &document, late())?;
-    assert!(rt; printed.as_str() == "ab\r\n\r\n  c");
+fn compare_displayed<'a, T: DocPtr<'a>>(
+    rt: &impl Abort,
+    memory: Global,
+    document: &T,
+) -> Result<(), Fail> {
+    let printed = printed(memory, document)?;
+    check(rt, printed.as_str() == LAID, "displayed", 80);
+    let printed = displayed(memory, document, late())?;
+    check(rt, printed.as_str() == LAID_LATE, "displayed", 80);
+    Ok(())
+}
+
+// What a formatter is asked for changes nothing.
+fn compare_flag(rt: &impl Abort, printed: Result<String, AllocError>) -> Result<(), Fail> {
+    check(rt, printed?.as_str() == LAID, "flags", 80);
     Ok(())
 }
 
@@ -50,22 +61,11 @@ fn compare_flags<'a, T: DocPtr<'a>>(
     document: &T,
 ) -> Result<(), Fail> {
     let shown = document.doc().print(memory, 80);
-    for printed in [
-        format!(in memory; "{shown:>20}")?,
-        format!(in memory; "{shown:*^20}")?,
-        format!(in memory; "{shown:.1}")?,
-        format!(in memory; "{shown:-<020.3}")?,
-        format!(in memory; "{shown:+#}")?,
-    ] {
-        assert!(rt; printed.as_str() == "ab\n  \n  c");
-    }
-    Ok(())
-}
-
-// What a formatter is asked for changes nothing.
-fn compare_flags_in<'a, D: DocPlace<'a>>(rt: &impl Abort, place: &'a D) -> Result<(), Fail> {
-    let document = read(place, WRITTEN)?;
-    compare_flags(rt, place.memory(), &document)
+    compare_flag(rt, format!(in memory; "{shown:>20}"))?;
+    compare_flag(rt, format!(in memory; "{shown:*^20}"))?;
+    compare_flag(rt, format!(in memory; "{shown:.1}"))?;
+    compare_flag(rt, format!(in memory; "{shown:-<020.3}"))?;
+    compare_flag(rt, format!(in memory; "{shown:+#}"))
 }
 
 fn compare_text_sink<'a, T: DocPtr<'a>>(
@@ -76,7 +76,7 @@ fn compare_text_sink<'a, T: DocPtr<'a>>(
     let mut out = String::new(memory);
     let mut sink = FmtWrite::new(&mut out);
     document.doc().render_raw(memory, 80, &mut sink)?;
-    assert!(rt; out.as_str() == "ab\n  \n  c");
+    check(rt, out.as_str() == LAID, "a text sink", 80);
     Ok(())
 }
 
@@ -88,55 +88,80 @@ fn compare_byte_sink<'a, T: DocPtr<'a>>(
     let mut out = Vec::new(memory);
     let mut sink = IoWrite::new(&mut out);
     document.doc().render_raw_with(memory, late(), &mut sink)?;
-    assert!(rt; out.as_slice() == b"ab\r\n\r\n  c".as_slice());
+    check(
+        rt,
+        out.as_slice() == LAID_LATE.as_bytes(),
+        "a byte sink",
+        80,
+    );
     Ok(())
 }
 
-fn compare_sinks<'a, D: DocPlace<'a>>(rt: &impl Abort, place: &'a D) -> Result<(), Fail> {
-    let document = read(place, WRITTEN)?;
-    compare_text_sink(rt, place.memory(), &document)?;
-    compare_byte_sink(rt, place.memory(), &document)
+pub(crate) fn compare_ways<'a, T: DocPtr<'a>>(
+    rt: &impl Abort,
+    memory: Global,
+    document: &T,
+) -> Result<(), Fail> {
+    compare_bytes(rt, memory, document)?;
+    compare_displayed(rt, memory, document)?;
+    compare_flags(rt, memory, document)?;
+    compare_text_sink(rt, memory, document)?;
+    compare_byte_sink(rt, memory, document)
 }
 
-fn compare_failing<'a, T: DocPtr<'a>>(
+// A document that fails is not printed, and what was written is a beginning of its bytes.
+pub(crate) fn compare_failing<'a, T: DocPtr<'a>>(
     rt: &impl Abort,
     memory: Global,
     document: &T,
 ) -> Result<(), Fail> {
     let shown = document.doc().print(memory, 80);
     let mut out = String::from_str(memory, "b")?;
-    assert!(rt; write!(out, "{shown}").is_err());
-    assert!(rt; "ba".starts_with(out.as_str()));
+    check(
+        rt,
+        write!(out, "{shown}").is_err(),
+        "a failing document",
+        80,
+    );
+    check(rt, "ba".starts_with(out.as_str()), "a failing document", 80);
     Ok(())
 }
 
-// A document that fails is not printed, and what was written is a beginning of its bytes.
-fn compare_failing_in<'a, D: DocPlace<'a>>(rt: &impl Abort, place: &'a D) -> Result<(), Fail> {
-    let document = read(place, "Append Text 'a' Fail")?;
-    compare_failing(rt, place.memory(), &document)
-}
-
-fn compare_before<'a, D: DocPlace<'a>>(rt: &impl Abort, place: &'a D) -> Result<(), Fail> {
-    let memory = place.memory();
-    let document = read(place, "Append LineSuffix Fail Text 'a'")?;
+pub(crate) fn compare_before<'a, T: DocPtr<'a>>(
+    rt: &impl Abort,
+    memory: Global,
+    document: &T,
+) -> Result<(), Fail> {
     let mut out = Vec::new(memory);
     let result = document.doc().render(memory, 80, &mut out);
-    assert!(rt; matches!(result, Err(RenderError::Document(_))));
-    assert!(rt; out.as_slice() == b"a".as_slice());
+    check(
+        rt,
+        matches!(result, Err(RenderError::Document(_))),
+        "before a failing node",
+        80,
+    );
+    check(
+        rt,
+        out.as_slice() == b"a".as_slice(),
+        "before a failing node",
+        80,
+    );
     Ok(())
 }
 
-fn all<'a, D: DocPlace<'a>>(rt: &impl Abort, place: &'a D) -> Result<(), Fail> {
-    compare_bytes(rt, place)?;
-    compare_displayed(rt, place)?;
-    compare_flags_in(rt, place)?;
-    compare_sinks(rt, place)?;
-    compare_failing_in(rt, place)?;
-    compare_before(rt, place)
-}
+const CASES: [(&str, Compared<'static>); 3] = [
+    (
+        "Nest 2 Append Append Append Text 'ab' HardLine HardLine Text 'c'",
+        Compared::Ways,
+    ),
+    ("Append Text 'a' Fail", Compared::Failing),
+    ("Append LineSuffix Fail Text 'a'", Compared::Before),
+];
 
-// One test for all: what its place of nodes is costs the prover more than what is done with it.
 #[test]
 fn all_ways_to_render(rt: HostRuntime) -> Result<(), Fail> {
-    all(&rt, &BoxAllocator::new(rt.alloc()))
+    for (written, compared) in CASES {
+        compare_through(&rt, rt.alloc(), written, compared)?;
+    }
+    Ok(())
 }

@@ -1,5 +1,5 @@
 //! Weak spaces and weak lines.
-use crate::rendered::{Case, compare};
+use crate::rendered::{Case, LF, compare};
 use std::test::Fail;
 
 #[rattlefmt::skip]
@@ -50,11 +50,7 @@ const LINES: [Case<'static>; 10] = [
 ];
 
 #[test]
-fn spaces(rt: HostRuntime) -> Result<(), Fail> {
-    compare(&rt, rt.alloc(), &SPACES)
-}
-
-#[test]
-fn lines(rt: HostRuntime) -> Result<(), Fail> {
-    compare(&rt, rt.alloc(), &LINES)
+fn weak_nodes(rt: HostRuntime) -> Result<(), Fail> {
+    let tables = [(LF, SPACES.as_slice()), (LF, LINES.as_slice())];
+    compare(&rt, rt.alloc(), &tables)
 }

@@ -1,5 +1,5 @@
 //! Small documents, each for what it shows of a layout.
-use crate::rendered::{Case, compare};
+use crate::rendered::{Case, LF, compare};
 use std::test::Fail;
 
 #[rattlefmt::skip]
@@ -92,21 +92,12 @@ const COUNTED_WIDTHS: [Case<'static>; 3] = [
 ];
 
 #[test]
-fn texts(rt: HostRuntime) -> Result<(), Fail> {
-    compare(&rt, rt.alloc(), &TEXTS)
-}
-
-#[test]
-fn groups(rt: HostRuntime) -> Result<(), Fail> {
-    compare(&rt, rt.alloc(), &GROUPS)
-}
-
-#[test]
-fn indents(rt: HostRuntime) -> Result<(), Fail> {
-    compare(&rt, rt.alloc(), &INDENTS)
-}
-
-#[test]
-fn counted_widths(rt: HostRuntime) -> Result<(), Fail> {
-    compare(&rt, rt.alloc(), &COUNTED_WIDTHS)
+fn worked_documents(rt: HostRuntime) -> Result<(), Fail> {
+    let tables = [
+        (LF, TEXTS.as_slice()),
+        (LF, GROUPS.as_slice()),
+        (LF, INDENTS.as_slice()),
+        (LF, COUNTED_WIDTHS.as_slice()),
+    ];
+    compare(&rt, rt.alloc(), &tables)
 }
