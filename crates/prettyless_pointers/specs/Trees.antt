@@ -11,7 +11,7 @@ box_tree = fold-BoxDoc Tree Tree (λ d. d.0.value) (λ d. tree_of (λ t. t) d.0)
 
 -- the tree of a document whose owners are counted
 abbrev pub rc_tree : RcDoc → Tree
-rc_tree = fold-RcDoc Tree (λ d. tree_of (λ t. t) d.0.value)
+rc_tree = fold-RcDoc Tree Tree (λ d. d.0.value) (λ d. tree_of (λ t. t) d.0)
 
 -- the tree of a document in an arena
 abbrev pub ref_tree : RefDoc → Tree

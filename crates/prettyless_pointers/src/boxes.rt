@@ -30,6 +30,7 @@ impl<'a> BoxNode<'a> {
 }
 
 impl<'a> Drop for BoxNode<'a> {
+    #[inline(always)]
     fn drop(self) {
         let BoxNode(doc) = self;
         drop(doc);

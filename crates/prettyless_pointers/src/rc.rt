@@ -13,7 +13,21 @@ use std::rc::Rc;
 /// calls, all that only it held: a document of many thousand levels may run out of stack, and a chain of appended
 /// documents is as deep as it is long.
 #[derive(Drop)]
-pub struct RcDoc<'a>(Rc<Doc<'a, RcDoc<'a>>>);
+#[cycle(rc_doc)]
+pub struct RcDoc<'a>(Rc<RcNode<'a>>);
+
+// A node has a type of its own, so that a proof that compares types of pointers need not compare all that they lead to.
+#[cycle(rc_doc)]
+struct RcNode<'a>(Doc<'a, RcDoc<'a>>);
+
+impl<'a> Drop for RcNode<'a> {
+    #[cycle(rc_drop)]
+    #[inline(always)]
+    fn drop(self) {
+        let RcNode(doc) = self;
+        drop(doc);
+    }
+}
 
 impl<'a> RcDoc<'a> {
     /// Places a node: the same tree, or an error where memory is refused, and the node is then given up.
@@ -21,7 +35,7 @@ impl<'a> RcDoc<'a> {
         ensures ok { IfOk result (λ p. rc_tree p ≡ tree_of rc_tree doc.entry) }
         ensures err { IfErr result IsMemory }
     {
-        Ok(RcDoc(Rc::new(alloc, doc)?))
+        Ok(RcDoc(Rc::new(alloc, RcNode(doc))?))
     }
 
     /// Another pointer to the same node. It places none, and answers `Memory` only where the node has as many owners as can
@@ -38,7 +52,7 @@ impl<'a> DocPtr<'a> for RcDoc<'a> {
     ghost tree = { rc_tree };
 
     fn doc(&self) -> &Doc<'a, RcDoc<'a>> {
-        self.0.as_ref()
+        &self.0.as_ref().0
     }
 }
 
