@@ -9,7 +9,7 @@ use Rattle.prettyless.specs.Words.{intersperse}
 use Rattle.bench_workloads.specs.declared.workload.Workload.{Workload}
 use Rattle.bench_workloads.specs.declared.workload.Workload.TheVariants as w
 
--- a text and a line behind it
+-- a text and a line after it
 abbrev pub text_line : List ℕ → Tree
 text_line text = append (Text text) line
 
@@ -25,11 +25,11 @@ parenthesised items = append (append (Text (codes "(")) (group (nest (pos 1) ite
 abbrev pub list : ℕ → Tree
 list n = parenthesised (intersperse line (replicate n (Text (codes "atom"))))
 
--- a document behind another, with a line between them
+-- a document after another, with a line between them
 abbrev pub behind : Tree → Tree → Tree
 behind front next = append (append front line) next
 
--- so many of a tree, and one at least, each behind the one before it
+-- so many of a tree, and one at least, each after the one before it
 abbrev pub row : ℕ → Tree → Tree
 row zero x = x
 row (suc zero) x = x
@@ -44,7 +44,7 @@ tree (suc k) = parenthesised (row 10 (tree k))
 abbrev pub IsTree : ℕ → Tree → Type 0
 IsTree n x = (k : ℕ) × (10 ^ k ≤ max n 1) × (max n 1 < 10 * 10 ^ k) × (x ≡ tree k)
 
--- values behind a text, nested by 2, on lines of their own where they don't fit its line
+-- values after a text, nested by 2, on lines of their own where they don't fit its line
 abbrev pub opened : Tree → Tree → Tree
 opened opening values = append opening (nest (pos 2) (on_own_line values))
 
@@ -82,7 +82,7 @@ lines n = nest (pos 4) (intersperse HardLine (replicate n (Text (codes "a line o
 abbrev pub triple : List ℕ → List ℕ → List ℕ → Tree
 triple first second third = bracketed (Text (codes "[")) (with_comma (with_comma (Text first) (Text second)) (Text third)) (Text (codes "]"))
 
--- a key, and the value behind it
+-- a key, and the value after it
 abbrev pub field : List ℕ → Tree → Tree
 field key value = append (Text key) value
 
@@ -155,11 +155,11 @@ abbrev pub rejected : ℕ → Tree
 rejected zero = Text (codes "x")
 rejected (suc n) = rejected_trial (rejected n)
 
--- these behind a text
+-- these after a text
 abbrev pub rejected_trials : ℕ → Tree
 rejected_trials n = append (Text (codes "p")) (rejected n)
 
--- a line and this, grouped, and a text behind the group
+-- a line and this, grouped, and a text after the group
 abbrev pub tail_group : Tree → Tree
 tail_group inner = append (group (on_own_line inner)) (Text (codes "a text of forty columns, behind a group."))
 
@@ -168,7 +168,7 @@ abbrev pub tail_groups : ℕ → Tree
 tail_groups zero = Text (codes "a")
 tail_groups (suc n) = tail_group (tail_groups n)
 
--- an atom, a line, and this behind them
+-- an atom, a line, and this after them
 abbrev pub in_front : Tree → Tree
 in_front inner = append (Text (codes "atom")) (append line inner)
 

@@ -49,7 +49,7 @@ pub(crate) fn bare_groups<'a, D: DocPlace<'a>>(
     Ok(all)
 }
 
-// A document on a line of its own where it does not fit, in a group, and a text behind that.
+// A document on a line of its own where it does not fit, in a group, and a text after that.
 fn tail_group<'a, D: DocPlace<'a>>(
     inner: DocBuilder<'a, D>,
 ) -> Result<DocBuilder<'a, D>, BuildError>
@@ -61,7 +61,7 @@ fn tail_group<'a, D: DocPlace<'a>>(
     front.join(text(place, "a text of forty columns, behind a group."))
 }
 
-/// Groups nested so deep, with a text behind each.
+/// Groups nested so deep, with a text after each.
 pub(crate) fn tail_groups<'a, D: DocPlace<'a>>(
     place: &'a D,
     depth: usize,

@@ -10,7 +10,7 @@ use crate::words::word;
 use prettyless::text::BuildError;
 use prettyless::{DocAllocator, DocBuilder, DocPlace};
 
-// A text, and values behind it, nested, on lines of their own where they don't fit its line.
+// A text, and values after it, nested, on lines of their own where they don't fit its line.
 #[inline(always)]
 fn opened<'a, D: DocPlace<'a>>(
     opening: &'a str,
@@ -53,7 +53,7 @@ pub(crate) fn with_comma<'a, D: DocPlace<'a>>(
     front.join(gap)?.join(next)
 }
 
-/// A key, and the value behind it.
+/// A key, and the value after it.
 #[inline(always)]
 pub(crate) fn field<'a, D: DocPlace<'a>>(
     key: &'a str,

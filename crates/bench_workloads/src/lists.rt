@@ -86,7 +86,7 @@ trait TreePlace: Copy {
         ensures ok { IfOk result (λ d. tree d ≡ to.tree 0) }
         ensures err { IfErr result IsMemory };
 
-    /// A document behind another, with a line between them.
+    /// A document after another, with a line between them.
     fn behind(self, front: Self::Doc, next: Self::Doc) -> Result<Self::Doc, BuildError>
         ensures ok { IfOk result (λ d. tree d ≡ to.behind (tree front) (tree next)) }
         ensures err { IfErr result IsMemory };

@@ -22,7 +22,7 @@ pub(crate) fn line_break<'a, D: DocPlace<'a>>(place: &'a D) -> DocBuilder<'a, D>
     DocBuilder::new(place, Doc::HardLine)
 }
 
-/// A text, and a line behind it.
+/// A text, and a line after it.
 #[inline(always)]
 pub(crate) fn text_line<'a, D: DocPlace<'a>>(
     place: &'a D,

@@ -25,7 +25,7 @@ pub enum Workload {
     KeptTrials,
     /// Alternatives in alternatives, of which each first one is rejected.
     RejectedTrials,
-    /// Groups in groups, each with a text behind it.
+    /// Groups in groups, each with a text after it.
     TailGroups,
     /// A list that leans to the right.
     RightList,

@@ -32,27 +32,12 @@ pub(crate) fn texts<'a, D: DocPlace<'a>>(rt: &impl Abort, place: &'a D) {
     shows(rt, place.text(CowStr::Borrowed("")), "Nil");
     shows(rt, place.ascii_text(CowStr::Borrowed("")), "\"\"");
     shows(rt, place.as_string(16), "\"16\"");
-}
-
-pub(crate) fn payloads<'a, D: DocPlace<'a>>(rt: &impl Abort, place: &'a D) {
     let payload = place.multiline_text(CowStr::Borrowed("a\nb"));
     shows(rt, payload, "MultilineText(\"a\\nb\")");
-    shows(rt, place.multiline_text(CowStr::Borrowed("ab")), "\"ab\"");
-    shows(rt, place.multiline_text(CowStr::Borrowed("")), "Nil");
-}
-
-fn is_borrowed_and_wide<T>(node: &Doc<'_, T>) -> bool {
-    matches!(node, Doc::TextWithLen(1, Text::Borrowed(_)))
 }
 
 fn is_small<T>(node: &Doc<'_, T>) -> bool {
     matches!(node, Doc::Text(Text::Small(_)))
-}
-
-// A text that is not ASCII counts as its width.
-pub(crate) fn widths<'a, D: DocPlace<'a>>(rt: &impl Abort, place: &'a D) {
-    let text = built(rt, place.text(CowStr::Borrowed("\u{e9}")));
-    assert!(rt; is_borrowed_and_wide(text.doc()));
 }
 
 // A short value is in its node.
@@ -121,13 +106,6 @@ pub(crate) fn separators<'a, D: DocPlace<'a>, P: Pretty<'a, D> + Copy>(
     refuses(rt, between(place, two, as_string(Failing)));
 }
 
-pub(crate) fn words<'a, D: DocPlace<'a>>(rt: &impl Abort, place: &'a D) {
-    let words = "[\"a\", SoftLineOrSpace, SoftLineOrSpace, \"b\"]";
-    shows(rt, place.reflow("a  b"), words);
-    shows(rt, place.reflow(" a"), "[SoftLineOrSpace, \"a\"]");
-    shows(rt, place.reflow(""), "Nil");
-}
-
 const HUNDRED: &str =
     "                                                                                                    ";
 
@@ -150,14 +128,10 @@ fn is_chain<'a, T: DocPtr<'a>>(gap: &Doc<'a, T>) -> bool {
     is_text(first.doc(), HUNDRED) && is_text(second.doc(), HUNDRED) && is_text(last.doc(), "     ")
 }
 
-pub(crate) fn gaps<'a, D: DocPlace<'a>>(rt: &impl Abort, place: &'a D) {
-    shows(rt, place.spaces(0), "Nil");
+pub(crate) fn words<'a, D: DocPlace<'a>>(rt: &impl Abort, place: &'a D) {
     shows(rt, place.spaces(3), "\"   \"");
-}
-
-pub(crate) fn hundreds<'a, D: DocPlace<'a>>(rt: &impl Abort, place: &'a D) {
-    let gap = built(rt, place.spaces(100));
-    assert!(rt; is_text(gap.doc(), HUNDRED));
+    let words = "[\"a\", SoftLineOrSpace, SoftLineOrSpace, \"b\"]";
+    shows(rt, place.reflow("a  b"), words);
 }
 
 // A long gap is a chain.

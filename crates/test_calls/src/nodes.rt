@@ -1,14 +1,9 @@
-//! Documents of one node, not placed yet, and documents in the making.
+//! Documents of one node, not placed yet, and documents in the making, of the calls that can fail.
 use crate::expected::is_made;
 use prettyless::prelude::*;
 use prettyless::text::{BuildError, CowStr};
 use prettyless::{BuildDoc, Doc};
 use std::process::Abort;
-
-// Compares what a node is shown as.
-fn is_node<'a, D: DocPlace<'a>>(rt: &impl Abort, place: &'a D, node: Doc<'a, D::Doc>, text: &str) {
-    is_made(rt, place, BuildDoc::Doc(node), text);
-}
 
 // Compares what a node that a call makes is shown as.
 fn makes_node<'a, D: DocPlace<'a>>(
@@ -17,7 +12,8 @@ fn makes_node<'a, D: DocPlace<'a>>(
     made: Result<Doc<'a, D::Doc>, BuildError>,
     text: &str,
 ) {
-    is_node(rt, place, made.expect(rt, "a node was not made"), text);
+    let node = made.expect(rt, "a node was not made");
+    is_made(rt, place, BuildDoc::Doc(node), text);
 }
 
 // Compares what a document that a call makes is shown as.
@@ -30,20 +26,6 @@ fn makes<'a, D: DocPlace<'a>>(
     is_made(rt, place, made.expect(rt, "a document was not made"), text);
 }
 
-pub(crate) fn leaves<'a, D: DocPlace<'a>>(rt: &impl Abort, place: &'a D) {
-    is_node(rt, place, Doc::nil(), "Nil");
-    is_node(rt, place, Doc::fail(), "Fail");
-    is_node(rt, place, Doc::hard_line(), "HardLine");
-    is_node(rt, place, Doc::hardline(), "HardLine");
-    is_node(rt, place, Doc::weak_line(), "WeakLine");
-}
-
-pub(crate) fn blanks<'a, D: DocPlace<'a>>(rt: &impl Abort, place: &'a D) {
-    is_node(rt, place, Doc::space(), "\" \"");
-    is_node(rt, place, Doc::weak_space(), "WeakSpace");
-    is_node(rt, place, Doc::expand_parent(), "ExpandParent");
-}
-
 pub(crate) fn texts<'a, D: DocPlace<'a>>(rt: &impl Abort, place: &'a D) {
     let memory = place.memory();
     let text = Doc::text(memory, CowStr::Borrowed("xy"));
@@ -52,20 +34,6 @@ pub(crate) fn texts<'a, D: DocPlace<'a>>(rt: &impl Abort, place: &'a D) {
     makes_node(rt, place, value, "\"16\"");
     let payload = Doc::multiline_text(memory, CowStr::Borrowed("x\ny"));
     makes_node(rt, place, payload, "MultilineText(\"x\\ny\")");
-}
-
-pub(crate) fn made_leaves<'a, D: DocPlace<'a>>(rt: &impl Abort, place: &'a D) {
-    is_made(rt, place, BuildDoc::nil(), "Nil");
-    is_made(rt, place, BuildDoc::fail(), "Fail");
-    is_made(rt, place, BuildDoc::hard_line(), "HardLine");
-    is_made(rt, place, BuildDoc::hardline(), "HardLine");
-    is_made(rt, place, BuildDoc::weak_line(), "WeakLine");
-}
-
-pub(crate) fn made_blanks<'a, D: DocPlace<'a>>(rt: &impl Abort, place: &'a D) {
-    is_made(rt, place, BuildDoc::space(), "\" \"");
-    is_made(rt, place, BuildDoc::weak_space(), "WeakSpace");
-    is_made(rt, place, BuildDoc::expand_parent(), "ExpandParent");
 }
 
 pub(crate) fn made_texts<'a, D: DocPlace<'a>>(rt: &impl Abort, place: &'a D) {

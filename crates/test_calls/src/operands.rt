@@ -1,4 +1,4 @@
-//! Documents as operands: pointers in each place of nodes, and documents in the making.
+//! Pointers as operands, in each place of nodes.
 use crate::expected::{is_made, shows};
 use prettyless::prelude::*;
 use prettyless::{BuildDoc, Doc, DocBuilder, DocPtr};
@@ -27,21 +27,4 @@ pub(crate) fn pointers<'a, D: DocPlace<'a, Doc = T>, T: DocPtr<'a> + Pretty<'a, 
 // beyond the prover's limits.
 pub(crate) fn pointed<'a, D: DocPlace<'a>>(rt: &impl Abort, place: &'a D) {
     is_made(rt, place, BuildDoc::DocPtr(line(rt, place)), "WeakLine");
-}
-
-fn places<'a, D: DocPlace<'a>>(
-    rt: &impl Abort,
-    place: &'a D,
-    made: BuildDoc<'a, D::Doc>,
-    text: &str,
-) {
-    shows(rt, made.pretty(place), text);
-}
-
-// Documents in the making, by default and of what they are made of.
-pub(crate) fn others<'a, D: DocPlace<'a>>(rt: &impl Abort, place: &'a D) {
-    places(rt, place, BuildDoc::Doc(Doc::default()), "Nil");
-    places(rt, place, BuildDoc::default(), "Nil");
-    places(rt, place, BuildDoc::from(Doc::HardLine), "HardLine");
-    places(rt, place, BuildDoc::from(failure(place)), "Fail");
 }

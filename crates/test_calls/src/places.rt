@@ -16,25 +16,17 @@ where
     calls::blanks(rt, place);
     calls::lines(rt, place);
     calls::texts(rt, place);
-    calls::payloads(rt, place);
-    calls::widths(rt, place);
     calls::strings(rt, place);
     lists::gaps(rt, place);
     lists::marks(rt, place);
     lists::brackets(rt, place);
     calls::words(rt, place);
-    calls::gaps(rt, place);
-    calls::hundreds(rt, place);
     calls::chains(rt, place);
     calls::nodes(rt, place);
 }
 
 fn make<'a, D: DocPlace<'a>>(rt: &impl Abort, place: &'a D) {
-    nodes::leaves(rt, place);
-    nodes::blanks(rt, place);
     nodes::texts(rt, place);
-    nodes::made_leaves(rt, place);
-    nodes::made_blanks(rt, place);
     nodes::made_texts(rt, place);
     nodes::lines(rt, place);
     nodes::copies(rt, place);
@@ -149,7 +141,6 @@ fn in_boxes<'a, D: DocPlace<'a, Doc = T>, T: DocPtr<'a> + Pretty<'a, D> + fmt::D
     all(rt, *place);
     lend(rt, place);
     operands::pointers(rt, *place);
-    operands::others(rt, *place);
     values::lent(rt, *place, owned);
     deep::chains(rt, *place);
 }

@@ -1,6 +1,7 @@
 //! Texts that are no JSON.
 use json_formatter::{FormatError, Style, formatted};
-use std::test::Fail;
+use std::alloc::Global;
+use std::process::Abort;
 
 const TEXTS: [&str; 78] = [
     "",
@@ -83,11 +84,14 @@ const TEXTS: [&str; 78] = [
     "{\"a\":1:2}",
 ];
 
+fn is_refused(rt: &impl Abort, memory: Global, text: &str) {
+    let answer = formatted(memory, text, Style::default());
+    assert!(rt; matches!(answer, Err(FormatError::NotJson)), "{text}");
+}
+
 #[test]
-fn texts_are_refused(rt: HostRuntime) -> Result<(), Fail> {
+fn texts_are_refused(rt: HostRuntime) {
     for text in TEXTS {
-        let refused = formatted(rt.alloc(), text, Style::default());
-        assert!(rt; matches!(refused, Err(FormatError::NotJson)), "{text}");
+        is_refused(&rt, rt.alloc(), text);
     }
-    Ok(())
 }

@@ -3,10 +3,24 @@ use clap::error::ErrorKind;
 use jsonfmt_request::expected::Expected;
 use jsonfmt_request::fault::fault_of;
 use jsonfmt_request::request::requested;
-use std::test::Fail;
+use std::alloc::Global;
+use std::process::Abort;
+
+// Compares what was expected in a text, and its line and column.
+fn compare(
+    rt: &impl Abort,
+    memory: Global,
+    text: &[u8],
+    (line, column): (usize, usize),
+    expected: Expected,
+) {
+    let fault = fault_of(memory, text).expect(rt, "memory was refused");
+    assert!(rt; fault.place.line == line && fault.place.column == column);
+    assert!(rt; fault.expected == expected);
+}
 
 #[test]
-fn faults_are_named(rt: HostRuntime) -> Result<(), Fail> {
+fn faults_are_named(rt: HostRuntime) {
     let rows = [
         ("", 1, 1, Expected::Value),
         ("[\n1 2]", 2, 3, Expected::CommaOrBracket),
@@ -24,27 +38,26 @@ fn faults_are_named(rt: HostRuntime) -> Result<(), Fail> {
         ("\"\\ud800\"", 1, 1, Expected::Escapes),
     ];
     for (text, line, column, expected) in rows {
-        let fault = fault_of(rt.alloc(), text.as_bytes())?;
-        assert_eq!(rt;
-            (fault.place.line, fault.place.column),
-            (line, column),
-            "{text}"
-        );
-        assert!(rt; fault.expected == expected);
+        compare(&rt, rt.alloc(), text.as_bytes(), (line, column), expected);
     }
-    let fault = fault_of(rt.alloc(), b"[\"\xFF\"]")?;
-    assert!(rt; fault.expected == Expected::Utf8 && fault.place.column == 3);
-    Ok(())
+    compare(&rt, rt.alloc(), b"[\"\xFF\"]", (1, 3), Expected::Utf8);
 }
 
 #[test]
-fn words_are_read(rt: HostRuntime) -> Result<(), Fail> {
+fn words_are_read(rt: HostRuntime) {
     let words = ["jsonfmt", "a", "--width=40", "b", "--check", "--", "--fill"];
-    let asked = requested(rt.alloc(), words.as_slice())?;
-    assert_eq!(rt; (asked.style.width, asked.style.indent), (40, 2));
-    assert!(rt; asked.check && !asked.style.fill);
+    let asked = requested(rt.alloc(), words.as_slice()).expect(&rt, "the words are refused");
+    assert!(rt; asked.style.width == 40 && asked.style.indent == 2 && !asked.style.fill);
+    assert!(rt; asked.check);
     assert!(rt; asked.files.as_slice() == ["a", "b", "--fill"].as_slice());
-    Ok(())
+}
+
+fn is_refused(rt: &impl Abort, memory: Global, word: &str, kind: ErrorKind) {
+    let words = ["jsonfmt", word];
+    match requested(memory, words.as_slice()) {
+        Ok(_) => assert!(rt; false, "{word}"),
+        Err(error) => assert!(rt; error.kind() == kind, "{word}"),
+    }
 }
 
 #[test]
@@ -59,10 +72,6 @@ fn bad_words_are_refused(rt: HostRuntime) {
         ("--version", ErrorKind::DisplayVersion),
     ];
     for (word, kind) in rows {
-        let words = ["jsonfmt", word];
-        match requested(rt.alloc(), words.as_slice()) {
-            Ok(_) => assert!(rt; false, "{word}"),
-            Err(error) => assert!(rt; error.kind() == kind, "{word}"),
-        }
+        is_refused(&rt, rt.alloc(), word, kind);
     }
 }
