@@ -1,0 +1,5 @@
+use Rattle.std.proofs.Common.{rules}
+use Rattle.prettyless_step.proofs.command.nested_indent.Goals as goal
+
+pub returns : goal.returns
+returns c = search rules

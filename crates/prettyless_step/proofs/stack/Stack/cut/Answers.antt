@@ -1,0 +1,11 @@
+use Rattle.std.proofs.Common.{rules}
+use Rattle.prettyless_step.proofs.stack.Stack.cut.Goals as goal
+
+pub frames-smaller : goal.frames-smaller
+frames-smaller g c = search rules
+
+pub frames-preserved : goal.frames-preserved
+frames-preserved g c = search rules
+
+pub keep-requires-2 : goal.keep-requires-2
+keep-requires-2 g c = search rules
