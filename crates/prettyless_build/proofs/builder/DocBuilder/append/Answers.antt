@@ -3,6 +3,3 @@ use Rattle.prettyless_build.proofs.builder.DocBuilder.append.Goals as goal
 
 pub returns-clause-ok : goal.returns-clause-ok
 returns-clause-ok g c = search rules
-
-pub returns-clause-err : goal.returns-clause-err
-returns-clause-err g c = search rules

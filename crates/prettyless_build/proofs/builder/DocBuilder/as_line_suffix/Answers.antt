@@ -3,6 +3,3 @@ use Rattle.prettyless_build.proofs.builder.DocBuilder.as_line_suffix.Goals as go
 
 pub returns-in_default : goal.returns-in_default
 returns-in_default g c = search rules
-
-pub returns-in-Nil : goal.returns-in-Nil
-returns-in-Nil g c = search rules

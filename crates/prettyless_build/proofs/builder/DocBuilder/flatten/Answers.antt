@@ -7,11 +7,5 @@ returns-in-HardLine-clause-builds g c = search rules
 pub returns-in-HardLine-clause-hard : goal.returns-in-HardLine-clause-hard
 returns-in-HardLine-clause-hard g c = search rules
 
-pub returns-in-Nil-clause-builds : goal.returns-in-Nil-clause-builds
-returns-in-Nil-clause-builds g c = search rules
-
-pub returns-in-Nil-clause-hard : goal.returns-in-Nil-clause-hard
-returns-in-Nil-clause-hard g c = search rules
-
 pub returns : goal.returns
 returns g c = search rules

@@ -4,8 +4,5 @@ use Rattle.prettyless_build.proofs.builder.DocBuilder.join.Goals as goal
 pub returns-then-is_nil-clause-ok : goal.returns-then-is_nil-clause-ok
 returns-then-is_nil-clause-ok g c = search rules
 
-pub returns-then-is_nil-2-clause-ok : goal.returns-then-is_nil-2-clause-ok
-returns-then-is_nil-2-clause-ok g c = search rules
-
 pub returns-clause-ok : goal.returns-clause-ok
 returns-clause-ok g c = search rules
