@@ -1,7 +1,7 @@
 //! Documents, and what each is laid out as.
 use prettyless::prelude::*;
 use prettyless::text::BuildError;
-use prettyless::{Doc, docs};
+use prettyless::{BuildDoc, Doc, DocBuilder, docs};
 
 /// A text that has no room in a node.
 pub const LONG: &str = "a text of 23 characters";
@@ -144,11 +144,36 @@ fn second_line_too_long<'a, D: DocPlace<'a>>(place: &'a D) -> Result<D::Doc, Bui
     place.pretty(union(long, short))?.into_doc()
 }
 
+// One after the other.
+fn joined<'a, D: DocPlace<'a>>(
+    front: Result<DocBuilder<'a, D>, BuildError>,
+    back: Result<DocBuilder<'a, D>, BuildError>,
+) -> Result<DocBuilder<'a, D>, BuildError> {
+    front?.join(back?)
+}
+
+// The first where it fits, and else the second.
+fn either<'a, D: DocPlace<'a>>(
+    first: Result<DocBuilder<'a, D>, BuildError>,
+    second: Result<DocBuilder<'a, D>, BuildError>,
+) -> Result<DocBuilder<'a, D>, BuildError> {
+    let second = second?.into_doc()?;
+    first?.union(BuildDoc::DocPtr(second))
+}
+
+// A text that is put off to the end of its line.
+fn suffix<'a, D: DocPlace<'a>>(
+    place: &'a D,
+    text: &'a str,
+) -> Result<DocBuilder<'a, D>, BuildError> {
+    place.pretty(text)?.as_line_suffix()
+}
+
 fn suffixes_pending<'a, D: DocPlace<'a>>(place: &'a D) -> Result<D::Doc, BuildError> {
-    let first = (line_suffix(" // 3"), "6666666");
-    let second = (line_suffix(" // 4"), "77");
-    let pending = ("a", line_suffix(" // 1"), "a", union(first, second));
-    place.pretty(pending)?.into_doc()
+    let first = joined(suffix(place, " // 3"), place.pretty("6666666"));
+    let second = joined(suffix(place, " // 4"), place.pretty("77"));
+    let front = joined(place.pretty("a"), suffix(place, " // 1"));
+    joined(joined(front, place.pretty("a")), either(first, second))?.into_doc()
 }
 
 fn kept_after_line<'a, D: DocPlace<'a>>(place: &'a D) -> Result<D::Doc, BuildError> {
@@ -157,9 +182,11 @@ fn kept_after_line<'a, D: DocPlace<'a>>(place: &'a D) -> Result<D::Doc, BuildErr
 }
 
 fn kept_in_rejected<'a, D: DocPlace<'a>>(place: &'a D) -> Result<D::Doc, BuildError> {
-    let inner = union(("inner", line_suffix(" // s")), "inner fallback");
-    let outer = union((inner, " long overflow"), "outer fallback");
-    place.pretty((line_suffix(" // caller"), outer))?.into_doc()
+    let kept = joined(place.pretty("inner"), suffix(place, " // s"));
+    let inner = either(kept, place.pretty("inner fallback"));
+    let outer = joined(inner, place.pretty(" long overflow"));
+    let rejected = either(outer, place.pretty("outer fallback"));
+    joined(suffix(place, " // caller"), rejected)?.into_doc()
 }
 
 fn nested_suffixes<'a, D: DocPlace<'a>>(place: &'a D) -> Result<D::Doc, BuildError> {
@@ -168,8 +195,9 @@ fn nested_suffixes<'a, D: DocPlace<'a>>(place: &'a D) -> Result<D::Doc, BuildErr
 }
 
 fn kept_in_kept<'a, D: DocPlace<'a>>(place: &'a D) -> Result<D::Doc, BuildError> {
-    let inner = union(("inner", line_suffix(" // s")), "q");
-    place.pretty(union(("p", inner), "r"))?.into_doc()
+    let kept = joined(place.pretty("inner"), suffix(place, " // s"));
+    let inner = either(kept, place.pretty("q"));
+    either(joined(place.pretty("p"), inner), place.pretty("r"))?.into_doc()
 }
 
 fn repeated<'a, D: DocPlace<'a>>(place: &'a D) -> Result<D::Doc, BuildError> {

@@ -80,11 +80,21 @@ pub fn counted_owners(memory: Global, run: &mut Run<'_>) -> Result<(), Wrong> {
     compare_rows(run, "counted owners", &RcAllocator::new(memory))
 }
 
+// These, and the document for which the printer keeps what its probes have read.
+fn compare_groups_too<'a, 's, D: DocPlace<'a>>(
+    run: &mut Run<'s>,
+    name: &'s str,
+    place: &'a D,
+) -> Result<(), Wrong> {
+    let memory = place.memory();
+    compare_rows(run, name, place)?;
+    run.begin(name, GROUPS.name);
+    let document = build(run, place, GROUPS)?;
+    compare(memory, run, &document, GROUPS)
+}
+
 fn compare_in<'a>(run: &mut Run<'_>, arena: &'a Arena<'a>) -> Result<(), Wrong> {
-    compare_rows(run, "arena", arena)?;
-    run.begin("arena", GROUPS.name);
-    let document = build(run, arena, GROUPS)?;
-    compare(arena.memory(), run, &document, GROUPS)
+    compare_groups_too(run, "arena", arena)
 }
 
 pub fn arena(memory: Global, run: &mut Run<'_>) -> Result<(), Wrong> {
