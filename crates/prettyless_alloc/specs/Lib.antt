@@ -1,4 +1,5 @@
 pub mod Lists
+pub mod Pointers
 pub mod Told
 pub mod Words
 pub use Rattle.prettyless_build.specs.Built

@@ -4,6 +4,7 @@ ghost use Rattle.std.specs.Iterator.{IsFinite, IsFiniteIterable, Drains};
 ghost use Rattle.std.specs.List.{FoldsTo};
 ghost use Rattle.prettyless_doc.specs.BuildErrors.{IsMemory};
 ghost use Rattle.prettyless_doc.specs.DocTree.{built};
+ghost use Rattle.prettyless_doc.specs.Tree.{Tree};
 ghost use Rattle.prettyless_build.specs.Built.{Builds, append};
 ghost use Rattle.prettyless_build.specs.Iterated.{GivesAll, GivesSome, GivesNext, HasGap, Intersperses, appends_after};
 
@@ -48,13 +49,33 @@ where
             return Ok(first);
         };
         let second = second.pretty(self)?;
-        let separator = separator.pretty(self)?;
-        if separator.doc().is_nil() {
-            return append_all(first.join(second)?, items);
-        }
-        let gap = separator.into_doc()?;
-        append_between(first, gap, second, items)
+        with_gaps(first, separator, second, items)
     }
+}
+
+// `first`, the gap that the separator makes and `second`, and for each item the gap and its document.
+fn with_gaps<'a, D: DocPlace<'a>, I: Iterator, S: Pretty<'a, D> + Drop>(
+    first: DocBuilder<'a, D>,
+    separator: S,
+    second: DocBuilder<'a, D>,
+    items: I,
+) -> Result<DocBuilder<'a, D>, BuildError>
+where
+    I::Item: Pretty<'a, D>,
+    requires can { I.can_next items }
+    requires ends { IsFinite (I.remaining items) }
+    ensures ok { IfOk result (λ b. (gap : Tree) × (xs : List I.Item) × S.becomes separator gap × Drains I.next_gives items xs
+        × FoldsTo (appends_after gap I.Item.becomes)
+        (append (append (built D.Doc.tree first.entry.1) gap) (built D.Doc.tree second.entry.1)) xs
+        (built D.Doc.tree b.1)) }
+    ensures err { IfErr result (λ e. IsMemory e ⊎ S.refuses separator e ⊎ GivesNext I.next_gives items (λ x. I.Item.refuses x e)) }
+{
+    let separator = separator.pretty(first.0)?;
+    if separator.doc().is_nil() {
+        return append_all(first.join(second)?, items);
+    }
+    let gap = separator.into_doc()?;
+    append_between(first, gap, second, items)
 }
 
 // `all`, the gap and `last`, and for each item the gap and its document. The gap itself comes last, after its copies.

@@ -9,6 +9,7 @@ ghost use Rattle.prettyless_doc.specs.DocTree.{built};
 ghost use Rattle.prettyless_doc.specs.Lines as lines;
 ghost use Rattle.prettyless_build.specs.Built as to;
 ghost use Rattle.prettyless_build.specs.Iterated.{GivesAll, GivesSome, HasGap, Concatenates, Intersperses};
+ghost use Rattle.prettyless_alloc.specs.Pointers.{Places};
 
 use crate::allocator::DocAllocator;
 use crate::allocator_of_two::DocAllocatorOfTwo;
@@ -110,85 +111,89 @@ pub trait PlacedDoc<'a, D: DocPlace<'a, Doc = Self>>: DocPtr<'a> {
         ensures { to.Builds result Self.tree (Union (Self.tree self) (built Self.tree that.entry)) };
 }
 
+// A pointer to what a call has built, or its error. Each call of a builder is handed to it, so that none unwraps its own.
+#[inline(always)]
+fn placed<'a, D: DocPlace<'a>>(
+    made: Result<DocBuilder<'a, D>, BuildError>,
+) -> Result<D::Doc, BuildError>
+    ensures { Places made.entry (λ b. b.1) D.Doc.tree result }
+{
+    made?.into_doc()
+}
+
 impl<'a, D: DocPlace<'a, Doc = T>, T: DocPtr<'a>> PlacedDoc<'a, D> for T {
     fn nil(place: &'a D) -> Result<T, BuildError> {
-        place.nil()?.into_doc()
+        placed(place.nil())
     }
 
     fn fail(place: &'a D) -> Result<T, BuildError> {
-        place.fail()?.into_doc()
+        placed(place.fail())
     }
 
     fn hard_line(place: &'a D) -> Result<T, BuildError> {
-        place.hard_line()?.into_doc()
+        placed(place.hard_line())
     }
 
     fn hardline(place: &'a D) -> Result<T, BuildError> {
-        place.hardline()?.into_doc()
+        placed(place.hardline())
     }
 
     fn weak_line(place: &'a D) -> Result<T, BuildError> {
-        place.weak_line()?.into_doc()
+        placed(place.weak_line())
     }
 
     fn space(place: &'a D) -> Result<T, BuildError> {
-        place.space()?.into_doc()
+        placed(place.space())
     }
 
     fn weak_space(place: &'a D) -> Result<T, BuildError> {
-        place.weak_space()?.into_doc()
+        placed(place.weak_space())
     }
 
     fn expand_parent(place: &'a D) -> Result<T, BuildError> {
-        place.expand_parent()?.into_doc()
+        placed(place.expand_parent())
     }
 
     fn line(place: &'a D) -> Result<T, BuildError> {
-        place.line()?.into_doc()
+        placed(place.line())
     }
 
     fn line_(place: &'a D) -> Result<T, BuildError> {
-        place.line_()?.into_doc()
+        placed(place.line_())
     }
 
     fn softline(place: &'a D) -> Result<T, BuildError> {
-        place.softline()?.into_doc()
+        placed(place.softline())
     }
 
     fn softline_(place: &'a D) -> Result<T, BuildError> {
-        place.softline_()?.into_doc()
+        placed(place.softline_())
     }
 
     fn text(place: &'a D, text: CowStr<'a>) -> Result<T, BuildError> {
-        place.text(text)?.into_doc()
+        placed(place.text(text))
     }
 
     fn as_string<V: fmt::Display + Drop>(place: &'a D, value: V) -> Result<T, BuildError> {
-        place.as_string(value)?.into_doc()
+        placed(place.as_string(value))
     }
 
     fn multiline_text(place: &'a D, text: CowStr<'a>) -> Result<T, BuildError> {
-        place.multiline_text(text)?.into_doc()
+        placed(place.multiline_text(text))
     }
 
     fn group(self, place: &'a D) -> Result<T, BuildError> {
-        DocBuilder(place, BuildDoc::DocPtr(self))
-            .group()?
-            .into_doc()
+        placed(DocBuilder(place, BuildDoc::DocPtr(self)).group())
     }
 
     fn nest(self, place: &'a D, offset: isize) -> Result<T, BuildError> {
-        DocBuilder(place, BuildDoc::DocPtr(self))
-            .nest(offset)?
-            .into_doc()
+        placed(DocBuilder(place, BuildDoc::DocPtr(self)).nest(offset))
     }
 
     fn union(self, place: &'a D, that: BuildDoc<'a, T>) -> Result<T, BuildError>
         ensures { to.Builds result T.tree (Union (T.tree self) (built T.tree that.entry)) }
     {
-        DocBuilder(place, BuildDoc::DocPtr(self))
-            .union(that)?
-            .into_doc()
+        placed(DocBuilder(place, BuildDoc::DocPtr(self)).union(that))
     }
 }
 
@@ -216,15 +221,11 @@ impl<'a, D: DocPlace<'a, Doc = T>, P: Pretty<'a, D>, T: DocPtr<'a>> PlacedDocOf<
         if that.doc().is_nil() {
             return Ok(self);
         }
-        DocBuilder(place, BuildDoc::DocPtr(self))
-            .join(that)?
-            .into_doc()
+        placed(DocBuilder(place, BuildDoc::DocPtr(self)).join(that))
     }
 
     fn flat_alt(self, place: &'a D, that: P) -> Result<T, BuildError> {
-        DocBuilder(place, BuildDoc::DocPtr(self))
-            .flat_alt(that)?
-            .into_doc()
+        placed(DocBuilder(place, BuildDoc::DocPtr(self)).flat_alt(that))
     }
 }
 
@@ -253,11 +254,11 @@ impl<
     T: DocPtr<'a>,
 > PlacedDocOfTwo<'a, D, P, Q> for T {
     fn if_column(place: &'a D, test: ColumnTest, first: P, second: Q) -> Result<T, BuildError> {
-        place.if_column(test, first, second)?.into_doc()
+        placed(place.if_column(test, first, second))
     }
 
     fn if_nesting(place: &'a D, test: NestingTest, first: P, second: Q) -> Result<T, BuildError> {
-        place.if_nesting(test, first, second)?.into_doc()
+        placed(place.if_nesting(test, first, second))
     }
 }
 
@@ -283,7 +284,7 @@ where
     I::Item: Pretty<'a, D>,
 {
     fn concat(place: &'a D, docs: I) -> Result<T, BuildError> {
-        place.concat(docs)?.into_doc()
+        placed(place.concat(docs))
     }
 }
 
@@ -323,6 +324,6 @@ where
     I::Item: Pretty<'a, D>,
 {
     fn intersperse(place: &'a D, docs: I, separator: S) -> Result<T, BuildError> {
-        place.intersperse(docs, separator)?.into_doc()
+        placed(place.intersperse(docs, separator))
     }
 }

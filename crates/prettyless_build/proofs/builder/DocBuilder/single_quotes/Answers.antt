@@ -1,5 +1,4 @@
-use Rattle.std.proofs.Common.{rules}
 use Rattle.prettyless_build.proofs.builder.DocBuilder.single_quotes.Goals as goal
 
 pub returns : goal.returns
-returns g c = search rules
+returns g c = c.between.ensures

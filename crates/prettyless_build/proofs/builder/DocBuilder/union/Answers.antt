@@ -1,5 +1,4 @@
-use Rattle.std.proofs.Common.{rules}
 use Rattle.prettyless_build.proofs.builder.DocBuilder.union.Goals as goal
 
 pub returns : goal.returns
-returns g c = search rules
+returns g c = c.of_two.ensures

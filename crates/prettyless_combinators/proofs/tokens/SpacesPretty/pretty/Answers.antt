@@ -1,8 +1,7 @@
-use Rattle.std.proofs.Common.{rules}
 use Rattle.prettyless_combinators.proofs.tokens.SpacesPretty.pretty.Goals as goal
 
 pub returns-clause-ok : goal.returns-clause-ok
-returns-clause-ok g c = search rules
+returns-clause-ok g c = c.spaces.ensures.ok
 
 pub returns-clause-err : goal.returns-clause-err
-returns-clause-err g c = search rules
+returns-clause-err g c = c.spaces.ensures.err

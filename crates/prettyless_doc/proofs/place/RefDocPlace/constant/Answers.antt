@@ -1,5 +1,4 @@
-use Rattle.std.proofs.Common.{rules}
 use Rattle.prettyless_doc.proofs.place.RefDocPlace.constant.Goals as goal
 
 pub returns : goal.returns
-returns g c = search rules
+returns g c = c.constant.ensures

@@ -1,5 +1,4 @@
-use Rattle.std.proofs.Common.{rules}
 use Rattle.prettyless_pointers.proofs.boxes.BoxAllocatorDocPlace.alloc.Goals as goal
 
 pub returns-clause-ok : goal.returns-clause-ok
-returns-clause-ok c = search rules
+returns-clause-ok c = c.new.ensures.ok

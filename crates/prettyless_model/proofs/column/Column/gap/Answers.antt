@@ -1,0 +1,5 @@
+use Rattle.std.proofs.Common.{rules}
+use Rattle.prettyless_model.proofs.column.Column.gap.Goals as goal
+
+pub returns : goal.returns
+returns c = search rules
