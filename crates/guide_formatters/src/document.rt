@@ -5,7 +5,7 @@ ghost use Rattle.prettyless.specs.Built as to;
 ghost use Rattle.prettyless.specs.Counted.{as_string, text};
 ghost use Rattle.prettyless.specs.DocTree.{built};
 ghost use Rattle.prettyless.specs.Lines as of;
-ghost use Rattle.prettyless.specs.Trees.{ref_tree};
+ghost use Rattle.prettyless.specs.Trees.{box_tree};
 ghost use Rattle.guide_formatters.specs.Documents.{document_of, operation_of};
 ghost use Rattle.guide_formatters.specs.Expression.{HasSmallNumbers};
 ghost use Rattle.guide_formatters.specs.Tokens.{minus};
@@ -14,7 +14,7 @@ ghost use Rattle.guide_formatters.specs.View.{expression_of};
 use crate::term::Term;
 use prettyless::prelude::*;
 use prettyless::text::BuildError;
-use prettyless::{Arena, BuildDoc, RefDoc};
+use prettyless::{BoxAllocator, BoxDoc, BuildDoc};
 
 /// A number.
 fn number<'a, D: DocPlace<'a>>(place: &'a D, number: u32) -> Result<D::Doc, BuildError>
@@ -67,21 +67,21 @@ fn operation<'a, D: DocPlace<'a>>(
     in_parentheses(start.join(below(place, right)?)?)
 }
 
-/// The document of a term, with its nodes in this arena, or an error.
-pub fn document<'a>(arena: &'a Arena<'a>, term: &Term) -> Result<RefDoc<'a>, BuildError>
-    ensures tree { IfOk result (λ p. ref_tree p ≡ document_of (expression_of term.now)) }
+/// The document of a term, with its nodes in boxes, or an error.
+pub fn document<'a>(boxes: &'a BoxAllocator, term: &Term) -> Result<BoxDoc<'a>, BuildError>
+    ensures tree { IfOk result (λ p. box_tree p ≡ document_of (expression_of term.now)) }
     ensures numbers { IfOk result (λ _. HasSmallNumbers (expression_of term.now)) }
 {
     match term {
-        Term::Number(n) => Ok(number(arena, *n)?),
-        Term::Negate(operand) => negation(arena, document(arena, operand)?),
+        Term::Number(n) => number(boxes, *n),
+        Term::Negate(operand) => negation(boxes, document(boxes, operand)?),
         Term::Sum(left, right) => {
-            let left = document(arena, left)?;
-            operation(arena, left, "+", document(arena, right)?)
+            let left = document(boxes, left)?;
+            operation(boxes, left, "+", document(boxes, right)?)
         }
         Term::Product(left, right) => {
-            let left = document(arena, left)?;
-            operation(arena, left, "*", document(arena, right)?)
+            let left = document(boxes, left)?;
+            operation(boxes, left, "*", document(boxes, right)?)
         }
     }
 }

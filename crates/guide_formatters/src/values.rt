@@ -2,12 +2,12 @@
 ghost use Rattle.std.specs.Prelude.{◌≡◌, IfOk, map};
 ghost use Rattle.std.specs.Fmt.{decimal};
 ghost use Rattle.prettyless.specs.Counted.{as_string};
-ghost use Rattle.prettyless.specs.Trees.{ref_tree};
+ghost use Rattle.prettyless.specs.Trees.{box_tree};
 ghost use Rattle.guide_formatters.specs.Values.{document_of, list_of};
 
 use prettyless::prelude::*;
 use prettyless::text::BuildError;
-use prettyless::{Arena, RefDoc};
+use prettyless::{BoxAllocator, BoxDoc};
 
 /// A number, or a list of values.
 #[derive(Drop)]
@@ -33,17 +33,17 @@ fn number<'a, D: DocPlace<'a>>(place: &'a D, number: u32) -> Result<D::Doc, Buil
 }
 
 /// The document of a value.
-pub fn document<'a>(arena: &'a Arena<'a>, value: &Value) -> Result<RefDoc<'a>, BuildError>
-    ensures { IfOk result (λ p. ref_tree p ≡ document_of value.now) }
+pub fn document<'a>(boxes: &'a BoxAllocator, value: &Value) -> Result<BoxDoc<'a>, BuildError>
+    ensures { IfOk result (λ p. box_tree p ≡ document_of value.now) }
 {
     match value {
-        Value::Number(n) => Ok(number(arena, *n)?),
+        Value::Number(n) => number(boxes, *n),
         Value::List(values) => {
-            let mut docs = Vec::new(arena.memory());
+            let mut docs = Vec::new(boxes.memory());
             for value in values {
-                docs.push(document(arena, value)?)?;
+                docs.push(document(boxes, value)?)?;
             }
-            Ok(list(arena, docs)?)
+            list(boxes, docs)
         }
     }
 }

@@ -5,21 +5,21 @@ ghost use Rattle.guide_formatters.specs.Written.{Writes};
 
 use crate::document::document;
 use crate::term::Term;
-use prettyless::{Arena, Bump, DocPlace, DocPtr, PrettyError};
+use prettyless::{BoxAllocator, DocPlace, DocPtr, PrettyError};
 use std::alloc::Global;
 use std::fmt;
 
-/// Appends the layout of a term at this width, with the nodes of its document in this arena.
+/// Appends the layout of a term at this width, with the nodes of its document in boxes.
 fn write_in<'a>(
-    arena: &'a Arena<'a>,
+    boxes: &'a BoxAllocator,
     width: usize,
     term: &Term,
     out: &mut String,
 ) -> Result<(), PrettyError<fmt::Error>>
     ensures { Writes width (expression_of term.now) (string_bytes out.old) (string_bytes out.new) result }
 {
-    let document = document(arena, term)?;
-    document.doc().render_fmt(arena.memory(), width, out)?;
+    let document = document(boxes, term)?;
+    document.doc().render_fmt(boxes.memory(), width, out)?;
     Ok(())
 }
 
@@ -34,7 +34,6 @@ pub fn write_term(
 ) -> Result<(), PrettyError<fmt::Error>>
     ensures { Writes width (expression_of term.now) (string_bytes out.old) (string_bytes out.new) result }
 {
-    let bump = Bump::new(alloc);
-    let arena = Arena::new(alloc, &bump);
-    write_in(&arena, width, term, out)
+    let boxes = BoxAllocator::new(alloc);
+    write_in(&boxes, width, term, out)
 }

@@ -2,10 +2,10 @@ use Rattle.std.proofs.Common.{rules}
 use Rattle.prettyless_step.proofs.stack.Stack.cut.Goals as goal
 
 pub frames-smaller : goal.frames-smaller
-frames-smaller g c = search rules
+frames-smaller g c = search rules depth 1
 
 pub frames-preserved : goal.frames-preserved
-frames-preserved g c = search rules
+frames-preserved g c = search rules depth 1
 
 pub keep-requires-2 : goal.keep-requires-2
-keep-requires-2 g c = search rules
+keep-requires-2 g c = search rules depth 1

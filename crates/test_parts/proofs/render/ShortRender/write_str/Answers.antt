@@ -1,6 +1,6 @@
 use Rattle.std.proofs.Common.{◌≡◌, ◌++◌, rules, refl, min, length, take}
 use Rattle.prettyless_sink.proofs.Known.{appended_count}
-use Rattle.test_sinks.proofs.render.ShortRender.write_str.Goals as goal
+use Rattle.test_parts.proofs.render.ShortRender.write_str.Goals as goal
 
 pub returns-then-not-is_fair_count-clause-ok : goal.returns-then-not-is_fair_count-clause-ok
 returns-then-not-is_fair_count-clause-ok c =

@@ -1,6 +1,6 @@
 //! What sinks promise: counts, and what they say of a failure.
 ghost use Rattle.std.specs.Prelude.{◌≡◌, Some};
-ghost use Rattle.test_sinks.specs.declared.render.Fault.TheVariants.{Count, Document};
+ghost use Rattle.test_parts.specs.declared.render.Fault.TheVariants.{Count, Document};
 
 use prettyless_sink::pieces::write_gap_and_text;
 use prettyless_sink::render::{Render, is_fair_count};
