@@ -24,19 +24,24 @@ fn is_plain(word: &str) -> bool {
     word.bytes().all(|byte| byte.is_ascii_graphic())
 }
 
+// Ends the message with what stands there.
+fn say_found<R: Eprint>(rt: &R, found: Option<Lexeme<'_>>, expected: Expected) -> io::Result<()> {
+    match found {
+        Some(Lexeme::String(_)) => eprintln!(rt; ", found a string"),
+        Some(lexeme) if lexeme.text().len() > SHOWN => eprintln!(rt; ", found a long word"),
+        Some(lexeme) if is_plain(lexeme.text()) => eprintln!(rt; ", found `{}`", lexeme.text()),
+        Some(lexeme) => eprintln!(rt; ", found {:?}", lexeme.text()),
+        None if expected == Expected::Utf8 => eprintln!(rt),
+        None => eprintln!(rt; ", found the end of the text"),
+    }
+}
+
 // Says where the bytes stop being JSON, and what was expected there.
 fn refuse<R: AllocGlobal + Eprint>(rt: &R, name: &str, bytes: &[u8]) -> io::Result<Ending> {
     let fault = fault_of(rt.alloc(), bytes)?;
     let (line, column, expected) = (fault.place.line, fault.place.column, fault.expected.name());
     eprint!(rt; "{name}:{line}:{column}: expected {expected}")?;
-    match fault.found {
-        Some(Lexeme::String(_)) => eprintln!(rt; ", found a string")?,
-        Some(lexeme) if lexeme.text().len() > SHOWN => eprintln!(rt; ", found a long word")?,
-        Some(lexeme) if is_plain(lexeme.text()) => eprintln!(rt; ", found `{}`", lexeme.text())?,
-        Some(lexeme) => eprintln!(rt; ", found {:?}", lexeme.text())?,
-        None if fault.expected == Expected::Utf8 => eprintln!(rt)?,
-        None => eprintln!(rt; ", found the end of the text")?,
-    }
+    say_found(rt, fault.found, fault.expected)?;
     Ok(Ending::Refused)
 }
 
