@@ -2,6 +2,7 @@
 use prettyless::prelude::*;
 use prettyless::text::BuildError;
 use prettyless::{BuildDoc, Doc, DocBuilder, docs};
+use std::iter;
 
 /// A text that has no room in a node.
 pub const LONG: &str = "a text of 23 characters";
@@ -85,7 +86,7 @@ const INTERSPERSED: Row<'static> = Row {
     name: "separators",
     kind: Kind::Interspersed,
     width: 5,
-    layout: "(\n a\n b\n c\n)",
+    layout: "(\n a\n a\n a\n)",
 };
 
 const REFLOWED: Row<'static> = Row {
@@ -138,12 +139,6 @@ pub const KEPT: Row<'static> = NESTED_SUFFIXES;
 /// The documents that are copied.
 pub const COPIED: [Row<'static>; 3] = [KEPT_IN_REJECTED, INTERSPERSED, OWNED_TEXT];
 
-fn second_line_too_long<'a, D: DocPlace<'a>>(place: &'a D) -> Result<D::Doc, BuildError> {
-    let long = ("short", hard_line(), "long long long");
-    let short = ("short", hard_line(), "short");
-    place.pretty(union(long, short))?.into_doc()
-}
-
 // One after the other.
 fn joined<'a, D: DocPlace<'a>>(
     front: Result<DocBuilder<'a, D>, BuildError>,
@@ -169,6 +164,20 @@ fn suffix<'a, D: DocPlace<'a>>(
     place.pretty(text)?.as_line_suffix()
 }
 
+// A text, a line break and another text.
+fn two_lines<'a, D: DocPlace<'a>>(
+    place: &'a D,
+    first: &'a str,
+    second: &'a str,
+) -> Result<DocBuilder<'a, D>, BuildError> {
+    joined(joined(place.pretty(first), place.hard_line()), place.pretty(second))
+}
+
+fn second_line_too_long<'a, D: DocPlace<'a>>(place: &'a D) -> Result<D::Doc, BuildError> {
+    let long = two_lines(place, "short", "long long long");
+    either(long, two_lines(place, "short", "short"))?.into_doc()
+}
+
 fn suffixes_pending<'a, D: DocPlace<'a>>(place: &'a D) -> Result<D::Doc, BuildError> {
     let first = joined(suffix(place, " // 3"), place.pretty("6666666"));
     let second = joined(suffix(place, " // 4"), place.pretty("77"));
@@ -177,8 +186,8 @@ fn suffixes_pending<'a, D: DocPlace<'a>>(place: &'a D) -> Result<D::Doc, BuildEr
 }
 
 fn kept_after_line<'a, D: DocPlace<'a>>(place: &'a D) -> Result<D::Doc, BuildError> {
-    let kept = union(("a", hard_line()), "x");
-    place.pretty(nest(2, (kept, "b")))?.into_doc()
+    let kept = either(joined(place.pretty("a"), place.hard_line()), place.pretty("x"));
+    joined(kept, place.pretty("b"))?.nest(2)?.into_doc()
 }
 
 fn kept_in_rejected<'a, D: DocPlace<'a>>(place: &'a D) -> Result<D::Doc, BuildError> {
@@ -190,8 +199,9 @@ fn kept_in_rejected<'a, D: DocPlace<'a>>(place: &'a D) -> Result<D::Doc, BuildEr
 }
 
 fn nested_suffixes<'a, D: DocPlace<'a>>(place: &'a D) -> Result<D::Doc, BuildError> {
-    let nested = ("a", line_suffix(("x", line_suffix("y"))), hard_line(), "b");
-    place.pretty(nested)?.into_doc()
+    let put_off = joined(place.pretty("x"), suffix(place, "y"))?.as_line_suffix();
+    let front = joined(place.pretty("a"), put_off);
+    joined(joined(front, place.hard_line()), place.pretty("b"))?.into_doc()
 }
 
 fn kept_in_kept<'a, D: DocPlace<'a>>(place: &'a D) -> Result<D::Doc, BuildError> {
@@ -205,11 +215,11 @@ fn repeated<'a, D: DocPlace<'a>>(place: &'a D) -> Result<D::Doc, BuildError> {
 }
 
 fn interspersed<'a, D: DocPlace<'a>>(place: &'a D) -> Result<D::Doc, BuildError> {
-    let items = intersperse(line_or_space(), ["a", "b", "c"].into_iter());
-    let nested = nest(1, (line_or_space(), items));
-    place
-        .pretty(group(("(", nested, line_or_space(), ")")))?
-        .into_doc()
+    let items = place.pretty(intersperse(line_or_space(), iter::repeat_n("a", 3)));
+    let nested = joined(place.line(), items)?.nest(1);
+    let front = joined(place.pretty("("), nested);
+    let back = joined(place.line(), place.pretty(")"));
+    joined(front, back)?.group()?.into_doc()
 }
 
 fn reflowed<'a, D: DocPlace<'a>>(place: &'a D) -> Result<D::Doc, BuildError> {
@@ -217,18 +227,17 @@ fn reflowed<'a, D: DocPlace<'a>>(place: &'a D) -> Result<D::Doc, BuildError> {
 }
 
 fn of_a_macro<'a, D: DocPlace<'a>>(place: &'a D) -> Result<D::Doc, BuildError> {
-    let gap = soft_line_or_space();
-    docs![place, "let", gap, "x", gap, "=", gap, Some("123")]?.into_doc()
+    docs![place, "let x", soft_line_or_space(), Some("= 123")]?.into_doc()
 }
 
 fn owned_text<'a, D: DocPlace<'a>>(place: &'a D) -> Result<D::Doc, BuildError> {
-    let indented = nest(2, (hard_line(), "b"));
-    place.pretty((as_string(LONG), indented))?.into_doc()
+    let indented = joined(place.hard_line(), place.pretty("b"))?.nest(2);
+    joined(place.as_string(LONG), indented)?.into_doc()
 }
 
 // A letter and a line, and then twenty documents that are nothing.
 fn letter_and_line<'a, D: DocPlace<'a>>(place: &'a D) -> Result<D::Doc, BuildError> {
-    let mut front = place.pretty(("a", line_or_space()))?.into_doc()?;
+    let mut front = joined(place.pretty("a"), place.line())?.into_doc()?;
     for _ in 0..20 {
         let nothing = place.alloc(Doc::Nil)?;
         front = place.alloc(Doc::Append(front, nothing))?;

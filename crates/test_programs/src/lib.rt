@@ -1,8 +1,19 @@
-//! Tests of what `sexp` and `replay` do with words, inputs, readers and writers, through the libraries that have their work.
+//! Tests of what `jsonfmt`, `sexp` and `replay` do with texts, words, inputs, readers and writers, through the libraries that
+//! have their work.
 #![tactic(auto)]
 
 #[cfg(test)]
 mod digits;
+#[cfg(test)]
+mod jsonfmt_layouts;
+#[cfg(test)]
+mod jsonfmt_lexemes;
+#[cfg(test)]
+mod jsonfmt_refusals;
+#[cfg(test)]
+mod jsonfmt_requests;
+#[cfg(test)]
+mod jsonfmt_values;
 #[cfg(test)]
 mod replay_layouts;
 #[cfg(test)]

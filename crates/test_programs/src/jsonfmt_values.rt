@@ -1,5 +1,5 @@
 //! Texts of awkward values, and their layouts.
-use crate::layouts::is_laid_out;
+use crate::jsonfmt_layouts::is_laid_out;
 use json_formatter::Style;
 
 const LAYOUTS: [(&str, &str); 13] = [
