@@ -9,8 +9,8 @@ use Rattle.prettyless_build.specs.Built.{Builds, IfPlaced}
 -- `made` is what the other call answered, `doc` the document of a builder, and `tree` the tree of a pointer.
 pub record Places {B T : Type 0} (made : Result B BuildError) (doc : B → BuildDoc T) (tree : T → Tree) (result : Result T BuildError) : Type 0 where
   -- Where it is a document, the result is a pointer to it, or memory was refused.
-  pub built : IfOk made (λ b. Builds result tree (built tree (doc b)))
+  pub ok : IfOk made (λ b. Builds result tree (built tree (doc b)))
   -- Where that document has a pointer already, this is the result.
   pub same : IfOk made (λ b. IfPlaced (doc b) (λ p. result ≡ Ok p))
   -- Where it is an error, so is the result.
-  pub failed : IfErr made (λ e. result ≡ Err e)
+  pub err : IfErr made (λ e. result ≡ Err e)
