@@ -170,7 +170,10 @@ fn two_lines<'a, D: DocPlace<'a>>(
     first: &'a str,
     second: &'a str,
 ) -> Result<DocBuilder<'a, D>, BuildError> {
-    joined(joined(place.pretty(first), place.hard_line()), place.pretty(second))
+    joined(
+        joined(place.pretty(first), place.hard_line()),
+        place.pretty(second),
+    )
 }
 
 fn second_line_too_long<'a, D: DocPlace<'a>>(place: &'a D) -> Result<D::Doc, BuildError> {
@@ -186,7 +189,10 @@ fn suffixes_pending<'a, D: DocPlace<'a>>(place: &'a D) -> Result<D::Doc, BuildEr
 }
 
 fn kept_after_line<'a, D: DocPlace<'a>>(place: &'a D) -> Result<D::Doc, BuildError> {
-    let kept = either(joined(place.pretty("a"), place.hard_line()), place.pretty("x"));
+    let kept = either(
+        joined(place.pretty("a"), place.hard_line()),
+        place.pretty("x"),
+    );
     joined(kept, place.pretty("b"))?.nest(2)?.into_doc()
 }
 
