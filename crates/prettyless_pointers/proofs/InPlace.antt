@@ -47,7 +47,7 @@ constants-are SoftLineOrNil d h = groups-are _ _ (lines-are is_nil t.Nil nothing
 constants-are _ _ h = absurd cc
 
 -- the tree of a pointer is that of its node
-node_tree : (a : _) (d : Doc RefDoc) → ref_tree (roll-RefDoc record { 0 = record { ref_ptr = a; now = d } }) ≡ tree_of ref_tree d
+pub node_tree : (a : _) (d : Doc RefDoc) → ref_tree (roll-RefDoc record { 0 = record { ref_ptr = a; now = d } }) ≡ tree_of ref_tree d
 node_tree a n.Nil = fold-roll-RefDoc Tree (λ d. tree_of (λ t. t) d.0.now) _
 node_tree a _ = fold-roll-RefDoc Tree (λ d. tree_of (λ t. t) d.0.now) _
 

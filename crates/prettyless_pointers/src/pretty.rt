@@ -27,7 +27,7 @@ impl<'a> Pretty<'a, RcAllocator> for RcDoc<'a> {
 
     ghost refuses = { λ _ _. ⊥ };
 
-    fn pretty(self, allocator: &'a RcAllocator) -> Result<DocBuilder<'a, RcAllocator>, BuildError> {
-        Ok(DocBuilder(allocator, BuildDoc::DocPtr(self)))
+    fn pretty(self, nodes: &'a RcAllocator) -> Result<DocBuilder<'a, RcAllocator>, BuildError> {
+        Ok(DocBuilder(nodes, BuildDoc::DocPtr(self)))
     }
 }

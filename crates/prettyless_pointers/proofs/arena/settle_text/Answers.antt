@@ -12,3 +12,6 @@ returns-in-Small-clause-same c = search rules depth 1
 
 pub returns-in-Small-clause-settled : goal.returns-in-Small-clause-settled
 returns-in-Small-clause-settled c = refl
+
+pub returns-in_ok-try_alloc_str-in-Owned-clause-settled : goal.returns-in_ok-try_alloc_str-in-Owned-clause-settled
+returns-in_ok-try_alloc_str-in-Owned-clause-settled c = refl

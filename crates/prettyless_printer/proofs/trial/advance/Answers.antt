@@ -1,4 +1,5 @@
-use Rattle.std.proofs.Common.{Bool, arith, ap, sym, ◌∙◌}
+use Rattle.std.proofs.Common.{Bool, arith, ap, sym, ◌∙◌, rules}
+use Rattle.std.proofs.lemmas.Grind.{common_steps}
 use Rattle.prettyless_model.specs.Column.{padding_fits}
 use Rattle.prettyless_printer.proofs.TrialSteps.{course_unfit, course_goes, course_past, course_chosen}
 use Rattle.prettyless_printer.proofs.trial.advance.Goals as goal
@@ -25,3 +26,9 @@ pub returns-in-Ok-Chosen : goal.returns-in-Ok-Chosen
 returns-in-Ok-Chosen g c = λ t on.
     course_chosen g.N.Walk.tree c.in-Ok-Chosen.indent c.in-Ok-Chosen.first c.in-Ok-Chosen.second on (omega (arith, c.if-len-below.false, c.len.ensures))
     (rw c.in-Ok-Chosen.field-0-is at c.in-Ok-Chosen.ensures.advances)
+
+pub returns-in-Ok-Failed : goal.returns-in-Ok-Failed
+returns-in-Ok-Failed g c = grind (arith, common_steps)
+
+pub returns-in-Err : goal.returns-in-Err
+returns-in-Err g c = search rules

@@ -1,4 +1,4 @@
-use Rattle.std.proofs.Common.{◌++◌, take}
+use Rattle.std.proofs.Common.{◌++◌, take, rules}
 use Rattle.std.proofs.KnownBytes.{Appends-trans}
 use Rattle.prettyless_sink.proofs.Beginnings.{split_on_slice}
 use Rattle.prettyless_sink.proofs.io_write.write_whole.Goals as goal
@@ -13,3 +13,6 @@ loop-rest-preserved g c =
       split = split_on_slice _ _ rest count kept.split;
       appended = Appends-trans _ _ _ _ _ kept.appended c.in_ok-count.ensures.bytes;
     }
+
+pub loop-rest-init : goal.loop-rest-init
+loop-rest-init g c = search rules depth 1

@@ -1,4 +1,4 @@
-use Rattle.std.proofs.Common.{◌-◌, ap, ◌∙◌, arith}
+use Rattle.std.proofs.Common.{◌-◌, ap, ◌∙◌, arith, rules}
 use Rattle.prettyless_sink.specs.Sink.{rise}
 use Rattle.prettyless_sink.proofs.Beginnings.{on_err}
 use Rattle.prettyless_sink.proofs.Gaps.{piece_after_gap, beginning_of_gap}
@@ -31,3 +31,6 @@ loop-left-preserved g c = (
         ),
       ),
 )
+
+pub returns-clause-ok : goal.returns-clause-ok
+returns-clause-ok g c = search rules depth 1

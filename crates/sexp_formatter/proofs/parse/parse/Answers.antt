@@ -1,4 +1,4 @@
-use Rattle.std.proofs.Common.{sym, ◌∙◌}
+use Rattle.std.proofs.Common.{sym, ◌∙◌, rules}
 use Rattle.std.proofs.lemmas.Result.{err_from_is_err_and}
 use Rattle.sexp_formatter.specs.Value.{Value}
 use Rattle.sexp_formatter.specs.Grammar.{Reads}
@@ -21,3 +21,6 @@ pub returns-else-is_end-clause-err : goal.returns-else-is_end-clause-err
 returns-else-is_end-clause-err c = λ v r.
     let ends = c.is_end.ensures.1 (front_is_read c.args.input.now (value_of c.in_ok-read.read) c.in_ok-read.rest.now c.in_ok-read.ensures.ok v r).1 in
     absurd (cc (sym ends ∙ c.if-is_end.false))
+
+pub returns-then-input-gt-MOST_BYTES-clause-err : goal.returns-then-input-gt-MOST_BYTES-clause-err
+returns-then-input-gt-MOST_BYTES-clause-err c = search rules depth 1

@@ -1,4 +1,4 @@
-use Rattle.std.proofs.Common.{◌≡◌, [], drop, sym, ◌∙◌, arith}
+use Rattle.std.proofs.Common.{◌≡◌, [], drop, sym, ◌∙◌, arith, rules}
 use Rattle.json.specs.Lex.{between}
 use Rattle.json_lexemes.specs.Lexemes.{cut}
 use Rattle.json_lexemes.proofs.Firsts.{boundary_past, cut-past}
@@ -17,3 +17,9 @@ lexeme_at-lexeme-requires-clause-boundary c =
     let same = c.as_bytes.ensures.value in
     boundary_past c.self.inside.text.now c.self.inside.place c.spaces_end-place.result c.self.invariant.utf8 c.self.invariant.boundary c.spaces_end-place.ensures.bounds.0
     (rw (← same) c.spaces_end-place.ensures.bounds.1) (rw (← same) c.spaces_end-place.ensures.after)
+
+pub returns-clause-steps : goal.returns-clause-steps
+returns-clause-steps c = search rules depth 1
+
+pub returns-clause-goes : goal.returns-clause-goes
+returns-clause-goes c = search rules depth 1

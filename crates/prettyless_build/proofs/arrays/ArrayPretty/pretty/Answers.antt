@@ -1,4 +1,5 @@
 use Rattle.std.proofs.Common.{ℕ, arith, ◌<◌, ◌≡◌, ◌+◌, length, take, sym, subst, List, get_or}
+use Rattle.std.proofs.lemmas.Grind.{common_steps}
 use Rattle.std.specs.List.{FoldsTo}
 use Rattle.std.proofs.lemmas.Fn.{FoldsTo-push}
 use Rattle.std.proofs.lemmas.List.{take_more}
@@ -15,3 +16,6 @@ loop-item-preserved g c =
     let all : length c.args.self ≡ g.row.N = c.type_inv.item-items in
     let near : c.loop-item.item-index < length c.args.self = omega arith in
     more (appends g.T.Pretty.becomes) _ (built g.D.Doc.DocPtr.tree c.loop-item.all.1) _ c.args.self c.loop-item.item-index c.item-item.result near c.loop-item.invariant c.in_ok-all.ensures.ok
+
+pub returns-clause-ok : goal.returns-clause-ok
+returns-clause-ok g c = grind (arith, common_steps)

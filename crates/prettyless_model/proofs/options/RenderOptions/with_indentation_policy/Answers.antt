@@ -1,0 +1,5 @@
+use Rattle.std.proofs.Common.{refl}
+use Rattle.prettyless_model.proofs.options.RenderOptions.with_indentation_policy.Goals as goal
+
+pub returns : goal.returns
+returns c = refl
