@@ -15,8 +15,6 @@ mod jsonfmt_requests;
 #[cfg(test)]
 mod jsonfmt_values;
 #[cfg(test)]
-mod replay_layouts;
-#[cfg(test)]
 mod replay_running;
 #[cfg(test)]
 mod sexp_parsing;

@@ -1,4 +1,5 @@
-//! What is read and written, and what comes of readers and writers that fail.
+//! What is read and written, and what comes of readers and writers that fail. The stored run of `replay` has the lines and
+//! their answers.
 use prettyless::IoWrite;
 use replay_cases::run::run;
 use std::alloc::Global;
@@ -14,6 +15,26 @@ fn ending<R: BufRead, W: Write>(
 ) -> Option<ErrorKind> {
     let error = run(alloc, reader, &mut IoWrite::new(writer)).err()?;
     Some(error.kind())
+}
+
+// A leaf in so many groups.
+fn groups(alloc: Global, count: u32) -> Result<String, Fail> {
+    let mut line = String::from_str(alloc, "80 lf eager ")?;
+    for _ in 0..count {
+        line.push_str("grp ")?;
+    }
+    line.push_str("nil")?;
+    Ok(line)
+}
+
+#[test]
+fn answers_a_deep_document(rt: HostRuntime) -> Result<(), Fail> {
+    let line = groups(rt.alloc(), 50_000)?;
+    let mut input = line.as_bytes();
+    let mut written = Vec::new(rt.alloc());
+    assert!(rt; ending(rt.alloc(), &mut input, &mut written).is_none());
+    assert!(rt; written.as_slice() == b"ok -\n".as_slice());
+    Ok(())
 }
 
 #[test]

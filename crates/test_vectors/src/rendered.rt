@@ -68,70 +68,39 @@ pub(crate) fn compare_rendered<'a, T: DocPtr<'a>>(
     Ok(())
 }
 
-// How documents are rendered, and whether each fails at the end of what is rendered.
+// When indents are written, and whether each document fails at the end of what is rendered.
 #[derive(Clone, Copy)]
 pub(crate) struct Mode {
-    ending: LineEnding,
     policy: IndentationPolicy,
     fails: bool,
 }
 
-pub(crate) const LF: Mode = Mode {
-    ending: LineEnding::Lf,
-    policy: IndentationPolicy::Eager,
-    fails: false,
-};
-
-pub(crate) const CRLF: Mode = Mode {
-    ending: LineEnding::Crlf,
+pub(crate) const EAGER: Mode = Mode {
     policy: IndentationPolicy::Eager,
     fails: false,
 };
 
 // With indents that are written late.
 pub(crate) const LATE: Mode = Mode {
-    ending: LineEnding::Lf,
-    policy: IndentationPolicy::Deferred,
-    fails: false,
-};
-
-pub(crate) const LATE_CRLF: Mode = Mode {
-    ending: LineEnding::Crlf,
     policy: IndentationPolicy::Deferred,
     fails: false,
 };
 
 pub(crate) const FAILING: Mode = Mode {
-    ending: LineEnding::Lf,
     policy: IndentationPolicy::Eager,
-    fails: true,
-};
-
-pub(crate) const LATE_FAILING: Mode = Mode {
-    ending: LineEnding::Lf,
-    policy: IndentationPolicy::Deferred,
     fails: true,
 };
 
 impl Mode {
     // The options at a width.
-    pub(crate) fn options(self, width: usize) -> RenderOptions {
+    fn options(self, width: usize, ending: LineEnding) -> RenderOptions {
         RenderOptions::new(width)
-            .with_line_ending(self.ending)
+            .with_line_ending(ending)
             .with_indentation_policy(self.policy)
     }
 
     fn expected(self, layout: &str) -> Expected<'_> {
         if self.fails { Err(layout) } else { Ok(layout) }
-    }
-
-    // The same with lines that end in CR LF.
-    fn with_crlf(self) -> Mode {
-        Mode {
-            ending: LineEnding::Crlf,
-            policy: self.policy,
-            fails: self.fails,
-        }
     }
 }
 
@@ -139,31 +108,28 @@ impl Mode {
 pub(crate) type Case<'a> = (usize, &'a str, &'a str);
 
 // Compares what a document is rendered as.
-fn compare_layout(rt: &impl Abort, memory: Global, mode: Mode, case: Case<'_>) -> Result<(), Fail> {
+fn compare_layout(
+    rt: &impl Abort,
+    memory: Global,
+    mode: Mode,
+    ending: LineEnding,
+    case: Case<'_>,
+) -> Result<(), Fail> {
     let (width, written, layout) = case;
-    let compared = Compared::Rendered(mode.options(width), mode.expected(layout));
+    let compared = Compared::Rendered(mode.options(width, ending), mode.expected(layout));
     compare_through(rt, memory, written, compared)
 }
 
 // The same, and again with CR LF for LF at the end of each line, if no text of the document has a line end.
-pub(crate) fn compare_case(
-    rt: &impl Abort,
-    memory: Global,
-    mode: Mode,
-    case: Case<'_>,
-) -> Result<(), Fail> {
-    compare_layout(rt, memory, mode, case)?;
+fn compare_case(rt: &impl Abort, memory: Global, mode: Mode, case: Case<'_>) -> Result<(), Fail> {
+    compare_layout(rt, memory, mode, LineEnding::Lf, case)?;
     let (width, written, layout) = case;
-    if mode.ending == LineEnding::Crlf || written.contains('\n') {
+    if written.contains('\n') {
         return Ok(());
     }
     let layout = layout.replace(memory, '\n', "\r\n")?;
-    compare_layout(
-        rt,
-        memory,
-        mode.with_crlf(),
-        (width, written, layout.as_str()),
-    )
+    let case = (width, written, layout.as_str());
+    compare_layout(rt, memory, mode, LineEnding::Crlf, case)
 }
 
 fn compare_cases(

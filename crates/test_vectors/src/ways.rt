@@ -1,8 +1,10 @@
 //! The ways to render, each with the same bytes.
 use crate::checks::check;
 use crate::compared::{Compared, compare_through};
-use crate::rendered::{LATE_CRLF, displayed};
-use prettyless::{DocPtr, FmtWrite, IoWrite, RenderError, RenderOptions};
+use crate::rendered::displayed;
+use prettyless::{
+    DocPtr, FmtWrite, IndentationPolicy, IoWrite, LineEnding, RenderError, RenderOptions,
+};
 use std::alloc::{AllocError, Global};
 use std::fmt::Write;
 use std::process::Abort;
@@ -15,7 +17,9 @@ const LAID_LATE: &str = "ab\r\n\r\n  c";
 
 // With lines that end in CR LF, and late indents.
 fn late() -> RenderOptions {
-    LATE_CRLF.options(0)
+    RenderOptions::new(0)
+        .with_line_ending(LineEnding::Crlf)
+        .with_indentation_policy(IndentationPolicy::Deferred)
 }
 
 fn compare_bytes<'a, T: DocPtr<'a>>(
