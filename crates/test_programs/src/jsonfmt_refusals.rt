@@ -3,7 +3,8 @@ use json_formatter::{FormatError, Style, formatted};
 use std::alloc::Global;
 use std::process::Abort;
 
-const TEXTS: [&str; 78] = [
+// Texts that end too soon, or go on after a value.
+const ENDS: [&str; 15] = [
     "",
     " ",
     "[",
@@ -12,11 +13,27 @@ const TEXTS: [&str; 78] = [
     "}",
     "[1",
     "[1,",
+    "{}{}",
+    "1 2",
+    "[] 1",
+    "[1]]",
+    "[1}",
+    "{\"a\":1]",
+    "\"a\" \"b\"",
+];
+
+const LISTS: [&str; 8] = [
     "[1,]",
     "[,1]",
     "[,]",
     "[1,,2]",
     "[1 2]",
+    ":",
+    ",",
+    "[:]",
+];
+
+const OBJECTS: [&str; 12] = [
     "{\"a\"}",
     "{\"a\":}",
     "{\"a\":1,}",
@@ -27,12 +44,11 @@ const TEXTS: [&str; 78] = [
     "{1:2}",
     "{\"a\":1 \"b\":2}",
     "{\"a\":1,,\"b\":2}",
-    "{\"a\":1]",
-    "[1}",
-    "[1]]",
-    "{}{}",
-    "1 2",
-    "[] 1",
+    "{\"a\"::1}",
+    "{\"a\":1:2}",
+];
+
+const WORDS: [&str; 9] = [
     "tru",
     "truee",
     "True",
@@ -42,6 +58,9 @@ const TEXTS: [&str; 78] = [
     "Infinity",
     "-Infinity",
     "undefined",
+];
+
+const NUMBERS: [&str; 14] = [
     "+1",
     "-",
     "--1",
@@ -56,6 +75,9 @@ const TEXTS: [&str; 78] = [
     "0x10",
     "1_000",
     "1,000",
+];
+
+const STRINGS: [&str; 13] = [
     "\"",
     "\"a",
     "\"\\x\"",
@@ -69,6 +91,10 @@ const TEXTS: [&str; 78] = [
     "\"\\ud800\"",
     "\"\\udc00\"",
     "\"\\ud800\\u0041\"",
+];
+
+// Remarks, and spaces that JSON does not have.
+const SPACES: [&str; 7] = [
     "//1",
     "[1] // x",
     "/* */ 1",
@@ -76,12 +102,6 @@ const TEXTS: [&str; 78] = [
     "[ 1]",
     "[1\u{c}]",
     "[1\u{b}]",
-    "\"a\" \"b\"",
-    ":",
-    ",",
-    "[:]",
-    "{\"a\"::1}",
-    "{\"a\":1:2}",
 ];
 
 fn is_refused(rt: &impl Abort, memory: Global, text: &str) {
@@ -89,9 +109,44 @@ fn is_refused(rt: &impl Abort, memory: Global, text: &str) {
     assert!(rt; matches!(answer, Err(FormatError::NotJson)), "{text}");
 }
 
-#[test]
-fn texts_are_refused(rt: HostRuntime) {
-    for text in TEXTS {
-        is_refused(&rt, rt.alloc(), text);
+// All of the texts in one array, in one test, took the prover half a minute.
+fn are_refused(rt: &impl Abort, memory: Global, texts: &[&str]) {
+    for &text in texts {
+        is_refused(rt, memory, text);
     }
+}
+
+#[test]
+fn texts_that_end_too_soon_or_late(rt: HostRuntime) {
+    are_refused(&rt, rt.alloc(), &ENDS);
+}
+
+#[test]
+fn lists(rt: HostRuntime) {
+    are_refused(&rt, rt.alloc(), &LISTS);
+}
+
+#[test]
+fn objects(rt: HostRuntime) {
+    are_refused(&rt, rt.alloc(), &OBJECTS);
+}
+
+#[test]
+fn words(rt: HostRuntime) {
+    are_refused(&rt, rt.alloc(), &WORDS);
+}
+
+#[test]
+fn numbers(rt: HostRuntime) {
+    are_refused(&rt, rt.alloc(), &NUMBERS);
+}
+
+#[test]
+fn strings(rt: HostRuntime) {
+    are_refused(&rt, rt.alloc(), &STRINGS);
+}
+
+#[test]
+fn remarks_and_other_spaces(rt: HostRuntime) {
+    are_refused(&rt, rt.alloc(), &SPACES);
 }
