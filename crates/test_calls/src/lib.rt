@@ -1,4 +1,4 @@
-//! Tests of the calls that build documents, each through all three pointers.
+//! Tests of the calls that build documents, each through all three pointers, and of the parts that they are made of.
 #![tactic(auto)]
 
 #[cfg(test)]
@@ -19,6 +19,8 @@ mod lists;
 mod nodes;
 #[cfg(test)]
 mod operands;
+#[cfg(test)]
+mod parts;
 #[cfg(test)]
 mod places;
 #[cfg(test)]

@@ -1,4 +1,5 @@
-use Rattle.std.proofs.Common.{◌≡◌, ◌∙◌, ◌≤◌, ◌-◌, ℕ, Bor, List, [], ◌∷◌, false, length, take, drop, map, get_or, refl, sym, ap, subst, arith}
+use Rattle.std.proofs.Common.{Bor, List, [], ap, arith, drop, false, get_or, length, map, refl, subst, sym, take, ℕ, ◌-◌, ◌∙◌, ◌∷◌, ◌≡◌, ◌≤◌}
+use Rattle.std.proofs.lemmas.Grind.{common_steps}
 use Rattle.std.specs.Str.{bytes_eq}
 use Rattle.std.proofs.lemmas.List.{take_all}
 use Rattle.replay_cases.specs.Notation.{named_in}
@@ -16,3 +17,6 @@ passed w (n ∷ ns) name some is other =
 pub loop-names-preserved : goal.loop-names-preserved
 loop-names-preserved g c =
     passed c.args.word.now c.loop-names.names.now c.name-item.result c.in-len1-up.len_at_least c.name-item.is (sym c.eq.ensures ∙ c.if-eq.false) ∙ c.loop-names.invariant
+
+pub returns : goal.returns
+returns g c = grind (arith, common_steps)

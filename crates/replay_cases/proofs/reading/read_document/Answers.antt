@@ -1,4 +1,5 @@
-use Rattle.std.proofs.Common.{◌≡◌, ◌-◌, [], ◌∷◌, map, ap, subst, ◌∙◌, arith, tests, rules}
+use Rattle.std.proofs.Common.{[], ap, arith, map, rules, subst, tests, ◌-◌, ◌∙◌, ◌∷◌, ◌≡◌}
+use Rattle.std.proofs.lemmas.Grind.{common_steps}
 use Rattle.std.proofs.lemmas.Result.{err_from_is_err_and}
 use Rattle.replay_cases.specs.Pointers.{pointer_tree}
 use Rattle.replay_cases.specs.Reading.{document, items_of}
@@ -36,3 +37,9 @@ returns-clause-err c = λ t spelled.
     let start : c.loop-at.at ≡ 0 = omega arith in
     let left = rw start at c.loop-at.invariant.left in
     more_below c.take_document.new.operands.items (search (rules, tests)) (spelled_is_top _ t _ _ (subst (Leaves (map (λ w. w.now) c.args.words.now)) c.in_ok-document.ensures.ok left) spelled).1
+
+pub loop-at-init : goal.loop-at-init
+loop-at-init c = grind (arith, common_steps)
+
+pub loop-at-preserved : goal.loop-at-preserved
+loop-at-preserved c = grind (arith, common_steps)
