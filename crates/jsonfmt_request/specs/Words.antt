@@ -35,13 +35,17 @@ program = record {
   subs = [];
 }
 
--- the options of a program: numbers, then flags
-abbrev pub with_options : App → App
-with_options a = with_rule (with_rule (with_rule (with_rule a (number (codes "width") most_64)) (number (codes "indent") most_32)) (flag (codes "fill"))) (flag (codes "check"))
+-- the options of a program that take numbers
+abbrev pub with_numbers : App → App
+with_numbers a = with_rule (with_rule a (number (codes "width") most_64)) (number (codes "indent") most_32)
+
+-- those that take none
+abbrev pub with_flags : App → App
+with_flags a = with_rule (with_rule a (flag (codes "fill"))) (flag (codes "check"))
 
 -- the command
 abbrev pub jsonfmt : App
-jsonfmt = with_rule (with_options program) files
+jsonfmt = with_rule (with_flags (with_numbers program)) files
 
 -- what `clap` reads in the words, of which the first names the program
 unfoldable pub matches : List Text → List Row

@@ -1,7 +1,7 @@
 //! What the words of `jsonfmt` ask for.
 ghost use Rattle.std.specs.Prelude.{◌≡◌, IfOk, false, map};
 ghost use Rattle.clap.specs.Words.{FailsBy, app_of, found_of, rows_of, rule_of};
-ghost use Rattle.jsonfmt_request.specs.Words.{AsksFor, HasNumbers, faults, files, flag, has_flag, jsonfmt, matches, number, program};
+ghost use Rattle.jsonfmt_request.specs.Words.{AsksFor, HasNumbers, faults, files, flag, has_flag, jsonfmt, matches, number, program, with_numbers};
 
 use clap::builder::ValueParser;
 use clap::{Arg, ArgAction, ArgMatches, Command, Error};
@@ -62,33 +62,36 @@ fn program<'w>(alloc: Global) -> Command<'w>
     )
 }
 
+/// The program, with the options that take numbers.
+fn with_numbers<'w>(alloc: Global) -> Result<Command<'w>, AllocError>
+    ensures { IfOk result (λ made. app_of made ≡ with_numbers program) }
+{
+    program(alloc)
+        .arg(number(
+            alloc,
+            "width",
+            u64::MAX,
+            "The width of a line, in columns [default: 80]",
+        ))?
+        .arg(number(
+            alloc,
+            "indent",
+            u64::from(u32::MAX),
+            "How far in the members of an array or an object are [default: 2]",
+        ))
+}
+
 /// The command `jsonfmt`.
 fn command<'w>(alloc: Global) -> Result<Command<'w>, AllocError>
     ensures { IfOk result (λ made. app_of made ≡ jsonfmt) }
 {
-    let width = number(
-        alloc,
-        "width",
-        u64::MAX,
-        "The width of a line, in columns [default: 80]",
-    );
-    let indent = number(
-        alloc,
-        "indent",
-        u64::from(u32::MAX),
-        "How far in the members of an array or an object are [default: 2]",
-    );
-    let fill = flag(alloc, "fill", "Fill the lines of arrays of numbers");
-    let check = flag(
-        alloc,
-        "check",
-        "Write nothing, and end with 1 where a file is not laid out so",
-    );
-    program(alloc)
-        .arg(width)?
-        .arg(indent)?
-        .arg(fill)?
-        .arg(check)?
+    with_numbers(alloc)?
+        .arg(flag(alloc, "fill", "Fill the lines of arrays of numbers"))?
+        .arg(flag(
+            alloc,
+            "check",
+            "Write nothing, and end with 1 where a file is not laid out so",
+        ))?
         .arg(files(alloc))
 }
 

@@ -2,14 +2,12 @@
 use Rattle.std.specs.Prelude.{◌<◌, ⊤}
 use Rattle.prettyless_model.specs.Tree.{Tree, size}
 use Rattle.prettyless_doc.specs.declared.debug.Shape.{Shape}
-use Rattle.prettyless_doc.specs.declared.debug.Shape.TheVariants.{Name, Text, Payload, Items, Nest, One, Two}
+use Rattle.prettyless_doc.specs.declared.debug.Shape.TheVariants.{Name, Text, Payload, One, Two}
 
 -- the children in a shape are smaller than the tree
 abbrev pub IsBelow : {N : Type 0} → (N → Tree) → Tree → Shape N → Type 0
 IsBelow f t (Name s) = ⊤
 IsBelow f t (Text s) = ⊤
 IsBelow f t (Payload s) = ⊤
-IsBelow f t (Items x y) = (size (f x) < size t) × (size (f y) < size t)
-IsBelow f t (Nest k x) = size (f x) < size t
 IsBelow f t (One s x) = size (f x) < size t
 IsBelow f t (Two s x y) = (size (f x) < size t) × (size (f y) < size t)

@@ -34,9 +34,12 @@ impl<'d, 'a, T: DocPtr<'a>> Shown for &'d Doc<'a, T> {
     }
 }
 
-// What is shown before two documents: a name, or the test by which one of them is taken.
+// What is shown before one or two documents.
+#[derive(Clone, Copy)]
 enum Head {
+    List,
     Name(&'static str),
+    Nest(isize),
     OnColumn(ColumnTest),
     OnNesting(NestingTest),
 }
@@ -46,9 +49,7 @@ enum Shape<'v, N> {
     Name(&'static str),
     Text(&'v str),
     Payload(&'v str),
-    Items(N, N),
-    Nest(isize, N),
-    One(&'static str, N),
+    One(Head, N),
     Two(Head, N, N),
 }
 
@@ -64,13 +65,13 @@ fn shape_of<N: Shown>(node: &N) -> Shape<'_, N>
         View::WeakSpace => Shape::Name("WeakSpace"),
         View::HardLine => Shape::Name("HardLine"),
         View::WeakLine => Shape::Name("WeakLine"),
-        View::Append(first, last) => Shape::Items(first, last),
-        View::LineSuffix(inner) => Shape::One("LineSuffix", inner),
-        View::Nest(offset, inner) => Shape::Nest(offset, inner),
-        View::DedentToRoot(inner) => Shape::One("DedentToRoot", inner),
-        View::Align(inner) => Shape::One("Align", inner),
+        View::Append(first, last) => Shape::Two(Head::List, first, last),
+        View::LineSuffix(inner) => Shape::One(Head::Name("LineSuffix"), inner),
+        View::Nest(offset, inner) => Shape::One(Head::Nest(offset), inner),
+        View::DedentToRoot(inner) => Shape::One(Head::Name("DedentToRoot"), inner),
+        View::Align(inner) => Shape::One(Head::Name("Align"), inner),
         View::ExpandParent => Shape::Name("ExpandParent"),
-        View::Flatten(inner) => Shape::One("Flatten", inner),
+        View::Flatten(inner) => Shape::One(Head::Name("Flatten"), inner),
         View::BreakOrFlat(broken, flat) => shape_of_choice(broken, flat),
         View::Group(inner) => shape_of_group(inner),
         View::Union(first, second) => Shape::Two(Head::Name("Union"), first, second),
@@ -87,8 +88,8 @@ fn shape_of_choice<N: Shown>(broken: N, flat: N) -> Shape<'static, N>
     match line_of(&broken, &flat) {
         Some(Line::OrSpace) => Shape::Name("LineOrSpace"),
         Some(Line::OrNil) => Shape::Name("LineOrNil"),
-        None if matches!(flat.view(), View::Nil) => Shape::One("WhenBreak", broken),
-        None if matches!(broken.view(), View::Nil) => Shape::One("WhenFlat", flat),
+        None if matches!(flat.view(), View::Nil) => Shape::One(Head::Name("WhenBreak"), broken),
+        None if matches!(broken.view(), View::Nil) => Shape::One(Head::Name("WhenFlat"), flat),
         None => Shape::Two(Head::Name("FlatOrBreak"), flat, broken),
     }
 }
@@ -104,7 +105,7 @@ fn shape_of_group<N: Shown>(inner: N) -> Shape<'static, N>
     match line {
         Some(Line::OrSpace) => Shape::Name("SoftLineOrSpace"),
         Some(Line::OrNil) => Shape::Name("SoftLineOrNil"),
-        None => Shape::One("Group", inner),
+        None => Shape::One(Head::Name("Group"), inner),
     }
 }
 
@@ -127,12 +128,25 @@ fn line_of<N: Shown>(broken: &N, flat: &N) -> Option<Line> {
     }
 }
 
-// Shows what is before two documents, and the bracket around them.
-fn show_head<W: fmt::Write>(head: Head, f: &mut fmt::Formatter<W>) -> fmt::Result {
-    match head {
-        Head::Name(name) => write!(f, "{name}("),
-        Head::OnColumn(test) => write!(f, "OnColumn({test:?}, "),
-        Head::OnNesting(test) => write!(f, "OnNesting({test:?}, "),
+impl Head {
+    // Shows it. The list that an item is part of is shown as one.
+    fn begin<W: fmt::Write>(self, is_item: bool, f: &mut fmt::Formatter<W>) -> fmt::Result {
+        match self {
+            Head::List => f.write_str(if is_item { "" } else { "[" }),
+            Head::Name(name) => write!(f, "{name}("),
+            Head::Nest(offset) => write!(f, "Nest({offset}, "),
+            Head::OnColumn(test) => write!(f, "OnColumn({test:?}, "),
+            Head::OnNesting(test) => write!(f, "OnNesting({test:?}, "),
+        }
+    }
+
+    // What closes it.
+    fn end(self, is_item: bool) -> &'static str {
+        match self {
+            Head::List if is_item => "",
+            Head::List => "]",
+            _ => ")",
+        }
     }
 }
 
@@ -141,34 +155,19 @@ fn show<N: Shown, W: fmt::Write>(node: N, is_item: bool, f: &mut fmt::Formatter<
     match shape_of(&node) {
         Shape::Name(name) => f.write_str(name),
         Shape::Text(text) => fmt::Debug::fmt(text, f),
-        Shape::Payload(text) => {
-            f.write_str("MultilineText(")?;
-            fmt::Debug::fmt(text, f)?;
-            f.write_str(")")
-        }
-        Shape::Items(first, last) => {
-            f.write_str(if is_item { "" } else { "[" })?;
-            show(first, true, f)?;
-            f.write_str(", ")?;
-            show(last, true, f)?;
-            f.write_str(if is_item { "" } else { "]" })
-        }
-        Shape::Nest(offset, inner) => {
-            write!(f, "Nest({offset}, ")?;
+        Shape::Payload(text) => write!(f, "MultilineText({text:?})"),
+        Shape::One(head, inner) => {
+            head.begin(false, f)?;
             show(inner, false, f)?;
-            f.write_str(")")
-        }
-        Shape::One(name, inner) => {
-            write!(f, "{name}(")?;
-            show(inner, false, f)?;
-            f.write_str(")")
+            f.write_str(head.end(false))
         }
         Shape::Two(head, first, second) => {
-            show_head(head, f)?;
-            show(first, false, f)?;
+            let are_items = matches!(head, Head::List);
+            head.begin(is_item, f)?;
+            show(first, are_items, f)?;
             f.write_str(", ")?;
-            show(second, false, f)?;
-            f.write_str(")")
+            show(second, are_items, f)?;
+            f.write_str(head.end(is_item))
         }
     }
 }

@@ -1,4 +1,5 @@
-use Rattle.std.proofs.Common.{◌≡◌, ◌≢◌, ◌+◌, ◌≤◌, length, get_or, false, refl, sym, subst, arith}
+use Rattle.std.proofs.Common.{arith, false, get_or, length, refl, subst, sym, ◌+◌, ◌≡◌, ◌≢◌, ◌≤◌}
+use Rattle.std.proofs.lemmas.Grind.{common_steps}
 use Rattle.json.specs.Word.{is_operator}
 use Rattle.json_lexemes.specs.View.{IsFirst}
 use Rattle.json_lexemes.proofs.Firsts.{no_operator, first_sign, first_string, first_word, boundary_after, boundary_before}
@@ -51,3 +52,9 @@ returns-in_default-clause-first c =
     subst (IsFirst d c.args.place) (sym c.range-in_default.ensures.value)
     (first_word d c.args.place c.requires.within end c.word_end.ensures.bounds.0 within (rw (← same) no_quote) (rw (← same) no_sign) no_space
     (rw (← same) c.word_end.ensures.cut) boundary)
+
+pub returns-in-34-clause-named : goal.returns-in-34-clause-named
+returns-in-34-clause-named c = grind (arith, common_steps)
+
+pub returns-in_default-clause-named : goal.returns-in_default-clause-named
+returns-in_default-clause-named c = grind (arith, common_steps)

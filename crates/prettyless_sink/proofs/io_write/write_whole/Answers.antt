@@ -1,4 +1,5 @@
-use Rattle.std.proofs.Common.{◌++◌, take, rules}
+use Rattle.std.proofs.Common.{arith, rules, take, ◌++◌}
+use Rattle.std.proofs.lemmas.Grind.{common_steps}
 use Rattle.std.proofs.KnownBytes.{Appends-trans}
 use Rattle.prettyless_sink.proofs.Beginnings.{split_on_slice}
 use Rattle.prettyless_sink.proofs.io_write.write_whole.Goals as goal
@@ -16,3 +17,6 @@ loop-rest-preserved g c =
 
 pub loop-rest-init : goal.loop-rest-init
 loop-rest-init g c = search rules depth 1
+
+pub returns-clause-ok : goal.returns-clause-ok
+returns-clause-ok g c = grind (arith, common_steps)

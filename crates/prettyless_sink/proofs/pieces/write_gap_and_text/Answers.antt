@@ -1,4 +1,5 @@
-use Rattle.std.proofs.Common.{refl, arith}
+use Rattle.std.proofs.Common.{arith, refl}
+use Rattle.std.proofs.lemmas.Grind.{common_steps}
 use Rattle.std.proofs.lemmas.Result.{on_err_weaker, on_ok_weaker}
 use Rattle.prettyless_model.specs.Spaces.{spaces}
 use Rattle.prettyless_sink.specs.Sink.{Accepts, known}
@@ -36,3 +37,6 @@ returns-clause-err g c =
       | else-gap-gt0 w ↦ rw w.out-is (λ is_known. (is_known, (after_no_gap (known (bytes old)) c.args.gap (omega arith), refl)))
     ] in
     on_err_weaker c.write_str_all.result (λ fails. refused_after _ _ _ _ _ _ _ _ gap_written fails) c.write_str_all.ensures.err
+
+pub returns-then-is_empty-clause-ok : goal.returns-then-is_empty-clause-ok
+returns-then-is_empty-clause-ok g c = grind (arith, common_steps)

@@ -1,4 +1,5 @@
-use Rattle.std.proofs.Common.{◌++◌, [], append-nil, subst}
+use Rattle.std.proofs.Common.{[], append-nil, arith, subst, ◌++◌}
+use Rattle.std.proofs.lemmas.Grind.{common_steps}
 use Rattle.prettyless_model.specs.Spaces.{spaces}
 use Rattle.prettyless_sink.proofs.Beginnings.{beginning_of_more, on_err, refused_after}
 use Rattle.prettyless_sink.specs.Sink.{Refuses}
@@ -31,3 +32,6 @@ returns-in_err-write_gap_and_text-2-clause-err g c =
     {P = Refuses (bytes old) (bytes new) (piece_bytes piece) (failures old) (failures new)}
     c.from_residual-in_err-write_gap_and_text-2.result
     (subst (λ x. Refuses (bytes old) (bytes new) ((spaces piece.gap ++ piece.text.now) ++ x) (failures old) (failures new)) (append-nil (spaces piece.indent)) both)
+
+pub returns-clause-ok : goal.returns-clause-ok
+returns-clause-ok g c = grind (arith, common_steps)

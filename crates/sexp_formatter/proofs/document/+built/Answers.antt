@@ -1,4 +1,5 @@
-use Rattle.std.proofs.Common.{◌≡◌, ℕ, ◌+◌, ◌-◌, ◌<◌, List, length, take, drop}
+use Rattle.std.proofs.Common.{List, arith, drop, length, take, ℕ, ◌+◌, ◌-◌, ◌<◌, ◌≡◌}
+use Rattle.std.proofs.lemmas.Grind.{common_steps}
 use Rattle.std.proofs.Math.ListN.{get_or}
 use Rattle.std.proofs.lemmas.List.{drop_more}
 use Rattle.prettyless.specs.Tree.{Tree}
@@ -20,3 +21,15 @@ lines-loop-expression-preserved g t c =
     let es = take (length c.args.expressions.now - 1) (drop 1 c.args.expressions.now) in
     rw (joined, c.expression-item.is)
     (after_next (g.P.SexpPlace.tree c.loop-expression.all) (interspersed (values_of (values_in c.args.expressions.now))) es c.loop-expression.expression-index c.expression-item.result c.loop-expression-test.true c.loop-expression.invariant)
+
+pub lines-loop-expression-init : goal.lines-loop-expression-init
+lines-loop-expression-init g t c = grind (arith, common_steps)
+
+pub lines-returns : goal.lines-returns
+lines-returns g t c = grind (arith, common_steps)
+
+pub lines-returns-in_default : goal.lines-returns-in_default
+lines-returns-in_default g t c = grind (arith, common_steps)
+
+pub lines-returns-then-is_empty : goal.lines-returns-then-is_empty
+lines-returns-then-is_empty g t c = grind (arith, common_steps)

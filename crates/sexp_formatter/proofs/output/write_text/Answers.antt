@@ -1,4 +1,5 @@
-use Rattle.std.proofs.Common.{◌≡◌, ℕ, ◌-◌, length, List, ◌++◌, take, drop, append_assoc, arith, length-drop}
+use Rattle.std.proofs.Common.{List, append_assoc, arith, drop, length, length-drop, take, ℕ, ◌++◌, ◌-◌, ◌≡◌}
+use Rattle.std.proofs.lemmas.Grind.{common_steps}
 use Rattle.std.proofs.lemmas.List.{take_all, take-append-drop}
 use Rattle.std.proofs.KnownBytes.{Appends-trans}
 use Rattle.sexp_formatter.proofs.output.write_text.Goals as goal
@@ -17,3 +18,6 @@ loop-rest-preserved g c =
       front_grows c.args.text.now i.0 rest n i.1,
       Appends-trans (g.W.Write.contents c.args.writer.now) (g.W.Write.contents c.loop-rest.writer) (g.W.Write.contents c.write.new.self) i.0 (take n rest) i.2 c.in-Ok.ensures.bytes,
     )
+
+pub returns-clause-ok : goal.returns-clause-ok
+returns-clause-ok g c = grind (arith, common_steps)

@@ -1,4 +1,5 @@
-use Rattle.std.proofs.Common.{◌-◌, ◌∷◌, arith}
+use Rattle.std.proofs.Common.{arith, ◌-◌, ◌∷◌}
+use Rattle.std.proofs.lemmas.Grind.{common_steps}
 use Rattle.std.proofs.lemmas.List.{map_push}
 use Rattle.std.proofs.lemmas.Result.{err_from_is_err_and}
 use Rattle.sexp_formatter.specs.Value.{values_of}
@@ -64,3 +65,6 @@ value-returns-in-Some-atom-clause-ok t c =
 
 pub value-returns-in-None-clause-err : goal.value-returns-in-None-clause-err
 value-returns-in-None-clause-err t c = no_atom_front c.args.levels c.args.bytes.now c.in_default.ensures.none c.in-None.ensures.none
+
+pub list-loop-items-smaller : goal.list-loop-items-smaller
+list-loop-items-smaller t c = grind (arith, common_steps)

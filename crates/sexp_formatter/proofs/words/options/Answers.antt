@@ -4,3 +4,6 @@ use Rattle.sexp_formatter.proofs.words.options.Goals as goal
 
 pub returns-clause-some : goal.returns-clause-some
 returns-clause-some c = grind (arith, common_steps)
+
+pub returns-clause-none : goal.returns-clause-none
+returns-clause-none c = grind (arith, common_steps)

@@ -1,4 +1,5 @@
-use Rattle.std.proofs.Common.{◌++◌, ◌∙◌, ap, rules, take}
+use Rattle.std.proofs.Common.{ap, arith, rules, take, ◌++◌, ◌∙◌}
+use Rattle.std.proofs.lemmas.Grind.{common_steps}
 use Rattle.prettyless_sink.specs.Sink.{rise, IsFairCount}
 use Rattle.prettyless_sink.proofs.Beginnings.{on_err, beginning_of_rest, appended_on, split_on}
 use Rattle.prettyless_sink.proofs.render.Render.write_str_all.Goals as goal
@@ -37,3 +38,6 @@ loop-rest-preserved g c =
           let took = c.in_ok-count.ensures.ok before.0 in
           (took.0, (appended_on _ _ _ _ _ before.1.0 (took.1.0.0 fair.0.0), took.1.1.0 fair ∙ before.1.1));
     }
+
+pub returns-clause-ok : goal.returns-clause-ok
+returns-clause-ok g c = grind (arith, common_steps)

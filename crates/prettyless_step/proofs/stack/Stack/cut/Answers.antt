@@ -1,4 +1,5 @@
-use Rattle.std.proofs.Common.{rules}
+use Rattle.std.proofs.Common.{arith, rules}
+use Rattle.std.proofs.lemmas.Grind.{common_steps}
 use Rattle.prettyless_step.proofs.stack.Stack.cut.Goals as goal
 
 pub frames-smaller : goal.frames-smaller
@@ -9,3 +10,6 @@ frames-preserved g c = search rules depth 1
 
 pub keep-requires-2 : goal.keep-requires-2
 keep-requires-2 g c = search rules depth 1
+
+pub returns : goal.returns
+returns g c = grind (arith, common_steps)

@@ -4,3 +4,6 @@ use Rattle.prettyless_text.proofs.small.SmallTextFromArrayString22.from.Goals as
 
 pub returns : goal.returns
 returns c = grind (arith, common_steps)
+
+pub invariant_of-result : goal.invariant_of-result
+invariant_of-result c = grind (arith, common_steps)
