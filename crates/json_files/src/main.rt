@@ -7,7 +7,7 @@ use std::alloc::{AllocError, Global};
 use std::fs::Files;
 use std::{fs, io};
 
-const NAMES: [&str; 12] = [
+const NAMES: &[&str] = &[
     "deep",
     "doubles",
     "escapes",
@@ -28,7 +28,7 @@ const ON_ONE_LINE: Style = Style {
     fill: false,
 };
 
-const STYLES: [Style; 4] = [
+const STYLES: &[Style] = &[
     ON_ONE_LINE,
     Style {
         width: 80,
@@ -74,7 +74,7 @@ fn is_kept(alloc: Global, text: &str, value: &[u8], style: Style) -> Result<bool
 fn are_kept(alloc: Global, text: &str, flat: &str) -> Result<bool, FormatError> {
     let value = without_gaps(alloc, flat)?;
     for style in STYLES {
-        if !is_kept(alloc, text, &value, style)? {
+        if !is_kept(alloc, text, &value, *style)? {
             return Ok(false);
         }
     }

@@ -35,7 +35,7 @@ fn compare_copy<'a, 's>(
 pub fn copies(memory: Global, run: &mut Run<'_>) -> Result<(), Wrong> {
     let boxes = BoxAllocator::new(memory);
     for row in COPIED {
-        compare_copy(memory, run, &boxes, row)?;
+        compare_copy(memory, run, &boxes, *row)?;
     }
     Ok(())
 }

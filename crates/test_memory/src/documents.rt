@@ -119,7 +119,7 @@ pub const GROUPS: Row<'static> = Row {
 };
 
 /// The documents that are built in each place.
-pub const ROWS: [Row<'static>; 11] = [
+pub const ROWS: &[Row<'static>] = &[
     SECOND_LINE_TOO_LONG,
     SUFFIXES_PENDING,
     KEPT_AFTER_LINE,
@@ -137,7 +137,7 @@ pub const ROWS: [Row<'static>; 11] = [
 pub const KEPT: Row<'static> = NESTED_SUFFIXES;
 
 /// The documents that are copied.
-pub const COPIED: [Row<'static>; 3] = [KEPT_IN_REJECTED, INTERSPERSED, OWNED_TEXT];
+pub const COPIED: &[Row<'static>] = &[KEPT_IN_REJECTED, INTERSPERSED, OWNED_TEXT];
 
 // One after the other.
 fn joined<'a, D: DocPlace<'a>>(

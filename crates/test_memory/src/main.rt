@@ -41,6 +41,16 @@ fn requests_before<R: Input>(rt: &R) -> io::Result<usize> {
     number(&input[..count]).ok_or(io::Error::from(ErrorKind::InvalidInput))
 }
 
+// Prints where memory was refused.
+fn print<R: Print>(rt: &R, refused: Refused<'_>) -> io::Result<()> {
+    match refused {
+        Refused::Within(at) => println!(rt; "within {}: {}", at.place, at.what),
+        Refused::Before => println!(rt; "before"),
+        Refused::After => println!(rt; "after"),
+        Refused::Nowhere => println!(rt; "nowhere"),
+    }
+}
+
 fn refuse<R: AllocGlobal + Input + Print>(rt: &R) -> io::Result<ExitCode> {
     let before = requests::are_granted(rt.alloc(), requests_before(rt)?);
     let mut run = Run::new();
@@ -48,16 +58,15 @@ fn refuse<R: AllocGlobal + Input + Print>(rt: &R) -> io::Result<ExitCode> {
     let after = requests::are_granted(rt.alloc(), requests::AFTER);
     let at = run.at();
     match outcome.and_then(|_| place_of_refusal(before, &run, after)) {
-        Ok(Refused::Within(at)) => println!(rt; "within {}: {}", at.place, at.what)?,
-        Ok(Refused::Before) => println!(rt; "before")?,
-        Ok(Refused::After) => println!(rt; "after")?,
-        Ok(Refused::Nowhere) => println!(rt; "nowhere")?,
+        Ok(refused) => {
+            print(rt, refused)?;
+            Ok(ExitCode::SUCCESS)
+        }
         Err(wrong) => {
             println!(rt; "wrong {}: {}: {}", at.place, at.what, wrong.sentence())?;
-            return Ok(ExitCode::FAILURE);
+            Ok(ExitCode::FAILURE)
         }
     }
-    Ok(ExitCode::SUCCESS)
 }
 
 fn main(rt: HostRuntime) -> ExitCode {

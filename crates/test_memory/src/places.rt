@@ -54,22 +54,31 @@ pub fn build<'a, D: DocPlace<'a>>(
     }
 }
 
-// Each document is built and laid out. After all of them the one that was built first is laid out as if it were alone.
+// A document is built and laid out.
+fn compare_row<'a, 's, D: DocPlace<'a>>(
+    run: &mut Run<'s>,
+    name: &'s str,
+    place: &'a D,
+    row: Row<'s>,
+) -> Result<(), Wrong> {
+    run.begin(name, row.name);
+    let document = build(run, place, row)?;
+    compare(place.memory(), run, &document, row)
+}
+
+// So is each. After all of them the one that was built first is laid out as if it were alone.
 fn compare_rows<'a, 's, D: DocPlace<'a>>(
     run: &mut Run<'s>,
     name: &'s str,
     place: &'a D,
 ) -> Result<(), Wrong> {
-    let memory = place.memory();
     run.begin(name, "the document that is kept");
     let kept = build(run, place, KEPT)?;
     for row in ROWS {
-        run.begin(name, row.name);
-        let document = build(run, place, row)?;
-        compare(memory, run, &document, row)?;
+        compare_row(run, name, place, *row)?;
     }
     run.begin(name, "the document that was kept");
-    compare(memory, run, &kept, KEPT)
+    compare(place.memory(), run, &kept, KEPT)
 }
 
 pub fn boxes(memory: Global, run: &mut Run<'_>) -> Result<(), Wrong> {
@@ -86,11 +95,8 @@ fn compare_groups_too<'a, 's, D: DocPlace<'a>>(
     name: &'s str,
     place: &'a D,
 ) -> Result<(), Wrong> {
-    let memory = place.memory();
     compare_rows(run, name, place)?;
-    run.begin(name, GROUPS.name);
-    let document = build(run, place, GROUPS)?;
-    compare(memory, run, &document, GROUPS)
+    compare_row(run, name, place, GROUPS)
 }
 
 fn compare_in<'a>(run: &mut Run<'_>, arena: &'a Arena<'a>) -> Result<(), Wrong> {

@@ -2,7 +2,7 @@
 use crate::jsonfmt_layouts::is_laid_out;
 use json_formatter::Style;
 
-const LAYOUTS: [(&str, &str); 13] = [
+const LAYOUTS: &[(&str, &str)] = &[
     (
         "\"\\\"\\\\\\/\\b\\f\\n\\r\\t\\u0041\"",
         "\"\\\"\\\\\\/\\b\\f\\n\\r\\t\\u0041\"\n",
@@ -50,7 +50,7 @@ const LAYOUTS: [(&str, &str); 13] = [
 
 #[test]
 fn values_are_kept(rt: HostRuntime) {
-    for (text, layout) in LAYOUTS {
+    for &(text, layout) in LAYOUTS {
         is_laid_out(&rt, rt.alloc(), text, Style::default(), layout);
     }
 }

@@ -11,7 +11,7 @@ use std::test::Fail;
 // A document as the reader takes it, and what it has to be shown as.
 type Case<'a> = (&'a str, &'a str);
 
-const NODES: [Case<'static>; 15] = [
+const NODES: &[Case<'static>] = &[
     ("Nil", "Nil"),
     ("Fail", "Fail"),
     ("WeakSpace", "WeakSpace"),
@@ -44,7 +44,7 @@ const NODES: [Case<'static>; 15] = [
     ),
 ];
 
-const CHAINS: [Case<'static>; 3] = [
+const CHAINS: &[Case<'static>] = &[
     ("Append Text '1' Text '2'", "[\"1\", \"2\"]"),
     (
         "Append Append Text '1' Text '2' Append Text '3' Text '4'",
@@ -56,7 +56,7 @@ const CHAINS: [Case<'static>; 3] = [
     ),
 ];
 
-const LINES: [Case<'static>; 10] = [
+const LINES: &[Case<'static>] = &[
     ("BreakOrFlat HardLine Text ' '", "LineOrSpace"),
     ("BreakOrFlat HardLine Nil", "LineOrNil"),
     ("Group BreakOrFlat HardLine Text ' '", "SoftLineOrSpace"),
@@ -86,7 +86,7 @@ pub(crate) fn compare_shown<T: fmt::Debug>(
 
 #[test]
 fn shows_documents(rt: HostRuntime) -> Result<(), Fail> {
-    for cases in [NODES.as_slice(), CHAINS.as_slice(), LINES.as_slice()] {
+    for cases in [NODES, CHAINS, LINES] {
         for &(written, shown) in cases {
             compare_through(&rt, rt.alloc(), written, Compared::Shown(shown))?;
         }

@@ -29,7 +29,7 @@ const LETTER: &str =
 
 // A document as the reader takes it, and what is visited of it.
 #[rattlefmt::skip]
-const CASES: [(&str, Visited); 10] = [
+const CASES: &[(&str, Visited)] = &[
     // A group asks one probe, which ends at the first text past the width.
     (PAIR, Visited { width: 80, printer: 7, probes: 6, fails: false }),
     (PAIR, Visited { width: 2, printer: 7, probes: 6, fails: false }),
@@ -74,7 +74,7 @@ pub(crate) fn compare_visits<'a, T: DocPtr<'a>>(
 
 #[test]
 fn nodes_are_counted(rt: HostRuntime) -> Result<(), Fail> {
-    for (written, visited) in CASES {
+    for &(written, visited) in CASES {
         compare_through(&rt, rt.alloc(), written, Compared::Visits(visited))?;
     }
     Ok(())

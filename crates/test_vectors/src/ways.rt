@@ -153,7 +153,7 @@ pub(crate) fn compare_before<'a, T: DocPtr<'a>>(
     Ok(())
 }
 
-const CASES: [(&str, Compared<'static>); 3] = [
+const CASES: &[(&str, Compared<'static>)] = &[
     (
         "Nest 2 Append Append Append Text 'ab' HardLine HardLine Text 'c'",
         Compared::Ways,
@@ -164,7 +164,7 @@ const CASES: [(&str, Compared<'static>); 3] = [
 
 #[test]
 fn all_ways_to_render(rt: HostRuntime) -> Result<(), Fail> {
-    for (written, compared) in CASES {
+    for &(written, compared) in CASES {
         compare_through(&rt, rt.alloc(), written, compared)?;
     }
     Ok(())

@@ -6,7 +6,7 @@ const ALIGNED: &str = "Group Append Text 'ab' Align Append Append OnNestingAtLea
                        BreakOrFlat HardLine Text ' ' Text 'd'";
 
 #[rattlefmt::skip]
-const LAYOUTS: [Case<'static>; 16] = [
+const LAYOUTS: &[Case<'static>] = &[
     (80, "Nil", ""),
     // Flat where it fits.
     (80, "Group Append Append Text 'a' BreakOrFlat HardLine Text ' ' Text 'b'", "a b"),
@@ -34,24 +34,20 @@ const LAYOUTS: [Case<'static>; 16] = [
 ];
 
 #[rattlefmt::skip]
-const FAILURES: [Case<'static>; 2] = [
+const FAILURES: &[Case<'static>] = &[
     // A break in flat lines, and a suffix where it is laid.
     (80, "Flatten Append Append Text 'a' HardLine Text 'b'", "a"),
     (2, "Append Union Append Text 'a' LineSuffix Fail Text 'x' Text 'b'", "ab"),
 ];
 
 #[rattlefmt::skip]
-const LATE_INDENTS: [Case<'static>; 1] = [
+const LATE_INDENTS: &[Case<'static>] = &[
     // An indent is written before the first text of its line.
     (80, "Nest 2 Append Append Append Text 'aaa' HardLine HardLine Text 'bbb'", "aaa\n\n  bbb"),
 ];
 
 #[test]
 fn each_variant(rt: HostRuntime) -> Result<(), Fail> {
-    let tables = [
-        (EAGER, LAYOUTS.as_slice()),
-        (FAILING, FAILURES.as_slice()),
-        (LATE, LATE_INDENTS.as_slice()),
-    ];
+    let tables = [(EAGER, LAYOUTS), (FAILING, FAILURES), (LATE, LATE_INDENTS)];
     compare(&rt, rt.alloc(), &tables)
 }
