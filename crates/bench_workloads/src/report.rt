@@ -14,7 +14,7 @@ use std::rt::{Clock, Files};
 pub fn compare<R: AllocGlobal + Print>(rt: &R) -> Result<(), Failure>
     ensures err { IfErr result IsOfTiming }
 {
-    for workload in WORKLOADS {
+    for &workload in WORKLOADS {
         let laid = lay(rt.alloc(), workload, workload.small_size())?;
         let name = workload.name();
         println!(rt;
@@ -106,7 +106,7 @@ pub fn time_workload<R: AllocGlobal + Clock + Files + Print>(
 pub fn time_all<R: AllocGlobal + Clock + Files + Print>(rt: &R) -> Result<(), Failure>
     ensures err { IfErr result IsOfTiming }
 {
-    for workload in WORKLOADS {
+    for &workload in WORKLOADS {
         time_workload(rt, workload)?;
     }
     Ok(())

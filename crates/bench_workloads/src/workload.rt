@@ -36,7 +36,7 @@ pub enum Workload {
 }
 
 /// All of them, as they are printed.
-pub const WORKLOADS: [Workload; 14] = [
+pub const WORKLOADS: &[Workload] = &[
     Workload::Tree,
     Workload::List,
     Workload::FlatList,
