@@ -9,7 +9,7 @@ use std::test::Fail;
 use test_documents::read;
 
 // Constants, and a node that is the same as each of them.
-const LEAVES: &[(Constant, &str)] = &[
+const LEAVES: [(Constant, &str); 7] = [
     (Constant::Nil, "Nil"),
     (Constant::Fail, "Fail"),
     (Constant::Space, "Text ' '"),
@@ -26,7 +26,7 @@ fn has<'a, D: DocPlace<'a>>(place: &'a D, which: Constant) -> bool {
 
 // The place has each constant, and places nothing for a node that is the same.
 fn leaves<'a, D: CountedPlace<'a>>(rt: &impl Abort, place: &'a D) -> Result<(), Fail> {
-    for &(which, written) in LEAVES {
+    for (which, written) in LEAVES {
         check(rt, has(place, which), "the constant", written);
         read(place, written)?;
         check(rt, place.has_no_node(), "the nodes", written);
@@ -56,11 +56,11 @@ fn lines<'a, D: CountedPlace<'a>>(rt: &impl Abort, place: &'a D) -> Result<(), F
 }
 
 // Other texts of spaces, and what only contains constants.
-const OTHERS: &[&str] = &["Text '  '", "TextWithLen 1 ' '", "Append Text ' ' Text ' '"];
+const OTHERS: [&str; 3] = ["Text '  '", "TextWithLen 1 ' '", "Append Text ' ' Text ' '"];
 
 // They have a node each.
 fn others<'a, D: CountedPlace<'a>>(rt: &impl Abort, place: &'a D) -> Result<(), Fail> {
-    for &written in OTHERS {
+    for written in OTHERS {
         read(place, written)?;
     }
     check(rt, place.nodes() == OTHERS.len(), "the nodes", "others");

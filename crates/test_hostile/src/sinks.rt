@@ -236,13 +236,13 @@ pub(crate) fn compare_rows<'a, D: DocPlace<'a>>(
 }
 
 fn compare_all(rt: &impl Abort, memory: Global, wrong: Wrong) -> Result<(), Fail> {
-    for &step in STEPS {
+    for step in STEPS {
         in_boxes(rt, memory, InBoxes::Sinks(step, wrong))?;
     }
     Ok(())
 }
 
-const STEPS: &[Step] = &[Step::Whole, Step::Character, Step::Byte];
+const STEPS: [Step; 3] = [Step::Whole, Step::Character, Step::Byte];
 
 #[test]
 fn sinks_that_refuse_a_piece(rt: HostRuntime) -> Result<(), Fail> {
@@ -349,7 +349,7 @@ fn compare_counts<'a, T: DocPtr<'a>>(
 }
 
 // Documents whose second piece is a space, the end of their lines, the first piece, and both.
-const SPACES: &[(&str, LineEnding, &str, &str)] = &[
+const SPACES: [(&str, LineEnding, &str, &str); 3] = [
     (APART, LineEnding::Lf, "a", "a "),
     ("Nest 1 HardLine", LineEnding::Lf, "\n", "\n "),
     ("Nest 1 HardLine", LineEnding::Crlf, "\r\n", "\r\n "),
@@ -359,7 +359,7 @@ pub(crate) fn compare_bad_counts<'a, D: DocPlace<'a>>(
     rt: &impl Abort,
     place: &'a D,
 ) -> Result<(), Fail> {
-    for &(written, ending, first, both) in SPACES {
+    for (written, ending, first, both) in SPACES {
         let document = read(place, written)?;
         let options = RenderOptions::new(80).with_line_ending(ending);
         compare_counts(rt, place.memory(), &document, options, first, both);
