@@ -2,7 +2,6 @@
 
 pub use prettyless_alloc::{
     DocAllocator, DocAllocatorBetween, DocAllocatorOf, DocAllocatorOfTwo, DocAllocatorOver,
-    PlacedDoc, PlacedDocBetween, PlacedDocOf, PlacedDocOfTwo, PlacedDocOver,
 };
 pub use prettyless_build::{DocBuilder, Pretty};
 pub use prettyless_combinators::{
@@ -12,3 +11,6 @@ pub use prettyless_combinators::{
     soft_line_or_space, space, spaces, union, weak_line, weak_space,
 };
 pub use prettyless_doc::DocPlace;
+pub use prettyless_placed::{
+    PlacedDoc, PlacedDocBetween, PlacedDocOf, PlacedDocOfTwo, PlacedDocOver,
+};

@@ -1,5 +1,4 @@
 pub mod Lists
-pub mod Pointers
 pub mod Told
 pub mod Words
 pub use Rattle.prettyless_build.specs.Built

@@ -1,0 +1,326 @@
+//! The constructors of pointers: each document has its place at once.
+ghost use Rattle.std.specs.Prelude.{◌≡◌, ◌⊎◌, IfOk, IfErr, List};
+ghost use Rattle.std.specs.Cow.{cow_str_bytes};
+ghost use Rattle.std.specs.Iterator.{IsFiniteIterable};
+ghost use Rattle.prettyless_doc.specs.Tree.{Tree, Nil, Fail, WeakSpace, HardLine, WeakLine, ExpandParent, BreakOrFlat, Union, OnColumn, OnNesting};
+ghost use Rattle.prettyless_doc.specs.BuildErrors.{IsMemory};
+ghost use Rattle.prettyless_doc.specs.Counted as counted;
+ghost use Rattle.prettyless_doc.specs.DocTree.{built};
+ghost use Rattle.prettyless_doc.specs.Lines as lines;
+ghost use Rattle.prettyless_build.specs.Built as to;
+ghost use Rattle.prettyless_build.specs.Iterated.{GivesAll, GivesSome, HasGap, Concatenates, Intersperses};
+ghost use Rattle.prettyless_placed.specs.Placed.{Places};
+
+use prettyless_alloc::{DocAllocator, DocAllocatorBetween, DocAllocatorOfTwo, DocAllocatorOver};
+use prettyless_build::{DocBuilder, Pretty};
+use prettyless_doc::text::CowStr;
+use prettyless_doc::{BuildDoc, BuildError, DocPlace, DocPtr};
+use prettyless_model::choice::{ColumnTest, NestingTest};
+use std::fmt;
+
+/// The calls of every pointer to the nodes of a `D`. Each places what it makes, and fails where
+/// memory is refused.
+pub trait PlacedDoc<'a, D: DocPlace<'a, Doc = Self>>: DocPtr<'a> {
+    /// Nothing.
+    fn nil(place: &'a D) -> Result<Self, BuildError>
+        ensures { to.Builds result Self.tree Nil };
+
+    /// A document that cannot be laid: a render that comes to it fails.
+    fn fail(place: &'a D) -> Result<Self, BuildError>
+        ensures { to.Builds result Self.tree Fail };
+
+    /// A line break. It keeps the groups around it from being flat, and fails under `flatten`.
+    fn hard_line(place: &'a D) -> Result<Self, BuildError>
+        ensures { to.Builds result Self.tree HardLine };
+
+    /// `hard_line` by another name.
+    fn hardline(place: &'a D) -> Result<Self, BuildError>
+        ensures { to.Builds result Self.tree HardLine };
+
+    /// A line break, under `flatten` too. It keeps the groups around it from being flat. It is nothing on a fresh line
+    /// where no suffix is pending.
+    fn weak_line(place: &'a D) -> Result<Self, BuildError>
+        ensures { to.Builds result Self.tree WeakLine };
+
+    /// The text of one space.
+    fn space(place: &'a D) -> Result<Self, BuildError>
+        ensures { to.Builds result Self.tree lines.space };
+
+    /// A space; nothing at the start of a line, and nothing at its end unless a suffix is pending there.
+    fn weak_space(place: &'a D) -> Result<Self, BuildError>
+        ensures { to.Builds result Self.tree WeakSpace };
+
+    /// Nothing, but it keeps the groups around it from being flat.
+    fn expand_parent(place: &'a D) -> Result<Self, BuildError>
+        ensures { to.Builds result Self.tree ExpandParent };
+
+    /// A line break, or one space where lines are flat.
+    fn line(place: &'a D) -> Result<Self, BuildError>
+        ensures { to.Builds result Self.tree lines.line };
+
+    /// A line break, or nothing where lines are flat.
+    fn line_(place: &'a D) -> Result<Self, BuildError>
+        ensures { to.Builds result Self.tree lines.line_ };
+
+    /// One space, or a line break where what follows, up to the next possible break, would go past the width.
+    fn softline(place: &'a D) -> Result<Self, BuildError>
+        ensures { to.Builds result Self.tree to.softline };
+
+    /// Nothing, or a line break where what follows, up to the next possible break, would go past the width.
+    fn softline_(place: &'a D) -> Result<Self, BuildError>
+        ensures { to.Builds result Self.tree to.softline_ };
+
+    /// A text, written as it is: nothing if it is empty. It counts as its bytes if it is ASCII, and else as its display
+    /// width. A line end in it is not seen by the layout: `multiline_text` is for such texts.
+    fn text(place: &'a D, text: CowStr<'a>) -> Result<Self, BuildError>
+        ensures { to.Builds result Self.tree (counted.text (cow_str_bytes text.entry)) };
+
+    /// What `{}` shows of the value: an empty text where it shows nothing. It counts as its bytes if it is ASCII, and
+    /// else as its display width.
+    ///
+    /// Answers `Memory` where memory was refused, and `Display` where only the value's
+    /// formatting failed.
+    fn as_string<V: fmt::Display + Drop>(place: &'a D, value: V) -> Result<Self, BuildError>
+        ensures { IfOk result (λ p. counted.IsStringOf (V.output value) (Self.tree p)) };
+
+    /// A text whose line ends, each LF or CR, are written as they are, with no indent after them. It keeps the groups
+    /// around it from being flat, and fails under `flatten`. Without one it is as `text` makes it.
+    fn multiline_text(place: &'a D, text: CowStr<'a>) -> Result<Self, BuildError>
+        ensures { to.Builds result Self.tree (counted.multiline_text (cow_str_bytes text.entry)) };
+
+    /// This document, laid flat where it fits the line with what follows up to the next line break, and else broken.
+    /// Where it is nothing, a text or a group, it stays as it is, which takes no memory.
+    fn group(self, place: &'a D) -> Result<Self, BuildError>
+        ensures { to.BuildsOrKeeps result Self.tree
+            (to.group (Self.tree self))
+            (to.keeps_grouped (Self.tree self)) self };
+
+    /// This document with its indent moved by so many columns. By 0, or where it is nothing, it stays
+    /// as it is, which takes no memory.
+    fn nest(self, place: &'a D, offset: isize) -> Result<Self, BuildError>
+        ensures { to.BuildsOrKeeps result Self.tree
+            (to.nest offset (Self.tree self))
+            (to.keeps_nested offset (Self.tree self)) self };
+
+    /// This document where it can be laid with each text within the width, and else `that`; where lines are flat, this
+    /// one.
+    fn union(self, place: &'a D, that: BuildDoc<'a, Self>) -> Result<Self, BuildError>
+        ensures { to.Builds result Self.tree (Union (Self.tree self) (built Self.tree that.entry)) };
+}
+
+// A pointer to what a call has built, or its error. Each call of a builder is handed to it, so that none unwraps its own.
+#[inline(always)]
+fn placed<'a, D: DocPlace<'a>>(
+    made: Result<DocBuilder<'a, D>, BuildError>,
+) -> Result<D::Doc, BuildError>
+    ensures { Places made.entry (λ b. b.1) D.Doc.tree result }
+{
+    made?.into_doc()
+}
+
+impl<'a, D: DocPlace<'a, Doc = T>, T: DocPtr<'a>> PlacedDoc<'a, D> for T {
+    fn nil(place: &'a D) -> Result<T, BuildError> {
+        placed(place.nil())
+    }
+
+    fn fail(place: &'a D) -> Result<T, BuildError> {
+        placed(place.fail())
+    }
+
+    fn hard_line(place: &'a D) -> Result<T, BuildError> {
+        placed(place.hard_line())
+    }
+
+    fn hardline(place: &'a D) -> Result<T, BuildError> {
+        placed(place.hardline())
+    }
+
+    fn weak_line(place: &'a D) -> Result<T, BuildError> {
+        placed(place.weak_line())
+    }
+
+    fn space(place: &'a D) -> Result<T, BuildError> {
+        placed(place.space())
+    }
+
+    fn weak_space(place: &'a D) -> Result<T, BuildError> {
+        placed(place.weak_space())
+    }
+
+    fn expand_parent(place: &'a D) -> Result<T, BuildError> {
+        placed(place.expand_parent())
+    }
+
+    fn line(place: &'a D) -> Result<T, BuildError> {
+        placed(place.line())
+    }
+
+    fn line_(place: &'a D) -> Result<T, BuildError> {
+        placed(place.line_())
+    }
+
+    fn softline(place: &'a D) -> Result<T, BuildError> {
+        placed(place.softline())
+    }
+
+    fn softline_(place: &'a D) -> Result<T, BuildError> {
+        placed(place.softline_())
+    }
+
+    fn text(place: &'a D, text: CowStr<'a>) -> Result<T, BuildError> {
+        placed(place.text(text))
+    }
+
+    fn as_string<V: fmt::Display + Drop>(place: &'a D, value: V) -> Result<T, BuildError> {
+        placed(place.as_string(value))
+    }
+
+    fn multiline_text(place: &'a D, text: CowStr<'a>) -> Result<T, BuildError> {
+        placed(place.multiline_text(text))
+    }
+
+    fn group(self, place: &'a D) -> Result<T, BuildError> {
+        placed(DocBuilder(place, BuildDoc::DocPtr(self)).group())
+    }
+
+    fn nest(self, place: &'a D, offset: isize) -> Result<T, BuildError> {
+        placed(DocBuilder(place, BuildDoc::DocPtr(self)).nest(offset))
+    }
+
+    fn union(self, place: &'a D, that: BuildDoc<'a, T>) -> Result<T, BuildError>
+        ensures { to.Builds result T.tree (Union (T.tree self) (built T.tree that.entry)) }
+    {
+        placed(DocBuilder(place, BuildDoc::DocPtr(self)).union(that))
+    }
+}
+
+/// The calls of a pointer that take a document of type `P`. The making of that one can fail, and
+/// memory may be refused.
+///
+/// `P` is a parameter of the trait and not of its calls, as for `DocAllocatorOf`.
+pub trait PlacedDocOf<'a, D: DocPlace<'a, Doc = Self>, P: Pretty<'a, D>>: DocPtr<'a> {
+    /// This document, then `that`. Where this one is nothing it is `that`. Where `that` is nothing it
+    /// stays as it is, which takes no memory.
+    fn append(self, place: &'a D, that: P) -> Result<Self, BuildError>
+        ensures ok { IfOk result (λ p. (y : Tree) × P.becomes that y
+            × (Self.tree p ≡ to.append (Self.tree self) y)) }
+        ensures err { IfErr result (λ e. P.refuses that e ⊎ (IsMemory e
+            × ((y : Tree) × P.becomes that y × to.IsNotNil y))) };
+
+    /// This document where lines are broken, and `that` where they are flat.
+    fn flat_alt(self, place: &'a D, that: P) -> Result<Self, BuildError>
+        ensures { to.BuildsOf result Self.tree (P.becomes that) (P.refuses that) (BreakOrFlat (Self.tree self)) };
+}
+
+impl<'a, D: DocPlace<'a, Doc = T>, P: Pretty<'a, D>, T: DocPtr<'a>> PlacedDocOf<'a, D, P> for T {
+    fn append(self, place: &'a D, that: P) -> Result<T, BuildError> {
+        let that = that.pretty(place)?;
+        if that.doc().is_nil() {
+            return Ok(self);
+        }
+        placed(DocBuilder(place, BuildDoc::DocPtr(self)).join(that))
+    }
+
+    fn flat_alt(self, place: &'a D, that: P) -> Result<T, BuildError> {
+        placed(DocBuilder(place, BuildDoc::DocPtr(self)).flat_alt(that))
+    }
+}
+
+/// The calls of a pointer that take a document of type `P` and one of type `Q`. The making of each can fail, and memory may be
+/// refused.
+pub trait PlacedDocOfTwo<
+    'a,
+    D: DocPlace<'a, Doc = Self>,
+    P: Pretty<'a, D>,
+    Q: Pretty<'a, D>,
+>: DocPtr<'a> {
+    /// The first document where the test of the column at which it would start holds, else the second, flat or broken.
+    fn if_column(place: &'a D, test: ColumnTest, first: P, second: Q) -> Result<Self, BuildError>
+        ensures { to.BuildsOfTwo result Self.tree (P.becomes first) (Q.becomes second) (P.refuses first) (Q.refuses second) (OnColumn test) };
+
+    /// The first document where the test of the indent holds, else the second, flat or broken.
+    fn if_nesting(place: &'a D, test: NestingTest, first: P, second: Q) -> Result<Self, BuildError>
+        ensures { to.BuildsOfTwo result Self.tree (P.becomes first) (Q.becomes second) (P.refuses first) (Q.refuses second) (OnNesting test) };
+}
+
+impl<
+    'a,
+    D: DocPlace<'a, Doc = T>,
+    P: Pretty<'a, D>,
+    Q: Pretty<'a, D>,
+    T: DocPtr<'a>,
+> PlacedDocOfTwo<'a, D, P, Q> for T {
+    fn if_column(place: &'a D, test: ColumnTest, first: P, second: Q) -> Result<T, BuildError> {
+        placed(place.if_column(test, first, second))
+    }
+
+    fn if_nesting(place: &'a D, test: NestingTest, first: P, second: Q) -> Result<T, BuildError> {
+        placed(place.if_nesting(test, first, second))
+    }
+}
+
+/// The calls of a pointer that take an iterator `I`. The making of an item can fail, and memory may be refused.
+pub trait PlacedDocOver<'a, D: DocPlace<'a, Doc = Self>, I: IntoIterator>: DocPtr<'a>
+where
+    I::Item: Pretty<'a, D>,
+{
+    /// The items' documents, appended in order: nothing if there is none.
+    ///
+    /// `docs` has to be an iterator whose `next` may be called, and one that ends: the prover asks for both.
+    fn concat(place: &'a D, docs: I) -> Result<Self, BuildError>
+        requires { IsFiniteIterable I.into_iter_gives I.IntoIter.can_next I.IntoIter.remaining docs }
+        ensures ok { IfOk result (λ p. (xs : List I.Item)
+            × GivesAll I.into_iter_gives I.IntoIter.next_gives docs xs
+            × Concatenates I.Item.becomes xs (Self.tree p)) }
+        ensures err { IfErr result (λ e. IsMemory e
+            ⊎ GivesSome I.into_iter_gives I.IntoIter.next_gives docs (λ x. I.Item.refuses x e)) };
+}
+
+impl<'a, D: DocPlace<'a, Doc = T>, I: IntoIterator, T: DocPtr<'a>> PlacedDocOver<'a, D, I> for T
+where
+    I::Item: Pretty<'a, D>,
+{
+    fn concat(place: &'a D, docs: I) -> Result<T, BuildError> {
+        placed(place.concat(docs))
+    }
+}
+
+/// The calls of a pointer that take an iterator `I` and a separator `S`. The making of an item or of
+/// the separator can fail, and memory may be refused.
+pub trait PlacedDocBetween<
+    'a,
+    D: DocPlace<'a, Doc = Self>,
+    I: IntoIterator,
+    S: Pretty<'a, D> + Drop,
+>: DocPtr<'a>
+where
+    I::Item: Pretty<'a, D>,
+{
+    /// The items' documents in order, with the separator in each gap: nothing if there is none. The
+    /// separator becomes a document once, and only where there is a gap.
+    ///
+    /// `docs` has to be an iterator whose `next` may be called, and one that ends: the prover asks for both.
+    fn intersperse(place: &'a D, docs: I, separator: S) -> Result<Self, BuildError>
+        requires { IsFiniteIterable I.into_iter_gives I.IntoIter.can_next I.IntoIter.remaining docs }
+        ensures ok { IfOk result (λ p. (xs : List I.Item)
+            × GivesAll I.into_iter_gives I.IntoIter.next_gives docs xs
+            × Intersperses I.Item.becomes (S.becomes separator) xs (Self.tree p)) }
+        ensures err { IfErr result (λ e. IsMemory e
+            ⊎ (S.refuses separator e × HasGap I.into_iter_gives I.IntoIter.next_gives docs)
+            ⊎ GivesSome I.into_iter_gives I.IntoIter.next_gives docs (λ x. I.Item.refuses x e)) };
+}
+
+impl<
+    'a,
+    D: DocPlace<'a, Doc = T>,
+    I: IntoIterator,
+    S: Pretty<'a, D> + Drop,
+    T: DocPtr<'a>,
+> PlacedDocBetween<'a, D, I, S> for T
+where
+    I::Item: Pretty<'a, D>,
+{
+    fn intersperse(place: &'a D, docs: I, separator: S) -> Result<T, BuildError> {
+        placed(place.intersperse(docs, separator))
+    }
+}

@@ -1,0 +1,116 @@
+//! The constants of an arena: each has one node there, and where memory was refused for them they are placed as other nodes.
+use crate::checks::check;
+use crate::places::{CountedPlace, InArena, in_arena};
+use crate::reader::read;
+use bumpalo::Bump;
+use prettyless::text::BuildError;
+use prettyless::{Constant, Doc, DocAllocator, DocBuilder, DocPlace, DocPtr};
+use std::process::Abort;
+use std::test::Fail;
+
+// Constants, and a node that is the same as each of them.
+const LEAVES: [(Constant, &str); 7] = [
+    (Constant::Nil, "Nil"),
+    (Constant::Fail, "Fail"),
+    (Constant::Space, "Text ' '"),
+    (Constant::WeakSpace, "WeakSpace"),
+    (Constant::HardLine, "HardLine"),
+    (Constant::WeakLine, "WeakLine"),
+    (Constant::ExpandParent, "ExpandParent"),
+];
+
+// Whether a place has one node for the constant.
+fn has<'a, D: DocPlace<'a>>(place: &'a D, which: Constant) -> bool {
+    place.constant(which).is_some()
+}
+
+// The place has each constant, and places nothing for a node that is the same.
+fn leaves<'a, D: CountedPlace<'a>>(rt: &impl Abort, place: &'a D) -> Result<(), Fail> {
+    for (which, written) in LEAVES {
+        check(rt, has(place, which), "the constant", written);
+        read(place, written)?;
+        check(rt, place.has_no_node(), "the nodes", written);
+    }
+    Ok(())
+}
+
+fn place_built<'a, D: DocPlace<'a>>(
+    builder: Result<DocBuilder<'a, D>, BuildError>,
+) -> Result<(), BuildError> {
+    builder?.into_doc()?;
+    Ok(())
+}
+
+fn place_lines<'a, D: DocPlace<'a>>(place: &'a D) -> Result<(), BuildError> {
+    place_built(place.line())?;
+    place_built(place.line_())?;
+    place_built(place.softline())?;
+    place_built(place.softline_())
+}
+
+// Lines are handed out, and none is placed.
+fn lines<'a, D: CountedPlace<'a>>(rt: &impl Abort, place: &'a D) -> Result<(), Fail> {
+    place_lines(place)?;
+    check(rt, place.has_no_node(), "the nodes", "lines");
+    Ok(())
+}
+
+// Other texts of spaces, and what only contains constants.
+const OTHERS: [&str; 3] = ["Text '  '", "TextWithLen 1 ' '", "Append Text ' ' Text ' '"];
+
+// They have a node each.
+fn others<'a, D: CountedPlace<'a>>(rt: &impl Abort, place: &'a D) -> Result<(), Fail> {
+    for written in OTHERS {
+        read(place, written)?;
+    }
+    check(rt, place.nodes() == OTHERS.len(), "the nodes", "others");
+    Ok(())
+}
+
+pub(crate) fn one_node_each<'a, D: CountedPlace<'a>>(
+    rt: &impl Abort,
+    place: &'a D,
+) -> Result<(), Fail> {
+    leaves(rt, place)?;
+    lines(rt, place)?;
+    others(rt, place)
+}
+
+#[test]
+fn a_constant_has_one_node(rt: HostRuntime) -> Result<(), Fail> {
+    in_arena(&rt, rt.alloc(), None, InArena::Constants)
+}
+
+fn refuses_a_line<'a, D: DocPlace<'a>>(place: &'a D) -> bool {
+    matches!(place.alloc(Doc::HardLine), Err(BuildError::Memory(_)))
+}
+
+fn places_a_group<'a, D: DocPlace<'a>>(place: &'a D) -> Result<bool, BuildError> {
+    let line = place.softline()?.into_doc()?;
+    Ok(matches!(line.doc(), Doc::Group(_)))
+}
+
+// An arena that has no constants refuses a node while it has no room, and then places it as any other.
+pub(crate) fn no_room_at_first<'a, D: CountedPlace<'a>>(
+    rt: &impl Abort,
+    bump: &Bump,
+    place: &'a D,
+) -> Result<(), Fail> {
+    check(
+        rt,
+        !has(place, Constant::HardLine),
+        "the constant",
+        "no room",
+    );
+    check(rt, refuses_a_line(place), "the line", "no room");
+    check(rt, place.has_no_node(), "the nodes", "no room");
+    bump.set_allocation_limit(None);
+    check(rt, places_a_group(place)?, "the group", "room");
+    check(rt, place.nodes() == 4, "the nodes", "room");
+    Ok(())
+}
+
+#[test]
+fn constants_find_no_room(rt: HostRuntime) -> Result<(), Fail> {
+    in_arena(&rt, rt.alloc(), Some(0), InArena::ConstantsWithoutRoom)
+}

@@ -1,0 +1,402 @@
+//! Byte writers and text writers of which one call goes wrong.
+ghost use Rattle.std.specs.Prelude.{Some};
+
+use crate::checks::check;
+use crate::places::{InBoxes, in_boxes};
+use crate::reader::read;
+use crate::rows::{ACCENTED, ROWS, Row};
+use prettyless::{
+    DocPlace, DocPtr, FmtWrite, IoWrite, RenderError, RenderOptions, TextWriter, Untold,
+};
+use std::alloc::Global;
+use std::io::{ErrorKind, Write};
+use std::process::Abort;
+use std::test::Fail;
+use std::{fmt, io};
+
+// What a writer does at the call that goes wrong.
+#[derive(Clone, Copy)]
+pub(crate) enum Wrong {
+    IsInterrupted,
+    TakesNothing,
+}
+
+// A writer that takes one byte a call, of which one call goes wrong.
+#[derive(Drop)]
+struct ByBytes {
+    wrong: Wrong,
+    wrong_call: usize,
+    calls: usize,
+    bytes: Vec<u8>,
+    failures: u64,
+}
+
+impl ByBytes {
+    fn new(memory: Global, wrong: Wrong, wrong_call: usize) -> Self {
+        ByBytes {
+            wrong,
+            wrong_call,
+            calls: 0,
+            bytes: Vec::new(memory),
+            failures: 0,
+        }
+    }
+}
+
+impl Write for ByBytes {
+    ghost contents = { λ writer. Some writer.bytes.items };
+
+    fn write(&mut self, buf: &[u8]) -> io::Result<usize> {
+        self.calls = self.calls.saturating_add(1);
+        if self.calls == self.wrong_call {
+            self.failures = self.failures.saturating_add(1);
+            return match self.wrong {
+                Wrong::IsInterrupted => Err(io::Error::from(ErrorKind::Interrupted)),
+                Wrong::TakesNothing => Ok(0),
+            };
+        }
+        match buf {
+            [] => Ok(0),
+            [first, ..] => {
+                self.bytes.push(*first)?;
+                Ok(1)
+            }
+        }
+    }
+
+    fn flush(&mut self) -> io::Result<()> {
+        Ok(())
+    }
+}
+
+// How a render ends.
+#[derive(PartialEq, Drop)]
+enum Ending<E> {
+    Laid,
+    Document,
+    Sink(E),
+}
+
+// How a render ends that no writer disturbs.
+fn undisturbed<E>(row: &Row<'_>) -> Ending<E> {
+    if row.fails {
+        Ending::Document
+    } else {
+        Ending::Laid
+    }
+}
+
+// How a render to such a writer ends, with the kind of the error.
+fn ending_of_bytes<'a, T: DocPtr<'a>>(
+    memory: Global,
+    document: &T,
+    width: usize,
+    writer: &mut ByBytes,
+) -> Result<Ending<ErrorKind>, Fail> {
+    let options = RenderOptions::new(width);
+    let mut sink = IoWrite::new(writer);
+    match document.doc().render_raw_with(memory, options, &mut sink) {
+        Ok(()) => Ok(Ending::Laid),
+        Err(RenderError::Document(_)) => Ok(Ending::Document),
+        Err(RenderError::Sink(error)) => Ok(Ending::Sink(error.kind())),
+        Err(RenderError::Memory(_)) => Err(Fail::new("no memory")),
+    }
+}
+
+// Compares what a writer has whose call did not come.
+fn compare_all_of_bytes(
+    rt: &impl Abort,
+    row: &Row<'_>,
+    writer: &ByBytes,
+    ending: &Ending<ErrorKind>,
+) {
+    let layout = row.layout;
+    let is_whole = writer.bytes.as_slice() == layout.as_bytes();
+    check(rt, *ending == undisturbed(row), "the end", layout);
+    check(rt, is_whole, "the bytes", layout);
+    check(rt, writer.failures == 0, "the failures", layout);
+}
+
+// Compares what a writer has whose call went wrong.
+fn compare_ended_bytes(
+    rt: &impl Abort,
+    layout: &str,
+    before: &[u8],
+    writer: &ByBytes,
+    ending: &Ending<ErrorKind>,
+) {
+    let kind = match writer.wrong {
+        Wrong::IsInterrupted => ErrorKind::Interrupted,
+        Wrong::TakesNothing => ErrorKind::WriteZero,
+    };
+    check(rt, *ending == Ending::Sink(kind), "the end", layout);
+    check(rt, writer.bytes.as_slice() == before, "the bytes", layout);
+    check(rt, writer.failures == 1, "the failures", layout);
+    check(rt, writer.calls == writer.wrong_call, "the calls", layout);
+}
+
+// Compares how a render ends of which one call goes wrong, and answers whether it comes to that call.
+fn compare_bytes<'a, T: DocPtr<'a>>(
+    rt: &impl Abort,
+    memory: Global,
+    document: &T,
+    row: &Row<'_>,
+    wrong: Wrong,
+    wrong_call: usize,
+) -> Result<bool, Fail> {
+    let mut writer = ByBytes::new(memory, wrong, wrong_call);
+    let ending = ending_of_bytes(memory, document, row.width, &mut writer)?;
+    let layout = row.layout;
+    if layout.len() < wrong_call {
+        compare_all_of_bytes(rt, row, &writer, &ending);
+        return Ok(false);
+    }
+    let before = &layout.as_bytes()[..wrong_call.saturating_sub(1)];
+    compare_ended_bytes(rt, layout, before, &writer, &ending);
+    Ok(true)
+}
+
+// Each call goes wrong in turn, until a render ends without it.
+fn compare_calls<'a, T: DocPtr<'a>>(
+    rt: &impl Abort,
+    memory: Global,
+    document: &T,
+    row: &Row<'_>,
+    wrong: Wrong,
+) -> Result<(), Fail> {
+    for wrong_call in 1..100 {
+        if !compare_bytes(rt, memory, document, row, wrong, wrong_call)? {
+            return Ok(());
+        }
+    }
+    Err(Fail::new("no render ends well"))
+}
+
+fn compare_row_of_bytes<'a, D: DocPlace<'a>>(
+    rt: &impl Abort,
+    place: &'a D,
+    row: Row<'a>,
+    wrong: Wrong,
+) -> Result<(), Fail> {
+    let document = read(place, row.written)?;
+    compare_calls(rt, place.memory(), &document, &row, wrong)
+}
+
+pub(crate) fn compare_all_bytes<'a, D: DocPlace<'a>>(
+    rt: &impl Abort,
+    place: &'a D,
+    wrong: Wrong,
+) -> Result<(), Fail> {
+    for &row in ROWS {
+        compare_row_of_bytes(rt, place, row, wrong)?;
+    }
+    Ok(())
+}
+
+#[test]
+fn writers_that_are_interrupted(rt: HostRuntime) -> Result<(), Fail> {
+    in_boxes(&rt, rt.alloc(), InBoxes::ByteWriters(Wrong::IsInterrupted))
+}
+
+#[test]
+fn writers_that_take_nothing(rt: HostRuntime) -> Result<(), Fail> {
+    in_boxes(&rt, rt.alloc(), InBoxes::ByteWriters(Wrong::TakesNothing))
+}
+
+// Compares what a writer has of a character of two bytes.
+pub(crate) fn compare_character<'a, D: DocPlace<'a>>(
+    rt: &impl Abort,
+    place: &'a D,
+) -> Result<(), Fail> {
+    let memory = place.memory();
+    let document = read(place, ACCENTED)?;
+    let mut writer = ByBytes::new(memory, Wrong::TakesNothing, usize::MAX);
+    let ending = ending_of_bytes(memory, &document, 80, &mut writer)?;
+    check(rt, ending == Ending::Laid, "the end", ACCENTED);
+    check(
+        rt,
+        writer.bytes.as_slice() == b"\xc3\xa9".as_slice(),
+        "the bytes",
+        ACCENTED,
+    );
+    Ok(())
+}
+
+#[test]
+fn a_character_is_written_byte_by_byte(rt: HostRuntime) -> Result<(), Fail> {
+    in_boxes(&rt, rt.alloc(), InBoxes::CharacterOfBytes)
+}
+
+// A text writer that takes one byte of one of its pieces and fails.
+#[derive(Drop)]
+struct ByPieces {
+    wrong_piece: usize,
+    pieces: usize,
+    bytes: Vec<u8>,
+    failures: u64,
+}
+
+impl TextWriter for ByPieces {
+    ghost text = { λ writer. Some writer.bytes.items };
+
+    fn write_text(&mut self, piece: &str) -> fmt::Result {
+        self.pieces = self.pieces.saturating_add(1);
+        let fails = self.pieces == self.wrong_piece;
+        let taken = if fails {
+            piece.len().min(1)
+        } else {
+            piece.len()
+        };
+        match self.bytes.extend_from_slice(&piece.as_bytes()[..taken]) {
+            Ok(()) if !fails => Ok(()),
+            _ => {
+                self.failures = self.failures.saturating_add(1);
+                Err(fmt::Error)
+            }
+        }
+    }
+}
+
+// The same, of which no bytes are known.
+impl fmt::Write for ByPieces {
+    fn write_str(&mut self, s: &str) -> fmt::Result {
+        self.write_text(s)
+    }
+}
+
+// How a render to a text writer ends.
+fn ending_of_text<'a, T: DocPtr<'a>, W: TextWriter>(
+    memory: Global,
+    document: &T,
+    width: usize,
+    writer: &mut W,
+) -> Result<Ending<fmt::Error>, Fail> {
+    let options = RenderOptions::new(width);
+    let mut sink = FmtWrite::new(writer);
+    match document.doc().render_raw_with(memory, options, &mut sink) {
+        Ok(()) => Ok(Ending::Laid),
+        Err(RenderError::Document(_)) => Ok(Ending::Document),
+        Err(RenderError::Sink(error)) => Ok(Ending::Sink(error)),
+        Err(RenderError::Memory(_)) => Err(Fail::new("no memory")),
+    }
+}
+
+// How a render to such a writer ends, whose bytes are known or not.
+fn ending_of_pieces<'a, T: DocPtr<'a>>(
+    memory: Global,
+    document: &T,
+    width: usize,
+    known: bool,
+    writer: &mut ByPieces,
+) -> Result<Ending<fmt::Error>, Fail> {
+    if known {
+        ending_of_text(memory, document, width, writer)
+    } else {
+        ending_of_text(memory, document, width, &mut Untold(writer))
+    }
+}
+
+// Compares what a writer has whose piece did not come.
+fn compare_all_of_pieces(
+    rt: &impl Abort,
+    row: &Row<'_>,
+    writer: &ByPieces,
+    ending: &Ending<fmt::Error>,
+) {
+    let layout = row.layout;
+    let is_whole = writer.bytes.as_slice() == layout.as_bytes();
+    check(rt, *ending == undisturbed(row), "the end", layout);
+    check(rt, is_whole, "the bytes", layout);
+    check(rt, writer.pieces < writer.wrong_piece, "the pieces", layout);
+}
+
+// Compares what a writer has whose piece went wrong.
+fn compare_ended_pieces(
+    rt: &impl Abort,
+    layout: &str,
+    writer: &ByPieces,
+    ending: &Ending<fmt::Error>,
+) {
+    let is_beginning = layout.as_bytes().starts_with(writer.bytes.as_slice());
+    check(rt, *ending == Ending::Sink(fmt::Error), "the end", layout);
+    check(rt, is_beginning, "the beginning", layout);
+    check(
+        rt,
+        writer.wrong_piece <= writer.bytes.len(),
+        "the length",
+        layout,
+    );
+    check(rt, writer.failures == 1, "the failures", layout);
+    check(
+        rt,
+        writer.pieces == writer.wrong_piece,
+        "the pieces",
+        layout,
+    );
+}
+
+// Compares how a render ends of which one piece goes wrong, and answers whether it comes to that piece.
+fn compare_pieces<'a, T: DocPtr<'a>>(
+    rt: &impl Abort,
+    memory: Global,
+    document: &T,
+    row: &Row<'_>,
+    known: bool,
+    wrong_piece: usize,
+) -> Result<bool, Fail> {
+    let mut writer = ByPieces {
+        wrong_piece,
+        pieces: 0,
+        bytes: Vec::new(memory),
+        failures: 0,
+    };
+    let ending = ending_of_pieces(memory, document, row.width, known, &mut writer)?;
+    let comes = writer.failures != 0;
+    if comes {
+        compare_ended_pieces(rt, row.layout, &writer, &ending);
+    } else {
+        compare_all_of_pieces(rt, row, &writer, &ending);
+    }
+    Ok(comes)
+}
+
+// Each piece goes wrong in turn, until a render ends without it.
+fn compare_all_pieces<'a, T: DocPtr<'a>>(
+    rt: &impl Abort,
+    memory: Global,
+    document: &T,
+    row: &Row<'_>,
+    known: bool,
+) -> Result<(), Fail> {
+    for wrong_piece in 1..100 {
+        if !compare_pieces(rt, memory, document, row, known, wrong_piece)? {
+            return Ok(());
+        }
+    }
+    Err(Fail::new("no render ends well"))
+}
+
+fn compare_row_of_pieces<'a, D: DocPlace<'a>>(
+    rt: &impl Abort,
+    place: &'a D,
+    row: Row<'a>,
+) -> Result<(), Fail> {
+    let document = read(place, row.written)?;
+    compare_all_pieces(rt, place.memory(), &document, &row, true)?;
+    compare_all_pieces(rt, place.memory(), &document, &row, false)
+}
+
+pub(crate) fn compare_text_writers<'a, D: DocPlace<'a>>(
+    rt: &impl Abort,
+    place: &'a D,
+) -> Result<(), Fail> {
+    for &row in ROWS {
+        compare_row_of_pieces(rt, place, row)?;
+    }
+    Ok(())
+}
+
+#[test]
+fn text_writers_that_fail(rt: HostRuntime) -> Result<(), Fail> {
+    in_boxes(&rt, rt.alloc(), InBoxes::TextWriters)
+}
