@@ -1,9 +1,10 @@
 //! The probe: whether a node fits the line with what follows it.
 ghost use Rattle.std.specs.Prelude.{◌≡◌, ◌++◌, ◌∷◌, [], IfOk, OnOk, IfSome, MatchOption, List, Bool, false, ◌+◌, ◌<◌, ◌≤◌, ℕ, ⊤, if◌then◌else◌};
 ghost use Rattle.prettyless_model.specs.Tree.{WeakLine, size};
-ghost use Rattle.prettyless_model.specs.Column.{padding_fits};
+ghost use Rattle.prettyless_model.specs.Column.{nested, padding_fits};
 ghost use Rattle.prettyless_model.specs.Look.{answer_of, by_mode, look, look_text, payload_begins};
 ghost use Rattle.prettyless_model.specs.Layout.{rest_fits};
+ghost use Rattle.prettyless_step.specs.declared.probe.Read.TheVariants.{Next};
 ghost use Rattle.prettyless_step.specs.Probing.{ReadsAs, RisesBy, nodes_next, read_of};
 ghost use Rattle.prettyless_step.specs.Stack.{AnswersAs, Reads, Task, follow, in_break, make_task, nodes, stack_of, task, tasks_fit, unread, tasks_next};
 ghost use Rattle.prettyless_step.specs.Ways.{column_after as after, columns_fit as ends_within};
@@ -118,6 +119,22 @@ fn answered<N>(answer: Option<bool>) -> Read<N>
     }
 }
 
+// Goes on with the document of a nesting.
+#[inline(always)]
+fn read_nested<N>(indent: usize, offset: isize, mode: Mode, inner: N) -> Read<N>
+    ensures { result ≡ Next (nested indent offset) mode inner }
+{
+    Read::Next(nested_indent(indent, offset), mode, inner)
+}
+
+// The branch of a union that is read: the first where lines are flat, else the second.
+#[inline(always)]
+fn branch<N: Copy>(mode: Mode, first: N, second: N) -> N
+    ensures { result ≡ by_mode mode second first }
+{
+    either(mode, second, first)
+}
+
 // Looks at one node. The nodes below it are looked at next: the first is answered, and a second one is now on the stack.
 #[inline(always)]
 #[tactic(auto, using(crate::proofs::Probes::looks))]
@@ -161,14 +178,14 @@ fn probe_one<N: Walk>(
             stack.push(indent, mode, second)?;
             Ok(Read::Next(indent, mode, first))
         }
-        View::Nest(offset, inner) => Ok(Read::Next(nested_indent(indent, offset), mode, inner)),
+        View::Nest(offset, inner) => Ok(read_nested(indent, offset, mode, inner)),
         View::DedentToRoot(inner) => Ok(Read::Next(0, mode, inner)),
         View::Align(inner) => Ok(Read::Next(line.column.prospective(), mode, inner)),
         View::Group(inner) => Ok(Read::Next(indent, mode, inner)),
         View::Flatten(inner) => Ok(Read::Next(indent, Mode::Flat, inner)),
         View::BreakOrFlat(broken, flat) => Ok(Read::Next(indent, mode, either(mode, broken, flat))),
         View::Union(first, second) | View::PartialUnion(first, second) => {
-            Ok(Read::Next(indent, mode, either(mode, second, first)))
+            Ok(Read::Next(indent, mode, branch(mode, first, second)))
         }
         View::OnColumn(test, first, second) => {
             Ok(Read::Next(
