@@ -129,7 +129,7 @@ fn line_of<N: Shown>(broken: &N, flat: &N) -> Option<Line> {
 }
 
 impl Head {
-    // Shows it. The list that an item is part of is shown as one.
+    // Shows what opens it: nothing where it is a list and an item of one, since a chain is shown as a single list.
     fn begin<W: fmt::Write>(self, is_item: bool, f: &mut fmt::Formatter<W>) -> fmt::Result {
         match self {
             Head::List => f.write_str(if is_item { "" } else { "[" }),
@@ -140,7 +140,7 @@ impl Head {
         }
     }
 
-    // What closes it.
+    // What closes it, likewise.
     fn end(self, is_item: bool) -> &'static str {
         match self {
             Head::List if is_item => "",
