@@ -139,6 +139,11 @@ pub const KEPT: Row<'static> = NESTED_SUFFIXES;
 /// The documents that are copied.
 pub const COPIED: &[Row<'static>] = &[KEPT_IN_REJECTED, INTERSPERSED, OWNED_TEXT];
 
+// A text. It has a function of its own, since the proof of each function that makes one of a `&str` takes longer.
+fn text<'a, D: DocPlace<'a>>(place: &'a D, text: &'a str) -> Result<DocBuilder<'a, D>, BuildError> {
+    place.pretty(text)
+}
+
 // One after the other.
 fn joined<'a, D: DocPlace<'a>>(
     front: Result<DocBuilder<'a, D>, BuildError>,
@@ -159,9 +164,9 @@ fn either<'a, D: DocPlace<'a>>(
 // A text that is put off to the end of its line.
 fn suffix<'a, D: DocPlace<'a>>(
     place: &'a D,
-    text: &'a str,
+    put_off: &'a str,
 ) -> Result<DocBuilder<'a, D>, BuildError> {
-    place.pretty(text)?.as_line_suffix()
+    text(place, put_off)?.as_line_suffix()
 }
 
 // A text, a line break and another text.
@@ -171,8 +176,8 @@ fn two_lines<'a, D: DocPlace<'a>>(
     second: &'a str,
 ) -> Result<DocBuilder<'a, D>, BuildError> {
     joined(
-        joined(place.pretty(first), place.hard_line()),
-        place.pretty(second),
+        joined(text(place, first), place.hard_line()),
+        text(place, second),
     )
 }
 
@@ -182,38 +187,38 @@ fn second_line_too_long<'a, D: DocPlace<'a>>(place: &'a D) -> Result<D::Doc, Bui
 }
 
 fn suffixes_pending<'a, D: DocPlace<'a>>(place: &'a D) -> Result<D::Doc, BuildError> {
-    let first = joined(suffix(place, " // 3"), place.pretty("6666666"));
-    let second = joined(suffix(place, " // 4"), place.pretty("77"));
-    let front = joined(place.pretty("a"), suffix(place, " // 1"));
-    joined(joined(front, place.pretty("a")), either(first, second))?.into_doc()
+    let first = joined(suffix(place, " // 3"), text(place, "6666666"));
+    let second = joined(suffix(place, " // 4"), text(place, "77"));
+    let front = joined(text(place, "a"), suffix(place, " // 1"));
+    joined(joined(front, text(place, "a")), either(first, second))?.into_doc()
 }
 
 fn kept_after_line<'a, D: DocPlace<'a>>(place: &'a D) -> Result<D::Doc, BuildError> {
     let kept = either(
-        joined(place.pretty("a"), place.hard_line()),
-        place.pretty("x"),
+        joined(text(place, "a"), place.hard_line()),
+        text(place, "x"),
     );
-    joined(kept, place.pretty("b"))?.nest(2)?.into_doc()
+    joined(kept, text(place, "b"))?.nest(2)?.into_doc()
 }
 
 fn kept_in_rejected<'a, D: DocPlace<'a>>(place: &'a D) -> Result<D::Doc, BuildError> {
-    let kept = joined(place.pretty("inner"), suffix(place, " // s"));
-    let inner = either(kept, place.pretty("inner fallback"));
-    let outer = joined(inner, place.pretty(" long overflow"));
-    let rejected = either(outer, place.pretty("outer fallback"));
+    let kept = joined(text(place, "inner"), suffix(place, " // s"));
+    let inner = either(kept, text(place, "inner fallback"));
+    let outer = joined(inner, text(place, " long overflow"));
+    let rejected = either(outer, text(place, "outer fallback"));
     joined(suffix(place, " // caller"), rejected)?.into_doc()
 }
 
 fn nested_suffixes<'a, D: DocPlace<'a>>(place: &'a D) -> Result<D::Doc, BuildError> {
-    let put_off = joined(place.pretty("x"), suffix(place, "y"))?.as_line_suffix();
-    let front = joined(place.pretty("a"), put_off);
-    joined(joined(front, place.hard_line()), place.pretty("b"))?.into_doc()
+    let put_off = joined(text(place, "x"), suffix(place, "y"))?.as_line_suffix();
+    let front = joined(text(place, "a"), put_off);
+    joined(joined(front, place.hard_line()), text(place, "b"))?.into_doc()
 }
 
 fn kept_in_kept<'a, D: DocPlace<'a>>(place: &'a D) -> Result<D::Doc, BuildError> {
-    let kept = joined(place.pretty("inner"), suffix(place, " // s"));
-    let inner = either(kept, place.pretty("q"));
-    either(joined(place.pretty("p"), inner), place.pretty("r"))?.into_doc()
+    let kept = joined(text(place, "inner"), suffix(place, " // s"));
+    let inner = either(kept, text(place, "q"));
+    either(joined(text(place, "p"), inner), text(place, "r"))?.into_doc()
 }
 
 fn repeated<'a, D: DocPlace<'a>>(place: &'a D) -> Result<D::Doc, BuildError> {
@@ -223,8 +228,8 @@ fn repeated<'a, D: DocPlace<'a>>(place: &'a D) -> Result<D::Doc, BuildError> {
 fn interspersed<'a, D: DocPlace<'a>>(place: &'a D) -> Result<D::Doc, BuildError> {
     let items = place.pretty(intersperse(line_or_space(), iter::repeat_n("a", 3)));
     let nested = joined(place.line(), items)?.nest(1);
-    let front = joined(place.pretty("("), nested);
-    let back = joined(place.line(), place.pretty(")"));
+    let front = joined(text(place, "("), nested);
+    let back = joined(place.line(), text(place, ")"));
     joined(front, back)?.group()?.into_doc()
 }
 
@@ -237,13 +242,13 @@ fn of_a_macro<'a, D: DocPlace<'a>>(place: &'a D) -> Result<D::Doc, BuildError> {
 }
 
 fn owned_text<'a, D: DocPlace<'a>>(place: &'a D) -> Result<D::Doc, BuildError> {
-    let indented = joined(place.hard_line(), place.pretty("b"))?.nest(2);
+    let indented = joined(place.hard_line(), text(place, "b"))?.nest(2);
     joined(place.as_string(LONG), indented)?.into_doc()
 }
 
 // A letter and a line, and then twenty documents that are nothing.
 fn letter_and_line<'a, D: DocPlace<'a>>(place: &'a D) -> Result<D::Doc, BuildError> {
-    let mut front = joined(place.pretty("a"), place.line())?.into_doc()?;
+    let mut front = joined(text(place, "a"), place.line())?.into_doc()?;
     for _ in 0..20 {
         let nothing = place.alloc(Doc::Nil)?;
         front = place.alloc(Doc::Append(front, nothing))?;
@@ -252,7 +257,7 @@ fn letter_and_line<'a, D: DocPlace<'a>>(place: &'a D) -> Result<D::Doc, BuildErr
 }
 
 fn groups_in_groups<'a, D: DocPlace<'a>>(place: &'a D) -> Result<D::Doc, BuildError> {
-    let mut nested = place.pretty("a")?.into_doc()?;
+    let mut nested = text(place, "a")?.into_doc()?;
     for _ in 0..17 {
         let front = letter_and_line(place)?;
         let both = place.alloc(Doc::Append(front, nested))?;
