@@ -1,5 +1,5 @@
 //! What `Debug` shows of documents, through each pointer, and of documents in the making; what an error of either kind says.
-use crate::checks::check_at;
+use crate::checks::check;
 use crate::compared::{Compared, compare_through};
 use prettyless::text::{BuildError, CowStr, Text};
 use prettyless::{BuildDoc, Constant, Doc, DocAllocator, DocPlace, PrettyError, RenderError};
@@ -80,7 +80,7 @@ pub(crate) fn compare_shown<T: fmt::Debug>(
     shown: &str,
 ) -> Result<(), Fail> {
     let printed = format!(in memory; "{document:?}")?;
-    check_at(rt, printed.as_str() == shown, shown, 0);
+    check(rt, printed.as_str() == shown, "what is shown", shown);
     Ok(())
 }
 
@@ -185,7 +185,7 @@ fn compare_sentence<E: fmt::Display>(
     sentence: &str,
 ) -> Result<(), Fail> {
     let said = format!(in memory; "{error}")?;
-    check_at(rt, said.as_str() == sentence, sentence, 0);
+    check(rt, said.as_str() == sentence, "what is said", sentence);
     Ok(())
 }
 
