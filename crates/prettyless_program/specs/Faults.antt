@@ -1,0 +1,77 @@
+-- Bytes that write no document, and how each kind of fault shows that.
+use Rattle.std.specs.Prelude.{◌≡◌, ◌<◌, ◌⊎◌, ◌^◌, ℕ, List, [], ◌∷◌, ◌++◌, length, Option, Some, None, ⊤}
+use Rattle.std.specs.Int.{w32, to_le_bytes}
+use Rattle.std.specs.List.{AllByRecursion}
+use Rattle.std.specs.Str.{IsUtf8}
+use Rattle.prettyless_model.specs.Tree.{Tree}
+use Rattle.prettyless_program.specs.Codes.{code_of}
+use Rattle.prettyless_program.specs.Programs as programs
+use Rattle.prettyless_program.specs.Programs.{Instruction, Item, Writes, Fits, IsText, IsWritable, number, sized, written, encoded, run, step, whole, Close}
+use Rattle.prettyless_program.specs.declared.fault.Fault.{Fault}
+use Rattle.prettyless_program.specs.declared.fault.Fault.TheVariants.{Memory, Instruction as NoInstruction, Operand, Text, Document, Unopened, Unclosed}
+use Rattle.prettyless_program.specs.declared.operation.Operation.{Operation}
+use Rattle.prettyless_program.specs.declared.operation.Operation.TheVariants as operation
+
+-- a text is cut off: the bytes end in its length, or before so many bytes
+abbrev pub IsTextCutOff : List ℕ → Type 0
+IsTextCutOff bytes = (length bytes < 4) ⊎ ((n : ℕ) × (rest : List ℕ) × (n < 2 ^ 32) × (bytes ≡ to_le_bytes w32 n ++ rest) × (length rest < n))
+
+-- no text comes next: it is cut off, or it is not UTF-8
+abbrev pub IsTextFault : Fault → List ℕ → Type 0
+IsTextFault Operand bytes = IsTextCutOff bytes
+IsTextFault Text bytes = (s : List ℕ) × (rest : List ℕ) × (bytes ≡ sized s ++ rest) × (length s < 2 ^ 32) × ¬ IsUtf8 s
+IsTextFault fault bytes = ⊥
+
+-- the operands of an operation are cut off: the bytes end in them
+abbrev pub IsCutOff : Operation → List ℕ → Type 0
+IsCutOff (operation.Words w) bytes = IsTextCutOff bytes
+IsCutOff operation.Counted bytes = (length bytes < 8) ⊎ ((n : ℕ) × (rest : List ℕ) × (n < 2 ^ 64) × (bytes ≡ number n ++ rest) × IsTextCutOff rest)
+IsCutOff operation.Nest bytes = length bytes < 8
+IsCutOff (operation.Choose c) bytes = length bytes < 8
+IsCutOff o bytes = ⊥
+
+-- the last sequence has no document
+abbrev pub HasNoDocument : List Item → Type 0
+HasNoDocument items = (d : Tree) (rest : List Item) → ¬ (items ≡ programs.Document d ∷ rest)
+
+-- an instruction comes next that a program may have, and can't be followed
+abbrev pub IsStuck : Instruction → List ℕ → List Item → Type 0
+IsStuck i bytes items = IsWritable i × ((rest : List ℕ) × (bytes ≡ written i ++ rest)) × (step i items ≡ None)
+
+-- What each fault says of the bytes that are left, and of the items that were made before them.
+abbrev pub Stops : Fault → List ℕ → List Item → Type 0
+Stops Memory bytes items = ⊤
+-- the next byte is the code of no operation
+Stops NoInstruction bytes items = (code : ℕ) × (rest : List ℕ) × (bytes ≡ code ∷ rest) × ((o : Operation) → ¬ (code ≡ code_of o))
+-- the operands of the next operation are cut off
+Stops Operand bytes items = (o : Operation) × (rest : List ℕ) × (bytes ≡ code_of o ∷ rest) × IsCutOff o rest
+-- the text of the next instruction is not UTF-8
+Stops Text bytes items = (i : Instruction) × (rest : List ℕ) × (bytes ≡ written i ++ rest) × Fits i × ¬ IsText i
+-- the next instruction takes more documents than the last sequence has
+Stops Document bytes items = (i : Instruction) × ¬ (i ≡ Close) × IsStuck i bytes items
+-- a sequence is closed that was not opened
+Stops Unopened bytes items = IsStuck Close bytes items
+-- the bytes are at their end, and a sequence is open
+Stops Unclosed bytes items = (bytes ≡ []) × (whole items ≡ None)
+
+-- instructions that were followed from the first byte on, the items that they made, and the bytes that are left
+pub record Reaches (program rest : List ℕ) (items : List Item) : Type 0 where
+  pub instructions : List Instruction
+  pub writable : AllByRecursion IsWritable instructions
+  pub bytes : program ≡ encoded instructions ++ rest
+  pub made : run instructions [] ≡ Some items
+
+-- the bytes have this fault somewhere
+pub record HasFault (fault : Fault) (program : List ℕ) : Type 0 where
+  pub rest : List ℕ
+  pub items : List Item
+  pub reached : Reaches program rest items
+  pub stops : Stops fault rest items
+
+-- the bytes write no document
+abbrev pub WritesNone : List ℕ → Type 0
+WritesNone bytes = (d : Tree) → ¬ Writes bytes d
+
+-- unless memory was refused, the bytes have this fault, and write no document
+abbrev pub Refuses : Fault → List ℕ → Type 0
+Refuses fault bytes = ¬ (fault ≡ Memory) → HasFault fault bytes × WritesNone bytes

@@ -1,0 +1,49 @@
+ghost use Rattle.std.specs.Prelude.{◌≡◌};
+ghost use Rattle.prettyless_program.specs.declared.fault.Fault.TheVariants.{Memory};
+
+use prettyless_doc::BuildError;
+use std::alloc::{AllocError, AllocFailed};
+
+/// Why bytes were not read as a document.
+#[derive(Clone, Copy, Debug, PartialEq, Eq)]
+pub enum Fault {
+    /// Memory was refused. That says nothing of the bytes.
+    Memory,
+    /// A byte begins no instruction.
+    Instruction,
+    /// The bytes end inside an instruction.
+    Operand,
+    /// A text is not UTF-8.
+    Text,
+    /// An instruction takes more documents than were made since a sequence was opened last.
+    Document,
+    /// A sequence is closed that was not opened.
+    Unopened,
+    /// A sequence is open at the end.
+    Unclosed,
+}
+
+impl From<AllocError> for Fault {
+    ghost from_gives = { λ _ fault. fault ≡ Memory };
+
+    fn from(_error: AllocError) -> Fault {
+        Fault::Memory
+    }
+}
+
+impl<T: Drop> From<AllocFailed<T>> for Fault {
+    ghost from_gives = { λ _ fault. fault ≡ Memory };
+
+    fn from(_error: AllocFailed<T>) -> Fault {
+        Fault::Memory
+    }
+}
+
+impl From<BuildError> for Fault {
+    ghost from_gives = { λ _ fault. fault ≡ Memory };
+
+    // Nothing here prints a value, so a node is refused for want of memory alone.
+    fn from(_error: BuildError) -> Fault {
+        Fault::Memory
+    }
+}

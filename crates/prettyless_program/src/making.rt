@@ -1,0 +1,189 @@
+//! The document that an instruction makes.
+ghost use Rattle.std.specs.Prelude.{◌≡◌, ◌∷◌, ◌++◌, ℕ, List, Some, OnOk, IfOk, IfErr};
+ghost use Rattle.prettyless_program.specs.Faults.{Stops};
+ghost use Rattle.prettyless_program.specs.Made.{instruction_of, item_of, items_of};
+ghost use Rattle.prettyless_program.specs.Programs.{Close, Document, IsWritable, chosen as chosen_tree, joined as joined_tree, leaf_tree, step, text_tree, wrapped as wrapped_tree, written};
+ghost use Rattle.prettyless_program.specs.declared.fault.Fault.TheVariants.{Memory};
+
+use crate::fault::Fault;
+use crate::instruction::Instruction;
+use crate::operation::{Choice, Join, Leaf, Words, Wrapper};
+use crate::stack::{Entry, gather, pop};
+use prettyless_alloc::DocAllocator;
+use prettyless_doc::text::{CowStr, Text};
+use prettyless_doc::{Doc, DocPlace};
+use prettyless_model::choice::{ColumnTest, NestingTest};
+
+/// A document that holds no other.
+#[inline(always)]
+fn leaf<'a, D: DocPlace<'a>>(place: &'a D, leaf: Leaf) -> Result<D::Doc, Fault>
+    ensures ok { IfOk result (λ p. D.Doc.tree p ≡ leaf_tree leaf) }
+    ensures err { IfErr result (λ fault. fault ≡ Memory) }
+{
+    let made = match leaf {
+        Leaf::Nil => place.nil(),
+        Leaf::Fail => place.fail(),
+        Leaf::WeakSpace => place.weak_space(),
+        Leaf::HardLine => place.hard_line(),
+        Leaf::WeakLine => place.weak_line(),
+        Leaf::ExpandParent => place.expand_parent(),
+        Leaf::Line => place.line(),
+        Leaf::LineOrNil => place.line_(),
+    };
+    Ok(made?.into_doc()?)
+}
+
+/// A text.
+#[inline(always)]
+fn words<'a, D: DocPlace<'a>>(place: &'a D, words: Words, text: &'a str) -> Result<D::Doc, Fault>
+    ensures ok { IfOk result (λ p. D.Doc.tree p ≡ text_tree words text.now) }
+    ensures err { IfErr result (λ fault. fault ≡ Memory) }
+{
+    let text = CowStr::Borrowed(text);
+    let made = match words {
+        Words::Measured => place.text(text),
+        Words::Ascii => place.ascii_text(text),
+        Words::Multiline => place.multiline_text(text),
+    };
+    Ok(made?.into_doc()?)
+}
+
+/// A node over one document.
+#[inline(always)]
+fn wrapped<'a, D: DocPlace<'a>>(
+    place: &'a D,
+    wrapper: Wrapper,
+    inner: D::Doc,
+) -> Result<D::Doc, Fault>
+    ensures ok { IfOk result (λ p. D.Doc.tree p ≡ wrapped_tree wrapper (D.Doc.tree inner)) }
+    ensures err { IfErr result (λ fault. fault ≡ Memory) }
+{
+    let doc = match wrapper {
+        Wrapper::Group => Doc::Group(inner),
+        Wrapper::Flatten => Doc::Flatten(inner),
+        Wrapper::Align => Doc::Align(inner),
+        Wrapper::DedentToRoot => Doc::DedentToRoot(inner),
+        Wrapper::LineSuffix => Doc::LineSuffix(inner),
+    };
+    Ok(place.alloc(doc)?)
+}
+
+/// A node over two documents.
+#[inline(always)]
+fn joined<'a, D: DocPlace<'a>>(
+    place: &'a D,
+    join: Join,
+    first: D::Doc,
+    second: D::Doc,
+) -> Result<D::Doc, Fault>
+    ensures ok { IfOk result (λ p. D.Doc.tree p ≡ joined_tree join (D.Doc.tree first) (D.Doc.tree second)) }
+    ensures err { IfErr result (λ fault. fault ≡ Memory) }
+{
+    let doc = match join {
+        Join::Append => Doc::Append(first, second),
+        Join::BreakOrFlat => Doc::BreakOrFlat(first, second),
+        Join::Union => Doc::Union(first, second),
+        Join::PartialUnion => Doc::PartialUnion(first, second),
+        Join::OnIndent => Doc::OnColumn(ColumnTest::IsNesting, first, second),
+    };
+    Ok(place.alloc(doc)?)
+}
+
+/// A choice between two documents.
+#[inline(always)]
+fn chosen<'a, D: DocPlace<'a>>(
+    place: &'a D,
+    choice: Choice,
+    columns: usize,
+    first: D::Doc,
+    second: D::Doc,
+) -> Result<D::Doc, Fault>
+    ensures ok { IfOk result (λ p. D.Doc.tree p ≡ chosen_tree choice columns (D.Doc.tree first) (D.Doc.tree second)) }
+    ensures err { IfErr result (λ fault. fault ≡ Memory) }
+{
+    let doc = match choice {
+        Choice::ColumnAtMost => Doc::OnColumn(ColumnTest::AtMost(columns), first, second),
+        Choice::ColumnAtLeast => Doc::OnColumn(ColumnTest::AtLeast(columns), first, second),
+        Choice::NestingAtMost => Doc::OnNesting(NestingTest::AtMost(columns), first, second),
+        Choice::NestingAtLeast => Doc::OnNesting(NestingTest::AtLeast(columns), first, second),
+    };
+    Ok(place.alloc(doc)?)
+}
+
+/// The documents of the innermost open sequence, one after the other. It is closed.
+fn sequence<'a, D: DocPlace<'a>>(
+    place: &'a D,
+    entries: &mut Vec<Entry<D::Doc>>,
+) -> Result<D::Doc, Fault>
+    ensures ok { IfOk result (λ p. step Close (items_of D.Doc.tree entries.old.items)
+        ≡ Some (Document (D.Doc.tree p) ∷ items_of D.Doc.tree entries.new.items)) }
+    ensures err { IfErr result (λ fault. (rest : List ℕ) → Stops fault (written Close ++ rest) (items_of D.Doc.tree entries.old.items)) }
+{
+    let gathered = gather(place, entries)?;
+    if !gathered.opened {
+        return Err(Fault::Unopened);
+    }
+    Ok(gathered.document)
+}
+
+/// What an instruction makes of the documents that it takes.
+#[inline(always)]
+fn made<'a, D: DocPlace<'a>>(
+    place: &'a D,
+    instruction: Instruction<'a>,
+    entries: &mut Vec<Entry<D::Doc>>,
+) -> Result<Entry<D::Doc>, Fault>
+    requires { IsWritable (instruction_of instruction) }
+    ensures ok { IfOk result (λ entry. step (instruction_of instruction.entry) (items_of D.Doc.tree entries.old.items)
+        ≡ Some (item_of D.Doc.tree entry ∷ items_of D.Doc.tree entries.new.items)) }
+    ensures err { IfErr result (λ fault. (rest : List ℕ)
+        → Stops fault (written (instruction_of instruction.entry) ++ rest) (items_of D.Doc.tree entries.old.items)) }
+{
+    match instruction {
+        Instruction::Leaf(kind) => Ok(Entry::Document(leaf(place, kind)?)),
+        Instruction::Words(kind, text) => Ok(Entry::Document(words(place, kind, text)?)),
+        Instruction::Counted(columns, text) => {
+            let doc = Doc::TextWithLen(columns, Text::Borrowed(text));
+            Ok(Entry::Document(place.alloc(doc)?))
+        }
+        Instruction::Wrap(wrapper) => {
+            let inner = pop(entries)?;
+            Ok(Entry::Document(wrapped(place, wrapper, inner)?))
+        }
+        Instruction::Nest(offset) => {
+            let inner = pop(entries)?;
+            Ok(Entry::Document(place.alloc(Doc::Nest(offset, inner))?))
+        }
+        Instruction::Join(join) => {
+            let second = pop(entries)?;
+            let first = pop(entries)?;
+            Ok(Entry::Document(joined(place, join, first, second)?))
+        }
+        Instruction::Choose(choice, columns) => {
+            let second = pop(entries)?;
+            let first = pop(entries)?;
+            Ok(Entry::Document(chosen(place, choice, columns, first, second)?))
+        }
+        Instruction::Open => Ok(Entry::Opened),
+        Instruction::Close => Ok(Entry::Document(sequence(place, entries)?)),
+    }
+}
+
+/// Follows an instruction: takes the documents that it asks for, and puts what it makes of them in their place.
+#[inline(always)]
+#[tactic(auto, using(crate::proofs::Items::items_of_push))]
+pub fn follow<'a, D: DocPlace<'a>>(
+    place: &'a D,
+    instruction: Instruction<'a>,
+    entries: &mut Vec<Entry<D::Doc>>,
+) -> Result<(), Fault>
+    requires { IsWritable (instruction_of instruction) }
+    ensures ok { OnOk result (step (instruction_of instruction.entry) (items_of D.Doc.tree entries.old.items)
+        ≡ Some (items_of D.Doc.tree entries.new.items)) }
+    ensures err { IfErr result (λ fault. (rest : List ℕ)
+        → Stops fault (written (instruction_of instruction.entry) ++ rest) (items_of D.Doc.tree entries.old.items)) }
+{
+    let entry = made(place, instruction, entries)?;
+    entries.push(entry)?;
+    Ok(())
+}

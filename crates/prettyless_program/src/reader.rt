@@ -1,0 +1,130 @@
+//! What is left of a program, read an instruction at a time.
+ghost use Rattle.std.specs.Prelude.{◌≡◌, ℕ, List, ◌∷◌, ◌++◌, ◌<◌, ◌^◌, [], length, IfOk, IfErr, IfSome, IfNone, MatchOption};
+ghost use Rattle.std.specs.Int.{w32, to_le_bytes};
+ghost use Rattle.std.specs.Str.{IsUtf8};
+ghost use Rattle.prettyless_program.specs.Codes.{code_of};
+ghost use Rattle.prettyless_program.specs.Faults.{IsTextFault, Stops};
+ghost use Rattle.prettyless_program.specs.Made.{instruction_of};
+ghost use Rattle.prettyless_program.specs.Programs.{Item, IsWritable, number, sized, written};
+ghost use Rattle.prettyless_program.specs.declared.fault.Fault.TheVariants.{Operand};
+
+use crate::fault::Fault;
+use crate::instruction::Instruction;
+use crate::operation::{Operation, operation_of};
+use std::str::from_utf8;
+
+/// What is left of a program.
+#[derive(Clone, Copy)]
+pub struct Reader<'p> {
+    pub rest: &'p [u8],
+}
+
+impl<'p> Reader<'p> {
+    /// The byte that comes next, if there is one.
+    #[inline(always)]
+    fn byte(&mut self) -> Option<u8>
+        ensures some { IfSome result (λ byte. self.old.rest.now ≡ byte ∷ self.new.rest.now) }
+        ensures none { IfNone result (self.old.rest.now ≡ []) }
+    {
+        let rest: &'p [u8] = self.rest;
+        match rest {
+            [byte, after @ ..] => {
+                self.rest = after;
+                Some(*byte)
+            }
+            [] => None,
+        }
+    }
+
+    /// The length that comes next, in four bytes, the lowest first.
+    #[inline(always)]
+    fn length(&mut self) -> Result<usize, Fault>
+        ensures ok { IfOk result (λ n. (self.old.rest.now ≡ to_le_bytes w32 n ++ self.new.rest.now) × (n < 2 ^ 32)) }
+        ensures err { IfErr result (λ fault. (fault ≡ Operand) × (length self.old.rest.now < 4)) }
+    {
+        let rest: &'p [u8] = self.rest;
+        match rest {
+            [a, b, c, d, after @ ..] => {
+                self.rest = after;
+                Ok(u32::from_le_bytes([*a, *b, *c, *d]) as usize)
+            }
+            _ => Err(Fault::Operand),
+        }
+    }
+
+    /// The number that comes next, in eight bytes, the lowest first.
+    #[inline(always)]
+    fn number(&mut self) -> Result<usize, Fault>
+        ensures ok { IfOk result (λ n. (self.old.rest.now ≡ number n ++ self.new.rest.now) × (n < 2 ^ 64)) }
+        ensures err { IfErr result (λ fault. (fault ≡ Operand) × (length self.old.rest.now < 8)) }
+    {
+        let rest: &'p [u8] = self.rest;
+        match rest {
+            [a, b, c, d, e, f, g, h, after @ ..] => {
+                self.rest = after;
+                Ok(usize::from_le_bytes([*a, *b, *c, *d, *e, *f, *g, *h]))
+            }
+            _ => Err(Fault::Operand),
+        }
+    }
+
+    /// The text that comes next, after its length in bytes.
+    #[inline(always)]
+    fn text(&mut self) -> Result<&'p str, Fault>
+        ensures ok { IfOk result (λ s. (self.old.rest.now ≡ sized s.now ++ self.new.rest.now)
+            × (length s.now < 2 ^ 32) × IsUtf8 s.now) }
+        ensures err { IfErr result (λ fault. IsTextFault fault self.old.rest.now) }
+    {
+        let length = self.length()?;
+        let rest: &'p [u8] = self.rest;
+        if length > rest.len() {
+            return Err(Fault::Operand);
+        }
+        let (bytes, after) = rest.split_at(length);
+        self.rest = after;
+        match from_utf8(bytes) {
+            Ok(text) => Ok(text),
+            Err(_) => Err(Fault::Text),
+        }
+    }
+
+    /// An operation with the operands that come next.
+    #[inline(always)]
+    #[tactic(auto, using(crate::proofs::Operands::text_stops, crate::proofs::Operands::counted_stops))]
+    fn operands(&mut self, operation: Operation) -> Result<Instruction<'p>, Fault>
+        ensures ok { IfOk result (λ i. (code_of operation ∷ self.old.rest.now ≡ written (instruction_of i) ++ self.new.rest.now)
+            × IsWritable (instruction_of i)) }
+        ensures err { IfErr result (λ fault. (items : List Item) → Stops fault (code_of operation ∷ self.old.rest.now) items) }
+    {
+        match operation {
+            Operation::Leaf(leaf) => Ok(Instruction::Leaf(leaf)),
+            Operation::Words(words) => Ok(Instruction::Words(words, self.text()?)),
+            Operation::Counted => {
+                let columns = self.number()?;
+                Ok(Instruction::Counted(columns, self.text()?))
+            }
+            Operation::Wrap(wrapper) => Ok(Instruction::Wrap(wrapper)),
+            Operation::Nest => Ok(Instruction::Nest(self.number()?.cast_signed())),
+            Operation::Join(join) => Ok(Instruction::Join(join)),
+            Operation::Choose(choice) => Ok(Instruction::Choose(choice, self.number()?)),
+            Operation::Open => Ok(Instruction::Open),
+            Operation::Close => Ok(Instruction::Close),
+        }
+    }
+
+    /// The instruction that comes next, if the program goes on.
+    #[inline(always)]
+    pub fn next(&mut self) -> Result<Option<Instruction<'p>>, Fault>
+        ensures ok { IfOk result (λ next. MatchOption next (self.old.rest.now ≡ [])
+            (λ i. (self.old.rest.now ≡ written (instruction_of i) ++ self.new.rest.now) × IsWritable (instruction_of i))) }
+        ensures err { IfErr result (λ fault. (items : List Item) → Stops fault self.old.rest.now items) }
+    {
+        let Some(code) = self.byte() else {
+            return Ok(None);
+        };
+        let Some(operation) = operation_of(code) else {
+            return Err(Fault::Instruction);
+        };
+        Ok(Some(self.operands(operation)?))
+    }
+}

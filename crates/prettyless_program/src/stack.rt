@@ -1,0 +1,82 @@
+//! What was made so far.
+ghost use Rattle.std.specs.Prelude.{◌≡◌, ◌∷◌, [], ◌<◌, length, IfOk, IfErr, IfSome, IfNone, OnSome};
+ghost use Rattle.prettyless_program.specs.Faults.{HasNoDocument};
+ghost use Rattle.prettyless_program.specs.Made.{item_of, items_of};
+ghost use Rattle.prettyless_program.specs.Programs as programs;
+ghost use Rattle.prettyless_program.specs.Programs.{gathered};
+ghost use Rattle.prettyless_program.specs.declared.fault.Fault.TheVariants.{Document as NoDocument, Memory};
+
+use crate::fault::Fault;
+use prettyless_doc::{Doc, DocPlace, DocPtr};
+
+/// A document, or where a sequence was opened.
+#[derive(Drop)]
+pub enum Entry<T> {
+    Document(T),
+    Opened,
+}
+
+/// What comes of the last entries: the documents one after the other, and whether a sequence was opened before them.
+#[derive(Drop)]
+pub struct Gathered<T> {
+    pub document: T,
+    pub opened: bool,
+}
+
+/// Takes the last entry.
+#[inline(always)]
+#[tactic(auto, using(crate::proofs::Items::items_of_push))]
+fn take<'a, T: DocPtr<'a>>(entries: &mut Vec<Entry<T>>) -> Option<Entry<T>>
+    ensures some { IfSome result (λ e. items_of T.tree entries.old.items ≡ item_of T.tree e ∷ items_of T.tree entries.new.items) }
+    ensures none { IfNone result ((items_of T.tree entries.old.items ≡ []) × (items_of T.tree entries.new.items ≡ [])) }
+    ensures fewer { OnSome result (length entries.new.items < length entries.old.items) }
+{
+    entries.pop()
+}
+
+/// Takes the last document of the innermost open sequence.
+#[inline(always)]
+pub fn pop<'a, T: DocPtr<'a>>(entries: &mut Vec<Entry<T>>) -> Result<T, Fault>
+    ensures ok { IfOk result (λ d. items_of T.tree entries.old.items ≡ programs.Document (T.tree d) ∷ items_of T.tree entries.new.items) }
+    ensures err { IfErr result (λ fault. (fault ≡ NoDocument) × HasNoDocument (items_of T.tree entries.old.items)) }
+{
+    match take(entries) {
+        Some(Entry::Document(document)) => Ok(document),
+        _ => Err(Fault::Document),
+    }
+}
+
+/// Takes the documents of the innermost open sequence, one after the other, and what opened it.
+pub fn gather<'a, D: DocPlace<'a>>(
+    place: &'a D,
+    entries: &mut Vec<Entry<D::Doc>>,
+) -> Result<Gathered<D::Doc>, Fault>
+    ensures ok { IfOk result (λ all. gathered (items_of D.Doc.tree entries.old.items)
+        ≡ record { tree = D.Doc.tree all.document; opened = all.opened; rest = items_of D.Doc.tree entries.new.items }) }
+    ensures err { IfErr result (λ fault. fault ≡ Memory) }
+{
+    let mut document = match take(entries) {
+        Some(Entry::Document(document)) => document,
+        Some(Entry::Opened) => return Ok(Gathered {
+            document: place.alloc(Doc::Nil)?,
+            opened: true,
+        }),
+        None => return Ok(Gathered {
+            document: place.alloc(Doc::Nil)?,
+            opened: false,
+        }),
+    };
+    loop {
+        match take(entries) {
+            Some(Entry::Document(before)) => document = place.alloc(Doc::Append(before, document))?,
+            Some(Entry::Opened) => return Ok(Gathered {
+                document,
+                opened: true,
+            }),
+            None => return Ok(Gathered {
+                document,
+                opened: false,
+            }),
+        }
+    }
+}
