@@ -1,0 +1,123 @@
+"""Packs the package and the library into a wheel, by the standard library alone.
+
+    python3 make_wheel.py [FOLDER]
+
+The wheel is put into the folder, which is `dist` beside this file where it is not given. The environment variable
+PRETTYLESS may name the library; else it is the one at `../out`. The same files give the same bytes.
+"""
+
+import base64
+import hashlib
+import os
+import re
+import sys
+import zipfile
+
+HERE = os.path.dirname(os.path.abspath(__file__))
+REPOSITORY = os.path.dirname(os.path.dirname(HERE))
+NAME = "yezhgulo"
+SUMMARY = "A pretty printer whose layouts are proved"
+LIBRARY = "libprettyless.so"
+# The time of each file in the wheel: the first that a zip archive can have.
+EPOCH = (1980, 1, 1, 0, 0, 0)
+# The C library of manylinux2014 is 2.17.
+NEWEST_GLIBC = 17
+
+
+def read(*path):
+    with open(os.path.join(*path), "rb") as file:
+        return file.read()
+
+
+def library():
+    """The bytes of the library."""
+    return read(os.environ.get("PRETTYLESS") or os.path.join(os.path.dirname(HERE), "out", LIBRARY))
+
+
+def tag(code):
+    """The tag of a wheel with this library, which has to be one for x86-64."""
+    if code[:6] != b"\x7fELF\x02\x01" or code[18:20] != b"\x3e\x00":
+        raise SystemExit("the library is not one for Linux on x86-64")
+    needs = [int(minor) for minor in re.findall(rb"GLIBC_2\.(\d+)", code)]
+    platform = "manylinux2014_x86_64" if max(needs, default=0) <= NEWEST_GLIBC else "linux_x86_64"
+    return f"py3-none-{platform}"
+
+
+def version():
+    """The version that the package names."""
+    return re.search(r'__version__ = "([^"]+)"', read(HERE, NAME, "__init__.py").decode()).group(1)
+
+
+def metadata():
+    """What the wheel is, and the page of the package."""
+    fields = [
+        "Metadata-Version: 2.1",
+        f"Name: {NAME}",
+        f"Version: {version()}",
+        f"Summary: {SUMMARY}",
+        "License: MIT",
+        "License-File: LICENSE",
+        "License-File: NOTICE",
+        "Classifier: License :: OSI Approved :: MIT License",
+        "Classifier: Operating System :: POSIX :: Linux",
+        "Classifier: Programming Language :: Python :: 3",
+        "Classifier: Typing :: Typed",
+        "Requires-Python: >=3.8",
+        "Description-Content-Type: text/markdown",
+    ]
+    return "\n".join(fields).encode() + b"\n\n" + read(HERE, "README.md")
+
+
+def package():
+    """The files of the package, by the names that they have in the wheel, but for the library."""
+    names = sorted(os.listdir(os.path.join(HERE, NAME)))
+    kept = [name for name in names if name.endswith(".py") or name == "py.typed"]
+    return {f"{NAME}/{name}": read(HERE, NAME, name) for name in kept}
+
+
+def about(info, wheel_tag):
+    """The files that say what the wheel is."""
+    wheel = f"Wheel-Version: 1.0\nGenerator: make_wheel\nRoot-Is-Purelib: false\nTag: {wheel_tag}\n"
+    return {
+        f"{info}/LICENSE": read(REPOSITORY, "LICENSE"),
+        f"{info}/METADATA": metadata(),
+        f"{info}/NOTICE": read(REPOSITORY, "NOTICE"),
+        f"{info}/WHEEL": wheel.encode(),
+    }
+
+
+def record(files, name):
+    """The line of each file, with its hash and its length, and of the record itself."""
+    lines = []
+    for path, content in files.items():
+        digest = base64.urlsafe_b64encode(hashlib.sha256(content).digest()).rstrip(b"=").decode()
+        lines.append(f"{path},sha256={digest},{len(content)}\n")
+    return "".join(lines + [f"{name},,\n"]).encode()
+
+
+def pack(path, files):
+    """Writes an archive of the files."""
+    with zipfile.ZipFile(path, "w") as archive:
+        for name, content in files.items():
+            entry = zipfile.ZipInfo(name, EPOCH)
+            entry.create_system = 3  # Unix, so that the next line is read as a mode.
+            entry.external_attr = (0o100755 if name.endswith(".so") else 0o100644) << 16
+            entry.compress_type = zipfile.ZIP_DEFLATED
+            archive.writestr(entry, content)
+
+
+def make(folder):
+    """Makes the wheel in a folder, and answers its path."""
+    code = library()
+    wheel_tag = tag(code)
+    info = f"{NAME}-{version()}.dist-info"
+    files = {**package(), f"{NAME}/{LIBRARY}": code, **about(info, wheel_tag)}
+    files[f"{info}/RECORD"] = record(files, f"{info}/RECORD")
+    os.makedirs(folder, exist_ok=True)
+    path = os.path.join(folder, f"{NAME}-{version()}-{wheel_tag}.whl")
+    pack(path, files)
+    return path
+
+
+if __name__ == "__main__":
+    print(make(sys.argv[1] if len(sys.argv) > 1 else os.path.join(HERE, "dist")))

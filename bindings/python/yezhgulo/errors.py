@@ -1,0 +1,98 @@
+"""What may go wrong. Each exception of this module is a `YezhguloError`.
+
+Memory that is refused is a `MemoryError`, and a text with a lone surrogate, which is no UTF-8, is a
+`UnicodeEncodeError`.
+"""
+
+from __future__ import annotations
+
+__all__ = ["JsonError", "LayoutError", "LimitError", "ProgramError", "YezhguloError"]
+
+_PROGRAM_FAULTS = {
+    16: "a byte begins no instruction",
+    17: "the bytes end inside an instruction",
+    18: "a text is not UTF-8",
+    19: "an instruction takes more documents than were made",
+    20: "a sequence is closed that was not opened",
+    21: "a sequence is open at the end",
+}
+
+
+class YezhguloError(Exception):
+    """What all exceptions of this package have in common."""
+
+
+class LayoutError(YezhguloError):
+    r"""The document has no layout: a `fail`, or a hard line or a payload under `flatten`, was to be laid.
+
+    `before` is the layout up to the node that fails.
+
+    >>> print(LayoutError("if x:\n    "))
+    the layout fails in line 2, after '    '
+    """
+
+    def __init__(self, before: str) -> None:
+        super().__init__(before)
+        self.before = before
+
+    def __str__(self) -> str:
+        line = self.before.count("\n") + 1
+        last = self.before[self.before.rfind("\n") + 1 :]
+        shown = last if len(last) <= 60 else "..." + last[-57:]
+        return f"the layout fails in line {line}, after {shown!r}"
+
+
+class LimitError(YezhguloError):
+    """The layout is longer than the limit, which is a number of bytes.
+
+    `limit` is that number. `before` is a beginning of the layout, of at most so many bytes.
+
+    >>> print(LimitError(4, "abcd"))
+    the layout is longer than 4 bytes
+    """
+
+    def __init__(self, limit: int, before: str) -> None:
+        super().__init__(limit, before)
+        self.limit = limit
+        self.before = before
+
+    def __str__(self) -> str:
+        return f"the layout is longer than {self.limit} bytes"
+
+
+class JsonError(YezhguloError, ValueError):
+    """The text is not JSON.
+
+    `line` and `column` say where, both from 1; a column is a character. `expected` is what was expected there.
+
+    >>> print(JsonError(2, 4, "`,` or `]`"))
+    line 2, column 4: expected `,` or `]`
+    """
+
+    def __init__(self, line: int, column: int, expected: str) -> None:
+        super().__init__(line, column, expected)
+        self.line = line
+        self.column = column
+        self.expected = expected
+
+    def __str__(self) -> str:
+        return f"line {self.line}, column {self.column}: expected {self.expected}"
+
+
+class ProgramError(YezhguloError):
+    """The library refused what this package handed it. That is a fault of the package, or of the library that was
+    found.
+
+    `status` is the number that the library answered.
+
+    >>> print(ProgramError(17))
+    status 17: the bytes end inside an instruction
+    """
+
+    def __init__(self, status: int) -> None:
+        super().__init__(status)
+        self.status = status
+
+    def __str__(self) -> str:
+        fault = _PROGRAM_FAULTS.get(self.status, "a status that this package does not know")
+        return f"status {self.status}: {fault}"

@@ -1,0 +1,191 @@
+//! The layout of JSON texts.
+
+use crate::area::{fill_or_take, text_of};
+use crate::sys::{self, Place};
+use std::error;
+use std::fmt;
+use std::num::NonZeroUsize;
+
+/// How a JSON text is laid out. The default is 80 columns, an indent of 2, lines that are not filled, and no limit.
+#[derive(Clone, Copy, Debug, PartialEq, Eq, Hash)]
+#[non_exhaustive]
+pub struct JsonStyle {
+    /// The width of a line, in columns.
+    pub width: usize,
+    /// How many columns the members of an object or an array are further in than its brackets.
+    pub indent: u32,
+    /// Whether an array of numbers alone fills its lines. Otherwise it has one line, or a line for each number.
+    pub fill: bool,
+    /// The greatest length of the layout in bytes, if there is one. A longer layout is a [`JsonError::PastLimit`].
+    pub limit: Option<NonZeroUsize>,
+}
+
+impl JsonStyle {
+    /// Lines of so many columns, an indent of 2, lines that are not filled, and no limit.
+    ///
+    /// ```
+    /// use yezhgulo::{format_json, JsonStyle};
+    ///
+    /// assert_eq!(format_json("[1,2]", &JsonStyle::new(6))?, "[1, 2]\n");
+    /// assert_eq!(format_json("[1,2]", &JsonStyle::new(5))?, "[\n  1,\n  2\n]\n");
+    /// # Ok::<(), yezhgulo::JsonError>(())
+    /// ```
+    #[must_use]
+    pub const fn new(width: usize) -> JsonStyle {
+        JsonStyle {
+            width,
+            indent: 2,
+            fill: false,
+            limit: None,
+        }
+    }
+
+    /// The same with an indent of so many columns for each level.
+    ///
+    /// ```
+    /// use yezhgulo::{format_json, JsonStyle};
+    ///
+    /// assert_eq!(format_json("[1,2]", &JsonStyle::new(0).with_indent(4))?, "[\n    1,\n    2\n]\n");
+    /// # Ok::<(), yezhgulo::JsonError>(())
+    /// ```
+    #[must_use]
+    pub const fn with_indent(mut self, indent: u32) -> JsonStyle {
+        self.indent = indent;
+        self
+    }
+
+    /// The same, where an array of numbers alone fills its lines, or not.
+    ///
+    /// ```
+    /// use yezhgulo::{format_json, JsonStyle};
+    ///
+    /// assert_eq!(format_json("[1,2,3]", &JsonStyle::new(7).with_fill(true))?, "[\n  1, 2,\n  3\n]\n");
+    /// # Ok::<(), yezhgulo::JsonError>(())
+    /// ```
+    #[must_use]
+    pub const fn with_fill(mut self, fill: bool) -> JsonStyle {
+        self.fill = fill;
+        self
+    }
+
+    /// The same with layouts of at most so many bytes; 0 is for no limit.
+    ///
+    /// ```
+    /// use yezhgulo::{format_json, JsonError, JsonStyle};
+    ///
+    /// let result = format_json("[1,2]", &JsonStyle::new(80).with_limit(6));
+    /// assert_eq!(result, Err(JsonError::PastLimit));
+    /// ```
+    #[must_use]
+    pub const fn with_limit(mut self, limit: usize) -> JsonStyle {
+        self.limit = NonZeroUsize::new(limit);
+        self
+    }
+}
+
+impl Default for JsonStyle {
+    fn default() -> JsonStyle {
+        JsonStyle::new(80)
+    }
+}
+
+/// Why a JSON text was not laid out.
+///
+/// ```
+/// use yezhgulo::{format_json, JsonError, JsonStyle};
+///
+/// let error = format_json("{\n  \"a\" 1}", &JsonStyle::default()).unwrap_err();
+/// assert_eq!(error.to_string(), "line 2, column 7: expected `:`");
+/// ```
+#[derive(Clone, Debug, PartialEq, Eq)]
+#[non_exhaustive]
+pub enum JsonError {
+    /// The text is not JSON, or is more than 128 levels deep.
+    NotJson {
+        /// The line where it stops being JSON, from 1.
+        line: usize,
+        /// The column there, from 1, in characters.
+        column: usize,
+        /// What was expected there. A limit of the style that is shorter than this cuts it off.
+        expected: String,
+    },
+    /// The layout is longer than the limit of the style.
+    PastLimit,
+    /// Memory was refused.
+    OutOfMemory,
+    /// The library gave a status that this crate does not know.
+    Unknown {
+        /// The status.
+        status: u32,
+    },
+}
+
+impl JsonError {
+    /// The error of a status that is not 0.
+    fn of(status: u32, written: &[u8], place: Place) -> JsonError {
+        match status {
+            sys::NOT_JSON => JsonError::NotJson {
+                line: place.line,
+                column: place.column,
+                expected: String::from_utf8_lossy(written).into_owned(),
+            },
+            sys::PAST_LIMIT => JsonError::PastLimit,
+            sys::MEMORY => JsonError::OutOfMemory,
+            status => JsonError::Unknown { status },
+        }
+    }
+}
+
+impl fmt::Display for JsonError {
+    fn fmt(&self, f: &mut fmt::Formatter<'_>) -> fmt::Result {
+        match self {
+            JsonError::NotJson { line, column, expected } => {
+                write!(f, "line {line}, column {column}: expected {expected}")
+            }
+            JsonError::PastLimit => f.write_str("the layout is longer than its limit"),
+            JsonError::OutOfMemory => f.write_str("memory was refused"),
+            JsonError::Unknown { status } => write!(f, "the library gave the unknown status {status}"),
+        }
+    }
+}
+
+impl error::Error for JsonError {}
+
+/// The room that a layout of a text of so many bytes gets at first. What was expected fits in it too.
+fn first_room(length: usize, style: &JsonStyle) -> usize {
+    let limit = style.limit.map_or(usize::MAX, NonZeroUsize::get);
+    length.saturating_mul(2).min(limit).max(256)
+}
+
+/// The layout of a JSON text, which ends in a line feed.
+///
+/// Each lexeme stays as it is spelled. The text may be bytes: bytes that are not UTF-8 are not JSON.
+///
+/// # Errors
+///
+/// [`JsonError::NotJson`] where the text is not JSON (RFC 8259) or is more than 128 levels deep,
+/// [`JsonError::PastLimit`] where the layout is longer than the limit, [`JsonError::OutOfMemory`] where memory is
+/// refused.
+///
+/// ```
+/// use yezhgulo::{format_json, JsonError, JsonStyle};
+///
+/// let style = JsonStyle::new(12);
+/// assert_eq!(format_json(r#"{"a":[1,2]}"#, &style)?, "{\n  \"a\": [\n    1,\n    2\n  ]\n}\n");
+///
+/// let error = format_json("[1,", &style).unwrap_err();
+/// assert_eq!(error, JsonError::NotJson { line: 1, column: 4, expected: "a value".to_string() });
+/// # Ok::<(), JsonError>(())
+/// ```
+pub fn format_json(text: impl AsRef<[u8]>, style: &JsonStyle) -> Result<String, JsonError> {
+    let text = text.as_ref();
+    let mut layout = Vec::new();
+    let mut place = Place::default();
+    fill_or_take(&mut layout, first_room(text.len(), style), |out| {
+        let (answer, at) = sys::json_layout(text, style, out);
+        place = at;
+        answer
+    })
+    .map_err(|(status, written)| JsonError::of(status, &written, place))?;
+    Ok(text_of(layout))
+}

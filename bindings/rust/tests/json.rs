@@ -1,0 +1,65 @@
+//! The layout of JSON texts.
+
+use yezhgulo::{format_json, JsonError, JsonStyle};
+
+const TEXT: &str = r#"{"name":"Ada","list":[1,22,333],"empty":{}}"#;
+
+fn refused(text: impl AsRef<[u8]>) -> (usize, usize, String) {
+    match format_json(text, &JsonStyle::default()) {
+        Err(JsonError::NotJson { line, column, expected }) => (line, column, expected),
+        other => panic!("{other:?}"),
+    }
+}
+
+#[test]
+fn a_text_is_laid_out_within_the_width() {
+    let layout = "{\n  \"name\": \"Ada\",\n  \"list\": [1, 22, 333],\n  \"empty\": {}\n}\n";
+    assert_eq!(format_json(TEXT, &JsonStyle::new(24)).as_deref(), Ok(layout));
+    let narrow = "[\n 1,\n 2\n]\n";
+    assert_eq!(
+        format_json("[1, 2]", &JsonStyle::new(5).with_indent(1)).as_deref(),
+        Ok(narrow)
+    );
+}
+
+#[test]
+fn the_default_style() {
+    assert_eq!(JsonStyle::default(), JsonStyle::new(80));
+    assert_eq!(format_json(" 1 ", &JsonStyle::default()).as_deref(), Ok("1\n"));
+}
+
+#[test]
+fn an_array_of_numbers_fills_its_lines() {
+    let style = JsonStyle::new(7).with_fill(true);
+    assert_eq!(format_json("[1,2,3]", &style).as_deref(), Ok("[\n  1, 2,\n  3\n]\n"));
+}
+
+#[test]
+fn a_layout_may_be_far_longer_than_its_text() {
+    let style = JsonStyle::new(0).with_indent(1000);
+    let layout = format_json("[[1]]", &style).unwrap();
+    let line = |level: usize, text: &str| format!("{}{text}\n", " ".repeat(1000 * level));
+    let lines = [line(0, "["), line(1, "["), line(2, "1"), line(1, "]"), line(0, "]")];
+    assert_eq!(layout, lines.concat());
+}
+
+#[test]
+fn the_place_where_a_text_stops_being_json() {
+    let expected = |line, column, what: &str| (line, column, what.to_string());
+    assert_eq!(refused(""), expected(1, 1, "a value"));
+    assert_eq!(refused("[1,"), expected(1, 4, "a value"));
+    assert_eq!(refused("[\n]]"), expected(2, 2, "the end of the text"));
+    assert_eq!(refused("[,"), expected(1, 2, "a value or `]`"));
+    assert_eq!(refused("{\"é\" 1}"), expected(1, 6, "`:`"));
+    assert_eq!(refused([b'"', 0xff, b'"']), expected(1, 2, "UTF-8"));
+    let deep = "[".repeat(129) + &"]".repeat(129);
+    assert_eq!(refused(deep), expected(1, 129, "at most 128 levels of nesting"));
+}
+
+#[test]
+fn a_layout_is_as_long_as_the_limit_at_most() {
+    let style = JsonStyle::new(80);
+    assert_eq!(format_json("[1,2]", &style.with_limit(7)).as_deref(), Ok("[1, 2]\n"));
+    assert_eq!(format_json("[1,2]", &style.with_limit(6)), Err(JsonError::PastLimit));
+    assert_eq!(JsonError::PastLimit.to_string(), "the layout is longer than its limit");
+}
