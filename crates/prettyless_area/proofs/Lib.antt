@@ -1,0 +1,3 @@
+mod Accounts
+pub mod Areas
+mod Overlaid

@@ -1,0 +1,7 @@
+//! A sink over an area of bytes that is lent to a call.
+#![tactic(auto)]
+
+pub mod area;
+pub mod history;
+#[cfg(test)]
+mod tests;

@@ -1,0 +1,2 @@
+mod Lays
+pub mod Numbered

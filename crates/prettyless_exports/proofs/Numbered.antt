@@ -1,0 +1,104 @@
+-- What the number of a status says.
+use Rattle.std.proofs.Common.{◌≡◌, refl, ◌≤◌, ◌<◌, ◌⊎◌, inl, inr, ℕ, min, List, [], ◌∷◌, ◌++◌, length, take, sym, ◌∙◌, ap, subst, arith}
+use Rattle.prettyless_area.specs.Overlay.{overlay}
+use Rattle.prettyless_model.specs.Layout.{bytes_in, layout}
+use Rattle.prettyless_model.specs.Tree.{Tree}
+use Rattle.prettyless_model.specs.declared.options.RenderOptions.{RenderOptions}
+use Rattle.prettyless_program.specs.Faults.{Refuses}
+use Rattle.prettyless_program.specs.Programs.{Writes}
+use Rattle.prettyless_program.specs.declared.fault.Fault.{Fault}
+use Rattle.prettyless_program.specs.declared.fault.Fault.TheVariants as fault
+use Rattle.prettyless_program.proofs.OneDocument.{at_most_one}
+use Rattle.prettyless_exports.specs.Answers.{Answers, BeginsLayout, Holds, IsCut, IsLaidOut, IsPast, IsRefused, IsUntouched}
+use Rattle.prettyless_exports.specs.Numbers.{number_of}
+use Rattle.prettyless_exports.specs.Says.{Says}
+use Rattle.prettyless_exports.specs.declared.status.Status.{Status}
+use Rattle.prettyless_exports.specs.declared.status.Status.TheVariants as status
+
+-- no bytes change no area
+no_bytes : (old : List ℕ) → old ≡ overlay [] old
+no_bytes [] = refl
+no_bytes (x ∷ xs) = refl
+
+module _ (o : RenderOptions) (limit : ℕ) (program old new : List ℕ) (written : ℕ) where
+  laid_out : (s : Status) → Says o limit program old new written s → number_of s ≡ 0 → (bytes : List ℕ) × IsLaidOut o program bytes × (length bytes ≤ length old) × Holds bytes old new written
+  laid_out status.LaidOut (d, w, (bytes, whole, content, fits, held)) e = (bytes, record { document = d; writes = w; layout = whole; content = content }, fits, held)
+  laid_out (status.Refused fault.Memory) h e = absurd (omega arith)
+  laid_out s h e = absurd (omega arith)
+
+  too_small : (s : Status) → Says o limit program old new written s → number_of s ≡ 1 → (bytes : List ℕ) × IsLaidOut o program bytes × (length old < length bytes) × (new ≡ overlay bytes old) × (written ≡ length bytes)
+  too_small status.TooSmall (d, w, (bytes, whole, content, short, held, count)) e = (bytes, record { document = d; writes = w; layout = whole; content = content }, short, held, count)
+  too_small (status.Refused fault.Memory) h e = absurd (omega arith)
+  too_small s h e = absurd (omega arith)
+
+  -- an area that is as it was holds the beginning of anything
+  nothing_held : IsUntouched old new written → Holds [] old new written
+  nothing_held u = record { in_place = u.0 ∙ no_bytes old; count = omega (arith, u.1) }
+
+  memory : (s : Status) → Says o limit program old new written s → number_of s ≡ 2 → (front : List ℕ) × BeginsLayout o program front × Holds front old new written
+  memory status.Memory (d, w, (front, (back, whole), held)) e =
+      (front, (λ d' w'. (back, subst (λ (x : Tree). bytes_in (layout o x) ≡ front ++ back) (at_most_one program d d' w w') whole)), held)
+  memory (status.Refused fault.Memory) h e = ([], (λ d w. (bytes_in (layout o d), refl)), nothing_held h.1)
+  memory s h e = absurd (omega arith)
+
+  fails : (s : Status) → Says o limit program old new written s → number_of s ≡ 3 → (bytes : List ℕ) × IsCut o program bytes × Holds bytes old new written
+  fails status.Fails (d, w, (bytes, cut, held)) e = (bytes, record { document = d; writes = w; layout = cut }, held)
+  fails (status.Refused fault.Memory) h e = absurd (omega arith)
+  fails s h e = absurd (omega arith)
+
+  past_limit : (s : Status) → Says o limit program old new written s → number_of s ≡ 4 → (bytes : List ℕ) × IsPast o limit program bytes × Holds (take limit bytes) old new written
+  past_limit status.PastLimit (d, w, (past, held)) e = (bytes_in (layout o d), record { document = d; writes = w; layout = refl; past = past }, held)
+  past_limit (status.Refused fault.Memory) h e = absurd (omega arith)
+  past_limit s h e = absurd (omega arith)
+
+  refused : (f : Fault) → ¬ (f ≡ fault.Memory) → Says o limit program old new written (status.Refused f) → IsRefused f program old new written
+  refused f other h = let r = h.0 other in record { has_fault = r.0; no_document = r.1; untouched = h.1 }
+
+  instruction : (s : Status) → Says o limit program old new written s → number_of s ≡ 16 → IsRefused fault.Instruction program old new written
+  instruction (status.Refused fault.Instruction) h e = refused fault.Instruction (λ x. absurd cc) h
+  instruction s h e = absurd (omega arith)
+
+  operand : (s : Status) → Says o limit program old new written s → number_of s ≡ 17 → IsRefused fault.Operand program old new written
+  operand (status.Refused fault.Operand) h e = refused fault.Operand (λ x. absurd cc) h
+  operand s h e = absurd (omega arith)
+
+  text : (s : Status) → Says o limit program old new written s → number_of s ≡ 18 → IsRefused fault.Text program old new written
+  text (status.Refused fault.Text) h e = refused fault.Text (λ x. absurd cc) h
+  text s h e = absurd (omega arith)
+
+  document : (s : Status) → Says o limit program old new written s → number_of s ≡ 19 → IsRefused fault.Document program old new written
+  document (status.Refused fault.Document) h e = refused fault.Document (λ x. absurd cc) h
+  document s h e = absurd (omega arith)
+
+  unopened : (s : Status) → Says o limit program old new written s → number_of s ≡ 20 → IsRefused fault.Unopened program old new written
+  unopened (status.Refused fault.Unopened) h e = refused fault.Unopened (λ x. absurd cc) h
+  unopened s h e = absurd (omega arith)
+
+  unclosed : (s : Status) → Says o limit program old new written s → number_of s ≡ 21 → IsRefused fault.Unclosed program old new written
+  unclosed (status.Refused fault.Unclosed) h e = refused fault.Unclosed (λ x. absurd cc) h
+  unclosed s h e = absurd (omega arith)
+
+  known : (s : Status) → (number_of s ≤ 4) ⊎ ((16 ≤ number_of s) × (number_of s ≤ 21))
+  known status.LaidOut = inl (omega arith)
+  known status.TooSmall = inl (omega arith)
+  known status.Memory = inl (omega arith)
+  known status.Fails = inl (omega arith)
+  known status.PastLimit = inl (omega arith)
+  known (status.Refused fault.Memory) = inl (omega arith)
+  known (status.Refused f) = inr (omega arith, omega arith)
+
+  pub answers : (s : Status) → Says o limit program old new written s → Answers o limit program old new written (number_of s)
+  answers s h = record {
+    laid_out = laid_out s h;
+    too_small = too_small s h;
+    memory = memory s h;
+    fails = fails s h;
+    past_limit = past_limit s h;
+    instruction = instruction s h;
+    operand = operand s h;
+    text = text s h;
+    document = document s h;
+    unopened = unopened s h;
+    unclosed = unclosed s h;
+    known = known s;
+  }

@@ -1,0 +1,96 @@
+-- What a call for the layout of a program answers, for each status.
+use Rattle.std.specs.Prelude.{◌≡◌, ◌≤◌, ◌<◌, ◌⊎◌, ◌-◌, ◌^◌, ◌==◌, ℕ, Bool, List, [], ◌++◌, length, min, take, if◌then◌else◌}
+use Rattle.prettyless_area.specs.Overlay.{overlay}
+use Rattle.prettyless_model.specs.Content.{HasContent}
+use Rattle.prettyless_model.specs.Layout.{Whole, Cut, bytes_in, layout}
+use Rattle.prettyless_model.specs.Tree.{Tree}
+use Rattle.prettyless_model.specs.declared.options.RenderOptions.{RenderOptions}
+use Rattle.prettyless_model.specs.declared.options.LineEnding.{LineEnding}
+use Rattle.prettyless_model.specs.declared.options.LineEnding.TheVariants.{Lf, Crlf}
+use Rattle.prettyless_model.specs.declared.options.IndentationPolicy.{IndentationPolicy}
+use Rattle.prettyless_model.specs.declared.options.IndentationPolicy.TheVariants.{Eager, Deferred}
+use Rattle.prettyless_program.specs.Programs.{Writes}
+use Rattle.prettyless_program.specs.Faults.{HasFault, WritesNone}
+use Rattle.prettyless_program.specs.declared.fault.Fault.{Fault}
+use Rattle.prettyless_program.specs.declared.fault.Fault.TheVariants as fault
+
+-- ---- what the words of a call mean
+
+-- the greatest length of a layout: 0 is none, and then that of all areas
+abbrev pub limit_of : ℕ → ℕ
+limit_of limit = if limit == 0 then 2 ^ 64 - 1 else limit
+
+abbrev pub ending_of : Bool → LineEnding
+ending_of crlf = if crlf then Crlf else Lf
+
+abbrev pub policy_of : Bool → IndentationPolicy
+policy_of deferred = if deferred then Deferred else Eager
+
+abbrev pub options_of : ℕ → Bool → Bool → RenderOptions
+options_of width crlf deferred = record { width = width; line_ending = ending_of crlf; indentation_policy = policy_of deferred }
+
+-- ---- what an area holds
+
+-- The area held `old` and holds `new`: these bytes from its start, as far as there is room, and past them what it held.
+-- So many of them are there.
+pub record Holds (bytes old new : List ℕ) (written : ℕ) : Type 0 where
+  pub in_place : new ≡ overlay bytes old
+  pub count : written ≡ min (length bytes) (length old)
+
+-- the area is as it was, and nothing is said to be in it
+abbrev pub IsUntouched : List ℕ → List ℕ → ℕ → Type 0
+IsUntouched old new written = (new ≡ old) × (written ≡ 0)
+
+-- ---- what each status says
+
+-- the program writes a document whose layout is whole: these bytes, which have its content
+pub record IsLaidOut (o : RenderOptions) (program bytes : List ℕ) : Type 0 where
+  pub document : Tree
+  pub writes : Writes program document
+  pub layout : layout o document ≡ Whole bytes
+  pub content : HasContent document bytes
+
+-- the program writes a document whose layout fails after these bytes
+pub record IsCut (o : RenderOptions) (program bytes : List ℕ) : Type 0 where
+  pub document : Tree
+  pub writes : Writes program document
+  pub layout : layout o document ≡ Cut bytes
+
+-- the program writes a document whose layout is longer than the limit
+pub record IsPast (o : RenderOptions) (limit : ℕ) (program bytes : List ℕ) : Type 0 where
+  pub document : Tree
+  pub writes : Writes program document
+  pub layout : bytes_in (layout o document) ≡ bytes
+  pub past : limit < length bytes
+
+-- if the program writes a document, these bytes are a beginning of its layout's
+abbrev pub BeginsLayout : RenderOptions → List ℕ → List ℕ → Type 0
+BeginsLayout o program front = (d : Tree) → Writes program d → (back : List ℕ) × (bytes_in (layout o d) ≡ front ++ back)
+
+-- the program has this fault and writes no document, and the area is as it was
+pub record IsRefused (fault : Fault) (program old new : List ℕ) (written : ℕ) : Type 0 where
+  pub has_fault : HasFault fault program
+  pub no_document : WritesNone program
+  pub untouched : IsUntouched old new written
+
+-- The answer to a program, for an area that held `old` and holds `new`.
+pub record Answers (o : RenderOptions) (limit : ℕ) (program old new : List ℕ) (written status : ℕ) : Type 0 where
+  -- the layout is in the area: it has `written` bytes
+  pub laid_out : status ≡ 0 → (bytes : List ℕ) × IsLaidOut o program bytes × (length bytes ≤ length old) × Holds bytes old new written
+  -- the layout has `written` bytes, more than the area, which holds its beginning
+  pub too_small : status ≡ 1 → (bytes : List ℕ) × IsLaidOut o program bytes × (length old < length bytes) × (new ≡ overlay bytes old) × (written ≡ length bytes)
+  -- memory was refused, and a beginning of the layout is in the area
+  pub memory : status ≡ 2 → (front : List ℕ) × BeginsLayout o program front × Holds front old new written
+  -- the layout fails, and the bytes before the node that fails are in the area
+  pub fails : status ≡ 3 → (bytes : List ℕ) × IsCut o program bytes × Holds bytes old new written
+  -- the layout is longer than the limit, and what is within the limit is in the area
+  pub past_limit : status ≡ 4 → (bytes : List ℕ) × IsPast o limit program bytes × Holds (take limit bytes) old new written
+  -- the bytes write no document, and which way
+  pub instruction : status ≡ 16 → IsRefused fault.Instruction program old new written
+  pub operand : status ≡ 17 → IsRefused fault.Operand program old new written
+  pub text : status ≡ 18 → IsRefused fault.Text program old new written
+  pub document : status ≡ 19 → IsRefused fault.Document program old new written
+  pub unopened : status ≡ 20 → IsRefused fault.Unopened program old new written
+  pub unclosed : status ≡ 21 → IsRefused fault.Unclosed program old new written
+  -- there is no other status
+  pub known : (status ≤ 4) ⊎ ((16 ≤ status) × (status ≤ 21))

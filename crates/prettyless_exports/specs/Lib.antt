@@ -1,0 +1,7 @@
+pub mod Answers
+pub mod Laid
+pub mod Numbers
+pub mod Says
+pub use Rattle.prettyless_area.specs.Overlay
+pub use Rattle.prettyless_program.specs.Programs
+pub use Rattle.prettyless_program.specs.Faults

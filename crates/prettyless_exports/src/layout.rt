@@ -1,0 +1,125 @@
+//! The layout of a document that a program writes, into an area of bytes.
+ghost use Rattle.std.specs.Prelude.{◌≡◌};
+ghost use Rattle.prettyless_exports.specs.Answers.{Answers, limit_of, options_of};
+ghost use Rattle.prettyless_exports.specs.Says.{Says, SaysOf};
+
+use crate::lay::lay_into;
+use crate::status::Status;
+use bumpalo::Bump;
+use prettyless_doc::{DocPlace, DocPtr};
+use prettyless_model::options::{IndentationPolicy, LineEnding, RenderOptions};
+use prettyless_pointers::Arena;
+use prettyless_program::decode;
+use prettyless_sink::error::RenderError;
+use std::alloc::Global;
+
+/// Lays out a document.
+fn laid<'a, T: DocPtr<'a>>(
+    document: &T,
+    alloc: Global,
+    options: RenderOptions,
+    limit: usize,
+    out: &mut [u8],
+    written: &mut usize,
+) -> Status
+    ensures { SaysOf options limit (T.tree document.now) out.old out.new written.new result }
+{
+    let capacity = out.len();
+    let mut count = 0;
+    let answer = lay_into(document.doc(), alloc, options, limit, out, &mut count);
+    *written = count.min(capacity);
+    match answer {
+        Ok(()) if count <= capacity => Status::LaidOut,
+        Ok(()) => {
+            *written = count;
+            Status::TooSmall
+        }
+        Err(RenderError::Document(_)) => Status::Fails,
+        Err(RenderError::Sink(_)) => Status::PastLimit,
+        Err(RenderError::Memory(_)) => Status::Memory,
+    }
+}
+
+/// Lays out the document of a program, with its nodes in this place.
+fn laid_in<'a, D: DocPlace<'a>>(
+    place: &'a D,
+    program: &'a [u8],
+    options: RenderOptions,
+    limit: usize,
+    out: &mut [u8],
+    written: &mut usize,
+) -> Status
+    ensures { Says options limit program.now out.old out.new written.new result }
+{
+    match decode(place, program) {
+        Ok(document) => laid(&document, place.memory(), options, limit, out, written),
+        Err(fault) => {
+            *written = 0;
+            Status::Refused(fault)
+        }
+    }
+}
+
+/// The same. The memory of its nodes is given back.
+fn laid_out(
+    alloc: Global,
+    program: &[u8],
+    options: RenderOptions,
+    limit: usize,
+    out: &mut [u8],
+    written: &mut usize,
+) -> Status
+    ensures { Says options limit program.now out.old out.new written.new result }
+{
+    let bump = Bump::new(alloc);
+    let place = Arena::new(alloc, &bump);
+    laid_in(&place, program, options, limit, out, written)
+}
+
+/// How a caller in another language writes options.
+fn options_from(width: usize, crlf: bool, deferred: bool) -> RenderOptions
+    ensures { result ≡ options_of width crlf deferred }
+{
+    let line_ending = if crlf {
+        LineEnding::Crlf
+    } else {
+        LineEnding::Lf
+    };
+    let indentation_policy = if deferred {
+        IndentationPolicy::Deferred
+    } else {
+        IndentationPolicy::Eager
+    };
+    RenderOptions {
+        width,
+        line_ending,
+        indentation_policy,
+    }
+}
+
+/// The greatest length that this limit allows: 0 is no limit.
+pub fn limit_from(limit: usize) -> usize
+    ensures { result ≡ limit_of limit }
+{
+    if limit == 0 { usize::MAX } else { limit }
+}
+
+/// Lays out the document that a program writes into an area of bytes, at a width in columns.
+///
+/// The layout is made once, and straight into the area. `limit` is the greatest length of the layout in bytes, or 0 for
+/// none. The answer is a status: it says what `out` and `written` are.
+pub fn program_layout(
+    alloc: Global,
+    program: &[u8],
+    width: usize,
+    crlf: bool,
+    deferred: bool,
+    limit: usize,
+    out: &mut [u8],
+    written: &mut usize,
+) -> u32
+    ensures { Answers (options_of width crlf deferred) (limit_of limit) program.now out.old out.new written.new result }
+{
+    let options = options_from(width, crlf, deferred);
+    laid_out(alloc, program, options, limit_from(limit), out, written).number()
+}
