@@ -1,8 +1,11 @@
 //! The calls for other languages, under the names that the header `bindings/c/prettyless.h` declares.
 #![tactic(auto)]
 
+ghost use Rattle.json_exports.specs.Answers as json;
+ghost use Rattle.json_exports.specs.Answers.{style_of};
 ghost use Rattle.prettyless_exports.specs.Answers.{Answers, limit_of, options_of};
 
+use json_exports::layout::json_layout;
 use prettyless_exports::layout::program_layout;
 use std::alloc::Global;
 
@@ -24,4 +27,28 @@ pub extern "C" fn prettyless_layout(
     ensures { Answers (options_of width crlf deferred) (limit_of limit) program.now out.old out.new written.new result }
 {
     program_layout(alloc, program, width, crlf, deferred, limit, out, written)
+}
+
+/// Lays out a JSON text into `out`, at a width and with an indent for each level, both in columns.
+///
+/// The answer is the number of a status, which says what `out` and `written` are, and of bytes that are no JSON text where
+/// that is seen. `limit` is the greatest length of the layout in bytes, or 0 for none.
+#[unsafe(no_mangle)]
+pub extern "C" fn prettyless_json_layout(
+    alloc: Global,
+    text: &[u8],
+    width: usize,
+    indent: u32,
+    fill: bool,
+    limit: usize,
+    out: &mut [u8],
+    written: &mut usize,
+    line: &mut usize,
+    column: &mut usize,
+) -> u32
+    ensures { json.Answers (style_of width indent fill) (limit_of limit) text.now out.old out.new written.new line.new column.new result }
+{
+    json_layout(
+        alloc, text, width, indent, fill, limit, out, written, line, column,
+    )
 }
