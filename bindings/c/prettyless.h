@@ -153,8 +153,8 @@ enum pl_op {
    width      the width of lines in columns
    crlf       lines end in CR LF, else in LF
    deferred   an indent is written before the first text of its line, else at once, on empty lines too
-   limit      the greatest length of the layout in bytes, 0 for none; it bounds the time too, since a few bytes of
-              program can ask for a very long layout
+   limit      the greatest length of the layout in bytes, 0 for none; give one where a program comes from someone
+              else, since a few bytes of program can ask for a very long layout
    out        gets the layout, at most `capacity` bytes; no 0 is put after it
    *written   says how many bytes: of the whole layout after PL_TOO_SMALL, else those in `out`
 

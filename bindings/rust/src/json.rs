@@ -106,7 +106,7 @@ pub enum JsonError {
         line: usize,
         /// The column there, from 1, in characters.
         column: usize,
-        /// What was expected there. A limit of the style that is shorter than this cuts it off.
+        /// What was expected there.
         expected: String,
     },
     /// The layout is longer than the limit of the style.

@@ -44,6 +44,7 @@ depths = 1000 ∷ 10000 ∷ 100000 ∷ []
 
 -- the sizes at which it is timed
 abbrev pub full_sizes_of : Workload → List ℕ
+full_sizes_of w.Tree = 100000 ∷ (1000000 ∷ [])
 full_sizes_of w.Json = 80000 ∷ []
 full_sizes_of w.TextGroups = depths
 full_sizes_of w.BareGroups = depths

@@ -107,6 +107,7 @@ impl Workload {
         ensures { result.now ≡ names.full_sizes_of self }
     {
         match self {
+            Workload::Tree => &[100_000, 1_000_000],
             Workload::Json => &[80_000],
             Workload::RealJson => &[200],
             Workload::TextGroups
