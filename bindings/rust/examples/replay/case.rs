@@ -198,12 +198,10 @@ pub fn answer(line: &[u8]) -> Option<String> {
     if matches!(line, [] | [b'#', ..]) {
         return None;
     }
-    let Some((options, doc)) = case(line) else {
-        return Some("error".to_string());
-    };
-    Some(match doc.layout(&options) {
-        Ok(layout) => format!("ok {}", hexadecimal(layout.as_bytes())),
-        Err(Error::Fails { written }) => format!("fail {}", hexadecimal(&written)),
-        Err(error) => format!("error {error}"),
+    Some(match case(line).map(|(options, doc)| doc.layout(&options)) {
+        None => "error".to_string(),
+        Some(Ok(layout)) => format!("ok {}", hexadecimal(layout.as_bytes())),
+        Some(Err(Error::Fails { written })) => format!("fail {}", hexadecimal(&written)),
+        Some(Err(error)) => format!("error {error}"),
     })
 }
