@@ -1,5 +1,5 @@
 -- The name of what was expected, in an area.
-use Rattle.std.proofs.Common.{◌≡◌, ℕ, ◌<◌, ◌^◌, ◌-◌, min, List, length, ap, arith, Result, Ok, Err, OnOk, OnErr}
+use Rattle.std.proofs.Common.{ℕ, ◌<◌, ◌^◌, ◌-◌, min, List, length, ap, arith, Result, Ok, Err, OnOk, OnErr}
 use Rattle.jsonfmt_request.specs.Expected.{name_of}
 use Rattle.jsonfmt_request.specs.declared.expected.Expected.{Expected}
 use Rattle.jsonfmt_request.specs.declared.expected.Expected.TheVariants.{Utf8, Value, ValueOrBracket, Key, KeyOrBrace, Colon, CommaOrBracket, CommaOrBrace, End, Quote, Escapes, LessNesting}

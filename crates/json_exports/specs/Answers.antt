@@ -1,5 +1,5 @@
 -- What a call for the layout of a JSON text answers, for each status.
-use Rattle.std.specs.Prelude.{◌≡◌, ◌≤◌, ◌<◌, ◌⊎◌, ℕ, Bool, List, length, take, Option, None}
+use Rattle.std.specs.Prelude.{◌≡◌, ◌≤◌, ◌<◌, ◌⊎◌, ℕ, Bool, List, length, take, None}
 use Rattle.std.specs.Str.{IsUtf8}
 use Rattle.json.specs.Json.{document}
 use Rattle.json_formatter.specs.Formats.{IsFormatted}
@@ -11,6 +11,7 @@ use Rattle.jsonfmt_request.specs.declared.expected.Expected.TheVariants.{Utf8}
 use Rattle.prettyless_area.specs.Overlay.{overlay}
 use Rattle.prettyless_exports.specs.Answers.{Holds, IsUntouched}
 
+-- the style that a caller asks for
 abbrev pub style_of : ℕ → ℕ → Bool → Style
 style_of width indent fill = record { width = width; indent = indent; fill = fill }
 
@@ -30,9 +31,9 @@ pub record IsFault (text old new : List ℕ) (written line column : ℕ) : Type 
 -- The answer to a text, for an area that held `old` and holds `new`.
 pub record Answers (style : Style) (limit : ℕ) (text old new : List ℕ) (written line column status : ℕ) : Type 0 where
   -- the layout is in the area: it has `written` bytes
-  pub laid_out : status ≡ 0 → (bytes : List ℕ) × IsFormatted style text bytes × (length bytes ≤ length old) × Holds bytes old new written
+  pub laid_out : status ≡ 0 → (bytes : List ℕ) × IsFormatted style text bytes × (length bytes ≤ limit) × (length bytes ≤ length old) × Holds bytes old new written
   -- the layout has `written` bytes, more than the area, which holds its beginning
-  pub too_small : status ≡ 1 → (bytes : List ℕ) × IsFormatted style text bytes × (length old < length bytes) × (new ≡ overlay bytes old) × (written ≡ length bytes)
+  pub too_small : status ≡ 1 → (bytes : List ℕ) × IsFormatted style text bytes × (length bytes ≤ limit) × (length old < length bytes) × (new ≡ overlay bytes old) × (written ≡ length bytes)
   -- memory was refused, and the area is as it was
   pub memory : status ≡ 2 → IsUntouched old new written
   -- the layout is longer than the limit, and what is within the limit is in the area

@@ -10,8 +10,8 @@ use Rattle.json_exports.specs.declared.status.Status.TheVariants as status
 
 -- what a status says of bytes that were put into an area
 abbrev pub IsPut : ℕ → List ℕ → List ℕ → List ℕ → ℕ → Status → Type 0
-IsPut limit bytes old new written status.LaidOut = (length bytes ≤ length old) × Holds bytes old new written
-IsPut limit bytes old new written status.TooSmall = (length old < length bytes) × (new ≡ overlay bytes old) × (written ≡ length bytes)
+IsPut limit bytes old new written status.LaidOut = (length bytes ≤ limit) × (length bytes ≤ length old) × Holds bytes old new written
+IsPut limit bytes old new written status.TooSmall = (length bytes ≤ limit) × (length old < length bytes) × (new ≡ overlay bytes old) × (written ≡ length bytes)
 IsPut limit bytes old new written status.PastLimit = (limit < length bytes) × Holds (take limit bytes) old new written
 IsPut limit bytes old new written s = ⊥
 

@@ -1,11 +1,9 @@
 -- What the number of a status says.
-use Rattle.std.proofs.Common.{◌≡◌, refl, ◌≤◌, ◌<◌, ◌⊎◌, inl, inr, ℕ, min, List, [], ◌∷◌, ◌++◌, length, take, sym, ◌∙◌, ap, subst, arith}
+use Rattle.std.proofs.Common.{◌≡◌, refl, ◌≤◌, ◌<◌, ◌⊎◌, inl, inr, ℕ, List, [], ◌∷◌, ◌++◌, length, take, ◌∙◌, subst, arith}
 use Rattle.prettyless_area.specs.Overlay.{overlay}
 use Rattle.prettyless_model.specs.Layout.{bytes_in, layout}
 use Rattle.prettyless_model.specs.Tree.{Tree}
 use Rattle.prettyless_model.specs.declared.options.RenderOptions.{RenderOptions}
-use Rattle.prettyless_program.specs.Faults.{Refuses}
-use Rattle.prettyless_program.specs.Programs.{Writes}
 use Rattle.prettyless_program.specs.declared.fault.Fault.{Fault}
 use Rattle.prettyless_program.specs.declared.fault.Fault.TheVariants as fault
 use Rattle.prettyless_program.proofs.OneDocument.{at_most_one}
@@ -21,13 +19,13 @@ no_bytes [] = refl
 no_bytes (x ∷ xs) = refl
 
 module _ (o : RenderOptions) (limit : ℕ) (program old new : List ℕ) (written : ℕ) where
-  laid_out : (s : Status) → Says o limit program old new written s → number_of s ≡ 0 → (bytes : List ℕ) × IsLaidOut o program bytes × (length bytes ≤ length old) × Holds bytes old new written
-  laid_out status.LaidOut (d, w, (bytes, whole, content, fits, held)) e = (bytes, record { document = d; writes = w; layout = whole; content = content }, fits, held)
+  laid_out : (s : Status) → Says o limit program old new written s → number_of s ≡ 0 → (bytes : List ℕ) × IsLaidOut o limit program bytes × (length bytes ≤ length old) × Holds bytes old new written
+  laid_out status.LaidOut (d, w, (bytes, whole, content, within, fits, held)) e = (bytes, record { document = d; writes = w; layout = whole; content = content; within = within }, fits, held)
   laid_out (status.Refused fault.Memory) h e = absurd (omega arith)
   laid_out s h e = absurd (omega arith)
 
-  too_small : (s : Status) → Says o limit program old new written s → number_of s ≡ 1 → (bytes : List ℕ) × IsLaidOut o program bytes × (length old < length bytes) × (new ≡ overlay bytes old) × (written ≡ length bytes)
-  too_small status.TooSmall (d, w, (bytes, whole, content, short, held, count)) e = (bytes, record { document = d; writes = w; layout = whole; content = content }, short, held, count)
+  too_small : (s : Status) → Says o limit program old new written s → number_of s ≡ 1 → (bytes : List ℕ) × IsLaidOut o limit program bytes × (length old < length bytes) × (new ≡ overlay bytes old) × (written ≡ length bytes)
+  too_small status.TooSmall (d, w, (bytes, whole, content, within, short, held, count)) e = (bytes, record { document = d; writes = w; layout = whole; content = content; within = within }, short, held, count)
   too_small (status.Refused fault.Memory) h e = absurd (omega arith)
   too_small s h e = absurd (omega arith)
 
@@ -41,8 +39,8 @@ module _ (o : RenderOptions) (limit : ℕ) (program old new : List ℕ) (written
   memory (status.Refused fault.Memory) h e = ([], (λ d w. (bytes_in (layout o d), refl)), nothing_held h.1)
   memory s h e = absurd (omega arith)
 
-  fails : (s : Status) → Says o limit program old new written s → number_of s ≡ 3 → (bytes : List ℕ) × IsCut o program bytes × Holds bytes old new written
-  fails status.Fails (d, w, (bytes, cut, held)) e = (bytes, record { document = d; writes = w; layout = cut }, held)
+  fails : (s : Status) → Says o limit program old new written s → number_of s ≡ 3 → (bytes : List ℕ) × IsCut o limit program bytes × Holds bytes old new written
+  fails status.Fails (d, w, (bytes, cut, within, held)) e = (bytes, record { document = d; writes = w; layout = cut; within = within }, held)
   fails (status.Refused fault.Memory) h e = absurd (omega arith)
   fails s h e = absurd (omega arith)
 

@@ -1,5 +1,5 @@
 -- What a call for the layout of a program answers, for each status.
-use Rattle.std.specs.Prelude.{◌≡◌, ◌≤◌, ◌<◌, ◌⊎◌, ◌-◌, ◌^◌, ◌==◌, ℕ, Bool, List, [], ◌++◌, length, min, take, if◌then◌else◌}
+use Rattle.std.specs.Prelude.{◌≡◌, ◌≤◌, ◌<◌, ◌⊎◌, ◌-◌, ◌^◌, ◌==◌, ℕ, Bool, List, ◌++◌, length, min, take, if◌then◌else◌}
 use Rattle.prettyless_area.specs.Overlay.{overlay}
 use Rattle.prettyless_model.specs.Content.{HasContent}
 use Rattle.prettyless_model.specs.Layout.{Whole, Cut, bytes_in, layout}
@@ -20,12 +20,15 @@ use Rattle.prettyless_program.specs.declared.fault.Fault.TheVariants as fault
 abbrev pub limit_of : ℕ → ℕ
 limit_of limit = if limit == 0 then 2 ^ 64 - 1 else limit
 
+-- what ends a line
 abbrev pub ending_of : Bool → LineEnding
 ending_of crlf = if crlf then Crlf else Lf
 
+-- when an indent is written
 abbrev pub policy_of : Bool → IndentationPolicy
 policy_of deferred = if deferred then Deferred else Eager
 
+-- the options that a caller asks for
 abbrev pub options_of : ℕ → Bool → Bool → RenderOptions
 options_of width crlf deferred = record { width = width; line_ending = ending_of crlf; indentation_policy = policy_of deferred }
 
@@ -43,18 +46,20 @@ IsUntouched old new written = (new ≡ old) × (written ≡ 0)
 
 -- ---- what each status says
 
--- the program writes a document whose layout is whole: these bytes, which have its content
-pub record IsLaidOut (o : RenderOptions) (program bytes : List ℕ) : Type 0 where
+-- the program writes a document whose layout is whole: these bytes, which have its content and are within the limit
+pub record IsLaidOut (o : RenderOptions) (limit : ℕ) (program bytes : List ℕ) : Type 0 where
   pub document : Tree
   pub writes : Writes program document
   pub layout : layout o document ≡ Whole bytes
   pub content : HasContent document bytes
+  pub within : length bytes ≤ limit
 
--- the program writes a document whose layout fails after these bytes
-pub record IsCut (o : RenderOptions) (program bytes : List ℕ) : Type 0 where
+-- the program writes a document whose layout fails after these bytes, which are within the limit
+pub record IsCut (o : RenderOptions) (limit : ℕ) (program bytes : List ℕ) : Type 0 where
   pub document : Tree
   pub writes : Writes program document
   pub layout : layout o document ≡ Cut bytes
+  pub within : length bytes ≤ limit
 
 -- the program writes a document whose layout is longer than the limit
 pub record IsPast (o : RenderOptions) (limit : ℕ) (program bytes : List ℕ) : Type 0 where
@@ -76,13 +81,13 @@ pub record IsRefused (fault : Fault) (program old new : List ℕ) (written : ℕ
 -- The answer to a program, for an area that held `old` and holds `new`.
 pub record Answers (o : RenderOptions) (limit : ℕ) (program old new : List ℕ) (written status : ℕ) : Type 0 where
   -- the layout is in the area: it has `written` bytes
-  pub laid_out : status ≡ 0 → (bytes : List ℕ) × IsLaidOut o program bytes × (length bytes ≤ length old) × Holds bytes old new written
+  pub laid_out : status ≡ 0 → (bytes : List ℕ) × IsLaidOut o limit program bytes × (length bytes ≤ length old) × Holds bytes old new written
   -- the layout has `written` bytes, more than the area, which holds its beginning
-  pub too_small : status ≡ 1 → (bytes : List ℕ) × IsLaidOut o program bytes × (length old < length bytes) × (new ≡ overlay bytes old) × (written ≡ length bytes)
+  pub too_small : status ≡ 1 → (bytes : List ℕ) × IsLaidOut o limit program bytes × (length old < length bytes) × (new ≡ overlay bytes old) × (written ≡ length bytes)
   -- memory was refused, and a beginning of the layout is in the area
   pub memory : status ≡ 2 → (front : List ℕ) × BeginsLayout o program front × Holds front old new written
   -- the layout fails, and the bytes before the node that fails are in the area
-  pub fails : status ≡ 3 → (bytes : List ℕ) × IsCut o program bytes × Holds bytes old new written
+  pub fails : status ≡ 3 → (bytes : List ℕ) × IsCut o limit program bytes × Holds bytes old new written
   -- the layout is longer than the limit, and what is within the limit is in the area
   pub past_limit : status ≡ 4 → (bytes : List ℕ) × IsPast o limit program bytes × Holds (take limit bytes) old new written
   -- the bytes write no document, and which way

@@ -4,6 +4,7 @@ use Rattle.prettyless_exports.specs.declared.status.Status.{Status}
 use Rattle.prettyless_exports.specs.declared.status.Status.TheVariants.{LaidOut, TooSmall, Memory, Fails, PastLimit, Refused}
 use Rattle.prettyless_program.specs.declared.fault.Fault.TheVariants as fault
 
+-- Numbers are for ever: new ones may come, and none changes.
 abbrev pub number_of : Status → ℕ
 number_of LaidOut = 0
 number_of TooSmall = 1

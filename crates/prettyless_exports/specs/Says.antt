@@ -13,10 +13,10 @@ use Rattle.prettyless_exports.specs.declared.status.Status.TheVariants as status
 
 -- what a status says of a layout of the document d into an area
 abbrev pub SaysOf : RenderOptions → ℕ → Tree → List ℕ → List ℕ → ℕ → Status → Type 0
-SaysOf o limit d old new written status.LaidOut = (bytes : List ℕ) × (layout o d ≡ Whole bytes) × HasContent d bytes × (length bytes ≤ length old) × Holds bytes old new written
-SaysOf o limit d old new written status.TooSmall = (bytes : List ℕ) × (layout o d ≡ Whole bytes) × HasContent d bytes × (length old < length bytes) × (new ≡ overlay bytes old) × (written ≡ length bytes)
+SaysOf o limit d old new written status.LaidOut = (bytes : List ℕ) × (layout o d ≡ Whole bytes) × HasContent d bytes × (length bytes ≤ limit) × (length bytes ≤ length old) × Holds bytes old new written
+SaysOf o limit d old new written status.TooSmall = (bytes : List ℕ) × (layout o d ≡ Whole bytes) × HasContent d bytes × (length bytes ≤ limit) × (length old < length bytes) × (new ≡ overlay bytes old) × (written ≡ length bytes)
 SaysOf o limit d old new written status.Memory = (front : List ℕ) × ((back : List ℕ) × (bytes_in (layout o d) ≡ front ++ back)) × Holds front old new written
-SaysOf o limit d old new written status.Fails = (bytes : List ℕ) × (layout o d ≡ Cut bytes) × Holds bytes old new written
+SaysOf o limit d old new written status.Fails = (bytes : List ℕ) × (layout o d ≡ Cut bytes) × (length bytes ≤ limit) × Holds bytes old new written
 SaysOf o limit d old new written status.PastLimit = (limit < length (bytes_in (layout o d))) × Holds (take limit (bytes_in (layout o d))) old new written
 SaysOf o limit d old new written (status.Refused fault) = ⊥
 

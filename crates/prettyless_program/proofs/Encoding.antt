@@ -1,5 +1,5 @@
 -- The program of a document makes it.
-use Rattle.std.proofs.Common.{◌≡◌, ◌∙◌, ℕ, List, [], ◌∷◌, ◌++◌, append_assoc, append-nil, refl, sym, ap, Option, Some, None}
+use Rattle.std.proofs.Common.{◌≡◌, ◌∙◌, List, [], ◌∷◌, ◌++◌, append_assoc, append-nil, refl, sym, ap, Option, Some}
 use Rattle.std.specs.List.{AllByRecursion}
 use Rattle.prettyless_model.specs.declared.choice.ColumnTest.{ColumnTest}
 use Rattle.prettyless_model.specs.declared.choice.ColumnTest.TheVariants as by_column

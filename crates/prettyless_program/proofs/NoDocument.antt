@@ -1,11 +1,10 @@
 -- Bytes with a fault write no document.
-use Rattle.std.proofs.Common.{◌≡◌, ◌∙◌, ◌<◌, ◌^◌, ◌⊎◌, inl, inr, ℕ, List, [], ◌∷◌, ◌++◌, length, length-append, append_assoc, refl, sym, ap, subst, arith, Option, Some, None}
+use Rattle.std.proofs.Common.{◌≡◌, ◌∙◌, ◌<◌, ◌^◌, inl, inr, ℕ, List, [], ◌∷◌, ◌++◌, length, length-append, append_assoc, refl, sym, ap, subst, arith, Option, Some, None}
 use Rattle.std.specs.Int.{w32, to_le_bytes}
 use Rattle.std.specs.List.{AllByRecursion}
 use Rattle.prettyless_model.specs.Tree.{Tree}
-use Rattle.prettyless_program.specs.Codes.{code_of}
 use Rattle.prettyless_program.specs.Faults.{IsCutOff, IsTextCutOff, IsStuck, Stops, Reaches, WritesNone}
-use Rattle.prettyless_program.specs.Programs.{Instruction, Item, Put, Write, Count, Wrap, Nest, Both, Choose, Open, Close, Fits, IsText, IsWritable, Writes, and_then, number, sized, operands, operation_in, written, encoded, run, step, whole}
+use Rattle.prettyless_program.specs.Programs.{Instruction, Item, Write, Count, Nest, Choose, Close, Fits, IsText, IsWritable, and_then, number, sized, operands, operation_in, encoded, run, step, whole}
 use Rattle.prettyless_program.specs.declared.fault.Fault.{Fault}
 use Rattle.prettyless_program.specs.declared.fault.Fault.TheVariants.{Memory, Instruction as NoInstruction, Operand, Text, Document, Unopened, Unclosed}
 use Rattle.prettyless_program.specs.declared.operation.Operation.{Operation}

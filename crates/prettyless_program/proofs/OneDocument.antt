@@ -1,9 +1,8 @@
 -- Bytes write at most one document; each document has a program.
-use Rattle.std.proofs.Common.{◌≡◌, ◌∙◌, ℕ, List, [], ◌∷◌, ◌++◌, append_assoc, append-nil, refl, sym, ap, Option, Some, None}
-use Rattle.std.specs.List.{AllByRecursion}
+use Rattle.std.proofs.Common.{◌≡◌, ◌∙◌, List, [], ◌∷◌, ◌++◌, append-nil, refl, sym, ap, Some}
 use Rattle.prettyless_model.specs.Tree.{Tree}
 use Rattle.prettyless_program.specs.Laws.{WriteAtMostOne}
-use Rattle.prettyless_program.specs.Programs.{Instruction, Writes, and_then, encoded, run, whole}
+use Rattle.prettyless_program.specs.Programs.{Instruction, and_then, encoded, run, whole}
 use Rattle.prettyless_program.proofs.Same.{goes_on}
 
 some_tree : (d e : Tree) → Some d ≡ Some e → d ≡ e

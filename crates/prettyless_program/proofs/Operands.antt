@@ -1,5 +1,5 @@
 -- What is there, and what stops, where an operation has its operands, or not.
-use Rattle.std.proofs.Common.{◌≡◌, ◌∙◌, ◌<◌, ◌^◌, ◌⊎◌, inl, inr, ℕ, List, [], ◌∷◌, ◌++◌, length, append_assoc, refl, sym, ap}
+use Rattle.std.proofs.Common.{◌≡◌, ◌∙◌, ◌<◌, ◌^◌, inr, ℕ, List, ◌∷◌, ◌++◌, append_assoc, refl, sym, ap}
 use Rattle.prettyless_program.specs.Codes.{code_of}
 use Rattle.prettyless_program.specs.Faults.{IsTextFault, Stops}
 use Rattle.prettyless_program.specs.Programs.{Item, Write, Count, number, sized}

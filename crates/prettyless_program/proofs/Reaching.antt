@@ -1,7 +1,7 @@
 -- Following the instructions of a program, one after the other.
-use Rattle.std.proofs.Common.{◌≡◌, ◌∙◌, ℕ, List, [], ◌∷◌, ◌++◌, append_assoc, append-nil, refl, sym, ap, subst, Option, Some, None}
+use Rattle.std.proofs.Common.{◌≡◌, ◌∙◌, ℕ, List, [], ◌∷◌, ◌++◌, append_assoc, append-nil, refl, sym, ap, Option, Some}
 use Rattle.prettyless_model.specs.Tree.{Tree}
-use Rattle.prettyless_program.specs.Faults.{HasFault, Reaches, Refuses, Stops}
+use Rattle.prettyless_program.specs.Faults.{Reaches, Refuses, Stops}
 use Rattle.prettyless_program.specs.Programs.{Instruction, Item, IsWritable, Writes, and_then, written, encoded, run, step, whole}
 use Rattle.prettyless_program.specs.declared.fault.Fault.{Fault}
 use Rattle.prettyless_program.proofs.NoDocument.{writes_none}

@@ -1,11 +1,9 @@
 -- Bytes begin with at most one instruction, and are written by at most one list of them.
-use Rattle.std.proofs.Common.{◌≡◌, ◌∙◌, ◌<◌, ◌^◌, ℕ, ℤ, List, [], ◌∷◌, ◌++◌, length, take, drop, append_assoc, refl, sym, ap, arith}
+use Rattle.std.proofs.Common.{◌≡◌, ◌∙◌, ◌<◌, ◌^◌, ℕ, List, [], ◌∷◌, ◌++◌, length, append_assoc, refl, sym, ap, arith}
 use Rattle.std.specs.Int.{w32, w64, to_le_bytes, from_le_bytes, cast_signed, cast_unsigned}
 use Rattle.std.specs.List.{AllByRecursion}
-use Rattle.std.specs.Prelude.{FitsSigned}
 use Rattle.std.proofs.lemmas.Int.{to_z-of_z}
 use Rattle.std.proofs.lemmas.Nat.{from_le_bytes-to_le_bytes_4, from_le_bytes-to_le_bytes_8}
-use Rattle.std.proofs.Math.Seq.{take-append_seam, drop-append_seam}
 use Rattle.std.proofs.Math.Facts.{Fits-of_z}
 use Rattle.prettyless_program.specs.Programs.{Instruction, Put, Write, Count, Wrap, Nest, Both, Choose, Open, Close, Fits, IsWritable, number, sized, operands, operation_in, written, encoded}
 use Rattle.prettyless_program.proofs.Codes.{code_same}

@@ -20,11 +20,13 @@ use Rattle.prettyless_program.specs.Programs.{Instruction, Put, Write, Count, Wr
 abbrev pub WriteAtMostOne : Type 0
 WriteAtMostOne = (bytes : List ℕ) (d e : Tree) → Writes bytes d → Writes bytes e → d ≡ e
 
+-- the instruction of a choice by column
 abbrev pub column_choice : ColumnTest → Instruction
 column_choice (by_column.AtMost n) = Choose choice.ColumnAtMost n
 column_choice (by_column.AtLeast n) = Choose choice.ColumnAtLeast n
 column_choice by_column.IsNesting = Both join.OnIndent
 
+-- the instruction of a choice by nesting
 abbrev pub nesting_choice : NestingTest → Instruction
 nesting_choice (by_nesting.AtMost n) = Choose choice.NestingAtMost n
 nesting_choice (by_nesting.AtLeast n) = Choose choice.NestingAtLeast n
@@ -61,11 +63,13 @@ encode d = encoded (instructions_of d)
 abbrev pub IsSendable : List ℕ → Type 0
 IsSendable s = (length s < 2 ^ 32) × IsUtf8 s
 
+-- the number of a choice by column is a value of its type
 abbrev pub column_fits : ColumnTest → Type 0
 column_fits (by_column.AtMost n) = n < 2 ^ 64
 column_fits (by_column.AtLeast n) = n < 2 ^ 64
 column_fits by_column.IsNesting = ⊤
 
+-- the number of a choice by nesting is
 abbrev pub nesting_fits : NestingTest → Type 0
 nesting_fits (by_nesting.AtMost n) = n < 2 ^ 64
 nesting_fits (by_nesting.AtLeast n) = n < 2 ^ 64

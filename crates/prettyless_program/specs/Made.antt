@@ -7,6 +7,7 @@ use Rattle.prettyless_program.specs.declared.instruction.Instruction.TheVariants
 use Rattle.prettyless_program.specs.declared.stack.Entry.{Entry}
 use Rattle.prettyless_program.specs.declared.stack.Entry.TheVariants.{Document, Opened}
 
+-- an instruction of the code
 abbrev pub instruction_of : Instruction → programs.Instruction
 instruction_of (instruction.Leaf l) = programs.Put l
 instruction_of (instruction.Words w s) = programs.Write w s.now
@@ -18,6 +19,7 @@ instruction_of (instruction.Choose c n) = programs.Choose c n
 instruction_of instruction.Open = programs.Open
 instruction_of instruction.Close = programs.Close
 
+-- an entry of the code
 abbrev pub item_of : {T : Type 0} → (T → Tree) → Entry T → programs.Item
 item_of tree (Document d) = programs.Document (tree d)
 item_of tree Opened = programs.Opened

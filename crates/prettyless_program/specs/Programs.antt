@@ -45,6 +45,7 @@ pub data Instruction : Type 0 where
 
 -- ---- bytes
 
+-- what it does
 abbrev pub operation_in : Instruction → Operation
 operation_in (Put l) = operation.Leaf l
 operation_in (Write w s) = operation.Words w
@@ -101,6 +102,7 @@ IsWritable i = Fits i × IsText i
 
 -- ---- documents
 
+-- the document that a leaf stands for
 abbrev pub leaf_tree : Leaf → Tree
 leaf_tree leaf.Nil = tree.Nil
 leaf_tree leaf.Fail = tree.Fail
@@ -111,11 +113,13 @@ leaf_tree leaf.ExpandParent = tree.ExpandParent
 leaf_tree leaf.Line = line
 leaf_tree leaf.LineOrNil = line_
 
+-- the document of a text, by how it is counted
 abbrev pub text_tree : Words → List ℕ → Tree
 text_tree words.Measured s = to.text s
 text_tree words.Ascii s = tree.Text s
 text_tree words.Multiline s = to.multiline_text s
 
+-- the node over a document
 abbrev pub wrapped : Wrapper → Tree → Tree
 wrapped wrapper.Group d = tree.Group d
 wrapped wrapper.Flatten d = tree.Flatten d
@@ -123,6 +127,7 @@ wrapped wrapper.Align d = tree.Align d
 wrapped wrapper.DedentToRoot d = tree.DedentToRoot d
 wrapped wrapper.LineSuffix d = tree.LineSuffix d
 
+-- the node over two documents
 abbrev pub joined : Join → Tree → Tree → Tree
 joined join.Append l r = tree.Append l r
 joined join.BreakOrFlat l r = tree.BreakOrFlat l r
@@ -130,6 +135,7 @@ joined join.Union l r = tree.Union l r
 joined join.PartialUnion l r = tree.PartialUnion l r
 joined join.OnIndent l r = tree.OnColumn by_column.IsNesting l r
 
+-- the choice between two documents, by a number of columns
 abbrev pub chosen : Choice → ℕ → Tree → Tree → Tree
 chosen choice.ColumnAtMost n l r = tree.OnColumn (by_column.AtMost n) l r
 chosen choice.ColumnAtLeast n l r = tree.OnColumn (by_column.AtLeast n) l r
@@ -201,10 +207,11 @@ abbrev pub run : List Instruction → List Item → Option (List Item)
 run [] items = Some items
 run (i ∷ is) items = and_then (step i items) (run is)
 
--- the one document at the end, where no sequence is open
+-- the document of what was gathered at the end, where no sequence is open
 abbrev pub ended : Gathered → Option Tree
 ended g = if g.opened then None else Some g.tree
 
+-- the one document of all items
 abbrev pub whole : List Item → Option Tree
 whole items = ended (gathered items)
 

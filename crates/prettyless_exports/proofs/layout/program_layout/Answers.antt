@@ -1,4 +1,3 @@
-use Rattle.std.proofs.Common.{◌≡◌, ℕ, List}
 use Rattle.prettyless_exports.proofs.Numbered.{answers}
 use Rattle.prettyless_exports.proofs.layout.program_layout.Goals as goal
 

@@ -1,4 +1,4 @@
-use Rattle.std.proofs.Common.{◌≡◌, length}
+use Rattle.std.proofs.Common.{length}
 use Rattle.prettyless_program.specs.Faults.{Reaches}
 use Rattle.prettyless_program.specs.Made.{items_of}
 use Rattle.prettyless_program.proofs.decoding.decode.Given as goal
