@@ -152,16 +152,19 @@ enum pl_op {
 
    width      the width of lines in columns
    crlf       lines end in CR LF, else in LF
-   deferred   an indent is written before the first text of its line, else at once, on empty lines too
+   deferred   false: the indent of a line is written at once, so an empty line inside a nest has trailing spaces;
+              true: it is written before the first text of the line, so an empty line has none
    limit      the greatest length of the layout in bytes, 0 for none; give one where a program comes from someone
-              else, since a few bytes of program can ask for a very long layout
+              else, since a few bytes of program can ask for a very long layout. It does not bound the memory of the
+              first branch of a union, which is laid in memory: see "Limits" in docs/BINDINGS.md
    out        gets the layout, at most `capacity` bytes; no 0 is put after it
-   *written   says how many bytes: of the whole layout after PL_TOO_SMALL, else those in `out`
+   *written   gets the number of bytes that were written to `out`; after PL_TOO_SMALL, the length of the whole layout
 
    After PL_OK, out[0..*written) is the layout, and what comes after it in `out` is unchanged. After PL_TOO_SMALL, all
    of `out` is the beginning of the layout. After PL_MEMORY and PL_PAST_LIMIT, out[0..*written) is a beginning of the
-   layout; after PL_FAILS, the bytes before the node that fails, as far as there is room. After statuses from 16 on,
-   `out` is unchanged and *written is 0.
+   layout. After PL_FAILS, it is the bytes before the node that fails, as far as there is room; if *written is
+   `capacity`, there may be more of them, and a call with more room gets them. After statuses from 16 on, `out` is
+   unchanged and *written is 0.
 
    No pointer may be null, also for a length or a capacity of 0. The areas of program, out and written may not overlap.
    The call keeps no pointer. */
@@ -175,9 +178,12 @@ uint32_t prettyless_layout(const uint8_t *program, size_t length, size_t width, 
    indent     how many columns each level is indented by
    fill       arrays of numbers fill their lines, else each broken array has a line for each item
 
-   limit, out, capacity and written are as of prettyless_layout. After PL_NOT_JSON, *line and *column say where the text
-   stops being JSON (both from 1; a column is a character), and out[0..*written) is the name of what was expected there,
-   as far as there is room. After other statuses both are 0.
+   limit, out, capacity and written are as of prettyless_layout, but the whole layout is made in memory before it is
+   copied to `out`. So a limit bounds neither memory nor time: see "Limits" in docs/BINDINGS.md.
+
+   After PL_NOT_JSON, *line and *column say where the text stops being JSON of at most 128 levels (both from 1; a column
+   is a character), and out[0..*written) is the name of what was expected there, as far as there is room: a name has
+   fewer than 100 bytes. After other statuses *line and *column are 0.
 
    No pointer may be null, also for a length or a capacity of 0. The areas of text, out, written, line and column may
    not overlap. The call keeps no pointer. */
@@ -198,7 +204,7 @@ static inline const char *pl_message(uint32_t status)
     case PL_MEMORY: return "memory was refused, or a text has 2^32 bytes or more";
     case PL_FAILS: return "the document cannot be laid out";
     case PL_PAST_LIMIT: return "the layout is longer than the limit";
-    case PL_NOT_JSON: return "the text is not JSON";
+    case PL_NOT_JSON: return "the text is not JSON, or has more than 128 levels";
     case PL_NO_INSTRUCTION: return "a byte of the program begins no instruction";
     case PL_CUT_OFF: return "the program ends inside an instruction";
     case PL_NOT_UTF8: return "a text is not UTF-8";
@@ -607,8 +613,9 @@ static inline void pl_include(pl_doc *doc, const pl_doc *other)
 typedef struct pl_options {
     size_t width;  /* the width of lines in columns */
     bool crlf;     /* lines end in CR LF, else in LF */
-    bool deferred; /* an indent is written before the first text of its line, else at once, on empty lines too */
-    size_t limit;  /* the greatest length of the layout in bytes, 0 for none */
+    bool deferred; /* false: an empty line inside a nest has its indent, as trailing spaces; true: it has none */
+    size_t limit;  /* the greatest length of the layout in bytes, 0 for none; for what it does not bound, see
+                      prettyless_layout */
 } pl_options;
 
 /* How a JSON text is laid out. */
@@ -616,7 +623,7 @@ typedef struct pl_json_options {
     size_t width;    /* the width of lines in columns */
     uint32_t indent; /* how many columns each level is indented by */
     bool fill;       /* arrays of numbers fill their lines */
-    size_t limit;    /* the greatest length of the layout in bytes, 0 for none */
+    size_t limit;    /* the greatest length of the layout in bytes, 0 for none; it bounds neither memory nor time */
 } pl_json_options;
 
 /* What comes of a layout. The caller frees `text`, at each status. */

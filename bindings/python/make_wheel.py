@@ -2,15 +2,16 @@
 
     python3 make_wheel.py [FOLDER]
 
-The wheel is put into the folder, which is `dist` beside this file where it is not given. The environment variable
-PRETTYLESS may name the library; else it is the one at `../out`. The same files give the same bytes.
+The wheel is put into the folder, which is `dist` beside this file where it is not given; its path is printed. The
+environment variable PRETTYLESS may name the library, a file; else it is `bindings/out/libprettyless.so`. The same files
+give the same bytes. Without a library there is a message, and the status is 1.
 """
 
+import argparse
 import base64
 import hashlib
 import os
 import re
-import sys
 import zipfile
 
 HERE = os.path.dirname(os.path.abspath(__file__))
@@ -30,14 +31,19 @@ def read(*path):
 
 
 def library():
-    """The bytes of the library."""
-    return read(os.environ.get("PRETTYLESS") or os.path.join(os.path.dirname(HERE), "out", LIBRARY))
+    """The bytes of the library. Ends the process where there is none."""
+    path = os.environ.get("PRETTYLESS") or os.path.join(os.path.dirname(HERE), "out", LIBRARY)
+    try:
+        return read(path)
+    except OSError as error:
+        how = "make it by tools/bindings, or let the environment variable PRETTYLESS name the file"
+        raise SystemExit(f"make_wheel: no library at {path} ({error.strerror}): {how}") from error
 
 
 def tag(code):
     """The tag of a wheel with this library, which has to be one for x86-64."""
     if code[:6] != b"\x7fELF\x02\x01" or code[18:20] != b"\x3e\x00":
-        raise SystemExit("the library is not one for Linux on x86-64")
+        raise SystemExit("make_wheel: the library is not one for Linux on x86-64")
     needs = [int(minor) for minor in re.findall(rb"GLIBC_2\.(\d+)", code)]
     platform = "manylinux2014_x86_64" if max(needs, default=0) <= NEWEST_GLIBC else "linux_x86_64"
     return f"py3-none-{platform}"
@@ -119,5 +125,14 @@ def make(folder):
     return path
 
 
+def wanted_folder():
+    """The folder that the arguments name."""
+    dist = os.path.join(HERE, "dist")
+    library_used = f"The wheel has the library that the variable PRETTYLESS names, else bindings/out/{LIBRARY}."
+    reader = argparse.ArgumentParser(description=__doc__.splitlines()[0], epilog=library_used)
+    reader.add_argument("folder", metavar="FOLDER", nargs="?", default=dist, help="gets the wheel (if not given: dist)")
+    return reader.parse_args().folder
+
+
 if __name__ == "__main__":
-    print(make(sys.argv[1] if len(sys.argv) > 1 else os.path.join(HERE, "dist")))
+    print(make(wanted_folder()))

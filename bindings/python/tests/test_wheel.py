@@ -53,6 +53,36 @@ class Wheel(unittest.TestCase):
         lines = done.stdout.decode().splitlines()
         self.assertEqual(lines, [os.path.join(target, "yezhgulo", "__init__.py"), "a", "b"])
 
+    def run_script(self, words, library):
+        """The status of `make_wheel.py`, run in the temporary folder, and what it writes."""
+        script = os.path.join(HERE, "make_wheel.py")
+        environment = {**os.environ, "PRETTYLESS": library}
+        where = {"env": environment, "cwd": self.folder.name}
+        written = {"stdout": subprocess.PIPE, "stderr": subprocess.PIPE, "universal_newlines": True}
+        done = subprocess.run([sys.executable, script, *words], **where, **written)
+        return done.returncode, done.stdout, done.stderr
+
+    def test_help_makes_nothing(self):
+        before = os.listdir(self.folder.name)
+        status, shown, complaint = self.run_script(["--help"], "")
+        self.assertEqual((status, complaint), (0, ""))
+        for word in ("FOLDER", "PRETTYLESS", "dist"):
+            self.assertIn(word, shown)
+        self.assertEqual(os.listdir(self.folder.name), before)
+
+    def test_a_wrong_argument_makes_nothing(self):
+        before = os.listdir(self.folder.name)
+        for words in (["--wheel"], ["one", "two"]):
+            self.assertEqual(self.run_script(words, "")[:2], (2, ""))
+        self.assertEqual(os.listdir(self.folder.name), before)
+
+    def test_no_library(self):
+        status, shown, complaint = self.run_script(["new"], "none.so")
+        self.assertEqual((status, shown), (1, ""))
+        self.assertTrue(complaint.startswith("make_wheel: no library at none.so"), complaint)
+        self.assertEqual(complaint.count("\n"), 1)
+        self.assertFalse(os.path.exists(os.path.join(self.folder.name, "new")))
+
 
 if __name__ == "__main__":
     unittest.main()

@@ -83,10 +83,16 @@ class Doc:
     ) -> str:
         r"""The layout within lines of `width` columns.
 
-        With `crlf`, a line ends in CR and LF. With `deferred`, the indent of a line is written before the line's
-        first text, so that an empty line has none; otherwise at once. A layout of more than `limit` bytes stops
-        there with a `LimitError`. A document that has no layout is a `LayoutError`. Both errors have what was laid
-        before. Where the library is refused memory, that is a `MemoryError`.
+        With `crlf`, a line ends in CR and LF. Without `deferred`, the indent of a line is written at once, so an
+        empty line inside a `nest` has trailing spaces. With it, the indent is written before the first text of its
+        line, so an empty line has none.
+
+        A `limit` is at least 1. A layout of more bytes stops there with a `LimitError`. A limit does not bound the
+        memory of the first document of a `union`, which is laid in memory before it is kept: see "Limits" in
+        `docs/BINDINGS.md` of the repository.
+
+        A document that has no layout is a `LayoutError`. This and a `LimitError` have what was laid before. Where
+        memory is refused, that is a `MemoryError`. A negative width is a `ValueError`, and so is `limit=0`.
 
         >>> lines = nest(2, "a", hard_line, hard_line, "b")
         >>> lines.layout()

@@ -1,7 +1,8 @@
 """What may go wrong. Each exception of this module is a `YezhguloError`.
 
-Memory that is refused is a `MemoryError`, and a text with a lone surrogate, which is no UTF-8, is a
-`UnicodeEncodeError`.
+There are exceptions of Python too. Memory that is refused is a `MemoryError`. An argument of a wrong type is a
+`TypeError`. A number out of its range, such as a negative width or `limit=0`, is a `ValueError`, and so is a text of
+2^32 bytes or more. A text with a lone surrogate, which is no UTF-8, is a `UnicodeEncodeError`.
 """
 
 from __future__ import annotations
@@ -61,7 +62,7 @@ class LimitError(YezhguloError):
 
 
 class JsonError(YezhguloError, ValueError):
-    """The text is not JSON.
+    """The text is not JSON, or is more than 128 levels deep.
 
     `line` and `column` say where, both from 1; a column is a character. `expected` is what was expected there.
 

@@ -16,8 +16,9 @@ def format_json(
 
     The value stays the same, and each number and each string its spelling. `indent` is how many columns a level is
     moved in. With `fill`, arrays of numbers fill lines. The text is a `str`, or bytes in UTF-8, and at most 128
-    levels deep. A text that is not JSON is a `JsonError`, which says where. A layout of more than `limit` bytes is
-    a `LimitError`.
+    levels deep. A text that is not JSON, or is deeper, is a `JsonError`, which says where. A layout of more than
+    `limit` bytes is a `LimitError`. The whole layout is made in memory first, so a limit bounds neither memory nor
+    time: see "Limits" in `docs/BINDINGS.md` of the repository.
 
     >>> print(format_json('{"name":"Ada","list":[1,22,333],"empty":{}}', 24), end="")
     {

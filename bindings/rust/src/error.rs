@@ -54,7 +54,8 @@ impl Error {
         }
     }
 
-    /// The beginning of the layout that was made, which may be empty.
+    /// The beginning of the layout that was made, which may be empty. It is empty for
+    /// [`NotAProgram`](Error::NotAProgram) and [`Unknown`](Error::Unknown), which have none.
     ///
     /// ```
     /// use yezhgulo::{Doc, RenderOptions};

@@ -17,6 +17,7 @@ pub struct JsonStyle {
     /// Whether an array of numbers alone fills its lines. Otherwise it has one line, or a line for each number.
     pub fill: bool,
     /// The greatest length of the layout in bytes, if there is one. A longer layout is a [`JsonError::PastLimit`].
+    /// [`with_limit`](JsonStyle::with_limit) says what it does not bound.
     pub limit: Option<NonZeroUsize>,
 }
 
@@ -70,6 +71,9 @@ impl JsonStyle {
 
     /// The same with layouts of at most so many bytes; 0 is for no limit.
     ///
+    /// The whole layout is made in memory first, so a limit bounds neither memory nor time: see "Limits" in
+    /// `docs/BINDINGS.md` of the repository.
+    ///
     /// ```
     /// use yezhgulo::{format_json, JsonError, JsonStyle};
     ///
@@ -89,7 +93,7 @@ impl Default for JsonStyle {
     }
 }
 
-/// Why a JSON text was not laid out.
+/// Why a JSON text was not laid out. None of these has the beginning of the layout.
 ///
 /// ```
 /// use yezhgulo::{format_json, JsonError, JsonStyle};
@@ -102,7 +106,7 @@ impl Default for JsonStyle {
 pub enum JsonError {
     /// The text is not JSON, or is more than 128 levels deep.
     NotJson {
-        /// The line where it stops being JSON, from 1.
+        /// The line where it stops being JSON of at most 128 levels, from 1.
         line: usize,
         /// The column there, from 1, in characters.
         column: usize,

@@ -47,8 +47,8 @@ pub fn layout(program: &[u8], options: &RenderOptions) -> Result<String, Error> 
 
 /// A document and options, which `{}` lays out. [`Doc::print`] and [`Writer::print`] make it.
 ///
-/// Where the layout fails, so does the formatting, by a [`fmt::Error`] after which nothing was written. So `to_string`
-/// and `format!` panic there, as they do for every value whose formatting fails; `write!` gives the error.
+/// Where the layout fails, so does the formatting, by a [`fmt::Error`] after which nothing was written. So `println!`,
+/// `format!` and `to_string` panic there, as they do for every value whose formatting fails; `write!` gives the error.
 ///
 /// ```
 /// use std::fmt::Write;
@@ -139,6 +139,11 @@ impl Doc {
 
     /// A value that `{}` shows as the layout within so many columns.
     ///
+    /// # Panics
+    ///
+    /// This call does not. Where the layout fails, showing the value fails too, so `println!`, `format!` and
+    /// `to_string` panic: see [`Print`]. [`pretty`](Doc::pretty) gives the error.
+    ///
     /// ```
     /// use yezhgulo::Doc;
     ///
@@ -150,6 +155,11 @@ impl Doc {
     }
 
     /// A value that `{}` shows as the layout with these options.
+    ///
+    /// # Panics
+    ///
+    /// This call does not. Where the layout fails, showing the value fails too, so `println!`, `format!` and
+    /// `to_string` panic: see [`Print`]. [`layout`](Doc::layout) gives the error.
     ///
     /// ```
     /// use yezhgulo::{Doc, RenderOptions};
@@ -227,6 +237,11 @@ impl Writer {
 
     /// A value that `{}` shows as the layout of what was written, within so many columns.
     ///
+    /// # Panics
+    ///
+    /// This call does not. Where the layout fails, showing the value fails too, so `println!`, `format!` and
+    /// `to_string` panic: see [`Print`]. [`pretty`](Writer::pretty) gives the error.
+    ///
     /// ```
     /// use yezhgulo::Writer;
     ///
@@ -239,6 +254,11 @@ impl Writer {
     }
 
     /// A value that `{}` shows as the layout of what was written, with these options.
+    ///
+    /// # Panics
+    ///
+    /// This call does not. Where the layout fails, showing the value fails too, so `println!`, `format!` and
+    /// `to_string` panic: see [`Print`]. [`layout`](Writer::layout) gives the error.
     ///
     /// ```
     /// use yezhgulo::{RenderOptions, Writer};

@@ -31,10 +31,10 @@ impl LineEnding {
     }
 }
 
-/// When the indent of a line is written.
+/// When the indent of a line is written: only lines without content differ.
 #[derive(Clone, Copy, Debug, Default, PartialEq, Eq, Hash)]
 pub enum IndentationPolicy {
-    /// At once, so that an empty line has its indent too.
+    /// At once, so that an empty line inside a `nest` has trailing spaces.
     #[default]
     Eager,
     /// Before the first content of the line, so that an empty line has none.
@@ -64,7 +64,8 @@ pub struct RenderOptions {
     /// When the indent of a line is written.
     pub indentation_policy: IndentationPolicy,
     /// The greatest length of the layout in bytes, if there is one. A longer layout is an
-    /// [`Error::PastLimit`](crate::Error::PastLimit).
+    /// [`Error::PastLimit`](crate::Error::PastLimit). [`with_limit`](RenderOptions::with_limit) says what it does not
+    /// bound.
     pub limit: Option<NonZeroUsize>,
 }
 
@@ -133,6 +134,9 @@ impl RenderOptions {
     /// The same with layouts of at most so many bytes; 0 is for no limit.
     ///
     /// A short document may have a very long layout. Where there is a limit, the layout ends once it is past it.
+    ///
+    /// A limit does not bound the memory of the first document of a [`union`](crate::Doc::union), which is laid in
+    /// memory before it is kept: see "Limits" in `docs/BINDINGS.md` of the repository.
     ///
     /// ```
     /// use yezhgulo::{Doc, Error, RenderOptions};
