@@ -3,7 +3,7 @@ use Rattle.std.proofs.Common.{◌≡◌, sym, ap, subst, ◌∙◌, ℕ, List, �
 use Rattle.std.proofs.lemmas.List.{append_cancel_left}
 use Rattle.prettyless.specs.Content.{AppendsContent, HasContent}
 use Rattle.prettyless.specs.Layout.{Whole}
-use Rattle.prettyless.specs.Texts.{Start}
+use Rattle.prettyless.proofs.SpacedTexts.{texts_shown}
 use Rattle.guide_formatters.specs.Documents.{document_of}
 use Rattle.guide_formatters.specs.Expression.{Expression, HasSmallNumbers}
 use Rattle.guide_formatters.specs.Reader.{expression_at, expression_in}
@@ -11,13 +11,13 @@ use Rattle.guide_formatters.specs.Tokens.{tokens_of}
 use Rattle.guide_formatters.specs.Written.{layout_at}
 use Rattle.guide_formatters.proofs.Lexed.{expression_lexed}
 use Rattle.guide_formatters.proofs.Reading.{read_alone}
-use Rattle.guide_formatters.proofs.Told.{document_tells, shown, spaced}
+use Rattle.guide_formatters.proofs.Texts.{document_has}
 
 -- bytes with the content of the document read back
 pub reads_back : (e : Expression) (bytes : List ℕ) → HasSmallNumbers e → HasContent (document_of e) bytes → expression_in bytes ≡ Some e
 reads_back e bytes small h =
-    let told = h.shown (shown (tokens_of e)) (document_tells e small) in
-    ap expression_at (expression_lexed e bytes small (spaced Start (tokens_of e) bytes told)) ∙ read_alone e small
+    let spaced = texts_shown (document_of e) bytes (tokens_of e) h (document_has e small) in
+    ap expression_at (expression_lexed e bytes small spaced) ∙ read_alone e small
 
 -- the whole layout, appended with the content of the document, reads back
 pub wrote : (width : ℕ) (e : Expression) (old new : List ℕ) → HasSmallNumbers e → AppendsContent (document_of e) old new → (bytes : List ℕ) × (layout_at width e ≡ Whole bytes) × (new ≡ old ++ bytes)

@@ -7,7 +7,7 @@ use Rattle.std.proofs.lemmas.Bool.Decides.{nat_tests}
 use Rattle.std.proofs.lemmas.Fmt.{decimal_is_IsNumeral}
 use Rattle.std.proofs.lemmas.Str.Parse.{digit_from_value}
 use Rattle.prettyless.specs.Spelling.{is_blank_byte}
-use Rattle.prettyless.specs.Texts.{IsGap, IsSpaced}
+use Rattle.prettyless.specs.Shows.{IsBlank, IsSpaced}
 use Rattle.guide_formatters.specs.Expression.{Expression, HasSmallNumbers, number, negation, sum, product}
 use Rattle.guide_formatters.specs.Lexer.{begins_with_digit, with_digit, tokens_in}
 use Rattle.guide_formatters.specs.Tokens.{opening, closing, plus, times, in_parentheses, tokens_of}
@@ -19,12 +19,12 @@ digit_is : (b : ℕ) → digit_value b < 10 → (is_blank_byte b ≡ false) × (
 digit_is b lt = let range = digit_from_value b lt in (grind (arith, nat_tests), grind (arith, nat_tests))
 
 -- a gap begins with a blank
-gap_parts : (b : ℕ) (g : List ℕ) (t : Bool) → is_blank_byte b ≡ t → IsGap (b ∷ g) → (is_blank_byte b ≡ true) × IsGap g
+gap_parts : (b : ℕ) (g : List ℕ) (t : Bool) → is_blank_byte b ≡ t → IsBlank (b ∷ g) → (is_blank_byte b ≡ true) × IsBlank g
 gap_parts b g true e h = (e, rw e at h)
 gap_parts b g false e h = absurd (let none = rw e at h in cc)
 
 -- nothing is cut off a gap
-gap_lexed : (g rest : List ℕ) → IsGap g → tokens_in (g ++ rest) ≡ tokens_in rest
+gap_lexed : (g rest : List ℕ) → IsBlank g → tokens_in (g ++ rest) ≡ tokens_in rest
 gap_lexed [] rest h = refl
 gap_lexed (b ∷ g) rest h = let parts = gap_parts b g (is_blank_byte b) refl h in rw parts.0 (gap_lexed g rest parts.1)
 
@@ -55,7 +55,7 @@ AreTokens [] = ⊤
 AreTokens (s ∷ ss) = (IsSymbol s ⊎ (IsNumeral 10 s × EndsNumeral ss)) × AreTokens ss
 
 -- after a gap comes no digit, where what follows begins with none
-no_digit_after : (g rest : List ℕ) → IsGap g → begins_with_digit rest ≡ false → begins_with_digit (g ++ rest) ≡ false
+no_digit_after : (g rest : List ℕ) → IsBlank g → begins_with_digit rest ≡ false → begins_with_digit (g ++ rest) ≡ false
 no_digit_after [] rest h e = e
 no_digit_after (b ∷ g) rest h e = blank_is_no_digit b (gap_parts b g (is_blank_byte b) refl h).0
 

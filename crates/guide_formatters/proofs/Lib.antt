@@ -1,4 +1,4 @@
 pub mod Back
 pub mod Lexed
 pub mod Reading
-pub mod Told
+pub mod Texts

@@ -5,8 +5,8 @@ use Rattle.std.specs.List.{AllZip}
 use Rattle.prettyless.specs.Tree.{Tree}
 use Rattle.prettyless.specs.Counted.{as_string, text}
 use Rattle.prettyless.specs.Lists.{bracketed, punctuated}
-use Rattle.prettyless.specs.Texts.{Item, Shown, tells}
-use Rattle.prettyless.specs.Told.{with_gaps}
+use Rattle.prettyless.specs.Shown.{with_gaps}
+use Rattle.prettyless.specs.Shows.{Item, Shown, apart, loose, shows}
 use Rattle.guide_formatters.specs.declared.values.Value.{Value}
 use Rattle.guide_formatters.specs.declared.values.Value.TheOpen.{Value-F}
 use Rattle.guide_formatters.specs.declared.values.Value.TheFolds.{fold-Value}
@@ -15,11 +15,17 @@ use Rattle.guide_formatters.specs.declared.values.Value.TheFolds.{fold-Value}
 abbrev pub list_of : List Tree → Tree
 list_of xs = bracketed (text (91 ∷ [])) (punctuated (text (44 ∷ [])) xs) (text (93 ∷ [])) (pos 2)
 
--- documents between brackets tell what they tell, with a comma in each gap and brackets around them all
-abbrev pub ListsTell : Type 0
-ListsTell =
-    (xs : List Tree) (told : List (List Item)) → AllZip tells xs told
-    → tells (list_of xs) (Shown (codes "[") ∷ (with_gaps (Shown (codes ",") ∷ []) told ++ Shown (codes "]") ∷ []))
+-- items in order, with a comma and then a space or a line end in each gap, and with any gap before and after them all
+abbrev pub with_commas : List (List Item) → List Item
+with_commas [] = []
+with_commas (items ∷ lists) = loose ∷ (with_gaps (Shown (codes ",") ∷ apart ∷ []) (items ∷ lists) ++ loose ∷ [])
+
+-- documents between brackets show what they show, with commas between them and brackets around them all; the brackets of
+-- an empty list stand side by side
+abbrev pub ListsShow : Type 0
+ListsShow =
+    (xs : List Tree) (lists : List (List Item)) → AllZip shows xs lists
+    → shows (list_of xs) (Shown (codes "[") ∷ (with_commas lists ++ Shown (codes "]") ∷ []))
 
 -- one level, with the tree of each value in its place
 abbrev pub level : Value-F Tree → Tree

@@ -1,7 +1,8 @@
-//! What the lists of the small formatter tell.
-ghost use Rattle.guide_formatters.specs.Values.{ListsTell};
+//! What the lists of the small formatter show.
+ghost use Rattle.guide_formatters.specs.Values.{ListsShow};
 
-/// A list tells the texts that its documents tell, with a comma in each gap and brackets around them.
+/// A list shows what its documents show, with brackets around it all, and with a comma and then a space or a line end
+/// between two of them. Inside the brackets there may be gaps; those of an empty list stand side by side.
 pub fn law_list()
-    ensures { ListsTell }
+    ensures { ListsShow }
 {}

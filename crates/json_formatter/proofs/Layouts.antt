@@ -1,5 +1,5 @@
 -- What a layout shows is the text's lexemes with gaps around them, so it is the same value.
-use Rattle.std.proofs.Common.{◌≡◌, refl, sym, ◌∙◌, ap, subst, ℕ, Bool, true, false, ◌||◌, ◌==◌, List, [], ◌∷◌, ◌++◌, append_assoc, append-nil, inl, inr, ◌⊎◌, Option, Some, None}
+use Rattle.std.proofs.Common.{◌≡◌, refl, sym, ◌∙◌, ap, ℕ, Bool, true, false, ◌||◌, ◌==◌, List, [], ◌∷◌, ◌++◌, append_assoc, inl, inr, ◌⊎◌, Option, Some, None}
 use Rattle.std.specs.Prelude.{IsSome, Result, Ok, Err, OnOk, OnErr, IfErr}
 use Rattle.std.specs.Io.KnownBytes.{Appends}
 use Rattle.std.proofs.lemmas.Bool.{cases_Bool}
@@ -11,10 +11,9 @@ use Rattle.json_lexemes.specs.Spaced.{IsGap, IsSpaced}
 use Rattle.prettyless_model.specs.Spelling.{is_blank_byte, ink}
 use Rattle.prettyless.specs.Layout.{Whole, Cut, bytes_in, layout}
 use Rattle.prettyless.specs.Options.{options_at}
-use Rattle.prettyless.specs.Texts.{texts}
 use Rattle.prettyless.specs.Tree.{Tree}
-use Rattle.prettyless_model.specs.Texts as model
-use Rattle.prettyless_model.proofs.ShownTexts.{texts_of_layout}
+use Rattle.prettyless_model.specs.Shows as model
+use Rattle.prettyless_model.proofs.SpacedTexts.{layout_texts}
 use Rattle.prettyless_laws.proofs.TotalTrees.{total_layout}
 use Rattle.json_lexemes.proofs.Reading.{same_reading}
 use Rattle.json_formatter.specs.declared.style.Style.{Style}
@@ -22,7 +21,7 @@ use Rattle.json_formatter.specs.Documents.{layout_of, tree_of}
 use Rattle.json_formatter.specs.Formats.{AppendsBeginning, Formats, IsFormatted, IsWriting}
 use Rattle.json_formatter.specs.declared.error.FormatError.{FormatError}
 use Rattle.json_formatter.specs.declared.error.FormatError.TheVariants.{NotJson, Memory, Write}
-use Rattle.json_formatter.proofs.Telling.{tree_takes}
+use Rattle.json_formatter.proofs.Shown.{tree_texts}
 use Rattle.json_formatter.proofs.Total.{tree_total}
 
 -- ---- gaps
@@ -41,7 +40,7 @@ blank_is_space x e = go (cases_Bool (x == 32)) (cases_Bool (x == 9)) (cases_Bool
     go (inr s) (inr t) (inr f) (inl r) = rw (s, t, f, r) refl
     go (inr s) (inr t) (inr f) (inr r) = absurd (none_of (x == 32) (x == 13) (x == 10) s r f e)
 
-gap_bytes : (bytes : List ℕ) → ink bytes ≡ [] → IsGap bytes
+gap_bytes : (bytes : List ℕ) → model.IsBlank bytes → IsGap bytes
 gap_bytes [] e = tt
 gap_bytes (x ∷ xs) e = go (cases_Bool (is_blank_byte x)) (gap_bytes xs)
   where
@@ -76,13 +75,11 @@ spaced_ended (s ∷ ss) bytes h = (
 layout_spaced : (style : Style) (text : List ℕ) → IsSpaced (layout_of style text) (lexemes text)
 layout_spaced style text =
     let options = options_at style.width in
-    let tree = tree_of style (lexemes text) in
-    let takes = tree_takes style text in
-    let whole = total_layout options tree (tree_total style (lexemes text)) in
-    let told = texts_of_layout options tree whole.0 takes.items takes.told whole.1 in
-    let spaced = spaced_ended (texts takes.items) whole.0 (spaced_json (texts takes.items) whole.0 told) in
-    let all : texts takes.items ≡ lexemes text = sym (takes.taken ∙ append-nil (texts takes.items)) in
-    rw (whole.1) (subst (IsSpaced (whole.0 ++ line_feed ∷ [])) all spaced)
+    let ss = lexemes text in
+    let tree = tree_of style ss in
+    let whole = total_layout options tree (tree_total style ss) in
+    let spaced = layout_texts options tree whole.0 ss (tree_texts style text) whole.1 in
+    rw (whole.1) (spaced_ended ss whole.0 (spaced_json ss whole.0 spaced))
 
 whole_or_cut : (whole cut : List ℕ) → Whole whole ≡ Cut cut → ⊥
 whole_or_cut whole cut e = absurd (cc)

@@ -1,96 +1,107 @@
--- What documents that are put together tell of the texts that were taken.
-use Rattle.std.specs.List.{AllZip}
-use Rattle.std.proofs.Common.{◌≡◌, ◌≢◌, refl, sym, ◌∙◌, ap, subst, ℕ, ℤ, Bool, List, [], ◌∷◌, ◌++◌, append_assoc, inr}
-use Rattle.prettyless.specs.Built.{append}
+-- Documents that are put together have the texts that were taken, one after the other.
+use Rattle.std.proofs.Common.{◌≡◌, ◌≢◌, refl, sym, ◌∙◌, ap, subst, ℕ, ℤ, Bool, true, false, List, [], ◌∷◌, ◌++◌, append_assoc}
+use Rattle.std.specs.List.{fold}
+use Rattle.prettyless.specs.Built.{append, enclose, group, nest, softline}
 use Rattle.prettyless.specs.Counted.{text}
-use Rattle.prettyless.specs.Lines.{space}
-use Rattle.prettyless.specs.Texts.{Item, Shown, Apart, texts, tells}
-use Rattle.prettyless.specs.Told.{text_items, after_gaps, with_gaps}
+use Rattle.prettyless.specs.Lines.{line, line_, space}
+use Rattle.prettyless.specs.Shows.{Shown, spaced, apart, loose, HasTexts}
 use Rattle.prettyless.specs.Tree.{Tree, Nil}
-use Rattle.prettyless.proofs.ToldItems.{append_tells, texts_tell}
+use Rattle.prettyless.specs.Words.{intersperse}
+use Rattle.prettyless.proofs.ShownItems.{append_texts, text_shows, space_shows, line_shows, line__shows, softline_shows, nest_shows, group_shows}
 use Rattle.json_formatter.specs.Documents.{listed}
-use Rattle.json_formatter.proofs.Lists.{listed_tells}
 
--- a tree tells the texts that were taken of those that were given, in their order
+-- of the texts that were given, a tree has those that were taken, in their order; the others are left
 pub record Takes (given left : List (List ℕ)) (tree : Tree) : Type 0 where
-  pub items : List Item
-  pub told : tells tree items
-  pub taken : given ≡ texts items ++ left
+  pub taken : List (List ℕ)
+  pub has : HasTexts tree taken
+  pub all : given ≡ taken ++ left
 
 -- so do trees, one after the other
-pub record AllTake (given left : List (List ℕ)) (trees : List Tree) : Type 0 where
-  pub items : List (List Item)
-  pub told : AllZip tells trees items
-  pub taken : given ≡ texts (with_gaps [] items) ++ left
-
--- ---- texts
-
-texts-append : (xs ys : List Item) → texts (xs ++ ys) ≡ texts xs ++ texts ys
-texts-append [] ys = refl
-texts-append (Shown s ∷ xs) ys = ap (λ (l : List (List ℕ)). s ∷ l) (texts-append xs ys)
-texts-append (Apart ∷ xs) ys = texts-append xs ys
-
-texts_between : (xs ys : List Item) (left : List (List ℕ)) → texts (xs ++ ys) ++ left ≡ texts xs ++ (texts ys ++ left)
-texts_between xs ys left = ap (λ (l : List (List ℕ)). l ++ left) (texts-append xs ys) ∙ append_assoc (texts xs) (texts ys) left
-
--- a text that is not empty is the one that it tells
-text_alone : (s : List ℕ) (left : List (List ℕ)) → s ≢ [] → texts (text_items s) ++ left ≡ s ∷ left
-text_alone [] left some = absurd (some refl)
-text_alone (b ∷ bs) left some = refl
+abbrev pub AllTake : List (List ℕ) → List (List ℕ) → List Tree → Type 0
+AllTake given left [] = given ≡ left
+AllTake given left (x ∷ xs) = (next : List (List ℕ)) × Takes given next x × AllTake next left xs
 
 -- ---- one document
 
--- nothing
+-- a document that has no text takes none
+takes_none : (x : Tree) → HasTexts x [] → (left : List (List ℕ)) → Takes left left x
+takes_none x has left = record { taken = []; has = has; all = refl }
+
 pub takes_nothing : (left : List (List ℕ)) → Takes left left Nil
-takes_nothing left = record { items = []; told = refl; taken = refl }
+takes_nothing left = takes_none Nil ([], refl, tt, refl) left
 
--- a text
-pub takes_text : (s : List ℕ) (left : List (List ℕ)) → s ≢ [] → Takes (s ∷ left) left (text s)
-takes_text s left some = record { items = text_items s; told = (texts_tell s).0; taken = sym (text_alone s left some) }
-
--- a space
 pub takes_space : (left : List (List ℕ)) → Takes left left space
-takes_space left = record { items = []; told = inr (refl, tt); taken = refl }
+takes_space left = takes_none space (spaced ∷ [], space_shows, tt, refl) left
+
+takes_line_ : (left : List (List ℕ)) → Takes left left line_
+takes_line_ left = takes_none line_ (loose ∷ [], line__shows, tt, refl) left
+
+-- a text that is not empty
+pub takes_text : (s : List ℕ) (left : List (List ℕ)) → s ≢ [] → Takes (s ∷ left) left (text s)
+takes_text [] left some = absurd (some refl)
+takes_text (b ∷ bs) left some =
+    record { taken = (b ∷ bs) ∷ []; has = (Shown (b ∷ bs) ∷ [], text_shows (b ∷ bs), tt, refl); all = refl }
+
+-- ---- documents made of others
 
 -- two documents
 pub takes_both : (a b c : List (List ℕ)) (x y : Tree) → Takes a b x → Takes b c y → Takes a c (append x y)
 takes_both a b c x y h k = record {
-  items = h.items ++ k.items;
-  told = append_tells x y h.items k.items h.told k.told;
-  taken = h.taken ∙ ap (λ (l : List (List ℕ)). texts h.items ++ l) k.taken ∙ sym (texts_between h.items k.items c);
+  taken = h.taken ++ k.taken;
+  has = append_texts x y h.taken k.taken h.has k.has;
+  all = h.all ∙ ap (λ (l : List (List ℕ)). h.taken ++ l) k.all ∙ sym (append_assoc h.taken k.taken c);
 }
 
 -- a document, and a text that is not empty
 pub takes_mark : (a b c : List (List ℕ)) (s : List ℕ) (x : Tree) → s ≢ [] → Takes a b x → b ≡ s ∷ c → Takes a c (append x (text s))
 takes_mark a b c s x some h e = takes_both a (s ∷ c) c x (text s) (subst (λ (l : List (List ℕ)). Takes a l x) e h) (takes_text s c some)
 
--- ---- documents of a list
+takes_nested : (a b : List (List ℕ)) (k : ℤ) (x : Tree) → Takes a b x → Takes a b (nest k x)
+takes_nested a b k x h =
+    let has = h.has in
+    record { taken = h.taken; has = (has.0, nest_shows k x has.0 has.1, has.2, has.3); all = h.all }
 
--- no document
-pub none_take : (left : List (List ℕ)) → AllTake left left []
-none_take left = record { items = []; told = tt; taken = refl }
+takes_grouped : (a b : List (List ℕ)) (x : Tree) → Takes a b x → Takes a b (group x)
+takes_grouped a b x h =
+    let has = h.has in
+    record { taken = h.taken; has = (has.0, group_shows x has.0 has.1, has.2, has.3); all = h.all }
 
-no_gap : (told : List (List Item)) → after_gaps [] told ≡ with_gaps [] told
-no_gap [] = refl
-no_gap (items ∷ told) = refl
+-- ---- lists of documents
 
--- one document, and those after it
-pub one_and_all_take : (a b c : List (List ℕ)) (x : Tree) (xs : List Tree) → Takes a b x → AllTake b c xs → AllTake a c (x ∷ xs)
-one_and_all_take a b c x xs h k = record {
-  items = h.items ∷ k.items;
-  told = (h.told, k.told);
-  taken =
-      h.taken ∙ ap (λ (l : List (List ℕ)). texts h.items ++ l) k.taken ∙ sym (texts_between h.items (with_gaps [] k.items) c)
-      ∙ ap (λ (l : List Item). texts (h.items ++ l) ++ c) (sym (no_gap k.items));
-}
+-- documents appended, each after one that has no text
+takes_after : (gap : Tree) → HasTexts gap [] → (a b c : List (List ℕ)) (before : Tree) (xs : List Tree) → Takes a b before → AllTake b c xs
+    → Takes a c (fold (λ z y. append (append z gap) y) before xs)
+takes_after gap none a b c before [] h each = subst (λ (l : List (List ℕ)). Takes a l before) each h
+takes_after gap none a b c before (x ∷ xs) h each =
+    let parted = takes_both a b b before gap h (takes_none gap none b) in
+    let more = takes_both a b each.0 (append before gap) x parted each.1 in
+    takes_after gap none a each.0 c (append (append before gap) x) xs more each.2
 
--- documents between a text that is not empty and a document
-pub list_takes : (fills : Bool) (s : List ℕ) (k : ℤ) (a b c : List (List ℕ)) (xs : List Tree) (close : Tree) → s ≢ [] → AllTake a b xs → Takes b c close → Takes (s ∷ a) c (listed fills (text s) xs close k)
-list_takes fills s k a b c xs close some h last =
-    let inside = with_gaps [] h.items in
-    let all = h.taken ∙ ap (λ (l : List (List ℕ)). texts inside ++ l) last.taken ∙ sym (texts_between inside last.items c) in
-    record {
-      items = text_items s ++ (inside ++ last.items);
-      told = listed_tells fills (text s) close k xs (text_items s) last.items h.items (texts_tell s).0 last.told h.told;
-      taken = ap (λ (l : List (List ℕ)). s ∷ l) all ∙ sym (text_alone s (texts (inside ++ last.items) ++ c) some) ∙ sym (texts_between (text_items s) (inside ++ last.items) c);
-    }
+-- documents with such gaps between them, in lines of their own between two others
+takes_enclosed : (gap : Tree) → HasTexts gap [] → (a b c d : List (List ℕ)) (before after : Tree) (k : ℤ) (x : Tree) (xs : List Tree)
+    → Takes a b before → AllTake b c (x ∷ xs) → Takes c d after
+    → Takes a d (group (enclose before (append (nest k (append line_ (intersperse gap (x ∷ xs)))) line_) after))
+takes_enclosed gap none a b c d before after k x xs first each last =
+    let items = intersperse gap (x ∷ xs) in
+    let nested = nest k (append line_ items) in
+    let lines = append nested line_ in
+    let between = takes_after gap none b each.0 c x xs each.1 each.2 in
+    let further = takes_nested b c k (append line_ items) (takes_both b b c line_ items (takes_line_ b) between) in
+    let inside = takes_both b c c nested line_ further (takes_line_ c) in
+    let front = takes_both a b c before lines first inside in
+    takes_grouped a d (enclose before lines after) (takes_both a c d (append before lines) after front last)
+
+-- two others, with no document between them
+takes_beside : (a b c d : List (List ℕ)) (before after : Tree) → Takes a b before → b ≡ c → Takes c d after → Takes a d (append before after)
+takes_beside a b c d before after first none last =
+    takes_both a c d before after (subst (λ (l : List (List ℕ)). Takes a l before) none first) last
+
+-- documents between two others, in lines that are filled, or each on a line of its own
+pub takes_listed : (fills : Bool) (a b c d : List (List ℕ)) (before after : Tree) (k : ℤ) (xs : List Tree) → Takes a b before → AllTake b c xs → Takes c d after
+    → Takes a d (listed fills before xs after k)
+takes_listed true a b c d before after k [] first each last = takes_beside a b c d before after first each last
+takes_listed false a b c d before after k [] first each last = takes_beside a b c d before after first each last
+takes_listed true a b c d before after k (x ∷ xs) first each last =
+    takes_enclosed softline (apart ∷ [], softline_shows, tt, refl) a b c d before after k x xs first each last
+takes_listed false a b c d before after k (x ∷ xs) first each last =
+    takes_enclosed line (apart ∷ [], line_shows, tt, refl) a b c d before after k x xs first each last

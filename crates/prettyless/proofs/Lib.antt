@@ -1,1 +1,2 @@
-pub use Rattle.prettyless_alloc.proofs.ToldItems
+pub use Rattle.prettyless_alloc.proofs.ShownItems
+pub use Rattle.prettyless_model.proofs.SpacedTexts

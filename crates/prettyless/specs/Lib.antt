@@ -1,5 +1,5 @@
 pub use Rattle.prettyless_alloc.specs.Lists
-pub use Rattle.prettyless_alloc.specs.Told
+pub use Rattle.prettyless_alloc.specs.Shown
 pub use Rattle.prettyless_alloc.specs.Words
 pub use Rattle.prettyless_build.specs.Built
 pub use Rattle.prettyless_build.specs.Iterated
@@ -30,7 +30,7 @@ pub use Rattle.prettyless_laws.specs.Reading
 pub use Rattle.prettyless_model.specs.Choice
 pub use Rattle.prettyless_model.specs.Look
 pub use Rattle.prettyless_model.specs.Spelling
-pub use Rattle.prettyless_model.specs.Texts
+pub use Rattle.prettyless_model.specs.Shows
 pub use Rattle.prettyless_pointers.specs.Trees
 pub use Rattle.prettyless_printer.specs.Renders
 pub use Rattle.prettyless_model.specs.Options

@@ -1,5 +1,5 @@
 pub mod Gaps
 pub mod Lists
 pub mod Pieces
-pub mod ToldItems
+pub mod ShownItems
 pub mod Walks

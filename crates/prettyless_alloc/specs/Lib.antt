@@ -1,5 +1,5 @@
 pub mod Lists
-pub mod Told
+pub mod Shown
 pub mod Words
 pub use Rattle.prettyless_build.specs.Built
 pub use Rattle.prettyless_build.specs.Iterated

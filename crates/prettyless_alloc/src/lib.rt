@@ -9,8 +9,8 @@ pub mod concat;
 pub mod intersperse;
 mod punctuated;
 mod separate;
+mod shown;
 mod spaces;
-mod told;
 mod words;
 
 pub use allocator::DocAllocator;
@@ -18,4 +18,4 @@ pub use allocator_of::DocAllocatorOf;
 pub use allocator_of_two::DocAllocatorOfTwo;
 pub use concat::DocAllocatorOver;
 pub use intersperse::DocAllocatorBetween;
-pub use told::law_lists;
+pub use shown::law_lists;

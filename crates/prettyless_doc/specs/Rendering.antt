@@ -23,8 +23,8 @@ pub record RendersDoc {A E : Type 0} (o : RenderOptions) (d : Tree) (fails : E �
   -- answer is not `Sink`, the failures stay.
   pub bytes : IfKnown old new (λ before after. Rendered fails (layout o d) before after n m result)
   -- `Ok`, where the bytes are known: what was appended has the document's content. Where the document spells a word,
-  -- it is that word but for spaces, CR and LF: in order without line suffixes, else each byte as often. Where it tells
-  -- texts, it is these, each whole, in their order, with gaps around them.
+  -- it is that word but for spaces, CR and LF: in order without line suffixes, else each byte as often. What it shows is
+  -- there: each text whole, in order, with such gaps between them, and late ones at the end of their line.
   pub content : IfKnown old new (λ before after. IfOk result (λ _. AppendsContent d before after))
 
 -- The same of a writer that is lent to the call: its bytes are `old`, then `new`, where they are known.

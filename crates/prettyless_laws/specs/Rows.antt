@@ -1,12 +1,14 @@
--- What it is for a small document to have these pieces as its trace, and to tell these texts.
-use Rattle.std.specs.Prelude.{◌≡◌, ℕ, pos, List, [], ◌∷◌, codes, ⊤}
+-- What it is for a small document to have these pieces as its trace, and to show these items.
+use Rattle.std.specs.Prelude.{◌≡◌, ℕ, pos, List, [], ◌∷◌, ◌++◌, codes, ⊤}
 use Prim.Native.String.{String}
 use Rattle.prettyless_model.specs.Options.{options_at}
 use Rattle.prettyless_model.specs.Tree as t
-use Rattle.prettyless_model.specs.Tree.{Tree, Append, Group, HardLine, Nest, WeakSpace}
+use Rattle.prettyless_model.specs.Tree.{Tree, Nil, Append, BreakOrFlat, Group, HardLine, LineSuffix, Nest, Union, WeakSpace}
 use Rattle.prettyless_model.specs.Rows.{Shows, deferred_at, in_turn, line, text}
-use Rattle.prettyless_model.specs.Texts.{Item, Shown, Apart, IsShown, tells}
+use Rattle.prettyless_model.specs.Shows.{Item, Shown, Mark, Late, apart, ended, loose, shows, AreShown, HasTexts}
 use Rattle.prettyless_laws.specs.Trace.{Piece, Text, Complete, Partial, trace}
+
+-- ---- traces
 
 -- at this width the document's trace is these pieces, under either policy of indents
 abbrev pub HasTrace : ℕ → Tree → List Piece → Type 0
@@ -21,44 +23,94 @@ abbrev pub text_piece : String → ℕ → Piece
 text_piece s column = Text (codes s) column
 
 -- two texts with an empty line between them
-abbrev pub apart : Tree
-apart = Nest (pos 2) (in_turn (text "aaa") (HardLine ∷ HardLine ∷ text "bbb" ∷ []))
+abbrev pub with_empty_line : Tree
+with_empty_line = Nest (pos 2) (in_turn (text "aaa") (HardLine ∷ HardLine ∷ text "bbb" ∷ []))
 
--- the document tells these items, and at this width it is laid out as these bytes
+-- ---- what is shown, and what is not
+
+-- the document shows these items, and at this width it is laid out as these bytes
 abbrev pub ShowsItems : ℕ → Tree → List Item → List ℕ → Type 0
-ShowsItems width d items bytes = tells d items × Shows width d bytes
-
--- the document tells nothing: no law of texts speaks of it
-abbrev pub TellsNothing : Tree → Type 0
-TellsNothing d = (items : List Item) → tells d items → ⊥
+ShowsItems width d items bytes = shows d items × Shows width d bytes
 
 -- bytes that do not show these items
 abbrev pub DoesNotShow : List ℕ → List Item → Type 0
-DoesNotShow bytes items = IsShown bytes items → ⊥
+DoesNotShow bytes items = AreShown bytes items → ⊥
+
+-- a document that does not show these items
+abbrev pub DoesNotHave : Tree → List Item → Type 0
+DoesNotHave d items = shows d items → ⊥
+
+-- a document that shows nothing that is known
+abbrev pub ShowsNothing : Tree → Type 0
+ShowsNothing d = (items : List Item) → shows d items → ⊥
+
+-- there are no texts that the document has by each of its alternatives
+abbrev pub HasNoTexts : Tree → Type 0
+HasNoTexts d = (ss : List (List ℕ)) → HasTexts d ss → ⊥
+
+-- ---- items
 
 -- a text item that is ASCII
 abbrev pub text_item : String → Item
 text_item s = Shown (codes s)
 
--- two texts, one after the other
-abbrev pub joined_items : List Item
-joined_items = text_item "1" ∷ text_item "2" ∷ []
+-- such a text at the end of its line
+abbrev pub late_item : String → Item
+late_item s = Late (text_item s)
 
--- the same two, which stand apart
-abbrev pub parted_items : List Item
-parted_items = text_item "1" ∷ Apart ∷ text_item "2" ∷ []
+-- the texts 1 and 2, and what is between them
+abbrev pub numbers_with : List Item → List Item
+numbers_with between = text_item "1" ∷ (between ++ text_item "2" ∷ [])
 
--- what the list of three numbers tells
+-- a remark, a text, and what is between them
+abbrev pub remark_with : List Item → List Item
+remark_with between = text_item "# c" ∷ (between ++ text_item "x" ∷ [])
+
+-- a text with a late remark, another text, and what is between them
+abbrev pub late_with : Item → List Item
+late_with gap = text_item "a" ∷ late_item " # c" ∷ gap ∷ text_item "b" ∷ []
+
+-- what the list of three numbers shows
 abbrev pub numbers_items : List Item
-numbers_items = text_item "(" ∷ text_item "1" ∷ Apart ∷ text_item "2" ∷ Apart ∷ text_item "3" ∷ text_item ")" ∷ []
+numbers_items = text_item "(" ∷ text_item "1" ∷ apart ∷ text_item "2" ∷ apart ∷ text_item "3" ∷ text_item ")" ∷ []
+
+-- what the list of one number shows
+abbrev pub one_number_items : List Item
+one_number_items = text_item "(" ∷ loose ∷ text_item "1" ∷ Mark (codes ",") ∷ loose ∷ text_item ")" ∷ []
+
+-- what two late texts on one line show
+abbrev pub two_late_items : List Item
+two_late_items = text_item "a" ∷ late_item " #1" ∷ text_item "b" ∷ late_item " #2" ∷ ended ∷ text_item "c" ∷ []
+
+-- ---- documents
 
 -- two texts with a weak space on either side of a line end
 abbrev pub padded : Tree
 padded = in_turn (text "1") (WeakSpace ∷ HardLine ∷ WeakSpace ∷ text "2" ∷ [])
 
 -- two texts with spaces between them
-abbrev pub spaced : Tree
-spaced = in_turn (text "1") (text "  " ∷ text "2" ∷ [])
+abbrev pub widely_spaced : Tree
+widely_spaced = in_turn (text "1") (text "  " ∷ text "2" ∷ [])
+
+-- nothing, or the end of a line
+abbrev pub tight_line : Tree
+tight_line = BreakOrFlat HardLine Nil
+
+-- a list of one number, with a comma after it where the list is broken
+abbrev pub one_number : Tree
+one_number = Group (in_turn (text "(") (tight_line ∷ text "1" ∷ BreakOrFlat (text ",") Nil ∷ tight_line ∷ text ")" ∷ []))
+
+-- a text with a late remark, and a group after it
+abbrev pub late_remark : Tree
+late_remark = in_turn (text "a") (LineSuffix (text " # c") ∷ Group (Append line (text "b")) ∷ [])
+
+-- a text, or another where the first does not fit
+abbrev pub either_number : Tree
+either_number = Union (text "12") (text "1")
+
+-- two late texts on one line, and another line
+abbrev pub two_late : Tree
+two_late = in_turn (text "a") (LineSuffix (text " #1") ∷ text "b" ∷ LineSuffix (text " #2") ∷ HardLine ∷ text "c" ∷ [])
 
 -- texts with a line between each two
 abbrev pub lined : List ℕ → List (List ℕ) → Tree
@@ -68,7 +120,7 @@ lined s (next ∷ others) = Append (Append (t.Text s) line) (lined next others)
 -- these texts, each of which stands apart from the next
 abbrev pub lined_items : List ℕ → List (List ℕ) → List Item
 lined_items s [] = Shown s ∷ []
-lined_items s (next ∷ others) = Shown s ∷ Apart ∷ lined_items next others
+lined_items s (next ∷ others) = Shown s ∷ apart ∷ lined_items next others
 
 -- no text is empty
 abbrev pub NoneIsEmpty : List (List ℕ) → Type 0
@@ -76,7 +128,7 @@ NoneIsEmpty [] = ⊤
 NoneIsEmpty ([] ∷ others) = ⊥
 NoneIsEmpty ((b ∷ bs) ∷ others) = NoneIsEmpty others
 
--- a group of texts with lines between them tells that they stand apart
+-- a group of texts with lines between them shows that they stand apart
 abbrev pub LinedTextsStandApart : Type 0
 LinedTextsStandApart =
-    (s : List ℕ) (others : List (List ℕ)) → NoneIsEmpty (s ∷ others) → tells (Group (lined s others)) (lined_items s others)
+    (s : List ℕ) (others : List (List ℕ)) → NoneIsEmpty (s ∷ others) → shows (Group (lined s others)) (lined_items s others)

@@ -1,17 +1,17 @@
-//! Traces of small documents, and the texts that small documents tell, as the definitions alone compute them. The
-//! functions do nothing: their contracts speak.
+//! Traces of small documents, and what small documents show, as the definitions alone compute them. The functions do
+//! nothing: their contracts speak.
 
 ghost use Rattle.std.specs.Prelude.{pos, codes, true, false, ◌∷◌, []};
 ghost use Rattle.prettyless_model.specs.declared.choice.ColumnTest.TheVariants as by_column;
 ghost use Rattle.prettyless_model.specs.Tree.{Nil, Fail, MultilineText, WeakSpace, HardLine, WeakLine, Append, LineSuffix, Nest, Flatten, Union, PartialUnion};
 ghost use Rattle.prettyless_model.specs.Rows.{at_indent, flat_or_failed, in_turn, letter, letter_in_group, noted, numbers, pair, text, tight_pair, two_lines};
-ghost use Rattle.prettyless_model.specs.Texts.{Apart, Shown, IsShown};
+ghost use Rattle.prettyless_model.specs.Shows.{Mark, AreShown, apart, ended, loose, spaced};
 ghost use Rattle.prettyless_laws.specs.Trace.{Ending, Indent, Gap, Source, Chose, First, Second};
-ghost use Rattle.prettyless_laws.specs.Rows.{DoesNotShow, FailsAfter, HasTrace, LinedTextsStandApart, ShowsItems, TellsNothing, apart, joined_items, numbers_items, padded, parted_items, spaced, text_item, text_piece};
+ghost use Rattle.prettyless_laws.specs.Rows.{DoesNotHave, DoesNotShow, FailsAfter, HasNoTexts, HasTrace, LinedTextsStandApart, ShowsItems, ShowsNothing, either_number, late_item, late_remark, late_with, numbers_items, numbers_with, one_number, one_number_items, padded, remark_with, text_item, text_piece, two_late, two_late_items, widely_spaced, with_empty_line};
 
 /// Each line end is followed by the indent of the next line, and each text comes after its weak spaces.
 pub fn rows()
-    ensures lines { HasTrace 80 apart
+    ensures lines { HasTrace 80 with_empty_line
         (Gap 0 ∷ text_piece "aaa" 3 ∷ Ending ∷ Indent 2 false ∷ Ending ∷ Indent 2 true ∷ Gap 0 ∷ text_piece "bbb" 5 ∷ []) }
     ensures nothing { HasTrace 80 Nil [] }
     ensures last_line { HasTrace 80 (Nest (pos 2) HardLine) (Ending ∷ Indent 2 false ∷ []) }
@@ -53,25 +53,60 @@ pub fn rows()
     ensures failure { FailsAfter 80 (in_turn (text "a") (HardLine ∷ Fail ∷ [])) (Gap 0 ∷ text_piece "a" 1 ∷ Ending ∷ Indent 0 false ∷ []) }
 {}
 
-/// Each text is told whole, and a break or a space between two texts sets them apart.
+/// Each text is shown whole, with the gap between two texts that each of the alternatives has.
 pub fn texts()
     ensures fits { ShowsItems 80 numbers numbers_items (codes "(1 2 3)") }
     ensures breaks { ShowsItems 5 numbers numbers_items (codes "(1\n 2\n 3)") }
-    ensures joined { ShowsItems 80 (tight_pair "1" "2") joined_items (codes "12") }
-    ensures on_two_lines { ShowsItems 1 (tight_pair "1" "2") joined_items (codes "1\n2") }
-    ensures weak_space { ShowsItems 80 (in_turn (text "1") (WeakSpace ∷ text "2" ∷ [])) parted_items (codes "1 2") }
-    ensures padding { ShowsItems 80 padded parted_items (codes "1\n2") }
-    ensures spaces { ShowsItems 80 spaced parted_items (codes "1  2") }
-    ensures spaces_as_text { ShowsItems 80 spaced (text_item "1" ∷ text_item "  " ∷ text_item "2" ∷ []) (codes "1  2") }
+    ensures joined { ShowsItems 80 (tight_pair "1" "2") (numbers_with (loose ∷ [])) (codes "12") }
+    ensures on_two_lines { ShowsItems 1 (tight_pair "1" "2") (numbers_with (loose ∷ [])) (codes "1\n2") }
+    ensures side_by_side { ShowsItems 80 (Append (text "1") (text "2")) (numbers_with []) (codes "12") }
+    ensures weak_space { ShowsItems 80 (in_turn (text "1") (WeakSpace ∷ text "2" ∷ [])) (numbers_with (spaced ∷ [])) (codes "1 2") }
+    ensures padding { ShowsItems 80 padded (numbers_with (spaced ∷ ended ∷ spaced ∷ [])) (codes "1\n2") }
+    ensures spaces { ShowsItems 80 widely_spaced (numbers_with (spaced ∷ [])) (codes "1  2") }
+    ensures spaces_as_text { ShowsItems 80 widely_spaced (numbers_with (text_item "  " ∷ [])) (codes "1  2") }
     ensures spaces_within { ShowsItems 80 (text "x = 1") (text_item "x = 1" ∷ []) (codes "x = 1") }
     ensures payload { ShowsItems 80 (in_turn (text "a") (WeakSpace ∷ MultilineText (codes "b\nc") ∷ []))
-        (text_item "a" ∷ Apart ∷ text_item "b\nc" ∷ []) (codes "a b\nc") }
+        (text_item "a" ∷ spaced ∷ text_item "b\nc" ∷ []) (codes "a b\nc") }
     ensures list { LinedTextsStandApart }
     ensures failed_alternative { ShowsItems 80 flat_or_failed (text_item "12345" ∷ []) (codes "12345") }
 
-    // What is not told, and what is not shown.
-    ensures other_texts { TellsNothing (Union (text "1") (text "12")) }
-    ensures suffix { TellsNothing noted }
-    ensures shown_joined { IsShown (codes "12") joined_items }
-    ensures not_parted { DoesNotShow (codes "12") parted_items }
+    // A remark goes on to the end of its line, and the line end is shown.
+    ensures remark { ShowsItems 80 (two_lines "# c" "x") (remark_with (ended ∷ [])) (codes "# c\nx") }
+    ensures remark_weakly_ended { ShowsItems 80 (in_turn (text "# c") (WeakLine ∷ text "x" ∷ []))
+        (remark_with (ended ∷ [])) (codes "# c\nx") }
+    ensures remark_ended_twice { ShowsItems 80 (in_turn (text "# c") (HardLine ∷ WeakLine ∷ text "x" ∷ []))
+        (remark_with (ended ∷ ended ∷ [])) (codes "# c\nx") }
+    ensures space_is_no_end { DoesNotHave (in_turn (text "# c") (WeakSpace ∷ text "x" ∷ [])) (remark_with (ended ∷ [])) }
+    ensures line_is_no_end { DoesNotHave (pair "# c" "x") (remark_with (ended ∷ [])) }
+
+    // What is late comes at the end of its line, after what is on the line and before the line end.
+    ensures late_before_end { ShowsItems 2 late_remark (late_with apart) (codes "a # c\nb") }
+    ensures late_behind_group { ShowsItems 80 late_remark (late_with apart) (codes "a b # c") }
+    ensures late_in_turn { ShowsItems 80 two_late two_late_items (codes "ab #1 #2\nc") }
+    ensures late_at_the_end { ShowsItems 80 (Append (text "a") (LineSuffix (text " # c")))
+        (text_item "a" ∷ late_item " # c" ∷ []) (codes "a # c") }
+    ensures late_after_space { ShowsItems 80 noted (text_item "a" ∷ spaced ∷ late_item "//" ∷ []) (codes "a //") }
+    ensures late_in_late { ShowsNothing (LineSuffix (LineSuffix (text "x"))) }
+
+    // What is there by some alternatives alone is a mark.
+    ensures mark_left_out { ShowsItems 80 one_number one_number_items (codes "(1)") }
+    ensures mark_set { ShowsItems 1 one_number one_number_items (codes "(\n1,\n)") }
+    ensures first_of_two { ShowsItems 80 either_number (Mark (codes "12") ∷ Mark (codes "1") ∷ []) (codes "12") }
+    ensures second_of_two { ShowsItems 1 either_number (Mark (codes "12") ∷ Mark (codes "1") ∷ []) (codes "1") }
+    ensures none_of_two { HasNoTexts either_number }
+
+    // What bytes show, and what they do not show.
+    ensures shown_joined { AreShown (codes "12") (numbers_with []) }
+    ensures not_joined { DoesNotShow (codes "1 2") (numbers_with []) }
+    ensures not_apart { DoesNotShow (codes "12") (numbers_with (apart ∷ [])) }
+    ensures not_on_one_line { DoesNotShow (codes "1\n2") (numbers_with (spaced ∷ [])) }
+    ensures not_ended { DoesNotShow (codes "# c x") (remark_with (ended ∷ [])) }
+    ensures not_after_late { DoesNotShow (codes "a # c b") (late_with apart) }
+    ensures not_beside_late { DoesNotShow (codes "a # cb") (late_with apart) }
+    ensures not_late_enough { DoesNotShow (codes "a\n # c\nb") (late_with ended) }
+    ensures not_marked_twice { DoesNotShow (codes "1,,") (text_item "1" ∷ Mark (codes ",") ∷ []) }
+    ensures not_late_before_a_gap { DoesNotShow (codes "1#\n2") (text_item "1" ∷ apart ∷ late_item "#" ∷ text_item "2" ∷ []) }
+    ensures not_late_after_a_space { DoesNotShow (codes "a #") (text_item "a" ∷ late_item "#" ∷ []) }
+    ensures not_on_the_next_line { DoesNotShow (codes "\n1") (text_item "1" ∷ []) }
+    ensures not_before_a_line_end { DoesNotShow (codes "1\n") (text_item "1" ∷ []) }
 {}

@@ -1,9 +1,10 @@
-ghost use Rattle.prettyless_model.specs.Texts.{LayoutsShowItems, LayoutsTellTexts};
+ghost use Rattle.prettyless_model.specs.Shows.{LayoutsShow, LayoutsShowTexts, ShownIsImplied};
 
-/// The texts that a document tells, whichever alternatives are taken, are what its layout shows where it does not fail:
-/// each whole, in their order, with spaces and line ends alone between them. Where a break or a space is told between two
-/// texts, the gap between them is not empty.
+/// What a document shows, whichever alternatives are taken, its layout shows, where it does not fail: each text whole, in
+/// its order, with such gaps between them, and late ones at the end of their line. Where texts alone are asked for, there
+/// may be any gaps. Bytes that show items show what these imply.
 pub fn law_texts()
-    ensures told { LayoutsTellTexts }
-    ensures apart { LayoutsShowItems }
+    ensures shown { LayoutsShow }
+    ensures texts { LayoutsShowTexts }
+    ensures implied { ShownIsImplied }
 {}

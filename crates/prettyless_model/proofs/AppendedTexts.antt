@@ -1,14 +1,14 @@
 -- What a caller of a render call cites of the texts that were appended.
 use Rattle.std.proofs.Common.{◌≡◌, List, ℕ, ◌++◌}
 use Rattle.prettyless_model.specs.Tree.{Tree}
-use Rattle.prettyless_model.specs.Texts.{Item, Start, texts, tells, IsShown, IsSpaced}
+use Rattle.prettyless_model.specs.Shows.{Item, HasTexts, IsSpaced, shows, AreShown}
 use Rattle.prettyless_model.specs.Content.{AppendsContent}
-use Rattle.prettyless_model.proofs.ShownTexts.{spaced_from}
+use Rattle.prettyless_model.proofs.SpacedTexts.{texts_shown}
 
--- what was appended shows the items that the document tells
-pub appended_shown : (d : Tree) (old new : List ℕ) (items : List Item) → AppendsContent d old new → tells d items → (b : List ℕ) × (new ≡ old ++ b) × IsShown b items
-appended_shown d old new items h told = (h.0, h.1, h.2.shown items told)
+-- what was appended shows the items that the document shows
+pub appended_shows : (d : Tree) (old new : List ℕ) (items : List Item) → AppendsContent d old new → shows d items → (b : List ℕ) × (new ≡ old ++ b) × AreShown b items
+appended_shows d old new items h s = (h.0, h.1, h.2.shown items s)
 
--- bytes that show items are the texts among them, in their order, with gaps around them
-pub shown_spaced : (b : List ℕ) (items : List Item) → IsShown b items → IsSpaced b (texts items)
-shown_spaced b items h = spaced_from Start b items h
+-- and is the texts of the document, with gaps around them
+pub appended_texts : (d : Tree) (old new : List ℕ) (ss : List (List ℕ)) → AppendsContent d old new → HasTexts d ss → (b : List ℕ) × (new ≡ old ++ b) × IsSpaced b ss
+appended_texts d old new ss h s = (h.0, h.1, texts_shown d h.0 ss h.2 s)

@@ -8,7 +8,10 @@ pub mod Endings
 pub mod Writes
 pub mod ContentMerged
 pub mod ContentCounted
-pub mod ShownTexts
+pub mod Implied
+pub mod Gaps
+pub mod Showing
+pub mod SpacedTexts
 pub mod Content
 pub mod AppendedTexts
 pub mod SpaceRuns

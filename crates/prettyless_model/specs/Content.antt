@@ -1,11 +1,11 @@
--- The content of a layout: what a document spells is what its layout writes, but for space, CR and LF. The texts that it tells
--- are shown whole.
+-- The content of a layout: what a document spells is what its layout writes, but for space, CR and LF. What it shows is there:
+-- each text whole, with such gaps between them.
 use Rattle.std.specs.Prelude.{◌≡◌, ℕ, ◌+◌, ◌≤◌, max, ◌==◌, List, [], ◌∷◌, ◌++◌, Option, Some, ◌⊎◌, ⊤, count_by}
 use Rattle.prettyless_model.specs.declared.options.RenderOptions.{RenderOptions}
 use Rattle.prettyless_model.specs.Tree.{Tree, Append, LineSuffix, Nest, DedentToRoot, Align, Flatten, BreakOrFlat, Group, Union, PartialUnion, OnColumn, OnNesting}
 use Rattle.prettyless_model.specs.Layout.{Whole, layout}
 use Rattle.prettyless_model.specs.Spelling.{ink, spells, parts}
-use Rattle.prettyless_model.specs.Texts.{Item, IsShown, tells}
+use Rattle.prettyless_model.specs.Shows.{Item, AreShown, shows}
 
 -- how deep line suffixes are in one another: 0 where there are none, 1 where none is inside another
 abbrev pub suffix_depth : Tree → ℕ
@@ -41,9 +41,9 @@ pub record HasContent (d : Tree) (b : List ℕ) : Type 0 where
   pub counted : (w : List ℕ) → spells d w → (c : ℕ) → count c (ink b) ≡ count c w
   -- with no line suffix inside another: what it spells outside its line suffixes and what it spells inside them, interleaved
   pub merged : (v u : List ℕ) → parts d v u → suffix_depth d ≤ 1 → IsMerge (ink b) v u
-  -- the texts that the document tells, each whole, in their order, with gaps alone around them, and none that is empty between
-  -- texts that stand apart
-  pub shown : (items : List Item) → tells d items → IsShown b items
+  -- what the document shows: its texts, each whole, in their order, with such gaps between them; late ones at the end of
+  -- their line
+  pub shown : (items : List Item) → shows d items → AreShown b items
 
 -- whole layouts have the content of their documents
 abbrev pub LayoutsHaveContent : Type 0

@@ -10,5 +10,5 @@ pub mod Levels
 pub mod Counts
 pub mod Rows
 pub mod Spelling
-pub mod Texts
+pub mod Shows
 pub mod Content

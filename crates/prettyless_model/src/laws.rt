@@ -9,8 +9,8 @@ pub fn law_levels()
 {}
 
 /// What a document spells is what its layout writes, but for space, CR and LF, where the layout does not fail: in its
-/// order without line suffixes, each byte as often with them, and interleaved where none is inside another. The texts that
-/// it tells are shown whole, in their order, with gaps around them.
+/// order without line suffixes, each byte as often with them, and interleaved where none is inside another. What it shows
+/// is there: each text whole, with such gaps between them, and late ones at the end of their line.
 pub fn law_content()
     ensures { LayoutsHaveContent }
 {}

@@ -1,0 +1,11 @@
+ghost use Rattle.prettyless_alloc.specs.Shown.{BracketedShow, MarksStandInGaps, PunctuatedShow, SeparatedShow, TextsShow};
+
+/// Where each of some documents shows items, as `law_texts` says, so do lists of them: with those of the separator in each
+/// gap, those of the mark after each document but the last, and those of the brackets around them all.
+pub fn law_lists()
+    ensures texts { TextsShow }
+    ensures separated { SeparatedShow }
+    ensures punctuated { PunctuatedShow }
+    ensures bracketed { BracketedShow }
+    ensures gaps { MarksStandInGaps }
+{}
