@@ -49,7 +49,8 @@ extern "C" {
 
 /* ---- The library's calls ---- */
 
-/* What a call answers. The numbers stay as they are; later versions may add others. */
+/* What a call answers. The numbers stay as they are; later versions may add others. Those from 16 on say what is wrong
+   with a program, and not where. */
 enum pl_status {
     /* The layout is whole. */
     PL_OK = 0,
@@ -89,7 +90,7 @@ enum pl_op {
     PL_OP_WEAK_SPACE = 2,
     /* A line break. */
     PL_OP_HARD_LINE = 3,
-    /* A line break, but nothing at the beginning of a line on which no suffix is pending. */
+    /* A line break. At the beginning of a line it is nothing, unless a suffix is pending there. */
     PL_OP_WEAK_LINE = 4,
     /* Nothing, but the groups around it are broken. */
     PL_OP_EXPAND_PARENT = 5,
@@ -160,11 +161,12 @@ enum pl_op {
    out        gets the layout, at most `capacity` bytes; no 0 is put after it
    *written   gets the number of bytes that were written to `out`; after PL_TOO_SMALL, the length of the whole layout
 
-   After PL_OK, out[0..*written) is the layout, and what comes after it in `out` is unchanged. After PL_TOO_SMALL, all
-   of `out` is the beginning of the layout. After PL_MEMORY and PL_PAST_LIMIT, out[0..*written) is a beginning of the
-   layout. After PL_FAILS, it is the bytes before the node that fails, as far as there is room; if *written is
-   `capacity`, there may be more of them, and a call with more room gets them. After statuses from 16 on, `out` is
-   unchanged and *written is 0.
+   After PL_OK, out[0..*written) is the layout, and what comes after it in `out` is unchanged. A layout ends in a line
+   end only if the document does. After PL_TOO_SMALL, all of `out` is the beginning of the layout. After PL_MEMORY and
+   PL_PAST_LIMIT, out[0..*written) is a beginning of the layout. After PL_FAILS, it is the bytes before the node that
+   fails, as far as there is room; if *written is `capacity`, there may be more of them, and a call with more room gets
+   them. What is not the whole layout may end inside a character. After statuses from 16 on, `out` is unchanged and
+   *written is 0.
 
    No pointer may be null, also for a length or a capacity of 0. The areas of program, out and written may not overlap.
    The call keeps no pointer. */
@@ -181,9 +183,9 @@ uint32_t prettyless_layout(const uint8_t *program, size_t length, size_t width, 
    limit, out, capacity and written are as of prettyless_layout, but the whole layout is made in memory before it is
    copied to `out`. So a limit bounds neither memory nor time: see "Limits" in docs/BINDINGS.md.
 
-   After PL_NOT_JSON, *line and *column say where the text stops being JSON of at most 128 levels (both from 1; a column
-   is a character), and out[0..*written) is the name of what was expected there, as far as there is room: a name has
-   fewer than 100 bytes. After other statuses *line and *column are 0.
+   After PL_NOT_JSON, *line and *column say where the token begins that is wrong, or where the first bytes are that are
+   not UTF-8 (both from 1; a column is a character). Then out[0..*written) is the name of what was expected there, as
+   far as there is room: a name has fewer than 100 bytes. After other statuses *line and *column are 0.
 
    No pointer may be null, also for a length or a capacity of 0. The areas of text, out, written, line and column may
    not overlap. The call keeps no pointer. */
@@ -318,7 +320,10 @@ static inline void pl_op_text_(pl_doc *doc, uint8_t op, const char *text, size_t
     if (length > 0) memcpy(at, text, length);
 }
 
-/* ---- Texts. They are UTF-8 (else the layout answers PL_NOT_UTF8), and are copied. A text is never broken. ---- */
+/* ---- Texts. They are UTF-8 (else the layout answers PL_NOT_UTF8), and are copied. A text is never broken.
+
+   pl_text writes LF, CR and tabs as they are, and counts one column for each (for CR LF one where the text is not
+   ASCII). Use pl_multiline for a text with line ends in it. ---- */
 
 /* A text of so many bytes, as wide as it is shown: a column for an ASCII character, two for a wide one. `text` may be
    null if the length is 0. */
@@ -395,8 +400,8 @@ static inline void pl_line_or_nil(pl_doc *doc)
     pl_op_(doc, PL_OP_LINE_OR_NIL);
 }
 
-/* A line break, but nothing at the beginning of a line on which no suffix is pending. A break also where lines are
-   flat. */
+/* A line break, also where lines are flat. At the beginning of a line it is nothing, unless a suffix is pending
+   there. */
 static inline void pl_weak_line(pl_doc *doc)
 {
     pl_op_(doc, PL_OP_WEAK_LINE);
@@ -442,7 +447,7 @@ static inline void pl_flatten(pl_doc *doc)
 }
 
 /* Lets its lines begin `columns` columns further to the right, or to the left where that is negative. No indent goes
-   below 0. The break before its first line has to be inside too. */
+   below 0. Only breaks inside the nest are indented, so put the break before its first line inside as well. */
 static inline void pl_nest(pl_doc *doc, int64_t columns)
 {
     pl_op_number_(doc, PL_OP_NEST, (uint64_t)columns);
@@ -480,7 +485,13 @@ static inline void pl_soft_line_or_nil(pl_doc *doc)
     pl_group(doc);
 }
 
-/* ---- Of the last two documents, called the first and the second ---- */
+/* ---- Of the last two documents, called the first and the second ----
+
+   A trailing comma, where lines are broken (the first document), and nothing where they are flat (the second):
+
+       pl_text(&doc, ",");
+       pl_nil(&doc);
+       pl_flat_alt(&doc); */
 
 /* The first, and then the second. A sequence (pl_open) is shorter for more than two. */
 static inline void pl_append(pl_doc *doc)
@@ -630,14 +641,16 @@ typedef struct pl_json_options {
 typedef struct pl_result {
     uint32_t status; /* a pl_status, never PL_TOO_SMALL */
     char *text;      /* PL_OK: the layout. PL_FAILS: the bytes before the node that fails. PL_NOT_JSON: the name of
-                        what was expected. PL_MEMORY, PL_PAST_LIMIT: a beginning of the layout. Else empty. A 0 comes
-                        after it. Null where memory for it was refused, or for the document. */
+                        what was expected. PL_MEMORY, PL_PAST_LIMIT: a beginning of the layout, which may end inside a
+                        character. Else empty. A 0 comes after it. Null where memory for it was refused, or for the
+                        document. */
     size_t length;   /* the length of `text` in bytes, without that 0; a text may hold a 0 too */
-    size_t line;     /* PL_NOT_JSON: the line where the text stops being JSON, from 1; else 0 */
-    size_t column;   /* PL_NOT_JSON: the column in that line, in characters from 1; else 0 */
+    size_t line;     /* PL_NOT_JSON: the line where the token begins that is wrong, from 1; else 0 */
+    size_t column;   /* PL_NOT_JSON: its column there, in characters from 1; else 0 */
 } pl_result;
 
-/* These options: lines of so many columns that end in LF, indents written at once, no limit. */
+/* These options: lines of so many columns that end in LF, indents written at once, no limit. Other fields are set
+   afterwards: `pl_options o = pl_width(60); o.limit = 1 << 20;`. */
 static inline pl_options pl_width(size_t width)
 {
     const pl_options options = {width, false, false, 0};

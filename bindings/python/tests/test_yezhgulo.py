@@ -196,9 +196,17 @@ class Constructs(unittest.TestCase):
         self.lays(join(", ", (str(i) for i in range(3))), 80, "0, 1, 2")
 
     def test_a_str_is_no_list(self):
-        for function in (fill, lambda docs: join(",", docs), lambda docs: bracketed("[", docs, "]")):
-            with self.assertRaisesRegex(TypeError, "not a str"):
+        functions = {
+            "docs is an iterable of documents, not a str (its words are s.split())": fill,
+            "docs is an iterable of documents, not a str (join takes the separator first)": lambda s: join([s], s),
+            "docs is an iterable of documents, not a str": lambda s: bracketed("[", s, "]"),
+        }
+        for message, function in functions.items():
+            with self.assertRaises(TypeError) as caught:
                 function("ab")
+            self.assertEqual(str(caught.exception), message)
+        with self.assertRaisesRegex(TypeError, "not a Doc"):
+            join(",", line)
 
     def test_subclasses_of_str(self):
         class Odd(str):
@@ -224,14 +232,17 @@ class Constructs(unittest.TestCase):
         self.lays(join("", words), 80, "".join(words))
 
     def test_no_text(self):
-        for wrong in (3, None, b"a", text("a")):
+        for wrong, kind in ((3, "int"), (None, "NoneType"), (b"a", "bytes"), (text("a"), "Doc")):
             for function in (text, ascii_text, multiline_text, lambda s: text_of_width(s, 1)):
-                with self.assertRaises(TypeError):
+                with self.assertRaises(TypeError) as caught:
                     function(wrong)
+                self.assertEqual(str(caught.exception), f"a text is a str, not {kind}")
+                self.assertTrue(caught.exception.__suppress_context__)
 
     def test_no_document(self):
-        with self.assertRaisesRegex(TypeError, "a Doc or a str, not int"):
+        with self.assertRaisesRegex(TypeError, "a Doc or a str, not int") as caught:
             group("a", 3)
+        self.assertTrue(caught.exception.__suppress_context__)
         with self.assertRaisesRegex(TypeError, "a Doc or a str, not NoneType"):
             nest(2, None)
         with self.assertRaisesRegex(TypeError, "a Doc or a str, not function"):
@@ -241,6 +252,11 @@ class Constructs(unittest.TestCase):
 
 
 class Values(unittest.TestCase):
+    def test_documents_compare_by_identity(self):
+        doc = text("a")
+        self.assertEqual({doc, doc}, {doc})
+        self.assertNotEqual(doc, text("a"))
+
     def test_documents_are_shared(self):
         word = group("a", line, "b")
         both = word + ";" + word
@@ -296,7 +312,9 @@ class Errors(unittest.TestCase):
                 nest(2, "語a", hard_line, doc).layout()
             self.assertIsInstance(caught.exception, YezhguloError)
             self.assertTrue(caught.exception.before.startswith("語a\n  "))
-        self.assertEqual(str(LayoutError("a\nb")), "the layout fails in line 2, after 'b'")
+        why = "no layout: a `fail`, or a hard line or payload under `flatten`, in line 2 after "
+        self.assertEqual(str(LayoutError("a\nb")), why + "'b'")
+        self.assertEqual(str(LayoutError("a\n" + "b" * 61)), why + f"'...{'b' * 57}'")
 
     def test_all_that_comes_before_a_failure(self):
         # The layout before is longer than twice the program, so it has to be asked for again.
@@ -311,8 +329,6 @@ class Errors(unittest.TestCase):
             with self.assertRaises(LimitError) as caught:
                 doc.layout(limit=limit)
             self.assertEqual((caught.exception.limit, caught.exception.before), (limit, before))
-        with self.assertRaisesRegex(ValueError, "at least 1 byte"):
-            doc.layout(limit=0)
 
     def test_a_limit_bounds_a_layout_without_end(self):
         with self.assertRaises(LimitError) as caught:
@@ -322,28 +338,42 @@ class Errors(unittest.TestCase):
     def test_a_layout_that_is_longer_than_was_guessed(self):
         self.assertEqual(nest(10_000, hard_line, "a").layout(), "\n" + " " * 10_000 + "a")
 
+    def refuses(self, function, wrong, kind, message):
+        with self.assertRaises(kind) as caught:
+            function(wrong)
+        self.assertEqual(str(caught.exception), message)
+        self.assertTrue(caught.exception.__context__ is None or caught.exception.__suppress_context__)
+
     def test_numbers(self):
         doc = text("a")
         self.assertEqual(doc.layout(2**64 - 1, limit=2**64 - 1), "a")
         calls = [
-            lambda n: doc.layout(n),
-            lambda n: doc.layout(limit=n),
-            lambda n: text_of_width("a", n),
-            lambda n: if_column_at_most(n, "a", "b"),
-            lambda n: if_nesting_at_least(n, "a", "b"),
+            ("width", 0, lambda n: doc.layout(n)),
+            ("width", 0, lambda n: text_of_width("a", n)),
+            ("limit (None is for no limit)", 1, lambda n: doc.layout(limit=n)),
+            ("column", 0, lambda n: if_column_at_most(n, "a", "b")),
+            ("column", 0, lambda n: if_column_at_least(n, "a", "b")),
+            ("columns", 0, lambda n: if_nesting_at_most(n, "a", "b")),
+            ("columns", 0, lambda n: if_nesting_at_least(n, "a", "b")),
         ]
-        for function in calls:
-            for wrong in (-1, 2**64):
-                with self.assertRaises(ValueError):
-                    function(wrong)
-            for wrong in (1.0, "1"):
-                with self.assertRaises(TypeError):
-                    function(wrong)
+        for name, least, function in calls:
+            for wrong in (-1, least - 1, 2**64):
+                self.refuses(function, wrong, ValueError, f"{name} is from {least} to {2**64 - 1}, not {wrong}")
+            for wrong in ("20", 1.0):
+                self.refuses(function, wrong, TypeError, f"{name} is an int, not {type(wrong).__name__}")
+
+    def test_numbers_of_indents(self):
+        calls = [
+            ("columns", lambda n: nest(n, line)),
+            ("columns", lambda n: indent(n, line)),
+            ("columns", lambda n: dedent(n, line)),
+            ("indent", lambda n: bracketed("[", ["1"], "]", indent=n)),
+        ]
+        for name, function in calls:
+            for wrong in ("a", 1.0):
+                self.refuses(function, wrong, TypeError, f"{name} is an int, not {type(wrong).__name__}")
         for wrong in (-(2**63) - 1, 2**63):
-            with self.assertRaises(ValueError):
-                nest(wrong, "a")
-        with self.assertRaises(TypeError):
-            nest(1.0, "a")
+            self.refuses(lambda n: nest(n, "a"), wrong, ValueError, f"columns is from -2**63 to 2**63 - 1, not {wrong}")
 
     def test_surrogates(self):
         for function in (text, ascii_text, multiline_text, group, lambda s: nil + s, lambda s: text_of_width(s, 1)):
@@ -406,6 +436,7 @@ class Json(unittest.TestCase):
             '{"a": [1,\n 2 3]}': (2, 4, "`,` or `]`"),
             "": (1, 1, "a value"),
             "[": (1, 2, "a value or `]`"),
+            "[tru]": (1, 2, "a value or `]`"),
             '{"語" 1}': (1, 6, "`:`"),
             "[" * 129: (1, 129, "at most 128 levels of nesting"),
             b"[\xff]": (1, 2, "UTF-8"),
@@ -500,6 +531,15 @@ class Names(unittest.TestCase):
         self.assertEqual(len(set(yezhgulo.__all__)), len(yezhgulo.__all__))
         for name in yezhgulo.__all__:
             self.assertTrue(hasattr(yezhgulo, name), name)
+
+    def test_what_help_shows(self):
+        """Each constant is in the table, and each function has an example."""
+        for name in yezhgulo.documents.__all__:
+            value = getattr(yezhgulo, name)
+            if isinstance(value, Doc):
+                self.assertRegex(yezhgulo.documents.__doc__, rf"\n    {name} ")
+            elif name != "DocLike":
+                self.assertIn(">>> ", value.__doc__, name)
 
 
 def load_tests(loader, tests, pattern):

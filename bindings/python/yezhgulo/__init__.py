@@ -60,7 +60,7 @@ a long sentence
 short
 
 A remark at the end of a line is a `line_suffix`, and `flat_alt`, `if_break` and `if_flat` differ between broken and
-flat lines. Each function has an example of its own: see `help(yezhgulo.documents)`.
+flat lines. `help(yezhgulo.documents)` has a table of the constants, such as `line`, and an example of each function.
 
 `Doc.layout` answers a `str`, and `str(doc)` is the layout within 80 columns. Where a document has no layout it raises a
 `LayoutError`, which has the text before the node that fails. `format_json` lays out a JSON text:

@@ -4,13 +4,12 @@ from __future__ import annotations
 
 import ctypes
 import os
-from operator import index
 from typing import Any, Callable, Optional, Tuple
 
+from yezhgulo._arguments import number
 from yezhgulo.errors import JsonError, LayoutError, LimitError, ProgramError
 
 _FILE = "libprettyless.so"
-_MOST = 2**64 - 1
 
 # The statuses, apart from those of a program that writes no document.
 _LAID_OUT = 0
@@ -67,22 +66,9 @@ _json_layout.argtypes = (
 _Call = Callable[[Any, int, Any], int]
 
 
-def number(value: int, what: str, most: int = _MOST) -> int:
-    """A number from 0 to `most`, 2^64 - 1 where that is not given, or a `ValueError` that says `what` it is."""
-    checked = index(value)
-    if not 0 <= checked <= most:
-        raise ValueError(f"{what} is from 0 to {most}, not {checked}")
-    return checked
-
-
 def _limit(limit: Optional[int]) -> int:
     """The limit as the library takes it, which has 0 for none."""
-    if limit is None:
-        return 0
-    checked = number(limit, "a limit in bytes")
-    if checked == 0:
-        raise ValueError("a limit is at least 1 byte; None is no limit")
-    return checked
+    return 0 if limit is None else number(limit, "limit (None is for no limit)", least=1)
 
 
 def _is_cut(status: int, written: int, capacity: int, limit: int) -> bool:
@@ -122,7 +108,7 @@ def _error(status: int, laid: memoryview, limit: int) -> Exception:
 
 def layout(program: bytes, width: int, crlf: bool, deferred: bool, limit: Optional[int]) -> str:
     """The layout of the document that a program writes."""
-    columns = number(width, "a width in columns")
+    columns = number(width, "width")
     most = _limit(limit)
 
     def call(area: Any, capacity: int, written: Any) -> int:
@@ -137,8 +123,8 @@ def layout(program: bytes, width: int, crlf: bool, deferred: bool, limit: Option
 
 def json_layout(text: bytes, width: int, indent: int, fill: bool, limit: Optional[int]) -> str:
     """The layout of a JSON text."""
-    columns = number(width, "a width in columns")
-    step = number(indent, "an indent in columns", 2**32 - 1)
+    columns = number(width, "width")
+    step = number(indent, "indent", most=2**32 - 1)
     most = _limit(limit)
     line, column = _size(), _size()
     place = (ctypes.byref(line), ctypes.byref(column))

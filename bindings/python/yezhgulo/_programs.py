@@ -7,10 +7,11 @@ of any length is built in linear time. Nothing here calls itself, at any depth.
 
 from __future__ import annotations
 
-from operator import index
 from struct import Struct
 from struct import error as StructError
 from typing import Any, List, Tuple, Union
+
+from yezhgulo._arguments import encoded, whole
 
 Code = Union[bytes, Tuple[Any, ...]]
 
@@ -58,29 +59,29 @@ _nest = Struct("<Bq").pack
 
 
 def text_code(operation: int, text: str) -> bytes:
-    """A text, with its length. A lone surrogate in it is a `UnicodeEncodeError`."""
-    encoded = str.encode(text)
+    """A text, with its length."""
+    content = encoded(text)
     try:
-        return _text_head(operation, len(encoded)) + encoded
+        return _text_head(operation, len(content)) + content
     except StructError:
         raise ValueError("a text has at most 2**32 - 1 bytes") from None
 
 
 def text_of_width_code(width: int, text: str) -> bytes:
     """A text that counts as so many columns, a number from 0 and below 2^64."""
-    encoded = str.encode(text)
+    content = encoded(text)
     try:
-        return _text_of_width_head(TEXT_OF_WIDTH, width, len(encoded)) + encoded
+        return _text_of_width_head(TEXT_OF_WIDTH, width, len(content)) + content
     except StructError:
         raise ValueError("a text has at most 2**32 - 1 bytes") from None
 
 
-def nest_code(columns: int) -> bytes:
-    """A nest, by a number of at least -2^63 and below 2^63."""
+def nest_code(columns: int, name: str = "columns") -> bytes:
+    """A nest, by an argument of at least -2^63 and below 2^63."""
     try:
         return _nest(NEST, columns)
     except StructError:
-        raise ValueError(f"a nest in columns is from -2**63 to 2**63 - 1, not {index(columns)}") from None
+        raise ValueError(f"{name} is from -2**63 to 2**63 - 1, not {whole(columns, name)}") from None
 
 
 def one(code: bytes) -> Code:

@@ -2,6 +2,22 @@
 
 Wherever a function takes a document, a `str` stands for its text. Where it takes `*docs`, it takes any number of
 documents, and these are laid one after the other.
+
+Some documents are constants:
+
+    nil              nothing
+    fail             a document that has no layout; a `union` rejects its first document where it comes to this
+    space            one space
+    weak_space       one space, or nothing at the beginning and at the end of a line
+    line             a line break, or one space where its group is flat
+    line_or_nil      a line break, or nothing where its group is flat
+    softline         one space where what follows fits up to the next possible break, else a line break
+    softline_or_nil  nothing where what follows fits up to the next possible break, else a line break
+    hard_line        a line break; it breaks the groups that would show it in a flat line, and fails under `flatten`
+    weak_line        a line break; at the beginning of a line it is nothing, unless a suffix is pending there
+    expand_parent    nothing, but it breaks the groups around it
+
+Outside of all groups, lines are broken. `help` shows what a function does; of a constant it shows the class `Doc`.
 """
 
 from __future__ import annotations
@@ -10,6 +26,7 @@ from typing import IO, Any, Dict, Iterable, List, Optional, Sequence, Tuple, Uni
 
 from yezhgulo import _library
 from yezhgulo import _programs as code
+from yezhgulo._arguments import number, whole
 from yezhgulo._programs import Code
 
 __all__ = [
@@ -60,7 +77,7 @@ class Doc:
 
     Only the functions and the constants of this module make documents. A document that is used twice counts twice:
     its nodes are laid in each place. `a + b` is `concat(a, b)`, and `a | b` is `union(a, b)`; one of the two may be
-    a `str`.
+    a `str`. Documents compare by identity: `text("a") == text("a")` is `False`.
 
     >>> (text("a") + line + "b").layout()
     'a\nb'
@@ -204,7 +221,8 @@ def _code_of(doc: DocLike) -> Code:
         return doc._code
     if isinstance(doc, str):  # A subclass may compare in a way of its own, so it is never a key.
         return code.one(code.text_code(code.TEXT, doc))
-    raise TypeError(f"a document is a Doc or a str, not {type(doc).__name__}")
+    # `_over` comes here from an error that says nothing more.
+    raise TypeError(f"a document is a Doc or a str, not {type(doc).__name__}") from None
 
 
 def _over(docs: Sequence[DocLike], operation: bytes) -> Doc:
@@ -227,14 +245,22 @@ def _both(first: DocLike, second: DocLike, operation: bytes) -> Doc:
     return _doc((before, after, operation))
 
 
-def _listed(docs: Iterable[DocLike]) -> List[DocLike]:
-    if isinstance(docs, str):
-        raise TypeError("a list of documents was expected, not a str; its words are text.split()")
+def _listed(docs: Iterable[DocLike], hint: str = "") -> List[DocLike]:
+    if isinstance(docs, (str, Doc)):
+        raise TypeError(f"docs is an iterable of documents, not a {type(docs).__name__}{hint}")
     return list(docs)
 
 
-def _columns(number: int, what: str) -> bytes:
-    return _library.number(number, what).to_bytes(8, "little")
+def _joined(separator: DocLike, docs: List[DocLike]) -> Doc:
+    if not docs:
+        return nil
+    parts = [separator] * (2 * len(docs) - 1)
+    parts[::2] = docs
+    return _over(parts, b"")
+
+
+def _bytes_of(value: int, name: str) -> bytes:
+    return number(value, name).to_bytes(8, "little")
 
 
 # Texts.
@@ -272,7 +298,7 @@ def text_of_width(s: str, width: int) -> Doc:
     >>> group(red, line, "!").layout(5)
     '\x1b[31mred\x1b[m !'
     """
-    return _doc(code.one(code.text_of_width_code(_library.number(width, "a width in columns"), s)))
+    return _doc(code.one(code.text_of_width_code(number(width, "width"), s)))
 
 
 def multiline_text(s: str) -> Doc:
@@ -288,41 +314,19 @@ def multiline_text(s: str) -> Doc:
     return _doc(code.one(code.text_code(code.MULTILINE_TEXT, s)))
 
 
-#: One space.
-space = text(" ")
+# Constants. The table at the top says what each is.
 
-#: Nothing.
 nil = _doc(code.NIL)
-
-#: A document that has no layout. A `union` rejects its first document where it comes to this.
 fail = _doc(code.FAIL)
-
-
-# Lines.
-
-#: A line break, or one space where its group is flat.
-line = _doc(code.LINE)
-
-#: A line break, or nothing where its group is flat.
-line_or_nil = _doc(code.LINE_OR_NIL)
-
-#: A line break. It breaks the groups that would show it in a flat line, and fails under `flatten`.
-hard_line = _doc(code.HARD_LINE)
-
-#: A line break, or nothing at the beginning of a line on which no suffix is pending.
-weak_line = _doc(code.WEAK_LINE)
-
-#: One space, or nothing at the beginning and at the end of a line.
+space = text(" ")
 weak_space = _doc(code.WEAK_SPACE)
-
-#: Nothing, but it breaks the groups around it.
-expand_parent = _doc(code.EXPAND_PARENT)
-
-#: One space where what follows fits up to the next possible break, or else a line break.
+line = _doc(code.LINE)
+line_or_nil = _doc(code.LINE_OR_NIL)
 softline = _doc(code.LINE + code.GROUP)
-
-#: Nothing where what follows fits up to the next possible break, or else a line break.
 softline_or_nil = _doc(code.LINE_OR_NIL + code.GROUP)
+hard_line = _doc(code.HARD_LINE)
+weak_line = _doc(code.WEAK_LINE)
+expand_parent = _doc(code.EXPAND_PARENT)
 
 
 # Several documents.
@@ -348,12 +352,7 @@ def join(separator: DocLike, docs: Iterable[DocLike]) -> Doc:
     2
     3
     """
-    listed = _listed(docs)
-    if not listed:
-        return nil
-    parts = [separator] * (2 * len(listed) - 1)
-    parts[::2] = listed
-    return _over(parts, b"")
+    return _joined(separator, _listed(docs, " (join takes the separator first)"))
 
 
 def fill(docs: Iterable[DocLike]) -> Doc:
@@ -363,7 +362,7 @@ def fill(docs: Iterable[DocLike]) -> Doc:
     aa bb
     cc
     """
-    return join(softline, docs)
+    return _joined(softline, _listed(docs, " (its words are s.split())"))
 
 
 def bracketed(
@@ -376,11 +375,12 @@ def bracketed(
     edge: DocLike = line_or_nil,
     trailing: bool = False,
 ) -> Doc:
-    """The documents between two others: on one line, or on lines of their own that are moved in by `indent` columns.
+    """The documents between two others: a group, on one line, or on lines of their own that are moved in by `indent`
+    columns.
 
     The separator stands after each document but the last, and also after the last of broken lines where `trailing`
-    is true. `edge` is what stands inside `before` and `after`: with `line`, a flat list has spaces there. Where
-    there are no documents, the two stand side by side.
+    is true. `edge` (`line_or_nil` if not given) is what stands inside `before` and `after`: with `line`, a flat list
+    has spaces there. Where there are no documents, the two stand side by side.
 
     >>> values = bracketed("[", ["1", bracketed("[", ["2", "3"], "]")], "]")
     >>> print(values.layout(11))
@@ -397,7 +397,8 @@ def bracketed(
     if not listed:
         return concat(before, after)
     last = if_break(separator) if trailing else nil
-    inside = nest(indent, edge, join(concat(separator, line), listed), last)
+    items = _joined(concat(separator, line), listed)
+    inside = _over((edge, items, last), code.nest_code(indent, "indent"))
     return group(before, inside, edge, after)
 
 
@@ -495,7 +496,7 @@ def dedent(columns: int, *docs: DocLike) -> Doc:
       b:
         c;
     """
-    return nest(-columns, *docs)
+    return nest(-whole(columns, "columns"), *docs)
 
 
 def align(*docs: DocLike) -> Doc:
@@ -573,7 +574,7 @@ def if_column_at_most(column: int, yes: DocLike, no: DocLike) -> Doc:
     >>> print(concat("ab", if_column_at_most(1, "!", "?")))
     ab?
     """
-    return _both(yes, no, code.COLUMN_AT_MOST + _columns(column, "a column"))
+    return _both(yes, no, code.COLUMN_AT_MOST + _bytes_of(column, "column"))
 
 
 def if_column_at_least(column: int, yes: DocLike, no: DocLike) -> Doc:
@@ -582,7 +583,7 @@ def if_column_at_least(column: int, yes: DocLike, no: DocLike) -> Doc:
     >>> print(concat("ab", if_column_at_least(2, "!", "?")))
     ab!
     """
-    return _both(yes, no, code.COLUMN_AT_LEAST + _columns(column, "a column"))
+    return _both(yes, no, code.COLUMN_AT_LEAST + _bytes_of(column, "column"))
 
 
 def if_column_is_nesting(yes: DocLike, no: DocLike) -> Doc:
@@ -604,7 +605,7 @@ def if_nesting_at_most(columns: int, yes: DocLike, no: DocLike) -> Doc:
     >>> print(nest(2, if_nesting_at_most(2, "!", "?")))
     !
     """
-    return _both(yes, no, code.NESTING_AT_MOST + _columns(columns, "an indent in columns"))
+    return _both(yes, no, code.NESTING_AT_MOST + _bytes_of(columns, "columns"))
 
 
 def if_nesting_at_least(columns: int, yes: DocLike, no: DocLike) -> Doc:
@@ -613,4 +614,4 @@ def if_nesting_at_least(columns: int, yes: DocLike, no: DocLike) -> Doc:
     >>> print(nest(2, if_nesting_at_least(3, "!", "?")))
     ?
     """
-    return _both(yes, no, code.NESTING_AT_LEAST + _columns(columns, "an indent in columns"))
+    return _both(yes, no, code.NESTING_AT_LEAST + _bytes_of(columns, "columns"))

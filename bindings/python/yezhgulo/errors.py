@@ -29,7 +29,7 @@ class LayoutError(YezhguloError):
     `before` is the layout up to the node that fails.
 
     >>> print(LayoutError("if x:\n    "))
-    the layout fails in line 2, after '    '
+    no layout: a `fail`, or a hard line or payload under `flatten`, in line 2 after '    '
     """
 
     def __init__(self, before: str) -> None:
@@ -40,7 +40,7 @@ class LayoutError(YezhguloError):
         line = self.before.count("\n") + 1
         last = self.before[self.before.rfind("\n") + 1 :]
         shown = last if len(last) <= 60 else "..." + last[-57:]
-        return f"the layout fails in line {line}, after {shown!r}"
+        return f"no layout: a `fail`, or a hard line or payload under `flatten`, in line {line} after {shown!r}"
 
 
 class LimitError(YezhguloError):
@@ -64,7 +64,8 @@ class LimitError(YezhguloError):
 class JsonError(YezhguloError, ValueError):
     """The text is not JSON, or is more than 128 levels deep.
 
-    `line` and `column` say where, both from 1; a column is a character. `expected` is what was expected there.
+    `line` and `column` say where the token begins that is wrong, both from 1; a column is a character. `expected` is
+    what was expected there.
 
     >>> print(JsonError(2, 4, "`,` or `]`"))
     line 2, column 4: expected `,` or `]`

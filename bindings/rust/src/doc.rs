@@ -13,7 +13,8 @@ use std::fmt;
 ///
 /// The constructors are functions of this type, such as [`Doc::text`] and [`Doc::line`]. Each method takes the document
 /// and gives a larger one, as [`group`](Doc::group) and [`nest`](Doc::nest) do. `+` and [`append`](Doc::append) put one
-/// document after another. A text becomes a document by `into`, so it can be an operand as it is.
+/// document after another. A sum begins with a `Doc`; its right operands may be texts as they are. A document is moved
+/// into the larger one: clone it to use it twice.
 ///
 /// ```
 /// use yezhgulo::Doc;

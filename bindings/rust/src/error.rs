@@ -12,8 +12,9 @@ use std::fmt;
 /// let error = (Doc::text("ab") + Doc::fail()).pretty(80).unwrap_err();
 /// assert_eq!(error, Error::Fails { written: b"ab".to_vec() });
 /// assert_eq!(error.to_string(), "the document cannot be laid out: a node fails after 2 bytes");
+/// assert_eq!(format!("{error:?}"), r#"Fails { written: "ab" }"#);
 /// ```
-#[derive(Clone, Debug, PartialEq, Eq)]
+#[derive(Clone, PartialEq, Eq)]
 #[non_exhaustive]
 pub enum Error {
     /// A node that fails was to be laid: a [`fail`](crate::Doc::fail), or a hard line or a text of several lines
@@ -69,6 +70,39 @@ impl Error {
             Error::Fails { written } | Error::PastLimit { written } | Error::OutOfMemory { written } => written,
             Error::NotAProgram(_) | Error::Unknown { .. } => &[],
         }
+    }
+}
+
+/// How many characters `{:?}` shows of a layout.
+const SHOWN: usize = 60;
+
+/// The beginning of a layout, as `{:?}` shows it: a text, or the end of one.
+struct Written<'w>(&'w [u8]);
+
+impl fmt::Debug for Written<'_> {
+    fn fmt(&self, f: &mut fmt::Formatter<'_>) -> fmt::Result {
+        // A character has four bytes at most, and the first of these may be cut off.
+        let skipped = self.0.len().saturating_sub(4 * (SHOWN + 1));
+        let text = String::from_utf8_lossy(&self.0[skipped..]);
+        let end = text.char_indices().rev().nth(SHOWN - 1).map_or(0, |(at, _)| at);
+        if skipped + end > 0 {
+            write!(f, "{} bytes that end in ", self.0.len())?;
+        }
+        fmt::Debug::fmt(&text[end..], f)
+    }
+}
+
+/// Shows what was written as a text. Of a long one it shows the length and the last 60 characters.
+impl fmt::Debug for Error {
+    fn fmt(&self, f: &mut fmt::Formatter<'_>) -> fmt::Result {
+        let name = match self {
+            Error::Fails { .. } => "Fails",
+            Error::PastLimit { .. } => "PastLimit",
+            Error::OutOfMemory { .. } => "OutOfMemory",
+            Error::NotAProgram(fault) => return f.debug_tuple("NotAProgram").field(fault).finish(),
+            Error::Unknown { status } => return f.debug_struct("Unknown").field("status", status).finish(),
+        };
+        f.debug_struct(name).field("written", &Written(self.written())).finish()
     }
 }
 

@@ -106,7 +106,7 @@ impl Default for JsonStyle {
 pub enum JsonError {
     /// The text is not JSON, or is more than 128 levels deep.
     NotJson {
-        /// The line where it stops being JSON of at most 128 levels, from 1.
+        /// The line where the token begins that is wrong, from 1.
         line: usize,
         /// The column there, from 1, in characters.
         column: usize,

@@ -47,7 +47,7 @@ pub fn layout(program: &[u8], options: &RenderOptions) -> Result<String, Error> 
 
 /// A document and options, which `{}` lays out. [`Doc::print`] and [`Writer::print`] make it.
 ///
-/// Where the layout fails, so does the formatting, by a [`fmt::Error`] after which nothing was written. So `println!`,
+/// Where the layout fails, so does the formatting, by a [`fmt::Error`], and nothing is written. So `println!`,
 /// `format!` and `to_string` panic there, as they do for every value whose formatting fails; `write!` gives the error.
 ///
 /// ```
@@ -101,7 +101,8 @@ impl Doc {
         layout(self.program(), options)
     }
 
-    /// The layout within so many columns, with LF, indents at once, and no limit.
+    /// The layout within so many columns: lines end in LF, empty lines keep their indent, no limit
+    /// ([`RenderOptions::new`]).
     ///
     /// # Errors
     ///
@@ -179,7 +180,7 @@ impl Writer {
     ///
     /// # Errors
     ///
-    /// Those of [`Doc::layout`].
+    /// Those of [`Doc::layout`], and [`Error::NotAProgram`] where a panic in a closure left a document open.
     ///
     /// ```
     /// use yezhgulo::{LineEnding, RenderOptions, Writer};
@@ -194,11 +195,12 @@ impl Writer {
         layout(self.program(), options)
     }
 
-    /// The layout of what was written, within so many columns, with LF, indents at once, and no limit.
+    /// The layout of what was written, within so many columns: lines end in LF, empty lines keep their indent, no limit
+    /// ([`RenderOptions::new`]).
     ///
     /// # Errors
     ///
-    /// Those of [`Doc::pretty`].
+    /// Those of [`Doc::pretty`], and [`Error::NotAProgram`] where a panic in a closure left a document open.
     ///
     /// ```
     /// use yezhgulo::Writer;
@@ -216,7 +218,7 @@ impl Writer {
     ///
     /// # Errors
     ///
-    /// Those of [`Doc::layout`]. After an error `out` has the bytes that it had.
+    /// Those of [`Writer::layout`]. After an error `out` has the bytes that it had.
     ///
     /// ```
     /// use yezhgulo::{RenderOptions, Writer};

@@ -27,14 +27,14 @@
 //!
 //! [`Doc::pretty`] takes a width in columns. [`Doc::layout`] takes [`RenderOptions`]: also what ends a line, when an
 //! indent is written, and the greatest length of the layout. [`Doc::layout_into`] adds the layout to a buffer, and
-//! [`Doc::print`] makes a value for `{}`. A layout that cannot be made is an [`Error`]. Where a node fails, the layout
-//! is past its limit, or memory is refused, it has the beginning of the layout that was made.
+//! [`Doc::print`] makes a value for `{}`. A layout that cannot be made is an [`Error`]. `Fails`, `PastLimit` and
+//! `OutOfMemory` carry the beginning of the layout, in `written`.
 //!
 //! Documents and writers can be sent to other threads, and any number of threads may lay documents out at once.
 //!
 //! # JSON
 //!
-//! [`format_json`] lays out a JSON text of at most 128 levels, or says where it stops being one.
+//! [`format_json`] lays out a JSON text of at most 128 levels, or says where a token is wrong.
 //!
 //! # What is proved
 //!

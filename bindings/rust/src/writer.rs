@@ -414,7 +414,7 @@ impl Writer {
         )
     }
 
-    /// Writes each item of an iterator, with a separator in each gap.
+    /// Writes each item of an iterator, with a separator in each gap. All of it is one document.
     ///
     /// ```
     /// # use yezhgulo::Writer;
@@ -429,15 +429,18 @@ impl Writer {
         mut separator: impl FnMut(&mut Writer),
         mut write: impl FnMut(&mut Writer, I::Item),
     ) -> &mut Writer {
-        let mut items = items.into_iter();
-        if let Some(first) = items.next() {
-            write(self, first);
-        }
-        for item in items {
-            separator(self);
-            write(self, item);
-        }
-        self
+        let all = |w: &mut Writer| {
+            let mut items = items.into_iter();
+            if let Some(first) = items.next() {
+                write(w, first);
+            }
+            for item in items {
+                separator(w);
+                write(w, item);
+            }
+        };
+        // A sequence, though no instruction takes it: a panic in a closure leaves it open.
+        self.wrapped(all, &[])
     }
 }
 

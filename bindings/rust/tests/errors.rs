@@ -131,3 +131,39 @@ fn errors_say_what_is_wrong() {
     let boxed: Box<dyn std::error::Error + Send + Sync> = Box::new(fails(""));
     assert!(boxed.downcast_ref::<Error>().is_some());
 }
+
+#[test]
+fn an_error_is_shown_with_the_end_of_what_was_written() {
+    let shown = |written: &str| format!("{:?}", fails(written));
+    assert_eq!(shown(""), r#"Fails { written: "" }"#);
+    assert_eq!(shown("é \"x\"\n\t"), r#"Fails { written: "é \"x\"\n\t" }"#);
+    for character in ["a", "é", "語", "🖨"] {
+        let sixty = character.repeat(60);
+        assert_eq!(shown(&sixty), format!("Fails {{ written: \"{sixty}\" }}"));
+        for before in ["a", "é", "語", "🖨", "a long line\n"] {
+            let written = format!("{before}{sixty}");
+            let length = written.len();
+            let expected = format!("Fails {{ written: {length} bytes that end in \"{sixty}\" }}");
+            assert_eq!(shown(&written), expected);
+        }
+    }
+}
+
+#[test]
+fn every_error_is_shown() {
+    let shown = |error: Error| format!("{error:?}");
+    // A character is cut off.
+    let written = "aé".as_bytes()[..2].to_vec();
+    assert_eq!(
+        shown(Error::PastLimit {
+            written: written.clone()
+        }),
+        "PastLimit { written: \"a\u{fffd}\" }"
+    );
+    assert_eq!(
+        shown(Error::OutOfMemory { written }),
+        "OutOfMemory { written: \"a\u{fffd}\" }"
+    );
+    assert_eq!(shown(Error::NotAProgram(Fault::Unclosed)), "NotAProgram(Unclosed)");
+    assert_eq!(shown(Error::Unknown { status: 99 }), "Unknown { status: 99 }");
+}

@@ -44,12 +44,14 @@ fn a_layout_may_be_far_longer_than_its_text() {
 }
 
 #[test]
-fn the_place_where_a_text_stops_being_json() {
+fn the_place_where_the_wrong_token_begins() {
     let expected = |line, column, what: &str| (line, column, what.to_string());
     assert_eq!(refused(""), expected(1, 1, "a value"));
     assert_eq!(refused("[1,"), expected(1, 4, "a value"));
     assert_eq!(refused("[\n]]"), expected(2, 2, "the end of the text"));
     assert_eq!(refused("[,"), expected(1, 2, "a value or `]`"));
+    assert_eq!(refused("[tru]"), expected(1, 2, "a value or `]`"));
+    assert_eq!(refused(b"[1 2 \xff]"), expected(1, 6, "UTF-8"));
     assert_eq!(refused("{\"é\" 1}"), expected(1, 6, "`:`"));
     assert_eq!(refused([b'"', 0xff, b'"']), expected(1, 2, "UTF-8"));
     let deep = "[".repeat(129) + &"]".repeat(129);

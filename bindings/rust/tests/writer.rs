@@ -182,6 +182,7 @@ fn what_writes_nothing_adds_no_document() {
     w.group(|_| ()).nest(2, |_| ()).align(|w| {
         w.group(|_| ());
     });
+    w.intersperse([""; 0], |_| (), |_, _| ()).reflow("");
     assert!(w.program().is_empty());
     w.line_suffix(|_| ());
     assert_eq!(format!("{w:?}"), "Writer[open, close, line_suffix]");
@@ -209,6 +210,34 @@ fn a_document_is_left_open_where_a_closure_panics() {
     w.clear();
     w.text("b");
     assert_eq!(w.pretty(80).as_deref(), Ok("b"));
+}
+
+/// Checks that a panic leaves a document open, with whatever is written after it.
+#[track_caller]
+fn leaves_a_document_open(write: impl FnOnce(&mut Writer)) {
+    let mut w = Writer::new();
+    assert!(catch_unwind(AssertUnwindSafe(|| write(w.text("a")))).is_err());
+    assert_eq!(w.text("b").pretty(80), Err(Error::NotAProgram(Fault::Unclosed)));
+}
+
+#[test]
+fn a_list_is_left_open_where_a_closure_or_the_iterator_panics() {
+    fn comma(w: &mut Writer) {
+        w.text(",");
+    }
+    fn number(w: &mut Writer, item: i32) {
+        w.as_string(item);
+    }
+    leaves_a_document_open(|w| {
+        w.intersperse([1, 2], comma, |_, _| panic!("on purpose"));
+    });
+    leaves_a_document_open(|w| {
+        w.intersperse([1, 2], |_| panic!("on purpose"), number);
+    });
+    leaves_a_document_open(|w| {
+        let items = (1..).map(|item| if item < 3 { item } else { panic!("on purpose") });
+        w.intersperse(items, comma, number);
+    });
 }
 
 /// Shows some of itself, and then fails.

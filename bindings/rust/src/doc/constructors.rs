@@ -186,7 +186,7 @@ impl Doc {
         Doc::leaf(code::HARD_LINE)
     }
 
-    /// A line break that is nothing at the beginning of a line on which no suffix is pending.
+    /// A line break. At the beginning of a line it is nothing, unless a suffix is pending there.
     ///
     /// ```
     /// use yezhgulo::Doc;
@@ -326,7 +326,7 @@ impl Doc {
 /// # Alternatives and suffixes
 impl Doc {
     /// A suffix: the document waits for the end of its line, and is laid there. It does not count for what fits. A
-    /// suffix of nothing waits too.
+    /// suffix of nothing waits too, so a weak space before it is written.
     ///
     /// ```
     /// use yezhgulo::Doc;
@@ -340,7 +340,7 @@ impl Doc {
         doc.into().then(&[code::LINE_SUFFIX])
     }
 
-    /// The document in flat lines, and nothing in broken ones.
+    /// The document where the group around it is flat, else nothing.
     ///
     /// ```
     /// use yezhgulo::Doc;
@@ -354,7 +354,7 @@ impl Doc {
         Doc::nil().flat_alt(doc)
     }
 
-    /// The document in broken lines, and nothing in flat ones.
+    /// The document where the group around it is broken, else nothing: a trailing comma, say.
     ///
     /// ```
     /// use yezhgulo::Doc;
