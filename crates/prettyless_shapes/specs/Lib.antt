@@ -1,0 +1,12 @@
+pub mod Items
+pub mod Shapes
+pub use Rattle.prettyless_alloc.specs.Lists
+pub use Rattle.prettyless_alloc.specs.Shown
+pub use Rattle.prettyless_alloc.specs.Words
+pub use Rattle.prettyless_build.specs.Built
+pub use Rattle.prettyless_doc.specs.BuildErrors
+pub use Rattle.prettyless_doc.specs.Counted
+pub use Rattle.prettyless_doc.specs.DocTree
+pub use Rattle.prettyless_doc.specs.Lines
+pub use Rattle.prettyless_doc.specs.Tree
+pub use Rattle.prettyless_model.specs.Shows

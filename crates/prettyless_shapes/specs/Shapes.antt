@@ -1,0 +1,52 @@
+-- The trees of shapes.
+use Rattle.std.specs.Prelude.{ℕ, pos, List, [], ◌∷◌, if◌then◌else◌}
+use Rattle.prettyless_doc.specs.Counted.{text}
+use Rattle.prettyless_doc.specs.Lines.{line, line_, space}
+use Rattle.prettyless_doc.specs.Tree.{Tree, Nil, HardLine, LineSuffix, BreakOrFlat}
+use Rattle.prettyless_build.specs.Built.{append, enclose, group, nest, softline}
+use Rattle.prettyless_alloc.specs.Lists.{punctuated}
+use Rattle.prettyless_alloc.specs.Words.{intersperse}
+use Rattle.prettyless_shapes.specs.declared.lists.ListStyle.{ListStyle}
+
+-- two trees with a gap between them
+abbrev pub gapped : Tree → Tree → Tree → Tree
+gapped x gap y = append (append x gap) y
+
+-- a tree, and after it a group of a line and a second tree, which is nested by so many columns
+abbrev pub hanging : Tree → Tree → ℕ → Tree
+hanging x y columns = append x (group (nest (pos columns) (append line y)))
+
+-- a tree, a space, a remark and a line end
+abbrev pub remarked : Tree → List ℕ → Tree
+remarked x remark = append (gapped x space (text remark)) HardLine
+
+-- a tree, and a space and a remark that are put off to the end of the line
+abbrev pub late_remarked : Tree → List ℕ → Tree
+late_remarked x remark = append x (LineSuffix (append space (text remark)))
+
+-- ---- lists
+
+-- inside each bracket: a line, which is a space or nothing where it is flat
+abbrev pub edge : ListStyle → Tree
+edge style = if style.padded then line else line_
+
+-- between two members: a line, broken with all others or only where the next member has no room
+abbrev pub gap : ListStyle → Tree
+gap style = if style.filled then softline else line
+
+-- after the last member: the mark where lines are broken, or nothing
+abbrev pub trail : ListStyle → Tree → Tree
+trail style mark = if style.trailing then BreakOrFlat mark Nil else Nil
+
+-- the members with their marks and gaps
+abbrev pub members : ListStyle → Tree → List Tree → Tree
+members style mark xs = append (intersperse (gap style) (punctuated mark xs)) (trail style mark)
+
+-- what is between the brackets
+abbrev pub inside : ListStyle → Tree → List Tree → Tree
+inside style mark xs = append (nest (pos style.indent) (append (edge style) (members style mark xs))) (edge style)
+
+-- Members between brackets, in a group. Where there is none, the brackets stand side by side.
+abbrev pub list : ListStyle → List ℕ → List Tree → List ℕ → List ℕ → Tree
+list style before [] mark after = append (text before) (text after)
+list style before (x ∷ xs) mark after = group (enclose (text before) (inside style (text mark) (x ∷ xs)) (text after))

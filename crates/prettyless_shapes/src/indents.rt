@@ -1,0 +1,65 @@
+//! Documents further in, and documents that are laid flat where they fit.
+ghost use Rattle.std.specs.Prelude.{◌≡◌, pos, [], ◌∷◌, IfOk, IfErr};
+ghost use Rattle.prettyless_model.specs.Shows.{apart};
+ghost use Rattle.prettyless_doc.specs.BuildErrors.{IsMemory};
+ghost use Rattle.prettyless_doc.specs.Tree.{ExpandParent};
+ghost use Rattle.prettyless_build.specs.Built.{append, group, nest};
+ghost use Rattle.prettyless_shapes.specs.Items.{ShowsBoth, ShowsSame};
+ghost use Rattle.prettyless_shapes.specs.Shapes as shapes;
+
+use crate::gaps::followed;
+use prettyless_alloc::DocAllocator;
+use prettyless_build::DocBuilder;
+use prettyless_doc::{BuildDoc, BuildError, DocPlace};
+
+/// The document with its lines but the first so many columns further in. It fails where memory is refused.
+pub fn indented<'a, D: DocPlace<'a>>(
+    place: &'a D,
+    doc: D::Doc,
+    columns: u32,
+) -> Result<D::Doc, BuildError>
+    ensures ok { IfOk result (λ p. D.Doc.tree p ≡ nest (pos columns) (D.Doc.tree doc)) }
+    ensures items { IfOk result (λ p. ShowsSame (D.Doc.tree doc) (D.Doc.tree p)) }
+    ensures err { IfErr result IsMemory }
+{
+    DocBuilder(place, BuildDoc::DocPtr(doc))
+        .nest(columns as isize)?
+        .into_doc()
+}
+
+/// The document, laid flat where it fits the line with what follows up to the next line break, and else broken. It fails
+/// where memory is refused.
+pub fn grouped<'a, D: DocPlace<'a>>(place: &'a D, doc: D::Doc) -> Result<D::Doc, BuildError>
+    ensures ok { IfOk result (λ p. D.Doc.tree p ≡ group (D.Doc.tree doc)) }
+    ensures items { IfOk result (λ p. ShowsSame (D.Doc.tree doc) (D.Doc.tree p)) }
+    ensures err { IfErr result IsMemory }
+{
+    DocBuilder(place, BuildDoc::DocPtr(doc)).group()?.into_doc()
+}
+
+/// The document, with the groups around it kept from being flat. It fails where memory is refused.
+pub fn broken<'a, D: DocPlace<'a>>(place: &'a D, doc: D::Doc) -> Result<D::Doc, BuildError>
+    ensures ok { IfOk result (λ p. D.Doc.tree p ≡ append (D.Doc.tree doc) ExpandParent) }
+    ensures items { IfOk result (λ p. ShowsSame (D.Doc.tree doc) (D.Doc.tree p)) }
+    ensures err { IfErr result IsMemory }
+{
+    followed(place, doc, place.expand_parent()?)
+}
+
+/// The first document and the second after it: after a space where the second, flat, fits the line, and else on the next
+/// line, so many columns further in. The first is not in the group of the second, so it may be broken where the second
+/// follows on its last line. It fails where memory is refused.
+pub fn hanging<'a, D: DocPlace<'a>>(
+    place: &'a D,
+    first: D::Doc,
+    next: D::Doc,
+    columns: u32,
+) -> Result<D::Doc, BuildError>
+    ensures ok { IfOk result (λ p. D.Doc.tree p ≡ shapes.hanging (D.Doc.tree first) (D.Doc.tree next) columns) }
+    ensures items { IfOk result (λ p. ShowsBoth (D.Doc.tree first) (apart ∷ []) (D.Doc.tree next) (D.Doc.tree p)) }
+    ensures err { IfErr result IsMemory }
+{
+    let next = DocBuilder(place, BuildDoc::DocPtr(next));
+    let next = place.line()?.join(next)?.nest(columns as isize)?.group()?;
+    followed(place, first, next)
+}

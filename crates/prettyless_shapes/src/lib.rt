@@ -1,0 +1,19 @@
+//! The shapes that formatters give to documents, in every place of nodes. Each function says what its document shows by
+//! what its operands show, so that the contracts of a formatter need not speak of trees.
+//!
+//! Operands that are documents are pointers, and so are results.
+#![tactic(auto)]
+
+mod gaps;
+mod indents;
+mod lists;
+mod remarks;
+#[cfg(test)]
+mod tests;
+mod texts;
+
+pub use gaps::{ended, joined, lined, spaced, stacked};
+pub use indents::{broken, grouped, hanging, indented};
+pub use lists::{ListStyle, list};
+pub use remarks::{with_late_remark, with_remark};
+pub use texts::{nil, text};

@@ -1,0 +1,49 @@
+//! Documents with a remark after them.
+ghost use Rattle.std.specs.Prelude.{◌≡◌, [], ◌∷◌, ◌++◌, IfOk, IfErr, map};
+ghost use Rattle.prettyless_model.specs.Shows.{Late, ended, spaced};
+ghost use Rattle.prettyless_doc.specs.BuildErrors.{IsMemory};
+ghost use Rattle.prettyless_alloc.specs.Shown.{text_items};
+ghost use Rattle.prettyless_shapes.specs.Items.{ShowsMore};
+ghost use Rattle.prettyless_shapes.specs.Shapes.{late_remarked, remarked};
+
+use crate::gaps::{ended, followed, spaced};
+use crate::texts::text;
+use prettyless_alloc::DocAllocator;
+use prettyless_build::Pretty;
+use prettyless_doc::{BuildError, DocPlace};
+
+/// The document, a space, the remark and a line break, so that nothing comes after the remark on its line. It keeps the
+/// groups around it from being flat, and fails where memory is refused.
+///
+/// Where a mark, as a comma, is to come before the remark, `with_late_remark` is for it.
+pub fn with_remark<'a, D: DocPlace<'a>>(
+    place: &'a D,
+    doc: D::Doc,
+    remark: &'a str,
+) -> Result<D::Doc, BuildError>
+    ensures ok { IfOk result (λ p. D.Doc.tree p ≡ remarked (D.Doc.tree doc) remark.now) }
+    ensures items { IfOk result (λ p.
+        ShowsMore (D.Doc.tree doc) (spaced ∷ (text_items remark.now ++ ended ∷ [])) (D.Doc.tree p)) }
+    ensures err { IfErr result IsMemory }
+{
+    let remark = text(place, remark)?;
+    ended(place, spaced(place, doc, remark)?)
+}
+
+/// The document, with a space and the remark put off to the end of the line: what else comes on this line is in front of
+/// them. It fails where memory is refused.
+///
+/// It breaks no line. Around it, `broken` keeps the groups that it is in from being flat.
+pub fn with_late_remark<'a, D: DocPlace<'a>>(
+    place: &'a D,
+    doc: D::Doc,
+    remark: &'a str,
+) -> Result<D::Doc, BuildError>
+    ensures ok { IfOk result (λ p. D.Doc.tree p ≡ late_remarked (D.Doc.tree doc) remark.now) }
+    ensures items { IfOk result (λ p.
+        ShowsMore (D.Doc.tree doc) (Late spaced ∷ map Late (text_items remark.now)) (D.Doc.tree p)) }
+    ensures err { IfErr result IsMemory }
+{
+    let remark = place.space()?.join(remark.pretty(place)?)?;
+    followed(place, doc, remark.as_line_suffix()?)
+}
