@@ -1,0 +1,166 @@
+-- A text is its lexemes, with gaps around them, and after each stands what may follow it. Each lexeme, alone, is itself.
+use Rattle.std.proofs.Common.{◌≡◌, ℕ, Bool, true, false, cond, ◌||◌, ◌==◌, List, [], ◌∷◌, ◌++◌, All, refl, sym, ap, ◌∙◌, subst}
+use Rattle.std.specs.Prelude.{⊤, ◌≢◌}
+use Rattle.std.proofs.lemmas.Bool.{cond_both}
+use Rattle.std.proofs.lemmas.List.Elements.{All-from_recursion}
+use Rattle.toml_lexemes.specs.Bytes.{is_blank, is_sign}
+use Rattle.toml_lexemes.specs.Lexemes.{Inner, in_remark, Mode, between, within, First, passed, alone, begins, first, Turn, goes_on, ends, stops, turn, begins_line_feed, lengthened, cut_first, cut_turn, cut}
+use Rattle.toml_lexemes.specs.Spaced.{IsSpaced, mode_first, mode_turn, mode_after, EndsBefore, EndsWithReturn, MayFollow, IsWellSpaced}
+use Rattle.toml_lexemes.proofs.Remarks.{From, From-turn, last_turn, no_line_feed}
+
+-- what is left of a lexeme that is read in the mode i, before the rest of the text
+pub record IsPart (i : Inner) (s rest : List ℕ) : Type 0 where
+  pub whole : cut (within i) s ≡ s ∷ []
+  pub ended : EndsBefore (mode_after (within i) s) rest
+  pub apart : mode_after (within i) s ≡ within in_remark → EndsWithReturn s → begins_line_feed rest ≡ false
+
+abbrev AreLexemes : List (List ℕ) → Type 0
+AreLexemes [] = ⊤
+AreLexemes (s ∷ ss) = (cut between s ≡ s ∷ []) × AreLexemes ss
+
+-- the text goes on with what is left of a lexeme, and then with the others
+abbrev GoesOn : Inner → List ℕ → List (List ℕ) → Type 0
+GoesOn i xs [] = ⊥
+GoesOn i xs (s ∷ ss) = (rest : List ℕ) × (xs ≡ s ++ rest) × IsPart i s rest × IsWellSpaced rest ss × AreLexemes ss
+
+abbrev IsCut : Mode → List ℕ → List (List ℕ) → Type 0
+IsCut between xs ss = IsWellSpaced xs ss × AreLexemes ss
+IsCut (within i) xs ss = GoesOn i xs ss
+
+-- ---- a byte in a lexeme
+
+any_bytes : (xs : List ℕ) → EndsBefore between xs
+any_bytes [] = tt
+any_bytes (x ∷ xs) = tt
+
+part_more : (i n : Inner) (x : ℕ) (s rest : List ℕ) → turn i x (begins_line_feed (s ++ rest)) ≡ goes_on n → IsPart n s rest
+    → IsPart i (x ∷ s) rest
+unfolding cut
+part_more i n x [] rest e h =
+    let here = last_turn i x (begins_line_feed rest) (goes_on n) e (λ f. cc) in
+    record {
+      whole = ap (λ t. cut_turn t (first x) x (λ m. cut m [])) here;
+      ended = subst (λ m. EndsBefore m rest) (sym (ap mode_turn here)) h.ended;
+      apart = λ m is.
+          let same : within n ≡ within in_remark = sym (ap mode_turn here) ∙ m in
+          let remark : n ≡ in_remark = cc in
+          let begun = subst (From i) e (From-turn i x (begins_line_feed rest)) remark in
+          no_line_feed x (begins_line_feed rest) (goes_on n) (subst (λ j. turn j x (begins_line_feed rest) ≡ goes_on n) begun e)
+          (λ f. cc) is;
+    }
+part_more i n x (y ∷ ys) rest e h =
+    record {
+      whole = ap (λ t. cut_turn t (first x) x (λ m. cut m (y ∷ ys))) e ∙ ap (lengthened x) h.whole;
+      ended = subst (λ m. EndsBefore (mode_after m (y ∷ ys)) rest) (sym (ap mode_turn e)) h.ended;
+      apart = λ m is. h.apart (ap (λ n. mode_after n (y ∷ ys)) (sym (ap mode_turn e)) ∙ m) is;
+    }
+
+part_end : (i : Inner) (x : ℕ) (xs : List ℕ) → turn i x (begins_line_feed xs) ≡ ends → IsPart i (x ∷ []) xs
+unfolding cut
+part_end i x xs e =
+    let here = last_turn i x (begins_line_feed xs) ends e (λ f. cc) in
+    record {
+      whole = ap (λ t. cut_turn t (first x) x (λ m. cut m [])) here;
+      ended = subst (λ m. EndsBefore m xs) (sym (ap mode_turn here)) (any_bytes xs);
+      apart = λ m is. let clash : between ≡ within in_remark = sym (ap mode_turn here) ∙ m in cc;
+    }
+
+part_none : (i : Inner) (rest : List ℕ) → EndsBefore (within i) rest → IsPart i [] rest
+unfolding cut
+part_none i rest e = record { whole = refl; ended = e; apart = λ m is. absurd is }
+
+byte_more : (i n : Inner) (x : ℕ) (xs : List ℕ) (ss : List (List ℕ)) → turn i x (begins_line_feed xs) ≡ goes_on n → GoesOn n xs ss
+    → GoesOn i (x ∷ xs) (lengthened x ss)
+byte_more i n x xs [] e h = absurd h
+byte_more i n x xs (s ∷ ss) e (rest, is, part, spaced, lexemes) =
+    (rest, ap (λ l. x ∷ l) is, part_more i n x s rest (ap (λ l. turn i x (begins_line_feed l)) (sym is) ∙ e) part, spaced, lexemes)
+
+-- ---- a byte between two lexemes
+
+abbrev Says : ℕ → First → Type 0
+Says x passed = is_blank x ≡ true
+Says x alone = ⊤
+Says x (begins i) = ⊤
+
+says_either : (x : ℕ) (b : Bool) (f g : First) → Says x f → Says x g → Says x (cond b f g)
+says_either x b f g p q = cond_both b f g (Says x) (λ e. p) (λ e. q)
+
+Says-first : (x : ℕ) → Says x (first x)
+Says-first x =
+    cond_both (is_blank x) _ _ (Says x) (λ e. e)
+    (λ e. says_either x (is_sign x || (x == 10)) _ _ tt (says_either x (x == 35) _ _ tt
+    (says_either x (x == 34) _ _ tt (says_either x (x == 39) _ _ tt tt))))
+
+blank_first : (x : ℕ) (xs : List ℕ) (ss : List (List ℕ)) → is_blank x ≡ true → IsWellSpaced xs ss → IsWellSpaced (x ∷ xs) ss
+blank_first x xs [] e h = (e, h)
+blank_first x xs (s ∷ ss) e (g, rest, gap, is, follows, h) = (x ∷ g, rest, (e, gap), ap (λ l. x ∷ l) is, follows, h)
+
+pub follows_one : (x : ℕ) (xs : List ℕ) → first x ≡ alone → MayFollow (x ∷ []) xs
+follows_one x xs e =
+    record {
+      ended = subst (λ m. EndsBefore m xs) (sym (ap mode_first e)) (any_bytes xs);
+      apart = λ m is. let clash : between ≡ within in_remark = sym (ap mode_first e) ∙ m in cc;
+    }
+
+follows_begun : (x : ℕ) (i : Inner) (s rest : List ℕ) → first x ≡ begins i → IsPart i s rest → MayFollow (x ∷ s) rest
+follows_begun x i [] rest e part =
+    record {
+      ended = subst (λ m. EndsBefore m rest) (sym (ap mode_first e)) part.ended;
+      apart = λ m is. let clash : passed ≡ begins i = subst (λ y. first y ≡ begins i) is e in cc;
+    }
+follows_begun x i (y ∷ ys) rest e part =
+    record {
+      ended = subst (λ m. EndsBefore (mode_after m (y ∷ ys)) rest) (sym (ap mode_first e)) part.ended;
+      apart = λ m is. part.apart (ap (λ n. mode_after n (y ∷ ys)) (sym (ap mode_first e)) ∙ m) is;
+    }
+
+byte_first : (x : ℕ) (i : Inner) (xs : List ℕ) (ss : List (List ℕ)) → first x ≡ begins i → GoesOn i xs ss
+    → IsCut between (x ∷ xs) (lengthened x ss)
+unfolding cut
+byte_first x i xs [] e h = absurd h
+byte_first x i xs (s ∷ ss) e (rest, is, part, spaced, lexemes) = (
+  ([], rest, tt, ap (λ l. x ∷ l) is, follows_begun x i s rest e part, spaced),
+  (ap (λ f. cut_first f x (λ m. cut m s)) e ∙ ap (lengthened x) part.whole, lexemes),
+)
+
+module _ (x : ℕ) (xs : List ℕ) (h : (m : Mode) → IsCut m xs (cut m xs)) where
+  one_first : (f : First) → first x ≡ f → IsCut between (x ∷ xs) (cut_first f x (λ m. cut m xs))
+  unfolding cut
+  one_first passed e = (blank_first x xs (cut between xs) (subst (Says x) e (Says-first x)) (h between).0, (h between).1)
+  one_first alone e =
+      (([], xs, tt, refl, follows_one x xs e, (h between).0), (ap (λ f. cut_first f x (λ m. cut m [])) e, (h between).1))
+  one_first (begins i) e = byte_first x i xs (cut (within i) xs) e (h (within i))
+
+  one_turn : (i : Inner) (t : Turn) → turn i x (begins_line_feed xs) ≡ t → GoesOn i (x ∷ xs) (cut_turn t (first x) x (λ m. cut m xs))
+  one_turn i (goes_on n) e = byte_more i n x xs (cut (within n) xs) e (h (within n))
+  one_turn i ends e = (xs, refl, part_end i x xs e, (h between).0, (h between).1)
+  one_turn i stops e = let f = one_first (first x) refl in (x ∷ xs, refl, part_none i (x ∷ xs) e, f.0, f.1)
+
+IsCut-cut : (xs : List ℕ) (m : Mode) → IsCut m xs (cut m xs)
+unfolding cut
+IsCut-cut [] between = (tt, tt)
+IsCut-cut [] (within i) = ([], refl, part_none i [] tt, tt, tt)
+IsCut-cut (x ∷ xs) between = one_first x xs (IsCut-cut xs) (first x) refl
+IsCut-cut (x ∷ xs) (within i) = one_turn x xs (IsCut-cut xs) i (turn i x (begins_line_feed xs)) refl
+
+-- ---- the whole text
+
+pub IsWellSpaced-lexemes : (text : List ℕ) → IsWellSpaced text (cut between text)
+IsWellSpaced-lexemes text = (IsCut-cut text between).0
+
+forget : (ss : List (List ℕ)) (text : List ℕ) → IsWellSpaced text ss → IsSpaced text ss
+forget [] text h = h
+forget (s ∷ ss) text (g, rest, gap, is, follows, h) = (g, rest, gap, is, forget ss rest h)
+
+pub IsSpaced-lexemes : (text : List ℕ) → IsSpaced text (cut between text)
+IsSpaced-lexemes text = forget (cut between text) text (IsWellSpaced-lexemes text)
+
+pub lexemes_alone : (text : List ℕ) → All (λ s. cut between s ≡ s ∷ []) (cut between text)
+lexemes_alone text = All-from_recursion (λ s. cut between s ≡ s ∷ []) (cut between text) (IsCut-cut text between).1
+
+some : (s : List ℕ) → cut between s ≡ s ∷ [] → s ≢ []
+unfolding cut
+some s h e = let clash : [] ≡ [] ∷ [] = subst (λ t. cut between t ≡ t ∷ []) e h in cc
+
+pub lexemes_some : (text : List ℕ) → All (λ s. s ≢ []) (cut between text)
+lexemes_some text k d lt = some _ (lexemes_alone text k d lt)

@@ -1,0 +1,8 @@
+mod Bytes
+mod Turns
+mod Places
+mod Firsts
+mod Remarks
+pub mod Gaps
+pub mod Kept
+pub mod Following

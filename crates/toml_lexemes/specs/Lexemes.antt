@@ -1,0 +1,126 @@
+-- The lexemes of a TOML text: its signs and line ends, its remarks, its strings with their quotes, and its words.
+use Rattle.std.specs.Prelude.{ℕ, List, [], ◌∷◌, Bool, false, cond, ◌&&◌, ◌||◌, ◌==◌}
+use Rattle.toml_lexemes.specs.Bytes.{line_feed, carriage_return, quote, hash, apostrophe, backslash, is_sign, is_blank, ends_word}
+
+-- the kinds of string: in a basic one a backslash escapes the byte after it
+pub data Kind : Type 0 where
+  basic : Kind
+  literal : Kind
+
+-- the quote that a string of this kind is written with
+abbrev pub mark : Kind → ℕ
+mark basic = quote
+mark literal = apostrophe
+
+-- whether the byte escapes the next one in a string of this kind
+abbrev pub escapes : Kind → ℕ → Bool
+escapes basic x = x == backslash
+escapes literal x = false
+
+-- where in a lexeme a byte stands
+pub data Inner : Type 0 where
+  in_word : Inner
+  in_remark : Inner
+  -- after the first quote of a string
+  opened : Kind → Inner
+  -- after two quotes, which are an empty string or the beginning of a string of several lines
+  doubled : Kind → Inner
+  -- in a string of one line, and after its backslash
+  in_line : Kind → Inner
+  in_line_escape : Inner
+  -- in a string of several lines, and after its backslash
+  in_lines : Kind → Inner
+  in_lines_escape : Inner
+  -- in a string of several lines, after one quote and after two
+  closing : Kind → Inner
+  closing_more : Kind → Inner
+  -- after the three quotes that close a string of several lines, and after one more
+  closed : Kind → Inner
+  closed_more : Kind → Inner
+
+-- what is being read
+pub data Mode : Type 0 where
+  -- between two lexemes
+  between : Mode
+  -- in a lexeme
+  within : Inner → Mode
+
+-- what a byte between two lexemes is: a blank, which is in none; a lexeme alone; or the first byte of one
+pub data First : Type 0 where
+  passed : First
+  alone : First
+  begins : Inner → First
+
+-- what the byte x is between two lexemes
+abbrev pub first : ℕ → First
+first x =
+    cond (is_blank x) passed
+    (cond (is_sign x || (x == line_feed)) alone
+    (cond (x == hash) (begins in_remark)
+    (cond (x == quote) (begins (opened basic))
+    (cond (x == apostrophe) (begins (opened literal)) (begins in_word)))))
+
+-- what a byte is to the lexeme that is being read: one of its bytes, its last byte, or the first byte after it
+pub data Turn : Type 0 where
+  goes_on : Inner → Turn
+  ends : Turn
+  stops : Turn
+
+-- what the byte x is in a string of one line
+abbrev pub line_turn : Kind → ℕ → Turn
+line_turn k x =
+    cond (x == line_feed) stops
+    (cond (x == mark k) ends
+    (cond (escapes k x) (goes_on in_line_escape) (goes_on (in_line k))))
+
+-- what the byte x is in a string of several lines
+abbrev pub lines_turn : Kind → ℕ → Turn
+lines_turn k x = cond (x == mark k) (goes_on (closing k)) (cond (escapes k x) (goes_on in_lines_escape) (goes_on (in_lines k)))
+
+-- what the byte x is in a lexeme; `before` says whether it stands directly before a line feed
+abbrev pub turn : Inner → ℕ → Bool → Turn
+turn in_word x before = cond (ends_word x) stops (goes_on in_word)
+turn in_remark x before = cond ((x == line_feed) || ((x == carriage_return) && before)) stops (goes_on in_remark)
+turn (opened k) x before = cond (x == mark k) (goes_on (doubled k)) (line_turn k x)
+turn (doubled k) x before = cond (x == mark k) (goes_on (in_lines k)) stops
+turn (in_line k) x before = line_turn k x
+turn in_line_escape x before = cond (x == line_feed) stops (goes_on (in_line basic))
+turn (in_lines k) x before = lines_turn k x
+turn in_lines_escape x before = goes_on (in_lines basic)
+turn (closing k) x before = cond (x == mark k) (goes_on (closing_more k)) (lines_turn k x)
+turn (closing_more k) x before = cond (x == mark k) (goes_on (closed k)) (lines_turn k x)
+turn (closed k) x before = cond (x == mark k) (goes_on (closed_more k)) stops
+turn (closed_more k) x before = cond (x == mark k) ends stops
+
+-- whether a line feed comes first
+abbrev pub begins_line_feed : List ℕ → Bool
+begins_line_feed [] = false
+begins_line_feed (x ∷ xs) = x == line_feed
+
+-- one byte more in front of the lexeme that comes first
+abbrev pub lengthened : ℕ → List (List ℕ) → List (List ℕ)
+lengthened x [] = (x ∷ []) ∷ []
+lengthened x (s ∷ ss) = (x ∷ s) ∷ ss
+
+-- the byte x between two lexemes, after which k goes on
+abbrev pub cut_first : First → ℕ → (Mode → List (List ℕ)) → List (List ℕ)
+cut_first passed x k = k between
+cut_first alone x k = (x ∷ []) ∷ k between
+cut_first (begins i) x k = lengthened x (k (within i))
+
+-- the byte x after the beginning of a lexeme: where the lexeme stops before x, that byte is one between two lexemes
+abbrev pub cut_turn : Turn → First → ℕ → (Mode → List (List ℕ)) → List (List ℕ)
+cut_turn (goes_on i) f x k = lengthened x (k (within i))
+cut_turn ends f x k = (x ∷ []) ∷ k between
+cut_turn stops f x k = [] ∷ cut_first f x k
+
+-- what is left of the lexeme that is being read, where one is, and then the lexemes after it
+unfoldable pub cut : Mode → List ℕ → List (List ℕ)
+cut between [] = []
+cut (within i) [] = [] ∷ []
+cut between (x ∷ xs) = cut_first (first x) x (λ next. cut next xs)
+cut (within i) (x ∷ xs) = cut_turn (turn i x (begins_line_feed xs)) (first x) x (λ next. cut next xs)
+
+-- the lexemes of a text, in their order
+abbrev pub lexemes : List ℕ → List (List ℕ)
+lexemes text = cut between text

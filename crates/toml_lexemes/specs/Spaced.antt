@@ -1,0 +1,67 @@
+-- Texts with gaps around them.
+use Rattle.std.specs.Prelude.{◌≡◌, ◌==◌, ◌&&◌, ◌||◌, ℕ, Bool, true, false, List, [], ◌∷◌, ◌++◌, ⊤}
+use Rattle.toml_lexemes.specs.Bytes.{carriage_return, line_feed, is_blank}
+use Rattle.toml_lexemes.specs.Lexemes.{in_remark, Mode, between, within, First, passed, alone, begins, first, Turn, goes_on, ends, stops, turn, begins_line_feed}
+
+-- a gap: blanks alone, which are the space, the tab and CR
+abbrev pub IsGap : List ℕ → Type 0
+IsGap [] = ⊤
+IsGap (x ∷ xs) = (is_blank x ≡ true) × IsGap xs
+
+-- bytes that are these texts in their order, with gaps before, between and after them, any of which may be empty
+abbrev pub IsSpaced : List ℕ → List (List ℕ) → Type 0
+IsSpaced bytes [] = IsGap bytes
+IsSpaced bytes (s ∷ ss) =
+    (g : List ℕ) × (rest : List ℕ) × IsGap g × (bytes ≡ g ++ (s ++ rest)) × IsSpaced rest ss
+
+-- ---- what may follow a lexeme
+
+-- the mode after a byte between two lexemes
+abbrev pub mode_first : First → Mode
+mode_first passed = between
+mode_first alone = between
+mode_first (begins i) = within i
+
+-- the mode after a byte in a lexeme
+abbrev pub mode_turn : Turn → Mode
+mode_turn (goes_on i) = within i
+mode_turn ends = between
+mode_turn stops = between
+
+-- the mode after these bytes
+abbrev pub mode_after : Mode → List ℕ → Mode
+mode_after m [] = m
+mode_after between (x ∷ xs) = mode_after (mode_first (first x)) xs
+mode_after (within i) (x ∷ xs) = mode_after (mode_turn (turn i x (begins_line_feed xs))) xs
+
+-- A lexeme that leaves a mode ends before these bytes: one that is ended does before any; else they are none, or their
+-- first byte stops it. So a word ends before a blank, a line end, a sign, a quote or a remark; a remark before a line end;
+-- a string of one line that is not closed before a line feed; two quotes, and a string of several lines that is closed,
+-- before any byte but their quote; and a string of several lines that is not closed only at the end of the text.
+abbrev pub EndsBefore : Mode → List ℕ → Type 0
+EndsBefore m [] = ⊤
+EndsBefore between (x ∷ xs) = ⊤
+EndsBefore (within i) (x ∷ xs) = turn i x (begins_line_feed xs) ≡ stops
+
+-- whether the last byte is CR
+abbrev pub EndsWithReturn : List ℕ → Type 0
+EndsWithReturn [] = ⊥
+EndsWithReturn (x ∷ []) = x ≡ carriage_return
+EndsWithReturn (x ∷ (y ∷ ys)) = EndsWithReturn (y ∷ ys)
+
+-- The bytes may come directly after the lexeme. A remark that ends with CR does not stand before a line feed, which would
+-- make the CR a part of the line end.
+pub record MayFollow (lexeme bytes : List ℕ) : Type 0 where
+  pub ended : EndsBefore (mode_after between lexeme) bytes
+  pub apart : mode_after between lexeme ≡ within in_remark → EndsWithReturn lexeme → begins_line_feed bytes ≡ false
+
+-- spaced, and each text has after it what may follow it
+abbrev pub IsWellSpaced : List ℕ → List (List ℕ) → Type 0
+IsWellSpaced bytes [] = IsGap bytes
+IsWellSpaced bytes (s ∷ ss) =
+    (g : List ℕ) × (rest : List ℕ) × IsGap g × (bytes ≡ g ++ (s ++ rest)) × MayFollow s rest × IsWellSpaced rest ss
+
+-- whether a line end comes first: LF, or CR directly before LF
+abbrev pub begins_line_end : List ℕ → Bool
+begins_line_end [] = false
+begins_line_end (x ∷ xs) = (x == line_feed) || ((x == carriage_return) && begins_line_feed xs)

@@ -1,0 +1,72 @@
+ghost use Rattle.std.specs.Prelude.{◌≡◌, map, IfOk, All};
+ghost use Rattle.toml_lexemes.specs.Lexemes.{lexemes};
+ghost use Rattle.toml_lexemes.specs.View.{text_of, IsNamed};
+
+use crate::cut::{blanks_end, lexeme_at};
+use crate::lexeme::Lexeme;
+use std::alloc::{AllocError, Global};
+use std::marker::Model;
+
+/// Hands out the lexemes of a text, in their order. It takes no memory. A clause sees how those that are left are spelled.
+#[derive(Drop)]
+pub struct Lexer<'a> {
+    text: &'a str,
+    place: usize,
+}
+
+impl<'a> Model for Lexer<'a> {
+    ghost use Rattle.std.specs.Prelude.{ℕ, List};
+    ghost use Rattle.toml_lexemes.specs.Lexer.{lexer_view, IsLexer};
+
+    ghost Value = { List (List ℕ) };
+
+    ghost view = { lexer_view };
+
+    ghost invariant = { IsLexer };
+}
+
+impl<'a> Lexer<'a> {
+    /// Hands out all lexemes of this text.
+    pub fn new(text: &'a str) -> Lexer<'a>
+        ensures { result ≡ lexemes text.now }
+    {
+        Lexer { text, place: 0 }
+    }
+}
+
+impl<'a> Iterator for Lexer<'a> {
+    type Item = Lexeme<'a>;
+
+    ghost use Rattle.std.specs.Iterator.{item_count};
+    ghost use Rattle.toml_lexemes.specs.View.{HandsOut};
+
+    ghost next_gives = { HandsOut };
+
+    ghost remaining = { item_count (λ left. left) };
+
+    fn next(&mut self) -> Option<Lexeme<'a>> {
+        let text = self.text;
+        let place = blanks_end(text.as_bytes(), self.place);
+        if place == text.len() {
+            self.place = place;
+            return None;
+        }
+        let lexeme = lexeme_at(text, place);
+        self.place = place + lexeme.text().len();
+        Some(lexeme)
+    }
+}
+
+/// The lexemes of a text, in their order. Each is a slice of the text or one sign; blanks are in none but strings and remarks.
+///
+/// `AllocError` where memory is refused.
+pub fn lexemes<'a>(alloc: Global, text: &'a str) -> Result<Vec<Lexeme<'a>>, AllocError>
+    ensures texts { IfOk result (λ found. map text_of found.items ≡ lexemes text.now) }
+    ensures names { IfOk result (λ found. All IsNamed found.items) }
+{
+    let mut found = Vec::new(alloc);
+    for lexeme in Lexer::new(text) {
+        found.push(lexeme)?;
+    }
+    Ok(found)
+}
