@@ -57,6 +57,9 @@ _text_head = Struct("<BI").pack
 _text_of_width_head = Struct("<BQI").pack
 _nest = Struct("<Bq").pack
 
+# What comes before the bytes of a short text, by their number.
+TEXT_HEADS = tuple(_text_head(TEXT, length) for length in range(28))
+
 
 def text_code(operation: int, text: str) -> bytes:
     """A text, with its length."""

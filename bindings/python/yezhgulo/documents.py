@@ -202,11 +202,13 @@ class _Texts(Dict[str, bytes]):
     """The codes of texts, kept where they are short. Most documents have the same few texts many times."""
 
     def __missing__(self, text: str) -> bytes:
-        made = code.text_code(code.TEXT, text)
-        if len(made) <= 32:
-            if len(self) >= 4096:
-                self.clear()
-            self[text] = made
+        content = text.encode()
+        if len(content) >= len(code.TEXT_HEADS):
+            return code.text_code(code.TEXT, text)
+        made = code.TEXT_HEADS[len(content)] + content
+        if len(self) >= 4096:
+            self.clear()
+        self[text] = made
         return made
 
 
