@@ -81,7 +81,7 @@ pub fn texts()
 
     // What is late comes at the end of its line, after what is on the line and before the line end.
     ensures late_before_end { ShowsItems 2 late_remark (late_with apart) (codes "a # c\nb") }
-    ensures late_behind_group { ShowsItems 80 late_remark (late_with apart) (codes "a b # c") }
+    ensures late_after_group { ShowsItems 80 late_remark (late_with apart) (codes "a b # c") }
     ensures late_in_turn { ShowsItems 80 two_late two_late_items (codes "ab #1 #2\nc") }
     ensures late_at_the_end { ShowsItems 80 (Append (text "a") (LineSuffix (text " # c")))
         (text_item "a" ∷ late_item " # c" ∷ []) (codes "a # c") }

@@ -171,14 +171,14 @@ next_first s t bytes n (inl (stays, inr h)) =
 
 not_after_late : DoesNotShow (codes "a # c b") (late_with apart)
 not_after_late h =
-    let behind = starts 97 [] (codes " # c b") _ refl h in
-    let k = next_first (codes " # c") (codes "b") (codes " # c b") (no_end (codes " # c b") refl) behind in
+    let after = starts 97 [] (codes " # c b") _ refl h in
+    let k = next_first (codes " # c") (codes "b") (codes " # c b") (no_end (codes " # c b") refl) after in
     absurd (omega (arith, first_same 35 98 (codes "cb") (ink k.0) k.1))
 
 not_beside_late : DoesNotShow (codes "a # cb") (late_with apart)
 not_beside_late h =
-    let behind = starts 97 [] (codes " # cb") _ refl h in
-    let k = next_first (codes " # c") (codes "b") (codes " # cb") (no_end (codes " # cb") refl) behind in
+    let after = starts 97 [] (codes " # cb") _ refl h in
+    let k = next_first (codes " # c") (codes "b") (codes " # cb") (no_end (codes " # cb") refl) after in
     absurd (omega (arith, first_same 35 98 (codes "cb") (ink k.0) k.1))
 
 not_late_enough : DoesNotShow (codes "a\n # c\nb") (late_with ended)
@@ -288,9 +288,9 @@ pub returns-clause-late_before_end : goal.returns-clause-late_before_end
 unfolding lay lay_each breaks finish layout_by layout
 returns-clause-late_before_end c = (late_remark_shows, refl)
 
-pub returns-clause-late_behind_group : goal.returns-clause-late_behind_group
+pub returns-clause-late_after_group : goal.returns-clause-late_after_group
 unfolding lay lay_each breaks finish layout_by layout
-returns-clause-late_behind_group c = (late_remark_shows, refl)
+returns-clause-late_after_group c = (late_remark_shows, refl)
 
 pub returns-clause-late_in_turn : goal.returns-clause-late_in_turn
 unfolding lay lay_each breaks finish layout_by layout
