@@ -1,0 +1,3 @@
+pub mod Statements
+pub mod Shown
+pub mod Laws
