@@ -1,0 +1,5 @@
+pub mod Trimmed
+pub mod LineEnds
+pub mod Strings
+pub mod Remarks
+pub mod TextsApart

@@ -1,0 +1,105 @@
+-- A text that is a lexeme, a gap and what is after it, cut into lexemes.
+use Rattle.std.proofs.Common.{◌≡◌, ℕ, ◌<◌, Bool, true, false, cond, ◌==◌, ◌||◌, List, [], ◌∷◌, ◌++◌, length, length-append, refl, sym, ap, ◌∙◌, subst, ◌⊎◌, inl, inr, arith}
+use Rattle.std.proofs.lemmas.Bool.{eqb-true, true≢false, or_parts, or_cases}
+use Rattle.std.proofs.lemmas.List.Elements.{All-cons}
+use Rattle.prettyless_model.specs.Shows.{Nothing, Spacing, LineEnd, EndsLine, IsBlank, Has}
+use Rattle.prettyless_model.specs.Spelling.{is_blank_byte}
+use Rattle.toml_lexemes.specs.Bytes.{is_sign, is_blank, is_quote, ends_word, head}
+use Rattle.toml_lexemes.specs.Lexemes.{between, passed, alone, first, begins, opened, basic, literal, in_remark, cut_first, cut}
+use Rattle.toml_lexemes.specs.Spaced.{IsSpaced, MayFollow}
+use Rattle.toml_lexemes.proofs.Following.{end_may_follow, words_are_ended, signs_are_ended}
+use Rattle.toml_lexemes.proofs.Gaps.{IsSpaced-lexemes, IsWellSpaced-lexemes, lexemes_alone}
+use Rattle.toml_lexemes.proofs.Kept.{same_lexemes}
+use Rattle.toml_statements.specs.Statements.{role, trimmed, Collected, with_role, with_lexeme, with_lexemes}
+use Rattle.toml_statements.specs.Shown.{EndsWell, IsWholeLexeme, least_after, least_between}
+use Rattle.toml_statements.proofs.LineEnds.{line_ends, gap_byte, cut_blank, cut_gap}
+use Rattle.toml_statements.proofs.Remarks.{remark_before_gap}
+use Rattle.toml_statements.proofs.Strings.{string_followed}
+use Rattle.toml_statements.proofs.Trimmed.{trimmed_before_gap}
+
+-- ---- the first byte of a lexeme
+
+-- what begins with a byte
+pub data Beginning (x : ℕ) : Type 0 where
+  a_sign : is_sign x ≡ true → Beginning x
+  a_remark_sign : x ≡ 35 → Beginning x
+  a_quote : (x ≡ 34) ⊎ (x ≡ 39) → Beginning x
+  a_letter : ends_word x ≡ false → Beginning x
+
+-- no lexeme is longer than the text
+too_long : (x : ℕ) (s : List ℕ) → cut between s ≡ (x ∷ s) ∷ [] → ⊥
+too_long x s e = go (subst (IsSpaced s) e (IsSpaced-lexemes s))
+  where
+    go : IsSpaced s ((x ∷ s) ∷ []) → ⊥
+    go (g, rest, gap, is, h) = omega (arith, ap length is, length-append g ((x ∷ s) ++ rest), length-append (x ∷ s) rest)
+
+no_blank : (x : ℕ) (s : List ℕ) → cut between (x ∷ s) ≡ (x ∷ s) ∷ [] → is_blank x ≡ true → ⊥
+no_blank x s lexeme e = too_long x s (sym (cut_blank x s e) ∙ lexeme)
+
+no_line_end : (x : ℕ) (s : List ℕ) → EndsWell (role (x ∷ s)) (x ∷ s) → x ≡ 10 → ⊥
+no_line_end x s h e = subst (λ y. EndsWell (role (y ∷ s)) (x ∷ s)) e h
+
+module _ (x : ℕ) (s : List ℕ) (whole : IsWholeLexeme (x ∷ s)) where
+  by_tests : (sign blank quote line_feed hash : Bool) → is_sign x ≡ sign → is_blank x ≡ blank → is_quote x ≡ quote
+      → (x == 10) ≡ line_feed → (x == 35) ≡ hash → Beginning x
+  by_tests true b q l h es eb eq el eh = a_sign es
+  by_tests false true q l h es eb eq el eh = absurd (no_blank x s whole.alone eb)
+  by_tests false false true l h es eb eq el eh = a_quote (one_of (or_cases (x == 34) (x == 39) eq))
+    where
+      one_of : ((x == 34) ≡ true) ⊎ ((x == 39) ≡ true) → (x ≡ 34) ⊎ (x ≡ 39)
+      one_of (inl e) = inl (eqb-true x 34 e)
+      one_of (inr e) = inr (eqb-true x 39 e)
+  by_tests false false false true h es eb eq el eh = absurd (no_line_end x s whole.ends (eqb-true x 10 el))
+  by_tests false false false false true es eb eq el eh = a_remark_sign (eqb-true x 35 eh)
+  by_tests false false false false false es eb eq el eh = a_letter (λ j. es j || eb j || eq j || el j || eh j)
+
+  pub beginning : Beginning x
+  beginning = by_tests (is_sign x) (is_blank x) (is_quote x) (x == 10) (x == 35) refl refl refl refl refl
+
+-- ---- what is after a gap
+
+by_gap_byte : (P : ℕ → Type 0) → P 32 → P 13 → P 10 → (x : ℕ) → is_blank_byte x ≡ true → P x
+by_gap_byte P p q r x e = go (or_cases ((x == 32) || (x == 13)) (x == 10) e)
+  where
+    two : ((x == 32) ≡ true) ⊎ ((x == 13) ≡ true) → P x
+    two (inl h) = subst P (sym (eqb-true x 32 h)) p
+    two (inr h) = subst P (sym (eqb-true x 13 h)) q
+
+    go : (((x == 32) || (x == 13)) ≡ true) ⊎ ((x == 10) ≡ true) → P x
+    go (inl h) = two (or_cases (x == 32) (x == 13) h)
+    go (inr h) = subst P (sym (eqb-true x 10 h)) r
+
+module _ (w : List ℕ) where
+  -- no quote follows
+  no_quote : (g : List ℕ) → IsBlank g → Has (cond (is_quote (head w)) Spacing Nothing) g → is_quote (head (g ++ w)) ≡ false
+  no_quote [] blank has = by (is_quote (head w)) has
+    where
+      by : (b : Bool) → Has (cond b Spacing Nothing) [] → b ≡ false
+      by true h = absurd (omega arith)
+      by false h = refl
+  no_quote (x ∷ g) blank has = by_gap_byte (λ y. is_quote y ≡ false) refl refl refl x (gap_byte x g blank).0
+
+  -- what ends a word follows
+  no_letter : (g : List ℕ) → IsBlank g → Has (cond (ends_word (head w)) Nothing Spacing) g → ends_word (head (g ++ w)) ≡ true
+  no_letter [] blank has = by (ends_word (head w)) has
+    where
+      by : (b : Bool) → Has (cond b Nothing Spacing) [] → b ≡ true
+      by true h = refl
+      by false h = absurd (omega arith)
+  no_letter (x ∷ g) blank has = by_gap_byte (λ y. ends_word y ≡ true) refl refl refl x (gap_byte x g blank).0
+
+-- ---- a lexeme before what may follow it
+
+lexeme_first : (s rest : List ℕ) → cut between s ≡ s ∷ [] → MayFollow s rest → cut between (s ++ rest) ≡ s ∷ cut between rest
+lexeme_first s rest lexeme follows =
+    same_lexemes (s ++ rest) (s ∷ cut between rest)
+    (All-cons (λ t. cut between t ≡ t ∷ []) s (cut between rest) lexeme (lexemes_alone rest))
+    ([], rest, tt, refl, follows, IsWellSpaced-lexemes rest)
+
+sign_alone : (x : ℕ) (s : List ℕ) → is_sign x ≡ true → is_blank x ≡ false → cut between (x ∷ s) ≡ (x ∷ s) ∷ [] → s ≡ []
+unfolding cut
+sign_alone x s sign blank lexeme =
+    let f : first x ≡ alone = λ j. cond (blank j) passed (cond (sign j || (x == 10)) alone
+        (cond (x == 35) (begins in_remark) (cond (x == 34) (begins (opened basic)) (cond (x == 39) (begins (opened literal)) (begins in_word))))) in
+    let one : (x ∷ []) ∷ cut between s ≡ (x ∷ s) ∷ [] = sym (ap (λ k. cut_first k x (λ m. cut m s)) f) ∙ lexeme in
+    cc
