@@ -2,15 +2,15 @@
 use Rattle.std.proofs.Common.{◌≡◌, ℕ, ◌<◌, Bool, true, false, cond, ◌==◌, ◌||◌, List, [], ◌∷◌, ◌++◌, length, length-append, refl, sym, ap, ◌∙◌, subst, ◌⊎◌, inl, inr, arith}
 use Rattle.std.proofs.lemmas.Bool.{eqb-true, true≢false, or_parts, or_cases}
 use Rattle.std.proofs.lemmas.List.Elements.{All-cons}
-use Rattle.prettyless_model.specs.Shows.{Nothing, Spacing, LineEnd, EndsLine, IsBlank, Has}
+use Rattle.prettyless_model.specs.Shows.{Least, Nothing, Spacing, LineEnd, EndsLine, IsBlank, Has}
 use Rattle.prettyless_model.specs.Spelling.{is_blank_byte}
 use Rattle.toml_lexemes.specs.Bytes.{is_sign, is_blank, is_quote, ends_word, head}
-use Rattle.toml_lexemes.specs.Lexemes.{between, passed, alone, first, begins, opened, basic, literal, in_remark, cut_first, cut}
-use Rattle.toml_lexemes.specs.Spaced.{IsSpaced, MayFollow}
+use Rattle.toml_lexemes.specs.Lexemes.{between, passed, alone, first, begins, opened, basic, literal, in_remark, in_word, cut_first, cut}
+use Rattle.toml_lexemes.specs.Spaced.{IsGap, IsSpaced, MayFollow}
 use Rattle.toml_lexemes.proofs.Following.{end_may_follow, words_are_ended, signs_are_ended}
 use Rattle.toml_lexemes.proofs.Gaps.{IsSpaced-lexemes, IsWellSpaced-lexemes, lexemes_alone}
 use Rattle.toml_lexemes.proofs.Kept.{same_lexemes}
-use Rattle.toml_statements.specs.Statements.{role, trimmed, Collected, with_role, with_lexeme, with_lexemes}
+use Rattle.toml_statements.specs.Statements.{any_other, role, trimmed, Collected, with_role, with_lexeme, with_lexemes}
 use Rattle.toml_statements.specs.Shown.{EndsWell, IsWholeLexeme, least_after, least_between}
 use Rattle.toml_statements.proofs.LineEnds.{line_ends, gap_byte, cut_blank, cut_gap}
 use Rattle.toml_statements.proofs.Remarks.{remark_before_gap}
@@ -103,3 +103,101 @@ sign_alone x s sign blank lexeme =
         (cond (x == 35) (begins in_remark) (cond (x == 34) (begins (opened basic)) (cond (x == 39) (begins (opened literal)) (begins in_word))))) in
     let one : (x ∷ []) ∷ cut between s ≡ (x ∷ s) ∷ [] = sym (ap (λ k. cut_first k x (λ m. cut m s)) f) ∙ lexeme in
     cc
+
+-- ---- a lexeme, a gap and what is after it
+
+-- The bytes are cut into a lexeme, which is the text but for blanks after a remark, the line ends of the gap, and the
+-- lexemes of what is after it.
+abbrev pub IsCutApart : List ℕ → List ℕ → List ℕ → Type 0
+IsCutApart s g w =
+    (t : List ℕ) × ((c : Collected) → with_lexeme c t ≡ with_lexeme c s) × (cut between (s ++ (g ++ w)) ≡ t ∷ (line_ends g ++ cut between w))
+
+-- nothing is after the gap, or the gap has what it has to have in front of it
+abbrev pub LeavesRoom : List ℕ → List ℕ → List ℕ → Type 0
+LeavesRoom s g w = (w ≡ []) ⊎ Has (least_between s w) g
+
+module _ (s g w : List ℕ) where
+  as_it_is : IsBlank g → cut between s ≡ s ∷ [] → MayFollow s (g ++ w) → IsCutApart s g w
+  as_it_is blank lexeme follows = (s, λ c. refl, lexeme_first s (g ++ w) lexeme follows ∙ ap (λ l. s ∷ l) (cut_gap g w blank))
+
+  sign_apart : (x : ℕ) → is_sign x ≡ true → IsBlank g → IsWholeLexeme (x ∷ s) → MayFollow (x ∷ s) (g ++ w)
+  sign_apart x sign blank whole =
+      subst (λ l. MayFollow (x ∷ l) (g ++ w)) (sym (sign_alone x s sign (not_blank (is_blank x) refl) whole.alone))
+      (signs_are_ended x (g ++ w) (λ j. sign j || (x == 10)))
+    where
+      not_blank : (b : Bool) → is_blank x ≡ b → is_blank x ≡ false
+      not_blank true e = absurd (no_blank x s whole.alone e)
+      not_blank false e = e
+
+  string_followed_by : (x : ℕ) (r : List ℕ) → is_quote x ≡ true → IsWholeLexeme (x ∷ s) → MayFollow (x ∷ s) (32 ∷ [])
+      → is_quote (head r) ≡ false → MayFollow (x ∷ s) r
+  string_followed_by x [] quote whole closed e = end_may_follow (x ∷ s)
+  string_followed_by x (y ∷ ys) quote whole closed e = string_followed x s y ys quote whole.alone e closed
+
+  quote_least : (x : ℕ) → (x ≡ 34) ⊎ (x ≡ 39)
+      → (is_quote x ≡ true) × (role (x ∷ s) ≡ any_other) × (least_after x (head w) ≡ cond (is_quote (head w)) Spacing Nothing)
+  quote_least x (inl e) =
+      subst (λ y. (is_quote y ≡ true) × (role (y ∷ s) ≡ any_other) × (least_after y (head w) ≡ cond (is_quote (head w)) Spacing Nothing))
+      (sym e) (refl, refl, refl)
+  quote_least x (inr e) =
+      subst (λ y. (is_quote y ≡ true) × (role (y ∷ s) ≡ any_other) × (least_after y (head w) ≡ cond (is_quote (head w)) Spacing Nothing))
+      (sym e) (refl, refl, refl)
+
+  letter_least : (x y : ℕ) → ends_word x ≡ false → least_after x y ≡ cond (ends_word y) Nothing Spacing
+  letter_least x y e =
+      let a = or_parts (is_sign x || is_blank x || is_quote x || (x == 10)) (x == 35) e in
+      let b = or_parts (is_sign x || is_blank x || is_quote x) (x == 10) a.0 in
+      let c = or_parts (is_sign x || is_blank x) (is_quote x) b.0 in
+      let d = or_parts (is_sign x) (is_blank x) c.0 in
+      λ j. cond (d.0 j) Nothing (cond (a.1 j) LineEnd (cond (c.1 j) (cond (is_quote y) Spacing Nothing) (cond (ends_word y) Nothing Spacing)))
+
+  -- a gap of any kind leaves room at the end
+  room_for : (l : ℕ → Least) → Has (l 32) g → (w ≡ []) ⊎ Has (l (head w)) g → Has (l (head w)) g
+  room_for l none (inl e) = subst (λ v. Has (l (head v)) g) (sym e) none
+  room_for l none (inr has) = has
+
+  remark_apart : IsBlank g → IsWholeLexeme (35 ∷ s) → LeavesRoom (35 ∷ s) g w → IsCutApart (35 ∷ s) g w
+  remark_apart blank whole room = by_rest (remark_before_gap s g w whole.alone whole.ends blank (swap room))
+    where
+      swap : LeavesRoom (35 ∷ s) g w → EndsLine g ⊎ (w ≡ [])
+      swap (inl e) = inr e
+      swap (inr has) = inl has
+
+      by_rest : (t : List ℕ) × IsGap t × (cut between (35 ∷ (s ++ (g ++ w))) ≡ (35 ∷ (s ++ t)) ∷ (line_ends g ++ cut between w))
+          → IsCutApart (35 ∷ s) g w
+      by_rest (t, gap, e) = (
+        35 ∷ (s ++ t),
+        λ c. ap (λ (r : List ℕ). record c { remarks = c.remarks ++ r ∷ [] }) (trimmed_before_gap (35 ∷ s) t gap),
+        e,
+      )
+
+  by_beginning : (x : ℕ) → IsBlank g → IsWholeLexeme (x ∷ s) → LeavesRoom (x ∷ s) g w → Beginning x
+      → IsCutApart (x ∷ s) g w
+  by_beginning x blank whole room (a_sign e) =
+      (x ∷ s, λ c. refl, lexeme_first (x ∷ s) (g ++ w) whole.alone (sign_apart x e blank whole) ∙ ap (λ l. (x ∷ s) ∷ l) (cut_gap g w blank))
+  by_beginning x blank whole room (a_remark_sign e) =
+      subst (λ y. IsWholeLexeme (y ∷ s) → LeavesRoom (y ∷ s) g w → IsCutApart (y ∷ s) g w) (sym e) (remark_apart blank) whole room
+  by_beginning x blank whole room (a_quote e) =
+      let q = quote_least x e in
+      let has = room_for (λ y. cond (is_quote y) Spacing Nothing) tt (subst (λ l. (w ≡ []) ⊎ Has l g) q.2 room) in
+      let closed : MayFollow (x ∷ s) (32 ∷ []) = subst (λ r. EndsWell r (x ∷ s)) q.1 whole.ends in
+      let follows = string_followed_by x (g ++ w) q.0 whole closed (no_quote w g blank has) in
+      (x ∷ s, λ c. refl, lexeme_first (x ∷ s) (g ++ w) whole.alone follows ∙ ap (λ l. (x ∷ s) ∷ l) (cut_gap g w blank))
+  by_beginning x blank whole room (a_letter e) =
+      let has =
+      room_for (λ y. cond (ends_word y) Nothing Spacing) tt (subst (λ l. (w ≡ []) ⊎ Has l g) (letter_least x (head w) e) room) in
+      let follows = (words_are_ended (x ∷ s) (g ++ w) whole.alone e).1 (no_letter w g blank has) in
+      (x ∷ s, λ c. refl, lexeme_first (x ∷ s) (g ++ w) whole.alone follows ∙ ap (λ l. (x ∷ s) ∷ l) (cut_gap g w blank))
+
+no_lexeme : cut between [] ≡ [] ∷ [] → ⊥
+unfolding cut
+no_lexeme e = cc
+
+pub cut_apart : (s g w : List ℕ) → IsBlank g → IsWholeLexeme s → LeavesRoom s g w → IsCutApart s g w
+cut_apart [] g w blank whole room = absurd (no_lexeme whole.alone)
+cut_apart (x ∷ s) g w blank whole room = by_beginning s g w x blank whole room (beginning x s whole)
+
+-- a lexeme is not empty
+pub some_bytes : (s : List ℕ) → IsWholeLexeme s → (y : ℕ) × (ys : List ℕ) × (s ≡ y ∷ ys)
+some_bytes [] whole = absurd (no_lexeme whole.alone)
+some_bytes (y ∷ ys) whole = (y, ys, refl)

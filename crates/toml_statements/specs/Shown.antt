@@ -83,14 +83,12 @@ abbrev pub IsInside : ℕ → Type 0
 IsInside zero = ⊥
 IsInside (suc n) = ⊤
 
--- The mark may stand next, and be there or not: it is a comma in brackets, after a lexeme that is neither a comma nor a
--- remark.
+-- the mark may stand next, and be there or not: it is a comma in brackets, where no comma waits already
 pub record MayMark (a : Stage) (s : List ℕ) : Type 0 where
   pub comma : s ≡ byte.comma ∷ []
   pub apart : IsApart a s
   pub inside : IsInside a.collected.depth
   pub no_comma : a.collected.comma ≡ false
-  pub no_remarks : a.collected.remarks ≡ []
   pub no_mark : a.marked ≡ false
 
 -- what is collected before the next text, where a line end that the gap has is read
