@@ -5,3 +5,5 @@ pub mod Remarks
 pub mod WholeLexemes
 pub mod TextsApart
 pub mod ReadItems
+pub mod SoundTexts
+pub mod Stages

@@ -37,7 +37,7 @@ first_blank x e = rw e
 
 -- ---- lexemes
 
-cut_line_feed : (x : ℕ) (w : List ℕ) → x ≡ 10 → cut between (x ∷ w) ≡ (10 ∷ []) ∷ cut between w
+pub cut_line_feed : (x : ℕ) (w : List ℕ) → x ≡ 10 → cut between (x ∷ w) ≡ (10 ∷ []) ∷ cut between w
 unfolding cut
 cut_line_feed x w e = ap (λ y. cut between (y ∷ w)) e
 

@@ -16,6 +16,7 @@ use Rattle.toml_statements.proofs.LineEnds.{line_ends, gap_byte, cut_blank, cut_
 use Rattle.toml_statements.proofs.Remarks.{remark_before_gap}
 use Rattle.toml_statements.proofs.Strings.{string_followed}
 use Rattle.toml_statements.proofs.Trimmed.{trimmed_before_gap}
+use Rattle.toml_statements.proofs.WholeLexemes.{no_lexeme, quote_role}
 
 -- ---- the first byte of a lexeme
 
@@ -23,7 +24,7 @@ use Rattle.toml_statements.proofs.Trimmed.{trimmed_before_gap}
 pub data Beginning (x : ℕ) : Type 0 where
   a_sign : is_sign x ≡ true → Beginning x
   a_remark_sign : x ≡ 35 → Beginning x
-  a_quote : (x ≡ 34) ⊎ (x ≡ 39) → Beginning x
+  a_quote : is_quote x ≡ true → Beginning x
   a_letter : ends_word x ≡ false → Beginning x
 
 -- no lexeme is longer than the text
@@ -33,7 +34,7 @@ too_long x s e = go (subst (IsSpaced s) e (IsSpaced-lexemes s))
     go : IsSpaced s ((x ∷ s) ∷ []) → ⊥
     go (g, rest, gap, is, h) = omega (arith, ap length is, length-append g ((x ∷ s) ++ rest), length-append (x ∷ s) rest)
 
-no_blank : (x : ℕ) (s : List ℕ) → cut between (x ∷ s) ≡ (x ∷ s) ∷ [] → is_blank x ≡ true → ⊥
+pub no_blank : (x : ℕ) (s : List ℕ) → cut between (x ∷ s) ≡ (x ∷ s) ∷ [] → is_blank x ≡ true → ⊥
 no_blank x s lexeme e = too_long x s (sym (cut_blank x s e) ∙ lexeme)
 
 no_line_end : (x : ℕ) (s : List ℕ) → EndsWell (role (x ∷ s)) (x ∷ s) → x ≡ 10 → ⊥
@@ -44,11 +45,7 @@ module _ (x : ℕ) (s : List ℕ) (whole : IsWholeLexeme (x ∷ s)) where
       → (x == 10) ≡ line_feed → (x == 35) ≡ hash → Beginning x
   by_tests true b q l h es eb eq el eh = a_sign es
   by_tests false true q l h es eb eq el eh = absurd (no_blank x s whole.alone eb)
-  by_tests false false true l h es eb eq el eh = a_quote (one_of (or_cases (x == 34) (x == 39) eq))
-    where
-      one_of : ((x == 34) ≡ true) ⊎ ((x == 39) ≡ true) → (x ≡ 34) ⊎ (x ≡ 39)
-      one_of (inl e) = inl (eqb-true x 34 e)
-      one_of (inr e) = inr (eqb-true x 39 e)
+  by_tests false false true l h es eb eq el eh = a_quote eq
   by_tests false false false true h es eb eq el eh = absurd (no_line_end x s whole.ends (eqb-true x 10 el))
   by_tests false false false false true es eb eq el eh = a_remark_sign (eqb-true x 35 eh)
   by_tests false false false false false es eb eq el eh = a_letter (λ j. es j || eb j || eq j || el j || eh j)
@@ -96,7 +93,7 @@ lexeme_first s rest lexeme follows =
     (All-cons (λ t. cut between t ≡ t ∷ []) s (cut between rest) lexeme (lexemes_alone rest))
     ([], rest, tt, refl, follows, IsWellSpaced-lexemes rest)
 
-sign_alone : (x : ℕ) (s : List ℕ) → is_sign x ≡ true → is_blank x ≡ false → cut between (x ∷ s) ≡ (x ∷ s) ∷ [] → s ≡ []
+pub sign_alone : (x : ℕ) (s : List ℕ) → is_sign x ≡ true → is_blank x ≡ false → cut between (x ∷ s) ≡ (x ∷ s) ∷ [] → s ≡ []
 unfolding cut
 sign_alone x s sign blank lexeme =
     let f : first x ≡ alone = λ j. cond (blank j) passed (cond (sign j || (x == 10)) alone
@@ -117,8 +114,8 @@ abbrev pub LeavesRoom : List ℕ → List ℕ → List ℕ → Type 0
 LeavesRoom s g w = (w ≡ []) ⊎ Has (least_between s w) g
 
 module _ (s g w : List ℕ) where
-  as_it_is : IsBlank g → cut between s ≡ s ∷ [] → MayFollow s (g ++ w) → IsCutApart s g w
-  as_it_is blank lexeme follows = (s, λ c. refl, lexeme_first s (g ++ w) lexeme follows ∙ ap (λ l. s ∷ l) (cut_gap g w blank))
+  as_it_is : (t : List ℕ) → IsBlank g → cut between t ≡ t ∷ [] → MayFollow t (g ++ w) → IsCutApart t g w
+  as_it_is t blank lexeme follows = (t, λ c. refl, lexeme_first t (g ++ w) lexeme follows ∙ ap (λ l. t ∷ l) (cut_gap g w blank))
 
   sign_apart : (x : ℕ) → is_sign x ≡ true → IsBlank g → IsWholeLexeme (x ∷ s) → MayFollow (x ∷ s) (g ++ w)
   sign_apart x sign blank whole =
@@ -134,14 +131,12 @@ module _ (s g w : List ℕ) where
   string_followed_by x [] quote whole closed e = end_may_follow (x ∷ s)
   string_followed_by x (y ∷ ys) quote whole closed e = string_followed x s y ys quote whole.alone e closed
 
-  quote_least : (x : ℕ) → (x ≡ 34) ⊎ (x ≡ 39)
-      → (is_quote x ≡ true) × (role (x ∷ s) ≡ any_other) × (least_after x (head w) ≡ cond (is_quote (head w)) Spacing Nothing)
-  quote_least x (inl e) =
-      subst (λ y. (is_quote y ≡ true) × (role (y ∷ s) ≡ any_other) × (least_after y (head w) ≡ cond (is_quote (head w)) Spacing Nothing))
-      (sym e) (refl, refl, refl)
-  quote_least x (inr e) =
-      subst (λ y. (is_quote y ≡ true) × (role (y ∷ s) ≡ any_other) × (least_after y (head w) ≡ cond (is_quote (head w)) Spacing Nothing))
-      (sym e) (refl, refl, refl)
+  quote_least : (x y : ℕ) → is_quote x ≡ true → least_after x y ≡ cond (is_quote y) Spacing Nothing
+  quote_least x y e = go (or_cases (x == 34) (x == 39) e)
+    where
+      go : ((x == 34) ≡ true) ⊎ ((x == 39) ≡ true) → least_after x y ≡ cond (is_quote y) Spacing Nothing
+      go (inl h) = ap (λ z. least_after z y) (eqb-true x 34 h)
+      go (inr h) = ap (λ z. least_after z y) (eqb-true x 39 h)
 
   letter_least : (x y : ℕ) → ends_word x ≡ false → least_after x y ≡ cond (ends_word y) Nothing Spacing
   letter_least x y e =
@@ -174,24 +169,18 @@ module _ (s g w : List ℕ) where
   by_beginning : (x : ℕ) → IsBlank g → IsWholeLexeme (x ∷ s) → LeavesRoom (x ∷ s) g w → Beginning x
       → IsCutApart (x ∷ s) g w
   by_beginning x blank whole room (a_sign e) =
-      (x ∷ s, λ c. refl, lexeme_first (x ∷ s) (g ++ w) whole.alone (sign_apart x e blank whole) ∙ ap (λ l. (x ∷ s) ∷ l) (cut_gap g w blank))
+      as_it_is (x ∷ s) blank whole.alone (sign_apart x e blank whole)
   by_beginning x blank whole room (a_remark_sign e) =
       subst (λ y. IsWholeLexeme (y ∷ s) → LeavesRoom (y ∷ s) g w → IsCutApart (y ∷ s) g w) (sym e) (remark_apart blank) whole room
   by_beginning x blank whole room (a_quote e) =
-      let q = quote_least x e in
-      let has = room_for (λ y. cond (is_quote y) Spacing Nothing) tt (subst (λ l. (w ≡ []) ⊎ Has l g) q.2 room) in
-      let closed : MayFollow (x ∷ s) (32 ∷ []) = subst (λ r. EndsWell r (x ∷ s)) q.1 whole.ends in
-      let follows = string_followed_by x (g ++ w) q.0 whole closed (no_quote w g blank has) in
-      (x ∷ s, λ c. refl, lexeme_first (x ∷ s) (g ++ w) whole.alone follows ∙ ap (λ l. (x ∷ s) ∷ l) (cut_gap g w blank))
+      let has =
+      room_for (λ y. cond (is_quote y) Spacing Nothing) tt (subst (λ l. (w ≡ []) ⊎ Has l g) (quote_least x (head w) e) room) in
+      let closed : MayFollow (x ∷ s) (32 ∷ []) = subst (λ r. EndsWell r (x ∷ s)) (quote_role x e) whole.ends in
+      as_it_is (x ∷ s) blank whole.alone (string_followed_by x (g ++ w) e whole closed (no_quote w g blank has))
   by_beginning x blank whole room (a_letter e) =
       let has =
       room_for (λ y. cond (ends_word y) Nothing Spacing) tt (subst (λ l. (w ≡ []) ⊎ Has l g) (letter_least x (head w) e) room) in
-      let follows = (words_are_ended (x ∷ s) (g ++ w) whole.alone e).1 (no_letter w g blank has) in
-      (x ∷ s, λ c. refl, lexeme_first (x ∷ s) (g ++ w) whole.alone follows ∙ ap (λ l. (x ∷ s) ∷ l) (cut_gap g w blank))
-
-no_lexeme : cut between [] ≡ [] ∷ [] → ⊥
-unfolding cut
-no_lexeme e = cc
+      as_it_is (x ∷ s) blank whole.alone ((words_are_ended (x ∷ s) (g ++ w) whole.alone e).1 (no_letter w g blank has))
 
 pub cut_apart : (s g w : List ℕ) → IsBlank g → IsWholeLexeme s → LeavesRoom s g w → IsCutApart s g w
 cut_apart [] g w blank whole room = absurd (no_lexeme whole.alone)

@@ -138,7 +138,7 @@ trimmed_remark s lexeme =
       ends = trimmed_begins (trimmed s) ∙ ap (λ l. 35 ∷ l) (trimmed_twice s);
     })
 
-no_lexeme : cut between [] ≡ [] ∷ [] → ⊥
+pub no_lexeme : cut between [] ≡ [] ∷ [] → ⊥
 unfolding cut
 no_lexeme e = cc
 

@@ -1,3 +1,4 @@
 pub mod Statements
 pub mod Shown
+pub mod Sound
 pub mod Laws

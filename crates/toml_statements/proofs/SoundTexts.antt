@@ -1,0 +1,118 @@
+-- The lexemes of a text are sound, where its strings are closed.
+use Rattle.std.proofs.Common.{◌≡◌, ℕ, Bool, true, false, cond, ◌==◌, ◌&&◌, ◌||◌, List, [], ◌∷◌, ◌++◌, All, refl, sym, ap, ◌∙◌, subst, ◌⊎◌, inl, inr}
+use Rattle.std.proofs.lemmas.Bool.{eqb-true, true≢false, or_cases, and_parts}
+use Rattle.std.proofs.lemmas.List.Elements.{All-head, All-tail}
+use Rattle.toml_lexemes.specs.Bytes.{is_sign, is_blank, is_quote, ends_word, head}
+use Rattle.toml_lexemes.specs.Lexemes.{between, begins_line_feed, cut_first, cut}
+use Rattle.toml_lexemes.specs.Spaced.{MayFollow, IsWellSpaced, begins_line_end}
+use Rattle.toml_lexemes.proofs.Following.{remarks_are_ended}
+use Rattle.toml_lexemes.proofs.Gaps.{IsWellSpaced-lexemes, lexemes_alone}
+use Rattle.toml_lexemes.proofs.Kept.{same_lexemes}
+use Rattle.toml_statements.specs.Statements.{Role, a_comma, a_remark, a_line_end, an_opening, a_closing, any_other, role_of, role}
+use Rattle.toml_statements.specs.Shown.{IsWholeLexeme}
+use Rattle.toml_statements.specs.Sound.{IsClosedString, IsSound, MayComeAfter, AreSound}
+use Rattle.toml_statements.proofs.LineEnds.{cut_blank, cut_line_feed}
+use Rattle.toml_statements.proofs.TextsApart.{no_blank, sign_alone}
+use Rattle.toml_statements.proofs.WholeLexemes.{no_lexeme, by_sign, sign_is_whole, word_role, word_is_whole, quote_role, string_is_whole, remark_is_whole}
+
+-- ---- each lexeme
+
+line_feed_alone : (s : List ℕ) → cut between (10 ∷ s) ≡ (10 ∷ s) ∷ [] → 10 ∷ s ≡ 10 ∷ []
+unfolding cut
+line_feed_alone s lexeme = let one : (10 ∷ []) ∷ cut between s ≡ (10 ∷ s) ∷ [] = lexeme in cc
+
+-- a sign has a role that asks for a whole lexeme
+sign_sound : (x : ℕ) (s : List ℕ) → is_sign x ≡ true → IsWholeLexeme s → IsSound (role_of x) s
+sign_sound x s sign whole = by_sign (λ y. IsSound (role_of y) s) whole whole whole whole whole whole x sign
+
+module _ (x : ℕ) (s : List ℕ) (lexeme : cut between (x ∷ s) ≡ (x ∷ s) ∷ []) (closed : IsClosedString (x ∷ s)) where
+  at_byte : (c : ℕ) → ((t : List ℕ) → cut between (c ∷ t) ≡ (c ∷ t) ∷ [] → IsSound (role_of c) (c ∷ t)) → x ≡ c → IsSound (role_of x) (x ∷ s)
+  at_byte c h e = subst (λ y. cut between (y ∷ s) ≡ (y ∷ s) ∷ [] → IsSound (role_of y) (y ∷ s)) (sym e) (h s) lexeme
+
+  by_tests : (sign blank quote line_feed hash : Bool) → is_sign x ≡ sign → is_blank x ≡ blank → is_quote x ≡ quote
+      → (x == 10) ≡ line_feed → (x == 35) ≡ hash → IsSound (role_of x) (x ∷ s)
+  by_tests true true q l h es eb eq el eh = absurd (no_blank x s lexeme eb)
+  by_tests true false q l h es eb eq el eh =
+      sign_sound x (x ∷ s) es (subst (λ t. IsWholeLexeme (x ∷ t)) (sym (sign_alone x s es eb lexeme)) (sign_is_whole x es))
+  by_tests false true q l h es eb eq el eh = absurd (no_blank x s lexeme eb)
+  by_tests false false true l h es eb eq el eh =
+      subst (λ r. IsSound r (x ∷ s)) (sym (quote_role x eq)) (string_is_whole (x ∷ s) lexeme eq (closed eq))
+  by_tests false false false true h es eb eq el eh = at_byte 10 (λ t e. line_feed_alone t e) (eqb-true x 10 el)
+  by_tests false false false false true es eb eq el eh =
+      at_byte 35 (λ t e. remark_is_whole (35 ∷ t) e refl) (eqb-true x 35 eh)
+  by_tests false false false false false es eb eq el eh =
+      let plain : ends_word x ≡ false = λ j. es j || eb j || eq j || el j || eh j in
+      subst (λ r. IsSound r (x ∷ s)) (sym (word_role x plain)) (word_is_whole (x ∷ s) lexeme plain)
+
+-- a lexeme of a text, which is closed if it is a string
+pub lexeme_sound : (s : List ℕ) → cut between s ≡ s ∷ [] → IsClosedString s → IsSound (role s) s
+lexeme_sound [] lexeme closed = absurd (no_lexeme lexeme)
+lexeme_sound (x ∷ s) lexeme closed =
+    by_tests x s lexeme closed (is_sign x) (is_blank x) (is_quote x) (x == 10) (x == 35) refl refl refl refl refl
+
+-- ---- what comes after it
+
+cut-nil : cut between [] ≡ []
+unfolding cut
+cut-nil = refl
+
+-- what begins with a line end has that as its first lexeme
+line_end_first : (x : ℕ) (xs : List ℕ) → begins_line_end (x ∷ xs) ≡ true
+    → (rest : List (List ℕ)) × (cut between (x ∷ xs) ≡ (10 ∷ []) ∷ rest)
+line_end_first x xs e = go (or_cases (x == 10) ((x == 13) && begins_line_feed xs) e)
+  where
+    at_return : (ys : List ℕ) → x ≡ 13 → begins_line_feed ys ≡ true
+        → (rest : List (List ℕ)) × (cut between (x ∷ ys) ≡ (10 ∷ []) ∷ rest)
+    at_return [] is h = absurd (true≢false (sym h))
+    at_return (y ∷ ys) is h =
+        (cut between ys, cut_blank x (y ∷ ys) (ap is_blank is) ∙ cut_line_feed y ys (eqb-true y 10 h))
+
+    go : ((x == 10) ≡ true) ⊎ (((x == 13) && begins_line_feed xs) ≡ true)
+        → (rest : List (List ℕ)) × (cut between (x ∷ xs) ≡ (10 ∷ []) ∷ rest)
+    go (inl h) = (cut between xs, cut_line_feed x xs (eqb-true x 10 h))
+    go (inr h) = let parts = and_parts (x == 13) (begins_line_feed xs) h in at_return xs (eqb-true x 13 parts.0) parts.1
+
+after_remark : (s rest : List ℕ) (ss : List (List ℕ)) → cut between s ≡ s ∷ [] → head s ≡ 35 → MayFollow s rest → cut between rest ≡ ss
+    → MayComeAfter a_remark ss
+after_remark s [] ss lexeme e follows is = inl (sym is ∙ cut-nil)
+after_remark s (x ∷ xs) ss lexeme e follows is =
+    let first = line_end_first x xs ((remarks_are_ended s x xs lexeme e).0 follows).0 in inr (first.0, sym is ∙ first.1)
+
+abbrev HashIfRemark : ℕ → Role → Type 0
+HashIfRemark x a_remark = x ≡ 35
+HashIfRemark x r = Unit {0}
+
+pub remark_begins : (x : ℕ) → role_of x ≡ a_remark → x ≡ 35
+remark_begins x e = subst (HashIfRemark x) e (says (x == 44) (x == 35) (x == 10) ((x == 91) || (x == 123)) ((x == 93) || (x == 125)) refl)
+  where
+    says : (p q r t u : Bool) → (x == 35) ≡ q
+        → HashIfRemark x (cond p a_comma (cond q a_remark (cond r a_line_end (cond t an_opening (cond u a_closing any_other)))))
+    says true q r t u e = tt
+    says false true r t u e = eqb-true x 35 e
+    says false false true t u e = tt
+    says false false false true u e = tt
+    says false false false false true e = tt
+    says false false false false false e = tt
+
+comes_after : (r : Role) (s rest : List ℕ) (ss : List (List ℕ)) → role s ≡ r → cut between s ≡ s ∷ [] → MayFollow s rest
+    → cut between rest ≡ ss → MayComeAfter r ss
+comes_after a_remark s rest ss e lexeme follows is = after_remark s rest ss lexeme (remark_begins (head s) e) follows is
+comes_after r s rest ss e lexeme follows is = tt
+
+-- ---- all of them
+
+are_sound : (ss : List (List ℕ)) (bytes : List ℕ) → All (λ s. cut between s ≡ s ∷ []) ss → All IsClosedString ss → IsWellSpaced bytes ss
+    → AreSound ss
+are_sound [] bytes alone closed spaced = tt
+are_sound (s ∷ ss) bytes alone closed (g, rest, gap, is, follows, spaced) =
+    let lexeme = All-head (λ s. cut between s ≡ s ∷ []) s ss alone in
+    let others = All-tail (λ s. cut between s ≡ s ∷ []) s ss alone in
+    (
+      lexeme_sound s lexeme (All-head IsClosedString s ss closed),
+      comes_after (role s) s rest ss refl lexeme follows (same_lexemes rest ss others spaced),
+      are_sound ss rest others (All-tail IsClosedString s ss closed) spaced,
+    )
+
+-- the lexemes of a text whose strings are closed are sound
+pub lexemes_sound : (text : List ℕ) → All IsClosedString (cut between text) → AreSound (cut between text)
+lexemes_sound text closed = are_sound (cut between text) text (lexemes_alone text) closed (IsWellSpaced-lexemes text)

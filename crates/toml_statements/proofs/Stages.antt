@@ -1,0 +1,109 @@
+-- Reading items from stage to stage.
+use Rattle.std.proofs.Common.{◌≡◌, ℕ, Bool, true, false, cond, ◌==◌, List, [], ◌∷◌, ◌++◌, map, refl, sym, ap, ◌∙◌, subst, append_assoc, append-nil}
+use Rattle.std.specs.Prelude.{⊤}
+use Rattle.std.proofs.lemmas.Bool.{cond_both}
+use Rattle.prettyless_model.specs.Shows.{Reach, Least, Nothing, Spacing, LineEnd, more, further, AnyLine, SameLine, NoGap, Item, Shown, Gap, Mark, Late, Place, Before, After, with_gap}
+use Rattle.toml_lexemes.specs.Bytes.{is_sign, is_quote, ends_word, head}
+use Rattle.toml_statements.specs.Statements.{Role, a_remark, role, trimmed, Collected, line_ended, with_role, with_lexeme, with_lexemes}
+use Rattle.toml_statements.specs.Shown.{least_after, least_between, Stage, first_stage, least_at, IsApart, LinesAgree, AgreesWithMark, MayStand, IsReady, collected_at, after_shown, AreRead}
+
+-- ---- items after items
+
+pub reads_append : (xs ys : List Item) (a b c : Stage) → AreRead a xs b → AreRead b ys c → AreRead a (xs ++ ys) c
+reads_append [] ys a b c h k = subst (λ s. AreRead s ys c) (sym h) k
+reads_append (Shown s ∷ xs) ys a b c h k = (h.0, h.1, reads_append xs ys (after_shown a s) b c h.2 k)
+reads_append (Gap r l ∷ xs) ys a b c h k = reads_append xs ys (record a { place = with_gap r l a.place }) b c h k
+reads_append (Mark s ∷ xs) ys a b c h k = (h.0, reads_append xs ys (record a { marked = true }) b c h.1 k)
+reads_append (Late i ∷ xs) ys a b c h k = absurd h
+
+-- ---- what may stand next
+
+-- a line end is as much as any gap has to have
+pub more_line_end : (n : Least) → more n LineEnd ≡ LineEnd
+more_line_end Nothing = refl
+more_line_end Spacing = refl
+more_line_end LineEnd = refl
+
+pub further_any_line : (r : Reach) → further r AnyLine ≡ AnyLine
+further_any_line NoGap = refl
+further_any_line SameLine = refl
+further_any_line AnyLine = refl
+
+-- after a sign nothing has to stand
+pub sign_least : (x : ℕ) (xs s : List ℕ) → is_sign x ≡ true → least_between (x ∷ xs) s ≡ Nothing
+sign_least x xs s e =
+    ap (λ b. cond b Nothing (cond (x == 35) LineEnd
+    (cond (is_quote x) (cond (is_quote (head s)) Spacing Nothing) (cond (ends_word (head s)) Nothing Spacing)))) e
+
+-- after what is no remark some byte is enough
+pub spaced_least : (x : ℕ) (xs s : List ℕ) → (x == 35) ≡ false → more (least_between (x ∷ xs) s) Spacing ≡ Spacing
+spaced_least x xs s e =
+    cond_both (is_sign x) _ _ (λ l. more l Spacing ≡ Spacing) (λ h. refl)
+    (λ h. subst (λ b. more (cond b LineEnd (cond (is_quote x) (cond (is_quote (head s)) Spacing Nothing) (cond (ends_word (head s)) Nothing
+    Spacing))) Spacing ≡ Spacing) (sym e)
+    (cond_both (is_quote x) _ _ (λ l. more l Spacing ≡ Spacing)
+    (λ k. cond_both (is_quote (head s)) _ _ (λ l. more l Spacing ≡ Spacing) (λ m. refl) (λ m. refl))
+    (λ k. cond_both (ends_word (head s)) _ _ (λ l. more l Spacing ≡ Spacing) (λ m. refl) (λ m. refl))))
+
+module _ (last s : List ℕ) where
+  after_sign : (l : Least) → is_sign (head last) ≡ true → more (least_between last s) l ≡ l
+  after_sign l e = by last e
+    where
+      by : (t : List ℕ) → is_sign (head t) ≡ true → more (least_between t s) l ≡ l
+      by [] e = absurd (cc)
+      by (x ∷ xs) e = ap (λ n. more n l) (sign_least x xs s e)
+
+  after_space : (head last == 35) ≡ false → more (least_between last s) Spacing ≡ Spacing
+  after_space e = by last e
+    where
+      by : (t : List ℕ) → (head t == 35) ≡ false → more (least_between t s) Spacing ≡ Spacing
+      by [] e = refl
+      by (x ∷ xs) e = spaced_least x xs s e
+
+-- what a text needs of the gap before it, whatever it is: nothing after a sign
+pub apart_after_sign : (a : Stage) → is_sign (head a.last) ≡ true → (s : List ℕ) → IsApart a s
+apart_after_sign a e s = after_sign a.last s (least_at a.place) e
+
+-- some byte after what is no remark
+pub apart_after_space : (a : Stage) → (head a.last == 35) ≡ false → least_at a.place ≡ Spacing → (s : List ℕ) → IsApart a s
+apart_after_space a e has s = subst (λ l. more (least_between a.last s) l ≡ l) (sym has) (after_space a.last s e)
+
+-- a line end after any text
+pub apart_after_line_end : (a : Stage) → least_at a.place ≡ LineEnd → (s : List ℕ) → IsApart a s
+apart_after_line_end a has s = subst (λ l. more (least_between a.last s) l ≡ l) (sym has) (more_line_end (least_between a.last s))
+
+-- nothing where there is no text before it
+pub apart_at_first : (a : Stage) → a.last ≡ [] → (s : List ℕ) → IsApart a s
+apart_at_first a e s = ap (λ t. more (least_between t s) (least_at a.place)) e
+
+agrees : (m : Bool) (s : List ℕ) → m ≡ false → AgreesWithMark m s
+agrees true s e = absurd (cc)
+agrees false s e = tt
+
+-- any text may stand next, where any has the gap that it needs, a line end changes nothing, and no mark was last
+pub ready : (a : Stage) → LinesAgree a.place a.collected → a.marked ≡ false → ((s : List ℕ) → IsApart a s) → IsReady a
+ready a lines unmarked apart s = record { apart = apart s; lines = lines; mark = agrees a.marked s unmarked }
+
+-- the first stage is ready
+pub first_ready : IsReady first_stage
+first_ready s = record { apart = refl; lines = tt; mark = tt }
+
+-- where it is known that a line end is in the gap, nothing is left to say of it
+pub line_end_agrees : (r : Reach) (c : Collected) → LinesAgree (After r LineEnd) c
+line_end_agrees r c = tt
+
+-- ---- remarks
+
+-- the lexemes are remarks
+abbrev pub AreRemarks : List (List ℕ) → Type 0
+AreRemarks [] = ⊤
+AreRemarks (s ∷ ss) = (role s ≡ a_remark) × AreRemarks ss
+
+-- remarks are collected, without the blanks at their ends
+pub remarks_read : (c : Collected) (ss : List (List ℕ)) → AreRemarks ss
+    → with_lexemes c ss ≡ record c { remarks = c.remarks ++ map trimmed ss }
+remarks_read c [] h = ap (λ (rs : List (List ℕ)). record c { remarks = rs }) (sym (append-nil c.remarks))
+remarks_read c (s ∷ ss) h =
+    ap (λ d. with_lexemes d ss) (ap (λ r. with_role r c s) h.0)
+    ∙ remarks_read (record c { remarks = c.remarks ++ trimmed s ∷ [] }) ss h.1
+    ∙ ap (λ (rs : List (List ℕ)). record c { remarks = rs }) (append_assoc c.remarks (trimmed s ∷ []) (map trimmed ss))
