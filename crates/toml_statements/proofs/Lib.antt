@@ -7,3 +7,5 @@ pub mod TextsApart
 pub mod ReadItems
 pub mod SoundTexts
 pub mod Stages
+pub mod Divided
+pub mod Said

@@ -117,7 +117,7 @@ trimmed_alone [] e = e
 trimmed_alone (x ∷ s) e = before_alone x (no_line_feed x s e) (trimmed s) (trimmed_alone s (tail_alone x s e))
 
 -- `#` is no blank
-trimmed_begins : (s : List ℕ) → trimmed (35 ∷ s) ≡ 35 ∷ trimmed s
+pub trimmed_begins : (s : List ℕ) → trimmed (35 ∷ s) ≡ 35 ∷ trimmed s
 trimmed_begins s = go (trimmed s)
   where
     go : (t : List ℕ) → before_trimmed 35 t ≡ 35 ∷ t

@@ -1,9 +1,15 @@
 -- What holds of the statements of a text.
-use Rattle.std.specs.Prelude.{◌≡◌, ℕ, false, List, []}
+use Rattle.std.specs.Prelude.{◌≡◌, ℕ, Bool, true, false, not, List, [], ◌∷◌, ◌++◌, All, filter}
+use Rattle.std.specs.List.{flat_map}
 use Rattle.prettyless_model.specs.Shows.{Item, AreShown}
+use Rattle.toml_lexemes.specs.Bytes as byte
 use Rattle.toml_lexemes.specs.Lexemes.{lexemes}
-use Rattle.toml_statements.specs.Statements.{statements, statements_of}
+use Rattle.toml_lexemes.specs.Spaced.{IsWellSpaced}
+use Rattle.toml_statements.specs.Statements.{Role, a_comma, a_remark, a_line_end, role, trimmed, none_collected, with_lexemes, statements_of, statements}
 use Rattle.toml_statements.specs.Shown.{Stage, first_stage, AreRead}
+use Rattle.toml_statements.specs.Sound.{IsClosedString, AreSound}
+
+-- ---- what is shown
 
 -- bytes that show items have the statements that these are read as, where no mark is the last of them
 abbrev pub ShownAsRead : Type 0
@@ -11,6 +17,51 @@ ShownAsRead =
     (bytes : List ℕ) (items : List Item) (b : Stage) → AreRead first_stage items b → b.marked ≡ false → AreShown bytes items
     → statements bytes ≡ statements_of b.collected
 
--- texts of the same lexemes have the same statements
-abbrev pub LexemesDecide : Type 0
-LexemesDecide = (t u : List ℕ) → lexemes t ≡ lexemes u → statements t ≡ statements u
+-- the lexemes of a text may be shown, where its strings are closed
+abbrev pub ClosedTextsAreSound : Type 0
+ClosedTextsAreSound = (text : List ℕ) → All IsClosedString (lexemes text) → AreSound (lexemes text)
+
+-- ---- what the statements have of a text
+
+-- the same lexemes with any gaps around them, and after each what may follow it, are the same statements
+abbrev pub GapsKeepStatements : Type 0
+GapsKeepStatements = (text other : List ℕ) → IsWellSpaced other (lexemes text) → statements other ≡ statements text
+
+-- line ends alone are no statement
+abbrev pub LineEndsSayNothing : Type 0
+LineEndsSayNothing = (text : List ℕ) → All (λ s. s ≡ byte.line_feed ∷ []) (lexemes text) → statements text ≡ []
+
+-- as many brackets are closed in a text as are opened
+abbrev pub IsBalanced : List ℕ → Type 0
+IsBalanced text = (with_lexemes none_collected (lexemes text)).depth ≡ 0
+
+-- a line end outside of brackets divides the statements
+abbrev pub LineEndsDivide : Type 0
+LineEndsDivide =
+    (text before after : List ℕ) → IsBalanced before → lexemes text ≡ lexemes before ++ (byte.line_feed ∷ []) ∷ lexemes after
+    → statements text ≡ statements before ++ statements after
+
+abbrev pub is_comma_role : Role → Bool
+is_comma_role a_comma = true
+is_comma_role r = false
+
+-- a lexeme that is a comma
+abbrev pub is_comma : List ℕ → Bool
+is_comma s = is_comma_role (role s)
+
+-- lexemes in front of others, if they are said by a statement: of a remark it is what is left without the blanks at its end
+abbrev pub said_first : Role → List ℕ → List (List ℕ) → List (List ℕ)
+said_first a_comma s ss = ss
+said_first a_line_end s ss = ss
+said_first a_remark s ss = trimmed s ∷ ss
+said_first r s ss = s ∷ ss
+
+-- the lexemes but the commas and the line ends
+abbrev pub said : List (List ℕ) → List (List ℕ)
+said [] = []
+said (s ∷ ss) = said_first (role s) s (said ss)
+
+-- nothing but line ends and commas is left out or moved: the other lexemes are in the statements, in their order
+abbrev pub LexemesAreSaid : Type 0
+LexemesAreSaid =
+    (text : List ℕ) → filter (λ s. not (is_comma s)) (flat_map (λ line. line) (statements text)) ≡ said (lexemes text)

@@ -1,7 +1,15 @@
-use Rattle.std.proofs.Common.{ap}
-use Rattle.toml_statements.specs.Statements.{none_collected, with_lexemes, statements_of, statements}
+use Rattle.toml_statements.proofs.Divided.{gaps_keep_statements, line_ends_divide, line_ends_say_nothing}
+use Rattle.toml_statements.proofs.Said.{lexemes_are_said}
 use Rattle.toml_statements.proofs.laws.law_statements.Goals as goal
 
-pub returns : goal.returns
-unfolding statements
-returns c = λ t u e. ap (λ ss. statements_of (with_lexemes none_collected ss)) e
+pub returns-clause-said : goal.returns-clause-said
+returns-clause-said c = lexemes_are_said
+
+pub returns-clause-gaps : goal.returns-clause-gaps
+returns-clause-gaps c = gaps_keep_statements
+
+pub returns-clause-divide : goal.returns-clause-divide
+returns-clause-divide c = line_ends_divide
+
+pub returns-clause-nothing : goal.returns-clause-nothing
+returns-clause-nothing c = line_ends_say_nothing
