@@ -1,11 +1,11 @@
 -- Statements do not depend on gaps, and a line end outside of brackets divides them.
-use Rattle.std.proofs.Common.{◌≡◌, ℕ, zero, suc, Bool, true, false, List, [], ◌∷◌, ◌++◌, All, refl, sym, ap, ◌∙◌, subst, append_assoc, append-nil}
+use Rattle.std.proofs.Common.{◌≡◌, ℕ, zero, suc, Bool, true, false, List, [], ◌∷◌, ◌++◌, All, refl, sym, ap, ◌∙◌, append_assoc, append-nil}
 use Rattle.std.proofs.lemmas.List.Elements.{All-head, All-tail}
 use Rattle.toml_lexemes.specs.Lexemes.{between, cut}
 use Rattle.toml_lexemes.specs.Spaced.{IsWellSpaced}
 use Rattle.toml_lexemes.proofs.Gaps.{lexemes_alone}
 use Rattle.toml_lexemes.proofs.Kept.{same_lexemes}
-use Rattle.toml_statements.specs.Statements.{Role, a_comma, a_remark, a_line_end, an_opening, a_closing, any_other, role, with_comma, Collected, none_collected, whole_line, with_statement, statements_of, line_ended_at, line_ended, with_held_comma, with_role, with_lexeme, with_lexemes, statements}
+use Rattle.toml_statements.specs.Statements.{Role, a_comma, a_remark, a_line_end, an_opening, a_closing, any_other, role, Collected, none_collected, whole_line, with_statement, statements_of, line_ended_at, line_ended, with_held_comma, with_role, with_lexeme, with_lexemes, statements}
 use Rattle.toml_statements.specs.Laws.{IsBalanced}
 use Rattle.toml_statements.proofs.LineEnds.{with_both}
 

@@ -1,8 +1,8 @@
 -- Gaps in front of a lexeme: their line ends are lexemes, and no other of their bytes is in one.
-use Rattle.std.proofs.Common.{◌≡◌, ℕ, zero, suc, Bool, true, false, cond, ◌==◌, ◌||◌, List, [], ◌∷◌, ◌++◌, refl, sym, ap, ◌∙◌, subst, ◌⊎◌, inl, inr}
-use Rattle.std.proofs.lemmas.Bool.{cond_both, eqb-true, true≢false, or_cases}
+use Rattle.std.proofs.Common.{◌≡◌, ℕ, zero, suc, Bool, true, false, cond, ◌==◌, ◌||◌, List, [], ◌∷◌, ◌++◌, refl, sym, ap, ◌∙◌, subst, inl, inr}
+use Rattle.std.proofs.lemmas.Bool.{cond_both, eqb-true, true≢false}
 use Rattle.prettyless_model.specs.Shows.{EndsLine, IsBlank}
-use Rattle.prettyless_model.specs.Spelling.{is_blank_byte, ink}
+use Rattle.prettyless_model.specs.Spelling.{is_blank_byte}
 use Rattle.toml_lexemes.specs.Bytes.{is_blank}
 use Rattle.toml_lexemes.specs.Lexemes.{between, passed, first, cut_first, cut}
 use Rattle.toml_statements.specs.Statements.{Collected, line_ended_at, line_ended, with_lexeme, with_lexemes, statements_of}

@@ -1,12 +1,11 @@
 -- Bytes that show items have the statements that the items are read as.
 use Rattle.std.proofs.Common.{◌≡◌, ℕ, zero, suc, Bool, true, false, List, [], ◌∷◌, ◌++◌, refl, sym, ap, ◌∙◌, subst, ◌⊎◌, inl, inr, append-nil}
-use Rattle.std.specs.Prelude.{⊤}
 use Rattle.std.proofs.lemmas.Bool.{true≢false}
-use Rattle.prettyless_model.specs.Shows.{Reach, NoGap, SameLine, AnyLine, Least, Nothing, Spacing, LineEnd, more, EndsLine, IsBlank, Has, Item, Shown, Gap, Mark, Late, Place, Before, After, with_gap, after_text, IsGapAt, IsEndAt, ShowsText, ShowsFrom, AreShown}
+use Rattle.prettyless_model.specs.Shows.{NoGap, SameLine, AnyLine, Least, Nothing, Spacing, LineEnd, more, EndsLine, IsBlank, Has, Item, Shown, Gap, Mark, Late, Place, Before, After, with_gap, after_text, IsGapAt, ShowsText, ShowsFrom, AreShown}
 use Rattle.prettyless_model.proofs.Gaps.{some_in, ends_or_not}
 use Rattle.prettyless_model.proofs.Implied.{end_blank}
 use Rattle.toml_lexemes.specs.Lexemes.{between, cut}
-use Rattle.toml_statements.specs.Statements.{Role, a_closing, role, Collected, none_collected, line_ended_at, line_ended, with_held_comma, with_role, with_lexeme, with_lexemes, statements_of, statements}
+use Rattle.toml_statements.specs.Statements.{a_closing, role, Collected, none_collected, line_ended_at, line_ended, with_held_comma, with_role, with_lexeme, with_lexemes, statements_of, statements}
 use Rattle.toml_statements.specs.Shown.{IsWholeLexeme, least_between, Stage, first_stage, least_at, LinesAgree, AgreesWithMark, MayStand, IsInside, MayMark, collected_at, after_shown, AreRead}
 use Rattle.toml_statements.proofs.LineEnds.{line_ends, cut_gap, none_ends, statements_ended, line_ends_keep, line_ends_end, with_both}
 use Rattle.toml_statements.proofs.WholeLexemes.{sign_is_whole}

@@ -4,7 +4,7 @@ use Rattle.std.specs.List.{flat_map}
 use Rattle.std.proofs.lemmas.Grind.{flat_map-append}
 use Rattle.std.proofs.lemmas.List.Elements.{filter-append}
 use Rattle.toml_lexemes.specs.Lexemes.{between, cut}
-use Rattle.toml_statements.specs.Statements.{Role, a_comma, a_remark, a_line_end, an_opening, a_closing, any_other, role_of, role, trimmed, with_comma, Collected, none_collected, whole_line, with_statement, statements_of, line_ended_at, line_ended, with_held_comma, with_role, with_lexeme, with_lexemes, statements}
+use Rattle.toml_statements.specs.Statements.{Role, a_comma, a_remark, a_line_end, an_opening, a_closing, any_other, role, trimmed, with_comma, Collected, none_collected, whole_line, with_statement, statements_of, line_ended_at, with_held_comma, with_role, with_lexeme, with_lexemes, statements}
 use Rattle.toml_statements.specs.Laws.{is_comma_role, is_comma, said_first, said}
 use Rattle.toml_statements.proofs.SoundTexts.{remark_begins}
 use Rattle.toml_statements.proofs.WholeLexemes.{trimmed_begins}

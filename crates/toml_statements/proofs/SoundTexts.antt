@@ -1,9 +1,9 @@
 -- The lexemes of a text are sound, where its strings are closed.
-use Rattle.std.proofs.Common.{◌≡◌, ℕ, Bool, true, false, cond, ◌==◌, ◌&&◌, ◌||◌, List, [], ◌∷◌, ◌++◌, All, refl, sym, ap, ◌∙◌, subst, ◌⊎◌, inl, inr}
+use Rattle.std.proofs.Common.{◌≡◌, ℕ, Bool, true, false, cond, ◌==◌, ◌&&◌, ◌||◌, List, [], ◌∷◌, All, refl, sym, ap, ◌∙◌, subst, ◌⊎◌, inl, inr}
 use Rattle.std.proofs.lemmas.Bool.{eqb-true, true≢false, or_cases, and_parts}
 use Rattle.std.proofs.lemmas.List.Elements.{All-head, All-tail}
 use Rattle.toml_lexemes.specs.Bytes.{is_sign, is_blank, is_quote, ends_word, head}
-use Rattle.toml_lexemes.specs.Lexemes.{between, begins_line_feed, cut_first, cut}
+use Rattle.toml_lexemes.specs.Lexemes.{between, begins_line_feed, cut}
 use Rattle.toml_lexemes.specs.Spaced.{MayFollow, IsWellSpaced, begins_line_end}
 use Rattle.toml_lexemes.proofs.Following.{remarks_are_ended}
 use Rattle.toml_lexemes.proofs.Gaps.{IsWellSpaced-lexemes, lexemes_alone}
@@ -106,8 +106,7 @@ are_sound : (ss : List (List ℕ)) (bytes : List ℕ) → All (λ s. cut between
 are_sound [] bytes alone closed spaced = tt
 are_sound (s ∷ ss) bytes alone closed (g, rest, gap, is, follows, spaced) =
     let lexeme = All-head (λ s. cut between s ≡ s ∷ []) s ss alone in
-    let others = All-tail (λ s. cut between s ≡ s ∷ []) s ss alone in
-    (
+    let others = All-tail (λ s. cut between s ≡ s ∷ []) s ss alone in (
       lexeme_sound s lexeme (All-head IsClosedString s ss closed),
       comes_after (role s) s rest ss refl lexeme follows (same_lexemes rest ss others spaced),
       are_sound ss rest others (All-tail IsClosedString s ss closed) spaced,

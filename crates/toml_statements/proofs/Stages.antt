@@ -2,10 +2,10 @@
 use Rattle.std.proofs.Common.{◌≡◌, ℕ, Bool, true, false, cond, ◌==◌, List, [], ◌∷◌, ◌++◌, map, refl, sym, ap, ◌∙◌, subst, append_assoc, append-nil}
 use Rattle.std.specs.Prelude.{⊤}
 use Rattle.std.proofs.lemmas.Bool.{cond_both}
-use Rattle.prettyless_model.specs.Shows.{Reach, Least, Nothing, Spacing, LineEnd, more, further, AnyLine, SameLine, NoGap, Item, Shown, Gap, Mark, Late, Place, Before, After, with_gap}
+use Rattle.prettyless_model.specs.Shows.{Reach, Least, Nothing, Spacing, LineEnd, more, further, AnyLine, SameLine, NoGap, Item, Shown, Gap, Mark, Late, After, with_gap}
 use Rattle.toml_lexemes.specs.Bytes.{is_sign, is_quote, ends_word, head}
-use Rattle.toml_statements.specs.Statements.{Role, a_remark, role, trimmed, Collected, line_ended, with_role, with_lexeme, with_lexemes}
-use Rattle.toml_statements.specs.Shown.{least_after, least_between, Stage, first_stage, least_at, IsApart, LinesAgree, AgreesWithMark, MayStand, IsReady, collected_at, after_shown, AreRead}
+use Rattle.toml_statements.specs.Statements.{a_remark, role, trimmed, Collected, with_role, with_lexemes}
+use Rattle.toml_statements.specs.Shown.{least_between, Stage, first_stage, least_at, IsApart, LinesAgree, AgreesWithMark, IsReady, after_shown, AreRead}
 
 -- ---- items after items
 

@@ -1,8 +1,8 @@
 -- What may follow a closed string.
-use Rattle.std.proofs.Common.{◌≡◌, ℕ, Bool, true, false, cond, ◌==◌, ◌&&◌, ◌||◌, List, [], ◌∷◌, refl, sym, ap, ◌∙◌, subst, ◌⊎◌, inl, inr}
+use Rattle.std.proofs.Common.{◌≡◌, ℕ, Bool, true, false, cond, ◌==◌, ◌||◌, List, [], ◌∷◌, refl, sym, ap, ◌∙◌, subst}
 use Rattle.std.specs.Prelude.{⊤}
 use Rattle.std.proofs.lemmas.Bool.{cond_both, or_parts, eqb-true, true≢false}
-use Rattle.toml_lexemes.specs.Bytes.{is_quote, head}
+use Rattle.toml_lexemes.specs.Bytes.{is_quote}
 use Rattle.toml_lexemes.specs.Lexemes.{Kind, basic, literal, mark, escapes, Inner, in_word, in_remark, opened, doubled, in_line, in_line_escape, in_lines, in_lines_escape, closing, closing_more, closed, closed_more, Mode, between, within, begins, first, Turn, goes_on, ends, stops, line_turn, lines_turn, turn, begins_line_feed, cut_first, cut}
 use Rattle.toml_lexemes.specs.Spaced.{mode_first, mode_turn, mode_after, EndsBefore, MayFollow}
 use Rattle.toml_lexemes.proofs.Kept.{cut_turned, shortened, some_cut}

@@ -1,6 +1,6 @@
 -- A text that is a lexeme, a gap and what is after it, cut into lexemes.
-use Rattle.std.proofs.Common.{◌≡◌, ℕ, ◌<◌, Bool, true, false, cond, ◌==◌, ◌||◌, List, [], ◌∷◌, ◌++◌, length, length-append, refl, sym, ap, ◌∙◌, subst, ◌⊎◌, inl, inr, arith}
-use Rattle.std.proofs.lemmas.Bool.{eqb-true, true≢false, or_parts, or_cases}
+use Rattle.std.proofs.Common.{◌≡◌, ℕ, Bool, true, false, cond, ◌==◌, ◌||◌, List, [], ◌∷◌, ◌++◌, length, length-append, refl, sym, ap, ◌∙◌, subst, ◌⊎◌, inl, inr, arith}
+use Rattle.std.proofs.lemmas.Bool.{eqb-true, or_parts, or_cases}
 use Rattle.std.proofs.lemmas.List.Elements.{All-cons}
 use Rattle.prettyless_model.specs.Shows.{Least, Nothing, Spacing, LineEnd, EndsLine, IsBlank, Has}
 use Rattle.prettyless_model.specs.Spelling.{is_blank_byte}
@@ -10,7 +10,7 @@ use Rattle.toml_lexemes.specs.Spaced.{IsGap, IsSpaced, MayFollow}
 use Rattle.toml_lexemes.proofs.Following.{end_may_follow, words_are_ended, signs_are_ended}
 use Rattle.toml_lexemes.proofs.Gaps.{IsSpaced-lexemes, IsWellSpaced-lexemes, lexemes_alone}
 use Rattle.toml_lexemes.proofs.Kept.{same_lexemes}
-use Rattle.toml_statements.specs.Statements.{any_other, role, trimmed, Collected, with_role, with_lexeme, with_lexemes}
+use Rattle.toml_statements.specs.Statements.{role, Collected, with_lexeme}
 use Rattle.toml_statements.specs.Shown.{EndsWell, IsWholeLexeme, least_after, least_between}
 use Rattle.toml_statements.proofs.LineEnds.{line_ends, gap_byte, cut_blank, cut_gap}
 use Rattle.toml_statements.proofs.Remarks.{remark_before_gap}
@@ -97,7 +97,7 @@ pub sign_alone : (x : ℕ) (s : List ℕ) → is_sign x ≡ true → is_blank x 
 unfolding cut
 sign_alone x s sign blank lexeme =
     let f : first x ≡ alone = λ j. cond (blank j) passed (cond (sign j || (x == 10)) alone
-        (cond (x == 35) (begins in_remark) (cond (x == 34) (begins (opened basic)) (cond (x == 39) (begins (opened literal)) (begins in_word))))) in
+    (cond (x == 35) (begins in_remark) (cond (x == 34) (begins (opened basic)) (cond (x == 39) (begins (opened literal)) (begins in_word))))) in
     let one : (x ∷ []) ∷ cut between s ≡ (x ∷ s) ∷ [] = sym (ap (λ k. cut_first k x (λ m. cut m s)) f) ∙ lexeme in
     cc
 

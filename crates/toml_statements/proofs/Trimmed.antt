@@ -1,5 +1,5 @@
 -- Bytes without the blanks at their end.
-use Rattle.std.proofs.Common.{◌≡◌, ℕ, Bool, true, false, cond, List, [], ◌∷◌, ◌++◌, refl, sym, ap, ◌∙◌, subst}
+use Rattle.std.proofs.Common.{◌≡◌, ℕ, Bool, true, false, cond, List, [], ◌∷◌, ◌++◌, refl, ap, ◌∙◌, subst}
 use Rattle.toml_lexemes.specs.Bytes.{is_blank}
 use Rattle.toml_lexemes.specs.Spaced.{IsGap, EndsWithReturn}
 use Rattle.toml_statements.specs.Statements.{before_trimmed, trimmed}

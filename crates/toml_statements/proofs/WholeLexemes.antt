@@ -6,7 +6,7 @@ use Rattle.toml_lexemes.specs.Lexemes.{in_remark, between, within, first, goes_o
 use Rattle.toml_lexemes.specs.Spaced.{MayFollow}
 use Rattle.toml_lexemes.proofs.Following.{words_are_ended, signs_are_ended}
 use Rattle.toml_lexemes.proofs.Kept.{cut_turned, shortened, some_cut}
-use Rattle.toml_statements.specs.Statements.{Role, a_comma, a_remark, a_line_end, an_opening, a_closing, any_other, role_of, role, before_trimmed, trimmed, Collected, with_role, with_lexeme}
+use Rattle.toml_statements.specs.Statements.{a_comma, a_remark, a_line_end, an_opening, a_closing, any_other, role_of, role, before_trimmed, trimmed, Collected, with_lexeme}
 use Rattle.toml_statements.specs.Shown.{EndsWell, IsWholeLexeme}
 use Rattle.toml_statements.proofs.Trimmed.{trimmed_twice}
 

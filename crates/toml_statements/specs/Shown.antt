@@ -5,7 +5,7 @@ use Rattle.toml_lexemes.specs.Bytes as byte
 use Rattle.toml_lexemes.specs.Bytes.{is_sign, is_quote, ends_word, head}
 use Rattle.toml_lexemes.specs.Lexemes.{lexemes}
 use Rattle.toml_lexemes.specs.Spaced.{MayFollow}
-use Rattle.toml_statements.specs.Statements.{Role, a_comma, a_remark, a_line_end, an_opening, a_closing, any_other, role, trimmed, Collected, none_collected, line_ended, with_lexeme}
+use Rattle.toml_statements.specs.Statements.{Role, a_remark, a_line_end, a_closing, role, trimmed, Collected, none_collected, line_ended, with_lexeme}
 
 -- ---- texts that are lexemes
 

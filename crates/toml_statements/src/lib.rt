@@ -3,5 +3,6 @@
 #![tactic(auto)]
 
 mod laws;
+pub mod rows;
 
 pub use laws::{law_shown, law_statements};

@@ -1,0 +1,67 @@
+use Rattle.std.proofs.Common.{◌≡◌, ℕ, false, [], ◌∷◌, refl, codes}
+use Rattle.toml_lexemes.specs.Bytes.{ends_word}
+use Rattle.toml_lexemes.specs.Lexemes.{lexemes, cut}
+use Rattle.toml_statements.specs.Shown.{IsWholeLexeme}
+use Rattle.toml_statements.proofs.WholeLexemes.{sign_is_whole, word_is_whole, remark_is_whole}
+use Rattle.toml_statements.proofs.rows.items.Goals as goal
+
+-- words of one byte
+word : (x : ℕ) → lexemes (x ∷ []) ≡ (x ∷ []) ∷ [] → ends_word x ≡ false → IsWholeLexeme (x ∷ [])
+word x e f = word_is_whole (x ∷ []) e f
+
+pub returns-clause-key_and_value : goal.returns-clause-key_and_value
+unfolding cut
+returns-clause-key_and_value c = (
+  _,
+  (
+    word 97 refl refl,
+    record { apart = refl; lines = tt; mark = tt },
+    (
+      sign_is_whole 61 refl,
+      record { apart = refl; lines = tt; mark = tt },
+      (
+        word 49 refl refl,
+        record { apart = refl; lines = tt; mark = tt },
+        (
+          remark_is_whole (codes "# one") refl refl,
+          record { apart = refl; lines = tt; mark = tt },
+          (word 98 refl refl, record { apart = refl; lines = tt; mark = tt }, refl),
+        ),
+      ),
+    ),
+  ),
+  refl,
+  refl,
+)
+
+pub returns-clause-array : goal.returns-clause-array
+unfolding cut
+returns-clause-array c = (
+  _,
+  (
+    sign_is_whole 91 refl,
+    record { apart = refl; lines = tt; mark = tt },
+    (
+      word 49 refl refl,
+      record { apart = refl; lines = refl; mark = tt },
+      (
+        sign_is_whole 44 refl,
+        record { apart = refl; lines = tt; mark = tt },
+        (
+          word 50 refl refl,
+          record { apart = refl; lines = refl; mark = tt },
+          (
+            record { comma = refl; apart = refl; inside = tt; no_comma = refl; no_mark = refl },
+            (sign_is_whole 93 refl, record { apart = refl; lines = refl; mark = refl }, refl),
+          ),
+        ),
+      ),
+    ),
+  ),
+  refl,
+  refl,
+)
+
+pub returns-clause-two_lexemes : goal.returns-clause-two_lexemes
+unfolding cut
+returns-clause-two_lexemes c = λ b h. let e : lexemes (codes "a b") ≡ codes "a b" ∷ [] = h.0.alone in cc
