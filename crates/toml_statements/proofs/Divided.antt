@@ -32,7 +32,8 @@ module _ (before : List (List (List ℕ))) where
   later : Collected → Collected
   later c = record c { done = before ++ c.done }
 
-  statement_later : (done : List (List (List ℕ))) (line : List (List ℕ)) → with_statement (before ++ done) line ≡ before ++ with_statement done line
+  statement_later : (done : List (List (List ℕ))) (line : List (List ℕ))
+      → with_statement (before ++ done) line ≡ before ++ with_statement done line
   statement_later done [] = refl
   statement_later done (s ∷ ss) = append_assoc before done ((s ∷ ss) ∷ [])
 
@@ -73,7 +74,8 @@ divided c e =
     ∙ ap (λ (done : List (List (List ℕ))). record { depth = 0; comma = false; remarks = []; line = []; done = done })
     (sym (append-nil (statements_of c)))
 
-pub line_ends_divide : (text before after : List ℕ) → IsBalanced before → cut between text ≡ cut between before ++ (10 ∷ []) ∷ cut between after
+pub line_ends_divide : (text before after : List ℕ) → IsBalanced before
+    → cut between text ≡ cut between before ++ (10 ∷ []) ∷ cut between after
     → statements text ≡ statements before ++ statements after
 unfolding statements
 line_ends_divide text before after balanced e =

@@ -37,6 +37,10 @@ first_blank x e = rw e
 
 -- ---- lexemes
 
+pub cut-nil : cut between [] ≡ []
+unfolding cut
+cut-nil = refl
+
 pub cut_line_feed : (x : ℕ) (w : List ℕ) → x ≡ 10 → cut between (x ∷ w) ≡ (10 ∷ []) ∷ cut between w
 unfolding cut
 cut_line_feed x w e = ap (λ y. cut between (y ∷ w)) e

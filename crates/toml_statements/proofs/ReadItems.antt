@@ -7,7 +7,7 @@ use Rattle.prettyless_model.proofs.Implied.{end_blank}
 use Rattle.toml_lexemes.specs.Lexemes.{between, cut}
 use Rattle.toml_statements.specs.Statements.{a_closing, role, Collected, none_collected, line_ended_at, line_ended, with_held_comma, with_role, with_lexeme, with_lexemes, statements_of, statements}
 use Rattle.toml_statements.specs.Shown.{IsWholeLexeme, least_between, Stage, first_stage, least_at, LinesAgree, AgreesWithMark, MayStand, IsInside, MayMark, collected_at, after_shown, AreRead}
-use Rattle.toml_statements.proofs.LineEnds.{line_ends, cut_gap, none_ends, statements_ended, line_ends_keep, line_ends_end, with_both}
+use Rattle.toml_statements.proofs.LineEnds.{cut-nil, line_ends, cut_gap, none_ends, statements_ended, line_ends_keep, line_ends_end, with_both}
 use Rattle.toml_statements.proofs.WholeLexemes.{sign_is_whole}
 use Rattle.toml_statements.proofs.TextsApart.{LeavesRoom, IsCutApart, cut_apart, some_bytes}
 
@@ -85,10 +85,6 @@ last_read c d (x ∷ s) g w (whole, is) blank room = by (cut_apart (x ∷ s) g w
     by (t, same, e) =
         ap (λ l. with_lexemes c l) e ∙ ap (λ b. with_lexemes b (line_ends g ++ cut between w)) (same c ∙ is)
         ∙ with_both d (line_ends g) (cut between w)
-
-cut-nil : cut between [] ≡ []
-unfolding cut
-cut-nil = refl
 
 cut_comma : (w : List ℕ) → cut between (44 ∷ w) ≡ (44 ∷ []) ∷ cut between w
 unfolding cut

@@ -72,9 +72,23 @@ plain true q b c n e = cc
 plain false true b c n e = absurd (true≢false n)
 plain false false b c n e = refl
 
-goes_or_stops : (p : Bool) → (cond p stops (goes_on in_remark) ≡ stops) ⊎ (cond p stops (goes_on in_remark) ≡ goes_on in_remark)
-goes_or_stops true = inl refl
-goes_or_stops false = inr refl
+-- a remark alone: each of its bytes goes on with it
+module _ (x : ℕ) (s : List ℕ) (alone : cut (within in_remark) (x ∷ s) ≡ (x ∷ s) ∷ []) where
+  pub byte_goes_on : turn in_remark x (begins_line_feed s) ≡ goes_on in_remark
+  byte_goes_on = by ((x == 10) || ((x == 13) && begins_line_feed s)) refl
+    where
+      by : (p : Bool) → (x == 10) || ((x == 13) && begins_line_feed s) ≡ p → cond p stops (goes_on in_remark) ≡ goes_on in_remark
+      by false e = refl
+      by true e =
+          let stop : turn in_remark x (begins_line_feed s) ≡ stops = ap (λ p. cond p stops (goes_on in_remark)) e in
+          let clash : [] ∷ cut_first (first x) x (λ m. cut m s) ≡ (x ∷ s) ∷ [] = sym (cut_turned in_remark x s stops stop) ∙ alone in
+          absurd cc
+
+  -- and so does the rest alone
+  pub tail_alone : cut (within in_remark) s ≡ s ∷ []
+  tail_alone =
+      shortened x s (cut (within in_remark) s) (some_cut in_remark s)
+      (sym (cut_turned in_remark x s (goes_on in_remark) byte_goes_on) ∙ alone)
 
 -- the turn of the byte x is the same with more bytes at the end
 same_turn : (x : ℕ) (s r : List ℕ) → (EndsWithReturn (x ∷ s) → ⊥) → turn in_remark x (begins_line_feed s) ≡ goes_on in_remark
@@ -92,23 +106,16 @@ remark_more : (s : List ℕ) → cut (within in_remark) s ≡ s ∷ [] → (Ends
     → cut (within in_remark) r ≡ t ∷ ts → cut (within in_remark) (s ++ r) ≡ (s ++ t) ∷ ts
 remark_more [] alone n r t ts e = e
 remark_more (x ∷ s) alone n r t ts e =
-    by_turn (goes_or_stops ((x == 10) || ((x == 13) && begins_line_feed s)))
-    (λ h. remark_more s h (tail_differs x s n) r t ts e)
-  where
-    by_turn : (turn in_remark x (begins_line_feed s) ≡ stops) ⊎ (turn in_remark x (begins_line_feed s) ≡ goes_on in_remark)
-        → (cut (within in_remark) s ≡ s ∷ [] → cut (within in_remark) (s ++ r) ≡ (s ++ t) ∷ ts)
-        → cut (within in_remark) (x ∷ (s ++ r)) ≡ (x ∷ (s ++ t)) ∷ ts
-    by_turn (inl h) more =
-        let clash : [] ∷ cut_first (first x) x (λ m. cut m s) ≡ (x ∷ s) ∷ [] = sym (cut_turned in_remark x s stops h) ∙ alone in
-        absurd cc
-    by_turn (inr h) more =
-        cut_turned in_remark x (s ++ r) (goes_on in_remark) (same_turn x s r n h)
-        ∙ ap (lengthened x)
-        (more (shortened x s (cut (within in_remark) s) (some_cut in_remark s) (sym (cut_turned in_remark x s (goes_on in_remark) h) ∙ alone)))
+    cut_turned in_remark x (s ++ r) (goes_on in_remark) (same_turn x s r n (byte_goes_on x s alone))
+    ∙ ap (lengthened x) (remark_more s (tail_alone x s alone) (tail_differs x s n) r t ts e)
 
-remark_begun : (s : List ℕ) → cut between (35 ∷ s) ≡ lengthened 35 (cut (within in_remark) s)
+pub remark_begun : (s : List ℕ) → cut between (35 ∷ s) ≡ lengthened 35 (cut (within in_remark) s)
 unfolding cut
 remark_begun s = refl
+
+-- what follows `#` in a remark alone
+pub after_hash : (s : List ℕ) → cut between (35 ∷ s) ≡ (35 ∷ s) ∷ [] → cut (within in_remark) s ≡ s ∷ []
+after_hash s lexeme = shortened 35 s (cut (within in_remark) s) (some_cut in_remark s) (sym (remark_begun s) ∙ lexeme)
 
 -- a remark before a gap that has a line end, or after which the text ends, goes on with blanks alone
 pub remark_before_gap : (s g w : List ℕ) → cut between (35 ∷ s) ≡ (35 ∷ s) ∷ [] → trimmed (35 ∷ s) ≡ 35 ∷ s → IsBlank g
@@ -123,6 +130,6 @@ remark_before_gap s g w alone whole blank ends = by_rest (remark_goes_on g w bla
       gap,
       remark_begun (s ++ (g ++ w))
           ∙ ap (lengthened 35)
-          (remark_more s (shortened 35 s (cut (within in_remark) s) (some_cut in_remark s) (sym (remark_begun s) ∙ alone))
+          (remark_more s (after_hash s alone)
           (tail_differs 35 s (no_return (35 ∷ s) whole)) (g ++ w) t (line_ends g ++ cut between w) e),
     )

@@ -31,7 +31,8 @@ with_comma_said line true = no_commas_both line ((44 ∷ []) ∷ []) ∙ append-
 
 whole_said : (c : Collected) → no_commas (whole_line c) ≡ no_commas c.line ++ no_commas c.remarks
 whole_said c =
-    no_commas_both (with_comma c.line c.comma) c.remarks ∙ ap (λ (l : List (List ℕ)). l ++ no_commas c.remarks) (with_comma_said c.line c.comma)
+    no_commas_both (with_comma c.line c.comma) c.remarks
+    ∙ ap (λ (l : List (List ℕ)). l ++ no_commas c.remarks) (with_comma_said c.line c.comma)
 
 statement_said : (done : List (List (List ℕ))) (line : List (List ℕ))
     → no_commas (all_of (with_statement done line)) ≡ no_commas (all_of done) ++ no_commas line
@@ -71,10 +72,11 @@ trimmed_is_no_comma [] e = refl
 trimmed_is_no_comma (x ∷ s) e =
     subst (λ y. is_comma (trimmed (y ∷ s)) ≡ false) (sym (remark_begins x e)) (ap is_comma (trimmed_begins s))
 
-line_said : (c : Collected) (line : List (List ℕ)) (s : List ℕ) → no_commas line ≡ no_commas c.line ++ no_commas c.remarks → is_comma s ≡ false
-    → no_commas (all_of c.done) ++ (no_commas (line ++ s ∷ []) ++ []) ≡ said_by c ++ s ∷ []
+line_said : (c : Collected) (line : List (List ℕ)) (s : List ℕ) → no_commas line ≡ no_commas c.line ++ no_commas c.remarks
+    → is_comma s ≡ false → no_commas (all_of c.done) ++ (no_commas (line ++ s ∷ []) ++ []) ≡ said_by c ++ s ∷ []
 line_said c line s e n =
-    ap (λ (l : List (List ℕ)). no_commas (all_of c.done) ++ (l ++ [])) (no_commas_both line (s ∷ []) ∙ ap₂ (λ (x y : List (List ℕ)). x ++ y) e (one_said s n))
+    ap (λ (l : List (List ℕ)). no_commas (all_of c.done) ++ (l ++ []))
+    (no_commas_both line (s ∷ []) ∙ ap₂ (λ (x y : List (List ℕ)). x ++ y) e (one_said s n))
     ∙ in_line (no_commas (all_of c.done)) (no_commas c.line) (no_commas c.remarks) (s ∷ [])
 
 role_said : (r : Role) (c : Collected) (s : List ℕ) → role s ≡ r → said_by (with_role r c s) ≡ said_by c ++ said_first r s []

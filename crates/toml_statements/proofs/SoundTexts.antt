@@ -11,7 +11,7 @@ use Rattle.toml_lexemes.proofs.Kept.{same_lexemes}
 use Rattle.toml_statements.specs.Statements.{Role, a_comma, a_remark, a_line_end, an_opening, a_closing, any_other, role_of, role}
 use Rattle.toml_statements.specs.Shown.{IsWholeLexeme}
 use Rattle.toml_statements.specs.Sound.{IsClosedString, IsSound, MayComeAfter, AreSound}
-use Rattle.toml_statements.proofs.LineEnds.{cut_blank, cut_line_feed}
+use Rattle.toml_statements.proofs.LineEnds.{cut-nil, cut_blank, cut_line_feed}
 use Rattle.toml_statements.proofs.TextsApart.{no_blank, sign_alone}
 use Rattle.toml_statements.proofs.WholeLexemes.{no_lexeme, by_sign, sign_is_whole, word_role, word_is_whole, quote_role, string_is_whole, remark_is_whole}
 
@@ -26,7 +26,8 @@ sign_sound : (x : ℕ) (s : List ℕ) → is_sign x ≡ true → IsWholeLexeme s
 sign_sound x s sign whole = by_sign (λ y. IsSound (role_of y) s) whole whole whole whole whole whole x sign
 
 module _ (x : ℕ) (s : List ℕ) (lexeme : cut between (x ∷ s) ≡ (x ∷ s) ∷ []) (closed : IsClosedString (x ∷ s)) where
-  at_byte : (c : ℕ) → ((t : List ℕ) → cut between (c ∷ t) ≡ (c ∷ t) ∷ [] → IsSound (role_of c) (c ∷ t)) → x ≡ c → IsSound (role_of x) (x ∷ s)
+  at_byte : (c : ℕ) → ((t : List ℕ) → cut between (c ∷ t) ≡ (c ∷ t) ∷ [] → IsSound (role_of c) (c ∷ t)) → x ≡ c
+      → IsSound (role_of x) (x ∷ s)
   at_byte c h e = subst (λ y. cut between (y ∷ s) ≡ (y ∷ s) ∷ [] → IsSound (role_of y) (y ∷ s)) (sym e) (h s) lexeme
 
   by_tests : (sign blank quote line_feed hash : Bool) → is_sign x ≡ sign → is_blank x ≡ blank → is_quote x ≡ quote
@@ -51,10 +52,6 @@ lexeme_sound (x ∷ s) lexeme closed =
     by_tests x s lexeme closed (is_sign x) (is_blank x) (is_quote x) (x == 10) (x == 35) refl refl refl refl refl
 
 -- ---- what comes after it
-
-cut-nil : cut between [] ≡ []
-unfolding cut
-cut-nil = refl
 
 -- what begins with a line end has that as its first lexeme
 line_end_first : (x : ℕ) (xs : List ℕ) → begins_line_end (x ∷ xs) ≡ true

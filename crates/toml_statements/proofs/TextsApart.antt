@@ -97,7 +97,8 @@ pub sign_alone : (x : ℕ) (s : List ℕ) → is_sign x ≡ true → is_blank x 
 unfolding cut
 sign_alone x s sign blank lexeme =
     let f : first x ≡ alone = λ j. cond (blank j) passed (cond (sign j || (x == 10)) alone
-    (cond (x == 35) (begins in_remark) (cond (x == 34) (begins (opened basic)) (cond (x == 39) (begins (opened literal)) (begins in_word))))) in
+    (cond (x == 35) (begins in_remark) (cond (x == 34) (begins (opened basic))
+    (cond (x == 39) (begins (opened literal)) (begins in_word))))) in
     let one : (x ∷ []) ∷ cut between s ≡ (x ∷ s) ∷ [] = sym (ap (λ k. cut_first k x (λ m. cut m s)) f) ∙ lexeme in
     cc
 
@@ -107,7 +108,8 @@ sign_alone x s sign blank lexeme =
 -- lexemes of what is after it.
 abbrev pub IsCutApart : List ℕ → List ℕ → List ℕ → Type 0
 IsCutApart s g w =
-    (t : List ℕ) × ((c : Collected) → with_lexeme c t ≡ with_lexeme c s) × (cut between (s ++ (g ++ w)) ≡ t ∷ (line_ends g ++ cut between w))
+    (t : List ℕ) × ((c : Collected) → with_lexeme c t ≡ with_lexeme c s)
+    × (cut between (s ++ (g ++ w)) ≡ t ∷ (line_ends g ++ cut between w))
 
 -- nothing is after the gap, or the gap has what it has to have in front of it
 abbrev pub LeavesRoom : List ℕ → List ℕ → List ℕ → Type 0
@@ -144,7 +146,8 @@ module _ (s g w : List ℕ) where
       let b = or_parts (is_sign x || is_blank x || is_quote x) (x == 10) a.0 in
       let c = or_parts (is_sign x || is_blank x) (is_quote x) b.0 in
       let d = or_parts (is_sign x) (is_blank x) c.0 in
-      λ j. cond (d.0 j) Nothing (cond (a.1 j) LineEnd (cond (c.1 j) (cond (is_quote y) Spacing Nothing) (cond (ends_word y) Nothing Spacing)))
+      λ j. cond (d.0 j) Nothing (cond (a.1 j) LineEnd
+      (cond (c.1 j) (cond (is_quote y) Spacing Nothing) (cond (ends_word y) Nothing Spacing)))
 
   -- a gap of any kind leaves room at the end
   room_for : (l : ℕ → Least) → Has (l 32) g → (w ≡ []) ⊎ Has (l (head w)) g → Has (l (head w)) g

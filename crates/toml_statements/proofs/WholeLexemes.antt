@@ -2,12 +2,13 @@
 use Rattle.std.proofs.Common.{◌≡◌, ℕ, Bool, true, false, cond, ◌==◌, ◌&&◌, ◌||◌, List, [], ◌∷◌, ◌++◌, refl, sym, ap, ◌∙◌, subst, ◌⊎◌, inl, inr}
 use Rattle.std.proofs.lemmas.Bool.{eqb-true, true≢false, or_parts, or_cases}
 use Rattle.toml_lexemes.specs.Bytes.{is_sign, is_blank, is_quote, ends_word, head}
-use Rattle.toml_lexemes.specs.Lexemes.{in_remark, between, within, first, goes_on, stops, turn, begins_line_feed, lengthened, cut_first, cut}
+use Rattle.toml_lexemes.specs.Lexemes.{in_remark, between, within, goes_on, stops, begins_line_feed, lengthened, cut}
 use Rattle.toml_lexemes.specs.Spaced.{MayFollow}
 use Rattle.toml_lexemes.proofs.Following.{words_are_ended, signs_are_ended}
-use Rattle.toml_lexemes.proofs.Kept.{cut_turned, shortened, some_cut}
+use Rattle.toml_lexemes.proofs.Kept.{cut_turned}
 use Rattle.toml_statements.specs.Statements.{a_comma, a_remark, a_line_end, an_opening, a_closing, any_other, role_of, role, before_trimmed, trimmed, Collected, with_lexeme}
 use Rattle.toml_statements.specs.Shown.{EndsWell, IsWholeLexeme}
+use Rattle.toml_statements.proofs.Remarks.{byte_goes_on, tail_alone, remark_begun, after_hash}
 use Rattle.toml_statements.proofs.Trimmed.{trimmed_twice}
 
 -- ---- signs
@@ -69,15 +70,11 @@ string_is_whole s lexeme e closed = record { alone = lexeme; ends = ends_by_role
 -- ---- remarks
 
 no_line_feed : (x : ℕ) (xs : List ℕ) → cut (within in_remark) (x ∷ xs) ≡ (x ∷ xs) ∷ [] → (x == 10) ≡ false
-no_line_feed x xs alone = go (x == 10) refl
+no_line_feed x xs alone = by (x == 10) ((x == 13) && begins_line_feed xs) (byte_goes_on x xs alone)
   where
-    go : (b : Bool) → (x == 10) ≡ b → (x == 10) ≡ false
-    go false e = e
-    go true e =
-        let stop : turn in_remark x (begins_line_feed xs) ≡ stops =
-        λ j. cond (e j || ((x == 13) && begins_line_feed xs)) stops (goes_on in_remark) in
-        let clash : [] ∷ cut_first (first x) x (λ m. cut m xs) ≡ (x ∷ xs) ∷ [] = sym (cut_turned in_remark x xs stops stop) ∙ alone in
-        absurd cc
+    by : (p q : Bool) → cond (p || q) stops (goes_on in_remark) ≡ goes_on in_remark → p ≡ false
+    by true q e = cc
+    by false q e = refl
 
 remark_byte : (p q b : Bool) → p ≡ false → cond (p || (q && false)) stops (goes_on in_remark) ≡ goes_on in_remark
 remark_byte true q b e = absurd (true≢false e)
@@ -97,21 +94,6 @@ module _ (x : ℕ) (no : (x == 10) ≡ false) where
       ((λ j. cond ((x == 10) || ((x == 13) && no_line_feed y ys e j)) stops (goes_on in_remark)) ∙ remark_byte (x == 10) (x == 13) false no)
       ∙ ap (lengthened x) e
 
-goes_or_stops : (p : Bool) → (cond p stops (goes_on in_remark) ≡ stops) ⊎ (cond p stops (goes_on in_remark) ≡ goes_on in_remark)
-goes_or_stops true = inl refl
-goes_or_stops false = inr refl
-
-tail_alone : (x : ℕ) (s : List ℕ) → cut (within in_remark) (x ∷ s) ≡ (x ∷ s) ∷ [] → cut (within in_remark) s ≡ s ∷ []
-tail_alone x s alone = go (goes_or_stops ((x == 10) || ((x == 13) && begins_line_feed s)))
-  where
-    go : (turn in_remark x (begins_line_feed s) ≡ stops) ⊎ (turn in_remark x (begins_line_feed s) ≡ goes_on in_remark)
-        → cut (within in_remark) s ≡ s ∷ []
-    go (inl h) =
-        let clash : [] ∷ cut_first (first x) x (λ m. cut m s) ≡ (x ∷ s) ∷ [] = sym (cut_turned in_remark x s stops h) ∙ alone in
-        absurd cc
-    go (inr h) =
-        shortened x s (cut (within in_remark) s) (some_cut in_remark s) (sym (cut_turned in_remark x s (goes_on in_remark) h) ∙ alone)
-
 trimmed_alone : (s : List ℕ) → cut (within in_remark) s ≡ s ∷ [] → cut (within in_remark) (trimmed s) ≡ trimmed s ∷ []
 trimmed_alone [] e = e
 trimmed_alone (x ∷ s) e = before_alone x (no_line_feed x s e) (trimmed s) (trimmed_alone s (tail_alone x s e))
@@ -124,17 +106,11 @@ trimmed_begins s = go (trimmed s)
     go [] = refl
     go (y ∷ ys) = refl
 
-remark_begun : (s : List ℕ) → cut between (35 ∷ s) ≡ lengthened 35 (cut (within in_remark) s)
-unfolding cut
-remark_begun s = refl
-
 trimmed_remark : (s : List ℕ) → cut between (35 ∷ s) ≡ (35 ∷ s) ∷ [] → IsWholeLexeme (trimmed (35 ∷ s))
 trimmed_remark s lexeme =
     subst IsWholeLexeme (sym (trimmed_begins s))
     (record {
-      alone = remark_begun (trimmed s)
-          ∙ ap (lengthened 35)
-          (trimmed_alone s (shortened 35 s (cut (within in_remark) s) (some_cut in_remark s) (sym (remark_begun s) ∙ lexeme)));
+      alone = remark_begun (trimmed s) ∙ ap (lengthened 35) (trimmed_alone s (after_hash s lexeme));
       ends = trimmed_begins (trimmed s) ∙ ap (λ l. 35 ∷ l) (trimmed_twice s);
     })
 

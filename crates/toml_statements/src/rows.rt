@@ -58,9 +58,11 @@ pub fn remarks()
 
 /// Items that are read as statements, and items that are not.
 pub fn items()
-    ensures key_and_value { AreReadAs (shown "a" ∷ spaced ∷ shown "=" ∷ spaced ∷ shown "1" ∷ spaced ∷ shown "# one" ∷ ended ∷ shown "b" ∷ [])
+    ensures key_and_value { AreReadAs
+        (shown "a" ∷ spaced ∷ shown "=" ∷ spaced ∷ shown "1" ∷ spaced ∷ shown "# one" ∷ ended ∷ shown "b" ∷ [])
         (statement ("a" ∷ "=" ∷ "1" ∷ "# one" ∷ []) ∷ statement ("b" ∷ []) ∷ []) }
-    ensures array { AreReadAs (shown "[" ∷ loose ∷ shown "1" ∷ shown "," ∷ apart ∷ shown "2" ∷ mark "," ∷ loose ∷ shown "]" ∷ [])
+    ensures array { AreReadAs
+        (shown "[" ∷ loose ∷ shown "1" ∷ shown "," ∷ apart ∷ shown "2" ∷ mark "," ∷ loose ∷ shown "]" ∷ [])
         (statement ("[" ∷ "1" ∷ "," ∷ "2" ∷ "]" ∷ []) ∷ []) }
     ensures words_together { AreNotRead (shown "a" ∷ loose ∷ shown "b" ∷ []) }
     ensures words_on_lines_or_not { AreNotRead (shown "a" ∷ apart ∷ shown "b" ∷ []) }
