@@ -28,8 +28,8 @@ least_after x y =
     (cond (x == byte.hash) LineEnd
     (cond (is_quote x) (cond (is_quote y) Spacing Nothing) (cond (ends_word y) Nothing Spacing)))
 
--- What a gap has at least between the two texts, so that they are two lexemes: a line end after a remark; and some byte
--- between two words, between two strings and in front of a word after a word. The first text may be none.
+-- What a gap has at least between the two texts, so that they are two lexemes: a line end after a remark, and some byte
+-- between two words and between two strings. The first text may be none.
 abbrev pub least_between : List ℕ → List ℕ → Least
 least_between [] t = Nothing
 least_between (x ∷ xs) t = least_after x (head t)
