@@ -1,0 +1,22 @@
+//! Which words, strings and remarks of a text are those of TOML 1.0. Nothing is read into values: numbers have any size, and no
+//! memory is taken.
+#![tactic(auto)]
+
+mod bytes;
+mod date;
+mod key;
+mod laws;
+mod number;
+mod remark;
+mod string;
+mod value;
+
+pub use date::{is_date, is_time};
+pub use key::key_word;
+pub use laws::law_closed;
+pub use remark::is_remark;
+pub use string::{is_key_string, is_string};
+pub use value::is_value;
+
+#[cfg(test)]
+mod tests;
