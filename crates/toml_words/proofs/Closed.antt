@@ -1,18 +1,18 @@
 -- A valid string is closed.
-use Rattle.std.proofs.Common.{◌≡◌, ℕ, ◌-◌, Bool, true, false, cond, ◌==◌, ◌&&◌, ◌||◌, nat_lt, nat_le, List, [], ◌∷◌, inl, inr, refl, sym, ap, ◌∙◌, subst}
-use Rattle.std.proofs.lemmas.Bool.{cond_both, cases_Bool, eqb-true, or_parts}
+use Rattle.std.proofs.Common.{◌≡◌, ℕ, ◌-◌, Bool, true, false, cond, ◌==◌, ◌&&◌, ◌||◌, nat_lt, nat_le, List, [], ◌∷◌, inl, inr, refl, sym, ap, subst}
+use Rattle.std.proofs.lemmas.Bool.{cases_Bool, eqb-true, or_parts}
 use Rattle.std.specs.Prelude.{⊤}
 use Rattle.std.specs.List.{fold}
 use Rattle.std.specs.Char.{is_digit}
 use Rattle.toml_lexemes.specs.Bytes.{is_quote}
-use Rattle.toml_lexemes.specs.Lexemes.{Kind, basic, literal, mark, in_remark, opened, doubled, in_line, in_line_escape, in_lines, in_lines_escape, closing, closing_more, closed, closed_more, Mode, between, within, first, Turn, goes_on, ends, stops, line_turn, lines_turn, turn, begins_line_feed}
-use Rattle.toml_lexemes.specs.Spaced.{mode_first, mode_turn, mode_after, EndsBefore, EndsWithReturn, MayFollow}
+use Rattle.toml_lexemes.specs.Lexemes.{Kind, basic, literal, mark, in_remark, opened, doubled, in_line, in_line_escape, in_lines, in_lines_escape, closing, closing_more, closed, closed_more, Mode, between, within, first, Turn, stops, line_turn, lines_turn, turn, begins_line_feed}
+use Rattle.toml_lexemes.specs.Spaced.{mode_first, mode_turn, mode_after, EndsBefore, MayFollow}
 use Rattle.toml_words.specs.declared.string.Quoting.{Quoting}
 use Rattle.toml_words.specs.declared.string.Quoting.TheVariants.{Basic, Literal}
 use Rattle.toml_words.specs.declared.string.StringPlace.{StringPlace}
 use Rattle.toml_words.specs.declared.string.StringPlace.TheVariants.{Start, Opened, Doubled, InLine, EndedLine, InLines, Returned, Closing, ClosingMore, Closed, ClosedMore, EndedLines, Escaped, Folded, Hex, Wrong}
-use Rattle.toml_words.specs.Bytes.{is_plain}
-use Rattle.toml_words.specs.Strings.{mark_of, line_place, lines_place, is_escape_letter, folded_place, escaped_place, is_scalar, after_hex, hex_place, string_turn, string_place, ends_line_string, ends_lines_string, is_key_string, is_string}
+use Rattle.toml_words.specs.Bytes.{is_non_eol}
+use Rattle.toml_words.specs.Strings.{line_place, lines_place, is_escape_letter, folded_place, escaped_place, is_scalar, after_hex, hex_place, string_next, string_place, ends_line_string, ends_lines_string, is_key_string, is_string}
 
 abbrev kind_of : Quoting → Kind
 kind_of Basic = basic
@@ -65,16 +65,16 @@ agrees_line : (k : Quoting) (x : ℕ) → Agrees (mode_turn (line_turn (kind_of 
 agrees_line Basic x =
     let F : ℕ → Type 0 = λ y. Agrees (mode_turn (line_turn basic y)) (line_place Basic y) in
     by_byte F 10 x tt (λ no_feed. by_byte F 34 x refl (λ no_quote. by_byte F 92 x refl (λ no_slash.
-    rw (no_feed, no_quote, no_slash) (agrees_either _ (is_plain x) (InLine Basic) Wrong refl tt))))
+    rw (no_feed, no_quote, no_slash) (agrees_either _ (is_non_eol x) (InLine Basic) Wrong refl tt))))
 agrees_line Literal x =
     let F : ℕ → Type 0 = λ y. Agrees (mode_turn (line_turn literal y)) (line_place Literal y) in
     by_byte F 10 x tt (λ no_feed. by_byte F 39 x refl (λ no_quote.
-    rw (no_feed, no_quote) (agrees_either _ (is_plain x) (InLine Literal) Wrong refl tt)))
+    rw (no_feed, no_quote) (agrees_either _ (is_non_eol x) (InLine Literal) Wrong refl tt)))
 
 -- in a string of several lines
 agrees_in_lines : (k : Quoting) (x : ℕ) → Agrees (within (in_lines (kind_of k)))
-    (cond (is_plain x || (x == 10)) (InLines k) (cond (x == 13) (Returned k) Wrong))
-agrees_in_lines k x = agrees_either _ (is_plain x || (x == 10)) _ _ refl (agrees_either _ (x == 13) (Returned k) Wrong refl tt)
+    (cond (is_non_eol x || (x == 10)) (InLines k) (cond (x == 13) (Returned k) Wrong))
+agrees_in_lines k x = agrees_either _ (is_non_eol x || (x == 10)) _ _ refl (agrees_either _ (x == 13) (Returned k) Wrong refl tt)
 
 agrees_lines : (k : Quoting) (x : ℕ) → Agrees (mode_turn (lines_turn (kind_of k) x)) (lines_place k x)
 agrees_lines Basic x =
@@ -98,7 +98,8 @@ agrees_escaped_line x =
     agrees_either _ (is_escape_letter x) (InLine Basic) _ refl
     (agrees_either _ (x == 117) (Hex false 4 0) _ refl (agrees_either _ (x == 85) (Hex false 8 0) Wrong refl tt))
 
-agrees_escaped : (lines : Bool) (x : ℕ) (b : Bool) → Agrees (mode_turn (turn (cond lines in_lines_escape in_line_escape) x b)) (escaped_place lines x)
+agrees_escaped : (lines : Bool) (x : ℕ) (b : Bool)
+    → Agrees (mode_turn (turn (cond lines in_lines_escape in_line_escape) x b)) (escaped_place lines x)
 agrees_escaped true x b = agrees_escaped_lines x
 agrees_escaped false x b =
     let F : ℕ → Type 0 = λ y. Agrees (mode_turn (turn in_line_escape y b)) (escaped_place false y) in
@@ -125,72 +126,71 @@ agrees_hex false due value x b =
     rw (no_feed, no_quote, no_slash) (agrees_either _ (is_digit x 16 && nat_le value 0x10_FFFF) _ Wrong (agrees_after_hex_line due _) tt))))
 
 -- at the first byte
-agrees_first : (x : ℕ) → Agrees (mode_first (first x)) (string_turn Start x)
+agrees_first : (x : ℕ) → Agrees (mode_first (first x)) (string_next Start x)
 agrees_first x =
-    let F : ℕ → Type 0 = λ y. Agrees (mode_first (first y)) (string_turn Start y) in
+    let F : ℕ → Type 0 = λ y. Agrees (mode_first (first y)) (string_next Start y) in
     by_byte F 34 x refl (λ no_quote. by_byte F 39 x refl (λ no_apostrophe.
-    let none : string_turn Start x ≡ Wrong = rw (no_quote, no_apostrophe) refl in
+    let none : string_next Start x ≡ Wrong = rw (no_quote, no_apostrophe) refl in
     subst (Agrees (mode_first (first x))) (sym none) tt))
 
 -- the mode after a byte
-abbrev step : Mode → ℕ → Bool → Mode
-step between x b = mode_first (first x)
-step (within i) x b = mode_turn (turn i x b)
+abbrev mode_next : Mode → ℕ → Bool → Mode
+mode_next between x b = mode_first (first x)
+mode_next (within i) x b = mode_turn (turn i x b)
 
-mode_after-step : (m : Mode) (x : ℕ) (xs : List ℕ) → mode_after m (x ∷ xs) ≡ mode_after (step m x (begins_line_feed xs)) xs
-mode_after-step between x xs = refl
-mode_after-step (within i) x xs = refl
+mode_after-next : (m : Mode) (x : ℕ) (xs : List ℕ) → mode_after m (x ∷ xs) ≡ mode_after (mode_next m x (begins_line_feed xs)) xs
+mode_after-next between x xs = refl
+mode_after-next (within i) x xs = refl
 
 -- at the byte x in the mode of the place p
-abbrev Steps : StringPlace → ℕ → Bool → Type 0
-Steps p x b = Agrees (step (mode_of p) x b) (string_turn p x)
+abbrev AgreesNext : StringPlace → ℕ → Bool → Type 0
+AgreesNext p x b = Agrees (mode_next (mode_of p) x b) (string_next p x)
 
-steps : (p : StringPlace) (x : ℕ) (b : Bool) → Steps p x b
-steps Start x b = agrees_first x
-steps (Opened Basic) x b = agrees_both (x == 34) _ _ (Doubled Basic) _ refl (agrees_line Basic x)
-steps (Opened Literal) x b = agrees_both (x == 39) _ _ (Doubled Literal) _ refl (agrees_line Literal x)
-steps (Doubled Basic) x b = agrees_both (x == 34) _ _ (InLines Basic) Wrong refl tt
-steps (Doubled Literal) x b = agrees_both (x == 39) _ _ (InLines Literal) Wrong refl tt
-steps (InLine k) x b = agrees_line k x
-steps EndedLine x b = tt
-steps (InLines k) x b = agrees_lines k x
-steps (Returned Basic) x b =
-    let F : ℕ → Type 0 = λ y. Agrees (mode_turn (lines_turn basic y)) (string_turn (Returned Basic) y) in
-    by_byte F 10 x refl (λ no_feed. subst (λ t. Agrees (mode_turn (lines_turn basic x)) (cond t (InLines Basic) Wrong)) (sym no_feed) tt)
-steps (Returned Literal) x b =
-    let F : ℕ → Type 0 = λ y. Agrees (mode_turn (lines_turn literal y)) (string_turn (Returned Literal) y) in
-    by_byte F 10 x refl (λ no_feed. subst (λ t. Agrees (mode_turn (lines_turn literal x)) (cond t (InLines Literal) Wrong)) (sym no_feed) tt)
-steps (Closing Basic) x b = agrees_both (x == 34) _ _ (ClosingMore Basic) _ refl (agrees_lines Basic x)
-steps (Closing Literal) x b = agrees_both (x == 39) _ _ (ClosingMore Literal) _ refl (agrees_lines Literal x)
-steps (ClosingMore Basic) x b = agrees_both (x == 34) _ _ (Closed Basic) _ refl (agrees_lines Basic x)
-steps (ClosingMore Literal) x b = agrees_both (x == 39) _ _ (Closed Literal) _ refl (agrees_lines Literal x)
-steps (Closed Basic) x b = agrees_both (x == 34) _ _ (ClosedMore Basic) Wrong refl tt
-steps (Closed Literal) x b = agrees_both (x == 39) _ _ (ClosedMore Literal) Wrong refl tt
-steps (ClosedMore Basic) x b = agrees_both (x == 34) _ _ EndedLines Wrong refl tt
-steps (ClosedMore Literal) x b = agrees_both (x == 39) _ _ EndedLines Wrong refl tt
-steps EndedLines x b = tt
-steps (Escaped true) x b = agrees_escaped true x b
-steps (Escaped false) x b = agrees_escaped false x b
-steps Folded x b =
+agrees_next : (p : StringPlace) (x : ℕ) (b : Bool) → AgreesNext p x b
+agrees_next Start x b = agrees_first x
+agrees_next (Opened Basic) x b = agrees_both (x == 34) _ _ (Doubled Basic) _ refl (agrees_line Basic x)
+agrees_next (Opened Literal) x b = agrees_both (x == 39) _ _ (Doubled Literal) _ refl (agrees_line Literal x)
+agrees_next (Doubled Basic) x b = agrees_both (x == 34) _ _ (InLines Basic) Wrong refl tt
+agrees_next (Doubled Literal) x b = agrees_both (x == 39) _ _ (InLines Literal) Wrong refl tt
+agrees_next (InLine k) x b = agrees_line k x
+agrees_next EndedLine x b = tt
+agrees_next (InLines k) x b = agrees_lines k x
+agrees_next (Returned Basic) x b =
+    let F : ℕ → Type 0 = λ y. Agrees (mode_turn (lines_turn basic y)) (string_next (Returned Basic) y) in
+    by_byte F 10 x refl (λ no_feed.
+    subst (λ t. Agrees (mode_turn (lines_turn basic x)) (cond t (InLines Basic) Wrong)) (sym no_feed) tt)
+agrees_next (Returned Literal) x b =
+    let F : ℕ → Type 0 = λ y. Agrees (mode_turn (lines_turn literal y)) (string_next (Returned Literal) y) in
+    by_byte F 10 x refl (λ no_feed.
+    subst (λ t. Agrees (mode_turn (lines_turn literal x)) (cond t (InLines Literal) Wrong)) (sym no_feed) tt)
+agrees_next (Closing Basic) x b = agrees_both (x == 34) _ _ (ClosingMore Basic) _ refl (agrees_lines Basic x)
+agrees_next (Closing Literal) x b = agrees_both (x == 39) _ _ (ClosingMore Literal) _ refl (agrees_lines Literal x)
+agrees_next (ClosingMore Basic) x b = agrees_both (x == 34) _ _ (Closed Basic) _ refl (agrees_lines Basic x)
+agrees_next (ClosingMore Literal) x b = agrees_both (x == 39) _ _ (Closed Literal) _ refl (agrees_lines Literal x)
+agrees_next (Closed Basic) x b = agrees_both (x == 34) _ _ (ClosedMore Basic) Wrong refl tt
+agrees_next (Closed Literal) x b = agrees_both (x == 39) _ _ (ClosedMore Literal) Wrong refl tt
+agrees_next (ClosedMore Basic) x b = agrees_both (x == 34) _ _ EndedLines Wrong refl tt
+agrees_next (ClosedMore Literal) x b = agrees_both (x == 39) _ _ EndedLines Wrong refl tt
+agrees_next EndedLines x b = tt
+agrees_next (Escaped true) x b = agrees_escaped true x b
+agrees_next (Escaped false) x b = agrees_escaped false x b
+agrees_next Folded x b =
     let F : ℕ → Type 0 = λ y. Agrees (mode_turn (lines_turn basic y)) (folded_place y) in
     by_byte F 34 x tt (λ no_quote. by_byte F 92 x tt (λ no_slash. rw (no_quote, no_slash) (agrees_folded x)))
-steps (Hex true due value) x b = agrees_hex true due value x b
-steps (Hex false due value) x b = agrees_hex false due value x b
-steps Wrong x b = tt
+agrees_next (Hex true due value) x b = agrees_hex true due value x b
+agrees_next (Hex false due value) x b = agrees_hex false due value x b
+agrees_next Wrong x b = tt
 
 -- in a mode that agrees
-abbrev StepsFrom : Mode → ℕ → Bool → StringPlace → Type 0
-StepsFrom m x b p = Agrees (step m x b) (string_turn p x)
+agrees_on : (p : StringPlace) (m : Mode) → Agrees m p → (x : ℕ) (b : Bool) → Agrees (mode_next m x b) (string_next p x)
+agrees_on Wrong m h x b = tt
+agrees_on p m h x b = subst (λ n. Agrees (mode_next n x b) (string_next p x)) (sym h) (agrees_next p x b)
 
-agrees_step : (p : StringPlace) (m : Mode) → Agrees m p → (x : ℕ) (b : Bool) → Agrees (step m x b) (string_turn p x)
-agrees_step Wrong m h x b = tt
-agrees_step p m h x b = subst (λ n. Agrees (step n x b) (string_turn p x)) (sym h) (steps p x b)
-
-agrees_after : (s : List ℕ) (m : Mode) (p : StringPlace) → Agrees m p → Agrees (mode_after m s) (fold string_turn p s)
+agrees_after : (s : List ℕ) (m : Mode) (p : StringPlace) → Agrees m p → Agrees (mode_after m s) (fold string_next p s)
 agrees_after [] m p h = h
 agrees_after (x ∷ xs) m p h =
-    subst (λ n. Agrees n (fold string_turn (string_turn p x) xs)) (sym (mode_after-step m x xs))
-    (agrees_after xs (step m x (begins_line_feed xs)) (string_turn p x) (agrees_step p m h x (begins_line_feed xs)))
+    subst (λ n. Agrees n (fold string_next (string_next p x) xs)) (sym (mode_after-next m x xs))
+    (agrees_after xs (mode_next m x (begins_line_feed xs)) (string_next p x) (agrees_on p m h x (begins_line_feed xs)))
 
 -- ---- at the end
 
@@ -207,7 +207,8 @@ record IsClosedAt (x : ℕ) (xs : List ℕ) (m : Mode) : Type 0 where
 abbrev ends_string : StringPlace → Bool
 ends_string p = ends_line_string p || ends_lines_string p
 
-closed_at : (p : StringPlace) (m : Mode) → Agrees m p → ends_string p ≡ true → (x : ℕ) (xs : List ℕ) → is_quote x ≡ false → IsClosedAt x xs m
+closed_at : (p : StringPlace) (m : Mode) → Agrees m p → ends_string p ≡ true
+    → (x : ℕ) (xs : List ℕ) → is_quote x ≡ false → IsClosedAt x xs m
 closed_at (Doubled k) m h e x xs q =
     subst (IsClosedAt x xs) (sym h) (record { ended = no_mark k _ x q; no_remark = λ r. cc })
 closed_at EndedLine m h e x xs q = subst (IsClosedAt x xs) (sym h) (record { ended = tt; no_remark = λ r. cc })
@@ -224,3 +225,7 @@ unfolding is_string is_key_string
 strings_are_closed s e x xs q =
     let h = closed_at (string_place s) (mode_after between s) (agrees_after s between Start refl) e x xs q in
     record { ended = h.ended; apart = λ r last. absurd (h.no_remark r) }
+
+pub key_strings_are_strings : (s : List ℕ) → is_key_string s ≡ true → is_string s ≡ true
+unfolding is_string
+key_strings_are_strings s e = ap (λ b. b || ends_lines_string (string_place s)) e

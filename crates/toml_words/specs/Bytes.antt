@@ -34,5 +34,5 @@ abbrev pub is_plus_or_minus : ℕ → Bool
 is_plus_or_minus x = (x == plus) || (x == dash)
 
 -- non-eol: the tab, or no control character; a byte from 128 on is a part of a character past ASCII
-abbrev pub is_plain : ℕ → Bool
-is_plain x = (x == tab) || (nat_le 32 x && not (x == delete))
+abbrev pub is_non_eol : ℕ → Bool
+is_non_eol x = (x == tab) || (nat_le 32 x && not (x == delete))

@@ -6,11 +6,11 @@ use Rattle.toml_words.specs.declared.key.KeyPlace.TheVariants.{Due, Inside, Afte
 use Rattle.toml_words.specs.Bytes.{dot, is_bare}
 
 -- what a byte is where a part is due, inside a part, and after one
-abbrev pub key_turn : KeyPlace → ℕ → KeyPlace
-key_turn Due x = cond (is_bare x) Inside Wrong
-key_turn Inside x = cond (x == dot) Due (cond (is_bare x) Inside Wrong)
-key_turn After x = cond (x == dot) Due Wrong
-key_turn Wrong x = Wrong
+abbrev pub key_next : KeyPlace → ℕ → KeyPlace
+key_next Due x = cond (is_bare x) Inside Wrong
+key_next Inside x = cond (x == dot) Due (cond (is_bare x) Inside Wrong)
+key_next After x = cond (x == dot) Due Wrong
+key_next Wrong x = Wrong
 
 -- whether a part is due next; None where the bytes are no piece of a key
 abbrev pub part_due : KeyPlace → Option Bool
@@ -22,4 +22,4 @@ part_due Wrong = None
 -- Whether a part of the key is due after the word, which stands where one is due, or where none is: after a part. None where
 -- it can't stand there. Parts and dots alternate.
 unfoldable pub key_word : Bool → List ℕ → Option Bool
-key_word due word = part_due (fold key_turn (cond due Due After) word)
+key_word due word = part_due (fold key_next (cond due Due After) word)

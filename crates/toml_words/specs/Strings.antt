@@ -7,7 +7,7 @@ use Rattle.toml_words.specs.declared.string.Quoting.{Quoting}
 use Rattle.toml_words.specs.declared.string.Quoting.TheVariants.{Basic, Literal}
 use Rattle.toml_words.specs.declared.string.StringPlace.{StringPlace}
 use Rattle.toml_words.specs.declared.string.StringPlace.TheVariants.{Start, Opened, Doubled, InLine, EndedLine, InLines, Returned, Closing, ClosingMore, Closed, ClosedMore, EndedLines, Escaped, Folded, Hex, Wrong}
-use Rattle.toml_words.specs.Bytes.{is_plain}
+use Rattle.toml_words.specs.Bytes.{is_non_eol}
 
 -- the quote that a string is written with
 abbrev pub mark_of : Quoting → ℕ
@@ -27,14 +27,14 @@ in_text k true = InLines k
 -- basic-char, literal-char or the quote that ends a string of one line
 abbrev pub line_place : Quoting → ℕ → StringPlace
 line_place k x =
-    cond (x == mark_of k) EndedLine (cond (begins_escape k x) (Escaped false) (cond (is_plain x) (InLine k) Wrong))
+    cond (x == mark_of k) EndedLine (cond (begins_escape k x) (Escaped false) (cond (is_non_eol x) (InLine k) Wrong))
 
 -- mlb-content, mll-content or a quote, in a string of several lines: a newline is LF, or CR directly before LF
 abbrev pub lines_place : Quoting → ℕ → StringPlace
 lines_place k x =
     cond (x == mark_of k) (Closing k)
     (cond (begins_escape k x) (Escaped true)
-    (cond (is_plain x || (x == line_feed)) (InLines k)
+    (cond (is_non_eol x || (x == line_feed)) (InLines k)
     (cond (x == carriage_return) (Returned k) Wrong)))
 
 -- escape-seq-char of one letter: b t n f r " \
@@ -71,27 +71,27 @@ hex_place lines due value x =
     cond (is_digit x 16 && nat_le value 0x10_FFFF) (after_hex lines due (16 * value + digit_value x)) Wrong
 
 -- the place after one byte more
-abbrev pub string_turn : StringPlace → ℕ → StringPlace
-string_turn Start x = cond (x == quote) (Opened Basic) (cond (x == apostrophe) (Opened Literal) Wrong)
-string_turn (Opened k) x = cond (x == mark_of k) (Doubled k) (line_place k x)
-string_turn (Doubled k) x = cond (x == mark_of k) (InLines k) Wrong
-string_turn (InLine k) x = line_place k x
-string_turn EndedLine x = Wrong
-string_turn (InLines k) x = lines_place k x
-string_turn (Returned k) x = cond (x == line_feed) (InLines k) Wrong
-string_turn (Closing k) x = cond (x == mark_of k) (ClosingMore k) (lines_place k x)
-string_turn (ClosingMore k) x = cond (x == mark_of k) (Closed k) (lines_place k x)
-string_turn (Closed k) x = cond (x == mark_of k) (ClosedMore k) Wrong
-string_turn (ClosedMore k) x = cond (x == mark_of k) EndedLines Wrong
-string_turn EndedLines x = Wrong
-string_turn (Escaped lines) x = escaped_place lines x
-string_turn Folded x = folded_place x
-string_turn (Hex lines due value) x = hex_place lines due value x
-string_turn Wrong x = Wrong
+abbrev pub string_next : StringPlace → ℕ → StringPlace
+string_next Start x = cond (x == quote) (Opened Basic) (cond (x == apostrophe) (Opened Literal) Wrong)
+string_next (Opened k) x = cond (x == mark_of k) (Doubled k) (line_place k x)
+string_next (Doubled k) x = cond (x == mark_of k) (InLines k) Wrong
+string_next (InLine k) x = line_place k x
+string_next EndedLine x = Wrong
+string_next (InLines k) x = lines_place k x
+string_next (Returned k) x = cond (x == line_feed) (InLines k) Wrong
+string_next (Closing k) x = cond (x == mark_of k) (ClosingMore k) (lines_place k x)
+string_next (ClosingMore k) x = cond (x == mark_of k) (Closed k) (lines_place k x)
+string_next (Closed k) x = cond (x == mark_of k) (ClosedMore k) Wrong
+string_next (ClosedMore k) x = cond (x == mark_of k) EndedLines Wrong
+string_next EndedLines x = Wrong
+string_next (Escaped lines) x = escaped_place lines x
+string_next Folded x = folded_place x
+string_next (Hex lines due value) x = hex_place lines due value x
+string_next Wrong x = Wrong
 
 -- the place after these bytes
 abbrev pub string_place : List ℕ → StringPlace
-string_place s = fold string_turn Start s
+string_place s = fold string_next Start s
 
 -- a string of one line may end here
 abbrev pub ends_line_string : StringPlace → Bool

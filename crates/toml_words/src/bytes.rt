@@ -51,8 +51,8 @@ pub(crate) fn is_plus_or_minus(byte: u8) -> bool
 
 /// Whether the byte is the tab or no control character.
 #[inline]
-pub(crate) fn is_plain(byte: u8) -> bool
-    ensures { result ≡ spec.is_plain byte }
+pub(crate) fn is_non_eol(byte: u8) -> bool
+    ensures { result ≡ spec.is_non_eol byte }
 {
     byte == b'\t' || (byte >= 0x20 && byte != 0x7F)
 }

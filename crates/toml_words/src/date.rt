@@ -17,6 +17,7 @@ fn fits_form(expected: u8, byte: u8) -> bool
     }
 }
 
+/// Whether the bytes fit a form as far as both go.
 #[inline]
 fn fit_form(form: &[u8], bytes: &[u8]) -> bool
     ensures { result ≡ list_all (λ p. spec.fits_form p.0 p.1) (zip form.now bytes.now) }
@@ -26,6 +27,7 @@ fn fit_form(form: &[u8], bytes: &[u8]) -> bool
         .all(|(expected, byte)| fits_form(*expected, *byte))
 }
 
+/// Whether the bytes have a form, in full.
 #[tactic(auto, unfolding(crate::specs::Dates::has_form))]
 fn has_form(form: &[u8], bytes: &[u8]) -> bool
     ensures { result ≡ spec.has_form form.now bytes.now }
@@ -44,12 +46,14 @@ fn two_digits(bytes: &[u8], place: usize) -> u32
     10 * tens + ones
 }
 
+/// Whether the year has 366 days.
 fn is_leap_year(year: u32) -> bool
     ensures { result ≡ spec.is_leap_year year }
 {
     (year % 4 == 0 && year % 100 != 0) || year % 400 == 0
 }
 
+/// How many days the month of the year has.
 fn days_in(year: u32, month: u32) -> u32
     ensures { result ≡ spec.days_in year month }
 {
@@ -61,12 +65,14 @@ fn days_in(year: u32, month: u32) -> u32
     }
 }
 
+/// Whether the year and the month have the day.
 fn has_day(year: u32, month: u32, day: u32) -> bool
     ensures { result ≡ spec.has_day year month day }
 {
     1 <= month && month <= 12 && 1 <= day && day <= days_in(year, month)
 }
 
+/// Whether the bytes are a local date.
 #[tactic(auto, unfolding(crate::specs::Dates::is_date))]
 pub(crate) fn is_date_of(bytes: &[u8]) -> bool
     ensures { result ≡ spec.is_date bytes.now }
@@ -79,6 +85,7 @@ pub(crate) fn is_date_of(bytes: &[u8]) -> bool
         )
 }
 
+/// Whether the hours and minutes at the front are those of a day.
 #[tactic(auto, unfolding(crate::specs::Dates::has_hours))]
 fn has_hours(bytes: &[u8]) -> bool
     ensures { result ≡ spec.has_hours bytes.now }
@@ -86,6 +93,7 @@ fn has_hours(bytes: &[u8]) -> bool
     two_digits(bytes, 0) <= 23 && two_digits(bytes, 3) <= 59
 }
 
+/// Whether the bytes are hours, minutes and seconds.
 #[tactic(auto, unfolding(crate::specs::Dates::is_clock))]
 fn is_clock(bytes: &[u8]) -> bool
     ensures { result ≡ spec.is_clock bytes.now }
@@ -104,6 +112,7 @@ fn digit_count(bytes: &[u8]) -> usize
         .count()
 }
 
+/// What follows the fraction of a second at the front, if one stands there.
 #[tactic(auto, unfolding(crate::specs::Dates::after_fraction))]
 fn after_fraction(bytes: &[u8]) -> &[u8]
     ensures { result.now ≡ spec.after_fraction bytes.now }
@@ -117,6 +126,7 @@ fn after_fraction(bytes: &[u8]) -> &[u8]
     }
 }
 
+/// Whether the bytes are an offset in hours and minutes.
 #[tactic(auto, unfolding(crate::specs::Dates::is_numeric_offset))]
 fn is_numeric_offset(bytes: &[u8]) -> bool
     ensures { result ≡ spec.is_numeric_offset bytes.now }
@@ -125,6 +135,7 @@ fn is_numeric_offset(bytes: &[u8]) -> bool
     is_plus_or_minus(byte_at(bytes, 0)) && has_form(b"00:00", time) && has_hours(time)
 }
 
+/// Whether the bytes are the offset of a time.
 #[tactic(auto, unfolding(crate::specs::Dates::is_offset))]
 fn is_offset(bytes: &[u8]) -> bool
     ensures { result ≡ spec.is_offset bytes.now }
@@ -133,6 +144,7 @@ fn is_offset(bytes: &[u8]) -> bool
     (bytes.len() == 1 && (first == b'Z' || first == b'z')) || is_numeric_offset(bytes)
 }
 
+/// What follows the seconds of a time and their fraction.
 #[inline]
 fn after_seconds(bytes: &[u8]) -> &[u8]
     ensures { result.now ≡ spec.after_seconds bytes.now }
@@ -140,21 +152,24 @@ fn after_seconds(bytes: &[u8]) -> &[u8]
     after_fraction(past(bytes, 8))
 }
 
+/// Whether the bytes are a time with no offset.
 #[tactic(auto, unfolding(crate::specs::Dates::is_local_time))]
 pub(crate) fn is_local_time(bytes: &[u8]) -> bool
     ensures { result ≡ spec.is_local_time bytes.now }
 {
-    is_clock(front(bytes, 8)) && after_seconds(bytes).len() == 0
+    is_clock(front(bytes, 8)) && after_seconds(bytes).is_empty()
 }
 
+/// Whether the bytes are a time, with an offset or without.
 #[tactic(auto, unfolding(crate::specs::Dates::is_time))]
 fn is_time_of(bytes: &[u8]) -> bool
     ensures { result ≡ spec.is_time bytes.now }
 {
     let rest = after_seconds(bytes);
-    is_clock(front(bytes, 8)) && (rest.len() == 0 || is_offset(rest))
+    is_clock(front(bytes, 8)) && (rest.is_empty() || is_offset(rest))
 }
 
+/// Whether the bytes are a date and a time, joined by T.
 #[tactic(auto, unfolding(crate::specs::Dates::is_date_time))]
 pub(crate) fn is_date_time(bytes: &[u8]) -> bool
     ensures { result ≡ spec.is_date_time bytes.now }

@@ -17,9 +17,10 @@ pub(crate) enum KeyPlace {
     Wrong,
 }
 
+/// The place after one byte more.
 #[inline]
-fn key_turn(place: KeyPlace, byte: u8) -> KeyPlace
-    ensures { result ≡ spec.key_turn place byte }
+fn key_next(place: KeyPlace, byte: u8) -> KeyPlace
+    ensures { result ≡ spec.key_next place byte }
 {
     match place {
         KeyPlace::Due | KeyPlace::Inside if is_bare(byte) => KeyPlace::Inside,
@@ -36,7 +37,11 @@ pub fn key_word(text: &str, due: bool) -> Option<bool>
     ensures { result ≡ spec.key_word due text.now }
 {
     let start = if due { KeyPlace::Due } else { KeyPlace::After };
-    match text.as_bytes().iter().fold(start, |place, byte| key_turn(place, *byte)) {
+    match text
+        .as_bytes()
+        .iter()
+        .fold(start, |place, byte| key_next(place, *byte))
+    {
         KeyPlace::Due => Some(true),
         KeyPlace::Inside | KeyPlace::After => Some(false),
         KeyPlace::Wrong => None,

@@ -1,5 +1,5 @@
-//! Which words, strings and remarks of a text are those of TOML 1.0. Nothing is read into values: numbers have any size, and no
-//! memory is taken.
+//! Which words, strings and remarks of a text are those of TOML 1.0. Nothing is read into values, so numbers have any size. No
+//! memory is taken, and the time is proportional to the text.
 #![tactic(auto)]
 
 mod bytes;

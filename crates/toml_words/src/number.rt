@@ -5,6 +5,7 @@ ghost use Rattle.toml_words.specs.Numbers as spec;
 
 use crate::bytes::{byte_at, front, is_plus_or_minus, past};
 
+/// Whether the byte is a digit.
 #[inline]
 fn is_digit(byte: u8, radix: u32) -> bool
     requires low { 2 ≤ radix }
@@ -14,7 +15,7 @@ fn is_digit(byte: u8, radix: u32) -> bool
     char::from(byte).is_digit(radix)
 }
 
-/// Whether these are digits, between any two of which an underscore may stand.
+/// Whether the bytes are one or more digits, between any two of which one underscore may stand.
 #[tactic(auto, using(crate::proofs::Digits::digits_from_at))]
 fn is_digits(bytes: &[u8], radix: u32) -> bool
     requires low { 2 ≤ radix }
@@ -37,6 +38,7 @@ fn is_digits(bytes: &[u8], radix: u32) -> bool
     after
 }
 
+/// The bytes without the sign at the front, if one stands there.
 #[tactic(auto, unfolding(crate::specs::Numbers::unsigned))]
 fn unsigned(bytes: &[u8]) -> &[u8]
     ensures { result.now ≡ spec.unsigned bytes.now }
@@ -48,6 +50,7 @@ fn unsigned(bytes: &[u8]) -> &[u8]
     }
 }
 
+/// Whether the bytes are a decimal integer without its sign.
 #[tactic(auto, unfolding(crate::specs::Numbers::is_whole))]
 fn is_whole(bytes: &[u8]) -> bool
     ensures { result ≡ spec.is_whole bytes.now }
@@ -55,18 +58,20 @@ fn is_whole(bytes: &[u8]) -> bool
     is_digits(bytes, 10) && (bytes.len() == 1 || byte_at(bytes, 0) != b'0')
 }
 
+/// Whether the bytes are nothing, or a point and digits, where they begin with a point.
 #[tactic(auto, unfolding(crate::specs::Numbers::is_fraction))]
 fn is_fraction(bytes: &[u8]) -> bool
     ensures { result ≡ spec.is_fraction bytes.now }
 {
-    bytes.len() == 0 || is_digits(past(bytes, 1), 10)
+    bytes.is_empty() || is_digits(past(bytes, 1), 10)
 }
 
+/// Whether the bytes are nothing, or an exponent, where they begin with its letter.
 #[tactic(auto, unfolding(crate::specs::Numbers::is_exponent))]
 fn is_exponent(bytes: &[u8]) -> bool
     ensures { result ≡ spec.is_exponent bytes.now }
 {
-    bytes.len() == 0 || is_digits(unsigned(past(bytes, 1)), 10)
+    bytes.is_empty() || is_digits(unsigned(past(bytes, 1)), 10)
 }
 
 /// The place of the first point, or the end.
@@ -88,6 +93,7 @@ fn exponent_place(bytes: &[u8]) -> usize
         .count()
 }
 
+/// Whether the bytes are an integer or a float, without a sign and an exponent.
 #[tactic(auto, unfolding(crate::specs::Numbers::is_mantissa))]
 fn is_mantissa(bytes: &[u8]) -> bool
     ensures { result ≡ spec.is_mantissa bytes.now }
@@ -96,6 +102,7 @@ fn is_mantissa(bytes: &[u8]) -> bool
     is_whole(front(bytes, point)) && is_fraction(past(bytes, point))
 }
 
+/// Whether the bytes are an integer or a float in decimal digits, without its sign.
 #[tactic(auto, unfolding(crate::specs::Numbers::is_decimal))]
 fn is_decimal(bytes: &[u8]) -> bool
     ensures { result ≡ spec.is_decimal bytes.now }
@@ -104,6 +111,7 @@ fn is_decimal(bytes: &[u8]) -> bool
     is_mantissa(front(bytes, letter)) && is_exponent(past(bytes, letter))
 }
 
+/// Whether the bytes are inf or nan.
 #[tactic(auto, unfolding(crate::specs::Numbers::is_special))]
 fn is_special(bytes: &[u8]) -> bool
     ensures { result ≡ spec.is_special bytes.now }
@@ -111,6 +119,7 @@ fn is_special(bytes: &[u8]) -> bool
     bytes == b"inf".as_slice() || bytes == b"nan".as_slice()
 }
 
+/// Whether the bytes are an integer in hex, octal or binary digits.
 #[tactic(auto, unfolding(crate::specs::Numbers::is_prefixed))]
 fn is_prefixed(bytes: &[u8]) -> bool
     ensures { result ≡ spec.is_prefixed bytes.now }

@@ -1,7 +1,7 @@
 ghost use Rattle.std.specs.Prelude.{◌≡◌, ◌==◌, cond};
 ghost use Rattle.toml_words.specs.Strings as spec;
 
-use crate::bytes::is_plain;
+use crate::bytes::is_non_eol;
 
 /// The quotes that strings are written with.
 #[derive(Clone, Copy)]
@@ -50,6 +50,7 @@ pub(crate) enum StringPlace {
     Wrong,
 }
 
+/// Whether the byte is the quote of the string.
 #[inline]
 fn is_mark(quoting: Quoting, byte: u8) -> bool
     ensures { result ≡ (byte == spec.mark_of quoting) }
@@ -60,6 +61,7 @@ fn is_mark(quoting: Quoting, byte: u8) -> bool
     }
 }
 
+/// Whether the byte begins an escape.
 #[inline]
 fn begins_escape(quoting: Quoting, byte: u8) -> bool
     ensures { result ≡ spec.begins_escape quoting byte }
@@ -70,6 +72,7 @@ fn begins_escape(quoting: Quoting, byte: u8) -> bool
     }
 }
 
+/// The place in the text of a string, of several lines or of one.
 #[inline]
 fn in_text(quoting: Quoting, lines: bool) -> StringPlace
     ensures { result ≡ spec.in_text quoting lines }
@@ -81,6 +84,7 @@ fn in_text(quoting: Quoting, lines: bool) -> StringPlace
     }
 }
 
+/// The place after a byte in a string of one line.
 #[inline]
 fn line_place(quoting: Quoting, byte: u8) -> StringPlace
     ensures { result ≡ spec.line_place quoting byte }
@@ -89,13 +93,14 @@ fn line_place(quoting: Quoting, byte: u8) -> StringPlace
         StringPlace::EndedLine
     } else if begins_escape(quoting, byte) {
         StringPlace::Escaped(false)
-    } else if is_plain(byte) {
+    } else if is_non_eol(byte) {
         StringPlace::InLine(quoting)
     } else {
         StringPlace::Wrong
     }
 }
 
+/// The place after a byte in a string of several lines.
 #[inline]
 fn lines_place(quoting: Quoting, byte: u8) -> StringPlace
     ensures { result ≡ spec.lines_place quoting byte }
@@ -104,7 +109,7 @@ fn lines_place(quoting: Quoting, byte: u8) -> StringPlace
         StringPlace::Closing(quoting)
     } else if begins_escape(quoting, byte) {
         StringPlace::Escaped(true)
-    } else if is_plain(byte) || byte == b'\n' {
+    } else if is_non_eol(byte) || byte == b'\n' {
         StringPlace::InLines(quoting)
     } else if byte == b'\r' {
         StringPlace::Returned(quoting)
@@ -113,6 +118,7 @@ fn lines_place(quoting: Quoting, byte: u8) -> StringPlace
     }
 }
 
+/// Whether the byte is an escape of one letter, after the backslash.
 #[inline]
 fn is_escape_letter(byte: u8) -> bool
     ensures { result ≡ spec.is_escape_letter byte }
@@ -120,6 +126,7 @@ fn is_escape_letter(byte: u8) -> bool
     matches!(byte, b'b' | b't' | b'n' | b'f' | b'r' | b'"' | b'\\')
 }
 
+/// The place after a byte where a line end is due, after a backslash.
 #[inline]
 fn folded_place(byte: u8) -> StringPlace
     ensures { result ≡ spec.folded_place byte }
@@ -132,6 +139,7 @@ fn folded_place(byte: u8) -> StringPlace
     }
 }
 
+/// The place after the byte that follows a backslash.
 #[inline]
 fn escaped_place(lines: bool, byte: u8) -> StringPlace
     ensures { result ≡ spec.escaped_place lines byte }
@@ -149,6 +157,7 @@ fn escaped_place(lines: bool, byte: u8) -> StringPlace
     }
 }
 
+/// Whether the value is a Unicode scalar value.
 #[inline]
 fn is_scalar(value: u32) -> bool
     ensures { result ≡ spec.is_scalar value }
@@ -156,6 +165,7 @@ fn is_scalar(value: u32) -> bool
     value < 0xD800 || (0xE000 <= value && value <= 0x10_FFFF)
 }
 
+/// The place after a hex digit, where so many were due before it.
 #[inline]
 fn after_hex(lines: bool, due: u8, value: u32) -> StringPlace
     ensures { result ≡ spec.after_hex lines due value }
@@ -169,6 +179,7 @@ fn after_hex(lines: bool, due: u8, value: u32) -> StringPlace
     }
 }
 
+/// The place after a byte where hex digits are due.
 #[inline]
 fn hex_place(lines: bool, due: u8, value: u32, byte: u8) -> StringPlace
     ensures { result ≡ spec.hex_place lines due value byte }
@@ -187,8 +198,9 @@ fn at_mark(quoting: Quoting, byte: u8, place: StringPlace, other: StringPlace) -
     if is_mark(quoting, byte) { place } else { other }
 }
 
+/// The place after the first byte.
 fn opened_place(byte: u8) -> StringPlace
-    ensures { result ≡ spec.string_turn StringPlace.Start byte }
+    ensures { result ≡ spec.string_next StringPlace.Start byte }
 {
     match byte {
         b'"' => StringPlace::Opened(Quoting::Basic),
@@ -199,8 +211,8 @@ fn opened_place(byte: u8) -> StringPlace
 
 /// The place after one byte more.
 #[inline]
-fn string_turn(place: StringPlace, byte: u8) -> StringPlace
-    ensures { result ≡ spec.string_turn place byte }
+fn string_next(place: StringPlace, byte: u8) -> StringPlace
+    ensures { result ≡ spec.string_next place byte }
 {
     match place {
         StringPlace::Start => opened_place(byte),
@@ -209,8 +221,18 @@ fn string_turn(place: StringPlace, byte: u8) -> StringPlace
         StringPlace::InLine(q) => line_place(q, byte),
         StringPlace::InLines(q) => lines_place(q, byte),
         StringPlace::Returned(q) if byte == b'\n' => StringPlace::InLines(q),
-        StringPlace::Closing(q) => at_mark(q, byte, StringPlace::ClosingMore(q), lines_place(q, byte)),
-        StringPlace::ClosingMore(q) => at_mark(q, byte, StringPlace::Closed(q), lines_place(q, byte)),
+        StringPlace::Closing(q) => at_mark(
+            q,
+            byte,
+            StringPlace::ClosingMore(q),
+            lines_place(q, byte),
+        ),
+        StringPlace::ClosingMore(q) => at_mark(
+            q,
+            byte,
+            StringPlace::Closed(q),
+            lines_place(q, byte),
+        ),
         StringPlace::Closed(q) => at_mark(q, byte, StringPlace::ClosedMore(q), StringPlace::Wrong),
         StringPlace::ClosedMore(q) => at_mark(q, byte, StringPlace::EndedLines, StringPlace::Wrong),
         StringPlace::Escaped(lines) => escaped_place(lines, byte),
@@ -220,12 +242,11 @@ fn string_turn(place: StringPlace, byte: u8) -> StringPlace
     }
 }
 
+/// The place after all bytes.
 fn string_place(text: &str) -> StringPlace
     ensures { result ≡ spec.string_place text.now }
 {
-    text.as_bytes()
-        .iter()
-        .fold(StringPlace::Start, |place, byte| string_turn(place, *byte))
+    text.as_bytes().iter().fold(StringPlace::Start, |place, byte| string_next(place, *byte))
 }
 
 /// Whether a string lexeme is closed and valid, of the two kinds of one line, which may stand in a key.

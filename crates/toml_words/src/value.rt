@@ -4,6 +4,7 @@ ghost use Rattle.toml_words.specs.Values as spec;
 use crate::date::{is_date_of, is_date_time, is_local_time};
 use crate::number::is_number;
 
+/// Whether the bytes are true or false.
 #[tactic(auto, unfolding(crate::specs::Values::is_boolean))]
 fn is_boolean(bytes: &[u8]) -> bool
     ensures { result ≡ spec.is_boolean bytes.now }
