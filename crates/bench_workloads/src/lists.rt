@@ -8,7 +8,7 @@ ghost use Rattle.bench_workloads.specs.Documents as to;
 use crate::parts::text;
 use prettyless::combinators::line_or_space;
 use prettyless::text::BuildError;
-use prettyless::{BuildDoc, DocAllocator, DocAllocatorBetween, DocBuilder, DocPlace};
+use prettyless::{DocAllocator, DocAllocatorBetween, DocBuilder, DocPlace};
 use std::iter;
 
 const ATOM: &str = "atom";
@@ -108,13 +108,13 @@ impl<'a, D: DocPlace<'a>> TreePlace for &'a D {
 
     fn behind(self, front: D::Doc, next: D::Doc) -> Result<D::Doc, BuildError> {
         let line = self.line()?;
-        let front = DocBuilder(self, BuildDoc::DocPtr(front)).join(line)?;
-        let next = DocBuilder(self, BuildDoc::DocPtr(next));
+        let front = DocBuilder::from_doc(self, front).join(line)?;
+        let next = DocBuilder::from_doc(self, next);
         front.join(next)?.into_doc()
     }
 
     fn listed(self, items: D::Doc) -> Result<D::Doc, BuildError> {
-        parenthesised(self, DocBuilder(self, BuildDoc::DocPtr(items)))?.into_doc()
+        parenthesised(self, DocBuilder::from_doc(self, items))?.into_doc()
     }
 }
 
@@ -143,5 +143,5 @@ pub(crate) fn tree<'a, D: DocPlace<'a>>(
     ensures err { IfErr result IsMemory }
 {
     let root = levels(place, atoms.max(1).ilog10())?;
-    Ok(DocBuilder(place, BuildDoc::DocPtr(root)))
+    Ok(DocBuilder::from_doc(place, root))
 }

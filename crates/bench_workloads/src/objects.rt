@@ -8,7 +8,7 @@ ghost use Rattle.bench_workloads.specs.Documents as to;
 use crate::json::{bracketed, field, triple, with_comma, with_field};
 use crate::parts::text;
 use prettyless::text::BuildError;
-use prettyless::{BuildDoc, DocBuilder, DocPlace};
+use prettyless::{DocBuilder, DocPlace};
 
 /// How many levels of objects there are.
 const LEVELS: u32 = 8;
@@ -66,8 +66,8 @@ impl<'a, D: DocPlace<'a>> ObjectPlace for &'a D {
     }
 
     fn object(self, first: D::Doc, second: D::Doc) -> Result<D::Doc, BuildError> {
-        let first = DocBuilder(self, BuildDoc::DocPtr(first));
-        let second = DocBuilder(self, BuildDoc::DocPtr(second));
+        let first = DocBuilder::from_doc(self, first);
+        let second = DocBuilder::from_doc(self, second);
         bracketed("{", fields(first, second)?, "}")?.into_doc()
     }
 }
@@ -94,8 +94,8 @@ fn behind_comma<'a, D: DocPlace<'a>>(
     ensures ok { IfOk result (λ d. D.Doc.tree d ≡ to.with_comma (D.Doc.tree front) (D.Doc.tree next)) }
     ensures err { IfErr result IsMemory }
 {
-    let front = DocBuilder(place, BuildDoc::DocPtr(front));
-    let next = DocBuilder(place, BuildDoc::DocPtr(next));
+    let front = DocBuilder::from_doc(place, front);
+    let next = DocBuilder::from_doc(place, next);
     with_comma(front, next)?.into_doc()
 }
 
@@ -120,5 +120,5 @@ pub(crate) fn real<'a, D: DocPlace<'a>>(
     ensures err { IfErr result IsMemory }
 {
     let values = objects(place, count)?;
-    bracketed("[", DocBuilder(place, BuildDoc::DocPtr(values)), "]")
+    bracketed("[", DocBuilder::from_doc(place, values), "]")
 }

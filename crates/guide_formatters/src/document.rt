@@ -14,7 +14,7 @@ ghost use Rattle.guide_formatters.specs.View.{expression_of};
 use crate::term::Term;
 use prettyless::prelude::*;
 use prettyless::text::BuildError;
-use prettyless::{BoxAllocator, BoxDoc, BuildDoc};
+use prettyless::{BoxAllocator, BoxDoc};
 
 /// A number.
 fn number<'a, D: DocPlace<'a>>(place: &'a D, number: u32) -> Result<D::Doc, BuildError>
@@ -28,7 +28,7 @@ fn negation<'a, D: DocPlace<'a>>(place: &'a D, operand: D::Doc) -> Result<D::Doc
     ensures { IfOk result (λ p. D.Doc.tree p ≡ to.append (text minus) (D.Doc.tree operand)) }
 {
     let sign: &'a str = "-";
-    let operand = DocBuilder(place, BuildDoc::DocPtr(operand));
+    let operand = DocBuilder::from_doc(place, operand);
     place.pretty(sign)?.join(operand)?.into_doc()
 }
 
@@ -40,7 +40,7 @@ fn below<'a, D: DocPlace<'a>>(
     ensures { IfOk result (λ b. built D.Doc.tree b.1
         ≡ to.nest (pos 2) (to.append of.line (D.Doc.tree document))) }
 {
-    let document = DocBuilder(place, BuildDoc::DocPtr(document));
+    let document = DocBuilder::from_doc(place, document);
     place.line()?.join(document)?.nest(2)
 }
 
@@ -62,7 +62,7 @@ fn operation<'a, D: DocPlace<'a>>(
     ensures { IfOk result (λ p. D.Doc.tree p
         ≡ operation_of (D.Doc.tree left) operator.now (D.Doc.tree right)) }
 {
-    let left = DocBuilder(place, BuildDoc::DocPtr(left)).join(place.space()?)?;
+    let left = DocBuilder::from_doc(place, left).join(place.space()?)?;
     let start = left.join(place.pretty(operator)?)?;
     in_parentheses(start.join(below(place, right)?)?)
 }

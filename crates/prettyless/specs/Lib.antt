@@ -1,5 +1,6 @@
 pub use Rattle.prettyless_alloc.specs.Lists
 pub use Rattle.prettyless_alloc.specs.Shown
+pub use Rattle.prettyless_alloc.specs.SpacedItems
 pub use Rattle.prettyless_alloc.specs.Words
 pub use Rattle.prettyless_build.specs.Built
 pub use Rattle.prettyless_build.specs.Iterated

@@ -4,7 +4,7 @@ use Rattle.std.proofs.Common.{◌≡◌, refl, sym, ◌∙◌, ap, subst, arith,
 use Rattle.std.specs.Prelude.{⊤}
 use Rattle.std.specs.List.{AllZip, fold}
 use Rattle.prettyless_model.specs.Metrics.{is_ascii}
-use Rattle.prettyless_model.specs.Shows.{Reach, NoGap, SameLine, AnyLine, Least, Nothing, Spacing, LineEnd, EndsLine, Item, Shown, Gap, Mark, Late, spaced, apart, ended, loose, IsWeaker, Implies, NoneIsLate, TextShows, EitherShows, shows, texts, AreFixed, HasTexts}
+use Rattle.prettyless_model.specs.Shows.{Reach, NoGap, SameLine, AnyLine, Least, Nothing, Spacing, LineEnd, EndsLine, Item, Shown, Gap, Mark, Late, spaced, apart, ended, loose, IsWeaker, Implies, NoneIsLate, TextShows, EitherShows, shows, texts, AreFixed, HasTexts, Place, at_start, after_text, with_gap, ShowsFrom}
 use Rattle.prettyless_model.specs.declared.choice.ColumnTest.{ColumnTest}
 use Rattle.prettyless_model.specs.declared.choice.NestingTest.{NestingTest}
 use Rattle.prettyless_model.proofs.Implied.{implies_same}
@@ -14,6 +14,7 @@ use Rattle.prettyless_doc.specs.Tree.{Tree, Nil, Fail, Text, TextWithLen, Multil
 use Rattle.prettyless_build.specs.Built.{align, append, append_to, as_line_suffix, between, chain, dedent_to_root, enclose, flatten, group, nest, nest_by, repeat, softline, softline_}
 use Rattle.prettyless_alloc.specs.Lists.{change_all_but_last}
 use Rattle.prettyless_alloc.specs.Shown.{text_items, after_gaps, with_gaps, in_lines, TextsShow, SeparatedShow, PunctuatedShow, BracketedShow, MarksStandInGaps}
+use Rattle.prettyless_alloc.specs.SpacedItems.{IsSpacedFrom, FixedAreSpaced}
 use Rattle.prettyless_alloc.specs.Words.{intersperse}
 
 -- ---- texts
@@ -278,3 +279,16 @@ same_texts x y k ss h = (h.0, k h.0 h.1, h.2, h.3)
 pub some_text : (s : List ℕ) → 0 < length s → text_items s ≡ Shown s ∷ []
 some_text [] some = absurd (omega arith)
 some_text (b ∷ bs) some = refl
+
+-- ---- texts and gaps alone
+
+spaced_from : (p : Place) (b : List ℕ) (items : List Item) → AreFixed items → ShowsFrom p [] b items → IsSpacedFrom p b items
+spaced_from p b [] f h = h
+spaced_from p b (Shown s ∷ items) f h = (h.0, h.1, h.2, h.3, spaced_from after_text h.1 items f h.4)
+spaced_from p b (Gap r l ∷ items) f h = spaced_from (with_gap r l p) b items f h
+spaced_from p b (Mark s ∷ items) f h = absurd f
+spaced_from p b (Late i ∷ items) f h = absurd f
+
+-- bytes that show items of which each is there, in its place
+pub spaced_by_fixed : FixedAreSpaced
+spaced_by_fixed b items f h = spaced_from at_start b items f h

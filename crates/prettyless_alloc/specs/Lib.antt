@@ -1,5 +1,6 @@
 pub mod Lists
 pub mod Shown
+pub mod SpacedItems
 pub mod Words
 pub use Rattle.prettyless_build.specs.Built
 pub use Rattle.prettyless_build.specs.Iterated

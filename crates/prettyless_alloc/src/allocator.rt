@@ -1,4 +1,4 @@
-ghost use Rattle.std.specs.Prelude.{◌≡◌, ◌<◌, IfOk, IfErr, IsOk, IsOkAnd, map};
+ghost use Rattle.std.specs.Prelude.{◌≡◌, ◌<◌, IfOk, IfErr, IsOk, map};
 ghost use Rattle.std.specs.Cow.{cow_str_bytes};
 ghost use Rattle.prettyless_doc.specs.Tree.{Nil, Fail, Text as TextTree, WeakSpace, HardLine, WeakLine, ExpandParent};
 ghost use Rattle.prettyless_doc.specs.BuildErrors.{IsMemory};
@@ -31,11 +31,13 @@ pub trait DocAllocator<'a>: DocPlace<'a> {
 
     /// Nothing. It takes no memory.
     fn nil(&'a self) -> Result<DocBuilder<'a, Self>, BuildError>
-        ensures { IsOkAnd result (λ b. built Self.Doc.tree b.1 ≡ Nil) };
+        ensures ok { IfOk result (λ b. built Self.Doc.tree b.1 ≡ Nil) }
+        ensures err { IfErr result to.IsNever };
 
     /// A document that cannot be laid: a render that comes to it fails. It takes no memory.
     fn fail(&'a self) -> Result<DocBuilder<'a, Self>, BuildError>
-        ensures { IsOkAnd result (λ b. built Self.Doc.tree b.1 ≡ Fail) };
+        ensures ok { IfOk result (λ b. built Self.Doc.tree b.1 ≡ Fail) }
+        ensures err { IfErr result to.IsNever };
 
     /// A text that counts as one column a byte, also where it is empty or not ASCII. Only an owned
     /// text takes memory, and fails where that is refused.
@@ -61,7 +63,7 @@ pub trait DocAllocator<'a>: DocPlace<'a> {
         &'a self,
         value: V,
     ) -> Result<DocBuilder<'a, Self>, BuildError>
-        ensures { IfOk result (λ b. counted.IsStringOf (V.output value)
+        ensures ok { IfOk result (λ b. counted.IsStringOf (V.output value)
             (built Self.Doc.tree b.1)) };
 
     /// A text whose line ends, each LF or CR, are written as they are, with no indent after them. It keeps the groups
@@ -79,20 +81,24 @@ pub trait DocAllocator<'a>: DocPlace<'a> {
 
     /// A line break. It keeps the groups around it from being flat, and fails under `flatten`. It takes no memory.
     fn hard_line(&'a self) -> Result<DocBuilder<'a, Self>, BuildError>
-        ensures { IsOkAnd result (λ b. built Self.Doc.tree b.1 ≡ HardLine) };
+        ensures ok { IfOk result (λ b. built Self.Doc.tree b.1 ≡ HardLine) }
+        ensures err { IfErr result to.IsNever };
 
     /// `hard_line` by another name.
     fn hardline(&'a self) -> Result<DocBuilder<'a, Self>, BuildError>
-        ensures { IsOkAnd result (λ b. built Self.Doc.tree b.1 ≡ HardLine) };
+        ensures ok { IfOk result (λ b. built Self.Doc.tree b.1 ≡ HardLine) }
+        ensures err { IfErr result to.IsNever };
 
     /// A line break, under `flatten` too. It keeps the groups around it from being flat. It is nothing on a fresh line
     /// where no suffix is pending. It takes no memory.
     fn weak_line(&'a self) -> Result<DocBuilder<'a, Self>, BuildError>
-        ensures { IsOkAnd result (λ b. built Self.Doc.tree b.1 ≡ WeakLine) };
+        ensures ok { IfOk result (λ b. built Self.Doc.tree b.1 ≡ WeakLine) }
+        ensures err { IfErr result to.IsNever };
 
     /// The text of one space. It takes no memory.
     fn space(&'a self) -> Result<DocBuilder<'a, Self>, BuildError>
-        ensures { IsOkAnd result (λ b. built Self.Doc.tree b.1 ≡ lines.space) };
+        ensures ok { IfOk result (λ b. built Self.Doc.tree b.1 ≡ lines.space) }
+        ensures err { IfErr result to.IsNever };
 
     /// So many spaces, in texts of at most 100. Up to 100 it takes no memory; beyond that memory can
     /// fail.
@@ -103,29 +109,35 @@ pub trait DocAllocator<'a>: DocPlace<'a> {
     /// A space; nothing at the start of a line, and nothing at its end unless a suffix is pending there. It takes no
     /// memory.
     fn weak_space(&'a self) -> Result<DocBuilder<'a, Self>, BuildError>
-        ensures { IsOkAnd result (λ b. built Self.Doc.tree b.1 ≡ WeakSpace) };
+        ensures ok { IfOk result (λ b. built Self.Doc.tree b.1 ≡ WeakSpace) }
+        ensures err { IfErr result to.IsNever };
 
     /// Nothing, but it keeps the groups around it from being flat. It takes no memory.
     fn expand_parent(&'a self) -> Result<DocBuilder<'a, Self>, BuildError>
-        ensures { IsOkAnd result (λ b. built Self.Doc.tree b.1 ≡ ExpandParent) };
+        ensures ok { IfOk result (λ b. built Self.Doc.tree b.1 ≡ ExpandParent) }
+        ensures err { IfErr result to.IsNever };
 
     /// A line break, or one space where lines are flat. It fails where memory is refused.
     fn line(&'a self) -> Result<DocBuilder<'a, Self>, BuildError>
-        ensures { to.Builds result (λ b. built Self.Doc.tree b.1) lines.line };
+        ensures ok { IfOk result (λ b. built Self.Doc.tree b.1 ≡ lines.line) }
+        ensures err { IfErr result IsMemory };
 
     /// A line break, or nothing where lines are flat. It fails where memory is refused.
     fn line_(&'a self) -> Result<DocBuilder<'a, Self>, BuildError>
-        ensures { to.Builds result (λ b. built Self.Doc.tree b.1) lines.line_ };
+        ensures ok { IfOk result (λ b. built Self.Doc.tree b.1 ≡ lines.line_) }
+        ensures err { IfErr result IsMemory };
 
     /// One space, or a line break where what follows, up to the next possible break, would go past the width.
     /// It fails where memory is refused.
     fn softline(&'a self) -> Result<DocBuilder<'a, Self>, BuildError>
-        ensures { to.Builds result (λ b. built Self.Doc.tree b.1) to.softline };
+        ensures ok { IfOk result (λ b. built Self.Doc.tree b.1 ≡ to.softline) }
+        ensures err { IfErr result IsMemory };
 
     /// Nothing, or a line break where what follows, up to the next possible break, would go past the width.
     /// It fails where memory is refused.
     fn softline_(&'a self) -> Result<DocBuilder<'a, Self>, BuildError>
-        ensures { to.Builds result (λ b. built Self.Doc.tree b.1) to.softline_ };
+        ensures ok { IfOk result (λ b. built Self.Doc.tree b.1 ≡ to.softline_) }
+        ensures err { IfErr result IsMemory };
 
     /// The documents in order, with the separator in each gap: nothing if there is none. It fails where memory is
     /// refused.
@@ -259,7 +271,7 @@ impl<'a, D: DocPlace<'a>> DocAllocator<'a> for D {
     #[inline(always)]
     fn softline(&'a self) -> Result<DocBuilder<'a, D>, BuildError> {
         match self.constant(Constant::SoftLineOrSpace) {
-            Some(softline) => Ok(DocBuilder(self, BuildDoc::DocPtr(softline))),
+            Some(softline) => Ok(DocBuilder::from_doc(self, softline)),
             None => self.line()?.group(),
         }
     }
@@ -267,7 +279,7 @@ impl<'a, D: DocPlace<'a>> DocAllocator<'a> for D {
     #[inline(always)]
     fn softline_(&'a self) -> Result<DocBuilder<'a, D>, BuildError> {
         match self.constant(Constant::SoftLineOrNil) {
-            Some(softline) => Ok(DocBuilder(self, BuildDoc::DocPtr(softline))),
+            Some(softline) => Ok(DocBuilder::from_doc(self, softline)),
             None => self.line_()?.group(),
         }
     }

@@ -10,7 +10,7 @@ ghost use Rattle.prettyless_build.specs.Iterated.{GivesAll, GivesSome, GivesNext
 
 use crate::concat::append_all;
 use prettyless_build::{DocBuilder, Pretty};
-use prettyless_doc::{BuildDoc, BuildError, Doc, DocPlace};
+use prettyless_doc::{BuildError, Doc, DocPlace};
 
 /// The documents that every place of nodes can make of the items of an `I` and a separator `S`. The
 /// making of an item or of the separator can fail, and memory may be refused.
@@ -117,6 +117,6 @@ pub(crate) fn join_after<'a, D: DocPlace<'a>>(
     ensures { Builds result (λ b. built D.Doc.tree b.1)
         (append (append (built D.Doc.tree all.entry.1) (D.Doc.tree gap)) (built D.Doc.tree doc.entry.1)) }
 {
-    let gap = DocBuilder(all.0, BuildDoc::DocPtr(gap));
+    let gap = DocBuilder::from_doc(all.0, gap);
     all.join(gap)?.join(doc)
 }

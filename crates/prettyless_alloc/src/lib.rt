@@ -18,4 +18,4 @@ pub use allocator_of::DocAllocatorOf;
 pub use allocator_of_two::DocAllocatorOfTwo;
 pub use concat::DocAllocatorOver;
 pub use intersperse::DocAllocatorBetween;
-pub use shown::law_lists;
+pub use shown::{law_lists, law_spaced};

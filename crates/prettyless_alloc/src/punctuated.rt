@@ -6,7 +6,7 @@ ghost use Rattle.prettyless_build.specs.Built.{append};
 ghost use Rattle.prettyless_alloc.specs.Lists as lists;
 
 use prettyless_build::DocBuilder;
-use prettyless_doc::{BuildDoc, BuildError, DocPlace};
+use prettyless_doc::{BuildError, DocPlace};
 
 // The documents in order, each but the last with the mark after it.
 pub(crate) fn punctuated<'a, D: DocPlace<'a>>(
@@ -41,8 +41,8 @@ fn with_marks<'a, D: DocPlace<'a>>(
     let mut marked = Vec::new(place.memory());
     for doc in docs {
         let copy = place.clone_ptr(&mark)?;
-        let doc = DocBuilder(place, BuildDoc::DocPtr(doc));
-        let pair = doc.join(DocBuilder(place, BuildDoc::DocPtr(copy)))?;
+        let doc = DocBuilder::from_doc(place, doc);
+        let pair = doc.join(DocBuilder::from_doc(place, copy))?;
         marked.push(pair.into_doc()?)?;
     }
     Ok(marked)

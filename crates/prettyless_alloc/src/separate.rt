@@ -6,7 +6,7 @@ ghost use Rattle.prettyless_alloc.specs.Words.{intersperse};
 
 use crate::intersperse::join_after;
 use prettyless_build::DocBuilder;
-use prettyless_doc::{BuildDoc, BuildError, Doc, DocPlace};
+use prettyless_doc::{BuildError, Doc, DocPlace};
 
 // The documents in order, with the separator in each gap.
 pub(crate) fn separate<'a, D: DocPlace<'a>>(
@@ -22,10 +22,10 @@ pub(crate) fn separate<'a, D: DocPlace<'a>>(
     let Some(first) = docs.next() else {
         return Ok(DocBuilder::new(place, Doc::Nil));
     };
-    let mut all = DocBuilder(place, BuildDoc::DocPtr(first));
+    let mut all = DocBuilder::from_doc(place, first);
     for doc in docs {
         let copy = place.clone_ptr(&gap)?;
-        all = join_after(all, copy, DocBuilder(place, BuildDoc::DocPtr(doc)))?;
+        all = join_after(all, copy, DocBuilder::from_doc(place, doc))?;
     }
     Ok(all)
 }

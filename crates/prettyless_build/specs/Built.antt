@@ -38,6 +38,10 @@ pub record BuildsOfTwo {B : Type 0} (result : Result B BuildError) (seen : B →
   -- `Err`: one of the operands answered this error, or memory was refused.
   pub err : IfErr result (λ e. refuses_first e ⊎ refuses_second e ⊎ IsMemory e)
 
+-- no error: the call succeeds
+abbrev pub IsNever : BuildError → Type 0
+IsNever e = ⊥
+
 -- P of the pointer, if the document has one already
 abbrev pub IfPlaced : {T : Type 0} → BuildDoc T → (T → Type 0) → Type 0
 IfPlaced (Placed p) P = P p

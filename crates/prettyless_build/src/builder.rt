@@ -2,7 +2,7 @@ ghost use Rattle.std.specs.Prelude.{◌≡◌, ◌⊎◌, IfOk, IfErr, IsOkAnd, 
 ghost use Rattle.prettyless_doc.specs.Tree.{Tree, Fail};
 ghost use Rattle.prettyless_doc.specs.BuildErrors.{IsMemory};
 ghost use Rattle.prettyless_doc.specs.DocTree.{tree_of, built};
-ghost use Rattle.prettyless_doc.specs.declared.doc.BuildDoc.TheVariants.{Doc as Plain};
+ghost use Rattle.prettyless_doc.specs.declared.doc.BuildDoc.TheVariants.{DocPtr as Placed, Doc as Plain};
 ghost use Rattle.prettyless_build.specs.Built as to;
 
 use crate::nodes::around;
@@ -28,6 +28,15 @@ impl<'a, D: DocPlace<'a>> DocBuilder<'a, D> {
         ensures { result.1 ≡ Plain doc.entry }
     {
         DocBuilder(allocator, BuildDoc::Doc(doc))
+    }
+
+    /// The document that a pointer leads to, which takes no memory: `into_doc` gives the pointer back.
+    #[inline(always)]
+    pub fn from_doc(allocator: &'a D, pointer: D::Doc) -> Self
+        ensures tree { built D.Doc.tree result.1 ≡ D.Doc.tree pointer }
+        ensures placed { result.1 ≡ Placed pointer }
+    {
+        DocBuilder(allocator, BuildDoc::DocPtr(pointer))
     }
 
     /// The node, wherever it is.
@@ -123,11 +132,11 @@ impl<'a, D: DocPlace<'a>> DocBuilder<'a, D> {
     /// hard line break or a payload, which no flat line holds, becomes a document that fails. Neither takes
     /// memory; else memory may be refused.
     pub fn flatten(self) -> Result<Self, BuildError>
-        ensures builds { to.BuildsOrKeeps result (λ b. built D.Doc.tree b.1)
-            (to.flatten (built D.Doc.tree self.entry.1))
-            (to.keeps_flattened (built D.Doc.tree self.entry.1)) self.entry }
+        ensures ok { IfOk result (λ b. built D.Doc.tree b.1 ≡ to.flatten (built D.Doc.tree self.entry.1)) }
+        ensures same { IsTrue (to.keeps_flattened (built D.Doc.tree self.entry.1)) → result ≡ Ok self.entry }
         ensures hard { IsTrue (to.is_hard (built D.Doc.tree self.entry.1))
             → IsOkAnd result (λ b. built D.Doc.tree b.1 ≡ Fail) }
+        ensures err { IfErr result IsMemory }
     {
         match self.doc() {
             Doc::Nil | Doc::Text(_) | Doc::TextWithLen(_, _) | Doc::Flatten(_) => Ok(self),

@@ -7,7 +7,7 @@ ghost use Rattle.prettyless_build.specs.Built as to;
 use crate::builder::DocBuilder;
 use crate::nodes::of_two;
 use prettyless_doc::parts::Pair;
-use prettyless_doc::{BuildDoc, BuildError, Doc, DocPlace};
+use prettyless_doc::{BuildError, Doc, DocPlace};
 
 impl<'a, D: DocPlace<'a>> DocBuilder<'a, D> {
     /// So many copies of this document, one after the other, also where it is nothing. None is
@@ -26,7 +26,7 @@ impl<'a, D: DocPlace<'a>> DocBuilder<'a, D> {
                 let allocator = self.0;
                 let original = self.into_doc()?;
                 let front = copies(allocator, &original, count - 2)?;
-                let last = DocBuilder(allocator, BuildDoc::DocPtr(original));
+                let last = DocBuilder::from_doc(allocator, original);
                 of_two(Pair::Append, front, last)
             }
         }
@@ -49,9 +49,9 @@ fn copies<'a, D: DocPlace<'a>>(
     ensures ok { IfOk result (λ b. built D.Doc.tree b.1 ≡ to.chain more (D.Doc.tree original.now)) }
     ensures err { IfErr result IsMemory }
 {
-    let mut all = DocBuilder(allocator, BuildDoc::DocPtr(allocator.clone_ptr(original)?));
+    let mut all = DocBuilder::from_doc(allocator, allocator.clone_ptr(original)?);
     for _ in 0..more {
-        let copy = DocBuilder(allocator, BuildDoc::DocPtr(allocator.clone_ptr(original)?));
+        let copy = DocBuilder::from_doc(allocator, allocator.clone_ptr(original)?);
         all = of_two(Pair::Append, all, copy)?;
     }
     Ok(all)

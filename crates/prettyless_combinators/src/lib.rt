@@ -122,21 +122,21 @@ pub fn dedent<T>(offset: usize, doc: T) -> Nest<T>
 
 /// The document, laid flat where it fits the line with what follows up to the next line break, and else broken.
 pub fn group<T>(doc: T) -> Group<T>
-    ensures { result.0 ≡ doc }
+    ensures inner { result.0 ≡ doc }
 {
     Group(doc)
 }
 
 /// The document with its indent at the column where it starts.
 pub fn align<T>(doc: T) -> Align<T>
-    ensures { result.0 ≡ doc }
+    ensures inner { result.0 ≡ doc }
 {
     Align(doc)
 }
 
 /// The document with indent 0.
 pub fn dedent_to_root<T>(doc: T) -> DedentToRoot<T>
-    ensures { result.0 ≡ doc }
+    ensures inner { result.0 ≡ doc }
 {
     DedentToRoot(doc)
 }
@@ -144,14 +144,14 @@ pub fn dedent_to_root<T>(doc: T) -> DedentToRoot<T>
 /// The document, laid flat whether it fits or not. A hard line or a payload shown in it fails; a weak line still
 /// breaks.
 pub fn flatten<T>(doc: T) -> Flatten<T>
-    ensures { result.0 ≡ doc }
+    ensures inner { result.0 ≡ doc }
 {
     Flatten(doc)
 }
 
 /// The document as a line suffix, pending until its line ends, also where it is nothing.
 pub fn line_suffix<T>(doc: T) -> LineSuffix<T>
-    ensures { result.0 ≡ doc }
+    ensures inner { result.0 ≡ doc }
 {
     LineSuffix(doc)
 }

@@ -173,7 +173,7 @@ impl<'a, D: DocPtr<'a>> BuildDoc<'a, D> {
     /// Answers `Memory` where memory was refused, and `Display` where only the value's
     /// formatting failed.
     pub fn as_string<V: fmt::Display + Drop>(alloc: Global, value: V) -> Result<Self, BuildError>
-        ensures { IfOk result (λ d. to.IsStringOf (V.output value) (built D.tree d)) }
+        ensures ok { IfOk result (λ d. to.IsStringOf (V.output value) (built D.tree d)) }
     {
         Ok(BuildDoc::Doc(Doc::as_string(alloc, value)?))
     }

@@ -47,7 +47,7 @@ impl<'a, T: DocPtr<'a>> Doc<'a, T> {
     /// Answers `Memory` where memory was refused, and `Display` where only the value's
     /// formatting failed.
     pub fn as_string<V: fmt::Display + Drop>(alloc: Global, value: V) -> Result<Self, BuildError>
-        ensures { IfOk result (λ d. to.IsStringOf (V.output value) (tree_of T.tree d)) }
+        ensures ok { IfOk result (λ d. to.IsStringOf (V.output value) (tree_of T.tree d)) }
     {
         Ok(Doc::counted(Text::from_display(alloc, value)?))
     }

@@ -81,7 +81,7 @@ pub trait PlacedDoc<'a, D: DocPlace<'a, Doc = Self>>: DocPtr<'a> {
     /// Answers `Memory` where memory was refused, and `Display` where only the value's
     /// formatting failed.
     fn as_string<V: fmt::Display + Drop>(place: &'a D, value: V) -> Result<Self, BuildError>
-        ensures { IfOk result (λ p. counted.IsStringOf (V.output value) (Self.tree p)) };
+        ensures ok { IfOk result (λ p. counted.IsStringOf (V.output value) (Self.tree p)) };
 
     /// A text whose line ends, each LF or CR, are written as they are, with no indent after them. It keeps the groups
     /// around it from being flat, and fails under `flatten`. Without one it is as `text` makes it.
@@ -180,17 +180,17 @@ impl<'a, D: DocPlace<'a, Doc = T>, T: DocPtr<'a>> PlacedDoc<'a, D> for T {
     }
 
     fn group(self, place: &'a D) -> Result<T, BuildError> {
-        placed(DocBuilder(place, BuildDoc::DocPtr(self)).group())
+        placed(DocBuilder::from_doc(place, self).group())
     }
 
     fn nest(self, place: &'a D, offset: isize) -> Result<T, BuildError> {
-        placed(DocBuilder(place, BuildDoc::DocPtr(self)).nest(offset))
+        placed(DocBuilder::from_doc(place, self).nest(offset))
     }
 
     fn union(self, place: &'a D, that: BuildDoc<'a, T>) -> Result<T, BuildError>
         ensures { to.Builds result T.tree (Union (T.tree self) (built T.tree that.entry)) }
     {
-        placed(DocBuilder(place, BuildDoc::DocPtr(self)).union(that))
+        placed(DocBuilder::from_doc(place, self).union(that))
     }
 }
 
@@ -218,11 +218,11 @@ impl<'a, D: DocPlace<'a, Doc = T>, P: Pretty<'a, D>, T: DocPtr<'a>> PlacedDocOf<
         if that.doc().is_nil() {
             return Ok(self);
         }
-        placed(DocBuilder(place, BuildDoc::DocPtr(self)).join(that))
+        placed(DocBuilder::from_doc(place, self).join(that))
     }
 
     fn flat_alt(self, place: &'a D, that: P) -> Result<T, BuildError> {
-        placed(DocBuilder(place, BuildDoc::DocPtr(self)).flat_alt(that))
+        placed(DocBuilder::from_doc(place, self).flat_alt(that))
     }
 }
 

@@ -60,7 +60,7 @@ impl<'a> Pretty<'a, Arena<'a>> for RefDoc<'a> {
 
     #[inline(always)]
     fn pretty(self, allocator: &'a Arena<'a>) -> Result<DocBuilder<'a, Arena<'a>>, BuildError> {
-        Ok(DocBuilder(allocator, BuildDoc::DocPtr(self)))
+        Ok(DocBuilder::from_doc(allocator, self))
     }
 }
 

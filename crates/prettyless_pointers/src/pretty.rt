@@ -5,7 +5,7 @@ ghost use Rattle.prettyless_pointers.specs.Trees.{box_tree, rc_tree};
 use crate::boxes::{BoxAllocator, BoxDoc};
 use crate::rc::{RcAllocator, RcDoc};
 use prettyless_build::{DocBuilder, Pretty};
-use prettyless_doc::{BuildDoc, BuildError};
+use prettyless_doc::BuildError;
 
 /// Itself. It takes no memory.
 impl<'a> Pretty<'a, BoxAllocator> for BoxDoc<'a> {
@@ -17,7 +17,7 @@ impl<'a> Pretty<'a, BoxAllocator> for BoxDoc<'a> {
         self,
         allocator: &'a BoxAllocator,
     ) -> Result<DocBuilder<'a, BoxAllocator>, BuildError> {
-        Ok(DocBuilder(allocator, BuildDoc::DocPtr(self)))
+        Ok(DocBuilder::from_doc(allocator, self))
     }
 }
 
@@ -28,6 +28,6 @@ impl<'a> Pretty<'a, RcAllocator> for RcDoc<'a> {
     ghost refuses = { λ _ _. ⊥ };
 
     fn pretty(self, nodes: &'a RcAllocator) -> Result<DocBuilder<'a, RcAllocator>, BuildError> {
-        Ok(DocBuilder(nodes, BuildDoc::DocPtr(self)))
+        Ok(DocBuilder::from_doc(nodes, self))
     }
 }

@@ -12,8 +12,8 @@ use Rattle.prettyless_alloc.specs.Words.{intersperse}
 use Rattle.prettyless_alloc.proofs.ShownItems.{append_shows, enclose_shows, nest_shows, group_shows, line_suffix_shows, flat_alt_shows, if_group_break_shows}
 use Rattle.prettyless_alloc.proofs.ShownItems.{text_shows, space_shows, line_shows, line__shows, softline_shows, hard_line_shows}
 use Rattle.prettyless_alloc.proofs.ShownItems.{intersperse_shows, punctuated_shows, marks_stand_in_gaps}
-use Rattle.prettyless_shapes.specs.Items.{ShowsBoth, ShowsMore, ShowsSame, ShowsList, mark_items, edge_item, trail_items, member_items, list_items}
-use Rattle.prettyless_shapes.specs.Shapes.{gapped, hanging, remarked, late_remarked, edge, gap, trail, members, inside, list}
+use Rattle.prettyless_shapes.specs.Items.{ShowsAll, ShowsBlock, ShowsBoth, ShowsMore, ShowsSame, ShowsList, mark_items, edge_item, trail_items, member_items, list_items}
+use Rattle.prettyless_shapes.specs.Shapes.{gapped, block, hanging, remarked, late_remarked, edge, gap, trail, members, inside, list}
 use Rattle.prettyless_shapes.specs.declared.lists.ListStyle.{ListStyle}
 
 -- ---- gaps
@@ -47,6 +47,23 @@ hanging_shows x y columns xs ys h k =
     let nested = nest_shows (pos columns) (append line y) (apart ∷ ys) after_line in
     append_shows x (group (nest (pos columns) (append line y))) xs (apart ∷ ys) h
     (group_shows (nest (pos columns) (append line y)) (apart ∷ ys) nested)
+
+-- line ends behind two front parts, as they stand in items
+block_items : (first items last : List Item)
+    → (first ++ (ended ∷ items)) ++ (ended ∷ last) ≡ first ++ (ended ∷ (items ++ (ended ∷ last)))
+block_items first items last = append_assoc first (ended ∷ items) (ended ∷ last)
+
+pub block_shows : (before x after : Tree) (columns : ℕ) → ShowsBlock before x after (block before x after columns)
+block_shows before x after columns first items last h i j =
+    let below = append_shows HardLine x (ended ∷ []) items hard_line_shows i in
+    let nested = nest_shows (pos columns) (append HardLine x) (ended ∷ items) below in
+    let front = append before (nest (pos columns) (append HardLine x)) in
+    let front_shows = append_shows before (nest (pos columns) (append HardLine x)) first (ended ∷ items) h nested in
+    subst (shows (block before x after columns)) (block_items first items last)
+    (gapped_shows front HardLine after (ended ∷ []) hard_line_shows (first ++ (ended ∷ items)) last front_shows j)
+
+pub stacked_all_shows : (xs : List Tree) → ShowsAll (ended ∷ []) xs (intersperse HardLine xs)
+stacked_all_shows xs lists each = intersperse_shows HardLine xs (ended ∷ []) lists hard_line_shows each
 
 -- ---- remarks
 

@@ -2,7 +2,7 @@
 use Rattle.std.specs.Prelude.{ℕ, List, [], ◌∷◌, ◌++◌, if◌then◌else◌}
 use Rattle.std.specs.List.{AllZip}
 use Rattle.prettyless_doc.specs.Tree.{Tree}
-use Rattle.prettyless_model.specs.Shows.{Item, Mark, apart, loose, shows}
+use Rattle.prettyless_model.specs.Shows.{Item, Mark, apart, ended, loose, shows}
 use Rattle.prettyless_alloc.specs.Shown.{text_items, with_gaps}
 use Rattle.prettyless_shapes.specs.declared.lists.ListStyle.{ListStyle}
 
@@ -18,7 +18,16 @@ ShowsMore x more z = (xs : List Item) → shows x xs → shows z (xs ++ more)
 abbrev pub ShowsSame : Tree → Tree → Type 0
 ShowsSame x z = (xs : List Item) → shows x xs → shows z xs
 
+-- the last tree shows what the first three show, with a line end in each gap
+abbrev pub ShowsBlock : Tree → Tree → Tree → Tree → Type 0
+ShowsBlock before x after z =
+    (first items last : List Item) → shows before first → shows x items → shows after last → shows z (first ++ (ended ∷ (items ++ (ended ∷ last))))
+
 -- ---- lists
+
+-- a tree shows what these trees show, with such a gap between two
+abbrev pub ShowsAll : List Item → List Tree → Tree → Type 0
+ShowsAll gap xs z = (lists : List (List Item)) → AllZip shows xs lists → shows z (with_gaps gap lists)
 
 -- a text that may be left out, unless it is empty
 abbrev pub mark_items : List ℕ → List Item

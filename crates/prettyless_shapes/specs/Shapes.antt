@@ -16,6 +16,10 @@ gapped x gap y = append (append x gap) y
 abbrev pub hanging : Tree → Tree → ℕ → Tree
 hanging x y columns = append x (group (nest (pos columns) (append line y)))
 
+-- a tree, a second below it, nested by so many columns, and a third below that
+abbrev pub block : Tree → Tree → Tree → ℕ → Tree
+block before x after columns = gapped (append before (nest (pos columns) (append HardLine x))) HardLine after
+
 -- a tree, a space, a remark and a line end
 abbrev pub remarked : Tree → List ℕ → Tree
 remarked x remark = append (gapped x space (text remark)) HardLine

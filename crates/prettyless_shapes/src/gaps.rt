@@ -1,17 +1,18 @@
 //! Two documents with a gap between them, and one with a line break after it.
-ghost use Rattle.std.specs.Prelude.{◌≡◌, [], ◌∷◌, IfOk, IfErr};
+ghost use Rattle.std.specs.Prelude.{◌≡◌, [], ◌∷◌, IfOk, IfErr, map};
 ghost use Rattle.prettyless_model.specs.Shows.{apart, ended, spaced};
 ghost use Rattle.prettyless_doc.specs.BuildErrors.{IsMemory};
 ghost use Rattle.prettyless_doc.specs.DocTree.{built};
 ghost use Rattle.prettyless_doc.specs.Lines.{line, space};
 ghost use Rattle.prettyless_doc.specs.Tree.{HardLine};
 ghost use Rattle.prettyless_build.specs.Built.{append};
-ghost use Rattle.prettyless_shapes.specs.Items.{ShowsBoth, ShowsMore};
+ghost use Rattle.prettyless_alloc.specs.Words.{intersperse};
+ghost use Rattle.prettyless_shapes.specs.Items.{ShowsAll, ShowsBoth, ShowsMore};
 ghost use Rattle.prettyless_shapes.specs.Shapes.{gapped};
 
 use prettyless_alloc::DocAllocator;
 use prettyless_build::DocBuilder;
-use prettyless_doc::{BuildDoc, BuildError, DocPlace};
+use prettyless_doc::{BuildError, DocPlace};
 
 // A document, and one in the making after it.
 pub(crate) fn followed<'a, D: DocPlace<'a>>(
@@ -22,9 +23,7 @@ pub(crate) fn followed<'a, D: DocPlace<'a>>(
     ensures ok { IfOk result (λ p. D.Doc.tree p ≡ append (D.Doc.tree doc) (built D.Doc.tree next.entry.1)) }
     ensures err { IfErr result IsMemory }
 {
-    DocBuilder(place, BuildDoc::DocPtr(doc))
-        .join(next)?
-        .into_doc()
+    DocBuilder::from_doc(place, doc).join(next)?.into_doc()
 }
 
 /// The two documents side by side, with nothing between them. It fails where memory is refused.
@@ -37,7 +36,7 @@ pub fn joined<'a, D: DocPlace<'a>>(
     ensures items { IfOk result (λ p. ShowsBoth (D.Doc.tree first) [] (D.Doc.tree next) (D.Doc.tree p)) }
     ensures err { IfErr result IsMemory }
 {
-    followed(place, first, DocBuilder(place, BuildDoc::DocPtr(next)))
+    followed(place, first, DocBuilder::from_doc(place, next))
 }
 
 /// The two documents with one space between them, also where one of them is nothing. It fails where memory is refused.
@@ -81,6 +80,20 @@ pub fn stacked<'a, D: DocPlace<'a>>(
     ensures err { IfErr result IsMemory }
 {
     joined(place, ended(place, first)?, next)
+}
+
+/// The documents, each below the one before: a line break is between two, also where one of them is nothing. Nothing, where
+/// there is no document. It keeps the groups around it from being flat, and fails where memory is refused.
+pub fn stacked_all<'a, D: DocPlace<'a>>(
+    place: &'a D,
+    docs: Vec<D::Doc>,
+) -> Result<D::Doc, BuildError>
+    ensures ok { IfOk result (λ p. D.Doc.tree p ≡ intersperse HardLine (map D.Doc.tree docs.items)) }
+    ensures items { IfOk result (λ p. ShowsAll (ended ∷ []) (map D.Doc.tree docs.items) (D.Doc.tree p)) }
+    ensures err { IfErr result IsMemory }
+{
+    let gap = place.hard_line()?;
+    place.separate(docs, gap)?.into_doc()
 }
 
 /// The document with a line break after it, also where it is nothing. It keeps the groups around it from being flat, and

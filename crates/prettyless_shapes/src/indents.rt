@@ -4,13 +4,13 @@ ghost use Rattle.prettyless_model.specs.Shows.{apart};
 ghost use Rattle.prettyless_doc.specs.BuildErrors.{IsMemory};
 ghost use Rattle.prettyless_doc.specs.Tree.{ExpandParent};
 ghost use Rattle.prettyless_build.specs.Built.{append, group, nest};
-ghost use Rattle.prettyless_shapes.specs.Items.{ShowsBoth, ShowsSame};
+ghost use Rattle.prettyless_shapes.specs.Items.{ShowsBlock, ShowsBoth, ShowsSame};
 ghost use Rattle.prettyless_shapes.specs.Shapes as shapes;
 
-use crate::gaps::followed;
+use crate::gaps::{followed, stacked};
 use prettyless_alloc::DocAllocator;
 use prettyless_build::DocBuilder;
-use prettyless_doc::{BuildDoc, BuildError, DocPlace};
+use prettyless_doc::{BuildError, DocPlace};
 
 /// The document with its lines but the first so many columns further in. It fails where memory is refused.
 pub fn indented<'a, D: DocPlace<'a>>(
@@ -22,7 +22,7 @@ pub fn indented<'a, D: DocPlace<'a>>(
     ensures items { IfOk result (λ p. ShowsSame (D.Doc.tree doc) (D.Doc.tree p)) }
     ensures err { IfErr result IsMemory }
 {
-    DocBuilder(place, BuildDoc::DocPtr(doc))
+    DocBuilder::from_doc(place, doc)
         .nest(columns as isize)?
         .into_doc()
 }
@@ -34,7 +34,7 @@ pub fn grouped<'a, D: DocPlace<'a>>(place: &'a D, doc: D::Doc) -> Result<D::Doc,
     ensures items { IfOk result (λ p. ShowsSame (D.Doc.tree doc) (D.Doc.tree p)) }
     ensures err { IfErr result IsMemory }
 {
-    DocBuilder(place, BuildDoc::DocPtr(doc)).group()?.into_doc()
+    DocBuilder::from_doc(place, doc).group()?.into_doc()
 }
 
 /// The document, with the groups around it kept from being flat. It fails where memory is refused.
@@ -59,7 +59,28 @@ pub fn hanging<'a, D: DocPlace<'a>>(
     ensures items { IfOk result (λ p. ShowsBoth (D.Doc.tree first) (apart ∷ []) (D.Doc.tree next) (D.Doc.tree p)) }
     ensures err { IfErr result IsMemory }
 {
-    let next = DocBuilder(place, BuildDoc::DocPtr(next));
+    let next = DocBuilder::from_doc(place, next);
     let next = place.line()?.join(next)?.nest(columns as isize)?.group()?;
     followed(place, first, next)
+}
+
+/// The second document below the first, so many columns further in, and the third below that, as far in as the first. A line
+/// break is between two, also where one of them is nothing. It keeps the groups around it from being flat, and fails where
+/// memory is refused.
+pub fn block<'a, D: DocPlace<'a>>(
+    place: &'a D,
+    before: D::Doc,
+    doc: D::Doc,
+    after: D::Doc,
+    columns: u32,
+) -> Result<D::Doc, BuildError>
+    ensures ok { IfOk result (λ p. D.Doc.tree p
+        ≡ shapes.block (D.Doc.tree before) (D.Doc.tree doc) (D.Doc.tree after) columns) }
+    ensures items { IfOk result (λ p.
+        ShowsBlock (D.Doc.tree before) (D.Doc.tree doc) (D.Doc.tree after) (D.Doc.tree p)) }
+    ensures err { IfErr result IsMemory }
+{
+    let doc = DocBuilder::from_doc(place, doc);
+    let inside = place.hard_line()?.join(doc)?.nest(columns as isize)?;
+    stacked(place, followed(place, before, inside)?, after)
 }

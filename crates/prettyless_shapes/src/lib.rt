@@ -12,8 +12,8 @@ mod remarks;
 mod tests;
 mod texts;
 
-pub use gaps::{ended, joined, lined, spaced, stacked};
-pub use indents::{broken, grouped, hanging, indented};
+pub use gaps::{ended, joined, lined, spaced, stacked, stacked_all};
+pub use indents::{block, broken, grouped, hanging, indented};
 pub use lists::{ListStyle, list};
 pub use remarks::{with_late_remark, with_remark};
 pub use texts::{nil, text};

@@ -1,7 +1,7 @@
 //! What each shape is laid out as where it fits its line, and where it does not.
 use crate::{
-    ListStyle, broken, ended, grouped, hanging, indented, joined, lined, list, nil, spaced,
-    stacked, text, with_late_remark, with_remark,
+    ListStyle, block, broken, ended, grouped, hanging, indented, joined, lined, list, nil, spaced,
+    stacked, stacked_all, text, with_late_remark, with_remark,
 };
 use prettyless_doc::{BuildError, DocPlace, DocPtr};
 use prettyless_pointers::BoxAllocator;
@@ -61,6 +61,11 @@ fn assignment<'a, D: DocPlace<'a>>(place: &'a D) -> Result<D::Doc, BuildError> {
     hanging(place, text(place, "key =")?, text(place, "value")?, 2)
 }
 
+fn braces<'a, D: DocPlace<'a>>(place: &'a D) -> Result<D::Doc, BuildError> {
+    let inside = stacked_all(place, letters(place)?)?;
+    block(place, text(place, "{")?, inside, text(place, "}")?, 2)
+}
+
 fn remarked<'a, D: DocPlace<'a>>(place: &'a D) -> Result<D::Doc, BuildError> {
     let front = with_remark(place, text(place, "a")?, "# why")?;
     joined(place, front, text(place, ",")?)
@@ -117,6 +122,8 @@ fn indents(rt: HostRuntime) {
     compare(&rt, &boxes, never_flat(&boxes), &[(80, "a\nb")]);
     let layouts = [(11, "key = value"), (10, "key =\n  value")];
     compare(&rt, &boxes, assignment(&boxes), &layouts);
+    let layouts = [(80, "{\n  a\n  b\n  c\n}"), (0, "{\n  a\n  b\n  c\n}")];
+    compare(&rt, &boxes, braces(&boxes), &layouts);
 }
 
 #[test]

@@ -12,7 +12,7 @@ ghost use Rattle.sexp_formatter.specs.Documents.{document_of, interspersed};
 use crate::error::RunError;
 use crate::expression::SExp;
 use prettyless::text::BuildError;
-use prettyless::{Arena, BuildDoc, Doc, DocAllocator, DocBuilder, DocPlace, RefDoc};
+use prettyless::{Arena, Doc, DocAllocator, DocBuilder, DocPlace, RefDoc};
 
 /// Where S-expressions are built. It knows no lifetime, so that functions that call each other may have it as a bound.
 trait SexpPlace: Copy {
@@ -65,7 +65,7 @@ impl<'a, D: DocPlace<'a>> SexpPlace for &'a D {
     }
 
     fn list(self, inside: D::Doc) -> Result<D::Doc, BuildError> {
-        let inside = DocBuilder(self, BuildDoc::DocPtr(inside));
+        let inside = DocBuilder::from_doc(self, inside);
         inside.nest(1)?.group()?.parens()?.into_doc()
     }
 
@@ -90,10 +90,8 @@ fn joined<'a, D: DocPlace<'a>>(
 ) -> Result<D::Doc, BuildError>
     ensures { IfOk result (λ p. D.Doc.tree p ≡ append (D.Doc.tree front) (D.Doc.tree next)) }
 {
-    let next = DocBuilder(place, BuildDoc::DocPtr(next));
-    DocBuilder(place, BuildDoc::DocPtr(front))
-        .join(next)?
-        .into_doc()
+    let next = DocBuilder::from_doc(place, next);
+    DocBuilder::from_doc(place, front).join(next)?.into_doc()
 }
 
 /// The document of an S-expression.

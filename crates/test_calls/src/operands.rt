@@ -1,7 +1,7 @@
 //! Pointers as operands, in each place of nodes.
-use crate::expected::{is_made, shows};
+use crate::expected::shows;
 use prettyless::prelude::*;
-use prettyless::{BuildDoc, Doc, DocBuilder, DocPtr};
+use prettyless::{Doc, DocBuilder, DocPtr};
 use std::process::Abort;
 
 fn line<'a, D: DocPlace<'a>>(rt: &impl Abort, place: &'a D) -> D::Doc {
@@ -26,5 +26,6 @@ pub(crate) fn pointers<'a, D: DocPlace<'a, Doc = T>, T: DocPtr<'a> + Pretty<'a, 
 // A builder takes the pointer as it is: the proof of a call that meets the bounds of `pointers` with counted owners is
 // beyond the prover's limits.
 pub(crate) fn pointed<'a, D: DocPlace<'a>>(rt: &impl Abort, place: &'a D) {
-    is_made(rt, place, BuildDoc::DocPtr(line(rt, place)), "WeakLine");
+    let pointed = DocBuilder::from_doc(place, line(rt, place));
+    shows(rt, Ok(pointed), "WeakLine");
 }

@@ -18,5 +18,5 @@ counts_digits n small = rw (all_ascii (decimal n) (IsAscii-decimal n small)) ref
 
 pub returns : goal.returns
 returns g c =
-    let shown = c.in_ok-as_string.ensures in
+    let shown = c.in_ok-as_string.ensures.ok in
     c.in_ok-into_doc.ensures.ok ∙ shown.1 ∙ ap as_string shown.2 ∙ counts_digits c.args.number (omega arith)

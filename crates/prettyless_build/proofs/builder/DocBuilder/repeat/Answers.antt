@@ -1,4 +1,4 @@
-use Rattle.std.proofs.Common.{rules, ◌≡◌, ◌≤◌, ◌<◌, arith}
+use Rattle.std.proofs.Common.{rules, ap, ◌≡◌, ◌∙◌, ◌≤◌, ◌<◌, arith}
 use Rattle.std.proofs.lemmas.Result.{IfOk-weaker, IfErr-weaker}
 use Rattle.prettyless_doc.specs.BuildErrors.{IsMemory}
 use Rattle.prettyless_doc.specs.DocTree.{built}
@@ -27,9 +27,11 @@ returns-clause-ok g c =
     let more : 2 ≤ c.args.count = omega arith in
     let tree = g.D.Doc.DocPtr.tree in
     let front : Tree = built tree c.in_ok-front-in_default.front.1 in
-    let last : Tree = tree c.in_ok-original-in_default.original in
+    let last : Tree = built tree c.from_doc-last.result.1 in
+    let original : Tree = tree c.in_ok-original-in_default.original in
+    let same = ap (Append front) c.from_doc-last.ensures.tree in
     IfOk-weaker c.of_two.result (λ b. built tree b.1 ≡ Append front last) _
-    (λ b made. repeated c.args.count _ front last _ more made c.in_ok-front-in_default.ensures.ok c.in_ok-original-in_default.ensures.ok)
+    (λ b made. repeated c.args.count _ front original _ more (made ∙ same) c.in_ok-front-in_default.ensures.ok c.in_ok-original-in_default.ensures.ok)
     c.of_two.ensures.ok
 
 pub returns-clause-same : goal.returns-clause-same

@@ -1,5 +1,4 @@
-use Rattle.std.proofs.Common.{refl}
 use Rattle.prettyless_pointers.proofs.pretty.BoxDocPrettyBoxAllocator.pretty.Goals as goal
 
 pub returns-clause-ok : goal.returns-clause-ok
-returns-clause-ok c = refl
+returns-clause-ok c = c.from_doc.ensures.tree
