@@ -91,7 +91,7 @@ cut-part (x ∷ s) i rest h = part_byte i x s rest h (λ n part. cut-part s n re
 -- ---- a whole lexeme
 
 -- no lexeme is longer than the text
-too_long : (x : ℕ) (s : List ℕ) → cut between s ≡ (x ∷ s) ∷ [] → ⊥
+pub too_long : (x : ℕ) (s : List ℕ) → cut between s ≡ (x ∷ s) ∷ [] → ⊥
 too_long x s e = go (subst (IsSpaced s) e (IsSpaced-lexemes s))
   where
     go : IsSpaced s ((x ∷ s) ∷ []) → ⊥

@@ -5,4 +5,6 @@ mod Firsts
 mod Remarks
 pub mod Gaps
 pub mod Kept
+mod Blanks
 pub mod Following
+pub mod Joined

@@ -1,7 +1,9 @@
 pub mod Bytes
 pub mod Lexemes
 pub mod Spaced
+pub mod SpacedLexemes
 pub mod Laws
 pub mod Modes
 pub mod View
 pub mod Lexer
+pub mod SpacedLexer

@@ -3,6 +3,7 @@ ghost use Rattle.std.specs.Str.{IsCharBoundary};
 ghost use Rattle.toml_lexemes.specs.Bytes as ascii;
 ghost use Rattle.toml_lexemes.specs.Lexemes.{begins, begins_line_feed, between, cut, first, within};
 ghost use Rattle.toml_lexemes.specs.Modes.{inner_of, is_after_quote};
+ghost use Rattle.toml_lexemes.specs.SpacedLexemes.{blanks};
 ghost use Rattle.toml_lexemes.specs.View.{text_of, IsNamed, IsFirst};
 
 use crate::lexeme::Lexeme;
@@ -14,6 +15,7 @@ pub(crate) fn blanks_end(bytes: &[u8], from: usize) -> usize
     requires { from ≤ length bytes.now }
     ensures bounds { (from ≤ result) × (result ≤ length bytes.now) }
     ensures cut { cut between (drop result bytes.now) ≡ cut between (drop from bytes.now) }
+    ensures blanks { blanks (drop from bytes.now) ≡ take (result - from) (drop from bytes.now) }
     ensures after { from < result → slice_index bytes.now (result - 1) < 128 }
     ensures stops { result < length bytes.now → ascii.is_blank (slice_index bytes.now result) ≡ false }
 {

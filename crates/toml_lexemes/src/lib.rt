@@ -7,10 +7,12 @@ mod laws;
 mod lexeme;
 mod lexer;
 mod mode;
+mod spaced;
 
-pub use laws::{law_following, law_gaps, law_spacing};
+pub use laws::{law_following, law_gaps, law_joined, law_spacing};
 pub use lexeme::Lexeme;
 pub use lexer::{Lexer, lexemes};
+pub use spaced::{Spaced, SpacedLexer};
 
 #[cfg(test)]
 mod tests;

@@ -1,4 +1,4 @@
-use crate::{Lexeme, lexemes};
+use crate::{Lexeme, Spaced, SpacedLexer, lexemes};
 use std::test::Fail;
 
 /// A file with all constructs of TOML.
@@ -124,5 +124,44 @@ fn cuts_what_is_no_toml(rt: HostRuntime) -> Result<(), Fail> {
         let found = lexemes(rt.alloc(), text)?;
         assert_eq!(rt; found.as_slice(), expected, "at {text:?}");
     }
+    Ok(())
+}
+
+/// Each lexeme has the blanks before it, and the end has those before it.
+#[test]
+fn hands_out_gaps(rt: HostRuntime) -> Result<(), Fail> {
+    let expected = [
+        Spaced {
+            gap: "\t",
+            lexeme: Some(Lexeme::Word("a")),
+        },
+        Spaced {
+            gap: " ",
+            lexeme: Some(Lexeme::Equals),
+        },
+        Spaced {
+            gap: "",
+            lexeme: Some(Lexeme::Word("1")),
+        },
+        Spaced {
+            gap: " \r",
+            lexeme: Some(Lexeme::LineEnd),
+        },
+        Spaced {
+            gap: " \t",
+            lexeme: None,
+        },
+    ];
+    let found: Vec<Spaced<'_>> = SpacedLexer::new("\ta =1 \r\n \t").collect(rt.alloc())?;
+    assert_eq!(rt; found.as_slice(), expected.as_slice());
+    let empty: Vec<Spaced<'_>> = SpacedLexer::new("").collect(rt.alloc())?;
+    assert_eq!(rt;
+        empty.as_slice(),
+        [Spaced {
+            gap: "",
+            lexeme: None
+        }]
+        .as_slice()
+    );
     Ok(())
 }
