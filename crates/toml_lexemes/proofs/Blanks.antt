@@ -3,7 +3,7 @@ use Rattle.std.proofs.Common.{◌≡◌, ℕ, ◌+◌, ◌-◌, ◌<◌, ◌≤�
 use Rattle.std.proofs.lemmas.List.{drop_more, drop_all, drop-drop, take_more, get_or-drop, length-take-le}
 use Rattle.toml_lexemes.specs.Bytes.{is_blank}
 use Rattle.toml_lexemes.specs.Lexemes.{between, cut}
-use Rattle.toml_lexemes.specs.SpacedLexemes.{after_gap, blanks, spaced_as, spaced}
+use Rattle.toml_lexemes.specs.SpacedLexemes.{after_gap, blanks, spaced_as, spaced_lexemes}
 use Rattle.toml_lexemes.specs.View.{IsFirst}
 
 pub blanks_cons : (x : ℕ) (xs : List ℕ) → is_blank x ≡ true → blanks (x ∷ xs) ≡ x ∷ blanks xs
@@ -42,7 +42,7 @@ module _ (d : List ℕ) (from place : ℕ) (le : from ≤ place) where
 
   -- the next lexeme with its gap, where these blanks stand before it
   pub next_spaced : (s : List ℕ) → place ≤ length d → blanks (drop from d) ≡ part → cut between (drop place d) ≡ cut between (drop from d)
-      → IsFirst d place s → spaced (drop from d) ≡ after_gap part s ∷ spaced (drop (place + length s) d)
+      → IsFirst d place s → spaced_lexemes (drop from d) ≡ after_gap part s ∷ spaced_lexemes (drop (place + length s) d)
   next_spaced s inside gap same first =
       let rest = cut between (drop (place + length s) d) in
       let long : from + (length part + length s) ≡ place + length s =
@@ -52,5 +52,5 @@ module _ (d : List ℕ) (from place : ℕ) (le : from ≤ place) where
       ∙ ap (λ l. after_gap part s ∷ spaced_as l rest) (drop-drop (length part + length s) from d ∙ ap (λ n. drop n d) long)
 
 -- the end, where no lexeme is left
-pub last_spaced : (bytes : List ℕ) → cut between bytes ≡ [] → spaced bytes ≡ after_gap bytes [] ∷ []
+pub last_spaced : (bytes : List ℕ) → cut between bytes ≡ [] → spaced_lexemes bytes ≡ after_gap bytes [] ∷ []
 last_spaced bytes none = ap (spaced_as bytes) none

@@ -6,7 +6,7 @@ use Rattle.std.proofs.lemmas.List.Elements.{All-from_recursion, All-head, All-ta
 use Rattle.toml_lexemes.specs.Bytes.{is_blank}
 use Rattle.toml_lexemes.specs.Lexemes.{between, passed, cut}
 use Rattle.toml_lexemes.specs.Spaced.{IsGap, IsSpaced}
-use Rattle.toml_lexemes.specs.SpacedLexemes.{Spaced, after_gap, blanks, spaced_as, spaced, joined}
+use Rattle.toml_lexemes.specs.SpacedLexemes.{Spaced, after_gap, blanks, spaced_as, spaced_lexemes, put_together}
 use Rattle.toml_lexemes.proofs.Blanks.{blanks_cons, blanks_none}
 use Rattle.toml_lexemes.proofs.Firsts.{cut_begun, first_blank}
 use Rattle.toml_lexemes.proofs.Gaps.{IsSpaced-lexemes, lexemes_alone}
@@ -46,25 +46,25 @@ AreGaps [] = ⊤
 AreGaps (p ∷ ps) = IsGap p.gap × AreGaps ps
 
 joined_as : (ss : List (List ℕ)) (bytes : List ℕ) → IsSpaced bytes ss → All (λ s. cut between s ≡ s ∷ []) ss
-    → (joined (spaced_as bytes ss) ≡ bytes) × AreGaps (spaced_as bytes ss)
+    → (put_together (spaced_as bytes ss) ≡ bytes) × AreGaps (spaced_as bytes ss)
 joined_as [] bytes gap each = (append-nil bytes, (gap, tt))
 joined_as (s ∷ ss) bytes (g, rest, gap, is, h) each =
     let first = first_spaced g s rest ss gap (All-head (λ s. cut between s ≡ s ∷ []) s ss each) in
     let others = joined_as ss rest h (All-tail (λ s. cut between s ≡ s ∷ []) s ss each) in
-    subst (λ b. (joined (spaced_as b (s ∷ ss)) ≡ b) × AreGaps (spaced_as b (s ∷ ss))) (sym is)
-    (ap joined first ∙ ap (λ l. g ++ (s ++ l)) others.0, subst AreGaps (sym first) (gap, others.1))
+    subst (λ b. (put_together (spaced_as b (s ∷ ss)) ≡ b) × AreGaps (spaced_as b (s ∷ ss))) (sym is)
+    (ap put_together first ∙ ap (λ l. g ++ (s ++ l)) others.0, subst AreGaps (sym first) (gap, others.1))
 
-pub joined_spaced : (text : List ℕ) → joined (spaced text) ≡ text
+pub joined_spaced : (text : List ℕ) → put_together (spaced_lexemes text) ≡ text
 joined_spaced text = (joined_as (cut between text) text (IsSpaced-lexemes text) (lexemes_alone text)).0
 
-pub gaps_spaced : (text : List ℕ) → All (λ p. IsGap p.gap) (spaced text)
+pub gaps_spaced : (text : List ℕ) → All (λ p. IsGap p.gap) (spaced_lexemes text)
 gaps_spaced text =
-    All-from_recursion (λ p. IsGap p.gap) (spaced text)
+    All-from_recursion (λ p. IsGap p.gap) (spaced_lexemes text)
     (joined_as (cut between text) text (IsSpaced-lexemes text) (lexemes_alone text)).1
 
 lexemes_as : (ss : List (List ℕ)) (bytes : List ℕ) → map (λ (p : Spaced). p.lexeme) (spaced_as bytes ss) ≡ ss ++ [] ∷ []
 lexemes_as [] bytes = refl
 lexemes_as (s ∷ ss) bytes = ap (λ l. s ∷ l) (lexemes_as ss (drop (length (blanks bytes) + length s) bytes))
 
-pub lexemes_spaced : (text : List ℕ) → map (λ (p : Spaced). p.lexeme) (spaced text) ≡ cut between text ++ [] ∷ []
+pub lexemes_spaced : (text : List ℕ) → map (λ (p : Spaced). p.lexeme) (spaced_lexemes text) ≡ cut between text ++ [] ∷ []
 lexemes_spaced text = lexemes_as (cut between text) text

@@ -2,7 +2,7 @@
 use Rattle.std.specs.Prelude.{◌≡◌, ◌≢◌, ◌↔◌, ◌==◌, ◌||◌, ℕ, true, false, List, [], ◌∷◌, ◌++◌, map, All}
 use Rattle.toml_lexemes.specs.Bytes.{line_feed, carriage_return, hash, is_sign, is_quote, ends_word, head}
 use Rattle.toml_lexemes.specs.Lexemes.{lexemes}
-use Rattle.toml_lexemes.specs.SpacedLexemes.{spaced, joined}
+use Rattle.toml_lexemes.specs.SpacedLexemes.{spaced_lexemes, put_together}
 use Rattle.toml_lexemes.specs.Spaced.{IsGap, IsSpaced, EndsWithReturn, MayFollow, IsWellSpaced, begins_line_end}
 
 -- a text is its lexemes with gaps around them
@@ -28,15 +28,15 @@ TextsAreWellSpaced = (text : List ℕ) → IsWellSpaced text (lexemes text)
 
 -- the gaps and lexemes of a text in their order, put together, are the text
 abbrev pub TextsAreJoined : Type 0
-TextsAreJoined = (text : List ℕ) → joined (spaced text) ≡ text
+TextsAreJoined = (text : List ℕ) → put_together (spaced_lexemes text) ≡ text
 
 -- each gap is blanks alone
 abbrev pub GapsAreBlanks : Type 0
-GapsAreBlanks = (text : List ℕ) → All (λ p. IsGap p.gap) (spaced text)
+GapsAreBlanks = (text : List ℕ) → All (λ p. IsGap p.gap) (spaced_lexemes text)
 
 -- after the gaps stand the lexemes of the text, and then the end
 abbrev pub SpacedAreLexemes : Type 0
-SpacedAreLexemes = (text : List ℕ) → map (λ p. p.lexeme) (spaced text) ≡ lexemes text ++ [] ∷ []
+SpacedAreLexemes = (text : List ℕ) → map (λ p. p.lexeme) (spaced_lexemes text) ≡ lexemes text ++ [] ∷ []
 
 -- ---- what may follow a lexeme
 

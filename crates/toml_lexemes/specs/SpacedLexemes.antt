@@ -23,10 +23,10 @@ spaced_as bytes [] = after_gap bytes [] ∷ []
 spaced_as bytes (s ∷ ss) = after_gap (blanks bytes) s ∷ spaced_as (drop (length (blanks bytes) + length s) bytes) ss
 
 -- the lexemes of a text, each after its gap, and then the end
-abbrev pub spaced : List ℕ → List Spaced
-spaced text = spaced_as text (lexemes text)
+abbrev pub spaced_lexemes : List ℕ → List Spaced
+spaced_lexemes text = spaced_as text (lexemes text)
 
 -- the bytes of gaps and lexemes
-abbrev pub joined : List Spaced → List ℕ
-joined [] = []
-joined (p ∷ ps) = p.gap ++ (p.lexeme ++ joined ps)
+abbrev pub put_together : List Spaced → List ℕ
+put_together [] = []
+put_together (p ∷ ps) = p.gap ++ (p.lexeme ++ put_together ps)

@@ -9,7 +9,7 @@ use Rattle.toml_lexemes.specs.declared.spaced.SpacedLexer.TheInside.{Inside}
 
 -- the lexemes that are left, with their gaps, and the end
 abbrev pub spaced_lexer_view : Inside → List spec.Spaced
-spaced_lexer_view a = cond a.ended [] (spec.spaced (drop a.place a.text.now))
+spaced_lexer_view a = cond a.ended [] (spec.spaced_lexemes (drop a.place a.text.now))
 
 -- the text may be cut at the place
 pub record IsSpacedLexer (a : Inside) : Type 0 where

@@ -50,11 +50,11 @@ impl<'a> Model for SpacedLexer<'a> {
 
 impl<'a> SpacedLexer<'a> {
     ghost use Rattle.std.specs.Prelude.{◌≡◌};
-    ghost use Rattle.toml_lexemes.specs.SpacedLexemes.{spaced};
+    ghost use Rattle.toml_lexemes.specs.SpacedLexemes.{spaced_lexemes};
 
     /// Hands out all lexemes of this text, and the end.
     pub fn new(text: &'a str) -> SpacedLexer<'a>
-        ensures { result ≡ spaced text.now }
+        ensures { result ≡ spaced_lexemes text.now }
     {
         SpacedLexer {
             text,

@@ -15,7 +15,7 @@ all c =
     let same = c.as_bytes.ensures.value in
     let passed : cut between (drop place d) ≡ cut between (drop from d) = rw (← same) c.blanks_end-place.ensures.cut in
     let none : cut between (drop from d) ≡ [] = sym passed ∙ cut-past d place (omega arith) in
-    sym c.self.view_is ∙ ap (λ b. cond b [] (spec.spaced (drop from d))) c.if-self.false ∙ last_spaced (drop from d) none
+    sym c.self.view_is ∙ ap (λ b. cond b [] (spec.spaced_lexemes (drop from d))) c.if-self.false ∙ last_spaced (drop from d) none
     ∙ ap (λ g. spec.after_gap g [] ∷ []) (sym c.range_from.ensures.value)
 
 pub returns-then-place-text-clause-steps : goal.returns-then-place-text-clause-steps
@@ -49,8 +49,9 @@ returns-clause-steps c =
     let next = next_spaced d from place c.blanks_end-place.ensures.bounds.0 s (rw (← same) c.blanks_end-place.ensures.bounds.1)
     (rw (← same) c.blanks_end-place.ensures.blanks) (rw (← same) c.blanks_end-place.ensures.cut) c.lexeme_at-lexeme.ensures.first in (
       sym c.self.view_is ∙ left _ ∙ next
-          ∙ ap (λ g. spec.after_gap g s ∷ spec.spaced (drop (place + length s) d)) (sym c.range.ensures.value)
-          ∙ ap (λ k. spaced_of record { gap = c.range.result; lexeme = Some c.lexeme_at-lexeme.result } ∷ spec.spaced (drop (place + length k) d))
+          ∙ ap (λ g. spec.after_gap g s ∷ spec.spaced_lexemes (drop (place + length s) d)) (sym c.range.ensures.value)
+          ∙ ap (λ k. spaced_of record { gap = c.range.result; lexeme = Some c.lexeme_at-lexeme.result }
+          ∷ spec.spaced_lexemes (drop (place + length k) d))
           (sym c.text.ensures)
           ∙ ap (λ t. spaced_of record { gap = c.range.result; lexeme = Some c.lexeme_at-lexeme.result } ∷ t) (sym (left _)),
       c.lexeme_at-lexeme.ensures.named,

@@ -1,0 +1,6 @@
+pub mod Sorts
+pub mod Grammar
+pub mod Expected
+pub mod Readings
+pub mod Faults
+pub mod Laws

@@ -1,0 +1,279 @@
+//! What a lexeme is to what may come next.
+ghost use Rattle.std.specs.Prelude.{◌≡◌, false};
+ghost use Rattle.toml_grammar.specs.Grammar as spec;
+ghost use Rattle.toml_grammar.specs.Sorts.{sort_of};
+ghost use Rattle.toml_words.specs.Keys.{key_word};
+ghost use Rattle.toml_words.specs.Strings.{is_key_string};
+ghost use Rattle.toml_lexemes.specs.SpacedLexer.{spaced_of, IsNamedIf};
+
+use crate::expected::Expected;
+use crate::gap::{is_clear, is_one_space};
+use crate::next::{Bracket, Next, Owner};
+use toml_lexemes::{Lexeme, Spaced};
+use toml_words::{is_date, is_key_string, is_remark, is_string, is_time, is_value, key_word};
+
+/// What a lexeme does.
+#[derive(Clone, Copy, Debug, PartialEq, Eq)]
+pub(crate) enum Turn {
+    /// It may stand there, and this may come after it.
+    GoesOn(Next),
+    /// It opens a bracket, in which this may come.
+    Opens(Bracket, Next),
+    /// It closes the innermost bracket.
+    Closes,
+    /// It may not stand there: this was expected.
+    Stops(Expected),
+}
+
+/// What ends a key or goes on with it, after a part of it.
+fn expected_after_part(owner: Owner) -> Expected
+    ensures { result ≡ spec.expected_after_part owner }
+{
+    match owner {
+        Owner::Value => Expected::DotOrEquals,
+        Owner::Table => Expected::DotOrBracket,
+        Owner::Tables => Expected::DotOrBrackets,
+    }
+}
+
+/// What follows a value.
+fn expected_after(innermost: Option<Bracket>) -> Expected
+    ensures { result ≡ spec.expected_after innermost }
+{
+    match innermost {
+        None => Expected::LineEnd,
+        Some(Bracket::Array) => Expected::CommaOrBracket,
+        Some(Bracket::Table) => Expected::CommaOrBrace,
+    }
+}
+
+/// What is expected, within the innermost bracket.
+fn expected(next: Next, innermost: Option<Bracket>) -> Expected
+    ensures { result ≡ spec.expected next innermost }
+{
+    match next {
+        Next::Line => Expected::Line,
+        Next::Header | Next::Key(_, true) => Expected::Key,
+        Next::Key(owner, false) => expected_after_part(owner),
+        Next::Closing => Expected::Bracket,
+        Next::Value => Expected::Value,
+        Next::Member => Expected::ValueOrBracket,
+        Next::Entry => Expected::KeyOrBrace,
+        Next::After | Next::AfterDate => expected_after(innermost),
+    }
+}
+
+/// Goes on where this is so.
+fn where_so(so: bool, next: Next, expected: Expected) -> Turn
+    ensures { result ≡ spec.where_so so next expected }
+{
+    if so {
+        Turn::GoesOn(next)
+    } else {
+        Turn::Stops(expected)
+    }
+}
+
+/// What `[` does.
+fn open_array(next: Next, innermost: Option<Bracket>, gap: &str) -> Turn
+    ensures { result ≡ spec.open_array_turn next innermost gap.now }
+{
+    match next {
+        Next::Line => Turn::GoesOn(Next::Header),
+        Next::Header => where_so(
+            gap.is_empty(),
+            Next::Key(Owner::Tables, true),
+            Expected::Key,
+        ),
+        Next::Value | Next::Member => Turn::Opens(Bracket::Array, Next::Member),
+        _ => Turn::Stops(expected(next, innermost)),
+    }
+}
+
+/// What `]` does.
+fn close_array(next: Next, innermost: Option<Bracket>, gap: &str) -> Turn
+    ensures { result ≡ spec.close_array_turn next innermost gap.now }
+{
+    match (next, innermost) {
+        (Next::Key(Owner::Table, false), _) => Turn::GoesOn(Next::After),
+        (Next::Key(Owner::Tables, false), _) => Turn::GoesOn(Next::Closing),
+        (Next::Closing, _) => where_so(gap.is_empty(), Next::After, Expected::Bracket),
+        (Next::Member, _) | (Next::After | Next::AfterDate, Some(Bracket::Array)) => Turn::Closes,
+        _ => Turn::Stops(expected(next, innermost)),
+    }
+}
+
+/// What `{` does.
+fn open_table(next: Next, innermost: Option<Bracket>) -> Turn
+    ensures { result ≡ spec.open_table_turn next innermost }
+{
+    match next {
+        Next::Value | Next::Member => Turn::Opens(Bracket::Table, Next::Entry),
+        _ => Turn::Stops(expected(next, innermost)),
+    }
+}
+
+/// What `}` does.
+fn close_table(next: Next, innermost: Option<Bracket>) -> Turn
+    ensures { result ≡ spec.close_table_turn next innermost }
+{
+    match (next, innermost) {
+        (Next::Entry, _) | (Next::After | Next::AfterDate, Some(Bracket::Table)) => Turn::Closes,
+        _ => Turn::Stops(expected(next, innermost)),
+    }
+}
+
+/// What a comma does.
+fn comma(next: Next, innermost: Option<Bracket>) -> Turn
+    ensures { result ≡ spec.comma_turn next innermost }
+{
+    match (next, innermost) {
+        (Next::After | Next::AfterDate, Some(Bracket::Array)) => Turn::GoesOn(Next::Member),
+        (Next::After | Next::AfterDate, Some(Bracket::Table)) => Turn::GoesOn(Next::Key(
+            Owner::Value,
+            true,
+        )),
+        _ => Turn::Stops(expected(next, innermost)),
+    }
+}
+
+/// What an equals sign does.
+fn equals(next: Next, innermost: Option<Bracket>) -> Turn
+    ensures { result ≡ spec.equals_turn next innermost }
+{
+    match next {
+        Next::Key(Owner::Value, false) => Turn::GoesOn(Next::Value),
+        _ => Turn::Stops(expected(next, innermost)),
+    }
+}
+
+/// What a line end does.
+fn line_end(next: Next, innermost: Option<Bracket>) -> Turn
+    ensures { result ≡ spec.line_end_turn next innermost }
+{
+    match (next, innermost) {
+        (Next::Line, _) | (Next::After | Next::AfterDate, None) => Turn::GoesOn(Next::Line),
+        (Next::Member, _) => Turn::GoesOn(Next::Member),
+        (Next::After | Next::AfterDate, Some(Bracket::Array)) => Turn::GoesOn(Next::After),
+        _ => Turn::Stops(expected(next, innermost)),
+    }
+}
+
+/// What a remark does, which TOML allows or not.
+fn remark(next: Next, innermost: Option<Bracket>, allowed: bool) -> Turn
+    ensures { result ≡ spec.remark_turn next innermost allowed }
+{
+    match (next, innermost) {
+        (Next::Line | Next::Member, _) => where_so(allowed, next, Expected::Remark),
+        (Next::After | Next::AfterDate, None | Some(Bracket::Array)) => where_so(
+            allowed,
+            Next::After,
+            Expected::Remark,
+        ),
+        _ => Turn::Stops(expected(next, innermost)),
+    }
+}
+
+/// What a string does as a part of a key.
+fn key_string(owner: Owner, text: &str) -> Turn
+    ensures { result ≡ spec.where_so (is_key_string text.now) (Next.Key owner false) Expected.KeyString }
+{
+    where_so(
+        is_key_string(text),
+        Next::Key(owner, false),
+        Expected::KeyString,
+    )
+}
+
+/// What a string does.
+fn string(next: Next, innermost: Option<Bracket>, text: &str) -> Turn
+    ensures { result ≡ spec.string_turn next innermost text.now }
+{
+    match next {
+        Next::Line | Next::Entry => key_string(Owner::Value, text),
+        Next::Header => key_string(Owner::Table, text),
+        Next::Key(owner, true) => key_string(owner, text),
+        Next::Value | Next::Member => where_so(is_string(text), Next::After, Expected::String),
+        _ => Turn::Stops(expected(next, innermost)),
+    }
+}
+
+/// What a word does in a key.
+fn key(owner: Owner, due: bool, text: &str, expected: Expected) -> Turn
+    ensures { result ≡ spec.key_turn owner (key_word due text.now) expected }
+{
+    match key_word(text, due) {
+        Some(due) => Turn::GoesOn(Next::Key(owner, due)),
+        None => Turn::Stops(expected),
+    }
+}
+
+/// What a word does in place of a value.
+fn value(text: &str, expected: Expected) -> Turn
+    ensures { result ≡ spec.value_turn text.now expected }
+{
+    let next = if is_date(text) {
+        Next::AfterDate
+    } else {
+        Next::After
+    };
+    where_so(is_value(text), next, expected)
+}
+
+/// What a word does.
+fn word(next: Next, innermost: Option<Bracket>, gap: &str, text: &str) -> Turn
+    ensures { result ≡ spec.word_turn next innermost gap.now text.now }
+{
+    let expected = expected(next, innermost);
+    match next {
+        Next::Line | Next::Entry => key(Owner::Value, true, text, expected),
+        Next::Header => key(Owner::Table, true, text, expected),
+        Next::Key(owner, due) => key(owner, due, text, expected),
+        Next::Value | Next::Member => value(text, expected),
+        Next::AfterDate => where_so(is_one_space(gap) && is_time(text), Next::After, expected),
+        Next::Closing | Next::After => Turn::Stops(expected),
+    }
+}
+
+/// What the end of the text does.
+fn end(next: Next, innermost: Option<Bracket>) -> Turn
+    ensures { result ≡ spec.end_turn next innermost }
+{
+    match (next, innermost) {
+        (Next::Line, _) | (Next::After | Next::AfterDate, None) => Turn::GoesOn(next),
+        _ => Turn::Stops(expected(next, innermost)),
+    }
+}
+
+/// What a lexeme does with this gap before it, where the gap holds no stray CR.
+fn lexeme_turn(next: Next, innermost: Option<Bracket>, found: Spaced<'_>) -> Turn
+    requires { IsNamedIf found.lexeme }
+    ensures { let p = spaced_of found.entry in result ≡ spec.sort_turn (sort_of p.lexeme) next innermost p.gap p.lexeme }
+{
+    match found.lexeme {
+        None => end(next, innermost),
+        Some(Lexeme::OpenArray) => open_array(next, innermost, found.gap),
+        Some(Lexeme::CloseArray) => close_array(next, innermost, found.gap),
+        Some(Lexeme::OpenTable) => open_table(next, innermost),
+        Some(Lexeme::CloseTable) => close_table(next, innermost),
+        Some(Lexeme::Comma) => comma(next, innermost),
+        Some(Lexeme::Equals) => equals(next, innermost),
+        Some(Lexeme::LineEnd) => line_end(next, innermost),
+        Some(Lexeme::Remark(text)) => remark(next, innermost, is_remark(text)),
+        Some(Lexeme::String(text)) => string(next, innermost, text),
+        Some(Lexeme::Word(text)) => word(next, innermost, found.gap, text),
+    }
+}
+
+/// What a lexeme does with this gap before it.
+pub(crate) fn turn_at(next: Next, innermost: Option<Bracket>, found: Spaced<'_>) -> Turn
+    requires { IsNamedIf found.lexeme }
+    ensures { result ≡ spec.turn next innermost (spaced_of found.entry) }
+{
+    let before_line_end = matches!(found.lexeme, Some(Lexeme::LineEnd));
+    if is_clear(found.gap, before_line_end) {
+        lexeme_turn(next, innermost, found)
+    } else {
+        Turn::Stops(Expected::LineFeed)
+    }
+}
