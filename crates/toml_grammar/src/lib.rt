@@ -2,8 +2,8 @@
 //! no fault of the grammar.
 #![tactic(auto)]
 
-pub mod expected;
-pub mod fault;
+mod expected;
+mod fault;
 mod gap;
 mod laws;
 mod next;
