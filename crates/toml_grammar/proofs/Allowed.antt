@@ -8,6 +8,7 @@ use Rattle.toml_lexemes.specs.Lexemes.{lexemes}
 use Rattle.toml_lexemes.specs.SpacedLexemes.{Spaced, after_gap, blanks, spaced_as}
 use Rattle.toml_words.specs.Remarks.{is_remark}
 use Rattle.toml_words.specs.Strings.{is_key_string, is_string}
+use Rattle.toml_words.proofs.Closed.{key_strings_are_strings}
 use Rattle.toml_grammar.specs.Sorts as sort
 use Rattle.toml_grammar.specs.Grammar.{Reading, first_reading, where_so, string_turn, remark_after, remark_turn, sort_turn, is_line_end, is_clear, turn, innermost, turned, step, and_then, reading_after, is_toml}
 use Rattle.toml_grammar.specs.declared.expected.Expected.{Expected}
@@ -42,12 +43,8 @@ passes_cond false t e h = absurd h
 
 -- ---- strings
 
-string_of_key : (s : List ℕ) → is_key_string s ≡ true → is_string s ≡ true
-unfolding is_string
-string_of_key s h = rw h
-
 key_passes : (s : List ℕ) (n : Next) (e : Expected) → Passes (where_so (is_key_string s) n e) → is_string s ≡ true
-key_passes s n e h = string_of_key s (passes_where (is_key_string s) n e h)
+key_passes s n e h = key_strings_are_strings s (passes_where (is_key_string s) n e h)
 
 string_passes : (n : Next) (b : Option Bracket) (s : List ℕ) → Passes (string_turn n b s) → is_string s ≡ true
 string_passes Line b s h = key_passes s _ _ h
