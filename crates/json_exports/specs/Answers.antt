@@ -5,7 +5,7 @@ use Rattle.json.specs.Json.{document}
 use Rattle.json_formatter.specs.Formats.{IsFormatted}
 use Rattle.json_formatter.specs.declared.style.Style.{Style}
 use Rattle.jsonfmt_request.specs.Expected.{name_of}
-use Rattle.jsonfmt_request.specs.Places.{IsPlaceWithin}
+use Rattle.formatter_files.specs.Places.{IsPlaceWithin}
 use Rattle.jsonfmt_request.specs.declared.expected.Expected.{Expected}
 use Rattle.jsonfmt_request.specs.declared.expected.Expected.TheVariants.{Utf8}
 use Rattle.prettyless_area.specs.Overlay.{overlay}

@@ -1,5 +1,3 @@
-pub mod Endings
 pub mod Expected
 pub mod Grammar
-pub mod Places
 pub mod Words

@@ -1,51 +1,12 @@
 -- What the words of `jsonfmt` ask for, by what `clap` reads in them.
-use Rattle.std.specs.Prelude.{◌≡◌, ◌≤◌, ℕ, ⊤, Bool, true, false, List, [], codes, map, Option, Some, None, unwrap_or}
-use Rattle.std.specs.Option.{option_map_or}
-use Rattle.std.specs.Str.{bytes_eq}
-use Rattle.std.specs.Str.Parse.{IsNumeral, digits_value, without_leading_plus}
-use Rattle.clap.specs.Simple.{new_shape}
-use Rattle.clap.specs.Words.{App, Kinds, Row, Rule, Text, all_of, fault_of, first_of, matches_of, new_rule, one_of, with_rule}
-use Rattle.clap.specs.declared.builder.action.ArgAction.TheVariants.{Append, SetTrue}
-use Rattle.clap.specs.declared.builder.value_parser.ValueParser.TheVariants.{Unsigned}
+use Rattle.std.specs.Prelude.{◌≡◌, List, codes}
+use Rattle.clap.specs.Words.{App, Kinds, Row, Text, fault_of, matches_of, with_rule}
+use Rattle.formatter_files.specs.Words.{IsIndent, IsTask, IsWidth, flag, has_flag, program, with_files, with_numbers}
 use Rattle.jsonfmt_request.specs.declared.request.Request.{Request}
-
--- an option that takes no value
-abbrev pub flag : Text → Rule
-flag name = record (new_rule name) { long = Some name; action = Some SetTrue }
-
--- an option that takes a number, no greater than `most`
-abbrev pub number : Text → ℕ → Rule
-number name most = record (new_rule name) { long = Some name; value_names = 1; parser = Some (Unsigned 0 most) }
-
--- the greatest numbers of 64 bits, and of 32
-abbrev pub most_64 : ℕ
-most_64 = 18446744073709551615
-
-abbrev pub most_32 : ℕ
-most_32 = 4294967295
-
--- the files, as many as there are
-abbrev pub files : Rule
-files = record (new_rule (codes "FILE")) { action = Some Append }
-
--- the program, which has a version, with no option yet
-abbrev pub program : App
-program = record {
-  top = record (new_shape (codes "jsonfmt")) { has_version = true };
-  subs = [];
-}
-
--- the options of a program that take numbers
-abbrev pub with_numbers : App → App
-with_numbers a = with_rule (with_rule a (number (codes "width") most_64)) (number (codes "indent") most_32)
-
--- those that take none
-abbrev pub with_flags : App → App
-with_flags a = with_rule (with_rule a (flag (codes "fill"))) (flag (codes "check"))
 
 -- the command
 abbrev pub jsonfmt : App
-jsonfmt = with_rule (with_flags (with_numbers program)) files
+jsonfmt = with_files (with_rule (with_numbers (program (codes "jsonfmt"))) (flag (codes "fill")))
 
 -- what `clap` reads in the words, of which the first names the program
 unfoldable pub matches : List Text → List Row
@@ -55,28 +16,9 @@ matches words = matches_of jsonfmt words
 unfoldable pub faults : List Text → Kinds
 faults words = fault_of jsonfmt words
 
--- the flag is given
-abbrev pub has_flag : Text → List Row → Bool
-has_flag name rows = option_map_or (λ value. bytes_eq value (codes "true")) (first_of name rows) false
-
--- an option's text is a number in decimal digits, no greater than `most`, where it has a text
-abbrev pub IsNumberUpTo : ℕ → Option Text → Type 0
-IsNumberUpTo most None = ⊤
-IsNumberUpTo most (Some text) = IsNumeral 10 (without_leading_plus text) × (digits_value 10 (without_leading_plus text) ≤ most)
-
--- an option's text writes the number in decimal digits; where the option is not given, the number is `default`
-abbrev pub HasNumber : ℕ → Option Text → ℕ → Type 0
-HasNumber default None n = n ≡ default
-HasNumber default (Some text) n = IsNumeral 10 (without_leading_plus text) × (n ≡ digits_value 10 (without_leading_plus text))
-
--- the texts of the options that take a number are numbers
-abbrev pub HasNumbers : List Row → Type 0
-HasNumbers rows = IsNumberUpTo most_64 (one_of (codes "width") rows) × IsNumberUpTo most_32 (one_of (codes "indent") rows)
-
 -- What is asked for.
 pub record AsksFor (rows : List Row) (asked : Request) : Type 0 where
-  pub width : HasNumber 80 (one_of (codes "width") rows) asked.style.width
-  pub indent : HasNumber 2 (one_of (codes "indent") rows) asked.style.indent
+  pub width : IsWidth rows asked.style.width
+  pub indent : IsIndent rows asked.style.indent
   pub fill : asked.style.fill ≡ has_flag (codes "fill") rows
-  pub check : asked.check ≡ has_flag (codes "check") rows
-  pub files : map (λ file. file.now) asked.files.items ≡ unwrap_or (all_of (codes "FILE") rows) []
+  pub task : IsTask rows asked.task

@@ -1,11 +1,11 @@
 //! Where a text stops being JSON, and what it was to have there.
 ghost use Rattle.std.specs.Prelude.{◌≡◌, ◌≤◌, length, IfOk};
 ghost use Rattle.std.specs.Str.{IsUtf8};
-ghost use Rattle.jsonfmt_request.specs.Places.{IsPlaceWithin};
+ghost use Rattle.formatter_files.specs.Places.{IsPlaceWithin};
 
 use crate::expected::Expected;
 use crate::grammar::Reading;
-use crate::place::{Place, place_at};
+use formatter_files::place::{Place, place_at};
 use json_lexemes::{Lexeme, Lexer};
 use std::alloc::{AllocError, Global};
 use std::str::from_utf8;

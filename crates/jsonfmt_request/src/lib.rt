@@ -1,9 +1,7 @@
-//! What the words of `jsonfmt` ask for, where a text is no JSON, and how the program ends.
+//! What the words of `jsonfmt` ask for, and where a text is no JSON.
 #![tactic(auto)]
 
-pub mod ending;
 pub mod expected;
 pub mod fault;
 mod grammar;
-pub mod place;
 pub mod request;

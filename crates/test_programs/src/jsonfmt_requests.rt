@@ -45,11 +45,28 @@ fn faults_are_named(rt: HostRuntime) {
 
 #[test]
 fn words_are_read(rt: HostRuntime) {
-    let words = ["jsonfmt", "a", "--width=40", "b", "--check", "--", "--fill"];
+    let words = [
+        "jsonfmt",
+        "a",
+        "--width=40",
+        "b",
+        "--check",
+        "--",
+        "--fill",
+        "--write",
+    ];
     let asked = requested(rt.alloc(), words.as_slice()).expect(&rt, "the words are refused");
     assert!(rt; asked.style.width == 40 && asked.style.indent == 2 && !asked.style.fill);
-    assert!(rt; asked.check);
-    assert!(rt; asked.files.as_slice() == ["a", "b", "--fill"].as_slice());
+    assert!(rt; asked.task.check && !asked.task.write);
+    assert!(rt; asked.task.files.as_slice() == ["a", "b", "--fill", "--write"].as_slice());
+}
+
+#[test]
+fn files_are_to_be_replaced(rt: HostRuntime) {
+    let words = ["jsonfmt", "--write", "a"];
+    let asked = requested(rt.alloc(), words.as_slice()).expect(&rt, "the words are refused");
+    assert!(rt; asked.task.write && !asked.task.check);
+    assert!(rt; asked.task.files.as_slice() == ["a"].as_slice());
 }
 
 fn is_refused(rt: &impl Abort, memory: Global, word: &str, kind: ErrorKind) {

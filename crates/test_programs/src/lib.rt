@@ -15,6 +15,8 @@ mod jsonfmt_requests;
 #[cfg(test)]
 mod jsonfmt_values;
 #[cfg(test)]
+mod replacing;
+#[cfg(test)]
 mod replay_running;
 #[cfg(test)]
 mod sexp_parsing;

@@ -5,7 +5,7 @@ use Rattle.clap.specs.Words.{App, FailsBy, HasKind, Kinds, Row, app_of, fault_of
 use Rattle.clap.specs.declared.error.Error.{Error}
 use Rattle.jsonfmt_request.specs.Words.{AsksFor, faults, jsonfmt, matches}
 use Rattle.jsonfmt_request.specs.declared.request.Request.{Request}
-use Rattle.jsonfmt_request.proofs.Given.{indent_given, width_given}
+use Rattle.formatter_files.proofs.Given.{TakesNumbers, indent_given, width_given}
 use Rattle.jsonfmt_request.proofs.request.requested.Goals as goal
 
 simple : is_simple jsonfmt ≡ true
@@ -14,11 +14,16 @@ simple = refl
 free : is_simple_and_free jsonfmt ≡ true
 free = refl
 
-pub asked-requires : goal.asked-requires
-asked-requires g c = (
-  width_given c.in_ok-command.field-0 c.in_ok-matches.matches c.in_ok-matches.ensures.parsed c.in_ok-command.ensures,
-  indent_given c.in_ok-command.field-0 c.in_ok-matches.matches c.in_ok-matches.ensures.parsed c.in_ok-command.ensures,
-)
+takes : TakesNumbers jsonfmt
+takes = record { others = _; rules = refl; differ = refl; plain = refl; simple = refl }
+
+pub asked-requires-clause-width : goal.asked-requires-clause-width
+asked-requires-clause-width g c =
+    width_given jsonfmt takes c.in_ok-command.field-0 c.in_ok-matches.matches c.in_ok-matches.ensures.parsed c.in_ok-command.ensures
+
+pub asked-requires-clause-indent : goal.asked-requires-clause-indent
+asked-requires-clause-indent g c =
+    indent_given jsonfmt takes c.in_ok-command.field-0 c.in_ok-matches.matches c.in_ok-matches.ensures.parsed c.in_ok-command.ensures
 
 pub returns-clause-ok : goal.returns-clause-ok
 unfolding matches

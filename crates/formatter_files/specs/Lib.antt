@@ -1,0 +1,5 @@
+pub mod Deeds
+pub mod Endings
+pub mod Names
+pub mod Places
+pub mod Words

@@ -1,0 +1,78 @@
+-- What the words of a program that formats files ask for, by what `clap` reads in them.
+use Rattle.std.specs.Prelude.{◌≡◌, ◌≤◌, ℕ, ⊤, Bool, true, false, List, [], codes, map, Option, Some, None, unwrap_or}
+use Rattle.std.specs.Option.{option_map_or}
+use Rattle.std.specs.Str.{bytes_eq}
+use Rattle.std.specs.Str.Parse.{IsNumeral, digits_value, without_leading_plus}
+use Rattle.clap.specs.Simple.{new_shape}
+use Rattle.clap.specs.Words.{App, Row, Rule, Text, all_of, first_of, new_rule, one_of, with_rule}
+use Rattle.clap.specs.declared.builder.action.ArgAction.TheVariants.{Append, SetTrue}
+use Rattle.clap.specs.declared.builder.value_parser.ValueParser.TheVariants.{Unsigned}
+use Rattle.formatter_files.specs.declared.files.Task.{Task}
+
+-- an option that takes no value
+abbrev pub flag : Text → Rule
+flag name = record (new_rule name) { long = Some name; action = Some SetTrue }
+
+-- an option that takes a number, no greater than `most`
+abbrev pub number : Text → ℕ → Rule
+number name most = record (new_rule name) { long = Some name; value_names = 1; parser = Some (Unsigned 0 most) }
+
+-- the greatest numbers of 64 bits, and of 32
+abbrev pub most_64 : ℕ
+most_64 = 18446744073709551615
+
+abbrev pub most_32 : ℕ
+most_32 = 4294967295
+
+-- the files, as many as there are
+abbrev pub files : Rule
+files = record (new_rule (codes "FILE")) { action = Some Append }
+
+-- a program of this name, which has a version, with no option yet
+abbrev pub program : Text → App
+program name = record {
+  top = record (new_shape name) { has_version = true };
+  subs = [];
+}
+
+-- with the options that take numbers
+abbrev pub with_numbers : App → App
+with_numbers a = with_rule (with_rule a (number (codes "width") most_64)) (number (codes "indent") most_32)
+
+-- with what says what becomes of the layouts, and of which files
+abbrev pub with_files : App → App
+with_files a = with_rule (with_rule (with_rule a (flag (codes "check"))) (flag (codes "write"))) files
+
+-- the flag is given
+abbrev pub has_flag : Text → List Row → Bool
+has_flag name rows = option_map_or (λ value. bytes_eq value (codes "true")) (first_of name rows) false
+
+-- an option's text is a number in decimal digits, no greater than `most`, where it has a text
+abbrev pub IsNumberUpTo : ℕ → Option Text → Type 0
+IsNumberUpTo most None = ⊤
+IsNumberUpTo most (Some text) = IsNumeral 10 (without_leading_plus text) × (digits_value 10 (without_leading_plus text) ≤ most)
+
+-- an option's text writes the number in decimal digits; where the option is not given, the number is `default`
+abbrev pub HasNumber : ℕ → Option Text → ℕ → Type 0
+HasNumber default None n = n ≡ default
+HasNumber default (Some text) n = IsNumeral 10 (without_leading_plus text) × (n ≡ digits_value 10 (without_leading_plus text))
+
+-- the number is the width that is asked for, and so the indent
+abbrev pub IsWidth : List Row → ℕ → Type 0
+IsWidth rows n = HasNumber 80 (one_of (codes "width") rows) n
+
+abbrev pub IsIndent : List Row → ℕ → Type 0
+IsIndent rows n = HasNumber 2 (one_of (codes "indent") rows) n
+
+-- the texts of the options that take a number are numbers
+abbrev pub HasWidth : List Row → Type 0
+HasWidth rows = IsNumberUpTo most_64 (one_of (codes "width") rows)
+
+abbrev pub HasIndent : List Row → Type 0
+HasIndent rows = IsNumberUpTo most_32 (one_of (codes "indent") rows)
+
+-- What is to become of the layouts, and of which files.
+pub record IsTask (rows : List Row) (task : Task) : Type 0 where
+  pub check : task.check ≡ has_flag (codes "check") rows
+  pub write : task.write ≡ has_flag (codes "write") rows
+  pub files : map (λ file. file.now) task.files.items ≡ unwrap_or (all_of (codes "FILE") rows) []

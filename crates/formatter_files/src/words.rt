@@ -1,0 +1,128 @@
+//! The options that programs which format files have in common.
+ghost use Rattle.std.specs.Prelude.{◌≡◌, IfOk, false};
+ghost use Rattle.clap.specs.Words.{app_of, found_of, rows_of, rule_of};
+ghost use Rattle.formatter_files.specs.Words.{HasIndent, HasWidth, IsIndent, IsTask, IsWidth, files, flag, has_flag, number, program, with_files, with_numbers};
+
+use crate::files::Task;
+use clap::builder::ValueParser;
+use clap::{Arg, ArgAction, ArgMatches, Command};
+use std::alloc::{AllocError, Global};
+
+/// An option that takes a number, no greater than `most`.
+fn number<'w>(alloc: Global, name: &'w str, most: u64, help: &'w str) -> Arg<'w>
+    ensures rule { rule_of result ≡ number name.entry.now most }
+    ensures local { result.global ≡ false }
+{
+    Arg::new(alloc, name)
+        .long(name)
+        .value_name("N")
+        .value_parser(ValueParser::unsigned(0, most))
+        .help(help)
+}
+
+/// An option that takes no value.
+pub fn flag<'w>(alloc: Global, name: &'w str, help: &'w str) -> Arg<'w>
+    ensures rule { rule_of result ≡ flag name.entry.now }
+    ensures local { result.global ≡ false }
+{
+    Arg::new(alloc, name)
+        .long(name)
+        .action(ArgAction::SetTrue)
+        .help(help)
+}
+
+/// The files, as many as there are.
+fn files<'w>(alloc: Global) -> Arg<'w>
+    ensures rule { rule_of result ≡ files }
+    ensures local { result.global ≡ false }
+{
+    Arg::new(alloc, "FILE")
+        .action(ArgAction::Append)
+        .help("Files to lay out [default: standard input]")
+}
+
+/// A program of this name, with no option yet. Its `version` and what it is `about` are for people.
+pub fn program<'w>(alloc: Global, name: &'w str, version: &'w str, about: &'w str) -> Command<'w>
+    ensures { app_of result ≡ program name.entry.now }
+{
+    Command::new(alloc, name).version(version).about(about)
+}
+
+/// The command with the options `--width` and `--indent`, of which the second says how far in the `members` are.
+///
+/// `AllocError` where memory is refused.
+pub fn with_numbers<'w>(
+    alloc: Global,
+    command: Command<'w>,
+    members: &'w str,
+) -> Result<Command<'w>, AllocError>
+    ensures { IfOk result (λ made. app_of made ≡ with_numbers (app_of command.entry)) }
+{
+    command
+        .arg(number(
+            alloc,
+            "width",
+            u64::MAX,
+            "The width of a line, in columns [default: 80]",
+        ))?
+        .arg(number(alloc, "indent", u64::from(u32::MAX), members))
+}
+
+/// The command with `--check`, `--write` and the files.
+///
+/// `AllocError` where memory is refused.
+pub fn with_files<'w>(alloc: Global, command: Command<'w>) -> Result<Command<'w>, AllocError>
+    ensures { IfOk result (λ made. app_of made ≡ with_files (app_of command.entry)) }
+{
+    command
+        .arg(flag(
+            alloc,
+            "check",
+            "Write nothing, and end with 1 where a file is not laid out so",
+        ))?
+        .arg(flag(
+            alloc,
+            "write",
+            "Replace each file that is not laid out so by its layout",
+        ))?
+        .arg(files(alloc))
+}
+
+/// Whether the flag is given: its value is `true` where it is.
+pub fn has_flag(matches: &ArgMatches<'_>, name: &str) -> bool
+    ensures { result ≡ has_flag name.now (rows_of (found_of matches.now)) }
+{
+    match matches.get_str(name) {
+        Some(value) => value == "true",
+        None => false,
+    }
+}
+
+/// The width that is asked for, in columns.
+pub fn width(matches: &ArgMatches<'_>) -> usize
+    requires { HasWidth (rows_of (found_of matches.now)) }
+    ensures { IsWidth (rows_of (found_of matches.now)) result }
+{
+    matches.get_one("width").unwrap_or(80)
+}
+
+/// The indent that is asked for, in columns.
+pub fn indent(matches: &ArgMatches<'_>) -> u32
+    requires { HasIndent (rows_of (found_of matches.now)) }
+    ensures { IsIndent (rows_of (found_of matches.now)) result }
+{
+    matches.get_one("indent").unwrap_or(2)
+}
+
+/// What is to become of the layouts, and of which files.
+///
+/// `AllocError` where memory is refused.
+pub fn task<'w>(alloc: Global, matches: &ArgMatches<'w>) -> Result<Task<'w>, AllocError>
+    ensures { IfOk result (IsTask (rows_of (found_of matches.now))) }
+{
+    Ok(Task {
+        check: has_flag(matches, "check"),
+        write: has_flag(matches, "write"),
+        files: Vec::from_slice(alloc, matches.get_strs("FILE").unwrap_or(&[]))?,
+    })
+}
