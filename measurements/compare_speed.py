@@ -1,13 +1,20 @@
 #!/usr/bin/env python3
-"""Times `jsonfmt`, `jq .` and `python3 -m json.tool` on the same file, with the peak of memory of each.
+"""Times `jsonfmt`, `jq .` and `python3 -m json.tool` on the same JSON file, or `tomlfmt` and python's `tomllib` on a TOML file,
+with the peak of memory of each. `tomllib` only reads.
 
-usage: compare_speed.py JSONFMT FILE [ROUNDS]     (3 rounds if not given; of each the least time is taken)
+usage: compare_speed.py PROGRAM FILE [ROUNDS]     (3 rounds if not given; of each the least time is taken)
 """
 import os
 import shutil
 import subprocess
 import sys
 import time
+
+
+OTHERS = {
+    ".json": (["jq", "."], ["python3", "-m", "json.tool"]),
+    ".toml": (["python3", "-c", "import tomllib; tomllib.load(open(0, 'rb'))"],),
+}
 
 
 def run(words, file):
@@ -26,7 +33,7 @@ def main():
     program, file = sys.argv[1:3]
     rounds = int(sys.argv[3]) if len(sys.argv) > 3 else 3
     megabytes = os.path.getsize(file) / 1e6
-    for words in ([program], ["jq", "."], ["python3", "-m", "json.tool"]):
+    for words in ([program], *OTHERS[os.path.splitext(file)[1]]):
         if not shutil.which(words[0]):
             print(f"{words[0]} is not there")
             continue
