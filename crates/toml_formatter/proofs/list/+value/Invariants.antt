@@ -1,0 +1,20 @@
+use Rattle.std.proofs.Common.{◌+◌, ◌*◌, length}
+use Rattle.toml_formatter.specs.Lines.{TakesLine}
+use Rattle.toml_formatter.proofs.list.+value.Given as goal
+
+-- a list is above its lexemes, and these above the list that one of them opens
+abbrev pub decreases-inside : goal.decreases-inside
+decreases-inside l = 3 * l.depth + 2
+
+abbrev pub decreases-with_next : goal.decreases-with_next
+decreases-with_next l = 3 * l.depth + 1
+
+abbrev pub decreases-value : goal.decreases-value
+decreases-value l = 3 * l.depth
+
+-- the line has the lexemes that were taken
+abbrev pub invariant-inside-loop-next : goal.invariant-inside-loop-next
+invariant-inside-loop-next l = TakesLine l.line l.fn.lexemes l.lexemes
+
+abbrev pub decreases-inside-loop-next : goal.decreases-inside-loop-next
+decreases-inside-loop-next l = length l.lexemes

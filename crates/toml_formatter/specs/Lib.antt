@@ -1,0 +1,7 @@
+pub mod Errors
+pub mod Formats
+pub mod Gaps
+pub mod Kinds
+pub mod Lexing
+pub mod Lines
+pub mod Ahead

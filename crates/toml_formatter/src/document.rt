@@ -1,0 +1,64 @@
+//! The document of a text.
+ghost use Rattle.std.specs.Prelude.{◌≡◌, ◌++◌, ◌∷◌, ℕ, List, IfOk, IfErr};
+ghost use Rattle.prettyless.specs.Trees.{ref_tree};
+ghost use Rattle.toml_lexemes.specs.Lexemes.{lexemes};
+ghost use Rattle.toml_formatter.specs.Errors.{IsRefusal};
+ghost use Rattle.toml_formatter.specs.Lexing.{AreSound};
+ghost use Rattle.toml_formatter.specs.Lines.{HasStatements, IsDocument, TakesStatement};
+
+use crate::ahead::Ahead;
+use crate::error::FormatError;
+use crate::list::Setting;
+use crate::statement::statement;
+use crate::style::Style;
+use prettyless::{Arena, RefDoc};
+use prettyless_shapes::{ended, joined, nil};
+use toml_lexemes::Lexeme;
+
+/// The document with a statement on a line of its own after it, and a blank line between them where `blank` says so.
+fn with_statement<'a>(
+    arena: &'a Arena<'a>,
+    doc: RefDoc<'a>,
+    blank: bool,
+    statement: RefDoc<'a>,
+) -> Result<RefDoc<'a>, FormatError>
+    ensures made { IfOk result (λ p. (s : List ℕ) (old left taken : List (List ℕ)) → IsDocument (s ∷ old) taken (ref_tree doc.entry)
+        → TakesStatement (s ∷ old) left (ref_tree statement.entry)
+        → (more : List (List ℕ)) × (s ∷ old ≡ more ++ left) × IsDocument left (taken ++ more) (ref_tree p)) }
+    ensures err { IfErr result IsRefusal }
+{
+    let line = ended(arena, statement)?;
+    if blank {
+        let front = ended(arena, doc)?;
+        return Ok(joined(arena, front, line)?);
+    }
+    Ok(joined(arena, doc, line)?)
+}
+
+/// The document of a text.
+pub(crate) fn document<'a>(
+    arena: &'a Arena<'a>,
+    text: &'a str,
+    style: Style,
+) -> Result<RefDoc<'a>, FormatError>
+    requires { AreSound (lexemes text.now) }
+    ensures made { IfOk result (λ p. HasStatements text.now (ref_tree p)) }
+    ensures err { IfErr result IsRefusal }
+{
+    let setting = Setting { arena, style };
+    let mut lexemes = Ahead::new(text);
+    let mut doc = nil(arena)?;
+    let mut some = false;
+    let mut blank = false;
+    while let Some(first) = lexemes.next() {
+        if let Lexeme::LineEnd = first {
+            blank = some;
+        } else {
+            let next = statement(&setting, &mut lexemes, first)?;
+            doc = with_statement(arena, doc, blank, next)?;
+            some = true;
+            blank = false;
+        }
+    }
+    Ok(doc)
+}

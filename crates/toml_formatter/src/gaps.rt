@@ -1,0 +1,130 @@
+//! What is between two lexemes of a layout.
+ghost use Rattle.std.specs.Prelude.{◌≡◌, true, false};
+ghost use Rattle.prettyless_model.specs.Shows.{LineEnd, Spacing, more};
+ghost use Rattle.toml_lexemes.specs.Bytes.{comma, close_bracket, hash, head};
+ghost use Rattle.toml_lexemes.specs.View.{text_of, IsNamed};
+ghost use Rattle.toml_formatter.specs.Gaps.{is_nested, is_remark, least_needed, least_of, stays, Suits};
+
+use crate::kind::{Kind, Last};
+use toml_lexemes::Lexeme;
+
+/// What is between two lexemes.
+#[derive(Clone, Copy)]
+pub(crate) enum Gap {
+    Nothing,
+    Space,
+    /// A line end, or nothing where lines are flat.
+    Edge,
+    /// A line end, or a space where lines are flat.
+    Line,
+    /// The same with a blank line where lines are broken.
+    BlankLine,
+    /// A line end.
+    Break,
+    /// A line end and a blank line.
+    BlankBreak,
+}
+
+/// A line end, with a blank line or without.
+fn line_break(blank: bool) -> Gap
+    ensures { least_of result ≡ LineEnd }
+{
+    if blank { Gap::BlankBreak } else { Gap::Break }
+}
+
+/// What is after the comma of a list.
+fn after_comma(kind: Kind, blank: bool) -> Gap
+    ensures { is_nested kind ≡ false → stays result ≡ true }
+{
+    match kind {
+        Kind::Array if blank => Gap::BlankLine,
+        Kind::Array => Gap::Line,
+        _ => Gap::Space,
+    }
+}
+
+/// What is inside the brackets of a list.
+fn edge(kind: Kind) -> Gap
+    ensures { is_nested kind ≡ false → stays result ≡ true }
+{
+    match kind {
+        Kind::Array => Gap::Edge,
+        Kind::Table => Gap::Space,
+        Kind::Header | Kind::Statement => Gap::Nothing,
+    }
+}
+
+/// What is between two lexemes of one key or value.
+fn between(last: Last, next: Lexeme<'_>) -> Gap
+    requires named { IsNamed next }
+    requires no_remark { is_remark last ≡ false }
+    ensures enough { more (least_needed last (head (text_of next.entry))) (least_of result) ≡ least_of result }
+    ensures stays { stays result ≡ true }
+{
+    match (last, next) {
+        (_, Lexeme::Equals) | (Last::Equals, _) => Gap::Space,
+        (Last::Word, Lexeme::Word(_)) | (Last::String, Lexeme::String(_)) => Gap::Space,
+        _ => Gap::Nothing,
+    }
+}
+
+/// What is before a lexeme that begins a value or goes on with one.
+pub(crate) fn before(kind: Kind, last: Last, next: Lexeme<'_>, blank: bool) -> Gap
+    requires named { IsNamed next }
+    requires goes_on { is_nested kind ≡ false → is_remark last ≡ false }
+    ensures { Suits (is_nested kind) last (head (text_of next.entry)) result }
+{
+    match last {
+        Last::Start => edge(kind),
+        Last::Comma => after_comma(kind, blank),
+        Last::Remark => line_break(blank),
+        _ => between(last, next),
+    }
+}
+
+/// What is before a comma.
+pub(crate) fn before_comma(last: Last) -> Gap
+    ensures enough { more (least_needed last comma) (least_of result) ≡ least_of result }
+    ensures stays { is_remark last ≡ false → stays result ≡ true }
+{
+    match last {
+        Last::Remark => Gap::Break,
+        _ => Gap::Nothing,
+    }
+}
+
+/// What is before a remark, which other remarks stand before or not.
+pub(crate) fn before_remark(
+    kind: Kind,
+    last: Last,
+    others: bool,
+    broken: bool,
+    blank: bool,
+) -> Gap
+    requires { is_nested kind ≡ false → is_remark last ≡ false }
+    ensures enough { more (least_needed last hash) (least_of result) ≡ least_of result }
+    ensures others { others ≡ true → least_of result ≡ LineEnd }
+    ensures stays { is_nested kind ≡ false → others ≡ false → stays result ≡ true }
+    ensures spacing { more Spacing (least_of result) ≡ least_of result }
+{
+    match (kind, last) {
+        _ if others => line_break(blank),
+        (_, Last::Remark) => line_break(blank),
+        (Kind::Statement, _) => Gap::Space,
+        (_, Last::Start) if broken => Gap::Break,
+        _ if broken => line_break(blank),
+        _ => Gap::Space,
+    }
+}
+
+/// What is before the bracket that closes a list.
+pub(crate) fn before_close(kind: Kind, last: Last) -> Gap
+    requires { is_nested kind ≡ true }
+    ensures { Suits (is_nested kind) last close_bracket result }
+{
+    match last {
+        Last::Start => Gap::Nothing,
+        Last::Remark => Gap::Break,
+        _ => edge(kind),
+    }
+}

@@ -1,0 +1,71 @@
+//! What lexemes are to a layout.
+ghost use Rattle.std.specs.Prelude.{◌≡◌, false, true};
+ghost use Rattle.toml_formatter.specs.Kinds.{is_closing, is_opening, last_after};
+ghost use Rattle.toml_formatter.specs.Gaps.{is_nested};
+
+use toml_lexemes::Lexeme;
+
+/// What lexemes stand in.
+#[derive(Clone, Copy)]
+pub(crate) enum Kind {
+    /// A statement, outside of all brackets.
+    Statement,
+    /// The brackets of a header.
+    Header,
+    /// An inline table.
+    Table,
+    /// An array.
+    Array,
+}
+
+/// What a document ends with.
+#[derive(Clone, Copy)]
+pub(crate) enum Last {
+    /// The bracket of a list that has just begun, or nothing.
+    Start,
+    /// A closing bracket.
+    Close,
+    Equals,
+    Word,
+    String,
+    Comma,
+    Remark,
+}
+
+/// Whether the lexeme opens a list.
+pub(crate) fn opens(lexeme: Lexeme<'_>) -> bool
+    ensures { result ≡ is_opening lexeme.entry }
+{
+    matches!(lexeme, Lexeme::OpenArray | Lexeme::OpenTable)
+}
+
+/// Whether the lexeme closes a list.
+pub(crate) fn closes(lexeme: Lexeme<'_>) -> bool
+    ensures { result ≡ is_closing lexeme.entry }
+{
+    matches!(lexeme, Lexeme::CloseArray | Lexeme::CloseTable)
+}
+
+/// What a document ends with after the value that this lexeme begins.
+pub(crate) fn last_of(lexeme: Lexeme<'_>) -> Last
+    ensures { result ≡ last_after lexeme.entry }
+{
+    match lexeme {
+        Lexeme::Word(_) => Last::Word,
+        Lexeme::String(_) => Last::String,
+        Lexeme::Equals => Last::Equals,
+        _ => Last::Close,
+    }
+}
+
+/// What the bracket opens where it stands in this, first or not.
+pub(crate) fn kind_of(around: Kind, is_first: bool, bracket: Lexeme<'_>) -> Kind
+    ensures { is_nested result ≡ true }
+{
+    match (around, bracket) {
+        (Kind::Statement, Lexeme::OpenArray) if is_first => Kind::Header,
+        (Kind::Header, Lexeme::OpenArray) => Kind::Header,
+        (_, Lexeme::OpenArray) => Kind::Array,
+        _ => Kind::Table,
+    }
+}

@@ -1,0 +1,99 @@
+//! The layout of a text.
+ghost use Rattle.std.specs.Prelude.{◌≡◌, IfOk, IfErr};
+ghost use Rattle.std.specs.String.{string_bytes};
+ghost use Rattle.prettyless.specs.Content.{HasContent};
+ghost use Rattle.toml_lexemes.specs.Lexemes.{lexemes};
+ghost use Rattle.toml_statements.specs.Statements.{statements};
+ghost use Rattle.toml_formatter.specs.Errors.{IsRefusal};
+ghost use Rattle.toml_formatter.specs.Formats.{IsFormatted, IsRefused};
+ghost use Rattle.toml_formatter.specs.Lexing.{AreSound};
+
+use crate::document::document;
+use crate::error::FormatError;
+use crate::style::Style;
+use bumpalo::Bump;
+use prettyless::{Arena, DocPlace, DocPtr, IndentationPolicy, LineEnding, RefDoc, RenderError, RenderOptions};
+use std::alloc::{AllocError, Global};
+use toml_grammar::fault_of;
+
+/// How the first line of the text ends.
+fn line_ending(text: &str) -> LineEnding {
+    let mut last = b' ';
+    for byte in text.as_bytes() {
+        if *byte == b'\n' {
+            return if last == b'\r' { LineEnding::Crlf } else { LineEnding::Lf };
+        }
+        last = *byte;
+    }
+    LineEnding::Lf
+}
+
+/// What a text is laid out with.
+fn options(text: &str, style: Style) -> RenderOptions {
+    RenderOptions::new(style.width)
+        .with_line_ending(line_ending(text))
+        .with_indentation_policy(IndentationPolicy::Deferred)
+}
+
+/// The layout of a document.
+fn rendered<'a, P: DocPtr<'a>>(
+    document: &P,
+    alloc: Global,
+    options: RenderOptions,
+) -> Result<String, FormatError>
+    ensures ok { IfOk result (λ layout. HasContent (P.tree document.now) (string_bytes layout)) }
+    ensures err { IfErr result IsRefusal }
+{
+    let mut layout = String::new(alloc);
+    let doc = document.doc();
+    match doc.render_fmt_with(alloc, options, &mut layout) {
+        Ok(()) => Ok(layout),
+        Err(RenderError::Memory(error)) => Err(FormatError::Memory(error)),
+        // A `String` fails for want of memory alone, and a document of lexemes has nothing that fails.
+        Err(RenderError::Sink(_) | RenderError::Document(_)) => {
+            Err(FormatError::Memory(AllocError))
+        }
+    }
+}
+
+/// The layout of a text in this style, with its document in this arena.
+fn laid<'a>(
+    arena: &'a Arena<'a>,
+    alloc: Global,
+    text: &'a str,
+    style: Style,
+) -> Result<String, FormatError>
+    requires { AreSound (lexemes text.now) }
+    ensures ok { IfOk result (λ layout. statements (string_bytes layout) ≡ statements text.now) }
+    ensures err { IfErr result IsRefusal }
+{
+    let document = document(arena, text, style)?;
+    rendered(&document, alloc, options(text, style))
+}
+
+/// The same, with the document in an arena of its own.
+fn laid_out(alloc: Global, text: &str, style: Style) -> Result<String, FormatError>
+    requires { AreSound (lexemes text.now) }
+    ensures ok { IfOk result (λ layout. statements (string_bytes layout) ≡ statements text.now) }
+    ensures err { IfErr result IsRefusal }
+{
+    let bump = Bump::new(alloc);
+    let arena = Arena::new(alloc, &bump);
+    laid(&arena, alloc, text, style)
+}
+
+/// The layout of a TOML text in this style. It has the same statements: the same lexemes, remarks among them, in the same
+/// order, but for line ends in brackets, commas before closing brackets, and remarks before a comma, which stand after it.
+/// Its lines end as the first one of the text does. It ends with a line end, unless it is empty.
+///
+/// `NotToml` exactly where the text is no TOML. Where it is TOML, `TooDeep` where more than 128 brackets are in one another,
+/// and `Memory` where memory is refused.
+pub fn formatted(alloc: Global, text: &str, style: Style) -> Result<String, FormatError>
+    ensures ok { IfOk result (λ layout. IsFormatted text.now (string_bytes layout)) }
+    ensures err { IfErr result (IsRefused text.now) }
+{
+    if fault_of(alloc, text)?.is_some() {
+        return Err(FormatError::NotToml);
+    }
+    laid_out(alloc, text, style)
+}

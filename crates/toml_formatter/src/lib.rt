@@ -1,0 +1,21 @@
+//! A formatter of TOML texts. A text and its layout have the same statements.
+#![tactic(auto)]
+
+mod ahead;
+mod document;
+mod error;
+mod gaps;
+mod kind;
+mod layout;
+mod line;
+mod list;
+mod parts;
+mod statement;
+mod style;
+#[cfg(test)]
+mod tests;
+mod trim;
+
+pub use error::FormatError;
+pub use layout::formatted;
+pub use style::Style;

@@ -1,0 +1,288 @@
+//! The document of a line or of what is in brackets, while its lexemes are taken.
+ghost use Rattle.std.specs.Prelude.{◌≡◌, ◌++◌, ◌⊎◌, ◌∷◌, [], ℕ, Bool, List, true, false, ◌||◌, IfOk};
+ghost use Rattle.prettyless.specs.Trees.{ref_tree};
+ghost use Rattle.toml_lexemes.specs.Bytes.{comma, hash, head, line_feed};
+ghost use Rattle.toml_lexemes.specs.View.{text_of, IsNamed};
+ghost use Rattle.toml_statements.specs.Statements.{role, trimmed, a_closing};
+ghost use Rattle.toml_statements.specs.Shown.{IsWholeLexeme};
+ghost use Rattle.toml_formatter.specs.Gaps.{is_nested, is_remark};
+ghost use Rattle.toml_formatter.specs.Kinds.{last_after, IsPart};
+ghost use Rattle.toml_formatter.specs.Lines.{begun, may_hold, IsValue, IsLine, IsClosed, GoesOn};
+
+use crate::gaps::{before, before_comma, before_remark};
+use crate::kind::{Kind, Last, last_of};
+use crate::parts::{apart, trailed};
+use crate::trim::trimmed;
+use prettyless::text::BuildError;
+use prettyless::{Arena, RefDoc};
+use prettyless_shapes::{joined, nil, text};
+use toml_lexemes::Lexeme;
+
+/// The lexemes of a line or of a list so far. A comma that was taken waits for what comes after it, and remarks wait for
+/// whether a comma comes.
+#[derive(Clone, Copy)]
+pub(crate) struct Line<'a> {
+    pub(crate) doc: RefDoc<'a>,
+    /// What the document ends with.
+    pub(crate) last: Last,
+    /// Whether a comma waits.
+    pub(crate) comma: bool,
+    /// Whether remarks wait, and their document.
+    pub(crate) is_remarked: bool,
+    pub(crate) remarks: RefDoc<'a>,
+    /// Whether a line has ended since the last lexeme, and whether a blank line came.
+    pub(crate) broken: bool,
+    pub(crate) blank: bool,
+}
+
+/// Whether a comma or remarks may wait in a document that ends so.
+fn holds(last: Last) -> bool
+    ensures { result ≡ may_hold last }
+{
+    matches!(last, Last::Comma | Last::Remark)
+}
+
+impl<'a> Line<'a> {
+    /// A document that ends so, with nothing that waits.
+    pub(crate) fn begun(doc: RefDoc<'a>, last: Last) -> Line<'a>
+        ensures { result ≡ begun doc.entry last }
+    {
+        Line {
+            doc,
+            last,
+            comma: false,
+            is_remarked: false,
+            remarks: doc,
+            broken: false,
+            blank: false,
+        }
+    }
+
+    /// No lexeme of a list.
+    pub(crate) fn new(arena: &'a Arena<'a>) -> Result<Line<'a>, BuildError>
+        ensures { IfOk result (λ line. (left : List (List ℕ)) → IsLine true true line left []) }
+    {
+        Ok(Line::begun(nil(arena)?, Last::Start))
+    }
+
+    /// The same with a line end in brackets after it.
+    pub(crate) fn with_line_end(self) -> Line<'a>
+        ensures { (left taken : List (List ℕ)) → IsLine true true self.entry ((line_feed ∷ []) ∷ left) taken
+            → IsLine true true result left (taken ++ (line_feed ∷ []) ∷ []) }
+    {
+        Line {
+            broken: true,
+            blank: self.broken,
+            ..self
+        }
+    }
+
+    /// The same with the comma that waits in its place.
+    fn with_pending_comma(self, arena: &'a Arena<'a>) -> Result<Line<'a>, BuildError>
+        ensures line { IfOk result (λ line. (nested exact : Bool) (left taken : List (List ℕ))
+            → (nested ≡ false → self.entry.comma ≡ true → is_remark self.entry.last ≡ false)
+            → IsLine nested exact self.entry left taken → IsLine nested exact line left taken) }
+        ensures no_comma { IfOk result (λ line. line.comma ≡ false) }
+        ensures remarked { IfOk result (λ line. line.is_remarked ≡ self.entry.is_remarked) }
+        ensures last { IfOk result (λ line. is_remark self.entry.last ≡ false → is_remark line.last ≡ false) }
+    {
+        if !self.comma {
+            return Ok(self);
+        }
+        let comma = text(arena, ",")?;
+        let doc = apart(arena, self.doc, before_comma(self.last), comma)?;
+        Ok(Line {
+            doc,
+            last: Last::Comma,
+            comma: false,
+            ..self
+        })
+    }
+
+    /// The same with the remarks that wait in their place, where no comma waits.
+    fn with_pending_remarks(self, arena: &'a Arena<'a>) -> Result<Line<'a>, BuildError>
+        ensures line { IfOk result (λ line. (nested exact : Bool) (left taken : List (List ℕ))
+            → self.entry.comma ≡ false → IsLine nested exact self.entry left taken → IsLine nested exact line left taken) }
+        ensures comma { IfOk result (λ line. line.comma ≡ self.entry.comma) }
+        ensures remarked { IfOk result (λ line. line.is_remarked ≡ false) }
+        ensures last { IfOk result (λ line. self.entry.is_remarked ≡ false → is_remark self.entry.last ≡ false → is_remark line.last ≡ false) }
+    {
+        if !self.is_remarked {
+            return Ok(self);
+        }
+        let doc = joined(arena, self.doc, self.remarks)?;
+        Ok(Line {
+            doc,
+            last: Last::Remark,
+            is_remarked: false,
+            ..self
+        })
+    }
+
+    /// The same with the comma and the remarks that wait in their places.
+    pub(crate) fn settled(self, arena: &'a Arena<'a>) -> Result<Line<'a>, BuildError>
+        ensures line { IfOk result (λ line. (nested exact : Bool) (left taken : List (List ℕ))
+            → (nested ≡ false → self.entry.comma ≡ true → is_remark self.entry.last ≡ false)
+            → IsLine nested exact self.entry left taken → IsLine nested exact line left taken) }
+        ensures no_comma { IfOk result (λ line. line.comma ≡ false) }
+        ensures no_remarks { IfOk result (λ line. line.is_remarked ≡ false) }
+        ensures last { IfOk result (λ line. self.entry.is_remarked ≡ false → is_remark self.entry.last ≡ false → is_remark line.last ≡ false) }
+    {
+        self.with_pending_comma(arena)?.with_pending_remarks(arena)
+    }
+
+    /// Whether what waits is put in its place before a comma is taken.
+    fn settles(self) -> bool
+        ensures { result ≡ (self.entry.comma || may_hold self.entry.last) }
+    {
+        self.comma || holds(self.last)
+    }
+
+    /// The same with a comma that waits.
+    fn with_waiting_comma(self) -> Line<'a>
+        ensures line { (nested : Bool) (left taken : List (List ℕ)) → self.entry.comma ≡ false
+            → (self.entry.is_remarked ≡ false) ⊎ (may_hold self.entry.last ≡ false)
+            → IsLine nested true self.entry ((comma ∷ []) ∷ left) taken → IsLine nested true result left (taken ++ (comma ∷ []) ∷ []) }
+        ensures last { result.last ≡ self.entry.last }
+        ensures remarked { result.is_remarked ≡ self.entry.is_remarked }
+    {
+        Line {
+            comma: true,
+            broken: false,
+            blank: false,
+            ..self
+        }
+    }
+
+    /// The same with a comma taken.
+    pub(crate) fn with_comma(self, arena: &'a Arena<'a>) -> Result<Line<'a>, BuildError>
+        ensures line { IfOk result (λ line. (nested : Bool) (left taken : List (List ℕ)) → GoesOn nested self.entry
+            → IsLine nested true self.entry ((comma ∷ []) ∷ left) taken → IsLine nested true line left (taken ++ (comma ∷ []) ∷ [])) }
+        ensures goes_on { IfOk result (λ line. (nested : Bool) → GoesOn nested self.entry → GoesOn nested line) }
+    {
+        if self.settles() {
+            return Ok(self.settled(arena)?.with_waiting_comma());
+        }
+        Ok(self.with_waiting_comma())
+    }
+
+    /// The same with these remarks that wait.
+    fn with_remarks(self, remarks: RefDoc<'a>) -> Line<'a>
+        ensures { result ≡ record self.entry { is_remarked = true; remarks = remarks.entry; broken = false; blank = false } }
+    {
+        Line {
+            is_remarked: true,
+            remarks,
+            broken: false,
+            blank: false,
+            ..self
+        }
+    }
+
+    /// The same with a remark taken.
+    pub(crate) fn with_remark(
+        self,
+        arena: &'a Arena<'a>,
+        kind: Kind,
+        remark: &'a str,
+    ) -> Result<Line<'a>, BuildError>
+        requires goes_on { GoesOn (is_nested kind) self }
+        requires whole { IsWholeLexeme (trimmed remark.now) }
+        requires remark { head remark.now ≡ hash }
+        ensures line { IfOk result (λ line. (left taken : List (List ℕ))
+            → IsLine (is_nested kind) true self.entry (remark.now ∷ left) taken → IsLine (is_nested kind) true line left (taken ++ remark.now ∷ [])) }
+        ensures last { IfOk result (λ line. line.last ≡ self.entry.last) }
+    {
+        let gap = before_remark(
+            kind,
+            self.last,
+            self.is_remarked,
+            self.broken,
+            self.blank,
+        );
+        let remark = text(arena, trimmed(remark))?;
+        if self.is_remarked {
+            let remarks = apart(arena, self.remarks, gap, remark)?;
+            return Ok(self.with_remarks(remarks));
+        }
+        let remarks = apart(arena, nil(arena)?, gap, remark)?;
+        Ok(self.with_remarks(remarks))
+    }
+
+    /// The same with a document that begins with this lexeme.
+    pub(crate) fn with_value(
+        self,
+        arena: &'a Arena<'a>,
+        kind: Kind,
+        first: Lexeme<'a>,
+        value: RefDoc<'a>,
+    ) -> Result<Line<'a>, BuildError>
+        requires named { IsNamed first }
+        requires part { IsPart first }
+        requires goes_on { GoesOn (is_nested kind) self }
+        requires whole { IsWholeLexeme (text_of first) }
+        ensures line { IfOk result (λ line. (left old taken more : List (List ℕ))
+            → IsLine (is_nested kind) true self.entry (text_of first.entry ∷ old) taken
+            → IsValue (last_after first.entry) (text_of first.entry) left more (ref_tree value.entry)
+            → IsLine (is_nested kind) true line left (taken ++ (text_of first.entry ∷ more))) }
+        ensures goes_on { IfOk result (λ line. GoesOn (is_nested kind) line) }
+    {
+        let line = self.settled(arena)?;
+        let gap = before(kind, line.last, first, line.blank);
+        let doc = apart(arena, line.doc, gap, value)?;
+        Ok(Line {
+            doc,
+            last: last_of(first),
+            broken: false,
+            blank: false,
+            ..line
+        })
+    }
+
+    /// Whether the comma that waits, or one that may be added, stands in front of the remarks before a closing bracket.
+    fn keeps_comma(self, kind: Kind) -> bool
+        ensures { may_hold self.entry.last ≡ true → result ≡ self.entry.comma }
+    {
+        match (kind, self.last) {
+            (_, Last::Comma | Last::Remark) => self.comma,
+            (Kind::Array, Last::Close | Last::Equals | Last::Word | Last::String) => {
+                self.is_remarked
+            }
+            _ => false,
+        }
+    }
+
+    /// Whether a comma may be added after the last lexeme where an array is broken.
+    fn may_trail(self, kind: Kind) -> bool
+        ensures plain { result ≡ true → may_hold self.entry.last ≡ false }
+        ensures nested { result ≡ true → is_nested kind ≡ true }
+    {
+        matches!(
+            (kind, self.last),
+            (
+                Kind::Array,
+                Last::Close | Last::Equals | Last::Word | Last::String
+            )
+        )
+    }
+
+    /// The same as it stands before a closing bracket: with its remarks in their place, and a comma in front of them or at the
+    /// end where an array is broken.
+    pub(crate) fn closed(self, arena: &'a Arena<'a>, kind: Kind) -> Result<Line<'a>, BuildError>
+        requires { is_nested kind ≡ false → is_remark self.last ≡ false }
+        ensures last { IfOk result (λ line. self.entry.is_remarked ≡ false → is_remark self.entry.last ≡ false → is_remark line.last ≡ false) }
+        ensures closed { IfOk result (λ line. (x : List ℕ) (left taken : List (List ℕ)) → role x ≡ a_closing
+            → IsLine (is_nested kind) true self.entry (x ∷ left) taken → IsClosed (is_nested kind) line x taken) }
+    {
+        let line = Line {
+            comma: self.keeps_comma(kind),
+            ..self
+        };
+        let line = line.settled(arena)?;
+        if line.may_trail(kind) {
+            let doc = trailed(arena, line.doc)?;
+            return Ok(Line { doc, ..line });
+        }
+        Ok(line)
+    }
+}

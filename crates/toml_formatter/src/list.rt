@@ -1,0 +1,155 @@
+//! The documents of values.
+ghost use Rattle.std.specs.Prelude.{◌≡◌, ◌++◌, ◌≤◌, ◌∷◌, [], ℕ, List, length, true, false, IfOk, IfErr, OnOk};
+ghost use Rattle.prettyless.specs.Trees.{ref_tree};
+ghost use Rattle.toml_lexemes.specs.View.{text_of, IsNamed};
+ghost use Rattle.toml_formatter.specs.Errors.{IsRefusal};
+ghost use Rattle.toml_formatter.specs.Gaps.{is_nested};
+ghost use Rattle.toml_formatter.specs.Kinds.{is_closing, is_opening, last_after, IsPart};
+ghost use Rattle.toml_formatter.specs.Lexing.{ClosesNext, IsSound};
+ghost use Rattle.toml_formatter.specs.Lines.{IsValue, IsLine, TakesLine, TakesValue};
+
+use crate::ahead::Ahead;
+use crate::error::FormatError;
+use crate::gaps::before_close;
+use crate::kind::{Kind, kind_of, opens};
+use crate::line::Line;
+use crate::parts::{apart, lexeme};
+use crate::style::Style;
+use prettyless::{Arena, RefDoc};
+use prettyless_shapes::{grouped, indented, joined, text};
+use toml_lexemes::Lexeme;
+
+/// What each lexeme of a text is laid out with.
+#[derive(Clone, Copy)]
+pub(crate) struct Setting<'a> {
+    pub(crate) arena: &'a Arena<'a>,
+    pub(crate) style: Style,
+}
+
+/// A list of this kind, which was opened by this bracket and has this line in it.
+fn closed<'a>(
+    setting: &Setting<'a>,
+    kind: Kind,
+    bracket: Lexeme<'a>,
+    line: Line<'a>,
+    close: Lexeme<'a>,
+) -> Result<RefDoc<'a>, FormatError>
+    requires kind { is_nested kind ≡ true }
+    requires opens { is_opening bracket ≡ true }
+    requires closes { is_closing close ≡ true }
+    ensures made { IfOk result (λ p. (left taken : List (List ℕ)) → IsSound (text_of close.entry) left
+        → IsLine true true line.entry (text_of close.entry ∷ left) taken
+        → IsValue (last_after bracket.entry) (text_of bracket.entry) left (taken ++ text_of close.entry ∷ []) (ref_tree p)) }
+    ensures err { IfErr result IsRefusal }
+{
+    let arena = setting.arena;
+    let line = line.closed(arena, kind)?;
+    let inner = joined(arena, text(arena, bracket.text())?, line.doc)?;
+    let columns = match kind {
+        Kind::Array => setting.style.indent,
+        _ => 0,
+    };
+    let nested = indented(arena, inner, columns)?;
+    let gap = before_close(kind, line.last);
+    let doc = apart(arena, nested, gap, text(arena, close.text())?)?;
+    Ok(grouped(arena, doc)?)
+}
+
+/// A list that was opened by this bracket and has this line in it, and that the text ends in.
+fn unclosed<'a>(
+    setting: &Setting<'a>,
+    bracket: Lexeme<'a>,
+    line: Line<'a>,
+) -> Result<RefDoc<'a>, FormatError>
+    requires { is_opening bracket ≡ true }
+    ensures made { IfOk result (λ p. (taken : List (List ℕ)) → IsLine true true line.entry [] taken
+        → IsValue (last_after bracket.entry) (text_of bracket.entry) [] taken (ref_tree p)) }
+    ensures err { IfErr result IsRefusal }
+{
+    let arena = setting.arena;
+    let line = line.settled(arena)?;
+    Ok(joined(arena, text(arena, bracket.text())?, line.doc)?)
+}
+
+/// The document of the value that begins with this lexeme, and goes on with those that come next. So many brackets may be
+/// in one another in it.
+#[cycle(value)]
+pub(crate) fn value<'a>(
+    setting: &Setting<'a>,
+    lexemes: &mut Ahead<'a>,
+    around: Kind,
+    is_first: bool,
+    first: Lexeme<'a>,
+    depth: usize,
+) -> Result<RefDoc<'a>, FormatError>
+    requires named { IsNamed first }
+    requires part { IsPart first }
+    ensures made { IfOk result (λ p.
+        TakesValue (last_after first.entry) (text_of first.entry) lexemes.old lexemes.new (ref_tree p)) }
+    ensures fewer { OnOk result (length lexemes.new ≤ length lexemes.old) }
+    ensures err { IfErr result IsRefusal }
+{
+    if !opens(first) {
+        return Ok(lexeme(setting.arena, first.text())?);
+    }
+    if depth == 0 {
+        return Err(FormatError::TooDeep);
+    }
+    let kind = kind_of(around, is_first, first);
+    let line = inside(setting, lexemes, kind, depth - 1)?;
+    match lexemes.next() {
+        Some(close) => closed(setting, kind, first, line, close),
+        None => unclosed(setting, first, line),
+    }
+}
+
+/// What is in brackets, up to what closes them.
+#[cycle(value)]
+fn inside<'a>(
+    setting: &Setting<'a>,
+    lexemes: &mut Ahead<'a>,
+    kind: Kind,
+    depth: usize,
+) -> Result<Line<'a>, FormatError>
+    requires { is_nested kind ≡ true }
+    ensures made { IfOk result (λ line. TakesLine line lexemes.old lexemes.new) }
+    ensures closing { OnOk result (ClosesNext lexemes.new) }
+    ensures fewer { OnOk result (length lexemes.new ≤ length lexemes.old) }
+    ensures err { IfErr result IsRefusal }
+{
+    let mut line = Line::new(setting.arena)?;
+    while let Some(next) = lexemes.next_inside() {
+        line = with_next(setting, lexemes, kind, line, next, depth)?;
+    }
+    Ok(line)
+}
+
+/// The line with this lexeme in brackets taken.
+#[cycle(value)]
+fn with_next<'a>(
+    setting: &Setting<'a>,
+    lexemes: &mut Ahead<'a>,
+    kind: Kind,
+    line: Line<'a>,
+    next: Lexeme<'a>,
+    depth: usize,
+) -> Result<Line<'a>, FormatError>
+    requires kind { is_nested kind ≡ true }
+    requires named { IsNamed next }
+    requires sound { IsSound (text_of next) lexemes.old }
+    requires part { is_closing next ≡ false }
+    ensures made { IfOk result (λ made. (taken : List (List ℕ)) → IsLine true true line.entry (text_of next.entry ∷ lexemes.old) taken
+        → (more : List (List ℕ)) × (text_of next.entry ∷ lexemes.old ≡ more ++ lexemes.new) × IsLine true true made lexemes.new (taken ++ more)) }
+    ensures fewer { OnOk result (length lexemes.new ≤ length lexemes.old) }
+    ensures err { IfErr result IsRefusal }
+{
+    match next {
+        Lexeme::LineEnd => Ok(line.with_line_end()),
+        Lexeme::Comma => Ok(line.with_comma(setting.arena)?),
+        Lexeme::Remark(remark) => Ok(line.with_remark(setting.arena, kind, remark)?),
+        _ => {
+            let value = value(setting, lexemes, kind, false, next, depth)?;
+            Ok(line.with_value(setting.arena, kind, next, value)?)
+        }
+    }
+}

@@ -1,0 +1,79 @@
+//! Documents of lexemes, and documents with a gap between them.
+ghost use Rattle.std.specs.Prelude.{◌≡◌, [], ◌∷◌, IfOk};
+ghost use Rattle.prettyless.specs.Counted as counted;
+ghost use Rattle.prettyless.specs.Built.{append};
+ghost use Rattle.prettyless.specs.Lines.{line_};
+ghost use Rattle.prettyless.specs.Tree.{Nil, BreakOrFlat};
+ghost use Rattle.prettyless_model.specs.Shows.{Item, Mark, Shown, loose, shows};
+ghost use Rattle.prettyless_shapes.specs.Items.{ShowsBoth, ShowsMore};
+ghost use Rattle.prettyless_shapes.specs.Shown.{text_items};
+ghost use Rattle.toml_lexemes.specs.Bytes.{comma};
+ghost use Rattle.toml_formatter.specs.Gaps.{gap_items};
+
+use crate::gaps::Gap;
+use prettyless::text::BuildError;
+use prettyless::{BuildDoc, DocAllocator, DocBuilder, DocPlace, Pretty};
+use prettyless_shapes::{broken, ended, joined, lined, spaced, stacked, text};
+
+/// A lexeme, as it is spelled. Where it has several lines, the groups around it are not flat.
+pub(crate) fn lexeme<'a, D: DocPlace<'a>>(
+    place: &'a D,
+    spelling: &'a str,
+) -> Result<D::Doc, BuildError>
+    ensures { IfOk result (λ p. shows (D.Doc.tree p) (text_items spelling.now)) }
+{
+    let doc = text(place, spelling)?;
+    if has_lines(spelling) {
+        broken(place, doc)
+    } else {
+        Ok(doc)
+    }
+}
+
+/// Whether a line ends in the text.
+fn has_lines(text: &str) -> bool {
+    text.as_bytes().iter().any(|byte| *byte == b'\n')
+}
+
+/// A document, and a line end after it, or nothing where lines are flat.
+fn edged<'a, D: DocPlace<'a>>(place: &'a D, doc: D::Doc) -> Result<D::Doc, BuildError>
+    ensures ok { IfOk result (λ p. D.Doc.tree p ≡ append (D.Doc.tree doc) line_) }
+    ensures items { IfOk result (λ p. ShowsMore (D.Doc.tree doc) (loose ∷ []) (D.Doc.tree p)) }
+{
+    DocBuilder(place, BuildDoc::DocPtr(doc))
+        .join(place.line_()?)?
+        .into_doc()
+}
+
+/// A document, and a comma after it where lines are broken.
+pub(crate) fn trailed<'a, D: DocPlace<'a>>(
+    place: &'a D,
+    doc: D::Doc,
+) -> Result<D::Doc, BuildError>
+    ensures ok { IfOk result (λ p. D.Doc.tree p ≡ append (D.Doc.tree doc) (BreakOrFlat (counted.text (comma ∷ [])) Nil)) }
+    ensures items { IfOk result (λ p. ShowsMore (D.Doc.tree doc) (Mark (comma ∷ []) ∷ []) (D.Doc.tree p)) }
+{
+    DocBuilder(place, BuildDoc::DocPtr(doc))
+        .join(",".pretty(place)?.when_group_break()?)?
+        .into_doc()
+}
+
+/// Two documents with a gap between them.
+pub(crate) fn apart<'a, D: DocPlace<'a>>(
+    place: &'a D,
+    front: D::Doc,
+    gap: Gap,
+    next: D::Doc,
+) -> Result<D::Doc, BuildError>
+    ensures { IfOk result (λ p. ShowsBoth (D.Doc.tree front) (gap_items gap) (D.Doc.tree next) (D.Doc.tree p)) }
+{
+    match gap {
+        Gap::Nothing => joined(place, front, next),
+        Gap::Space => spaced(place, front, next),
+        Gap::Edge => joined(place, edged(place, front)?, next),
+        Gap::Line => lined(place, front, next),
+        Gap::BlankLine => lined(place, edged(place, front)?, next),
+        Gap::Break => stacked(place, front, next),
+        Gap::BlankBreak => stacked(place, ended(place, front)?, next),
+    }
+}

@@ -1,0 +1,123 @@
+//! The documents of statements.
+ghost use Rattle.std.specs.Prelude.{◌≡◌, ◌∷◌, ◌++◌, ◌≤◌, [], ℕ, List, length, false, true, IfOk, IfErr, OnOk};
+ghost use Rattle.prettyless.specs.Trees.{ref_tree};
+ghost use Rattle.toml_lexemes.specs.Bytes.{line_feed};
+ghost use Rattle.toml_lexemes.specs.View.{text_of, IsNamed};
+ghost use Rattle.toml_formatter.specs.Errors.{IsRefusal};
+ghost use Rattle.toml_formatter.specs.Kinds.{is_closing};
+ghost use Rattle.toml_formatter.specs.Lexing.{IsSound, LineEndsNext};
+ghost use Rattle.toml_formatter.specs.Lines.{GoesOn, IsLine, MayGoOn, TakesStatement};
+
+use crate::ahead::Ahead;
+use crate::error::FormatError;
+use crate::kind::{Kind, Last, closes, last_of};
+use crate::line::Line;
+use crate::list::{Setting, value};
+use crate::trim::trimmed;
+use prettyless::RefDoc;
+use prettyless_shapes::{joined, text};
+use toml_lexemes::Lexeme;
+
+/// How many brackets may be in one another.
+const MAX_DEPTH: usize = 128;
+
+/// The line with a bracket that closes nothing taken. Reading drops a comma before it.
+fn with_closing<'a>(
+    setting: &Setting<'a>,
+    line: Line<'a>,
+    bracket: Lexeme<'a>,
+) -> Result<Line<'a>, FormatError>
+    requires closes { is_closing bracket ≡ true }
+    requires goes_on { GoesOn false line }
+    ensures line { IfOk result (λ made. (left taken : List (List ℕ)) → IsSound (text_of bracket.entry) left
+        → IsLine false true line.entry (text_of bracket.entry ∷ left) taken → IsLine false true made left (taken ++ text_of bracket.entry ∷ [])) }
+    ensures goes_on { IfOk result (λ made. GoesOn false made) }
+    ensures err { IfErr result IsRefusal }
+{
+    let line = line.closed(setting.arena, Kind::Statement)?;
+    let bracket = text(setting.arena, bracket.text())?;
+    let doc = joined(setting.arena, line.doc, bracket)?;
+    Ok(Line::begun(doc, Last::Close))
+}
+
+/// The line that begins with this lexeme outside of brackets, which is no line end.
+fn begun<'a>(
+    setting: &Setting<'a>,
+    lexemes: &mut Ahead<'a>,
+    first: Lexeme<'a>,
+) -> Result<Line<'a>, FormatError>
+    requires named { IsNamed first }
+    requires sound { IsSound (text_of first) lexemes.old }
+    requires no_line_end { LineEndsNext (text_of first ∷ lexemes.old) → ⊥ }
+    ensures line { IfOk result (λ made. (more : List (List ℕ)) × (text_of first.entry ∷ lexemes.old ≡ more ++ lexemes.new)
+        × IsLine false true made lexemes.new more) }
+    ensures goes_on { IfOk result (λ made. MayGoOn made lexemes.new) }
+    ensures fewer { OnOk result (length lexemes.new ≤ length lexemes.old) }
+    ensures err { IfErr result IsRefusal }
+{
+    let arena = setting.arena;
+    if closes(first) {
+        let bracket = text(arena, first.text())?;
+        return Ok(Line::begun(bracket, Last::Close));
+    }
+    match first {
+        Lexeme::Comma => Ok(Line::begun(text(arena, ",")?, Last::Comma)),
+        Lexeme::Remark(remark) => Ok(Line::begun(text(arena, trimmed(remark))?, Last::Remark)),
+        _ => {
+            let value = value(setting, lexemes, Kind::Statement, true, first, MAX_DEPTH)?;
+            Ok(Line::begun(value, last_of(first)))
+        }
+    }
+}
+
+/// The line with this lexeme outside of brackets taken, which is no line end.
+fn with_next<'a>(
+    setting: &Setting<'a>,
+    lexemes: &mut Ahead<'a>,
+    line: Line<'a>,
+    next: Lexeme<'a>,
+) -> Result<Line<'a>, FormatError>
+    requires named { IsNamed next }
+    requires sound { IsSound (text_of next) lexemes.old }
+    requires no_line_end { LineEndsNext (text_of next ∷ lexemes.old) → ⊥ }
+    requires goes_on { GoesOn false line }
+    ensures line { IfOk result (λ made. (taken : List (List ℕ)) → IsLine false true line.entry (text_of next.entry ∷ lexemes.old) taken
+        → (more : List (List ℕ)) × (text_of next.entry ∷ lexemes.old ≡ more ++ lexemes.new) × IsLine false true made lexemes.new (taken ++ more)) }
+    ensures goes_on { IfOk result (λ made. MayGoOn made lexemes.new) }
+    ensures fewer { OnOk result (length lexemes.new ≤ length lexemes.old) }
+    ensures err { IfErr result IsRefusal }
+{
+    let arena = setting.arena;
+    let kind = Kind::Statement;
+    if closes(next) {
+        return with_closing(setting, line, next);
+    }
+    match next {
+        Lexeme::Comma => Ok(line.with_comma(arena)?),
+        Lexeme::Remark(remark) => Ok(line.with_remark(arena, kind, remark)?),
+        _ => {
+            let value = value(setting, lexemes, kind, false, next, MAX_DEPTH)?;
+            Ok(line.with_value(arena, kind, next, value)?)
+        }
+    }
+}
+
+/// The document of the statement that begins with this lexeme, which is no line end, with the line end after it taken.
+pub(crate) fn statement<'a>(
+    setting: &Setting<'a>,
+    lexemes: &mut Ahead<'a>,
+    first: Lexeme<'a>,
+) -> Result<RefDoc<'a>, FormatError>
+    requires named { IsNamed first }
+    requires sound { IsSound (text_of first) lexemes.old }
+    requires no_line_end { LineEndsNext (text_of first ∷ lexemes.old) → ⊥ }
+    ensures made { IfOk result (λ p. TakesStatement (text_of first.entry ∷ lexemes.old) lexemes.new (ref_tree p)) }
+    ensures fewer { OnOk result (length lexemes.new ≤ length lexemes.old) }
+    ensures err { IfErr result IsRefusal }
+{
+    let mut line = begun(setting, lexemes, first)?;
+    while let Some(next) = lexemes.next_on_line() {
+        line = with_next(setting, lexemes, line, next)?;
+    }
+    Ok(line.settled(setting.arena)?.doc)
+}
