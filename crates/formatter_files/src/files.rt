@@ -1,4 +1,8 @@
 //! Laying files out, one after the other.
+ghost use Rattle.std.specs.Prelude.{◌≡◌, ◌⊎◌, IfErr, IfOk};
+ghost use Rattle.clap.specs.Words.{kind_of};
+ghost use Rattle.formatter_files.specs.Endings.{ending_after};
+
 use crate::deed::Deed;
 use crate::ending::Ending;
 use crate::replace::replace;
@@ -77,7 +81,10 @@ pub fn ending_of<R: Eprint>(
     program: &str,
     name: &str,
     outcome: io::Result<Ending>,
-) -> Ending {
+) -> Ending
+    ensures ok { IfOk outcome (λ ending. result ≡ ending) }
+    ensures err { IfErr outcome (λ error. result ≡ Ending.Failed) }
+{
     match outcome {
         Ok(ending) => ending,
         Err(error) => {
@@ -112,8 +119,10 @@ pub fn words<R: AllocGlobal + Env>(rt: &R) -> io::Result<Vec<String>> {
     Ok(env::args(rt)?.collect(rt.alloc())?)
 }
 
-/// How the program ends where its words gave an error, after its message is printed.
-pub fn ending_after<R: Eprint + Print>(rt: &R, program: &str, error: &clap::Error) -> Ending {
+/// How the program ends where its words gave an error, after its message is printed; or that this failed.
+pub fn ending_after<R: Eprint + Print>(rt: &R, program: &str, error: &clap::Error) -> Ending
+    ensures { (result ≡ ending_after (kind_of error.now)) ⊎ (result ≡ Ending.Failed) }
+{
     match error.print(rt) {
         Ok(()) => Ending::after(error.kind()),
         Err(failure) => ending_of(rt, program, "<stdout>", Err(failure)),

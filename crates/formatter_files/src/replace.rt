@@ -40,7 +40,7 @@ fn create_beside<R: Files + AllocGlobal>(rt: &R, path: Path<'_>) -> io::Result<(
             Err(error) => return Err(error),
         }
     }
-    Err(io::Error::from(ErrorKind::AlreadyExists))
+    Err(io::Error::new(ErrorKind::AlreadyExists, "no name beside it is free"))
 }
 
 /// Writes the whole text to the new file, and gives it the owner and the permissions of the file that it is to replace.
@@ -72,7 +72,7 @@ fn put<R: Files>(
 fn replaceable<R: Files>(rt: &R, path: Path<'_>) -> io::Result<Metadata> {
     let old = fs::metadata(rt, path)?;
     if !old.is_file() {
-        return Err(io::Error::from(ErrorKind::InvalidInput));
+        return Err(io::Error::new(ErrorKind::InvalidInput, "no regular file"));
     }
     File::options().append(true).open(rt, path)?;
     Ok(old)
