@@ -34,6 +34,7 @@ const TEXTS: &[&str] = &[
     "carriage_returns",
     "line_feed_first",
     "carriage_return_first",
+    "line_feed_in_string",
     "past_ascii",
     "long_values",
     "deep",
