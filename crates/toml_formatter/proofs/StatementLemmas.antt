@@ -1,5 +1,5 @@
 -- Statements, lexeme by lexeme.
-use Rattle.std.proofs.Common.{◌≡◌, refl, sym, ◌∙◌, ap, subst, ℕ, Bool, true, false, List, [], ◌∷◌, ◌++◌, append_assoc, append-nil, inl, inr}
+use Rattle.std.proofs.Common.{◌≡◌, refl, sym, ◌∙◌, ap, subst, ℕ, Bool, true, false, List, [], ◌∷◌, ◌++◌, append_assoc, append-nil, inl, inr, Bor}
 use Rattle.std.specs.Prelude.{◌⊎◌}
 use Rattle.prettyless.specs.Tree.{Tree}
 use Rattle.prettyless.specs.Trees.{ref_tree}
@@ -119,12 +119,8 @@ may_settle line left h e k = elim h [ inl g ↦ g.1 | inr g ↦ g.0 k ]
 pub goes_on : (line : Line) (left : List (List ℕ)) → (LineEndsNext left → ⊥) → MayGoOn line left → GoesOn false line
 goes_on line left none h = elim h [ inl g ↦ g | inr g ↦ absurd (none g.1) ]
 
-abbrev IsRemark : Lexeme → Type 0
-IsRemark (lexeme.Remark s) = Unit {0}
-IsRemark _ = ⊥
-
 -- what closes no list and is no comma, remark or line end is a part of a statement
-pub part_of : (x : Lexeme) (ls : List (List ℕ)) → (LineEndsNext (text_of x ∷ ls) → ⊥) → is_closing x ≡ false → (x ≡ lexeme.Comma → ⊥) → (IsRemark x → ⊥) → IsPart x
+pub part_of : (x : Lexeme) (ls : List (List ℕ)) → (LineEndsNext (text_of x ∷ ls) → ⊥) → is_closing x ≡ false → (x ≡ lexeme.Comma → ⊥) → ((r : Bor (List ℕ)) → x ≡ lexeme.Remark r → ⊥) → IsPart x
 part_of lexeme.OpenArray ls n e p q = tt
 part_of lexeme.OpenTable ls n e p q = tt
 part_of lexeme.Equals ls n e p q = tt
@@ -134,4 +130,4 @@ part_of lexeme.CloseArray ls n e p q = absurd (cc)
 part_of lexeme.CloseTable ls n e p q = absurd (cc)
 part_of lexeme.Comma ls n e p q = absurd (p refl)
 part_of lexeme.LineEnd ls n e p q = absurd (n (inr (ls, refl)))
-part_of (lexeme.Remark s) ls n e p q = absurd (q tt)
+part_of (lexeme.Remark s) ls n e p q = absurd (q s refl)

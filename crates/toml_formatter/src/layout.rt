@@ -14,7 +14,7 @@ use crate::style::Style;
 use bumpalo::Bump;
 use prettyless::{Arena, DocPlace, DocPtr, IndentationPolicy, LineEnding, RefDoc, RenderError, RenderOptions};
 use std::alloc::{AllocError, Global};
-use toml_grammar::fault_of;
+use toml_grammar::{fault_of, law_closed_strings};
 
 /// How the first line of the text ends.
 fn line_ending(text: &str) -> LineEnding {
@@ -92,8 +92,11 @@ pub fn formatted(alloc: Global, text: &str, style: Style) -> Result<String, Form
     ensures ok { IfOk result (λ layout. IsFormatted text.now (string_bytes layout)) }
     ensures err { IfErr result (IsRefused text.now) }
 {
-    if fault_of(alloc, text)?.is_some() {
-        return Err(FormatError::NotToml);
+    match fault_of(alloc, text)? {
+        Some(_) => Err(FormatError::NotToml),
+        None => {
+            law_closed_strings();
+            laid_out(alloc, text, style)
+        }
     }
-    laid_out(alloc, text, style)
 }

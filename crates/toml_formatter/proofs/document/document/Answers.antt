@@ -1,0 +1,42 @@
+use Rattle.std.proofs.Common.{◌≡◌, refl, sym, ◌∙◌, ap, subst, ◌∷◌, ◌++◌, [], List, ℕ, append_assoc, append-nil}
+use Rattle.prettyless.specs.Trees.{ref_tree}
+use Rattle.toml_lexemes.specs.Bytes.{line_feed}
+use Rattle.toml_lexemes.specs.View.{text_of}
+use Rattle.toml_lexemes.specs.declared.lexeme.Lexeme.{Lexeme}
+use Rattle.toml_lexemes.specs.Lexemes.{lexemes}
+use Rattle.toml_formatter.specs.Lines.{IsDocument}
+use Rattle.toml_formatter.proofs.Documents.{document_blank, document_none, document_whole}
+use Rattle.toml_formatter.proofs.document.document.Goals as goal
+
+pub loop-first-init : goal.loop-first-init
+loop-first-init c = ([], sym c.new-lexemes.ensures, document_none c.new-lexemes.result (ref_tree c.in_ok-doc.doc) c.in_ok-doc.ensures.items)
+
+pub loop-first-preserved-in-LineEnd : goal.loop-first-preserved-in-LineEnd
+loop-first-preserved-in-LineEnd c =
+    let before = c.loop-first.invariant in
+    let left = c.next.new.self in
+    let d = ref_tree c.loop-first.doc in
+    let e : c.loop-first.lexemes ≡ (line_feed ∷ []) ∷ left = c.in-Some.ensures.next ∙ ap (λ (x : Lexeme). text_of x ∷ left) c.in-LineEnd.is in
+    (before.0 ++ (line_feed ∷ []) ∷ [],
+    before.1 ∙ ap (λ (ss : List (List ℕ)). before.0 ++ ss) e ∙ sym (append_assoc before.0 ((line_feed ∷ []) ∷ []) left),
+    document_blank left before.0 d (subst (λ (ss : List (List ℕ)). IsDocument ss before.0 d) e before.2))
+
+pub loop-first-preserved : goal.loop-first-preserved
+loop-first-preserved c =
+    let before = c.loop-first.invariant in
+    let s = text_of c.in-Some.first in
+    let e = c.in-Some.ensures.next in
+    let left = c.statement.new.lexemes in
+    let h = subst (λ (ss : List (List ℕ)). IsDocument ss before.0 (ref_tree c.loop-first.doc)) e before.2 in
+    let made = c.in_ok-doc-2.ensures.made s c.next.new.self left before.0 h c.in_ok-next.ensures.made in
+    (before.0 ++ made.0,
+    before.1 ∙ ap (λ (ss : List (List ℕ)). before.0 ++ ss) (e ∙ made.1) ∙ sym (append_assoc before.0 made.0 left),
+    made.2)
+
+pub returns-clause-made : goal.returns-clause-made
+returns-clause-made c =
+    let before = c.loop-first.invariant in
+    let d = ref_tree c.loop-first.doc in
+    let e = c.in_default.ensures.next.0 in
+    document_whole c.args.text.now before.0 d (before.1 ∙ ap (λ (ss : List (List ℕ)). before.0 ++ ss) e ∙ append-nil before.0)
+    (subst (λ (ss : List (List ℕ)). IsDocument ss before.0 d) e before.2)

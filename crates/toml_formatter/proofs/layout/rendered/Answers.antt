@@ -1,0 +1,9 @@
+use Rattle.std.proofs.Common.{sym, subst}
+use Rattle.prettyless.specs.Content.{HasContent}
+use Rattle.toml_formatter.proofs.layout.rendered.Goals as goal
+
+-- what was appended to nothing is the whole layout
+pub returns-in-Ok-clause-ok : goal.returns-in-Ok-clause-ok
+returns-in-Ok-clause-ok g c =
+    let content = rw (c.doc-doc.ensures, c.new-layout.ensures.bytes) at c.in-Ok.ensures.content in
+    subst (HasContent (g.P.DocPtr.tree c.args.document.now)) (sym content.1) content.2
