@@ -2,6 +2,7 @@
 //! hand. Says of each text of `data/refused` where it stops being TOML, and what was expected there.
 #![tactic(auto)]
 
+use formatter_files::place::{Place, place_at};
 use std::alloc::Global;
 use std::fs::Files;
 use std::{fs, io};
@@ -141,21 +142,6 @@ fn lay_out<R: AllocGlobal + Files + Print>(rt: &R, name: &str) -> io::Result<()>
     Ok(())
 }
 
-/// The line and the column of the byte at this offset, from 1. A column is a character.
-fn place_of(text: &str, offset: usize) -> (usize, usize) {
-    let mut line = 1usize;
-    let mut column = 1usize;
-    for byte in text.as_bytes().iter().take(offset) {
-        if *byte == b'\n' {
-            line = line.saturating_add(1);
-            column = 1;
-        } else if *byte < 0x80 || *byte >= 0xC0 {
-            column = column.saturating_add(1);
-        }
-    }
-    (line, column)
-}
-
 /// Says that a text is refused, where it stops being TOML, and what was expected there.
 fn refuse<R: AllocGlobal + Files + Print>(rt: &R, name: &str) -> io::Result<()> {
     let text = read(rt, "refused", name)?;
@@ -163,7 +149,7 @@ fn refuse<R: AllocGlobal + Files + Print>(rt: &R, name: &str) -> io::Result<()> 
     let Some(fault) = fault_of(rt.alloc(), &text)? else {
         return println!(rt; "");
     };
-    let (line, column) = place_of(&text, fault.offset);
+    let Place { line, column } = place_at(text.as_bytes(), fault.offset);
     println!(rt;
         " at line {line}, column {column}: expected {}",
         fault.expected.name()

@@ -15,15 +15,18 @@ use bumpalo::Bump;
 use prettyless::{Arena, DocPlace, DocPtr, IndentationPolicy, LineEnding, RefDoc, RenderError, RenderOptions};
 use std::alloc::{AllocError, Global};
 use toml_grammar::{fault_of, law_closed_strings};
+use toml_lexemes::{Lexeme, SpacedLexer};
 
-/// How the first line of the text ends.
+/// How the first line of the text ends, by its first line end outside of strings.
 fn line_ending(text: &str) -> LineEnding {
-    let mut last = b' ';
-    for byte in text.as_bytes() {
-        if *byte == b'\n' {
-            return if last == b'\r' { LineEnding::Crlf } else { LineEnding::Lf };
+    for spaced in SpacedLexer::new(text) {
+        if let Some(Lexeme::LineEnd) = spaced.lexeme {
+            return if spaced.gap.ends_with('\r') {
+                LineEnding::Crlf
+            } else {
+                LineEnding::Lf
+            };
         }
-        last = *byte;
     }
     LineEnding::Lf
 }
