@@ -83,9 +83,12 @@ document_blank left taken d h =
     let r = h.read in
     let same : before_next r.stage ≡ with_lexemes none_collected taken = elim r.same [ inl e ↦ e | inr e ↦ empty (line_feed ∷ []) left e.0 ] in
     record {
-      items = h.items; shown = h.shown;
+      items = h.items;
+      shown = h.shown;
       read = record {
-        stage = r.stage; read = r.read; at_line = r.at_line;
+        stage = r.stage;
+        read = r.read;
+        at_line = r.at_line;
         same = inl (sym (ended_there r.stage r.at_line) ∙ ap line_ended same ∙ sym (with_both none_collected taken ((line_feed ∷ []) ∷ [])));
       };
     }
@@ -141,7 +144,10 @@ document_more blank s old left taken d statement front whole front_shows whole_s
 
     read_more : (w : (s ∷ old ≡ t.0 ++ (line_feed ∷ []) ∷ left) ⊎ ((s ∷ old ≡ t.0) × (left ≡ []))) → DocumentRead (taken ++ more_taken w) left items
     read_more w = record {
-      stage = after_line_of r.collected r.text; read = read_all; at_line = inr (r.collected, r.text, refl); same = ends_same w;
+      stage = after_line_of r.collected r.text;
+      read = read_all;
+      at_line = inr (r.collected, r.text, refl);
+      same = ends_same w;
     }
 
 pub document_whole : (text : List ℕ) (taken : List (List ℕ)) (d : Tree) → lexemes text ≡ taken → IsDocument [] taken d → HasStatements text d
@@ -150,10 +156,14 @@ document_whole text taken d e h =
     let r = h.read in
     let all = ap (λ (ss : List (List ℕ)). statements_of (with_lexemes none_collected ss)) (sym e) in
     record {
-      items = h.items; shown = h.shown; stage = r.stage; read = r.read; unmarked = unmarked_there r.stage r.at_line;
+      items = h.items;
+      shown = h.shown;
+      stage = r.stage;
+      read = r.read;
+      unmarked = unmarked_there r.stage r.at_line;
       same = statements_there r.stage r.at_line
-      ∙ elim r.same [
-        | inl p ↦ ap statements_of p ∙ all
-        | inr p ↦ ap statements_of p.1 ∙ statements_ended (with_lexemes none_collected taken) ∙ all
-      ];
+          ∙ elim r.same [
+            | inl p ↦ ap statements_of p ∙ all
+            | inr p ↦ ap statements_of p.1 ∙ statements_ended (with_lexemes none_collected taken) ∙ all
+          ];
     }

@@ -86,7 +86,12 @@ not_over line s left h = absurd (empty h.0)
 
 pub no_lexeme : (doc : RefDoc) (left : List (List ℕ)) → shows (ref_tree doc) [] → IsLine true true (begun doc last.Start) left []
 no_lexeme doc left h = record {
-  items = []; remark_items = []; rs = []; shown = h; remarks_shown = h; remarks = refl;
+  items = [];
+  remark_items = [];
+  rs = [];
+  shown = h;
+  remarks_shown = h;
+  remarks = refl;
   read = λ a b. record { collected = b.0; text = b.1; read = b.2; same = ap before_next b.2; ends = inr b.3; level = inr (λ e. ap (λ (x : Stage). (before_next x).depth) (sym b.2)) };
 }
 
@@ -109,7 +114,12 @@ waiting_nested nested line l rs items c w h =
 pub line_end_taken : (line : Line) (p q : Bool) (left taken : List (List ℕ)) → IsLine true true line ((line_feed ∷ []) ∷ left) taken
     → IsLine true true (record line { broken = p; blank = q }) left (taken ++ (line_feed ∷ []) ∷ [])
 line_end_taken line p q left taken h = record {
-  items = h.items; remark_items = h.remark_items; rs = h.rs; shown = h.shown; remarks_shown = h.remarks_shown; remarks = h.remarks;
+  items = h.items;
+  remark_items = h.remark_items;
+  rs = h.rs;
+  shown = h.shown;
+  remarks_shown = h.remarks_shown;
+  remarks = h.remarks;
   read = λ a b. one a (h.read a b);
 }
   where
@@ -119,7 +129,9 @@ line_end_taken line p q left taken h = record {
         let ends = line_ends true true line (line_feed ∷ []) left taken h.items h.rs a r in
         let deep = waiting_nested true line line.last h.rs h.remark_items r.collected h.remarks ends.inside in
         record {
-          collected = r.collected; text = r.text; read = r.read;
+          collected = r.collected;
+          text = r.text;
+          read = r.read;
           same = with_both (before_next a) taken ((line_feed ∷ []) ∷ []) ∙ ap line_ended r.same ∙ inside_line (with_lexemes r.collected (waiting line.comma h.rs)) deep;
           ends = inr ends;
           level = inr (line_level true true line (line_feed ∷ []) left taken h.items h.rs a r);
@@ -132,8 +144,11 @@ pub comma_shown : (nested exact : Bool) (line : Line) (left taken : List (List �
     → IsLine nested exact line left taken
     → IsLine nested exact (record line { doc = doc; last = last.Comma; comma = false }) left taken
 comma_shown nested exact line left taken gap x doc waits x_shows both enough stays_there h = record {
-  items = h.items ++ (gap_items gap ++ Shown (comma ∷ []) ∷ []); remark_items = h.remark_items; rs = h.rs;
-  shown = both h.items (Shown (comma ∷ []) ∷ []) h.shown x_shows; remarks_shown = h.remarks_shown;
+  items = h.items ++ (gap_items gap ++ Shown (comma ∷ []) ∷ []);
+  remark_items = h.remark_items;
+  rs = h.rs;
+  shown = both h.items (Shown (comma ∷ []) ∷ []) h.shown x_shows;
+  remarks_shown = h.remarks_shown;
   remarks = after_comma line.is_remarked nested line.last h.rs h.remark_items h.remarks;
   read = λ a b. one a (h.read a b);
 }
@@ -145,11 +160,12 @@ comma_shown nested exact line left taken gap x doc waits x_shows both enough sta
         let ends : Ends nested line.last c r.text = elim r.ends [ inl o ↦ absurd (clash waits o.1) | inr e ↦ e ] in
         let k = with_lexeme c (comma ∷ []) in
         record {
-          collected = k; text = comma ∷ [];
+          collected = k;
+          text = comma ∷ [];
           read = read_both a (directly_after c r.text) (directly_after k (comma ∷ [])) h.items (gap_items gap ++ Shown (comma ∷ []) ∷ []) r.read
-          (text_read nested line.last c r.text false gap (comma ∷ []) [] (directly_after k (comma ∷ [])) ends.needs ends.inside enough stays_there comma_is_whole (λ e. absurd (clash e refl)) refl);
+              (text_read nested line.last c r.text false gap (comma ∷ []) [] (directly_after k (comma ∷ [])) ends.needs ends.inside enough stays_there comma_is_whole (λ e. absurd (clash e refl)) refl);
           same = agrees_then exact (with_lexemes (before_next a) taken) (with_lexemes c (waiting line.comma h.rs)) (with_lexemes k h.rs) r.same
-          (ap (λ (w : Bool). with_lexemes c (waiting w h.rs)) waits);
+              (ap (λ (w : Bool). with_lexemes c (waiting w h.rs)) waits);
           ends = inr (record { needs = λ u. refl; plain = tt; inside = nested_along nested c k (waiting_depth true c [] tt) ends.inside });
           level = elim r.level [ inl o ↦ absurd (clash waits o.1) | inr e ↦ inr (λ n. waiting_depth true c [] tt ∙ e n) ];
         }
@@ -160,8 +176,11 @@ pub remarks_shown : (nested exact : Bool) (line : Line) (left taken : List (List
     → IsLine nested exact line left taken
     → IsLine nested exact (record line { doc = doc; last = last.Remark; is_remarked = false }) left taken
 remarks_shown nested exact line left taken doc settled waits both h = record {
-  items = h.items ++ h.remark_items; remark_items = h.remark_items; rs = [];
-  shown = both h.items h.remark_items h.shown h.remarks_shown; remarks_shown = h.remarks_shown;
+  items = h.items ++ h.remark_items;
+  remark_items = h.remark_items;
+  rs = [];
+  shown = both h.items h.remark_items h.shown h.remarks_shown;
+  remarks_shown = h.remarks_shown;
   remarks = refl;
   read = λ a b. one a (h.read a b);
 }
@@ -177,10 +196,11 @@ remarks_shown nested exact line left taken doc settled waits both h = record {
         let k = with_lexemes c h.rs in
         let shown = held.1 c r.text (inl ends.needs) ends.inside in
         record {
-          collected = k; text = shown.0;
+          collected = k;
+          text = shown.0;
           read = read_both a (directly_after c r.text) (directly_after k shown.0) h.items h.remark_items r.read shown.1;
           same = agrees_then exact (with_lexemes (before_next a) taken) (with_lexemes c (waiting line.comma h.rs)) (with_lexemes k (waiting line.comma [])) r.same
-          (ap (λ (w : Bool). with_lexemes c (waiting w h.rs)) settled ∙ sym (ap (λ (w : Bool). with_lexemes k (waiting w [])) settled));
+              (ap (λ (w : Bool). with_lexemes c (waiting w h.rs)) settled ∙ sym (ap (λ (w : Bool). with_lexemes k (waiting w [])) settled));
           ends = inr (record { needs = shown.2; plain = tt; inside = nested_along nested c k (remarks_depth c h.rs held.0) ends.inside });
           level = elim r.level [ inl o ↦ absurd (clash waits o.2) | inr e ↦ inr (λ n. remarks_depth c h.rs held.0 ∙ e n) ];
         }
@@ -190,7 +210,12 @@ comma_held : (nested : Bool) (line : Line) (p q : Bool) (left taken : List (List
     → IsLine nested true line ((comma ∷ []) ∷ left) taken
     → IsLine nested true (record line { comma = true; broken = p; blank = q }) left (taken ++ (comma ∷ []) ∷ [])
 comma_held nested line p q left taken none plain h = record {
-  items = h.items; remark_items = h.remark_items; rs = h.rs; shown = h.shown; remarks_shown = h.remarks_shown; remarks = h.remarks;
+  items = h.items;
+  remark_items = h.remark_items;
+  rs = h.rs;
+  shown = h.shown;
+  remarks_shown = h.remarks_shown;
+  remarks = h.remarks;
   read = λ a b. one a (h.read a b);
 }
   where
@@ -202,10 +227,12 @@ comma_held nested line p q left taken none plain h = record {
         let nothing = holds_nothing line.last c plain ends.plain in
         let remarks = waiting_remarks line.is_remarked nested line.last h.rs h.remark_items h.remarks in
         record {
-          collected = c; text = r.text; read = r.read;
+          collected = c;
+          text = r.text;
+          read = r.read;
           same = with_both (before_next a) taken ((comma ∷ []) ∷ [])
-          ∙ ap (λ (y : Collected). with_lexeme y (comma ∷ [])) (r.same ∙ ap (λ (w : Bool). with_lexemes c (waiting w h.rs)) none)
-          ∙ comma_passes c h.rs nothing.0 remarks;
+              ∙ ap (λ (y : Collected). with_lexeme y (comma ∷ [])) (r.same ∙ ap (λ (w : Bool). with_lexemes c (waiting w h.rs)) none)
+              ∙ comma_passes c h.rs nothing.0 remarks;
           ends = inr ends;
           level = inr (line_level nested true line (comma ∷ []) left taken h.items h.rs a r);
         }
@@ -215,7 +242,12 @@ comma_alone : (nested : Bool) (line : Line) (p q : Bool) (left taken : List (Lis
     → IsLine nested true line ((comma ∷ []) ∷ left) taken
     → IsLine nested true (record line { comma = true; broken = p; blank = q }) left (taken ++ (comma ∷ []) ∷ [])
 comma_alone nested line p q left taken none alone h = record {
-  items = h.items; remark_items = h.remark_items; rs = h.rs; shown = h.shown; remarks_shown = h.remarks_shown; remarks = h.remarks;
+  items = h.items;
+  remark_items = h.remark_items;
+  rs = h.rs;
+  shown = h.shown;
+  remarks_shown = h.remarks_shown;
+  remarks = h.remarks;
   read = λ a b. one a (h.read a b);
 }
   where
@@ -227,11 +259,13 @@ comma_alone nested line p q left taken none alone h = record {
     one a r =
         let c = r.collected in
         record {
-          collected = c; text = r.text; read = r.read;
+          collected = c;
+          text = r.text;
+          read = r.read;
           same = with_both (before_next a) taken ((comma ∷ []) ∷ [])
-          ∙ ap (λ (y : Collected). with_lexeme y (comma ∷ []))
-          (r.same ∙ ap (λ (w : Bool). with_lexemes c (waiting w h.rs)) none ∙ ap (λ (rs : List (List ℕ)). with_lexemes c rs) no_remarks)
-          ∙ sym (ap (λ (rs : List (List ℕ)). with_lexemes c (waiting true rs)) no_remarks);
+              ∙ ap (λ (y : Collected). with_lexeme y (comma ∷ []))
+              (r.same ∙ ap (λ (w : Bool). with_lexemes c (waiting w h.rs)) none ∙ ap (λ (rs : List (List ℕ)). with_lexemes c rs) no_remarks)
+              ∙ sym (ap (λ (rs : List (List ℕ)). with_lexemes c (waiting true rs)) no_remarks);
           ends = inr (line_ends nested true line (comma ∷ []) left taken h.items h.rs a r);
           level = inr (line_level nested true line (comma ∷ []) left taken h.items h.rs a r);
         }
@@ -258,13 +292,14 @@ module _ (nested : Bool) (l : Last) (gap : Between) (remark : List ℕ) (is : he
   -- the first that waits
   first_remark : more (least_needed l hash) (least_of gap) ≡ least_of gap → (nested ≡ false → stays gap ≡ true)
       → ReadsRemarks nested l (remark ∷ []) (gap_items gap ++ Shown (trimmed remark) ∷ [])
-  first_remark enough stays_there c t e inside =
-      (trimmed remark,
-      elim e [
-        | inl p ↦ remark_read l c t p inside enough stays_there
-        | inr p ↦ remark_read last.Comma c t p inside refl stays_there
-      ],
-      hash_ends (trimmed remark) (trimmed_head remark is))
+  first_remark enough stays_there c t e inside = (
+    trimmed remark,
+    elim e [
+      | inl p ↦ remark_read l c t p inside enough stays_there
+      | inr p ↦ remark_read last.Comma c t p inside refl stays_there
+    ],
+    hash_ends (trimmed remark) (trimmed_head remark is),
+  )
 
   -- one more
   more_remarks : (rs : List (List ℕ)) (items : List Item) → AreRemarks rs → ReadsRemarks nested l rs items → least_of gap ≡ LineEnd → (nested ≡ false → stays gap ≡ true)
@@ -274,12 +309,13 @@ module _ (nested : Bool) (l : Last) (gap : Between) (remark : List ℕ) (is : he
       let k = with_lexemes c rs in
       let deep = nested_along nested c k (remarks_depth c rs are) inside in
       let line_end : more LineEnd (least_of gap) ≡ least_of gap = rw enough refl in
-      let next = remark_read last.Remark k before.0 before.2 deep line_end stays_there in
-      (trimmed remark,
-      subst (λ (x : Collected). AreRead (directly_after c t) (items ++ (gap_items gap ++ Shown (trimmed remark) ∷ [])) (directly_after x (trimmed remark)))
-      (sym (with_both c rs (remark ∷ [])))
-      (read_both (directly_after c t) (directly_after k before.0) (directly_after (with_lexeme k remark) (trimmed remark)) items (gap_items gap ++ Shown (trimmed remark) ∷ []) before.1 next),
-      hash_ends (trimmed remark) (trimmed_head remark is))
+      let next = remark_read last.Remark k before.0 before.2 deep line_end stays_there in (
+        trimmed remark,
+        subst (λ (x : Collected). AreRead (directly_after c t) (items ++ (gap_items gap ++ Shown (trimmed remark) ∷ [])) (directly_after x (trimmed remark)))
+            (sym (with_both c rs (remark ∷ [])))
+            (read_both (directly_after c t) (directly_after k before.0) (directly_after (with_lexeme k remark) (trimmed remark)) items (gap_items gap ++ Shown (trimmed remark) ∷ []) before.1 next),
+        hash_ends (trimmed remark) (trimmed_head remark is),
+      )
 
   module _ (line : Line) (p q : Bool) (doc : RefDoc) (front x : Tree) where
     -- the line with the remark among those that wait
@@ -287,7 +323,12 @@ module _ (nested : Bool) (l : Last) (gap : Between) (remark : List ℕ) (is : he
         → AreRemarks (h.rs ++ remark ∷ []) × ReadsRemarks nested line.last (h.rs ++ remark ∷ []) items
         → IsLine nested true (record line { is_remarked = true; remarks = doc; broken = p; blank = q }) left (taken ++ remark ∷ [])
     with_items left taken h items shown remarks = record {
-      items = h.items; remark_items = items; rs = h.rs ++ remark ∷ []; shown = h.shown; remarks_shown = shown; remarks = remarks;
+      items = h.items;
+      remark_items = items;
+      rs = h.rs ++ remark ∷ [];
+      shown = h.shown;
+      remarks_shown = shown;
+      remarks = remarks;
       read = λ a b. one a (h.read a b);
     }
       where
@@ -296,11 +337,13 @@ module _ (nested : Bool) (l : Last) (gap : Between) (remark : List ℕ) (is : he
         one a r =
             let c = r.collected in
             record {
-              collected = c; text = r.text; read = r.read;
+              collected = c;
+              text = r.text;
+              read = r.read;
               same = with_both (before_next a) taken (remark ∷ [])
-              ∙ ap (λ (y : Collected). with_lexeme y remark) r.same
-              ∙ sym (with_both c (waiting line.comma h.rs) (remark ∷ []))
-              ∙ ap (λ (rs : List (List ℕ)). with_lexemes c rs) (waiting_more line.comma h.rs remark);
+                  ∙ ap (λ (y : Collected). with_lexeme y remark) r.same
+                  ∙ sym (with_both c (waiting line.comma h.rs) (remark ∷ []))
+                  ∙ ap (λ (rs : List (List ℕ)). with_lexemes c rs) (waiting_more line.comma h.rs remark);
               ends = inr (line_ends nested true line remark left taken h.items h.rs a r);
               level = inr (line_level nested true line remark left taken h.items h.rs a r);
             }
@@ -314,9 +357,10 @@ module _ (nested : Bool) (l : Last) (gap : Between) (remark : List ℕ) (is : he
         let no_remarks : h.rs ≡ [] = subst (λ (w : Bool). WaitingRemarks w nested line.last h.rs h.remark_items) alone h.remarks in
         with_items left taken h (gap_items gap ++ Shown (trimmed remark) ∷ []) (both [] (Shown (trimmed remark) ∷ []) none x_shows)
         (subst (λ (rs : List (List ℕ)). AreRemarks (rs ++ remark ∷ []) × ReadsRemarks nested line.last (rs ++ remark ∷ []) (gap_items gap ++ Shown (trimmed remark) ∷ []))
-        (sym no_remarks)
-        ((hash_role remark is, tt),
-        subst (λ (m : Last). ReadsRemarks nested m (remark ∷ []) (gap_items gap ++ Shown (trimmed remark) ∷ [])) (sym is_last) (first_remark enough stays_there)))
+        (sym no_remarks) (
+          (hash_role remark is, tt),
+          subst (λ (m : Last). ReadsRemarks nested m (remark ∷ []) (gap_items gap ++ Shown (trimmed remark) ∷ [])) (sym is_last) (first_remark enough stays_there),
+        ))
 
     -- others waited
     pub remark_next : line.is_remarked ≡ true → line.last ≡ l → shows x (Shown (trimmed remark) ∷ []) → ShowsBoth (ref_tree line.remarks) (gap_items gap) x (ref_tree doc)
@@ -326,10 +370,11 @@ module _ (nested : Bool) (l : Last) (gap : Between) (remark : List ℕ) (is : he
     remark_next others is_last x_shows both enough stays_there left taken h =
         let held : AreRemarks h.rs × ReadsRemarks nested line.last h.rs h.remark_items
         = subst (λ (w : Bool). WaitingRemarks w nested line.last h.rs h.remark_items) others h.remarks in
-        with_items left taken h (h.remark_items ++ (gap_items gap ++ Shown (trimmed remark) ∷ [])) (both h.remark_items (Shown (trimmed remark) ∷ []) h.remarks_shown x_shows)
-        (remarks_more h.rs remark held.0 (hash_role remark is),
-        subst (λ (m : Last). ReadsRemarks nested m (h.rs ++ remark ∷ []) (h.remark_items ++ (gap_items gap ++ Shown (trimmed remark) ∷ []))) (sym is_last)
-        (more_remarks h.rs h.remark_items held.0 (subst (λ (m : Last). ReadsRemarks nested m h.rs h.remark_items) is_last held.1) enough stays_there))
+        with_items left taken h (h.remark_items ++ (gap_items gap ++ Shown (trimmed remark) ∷ [])) (both h.remark_items (Shown (trimmed remark) ∷ []) h.remarks_shown x_shows) (
+          remarks_more h.rs remark held.0 (hash_role remark is),
+          subst (λ (m : Last). ReadsRemarks nested m (h.rs ++ remark ∷ []) (h.remark_items ++ (gap_items gap ++ Shown (trimmed remark) ∷ []))) (sym is_last)
+              (more_remarks h.rs h.remark_items held.0 (subst (λ (m : Last). ReadsRemarks nested m h.rs h.remark_items) is_last held.1) enough stays_there),
+        )
 
 -- ---- a value
 
@@ -339,7 +384,11 @@ pub value_taken : (nested : Bool) (line : Line) (p q : Bool) (gap : Between) (do
     → IsLine nested true line (s ∷ old) taken → IsValue l s left vs x
     → IsLine nested true (record line { doc = doc; last = l; broken = p; blank = q }) left (taken ++ (s ∷ vs))
 value_taken nested line p q gap doc x l s left old taken vs none alone both enough stays_there whole h v = record {
-  items = items; remark_items = h.remark_items; rs = h.rs; shown = both h.items (Shown s ∷ v.items) h.shown v.shown; remarks_shown = h.remarks_shown;
+  items = items;
+  remark_items = h.remark_items;
+  rs = h.rs;
+  shown = both h.items (Shown s ∷ v.items) h.shown v.shown;
+  remarks_shown = h.remarks_shown;
   remarks = subst (λ (w : Bool). WaitingRemarks w nested l h.rs h.remark_items) (sym alone) no_remarks;
   read = λ a b. one a (h.read a b);
 }
@@ -359,12 +408,13 @@ value_taken nested line p q gap doc x l s left old taken vs none alone both enou
         let nothing : (k : Collected) → with_lexemes k (waiting line.comma h.rs) ≡ k
         = λ k. ap (λ (b : Bool). with_lexemes k (waiting b h.rs)) none ∙ ap (λ (rs : List (List ℕ)). with_lexemes k rs) no_remarks in
         record {
-          collected = w.collected; text = w.text;
+          collected = w.collected;
+          text = w.text;
           read = read_both a (directly_after c r.text) (directly_after w.collected w.text) h.items (gap_items gap ++ (Shown s ∷ v.items)) r.read
-          (text_read nested line.last c r.text false gap s v.items (directly_after w.collected w.text) ends.needs ends.inside enough stays_there whole (λ e. absurd (clash e refl)) w.read);
+              (text_read nested line.last c r.text false gap s v.items (directly_after w.collected w.text) ends.needs ends.inside enough stays_there whole (λ e. absurd (clash e refl)) w.read);
           same = with_both (before_next a) taken (s ∷ vs)
-          ∙ ap (λ (y : Collected). with_lexemes y (s ∷ vs)) (r.same ∙ nothing c)
-          ∙ sym w.same ∙ sym (nothing w.collected);
+              ∙ ap (λ (y : Collected). with_lexemes y (s ∷ vs)) (r.same ∙ nothing c)
+              ∙ sym w.same ∙ sym (nothing w.collected);
           ends = elim w.ends [
             | inl e ↦ inl (e, none, alone)
             | inr e ↦ inr (record { needs = e.0.needs; plain = e.0.plain; inside = nested_along nested c w.collected e.1 ends.inside })
@@ -381,7 +431,12 @@ value_taken nested line p q gap doc x l s left old taken vs none alone both enou
 pub comma_changed : (nested : Bool) (line : Line) (w : Bool) (x : List ℕ) (left taken : List (List ℕ)) → (may_hold line.last ≡ true → w ≡ line.comma)
     → IsLine nested true line (x ∷ left) taken → IsLine nested false (record line { comma = w }) (x ∷ left) taken
 comma_changed nested line w x left taken keeps h = record {
-  items = h.items; remark_items = h.remark_items; rs = h.rs; shown = h.shown; remarks_shown = h.remarks_shown; remarks = h.remarks;
+  items = h.items;
+  remark_items = h.remark_items;
+  rs = h.rs;
+  shown = h.shown;
+  remarks_shown = h.remarks_shown;
+  remarks = h.remarks;
   read = λ a b. one a (h.read a b);
 }
   where
@@ -394,7 +449,9 @@ comma_changed nested line w x left taken keeps h = record {
     one a r =
         let ends = line_ends nested true line x left taken h.items h.rs a r in
         record {
-          collected = r.collected; text = r.text; read = r.read;
+          collected = r.collected;
+          text = r.text;
+          read = r.read;
           same = ap (λ (y : Collected). record y { comma = false }) r.same ∙ same r.collected ends.plain (may_hold line.last) refl;
           ends = inr ends;
           level = inr (line_level nested true line x left taken h.items h.rs a r);
@@ -442,10 +499,15 @@ module _ (nested : Bool) (line : Line) (x : List ℕ) (left taken : List (List �
           let nothing = holds_nothing line.last c plain ends.plain in
           let before_comma : least_between r.text (comma ∷ []) ≡ shown.Nothing = ends.needs (comma ∷ []) ∙ nothing_needed line.last plain in
           record {
-            collected = c; text = r.text; marked = true;
+            collected = c;
+            text = r.text;
+            marked = true;
             read = read_both a (directly_after c r.text) (record { collected = c; last = r.text; place = shown.after_text; marked = true }) h.items (Mark (comma ∷ []) ∷ []) r.read
-            (record { comma = refl; apart = rw before_comma refl; inside = subst (λ (n : Bool). IsNested n c) inner ends.inside; no_comma = nothing.0; no_mark = refl }, refl);
-            same = closes a r; needs = ends.needs; inside = ends.inside; level = line_level nested false line x left taken h.items h.rs a r;
+                (record { comma = refl; apart = rw before_comma refl; inside = subst (λ (n : Bool). IsNested n c) inner ends.inside; no_comma = nothing.0; no_mark = refl }, refl);
+            same = closes a r;
+            needs = ends.needs;
+            inside = ends.inside;
+            level = line_level nested false line x left taken h.items h.rs a r;
           }
 
 -- ---- where a line goes on

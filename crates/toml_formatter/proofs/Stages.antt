@@ -113,9 +113,11 @@ pub text_read : (nested : Bool) (last : Last) (c : Collected) (t : List ℕ) (m 
 text_read nested last c t m gap s items b ends inside enough line whole closing h =
     let lines : stays gap ≡ false → IsInside c.depth = ends_lines nested c gap line inside in
     let apart = subst (λ (l : shown.Least). more l (least_of gap) ≡ least_of gap) (sym (ends s)) enough in
-    gap_read c t m gap (Shown s ∷ items) b
-    (whole, stands c t gap s apart lines m closing,
-    subst (λ (x : Stage). AreRead x items b) (sym (shown_after c t gap s m ∙ ap (λ (x : Collected). directly_after (with_lexeme x s) s) (gap_keeps c t gap m lines))) h)
+    gap_read c t m gap (Shown s ∷ items) b (
+      whole,
+      stands c t gap s apart lines m closing,
+      subst (λ (x : Stage). AreRead x items b) (sym (shown_after c t gap s m ∙ ap (λ (x : Collected). directly_after (with_lexeme x s) s) (gap_keeps c t gap m lines))) h,
+    )
 
 -- ---- lexemes that wait
 

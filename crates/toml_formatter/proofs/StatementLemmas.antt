@@ -33,10 +33,19 @@ pub text_begins : (doc : RefDoc) (l : Last) (s t : List ℕ) (left : List (List 
     → ((c : Collected) → with_lexeme c t ≡ with_lexeme c s) → ((c : Collected) → Ends false l (with_lexeme c t) t)
     → IsLine false true (begun doc l) left (s ∷ [])
 text_begins doc l s t left h whole same ends = record {
-  items = Shown t ∷ []; remark_items = Shown t ∷ []; rs = []; shown = h; remarks_shown = h; remarks = refl;
+  items = Shown t ∷ [];
+  remark_items = Shown t ∷ [];
+  rs = [];
+  shown = h;
+  remarks_shown = h;
+  remarks = refl;
   read = λ a ready. record {
-    collected = with_lexeme (before_next a) t; text = t; read = (whole, ready t, refl); same = sym (same (before_next a));
-    ends = inr (ends (before_next a)); level = inr outside_brackets;
+    collected = with_lexeme (before_next a) t;
+    text = t;
+    read = (whole, ready t, refl);
+    same = sym (same (before_next a));
+    ends = inr (ends (before_next a));
+    level = inr outside_brackets;
   };
 }
 
@@ -58,14 +67,23 @@ bracket_begins doc x left e sound h =
 pub value_begins : (doc : RefDoc) (l : Last) (s : List ℕ) (left vs : List (List ℕ)) → IsWholeLexeme s → IsValue l s left vs (ref_tree doc)
     → IsLine false true (begun doc l) left (s ∷ vs)
 value_begins doc l s left vs whole v = record {
-  items = Shown s ∷ v.items; remark_items = Shown s ∷ v.items; rs = []; shown = v.shown; remarks_shown = v.shown; remarks = refl;
+  items = Shown s ∷ v.items;
+  remark_items = Shown s ∷ v.items;
+  rs = [];
+  shown = v.shown;
+  remarks_shown = v.shown;
+  remarks = refl;
   read = λ a ready. one a ready (v.read (before_next a));
 }
   where
     one : (a : Stage) → IsReady a → ValueRead l s left vs v.items (before_next a) → LineRead false true (begun doc l) left (s ∷ vs) (Shown s ∷ v.items) [] a
     one a ready w = record {
-      collected = w.collected; text = w.text; read = (whole, ready s, w.read); same = sym w.same;
-      ends = elim w.ends [ inl e ↦ inl (e, refl, refl) | inr e ↦ inr e.0 ]; level = inr outside_brackets;
+      collected = w.collected;
+      text = w.text;
+      read = (whole, ready s, w.read);
+      same = sym w.same;
+      ends = elim w.ends [ inl e ↦ inl (e, refl, refl) | inr e ↦ inr e.0 ];
+      level = inr outside_brackets;
     }
 
 nothing_needed : (l : Last) → is_remark l ≡ false → least_needed l 93 ≡ shown.Nothing
@@ -82,8 +100,12 @@ pub bracket_taken : (line : Line) (doc : RefDoc) (d : Tree) (x : Lexeme) (left t
     → IsSound (text_of x) left → shows d (Shown (text_of x) ∷ []) → ShowsBoth (ref_tree line.doc) [] d (ref_tree doc) → IsClosed false line (text_of x) taken
     → IsLine false true (begun doc last.Close) left (taken ++ text_of x ∷ [])
 bracket_taken line doc d x left taken closes plain sound d_shows both h = record {
-  items = h.items ++ Shown (text_of x) ∷ []; remark_items = h.items ++ Shown (text_of x) ∷ []; rs = [];
-  shown = both h.items (Shown (text_of x) ∷ []) h.shown d_shows; remarks_shown = both h.items (Shown (text_of x) ∷ []) h.shown d_shows; remarks = refl;
+  items = h.items ++ Shown (text_of x) ∷ [];
+  remark_items = h.items ++ Shown (text_of x) ∷ [];
+  rs = [];
+  shown = both h.items (Shown (text_of x) ∷ []) h.shown d_shows;
+  remarks_shown = both h.items (Shown (text_of x) ∷ []) h.shown d_shows;
+  remarks = refl;
   read = λ a ready. one a (h.read a ready);
 }
   where
@@ -94,10 +116,13 @@ bracket_taken line doc d x left taken closes plain sound d_shows both h = record
     one a r =
         let k = with_lexeme r.collected (text_of x) in
         record {
-          collected = k; text = text_of x;
+          collected = k;
+          text = text_of x;
           read = read_both a (record { collected = r.collected; last = r.text; place = shown.after_text; marked = r.marked }) (directly_after k (text_of x)) h.items (Shown (text_of x) ∷ []) r.read
-          (text_read false line.last r.collected r.text r.marked gap.Nothing (text_of x) [] (directly_after k (text_of x)) r.needs tt needed (λ e. refl) (closing_whole x left closes sound) (λ e. closing_role x closes) refl);
-          same = r.same; ends = inr (closing_ends x closes r.collected); level = inr outside_brackets;
+              (text_read false line.last r.collected r.text r.marked gap.Nothing (text_of x) [] (directly_after k (text_of x)) r.needs tt needed (λ e. refl) (closing_whole x left closes sound) (λ e. closing_role x closes) refl);
+          same = r.same;
+          ends = inr (closing_ends x closes r.collected);
+          level = inr outside_brackets;
         }
 
 -- the end of a statement
@@ -109,7 +134,9 @@ line_is_statement line left taken none alone h = record { items = h.items; shown
 
     one : (a : Stage) → LineRead false true line left taken h.items h.rs a → StatementRead taken h.items a
     one a r = record {
-      collected = r.collected; text = r.text; read = r.read;
+      collected = r.collected;
+      text = r.text;
+      read = r.read;
       same = r.same ∙ ap (λ (w : Bool). with_lexemes r.collected (waiting w h.rs)) none ∙ ap (λ (rs : List (List ℕ)). with_lexemes r.collected rs) no_remarks;
     }
 

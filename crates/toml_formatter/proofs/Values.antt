@@ -162,7 +162,7 @@ pub list_closed : (x y : Lexeme) (line : Line) (gap : Between) (left taken : Lis
 list_closed x y line gap left taken o front nested close doc whole opens closes o_shows close_shows front_shows nested_shows doc_shows whole_shows enough sound h = record {
   items = h.items ++ (gap_items gap ++ Shown (text_of y) ∷ []);
   shown = whole_shows (Shown (text_of x) ∷ (h.items ++ (gap_items gap ++ Shown (text_of y) ∷ [])))
-  (doc_shows (Shown (text_of x) ∷ h.items) (Shown (text_of y) ∷ []) (nested_shows (Shown (text_of x) ∷ h.items) (front_shows (Shown (text_of x) ∷ []) h.items o_shows h.shown)) close_shows);
+      (doc_shows (Shown (text_of x) ∷ h.items) (Shown (text_of y) ∷ []) (nested_shows (Shown (text_of x) ∷ h.items) (front_shows (Shown (text_of x) ∷ []) h.items o_shows h.shown)) close_shows);
   read = λ c. one c (h.read (directly_after (with_lexeme c (text_of x)) (text_of x)) (with_lexeme c (text_of x), text_of x, refl, opening_ends x opens c));
 }
   where
@@ -177,12 +177,15 @@ list_closed x y line gap left taken o front nested close doc whole opens closes 
         let enough_there : more (least_needed line.last (head (text_of y))) (least_of gap) ≡ least_of gap
         = subst (λ (l : shown.Least). more l (least_of gap) ≡ least_of gap) (sym (closing_head y closes line.last)) enough in
         record {
-          collected = k; text = text_of y;
+          collected = k;
+          text = text_of y;
           read = read_both a (record { collected = r.collected; last = r.text; place = shown.after_text; marked = r.marked }) (directly_after k (text_of y)) h.items (gap_items gap ++ Shown (text_of y) ∷ []) r.read
-          (text_read true line.last r.collected r.text r.marked gap (text_of y) [] (directly_after k (text_of y)) r.needs r.inside enough_there (λ e. absurd (clash e)) (closing_whole y left closes sound) (λ e. closing_role y closes) refl);
+              (text_read true line.last r.collected r.text r.marked gap (text_of y) [] (directly_after k (text_of y)) r.needs r.inside enough_there (λ e. absurd (clash e)) (closing_whole y left closes sound) (λ e. closing_role y closes) refl);
           same = sym r.same;
-          ends = inr (subst (λ (l : Last). Ends false l k (text_of y)) (sym (opening_last x opens)) (closing_ends y closes r.collected),
-          opening_depth x opens c r.collected (r.level refl) y closes);
+          ends = inr (
+            subst (λ (l : Last). Ends false l k (text_of y)) (sym (opening_last x opens)) (closing_ends y closes r.collected),
+            opening_depth x opens c r.collected (r.level refl) y closes,
+          );
         }
 
 pub list_unclosed : (x : Lexeme) (line : Line) (taken : List (List ℕ)) (o whole : Tree)
@@ -190,7 +193,8 @@ pub list_unclosed : (x : Lexeme) (line : Line) (taken : List (List ℕ)) (o whol
     → line.comma ≡ false → line.is_remarked ≡ false → IsLine true true line [] taken
     → IsValue (last_after x) (text_of x) [] taken whole
 list_unclosed x line taken o whole opens o_shows both none alone h = record {
-  items = h.items; shown = both (Shown (text_of x) ∷ []) h.items o_shows h.shown;
+  items = h.items;
+  shown = both (Shown (text_of x) ∷ []) h.items o_shows h.shown;
   read = λ c. one c (h.read (directly_after (with_lexeme c (text_of x)) (text_of x)) (with_lexeme c (text_of x), text_of x, refl, opening_ends x opens c));
 }
   where
@@ -200,7 +204,9 @@ list_unclosed x line taken o whole opens o_shows both none alone h = record {
     one : (c : Collected) → LineRead true true line [] taken h.items h.rs (directly_after (with_lexeme c (text_of x)) (text_of x))
         → ValueRead (last_after x) (text_of x) [] taken h.items c
     one c r = record {
-      collected = r.collected; text = r.text; read = r.read;
+      collected = r.collected;
+      text = r.text;
+      read = r.read;
       same = sym (r.same ∙ ap (λ (w : Bool). with_lexemes r.collected (waiting w h.rs)) none ∙ ap (λ (rs : List (List ℕ)). with_lexemes r.collected rs) no_remarks);
       ends = inl refl;
     }
@@ -236,9 +242,13 @@ alone : (l : Last) (x : ℕ) (xs : List ℕ) (left : List (List ℕ)) (d : Tree)
     → ((c : Collected) → (c.comma ≡ false) × (c.remarks ≡ []) → HoldsNothingAfter l c) → shows d (Shown (x ∷ xs) ∷ [])
     → IsValue l (x ∷ xs) left [] d
 alone l x xs left d is needs plain h = record {
-  items = []; shown = h;
+  items = [];
+  shown = h;
   read = λ c. record {
-    collected = with_lexeme c (x ∷ xs); text = x ∷ xs; read = refl; same = refl;
+    collected = with_lexeme c (x ∷ xs);
+    text = x ∷ xs;
+    read = refl;
+    same = refl;
     ends = inr (record { needs = needs; plain = plain (with_lexeme c (x ∷ xs)) (nothing c); inside = tt }, ap (λ (r : Role). (with_role r c (x ∷ xs)).depth) is);
   };
 }

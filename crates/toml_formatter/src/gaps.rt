@@ -94,13 +94,7 @@ pub(crate) fn before_comma(last: Last) -> Gap
 }
 
 /// What is before a remark, which other remarks stand before or not.
-pub(crate) fn before_remark(
-    kind: Kind,
-    last: Last,
-    others: bool,
-    broken: bool,
-    blank: bool,
-) -> Gap
+pub(crate) fn before_remark(kind: Kind, last: Last, others: bool, broken: bool, blank: bool) -> Gap
     requires { is_nested kind ≡ false → is_remark last ≡ false }
     ensures enough { more (least_needed last hash) (least_of result) ≡ least_of result }
     ensures others { others ≡ true → least_of result ≡ LineEnd }

@@ -12,7 +12,9 @@ use crate::document::document;
 use crate::error::FormatError;
 use crate::style::Style;
 use bumpalo::Bump;
-use prettyless::{Arena, DocPlace, DocPtr, IndentationPolicy, LineEnding, RefDoc, RenderError, RenderOptions};
+use prettyless::{
+    Arena, DocPlace, DocPtr, IndentationPolicy, LineEnding, RefDoc, RenderError, RenderOptions,
+};
 use std::alloc::{AllocError, Global};
 use toml_grammar::{fault_of, law_closed_strings};
 use toml_lexemes::{Lexeme, SpacedLexer};

@@ -12,8 +12,6 @@ mod list;
 mod parts;
 mod statement;
 mod style;
-#[cfg(test)]
-mod tests;
 mod trim;
 
 pub use error::FormatError;

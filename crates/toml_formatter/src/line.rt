@@ -193,13 +193,7 @@ impl<'a> Line<'a> {
             → IsLine (is_nested kind) true self.entry (remark.now ∷ left) taken → IsLine (is_nested kind) true line left (taken ++ remark.now ∷ [])) }
         ensures last { IfOk result (λ line. line.last ≡ self.entry.last) }
     {
-        let gap = before_remark(
-            kind,
-            self.last,
-            self.is_remarked,
-            self.broken,
-            self.blank,
-        );
+        let gap = before_remark(kind, self.last, self.is_remarked, self.broken, self.blank);
         let remark = text(arena, trimmed(remark))?;
         if self.is_remarked {
             let remarks = apart(arena, self.remarks, gap, remark)?;

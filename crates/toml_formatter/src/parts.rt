@@ -46,10 +46,7 @@ fn edged<'a, D: DocPlace<'a>>(place: &'a D, doc: D::Doc) -> Result<D::Doc, Build
 }
 
 /// A document, and a comma after it where lines are broken.
-pub(crate) fn trailed<'a, D: DocPlace<'a>>(
-    place: &'a D,
-    doc: D::Doc,
-) -> Result<D::Doc, BuildError>
+pub(crate) fn trailed<'a, D: DocPlace<'a>>(place: &'a D, doc: D::Doc) -> Result<D::Doc, BuildError>
     ensures ok { IfOk result (λ p. D.Doc.tree p ≡ append (D.Doc.tree doc) (BreakOrFlat (counted.text (comma ∷ [])) Nil)) }
     ensures items { IfOk result (λ p. ShowsMore (D.Doc.tree doc) (Mark (comma ∷ []) ∷ []) (D.Doc.tree p)) }
 {

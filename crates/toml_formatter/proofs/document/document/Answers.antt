@@ -16,10 +16,11 @@ loop-first-preserved-in-LineEnd c =
     let before = c.loop-first.invariant in
     let left = c.next.new.self in
     let d = ref_tree c.loop-first.doc in
-    let e : c.loop-first.lexemes ≡ (line_feed ∷ []) ∷ left = c.in-Some.ensures.next ∙ ap (λ (x : Lexeme). text_of x ∷ left) c.in-LineEnd.is in
-    (before.0 ++ (line_feed ∷ []) ∷ [],
-    before.1 ∙ ap (λ (ss : List (List ℕ)). before.0 ++ ss) e ∙ sym (append_assoc before.0 ((line_feed ∷ []) ∷ []) left),
-    document_blank left before.0 d (subst (λ (ss : List (List ℕ)). IsDocument ss before.0 d) e before.2))
+    let e : c.loop-first.lexemes ≡ (line_feed ∷ []) ∷ left = c.in-Some.ensures.next ∙ ap (λ (x : Lexeme). text_of x ∷ left) c.in-LineEnd.is in (
+      before.0 ++ (line_feed ∷ []) ∷ [],
+      before.1 ∙ ap (λ (ss : List (List ℕ)). before.0 ++ ss) e ∙ sym (append_assoc before.0 ((line_feed ∷ []) ∷ []) left),
+      document_blank left before.0 d (subst (λ (ss : List (List ℕ)). IsDocument ss before.0 d) e before.2),
+    )
 
 pub loop-first-preserved : goal.loop-first-preserved
 loop-first-preserved c =
@@ -28,10 +29,11 @@ loop-first-preserved c =
     let e = c.in-Some.ensures.next in
     let left = c.statement.new.lexemes in
     let h = subst (λ (ss : List (List ℕ)). IsDocument ss before.0 (ref_tree c.loop-first.doc)) e before.2 in
-    let made = c.in_ok-doc-2.ensures.made s c.next.new.self left before.0 h c.in_ok-next.ensures.made in
-    (before.0 ++ made.0,
-    before.1 ∙ ap (λ (ss : List (List ℕ)). before.0 ++ ss) (e ∙ made.1) ∙ sym (append_assoc before.0 made.0 left),
-    made.2)
+    let made = c.in_ok-doc-2.ensures.made s c.next.new.self left before.0 h c.in_ok-next.ensures.made in (
+      before.0 ++ made.0,
+      before.1 ∙ ap (λ (ss : List (List ℕ)). before.0 ++ ss) (e ∙ made.1) ∙ sym (append_assoc before.0 made.0 left),
+      made.2,
+    )
 
 pub returns-clause-made : goal.returns-clause-made
 returns-clause-made c =

@@ -22,19 +22,23 @@ pub returns-then-closes-clause-line : goal.returns-then-closes-clause-line
 returns-then-closes-clause-line c =
     let x = c.args.first in
     let ls = c.args.lexemes.now in
-    let closing : is_closing x ≡ true = sym c.closes.ensures ∙ c.if-closes.true in
-    (text_of x ∷ [], refl,
-    subst (λ (l : Line). IsLine false true l ls (text_of x ∷ [])) (sym c.begun.ensures)
-    (bracket_begins c.in_ok-bracket.bracket x ls closing c.requires.sound
-    (closing_shows x (ref_tree c.in_ok-bracket.bracket) c.text.result.now closing c.text.ensures c.in_ok-bracket.ensures.items)))
+    let closing : is_closing x ≡ true = sym c.closes.ensures ∙ c.if-closes.true in (
+      text_of x ∷ [],
+      refl,
+      subst (λ (l : Line). IsLine false true l ls (text_of x ∷ [])) (sym c.begun.ensures)
+          (bracket_begins c.in_ok-bracket.bracket x ls closing c.requires.sound
+          (closing_shows x (ref_tree c.in_ok-bracket.bracket) c.text.result.now closing c.text.ensures c.in_ok-bracket.ensures.items)),
+    )
 
 pub returns-in_ok-text-in-Comma-clause-line : goal.returns-in_ok-text-in-Comma-clause-line
 returns-in_ok-text-in-Comma-clause-line c =
     let ls = c.args.lexemes.now in
-    let e : text_of c.args.first ≡ comma ∷ [] = ap text_of c.in-Comma.is in
-    ((comma ∷ []) ∷ [], ap (λ (s : List ℕ). s ∷ ls) e,
-    subst (λ (l : Line). IsLine false true l ls ((comma ∷ []) ∷ [])) (sym c.begun-in-Comma.ensures)
-    (comma_begins c.in_ok-text-in-Comma.field-0 ls c.in_ok-text-in-Comma.ensures.items))
+    let e : text_of c.args.first ≡ comma ∷ [] = ap text_of c.in-Comma.is in (
+      (comma ∷ []) ∷ [],
+      ap (λ (s : List ℕ). s ∷ ls) e,
+      subst (λ (l : Line). IsLine false true l ls ((comma ∷ []) ∷ [])) (sym c.begun-in-Comma.ensures)
+          (comma_begins c.in_ok-text-in-Comma.field-0 ls c.in_ok-text-in-Comma.ensures.items),
+    )
 
 pub returns-in_ok-text-in-Remark-clause-line : goal.returns-in_ok-text-in-Remark-clause-line
 returns-in_ok-text-in-Remark-clause-line c =
@@ -43,11 +47,13 @@ returns-in_ok-text-in-Remark-clause-line c =
     let e : text_of c.args.first ≡ r = ap text_of c.in-Remark.is in
     let named = subst IsNamed c.in-Remark.is c.requires.named in
     let sound = subst (λ (s : List ℕ). IsSound s ls) e c.requires.sound in
-    let d = c.in_ok-text-in-Remark in
-    (r ∷ [], ap (λ (s : List ℕ). s ∷ ls) e,
-    subst (λ (l : Line). IsLine false true l ls (r ∷ [])) (sym c.begun-in-Remark.ensures)
-    (remark_begins d.field-0 r ls named (remark_whole r ls named sound).0
-    (trimmed_shows (ref_tree d.field-0) r c.trimmed.result.now named c.trimmed.ensures d.ensures.items)))
+    let d = c.in_ok-text-in-Remark in (
+      r ∷ [],
+      ap (λ (s : List ℕ). s ∷ ls) e,
+      subst (λ (l : Line). IsLine false true l ls (r ∷ [])) (sym c.begun-in-Remark.ensures)
+          (remark_begins d.field-0 r ls named (remark_whole r ls named sound).0
+          (trimmed_shows (ref_tree d.field-0) r c.trimmed.result.now named c.trimmed.ensures d.ensures.items)),
+    )
 
 pub returns-in_ok-text-in-Remark-clause-goes_on : goal.returns-in_ok-text-in-Remark-clause-goes_on
 returns-in_ok-text-in-Remark-clause-goes_on c =
@@ -63,10 +69,12 @@ returns-in_ok-value-in_default-clause-line c =
     let x = c.args.first in
     let v = c.in_ok-value-in_default.ensures.made in
     let left = c.value.new.lexemes in
-    let part = part_of x c.args.lexemes.now c.requires.no_line_end (sym c.closes.ensures ∙ c.if-closes.false) c.in_default.not-Comma c.in_default.not-Remark in
-    (text_of x ∷ v.0, ap (λ (ss : List (List ℕ)). text_of x ∷ ss) v.1,
-    subst (λ (l : Line). IsLine false true l left (text_of x ∷ v.0)) (sym (c.begun-in_default.ensures ∙ ap (begun c.in_ok-value-in_default.value) c.last_of.ensures))
-    (value_begins c.in_ok-value-in_default.value (last_after x) (text_of x) left v.0 (part_whole x c.args.lexemes.now c.requires.named part c.requires.sound) v.2))
+    let part = part_of x c.args.lexemes.now c.requires.no_line_end (sym c.closes.ensures ∙ c.if-closes.false) c.in_default.not-Comma c.in_default.not-Remark in (
+      text_of x ∷ v.0,
+      ap (λ (ss : List (List ℕ)). text_of x ∷ ss) v.1,
+      subst (λ (l : Line). IsLine false true l left (text_of x ∷ v.0)) (sym (c.begun-in_default.ensures ∙ ap (begun c.in_ok-value-in_default.value) c.last_of.ensures))
+          (value_begins c.in_ok-value-in_default.value (last_after x) (text_of x) left v.0 (part_whole x c.args.lexemes.now c.requires.named part c.requires.sound) v.2),
+    )
 
 pub returns-in_ok-value-in_default-clause-goes_on : goal.returns-in_ok-value-in_default-clause-goes_on
 returns-in_ok-value-in_default-clause-goes_on c =

@@ -10,22 +10,26 @@ loop-next-preserved c =
     let before = c.loop-next.invariant in
     let e = c.in-Some.ensures.some in
     let h = subst (λ (ss : List (List ℕ)). IsLine false true c.loop-next.line ss before.0) e before.2 in
-    let made = c.in_ok-line-2.ensures.line before.0 h in
-    (before.0 ++ made.0,
-    before.1 ∙ ap (λ (ss : List (List ℕ)). before.0 ++ ss) (e ∙ made.1) ∙ sym (append_assoc before.0 made.0 c.with_next.new.lexemes),
-    made.2, c.in_ok-line-2.ensures.goes_on)
+    let made = c.in_ok-line-2.ensures.line before.0 h in (
+      before.0 ++ made.0,
+      before.1 ∙ ap (λ (ss : List (List ℕ)). before.0 ++ ss) (e ∙ made.1) ∙ sym (append_assoc before.0 made.0 c.with_next.new.lexemes),
+      made.2,
+      c.in_ok-line-2.ensures.goes_on,
+    )
 
 pub returns-clause-made : goal.returns-clause-made
 returns-clause-made c =
     let before = c.loop-next.invariant in
     let ls = c.loop-next.lexemes in
     let settled = c.in_ok-settled.ensures in
-    let line = settled.line false true ls before.0 (may_settle c.loop-next.line ls before.3) before.2 in
-    (before.0, line_is_statement c.in_ok-settled.field-0 ls before.0 settled.no_comma settled.no_remarks line,
-    elim c.in_default.ensures.none [
-      | inl p ↦ inr (before.1 ∙ ap (λ (ss : List (List ℕ)). before.0 ++ ss) p.0 ∙ append-nil before.0, p.1)
-      | inr p ↦ inl (before.1 ∙ ap (λ (ss : List (List ℕ)). before.0 ++ ss) p)
-    ])
+    let line = settled.line false true ls before.0 (may_settle c.loop-next.line ls before.3) before.2 in (
+      before.0,
+      line_is_statement c.in_ok-settled.field-0 ls before.0 settled.no_comma settled.no_remarks line,
+      elim c.in_default.ensures.none [
+        | inl p ↦ inr (before.1 ∙ ap (λ (ss : List (List ℕ)). before.0 ++ ss) p.0 ∙ append-nil before.0, p.1)
+        | inr p ↦ inl (before.1 ∙ ap (λ (ss : List (List ℕ)). before.0 ++ ss) p)
+      ],
+    )
 
 pub returns-clause-fewer : goal.returns-clause-fewer
 returns-clause-fewer c =

@@ -25,9 +25,11 @@ returns-then-closes-clause-goes_on c = IfOk-weaker c.with_closing.result _ _ (λ
 pub returns-in_ok-with_comma-in-Comma-clause-line : goal.returns-in_ok-with_comma-in-Comma-clause-line
 returns-in_ok-with_comma-in-Comma-clause-line c = λ taken h.
     let ls = c.args.lexemes.now in
-    let e : text_of c.args.next ≡ comma ∷ [] = ap text_of c.in-Comma.is in
-    ((comma ∷ []) ∷ [], ap (λ (s : List ℕ). s ∷ ls) e,
-    c.in_ok-with_comma-in-Comma.ensures.line false ls taken c.requires.goes_on (subst (λ (s : List ℕ). IsLine false true c.args.line (s ∷ ls) taken) e h))
+    let e : text_of c.args.next ≡ comma ∷ [] = ap text_of c.in-Comma.is in (
+      (comma ∷ []) ∷ [],
+      ap (λ (s : List ℕ). s ∷ ls) e,
+      c.in_ok-with_comma-in-Comma.ensures.line false ls taken c.requires.goes_on (subst (λ (s : List ℕ). IsLine false true c.args.line (s ∷ ls) taken) e h),
+    )
 
 pub returns-in_ok-with_comma-in-Comma-clause-goes_on : goal.returns-in_ok-with_comma-in-Comma-clause-goes_on
 returns-in_ok-with_comma-in-Comma-clause-goes_on c = inl (c.in_ok-with_comma-in-Comma.ensures.goes_on false c.requires.goes_on)
@@ -36,9 +38,11 @@ pub returns-in_ok-with_remark-in-Remark-clause-line : goal.returns-in_ok-with_re
 returns-in_ok-with_remark-in-Remark-clause-line c = λ taken h.
     let ls = c.args.lexemes.now in
     let r = c.in-Remark.remark.now in
-    let e : text_of c.args.next ≡ r = ap text_of c.in-Remark.is in
-    (r ∷ [], ap (λ (s : List ℕ). s ∷ ls) e,
-    c.in_ok-with_remark-in-Remark.ensures.line ls taken (subst (λ (s : List ℕ). IsLine false true c.args.line (s ∷ ls) taken) e h))
+    let e : text_of c.args.next ≡ r = ap text_of c.in-Remark.is in (
+      r ∷ [],
+      ap (λ (s : List ℕ). s ∷ ls) e,
+      c.in_ok-with_remark-in-Remark.ensures.line ls taken (subst (λ (s : List ℕ). IsLine false true c.args.line (s ∷ ls) taken) e h),
+    )
 
 pub returns-in_ok-with_remark-in-Remark-clause-goes_on : goal.returns-in_ok-with_remark-in-Remark-clause-goes_on
 returns-in_ok-with_remark-in-Remark-clause-goes_on c =
