@@ -1,4 +1,5 @@
 pub mod Back
+pub mod EntryShows
 pub mod Lexed
 pub mod Reading
 pub mod Texts

@@ -1,4 +1,5 @@
 pub mod Documents
+pub mod EntryItems
 pub mod Expression
 pub mod Lexer
 pub mod Reader

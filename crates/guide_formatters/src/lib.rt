@@ -2,6 +2,9 @@
 #![tactic(auto)]
 
 pub mod document;
+pub mod entry;
+pub mod entry_document;
+pub mod entry_write;
 pub mod laws;
 pub mod term;
 pub mod values;

@@ -6,6 +6,8 @@ mod alternatives;
 #[cfg(test)]
 mod chapters;
 #[cfg(test)]
+mod entries;
+#[cfg(test)]
 mod errors;
 #[cfg(test)]
 mod indents;

@@ -1,0 +1,106 @@
+//! Layouts of entries, worked by hand, and read back.
+use guide_formatters::entry::{Entry, Setting};
+use guide_formatters::entry_write::write_entries;
+use std::alloc::{AllocError, Global};
+use std::mem;
+use std::test::Fail;
+
+fn setting(
+    alloc: Global,
+    name: &str,
+    value: &str,
+    remark: Option<&str>,
+) -> Result<Entry, AllocError> {
+    let remark = match remark {
+        Some(remark) => Some(String::from_str(alloc, remark)?),
+        None => None,
+    };
+    Ok(Entry::Setting(Setting {
+        name: String::from_str(alloc, name)?,
+        value: String::from_str(alloc, value)?,
+        remark,
+    }))
+}
+
+/// What was read so far: entries, the blocks that are open around them, and the last name.
+#[derive(Drop)]
+struct Reading {
+    open: Vec<(String, Vec<Entry>)>,
+    entries: Vec<Entry>,
+    name: String,
+}
+
+fn read_word(alloc: Global, at: &mut Reading, word: &str) -> Result<(), AllocError> {
+    if word == "{" {
+        let name = mem::replace(&mut at.name, String::new(alloc));
+        let around = mem::replace(&mut at.entries, Vec::new(alloc));
+        at.open.push((name, around))?;
+    } else if word == "}" {
+        if let Some((name, around)) = at.open.pop() {
+            let entries = mem::replace(&mut at.entries, around);
+            at.entries.push(Entry::Block(name, entries))?;
+        }
+    } else if let Some(value) = word.strip_suffix(";") {
+        let entry = setting(alloc, at.name.as_str(), value, None)?;
+        at.entries.push(entry)?;
+    } else if word != "=" {
+        at.name = String::from_str(alloc, word)?;
+    }
+    Ok(())
+}
+
+fn read_remark(alloc: Global, at: &mut Reading, remark: &str) -> Result<(), AllocError> {
+    let remark = format!(in alloc; "# {remark}")?;
+    if let Some(Entry::Setting(last)) = at.entries.pop() {
+        let (name, value) = (last.name.as_str(), last.value.as_str());
+        let entry = setting(alloc, name, value, Some(remark.as_str()))?;
+        at.entries.push(entry)?;
+    }
+    Ok(())
+}
+
+/// The entries that a layout is read as. A remark goes up to the end of its line.
+fn read(alloc: Global, layout: &str) -> Result<Vec<Entry>, AllocError> {
+    let mut at = Reading {
+        open: Vec::new(alloc),
+        entries: Vec::new(alloc),
+        name: String::new(alloc),
+    };
+    for line in layout.lines() {
+        let (code, remark) = line.split_once("# ").unwrap_or((line, ""));
+        for word in code.split_whitespace() {
+            read_word(alloc, &mut at, word)?;
+        }
+        if !remark.is_empty() {
+            read_remark(alloc, &mut at, remark)?;
+        }
+    }
+    Ok(at.entries)
+}
+
+/// A setting, and a block of two more.
+fn entries(alloc: Global) -> Result<Vec<Entry>, AllocError> {
+    let mut inner = Vec::new(alloc);
+    inner.push(setting(alloc, "port", "80", Some("# plain"))?)?;
+    inner.push(setting(alloc, "host", "example.org", None)?)?;
+    let mut entries = Vec::new(alloc);
+    entries.push(setting(alloc, "user", "www", Some("# not root"))?)?;
+    entries.push(Entry::Block(String::from_str(alloc, "server")?, inner))?;
+    Ok(entries)
+}
+
+#[test]
+fn entries_read_back(rt: HostRuntime) -> Result<(), Fail> {
+    let alloc = rt.alloc();
+    let entries = entries(alloc)?;
+    let wide = "user = www; # not root\nserver {\n  port = 80; # plain\n  host = example.org;\n}\n";
+    let narrow =
+        "user =\n  www; # not root\nserver {\n  port =\n    80; # plain\n  host =\n    example.org;\n}\n";
+    for (width, layout) in [(22, wide), (10, narrow)] {
+        let mut out = String::new(alloc);
+        assert!(rt; write_entries(alloc, width, entries.as_slice(), &mut out).is_ok());
+        assert_eq!(rt; out.as_str(), layout, "at {width}");
+        assert!(rt; read(alloc, out.as_str())? == entries);
+    }
+    Ok(())
+}
