@@ -1,4 +1,4 @@
-pub mod Deeds
+pub mod Actions
 pub mod Endings
 pub mod Names
 pub mod Places

@@ -3,7 +3,7 @@ ghost use Rattle.std.specs.Prelude.{◌≡◌, ◌⊎◌, IfErr, IfOk};
 ghost use Rattle.clap.specs.Words.{kind_of};
 ghost use Rattle.formatter_files.specs.Endings.{ending_after};
 
-use crate::deed::Deed;
+use crate::action::Action;
 use crate::ending::Ending;
 use crate::replace::replace;
 use std::fs::Files;
@@ -47,10 +47,10 @@ fn lay_out<R: AllocGlobal + Files + Eprint + Print, F: Formatter>(
     let Some(layout) = formatter.layout(rt, name, bytes)? else {
         return Ok(Ending::Refused);
     };
-    match Deed::of(check, write, layout.as_bytes() == bytes) {
-        Deed::Leave(ending) => return Ok(ending),
-        Deed::Print => io::writer(rt).write_all(layout.as_bytes())?,
-        Deed::Replace => replace(rt, name, layout.as_str())?,
+    match Action::of(check, write, layout.as_bytes() == bytes) {
+        Action::Leave(ending) => return Ok(ending),
+        Action::Print => io::writer(rt).write_all(layout.as_bytes())?,
+        Action::Replace => replace(rt, name, layout.as_str())?,
     }
     Ok(Ending::Good)
 }

@@ -2,7 +2,7 @@
 //! replaced, places in a text, and how the program ends.
 #![tactic(auto)]
 
-pub mod deed;
+pub mod action;
 pub mod ending;
 pub mod files;
 pub mod message;
