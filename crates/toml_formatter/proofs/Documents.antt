@@ -1,16 +1,15 @@
 -- Documents, statement by statement.
-use Rattle.std.proofs.Common.{◌≡◌, refl, sym, ◌∙◌, ap, subst, ℕ, Bool, true, false, cond, List, [], ◌∷◌, ◌++◌, append_assoc, append-nil, inl, inr}
+use Rattle.std.proofs.Common.{◌≡◌, refl, sym, ◌∙◌, ap, subst, ℕ, Bool, true, false, List, [], ◌∷◌, ◌++◌, append_assoc, append-nil, inl, inr}
 use Rattle.std.specs.Prelude.{◌⊎◌}
 use Rattle.prettyless.specs.Tree.{Tree}
 use Rattle.prettyless_model.specs.Shows as shown
 use Rattle.prettyless_model.specs.Shows.{Item, Gap, AnyLine, LineEnd, Before, After, ended, more, shows}
-use Rattle.prettyless_shapes.specs.Items.{ShowsBoth, ShowsMore}
 use Rattle.toml_lexemes.specs.Bytes.{line_feed}
 use Rattle.toml_lexemes.specs.Lexemes.{lexemes}
 use Rattle.toml_statements.specs.Statements.{Collected, none_collected, line_ended, with_lexemes, statements_of, statements}
-use Rattle.toml_statements.specs.Shown.{Stage, first_stage, IsReady, MayStand, AreRead, least_between}
+use Rattle.toml_statements.specs.Shown.{Stage, first_stage, IsReady, AreRead, least_between}
 use Rattle.toml_statements.proofs.LineEnds.{ended_twice, statements_ended}
-use Rattle.toml_formatter.specs.Lines.{directly_after, before_next, StatementRead, IsStatement, TakesStatement, after_line_of, IsAtLine, DocumentRead, IsDocument, HasStatements}
+use Rattle.toml_formatter.specs.Lines.{directly_after, before_next, StatementRead, TakesStatement, after_line_of, IsAtLine, DocumentRead, IsDocument, HasStatements}
 use Rattle.toml_formatter.proofs.Stages.{read_both, with_both}
 
 -- ---- where statements begin

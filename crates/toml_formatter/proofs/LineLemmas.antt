@@ -1,5 +1,5 @@
 -- Lines, step by step.
-use Rattle.std.proofs.Common.{◌≡◌, refl, sym, ◌∙◌, ap, subst, ℕ, Bool, true, false, List, [], ◌∷◌, ◌++◌, append_assoc, append-nil, arith}
+use Rattle.std.proofs.Common.{◌≡◌, refl, sym, ◌∙◌, ap, subst, ℕ, Bool, true, false, List, [], ◌∷◌, ◌++◌, arith}
 use Rattle.std.specs.Prelude.{◌⊎◌}
 use Rattle.std.proofs.Common.{inl, inr}
 use Rattle.prettyless.specs.Tree.{Tree}
@@ -10,16 +10,16 @@ use Rattle.prettyless_model.specs.Shows.{Item, Shown, Mark, LineEnd, more, shows
 use Rattle.prettyless_shapes.specs.Items.{ShowsBoth, ShowsMore}
 use Rattle.prettyless_shapes.specs.Shown.{text_items}
 use Rattle.toml_lexemes.specs.Bytes.{comma, hash, head, line_feed}
-use Rattle.toml_lexemes.specs.Lexemes.{lexemes, cut, between}
-use Rattle.toml_statements.specs.Statements.{Role, a_comma, a_remark, a_closing, role, trimmed, before_trimmed, Collected, line_ended, with_held_comma, with_role, with_lexeme, with_lexemes}
-use Rattle.toml_statements.specs.Shown.{Stage, IsWholeLexeme, EndsWell, IsInside, AreRead, least_between}
+use Rattle.toml_lexemes.specs.Lexemes.{cut}
+use Rattle.toml_statements.specs.Statements.{Role, a_remark, a_closing, role, trimmed, before_trimmed, Collected, line_ended, with_lexeme, with_lexemes}
+use Rattle.toml_statements.specs.Shown.{Stage, IsWholeLexeme, EndsWell, AreRead, least_between}
 use Rattle.toml_formatter.specs.declared.gaps.Gap.{Gap as Between}
 use Rattle.toml_formatter.specs.declared.kind.Last.{Last}
 use Rattle.toml_formatter.specs.declared.kind.Last.TheVariants as last
 use Rattle.toml_formatter.specs.declared.line.Line.{Line}
 use Rattle.toml_formatter.specs.Gaps.{gap_items, least_of, stays, least_needed, is_remark}
-use Rattle.toml_formatter.specs.Lines.{directly_after, before_next, IsNested, EndsAs, Ends, Agrees, AreRemarks, ReadsRemarks, WaitingRemarks, HoldsNothing, HoldsNothingAfter, waiting, Begins, IsOver, LineRead, IsLine, ValueRead, IsValue, ClosedRead, IsClosed, GoesOn, begun, may_hold}
-use Rattle.toml_formatter.proofs.Stages.{read_both, with_both, inside_line, text_read, with_remark, waiting_depth, remarks_depth, waiting_remarks, waiting_more, remarks_more, nested_along, waiting_agrees, agrees_less, agrees_then, closing_same, comma_passes}
+use Rattle.toml_formatter.specs.Lines.{directly_after, before_next, IsNested, EndsAs, Ends, Agrees, AreRemarks, ReadsRemarks, WaitingRemarks, HoldsNothing, HoldsNothingAfter, waiting, IsOver, LineRead, IsLine, IsValue, ClosedRead, IsClosed, GoesOn, begun, may_hold}
+use Rattle.toml_formatter.proofs.Stages.{read_both, with_both, inside_line, text_read, with_remark, waiting_depth, remarks_depth, waiting_remarks, waiting_more, remarks_more, nested_along, waiting_agrees, agrees_then, closing_same, comma_passes}
 
 -- ---- texts
 

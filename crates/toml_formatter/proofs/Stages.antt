@@ -2,14 +2,14 @@
 use Rattle.std.proofs.Common.{◌≡◌, refl, sym, ◌∙◌, ap, subst, ℕ, zero, suc, Bool, true, false, List, [], ◌∷◌, ◌++◌}
 use Rattle.prettyless_model.specs.Shows as shown
 use Rattle.prettyless_model.specs.Shows.{Item, Shown, Gap, Mark, Late, SameLine, AnyLine, Spacing, LineEnd, After, with_gap, more}
-use Rattle.toml_lexemes.specs.Bytes.{comma, head, line_feed}
-use Rattle.toml_statements.specs.Statements.{Role, a_comma, a_remark, a_line_end, an_opening, a_closing, any_other, role, trimmed, Collected, line_ended, line_ended_at, with_held_comma, with_role, with_lexeme, with_lexemes}
+use Rattle.toml_lexemes.specs.Bytes.{comma, head}
+use Rattle.toml_statements.specs.Statements.{Role, a_remark, a_closing, role, trimmed, Collected, line_ended, line_ended_at, with_held_comma, with_role, with_lexeme, with_lexemes}
 use Rattle.toml_statements.specs.Shown.{Stage, IsWholeLexeme, IsInside, MayStand, AreRead, after_shown, least_between}
 use Rattle.toml_formatter.specs.declared.gaps.Gap.{Gap as Between}
 use Rattle.toml_formatter.specs.declared.gaps.Gap.TheVariants.{Nothing, Space, Edge, Line, BlankLine, Break, BlankBreak}
 use Rattle.toml_formatter.specs.declared.kind.Last.{Last}
-use Rattle.toml_formatter.specs.Gaps.{gap_items, least_of, stays, least_needed, Suits}
-use Rattle.toml_formatter.specs.Lines.{directly_after, before_next, IsNested, EndsAs, Ends, Agrees, AreRemarks, WaitingRemarks, waiting}
+use Rattle.toml_formatter.specs.Gaps.{gap_items, least_of, stays, least_needed}
+use Rattle.toml_formatter.specs.Lines.{directly_after, before_next, IsNested, EndsAs, Agrees, AreRemarks, WaitingRemarks, waiting}
 
 -- ---- items
 

@@ -1,18 +1,17 @@
 -- Statements, lexeme by lexeme.
-use Rattle.std.proofs.Common.{◌≡◌, refl, sym, ◌∙◌, ap, subst, ℕ, Bool, true, false, List, [], ◌∷◌, ◌++◌, append_assoc, append-nil, inl, inr, Bor}
-use Rattle.std.specs.Prelude.{◌⊎◌}
+use Rattle.std.proofs.Common.{◌≡◌, refl, sym, ◌∙◌, ap, subst, ℕ, Bool, true, false, List, [], ◌∷◌, ◌++◌, inl, inr, Bor}
 use Rattle.prettyless.specs.Tree.{Tree}
 use Rattle.prettyless.specs.Trees.{ref_tree}
 use Rattle.prettyless_pointers.specs.declared.arena.RefDoc.{RefDoc}
 use Rattle.prettyless_model.specs.Shows as shown
 use Rattle.prettyless_model.specs.Shows.{Item, Shown, more, shows}
 use Rattle.prettyless_shapes.specs.Items.{ShowsBoth}
-use Rattle.toml_lexemes.specs.Bytes.{comma, hash, head, line_feed}
-use Rattle.toml_lexemes.specs.View.{text_of, IsNamed}
+use Rattle.toml_lexemes.specs.Bytes.{comma, hash, head}
+use Rattle.toml_lexemes.specs.View.{text_of}
 use Rattle.toml_lexemes.specs.declared.lexeme.Lexeme.{Lexeme}
 use Rattle.toml_lexemes.specs.declared.lexeme.Lexeme.TheVariants as lexeme
 use Rattle.toml_statements.specs.Statements.{trimmed, Collected, with_lexeme, with_lexemes}
-use Rattle.toml_statements.specs.Shown.{Stage, IsWholeLexeme, IsReady, AreRead}
+use Rattle.toml_statements.specs.Shown.{Stage, IsWholeLexeme, IsReady}
 use Rattle.toml_formatter.specs.declared.gaps.Gap.TheVariants as gap
 use Rattle.toml_formatter.specs.declared.kind.Last.{Last}
 use Rattle.toml_formatter.specs.declared.kind.Last.TheVariants as last
@@ -20,7 +19,7 @@ use Rattle.toml_formatter.specs.declared.line.Line.{Line}
 use Rattle.toml_formatter.specs.Gaps.{least_needed, is_remark}
 use Rattle.toml_formatter.specs.Kinds.{is_closing, IsPart}
 use Rattle.toml_formatter.specs.Lexing.{IsSound, LineEndsNext}
-use Rattle.toml_formatter.specs.Lines.{directly_after, before_next, Ends, WaitingRemarks, waiting, LineRead, IsLine, ValueRead, IsValue, ClosedRead, IsClosed, GoesOn, MayGoOn, begun, StatementRead, IsStatement, TakesStatement}
+use Rattle.toml_formatter.specs.Lines.{directly_after, before_next, Ends, WaitingRemarks, waiting, LineRead, IsLine, ValueRead, IsValue, ClosedRead, IsClosed, GoesOn, MayGoOn, begun, StatementRead, IsStatement}
 use Rattle.toml_formatter.proofs.Stages.{read_both, text_read}
 use Rattle.toml_formatter.proofs.LineLemmas.{comma_is_whole, hash_ends, trimmed_head, trimmed_read}
 use Rattle.toml_formatter.proofs.Values.{closing_ends, closing_head, closing_role, closing_whole}

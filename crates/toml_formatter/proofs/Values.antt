@@ -1,5 +1,5 @@
 -- Values and lists.
-use Rattle.std.proofs.Common.{◌≡◌, refl, sym, ◌∙◌, ap, subst, ℕ, suc, Bool, true, false, cond, ◌||◌, ◌==◌, List, [], ◌∷◌, ◌++◌, append_assoc, append-nil, inl, inr}
+use Rattle.std.proofs.Common.{◌≡◌, refl, sym, ◌∙◌, ap, subst, ℕ, suc, Bool, true, false, cond, ◌||◌, ◌==◌, List, [], ◌∷◌, ◌++◌, inl, inr}
 use Rattle.std.specs.Prelude.{◌⊎◌}
 use Rattle.prettyless.specs.Tree.{Tree}
 use Rattle.prettyless.specs.Trees.{ref_tree}
@@ -11,20 +11,20 @@ use Rattle.toml_lexemes.specs.Bytes.{hash, head, is_sign, is_quote, ends_word, i
 use Rattle.toml_lexemes.specs.View.{text_of, IsNamed}
 use Rattle.toml_lexemes.specs.declared.lexeme.Lexeme.{Lexeme}
 use Rattle.toml_lexemes.specs.declared.lexeme.Lexeme.TheVariants as lexeme
-use Rattle.toml_statements.specs.Statements.{Role, a_comma, a_remark, a_line_end, an_opening, a_closing, any_other, role, role_of, trimmed, Collected, outside, with_role, with_lexeme, with_lexemes}
-use Rattle.toml_statements.specs.Shown.{Stage, IsWholeLexeme, AreRead, least_between, least_after}
+use Rattle.toml_statements.specs.Statements.{Role, a_closing, any_other, role, role_of, trimmed, Collected, outside, with_role, with_lexeme, with_lexemes}
+use Rattle.toml_statements.specs.Shown.{IsWholeLexeme, least_after}
 use Rattle.toml_formatter.specs.declared.gaps.Gap.{Gap as Between}
 use Rattle.toml_formatter.specs.declared.kind.Last.{Last}
 use Rattle.toml_formatter.specs.declared.kind.Last.TheVariants as last
 use Rattle.toml_formatter.specs.declared.line.Line.{Line}
-use Rattle.toml_formatter.specs.Gaps.{gap_items, least_of, stays, least_needed}
+use Rattle.toml_formatter.specs.Gaps.{gap_items, least_of, least_needed}
 use Rattle.toml_formatter.specs.Kinds.{is_closing, is_opening, last_after, IsPart}
 use Rattle.toml_formatter.specs.Lexing.{IsSound, IsSoundIn, LineEndsNext}
-use Rattle.toml_formatter.specs.Lines.{directly_after, before_next, EndsAs, Ends, HoldsNothingAfter, WaitingRemarks, waiting, LineRead, IsLine, ValueRead, IsValue, ClosedRead, IsClosed}
+use Rattle.toml_formatter.specs.Lines.{directly_after, EndsAs, Ends, HoldsNothingAfter, WaitingRemarks, waiting, LineRead, IsLine, ValueRead, IsValue, ClosedRead, IsClosed}
 use Rattle.std.proofs.lemmas.Bool.{eqb-true, or_cases}
 use Rattle.toml_statements.proofs.WholeLexemes.{quote_role, word_role}
 use Rattle.toml_formatter.proofs.LineLemmas.{hash_role}
-use Rattle.toml_formatter.proofs.Stages.{read_both, with_both, text_read}
+use Rattle.toml_formatter.proofs.Stages.{read_both, text_read}
 
 -- ---- what lexemes end as
 

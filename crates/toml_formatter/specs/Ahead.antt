@@ -1,5 +1,5 @@
 -- The model of the lexemes with one that is read ahead.
-use Rattle.std.specs.Prelude.{◌≡◌, ℕ, List, [], ◌∷◌, Option, Some, None, ⊤}
+use Rattle.std.specs.Prelude.{◌≡◌, ℕ, List, [], ◌∷◌, Option, Some, None}
 use Rattle.toml_lexemes.specs.View.{text_of, IsNamed}
 use Rattle.toml_lexemes.specs.declared.lexeme.Lexeme.{Lexeme}
 use Rattle.toml_formatter.specs.Lexing.{AreSound}

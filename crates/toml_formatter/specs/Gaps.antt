@@ -1,5 +1,5 @@
 -- What is between two lexemes of a layout.
-use Rattle.std.specs.Prelude.{◌≡◌, ℕ, Bool, true, false, cond, List, [], ◌∷◌, ⊤}
+use Rattle.std.specs.Prelude.{◌≡◌, ℕ, Bool, true, false, cond, List, [], ◌∷◌}
 use Rattle.prettyless_model.specs.Shows as shown
 use Rattle.prettyless_model.specs.Shows.{Least, Spacing, LineEnd, more, Item, spaced, apart, ended, loose}
 use Rattle.toml_lexemes.specs.Bytes.{is_quote, ends_word}

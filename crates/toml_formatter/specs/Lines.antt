@@ -3,9 +3,10 @@ use Rattle.std.specs.Prelude.{◌≡◌, ◌⊎◌, ℕ, Bool, true, false, List
 use Rattle.prettyless.specs.Tree.{Tree}
 use Rattle.prettyless.specs.Trees.{ref_tree}
 use Rattle.prettyless_pointers.specs.declared.arena.RefDoc.{RefDoc}
-use Rattle.prettyless_model.specs.Shows.{Item, Shown, Mark, shows, after_text, after_line}
+use Rattle.prettyless_model.specs.Shows.{Item, Shown, shows, after_text, after_line}
 use Rattle.toml_lexemes.specs.Bytes.{comma, head, line_feed}
-use Rattle.toml_statements.specs.Statements.{Role, a_remark, a_closing, role, trimmed, Collected, none_collected, line_ended, with_lexeme, with_lexemes, statements_of, statements}
+use Rattle.toml_statements.specs.Statements.{a_remark, role, Collected, none_collected}
+use Rattle.toml_statements.specs.Statements.{line_ended, with_lexeme, with_lexemes, statements_of, statements}
 use Rattle.toml_statements.specs.Shown.{Stage, first_stage, IsInside, IsReady, AreRead, collected_at, least_between}
 use Rattle.toml_formatter.specs.Gaps.{least_needed, is_remark}
 use Rattle.toml_formatter.specs.Lexing.{LineEndsNext}
@@ -108,7 +109,8 @@ Agrees true c d = c ≡ d
 Agrees false c d = record c { comma = false } ≡ record d { comma = false }
 
 -- what a line's items are read as from a stage on; exactly, or but for a comma
-pub record LineRead (nested exact : Bool) (line : Line) (left taken : List (List ℕ)) (items : List Item) (rs : List (List ℕ)) (a : Stage) : Type 0 where
+pub record LineRead (nested exact : Bool) (line : Line) (left taken : List (List ℕ))
+    (items : List Item) (rs : List (List ℕ)) (a : Stage) : Type 0 where
   pub collected : Collected
   pub text : List ℕ
   pub read : AreRead a items (directly_after collected text)

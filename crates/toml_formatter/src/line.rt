@@ -105,7 +105,8 @@ impl<'a> Line<'a> {
             → self.entry.comma ≡ false → IsLine nested exact self.entry left taken → IsLine nested exact line left taken) }
         ensures comma { IfOk result (λ line. line.comma ≡ self.entry.comma) }
         ensures remarked { IfOk result (λ line. line.is_remarked ≡ false) }
-        ensures last { IfOk result (λ line. self.entry.is_remarked ≡ false → is_remark self.entry.last ≡ false → is_remark line.last ≡ false) }
+        ensures last { IfOk result (λ line. self.entry.is_remarked ≡ false → is_remark self.entry.last ≡ false
+            → is_remark line.last ≡ false) }
     {
         if !self.is_remarked {
             return Ok(self);
@@ -126,7 +127,8 @@ impl<'a> Line<'a> {
             → IsLine nested exact self.entry left taken → IsLine nested exact line left taken) }
         ensures no_comma { IfOk result (λ line. line.comma ≡ false) }
         ensures no_remarks { IfOk result (λ line. line.is_remarked ≡ false) }
-        ensures last { IfOk result (λ line. self.entry.is_remarked ≡ false → is_remark self.entry.last ≡ false → is_remark line.last ≡ false) }
+        ensures last { IfOk result (λ line. self.entry.is_remarked ≡ false → is_remark self.entry.last ≡ false
+            → is_remark line.last ≡ false) }
     {
         self.with_pending_comma(arena)?.with_pending_remarks(arena)
     }
@@ -190,7 +192,8 @@ impl<'a> Line<'a> {
         requires whole { IsWholeLexeme (trimmed remark.now) }
         requires remark { head remark.now ≡ hash }
         ensures line { IfOk result (λ line. (left taken : List (List ℕ))
-            → IsLine (is_nested kind) true self.entry (remark.now ∷ left) taken → IsLine (is_nested kind) true line left (taken ++ remark.now ∷ [])) }
+            → IsLine (is_nested kind) true self.entry (remark.now ∷ left) taken
+            → IsLine (is_nested kind) true line left (taken ++ remark.now ∷ [])) }
         ensures last { IfOk result (λ line. line.last ≡ self.entry.last) }
     {
         let gap = before_remark(kind, self.last, self.is_remarked, self.broken, self.blank);
@@ -264,7 +267,8 @@ impl<'a> Line<'a> {
     /// end where an array is broken.
     pub(crate) fn closed(self, arena: &'a Arena<'a>, kind: Kind) -> Result<Line<'a>, BuildError>
         requires { is_nested kind ≡ false → is_remark self.last ≡ false }
-        ensures last { IfOk result (λ line. self.entry.is_remarked ≡ false → is_remark self.entry.last ≡ false → is_remark line.last ≡ false) }
+        ensures last { IfOk result (λ line. self.entry.is_remarked ≡ false → is_remark self.entry.last ≡ false
+            → is_remark line.last ≡ false) }
         ensures closed { IfOk result (λ line. (x : List ℕ) (left taken : List (List ℕ)) → role x ≡ a_closing
             → IsLine (is_nested kind) true self.entry (x ∷ left) taken → IsClosed (is_nested kind) line x taken) }
     {

@@ -139,7 +139,8 @@ fn with_next<'a>(
     requires sound { IsSound (text_of next) lexemes.old }
     requires part { is_closing next ≡ false }
     ensures made { IfOk result (λ made. (taken : List (List ℕ)) → IsLine true true line.entry (text_of next.entry ∷ lexemes.old) taken
-        → (more : List (List ℕ)) × (text_of next.entry ∷ lexemes.old ≡ more ++ lexemes.new) × IsLine true true made lexemes.new (taken ++ more)) }
+        → (more : List (List ℕ)) × (text_of next.entry ∷ lexemes.old ≡ more ++ lexemes.new)
+        × IsLine true true made lexemes.new (taken ++ more)) }
     ensures fewer { OnOk result (length lexemes.new ≤ length lexemes.old) }
     ensures err { IfErr result IsRefusal }
 {

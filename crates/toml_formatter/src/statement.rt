@@ -30,7 +30,8 @@ fn with_closing<'a>(
     requires closes { is_closing bracket ≡ true }
     requires goes_on { GoesOn false line }
     ensures line { IfOk result (λ made. (left taken : List (List ℕ)) → IsSound (text_of bracket.entry) left
-        → IsLine false true line.entry (text_of bracket.entry ∷ left) taken → IsLine false true made left (taken ++ text_of bracket.entry ∷ [])) }
+        → IsLine false true line.entry (text_of bracket.entry ∷ left) taken
+        → IsLine false true made left (taken ++ text_of bracket.entry ∷ [])) }
     ensures goes_on { IfOk result (λ made. GoesOn false made) }
     ensures err { IfErr result IsRefusal }
 {
@@ -82,7 +83,8 @@ fn with_next<'a>(
     requires no_line_end { LineEndsNext (text_of next ∷ lexemes.old) → ⊥ }
     requires goes_on { GoesOn false line }
     ensures line { IfOk result (λ made. (taken : List (List ℕ)) → IsLine false true line.entry (text_of next.entry ∷ lexemes.old) taken
-        → (more : List (List ℕ)) × (text_of next.entry ∷ lexemes.old ≡ more ++ lexemes.new) × IsLine false true made lexemes.new (taken ++ more)) }
+        → (more : List (List ℕ)) × (text_of next.entry ∷ lexemes.old ≡ more ++ lexemes.new)
+        × IsLine false true made lexemes.new (taken ++ more)) }
     ensures goes_on { IfOk result (λ made. MayGoOn made lexemes.new) }
     ensures fewer { OnOk result (length lexemes.new ≤ length lexemes.old) }
     ensures err { IfErr result IsRefusal }

@@ -1,9 +1,8 @@
-use Rattle.std.proofs.Common.{◌≡◌, refl, sym, ◌∙◌, ap, subst, ◌∷◌, ◌++◌, [], List, ℕ, append_assoc, append-nil}
+use Rattle.std.proofs.Common.{◌≡◌, sym, ◌∙◌, ap, subst, ◌∷◌, ◌++◌, [], List, ℕ, append_assoc, append-nil}
 use Rattle.prettyless.specs.Trees.{ref_tree}
 use Rattle.toml_lexemes.specs.Bytes.{line_feed}
 use Rattle.toml_lexemes.specs.View.{text_of}
 use Rattle.toml_lexemes.specs.declared.lexeme.Lexeme.{Lexeme}
-use Rattle.toml_lexemes.specs.Lexemes.{lexemes}
 use Rattle.toml_formatter.specs.Lines.{IsDocument}
 use Rattle.toml_formatter.proofs.Documents.{document_blank, document_none, document_whole}
 use Rattle.toml_formatter.proofs.document.document.Goals as goal

@@ -1,4 +1,4 @@
-use Rattle.std.proofs.Common.{◌≡◌, subst, sym, true, Bool, List, ℕ, ◌∷◌}
+use Rattle.std.proofs.Common.{subst, sym, true, Bool, ◌∷◌}
 use Rattle.prettyless.specs.Trees.{ref_tree}
 use Rattle.toml_lexemes.specs.View.{text_of}
 use Rattle.toml_formatter.specs.Lines.{IsLine, IsClosed}

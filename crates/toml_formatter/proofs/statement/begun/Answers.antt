@@ -1,11 +1,10 @@
-use Rattle.std.proofs.Common.{◌≡◌, refl, sym, ◌∙◌, ap, subst, true, false, ◌∷◌, ◌++◌, [], List, ℕ, inl, inr}
+use Rattle.std.proofs.Common.{◌≡◌, refl, sym, ◌∙◌, ap, subst, true, false, ◌∷◌, [], List, ℕ, inl, inr}
 use Rattle.prettyless.specs.Trees.{ref_tree}
 use Rattle.toml_lexemes.specs.Bytes.{comma}
 use Rattle.toml_lexemes.specs.View.{text_of, IsNamed}
 use Rattle.toml_lexemes.specs.declared.lexeme.Lexeme.{Lexeme}
 use Rattle.toml_lexemes.specs.declared.lexeme.Lexeme.TheVariants as lexeme
 use Rattle.toml_formatter.specs.Kinds.{is_closing, last_after}
-use Rattle.toml_formatter.specs.declared.kind.Last.{Last}
 use Rattle.toml_formatter.specs.Gaps.{is_remark}
 use Rattle.toml_formatter.specs.Lexing.{IsSound}
 use Rattle.toml_formatter.specs.Lines.{IsLine, MayGoOn, begun}

@@ -1,7 +1,5 @@
-use Rattle.std.proofs.Common.{◌≡◌, refl, sym, ◌∙◌, ap, subst, true, false, ◌∷◌, ◌++◌, [], List, ℕ, inl, inr, append_assoc, append-nil, arith, length, length-append}
-use Rattle.prettyless.specs.Trees.{ref_tree}
-use Rattle.toml_lexemes.specs.View.{text_of}
-use Rattle.toml_formatter.specs.Lines.{IsLine, MayGoOn}
+use Rattle.std.proofs.Common.{sym, ◌∙◌, ap, subst, true, false, ◌++◌, List, ℕ, inl, inr, append_assoc, append-nil, arith, length, length-append}
+use Rattle.toml_formatter.specs.Lines.{IsLine}
 use Rattle.toml_formatter.proofs.StatementLemmas.{line_is_statement, may_settle}
 use Rattle.toml_formatter.proofs.statement.statement.Goals as goal
 

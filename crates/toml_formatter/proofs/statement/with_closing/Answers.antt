@@ -1,4 +1,4 @@
-use Rattle.std.proofs.Common.{subst, sym, true, false, ◌∷◌, ◌++◌, [], List, ℕ}
+use Rattle.std.proofs.Common.{subst, sym, true, false, ◌∷◌, ◌++◌, []}
 use Rattle.prettyless.specs.Trees.{ref_tree}
 use Rattle.toml_lexemes.specs.View.{text_of}
 use Rattle.toml_formatter.specs.Lines.{IsLine}

@@ -1,13 +1,12 @@
-use Rattle.std.proofs.Common.{◌≡◌, refl, sym, ◌∙◌, ap, subst, true, false, ◌∷◌, ◌++◌, [], List, ℕ, inl, inr}
+use Rattle.std.proofs.Common.{◌≡◌, refl, sym, ◌∙◌, ap, subst, true, false, ◌∷◌, [], List, ℕ, inl, inr}
 use Rattle.std.proofs.lemmas.Result.{IfOk-weaker}
 use Rattle.toml_lexemes.specs.Bytes.{comma}
 use Rattle.toml_lexemes.specs.View.{text_of, IsNamed}
-use Rattle.toml_formatter.specs.Kinds.{is_closing}
 use Rattle.toml_formatter.specs.Lexing.{IsSound}
-use Rattle.toml_formatter.specs.Lines.{IsLine, MayGoOn}
+use Rattle.toml_formatter.specs.Lines.{IsLine}
 use Rattle.toml_formatter.specs.Gaps.{is_remark}
 use Rattle.toml_formatter.proofs.StatementLemmas.{part_of}
-use Rattle.toml_formatter.proofs.Values.{part_whole, remark_whole}
+use Rattle.toml_formatter.proofs.Values.{remark_whole}
 use Rattle.toml_formatter.proofs.statement.with_next.Goals as goal
 
 pub value-requires-clause-part : goal.value-requires-clause-part

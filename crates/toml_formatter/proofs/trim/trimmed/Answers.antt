@@ -1,4 +1,4 @@
-use Rattle.std.proofs.Common.{◌≡◌, refl, sym, ◌∙◌, ap, ◌<◌, ◌≤◌, inr, false, true, take, get_or, length, ◌-◌, arith}
+use Rattle.std.proofs.Common.{◌≡◌, sym, ◌∙◌, ap, inr, false, true, take, get_or, ◌-◌, arith}
 use Rattle.toml_lexemes.specs.Bytes.{is_blank}
 use Rattle.toml_statements.specs.Statements.{trimmed}
 use Rattle.toml_formatter.proofs.Trims.{blank_ascii, blank_less, blank_none}

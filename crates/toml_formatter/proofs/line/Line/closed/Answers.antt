@@ -1,4 +1,4 @@
-use Rattle.std.proofs.Common.{true, false, ◌∷◌}
+use Rattle.std.proofs.Common.{false, ◌∷◌}
 use Rattle.toml_formatter.proofs.LineLemmas.{closed_marked, closed_plain, comma_changed}
 use Rattle.toml_formatter.specs.Gaps.{is_nested}
 use Rattle.toml_formatter.proofs.line.Line.closed.Goals as goal

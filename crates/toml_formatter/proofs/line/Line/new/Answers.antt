@@ -1,4 +1,4 @@
-use Rattle.std.proofs.Common.{sym, subst, true, List, ℕ, []}
+use Rattle.std.proofs.Common.{sym, subst, true, []}
 use Rattle.toml_formatter.specs.declared.line.Line.{Line}
 use Rattle.toml_formatter.specs.Lines.{IsLine}
 use Rattle.toml_formatter.proofs.LineLemmas.{no_lexeme}

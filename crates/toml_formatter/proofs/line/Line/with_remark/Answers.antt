@@ -1,4 +1,4 @@
-use Rattle.std.proofs.Common.{◌≡◌, sym, subst, refl, true, false, [], ◌∷◌, ◌++◌, List, ℕ}
+use Rattle.std.proofs.Common.{sym, subst, refl, true, false, [], ◌∷◌, ◌++◌}
 use Rattle.prettyless.specs.Trees.{ref_tree}
 use Rattle.toml_formatter.specs.Gaps.{is_nested}
 use Rattle.toml_formatter.specs.Lines.{IsLine}
