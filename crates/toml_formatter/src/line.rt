@@ -11,7 +11,7 @@ ghost use Rattle.toml_formatter.specs.Lines.{begun, may_hold, IsValue, IsLine, I
 
 use crate::gaps::{before, before_comma, before_remark};
 use crate::kind::{Kind, Last, last_of};
-use crate::parts::{apart, trailed};
+use crate::parts::{apart, remark_text, trailed};
 use crate::trim::trimmed;
 use prettyless::text::BuildError;
 use prettyless::{Arena, RefDoc};
@@ -197,7 +197,7 @@ impl<'a> Line<'a> {
         ensures last { IfOk result (λ line. line.last ≡ self.entry.last) }
     {
         let gap = before_remark(kind, self.last, self.is_remarked, self.broken, self.blank);
-        let remark = text(arena, trimmed(remark))?;
+        let remark = remark_text(arena, trimmed(remark))?;
         if self.is_remarked {
             let remarks = apart(arena, self.remarks, gap, remark)?;
             return Ok(self.with_remarks(remarks));

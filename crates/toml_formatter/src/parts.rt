@@ -3,7 +3,7 @@ ghost use Rattle.std.specs.Prelude.{◌≡◌, [], ◌∷◌, IfOk};
 ghost use Rattle.prettyless.specs.Counted as counted;
 ghost use Rattle.prettyless.specs.Built.{append};
 ghost use Rattle.prettyless.specs.Lines.{line_};
-ghost use Rattle.prettyless.specs.Tree.{Nil, BreakOrFlat};
+ghost use Rattle.prettyless.specs.Tree.{Nil, BreakOrFlat, TextWithLen};
 ghost use Rattle.prettyless_model.specs.Shows.{Item, Mark, Shown, loose, shows};
 ghost use Rattle.prettyless_shapes.specs.Items.{ShowsBoth, ShowsMore};
 ghost use Rattle.prettyless_shapes.specs.Shown.{text_items};
@@ -11,8 +11,8 @@ ghost use Rattle.toml_lexemes.specs.Bytes.{comma};
 ghost use Rattle.toml_formatter.specs.Gaps.{gap_items};
 
 use crate::gaps::Gap;
-use prettyless::text::BuildError;
-use prettyless::{BuildDoc, DocAllocator, DocBuilder, DocPlace, Pretty};
+use prettyless::text::{BuildError, Text};
+use prettyless::{BuildDoc, Doc, DocAllocator, DocBuilder, DocPlace, Pretty};
 use prettyless_shapes::{broken, ended, joined, lined, spaced, stacked, text};
 
 /// A lexeme, as it is spelled. Where it has several lines, the groups around it are not flat.
@@ -28,6 +28,17 @@ pub(crate) fn lexeme<'a, D: DocPlace<'a>>(
     } else {
         Ok(doc)
     }
+}
+
+/// A remark, which counts no columns: no array in front of it is broken for its sake.
+pub(crate) fn remark_text<'a, D: DocPlace<'a>>(
+    place: &'a D,
+    spelling: &'a str,
+) -> Result<D::Doc, BuildError>
+    ensures ok { IfOk result (λ p. D.Doc.tree p ≡ TextWithLen 0 spelling.now) }
+    ensures items { IfOk result (λ p. shows (D.Doc.tree p) (text_items spelling.now)) }
+{
+    place.alloc(Doc::TextWithLen(0, Text::Borrowed(spelling)))
 }
 
 /// Whether a line ends in the text.
