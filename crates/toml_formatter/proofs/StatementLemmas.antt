@@ -18,7 +18,7 @@ use Rattle.toml_formatter.specs.declared.kind.Last.TheVariants as last
 use Rattle.toml_formatter.specs.declared.line.Line.{Line}
 use Rattle.toml_formatter.specs.Gaps.{least_needed, is_remark}
 use Rattle.toml_formatter.specs.Kinds.{is_closing, IsPart}
-use Rattle.toml_formatter.specs.Lexing.{IsSound, LineEndsNext}
+use Rattle.toml_statements.specs.Sound.{IsSound, LineEndsNext}
 use Rattle.toml_formatter.specs.Lines.{directly_after, before_next, Ends, WaitingRemarks, waiting, LineRead, IsLine, ValueRead, IsValue, ClosedRead, IsClosed, GoesOn, MayGoOn, begun, StatementRead, IsStatement}
 use Rattle.toml_formatter.proofs.Stages.{read_both, text_read}
 use Rattle.toml_formatter.proofs.LineLemmas.{comma_is_whole, hash_ends, trimmed_head, trimmed_read}

@@ -19,7 +19,7 @@ use Rattle.toml_formatter.specs.declared.kind.Last.TheVariants as last
 use Rattle.toml_formatter.specs.declared.line.Line.{Line}
 use Rattle.toml_formatter.specs.Gaps.{gap_items, least_of, least_needed}
 use Rattle.toml_formatter.specs.Kinds.{is_closing, is_opening, last_after, IsPart}
-use Rattle.toml_formatter.specs.Lexing.{IsSound, IsSoundIn, LineEndsNext}
+use Rattle.toml_statements.specs.Sound.{IsSound, IsSoundIn, LineEndsNext}
 use Rattle.toml_formatter.specs.Lines.{directly_after, EndsAs, Ends, HoldsNothingAfter, WaitingRemarks, waiting, LineRead, IsLine, ValueRead, IsValue, ClosedRead, IsClosed}
 use Rattle.std.proofs.lemmas.Bool.{eqb-true, or_cases}
 use Rattle.toml_statements.proofs.WholeLexemes.{quote_role, word_role}

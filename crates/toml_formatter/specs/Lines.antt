@@ -9,7 +9,7 @@ use Rattle.toml_statements.specs.Statements.{a_remark, role, Collected, none_col
 use Rattle.toml_statements.specs.Statements.{line_ended, with_lexeme, with_lexemes, statements_of, statements}
 use Rattle.toml_statements.specs.Shown.{Stage, first_stage, IsInside, IsReady, AreRead, collected_at, least_between}
 use Rattle.toml_formatter.specs.Gaps.{least_needed, is_remark}
-use Rattle.toml_formatter.specs.Lexing.{LineEndsNext}
+use Rattle.toml_statements.specs.Sound.{LineEndsNext}
 use Rattle.toml_formatter.specs.declared.kind.Last.{Last}
 use Rattle.toml_formatter.specs.declared.kind.Last.TheVariants.{Start, Close, Equals, Word, String, Comma, Remark}
 use Rattle.toml_formatter.specs.declared.line.Line.{Line}

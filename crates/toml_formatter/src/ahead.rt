@@ -3,7 +3,8 @@ ghost use Rattle.toml_lexemes.specs.Bytes.{line_feed};
 ghost use Rattle.toml_lexemes.specs.Lexemes.{lexemes};
 ghost use Rattle.toml_lexemes.specs.View.{text_of, IsNamed};
 ghost use Rattle.toml_formatter.specs.Kinds.{is_closing};
-ghost use Rattle.toml_formatter.specs.Lexing.{AreSound, ClosesNext, IsSound, LineEndsNext};
+ghost use Rattle.toml_formatter.specs.Lexing.{ClosesNext};
+ghost use Rattle.toml_statements.specs.Sound.{AreSound, IsSound, LineEndsNext};
 
 use crate::kind::closes;
 use std::marker::Model;

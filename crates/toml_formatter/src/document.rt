@@ -3,7 +3,7 @@ ghost use Rattle.std.specs.Prelude.{◌≡◌, ◌++◌, ◌∷◌, ℕ, List, I
 ghost use Rattle.prettyless.specs.Trees.{ref_tree};
 ghost use Rattle.toml_lexemes.specs.Lexemes.{lexemes};
 ghost use Rattle.toml_formatter.specs.Errors.{IsRefusal};
-ghost use Rattle.toml_formatter.specs.Lexing.{AreSound};
+ghost use Rattle.toml_statements.specs.Sound.{AreSound};
 ghost use Rattle.toml_formatter.specs.Lines.{HasStatements, IsDocument, TakesStatement};
 
 use crate::ahead::Ahead;

@@ -6,7 +6,7 @@ ghost use Rattle.toml_lexemes.specs.Lexemes.{lexemes};
 ghost use Rattle.toml_statements.specs.Statements.{statements};
 ghost use Rattle.toml_formatter.specs.Errors.{IsRefusal};
 ghost use Rattle.toml_formatter.specs.Formats.{IsFormatted, IsRefused};
-ghost use Rattle.toml_formatter.specs.Lexing.{AreSound};
+ghost use Rattle.toml_statements.specs.Sound.{AreSound};
 
 use crate::document::document;
 use crate::error::FormatError;

@@ -5,7 +5,8 @@ ghost use Rattle.toml_lexemes.specs.View.{text_of, IsNamed};
 ghost use Rattle.toml_formatter.specs.Errors.{IsRefusal};
 ghost use Rattle.toml_formatter.specs.Gaps.{is_nested};
 ghost use Rattle.toml_formatter.specs.Kinds.{is_closing, is_opening, last_after, IsPart};
-ghost use Rattle.toml_formatter.specs.Lexing.{ClosesNext, IsSound};
+ghost use Rattle.toml_formatter.specs.Lexing.{ClosesNext};
+ghost use Rattle.toml_statements.specs.Sound.{IsSound};
 ghost use Rattle.toml_formatter.specs.Lines.{IsValue, IsLine, TakesLine, TakesValue};
 
 use crate::ahead::Ahead;

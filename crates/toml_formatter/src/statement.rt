@@ -5,7 +5,7 @@ ghost use Rattle.toml_lexemes.specs.Bytes.{line_feed};
 ghost use Rattle.toml_lexemes.specs.View.{text_of, IsNamed};
 ghost use Rattle.toml_formatter.specs.Errors.{IsRefusal};
 ghost use Rattle.toml_formatter.specs.Kinds.{is_closing};
-ghost use Rattle.toml_formatter.specs.Lexing.{IsSound, LineEndsNext};
+ghost use Rattle.toml_statements.specs.Sound.{IsSound, LineEndsNext};
 ghost use Rattle.toml_formatter.specs.Lines.{GoesOn, IsLine, MayGoOn, TakesStatement};
 
 use crate::ahead::Ahead;
@@ -19,7 +19,7 @@ use prettyless_shapes::{joined, text};
 use toml_lexemes::Lexeme;
 
 /// How many brackets may be in one another.
-const MAX_DEPTH: usize = 128;
+pub const MAX_DEPTH: usize = 128;
 
 /// The line with a bracket that closes nothing taken. Reading drops a comma before it.
 fn with_closing<'a>(

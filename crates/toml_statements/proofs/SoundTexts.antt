@@ -8,47 +8,66 @@ use Rattle.toml_lexemes.specs.Spaced.{MayFollow, IsWellSpaced, begins_line_end}
 use Rattle.toml_lexemes.proofs.Following.{remarks_are_ended}
 use Rattle.toml_lexemes.proofs.Gaps.{IsWellSpaced-lexemes, lexemes_alone}
 use Rattle.toml_lexemes.proofs.Kept.{same_lexemes}
-use Rattle.toml_statements.specs.Statements.{Role, a_comma, a_remark, a_line_end, an_opening, a_closing, any_other, role_of, role}
+use Rattle.toml_statements.specs.Statements.{Role, a_comma, a_remark, a_line_end, an_opening, a_closing, any_other, role_of, role, trimmed}
 use Rattle.toml_statements.specs.Shown.{IsWholeLexeme}
-use Rattle.toml_statements.specs.Sound.{IsClosedString, IsSound, MayComeAfter, AreSound}
+use Rattle.toml_statements.specs.Sound.{IsClosedString, LineEndsNext, IsSoundIn, AreSound}
 use Rattle.toml_statements.proofs.LineEnds.{cut-nil, cut_blank, cut_line_feed}
 use Rattle.toml_statements.proofs.TextsApart.{no_blank, sign_alone}
 use Rattle.toml_statements.proofs.WholeLexemes.{no_lexeme, by_sign, sign_is_whole, word_role, word_is_whole, quote_role, string_is_whole, remark_is_whole}
 
 -- ---- each lexeme
 
+-- a lexeme of this role is whole, whatever comes after it
+abbrev IsAlone : Role → List ℕ → Type 0
+IsAlone a_remark s = IsWholeLexeme (trimmed s)
+IsAlone a_line_end s = s ≡ 10 ∷ []
+IsAlone r s = IsWholeLexeme s
+
+-- its line ends, if it is a remark
+abbrev MayComeAfter : Role → List (List ℕ) → Type 0
+MayComeAfter a_remark ss = LineEndsNext ss
+MayComeAfter r ss = Unit {0}
+
+alone_sound : (r : Role) (s : List ℕ) (ss : List (List ℕ)) → IsAlone r s → MayComeAfter r ss → IsSoundIn r s ss
+alone_sound a_comma s ss h k = h
+alone_sound a_remark s ss h k = (h, k)
+alone_sound a_line_end s ss h k = h
+alone_sound an_opening s ss h k = h
+alone_sound a_closing s ss h k = h
+alone_sound any_other s ss h k = h
+
 line_feed_alone : (s : List ℕ) → cut between (10 ∷ s) ≡ (10 ∷ s) ∷ [] → 10 ∷ s ≡ 10 ∷ []
 unfolding cut
 line_feed_alone s lexeme = let one : (10 ∷ []) ∷ cut between s ≡ (10 ∷ s) ∷ [] = lexeme in cc
 
 -- a sign has a role that asks for a whole lexeme
-sign_sound : (x : ℕ) (s : List ℕ) → is_sign x ≡ true → IsWholeLexeme s → IsSound (role_of x) s
-sign_sound x s sign whole = by_sign (λ y. IsSound (role_of y) s) whole whole whole whole whole whole x sign
+sign_whole : (x : ℕ) (s : List ℕ) → is_sign x ≡ true → IsWholeLexeme s → IsAlone (role_of x) s
+sign_whole x s sign whole = by_sign (λ y. IsAlone (role_of y) s) whole whole whole whole whole whole x sign
 
 module _ (x : ℕ) (s : List ℕ) (lexeme : cut between (x ∷ s) ≡ (x ∷ s) ∷ []) (closed : IsClosedString (x ∷ s)) where
-  at_byte : (c : ℕ) → ((t : List ℕ) → cut between (c ∷ t) ≡ (c ∷ t) ∷ [] → IsSound (role_of c) (c ∷ t)) → x ≡ c
-      → IsSound (role_of x) (x ∷ s)
-  at_byte c h e = subst (λ y. cut between (y ∷ s) ≡ (y ∷ s) ∷ [] → IsSound (role_of y) (y ∷ s)) (sym e) (h s) lexeme
+  at_byte : (c : ℕ) → ((t : List ℕ) → cut between (c ∷ t) ≡ (c ∷ t) ∷ [] → IsAlone (role_of c) (c ∷ t)) → x ≡ c
+      → IsAlone (role_of x) (x ∷ s)
+  at_byte c h e = subst (λ y. cut between (y ∷ s) ≡ (y ∷ s) ∷ [] → IsAlone (role_of y) (y ∷ s)) (sym e) (h s) lexeme
 
   by_tests : (sign blank quote line_feed hash : Bool) → is_sign x ≡ sign → is_blank x ≡ blank → is_quote x ≡ quote
-      → (x == 10) ≡ line_feed → (x == 35) ≡ hash → IsSound (role_of x) (x ∷ s)
+      → (x == 10) ≡ line_feed → (x == 35) ≡ hash → IsAlone (role_of x) (x ∷ s)
   by_tests true true q l h es eb eq el eh = absurd (no_blank x s lexeme eb)
   by_tests true false q l h es eb eq el eh =
-      sign_sound x (x ∷ s) es (subst (λ t. IsWholeLexeme (x ∷ t)) (sym (sign_alone x s es eb lexeme)) (sign_is_whole x es))
+      sign_whole x (x ∷ s) es (subst (λ t. IsWholeLexeme (x ∷ t)) (sym (sign_alone x s es eb lexeme)) (sign_is_whole x es))
   by_tests false true q l h es eb eq el eh = absurd (no_blank x s lexeme eb)
   by_tests false false true l h es eb eq el eh =
-      subst (λ r. IsSound r (x ∷ s)) (sym (quote_role x eq)) (string_is_whole (x ∷ s) lexeme eq (closed eq))
+      subst (λ r. IsAlone r (x ∷ s)) (sym (quote_role x eq)) (string_is_whole (x ∷ s) lexeme eq (closed eq))
   by_tests false false false true h es eb eq el eh = at_byte 10 (λ t e. line_feed_alone t e) (eqb-true x 10 el)
   by_tests false false false false true es eb eq el eh =
       at_byte 35 (λ t e. remark_is_whole (35 ∷ t) e refl) (eqb-true x 35 eh)
   by_tests false false false false false es eb eq el eh =
       let plain : ends_word x ≡ false = λ j. es j || eb j || eq j || el j || eh j in
-      subst (λ r. IsSound r (x ∷ s)) (sym (word_role x plain)) (word_is_whole (x ∷ s) lexeme plain)
+      subst (λ r. IsAlone r (x ∷ s)) (sym (word_role x plain)) (word_is_whole (x ∷ s) lexeme plain)
 
 -- a lexeme of a text, which is closed if it is a string
-pub lexeme_sound : (s : List ℕ) → cut between s ≡ s ∷ [] → IsClosedString s → IsSound (role s) s
-lexeme_sound [] lexeme closed = absurd (no_lexeme lexeme)
-lexeme_sound (x ∷ s) lexeme closed =
+lexeme_alone : (s : List ℕ) → cut between s ≡ s ∷ [] → IsClosedString s → IsAlone (role s) s
+lexeme_alone [] lexeme closed = absurd (no_lexeme lexeme)
+lexeme_alone (x ∷ s) lexeme closed =
     by_tests x s lexeme closed (is_sign x) (is_blank x) (is_quote x) (x == 10) (x == 35) refl refl refl refl refl
 
 -- ---- what comes after it
@@ -104,8 +123,10 @@ are_sound [] bytes alone closed spaced = tt
 are_sound (s ∷ ss) bytes alone closed (g, rest, gap, is, follows, spaced) =
     let lexeme = All-head (λ s. cut between s ≡ s ∷ []) s ss alone in
     let others = All-tail (λ s. cut between s ≡ s ∷ []) s ss alone in (
-      lexeme_sound s lexeme (All-head IsClosedString s ss closed),
-      comes_after (role s) s rest ss refl lexeme follows (same_lexemes rest ss others spaced),
+      record {
+        sound = alone_sound (role s) s ss (lexeme_alone s lexeme (All-head IsClosedString s ss closed))
+            (comes_after (role s) s rest ss refl lexeme follows (same_lexemes rest ss others spaced));
+      },
       are_sound ss rest others (All-tail IsClosedString s ss closed) spaced,
     )
 

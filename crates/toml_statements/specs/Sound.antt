@@ -10,18 +10,22 @@ use Rattle.toml_statements.specs.Shown.{IsWholeLexeme}
 abbrev pub IsClosedString : List ℕ → Type 0
 IsClosedString s = is_quote (head s) ≡ true → MayFollow s (byte.space ∷ [])
 
--- a lexeme of this role is whole; of a remark so are the bytes without the blanks at the end
-abbrev pub IsSound : Role → List ℕ → Type 0
-IsSound a_remark s = IsWholeLexeme (trimmed s)
-IsSound a_line_end s = s ≡ byte.line_feed ∷ []
-IsSound r s = IsWholeLexeme s
+-- no lexeme comes next, or a line end does
+abbrev pub LineEndsNext : List (List ℕ) → Type 0
+LineEndsNext ss = (ss ≡ []) ⊎ ((rest : List (List ℕ)) × (ss ≡ (byte.line_feed ∷ []) ∷ rest))
 
--- after a remark these lexemes begin with a line end, if there are any
-abbrev pub MayComeAfter : Role → List (List ℕ) → Type 0
-MayComeAfter a_remark ss = (ss ≡ []) ⊎ ((rest : List (List ℕ)) × (ss ≡ (byte.line_feed ∷ []) ∷ rest))
-MayComeAfter r ss = ⊤
+-- A lexeme of this role in front of others is whole. Of a remark so are the bytes without the blanks at its end, and its line
+-- ends after it.
+abbrev pub IsSoundIn : Role → List ℕ → List (List ℕ) → Type 0
+IsSoundIn a_remark s ss = IsWholeLexeme (trimmed s) × LineEndsNext ss
+IsSoundIn a_line_end s ss = s ≡ byte.line_feed ∷ []
+IsSoundIn r s ss = IsWholeLexeme s
 
--- each lexeme is sound, and no other stands on the line after a remark
+-- the lexeme may be shown, in front of these
+pub record IsSound (s : List ℕ) (ss : List (List ℕ)) : Type 0 where
+  pub sound : IsSoundIn (role s) s ss
+
+-- each lexeme may be shown
 abbrev pub AreSound : List (List ℕ) → Type 0
 AreSound [] = ⊤
-AreSound (s ∷ ss) = IsSound (role s) s × MayComeAfter (role s) ss × AreSound ss
+AreSound (s ∷ ss) = IsSound s ss × AreSound ss

@@ -6,7 +6,7 @@ use Rattle.toml_lexemes.specs.declared.lexeme.Lexeme.{Lexeme}
 use Rattle.toml_lexemes.specs.declared.lexeme.Lexeme.TheVariants as lexeme
 use Rattle.toml_formatter.specs.Kinds.{is_closing, last_after}
 use Rattle.toml_formatter.specs.Gaps.{is_remark}
-use Rattle.toml_formatter.specs.Lexing.{IsSound}
+use Rattle.toml_statements.specs.Sound.{IsSound}
 use Rattle.toml_formatter.specs.Lines.{IsLine, MayGoOn, begun}
 use Rattle.toml_formatter.specs.declared.line.Line.{Line}
 use Rattle.toml_formatter.proofs.LineLemmas.{trimmed_shows}

@@ -2,7 +2,7 @@ use Rattle.std.proofs.Common.{◌≡◌, refl, sym, ◌∙◌, ap, subst, true, 
 use Rattle.std.proofs.lemmas.Result.{IfOk-weaker}
 use Rattle.toml_lexemes.specs.Bytes.{comma}
 use Rattle.toml_lexemes.specs.View.{text_of, IsNamed}
-use Rattle.toml_formatter.specs.Lexing.{IsSound}
+use Rattle.toml_statements.specs.Sound.{IsSound}
 use Rattle.toml_formatter.specs.Lines.{IsLine}
 use Rattle.toml_formatter.specs.Gaps.{is_remark}
 use Rattle.toml_formatter.proofs.StatementLemmas.{part_of}
