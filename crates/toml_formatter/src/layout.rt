@@ -89,10 +89,10 @@ fn laid_out(alloc: Global, text: &str, style: Style) -> Result<String, FormatErr
 
 /// The layout of a TOML text in this style. It has the same statements: the same lexemes, remarks among them, in the same
 /// order, but for line ends in brackets, commas before closing brackets, and remarks before a comma, which stand after it.
-/// Its lines end as the first one of the text does. It ends with a line end, unless it is empty.
+/// Its lines end as the first line of the text does that ends outside of strings. It ends with a line end, unless it is empty.
 ///
-/// `NotToml` exactly where the text is no TOML. Where it is TOML, `TooDeep` where more than 128 brackets are in one another,
-/// and `Memory` where memory is refused.
+/// `NotToml` only where the text is no TOML, and `TooDeep` only where it is TOML and more than 128 brackets are in one another.
+/// `Memory` where memory is refused, whatever the text is.
 pub fn formatted(alloc: Global, text: &str, style: Style) -> Result<String, FormatError>
     ensures ok { IfOk result (λ layout. IsFormatted text.now (string_bytes layout)) }
     ensures err { IfErr result (IsRefused text.now) }
