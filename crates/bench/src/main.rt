@@ -1,9 +1,10 @@
 //! Measures building and laying out in an arena: `bench` prints what comes of small documents, `bench time [WORKLOAD]` how
-//! long large ones take and how much memory, and `bench sizes` how large the types are that make a node.
+//! long large ones take and how much memory, `bench wide WORKLOAD` the same within as many columns as their sizes, and
+//! `bench sizes` how large the types are that make a node.
 #![tactic(auto)]
 
 use bench_workloads::failure::Failure;
-use bench_workloads::report::{compare, sizes, time_all, time_workload};
+use bench_workloads::report::{compare, sizes, time_all, time_wide, time_workload};
 use bench_workloads::request::{Request, requested};
 use std::env;
 use std::process::ExitCode;
@@ -16,6 +17,7 @@ fn run<R: AllocGlobal + Clock + Env + Files + Print>(rt: &R) -> Result<(), Failu
         Request::Sizes => sizes(rt),
         Request::TimeAll => time_all(rt),
         Request::Time(workload) => time_workload(rt, workload),
+        Request::TimeWide(workload) => time_wide(rt, workload),
     }
 }
 

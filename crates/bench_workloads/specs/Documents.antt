@@ -1,7 +1,7 @@
 -- The trees of documents that are measured.
 use Rattle.std.specs.Prelude.{◌≡◌, ℕ, zero, suc, ◌*◌, ◌%◌, ◌^◌, ◌≤◌, ◌<◌, max, List, replicate, codes, pos}
 use Rattle.std.specs.Fmt.{decimal}
-use Rattle.prettyless.specs.Tree.{Tree, Nil, Text, WeakSpace, HardLine, Group, Union}
+use Rattle.prettyless.specs.Tree.{Tree, Nil, Text, WeakSpace, HardLine, Group, Union, PartialUnion}
 use Rattle.prettyless.specs.Built.{append, nest, group, as_line_suffix, softline}
 use Rattle.prettyless.specs.Counted as counted
 use Rattle.prettyless.specs.Lines.{line, line_}
@@ -223,6 +223,69 @@ objects (suc n) = with_comma (objects n) (value 8)
 abbrev pub real : ℕ → Tree
 real n = listed (objects n)
 
+-- a document, a line and the next one, grouped
+abbrev pub line_group : Tree → Tree → Tree
+line_group front next = group (behind front next)
+
+-- an operand, and so many operators with an operand each, grouped with what is before them
+abbrev pub sums : ℕ → Tree
+sums zero = Text (codes "a")
+sums (suc n) = line_group (sums n) (Text (codes "+ b"))
+
+-- a text, a weak space, a line and this, grouped
+abbrev pub spaced_group : Tree → Tree
+spaced_group inner = line_group (append (Text (codes "a")) WeakSpace) inner
+
+-- so many of these in one another
+abbrev pub spaced_groups : ℕ → Tree
+spaced_groups zero = Text (codes "a")
+spaced_groups (suc n) = spaced_group (spaced_groups n)
+
+-- a text, a remark put off to the end of the line, a line and this, grouped
+abbrev pub remark_group : Tree → Tree
+remark_group inner = line_group (append (Text (codes "a")) (as_line_suffix (Text (codes "  # why")))) inner
+
+-- so many of these in one another
+abbrev pub remark_groups : ℕ → Tree
+remark_groups zero = Text (codes "a")
+remark_groups (suc n) = remark_group (remark_groups n)
+
+-- a text, a line, and this or else another text, grouped
+abbrev pub union_group : Tree → Tree
+union_group inner = line_group (Text (codes "a")) (Union inner (Text (codes "b")))
+
+-- so many of these in one another
+abbrev pub union_groups : ℕ → Tree
+union_groups zero = Text (codes "a")
+union_groups (suc n) = union_group (union_groups n)
+
+-- a text, a line, and this where its first line fits or else another text, grouped
+abbrev pub partial_group : Tree → Tree
+partial_group inner = line_group (Text (codes "a")) (PartialUnion inner (Text (codes "b")))
+
+-- so many of these in one another
+abbrev pub partial_groups : ℕ → Tree
+partial_groups zero = Text (codes "a")
+partial_groups (suc n) = partial_group (partial_groups n)
+
+-- two texts, grouped
+abbrev pub cell : Tree
+cell = group (append (Text (codes "a")) (Text (codes "b")))
+
+-- so many of these
+abbrev pub cells : ℕ → Tree
+cells zero = Nil
+cells (suc n) = append (cells n) cell
+
+-- thirty of these, and the end of their line
+abbrev pub cell_line : Tree
+cell_line = append (cells 30) HardLine
+
+-- so many such lines
+abbrev pub cell_lines : ℕ → Tree
+cell_lines zero = Nil
+cell_lines (suc n) = append (cell_lines n) cell_line
+
 -- the document of a workload at a size
 abbrev pub IsDocument : Workload → ℕ → Tree → Type 0
 IsDocument w.Tree n x = IsTree n x
@@ -239,3 +302,9 @@ IsDocument w.TailGroups n x = x ≡ tail_groups n
 IsDocument w.RightList n x = x ≡ right_list n
 IsDocument w.WeakSpaces n x = x ≡ weak_spaces n
 IsDocument w.RealJson n x = x ≡ real n
+IsDocument w.Sums n x = x ≡ sums n
+IsDocument w.SpacedGroups n x = x ≡ spaced_groups n
+IsDocument w.RemarkGroups n x = x ≡ remark_groups n
+IsDocument w.UnionGroups n x = x ≡ union_groups n
+IsDocument w.PartialGroups n x = x ≡ partial_groups n
+IsDocument w.CellLines n x = x ≡ cell_lines n

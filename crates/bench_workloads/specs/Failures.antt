@@ -5,7 +5,7 @@ use Rattle.bench_workloads.specs.declared.failure.Failure.TheVariants.{Words, Bu
 
 -- the text of a failure
 abbrev pub message_of : Failure → List ℕ
-message_of Words = codes "usage: bench [sizes | time [WORKLOAD]]"
+message_of Words = codes "usage: bench [sizes | time [WORKLOAD] | wide WORKLOAD]"
 message_of (Build e) = codes "error: a document was not built"
 message_of (Render e) = codes "error: a document was not laid out"
 message_of (Memory e) = codes "error: out of memory"

@@ -9,9 +9,13 @@ use Rattle.bench_workloads.specs.Names.{width_of}
 use Rattle.bench_workloads.specs.declared.measure.Laid.{Laid}
 use Rattle.bench_workloads.specs.declared.workload.Workload.{Workload}
 
--- the bytes of a workload's document at a size, laid out within the workload's width
+-- the bytes of a workload's document at a size, laid out within a width
+abbrev pub IsWithin : ℕ → Workload → ℕ → List ℕ → Type 0
+IsWithin width workload size bytes = (x : Tree) × IsDocument workload size x × (layout (options_at width) x ≡ Whole bytes)
+
+-- the same within the workload's width
 abbrev pub IsLayout : Workload → ℕ → List ℕ → Type 0
-IsLayout workload size bytes = (x : Tree) × IsDocument workload size x × (layout (options_at (width_of workload)) x ≡ Whole bytes)
+IsLayout workload size bytes = IsWithin (width_of workload) workload size bytes
 
 -- how many these are, and their checksum
 abbrev pub IsOf : Laid → List ℕ → Type 0

@@ -10,7 +10,8 @@ names =
     (codes "tree", w.Tree) ∷ (codes "list", w.List) ∷ (codes "flat", w.FlatList) ∷ (codes "json", w.Json)
     ∷ (codes "texts", w.TextGroups) ∷ (codes "bare", w.BareGroups) ∷ (codes "fill", w.Fill) ∷ (codes "lines", w.Lines)
     ∷ (codes "kept", w.KeptTrials) ∷ (codes "lost", w.RejectedTrials) ∷ (codes "tails", w.TailGroups) ∷ (codes "right", w.RightList)
-    ∷ (codes "weak", w.WeakSpaces) ∷ (codes "real", w.RealJson) ∷ []
+    ∷ (codes "weak", w.WeakSpaces) ∷ (codes "real", w.RealJson) ∷ (codes "sums", w.Sums) ∷ (codes "spaces", w.SpacedGroups)
+    ∷ (codes "remarks", w.RemarkGroups) ∷ (codes "unions", w.UnionGroups) ∷ (codes "partial", w.PartialGroups) ∷ (codes "records", w.CellLines) ∷ []
 
 -- what a word names in a table of names
 abbrev pub named_in : List (List ℕ × Workload) → List ℕ → Option Workload
@@ -31,6 +32,7 @@ width_of _ = 80
 abbrev pub small_size_of : Workload → ℕ
 small_size_of w.Json = 50
 small_size_of w.Lines = 50
+small_size_of w.CellLines = 50
 small_size_of w.BareGroups = 100
 small_size_of w.KeptTrials = 100
 small_size_of w.RejectedTrials = 100
@@ -52,4 +54,10 @@ full_sizes_of w.KeptTrials = depths
 full_sizes_of w.RejectedTrials = depths
 full_sizes_of w.TailGroups = depths
 full_sizes_of w.RealJson = 200 ∷ []
+full_sizes_of w.Sums = depths
+full_sizes_of w.SpacedGroups = depths
+full_sizes_of w.RemarkGroups = depths
+full_sizes_of w.UnionGroups = depths
+full_sizes_of w.PartialGroups = depths
+full_sizes_of w.CellLines = 30000 ∷ []
 full_sizes_of _ = 1000000 ∷ []

@@ -7,6 +7,7 @@ ghost use Rattle.bench_workloads.specs.declared.workload.Workload.TheVariants.{J
 
 use crate::groups::{bare_groups, tail_groups, text_groups};
 use crate::json::array;
+use crate::levels::{cell_lines, partial_groups, remark_groups, spaced_groups, sums, union_groups};
 use crate::lists::{list, right_list, tree};
 use crate::objects::real;
 use crate::trials::{kept_trials, rejected_trials};
@@ -39,6 +40,12 @@ fn built_at<'a, D: DocPlace<'a>>(
         Workload::RightList => right_list(place, size),
         Workload::WeakSpaces => weak_spaces(place, size),
         Workload::RealJson => real(place, size),
+        Workload::Sums => sums(place, size),
+        Workload::SpacedGroups => spaced_groups(place, size),
+        Workload::RemarkGroups => remark_groups(place, size),
+        Workload::UnionGroups => union_groups(place, size),
+        Workload::PartialGroups => partial_groups(place, size),
+        Workload::CellLines => cell_lines(place, size),
     }
 }
 

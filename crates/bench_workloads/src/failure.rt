@@ -28,7 +28,7 @@ impl Failure {
         ensures { result.now ≡ message_of self.now }
     {
         match self {
-            Failure::Words => "usage: bench [sizes | time [WORKLOAD]]",
+            Failure::Words => "usage: bench [sizes | time [WORKLOAD] | wide WORKLOAD]",
             Failure::Build(_) => "error: a document was not built",
             Failure::Render(_) => "error: a document was not laid out",
             Failure::Memory(_) => "error: out of memory",

@@ -8,6 +8,7 @@ mod document;
 pub mod failure;
 mod groups;
 mod json;
+mod levels;
 mod lists;
 mod measure;
 mod objects;

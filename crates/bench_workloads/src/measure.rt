@@ -5,7 +5,7 @@ ghost use Rattle.prettyless.specs.DocTree.{tree_of};
 ghost use Rattle.prettyless.specs.Layout as laid;
 ghost use Rattle.prettyless.specs.Options.{options_at};
 ghost use Rattle.bench_workloads.specs.Failures.{IsOfLayout, IsOfTiming};
-ghost use Rattle.bench_workloads.specs.Layouts.{IsLayout, IsOf};
+ghost use Rattle.bench_workloads.specs.Layouts.{IsLayout, IsOf, IsWithin};
 
 use crate::checksum::checksum;
 use crate::document::document;
@@ -116,31 +116,33 @@ fn time_in<'a, C: Clock, D: DocPlace<'a>>(
     place: &'a D,
     workload: Workload,
     size: usize,
+    width: usize,
 ) -> Result<(usize, Duration, Duration), Failure>
-    ensures ok { IfOk result (λ r. (bytes : List ℕ) × IsLayout workload size bytes × (r.0 ≡ length bytes)) }
+    ensures ok { IfOk result (λ r. (bytes : List ℕ) × IsWithin width workload size bytes × (r.0 ≡ length bytes)) }
     ensures err { IfErr result IsOfTiming }
 {
     let start = Instant::now(clock)?;
     let root = document(place, workload, size)?;
     let build = start.elapsed(clock)?;
     let mut out = String::new(alloc);
-    let render = least_render(clock, alloc, workload.width(), root.doc(), &mut out)?;
+    let render = least_render(clock, alloc, width, root.doc(), &mut out)?;
     Ok((out.len(), build, render))
 }
 
-/// Builds a workload and lays it out several times.
+/// Builds a workload and lays it out several times within this width.
 pub(crate) fn time<C: Clock>(
     clock: &C,
     alloc: Global,
     workload: Workload,
     size: usize,
+    width: usize,
 ) -> Result<Timed, Failure>
-    ensures ok { IfOk result (λ timed. (bytes : List ℕ) × IsLayout workload size bytes × (timed.bytes ≡ length bytes)) }
+    ensures ok { IfOk result (λ timed. (bytes : List ℕ) × IsWithin width workload size bytes × (timed.bytes ≡ length bytes)) }
     ensures err { IfErr result IsOfTiming }
 {
     let bump = Bump::new(alloc);
     let arena = Arena::new(alloc, &bump);
-    let (bytes, build, render) = time_in(clock, alloc, &arena, workload, size)?;
+    let (bytes, build, render) = time_in(clock, alloc, &arena, workload, size, width)?;
     Ok(Timed {
         nodes: arena.len(),
         bytes,

@@ -66,18 +66,19 @@ fn print_peak<R: AllocGlobal + Files + Print>(rt: &R, counts: bool) -> Result<()
     Ok(())
 }
 
-// Prints a line for a workload at one size: nodes, bytes, microseconds of building and of laying out, nanoseconds a node,
-// and the peak of memory.
+// Prints a line for a workload at one size, within one width: nodes, bytes, microseconds of building and of laying out,
+// nanoseconds a node, and the peak of memory.
 fn time_at<R: AllocGlobal + Clock + Files + Print>(
     rt: &R,
     workload: Workload,
     size: usize,
+    width: usize,
 ) -> Result<(), Failure>
     ensures err { IfErr result IsOfTiming }
 {
     let name = workload.name();
     let counts = forget_peak(rt);
-    let timed = time(rt, rt.alloc(), workload, size)?;
+    let timed = time(rt, rt.alloc(), workload, size, width)?;
     let nanos = timed.render.as_nanos() / timed.nodes.max(1) as u128;
     print!(rt;
         "{name} {size}: {} nodes, {} bytes, built in {} us, laid out in {} us, {nanos} ns a node",
@@ -97,12 +98,25 @@ pub fn time_workload<R: AllocGlobal + Clock + Files + Print>(
     ensures err { IfErr result IsOfTiming }
 {
     for size in workload.full_sizes() {
-        time_at(rt, workload, *size)?;
+        time_at(rt, workload, *size, workload.width())?;
     }
     Ok(())
 }
 
-/// Prints these lines for all workloads.
+/// Prints these lines for layouts within as many columns as the size is.
+pub fn time_wide<R: AllocGlobal + Clock + Files + Print>(
+    rt: &R,
+    workload: Workload,
+) -> Result<(), Failure>
+    ensures err { IfErr result IsOfTiming }
+{
+    for size in workload.full_sizes() {
+        time_at(rt, workload, *size, *size)?;
+    }
+    Ok(())
+}
+
+/// Prints a line for each full size of each workload.
 pub fn time_all<R: AllocGlobal + Clock + Files + Print>(rt: &R) -> Result<(), Failure>
     ensures err { IfErr result IsOfTiming }
 {

@@ -1,5 +1,5 @@
 ghost use Rattle.std.specs.Prelude.{◌≡◌};
-ghost use Rattle.bench_workloads.specs.Requests.{asked};
+ghost use Rattle.bench_workloads.specs.Requests.{asked, timed_by};
 
 use crate::workload::{Workload, workload_named};
 
@@ -14,9 +14,22 @@ pub enum Request {
     TimeAll,
     /// The times of one.
     Time(Workload),
+    /// The times of one within as many columns as its size.
+    TimeWide(Workload),
 }
 
-/// What the words of `bench` ask for: nothing, `sizes`, `time`, or `time` and a workload's name.
+// What a word in front of a workload's name asks for: `time` or `wide`.
+fn timed(word: &str, workload: Workload) -> Option<Request>
+    ensures { result ≡ timed_by word.now workload }
+{
+    match word {
+        "time" => Some(Request::Time(workload)),
+        "wide" => Some(Request::TimeWide(workload)),
+        _ => None,
+    }
+}
+
+/// What the words of `bench` ask for: nothing, `sizes`, `time`, or `time` or `wide` and a workload's name.
 pub fn requested(words: &[String]) -> Option<Request>
     ensures { result ≡ asked words.now }
 {
@@ -24,9 +37,7 @@ pub fn requested(words: &[String]) -> Option<Request>
         [] => Some(Request::Compare),
         [word] if word.as_str() == "sizes" => Some(Request::Sizes),
         [word] if word.as_str() == "time" => Some(Request::TimeAll),
-        [word, name] if word.as_str() == "time" => {
-            Some(Request::Time(workload_named(name.as_str())?))
-        }
+        [word, name] => timed(word.as_str(), workload_named(name.as_str())?),
         _ => None,
     }
 }

@@ -33,6 +33,18 @@ pub enum Workload {
     WeakSpaces,
     /// Objects in objects, as files of JSON have them.
     RealJson,
+    /// A sum of many operands, with a group for each operator.
+    Sums,
+    /// Groups in groups, with a weak space in each.
+    SpacedGroups,
+    /// Groups in groups, with a remark in each, put off to the end of its line.
+    RemarkGroups,
+    /// Groups in groups, each the first of two alternatives.
+    UnionGroups,
+    /// The same of alternatives of which only the first lines have to fit.
+    PartialGroups,
+    /// Lines of thirty short groups each.
+    CellLines,
 }
 
 /// All of them, as they are printed.
@@ -51,6 +63,12 @@ pub const WORKLOADS: &[Workload] = &[
     Workload::RightList,
     Workload::WeakSpaces,
     Workload::RealJson,
+    Workload::Sums,
+    Workload::SpacedGroups,
+    Workload::RemarkGroups,
+    Workload::UnionGroups,
+    Workload::PartialGroups,
+    Workload::CellLines,
 ];
 
 impl Workload {
@@ -73,6 +91,12 @@ impl Workload {
             Workload::RightList => "right",
             Workload::WeakSpaces => "weak",
             Workload::RealJson => "real",
+            Workload::Sums => "sums",
+            Workload::SpacedGroups => "spaces",
+            Workload::RemarkGroups => "remarks",
+            Workload::UnionGroups => "unions",
+            Workload::PartialGroups => "partial",
+            Workload::CellLines => "records",
         }
     }
 
@@ -92,7 +116,7 @@ impl Workload {
         ensures { result ≡ names.small_size_of self }
     {
         match self {
-            Workload::Json | Workload::Lines => 50,
+            Workload::Json | Workload::Lines | Workload::CellLines => 50,
             Workload::BareGroups
             | Workload::KeptTrials
             | Workload::RejectedTrials
@@ -110,11 +134,17 @@ impl Workload {
             Workload::Tree => &[100_000, 1_000_000],
             Workload::Json => &[80_000],
             Workload::RealJson => &[200],
+            Workload::CellLines => &[30_000],
             Workload::TextGroups
             | Workload::BareGroups
             | Workload::KeptTrials
             | Workload::RejectedTrials
-            | Workload::TailGroups => &[1_000, 10_000, 100_000],
+            | Workload::TailGroups
+            | Workload::Sums
+            | Workload::SpacedGroups
+            | Workload::RemarkGroups
+            | Workload::UnionGroups
+            | Workload::PartialGroups => &[1_000, 10_000, 100_000],
             _ => &[1_000_000],
         }
     }
@@ -139,6 +169,12 @@ pub(crate) fn workload_named(word: &str) -> Option<Workload>
         "right" => Some(Workload::RightList),
         "weak" => Some(Workload::WeakSpaces),
         "real" => Some(Workload::RealJson),
+        "sums" => Some(Workload::Sums),
+        "spaces" => Some(Workload::SpacedGroups),
+        "remarks" => Some(Workload::RemarkGroups),
+        "unions" => Some(Workload::UnionGroups),
+        "partial" => Some(Workload::PartialGroups),
+        "records" => Some(Workload::CellLines),
         _ => None,
     }
 }

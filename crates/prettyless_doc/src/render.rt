@@ -8,7 +8,7 @@ ghost use Rattle.prettyless_doc.specs.Rendering.{CountsVisits, RendersDoc, Rende
 
 use crate::doc::{Doc, DocPtr};
 use prettyless_model::options::RenderOptions;
-use prettyless_printer::run;
+use prettyless_printer::render;
 use prettyless_sink::error::RenderError;
 use prettyless_sink::fmt_write::FmtWrite;
 use prettyless_sink::io_write::IoWrite;
@@ -58,7 +58,7 @@ impl<'a, T: DocPtr<'a>> Doc<'a, T> {
             (W.lender out.old) (W.lender out.new) (W.bytes out.old) (W.bytes out.new) (W.failures out.old) (W.failures out.new) result }
         ensures counts { CountsVisits options (tree_of T.tree self.now) visits.old visits.new result }
     {
-        run::render(alloc, self, options, out, visits)
+        render::render(alloc, self, options, out, visits)
     }
 
     /// Renders to a sink at this width, in columns, as `render_raw_with` does by `RenderOptions::new(width)`.

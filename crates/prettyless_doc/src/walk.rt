@@ -1,11 +1,27 @@
+ghost use Rattle.std.specs.Prelude.{false};
 ghost use Rattle.prettyless_doc.specs.DocTree.{tree_of};
 
 use crate::doc::{Doc, DocPtr};
+use prettyless_model::mode::Mode;
 use prettyless_step::walk::{View, Walk};
+use prettyless_summary::summary::Summary;
 
 /// A document as the printer walks it.
 impl<'d, 'a, T: DocPtr<'a>> Walk for &'d Doc<'a, T> {
     ghost tree = { λ d. tree_of T.tree d.now };
+
+    ghost HAS_SUMMARIES = { false };
+
+    #[inline(always)]
+    fn has_summaries() -> bool {
+        false
+    }
+
+    #[inline(always)]
+    fn known(&self, mode: Mode) -> Option<Summary> {
+        let _mode = mode;
+        None
+    }
 
     #[inline(always)]
     fn view(&self) -> View<'_, Self> {

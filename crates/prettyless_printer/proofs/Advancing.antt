@@ -1,67 +1,69 @@
 -- The contract of a turn, for each way that it ends.
-use Rattle.std.proofs.Common.{◌≡◌, ℕ, ◌+◌, ◌≤◌, List, [], ◌∷◌, sym, ◌∙◌, arith, refl, subst, Ok, Err}
+use Rattle.std.proofs.Common.{◌≡◌, ℕ, ◌+◌, ◌≤◌, List, [], ◌∷◌, ap, sym, ◌∙◌, arith, refl, subst, Ok, Err}
 use Rattle.prettyless_sink.specs.Sink.{Accepts, Refuses, known, rise}
 use Rattle.prettyless_sink.specs.declared.error.RenderError.TheVariants.{Sink, Memory}
 use Rattle.prettyless_sink.specs.declared.visits.Visits.{Visits}
 use Rattle.prettyless_model.specs.declared.options.RenderOptions.{RenderOptions}
 use Rattle.prettyless_model.specs.Tree.{Tree}
+use Rattle.prettyless_model.specs.Layout.{State}
 use Rattle.prettyless_model.specs.Counts.{each_probe}
-use Rattle.prettyless_step.specs.Stack.{Task}
+use Rattle.prettyless_step.specs.Stack.{Task, nodes}
+use Rattle.prettyless_step.specs.Steps.{owed}
 use Rattle.prettyless_step.specs.Probing.{RisesBy}
-use Rattle.prettyless_step.specs.Printing.{state_of, tasks_of, Shows, Writes}
+use Rattle.prettyless_step.specs.Printing.{Shows}
 use Rattle.prettyless_step.specs.declared.printer.Printer.{Printer}
 use Rattle.prettyless_step.specs.declared.printer.Taken.TheVariants.{Failed, Chosen}
-use Rattle.prettyless_step.proofs.Shown.{IsStuck, Asks, written, stuck, asks}
-use Rattle.prettyless_printer.specs.Points.{Point, Seen, point}
+use Rattle.prettyless_step.proofs.Shown.{IsStuck, Asks}
+use Rattle.prettyless_printer.specs.Points.{Grows, Standing, standing, state_at, Seen, Point, point_at, point}
 use Rattle.prettyless_printer.specs.Progress.{Inside}
-use Rattle.prettyless_printer.specs.Visits.{Plain, CountsAtMost}
+use Rattle.prettyless_printer.specs.Visits.{Plain, CountsAtMost, suffixes}
 use Rattle.prettyless_printer.specs.AtLeast.{CountsAtLeast, tally_above, tally_choice}
 use Rattle.prettyless_printer.specs.Turns.{Advances, next_size}
 use Rattle.prettyless_printer.specs.declared.answer.Turn.TheVariants as turn
 use Rattle.prettyless_printer.proofs.Steps.{visits_within}
-use Rattle.prettyless_printer.proofs.Hands.{InHand, Visit, hand_step, from_start}
+use Rattle.prettyless_printer.proofs.Hands.{InHand, Visit, from_start}
+use Rattle.prettyless_printer.proofs.Standings.{Wrote, asks_there, step_from, stuck_there}
 use Rattle.prettyless_printer.proofs.Trying.{grows-grows}
-use Rattle.prettyless_printer.proofs.Turnings.{went, lessens, failed, chosen, choice_lessens, sink_broke}
-use Rattle.prettyless_printer.proofs.Visits.{went_at_most, failed_at_most, chosen_at_most, at_most_then, at_most_all, rise_then}
-use Rattle.prettyless_printer.proofs.AtLeast.{OneLaid, went_at_least, chosen_at_least, at_least_then}
+use Rattle.prettyless_printer.proofs.Turnings.{inside_at, went, lessens, failed, chosen, choice_lessens, sink_broke}
+use Rattle.prettyless_printer.proofs.Visits.{went_at_most, failed_at_most, chosen_at_most, at_most_at, at_most_then, at_most_all, rise_then}
+use Rattle.prettyless_printer.proofs.AtLeast.{OneLaid, went_at_least, chosen_at_least, at_least_at, at_least_then, stack_counts}
 
 -- what a turn counts: the first node is a visit, and no more nodes are than the next task has
-record Counted {N : Type 0} (f : N → Tree) (a : Point N) (x : Visits) : Type 0 where
+record Counted (a : Point) (x : Visits) : Type 0 where
   least : rise a.visits.printer ≤ x.printer
-  most : x.printer ≤ a.visits.printer + next_size (tasks_of f a.printer)
+  most : x.printer ≤ a.visits.printer + next_size a.printer.tasks
 
-counted : {N : Type 0} (f : N → Tree) {a : Point N} {t : Task} {b : Point N} {x : Visits} → InHand f a t b → Visit f a.printer.options t b x → Counted f a x
-counted {N} f {a} {t} {b} {x} h one = record {
+counted : {a : Point} {t : Task} {b : Point} {x : Visits} → InHand a t b → Visit a.printer.options t b x → Counted a x
+counted {a} {t} {b} {x} h one = record {
   least = omega (arith, h.rise.printer, one.least);
-  most = omega (arith, h.most, one.more.printer, visits_within a.printer.options t.tree t.mode (state_of f b.printer));
+  most = omega (arith, h.most, one.more.printer, visits_within a.printer.options t.tree t.mode (state_at b.printer));
 }
 
 -- its bytes were written
-pub advances_went : {N E : Type 0} (f : N → Tree) {a : Point N} {t : Task} {b : Point N} (q : Printer N) (s : Seen) (x : Visits) (bytes : List ℕ) → InHand f a t b → Visit f a.printer.options t b x →
-    RisesBy (each_probe t.tree t.mode) b.visits.probes x.probes → Writes f bytes (hand_step f a.printer.options t b.printer) b.printer q →
-    s.lender ≡ b.sink.lender → Accepts b.sink.bytes s.bytes bytes b.sink.failures s.failures → Advances {N = N} {E = E} f a (point q s x) (Ok turn.Went)
-advances_went {N} {E} f {a} {t} {b} q s x bytes h one probes writes lender wrote =
+pub advances_went : {N E : Type 0} (f : N → Tree) {a : Point} {t : Task} {b : Point} (q : Standing) (s : Seen) (x : Visits) (bytes : List ℕ) → InHand a t b → Visit a.printer.options t b x →
+    RisesBy (each_probe t.tree t.mode) b.visits.probes x.probes → Wrote (step_from a.printer.options t b.printer) bytes b.printer q →
+    s.lender ≡ b.sink.lender → Accepts b.sink.bytes s.bytes bytes b.sink.failures s.failures → Advances {N = N} {E = E} f a (point_at q s x) (Ok turn.Went)
+advances_went {N} {E} f {a} {t} {b} q s x bytes h one probes k lender accepts =
     let o = a.printer.options in
-    let ts : List Task = tasks_of f b.printer in
-    let us : List Task = tasks_of f q in
-    let st = state_of f b.printer in
-    let u = state_of f q in
+    let ts : List Task = b.printer.tasks in
+    let us : List Task = q.tasks in
+    let st = state_at b.printer in
+    let u = state_at q in
     let out = known b.sink.bytes in
-    let k = written f bytes (hand_step f o t b.printer) b.printer q writes in
     let laid : OneLaid t b.visits x = record { printer = one.least; probes = probes } in
-    let count = counted f h one in
+    let count = counted h one in
     from_start f (Ok turn.Went) h
     (record {
-      options = k.1 ∙ h.options;
-      grows = grows-grows a.printer b.printer q h.grows k.2;
-      lessens = omega (arith, h.less, lessens o t ts us st u bytes k.0);
+      options = k.options ∙ h.options;
+      grows = grows-grows a.printer b.printer q h.grows k.grows;
+      lessens = omega (arith, h.less, lessens o t ts us st u bytes k.leads);
       same_lender = lender;
       bytes = λ is_known.
-          let y = wrote is_known in (
+          let y = accepts is_known in (
             y.0,
             (
               λ whole limit below old l m.
-                  subst (λ (z : List ℕ). Inside o whole limit below old us u z) (sym y.1.0) (went o whole limit below old t ts us st u out bytes (omega (arith, l, h.long)) (h.inside out whole limit below old l m) k.0),
+                  subst (λ (z : List ℕ). Inside o whole limit below old us u z) (sym y.1.0) (went o whole limit below old t ts us st u out bytes (omega (arith, l, h.long)) (h.inside out whole limit below old l m) k.leads),
               y.1.1,
             ),
           );
@@ -70,21 +72,21 @@ advances_went {N} {E} f {a} {t} {b} q s x bytes h one probes writes lender wrote
       rise = rise_then h.rise one.rise;
       at_most = λ plain.
           let y = h.at_most plain in
-          let z = went_at_most o t ts us st u bytes b.visits x one.more y.0 k.0 in
+          let z = went_at_most o t ts us st u bytes b.visits x one.more y.0 k.leads in
           (record { none = z.0.0; pending = z.0.1 }, at_most_then y.1 z.1);
       at_least = λ n l. at_least_then (h.at_least n l)
-          (subst (λ (z : RenderOptions). CountsAtLeast (tally_above o n (t ∷ ts) st) (tally_above z n us u) b.visits x) (sym (k.1 ∙ h.options))
-          (went_at_least o n t ts us st u bytes b.visits x laid (omega (arith, l, h.long)) k.0));
+          (subst (λ (z : RenderOptions). CountsAtLeast (tally_above o n (t ∷ ts) st) (tally_above z n us u) b.visits x) (sym (k.options ∙ h.options))
+          (went_at_least o n t ts us st u bytes b.visits x laid (omega (arith, l, h.long)) k.leads));
     })
 
-failed_here : {N E : Type 0} (f : N → Tree) {a : Point N} {t : Task} {b : Point N} (x : Visits) → InHand f a t b → Visit f a.printer.options t b x →
-    IsStuck (hand_step f a.printer.options t b.printer) → Advances {N = N} {E = E} f a (point b.printer b.sink x) (Ok turn.Failed)
+failed_here : {N E : Type 0} (f : N → Tree) {a : Point} {t : Task} {b : Point} (x : Visits) → InHand a t b → Visit a.printer.options t b x →
+    IsStuck (step_from a.printer.options t b.printer) → Advances {N = N} {E = E} f a (point_at b.printer b.sink x) (Ok turn.Failed)
 failed_here {N} {E} f {a} {t} {b} x h one fails =
     let o = a.printer.options in
-    let ts : List Task = tasks_of f b.printer in
-    let st = state_of f b.printer in
+    let ts : List Task = b.printer.tasks in
+    let st = state_at b.printer in
     let out = known b.sink.bytes in
-    let count = counted f h one in
+    let count = counted h one in
     from_start f (Ok turn.Failed) h
     (record {
       options = h.options;
@@ -100,21 +102,21 @@ failed_here {N} {E} f {a} {t} {b} x h one fails =
     })
 
 -- it fails
-pub advances_failed : {N E : Type 0} (f : N → Tree) {a : Point N} {t : Task} {b : Point N} (q : Printer N) (x : Visits) → InHand f a t b → Visit f a.printer.options t b x →
-    Shows f t.mode Failed (hand_step f a.printer.options t b.printer) b.printer q → Advances {N = N} {E = E} f a (point q b.sink x) (Ok turn.Failed)
-advances_failed {N} {E} f {a} {t} {b} q x h one shows =
-    let k = stuck f t.mode (hand_step f a.printer.options t b.printer) b.printer q shows in
-    subst (λ (z : Printer N). Advances {N = N} {E = E} f a (point z b.sink x) (Ok turn.Failed)) (sym k.1) (failed_here f x h one k.0)
+pub advances_failed : {N E : Type 0} (f : N → Tree) {a : Point} {t : Task} {s : Seen} {v : Visits} (p q : Printer N) (x : Visits) → InHand a t (point f p s v) → Visit a.printer.options t (point f p s v) x →
+    Shows f t.mode Failed (step_from a.printer.options t (standing f p)) p q → Advances {N = N} {E = E} f a (point f q s x) (Ok turn.Failed)
+advances_failed {N} {E} f {a} {t} {s} {v} p q x h one shows =
+    let k = stuck_there f t.mode (step_from a.printer.options t (standing f p)) p q shows in
+    subst (λ (z : Standing). Advances {N = N} {E = E} f a (point_at z s x) (Ok turn.Failed)) (sym k.1) (failed_here f x h one k.0)
 
-chosen_here : {N E : Type 0} (f : N → Tree) {a : Point N} {t : Task} {b : Point N} (x : Visits) (i : ℕ) (l r : N) → InHand f a t b → Visit f a.printer.options t b x →
-    RisesBy (each_probe t.tree t.mode) b.visits.probes x.probes → Asks (hand_step f a.printer.options t b.printer) i (f l) (f r) → Advances {N = N} {E = E} f a (point b.printer b.sink x) (Ok (turn.Chosen i l r))
+chosen_here : {N E : Type 0} (f : N → Tree) {a : Point} {t : Task} {b : Point} (x : Visits) (i : ℕ) (l r : N) → InHand a t b → Visit a.printer.options t b x →
+    RisesBy (each_probe t.tree t.mode) b.visits.probes x.probes → Asks (step_from a.printer.options t b.printer) i (f l) (f r) → Advances {N = N} {E = E} f a (point_at b.printer b.sink x) (Ok (turn.Chosen i l r))
 chosen_here {N} {E} f {a} {t} {b} x i l r h one probes wants =
     let o = a.printer.options in
-    let ts : List Task = tasks_of f b.printer in
-    let st = state_of f b.printer in
+    let ts : List Task = b.printer.tasks in
+    let st = state_at b.printer in
     let out = known b.sink.bytes in
     let laid : OneLaid t b.visits x = record { printer = one.least; probes = probes } in
-    let count = counted f h one in
+    let count = counted h one in
     from_start f (Ok (turn.Chosen i l r)) h
     (record {
       options = h.options;
@@ -135,22 +137,22 @@ chosen_here {N} {E} f {a} {t} {b} x i l r h one probes wants =
     })
 
 -- two branches are to be chosen from
-pub advances_chosen : {N E : Type 0} (f : N → Tree) {a : Point N} {t : Task} {b : Point N} (q : Printer N) (x : Visits) (i : ℕ) (l r : N) → InHand f a t b → Visit f a.printer.options t b x →
-    RisesBy (each_probe t.tree t.mode) b.visits.probes x.probes → Shows f t.mode (Chosen i l r) (hand_step f a.printer.options t b.printer) b.printer q → Advances {N = N} {E = E} f a (point q b.sink x) (Ok (turn.Chosen i l r))
-advances_chosen {N} {E} f {a} {t} {b} q x i l r h one probes shows =
-    let k = asks f t.mode i l r (hand_step f a.printer.options t b.printer) b.printer q shows in
-    subst (λ (z : Printer N). Advances {N = N} {E = E} f a (point z b.sink x) (Ok (turn.Chosen i l r))) (sym k.1) (chosen_here f x i l r h one probes k.0)
+pub advances_chosen : {N E : Type 0} (f : N → Tree) {a : Point} {t : Task} {s : Seen} {v : Visits} (p q : Printer N) (x : Visits) (i : ℕ) (l r : N) → InHand a t (point f p s v) → Visit a.printer.options t (point f p s v) x →
+    RisesBy (each_probe t.tree t.mode) v.probes x.probes → Shows f t.mode (Chosen i l r) (step_from a.printer.options t (standing f p)) p q → Advances {N = N} {E = E} f a (point f q s x) (Ok (turn.Chosen i l r))
+advances_chosen {N} {E} f {a} {t} {s} {v} p q x i l r h one probes shows =
+    let k = asks_there f t.mode i l r (step_from a.printer.options t (standing f p)) p q shows in
+    subst (λ (z : Standing). Advances {N = N} {E = E} f a (point_at z s x) (Ok (turn.Chosen i l r))) (sym k.1) (chosen_here f x i l r h one probes k.0)
 
 -- what broke off has counted no more than the tasks allow
-broke_at_most : {N : Type 0} (f : N → Tree) {a : Point N} {t : Task} {b : Point N} (x : Visits) → InHand f a t b → Visit f a.printer.options t b x → Plain f a.printer → CountsAtMost (tasks_of f a.printer) [] a.visits x
-broke_at_most {N} f {a} {t} {b} x h one plain =
-    at_most_all (at_most_then (h.at_most plain).1 (failed_at_most a.printer.options t (tasks_of f b.printer) (state_of f b.printer) b.visits x one.more))
+broke_at_most : {a : Point} {t : Task} {b : Point} (x : Visits) → InHand a t b → Visit a.printer.options t b x → Plain a.printer → CountsAtMost a.printer.tasks [] a.visits x
+broke_at_most {a} {t} {b} x h one plain =
+    at_most_all (at_most_then (h.at_most plain).1 (failed_at_most a.printer.options t b.printer.tasks (state_at b.printer) b.visits x one.more))
 
 -- memory was refused
-pub advances_refused : {N E : Type 0} (f : N → Tree) {a : Point N} {t : Task} {b : Point N} (q : Printer N) (x : Visits) (e : _) → InHand f a t b → Visit f a.printer.options t b x →
-    Advances {N = N} {E = E} f a (point q b.sink x) (Err (Memory e))
+pub advances_refused : {N E : Type 0} (f : N → Tree) {a : Point} {t : Task} {b : Point} (q : Standing) (x : Visits) (e : _) → InHand a t b → Visit a.printer.options t b x →
+    Advances {N = N} {E = E} f a (point_at q b.sink x) (Err (Memory e))
 advances_refused {N} {E} f {a} {t} {b} q x e h one =
-    let count = counted f h one in
+    let count = counted h one in
     from_start f (Err (Memory e)) h
     (record {
       options = tt;
@@ -158,24 +160,23 @@ advances_refused {N} {E} f {a} {t} {b} q x e h one =
       lessens = tt;
       same_lender = refl;
       bytes = λ is_known. (is_known, (refl, refl));
-      least = count.least;
+      least = (rise_then h.rise one.rise).printer;
       most = count.most;
       rise = rise_then h.rise one.rise;
-      at_most = λ plain. broke_at_most f x h one plain;
+      at_most = λ plain. broke_at_most x h one plain;
       at_least = tt;
     })
 
 -- the sink failed in its bytes
-pub advances_sink_failed : {N E : Type 0} (f : N → Tree) {a : Point N} {t : Task} {b : Point N} (q : Printer N) (s : Seen) (x : Visits) (bytes : List ℕ) (e : E) → InHand f a t b → Visit f a.printer.options t b x →
-    Writes f bytes (hand_step f a.printer.options t b.printer) b.printer q →
-    s.lender ≡ b.sink.lender → Refuses b.sink.bytes s.bytes bytes b.sink.failures s.failures → Advances {N = N} {E = E} f a (point q s x) (Err (Sink e))
-advances_sink_failed {N} {E} f {a} {t} {b} q s x bytes e h one writes lender refused =
+pub advances_sink_failed : {N E : Type 0} (f : N → Tree) {a : Point} {t : Task} {b : Point} (q : Standing) (s : Seen) (x : Visits) (bytes : List ℕ) (e : E) → InHand a t b → Visit a.printer.options t b x →
+    Wrote (step_from a.printer.options t b.printer) bytes b.printer q →
+    s.lender ≡ b.sink.lender → Refuses b.sink.bytes s.bytes bytes b.sink.failures s.failures → Advances {N = N} {E = E} f a (point_at q s x) (Err (Sink e))
+advances_sink_failed {N} {E} f {a} {t} {b} q s x bytes e h one k lender refused =
     let o = a.printer.options in
-    let ts : List Task = tasks_of f b.printer in
-    let st = state_of f b.printer in
+    let ts : List Task = b.printer.tasks in
+    let st = state_at b.printer in
     let out = known b.sink.bytes in
-    let k = written f bytes (hand_step f o t b.printer) b.printer q writes in
-    let count = counted f h one in
+    let count = counted h one in
     from_start f (Err (Sink e)) h
     (record {
       options = tt;
@@ -187,13 +188,56 @@ advances_sink_failed {N} {E} f {a} {t} {b} q s x bytes e h one writes lender ref
             y.0,
             (
               λ whole limit below old l m.
-                  sink_broke o whole limit below old t ts (tasks_of f q) st (state_of f q) out bytes (known s.bytes) (omega (arith, l, h.long)) (h.inside out whole limit below old l m) k.0 y.1.0,
+                  sink_broke o whole limit below old t ts q.tasks st (state_at q) out bytes (known s.bytes) (omega (arith, l, h.long)) (h.inside out whole limit below old l m) k.leads y.1.0,
               y.1.1,
             ),
           );
       least = count.least;
       most = count.most;
       rise = rise_then h.rise one.rise;
-      at_most = λ plain. broke_at_most f x h one plain;
+      at_most = λ plain. broke_at_most x h one plain;
+      at_least = tt;
+    })
+
+-- it stopped before the node in hand, which is the next task again
+pub advances_stopped : {N E : Type 0} (f : N → Tree) {a : Point} {t : Task} {b : Point} (q : Standing) → InHand a t b → q.tasks ≡ t ∷ b.printer.tasks → state_at q ≡ state_at b.printer → q.options ≡ b.printer.options →
+    Grows b.printer q → Advances {N = N} {E = E} f a (point_at q b.sink b.visits) (Ok turn.Shift)
+advances_stopped {N} {E} f {a} {t} {b} q h e s o g =
+    let ts : List Task = t ∷ b.printer.tasks in
+    let st = state_at b.printer in
+    let out = known b.sink.bytes in
+    from_start f (Ok turn.Shift) h
+    (record {
+      options = o ∙ h.options;
+      grows = grows-grows a.printer b.printer q h.grows g;
+      lessens = (omega (arith, h.less, ap nodes e, ap (λ (u : State). owed u.pending) s), ap (λ (u : State). u.within) s ∙ h.within);
+      same_lender = refl;
+      bytes = λ is_known. (
+        is_known,
+        ((λ whole limit below old l y. inside_at a.printer.options whole limit below old ts q.tasks st (state_at q) out out e s refl (h.inside out whole limit below old l y)), refl),
+      );
+      least = h.rise.printer;
+      most = omega (arith, h.most);
+      rise = h.rise;
+      at_most = λ plain.
+          let y = h.at_most plain in
+          (record { none = ap suffixes e ∙ y.0.0; pending = ap (λ (u : State). u.pending) s ∙ y.0.1 }, at_most_at q.tasks e y.1);
+      at_least = λ n l. at_least_at (λ k. omega arith) (λ k. omega (arith, stack_counts q n a.printer.options ts st k (o ∙ h.options) e s)) (h.at_least n l);
+    })
+
+-- it was to stop there, and was refused memory
+pub advances_unstopped : {N E : Type 0} (f : N → Tree) {a : Point} {t : Task} {b : Point} (q : Standing) (e : _) → InHand a t b → Advances {N = N} {E = E} f a (point_at q b.sink b.visits) (Err (Memory e))
+advances_unstopped {N} {E} f {a} {t} {b} q e h =
+    from_start f (Err (Memory e)) h
+    (record {
+      options = tt;
+      grows = tt;
+      lessens = tt;
+      same_lender = refl;
+      bytes = λ is_known. (is_known, (refl, refl));
+      least = h.rise.printer;
+      most = omega (arith, h.most);
+      rise = h.rise;
+      at_most = λ plain. at_most_all (h.at_most plain).1;
       at_least = tt;
     })

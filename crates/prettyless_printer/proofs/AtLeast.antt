@@ -19,13 +19,12 @@ use Rattle.prettyless_model.specs.declared.mode.Mode.{Mode}
 use Rattle.prettyless_model.specs.declared.mode.Mode.TheVariants.{Break, Flat}
 use Rattle.prettyless_step.specs.Stack.{Task, make_task, tasks, follow}
 use Rattle.prettyless_step.specs.Steps.{Step, Move, Stuck, Choose, step_of, union_step, decided_by_metrics, break_step, at_once}
-use Rattle.prettyless_step.specs.Printing.{state_of, tasks_of}
 use Rattle.prettyless_step.proofs.Shown.{step_at, Leads, Asks}
+use Rattle.prettyless_printer.specs.Points.{Standing, state_at}
 use Rattle.prettyless_printer.specs.Trials.{TrialDid}
 use Rattle.prettyless_printer.specs.Visits.{Rise}
 use Rattle.prettyless_printer.specs.AtLeast.{tally_above, tally_choice, nothing_left, CountsAtLeast, stack_tally, choice_tally, trial_tally, VisitedAtLeast}
 use Rattle.prettyless_step.specs.Probing.{RisesBy}
-use Rattle.prettyless_step.specs.declared.printer.Printer.{Printer}
 use Rattle.prettyless_printer.proofs.Runs.{follow-tasks, payload_branch, no_padding}
 
 -- what a task counts, and then those after it
@@ -204,10 +203,10 @@ laid_at_least : (t : Task) (a b : Weight → ℕ) (v w : Visits) → OneLaid t v
 laid_at_least t a b v w one h = record { printer = omega (arith, h each_node, one.printer); probes = omega (arith, h each_probe, one.probes) }
 
 -- the stack counts what its tasks do
-stack_counts : {N : Type 0} (f : N → Tree) (p : Printer N) (n : ℕ) (o : RenderOptions) (ts : List Task) (st : State) (w : Weight) → p.options ≡ o → tasks_of f p ≡ ts → state_of f p ≡ st → stack_tally f p n w ≡ tally_above o n ts st w
-stack_counts {N} f p n o ts st w e h k =
-    ap (λ (x : RenderOptions). tally_above x n (tasks_of f p) (state_of f p) w) e
-    ∙ ap (λ (x : List Task). tally_above o n x (state_of f p) w) h ∙ ap (λ (x : State). tally_above o n ts x w) k
+pub stack_counts : (p : Standing) (n : ℕ) (o : RenderOptions) (ts : List Task) (st : State) (w : Weight) → p.options ≡ o → p.tasks ≡ ts → state_at p ≡ st → stack_tally p n w ≡ tally_above o n ts st w
+stack_counts p n o ts st w e h k =
+    ap (λ (x : RenderOptions). tally_above x n p.tasks (state_at p) w) e
+    ∙ ap (λ (x : List Task). tally_above o n x (state_at p) w) h ∙ ap (λ (x : State). tally_above o n ts x w) k
 
 went_by : (o : RenderOptions) (n : ℕ) (t : Task) (ts us : List Task) (st u : State) (bytes : List ℕ) (w : Weight) (step : Step) →
     StepCounts o n ts st w (tally_with o n t ts st w) (w t.tree t.mode) step → Leads step ts bytes us u → tally_with o n t ts st w ≤ w t.tree t.mode + tally_above o n us u w
@@ -254,56 +253,56 @@ rejected_counts o was (Done b st) x y e =
 rejected_counts o was (Failed b) x y e = refl
 
 -- a choice whose first branch is kept
-pub kept_at_least : {N : Type 0} (f : N → Tree) (p q : Printer N) (i : ℕ) (x y : Tree) (old new : List ℕ) (v w : Visits) (n : ℕ) → TrialDid f p q i x old new true →
-    CountsAtLeast (trial_tally f p i x) nothing_left v w → CountsAtLeast (choice_tally f p n i x y) (stack_tally f q n) v w
-kept_at_least {N} f p q i x y old new v w n d m =
-    let ts : List Task = tasks_of f p in
-    let out : Outcome = lay p.options (settle p.options) x i Break (follow ts) (tried (state_of f p)) in
-    let other : Outcome = lay p.options (settle p.options) y i Break (follow ts) (state_of f p) in
-    let same : (k : Weight) → choice_tally f p n i x y k ≡ trial_tally f p i x k + stack_tally f q n k = λ k.
+pub kept_at_least : (p q : Standing) (i : ℕ) (x y : Tree) (old new : List ℕ) (v w : Visits) (n : ℕ) → TrialDid p q i x old new true →
+    CountsAtLeast (trial_tally p i x) nothing_left v w → CountsAtLeast (choice_tally p n i x y) (stack_tally q n) v w
+kept_at_least p q i x y old new v w n d m =
+    let ts : List Task = p.tasks in
+    let out : Outcome = lay p.options (settle p.options) x i Break (follow ts) (tried (state_at p)) in
+    let other : Outcome = lay p.options (settle p.options) y i Break (follow ts) (state_at p) in
+    let same : (k : Weight) → choice_tally p n i x y k ≡ trial_tally p i x k + stack_tally q n k = λ k.
     omega (
       arith,
-      accepted_counts p.options p.within out d.5.0 (state_of f q) (trial_tally f p i x k) (tally p.options y i Break (follow ts) (state_of f p) k) (d.5.2 (Failed [])),
+      accepted_counts p.options p.within out d.5.0 (state_at q) (trial_tally p i x k) (tally p.options y i Break (follow ts) (state_at p) k) (d.5.2 (Failed [])),
       ap (λ (z : Outcome). counted_then z (λ u. tally_above p.options n ts u k)) (d.5.2 other),
-      stack_counts f q n p.options ts (state_of f q) k d.1 d.0 refl,
+      stack_counts q n p.options ts (state_at q) k d.1 d.0 refl,
     ) in
     record { printer = omega (arith, same each_node, m.printer); probes = omega (arith, same each_probe, m.probes) }
 
 -- a choice whose second branch comes next
-pub other_at_least : {N : Type 0} (f : N → Tree) (p q r : Printer N) (i : ℕ) (x y : Tree) (old new : List ℕ) (v w : Visits) (n : ℕ) → n ≤ length (tasks_of f p) → TrialDid f p q i x old new false →
-    tasks_of f r ≡ make_task i Break y ∷ tasks_of f q → state_of f r ≡ state_of f q → r.options ≡ q.options →
-    Rise v w → CountsAtLeast (choice_tally f p n i x y) (stack_tally f r n) v w
-other_at_least {N} f p q r i x y old new v w n l d e s z rise =
-    let ts : List Task = tasks_of f p in
-    let out : Outcome = lay p.options (settle p.options) x i Break (follow ts) (tried (state_of f p)) in
-    let other : Outcome = lay p.options (settle p.options) y i Break (follow ts) (state_of f p) in
+pub other_at_least : (p q r : Standing) (i : ℕ) (x y : Tree) (old new : List ℕ) (v w : Visits) (n : ℕ) → n ≤ length p.tasks → TrialDid p q i x old new false →
+    r.tasks ≡ make_task i Break y ∷ q.tasks → state_at r ≡ state_at q → r.options ≡ q.options →
+    Rise v w → CountsAtLeast (choice_tally p n i x y) (stack_tally r n) v w
+other_at_least p q r i x y old new v w n l d e s z rise =
+    let ts : List Task = p.tasks in
+    let out : Outcome = lay p.options (settle p.options) x i Break (follow ts) (tried (state_at p)) in
+    let other : Outcome = lay p.options (settle p.options) y i Break (follow ts) (state_at p) in
     at_least_rise rise (λ k.
     omega (
       arith,
-      rejected_counts p.options p.within out (trial_tally f p i x k) (tally p.options y i Break (follow ts) (state_of f p) k) (d.5.2 (Failed [])),
+      rejected_counts p.options p.within out (trial_tally p i x k) (tally p.options y i Break (follow ts) (state_at p) k) (d.5.2 (Failed [])),
       ap (λ (z : Outcome). counted_then z (λ u. tally_above p.options n ts u k)) (d.5.2 other),
-      stack_counts f r n p.options (make_task i Break y ∷ ts) (state_of f p) k (z ∙ d.1) (e ∙ ap (λ (c : List Task). make_task i Break y ∷ c) d.0) (s ∙ d.5.1),
-      above_is p.options n (make_task i Break y) ts (state_of f p) k l,
+      stack_counts r n p.options (make_task i Break y ∷ ts) (state_at p) k (z ∙ d.1) (e ∙ ap (λ (c : List Task). make_task i Break y ∷ c) d.0) (s ∙ d.5.1),
+      above_is p.options n (make_task i Break y) ts (state_at p) k l,
     ))
 
 -- a trial begins
-pub trial_begins : {N : Type 0} (f : N → Tree) (p q : Printer N) (i : ℕ) (d : Tree) (v : Visits) → q.options ≡ p.options → tasks_of f q ≡ make_task i Break d ∷ tasks_of f p → state_of f q ≡ tried (state_of f p) →
-    CountsAtLeast (trial_tally f p i d) (stack_tally f q (length (tasks_of f p))) v v
-trial_begins {N} f p q i d v o e s =
-    let ts : List Task = tasks_of f p in
+pub trial_begins : (p q : Standing) (i : ℕ) (d : Tree) (v : Visits) → q.options ≡ p.options → q.tasks ≡ make_task i Break d ∷ p.tasks → state_at q ≡ tried (state_at p) →
+    CountsAtLeast (trial_tally p i d) (stack_tally q (length p.tasks)) v v
+trial_begins p q i d v o e s =
+    let ts : List Task = p.tasks in
     let t : Task = make_task i Break d in
     at_least_rise (record { printer = omega arith; probes = omega arith })
-    (λ k. omega (arith, stack_counts f q (length ts) p.options (t ∷ ts) (tried (state_of f p)) k o e s, above_is p.options (length ts) t ts (tried (state_of f p)) k (omega arith)))
+    (λ k. omega (arith, stack_counts q (length ts) p.options (t ∷ ts) (tried (state_at p)) k o e s, above_is p.options (length ts) t ts (tried (state_at p)) k (omega arith)))
 
 -- no more than n tasks are left
-pub at_least_end : {N : Type 0} {a : Weight → ℕ} {v w : Visits} (f : N → Tree) (p : Printer N) (n : ℕ) → length (tasks_of f p) ≤ n → CountsAtLeast a (stack_tally f p n) v w → CountsAtLeast a nothing_left v w
-at_least_end {N} {a} {v} {w} f p n l m = at_least_at (λ k. omega arith) (λ k. omega (arith, above_none p.options n (tasks_of f p) (state_of f p) k l)) m
+pub at_least_end : {a : Weight → ℕ} {v w : Visits} (p : Standing) (n : ℕ) → length p.tasks ≤ n → CountsAtLeast a (stack_tally p n) v w → CountsAtLeast a nothing_left v w
+at_least_end {a} {v} {w} p n l m = at_least_at (λ k. omega arith) (λ k. omega (arith, above_none p.options n p.tasks (state_at p) k l)) m
 
 -- a run that has worked on one tree from the beginning
-pub visited_at_least : {N A E : Type 0} (f : N → Tree) (d : Tree) (p : Printer N) (v w : Visits) (r : Result A E) → tasks_of f p ≡ make_task 0 Break d ∷ [] → state_of f p ≡ initial →
-    OnOk r (CountsAtLeast (stack_tally f p 0) nothing_left v w) → OnOk r (VisitedAtLeast p.options d v w)
-visited_at_least {N} {A} {E} f d p v w (Ok x) e s m =
-    let less : (k : Weight) → tally p.options d 0 Break [] initial k ≤ stack_tally f p 0 k = λ k.
-    omega (arith, stack_counts f p 0 p.options (make_task 0 Break d ∷ []) initial k refl e s, above_is p.options 0 (make_task 0 Break d) [] initial k (omega arith)) in
+pub visited_at_least : {A E : Type 0} (d : Tree) (p : Standing) (v w : Visits) (r : Result A E) → p.tasks ≡ make_task 0 Break d ∷ [] → state_at p ≡ initial →
+    OnOk r (CountsAtLeast (stack_tally p 0) nothing_left v w) → OnOk r (VisitedAtLeast p.options d v w)
+visited_at_least {A} {E} d p v w (Ok x) e s m =
+    let less : (k : Weight) → tally p.options d 0 Break [] initial k ≤ stack_tally p 0 k = λ k.
+    omega (arith, stack_counts p 0 p.options (make_task 0 Break d ∷ []) initial k refl e s, above_is p.options 0 (make_task 0 Break d) [] initial k (omega arith)) in
     record { printer = omega (arith, less each_node, m.printer); probes = omega (arith, less each_probe, m.probes) }
-visited_at_least {N} {A} {E} f d p v w (Err x) e s m = tt
+visited_at_least {A} {E} d p v w (Err x) e s m = tt

@@ -10,16 +10,17 @@ use Rattle.prettyless_model.specs.Counts.{each_probe}
 use Rattle.prettyless_step.specs.Stack.{Task, make_task, nodes}
 use Rattle.prettyless_step.specs.Steps.{Step, Stuck, Choose, Move, counted_payload, rejects_payload, work, owed}
 use Rattle.prettyless_step.specs.Probing.{asked, RisesBy}
-use Rattle.prettyless_step.specs.Printing.{state_of, tasks_of, Grows, Hands, Shows}
+use Rattle.prettyless_step.specs.Printing.{Hands, Shows, state_of, tasks_of}
 use Rattle.prettyless_step.specs.declared.printer.Printer.{Printer}
 use Rattle.prettyless_step.specs.declared.printer.Taken.{Taken}
-use Rattle.prettyless_step.proofs.Shown.{step_at, Leads, handed}
+use Rattle.prettyless_step.proofs.Shown.{step_at, Leads}
 use Rattle.prettyless_step.proofs.Stacks.{nodes-append}
-use Rattle.prettyless_printer.specs.Points.{Point, Seen, point}
+use Rattle.prettyless_printer.specs.Points.{Standing, standing, state_at, Grows, Seen, Point, point_at, point}
 use Rattle.prettyless_printer.specs.Progress.{Inside}
 use Rattle.prettyless_printer.specs.Turns.{Advances, ForWholes, next_size}
 use Rattle.prettyless_printer.specs.Visits.{suffixes, Plain, Rise, CountsAtMost}
 use Rattle.prettyless_printer.specs.AtLeast.{CountsAtLeast, stack_tally, tally_above}
+use Rattle.prettyless_printer.proofs.Standings.{put_in_hand, state_stands, step_from}
 use Rattle.prettyless_printer.proofs.Steps.{extra, step_less_visits, LeavesLess}
 use Rattle.prettyless_printer.proofs.Trying.{grows-grows}
 use Rattle.prettyless_printer.proofs.Turnings.{inside_at, lessens, went}
@@ -27,37 +28,37 @@ use Rattle.prettyless_printer.proofs.Visits.{NoSuffix, OneMore, payload_visits-l
 use Rattle.prettyless_printer.proofs.AtLeast.{OneLaid, went_at_least, at_least_same, at_least_then}
 
 -- the tasks, where one is in hand above the stack
-abbrev pub tasks_with : {N : Type 0} → (N → Tree) → Task → Printer N → List Task
-tasks_with f t p = t ∷ tasks_of f p
+abbrev pub tasks_with : Task → Standing → List Task
+tasks_with t p = t ∷ p.tasks
 
 -- A turn that began at one point has come to another, with a task in hand above the stack; it has written nothing.
-pub record InHand {N : Type 0} (f : N → Tree) (a : Point N) (t : Task) (b : Point N) : Type 0 where
+pub record InHand (a : Point) (t : Task) (b : Point) : Type 0 where
   -- options, flag and sink are the same, and the queue only grew
   pub options : b.printer.options ≡ a.printer.options
   pub within : b.printer.within ≡ a.printer.within
   pub sink : b.sink ≡ a.sink
   pub grows : Grows a.printer b.printer
   -- the tasks below the next one are there
-  pub long : length (tasks_of f a.printer) ≤ length (tasks_of f b.printer) + 1
+  pub long : length a.printer.tasks ≤ length b.printer.tasks + 1
   -- there is no more work
-  pub less : work (tasks_with f t b.printer) (state_of f b.printer) ≤ work (tasks_of f a.printer) (state_of f a.printer)
+  pub less : work (tasks_with t b.printer) (state_at b.printer) ≤ work a.printer.tasks (state_at a.printer)
   -- the work is inside the same wholes
-  pub inside : (out : List ℕ) → ForWholes f a.printer out (λ whole limit below old. Inside a.printer.options whole limit below old (tasks_with f t b.printer) (state_of f b.printer) out)
+  pub inside : (out : List ℕ) → ForWholes a.printer out (λ whole limit below old. Inside a.printer.options whole limit below old (tasks_with t b.printer) (state_at b.printer) out)
   -- no count of visits fell, and the next task's document has a node for each visit of the printer and those in hand
   pub rise : Rise a.visits b.visits
-  pub most : b.visits.printer + size t.tree ≤ a.visits.printer + next_size (tasks_of f a.printer)
+  pub most : b.visits.printer + size t.tree ≤ a.visits.printer + next_size a.printer.tasks
   -- without line suffixes, the nodes that left allow for the visits
-  pub at_most : Plain f a.printer → NoSuffix (tasks_with f t b.printer) (state_of f b.printer) × CountsAtMost (tasks_of f a.printer) (tasks_with f t b.printer) a.visits b.visits
+  pub at_most : Plain a.printer → NoSuffix (tasks_with t b.printer) (state_at b.printer) × CountsAtMost a.printer.tasks (tasks_with t b.printer) a.visits b.visits
   -- what was laid is counted
-  pub at_least : (n : ℕ) → n < length (tasks_of f a.printer) →
-      CountsAtLeast (stack_tally f a.printer n) (tally_above a.printer.options n (tasks_with f t b.printer) (state_of f b.printer)) a.visits b.visits
+  pub at_least : (n : ℕ) → n < length a.printer.tasks →
+      CountsAtLeast (stack_tally a.printer n) (tally_above a.printer.options n (tasks_with t b.printer) (state_at b.printer)) a.visits b.visits
 
 -- the next command is taken
-pub in_hand : {N : Type 0} (f : N → Tree) (a : Point N) (p : Printer N) (t : Task) → tasks_of f a.printer ≡ tasks_with f t p → state_of f p ≡ state_of f a.printer → p.options ≡ a.printer.options → Grows a.printer p →
-    InHand f a t (point p a.sink a.visits)
-in_hand {N} f a p t e s o g =
+pub in_hand : (a : Point) (p : Standing) (t : Task) → a.printer.tasks ≡ tasks_with t p → state_at p ≡ state_at a.printer → p.options ≡ a.printer.options → Grows a.printer p →
+    InHand a t (point_at p a.sink a.visits)
+in_hand a p t e s o g =
     let p' = a.printer in
-    let ts : List Task = tasks_with f t p in
+    let ts : List Task = tasks_with t p in
     record {
       options = o;
       within = ap (λ (x : State). x.within) s;
@@ -65,47 +66,46 @@ in_hand {N} f a p t e s o g =
       grows = g;
       long = omega (arith, ap length e);
       less = omega (arith, ap nodes e, ap (λ (x : State). owed x.pending) s);
-      inside = λ out whole limit below old l h. inside_at p'.options whole limit below old (tasks_of f p') ts (state_of f p') (state_of f p) out out (sym e) s refl h;
+      inside = λ out whole limit below old l h. inside_at p'.options whole limit below old p'.tasks ts (state_at p') (state_at p) out out (sym e) s refl h;
       rise = rise_same a.visits;
       most = omega (arith, ap next_size e);
       at_most = λ plain. (
         (sym (ap suffixes e) ∙ plain.none, ap (λ (x : State). x.pending) s ∙ plain.pending),
-        subst (λ (x : List Task). CountsAtMost (tasks_of f p') x a.visits a.visits) e (at_most_same (tasks_of f p') a.visits),
+        subst (λ (x : List Task). CountsAtMost p'.tasks x a.visits a.visits) e (at_most_same p'.tasks a.visits),
       );
       at_least = λ n l.
-          subst (λ (x : State). CountsAtLeast (stack_tally f p' n) (tally_above p'.options n ts x) a.visits a.visits) (sym s)
-          (subst (λ (x : List Task). CountsAtLeast (stack_tally f p' n) (tally_above p'.options n x (state_of f p')) a.visits a.visits) e (at_least_same (stack_tally f p' n) a.visits));
+          subst (λ (x : State). CountsAtLeast (stack_tally p' n) (tally_above p'.options n ts x) a.visits a.visits) (sym s)
+          (subst (λ (x : List Task). CountsAtLeast (stack_tally p' n) (tally_above p'.options n x (state_at p')) a.visits a.visits) e (at_least_same (stack_tally p' n) a.visits));
     }
 
 -- what a step of the task in hand counts
-pub record Visit {N : Type 0} (f : N → Tree) (o : RenderOptions) (t : Task) (b : Point N) (x : Visits) : Type 0 where
-  pub more : OneMore o t (tasks_of f b.printer) (state_of f b.printer) b.visits x
+pub record Visit (o : RenderOptions) (t : Task) (b : Point) (x : Visits) : Type 0 where
+  pub more : OneMore o t b.printer.tasks (state_at b.printer) b.visits x
   pub least : rise b.visits.printer ≤ x.printer
   pub rise : Rise b.visits x
 
-pub visit : {N : Type 0} (f : N → Tree) {a : Point N} {t : Task} {b : Point N} (x : Visits) (n : ℕ) → InHand f a t b → n ≡ rise b.visits.printer → b.visits.printer ≤ n →
-    x.printer ≡ counted_payload (rejects_payload b.printer.options t.tree t.mode (state_of f b.printer)) n → b.visits.probes ≤ x.probes → x.probes ≤ b.visits.probes + asked t.tree (nodes (tasks_of f b.printer)) →
-    Visit f a.printer.options t b x
-visit {N} f {a} {t} {b} x n hand e l h k z =
-    let rejected = rejects_payload b.printer.options t.tree t.mode (state_of f b.printer) in
-    let least : rise b.visits.printer ≤ x.printer = payload_visits-least rejected b.visits.printer n x.printer e h in
-    subst (λ (o : RenderOptions). Visit f o t b x) hand.options
+pub visit : {N : Type 0} (f : N → Tree) {a : Point} {t : Task} {s : Seen} {v : Visits} (p : Printer N) (x : Visits) (n : ℕ) → InHand a t (point f p s v) → n ≡ rise v.printer → v.printer ≤ n →
+    x.printer ≡ counted_payload (rejects_payload p.options t.tree t.mode (state_of f p)) n → v.probes ≤ x.probes → x.probes ≤ v.probes + asked t.tree (nodes (tasks_of f p)) →
+    Visit a.printer.options t (point f p s v) x
+visit {N} f {a} {t} {s} {v} p x n hand e l h k z =
+    let b = point f p s v in
+    let rejected = rejects_payload p.options t.tree t.mode (state_at b.printer) in
+    let h' : x.printer ≡ counted_payload rejected n = h ∙ ap (λ (u : State). counted_payload (rejects_payload p.options t.tree t.mode u) n) (state_stands f p) in
+    let least : rise v.printer ≤ x.printer = payload_visits-least rejected v.printer n x.printer e h' in
+    subst (λ (o : RenderOptions). Visit o t b x) hand.options
     (record {
-      more = record { printer = payload_visits-plus rejected b.visits.printer n x.printer e h; probes = z };
+      more = record { printer = payload_visits-plus rejected v.printer n x.printer e h'; probes = z };
       least = least;
       rise = record { printer = omega (arith, least, e, l); probes = k };
     })
 
--- the step of the task in hand
-abbrev pub hand_step : {N : Type 0} → (N → Tree) → RenderOptions → Task → Printer N → Step
-hand_step f o t p = step_at o t (tasks_of f p) (state_of f p)
-
 -- what the code answers to the task in hand
-pub shown : {N : Type 0} (f : N → Tree) {a : Point N} {t : Task} {b : Point N} (q : Printer N) (r s : Taken N) → InHand f a t b → r ≡ s →
-    Shows f t.mode r (hand_step f b.printer.options t b.printer) b.printer q → Shows f t.mode s (hand_step f a.printer.options t b.printer) b.printer q
-shown {N} f {a} {t} {b} q r s hand e h =
-    subst (λ (o : RenderOptions). Shows f t.mode s (hand_step f o t b.printer) b.printer q) hand.options
-    (subst (λ (z : Taken N). Shows f t.mode z (hand_step f b.printer.options t b.printer) b.printer q) e h)
+pub shown : {N : Type 0} (f : N → Tree) {a : Point} {t : Task} {s : Seen} {v : Visits} (p q : Printer N) (r r' : Taken N) → InHand a t (point f p s v) → r ≡ r' →
+    Shows f t.mode r (step_at p.options t (tasks_of f p) (state_of f p)) p q → Shows f t.mode r' (step_from a.printer.options t (standing f p)) p q
+shown {N} f {a} {t} {s} {v} p q r r' hand e h =
+    subst (λ (o : RenderOptions). Shows f t.mode r' (step_from o t (standing f p)) p q) hand.options
+    (subst (λ (u : State). Shows f t.mode r' (step_at p.options t (tasks_of f p) u) p q) (state_stands f p)
+    (subst (λ (z : Taken N). Shows f t.mode z (step_at p.options t (tasks_of f p) (state_of f p)) p q) e h))
 
 -- the nodes that are left after a step that adds k visits to its own
 leads_most : (t : Task) (ts us : List Task) (st u : State) (bytes : List ℕ) (k : ℕ) (step : Step) → LeavesLess (owed st.pending) (2 * size t.tree + owed st.pending - 2 * k) step → Leads step ts bytes us u → u ≡ st →
@@ -116,23 +116,25 @@ leads_most t ts us st u bytes k Stuck less h e = absurd h
 leads_most t ts us st u bytes k (Choose i x y) less h e = absurd h
 
 -- a step leads to the next node in hand
-pub goes_down : {N : Type 0} (f : N → Tree) {a : Point N} {t : Task} {b : Point N} (q : Printer N) (s : Seen) (x : Visits) (i : ℕ) (m : Mode) (n : N) → InHand f a t b → s ≡ b.sink → Visit f a.printer.options t b x →
-    RisesBy (each_probe t.tree t.mode) b.visits.probes x.probes → Hands f i m n (hand_step f a.printer.options t b.printer) b.printer q → InHand f a (make_task i m (f n)) (point q s x)
-goes_down {N} f {a} {t} {b} q s x i m n h same one probes shows =
+pub goes_down : {N : Type 0} (f : N → Tree) {a : Point} {t : Task} {s : Seen} {v : Visits} (p q : Printer N) (x : Visits) (i : ℕ) (m : Mode) (n : N) → InHand a t (point f p s v) → Visit a.printer.options t (point f p s v) x →
+    RisesBy (each_probe t.tree t.mode) v.probes x.probes → Hands f i m n (step_from a.printer.options t (standing f p)) p q → InHand a (make_task i m (f n)) (point f q s x)
+goes_down {N} f {a} {t} {s} {v} p q x i m n h one probes shows =
+    let b = point f p s v in
+    let c = standing f q in
     let o = a.printer.options in
-    let ts : List Task = tasks_of f b.printer in
-    let us : List Task = tasks_with f (make_task i m (f n)) q in
-    let st = state_of f b.printer in
-    let u = state_of f q in
-    let k = handed f i m n (step_at o t ts st) b.printer q shows in
+    let ts : List Task = b.printer.tasks in
+    let us : List Task = tasks_with (make_task i m (f n)) c in
+    let st = state_at b.printer in
+    let u = state_at c in
+    let k = put_in_hand f i m n (step_at o t ts st) p q shows in
     let laid : OneLaid t b.visits x = record { printer = one.least; probes = probes } in
     let more = extra (rejects_payload o t.tree t.mode st) in
     let fewer : nodes us + 1 + more ≤ size t.tree + nodes ts = leads_most t ts us st u [] more (step_at o t ts st) (step_less_visits o t.tree t.indent t.mode _ st) k.leads k.state in
     record {
       options = k.options ∙ h.options;
       within = ap (λ (z : State). z.within) k.state ∙ h.within;
-      sink = same ∙ h.sink;
-      grows = grows-grows a.printer b.printer q h.grows k.grows;
+      sink = h.sink;
+      grows = grows-grows a.printer b.printer c h.grows k.grows;
       long = omega (arith, h.long, k.long);
       less = omega (arith, h.less, lessens o t ts us st u [] k.leads);
       inside = λ out whole limit below old l y.
@@ -148,5 +150,5 @@ goes_down {N} f {a} {t} {b} q s x i m n h same one probes shows =
     }
 
 -- a turn is from where it began
-pub from_start : {N E : Type 0} (f : N → Tree) {a : Point N} {t : Task} {b c : Point N} (r : _) → InHand f a t b → Advances {N = N} {E = E} f (point a.printer b.sink a.visits) c r → Advances {N = N} {E = E} f a c r
-from_start {N} {E} f {a} {t} {b} {c} r hand h = subst (λ (z : Seen). Advances {N = N} {E = E} f (point a.printer z a.visits) c r) hand.sink h
+pub from_start : {N E : Type 0} (f : N → Tree) {a : Point} {t : Task} {b c : Point} (r : _) → InHand a t b → Advances {N = N} {E = E} f (point_at a.printer b.sink a.visits) c r → Advances {N = N} {E = E} f a c r
+from_start {N} {E} f {a} {t} {b} {c} r hand h = subst (λ (z : Seen). Advances {N = N} {E = E} f (point_at a.printer z a.visits) c r) hand.sink h

@@ -1,3 +1,4 @@
+pub mod Standings
 pub mod Runs
 pub mod Steps
 pub mod Within
@@ -9,6 +10,9 @@ pub mod TrialSteps
 pub mod Chains
 pub mod Costs
 pub mod Renders
+pub mod Shifted
+pub mod Choosing
+pub mod Shifts
 pub mod Contents
 pub mod Visits
 pub mod AtLeast

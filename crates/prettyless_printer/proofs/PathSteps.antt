@@ -11,44 +11,52 @@ use Rattle.prettyless_model.specs.Layout.{State, Outcome}
 use Rattle.prettyless_model.proofs.Outcomes.{after-nil}
 use Rattle.prettyless_step.specs.Stack.{Task, make_task, nodes}
 use Rattle.prettyless_step.specs.Steps.{work, owed}
-use Rattle.prettyless_step.specs.Printing.{state_of, tasks_of, Grows}
-use Rattle.prettyless_step.specs.declared.printer.Printer.{Printer}
 use Rattle.prettyless_printer.specs.declared.answer.Turn.TheVariants as turn
-use Rattle.prettyless_printer.specs.Points.{Point, Seen, point}
+use Rattle.prettyless_printer.specs.Points.{Standing, state_at, Grows, Seen, Point, point_at, work_at}
 use Rattle.prettyless_printer.specs.Progress.{Inside}
 use Rattle.prettyless_printer.specs.Turns.{Advances, ForWholes, Goes, Turned, bytes_before}
 use Rattle.prettyless_printer.specs.Trials.{Tries}
 use Rattle.prettyless_printer.specs.Visits.{Plain, Rise, CountsAtMost}
-use Rattle.prettyless_printer.specs.AtLeast.{stack_tally}
+use Rattle.prettyless_printer.specs.AtLeast.{CountsAtLeast, stack_tally}
 use Rattle.prettyless_printer.specs.Renders.{rest_of, Stopped, WorksOff}
-use Rattle.prettyless_printer.specs.Paths.{Run, Path, Waiting, Broke}
+use Rattle.prettyless_printer.specs.Paths.{Run, Path, Waiting, Broke, run_of}
 use Rattle.prettyless_printer.proofs.Progresses.{inside_beginning, inside_end, waits_beginning}
 use Rattle.prettyless_printer.proofs.Turnings.{beginning_less}
-use Rattle.prettyless_printer.proofs.Trying.{grows-grows, choice_kept, choice_other}
+use Rattle.prettyless_printer.proofs.Trying.{grows-grows, grows_same, choice_kept, choice_other}
 use Rattle.prettyless_printer.proofs.Visits.{rise_same, rise_then, at_most_same, at_most_then, at_most_all, at_most_at, at_most_first, at_most_besides, plain_push}
 use Rattle.prettyless_printer.proofs.AtLeast.{at_least_same, at_least_then, at_least_end, kept_at_least, other_at_least}
 
 -- what a turn says of every whole, at the whole of a run
-pub at_run : {N : Type 0} (f : N → Tree) (r : Run N) (q : Printer N) (old out : List ℕ) (goal : RenderOptions → Outcome → ℕ → List Task → List ℕ → Type 0) →
-    q.options ≡ r.start.printer.options → length r.below < length (tasks_of f q) →
-    Inside r.start.printer.options r.whole r.limit r.below old (tasks_of f q) (state_of f q) out → ForWholes f q out (goal q.options) → goal r.start.printer.options r.whole r.limit r.below old
-at_run {N} f r q old out goal e l y h =
+pub at_run : (r : Run) (q : Standing) (old out : List ℕ) (goal : RenderOptions → Outcome → ℕ → List Task → List ℕ → Type 0) →
+    q.options ≡ r.start.printer.options → length r.below < length q.tasks →
+    Inside r.start.printer.options r.whole r.limit r.below old q.tasks (state_at q) out → ForWholes q out (goal q.options) → goal r.start.printer.options r.whole r.limit r.below old
+at_run r q old out goal e l y h =
     subst (λ (w : RenderOptions). goal w r.whole r.limit r.below old) e
     (h r.whole r.limit r.below old l
-    (subst (λ (w : RenderOptions). Inside w r.whole r.limit r.below old (tasks_of f q) (state_of f q) out) (sym e) y))
+    (subst (λ (w : RenderOptions). Inside w r.whole r.limit r.below old q.tasks (state_at q) out) (sym e) y))
 
--- a turn that goes on
-pub goes_on : {N E : Type 0} (f : N → Tree) {r : Run N} {a b : Point N} → Path f r a → length r.below < length (tasks_of f a.printer) →
-    Advances {N = N} {E = E} f a b (Ok turn.Went) → Path f r b
-goes_on {N} {E} f {r} {a} {b} p l h = record {
+-- What leads from one point of a run to another.
+record Carries (a b : Point) : Type 0 where
+  options : b.printer.options ≡ a.printer.options
+  grows : Grows a.printer b.printer
+  same_lender : b.sink.lender ≡ a.sink.lender
+  less : work_at b ≤ work_at a
+  bytes : IfKnown a.sink.bytes b.sink.bytes (λ out new.
+      ForWholes a.printer out (λ whole limit below old. Inside a.printer.options whole limit below old b.printer.tasks (state_at b.printer) new) × (b.sink.failures ≡ a.sink.failures))
+  rise : Rise a.visits b.visits
+  at_most : Plain a.printer → Plain b.printer × CountsAtMost a.printer.tasks b.printer.tasks a.visits b.visits
+  at_least : (n : ℕ) → n < length a.printer.tasks → CountsAtLeast (stack_tally a.printer n) (stack_tally b.printer n) a.visits b.visits
+
+carried : {r : Run} {a b : Point} → Path r a → length r.below < length a.printer.tasks → Carries a b → Path r b
+carried {r} {a} {b} p l h = record {
   options = h.options ∙ p.options;
   grows = grows-grows r.start.printer a.printer b.printer p.grows h.grows;
   same_lender = h.same_lender ∙ p.same_lender;
-  less = omega (arith, h.lessens, p.less);
+  less = omega (arith, h.less, p.less);
   bytes = λ is_known.
       let y = p.bytes is_known in
       let e = h.bytes y.0 in
-      (e.0, (at_run f r a.printer (known r.start.sink.bytes) (known a.sink.bytes) (λ o. Goes f o b.printer (known b.sink.bytes) turn.Went) p.options l y.1.0 e.1.0, e.1.1 ∙ y.1.1));
+      (e.0, (at_run r a.printer (known r.start.sink.bytes) (known a.sink.bytes) (λ o whole limit below old. Inside o whole limit below old b.printer.tasks (state_at b.printer) (known b.sink.bytes)) p.options l y.1.0 e.1.0, e.1.1 ∙ y.1.1));
   rise = rise_then p.rise h.rise;
   at_most = λ plain.
       let y = p.at_most plain in
@@ -57,9 +65,41 @@ goes_on {N} {E} f {r} {a} {b} p l h = record {
   at_least = at_least_then p.at_least (h.at_least (length r.below) l);
 }
 
+-- a turn that goes on
+pub goes_on : {N E : Type 0} (f : N → Tree) {r : Run} {a b : Point} → Path r a → length r.below < length a.printer.tasks →
+    Advances {N = N} {E = E} f a b (Ok turn.Went) → Path r b
+goes_on {N} {E} f {r} {a} {b} p l h =
+    carried p l
+    (record {
+      options = h.options;
+      grows = h.grows;
+      same_lender = h.same_lender;
+      less = omega (arith, h.lessens);
+      bytes = h.bytes;
+      rise = h.rise;
+      at_most = h.at_most;
+      at_least = h.at_least;
+    })
+
+-- a turn that stopped
+pub stops : {N E : Type 0} (f : N → Tree) {r : Run} {a b : Point} → Path r a → length r.below < length a.printer.tasks →
+    Advances {N = N} {E = E} f a b (Ok turn.Shift) → Path r b
+stops {N} {E} f {r} {a} {b} p l h =
+    carried p l
+    (record {
+      options = h.options;
+      grows = h.grows;
+      same_lender = h.same_lender;
+      less = h.lessens.0;
+      bytes = h.bytes;
+      rise = h.rise;
+      at_most = h.at_most;
+      at_least = h.at_least;
+    })
+
 -- a turn after which two branches are to be chosen from
-pub comes_to_wait : {N E : Type 0} (f : N → Tree) {r : Run N} {a b : Point N} (i : ℕ) (x y : N) → Path f r a → length r.below < length (tasks_of f a.printer) →
-    Advances {N = N} {E = E} f a b (Ok (turn.Chosen i x y)) → length r.below ≤ length (tasks_of f b.printer) → Waiting f r i (f x) (f y) b
+pub comes_to_wait : {N E : Type 0} (f : N → Tree) {r : Run} {a b : Point} (i : ℕ) (x y : N) → Path r a → length r.below < length a.printer.tasks →
+    Advances {N = N} {E = E} f a b (Ok (turn.Chosen i x y)) → length r.below ≤ length b.printer.tasks → Waiting r i (f x) (f y) b
 comes_to_wait {N} {E} f {r} {a} {b} i x y p l h long = record {
   options = h.options ∙ p.options;
   grows = grows-grows r.start.printer a.printer b.printer p.grows h.grows;
@@ -69,7 +109,7 @@ comes_to_wait {N} {E} f {r} {a} {b} i x y p l h long = record {
   bytes = λ is_known.
       let y' = p.bytes is_known in
       let e = h.bytes y'.0 in
-      (e.0, (at_run f r a.printer (known r.start.sink.bytes) (known a.sink.bytes) (λ o. Goes f o b.printer (known b.sink.bytes) (turn.Chosen i x y)) p.options l y'.1.0 e.1.0, e.1.1 ∙ y'.1.1));
+      (e.0, (at_run r a.printer (known r.start.sink.bytes) (known a.sink.bytes) (λ o. Goes f o b.printer (known b.sink.bytes) (turn.Chosen i x y)) p.options l y'.1.0 e.1.0, e.1.1 ∙ y'.1.1));
   rise = rise_then p.rise h.rise;
   at_most = λ plain.
       let y' = p.at_most plain in
@@ -79,19 +119,19 @@ comes_to_wait {N} {E} f {r} {a} {b} i x y p l h long = record {
 }
 
 -- the bytes of a turn that broke off
-broke_bytes : {N E : Type 0} (f : N → Tree) (r : Run N) (a b : Printer N) (fails : E → Type 0) (old out new : List ℕ) (n k m : ℕ) (e : RenderError E) → a.options ≡ r.start.printer.options → length r.below < length (tasks_of f a) →
-    Inside r.start.printer.options r.whole r.limit r.below old (tasks_of f a) (state_of f a) out → k ≡ n → Turned f a b out new k m (Err e) → Stopped fails r.whole old new n m e
+broke_bytes : {N E : Type 0} (f : N → Tree) (r : Run) (a b : Standing) (fails : E → Type 0) (old out new : List ℕ) (n k m : ℕ) (e : RenderError E) → a.options ≡ r.start.printer.options → length r.below < length a.tasks →
+    Inside r.start.printer.options r.whole r.limit r.below old a.tasks (state_at a) out → k ≡ n → Turned f a b out new k m (Err e) → Stopped fails r.whole old new n m e
 broke_bytes {N} {E} f r a b fails old out new n k m (Document e) w l y s h = absurd h
 broke_bytes {N} {E} f r a b fails old out new n k m (Sink e) w l y s h =
-    (at_run f r a old out (λ (z : RenderOptions) whole limit below o. AppendsBeginning o new (bytes_before whole)) w l y h.0, h.1 ∙ ap rise s)
+    (at_run r a old out (λ (z : RenderOptions) whole limit below o. AppendsBeginning o new (bytes_before whole)) w l y h.0, h.1 ∙ ap rise s)
 broke_bytes {N} {E} f r a b fails old out new n k m (Memory e) w l y s h = (
-  subst (λ (z : List ℕ). AppendsBeginning old z (bytes_before r.whole)) (sym h.0) (inside_beginning r.start.printer.options r.whole r.limit r.below old (tasks_of f a) (state_of f a) out y),
+  subst (λ (z : List ℕ). AppendsBeginning old z (bytes_before r.whole)) (sym h.0) (inside_beginning r.start.printer.options r.whole r.limit r.below old a.tasks (state_at a) out y),
   h.1 ∙ s,
 )
 
 -- a turn that broke off
-pub breaks_off : {N E : Type 0} (f : N → Tree) (fails : E → Type 0) {r : Run N} {a b : Point N} (e : RenderError E) → Path f r a → length r.below < length (tasks_of f a.printer) →
-    Advances {N = N} {E = E} f a b (Err e) → Broke f fails r e b
+pub breaks_off : {N E : Type 0} (f : N → Tree) (fails : E → Type 0) {r : Run} {a b : Point} (e : RenderError E) → Path r a → length r.below < length a.printer.tasks →
+    Advances {N = N} {E = E} f a b (Err e) → Broke fails r e b
 breaks_off {N} {E} f fails {r} {a} {b} e p l h = record {
   same_lender = h.same_lender ∙ p.same_lender;
   bytes = λ is_known.
@@ -105,16 +145,16 @@ breaks_off {N} {E} f fails {r} {a} {b} e p l h = record {
 }
 
 -- what a turn at a node that fails says of the whole, where the sink's bytes are known
-pub at_failing : {N E : Type 0} (f : N → Tree) {r : Run N} {a b : Point N} → Path f r a → length r.below < length (tasks_of f a.printer) → Advances {N = N} {E = E} f a b (Ok turn.Failed) →
+pub at_failing : {N E : Type 0} (f : N → Tree) {r : Run} {a b : Point} → Path r a → length r.below < length a.printer.tasks → Advances {N = N} {E = E} f a b (Ok turn.Failed) →
     IfKnown r.start.sink.bytes b.sink.bytes (λ old out. Goes f r.start.printer.options b.printer out turn.Failed r.whole r.limit r.below old × (b.sink.failures ≡ r.start.sink.failures))
 at_failing {N} {E} f {r} {a} {b} p l h = λ is_known.
     let y = p.bytes is_known in
     let k = h.bytes y.0 in
-    (k.0, (at_run f r a.printer (known r.start.sink.bytes) (known a.sink.bytes) (λ o. Goes f o b.printer (known b.sink.bytes) turn.Failed) p.options l y.1.0 k.1.0, k.1.1 ∙ y.1.1))
+    (k.0, (at_run r a.printer (known r.start.sink.bytes) (known a.sink.bytes) (λ o. Goes f o b.printer (known b.sink.bytes) turn.Failed) p.options l y.1.0 k.1.0, k.1.1 ∙ y.1.1))
 
 -- a turn at a node that fails
-pub fails_there : {N E : Type 0} (f : N → Tree) (fails : E → Type 0) {r : Run N} {a b : Point N} (e : E) → Path f r a → length r.below < length (tasks_of f a.printer) →
-    Advances {N = N} {E = E} f a b (Ok turn.Failed) → fails e → Broke f fails r (Document e) b
+pub fails_there : {N E : Type 0} (f : N → Tree) (fails : E → Type 0) {r : Run} {a b : Point} (e : E) → Path r a → length r.below < length a.printer.tasks →
+    Advances {N = N} {E = E} f a b (Ok turn.Failed) → fails e → Broke fails r (Document e) b
 fails_there {N} {E} f fails {r} {a} {b} e p l h w = record {
   same_lender = h.same_lender ∙ p.same_lender;
   bytes = λ is_known.
@@ -128,10 +168,10 @@ fails_there {N} {E} f fails {r} {a} {b} e p l h w = record {
 }
 
 -- the first branch is kept, and what the trial wrote is appended
-pub goes_on_kept : {N E : Type 0} (f : N → Tree) {r : Run N} {b c : Point N} {s t : Seen} (i : ℕ) (x y : Tree) → Waiting f r i x y b →
-    Tries {N = N} {E = E} f i x (point b.printer s b.visits) (point c.printer t c.visits) (Ok true) → c.sink.lender ≡ b.sink.lender →
-    IfKnown b.sink.bytes c.sink.bytes (λ out new. ((piece : List ℕ) → known t.bytes ≡ known s.bytes ++ piece → new ≡ out ++ piece) × (c.sink.failures ≡ b.sink.failures)) → Path f r c
-goes_on_kept {N} {E} f {r} {b} {c} {s} {t} i x y w tries lender wrote =
+pub goes_on_kept : {E : Type 0} {r : Run} {b c : Point} {s t : Seen} (i : ℕ) (x y : Tree) → Waiting r i x y b →
+    Tries {E = E} i x (point_at b.printer s b.visits) (point_at c.printer t c.visits) (Ok true) → c.sink.lender ≡ b.sink.lender →
+    IfKnown b.sink.bytes c.sink.bytes (λ out new. ((piece : List ℕ) → known t.bytes ≡ known s.bytes ++ piece → new ≡ out ++ piece) × (c.sink.failures ≡ b.sink.failures)) → Path r c
+goes_on_kept {E} {r} {b} {c} {s} {t} i x y w tries lender wrote =
     let before = known s.bytes in
     let after = known t.bytes in
     let o = r.start.printer.options in
@@ -144,22 +184,22 @@ goes_on_kept {N} {E} f {r} {b} {c} {s} {t} i x y w tries lender wrote =
       bytes = λ is_known.
           let h = w.bytes is_known in
           let z = wrote h.0 in
-          let n = choice_kept f b.printer c.printer o r.whole r.limit r.below (known r.start.sink.bytes) (known b.sink.bytes) i x y before after h.1.0 w.options d in
-          (z.0, (subst (Inside o r.whole r.limit r.below (known r.start.sink.bytes) (tasks_of f c.printer) (state_of f c.printer)) (sym (z.1.0 n.0 n.1)) n.2, z.1.1 ∙ h.1.1));
+          let n = choice_kept b.printer c.printer o r.whole r.limit r.below (known r.start.sink.bytes) (known b.sink.bytes) i x y before after h.1.0 w.options d in
+          (z.0, (subst (Inside o r.whole r.limit r.below (known r.start.sink.bytes) c.printer.tasks (state_at c.printer)) (sym (z.1.0 n.0 n.1)) n.2, z.1.1 ∙ h.1.1));
       rise = rise_then w.rise tries.rise;
       at_most = λ plain.
           let h = w.at_most plain in
           let z = tries.at_most h.0 h.1 in
           (z.0, at_most_then h.3 (at_most_first (make_task i Break x) (make_task i Break y) z.1));
-      at_least = at_least_then w.at_least (kept_at_least f b.printer c.printer i x y before after b.visits c.visits (length r.below) d tries.at_least);
+      at_least = at_least_then w.at_least (kept_at_least b.printer c.printer i x y before after b.visits c.visits (length r.below) d tries.at_least);
     }
 
 -- the first branch is not kept, and the second one comes next
-pub goes_on_other : {N E : Type 0} (f : N → Tree) {r : Run N} {b c : Point N} {s t : Seen} (q : Printer N) (i : ℕ) (x y : Tree) → Waiting f r i x y b →
-    Tries {N = N} {E = E} f i x (point b.printer s b.visits) (point q t c.visits) (Ok false) →
-    tasks_of f c.printer ≡ make_task i Break y ∷ tasks_of f q → state_of f c.printer ≡ state_of f q → c.printer.options ≡ q.options → Grows q c.printer → c.sink.lender ≡ b.sink.lender →
-    IfKnown b.sink.bytes c.sink.bytes (λ out new. (known t.bytes ≡ known s.bytes → new ≡ out) × (c.sink.failures ≡ b.sink.failures)) → Path f r c
-goes_on_other {N} {E} f {r} {b} {c} {s} {t} q i x y w tries pushed same options grows lender wrote =
+pub goes_on_other : {E : Type 0} {r : Run} {b c : Point} {s t : Seen} (q : Standing) (i : ℕ) (x y : Tree) → Waiting r i x y b →
+    Tries {E = E} i x (point_at b.printer s b.visits) (point_at q t c.visits) (Ok false) →
+    c.printer.tasks ≡ make_task i Break y ∷ q.tasks → state_at c.printer ≡ state_at q → c.printer.options ≡ q.options → Grows q c.printer → c.sink.lender ≡ b.sink.lender →
+    IfKnown b.sink.bytes c.sink.bytes (λ out new. (known t.bytes ≡ known s.bytes → new ≡ out) × (c.sink.failures ≡ b.sink.failures)) → Path r c
+goes_on_other {E} {r} {b} {c} {s} {t} q i x y w tries pushed same options grows lender wrote =
     let before = known s.bytes in
     let after = known t.bytes in
     let o = r.start.printer.options in
@@ -172,23 +212,23 @@ goes_on_other {N} {E} f {r} {b} {c} {s} {t} q i x y w tries pushed same options 
       bytes = λ is_known.
           let h = w.bytes is_known in
           let z = wrote h.0 in
-          let n = choice_other f b.printer q c.printer o r.whole r.limit r.below (known r.start.sink.bytes) (known b.sink.bytes) i x y before after h.1.0 w.options d pushed same in
-          (z.0, (subst (Inside o r.whole r.limit r.below (known r.start.sink.bytes) (tasks_of f c.printer) (state_of f c.printer)) (sym (z.1.0 n.0)) n.1, z.1.1 ∙ h.1.1));
+          let n = choice_other b.printer q c.printer o r.whole r.limit r.below (known r.start.sink.bytes) (known b.sink.bytes) i x y before after h.1.0 w.options d pushed same in
+          (z.0, (subst (Inside o r.whole r.limit r.below (known r.start.sink.bytes) c.printer.tasks (state_at c.printer)) (sym (z.1.0 n.0)) n.1, z.1.1 ∙ h.1.1));
       rise = rise_then w.rise tries.rise;
       at_most = λ plain.
           let h = w.at_most plain in
           let z = tries.at_most h.0 h.1 in (
-            plain_push f q c.printer (make_task i Break y) pushed (ap (λ (s : State). s.pending) same) h.2 z.0,
-            at_most_at (tasks_of f c.printer) pushed (at_most_then h.3 (at_most_besides (make_task i Break x) (make_task i Break y) z.1)),
+            plain_push q c.printer (make_task i Break y) pushed (ap (λ (s : State). s.pending) same) h.2 z.0,
+            at_most_at c.printer.tasks pushed (at_most_then h.3 (at_most_besides (make_task i Break x) (make_task i Break y) z.1)),
           );
-      at_least = at_least_then w.at_least (other_at_least f b.printer q c.printer i x y before after b.visits c.visits (length r.below) w.long d pushed same options tries.rise);
+      at_least = at_least_then w.at_least (other_at_least b.printer q c.printer i x y before after b.visits c.visits (length r.below) w.long d pushed same options tries.rise);
     }
 
 -- a choice that is refused memory, before anything of it is written
-pub choice_refused : {N E : Type 0} (f : N → Tree) (fails : E → Type 0) {r : Run N} {b c : Point N} (i : ℕ) (x y : Tree) (e : _) → Waiting f r i x y b → c.sink.lender ≡ b.sink.lender →
+pub choice_refused : {E : Type 0} (fails : E → Type 0) {r : Run} {b c : Point} (i : ℕ) (x y : Tree) (e : _) → Waiting r i x y b → c.sink.lender ≡ b.sink.lender →
     IfKnown b.sink.bytes c.sink.bytes (λ out new. (new ≡ out) × (c.sink.failures ≡ b.sink.failures)) → Rise b.visits c.visits →
-    (Plain f b.printer → suffix_depth x ≡ 0 → CountsAtMost (make_task i Break x ∷ tasks_of f b.printer) [] b.visits c.visits) → Broke {N = N} {E = E} f fails r (Memory e) c
-choice_refused {N} {E} f fails {r} {b} {c} i x y e w lender wrote rise counts = record {
+    (Plain b.printer → suffix_depth x ≡ 0 → CountsAtMost (make_task i Break x ∷ b.printer.tasks) [] b.visits c.visits) → Broke {E = E} fails r (Memory e) c
+choice_refused {E} fails {r} {b} {c} i x y e w lender wrote rise counts = record {
   same_lender = lender ∙ w.same_lender;
   bytes = λ is_known.
       let h = w.bytes is_known in
@@ -196,7 +236,7 @@ choice_refused {N} {E} f fails {r} {b} {c} i x y e w lender wrote rise counts = 
         z.0,
         (
           subst (λ (s : List ℕ). AppendsBeginning (known r.start.sink.bytes) s (bytes_before r.whole)) (sym z.1.0)
-              (waits_beginning r.start.printer.options r.whole r.limit r.below (known r.start.sink.bytes) i x y (tasks_of f b.printer) (state_of f b.printer) (known b.sink.bytes) h.1.0),
+              (waits_beginning r.start.printer.options r.whole r.limit r.below (known r.start.sink.bytes) i x y b.printer.tasks (state_at b.printer) (known b.sink.bytes) h.1.0),
           z.1.1 ∙ h.1.1,
         ),
       );
@@ -207,10 +247,10 @@ choice_refused {N} {E} f fails {r} {b} {c} i x y e w lender wrote rise counts = 
 }
 
 -- the first branch is kept, and the sink fails at what the trial wrote
-pub choice_unwritten : {N E D : Type 0} (f : N → Tree) (fails : E → Type 0) {r : Run N} {b c : Point N} {s t : Seen} (i : ℕ) (x y : Tree) (e : E) → Waiting f r i x y b →
-    Tries {N = N} {E = D} f i x (point b.printer s b.visits) (point c.printer t c.visits) (Ok true) → c.sink.lender ≡ b.sink.lender →
-    IfKnown b.sink.bytes c.sink.bytes (λ out new. ((piece : List ℕ) → known t.bytes ≡ known s.bytes ++ piece → AppendsBeginning out new piece) × (c.sink.failures ≡ rise b.sink.failures)) → Broke f fails r (Sink e) c
-choice_unwritten {N} {E} {D} f fails {r} {b} {c} {s} {t} i x y e w tries lender wrote =
+pub choice_unwritten : {E D : Type 0} (fails : E → Type 0) {r : Run} {b c : Point} {s t : Seen} (i : ℕ) (x y : Tree) (e : E) → Waiting r i x y b →
+    Tries {E = D} i x (point_at b.printer s b.visits) (point_at c.printer t c.visits) (Ok true) → c.sink.lender ≡ b.sink.lender →
+    IfKnown b.sink.bytes c.sink.bytes (λ out new. ((piece : List ℕ) → known t.bytes ≡ known s.bytes ++ piece → AppendsBeginning out new piece) × (c.sink.failures ≡ rise b.sink.failures)) → Broke fails r (Sink e) c
+choice_unwritten {E} {D} fails {r} {b} {c} {s} {t} i x y e w tries lender wrote =
     let before = known s.bytes in
     let after = known t.bytes in
     let o = r.start.printer.options in
@@ -221,11 +261,11 @@ choice_unwritten {N} {E} {D} f fails {r} {b} {c} {s} {t} i x y e w tries lender 
       bytes = λ is_known.
           let h = w.bytes is_known in
           let z = wrote h.0 in
-          let n = choice_kept f b.printer c.printer o r.whole r.limit r.below old out i x y before after h.1.0 w.options tries.decided in (
+          let n = choice_kept b.printer c.printer o r.whole r.limit r.below old out i x y before after h.1.0 w.options tries.decided in (
             z.0,
             (
               beginning_less old out (known c.sink.bytes) n.0 (bytes_before r.whole) (z.1.0 n.0 n.1)
-                  (inside_beginning o r.whole r.limit r.below old (tasks_of f c.printer) (state_of f c.printer) (out ++ n.0) n.2) (h.1.0.bytes, h.1.0.out_is),
+                  (inside_beginning o r.whole r.limit r.below old c.printer.tasks (state_at c.printer) (out ++ n.0) n.2) (h.1.0.bytes, h.1.0.out_is),
               z.1.1 ∙ ap rise h.1.1,
             ),
           );
@@ -235,41 +275,30 @@ choice_unwritten {N} {E} {D} f fails {r} {b} {c} {s} {t} i x y e w tries lender 
           at_most_then h.3 (at_most_all (at_most_first (make_task i Break x) (make_task i Break y) (tries.at_most h.0 h.1).1));
     }
 
--- A run of all commands.
-abbrev pub run_of : {N : Type 0} → (N → Tree) → Point N → Run N
-run_of f a = record {
-  start = a;
-  whole = rest_of f a.printer;
-  limit = work (tasks_of f a.printer) (state_of f a.printer);
-  first = tasks_of f a.printer;
-  below = [];
-  tally = stack_tally f a.printer 0;
-}
-
 -- it begins
-pub run_begins : {N : Type 0} (f : N → Tree) (a : Point N) → Path f (run_of f a) a
-run_begins {N} f a = record {
+pub run_begins : (a : Point) → Path (run_of a) a
+run_begins a = record {
   options = refl;
-  grows = ([], sym (append-nil a.printer.queue.nodes.items));
+  grows = grows_same a.printer;
   same_lender = refl;
   less = omega arith;
   bytes = λ is_known. (
     is_known,
     (
       record {
-        above = tasks_of f a.printer;
+        above = a.printer.tasks;
         bytes = [];
-        stack_is = sym (append-nil (tasks_of f a.printer));
+        stack_is = sym (append-nil a.printer.tasks);
         out_is = sym (append-nil (known a.sink.bytes));
-        same = after-nil (rest_of f a.printer);
+        same = after-nil (rest_of a.printer);
         bound = omega arith;
       },
       refl,
     ),
   );
   rise = rise_same a.visits;
-  at_most = λ plain. (record { none = plain.0; pending = plain.1 }, at_most_same (tasks_of f a.printer) a.visits);
-  at_least = at_least_same (stack_tally f a.printer 0) a.visits;
+  at_most = λ plain. (record { none = plain.0; pending = plain.1 }, at_most_same a.printer.tasks a.visits);
+  at_least = at_least_same (stack_tally a.printer 0) a.visits;
 }
 
 -- no task is left
@@ -278,35 +307,35 @@ no_tasks [] l = refl
 no_tasks (t ∷ ts) l = absurd (omega arith)
 
 -- it ends
-pub run_ends : {N A E : Type 0} (f : N → Tree) (fails : E → Type 0) {a b : Point N} (x : A) → Path f (run_of f a) b → length (tasks_of f b.printer) ≤ 0 → WorksOff f fails a b (Ok x)
-run_ends {N} {A} {E} f fails {a} {b} x p l = record {
+pub run_ends : {A E : Type 0} (fails : E → Type 0) {a b : Point} (x : A) → Path (run_of a) b → length b.printer.tasks ≤ 0 → WorksOff fails a b (Ok x)
+run_ends {A} {E} fails {a} {b} x p l = record {
   options = p.options;
-  done = no_tasks (tasks_of f b.printer) l;
+  done = no_tasks b.printer.tasks l;
   lessens = omega (arith, p.less);
   same_lender = p.same_lender;
   bytes = λ is_known.
       let y = p.bytes is_known in
-      let e = inside_end a.printer.options (rest_of f a.printer) (work (tasks_of f a.printer) (state_of f a.printer)) [] (known a.sink.bytes) (tasks_of f b.printer) (state_of f b.printer) (known b.sink.bytes) y.1.0 l in
+      let e = inside_end a.printer.options (rest_of a.printer) (work a.printer.tasks (state_at a.printer)) [] (known a.sink.bytes) b.printer.tasks (state_at b.printer) (known b.sink.bytes) y.1.0 l in
       (y.0, (e.0, e.2, e.1, y.1.1));
   rise = p.rise;
   at_most = λ plain. p.at_most (plain.none, plain.pending);
-  at_least = at_least_end f b.printer 0 l p.at_least;
+  at_least = at_least_end b.printer 0 l p.at_least;
 }
 
 -- what breaks off where no document fails, breaks off where some may
-pub broke_anyhow : {N E : Type 0} (f : N → Tree) (fails : E → Type 0) {r : Run N} {b : Point N} (e : RenderError E) → Broke f (λ _. ⊥) r e b → Broke f fails r e b
-broke_anyhow {N} {E} f fails {r} {b} (Document e) h = record {
+pub broke_anyhow : {E : Type 0} (fails : E → Type 0) {r : Run} {b : Point} (e : RenderError E) → Broke (λ _. ⊥) r e b → Broke fails r e b
+broke_anyhow {E} fails {r} {b} (Document e) h = record {
   same_lender = h.same_lender;
   bytes = λ is_known. absurd ((h.bytes is_known).1.4);
   rise = h.rise;
   at_most = h.at_most;
 }
-broke_anyhow {N} {E} f fails {r} {b} (Sink e) h = record { same_lender = h.same_lender; bytes = h.bytes; rise = h.rise; at_most = h.at_most }
-broke_anyhow {N} {E} f fails {r} {b} (Memory e) h = record { same_lender = h.same_lender; bytes = h.bytes; rise = h.rise; at_most = h.at_most }
+broke_anyhow {E} fails {r} {b} (Sink e) h = record { same_lender = h.same_lender; bytes = h.bytes; rise = h.rise; at_most = h.at_most }
+broke_anyhow {E} fails {r} {b} (Memory e) h = record { same_lender = h.same_lender; bytes = h.bytes; rise = h.rise; at_most = h.at_most }
 
 -- it broke off
-pub run_broke_off : {N A E : Type 0} (f : N → Tree) (fails : E → Type 0) {a b : Point N} (e : RenderError E) → Broke f fails (run_of f a) e b → WorksOff {N = N} {A = A} {E = E} f fails a b (Err e)
-run_broke_off {N} {A} {E} f fails {a} {b} e h = record {
+pub run_broke_off : {A E : Type 0} (fails : E → Type 0) {a b : Point} (e : RenderError E) → Broke fails (run_of a) e b → WorksOff {A = A} {E = E} fails a b (Err e)
+run_broke_off {A} {E} fails {a} {b} e h = record {
   options = tt;
   done = tt;
   lessens = tt;

@@ -1,35 +1,30 @@
 -- A run from the first command, with the rounds of the end, is a render of the layout.
-use Rattle.std.proofs.Common.{◌≡◌, ℕ, ◌*◌, ◌≤◌, ◌<◌, List, [], ◌∷◌, ◌++◌, length, refl, ap, sym, ◌∙◌, append_assoc, append-nil, arith, Err}
-use Rattle.prettyless_sink.specs.Sink.{AppendsBeginning, rise}
+use Rattle.std.proofs.Common.{subst, Result, ◌≡◌, ℕ, ◌*◌, ◌≤◌, ◌<◌, List, [], ◌∷◌, ◌++◌, length, refl, ap, sym, ◌∙◌, append_assoc, append-nil, arith, Err}
+use Rattle.prettyless_sink.specs.Sink.{AppendsBeginning, known, rise}
 use Rattle.prettyless_model.specs.Spaces.{spaces}
 use Rattle.prettyless_model.specs.declared.options.RenderOptions.{RenderOptions}
 use Rattle.prettyless_sink.specs.declared.error.RenderError.{RenderError}
 use Rattle.prettyless_sink.specs.declared.error.RenderError.TheVariants.{Document, Sink, Memory}
 use Rattle.prettyless_model.specs.Tree.{Tree}
 use Rattle.prettyless_model.specs.Column.{gap}
-use Rattle.prettyless_model.specs.Layout.{State, Outcome, Done, Failed, Breaks, after_bytes, and_then, lay, lay_each, flushed, end_with, initial, layout, bytes_of, bytes_in, Whole}
+use Rattle.prettyless_model.specs.Layout.{State, Outcome, Done, Failed, Breaks, after_bytes, and_then, lay, lay_each, flushed, end_with, initial, layout, bytes_of, bytes_in, Bytes, Whole}
 use Rattle.prettyless_model.specs.Levels.{settle, settle_end}
 use Rattle.prettyless_model.specs.declared.mode.Mode.TheVariants.{Break}
 use Rattle.prettyless_model.proofs.Outcomes.{after-nil, after-after, then-done}
 use Rattle.prettyless_model.proofs.Levels.{end_fixed, layout_is}
 use Rattle.prettyless_step.specs.Stack.{Task, make_task, nodes, tasks}
 use Rattle.prettyless_step.specs.Steps.{lay_all, owed}
-use Rattle.prettyless_step.specs.Printing.{state_of, tasks_of}
+use Rattle.prettyless_printer.specs.Points.{Point, Standing, state_at}
 use Rattle.prettyless_printer.specs.Turns.{bytes_before}
-use Rattle.prettyless_printer.specs.Renders.{rest_of, to_end, Stopped, Flushed, Rendered}
+use Rattle.prettyless_printer.specs.Renders.{Finishing, Renders, RunsToEnd, rest_of, to_end, Stopped, Flushed, Rendered}
 use Rattle.prettyless_printer.proofs.Progresses.{bytes_before-after}
 use Rattle.prettyless_printer.proofs.Runs.{lay_all-tasks}
 use Rattle.prettyless_printer.proofs.Steps.{nodes-tasks}
-use Rattle.prettyless_step.specs.declared.printer.Printer.{Printer}
+use Rattle.prettyless_printer.proofs.Visits.{visited}
+use Rattle.prettyless_printer.proofs.AtLeast.{visited_at_least}
 
--- What was written since `old`, and then what the commands and the end lay, is the whole.
-pub record Finishing {N : Type 0} (f : N → Tree) (whole : Outcome) (p : Printer N) (old out : List ℕ) : Type 0 where
-  pub bytes : List ℕ
-  pub out_is : out ≡ old ++ bytes
-  pub same : after_bytes bytes (to_end f p) ≡ whole
-
-pub finishing_begins : {N : Type 0} (f : N → Tree) (p : Printer N) (out : List ℕ) → Finishing f (to_end f p) p out out
-finishing_begins {N} f p out = record { bytes = []; out_is = sym (append-nil out); same = after-nil (to_end f p) }
+pub finishing_begins : (p : Standing) (out : List ℕ) → Finishing (to_end p) p out out
+finishing_begins p out = record { bytes = []; out_is = sym (append-nil out); same = after-nil (to_end p) }
 
 bytes_in-of : (o : Outcome) → bytes_in (bytes_of o) ≡ bytes_before o
 bytes_in-of (Done b st) = refl
@@ -40,40 +35,40 @@ bytes_before-then (Done b st) k = (bytes_before (k st), bytes_before-after b (k 
 bytes_before-then (Failed b) k = ([], sym (append-nil b))
 
 -- a beginning of what the commands lay is one of the whole
-finishing_beginning : {N : Type 0} (f : N → Tree) (whole : Outcome) (p : Printer N) (old out new : List ℕ) → Finishing f whole p old out → AppendsBeginning out new (bytes_before (rest_of f p)) → AppendsBeginning old new (bytes_in (bytes_of whole))
-finishing_beginning {N} f whole p old out new h q =
-    let m = bytes_before-then (rest_of f p) (settle_end p.options) in (
+finishing_beginning : (whole : Outcome) (p : Standing) (old out new : List ℕ) → Finishing whole p old out → AppendsBeginning out new (bytes_before (rest_of p)) → AppendsBeginning old new (bytes_in (bytes_of whole))
+finishing_beginning whole p old out new h q =
+    let m = bytes_before-then (rest_of p) (settle_end p.options) in (
       h.bytes ++ q.0,
       q.1 ++ m.0,
-      bytes_in-of whole ∙ sym (ap bytes_before h.same) ∙ bytes_before-after h.bytes (to_end f p)
+      bytes_in-of whole ∙ sym (ap bytes_before h.same) ∙ bytes_before-after h.bytes (to_end p)
           ∙ ap (λ (x : List ℕ). h.bytes ++ x) (m.1 ∙ ap (λ (x : List ℕ). x ++ m.0) q.2 ∙ append_assoc q.0 q.1 m.0) ∙ sym (append_assoc h.bytes q.0 (q.1 ++ m.0)),
       q.3 ∙ ap (λ (x : List ℕ). x ++ q.0) h.out_is ∙ append_assoc old h.bytes q.0,
     )
 
 -- the commands broke off
-pub finishing_stopped : (A : Type 0) {N E : Type 0} (f : N → Tree) (whole : Outcome) (p : Printer N) (fails : E → Type 0) (old out new : List ℕ) (n k m : ℕ) (e : RenderError E) → Finishing f whole p old out → k ≡ n → Stopped fails (rest_of f p) out new k m e →
+pub finishing_stopped : (A : Type 0) {E : Type 0} (whole : Outcome) (p : Standing) (fails : E → Type 0) (old out new : List ℕ) (n k m : ℕ) (e : RenderError E) → Finishing whole p old out → k ≡ n → Stopped fails (rest_of p) out new k m e →
     Rendered {A = A} fails (bytes_of whole) old new n m (Err e)
-finishing_stopped A {N} {E} f whole p fails old out new n k m (Document e) h a q = (
+finishing_stopped A {E} whole p fails old out new n k m (Document e) h a q = (
   h.bytes ++ q.0,
   ap bytes_of (sym h.same ∙ ap (λ (x : Outcome). after_bytes h.bytes (and_then x (settle_end p.options))) q.1),
   q.2 ∙ ap (λ (x : List ℕ). x ++ q.0) h.out_is ∙ append_assoc old h.bytes q.0,
   q.3 ∙ a,
   q.4,
 )
-finishing_stopped A {N} {E} f whole p fails old out new n k m (Sink e) h a q = (finishing_beginning f whole p old out new h q.0, q.1 ∙ ap rise a)
-finishing_stopped A {N} {E} f whole p fails old out new n k m (Memory e) h a q = (finishing_beginning f whole p old out new h q.0, q.1 ∙ a)
+finishing_stopped A {E} whole p fails old out new n k m (Sink e) h a q = (finishing_beginning whole p old out new h q.0, q.1 ∙ ap rise a)
+finishing_stopped A {E} whole p fails old out new n k m (Memory e) h a q = (finishing_beginning whole p old out new h q.0, q.1 ∙ a)
 
 -- the commands are worked off: what is left is the end
-pub record Ending {N : Type 0} (f : N → Tree) (whole : Outcome) (o : RenderOptions) (q : Printer N) (old new : List ℕ) : Type 0 where
+pub record Ending (whole : Outcome) (o : RenderOptions) (q : Standing) (old new : List ℕ) : Type 0 where
   pub bytes : List ℕ
   pub new_is : new ≡ old ++ bytes
-  pub same : after_bytes bytes (end_with o (settle o) (settle_end o) (state_of f q).pending (state_of f q)) ≡ whole
+  pub same : after_bytes bytes (end_with o (settle o) (settle_end o) (state_at q).pending (state_at q)) ≡ whole
 
-pub finishing_ends : {N : Type 0} (f : N → Tree) (whole : Outcome) (p q : Printer N) (old out new b : List ℕ) → Finishing f whole p old out → rest_of f p ≡ Done b (state_of f q) → new ≡ out ++ b → Ending f whole p.options q old new
-finishing_ends {N} f whole p q old out new b h r w = record {
+pub finishing_ends : (whole : Outcome) (p q : Standing) (old out new b : List ℕ) → Finishing whole p old out → rest_of p ≡ Done b (state_at q) → new ≡ out ++ b → Ending whole p.options q old new
+finishing_ends whole p q old out new b h r w = record {
   bytes = h.bytes ++ b;
   new_is = w ∙ ap (λ (x : List ℕ). x ++ b) h.out_is ∙ append_assoc old h.bytes b;
-  same = ap (after_bytes (h.bytes ++ b)) (sym (end_fixed p.options (state_of f q))) ∙ sym (after-after h.bytes b (settle_end p.options (state_of f q)))
+  same = ap (after_bytes (h.bytes ++ b)) (sym (end_fixed p.options (state_at q))) ∙ sym (after-after h.bytes b (settle_end p.options (state_at q)))
       ∙ ap (λ (x : Outcome). after_bytes h.bytes (and_then x (settle_end p.options))) (sym r) ∙ h.same;
 }
 
@@ -82,10 +77,10 @@ none_pending o brk again [] st l = refl
 none_pending o brk again (p ∷ ps) st l = absurd (omega arith)
 
 -- nothing waits: that is all
-pub ending_done : {N : Type 0} (f : N → Tree) (whole : Outcome) (o : RenderOptions) (q : Printer N) (old new : List ℕ) → Ending f whole o q old new → length (state_of f q).pending ≤ 0 → (bytes : List ℕ) × (bytes_of whole ≡ Whole bytes) × (new ≡ old ++ bytes)
-ending_done {N} f whole o q old new h l = (
+pub ending_done : (whole : Outcome) (o : RenderOptions) (q : Standing) (old new : List ℕ) → Ending whole o q old new → length (state_at q).pending ≤ 0 → (bytes : List ℕ) × (bytes_of whole ≡ Whole bytes) × (new ≡ old ++ bytes)
+ending_done whole o q old new h l = (
   h.bytes,
-  ap bytes_of (sym h.same ∙ ap (after_bytes h.bytes) (none_pending o (settle o) (settle_end o) (state_of f q).pending (state_of f q) l)) ∙ ap Whole (append-nil h.bytes),
+  ap bytes_of (sym h.same ∙ ap (after_bytes h.bytes) (none_pending o (settle o) (settle_end o) (state_at q).pending (state_at q) l)) ∙ ap Whole (append-nil h.bytes),
   h.new_is,
 )
 
@@ -99,28 +94,28 @@ round o brk again (d ∷ ds) st l =
     (sym (ap (λ (x : List Task). lay_all o brk x [] (flushed o st)) (sym (append-nil (tasks 0 Break (d ∷ ds)))) ∙ lay_all-tasks o brk (d ∷ ds) 0 Break [] [] (flushed o st) ∙ then-done (lay_each o brk (d ∷ ds) 0 Break [] (flushed o st))))
 
 -- the documents that wait are the commands, and the gap before them is written
-pub ending_again : {N : Type 0} (f : N → Tree) (whole : Outcome) (o : RenderOptions) (q r : Printer N) (old new out : List ℕ) → Ending f whole o q old new → r.options ≡ o → 0 < length (state_of f q).pending →
-    tasks_of f r ≡ tasks 0 Break (state_of f q).pending → state_of f r ≡ flushed o (state_of f q) → out ≡ new ++ spaces (gap q.column) → Finishing f whole r old out
-ending_again {N} f whole o q r old new out h e l k u x =
-    let st = state_of f q in
-    let rest : rest_of f r ≡ lay_all o (settle o) (tasks 0 Break st.pending) [] (flushed o st) =
-    ap (λ (z : RenderOptions). lay_all z (settle z) (tasks_of f r) [] (state_of f r)) e
-    ∙ ap (λ (z : List Task). lay_all o (settle o) z [] (state_of f r)) k ∙ ap (λ (z : State). lay_all o (settle o) (tasks 0 Break st.pending) [] z) u in
+pub ending_again : (whole : Outcome) (o : RenderOptions) (q r : Standing) (old new out : List ℕ) → Ending whole o q old new → r.options ≡ o → 0 < length (state_at q).pending →
+    r.tasks ≡ tasks 0 Break (state_at q).pending → state_at r ≡ flushed o (state_at q) → out ≡ new ++ spaces (gap q.column) → Finishing whole r old out
+ending_again whole o q r old new out h e l k u x =
+    let st = state_at q in
+    let rest : rest_of r ≡ lay_all o (settle o) (tasks 0 Break st.pending) [] (flushed o st) =
+    ap (λ (z : RenderOptions). lay_all z (settle z) r.tasks [] (state_at r)) e
+    ∙ ap (λ (z : List Task). lay_all o (settle o) z [] (state_at r)) k ∙ ap (λ (z : State). lay_all o (settle o) (tasks 0 Break st.pending) [] z) u in
     record {
       bytes = h.bytes ++ spaces (gap q.column);
       out_is = x ∙ ap (λ (z : List ℕ). z ++ spaces (gap q.column)) h.new_is ∙ append_assoc old h.bytes (spaces (gap q.column));
-      same = sym (after-after h.bytes (spaces (gap q.column)) (to_end f r))
-          ∙ ap (λ (z : RenderOptions). after_bytes h.bytes (after_bytes (spaces (gap q.column)) (and_then (rest_of f r) (settle_end z)))) e
+      same = sym (after-after h.bytes (spaces (gap q.column)) (to_end r))
+          ∙ ap (λ (z : RenderOptions). after_bytes h.bytes (after_bytes (spaces (gap q.column)) (and_then (rest_of r) (settle_end z)))) e
           ∙ ap (λ (z : Outcome). after_bytes h.bytes (after_bytes (spaces (gap q.column)) (and_then z (settle_end o)))) rest
           ∙ ap (after_bytes h.bytes) (sym (round o (settle o) (settle_end o) st.pending st l)) ∙ h.same;
     }
 
 -- the gap before them broke off
-pub ending_stopped : (A : Type 0) {N E : Type 0} (f : N → Tree) (whole : Outcome) (o : RenderOptions) (q : Printer N) (fails : E → Type 0) (old new last : List ℕ) (n k m : ℕ) (e : RenderError E) → Ending f whole o q old new → 0 < length (state_of f q).pending → k ≡ n →
+pub ending_stopped : (A : Type 0) {E : Type 0} (whole : Outcome) (o : RenderOptions) (q : Standing) (fails : E → Type 0) (old new last : List ℕ) (n k m : ℕ) (e : RenderError E) → Ending whole o q old new → 0 < length (state_at q).pending → k ≡ n →
     Flushed {A = A} q new last k m (Err e) → Rendered {A = A} fails (bytes_of whole) old last n m (Err e)
-ending_stopped A {N} {E} f whole o q fails old new last n k m (Document e) h l a s = absurd s
-ending_stopped A {N} {E} f whole o q fails old new last n k m (Sink e) h l a s =
-    let st = state_of f q in
+ending_stopped A {E} whole o q fails old new last n k m (Document e) h l a s = absurd s
+ending_stopped A {E} whole o q fails old new last n k m (Sink e) h l a s =
+    let st = state_at q in
     let rest : Outcome = and_then (lay_all o (settle o) (tasks 0 Break st.pending) [] (flushed o st)) (settle_end o) in
     let all : bytes_before whole ≡ h.bytes ++ (spaces (gap q.column) ++ bytes_before rest) =
     sym (ap bytes_before h.same) ∙ bytes_before-after h.bytes (end_with o (settle o) (settle_end o) st.pending st)
@@ -134,8 +129,8 @@ ending_stopped A {N} {E} f whole o q fails old new last n k m (Sink e) h l a s =
       ),
       s.1 ∙ ap rise a,
     )
-ending_stopped A {N} {E} f whole o q fails old new last n k m (Memory e) h l a s =
-    let left : Outcome = end_with o (settle o) (settle_end o) (state_of f q).pending (state_of f q) in
+ending_stopped A {E} whole o q fails old new last n k m (Memory e) h l a s =
+    let left : Outcome = end_with o (settle o) (settle_end o) (state_at q).pending (state_at q) in
     ((h.bytes, bytes_before left, bytes_in-of whole ∙ sym (ap bytes_before h.same) ∙ bytes_before-after h.bytes left, s.0 ∙ h.new_is), s.1 ∙ a)
 
 -- the work of a round is less than what was owed for it
@@ -147,9 +142,22 @@ unfolding lay_all
 lay_all-one o d st = then-done (lay o (settle o) d 0 Break [] st)
 
 -- what a printer that begins lays to the end is the layout
-pub begins : {N : Type 0} (f : N → Tree) (p : Printer N) (d : Tree) → tasks_of f p ≡ make_task 0 Break d ∷ [] → state_of f p ≡ initial → layout p.options d ≡ bytes_of (to_end f p)
-begins {N} f p d e s =
+pub begins : (p : Standing) (d : Tree) → p.tasks ≡ make_task 0 Break d ∷ [] → state_at p ≡ initial → layout p.options d ≡ bytes_of (to_end p)
+begins p d e s =
     layout_is p.options d
     ∙ ap (λ (x : Outcome). bytes_of (and_then x (settle_end p.options)))
-    (sym (ap (λ (x : List Task). lay_all p.options (settle p.options) x [] (state_of f p)) e
+    (sym (ap (λ (x : List Task). lay_all p.options (settle p.options) x [] (state_at p)) e
     ∙ ap (lay_all p.options (settle p.options) (make_task 0 Break d ∷ []) []) s ∙ lay_all-one p.options d initial))
+
+-- a run to the end, from a document that is the only task, is a render
+pub renders : {A E : Type 0} (fails : E → Type 0) (d : Tree) {a b : Point} (r : Result A (RenderError E)) → a.printer.tasks ≡ make_task 0 Break d ∷ [] → state_at a.printer ≡ initial → RunsToEnd fails a b r →
+    Renders fails a.printer.options d a.sink b.sink a.visits b.visits r
+renders {A} {E} fails d {a} {b} r e s h = record {
+  same_lender = h.same_lender;
+  bytes = λ is_known.
+      let y = h.bytes is_known in
+      (y.0, subst (λ (z : Bytes). Rendered fails z (known a.sink.bytes) (known b.sink.bytes) a.sink.failures b.sink.failures r) (sym (begins a.printer d e s)) y.1);
+  rise = h.rise;
+  visited = visited d a.printer b.printer a.visits b.visits r e (ap (λ (u : State). u.pending) s) h.at_most;
+  at_least = visited_at_least d a.printer a.visits b.visits r e s h.at_least;
+}

@@ -15,9 +15,8 @@ use Rattle.prettyless_model.specs.declared.mode.Mode.{Mode}
 use Rattle.prettyless_model.specs.declared.mode.Mode.TheVariants.{Break, Flat}
 use Rattle.prettyless_step.specs.Stack.{Task, make_task, follow, nodes}
 use Rattle.prettyless_step.specs.Steps.{Step, Move, Stuck, Choose, step_of, union_step, decided_by_metrics, break_step, at_once, counted_payload, rejects_payload, owed}
-use Rattle.prettyless_step.specs.Printing.{state_of, tasks_of}
+use Rattle.prettyless_printer.specs.Points.{Standing, state_at}
 use Rattle.prettyless_printer.specs.Visits.{suffixes, Plain, charges, Rise, CountsAtMost, RunCountsAtMost, Visited}
-use Rattle.prettyless_step.specs.declared.printer.Printer.{Printer}
 use Rattle.prettyless_step.specs.Probing.{asked}
 use Rattle.prettyless_step.proofs.Stacks.{nodes-append}
 use Rattle.prettyless_step.proofs.Shown.{step_at, Leads, Asks}
@@ -253,35 +252,35 @@ at_most_first {ts} {us} {v} {w} s t a = record {
 pub at_most_at : {ts us : List Task} {v w : Visits} (xs : List Task) → xs ≡ us → CountsAtMost ts us v w → CountsAtMost ts xs v w
 at_most_at {ts} {us} {v} {w} xs e a = at_most_cut [] us xs refl e a
 
-pub plain_at : {N : Type 0} (f : N → Tree) (p q : Printer N) → tasks_of f q ≡ tasks_of f p → state_of f q ≡ state_of f p → Plain f p → Plain f q
-plain_at {N} f p q e h a = record {
+pub plain_at : (p q : Standing) → q.tasks ≡ p.tasks → state_at q ≡ state_at p → Plain p → Plain q
+plain_at p q e h a = record {
   none = ap suffixes e ∙ a.none;
   pending = ap (λ (x : State). x.pending) h ∙ a.pending;
 }
 
 -- a task more on a stack
-pub plain_push : {N : Type 0} (f : N → Tree) (p q : Printer N) (t : Task) → tasks_of f q ≡ t ∷ tasks_of f p → (state_of f q).pending ≡ (state_of f p).pending → suffix_depth t.tree ≡ 0 → Plain f p → Plain f q
-plain_push {N} f p q t e h z a = record {
+pub plain_push : (p q : Standing) (t : Task) → q.tasks ≡ t ∷ p.tasks → (state_at q).pending ≡ (state_at p).pending → suffix_depth t.tree ≡ 0 → Plain p → Plain q
+plain_push p q t e h z a = record {
   none = omega (arith, ap suffixes e, a.none, z);
   pending = h ∙ a.pending;
 }
 
 -- a run that broke off
-pub run_broke : {N A E : Type 0} (f : N → Tree) (ts : List Task) (q : Printer N) (v w : Visits) (r : Result A E) → IsErr r → CountsAtMost ts [] v w → RunCountsAtMost f ts q v w r
-run_broke {N} {A} {E} f ts q v w (Ok r) h a = cc
-run_broke {N} {A} {E} f ts q v w (Err e) h a = a
+pub run_broke : {A E : Type 0} (ts : List Task) (q : Standing) (v w : Visits) (r : Result A E) → IsErr r → CountsAtMost ts [] v w → RunCountsAtMost ts q v w r
+run_broke {A} {E} ts q v w (Ok r) h a = cc
+run_broke {A} {E} ts q v w (Err e) h a = a
 
 -- a run that has worked on one tree
-pub visited : {N A E : Type 0} (f : N → Tree) (d : Tree) (p q : Printer N) (v w : Visits) (r : Result A E) → tasks_of f p ≡ make_task 0 Break d ∷ [] → (state_of f p).pending ≡ [] →
-    (Plain f p → RunCountsAtMost f (tasks_of f p) q v w r) → Visited d v w
-visited {N} {A} {E} f d p q v w (Ok r) e h k =
-    let plain : suffix_depth d ≡ 0 → Plain f p = λ z. record { none = omega (arith, ap suffixes e, z); pending = h } in
+pub visited : {A E : Type 0} (d : Tree) (p q : Standing) (v w : Visits) (r : Result A E) → p.tasks ≡ make_task 0 Break d ∷ [] → (state_at p).pending ≡ [] →
+    (Plain p → RunCountsAtMost p.tasks q v w r) → Visited d v w
+visited {A} {E} d p q v w (Ok r) e h k =
+    let plain : suffix_depth d ≡ 0 → Plain p = λ z. record { none = omega (arith, ap suffixes e, z); pending = h } in
     record {
       printer = λ z. omega (arith, (k (plain z)).1.printer, ap nodes e);
       probes = λ z. omega (arith, (k (plain z)).1.probes (size d) (omega (arith, ap nodes e)), ap (charges (size d)) e);
     }
-visited {N} {A} {E} f d p q v w (Err r) e h k =
-    let plain : suffix_depth d ≡ 0 → Plain f p = λ z. record { none = omega (arith, ap suffixes e, z); pending = h } in
+visited {A} {E} d p q v w (Err r) e h k =
+    let plain : suffix_depth d ≡ 0 → Plain p = λ z. record { none = omega (arith, ap suffixes e, z); pending = h } in
     record {
       printer = λ z. omega (arith, (k (plain z)).printer, ap nodes e);
       probes = λ z. omega (arith, (k (plain z)).probes (size d) (omega (arith, ap nodes e)), ap (charges (size d)) e);

@@ -9,11 +9,10 @@ use Rattle.prettyless_model.specs.Counts.{Weight, each_node, each_probe, counted
 use Rattle.prettyless_model.specs.declared.mode.Mode.TheVariants.{Break}
 use Rattle.prettyless_step.specs.Stack.{Task, follow}
 use Rattle.prettyless_step.specs.Steps.{chosen}
-use Rattle.prettyless_step.specs.Printing.{state_of, tasks_of}
 use Rattle.prettyless_step.specs.Probing.{RisesBy}
-use Rattle.prettyless_step.specs.declared.printer.Printer.{Printer}
+use Rattle.prettyless_printer.specs.Points.{Standing, state_at}
 use Rattle.prettyless_printer.specs.declared.answer.Turn.{Turn}
-use Rattle.prettyless_printer.specs.declared.answer.Turn.TheVariants.{Went, Failed, Chosen}
+use Rattle.prettyless_printer.specs.declared.answer.Turn.TheVariants.{Went, Failed, Chosen, Shift}
 
 -- what tasks count, one after another, until only n of them are left
 unfoldable pub tally_above : RenderOptions → ℕ → List Task → State → Weight → ℕ
@@ -39,29 +38,30 @@ pub record CountsAtLeast (before left : Weight → ℕ) (v w : Visits) : Type 0 
   pub probes : RisesBy (before each_probe) v.probes (w.probes + left each_probe)
 
 -- what the printer's stack is to count until only n tasks are left
-abbrev pub stack_tally : {N : Type 0} → (N → Tree) → Printer N → ℕ → Weight → ℕ
-stack_tally f p n w = tally_above p.options n (tasks_of f p) (state_of f p) w
+abbrev pub stack_tally : Standing → ℕ → Weight → ℕ
+stack_tally p n w = tally_above p.options n p.tasks (state_at p) w
 
 -- what a choice is to count, and then the printer's stack
-abbrev pub choice_tally : {N : Type 0} → (N → Tree) → Printer N → ℕ → ℕ → Tree → Tree → Weight → ℕ
-choice_tally f p n i x y w = tally_choice p.options n i x y (tasks_of f p) (state_of f p) w
+abbrev pub choice_tally : Standing → ℕ → ℕ → Tree → Tree → Weight → ℕ
+choice_tally p n i x y w = tally_choice p.options n i x y p.tasks (state_at p) w
 
 -- what a trial of a branch is to count
-abbrev pub trial_tally : {N : Type 0} → (N → Tree) → Printer N → ℕ → Tree → Weight → ℕ
-trial_tally f p i d w = tally p.options d i Break (follow (tasks_of f p)) (tried (state_of f p)) w
+abbrev pub trial_tally : Standing → ℕ → Tree → Weight → ℕ
+trial_tally p i d w = tally p.options d i Break (follow p.tasks) (tried (state_at p)) w
 
 -- what a turn counts, seen from each place below the top of the stack
-abbrev pub TurnCountsAtLeast : {N E : Type 0} → (N → Tree) → Printer N → Printer N → Visits → Visits → Result (Turn N) E → Type 0
-TurnCountsAtLeast f p q v w (Ok Went) = (n : ℕ) → n < length (tasks_of f p) → CountsAtLeast (stack_tally f p n) (stack_tally f q n) v w
+abbrev pub TurnCountsAtLeast : {N E : Type 0} → (N → Tree) → Standing → Standing → Visits → Visits → Result (Turn N) E → Type 0
+TurnCountsAtLeast f p q v w (Ok Went) = (n : ℕ) → n < length p.tasks → CountsAtLeast (stack_tally p n) (stack_tally q n) v w
+TurnCountsAtLeast f p q v w (Ok Shift) = (n : ℕ) → n < length p.tasks → CountsAtLeast (stack_tally p n) (stack_tally q n) v w
 TurnCountsAtLeast f p q v w (Ok Failed) = Unit {0}
 TurnCountsAtLeast f p q v w (Ok (Chosen i x y)) =
-    (n : ℕ) → n < length (tasks_of f p) → CountsAtLeast (stack_tally f p n) (choice_tally f q n i (f x) (f y)) v w
+    (n : ℕ) → n < length p.tasks → CountsAtLeast (stack_tally p n) (choice_tally q n i (f x) (f y)) v w
 TurnCountsAtLeast f p q v w (Err e) = Unit {0}
 
 -- a trial that is kept has counted its branch
-abbrev pub TrialCountsAtLeast : {N : Type 0} → (N → Tree) → Printer N → ℕ → Tree → Visits → Visits → Bool → Type 0
-TrialCountsAtLeast f p i d v w true = CountsAtLeast (trial_tally f p i d) nothing_left v w
-TrialCountsAtLeast f p i d v w false = Unit {0}
+abbrev pub TrialCountsAtLeast : Standing → ℕ → Tree → Visits → Visits → Bool → Type 0
+TrialCountsAtLeast p i d v w true = CountsAtLeast (trial_tally p i d) nothing_left v w
+TrialCountsAtLeast p i d v w false = Unit {0}
 
 -- A render counts at least the nodes that the layout lays, and at least the probes that it asks, up to the greatest count.
 pub record VisitedAtLeast (o : RenderOptions) (d : Tree) (v w : Visits) : Type 0 where

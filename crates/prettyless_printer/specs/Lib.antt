@@ -3,6 +3,8 @@ pub mod Progress
 pub mod Visits
 pub mod AtLeast
 pub mod Trials
+pub mod Open
 pub mod Turns
 pub mod Renders
 pub mod Paths
+pub mod Runs

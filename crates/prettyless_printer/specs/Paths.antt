@@ -9,17 +9,16 @@ use Rattle.prettyless_model.specs.Counts.{Weight}
 use Rattle.prettyless_model.specs.declared.mode.Mode.TheVariants.{Break}
 use Rattle.prettyless_step.specs.Stack.{Task, make_task, nodes}
 use Rattle.prettyless_step.specs.Steps.{work}
-use Rattle.prettyless_step.specs.Printing.{state_of, tasks_of, Grows}
-use Rattle.prettyless_printer.specs.Points.{Point}
+use Rattle.prettyless_printer.specs.Points.{state_at, Grows, Point}
 use Rattle.prettyless_printer.specs.Progress.{Inside, Waits}
 use Rattle.prettyless_printer.specs.Visits.{Plain, Rise, CountsAtMost, suffixes}
 use Rattle.prettyless_printer.specs.AtLeast.{CountsAtLeast, stack_tally, choice_tally}
-use Rattle.prettyless_printer.specs.Renders.{Stopped}
+use Rattle.prettyless_printer.specs.Renders.{Stopped, rest_of}
 
 -- A run: where it began, and what it is to do.
-pub record Run (N : Type 0) : Type 0 where
+pub record Run : Type 0 where
   -- where it began
-  pub start : Point N
+  pub start : Point
   -- what it lays, if it comes to its end
   pub whole : Outcome
   -- the most work that it takes
@@ -31,12 +30,23 @@ pub record Run (N : Type 0) : Type 0 where
   -- what it is to count
   pub tally : Weight → ℕ
 
+-- A run of all commands.
+abbrev pub run_of : Point → Run
+run_of a = record {
+  start = a;
+  whole = rest_of a.printer;
+  limit = work a.printer.tasks (state_at a.printer);
+  first = a.printer.tasks;
+  below = [];
+  tally = stack_tally a.printer 0;
+}
+
 -- no line suffix is among the first tasks, and none was pending
-abbrev pub BeganPlain : {N : Type 0} → (N → Tree) → Run N → Type 0
-BeganPlain f r = (suffixes r.first ≡ 0) × ((state_of f r.start.printer).pending ≡ [])
+abbrev pub BeganPlain : Run → Type 0
+BeganPlain r = (suffixes r.first ≡ 0) × ((state_at r.start.printer).pending ≡ [])
 
 -- A run has come to a point.
-pub record Path {N : Type 0} (f : N → Tree) (r : Run N) (b : Point N) : Type 0 where
+pub record Path (r : Run) (b : Point) : Type 0 where
   -- the options are the same
   pub options : b.printer.options ≡ r.start.printer.options
   -- the queue of line suffixes only grew
@@ -44,19 +54,19 @@ pub record Path {N : Type 0} (f : N → Tree) (r : Run N) (b : Point N) : Type 0
   -- the sink writes through the same reference
   pub same_lender : b.sink.lender ≡ r.start.sink.lender
   -- there is no more work than it may take, and that of the tasks below
-  pub less : work (tasks_of f b.printer) (state_of f b.printer) ≤ r.limit + 2 * nodes r.below
+  pub less : work b.printer.tasks (state_at b.printer) ≤ r.limit + 2 * nodes r.below
   -- where the sink's bytes are known, what was written and what is left are the whole, and the sink did not fail
   pub bytes : IfKnown r.start.sink.bytes b.sink.bytes (λ old out.
-      Inside r.start.printer.options r.whole r.limit r.below old (tasks_of f b.printer) (state_of f b.printer) out × (b.sink.failures ≡ r.start.sink.failures))
+      Inside r.start.printer.options r.whole r.limit r.below old b.printer.tasks (state_at b.printer) out × (b.sink.failures ≡ r.start.sink.failures))
   -- no count of visits fell
   pub rise : Rise r.start.visits b.visits
   -- without line suffixes, the nodes that left allow for the visits
-  pub at_most : BeganPlain f r → Plain f b.printer × CountsAtMost r.first (tasks_of f b.printer) r.start.visits b.visits
+  pub at_most : BeganPlain r → Plain b.printer × CountsAtMost r.first b.printer.tasks r.start.visits b.visits
   -- what was laid is counted
-  pub at_least : CountsAtLeast r.tally (stack_tally f b.printer (length r.below)) r.start.visits b.visits
+  pub at_least : CountsAtLeast r.tally (stack_tally b.printer (length r.below)) r.start.visits b.visits
 
 -- The same, where a choice between two branches at an indent comes next.
-pub record Waiting {N : Type 0} (f : N → Tree) (r : Run N) (i : ℕ) (x y : Tree) (b : Point N) : Type 0 where
+pub record Waiting (r : Run) (i : ℕ) (x y : Tree) (b : Point) : Type 0 where
   -- the options are the same
   pub options : b.printer.options ≡ r.start.printer.options
   -- the queue of line suffixes only grew
@@ -64,22 +74,22 @@ pub record Waiting {N : Type 0} (f : N → Tree) (r : Run N) (i : ℕ) (x y : Tr
   -- the sink writes through the same reference
   pub same_lender : b.sink.lender ≡ r.start.sink.lender
   -- with both branches there is less work than it may take, and that of the tasks below
-  pub less : 2 * (size x + size y) + work (tasks_of f b.printer) (state_of f b.printer) < r.limit + 2 * nodes r.below
+  pub less : 2 * (size x + size y) + work b.printer.tasks (state_at b.printer) < r.limit + 2 * nodes r.below
   -- the tasks below are there
-  pub long : length r.below ≤ length (tasks_of f b.printer)
+  pub long : length r.below ≤ length b.printer.tasks
   -- where the sink's bytes are known, what was written, the choice and what is left are the whole, and the sink did not fail
   pub bytes : IfKnown r.start.sink.bytes b.sink.bytes (λ old out.
-      Waits r.start.printer.options r.whole r.limit r.below old i x y (tasks_of f b.printer) (state_of f b.printer) out × (b.sink.failures ≡ r.start.sink.failures))
+      Waits r.start.printer.options r.whole r.limit r.below old i x y b.printer.tasks (state_at b.printer) out × (b.sink.failures ≡ r.start.sink.failures))
   -- no count of visits fell
   pub rise : Rise r.start.visits b.visits
   -- without line suffixes, the nodes that left allow for the visits
-  pub at_most : BeganPlain f r → Plain f b.printer × (suffix_depth x ≡ 0) × (suffix_depth y ≡ 0)
-      × CountsAtMost r.first (make_task i Break x ∷ make_task i Break y ∷ tasks_of f b.printer) r.start.visits b.visits
+  pub at_most : BeganPlain r → Plain b.printer × (suffix_depth x ≡ 0) × (suffix_depth y ≡ 0)
+      × CountsAtMost r.first (make_task i Break x ∷ make_task i Break y ∷ b.printer.tasks) r.start.visits b.visits
   -- what was laid is counted
-  pub at_least : CountsAtLeast r.tally (choice_tally f b.printer (length r.below) i x y) r.start.visits b.visits
+  pub at_least : CountsAtLeast r.tally (choice_tally b.printer (length r.below) i x y) r.start.visits b.visits
 
 -- A run that broke off.
-pub record Broke {N E : Type 0} (f : N → Tree) (fails : E → Type 0) (r : Run N) (e : RenderError E) (b : Point N) : Type 0 where
+pub record Broke {E : Type 0} (fails : E → Type 0) (r : Run) (e : RenderError E) (b : Point) : Type 0 where
   -- the sink writes through the same reference
   pub same_lender : b.sink.lender ≡ r.start.sink.lender
   -- where the sink's bytes are known, a beginning of the whole was written, as the error says
@@ -87,16 +97,16 @@ pub record Broke {N E : Type 0} (f : N → Tree) (fails : E → Type 0) (r : Run
   -- no count of visits fell
   pub rise : Rise r.start.visits b.visits
   -- without line suffixes, the nodes that it began with allow for the visits
-  pub at_most : BeganPlain f r → CountsAtMost r.first [] r.start.visits b.visits
+  pub at_most : BeganPlain r → CountsAtMost r.first [] r.start.visits b.visits
 
 -- A run goes on, or breaks off.
-abbrev pub GoesOn : {N A E : Type 0} → (N → Tree) → (E → Type 0) → Run N → Point N → Result A (RenderError E) → Type 0
-GoesOn f fails r b (Ok x) = Path f r b
-GoesOn f fails r b (Err e) = Broke f fails r e b
+abbrev pub GoesOn : {A E : Type 0} → (E → Type 0) → Run → Point → Result A (RenderError E) → Type 0
+GoesOn fails r b (Ok x) = Path r b
+GoesOn fails r b (Err e) = Broke fails r e b
 
 -- A choice between two branches at an indent, from one point to another.
-pub record Chooses {N A E : Type 0} (f : N → Tree) (i : ℕ) (x y : Tree) (a b : Point N) (r : Result A (RenderError E)) : Type 0 where
+pub record Chooses {A E : Type 0} (i : ℕ) (x y : Tree) (a b : Point) (r : Result A (RenderError E)) : Type 0 where
   -- there is no more work than with both branches
-  pub lessens : OnOk r (work (tasks_of f b.printer) (state_of f b.printer) ≤ 2 * (size x + size y) + work (tasks_of f a.printer) (state_of f a.printer))
+  pub lessens : OnOk r (work b.printer.tasks (state_at b.printer) ≤ 2 * (size x + size y) + work a.printer.tasks (state_at a.printer))
   -- each run in which it waits goes on, or breaks off; no document fails by it
-  pub runs : (run : Run N) → Waiting f run i x y a → GoesOn f (λ _. ⊥) run b r
+  pub runs : (run : Run) → Waiting run i x y a → GoesOn (λ _. ⊥) run b r

@@ -1,10 +1,48 @@
 -- Where a run is.
-use Rattle.std.specs.Prelude.{ℕ, List, Option, None, Some}
+use Rattle.std.specs.Prelude.{◌≡◌, ℕ, Bool, List, ◌++◌, drop, Option, None, Some}
 use Rattle.std.specs.Borrow.{GName}
 use Rattle.std.specs.String.{string_bytes}
-use Rattle.prettyless_printer.specs.declared.buffer.Buffer.{Buffer}
 use Rattle.prettyless_sink.specs.declared.visits.Visits.{Visits}
+use Rattle.prettyless_model.specs.declared.column.Column.{Column}
+use Rattle.prettyless_model.specs.declared.options.RenderOptions.{RenderOptions}
+use Rattle.prettyless_model.specs.Tree.{Tree}
+use Rattle.prettyless_model.specs.Layout.{State}
+use Rattle.prettyless_step.specs.Stack.{Task, trees}
+use Rattle.prettyless_step.specs.Steps.{work}
+use Rattle.prettyless_step.specs.Printing.{tasks_of}
 use Rattle.prettyless_step.specs.declared.printer.Printer.{Printer}
+use Rattle.prettyless_printer.specs.declared.buffer.Buffer.{Buffer}
+
+-- Where a printer stands, whatever the type of its nodes.
+pub record Standing : Type 0 where
+  pub options : RenderOptions
+  pub column : Column
+  -- whether, since the open trial began, nothing went past the width
+  pub within : Bool
+  -- what is still to be laid, the next task first
+  pub tasks : List Task
+  -- the line suffixes that were visited, the oldest first: those from the start on are pending
+  pub queue : List Tree
+  pub start : ℕ
+
+-- where a printer of nodes stands
+abbrev pub standing : {N : Type 0} → (N → Tree) → Printer N → Standing
+standing f p = record {
+  options = p.options;
+  column = p.column;
+  within = p.within;
+  tasks = tasks_of f p;
+  queue = trees f p.queue.nodes.items;
+  start = p.queue.start;
+}
+
+-- the state between two nodes
+abbrev pub state_at : Standing → State
+state_at s = record { column = s.column; pending = drop s.start s.queue; within = s.within }
+
+-- the queue only grows
+abbrev pub Grows : Standing → Standing → Type 0
+Grows s t = (more : List Tree) × (t.queue ≡ s.queue ++ more)
 
 -- What is seen of a sink.
 pub record Seen : Type 0 where
@@ -19,16 +57,24 @@ pub record Seen : Type 0 where
 abbrev pub seen : {S : Type 0} → (S → Option (List ℕ)) → (S → ℕ) → (S → Option GName) → S → Seen
 seen bytes failures lender out = record { bytes = bytes out; failures = failures out; lender = lender out }
 
--- Where a run is: its printer, its sink and the visits so far.
-pub record Point (N : Type 0) : Type 0 where
-  pub printer : Printer N
+-- the buffer of trials as a sink
+abbrev pub buffer_seen : Buffer → Seen
+buffer_seen b = record { bytes = Some (string_bytes b.text); failures = b.failures; lender = None }
+
+-- Where a run is: where its printer stands, its sink and the visits so far.
+pub record Point : Type 0 where
+  pub printer : Standing
   pub sink : Seen
   pub visits : Visits
 
 -- a point of these parts
-abbrev pub point : {N : Type 0} → Printer N → Seen → Visits → Point N
-point p s v = record { printer = p; sink = s; visits = v }
+abbrev pub point_at : Standing → Seen → Visits → Point
+point_at p s v = record { printer = p; sink = s; visits = v }
 
--- the buffer of trials as a sink
-abbrev pub buffer_seen : Buffer → Seen
-buffer_seen b = record { bytes = Some (string_bytes b.text); failures = b.failures; lender = None }
+-- a point of a printer of nodes
+abbrev pub point : {N : Type 0} → (N → Tree) → Printer N → Seen → Visits → Point
+point f p s v = point_at (standing f p) s v
+
+-- the work that a point has left
+abbrev pub work_at : Point → ℕ
+work_at a = work a.printer.tasks (state_at a.printer)

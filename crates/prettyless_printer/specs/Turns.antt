@@ -1,5 +1,5 @@
 -- What a turn does to the work: it takes some of it away, and carries it on inside every whole that it was inside of.
-use Rattle.std.specs.Prelude.{◌≡◌, ℕ, ◌+◌, ◌*◌, ◌<◌, ◌≤◌, List, [], ◌∷◌, ◌++◌, length, Result, Ok, Err, IfOk, OnOk}
+use Rattle.std.specs.Prelude.{◌≡◌, ℕ, ◌+◌, ◌*◌, ◌^◌, ◌<◌, ◌≤◌, List, [], ◌∷◌, ◌++◌, length, Result, Ok, Err, IfOk, OnOk}
 use Rattle.prettyless_sink.specs.Sink.{AppendsBeginning, IfKnown, rise}
 use Rattle.prettyless_model.specs.declared.options.RenderOptions.{RenderOptions}
 use Rattle.prettyless_sink.specs.declared.error.RenderError.{RenderError}
@@ -8,15 +8,12 @@ use Rattle.prettyless_model.specs.Tree.{Tree, size}
 use Rattle.prettyless_model.specs.Layout as layout
 use Rattle.prettyless_model.specs.Layout.{Outcome, Done}
 use Rattle.prettyless_step.specs.Stack.{Task}
-use Rattle.prettyless_step.specs.Steps.{work}
-use Rattle.prettyless_step.specs.Printing.{state_of, tasks_of, Grows}
-use Rattle.prettyless_printer.specs.Points.{Point}
+use Rattle.prettyless_printer.specs.Points.{Grows, Point, Standing, state_at, work_at}
 use Rattle.prettyless_printer.specs.Visits.{Plain, Rise, TurnCountsAtMost}
 use Rattle.prettyless_printer.specs.AtLeast.{TurnCountsAtLeast}
 use Rattle.prettyless_printer.specs.Progress.{Inside, Waits}
-use Rattle.prettyless_step.specs.declared.printer.Printer.{Printer}
 use Rattle.prettyless_printer.specs.declared.answer.Turn.{Turn}
-use Rattle.prettyless_printer.specs.declared.answer.Turn.TheVariants.{Went, Failed, Chosen}
+use Rattle.prettyless_printer.specs.declared.answer.Turn.TheVariants.{Went, Failed, Chosen, Shift}
 
 -- the bytes of an outcome, done or not
 abbrev pub bytes_before : Outcome → List ℕ
@@ -24,24 +21,25 @@ bytes_before (Done b st) = b
 bytes_before (layout.Failed b) = b
 
 -- for every whole that the printer's work was inside of
-abbrev pub ForWholes : {N : Type 0} → (N → Tree) → Printer N → List ℕ → (Outcome → ℕ → List Task → List ℕ → Type 0) → Type 0
-ForWholes f p out goal =
-    (whole : Outcome) (limit : ℕ) (below : List Task) (old : List ℕ) → length below < length (tasks_of f p) →
-    Inside p.options whole limit below old (tasks_of f p) (state_of f p) out → goal whole limit below old
+abbrev pub ForWholes : Standing → List ℕ → (Outcome → ℕ → List Task → List ℕ → Type 0) → Type 0
+ForWholes p out goal =
+    (whole : Outcome) (limit : ℕ) (below : List Task) (old : List ℕ) → length below < length p.tasks →
+    Inside p.options whole limit below old p.tasks (state_at p) out → goal whole limit below old
 
 -- what holds after a turn: the work is inside the whole, or the whole fails after what was written, or a choice waits
-abbrev pub Goes : {N : Type 0} → (N → Tree) → RenderOptions → Printer N → List ℕ → Turn N → Outcome → ℕ → List Task → List ℕ → Type 0
-Goes f o q out Went whole limit below old = Inside o whole limit below old (tasks_of f q) (state_of f q) out
+abbrev pub Goes : {N : Type 0} → (N → Tree) → RenderOptions → Standing → List ℕ → Turn N → Outcome → ℕ → List Task → List ℕ → Type 0
+Goes f o q out Went whole limit below old = Inside o whole limit below old q.tasks (state_at q) out
 Goes f o q out Failed whole limit below old =
-    (bytes : List ℕ) × (above : List Task) × (out ≡ old ++ bytes) × (whole ≡ layout.Failed bytes) × (tasks_of f q ≡ above ++ below)
-Goes f o q out (Chosen i x y) whole limit below old = Waits o whole limit below old i (f x) (f y) (tasks_of f q) (state_of f q) out
+    (bytes : List ℕ) × (above : List Task) × (out ≡ old ++ bytes) × (whole ≡ layout.Failed bytes) × (q.tasks ≡ above ++ below)
+Goes f o q out (Chosen i x y) whole limit below old = Waits o whole limit below old i (f x) (f y) q.tasks (state_at q) out
+Goes f o q out Shift whole limit below old = Inside o whole limit below old q.tasks (state_at q) out
 
--- work is taken away
-abbrev pub Lessens : {N : Type 0} → (N → Tree) → Printer N → Printer N → Turn N → Type 0
-Lessens f p q Went = work (tasks_of f q) (state_of f q) < work (tasks_of f p) (state_of f p)
-Lessens f p q Failed = Unit {0}
-Lessens f p q (Chosen i x y) =
-    (2 * (size (f x) + size (f y)) + work (tasks_of f q) (state_of f q) < work (tasks_of f p) (state_of f p)) × (q.within ≡ p.within)
+-- work is taken away, or none is added where a turn stopped
+abbrev pub Lessens : {N : Type 0} → (N → Tree) → Point → Point → Turn N → Type 0
+Lessens f a b Went = work_at b < work_at a
+Lessens f a b Failed = Unit {0}
+Lessens f a b (Chosen i x y) = (2 * (size (f x) + size (f y)) + work_at b < work_at a) × (b.printer.within ≡ a.printer.within)
+Lessens f a b Shift = (work_at b ≤ work_at a) × (b.printer.within ≡ a.printer.within)
 
 -- how many nodes the next task has
 abbrev pub next_size : List Task → ℕ
@@ -49,36 +47,51 @@ next_size [] = 0
 next_size (t ∷ ts) = size t.tree
 
 -- what a turn leaves in a sink whose bytes are known
-abbrev pub Turned : {N E : Type 0} → (N → Tree) → Printer N → Printer N → List ℕ → List ℕ → ℕ → ℕ → Result (Turn N) (RenderError E) → Type 0
-Turned f p q out new n m (Ok r) = ForWholes f p out (Goes f p.options q new r) × (m ≡ n)
+abbrev pub Turned : {N E : Type 0} → (N → Tree) → Standing → Standing → List ℕ → List ℕ → ℕ → ℕ → Result (Turn N) (RenderError E) → Type 0
+Turned f p q out new n m (Ok r) = ForWholes p out (Goes f p.options q new r) × (m ≡ n)
 Turned f p q out new n m (Err (Document e)) = ⊥
-Turned f p q out new n m (Err (Sink e)) = ForWholes f p out (λ whole limit below old. AppendsBeginning old new (bytes_before whole)) × (m ≡ rise n)
+Turned f p q out new n m (Err (Sink e)) = ForWholes p out (λ whole limit below old. AppendsBeginning old new (bytes_before whole)) × (m ≡ rise n)
 Turned f p q out new n m (Err (Memory e)) = (new ≡ out) × (m ≡ n)
 
--- after a turn that went on, this holds of the tasks that are left
-abbrev pub Leaves : {N : Type 0} → (List Task → Type 0) → (N → Tree) → Printer N → Turn N → Type 0
-Leaves holds f q Went = holds (tasks_of f q)
-Leaves holds f q Failed = Unit {0}
-Leaves holds f q (Chosen i x y) = Unit {0}
+-- the next node is a visit, unless the turn stopped or was refused memory
+abbrev pub VisitsNext : {N E : Type 0} → ℕ → ℕ → Result (Turn N) (RenderError E) → Type 0
+VisitsNext n m (Ok Went) = rise n ≤ m
+VisitsNext n m (Ok Failed) = rise n ≤ m
+VisitsNext n m (Ok (Chosen i x y)) = rise n ≤ m
+VisitsNext n m (Ok Shift) = n ≤ m
+VisitsNext n m (Err (Document e)) = rise n ≤ m
+VisitsNext n m (Err (Sink e)) = rise n ≤ m
+VisitsNext n m (Err (Memory e)) = n ≤ m
+
+-- probes have visited more nodes than the limit, in a count of 64 bits
+abbrev pub IsPastLimit : ℕ → ℕ → Type 0
+IsPastLimit limit probes = (limit < probes) × (probes < 2 ^ 64)
+
+-- a turn stopped only where probes were past the limit
+abbrev pub StopsPast : {N : Type 0} → ℕ → ℕ → Turn N → Type 0
+StopsPast limit probes Went = Unit {0}
+StopsPast limit probes Failed = Unit {0}
+StopsPast limit probes (Chosen i x y) = Unit {0}
+StopsPast limit probes Shift = IsPastLimit limit probes
 
 -- A turn, from one point to another.
-pub record Advances {N E : Type 0} (f : N → Tree) (a b : Point N) (r : Result (Turn N) (RenderError E)) : Type 0 where
+pub record Advances {N E : Type 0} (f : N → Tree) (a b : Point) (r : Result (Turn N) (RenderError E)) : Type 0 where
   -- the options are the same
   pub options : OnOk r (b.printer.options ≡ a.printer.options)
   -- the queue of line suffixes only grows
   pub grows : OnOk r (Grows a.printer b.printer)
   -- there is less work left
-  pub lessens : IfOk r (Lessens f a.printer b.printer)
+  pub lessens : IfOk r (Lessens f a b)
   -- the sink writes through the same reference
   pub same_lender : b.sink.lender ≡ a.sink.lender
   -- where the sink's bytes are known, they go on in every whole that the work was inside of
   pub bytes : IfKnown a.sink.bytes b.sink.bytes (λ before after. Turned f a.printer b.printer before after a.sink.failures b.sink.failures r)
   -- the next node is a visit, and no more nodes are than its document has
-  pub least : rise a.visits.printer ≤ b.visits.printer
-  pub most : b.visits.printer ≤ a.visits.printer + next_size (tasks_of f a.printer)
+  pub least : VisitsNext a.visits.printer b.visits.printer r
+  pub most : b.visits.printer ≤ a.visits.printer + next_size a.printer.tasks
   -- no count of visits fell
   pub rise : Rise a.visits b.visits
   -- without line suffixes, the nodes that leave allow for the visits
-  pub at_most : Plain f a.printer → TurnCountsAtMost f a.printer b.printer a.visits b.visits r
+  pub at_most : Plain a.printer → TurnCountsAtMost f a.printer b.printer a.visits b.visits r
   -- what the nodes lay is counted
   pub at_least : TurnCountsAtLeast f a.printer b.printer a.visits b.visits r

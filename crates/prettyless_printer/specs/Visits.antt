@@ -6,10 +6,9 @@ use Rattle.prettyless_model.specs.Tree.{Tree, size, probed}
 use Rattle.prettyless_model.specs.Content.{suffix_depth}
 use Rattle.prettyless_model.specs.declared.mode.Mode.TheVariants.{Break}
 use Rattle.prettyless_step.specs.Stack.{Task, make_task, nodes}
-use Rattle.prettyless_step.specs.Printing.{state_of, tasks_of}
-use Rattle.prettyless_step.specs.declared.printer.Printer.{Printer}
+use Rattle.prettyless_printer.specs.Points.{Standing, state_at}
 use Rattle.prettyless_printer.specs.declared.answer.Turn.{Turn}
-use Rattle.prettyless_printer.specs.declared.answer.Turn.TheVariants.{Went, Failed, Chosen}
+use Rattle.prettyless_printer.specs.declared.answer.Turn.TheVariants.{Went, Failed, Chosen, Shift}
 
 -- how deep line suffixes are in tasks, added up: 0 where there are none
 abbrev pub suffixes : List Task → ℕ
@@ -17,9 +16,9 @@ suffixes [] = 0
 suffixes (t ∷ ts) = suffix_depth t.tree + suffixes ts
 
 -- no line suffix is on the stack, and no document is pending
-pub record Plain {N : Type 0} (f : N → Tree) (p : Printer N) : Type 0 where
-  pub none : suffixes (tasks_of f p) ≡ 0
-  pub pending : (state_of f p).pending ≡ []
+pub record Plain (p : Standing) : Type 0 where
+  pub none : suffixes p.tasks ≡ 0
+  pub pending : (state_at p).pending ≡ []
 
 -- what the probes of tasks may take up, each at most n nodes
 abbrev pub charges : ℕ → List Task → ℕ
@@ -38,18 +37,19 @@ pub record CountsAtMost (ts us : List Task) (v w : Visits) : Type 0 where
   pub probes : (n : ℕ) → nodes ts ≤ n → w.probes + charges n us ≤ v.probes + charges n ts
 
 -- the visits of a turn
-abbrev pub TurnCountsAtMost : {N E : Type 0} → (N → Tree) → Printer N → Printer N → Visits → Visits → Result (Turn N) E → Type 0
-TurnCountsAtMost f p q v w (Ok Went) = Plain f q × CountsAtMost (tasks_of f p) (tasks_of f q) v w
-TurnCountsAtMost f p q v w (Ok Failed) = CountsAtMost (tasks_of f p) (tasks_of f q) v w
+abbrev pub TurnCountsAtMost : {N E : Type 0} → (N → Tree) → Standing → Standing → Visits → Visits → Result (Turn N) E → Type 0
+TurnCountsAtMost f p q v w (Ok Went) = Plain q × CountsAtMost p.tasks q.tasks v w
+TurnCountsAtMost f p q v w (Ok Shift) = Plain q × CountsAtMost p.tasks q.tasks v w
+TurnCountsAtMost f p q v w (Ok Failed) = CountsAtMost p.tasks q.tasks v w
 TurnCountsAtMost f p q v w (Ok (Chosen i x y)) =
-    Plain f q × (suffix_depth (f x) ≡ 0) × (suffix_depth (f y) ≡ 0)
-    × CountsAtMost (tasks_of f p) (make_task i Break (f x) ∷ make_task i Break (f y) ∷ tasks_of f q) v w
-TurnCountsAtMost f p q v w (Err e) = CountsAtMost (tasks_of f p) [] v w
+    Plain q × (suffix_depth (f x) ≡ 0) × (suffix_depth (f y) ≡ 0)
+    × CountsAtMost p.tasks (make_task i Break (f x) ∷ make_task i Break (f y) ∷ q.tasks) v w
+TurnCountsAtMost f p q v w (Err e) = CountsAtMost p.tasks [] v w
 
 -- the visits of a run from tasks to what the printer has left
-abbrev pub RunCountsAtMost : {N A E : Type 0} → (N → Tree) → List Task → Printer N → Visits → Visits → Result A E → Type 0
-RunCountsAtMost f ts q v w (Ok r) = Plain f q × CountsAtMost ts (tasks_of f q) v w
-RunCountsAtMost f ts q v w (Err e) = CountsAtMost ts [] v w
+abbrev pub RunCountsAtMost : {A E : Type 0} → List Task → Standing → Visits → Visits → Result A E → Type 0
+RunCountsAtMost ts q v w (Ok r) = Plain q × CountsAtMost ts q.tasks v w
+RunCountsAtMost ts q v w (Err e) = CountsAtMost ts [] v w
 
 -- the visits of a render: with no line suffix, at most the nodes, and for probes as often as nodes ask
 pub record Visited (d : Tree) (v w : Visits) : Type 0 where

@@ -6,6 +6,9 @@
 
 pub mod answer;
 pub mod buffer;
-pub mod run;
+mod gear;
+pub mod render;
+mod run;
+mod shift;
 pub mod trial;
 pub mod turn;

@@ -1,124 +1,115 @@
 //! The run: commands are worked off into a sink, and then what is pending at the end.
-ghost use Rattle.std.specs.Prelude.{◌≡◌, ◌<◌, [], length, IfOk};
-ghost use Rattle.prettyless_step.specs.Kept.{Holds};
+ghost use Rattle.std.specs.Prelude.{ℕ, ◌≡◌, ◌<◌, [], length, IsTrue, OnOk};
+ghost use Rattle.prettyless_model.specs.Tree.{Tree};
 ghost use Rattle.prettyless_step.specs.Printing.{tasks_of};
-ghost use Rattle.prettyless_printer.specs.Points.{point, seen};
-ghost use Rattle.prettyless_printer.specs.Paths.{Chooses};
-ghost use Rattle.prettyless_printer.specs.Renders.{FlushesEnd, Renders, RunsToEnd, WorksOff};
-ghost use Rattle.prettyless_printer.specs.Turns.{Advances, Leaves};
+ghost use Rattle.prettyless_step.specs.Sums.{IsSummed};
+ghost use Rattle.prettyless_printer.specs.Points.{Point, buffer_seen, point, seen, standing};
+ghost use Rattle.prettyless_printer.specs.Renders.{FlushesEnd, RunsToEnd};
+ghost use Rattle.prettyless_printer.specs.Open.{all_held};
+ghost use Rattle.prettyless_printer.specs.Runs.{Comes, InChoice, RunsOn, Settles, WorksOn};
 
-use crate::answer::Turn;
-use crate::trial::{Trials, print_branch};
+use crate::answer::{Ran, Tried, Turn};
+use crate::buffer::Buffer;
+use crate::trial::{Trials, go_on_trying, open_trial};
 use crate::turn::turn;
-use prettyless_model::column::Column;
 use prettyless_model::mode::Mode;
-use prettyless_model::options::RenderOptions;
 use prettyless_sink::error::RenderError;
 use prettyless_sink::pieces::write_gap_and_text;
 use prettyless_sink::render::Render;
 use prettyless_sink::visits::Visits;
-use prettyless_step::kept::{KeptProbe, is_worth_keeping};
 use prettyless_step::pending::{is_pending, take_pending};
 use prettyless_step::printer::Printer;
-use prettyless_step::queue::Queue;
-use prettyless_step::stack::Stack;
-use prettyless_step::stepper::PlainStepper;
 use prettyless_step::walk::Walk;
-use std::alloc::Global;
 
-// Lays the branch of a union that its trial chooses. A kept one goes to the sink in one piece.
+// Goes on with a choice whose trials are open. A branch that is kept goes to the sink in one piece.
+fn go_on_choosing<N: Walk, W: Render>(
+    printer: &mut Printer<N>,
+    trials: &mut Trials<N>,
+    buffer: &mut Buffer,
+    out: &mut W,
+    limit: u64,
+    visits: &mut Visits,
+) -> Result<Ran, RenderError<W::Error>>
+    requires open { (i : ℕ) × (x : Tree) × (y : Tree) × (a : Point) × InChoice i x y a (all_held N.tree trials.old.open.items)
+        (buffer_seen buffer.old) (point N.tree printer.old (seen W.bytes W.failures W.lender out.old) visits.old) }
+    requires summed { IsSummed N.HAS_SUMMARIES N.tree printer.old.commands }
+    ensures settles { (i : ℕ) (x y : Tree) (a : Point) → InChoice i x y a (all_held N.tree trials.old.open.items)
+        (buffer_seen buffer.old) (point N.tree printer.old (seen W.bytes W.failures W.lender out.old) visits.old) →
+        Settles limit i x y a (all_held N.tree trials.new.open.items) (buffer_seen buffer.new)
+        (point N.tree printer.new (seen W.bytes W.failures W.lender out.new) visits.new) result }
+    ensures summed { OnOk result (IsSummed N.HAS_SUMMARIES N.tree printer.new.commands) }
+{
+    match go_on_trying(printer, trials, buffer, limit, visits) {
+        Err(e) => Err(RenderError::Memory(e)),
+        Ok(Tried::Shift) => Ok(Ran::Shift),
+        Ok(Tried::TakenBack) => Ok(Ran::Done),
+        Ok(Tried::Kept) => match write_gap_and_text(out, 0, buffer.text.as_str()) {
+            Ok(()) => Ok(Ran::Done),
+            Err(e) => Err(RenderError::Sink(e)),
+        },
+    }
+}
+
+// Lays the branch of a union that its trial chooses, or stops in the trial.
 fn choose<N: Walk, W: Render>(
     printer: &mut Printer<N>,
     trials: &mut Trials<N>,
+    buffer: &mut Buffer,
     out: &mut W,
     indent: usize,
     first: N,
     second: N,
+    limit: u64,
     visits: &mut Visits,
-) -> Result<(), RenderError<W::Error>>
-    ensures { Chooses N.tree indent (N.tree first) (N.tree second)
-        (point printer.old (seen W.bytes W.failures W.lender out.old) visits.old)
-        (point printer.new (seen W.bytes W.failures W.lender out.new) visits.new) result }
+) -> Result<Ran, RenderError<W::Error>>
+    requires none { trials.old.open.items ≡ [] }
+    requires summed { IsSummed N.HAS_SUMMARIES N.tree printer.old.commands }
+    ensures settles { Settles limit indent (N.tree first) (N.tree second)
+        (point N.tree printer.old (seen W.bytes W.failures W.lender out.old) visits.old)
+        (all_held N.tree trials.new.open.items) (buffer_seen buffer.new)
+        (point N.tree printer.new (seen W.bytes W.failures W.lender out.new) visits.new) result }
+    ensures summed { OnOk result (IsSummed N.HAS_SUMMARIES N.tree printer.new.commands) }
 {
-    trials.buffer.text.clear();
-    match print_branch(printer, trials, indent, first, visits) {
+    buffer.text.clear();
+    match open_trial(printer, trials, buffer, indent, first, second) {
         Err(e) => Err(RenderError::Memory(e)),
-        Ok(true) => match write_gap_and_text(out, 0, trials.buffer.text.as_str()) {
-            Ok(()) => Ok(()),
-            Err(e) => Err(RenderError::Sink(e)),
-        },
-        Ok(false) => match printer.commands.push(indent, Mode::Break, second) {
-            Ok(()) => Ok(()),
-            Err(e) => Err(RenderError::Memory(e)),
-        },
+        Ok(()) => go_on_choosing(printer, trials, buffer, out, limit, visits),
     }
 }
 
-// A turn, in which what a probe reads is kept.
-#[inline(never)]
-fn turn_kept<N: Walk, W: Render>(
-    printer: &mut Printer<N>,
-    kept: &mut KeptProbe<N>,
-    out: &mut W,
-    visits: &mut Visits,
-) -> Result<Turn<N>, RenderError<W::Error>>
-    requires some { 0 < length (tasks_of N.tree printer.old) }
-    requires held { Holds N.tree kept.old (tasks_of N.tree printer.old) }
-    ensures advances { Advances N.tree
-        (point printer.old (seen W.bytes W.failures W.lender out.old) visits.old)
-        (point printer.new (seen W.bytes W.failures W.lender out.new) visits.new) result }
-    ensures leaves { IfOk result (λ t. Leaves (Holds N.tree kept.new) N.tree printer.new t) }
-{
-    turn(printer, kept, out, visits)
-}
-
-// A turn, in which what probes read is kept where they read much more than the printer lays.
-#[inline(always)]
-fn next_turn<N: Walk, W: Render>(
-    printer: &mut Printer<N>,
-    kept: &mut KeptProbe<N>,
-    start: Visits,
-    out: &mut W,
-    visits: &mut Visits,
-) -> Result<Turn<N>, RenderError<W::Error>>
-    requires some { 0 < length (tasks_of N.tree printer.old) }
-    requires held { Holds N.tree kept.old (tasks_of N.tree printer.old) }
-    ensures advances { Advances N.tree
-        (point printer.old (seen W.bytes W.failures W.lender out.old) visits.old)
-        (point printer.new (seen W.bytes W.failures W.lender out.new) visits.new) result }
-    ensures leaves { IfOk result (λ t. Leaves (Holds N.tree kept.new) N.tree printer.new t) }
-{
-    if kept.is_kept() || is_worth_keeping(start, visits) {
-        return turn_kept(printer, kept, out, visits);
-    }
-    turn(printer, &mut PlainStepper, out, visits)
-}
-
-// Takes commands until none is left. What a probe has read is kept no longer than that, and not over a choice between branches.
+// Takes commands until none is left, or before a node probes are past the limit.
 fn work_off<N: Walk, W: Render>(
     printer: &mut Printer<N>,
     trials: &mut Trials<N>,
-    kept: &mut KeptProbe<N>,
+    buffer: &mut Buffer,
     out: &mut W,
+    limit: u64,
     visits: &mut Visits,
-) -> Result<(), RenderError<W::Error>>
-    ensures { WorksOff N.tree (W.document_errors out.new)
-        (point printer.old (seen W.bytes W.failures W.lender out.old) visits.old)
-        (point printer.new (seen W.bytes W.failures W.lender out.new) visits.new) result }
+) -> Result<Ran, RenderError<W::Error>>
+    requires none { trials.old.open.items ≡ [] }
+    requires summed { IsSummed N.HAS_SUMMARIES N.tree printer.old.commands }
+    ensures works { WorksOn (W.document_errors out.new) limit
+        (point N.tree printer.old (seen W.bytes W.failures W.lender out.old) visits.old)
+        (all_held N.tree trials.new.open.items) (buffer_seen buffer.new)
+        (point N.tree printer.new (seen W.bytes W.failures W.lender out.new) visits.new) result }
+    ensures summed { OnOk result (IsSummed N.HAS_SUMMARIES N.tree printer.new.commands) }
 {
-    kept.give_up();
-    let start = *visits;
     'work: while printer.commands.len() > 0 {
-        match next_turn(printer, kept, start, out, visits)? {
+        match turn(printer, out, limit, visits)? {
             Turn::Failed => return Err(RenderError::Document(out.fail_doc())),
             Turn::Went => {}
+            Turn::Shift => return Ok(Ran::Shift),
             Turn::Chosen(indent, first, second) => {
-                kept.give_up();
-                choose(printer, trials, out, indent, first, second, visits)?;
+                match choose(
+                    printer, trials, buffer, out, indent, first, second, limit, visits,
+                )? {
+                    Ran::Done => {}
+                    Ran::Shift => return Ok(Ran::Shift),
+                }
             }
         }
     }
-    Ok(())
+    Ok(Ran::Done)
 }
 
 // At the end the pending line suffixes become the commands, and the line's gap is written, as before content.
@@ -126,9 +117,11 @@ fn flush_end<N: Walk, W: Render>(
     printer: &mut Printer<N>,
     out: &mut W,
 ) -> Result<(), RenderError<W::Error>>
-    requires { tasks_of N.tree printer.old ≡ [] }
-    ensures { FlushesEnd N.tree printer.old printer.new
+    requires none { tasks_of N.tree printer.old ≡ [] }
+    requires summed { IsSummed N.HAS_SUMMARIES N.tree printer.old.commands }
+    ensures flushes { FlushesEnd (standing N.tree printer.old) (standing N.tree printer.new)
         (seen W.bytes W.failures W.lender out.old) (seen W.bytes W.failures W.lender out.new) result }
+    ensures summed { OnOk result (IsSummed N.HAS_SUMMARIES N.tree printer.new.commands) }
 {
     match take_pending(printer, 0, Mode::Break) {
         Err(e) => Err(RenderError::Memory(e)),
@@ -139,61 +132,82 @@ fn flush_end<N: Walk, W: Render>(
     }
 }
 
-// Works off the commands and then, round by round, the line suffixes that are pending at the end.
+// Works off the commands and then, round by round, the line suffixes that are pending at the end, as long as probes are not past
+// the limit.
 fn run_to_end<N: Walk, W: Render>(
     printer: &mut Printer<N>,
     trials: &mut Trials<N>,
-    kept: &mut KeptProbe<N>,
+    buffer: &mut Buffer,
     out: &mut W,
+    limit: u64,
     visits: &mut Visits,
-) -> Result<(), RenderError<W::Error>>
-    ensures { RunsToEnd N.tree (W.document_errors out.new)
-        (point printer.old (seen W.bytes W.failures W.lender out.old) visits.old)
-        (point printer.new (seen W.bytes W.failures W.lender out.new) visits.new) result }
+) -> Result<Ran, RenderError<W::Error>>
+    requires none { trials.old.open.items ≡ [] }
+    requires summed { IsSummed N.HAS_SUMMARIES N.tree printer.old.commands }
+    ensures runs { RunsOn (W.document_errors out.new) limit
+        (point N.tree printer.old (seen W.bytes W.failures W.lender out.old) visits.old)
+        (all_held N.tree trials.new.open.items) (buffer_seen buffer.new)
+        (point N.tree printer.new (seen W.bytes W.failures W.lender out.new) visits.new) result }
+    ensures summed { OnOk result (IsSummed N.HAS_SUMMARIES N.tree printer.new.commands) }
 {
     'rounds: loop {
-        work_off(printer, trials, kept, out, visits)?;
-        if !is_pending(printer) {
-            return Ok(());
+        match work_off(printer, trials, buffer, out, limit, visits)? {
+            Ran::Shift => return Ok(Ran::Shift),
+            Ran::Done => {
+                if !is_pending(printer) {
+                    return Ok(Ran::Done);
+                }
+                flush_end(printer, out)?;
+            }
         }
-        flush_end(printer, out)?;
     }
 }
 
-/// Renders the document of a node to a sink: what is written is its layout.
-///
-/// Where the sink's bytes are known: on success all of the layout was appended. `Document` is answered only where the
-/// layout fails, after the bytes before the failing node. `Sink` is answered where the sink failed, once in this call,
-/// and `Memory` where a growth was refused, which leaves the sink's failures as they were: what was appended then is a
-/// beginning of the layout's bytes.
-///
-/// The nodes that are visited are added to `visits`. On success the printer has visited at least the nodes that the layout
-/// lays, and its probes at least one node for each probe that the layout asks; a rejected branch counts nothing here.
-/// Without line suffixes the printer visits at most as many nodes as the document has, and its probes together at most
-/// that many for each node that asks one.
-pub fn render<N: Walk, W: Render>(
-    alloc: Global,
-    node: N,
-    options: RenderOptions,
+/// Goes on with the open trials, if there are any, and then to the end, as long as probes are not past the limit.
+pub(crate) fn go_on<N: Walk, W: Render>(
+    printer: &mut Printer<N>,
+    trials: &mut Trials<N>,
+    buffer: &mut Buffer,
+    out: &mut W,
+    limit: u64,
+    visits: &mut Visits,
+) -> Result<Ran, RenderError<W::Error>>
+    requires comes { (a : Point) × Comes a (all_held N.tree trials.old.open.items) (buffer_seen buffer.old)
+        (point N.tree printer.old (seen W.bytes W.failures W.lender out.old) visits.old) }
+    requires summed { IsSummed N.HAS_SUMMARIES N.tree printer.old.commands }
+    ensures runs { (a : Point) → Comes a (all_held N.tree trials.old.open.items) (buffer_seen buffer.old)
+        (point N.tree printer.old (seen W.bytes W.failures W.lender out.old) visits.old) →
+        RunsOn (W.document_errors out.new) limit a (all_held N.tree trials.new.open.items) (buffer_seen buffer.new)
+        (point N.tree printer.new (seen W.bytes W.failures W.lender out.new) visits.new) result }
+    ensures summed { OnOk result (IsSummed N.HAS_SUMMARIES N.tree printer.new.commands) }
+{
+    if trials.is_empty() {
+        return run_to_end(printer, trials, buffer, out, limit, visits);
+    }
+    match go_on_choosing(printer, trials, buffer, out, limit, visits)? {
+        Ran::Done => run_to_end(printer, trials, buffer, out, limit, visits),
+        Ran::Shift => Ok(Ran::Shift),
+    }
+}
+
+/// Goes on to the end, however much probes visit.
+pub(crate) fn finish<N: Walk, W: Render>(
+    printer: &mut Printer<N>,
+    trials: &mut Trials<N>,
+    buffer: &mut Buffer,
     out: &mut W,
     visits: &mut Visits,
 ) -> Result<(), RenderError<W::Error>>
-    ensures { Renders (W.document_errors out.new) options (N.tree node)
-        (seen W.bytes W.failures W.lender out.old) (seen W.bytes W.failures W.lender out.new)
-        visits.old visits.new result }
+    requires comes { (a : Point) × Comes a (all_held N.tree trials.old.open.items) (buffer_seen buffer.old)
+        (point N.tree printer.old (seen W.bytes W.failures W.lender out.old) visits.old) }
+    requires summed { IsSummed N.HAS_SUMMARIES N.tree printer.old.commands }
+    ensures { (a : Point) → Comes a (all_held N.tree trials.old.open.items) (buffer_seen buffer.old)
+        (point N.tree printer.old (seen W.bytes W.failures W.lender out.old) visits.old) →
+        RunsToEnd (W.document_errors out.new) a
+        (point N.tree printer.new (seen W.bytes W.failures W.lender out.new) visits.new) result }
 {
-    let mut printer = Printer {
-        options,
-        column: Column::start(),
-        within: true,
-        commands: Stack::new(alloc),
-        scratch: Stack::new(alloc),
-        queue: Queue::new(alloc),
-    };
-    let mut trials = Trials::new(alloc);
-    let mut kept = KeptProbe::new(alloc);
-    match printer.commands.push(0, Mode::Break, node) {
-        Ok(()) => run_to_end(&mut printer, &mut trials, &mut kept, out, visits),
-        Err(e) => Err(RenderError::Memory(e)),
+    match go_on(printer, trials, buffer, out, u64::MAX, visits)? {
+        Ran::Done => Ok(()),
+        Ran::Shift => unreachable!(),
     }
 }

@@ -1,11 +1,14 @@
 //! Trials: a union's first branch is printed, and kept or taken back.
-ghost use Rattle.std.specs.Prelude.{◌≡◌, ◌≤◌, [], take, vec_len};
+ghost use Rattle.std.specs.Prelude.{◌≡◌, ◌≤◌, ◌<◌, [], length, take, vec_len, IfOk, IsFalse, IsTrue, OnOk};
 ghost use Rattle.std.specs.String.{string_bytes};
 ghost use Rattle.std.specs.String.Boundary.{IsSplitPoint};
-ghost use Rattle.prettyless_printer.specs.Points.{buffer_seen, point};
-ghost use Rattle.prettyless_printer.specs.Trials.{Courses, Marks, Restores, Tries};
+ghost use Rattle.prettyless_model.specs.Tree.{Tree};
+ghost use Rattle.prettyless_step.specs.Sums.{IsSummed};
+ghost use Rattle.prettyless_printer.specs.Points.{buffer_seen, point, standing};
+ghost use Rattle.prettyless_printer.specs.Trials.{Attempt, Courses, Marks, Restores, TrialStopsPast};
+ghost use Rattle.prettyless_printer.specs.Open.{BeginsTrial, Ends, Open, Opens, all_held, below_all};
 
-use crate::answer::{Course, Turn};
+use crate::answer::{Course, Tried, Turn};
 use crate::buffer::Buffer;
 use crate::turn::turn;
 use prettyless_model::column::Column;
@@ -15,7 +18,6 @@ use prettyless_sink::visits::Visits;
 use prettyless_step::pending::is_pending;
 use prettyless_step::printer::Printer;
 use prettyless_step::queue::QueueMark;
-use prettyless_step::stepper::PlainStepper;
 use prettyless_step::walk::Walk;
 use std::alloc::{AllocError, Global};
 
@@ -30,37 +32,50 @@ pub struct Mark {
     pub written: usize,
 }
 
-/// A trial inside another one: the mark of the outer one, and the second branch at its indent, which comes next if the first one
-/// is not kept.
+/// A trial that is open: its mark, and the second branch at its indent, which comes next if the first one is not kept.
 #[derive(Drop)]
-pub struct Inner<N> {
-    pub outer: Mark,
+pub struct OpenTrial<N> {
+    pub mark: Mark,
     pub indent: usize,
     pub second: N,
 }
 
-/// The open trials: what all of them write to, and those inside the outermost one, the innermost last.
+/// The trials that are open, each inside the one before it. All of them write to one buffer.
 #[derive(Drop)]
 pub struct Trials<N> {
-    pub buffer: Buffer,
-    pub inner: Vec<Inner<N>>,
+    pub open: Vec<OpenTrial<N>>,
 }
 
 impl<N: Walk> Trials<N> {
     /// None is open. It takes no memory.
     pub fn new(alloc: Global) -> Self
-        ensures text { string_bytes result.buffer.text ≡ [] }
-        ensures inner { result.inner.items ≡ [] }
+        ensures { result.open.items ≡ [] }
     {
         Trials {
-            buffer: Buffer::new(alloc),
-            inner: Vec::new(alloc),
+            open: Vec::new(alloc),
         }
+    }
+
+    /// Whether none is open.
+    pub fn is_empty(&self) -> bool
+        ensures none { IsTrue result → length self.now.open.items ≡ 0 }
+        ensures some { IsFalse result → 0 < length self.now.open.items }
+    {
+        self.open.len() == 0
+    }
+
+    // How many commands are below the branch of the innermost one.
+    #[inline(always)]
+    fn below(&self) -> usize
+        requires { 0 < length self.now.open.items }
+        ensures { result ≡ below_all (all_held N.tree self.now.open.items) }
+    {
+        self.open[self.open.len() - 1].mark.commands
     }
 }
 
 fn mark_of<N: Walk>(printer: &Printer<N>, buffer: &Buffer) -> Mark
-    ensures { Marks N.tree result printer.now (buffer_seen buffer.now) }
+    ensures { Marks result (standing N.tree printer.now) (buffer_seen buffer.now) }
 {
     Mark {
         commands: printer.commands.len(),
@@ -75,9 +90,10 @@ fn mark_of<N: Walk>(printer: &Printer<N>, buffer: &Buffer) -> Mark
 fn take_back<N: Walk>(printer: &mut Printer<N>, mark: Mark, buffer: &mut Buffer)
     requires mark { mark.queue.len ≤ vec_len printer.old.queue.nodes }
     requires buffer { IsSplitPoint (string_bytes buffer.old.text) mark.written }
-    ensures printer { Restores N.tree mark printer.old printer.new }
+    ensures printer { Restores mark (standing N.tree printer.old) (standing N.tree printer.new) }
     ensures buffer { string_bytes buffer.new.text ≡ take mark.written (string_bytes buffer.old.text) }
     ensures failures { buffer.new.failures ≡ buffer.old.failures }
+    ensures summed { IsSummed N.HAS_SUMMARIES N.tree printer.old.commands → IsSummed N.HAS_SUMMARIES N.tree printer.new.commands }
 {
     printer.commands.cut(mark.commands);
     printer.queue.go_back(mark.queue);
@@ -94,16 +110,45 @@ fn memory_of(error: RenderError<AllocError>) -> AllocError {
     }
 }
 
+/// Opens a trial of a first branch at an indent. The second branch waits.
+pub(crate) fn open_trial<N: Walk>(
+    printer: &mut Printer<N>,
+    trials: &mut Trials<N>,
+    buffer: &Buffer,
+    indent: usize,
+    first: N,
+    second: N,
+) -> Result<(), AllocError>
+    requires summed { IsSummed N.HAS_SUMMARIES N.tree printer.old.commands }
+    ensures held { OnOk result (Opens N.tree indent (N.tree second) (standing N.tree printer.old) (buffer_seen buffer.now)
+        (all_held N.tree trials.old.open.items) (all_held N.tree trials.new.open.items)) }
+    ensures begun { OnOk result (BeginsTrial indent (N.tree first) (standing N.tree printer.old) (standing N.tree printer.new)) }
+    ensures summed { OnOk result (IsSummed N.HAS_SUMMARIES N.tree printer.new.commands) }
+{
+    let mark = mark_of(printer, buffer);
+    trials.open.push(OpenTrial {
+        mark,
+        indent,
+        second,
+    })?;
+    printer.within = true;
+    printer.commands.push(indent, Mode::Break, first)
+}
+
 // One turn of a trial that has this many commands below its branch; or its end, where it is over if the padding fits.
 fn advance<N: Walk>(
     printer: &mut Printer<N>,
     buffer: &mut Buffer,
     below: usize,
+    limit: u64,
     visits: &mut Visits,
 ) -> Result<Course<N>, AllocError>
-    ensures { Courses N.tree below
-        (point printer.old (buffer_seen buffer.old) visits.old)
-        (point printer.new (buffer_seen buffer.new) visits.new) result }
+    requires summed { IsSummed N.HAS_SUMMARIES N.tree printer.old.commands }
+    ensures courses { Courses N.tree below
+        (point N.tree printer.old (buffer_seen buffer.old) visits.old)
+        (point N.tree printer.new (buffer_seen buffer.new) visits.new) result }
+    ensures past { IfOk result (λ c. TrialStopsPast limit visits.new.probes c) }
+    ensures summed { OnOk result (IsSummed N.HAS_SUMMARIES N.tree printer.new.commands) }
 {
     if printer.commands.len() <= below {
         if printer
@@ -114,7 +159,7 @@ fn advance<N: Walk>(
         }
         return Ok(Course::Rejected);
     }
-    match turn(printer, &mut PlainStepper, buffer, visits) {
+    match turn(printer, buffer, limit, visits) {
         Err(e) => Err(memory_of(e)),
         Ok(Turn::Failed) => Ok(Course::Rejected),
         Ok(Turn::Went) => {
@@ -124,57 +169,57 @@ fn advance<N: Walk>(
             Ok(Course::Rejected)
         }
         Ok(Turn::Chosen(indent, first, second)) => Ok(Course::Chosen(indent, first, second)),
+        Ok(Turn::Shift) => Ok(Course::Shift),
     }
 }
 
-/// Prints a branch after what the buffer has, without what follows it but with that known. It is kept if it does not
-/// fail, nothing of it goes past the width, and at its end the padding fits; else all is as before. Want of memory is
-/// an error, and never a reason not to keep a branch. The answer is whether it is kept.
-///
-/// The trials of unions in the branch are open inside this one, each with its mark; a turn works on the innermost.
-pub fn print_branch<N: Walk>(
+/// Goes on with the open trials, each turn in the innermost one, until the outermost one is over, or before a node probes are past
+/// the limit. A trial prints its branch without what follows it but with that known. The branch is kept if it does not fail, nothing
+/// of it goes past the width, and at its end the padding fits; else all is as before, and the second branch comes next. Want of
+/// memory is an error, and never a reason not to keep a branch.
+pub(crate) fn go_on_trying<N: Walk>(
     printer: &mut Printer<N>,
     trials: &mut Trials<N>,
-    indent: usize,
-    branch: N,
+    buffer: &mut Buffer,
+    limit: u64,
     visits: &mut Visits,
-) -> Result<bool, AllocError>
-    ensures { Tries N.tree indent (N.tree branch)
-        (point printer.old (buffer_seen trials.old.buffer) visits.old)
-        (point printer.new (buffer_seen trials.new.buffer) visits.new) result }
+) -> Result<Tried, AllocError>
+    requires some { 0 < length trials.old.open.items }
+    requires summed { IsSummed N.HAS_SUMMARIES N.tree printer.old.commands }
+    requires open { (s : Attempt) × (y : Tree) × Open s y (all_held N.tree trials.old.open.items)
+        (point N.tree printer.old (buffer_seen buffer.old) visits.old) }
+    ensures ends { (s : Attempt) (y : Tree) → Open s y (all_held N.tree trials.old.open.items)
+        (point N.tree printer.old (buffer_seen buffer.old) visits.old) →
+        Ends limit s y (point N.tree printer.new (buffer_seen buffer.new) visits.new) (all_held N.tree trials.new.open.items) result }
+    ensures summed { OnOk result (IsSummed N.HAS_SUMMARIES N.tree printer.new.commands) }
 {
-    trials.inner.clear();
-    let mut mark = mark_of(printer, &trials.buffer);
-    printer.within = true;
-    printer.commands.push(indent, Mode::Break, branch)?;
     'work: loop {
-        match advance(printer, &mut trials.buffer, mark.commands, visits)? {
+        match advance(printer, buffer, trials.below(), limit, visits)? {
             Course::Goes => {}
+            Course::Shift => return Ok(Tried::Shift),
             Course::Over => {
-                let Some(inner) = trials.inner.pop() else {
-                    printer.within = mark.within;
-                    return Ok(true);
+                let Some(trial) = trials.open.pop() else {
+                    unreachable!()
                 };
-                mark = inner.outer;
+                printer.within = trial.mark.within;
+                if trials.is_empty() {
+                    return Ok(Tried::Kept);
+                }
             }
             Course::Rejected => {
-                take_back(printer, mark, &mut trials.buffer);
-                let Some(inner) = trials.inner.pop() else {
-                    return Ok(false);
+                let Some(trial) = trials.open.pop() else {
+                    unreachable!()
                 };
+                take_back(printer, trial.mark, buffer);
                 printer
                     .commands
-                    .push(inner.indent, Mode::Break, inner.second)?;
-                mark = inner.outer;
+                    .push(trial.indent, Mode::Break, trial.second)?;
+                if trials.is_empty() {
+                    return Ok(Tried::TakenBack);
+                }
             }
             Course::Chosen(indent, first, second) => {
-                trials.inner.push(Inner {
-                    outer: mark,
-                    indent,
-                    second,
-                })?;
-                mark = mark_of(printer, &trials.buffer);
-                printer.commands.push(indent, Mode::Break, first)?;
+                open_trial(printer, trials, buffer, indent, first, second)?;
             }
         }
     }

@@ -1,8 +1,10 @@
 //! A turn: a command is taken and stepped, and so is each that comes in hand; the last one is written.
-ghost use Rattle.std.specs.Prelude.{◌<◌, length, IfOk};
+ghost use Rattle.std.specs.Prelude.{◌<◌, ◌↔◌, length, IfOk, IsTrue, OnOk};
+ghost use Rattle.prettyless_model.specs.Counts.{each_probe};
 ghost use Rattle.prettyless_step.specs.Printing.{tasks_of};
+ghost use Rattle.prettyless_step.specs.Sums.{IsSummed};
 ghost use Rattle.prettyless_printer.specs.Points.{point, seen};
-ghost use Rattle.prettyless_printer.specs.Turns.{Advances, Leaves};
+ghost use Rattle.prettyless_printer.specs.Turns.{Advances, IsPastLimit, StopsPast};
 
 use crate::answer::Turn;
 use prettyless_model::mode::Mode;
@@ -11,25 +13,45 @@ use prettyless_sink::render::Render;
 use prettyless_sink::visits::{Visits, one_more};
 use prettyless_step::piece::write_piece;
 use prettyless_step::printer::{Printer, Taken};
-use prettyless_step::stepper::Stepper;
-use prettyless_step::walk::Walk;
+use prettyless_step::step::step;
+use prettyless_step::walk::{View, Walk};
+
+// Whether probes have visited more nodes than a limit, which with the greatest one they never have.
+#[inline(always)]
+fn is_past_limit(probes: u64, limit: u64) -> bool
+    ensures { IsTrue result ↔ IsPastLimit limit probes }
+{
+    probes > limit
+}
+
+// Whether a node asks a probe.
+#[inline(always)]
+fn asks_probe<N: Walk>(mode: Mode, node: &N) -> bool
+    ensures { IsTrue result ↔ (0 < each_probe (N.tree node.now) mode) }
+{
+    match (mode, node.view()) {
+        (Mode::Break, View::Group(_) | View::PartialUnion(_, _)) => true,
+        _ => false,
+    }
+}
 
 /// Takes the next command, goes on with what is in hand down to a node that leads to no other, and writes what that one gives.
-/// Each of these nodes is a visit, and so is a payload that a step rejects. The stepper takes the steps, and what it holds of the
-/// nodes that are left it holds again where the turn went on.
+/// Each of these nodes is a visit, and so is a payload that a step rejects. Before a node that asks a probe it stops if probes have
+/// visited more nodes than the limit.
 #[inline(always)]
-pub fn turn<N: Walk, W: Render, S: Stepper<N>>(
+pub fn turn<N: Walk, W: Render>(
     printer: &mut Printer<N>,
-    stepper: &mut S,
     out: &mut W,
+    limit: u64,
     visits: &mut Visits,
 ) -> Result<Turn<N>, RenderError<W::Error>>
     requires some { 0 < length (tasks_of N.tree printer.old) }
-    requires held { S.holds stepper.old (tasks_of N.tree printer.old) }
+    requires summed { IsSummed N.HAS_SUMMARIES N.tree printer.old.commands }
     ensures advances { Advances N.tree
-        (point printer.old (seen W.bytes W.failures W.lender out.old) visits.old)
-        (point printer.new (seen W.bytes W.failures W.lender out.new) visits.new) result }
-    ensures leaves { IfOk result (λ t. Leaves (S.holds stepper.new) N.tree printer.new t) }
+        (point N.tree printer.old (seen W.bytes W.failures W.lender out.old) visits.old)
+        (point N.tree printer.new (seen W.bytes W.failures W.lender out.new) visits.new) result }
+    ensures past { IfOk result (λ t. StopsPast limit visits.new.probes t) }
+    ensures summed { OnOk result (IsSummed N.HAS_SUMMARIES N.tree printer.new.commands) }
 {
     let Some(command) = printer.commands.pop() else {
         unreachable!()
@@ -39,8 +61,14 @@ pub fn turn<N: Walk, W: Render, S: Stepper<N>>(
     let mut node = command.node;
     let mut is_past = false;
     'down: loop {
+        if is_past_limit(visits.probes, limit) && asks_probe(mode, &node) {
+            return match printer.commands.push(indent, mode, node) {
+                Ok(()) => Ok(Turn::Shift),
+                Err(e) => Err(RenderError::Memory(e)),
+            };
+        }
         visits.printer = one_more(visits.printer);
-        match stepper.step(printer, indent, mode, &node, is_past, visits) {
+        match step(printer, indent, mode, &node, is_past, visits) {
             Err(e) => return Err(RenderError::Memory(e)),
             Ok(Taken::Next(next_indent, next)) => {
                 indent = next_indent;

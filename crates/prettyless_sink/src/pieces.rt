@@ -10,7 +10,7 @@ use prettyless_model::spaces::some_spaces;
 ///
 /// The spaces go out in pieces of at most 100 bytes and the text in a piece of its own; no piece is empty.
 /// An error is the sink's: it then has a beginning of the spaces and the text, and got no piece after that.
-#[inline]
+#[inline(always)]
 pub fn write_gap_and_text<W: Render>(out: &mut W, gap: usize, text: &str) -> Result<(), W::Error>
     ensures same_lender { W.lender out.new ≡ W.lender out.old }
     ensures ok { OnOk result (Accepts (W.bytes out.old) (W.bytes out.new) (spaces gap ++ text.now) (W.failures out.old) (W.failures out.new)) }
@@ -26,6 +26,7 @@ pub fn write_gap_and_text<W: Render>(out: &mut W, gap: usize, text: &str) -> Res
 }
 
 // Writes so many spaces, or fails after a beginning of them.
+#[inline(always)]
 fn write_spaces<W: Render>(out: &mut W, count: usize) -> Result<(), W::Error>
     ensures same_lender { W.lender out.new ≡ W.lender out.old }
     ensures ok { OnOk result (Accepts (W.bytes out.old) (W.bytes out.new) (spaces count) (W.failures out.old) (W.failures out.new)) }

@@ -4,7 +4,5 @@ pub mod Stacks
 pub mod Probes
 pub mod Queues
 pub mod Shown
-pub mod Ways
-pub mod Fronts
-pub mod Holding
-pub mod Resuming
+pub mod Sums
+pub mod Summaries

@@ -1,12 +1,13 @@
 -- Stacks as tasks: what is pushed, popped, cut and read downwards.
 use Rattle.std.proofs.Common.{◌≡◌, ℕ, ◌+◌, ◌-◌, ◌<◌, ◌≤◌, List, [], ◌∷◌, ◌++◌, length, refl, ap, sym, ◌∙◌, append_assoc, append-nil, arith, take, drop, get_or, length-append, length-drop}
-use Rattle.std.proofs.lemmas.List.{map-append, take_all, take_more, drop_at, drop-append-le, nil_from_length, take-append-drop, length-take}
+use Rattle.std.proofs.lemmas.List.{map-append, take_all, take_more, drop_at, drop-append-le, nil_from_length, take-append-drop, length-take, length-take-le}
 use Rattle.prettyless_model.specs.Tree.{Tree}
 use Rattle.prettyless_model.specs.Layout.{entry, next_indent}
 use Rattle.prettyless_step.specs.Frames.{framed, lowest, spread, Rises}
-use Rattle.prettyless_step.specs.Stack.{Task, make_task, downwards, task, framed_tasks, stack_of, follow, nodes}
+use Rattle.prettyless_step.specs.Stack.{Task, make_task, downwards, task, framed_tasks, stack_of, follow, nodes, unread, Reads}
 use Rattle.prettyless_step.specs.declared.command.Command.{Command}
 use Rattle.prettyless_step.specs.declared.command.Frame.{Frame}
+use Rattle.prettyless_step.specs.declared.stack.Cursor.{Cursor}
 use Rattle.prettyless_step.specs.declared.stack.Stack.{Stack}
 use Rattle.prettyless_step.proofs.Frames.{spread-append, length-spread, spread_at, spread_open, spread_take, rises_under, take_last}
 
@@ -18,6 +19,10 @@ downwards_push g (y ∷ xs) x = ap (λ (z : List Task). z ++ g y ∷ []) (downwa
 downwards-append : {A : Type 0} (g : A → Task) (xs ys : List A) → downwards g (xs ++ ys) ≡ downwards g ys ++ downwards g xs
 downwards-append g [] ys = sym (append-nil (downwards g ys))
 downwards-append g (x ∷ xs) ys = ap (λ (z : List Task). z ++ g x ∷ []) (downwards-append g xs ys) ∙ append_assoc (downwards g ys) (downwards g xs) (g x ∷ [])
+
+-- the tasks of the last items, and then those of the first n
+downwards_parts : {A : Type 0} (g : A → Task) (xs : List A) (n : ℕ) → downwards g xs ≡ downwards g (drop n xs) ++ downwards g (take n xs)
+downwards_parts g xs n = sym (ap (downwards g) (take-append-drop n xs)) ∙ downwards-append g (take n xs) (drop n xs)
 
 length-downwards : {A : Type 0} (g : A → Task) (xs : List A) → length (downwards g xs) ≡ length xs
 length-downwards g [] = refl
@@ -41,6 +46,12 @@ no_tasks {N} f xs here ns b r l e = nil_from_length (framed_tasks f xs here ns) 
 -- a stack has a task for each of its nodes
 pub length-stack_of : {N : Type 0} (f : N → Tree) (s : Stack N) → length (stack_of f s) ≡ length s.nodes.items
 length-stack_of {N} f s = length-tasks f s.frames.items s.here s.nodes.items s.bottom s.rises (omega (arith, s.top, s.nodes.ok.0))
+
+-- as many tasks are unread as nodes
+pub length-unread : {N : Type 0} (f : N → Tree) (s : Stack N) (c : Cursor) → Reads s c → length (unread f s c) ≡ c.nodes
+length-unread {N} f s c reads =
+    let long = length-take-le c.nodes s.nodes.items reads.nodes in
+    length-tasks f (take c.frames s.frames.items) c.here (take c.nodes s.nodes.items) reads.covers.bottom reads.covers.rises (omega (arith, reads.covers.top, long)) ∙ long
 
 pub follow-append : (ts us : List Task) → follow (ts ++ us) ≡ follow ts ++ follow us
 follow-append ts us = map-append (λ (t : Task). entry t.indent t.tree) ts us
@@ -92,7 +103,7 @@ downwards_kept {N} f cs k above below h l =
     let g : Command N → Task = task f in
     let off : List Task = downwards g (drop k cs) in
     let on : List Task = downwards g (take k cs) in
-    let e : off ++ on ≡ above ++ below = sym (downwards-append g (take k cs) (drop k cs)) ∙ ap (downwards g) (take-append-drop k cs) ∙ h in
+    let e : off ++ on ≡ above ++ below = sym (downwards_parts g cs k) ∙ h in
     let less : length off ≤ length above = omega (arith, length-downwards g (drop k cs), length-drop k cs, length-downwards g cs, ap length h, length-append above below, l) in
     (drop (length off) above, sym (drop_at off on (length off) refl) ∙ ap (drop (length off)) e ∙ drop-append-le (length off) above below less)
 
@@ -106,5 +117,25 @@ pub kept_at_most : {N : Type 0} (f : N → Tree) (xs : List Frame) (here : Frame
 kept_at_most {N} f xs here ns k b r l h =
     let part = length-take k ns in
     omega (arith, part, length-tasks f xs here (take k ns) b r (omega (arith, part, l, h)))
+
+-- the tasks of the first n items are those at the bottom
+downwards_take : {A : Type 0} (g : A → Task) (xs : List A) (n : ℕ) → n ≤ length xs → downwards g (take n xs) ≡ drop (length (downwards g xs) - n) (downwards g xs)
+downwards_take g xs n l =
+    let off : List Task = downwards g (drop n xs) in
+    let on : List Task = downwards g (take n xs) in
+    let k : ℕ = length (downwards g xs) - n in
+    sym (ap (drop k) (downwards_parts g xs n) ∙ drop_at off on k (omega (arith, length-downwards g (drop n xs), length-drop n xs, length-downwards g xs, l)))
+
+-- the nodes at the bottom, from the last frame on
+pub tasks_bottom : {N : Type 0} (f : N → Tree) (xs : List Frame) (here : Frame) (ns : List N) (k : ℕ) → lowest xs here ≡ 0 → Rises xs here → here.below ≤ length ns → here.below ≤ k → k ≤ length ns →
+    framed_tasks f xs here (take k ns) ≡ drop (length (framed_tasks f xs here ns) - k) (framed_tasks f xs here ns)
+tasks_bottom {N} f xs here ns k b r l h m =
+    ap (downwards (task f)) (spread_take xs here ns k b r l h) ∙ downwards_take (task f) (spread xs here ns) k (omega (arith, length-spread xs here ns r l, b, m))
+
+-- what is taken off is above what is kept
+pub tasks_above : {N : Type 0} (f : N → Tree) (xs : List Frame) (here : Frame) (ns : List N) (k : ℕ) → lowest xs here ≡ 0 → Rises xs here → here.below ≤ length ns → here.below ≤ k →
+    framed_tasks f xs here ns ≡ downwards (task f) (drop k (spread xs here ns)) ++ framed_tasks f xs here (take k ns)
+tasks_above {N} f xs here ns k b r l h =
+    downwards_parts (task f) (spread xs here ns) k ∙ ap (λ (z : List Task). downwards (task f) (drop k (spread xs here ns)) ++ z) (sym (ap (downwards (task f)) (spread_take xs here ns k b r l h)))
 
 pub ruleset below_steps = (append_assoc, append-nil)

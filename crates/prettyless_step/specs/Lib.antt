@@ -2,9 +2,7 @@ pub mod View
 pub mod Frames
 pub mod Stack
 pub mod Piece
-pub mod Probing
 pub mod Steps
+pub mod Sums
+pub mod Probing
 pub mod Printing
-pub mod Ways
-pub mod Front
-pub mod Kept

@@ -59,14 +59,3 @@ Shows f m Failed (Move b pushed u) p q = ⊥
 Shows f m Failed (Choose j x y) p q = ⊥
 Shows f m (Chosen i l r) (Move b pushed u) p q = ⊥
 Shows f m (Chosen i l r) Stuck p q = ⊥
-
--- after what the code answers to a node in a mode, this holds of the tasks that are left: of the node to go on with, if there is
--- one, and those on the stack
-abbrev pub Lands : {N : Type 0} → (List Task → Type 0) → (N → Tree) → Mode → Taken N → List Task → Type 0
-Lands holds f m Quiet ts = holds ts
-Lands holds f m (Next i n) ts = holds (make_task i m (f n) ∷ ts)
-Lands holds f m (NextFlat i n) ts = holds (make_task i Flat (f n) ∷ ts)
-Lands holds f m (NextPast i n) ts = holds (make_task i m (f n) ∷ ts)
-Lands holds f m (Written piece) ts = holds ts
-Lands holds f m Failed ts = Unit {0}
-Lands holds f m (Chosen i l r) ts = Unit {0}

@@ -1,8 +1,10 @@
 -- What a probe comes to at one node, and how many nodes a probe may visit.
-use Rattle.std.specs.Prelude.{◌≡◌, ℕ, ◌+◌, ◌-◌, ◌^◌, ◌≤◌, min, Bool, List, ◌∷◌, Option, Some, None}
+use Rattle.std.specs.Prelude.{◌≡◌, ℕ, ◌+◌, ◌*◌, ◌-◌, ◌^◌, ◌<◌, ◌≤◌, min, Bool, List, [], ◌∷◌, length, Option, Some, None}
 use Rattle.prettyless_model.specs.Tree.{Tree, Group, PartialUnion, size}
 use Rattle.prettyless_model.specs.declared.column.Column.{Column}
 use Rattle.prettyless_step.specs.Stack.{Task, make_task, tasks_fit}
+use Rattle.prettyless_step.specs.Sums.{AllSummed, HaveSum}
+use Rattle.prettyless_step.specs.declared.stack.Below.{Below}
 use Rattle.prettyless_step.specs.declared.probe.Read.{Read}
 use Rattle.prettyless_step.specs.declared.probe.Read.TheVariants.{Answer, Next, Done}
 
@@ -24,6 +26,12 @@ nodes_next f (Answer b) = 0
 nodes_next f (Next i m n) = size (f n)
 nodes_next f Done = 0
 
+-- what a probe has still to do at what it has come to, so that it ends: twice the nodes, and a step more where it goes on with nothing
+abbrev pub pace : {N : Type 0} → (N → Tree) → Read N → ℕ
+pace f (Answer b) = 0
+pace f (Next i m n) = 2 * size (f n)
+pace f Done = 1
+
 -- how many nodes the probe that a node asks may visit, where k nodes follow the node
 abbrev pub asked : Tree → ℕ → ℕ
 asked (Group d) k = size d + k
@@ -33,3 +41,14 @@ asked _ k = 0
 -- a count that rose by k at least, or is the greatest value
 abbrev pub RisesBy : ℕ → ℕ → ℕ → Type 0
 RisesBy k old new = min (old + k) (2 ^ 64 - 1) ≤ new
+
+-- where all is summed up and the width is below 2^32, k probes visit two nodes each at most: one for the document, one for all that follows
+abbrev pub Few : Bool → ℕ → Tree → List Task → ℕ → ℕ → ℕ → Type 0
+Few has width d ts k old new = width < 2 ^ 32 → AllSummed has d ts → new ≤ old + 2 * k
+
+-- a probe has a sum to read at most: nothing comes next, it has no tasks of its own, and those that follow are taken up as one
+pub record OneLeft {N : Type 0} (f : N → Tree) (read : Read N) (mine under : List Task) (sums : List Below) : Type 0 where
+  pub next : nodes_next f read ≡ 0
+  pub own : mine ≡ []
+  pub whole : HaveSum under
+  pub long : length under ≤ length sums

@@ -80,8 +80,3 @@ AnswersAs None x y = x ≡ y
 -- the trees of nodes
 abbrev pub trees : {N : Type 0} → (N → Tree) → List N → List Tree
 trees f = map f
-
--- a command as tasks, if there is one
-abbrev pub tasks_next : {N : Type 0} → (N → Tree) → Option (Command N) → List Task
-tasks_next f (Some c) = task f c ∷ []
-tasks_next f None = []

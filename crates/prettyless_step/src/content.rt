@@ -16,8 +16,9 @@ use prettyless_model::options::RenderOptions;
 /// An empty text is nothing.
 #[tactic(auto, using(crate::proofs::Queues::queues))]
 pub fn put_text<'v, N: Walk>(printer: &mut Printer<N>, counted: usize, text: &'v str) -> Piece<'v>
-    ensures { Writes N.tree (piece_bytes result)
+    ensures writes { Writes N.tree (piece_bytes result)
         (at_once (lay_text printer.old.options counted text.now (state_of N.tree printer.old))) printer.old printer.new }
+    ensures commands { printer.new.commands ≡ printer.old.commands }
 {
     if text.is_empty() {
         return Piece::nothing();
@@ -60,8 +61,9 @@ pub fn put_payload<'v, N: Walk>(
     text: &'v str,
     metrics: Metrics,
 ) -> Piece<'v>
-    ensures { Writes N.tree (piece_bytes result)
+    ensures writes { Writes N.tree (piece_bytes result)
         (at_once (lay_payload printer.old.options metrics text.now (state_of N.tree printer.old))) printer.old printer.new }
+    ensures commands { printer.new.commands ≡ printer.old.commands }
 {
     let gap = if metrics.first_nonempty {
         printer.column.gap()

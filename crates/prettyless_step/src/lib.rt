@@ -8,8 +8,6 @@
 mod choice;
 pub mod command;
 pub mod content;
-pub mod front;
-pub mod kept;
 pub mod pending;
 pub mod piece;
 pub mod printer;
@@ -17,6 +15,5 @@ pub mod probe;
 pub mod queue;
 pub mod stack;
 pub mod step;
-pub mod stepper;
+mod summed;
 pub mod walk;
-pub mod way;

@@ -1,17 +1,18 @@
 //! The probe: whether a node fits the line with what follows it.
-ghost use Rattle.std.specs.Prelude.{◌≡◌, ◌++◌, ◌∷◌, [], IfOk, OnOk, IfSome, MatchOption, List, Bool, false, ◌+◌, ◌<◌, ◌≤◌, ℕ, ⊤, if◌then◌else◌};
+ghost use Rattle.std.specs.Prelude.{◌≡◌, ◌++◌, ◌∷◌, [], IfOk, OnOk, IfSome, MatchOption, List, false, ◌+◌, ◌<◌, ◌≤◌, ⊤, if◌then◌else◌};
 ghost use Rattle.prettyless_model.specs.Tree.{WeakLine, size};
 ghost use Rattle.prettyless_model.specs.Column.{nested, padding_fits};
 ghost use Rattle.prettyless_model.specs.Look.{answer_of, by_mode, look, look_text, payload_begins};
 ghost use Rattle.prettyless_model.specs.Layout.{rest_fits};
 ghost use Rattle.prettyless_step.specs.declared.probe.Read.TheVariants.{Next};
-ghost use Rattle.prettyless_step.specs.Probing.{ReadsAs, RisesBy, nodes_next, read_of};
-ghost use Rattle.prettyless_step.specs.Stack.{AnswersAs, Reads, Task, follow, in_break, make_task, nodes, stack_of, task, tasks_fit, unread, tasks_next};
-ghost use Rattle.prettyless_step.specs.Ways.{column_after as after, columns_fit as ends_within};
+ghost use Rattle.prettyless_step.specs.Probing.{Few, ReadsAs, RisesBy, nodes_next, read_of};
+ghost use Rattle.prettyless_step.specs.Sums.{IsSummed};
+ghost use Rattle.prettyless_step.specs.Stack.{AnswersAs, Reads, Task, follow, in_break, make_task, nodes, stack_of, task, tasks_fit, unread};
 
 use crate::choice::{by_column, by_nesting, either};
 use crate::command::{Command, nested_indent};
 use crate::stack::{Cursor, Stack};
+use crate::summed::visit_by_sums;
 use crate::walk::{View, Walk};
 use prettyless_model::column::Column;
 use prettyless_model::metrics::Metrics;
@@ -25,24 +26,6 @@ pub struct Line {
     pub column: Column,
     /// Whether a line suffix is pending.
     pub pending: bool,
-}
-
-/// The column after so many columns of content, or as it was where there are none.
-pub(crate) fn column_after(columns: usize, column: Column) -> Column
-    ensures { result ≡ after columns column }
-{
-    if columns == 0 {
-        return column;
-    }
-    column.committed(columns)
-}
-
-/// Whether so many columns of content end within the width; where there are none they do.
-#[inline(always)]
-pub(crate) fn columns_fit(width: usize, columns: usize, column: Column) -> bool
-    ensures { result ≡ ends_within width columns column }
-{
-    columns == 0 || column.committed(columns).position <= width
 }
 
 // Reads content: an empty text is nothing, another commits the column.
@@ -138,7 +121,7 @@ fn branch<N: Copy>(mode: Mode, first: N, second: N) -> N
 // Looks at one node. The nodes below it are looked at next: the first is answered, and a second one is now on the stack.
 #[inline(always)]
 #[tactic(auto, using(crate::proofs::Probes::looks))]
-fn probe_one<N: Walk>(
+pub(crate) fn probe_one<N: Walk>(
     width: usize,
     line: &mut Line,
     indent: usize,
@@ -278,7 +261,7 @@ fn visit_all<N: Walk>(
 
 /// Whether a node, laid at this indent and in this mode from where the line is, stays within the width together with what
 /// follows it, up to the first line end. `stack` is only a place to work in. The nodes that it visits are counted in `probes`: one at
-/// least.
+/// least, and two at most where all is summed up.
 #[tactic(auto, using(crate::proofs::Probes::probe_fits))]
 pub fn probe<N: Walk>(
     width: usize,
@@ -290,52 +273,20 @@ pub fn probe<N: Walk>(
     stack: &mut Stack<N>,
     probes: &mut u64,
 ) -> Result<bool, AllocError>
+    requires { IsSummed N.HAS_SUMMARIES N.tree commands.now }
     ensures answer { IfOk result
         (λ r. r ≡ answer_of (look width (N.tree node) indent mode start.column start.pending)
         (λ c p. rest_fits width (follow (stack_of N.tree commands.now)) c p)) }
     ensures rises { probes.old ≤ probes.new }
     ensures counted { probes.new ≤ probes.old + (size (N.tree node) + nodes (stack_of N.tree commands.now)) }
     ensures asked { OnOk result (RisesBy 1 probes.old probes.new) }
+    ensures few { Few N.HAS_SUMMARIES width (N.tree node) (stack_of N.tree commands.now) 1 probes.old probes.new }
 {
     stack.clear();
     let first = Command { indent, mode, node };
-    visit_all(
-        width,
-        start,
-        first,
-        commands,
-        commands.cursor(),
-        stack,
-        probes,
-    )
-}
-
-/// Whether a node, if there is one, what is on the stack, and what follows both stay within the width from where the line is, up to the
-/// first line end. The nodes that it visits are counted in `probes`.
-pub(crate) fn probe_rest<N: Walk>(
-    width: usize,
-    start: Line,
-    next: Option<Command<N>>,
-    commands: &Stack<N>,
-    stack: &mut Stack<N>,
-    probes: &mut u64,
-) -> Result<bool, AllocError>
-    ensures answer { IfOk result (λ r. r
-        ≡ tasks_fit width (tasks_next N.tree next ++ (stack_of N.tree stack.old ++ in_break (stack_of N.tree commands.now))) start.column start.pending) }
-    ensures rises { probes.old ≤ probes.new }
-    ensures counted { probes.new
-        ≤ probes.old + (nodes (tasks_next N.tree next) + (nodes (stack_of N.tree stack.old) + nodes (stack_of N.tree commands.now))) }
-    ensures asked { OnOk result (IfSome next (λ _. RisesBy 1 probes.old probes.new)) }
-{
-    let mut below = commands.cursor();
-    let first = match next {
-        Some(first) => first,
-        None => {
-            let Some(first) = next_unread(commands, &mut below, stack) else {
-                return Ok(start.column.padding_fits(width, start.pending));
-            };
-            first
-        }
-    };
+    let below = commands.cursor();
+    if N::has_summaries() && width <= u32::MAX as usize {
+        return visit_by_sums(width, start, first, commands, below, stack, probes);
+    }
     visit_all(width, start, first, commands, below, stack, probes)
 }

@@ -47,6 +47,14 @@ impl<N: Copy> Queue<N> {
         &self.nodes[self.start..]
     }
 
+    /// All of them, the oldest first.
+    #[inline(always)]
+    pub fn all(&self) -> &[N]
+        ensures { result.now ≡ self.now.nodes.items }
+    {
+        &self.nodes
+    }
+
     /// Adds one, which is pending.
     #[inline(always)]
     pub fn push(&mut self, node: N) -> Result<(), AllocError>

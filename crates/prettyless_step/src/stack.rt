@@ -6,7 +6,15 @@ ghost use Rattle.prettyless_step.specs.Frames.{Rises, Rises-prop, lowest};
 use crate::command::{Command, Frame};
 use crate::walk::Walk;
 use prettyless_model::mode::Mode;
+use prettyless_summary::summary::Summary;
 use std::alloc::{AllocError, Global};
+
+/// What a probe reads of a node in Break and of those below it: what their sum reads, and then so many nodes at the bottom.
+#[derive(Clone, Copy)]
+pub struct Below {
+    pub sum: Summary,
+    pub left: usize,
+}
 
 /// Nodes that are still to be laid, the next one last.
 ///
@@ -16,6 +24,8 @@ pub struct Stack<N> {
     nodes: Vec<N>,
     frames: Vec<Frame>,
     here: Frame,
+    /// The sum of each node and of those below it, where nodes have summaries.
+    sums: Vec<Below>,
     pub ghost bottom: { lowest frames.items here ≡ 0 },
     pub ghost rises: { Rises frames.items here } by { Rises-prop frames.items here },
     pub ghost top: { here.below ≤ vec_len nodes },
@@ -31,13 +41,15 @@ pub struct Cursor {
 }
 
 impl<N: Walk> Stack<N> {
-    ghost use Rattle.std.specs.Prelude.{◌∷◌, ◌++◌, ◌<◌, [], List, length, IsTrue, IsFalse, OnOk, MatchOption};
+    ghost use Rattle.std.specs.Prelude.{◌∷◌, ◌++◌, ◌<◌, [], List, length, IsTrue, IsFalse, OnOk, MatchOption, ℕ, ⊤, ◌+◌, take, if◌then◌else◌};
     ghost use Rattle.prettyless_model.specs.Layout.{next_indent as next_indent_of};
     ghost use Rattle.prettyless_step.specs.Stack.{Reads, Task, follow, make_task, stack_of, task, tasks, trees, unread};
+    ghost use Rattle.prettyless_step.specs.Sums.{AreSums, HaveSum, IsSummed, SumsUp, bottom};
 
     /// An empty one. It takes no memory.
     pub fn new(alloc: Global) -> Self
-        ensures { stack_of N.tree result ≡ [] }
+        ensures empty { stack_of N.tree result ≡ [] }
+        ensures summed { IsSummed N.HAS_SUMMARIES N.tree result }
     {
         Stack {
             nodes: Vec::new(alloc),
@@ -47,6 +59,7 @@ impl<N: Walk> Stack<N> {
                 mode: Mode::Break,
                 below: 0,
             },
+            sums: Vec::new(alloc),
         }
     }
 
@@ -65,6 +78,9 @@ impl<N: Walk> Stack<N> {
         self.nodes.clear();
         self.frames.clear();
         self.here.below = 0;
+        if N::has_summaries() {
+            self.sums.clear();
+        }
     }
 
     // Whether the topmost frame has this indent and this mode.
@@ -83,6 +99,7 @@ impl<N: Walk> Stack<N> {
         requires { self.old.here.below < vec_len self.old.nodes }
         ensures same { OnOk result (stack_of N.tree self.new ≡ stack_of N.tree self.old) }
         ensures opened { OnOk result ((self.new.here.indent ≡ indent) × (self.new.here.mode ≡ mode)) }
+        ensures summed { OnOk result (IsSummed N.HAS_SUMMARIES N.tree self.old → IsSummed N.HAS_SUMMARIES N.tree self.new) }
     {
         self.frames.push(self.here)?;
         self.here = Frame {
@@ -93,19 +110,67 @@ impl<N: Walk> Stack<N> {
         Ok(())
     }
 
+    // The sum of a node and of those below it, when it is put on top.
+    #[inline]
+    fn sum_with(&self, node: &N) -> Below
+        requires { IsTrue N.HAS_SUMMARIES }
+        ensures { (i : ℕ) (m : Mode) → IsSummed N.HAS_SUMMARIES N.tree self.now
+            → SumsUp result (make_task i m (N.tree node.now) ∷ stack_of N.tree self.now) }
+    {
+        let height = self.nodes.len();
+        let Some(own) = node.known(Mode::Break) else {
+            return Below {
+                sum: Summary::nothing(),
+                left: height + 1,
+            };
+        };
+        let alone = Below {
+            sum: own,
+            left: height,
+        };
+        let Some(below) = self.sums.last() else {
+            return alone;
+        };
+        match own.then(below.sum) {
+            Some(sum) => Below {
+                sum,
+                left: below.left,
+            },
+            None => alone,
+        }
+    }
+
+    // Puts the sum of a node and of those below it on top, before the node itself.
+    #[inline(always)]
+    fn push_sum(&mut self, node: &N) -> Result<(), AllocError>
+        ensures sums { OnOk result ((i : ℕ) (m : Mode) → IsSummed N.HAS_SUMMARIES N.tree self.old
+            → AreSums self.new.sums.items (make_task i m (N.tree node.now) ∷ stack_of N.tree self.old)) }
+        ensures long { OnOk result (length self.new.sums.items ≡ length self.old.sums.items + (if N.HAS_SUMMARIES then 1 else 0)) }
+        ensures others { self.new ≡ record self.old { sums = self.new.sums } }
+    {
+        if N::has_summaries() {
+            let sum = self.sum_with(node);
+            self.sums.push(sum)?;
+        }
+        Ok(())
+    }
+
     // Puts a node on top, in the topmost frame.
     #[inline(always)]
     fn push_here(&mut self, node: N) -> Result<(), AllocError>
-        ensures { OnOk result (stack_of N.tree self.new
+        ensures pushed { OnOk result (stack_of N.tree self.new
             ≡ make_task self.old.here.indent self.old.here.mode (N.tree node) ∷ stack_of N.tree self.old) }
+        ensures summed { OnOk result (IsSummed N.HAS_SUMMARIES N.tree self.old → IsSummed N.HAS_SUMMARIES N.tree self.new) }
     {
+        self.push_sum(&node)?;
         self.nodes.push(node)?;
         Ok(())
     }
 
     // Puts a node on top, in a frame of its own. It takes the place of the topmost one, if that has no node.
     fn push_framed(&mut self, indent: usize, mode: Mode, node: N) -> Result<(), AllocError>
-        ensures { OnOk result (stack_of N.tree self.new ≡ make_task indent mode (N.tree node) ∷ stack_of N.tree self.old) }
+        ensures pushed { OnOk result (stack_of N.tree self.new ≡ make_task indent mode (N.tree node) ∷ stack_of N.tree self.old) }
+        ensures summed { OnOk result (IsSummed N.HAS_SUMMARIES N.tree self.old → IsSummed N.HAS_SUMMARIES N.tree self.new) }
     {
         if self.here.below < self.nodes.len() {
             self.open(indent, mode)?;
@@ -119,7 +184,8 @@ impl<N: Walk> Stack<N> {
     /// Puts a node on top.
     #[inline(always)]
     pub fn push(&mut self, indent: usize, mode: Mode, node: N) -> Result<(), AllocError>
-        ensures { OnOk result (stack_of N.tree self.new ≡ make_task indent mode (N.tree node) ∷ stack_of N.tree self.old) }
+        ensures pushed { OnOk result (stack_of N.tree self.new ≡ make_task indent mode (N.tree node) ∷ stack_of N.tree self.old) }
+        ensures summed { OnOk result (IsSummed N.HAS_SUMMARIES N.tree self.old → IsSummed N.HAS_SUMMARIES N.tree self.new) }
     {
         if self.shares(indent, mode) {
             return self.push_here(node);
@@ -133,6 +199,7 @@ impl<N: Walk> Stack<N> {
         requires { self.old.here.below ≡ vec_len self.old.nodes }
         ensures same { stack_of N.tree self.new ≡ stack_of N.tree self.old }
         ensures nodes { self.new.nodes ≡ self.old.nodes }
+        ensures summed { IsSummed N.HAS_SUMMARIES N.tree self.old → IsSummed N.HAS_SUMMARIES N.tree self.new }
         ensures more { IsTrue result → self.new.here.below < vec_len self.new.nodes }
         ensures none { IsFalse result → vec_len self.new.nodes ≡ 0 }
     {
@@ -145,12 +212,25 @@ impl<N: Walk> Stack<N> {
         }
     }
 
+    // Drops the sums of nodes that were taken off.
+    #[inline(always)]
+    fn cut_sums(&mut self)
+        ensures sums { self.new.sums.items
+            ≡ (if N.HAS_SUMMARIES then take (vec_len self.old.nodes) self.old.sums.items else self.old.sums.items) }
+        ensures others { self.new ≡ record self.old { sums = self.new.sums } }
+    {
+        if N::has_summaries() {
+            self.sums.truncate(self.nodes.len());
+        }
+    }
+
     // Takes the node on top, if it is in the topmost frame.
     #[inline(always)]
     fn pop_here(&mut self) -> Option<Command<N>>
-        ensures { MatchOption result
+        ensures popped { MatchOption result
             ((self.old.here.below ≡ vec_len self.old.nodes) × (self.new ≡ self.old))
             (λ c. stack_of N.tree self.old ≡ task N.tree c ∷ stack_of N.tree self.new) }
+        ensures summed { IsSummed N.HAS_SUMMARIES N.tree self.old → IsSummed N.HAS_SUMMARIES N.tree self.new }
     {
         if self.here.below == self.nodes.len() {
             return None;
@@ -158,6 +238,7 @@ impl<N: Walk> Stack<N> {
         let Some(node) = self.nodes.pop() else {
             unreachable!()
         };
+        self.cut_sums();
         Some(Command {
             indent: self.here.indent,
             mode: self.here.mode,
@@ -168,9 +249,10 @@ impl<N: Walk> Stack<N> {
     /// Takes the node on top.
     #[inline(always)]
     pub fn pop(&mut self) -> Option<Command<N>>
-        ensures { MatchOption result
+        ensures popped { MatchOption result
             ((stack_of N.tree self.old ≡ []) × (stack_of N.tree self.new ≡ []))
             (λ c. stack_of N.tree self.old ≡ task N.tree c ∷ stack_of N.tree self.new) }
+        ensures summed { IsSummed N.HAS_SUMMARIES N.tree self.old → IsSummed N.HAS_SUMMARIES N.tree self.new }
     {
         if let Some(next) = self.pop_here() {
             return Some(next);
@@ -183,7 +265,8 @@ impl<N: Walk> Stack<N> {
 
     /// Puts nodes on top, so that the first of them is the next one.
     pub fn push_each(&mut self, indent: usize, mode: Mode, nodes: &[N]) -> Result<(), AllocError>
-        ensures { OnOk result (stack_of N.tree self.new ≡ tasks indent mode (trees N.tree nodes.now) ++ stack_of N.tree self.old) }
+        ensures pushed { OnOk result (stack_of N.tree self.new ≡ tasks indent mode (trees N.tree nodes.now) ++ stack_of N.tree self.old) }
+        ensures summed { OnOk result (IsSummed N.HAS_SUMMARIES N.tree self.old → IsSummed N.HAS_SUMMARIES N.tree self.new) }
     {
         let mut k = nodes.len();
         while k > 0 {
@@ -202,14 +285,17 @@ impl<N: Walk> Stack<N> {
         ensures here { self.new.here ≡ self.old.here }
         ensures nodes { vec_len self.old.nodes ≤ kept → vec_len self.new.nodes ≡ vec_len self.old.nodes }
         ensures cut { kept ≤ vec_len self.old.nodes → vec_len self.new.nodes ≡ kept }
+        ensures summed { IsSummed N.HAS_SUMMARIES N.tree self.old → IsSummed N.HAS_SUMMARIES N.tree self.new }
     {
         self.nodes.truncate(kept);
+        self.cut_sums();
     }
 
     /// Keeps this many nodes at the bottom.
     pub fn cut(&mut self, kept: usize)
-        ensures { (above below : List Task) → stack_of N.tree self.old ≡ above ++ below → length below ≡ kept
+        ensures cut { (above below : List Task) → stack_of N.tree self.old ≡ above ++ below → length below ≡ kept
             → stack_of N.tree self.new ≡ below }
+        ensures summed { IsSummed N.HAS_SUMMARIES N.tree self.old → IsSummed N.HAS_SUMMARIES N.tree self.new }
     {
         'frames: while kept < self.here.below {
             self.keep(self.here.below);
@@ -254,6 +340,7 @@ impl<N: Walk> Stack<N> {
         requires read { cursor.old.here.below ≡ cursor.old.nodes }
         ensures of_this { Reads self.now cursor.new }
         ensures same { unread N.tree self.now cursor.new ≡ unread N.tree self.now cursor.old }
+        ensures nodes { cursor.new.nodes ≡ cursor.old.nodes }
         ensures more { IsTrue result → cursor.new.here.below < cursor.new.nodes }
         ensures none { IsFalse result → cursor.new.nodes ≡ 0 }
     {
@@ -291,7 +378,7 @@ impl<N: Walk> Stack<N> {
         requires { Reads self.now cursor.old }
         ensures of_this { Reads self.now cursor.new }
         ensures unread { MatchOption result
-            (unread N.tree self.now cursor.old ≡ [])
+            ((unread N.tree self.now cursor.old ≡ []) × (unread N.tree self.now cursor.new ≡ []))
             (λ c. unread N.tree self.now cursor.old ≡ task N.tree c ∷ unread N.tree self.now cursor.new) }
     {
         if let Some(next) = self.read_here(cursor) {
@@ -301,5 +388,69 @@ impl<N: Walk> Stack<N> {
             return None;
         }
         self.read_here(cursor)
+    }
+
+    /// The sum of what is not read yet, where it takes up a node at least. It does where all of that is taken up as one, if it is a node.
+    #[inline]
+    pub fn sum_of(&self, cursor: &Cursor) -> Option<Below>
+        requires of_this { Reads self.now cursor.now }
+        requires summed { AreSums self.now.sums.items (unread N.tree self.now cursor.now) }
+        ensures { MatchOption result
+            (length (unread N.tree self.now cursor.now) ≤ length self.now.sums.items → HaveSum (unread N.tree self.now cursor.now)
+            → unread N.tree self.now cursor.now ≡ [])
+            (λ b. SumsUp b (unread N.tree self.now cursor.now) × (b.left < length (unread N.tree self.now cursor.now))) }
+    {
+        let height = cursor.nodes;
+        if height == 0 || height > self.sums.len() {
+            return None;
+        }
+        let below = self.sums[height - 1];
+        if below.left < height {
+            Some(below)
+        } else {
+            None
+        }
+    }
+
+    // Leaves out the nodes of the cursor's frame that are not read yet, down to a height.
+    #[inline(always)]
+    fn skip_here(&self, cursor: &mut Cursor, left: usize)
+        requires of_this { Reads self.now cursor.old }
+        requires below { cursor.old.here.below ≤ left }
+        requires left { left ≤ cursor.old.nodes }
+        ensures of_this { Reads self.now cursor.new }
+        ensures unread { unread N.tree self.now cursor.new ≡ bottom left (unread N.tree self.now cursor.old) }
+        ensures others { cursor.new ≡ record cursor.old { nodes = left } }
+    {
+        cursor.nodes = left;
+    }
+
+    // Leaves out all nodes.
+    #[inline(always)]
+    fn skip_all(&self, cursor: &mut Cursor)
+        ensures of_this { Reads self.now cursor.new }
+        ensures unread { unread N.tree self.now cursor.new ≡ [] }
+    {
+        cursor.nodes = 0;
+        cursor.frames = 0;
+        cursor.here.below = 0;
+    }
+
+    /// Leaves out all that is not read yet but so many nodes at the bottom.
+    pub fn skip_to(&self, cursor: &mut Cursor, left: usize)
+        requires of_this { Reads self.now cursor.old }
+        requires left { left ≤ length (unread N.tree self.now cursor.old) }
+        ensures of_this { Reads self.now cursor.new }
+        ensures unread { unread N.tree self.now cursor.new ≡ bottom left (unread N.tree self.now cursor.old) }
+    {
+        if left == 0 {
+            return self.skip_all(cursor);
+        }
+        'frames: while left < cursor.here.below {
+            let below = cursor.here.below;
+            self.skip_here(cursor, below);
+            self.leave_read(cursor);
+        }
+        self.skip_here(cursor, left);
     }
 }

@@ -1,5 +1,5 @@
 //! What the visit of one node does.
-ghost use Rattle.std.specs.Prelude.{◌≡◌, ◌++◌, ◌+◌, ◌∷◌, ◌≤◌, ◌&&◌, [], true, IfOk, IsTrue, OnOk, if◌then◌else◌};
+ghost use Rattle.std.specs.Prelude.{◌≡◌, ◌+◌, ◌∷◌, ◌≤◌, ◌&&◌, [], true, IfOk, IsTrue, OnOk, if◌then◌else◌};
 ghost use Rattle.prettyless_model.specs.Tree.{size};
 ghost use Rattle.prettyless_model.specs.Look.{by_mode};
 ghost use Rattle.prettyless_model.specs.Counts.{each_probe};
@@ -10,7 +10,8 @@ ghost use Rattle.prettyless_step.specs.Steps.{Move, at_once, break_step, counted
 ghost use Rattle.prettyless_step.specs.Piece.{piece_bytes};
 ghost use Rattle.prettyless_step.specs.declared.printer.Taken.TheVariants.{Next, NextPast};
 ghost use Rattle.prettyless_step.specs.Printing.{IsPast, Shows, Writes, following, state_of, tasks_of};
-ghost use Rattle.prettyless_step.specs.Probing.{RisesBy, asked};
+ghost use Rattle.prettyless_step.specs.Probing.{Few, RisesBy, asked};
+ghost use Rattle.prettyless_step.specs.Sums.{IsSummed};
 
 use crate::choice::{by_column, by_nesting, either};
 use crate::command::nested_indent;
@@ -36,12 +37,14 @@ fn probe_here<N: Walk>(
     mode: Mode,
     probes: &mut u64,
 ) -> Result<bool, AllocError>
+    requires { IsSummed N.HAS_SUMMARIES N.tree printer.old.commands }
     ensures answer { IfOk result (λ fit. fit ≡ probe_of printer.old.options (N.tree node) indent mode
         (following N.tree printer.old) (state_of N.tree printer.old)) }
     ensures others { printer.new ≡ record printer.old { scratch = printer.new.scratch } }
     ensures rises { probes.old ≤ probes.new }
     ensures counted { probes.new ≤ probes.old + (size (N.tree node) + nodes (tasks_of N.tree printer.old)) }
     ensures asked { OnOk result (RisesBy 1 probes.old probes.new) }
+    ensures few { Few N.HAS_SUMMARIES printer.old.options.width (N.tree node) (tasks_of N.tree printer.old) 1 probes.old probes.new }
 {
     let start = Line {
         column: printer.column,
@@ -68,6 +71,7 @@ fn partial_choice<N: Walk>(
     second: N,
     probes: &mut u64,
 ) -> Result<N, AllocError>
+    requires { IsSummed N.HAS_SUMMARIES N.tree printer.old.commands }
     ensures branch { IfOk result (λ n. N.tree n ≡ by_mode mode
         (if probe_of printer.old.options (N.tree first) indent Break (following N.tree printer.old) (state_of N.tree printer.old)
         then N.tree first else N.tree second)
@@ -76,6 +80,7 @@ fn partial_choice<N: Walk>(
     ensures rises { probes.old ≤ probes.new }
     ensures counted { probes.new ≤ probes.old + (size (N.tree first) + nodes (tasks_of N.tree printer.old)) }
     ensures asked { OnOk result (RisesBy (by_mode mode 1 0) probes.old probes.new) }
+    ensures few { Few N.HAS_SUMMARIES printer.old.options.width (N.tree first) (tasks_of N.tree printer.old) (by_mode mode 1 0) probes.old probes.new }
 {
     if let Mode::Flat = mode {
         return Ok(first);
@@ -101,10 +106,11 @@ fn metrics_choice<N: Walk>(printer: &Printer<N>, first: &N) -> Option<bool>
 // The end of a line, and the indent of the next.
 #[tactic(auto, using(crate::proofs::Queues::queues))]
 fn end_line<N: Walk>(printer: &mut Printer<N>, indent: usize) -> Piece<'static>
-    ensures { Writes N.tree (piece_bytes result)
+    ensures writes { Writes N.tree (piece_bytes result)
         (at_once (lay_ending printer.old.options printer.old.options.indentation_policy
         (next_indent indent (following N.tree printer.old)) (state_of N.tree printer.old)))
         printer.old printer.new }
+    ensures commands { printer.new.commands ≡ printer.old.commands }
 {
     let next = printer.commands.next_indent(indent);
     let text = printer.options.line_ending.as_str();
@@ -136,11 +142,13 @@ fn flush_line<N: Walk>(
     mode: Mode,
     node: N,
 ) -> Result<Piece<'static>, AllocError>
-    requires { some_pending (state_of N.tree printer.old).pending ≡ true }
-    ensures { IfOk result (λ piece. Writes N.tree (piece_bytes piece)
+    requires pending { some_pending (state_of N.tree printer.old).pending ≡ true }
+    requires summed { IsSummed N.HAS_SUMMARIES N.tree printer.old.commands }
+    ensures writes { IfOk result (λ piece. Writes N.tree (piece_bytes piece)
         (break_step printer.old.options (state_of N.tree printer.old).pending (N.tree node) indent mode
         (following N.tree printer.old) (state_of N.tree printer.old))
         printer.old printer.new) }
+    ensures summed { OnOk result (IsSummed N.HAS_SUMMARIES N.tree printer.new.commands) }
 {
     printer.commands.push(indent, mode, node)?;
     let gap = take_pending(printer, indent, mode)?;
@@ -160,11 +168,13 @@ fn break_line<N: Walk>(
     node: N,
     weak: bool,
 ) -> Result<Taken<'static, N>, AllocError>
-    requires { is_suppressed (N.tree node) printer.old.column ≡ (weak && printer.old.column.fresh) }
-    ensures { IfOk result (λ taken. Shows N.tree mode taken
+    requires suppressed { is_suppressed (N.tree node) printer.old.column ≡ (weak && printer.old.column.fresh) }
+    requires summed { IsSummed N.HAS_SUMMARIES N.tree printer.old.commands }
+    ensures step { IfOk result (λ taken. Shows N.tree mode taken
         (break_step printer.old.options (state_of N.tree printer.old).pending (N.tree node) indent mode
         (following N.tree printer.old) (state_of N.tree printer.old))
         printer.old printer.new) }
+    ensures summed { OnOk result (IsSummed N.HAS_SUMMARIES N.tree printer.new.commands) }
 {
     if is_pending(printer) {
         return Ok(Taken::Written(flush_line(printer, indent, mode, node)?));
@@ -186,7 +196,8 @@ fn group<N: Walk>(
     is_past: bool,
     probes: &mut u64,
 ) -> Result<Taken<'static, N>, AllocError>
-    requires { IsTrue is_past → IsPast N.tree indent (N.tree inner) printer.old }
+    requires past { IsTrue is_past → IsPast N.tree indent (N.tree inner) printer.old }
+    requires summed { IsSummed N.HAS_SUMMARIES N.tree printer.old.commands }
     ensures step { IfOk result (λ taken. Shows N.tree mode taken
         (Move [] (make_task indent (by_mode mode
         (if probe_of printer.old.options (N.tree inner) indent Flat (following N.tree printer.old) (state_of N.tree printer.old) then Flat else Break)
@@ -195,6 +206,8 @@ fn group<N: Walk>(
     ensures rises { probes.old ≤ probes.new }
     ensures counted { probes.new ≤ probes.old + (size (N.tree inner) + nodes (tasks_of N.tree printer.old)) }
     ensures asked { OnOk result (RisesBy (by_mode mode 1 0) probes.old probes.new) }
+    ensures few { Few N.HAS_SUMMARIES printer.old.options.width (N.tree inner) (tasks_of N.tree printer.old) (by_mode mode 1 0) probes.old probes.new }
+    ensures summed { OnOk result (IsSummed N.HAS_SUMMARIES N.tree printer.new.commands) }
 {
     if let Mode::Break = mode {
         if is_past {
@@ -218,6 +231,7 @@ fn partial_union<N: Walk>(
     second: N,
     probes: &mut u64,
 ) -> Result<Taken<'static, N>, AllocError>
+    requires { IsSummed N.HAS_SUMMARIES N.tree printer.old.commands }
     ensures step { IfOk result (λ taken. Shows N.tree mode taken
         (Move [] (make_task indent mode (by_mode mode
         (if probe_of printer.old.options (N.tree first) indent Break (following N.tree printer.old) (state_of N.tree printer.old)
@@ -227,6 +241,8 @@ fn partial_union<N: Walk>(
     ensures rises { probes.old ≤ probes.new }
     ensures counted { probes.new ≤ probes.old + (size (N.tree first) + nodes (tasks_of N.tree printer.old)) }
     ensures asked { OnOk result (RisesBy (by_mode mode 1 0) probes.old probes.new) }
+    ensures few { Few N.HAS_SUMMARIES printer.old.options.width (N.tree first) (tasks_of N.tree printer.old) (by_mode mode 1 0) probes.old probes.new }
+    ensures summed { OnOk result (IsSummed N.HAS_SUMMARIES N.tree printer.new.commands) }
 {
     let chosen = partial_choice(printer, indent, mode, first, second, probes)?;
     Ok(Taken::Next(indent, chosen))
@@ -248,6 +264,7 @@ fn union<N: Walk>(
     ensures printer { visits.new.printer
         ≡ counted_payload (is_rejected (decided_by_metrics printer.old.options (N.tree first) (state_of N.tree printer.old))) visits.old.printer }
     ensures probes { visits.new.probes ≡ visits.old.probes }
+    ensures others { printer.new ≡ printer.old }
 {
     match metrics_choice(printer, &first) {
         Some(true) => Ok(Taken::Next(indent, first)),
@@ -284,7 +301,8 @@ pub fn step<'v, N: Walk>(
     is_past: bool,
     visits: &mut Visits,
 ) -> Result<Taken<'v, N>, AllocError>
-    requires { IsTrue is_past → IsPast N.tree indent (N.tree node.now) printer.old }
+    requires past { IsTrue is_past → IsPast N.tree indent (N.tree node.now) printer.old }
+    requires summed { IsSummed N.HAS_SUMMARIES N.tree printer.old.commands }
     ensures step { IfOk result (λ taken. Shows N.tree mode taken
         (step_of printer.old.options (N.tree node.now) indent mode
         (following N.tree printer.old) (state_of N.tree printer.old))
@@ -294,6 +312,9 @@ pub fn step<'v, N: Walk>(
     ensures rises { visits.old.probes ≤ visits.new.probes }
     ensures counted { visits.new.probes ≤ visits.old.probes + asked (N.tree node.now) (nodes (tasks_of N.tree printer.old)) }
     ensures asked { OnOk result (RisesBy (each_probe (N.tree node.now) mode) visits.old.probes visits.new.probes) }
+    ensures few { Few N.HAS_SUMMARIES printer.old.options.width (N.tree node.now) (tasks_of N.tree printer.old) (each_probe (N.tree node.now) mode)
+        visits.old.probes visits.new.probes }
+    ensures summed { OnOk result (IsSummed N.HAS_SUMMARIES N.tree printer.new.commands) }
 {
     match node.view() {
         View::Nil | View::ExpandParent => Ok(Taken::Quiet),

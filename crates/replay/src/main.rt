@@ -3,6 +3,7 @@
 #![tactic(auto)]
 
 use prettyless::IoWrite;
+use replay_cases::outcome::Times;
 use replay_cases::request::{Ending, Request, USAGE, requested};
 use replay_cases::run::run;
 use std::io::{BufReader, BufWriter, ErrorKind, Write};
@@ -22,16 +23,17 @@ fn words<R: AllocGlobal + Env>(rt: &R) -> Result<Vec<String>, Ending> {
         .map_err(|error| Ending::Failed(io::Error::from(error)))
 }
 
-fn answer_cases<R: AllocGlobal + Input + Print>(rt: &R) -> io::Result<()> {
+fn answer_cases<R: AllocGlobal + Input + Print>(rt: &R, times: Times) -> io::Result<()> {
     let mut reader = BufReader::new(rt.alloc(), rt.reader())?;
     let mut out = BufWriter::new(rt.alloc(), io::writer(rt))?;
-    run(rt.alloc(), &mut reader, &mut IoWrite::new(&mut out))?;
+    run(rt.alloc(), times, &mut reader, &mut IoWrite::new(&mut out))?;
     out.flush()
 }
 
 fn replay<R: AllocGlobal + Env + Input + Print>(rt: &R) -> Result<(), Ending> {
     match requested(&words(rt)?).ok_or(Ending::Words)? {
-        Request::Replay => answer_cases(rt)?,
+        Request::Replay => answer_cases(rt, Times::Once)?,
+        Request::ReplayTwice => answer_cases(rt, Times::Twice)?,
         Request::Help => println!(rt; "{USAGE}")?,
     }
     Ok(())

@@ -5,6 +5,7 @@ ghost use Rattle.replay_cases.specs.Answers.{is_skipped, IsAnswer, Writes, Answe
 ghost use Rattle.replay_cases.specs.Refusals.{complaint};
 
 use crate::expected::Expected;
+use crate::outcome::Times;
 use crate::refusal::Refusal;
 use crate::replayed::replayed;
 use prettyless::Render;
@@ -29,10 +30,10 @@ fn complaint(alloc: Global, number: u64, expected: Expected) -> Result<String, A
 }
 
 // The answer to the line of this number, where memory suffices.
-fn answer_text(alloc: Global, number: u64, line: &[u8]) -> Result<String, AllocError>
+fn answer_text(alloc: Global, times: Times, number: u64, line: &[u8]) -> Result<String, AllocError>
     ensures { IfOk result (λ text. IsAnswer number line.now (string_bytes text)) }
 {
-    match replayed(alloc, line) {
+    match replayed(alloc, times, line) {
         Ok(outcome) => Ok(outcome),
         Err(Refusal::NotACase(expected)) => complaint(alloc, number, expected),
         Err(Refusal::OutOfMemory) => Err(AllocError),
@@ -53,6 +54,7 @@ fn write_line<S: Render>(out: &mut S, text: &str) -> Result<(), S::Error>
 /// the answer, and got no piece after that.
 pub fn answer<S: Render>(
     alloc: Global,
+    times: Times,
     number: u64,
     line: &[u8],
     out: &mut S,
@@ -63,7 +65,7 @@ pub fn answer<S: Render>(
     if is_skipped(line) {
         return Ok(());
     }
-    match answer_text(alloc, number, line) {
+    match answer_text(alloc, times, number, line) {
         Ok(text) => write_line(out, text.as_str()),
         Err(_) => write_line(out, "error out of memory"),
     }

@@ -10,7 +10,7 @@ mod names;
 mod offset;
 mod operand;
 mod operator;
-mod outcome;
+pub mod outcome;
 mod pointer;
 mod reading;
 mod refusal;

@@ -1,18 +1,38 @@
 ghost use Rattle.std.specs.Prelude.{◌≡◌, ◌++◌, ◌∷◌, IfOk};
 ghost use Rattle.std.specs.String.{string_bytes};
 ghost use Rattle.prettyless.specs.Layout.{layout};
+ghost use Rattle.prettyless_printer.specs.Points.{seen};
+ghost use Rattle.prettyless_printer.specs.Renders.{Renders};
 ghost use Rattle.replay_cases.specs.Cases.{case_of};
 ghost use Rattle.replay_cases.specs.Notation.{hex_word};
 ghost use Rattle.replay_cases.specs.Outcomes.{outcome_of, outcome_words};
 
 use crate::case::ReadCase;
 use crate::hexadecimal::word_of;
-use prettyless::{DocPtr, RenderError};
+use prettyless::DocPtr;
 use prettyless_model::options::RenderOptions;
-use prettyless_printer::run::render;
+use prettyless_printer::render::{render, render_over_table};
+use prettyless_sink::error::RenderError;
 use prettyless_sink::fmt_write::FmtWrite;
+use prettyless_sink::render::Render;
 use prettyless_sink::visits::Visits;
+use prettyless_step::walk::Walk;
 use std::alloc::{AllocError, Global};
+
+/// How often a case is laid out.
+#[derive(Clone, Copy, Debug, PartialEq, Eq)]
+pub enum Times {
+    Once,
+    /// The second time over a table of all of its nodes.
+    Twice,
+}
+
+// Which nodes a render begins with.
+#[derive(Clone, Copy)]
+enum Over {
+    Document,
+    Table,
+}
 
 // A word in front of the word that writes the bytes.
 fn labelled(alloc: Global, label: &str, bytes: &str) -> Result<String, AllocError>
@@ -23,8 +43,28 @@ fn labelled(alloc: Global, label: &str, bytes: &str) -> Result<String, AllocErro
     Ok(line)
 }
 
+// Renders a document in one way or the other.
+fn render_over<N: Walk, W: Render>(
+    over: Over,
+    alloc: Global,
+    node: N,
+    options: RenderOptions,
+    out: &mut W,
+    visits: &mut Visits,
+) -> Result<(), RenderError<W::Error>>
+    ensures { Renders (W.document_errors out.new) options (N.tree node)
+        (seen W.bytes W.failures W.lender out.old) (seen W.bytes W.failures W.lender out.new)
+        visits.old visits.new result }
+{
+    match over {
+        Over::Document => render(alloc, node, options, out, visits),
+        Over::Table => render_over_table(alloc, node, options, out, visits),
+    }
+}
+
 // What comes of a document, as words.
 fn outcome_with<'a, T: DocPtr<'a>>(
+    over: Over,
     alloc: Global,
     document: &T,
     options: RenderOptions,
@@ -33,7 +73,8 @@ fn outcome_with<'a, T: DocPtr<'a>>(
 {
     let mut bytes = String::new(alloc);
     let mut sink = FmtWrite::new(&mut bytes);
-    match render(
+    match render_over(
+        over,
         alloc,
         document.doc(),
         options,
@@ -46,9 +87,17 @@ fn outcome_with<'a, T: DocPtr<'a>>(
     }
 }
 
-/// What comes of a case, as words: `ok` and its layout, or `fail` and the bytes before the node that failed.
-pub fn outcome(alloc: Global, case: &ReadCase<'_>) -> Result<String, AllocError>
+/// What comes of a case, as words: `ok` and its layout, or `fail` and the bytes before the node that failed. Where it is laid out
+/// twice the same comes of both, or it has no answer.
+pub fn outcome(alloc: Global, times: Times, case: &ReadCase<'_>) -> Result<String, AllocError>
     ensures { IfOk result (λ text. string_bytes text ≡ outcome_of (case_of case.now)) }
 {
-    outcome_with(alloc, &case.document, case.options)
+    let text = outcome_with(Over::Document, alloc, &case.document, case.options)?;
+    if let Times::Twice = times {
+        let again = outcome_with(Over::Table, alloc, &case.document, case.options)?;
+        if again.as_str() != text.as_str() {
+            return Err(AllocError);
+        }
+    }
+    Ok(text)
 }

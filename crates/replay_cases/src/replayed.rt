@@ -4,7 +4,7 @@ ghost use Rattle.replay_cases.specs.Outcomes.{IsReplayed};
 ghost use Rattle.replay_cases.specs.Refusals.{RefusesLine};
 
 use crate::case::read_case;
-use crate::outcome::outcome;
+use crate::outcome::{Times, outcome};
 use crate::pointer::Place;
 use crate::refusal::Refusal;
 use bumpalo::Bump;
@@ -12,20 +12,20 @@ use prettyless::DocPlace;
 use std::alloc::Global;
 
 // What comes of the case, whose nodes will be here.
-fn replayed_in<'a>(place: &'a Place<'a>, line: &'a [u8]) -> Result<String, Refusal>
+fn replayed_in<'a>(place: &'a Place<'a>, times: Times, line: &'a [u8]) -> Result<String, Refusal>
     ensures ok { IfOk result (λ text. IsReplayed line.now (string_bytes text)) }
     ensures err { IfErr result (λ e. RefusesLine e line.now) }
 {
     let case = read_case(place, line)?;
-    Ok(outcome(place.memory(), &case)?)
+    Ok(outcome(place.memory(), times, &case)?)
 }
 
 /// What comes of the case that a line writes, as words. The memory of its document is given back.
-pub fn replayed(alloc: Global, line: &[u8]) -> Result<String, Refusal>
+pub fn replayed(alloc: Global, times: Times, line: &[u8]) -> Result<String, Refusal>
     ensures ok { IfOk result (λ text. IsReplayed line.now (string_bytes text)) }
     ensures err { IfErr result (λ e. RefusesLine e line.now) }
 {
     let bump = Bump::new(alloc);
     let place = Place::new(alloc, &bump);
-    replayed_in(&place, line)
+    replayed_in(&place, times, line)
 }

@@ -7,24 +7,28 @@ use std::io;
 
 /// How `replay` is used.
 pub const USAGE: &str =
-    "usage: replay [--help], with cases on standard input, one a line (docs/CASES.md)";
+    "usage: replay [--help | --twice], with cases on standard input, one a line (docs/CASES.md)";
 
 /// What `replay` is asked for.
 #[derive(Clone, Copy, Debug, PartialEq, Eq)]
 pub enum Request {
     /// Answers to the cases of standard input.
     Replay,
+    /// The same, with each case laid out twice.
+    ReplayTwice,
     /// The usage.
     Help,
 }
 
-/// What the words of `replay` ask for: cases, where there is none, or help, by `--help` alone.
+/// What the words of `replay` ask for: cases, where there is none, or help, by `--help` alone, or cases that are laid out twice,
+/// by `--twice` alone.
 pub fn requested(words: &[String]) -> Option<Request>
     ensures { result ≡ asked words.now }
 {
     match words {
         [] => Some(Request::Replay),
         [word] if word.as_str() == "--help" => Some(Request::Help),
+        [word] if word.as_str() == "--twice" => Some(Request::ReplayTwice),
         _ => None,
     }
 }

@@ -4,6 +4,7 @@ ghost use Rattle.prettyless_sink.specs.Sink.{IfKnown};
 ghost use Rattle.replay_cases.specs.Runs.{ReadsLine, Runs};
 
 use crate::answer::answer;
+use crate::outcome::Times;
 use prettyless::Render;
 use std::alloc::Global;
 use std::io;
@@ -32,6 +33,7 @@ fn next_line<R: BufRead>(reader: &mut R, line: &mut Vec<u8>) -> io::Result<bool>
 /// a beginning of the answers.
 pub fn run<R: BufRead, S: Render<Error = io::Error>>(
     alloc: Global,
+    times: Times,
     reader: &mut R,
     out: &mut S,
 ) -> io::Result<()>
@@ -43,7 +45,7 @@ pub fn run<R: BufRead, S: Render<Error = io::Error>>(
         if !next_line(reader, &mut line)? {
             return Ok(());
         }
-        answer(alloc, before + 1, &line, out)?;
+        answer(alloc, times, before + 1, &line, out)?;
     }
     Err(io::Error::from(ErrorKind::FileTooLarge))
 }

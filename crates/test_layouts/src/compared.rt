@@ -1,4 +1,5 @@
 //! What is compared of a document, through one pointer after the other.
+use crate::over_table::{OverTable, compare_over_table};
 use crate::reader::read;
 use crate::rendered::compare_rendered;
 use crate::shown::{compare_making, compare_shown};
@@ -22,6 +23,8 @@ pub(crate) enum Compared<'a> {
     Shown(&'a str),
     // How many of its nodes a render visits.
     Visits(Visited),
+    // What it is rendered as over a table, and how many of its nodes are visited so.
+    OverTable(OverTable<'a>),
     // The bytes by each way to render.
     Ways,
     // What comes of printing it where it fails.
@@ -50,6 +53,9 @@ where
         }
         Compared::Shown(shown) => compare_shown(rt, memory, &document, shown),
         Compared::Visits(visited) => compare_visits(rt, memory, &document, written, visited),
+        Compared::OverTable(expected) => {
+            compare_over_table(rt, memory, &document, written, expected)
+        }
         Compared::Ways => compare_ways(rt, memory, &document),
         Compared::Failing => compare_failing(rt, memory, &document),
         Compared::Before => compare_before(rt, memory, &document),

@@ -10,7 +10,13 @@ mod compared;
 #[cfg(test)]
 mod constants;
 #[cfg(test)]
+mod gear;
+#[cfg(test)]
+mod groups;
+#[cfg(test)]
 mod laws;
+#[cfg(test)]
+mod over_table;
 #[cfg(test)]
 mod pieces;
 #[cfg(test)]
@@ -31,6 +37,8 @@ mod sinks;
 mod sizes;
 #[cfg(test)]
 mod trees;
+#[cfg(test)]
+mod trials;
 #[cfg(test)]
 mod visits;
 #[cfg(test)]

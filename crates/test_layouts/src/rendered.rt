@@ -1,7 +1,8 @@
 //! What documents are rendered as.
 use crate::checks::check_at;
 use crate::compared::{Compared, Expected, compare_through};
-use prettyless::{DocPtr, FmtWrite, IndentationPolicy, LineEnding, RenderError, RenderOptions};
+use crate::gear::{Gear, render_in};
+use prettyless::{DocPtr, IndentationPolicy, LineEnding, RenderError, RenderOptions, Visits};
 use std::alloc::Global;
 use std::process::Abort;
 use std::test::Fail;
@@ -10,11 +11,18 @@ use std::test::Fail;
 fn outcome<'a, T: DocPtr<'a>>(
     memory: Global,
     document: &T,
+    gear: Gear,
     options: RenderOptions,
 ) -> Result<Result<String, String>, Fail> {
     let mut out = String::new(memory);
-    let mut sink = FmtWrite::new(&mut out);
-    match document.doc().render_raw_with(memory, options, &mut sink) {
+    match render_in(
+        gear,
+        memory,
+        document,
+        options,
+        &mut out,
+        &mut Visits::default(),
+    ) {
         Ok(()) => Ok(Ok(out)),
         Err(RenderError::Document(_)) => Ok(Err(out)),
         Err(_) => Err(Fail::new("no memory")),
@@ -52,7 +60,7 @@ fn is_printed<'a, T: DocPtr<'a>>(
     }
 }
 
-// Compares what a document is rendered as, and what it is printed as.
+// Compares what a document is rendered as in each gear, and what it is printed as.
 pub(crate) fn compare_rendered<'a, T: DocPtr<'a>>(
     rt: &impl Abort,
     memory: Global,
@@ -61,9 +69,10 @@ pub(crate) fn compare_rendered<'a, T: DocPtr<'a>>(
     written: &str,
     expected: Expected<'_>,
 ) -> Result<(), Fail> {
-    let outcome = outcome(memory, document, options)?;
-    let is_printed = is_printed(memory, document, options, expected)?;
-    let holds = is_expected(&outcome, expected) && is_printed;
+    let first = outcome(memory, document, Gear::First, options)?;
+    let second = outcome(memory, document, Gear::Second, options)?;
+    let is_rendered = is_expected(&first, expected) && is_expected(&second, expected);
+    let holds = is_rendered && is_printed(memory, document, options, expected)?;
     check_at(rt, holds, written, options.width);
     Ok(())
 }

@@ -1,8 +1,9 @@
 //! Awkward trees. All are tried in an arena, so that nothing deep is dropped.
 use crate::checks::check;
+use crate::gear::{Gear, render_in};
 use crate::places::{InArena, in_arena};
 use crate::reader::read;
-use prettyless::{DocPlace, DocPtr, FmtWrite, RenderOptions, Visits};
+use prettyless::{DocPlace, DocPtr, RenderOptions, Visits};
 use std::alloc::{AllocError, Global};
 use std::process::Abort;
 use std::test::Fail;
@@ -11,21 +12,22 @@ const TIMES: usize = 100_000;
 
 // A tree, and what it is laid out as. Both are written as texts, each with how often it is repeated.
 pub(crate) struct Tree<'a> {
-    name: &'a str,
-    width: usize,
+    pub(crate) name: &'a str,
+    pub(crate) width: usize,
     // As the reader takes it.
-    written: &'a [(&'a str, usize)],
-    layout: &'a [(&'a str, usize)],
-    visits: Visited,
+    pub(crate) written: &'a [(&'a str, usize)],
+    pub(crate) layout: &'a [(&'a str, usize)],
+    pub(crate) visits: Visited,
 }
 
 // How many nodes are visited.
 #[derive(Clone, Copy)]
-enum Visited {
+pub(crate) enum Visited {
     Any,
-    // So many by the printer, and none by probes.
-    ByPrinter(u64),
-    // Less than five by probes for each by the printer: where probes have visited more than four, what they read is kept.
+    // So many by the printer, and so many by probes.
+    Exactly(u64, u64),
+    // Less than five by probes for each by the printer: where probes visit more than sixteen, the printer goes on over a table, in
+    // which each probe visits two at most.
     FewByProbes,
 }
 
@@ -68,7 +70,7 @@ const TREES: &[Tree<'static>] = &[
         written: &[("Append Text 'p' ", 1), ("Union Append Append HardLine ", 64), ("Text 'x' ", 1),
                    ("Text 'toolong' Text 'x' ", 64)],
         layout: &[("px", 1)],
-        visits: Visited::ByPrinter(387),
+        visits: Visited::Exactly(387, 0),
     },
     // Trials in trials take no machine stack: here all but the last are rejected.
     Tree {
@@ -132,15 +134,13 @@ fn repeated(memory: Global, texts: &[(&str, usize)]) -> Result<String, AllocErro
 fn render<'a, T: DocPtr<'a>>(
     memory: Global,
     document: &T,
+    gear: Gear,
     width: usize,
     out: &mut String,
 ) -> Result<Visits, Fail> {
     let options = RenderOptions::new(width);
-    let mut sink = FmtWrite::new(out);
     let mut visits = Visits::default();
-    document
-        .doc()
-        .render_raw_counted_with(memory, options, &mut sink, &mut visits)?;
+    render_in(gear, memory, document, options, out, &mut visits)?;
     Ok(visits)
 }
 
@@ -153,7 +153,7 @@ fn compare_layout(rt: &impl Abort, memory: Global, tree: &Tree<'_>, out: &str) -
 fn compare_visits(rt: &impl Abort, tree: &Tree<'_>, visits: Visits) {
     let as_expected = match tree.visits {
         Visited::Any => true,
-        Visited::ByPrinter(printer) => visits.printer == printer && visits.probes == 0,
+        Visited::Exactly(printer, probes) => visits.printer == printer && visits.probes == probes,
         Visited::FewByProbes => visits.probes / 5 < visits.printer,
     };
     check(rt, as_expected, "the visits", tree.name);
@@ -164,26 +164,47 @@ pub(crate) fn compare<'a, D: DocPlace<'a>>(
     rt: &impl Abort,
     place: &'a D,
     tree: &Tree<'_>,
+    gear: Gear,
     written: &'a str,
 ) -> Result<(), Fail> {
     let memory = place.memory();
     let document = read(place, written)?;
     let mut out = String::new(memory);
-    let visits = render(memory, &document, tree.width, &mut out)?;
+    let visits = render(memory, &document, gear, tree.width, &mut out)?;
     compare_layout(rt, memory, tree, out.as_str())?;
     compare_visits(rt, tree, visits);
     Ok(())
 }
 
-fn compare_in_arena(rt: &impl Abort, memory: Global, tree: &Tree<'_>) -> Result<(), Fail> {
+pub(crate) fn compare_in_arena(
+    rt: &impl Abort,
+    memory: Global,
+    tree: &Tree<'_>,
+    gear: Gear,
+) -> Result<(), Fail> {
     let written = repeated(memory, tree.written)?;
-    in_arena(rt, memory, None, InArena::Tree(tree, written.as_str()))
+    in_arena(
+        rt,
+        memory,
+        None,
+        InArena::Tree(tree, gear, written.as_str()),
+    )
+}
+
+// Compares each tree. In which gear the render begins is all the same.
+pub(crate) fn compare_in_gears(
+    rt: &impl Abort,
+    memory: Global,
+    trees: &[Tree<'_>],
+) -> Result<(), Fail> {
+    for tree in trees {
+        compare_in_arena(rt, memory, tree, Gear::First)?;
+        compare_in_arena(rt, memory, tree, Gear::Second)?;
+    }
+    Ok(())
 }
 
 #[test]
 fn awkward_trees(rt: HostRuntime) -> Result<(), Fail> {
-    for tree in TREES {
-        compare_in_arena(&rt, rt.alloc(), tree)?;
-    }
-    Ok(())
+    compare_in_gears(&rt, rt.alloc(), TREES)
 }

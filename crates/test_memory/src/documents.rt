@@ -22,6 +22,8 @@ pub enum Kind {
     Macro,
     OwnedText,
     Groups,
+    GroupsInKept,
+    GroupsInFailing,
 }
 
 /// A document, and what it is laid out as at a width.
@@ -110,13 +112,30 @@ const OWNED_TEXT: Row<'static> = Row {
     layout: "a text of 23 characters\n  b",
 };
 
-/// Groups in groups, of which so many are broken that the printer keeps what its probes have read.
-pub const GROUPS: Row<'static> = Row {
+// Groups in groups, of which so many are broken that the printer goes on over a table.
+const GROUPS: Row<'static> = Row {
     name: "groups in groups",
     kind: Kind::Groups,
-    width: 20,
-    layout: "a\na\na\na\na\na\na\na\na a a a a a a a a a",
+    width: 50,
+    layout: "a\na\na\na\na\na\na\na\na\na\na\na\na\na\na\na a a a a a a a a a a a a a a a a a a a a a a a a",
 };
+
+const GROUPS_IN_KEPT: Row<'static> = Row {
+    name: "groups in groups, in alternatives that are kept",
+    kind: Kind::GroupsInKept,
+    width: 50,
+    layout: "pxxastt\na\na\na\na\na\na\na\na\na\na\na\na\na\na\na a a a a a a a a a a a a a a a a a a a a a a a a",
+};
+
+const GROUPS_IN_FAILING: Row<'static> = Row {
+    name: "groups in groups, in alternatives that fail",
+    kind: Kind::GroupsInFailing,
+    width: 50,
+    layout: "pxystu",
+};
+
+/// The documents in which the printer goes on over a table.
+pub const OVER_TABLES: &[Row<'static>] = &[GROUPS, GROUPS_IN_KEPT, GROUPS_IN_FAILING];
 
 /// The documents that are built in each place.
 pub const ROWS: &[Row<'static>] = &[
@@ -258,12 +277,34 @@ fn letter_and_line<'a, D: DocPlace<'a>>(place: &'a D) -> Result<D::Doc, BuildErr
 
 fn groups_in_groups<'a, D: DocPlace<'a>>(place: &'a D) -> Result<D::Doc, BuildError> {
     let mut nested = text(place, "a")?.into_doc()?;
-    for _ in 0..17 {
+    for _ in 0..39 {
         let front = letter_and_line(place)?;
         let both = place.alloc(Doc::Append(front, nested))?;
         nested = place.alloc(Doc::Group(both))?;
     }
     Ok(nested)
+}
+
+// An alternative with a suffix in each branch, and with this document in the first one.
+fn alternative<'a, D: DocPlace<'a>>(place: &'a D, inner: D::Doc) -> Result<D::Doc, BuildError> {
+    let front = joined(suffix(place, "t"), text(place, "x"))?.into_doc()?;
+    let first = place.alloc(Doc::Append(front, inner))?;
+    let second = joined(suffix(place, "u"), text(place, "y"))?.into_doc()?;
+    Ok(place.alloc(Doc::Union(first, second))?)
+}
+
+// Groups in groups in an alternative in another one, with this node after the groups.
+fn groups_in_alternatives<'a, D: DocPlace<'a>>(
+    place: &'a D,
+    end: Doc<'a, D::Doc>,
+) -> Result<D::Doc, BuildError> {
+    let nested = groups_in_groups(place)?;
+    let end = place.alloc(end)?;
+    let groups = place.alloc(Doc::Append(nested, end))?;
+    let inner = alternative(place, groups)?;
+    let outer = alternative(place, inner)?;
+    let front = joined(text(place, "p"), suffix(place, "s"))?.into_doc()?;
+    Ok(place.alloc(Doc::Append(front, outer))?)
 }
 
 impl Row<'_> {
@@ -282,6 +323,8 @@ impl Row<'_> {
             Kind::Macro => of_a_macro(place),
             Kind::OwnedText => owned_text(place),
             Kind::Groups => groups_in_groups(place),
+            Kind::GroupsInKept => groups_in_alternatives(place, Doc::Nil),
+            Kind::GroupsInFailing => groups_in_alternatives(place, Doc::Fail),
         }
     }
 }

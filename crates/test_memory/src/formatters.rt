@@ -2,6 +2,7 @@
 use crate::places::Fixed;
 use crate::run::{Answer, Run, Wrong};
 use prettyless::{IoWrite, RenderOptions};
+use replay_cases::outcome::Times;
 use sexp_formatter::RunError;
 use std::alloc::Global;
 use std::io::ErrorKind;
@@ -49,7 +50,12 @@ const WITHOUT_SECOND: &[u8] = b"ok 73686f72740a73686f7274\nerror out of memory\n
 fn answer_cases(memory: Global) -> Result<Answer, Wrong> {
     let mut input = CASES;
     let mut out = Fixed::new();
-    let outcome = replay_cases::run::run(memory, &mut input, &mut IoWrite::new(&mut out));
+    let outcome = replay_cases::run::run(
+        memory,
+        Times::Once,
+        &mut input,
+        &mut IoWrite::new(&mut out),
+    );
     let written = out.as_slice();
     match outcome {
         Ok(()) if written == ANSWERS => Ok(Answer::Whole),

@@ -1,5 +1,5 @@
 //! Documents in each place: built, and laid out into an array.
-use crate::documents::{GROUPS, KEPT, ROWS, Row};
+use crate::documents::{KEPT, OVER_TABLES, ROWS, Row};
 use crate::run::{Answer, Run, Wrong};
 use arrayvec::ArrayVec;
 use prettyless::text::BuildError;
@@ -7,7 +7,7 @@ use prettyless::{Arena, BoxAllocator, Bump, DocPlace, DocPtr, RcAllocator, Rende
 use std::alloc::Global;
 
 /// A writer that takes no memory, and nothing more once it is full.
-pub type Fixed = ArrayVec<u8, 64>;
+pub type Fixed = ArrayVec<u8, 128>;
 
 /// Lays a document out.
 fn lay_out<'a, T: DocPtr<'a>>(memory: Global, document: &T, row: Row<'_>) -> Result<Answer, Wrong> {
@@ -89,18 +89,21 @@ pub fn counted_owners(memory: Global, run: &mut Run<'_>) -> Result<(), Wrong> {
     compare_rows(run, "counted owners", &RcAllocator::new(memory))
 }
 
-// These, and the document for which the printer keeps what its probes have read.
-fn compare_groups_too<'a, 's, D: DocPlace<'a>>(
+// These, and the documents in which the printer goes on over a table.
+fn compare_tables_too<'a, 's, D: DocPlace<'a>>(
     run: &mut Run<'s>,
     name: &'s str,
     place: &'a D,
 ) -> Result<(), Wrong> {
     compare_rows(run, name, place)?;
-    compare_row(run, name, place, GROUPS)
+    for row in OVER_TABLES {
+        compare_row(run, name, place, *row)?;
+    }
+    Ok(())
 }
 
 fn compare_in<'a>(run: &mut Run<'_>, arena: &'a Arena<'a>) -> Result<(), Wrong> {
-    compare_groups_too(run, "arena", arena)
+    compare_tables_too(run, "arena", arena)
 }
 
 pub fn arena(memory: Global, run: &mut Run<'_>) -> Result<(), Wrong> {

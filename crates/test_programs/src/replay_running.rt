@@ -1,6 +1,7 @@
 //! What is read and written, and what comes of readers and writers that fail. The stored run of `replay` has the lines and
 //! their answers.
 use prettyless::IoWrite;
+use replay_cases::outcome::Times;
 use replay_cases::run::run;
 use std::alloc::Global;
 use std::io;
@@ -13,7 +14,7 @@ fn ending<R: BufRead, W: Write>(
     reader: &mut R,
     writer: &mut W,
 ) -> Option<ErrorKind> {
-    let error = run(alloc, reader, &mut IoWrite::new(writer)).err()?;
+    let error = run(alloc, Times::Once, reader, &mut IoWrite::new(writer)).err()?;
     Some(error.kind())
 }
 

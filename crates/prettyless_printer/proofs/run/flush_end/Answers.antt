@@ -1,14 +1,16 @@
-use Rattle.std.proofs.Common.{◌++◌, ◌∙◌, ap, append-nil, subst}
+use Rattle.std.proofs.Common.{◌++◌, ◌∙◌, ap, append-nil, subst, sym}
 use Rattle.prettyless_model.specs.Column.{gap}
+use Rattle.prettyless_model.specs.Layout.{State, flushed}
 use Rattle.prettyless_model.specs.Spaces.{spaces}
 use Rattle.prettyless_sink.specs.Sink.{Accepts, Refuses}
 use Rattle.prettyless_model.specs.declared.mode.Mode.TheVariants.{Break}
 use Rattle.prettyless_step.specs.Stack.{tasks}
 use Rattle.prettyless_step.specs.Printing.{state_of}
+use Rattle.prettyless_printer.proofs.Standings.{state_stands}
 use Rattle.prettyless_printer.proofs.run.flush_end.Goals as goal
 
-pub returns-in-Err-write_gap_and_text : goal.returns-in-Err-write_gap_and_text
-returns-in-Err-write_gap_and_text g c =
+pub returns-in-Err-write_gap_and_text-clause-flushes : goal.returns-in-Err-write_gap_and_text-clause-flushes
+returns-in-Err-write_gap_and_text-clause-flushes g c =
     let known = g.W.Render.bytes in
     let failures = g.W.Render.failures in
     let old = c.args.out.now in
@@ -21,17 +23,20 @@ returns-in-Err-write_gap_and_text g c =
       bytes = subst (λ text. Refuses (known old) (known new) text (failures old) (failures new)) (append-nil (spaces (gap c.args.printer.now.column))) (rw c.in-Ok.ensures.gap at c.in-Err-write_gap_and_text.ensures.err);
     }
 
-pub returns-in-Ok-write_gap_and_text : goal.returns-in-Ok-write_gap_and_text
-returns-in-Ok-write_gap_and_text g c =
+pub returns-in-Ok-write_gap_and_text-clause-flushes : goal.returns-in-Ok-write_gap_and_text-clause-flushes
+returns-in-Ok-write_gap_and_text-clause-flushes g c =
     let known = g.W.Render.bytes in
     let failures = g.W.Render.failures in
     let old = c.args.out.now in
     let new = c.write_gap_and_text.new.out in
-    let put = tasks 0 Break (state_of g.N.Walk.tree c.args.printer.now).pending in
+    let f = g.N.Walk.tree in
+    let p = c.args.printer.now in
+    let before = state_stands f p in
+    let put = tasks 0 Break (state_of f p).pending in
     record {
       options = c.in-Ok.ensures.options;
-      stack = c.in-Ok.ensures.stack ∙ ap (λ ts. put ++ ts) c.requires ∙ append-nil put;
-      state = c.in-Ok.ensures.state;
+      stack = c.in-Ok.ensures.stack ∙ ap (λ ts. put ++ ts) c.requires.none ∙ append-nil put ∙ ap (λ (x : State). tasks 0 Break x.pending) before;
+      state = sym (state_stands f c.take_pending.new.printer) ∙ c.in-Ok.ensures.state ∙ ap (flushed p.options) before;
       same_lender = c.write_gap_and_text.ensures.same_lender;
       bytes = subst (λ text. Accepts (known old) (known new) text (failures old) (failures new)) (append-nil (spaces (gap c.args.printer.now.column))) (rw c.in-Ok.ensures.gap at c.in-Ok-write_gap_and_text.ensures.ok);
     }

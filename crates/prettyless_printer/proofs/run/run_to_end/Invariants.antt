@@ -1,24 +1,20 @@
-use Rattle.std.proofs.Common.{◌≡◌, IsSome}
-use Rattle.prettyless_sink.specs.Sink.{known}
+use Rattle.std.proofs.Common.{◌≡◌, []}
+use Rattle.prettyless_step.specs.Printing.{tasks_of}
 use Rattle.prettyless_step.specs.Steps.{work}
-use Rattle.prettyless_step.specs.Printing.{state_of, tasks_of}
-use Rattle.prettyless_printer.specs.Visits.{Plain, Rise, CountsAtMost}
-use Rattle.prettyless_printer.specs.AtLeast.{CountsAtLeast, stack_tally}
-use Rattle.prettyless_printer.specs.Renders.{to_end}
-use Rattle.prettyless_printer.proofs.Renders.{Finishing}
+use Rattle.prettyless_step.specs.Sums.{IsSummed}
+use Rattle.prettyless_printer.specs.Points.{point, seen, standing, state_at}
+use Rattle.prettyless_printer.specs.Renders.{Continues}
 use Rattle.prettyless_printer.proofs.run.run_to_end.Given as goal
 
 abbrev pub invariant-rounds : goal.invariant-rounds
-invariant-rounds g l = record {
-  same_lender : g.W.Render.lender l.out ≡ g.W.Render.lender l.fn.out;
-  bytes : IsSome (g.W.Render.bytes l.fn.out) → IsSome (g.W.Render.bytes l.out)
-      × Finishing g.N.Walk.tree (to_end g.N.Walk.tree l.fn.printer) l.printer (known (g.W.Render.bytes l.fn.out)) (known (g.W.Render.bytes l.out))
-      × (g.W.Render.failures l.out ≡ g.W.Render.failures l.fn.out);
-  rise : Rise l.fn.visits l.visits;
-  at_most : Plain g.N.Walk.tree l.fn.printer → Plain g.N.Walk.tree l.printer
-      × CountsAtMost (tasks_of g.N.Walk.tree l.fn.printer) (tasks_of g.N.Walk.tree l.printer) l.fn.visits l.visits;
-  at_least : CountsAtLeast (stack_tally g.N.Walk.tree l.fn.printer 0) (stack_tally g.N.Walk.tree l.printer 0) l.fn.visits l.visits;
-}
+invariant-rounds g l =
+    let f = g.N.Walk.tree in
+    let sink = seen g.W.Render.bytes g.W.Render.failures g.W.Render.lender in
+    record {
+      continues : Continues (point f l.fn.printer (sink l.fn.out) l.fn.visits) (point f l.printer (sink l.out) l.visits);
+      none : l.trials.open.items ≡ [];
+      summed : IsSummed g.N.Walk.HAS_SUMMARIES f l.printer.commands;
+    }
 
 abbrev pub decreases-rounds : goal.decreases-rounds
-decreases-rounds g l = work (tasks_of g.N.Walk.tree l.printer) (state_of g.N.Walk.tree l.printer)
+decreases-rounds g l = work (tasks_of g.N.Walk.tree l.printer) (state_at (standing g.N.Walk.tree l.printer))

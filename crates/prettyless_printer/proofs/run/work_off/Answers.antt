@@ -1,24 +1,29 @@
-use Rattle.std.proofs.Common.{◌<◌, ◌≤◌, length, arith}
+use Rattle.std.proofs.Common.{◌<◌, ◌≤◌, length, ap, arith}
 use Rattle.std.proofs.lemmas.Result.{err_from_is_err_and}
 use Rattle.prettyless_step.specs.Printing.{tasks_of}
-use Rattle.prettyless_printer.specs.Points.{point, seen}
-use Rattle.prettyless_printer.proofs.PathSteps.{run_of, run_begins, run_ends, run_broke_off, goes_on, comes_to_wait, breaks_off, fails_there, broke_anyhow}
+use Rattle.prettyless_printer.specs.declared.answer.Ran.TheVariants as ran
+use Rattle.prettyless_printer.specs.Points.{buffer_seen, point, seen}
+use Rattle.prettyless_printer.proofs.PathSteps.{run_begins, run_ends, run_broke_off, goes_on, stops, comes_to_wait, breaks_off, fails_there, broke_anyhow}
+use Rattle.prettyless_printer.specs.Open.{all_held}
+use Rattle.prettyless_printer.specs.Paths.{run_of}
+use Rattle.prettyless_printer.proofs.Shifts.{comes_alone, comes_in_choice, continues_same, none_open, path_continues}
 use Rattle.prettyless_printer.proofs.run.work_off.Goals as goal
 
 pub work-init : goal.work-init
-work-init g c = record {
-  path = run_begins g.N.Walk.tree (point c.args.printer.now (seen g.W.Render.bytes g.W.Render.failures g.W.Render.lender c.args.out.now) c.args.visits.now);
-  held = rw c.give_up.ensures.height tt;
-}
+work-init g c =
+    let a = point g.N.Walk.tree c.args.printer.now (seen g.W.Render.bytes g.W.Render.failures g.W.Render.lender c.args.out.now) c.args.visits.now in
+    record { path = run_begins a; none = c.requires.none; summed = c.requires.summed }
 
 pub work-preserved-in-Went : goal.work-preserved-in-Went
 work-preserved-in-Went g c =
     let f = g.N.Walk.tree in
     let v = c.work.printer in
     let l : 0 < length (tasks_of f v) = omega (arith, c.work-test.true, c.len.ensures) in
+    let turned = rw c.in-Went.is at c.in_ok-turn.ensures.advances in
     record {
-      path = goes_on f c.work.invariant.path l (rw c.in-Went.is at c.in_ok-next_turn.ensures.advances);
-      held = rw c.in-Went.is at c.in_ok-next_turn.ensures.leaves;
+      path = goes_on f c.work.invariant.path l turned;
+      none = c.work.invariant.none;
+      summed = c.in_ok-turn.ensures.summed;
     }
 
 pub work-preserved : goal.work-preserved
@@ -26,32 +31,52 @@ work-preserved g c =
     let f = g.N.Walk.tree in
     let v = c.work.printer in
     let l : 0 < length (tasks_of f v) = omega (arith, c.work-test.true, c.len.ensures) in
-    let waiting = comes_to_wait f c.in-Chosen.indent c.in-Chosen.first c.in-Chosen.second c.work.invariant.path l (rw c.in-Chosen.is at c.in_ok-next_turn.ensures.advances) (omega arith) in
+    let sink = seen g.W.Render.bytes g.W.Render.failures g.W.Render.lender in
+    let start = point f c.args.printer.now (sink c.args.out.now) c.args.visits.now in
+    let turned = rw c.in-Chosen.is at c.in_ok-turn.ensures.advances in
+    let waiting = comes_to_wait f c.in-Chosen.indent c.in-Chosen.first c.in-Chosen.second c.work.invariant.path l turned (omega arith) in
+    let settled = rw c.in-Done.is at c.in_ok-choose-in-Chosen.ensures.settles in
     record {
-      path = c.in_ok-choose-in-Chosen.ensures.runs (run_of f (point c.args.printer.now (seen g.W.Render.bytes g.W.Render.failures g.W.Render.lender c.args.out.now) c.args.visits.now)) waiting;
-      held = rw c.give_up-in-Chosen.ensures.height tt;
+      path = settled.1.runs (run_of start) waiting;
+      none = none_open f c.choose.new.trials.open.items settled.0;
+      summed = c.in_ok-choose-in-Chosen.ensures.summed;
     }
 
-pub returns-in-Failed : goal.returns-in-Failed
-returns-in-Failed g c =
+-- it stops before a node
+pub returns-in-Shift-clause-works : goal.returns-in-Shift-clause-works
+returns-in-Shift-clause-works g c =
     let f = g.N.Walk.tree in
     let v = c.work.printer in
-    let fails = g.W.Render.document_errors c.next_turn.new.out in
     let l : 0 < length (tasks_of f v) = omega (arith, c.work-test.true, c.len.ensures) in
-    run_broke_off f fails _ (fails_there f fails c.fail_doc.result c.work.invariant.path l (rw c.in-Failed.is at c.in_ok-next_turn.ensures.advances) c.fail_doc.ensures)
+    let sink = seen g.W.Render.bytes g.W.Render.failures g.W.Render.lender in
+    let start = point f c.args.printer.now (sink c.args.out.now) c.args.visits.now in
+    let next = point f c.turn.new.printer (sink c.turn.new.out) c.turn.new.visits in
+    let turned = rw c.in-Shift.is at c.in_ok-turn.ensures.advances in
+    record {
+      comes = comes_alone start next (all_held f c.work.trials.open.items) (buffer_seen c.work.buffer) (ap (all_held f) c.work.invariant.none) (path_continues (stops f c.work.invariant.path l turned));
+      past = rw c.in-Shift.is at c.in_ok-turn.ensures.past;
+    }
 
-pub returns-in_err-next_turn : goal.returns-in_err-next_turn
-returns-in_err-next_turn g c =
+pub returns-in-Failed-clause-works : goal.returns-in-Failed-clause-works
+returns-in-Failed-clause-works g c =
+    let f = g.N.Walk.tree in
+    let v = c.work.printer in
+    let fails = g.W.Render.document_errors c.turn.new.out in
+    let l : 0 < length (tasks_of f v) = omega (arith, c.work-test.true, c.len.ensures) in
+    run_broke_off fails _ (fails_there f fails c.fail_doc.result c.work.invariant.path l (rw c.in-Failed.is at c.in_ok-turn.ensures.advances) c.fail_doc.ensures)
+
+pub returns-in_err-turn-clause-works : goal.returns-in_err-turn-clause-works
+returns-in_err-turn-clause-works g c =
     let residual = err_from_is_err_and c.from_residual.result c.from_residual.ensures.1 in
     rw (residual.1, residual.2)
     let f = g.N.Walk.tree in
     let v = c.work.printer in
-    let fails = g.W.Render.document_errors c.next_turn.new.out in
+    let fails = g.W.Render.document_errors c.turn.new.out in
     let l : 0 < length (tasks_of f v) = omega (arith, c.work-test.true, c.len.ensures) in
-    run_broke_off f fails c.in_err-next_turn.field-0.0 (breaks_off f fails c.in_err-next_turn.field-0.0 c.work.invariant.path l c.in_err-next_turn.ensures.advances)
+    run_broke_off fails c.in_err-turn.field-0.0 (breaks_off f fails c.in_err-turn.field-0.0 c.work.invariant.path l c.in_err-turn.ensures.advances)
 
-pub returns-in_err-choose-in-Chosen : goal.returns-in_err-choose-in-Chosen
-returns-in_err-choose-in-Chosen g c =
+pub returns-in_err-choose-in-Chosen-clause-works : goal.returns-in_err-choose-in-Chosen-clause-works
+returns-in_err-choose-in-Chosen-clause-works g c =
     let residual = err_from_is_err_and c.from_residual-in_err-choose-in-Chosen.result c.from_residual-in_err-choose-in-Chosen.ensures.1 in
     rw (residual.1, residual.2)
     let f = g.N.Walk.tree in
@@ -59,13 +84,30 @@ returns-in_err-choose-in-Chosen g c =
     let fails = g.W.Render.document_errors c.choose.new.out in
     let e = c.in_err-choose-in-Chosen.field-0.0 in
     let l : 0 < length (tasks_of f v) = omega (arith, c.work-test.true, c.len.ensures) in
-    let waiting = comes_to_wait f c.in-Chosen.indent c.in-Chosen.first c.in-Chosen.second c.work.invariant.path l (rw c.in-Chosen.is at c.in_ok-next_turn.ensures.advances) (omega arith) in
-    run_broke_off f fails e
-    (broke_anyhow f fails e (c.in_err-choose-in-Chosen.ensures.runs (run_of f (point c.args.printer.now (seen g.W.Render.bytes g.W.Render.failures g.W.Render.lender c.args.out.now) c.args.visits.now)) waiting))
+    let waiting = comes_to_wait f c.in-Chosen.indent c.in-Chosen.first c.in-Chosen.second c.work.invariant.path l (rw c.in-Chosen.is at c.in_ok-turn.ensures.advances) (omega arith) in
+    run_broke_off fails e
+    (broke_anyhow fails e (c.in_err-choose-in-Chosen.ensures.settles.runs (run_of (point f c.args.printer.now (seen g.W.Render.bytes g.W.Render.failures g.W.Render.lender c.args.out.now) c.args.visits.now)) waiting))
 
-pub returns : goal.returns
-returns g c =
+pub returns-clause-works : goal.returns-clause-works
+returns-clause-works g c =
     let f = g.N.Walk.tree in
     let q = c.work.printer in
     let l : length (tasks_of f q) ≤ 0 = omega (arith, c.work-test.false, c.len.ensures) in
-    run_ends f (g.W.Render.document_errors c.work.out) tt c.work.invariant.path l
+    (ap (all_held f) c.work.invariant.none, run_ends (g.W.Render.document_errors c.work.out) ran.Done c.work.invariant.path l)
+
+-- it stops in a choice
+pub returns-in-Shift-2-clause-works : goal.returns-in-Shift-2-clause-works
+returns-in-Shift-2-clause-works g c =
+    let f = g.N.Walk.tree in
+    let v = c.work.printer in
+    let l : 0 < length (tasks_of f v) = omega (arith, c.work-test.true, c.len.ensures) in
+    let sink = seen g.W.Render.bytes g.W.Render.failures g.W.Render.lender in
+    let start = point f c.args.printer.now (sink c.args.out.now) c.args.visits.now in
+    let at = point f c.turn.new.printer (sink c.turn.new.out) c.turn.new.visits in
+    let next = point f c.choose.new.printer (sink c.choose.new.out) c.choose.new.visits in
+    let waiting = comes_to_wait f c.in-Chosen.indent c.in-Chosen.first c.in-Chosen.second c.work.invariant.path l (rw c.in-Chosen.is at c.in_ok-turn.ensures.advances) (omega arith) in
+    let settled = rw c.in-Shift-2.is at c.in_ok-choose-in-Chosen.ensures.settles in
+    record {
+      comes = comes_in_choice start start at next (all_held f c.choose.new.trials.open.items) (buffer_seen c.choose.new.buffer) c.in-Chosen.indent (f c.in-Chosen.first) (f c.in-Chosen.second) (continues_same start) waiting settled.0;
+      past = settled.1;
+    }

@@ -4,23 +4,25 @@ use Rattle.prettyless_model.specs.declared.mode.Mode.TheVariants.{Flat}
 use Rattle.prettyless_step.specs.Stack.{task}
 use Rattle.prettyless_step.specs.Piece.{piece_bytes}
 use Rattle.prettyless_step.specs.declared.printer.Taken.TheVariants as taken
-use Rattle.prettyless_printer.specs.Points.{point, seen}
+use Rattle.prettyless_printer.specs.Points.{point, seen, standing}
+use Rattle.prettyless_printer.proofs.Trying.{grows_same}
 use Rattle.prettyless_printer.proofs.Hands.{goes_down, in_hand, shown, visit}
+use Rattle.prettyless_printer.proofs.Standings.{wrote}
 use Rattle.prettyless_printer.proofs.Advancing.{advances_chosen, advances_failed, advances_refused, advances_sink_failed, advances_went}
 use Rattle.prettyless_printer.proofs.turn.turn.Goals as goal
 
 pub unreachable-requires : goal.unreachable-requires
 unreachable-requires g c =
-    omega (arith, ap length c.in_default.ensures.0)
+    omega (arith, ap length c.in_default.ensures.popped.0)
 
 pub down-init : goal.down-init
 down-init g c =
     let p = c.args.printer.now in
     record {
-      hand = in_hand g.N.Walk.tree (point p (seen g.W.Render.bytes g.W.Render.failures g.W.Render.lender c.args.out.now) c.args.visits.now) (record p { commands = c.pop.new.self })
-          (task g.N.Walk.tree c.in-Some.command) c.in-Some.ensures refl refl ([], sym (append-nil p.queue.nodes.items));
+      hand = in_hand (point g.N.Walk.tree p (seen g.W.Render.bytes g.W.Render.failures g.W.Render.lender c.args.out.now) c.args.visits.now) (standing g.N.Walk.tree (record p { commands = c.pop.new.self }))
+          (task g.N.Walk.tree c.in-Some.command) c.in-Some.ensures.popped refl refl (grows_same (standing g.N.Walk.tree p));
+      summed = c.pop.ensures.summed c.requires.summed;
       past = λ h. absurd (cc);
-      held = rw c.in-Some.ensures at c.requires.held;
     }
 
 pub down-preserved-in-Ok-Next : goal.down-preserved-in-Ok-Next
@@ -29,11 +31,11 @@ down-preserved-in-Ok-Next g c =
     let q = c.step.new.printer in
     let x = c.step.new.visits in
     let hand = c.down.invariant.hand in
-    let one = visit f x c.one_more-visits.result hand c.one_more-visits.ensures.one c.one_more-visits.ensures.rises c.step.ensures.printer c.step.ensures.rises c.step.ensures.counted in
+    let one = visit f c.down.printer x c.one_more-visits.result hand c.one_more-visits.ensures.one c.one_more-visits.ensures.rises c.step.ensures.printer c.step.ensures.rises c.step.ensures.counted in
     record {
-      hand = goes_down f q _ x c.in-Ok-Next.next_indent c.down.mode c.in-Ok-Next.next hand refl one c.in-Ok-Next.ensures.asked (shown f q c.in-Ok-Next.field-0 (taken.Next c.in-Ok-Next.next_indent c.in-Ok-Next.next) hand c.in-Ok-Next.field-0-is c.in-Ok-Next.ensures.step);
+      hand = goes_down f c.down.printer q x c.in-Ok-Next.next_indent c.down.mode c.in-Ok-Next.next hand one c.in-Ok-Next.ensures.asked (shown f c.down.printer q c.in-Ok-Next.field-0 (taken.Next c.in-Ok-Next.next_indent c.in-Ok-Next.next) hand c.in-Ok-Next.field-0-is c.in-Ok-Next.ensures.step);
+      summed = c.in-Ok-Next.ensures.summed;
       past = λ h. absurd (cc);
-      held = rw c.in-Ok-Next.field-0-is at c.in-Ok-Next.ensures.lands;
     }
 
 pub down-preserved-in-Ok-NextPast : goal.down-preserved-in-Ok-NextPast
@@ -42,12 +44,12 @@ down-preserved-in-Ok-NextPast g c =
     let q = c.step.new.printer in
     let x = c.step.new.visits in
     let hand = c.down.invariant.hand in
-    let one = visit f x c.one_more-visits.result hand c.one_more-visits.ensures.one c.one_more-visits.ensures.rises c.step.ensures.printer c.step.ensures.rises c.step.ensures.counted in
-    let told = shown f q c.in-Ok-NextPast.field-0 (taken.NextPast c.in-Ok-NextPast.next_indent c.in-Ok-NextPast.next) hand c.in-Ok-NextPast.field-0-is c.in-Ok-NextPast.ensures.step in
+    let one = visit f c.down.printer x c.one_more-visits.result hand c.one_more-visits.ensures.one c.one_more-visits.ensures.rises c.step.ensures.printer c.step.ensures.rises c.step.ensures.counted in
+    let told = shown f c.down.printer q c.in-Ok-NextPast.field-0 (taken.NextPast c.in-Ok-NextPast.next_indent c.in-Ok-NextPast.next) hand c.in-Ok-NextPast.field-0-is c.in-Ok-NextPast.ensures.step in
     record {
-      hand = goes_down f q _ x c.in-Ok-NextPast.next_indent c.down.mode c.in-Ok-NextPast.next hand refl one c.in-Ok-NextPast.ensures.asked told.0;
+      hand = goes_down f c.down.printer q x c.in-Ok-NextPast.next_indent c.down.mode c.in-Ok-NextPast.next hand one c.in-Ok-NextPast.ensures.asked told.0;
+      summed = c.in-Ok-NextPast.ensures.summed;
       past = λ _. told.1;
-      held = rw c.in-Ok-NextPast.field-0-is at c.in-Ok-NextPast.ensures.lands;
     }
 
 pub down-preserved : goal.down-preserved
@@ -56,11 +58,11 @@ down-preserved g c =
     let q = c.step.new.printer in
     let x = c.step.new.visits in
     let hand = c.down.invariant.hand in
-    let one = visit f x c.one_more-visits.result hand c.one_more-visits.ensures.one c.one_more-visits.ensures.rises c.step.ensures.printer c.step.ensures.rises c.step.ensures.counted in
+    let one = visit f c.down.printer x c.one_more-visits.result hand c.one_more-visits.ensures.one c.one_more-visits.ensures.rises c.step.ensures.printer c.step.ensures.rises c.step.ensures.counted in
     record {
-      hand = goes_down f q _ x c.in-Ok-NextFlat.next_indent Flat c.in-Ok-NextFlat.next hand refl one c.in-Ok-NextFlat.ensures.asked (shown f q c.in-Ok-NextFlat.field-0 (taken.NextFlat c.in-Ok-NextFlat.next_indent c.in-Ok-NextFlat.next) hand c.in-Ok-NextFlat.field-0-is c.in-Ok-NextFlat.ensures.step);
+      hand = goes_down f c.down.printer q x c.in-Ok-NextFlat.next_indent Flat c.in-Ok-NextFlat.next hand one c.in-Ok-NextFlat.ensures.asked (shown f c.down.printer q c.in-Ok-NextFlat.field-0 (taken.NextFlat c.in-Ok-NextFlat.next_indent c.in-Ok-NextFlat.next) hand c.in-Ok-NextFlat.field-0-is c.in-Ok-NextFlat.ensures.step);
+      summed = c.in-Ok-NextFlat.ensures.summed;
       past = λ h. absurd (cc);
-      held = rw c.in-Ok-NextFlat.field-0-is at c.in-Ok-NextFlat.ensures.lands;
     }
 
 pub returns-in-Ok-Quiet-clause-advances : goal.returns-in-Ok-Quiet-clause-advances
@@ -70,8 +72,8 @@ returns-in-Ok-Quiet-clause-advances g c =
     let q = c.step.new.printer in
     let x = c.step.new.visits in
     let hand = c.down.invariant.hand in
-    let one = visit f x c.one_more-visits.result hand c.one_more-visits.ensures.one c.one_more-visits.ensures.rises c.step.ensures.printer c.step.ensures.rises c.step.ensures.counted in
-    advances_went f q (see c.down.out) x [] hand one c.in-Ok-Quiet.ensures.asked (shown f q c.in-Ok-Quiet.field-0 taken.Quiet hand c.in-Ok-Quiet.field-0-is c.in-Ok-Quiet.ensures.step) refl
+    let one = visit f c.down.printer x c.one_more-visits.result hand c.one_more-visits.ensures.one c.one_more-visits.ensures.rises c.step.ensures.printer c.step.ensures.rises c.step.ensures.counted in
+    advances_went f (standing f q) (see c.down.out) x [] hand one c.in-Ok-Quiet.ensures.asked (wrote f _ [] c.down.printer q (shown f c.down.printer q c.in-Ok-Quiet.field-0 taken.Quiet hand c.in-Ok-Quiet.field-0-is c.in-Ok-Quiet.ensures.step)) refl
     (λ is_known. (is_known, (sym (append-nil (known (g.W.Render.bytes c.down.out))), refl)))
 
 pub returns-in-Ok-Failed-clause-advances : goal.returns-in-Ok-Failed-clause-advances
@@ -80,8 +82,8 @@ returns-in-Ok-Failed-clause-advances g c =
     let q = c.step.new.printer in
     let x = c.step.new.visits in
     let hand = c.down.invariant.hand in
-    let one = visit f x c.one_more-visits.result hand c.one_more-visits.ensures.one c.one_more-visits.ensures.rises c.step.ensures.printer c.step.ensures.rises c.step.ensures.counted in
-    advances_failed f q x hand one (shown f q c.in-Ok-Failed.field-0 taken.Failed hand c.in-Ok-Failed.field-0-is c.in-Ok-Failed.ensures.step)
+    let one = visit f c.down.printer x c.one_more-visits.result hand c.one_more-visits.ensures.one c.one_more-visits.ensures.rises c.step.ensures.printer c.step.ensures.rises c.step.ensures.counted in
+    advances_failed f c.down.printer q x hand one (shown f c.down.printer q c.in-Ok-Failed.field-0 taken.Failed hand c.in-Ok-Failed.field-0-is c.in-Ok-Failed.ensures.step)
 
 pub returns-in-Ok-Chosen-clause-advances : goal.returns-in-Ok-Chosen-clause-advances
 returns-in-Ok-Chosen-clause-advances g c =
@@ -89,29 +91,29 @@ returns-in-Ok-Chosen-clause-advances g c =
     let q = c.step.new.printer in
     let x = c.step.new.visits in
     let hand = c.down.invariant.hand in
-    let one = visit f x c.one_more-visits.result hand c.one_more-visits.ensures.one c.one_more-visits.ensures.rises c.step.ensures.printer c.step.ensures.rises c.step.ensures.counted in
-    advances_chosen f q x c.in-Ok-Chosen.indent c.in-Ok-Chosen.first c.in-Ok-Chosen.second hand one c.in-Ok-Chosen.ensures.asked
-    (shown f q c.in-Ok-Chosen.field-0 (taken.Chosen c.in-Ok-Chosen.indent c.in-Ok-Chosen.first c.in-Ok-Chosen.second) hand c.in-Ok-Chosen.field-0-is c.in-Ok-Chosen.ensures.step)
+    let one = visit f c.down.printer x c.one_more-visits.result hand c.one_more-visits.ensures.one c.one_more-visits.ensures.rises c.step.ensures.printer c.step.ensures.rises c.step.ensures.counted in
+    advances_chosen f c.down.printer q x c.in-Ok-Chosen.indent c.in-Ok-Chosen.first c.in-Ok-Chosen.second hand one c.in-Ok-Chosen.ensures.asked
+    (shown f c.down.printer q c.in-Ok-Chosen.field-0 (taken.Chosen c.in-Ok-Chosen.indent c.in-Ok-Chosen.first c.in-Ok-Chosen.second) hand c.in-Ok-Chosen.field-0-is c.in-Ok-Chosen.ensures.step)
 
-pub returns-in-Ok-clause-advances : goal.returns-in-Ok-clause-advances
-returns-in-Ok-clause-advances g c =
+pub returns-in-Ok-write_piece-clause-advances : goal.returns-in-Ok-write_piece-clause-advances
+returns-in-Ok-write_piece-clause-advances g c =
     let f = g.N.Walk.tree in
     let see = seen g.W.Render.bytes g.W.Render.failures g.W.Render.lender in
     let q = c.step.new.printer in
     let x = c.step.new.visits in
     let hand = c.down.invariant.hand in
-    let one = visit f x c.one_more-visits.result hand c.one_more-visits.ensures.one c.one_more-visits.ensures.rises c.step.ensures.printer c.step.ensures.rises c.step.ensures.counted in
-    advances_went f q (see c.write_piece.new.out) x (piece_bytes c.in-Ok-Written.piece) hand one c.in-Ok-Written.ensures.asked (shown f q c.in-Ok-Written.field-0 (taken.Written c.in-Ok-Written.piece) hand c.in-Ok-Written.field-0-is c.in-Ok-Written.ensures.step)
-    c.write_piece.ensures.same_lender c.in-Ok.ensures.ok
+    let one = visit f c.down.printer x c.one_more-visits.result hand c.one_more-visits.ensures.one c.one_more-visits.ensures.rises c.step.ensures.printer c.step.ensures.rises c.step.ensures.counted in
+    advances_went f (standing f q) (see c.write_piece.new.out) x (piece_bytes c.in-Ok-Written.piece) hand one c.in-Ok-Written.ensures.asked (wrote f _ (piece_bytes c.in-Ok-Written.piece) c.down.printer q (shown f c.down.printer q c.in-Ok-Written.field-0 (taken.Written c.in-Ok-Written.piece) hand c.in-Ok-Written.field-0-is c.in-Ok-Written.ensures.step))
+    c.write_piece.ensures.same_lender c.in-Ok-write_piece.ensures.ok
 
-pub returns-in-Err-clause-advances : goal.returns-in-Err-clause-advances
-returns-in-Err-clause-advances g c =
+pub returns-in-Err-step-clause-advances : goal.returns-in-Err-step-clause-advances
+returns-in-Err-step-clause-advances g c =
     let f = g.N.Walk.tree in
     let q = c.step.new.printer in
     let x = c.step.new.visits in
     let hand = c.down.invariant.hand in
-    let one = visit f x c.one_more-visits.result hand c.one_more-visits.ensures.one c.one_more-visits.ensures.rises c.step.ensures.printer c.step.ensures.rises c.step.ensures.counted in
-    advances_refused f q x c.in-Err.e hand one
+    let one = visit f c.down.printer x c.one_more-visits.result hand c.one_more-visits.ensures.one c.one_more-visits.ensures.rises c.step.ensures.printer c.step.ensures.rises c.step.ensures.counted in
+    advances_refused f (standing f q) x c.in-Err-step.e hand one
 
 pub returns-in-Err-write_piece-clause-advances : goal.returns-in-Err-write_piece-clause-advances
 returns-in-Err-write_piece-clause-advances g c =
@@ -120,6 +122,6 @@ returns-in-Err-write_piece-clause-advances g c =
     let q = c.step.new.printer in
     let x = c.step.new.visits in
     let hand = c.down.invariant.hand in
-    let one = visit f x c.one_more-visits.result hand c.one_more-visits.ensures.one c.one_more-visits.ensures.rises c.step.ensures.printer c.step.ensures.rises c.step.ensures.counted in
-    advances_sink_failed f q (see c.write_piece.new.out) x (piece_bytes c.in-Ok-Written.piece) c.in-Err-write_piece.e hand one (shown f q c.in-Ok-Written.field-0 (taken.Written c.in-Ok-Written.piece) hand c.in-Ok-Written.field-0-is c.in-Ok-Written.ensures.step)
+    let one = visit f c.down.printer x c.one_more-visits.result hand c.one_more-visits.ensures.one c.one_more-visits.ensures.rises c.step.ensures.printer c.step.ensures.rises c.step.ensures.counted in
+    advances_sink_failed f (standing f q) (see c.write_piece.new.out) x (piece_bytes c.in-Ok-Written.piece) c.in-Err-write_piece.e hand one (wrote f _ (piece_bytes c.in-Ok-Written.piece) c.down.printer q (shown f c.down.printer q c.in-Ok-Written.field-0 (taken.Written c.in-Ok-Written.piece) hand c.in-Ok-Written.field-0-is c.in-Ok-Written.ensures.step))
     c.write_piece.ensures.same_lender c.in-Err-write_piece.ensures.err

@@ -2,6 +2,7 @@ use Rattle.std.proofs.Common.{◌∷◌}
 use Rattle.std.specs.Prelude.{IsTrue}
 use Rattle.prettyless_step.specs.Stack.{make_task}
 use Rattle.prettyless_step.specs.Steps.{work}
+use Rattle.prettyless_step.specs.Sums.{IsSummed}
 use Rattle.prettyless_step.specs.Printing.{IsPast, state_of, tasks_of}
 use Rattle.prettyless_printer.specs.Points.{point, seen}
 use Rattle.prettyless_printer.proofs.Hands.{InHand}
@@ -12,9 +13,9 @@ invariant-down g l =
     let f = g.N.Walk.tree in
     let sink = seen g.W.Render.bytes g.W.Render.failures g.W.Render.lender in
     record {
-      hand : InHand f (point l.fn.printer (sink l.fn.out) l.fn.visits) (make_task l.indent l.mode (f l.node)) (point l.printer (sink l.out) l.visits);
+      hand : InHand (point f l.fn.printer (sink l.fn.out) l.fn.visits) (make_task l.indent l.mode (f l.node)) (point f l.printer (sink l.out) l.visits);
+      summed : IsSummed g.N.Walk.HAS_SUMMARIES f l.printer.commands;
       past : IsTrue l.is_past → IsPast f l.indent (f l.node) l.printer;
-      held : g.S.Stepper.holds l.stepper (make_task l.indent l.mode (f l.node) ∷ tasks_of f l.printer);
     }
 
 abbrev pub decreases-down : goal.decreases-down

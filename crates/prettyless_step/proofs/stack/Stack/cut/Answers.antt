@@ -11,5 +11,5 @@ frames-preserved g c = search rules depth 1
 pub keep-requires-2 : goal.keep-requires-2
 keep-requires-2 g c = search rules depth 1
 
-pub returns : goal.returns
-returns g c = grind (arith, common_steps)
+pub returns-clause-cut : goal.returns-clause-cut
+returns-clause-cut g c = grind (arith, common_steps)

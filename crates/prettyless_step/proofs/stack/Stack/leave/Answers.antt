@@ -1,6 +1,7 @@
-use Rattle.std.proofs.Common.{◌∙◌, arith}
+use Rattle.std.proofs.Common.{◌∙◌, arith, refl}
 use Rattle.prettyless_step.proofs.Frames.{lowest_left, rises_under}
 use Rattle.prettyless_step.proofs.Stacks.{tasks_left}
+use Rattle.prettyless_step.proofs.Sums.{summed_same}
 use Rattle.prettyless_step.proofs.stack.Stack.leave.Goals as goal
 
 pub invariant_of-self : goal.invariant_of-self
@@ -22,3 +23,7 @@ pub returns-in-Some-clause-more : goal.returns-in-Some-clause-more
 returns-in-Some-clause-more g c more =
     let s = c.args.self.now in
     omega (arith, (rises_under s.frames.items c.pop.new.self.items c.in-Some.frame s.here c.in-Some.ensures.items s.rises).1, c.requires)
+
+pub returns-in-Some-clause-summed : goal.returns-in-Some-clause-summed
+returns-in-Some-clause-summed g c =
+    summed_same g.N.Walk.HAS_SUMMARIES g.N.Walk.tree c.args.self.now _ (returns-in-Some-clause-same g c) refl refl

@@ -1,8 +1,9 @@
-use Rattle.std.proofs.Common.{◌∙◌, arith, sym, subst}
+use Rattle.std.proofs.Common.{◌∙◌, arith, refl, sym, subst}
 use Rattle.prettyless_step.specs.Frames.{Rises}
 use Rattle.prettyless_step.specs.declared.command.Frame.{Frame}
 use Rattle.prettyless_step.proofs.Frames.{lowest_left, rises_open}
 use Rattle.prettyless_step.proofs.Stacks.{tasks_left}
+use Rattle.prettyless_step.proofs.Sums.{summed_same}
 use Rattle.prettyless_step.proofs.stack.Stack.open.Goals as goal
 
 pub invariant_of-self-2 : goal.invariant_of-self-2
@@ -21,3 +22,7 @@ returns-clause-same g c =
     let s = c.args.self.now in
     let new : Frame = record { indent = c.args.indent; mode = c.args.mode; below = c.len.result } in
     sym (tasks_left g.N.Walk.tree c.push.new.self.items s.frames.items s.here new s.nodes.items c.in_ok-push.ensures.items (omega (arith, c.len.ensures, s.nodes.ok.0)))
+
+pub returns-clause-summed : goal.returns-clause-summed
+returns-clause-summed g c =
+    summed_same g.N.Walk.HAS_SUMMARIES g.N.Walk.tree c.args.self.now _ (returns-clause-same g c) refl refl

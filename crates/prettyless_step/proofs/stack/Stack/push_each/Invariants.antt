@@ -1,5 +1,6 @@
 use Rattle.std.proofs.Common.{◌≡◌, ◌++◌, ◌≤◌, length, drop}
 use Rattle.prettyless_step.specs.Stack.{stack_of, tasks, trees}
+use Rattle.prettyless_step.specs.Sums.{IsSummed}
 use Rattle.prettyless_step.proofs.stack.Stack.push_each.Given as goal
 
 abbrev pub invariant-loop-k : goal.invariant-loop-k
@@ -7,6 +8,7 @@ invariant-loop-k g l = record {
   within : l.k ≤ length l.nodes;
   pushed : stack_of g.N.Walk.tree l.self
       ≡ tasks l.fn.indent l.mode (trees g.N.Walk.tree (drop l.k l.nodes)) ++ stack_of g.N.Walk.tree l.fn.self;
+  summed : IsSummed g.N.Walk.HAS_SUMMARIES g.N.Walk.tree l.fn.self → IsSummed g.N.Walk.HAS_SUMMARIES g.N.Walk.tree l.self;
 }
 
 abbrev pub decreases-loop-k : goal.decreases-loop-k

@@ -1,0 +1,69 @@
+-- The shift: over a table a run stands where it stood, with the same trials open.
+use Rattle.std.proofs.Common.{◌≡◌, List, [], append-nil, Err, Result, refl, sym, arith, subst}
+use Rattle.std.specs.declared.alloc.AllocError.{AllocError}
+use Rattle.prettyless_sink.specs.Sink.{known}
+use Rattle.prettyless_sink.specs.declared.error.RenderError.{RenderError}
+use Rattle.prettyless_sink.specs.declared.error.RenderError.TheVariants.{Memory}
+use Rattle.prettyless_sink.specs.declared.visits.Visits.{Visits}
+use Rattle.prettyless_model.specs.declared.options.RenderOptions.{RenderOptions}
+use Rattle.prettyless_model.specs.Layout.{bytes_in, layout}
+use Rattle.prettyless_model.specs.Tree.{Tree}
+use Rattle.prettyless_step.specs.declared.printer.Printer.{Printer}
+use Rattle.prettyless_table.specs.Shift.{IsShifted}
+use Rattle.prettyless_printer.specs.declared.trial.OpenTrial.{OpenTrial}
+use Rattle.prettyless_printer.specs.Points.{Point, Seen, Standing, point_at, standing}
+use Rattle.prettyless_printer.specs.Open.{Held, all_held}
+use Rattle.prettyless_printer.specs.Runs.{Comes}
+use Rattle.prettyless_printer.specs.Renders.{Begins, Renders, RunsToEnd}
+use Rattle.prettyless_printer.proofs.Renders.{renders}
+use Rattle.prettyless_printer.proofs.Visits.{rise_same}
+use Rattle.prettyless_printer.proofs.Shifts.{continues_same}
+
+-- a printer over other nodes stands where this one does
+pub shifted_stands : {N M : Type 0} (f : N → Tree) (g : M → Tree) (p : Printer N) (q : Printer M) → IsShifted f g p q → standing g q ≡ standing f p
+shifted_stands {N} {M} f g p q h = λ j. record {
+  options = h.options j;
+  column = h.column j;
+  within = h.within j;
+  tasks = h.tasks j;
+  queue = h.queue j;
+  start = h.start j;
+}
+
+-- a run comes to where its printer and its trials stand, whatever their nodes
+pub comes_over : (a : Point) {us vs : List Held} {p q : Standing} (buffer s : Seen) (v : Visits) → vs ≡ us → q ≡ p
+    → Comes a us buffer (point_at p s v) → Comes a vs buffer (point_at q s v)
+comes_over a {us} {vs} {p} {q} buffer s v same stands comes =
+    subst (λ (xs : List Held). Comes a xs buffer (point_at q s v)) (sym same)
+    (subst (λ (x : Standing). Comes a us buffer (point_at x s v)) (sym stands) comes)
+
+-- nothing has changed
+pub comes_still : (a : Point) (us : List Held) (p : Standing) {b c s t : Seen} {v w : Visits} → t ≡ s → w ≡ v → c ≡ b
+    → Comes a us b (point_at p s v) → Comes a us c (point_at p t w)
+comes_still a us p {b} {c} {s} {t} {v} {w} sink visits buffer comes =
+    subst (λ (x : Seen). Comes a us x (point_at p t w)) (sym buffer)
+    (subst (λ (x : Seen). Comes a us b (point_at p x w)) (sym sink)
+    (subst (λ (x : Visits). Comes a us b (point_at p s x)) (sym visits) comes))
+
+-- a run begins without open trials
+pub comes_first : {N : Type 0} (f : N → Tree) (us : List (OpenTrial N)) (buffer : Seen) (a : Point) → us ≡ [] → Comes a (all_held f us) buffer a
+comes_first f us buffer a none =
+    subst (λ (xs : List (OpenTrial _)). Comes a (all_held f xs) buffer a) (sym none) (continues_same a)
+
+-- a run to the end, from before a document, is a render
+pub begun_renders : {A E : Type 0} (fails : E → Type 0) {o : RenderOptions} {d : Tree} {a b : Point} (r : Result A (RenderError E))
+    → Begins o d a.printer → RunsToEnd fails a b r → Renders fails o d a.sink b.sink a.visits b.visits r
+begun_renders fails {o} {d} {a} {b} r begins ran =
+    subst (λ (x : RenderOptions). Renders fails x d a.sink b.sink a.visits b.visits r) begins.options
+    (renders fails d r begins.tasks begins.state ran)
+
+-- a render that is refused memory before its first node
+pub refused_renders : {A E : Type 0} (fails : E → Type 0) (o : RenderOptions) (d : Tree) (s : Seen) (v : Visits) (e : AllocError)
+    → Renders {A = A} fails o d s s v v (Err (Memory e))
+refused_renders fails o d s v e = record {
+  same_lender = refl;
+  bytes = λ is_known. (is_known, (([], bytes_in (layout o d), refl, sym (append-nil (known s.bytes))), refl));
+  rise = rise_same v;
+  visited = record { printer = λ _. omega arith; probes = λ _. omega arith };
+  at_least = tt;
+}

@@ -1,0 +1,26 @@
+use Rattle.std.proofs.Common.{arith}
+use Rattle.std.proofs.lemmas.Result.{err_from_is_err_and}
+use Rattle.prettyless_printer.specs.declared.answer.Ran.TheVariants as ran
+use Rattle.prettyless_printer.proofs.Shifts.{broke_anyhow, done_anyhow}
+use Rattle.prettyless_printer.proofs.run.finish.Goals as goal
+
+-- the run is done
+pub returns : goal.returns
+returns g c = λ a h.
+    let fails = g.W.Render.document_errors c.go_on.new.out in
+    done_anyhow fails ran.Done tt ((rw c.in-Done.is at c.in_ok-go_on.ensures.runs) a h)
+
+-- it broke off
+pub returns-in_err-go_on : goal.returns-in_err-go_on
+returns-in_err-go_on g c =
+    let residual = err_from_is_err_and c.from_residual.result c.from_residual.ensures.1 in
+    rw (residual.1, residual.2)
+    λ a h.
+    let fails = g.W.Render.document_errors c.go_on.new.out in
+    broke_anyhow fails c.in_err-go_on.field-0.0 (c.in_err-go_on.ensures.runs a h)
+
+-- without a limit no run stops
+pub unreachable-requires : goal.unreachable-requires
+unreachable-requires g c =
+    let past = ((rw c.in-Shift.is at c.in_ok-go_on.ensures.runs) c.requires.comes.0 c.requires.comes.1).past in
+    omega (arith, past.0, past.1)

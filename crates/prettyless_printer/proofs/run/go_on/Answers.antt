@@ -1,0 +1,86 @@
+use Rattle.std.proofs.Common.{ap}
+use Rattle.std.proofs.lemmas.List.{nil_from_length}
+use Rattle.std.proofs.lemmas.Result.{err_from_is_err_and}
+use Rattle.prettyless_printer.specs.Points.{buffer_seen, point, seen}
+use Rattle.prettyless_printer.specs.Open.{all_held}
+use Rattle.prettyless_printer.proofs.Shifts.{came_alone, came_in_choice, choice_continues, choice_stopped, comes_in_choice, none_open, runs_then, some_open}
+use Rattle.prettyless_printer.proofs.run.go_on.Goals as goal
+
+-- no trial is open
+pub returns-then-is_empty-clause-runs : goal.returns-then-is_empty-clause-runs
+returns-then-is_empty-clause-runs g c = λ a h.
+    let f = g.N.Walk.tree in
+    let sink = seen g.W.Render.bytes g.W.Render.failures g.W.Render.lender in
+    let fails = g.W.Render.document_errors c.run_to_end.new.out in
+    let here = point f c.args.printer.now (sink c.args.out.now) c.args.visits.now in
+    let last = point f c.run_to_end.new.printer (sink c.run_to_end.new.out) c.run_to_end.new.visits in
+    let none = ap (all_held f) (nil_from_length c.args.trials.now.open.items (c.is_empty.ensures.none c.if-is_empty.true)) in
+    runs_then fails c.args.limit a here last (all_held f c.run_to_end.new.trials.open.items) (buffer_seen c.run_to_end.new.buffer) c.run_to_end.result
+    (came_alone a here (all_held f c.args.trials.now.open.items) (buffer_seen c.args.buffer.now) none h) c.run_to_end.ensures.runs
+
+-- some are, in a choice
+pub go_on_choosing-requires-clause-open : goal.go_on_choosing-requires-clause-open
+go_on_choosing-requires-clause-open g c =
+    let f = g.N.Walk.tree in
+    let us = c.args.trials.now.open.items in
+    let here = point f c.args.printer.now (seen g.W.Render.bytes g.W.Render.failures g.W.Render.lender c.args.out.now) c.args.visits.now in
+    let some = some_open f us (c.is_empty.ensures.some c.if-is_empty.false) in
+    let came = came_in_choice c.requires.comes.0 here (all_held f us) (buffer_seen c.args.buffer.now) some c.requires.comes.1 in
+    (came.indent, came.first, came.second, came.at, came.choice)
+
+-- it broke off
+pub returns-in_err-go_on_choosing-clause-runs : goal.returns-in_err-go_on_choosing-clause-runs
+returns-in_err-go_on_choosing-clause-runs g c =
+    let residual = err_from_is_err_and c.from_residual.result c.from_residual.ensures.1 in
+    rw (residual.1, residual.2)
+    λ a h.
+    let f = g.N.Walk.tree in
+    let us = c.args.trials.now.open.items in
+    let sink = seen g.W.Render.bytes g.W.Render.failures g.W.Render.lender in
+    let fails = g.W.Render.document_errors c.go_on_choosing.new.out in
+    let here = point f c.args.printer.now (sink c.args.out.now) c.args.visits.now in
+    let some = some_open f us (c.is_empty.ensures.some c.if-is_empty.false) in
+    let came = came_in_choice a here (all_held f us) (buffer_seen c.args.buffer.now) some h in
+    choice_stopped fails came.indent came.first came.second c.in_err-go_on_choosing.field-0.0 came.continues came.waiting
+    (c.in_err-go_on_choosing.ensures.settles came.indent came.first came.second came.at came.choice)
+
+-- the choice is made
+pub run_to_end-requires-in-Done-clause-none : goal.run_to_end-requires-in-Done-clause-none
+run_to_end-requires-in-Done-clause-none g c =
+    let f = g.N.Walk.tree in
+    let us = c.args.trials.now.open.items in
+    let here = point f c.args.printer.now (seen g.W.Render.bytes g.W.Render.failures g.W.Render.lender c.args.out.now) c.args.visits.now in
+    let some = some_open f us (c.is_empty.ensures.some c.if-is_empty.false) in
+    let came = came_in_choice c.requires.comes.0 here (all_held f us) (buffer_seen c.args.buffer.now) some c.requires.comes.1 in
+    none_open f c.go_on_choosing.new.trials.open.items ((rw c.in-Done.is at c.in_ok-go_on_choosing.ensures.settles) came.indent came.first came.second came.at came.choice).0
+
+pub returns-in-Done-clause-runs : goal.returns-in-Done-clause-runs
+returns-in-Done-clause-runs g c = λ a h.
+    let f = g.N.Walk.tree in
+    let us = c.args.trials.now.open.items in
+    let sink = seen g.W.Render.bytes g.W.Render.failures g.W.Render.lender in
+    let fails = g.W.Render.document_errors c.run_to_end-in-Done.new.out in
+    let here = point f c.args.printer.now (sink c.args.out.now) c.args.visits.now in
+    let next = point f c.go_on_choosing.new.printer (sink c.go_on_choosing.new.out) c.go_on_choosing.new.visits in
+    let last = point f c.run_to_end-in-Done.new.printer (sink c.run_to_end-in-Done.new.out) c.run_to_end-in-Done.new.visits in
+    let some = some_open f us (c.is_empty.ensures.some c.if-is_empty.false) in
+    let came = came_in_choice a here (all_held f us) (buffer_seen c.args.buffer.now) some h in
+    let settled = (rw c.in-Done.is at c.in_ok-go_on_choosing.ensures.settles) came.indent came.first came.second came.at came.choice in
+    runs_then fails c.args.limit a next last (all_held f c.run_to_end-in-Done.new.trials.open.items) (buffer_seen c.run_to_end-in-Done.new.buffer) c.run_to_end-in-Done.result
+    (choice_continues came.indent came.first came.second came.continues came.waiting settled.1) c.run_to_end-in-Done.ensures.runs
+
+-- it stops in the choice again
+pub returns-in-Shift-clause-runs : goal.returns-in-Shift-clause-runs
+returns-in-Shift-clause-runs g c = λ a h.
+    let f = g.N.Walk.tree in
+    let us = c.args.trials.now.open.items in
+    let sink = seen g.W.Render.bytes g.W.Render.failures g.W.Render.lender in
+    let here = point f c.args.printer.now (sink c.args.out.now) c.args.visits.now in
+    let next = point f c.go_on_choosing.new.printer (sink c.go_on_choosing.new.out) c.go_on_choosing.new.visits in
+    let some = some_open f us (c.is_empty.ensures.some c.if-is_empty.false) in
+    let came = came_in_choice a here (all_held f us) (buffer_seen c.args.buffer.now) some h in
+    let settled = (rw c.in-Shift.is at c.in_ok-go_on_choosing.ensures.settles) came.indent came.first came.second came.at came.choice in
+    record {
+      comes = comes_in_choice a came.c came.at next (all_held f c.go_on_choosing.new.trials.open.items) (buffer_seen c.go_on_choosing.new.buffer) came.indent came.first came.second came.continues came.waiting settled.0;
+      past = settled.1;
+    }

@@ -1,0 +1,205 @@
+use Rattle.std.proofs.Common.{◌≡◌, ◌∙◌, ◌<◌, [], arith, length, refl}
+use Rattle.std.proofs.lemmas.List.{nil_from_length}
+use Rattle.std.proofs.lemmas.Str.{IsUtf8-string_bytes}
+use Rattle.std.specs.declared.alloc.AllocError.{AllocError}
+use Rattle.prettyless_sink.specs.Sink.{known}
+use Rattle.prettyless_printer.specs.Points.{buffer_seen, point, standing}
+use Rattle.prettyless_model.specs.Tree.{Tree}
+use Rattle.prettyless_printer.specs.Trials.{Attempt}
+use Rattle.prettyless_printer.specs.Open.{Open, all_held, held}
+use Rattle.prettyless_printer.proofs.Chains.{all_held-push, broke_at, keeps_open, keeps_over, length-all_held, open_broke, open_choice_broke, open_fallen_broke, open_fell, open_goes, open_kept, open_more, open_other, open_some, open_stops, other_open, other_over}
+use Rattle.prettyless_printer.proofs.Costs.{less_goes, less_more, less_kept, less_other}
+use Rattle.prettyless_printer.proofs.Trying.{cut_back, grows_same, queue_marked}
+use Rattle.prettyless_printer.proofs.Standings.{length_queue}
+use Rattle.prettyless_printer.proofs.Chains.{ends_broke}
+use Rattle.prettyless_printer.proofs.trial.go_on_trying.Goals as goal
+
+pub work-init : goal.work-init
+work-init g c = record { trials = λ s y h. h; some = c.requires.«open»; summed = c.requires.summed }
+
+-- one trial is open at least
+pub below-requires : goal.below-requires
+below-requires g c =
+    let some = c.work.invariant.some in
+    omega (arith, open_some some.0 some.1 _ _ some.2, length-all_held g.N.Walk.tree c.work.trials.«open».items)
+
+-- the innermost trial is refused memory
+pub returns-in_err-advance-clause-ends : goal.returns-in_err-advance-clause-ends
+returns-in_err-advance-clause-ends g c =
+    λ s y h. ends_broke AllocError c.args.limit s y (all_held g.N.Walk.tree c.work.trials.«open».items) c.from_residual.result c.from_residual.ensures.0
+    (open_broke g.N.Walk.tree s y _ c.in_err-advance.field-0.0 (c.work.invariant.trials s y h) (rw c.below.ensures at c.in_err-advance.ensures.courses))
+
+-- it goes on
+pub work-smaller-in-Goes : goal.work-smaller-in-Goes
+work-smaller-in-Goes g c =
+    let some = c.work.invariant.some in
+    less_goes AllocError g.N.Walk.tree some.0 some.1 _ some.2 (rw (c.in-Goes.is, c.below.ensures) at c.in_ok-advance.ensures.courses)
+
+pub work-preserved-in-Goes : goal.work-preserved-in-Goes
+work-preserved-in-Goes g c =
+    let f = g.N.Walk.tree in
+    let some = c.work.invariant.some in
+    let course = rw (c.in-Goes.is, c.below.ensures) at c.in_ok-advance.ensures.courses in
+    record {
+      trials = λ s y h. open_goes AllocError f s y _ (c.work.invariant.trials s y h) course;
+      some = (some.0, some.1, open_goes AllocError f some.0 some.1 _ some.2 course);
+      summed = c.in_ok-advance.ensures.summed;
+    }
+
+-- it stopped
+pub returns-in-Shift-clause-ends : goal.returns-in-Shift-clause-ends
+returns-in-Shift-clause-ends g c = λ s y h. (
+  open_stops AllocError g.N.Walk.tree s y _ (c.work.invariant.trials s y h) (rw (c.in-Shift.is, c.below.ensures) at c.in_ok-advance.ensures.courses),
+  rw c.in-Shift.is at c.in_ok-advance.ensures.past,
+)
+
+-- the outermost one is kept
+pub returns-then-is_empty-clause-ends : goal.returns-then-is_empty-clause-ends
+returns-then-is_empty-clause-ends g c =
+    let f = g.N.Walk.tree in
+    let p = c.advance.new.printer in
+    let q = record p { within = c.in-Some.trial.mark.within } in
+    let us = c.pop.new.self.items in
+    let none : all_held f us ≡ [] = nil_from_length (all_held f us) (length-all_held f us ∙ c.is_empty.ensures.none c.if-is_empty.true) in
+    λ s y h. (
+      none,
+      keeps_over AllocError s y (point f q (buffer_seen c.advance.new.buffer) c.advance.new.visits) (all_held f us) none
+          (open_kept AllocError f s y _ (all_held f us) (held f c.in-Some.trial) (standing f q) (all_held-push f _ us c.in-Some.trial c.in-Some.ensures.items) (c.work.invariant.trials s y h)
+          (rw (c.in-Over.is, c.below.ensures) at c.in_ok-advance.ensures.courses) refl refl refl (grows_same (standing f p))),
+    )
+
+-- an inner one is kept
+pub work-smaller-else-is_empty : goal.work-smaller-else-is_empty
+work-smaller-else-is_empty g c =
+    let f = g.N.Walk.tree in
+    let p = c.advance.new.printer in
+    let q = record p { within = c.in-Some.trial.mark.within } in
+    let us = c.pop.new.self.items in
+    let some = c.work.invariant.some in
+    let inner : 0 < length us = c.is_empty.ensures.some c.if-is_empty.false in
+    less_kept AllocError f some.0 some.1 _ (all_held f us) (held f c.in-Some.trial) (standing f q) (buffer_seen c.advance.new.buffer) c.advance.new.visits (all_held-push f _ us c.in-Some.trial c.in-Some.ensures.items)
+    (omega (arith, length-all_held f us, inner)) some.2 (rw (c.in-Over.is, c.below.ensures) at c.in_ok-advance.ensures.courses) refl refl (grows_same (standing f p))
+
+pub work-preserved-else-is_empty : goal.work-preserved-else-is_empty
+work-preserved-else-is_empty g c =
+    let f = g.N.Walk.tree in
+    let p = c.advance.new.printer in
+    let q = record p { within = c.in-Some.trial.mark.within } in
+    let us = c.pop.new.self.items in
+    let some = c.work.invariant.some in
+    let a = point f c.work.printer (buffer_seen c.work.buffer) c.work.visits in
+    let b = point f q (buffer_seen c.advance.new.buffer) c.advance.new.visits in
+    let inner : 0 < length us = c.is_empty.ensures.some c.if-is_empty.false in
+    let course = rw (c.in-Over.is, c.below.ensures) at c.in_ok-advance.ensures.courses in
+    let kept : (s : Attempt) (y : Tree) → Open s y (all_held f c.work.trials.«open».items) a → Open s y (all_held f us) b = λ s y h.
+    keeps_open AllocError s y b (all_held f us) (omega (arith, length-all_held f us, inner))
+    (open_kept AllocError f s y _ (all_held f us) (held f c.in-Some.trial) (standing f q) (all_held-push f _ us c.in-Some.trial c.in-Some.ensures.items) h course refl refl refl (grows_same (standing f p))) in
+    record {
+      trials = λ s y h. kept s y (c.work.invariant.trials s y h);
+      some = (some.0, some.1, kept some.0 some.1 some.2);
+      summed = c.in_ok-advance.ensures.summed;
+    }
+
+-- the innermost one is not kept
+pub take_back-requires-clause-mark : goal.take_back-requires-clause-mark
+take_back-requires-clause-mark g c =
+    let f = g.N.Walk.tree in
+    let some = c.work.invariant.some in
+    let fell = open_fell AllocError f some.0 some.1 _ _ (held f c.in-Some-pop.trial) (all_held-push f _ _ c.in-Some-pop.trial c.in-Some-pop.ensures.items) some.2 (rw (c.in-Rejected.is, c.below.ensures) at c.in_ok-advance.ensures.courses) in
+    omega (arith, queue_marked fell.trial.start.printer (standing f c.advance.new.printer) c.in-Some-pop.trial.mark fell.trial.start.sink fell.marked.marks fell.fallen.grows, length_queue f c.advance.new.printer)
+
+pub take_back-requires-clause-buffer : goal.take_back-requires-clause-buffer
+take_back-requires-clause-buffer g c =
+    let f = g.N.Walk.tree in
+    let some = c.work.invariant.some in
+    let fell = open_fell AllocError f some.0 some.1 _ _ (held f c.in-Some-pop.trial) (all_held-push f _ _ c.in-Some-pop.trial c.in-Some-pop.ensures.items) some.2 (rw (c.in-Rejected.is, c.below.ensures) at c.in_ok-advance.ensures.courses) in
+    cut_back (known fell.trial.start.sink.bytes) c.advance.new.buffer.text c.in-Some-pop.trial.mark.written fell.fallen.bytes fell.marked.text fell.marked.marks.written fell.fallen.wrote
+
+-- its second branch is refused memory
+pub returns-in_err-push-in-Rejected-clause-ends : goal.returns-in_err-push-in-Rejected-clause-ends
+returns-in_err-push-in-Rejected-clause-ends g c =
+    let f = g.N.Walk.tree in
+    λ s y h. ends_broke AllocError c.args.limit s y _ c.from_residual-in_err-push-in-Rejected.result c.from_residual-in_err-push-in-Rejected.ensures.0
+    (broke_at refl (open_fallen_broke AllocError f s y _ (c.work.invariant.trials s y h) (rw (c.in-Rejected.is, c.below.ensures) at c.in_ok-advance.ensures.courses)))
+
+-- the outermost one is taken back
+pub returns-then-is_empty-2-clause-ends : goal.returns-then-is_empty-2-clause-ends
+returns-then-is_empty-2-clause-ends g c =
+    let f = g.N.Walk.tree in
+    let r = c.take_back.new.printer in
+    let q = record r { commands = c.push.new.self } in
+    let w = buffer_seen c.take_back.new.buffer in
+    let us = c.pop-in-Rejected.new.self.items in
+    let none : all_held f us ≡ [] = nil_from_length (all_held f us) (length-all_held f us ∙ c.is_empty-in-Rejected.ensures.none c.if-is_empty-2.true) in
+    λ s y h. (
+      none,
+      other_over AllocError s y (point f q w c.advance.new.visits) (all_held f us) none
+          (open_other AllocError f s y _ (all_held f us) (held f c.in-Some-pop.trial) (standing f r) (standing f q) w (all_held-push f _ us c.in-Some-pop.trial c.in-Some-pop.ensures.items) (c.work.invariant.trials s y h)
+          (rw (c.in-Rejected.is, c.below.ensures) at c.in_ok-advance.ensures.courses) c.take_back.ensures.printer refl c.take_back.ensures.buffer c.take_back.ensures.failures refl
+          c.in_ok-push-in-Rejected.ensures.pushed refl refl (grows_same (standing f r))),
+    )
+
+-- an inner one is taken back
+pub work-smaller-else-is_empty-2 : goal.work-smaller-else-is_empty-2
+work-smaller-else-is_empty-2 g c =
+    let f = g.N.Walk.tree in
+    let r = c.take_back.new.printer in
+    let q = record r { commands = c.push.new.self } in
+    let us = c.pop-in-Rejected.new.self.items in
+    let some = c.work.invariant.some in
+    let inner : 0 < length us = c.is_empty-in-Rejected.ensures.some c.if-is_empty-2.false in
+    less_other AllocError f some.0 some.1 _ (all_held f us) (held f c.in-Some-pop.trial) (standing f r) (standing f q) (buffer_seen c.take_back.new.buffer) c.advance.new.visits (all_held-push f _ us c.in-Some-pop.trial c.in-Some-pop.ensures.items)
+    (omega (arith, length-all_held f us, inner)) some.2 (rw (c.in-Rejected.is, c.below.ensures) at c.in_ok-advance.ensures.courses) c.take_back.ensures.printer c.in_ok-push-in-Rejected.ensures.pushed refl (grows_same (standing f r))
+
+pub work-preserved-else-is_empty-2 : goal.work-preserved-else-is_empty-2
+work-preserved-else-is_empty-2 g c =
+    let f = g.N.Walk.tree in
+    let r = c.take_back.new.printer in
+    let q = record r { commands = c.push.new.self } in
+    let w = buffer_seen c.take_back.new.buffer in
+    let us = c.pop-in-Rejected.new.self.items in
+    let some = c.work.invariant.some in
+    let a = point f c.work.printer (buffer_seen c.work.buffer) c.work.visits in
+    let b = point f q w c.advance.new.visits in
+    let inner : 0 < length us = c.is_empty-in-Rejected.ensures.some c.if-is_empty-2.false in
+    let course = rw (c.in-Rejected.is, c.below.ensures) at c.in_ok-advance.ensures.courses in
+    let other : (s : Attempt) (y : Tree) → Open s y (all_held f c.work.trials.«open».items) a → Open s y (all_held f us) b = λ s y h.
+    other_open AllocError s y b (all_held f us) (omega (arith, length-all_held f us, inner))
+    (open_other AllocError f s y _ (all_held f us) (held f c.in-Some-pop.trial) (standing f r) (standing f q) w (all_held-push f _ us c.in-Some-pop.trial c.in-Some-pop.ensures.items) h course
+    c.take_back.ensures.printer refl c.take_back.ensures.buffer c.take_back.ensures.failures refl c.in_ok-push-in-Rejected.ensures.pushed refl refl (grows_same (standing f r))) in
+    record {
+      trials = λ s y h. other s y (c.work.invariant.trials s y h);
+      some = (some.0, some.1, other some.0 some.1 some.2);
+      summed = c.in_ok-push-in-Rejected.ensures.summed (c.take_back.ensures.summed c.in_ok-advance.ensures.summed);
+    }
+
+-- a trial more is open
+pub work-smaller : goal.work-smaller
+work-smaller g c =
+    let f = g.N.Walk.tree in
+    let some = c.work.invariant.some in
+    less_more AllocError f some.0 some.1 _ _ c.in-Chosen.indent c.in-Chosen.first c.in-Chosen.second (standing f c.open_trial.new.printer) (buffer_seen c.advance.new.buffer) c.advance.new.visits some.2
+    (rw (c.in-Chosen.is, c.below.ensures) at c.in_ok-advance.ensures.courses) c.in_ok-open_trial-in-Chosen.ensures.held c.in_ok-open_trial-in-Chosen.ensures.begun (IsUtf8-string_bytes c.advance.new.buffer.text)
+
+pub work-preserved : goal.work-preserved
+work-preserved g c =
+    let f = g.N.Walk.tree in
+    let some = c.work.invariant.some in
+    let a = point f c.work.printer (buffer_seen c.work.buffer) c.work.visits in
+    let b = point f c.open_trial.new.printer (buffer_seen c.advance.new.buffer) c.advance.new.visits in
+    let course = rw (c.in-Chosen.is, c.below.ensures) at c.in_ok-advance.ensures.courses in
+    let more : (s : Attempt) (y : Tree) → Open s y (all_held f c.work.trials.«open».items) a → Open s y (all_held f c.open_trial.new.trials.«open».items) b = λ s y h.
+    open_more AllocError f s y _ _ c.in-Chosen.indent c.in-Chosen.first c.in-Chosen.second (standing f c.open_trial.new.printer) h course
+    c.in_ok-open_trial-in-Chosen.ensures.held c.in_ok-open_trial-in-Chosen.ensures.begun (IsUtf8-string_bytes c.advance.new.buffer.text) in
+    record {
+      trials = λ s y h. more s y (c.work.invariant.trials s y h);
+      some = (some.0, some.1, more some.0 some.1 some.2);
+      summed = c.in_ok-open_trial-in-Chosen.ensures.summed;
+    }
+
+-- a trial more is refused memory
+pub returns-in_err-open_trial-in-Chosen-clause-ends : goal.returns-in_err-open_trial-in-Chosen-clause-ends
+returns-in_err-open_trial-in-Chosen-clause-ends g c =
+    let f = g.N.Walk.tree in
+    λ s y h. ends_broke AllocError c.args.limit s y _ c.from_residual-in_err-open_trial-in-Chosen.result c.from_residual-in_err-open_trial-in-Chosen.ensures.0
+    (broke_at refl (open_choice_broke AllocError f s y _ c.in-Chosen.indent c.in-Chosen.first c.in-Chosen.second (c.work.invariant.trials s y h) (rw (c.in-Chosen.is, c.below.ensures) at c.in_ok-advance.ensures.courses)))

@@ -1,0 +1,21 @@
+use Rattle.prettyless_model.specs.Tree.{Tree}
+use Rattle.prettyless_step.specs.Sums.{IsSummed}
+use Rattle.prettyless_printer.specs.Points.{buffer_seen, point}
+use Rattle.prettyless_printer.specs.Trials.{Attempt}
+use Rattle.prettyless_printer.specs.Open.{Open, all_held}
+use Rattle.prettyless_printer.proofs.Costs.{left_at}
+use Rattle.prettyless_printer.proofs.trial.go_on_trying.Given as goal
+
+abbrev pub invariant-work : goal.invariant-work
+invariant-work g l =
+    let f = g.N.Walk.tree in
+    let start = point f l.fn.printer (buffer_seen l.fn.buffer) l.fn.visits in
+    let now = point f l.printer (buffer_seen l.buffer) l.visits in
+    record {
+      trials : (s : Attempt) (y : Tree) → Open s y (all_held f l.fn.trials.open.items) start → Open s y (all_held f l.trials.open.items) now;
+      some : (s : Attempt) × (y : Tree) × Open s y (all_held f l.trials.open.items) now;
+      summed : IsSummed g.N.Walk.HAS_SUMMARIES f l.printer.commands;
+    }
+
+abbrev pub decreases-work : goal.decreases-work
+decreases-work g l = left_at (point g.N.Walk.tree l.printer (buffer_seen l.buffer) l.visits) (all_held g.N.Walk.tree l.trials.open.items)

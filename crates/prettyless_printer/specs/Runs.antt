@@ -1,0 +1,63 @@
+-- Runs that may stop before a node, outside of trials or in one, and go on from there with nodes of whatever type.
+use Rattle.std.specs.Prelude.{◌≡◌, ℕ, List, [], ◌∷◌, Result, Ok, Err}
+use Rattle.prettyless_sink.specs.Sink.{known}
+use Rattle.prettyless_sink.specs.declared.error.RenderError.{RenderError}
+use Rattle.prettyless_model.specs.Tree.{Tree}
+use Rattle.prettyless_printer.specs.declared.answer.Ran.{Ran}
+use Rattle.prettyless_printer.specs.declared.answer.Ran.TheVariants as ran
+use Rattle.prettyless_printer.specs.Points.{Seen, Point, point_at}
+use Rattle.prettyless_printer.specs.Turns.{IsPastLimit}
+use Rattle.prettyless_printer.specs.Trials.{attempt}
+use Rattle.prettyless_printer.specs.Paths.{Chooses, Waiting, run_of}
+use Rattle.prettyless_printer.specs.Renders.{Continues, RunsToEnd, WorksOff}
+use Rattle.prettyless_printer.specs.Open.{Held, Open}
+
+-- A choice between two branches at an indent waited at a, and trials are open from there to b. They write to a buffer, which was
+-- empty, and nothing was written to the sink.
+pub record InChoice (i : ℕ) (x y : Tree) (a : Point) (us : List Held) (buffer : Seen) (b : Point) : Type 0 where
+  pub before : Seen
+  pub empty : known before.bytes ≡ []
+  pub trials : Open (attempt (point_at a.printer before a.visits) i x) y us (point_at b.printer buffer b.visits)
+  pub sink : b.sink ≡ a.sink
+
+-- a choice that waited at a was made at b, or its trials are still open there
+abbrev pub Settles : {E : Type 0} → ℕ → ℕ → Tree → Tree → Point → List Held → Seen → Point → Result Ran (RenderError E) → Type 0
+Settles {E} limit i x y a us buffer b (Ok ran.Done) = (us ≡ []) × Chooses {A = Ran} {E = E} i x y a b (Ok ran.Done)
+Settles {E} limit i x y a us buffer b (Ok ran.Shift) = InChoice i x y a us buffer b × IsPastLimit limit b.visits.probes
+Settles {E} limit i x y a us buffer b (Err e) = Chooses {A = Ran} {E = E} i x y a b (Err e)
+
+-- A run has come from a to b, where trials are open.
+pub record ComesInChoice (a : Point) (us : List Held) (buffer : Seen) (b : Point) : Type 0 where
+  -- it came to c, whatever the type of nodes there
+  pub c : Point
+  pub continues : Continues a c
+  -- the commands were worked off from there to a choice between two branches at an indent
+  pub indent : ℕ
+  pub first : Tree
+  pub second : Tree
+  pub at : Point
+  pub waiting : Waiting (run_of c) indent first second at
+  -- which is not made yet
+  pub choice : InChoice indent first second at us buffer b
+
+-- a run has come from a to b, with these trials open there
+abbrev pub Comes : Point → List Held → Seen → Point → Type 0
+Comes a [] buffer b = Continues a b
+Comes a (u ∷ us) buffer b = ComesInChoice a (u ∷ us) buffer b
+
+-- A run stopped at b before a node, since probes were past a limit.
+pub record Stops (limit : ℕ) (a : Point) (us : List Held) (buffer : Seen) (b : Point) : Type 0 where
+  pub comes : Comes a us buffer b
+  pub past : IsPastLimit limit b.visits.probes
+
+-- a run until no command is left, or probes are past a limit
+abbrev pub WorksOn : {E : Type 0} → (E → Type 0) → ℕ → Point → List Held → Seen → Point → Result Ran (RenderError E) → Type 0
+WorksOn fails limit a us buffer b (Ok ran.Done) = (us ≡ []) × WorksOff fails a b (Ok ran.Done)
+WorksOn fails limit a us buffer b (Ok ran.Shift) = Stops limit a us buffer b
+WorksOn fails limit a us buffer b (Err e) = WorksOff {A = Ran} fails a b (Err e)
+
+-- a run to the end, or until probes are past a limit
+abbrev pub RunsOn : {E : Type 0} → (E → Type 0) → ℕ → Point → List Held → Seen → Point → Result Ran (RenderError E) → Type 0
+RunsOn fails limit a us buffer b (Ok ran.Done) = RunsToEnd fails a b (Ok ran.Done)
+RunsOn fails limit a us buffer b (Ok ran.Shift) = Stops limit a us buffer b
+RunsOn fails limit a us buffer b (Err e) = RunsToEnd {A = Ran} fails a b (Err e)

@@ -1,0 +1,88 @@
+//! Rendering a document to a sink.
+ghost use Rattle.std.specs.Prelude.{IfOk};
+ghost use Rattle.prettyless_step.specs.Sums.{IsSummed};
+ghost use Rattle.prettyless_printer.specs.Points.{seen, standing};
+ghost use Rattle.prettyless_printer.specs.Renders.{Begins, Renders};
+
+use crate::shift::{run_in_gears, run_over_table};
+use prettyless_model::column::Column;
+use prettyless_model::mode::Mode;
+use prettyless_model::options::RenderOptions;
+use prettyless_sink::error::RenderError;
+use prettyless_sink::render::Render;
+use prettyless_sink::visits::Visits;
+use prettyless_step::printer::Printer;
+use prettyless_step::queue::Queue;
+use prettyless_step::stack::Stack;
+use prettyless_step::walk::Walk;
+use std::alloc::{AllocError, Global};
+
+// A printer before a document.
+fn printer_before<N: Walk>(
+    alloc: Global,
+    node: N,
+    options: RenderOptions,
+) -> Result<Printer<N>, AllocError>
+    ensures begins { IfOk result (λ p. Begins options (N.tree node) (standing N.tree p)) }
+    ensures summed { IfOk result (λ p. IsSummed N.HAS_SUMMARIES N.tree p.commands) }
+{
+    let mut printer = Printer {
+        options,
+        column: Column::start(),
+        within: true,
+        commands: Stack::new(alloc),
+        scratch: Stack::new(alloc),
+        queue: Queue::new(alloc),
+    };
+    printer.commands.push(0, Mode::Break, node)?;
+    Ok(printer)
+}
+
+/// Renders the document of a node to a sink: what is written is its layout.
+///
+/// Where the sink's bytes are known: on success all of the layout was appended. `Document` is answered only where the
+/// layout fails, after the bytes before the failing node. `Sink` is answered where the sink failed, once in this call,
+/// and `Memory` where a growth was refused, which leaves the sink's failures as they were: what was appended then is a
+/// beginning of the layout's bytes.
+///
+/// The nodes that are visited are added to `visits`. On success the printer has visited at least the nodes that the layout
+/// lays, and its probes at least one node for each probe that the layout asks; a rejected branch counts nothing here.
+/// Without line suffixes the printer visits at most as many nodes as the document has, and its probes together at most
+/// that many for each node that asks one.
+pub fn render<N: Walk, W: Render>(
+    alloc: Global,
+    node: N,
+    options: RenderOptions,
+    out: &mut W,
+    visits: &mut Visits,
+) -> Result<(), RenderError<W::Error>>
+    ensures { Renders (W.document_errors out.new) options (N.tree node)
+        (seen W.bytes W.failures W.lender out.old) (seen W.bytes W.failures W.lender out.new)
+        visits.old visits.new result }
+{
+    match printer_before(alloc, node, options) {
+        Ok(mut printer) => run_in_gears(alloc, &mut printer, out, visits),
+        Err(e) => Err(RenderError::Memory(e)),
+    }
+}
+
+/// Renders the document of a node as `render` does, over a table of all of its nodes from the first one on: each probe takes two
+/// visits where no choice by column or nesting stands in what it reads. A document that is laid out so takes two to four times as
+/// long as most documents take without a table. It is rendered without one where memory for that is refused, where it has 2^32 - 1
+/// nodes or more, and at widths of 2^32 columns or more.
+pub fn render_over_table<N: Walk, W: Render>(
+    alloc: Global,
+    node: N,
+    options: RenderOptions,
+    out: &mut W,
+    visits: &mut Visits,
+) -> Result<(), RenderError<W::Error>>
+    ensures { Renders (W.document_errors out.new) options (N.tree node)
+        (seen W.bytes W.failures W.lender out.old) (seen W.bytes W.failures W.lender out.new)
+        visits.old visits.new result }
+{
+    match printer_before(alloc, node, options) {
+        Ok(mut printer) => run_over_table(alloc, &mut printer, out, visits),
+        Err(e) => Err(RenderError::Memory(e)),
+    }
+}

@@ -1,0 +1,93 @@
+-- What a document shows a probe, taken up as one.
+use Rattle.std.specs.Prelude.{◌≡◌, ℕ, ◌+◌, ◌^◌, ◌<◌, ◌≤◌, Bool, true, false, not, ◌&&◌, ◌||◌, ◌==◌, nat_le, Option, Some, None, MatchOption, ⊤, FitsSigned, if◌then◌else◌}
+use mir.Syntax.{w32}
+use Rattle.prettyless_model.specs.Tree.{Tree, Nest, Append, LineSuffix, DedentToRoot, Align, Flatten, BreakOrFlat, Group, Union, PartialUnion, OnColumn, OnNesting}
+use Rattle.prettyless_model.specs.Column.{saturating_add, commit, padding_fits}
+use Rattle.prettyless_model.specs.Look.{Look, Answers, GoesOn, look, look_end, look_then}
+use Rattle.prettyless_model.specs.declared.column.Column.{Column}
+use Rattle.prettyless_model.specs.declared.mode.Mode.{Mode}
+use Rattle.prettyless_summary.specs.declared.summary.Summary.{Summary}
+use Rattle.prettyless_summary.specs.declared.summary.End.{End}
+use Rattle.prettyless_summary.specs.declared.summary.End.TheVariants.{Open, No, PaddingFits, Yes}
+use Rattle.prettyless_summary.specs.declared.summary.Reached.{Reached}
+use Rattle.prettyless_summary.specs.declared.summary.Reached.TheVariants.{Answer, Line}
+
+-- so many weak spaces: nothing where the line is fresh
+abbrev pub spaced : ℕ → Column → Column
+spaced n c = if c.fresh || (n == 0) then c else record c { padding = saturating_add c.padding n }
+
+-- a weak line, or nothing where there is none
+abbrev pub look_weak : ℕ → Option Mode → Column → Bool → Look
+look_weak width None c p = GoesOn c p
+look_weak width (Some m) c p = if c.fresh && not p then GoesOn c p else look_end width m c p
+
+-- ink of so many columns that ends within the width, with weak spaces after it; or nothing where there is none
+abbrev pub look_ink : ℕ → Bool → ℕ → ℕ → Column → Bool → Look
+look_ink width false inner trail c p = GoesOn c p
+look_ink width true inner trail c p =
+    if nat_le (commit inner c).position width then GoesOn (spaced trail (commit inner c)) p else Answers false
+
+-- what ends a reading or decides it
+abbrev pub look_out : ℕ → End → Column → Bool → Look
+look_out width Open c p = GoesOn c p
+look_out width No c p = Answers false
+look_out width PaddingFits c p = Answers (padding_fits width p c)
+look_out width Yes c p = Answers true
+
+-- what a summary has after its weak line: ink, a line suffix, the end
+abbrev pub look_rest : ℕ → Summary → Column → Bool → Look
+look_rest width s c p =
+    look_then (look_ink width s.has_ink s.inner s.trail c p) (λ e q. look_out width s.end e (s.has_suffix || q))
+
+-- What a line comes to that is read by a summary: weak spaces, then a weak line, then the rest.
+abbrev pub look_by : ℕ → Summary → Column → Bool → Look
+look_by width s c p = look_then (look_weak width s.weak (spaced s.lead c) p) (look_rest width s)
+
+-- by a summary a line comes to what it comes to by a look, at every width below 2^32
+abbrev pub Reads : Summary → (ℕ → Column → Bool → Look) → Type 0
+Reads s f = (width : ℕ) (c : Column) (p : Bool) → width < 2 ^ 32 → look_by width s c p ≡ f width c p
+
+-- the summary of a document in a mode: it shows a probe the same, whatever the indent
+abbrev pub Summarizes : Summary → Tree → Mode → Type 0
+Summarizes s d m = (i : ℕ) → Reads s (λ width c p. look width d i m c p)
+
+-- one summary and then a look
+abbrev pub Continues : Summary → (ℕ → Column → Bool → Look) → Summary → Type 0
+Continues s f r = Reads r (λ width c p. look_then (look_by width s c p) (f width))
+
+-- one summary and then another
+abbrev pub ThenReads : Summary → Summary → Summary → Type 0
+ThenReads s t r = Continues s (λ width. look_by width t) r
+
+-- the summary of a document in a mode, if it is known
+abbrev pub IsKnown : Option Summary → Tree → Mode → Type 0
+IsKnown s d m = MatchOption s ⊤ (λ x. Summarizes x d m)
+
+-- it counts at most so many weak spaces apart from those between ink
+abbrev pub IsSmall : ℕ → Summary → Type 0
+IsSmall n s = s.lead + s.trail ≤ n
+
+-- what is reached, as a look
+abbrev pub look_of : Reached → Look
+look_of (Answer b) = Answers b
+look_of (Line c p) = GoesOn c p
+
+-- it is known, and counts at most so many weak spaces
+abbrev pub IsFound : ℕ → Option Summary → Type 0
+IsFound n s = MatchOption s ⊥ (IsSmall n)
+
+-- a document all of whose nodes have summaries: no choice by column or nesting, and no offset that takes more than 32 bits
+abbrev pub HasSums : Tree → Type 0
+HasSums (Append l r) = HasSums l × HasSums r
+HasSums (LineSuffix d) = HasSums d
+HasSums (Nest k d) = FitsSigned w32 k × HasSums d
+HasSums (DedentToRoot d) = HasSums d
+HasSums (Align d) = HasSums d
+HasSums (Flatten d) = HasSums d
+HasSums (BreakOrFlat b f) = HasSums b × HasSums f
+HasSums (Group d) = HasSums d
+HasSums (Union l r) = HasSums l × HasSums r
+HasSums (PartialUnion l r) = HasSums l × HasSums r
+HasSums (OnColumn test y n) = ⊥
+HasSums (OnNesting test y n) = ⊥
+HasSums _ = ⊤

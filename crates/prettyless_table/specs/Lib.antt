@@ -1,0 +1,5 @@
+pub mod Parts
+pub mod Sums
+pub mod Cells
+pub mod Laying
+pub mod Shift

@@ -1,0 +1,171 @@
+//! The shift: what a printer has left is laid out in a table, and a printer over the table goes on from where the first one stands.
+ghost use Rattle.std.specs.Prelude.{◌≡◌, ◌+◌, ◌<◌, ◌≤◌, [], length, map, min, IfOk, IfSome, MatchOption, true};
+ghost use Rattle.prettyless_step.specs.Stack.{nodes, stack_of, task, trees};
+ghost use Rattle.std.specs.List.{All, sum_by};
+ghost use Rattle.prettyless_model.specs.Tree.{size};
+ghost use Rattle.prettyless_step.specs.Sums.{IsSummed};
+ghost use Rattle.prettyless_table.specs.Cells.{Grows, IsSound, tree_at};
+ghost use Rattle.prettyless_table.specs.Shift.{AreCommands, AreNodes, IsLaidOut, IsShifted, nodes_left};
+
+use crate::placed::Placed;
+use crate::table::{MOST_CELLS, Table};
+use prettyless_step::command::Command;
+use prettyless_step::printer::Printer;
+use prettyless_step::queue::Queue;
+use prettyless_step::stack::Stack;
+use prettyless_step::walk::Walk;
+use std::alloc::{AllocError, Global};
+
+/// Where all that a printer has left stands in a table: its commands, the next one first, and its queue, the oldest suffix first.
+#[derive(Drop)]
+pub struct Places {
+    commands: Vec<Command<u32>>,
+    queue: Vec<u32>,
+}
+
+// Lays out commands, and answers their places, the next one first. `None` is answered where there is no room.
+fn lay_out_commands<N: Walk>(
+    alloc: Global,
+    commands: &Stack<N>,
+    table: &mut Table<N>,
+    most: usize,
+) -> Result<Option<Vec<Command<u32>>>, AllocError>
+    requires sound { IsSound N.tree table.old.cells.items }
+    ensures grows { Grows N.tree table.old.cells.items table.new.cells.items }
+    ensures laid { IfOk result (λ o. MatchOption o
+        (min most MOST_CELLS < length table.old.cells.items + nodes (stack_of N.tree commands.now))
+        (λ places. AreCommands N.tree table.new.cells.items places.items (stack_of N.tree commands.now))) }
+    ensures count { IfOk result (λ o. IfSome o (λ _. length table.new.cells.items
+        ≤ length table.old.cells.items + nodes (stack_of N.tree commands.now))) }
+{
+    let mut places = Vec::new(alloc);
+    let mut below = commands.cursor();
+    'commands: while let Some(command) = commands.read_down(&mut below) {
+        let Some(node) = table.lay_out(command.node, most)? else {
+            return Ok(None);
+        };
+        places.push(Command {
+            indent: command.indent,
+            mode: command.mode,
+            node,
+        })?;
+    }
+    Ok(Some(places))
+}
+
+// Lays out nodes, and answers their places, in the same order. `None` is answered where there is no room.
+fn lay_out_nodes<N: Walk>(
+    alloc: Global,
+    roots: &[N],
+    table: &mut Table<N>,
+    most: usize,
+) -> Result<Option<Vec<u32>>, AllocError>
+    requires sound { IsSound N.tree table.old.cells.items }
+    ensures grows { Grows N.tree table.old.cells.items table.new.cells.items }
+    ensures laid { IfOk result (λ o. MatchOption o
+        (min most MOST_CELLS < length table.old.cells.items + sum_by (λ n. size (N.tree n)) roots.now)
+        (λ places. AreNodes N.tree table.new.cells.items places.items (trees N.tree roots.now))) }
+    ensures count { IfOk result (λ o. IfSome o (λ _. length table.new.cells.items
+        ≤ length table.old.cells.items + sum_by (λ n. size (N.tree n)) roots.now)) }
+{
+    let mut places = Vec::new(alloc);
+    let mut k = 0;
+    'roots: while k < roots.len() {
+        let Some(place) = table.lay_out(roots[k], most)? else {
+            return Ok(None);
+        };
+        places.push(place)?;
+        k += 1;
+    }
+    Ok(Some(places))
+}
+
+/// Lays out all that a printer has left, and answers where it stands.
+///
+/// `None` is answered where the table would have more cells than `most`, or than a table can have.
+pub fn lay_out_all<N: Walk>(
+    alloc: Global,
+    printer: &Printer<N>,
+    table: &mut Table<N>,
+    most: usize,
+) -> Result<Option<Places>, AllocError>
+    requires sound { IsSound N.tree table.old.cells.items }
+    ensures sound { IsSound N.tree table.new.cells.items }
+    ensures grows { Grows N.tree table.old.cells.items table.new.cells.items }
+    ensures laid { IfOk result (λ o. MatchOption o
+        (min most MOST_CELLS < length table.old.cells.items + nodes_left N.tree printer.now)
+        (λ places. IsLaidOut N.tree table.new.cells.items printer.now places)) }
+{
+    let Some(commands) = lay_out_commands(alloc, &printer.commands, table, most)? else {
+        return Ok(None);
+    };
+    let Some(queue) = lay_out_nodes(alloc, printer.queue.all(), table, most)? else {
+        return Ok(None);
+    };
+    Ok(Some(Places { commands, queue }))
+}
+
+// The commands at places of a table, the next one first, as a stack.
+fn placed_commands<'t, N: Walk>(
+    alloc: Global,
+    table: &'t Table<N>,
+    places: &[Command<u32>],
+) -> Result<Stack<Placed<'t, N>>, AllocError>
+    requires sound { IsSound N.tree table.now.cells.items }
+    requires within { All (λ c. c.node < length table.now.cells.items) places.now }
+    ensures tasks { IfOk result (λ s. stack_of ⟦<Placed<'t, N> as Walk>⟧.tree s
+        ≡ map (task (tree_at N.tree table.now.cells.items)) places.now) }
+    ensures summed { IfOk result (λ s. IsSummed true ⟦<Placed<'t, N> as Walk>⟧.tree s) }
+{
+    let mut commands = Stack::new(alloc);
+    let mut k = places.len();
+    'places: while k > 0 {
+        k -= 1;
+        let command = places[k];
+        commands.push(command.indent, command.mode, table.node(command.node))?;
+    }
+    Ok(commands)
+}
+
+// The nodes at places of a table as a queue, with the start of another queue that is as long.
+fn placed_queue<'t, N: Walk>(
+    alloc: Global,
+    table: &'t Table<N>,
+    places: &[u32],
+    queue: &Queue<N>,
+) -> Result<Queue<Placed<'t, N>>, AllocError>
+    requires sound { IsSound N.tree table.now.cells.items }
+    requires nodes { AreNodes N.tree table.now.cells.items places.now (trees N.tree queue.now.nodes.items) }
+    ensures nodes { IfOk result (λ q. trees ⟦<Placed<'t, N> as Walk>⟧.tree q.nodes.items ≡ trees N.tree queue.now.nodes.items) }
+    ensures start { IfOk result (λ q. q.start ≡ queue.now.start) }
+{
+    let mut placed = Queue::new(alloc);
+    let mut k = 0;
+    'places: while k < places.len() {
+        placed.push(table.node(places[k]))?;
+        k += 1;
+    }
+    placed.go_back(queue.mark());
+    Ok(placed)
+}
+
+/// The printer over a table in which all that another printer has left stands: it goes on from where that one stands.
+pub fn placed_printer<'t, N: Walk>(
+    alloc: Global,
+    printer: &Printer<N>,
+    table: &'t Table<N>,
+    places: &Places,
+) -> Result<Printer<Placed<'t, N>>, AllocError>
+    requires sound { IsSound N.tree table.now.cells.items }
+    requires laid { IsLaidOut N.tree table.now.cells.items printer.now places.now }
+    ensures shifted { IfOk result (λ p. IsShifted N.tree ⟦<Placed<'t, N> as Walk>⟧.tree printer.now p) }
+{
+    Ok(Printer {
+        options: printer.options,
+        column: printer.column,
+        within: printer.within,
+        commands: placed_commands(alloc, table, &places.commands)?,
+        scratch: Stack::new(alloc),
+        queue: placed_queue(alloc, table, &places.queue, &printer.queue)?,
+    })
+}

@@ -1,0 +1,183 @@
+//! The summaries of a node, made of those of its parts, and how a cell keeps them.
+ghost use Rattle.std.specs.Prelude.{◌≡◌, ℤ, false};
+ghost use Rattle.prettyless_model.specs.Tree.{Tree};
+ghost use Rattle.prettyless_model.specs.Look.{Answers, by_mode};
+ghost use Rattle.prettyless_model.specs.declared.mode.Mode.{Mode};
+ghost use Rattle.prettyless_model.specs.declared.mode.Mode.TheVariants.{Break, Flat};
+ghost use Rattle.prettyless_summary.specs.Summary.{IsSmall, Reads, Summarizes};
+ghost use Rattle.prettyless_table.specs.Parts.{leaf_tree, pair_tree, single_tree};
+ghost use Rattle.prettyless_table.specs.Sums.{AreSums, Keeps, SumsUp};
+
+use crate::kind::{Pair, Single};
+use prettyless_model::mode::Mode;
+use prettyless_step::walk::{View, Walk};
+use prettyless_summary::known::appended;
+use prettyless_summary::summary::Summary;
+
+/// The summaries of a node, where they are known: of its reading where lines are flat, and where they are broken.
+#[derive(Clone, Copy)]
+pub struct Sums {
+    pub flat: Option<Summary>,
+    pub broken: Option<Summary>,
+}
+
+/// The numbers of a summary, in columns.
+#[derive(Clone, Copy)]
+pub struct Counts {
+    pub lead: u32,
+    pub inner: u32,
+    pub trail: u32,
+}
+
+/// The marks of a summary that is not known.
+pub const NOT_KNOWN: u8 = 255;
+
+/// The marks and the numbers of a summary, if it is known.
+#[inline(always)]
+pub fn packed(sum: Option<Summary>) -> (u8, Counts)
+    ensures { (d : Tree) (m : Mode) → SumsUp sum d m → Keeps result.0 result.1 d m }
+{
+    match sum {
+        Some(sum) => {
+            let counts = Counts {
+                lead: sum.lead,
+                inner: sum.inner,
+                trail: sum.trail,
+            };
+            (sum.marks(), counts)
+        }
+        None => {
+            let counts = Counts {
+                lead: 0,
+                inner: 0,
+                trail: 0,
+            };
+            (NOT_KNOWN, counts)
+        }
+    }
+}
+
+// The summary of these marks and numbers, if it is known.
+#[inline(always)]
+fn unpacked(marks: u8, counts: Counts) -> Option<Summary>
+    ensures { (d : Tree) (m : Mode) → Keeps marks counts d m → SumsUp result d m }
+{
+    if marks == NOT_KNOWN {
+        return None;
+    }
+    Some(Summary::unpacked(counts.lead, counts.inner, counts.trail, marks))
+}
+
+/// The summary in a mode, of those that a cell keeps.
+#[inline(always)]
+pub fn kept(
+    mode: Mode,
+    flat_marks: u8,
+    flat: Counts,
+    broken_marks: u8,
+    broken: Counts,
+) -> Option<Summary>
+    ensures { (d : Tree) → Keeps flat_marks flat d Flat → Keeps broken_marks broken d Break → SumsUp result d mode }
+{
+    match mode {
+        Mode::Flat => unpacked(flat_marks, flat),
+        Mode::Break => unpacked(broken_marks, broken),
+    }
+}
+
+// What no flat line holds: this where lines are broken.
+#[inline(always)]
+fn unless_flat(mode: Mode, broken: Summary) -> Summary
+    requires { IsSmall 1 broken }
+    ensures broken { mode ≡ Break → result ≡ broken }
+    ensures flat { mode ≡ Flat → Reads result (λ width c p. Answers false) }
+    ensures small { IsSmall 1 result }
+{
+    match mode {
+        Mode::Break => broken,
+        Mode::Flat => Summary::no(),
+    }
+}
+
+/// The summary of a leaf.
+#[inline(always)]
+pub fn leaf_summary<N: Walk>(node: &N, mode: Mode) -> Summary
+    ensures sum { Summarizes result (leaf_tree (N.tree node.now)) mode }
+    ensures small { IsSmall 1 result }
+{
+    match node.view() {
+        View::Fail => Summary::no(),
+        View::Text(text) => Summary::text(text.len(), text),
+        View::TextWithLen(counted, text) => Summary::text(counted, text),
+        View::MultilineText(_, metrics) => unless_flat(mode, Summary::payload(metrics)),
+        View::WeakSpace => Summary::blank(),
+        View::HardLine => unless_flat(mode, Summary::hard()),
+        View::WeakLine => Summary::weak(mode),
+        View::ExpandParent => unless_flat(mode, Summary::nothing()),
+        _ => Summary::nothing(),
+    }
+}
+
+/// The summaries of a leaf.
+#[inline(always)]
+pub fn leaf_sums<N: Walk>(node: &N) -> Sums
+    ensures { AreSums result (leaf_tree (N.tree node.now)) }
+{
+    Sums {
+        flat: Some(leaf_summary(node, Mode::Flat)),
+        broken: Some(leaf_summary(node, Mode::Break)),
+    }
+}
+
+/// The summary in a mode, of those of a node.
+#[inline(always)]
+pub fn in_mode(sums: Sums, mode: Mode) -> Option<Summary>
+    ensures { (d : Tree) → AreSums sums d → SumsUp result d mode }
+{
+    match mode {
+        Mode::Flat => sums.flat,
+        Mode::Break => sums.broken,
+    }
+}
+
+/// The summaries of a node with one part.
+#[inline(always)]
+pub fn of_single(kind: Single, inner: Sums) -> Sums
+    ensures { (k : ℤ) (d : Tree) → AreSums inner d → AreSums result (single_tree kind k d) }
+{
+    match kind {
+        Single::LineSuffix => {
+            let suffix = Some(Summary::suffix());
+            Sums {
+                flat: suffix,
+                broken: suffix,
+            }
+        }
+        Single::Flatten => Sums {
+            flat: inner.flat,
+            broken: inner.flat,
+        },
+        Single::Nest | Single::DedentToRoot | Single::Align | Single::Group => inner,
+    }
+}
+
+/// The summaries of a node with two parts.
+#[inline(always)]
+pub fn of_pair(kind: Pair, first: Sums, second: Sums) -> Sums
+    ensures { (d e : Tree) → AreSums first d → AreSums second e → AreSums result (pair_tree kind d e) }
+{
+    match kind {
+        Pair::Append => Sums {
+            flat: appended(first.flat, second.flat),
+            broken: appended(first.broken, second.broken),
+        },
+        Pair::BreakOrFlat => Sums {
+            flat: second.flat,
+            broken: first.broken,
+        },
+        Pair::Union | Pair::PartialUnion => Sums {
+            flat: first.flat,
+            broken: second.broken,
+        },
+    }
+}
