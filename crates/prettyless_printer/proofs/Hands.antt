@@ -85,7 +85,7 @@ pub record Visit (o : RenderOptions) (t : Task) (b : Point) (x : Visits) : Type 
   pub rise : Rise b.visits x
 
 pub visit : {N : Type 0} (f : N → Tree) {a : Point} {t : Task} {s : Seen} {v : Visits} (p : Printer N) (x : Visits) (n : ℕ) → InHand a t (point f p s v) → n ≡ rise v.printer → v.printer ≤ n →
-    x.printer ≡ counted_payload (rejects_payload p.options t.tree t.mode (state_of f p)) n → v.probes ≤ x.probes → x.probes ≤ v.probes + asked t.tree (nodes (tasks_of f p)) →
+    x.printer ≡ counted_payload (rejects_payload p.options t.tree t.mode (state_of f p)) n → v.probes ≤ x.probes → x.probes ≤ v.probes + asked t.tree t.mode (nodes (tasks_of f p)) →
     Visit a.printer.options t (point f p s v) x
 visit {N} f {a} {t} {s} {v} p x n hand e l h k z =
     let b = point f p s v in

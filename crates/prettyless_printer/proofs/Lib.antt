@@ -18,3 +18,7 @@ pub mod Visits
 pub mod AtLeast
 pub mod Hands
 pub mod Advancing
+pub mod Spending
+pub mod OpenSpending
+pub mod RunSpending
+pub mod GearSpending

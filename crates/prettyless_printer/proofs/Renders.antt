@@ -1,11 +1,14 @@
 -- A run from the first command, with the rounds of the end, is a render of the layout.
-use Rattle.std.proofs.Common.{subst, Result, ◌≡◌, ℕ, ◌*◌, ◌≤◌, ◌<◌, List, [], ◌∷◌, ◌++◌, length, refl, ap, sym, ◌∙◌, append_assoc, append-nil, arith, Err}
+use Rattle.std.proofs.Common.{subst, Result, Ok, ◌≡◌, ℕ, ◌*◌, ◌≤◌, ◌<◌, List, [], ◌∷◌, ◌++◌, length, refl, ap, sym, ◌∙◌, append_assoc, append-nil, arith, Err}
 use Rattle.prettyless_sink.specs.Sink.{AppendsBeginning, known, rise}
 use Rattle.prettyless_model.specs.Spaces.{spaces}
 use Rattle.prettyless_model.specs.declared.options.RenderOptions.{RenderOptions}
 use Rattle.prettyless_sink.specs.declared.error.RenderError.{RenderError}
 use Rattle.prettyless_sink.specs.declared.error.RenderError.TheVariants.{Document, Sink, Memory}
-use Rattle.prettyless_model.specs.Tree.{Tree}
+use Rattle.prettyless_model.specs.Tree.{Tree, size}
+use Rattle.prettyless_sink.specs.declared.visits.Visits.{Visits}
+use Rattle.prettyless_printer.specs.AtLeast.{VisitedAtLeast}
+use Rattle.std.specs.Prelude.{OnOk}
 use Rattle.prettyless_model.specs.Column.{gap}
 use Rattle.prettyless_model.specs.Layout.{State, Outcome, Done, Failed, Breaks, after_bytes, and_then, lay, lay_each, flushed, end_with, initial, layout, bytes_of, bytes_in, Bytes, Whole}
 use Rattle.prettyless_model.specs.Levels.{settle, settle_end}
@@ -15,6 +18,7 @@ use Rattle.prettyless_model.proofs.Levels.{end_fixed, layout_is}
 use Rattle.prettyless_step.specs.Stack.{Task, make_task, nodes, tasks}
 use Rattle.prettyless_step.specs.Steps.{lay_all, owed}
 use Rattle.prettyless_printer.specs.Points.{Point, Standing, state_at}
+use Rattle.prettyless_printer.specs.Linear.{IsFew, IsLinear}
 use Rattle.prettyless_printer.specs.Turns.{bytes_before}
 use Rattle.prettyless_printer.specs.Renders.{Finishing, Renders, RunsToEnd, rest_of, to_end, Stopped, Flushed, Rendered}
 use Rattle.prettyless_printer.proofs.Progresses.{bytes_before-after}
@@ -149,15 +153,25 @@ begins p d e s =
     (sym (ap (λ (x : List Task). lay_all p.options (settle p.options) x [] (state_at p)) e
     ∙ ap (lay_all p.options (settle p.options) (make_task 0 Break d ∷ []) []) s ∙ lay_all-one p.options d initial))
 
+-- a count more does not change the others
+counted_with : {A E : Type 0} (o : RenderOptions) (d : Tree) (v w : Visits) (n : ℕ) (r : Result A E) → OnOk r (VisitedAtLeast o d v w) → OnOk r (VisitedAtLeast o d v (record w { refused = n }))
+counted_with {A} {E} o d v w n (Ok x) h = record { printer = h.printer; probes = h.probes }
+counted_with {A} {E} o d v w n (Err e) h = tt
+
 -- a run to the end, from a document that is the only task, is a render
-pub renders : {A E : Type 0} (fails : E → Type 0) (d : Tree) {a b : Point} (r : Result A (RenderError E)) → a.printer.tasks ≡ make_task 0 Break d ∷ [] → state_at a.printer ≡ initial → RunsToEnd fails a b r →
-    Renders fails a.printer.options d a.sink b.sink a.visits b.visits r
-renders {A} {E} fails d {a} {b} r e s h = record {
+pub renders : {A E : Type 0} (fails : E → Type 0) (d : Tree) {a b : Point} (n : ℕ) (r : Result A (RenderError E)) → a.printer.tasks ≡ make_task 0 Break d ∷ [] → state_at a.printer ≡ initial → RunsToEnd fails a b r →
+    a.visits.refused ≤ n → (IsLinear a.printer.options.width d → n ≡ 0 → IsFew 16 1000 (size d) a.visits b.visits) →
+    Renders fails a.printer.options d a.sink b.sink a.visits (record b.visits { refused = n }) r
+renders {A} {E} fails d {a} {b} n r e s h refused few = record {
   same_lender = h.same_lender;
   bytes = λ is_known.
       let y = h.bytes is_known in
       (y.0, subst (λ (z : Bytes). Rendered fails z (known a.sink.bytes) (known b.sink.bytes) a.sink.failures b.sink.failures r) (sym (begins a.printer d e s)) y.1);
-  rise = h.rise;
-  visited = visited d a.printer b.printer a.visits b.visits r e (ap (λ (u : State). u.pending) s) h.at_most;
-  at_least = visited_at_least d a.printer a.visits b.visits r e s h.at_least;
+  rise = record { printer = h.rise.printer; probes = h.rise.probes };
+  visited =
+      let once = visited d a.printer b.printer a.visits b.visits r e (ap (λ (u : State). u.pending) s) h.at_most in
+      record { printer = once.printer; probes = once.probes };
+  refused = refused;
+  few = few;
+  at_least = counted_with a.printer.options d a.visits b.visits n r (visited_at_least d a.printer a.visits b.visits r e s h.at_least);
 }

@@ -1,23 +1,29 @@
 -- The shift: over a table a run stands where it stood, with the same trials open.
-use Rattle.std.proofs.Common.{◌≡◌, List, [], append-nil, Err, Result, refl, sym, arith, subst}
+use Rattle.std.proofs.Common.{◌≡◌, ℕ, ◌≤◌, List, [], append-nil, Err, Result, true, refl, ap, sym, ◌∙◌, ◌∷◌, arith, subst}
 use Rattle.std.specs.declared.alloc.AllocError.{AllocError}
 use Rattle.prettyless_sink.specs.Sink.{known}
 use Rattle.prettyless_sink.specs.declared.error.RenderError.{RenderError}
 use Rattle.prettyless_sink.specs.declared.error.RenderError.TheVariants.{Memory}
 use Rattle.prettyless_sink.specs.declared.visits.Visits.{Visits}
 use Rattle.prettyless_model.specs.declared.options.RenderOptions.{RenderOptions}
-use Rattle.prettyless_model.specs.Layout.{bytes_in, layout}
-use Rattle.prettyless_model.specs.Tree.{Tree}
+use Rattle.prettyless_model.specs.Layout.{State, bytes_in, layout}
+use Rattle.prettyless_model.specs.Tree.{Tree, size}
+use Rattle.prettyless_step.specs.Stack.{nodes}
+use Rattle.prettyless_step.specs.Sums.{HaveSummaries}
 use Rattle.prettyless_step.specs.declared.printer.Printer.{Printer}
 use Rattle.prettyless_table.specs.Shift.{IsShifted}
 use Rattle.prettyless_printer.specs.declared.trial.OpenTrial.{OpenTrial}
 use Rattle.prettyless_printer.specs.Points.{Point, Seen, Standing, point_at, standing}
-use Rattle.prettyless_printer.specs.Open.{Held, all_held}
+use Rattle.prettyless_printer.specs.Visits.{suffixes}
+use Rattle.prettyless_printer.specs.Linear.{IsFew, IsLinear, IsLinearStart}
+use Rattle.prettyless_printer.specs.Open.{Held, all_held, seconds}
+use Rattle.prettyless_printer.specs.Spending.{Left, Spends, left, rule_of}
 use Rattle.prettyless_printer.specs.Runs.{Comes}
 use Rattle.prettyless_printer.specs.Renders.{Begins, Renders, RunsToEnd}
 use Rattle.prettyless_printer.proofs.Renders.{renders}
 use Rattle.prettyless_printer.proofs.Visits.{rise_same}
 use Rattle.prettyless_printer.proofs.Shifts.{continues_same}
+use Rattle.prettyless_printer.proofs.OpenSpending.{open_options}
 
 -- a printer over other nodes stands where this one does
 pub shifted_stands : {N M : Type 0} (f : N → Tree) (g : M → Tree) (p : Printer N) (q : Printer M) → IsShifted f g p q → standing g q ≡ standing f p
@@ -37,6 +43,19 @@ comes_over a {us} {vs} {p} {q} buffer s v same stands comes =
     subst (λ (xs : List Held). Comes a xs buffer (point_at q s v)) (sym same)
     (subst (λ (x : Standing). Comes a us buffer (point_at x s v)) (sym stands) comes)
 
+-- what it leaves then is what it leaves over the other nodes
+pub spends_over : {o o' : RenderOptions} {limit : ℕ} {us vs : List Held} {p q : Standing} {v : Visits} {b : Left} → vs ≡ us → q ≡ p → o' ≡ o →
+    Spends (rule_of true o' limit) (left q (seconds vs) v) b → Spends (rule_of true o limit) (left p (seconds us) v) b
+spends_over {o} {o'} {limit} {us} {vs} {p} {q} {v} {b} same stands options h =
+    subst (λ (x : List Held). Spends (rule_of true o limit) (left p (seconds x) v) b) same
+    (subst (λ (x : Standing). Spends (rule_of true o limit) (left x (seconds vs) v) b) stands
+    (subst (λ (x : RenderOptions). Spends (rule_of true x limit) (left q (seconds vs) v) b) options h))
+
+-- the options are those from where a run came
+pub comes_options : (a b : Point) (us : List Held) (buffer : Seen) → Comes a us buffer b → b.printer.options ≡ a.printer.options
+comes_options a b [] buffer h = h.options
+comes_options a b (u ∷ us) buffer h = open_options _ h.second _ (u ∷ us) h.choice.trials ∙ h.waiting.options ∙ h.continues.options
+
 -- nothing has changed
 pub comes_still : (a : Point) (us : List Held) (p : Standing) {b c s t : Seen} {v w : Visits} → t ≡ s → w ≡ v → c ≡ b
     → Comes a us b (point_at p s v) → Comes a us c (point_at p t w)
@@ -50,12 +69,30 @@ pub comes_first : {N : Type 0} (f : N → Tree) (us : List (OpenTrial N)) (buffe
 comes_first f us buffer a none =
     subst (λ (xs : List (OpenTrial _)). Comes a (all_held f xs) buffer a) (sym none) (continues_same a)
 
+-- a document that a table bounds
+pub begins_linear : {o : RenderOptions} {d : Tree} {p : Standing} → Begins o d p → IsLinear o.width d → IsLinearStart p
+begins_linear {o} {d} {p} begins linear = record {
+  plain = record { none = omega (arith, ap suffixes begins.tasks, linear.plain); pending = ap (λ (u : State). u.pending) begins.state };
+  queue = begins.queue;
+  have = subst HaveSummaries (sym begins.tasks) (linear.have, tt);
+  size = omega (arith, ap nodes begins.tasks, linear.size);
+  width = omega (arith, ap (λ (x : RenderOptions). x.width) begins.options, linear.narrow);
+}
+
+-- its nodes are those of the printer before it
+pub begins_few : {o : RenderOptions} {d : Tree} {p : Standing} (factor more : ℕ) (v w : Visits) → Begins o d p → IsFew factor more (nodes p.tasks) v w → IsFew factor more (size d) v w
+begins_few {o} {d} {p} factor more v w begins few =
+    let same : nodes p.tasks ≡ size d = omega (arith, ap nodes begins.tasks) in
+    subst (λ (n : ℕ). IsFew factor more n v w) same few
+
 -- a run to the end, from before a document, is a render
-pub begun_renders : {A E : Type 0} (fails : E → Type 0) {o : RenderOptions} {d : Tree} {a b : Point} (r : Result A (RenderError E))
-    → Begins o d a.printer → RunsToEnd fails a b r → Renders fails o d a.sink b.sink a.visits b.visits r
-begun_renders fails {o} {d} {a} {b} r begins ran =
-    subst (λ (x : RenderOptions). Renders fails x d a.sink b.sink a.visits b.visits r) begins.options
-    (renders fails d r begins.tasks begins.state ran)
+pub begun_renders : {A E : Type 0} (fails : E → Type 0) {o : RenderOptions} {d : Tree} {a b : Point} (n : ℕ) (r : Result A (RenderError E)) → Begins o d a.printer → RunsToEnd fails a b r →
+    a.visits.refused ≤ n → (IsLinearStart a.printer → n ≡ 0 → IsFew 16 1000 (nodes a.printer.tasks) a.visits b.visits) →
+    Renders fails o d a.sink b.sink a.visits (record b.visits { refused = n }) r
+begun_renders fails {o} {d} {a} {b} n r begins ran refused few =
+    subst (λ (x : RenderOptions). Renders fails x d a.sink b.sink a.visits (record b.visits { refused = n }) r) begins.options
+    (renders fails d n r begins.tasks begins.state ran refused
+    (λ linear none. begins_few 16 1000 a.visits b.visits begins (few (begins_linear begins (subst (λ (x : RenderOptions). IsLinear x.width d) begins.options linear)) none)))
 
 -- a render that is refused memory before its first node
 pub refused_renders : {A E : Type 0} (fails : E → Type 0) (o : RenderOptions) (d : Tree) (s : Seen) (v : Visits) (e : AllocError)
@@ -65,5 +102,7 @@ refused_renders fails o d s v e = record {
   bytes = λ is_known. (is_known, (([], bytes_in (layout o d), refl, sym (append-nil (known s.bytes))), refl));
   rise = rise_same v;
   visited = record { printer = λ _. omega arith; probes = λ _. omega arith };
+  refused = omega arith;
+  few = λ linear none room. omega arith;
   at_least = tt;
 }

@@ -97,6 +97,7 @@ broke_anyhow {A} {B} {E} fails {a} {b} (Memory e) h = record { same_lender = h.s
 -- a run has come nowhere yet
 pub continues_same : (a : Point) → Continues a a
 continues_same a = record {
+  options = refl;
   same_lender = refl;
   bytes = λ is_known. (is_known, (finishing_begins a.printer (known a.sink.bytes), refl));
   rise = rise_same a.visits;
@@ -107,6 +108,7 @@ continues_same a = record {
 -- it has come further
 pub continues_then : {a b c : Point} → Continues a b → Continues b c → Continues a c
 continues_then {a} {b} {c} h k = record {
+  options = k.options ∙ h.options;
   same_lender = k.same_lender ∙ h.same_lender;
   bytes = λ is_known.
       let y = h.bytes is_known in
@@ -138,6 +140,7 @@ continues_to_end {A} {E} fails {a} {b} {c} r h k = record {
 -- a path of all commands
 pub path_continues : {a b : Point} → Path (run_of a) b → Continues a b
 path_continues {a} {b} p = record {
+  options = p.options;
   same_lender = p.same_lender;
   bytes = λ is_known.
       let y = p.bytes is_known in
@@ -212,6 +215,7 @@ round_continues {A} {B} {E} fails {a} {b} {q} {t} x y h k some =
     let new = known b.sink.bytes in
     let o = b.printer.options in
     record {
+      options = k.options ∙ h.options;
       same_lender = k.same_lender ∙ h.same_lender;
       bytes = λ is_known.
           let z = h.bytes is_known in

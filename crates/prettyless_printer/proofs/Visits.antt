@@ -38,28 +38,30 @@ payload_visits-plus false v w x h k = omega arith
 pub ruleset payload_visits = (payload_visits-least, payload_visits-most)
 
 -- what a node asks for is most by it
-pub asked_at_most : (d : Tree) (k n : ℕ) → size d + k ≤ n → asked d k ≤ n * probed d
-asked_at_most Nil k n h = omega arith
-asked_at_most Fail k n h = omega arith
-asked_at_most (Text s) k n h = omega arith
-asked_at_most (TextWithLen w s) k n h = omega arith
-asked_at_most (MultilineText s) k n h = omega arith
-asked_at_most WeakSpace k n h = omega arith
-asked_at_most HardLine k n h = omega arith
-asked_at_most WeakLine k n h = omega arith
-asked_at_most (Append l r) k n h = omega arith
-asked_at_most (LineSuffix d) k n h = omega arith
-asked_at_most (Nest i d) k n h = omega arith
-asked_at_most (DedentToRoot d) k n h = omega arith
-asked_at_most (Align d) k n h = omega arith
-asked_at_most ExpandParent k n h = omega arith
-asked_at_most (Flatten d) k n h = omega arith
-asked_at_most (BreakOrFlat b f) k n h = omega arith
-asked_at_most (Group d) k n h = omega arith
-asked_at_most (Union l r) k n h = omega arith
-asked_at_most (PartialUnion l r) k n h = omega arith
-asked_at_most (OnColumn test l r) k n h = omega arith
-asked_at_most (OnNesting test l r) k n h = omega arith
+pub asked_at_most : (d : Tree) (m : Mode) (k n : ℕ) → size d + k ≤ n → asked d m k ≤ n * probed d
+asked_at_most Nil m k n h = omega arith
+asked_at_most Fail m k n h = omega arith
+asked_at_most (Text s) m k n h = omega arith
+asked_at_most (TextWithLen w s) m k n h = omega arith
+asked_at_most (MultilineText s) m k n h = omega arith
+asked_at_most WeakSpace m k n h = omega arith
+asked_at_most HardLine m k n h = omega arith
+asked_at_most WeakLine m k n h = omega arith
+asked_at_most (Append l r) m k n h = omega arith
+asked_at_most (LineSuffix d) m k n h = omega arith
+asked_at_most (Nest i d) m k n h = omega arith
+asked_at_most (DedentToRoot d) m k n h = omega arith
+asked_at_most (Align d) m k n h = omega arith
+asked_at_most ExpandParent m k n h = omega arith
+asked_at_most (Flatten d) m k n h = omega arith
+asked_at_most (BreakOrFlat b f) m k n h = omega arith
+asked_at_most (Group d) Break k n h = omega arith
+asked_at_most (Group d) Flat k n h = omega arith
+asked_at_most (Union l r) m k n h = omega arith
+asked_at_most (PartialUnion l r) Break k n h = omega arith
+asked_at_most (PartialUnion l r) Flat k n h = omega arith
+asked_at_most (OnColumn test l r) m k n h = omega arith
+asked_at_most (OnNesting test l r) m k n h = omega arith
 
 -- a step of a node that asked for a, in what a node may ask for
 abbrev StepAtMost : ℕ → ℕ → ℕ → Step → Type 0
@@ -93,7 +95,7 @@ union_at_most : (l r : Tree) (i : ℕ) (st : State) (n most : ℕ) (v : Option B
 union_at_most l r i st n most (Some v) x y h k = either_at_most l r i Break st n 0 most v x y h (omega (arith, k))
 union_at_most l r i st n most None x y h k = (x, y, omega (arith, k))
 
-step_at_most : (o : RenderOptions) (d : Tree) (i : ℕ) (m : Mode) (rest : List Entry) (st : State) (n k : ℕ) → suffix_depth d ≡ 0 → st.pending ≡ [] → size d + k ≤ n → StepAtMost n (asked d k) (n * probed d) (step_of o d i m rest st)
+step_at_most : (o : RenderOptions) (d : Tree) (i : ℕ) (m : Mode) (rest : List Entry) (st : State) (n k : ℕ) → suffix_depth d ≡ 0 → st.pending ≡ [] → size d + k ≤ n → StepAtMost n (asked d m k) (n * probed d) (step_of o d i m rest st)
 step_at_most o Nil i m rest st n k z h l = (refl, h, omega arith)
 step_at_most o Fail i m rest st n k z h l = tt
 step_at_most o (Text s) i m rest st n k z h l = text_at_most o (length s) s st n h
@@ -113,7 +115,8 @@ step_at_most o ExpandParent i m rest st n k z h l = (refl, h, omega arith)
 step_at_most o (Flatten d) i m rest st n k z h l = (omega arith, h, omega arith)
 step_at_most o (BreakOrFlat b f) i Break rest st n k z h l = (omega arith, h, omega arith)
 step_at_most o (BreakOrFlat b f) i Flat rest st n k z h l = (omega arith, h, omega arith)
-step_at_most o (Group d) i m rest st n k z h l = (omega arith, h, omega arith)
+step_at_most o (Group d) i Break rest st n k z h l = (omega arith, h, omega arith)
+step_at_most o (Group d) i Flat rest st n k z h l = (omega arith, h, omega arith)
 step_at_most o (Union a b) i Break rest st n k z h l = union_at_most a b i st n (n * (probed a + probed b)) (decided_by_metrics o a st) (omega arith) (omega arith) h (omega arith)
 step_at_most o (Union a b) i Flat rest st n k z h l = (omega arith, h, omega arith)
 step_at_most o (PartialUnion a b) i Break rest st n k z h l = either_at_most a b i Break st n (size a + k) (n * (probed a + probed b + 1)) (probe o a i Break rest st) (omega arith) (omega arith) h (omega arith)
@@ -132,7 +135,7 @@ charges-append n (t ∷ ts) us = omega (arith, charges-append n ts us)
 -- one node was visited, a payload that it rejected, and what it asked for
 pub record OneMore (o : RenderOptions) (t : Task) (ts : List Task) (st : State) (v w : Visits) : Type 0 where
   pub printer : w.printer ≤ v.printer + 1 + extra (rejects_payload o t.tree t.mode st)
-  pub probes : w.probes ≤ v.probes + asked t.tree (nodes ts)
+  pub probes : w.probes ≤ v.probes + asked t.tree t.mode (nodes ts)
 
 -- no line suffix is among tasks, and no document is pending
 abbrev pub NoSuffix : List Task → State → Type 0
@@ -141,7 +144,7 @@ NoSuffix ts st = (suffixes ts ≡ 0) × (st.pending ≡ [])
 abbrev Stepped : RenderOptions → Task → List Task → State → Step → Type 0
 Stepped o t ts st step =
     LeavesLess (owed st.pending) (2 * size t.tree + owed st.pending - 2 * extra (rejects_payload o t.tree t.mode st)) step
-    × ((n : ℕ) → size t.tree + nodes ts ≤ n → StepAtMost n (asked t.tree (nodes ts)) (n * probed t.tree) step)
+    × ((n : ℕ) → size t.tree + nodes ts ≤ n → StepAtMost n (asked t.tree t.mode (nodes ts)) (n * probed t.tree) step)
 
 stepped : (o : RenderOptions) (t : Task) (ts : List Task) (st : State) → NoSuffix (t ∷ ts) st → Stepped o t ts st (step_at o t ts st)
 stepped o t ts st plain = (
@@ -175,7 +178,7 @@ pub failed_at_most : (o : RenderOptions) (t : Task) (ts : List Task) (st : State
 failed_at_most o t ts st v w more = record {
   left = omega arith;
   printer = omega (arith, more.printer, visits_within o t.tree t.mode st);
-  probes = λ n l. omega (arith, asked_at_most t.tree (nodes ts) n l, more.probes);
+  probes = λ n l. omega (arith, asked_at_most t.tree t.mode (nodes ts) n l, more.probes);
 }
 
 chosen_by : (o : RenderOptions) (t : Task) (ts : List Task) (st : State) (i : ℕ) (x y : Tree) (v w : Visits) (step : Step) →

@@ -2,6 +2,9 @@ pub mod Points
 pub mod Progress
 pub mod Visits
 pub mod AtLeast
+pub mod Linear
+pub mod Spending
+pub mod Gears
 pub mod Trials
 pub mod Open
 pub mod Turns

@@ -6,7 +6,7 @@ use Rattle.prettyless_sink.specs.declared.error.RenderError.TheVariants.{Documen
 use Rattle.prettyless_sink.specs.declared.visits.Visits.{Visits}
 use Rattle.prettyless_model.specs.declared.options.RenderOptions.{RenderOptions}
 use Rattle.prettyless_model.specs.declared.mode.Mode.TheVariants.{Break}
-use Rattle.prettyless_model.specs.Tree.{Tree}
+use Rattle.prettyless_model.specs.Tree.{Tree, size}
 use Rattle.prettyless_model.specs.Spaces.{spaces}
 use Rattle.prettyless_model.specs.Column.{gap}
 use Rattle.prettyless_model.specs.Layout.{Outcome, Done, Failed, Bytes, Whole, Cut, after_bytes, bytes_in, bytes_of, and_then, flushed, initial, layout}
@@ -16,6 +16,7 @@ use Rattle.prettyless_step.specs.Steps.{lay_all, owed, work}
 use Rattle.prettyless_printer.specs.Points.{Standing, state_at, Seen, Point, point_at}
 use Rattle.prettyless_printer.specs.Visits.{CountsAtMost, Plain, Rise, RunCountsAtMost, Visited}
 use Rattle.prettyless_printer.specs.AtLeast.{CountsAtLeast, VisitedAtLeast, nothing_left, stack_tally}
+use Rattle.prettyless_printer.specs.Linear.{IsFew, IsLinear}
 use Rattle.prettyless_printer.specs.Turns.{bytes_before}
 
 -- what the commands that are left lay
@@ -66,6 +67,8 @@ pub record Finishing (whole : Outcome) (p : Standing) (old out : List ℕ) : Typ
 -- A run has come from one point to another, whatever the type of nodes that its printer has there: what was written and what is
 -- left are the whole.
 pub record Continues (a b : Point) : Type 0 where
+  -- the options are the same
+  pub options : b.printer.options ≡ a.printer.options
   -- the sink writes through the same reference
   pub same_lender : b.sink.lender ≡ a.sink.lender
   -- where the sink's bytes are known, what was written and what is left to the end are the whole, and the sink did not fail
@@ -126,11 +129,12 @@ pub record RunsToEnd {A E : Type 0} (fails : E → Type 0) (a b : Point) (r : Re
 abbrev pub EndsAnywhere : {A E : Type 0} → (E → Type 0) → Point → Seen → Visits → Result A (RenderError E) → Type 0
 EndsAnywhere fails a s v r = (q : Standing) × RunsToEnd fails a (point_at q s v) r
 
--- A printer stands before a document: that is its only task, from the root and in Break, and nothing is laid yet.
+-- A printer stands before a document: that is its only task, from the root and in Break, and nothing is laid or put off yet.
 pub record Begins (o : RenderOptions) (d : Tree) (p : Standing) : Type 0 where
   pub options : p.options ≡ o
   pub tasks : p.tasks ≡ make_task 0 Break d ∷ []
   pub state : state_at p ≡ initial
+  pub queue : p.queue ≡ []
 
 -- A render of a document to a sink, seen before and after, with the visits before and after.
 pub record Renders {A E : Type 0} (fails : E → Type 0) (o : RenderOptions) (d : Tree) (s t : Seen) (v w : Visits) (r : Result A (RenderError E)) : Type 0 where
@@ -142,6 +146,10 @@ pub record Renders {A E : Type 0} (fails : E → Type 0) (o : RenderOptions) (d 
   pub rise : Rise v w
   -- without line suffixes, the printer visits each node at most once, and probes as often as nodes ask
   pub visited : Visited d v w
+  -- refusals of memory for a table are counted
+  pub refused : v.refused ≤ w.refused
+  -- where a table bounds the probes, and none was refused memory, they visit at most sixteen nodes for each node, and a thousand
+  pub few : IsLinear o.width d → w.refused ≡ 0 → IsFew 16 1000 (size d) v w
   -- on success, at least the nodes that the layout lays are counted, and the probes that it asks
   pub at_least : OnOk r (VisitedAtLeast o d v w)
 

@@ -1,5 +1,5 @@
 //! When a printer shifts: it goes on over a table of what is left where probes have visited much more than the printer.
-ghost use Rattle.std.specs.Prelude.{◌≤◌};
+ghost use Rattle.std.specs.Prelude.{◌≡◌, ◌+◌, ◌^◌, ◌<◌, ◌≤◌, ◌↔◌, IsTrue};
 
 use prettyless_sink::visits::Visits;
 
@@ -13,7 +13,9 @@ const GRACE: u64 = 1000;
 const ROOM: u64 = 4;
 
 /// Whether a table is of use at a width: its summaries hold below 2^32.
-pub(crate) fn has_gears(width: usize) -> bool {
+pub(crate) fn has_gears(width: usize) -> bool
+    ensures { IsTrue result ↔ (width < 2 ^ 32) }
+{
     width <= u32::MAX as usize
 }
 
@@ -21,52 +23,48 @@ pub(crate) fn has_gears(width: usize) -> bool {
 #[derive(Clone, Copy)]
 pub struct Gears {
     /// The visits before the render.
-    start: Visits,
-    /// No table is laid out before so many nodes are visited.
-    next_try: u64,
+    pub start: Visits,
+    /// Probes visit so many nodes before a table is laid out.
+    pub next_try: u64,
 }
 
 impl Gears {
+    ghost use Rattle.std.specs.Prelude.{IsFalse};
+    ghost use Rattle.prettyless_printer.specs.Gears.{limit_of};
+
     /// Before a render. A table is laid out as soon as it is worth it.
-    pub(crate) fn new(start: Visits) -> Self {
+    pub(crate) fn new(start: Visits) -> Self
+        ensures first { result ≡ record { start = start; next_try = 0 } }
+        ensures within { start.probes ≤ limit_of result start }
+    {
         Gears { start, next_try: 0 }
     }
 
-    // How many nodes were visited in the render.
-    fn visited(&self, visits: Visits) -> u64 {
+    /// How many nodes probes may visit before a table is worth it.
+    pub(crate) fn limit(&self, visits: Visits) -> u64
+        ensures { result ≡ limit_of self.now visits }
+    {
         let printer = visits.printer.saturating_sub(self.start.printer);
-        let probes = visits.probes.saturating_sub(self.start.probes);
-        printer.saturating_add(probes)
-    }
-
-    // How many nodes probes may have visited, for a table not to be worth it.
-    fn worth(&self, visits: Visits) -> u64 {
-        let printer = visits.printer.saturating_sub(self.start.printer);
-        let probes = printer.saturating_mul(FACTOR).saturating_add(GRACE);
-        self.start.probes.saturating_add(probes)
+        let worth = printer.saturating_mul(FACTOR).saturating_add(GRACE);
+        self.start.probes.saturating_add(worth.max(self.next_try))
     }
 
     /// Whether a table is worth it.
-    pub(crate) fn is_worth(&self, visits: Visits) -> bool {
-        visits.probes > self.worth(visits) && self.visited(visits) >= self.next_try
-    }
-
-    /// How many nodes probes may visit before the printer stops to see whether a table is worth it: no fewer than they have.
-    pub(crate) fn limit(&self, visits: Visits) -> u64
-        ensures { visits.probes ≤ result }
+    pub(crate) fn is_worth(&self, visits: Visits) -> bool
+        ensures { IsFalse result → visits.probes ≤ limit_of self.now visits }
     {
-        let waiting = self.next_try.saturating_sub(self.visited(visits));
-        self.worth(visits)
-            .max(visits.probes.saturating_add(waiting))
+        visits.probes > self.limit(visits)
     }
 
-    /// How many nodes a table may have.
-    pub(crate) fn room(&self, visits: Visits) -> u64 {
-        self.visited(visits).saturating_mul(ROOM)
-    }
-
-    /// A table had no room. The next one is laid out where as many nodes are visited as that one could have.
-    pub(crate) fn wait(&mut self, visits: Visits) {
-        self.next_try = self.room(visits);
+    /// How many nodes a table may have: so many times as many as were visited in the render. Where it is not had, the next one is laid
+    /// out once probes have visited as many nodes.
+    pub(crate) fn next_room(&mut self, visits: Visits) -> u64
+        ensures next { self.new ≡ record self.old { next_try = result } }
+        ensures within { visits.probes ≤ limit_of self.new visits }
+    {
+        let printer = visits.printer.saturating_sub(self.start.printer);
+        let probes = visits.probes.saturating_sub(self.start.probes);
+        self.next_try = printer.saturating_add(probes).saturating_mul(ROOM);
+        self.next_try
     }
 }

@@ -1,8 +1,10 @@
 //! Rendering a document to a sink.
-ghost use Rattle.std.specs.Prelude.{IfOk};
+ghost use Rattle.std.specs.Prelude.{◌≡◌, IfOk};
+ghost use Rattle.prettyless_model.specs.Tree.{size};
 ghost use Rattle.prettyless_step.specs.Sums.{IsSummed};
 ghost use Rattle.prettyless_printer.specs.Points.{seen, standing};
 ghost use Rattle.prettyless_printer.specs.Renders.{Begins, Renders};
+ghost use Rattle.prettyless_printer.specs.Linear.{IsFew, IsLinear};
 
 use crate::shift::{run_in_gears, run_over_table};
 use prettyless_model::column::Column;
@@ -48,7 +50,8 @@ fn printer_before<N: Walk>(
 /// The nodes that are visited are added to `visits`. On success the printer has visited at least the nodes that the layout
 /// lays, and its probes at least one node for each probe that the layout asks; a rejected branch counts nothing here.
 /// Without line suffixes the printer visits at most as many nodes as the document has, and its probes together at most
-/// that many for each node that asks one.
+/// that many for each node that asks one. Where the document is linear too (`IsLinear`) and no table was refused memory, probes
+/// visit at most sixteen nodes for each node of the document, and a thousand.
 pub fn render<N: Walk, W: Render>(
     alloc: Global,
     node: N,
@@ -61,7 +64,12 @@ pub fn render<N: Walk, W: Render>(
         visits.old visits.new result }
 {
     match printer_before(alloc, node, options) {
-        Ok(mut printer) => run_in_gears(alloc, &mut printer, out, visits),
+        Ok(mut printer) => {
+            let mut refused = visits.refused;
+            let result = run_in_gears(alloc, &mut printer, out, visits, &mut refused);
+            visits.refused = refused;
+            result
+        }
         Err(e) => Err(RenderError::Memory(e)),
     }
 }
@@ -77,12 +85,18 @@ pub fn render_over_table<N: Walk, W: Render>(
     out: &mut W,
     visits: &mut Visits,
 ) -> Result<(), RenderError<W::Error>>
-    ensures { Renders (W.document_errors out.new) options (N.tree node)
+    ensures renders { Renders (W.document_errors out.new) options (N.tree node)
         (seen W.bytes W.failures W.lender out.old) (seen W.bytes W.failures W.lender out.new)
         visits.old visits.new result }
+    ensures few { IsLinear options.width (N.tree node) → visits.new.refused ≡ 0 → IsFew 2 0 (size (N.tree node)) visits.old visits.new }
 {
     match printer_before(alloc, node, options) {
-        Ok(mut printer) => run_over_table(alloc, &mut printer, out, visits),
+        Ok(mut printer) => {
+            let mut refused = visits.refused;
+            let result = run_over_table(alloc, &mut printer, out, visits, &mut refused);
+            visits.refused = refused;
+            result
+        }
         Err(e) => Err(RenderError::Memory(e)),
     }
 }

@@ -1,11 +1,13 @@
 //! The run: commands are worked off into a sink, and then what is pending at the end.
-ghost use Rattle.std.specs.Prelude.{ℕ, ◌≡◌, ◌<◌, [], length, IsTrue, OnOk};
+ghost use Rattle.std.specs.Prelude.{ℕ, ◌≡◌, ◌<◌, ◌^◌, ◌-◌, [], length, IsTrue, OnOk};
 ghost use Rattle.prettyless_model.specs.Tree.{Tree};
 ghost use Rattle.prettyless_step.specs.Printing.{tasks_of};
 ghost use Rattle.prettyless_step.specs.Sums.{IsSummed};
 ghost use Rattle.prettyless_printer.specs.Points.{Point, buffer_seen, point, seen, standing};
 ghost use Rattle.prettyless_printer.specs.Renders.{FlushesEnd, RunsToEnd};
-ghost use Rattle.prettyless_printer.specs.Open.{all_held};
+ghost use Rattle.prettyless_printer.specs.Open.{all_held, seconds};
+ghost use Rattle.prettyless_printer.specs.Visits.{Plain};
+ghost use Rattle.prettyless_printer.specs.Spending.{IsPlainChoice, Spends, SpendsAs, left, left_choice, none_left, rule_of};
 ghost use Rattle.prettyless_printer.specs.Runs.{Comes, InChoice, RunsOn, Settles, WorksOn};
 
 use crate::answer::{Ran, Tried, Turn};
@@ -37,6 +39,11 @@ fn go_on_choosing<N: Walk, W: Render>(
         (buffer_seen buffer.old) (point N.tree printer.old (seen W.bytes W.failures W.lender out.old) visits.old) →
         Settles limit i x y a (all_held N.tree trials.new.open.items) (buffer_seen buffer.new)
         (point N.tree printer.new (seen W.bytes W.failures W.lender out.new) visits.new) result }
+    ensures spends { (i : ℕ) (x y : Tree) (a : Point) → InChoice i x y a (all_held N.tree trials.old.open.items)
+        (buffer_seen buffer.old) (point N.tree printer.old (seen W.bytes W.failures W.lender out.old) visits.old) →
+        IsPlainChoice a.printer x y → SpendsAs (rule_of N.HAS_SUMMARIES printer.old.options limit)
+        (left (standing N.tree printer.old) (seconds (all_held N.tree trials.old.open.items)) visits.old)
+        (left (standing N.tree printer.new) (seconds (all_held N.tree trials.new.open.items)) visits.new) result }
     ensures summed { OnOk result (IsSummed N.HAS_SUMMARIES N.tree printer.new.commands) }
 {
     match go_on_trying(printer, trials, buffer, limit, visits) {
@@ -68,6 +75,10 @@ fn choose<N: Walk, W: Render>(
         (point N.tree printer.old (seen W.bytes W.failures W.lender out.old) visits.old)
         (all_held N.tree trials.new.open.items) (buffer_seen buffer.new)
         (point N.tree printer.new (seen W.bytes W.failures W.lender out.new) visits.new) result }
+    ensures spends { IsPlainChoice (standing N.tree printer.old) (N.tree first) (N.tree second) → SpendsAs
+        (rule_of N.HAS_SUMMARIES printer.old.options limit)
+        (left_choice indent (N.tree first) (N.tree second) (standing N.tree printer.old) visits.old)
+        (left (standing N.tree printer.new) (seconds (all_held N.tree trials.new.open.items)) visits.new) result }
     ensures summed { OnOk result (IsSummed N.HAS_SUMMARIES N.tree printer.new.commands) }
 {
     buffer.text.clear();
@@ -92,6 +103,10 @@ fn work_off<N: Walk, W: Render>(
         (point N.tree printer.old (seen W.bytes W.failures W.lender out.old) visits.old)
         (all_held N.tree trials.new.open.items) (buffer_seen buffer.new)
         (point N.tree printer.new (seen W.bytes W.failures W.lender out.new) visits.new) result }
+    ensures spends { Plain (standing N.tree printer.old) → SpendsAs
+        (rule_of N.HAS_SUMMARIES printer.old.options limit)
+        (left (standing N.tree printer.old) [] visits.old)
+        (left (standing N.tree printer.new) (seconds (all_held N.tree trials.new.open.items)) visits.new) result }
     ensures summed { OnOk result (IsSummed N.HAS_SUMMARIES N.tree printer.new.commands) }
 {
     'work: while printer.commands.len() > 0 {
@@ -148,6 +163,10 @@ fn run_to_end<N: Walk, W: Render>(
         (point N.tree printer.old (seen W.bytes W.failures W.lender out.old) visits.old)
         (all_held N.tree trials.new.open.items) (buffer_seen buffer.new)
         (point N.tree printer.new (seen W.bytes W.failures W.lender out.new) visits.new) result }
+    ensures spends { Plain (standing N.tree printer.old) → SpendsAs
+        (rule_of N.HAS_SUMMARIES printer.old.options limit)
+        (left (standing N.tree printer.old) [] visits.old)
+        (left (standing N.tree printer.new) (seconds (all_held N.tree trials.new.open.items)) visits.new) result }
     ensures summed { OnOk result (IsSummed N.HAS_SUMMARIES N.tree printer.new.commands) }
 {
     'rounds: loop {
@@ -179,6 +198,11 @@ pub(crate) fn go_on<N: Walk, W: Render>(
         (point N.tree printer.old (seen W.bytes W.failures W.lender out.old) visits.old) →
         RunsOn (W.document_errors out.new) limit a (all_held N.tree trials.new.open.items) (buffer_seen buffer.new)
         (point N.tree printer.new (seen W.bytes W.failures W.lender out.new) visits.new) result }
+    ensures spends { (a : Point) → Comes a (all_held N.tree trials.old.open.items) (buffer_seen buffer.old)
+        (point N.tree printer.old (seen W.bytes W.failures W.lender out.old) visits.old) →
+        Plain a.printer → SpendsAs (rule_of N.HAS_SUMMARIES printer.old.options limit)
+        (left (standing N.tree printer.old) (seconds (all_held N.tree trials.old.open.items)) visits.old)
+        (left (standing N.tree printer.new) (seconds (all_held N.tree trials.new.open.items)) visits.new) result }
     ensures summed { OnOk result (IsSummed N.HAS_SUMMARIES N.tree printer.new.commands) }
 {
     if trials.is_empty() {
@@ -201,7 +225,12 @@ pub(crate) fn finish<N: Walk, W: Render>(
     requires comes { (a : Point) × Comes a (all_held N.tree trials.old.open.items) (buffer_seen buffer.old)
         (point N.tree printer.old (seen W.bytes W.failures W.lender out.old) visits.old) }
     requires summed { IsSummed N.HAS_SUMMARIES N.tree printer.old.commands }
-    ensures { (a : Point) → Comes a (all_held N.tree trials.old.open.items) (buffer_seen buffer.old)
+    ensures spends { (a : Point) → Comes a (all_held N.tree trials.old.open.items) (buffer_seen buffer.old)
+        (point N.tree printer.old (seen W.bytes W.failures W.lender out.old) visits.old) →
+        Plain a.printer → Spends (rule_of N.HAS_SUMMARIES printer.old.options (2 ^ 64 - 1))
+        (left (standing N.tree printer.old) (seconds (all_held N.tree trials.old.open.items)) visits.old)
+        (none_left visits.new) }
+    ensures ends { (a : Point) → Comes a (all_held N.tree trials.old.open.items) (buffer_seen buffer.old)
         (point N.tree printer.old (seen W.bytes W.failures W.lender out.old) visits.old) →
         RunsToEnd (W.document_errors out.new) a
         (point N.tree printer.new (seen W.bytes W.failures W.lender out.new) visits.new) result }

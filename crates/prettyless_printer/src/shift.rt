@@ -1,13 +1,19 @@
 //! The shift: what a run has left is laid out in a table, and the run goes on over that.
-ghost use Rattle.std.specs.Prelude.{◌≡◌, ◌<◌, ◌+◌, ⊤, IfOk, IfSome, List, MatchOption, map};
-ghost use Rattle.prettyless_model.specs.Tree.{Tree};
+ghost use Rattle.std.specs.Prelude.{◌≡◌, ◌<◌, ◌≤◌, ◌+◌, ◌-◌, ◌^◌, ⊤, IfOk, IfSome, List, MatchOption, length, map, min, true};
+ghost use Rattle.std.specs.List.{sum_by};
+ghost use Rattle.prettyless_model.specs.Tree.{Tree, size};
+ghost use Rattle.prettyless_step.specs.Printing.{tasks_of};
+ghost use Rattle.prettyless_step.specs.Stack.{nodes};
 ghost use Rattle.prettyless_step.specs.Sums.{IsSummed};
 ghost use Rattle.prettyless_table.specs.Cells.{Grows, IsSound};
-ghost use Rattle.prettyless_table.specs.Shift.{AreNodes};
-ghost use Rattle.prettyless_printer.specs.Points.{Point, Standing, buffer_seen, point, seen};
+ghost use Rattle.prettyless_table.specs.Shift.{AreNodes, nodes_left};
+ghost use Rattle.prettyless_printer.specs.Points.{Point, Standing, buffer_seen, point, seen, standing};
 ghost use Rattle.prettyless_printer.specs.Open.{Held, all_held, seconds};
 ghost use Rattle.prettyless_printer.specs.Renders.{EndsAnywhere};
 ghost use Rattle.prettyless_printer.specs.Runs.{Comes};
+ghost use Rattle.prettyless_printer.specs.Visits.{Plain};
+ghost use Rattle.prettyless_printer.specs.Linear.{IsFew, IsLinearStart};
+ghost use Rattle.prettyless_printer.specs.Spending.{IsUnended, Spends, left, none_left, rule_of};
 
 use crate::answer::Ran;
 use crate::buffer::Buffer;
@@ -16,20 +22,24 @@ use crate::run::{finish, go_on};
 use crate::trial::{OpenTrial, Trials};
 use prettyless_sink::error::RenderError;
 use prettyless_sink::render::Render;
-use prettyless_sink::visits::Visits;
+use prettyless_sink::visits::{Visits, one_more};
 use prettyless_step::printer::Printer;
 use prettyless_step::walk::Walk;
 use prettyless_table::{Placed, Table, count, count_left, lay_out_all, placed_printer};
 use std::alloc::{AllocError, Global};
 
-// How many nodes are left, with the second branches of open trials, if not more than `most`. So nothing is laid out in vain, and the
-// table asks for its memory once.
+// How many nodes are left, with the second branches of open trials. `None` is answered where there are more than `most`: so nothing is
+// laid out in vain, and the table asks for its memory once.
 fn count_all<N: Walk>(
     alloc: Global,
     printer: &Printer<N>,
     trials: &Trials<N>,
     most: usize,
-) -> Result<Option<usize>, AllocError> {
+) -> Result<Option<usize>, AllocError>
+    ensures { IfOk result (λ o. MatchOption o
+        (most < nodes_left N.tree printer.now + sum_by size (seconds (all_held N.tree trials.now.open.items)))
+        (λ n. n ≡ nodes_left N.tree printer.now + sum_by size (seconds (all_held N.tree trials.now.open.items)))) }
+{
     let Some(mut counted) = count_left(alloc, printer, most)? else {
         return Ok(None);
     };
@@ -54,8 +64,11 @@ fn lay_out_seconds<N: Walk>(
 ) -> Result<Option<Vec<u32>>, AllocError>
     requires sound { IsSound N.tree table.old.cells.items }
     ensures grows { Grows N.tree table.old.cells.items table.new.cells.items }
-    ensures laid { IfOk result (λ o. IfSome o (λ places.
-        AreNodes N.tree table.new.cells.items places.items (seconds (all_held N.tree trials.now.open.items)))) }
+    ensures laid { IfOk result (λ o. MatchOption o
+        (min most 4294967294 < length table.old.cells.items + sum_by size (seconds (all_held N.tree trials.now.open.items)))
+        (λ places. AreNodes N.tree table.new.cells.items places.items (seconds (all_held N.tree trials.now.open.items)))) }
+    ensures count { IfOk result (λ o. IfSome o (λ _. length table.new.cells.items
+        ≤ length table.old.cells.items + sum_by size (seconds (all_held N.tree trials.now.open.items)))) }
 {
     let mut places = Vec::new(alloc);
     let mut k = 0;
@@ -94,8 +107,9 @@ fn placed_trials<'t, N: Walk>(
     Ok(placed)
 }
 
-// Lays out what is left in a table, with the second branches of open trials, and goes on over that to the end. None where it has no
-// room for so many nodes, or memory is refused: then nothing has changed.
+// Lays out what is left in a table, with the second branches of open trials, and goes on over that to the end. `None` is answered
+// where it would have more nodes than there is room for, or than a table can have. Then nothing has changed, nor where memory is
+// refused for the table.
 #[inline(never)]
 pub(crate) fn shift<N: Walk, W: Render>(
     alloc: Global,
@@ -105,46 +119,52 @@ pub(crate) fn shift<N: Walk, W: Render>(
     room: u64,
     out: &mut W,
     visits: &mut Visits,
-) -> Option<Result<(), RenderError<W::Error>>>
+) -> Result<Option<Result<(), RenderError<W::Error>>>, AllocError>
     requires comes { (a : Point) × Comes a (all_held N.tree trials.now.open.items) (buffer_seen buffer.old)
         (point N.tree printer.now (seen W.bytes W.failures W.lender out.old) visits.old) }
-    ensures ended { IfSome result (λ r. (a : Point) → Comes a (all_held N.tree trials.now.open.items) (buffer_seen buffer.old)
+    ensures ended { IfOk result (λ o. IfSome o (λ r. (a : Point) → Comes a (all_held N.tree trials.now.open.items) (buffer_seen buffer.old)
         (point N.tree printer.now (seen W.bytes W.failures W.lender out.old) visits.old) →
-        EndsAnywhere (W.document_errors out.new) a (seen W.bytes W.failures W.lender out.new) visits.new r) }
-    ensures same { MatchOption result ((out.new ≡ out.old) × (visits.new ≡ visits.old) × (buffer.new ≡ buffer.old)) (λ _. ⊤) }
+        EndsAnywhere (W.document_errors out.new) a (seen W.bytes W.failures W.lender out.new) visits.new r)) }
+    ensures spends { IfOk result (λ o. IfSome o (λ r. (a : Point) → Comes a (all_held N.tree trials.now.open.items) (buffer_seen buffer.old)
+        (point N.tree printer.now (seen W.bytes W.failures W.lender out.old) visits.old) →
+        Plain a.printer → Spends (rule_of true printer.now.options (2 ^ 64 - 1))
+        (left (standing N.tree printer.now) (seconds (all_held N.tree trials.now.open.items)) visits.old)
+        (none_left visits.new))) }
+    ensures large { IfOk result (λ o. MatchOption o
+        (min room 4294967294 < nodes_left N.tree printer.now + sum_by size (seconds (all_held N.tree trials.now.open.items)))
+        (λ _. ⊤)) }
+    ensures same { IsUnended result → (out.new ≡ out.old) × (visits.new ≡ visits.old) × (buffer.new ≡ buffer.old) }
 {
-    let Ok(Some(nodes)) = count_all(alloc, printer, trials, room as usize) else {
-        return None;
+    let Some(nodes) = count_all(alloc, printer, trials, room as usize)? else {
+        return Ok(None);
     };
-    let Ok(mut table) = Table::with_room(alloc, nodes) else {
-        return None;
+    let mut table = Table::with_room(alloc, nodes)?;
+    let Some(seconds) = lay_out_seconds(alloc, trials, &mut table, nodes)? else {
+        return Ok(None);
     };
-    let Ok(Some(seconds)) = lay_out_seconds(alloc, trials, &mut table, nodes) else {
-        return None;
+    let Some(places) = lay_out_all(alloc, printer, &mut table, nodes)? else {
+        return Ok(None);
     };
-    let Ok(Some(places)) = lay_out_all(alloc, printer, &mut table, nodes) else {
-        return None;
-    };
-    let Ok(mut placed) = placed_printer(alloc, printer, &table, &places) else {
-        return None;
-    };
-    let Ok(mut placed_trials) = placed_trials(alloc, trials, &table, &seconds) else {
-        return None;
-    };
-    Some(finish(&mut placed, &mut placed_trials, buffer, out, visits))
+    let mut placed = placed_printer(alloc, printer, &table, &places)?;
+    let mut placed_trials = placed_trials(alloc, trials, &table, &seconds)?;
+    Ok(Some(finish(&mut placed, &mut placed_trials, buffer, out, visits)))
 }
 
-/// Runs to the end, over a table from where that is worth it.
+/// Runs to the end, over a table from where that is worth it. Tables that are refused memory are counted.
 pub(crate) fn run_in_gears<N: Walk, W: Render>(
     alloc: Global,
     printer: &mut Printer<N>,
     out: &mut W,
     visits: &mut Visits,
+    refused: &mut u64,
 ) -> Result<(), RenderError<W::Error>>
     requires { IsSummed N.HAS_SUMMARIES N.tree printer.old.commands }
-    ensures { EndsAnywhere (W.document_errors out.new)
+    ensures ends { EndsAnywhere (W.document_errors out.new)
         (point N.tree printer.old (seen W.bytes W.failures W.lender out.old) visits.old)
         (seen W.bytes W.failures W.lender out.new) visits.new result }
+    ensures rises { refused.old ≤ refused.new }
+    ensures few { IsLinearStart (standing N.tree printer.old) → refused.new ≡ 0 →
+        IsFew 16 1000 (nodes (tasks_of N.tree printer.old)) visits.old visits.new }
 {
     let mut trials = Trials::new(alloc);
     let mut buffer = Buffer::new(alloc);
@@ -159,33 +179,43 @@ pub(crate) fn run_in_gears<N: Walk, W: Render>(
             Ran::Shift => {}
         }
         if gears.is_worth(*visits) {
-            let room = gears.room(*visits);
-            if let Some(ended) = shift(alloc, printer, &trials, &mut buffer, room, out, visits) {
-                return ended;
+            let room = gears.next_room(*visits);
+            match shift(alloc, printer, &trials, &mut buffer, room, out, visits) {
+                Ok(Some(ended)) => return ended,
+                Ok(None) => {}
+                Err(_) => *refused = one_more(*refused),
             }
-            gears.wait(*visits);
         }
     }
 }
 
-/// Runs to the end over a table, or without one where it is not to be had.
+/// Runs to the end over a table, or without one where it is not to be had. A table that is refused memory is counted.
 pub(crate) fn run_over_table<N: Walk, W: Render>(
     alloc: Global,
     printer: &mut Printer<N>,
     out: &mut W,
     visits: &mut Visits,
+    refused: &mut u64,
 ) -> Result<(), RenderError<W::Error>>
     requires { IsSummed N.HAS_SUMMARIES N.tree printer.old.commands }
-    ensures { EndsAnywhere (W.document_errors out.new)
+    ensures ends { EndsAnywhere (W.document_errors out.new)
         (point N.tree printer.old (seen W.bytes W.failures W.lender out.old) visits.old)
         (seen W.bytes W.failures W.lender out.new) visits.new result }
+    ensures rises { refused.old ≤ refused.new }
+    ensures few { IsLinearStart (standing N.tree printer.old) → refused.new ≡ 0 →
+        IsFew 2 0 (nodes (tasks_of N.tree printer.old)) visits.old visits.new }
 {
     let mut trials = Trials::new(alloc);
     let mut buffer = Buffer::new(alloc);
-    if has_gears(printer.options.width) {
-        if let Some(ended) = shift(alloc, printer, &trials, &mut buffer, u64::MAX, out, visits) {
-            return ended;
+    if !has_gears(printer.options.width) {
+        return finish(printer, &mut trials, &mut buffer, out, visits);
+    }
+    match shift(alloc, printer, &trials, &mut buffer, u64::MAX, out, visits) {
+        Ok(Some(ended)) => ended,
+        Ok(None) => finish(printer, &mut trials, &mut buffer, out, visits),
+        Err(_) => {
+            *refused = one_more(*refused);
+            finish(printer, &mut trials, &mut buffer, out, visits)
         }
     }
-    finish(printer, &mut trials, &mut buffer, out, visits)
 }

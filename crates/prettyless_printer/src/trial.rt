@@ -6,7 +6,9 @@ ghost use Rattle.prettyless_model.specs.Tree.{Tree};
 ghost use Rattle.prettyless_step.specs.Sums.{IsSummed};
 ghost use Rattle.prettyless_printer.specs.Points.{buffer_seen, point, standing};
 ghost use Rattle.prettyless_printer.specs.Trials.{Attempt, Courses, Marks, Restores, TrialStopsPast};
-ghost use Rattle.prettyless_printer.specs.Open.{BeginsTrial, Ends, Open, Opens, all_held, below_all};
+ghost use Rattle.prettyless_printer.specs.Open.{BeginsTrial, Ends, Open, Opens, all_held, below_all, seconds};
+ghost use Rattle.prettyless_printer.specs.Visits.{Plain};
+ghost use Rattle.prettyless_printer.specs.Spending.{IsPlainTrial, Spends, SpendsAs, after_course, left, rule_of};
 
 use crate::answer::{Course, Tried, Turn};
 use crate::buffer::Buffer;
@@ -122,6 +124,7 @@ pub(crate) fn open_trial<N: Walk>(
     requires summed { IsSummed N.HAS_SUMMARIES N.tree printer.old.commands }
     ensures held { OnOk result (Opens N.tree indent (N.tree second) (standing N.tree printer.old) (buffer_seen buffer.now)
         (all_held N.tree trials.old.open.items) (all_held N.tree trials.new.open.items)) }
+    ensures queue { printer.new.queue ≡ printer.old.queue }
     ensures begun { OnOk result (BeginsTrial indent (N.tree first) (standing N.tree printer.old) (standing N.tree printer.new)) }
     ensures summed { OnOk result (IsSummed N.HAS_SUMMARIES N.tree printer.new.commands) }
 {
@@ -148,6 +151,10 @@ fn advance<N: Walk>(
         (point N.tree printer.old (buffer_seen buffer.old) visits.old)
         (point N.tree printer.new (buffer_seen buffer.new) visits.new) result }
     ensures past { IfOk result (λ c. TrialStopsPast limit visits.new.probes c) }
+    ensures spends { Plain (standing N.tree printer.old) → Spends
+        (rule_of N.HAS_SUMMARIES printer.old.options limit)
+        (left (standing N.tree printer.old) [] visits.old)
+        (after_course N.tree (standing N.tree printer.new) visits.new result) }
     ensures summed { OnOk result (IsSummed N.HAS_SUMMARIES N.tree printer.new.commands) }
 {
     if printer.commands.len() <= below {
@@ -191,6 +198,11 @@ pub(crate) fn go_on_trying<N: Walk>(
     ensures ends { (s : Attempt) (y : Tree) → Open s y (all_held N.tree trials.old.open.items)
         (point N.tree printer.old (buffer_seen buffer.old) visits.old) →
         Ends limit s y (point N.tree printer.new (buffer_seen buffer.new) visits.new) (all_held N.tree trials.new.open.items) result }
+    ensures spends { (s : Attempt) (y : Tree) → Open s y (all_held N.tree trials.old.open.items)
+        (point N.tree printer.old (buffer_seen buffer.old) visits.old) → IsPlainTrial s y → SpendsAs
+        (rule_of N.HAS_SUMMARIES printer.old.options limit)
+        (left (standing N.tree printer.old) (seconds (all_held N.tree trials.old.open.items)) visits.old)
+        (left (standing N.tree printer.new) (seconds (all_held N.tree trials.new.open.items)) visits.new) result }
     ensures summed { OnOk result (IsSummed N.HAS_SUMMARIES N.tree printer.new.commands) }
 {
     'work: loop {

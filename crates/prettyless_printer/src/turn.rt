@@ -1,9 +1,11 @@
 //! A turn: a command is taken and stepped, and so is each that comes in hand; the last one is written.
-ghost use Rattle.std.specs.Prelude.{◌<◌, ◌↔◌, length, IfOk, IsTrue, OnOk};
+ghost use Rattle.std.specs.Prelude.{◌<◌, ◌≤◌, ◌↔◌, [], length, IfOk, IsFalse, IsTrue, OnOk};
 ghost use Rattle.prettyless_model.specs.Counts.{each_probe};
 ghost use Rattle.prettyless_step.specs.Printing.{tasks_of};
 ghost use Rattle.prettyless_step.specs.Sums.{IsSummed};
-ghost use Rattle.prettyless_printer.specs.Points.{point, seen};
+ghost use Rattle.prettyless_printer.specs.Points.{point, seen, standing};
+ghost use Rattle.prettyless_printer.specs.Visits.{Plain};
+ghost use Rattle.prettyless_printer.specs.Spending.{Spends, after_turn, left, rule_of};
 ghost use Rattle.prettyless_printer.specs.Turns.{Advances, IsPastLimit, StopsPast};
 
 use crate::answer::Turn;
@@ -35,6 +37,15 @@ fn asks_probe<N: Walk>(mode: Mode, node: &N) -> bool
     }
 }
 
+// Whether to stop before a node: it asks a probe, and probes have visited more nodes than the limit.
+#[inline(always)]
+fn has_to_stop<N: Walk>(probes: u64, limit: u64, mode: Mode, node: &N) -> bool
+    ensures past { IsTrue result → IsPastLimit limit probes }
+    ensures within { IsFalse result → 0 < each_probe (N.tree node.now) mode → probes ≤ limit }
+{
+    is_past_limit(probes, limit) && asks_probe(mode, node)
+}
+
 /// Takes the next command, goes on with what is in hand down to a node that leads to no other, and writes what that one gives.
 /// Each of these nodes is a visit, and so is a payload that a step rejects. Before a node that asks a probe it stops if probes have
 /// visited more nodes than the limit.
@@ -51,6 +62,10 @@ pub fn turn<N: Walk, W: Render>(
         (point N.tree printer.old (seen W.bytes W.failures W.lender out.old) visits.old)
         (point N.tree printer.new (seen W.bytes W.failures W.lender out.new) visits.new) result }
     ensures past { IfOk result (λ t. StopsPast limit visits.new.probes t) }
+    ensures spends { Plain (standing N.tree printer.old) → Spends
+        (rule_of N.HAS_SUMMARIES printer.old.options limit)
+        (left (standing N.tree printer.old) [] visits.old)
+        (after_turn N.tree (standing N.tree printer.new) visits.new result) }
     ensures summed { OnOk result (IsSummed N.HAS_SUMMARIES N.tree printer.new.commands) }
 {
     let Some(command) = printer.commands.pop() else {
@@ -61,7 +76,7 @@ pub fn turn<N: Walk, W: Render>(
     let mut node = command.node;
     let mut is_past = false;
     'down: loop {
-        if is_past_limit(visits.probes, limit) && asks_probe(mode, &node) {
+        if has_to_stop(visits.probes, limit, mode, &node) {
             return match printer.commands.push(indent, mode, node) {
                 Ok(()) => Ok(Turn::Shift),
                 Err(e) => Err(RenderError::Memory(e)),

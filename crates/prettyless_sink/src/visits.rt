@@ -2,13 +2,15 @@
 ghost use Rattle.std.specs.Prelude.{◌≡◌, ◌+◌, ◌≤◌};
 ghost use Rattle.prettyless_sink.specs.Sink.{rise};
 
-/// How many nodes were visited. Each count stops at the greatest `u64`.
+/// How many nodes were visited, and how often that was not bounded. Each count stops at the greatest `u64`.
 #[derive(Clone, Copy, Debug, Default)]
 pub struct Visits {
     /// By the printer: to be laid, also in a trial that was not kept; and a payload that a union rejected by its metrics.
     pub printer: u64,
     /// By probes: to be read.
     pub probes: u64,
+    /// Tables that were refused memory, which is no error. Without one, probes may visit more nodes.
+    pub refused: u64,
 }
 
 /// One visit more, in a count that stays at its greatest value.

@@ -1,6 +1,8 @@
 -- What a probe comes to at one node, and how many nodes a probe may visit.
 use Rattle.std.specs.Prelude.{◌≡◌, ℕ, ◌+◌, ◌*◌, ◌-◌, ◌^◌, ◌<◌, ◌≤◌, min, Bool, List, [], ◌∷◌, length, Option, Some, None}
 use Rattle.prettyless_model.specs.Tree.{Tree, Group, PartialUnion, size}
+use Rattle.prettyless_model.specs.Look.{by_mode}
+use Rattle.prettyless_model.specs.declared.mode.Mode.{Mode}
 use Rattle.prettyless_model.specs.declared.column.Column.{Column}
 use Rattle.prettyless_step.specs.Stack.{Task, make_task, tasks_fit}
 use Rattle.prettyless_step.specs.Sums.{AllSummed, HaveSum}
@@ -32,11 +34,11 @@ pace f (Answer b) = 0
 pace f (Next i m n) = 2 * size (f n)
 pace f Done = 1
 
--- how many nodes the probe that a node asks may visit, where k nodes follow the node
-abbrev pub asked : Tree → ℕ → ℕ
-asked (Group d) k = size d + k
-asked (PartialUnion l r) k = size l + k
-asked _ k = 0
+-- how many nodes the probe that a node asks in a mode may visit, where k nodes follow the node
+abbrev pub asked : Tree → Mode → ℕ → ℕ
+asked (Group d) m k = by_mode m (size d + k) 0
+asked (PartialUnion l r) m k = by_mode m (size l + k) 0
+asked _ m k = 0
 
 -- a count that rose by k at least, or is the greatest value
 abbrev pub RisesBy : ℕ → ℕ → ℕ → Type 0

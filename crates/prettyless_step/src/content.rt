@@ -19,6 +19,7 @@ pub fn put_text<'v, N: Walk>(printer: &mut Printer<N>, counted: usize, text: &'v
     ensures writes { Writes N.tree (piece_bytes result)
         (at_once (lay_text printer.old.options counted text.now (state_of N.tree printer.old))) printer.old printer.new }
     ensures commands { printer.new.commands ≡ printer.old.commands }
+    ensures queue { printer.new.queue ≡ printer.old.queue }
 {
     if text.is_empty() {
         return Piece::nothing();
@@ -64,6 +65,7 @@ pub fn put_payload<'v, N: Walk>(
     ensures writes { Writes N.tree (piece_bytes result)
         (at_once (lay_payload printer.old.options metrics text.now (state_of N.tree printer.old))) printer.old printer.new }
     ensures commands { printer.new.commands ≡ printer.old.commands }
+    ensures queue { printer.new.queue ≡ printer.old.queue }
 {
     let gap = if metrics.first_nonempty {
         printer.column.gap()

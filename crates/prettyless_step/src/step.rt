@@ -1,7 +1,8 @@
 //! What the visit of one node does.
-ghost use Rattle.std.specs.Prelude.{◌≡◌, ◌+◌, ◌∷◌, ◌≤◌, ◌&&◌, [], true, IfOk, IsTrue, OnOk, if◌then◌else◌};
+ghost use Rattle.std.specs.Prelude.{◌≡◌, ◌+◌, ◌∷◌, ◌≤◌, ◌&&◌, [], false, true, IfOk, IsTrue, OnOk, if◌then◌else◌};
 ghost use Rattle.prettyless_model.specs.Tree.{size};
 ghost use Rattle.prettyless_model.specs.Look.{by_mode};
+ghost use Rattle.prettyless_model.specs.Content.{suffix_depth};
 ghost use Rattle.prettyless_model.specs.Counts.{each_probe};
 ghost use Rattle.prettyless_model.specs.Layout.{is_suppressed, lay_ending, some_pending, next_indent, probe as probe_of};
 ghost use Rattle.prettyless_model.specs.declared.mode.Mode.TheVariants.{Break, Flat};
@@ -78,7 +79,7 @@ fn partial_choice<N: Walk>(
         (N.tree first)) }
     ensures others { printer.new ≡ record printer.old { scratch = printer.new.scratch } }
     ensures rises { probes.old ≤ probes.new }
-    ensures counted { probes.new ≤ probes.old + (size (N.tree first) + nodes (tasks_of N.tree printer.old)) }
+    ensures counted { probes.new ≤ probes.old + by_mode mode (size (N.tree first) + nodes (tasks_of N.tree printer.old)) 0 }
     ensures asked { OnOk result (RisesBy (by_mode mode 1 0) probes.old probes.new) }
     ensures few { Few N.HAS_SUMMARIES printer.old.options.width (N.tree first) (tasks_of N.tree printer.old) (by_mode mode 1 0) probes.old probes.new }
 {
@@ -111,6 +112,7 @@ fn end_line<N: Walk>(printer: &mut Printer<N>, indent: usize) -> Piece<'static>
         (next_indent indent (following N.tree printer.old)) (state_of N.tree printer.old)))
         printer.old printer.new }
     ensures commands { printer.new.commands ≡ printer.old.commands }
+    ensures queue { printer.new.queue ≡ printer.old.queue }
 {
     let next = printer.commands.next_indent(indent);
     let text = printer.options.line_ending.as_str();
@@ -174,6 +176,7 @@ fn break_line<N: Walk>(
         (break_step printer.old.options (state_of N.tree printer.old).pending (N.tree node) indent mode
         (following N.tree printer.old) (state_of N.tree printer.old))
         printer.old printer.new) }
+    ensures queue { some_pending (state_of N.tree printer.old).pending ≡ false → printer.new.queue ≡ printer.old.queue }
     ensures summed { OnOk result (IsSummed N.HAS_SUMMARIES N.tree printer.new.commands) }
 {
     if is_pending(printer) {
@@ -204,9 +207,10 @@ fn group<N: Walk>(
         Flat) (N.tree inner) ∷ []) (state_of N.tree printer.old))
         printer.old printer.new) }
     ensures rises { probes.old ≤ probes.new }
-    ensures counted { probes.new ≤ probes.old + (size (N.tree inner) + nodes (tasks_of N.tree printer.old)) }
+    ensures counted { probes.new ≤ probes.old + by_mode mode (size (N.tree inner) + nodes (tasks_of N.tree printer.old)) 0 }
     ensures asked { OnOk result (RisesBy (by_mode mode 1 0) probes.old probes.new) }
     ensures few { Few N.HAS_SUMMARIES printer.old.options.width (N.tree inner) (tasks_of N.tree printer.old) (by_mode mode 1 0) probes.old probes.new }
+    ensures queue { printer.new.queue ≡ printer.old.queue }
     ensures summed { OnOk result (IsSummed N.HAS_SUMMARIES N.tree printer.new.commands) }
 {
     if let Mode::Break = mode {
@@ -239,9 +243,10 @@ fn partial_union<N: Walk>(
         (N.tree first)) ∷ []) (state_of N.tree printer.old))
         printer.old printer.new) }
     ensures rises { probes.old ≤ probes.new }
-    ensures counted { probes.new ≤ probes.old + (size (N.tree first) + nodes (tasks_of N.tree printer.old)) }
+    ensures counted { probes.new ≤ probes.old + by_mode mode (size (N.tree first) + nodes (tasks_of N.tree printer.old)) 0 }
     ensures asked { OnOk result (RisesBy (by_mode mode 1 0) probes.old probes.new) }
     ensures few { Few N.HAS_SUMMARIES printer.old.options.width (N.tree first) (tasks_of N.tree printer.old) (by_mode mode 1 0) probes.old probes.new }
+    ensures queue { printer.new.queue ≡ printer.old.queue }
     ensures summed { OnOk result (IsSummed N.HAS_SUMMARIES N.tree printer.new.commands) }
 {
     let chosen = partial_choice(printer, indent, mode, first, second, probes)?;
@@ -310,10 +315,12 @@ pub fn step<'v, N: Walk>(
     ensures printer { visits.new.printer
         ≡ counted_payload (rejects_payload printer.old.options (N.tree node.now) mode (state_of N.tree printer.old)) visits.old.printer }
     ensures rises { visits.old.probes ≤ visits.new.probes }
-    ensures counted { visits.new.probes ≤ visits.old.probes + asked (N.tree node.now) (nodes (tasks_of N.tree printer.old)) }
+    ensures counted { visits.new.probes ≤ visits.old.probes + asked (N.tree node.now) mode (nodes (tasks_of N.tree printer.old)) }
     ensures asked { OnOk result (RisesBy (each_probe (N.tree node.now) mode) visits.old.probes visits.new.probes) }
     ensures few { Few N.HAS_SUMMARIES printer.old.options.width (N.tree node.now) (tasks_of N.tree printer.old) (each_probe (N.tree node.now) mode)
         visits.old.probes visits.new.probes }
+    ensures queue { suffix_depth (N.tree node.now) ≡ 0 → some_pending (state_of N.tree printer.old).pending ≡ false
+        → printer.new.queue ≡ printer.old.queue }
     ensures summed { OnOk result (IsSummed N.HAS_SUMMARIES N.tree printer.new.commands) }
 {
     match node.view() {

@@ -13,4 +13,5 @@ returns-clause-begins g c =
       options = refl;
       tasks = c.in_ok-push.ensures.pushed ∙ ap (λ x. make_task 0 Break (f c.args.node) ∷ x) c.new.ensures.empty;
       state = λ j. record { column = c.start.ensures j; pending = n j; within = true };
+      queue = ap (trees f) c.new-3.ensures;
     }

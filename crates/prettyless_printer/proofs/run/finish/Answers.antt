@@ -5,14 +5,14 @@ use Rattle.prettyless_printer.proofs.Shifts.{broke_anyhow, done_anyhow}
 use Rattle.prettyless_printer.proofs.run.finish.Goals as goal
 
 -- the run is done
-pub returns : goal.returns
-returns g c = λ a h.
+pub returns-clause-ends : goal.returns-clause-ends
+returns-clause-ends g c = λ a h.
     let fails = g.W.Render.document_errors c.go_on.new.out in
     done_anyhow fails ran.Done tt ((rw c.in-Done.is at c.in_ok-go_on.ensures.runs) a h)
 
 -- it broke off
-pub returns-in_err-go_on : goal.returns-in_err-go_on
-returns-in_err-go_on g c =
+pub returns-in_err-go_on-clause-ends : goal.returns-in_err-go_on-clause-ends
+returns-in_err-go_on-clause-ends g c =
     let residual = err_from_is_err_and c.from_residual.result c.from_residual.ensures.1 in
     rw (residual.1, residual.2)
     λ a h.

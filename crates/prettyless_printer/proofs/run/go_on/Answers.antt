@@ -1,9 +1,12 @@
 use Rattle.std.proofs.Common.{ap}
 use Rattle.std.proofs.lemmas.List.{nil_from_length}
 use Rattle.std.proofs.lemmas.Result.{err_from_is_err_and}
-use Rattle.prettyless_printer.specs.Points.{buffer_seen, point, seen}
+use Rattle.prettyless_printer.specs.Points.{buffer_seen, point, seen, standing}
 use Rattle.prettyless_printer.specs.Open.{all_held}
 use Rattle.prettyless_printer.proofs.Shifts.{came_alone, came_in_choice, choice_continues, choice_stopped, comes_in_choice, none_open, runs_then, some_open}
+use Rattle.prettyless_printer.specs.Spending.{left}
+use Rattle.prettyless_printer.proofs.OpenSpending.{spends_broke_as}
+use Rattle.prettyless_printer.proofs.RunSpending.{came_options, came_plain, seconds_none, spends_on_as}
 use Rattle.prettyless_printer.proofs.run.go_on.Goals as goal
 
 -- no trial is open
@@ -84,3 +87,36 @@ returns-in-Shift-clause-runs g c = λ a h.
       comes = comes_in_choice a came.c came.at next (all_held f c.go_on_choosing.new.trials.open.items) (buffer_seen c.go_on_choosing.new.buffer) came.indent came.first came.second came.continues came.waiting settled.0;
       past = settled.1;
     }
+
+-- what is left where it ends
+pub returns-in_err-go_on_choosing-clause-spends : goal.returns-in_err-go_on_choosing-clause-spends
+returns-in_err-go_on_choosing-clause-spends g c = λ a h plain.
+    let f = g.N.Walk.tree in
+    let us = c.args.trials.now.open.items in
+    let here = point f c.args.printer.now (seen g.W.Render.bytes g.W.Render.failures g.W.Render.lender c.args.out.now) c.args.visits.now in
+    let some = some_open f us (c.is_empty.ensures.some c.if-is_empty.false) in
+    let came = came_in_choice a here (all_held f us) (buffer_seen c.args.buffer.now) some h in
+    spends_broke_as (left (standing f c.go_on_choosing.new.printer) _ c.go_on_choosing.new.visits) c.from_residual.result c.from_residual.ensures.0
+    (c.in_err-go_on_choosing.ensures.spends came.indent came.first came.second came.at came.choice (came_plain came plain))
+
+pub returns-in-Shift-clause-spends : goal.returns-in-Shift-clause-spends
+returns-in-Shift-clause-spends g c = λ a h plain.
+    let f = g.N.Walk.tree in
+    let us = c.args.trials.now.open.items in
+    let here = point f c.args.printer.now (seen g.W.Render.bytes g.W.Render.failures g.W.Render.lender c.args.out.now) c.args.visits.now in
+    let some = some_open f us (c.is_empty.ensures.some c.if-is_empty.false) in
+    let came = came_in_choice a here (all_held f us) (buffer_seen c.args.buffer.now) some h in
+    c.in_ok-go_on_choosing.ensures.spends came.indent came.first came.second came.at came.choice (came_plain came plain)
+
+pub returns-in-Done-clause-spends : goal.returns-in-Done-clause-spends
+returns-in-Done-clause-spends g c = λ a h plain.
+    let f = g.N.Walk.tree in
+    let us = c.args.trials.now.open.items in
+    let here = point f c.args.printer.now (seen g.W.Render.bytes g.W.Render.failures g.W.Render.lender c.args.out.now) c.args.visits.now in
+    let some = some_open f us (c.is_empty.ensures.some c.if-is_empty.false) in
+    let came = came_in_choice a here (all_held f us) (buffer_seen c.args.buffer.now) some h in
+    let settled = (rw c.in-Done.is at c.in_ok-go_on_choosing.ensures.settles) came.indent came.first came.second came.at came.choice in
+    let continues = choice_continues came.indent came.first came.second came.continues came.waiting settled.1 in
+    spends_on_as _ c.run_to_end-in-Done.result (came_options came settled.1)
+    (seconds_none (standing f c.go_on_choosing.new.printer) _ c.go_on_choosing.new.visits settled.0 (c.in_ok-go_on_choosing.ensures.spends came.indent came.first came.second came.at came.choice (came_plain came plain)))
+    (c.run_to_end-in-Done.ensures.spends (continues.at_most plain).0)

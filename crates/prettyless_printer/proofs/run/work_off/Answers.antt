@@ -2,17 +2,21 @@ use Rattle.std.proofs.Common.{◌<◌, ◌≤◌, length, ap, arith}
 use Rattle.std.proofs.lemmas.Result.{err_from_is_err_and}
 use Rattle.prettyless_step.specs.Printing.{tasks_of}
 use Rattle.prettyless_printer.specs.declared.answer.Ran.TheVariants as ran
-use Rattle.prettyless_printer.specs.Points.{buffer_seen, point, seen}
+use Rattle.prettyless_printer.specs.Points.{buffer_seen, point, seen, standing}
 use Rattle.prettyless_printer.proofs.PathSteps.{run_begins, run_ends, run_broke_off, goes_on, stops, comes_to_wait, breaks_off, fails_there, broke_anyhow}
 use Rattle.prettyless_printer.specs.Open.{all_held}
 use Rattle.prettyless_printer.specs.Paths.{run_of}
 use Rattle.prettyless_printer.proofs.Shifts.{comes_alone, comes_in_choice, continues_same, none_open, path_continues}
+use Rattle.prettyless_printer.specs.Spending.{left}
+use Rattle.prettyless_printer.proofs.Spending.{spends_all, spends_same}
+use Rattle.prettyless_printer.proofs.OpenSpending.{spends_broke_as}
+use Rattle.prettyless_printer.proofs.RunSpending.{none_seconds, path_spends, seconds_none, waiting_spends}
 use Rattle.prettyless_printer.proofs.run.work_off.Goals as goal
 
 pub work-init : goal.work-init
 work-init g c =
     let a = point g.N.Walk.tree c.args.printer.now (seen g.W.Render.bytes g.W.Render.failures g.W.Render.lender c.args.out.now) c.args.visits.now in
-    record { path = run_begins a; none = c.requires.none; summed = c.requires.summed }
+    record { path = run_begins a; none = c.requires.none; spends = λ plain. spends_same _ _; summed = c.requires.summed }
 
 pub work-preserved-in-Went : goal.work-preserved-in-Went
 work-preserved-in-Went g c =
@@ -22,6 +26,7 @@ work-preserved-in-Went g c =
     let turned = rw c.in-Went.is at c.in_ok-turn.ensures.advances in
     record {
       path = goes_on f c.work.invariant.path l turned;
+      spends = λ plain. path_spends c.work.invariant.path plain (c.work.invariant.spends plain) (rw c.in-Went.is at c.in_ok-turn.ensures.spends);
       none = c.work.invariant.none;
       summed = c.in_ok-turn.ensures.summed;
     }
@@ -38,6 +43,10 @@ work-preserved g c =
     let settled = rw c.in-Done.is at c.in_ok-choose-in-Chosen.ensures.settles in
     record {
       path = settled.1.runs (run_of start) waiting;
+      spends = λ plain.
+          seconds_none (standing f c.choose.new.printer) _ c.choose.new.visits settled.0
+          (waiting_spends waiting plain
+          (path_spends c.work.invariant.path plain (c.work.invariant.spends plain) (rw c.in-Chosen.is at c.in_ok-turn.ensures.spends)) c.in_ok-choose-in-Chosen.ensures.spends);
       none = none_open f c.choose.new.trials.open.items settled.0;
       summed = c.in_ok-choose-in-Chosen.ensures.summed;
     }
@@ -111,3 +120,36 @@ returns-in-Shift-2-clause-works g c =
       comes = comes_in_choice start start at next (all_held f c.choose.new.trials.open.items) (buffer_seen c.choose.new.buffer) c.in-Chosen.indent (f c.in-Chosen.first) (f c.in-Chosen.second) (continues_same start) waiting settled.0;
       past = settled.1;
     }
+
+-- what is left where it ends
+pub returns-in_err-turn-clause-spends : goal.returns-in_err-turn-clause-spends
+returns-in_err-turn-clause-spends g c = λ plain.
+    spends_broke_as (left (standing g.N.Walk.tree c.turn.new.printer) _ c.turn.new.visits) c.from_residual.result c.from_residual.ensures.0 (path_spends c.work.invariant.path plain (c.work.invariant.spends plain) c.in_err-turn.ensures.spends)
+
+pub returns-in-Failed-clause-spends : goal.returns-in-Failed-clause-spends
+returns-in-Failed-clause-spends g c = λ plain. spends_all (path_spends c.work.invariant.path plain (c.work.invariant.spends plain) (rw c.in-Failed.is at c.in_ok-turn.ensures.spends))
+
+pub returns-in-Shift-clause-spends : goal.returns-in-Shift-clause-spends
+returns-in-Shift-clause-spends g c = λ plain.
+    none_seconds (standing g.N.Walk.tree c.turn.new.printer) _ c.turn.new.visits (ap (all_held g.N.Walk.tree) c.work.invariant.none)
+    (path_spends c.work.invariant.path plain (c.work.invariant.spends plain) (rw c.in-Shift.is at c.in_ok-turn.ensures.spends))
+
+pub returns-in_err-choose-in-Chosen-clause-spends : goal.returns-in_err-choose-in-Chosen-clause-spends
+returns-in_err-choose-in-Chosen-clause-spends g c = λ plain.
+    let f = g.N.Walk.tree in
+    let l : 0 < length (tasks_of f c.work.printer) = omega (arith, c.work-test.true, c.len.ensures) in
+    let waiting = comes_to_wait f c.in-Chosen.indent c.in-Chosen.first c.in-Chosen.second c.work.invariant.path l (rw c.in-Chosen.is at c.in_ok-turn.ensures.advances) (omega arith) in
+    spends_broke_as (left (standing f c.choose.new.printer) _ c.choose.new.visits) c.from_residual-in_err-choose-in-Chosen.result c.from_residual-in_err-choose-in-Chosen.ensures.0
+    (waiting_spends waiting plain
+    (path_spends c.work.invariant.path plain (c.work.invariant.spends plain) (rw c.in-Chosen.is at c.in_ok-turn.ensures.spends)) c.in_err-choose-in-Chosen.ensures.spends)
+
+pub returns-in-Shift-2-clause-spends : goal.returns-in-Shift-2-clause-spends
+returns-in-Shift-2-clause-spends g c = λ plain.
+    let f = g.N.Walk.tree in
+    let l : 0 < length (tasks_of f c.work.printer) = omega (arith, c.work-test.true, c.len.ensures) in
+    let waiting = comes_to_wait f c.in-Chosen.indent c.in-Chosen.first c.in-Chosen.second c.work.invariant.path l (rw c.in-Chosen.is at c.in_ok-turn.ensures.advances) (omega arith) in
+    waiting_spends waiting plain
+    (path_spends c.work.invariant.path plain (c.work.invariant.spends plain) (rw c.in-Chosen.is at c.in_ok-turn.ensures.spends)) c.in_ok-choose-in-Chosen.ensures.spends
+
+pub returns-clause-spends : goal.returns-clause-spends
+returns-clause-spends g c = λ plain. none_seconds (standing g.N.Walk.tree c.work.printer) _ c.work.visits (ap (all_held g.N.Walk.tree) c.work.invariant.none) (c.work.invariant.spends plain)

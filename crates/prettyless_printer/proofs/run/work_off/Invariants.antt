@@ -3,6 +3,8 @@ use Rattle.prettyless_step.specs.Steps.{work}
 use Rattle.prettyless_step.specs.Sums.{IsSummed}
 use Rattle.prettyless_step.specs.Printing.{tasks_of}
 use Rattle.prettyless_printer.specs.Points.{point, seen, standing, state_at}
+use Rattle.prettyless_printer.specs.Visits.{Plain}
+use Rattle.prettyless_printer.specs.Spending.{Spends, left, rule_of}
 use Rattle.prettyless_printer.specs.Paths.{Path, run_of}
 use Rattle.prettyless_printer.proofs.run.work_off.Given as goal
 
@@ -15,6 +17,8 @@ invariant-work g l =
     record {
       path : Path (run_of start) now;
       none : l.trials.open.items ≡ [];
+      spends : Plain (standing f l.fn.printer) →
+          Spends (rule_of g.N.Walk.HAS_SUMMARIES l.fn.printer.options l.limit) (left (standing f l.fn.printer) [] l.fn.visits) (left (standing f l.printer) [] l.visits);
       summed : IsSummed g.N.Walk.HAS_SUMMARIES f l.printer.commands;
     }
 

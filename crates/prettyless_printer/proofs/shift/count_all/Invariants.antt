@@ -1,11 +1,19 @@
-use Rattle.std.proofs.Common.{◌-◌, ◌≤◌, length}
+use Rattle.std.proofs.Common.{◌≡◌, ◌+◌, ◌-◌, ◌≤◌, drop, length}
+use Rattle.std.specs.List.{sum_by}
+use Rattle.prettyless_model.specs.Tree.{size}
+use Rattle.prettyless_table.specs.Shift.{nodes_left}
+use Rattle.prettyless_printer.specs.Open.{all_held, seconds}
 use Rattle.prettyless_printer.proofs.shift.count_all.Given as goal
 
 abbrev pub invariant-trials : goal.invariant-trials
-invariant-trials g l = record {
-  within : l.k ≤ length l.trials.open.items;
-  counted : l.counted ≤ l.most;
-}
+invariant-trials g l =
+    let f = g.N.Walk.tree in
+    let all = l.trials.open.items in
+    record {
+      within : l.k ≤ length all;
+      counted : l.counted ≤ l.most;
+      rest : l.counted + sum_by size (seconds (all_held f (drop l.k all))) ≡ nodes_left f l.printer + sum_by size (seconds (all_held f all));
+    }
 
 abbrev pub decreases-trials : goal.decreases-trials
 decreases-trials g l = length l.trials.open.items - l.k

@@ -1,5 +1,8 @@
 use Rattle.std.proofs.Common.{◌≡◌, ◌+◌, ◌<◌, ◌∷◌, ◌∙◌, ap, arith, drop, length, sym}
 use Rattle.std.proofs.lemmas.List.{drop_more}
+use Rattle.std.specs.List.{sum_by}
+use Rattle.std.proofs.lemmas.List.Sums.{sum_by-cons}
+use Rattle.prettyless_model.specs.Tree.{size}
 use Rattle.prettyless_table.specs.Cells.{trees}
 use Rattle.prettyless_table.specs.Laying.{HasAt}
 use Rattle.prettyless_table.proofs.Trees.{grows_then}
@@ -24,6 +27,7 @@ trials-preserved g c =
     let laid : HasAt (trees f new) c.in-Some.place (f trial.second) = rw c.in-Some.is at c.in_ok-place.ensures.laid in
     record {
       within = omega (arith, within);
+      count = omega (arith, c.trials.invariant.count, (rw c.in-Some.is at c.in_ok-place.ensures.count).1, ap (λ us. sum_by size (seconds (all_held f us))) read, sum_by-cons size (f trial.second) (seconds (all_held f later)));
       grows = grows_then f c.args.table.now.cells.items old new c.trials.invariant.grows c.lay_out.ensures.grows;
       first = node_more f old new c.trials.places.items c.push.new.self.items c.in-Some.place (f trial.second)
           (seconds (all_held f left)) (seconds (all_held f later)) (seconds (all_held f all))

@@ -1,55 +1,126 @@
-use Rattle.std.proofs.Common.{ap}
+use Rattle.std.proofs.Common.{◌<◌, ◌≤◌, ◌∙◌, ap, arith, refl, subst, sym}
 use Rattle.std.proofs.lemmas.Result.{err_from_is_err_and}
+use Rattle.prettyless_sink.specs.declared.visits.Visits.{Visits}
+use Rattle.prettyless_model.specs.declared.options.RenderOptions.{RenderOptions}
 use Rattle.prettyless_printer.specs.Points.{buffer_seen, point, seen, standing}
-use Rattle.prettyless_printer.specs.Open.{all_held}
+use Rattle.prettyless_printer.specs.Open.{all_held, seconds}
 use Rattle.prettyless_printer.specs.declared.answer.Ran.TheVariants as ran
+use Rattle.prettyless_printer.specs.declared.gear.Gears.{Gears}
+use Rattle.prettyless_printer.specs.Gears.{limit_of}
 use Rattle.prettyless_printer.proofs.Shifts.{broke_anyhow, done_anyhow}
-use Rattle.prettyless_printer.proofs.Shifted.{comes_first, comes_still}
+use Rattle.prettyless_printer.proofs.Shifted.{comes_first, comes_options, comes_still}
+use Rattle.prettyless_printer.proofs.GearSpending.{no_room, within_few, within_goes, within_over, within_start, within_still}
 use Rattle.prettyless_printer.proofs.shift.run_in_gears.Goals as goal
 
 pub gears-init : goal.gears-init
 gears-init g c =
     let f = g.N.Walk.tree in
-    let start = point f c.args.printer.now (seen g.W.Render.bytes g.W.Render.failures g.W.Render.lender c.args.out.now) c.args.visits.now in
-    record { comes = comes_first f c.new-trials.result.open.items (buffer_seen c.new-buffer.result) start c.new-trials.ensures; summed = c.requires }
+    let sink = seen g.W.Render.bytes g.W.Render.failures g.W.Render.lender in
+    let start = point f c.args.printer.now (sink c.args.out.now) c.args.visits.now in
+    let first = c.new-gears.ensures.first in
+    record {
+      comes = comes_first f c.new-trials.result.open.items (buffer_seen c.new-buffer.result) start c.new-trials.ensures;
+      start = ap (λ (x : Gears). x.start) first;
+      low = c.new-gears.ensures.within;
+      rises = omega arith;
+      next = λ linear none. omega (arith, ap (λ (x : Gears). x.next_try) first);
+      within = λ linear none. within_start (standing f c.args.printer.now) (all_held f c.new-trials.result.open.items) c.args.visits.now (ap (all_held f) c.new-trials.ensures) linear;
+      summed = c.requires;
+    }
 
 -- the run is done
-pub returns-in-Done : goal.returns-in-Done
-returns-in-Done g c =
-    let f = g.N.Walk.tree in
-    let fails = g.W.Render.document_errors c.go_on.new.out in
-    let start = point f c.args.printer.now (seen g.W.Render.bytes g.W.Render.failures g.W.Render.lender c.args.out.now) c.args.visits.now in
-    (standing f c.go_on.new.printer, done_anyhow fails ran.Done tt (rw c.in-Done.is at c.in_ok-go_on.ensures.runs start c.gears.invariant.comes))
-
--- it broke off
-pub returns-in_err-go_on : goal.returns-in_err-go_on
-returns-in_err-go_on g c =
-    let residual = err_from_is_err_and c.from_residual.result c.from_residual.ensures.1 in
-    rw (residual.1, residual.2)
-    let f = g.N.Walk.tree in
-    let fails = g.W.Render.document_errors c.go_on.new.out in
-    let start = point f c.args.printer.now (seen g.W.Render.bytes g.W.Render.failures g.W.Render.lender c.args.out.now) c.args.visits.now in
-    (standing f c.go_on.new.printer, broke_anyhow fails _ (c.in_err-go_on.ensures.runs start c.gears.invariant.comes))
-
--- it stopped, and goes on over a table to the end
-pub returns-in-Some : goal.returns-in-Some
-returns-in-Some g c =
-    let f = g.N.Walk.tree in
-    let start = point f c.args.printer.now (seen g.W.Render.bytes g.W.Render.failures g.W.Render.lender c.args.out.now) c.args.visits.now in
-    let stopped = (rw c.in-Shift.is at c.in_ok-go_on.ensures.runs start c.gears.invariant.comes).comes in
-    c.in-Some.ensures.ended start stopped
-
--- it stopped, and no table was to be had
-pub gears-preserved-then-is_worth : goal.gears-preserved-then-is_worth
-gears-preserved-then-is_worth g c =
+pub returns-in-Done-clause-ends : goal.returns-in-Done-clause-ends
+returns-in-Done-clause-ends g c =
     let f = g.N.Walk.tree in
     let sink = seen g.W.Render.bytes g.W.Render.failures g.W.Render.lender in
     let start = point f c.args.printer.now (sink c.args.out.now) c.args.visits.now in
-    let stopped = (rw c.in-Shift.is at c.in_ok-go_on.ensures.runs start c.gears.invariant.comes).comes in
-    let same = c.in_default.ensures.same in
+    (standing f c.go_on.new.printer, done_anyhow (g.W.Render.document_errors c.go_on.new.out) ran.Done tt (rw c.in-Done.is at c.in_ok-go_on.ensures.runs start c.gears.invariant.comes))
+
+pub returns-in-Done-clause-few : goal.returns-in-Done-clause-few
+returns-in-Done-clause-few g c = λ linear none.
+    let f = g.N.Walk.tree in
+    let sink = seen g.W.Render.bytes g.W.Render.failures g.W.Render.lender in
+    let start = point f c.args.printer.now (sink c.args.out.now) c.args.visits.now in
+    within_few (within_goes g.N.Walk.HAS_SUMMARIES c.gears.printer.options c.gears.gears c.limit-limit.result c.limit-limit.ensures c.gears.invariant.start (c.gears.invariant.next linear none) (c.gears.invariant.within linear none) (c.in_ok-go_on.ensures.spends start c.gears.invariant.comes linear.plain))
+
+-- it broke off
+pub returns-in_err-go_on-clause-ends : goal.returns-in_err-go_on-clause-ends
+returns-in_err-go_on-clause-ends g c =
+    let residual = err_from_is_err_and c.from_residual.result c.from_residual.ensures.1 in
+    rw (residual.1, residual.2)
+    let f = g.N.Walk.tree in
+    let sink = seen g.W.Render.bytes g.W.Render.failures g.W.Render.lender in
+    let start = point f c.args.printer.now (sink c.args.out.now) c.args.visits.now in
+    (standing f c.go_on.new.printer, broke_anyhow (g.W.Render.document_errors c.go_on.new.out) _ (c.in_err-go_on.ensures.runs start c.gears.invariant.comes))
+
+pub returns-in_err-go_on-clause-few : goal.returns-in_err-go_on-clause-few
+returns-in_err-go_on-clause-few g c = λ linear none.
+    let f = g.N.Walk.tree in
+    let sink = seen g.W.Render.bytes g.W.Render.failures g.W.Render.lender in
+    let start = point f c.args.printer.now (sink c.args.out.now) c.args.visits.now in
+    within_few (within_goes g.N.Walk.HAS_SUMMARIES c.gears.printer.options c.gears.gears c.limit-limit.result c.limit-limit.ensures c.gears.invariant.start (c.gears.invariant.next linear none) (c.gears.invariant.within linear none) (c.in_err-go_on.ensures.spends start c.gears.invariant.comes linear.plain))
+
+-- it stopped, and goes on over a table to the end
+pub returns-in-Ok-Some-clause-ends : goal.returns-in-Ok-Some-clause-ends
+returns-in-Ok-Some-clause-ends g c =
+    let f = g.N.Walk.tree in
+    let sink = seen g.W.Render.bytes g.W.Render.failures g.W.Render.lender in
+    let start = point f c.args.printer.now (sink c.args.out.now) c.args.visits.now in
+    let stopped = rw c.in-Shift.is at c.in_ok-go_on.ensures.runs start c.gears.invariant.comes in
+    (rw c.in-Ok-Some.field-0-is at c.in-Ok-Some.ensures.ended) start stopped.comes
+
+pub returns-in-Ok-Some-clause-few : goal.returns-in-Ok-Some-clause-few
+returns-in-Ok-Some-clause-few g c = λ linear none.
+    let f = g.N.Walk.tree in
+    let sink = seen g.W.Render.bytes g.W.Render.failures g.W.Render.lender in
+    let start = point f c.args.printer.now (sink c.args.out.now) c.args.visits.now in
+    let stopped = rw c.in-Shift.is at c.in_ok-go_on.ensures.runs start c.gears.invariant.comes in
+    let options = comes_options start _ (all_held f c.go_on.new.trials.open.items) (buffer_seen c.go_on.new.buffer) stopped.comes in
+    within_over c.go_on.new.printer.options
+    (within_goes g.N.Walk.HAS_SUMMARIES c.gears.printer.options c.gears.gears c.limit-limit.result c.limit-limit.ensures c.gears.invariant.start (c.gears.invariant.next linear none) (c.gears.invariant.within linear none) (c.in_ok-go_on.ensures.spends start c.gears.invariant.comes linear.plain))
+    ((rw c.in-Ok-Some.field-0-is at c.in-Ok-Some.ensures.spends) start stopped.comes linear.plain)
+    (omega (arith, linear.width, ap (λ (o : RenderOptions). o.width) options)) linear.size
+
+-- it stopped, and a table had no room
+pub gears-preserved-in-Ok-None : goal.gears-preserved-in-Ok-None
+gears-preserved-in-Ok-None g c =
+    let f = g.N.Walk.tree in
+    let sink = seen g.W.Render.bytes g.W.Render.failures g.W.Render.lender in
+    let start = point f c.args.printer.now (sink c.args.out.now) c.args.visits.now in
+    let stopped = rw c.in-Shift.is at c.in_ok-go_on.ensures.runs start c.gears.invariant.comes in
+    let same = (rw c.in-Ok-None.field-0-is at c.in-Ok-None.ensures.same) tt in
+    let p = standing f c.go_on.new.printer in
+    let us = all_held f c.go_on.new.trials.open.items in
     record {
-      comes = comes_still start (all_held f c.go_on.new.trials.open.items) (standing f c.go_on.new.printer)
-          (ap sink same.0) same.1 (ap buffer_seen same.2) stopped;
+      comes = comes_still start us p (ap sink same.0) same.1 (ap buffer_seen same.2) stopped.comes;
+      start = ap (λ (x : Gears). x.start) c.next_room-room.ensures.next ∙ c.gears.invariant.start;
+      low = subst (λ (v : Visits). v.probes ≤ limit_of c.next_room-room.new.self v) (sym same.1) c.next_room-room.ensures.within;
+      rises = c.gears.invariant.rises;
+      next = λ linear none.
+          let now = within_goes g.N.Walk.HAS_SUMMARIES c.gears.printer.options c.gears.gears c.limit-limit.result c.limit-limit.ensures c.gears.invariant.start (c.gears.invariant.next linear none) (c.gears.invariant.within linear none) (c.in_ok-go_on.ensures.spends start c.gears.invariant.comes linear.plain) in
+          omega (arith, ap (λ (x : Gears). x.next_try) c.next_room-room.ensures.next,
+          no_room f c.go_on.new.printer (seconds us) c.next_room-room.result _ c.go_on.new.visits now.queue now.left linear.size (rw c.in-Ok-None.field-0-is at c.in-Ok-None.ensures.large));
+      within = λ linear none. within_still p (seconds us) same.1 (within_goes g.N.Walk.HAS_SUMMARIES c.gears.printer.options c.gears.gears c.limit-limit.result c.limit-limit.ensures c.gears.invariant.start (c.gears.invariant.next linear none) (c.gears.invariant.within linear none) (c.in_ok-go_on.ensures.spends start c.gears.invariant.comes linear.plain));
+      summed = c.in_ok-go_on.ensures.summed;
+    }
+
+-- it stopped, and a table was refused memory
+pub gears-preserved-in-Err : goal.gears-preserved-in-Err
+gears-preserved-in-Err g c =
+    let f = g.N.Walk.tree in
+    let sink = seen g.W.Render.bytes g.W.Render.failures g.W.Render.lender in
+    let start = point f c.args.printer.now (sink c.args.out.now) c.args.visits.now in
+    let stopped = rw c.in-Shift.is at c.in_ok-go_on.ensures.runs start c.gears.invariant.comes in
+    let same = (rw c.in-Err.is at c.shift.ensures.same) tt in
+    let p = standing f c.go_on.new.printer in
+    let us = all_held f c.go_on.new.trials.open.items in
+    record {
+      comes = comes_still start us p (ap sink same.0) same.1 (ap buffer_seen same.2) stopped.comes;
+      start = ap (λ (x : Gears). x.start) c.next_room-room.ensures.next ∙ c.gears.invariant.start;
+      low = subst (λ (v : Visits). v.probes ≤ limit_of c.next_room-room.new.self v) (sym same.1) c.next_room-room.ensures.within;
+      rises = omega (arith, c.gears.invariant.rises, c.one_more.ensures.rises);
+      next = λ linear none. absurd (omega (arith, none, c.one_more.ensures.one));
+      within = λ linear none. absurd (omega (arith, none, c.one_more.ensures.one));
       summed = c.in_ok-go_on.ensures.summed;
     }
 
@@ -57,9 +128,16 @@ gears-preserved-then-is_worth g c =
 pub gears-preserved : goal.gears-preserved
 gears-preserved g c =
     let f = g.N.Walk.tree in
-    let start = point f c.args.printer.now (seen g.W.Render.bytes g.W.Render.failures g.W.Render.lender c.args.out.now) c.args.visits.now in
+    let sink = seen g.W.Render.bytes g.W.Render.failures g.W.Render.lender in
+    let start = point f c.args.printer.now (sink c.args.out.now) c.args.visits.now in
+    let stopped = rw c.in-Shift.is at c.in_ok-go_on.ensures.runs start c.gears.invariant.comes in
     record {
-      comes = (rw c.in-Shift.is at c.in_ok-go_on.ensures.runs start c.gears.invariant.comes).comes;
+      comes = stopped.comes;
+      start = c.gears.invariant.start;
+      low = c.if-is_worth.ensures refl;
+      rises = c.gears.invariant.rises;
+      next = c.gears.invariant.next;
+      within = λ linear none. within_goes g.N.Walk.HAS_SUMMARIES c.gears.printer.options c.gears.gears c.limit-limit.result c.limit-limit.ensures c.gears.invariant.start (c.gears.invariant.next linear none) (c.gears.invariant.within linear none) (c.in_ok-go_on.ensures.spends start c.gears.invariant.comes linear.plain);
       summed = c.in_ok-go_on.ensures.summed;
     }
 
@@ -67,11 +145,13 @@ gears-preserved g c =
 pub finish-requires-clause-comes : goal.finish-requires-clause-comes
 finish-requires-clause-comes g c =
     let f = g.N.Walk.tree in
-    let start = point f c.args.printer.now (seen g.W.Render.bytes g.W.Render.failures g.W.Render.lender c.args.out.now) c.args.visits.now in
+    let sink = seen g.W.Render.bytes g.W.Render.failures g.W.Render.lender in
+    let start = point f c.args.printer.now (sink c.args.out.now) c.args.visits.now in
     (start, comes_first f c.new-trials.result.open.items (buffer_seen c.new-buffer.result) start c.new-trials.ensures)
 
-pub returns-then-not-has_gears : goal.returns-then-not-has_gears
-returns-then-not-has_gears g c =
+pub returns-then-not-has_gears-clause-ends : goal.returns-then-not-has_gears-clause-ends
+returns-then-not-has_gears-clause-ends g c =
     let f = g.N.Walk.tree in
-    let start = point f c.args.printer.now (seen g.W.Render.bytes g.W.Render.failures g.W.Render.lender c.args.out.now) c.args.visits.now in
-    (standing f c.finish.new.printer, c.finish.ensures start (comes_first f c.new-trials.result.open.items (buffer_seen c.new-buffer.result) start c.new-trials.ensures))
+    let sink = seen g.W.Render.bytes g.W.Render.failures g.W.Render.lender in
+    let start = point f c.args.printer.now (sink c.args.out.now) c.args.visits.now in
+    (standing f c.finish.new.printer, c.finish.ensures.ends start (comes_first f c.new-trials.result.open.items (buffer_seen c.new-buffer.result) start c.new-trials.ensures))

@@ -1,4 +1,4 @@
-use Rattle.std.proofs.Common.{◌≡◌, ◌∙◌, ◌<◌, [], arith, length, refl}
+use Rattle.std.proofs.Common.{◌≡◌, ◌∙◌, ◌<◌, [], ap, arith, length, refl}
 use Rattle.std.proofs.lemmas.List.{nil_from_length}
 use Rattle.std.proofs.lemmas.Str.{IsUtf8-string_bytes}
 use Rattle.std.specs.declared.alloc.AllocError.{AllocError}
@@ -12,10 +12,14 @@ use Rattle.prettyless_printer.proofs.Costs.{less_goes, less_more, less_kept, les
 use Rattle.prettyless_printer.proofs.Trying.{cut_back, grows_same, queue_marked}
 use Rattle.prettyless_printer.proofs.Standings.{length_queue}
 use Rattle.prettyless_printer.proofs.Chains.{ends_broke}
+use Rattle.prettyless_printer.proofs.Spending.{spends_all, spends_same}
+use Rattle.prettyless_printer.proofs.OpenSpending.{open_spends, spends_back, spends_broke_as, spends_kept, spends_more}
+use Rattle.prettyless_step.specs.Stack.{trees}
+use Rattle.prettyless_step.specs.declared.queue.Queue.{Queue}
 use Rattle.prettyless_printer.proofs.trial.go_on_trying.Goals as goal
 
 pub work-init : goal.work-init
-work-init g c = record { trials = λ s y h. h; some = c.requires.«open»; summed = c.requires.summed }
+work-init g c = record { trials = λ s y h. h; some = c.requires.«open»; spends = λ s y h plain. spends_same _ _; summed = c.requires.summed }
 
 -- one trial is open at least
 pub below-requires : goal.below-requires
@@ -43,6 +47,7 @@ work-preserved-in-Goes g c =
     record {
       trials = λ s y h. open_goes AllocError f s y _ (c.work.invariant.trials s y h) course;
       some = (some.0, some.1, open_goes AllocError f some.0 some.1 _ some.2 course);
+      spends = λ s y h plain. open_spends g.N.Walk.HAS_SUMMARIES c.args.limit s y _ _ (point f c.args.printer.now (buffer_seen c.args.buffer.now) c.args.visits.now) (point f c.work.printer (buffer_seen c.work.buffer) c.work.visits) h (c.work.invariant.trials s y h) plain (c.work.invariant.spends s y h plain) (rw c.in-Goes.is at c.in_ok-advance.ensures.spends);
       summed = c.in_ok-advance.ensures.summed;
     }
 
@@ -97,6 +102,9 @@ work-preserved-else-is_empty g c =
     record {
       trials = λ s y h. kept s y (c.work.invariant.trials s y h);
       some = (some.0, some.1, kept some.0 some.1 some.2);
+      spends = λ s y h plain.
+          spends_kept (standing f p) (standing f q) _ (all_held f us) (held f c.in-Some.trial) (all_held-push f _ us c.in-Some.trial c.in-Some.ensures.items) refl refl
+          (open_spends g.N.Walk.HAS_SUMMARIES c.args.limit s y _ _ (point f c.args.printer.now (buffer_seen c.args.buffer.now) c.args.visits.now) (point f c.work.printer (buffer_seen c.work.buffer) c.work.visits) h (c.work.invariant.trials s y h) plain (c.work.invariant.spends s y h plain) (rw c.in-Over.is at c.in_ok-advance.ensures.spends));
       summed = c.in_ok-advance.ensures.summed;
     }
 
@@ -170,6 +178,10 @@ work-preserved-else-is_empty-2 g c =
     record {
       trials = λ s y h. other s y (c.work.invariant.trials s y h);
       some = (some.0, some.1, other some.0 some.1 some.2);
+      spends = λ s y h plain.
+          spends_back (standing f r) (standing f q) _ (all_held f us) (held f c.in-Some-pop.trial) (all_held-push f _ us c.in-Some-pop.trial c.in-Some-pop.ensures.items)
+          (open_fell AllocError f some.0 some.1 _ _ (held f c.in-Some-pop.trial) (all_held-push f _ _ c.in-Some-pop.trial c.in-Some-pop.ensures.items) some.2 (rw (c.in-Rejected.is, c.below.ensures) at c.in_ok-advance.ensures.courses)) c.take_back.ensures.printer c.in_ok-push-in-Rejected.ensures.pushed refl
+          (open_spends g.N.Walk.HAS_SUMMARIES c.args.limit s y _ _ (point f c.args.printer.now (buffer_seen c.args.buffer.now) c.args.visits.now) (point f c.work.printer (buffer_seen c.work.buffer) c.work.visits) h (c.work.invariant.trials s y h) plain (c.work.invariant.spends s y h plain) (rw c.in-Rejected.is at c.in_ok-advance.ensures.spends));
       summed = c.in_ok-push-in-Rejected.ensures.summed (c.take_back.ensures.summed c.in_ok-advance.ensures.summed);
     }
 
@@ -194,6 +206,10 @@ work-preserved g c =
     record {
       trials = λ s y h. more s y (c.work.invariant.trials s y h);
       some = (some.0, some.1, more some.0 some.1 some.2);
+      spends = λ s y h plain.
+          spends_more f (standing f c.advance.new.printer) (standing f c.open_trial.new.printer) _ _ c.in-Chosen.indent (f c.in-Chosen.first) c.in-Chosen.second c.in_ok-open_trial-in-Chosen.ensures.held
+          c.in_ok-open_trial-in-Chosen.ensures.begun.tasks (ap (λ (z : Queue _). trees f z.nodes.items) c.in_ok-open_trial-in-Chosen.ensures.queue)
+          (open_spends g.N.Walk.HAS_SUMMARIES c.args.limit s y _ _ (point f c.args.printer.now (buffer_seen c.args.buffer.now) c.args.visits.now) (point f c.work.printer (buffer_seen c.work.buffer) c.work.visits) h (c.work.invariant.trials s y h) plain (c.work.invariant.spends s y h plain) (rw c.in-Chosen.is at c.in_ok-advance.ensures.spends));
       summed = c.in_ok-open_trial-in-Chosen.ensures.summed;
     }
 
@@ -203,3 +219,49 @@ returns-in_err-open_trial-in-Chosen-clause-ends g c =
     let f = g.N.Walk.tree in
     λ s y h. ends_broke AllocError c.args.limit s y _ c.from_residual-in_err-open_trial-in-Chosen.result c.from_residual-in_err-open_trial-in-Chosen.ensures.0
     (broke_at refl (open_choice_broke AllocError f s y _ c.in-Chosen.indent c.in-Chosen.first c.in-Chosen.second (c.work.invariant.trials s y h) (rw (c.in-Chosen.is, c.below.ensures) at c.in_ok-advance.ensures.courses)))
+
+-- what is left then
+pub returns-in_err-advance-clause-spends : goal.returns-in_err-advance-clause-spends
+returns-in_err-advance-clause-spends g c =
+    let f = g.N.Walk.tree in
+    λ s y h plain. spends_broke_as _ c.from_residual.result c.from_residual.ensures.0 (spends_all
+        (open_spends g.N.Walk.HAS_SUMMARIES c.args.limit s y _ _ (point f c.args.printer.now (buffer_seen c.args.buffer.now) c.args.visits.now) (point f c.work.printer (buffer_seen c.work.buffer) c.work.visits) h (c.work.invariant.trials s y h) plain (c.work.invariant.spends s y h plain) c.in_err-advance.ensures.spends))
+
+pub returns-in-Shift-clause-spends : goal.returns-in-Shift-clause-spends
+returns-in-Shift-clause-spends g c =
+    let f = g.N.Walk.tree in
+    λ s y h plain. open_spends g.N.Walk.HAS_SUMMARIES c.args.limit s y _ _ (point f c.args.printer.now (buffer_seen c.args.buffer.now) c.args.visits.now) (point f c.work.printer (buffer_seen c.work.buffer) c.work.visits) h (c.work.invariant.trials s y h) plain (c.work.invariant.spends s y h plain) (rw c.in-Shift.is at c.in_ok-advance.ensures.spends)
+
+pub returns-then-is_empty-clause-spends : goal.returns-then-is_empty-clause-spends
+returns-then-is_empty-clause-spends g c =
+    let f = g.N.Walk.tree in
+    let p = c.advance.new.printer in
+    let q = record p { within = c.in-Some.trial.mark.within } in
+    let us = c.pop.new.self.items in
+    λ s y h plain.
+        spends_kept (standing f p) (standing f q) _ (all_held f us) (held f c.in-Some.trial) (all_held-push f _ us c.in-Some.trial c.in-Some.ensures.items) refl refl
+        (open_spends g.N.Walk.HAS_SUMMARIES c.args.limit s y _ _ (point f c.args.printer.now (buffer_seen c.args.buffer.now) c.args.visits.now) (point f c.work.printer (buffer_seen c.work.buffer) c.work.visits) h (c.work.invariant.trials s y h) plain (c.work.invariant.spends s y h plain) (rw c.in-Over.is at c.in_ok-advance.ensures.spends))
+
+pub returns-in_err-push-in-Rejected-clause-spends : goal.returns-in_err-push-in-Rejected-clause-spends
+returns-in_err-push-in-Rejected-clause-spends g c =
+    let f = g.N.Walk.tree in
+    λ s y h plain. spends_broke_as _ c.from_residual-in_err-push-in-Rejected.result c.from_residual-in_err-push-in-Rejected.ensures.0 (spends_all
+        (open_spends g.N.Walk.HAS_SUMMARIES c.args.limit s y _ _ (point f c.args.printer.now (buffer_seen c.args.buffer.now) c.args.visits.now) (point f c.work.printer (buffer_seen c.work.buffer) c.work.visits) h (c.work.invariant.trials s y h) plain (c.work.invariant.spends s y h plain) (rw c.in-Rejected.is at c.in_ok-advance.ensures.spends)))
+
+pub returns-then-is_empty-2-clause-spends : goal.returns-then-is_empty-2-clause-spends
+returns-then-is_empty-2-clause-spends g c =
+    let f = g.N.Walk.tree in
+    let r = c.take_back.new.printer in
+    let q = record r { commands = c.push.new.self } in
+    let us = c.pop-in-Rejected.new.self.items in
+    let some = c.work.invariant.some in
+    λ s y h plain.
+        spends_back (standing f r) (standing f q) _ (all_held f us) (held f c.in-Some-pop.trial) (all_held-push f _ us c.in-Some-pop.trial c.in-Some-pop.ensures.items)
+          (open_fell AllocError f some.0 some.1 _ _ (held f c.in-Some-pop.trial) (all_held-push f _ _ c.in-Some-pop.trial c.in-Some-pop.ensures.items) some.2 (rw (c.in-Rejected.is, c.below.ensures) at c.in_ok-advance.ensures.courses)) c.take_back.ensures.printer c.in_ok-push-in-Rejected.ensures.pushed refl
+          (open_spends g.N.Walk.HAS_SUMMARIES c.args.limit s y _ _ (point f c.args.printer.now (buffer_seen c.args.buffer.now) c.args.visits.now) (point f c.work.printer (buffer_seen c.work.buffer) c.work.visits) h (c.work.invariant.trials s y h) plain (c.work.invariant.spends s y h plain) (rw c.in-Rejected.is at c.in_ok-advance.ensures.spends))
+
+pub returns-in_err-open_trial-in-Chosen-clause-spends : goal.returns-in_err-open_trial-in-Chosen-clause-spends
+returns-in_err-open_trial-in-Chosen-clause-spends g c =
+    let f = g.N.Walk.tree in
+    λ s y h plain. spends_broke_as _ c.from_residual-in_err-open_trial-in-Chosen.result c.from_residual-in_err-open_trial-in-Chosen.ensures.0 (spends_all
+        (open_spends g.N.Walk.HAS_SUMMARIES c.args.limit s y _ _ (point f c.args.printer.now (buffer_seen c.args.buffer.now) c.args.visits.now) (point f c.work.printer (buffer_seen c.work.buffer) c.work.visits) h (c.work.invariant.trials s y h) plain (c.work.invariant.spends s y h plain) (rw c.in-Chosen.is at c.in_ok-advance.ensures.spends)))

@@ -1,8 +1,9 @@
 use Rattle.prettyless_model.specs.Tree.{Tree}
 use Rattle.prettyless_step.specs.Sums.{IsSummed}
-use Rattle.prettyless_printer.specs.Points.{buffer_seen, point}
+use Rattle.prettyless_printer.specs.Points.{buffer_seen, point, standing}
 use Rattle.prettyless_printer.specs.Trials.{Attempt}
-use Rattle.prettyless_printer.specs.Open.{Open, all_held}
+use Rattle.prettyless_printer.specs.Open.{Open, all_held, seconds}
+use Rattle.prettyless_printer.specs.Spending.{IsPlainTrial, Spends, left, rule_of}
 use Rattle.prettyless_printer.proofs.Costs.{left_at}
 use Rattle.prettyless_printer.proofs.trial.go_on_trying.Given as goal
 
@@ -14,6 +15,10 @@ invariant-work g l =
     record {
       trials : (s : Attempt) (y : Tree) → Open s y (all_held f l.fn.trials.open.items) start → Open s y (all_held f l.trials.open.items) now;
       some : (s : Attempt) × (y : Tree) × Open s y (all_held f l.trials.open.items) now;
+      spends : (s : Attempt) (y : Tree) → Open s y (all_held f l.fn.trials.open.items) start → IsPlainTrial s y →
+          Spends (rule_of g.N.Walk.HAS_SUMMARIES l.fn.printer.options l.limit)
+          (left (standing f l.fn.printer) (seconds (all_held f l.fn.trials.open.items)) l.fn.visits)
+          (left (standing f l.printer) (seconds (all_held f l.trials.open.items)) l.visits);
       summed : IsSummed g.N.Walk.HAS_SUMMARIES f l.printer.commands;
     }
 

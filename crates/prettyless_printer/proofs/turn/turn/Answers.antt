@@ -8,6 +8,7 @@ use Rattle.prettyless_printer.specs.Points.{point, seen, standing}
 use Rattle.prettyless_printer.proofs.Trying.{grows_same}
 use Rattle.prettyless_printer.proofs.Hands.{goes_down, in_hand, shown, visit}
 use Rattle.prettyless_printer.proofs.Standings.{wrote}
+use Rattle.prettyless_printer.proofs.Spending.{spends_all, spends_begun, spends_broke, spends_chosen, spends_down, spends_failed, spends_stopped, spends_went, takes}
 use Rattle.prettyless_printer.proofs.Advancing.{advances_chosen, advances_failed, advances_refused, advances_sink_failed, advances_went}
 use Rattle.prettyless_printer.proofs.turn.turn.Goals as goal
 
@@ -22,6 +23,7 @@ down-init g c =
       hand = in_hand (point g.N.Walk.tree p (seen g.W.Render.bytes g.W.Render.failures g.W.Render.lender c.args.out.now) c.args.visits.now) (standing g.N.Walk.tree (record p { commands = c.pop.new.self }))
           (task g.N.Walk.tree c.in-Some.command) c.in-Some.ensures.popped refl refl (grows_same (standing g.N.Walk.tree p));
       summed = c.pop.ensures.summed c.requires.summed;
+      spends = λ plain. spends_begun _ (standing g.N.Walk.tree p) (standing g.N.Walk.tree (record p { commands = c.pop.new.self })) (task g.N.Walk.tree c.in-Some.command) c.args.visits.now c.in-Some.ensures.popped refl;
       past = λ h. absurd (cc);
     }
 
@@ -32,9 +34,11 @@ down-preserved-in-Ok-Next g c =
     let x = c.step.new.visits in
     let hand = c.down.invariant.hand in
     let one = visit f c.down.printer x c.one_more-visits.result hand c.one_more-visits.ensures.one c.one_more-visits.ensures.rises c.step.ensures.printer c.step.ensures.rises c.step.ensures.counted in
+    let took = takes f g.N.Walk.HAS_SUMMARIES c.args.limit c.down.printer x hand one (c.if-has_to_stop.ensures.within refl) c.step.ensures.counted c.step.ensures.few c.down.invariant.spends in
     record {
       hand = goes_down f c.down.printer q x c.in-Ok-Next.next_indent c.down.mode c.in-Ok-Next.next hand one c.in-Ok-Next.ensures.asked (shown f c.down.printer q c.in-Ok-Next.field-0 (taken.Next c.in-Ok-Next.next_indent c.in-Ok-Next.next) hand c.in-Ok-Next.field-0-is c.in-Ok-Next.ensures.step);
       summed = c.in-Ok-Next.ensures.summed;
+      spends = λ plain. spends_down f c.down.printer q c.in-Ok-Next.next_indent c.down.mode c.in-Ok-Next.next took plain c.step.ensures.queue (shown f c.down.printer q c.in-Ok-Next.field-0 (taken.Next c.in-Ok-Next.next_indent c.in-Ok-Next.next) hand c.in-Ok-Next.field-0-is c.in-Ok-Next.ensures.step);
       past = λ h. absurd (cc);
     }
 
@@ -45,10 +49,12 @@ down-preserved-in-Ok-NextPast g c =
     let x = c.step.new.visits in
     let hand = c.down.invariant.hand in
     let one = visit f c.down.printer x c.one_more-visits.result hand c.one_more-visits.ensures.one c.one_more-visits.ensures.rises c.step.ensures.printer c.step.ensures.rises c.step.ensures.counted in
+    let took = takes f g.N.Walk.HAS_SUMMARIES c.args.limit c.down.printer x hand one (c.if-has_to_stop.ensures.within refl) c.step.ensures.counted c.step.ensures.few c.down.invariant.spends in
     let told = shown f c.down.printer q c.in-Ok-NextPast.field-0 (taken.NextPast c.in-Ok-NextPast.next_indent c.in-Ok-NextPast.next) hand c.in-Ok-NextPast.field-0-is c.in-Ok-NextPast.ensures.step in
     record {
       hand = goes_down f c.down.printer q x c.in-Ok-NextPast.next_indent c.down.mode c.in-Ok-NextPast.next hand one c.in-Ok-NextPast.ensures.asked told.0;
       summed = c.in-Ok-NextPast.ensures.summed;
+      spends = λ plain. spends_down f c.down.printer q c.in-Ok-NextPast.next_indent c.down.mode c.in-Ok-NextPast.next took plain c.step.ensures.queue told.0;
       past = λ _. told.1;
     }
 
@@ -59,9 +65,11 @@ down-preserved g c =
     let x = c.step.new.visits in
     let hand = c.down.invariant.hand in
     let one = visit f c.down.printer x c.one_more-visits.result hand c.one_more-visits.ensures.one c.one_more-visits.ensures.rises c.step.ensures.printer c.step.ensures.rises c.step.ensures.counted in
+    let took = takes f g.N.Walk.HAS_SUMMARIES c.args.limit c.down.printer x hand one (c.if-has_to_stop.ensures.within refl) c.step.ensures.counted c.step.ensures.few c.down.invariant.spends in
     record {
       hand = goes_down f c.down.printer q x c.in-Ok-NextFlat.next_indent Flat c.in-Ok-NextFlat.next hand one c.in-Ok-NextFlat.ensures.asked (shown f c.down.printer q c.in-Ok-NextFlat.field-0 (taken.NextFlat c.in-Ok-NextFlat.next_indent c.in-Ok-NextFlat.next) hand c.in-Ok-NextFlat.field-0-is c.in-Ok-NextFlat.ensures.step);
       summed = c.in-Ok-NextFlat.ensures.summed;
+      spends = λ plain. spends_down f c.down.printer q c.in-Ok-NextFlat.next_indent Flat c.in-Ok-NextFlat.next took plain c.step.ensures.queue (shown f c.down.printer q c.in-Ok-NextFlat.field-0 (taken.NextFlat c.in-Ok-NextFlat.next_indent c.in-Ok-NextFlat.next) hand c.in-Ok-NextFlat.field-0-is c.in-Ok-NextFlat.ensures.step);
       past = λ h. absurd (cc);
     }
 
@@ -125,3 +133,74 @@ returns-in-Err-write_piece-clause-advances g c =
     let one = visit f c.down.printer x c.one_more-visits.result hand c.one_more-visits.ensures.one c.one_more-visits.ensures.rises c.step.ensures.printer c.step.ensures.rises c.step.ensures.counted in
     advances_sink_failed f (standing f q) (see c.write_piece.new.out) x (piece_bytes c.in-Ok-Written.piece) c.in-Err-write_piece.e hand one (wrote f _ (piece_bytes c.in-Ok-Written.piece) c.down.printer q (shown f c.down.printer q c.in-Ok-Written.field-0 (taken.Written c.in-Ok-Written.piece) hand c.in-Ok-Written.field-0-is c.in-Ok-Written.ensures.step))
     c.write_piece.ensures.same_lender c.in-Err-write_piece.ensures.err
+
+pub returns-in-Ok-clause-spends : goal.returns-in-Ok-clause-spends
+returns-in-Ok-clause-spends g c = λ plain.
+    spends_stopped _ (standing g.N.Walk.tree c.down.printer) (standing g.N.Walk.tree (record c.down.printer { commands = c.push.new.self })) c.in-Ok.ensures.pushed refl (c.down.invariant.spends plain)
+
+pub returns-in-Err-clause-spends : goal.returns-in-Err-clause-spends
+returns-in-Err-clause-spends g c = λ plain. spends_all (c.down.invariant.spends plain)
+
+pub returns-in-Err-step-clause-spends : goal.returns-in-Err-step-clause-spends
+returns-in-Err-step-clause-spends g c =
+    let f = g.N.Walk.tree in
+    let x = c.step.new.visits in
+    let hand = c.down.invariant.hand in
+    let one = visit f c.down.printer x c.one_more-visits.result hand c.one_more-visits.ensures.one c.one_more-visits.ensures.rises c.step.ensures.printer c.step.ensures.rises c.step.ensures.counted in
+    let took = takes f g.N.Walk.HAS_SUMMARIES c.args.limit c.down.printer x hand one (c.if-has_to_stop.ensures.within refl) c.step.ensures.counted c.step.ensures.few c.down.invariant.spends in
+    λ plain. spends_broke f c.down.printer took plain
+
+pub returns-in-Ok-Quiet-clause-spends : goal.returns-in-Ok-Quiet-clause-spends
+returns-in-Ok-Quiet-clause-spends g c =
+    let f = g.N.Walk.tree in
+    let q = c.step.new.printer in
+    let x = c.step.new.visits in
+    let hand = c.down.invariant.hand in
+    let one = visit f c.down.printer x c.one_more-visits.result hand c.one_more-visits.ensures.one c.one_more-visits.ensures.rises c.step.ensures.printer c.step.ensures.rises c.step.ensures.counted in
+    let took = takes f g.N.Walk.HAS_SUMMARIES c.args.limit c.down.printer x hand one (c.if-has_to_stop.ensures.within refl) c.step.ensures.counted c.step.ensures.few c.down.invariant.spends in
+    λ plain.
+        spends_went f c.down.printer q [] took plain c.step.ensures.queue (wrote f _ [] c.down.printer q (shown f c.down.printer q c.in-Ok-Quiet.field-0 taken.Quiet hand c.in-Ok-Quiet.field-0-is c.in-Ok-Quiet.ensures.step))
+
+pub returns-in-Ok-Failed-clause-spends : goal.returns-in-Ok-Failed-clause-spends
+returns-in-Ok-Failed-clause-spends g c =
+    let f = g.N.Walk.tree in
+    let q = c.step.new.printer in
+    let x = c.step.new.visits in
+    let hand = c.down.invariant.hand in
+    let one = visit f c.down.printer x c.one_more-visits.result hand c.one_more-visits.ensures.one c.one_more-visits.ensures.rises c.step.ensures.printer c.step.ensures.rises c.step.ensures.counted in
+    let took = takes f g.N.Walk.HAS_SUMMARIES c.args.limit c.down.printer x hand one (c.if-has_to_stop.ensures.within refl) c.step.ensures.counted c.step.ensures.few c.down.invariant.spends in
+    λ plain. spends_failed f c.down.printer q took plain (shown f c.down.printer q c.in-Ok-Failed.field-0 taken.Failed hand c.in-Ok-Failed.field-0-is c.in-Ok-Failed.ensures.step)
+
+pub returns-in-Ok-Chosen-clause-spends : goal.returns-in-Ok-Chosen-clause-spends
+returns-in-Ok-Chosen-clause-spends g c =
+    let f = g.N.Walk.tree in
+    let q = c.step.new.printer in
+    let x = c.step.new.visits in
+    let hand = c.down.invariant.hand in
+    let one = visit f c.down.printer x c.one_more-visits.result hand c.one_more-visits.ensures.one c.one_more-visits.ensures.rises c.step.ensures.printer c.step.ensures.rises c.step.ensures.counted in
+    let took = takes f g.N.Walk.HAS_SUMMARIES c.args.limit c.down.printer x hand one (c.if-has_to_stop.ensures.within refl) c.step.ensures.counted c.step.ensures.few c.down.invariant.spends in
+    λ plain.
+        spends_chosen f c.down.printer q c.in-Ok-Chosen.indent c.in-Ok-Chosen.first c.in-Ok-Chosen.second took plain
+        (shown f c.down.printer q c.in-Ok-Chosen.field-0 (taken.Chosen c.in-Ok-Chosen.indent c.in-Ok-Chosen.first c.in-Ok-Chosen.second) hand c.in-Ok-Chosen.field-0-is c.in-Ok-Chosen.ensures.step)
+
+pub returns-in-Ok-write_piece-clause-spends : goal.returns-in-Ok-write_piece-clause-spends
+returns-in-Ok-write_piece-clause-spends g c =
+    let f = g.N.Walk.tree in
+    let q = c.step.new.printer in
+    let x = c.step.new.visits in
+    let hand = c.down.invariant.hand in
+    let one = visit f c.down.printer x c.one_more-visits.result hand c.one_more-visits.ensures.one c.one_more-visits.ensures.rises c.step.ensures.printer c.step.ensures.rises c.step.ensures.counted in
+    let took = takes f g.N.Walk.HAS_SUMMARIES c.args.limit c.down.printer x hand one (c.if-has_to_stop.ensures.within refl) c.step.ensures.counted c.step.ensures.few c.down.invariant.spends in
+    let bytes = piece_bytes c.in-Ok-Written.piece in
+    λ plain.
+        spends_went f c.down.printer q bytes took plain c.step.ensures.queue
+        (wrote f _ bytes c.down.printer q (shown f c.down.printer q c.in-Ok-Written.field-0 (taken.Written c.in-Ok-Written.piece) hand c.in-Ok-Written.field-0-is c.in-Ok-Written.ensures.step))
+
+pub returns-in-Err-write_piece-clause-spends : goal.returns-in-Err-write_piece-clause-spends
+returns-in-Err-write_piece-clause-spends g c =
+    let f = g.N.Walk.tree in
+    let x = c.step.new.visits in
+    let hand = c.down.invariant.hand in
+    let one = visit f c.down.printer x c.one_more-visits.result hand c.one_more-visits.ensures.one c.one_more-visits.ensures.rises c.step.ensures.printer c.step.ensures.rises c.step.ensures.counted in
+    let took = takes f g.N.Walk.HAS_SUMMARIES c.args.limit c.down.printer x hand one (c.if-has_to_stop.ensures.within refl) c.step.ensures.counted c.step.ensures.few c.down.invariant.spends in
+    λ plain. spends_broke f c.down.printer took plain

@@ -1,0 +1,173 @@
+-- What open trials have left while their nodes leave.
+use Rattle.std.proofs.Common.{◌≡◌, ℕ, ◌+◌, ◌≤◌, List, [], ◌∷◌, ◌++◌, length, refl, ap, sym, ◌∙◌, arith, subst, take, Bool, Result, IsErr, Ok, Err}
+use Rattle.std.proofs.lemmas.List.{map-append}
+use Rattle.std.proofs.Math.Seq.{take-nil}
+use Rattle.std.proofs.lemmas.List.Sums.{sum_by-append}
+use Rattle.std.specs.List.{sum_by}
+use Rattle.prettyless_sink.specs.declared.visits.Visits.{Visits}
+use Rattle.prettyless_model.specs.declared.options.RenderOptions.{RenderOptions}
+use Rattle.prettyless_model.specs.declared.mode.Mode.TheVariants.{Break}
+use Rattle.prettyless_model.specs.Tree.{Tree, size}
+use Rattle.prettyless_model.specs.Content.{suffix_depth}
+use Rattle.prettyless_summary.specs.Summary.{HasSums}
+use Rattle.prettyless_step.specs.Stack.{Task, make_task, nodes}
+use Rattle.prettyless_step.specs.Sums.{HaveSummaries, TreesHave}
+use Rattle.prettyless_step.proofs.Stacks.{nodes-append}
+use Rattle.prettyless_printer.specs.Points.{Standing, Point}
+use Rattle.prettyless_printer.specs.Visits.{Plain}
+use Rattle.prettyless_printer.specs.Trials.{Attempt, Restores}
+use Rattle.prettyless_printer.specs.Open.{Chain, Held, Open, Opens, seconds}
+use Rattle.prettyless_printer.specs.Spending.{AllHave, IsPlainTrial, Left, Rule, Spends, SpendsAs, left, none_left, rule_of}
+use Rattle.prettyless_printer.proofs.Chains.{Fell}
+use Rattle.prettyless_printer.proofs.TrialSteps.{began_plain}
+use Rattle.prettyless_printer.proofs.Trying.{restored_queue}
+use Rattle.prettyless_printer.proofs.Spending.{on_tasks, spends_all, spends_then}
+
+-- the options of open trials are those of the outermost one
+chain_options : (o : Attempt) (us : List Held) (t : Attempt) → Chain o us t → t.start.printer.options ≡ o.start.printer.options
+chain_options o [] t h = ap (λ (x : Attempt). x.start.printer.options) h
+chain_options o (u ∷ us) t h = chain_options h.0 us t h.2 ∙ h.1.choice.waiting.options
+
+pub open_options : (s : Attempt) (y : Tree) (b : Point) (us : List Held) → Open s y us b → b.printer.options ≡ s.start.printer.options
+open_options s y b [] h = absurd h
+open_options s y b (u ∷ us) h = h.on.path.options ∙ chain_options s us h.trial h.chain
+
+-- A trial without line suffixes.
+record PlainTrial (t : Attempt) : Type 0 where
+  start : Plain t.start.printer
+  branch : suffix_depth t.branch ≡ 0
+
+chain_plain : (o : Attempt) (us : List Held) (t : Attempt) → Chain o us t → PlainTrial o → PlainTrial t
+chain_plain o [] t h plain = subst PlainTrial (sym h) plain
+chain_plain o (u ∷ us) t h plain =
+    let w = h.1.choice.waiting.at_most (began_plain o plain.start plain.branch) in
+    chain_plain h.0 us t h.2 (record { start = w.0; branch = w.1 })
+
+-- the outermost trial being without line suffixes, the innermost one is too
+pub open_plain : (s : Attempt) (y : Tree) (b : Point) (us : List Held) → Open s y us b → IsPlainTrial s y → Plain b.printer
+open_plain s y b [] h plain = absurd h
+open_plain s y b (u ∷ us) h plain =
+    let t = h.trial in
+    let began = chain_plain s us t h.chain (record { start = plain.plain; branch = plain.first }) in
+    (h.on.path.at_most (began_plain t began.start began.branch)).0
+
+-- the same beside the second branches of open trials
+pub spends_beside : {r : Rule} {ts us : List Task} {q q' : List Tree} {v w : Visits} (ds : List Tree) → Spends r (on_tasks ts q v) (on_tasks us q' w) →
+    Spends r (record (on_tasks ts q v) { seconds = ds }) (record (on_tasks us q' w) { seconds = ds })
+spends_beside {r} {ts} {us} {q} {q'} {v} {w} ds h = record {
+  nodes = omega (arith, h.nodes);
+  printer = omega (arith, h.printer);
+  queue = h.queue;
+  capped = λ most l m. h.capped most l (omega (arith, m));
+  have = λ g. ((h.have (g.0, tt)).0, g.1);
+  few = λ t width small g. h.few t width (omega (arith, small)) (g.0, tt);
+}
+
+-- the innermost of open trials takes a turn, or comes to its end
+pub open_spends : (has : Bool) (limit : ℕ) (s : Attempt) (y : Tree) {start : Left} (us vs : List Held) (a b : Point) {ts : List Task} {q : List Tree} {w : Visits} → Open s y us a → Open s y vs b → IsPlainTrial s y →
+    Spends (rule_of has a.printer.options limit) start (left b.printer (seconds vs) b.visits) →
+    (Plain b.printer → Spends (rule_of has b.printer.options limit) (left b.printer [] b.visits) (on_tasks ts q w)) →
+    Spends (rule_of has a.printer.options limit) start (record (on_tasks ts q w) { seconds = seconds vs })
+open_spends has limit s y {start} us vs a b {ts} {q} {w} open_a open_b plain h k =
+    let same = open_options s y b vs open_b ∙ sym (open_options s y a us open_a) in
+    spends_then h
+    (subst (λ (o : RenderOptions). Spends (rule_of has o limit) (left b.printer (seconds vs) b.visits) (record (on_tasks ts q w) { seconds = seconds vs })) same
+    (spends_beside (seconds vs) (k (open_plain s y b vs open_b plain))))
+
+-- what broke off has nothing left
+pub spends_broke_as : {A E : Type 0} {r : Rule} {a : Left} (b : Left) (result : Result A E) → IsErr result → Spends r a (none_left b.visits) → SpendsAs r a b result
+spends_broke_as {A} {E} {r} {a} b (Ok x) e h = cc
+spends_broke_as {A} {E} {r} {a} b (Err x) e h = h
+
+-- Less is left, and nothing was visited.
+pub record LeavesOnly (a b : Left) : Type 0 where
+  pub nodes : nodes b.tasks + sum_by size b.seconds ≤ nodes a.tasks + sum_by size a.seconds
+  pub queue : a.queue ≡ [] → b.queue ≡ []
+  pub have : AllHave a → AllHave b
+  pub visits : b.visits ≡ a.visits
+
+pub spends_leaving : (r : Rule) {a b : Left} → LeavesOnly a b → Spends r a b
+spends_leaving r {a} {b} h = record {
+  nodes = h.nodes;
+  printer = omega (arith, h.nodes, ap (λ (v : Visits). v.printer) h.visits);
+  queue = h.queue;
+  capped = λ most l m. omega (arith, l, ap (λ (v : Visits). v.probes) h.visits);
+  have = h.have;
+  few = λ t width small g. (0, omega (arith, ap (λ (v : Visits). v.probes) h.visits), omega (arith, ap (λ (v : Visits). v.printer) h.visits));
+}
+
+trees_have_push : (ds : List Tree) (d : Tree) → TreesHave ds → HasSums d → TreesHave (ds ++ d ∷ [])
+trees_have_push [] d h k = (k, tt)
+trees_have_push (e ∷ ds) d h k = (h.0, trees_have_push ds d h.1 k)
+
+trees_have_pop : (ds : List Tree) (d : Tree) → TreesHave (ds ++ d ∷ []) → TreesHave ds × HasSums d
+trees_have_pop [] d h = (tt, h.0)
+trees_have_pop (e ∷ ds) d h =
+    let k = trees_have_pop ds d h.1 in
+    ((h.0, k.0), k.1)
+
+have_below : (ts us : List Task) → HaveSummaries (ts ++ us) → HaveSummaries us
+have_below [] us h = h
+have_below (t ∷ ts) us h = have_below ts us h.1
+
+-- the second branches of trials, of which the last one is popped
+seconds_push : (us vs : List Held) (u : Held) → us ≡ vs ++ u ∷ [] → seconds us ≡ seconds vs ++ u.second ∷ []
+seconds_push us vs u e = ap seconds e ∙ map-append (λ (x : Held). x.second) vs (u ∷ [])
+
+sizes_push : (ds : List Tree) (d : Tree) → sum_by size (ds ++ d ∷ []) ≡ sum_by size ds + size d
+sizes_push ds d = omega (arith, sum_by-append size ds (d ∷ []))
+
+kept_leaves : (p q : Standing) (ds : List Tree) (d : Tree) (v : Visits) → q.tasks ≡ p.tasks → q.queue ≡ p.queue → LeavesOnly (left p (ds ++ d ∷ []) v) (left q ds v)
+kept_leaves p q ds d v e h = record {
+  nodes = omega (arith, ap nodes e, sizes_push ds d);
+  queue = λ none. h ∙ none;
+  have = λ g. (subst HaveSummaries (sym e) g.0, (trees_have_pop ds d g.1).0);
+  visits = refl;
+}
+
+-- the innermost trial is kept
+pub spends_kept : {r : Rule} {a : Left} (p q : Standing) (us vs : List Held) (u : Held) {v : Visits} → us ≡ vs ++ u ∷ [] → q.tasks ≡ p.tasks → q.queue ≡ p.queue →
+    Spends r a (left p (seconds us) v) → Spends r a (left q (seconds vs) v)
+spends_kept {r} {a} p q us vs u {v} popped e h k =
+    spends_then (subst (λ (z : List Tree). Spends r a (left p z v)) (seconds_push us vs u popped) k) (spends_leaving r (kept_leaves p q (seconds vs) u.second v e h))
+
+back_leaves : (p q : Standing) (ts above : List Task) (i : ℕ) (ds : List Tree) (d : Tree) (v : Visits) → p.tasks ≡ above ++ ts → q.tasks ≡ make_task i Break d ∷ ts → (p.queue ≡ [] → q.queue ≡ []) →
+    LeavesOnly (left p (ds ++ d ∷ []) v) (left q ds v)
+back_leaves p q ts above i ds d v e h queue = record {
+  nodes = omega (arith, ap nodes e, nodes-append above ts, ap nodes h, sizes_push ds d);
+  queue = queue;
+  have = λ g.
+      let both = trees_have_pop ds d g.1 in
+      (subst HaveSummaries (sym h) (both.1, have_below above ts (subst HaveSummaries e g.0)), both.0);
+  visits = refl;
+}
+
+take_none : (n : ℕ) (xs : List Tree) → xs ≡ [] → take n xs ≡ []
+take_none n xs e = ap (take n) e ∙ take-nil n
+
+-- the innermost trial is taken back, and its second branch comes next
+pub spends_back : {r : Rule} {a : Left} {b : Point} (p q : Standing) (us vs : List Held) (u : Held) {v : Visits} → us ≡ vs ++ u ∷ [] → Fell u b → Restores u.mark b.printer p →
+    q.tasks ≡ make_task u.indent Break u.second ∷ p.tasks → q.queue ≡ p.queue → Spends r a (left b.printer (seconds us) v) → Spends r a (left q (seconds vs) v)
+spends_back {r} {a} {b} p q us vs u {v} popped fell back e h k =
+    let t = fell.trial in
+    let tasks : p.tasks ≡ t.start.printer.tasks = back.0 fell.fallen.above t.start.printer.tasks fell.fallen.stack (sym fell.marked.marks.commands) in
+    spends_then (subst (λ (z : List Tree). Spends r a (left b.printer z v)) (seconds_push us vs u popped) k)
+    (spends_leaving r
+    (back_leaves b.printer q t.start.printer.tasks fell.fallen.above u.indent (seconds vs) u.second v fell.fallen.stack (e ∙ ap (λ (z : List Task). make_task u.indent Break u.second ∷ z) tasks)
+    (λ none. h ∙ back.1 ∙ take_none u.mark.queue.len b.printer.queue none)))
+
+more_leaves : (p q : Standing) (i : ℕ) (x y : Tree) (ds : List Tree) (v : Visits) → q.tasks ≡ make_task i Break x ∷ p.tasks → q.queue ≡ p.queue →
+    LeavesOnly (record (left p ds v) { tasks = make_task i Break x ∷ make_task i Break y ∷ p.tasks }) (left q (ds ++ y ∷ []) v)
+more_leaves p q i x y ds v e h = record {
+  nodes = omega (arith, ap nodes e, sizes_push ds y);
+  queue = λ none. h ∙ none;
+  have = λ g. (subst HaveSummaries (sym e) (g.0.0, g.0.1.1), trees_have_push ds y g.1 g.0.1.0);
+  visits = refl;
+}
+
+-- a trial more is open
+pub spends_more : {N : Type 0} {r : Rule} {a : Left} (f : N → Tree) (p q : Standing) {s : _} (us vs : List Held) (i : ℕ) (x : Tree) (y : N) {v : Visits} → Opens f i (f y) p s us vs → q.tasks ≡ make_task i Break x ∷ p.tasks → q.queue ≡ p.queue →
+    Spends r a (record (left p (seconds us) v) { tasks = make_task i Break x ∷ make_task i Break (f y) ∷ p.tasks }) → Spends r a (left q (seconds vs) v)
+spends_more {N} {r} {a} f p q {s} us vs i x y {v} opens e h k =
+    subst (λ (z : List Tree). Spends r a (left q z v)) (sym (seconds_push vs us (record { mark = opens.mark; indent = i; second = f y }) opens.more))
+    (spends_then k (spends_leaving r (more_leaves p q i x (f y) (seconds us) v e h)))

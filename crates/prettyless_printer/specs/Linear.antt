@@ -1,0 +1,34 @@
+-- Documents whose probes a table bounds, and how.
+use Rattle.std.specs.Prelude.{◌≡◌, ℕ, ◌+◌, ◌*◌, ◌-◌, ◌^◌, ◌≤◌, ◌<◌, []}
+use Rattle.prettyless_sink.specs.declared.visits.Visits.{Visits}
+use Rattle.prettyless_model.specs.Tree.{Tree, size}
+use Rattle.prettyless_model.specs.Content.{suffix_depth}
+use Rattle.prettyless_summary.specs.Summary.{HasSums}
+use Rattle.prettyless_step.specs.Stack.{nodes}
+use Rattle.prettyless_step.specs.Sums.{HaveSummaries}
+use Rattle.prettyless_printer.specs.Points.{Standing}
+use Rattle.prettyless_printer.specs.Visits.{Plain}
+
+-- A document at a width whose probes a table bounds.
+pub record IsLinear (width : ℕ) (d : Tree) : Type 0 where
+  -- it has no line suffix
+  pub plain : suffix_depth d ≡ 0
+  -- it has no choice by column or nesting, and no indent of more than 32 bits
+  pub have : HasSums d
+  -- a table can have its nodes
+  pub size : size d ≤ 4294967294
+  -- the width is one of 32 bits
+  pub narrow : width < 2 ^ 32
+
+-- A printer stands before nodes whose probes a table bounds: no line suffix is among them, all of them have summaries, a table can have
+-- them, and the width is one of 32 bits.
+pub record IsLinearStart (p : Standing) : Type 0 where
+  pub plain : Plain p
+  pub queue : p.queue ≡ []
+  pub have : HaveSummaries p.tasks
+  pub size : nodes p.tasks ≤ 4294967294
+  pub width : p.options.width < 2 ^ 32
+
+-- probes visited so many times n nodes at most, and so many more, where the printer's count has room for n
+abbrev pub IsFew : ℕ → ℕ → ℕ → Visits → Visits → Type 0
+IsFew factor more n v w = v.printer + n < 2 ^ 64 - 1 → w.probes ≤ v.probes + (factor * n + more)

@@ -1,0 +1,116 @@
+-- How many nodes probes visit while nodes leave. A probe is asked only where their count is within a limit, and visits no more nodes
+-- than are left; where all is summed up, it visits two.
+use Rattle.std.specs.Prelude.{◌≡◌, ℕ, ◌+◌, ◌*◌, ◌^◌, ◌≤◌, ◌<◌, Bool, IsTrue, List, [], ◌∷◌, ◌-◌, Option, Some, None, Result, Ok, Err}
+use Rattle.std.specs.List.{sum_by}
+use Rattle.prettyless_sink.specs.declared.visits.Visits.{Visits}
+use Rattle.prettyless_model.specs.declared.options.RenderOptions.{RenderOptions}
+use Rattle.prettyless_model.specs.Tree.{Tree, size}
+use Rattle.prettyless_model.specs.Content.{suffix_depth}
+use Rattle.prettyless_model.specs.declared.mode.Mode.TheVariants.{Break}
+use Rattle.prettyless_step.specs.Stack.{Task, make_task, nodes}
+use Rattle.prettyless_step.specs.Probing.{RisesBy}
+use Rattle.prettyless_step.specs.Sums.{HaveSummaries, TreesHave}
+use Rattle.prettyless_printer.specs.Points.{Standing}
+use Rattle.prettyless_printer.specs.Visits.{Plain}
+use Rattle.prettyless_printer.specs.Trials.{Attempt}
+use Rattle.prettyless_printer.specs.declared.answer.Course.{Course}
+use Rattle.prettyless_printer.specs.declared.answer.Course.TheVariants as course
+use Rattle.prettyless_printer.specs.declared.answer.Turn.{Turn}
+use Rattle.prettyless_printer.specs.declared.answer.Turn.TheVariants.{Went, Failed, Chosen, Shift}
+
+-- What a run has left: its tasks, the second branches of open trials, and the line suffixes that were visited; and the visits so far.
+pub record Left : Type 0 where
+  pub tasks : List Task
+  pub seconds : List Tree
+  pub queue : List Tree
+  pub visits : Visits
+
+-- what is left where a printer stands
+abbrev pub left : Standing → List Tree → Visits → Left
+left p ds v = record { tasks = p.tasks; seconds = ds; queue = p.queue; visits = v }
+
+-- nothing is left
+abbrev pub none_left : Visits → Left
+none_left v = record { tasks = []; seconds = []; queue = []; visits = v }
+
+-- how many nodes are left
+abbrev pub left_nodes : Left → ℕ
+left_nodes l = nodes l.tasks + sum_by size l.seconds
+
+-- all nodes that are left have summaries
+abbrev pub AllHave : Left → Type 0
+AllHave l = HaveSummaries l.tasks × TreesHave l.seconds
+
+-- What bounds the probes of a run: whether its nodes have summaries, its width, and the count past which none is asked.
+pub record Rule : Type 0 where
+  pub has : Bool
+  pub width : ℕ
+  pub limit : ℕ
+
+-- the rule of a run, whose nodes have summaries or not, with options, which stops at a limit
+abbrev pub rule_of : Bool → RenderOptions → ℕ → Rule
+rule_of has o limit = record { has = has; width = o.width; limit = limit }
+
+-- a count comes to no more than it was, or than n more than a limit
+abbrev pub Capped : ℕ → ℕ → ℕ → ℕ → Type 0
+Capped limit n old new = (most : ℕ) → old ≤ most → limit + n ≤ most → new ≤ most
+
+-- probes visited two nodes at most for each visit of the printer, whose count may have come to its greatest value
+abbrev pub TwoEach : Visits → Visits → Type 0
+TwoEach v w = (k : ℕ) × (w.probes ≤ v.probes + 2 * k) × RisesBy k v.printer w.printer
+
+-- A run without line suffixes, from what it had left to what it has left.
+pub record Spends (r : Rule) (a b : Left) : Type 0 where
+  -- nodes only leave, one at least for each visit of the printer
+  pub nodes : left_nodes b ≤ left_nodes a
+  pub printer : b.visits.printer + left_nodes b ≤ a.visits.printer + left_nodes a
+  -- no line suffix is visited
+  pub queue : a.queue ≡ [] → b.queue ≡ []
+  -- each probe was asked within the limit, and visited no more nodes than were left
+  pub capped : Capped r.limit (left_nodes a) a.visits.probes b.visits.probes
+  -- summaries lead to summaries
+  pub have : AllHave a → AllHave b
+  -- where all is summed up, a probe visits two nodes
+  pub few : IsTrue r.has → r.width < 2 ^ 32 → left_nodes a < 2 ^ 32 → AllHave a → TwoEach a.visits b.visits
+
+-- what a run comes to: after an error, nothing is left
+abbrev pub SpendsAs : {A E : Type 0} → Rule → Left → Left → Result A E → Type 0
+SpendsAs r a b (Ok x) = Spends r a b
+SpendsAs r a b (Err e) = Spends r a (none_left b.visits)
+
+-- what is left where a choice between two branches at an indent comes next, outside of trials
+abbrev pub left_choice : ℕ → Tree → Tree → Standing → Visits → Left
+left_choice i x y p v = record (left p [] v) { tasks = make_task i Break x ∷ make_task i Break y ∷ p.tasks }
+
+-- what a turn leaves: where it comes to a choice, both branches
+abbrev pub after_turn : {N E : Type 0} → (N → Tree) → Standing → Visits → Result (Turn N) E → Left
+after_turn f q w (Ok Went) = left q [] w
+after_turn f q w (Ok Shift) = left q [] w
+after_turn f q w (Ok Failed) = left q [] w
+after_turn f q w (Ok (Chosen i x y)) = left_choice i (f x) (f y) q w
+after_turn f q w (Err e) = none_left w
+
+-- the same of a turn of a trial, or of its end
+abbrev pub after_course : {N E : Type 0} → (N → Tree) → Standing → Visits → Result (Course N) E → Left
+after_course f q w (Ok course.Goes) = left q [] w
+after_course f q w (Ok course.Over) = left q [] w
+after_course f q w (Ok course.Rejected) = left q [] w
+after_course f q w (Ok course.Shift) = left q [] w
+after_course f q w (Ok (course.Chosen i x y)) = left_choice i (f x) (f y) q w
+after_course f q w (Err e) = none_left w
+
+-- No line suffix is among what a choice between two branches leads to, and none is pending.
+pub record IsPlainChoice (p : Standing) (x y : Tree) : Type 0 where
+  pub plain : Plain p
+  pub first : suffix_depth x ≡ 0
+  pub second : suffix_depth y ≡ 0
+
+-- the same of a trial, with this second branch
+abbrev pub IsPlainTrial : Attempt → Tree → Type 0
+IsPlainTrial s y = IsPlainChoice s.start.printer s.branch y
+
+-- a shift did not end the run
+abbrev pub IsUnended : {R E : Type 0} → Result (Option R) E → Type 0
+IsUnended (Ok (Some r)) = ⊥
+IsUnended (Ok None) = Unit {0}
+IsUnended (Err e) = Unit {0}
