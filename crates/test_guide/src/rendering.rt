@@ -61,7 +61,7 @@ fn visits_at<'a, D: DocPlace<'a>>(place: &'a D, width: usize) -> Result<Visits, 
 fn visits_are_counted<'a, D: DocPlace<'a>>(rt: &impl Abort, place: &'a D) -> Result<(), Fail> {
     for (width, probes) in [(80, 6), (11, 6), (4, 3)] {
         let visits = visits_at(place, width)?;
-        assert!(rt; visits.printer == 7 && visits.probes == probes);
+        assert!(rt; visits.printer == 7 && visits.probes == probes && visits.refused == 0);
     }
     Ok(())
 }

@@ -13,9 +13,10 @@ returns-clause-rendered g c = record {
 
 pub returns-clause-counts : goal.returns-clause-counts
 returns-clause-counts g c = record {
-  rise = (c.render.ensures.rise.printer, c.render.ensures.rise.probes);
+  rise = (c.render.ensures.rise.printer, c.render.ensures.rise.probes, c.render.ensures.refused);
   printer = c.render.ensures.visited.printer;
   probes = c.render.ensures.visited.probes;
+  few = c.render.ensures.few;
   laid = on_ok_weaker c.render.result (λ counted. counted.printer) c.render.ensures.at_least;
   asked = on_ok_weaker c.render.result (λ counted. counted.probes) c.render.ensures.at_least;
 }
