@@ -1,5 +1,5 @@
 -- What open trials have left while their nodes leave.
-use Rattle.std.proofs.Common.{◌≡◌, ℕ, ◌+◌, ◌≤◌, List, [], ◌∷◌, ◌++◌, length, refl, ap, sym, ◌∙◌, arith, subst, take, Bool, Result, IsErr, Ok, Err}
+use Rattle.std.proofs.Common.{◌≡◌, ℕ, ◌+◌, ◌≤◌, List, [], ◌∷◌, ◌++◌, refl, ap, sym, ◌∙◌, arith, subst, take, Bool, Result, IsErr, Ok, Err}
 use Rattle.std.proofs.lemmas.List.{map-append}
 use Rattle.std.proofs.Math.Seq.{take-nil}
 use Rattle.std.proofs.lemmas.List.Sums.{sum_by-append}
@@ -20,8 +20,7 @@ use Rattle.prettyless_printer.specs.Open.{Chain, Held, Open, Opens, seconds}
 use Rattle.prettyless_printer.specs.Spending.{AllHave, IsPlainTrial, Left, Rule, Spends, SpendsAs, left, none_left, rule_of}
 use Rattle.prettyless_printer.proofs.Chains.{Fell}
 use Rattle.prettyless_printer.proofs.TrialSteps.{began_plain}
-use Rattle.prettyless_printer.proofs.Trying.{restored_queue}
-use Rattle.prettyless_printer.proofs.Spending.{on_tasks, spends_all, spends_then}
+use Rattle.prettyless_printer.proofs.Spending.{on_tasks, spends_then}
 
 -- the options of open trials are those of the outermost one
 chain_options : (o : Attempt) (us : List Held) (t : Attempt) → Chain o us t → t.start.printer.options ≡ o.start.printer.options

@@ -1,5 +1,5 @@
 -- What is left of a run while its nodes leave: one step, and runs in a row.
-use Rattle.std.proofs.Common.{◌≡◌, ℕ, ◌+◌, ◌*◌, ◌^◌, ◌≤◌, ◌<◌, List, [], ◌∷◌, ◌++◌, Bool, IsTrue, false, refl, ap, sym, ◌∙◌, arith, subst}
+use Rattle.std.proofs.Common.{◌≡◌, ℕ, ◌+◌, ◌*◌, ◌^◌, ◌≤◌, ◌<◌, List, [], ◌∷◌, ◌++◌, Bool, false, refl, ap, sym, ◌∙◌, arith, subst}
 use Rattle.prettyless_sink.specs.Sink.{rise}
 use Rattle.prettyless_sink.specs.declared.visits.Visits.{Visits}
 use Rattle.prettyless_model.specs.declared.options.RenderOptions.{RenderOptions}
@@ -20,8 +20,8 @@ use Rattle.prettyless_step.specs.declared.printer.Taken.TheVariants.{Failed, Cho
 use Rattle.prettyless_step.proofs.Shown.{step_at, Leads, Asks}
 use Rattle.prettyless_step.proofs.Summaries.{step_has}
 use Rattle.prettyless_printer.specs.Points.{Standing, standing, state_at, Seen, Point, point}
-use Rattle.prettyless_printer.specs.Visits.{Plain, CountsAtMost, suffixes}
-use Rattle.prettyless_printer.specs.Spending.{AllHave, Left, Rule, Spends, TwoEach, left, left_nodes, none_left, rule_of}
+use Rattle.prettyless_printer.specs.Visits.{Plain, CountsAtMost}
+use Rattle.prettyless_printer.specs.Spending.{Left, Rule, Spends, left, none_left, rule_of}
 use Rattle.prettyless_printer.proofs.Standings.{Wrote, asks_there, put_in_hand, step_from, stuck_there, waits_there}
 use Rattle.prettyless_printer.proofs.Hands.{InHand, Visit}
 use Rattle.prettyless_printer.proofs.Visits.{NoSuffix, at_most_all, chosen_at_most, failed_at_most, went_at_most}

@@ -1,4 +1,4 @@
-use Rattle.std.proofs.Common.{◌<◌, ◌≤◌, ◌∙◌, ap, arith, refl, subst, sym}
+use Rattle.std.proofs.Common.{◌≤◌, ◌∙◌, ap, arith, refl, subst, sym}
 use Rattle.std.proofs.lemmas.Result.{err_from_is_err_and}
 use Rattle.prettyless_sink.specs.declared.visits.Visits.{Visits}
 use Rattle.prettyless_model.specs.declared.options.RenderOptions.{RenderOptions}
@@ -98,8 +98,11 @@ gears-preserved-in-Ok-None g c =
       rises = c.gears.invariant.rises;
       next = λ linear none.
           let now = within_goes g.N.Walk.HAS_SUMMARIES c.gears.printer.options c.gears.gears c.limit-limit.result c.limit-limit.ensures c.gears.invariant.start (c.gears.invariant.next linear none) (c.gears.invariant.within linear none) (c.in_ok-go_on.ensures.spends start c.gears.invariant.comes linear.plain) in
-          omega (arith, ap (λ (x : Gears). x.next_try) c.next_room-room.ensures.next,
-          no_room f c.go_on.new.printer (seconds us) c.next_room-room.result _ c.go_on.new.visits now.queue now.left linear.size (rw c.in-Ok-None.field-0-is at c.in-Ok-None.ensures.large));
+          omega (
+            arith,
+            ap (λ (x : Gears). x.next_try) c.next_room-room.ensures.next,
+            no_room f c.go_on.new.printer (seconds us) c.next_room-room.result _ c.go_on.new.visits now.queue now.left linear.size (rw c.in-Ok-None.field-0-is at c.in-Ok-None.ensures.large),
+          );
       within = λ linear none. within_still p (seconds us) same.1 (within_goes g.N.Walk.HAS_SUMMARIES c.gears.printer.options c.gears.gears c.limit-limit.result c.limit-limit.ensures c.gears.invariant.start (c.gears.invariant.next linear none) (c.gears.invariant.within linear none) (c.in_ok-go_on.ensures.spends start c.gears.invariant.comes linear.plain));
       summed = c.in_ok-go_on.ensures.summed;
     }

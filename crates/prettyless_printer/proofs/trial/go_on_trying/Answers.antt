@@ -225,7 +225,7 @@ pub returns-in_err-advance-clause-spends : goal.returns-in_err-advance-clause-sp
 returns-in_err-advance-clause-spends g c =
     let f = g.N.Walk.tree in
     λ s y h plain. spends_broke_as _ c.from_residual.result c.from_residual.ensures.0 (spends_all
-        (open_spends g.N.Walk.HAS_SUMMARIES c.args.limit s y _ _ (point f c.args.printer.now (buffer_seen c.args.buffer.now) c.args.visits.now) (point f c.work.printer (buffer_seen c.work.buffer) c.work.visits) h (c.work.invariant.trials s y h) plain (c.work.invariant.spends s y h plain) c.in_err-advance.ensures.spends))
+    (open_spends g.N.Walk.HAS_SUMMARIES c.args.limit s y _ _ (point f c.args.printer.now (buffer_seen c.args.buffer.now) c.args.visits.now) (point f c.work.printer (buffer_seen c.work.buffer) c.work.visits) h (c.work.invariant.trials s y h) plain (c.work.invariant.spends s y h plain) c.in_err-advance.ensures.spends))
 
 pub returns-in-Shift-clause-spends : goal.returns-in-Shift-clause-spends
 returns-in-Shift-clause-spends g c =
@@ -239,14 +239,14 @@ returns-then-is_empty-clause-spends g c =
     let q = record p { within = c.in-Some.trial.mark.within } in
     let us = c.pop.new.self.items in
     λ s y h plain.
-        spends_kept (standing f p) (standing f q) _ (all_held f us) (held f c.in-Some.trial) (all_held-push f _ us c.in-Some.trial c.in-Some.ensures.items) refl refl
-        (open_spends g.N.Walk.HAS_SUMMARIES c.args.limit s y _ _ (point f c.args.printer.now (buffer_seen c.args.buffer.now) c.args.visits.now) (point f c.work.printer (buffer_seen c.work.buffer) c.work.visits) h (c.work.invariant.trials s y h) plain (c.work.invariant.spends s y h plain) (rw c.in-Over.is at c.in_ok-advance.ensures.spends))
+    spends_kept (standing f p) (standing f q) _ (all_held f us) (held f c.in-Some.trial) (all_held-push f _ us c.in-Some.trial c.in-Some.ensures.items) refl refl
+    (open_spends g.N.Walk.HAS_SUMMARIES c.args.limit s y _ _ (point f c.args.printer.now (buffer_seen c.args.buffer.now) c.args.visits.now) (point f c.work.printer (buffer_seen c.work.buffer) c.work.visits) h (c.work.invariant.trials s y h) plain (c.work.invariant.spends s y h plain) (rw c.in-Over.is at c.in_ok-advance.ensures.spends))
 
 pub returns-in_err-push-in-Rejected-clause-spends : goal.returns-in_err-push-in-Rejected-clause-spends
 returns-in_err-push-in-Rejected-clause-spends g c =
     let f = g.N.Walk.tree in
     λ s y h plain. spends_broke_as _ c.from_residual-in_err-push-in-Rejected.result c.from_residual-in_err-push-in-Rejected.ensures.0 (spends_all
-        (open_spends g.N.Walk.HAS_SUMMARIES c.args.limit s y _ _ (point f c.args.printer.now (buffer_seen c.args.buffer.now) c.args.visits.now) (point f c.work.printer (buffer_seen c.work.buffer) c.work.visits) h (c.work.invariant.trials s y h) plain (c.work.invariant.spends s y h plain) (rw c.in-Rejected.is at c.in_ok-advance.ensures.spends)))
+    (open_spends g.N.Walk.HAS_SUMMARIES c.args.limit s y _ _ (point f c.args.printer.now (buffer_seen c.args.buffer.now) c.args.visits.now) (point f c.work.printer (buffer_seen c.work.buffer) c.work.visits) h (c.work.invariant.trials s y h) plain (c.work.invariant.spends s y h plain) (rw c.in-Rejected.is at c.in_ok-advance.ensures.spends)))
 
 pub returns-then-is_empty-2-clause-spends : goal.returns-then-is_empty-2-clause-spends
 returns-then-is_empty-2-clause-spends g c =
@@ -256,12 +256,12 @@ returns-then-is_empty-2-clause-spends g c =
     let us = c.pop-in-Rejected.new.self.items in
     let some = c.work.invariant.some in
     λ s y h plain.
-        spends_back (standing f r) (standing f q) _ (all_held f us) (held f c.in-Some-pop.trial) (all_held-push f _ us c.in-Some-pop.trial c.in-Some-pop.ensures.items)
-          (open_fell AllocError f some.0 some.1 _ _ (held f c.in-Some-pop.trial) (all_held-push f _ _ c.in-Some-pop.trial c.in-Some-pop.ensures.items) some.2 (rw (c.in-Rejected.is, c.below.ensures) at c.in_ok-advance.ensures.courses)) c.take_back.ensures.printer c.in_ok-push-in-Rejected.ensures.pushed refl
-          (open_spends g.N.Walk.HAS_SUMMARIES c.args.limit s y _ _ (point f c.args.printer.now (buffer_seen c.args.buffer.now) c.args.visits.now) (point f c.work.printer (buffer_seen c.work.buffer) c.work.visits) h (c.work.invariant.trials s y h) plain (c.work.invariant.spends s y h plain) (rw c.in-Rejected.is at c.in_ok-advance.ensures.spends))
+    spends_back (standing f r) (standing f q) _ (all_held f us) (held f c.in-Some-pop.trial) (all_held-push f _ us c.in-Some-pop.trial c.in-Some-pop.ensures.items)
+    (open_fell AllocError f some.0 some.1 _ _ (held f c.in-Some-pop.trial) (all_held-push f _ _ c.in-Some-pop.trial c.in-Some-pop.ensures.items) some.2 (rw (c.in-Rejected.is, c.below.ensures) at c.in_ok-advance.ensures.courses)) c.take_back.ensures.printer c.in_ok-push-in-Rejected.ensures.pushed refl
+    (open_spends g.N.Walk.HAS_SUMMARIES c.args.limit s y _ _ (point f c.args.printer.now (buffer_seen c.args.buffer.now) c.args.visits.now) (point f c.work.printer (buffer_seen c.work.buffer) c.work.visits) h (c.work.invariant.trials s y h) plain (c.work.invariant.spends s y h plain) (rw c.in-Rejected.is at c.in_ok-advance.ensures.spends))
 
 pub returns-in_err-open_trial-in-Chosen-clause-spends : goal.returns-in_err-open_trial-in-Chosen-clause-spends
 returns-in_err-open_trial-in-Chosen-clause-spends g c =
     let f = g.N.Walk.tree in
     λ s y h plain. spends_broke_as _ c.from_residual-in_err-open_trial-in-Chosen.result c.from_residual-in_err-open_trial-in-Chosen.ensures.0 (spends_all
-        (open_spends g.N.Walk.HAS_SUMMARIES c.args.limit s y _ _ (point f c.args.printer.now (buffer_seen c.args.buffer.now) c.args.visits.now) (point f c.work.printer (buffer_seen c.work.buffer) c.work.visits) h (c.work.invariant.trials s y h) plain (c.work.invariant.spends s y h plain) (rw c.in-Chosen.is at c.in_ok-advance.ensures.spends)))
+    (open_spends g.N.Walk.HAS_SUMMARIES c.args.limit s y _ _ (point f c.args.printer.now (buffer_seen c.args.buffer.now) c.args.visits.now) (point f c.work.printer (buffer_seen c.work.buffer) c.work.visits) h (c.work.invariant.trials s y h) plain (c.work.invariant.spends s y h plain) (rw c.in-Chosen.is at c.in_ok-advance.ensures.spends)))

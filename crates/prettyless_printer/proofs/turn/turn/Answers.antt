@@ -159,7 +159,7 @@ returns-in-Ok-Quiet-clause-spends g c =
     let one = visit f c.down.printer x c.one_more-visits.result hand c.one_more-visits.ensures.one c.one_more-visits.ensures.rises c.step.ensures.printer c.step.ensures.rises c.step.ensures.counted in
     let took = takes f g.N.Walk.HAS_SUMMARIES c.args.limit c.down.printer x hand one (c.if-has_to_stop.ensures.within refl) c.step.ensures.counted c.step.ensures.few c.down.invariant.spends in
     λ plain.
-        spends_went f c.down.printer q [] took plain c.step.ensures.queue (wrote f _ [] c.down.printer q (shown f c.down.printer q c.in-Ok-Quiet.field-0 taken.Quiet hand c.in-Ok-Quiet.field-0-is c.in-Ok-Quiet.ensures.step))
+    spends_went f c.down.printer q [] took plain c.step.ensures.queue (wrote f _ [] c.down.printer q (shown f c.down.printer q c.in-Ok-Quiet.field-0 taken.Quiet hand c.in-Ok-Quiet.field-0-is c.in-Ok-Quiet.ensures.step))
 
 pub returns-in-Ok-Failed-clause-spends : goal.returns-in-Ok-Failed-clause-spends
 returns-in-Ok-Failed-clause-spends g c =
@@ -180,8 +180,8 @@ returns-in-Ok-Chosen-clause-spends g c =
     let one = visit f c.down.printer x c.one_more-visits.result hand c.one_more-visits.ensures.one c.one_more-visits.ensures.rises c.step.ensures.printer c.step.ensures.rises c.step.ensures.counted in
     let took = takes f g.N.Walk.HAS_SUMMARIES c.args.limit c.down.printer x hand one (c.if-has_to_stop.ensures.within refl) c.step.ensures.counted c.step.ensures.few c.down.invariant.spends in
     λ plain.
-        spends_chosen f c.down.printer q c.in-Ok-Chosen.indent c.in-Ok-Chosen.first c.in-Ok-Chosen.second took plain
-        (shown f c.down.printer q c.in-Ok-Chosen.field-0 (taken.Chosen c.in-Ok-Chosen.indent c.in-Ok-Chosen.first c.in-Ok-Chosen.second) hand c.in-Ok-Chosen.field-0-is c.in-Ok-Chosen.ensures.step)
+    spends_chosen f c.down.printer q c.in-Ok-Chosen.indent c.in-Ok-Chosen.first c.in-Ok-Chosen.second took plain
+    (shown f c.down.printer q c.in-Ok-Chosen.field-0 (taken.Chosen c.in-Ok-Chosen.indent c.in-Ok-Chosen.first c.in-Ok-Chosen.second) hand c.in-Ok-Chosen.field-0-is c.in-Ok-Chosen.ensures.step)
 
 pub returns-in-Ok-write_piece-clause-spends : goal.returns-in-Ok-write_piece-clause-spends
 returns-in-Ok-write_piece-clause-spends g c =
@@ -193,8 +193,8 @@ returns-in-Ok-write_piece-clause-spends g c =
     let took = takes f g.N.Walk.HAS_SUMMARIES c.args.limit c.down.printer x hand one (c.if-has_to_stop.ensures.within refl) c.step.ensures.counted c.step.ensures.few c.down.invariant.spends in
     let bytes = piece_bytes c.in-Ok-Written.piece in
     λ plain.
-        spends_went f c.down.printer q bytes took plain c.step.ensures.queue
-        (wrote f _ bytes c.down.printer q (shown f c.down.printer q c.in-Ok-Written.field-0 (taken.Written c.in-Ok-Written.piece) hand c.in-Ok-Written.field-0-is c.in-Ok-Written.ensures.step))
+    spends_went f c.down.printer q bytes took plain c.step.ensures.queue
+    (wrote f _ bytes c.down.printer q (shown f c.down.printer q c.in-Ok-Written.field-0 (taken.Written c.in-Ok-Written.piece) hand c.in-Ok-Written.field-0-is c.in-Ok-Written.ensures.step))
 
 pub returns-in-Err-write_piece-clause-spends : goal.returns-in-Err-write_piece-clause-spends
 returns-in-Err-write_piece-clause-spends g c =
