@@ -45,7 +45,7 @@ pub(crate) fn compare_over_table<'a, T: DocPtr<'a>>(
         &mut visits,
     )?;
     let is_visited = visits.printer == expected.printer && visits.probes == expected.probes;
-    let holds = is_visited && out.as_str() == expected.layout;
+    let holds = is_visited && visits.refused == 0 && out.as_str() == expected.layout;
     check_at(rt, holds, written, expected.width);
     Ok(())
 }

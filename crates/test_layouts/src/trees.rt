@@ -157,6 +157,7 @@ fn compare_visits(rt: &impl Abort, tree: &Tree<'_>, visits: Visits) {
         Visited::FewByProbes => visits.probes / 5 < visits.printer,
     };
     check(rt, as_expected, "the visits", tree.name);
+    check(rt, visits.refused == 0, "memory for a table", tree.name);
 }
 
 // Compares what a tree that is written so is rendered as, and its visits.
