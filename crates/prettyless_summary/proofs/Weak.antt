@@ -14,7 +14,7 @@ pub rest_continues : (s r : Summary) (f : ℕ → Column → Bool → Look) → 
     → ((width : ℕ) (c : Column) (p : Bool) → look_rest width r c p ≡ look_then (look_rest width s c p) (f width)) → Continues s f r
 rest_continues s r f lead weak h width c p l =
     rw (lead, weak) (look-each (look_weak width (mode_of s.weak) (spaced s.lead c) p) (look_rest width r)
-        (λ e q. look_then (look_rest width s e q) (f width)) (h width)
+    (λ e q. look_then (look_rest width s e q) (f width)) (h width)
     ∙ sym (look-then-then (look_weak width (mode_of s.weak) (spaced s.lead c) p) (look_rest width s) (f width)))
 
 -- a weak line after ink or a line suffix ends the line

@@ -14,4 +14,4 @@ returns-then-self-clause-reads c =
     ] in
     rest_continues s (record s { end = c.weak_end.result }) (λ width. look_weak width (mode_of c.args.weak)) refl refl
     (λ width e q. rw (c.requires, sym c.mode.ensures ∙ c.in-Some.is)
-        (rest_ends width s.has_ink s.has_suffix s.inner s.trail c.weak_end.result c.in-Some.mode e q (c.weak_end.ensures width) some))
+    (rest_ends width s.has_ink s.has_suffix s.inner s.trail c.weak_end.result c.in-Some.mode e q (c.weak_end.ensures width) some))
