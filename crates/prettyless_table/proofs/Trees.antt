@@ -1,6 +1,6 @@
 -- What a cell that is added changes.
-use Rattle.std.proofs.Common.{◌≡◌, ℕ, zero, suc, ◌<◌, ◌≤◌, List, [], ◌∷◌, ◌++◌, Option, Some, None, length, map, get_or, refl, ap, sym, subst, ◌∙◌, arith, length-append, inl, inr}
-use Rattle.std.proofs.lemmas.List.{get_or_push, get_or_append_left, map-append}
+use Rattle.std.proofs.Common.{◌≡◌, ℕ, zero, suc, ◌<◌, ◌≤◌, List, [], ◌∷◌, ◌++◌, Option, Some, None, length, get_or, refl, ap, sym, subst, ◌∙◌, arith, length-append, inl, inr}
+use Rattle.std.proofs.lemmas.List.{get_or_push, get_or_append_left}
 use Rattle.std.proofs.Math.Nat.{eq-or-lt_of_le}
 use Rattle.prettyless_model.specs.Tree.{Tree}
 use Rattle.prettyless_table.specs.declared.cell.Cell.{Cell}
@@ -14,7 +14,8 @@ length-trees f [] = refl
 length-trees f (c ∷ cs) = omega (arith, length-trees f cs)
 
 trees-push : {N : Type 0} (f : N → Tree) (cells : List (Cell N)) (c : Cell N) → trees f (cells ++ c ∷ []) ≡ trees f cells ++ root_tree f c ∷ []
-trees-push f cells c = map-append (root_tree f) cells (c ∷ [])
+trees-push f [] c = refl
+trees-push f (x ∷ cs) c = ap (λ (us : List (Option Tree)). root_tree f x ∷ us) (trees-push f cs c)
 
 -- the document that was added
 pub has_new : {N : Type 0} (f : N → Tree) (cells : List (Cell N)) (place : ℕ) (n : N)
@@ -29,10 +30,17 @@ cell_root : {N : Type 0} (f : N → Tree) (c : Cell N) (d : Tree) → root_tree 
 cell_root f (Root place n) d e = tt
 cell_root f (Sums a b second flat broken) d e = cc
 
-get_or-map : {A B : Type 0} (g : A → B) (xs : List A) (i : ℕ) (x : A) (y : B) → i < length xs → get_or (map g xs) i y ≡ g (get_or xs i x)
-get_or-map g [] i x y h = absurd (omega (arith, h))
-get_or-map g (z ∷ xs) zero x y h = refl
-get_or-map g (z ∷ xs) (suc i) x y h = get_or-map g xs i x y (omega (arith, h))
+get_or-trees : {N : Type 0} (f : N → Tree) (cells : List (Cell N)) (i : ℕ) (x : Cell N) → i < length cells
+    → get_or (trees f cells) i None ≡ root_tree f (get_or cells i x)
+get_or-trees f [] i x h = absurd (omega (arith, h))
+get_or-trees f (c ∷ cs) zero x h = refl
+get_or-trees f (c ∷ cs) (suc i) x h = get_or-trees f cs i x (omega (arith, h))
+
+-- the document of a cell that was read
+pub root_read : {N : Type 0} (f : N → Tree) (cells : List (Cell N)) (i : ℕ) (x : Cell N) (place : ℕ) (n : N) → i < length cells
+    → x ≡ get_or cells i x → x ≡ Root place n → f n ≡ tree_at f cells i
+root_read f cells i x place n h at is =
+    ap (λ c. tree_of (root_tree f c)) (sym is ∙ at) ∙ ap tree_of (sym (get_or-trees f cells i x h))
 
 -- where a document is, the cell is for one
 pub at_root : {N : Type 0} (f : N → Tree) (cells : List (Cell N)) (i : ℕ) (d : Tree) → HasAt (trees f cells) i d → IsRoot cells i
@@ -40,15 +48,15 @@ at_root {N} f cells i d h =
     let within : i < length cells = omega (arith, h.within, length-trees f cells) in
     record {
       within = within;
-      root = λ x. cell_root f (get_or cells i x) d (sym (get_or-map (root_tree f) cells i x None within) ∙ h.is);
+      root = λ x. cell_root f (get_or cells i x) d (sym (get_or-trees f cells i x within) ∙ h.is);
     }
 
 -- earlier documents stay
 pub tree_same : {N : Type 0} (f : N → Tree) (old new : List (Cell N)) (i : ℕ) → Grows f old new → IsRoot old i
     → tree_at f new i ≡ tree_at f old i
 tree_same f old new i g h =
-    ap tree_of (get_or-map (root_tree f) new i no_cell None (omega (arith, h.within, g.longer))
-    ∙ ap (root_tree f) (g.same i no_cell h.within) ∙ sym (get_or-map (root_tree f) old i no_cell None h.within))
+    ap tree_of (get_or-trees f new i no_cell (omega (arith, h.within, g.longer))
+    ∙ ap (root_tree f) (g.same i no_cell h.within) ∙ sym (get_or-trees f old i no_cell h.within))
 
 pub root_stays : {N : Type 0} (f : N → Tree) (old new : List (Cell N)) (i : ℕ) → Grows f old new → IsRoot old i → IsRoot new i
 root_stays {N} f old new i g h = record {

@@ -1,5 +1,5 @@
 -- Tables: which documents stand where in their cells.
-use Rattle.std.specs.Prelude.{◌≡◌, ℕ, ◌-◌, ◌<◌, ◌≤◌, Bool, true, false, List, Option, Some, None, length, map, get_or, ⊤}
+use Rattle.std.specs.Prelude.{◌≡◌, ℕ, ◌-◌, ◌<◌, ◌≤◌, Bool, true, false, List, [], ◌∷◌, Option, Some, None, length, get_or, ⊤}
 use Rattle.std.specs.Coded.{×_prop, Unit-prop, le_prop}
 use Rattle.prettyless_model.specs.Tree.{Tree, Nil, Append, LineSuffix, Nest, DedentToRoot, Align, Flatten, BreakOrFlat, Group, Union, PartialUnion, OnColumn, OnNesting}
 use Rattle.prettyless_model.specs.Tree as t
@@ -17,7 +17,8 @@ root_tree f (Sums a b second flat broken) = None
 
 -- the documents of cells
 abbrev pub trees : {N : Type 0} → (N → Tree) → List (Cell N) → List (Option Tree)
-trees f cells = map (root_tree f) cells
+trees f [] = []
+trees f (c ∷ cs) = root_tree f c ∷ trees f cs
 
 -- a tree, if there is one
 abbrev pub tree_of : Option Tree → Tree

@@ -2,7 +2,7 @@ use Rattle.std.proofs.Common.{◌≡◌, arith, ap, sym, ◌∙◌, ◌+◌, ◌
 use Rattle.prettyless_model.specs.Tree.{size}
 use Rattle.prettyless_step.proofs.Sizes.{size_positive}
 use Rattle.prettyless_table.specs.declared.cell.Cell.TheVariants.{Root}
-use Rattle.prettyless_table.proofs.Trees.{grows_not, grows_then}
+use Rattle.prettyless_table.proofs.Trees.{grows_not, grows_then, has_new}
 use Rattle.prettyless_table.proofs.Waits.{laid_all, owed_more, starts}
 use Rattle.prettyless_table.proofs.table.Table.lay_out.Goals as goal
 
@@ -98,3 +98,11 @@ returns-clause-count g c =
     let more = ap length (c.in_ok-add.ensures.added c.if-not-branch-2.false).0 in
     let one = length-append c.up.self.cells.items (Root c.last-place.result c.args.root ∷ []) in
     (omega (arith, more, one, c.last.ensures), omega (arith, more, laid.1, one, size_positive (f c.args.root)))
+
+pub returns-clause-laid : goal.returns-clause-laid
+returns-clause-laid g c =
+    let f = g.N.Walk.tree in
+    let added = (c.in_ok-add.ensures.added c.if-not-branch-2.false).0 in
+    let one = length-append c.up.self.cells.items (Root c.last-place.result c.args.root ∷ []) in
+    let here : c.last.result ≡ length c.up.self.cells.items = omega (arith, ap length added, one, c.last.ensures) in
+    rw (here, added) (has_new f c.up.self.cells.items c.last-place.result c.args.root)
