@@ -3,7 +3,7 @@ use Rattle.std.proofs.Common.{◌≡◌, ℕ, ◌^◌, ◌<◌, Bool, ◌||◌, 
 use Rattle.prettyless_model.specs.Look.{Look, Answers, GoesOn, answer_of, look_then}
 use Rattle.prettyless_model.specs.declared.column.Column.{Column}
 use Rattle.prettyless_model.proofs.Looks.{look-then-then, answer-then}
-use Rattle.prettyless_summary.specs.Summary.{Continues, ThenReads, look_by, look_ink, look_out, look_rest, look_weak, spaced}
+use Rattle.prettyless_summary.specs.Summary.{Continues, ThenReads, look_by, look_ink, look_out, look_rest, look_weak, mode_of, spaced}
 use Rattle.prettyless_summary.specs.declared.summary.Summary.{Summary}
 use Rattle.prettyless_summary.specs.declared.summary.End.{End}
 use Rattle.prettyless_summary.specs.declared.summary.End.TheVariants.{Open, No, PaddingFits, Yes}
@@ -37,6 +37,6 @@ answers_then (GoesOn c p) f g h = h c p
 -- a summary that is closed, and then anything, is that summary
 pub closed : (s : Summary) → (s.end ≡ Open → ⊥) → (f : ℕ → Column → Bool → Look) → Continues s f s
 closed s h f width c p l =
-    answers_then (look_weak width s.weak (spaced s.lead c) p) (look_rest width s) (f width)
+    answers_then (look_weak width (mode_of s.weak) (spaced s.lead c) p) (look_rest width s) (f width)
     (λ e q. answers_then (look_ink width s.has_ink s.inner s.trail e q) (λ g r. look_out width s.end g (s.has_suffix || r)) (f width)
     (λ g r. closed_out width s.end h (f width) g (s.has_suffix || r)))

@@ -1,3 +1,4 @@
 pub mod Chains
 pub mod Packing
 pub mod Variants
+pub mod Weak

@@ -1,10 +1,10 @@
 -- What marks have is what they were made of.
-use Rattle.std.proofs.Common.{◌≡◌, ℕ, ◌+◌, ◌/◌, ◌%◌, ◌<◌, Bool, true, false, ◌==◌, nat_eq, Option, Some, None, refl, ap, ◌∙◌, arith, if◌then◌else◌}
+use Rattle.std.proofs.Common.{◌≡◌, ℕ, ◌+◌, ◌/◌, ◌%◌, ◌<◌, Bool, true, false, ◌==◌, nat_eq, refl, ap, ◌∙◌, arith, if◌then◌else◌}
 use Rattle.std.proofs.lemmas.Bool.Decides.{nat_tests}
-use Rattle.prettyless_model.specs.declared.mode.Mode.{Mode}
-use Rattle.prettyless_model.specs.declared.mode.Mode.TheVariants.{Break, Flat}
 use Rattle.prettyless_summary.specs.Marks.{end_marks, weak_marks, marks_of, end_of, weak_of}
 use Rattle.prettyless_summary.specs.declared.summary.Summary.{Summary}
+use Rattle.prettyless_summary.specs.declared.summary.Weak.{Weak}
+use Rattle.prettyless_summary.specs.declared.summary.Weak.TheVariants as weak
 use Rattle.prettyless_summary.specs.declared.summary.End.{End}
 use Rattle.prettyless_summary.specs.declared.summary.End.TheVariants.{Open, No, PaddingFits, Yes}
 
@@ -35,46 +35,46 @@ suffix_below : (n : ℕ) (b : Bool) → n < 8 → n + suffix_marks b < 16
 suffix_below n true h = omega arith
 suffix_below n false h = omega arith
 
-weak_at : (n : ℕ) (x : Option Mode) → n < 16 → weak_of (n + weak_marks x) ≡ x
-weak_at n None h = grind (arith, nat_tests)
-weak_at n (Some Flat) h = grind (arith, nat_tests)
-weak_at n (Some Break) h = grind (arith, nat_tests)
+weak_at : (n : ℕ) (x : Weak) → n < 16 → weak_of (n + weak_marks x) ≡ x
+weak_at n weak.Never h = grind (arith, nat_tests)
+weak_at n weak.Flat h = grind (arith, nat_tests)
+weak_at n weak.Break h = grind (arith, nat_tests)
 
-suffix_at : (n : ℕ) (b : Bool) (x : Option Mode) → n < 8 → nat_eq ((n + suffix_marks b + weak_marks x) / 8 % 2) 1 ≡ b
-suffix_at n true None h = grind (arith, nat_tests)
-suffix_at n true (Some Flat) h = grind (arith, nat_tests)
-suffix_at n true (Some Break) h = grind (arith, nat_tests)
-suffix_at n false None h = grind (arith, nat_tests)
-suffix_at n false (Some Flat) h = grind (arith, nat_tests)
-suffix_at n false (Some Break) h = grind (arith, nat_tests)
+suffix_at : (n : ℕ) (b : Bool) (x : Weak) → n < 8 → nat_eq ((n + suffix_marks b + weak_marks x) / 8 % 2) 1 ≡ b
+suffix_at n true weak.Never h = grind (arith, nat_tests)
+suffix_at n true weak.Flat h = grind (arith, nat_tests)
+suffix_at n true weak.Break h = grind (arith, nat_tests)
+suffix_at n false weak.Never h = grind (arith, nat_tests)
+suffix_at n false weak.Flat h = grind (arith, nat_tests)
+suffix_at n false weak.Break h = grind (arith, nat_tests)
 
-ink_at : (n : ℕ) (a b : Bool) (x : Option Mode) → n < 4 → nat_eq ((n + ink_marks a + suffix_marks b + weak_marks x) / 4 % 2) 1 ≡ a
-ink_at n true true None h = grind (arith, nat_tests)
-ink_at n true true (Some Flat) h = grind (arith, nat_tests)
-ink_at n true true (Some Break) h = grind (arith, nat_tests)
-ink_at n true false None h = grind (arith, nat_tests)
-ink_at n true false (Some Flat) h = grind (arith, nat_tests)
-ink_at n true false (Some Break) h = grind (arith, nat_tests)
-ink_at n false true None h = grind (arith, nat_tests)
-ink_at n false true (Some Flat) h = grind (arith, nat_tests)
-ink_at n false true (Some Break) h = grind (arith, nat_tests)
-ink_at n false false None h = grind (arith, nat_tests)
-ink_at n false false (Some Flat) h = grind (arith, nat_tests)
-ink_at n false false (Some Break) h = grind (arith, nat_tests)
+ink_at : (n : ℕ) (a b : Bool) (x : Weak) → n < 4 → nat_eq ((n + ink_marks a + suffix_marks b + weak_marks x) / 4 % 2) 1 ≡ a
+ink_at n true true weak.Never h = grind (arith, nat_tests)
+ink_at n true true weak.Flat h = grind (arith, nat_tests)
+ink_at n true true weak.Break h = grind (arith, nat_tests)
+ink_at n true false weak.Never h = grind (arith, nat_tests)
+ink_at n true false weak.Flat h = grind (arith, nat_tests)
+ink_at n true false weak.Break h = grind (arith, nat_tests)
+ink_at n false true weak.Never h = grind (arith, nat_tests)
+ink_at n false true weak.Flat h = grind (arith, nat_tests)
+ink_at n false true weak.Break h = grind (arith, nat_tests)
+ink_at n false false weak.Never h = grind (arith, nat_tests)
+ink_at n false false weak.Flat h = grind (arith, nat_tests)
+ink_at n false false weak.Break h = grind (arith, nat_tests)
 
-rest_at : (n : ℕ) (a b : Bool) (x : Option Mode) → n < 4 → (n + ink_marks a + suffix_marks b + weak_marks x) % 4 ≡ n
-rest_at n true true None h = omega arith
-rest_at n true true (Some Flat) h = omega arith
-rest_at n true true (Some Break) h = omega arith
-rest_at n true false None h = omega arith
-rest_at n true false (Some Flat) h = omega arith
-rest_at n true false (Some Break) h = omega arith
-rest_at n false true None h = omega arith
-rest_at n false true (Some Flat) h = omega arith
-rest_at n false true (Some Break) h = omega arith
-rest_at n false false None h = omega arith
-rest_at n false false (Some Flat) h = omega arith
-rest_at n false false (Some Break) h = omega arith
+rest_at : (n : ℕ) (a b : Bool) (x : Weak) → n < 4 → (n + ink_marks a + suffix_marks b + weak_marks x) % 4 ≡ n
+rest_at n true true weak.Never h = omega arith
+rest_at n true true weak.Flat h = omega arith
+rest_at n true true weak.Break h = omega arith
+rest_at n true false weak.Never h = omega arith
+rest_at n true false weak.Flat h = omega arith
+rest_at n true false weak.Break h = omega arith
+rest_at n false true weak.Never h = omega arith
+rest_at n false true weak.Flat h = omega arith
+rest_at n false true weak.Break h = omega arith
+rest_at n false false weak.Never h = omega arith
+rest_at n false false weak.Flat h = omega arith
+rest_at n false false weak.Break h = omega arith
 
 -- the end by the rest of marks at 4
 abbrev end_rest : ℕ → End
@@ -105,9 +105,9 @@ unpacked_marks s lead inner trail n l i t h =
     let e = end_marks s.end in
     let k = end_marks s.end + ink_marks s.has_ink in
     let below = ink_below s.end s.has_ink in
-    let weak : weak_of (marks_of s) ≡ s.weak = weak_at (k + suffix_marks s.has_suffix) s.weak (suffix_below k s.has_suffix below) in
+    let line : weak_of (marks_of s) ≡ s.weak = weak_at (k + suffix_marks s.has_suffix) s.weak (suffix_below k s.has_suffix below) in
     let ink : nat_eq (marks_of s / 4 % 2) 1 ≡ s.has_ink = ink_at e s.has_ink s.has_suffix s.weak (end_below s.end) in
     let suffix : nat_eq (marks_of s / 8 % 2) 1 ≡ s.has_suffix = suffix_at k s.has_suffix s.weak below in
     let end : end_of (marks_of s) ≡ s.end =
     ap end_rest (rest_at e s.has_ink s.has_suffix s.weak (end_below s.end)) ∙ end_rest_at s.end in
-    rw (l, i, t, h, weak, ink, suffix, end) refl
+    rw (l, i, t, h, line, ink, suffix, end) refl

@@ -1,8 +1,8 @@
 -- A summary but for its numbers, as one number.
-use Rattle.std.specs.Prelude.{ℕ, ◌+◌, ◌/◌, ◌%◌, ◌==◌, Option, Some, None, if◌then◌else◌}
-use Rattle.prettyless_model.specs.declared.mode.Mode.{Mode}
-use Rattle.prettyless_model.specs.declared.mode.Mode.TheVariants.{Break, Flat}
+use Rattle.std.specs.Prelude.{ℕ, ◌+◌, ◌/◌, ◌%◌, ◌==◌, if◌then◌else◌}
 use Rattle.prettyless_summary.specs.declared.summary.Summary.{Summary}
+use Rattle.prettyless_summary.specs.declared.summary.Weak.{Weak}
+use Rattle.prettyless_summary.specs.declared.summary.Weak.TheVariants as weak
 use Rattle.prettyless_summary.specs.declared.summary.End.{End}
 use Rattle.prettyless_summary.specs.declared.summary.End.TheVariants.{Open, No, PaddingFits, Yes}
 
@@ -14,10 +14,10 @@ end_marks PaddingFits = 2
 end_marks Yes = 3
 
 -- of a weak line
-abbrev pub weak_marks : Option Mode → ℕ
-weak_marks None = 0
-weak_marks (Some Flat) = 16
-weak_marks (Some Break) = 32
+abbrev pub weak_marks : Weak → ℕ
+weak_marks weak.Never = 0
+weak_marks weak.Flat = 16
+weak_marks weak.Break = 32
 
 -- of a summary
 abbrev pub marks_of : Summary → ℕ
@@ -28,5 +28,5 @@ abbrev pub end_of : ℕ → End
 end_of n = if n % 4 == 0 then Open else (if n % 4 == 1 then No else (if n % 4 == 2 then PaddingFits else Yes))
 
 -- the weak line that marks have
-abbrev pub weak_of : ℕ → Option Mode
-weak_of n = if n / 16 == 0 then None else (if n / 16 == 1 then Some Flat else Some Break)
+abbrev pub weak_of : ℕ → Weak
+weak_of n = if n / 16 == 0 then weak.Never else (if n / 16 == 1 then weak.Flat else weak.Break)

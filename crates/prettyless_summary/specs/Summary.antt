@@ -6,15 +6,24 @@ use Rattle.prettyless_model.specs.Column.{saturating_add, commit, padding_fits}
 use Rattle.prettyless_model.specs.Look.{Look, Answers, GoesOn, look, look_end, look_then}
 use Rattle.prettyless_model.specs.declared.column.Column.{Column}
 use Rattle.prettyless_model.specs.declared.mode.Mode.{Mode}
+use Rattle.prettyless_model.specs.declared.mode.Mode.TheVariants.{Break, Flat}
 use Rattle.prettyless_summary.specs.declared.summary.Summary.{Summary}
 use Rattle.prettyless_summary.specs.declared.summary.End.{End}
 use Rattle.prettyless_summary.specs.declared.summary.End.TheVariants.{Open, No, PaddingFits, Yes}
+use Rattle.prettyless_summary.specs.declared.summary.Weak.{Weak}
+use Rattle.prettyless_summary.specs.declared.summary.Weak.TheVariants as first
 use Rattle.prettyless_summary.specs.declared.summary.Reached.{Reached}
 use Rattle.prettyless_summary.specs.declared.summary.Reached.TheVariants.{Answer, Line}
 
 -- so many weak spaces: nothing where the line is fresh
 abbrev pub spaced : ℕ → Column → Column
 spaced n c = if c.fresh || (n == 0) then c else record c { padding = saturating_add c.padding n }
+
+-- the mode of the weak line that comes first, if there is one
+abbrev pub mode_of : Weak → Option Mode
+mode_of first.Never = None
+mode_of first.Flat = Some Flat
+mode_of first.Break = Some Break
 
 -- a weak line, or nothing where there is none
 abbrev pub look_weak : ℕ → Option Mode → Column → Bool → Look
@@ -41,7 +50,7 @@ look_rest width s c p =
 
 -- What a line comes to that is read by a summary: weak spaces, then a weak line, then the rest.
 abbrev pub look_by : ℕ → Summary → Column → Bool → Look
-look_by width s c p = look_then (look_weak width s.weak (spaced s.lead c) p) (look_rest width s)
+look_by width s c p = look_then (look_weak width (mode_of s.weak) (spaced s.lead c) p) (look_rest width s)
 
 -- by a summary a line comes to what it comes to by a look, at every width below 2^32
 abbrev pub Reads : Summary → (ℕ → Column → Bool → Look) → Type 0

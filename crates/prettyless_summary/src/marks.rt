@@ -2,8 +2,7 @@
 ghost use Rattle.std.specs.Prelude.{◌≡◌, ◌<◌};
 ghost use Rattle.prettyless_summary.specs.Marks.{marks_of, end_of as end_by, weak_of as weak_by};
 
-use crate::summary::{End, Summary};
-use prettyless_model::mode::Mode;
+use crate::summary::{End, Summary, Weak};
 
 // The end that marks have.
 #[inline(always)]
@@ -20,13 +19,13 @@ fn end_of(marks: u8) -> End
 
 // The mode of the weak line that marks have.
 #[inline(always)]
-fn weak_of(marks: u8) -> Option<Mode>
+fn weak_of(marks: u8) -> Weak
     ensures { result ≡ weak_by marks }
 {
     match marks / 16 {
-        0 => None,
-        1 => Some(Mode::Flat),
-        _ => Some(Mode::Break),
+        0 => Weak::Never,
+        1 => Weak::Flat,
+        _ => Weak::Break,
     }
 }
 
@@ -46,9 +45,9 @@ impl Summary {
         let ink = if self.has_ink { 4 } else { 0 };
         let suffix = if self.has_suffix { 8 } else { 0 };
         let weak = match self.weak {
-            None => 0,
-            Some(Mode::Flat) => 16,
-            Some(Mode::Break) => 32,
+            Weak::Never => 0,
+            Weak::Flat => 16,
+            Weak::Break => 32,
         };
         end + ink + suffix + weak
     }

@@ -3,7 +3,7 @@ ghost use Rattle.std.specs.Prelude.{◌≡◌, ℕ, ◌+◌, ◌<◌, ◌≤◌,
 ghost use Rattle.prettyless_model.specs.Column.{blank, commit, padding_fits};
 ghost use Rattle.prettyless_model.specs.Look.{Answers, GoesOn, look_end, look_text, payload_begins};
 ghost use Rattle.prettyless_model.specs.declared.column.Column.{Column};
-ghost use Rattle.prettyless_summary.specs.Summary.{Continues, IsSmall, Reads, ThenReads, look_by, look_ink, look_of, look_out, look_rest, look_weak, spaced as spaced_by};
+ghost use Rattle.prettyless_summary.specs.Summary.{Continues, IsSmall, Reads, ThenReads, look_by, look_ink, look_of, look_out, look_rest, look_weak, mode_of, spaced as spaced_by};
 ghost use Rattle.prettyless_summary.specs.declared.summary.End.TheVariants.{Open};
 
 use prettyless_model::column::Column;
@@ -23,6 +23,41 @@ pub enum End {
     Yes,
 }
 
+/// The weak line that comes first, by its mode, or none.
+///
+/// It takes one byte, so a summary has no bytes between its fields and none after them, which would be copied too.
+#[derive(Clone, Copy)]
+pub enum Weak {
+    Never,
+    Flat,
+    Break,
+}
+
+impl Weak {
+    /// A weak line in this mode.
+    #[inline(always)]
+    pub fn of(mode: Mode) -> Self
+        ensures { mode_of result ≡ Some mode }
+    {
+        match mode {
+            Mode::Flat => Weak::Flat,
+            Mode::Break => Weak::Break,
+        }
+    }
+
+    /// The mode of the weak line, if there is one.
+    #[inline(always)]
+    pub fn mode(self) -> Option<Mode>
+        ensures { result ≡ mode_of self }
+    {
+        match self {
+            Weak::Never => None,
+            Weak::Flat => Some(Mode::Flat),
+            Weak::Break => Some(Mode::Break),
+        }
+    }
+}
+
 /// What a document shows a probe, up to the first thing that ends its line or decides it.
 ///
 /// Where a weak line comes first, all but `lead` is what comes of the document if that weak line is nothing.
@@ -35,7 +70,7 @@ pub struct Summary {
     /// Weak spaces after the last ink.
     pub trail: u32,
     /// The mode of a weak line that comes before the first ink and the first line suffix.
-    pub weak: Option<Mode>,
+    pub weak: Weak,
     /// Whether there is ink: a text that is not empty.
     pub has_ink: bool,
     /// Whether a line suffix becomes pending.
@@ -43,12 +78,14 @@ pub struct Summary {
     pub end: End,
 }
 
+const _: () = prove!(size_of::<Summary>() == 16);
+
 // The summary of nothing.
 const NOTHING: Summary = Summary {
     lead: 0,
     inner: 0,
     trail: 0,
-    weak: None,
+    weak: Weak::Never,
     has_ink: false,
     has_suffix: false,
     end: End::Open,
@@ -163,7 +200,7 @@ impl Summary {
         ensures small { IsSmall 0 result }
     {
         Summary {
-            weak: Some(mode),
+            weak: Weak::of(mode),
             ..NOTHING
         }
     }
@@ -232,7 +269,7 @@ impl Summary {
                 ..self
             });
         }
-        if self.weak.is_some() {
+        if self.weak.mode().is_some() {
             return Some(self);
         }
         Some(Summary {
@@ -243,13 +280,13 @@ impl Summary {
 
     // It and then a weak line or none. A weak line after ink or a line suffix ends the line.
     #[inline(always)]
-    fn and_weak(self, weak: Option<Mode>) -> Self
+    fn and_weak(self, weak: Weak) -> Self
         requires { self.end ≡ Open }
-        ensures reads { Continues self (λ width c p. look_weak width weak c p) result }
+        ensures reads { Continues self (λ width c p. look_weak width (mode_of weak) c p) result }
         ensures lead { result.lead ≡ self.lead }
         ensures trail { result.trail ≡ self.trail }
     {
-        let Some(mode) = weak else {
+        let Some(mode) = weak.mode() else {
             return self;
         };
         if self.has_ink || self.has_suffix {
@@ -258,7 +295,7 @@ impl Summary {
                 ..self
             };
         }
-        if self.weak.is_some() {
+        if self.weak.mode().is_some() {
             return self;
         }
         Summary { weak, ..self }
@@ -347,7 +384,7 @@ impl Summary {
         ensures { look_of result ≡ look_by width self column pending }
     {
         let start = spaced(column, self.lead);
-        if let Some(mode) = self.weak
+        if let Some(mode) = self.weak.mode()
             && (!start.fresh || pending)
         {
             return read_end(weak_end(mode), width, start, pending);

@@ -1,120 +1,199 @@
--- Cells that are made of the end of a table.
-use Rattle.std.proofs.Common.{◌≡◌, ℕ, ◌+◌, ◌-◌, ◌<◌, ◌≤◌, List, [], ◌∷◌, Option, length, get_or, take, refl, ap, ap₂, sym, subst, ◌∙◌, arith}
-use Rattle.std.proofs.lemmas.List.{length-take-le, get_or-take}
-use Rattle.prettyless_model.specs.Tree.{Tree, Nil, Fail, Text, TextWithLen, MultilineText, WeakSpace, HardLine, WeakLine, ExpandParent, Append, LineSuffix, Nest, DedentToRoot, Align, Flatten, BreakOrFlat, Group, Union, PartialUnion, OnColumn, OnNesting}
-use Rattle.prettyless_model.specs.declared.mode.Mode.{Mode}
-use Rattle.prettyless_summary.specs.declared.summary.Summary.{Summary}
-use Rattle.prettyless_table.specs.declared.sums.Sums.{Sums}
-use Rattle.prettyless_table.specs.Sums.{AreSums, SumsUp}
+-- Where documents stand in a table.
+use Rattle.std.proofs.Common.{◌≡◌, ℕ, zero, suc, ◌+◌, ◌-◌, ◌<◌, ◌≤◌, Bool, true, false, ◌&&◌, List, [], ◌∷◌, ◌++◌, length, get_or, refl, ap, sym, subst, ◌∙◌, arith, length-append}
+use Rattle.std.proofs.lemmas.List.{get_or_push, get_or_append_left}
+use Rattle.std.proofs.Math.ListN.{get_or-eq_default}
+use Rattle.prettyless_model.specs.Tree.{Tree, Nil, Append, LineSuffix, Nest, DedentToRoot, Align, Flatten, BreakOrFlat, Group, Union, PartialUnion, OnColumn, OnNesting}
+use Rattle.prettyless_model.specs.Tree as t
 use Rattle.prettyless_table.specs.declared.cell.Cell.{Cell}
-use Rattle.prettyless_table.specs.declared.kind.Pair.{Pair}
-use Rattle.prettyless_table.specs.declared.kind.Pair.TheVariants as two
-use Rattle.prettyless_table.specs.Parts.{first_part, leaf_tree, pair_tree, second_part}
-use Rattle.prettyless_table.specs.Cells.{before, cell_tree, trees, tree_at, IsAfterParts, IsBack, IsRight, IsSound}
-use Rattle.prettyless_table.specs.Laying.{parts_of, FirstIs, HasAt, SecondAt}
-use Rattle.prettyless_table.proofs.Trees.{length-trees, subst2, tree_at-is}
+use Rattle.prettyless_table.specs.Parts.{none, leaves, parts_of, small}
+use Rattle.prettyless_table.specs.Cells.{HasCell, In, KeepsBoth, Unless, no_cell, second_at, second_of}
+use Rattle.prettyless_table.specs.Laying.{FirstIn, SecondIn, IsOwn, Serves}
 
--- a distance back from the end of a table is a place in it
-pub before_at : {N : Type 0} (f : N → Tree) (cells : List (Cell N)) (i k : ℕ) → i + k ≡ length cells
-    → before (trees f cells) k ≡ tree_at f cells i
-before_at f cells i k e =
-    let same : length (trees f cells) - k ≡ i = omega (arith, e, length-trees f cells) in
-    ap (λ (j : ℕ). get_or (trees f cells) j Nil) same
+unless_map : (b : Bool) {P Q : Type 0} → (P → Q) → Unless b P → Unless b Q
+unless_map true g h = tt
+unless_map false g h = g h
 
-pub is_back : {N : Type 0} (f : N → Tree) (cells : List (Cell N)) (k : ℕ) → 0 < k → k ≤ length cells → IsBack (length (trees f cells)) k
-is_back f cells k some within = (some, omega (arith, within, length-trees f cells))
+unless_true : (b : Bool) (P : Type 0) → b ≡ true → Unless b P
+unless_true true P e = tt
+unless_true false P e = cc
 
--- the first part is laid out
-pub first_of : (d t x : Tree) (xs : List Tree) → x ∷ xs ≡ parts_of d → FirstIs t (parts_of d) → t ≡ x
-first_of d t x xs e h = let P : List Tree → Type 0 = λ ds. FirstIs t ds in subst P (sym e) h
+unless_false : (b : Bool) (P : Type 0) → b ≡ false → Unless b P → P
+unless_false true P e h = cc
+unless_false false P e h = h
 
--- the second part is laid out
-pub second_of : (d x y : Tree) (ts : List Tree) (place : ℕ) → x ∷ y ∷ [] ≡ parts_of d → SecondAt ts place (parts_of d) → HasAt ts place y
-second_of d x y ts place e h = let P : List Tree → Type 0 = λ ds. SecondAt ts place ds in subst P (sym e) h
+pub unless_some : (b : Bool) {P : Type 0} → P → Unless b P
+unless_some true h = tt
+unless_some false h = h
 
-pub second_within : {N : Type 0} (f : N → Tree) (cells : List (Cell N)) (d x y : Tree) (last place : ℕ)
-    → x ∷ y ∷ [] ≡ parts_of d → SecondAt (trees f cells) place (parts_of d) → last + 1 ≡ length cells → place ≤ last
-second_within f cells d x y last place e h size =
-    omega (arith, (second_of d x y (trees f cells) place e h).within, length-trees f cells, size)
+get_or_any : {A : Type 0} (xs : List A) (i : ℕ) (x y : A) → i < length xs → get_or xs i x ≡ get_or xs i y
+get_or_any [] i x y h = absurd (omega (arith, h))
+get_or_any (z ∷ xs) zero x y h = refl
+get_or_any (z ∷ xs) (suc i) x y h = get_or_any xs i x y (omega (arith, h))
 
--- a node without parts is its own cell
-pub leaf_is : (d : Tree) → [] ≡ parts_of d → leaf_tree d ≡ d
-leaf_is (Append l r) e = cc
-leaf_is (LineSuffix d) e = cc
-leaf_is (Nest k d) e = cc
-leaf_is (DedentToRoot d) e = cc
-leaf_is (Align d) e = cc
-leaf_is (Flatten d) e = cc
-leaf_is (BreakOrFlat b f) e = cc
-leaf_is (Group d) e = cc
-leaf_is (Union l r) e = cc
-leaf_is (PartialUnion l r) e = cc
-leaf_is (OnColumn test y n) e = cc
-leaf_is (OnNesting test y n) e = cc
-leaf_is Nil e = refl
-leaf_is Fail e = refl
-leaf_is (Text s) e = refl
-leaf_is (TextWithLen w s) e = refl
-leaf_is (MultilineText s) e = refl
-leaf_is WeakSpace e = refl
-leaf_is HardLine e = refl
-leaf_is WeakLine e = refl
-leaf_is ExpandParent e = refl
+-- a cell stays where it is
+cell_stays : {N : Type 0} (cells : List (Cell N)) (c : Cell N) (at : ℕ) (d : Tree) → HasCell cells at d → HasCell (cells ++ c ∷ []) at d
+cell_stays {N} cells c at d h = record {
+  within = omega (arith, h.within, length-append cells (c ∷ []));
+  keeps = λ x. subst (λ (y : Cell N). KeepsBoth y d) (sym (get_or_append_left cells (c ∷ []) x at h.within)) (h.keeps x);
+}
 
--- the tree of a cell that was read
-pub seen : {N : Type 0} (f : N → Tree) (cells : List (Cell N)) (i : ℕ) (x c : Cell N) → i < length cells → x ≡ get_or cells i x → x ≡ c
-    → tree_at f cells i ≡ cell_tree f (take i (trees f cells)) c
-seen f cells i x c h at is = tree_at-is f cells i x h ∙ ap (cell_tree f (take i (trees f cells))) (sym at ∙ is)
+second_stays : {N : Type 0} (cells : List (Cell N)) (c : Cell N) (at : ℕ) → at < length cells → second_at (cells ++ c ∷ []) at ≡ second_at cells at
+second_stays {N} cells c at h = ap second_of (get_or_append_left cells (c ∷ []) no_cell at h)
 
--- the parts of a cell that was read come before it
-pub after_parts : {N : Type 0} (f : N → Tree) (cells : List (Cell N)) (i : ℕ) (x c : Cell N) → IsSound f cells → i < length cells
-    → x ≡ get_or cells i x → x ≡ c
-    → IsAfterParts i c
-after_parts f cells i x c sound h at is =
-    let all : length (take i (trees f cells)) ≡ i = length-take-le i (trees f cells) (omega (arith, h, length-trees f cells)) in
-    subst2 IsAfterParts all (sym at ∙ is) (sound i x h).after
+pair_stays : {N : Type 0} (b : Bool) (cells : List (Cell N)) (c : Cell N) (at : ℕ) (d : Tree) {P P' : Type 0} (Q Q' : ℕ → Type 0)
+    → (P → P') → ((i : ℕ) → Q i → Q' i)
+    → Unless b (HasCell cells at d × (P × Q (second_at cells at)))
+    → Unless b (HasCell (cells ++ c ∷ []) at d × (P' × Q' (second_at (cells ++ c ∷ []) at)))
+pair_stays b cells c at d Q Q' g k = unless_map b (λ h.
+    (cell_stays cells c at d h.0, (g h.1.0, subst Q' (sym (second_stays cells c at h.0.within)) (k (second_at cells at) h.1.1))))
 
--- a distance back from a place in a table is a place in it
-pub back_at : {N : Type 0} (f : N → Tree) (cells : List (Cell N)) (i k : ℕ) → i < length cells → IsBack i k
-    → tree_at f cells (i - k) ≡ before (take i (trees f cells)) k
-back_at f cells i k h back =
-    let all : length (take i (trees f cells)) ≡ i = length-take-le i (trees f cells) (omega (arith, h, length-trees f cells)) in
-    sym (get_or-take i (trees f cells) (i - k) Nil (omega (arith, back.0, back.1)))
-    ∙ ap (λ (n : ℕ). get_or (take i (trees f cells)) (n - k) Nil) (sym all)
+single_stays : {N : Type 0} (b : Bool) (cells : List (Cell N)) (c : Cell N) (at : ℕ) (d : Tree) {P P' : Type 0}
+    → (P → P') → Unless b (HasCell cells at d × P) → Unless b (HasCell (cells ++ c ∷ []) at d × P')
+single_stays b cells c at d g = unless_map b (λ h. (cell_stays cells c at d h.0, g h.1))
 
--- a cell that was read is right
-pub right_at : {N : Type 0} (f : N → Tree) (cells : List (Cell N)) (i : ℕ) (x : Cell N) → IsSound f cells → i < length cells
-    → x ≡ get_or cells i x
-    → IsRight f (take i (trees f cells)) x
-right_at f cells i x sound h at = subst (IsRight f (take i (trees f cells))) (sym at) (sound i x h)
+-- a document stands where it stood, after one more cell
+pub stays : {N : Type 0} (cells : List (Cell N)) (c : Cell N) (d : Tree) (at : ℕ) → In cells d at → In (cells ++ c ∷ []) d at
+stays cells c (Append l r) at = pair_stays (small (Append l r)) cells c at (Append l r) (In cells r) (In (cells ++ c ∷ []) r)
+    (stays cells c l (at - 1)) (stays cells c r)
+stays cells c (LineSuffix d) at = single_stays (small (LineSuffix d)) cells c at (LineSuffix d) (stays cells c d (at - 1))
+stays cells c (Nest k d) at = single_stays (small (Nest k d)) cells c at (Nest k d) (stays cells c d at)
+stays cells c (DedentToRoot d) at = single_stays (small (DedentToRoot d)) cells c at (DedentToRoot d) (stays cells c d at)
+stays cells c (Align d) at = single_stays (small (Align d)) cells c at (Align d) (stays cells c d at)
+stays cells c (Flatten d) at = single_stays (small (Flatten d)) cells c at (Flatten d) (stays cells c d (at - 1))
+stays cells c (BreakOrFlat l r) at = pair_stays (small (BreakOrFlat l r)) cells c at (BreakOrFlat l r) (In cells r)
+    (In (cells ++ c ∷ []) r) (stays cells c l (at - 1)) (stays cells c r)
+stays cells c (Group d) at = single_stays (small (Group d)) cells c at (Group d) (stays cells c d at)
+stays cells c (Union l r) at = pair_stays (small (Union l r)) cells c at (Union l r) (In cells r) (In (cells ++ c ∷ []) r)
+    (stays cells c l (at - 1)) (stays cells c r)
+stays cells c (PartialUnion l r) at = pair_stays (small (PartialUnion l r)) cells c at (PartialUnion l r) (In cells r)
+    (In (cells ++ c ∷ []) r) (stays cells c l (at - 1)) (stays cells c r)
+stays cells c (OnColumn test l r) at = pair_stays (small (OnColumn test l r)) cells c at (OnColumn test l r) (In cells r)
+    (In (cells ++ c ∷ []) r) (stays cells c l (at - 1)) (stays cells c r)
+stays cells c (OnNesting test l r) at = pair_stays (small (OnNesting test l r)) cells c at (OnNesting test l r) (In cells r)
+    (In (cells ++ c ∷ []) r) (stays cells c l (at - 1)) (stays cells c r)
+stays cells c Nil at = λ h. h
+stays cells c t.Fail at = λ h. h
+stays cells c (t.Text s) at = λ h. h
+stays cells c (t.TextWithLen w s) at = λ h. h
+stays cells c (t.MultilineText s) at = λ h. h
+stays cells c t.WeakSpace at = λ h. h
+stays cells c t.HardLine at = λ h. h
+stays cells c t.WeakLine at = λ h. h
+stays cells c t.ExpandParent at = λ h. h
 
--- its summary is that of the tree at its place
-pub sum_at : {N : Type 0} (f : N → Tree) (cells : List (Cell N)) (i : ℕ) (x : Cell N) (s : Option Summary) (m : Mode)
-    → IsSound f cells → i < length cells
-    → x ≡ get_or cells i x → ((ts : List Tree) → IsRight f ts x → SumsUp s (cell_tree f ts x) m) → SumsUp s (tree_at f cells i) m
-sum_at f cells i x s m sound h at sum =
-    let P : Tree → Type 0 = λ d. SumsUp s d m in
-    subst P (sym (seen f cells i x x h at refl)) (sum (take i (trees f cells)) (right_at f cells i x sound h at))
+-- a small document stands anywhere
+pub small_in : {N : Type 0} (cells : List (Cell N)) (d : Tree) (at : ℕ) → small d ≡ true → In cells d at
+small_in cells (Append l r) at e = unless_true (small (Append l r)) _ e
+small_in cells (LineSuffix d) at e = unless_true (small (LineSuffix d)) _ e
+small_in cells (Nest k d) at e = unless_true (small (Nest k d)) _ e
+small_in cells (DedentToRoot d) at e = unless_true (small (DedentToRoot d)) _ e
+small_in cells (Align d) at e = unless_true (small (Align d)) _ e
+small_in cells (Flatten d) at e = unless_true (small (Flatten d)) _ e
+small_in cells (BreakOrFlat l r) at e = unless_true (small (BreakOrFlat l r)) _ e
+small_in cells (Group d) at e = unless_true (small (Group d)) _ e
+small_in cells (Union l r) at e = unless_true (small (Union l r)) _ e
+small_in cells (PartialUnion l r) at e = unless_true (small (PartialUnion l r)) _ e
+small_in cells (OnColumn test l r) at e = unless_true (small (OnColumn test l r)) _ e
+small_in cells (OnNesting test l r) at e = unless_true (small (OnNesting test l r)) _ e
+small_in cells Nil at e = tt
+small_in cells t.Fail at e = tt
+small_in cells (t.Text s) at e = tt
+small_in cells (t.TextWithLen w s) at e = tt
+small_in cells (t.MultilineText s) at e = tt
+small_in cells t.WeakSpace at e = tt
+small_in cells t.HardLine at e = tt
+small_in cells t.WeakLine at e = tt
+small_in cells t.ExpandParent at e = tt
 
--- the summaries of a part are those of the tree so many places before the end
-pub sums_before : {N : Type 0} (f : N → Tree) (cells : List (Cell N)) (i k : ℕ) (s : Sums) → i + k ≡ length cells
-    → AreSums s (tree_at f cells i)
-    → AreSums s (before (trees f cells) k)
-sums_before f cells i k s e h = subst (AreSums s) (sym (before_at f cells i k e)) h
+-- another one has its summaries in the cell
+pub in_cell : {N : Type 0} (cells : List (Cell N)) (d : Tree) (at : ℕ) → small d ≡ false → In cells d at → HasCell cells at d
+in_cell cells (Append l r) at e h = (unless_false (small (Append l r)) _ e h).0
+in_cell cells (LineSuffix d) at e h = (unless_false (small (LineSuffix d)) _ e h).0
+in_cell cells (Nest k d) at e h = (unless_false (small (Nest k d)) _ e h).0
+in_cell cells (DedentToRoot d) at e h = (unless_false (small (DedentToRoot d)) _ e h).0
+in_cell cells (Align d) at e h = (unless_false (small (Align d)) _ e h).0
+in_cell cells (Flatten d) at e h = (unless_false (small (Flatten d)) _ e h).0
+in_cell cells (BreakOrFlat l r) at e h = (unless_false (small (BreakOrFlat l r)) _ e h).0
+in_cell cells (Group d) at e h = (unless_false (small (Group d)) _ e h).0
+in_cell cells (Union l r) at e h = (unless_false (small (Union l r)) _ e h).0
+in_cell cells (PartialUnion l r) at e h = (unless_false (small (PartialUnion l r)) _ e h).0
+in_cell cells (OnColumn test l r) at e h = (unless_false (small (OnColumn test l r)) _ e h).0
+in_cell cells (OnNesting test l r) at e h = (unless_false (small (OnNesting test l r)) _ e h).0
+in_cell cells Nil at e h = cc
+in_cell cells t.Fail at e h = cc
+in_cell cells (t.Text s) at e h = cc
+in_cell cells (t.TextWithLen w s) at e h = cc
+in_cell cells (t.MultilineText s) at e h = cc
+in_cell cells t.WeakSpace at e h = cc
+in_cell cells t.HardLine at e h = cc
+in_cell cells t.WeakLine at e h = cc
+in_cell cells t.ExpandParent at e h = cc
 
--- the parts of a node with two parts
-pub first_leaf : (kind : Pair) (x y d : Tree) → d ≡ pair_tree kind x y → first_part d ≡ x
-first_leaf two.Append x y d e = ap first_part e
-first_leaf two.BreakOrFlat x y d e = ap first_part e
-first_leaf two.Union x y d e = ap first_part e
-first_leaf two.PartialUnion x y d e = ap first_part e
+-- a cell that was added
+cell_new : {N : Type 0} (cells : List (Cell N)) (c : Cell N) (d : Tree) → KeepsBoth c d → HasCell (cells ++ c ∷ []) (length cells) d
+cell_new {N} cells c d keeps = record {
+  within = omega (arith, length-append cells (c ∷ []));
+  keeps = λ x. subst (λ (y : Cell N). KeepsBoth y d) (sym (get_or_push cells c x (length cells) refl)) keeps;
+}
 
-pub second_leaf : (kind : Pair) (x y d : Tree) → d ≡ pair_tree kind x y → second_part d ≡ y
-second_leaf two.Append x y d e = ap second_part e
-second_leaf two.BreakOrFlat x y d e = ap second_part e
-second_leaf two.Union x y d e = ap second_part e
-second_leaf two.PartialUnion x y d e = ap second_part e
+pair_new : {N : Type 0} (b : Bool) (cells : List (Cell N)) (c : Cell N) (d l r : Tree) → KeepsBoth c d → In cells l (length cells - 1)
+    → In cells r (second_of c)
+    → Unless b (HasCell (cells ++ c ∷ []) (length cells) d
+    × (In (cells ++ c ∷ []) l (length cells - 1) × In (cells ++ c ∷ []) r (second_at (cells ++ c ∷ []) (length cells))))
+pair_new {N} b cells c d l r keeps first second = unless_some b (
+  cell_new cells c d keeps,
+  (
+    stays cells c l (length cells - 1) first,
+    subst (In (cells ++ c ∷ []) r) (sym (ap second_of (get_or_push cells c no_cell (length cells) refl))) (stays cells c r (second_of c) second),
+  ),
+)
 
--- and the node of these parts
-pub pair_whole : (kind : Pair) (x y d : Tree) → d ≡ pair_tree kind x y → pair_tree kind (first_part d) (second_part d) ≡ d
-pair_whole kind x y d e = ap₂ (pair_tree kind) (first_leaf kind x y d e) (second_leaf kind x y d e) ∙ sym e
+single_new : {N : Type 0} (b : Bool) (cells : List (Cell N)) (c : Cell N) (d e : Tree) → KeepsBoth c d → In cells e (length cells - 1)
+    → Unless b (HasCell (cells ++ c ∷ []) (length cells) d × In (cells ++ c ∷ []) e (length cells - 1))
+single_new b cells c d e keeps first = unless_some b (cell_new cells c d keeps, stays cells c e (length cells - 1) first)
+
+own_new : {N : Type 0} (b : Bool) (cells : List (Cell N)) (c : Cell N) (d e : Tree) → KeepsBoth c d → small e ≡ true
+    → Unless b (HasCell (cells ++ c ∷ []) (length cells) d × In (cells ++ c ∷ []) e (length cells))
+own_new b cells c d e keeps own = unless_some b (cell_new cells c d keeps, small_in (cells ++ c ∷ []) e (length cells) own)
+
+-- a node stands where its cell was added
+pub stands_new : {N : Type 0} (cells : List (Cell N)) (c : Cell N) (d : Tree) → KeepsBoth c d → FirstIn cells (length cells - 1) (parts_of d)
+    → SecondIn cells (second_of c) (parts_of d) → IsOwn d → In (cells ++ c ∷ []) d (length cells)
+stands_new cells c (Append l r) keeps first second own = pair_new (small (Append l r)) cells c (Append l r) l r keeps first second
+stands_new cells c (LineSuffix d) keeps first second own = single_new (small (LineSuffix d)) cells c (LineSuffix d) d keeps first
+stands_new cells c (Nest k d) keeps first second own = own_new (small (Nest k d)) cells c (Nest k d) d keeps own
+stands_new cells c (DedentToRoot d) keeps first second own = own_new (small (DedentToRoot d)) cells c (DedentToRoot d) d keeps own
+stands_new cells c (Align d) keeps first second own = own_new (small (Align d)) cells c (Align d) d keeps own
+stands_new cells c (Flatten d) keeps first second own = single_new (small (Flatten d)) cells c (Flatten d) d keeps first
+stands_new cells c (BreakOrFlat l r) keeps first second own =
+    pair_new (small (BreakOrFlat l r)) cells c (BreakOrFlat l r) l r keeps first second
+stands_new cells c (Group d) keeps first second own = own_new (small (Group d)) cells c (Group d) d keeps own
+stands_new cells c (Union l r) keeps first second own = pair_new (small (Union l r)) cells c (Union l r) l r keeps first second
+stands_new cells c (PartialUnion l r) keeps first second own =
+    pair_new (small (PartialUnion l r)) cells c (PartialUnion l r) l r keeps first second
+stands_new cells c (OnColumn test l r) keeps first second own =
+    pair_new (small (OnColumn test l r)) cells c (OnColumn test l r) l r keeps first second
+stands_new cells c (OnNesting test l r) keeps first second own =
+    pair_new (small (OnNesting test l r)) cells c (OnNesting test l r) l r keeps first second
+stands_new cells c Nil keeps first second own = tt
+stands_new cells c t.Fail keeps first second own = tt
+stands_new cells c (t.Text s) keeps first second own = tt
+stands_new cells c (t.TextWithLen w s) keeps first second own = tt
+stands_new cells c (t.MultilineText s) keeps first second own = tt
+stands_new cells c t.WeakSpace keeps first second own = tt
+stands_new cells c t.HardLine keeps first second own = tt
+stands_new cells c t.WeakLine keeps first second own = tt
+stands_new cells c t.ExpandParent keeps first second own = tt
+
+-- the place of a second part, in a cell that was read
+pub second_past : {N : Type 0} (cells : List (Cell N)) (at : ℕ) → length cells ≤ at → second_at cells at ≡ 0
+second_past cells at h = ap second_of (get_or-eq_default cells no_cell h)
+
+pub second_read : {N : Type 0} (cells : List (Cell N)) (at : ℕ) (x : Cell N) → at < length cells → x ≡ get_or cells at x
+    → second_of x ≡ second_at cells at
+second_read cells at x h e = ap second_of (e ∙ get_or_any cells at x no_cell h)
+
+-- the summaries in a cell that was read
+pub cell_read : {N : Type 0} (cells : List (Cell N)) (at : ℕ) (x : Cell N) (d : Tree) → small d ≡ false → In cells d at → x ≡ get_or cells at x
+    → KeepsBoth x d
+cell_read {N} cells at x d e h is = subst (λ (y : Cell N). KeepsBoth y d) (sym is) ((in_cell cells d at e h).keeps x)

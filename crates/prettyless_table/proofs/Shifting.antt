@@ -11,14 +11,14 @@ use Rattle.prettyless_step.specs.declared.command.Command.{Command}
 use Rattle.prettyless_step.specs.declared.printer.Printer.{Printer}
 use Rattle.prettyless_table.specs.declared.shift.Places.{Places}
 use Rattle.prettyless_table.specs.declared.cell.Cell.{Cell}
-use Rattle.prettyless_table.specs.Cells.{tree_at, trees, Grows}
+use Rattle.prettyless_table.specs.Cells.{IsRoot, tree_at, tree_of, trees, Grows}
 use Rattle.prettyless_table.specs.Laying.{HasAt}
 use Rattle.prettyless_table.specs.Shift.{AreCommands, AreNodes, IsLaidOut}
-use Rattle.prettyless_table.proofs.Trees.{length-trees}
+use Rattle.prettyless_table.proofs.Trees.{at_root, root_stays, tree_same}
 
 -- What is at these places is the first of all, and the later ones come after it.
-pub record AreFirst {A B : Type 0} (place : A → ℕ) (at : A → B) (n : ℕ) (places : List A) (later all : List B) : Type 0 where
-  pub within : All (λ a. place a < n) places
+pub record AreFirst {A B : Type 0} (P : A → Type 0) (at : A → B) (places : List A) (later all : List B) : Type 0 where
+  pub within : All P places
   pub same : map at places ++ later ≡ all
 
 -- two functions that agree on some items
@@ -28,65 +28,62 @@ map_same P g h same [] all = refl
 map_same P g h same (x ∷ xs) all =
     ap₂ (λ y ys. y ∷ ys) (same x (All-head P x xs all)) (map_same P g h same xs (All-tail P x xs all))
 
--- one more, after the table has grown from n cells to k
-first_more : {A B : Type 0} (place : A → ℕ) (g h : A → B) (n k : ℕ) (xs ys : List A) (x : A) (y : B) (left later all : List B)
-    → n ≤ k → ((a : A) → place a < n → h a ≡ g a) → place x < k → h x ≡ y → ys ≡ xs ++ x ∷ [] → left ≡ y ∷ later
-    → AreFirst place g n xs left all → AreFirst place h k ys later all
-first_more {A} {B} place g h n k xs ys x y left later all longer kept within is longer_by less first =
-    let weaker : All (λ a. place a < k) xs =
-    All-weaker (λ a. place a < n) (λ a. place a < k) (λ a l. omega (arith, l, longer)) xs first.within in
-    record {
-      within = All-same (λ a. place a < k) ys (xs ++ x ∷ []) longer_by (All-push (λ a. place a < k) xs x weaker within);
-      same = ap (λ (zs : List A). map h zs ++ later) longer_by
-          ∙ ap (λ (zs : List B). zs ++ later) (map-append h xs (x ∷ []))
-          ∙ append_assoc (map h xs) (h x ∷ []) later
-          ∙ ap₂ (λ (zs : List B) (z : B). zs ++ z ∷ later) (map_same (λ a. place a < n) g h kept xs first.within) is
-          ∙ ap (λ (zs : List B). map g xs ++ zs) (sym less)
-          ∙ first.same;
-    }
+-- one more, after the table has grown
+first_more : {A B : Type 0} (P Q : A → Type 0) (g h : A → B) (xs ys : List A) (x : A) (y : B) (left later all : List B)
+    → ((a : A) → P a → Q a) → ((a : A) → P a → h a ≡ g a) → Q x → h x ≡ y → ys ≡ xs ++ x ∷ [] → left ≡ y ∷ later
+    → AreFirst P g xs left all → AreFirst Q h ys later all
+first_more {A} {B} P Q g h xs ys x y left later all weaker kept within is longer_by less first = record {
+  within = All-same Q ys (xs ++ x ∷ []) longer_by (All-push Q xs x (All-weaker P Q weaker xs first.within) within);
+  same = ap (λ (zs : List A). map h zs ++ later) longer_by
+      ∙ ap (λ (zs : List B). zs ++ later) (map-append h xs (x ∷ []))
+      ∙ append_assoc (map h xs) (h x ∷ []) later
+      ∙ ap₂ (λ (zs : List B) (z : B). zs ++ z ∷ later) (map_same P g h kept xs first.within) is
+      ∙ ap (λ (zs : List B). map g xs ++ zs) (sym less)
+      ∙ first.same;
+}
 
 -- commands at places are the first of these tasks
 abbrev pub FirstCommands : {N : Type 0} → (N → Tree) → List (Cell N) → List (Command ℕ) → List Task → List Task → Type 0
-FirstCommands f cells = AreFirst (λ (c : Command ℕ). c.node) (task (tree_at f cells)) (length cells)
+FirstCommands f cells = AreFirst (λ (c : Command ℕ). IsRoot cells c.node) (task (tree_at f cells))
 
 -- nodes at places are the first of these trees
 abbrev pub FirstNodes : {N : Type 0} → (N → Tree) → List (Cell N) → List ℕ → List Tree → List Tree → Type 0
-FirstNodes f cells = AreFirst (λ (at : ℕ). at) (tree_at f cells) (length cells)
+FirstNodes f cells = AreFirst (λ (at : ℕ). IsRoot cells at) (tree_at f cells)
 
 pub command_more : {N : Type 0} (f : N → Tree) (old new : List (Cell N)) (places after : List (Command ℕ)) (c : Command ℕ) (d : Tree)
     (left later all : List Task)
     → Grows f old new → HasAt (trees f new) c.node d → after ≡ places ++ c ∷ [] → left ≡ make_task c.indent c.mode d ∷ later
     → FirstCommands f old places left all → FirstCommands f new after later all
 command_more f old new places after c d left later all grows has longer less first =
-    first_more (λ (b : Command ℕ). b.node) (task (tree_at f old)) (task (tree_at f new)) (length old) (length new)
-    places after c (make_task c.indent c.mode d) left later all
-    grows.longer (λ b l. ap (make_task b.indent b.mode) (grows.same b.node l))
-    (omega (arith, has.within, length-trees f new)) (ap (make_task c.indent c.mode) has.is) longer less first
+    first_more (λ (b : Command ℕ). IsRoot old b.node) (λ (b : Command ℕ). IsRoot new b.node) (task (tree_at f old)) (task (tree_at f new))
+    places after c (make_task c.indent c.mode d) left later all (λ b. root_stays f old new b.node grows)
+    (λ b l. ap (make_task b.indent b.mode) (tree_same f old new b.node grows l))
+    (at_root f new c.node d has) (ap (λ u. make_task c.indent c.mode (tree_of u)) has.is) longer less first
 
 pub node_more : {N : Type 0} (f : N → Tree) (old new : List (Cell N)) (places after : List ℕ) (at : ℕ) (d : Tree)
     (left later all : List Tree)
     → Grows f old new → HasAt (trees f new) at d → after ≡ places ++ at ∷ [] → left ≡ d ∷ later
     → FirstNodes f old places left all → FirstNodes f new after later all
 node_more f old new places after at d left later all grows has longer less first =
-    first_more (λ (i : ℕ). i) (tree_at f old) (tree_at f new) (length old) (length new) places after at d left later all
-    grows.longer (λ i l. grows.same i l) (omega (arith, has.within, length-trees f new)) has.is longer less first
+    first_more (λ (i : ℕ). IsRoot old i) (λ (i : ℕ). IsRoot new i) (tree_at f old) (tree_at f new) places after at d left later all
+    (λ i. root_stays f old new i grows) (λ i l. tree_same f old new i grows l) (at_root f new at d has) (ap tree_of has.is) longer less first
 
 -- commands at places are there after the table has grown
 pub commands_kept : {N : Type 0} (f : N → Tree) (old new : List (Cell N)) (places : List (Command ℕ)) (ts : List Task)
     → Grows f old new → AreCommands f old places ts → AreCommands f new places ts
 commands_kept f old new places ts grows are = record {
-  within = All-weaker (λ (c : Command ℕ). c.node < length old) (λ c. c.node < length new)
-      (λ c l. omega (arith, l, grows.longer)) places are.within;
-  tasks = map_same (λ (c : Command ℕ). c.node < length old) (task (tree_at f old)) (task (tree_at f new))
-      (λ c l. ap (make_task c.indent c.mode) (grows.same c.node l)) places are.within ∙ are.tasks;
+  within = All-weaker (λ (c : Command ℕ). IsRoot old c.node) (λ c. IsRoot new c.node) (λ c. root_stays f old new c.node grows) places are.within;
+  tasks = map_same (λ (c : Command ℕ). IsRoot old c.node) (task (tree_at f old)) (task (tree_at f new))
+      (λ c l. ap (make_task c.indent c.mode) (tree_same f old new c.node grows l)) places are.within ∙ are.tasks;
 }
 
 -- nodes at places are there after the table has grown
 pub nodes_kept : {N : Type 0} (f : N → Tree) (old new : List (Cell N)) (places : List ℕ) (ds : List Tree)
     → Grows f old new → AreNodes f old places ds → AreNodes f new places ds
 nodes_kept f old new places ds grows are = record {
-  within = All-weaker (λ (at : ℕ). at < length old) (λ at. at < length new) (λ at l. omega (arith, l, grows.longer)) places are.within;
-  trees = map_same (λ (at : ℕ). at < length old) (tree_at f old) (tree_at f new) (λ at l. grows.same at l) places are.within ∙ are.trees;
+  within = All-weaker (λ (at : ℕ). IsRoot old at) (λ at. IsRoot new at) (λ at. root_stays f old new at grows) places are.within;
+  trees = map_same (λ (at : ℕ). IsRoot old at) (tree_at f old) (tree_at f new) (λ at l. tree_same f old new at grows l) places are.within
+      ∙ are.trees;
 }
 
 -- all that a printer has left stands in a table after it has grown

@@ -1,112 +1,99 @@
--- The trees of cells, and what a cell that is added changes.
-use Rattle.std.proofs.Common.{◌≡◌, ℕ, zero, suc, ◌<◌, ◌≤◌, List, [], ◌∷◌, ◌++◌, length, get_or, take, refl, ap, sym, subst, ◌∙◌, append_assoc, append-nil, arith, length-append, inl, inr}
-use Rattle.std.proofs.lemmas.List.{take-append-le, take_all, get_or_push, get_or_append_left}
+-- What a cell that is added changes.
+use Rattle.std.proofs.Common.{◌≡◌, ℕ, zero, suc, ◌<◌, ◌≤◌, List, [], ◌∷◌, ◌++◌, Option, Some, None, length, get_or, refl, ap, sym, subst, ◌∙◌, arith, length-append, inl, inr}
+use Rattle.std.proofs.lemmas.List.{get_or_push, get_or_append_left}
 use Rattle.std.proofs.Math.Nat.{eq-or-lt_of_le}
-use Rattle.prettyless_model.specs.Tree.{Tree, Nil}
+use Rattle.prettyless_model.specs.Tree.{Tree}
 use Rattle.prettyless_table.specs.declared.cell.Cell.{Cell}
+use Rattle.prettyless_table.specs.declared.cell.Cell.TheVariants.{Sums, Root}
 use Rattle.prettyless_table.specs.Laying.{HasAt}
-use Rattle.prettyless_table.specs.Cells.{cell_tree, trees_after, trees, tree_at, IsRight, IsSound, Grows}
-
-pub subst2 : {A B : Type 0} (P : A → B → Type 0) {a x : A} {b y : B} → a ≡ x → b ≡ y → P a b → P x y
-subst2 P {a = a} {y = y} e h p = subst (λ u. P u y) e (subst (λ v. P a v) h p)
-
-pub length-trees_after : {N : Type 0} (f : N → Tree) (ts : List Tree) (cells : List (Cell N))
-    → length (trees_after f ts cells) ≡ length cells
-length-trees_after f ts [] = refl
-length-trees_after f ts (c ∷ cs) = ap suc (length-trees_after f (ts ++ cell_tree f ts c ∷ []) cs)
+use Rattle.prettyless_table.specs.Cells.{HasRoot, IsRoot, no_cell, root_tree, tree_of, trees, tree_at, In, IsPlaced, IsSound, Grows}
+use Rattle.prettyless_table.proofs.Cells.{stays}
 
 pub length-trees : {N : Type 0} (f : N → Tree) (cells : List (Cell N)) → length (trees f cells) ≡ length cells
-length-trees f cells = length-trees_after f [] cells
+length-trees f [] = refl
+length-trees f (c ∷ cs) = omega (arith, length-trees f cs)
 
--- the tree of a cell is made of those before it
-tree_after-is : {N : Type 0} (f : N → Tree) (ts : List Tree) (cells : List (Cell N)) (i : ℕ) (c : Cell N) → i < length cells
-    → get_or (trees_after f ts cells) i Nil ≡ cell_tree f (ts ++ take i (trees_after f ts cells)) (get_or cells i c)
-tree_after-is f ts [] i c h = absurd (omega (arith, h))
-tree_after-is f ts (x ∷ cs) zero c h = ap (λ (us : List Tree). cell_tree f us x) (sym (append-nil ts))
-tree_after-is f ts (x ∷ cs) (suc i) c h =
-    let t = cell_tree f ts x in
-    tree_after-is f (ts ++ t ∷ []) cs i c (omega (arith, h))
-    ∙ ap (λ (us : List Tree). cell_tree f us (get_or cs i c)) (append_assoc ts (t ∷ []) (take i (trees_after f (ts ++ t ∷ []) cs)))
+trees-push : {N : Type 0} (f : N → Tree) (cells : List (Cell N)) (c : Cell N) → trees f (cells ++ c ∷ []) ≡ trees f cells ++ root_tree f c ∷ []
+trees-push f [] c = refl
+trees-push f (x ∷ cs) c = ap (λ (us : List (Option Tree)). root_tree f x ∷ us) (trees-push f cs c)
 
-pub tree_at-is : {N : Type 0} (f : N → Tree) (cells : List (Cell N)) (i : ℕ) (c : Cell N) → i < length cells
-    → tree_at f cells i ≡ cell_tree f (take i (trees f cells)) (get_or cells i c)
-tree_at-is f cells i c h = tree_after-is f [] cells i c h
+-- the document that was added
+pub has_new : {N : Type 0} (f : N → Tree) (cells : List (Cell N)) (place : ℕ) (n : N)
+    → HasAt (trees f (cells ++ Root place n ∷ [])) (length cells) (f n)
+has_new f cells place n = record {
+  within = omega (arith, length-trees f (cells ++ Root place n ∷ []), length-append cells (Root place n ∷ []));
+  is = ap (λ (us : List (Option Tree)). get_or us (length cells) None) (trees-push f cells (Root place n))
+      ∙ get_or_push (trees f cells) (Some (f n)) None (length cells) (length-trees f cells);
+}
 
-trees_after-push : {N : Type 0} (f : N → Tree) (ts : List Tree) (cells : List (Cell N)) (c : Cell N)
-    → trees_after f ts (cells ++ c ∷ []) ≡ trees_after f ts cells ++ cell_tree f (ts ++ trees_after f ts cells) c ∷ []
-trees_after-push f ts [] c = ap (λ (us : List Tree). cell_tree f us c ∷ []) (sym (append-nil ts))
-trees_after-push f ts (x ∷ cs) c =
-    let t = cell_tree f ts x in
-    let us = trees_after f (ts ++ t ∷ []) cs in
-    ap (λ (vs : List Tree). t ∷ vs) (trees_after-push f (ts ++ t ∷ []) cs c
-    ∙ ap (λ (vs : List Tree). us ++ cell_tree f vs c ∷ []) (append_assoc ts (t ∷ []) us))
+cell_root : {N : Type 0} (f : N → Tree) (c : Cell N) (d : Tree) → root_tree f c ≡ Some d → HasRoot c
+cell_root f (Root place n) d e = tt
+cell_root f (Sums a b second flat broken) d e = cc
 
--- the trees with one more cell
-pub trees-push : {N : Type 0} (f : N → Tree) (cells : List (Cell N)) (c : Cell N)
-    → trees f (cells ++ c ∷ []) ≡ trees f cells ++ cell_tree f (trees f cells) c ∷ []
-trees-push f cells c = trees_after-push f [] cells c
+get_or-trees : {N : Type 0} (f : N → Tree) (cells : List (Cell N)) (i : ℕ) (x : Cell N) → i < length cells
+    → get_or (trees f cells) i None ≡ root_tree f (get_or cells i x)
+get_or-trees f [] i x h = absurd (omega (arith, h))
+get_or-trees f (c ∷ cs) zero x h = refl
+get_or-trees f (c ∷ cs) (suc i) x h = get_or-trees f cs i x (omega (arith, h))
 
--- the tree of the cell that was added
-pub tree_at-new : {N : Type 0} (f : N → Tree) (cells : List (Cell N)) (c : Cell N) (i : ℕ) → i ≡ length cells
-    → tree_at f (cells ++ c ∷ []) i ≡ cell_tree f (trees f cells) c
-tree_at-new f cells c i e =
-    ap (λ (us : List Tree). get_or us i Nil) (trees-push f cells c)
-    ∙ get_or_push (trees f cells) (cell_tree f (trees f cells) c) Nil i (length-trees f cells ∙ sym e)
+-- the document of a cell that was read
+pub root_read : {N : Type 0} (f : N → Tree) (cells : List (Cell N)) (i : ℕ) (x : Cell N) (place : ℕ) (n : N) → i < length cells
+    → x ≡ get_or cells i x → x ≡ Root place n → f n ≡ tree_at f cells i
+root_read f cells i x place n h at is =
+    ap (λ c. tree_of (root_tree f c)) (sym is ∙ at) ∙ ap tree_of (sym (get_or-trees f cells i x h))
 
--- earlier trees stay
-pub tree_at-old : {N : Type 0} (f : N → Tree) (cells : List (Cell N)) (c : Cell N) (i : ℕ) → i < length cells
-    → tree_at f (cells ++ c ∷ []) i ≡ tree_at f cells i
-tree_at-old f cells c i h =
-    ap (λ (us : List Tree). get_or us i Nil) (trees-push f cells c)
-    ∙ get_or_append_left (trees f cells) (cell_tree f (trees f cells) c ∷ []) Nil i (omega (arith, h, length-trees f cells))
+-- where a document is, the cell is for one
+pub at_root : {N : Type 0} (f : N → Tree) (cells : List (Cell N)) (i : ℕ) (d : Tree) → HasAt (trees f cells) i d → IsRoot cells i
+at_root {N} f cells i d h =
+    let within : i < length cells = omega (arith, h.within, length-trees f cells) in
+    record {
+      within = within;
+      root = λ x. cell_root f (get_or cells i x) d (sym (get_or-trees f cells i x within) ∙ h.is);
+    }
 
-take-push : {N : Type 0} (f : N → Tree) (cells : List (Cell N)) (c : Cell N) (i : ℕ) → i ≤ length cells
-    → take i (trees f (cells ++ c ∷ [])) ≡ take i (trees f cells)
-take-push f cells c i h =
-    ap (take i) (trees-push f cells c)
-    ∙ take-append-le i (trees f cells) (cell_tree f (trees f cells) c ∷ []) (omega (arith, h, length-trees f cells))
+-- earlier documents stay
+pub tree_same : {N : Type 0} (f : N → Tree) (old new : List (Cell N)) (i : ℕ) → Grows f old new → IsRoot old i
+    → tree_at f new i ≡ tree_at f old i
+tree_same f old new i g h =
+    ap tree_of (get_or-trees f new i no_cell (omega (arith, h.within, g.longer))
+    ∙ ap (root_tree f) (g.same i no_cell h.within) ∙ sym (get_or-trees f old i no_cell h.within))
 
--- a right cell leaves all cells right
-pub sound_more : {N : Type 0} (f : N → Tree) (cells : List (Cell N)) (c : Cell N) → IsRight f (trees f cells) c → IsSound f cells
+pub root_stays : {N : Type 0} (f : N → Tree) (old new : List (Cell N)) (i : ℕ) → Grows f old new → IsRoot old i → IsRoot new i
+root_stays {N} f old new i g h = record {
+  within = omega (arith, h.within, g.longer);
+  root = λ x. subst (λ (y : Cell N). HasRoot y) (sym (g.same i x h.within)) (h.root x);
+}
+
+placed_stays : {N : Type 0} (f : N → Tree) (cells : List (Cell N)) (c x : Cell N) → IsPlaced f cells x → IsPlaced f (cells ++ c ∷ []) x
+placed_stays f cells c (Root place n) h = stays cells c (f n) place h
+placed_stays f cells c (Sums a b second flat broken) h = h
+
+-- one more cell leaves all documents where they stand
+sound_more : {N : Type 0} (f : N → Tree) (cells : List (Cell N)) (c : Cell N) → IsPlaced f cells c → IsSound f cells
     → IsSound f (cells ++ c ∷ [])
 sound_more {N} f cells c new old i x h =
     let here_or_earlier : i ≤ length cells = omega (arith, h, length-append cells (c ∷ [])) in
-    let P : List Tree → Cell N → Type 0 = λ ts y. IsRight f ts y in
+    let P : Cell N → Type 0 = λ y. IsPlaced f (cells ++ c ∷ []) y in
     elim (eq-or-lt_of_le here_or_earlier) [
-      | inl here ↦
-          let ts : take i (trees f (cells ++ c ∷ [])) ≡ trees f cells =
-          take-push f cells c i here_or_earlier ∙ take_all i (trees f cells) (omega (arith, here, length-trees f cells)) in
-          subst2 P (sym ts) (sym (get_or_push cells c x i (sym here))) new
+      | inl here ↦ subst P (sym (get_or_push cells c x i (sym here))) (placed_stays f cells c c new)
       | inr earlier ↦
-          subst2 P (sym (take-push f cells c i here_or_earlier)) (sym (get_or_append_left cells (c ∷ []) x i earlier)) (old i x earlier)
+          subst P (sym (get_or_append_left cells (c ∷ []) x i earlier)) (placed_stays f cells c (get_or cells i x) (old i x earlier))
     ]
 
 -- what a cell that is added changes
-pub grows : {N : Type 0} (f : N → Tree) (cells : List (Cell N)) (c : Cell N) → IsRight f (trees f cells) c
-    → Grows f cells (cells ++ c ∷ [])
-grows f cells c right = record {
+pub grows : {N : Type 0} (f : N → Tree) (cells : List (Cell N)) (c : Cell N) → IsPlaced f cells c → Grows f cells (cells ++ c ∷ [])
+grows f cells c placed = record {
   longer = omega (arith, length-append cells (c ∷ []));
-  same = λ i h. tree_at-old f cells c i h;
-  sound = sound_more f cells c right;
+  same = λ i x h. get_or_append_left cells (c ∷ []) x i h;
+  sound = sound_more f cells c placed;
 }
 
 pub grows_not : {N : Type 0} (f : N → Tree) (cells : List (Cell N)) → Grows f cells cells
-grows_not f cells = record { longer = omega arith; same = λ i h. refl; sound = λ h. h }
+grows_not f cells = record { longer = omega arith; same = λ i c h. refl; sound = λ h. h }
 
 pub grows_then : {N : Type 0} (f : N → Tree) (a b c : List (Cell N)) → Grows f a b → Grows f b c → Grows f a c
 grows_then f a b c g h = record {
   longer = omega (arith, g.longer, h.longer);
-  same = λ i l. h.same i (omega (arith, l, g.longer)) ∙ g.same i l;
+  same = λ i x l. h.same i x (omega (arith, l, g.longer)) ∙ g.same i x l;
   sound = λ s. h.sound (g.sound s);
 }
-
--- a tree that was at a place is still there
-pub has_stayed : {N : Type 0} (f : N → Tree) (old new : List (Cell N)) (place : ℕ) (d : Tree) → Grows f old new
-    → HasAt (trees f old) place d
-    → HasAt (trees f new) place d
-has_stayed f old new place d g h =
-    let within : place < length old = omega (arith, h.within, length-trees f old) in
-    record {
-      within = omega (arith, within, g.longer, length-trees f new);
-      is = g.same place within ∙ h.is;
-    }

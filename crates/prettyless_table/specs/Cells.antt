@@ -1,122 +1,155 @@
--- Tables: what tree each of their cells has below it.
-use Rattle.std.specs.Prelude.{◌≡◌, ℕ, ◌+◌, ◌-◌, ◌<◌, ◌≤◌, List, [], ◌∷◌, ◌++◌, length, get_or, take, ⊤}
+-- Tables: which documents stand where in their cells.
+use Rattle.std.specs.Prelude.{◌≡◌, ℕ, ◌-◌, ◌<◌, ◌≤◌, Bool, true, false, List, [], ◌∷◌, Option, Some, None, length, get_or, ⊤}
 use Rattle.std.specs.Coded.{×_prop, Unit-prop, le_prop}
-use Rattle.prettyless_model.specs.Tree.{Tree, Nil}
-use Rattle.prettyless_table.specs.declared.cell.Cell.{Cell}
-use Rattle.prettyless_table.specs.declared.cell.Cell.TheVariants.{Leaf, One, Two, Leaves, Asked}
-use Rattle.prettyless_table.specs.declared.kind.Part.{Part}
-use Rattle.prettyless_table.specs.declared.kind.Part.TheVariants.{Whole, First, Second}
+use Rattle.prettyless_model.specs.Tree.{Tree, Nil, Append, LineSuffix, Nest, DedentToRoot, Align, Flatten, BreakOrFlat, Group, Union, PartialUnion, OnColumn, OnNesting}
+use Rattle.prettyless_model.specs.Tree as t
 use Rattle.prettyless_model.specs.declared.mode.Mode.TheVariants.{Break, Flat}
-use Rattle.prettyless_summary.specs.Summary.{HasSums}
+use Rattle.prettyless_table.specs.declared.sums.Counts.{Counts}
+use Rattle.prettyless_table.specs.declared.cell.Cell.{Cell}
+use Rattle.prettyless_table.specs.declared.cell.Cell.TheVariants.{Sums, Root}
 use Rattle.prettyless_table.specs.Sums.{Keeps, Keeps-prop}
-use Rattle.prettyless_table.specs.Parts.{leaf_tree, single_tree, pair_tree, asked_tree}
+use Rattle.prettyless_table.specs.Parts.{small}
 
--- the tree so many places before the end
-abbrev pub before : List Tree → ℕ → Tree
-before ts k = get_or ts (length ts - k) Nil
+-- the document that was laid out before a cell, if the cell is for one
+abbrev pub root_tree : {N : Type 0} → (N → Tree) → Cell N → Option Tree
+root_tree f (Root place n) = Some (f n)
+root_tree f (Sums a b second flat broken) = None
 
--- the tree of a cell that comes after cells with these trees
-abbrev pub cell_tree : {N : Type 0} → (N → Tree) → List Tree → Cell N → Tree
-cell_tree f ts (Leaf n) = leaf_tree (f n)
-cell_tree f ts (One kind a b offset flat broken) = single_tree kind offset (before ts 1)
-cell_tree f ts (Two kind a b second flat broken) = pair_tree kind (before ts 1) (before ts second)
-cell_tree f ts (Leaves kind x y) = pair_tree kind (leaf_tree (f x)) (leaf_tree (f y))
-cell_tree f ts (Asked n second) = asked_tree (f n) (before ts 1) (before ts second)
+-- the documents of cells
+abbrev pub trees : {N : Type 0} → (N → Tree) → List (Cell N) → List (Option Tree)
+trees f [] = []
+trees f (c ∷ cs) = root_tree f c ∷ trees f cs
 
--- the trees of cells that come after cells with these trees
-abbrev pub trees_after : {N : Type 0} → (N → Tree) → List Tree → List (Cell N) → List Tree
-trees_after f ts [] = []
-trees_after f ts (c ∷ cs) = cell_tree f ts c ∷ trees_after f (ts ++ cell_tree f ts c ∷ []) cs
+-- a tree, if there is one
+abbrev pub tree_of : Option Tree → Tree
+tree_of (Some d) = d
+tree_of None = Nil
 
--- the trees of cells
-abbrev pub trees : {N : Type 0} → (N → Tree) → List (Cell N) → List Tree
-trees f cells = trees_after f [] cells
-
--- the tree of the cell at a place
+-- the document of the cell at a place
 abbrev pub tree_at : {N : Type 0} → (N → Tree) → List (Cell N) → ℕ → Tree
-tree_at f cells i = get_or (trees f cells) i Nil
+tree_at f cells i = tree_of (get_or (trees f cells) i None)
 
--- a distance back from a place, within the cells before it
-abbrev pub IsBack : ℕ → ℕ → Type 0
-IsBack place distance = (0 < distance) × (distance ≤ place)
+-- a cell is for a document
+abbrev pub HasRoot : {N : Type 0} → Cell N → Type 0
+HasRoot (Root place n) = ⊤
+HasRoot (Sums a b second flat broken) = ⊥
 
--- the parts of a cell at a place come before it
-abbrev pub IsAfterParts : {N : Type 0} → ℕ → Cell N → Type 0
-IsAfterParts place (Leaf n) = ⊤
-IsAfterParts place (One kind a b offset flat broken) = IsBack place 1
-IsAfterParts place (Two kind a b second flat broken) = IsBack place second
-IsAfterParts place (Leaves kind x y) = ⊤
-IsAfterParts place (Asked n second) = IsBack place second
+-- the cell at a place is
+pub record IsRoot {N : Type 0} (cells : List (Cell N)) (at : ℕ) : Type 0 where
+  pub within : at < length cells
+  pub root : (c : Cell N) → HasRoot (get_or cells at c)
 
--- the summaries that a cell keeps are those of this tree; a cell that keeps none has a tree that has none
+-- the summaries that a cell keeps are those of this tree
 abbrev pub KeepsBoth : {N : Type 0} → Cell N → Tree → Type 0
-KeepsBoth (Leaf n) d = ⊤
-KeepsBoth (One kind a b offset flat broken) d = Keeps a flat d Flat × Keeps b broken d Break
-KeepsBoth (Two kind a b second flat broken) d = Keeps a flat d Flat × Keeps b broken d Break
-KeepsBoth (Leaves kind x y) d = ⊤
-KeepsBoth (Asked n second) d = HasSums d → ⊥
+KeepsBoth (Sums a b second flat broken) d = Keeps a flat d Flat × Keeps b broken d Break
+KeepsBoth (Root place n) d = ⊥
 
--- a cell that comes after cells with these trees is right
-pub record IsRight {N : Type 0} (f : N → Tree) (ts : List Tree) (c : Cell N) : Type 0 where
-  pub after : IsAfterParts (length ts) c
-  pub sums : KeepsBoth c (cell_tree f ts c)
+-- and those of the cell at a place
+pub record HasCell {N : Type 0} (cells : List (Cell N)) (at : ℕ) (d : Tree) : Type 0 where
+  pub within : at < length cells
+  pub keeps : (c : Cell N) → KeepsBoth (get_or cells at c) d
 
--- each cell is right
+-- the place of a second part that a cell keeps
+abbrev pub second_of : {N : Type 0} → Cell N → ℕ
+second_of (Sums a b second flat broken) = second
+second_of (Root place n) = 0
+
+-- and that of the cell at a place
+abbrev pub no_counts : Counts
+no_counts = record { lead = 0; inner = 0; trail = 0 }
+
+abbrev pub no_cell : {N : Type 0} → Cell N
+no_cell = Sums 255 255 0 no_counts no_counts
+
+abbrev pub second_at : {N : Type 0} → List (Cell N) → ℕ → ℕ
+second_at cells at = second_of (get_or cells at no_cell)
+
+-- unless it is so
+abbrev pub Unless : Bool → Type 0 → Type 0
+Unless true P = ⊤
+Unless false P = P
+
+-- A document stands at a place of a table: it is small, or its summaries are in the cell there. Its first part, or only one, stands
+-- at the place before it, or at the same place, and the second one where the cell says.
+abbrev pub In : {N : Type 0} → List (Cell N) → Tree → ℕ → Type 0
+In cells (Append l r) at = Unless (small (Append l r)) (HasCell cells at (Append l r) × (In cells l (at - 1) × In cells r (second_at cells at)))
+In cells (LineSuffix d) at = Unless (small (LineSuffix d)) (HasCell cells at (LineSuffix d) × In cells d (at - 1))
+In cells (Nest k d) at = Unless (small (Nest k d)) (HasCell cells at (Nest k d) × In cells d at)
+In cells (DedentToRoot d) at = Unless (small (DedentToRoot d)) (HasCell cells at (DedentToRoot d) × In cells d at)
+In cells (Align d) at = Unless (small (Align d)) (HasCell cells at (Align d) × In cells d at)
+In cells (Flatten d) at = Unless (small (Flatten d)) (HasCell cells at (Flatten d) × In cells d (at - 1))
+In cells (BreakOrFlat l r) at =
+    Unless (small (BreakOrFlat l r)) (HasCell cells at (BreakOrFlat l r) × (In cells l (at - 1) × In cells r (second_at cells at)))
+In cells (Group d) at = Unless (small (Group d)) (HasCell cells at (Group d) × In cells d at)
+In cells (Union l r) at = Unless (small (Union l r)) (HasCell cells at (Union l r) × (In cells l (at - 1) × In cells r (second_at cells at)))
+In cells (PartialUnion l r) at =
+    Unless (small (PartialUnion l r)) (HasCell cells at (PartialUnion l r) × (In cells l (at - 1) × In cells r (second_at cells at)))
+In cells (OnColumn test l r) at =
+    Unless (small (OnColumn test l r)) (HasCell cells at (OnColumn test l r) × (In cells l (at - 1) × In cells r (second_at cells at)))
+In cells (OnNesting test l r) at =
+    Unless (small (OnNesting test l r)) (HasCell cells at (OnNesting test l r) × (In cells l (at - 1) × In cells r (second_at cells at)))
+In cells _ at = ⊤
+
+-- a document that was laid out stands where its cell says
+abbrev pub IsPlaced : {N : Type 0} → (N → Tree) → List (Cell N) → Cell N → Type 0
+IsPlaced f cells (Root place n) = In cells (f n) place
+IsPlaced f cells (Sums a b second flat broken) = ⊤
+
+-- each document that was laid out does
 abbrev pub IsSound : {N : Type 0} → (N → Tree) → List (Cell N) → Type 0
-IsSound {N} f cells = (i : ℕ) (c : Cell N) → i < length cells → IsRight f (take i (trees f cells)) (get_or cells i c)
-
-IsAfterParts-prop : {N : Type 0} (place : ℕ) (c : Cell N) → IsProp (IsAfterParts place c)
-IsAfterParts-prop place (Leaf n) = Unit-prop
-IsAfterParts-prop place (One kind a b offset flat broken) = ×_prop le_prop le_prop
-IsAfterParts-prop place (Two kind a b second flat broken) = ×_prop le_prop le_prop
-IsAfterParts-prop place (Leaves kind x y) = Unit-prop
-IsAfterParts-prop place (Asked n second) = ×_prop le_prop le_prop
+IsSound {N} f cells = (i : ℕ) (c : Cell N) → i < length cells → IsPlaced f cells (get_or cells i c)
 
 KeepsBoth-prop : {N : Type 0} (c : Cell N) (d : Tree) → IsProp (KeepsBoth c d)
-KeepsBoth-prop (Leaf n) d = Unit-prop
-KeepsBoth-prop (One kind a b offset flat broken) d = ×_prop (Keeps-prop a flat d Flat) (Keeps-prop b broken d Break)
-KeepsBoth-prop (Two kind a b second flat broken) d = ×_prop (Keeps-prop a flat d Flat) (Keeps-prop b broken d Break)
-KeepsBoth-prop (Leaves kind x y) d = Unit-prop
-KeepsBoth-prop (Asked n second) d = hlevel
+KeepsBoth-prop (Sums a b second flat broken) d = ×_prop (Keeps-prop a flat d Flat) (Keeps-prop b broken d Break)
+KeepsBoth-prop (Root place n) d = hlevel
 
-IsRight-prop : {N : Type 0} (f : N → Tree) (ts : List Tree) (c : Cell N) → IsProp (IsRight f ts c)
-IsRight-prop f ts c = hlevel (IsAfterParts-prop (length ts) c, KeepsBoth-prop c (cell_tree f ts c))
+HasCell-prop : {N : Type 0} (cells : List (Cell N)) (at : ℕ) (d : Tree) → IsProp (HasCell cells at d)
+HasCell-prop {N} cells at d = hlevel (le_prop, λ (c : Cell N). KeepsBoth-prop (get_or cells at c) d)
 
--- so a node of a table may know that its cells are right
-pub IsSound-prop : {N : Type 0} (f : N → Tree) (cells : List (Cell N)) → IsProp (IsSound f cells)
-IsSound-prop {N} f cells = hlevel (λ (i : ℕ) (c : Cell N). IsRight-prop f (take i (trees f cells)) (get_or cells i c))
+Unless-prop : (b : Bool) {P : Type 0} → IsProp P → IsProp (Unless b P)
+Unless-prop true h = Unit-prop
+Unless-prop false h = h
 
--- a cell keeps two leaves
-abbrev pub HasLeaves : {N : Type 0} → Cell N → Type 0
-HasLeaves (Leaves kind x y) = ⊤
-HasLeaves _ = ⊥
+pair-prop : {N : Type 0} (b : Bool) (cells : List (Cell N)) (at : ℕ) (d : Tree) {P Q : Type 0} → IsProp P → IsProp Q
+    → IsProp (Unless b (HasCell cells at d × (P × Q)))
+pair-prop b cells at d h k = Unless-prop b (×_prop (HasCell-prop cells at d) (×_prop h k))
 
--- the cell at a place has leaves, if one of them is meant
-abbrev pub IsKept : {N : Type 0} → Part → List (Cell N) → ℕ → Type 0
-IsKept Whole cells at = ⊤
-IsKept {N} First cells at = (c : Cell N) → HasLeaves (get_or cells at c)
-IsKept {N} Second cells at = (c : Cell N) → HasLeaves (get_or cells at c)
+single-prop : {N : Type 0} (b : Bool) (cells : List (Cell N)) (at : ℕ) (d : Tree) {P : Type 0} → IsProp P
+    → IsProp (Unless b (HasCell cells at d × P))
+single-prop b cells at d h = Unless-prop b (×_prop (HasCell-prop cells at d) h)
 
-HasLeaves-prop : {N : Type 0} (c : Cell N) → IsProp (HasLeaves c)
-HasLeaves-prop (Leaf n) = hlevel
-HasLeaves-prop (One kind a b offset flat broken) = hlevel
-HasLeaves-prop (Two kind a b second flat broken) = hlevel
-HasLeaves-prop (Leaves kind x y) = Unit-prop
-HasLeaves-prop (Asked n second) = hlevel
+-- so a node of a table may know where it stands
+pub In-prop : {N : Type 0} (cells : List (Cell N)) (d : Tree) (at : ℕ) → IsProp (In cells d at)
+In-prop cells (Append l r) at =
+    pair-prop (small (Append l r)) cells at (Append l r) (In-prop cells l (at - 1)) (In-prop cells r (second_at cells at))
+In-prop cells (LineSuffix d) at = single-prop (small (LineSuffix d)) cells at (LineSuffix d) (In-prop cells d (at - 1))
+In-prop cells (Nest k d) at = single-prop (small (Nest k d)) cells at (Nest k d) (In-prop cells d at)
+In-prop cells (DedentToRoot d) at = single-prop (small (DedentToRoot d)) cells at (DedentToRoot d) (In-prop cells d at)
+In-prop cells (Align d) at = single-prop (small (Align d)) cells at (Align d) (In-prop cells d at)
+In-prop cells (Flatten d) at = single-prop (small (Flatten d)) cells at (Flatten d) (In-prop cells d (at - 1))
+In-prop cells (BreakOrFlat l r) at =
+    pair-prop (small (BreakOrFlat l r)) cells at (BreakOrFlat l r) (In-prop cells l (at - 1)) (In-prop cells r (second_at cells at))
+In-prop cells (Group d) at = single-prop (small (Group d)) cells at (Group d) (In-prop cells d at)
+In-prop cells (Union l r) at =
+    pair-prop (small (Union l r)) cells at (Union l r) (In-prop cells l (at - 1)) (In-prop cells r (second_at cells at))
+In-prop cells (PartialUnion l r) at =
+    pair-prop (small (PartialUnion l r)) cells at (PartialUnion l r) (In-prop cells l (at - 1)) (In-prop cells r (second_at cells at))
+In-prop cells (OnColumn test l r) at =
+    pair-prop (small (OnColumn test l r)) cells at (OnColumn test l r) (In-prop cells l (at - 1)) (In-prop cells r (second_at cells at))
+In-prop cells (OnNesting test l r) at =
+    pair-prop (small (OnNesting test l r)) cells at (OnNesting test l r) (In-prop cells l (at - 1)) (In-prop cells r (second_at cells at))
+In-prop cells Nil at = Unit-prop
+In-prop cells t.Fail at = Unit-prop
+In-prop cells (t.Text s) at = Unit-prop
+In-prop cells (t.TextWithLen w s) at = Unit-prop
+In-prop cells (t.MultilineText s) at = Unit-prop
+In-prop cells t.WeakSpace at = Unit-prop
+In-prop cells t.HardLine at = Unit-prop
+In-prop cells t.WeakLine at = Unit-prop
+In-prop cells t.ExpandParent at = Unit-prop
 
-pub IsKept-prop : {N : Type 0} (part : Part) (cells : List (Cell N)) (at : ℕ) → IsProp (IsKept part cells at)
-IsKept-prop Whole cells at = Unit-prop
-IsKept-prop {N} First cells at = hlevel (λ (c : Cell N). HasLeaves-prop (get_or cells at c))
-IsKept-prop {N} Second cells at = hlevel (λ (c : Cell N). HasLeaves-prop (get_or cells at c))
-
--- cells were added: earlier trees are the same, and the cells are right if they were
+-- cells were added: earlier ones are the same, and all documents stand where their cells say if they did
 pub record Grows {N : Type 0} (f : N → Tree) (old new : List (Cell N)) : Type 0 where
   pub longer : length old ≤ length new
-  pub same : (i : ℕ) → i < length old → tree_at f new i ≡ tree_at f old i
+  pub same : (i : ℕ) (c : Cell N) → i < length old → get_or new i c ≡ get_or old i c
   pub sound : IsSound f old → IsSound f new
-
--- one cell was added, at a place below a limit
-pub record AddsOne {N : Type 0} (old new : List (Cell N)) (most at : ℕ) : Type 0 where
-  pub place : at ≡ length old
-  pub next : at + 1 ≡ length new
-  pub below : at < most

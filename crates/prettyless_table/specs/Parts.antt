@@ -1,28 +1,15 @@
 -- Nodes and their parts: the documents that a node has below it.
-use Rattle.std.specs.Prelude.{ℤ}
-use Rattle.prettyless_model.specs.Tree.{Tree, Nil, Append, LineSuffix, Nest, DedentToRoot, Align, Flatten, BreakOrFlat, Group, Union, PartialUnion, OnColumn, OnNesting}
+use Rattle.std.specs.Prelude.{◌≡◌, ℤ, Bool, true, false, ◌&&◌, List, [], ◌∷◌}
+use Rattle.prettyless_model.specs.Tree.{Tree, Append, LineSuffix, Nest, DedentToRoot, Align, Flatten, BreakOrFlat, Group, Union, PartialUnion, OnColumn, OnNesting}
+use Rattle.prettyless_summary.specs.Summary.{HasSums}
 use Rattle.prettyless_table.specs.declared.kind.Single.{Single}
 use Rattle.prettyless_table.specs.declared.kind.Single.TheVariants as one
 use Rattle.prettyless_table.specs.declared.kind.Pair.{Pair}
 use Rattle.prettyless_table.specs.declared.kind.Pair.TheVariants as two
-use Rattle.prettyless_table.specs.declared.kind.Part.{Part}
-use Rattle.prettyless_table.specs.declared.kind.Part.TheVariants.{Whole, First, Second}
-
--- a tree that has no parts, else nothing
-abbrev pub leaf_tree : Tree → Tree
-leaf_tree (Append l r) = Nil
-leaf_tree (LineSuffix d) = Nil
-leaf_tree (Nest k d) = Nil
-leaf_tree (DedentToRoot d) = Nil
-leaf_tree (Align d) = Nil
-leaf_tree (Flatten d) = Nil
-leaf_tree (BreakOrFlat b f) = Nil
-leaf_tree (Group d) = Nil
-leaf_tree (Union l r) = Nil
-leaf_tree (PartialUnion l r) = Nil
-leaf_tree (OnColumn test y n) = Nil
-leaf_tree (OnNesting test y n) = Nil
-leaf_tree d = d
+use Rattle.prettyless_table.specs.declared.parts.Parts.{Parts}
+use Rattle.prettyless_table.specs.declared.parts.Parts.TheVariants as parts
+use Rattle.prettyless_table.specs.declared.parts.Shape.{Shape}
+use Rattle.prettyless_table.specs.declared.parts.Shape.TheVariants as shape
 
 -- a node with one part
 abbrev pub single_tree : Single → ℤ → Tree → Tree
@@ -40,31 +27,53 @@ pair_tree two.BreakOrFlat x y = BreakOrFlat x y
 pair_tree two.Union x y = Union x y
 pair_tree two.PartialUnion x y = PartialUnion x y
 
--- a choice or a nesting with these parts in the place of its own, else nothing
-abbrev pub asked_tree : Tree → Tree → Tree → Tree
-asked_tree (Nest k d) x y = Nest k x
-asked_tree (OnColumn test a b) x y = OnColumn test x y
-asked_tree (OnNesting test a b) x y = OnNesting test x y
-asked_tree d x y = Nil
+-- the parts of a tree
+abbrev pub parts_of : Tree → List Tree
+parts_of (Append l r) = l ∷ r ∷ []
+parts_of (LineSuffix d) = d ∷ []
+parts_of (Nest k d) = d ∷ []
+parts_of (DedentToRoot d) = d ∷ []
+parts_of (Align d) = d ∷ []
+parts_of (Flatten d) = d ∷ []
+parts_of (BreakOrFlat b f) = b ∷ f ∷ []
+parts_of (Group d) = d ∷ []
+parts_of (Union l r) = l ∷ r ∷ []
+parts_of (PartialUnion l r) = l ∷ r ∷ []
+parts_of (OnColumn test y n) = y ∷ n ∷ []
+parts_of (OnNesting test y n) = y ∷ n ∷ []
+parts_of _ = []
 
--- the first part of a tree that has two, but for a choice by column or nesting
-abbrev pub first_part : Tree → Tree
-first_part (Append x y) = x
-first_part (BreakOrFlat x y) = x
-first_part (Union x y) = x
-first_part (PartialUnion x y) = x
-first_part _ = Nil
+-- the trees of the parts of a node
+abbrev pub part_trees : {N : Type 0} → (N → Tree) → Parts N → List Tree
+part_trees f parts.None = []
+part_trees f (parts.One x) = f x ∷ []
+part_trees f (parts.Two x y) = f x ∷ f y ∷ []
 
--- and the second one
-abbrev pub second_part : Tree → Tree
-second_part (Append x y) = y
-second_part (BreakOrFlat x y) = y
-second_part (Union x y) = y
-second_part (PartialUnion x y) = y
-second_part _ = Nil
+-- a node is of this shape
+abbrev pub IsShape : {N : Type 0} → (N → Tree) → Shape N → Tree → Type 0
+IsShape f shape.Leaf d = [] ≡ parts_of d
+IsShape f (shape.One kind k x) d = single_tree kind k (f x) ≡ d
+IsShape f (shape.Two kind x y) d = pair_tree kind (f x) (f y) ≡ d
+IsShape f (shape.Asked x y) d = (HasSums d → ⊥) × (f x ∷ f y ∷ [] ≡ parts_of d)
 
--- the node of this tree that a place stands for
-abbrev pub part_tree : Part → Tree → Tree
-part_tree Whole d = d
-part_tree First d = first_part d
-part_tree Second d = second_part d
+-- whether there are no trees
+abbrev pub none : List Tree → Bool
+none [] = true
+none (x ∷ xs) = false
+
+-- whether trees have no parts
+abbrev pub leaves : List Tree → Bool
+leaves [] = true
+leaves (x ∷ xs) = none (parts_of x) && leaves xs
+
+-- whether the parts of a tree have none themselves: such a one takes no cell
+abbrev pub small : Tree → Bool
+small d = leaves (parts_of d)
+
+-- whether a node has the place of its part
+abbrev pub shares : Tree → Bool
+shares (Nest k d) = true
+shares (DedentToRoot d) = true
+shares (Align d) = true
+shares (Group d) = true
+shares _ = false

@@ -1,5 +1,5 @@
 -- The shift of a printer to a table: what it has left stands at places of the table.
-use Rattle.std.specs.Prelude.{◌≡◌, ℕ, ◌+◌, ◌<◌, List, length, map, true}
+use Rattle.std.specs.Prelude.{◌≡◌, ℕ, ◌+◌, List, map, true}
 use Rattle.std.specs.List.{All, sum_by}
 use Rattle.prettyless_model.specs.Tree.{Tree, size}
 use Rattle.prettyless_step.specs.Stack.{Task, nodes, task, trees}
@@ -9,7 +9,7 @@ use Rattle.prettyless_step.specs.declared.command.Command.{Command}
 use Rattle.prettyless_step.specs.declared.printer.Printer.{Printer}
 use Rattle.prettyless_table.specs.declared.cell.Cell.{Cell}
 use Rattle.prettyless_table.specs.declared.shift.Places.{Places}
-use Rattle.prettyless_table.specs.Cells.{tree_at}
+use Rattle.prettyless_table.specs.Cells.{IsRoot, tree_at}
 
 -- How many nodes all that a printer has left has: its commands and its whole queue.
 abbrev pub nodes_left : {N : Type 0} → (N → Tree) → Printer N → ℕ
@@ -17,12 +17,12 @@ nodes_left f p = nodes (tasks_of f p) + sum_by (λ n. size (f n)) p.queue.nodes.
 
 -- The commands at places of a table are these tasks.
 pub record AreCommands {N : Type 0} (f : N → Tree) (cells : List (Cell N)) (commands : List (Command ℕ)) (ts : List Task) : Type 0 where
-  pub within : All (λ c. c.node < length cells) commands
+  pub within : All (λ c. IsRoot cells c.node) commands
   pub tasks : map (task (tree_at f cells)) commands ≡ ts
 
 -- The nodes at places of a table have these trees.
 pub record AreNodes {N : Type 0} (f : N → Tree) (cells : List (Cell N)) (places : List ℕ) (ds : List Tree) : Type 0 where
-  pub within : All (λ at. at < length cells) places
+  pub within : All (λ at. IsRoot cells at) places
   pub trees : trees (tree_at f cells) places ≡ ds
 
 -- All that a printer has left stands in a table.

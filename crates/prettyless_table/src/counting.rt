@@ -5,7 +5,7 @@ ghost use Rattle.prettyless_model.specs.Tree.{size};
 ghost use Rattle.prettyless_step.specs.Stack.{nodes, stack_of};
 ghost use Rattle.prettyless_table.specs.Shift.{nodes_left};
 
-use crate::table::{Parts, parts_below};
+use crate::parts::{Parts, parts_below};
 use prettyless_step::printer::Printer;
 use prettyless_step::stack::Stack;
 use prettyless_step::walk::Walk;

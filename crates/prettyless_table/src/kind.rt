@@ -19,11 +19,3 @@ pub enum Pair {
     Union,
     PartialUnion,
 }
-
-/// Which node a place stands for: that of its cell, or one of the two leaves that the cell keeps.
-#[derive(Clone, Copy)]
-pub enum Part {
-    Whole,
-    First,
-    Second,
-}

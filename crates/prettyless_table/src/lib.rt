@@ -1,13 +1,14 @@
 //! Documents laid out in one table, which a printer can walk as it walks the documents themselves.
 //!
-//! Each node is a cell of the table, and comes after the nodes below it; but where both parts of a node have none themselves, its
-//! cell keeps them. So one pass lays out a document, and each node that is added is summed up from the cells before it: what it
-//! shows a probe, in either mode.
+//! A document has a cell after those of its parts, with what it shows a probe in either mode; but a small one, whose parts have none
+//! themselves, takes no cell, and a group or an indent takes none beside that of its part. So a node is walked in the document
+//! itself, with its place in the table.
 #![tactic(auto)]
 
 mod cell;
 mod counting;
 mod kind;
+mod parts;
 mod placed;
 mod shift;
 mod sums;

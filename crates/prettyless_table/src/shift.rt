@@ -4,7 +4,7 @@ ghost use Rattle.prettyless_step.specs.Stack.{nodes, stack_of, task, trees};
 ghost use Rattle.std.specs.List.{All, sum_by};
 ghost use Rattle.prettyless_model.specs.Tree.{size};
 ghost use Rattle.prettyless_step.specs.Sums.{IsSummed};
-ghost use Rattle.prettyless_table.specs.Cells.{Grows, IsSound, tree_at};
+ghost use Rattle.prettyless_table.specs.Cells.{Grows, IsRoot, IsSound, tree_at};
 ghost use Rattle.prettyless_table.specs.Shift.{AreCommands, AreNodes, IsLaidOut, IsShifted, nodes_left};
 
 use crate::placed::Placed;
@@ -112,7 +112,7 @@ fn placed_commands<'t, N: Walk>(
     places: &[Command<u32>],
 ) -> Result<Stack<Placed<'t, N>>, AllocError>
     requires sound { IsSound N.tree table.now.cells.items }
-    requires within { All (λ c. c.node < length table.now.cells.items) places.now }
+    requires within { All (λ c. IsRoot table.now.cells.items c.node) places.now }
     ensures tasks { IfOk result (λ s. stack_of ⟦<Placed<'t, N> as Walk>⟧.tree s
         ≡ map (task (tree_at N.tree table.now.cells.items)) places.now) }
     ensures summed { IfOk result (λ s. IsSummed true ⟦<Placed<'t, N> as Walk>⟧.tree s) }

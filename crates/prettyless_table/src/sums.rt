@@ -1,14 +1,15 @@
 //! The summaries of a node, made of those of its parts, and how a cell keeps them.
-ghost use Rattle.std.specs.Prelude.{◌≡◌, ℤ, false};
+ghost use Rattle.std.specs.Prelude.{◌≡◌, ℤ, [], false, true};
 ghost use Rattle.prettyless_model.specs.Tree.{Tree};
 ghost use Rattle.prettyless_model.specs.Look.{Answers, by_mode};
 ghost use Rattle.prettyless_model.specs.declared.mode.Mode.{Mode};
 ghost use Rattle.prettyless_model.specs.declared.mode.Mode.TheVariants.{Break, Flat};
 ghost use Rattle.prettyless_summary.specs.Summary.{IsSmall, Reads, Summarizes};
-ghost use Rattle.prettyless_table.specs.Parts.{leaf_tree, pair_tree, single_tree};
+ghost use Rattle.prettyless_table.specs.Parts.{pair_tree, parts_of, single_tree, small};
 ghost use Rattle.prettyless_table.specs.Sums.{AreSums, Keeps, SumsUp};
 
 use crate::kind::{Pair, Single};
+use crate::parts::{Shape, shape_of};
 use prettyless_model::mode::Mode;
 use prettyless_step::walk::{View, Walk};
 use prettyless_summary::known::appended;
@@ -102,7 +103,8 @@ fn unless_flat(mode: Mode, broken: Summary) -> Summary
 /// The summary of a leaf.
 #[inline(always)]
 pub fn leaf_summary<N: Walk>(node: &N, mode: Mode) -> Summary
-    ensures sum { Summarizes result (leaf_tree (N.tree node.now)) mode }
+    requires { [] ≡ parts_of (N.tree node.now) }
+    ensures sum { Summarizes result (N.tree node.now) mode }
     ensures small { IsSmall 1 result }
 {
     match node.view() {
@@ -121,7 +123,8 @@ pub fn leaf_summary<N: Walk>(node: &N, mode: Mode) -> Summary
 /// The summaries of a leaf.
 #[inline(always)]
 pub fn leaf_sums<N: Walk>(node: &N) -> Sums
-    ensures { AreSums result (leaf_tree (N.tree node.now)) }
+    requires { [] ≡ parts_of (N.tree node.now) }
+    ensures { AreSums result (N.tree node.now) }
 {
     Sums {
         flat: Some(leaf_summary(node, Mode::Flat)),
@@ -179,5 +182,25 @@ pub fn of_pair(kind: Pair, first: Sums, second: Sums) -> Sums
             flat: first.flat,
             broken: second.broken,
         },
+    }
+}
+
+/// No summaries.
+pub const NO_SUMS: Sums = Sums {
+    flat: None,
+    broken: None,
+};
+
+/// The summaries of a small document.
+#[inline(always)]
+pub fn small_sums<N: Walk>(node: &N) -> Sums
+    requires { small (N.tree node.now) ≡ true }
+    ensures { AreSums result (N.tree node.now) }
+{
+    match shape_of(node) {
+        Shape::Leaf => leaf_sums(node),
+        Shape::One(kind, _, inner) => of_single(kind, leaf_sums(&inner)),
+        Shape::Two(kind, first, second) => of_pair(kind, leaf_sums(&first), leaf_sums(&second)),
+        Shape::Asked(_, _) => NO_SUMS,
     }
 }

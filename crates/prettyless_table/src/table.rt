@@ -1,13 +1,11 @@
 //! The table, and how a document is laid out in it.
-ghost use Rattle.std.specs.Prelude.{◌≡◌, [], IfSome, IsTrue, List};
-ghost use Rattle.prettyless_model.specs.Tree.{Tree};
-ghost use Rattle.prettyless_table.specs.Cells.{IsRight, cell_tree};
-ghost use Rattle.prettyless_table.specs.Parts.{pair_tree};
-ghost use Rattle.prettyless_table.specs.Laying.{FirstIs, part_trees, parts_of};
+ghost use Rattle.std.specs.Prelude.{◌≡◌, []};
+ghost use Rattle.prettyless_table.specs.Laying.{FirstIs};
+ghost use Rattle.prettyless_table.specs.Parts.{parts_of, shares};
 
 use crate::cell::Cell;
-use crate::kind::{Pair, Single};
-use crate::sums::{Sums, of_pair, of_single, packed};
+use crate::parts::{Parts, Shape, is_small, parts_below, shape_of};
+use crate::sums::{NO_SUMS, Sums, in_mode, leaf_sums, of_pair, of_single, packed, small_sums};
 use prettyless_model::mode::Mode;
 use prettyless_step::walk::{View, Walk};
 use prettyless_summary::summary::Summary;
@@ -18,78 +16,6 @@ pub const MOST_CELLS: usize = 4_294_967_294;
 
 /// Memory for fewer nodes that wait is not worth giving back.
 const FEW: usize = 1024;
-
-/// The parts of a node.
-#[derive(Drop)]
-pub enum Parts<N> {
-    None,
-    One(N),
-    Two(N, N),
-}
-
-/// The parts of a node.
-#[inline(always)]
-pub fn parts_below<N: Walk>(node: &N) -> Parts<N>
-    ensures { part_trees N.tree result ≡ parts_of (N.tree node.now) }
-{
-    match node.view() {
-        View::Append(first, second)
-        | View::BreakOrFlat(first, second)
-        | View::Union(first, second)
-        | View::PartialUnion(first, second)
-        | View::OnColumn(_, first, second)
-        | View::OnNesting(_, first, second) => Parts::Two(first, second),
-        View::LineSuffix(inner)
-        | View::Nest(_, inner)
-        | View::DedentToRoot(inner)
-        | View::Align(inner)
-        | View::Flatten(inner)
-        | View::Group(inner) => Parts::One(inner),
-        _ => Parts::None,
-    }
-}
-
-// Whether a node has no parts.
-#[inline(always)]
-fn is_leaf<N: Walk>(node: &N) -> bool
-    ensures { IsTrue result → [] ≡ parts_of (N.tree node.now) }
-{
-    match parts_below(node) {
-        Parts::None => true,
-        Parts::One(_) | Parts::Two(_, _) => false,
-    }
-}
-
-// What a node with two parts is, and its parts, but for a choice by column or nesting.
-#[inline(always)]
-fn pair_below<N: Walk>(node: &N) -> Option<(Pair, N, N)>
-    ensures { IfSome result (λ p. pair_tree p.0 (N.tree p.1) (N.tree p.2) ≡ N.tree node.now) }
-{
-    match node.view() {
-        View::Append(first, second) => Some((Pair::Append, first, second)),
-        View::BreakOrFlat(first, second) => Some((Pair::BreakOrFlat, first, second)),
-        View::Union(first, second) => Some((Pair::Union, first, second)),
-        View::PartialUnion(first, second) => Some((Pair::PartialUnion, first, second)),
-        _ => None,
-    }
-}
-
-// The cell of a node with two parts that have none themselves.
-#[inline(always)]
-fn leaves_below<N: Walk>(node: &N) -> Option<Cell<N>>
-    ensures tree { IfSome result (λ c. (ts : List Tree) → cell_tree N.tree ts c ≡ N.tree node.now) }
-    ensures right { IfSome result (λ c. (ts : List Tree) → IsRight N.tree ts c) }
-{
-    let (kind, first, second) = pair_below(node)?;
-    if is_leaf(&first) && is_leaf(&second) {
-        return Some(Cell::Leaves {
-            kind,
-            first,
-            second,
-        });
-    }
-    None
-}
 
 // The first part of a node, which has one.
 #[inline(always)]
@@ -103,13 +29,24 @@ fn first_below<N: Walk>(node: &N) -> N
     }
 }
 
+// Whether a node has the place of its part, if that is not small.
+#[inline(always)]
+fn shares_place<N: Walk>(node: &N) -> bool
+    ensures { result ≡ shares (N.tree node.now) }
+{
+    match node.view() {
+        View::Nest(_, _) | View::DedentToRoot(_) | View::Align(_) | View::Group(_) => true,
+        _ => false,
+    }
+}
+
 /// A node whose parts are being laid out.
 #[derive(Drop)]
 pub enum Waiting<N> {
     /// Its second part is laid out now.
     Second(N),
     /// Its first part, or only one, is laid out now. The second one is at this place.
-    First(N, u32),
+    First(u32, N),
 }
 
 // Gives memory back where a list has become much shorter than it was.
@@ -131,13 +68,11 @@ pub struct Table<N> {
 }
 
 impl<N: Walk> Table<N> {
-    ghost use Rattle.std.specs.Prelude.{ℕ, ◌+◌, ◌≤◌, ◌<◌, ◌++◌, ◌∷◌, length, min, IfOk, MatchOption, ⊤};
-    ghost use Rattle.prettyless_model.specs.Tree.{Nest, size};
-    ghost use Rattle.prettyless_summary.specs.Summary.{HasSums};
+    ghost use Rattle.std.specs.Prelude.{ℕ, ◌+◌, ◌-◌, ◌≤◌, ◌<◌, ◌++◌, ◌∷◌, length, min, IfOk, IfSome, OnOk, MatchOption, IsTrue, IsFalse};
+    ghost use Rattle.prettyless_model.specs.Tree.{Tree, size};
     ghost use Rattle.prettyless_table.specs.Sums.{AreSums, SumsUp};
-    ghost use Rattle.prettyless_table.specs.Parts.{asked_tree, single_tree};
-    ghost use Rattle.prettyless_table.specs.Cells.{AddsOne, Grows, IsSound, tree_at, trees};
-    ghost use Rattle.prettyless_table.specs.Laying.{HasAt, IsLast, IsNext, SecondAt};
+    ghost use Rattle.prettyless_table.specs.Cells.{Grows, In, IsPlaced, IsRoot, IsSound, KeepsBoth, second_at, second_of, tree_at, trees};
+    ghost use Rattle.prettyless_table.specs.Laying.{FirstIn, HasAt, IsLast, IsNext, SecondIn, owed, owed_by};
 
     /// A table without documents. It takes no memory.
     pub fn new(alloc: Global) -> Self
@@ -177,167 +112,135 @@ impl<N: Walk> Table<N> {
         self.cells.clear();
     }
 
-    /// The summary of the node at a place in a mode, if it is known.
+    /// The document at a place, and where its node stands.
     #[inline(always)]
-    pub(crate) fn summary(&self, at: u32, mode: Mode) -> Option<Summary>
-        requires within { at < length self.now.cells.items }
+    pub(crate) fn root(&self, at: u32) -> (N, u32)
+        requires within { IsRoot self.now.cells.items at }
         requires sound { IsSound N.tree self.now.cells.items }
-        ensures { SumsUp result (tree_at N.tree self.now.cells.items at) mode }
+        ensures tree { N.tree result.0 ≡ tree_at N.tree self.now.cells.items at }
+        ensures stands { In self.now.cells.items (N.tree result.0) result.1 }
     {
+        match self.cells[at as usize] {
+            Cell::Root(place, node) => (node, place),
+            Cell::Sums { .. } => unreachable!(),
+        }
+    }
+
+    /// The place of the second part of the node at a place.
+    #[inline(always)]
+    pub(crate) fn second(&self, at: u32) -> u32
+        ensures { result ≡ second_at self.now.cells.items at }
+    {
+        if at as usize >= self.cells.len() {
+            return 0;
+        }
+        self.cells[at as usize].second()
+    }
+
+    /// The summary of a node in a mode, if it is known.
+    #[inline(always)]
+    pub(crate) fn summary(&self, node: &N, at: u32, mode: Mode) -> Option<Summary>
+        requires { In self.now.cells.items (N.tree node.now) at }
+        ensures { SumsUp result (N.tree node.now) mode }
+    {
+        if is_small(node) {
+            return in_mode(small_sums(node), mode);
+        }
         self.cells[at as usize].summary(mode)
     }
 
-    // The summaries of the node at a place.
+    // The summaries of a node.
     #[inline(always)]
-    fn sums(&self, at: u32) -> Sums
-        requires within { at < length self.now.cells.items }
-        requires sound { IsSound N.tree self.now.cells.items }
-        ensures { AreSums result (tree_at N.tree self.now.cells.items at) }
+    fn sums(&self, node: &N, at: u32) -> Sums
+        requires { In self.now.cells.items (N.tree node.now) at }
+        ensures { AreSums result (N.tree node.now) }
     {
+        if is_small(node) {
+            return small_sums(node);
+        }
+        let cell = &self.cells[at as usize];
         Sums {
-            flat: self.summary(at, Mode::Flat),
-            broken: self.summary(at, Mode::Break),
+            flat: cell.summary(Mode::Flat),
+            broken: cell.summary(Mode::Break),
         }
     }
 
-    // The cell of a node with one part, the last one that was laid out.
-    fn single(&self, kind: Single, offset: i32, last: u32) -> Cell<N>
-        requires last { last + 1 ≡ length self.now.cells.items }
-        requires sound { IsSound N.tree self.now.cells.items }
-        ensures tree { cell_tree N.tree (trees N.tree self.now.cells.items) result
-            ≡ single_tree kind offset (tree_at N.tree self.now.cells.items last) }
-        ensures right { IsRight N.tree (trees N.tree self.now.cells.items) result }
+    // The place of the last cell.
+    #[inline(always)]
+    fn last(&self) -> u32
+        requires { length self.now.cells.items ≤ MOST_CELLS }
+        ensures { result ≡ length self.now.cells.items - 1 }
     {
-        let sums = of_single(kind, self.sums(last));
-        let (flat_marks, flat) = packed(sums.flat);
-        let (broken_marks, broken) = packed(sums.broken);
-        Cell::One {
-            kind,
-            flat_marks,
-            broken_marks,
-            offset,
-            flat,
-            broken,
-        }
-    }
-
-    // The cell of a node with two parts: the first one was laid out last, and the second one is at this place.
-    fn pair(&self, kind: Pair, last: u32, second: u32) -> Cell<N>
-        requires last { last + 1 ≡ length self.now.cells.items }
-        requires most { last < MOST_CELLS }
-        requires second { second ≤ last }
-        requires sound { IsSound N.tree self.now.cells.items }
-        ensures tree { cell_tree N.tree (trees N.tree self.now.cells.items) result
-            ≡ pair_tree kind (tree_at N.tree self.now.cells.items last) (tree_at N.tree self.now.cells.items second) }
-        ensures right { IsRight N.tree (trees N.tree self.now.cells.items) result }
-    {
-        let sums = of_pair(kind, self.sums(last), self.sums(second));
-        let (flat_marks, flat) = packed(sums.flat);
-        let (broken_marks, broken) = packed(sums.broken);
-        Cell::Two {
-            kind,
-            flat_marks,
-            broken_marks,
-            second: last + 1 - second,
-            flat,
-            broken,
-        }
-    }
-
-    // The cell of a node that says itself what it is: its first part was laid out last, and the second one is at this place.
-    fn asked(&self, node: &N, last: u32, second: u32) -> Cell<N>
-        requires last { last + 1 ≡ length self.now.cells.items }
-        requires most { last < MOST_CELLS }
-        requires second { second ≤ last }
-        requires none { (x y : Tree) → HasSums (asked_tree (N.tree node.now) x y) → ⊥ }
-        ensures tree { cell_tree N.tree (trees N.tree self.now.cells.items) result
-            ≡ asked_tree (N.tree node.now) (tree_at N.tree self.now.cells.items last) (tree_at N.tree self.now.cells.items second) }
-        ensures right { IsRight N.tree (trees N.tree self.now.cells.items) result }
-    {
-        Cell::Asked(*node, last + 1 - second)
-    }
-
-    // The cell of a nesting.
-    fn nesting(&self, node: &N, offset: isize, last: u32) -> Cell<N>
-        requires last { last + 1 ≡ length self.now.cells.items }
-        requires most { last < MOST_CELLS }
-        requires sound { IsSound N.tree self.now.cells.items }
-        requires nest { N.tree node.now ≡ Nest offset (tree_at N.tree self.now.cells.items last) }
-        ensures tree { cell_tree N.tree (trees N.tree self.now.cells.items) result ≡ N.tree node.now }
-        ensures right { IsRight N.tree (trees N.tree self.now.cells.items) result }
-    {
-        match i32::try_from(offset) {
-            Ok(offset) => self.single(Single::Nest, offset, last),
-            Err(_) => self.asked(node, last, last),
-        }
+        self.cells.len().saturating_sub(1) as u32
     }
 
     // The cell of a node whose parts are laid out: the first one last, and the second one at this place.
-    fn cell_of(&self, node: &N, last: u32, second: u32) -> Cell<N>
-        requires last { last + 1 ≡ length self.now.cells.items }
-        requires most { last < MOST_CELLS }
-        requires first { FirstIs (tree_at N.tree self.now.cells.items last) (parts_of (N.tree node.now)) }
-        requires second { SecondAt (trees N.tree self.now.cells.items) second (parts_of (N.tree node.now)) }
-        requires sound { IsSound N.tree self.now.cells.items }
-        ensures tree { cell_tree N.tree (trees N.tree self.now.cells.items) result ≡ N.tree node.now }
-        ensures right { IsRight N.tree (trees N.tree self.now.cells.items) result }
+    fn cell_of(&self, node: &N, second: u32) -> Cell<N>
+        requires most { length self.now.cells.items ≤ MOST_CELLS }
+        requires first { FirstIn self.now.cells.items (length self.now.cells.items - 1) (parts_of (N.tree node.now)) }
+        requires second { SecondIn self.now.cells.items second (parts_of (N.tree node.now)) }
+        ensures keeps { KeepsBoth result (N.tree node.now) }
+        ensures second { second_of result ≡ second }
     {
-        match node.view() {
-            View::Append(_, _) => self.pair(Pair::Append, last, second),
-            View::LineSuffix(_) => self.single(Single::LineSuffix, 0, last),
-            View::Nest(offset, _) => self.nesting(node, offset, last),
-            View::DedentToRoot(_) => self.single(Single::DedentToRoot, 0, last),
-            View::Align(_) => self.single(Single::Align, 0, last),
-            View::Flatten(_) => self.single(Single::Flatten, 0, last),
-            View::BreakOrFlat(_, _) => self.pair(Pair::BreakOrFlat, last, second),
-            View::Group(_) => self.single(Single::Group, 0, last),
-            View::Union(_, _) => self.pair(Pair::Union, last, second),
-            View::PartialUnion(_, _) => self.pair(Pair::PartialUnion, last, second),
-            View::OnColumn(_, _, _) => self.asked(node, last, second),
-            View::OnNesting(_, _, _) => self.asked(node, last, second),
-            _ => Cell::Leaf(*node),
+        let sums = match shape_of(node) {
+            Shape::One(kind, _, inner) => of_single(kind, self.sums(&inner, self.last())),
+            Shape::Two(kind, first, other) => of_pair(
+                kind,
+                self.sums(&first, self.last()),
+                self.sums(&other, second),
+            ),
+            Shape::Asked(_, _) => NO_SUMS,
+            Shape::Leaf => leaf_sums(node),
+        };
+        let (flat_marks, flat) = packed(sums.flat);
+        let (broken_marks, broken) = packed(sums.broken);
+        Cell::Sums {
+            flat_marks,
+            broken_marks,
+            second,
+            flat,
+            broken,
         }
     }
 
-    // Adds a cell, and answers its place, unless there are as many already as there may be.
-    fn add(&mut self, cell: Cell<N>, most: usize) -> Result<Option<u32>, AllocError>
-        requires right { IsRight N.tree (trees N.tree self.old.cells.items) cell }
-        requires most { most ≤ MOST_CELLS }
+    // Adds a cell, unless there are as many already as there may be.
+    fn add(&mut self, cell: Cell<N>, most: usize) -> Result<bool, AllocError>
+        requires placed { IsPlaced N.tree self.old.cells.items cell }
         ensures grows { Grows N.tree self.old.cells.items self.new.cells.items }
         ensures waiting { self.new.waiting ≡ self.old.waiting }
-        ensures one { IfOk result (λ o. IfSome o (AddsOne self.old.cells.items self.new.cells.items most)) }
-        ensures added { IfOk result (λ o. MatchOption o
-            (most ≤ length self.old.cells.items)
-            (λ at. self.new.cells.items ≡ self.old.cells.items ++ cell ∷ [])) }
+        ensures added { IfOk result (λ b. IsTrue b
+            → (self.new.cells.items ≡ self.old.cells.items ++ cell ∷ []) × (length self.old.cells.items < most)) }
+        ensures full { IfOk result (λ b. IsFalse b → (self.new ≡ self.old) × (most ≤ length self.old.cells.items)) }
     {
         let at = self.cells.len();
         if at >= most {
-            return Ok(None);
+            return Ok(false);
         }
         self.cells.push(cell)?;
-        Ok(Some(at as u32))
+        Ok(true)
     }
 
-    // Goes down from a node, to its second part where it has two, and adds the leaf that it comes to.
-    fn go_down(&mut self, node: N, most: usize) -> Result<Option<u32>, AllocError>
-        requires { most ≤ MOST_CELLS }
-        ensures grows { Grows N.tree self.old.cells.items self.new.cells.items }
-        ensures one { IfOk result (λ o. IfSome o (AddsOne self.old.cells.items self.new.cells.items most)) }
-        ensures lays { IfOk result (λ o. (d : Tree) (total : ℕ) → IsNext N.tree self.old.cells.items self.old.waiting.items d total node
-            → MatchOption o (most < total) (IsLast N.tree self.new.cells.items self.new.waiting.items d total)) }
+    // Goes down from a node, to its second part where it has two, to a small one.
+    fn go_down(&mut self, node: N) -> Result<(), AllocError>
+        ensures cells { self.new.cells ≡ self.old.cells }
+        ensures lays { OnOk result ((d : Tree) (total : ℕ) → IsNext N.tree self.old.cells.items self.old.waiting.items d total node
+            → IsLast N.tree self.new.cells.items self.new.waiting.items d total) }
+        ensures owed { OnOk result (owed N.tree self.new.waiting.items + 1 ≤ owed N.tree self.old.waiting.items + size (N.tree node)) }
     {
         let mut next = node;
         'down: loop {
+            if is_small(&next) {
+                return Ok(());
+            }
             match parts_below(&next) {
-                Parts::None => return self.add(Cell::Leaf(next), most),
+                Parts::None => return Ok(()),
                 Parts::One(inner) => {
-                    self.waiting.push(Waiting::First(next, 0))?;
+                    if !shares_place(&next) || is_small(&inner) {
+                        self.waiting.push(Waiting::First(0, next))?;
+                    }
                     next = inner;
                 }
                 Parts::Two(_, second) => {
-                    if let Some(cell) = leaves_below(&next) {
-                        return self.add(cell, most);
-                    }
                     self.waiting.push(Waiting::Second(next))?;
                     next = second;
                 }
@@ -346,32 +249,30 @@ impl<N: Walk> Table<N> {
     }
 
     // Goes on after the last part that was laid out, for which this node waits.
-    fn come_up(
-        &mut self,
-        next: Waiting<N>,
-        last: u32,
-        most: usize,
-    ) -> Result<Option<u32>, AllocError>
-        requires last { last + 1 ≡ length self.old.cells.items }
+    fn come_up(&mut self, next: Waiting<N>, most: usize) -> Result<bool, AllocError>
         requires most { most ≤ MOST_CELLS }
-        requires below { last < most }
-        requires sound { IsSound N.tree self.old.cells.items }
+        requires below { length self.old.cells.items ≤ most }
         requires waits { (d : Tree) × ((total : ℕ)
-            × IsLast N.tree self.old.cells.items (self.old.waiting.items ++ next ∷ []) d total last) }
+            × IsLast N.tree self.old.cells.items (self.old.waiting.items ++ next ∷ []) d total) }
         ensures grows { Grows N.tree self.old.cells.items self.new.cells.items }
-        ensures one { IfOk result (λ o. IfSome o (AddsOne self.old.cells.items self.new.cells.items most)) }
-        ensures lays { IfOk result (λ o. (d : Tree) (total : ℕ)
-            → IsLast N.tree self.old.cells.items (self.old.waiting.items ++ next ∷ []) d total last
-            → MatchOption o (most < total) (IsLast N.tree self.new.cells.items self.new.waiting.items d total)) }
+        ensures below { IfOk result (λ _. length self.new.cells.items ≤ most) }
+        ensures lays { IfOk result (λ b. IsTrue b → (d : Tree) (total : ℕ)
+            → IsLast N.tree self.old.cells.items (self.old.waiting.items ++ next ∷ []) d total
+            → IsLast N.tree self.new.cells.items self.new.waiting.items d total) }
+        ensures full { IfOk result (λ b. IsFalse b → (d : Tree) (total : ℕ)
+            → IsLast N.tree self.old.cells.items (self.old.waiting.items ++ next ∷ []) d total → most < total) }
+        ensures owed { IfOk result (λ _. owed N.tree self.new.waiting.items < owed N.tree self.old.waiting.items + owed_by N.tree next) }
     {
         match next {
             Waiting::Second(node) => {
                 let first = first_below(&node);
-                self.waiting.push(Waiting::First(node, last))?;
-                self.go_down(first, most)
+                let last = self.last();
+                self.waiting.push(Waiting::First(last, node))?;
+                self.go_down(first)?;
+                Ok(true)
             }
-            Waiting::First(node, second) => {
-                let cell = self.cell_of(&node, last, second);
+            Waiting::First(second, node) => {
+                let cell = self.cell_of(&node, second);
                 self.add(cell, most)
             }
         }
@@ -391,17 +292,21 @@ impl<N: Walk> Table<N> {
             × (length self.new.cells.items ≤ length self.old.cells.items + size (N.tree root)))) }
     {
         let limit = most.min(MOST_CELLS);
-        self.waiting.clear();
-        let Some(mut last) = self.go_down(root, limit)? else {
+        if self.cells.len() > limit {
             return Ok(None);
-        };
+        }
+        self.waiting.clear();
+        self.go_down(root)?;
         'up: while let Some(next) = self.waiting.pop() {
             give_back(&mut self.waiting);
-            match self.come_up(next, last, limit)? {
-                Some(at) => last = at,
-                None => return Ok(None),
+            if !self.come_up(next, limit)? {
+                return Ok(None);
             }
         }
-        Ok(Some(last))
+        let place = self.last();
+        if !self.add(Cell::Root(place, root), limit)? {
+            return Ok(None);
+        }
+        Ok(Some(self.last()))
     }
 }

@@ -1,16 +1,15 @@
 use Rattle.std.proofs.Common.{◌≡◌, ◌≤◌, drop, length, map, true}
 use Rattle.prettyless_step.specs.Stack.{stack_of, task}
 use Rattle.prettyless_step.specs.Sums.{IsSummed}
-use Rattle.prettyless_table.specs.Parts.{part_tree}
 use Rattle.prettyless_table.specs.Cells.{tree_at}
 use Rattle.prettyless_table.proofs.shift.placed_commands.Given as goal
 
 abbrev pub invariant-places : goal.invariant-places
 invariant-places g l = record {
   within : l.k ≤ length l.places;
-  tasks : stack_of (λ p. part_tree p.part (tree_at g.N.Walk.tree p.table.now.cells.items p.at)) l.commands
+  tasks : stack_of (λ p. g.N.Walk.tree p.node) l.commands
       ≡ map (task (tree_at g.N.Walk.tree l.table.cells.items)) (drop l.k l.places);
-  summed : IsSummed true (λ p. part_tree p.part (tree_at g.N.Walk.tree p.table.now.cells.items p.at)) l.commands;
+  summed : IsSummed true (λ p. g.N.Walk.tree p.node) l.commands;
 }
 
 abbrev pub decreases-places : goal.decreases-places

@@ -1,13 +1,12 @@
 use Rattle.std.proofs.Common.{◌≡◌, ◌-◌, ◌≤◌, take, length}
 use Rattle.prettyless_step.specs.Stack.{trees}
-use Rattle.prettyless_table.specs.Parts.{part_tree}
 use Rattle.prettyless_table.specs.Cells.{tree_at}
 use Rattle.prettyless_table.proofs.shift.placed_queue.Given as goal
 
 abbrev pub invariant-places : goal.invariant-places
 invariant-places g l = record {
   within : l.k ≤ length l.places;
-  nodes : trees (λ p. part_tree p.part (tree_at g.N.Walk.tree p.table.now.cells.items p.at)) l.placed.nodes.items
+  nodes : trees (λ p. g.N.Walk.tree p.node) l.placed.nodes.items
       ≡ trees (tree_at g.N.Walk.tree l.table.cells.items) (take l.k l.places);
 }
 

@@ -1,0 +1,139 @@
+-- Nodes that have the place of their part, and those that have a cell of their own.
+use Rattle.std.proofs.Common.{◌≡◌, ℕ, ◌+◌, ◌<◌, ◌≤◌, true, false, List, [], ◌∷◌, get_or, ap, subst, sym, ◌∙◌, arith}
+use Rattle.prettyless_model.specs.Tree.{Tree, Nil, Fail, Text, TextWithLen, MultilineText, WeakSpace, HardLine, WeakLine, ExpandParent, LineSuffix, OnColumn, OnNesting, Nest, DedentToRoot, Align, Flatten, Group, BreakOrFlat, Union, PartialUnion, Append, size}
+use Rattle.prettyless_model.specs.declared.mode.Mode.{Mode}
+use Rattle.prettyless_model.specs.declared.mode.Mode.TheVariants.{Break, Flat}
+use Rattle.prettyless_summary.specs.Summary.{HasSums, Summarizes}
+use Rattle.prettyless_summary.specs.declared.summary.Summary.{Summary}
+use Rattle.prettyless_summary.proofs.Variants.{summarizes_nest, summarizes_dedent, summarizes_align, summarizes_group}
+use Rattle.prettyless_table.specs.Sums.{Keeps}
+use Rattle.prettyless_table.specs.declared.sums.Counts.{Counts}
+use Rattle.prettyless_table.specs.declared.cell.Cell.{Cell}
+use Rattle.prettyless_table.specs.declared.cell.Cell.TheVariants.{Sums, Root}
+use Rattle.prettyless_table.specs.Parts.{parts_of, shares, small}
+use Rattle.prettyless_table.specs.Cells.{HasCell, In, KeepsBoth}
+use Rattle.prettyless_table.specs.Laying.{IsOwn, Serves}
+use Rattle.prettyless_table.proofs.Cells.{in_cell, unless_some}
+
+-- the summary of a part that a cell keeps is that of the node
+keeps_as : (marks : ℕ) (counts : Counts) (d e : Tree) (m : Mode) → ((x : Summary) → Summarizes x d m → Summarizes x e m)
+    → (HasSums e → HasSums d) → size d ≤ size e → Keeps marks counts d m → Keeps marks counts e m
+keeps_as marks counts d e m via has less h = record {
+  known = λ below s only. via s (h.known below s only);
+  found = λ sums small.
+      let found = h.found (has sums) (omega (arith, less, small)) in
+      (found.0, omega (arith, found.1, less));
+}
+
+both_as : {N : Type 0} (c : Cell N) (d e : Tree) → ((m : Mode) (x : Summary) → Summarizes x d m → Summarizes x e m)
+    → (HasSums e → HasSums d) → size d ≤ size e → KeepsBoth c d → KeepsBoth c e
+both_as (Sums a b second flat broken) d e via has less h =
+    (keeps_as a flat d e Flat (via Flat) has less h.0, keeps_as b broken d e Break (via Break) has less h.1)
+both_as (Root place n) d e via has less h = h
+
+cell_as : {N : Type 0} (cells : List (Cell N)) (at : ℕ) (d e : Tree) → ((m : Mode) (x : Summary) → Summarizes x d m → Summarizes x e m)
+    → (HasSums e → HasSums d) → size d ≤ size e → HasCell cells at d → HasCell cells at e
+cell_as {N} cells at d e via has less h = record {
+  within = h.within;
+  keeps = λ (c : Cell N). both_as (get_or cells at c) d e via has less (h.keeps c);
+}
+
+-- where the part stands, a node that has its place does
+pub serves_part : (N : Type 0) (d x : Tree) → x ∷ [] ≡ parts_of d → shares d ≡ true → small x ≡ false → Serves N x d
+serves_part N (Nest k d) x e s little cells at h =
+    let same : x ≡ d = ap (λ (ds : List Tree). get_or ds 0 Nil) e in
+    let stands : In cells d at = subst (λ (t : Tree). In cells t at) same h in
+    unless_some (small (Nest k d)) (
+      cell_as cells at d (Nest k d) (λ m y. summarizes_nest y m k d) (λ sums. sums.1) (omega arith)
+          (in_cell cells d at (ap small (sym same) ∙ little) stands),
+      stands,
+    )
+serves_part N (DedentToRoot d) x e s little cells at h =
+    let same : x ≡ d = ap (λ (ds : List Tree). get_or ds 0 Nil) e in
+    let stands : In cells d at = subst (λ (t : Tree). In cells t at) same h in
+    unless_some (small (DedentToRoot d)) (
+      cell_as cells at d (DedentToRoot d) (λ m y. summarizes_dedent y m d) (λ sums. sums) (omega arith)
+          (in_cell cells d at (ap small (sym same) ∙ little) stands),
+      stands,
+    )
+serves_part N (Align d) x e s little cells at h =
+    let same : x ≡ d = ap (λ (ds : List Tree). get_or ds 0 Nil) e in
+    let stands : In cells d at = subst (λ (t : Tree). In cells t at) same h in
+    unless_some (small (Align d)) (
+      cell_as cells at d (Align d) (λ m y. summarizes_align y m d) (λ sums. sums) (omega arith)
+          (in_cell cells d at (ap small (sym same) ∙ little) stands),
+      stands,
+    )
+serves_part N (Group d) x e s little cells at h =
+    let same : x ≡ d = ap (λ (ds : List Tree). get_or ds 0 Nil) e in
+    let stands : In cells d at = subst (λ (t : Tree). In cells t at) same h in
+    unless_some (small (Group d)) (
+      cell_as cells at d (Group d) (λ m y. summarizes_group y m d) (λ sums. sums) (omega arith)
+          (in_cell cells d at (ap small (sym same) ∙ little) stands),
+      stands,
+    )
+serves_part N (Append l r) x e s little cells at h = cc
+serves_part N (LineSuffix d) x e s little cells at h = cc
+serves_part N (Flatten d) x e s little cells at h = cc
+serves_part N (BreakOrFlat l r) x e s little cells at h = cc
+serves_part N (Union l r) x e s little cells at h = cc
+serves_part N (PartialUnion l r) x e s little cells at h = cc
+serves_part N (OnColumn test l r) x e s little cells at h = cc
+serves_part N (OnNesting test l r) x e s little cells at h = cc
+serves_part N Nil x e s little cells at h = cc
+serves_part N Fail x e s little cells at h = cc
+serves_part N (Text t) x e s little cells at h = cc
+serves_part N (TextWithLen w t) x e s little cells at h = cc
+serves_part N (MultilineText t) x e s little cells at h = cc
+serves_part N WeakSpace x e s little cells at h = cc
+serves_part N HardLine x e s little cells at h = cc
+serves_part N WeakLine x e s little cells at h = cc
+serves_part N ExpandParent x e s little cells at h = cc
+
+-- a node whose part is small has a cell of its own
+pub own_small : (d x : Tree) → x ∷ [] ≡ parts_of d → small x ≡ true → IsOwn d
+own_small (Nest k d) x e h = ap (λ (ds : List Tree). small (get_or ds 0 Nil)) (sym e) ∙ h
+own_small (DedentToRoot d) x e h = ap (λ (ds : List Tree). small (get_or ds 0 Nil)) (sym e) ∙ h
+own_small (Align d) x e h = ap (λ (ds : List Tree). small (get_or ds 0 Nil)) (sym e) ∙ h
+own_small (Group d) x e h = ap (λ (ds : List Tree). small (get_or ds 0 Nil)) (sym e) ∙ h
+own_small (Append l r) x e h = tt
+own_small (LineSuffix d) x e h = tt
+own_small (Flatten d) x e h = tt
+own_small (BreakOrFlat l r) x e h = tt
+own_small (Union l r) x e h = tt
+own_small (PartialUnion l r) x e h = tt
+own_small (OnColumn test l r) x e h = tt
+own_small (OnNesting test l r) x e h = tt
+own_small Nil x e h = tt
+own_small Fail x e h = tt
+own_small (Text t) x e h = tt
+own_small (TextWithLen w t) x e h = tt
+own_small (MultilineText t) x e h = tt
+own_small WeakSpace x e h = tt
+own_small HardLine x e h = tt
+own_small WeakLine x e h = tt
+own_small ExpandParent x e h = tt
+
+-- and so has one that never shares a place
+pub own_other : (d : Tree) → shares d ≡ false → IsOwn d
+own_other (Nest k d) h = cc
+own_other (DedentToRoot d) h = cc
+own_other (Align d) h = cc
+own_other (Group d) h = cc
+own_other (Append l r) h = tt
+own_other (LineSuffix d) h = tt
+own_other (Flatten d) h = tt
+own_other (BreakOrFlat l r) h = tt
+own_other (Union l r) h = tt
+own_other (PartialUnion l r) h = tt
+own_other (OnColumn test l r) h = tt
+own_other (OnNesting test l r) h = tt
+own_other Nil h = tt
+own_other Fail h = tt
+own_other (Text t) h = tt
+own_other (TextWithLen w t) h = tt
+own_other (MultilineText t) h = tt
+own_other WeakSpace h = tt
+own_other HardLine h = tt
+own_other WeakLine h = tt
+own_other ExpandParent h = tt
