@@ -1,7 +1,6 @@
 use Rattle.std.proofs.Common.{◌≡◌, ◌++◌, ◌-◌, ◌≤◌, drop, length}
 use Rattle.prettyless_step.specs.Stack.{trees}
 use Rattle.prettyless_table.specs.Cells.{tree_at}
-use Rattle.prettyless_table.specs.Parts.{part_tree}
 use Rattle.prettyless_printer.specs.Open.{all_held, seconds}
 use Rattle.prettyless_printer.proofs.shift.placed_trials.Given as goal
 
@@ -12,7 +11,7 @@ invariant-trials g l =
     record {
       within : l.k ≤ length all;
       left : trees (tree_at f l.table.cells.items) (drop l.k l.places) ≡ seconds (all_held f (drop l.k all));
-      same : all_held (λ p. part_tree p.part (tree_at f p.table.now.cells.items p.at)) l.placed.open.items ++ all_held f (drop l.k all) ≡ all_held f all;
+      same : all_held (λ p. f p.node) l.placed.open.items ++ all_held f (drop l.k all) ≡ all_held f all;
     }
 
 abbrev pub decreases-trials : goal.decreases-trials
