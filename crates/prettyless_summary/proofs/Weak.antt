@@ -1,13 +1,12 @@
 -- A weak line after a summary.
-use Rattle.std.proofs.Common.{◌≡◌, ℕ, ◌^◌, ◌<◌, Bool, true, false, ◌||◌, Some, arith, sym, ◌∙◌}
-use Rattle.prettyless_model.specs.Look.{Look, Answers, GoesOn, look_end, look_then}
+use Rattle.std.proofs.Common.{◌≡◌, ℕ, Bool, true, false, ◌||◌, Some, arith, sym, ◌∙◌}
+use Rattle.prettyless_model.specs.Look.{Look, GoesOn, look_end, look_then}
 use Rattle.prettyless_model.specs.declared.column.Column.{Column}
 use Rattle.prettyless_model.specs.declared.mode.Mode.{Mode}
 use Rattle.prettyless_model.proofs.Looks.{look-each, look-then-then}
-use Rattle.prettyless_summary.specs.Summary.{Continues, look_by, look_ink, look_out, look_rest, look_weak, mode_of, spaced}
+use Rattle.prettyless_summary.specs.Summary.{Continues, look_ink, look_out, look_rest, look_weak, mode_of, spaced}
 use Rattle.prettyless_summary.specs.declared.summary.Summary.{Summary}
 use Rattle.prettyless_summary.specs.declared.summary.End.{End}
-use Rattle.prettyless_summary.specs.declared.summary.End.TheVariants.{Open}
 
 -- what a summary has after its weak line may say what a look after the whole summary says
 pub rest_continues : (s r : Summary) (f : ℕ → Column → Bool → Look) → r.lead ≡ s.lead → r.weak ≡ s.weak

@@ -1,13 +1,13 @@
 -- Where documents stand in a table.
-use Rattle.std.proofs.Common.{◌≡◌, ℕ, zero, suc, ◌+◌, ◌-◌, ◌<◌, ◌≤◌, Bool, true, false, ◌&&◌, List, [], ◌∷◌, ◌++◌, length, get_or, refl, ap, sym, subst, ◌∙◌, arith, length-append}
+use Rattle.std.proofs.Common.{◌≡◌, ℕ, zero, suc, ◌-◌, ◌<◌, ◌≤◌, Bool, true, false, List, [], ◌∷◌, ◌++◌, length, get_or, refl, ap, sym, subst, ◌∙◌, arith, length-append}
 use Rattle.std.proofs.lemmas.List.{get_or_push, get_or_append_left}
 use Rattle.std.proofs.Math.ListN.{get_or-eq_default}
 use Rattle.prettyless_model.specs.Tree.{Tree, Nil, Append, LineSuffix, Nest, DedentToRoot, Align, Flatten, BreakOrFlat, Group, Union, PartialUnion, OnColumn, OnNesting}
 use Rattle.prettyless_model.specs.Tree as t
 use Rattle.prettyless_table.specs.declared.cell.Cell.{Cell}
-use Rattle.prettyless_table.specs.Parts.{none, leaves, parts_of, small}
+use Rattle.prettyless_table.specs.Parts.{parts_of, small}
 use Rattle.prettyless_table.specs.Cells.{HasCell, In, KeepsBoth, Unless, no_cell, second_at, second_of}
-use Rattle.prettyless_table.specs.Laying.{FirstIn, SecondIn, IsOwn, Serves}
+use Rattle.prettyless_table.specs.Laying.{FirstIn, SecondIn, IsOwn}
 
 unless_map : (b : Bool) {P Q : Type 0} → (P → Q) → Unless b P → Unless b Q
 unless_map true g h = tt

@@ -1,5 +1,5 @@
 -- Nodes that have the place of their part, and those that have a cell of their own.
-use Rattle.std.proofs.Common.{◌≡◌, ℕ, ◌+◌, ◌<◌, ◌≤◌, true, false, List, [], ◌∷◌, get_or, ap, subst, sym, ◌∙◌, arith}
+use Rattle.std.proofs.Common.{◌≡◌, ℕ, ◌≤◌, true, false, List, [], ◌∷◌, get_or, ap, subst, sym, ◌∙◌, arith}
 use Rattle.prettyless_model.specs.Tree.{Tree, Nil, Fail, Text, TextWithLen, MultilineText, WeakSpace, HardLine, WeakLine, ExpandParent, LineSuffix, OnColumn, OnNesting, Nest, DedentToRoot, Align, Flatten, Group, BreakOrFlat, Union, PartialUnion, Append, size}
 use Rattle.prettyless_model.specs.declared.mode.Mode.{Mode}
 use Rattle.prettyless_model.specs.declared.mode.Mode.TheVariants.{Break, Flat}

@@ -6,7 +6,7 @@ use Rattle.prettyless_model.specs.Tree.{Tree}
 use Rattle.prettyless_table.specs.declared.cell.Cell.{Cell}
 use Rattle.prettyless_table.specs.declared.cell.Cell.TheVariants.{Sums, Root}
 use Rattle.prettyless_table.specs.Laying.{HasAt}
-use Rattle.prettyless_table.specs.Cells.{HasRoot, IsRoot, no_cell, root_tree, tree_of, trees, tree_at, In, IsPlaced, IsSound, Grows}
+use Rattle.prettyless_table.specs.Cells.{HasRoot, IsRoot, no_cell, root_tree, tree_of, trees, tree_at, IsPlaced, IsSound, Grows}
 use Rattle.prettyless_table.proofs.Cells.{stays}
 
 pub length-trees : {N : Type 0} (f : N → Tree) (cells : List (Cell N)) → length (trees f cells) ≡ length cells

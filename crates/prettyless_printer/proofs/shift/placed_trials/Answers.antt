@@ -3,8 +3,7 @@ use Rattle.std.proofs.lemmas.List.{drop_more, map-append}
 use Rattle.prettyless_model.specs.Tree.{Tree, Nil}
 use Rattle.prettyless_table.specs.Cells.{tree_at}
 use Rattle.prettyless_table.specs.declared.placed.Placed.{Placed}
-use Rattle.prettyless_printer.specs.declared.trial.OpenTrial.{OpenTrial}
-use Rattle.prettyless_printer.specs.Open.{Held, all_held, held, seconds}
+use Rattle.prettyless_printer.specs.Open.{all_held, held, seconds}
 use Rattle.prettyless_printer.proofs.shift.placed_trials.Goals as goal
 
 -- the trees that are left after the first of them

@@ -1,5 +1,4 @@
 use Rattle.std.proofs.Common.{refl, true, sym, ◌∙◌, ◌≡◌, ◌||◌}
-use Rattle.prettyless_model.specs.Look.{look_then}
 use Rattle.prettyless_summary.specs.Summary.{look_weak, mode_of}
 use Rattle.prettyless_summary.proofs.Weak.{rest_continues, rest_ends}
 use Rattle.prettyless_summary.proofs.summary.Summary.and_weak.Goals as goal

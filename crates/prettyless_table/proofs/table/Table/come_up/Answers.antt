@@ -1,6 +1,6 @@
-use Rattle.std.proofs.Common.{◌≡◌, ◌+◌, ◌<◌, ◌≤◌, ◌++◌, ◌∷◌, [], Bool, IsTrue, IsFalse, ℕ, length, ap, arith}
+use Rattle.std.proofs.Common.{◌≡◌, ◌<◌, ◌≤◌, ◌++◌, ◌∷◌, [], Bool, IsTrue, IsFalse, ℕ, length, ap, arith}
 use Rattle.prettyless_model.specs.Tree.{Tree}
-use Rattle.prettyless_table.specs.declared.table.Waiting.TheVariants.{Second, First}
+use Rattle.prettyless_table.specs.declared.table.Waiting.TheVariants.{First}
 use Rattle.prettyless_table.specs.Laying.{IsLast, owed_by}
 use Rattle.prettyless_table.proofs.Waits.{add_below, comes_first, comes_second, lays, ok_then, owed_more, second_has, second_size}
 use Rattle.prettyless_table.proofs.table.Table.come_up.Goals as goal

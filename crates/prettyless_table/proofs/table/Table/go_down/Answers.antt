@@ -1,6 +1,6 @@
-use Rattle.std.proofs.Common.{◌≡◌, false, ap, arith, sym, ◌∙◌}
+use Rattle.std.proofs.Common.{arith, sym, ◌∙◌}
 use Rattle.prettyless_table.specs.declared.table.Waiting.TheVariants.{Second, First}
-use Rattle.prettyless_table.specs.Laying.{IsNext, IsOwn}
+use Rattle.prettyless_table.specs.Laying.{IsOwn}
 use Rattle.prettyless_table.proofs.Sharing.{own_other, own_small, serves_part}
 use Rattle.prettyless_table.proofs.Waits.{goes_inner, goes_one, goes_small, goes_two, owed_more, size_first, size_one, size_two}
 use Rattle.prettyless_table.proofs.table.Table.go_down.Goals as goal

@@ -1,4 +1,4 @@
-use Rattle.std.proofs.Common.{◌≡◌, arith, ap, sym, ◌∙◌, ◌+◌, ◌-◌, ◌∷◌, [], length, length-append}
+use Rattle.std.proofs.Common.{◌≡◌, arith, ap, sym, ◌+◌, ◌-◌, ◌∷◌, [], length, length-append}
 use Rattle.prettyless_model.specs.Tree.{size}
 use Rattle.prettyless_step.proofs.Sizes.{size_positive}
 use Rattle.prettyless_table.specs.declared.cell.Cell.TheVariants.{Root}
