@@ -46,7 +46,7 @@ pub record CountsVisits {A E : Type 0} (o : RenderOptions) (d : Tree) (v w : Vis
   -- Without line suffixes each group and partial union asks one probe, which visits each node at most once.
   pub probes : suffix_depth d ≡ 0 → w.probes ≤ v.probes + size d * probed d
   -- Where a table bounds the probes of the document at this width, and none was refused memory, probes visit at most sixteen nodes for
-  -- each node, and a thousand, whatever the answer: the time of a render is linear in the document.
+  -- each node, and a thousand, whatever the answer: so all visits are linear in the document.
   pub few : IsLinear o.width d → w.refused ≡ 0 → IsFew 16 1000 (size d) v w
   -- `Ok`: the printer visits at least the nodes that the layout lays, up to the greatest count.
   pub laid : OnOk result (min (v.printer + laid_nodes o d) (2 ^ 64 - 1) ≤ w.printer)
