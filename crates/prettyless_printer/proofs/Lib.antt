@@ -17,6 +17,7 @@ pub mod Contents
 pub mod Visits
 pub mod AtLeast
 pub mod Hands
+pub mod Laying
 pub mod Advancing
 pub mod Spending
 pub mod OpenSpending

@@ -2,6 +2,7 @@ pub mod Points
 pub mod Progress
 pub mod Visits
 pub mod AtLeast
+pub mod Laying
 pub mod Linear
 pub mod Spending
 pub mod Gears

@@ -10,5 +10,6 @@ mod gear;
 pub mod render;
 mod run;
 mod shift;
+mod texts;
 pub mod trial;
 pub mod turn;

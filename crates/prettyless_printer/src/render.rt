@@ -34,6 +34,7 @@ fn printer_before<N: Walk>(
         within: true,
         commands: Stack::new(alloc),
         scratch: Stack::new(alloc),
+        flat: Vec::new(alloc),
         queue: Queue::new(alloc),
     };
     printer.commands.push(0, Mode::Break, node)?;

@@ -9,6 +9,7 @@ ghost use Rattle.prettyless_printer.specs.Spending.{Spends, after_turn, left, ru
 ghost use Rattle.prettyless_printer.specs.Turns.{Advances, IsPastLimit, StopsPast};
 
 use crate::answer::Turn;
+use crate::texts::lay_texts;
 use prettyless_model::mode::Mode;
 use prettyless_sink::error::RenderError;
 use prettyless_sink::render::Render;
@@ -100,6 +101,12 @@ pub fn turn<N: Walk, W: Render>(
                 mode = Mode::Flat;
                 node = next;
                 is_past = false;
+            }
+            Ok(Taken::NextTexts(_, next)) => {
+                return match lay_texts(printer, out, next, visits) {
+                    Ok(()) => Ok(Turn::Went),
+                    Err(e) => Err(e),
+                };
             }
             Ok(Taken::Quiet) => return Ok(Turn::Went),
             Ok(Taken::Failed) => return Ok(Turn::Failed),

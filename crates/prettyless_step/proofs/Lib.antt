@@ -2,6 +2,7 @@ pub mod Sizes
 pub mod Frames
 pub mod Stacks
 pub mod Probes
+pub mod Texts
 pub mod Queues
 pub mod Shown
 pub mod Sums

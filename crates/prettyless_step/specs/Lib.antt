@@ -5,4 +5,5 @@ pub mod Piece
 pub mod Steps
 pub mod Sums
 pub mod Probing
+pub mod Texts
 pub mod Printing

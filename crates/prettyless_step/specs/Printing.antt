@@ -5,11 +5,12 @@ use Rattle.prettyless_model.specs.Layout.{State, Entry, probe}
 use Rattle.prettyless_model.specs.declared.mode.Mode.{Mode}
 use Rattle.prettyless_model.specs.declared.mode.Mode.TheVariants.{Flat}
 use Rattle.prettyless_step.specs.Stack.{Task, make_task, follow, stack_of, trees}
+use Rattle.prettyless_step.specs.Texts.{IsTexts}
 use Rattle.prettyless_step.specs.Steps.{Step, Move, Stuck, Choose}
 use Rattle.prettyless_step.specs.Piece.{piece_bytes}
 use Rattle.prettyless_step.specs.declared.printer.Printer.{Printer}
 use Rattle.prettyless_step.specs.declared.printer.Taken.{Taken}
-use Rattle.prettyless_step.specs.declared.printer.Taken.TheVariants.{Quiet, Next, NextFlat, NextPast, Written, Failed, Chosen}
+use Rattle.prettyless_step.specs.declared.printer.Taken.TheVariants.{Quiet, Next, NextFlat, NextPast, NextTexts, Written, Failed, Chosen}
 
 -- the tasks that the printer has still to lay, the next one first
 abbrev pub tasks_of : {N : Type 0} → (N → Tree) → Printer N → List Task
@@ -51,6 +52,7 @@ abbrev pub Shows : {N : Type 0} → (N → Tree) → Mode → Taken N → Step �
 Shows f m Quiet step p q = Writes f [] step p q
 Shows f m (Next i n) step p q = Hands f i m n step p q
 Shows f m (NextFlat i n) step p q = Hands f i Flat n step p q
+Shows f m (NextTexts i n) step p q = Hands f i Flat n step p q × IsTexts (f n)
 Shows f m (NextPast i n) step p q = Hands f i m n step p q × IsPast f i (f n) q
 Shows f m (Written piece) step p q = Writes f (piece_bytes piece) step p q
 Shows f m Failed Stuck p q = q ≡ p

@@ -1,5 +1,5 @@
 -- What a probe comes to at one node, and how many nodes a probe may visit.
-use Rattle.std.specs.Prelude.{◌≡◌, ℕ, ◌+◌, ◌*◌, ◌-◌, ◌^◌, ◌<◌, ◌≤◌, min, Bool, List, [], ◌∷◌, length, Option, Some, None}
+use Rattle.std.specs.Prelude.{◌≡◌, ℕ, ◌+◌, ◌*◌, ◌-◌, ◌^◌, ◌<◌, ◌≤◌, min, Bool, true, false, IsTrue, List, [], ◌∷◌, length, Option, Some, None}
 use Rattle.prettyless_model.specs.Tree.{Tree, Group, PartialUnion, size}
 use Rattle.prettyless_model.specs.Look.{by_mode}
 use Rattle.prettyless_model.specs.declared.mode.Mode.{Mode}
@@ -7,6 +7,12 @@ use Rattle.prettyless_model.specs.declared.column.Column.{Column}
 use Rattle.prettyless_step.specs.Stack.{Task, make_task, tasks_fit}
 use Rattle.prettyless_step.specs.Sums.{AllSummed, HaveSum}
 use Rattle.prettyless_step.specs.declared.stack.Below.{Below}
+use Rattle.prettyless_step.specs.Texts.{TextsOnce}
+use Rattle.prettyless_step.specs.declared.stack.Stack.{Stack}
+use Rattle.prettyless_step.specs.declared.probe.Fit.{Fit}
+use Rattle.prettyless_step.specs.declared.probe.Fit.TheVariants.{Past, Fits, AsTexts}
+use Rattle.prettyless_step.specs.declared.probe.Seen.{Seen}
+use Rattle.prettyless_step.specs.declared.probe.Seen.TheVariants as seen
 use Rattle.prettyless_step.specs.declared.probe.Read.{Read}
 use Rattle.prettyless_step.specs.declared.probe.Read.TheVariants.{Answer, Next, Done}
 
@@ -27,6 +33,24 @@ abbrev pub nodes_next : {N : Type 0} → (N → Tree) → Read N → ℕ
 nodes_next f (Answer b) = 0
 nodes_next f (Next i m n) = size (f n)
 nodes_next f Done = 0
+
+-- what is come to at a node, where the node that is looked at next is one of the stack's topmost frame
+abbrev pub read_in : {N : Type 0} → Stack N → Seen N → Read N
+read_in s (seen.Answer b) = Answer b
+read_in s (seen.Next n) = Next s.here.indent s.here.mode n
+read_in s seen.Done = Done
+
+-- the document is its texts: at an answer that is true, and else if those of what comes next are theirs
+abbrev pub TextsAt : {N : Type 0} → (N → Tree) → Tree → Read N → List Task → Type 0
+TextsAt f d (Answer b) ts = IsTrue b → TextsOnce d []
+TextsAt f d (Next i m n) ts = TextsOnce d (make_task i m (f n) ∷ ts)
+TextsAt f d Done ts = TextsOnce d ts
+
+-- whether a node stays within the width
+abbrev pub is_fit : Fit → Bool
+is_fit Past = false
+is_fit Fits = true
+is_fit AsTexts = true
 
 -- what a probe has still to do at what it has come to, so that it ends: twice the nodes, and a step more where it goes on with nothing
 abbrev pub pace : {N : Type 0} → (N → Tree) → Read N → ℕ

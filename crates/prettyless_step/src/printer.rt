@@ -16,6 +16,8 @@ pub struct Printer<N> {
     pub commands: Stack<N>,
     /// The probe's own list of work, kept for its memory.
     pub scratch: Stack<N>,
+    /// What is left of a document that is laid as its texts, kept for its memory.
+    pub flat: Vec<N>,
     /// The line suffixes that were visited.
     pub queue: Queue<N>,
 }
@@ -27,6 +29,8 @@ pub enum Taken<'v, N> {
     Quiet,
     Next(usize, N),
     NextFlat(usize, N),
+    /// A node that is laid flat, as its texts.
+    NextTexts(usize, N),
     /// A node that does not fit its line when it is laid flat.
     NextPast(usize, N),
     Written(Piece<'v>),

@@ -1,13 +1,16 @@
 //! The probe: whether a node fits the line with what follows it.
-ghost use Rattle.std.specs.Prelude.{◌≡◌, ◌++◌, ◌∷◌, [], IfOk, OnOk, IfSome, MatchOption, List, false, ◌+◌, ◌<◌, ◌≤◌, ⊤, if◌then◌else◌};
-ghost use Rattle.prettyless_model.specs.Tree.{WeakLine, size};
+ghost use Rattle.std.specs.Prelude.{◌≡◌, ◌++◌, ◌∷◌, [], IfOk, OnOk, IfSome, MatchOption, List, false, true, IsTrue, ◌&&◌, ◌+◌, ◌<◌, ◌≤◌, if◌then◌else◌};
+ghost use Rattle.prettyless_model.specs.Tree.{Tree, WeakLine, size};
+ghost use Rattle.prettyless_model.specs.declared.mode.Mode.TheVariants.{Flat};
 ghost use Rattle.prettyless_model.specs.Column.{nested, padding_fits};
 ghost use Rattle.prettyless_model.specs.Look.{answer_of, by_mode, look, look_text, payload_begins};
 ghost use Rattle.prettyless_model.specs.Layout.{rest_fits};
-ghost use Rattle.prettyless_step.specs.declared.probe.Read.TheVariants.{Next};
-ghost use Rattle.prettyless_step.specs.Probing.{Few, ReadsAs, RisesBy, nodes_next, read_of};
+ghost use Rattle.prettyless_step.specs.declared.probe.Read.TheVariants.{Answer, Done, Next};
+ghost use Rattle.prettyless_step.specs.declared.probe.Fit.TheVariants.{AsTexts, Fits, Past};
+ghost use Rattle.prettyless_step.specs.Probing.{Few, ReadsAs, RisesBy, TextsAt, is_fit, nodes_next, read_in, read_of};
 ghost use Rattle.prettyless_step.specs.Sums.{IsSummed};
 ghost use Rattle.prettyless_step.specs.Stack.{AnswersAs, Reads, Task, follow, in_break, make_task, nodes, stack_of, task, tasks_fit, unread};
+ghost use Rattle.prettyless_step.specs.Texts.{IsTexts, TextsOnce};
 
 use crate::choice::{by_column, by_nesting, either};
 use crate::command::{Command, nested_indent};
@@ -28,20 +31,18 @@ pub struct Line {
     pub pending: bool,
 }
 
-// Reads content: an empty text is nothing, another commits the column.
+// Reads content: an empty text is nothing, another commits the column. The answer is whether the line stays within the width.
 #[inline(always)]
-fn read_content(width: usize, line: &mut Line, counted: usize, text: &str) -> Option<bool>
-    ensures { (ts : List Task) → AnswersAs result
-        (answer_of (look_text width counted text.now line.old.column line.old.pending) (λ c p. tasks_fit width ts c p))
-        (tasks_fit width ts line.new.column line.new.pending) }
+fn read_content(width: usize, line: &mut Line, counted: usize, text: &str) -> bool
+    ensures { (ts : List Task) →
+        answer_of (look_text width counted text.now line.old.column line.old.pending) (λ c p. tasks_fit width ts c p)
+        ≡ (result && tasks_fit width ts line.new.column line.new.pending) }
 {
-    if !text.is_empty() {
-        line.column = line.column.committed(counted);
-        if line.column.position > width {
-            return Some(false);
-        }
+    if text.is_empty() {
+        return true;
     }
-    None
+    line.column = line.column.committed(counted);
+    line.column.position <= width
 }
 
 // Reads a payload, which ends the line: with its first part, in Break, and not at all when flat.
@@ -102,6 +103,18 @@ fn answered<N>(answer: Option<bool>) -> Read<N>
     }
 }
 
+// A line that stays within the width, or none.
+#[inline(always)]
+fn done<N>(within: bool) -> Read<N>
+    ensures { result ≡ if within then Done else Answer false }
+{
+    if within {
+        Read::Done
+    } else {
+        Read::Answer(false)
+    }
+}
+
 // Goes on with the document of a nesting.
 #[inline(always)]
 fn read_nested<N>(indent: usize, offset: isize, mode: Mode, inner: N) -> Read<N>
@@ -138,8 +151,8 @@ pub(crate) fn probe_one<N: Walk>(
     match node.view() {
         View::Nil => Ok(Read::Done),
         View::Fail => Ok(Read::Answer(false)),
-        View::Text(s) => Ok(answered(read_content(width, line, s.len(), s))),
-        View::TextWithLen(counted, s) => Ok(answered(read_content(width, line, counted, s))),
+        View::Text(s) => Ok(done(read_content(width, line, s.len(), s))),
+        View::TextWithLen(counted, s) => Ok(done(read_content(width, line, counted, s))),
         View::MultilineText(_, metrics) => Ok(Read::Answer(read_payload(
             width, line, mode, metrics,
         ))),
@@ -183,34 +196,181 @@ pub(crate) fn probe_one<N: Walk>(
     }
 }
 
-// The next node that the probe looks at: one of its own, and then the printer's commands downwards, each in Break.
+// Looks at one node that probes seldom meet. It is not copied into their loop, which is shorter without it.
+#[inline(never)]
+fn read_other<N: Walk>(
+    width: usize,
+    line: &mut Line,
+    indent: usize,
+    mode: Mode,
+    node: N,
+    stack: &mut Stack<N>,
+) -> Result<Read<N>, AllocError>
+    ensures answer { IfOk result (λ a. (ts : List Task) → ReadsAs N.tree width a
+        (tasks_fit width (make_task indent mode (N.tree node) ∷ (stack_of N.tree stack.old ++ ts)) line.old.column line.old.pending)
+        (stack_of N.tree stack.new ++ ts) line.new.column line.new.pending) }
+    ensures smaller { IfOk result (λ a.
+        nodes_next N.tree a + nodes (stack_of N.tree stack.new) < size (N.tree node) + nodes (stack_of N.tree stack.old)) }
+{
+    probe_one(width, line, indent, mode, node, stack)
+}
+
+/// What a probe comes to at one node, where the topmost frame of its stack is that of the node it looks at.
+#[derive(Clone, Copy)]
+enum Seen<N> {
+    /// Whether the line stays within the width.
+    Answer(bool),
+    /// A node of the topmost frame.
+    Next(N),
+    Done,
+}
+
+// Whether lines are flat in a mode.
+#[inline(always)]
+fn is_flat(mode: Mode) -> bool
+    ensures { result ≡ by_mode mode false true }
+{
+    match mode {
+        Mode::Break => false,
+        Mode::Flat => true,
+    }
+}
+
+// Whether all that was met flat is texts, with a node that is none and is met in a mode.
+#[inline(always)]
+fn with_other(is_texts: bool, mode: Mode) -> bool
+    ensures { result ≡ by_mode mode is_texts false }
+{
+    match mode {
+        Mode::Break => is_texts,
+        Mode::Flat => false,
+    }
+}
+
+// Looks at one node that probes seldom meet. One that is met flat is no text. The line is copied, so that its own place may be a register.
+#[inline(always)]
+fn visit_other<N: Walk>(
+    width: usize,
+    line: &mut Line,
+    node: N,
+    stack: &mut Stack<N>,
+    is_texts: &mut bool,
+) -> Result<Seen<N>, AllocError>
+    ensures answer { IfOk result (λ a. (ts : List Task) → ReadsAs N.tree width (read_in stack.new a)
+        (tasks_fit width (make_task stack.old.here.indent stack.old.here.mode (N.tree node) ∷ (stack_of N.tree stack.old ++ ts)) line.old.column line.old.pending)
+        (stack_of N.tree stack.new ++ ts) line.new.column line.new.pending) }
+    ensures smaller { IfOk result (λ a.
+        nodes_next N.tree (read_in stack.new a) + nodes (stack_of N.tree stack.new) < size (N.tree node) + nodes (stack_of N.tree stack.old)) }
+    ensures texts { IfOk result (λ a. IsTrue is_texts.new → IsTrue is_texts.old × ((d : Tree)
+        → TextsOnce d (make_task stack.old.here.indent stack.old.here.mode (N.tree node) ∷ stack_of N.tree stack.old)
+        → TextsAt N.tree d (read_in stack.new a) (stack_of N.tree stack.new))) }
+{
+    let mut other = *line;
+    let indent = stack.indent_in();
+    let mode = stack.mode_in();
+    let read = read_other(width, &mut other, indent, mode, node, stack)?;
+    *line = other;
+    *is_texts = with_other(*is_texts, mode);
+    match read {
+        Read::Answer(answer) => Ok(Seen::Answer(answer)),
+        Read::Next(next_indent, next_mode, next) => {
+            stack.enter(next_indent, next_mode)?;
+            Ok(Seen::Next(next))
+        }
+        Read::Done => Ok(Seen::Done),
+    }
+}
+
+// Looks at one node, of the indent and the mode of the topmost frame.
+#[inline(always)]
+fn visit_one<N: Walk>(
+    width: usize,
+    line: &mut Line,
+    node: N,
+    stack: &mut Stack<N>,
+    is_texts: &mut bool,
+) -> Result<Seen<N>, AllocError>
+    ensures answer { IfOk result (λ a. (ts : List Task) → ReadsAs N.tree width (read_in stack.new a)
+        (tasks_fit width (make_task stack.old.here.indent stack.old.here.mode (N.tree node) ∷ (stack_of N.tree stack.old ++ ts)) line.old.column line.old.pending)
+        (stack_of N.tree stack.new ++ ts) line.new.column line.new.pending) }
+    ensures smaller { IfOk result (λ a.
+        nodes_next N.tree (read_in stack.new a) + nodes (stack_of N.tree stack.new) < size (N.tree node) + nodes (stack_of N.tree stack.old)) }
+    ensures texts { IfOk result (λ a. IsTrue is_texts.new → IsTrue is_texts.old × ((d : Tree)
+        → TextsOnce d (make_task stack.old.here.indent stack.old.here.mode (N.tree node) ∷ stack_of N.tree stack.old)
+        → TextsAt N.tree d (read_in stack.new a) (stack_of N.tree stack.new))) }
+{
+    match node.view() {
+        View::Append(first, second) => {
+            stack.push_in(second)?;
+            Ok(Seen::Next(first))
+        }
+        View::Text(s) => {
+            if read_content(width, line, s.len(), s) {
+                Ok(Seen::Done)
+            } else {
+                Ok(Seen::Answer(false))
+            }
+        }
+        View::BreakOrFlat(broken, flat) => Ok(Seen::Next(either(stack.mode_in(), broken, flat))),
+        View::Nest(offset, inner) => {
+            stack.enter(nested_indent(stack.indent_in(), offset), stack.mode_in())?;
+            Ok(Seen::Next(inner))
+        }
+        View::Group(inner) => Ok(Seen::Next(inner)),
+        View::HardLine => Ok(Seen::Answer(read_line_end(width, line, stack.mode_in()))),
+        View::Nil => Ok(Seen::Done),
+        _ => visit_other(width, line, node, stack, is_texts),
+    }
+}
+
+// The next node that the probe looks at: one of its own, and then the printer's commands downwards, each in Break. The topmost frame
+// of its stack is that of this node then.
 #[inline(always)]
 #[tactic(auto, using(crate::proofs::Stacks::below_steps))]
 fn next_unread<N: Walk>(
     commands: &Stack<N>,
     below: &mut Cursor,
     stack: &mut Stack<N>,
-) -> Option<Command<N>>
+) -> Result<Option<N>, AllocError>
     requires { Reads commands.now below.old }
     ensures of_this { Reads commands.now below.new }
-    ensures ahead { MatchOption result
+    ensures ahead { IfOk result (λ o. MatchOption o
         (stack_of N.tree stack.old ++ in_break (unread N.tree commands.now below.old) ≡ [])
-        (λ c. stack_of N.tree stack.old ++ in_break (unread N.tree commands.now below.old)
-        ≡ task N.tree c ∷ (stack_of N.tree stack.new ++ in_break (unread N.tree commands.now below.new))) }
-    ensures left { IfSome result
-        (λ c. nodes (stack_of N.tree stack.old) + nodes (unread N.tree commands.now below.old)
-        ≡ size (N.tree c.node) + (nodes (stack_of N.tree stack.new) + nodes (unread N.tree commands.now below.new))) }
-    ensures own_first { MatchOption result (nodes (stack_of N.tree stack.old) ≡ 0) (λ _. ⊤) }
+        (λ n. stack_of N.tree stack.old ++ in_break (unread N.tree commands.now below.old)
+        ≡ make_task stack.new.here.indent stack.new.here.mode (N.tree n) ∷ (stack_of N.tree stack.new ++ in_break (unread N.tree commands.now below.new)))) }
+    ensures left { IfOk result (λ o. IfSome o
+        (λ n. nodes (stack_of N.tree stack.old) + nodes (unread N.tree commands.now below.old)
+        ≡ size (N.tree n) + (nodes (stack_of N.tree stack.new) + nodes (unread N.tree commands.now below.new)))) }
+    ensures texts { IfOk result (λ o. (d : Tree) → TextsOnce d (stack_of N.tree stack.old)
+        → MatchOption o (IsTexts d) (λ n. TextsOnce d (make_task stack.new.here.indent stack.new.here.mode (N.tree n) ∷ stack_of N.tree stack.new))) }
 {
-    if let Some(next) = stack.pop() {
-        return Some(next);
+    if let Some(next) = stack.pop_in() {
+        return Ok(Some(next));
     }
-    let next = commands.read_down(below)?;
-    Some(Command {
-        indent: next.indent,
-        mode: Mode::Break,
-        node: next.node,
-    })
+    let Some(next) = commands.read_down(below) else {
+        return Ok(None);
+    };
+    stack.enter(next.indent, Mode::Break)?;
+    Ok(Some(next.node))
+}
+
+/// What a probe finds of a node: it goes past the width, it stays within the width, or it does and is its texts where it is laid flat.
+#[derive(Clone, Copy)]
+pub enum Fit {
+    Past,
+    Fits,
+    AsTexts,
+}
+
+// What is found of a node that fits or not, and is its texts or not.
+#[inline(always)]
+fn found(fits: bool, is_texts: bool) -> Fit
+    ensures { result ≡ if fits then (if is_texts then AsTexts else Fits) else Past }
+{
+    if !fits {
+        return Fit::Past;
+    }
+    if is_texts { Fit::AsTexts } else { Fit::Fits }
 }
 
 // Visits a node, what is on the stack, and then the printer's commands downwards, up to an answer. Each node is counted in `probes`.
@@ -224,10 +384,11 @@ fn visit_all<N: Walk>(
     cursor: Cursor,
     stack: &mut Stack<N>,
     probes: &mut u64,
-) -> Result<bool, AllocError>
+) -> Result<Fit, AllocError>
     requires { Reads commands.now cursor }
     ensures answer { IfOk result
-        (λ r. r ≡ tasks_fit width (task N.tree first ∷ (stack_of N.tree stack.old ++ in_break (unread N.tree commands.now cursor))) start.column start.pending) }
+        (λ r. is_fit r ≡ tasks_fit width (task N.tree first ∷ (stack_of N.tree stack.old ++ in_break (unread N.tree commands.now cursor))) start.column start.pending) }
+    ensures texts { IfOk result (λ r. r ≡ AsTexts → stack_of N.tree stack.old ≡ [] → (first.mode ≡ Flat) × IsTexts (N.tree first.node)) }
     ensures rises { probes.old ≤ probes.new }
     ensures counted { probes.new
         ≤ probes.old + (size (N.tree first.node) + (nodes (stack_of N.tree stack.old) + nodes (unread N.tree commands.now cursor))) }
@@ -235,25 +396,21 @@ fn visit_all<N: Walk>(
 {
     let mut line = start;
     let mut below = cursor;
-    let mut indent = first.indent;
-    let mut mode = first.mode;
     let mut node = first.node;
+    let mut is_texts = is_flat(first.mode);
+    stack.enter(first.indent, first.mode)?;
     'read: loop {
         *probes = one_more(*probes);
-        match probe_one(width, &mut line, indent, mode, node, stack)? {
-            Read::Answer(answer) => return Ok(answer),
-            Read::Next(next_indent, next_mode, next) => {
-                indent = next_indent;
-                mode = next_mode;
+        match visit_one(width, &mut line, node, stack, &mut is_texts)? {
+            Seen::Answer(answer) => return Ok(found(answer, is_texts)),
+            Seen::Next(next) => {
                 node = next;
             }
-            Read::Done => {
-                let Some(next) = next_unread(commands, &mut below, stack) else {
-                    return Ok(line.column.padding_fits(width, line.pending));
+            Seen::Done => {
+                let Some(next) = next_unread(commands, &mut below, stack)? else {
+                    return Ok(found(line.column.padding_fits(width, line.pending), is_texts));
                 };
-                indent = next.indent;
-                mode = next.mode;
-                node = next.node;
+                node = next;
             }
         }
     }
@@ -272,11 +429,12 @@ pub fn probe<N: Walk>(
     commands: &Stack<N>,
     stack: &mut Stack<N>,
     probes: &mut u64,
-) -> Result<bool, AllocError>
+) -> Result<Fit, AllocError>
     requires { IsSummed N.HAS_SUMMARIES N.tree commands.now }
     ensures answer { IfOk result
-        (λ r. r ≡ answer_of (look width (N.tree node) indent mode start.column start.pending)
+        (λ r. is_fit r ≡ answer_of (look width (N.tree node) indent mode start.column start.pending)
         (λ c p. rest_fits width (follow (stack_of N.tree commands.now)) c p)) }
+    ensures texts { IfOk result (λ r. r ≡ AsTexts → (mode ≡ Flat) × IsTexts (N.tree node)) }
     ensures rises { probes.old ≤ probes.new }
     ensures counted { probes.new ≤ probes.old + (size (N.tree node) + nodes (stack_of N.tree commands.now)) }
     ensures asked { OnOk result (RisesBy 1 probes.old probes.new) }
@@ -286,7 +444,11 @@ pub fn probe<N: Walk>(
     let first = Command { indent, mode, node };
     let below = commands.cursor();
     if N::has_summaries() && width <= u32::MAX as usize {
-        return visit_by_sums(width, start, first, commands, below, stack, probes);
+        let fits = visit_by_sums(width, start, first, commands, below, stack, probes)?;
+        return Ok(found(fits, false));
     }
-    visit_all(width, start, first, commands, below, stack, probes)
+    let mut count = *probes;
+    let fit = visit_all(width, start, first, commands, below, stack, &mut count);
+    *probes = count;
+    fit
 }

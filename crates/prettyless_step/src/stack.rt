@@ -94,7 +94,8 @@ impl<N: Walk> Stack<N> {
         }
     }
 
-    // Opens a frame above the topmost one.
+    // Opens a frame above the topmost one. It is not copied into the loops, which seldom come to it.
+    #[inline(never)]
     fn open(&mut self, indent: usize, mode: Mode) -> Result<(), AllocError>
         requires { self.old.here.below < vec_len self.old.nodes }
         ensures same { OnOk result (stack_of N.tree self.new ≡ stack_of N.tree self.old) }
@@ -155,11 +156,56 @@ impl<N: Walk> Stack<N> {
         Ok(())
     }
 
-    // Puts a node on top, in the topmost frame.
+    /// The indent of the topmost frame.
     #[inline(always)]
-    fn push_here(&mut self, node: N) -> Result<(), AllocError>
+    pub fn indent_in(&self) -> usize
+        ensures { result ≡ self.now.here.indent }
+    {
+        self.here.indent
+    }
+
+    /// The mode of the topmost frame.
+    #[inline(always)]
+    pub fn mode_in(&self) -> Mode
+        ensures { result ≡ self.now.here.mode }
+    {
+        self.here.mode
+    }
+
+    // Makes the topmost frame one of another indent and mode: it opens one, or changes the topmost one if that has no node.
+    #[inline(always)]
+    fn change(&mut self, indent: usize, mode: Mode) -> Result<(), AllocError>
+        ensures same { OnOk result (stack_of N.tree self.new ≡ stack_of N.tree self.old) }
+        ensures entered { OnOk result ((self.new.here.indent ≡ indent) × (self.new.here.mode ≡ mode)) }
+        ensures summed { OnOk result (IsSummed N.HAS_SUMMARIES N.tree self.old → IsSummed N.HAS_SUMMARIES N.tree self.new) }
+    {
+        if self.here.below < self.nodes.len() {
+            return self.open(indent, mode);
+        }
+        self.here.indent = indent;
+        self.here.mode = mode;
+        Ok(())
+    }
+
+    /// Makes the topmost frame one of this indent and mode.
+    #[inline(always)]
+    pub fn enter(&mut self, indent: usize, mode: Mode) -> Result<(), AllocError>
+        ensures same { OnOk result (stack_of N.tree self.new ≡ stack_of N.tree self.old) }
+        ensures entered { OnOk result ((self.new.here.indent ≡ indent) × (self.new.here.mode ≡ mode)) }
+        ensures summed { OnOk result (IsSummed N.HAS_SUMMARIES N.tree self.old → IsSummed N.HAS_SUMMARIES N.tree self.new) }
+    {
+        if self.here.below < self.nodes.len() && self.shares(indent, mode) {
+            return Ok(());
+        }
+        self.change(indent, mode)
+    }
+
+    /// Puts a node on top, in the topmost frame.
+    #[inline(always)]
+    pub fn push_in(&mut self, node: N) -> Result<(), AllocError>
         ensures pushed { OnOk result (stack_of N.tree self.new
             ≡ make_task self.old.here.indent self.old.here.mode (N.tree node) ∷ stack_of N.tree self.old) }
+        ensures here { OnOk result (self.new.here ≡ self.old.here) }
         ensures summed { OnOk result (IsSummed N.HAS_SUMMARIES N.tree self.old → IsSummed N.HAS_SUMMARIES N.tree self.new) }
     {
         self.push_sum(&node)?;
@@ -168,17 +214,13 @@ impl<N: Walk> Stack<N> {
     }
 
     // Puts a node on top, in a frame of its own. It takes the place of the topmost one, if that has no node.
+    #[inline(never)]
     fn push_framed(&mut self, indent: usize, mode: Mode, node: N) -> Result<(), AllocError>
         ensures pushed { OnOk result (stack_of N.tree self.new ≡ make_task indent mode (N.tree node) ∷ stack_of N.tree self.old) }
         ensures summed { OnOk result (IsSummed N.HAS_SUMMARIES N.tree self.old → IsSummed N.HAS_SUMMARIES N.tree self.new) }
     {
-        if self.here.below < self.nodes.len() {
-            self.open(indent, mode)?;
-            return self.push_here(node);
-        }
-        self.here.indent = indent;
-        self.here.mode = mode;
-        self.push_here(node)
+        self.change(indent, mode)?;
+        self.push_in(node)
     }
 
     /// Puts a node on top.
@@ -188,7 +230,7 @@ impl<N: Walk> Stack<N> {
         ensures summed { OnOk result (IsSummed N.HAS_SUMMARIES N.tree self.old → IsSummed N.HAS_SUMMARIES N.tree self.new) }
     {
         if self.shares(indent, mode) {
-            return self.push_here(node);
+            return self.push_in(node);
         }
         self.push_framed(indent, mode, node)
     }
@@ -224,26 +266,48 @@ impl<N: Walk> Stack<N> {
         }
     }
 
-    // Takes the node on top, if it is in the topmost frame.
+    // Takes the node on top, which is in the topmost frame.
     #[inline(always)]
-    fn pop_here(&mut self) -> Option<Command<N>>
-        ensures popped { MatchOption result
-            ((self.old.here.below ≡ vec_len self.old.nodes) × (self.new ≡ self.old))
-            (λ c. stack_of N.tree self.old ≡ task N.tree c ∷ stack_of N.tree self.new) }
+    fn take_here(&mut self) -> N
+        requires { self.old.here.below < vec_len self.old.nodes }
+        ensures taken { stack_of N.tree self.old
+            ≡ make_task self.new.here.indent self.new.here.mode (N.tree result) ∷ stack_of N.tree self.new }
         ensures summed { IsSummed N.HAS_SUMMARIES N.tree self.old → IsSummed N.HAS_SUMMARIES N.tree self.new }
     {
-        if self.here.below == self.nodes.len() {
-            return None;
-        }
         let Some(node) = self.nodes.pop() else {
             unreachable!()
         };
         self.cut_sums();
-        Some(Command {
-            indent: self.here.indent,
-            mode: self.here.mode,
-            node,
-        })
+        node
+    }
+
+    // Takes the topmost frame off if it has no node. The answer is whether there is a node.
+    #[inline(always)]
+    fn reach_node(&mut self) -> bool
+        ensures same { stack_of N.tree self.new ≡ stack_of N.tree self.old }
+        ensures summed { IsSummed N.HAS_SUMMARIES N.tree self.old → IsSummed N.HAS_SUMMARIES N.tree self.new }
+        ensures more { IsTrue result → self.new.here.below < vec_len self.new.nodes }
+        ensures none { IsFalse result → stack_of N.tree self.new ≡ [] }
+    {
+        if self.here.below < self.nodes.len() {
+            return true;
+        }
+        self.leave()
+    }
+
+    /// Takes the node on top. Its indent and its mode are those of the topmost frame then.
+    #[inline(always)]
+    pub fn pop_in(&mut self) -> Option<N>
+        ensures popped { MatchOption result
+            ((stack_of N.tree self.old ≡ []) × (stack_of N.tree self.new ≡ []))
+            (λ n. stack_of N.tree self.old ≡ make_task self.new.here.indent self.new.here.mode (N.tree n) ∷ stack_of N.tree self.new) }
+        ensures summed { IsSummed N.HAS_SUMMARIES N.tree self.old → IsSummed N.HAS_SUMMARIES N.tree self.new }
+    {
+        if self.reach_node() {
+            Some(self.take_here())
+        } else {
+            None
+        }
     }
 
     /// Takes the node on top.
@@ -254,13 +318,12 @@ impl<N: Walk> Stack<N> {
             (λ c. stack_of N.tree self.old ≡ task N.tree c ∷ stack_of N.tree self.new) }
         ensures summed { IsSummed N.HAS_SUMMARIES N.tree self.old → IsSummed N.HAS_SUMMARIES N.tree self.new }
     {
-        if let Some(next) = self.pop_here() {
-            return Some(next);
-        }
-        if !self.leave() {
-            return None;
-        }
-        self.pop_here()
+        let node = self.pop_in()?;
+        Some(Command {
+            indent: self.here.indent,
+            mode: self.here.mode,
+            node,
+        })
     }
 
     /// Puts nodes on top, so that the first of them is the next one.

@@ -11,7 +11,9 @@ ghost use Rattle.prettyless_step.specs.Steps.{Move, at_once, break_step, counted
 ghost use Rattle.prettyless_step.specs.Piece.{piece_bytes};
 ghost use Rattle.prettyless_step.specs.declared.printer.Taken.TheVariants.{Next, NextPast};
 ghost use Rattle.prettyless_step.specs.Printing.{IsPast, Shows, Writes, following, state_of, tasks_of};
-ghost use Rattle.prettyless_step.specs.Probing.{Few, RisesBy, asked};
+ghost use Rattle.prettyless_step.specs.Probing.{Few, RisesBy, asked, is_fit};
+ghost use Rattle.prettyless_step.specs.Texts.{IsTexts};
+ghost use Rattle.prettyless_step.specs.declared.probe.Fit.TheVariants.{AsTexts};
 ghost use Rattle.prettyless_step.specs.Sums.{IsSummed};
 
 use crate::choice::{by_column, by_nesting, either};
@@ -20,7 +22,7 @@ use crate::content::{payload_fits, put_payload, put_text};
 use crate::pending::{is_pending, take_pending};
 use crate::piece::Piece;
 use crate::printer::{Printer, Taken};
-use crate::probe::{Line, probe};
+use crate::probe::{Fit, Line, probe};
 use crate::walk::{View, Walk};
 use prettyless_model::column::Column;
 use prettyless_model::mode::Mode;
@@ -37,10 +39,11 @@ fn probe_here<N: Walk>(
     indent: usize,
     mode: Mode,
     probes: &mut u64,
-) -> Result<bool, AllocError>
+) -> Result<Fit, AllocError>
     requires { IsSummed N.HAS_SUMMARIES N.tree printer.old.commands }
-    ensures answer { IfOk result (λ fit. fit ≡ probe_of printer.old.options (N.tree node) indent mode
+    ensures answer { IfOk result (λ fit. is_fit fit ≡ probe_of printer.old.options (N.tree node) indent mode
         (following N.tree printer.old) (state_of N.tree printer.old)) }
+    ensures texts { IfOk result (λ fit. fit ≡ AsTexts → (mode ≡ Flat) × IsTexts (N.tree node)) }
     ensures others { printer.new ≡ record printer.old { scratch = printer.new.scratch } }
     ensures rises { probes.old ≤ probes.new }
     ensures counted { probes.new ≤ probes.old + (size (N.tree node) + nodes (tasks_of N.tree printer.old)) }
@@ -86,8 +89,10 @@ fn partial_choice<N: Walk>(
     if let Mode::Flat = mode {
         return Ok(first);
     }
-    let fits = probe_here(printer, first, indent, Mode::Break, probes)?;
-    Ok(if fits { first } else { second })
+    match probe_here(printer, first, indent, Mode::Break, probes)? {
+        Fit::Past => Ok(second),
+        Fit::Fits | Fit::AsTexts => Ok(first),
+    }
 }
 
 // What decides between the branches of a union before one is laid: the metrics of a first one that is a payload.
@@ -218,8 +223,14 @@ fn group<N: Walk>(
             *probes = one_more(*probes);
             return Ok(Taken::NextPast(indent, inner));
         }
-        if !probe_here(printer, inner, indent, Mode::Flat, probes)? {
-            return Ok(Taken::NextPast(indent, inner));
+        match probe_here(printer, inner, indent, Mode::Flat, probes)? {
+            Fit::Past => return Ok(Taken::NextPast(indent, inner)),
+            // A break alone is laid as soon by the printer's own loop.
+            Fit::AsTexts => match inner.view() {
+                View::BreakOrFlat(_, _) => return Ok(Taken::NextFlat(indent, inner)),
+                _ => return Ok(Taken::NextTexts(indent, inner)),
+            },
+            Fit::Fits => return Ok(Taken::NextFlat(indent, inner)),
         }
     }
     Ok(Taken::NextFlat(indent, inner))

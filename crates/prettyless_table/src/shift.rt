@@ -166,6 +166,7 @@ pub fn placed_printer<'t, N: Walk>(
         within: printer.within,
         commands: placed_commands(alloc, table, &places.commands)?,
         scratch: Stack::new(alloc),
+        flat: Vec::new(alloc),
         queue: placed_queue(alloc, table, &places.queue, &printer.queue)?,
     })
 }

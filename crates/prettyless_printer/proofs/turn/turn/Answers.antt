@@ -1,14 +1,19 @@
-use Rattle.std.proofs.Common.{[], length, ap, append-nil, arith, refl, sym}
+use Rattle.std.proofs.Common.{[], Result, subst, length, ap, append-nil, arith, refl, sym}
 use Rattle.prettyless_sink.specs.Sink.{known}
 use Rattle.prettyless_model.specs.declared.mode.Mode.TheVariants.{Flat}
-use Rattle.prettyless_step.specs.Stack.{task}
+use Rattle.prettyless_step.specs.Stack.{stack_of, task, trees}
+use Rattle.prettyless_step.specs.declared.queue.Queue.{Queue}
 use Rattle.prettyless_step.specs.Piece.{piece_bytes}
 use Rattle.prettyless_step.specs.declared.printer.Taken.TheVariants as taken
+use Rattle.prettyless_sink.specs.declared.error.RenderError.{RenderError}
+use Rattle.prettyless_printer.specs.Turns.{Advances}
+use Rattle.prettyless_printer.specs.Laying.{went}
 use Rattle.prettyless_printer.specs.Points.{point, seen, standing}
 use Rattle.prettyless_printer.proofs.Trying.{grows_same}
 use Rattle.prettyless_printer.proofs.Hands.{goes_down, in_hand, shown, visit}
 use Rattle.prettyless_printer.proofs.Standings.{wrote}
 use Rattle.prettyless_printer.proofs.Spending.{spends_all, spends_begun, spends_broke, spends_chosen, spends_down, spends_failed, spends_stopped, spends_went, takes}
+use Rattle.prettyless_printer.proofs.Laying.{laying_begins, spends_laid}
 use Rattle.prettyless_printer.proofs.Advancing.{advances_chosen, advances_failed, advances_refused, advances_sink_failed, advances_went}
 use Rattle.prettyless_printer.proofs.turn.turn.Goals as goal
 
@@ -72,6 +77,68 @@ down-preserved g c =
       spends = λ plain. spends_down f c.down.printer q c.in-Ok-NextFlat.next_indent Flat c.in-Ok-NextFlat.next took plain c.step.ensures.queue (shown f c.down.printer q c.in-Ok-NextFlat.field-0 (taken.NextFlat c.in-Ok-NextFlat.next_indent c.in-Ok-NextFlat.next) hand c.in-Ok-NextFlat.field-0-is c.in-Ok-NextFlat.ensures.step);
       past = λ h. absurd (cc);
     }
+
+pub returns-in-Ok-lay_texts-clause-advances : goal.returns-in-Ok-lay_texts-clause-advances
+returns-in-Ok-lay_texts-clause-advances g c =
+    let f = g.N.Walk.tree in
+    let see = seen g.W.Render.bytes g.W.Render.failures g.W.Render.lender in
+    let q = c.step.new.printer in
+    let x = c.step.new.visits in
+    let i = c.in-Ok-NextTexts.field-0-0 in
+    let n = c.in-Ok-NextTexts.next in
+    let hand = c.down.invariant.hand in
+    let one = visit f c.down.printer x c.one_more-visits.result hand c.one_more-visits.ensures.one c.one_more-visits.ensures.rises c.step.ensures.printer c.step.ensures.rises c.step.ensures.counted in
+    subst (λ (z : Result (Unit {0}) (RenderError g.row.W-Error.Denot)). Advances f (point f c.args.printer.now (see c.args.out.now) c.args.visits.now)
+    (point f c.lay_texts.new.printer (see c.lay_texts.new.out) c.lay_texts.new.visits) (went z)) c.in-Ok-lay_texts.is
+    (c.lay_texts.ensures.lays _ i
+    (laying_begins f c.down.printer q x i n hand one c.in-Ok-NextTexts.ensures.asked (shown f c.down.printer q c.in-Ok-NextTexts.field-0 (taken.NextTexts i n) hand c.in-Ok-NextTexts.field-0-is c.in-Ok-NextTexts.ensures.step).0))
+
+pub returns-in-Ok-lay_texts-clause-spends : goal.returns-in-Ok-lay_texts-clause-spends
+returns-in-Ok-lay_texts-clause-spends g c =
+    let f = g.N.Walk.tree in
+    let q = c.step.new.printer in
+    let x = c.step.new.visits in
+    let i = c.in-Ok-NextTexts.field-0-0 in
+    let n = c.in-Ok-NextTexts.next in
+    let laid = c.lay_texts.ensures in
+    let hand = c.down.invariant.hand in
+    let one = visit f c.down.printer x c.one_more-visits.result hand c.one_more-visits.ensures.one c.one_more-visits.ensures.rises c.step.ensures.printer c.step.ensures.rises c.step.ensures.counted in
+    let took = takes f g.N.Walk.HAS_SUMMARIES c.args.limit c.down.printer x hand one (c.if-has_to_stop.ensures.within refl) c.step.ensures.counted c.step.ensures.few c.down.invariant.spends in
+    λ plain.
+    (spends_laid (standing f q) (standing f c.lay_texts.new.printer) c.lay_texts.new.visits (ap (stack_of f) laid.commands) (ap (λ (z : Queue g.row.N.Denot). trees f z.nodes.items) laid.queue) laid.probes laid.rises laid.counted
+    (spends_down f c.down.printer q i Flat n took plain c.step.ensures.queue
+    (shown f c.down.printer q c.in-Ok-NextTexts.field-0 (taken.NextTexts i n) hand c.in-Ok-NextTexts.field-0-is c.in-Ok-NextTexts.ensures.step).0))
+
+pub returns-in-Err-lay_texts-clause-advances : goal.returns-in-Err-lay_texts-clause-advances
+returns-in-Err-lay_texts-clause-advances g c =
+    let f = g.N.Walk.tree in
+    let see = seen g.W.Render.bytes g.W.Render.failures g.W.Render.lender in
+    let q = c.step.new.printer in
+    let x = c.step.new.visits in
+    let i = c.in-Ok-NextTexts.field-0-0 in
+    let n = c.in-Ok-NextTexts.next in
+    let hand = c.down.invariant.hand in
+    let one = visit f c.down.printer x c.one_more-visits.result hand c.one_more-visits.ensures.one c.one_more-visits.ensures.rises c.step.ensures.printer c.step.ensures.rises c.step.ensures.counted in
+    subst (λ (z : Result (Unit {0}) (RenderError g.row.W-Error.Denot)). Advances f (point f c.args.printer.now (see c.args.out.now) c.args.visits.now)
+    (point f c.lay_texts.new.printer (see c.lay_texts.new.out) c.lay_texts.new.visits) (went z)) c.in-Err-lay_texts.is
+    (c.lay_texts.ensures.lays _ i
+    (laying_begins f c.down.printer q x i n hand one c.in-Ok-NextTexts.ensures.asked (shown f c.down.printer q c.in-Ok-NextTexts.field-0 (taken.NextTexts i n) hand c.in-Ok-NextTexts.field-0-is c.in-Ok-NextTexts.ensures.step).0))
+
+pub returns-in-Err-lay_texts-clause-spends : goal.returns-in-Err-lay_texts-clause-spends
+returns-in-Err-lay_texts-clause-spends g c =
+    let f = g.N.Walk.tree in
+    let q = c.step.new.printer in
+    let x = c.step.new.visits in
+    let i = c.in-Ok-NextTexts.field-0-0 in
+    let n = c.in-Ok-NextTexts.next in
+    let laid = c.lay_texts.ensures in
+    let hand = c.down.invariant.hand in
+    let one = visit f c.down.printer x c.one_more-visits.result hand c.one_more-visits.ensures.one c.one_more-visits.ensures.rises c.step.ensures.printer c.step.ensures.rises c.step.ensures.counted in
+    let took = takes f g.N.Walk.HAS_SUMMARIES c.args.limit c.down.printer x hand one (c.if-has_to_stop.ensures.within refl) c.step.ensures.counted c.step.ensures.few c.down.invariant.spends in
+    λ plain.
+    spends_all (spends_laid (standing f q) (standing f c.lay_texts.new.printer) c.lay_texts.new.visits (ap (stack_of f) laid.commands) (ap (λ (z : Queue g.row.N.Denot). trees f z.nodes.items) laid.queue) laid.probes laid.rises laid.counted
+    (spends_down f c.down.printer q i Flat n took plain c.step.ensures.queue
+    (shown f c.down.printer q c.in-Ok-NextTexts.field-0 (taken.NextTexts i n) hand c.in-Ok-NextTexts.field-0-is c.in-Ok-NextTexts.ensures.step).0))
 
 pub returns-in-Ok-Quiet-clause-advances : goal.returns-in-Ok-Quiet-clause-advances
 returns-in-Ok-Quiet-clause-advances g c =

@@ -18,3 +18,13 @@ returns-then-width-clause-few g c narrow all =
     let long = long_all has (length s.sums.items) (length s.nodes.items) all.summaries c.requires.long in
     c.visit_by_sums.ensures.few c.clear.ensures (omega (arith, ap length same, length-stack_of f s, long)) narrow
     (subst (λ (ts : List Task). AllSummed has (f c.args.node) ts) (sym same) all)
+
+pub returns-in_err-fits-clause-few : goal.returns-in_err-fits-clause-few
+returns-in_err-fits-clause-few g c narrow all =
+    let f = g.N.Walk.tree in
+    let has = g.N.Walk.HAS_SUMMARIES in
+    let s = c.args.commands.now in
+    let same = c.cursor-below.ensures.unread in
+    let long = long_all has (length s.sums.items) (length s.nodes.items) all.summaries c.requires.long in
+    c.visit_by_sums.ensures.few c.clear.ensures (omega (arith, ap length same, length-stack_of f s, long)) narrow
+    (subst (λ (ts : List Task). AllSummed has (f c.args.node) ts) (sym same) all)

@@ -3,7 +3,7 @@ use Rattle.prettyless_step.specs.Stack.{Task, make_task, stack_of}
 use Rattle.prettyless_step.specs.Sums.{AreSums}
 use Rattle.prettyless_step.proofs.Stacks.{tasks_last}
 use Rattle.prettyless_step.proofs.Sums.{long_push}
-use Rattle.prettyless_step.proofs.stack.Stack.push_here.Goals as goal
+use Rattle.prettyless_step.proofs.stack.Stack.push_in.Goals as goal
 
 pub returns-clause-pushed : goal.returns-clause-pushed
 returns-clause-pushed g c =

@@ -1,0 +1,579 @@
+-- A document that is laid as its texts: how its nodes lead on, and how the turn ends.
+use Rattle.std.proofs.Common.{◌≡◌, ◌==◌, ℕ, ℤ, ◌^◌, ◌+◌, ◌≤◌, ◌<◌, ◌&&◌, nat_le, Bool, true, false, List, [], ◌∷◌, ◌++◌, length, refl, ap, sym, ◌∙◌, append-nil, arith, subst, Ok, Err, length-append, reverse}
+use Rattle.std.proofs.lemmas.List.{reverse-append}
+use Rattle.prettyless_sink.specs.Sink.{Accepts, IfKnown, Refuses, known, rise}
+use Rattle.prettyless_sink.specs.declared.error.RenderError.TheVariants.{Sink, Memory}
+use Rattle.prettyless_sink.specs.declared.visits.Visits.{Visits}
+use Rattle.prettyless_model.specs.declared.options.RenderOptions.{RenderOptions}
+use Rattle.prettyless_model.specs.declared.mode.Mode.TheVariants.{Flat}
+use Rattle.prettyless_model.specs.Tree.{Tree, Nil, Text, Append, Nest, Group, BreakOrFlat, size}
+use Rattle.prettyless_model.specs.Column.{gap, nested, prospective, saturating_add}
+use Rattle.prettyless_model.specs.Spaces.{spaces}
+use Rattle.prettyless_model.specs.Layout.{State}
+use Rattle.prettyless_model.specs.Counts.{each_probe}
+use Rattle.prettyless_step.specs.Stack.{Task, make_task, nodes, trees}
+use Rattle.prettyless_step.specs.Texts.{IsTexts}
+use Rattle.prettyless_step.specs.Probing.{RisesBy}
+use Rattle.prettyless_step.specs.Sums.{HaveSummaries}
+use Rattle.prettyless_step.specs.Printing.{Hands}
+use Rattle.prettyless_step.specs.declared.printer.Printer.{Printer}
+use Rattle.prettyless_step.proofs.Shown.{step_at, Leads}
+use Rattle.prettyless_step.proofs.Queues.{trees-append}
+use Rattle.prettyless_printer.specs.Points.{Grows, Standing, standing, state_at, Seen, Point, point_at, point}
+use Rattle.prettyless_printer.specs.Progress.{Inside}
+use Rattle.prettyless_printer.specs.Turns.{Advances, ForWholes}
+use Rattle.prettyless_printer.specs.Visits.{CountsAtMost, Plain, Rise}
+use Rattle.prettyless_printer.specs.AtLeast.{CountsAtLeast, stack_tally, tally_above}
+use Rattle.prettyless_printer.specs.Laying.{Laying, Lays, flat_tasks, laid_to, left_trees}
+use Rattle.prettyless_printer.specs.Spending.{Left, Rule, Spends, left}
+use Rattle.prettyless_printer.specs.declared.answer.Turn.TheVariants as turn
+use Rattle.prettyless_printer.proofs.Spending.{left_with, spends_then}
+use Rattle.prettyless_printer.proofs.Hands.{InHand, Visit, goes_down}
+use Rattle.prettyless_printer.proofs.Standings.{put_in_hand, step_from}
+use Rattle.prettyless_printer.proofs.Progresses.{inside_beginning}
+use Rattle.prettyless_printer.proofs.Trying.{grows-grows}
+use Rattle.prettyless_printer.proofs.Turnings.{lessens, sink_broke, went}
+use Rattle.prettyless_printer.proofs.Visits.{OneMore, at_most_all, at_most_then, failed_at_most, rise_then, went_at_most}
+use Rattle.prettyless_printer.proofs.AtLeast.{OneLaid, at_least_then, went_at_least}
+
+-- A task that asks no probe was visited, once.
+pub record Once (t : Task) (v x : Visits) : Type 0 where
+  pub least : rise v.printer ≤ x.printer
+  pub rises : v.printer ≤ x.printer
+  pub most : x.printer ≤ v.printer + 1
+  pub probes : x.probes ≡ v.probes
+  pub asks : each_probe t.tree t.mode ≡ 0
+
+once_more : (o : RenderOptions) (t : Task) (ts : List Task) (st : State) (v x : Visits) → Once t v x → OneMore o t ts st v x
+once_more o t ts st v x h = record { printer = omega (arith, h.most); probes = omega (arith, h.probes) }
+
+once_laid : (t : Task) (v x : Visits) → Once t v x → OneLaid t v x
+once_laid t v x h = record { printer = h.least; probes = omega (arith, h.probes, h.asks) }
+
+once_rise : {t : Task} {v x : Visits} → Once t v x → Rise v x
+once_rise {t} {v} {x} h = record { printer = h.rises; probes = omega (arith, h.probes) }
+
+-- The step of the first of the tasks above the stack: it writes bytes and leads to these ones.
+pub record Writes (a : Point) (t : Task) (us : List Task) (b : Point) (vs : List Task) (q : Standing) (bytes : List ℕ) : Type 0 where
+  pub tasks : q.tasks ≡ b.printer.tasks
+  pub options : q.options ≡ b.printer.options
+  pub grows : Grows b.printer q
+  pub leads : Leads (step_at a.printer.options t (us ++ b.printer.tasks) (state_at b.printer)) (us ++ b.printer.tasks) bytes (vs ++ b.printer.tasks) (state_at q)
+  pub fewer : nodes vs + 1 ≤ size t.tree + nodes us
+
+-- below the tasks in hand are no fewer than below the next task where the turn began
+below_long : (us ts : List Task) (n m : ℕ) → n < m → m ≤ length ts + 1 → n ≤ length (us ++ ts)
+below_long us ts n m l h = omega (arith, l, h, length-append us ts)
+
+-- the first of the tasks above the stack is laid
+pub laying_step : {a : Point} {t : Task} {us : List Task} {b : Point} (vs : List Task) (q : Standing) (s : Seen) (x : Visits) (bytes : List ℕ) → Laying a (t ∷ us) b → Once t b.visits x →
+    Writes a t us b vs q bytes → s.lender ≡ b.sink.lender → Accepts b.sink.bytes s.bytes bytes b.sink.failures s.failures → Laying a vs (point_at q s x)
+laying_step {a} {t} {us} {b} vs q s x bytes h once w lender accepts =
+    let o = a.printer.options in
+    let ts : List Task = us ++ b.printer.tasks in
+    let st = state_at b.printer in
+    let u = state_at q in
+    let new : List Task = vs ++ b.printer.tasks in
+    let old : List Task = t ∷ ts in
+    let more = once_more o t ts st b.visits x once in
+    let goal : Laying a vs (record (point_at q s x) { printer = record q { tasks = b.printer.tasks } }) = record {
+      options = w.options ∙ h.options;
+      grows = grows-grows a.printer b.printer q h.grows w.grows;
+      same_lender = lender ∙ h.same_lender;
+      long = h.long;
+      less = omega (arith, h.less, lessens o t ts new st u bytes w.leads);
+      bytes = λ is_known.
+          let y = h.bytes is_known in
+          let z = accepts y.0 in (
+            z.0,
+            (
+              λ whole limit below before l m.
+                  subst (λ (k : List ℕ). Inside o whole limit below before new u k) (sym z.1.0)
+                  (went o whole limit below before t ts new st u (known b.sink.bytes) bytes (below_long us b.printer.tasks (length below) (length a.printer.tasks) l h.long) (y.1.0 whole limit below before l m) w.leads),
+              z.1.1 ∙ y.1.1,
+            ),
+          );
+      least = omega (arith, h.least, once.rises);
+      rise = rise_then h.rise (once_rise once);
+      most = omega (arith, h.most, once.most, w.fewer);
+      at_most = λ plain.
+          let y = h.at_most plain in
+          let z = went_at_most o t ts new st u bytes b.visits x more y.0 w.leads in
+          (z.0, at_most_then y.1 z.1);
+      at_least = λ j l. at_least_then (h.at_least j l)
+          (went_at_least o j t ts new st u bytes b.visits x (once_laid t b.visits x once) (below_long us b.printer.tasks j (length a.printer.tasks) l h.long) w.leads);
+    } in
+    subst (λ (k : List Task). Laying a vs (point_at (record q { tasks = k }) s x)) (sym w.tasks) goal
+
+-- all of it is laid
+pub laying_done : {N E : Type 0} (f : N → Tree) {a b : Point} → Laying a [] b → Advances {N = N} {E = E} f a b (Ok turn.Went)
+laying_done {N} {E} f {a} {b} h = record {
+  options = h.options;
+  grows = h.grows;
+  lessens = h.less;
+  same_lender = h.same_lender;
+  bytes = h.bytes;
+  least = h.least;
+  most = omega (arith, h.most);
+  rise = h.rise;
+  at_most = λ plain.
+      let y = h.at_most plain in
+      (record { none = y.0.0; pending = y.0.1 }, y.1);
+  at_least = λ n l.
+      subst (λ (o : RenderOptions). CountsAtLeast (stack_tally a.printer n) (tally_above o n b.printer.tasks (state_at b.printer)) a.visits b.visits) (sym h.options) (h.at_least n l);
+}
+
+-- what broke off at a task has counted no more than the tasks allow
+laying_broke : {a : Point} {t : Task} {us : List Task} {b : Point} {x : Visits} → Laying a (t ∷ us) b → Once t b.visits x → Plain a.printer → CountsAtMost a.printer.tasks [] a.visits x
+laying_broke {a} {t} {us} {b} {x} h once plain =
+    let ts : List Task = us ++ b.printer.tasks in
+    let st = state_at b.printer in
+    at_most_all (at_most_then (h.at_most plain).1 (failed_at_most a.printer.options t ts st b.visits x (once_more a.printer.options t ts st b.visits x once)))
+
+-- the sink failed in the bytes of a text
+pub laying_sink_failed : {N E : Type 0} (f : N → Tree) {a : Point} {t : Task} {us : List Task} {b : Point} (vs : List Task) (p q : Standing) (s : Seen) (x : Visits) (bytes : List ℕ) (e : E) → Laying a (t ∷ us) b →
+    Once t b.visits x → Writes a t us b vs q bytes → 1 ≤ size t.tree → s.lender ≡ b.sink.lender → Refuses b.sink.bytes s.bytes bytes b.sink.failures s.failures →
+    Advances {N = N} {E = E} f a (point_at p s x) (Err (Sink e))
+laying_sink_failed {N} {E} f {a} {t} {us} {b} vs p q s x bytes e h once w size_1 lender refused =
+    let o = a.printer.options in
+    let ts : List Task = us ++ b.printer.tasks in
+    let new : List Task = vs ++ b.printer.tasks in
+    let st = state_at b.printer in
+    record {
+      options = tt;
+      grows = tt;
+      lessens = tt;
+      same_lender = lender ∙ h.same_lender;
+      bytes = λ is_known.
+          let y = h.bytes is_known in
+          let z = refused y.0 in (
+            z.0,
+            (
+              λ whole limit below old l m.
+                  sink_broke o whole limit below old t ts new st (state_at q) (known b.sink.bytes) bytes (known s.bytes) (below_long us b.printer.tasks (length below) (length a.printer.tasks) l h.long) (y.1.0 whole limit below old l m) w.leads z.1.0,
+              z.1.1 ∙ ap rise y.1.1,
+            ),
+          );
+      least = omega (arith, h.least, once.rises);
+      most = omega (arith, h.most, once.most, size_1);
+      rise = rise_then h.rise (once_rise once);
+      at_most = λ plain. laying_broke h once plain;
+      at_least = tt;
+    }
+
+-- memory was refused at a task
+pub laying_refused : {N E : Type 0} (f : N → Tree) {a : Point} {t : Task} {us : List Task} {b : Point} (p : Standing) (x : Visits) (e : _) → Laying a (t ∷ us) b → Once t b.visits x → 1 ≤ size t.tree →
+    Advances {N = N} {E = E} f a (point_at p b.sink x) (Err (Memory e))
+laying_refused {N} {E} f {a} {t} {us} {b} p x e h once size_1 = record {
+  options = tt;
+  grows = tt;
+  lessens = tt;
+  same_lender = h.same_lender;
+  bytes = λ is_known.
+      let y = h.bytes is_known in (
+        y.0,
+        (
+          λ whole limit below old l m. inside_beginning a.printer.options whole limit below old (t ∷ us ++ b.printer.tasks) (state_at b.printer) (known b.sink.bytes) (y.1.0 whole limit below old l m),
+          y.1.1,
+        ),
+      );
+  least = (rise_then h.rise (once_rise once)).printer;
+  most = omega (arith, h.most, once.most, size_1);
+  rise = rise_then h.rise (once_rise once);
+  at_most = λ plain. laying_broke h once plain;
+  at_least = tt;
+}
+
+-- a step led to the document
+pub laying_begins : {N : Type 0} (f : N → Tree) {a : Point} {t : Task} {s : Seen} {v : Visits} (p q : Printer N) (x : Visits) (i : ℕ) (n : N) → InHand a t (point f p s v) → Visit a.printer.options t (point f p s v) x →
+    RisesBy (each_probe t.tree t.mode) v.probes x.probes → Hands f i Flat n (step_from a.printer.options t (standing f p)) p q → Laying a (make_task i Flat (f n) ∷ []) (point f q s x)
+laying_begins {N} f {a} {t} {s} {v} p q x i n h one probes shows =
+    let b = point f p s v in
+    let c = standing f q in
+    let o = a.printer.options in
+    let ts : List Task = b.printer.tasks in
+    let us : List Task = make_task i Flat (f n) ∷ c.tasks in
+    let g = goes_down f p q x i Flat n h one probes shows in
+    let k = put_in_hand f i Flat n (step_at o t ts (state_at b.printer)) p q shows in
+    record {
+      options = g.options;
+      grows = g.grows;
+      same_lender = ap (λ (z : Seen). z.lender) g.sink;
+      long = g.long;
+      less = omega (arith, h.less, lessens o t ts us (state_at b.printer) (state_at c) [] k.leads);
+      bytes = λ is_known.
+          subst (λ (z : Seen). IfKnown a.sink.bytes z.bytes (λ out new.
+          ForWholes a.printer out (λ whole limit below old. Inside o whole limit below old us (state_at c) new) × (z.failures ≡ a.sink.failures)))
+          (sym g.sink) (λ y. (y, (g.inside (known a.sink.bytes), refl))) is_known;
+      least = omega (arith, h.rise.printer, one.least);
+      rise = g.rise;
+      most = omega (arith, g.most);
+      at_most = g.at_most;
+      at_least = g.at_least;
+    }
+
+-- no document is no task
+none_left : (is : List ℕ) → flat_tasks is [] ≡ []
+none_left [] = refl
+none_left (i ∷ is) = refl
+
+-- the first of documents that are each flat at some indent
+record Head (d : Tree) (ds : List Tree) (is : List ℕ) : Type 0 where
+  at : ℕ
+  others : List ℕ
+  is_it : flat_tasks is (d ∷ ds) ≡ make_task at Flat d ∷ flat_tasks others ds
+
+head : (d : Tree) (ds : List Tree) (is : List ℕ) → Head d ds is
+head d ds [] = record { at = 0; others = []; is_it = refl }
+head d ds (i ∷ is) = record { at = i; others = is; is_it = refl }
+
+-- the steps of the first document: it puts some in its place, each flat, and writes nothing
+laying_leads : {a : Point} {i : ℕ} {d : Tree} {us : List Task} {b : Point} (vs : List Task) (x : Visits) → Laying a (make_task i Flat d ∷ us) b → Once (make_task i Flat d) b.visits x →
+    Leads (step_at a.printer.options (make_task i Flat d) (us ++ b.printer.tasks) (state_at b.printer)) (us ++ b.printer.tasks) [] (vs ++ b.printer.tasks) (state_at b.printer) → nodes vs + 1 ≤ size d + nodes us →
+    Laying a vs (point_at b.printer b.sink x)
+laying_leads {a} {i} {d} {us} {b} vs x h once leads fewer =
+    laying_step vs b.printer b.sink x [] h once (record { tasks = refl; options = refl; grows = ([], sym (append-nil b.printer.queue)); leads = leads; fewer = fewer }) refl
+    (λ is_known. (is_known, (sym (append-nil (known b.sink.bytes)), refl)))
+
+-- one document after another
+pub lays_append : {a : Point} {b : Point} (l r : Tree) (ds : List Tree) (x : Visits) → Lays a (Append l r ∷ ds) b → ((i : ℕ) → Once (make_task i Flat (Append l r)) b.visits x) → Lays a (l ∷ r ∷ ds) (point_at b.printer b.sink x)
+lays_append {a} {b} l r ds x h once =
+    let k = head (Append l r) ds h.0 in (
+      k.at ∷ k.at ∷ k.others,
+      laying_leads (make_task k.at Flat l ∷ make_task k.at Flat r ∷ flat_tasks k.others ds) x (subst (λ (us : List Task). Laying a us b) k.is_it h.1) (once k.at) (refl, refl, refl) (omega arith),
+    )
+
+-- a document in the place of another one
+pub lays_nest : {a : Point} {b : Point} (k : ℤ) (d : Tree) (ds : List Tree) (x : Visits) → Lays a (Nest k d ∷ ds) b → ((i : ℕ) → Once (make_task i Flat (Nest k d)) b.visits x) → Lays a (d ∷ ds) (point_at b.printer b.sink x)
+lays_nest {a} {b} k d ds x h once =
+    let z = head (Nest k d) ds h.0 in (
+      nested z.at k ∷ z.others,
+      laying_leads (make_task (nested z.at k) Flat d ∷ flat_tasks z.others ds) x (subst (λ (us : List Task). Laying a us b) z.is_it h.1) (once z.at) (refl, refl, refl) (omega arith),
+    )
+
+pub lays_group : {a : Point} {b : Point} (d : Tree) (ds : List Tree) (x : Visits) → Lays a (Group d ∷ ds) b → ((i : ℕ) → Once (make_task i Flat (Group d)) b.visits x) → Lays a (d ∷ ds) (point_at b.printer b.sink x)
+lays_group {a} {b} d ds x h once =
+    let z = head (Group d) ds h.0 in (
+      z.at ∷ z.others,
+      laying_leads (make_task z.at Flat d ∷ flat_tasks z.others ds) x (subst (λ (us : List Task). Laying a us b) z.is_it h.1) (once z.at) (refl, refl, refl) (omega arith),
+    )
+
+pub lays_either : {a : Point} {b : Point} (c d : Tree) (ds : List Tree) (x : Visits) → Lays a (BreakOrFlat c d ∷ ds) b → ((i : ℕ) → Once (make_task i Flat (BreakOrFlat c d)) b.visits x) → Lays a (d ∷ ds) (point_at b.printer b.sink x)
+lays_either {a} {b} c d ds x h once =
+    let z = head (BreakOrFlat c d) ds h.0 in (
+      z.at ∷ z.others,
+      laying_leads (make_task z.at Flat d ∷ flat_tasks z.others ds) x (subst (λ (us : List Task). Laying a us b) z.is_it h.1) (once z.at) (refl, refl, refl) (omega arith),
+    )
+
+-- nothing
+pub lays_nil : {a : Point} {b : Point} (ds : List Tree) (x : Visits) → Lays a (Nil ∷ ds) b → ((i : ℕ) → Once (make_task i Flat Nil) b.visits x) → Lays a ds (point_at b.printer b.sink x)
+lays_nil {a} {b} ds x h once =
+    let z = head Nil ds h.0 in
+    (z.others, laying_leads (flat_tasks z.others ds) x (subst (λ (us : List Task). Laying a us b) z.is_it h.1) (once z.at) (refl, refl, refl) (omega arith))
+
+pub lays_empty : {a : Point} {b : Point} (s : List ℕ) (ds : List Tree) (x : Visits) → s ≡ [] → Lays a (Text s ∷ ds) b → ((i : ℕ) → Once (make_task i Flat (Text s)) b.visits x) → Lays a ds (point_at b.printer b.sink x)
+lays_empty {a} {b} [] ds x e h once =
+    let z = head (Text []) ds h.0 in
+    (z.others, laying_leads (flat_tasks z.others ds) x (subst (λ (us : List Task). Laying a us b) z.is_it h.1) (once z.at) (refl, refl, refl) (omega arith))
+lays_empty {a} {b} (c ∷ cs) ds x e h once = absurd (cc)
+
+-- How a text is laid where a printer stands: after so many spaces, from a position on.
+abbrev pub Spot : Standing → Bool → ℕ → ℕ → Type 0
+Spot p false gap position = (gap ≡ Rattle.prettyless_model.specs.Column.gap p.column) × (position ≡ prospective p.column)
+Spot p true gap position = (gap ≡ 0) × (position < 2 ^ 64)
+
+within_less : (w : Bool) (n m width : ℕ) → n ≤ m → (w && nat_le m width) ≡ ((w && nat_le n width) && nat_le m width)
+within_less false n m width l = refl
+within_less true n m width l = grind (arith)
+
+text_leads : (o : RenderOptions) (p : Standing) (w : Bool) (g position : ℕ) (s : List ℕ) (i : ℕ) (ts : List Task) → o ≡ p.options → 0 < length s → Spot p w g position →
+    Leads (step_at o (make_task i Flat (Text s)) ts (state_at (laid_to p w position))) ts (spaces g ++ s) ts (state_at (laid_to p true (saturating_add position (length s))))
+text_leads o p w g position [] i ts e l h = absurd (omega (arith, l))
+text_leads o p false g position (c ∷ cs) i ts e l h =
+    let s : List ℕ = c ∷ cs in (
+      ap (λ (k : ℕ). spaces k ++ s) h.0,
+      refl,
+      λ j. record {
+        column = record { position = saturating_add (h.1 j) (length s); indent = 0; padding = 0; fresh = false };
+        pending = (state_at p).pending;
+        within = p.within && nat_le (saturating_add (h.1 j) (length s)) (sym e j).width;
+      },
+    )
+text_leads o p true g position (c ∷ cs) i ts e l h =
+    let s : List ℕ = c ∷ cs in
+    let at : position ≡ prospective (record { position = position; indent = 0; padding = 0; fresh = false }) = omega (arith, h.1) in
+    let after = saturating_add position (length s) in
+    let less : position ≤ after = omega (arith, h.1) in
+    let first = p.within && nat_le position p.options.width in
+    let stays : (p.within && nat_le after p.options.width) ≡ (first && nat_le after p.options.width) = within_less p.within position after p.options.width less in
+    let moved = ap (λ (k : ℕ). first && nat_le (saturating_add k (length s)) p.options.width) at in
+    let opted = ap (λ (z : RenderOptions). first && nat_le (saturating_add (prospective (record { position = position; indent = 0; padding = 0; fresh = false })) (length s)) z.width) (sym e) in
+    let within_is = stays ∙ moved ∙ opted in (
+      ap (λ (k : ℕ). spaces k ++ s) h.0,
+      refl,
+      λ j. record {
+        column = record { position = saturating_add (at j) (length s); indent = 0; padding = 0; fresh = false };
+        pending = (state_at p).pending;
+        within = within_is j;
+      },
+    )
+
+-- A text that is not empty is about to be laid, where texts were laid up to a position.
+pub record AtText (a : Point) (p : Standing) (w : Bool) (g position : ℕ) (s : List ℕ) (ds : List Tree) (sink : Seen) (v x : Visits) : Type 0 where
+  pub lays : Lays a (Text s ∷ ds) (point_at (laid_to p w position) sink v)
+  pub once : (i : ℕ) → Once (make_task i Flat (Text s)) v x
+  pub some : 0 < length s
+  pub spot : Spot p w g position
+  pub options : p.options ≡ a.printer.options
+
+stands_options : (p : Standing) (w : Bool) (position : ℕ) → (laid_to p w position).options ≡ p.options
+stands_options p false position = refl
+stands_options p true position = refl
+
+stands_tasks : (p : Standing) (w : Bool) (position : ℕ) → (laid_to p w position).tasks ≡ p.tasks
+stands_tasks p false position = refl
+stands_tasks p true position = refl
+
+stands_grows : (p : Standing) (w : Bool) (m n : ℕ) → Grows (laid_to p w m) (laid_to p true n)
+stands_grows p false m n = ([], sym (append-nil p.queue))
+stands_grows p true m n = ([], sym (append-nil p.queue))
+
+text_writes : (a : Point) (p : Standing) (w : Bool) (g position : ℕ) (s : List ℕ) (i : ℕ) (us : List Task) (sink : Seen) (v : Visits) → p.options ≡ a.printer.options → 0 < length s → Spot p w g position →
+    Writes a (make_task i Flat (Text s)) us (point_at (laid_to p w position) sink v) us (laid_to p true (saturating_add position (length s))) (spaces g ++ s)
+text_writes a p w g position s i us sink v e l h = record {
+  tasks = sym (stands_tasks p w position);
+  options = sym (stands_options p w position);
+  grows = stands_grows p w position (saturating_add position (length s));
+  leads = text_leads a.printer.options p w g position s i (us ++ (laid_to p w position).tasks) (sym e) l h;
+  fewer = omega arith;
+}
+
+-- it is written
+pub lays_text : {a : Point} {p : Standing} {w : Bool} {g position : ℕ} {s : List ℕ} {ds : List Tree} {sink : Seen} {v x : Visits} (t : Seen) → AtText a p w g position s ds sink v x → t.lender ≡ sink.lender →
+    Accepts sink.bytes t.bytes (spaces g ++ s) sink.failures t.failures → Lays a ds (point_at (laid_to p true (saturating_add position (length s))) t x)
+lays_text {a} {p} {w} {g} {position} {s} {ds} {sink} {v} {x} t h lender accepts =
+    let b = point_at (laid_to p w position) sink v in
+    let z = head (Text s) ds h.lays.0 in
+    let us : List Task = flat_tasks z.others ds in (
+      z.others,
+      laying_step us (laid_to p true (saturating_add position (length s))) t x (spaces g ++ s) (subst (λ (k : List Task). Laying a k b) z.is_it h.lays.1) (h.once z.at)
+          (text_writes a p w g position s z.at us sink v h.options h.some h.spot) lender accepts,
+    )
+
+-- the sink failed in it
+pub lays_text_failed : {N E : Type 0} (f : N → Tree) {a : Point} {p : Standing} {w : Bool} {g position : ℕ} {s : List ℕ} {ds : List Tree} {sink : Seen} {v x : Visits} (q : Standing) (t : Seen) (e : E) → AtText a p w g position s ds sink v x →
+    t.lender ≡ sink.lender → Refuses sink.bytes t.bytes (spaces g ++ s) sink.failures t.failures → Advances {N = N} {E = E} f a (point_at q t x) (Err (Sink e))
+lays_text_failed {N} {E} f {a} {p} {w} {g} {position} {s} {ds} {sink} {v} {x} q t e h lender refused =
+    let b = point_at (laid_to p w position) sink v in
+    let z = head (Text s) ds h.lays.0 in
+    let us : List Task = flat_tasks z.others ds in
+    laying_sink_failed f us q (laid_to p true (saturating_add position (length s))) t x (spaces g ++ s) e (subst (λ (k : List Task). Laying a k b) z.is_it h.lays.1) (h.once z.at)
+    (text_writes a p w g position s z.at us sink v h.options h.some h.spot) (omega arith) lender refused
+
+-- memory was refused at the first document
+pub lays_refused : {N E : Type 0} (f : N → Tree) {a b : Point} (d : Tree) (ds : List Tree) (p : Standing) (x : Visits) (e : _) → Lays a (d ∷ ds) b → ((i : ℕ) → Once (make_task i Flat d) b.visits x) → 1 ≤ size d →
+    Advances {N = N} {E = E} f a (point_at p b.sink x) (Err (Memory e))
+lays_refused {N} {E} f {a} {b} d ds p x e h once size_1 =
+    let z = head d ds h.0 in
+    laying_refused f p x e (subst (λ (k : List Task). Laying a k b) z.is_it h.1) (once z.at) size_1
+
+-- no document is left
+pub lays_done : {N E : Type 0} (f : N → Tree) {a b : Point} → Lays a [] b → Advances {N = N} {E = E} f a b (Ok turn.Went)
+lays_done {N} {E} f {a} {b} h = laying_done f (subst (λ (k : List Task). Laying a k b) (none_left h.0) h.1)
+
+-- each document is its texts
+abbrev pub AllTexts : List Tree → Type 0
+AllTexts [] = Unit {0}
+AllTexts (d ∷ ds) = IsTexts d × AllTexts ds
+
+-- how many nodes documents have
+abbrev pub sizes : List Tree → ℕ
+sizes [] = 0
+sizes (d ∷ ds) = size d + sizes ds
+
+-- a node more was counted
+pub record OneNode (count n : ℕ) : Type 0 where
+  pub one : n ≡ rise count
+  pub rises : count ≤ n
+  pub at_most : n ≤ count + 1
+
+-- Where the laying of a first document has come, with documents that are left.
+pub record Laid (first : Tree) (b : Point) (ds : List Tree) (w : Bool) (g position : ℕ) (sink : Seen) (count : ℕ) : Type 0 where
+  pub lays : (a : Point) (i : ℕ) → Laying a (make_task i Flat first ∷ []) b → Lays a ds (point_at (laid_to b.printer w position) sink (record b.visits { printer = count }))
+  pub texts : AllTexts ds
+  pub spot : Spot b.printer w g position
+  pub rises : b.visits.printer ≤ count
+  pub counted : count + sizes ds ≤ b.visits.printer + size first
+
+once_at : (d : Tree) (v : Visits) {count n : ℕ} → OneNode count n → each_probe d Flat ≡ 0 → (i : ℕ) → Once (make_task i Flat d) (record v { printer = count }) (record v { printer = n })
+once_at d v {count} {n} h e i = record { least = omega (arith, h.one); rises = h.rises; most = h.at_most; probes = refl; asks = e }
+
+-- the same, where it is named otherwise
+pub left_at : {first : Tree} {b : Point} {ds : List Tree} {w w' : Bool} {g g' position position' : ℕ} {sink sink' : Seen} {count : ℕ} → w ≡ w' → g ≡ g' → position ≡ position' → sink ≡ sink' →
+    Laid first b ds w' g' position' sink' count → Laid first b ds w g position sink count
+left_at {first} {b} {ds} {w} {w'} {g} {g'} {position} {position'} {sink} {sink'} {count} e h k m laid =
+    subst (λ (z : Bool). Laid first b ds z g position sink count) (sym e)
+    (subst (λ (z : ℕ). Laid first b ds w' z position sink count) (sym h)
+    (subst (λ (z : ℕ). Laid first b ds w' g' z sink count) (sym k) (subst (λ (z : Seen). Laid first b ds w' g' position' z count) (sym m) laid)))
+
+-- it begins
+pub left_begins : {first : Tree} {b : Point} {ds : List Tree} {g position : ℕ} → ds ≡ [] → g ≡ gap b.printer.column → position ≡ prospective b.printer.column → IsTexts first →
+    Laid first b (first ∷ ds) false g position b.sink b.visits.printer
+left_begins {first} {b} {ds} {g} {position} none e h texts =
+    subst (λ (z : List Tree). Laid first b (first ∷ z) false g position b.sink b.visits.printer) (sym none)
+    (record {
+      lays = λ a i m. (i ∷ [], m);
+      texts = (texts, tt);
+      spot = (e, h);
+      rises = omega arith;
+      counted = omega arith;
+    })
+
+pub left_append : {first : Tree} {b : Point} {d : Tree} {ds : List Tree} {w : Bool} {g position : ℕ} {sink : Seen} {count n : ℕ} (l r : Tree) → Append l r ≡ d → OneNode count n →
+    Laid first b (d ∷ ds) w g position sink count → Laid first b (l ∷ r ∷ ds) w g position sink n
+left_append {first} {b} {d} {ds} {w} {g} {position} {sink} {count} {n} l r e one h =
+    let k : Laid first b (Append l r ∷ ds) w g position sink count = subst (λ (z : Tree). Laid first b (z ∷ ds) w g position sink count) (sym e) h in
+    record {
+      lays = λ a i m. lays_append l r ds (record b.visits { printer = n }) (k.lays a i m) (once_at (Append l r) b.visits one refl);
+      texts = (k.texts.0.0, (k.texts.0.1, k.texts.1));
+      spot = h.spot;
+      rises = omega (arith, h.rises, one.rises);
+      counted = omega (arith, k.counted, one.at_most);
+    }
+
+pub left_nest : {first : Tree} {b : Point} {d : Tree} {ds : List Tree} {w : Bool} {g position : ℕ} {sink : Seen} {count n : ℕ} (j : ℤ) (c : Tree) → Nest j c ≡ d → OneNode count n →
+    Laid first b (d ∷ ds) w g position sink count → Laid first b (c ∷ ds) w g position sink n
+left_nest {first} {b} {d} {ds} {w} {g} {position} {sink} {count} {n} j c e one h =
+    let k : Laid first b (Nest j c ∷ ds) w g position sink count = subst (λ (z : Tree). Laid first b (z ∷ ds) w g position sink count) (sym e) h in
+    record {
+      lays = λ a i m. lays_nest j c ds (record b.visits { printer = n }) (k.lays a i m) (once_at (Nest j c) b.visits one refl);
+      texts = (k.texts.0, k.texts.1);
+      spot = h.spot;
+      rises = omega (arith, h.rises, one.rises);
+      counted = omega (arith, k.counted, one.at_most);
+    }
+
+pub left_group : {first : Tree} {b : Point} {d : Tree} {ds : List Tree} {w : Bool} {g position : ℕ} {sink : Seen} {count n : ℕ} (c : Tree) → Group c ≡ d → OneNode count n →
+    Laid first b (d ∷ ds) w g position sink count → Laid first b (c ∷ ds) w g position sink n
+left_group {first} {b} {d} {ds} {w} {g} {position} {sink} {count} {n} c e one h =
+    let k : Laid first b (Group c ∷ ds) w g position sink count = subst (λ (z : Tree). Laid first b (z ∷ ds) w g position sink count) (sym e) h in
+    record {
+      lays = λ a i m. lays_group c ds (record b.visits { printer = n }) (k.lays a i m) (once_at (Group c) b.visits one refl);
+      texts = (k.texts.0, k.texts.1);
+      spot = h.spot;
+      rises = omega (arith, h.rises, one.rises);
+      counted = omega (arith, k.counted, one.at_most);
+    }
+
+pub left_either : {first : Tree} {b : Point} {d : Tree} {ds : List Tree} {w : Bool} {g position : ℕ} {sink : Seen} {count n : ℕ} (x c : Tree) → BreakOrFlat x c ≡ d → OneNode count n →
+    Laid first b (d ∷ ds) w g position sink count → Laid first b (c ∷ ds) w g position sink n
+left_either {first} {b} {d} {ds} {w} {g} {position} {sink} {count} {n} x c e one h =
+    let k : Laid first b (BreakOrFlat x c ∷ ds) w g position sink count = subst (λ (z : Tree). Laid first b (z ∷ ds) w g position sink count) (sym e) h in
+    record {
+      lays = λ a i m. lays_either x c ds (record b.visits { printer = n }) (k.lays a i m) (once_at (BreakOrFlat x c) b.visits one refl);
+      texts = (k.texts.0, k.texts.1);
+      spot = h.spot;
+      rises = omega (arith, h.rises, one.rises);
+      counted = omega (arith, k.counted, one.at_most);
+    }
+
+pub left_nil : {first : Tree} {b : Point} {d : Tree} {ds : List Tree} {w : Bool} {g position : ℕ} {sink : Seen} {count n : ℕ} → Nil ≡ d → OneNode count n →
+    Laid first b (d ∷ ds) w g position sink count → Laid first b ds w g position sink n
+left_nil {first} {b} {d} {ds} {w} {g} {position} {sink} {count} {n} e one h =
+    let k : Laid first b (Nil ∷ ds) w g position sink count = subst (λ (z : Tree). Laid first b (z ∷ ds) w g position sink count) (sym e) h in
+    record {
+      lays = λ a i m. lays_nil ds (record b.visits { printer = n }) (k.lays a i m) (once_at Nil b.visits one refl);
+      texts = k.texts.1;
+      spot = h.spot;
+      rises = omega (arith, h.rises, one.rises);
+      counted = omega (arith, k.counted, one.at_most);
+    }
+
+pub left_empty : {first : Tree} {b : Point} {d : Tree} {ds : List Tree} {w : Bool} {g position : ℕ} {sink : Seen} {count n : ℕ} (s : List ℕ) → s ≡ [] → Text s ≡ d → OneNode count n →
+    Laid first b (d ∷ ds) w g position sink count → Laid first b ds w g position sink n
+left_empty {first} {b} {d} {ds} {w} {g} {position} {sink} {count} {n} s empty e one h =
+    let k : Laid first b (Text s ∷ ds) w g position sink count = subst (λ (z : Tree). Laid first b (z ∷ ds) w g position sink count) (sym e) h in
+    record {
+      lays = λ a i m. lays_empty s ds (record b.visits { printer = n }) empty (k.lays a i m) (once_at (Text s) b.visits one refl);
+      texts = k.texts.1;
+      spot = h.spot;
+      rises = omega (arith, h.rises, one.rises);
+      counted = omega (arith, k.counted, one.at_most);
+    }
+
+-- a text that is not empty is next, in a turn that began at a point
+at_text : {first : Tree} {b : Point} {ds : List Tree} {w : Bool} {g position : ℕ} {sink : Seen} {count n : ℕ} (s : List ℕ) → 0 < length s → OneNode count n → Laid first b (Text s ∷ ds) w g position sink count →
+    (a : Point) (i : ℕ) → Laying a (make_task i Flat first ∷ []) b → AtText a b.printer w g position s ds sink (record b.visits { printer = count }) (record b.visits { printer = n })
+at_text {first} {b} {ds} {w} {g} {position} {sink} {count} {n} s some one h a i m = record {
+  lays = h.lays a i m;
+  once = once_at (Text s) b.visits one refl;
+  some = some;
+  spot = h.spot;
+  options = m.options;
+}
+
+pub left_text : {first : Tree} {b : Point} {d : Tree} {ds : List Tree} {w : Bool} {g position : ℕ} {sink : Seen} {count n : ℕ} (s : List ℕ) (t : Seen) → 0 < length s → Text s ≡ d → OneNode count n →
+    Laid first b (d ∷ ds) w g position sink count → t.lender ≡ sink.lender → Accepts sink.bytes t.bytes (spaces g ++ s) sink.failures t.failures →
+    Laid first b ds true 0 (saturating_add position (length s)) t n
+left_text {first} {b} {d} {ds} {w} {g} {position} {sink} {count} {n} s t some e one h lender accepts =
+    let k : Laid first b (Text s ∷ ds) w g position sink count = subst (λ (z : Tree). Laid first b (z ∷ ds) w g position sink count) (sym e) h in
+    record {
+      lays = λ a i m. lays_text t (at_text s some one k a i m) lender accepts;
+      texts = k.texts.1;
+      spot = (refl, omega arith);
+      rises = omega (arith, h.rises, one.rises);
+      counted = omega (arith, k.counted, one.at_most);
+    }
+
+-- the sink fails in it
+pub left_text_failed : {N E : Type 0} (f : N → Tree) {first : Tree} {b : Point} {d : Tree} {ds : List Tree} {w : Bool} {g position : ℕ} {sink : Seen} {count n : ℕ} (s : List ℕ) (q : Standing) (t : Seen) (x : Visits) (e : E) → 0 < length s →
+    Text s ≡ d → OneNode count n → Laid first b (d ∷ ds) w g position sink count → t.lender ≡ sink.lender → Refuses sink.bytes t.bytes (spaces g ++ s) sink.failures t.failures → x ≡ record b.visits { printer = n } →
+    (a : Point) (i : ℕ) → Laying a (make_task i Flat first ∷ []) b → Advances {N = N} {E = E} f a (point_at q t x) (Err (Sink e))
+left_text_failed {N} {E} f {first} {b} {d} {ds} {w} {g} {position} {sink} {count} {n} s q t x e some is one h lender refused same a i m =
+    let k : Laid first b (Text s ∷ ds) w g position sink count = subst (λ (z : Tree). Laid first b (z ∷ ds) w g position sink count) (sym is) h in
+    subst (λ (z : Visits). Advances {N = N} {E = E} f a (point_at q t z) (Err (Sink e))) (sym same) (lays_text_failed f q t e (at_text s some one k a i m) lender refused)
+
+-- memory is refused
+pub left_refused : {N E : Type 0} (f : N → Tree) {first : Tree} {b : Point} {d : Tree} {ds : List Tree} {w : Bool} {g position : ℕ} {sink : Seen} {count n : ℕ} (l r : Tree) (q : Standing) (x : Visits) (e : _) → Append l r ≡ d →
+    OneNode count n → Laid first b (d ∷ ds) w g position sink count → x ≡ record b.visits { printer = n } →
+    (a : Point) (i : ℕ) → Laying a (make_task i Flat first ∷ []) b → Advances {N = N} {E = E} f a (point_at q sink x) (Err (Memory e))
+left_refused {N} {E} f {first} {b} {d} {ds} {w} {g} {position} {sink} {count} {n} l r q x e is one h same a i m =
+    let k : Laid first b (Append l r ∷ ds) w g position sink count = subst (λ (z : Tree). Laid first b (z ∷ ds) w g position sink count) (sym is) h in
+    subst (λ (z : Visits). Advances {N = N} {E = E} f a (point_at q sink z) (Err (Memory e))) (sym same)
+    (lays_refused f (Append l r) ds q (record b.visits { printer = n }) e (k.lays a i m) (once_at (Append l r) b.visits one refl) (omega arith))
+
+-- nothing is left
+pub left_done : {N E : Type 0} (f : N → Tree) {first : Tree} {b : Point} {ds : List Tree} {w : Bool} {g position : ℕ} {sink : Seen} {count : ℕ} (q : Standing) (x : Visits) → ds ≡ [] → q ≡ laid_to b.printer w position →
+    x ≡ record b.visits { printer = count } → Laid first b ds w g position sink count →
+    (a : Point) (i : ℕ) → Laying a (make_task i Flat first ∷ []) b → Advances {N = N} {E = E} f a (point_at q sink x) (Ok turn.Went)
+left_done {N} {E} f {first} {b} {ds} {w} {g} {position} {sink} {count} q x none stands same h a i m =
+    subst (λ (z : Visits). Advances {N = N} {E = E} f a (point_at q sink z) (Ok turn.Went)) (sym same)
+    (subst (λ (z : Standing). Advances {N = N} {E = E} f a (point_at z sink (record b.visits { printer = count })) (Ok turn.Went)) (sym stands)
+    (lays_done f (subst (λ (z : List Tree). Lays a z (point_at (laid_to b.printer w position) sink (record b.visits { printer = count }))) none (h.lays a i m))))
+
+-- the last node comes first
+pub left_trees-push : {N : Type 0} (f : N → Tree) (ns : List N) (n : N) → left_trees f (ns ++ n ∷ []) ≡ f n ∷ left_trees f ns
+left_trees-push {N} f ns n = ap reverse (trees-append f ns (n ∷ [])) ∙ reverse-append (trees f ns) (f n ∷ [])
+
+-- whether a text is empty
+pub some_bytes : (b : Bool) (s : List ℕ) → b ≡ (length s == 0) → b ≡ false → 0 < length s
+some_bytes b [] e h = absurd (grind (arith))
+some_bytes b (c ∷ cs) e h = omega arith
+
+pub no_bytes : (b : Bool) (s : List ℕ) → b ≡ (length s == 0) → b ≡ true → s ≡ []
+no_bytes b [] e h = refl
+no_bytes b (c ∷ cs) e h = absurd (grind (arith))
+
+-- what is left after a document was laid as its texts
+pub spends_laid : {r : Rule} {a : Left} {t : Task} {v : Visits} (p q : Standing) (x : Visits) → q.tasks ≡ p.tasks → q.queue ≡ p.queue → x.probes ≡ v.probes → v.printer ≤ x.printer → x.printer ≤ v.printer + size t.tree →
+    Spends r a (left_with t p v) → Spends r a (left q [] x)
+spends_laid {r} {a} {t} {v} p q x tasks queue probes rises counted h =
+    spends_then h
+    (record {
+      nodes = omega (arith, ap nodes tasks);
+      printer = omega (arith, ap nodes tasks, counted);
+      queue = λ none. queue ∙ none;
+      capped = λ most l m. omega (arith, l, probes);
+      have = λ k. (subst HaveSummaries (sym tasks) k.0.1, tt);
+      few = λ is_true width small k. (0, omega (arith, probes), omega (arith, rises));
+    })

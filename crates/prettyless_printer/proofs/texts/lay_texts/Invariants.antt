@@ -1,0 +1,21 @@
+use Rattle.std.proofs.Common.{◌≡◌, ◌+◌, ◌∷◌}
+use Rattle.prettyless_model.specs.Tree.{size}
+use Rattle.prettyless_printer.specs.Points.{point, seen}
+use Rattle.prettyless_printer.specs.Laying.{left_trees}
+use Rattle.prettyless_printer.proofs.Laying.{Laid, sizes}
+use Rattle.prettyless_printer.proofs.texts.lay_texts.Given as goal
+
+abbrev pub invariant-nodes : goal.invariant-nodes
+invariant-nodes g l =
+    let f = g.N.Walk.tree in
+    let sink = seen g.W.Render.bytes g.W.Render.failures g.W.Render.lender in
+    record {
+      left : Laid (f l.fn.first) (point f l.fn.printer (sink l.fn.out) l.fn.visits) (f l.node ∷ left_trees f l.printer.flat.items) l.is_written l.gap l.position (sink l.out) l.count;
+      printer : l.printer ≡ record l.fn.printer { flat = l.printer.flat };
+      visits : l.visits ≡ l.fn.visits;
+    }
+
+abbrev pub decreases-nodes : goal.decreases-nodes
+decreases-nodes g l =
+    let f = g.N.Walk.tree in
+    size (f l.node) + sizes (left_trees f l.printer.flat.items)
