@@ -4,3 +4,4 @@ pub mod Cells
 pub mod Sharing
 pub mod Waits
 pub mod Shifting
+pub mod AtOnce

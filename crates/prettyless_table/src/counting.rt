@@ -1,18 +1,32 @@
 //! How many nodes documents have: counted before they are laid out, so that none is laid out in vain.
-ghost use Rattle.std.specs.Prelude.{◌≡◌, ◌+◌, ◌<◌, ◌≤◌, IfOk, MatchOption};
+ghost use Rattle.std.specs.Prelude.{◌≡◌, ◌+◌, ◌<◌, ◌≤◌, IfOk, MatchOption, if◌then◌else◌};
 ghost use Rattle.std.specs.List.{sum_by};
 ghost use Rattle.prettyless_model.specs.Tree.{size};
 ghost use Rattle.prettyless_step.specs.Stack.{nodes, stack_of};
+ghost use Rattle.prettyless_table.specs.Parts.{small};
 ghost use Rattle.prettyless_table.specs.Shift.{nodes_left};
 
-use crate::parts::{Parts, parts_below};
+use crate::parts::{Parts, is_leaf, parts_below};
 use prettyless_step::printer::Printer;
 use prettyless_step::stack::Stack;
 use prettyless_step::walk::Walk;
 use std::alloc::{AllocError, Global};
 
-// Counts nodes from one downwards, to its first part where it has two; the second one then waits. The answer is how much room is
-// left, and `None` where there is none for all of them.
+// How many nodes a small document has, and 0 for another one.
+#[inline(always)]
+fn count_small<N: Walk>(node: &N) -> usize
+    ensures { result ≡ (if small (N.tree node.now) then size (N.tree node.now) else 0) }
+{
+    match parts_below(node) {
+        Parts::None => 1,
+        Parts::One(inner) if is_leaf(&inner) => 2,
+        Parts::Two(first, second) if is_leaf(&first) && is_leaf(&second) => 3,
+        _ => 0,
+    }
+}
+
+// Counts nodes from one downwards, to its first part where it has two; the second one then waits, unless it is small. The answer is
+// how much room is left, and `None` where there is none for all of them.
 fn count_down<N: Walk>(
     node: N,
     room: usize,
@@ -31,7 +45,14 @@ fn count_down<N: Walk>(
             Parts::None => return Ok(Some(left)),
             Parts::One(inner) => next = inner,
             Parts::Two(first, second) => {
-                waiting.push(second)?;
+                let at_once = count_small(&second);
+                if at_once > left {
+                    return Ok(None);
+                }
+                if at_once == 0 {
+                    waiting.push(second)?;
+                }
+                left -= at_once;
                 next = first;
             }
         }
