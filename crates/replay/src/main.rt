@@ -1,9 +1,11 @@
 //! Lays out cases: `replay` reads a document and what is asked of its layout from each line of standard input, and
-//! answers with what comes of it on a line of standard output. `replay --help` writes the usage.
+//! answers with what comes of it on a line of standard output. `replay --random SEED COUNT` lays out cases that it makes.
+//! `replay --help` writes the usage.
 #![tactic(auto)]
 
 use prettyless::IoWrite;
 use replay_cases::outcome::Times;
+use replay_cases::random::first_other;
 use replay_cases::request::{Ending, Request, USAGE, requested};
 use replay_cases::run::run;
 use std::io::{BufReader, BufWriter, ErrorKind, Write};
@@ -30,10 +32,26 @@ fn answer_cases<R: AllocGlobal + Input + Print>(rt: &R, times: Times) -> io::Res
     out.flush()
 }
 
+// Lays random cases out, and says how many, or which of them comes out otherwise over a table.
+fn lay_out_random<R: AllocGlobal + Print>(rt: &R, seed: usize, count: usize) -> Result<(), Ending> {
+    match first_other(rt.alloc(), seed, count) {
+        Err(error) => Err(Ending::Failed(io::Error::from(error))),
+        Ok(None) => {
+            println!(rt; "{count} random cases")?;
+            Ok(())
+        }
+        Ok(Some(number)) => {
+            println!(rt; "error random case {number} of seed {seed}")?;
+            Err(Ending::Otherwise)
+        }
+    }
+}
+
 fn replay<R: AllocGlobal + Env + Input + Print>(rt: &R) -> Result<(), Ending> {
     match requested(&words(rt)?).ok_or(Ending::Words)? {
         Request::Replay => answer_cases(rt, Times::Once)?,
         Request::ReplayTwice => answer_cases(rt, Times::Twice)?,
+        Request::Random(seed, count) => lay_out_random(rt, seed, count)?,
         Request::Help => println!(rt; "{USAGE}")?,
     }
     Ok(())

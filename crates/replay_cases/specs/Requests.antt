@@ -1,24 +1,40 @@
 -- What the words of `replay` ask for, and how a run of it ends.
-use Rattle.std.specs.Prelude.{ℕ, List, [], ◌∷◌, String, string_bytes, codes, Option, Some, None, if◌then◌else◌}
+use Rattle.std.specs.Prelude.{◌≡◌, ℕ, List, [], ◌∷◌, String, string_bytes, codes, Option, Some, None, MatchBool, if◌then◌else◌}
 use Rattle.std.specs.Global.{Global}
 use Rattle.std.specs.Str.{bytes_eq}
 use Rattle.replay_cases.specs.declared.request.Request.{Request}
-use Rattle.replay_cases.specs.declared.request.Request.TheVariants.{Replay, ReplayTwice, Help}
+use Rattle.replay_cases.specs.declared.request.Request.TheVariants.{Replay, ReplayTwice, Random, Help}
+use Rattle.replay_cases.specs.Notation.{IsNumber}
 use Rattle.replay_cases.specs.declared.request.Ending.{Ending}
-use Rattle.replay_cases.specs.declared.request.Ending.TheVariants.{Words, Failed}
+use Rattle.replay_cases.specs.declared.request.Ending.TheVariants.{Words, Failed, Otherwise}
 
--- no word, or `--help` or `--twice` alone
-abbrev pub asked : List (String Global) → Option Request
-asked [] = Some Replay
-asked (word ∷ []) = if bytes_eq (string_bytes word) (codes "--help") then Some Help else if bytes_eq (string_bytes word) (codes "--twice") then Some ReplayTwice else None
-asked (word ∷ next ∷ more) = None
+-- what one word asks for: `--help` or `--twice`
+abbrev pub asked_by : List ℕ → Option Request
+asked_by word = if bytes_eq word (codes "--help") then Some Help else if bytes_eq word (codes "--twice") then Some ReplayTwice else None
+
+-- random cases, where both words are numbers
+abbrev pub AsksRandom : List ℕ → List ℕ → Option Request → Type 0
+AsksRandom seed count (Some (Random s n)) = IsNumber s seed × IsNumber n count
+AsksRandom seed count (Some _) = ⊥
+AsksRandom seed count None = (s n : ℕ) → IsNumber s seed → IsNumber n count → ⊥
+
+-- nothing, or a word, or `--random`, a seed and a count
+abbrev pub Asks : List (String Global) → Option Request → Type 0
+Asks [] asked = asked ≡ Some Replay
+Asks (word ∷ []) asked = asked ≡ asked_by (string_bytes word)
+Asks (word ∷ next ∷ []) asked = asked ≡ None
+Asks (word ∷ seed ∷ count ∷ []) asked =
+    MatchBool (bytes_eq (string_bytes word) (codes "--random")) (AsksRandom (string_bytes seed) (string_bytes count) asked) (asked ≡ None)
+Asks (word ∷ seed ∷ count ∷ next ∷ more) asked = asked ≡ None
 
 -- what standard error has of an ending
 abbrev pub message_of : Ending → List ℕ
-message_of Words = codes "usage: replay [--help | --twice], with cases on standard input, one a line (docs/CASES.md)"
+message_of Words = codes "usage: replay [--help | --twice | --random SEED COUNT], with cases on standard input, one a line (docs/CASES.md)"
 message_of (Failed error) = codes "error: reading or writing failed"
+message_of Otherwise = codes "error: a random case comes out otherwise over a table"
 
 -- the status of an ending
 abbrev pub status_of : Ending → ℕ
 status_of Words = 2
 status_of (Failed error) = 1
+status_of Otherwise = 1

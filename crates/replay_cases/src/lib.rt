@@ -4,6 +4,7 @@
 mod answer;
 mod case;
 mod condition;
+mod dice;
 mod expected;
 mod hexadecimal;
 mod names;
@@ -12,6 +13,7 @@ mod operand;
 mod operator;
 pub mod outcome;
 mod pointer;
+pub mod random;
 mod reading;
 mod refusal;
 mod replayed;

@@ -1,4 +1,4 @@
-ghost use Rattle.std.specs.Prelude.{◌≡◌, ◌++◌, ◌∷◌, IfOk};
+ghost use Rattle.std.specs.Prelude.{◌≡◌, ◌++◌, ◌∷◌, ◌↔◌, IfOk, IsTrue};
 ghost use Rattle.std.specs.String.{string_bytes};
 ghost use Rattle.prettyless.specs.Layout.{layout};
 ghost use Rattle.prettyless_printer.specs.Points.{seen};
@@ -87,17 +87,26 @@ fn outcome_with<'a, T: DocPtr<'a>>(
     }
 }
 
+/// Whether these words come of a case over a table of all of its nodes.
+pub fn is_same_over_table(
+    alloc: Global,
+    case: &ReadCase<'_>,
+    text: &str,
+) -> Result<bool, AllocError>
+    ensures { IfOk result (λ same. IsTrue same ↔ (text.now ≡ outcome_of (case_of case.now))) }
+{
+    let again = outcome_with(Over::Table, alloc, &case.document, case.options)?;
+    Ok(again.as_str() == text)
+}
+
 /// What comes of a case, as words: `ok` and its layout, or `fail` and the bytes before the node that failed. Where it is laid out
 /// twice the same comes of both, or it has no answer.
 pub fn outcome(alloc: Global, times: Times, case: &ReadCase<'_>) -> Result<String, AllocError>
     ensures { IfOk result (λ text. string_bytes text ≡ outcome_of (case_of case.now)) }
 {
     let text = outcome_with(Over::Document, alloc, &case.document, case.options)?;
-    if let Times::Twice = times {
-        let again = outcome_with(Over::Table, alloc, &case.document, case.options)?;
-        if again.as_str() != text.as_str() {
-            return Err(AllocError);
-        }
+    if times == Times::Twice && !is_same_over_table(alloc, case, text.as_str())? {
+        return Err(AllocError);
     }
     Ok(text)
 }

@@ -1,13 +1,14 @@
 //! What the words of `replay` ask for, and how a run of it ends.
 ghost use Rattle.std.specs.Prelude.{◌≡◌};
-ghost use Rattle.replay_cases.specs.Requests.{asked, message_of, status_of};
+ghost use Rattle.replay_cases.specs.Requests.{Asks, AsksRandom, message_of, status_of};
 ghost use Rattle.replay_cases.specs.declared.request.Ending.TheVariants.{Failed};
 
+use decimals::number;
 use std::io;
 
 /// How `replay` is used.
 pub const USAGE: &str =
-    "usage: replay [--help | --twice], with cases on standard input, one a line (docs/CASES.md)";
+    "usage: replay [--help | --twice | --random SEED COUNT], with cases on standard input, one a line (docs/CASES.md)";
 
 /// What `replay` is asked for.
 #[derive(Clone, Copy, Debug, PartialEq, Eq)]
@@ -16,19 +17,33 @@ pub enum Request {
     Replay,
     /// The same, with each case laid out twice.
     ReplayTwice,
+    /// The layouts of random cases in two ways: the seed that they come of, and how many.
+    Random(usize, usize),
     /// The usage.
     Help,
 }
 
+// Random cases of the seed and as many as these words write.
+fn random(seed: &str, count: &str) -> Option<Request>
+    ensures { AsksRandom seed.now count.now result }
+{
+    let seed = number(seed.as_bytes())?;
+    let count = number(count.as_bytes())?;
+    Some(Request::Random(seed, count))
+}
+
 /// What the words of `replay` ask for: cases, where there is none, or help, by `--help` alone, or cases that are laid out twice,
-/// by `--twice` alone.
+/// by `--twice` alone, or random ones, by `--random`, a seed and how many.
 pub fn requested(words: &[String]) -> Option<Request>
-    ensures { result ≡ asked words.now }
+    ensures { Asks words.now result }
 {
     match words {
         [] => Some(Request::Replay),
         [word] if word.as_str() == "--help" => Some(Request::Help),
         [word] if word.as_str() == "--twice" => Some(Request::ReplayTwice),
+        [word, seed, count] if word.as_str() == "--random" => {
+            random(seed.as_str(), count.as_str())
+        }
         _ => None,
     }
 }
@@ -40,6 +55,8 @@ pub enum Ending {
     Words,
     /// The words or the input were not read, or an answer was not written.
     Failed(io::Error),
+    /// A random case came out otherwise over a table.
+    Otherwise,
 }
 
 impl Ending {
@@ -50,6 +67,7 @@ impl Ending {
         match self {
             Ending::Words => USAGE,
             Ending::Failed(_) => "error: reading or writing failed",
+            Ending::Otherwise => "error: a random case comes out otherwise over a table",
         }
     }
 
@@ -59,7 +77,7 @@ impl Ending {
     {
         match self {
             Ending::Words => 2,
-            Ending::Failed(_) => 1,
+            Ending::Failed(_) | Ending::Otherwise => 1,
         }
     }
 }

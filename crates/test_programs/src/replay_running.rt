@@ -2,6 +2,7 @@
 //! their answers.
 use prettyless::IoWrite;
 use replay_cases::outcome::Times;
+use replay_cases::random::first_other;
 use replay_cases::run::run;
 use std::alloc::Global;
 use std::io;
@@ -26,6 +27,12 @@ fn groups(alloc: Global, count: u32) -> Result<String, Fail> {
     }
     line.push_str("nil")?;
     Ok(line)
+}
+
+#[test]
+fn lays_random_documents_out_alike_over_a_table(rt: HostRuntime) -> Result<(), Fail> {
+    assert!(rt; first_other(rt.alloc(), 1, 2_000)?.is_none());
+    Ok(())
 }
 
 #[test]
