@@ -25,6 +25,7 @@ fn opened<'a, D: DocPlace<'a>>(
 }
 
 /// Values between these.
+#[inline(always)]
 pub(crate) fn bracketed<'a, D: DocPlace<'a>>(
     opening: &'a str,
     values: DocBuilder<'a, D>,
@@ -41,6 +42,7 @@ pub(crate) fn bracketed<'a, D: DocPlace<'a>>(
 }
 
 /// A value, a comma, a line and another value.
+#[inline(always)]
 pub(crate) fn with_comma<'a, D: DocPlace<'a>>(
     front: DocBuilder<'a, D>,
     next: DocBuilder<'a, D>,
@@ -82,6 +84,7 @@ pub(crate) fn with_field<'a, D: DocPlace<'a>>(
 }
 
 /// Three texts in square brackets.
+#[inline(always)]
 pub(crate) fn triple<'a, D: DocPlace<'a>>(
     place: &'a D,
     first: &'a str,

@@ -8,7 +8,7 @@ ghost use Rattle.prettyless_doc.specs.DocTree.{tree_of, built, holds_memory};
 ghost use Rattle.prettyless_doc.specs.Payload as source;
 ghost use Rattle.prettyless_doc.specs.Payload.{payload_bytes};
 ghost use Rattle.prettyless_doc.specs.TextBytes.{bytes_of, is_owned};
-ghost use Rattle.prettyless_doc.specs.Tree.{Tree};
+ghost use Rattle.prettyless_doc.specs.Tree.{Tree, Append, Group, Nest, Text as TextTree};
 ghost use Rattle.prettyless_build.specs.Built.{IfPlaced};
 ghost use Rattle.prettyless_pointers.specs.Constants.{IsTable};
 ghost use Rattle.prettyless_pointers.specs.declared.arena.RefDoc.{out-RefDoc};
@@ -19,9 +19,12 @@ use bumpalo::Bump;
 use prettyless_build::{DocBuilder, Pretty};
 use prettyless_doc::text::MultilineTextData;
 use prettyless_doc::{BuildDoc, BuildError, Constant, Doc, DocPlace, DocPtr, Text};
-use std::alloc::Global;
+use std::alloc::{AllocError, Global};
 use std::cell::Cell;
 use std::fmt;
+
+// The size of a node in bytes.
+const NODE_SIZE: usize = 40;
 
 /// A pointer to a node in an arena.
 #[derive(Clone, Copy)]
@@ -211,6 +214,101 @@ impl<'a> Arena<'a> {
         self.placed.set(self.placed.get().saturating_add(1));
         Ok(RefDoc(node))
     }
+
+    // The same, where the chunk may have no room for the node.
+    #[cold]
+    fn put_anew(&self, doc: Doc<'a, RefDoc<'a>>) -> Option<RefDoc<'a>>
+        requires { holds_memory doc ≡ false }
+        ensures same { IfSome result (λ p. ref_tree p ≡ tree_of ref_tree doc.entry) }
+        ensures settled { IfSome result (λ p. holds_memory (out-RefDoc p).0.now ≡ false) }
+    {
+        self.put(doc).ok()
+    }
+
+    // The same. Where the chunk is known to have room, `put` needs no way to another one, and is a few instructions.
+    #[inline(always)]
+    fn put_fast(&self, doc: Doc<'a, RefDoc<'a>>) -> Option<RefDoc<'a>>
+        requires { holds_memory doc ≡ false }
+        ensures same { IfSome result (λ p. ref_tree p ≡ tree_of ref_tree doc.entry) }
+        ensures settled { IfSome result (λ p. holds_memory (out-RefDoc p).0.now ≡ false) }
+    {
+        if self.bump.chunk_capacity() < NODE_SIZE {
+            return self.put_anew(doc);
+        }
+        self.put(doc).ok()
+    }
+
+    // Two documents, one after the other.
+    #[inline(never)]
+    fn put_append(&self, first: RefDoc<'a>, second: RefDoc<'a>) -> Option<RefDoc<'a>>
+        ensures same { IfSome result (λ p. ref_tree p ≡ Append (ref_tree first.entry) (ref_tree second.entry)) }
+        ensures settled { IfSome result (λ p. holds_memory (out-RefDoc p).0.now ≡ false) }
+    {
+        self.put_fast(Doc::Append(first, second))
+    }
+
+    // A text that is lent, or the pointer to a constant.
+    #[inline(never)]
+    fn put_text(&self, text: &'a str) -> Option<RefDoc<'a>>
+        ensures same { IfSome result (λ p. ref_tree p ≡ TextTree text.now) }
+        ensures settled { IfSome result (λ p. holds_memory (out-RefDoc p).0.now ≡ false) }
+    {
+        if let [b' '] = text.as_bytes() {
+            if let Some(space) = self.find(Constant::Space) {
+                return Some(space);
+            }
+        }
+        self.put_fast(Doc::Text(Text::Borrowed(text)))
+    }
+
+    // A document with another indent.
+    #[inline(never)]
+    fn put_nest(&self, offset: isize, inner: RefDoc<'a>) -> Option<RefDoc<'a>>
+        ensures same { IfSome result (λ p. ref_tree p ≡ Nest offset (ref_tree inner.entry)) }
+        ensures settled { IfSome result (λ p. holds_memory (out-RefDoc p).0.now ≡ false) }
+    {
+        self.put_fast(Doc::Nest(offset, inner))
+    }
+
+    // A document in a group.
+    #[inline(never)]
+    fn put_group(&self, inner: RefDoc<'a>) -> Option<RefDoc<'a>>
+        ensures same { IfSome result (λ p. ref_tree p ≡ Group (ref_tree inner.entry)) }
+        ensures settled { IfSome result (λ p. holds_memory (out-RefDoc p).0.now ≡ false) }
+    {
+        self.put_fast(Doc::Group(inner))
+    }
+
+    // Any node: the pointer to a constant, or that of a new node, with a copy of its text where it holds a box.
+    #[inline(never)]
+    fn put_other(&self, doc: Doc<'a, RefDoc<'a>>) -> Option<RefDoc<'a>>
+        ensures same { IfSome result (λ p. ref_tree p ≡ tree_of ref_tree doc.entry) }
+        ensures settled { IfSome result (λ p. holds_memory (out-RefDoc p).0.now ≡ false) }
+    {
+        if let Some(constant) = self.find_same(&doc) {
+            return Some(constant);
+        }
+        if holds_box(&doc) {
+            let doc = settle(self.bump, doc).ok()?;
+            return self.put_fast(doc);
+        }
+        self.put_fast(doc)
+    }
+
+    // Any node, as its variant is placed.
+    #[inline(always)]
+    fn put_any(&self, doc: Doc<'a, RefDoc<'a>>) -> Option<RefDoc<'a>>
+        ensures same { IfSome result (λ p. ref_tree p ≡ tree_of ref_tree doc.entry) }
+        ensures settled { IfSome result (λ p. holds_memory (out-RefDoc p).0.now ≡ false) }
+    {
+        match doc {
+            Doc::Append(first, second) => self.put_append(first, second),
+            Doc::Text(Text::Borrowed(text)) => self.put_text(text),
+            Doc::Nest(offset, inner) => self.put_nest(offset, inner),
+            Doc::Group(inner) => self.put_group(inner),
+            other => self.put_other(other),
+        }
+    }
 }
 
 impl<'a> DocPlace<'a> for Arena<'a> {
@@ -224,14 +322,10 @@ impl<'a> DocPlace<'a> for Arena<'a> {
         ensures settled { IfOk result (λ p. holds_memory (out-RefDoc p).0.now ≡ false) }
         ensures err { IfErr result IsMemory }
     {
-        if let Some(constant) = self.find_same(&doc) {
-            return Ok(constant);
+        match self.put_any(doc) {
+            Some(pointer) => Ok(pointer),
+            None => Err(BuildError::Memory(AllocError)),
         }
-        if holds_box(&doc) {
-            let doc = settle(self.bump, doc)?;
-            return self.put(doc);
-        }
-        self.put(doc)
     }
 
     /// The same pointer, which takes no memory.

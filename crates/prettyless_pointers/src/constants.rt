@@ -97,7 +97,9 @@ pub(crate) fn constant_of<'a>(doc: &Doc<'a, RefDoc<'a>>) -> Option<Constant>
     match doc {
         Doc::Nil => Some(Constant::Nil),
         Doc::Fail => Some(Constant::Fail),
-        Doc::Text(Text::Borrowed(" ")) => Some(Constant::Space),
+        Doc::Text(Text::Borrowed(text)) if matches!(text.as_bytes(), [b' ']) => {
+            Some(Constant::Space)
+        }
         Doc::WeakSpace => Some(Constant::WeakSpace),
         Doc::HardLine => Some(Constant::HardLine),
         Doc::WeakLine => Some(Constant::WeakLine),
