@@ -75,7 +75,6 @@ pub fn turn<N: Walk, W: Render>(
     let mut indent = command.indent;
     let mut mode = command.mode;
     let mut node = command.node;
-    let mut is_past = false;
     'down: loop {
         if has_to_stop(visits.probes, limit, mode, &node) {
             return match printer.commands.push(indent, mode, node) {
@@ -84,23 +83,16 @@ pub fn turn<N: Walk, W: Render>(
             };
         }
         visits.printer = one_more(visits.printer);
-        match step(printer, indent, mode, &node, is_past, visits) {
+        match step(printer, indent, mode, &node, visits) {
             Err(e) => return Err(RenderError::Memory(e)),
             Ok(Taken::Next(next_indent, next)) => {
                 indent = next_indent;
                 node = next;
-                is_past = false;
-            }
-            Ok(Taken::NextPast(next_indent, next)) => {
-                indent = next_indent;
-                node = next;
-                is_past = true;
             }
             Ok(Taken::NextFlat(next_indent, next)) => {
                 indent = next_indent;
                 mode = Mode::Flat;
                 node = next;
-                is_past = false;
             }
             Ok(Taken::NextTexts(_, next)) => {
                 return match lay_texts(printer, out, next, visits) {

@@ -10,7 +10,7 @@ use Rattle.prettyless_step.specs.Steps.{Step, Move, Stuck, Choose}
 use Rattle.prettyless_step.specs.Piece.{piece_bytes}
 use Rattle.prettyless_step.specs.declared.printer.Printer.{Printer}
 use Rattle.prettyless_step.specs.declared.printer.Taken.{Taken}
-use Rattle.prettyless_step.specs.declared.printer.Taken.TheVariants.{Quiet, Next, NextFlat, NextPast, NextTexts, Written, Failed, Chosen}
+use Rattle.prettyless_step.specs.declared.printer.Taken.TheVariants.{Quiet, Next, NextFlat, NextTexts, Written, Failed, Chosen}
 
 -- the tasks that the printer has still to lay, the next one first
 abbrev pub tasks_of : {N : Type 0} → (N → Tree) → Printer N → List Task
@@ -23,10 +23,6 @@ following f p = follow (tasks_of f p)
 -- the state between two nodes: the pending documents are those of the queue from its start on
 abbrev pub state_of : {N : Type 0} → (N → Tree) → Printer N → State
 state_of f p = record { column = p.column; pending = trees f (drop p.queue.start p.queue.nodes.items); within = p.within }
-
--- laid flat at an indent, with the printer's commands following it, a tree does not fit the line
-abbrev pub IsPast : {N : Type 0} → (N → Tree) → ℕ → Tree → Printer N → Type 0
-IsPast f i d p = probe p.options d i Flat (following f p) (state_of f p) ≡ false
 
 -- the queue only grows
 abbrev pub Grows : {N : Type 0} → Printer N → Printer N → Type 0
@@ -53,7 +49,6 @@ Shows f m Quiet step p q = Writes f [] step p q
 Shows f m (Next i n) step p q = Hands f i m n step p q
 Shows f m (NextFlat i n) step p q = Hands f i Flat n step p q
 Shows f m (NextTexts i n) step p q = Hands f i Flat n step p q × IsTexts (f n)
-Shows f m (NextPast i n) step p q = Hands f i m n step p q × IsPast f i (f n) q
 Shows f m (Written piece) step p q = Writes f (piece_bytes piece) step p q
 Shows f m Failed Stuck p q = q ≡ p
 Shows f m (Chosen i l r) (Choose j x y) p q = (i ≡ j) × (f l ≡ x) × (f r ≡ y) × (q ≡ p)

@@ -31,8 +31,6 @@ pub enum Taken<'v, N> {
     NextFlat(usize, N),
     /// A node that is laid flat, as its texts.
     NextTexts(usize, N),
-    /// A node that does not fit its line when it is laid flat.
-    NextPast(usize, N),
     Written(Piece<'v>),
     Failed,
     Chosen(usize, N, N),

@@ -9,8 +9,7 @@ ghost use Rattle.prettyless_model.specs.declared.mode.Mode.TheVariants.{Break, F
 ghost use Rattle.prettyless_step.specs.Stack.{make_task, nodes};
 ghost use Rattle.prettyless_step.specs.Steps.{Move, at_once, break_step, counted_payload, decided_by_metrics, is_rejected, rejects_payload, step_of, union_step};
 ghost use Rattle.prettyless_step.specs.Piece.{piece_bytes};
-ghost use Rattle.prettyless_step.specs.declared.printer.Taken.TheVariants.{Next, NextPast};
-ghost use Rattle.prettyless_step.specs.Printing.{IsPast, Shows, Writes, following, state_of, tasks_of};
+ghost use Rattle.prettyless_step.specs.Printing.{Shows, Writes, following, state_of, tasks_of};
 ghost use Rattle.prettyless_step.specs.Probing.{Few, RisesBy, asked, is_fit};
 ghost use Rattle.prettyless_step.specs.Texts.{IsTexts};
 ghost use Rattle.prettyless_step.specs.declared.probe.Fit.TheVariants.{AsTexts};
@@ -201,11 +200,9 @@ fn group<N: Walk>(
     indent: usize,
     mode: Mode,
     inner: N,
-    is_past: bool,
     probes: &mut u64,
 ) -> Result<Taken<'static, N>, AllocError>
-    requires past { IsTrue is_past → IsPast N.tree indent (N.tree inner) printer.old }
-    requires summed { IsSummed N.HAS_SUMMARIES N.tree printer.old.commands }
+    requires { IsSummed N.HAS_SUMMARIES N.tree printer.old.commands }
     ensures step { IfOk result (λ taken. Shows N.tree mode taken
         (Move [] (make_task indent (by_mode mode
         (if probe_of printer.old.options (N.tree inner) indent Flat (following N.tree printer.old) (state_of N.tree printer.old) then Flat else Break)
@@ -219,12 +216,8 @@ fn group<N: Walk>(
     ensures summed { OnOk result (IsSummed N.HAS_SUMMARIES N.tree printer.new.commands) }
 {
     if let Mode::Break = mode {
-        if is_past {
-            *probes = one_more(*probes);
-            return Ok(Taken::NextPast(indent, inner));
-        }
         match probe_here(printer, inner, indent, Mode::Flat, probes)? {
-            Fit::Past => return Ok(Taken::NextPast(indent, inner)),
+            Fit::Past => return Ok(Taken::Next(indent, inner)),
             // A break alone is laid as soon by the printer's own loop.
             Fit::AsTexts => match inner.view() {
                 View::BreakOrFlat(_, _) => return Ok(Taken::NextFlat(indent, inner)),
@@ -292,21 +285,8 @@ fn union<N: Walk>(
     }
 }
 
-// A node to go on with, which fits the line no more than the one above it where that does not.
-#[inline(always)]
-fn onwards<N: Walk>(indent: usize, node: N, is_past: bool) -> Taken<'static, N>
-    ensures { result ≡ if is_past then NextPast indent node else Next indent node }
-{
-    if is_past {
-        Taken::NextPast(indent, node)
-    } else {
-        Taken::Next(indent, node)
-    }
-}
-
-/// Visits one node at an indent in a mode, with the printer's commands following it. `is_past` says that the node
-/// is known not to fit its line when it is laid flat. What a probe visits is counted in `visits`,
-/// and so is a payload that its metrics reject as the first branch of a union; the node itself is not.
+/// Visits one node at an indent in a mode, with the printer's commands following it. What a probe visits is counted in `visits`, and so is a
+/// payload that its metrics reject as the first branch of a union; the node itself is not.
 #[inline(always)]
 #[tactic(auto, using(crate::proofs::Queues::queues))]
 pub fn step<'v, N: Walk>(
@@ -314,11 +294,9 @@ pub fn step<'v, N: Walk>(
     indent: usize,
     mode: Mode,
     node: &'v N,
-    is_past: bool,
     visits: &mut Visits,
 ) -> Result<Taken<'v, N>, AllocError>
-    requires past { IsTrue is_past → IsPast N.tree indent (N.tree node.now) printer.old }
-    requires summed { IsSummed N.HAS_SUMMARIES N.tree printer.old.commands }
+    requires { IsSummed N.HAS_SUMMARIES N.tree printer.old.commands }
     ensures step { IfOk result (λ taken. Shows N.tree mode taken
         (step_of printer.old.options (N.tree node.now) indent mode
         (following N.tree printer.old) (state_of N.tree printer.old))
@@ -360,12 +338,12 @@ pub fn step<'v, N: Walk>(
             printer.queue.push(d)?;
             Ok(Taken::Quiet)
         }
-        View::Nest(offset, d) => Ok(onwards(nested_indent(indent, offset), d, is_past)),
-        View::DedentToRoot(d) => Ok(onwards(0, d, is_past)),
-        View::Align(d) => Ok(onwards(printer.column.prospective(), d, is_past)),
+        View::Nest(offset, d) => Ok(Taken::Next(nested_indent(indent, offset), d)),
+        View::DedentToRoot(d) => Ok(Taken::Next(0, d)),
+        View::Align(d) => Ok(Taken::Next(printer.column.prospective(), d)),
         View::Flatten(d) => Ok(Taken::NextFlat(indent, d)),
         View::BreakOrFlat(b, f) => Ok(Taken::Next(indent, either(mode, b, f))),
-        View::Group(d) => group(printer, indent, mode, d, is_past, &mut visits.probes),
+        View::Group(d) => group(printer, indent, mode, d, &mut visits.probes),
         View::Union(l, r) => match mode {
             Mode::Break => union(printer, indent, l, r, visits),
             Mode::Flat => Ok(Taken::NextFlat(indent, l)),

@@ -29,7 +29,6 @@ down-init g c =
           (task g.N.Walk.tree c.in-Some.command) c.in-Some.ensures.popped refl refl (grows_same (standing g.N.Walk.tree p));
       summed = c.pop.ensures.summed c.requires.summed;
       spends = λ plain. spends_begun _ (standing g.N.Walk.tree p) (standing g.N.Walk.tree (record p { commands = c.pop.new.self })) (task g.N.Walk.tree c.in-Some.command) c.args.visits.now c.in-Some.ensures.popped refl;
-      past = λ h. absurd (cc);
     }
 
 pub down-preserved-in-Ok-Next : goal.down-preserved-in-Ok-Next
@@ -44,23 +43,6 @@ down-preserved-in-Ok-Next g c =
       hand = goes_down f c.down.printer q x c.in-Ok-Next.next_indent c.down.mode c.in-Ok-Next.next hand one c.in-Ok-Next.ensures.asked (shown f c.down.printer q c.in-Ok-Next.field-0 (taken.Next c.in-Ok-Next.next_indent c.in-Ok-Next.next) hand c.in-Ok-Next.field-0-is c.in-Ok-Next.ensures.step);
       summed = c.in-Ok-Next.ensures.summed;
       spends = λ plain. spends_down f c.down.printer q c.in-Ok-Next.next_indent c.down.mode c.in-Ok-Next.next took plain c.step.ensures.queue (shown f c.down.printer q c.in-Ok-Next.field-0 (taken.Next c.in-Ok-Next.next_indent c.in-Ok-Next.next) hand c.in-Ok-Next.field-0-is c.in-Ok-Next.ensures.step);
-      past = λ h. absurd (cc);
-    }
-
-pub down-preserved-in-Ok-NextPast : goal.down-preserved-in-Ok-NextPast
-down-preserved-in-Ok-NextPast g c =
-    let f = g.N.Walk.tree in
-    let q = c.step.new.printer in
-    let x = c.step.new.visits in
-    let hand = c.down.invariant.hand in
-    let one = visit f c.down.printer x c.one_more-visits.result hand c.one_more-visits.ensures.one c.one_more-visits.ensures.rises c.step.ensures.printer c.step.ensures.rises c.step.ensures.counted in
-    let took = takes f g.N.Walk.HAS_SUMMARIES c.args.limit c.down.printer x hand one (c.if-has_to_stop.ensures.within refl) c.step.ensures.counted c.step.ensures.few c.down.invariant.spends in
-    let told = shown f c.down.printer q c.in-Ok-NextPast.field-0 (taken.NextPast c.in-Ok-NextPast.next_indent c.in-Ok-NextPast.next) hand c.in-Ok-NextPast.field-0-is c.in-Ok-NextPast.ensures.step in
-    record {
-      hand = goes_down f c.down.printer q x c.in-Ok-NextPast.next_indent c.down.mode c.in-Ok-NextPast.next hand one c.in-Ok-NextPast.ensures.asked told.0;
-      summed = c.in-Ok-NextPast.ensures.summed;
-      spends = λ plain. spends_down f c.down.printer q c.in-Ok-NextPast.next_indent c.down.mode c.in-Ok-NextPast.next took plain c.step.ensures.queue told.0;
-      past = λ _. told.1;
     }
 
 pub down-preserved : goal.down-preserved
@@ -75,7 +57,6 @@ down-preserved g c =
       hand = goes_down f c.down.printer q x c.in-Ok-NextFlat.next_indent Flat c.in-Ok-NextFlat.next hand one c.in-Ok-NextFlat.ensures.asked (shown f c.down.printer q c.in-Ok-NextFlat.field-0 (taken.NextFlat c.in-Ok-NextFlat.next_indent c.in-Ok-NextFlat.next) hand c.in-Ok-NextFlat.field-0-is c.in-Ok-NextFlat.ensures.step);
       summed = c.in-Ok-NextFlat.ensures.summed;
       spends = λ plain. spends_down f c.down.printer q c.in-Ok-NextFlat.next_indent Flat c.in-Ok-NextFlat.next took plain c.step.ensures.queue (shown f c.down.printer q c.in-Ok-NextFlat.field-0 (taken.NextFlat c.in-Ok-NextFlat.next_indent c.in-Ok-NextFlat.next) hand c.in-Ok-NextFlat.field-0-is c.in-Ok-NextFlat.ensures.step);
-      past = λ h. absurd (cc);
     }
 
 pub returns-in-Ok-lay_texts-clause-advances : goal.returns-in-Ok-lay_texts-clause-advances

@@ -1,9 +1,8 @@
 use Rattle.std.proofs.Common.{[], ◌∷◌}
-use Rattle.std.specs.Prelude.{IsTrue}
 use Rattle.prettyless_step.specs.Stack.{make_task}
 use Rattle.prettyless_step.specs.Steps.{work}
 use Rattle.prettyless_step.specs.Sums.{IsSummed}
-use Rattle.prettyless_step.specs.Printing.{IsPast, state_of, tasks_of}
+use Rattle.prettyless_step.specs.Printing.{state_of, tasks_of}
 use Rattle.prettyless_printer.specs.Points.{point, seen, standing}
 use Rattle.prettyless_printer.specs.Visits.{Plain}
 use Rattle.prettyless_printer.specs.Spending.{Spends, left, rule_of}
@@ -20,7 +19,6 @@ invariant-down g l =
       summed : IsSummed g.N.Walk.HAS_SUMMARIES f l.printer.commands;
       spends : Plain (standing f l.fn.printer) → Spends (rule_of g.N.Walk.HAS_SUMMARIES l.fn.printer.options l.limit)
           (left (standing f l.fn.printer) [] l.fn.visits) (left_with (make_task l.indent l.mode (f l.node)) (standing f l.printer) l.visits);
-      past : IsTrue l.is_past → IsPast f l.indent (f l.node) l.printer;
     }
 
 abbrev pub decreases-down : goal.decreases-down
