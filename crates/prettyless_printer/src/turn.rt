@@ -1,12 +1,11 @@
 //! A turn: a command is taken and stepped, and so is each that comes in hand; the last one is written.
-ghost use Rattle.std.specs.Prelude.{◌<◌, ◌≤◌, ◌↔◌, [], length, IfOk, IsFalse, IsTrue, OnOk};
-ghost use Rattle.prettyless_model.specs.Counts.{each_probe};
+ghost use Rattle.std.specs.Prelude.{◌<◌, [], length, IfOk, OnOk};
 ghost use Rattle.prettyless_step.specs.Printing.{tasks_of};
 ghost use Rattle.prettyless_step.specs.Sums.{IsSummed};
 ghost use Rattle.prettyless_printer.specs.Points.{point, seen, standing};
 ghost use Rattle.prettyless_printer.specs.Visits.{Plain};
 ghost use Rattle.prettyless_printer.specs.Spending.{Spends, after_turn, left, rule_of};
-ghost use Rattle.prettyless_printer.specs.Turns.{Advances, IsPastLimit, StopsPast};
+ghost use Rattle.prettyless_printer.specs.Turns.{Advances, StopsPast};
 
 use crate::answer::Turn;
 use crate::texts::lay_texts;
@@ -17,35 +16,7 @@ use prettyless_sink::visits::{Visits, one_more};
 use prettyless_step::piece::write_piece;
 use prettyless_step::printer::{Printer, Taken};
 use prettyless_step::step::step;
-use prettyless_step::walk::{View, Walk};
-
-// Whether probes have visited more nodes than a limit, which with the greatest one they never have.
-#[inline(always)]
-fn is_past_limit(probes: u64, limit: u64) -> bool
-    ensures { IsTrue result ↔ IsPastLimit limit probes }
-{
-    probes > limit
-}
-
-// Whether a node asks a probe.
-#[inline(always)]
-fn asks_probe<N: Walk>(mode: Mode, node: &N) -> bool
-    ensures { IsTrue result ↔ (0 < each_probe (N.tree node.now) mode) }
-{
-    match (mode, node.view()) {
-        (Mode::Break, View::Group(_) | View::PartialUnion(_, _)) => true,
-        _ => false,
-    }
-}
-
-// Whether to stop before a node: it asks a probe, and probes have visited more nodes than the limit.
-#[inline(always)]
-fn has_to_stop<N: Walk>(probes: u64, limit: u64, mode: Mode, node: &N) -> bool
-    ensures past { IsTrue result → IsPastLimit limit probes }
-    ensures within { IsFalse result → 0 < each_probe (N.tree node.now) mode → probes ≤ limit }
-{
-    is_past_limit(probes, limit) && asks_probe(mode, node)
-}
+use prettyless_step::walk::Walk;
 
 /// Takes the next command, goes on with what is in hand down to a node that leads to no other, and writes what that one gives.
 /// Each of these nodes is a visit, and so is a payload that a step rejects. Before a node that asks a probe it stops if probes have
@@ -76,15 +47,17 @@ pub fn turn<N: Walk, W: Render>(
     let mut mode = command.mode;
     let mut node = command.node;
     'down: loop {
-        if has_to_stop(visits.probes, limit, mode, &node) {
-            return match printer.commands.push(indent, mode, node) {
-                Ok(()) => Ok(Turn::Shift),
-                Err(e) => Err(RenderError::Memory(e)),
-            };
-        }
-        visits.printer = one_more(visits.printer);
-        match step(printer, indent, mode, &node, visits) {
+        let before = visits.printer;
+        visits.printer = one_more(before);
+        match step(printer, indent, mode, &node, limit, visits) {
             Err(e) => return Err(RenderError::Memory(e)),
+            Ok(Taken::Shift) => {
+                visits.printer = before;
+                return match printer.commands.push(indent, mode, node) {
+                    Ok(()) => Ok(Turn::Shift),
+                    Err(e) => Err(RenderError::Memory(e)),
+                };
+            }
             Ok(Taken::Next(next_indent, next)) => {
                 indent = next_indent;
                 node = next;

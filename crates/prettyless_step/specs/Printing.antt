@@ -1,5 +1,5 @@
 -- The printer's state as the definitions see it, and what a step of the code shows of the step that is defined.
-use Rattle.std.specs.Prelude.{◌≡◌, ℕ, List, [], ◌∷◌, ◌++◌, drop, false}
+use Rattle.std.specs.Prelude.{◌≡◌, ℕ, List, [], ◌∷◌, ◌++◌, drop, Result, Ok, Err}
 use Rattle.prettyless_model.specs.Tree.{Tree}
 use Rattle.prettyless_model.specs.Layout.{State, Entry, probe}
 use Rattle.prettyless_model.specs.declared.mode.Mode.{Mode}
@@ -10,7 +10,7 @@ use Rattle.prettyless_step.specs.Steps.{Step, Move, Stuck, Choose}
 use Rattle.prettyless_step.specs.Piece.{piece_bytes}
 use Rattle.prettyless_step.specs.declared.printer.Printer.{Printer}
 use Rattle.prettyless_step.specs.declared.printer.Taken.{Taken}
-use Rattle.prettyless_step.specs.declared.printer.Taken.TheVariants.{Quiet, Next, NextFlat, NextTexts, Written, Failed, Chosen}
+use Rattle.prettyless_step.specs.declared.printer.Taken.TheVariants.{Quiet, Next, NextFlat, NextTexts, Written, Failed, Chosen, Shift}
 
 -- the tasks that the printer has still to lay, the next one first
 abbrev pub tasks_of : {N : Type 0} → (N → Tree) → Printer N → List Task
@@ -47,6 +47,7 @@ Hands f i m n (Choose j x y) p q = ⊥
 abbrev pub Shows : {N : Type 0} → (N → Tree) → Mode → Taken N → Step → Printer N → Printer N → Type 0
 Shows f m Quiet step p q = Writes f [] step p q
 Shows f m (Next i n) step p q = Hands f i m n step p q
+Shows f m Shift step p q = q ≡ p
 Shows f m (NextFlat i n) step p q = Hands f i Flat n step p q
 Shows f m (NextTexts i n) step p q = Hands f i Flat n step p q × IsTexts (f n)
 Shows f m (Written piece) step p q = Writes f (piece_bytes piece) step p q
@@ -56,3 +57,18 @@ Shows f m Failed (Move b pushed u) p q = ⊥
 Shows f m Failed (Choose j x y) p q = ⊥
 Shows f m (Chosen i l r) (Move b pushed u) p q = ⊥
 Shows f m (Chosen i l r) Stuck p q = ⊥
+
+-- the step was not taken, since probes are past their limit
+abbrev pub IsStopped : {N : Type 0} → Taken N → Type 0
+IsStopped Shift = Unit {0}
+IsStopped _ = ⊥
+
+-- the step was taken
+abbrev pub IsStepped : {N : Type 0} → Taken N → Type 0
+IsStepped Shift = ⊥
+IsStepped _ = Unit {0}
+
+-- the step was taken, or was refused memory
+abbrev pub IsSteppedOrRefused : {N E : Type 0} → Result (Taken N) E → Type 0
+IsSteppedOrRefused (Ok taken) = IsStepped taken
+IsSteppedOrRefused (Err e) = Unit {0}

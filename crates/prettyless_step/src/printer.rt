@@ -33,5 +33,7 @@ pub enum Taken<'v, N> {
     NextTexts(usize, N),
     Written(Piece<'v>),
     Failed,
+    /// Nothing: the node asks a probe, and probes are past their limit.
+    Shift,
     Chosen(usize, N, N),
 }

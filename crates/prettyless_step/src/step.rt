@@ -1,5 +1,5 @@
 //! What the visit of one node does.
-ghost use Rattle.std.specs.Prelude.{◌≡◌, ◌+◌, ◌∷◌, ◌≤◌, ◌&&◌, [], false, true, IfOk, IsTrue, OnOk, if◌then◌else◌};
+ghost use Rattle.std.specs.Prelude.{◌≡◌, ◌+◌, ◌∷◌, ◌≤◌, ◌<◌, ◌^◌, ◌&&◌, [], false, true, IfOk, IsFalse, IsTrue, OnOk, if◌then◌else◌};
 ghost use Rattle.prettyless_model.specs.Tree.{size};
 ghost use Rattle.prettyless_model.specs.Look.{by_mode};
 ghost use Rattle.prettyless_model.specs.Content.{suffix_depth};
@@ -9,7 +9,7 @@ ghost use Rattle.prettyless_model.specs.declared.mode.Mode.TheVariants.{Break, F
 ghost use Rattle.prettyless_step.specs.Stack.{make_task, nodes};
 ghost use Rattle.prettyless_step.specs.Steps.{Move, at_once, break_step, counted_payload, decided_by_metrics, is_rejected, rejects_payload, step_of, union_step};
 ghost use Rattle.prettyless_step.specs.Piece.{piece_bytes};
-ghost use Rattle.prettyless_step.specs.Printing.{Shows, Writes, following, state_of, tasks_of};
+ghost use Rattle.prettyless_step.specs.Printing.{IsStepped, IsSteppedOrRefused, IsStopped, Shows, Writes, following, state_of, tasks_of};
 ghost use Rattle.prettyless_step.specs.Probing.{Few, RisesBy, asked, is_fit};
 ghost use Rattle.prettyless_step.specs.Texts.{IsTexts};
 ghost use Rattle.prettyless_step.specs.declared.probe.Fit.TheVariants.{AsTexts};
@@ -181,6 +181,7 @@ fn break_line<N: Walk>(
         (following N.tree printer.old) (state_of N.tree printer.old))
         printer.old printer.new) }
     ensures queue { some_pending (state_of N.tree printer.old).pending ≡ false → printer.new.queue ≡ printer.old.queue }
+    ensures past { IfOk result (λ taken. IsStopped taken → ⊥) }
     ensures summed { OnOk result (IsSummed N.HAS_SUMMARIES N.tree printer.new.commands) }
 {
     if is_pending(printer) {
@@ -192,7 +193,16 @@ fn break_line<N: Walk>(
     Ok(Taken::Written(end_line(printer, indent)))
 }
 
-// A group, whose document is laid flat where it fits.
+// Whether probes have visited more nodes than a limit, which with the greatest one they never have.
+#[inline(always)]
+fn is_past_limit(probes: u64, limit: u64) -> bool
+    ensures past { IsTrue result → (limit < probes) × (probes < 2 ^ 64) }
+    ensures within { IsFalse result → probes ≤ limit }
+{
+    probes > limit
+}
+
+// A group, whose document is laid flat where it fits. It is not asked for where probes are past the limit.
 #[inline(always)]
 #[tactic(auto, using(crate::proofs::Sizes::size_positive))]
 fn group<N: Walk>(
@@ -200,6 +210,7 @@ fn group<N: Walk>(
     indent: usize,
     mode: Mode,
     inner: N,
+    limit: u64,
     probes: &mut u64,
 ) -> Result<Taken<'static, N>, AllocError>
     requires { IsSummed N.HAS_SUMMARIES N.tree printer.old.commands }
@@ -210,12 +221,17 @@ fn group<N: Walk>(
         printer.old printer.new) }
     ensures rises { probes.old ≤ probes.new }
     ensures counted { probes.new ≤ probes.old + by_mode mode (size (N.tree inner) + nodes (tasks_of N.tree printer.old)) 0 }
-    ensures asked { OnOk result (RisesBy (by_mode mode 1 0) probes.old probes.new) }
+    ensures asked { IfOk result (λ taken. IsStepped taken → RisesBy (by_mode mode 1 0) probes.old probes.new) }
+    ensures past { IfOk result (λ taken. IsStopped taken → (limit < probes.old) × (probes.old < 2 ^ 64) × (probes.new ≡ probes.old)) }
+    ensures within { IsSteppedOrRefused result → 0 < by_mode mode 1 0 → probes.old ≤ limit }
     ensures few { Few N.HAS_SUMMARIES printer.old.options.width (N.tree inner) (tasks_of N.tree printer.old) (by_mode mode 1 0) probes.old probes.new }
     ensures queue { printer.new.queue ≡ printer.old.queue }
     ensures summed { OnOk result (IsSummed N.HAS_SUMMARIES N.tree printer.new.commands) }
 {
     if let Mode::Break = mode {
+        if is_past_limit(*probes, limit) {
+            return Ok(Taken::Shift);
+        }
         match probe_here(printer, inner, indent, Mode::Flat, probes)? {
             Fit::Past => return Ok(Taken::Next(indent, inner)),
             // A break alone is laid as soon by the printer's own loop.
@@ -237,6 +253,7 @@ fn partial_union<N: Walk>(
     mode: Mode,
     first: N,
     second: N,
+    limit: u64,
     probes: &mut u64,
 ) -> Result<Taken<'static, N>, AllocError>
     requires { IsSummed N.HAS_SUMMARIES N.tree printer.old.commands }
@@ -248,11 +265,16 @@ fn partial_union<N: Walk>(
         printer.old printer.new) }
     ensures rises { probes.old ≤ probes.new }
     ensures counted { probes.new ≤ probes.old + by_mode mode (size (N.tree first) + nodes (tasks_of N.tree printer.old)) 0 }
-    ensures asked { OnOk result (RisesBy (by_mode mode 1 0) probes.old probes.new) }
+    ensures asked { IfOk result (λ taken. IsStepped taken → RisesBy (by_mode mode 1 0) probes.old probes.new) }
+    ensures past { IfOk result (λ taken. IsStopped taken → (limit < probes.old) × (probes.old < 2 ^ 64) × (probes.new ≡ probes.old)) }
+    ensures within { IsSteppedOrRefused result → 0 < by_mode mode 1 0 → probes.old ≤ limit }
     ensures few { Few N.HAS_SUMMARIES printer.old.options.width (N.tree first) (tasks_of N.tree printer.old) (by_mode mode 1 0) probes.old probes.new }
     ensures queue { printer.new.queue ≡ printer.old.queue }
     ensures summed { OnOk result (IsSummed N.HAS_SUMMARIES N.tree printer.new.commands) }
 {
+    if matches!(mode, Mode::Break) && is_past_limit(*probes, limit) {
+        return Ok(Taken::Shift);
+    }
     let chosen = partial_choice(printer, indent, mode, first, second, probes)?;
     Ok(Taken::Next(indent, chosen))
 }
@@ -273,6 +295,7 @@ fn union<N: Walk>(
     ensures printer { visits.new.printer
         ≡ counted_payload (is_rejected (decided_by_metrics printer.old.options (N.tree first) (state_of N.tree printer.old))) visits.old.printer }
     ensures probes { visits.new.probes ≡ visits.old.probes }
+    ensures past { IfOk result (λ taken. IsStopped taken → ⊥) }
     ensures others { printer.new ≡ printer.old }
 {
     match metrics_choice(printer, &first) {
@@ -285,8 +308,9 @@ fn union<N: Walk>(
     }
 }
 
-/// Visits one node at an indent in a mode, with the printer's commands following it. What a probe visits is counted in `visits`, and so is a
-/// payload that its metrics reject as the first branch of a union; the node itself is not.
+/// Visits one node at an indent in a mode, with the printer's commands following it. It answers `Shift`, and changes nothing, where the node
+/// asks a probe and probes have visited more nodes than the limit. What a probe visits is counted in `visits`, and so is a payload that its
+/// metrics reject as the first branch of a union; the node itself is not.
 #[inline(always)]
 #[tactic(auto, using(crate::proofs::Queues::queues))]
 pub fn step<'v, N: Walk>(
@@ -294,6 +318,7 @@ pub fn step<'v, N: Walk>(
     indent: usize,
     mode: Mode,
     node: &'v N,
+    limit: u64,
     visits: &mut Visits,
 ) -> Result<Taken<'v, N>, AllocError>
     requires { IsSummed N.HAS_SUMMARIES N.tree printer.old.commands }
@@ -305,7 +330,9 @@ pub fn step<'v, N: Walk>(
         ≡ counted_payload (rejects_payload printer.old.options (N.tree node.now) mode (state_of N.tree printer.old)) visits.old.printer }
     ensures rises { visits.old.probes ≤ visits.new.probes }
     ensures counted { visits.new.probes ≤ visits.old.probes + asked (N.tree node.now) mode (nodes (tasks_of N.tree printer.old)) }
-    ensures asked { OnOk result (RisesBy (each_probe (N.tree node.now) mode) visits.old.probes visits.new.probes) }
+    ensures asked { IfOk result (λ taken. IsStepped taken → RisesBy (each_probe (N.tree node.now) mode) visits.old.probes visits.new.probes) }
+    ensures past { IfOk result (λ taken. IsStopped taken → (limit < visits.old.probes) × (visits.old.probes < 2 ^ 64) × (visits.new ≡ visits.old)) }
+    ensures within { IsSteppedOrRefused result → 0 < each_probe (N.tree node.now) mode → visits.old.probes ≤ limit }
     ensures few { Few N.HAS_SUMMARIES printer.old.options.width (N.tree node.now) (tasks_of N.tree printer.old) (each_probe (N.tree node.now) mode)
         visits.old.probes visits.new.probes }
     ensures queue { suffix_depth (N.tree node.now) ≡ 0 → some_pending (state_of N.tree printer.old).pending ≡ false
@@ -343,12 +370,14 @@ pub fn step<'v, N: Walk>(
         View::Align(d) => Ok(Taken::Next(printer.column.prospective(), d)),
         View::Flatten(d) => Ok(Taken::NextFlat(indent, d)),
         View::BreakOrFlat(b, f) => Ok(Taken::Next(indent, either(mode, b, f))),
-        View::Group(d) => group(printer, indent, mode, d, &mut visits.probes),
+        View::Group(d) => group(printer, indent, mode, d, limit, &mut visits.probes),
         View::Union(l, r) => match mode {
             Mode::Break => union(printer, indent, l, r, visits),
             Mode::Flat => Ok(Taken::NextFlat(indent, l)),
         },
-        View::PartialUnion(l, r) => partial_union(printer, indent, mode, l, r, &mut visits.probes),
+        View::PartialUnion(l, r) => {
+            partial_union(printer, indent, mode, l, r, limit, &mut visits.probes)
+        }
         View::OnColumn(test, l, r) => {
             Ok(Taken::Next(indent, by_column(test, printer.column, indent, l, r)))
         }

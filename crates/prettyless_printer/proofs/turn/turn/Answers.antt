@@ -1,9 +1,11 @@
 use Rattle.std.proofs.Common.{[], Result, subst, length, ap, append-nil, arith, refl, sym}
 use Rattle.prettyless_sink.specs.Sink.{known}
+use Rattle.prettyless_sink.specs.declared.visits.Visits.{Visits}
 use Rattle.prettyless_model.specs.declared.mode.Mode.TheVariants.{Flat}
 use Rattle.prettyless_step.specs.Stack.{stack_of, task, trees}
 use Rattle.prettyless_step.specs.declared.queue.Queue.{Queue}
 use Rattle.prettyless_step.specs.Piece.{piece_bytes}
+use Rattle.prettyless_step.specs.Printing.{IsStepped, IsStopped}
 use Rattle.prettyless_step.specs.declared.printer.Taken.TheVariants as taken
 use Rattle.prettyless_sink.specs.declared.error.RenderError.{RenderError}
 use Rattle.prettyless_printer.specs.Turns.{Advances}
@@ -38,9 +40,9 @@ down-preserved-in-Ok-Next g c =
     let x = c.step.new.visits in
     let hand = c.down.invariant.hand in
     let one = visit f c.down.printer x c.one_more-visits.result hand c.one_more-visits.ensures.one c.one_more-visits.ensures.rises c.step.ensures.printer c.step.ensures.rises c.step.ensures.counted in
-    let took = takes f g.N.Walk.HAS_SUMMARIES c.args.limit c.down.printer x hand one (c.if-has_to_stop.ensures.within refl) c.step.ensures.counted c.step.ensures.few c.down.invariant.spends in
+    let took = takes f g.N.Walk.HAS_SUMMARIES c.args.limit c.down.printer x hand one (c.in-Ok-Next.ensures.within (subst IsStepped (sym c.in-Ok-Next.field-0-is) tt)) c.step.ensures.counted c.step.ensures.few c.down.invariant.spends in
     record {
-      hand = goes_down f c.down.printer q x c.in-Ok-Next.next_indent c.down.mode c.in-Ok-Next.next hand one c.in-Ok-Next.ensures.asked (shown f c.down.printer q c.in-Ok-Next.field-0 (taken.Next c.in-Ok-Next.next_indent c.in-Ok-Next.next) hand c.in-Ok-Next.field-0-is c.in-Ok-Next.ensures.step);
+      hand = goes_down f c.down.printer q x c.in-Ok-Next.next_indent c.down.mode c.in-Ok-Next.next hand one (c.in-Ok-Next.ensures.asked (subst IsStepped (sym c.in-Ok-Next.field-0-is) tt)) (shown f c.down.printer q c.in-Ok-Next.field-0 (taken.Next c.in-Ok-Next.next_indent c.in-Ok-Next.next) hand c.in-Ok-Next.field-0-is c.in-Ok-Next.ensures.step);
       summed = c.in-Ok-Next.ensures.summed;
       spends = λ plain. spends_down f c.down.printer q c.in-Ok-Next.next_indent c.down.mode c.in-Ok-Next.next took plain c.step.ensures.queue (shown f c.down.printer q c.in-Ok-Next.field-0 (taken.Next c.in-Ok-Next.next_indent c.in-Ok-Next.next) hand c.in-Ok-Next.field-0-is c.in-Ok-Next.ensures.step);
     }
@@ -52,9 +54,9 @@ down-preserved g c =
     let x = c.step.new.visits in
     let hand = c.down.invariant.hand in
     let one = visit f c.down.printer x c.one_more-visits.result hand c.one_more-visits.ensures.one c.one_more-visits.ensures.rises c.step.ensures.printer c.step.ensures.rises c.step.ensures.counted in
-    let took = takes f g.N.Walk.HAS_SUMMARIES c.args.limit c.down.printer x hand one (c.if-has_to_stop.ensures.within refl) c.step.ensures.counted c.step.ensures.few c.down.invariant.spends in
+    let took = takes f g.N.Walk.HAS_SUMMARIES c.args.limit c.down.printer x hand one (c.in-Ok-NextFlat.ensures.within (subst IsStepped (sym c.in-Ok-NextFlat.field-0-is) tt)) c.step.ensures.counted c.step.ensures.few c.down.invariant.spends in
     record {
-      hand = goes_down f c.down.printer q x c.in-Ok-NextFlat.next_indent Flat c.in-Ok-NextFlat.next hand one c.in-Ok-NextFlat.ensures.asked (shown f c.down.printer q c.in-Ok-NextFlat.field-0 (taken.NextFlat c.in-Ok-NextFlat.next_indent c.in-Ok-NextFlat.next) hand c.in-Ok-NextFlat.field-0-is c.in-Ok-NextFlat.ensures.step);
+      hand = goes_down f c.down.printer q x c.in-Ok-NextFlat.next_indent Flat c.in-Ok-NextFlat.next hand one (c.in-Ok-NextFlat.ensures.asked (subst IsStepped (sym c.in-Ok-NextFlat.field-0-is) tt)) (shown f c.down.printer q c.in-Ok-NextFlat.field-0 (taken.NextFlat c.in-Ok-NextFlat.next_indent c.in-Ok-NextFlat.next) hand c.in-Ok-NextFlat.field-0-is c.in-Ok-NextFlat.ensures.step);
       summed = c.in-Ok-NextFlat.ensures.summed;
       spends = λ plain. spends_down f c.down.printer q c.in-Ok-NextFlat.next_indent Flat c.in-Ok-NextFlat.next took plain c.step.ensures.queue (shown f c.down.printer q c.in-Ok-NextFlat.field-0 (taken.NextFlat c.in-Ok-NextFlat.next_indent c.in-Ok-NextFlat.next) hand c.in-Ok-NextFlat.field-0-is c.in-Ok-NextFlat.ensures.step);
     }
@@ -72,7 +74,7 @@ returns-in-Ok-lay_texts-clause-advances g c =
     subst (λ (z : Result (Unit {0}) (RenderError g.row.W-Error.Denot)). Advances f (point f c.args.printer.now (see c.args.out.now) c.args.visits.now)
     (point f c.lay_texts.new.printer (see c.lay_texts.new.out) c.lay_texts.new.visits) (went z)) c.in-Ok-lay_texts.is
     (c.lay_texts.ensures.lays _ i
-    (laying_begins f c.down.printer q x i n hand one c.in-Ok-NextTexts.ensures.asked (shown f c.down.printer q c.in-Ok-NextTexts.field-0 (taken.NextTexts i n) hand c.in-Ok-NextTexts.field-0-is c.in-Ok-NextTexts.ensures.step).0))
+    (laying_begins f c.down.printer q x i n hand one (c.in-Ok-NextTexts.ensures.asked (subst IsStepped (sym c.in-Ok-NextTexts.field-0-is) tt)) (shown f c.down.printer q c.in-Ok-NextTexts.field-0 (taken.NextTexts i n) hand c.in-Ok-NextTexts.field-0-is c.in-Ok-NextTexts.ensures.step).0))
 
 pub returns-in-Ok-lay_texts-clause-spends : goal.returns-in-Ok-lay_texts-clause-spends
 returns-in-Ok-lay_texts-clause-spends g c =
@@ -84,7 +86,7 @@ returns-in-Ok-lay_texts-clause-spends g c =
     let laid = c.lay_texts.ensures in
     let hand = c.down.invariant.hand in
     let one = visit f c.down.printer x c.one_more-visits.result hand c.one_more-visits.ensures.one c.one_more-visits.ensures.rises c.step.ensures.printer c.step.ensures.rises c.step.ensures.counted in
-    let took = takes f g.N.Walk.HAS_SUMMARIES c.args.limit c.down.printer x hand one (c.if-has_to_stop.ensures.within refl) c.step.ensures.counted c.step.ensures.few c.down.invariant.spends in
+    let took = takes f g.N.Walk.HAS_SUMMARIES c.args.limit c.down.printer x hand one (c.in-Ok-NextTexts.ensures.within (subst IsStepped (sym c.in-Ok-NextTexts.field-0-is) tt)) c.step.ensures.counted c.step.ensures.few c.down.invariant.spends in
     λ plain.
     (spends_laid (standing f q) (standing f c.lay_texts.new.printer) c.lay_texts.new.visits (ap (stack_of f) laid.commands) (ap (λ (z : Queue g.row.N.Denot). trees f z.nodes.items) laid.queue) laid.probes laid.rises laid.counted
     (spends_down f c.down.printer q i Flat n took plain c.step.ensures.queue
@@ -103,7 +105,7 @@ returns-in-Err-lay_texts-clause-advances g c =
     subst (λ (z : Result (Unit {0}) (RenderError g.row.W-Error.Denot)). Advances f (point f c.args.printer.now (see c.args.out.now) c.args.visits.now)
     (point f c.lay_texts.new.printer (see c.lay_texts.new.out) c.lay_texts.new.visits) (went z)) c.in-Err-lay_texts.is
     (c.lay_texts.ensures.lays _ i
-    (laying_begins f c.down.printer q x i n hand one c.in-Ok-NextTexts.ensures.asked (shown f c.down.printer q c.in-Ok-NextTexts.field-0 (taken.NextTexts i n) hand c.in-Ok-NextTexts.field-0-is c.in-Ok-NextTexts.ensures.step).0))
+    (laying_begins f c.down.printer q x i n hand one (c.in-Ok-NextTexts.ensures.asked (subst IsStepped (sym c.in-Ok-NextTexts.field-0-is) tt)) (shown f c.down.printer q c.in-Ok-NextTexts.field-0 (taken.NextTexts i n) hand c.in-Ok-NextTexts.field-0-is c.in-Ok-NextTexts.ensures.step).0))
 
 pub returns-in-Err-lay_texts-clause-spends : goal.returns-in-Err-lay_texts-clause-spends
 returns-in-Err-lay_texts-clause-spends g c =
@@ -115,7 +117,7 @@ returns-in-Err-lay_texts-clause-spends g c =
     let laid = c.lay_texts.ensures in
     let hand = c.down.invariant.hand in
     let one = visit f c.down.printer x c.one_more-visits.result hand c.one_more-visits.ensures.one c.one_more-visits.ensures.rises c.step.ensures.printer c.step.ensures.rises c.step.ensures.counted in
-    let took = takes f g.N.Walk.HAS_SUMMARIES c.args.limit c.down.printer x hand one (c.if-has_to_stop.ensures.within refl) c.step.ensures.counted c.step.ensures.few c.down.invariant.spends in
+    let took = takes f g.N.Walk.HAS_SUMMARIES c.args.limit c.down.printer x hand one (c.in-Ok-NextTexts.ensures.within (subst IsStepped (sym c.in-Ok-NextTexts.field-0-is) tt)) c.step.ensures.counted c.step.ensures.few c.down.invariant.spends in
     λ plain.
     spends_all (spends_laid (standing f q) (standing f c.lay_texts.new.printer) c.lay_texts.new.visits (ap (stack_of f) laid.commands) (ap (λ (z : Queue g.row.N.Denot). trees f z.nodes.items) laid.queue) laid.probes laid.rises laid.counted
     (spends_down f c.down.printer q i Flat n took plain c.step.ensures.queue
@@ -129,7 +131,7 @@ returns-in-Ok-Quiet-clause-advances g c =
     let x = c.step.new.visits in
     let hand = c.down.invariant.hand in
     let one = visit f c.down.printer x c.one_more-visits.result hand c.one_more-visits.ensures.one c.one_more-visits.ensures.rises c.step.ensures.printer c.step.ensures.rises c.step.ensures.counted in
-    advances_went f (standing f q) (see c.down.out) x [] hand one c.in-Ok-Quiet.ensures.asked (wrote f _ [] c.down.printer q (shown f c.down.printer q c.in-Ok-Quiet.field-0 taken.Quiet hand c.in-Ok-Quiet.field-0-is c.in-Ok-Quiet.ensures.step)) refl
+    advances_went f (standing f q) (see c.down.out) x [] hand one (c.in-Ok-Quiet.ensures.asked (subst IsStepped (sym c.in-Ok-Quiet.field-0-is) tt)) (wrote f _ [] c.down.printer q (shown f c.down.printer q c.in-Ok-Quiet.field-0 taken.Quiet hand c.in-Ok-Quiet.field-0-is c.in-Ok-Quiet.ensures.step)) refl
     (λ is_known. (is_known, (sym (append-nil (known (g.W.Render.bytes c.down.out))), refl)))
 
 pub returns-in-Ok-Failed-clause-advances : goal.returns-in-Ok-Failed-clause-advances
@@ -148,7 +150,7 @@ returns-in-Ok-Chosen-clause-advances g c =
     let x = c.step.new.visits in
     let hand = c.down.invariant.hand in
     let one = visit f c.down.printer x c.one_more-visits.result hand c.one_more-visits.ensures.one c.one_more-visits.ensures.rises c.step.ensures.printer c.step.ensures.rises c.step.ensures.counted in
-    advances_chosen f c.down.printer q x c.in-Ok-Chosen.indent c.in-Ok-Chosen.first c.in-Ok-Chosen.second hand one c.in-Ok-Chosen.ensures.asked
+    advances_chosen f c.down.printer q x c.in-Ok-Chosen.indent c.in-Ok-Chosen.first c.in-Ok-Chosen.second hand one (c.in-Ok-Chosen.ensures.asked (subst IsStepped (sym c.in-Ok-Chosen.field-0-is) tt))
     (shown f c.down.printer q c.in-Ok-Chosen.field-0 (taken.Chosen c.in-Ok-Chosen.indent c.in-Ok-Chosen.first c.in-Ok-Chosen.second) hand c.in-Ok-Chosen.field-0-is c.in-Ok-Chosen.ensures.step)
 
 pub returns-in-Ok-write_piece-clause-advances : goal.returns-in-Ok-write_piece-clause-advances
@@ -159,17 +161,17 @@ returns-in-Ok-write_piece-clause-advances g c =
     let x = c.step.new.visits in
     let hand = c.down.invariant.hand in
     let one = visit f c.down.printer x c.one_more-visits.result hand c.one_more-visits.ensures.one c.one_more-visits.ensures.rises c.step.ensures.printer c.step.ensures.rises c.step.ensures.counted in
-    advances_went f (standing f q) (see c.write_piece.new.out) x (piece_bytes c.in-Ok-Written.piece) hand one c.in-Ok-Written.ensures.asked (wrote f _ (piece_bytes c.in-Ok-Written.piece) c.down.printer q (shown f c.down.printer q c.in-Ok-Written.field-0 (taken.Written c.in-Ok-Written.piece) hand c.in-Ok-Written.field-0-is c.in-Ok-Written.ensures.step))
+    advances_went f (standing f q) (see c.write_piece.new.out) x (piece_bytes c.in-Ok-Written.piece) hand one (c.in-Ok-Written.ensures.asked (subst IsStepped (sym c.in-Ok-Written.field-0-is) tt)) (wrote f _ (piece_bytes c.in-Ok-Written.piece) c.down.printer q (shown f c.down.printer q c.in-Ok-Written.field-0 (taken.Written c.in-Ok-Written.piece) hand c.in-Ok-Written.field-0-is c.in-Ok-Written.ensures.step))
     c.write_piece.ensures.same_lender c.in-Ok-write_piece.ensures.ok
 
-pub returns-in-Err-step-clause-advances : goal.returns-in-Err-step-clause-advances
-returns-in-Err-step-clause-advances g c =
+pub returns-in-Err-clause-advances : goal.returns-in-Err-clause-advances
+returns-in-Err-clause-advances g c =
     let f = g.N.Walk.tree in
     let q = c.step.new.printer in
     let x = c.step.new.visits in
     let hand = c.down.invariant.hand in
     let one = visit f c.down.printer x c.one_more-visits.result hand c.one_more-visits.ensures.one c.one_more-visits.ensures.rises c.step.ensures.printer c.step.ensures.rises c.step.ensures.counted in
-    advances_refused f (standing f q) x c.in-Err-step.e hand one
+    advances_refused f (standing f q) x c.in-Err.e hand one
 
 pub returns-in-Err-write_piece-clause-advances : goal.returns-in-Err-write_piece-clause-advances
 returns-in-Err-write_piece-clause-advances g c =
@@ -182,20 +184,13 @@ returns-in-Err-write_piece-clause-advances g c =
     advances_sink_failed f (standing f q) (see c.write_piece.new.out) x (piece_bytes c.in-Ok-Written.piece) c.in-Err-write_piece.e hand one (wrote f _ (piece_bytes c.in-Ok-Written.piece) c.down.printer q (shown f c.down.printer q c.in-Ok-Written.field-0 (taken.Written c.in-Ok-Written.piece) hand c.in-Ok-Written.field-0-is c.in-Ok-Written.ensures.step))
     c.write_piece.ensures.same_lender c.in-Err-write_piece.ensures.err
 
-pub returns-in-Ok-clause-spends : goal.returns-in-Ok-clause-spends
-returns-in-Ok-clause-spends g c = λ plain.
-    spends_stopped _ (standing g.N.Walk.tree c.down.printer) (standing g.N.Walk.tree (record c.down.printer { commands = c.push.new.self })) c.in-Ok.ensures.pushed refl (c.down.invariant.spends plain)
-
 pub returns-in-Err-clause-spends : goal.returns-in-Err-clause-spends
-returns-in-Err-clause-spends g c = λ plain. spends_all (c.down.invariant.spends plain)
-
-pub returns-in-Err-step-clause-spends : goal.returns-in-Err-step-clause-spends
-returns-in-Err-step-clause-spends g c =
+returns-in-Err-clause-spends g c =
     let f = g.N.Walk.tree in
     let x = c.step.new.visits in
     let hand = c.down.invariant.hand in
     let one = visit f c.down.printer x c.one_more-visits.result hand c.one_more-visits.ensures.one c.one_more-visits.ensures.rises c.step.ensures.printer c.step.ensures.rises c.step.ensures.counted in
-    let took = takes f g.N.Walk.HAS_SUMMARIES c.args.limit c.down.printer x hand one (c.if-has_to_stop.ensures.within refl) c.step.ensures.counted c.step.ensures.few c.down.invariant.spends in
+    let took = takes f g.N.Walk.HAS_SUMMARIES c.args.limit c.down.printer x hand one (c.in-Err.ensures.within tt) c.step.ensures.counted c.step.ensures.few c.down.invariant.spends in
     λ plain. spends_broke f c.down.printer took plain
 
 pub returns-in-Ok-Quiet-clause-spends : goal.returns-in-Ok-Quiet-clause-spends
@@ -205,7 +200,7 @@ returns-in-Ok-Quiet-clause-spends g c =
     let x = c.step.new.visits in
     let hand = c.down.invariant.hand in
     let one = visit f c.down.printer x c.one_more-visits.result hand c.one_more-visits.ensures.one c.one_more-visits.ensures.rises c.step.ensures.printer c.step.ensures.rises c.step.ensures.counted in
-    let took = takes f g.N.Walk.HAS_SUMMARIES c.args.limit c.down.printer x hand one (c.if-has_to_stop.ensures.within refl) c.step.ensures.counted c.step.ensures.few c.down.invariant.spends in
+    let took = takes f g.N.Walk.HAS_SUMMARIES c.args.limit c.down.printer x hand one (c.in-Ok-Quiet.ensures.within (subst IsStepped (sym c.in-Ok-Quiet.field-0-is) tt)) c.step.ensures.counted c.step.ensures.few c.down.invariant.spends in
     λ plain.
     spends_went f c.down.printer q [] took plain c.step.ensures.queue (wrote f _ [] c.down.printer q (shown f c.down.printer q c.in-Ok-Quiet.field-0 taken.Quiet hand c.in-Ok-Quiet.field-0-is c.in-Ok-Quiet.ensures.step))
 
@@ -216,7 +211,7 @@ returns-in-Ok-Failed-clause-spends g c =
     let x = c.step.new.visits in
     let hand = c.down.invariant.hand in
     let one = visit f c.down.printer x c.one_more-visits.result hand c.one_more-visits.ensures.one c.one_more-visits.ensures.rises c.step.ensures.printer c.step.ensures.rises c.step.ensures.counted in
-    let took = takes f g.N.Walk.HAS_SUMMARIES c.args.limit c.down.printer x hand one (c.if-has_to_stop.ensures.within refl) c.step.ensures.counted c.step.ensures.few c.down.invariant.spends in
+    let took = takes f g.N.Walk.HAS_SUMMARIES c.args.limit c.down.printer x hand one (c.in-Ok-Failed.ensures.within (subst IsStepped (sym c.in-Ok-Failed.field-0-is) tt)) c.step.ensures.counted c.step.ensures.few c.down.invariant.spends in
     λ plain. spends_failed f c.down.printer q took plain (shown f c.down.printer q c.in-Ok-Failed.field-0 taken.Failed hand c.in-Ok-Failed.field-0-is c.in-Ok-Failed.ensures.step)
 
 pub returns-in-Ok-Chosen-clause-spends : goal.returns-in-Ok-Chosen-clause-spends
@@ -226,7 +221,7 @@ returns-in-Ok-Chosen-clause-spends g c =
     let x = c.step.new.visits in
     let hand = c.down.invariant.hand in
     let one = visit f c.down.printer x c.one_more-visits.result hand c.one_more-visits.ensures.one c.one_more-visits.ensures.rises c.step.ensures.printer c.step.ensures.rises c.step.ensures.counted in
-    let took = takes f g.N.Walk.HAS_SUMMARIES c.args.limit c.down.printer x hand one (c.if-has_to_stop.ensures.within refl) c.step.ensures.counted c.step.ensures.few c.down.invariant.spends in
+    let took = takes f g.N.Walk.HAS_SUMMARIES c.args.limit c.down.printer x hand one (c.in-Ok-Chosen.ensures.within (subst IsStepped (sym c.in-Ok-Chosen.field-0-is) tt)) c.step.ensures.counted c.step.ensures.few c.down.invariant.spends in
     λ plain.
     spends_chosen f c.down.printer q c.in-Ok-Chosen.indent c.in-Ok-Chosen.first c.in-Ok-Chosen.second took plain
     (shown f c.down.printer q c.in-Ok-Chosen.field-0 (taken.Chosen c.in-Ok-Chosen.indent c.in-Ok-Chosen.first c.in-Ok-Chosen.second) hand c.in-Ok-Chosen.field-0-is c.in-Ok-Chosen.ensures.step)
@@ -238,7 +233,7 @@ returns-in-Ok-write_piece-clause-spends g c =
     let x = c.step.new.visits in
     let hand = c.down.invariant.hand in
     let one = visit f c.down.printer x c.one_more-visits.result hand c.one_more-visits.ensures.one c.one_more-visits.ensures.rises c.step.ensures.printer c.step.ensures.rises c.step.ensures.counted in
-    let took = takes f g.N.Walk.HAS_SUMMARIES c.args.limit c.down.printer x hand one (c.if-has_to_stop.ensures.within refl) c.step.ensures.counted c.step.ensures.few c.down.invariant.spends in
+    let took = takes f g.N.Walk.HAS_SUMMARIES c.args.limit c.down.printer x hand one (c.in-Ok-Written.ensures.within (subst IsStepped (sym c.in-Ok-Written.field-0-is) tt)) c.step.ensures.counted c.step.ensures.few c.down.invariant.spends in
     let bytes = piece_bytes c.in-Ok-Written.piece in
     λ plain.
     spends_went f c.down.printer q bytes took plain c.step.ensures.queue
@@ -250,5 +245,10 @@ returns-in-Err-write_piece-clause-spends g c =
     let x = c.step.new.visits in
     let hand = c.down.invariant.hand in
     let one = visit f c.down.printer x c.one_more-visits.result hand c.one_more-visits.ensures.one c.one_more-visits.ensures.rises c.step.ensures.printer c.step.ensures.rises c.step.ensures.counted in
-    let took = takes f g.N.Walk.HAS_SUMMARIES c.args.limit c.down.printer x hand one (c.if-has_to_stop.ensures.within refl) c.step.ensures.counted c.step.ensures.few c.down.invariant.spends in
+    let took = takes f g.N.Walk.HAS_SUMMARIES c.args.limit c.down.printer x hand one (c.in-Ok-Written.ensures.within (subst IsStepped (sym c.in-Ok-Written.field-0-is) tt)) c.step.ensures.counted c.step.ensures.few c.down.invariant.spends in
     λ plain. spends_broke f c.down.printer took plain
+
+pub returns-in-Ok-clause-past : goal.returns-in-Ok-clause-past
+returns-in-Ok-clause-past g c =
+    let past = c.in-Ok-Shift.ensures.past (subst IsStopped (sym c.in-Ok-Shift.field-0-is) tt) in
+    (omega (arith, past.0, ap (λ (v : Visits). v.probes) past.2), omega (arith, past.1, ap (λ (v : Visits). v.probes) past.2))
