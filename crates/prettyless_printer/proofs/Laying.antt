@@ -54,7 +54,7 @@ once_rise : {t : Task} {v x : Visits} → Once t v x → Rise v x
 once_rise {t} {v} {x} h = record { printer = h.rises; probes = omega (arith, h.probes) }
 
 -- The step of the first of the tasks above the stack: it writes bytes and leads to these ones.
-pub record Writes (a : Point) (t : Task) (us : List Task) (b : Point) (vs : List Task) (q : Standing) (bytes : List ℕ) : Type 0 where
+pub record LeadsOn (a : Point) (t : Task) (us : List Task) (b : Point) (vs : List Task) (q : Standing) (bytes : List ℕ) : Type 0 where
   pub tasks : q.tasks ≡ b.printer.tasks
   pub options : q.options ≡ b.printer.options
   pub grows : Grows b.printer q
@@ -67,7 +67,8 @@ below_long us ts n m l h = omega (arith, l, h, length-append us ts)
 
 -- the first of the tasks above the stack is laid
 pub laying_step : {a : Point} {t : Task} {us : List Task} {b : Point} (vs : List Task) (q : Standing) (s : Seen) (x : Visits) (bytes : List ℕ) → Laying a (t ∷ us) b → Once t b.visits x →
-    Writes a t us b vs q bytes → s.lender ≡ b.sink.lender → Accepts b.sink.bytes s.bytes bytes b.sink.failures s.failures → Laying a vs (point_at q s x)
+    LeadsOn a t us b vs q bytes → s.lender ≡ b.sink.lender → Accepts b.sink.bytes s.bytes bytes b.sink.failures s.failures →
+    Laying a vs (point_at q s x)
 laying_step {a} {t} {us} {b} vs q s x bytes h once w lender accepts =
     let o = a.printer.options in
     let ts : List Task = us ++ b.printer.tasks in
@@ -124,15 +125,18 @@ laying_done {N} {E} f {a} {b} h = record {
 }
 
 -- what broke off at a task has counted no more than the tasks allow
-laying_broke : {a : Point} {t : Task} {us : List Task} {b : Point} {x : Visits} → Laying a (t ∷ us) b → Once t b.visits x → Plain a.printer → CountsAtMost a.printer.tasks [] a.visits x
+laying_broke : {a : Point} {t : Task} {us : List Task} {b : Point} {x : Visits} → Laying a (t ∷ us) b → Once t b.visits x →
+    Plain a.printer → CountsAtMost a.printer.tasks [] a.visits x
 laying_broke {a} {t} {us} {b} {x} h once plain =
     let ts : List Task = us ++ b.printer.tasks in
     let st = state_at b.printer in
     at_most_all (at_most_then (h.at_most plain).1 (failed_at_most a.printer.options t ts st b.visits x (once_more a.printer.options t ts st b.visits x once)))
 
 -- the sink failed in the bytes of a text
-pub laying_sink_failed : {N E : Type 0} (f : N → Tree) {a : Point} {t : Task} {us : List Task} {b : Point} (vs : List Task) (p q : Standing) (s : Seen) (x : Visits) (bytes : List ℕ) (e : E) → Laying a (t ∷ us) b →
-    Once t b.visits x → Writes a t us b vs q bytes → 1 ≤ size t.tree → s.lender ≡ b.sink.lender → Refuses b.sink.bytes s.bytes bytes b.sink.failures s.failures →
+pub laying_sink_failed : {N E : Type 0} (f : N →
+    Tree) {a : Point} {t : Task} {us : List Task} {b : Point} (vs : List Task) (p q : Standing) (s : Seen) (x : Visits) (bytes : List ℕ) (e : E) → Laying a (t ∷ us) b →
+    Once t b.visits x → LeadsOn a t us b vs q bytes → 1 ≤ size t.tree → s.lender ≡ b.sink.lender →
+    Refuses b.sink.bytes s.bytes bytes b.sink.failures s.failures →
     Advances {N = N} {E = E} f a (point_at p s x) (Err (Sink e))
 laying_sink_failed {N} {E} f {a} {t} {us} {b} vs p q s x bytes e h once w size_1 lender refused =
     let o = a.printer.options in
@@ -162,7 +166,9 @@ laying_sink_failed {N} {E} f {a} {t} {us} {b} vs p q s x bytes e h once w size_1
     }
 
 -- memory was refused at a task
-pub laying_refused : {N E : Type 0} (f : N → Tree) {a : Point} {t : Task} {us : List Task} {b : Point} (p : Standing) (x : Visits) (e : _) → Laying a (t ∷ us) b → Once t b.visits x → 1 ≤ size t.tree →
+pub laying_refused : {N E : Type 0} (f : N →
+    Tree) {a : Point} {t : Task} {us : List Task} {b : Point} (p : Standing) (x : Visits) (e : _) → Laying a (t ∷ us) b →
+    Once t b.visits x → 1 ≤ size t.tree →
     Advances {N = N} {E = E} f a (point_at p b.sink x) (Err (Memory e))
 laying_refused {N} {E} f {a} {t} {us} {b} p x e h once size_1 = record {
   options = tt;
@@ -185,8 +191,11 @@ laying_refused {N} {E} f {a} {t} {us} {b} p x e h once size_1 = record {
 }
 
 -- a step led to the document
-pub laying_begins : {N : Type 0} (f : N → Tree) {a : Point} {t : Task} {s : Seen} {v : Visits} (p q : Printer N) (x : Visits) (i : ℕ) (n : N) → InHand a t (point f p s v) → Visit a.printer.options t (point f p s v) x →
-    RisesBy (each_probe t.tree t.mode) v.probes x.probes → Hands f i Flat n (step_from a.printer.options t (standing f p)) p q → Laying a (make_task i Flat (f n) ∷ []) (point f q s x)
+pub laying_begins : {N : Type 0} (f : N →
+    Tree) {a : Point} {t : Task} {s : Seen} {v : Visits} (p q : Printer N) (x : Visits) (i : ℕ) (n : N) → InHand a t (point f p s v) →
+    Visit a.printer.options t (point f p s v) x →
+    RisesBy (each_probe t.tree t.mode) v.probes x.probes → Hands f i Flat n (step_from a.printer.options t (standing f p)) p q →
+    Laying a (make_task i Flat (f n) ∷ []) (point f q s x)
 laying_begins {N} f {a} {t} {s} {v} p q x i n h one probes shows =
     let b = point f p s v in
     let c = standing f q in
@@ -228,7 +237,8 @@ head d ds [] = record { at = 0; others = []; is_it = refl }
 head d ds (i ∷ is) = record { at = i; others = is; is_it = refl }
 
 -- the steps of the first document: it puts some in its place, each flat, and writes nothing
-laying_leads : {a : Point} {i : ℕ} {d : Tree} {us : List Task} {b : Point} (vs : List Task) (x : Visits) → Laying a (make_task i Flat d ∷ us) b → Once (make_task i Flat d) b.visits x →
+laying_leads : {a : Point} {i : ℕ} {d : Tree} {us : List Task} {b : Point} (vs : List Task) (x : Visits) →
+    Laying a (make_task i Flat d ∷ us) b → Once (make_task i Flat d) b.visits x →
     Leads (step_at a.printer.options (make_task i Flat d) (us ++ b.printer.tasks) (state_at b.printer)) (us ++ b.printer.tasks) [] (vs ++ b.printer.tasks) (state_at b.printer) → nodes vs + 1 ≤ size d + nodes us →
     Laying a vs (point_at b.printer b.sink x)
 laying_leads {a} {i} {d} {us} {b} vs x h once leads fewer =
@@ -236,7 +246,8 @@ laying_leads {a} {i} {d} {us} {b} vs x h once leads fewer =
     (λ is_known. (is_known, (sym (append-nil (known b.sink.bytes)), refl)))
 
 -- one document after another
-pub lays_append : {a : Point} {b : Point} (l r : Tree) (ds : List Tree) (x : Visits) → Lays a (Append l r ∷ ds) b → ((i : ℕ) → Once (make_task i Flat (Append l r)) b.visits x) → Lays a (l ∷ r ∷ ds) (point_at b.printer b.sink x)
+pub lays_append : {a : Point} {b : Point} (l r : Tree) (ds : List Tree) (x : Visits) → Lays a (Append l r ∷ ds) b → ((i : ℕ) →
+    Once (make_task i Flat (Append l r)) b.visits x) → Lays a (l ∷ r ∷ ds) (point_at b.printer b.sink x)
 lays_append {a} {b} l r ds x h once =
     let k = head (Append l r) ds h.0 in (
       k.at ∷ k.at ∷ k.others,
@@ -244,21 +255,24 @@ lays_append {a} {b} l r ds x h once =
     )
 
 -- a document in the place of another one
-pub lays_nest : {a : Point} {b : Point} (k : ℤ) (d : Tree) (ds : List Tree) (x : Visits) → Lays a (Nest k d ∷ ds) b → ((i : ℕ) → Once (make_task i Flat (Nest k d)) b.visits x) → Lays a (d ∷ ds) (point_at b.printer b.sink x)
+pub lays_nest : {a : Point} {b : Point} (k : ℤ) (d : Tree) (ds : List Tree) (x : Visits) → Lays a (Nest k d ∷ ds) b → ((i : ℕ) →
+    Once (make_task i Flat (Nest k d)) b.visits x) → Lays a (d ∷ ds) (point_at b.printer b.sink x)
 lays_nest {a} {b} k d ds x h once =
     let z = head (Nest k d) ds h.0 in (
       nested z.at k ∷ z.others,
       laying_leads (make_task (nested z.at k) Flat d ∷ flat_tasks z.others ds) x (subst (λ (us : List Task). Laying a us b) z.is_it h.1) (once z.at) (refl, refl, refl) (omega arith),
     )
 
-pub lays_group : {a : Point} {b : Point} (d : Tree) (ds : List Tree) (x : Visits) → Lays a (Group d ∷ ds) b → ((i : ℕ) → Once (make_task i Flat (Group d)) b.visits x) → Lays a (d ∷ ds) (point_at b.printer b.sink x)
+pub lays_group : {a : Point} {b : Point} (d : Tree) (ds : List Tree) (x : Visits) → Lays a (Group d ∷ ds) b → ((i : ℕ) →
+    Once (make_task i Flat (Group d)) b.visits x) → Lays a (d ∷ ds) (point_at b.printer b.sink x)
 lays_group {a} {b} d ds x h once =
     let z = head (Group d) ds h.0 in (
       z.at ∷ z.others,
       laying_leads (make_task z.at Flat d ∷ flat_tasks z.others ds) x (subst (λ (us : List Task). Laying a us b) z.is_it h.1) (once z.at) (refl, refl, refl) (omega arith),
     )
 
-pub lays_either : {a : Point} {b : Point} (c d : Tree) (ds : List Tree) (x : Visits) → Lays a (BreakOrFlat c d ∷ ds) b → ((i : ℕ) → Once (make_task i Flat (BreakOrFlat c d)) b.visits x) → Lays a (d ∷ ds) (point_at b.printer b.sink x)
+pub lays_either : {a : Point} {b : Point} (c d : Tree) (ds : List Tree) (x : Visits) → Lays a (BreakOrFlat c d ∷ ds) b → ((i : ℕ) →
+    Once (make_task i Flat (BreakOrFlat c d)) b.visits x) → Lays a (d ∷ ds) (point_at b.printer b.sink x)
 lays_either {a} {b} c d ds x h once =
     let z = head (BreakOrFlat c d) ds h.0 in (
       z.at ∷ z.others,
@@ -266,12 +280,14 @@ lays_either {a} {b} c d ds x h once =
     )
 
 -- nothing
-pub lays_nil : {a : Point} {b : Point} (ds : List Tree) (x : Visits) → Lays a (Nil ∷ ds) b → ((i : ℕ) → Once (make_task i Flat Nil) b.visits x) → Lays a ds (point_at b.printer b.sink x)
+pub lays_nil : {a : Point} {b : Point} (ds : List Tree) (x : Visits) → Lays a (Nil ∷ ds) b → ((i : ℕ) →
+    Once (make_task i Flat Nil) b.visits x) → Lays a ds (point_at b.printer b.sink x)
 lays_nil {a} {b} ds x h once =
     let z = head Nil ds h.0 in
     (z.others, laying_leads (flat_tasks z.others ds) x (subst (λ (us : List Task). Laying a us b) z.is_it h.1) (once z.at) (refl, refl, refl) (omega arith))
 
-pub lays_empty : {a : Point} {b : Point} (s : List ℕ) (ds : List Tree) (x : Visits) → s ≡ [] → Lays a (Text s ∷ ds) b → ((i : ℕ) → Once (make_task i Flat (Text s)) b.visits x) → Lays a ds (point_at b.printer b.sink x)
+pub lays_empty : {a : Point} {b : Point} (s : List ℕ) (ds : List Tree) (x : Visits) → s ≡ [] → Lays a (Text s ∷ ds) b → ((i : ℕ) →
+    Once (make_task i Flat (Text s)) b.visits x) → Lays a ds (point_at b.printer b.sink x)
 lays_empty {a} {b} [] ds x e h once =
     let z = head (Text []) ds h.0 in
     (z.others, laying_leads (flat_tasks z.others ds) x (subst (λ (us : List Task). Laying a us b) z.is_it h.1) (once z.at) (refl, refl, refl) (omega arith))
@@ -286,7 +302,8 @@ within_less : (w : Bool) (n m width : ℕ) → n ≤ m → (w && nat_le m width)
 within_less false n m width l = refl
 within_less true n m width l = grind (arith)
 
-text_leads : (o : RenderOptions) (p : Standing) (w : Bool) (g position : ℕ) (s : List ℕ) (i : ℕ) (ts : List Task) → o ≡ p.options → 0 < length s → Spot p w g position →
+text_leads : (o : RenderOptions) (p : Standing) (w : Bool) (g position : ℕ) (s : List ℕ) (i : ℕ) (ts : List Task) → o ≡ p.options →
+    0 < length s → Spot p w g position →
     Leads (step_at o (make_task i Flat (Text s)) ts (state_at (laid_to p w position))) ts (spaces g ++ s) ts (state_at (laid_to p true (saturating_add position (length s))))
 text_leads o p w g position [] i ts e l h = absurd (omega (arith, l))
 text_leads o p false g position (c ∷ cs) i ts e l h =
@@ -338,8 +355,9 @@ stands_grows : (p : Standing) (w : Bool) (m n : ℕ) → Grows (laid_to p w m) (
 stands_grows p false m n = ([], sym (append-nil p.queue))
 stands_grows p true m n = ([], sym (append-nil p.queue))
 
-text_writes : (a : Point) (p : Standing) (w : Bool) (g position : ℕ) (s : List ℕ) (i : ℕ) (us : List Task) (sink : Seen) (v : Visits) → p.options ≡ a.printer.options → 0 < length s → Spot p w g position →
-    Writes a (make_task i Flat (Text s)) us (point_at (laid_to p w position) sink v) us (laid_to p true (saturating_add position (length s))) (spaces g ++ s)
+text_writes : (a : Point) (p : Standing) (w : Bool) (g position : ℕ) (s : List ℕ) (i : ℕ) (us : List Task) (sink : Seen) (v : Visits) →
+    p.options ≡ a.printer.options → 0 < length s → Spot p w g position →
+    LeadsOn a (make_task i Flat (Text s)) us (point_at (laid_to p w position) sink v) us (laid_to p true (saturating_add position (length s))) (spaces g ++ s)
 text_writes a p w g position s i us sink v e l h = record {
   tasks = sym (stands_tasks p w position);
   options = sym (stands_options p w position);
@@ -350,7 +368,8 @@ text_writes a p w g position s i us sink v e l h = record {
 
 -- it is written
 pub lays_text : {a : Point} {p : Standing} {w : Bool} {g position : ℕ} {s : List ℕ} {ds : List Tree} {sink : Seen} {v x : Visits} (t : Seen) → AtText a p w g position s ds sink v x → t.lender ≡ sink.lender →
-    Accepts sink.bytes t.bytes (spaces g ++ s) sink.failures t.failures → Lays a ds (point_at (laid_to p true (saturating_add position (length s))) t x)
+    Accepts sink.bytes t.bytes (spaces g ++ s) sink.failures t.failures →
+    Lays a ds (point_at (laid_to p true (saturating_add position (length s))) t x)
 lays_text {a} {p} {w} {g} {position} {s} {ds} {sink} {v} {x} t h lender accepts =
     let b = point_at (laid_to p w position) sink v in
     let z = head (Text s) ds h.lays.0 in
@@ -361,8 +380,10 @@ lays_text {a} {p} {w} {g} {position} {s} {ds} {sink} {v} {x} t h lender accepts 
     )
 
 -- the sink failed in it
-pub lays_text_failed : {N E : Type 0} (f : N → Tree) {a : Point} {p : Standing} {w : Bool} {g position : ℕ} {s : List ℕ} {ds : List Tree} {sink : Seen} {v x : Visits} (q : Standing) (t : Seen) (e : E) → AtText a p w g position s ds sink v x →
-    t.lender ≡ sink.lender → Refuses sink.bytes t.bytes (spaces g ++ s) sink.failures t.failures → Advances {N = N} {E = E} f a (point_at q t x) (Err (Sink e))
+pub lays_text_failed : {N E : Type 0} (f : N →
+    Tree) {a : Point} {p : Standing} {w : Bool} {g position : ℕ} {s : List ℕ} {ds : List Tree} {sink : Seen} {v x : Visits} (q : Standing) (t : Seen) (e : E) → AtText a p w g position s ds sink v x →
+    t.lender ≡ sink.lender → Refuses sink.bytes t.bytes (spaces g ++ s) sink.failures t.failures →
+    Advances {N = N} {E = E} f a (point_at q t x) (Err (Sink e))
 lays_text_failed {N} {E} f {a} {p} {w} {g} {position} {s} {ds} {sink} {v} {x} q t e h lender refused =
     let b = point_at (laid_to p w position) sink v in
     let z = head (Text s) ds h.lays.0 in
@@ -371,7 +392,8 @@ lays_text_failed {N} {E} f {a} {p} {w} {g} {position} {s} {ds} {sink} {v} {x} q 
     (text_writes a p w g position s z.at us sink v h.options h.some h.spot) (omega arith) lender refused
 
 -- memory was refused at the first document
-pub lays_refused : {N E : Type 0} (f : N → Tree) {a b : Point} (d : Tree) (ds : List Tree) (p : Standing) (x : Visits) (e : _) → Lays a (d ∷ ds) b → ((i : ℕ) → Once (make_task i Flat d) b.visits x) → 1 ≤ size d →
+pub lays_refused : {N E : Type 0} (f : N → Tree) {a b : Point} (d : Tree) (ds : List Tree) (p : Standing) (x : Visits) (e : _) →
+    Lays a (d ∷ ds) b → ((i : ℕ) → Once (make_task i Flat d) b.visits x) → 1 ≤ size d →
     Advances {N = N} {E = E} f a (point_at p b.sink x) (Err (Memory e))
 lays_refused {N} {E} f {a} {b} d ds p x e h once size_1 =
     let z = head d ds h.0 in
@@ -405,11 +427,13 @@ pub record Laid (first : Tree) (b : Point) (ds : List Tree) (w : Bool) (g positi
   pub rises : b.visits.printer ≤ count
   pub counted : count + sizes ds ≤ b.visits.printer + size first
 
-once_at : (d : Tree) (v : Visits) {count n : ℕ} → OneNode count n → each_probe d Flat ≡ 0 → (i : ℕ) → Once (make_task i Flat d) (record v { printer = count }) (record v { printer = n })
+once_at : (d : Tree) (v : Visits) {count n : ℕ} → OneNode count n → each_probe d Flat ≡ 0 → (i : ℕ) →
+    Once (make_task i Flat d) (record v { printer = count }) (record v { printer = n })
 once_at d v {count} {n} h e i = record { least = omega (arith, h.one); rises = h.rises; most = h.at_most; probes = refl; asks = e }
 
 -- the same, where it is named otherwise
-pub left_at : {first : Tree} {b : Point} {ds : List Tree} {w w' : Bool} {g g' position position' : ℕ} {sink sink' : Seen} {count : ℕ} → w ≡ w' → g ≡ g' → position ≡ position' → sink ≡ sink' →
+pub left_at : {first : Tree} {b : Point} {ds : List Tree} {w w' : Bool} {g g' position position' : ℕ} {sink sink' : Seen} {count : ℕ} →
+    w ≡ w' → g ≡ g' → position ≡ position' → sink ≡ sink' →
     Laid first b ds w' g' position' sink' count → Laid first b ds w g position sink count
 left_at {first} {b} {ds} {w} {w'} {g} {g'} {position} {position'} {sink} {sink'} {count} e h k m laid =
     subst (λ (z : Bool). Laid first b ds z g position sink count) (sym e)
@@ -417,7 +441,8 @@ left_at {first} {b} {ds} {w} {w'} {g} {g'} {position} {position'} {sink} {sink'}
     (subst (λ (z : ℕ). Laid first b ds w' g' z sink count) (sym k) (subst (λ (z : Seen). Laid first b ds w' g' position' z count) (sym m) laid)))
 
 -- it begins
-pub left_begins : {first : Tree} {b : Point} {ds : List Tree} {g position : ℕ} → ds ≡ [] → g ≡ gap b.printer.column → position ≡ prospective b.printer.column → IsTexts first →
+pub left_begins : {first : Tree} {b : Point} {ds : List Tree} {g position : ℕ} → ds ≡ [] → g ≡ gap b.printer.column →
+    position ≡ prospective b.printer.column → IsTexts first →
     Laid first b (first ∷ ds) false g position b.sink b.visits.printer
 left_begins {first} {b} {ds} {g} {position} none e h texts =
     subst (λ (z : List Tree). Laid first b (first ∷ z) false g position b.sink b.visits.printer) (sym none)
@@ -477,7 +502,8 @@ left_either {first} {b} {d} {ds} {w} {g} {position} {sink} {count} {n} x c e one
       counted = omega (arith, k.counted, one.at_most);
     }
 
-pub left_nil : {first : Tree} {b : Point} {d : Tree} {ds : List Tree} {w : Bool} {g position : ℕ} {sink : Seen} {count n : ℕ} → Nil ≡ d → OneNode count n →
+pub left_nil : {first : Tree} {b : Point} {d : Tree} {ds : List Tree} {w : Bool} {g position : ℕ} {sink : Seen} {count n : ℕ} →
+    Nil ≡ d → OneNode count n →
     Laid first b (d ∷ ds) w g position sink count → Laid first b ds w g position sink n
 left_nil {first} {b} {d} {ds} {w} {g} {position} {sink} {count} {n} e one h =
     let k : Laid first b (Nil ∷ ds) w g position sink count = subst (λ (z : Tree). Laid first b (z ∷ ds) w g position sink count) (sym e) h in
@@ -502,8 +528,10 @@ left_empty {first} {b} {d} {ds} {w} {g} {position} {sink} {count} {n} s empty e 
     }
 
 -- a text that is not empty is next, in a turn that began at a point
-at_text : {first : Tree} {b : Point} {ds : List Tree} {w : Bool} {g position : ℕ} {sink : Seen} {count n : ℕ} (s : List ℕ) → 0 < length s → OneNode count n → Laid first b (Text s ∷ ds) w g position sink count →
-    (a : Point) (i : ℕ) → Laying a (make_task i Flat first ∷ []) b → AtText a b.printer w g position s ds sink (record b.visits { printer = count }) (record b.visits { printer = n })
+at_text : {first : Tree} {b : Point} {ds : List Tree} {w : Bool} {g position : ℕ} {sink : Seen} {count n : ℕ} (s : List ℕ) →
+    0 < length s → OneNode count n → Laid first b (Text s ∷ ds) w g position sink count →
+    (a : Point) (i : ℕ) → Laying a (make_task i Flat first ∷ []) b →
+    AtText a b.printer w g position s ds sink (record b.visits { printer = count }) (record b.visits { printer = n })
 at_text {first} {b} {ds} {w} {g} {position} {sink} {count} {n} s some one h a i m = record {
   lays = h.lays a i m;
   once = once_at (Text s) b.visits one refl;
@@ -513,7 +541,8 @@ at_text {first} {b} {ds} {w} {g} {position} {sink} {count} {n} s some one h a i 
 }
 
 pub left_text : {first : Tree} {b : Point} {d : Tree} {ds : List Tree} {w : Bool} {g position : ℕ} {sink : Seen} {count n : ℕ} (s : List ℕ) (t : Seen) → 0 < length s → Text s ≡ d → OneNode count n →
-    Laid first b (d ∷ ds) w g position sink count → t.lender ≡ sink.lender → Accepts sink.bytes t.bytes (spaces g ++ s) sink.failures t.failures →
+    Laid first b (d ∷ ds) w g position sink count → t.lender ≡ sink.lender →
+    Accepts sink.bytes t.bytes (spaces g ++ s) sink.failures t.failures →
     Laid first b ds true 0 (saturating_add position (length s)) t n
 left_text {first} {b} {d} {ds} {w} {g} {position} {sink} {count} {n} s t some e one h lender accepts =
     let k : Laid first b (Text s ∷ ds) w g position sink count = subst (λ (z : Tree). Laid first b (z ∷ ds) w g position sink count) (sym e) h in
@@ -526,15 +555,18 @@ left_text {first} {b} {d} {ds} {w} {g} {position} {sink} {count} {n} s t some e 
     }
 
 -- the sink fails in it
-pub left_text_failed : {N E : Type 0} (f : N → Tree) {first : Tree} {b : Point} {d : Tree} {ds : List Tree} {w : Bool} {g position : ℕ} {sink : Seen} {count n : ℕ} (s : List ℕ) (q : Standing) (t : Seen) (x : Visits) (e : E) → 0 < length s →
-    Text s ≡ d → OneNode count n → Laid first b (d ∷ ds) w g position sink count → t.lender ≡ sink.lender → Refuses sink.bytes t.bytes (spaces g ++ s) sink.failures t.failures → x ≡ record b.visits { printer = n } →
+pub left_text_failed : {N E : Type 0} (f : N →
+    Tree) {first : Tree} {b : Point} {d : Tree} {ds : List Tree} {w : Bool} {g position : ℕ} {sink : Seen} {count n : ℕ} (s : List ℕ) (q : Standing) (t : Seen) (x : Visits) (e : E) → 0 < length s →
+    Text s ≡ d → OneNode count n → Laid first b (d ∷ ds) w g position sink count → t.lender ≡ sink.lender →
+    Refuses sink.bytes t.bytes (spaces g ++ s) sink.failures t.failures → x ≡ record b.visits { printer = n } →
     (a : Point) (i : ℕ) → Laying a (make_task i Flat first ∷ []) b → Advances {N = N} {E = E} f a (point_at q t x) (Err (Sink e))
 left_text_failed {N} {E} f {first} {b} {d} {ds} {w} {g} {position} {sink} {count} {n} s q t x e some is one h lender refused same a i m =
     let k : Laid first b (Text s ∷ ds) w g position sink count = subst (λ (z : Tree). Laid first b (z ∷ ds) w g position sink count) (sym is) h in
     subst (λ (z : Visits). Advances {N = N} {E = E} f a (point_at q t z) (Err (Sink e))) (sym same) (lays_text_failed f q t e (at_text s some one k a i m) lender refused)
 
 -- memory is refused
-pub left_refused : {N E : Type 0} (f : N → Tree) {first : Tree} {b : Point} {d : Tree} {ds : List Tree} {w : Bool} {g position : ℕ} {sink : Seen} {count n : ℕ} (l r : Tree) (q : Standing) (x : Visits) (e : _) → Append l r ≡ d →
+pub left_refused : {N E : Type 0} (f : N →
+    Tree) {first : Tree} {b : Point} {d : Tree} {ds : List Tree} {w : Bool} {g position : ℕ} {sink : Seen} {count n : ℕ} (l r : Tree) (q : Standing) (x : Visits) (e : _) → Append l r ≡ d →
     OneNode count n → Laid first b (d ∷ ds) w g position sink count → x ≡ record b.visits { printer = n } →
     (a : Point) (i : ℕ) → Laying a (make_task i Flat first ∷ []) b → Advances {N = N} {E = E} f a (point_at q sink x) (Err (Memory e))
 left_refused {N} {E} f {first} {b} {d} {ds} {w} {g} {position} {sink} {count} {n} l r q x e is one h same a i m =
@@ -565,7 +597,8 @@ no_bytes b [] e h = refl
 no_bytes b (c ∷ cs) e h = absurd (grind (arith))
 
 -- what is left after a document was laid as its texts
-pub spends_laid : {r : Rule} {a : Left} {t : Task} {v : Visits} (p q : Standing) (x : Visits) → q.tasks ≡ p.tasks → q.queue ≡ p.queue → x.probes ≡ v.probes → v.printer ≤ x.printer → x.printer ≤ v.printer + size t.tree →
+pub spends_laid : {r : Rule} {a : Left} {t : Task} {v : Visits} (p q : Standing) (x : Visits) → q.tasks ≡ p.tasks → q.queue ≡ p.queue →
+    x.probes ≡ v.probes → v.printer ≤ x.printer → x.printer ≤ v.printer + size t.tree →
     Spends r a (left_with t p v) → Spends r a (left q [] x)
 spends_laid {r} {a} {t} {v} p q x tasks queue probes rises counted h =
     spends_then h

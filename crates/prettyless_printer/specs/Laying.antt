@@ -40,9 +40,9 @@ pub record Laying (a : Point) (us : List Task) (b : Point) : Type 0 where
       CountsAtLeast (stack_tally a.printer n) (tally_above a.printer.options n (us ++ b.printer.tasks) (state_at b.printer)) a.visits b.visits
 
 -- how a turn ends whose document was laid as its texts
-abbrev pub went : {N A E : Type 0} → Result A E → Result (Turn N) E
-went (Ok r) = Ok Went
-went (Err e) = Err e
+abbrev pub ends_turn : {N A E : Type 0} → Result A E → Result (Turn N) E
+ends_turn (Ok r) = Ok Went
+ends_turn (Err e) = Err e
 
 -- the documents of nodes that are left, the last node first
 abbrev pub left_trees : {N : Type 0} → (N → Tree) → List N → List Tree

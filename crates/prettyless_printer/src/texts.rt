@@ -6,7 +6,7 @@ ghost use Rattle.prettyless_step.specs.Stack.{make_task};
 ghost use Rattle.prettyless_step.specs.Texts.{IsTexts};
 ghost use Rattle.prettyless_printer.specs.Points.{Point, point, seen, standing};
 ghost use Rattle.prettyless_printer.specs.Turns.{Advances};
-ghost use Rattle.prettyless_printer.specs.Laying.{Laying, laid_to, went};
+ghost use Rattle.prettyless_printer.specs.Laying.{Laying, ends_turn, laid_to};
 
 use prettyless_model::column::Column;
 use prettyless_sink::error::RenderError;
@@ -45,7 +45,7 @@ pub(crate) fn lay_texts<N: Walk, W: Render>(
     requires texts { IsTexts (N.tree first) }
     ensures lays { (a : Point) (i : ℕ) → Laying a (make_task i Flat (N.tree first) ∷ [])
         (point N.tree printer.old (seen W.bytes W.failures W.lender out.old) visits.old) →
-        Advances N.tree a (point N.tree printer.new (seen W.bytes W.failures W.lender out.new) visits.new) (went result) }
+        Advances N.tree a (point N.tree printer.new (seen W.bytes W.failures W.lender out.new) visits.new) (ends_turn result) }
     ensures commands { printer.new.commands ≡ printer.old.commands }
     ensures queue { printer.new.queue ≡ printer.old.queue }
     ensures rises { visits.old.printer ≤ visits.new.printer }

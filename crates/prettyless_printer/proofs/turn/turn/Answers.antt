@@ -9,7 +9,7 @@ use Rattle.prettyless_step.specs.Printing.{IsStepped, IsStopped}
 use Rattle.prettyless_step.specs.declared.printer.Taken.TheVariants as taken
 use Rattle.prettyless_sink.specs.declared.error.RenderError.{RenderError}
 use Rattle.prettyless_printer.specs.Turns.{Advances}
-use Rattle.prettyless_printer.specs.Laying.{went}
+use Rattle.prettyless_printer.specs.Laying.{ends_turn}
 use Rattle.prettyless_printer.specs.Points.{point, seen, standing}
 use Rattle.prettyless_printer.proofs.Trying.{grows_same}
 use Rattle.prettyless_printer.proofs.Hands.{goes_down, in_hand, shown, visit}
@@ -72,7 +72,7 @@ returns-in-Ok-lay_texts-clause-advances g c =
     let hand = c.down.invariant.hand in
     let one = visit f c.down.printer x c.one_more-visits.result hand c.one_more-visits.ensures.one c.one_more-visits.ensures.rises c.step.ensures.printer c.step.ensures.rises c.step.ensures.counted in
     subst (λ (z : Result (Unit {0}) (RenderError g.row.W-Error.Denot)). Advances f (point f c.args.printer.now (see c.args.out.now) c.args.visits.now)
-    (point f c.lay_texts.new.printer (see c.lay_texts.new.out) c.lay_texts.new.visits) (went z)) c.in-Ok-lay_texts.is
+    (point f c.lay_texts.new.printer (see c.lay_texts.new.out) c.lay_texts.new.visits) (ends_turn z)) c.in-Ok-lay_texts.is
     (c.lay_texts.ensures.lays _ i
     (laying_begins f c.down.printer q x i n hand one (c.in-Ok-NextTexts.ensures.asked (subst IsStepped (sym c.in-Ok-NextTexts.field-0-is) tt)) (shown f c.down.printer q c.in-Ok-NextTexts.field-0 (taken.NextTexts i n) hand c.in-Ok-NextTexts.field-0-is c.in-Ok-NextTexts.ensures.step).0))
 
@@ -103,7 +103,7 @@ returns-in-Err-lay_texts-clause-advances g c =
     let hand = c.down.invariant.hand in
     let one = visit f c.down.printer x c.one_more-visits.result hand c.one_more-visits.ensures.one c.one_more-visits.ensures.rises c.step.ensures.printer c.step.ensures.rises c.step.ensures.counted in
     subst (λ (z : Result (Unit {0}) (RenderError g.row.W-Error.Denot)). Advances f (point f c.args.printer.now (see c.args.out.now) c.args.visits.now)
-    (point f c.lay_texts.new.printer (see c.lay_texts.new.out) c.lay_texts.new.visits) (went z)) c.in-Err-lay_texts.is
+    (point f c.lay_texts.new.printer (see c.lay_texts.new.out) c.lay_texts.new.visits) (ends_turn z)) c.in-Err-lay_texts.is
     (c.lay_texts.ensures.lays _ i
     (laying_begins f c.down.printer q x i n hand one (c.in-Ok-NextTexts.ensures.asked (subst IsStepped (sym c.in-Ok-NextTexts.field-0-is) tt)) (shown f c.down.printer q c.in-Ok-NextTexts.field-0 (taken.NextTexts i n) hand c.in-Ok-NextTexts.field-0-is c.in-Ok-NextTexts.ensures.step).0))
 
