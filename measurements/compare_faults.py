@@ -3,8 +3,9 @@
 
 usage: compare_faults.py JSONFMT [TEXTS] [SEED]     (3,000 texts and the seed 1 if none are named)
 
-Where a lexeme is none itself, as `01` or a string with a bad escape, `jsonfmt` names where it begins, and python a place within it
-or its end. Ends with status 1 where only one of the two takes a text, or where `jsonfmt` names a later place.
+Where a lexeme is none itself, as `01`, `jsonfmt` names where it begins, and python a place within it or its end. Of a string without an
+end python names the beginning, as `jsonfmt` does at the end of its message. Ends with status 1 where only one of the two takes a text,
+or where `jsonfmt` names a later place.
 """
 import json
 import random
@@ -52,8 +53,11 @@ def place_of_program(program, text):
     if ran.returncode == 0:
         return None
     assert ran.returncode == 1 and not ran.stdout, ran
-    line, column = ran.stderr.decode().split(":")[1:3]
-    return int(line), int(column)
+    said = ran.stderr.decode()
+    place = said.split(":")[1:3]
+    if "found the end of the text, opened at" in said and "closing quote" in said:
+        place = said.split("opened at ")[1].split(":")
+    return int(place[0]), int(place[1])
 
 
 def main():

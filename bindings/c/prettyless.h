@@ -19,8 +19,8 @@
 
    It shows `f(x)`; at a width of 3, `x` has a line of its own, with an indent of two columns.
 
-   The library has two calls, prettyless_layout and prettyless_json_layout. All else here is inline code over them; it
-   is tested, not proved.
+   The library has three calls, prettyless_layout, prettyless_json_layout and prettyless_toml. All else here is inline
+   code over them; it is tested, not proved.
 
    Memory: the library calls malloc, realloc and free of the program that it is linked into, and so does this header.
    They must be of one allocator, and answer memory that is aligned as C demands (for any type). A call of the library
@@ -54,7 +54,7 @@ extern "C" {
 enum pl_status {
     /* The layout is whole. */
     PL_OK = 0,
-    /* The layout has more bytes than the area given has room for. pl_layout and pl_json_layout never answer this. */
+    /* The layout has more bytes than the area given has room for. Calls that begin with pl_ never answer this. */
     PL_TOO_SMALL = 1,
     /* Memory was refused. The inline calls also answer this for a text longer than PL_LONGEST. */
     PL_MEMORY = 2,
@@ -63,8 +63,10 @@ enum pl_status {
     PL_FAILS = 3,
     /* The layout is longer than the limit given. */
     PL_PAST_LIMIT = 4,
-    /* The text is not JSON, or has more than 128 levels. Only the calls for JSON answer this. */
+    /* The text is not JSON, or has more than 100,000 levels. Only the calls for JSON answer this. */
     PL_NOT_JSON = 5,
+    /* The text is not TOML, or has more than 128 brackets in one another. Only the calls for TOML answer this. */
+    PL_NOT_TOML = 6,
     /* A byte of the program begins no instruction. */
     PL_NO_INSTRUCTION = 16,
     /* The program ends inside an instruction. */
@@ -173,25 +175,45 @@ enum pl_op {
 uint32_t prettyless_layout(const uint8_t *program, size_t length, size_t width, bool crlf, bool deferred, size_t limit,
                            uint8_t *out, size_t capacity, size_t *written);
 
-/* Lays out the JSON text text[0..length) (RFC 8259, at most 128 levels deep), and answers a pl_status below 16. A
+/* Lays out the JSON text text[0..length) (RFC 8259, at most 100,000 levels deep), and answers a pl_status below 16. A
    layout ends in one LF.
 
    width      the width of lines in columns
    indent     how many columns each level is indented by
    fill       arrays of numbers fill their lines, else each broken array has a line for each item
 
-   limit, out, capacity and written are as of prettyless_layout, but the whole layout is made in memory before it is
-   copied to `out`. So a limit bounds neither memory nor time: see "Limits" in docs/BINDINGS.md.
+   limit, out, capacity and written are as of prettyless_layout. The layout is made straight into `out`, and ends where
+   it is past the limit. So give one where a text comes from someone else: see "Limits" in docs/BINDINGS.md.
 
-   After PL_NOT_JSON, *line and *column say where the token begins that is wrong, or where the first bytes are that are
-   not UTF-8 (both from 1; a column is a character). Then out[0..*written) is the name of what was expected there, as
-   far as there is room: a name has fewer than 100 bytes. After other statuses *line and *column are 0.
+   After PL_NOT_JSON, *line and *column say where the token begins that is wrong, in a string where the escape or
+   control character does or the line ends before a closing quote, or where the first bytes are that are not UTF-8
+   (both from 1; a column is a character). Then out[0..*written) is the name of what was expected there, as far as
+   there is room: a name has fewer than 100 bytes.
+   After other statuses *line and *column are 0.
 
    No pointer may be null, also for a length or a capacity of 0. The areas of text, out, written, line and column may
    not overlap. The call keeps no pointer. */
 uint32_t prettyless_json_layout(const uint8_t *text, size_t length, size_t width, uint32_t indent, bool fill,
                                 size_t limit, uint8_t *out, size_t capacity, size_t *written, size_t *line,
                                 size_t *column);
+
+/* Lays out the TOML text text[0..length) (TOML 1.0, at most 128 brackets in one another), and answers a pl_status
+   below 16. A key that is defined twice is no fault. The layout has the same statements, with all remarks. Its lines
+   end as the first line of the text does that ends outside of strings, or in LF if there is none. It ends in a line
+   end, unless it is empty.
+
+   width      the width of lines in columns
+   indent     how many columns the members of a broken array are further in than its brackets
+
+   limit, out, capacity, written, line and column are as of prettyless_json_layout, with PL_NOT_TOML for PL_NOT_JSON,
+   but the whole layout is made in memory before it is copied to `out`. So a limit bounds neither memory nor time.
+   After PL_NOT_TOML, *line and *column say where the token begins that is wrong, or the first bytes are that are not
+   UTF-8, and out[0..*written) is the name of what was expected there, as far as there is room.
+
+   No pointer may be null, also for a length or a capacity of 0. The areas of text, out, written, line and column may
+   not overlap. The call keeps no pointer. */
+uint32_t prettyless_toml(const uint8_t *text, size_t length, size_t width, uint32_t indent, size_t limit, uint8_t *out,
+                         size_t capacity, size_t *written, size_t *line, size_t *column);
 
 #ifdef __cplusplus
 }
@@ -206,7 +228,8 @@ static inline const char *pl_message(uint32_t status)
     case PL_MEMORY: return "memory was refused, or a text has 2^32 bytes or more";
     case PL_FAILS: return "the document cannot be laid out";
     case PL_PAST_LIMIT: return "the layout is longer than the limit";
-    case PL_NOT_JSON: return "the text is not JSON, or has more than 128 levels";
+    case PL_NOT_JSON: return "the text is not JSON, or has more than 100,000 levels";
+    case PL_NOT_TOML: return "the text is not TOML, or has more than 128 brackets in one another";
     case PL_NO_INSTRUCTION: return "a byte of the program begins no instruction";
     case PL_CUT_OFF: return "the program ends inside an instruction";
     case PL_NOT_UTF8: return "a text is not UTF-8";
@@ -634,19 +657,26 @@ typedef struct pl_json_options {
     size_t width;    /* the width of lines in columns */
     uint32_t indent; /* how many columns each level is indented by */
     bool fill;       /* arrays of numbers fill their lines */
-    size_t limit;    /* the greatest length of the layout in bytes, 0 for none; it bounds neither memory nor time */
+    size_t limit;    /* the greatest length of the layout in bytes, 0 for none */
 } pl_json_options;
+
+/* How a TOML text is laid out. */
+typedef struct pl_toml_options {
+    size_t width;    /* the width of lines in columns */
+    uint32_t indent; /* how many columns the members of a broken array are further in than its brackets */
+    size_t limit;    /* the greatest length of the layout in bytes, 0 for none; it bounds neither memory nor time */
+} pl_toml_options;
 
 /* What comes of a layout. The caller frees `text`, at each status. */
 typedef struct pl_result {
     uint32_t status; /* a pl_status, never PL_TOO_SMALL */
-    char *text;      /* PL_OK: the layout. PL_FAILS: the bytes before the node that fails. PL_NOT_JSON: the name of
-                        what was expected. PL_MEMORY, PL_PAST_LIMIT: a beginning of the layout, which may end inside a
-                        character. Else empty. A 0 comes after it. Null where memory for it was refused, or for the
-                        document. */
+    char *text;      /* PL_OK: the layout. PL_FAILS: the bytes before the node that fails. PL_NOT_JSON, PL_NOT_TOML: the
+                        name of what was expected. PL_MEMORY, PL_PAST_LIMIT: a beginning of the layout, which may end
+                        inside a character. Else empty. A 0 comes after it. Null where memory for it was refused, or
+                        for the document. */
     size_t length;   /* the length of `text` in bytes, without that 0; a text may hold a 0 too */
-    size_t line;     /* PL_NOT_JSON: the line where the token begins that is wrong, from 1; else 0 */
-    size_t column;   /* PL_NOT_JSON: its column there, in characters from 1; else 0 */
+    size_t line;     /* PL_NOT_JSON, PL_NOT_TOML: the line where the token begins that is wrong, from 1; else 0 */
+    size_t column;   /* PL_NOT_JSON, PL_NOT_TOML: its column there, in characters from 1; else 0 */
 } pl_result;
 
 /* These options: lines of so many columns that end in LF, indents written at once, no limit. Other fields are set
@@ -661,6 +691,13 @@ static inline pl_options pl_width(size_t width)
 static inline pl_json_options pl_json_width(size_t width)
 {
     const pl_json_options options = {width, 2, false, 0};
+    return options;
+}
+
+/* These options: lines of so many columns, an indent of 2, no limit. */
+static inline pl_toml_options pl_toml_width(size_t width)
+{
+    const pl_toml_options options = {width, 2, 0};
     return options;
 }
 
@@ -734,6 +771,23 @@ static inline pl_result pl_json_layout(const char *json, size_t length, pl_json_
         result.status =
             prettyless_json_layout(bytes, length, options.width, options.indent, options.fill, options.limit,
                                    (uint8_t *)result.text, capacity, &result.length, &result.line, &result.column);
+        wanted = pl_wanted_(&result, capacity);
+    } while (wanted != 0);
+    pl_finish_(&result);
+    return result;
+}
+
+/* Lays out a TOML text of so many bytes. `toml` may be null if the length is 0. */
+static inline pl_result pl_toml_layout(const char *toml, size_t length, pl_toml_options options)
+{
+    const uint8_t *bytes = (const uint8_t *)(toml != NULL ? toml : "");
+    pl_result result = {PL_MEMORY, NULL, 0, 0, 0};
+    size_t capacity, wanted = pl_capacity_(length);
+    do {
+        capacity = wanted;
+        if (!pl_reserve_(&result, capacity)) return result;
+        result.status = prettyless_toml(bytes, length, options.width, options.indent, options.limit,
+                                        (uint8_t *)result.text, capacity, &result.length, &result.line, &result.column);
         wanted = pl_wanted_(&result, capacity);
     } while (wanted != 0);
     pl_finish_(&result);

@@ -327,18 +327,20 @@ static void test_json(void)
     CHECK(is(pl_json_layout(NULL, 0, pl_json_width(80)), PL_NOT_JSON, "a value"));
 }
 
-/* Of lists in lists: 128 levels are JSON here, 129 are not. */
+/* Of lists in lists: so many levels are JSON here, one more is not. */
+#define LEVELS 100000
+
 static void test_json_depth(void)
 {
-    char json[258];
+    static char json[2 * LEVELS + 2];
     pl_result result;
-    memset(json, '[', 129);
-    memset(json + 129, ']', 129);
-    result = pl_json_layout(json + 1, 256, pl_json_width(SIZE_MAX));
-    CHECK(result.status == PL_OK && result.length == 257);
+    memset(json, '[', LEVELS + 1);
+    memset(json + LEVELS + 1, ']', LEVELS + 1);
+    result = pl_json_layout(json + 1, 2 * LEVELS, pl_json_width(SIZE_MAX));
+    CHECK(result.status == PL_OK && result.length == 2 * LEVELS + 1);
     free(result.text);
-    result = pl_json_layout(json, 258, pl_json_width(SIZE_MAX));
-    CHECK(result.status == PL_NOT_JSON && result.line == 1 && result.column == 129);
+    result = pl_json_layout(json, 2 * LEVELS + 2, pl_json_width(SIZE_MAX));
+    CHECK(result.status == PL_NOT_JSON && result.line == 1 && result.column == LEVELS + 1);
     free(result.text);
 }
 
@@ -354,6 +356,53 @@ static void test_json_areas(void)
     CHECK(written <= 2);
     CHECK(prettyless_json_layout(open, 3, 80, 2, false, 0, out, 2, &written, &line, &column) == PL_NOT_JSON);
     CHECK(written <= 2 && line == 1 && column == 4);
+}
+
+/* ---- TOML ---- */
+
+static void test_toml(void)
+{
+    static const char toml[] = "# first\nname=\"Ada\"\nlist=[1,22,333]#last\n[ empty ]\n";
+    pl_result result = pl_toml_layout(toml, sizeof toml - 1, pl_toml_width(16));
+    CHECK(result.line == 0 && result.column == 0);
+    CHECK(is(result, PL_OK, "# first\nname = \"Ada\"\nlist = [\n  1,\n  22,\n  333,\n] #last\n[empty]\n"));
+    CHECK(is(pl_toml_layout("a=1\r\nb=2", 8, pl_toml_width(80)), PL_OK, "a = 1\r\nb = 2\r\n"));
+    CHECK(is(pl_toml_layout(NULL, 0, pl_toml_width(80)), PL_OK, ""));
+    result = pl_toml_layout("a = 1\n\"\xc3\xa9\" = [1 2]", 18, pl_toml_width(80));
+    CHECK(result.line == 2 && result.column == 10);
+    CHECK(is(result, PL_NOT_TOML, "`,` or `]`"));
+}
+
+/* Of arrays in arrays: 128 brackets may be in one another, 129 may not. */
+static void test_toml_depth(void)
+{
+    char toml[260];
+    pl_result result;
+    memcpy(toml, "a=", 2);
+    memset(toml + 2, '[', 128);
+    memset(toml + 130, ']', 128);
+    result = pl_toml_layout(toml, 258, pl_toml_width(SIZE_MAX));
+    CHECK(result.status == PL_OK && result.length == 261);
+    free(result.text);
+    memset(toml + 2, '[', 129);
+    memset(toml + 131, ']', 129);
+    result = pl_toml_layout(toml, 260, pl_toml_width(SIZE_MAX));
+    CHECK(result.status == PL_NOT_TOML && result.line == 1 && result.column == 131);
+    free(result.text);
+}
+
+/* No more is said to be written than there is room for. */
+static void test_toml_areas(void)
+{
+    uint8_t out[2];
+    size_t written, line, column;
+    const uint8_t *one = (const uint8_t *)"a=1", *open = (const uint8_t *)"a=";
+    CHECK(prettyless_toml(one, 3, 80, 2, 0, out, 2, &written, &line, &column) == PL_TOO_SMALL);
+    CHECK(written == 6 && memcmp(out, "a ", 2) == 0 && line == 0 && column == 0);
+    CHECK(prettyless_toml(one, 3, 80, 2, 5, out, 2, &written, &line, &column) == PL_PAST_LIMIT);
+    CHECK(written <= 2);
+    CHECK(prettyless_toml(open, 2, 80, 2, 0, out, 2, &written, &line, &column) == PL_NOT_TOML);
+    CHECK(written <= 2 && line == 1 && column == 3);
 }
 
 /* ---- Refusals ---- */
@@ -414,8 +463,8 @@ static void test_messages(void)
     uint32_t status, other;
     for (status = 0; status <= 21; status++)
         for (other = 0; other < status; other++)
-            if (status < 6 || other < 6 || other > 15) CHECK(strcmp(pl_message(status), pl_message(other)) != 0);
-    CHECK(strcmp(pl_message(6), pl_message(UINT32_MAX)) == 0);
+            if (status < 7 || other < 7 || other > 15) CHECK(strcmp(pl_message(status), pl_message(other)) != 0);
+    CHECK(strcmp(pl_message(7), pl_message(UINT32_MAX)) == 0);
 }
 
 int main(void)
@@ -433,6 +482,9 @@ int main(void)
     test_json();
     test_json_depth();
     test_json_areas();
+    test_toml();
+    test_toml_depth();
+    test_toml_areas();
     test_lengths();
     test_memory();
     test_messages();

@@ -37,10 +37,10 @@ void say_case(void)
     fprintf(stderr, "fuzz: %s, seed %llu, number %zu, ", current.kind, (unsigned long long)current.seed,
             current.number);
     fprintf(stderr, "width %zu, limit %zu, capacity %zu, ", request->width, request->limit, current.capacity);
-    if (request->is_json) {
-        fprintf(stderr, "indent %u, fill %d", request->indent, request->fill);
-    } else {
+    if (request->kind == PROGRAM) {
         fprintf(stderr, "crlf %d, deferred %d", request->crlf, request->deferred);
+    } else {
+        fprintf(stderr, "indent %u, fill %d", request->indent, request->fill);
     }
     fprintf(stderr, ", %zu bytes:\n", request->given->length);
     say_bytes(request->given);
@@ -110,22 +110,28 @@ size_t filled(const Answer *answer)
     return answer->written < answer->capacity ? answer->written : answer->capacity;
 }
 
-static bool is_listed(const Answer *answer, bool is_json)
+uint32_t refusal_of(Kind kind)
 {
-    uint32_t status = answer->status;
-    if (is_json) {
-        return status == PL_OK || status == PL_TOO_SMALL || status == PL_MEMORY || status == PL_PAST_LIMIT ||
-               status == PL_NOT_JSON;
-    }
-    return status <= PL_PAST_LIMIT || (status >= PL_NO_INSTRUCTION && status <= PL_NOT_CLOSED);
+    return kind == TOML ? PL_NOT_TOML : PL_NOT_JSON;
 }
 
-static void check_place(const Answer *answer)
+static bool is_listed(const Answer *answer, Kind kind)
 {
-    if (answer->status == PL_NOT_JSON && (answer->line == 0 || answer->column == 0)) {
-        wrong("the line or the column of a text that is not JSON is 0", answer);
+    uint32_t status = answer->status;
+    if (kind == PROGRAM) {
+        return status <= PL_PAST_LIMIT || (status >= PL_NO_INSTRUCTION && status <= PL_NOT_CLOSED);
     }
-    if (answer->status != PL_NOT_JSON && (answer->line != 0 || answer->column != 0)) {
+    return status == PL_OK || status == PL_TOO_SMALL || status == PL_MEMORY || status == PL_PAST_LIMIT ||
+           status == refusal_of(kind);
+}
+
+static void check_place(const Answer *answer, Kind kind)
+{
+    bool is_refused = answer->status == refusal_of(kind);
+    if (is_refused && (answer->line == 0 || answer->column == 0)) {
+        wrong("the line or the column of a text that is refused is 0", answer);
+    }
+    if (!is_refused && (answer->line != 0 || answer->column != 0)) {
         wrong("the line or the column is not 0", answer);
     }
 }
@@ -174,31 +180,40 @@ static void check_memory(const Answer *answer)
 
 static void check_answer(const Request *request, const Answer *answer)
 {
-    if (!is_listed(answer, request->is_json)) {
+    if (!is_listed(answer, request->kind)) {
         wrong("the status is none of the list", answer);
     }
-    if (request->is_json) {
-        check_place(answer);
+    if (request->kind != PROGRAM) {
+        check_place(answer, request->kind);
     }
     check_written(request, answer);
     check_area(answer);
     check_memory(answer);
 }
 
+static uint32_t status_of(const Request *request, Answer *answer)
+{
+    const Bytes *given = request->given;
+    switch (request->kind) {
+    case JSON:
+        return prettyless_json_layout(given->at, given->length, request->width, request->indent, request->fill,
+                                      request->limit, answer->out, answer->capacity, &answer->written, &answer->line,
+                                      &answer->column);
+    case TOML:
+        return prettyless_toml(given->at, given->length, request->width, request->indent, request->limit, answer->out,
+                               answer->capacity, &answer->written, &answer->line, &answer->column);
+    default:
+        return prettyless_layout(given->at, given->length, request->width, request->crlf, request->deferred,
+                                 request->limit, answer->out, answer->capacity, &answer->written);
+    }
+}
+
 Answer call(const Request *request, size_t capacity)
 {
     Answer answer = room(capacity);
-    const Bytes *given = request->given;
     current.capacity = capacity;
     begin_watch();
-    if (request->is_json) {
-        answer.status = prettyless_json_layout(given->at, given->length, request->width, request->indent,
-                                               request->fill, request->limit, answer.out, capacity, &answer.written,
-                                               &answer.line, &answer.column);
-    } else {
-        answer.status = prettyless_layout(given->at, given->length, request->width, request->crlf, request->deferred,
-                                          request->limit, answer.out, capacity, &answer.written);
-    }
+    answer.status = status_of(request, &answer);
     end_watch();
     check_answer(request, &answer);
     return answer;

@@ -7,16 +7,19 @@
 #include <stdbool.h>
 #include <stddef.h>
 
+/* What is laid out. */
+typedef enum { PROGRAM, JSON, TOML } Kind;
+
 /* What one call is given besides its room. */
 typedef struct {
-    /* A program, or a JSON text where `is_json`. */
     const Bytes *given;
-    bool is_json;
+    Kind kind;
     size_t width, limit;
     /* Of a program alone. */
     bool crlf, deferred;
-    /* Of a JSON text alone. */
+    /* Of a text alone. */
     uint32_t indent;
+    /* Of a JSON text alone. */
     bool fill;
 } Request;
 
@@ -28,6 +31,9 @@ typedef struct {
     size_t capacity;
     uint8_t *area;
 } Answer;
+
+/* The status that a text of this kind has where it is refused for what it is. */
+uint32_t refusal_of(Kind kind);
 
 /* Calls the library. Ends the process with `wrong` where the call breaks a promise. */
 Answer call(const Request *request, size_t capacity);

@@ -167,7 +167,8 @@ uint32_t check_request(Random *random, const Request *request, size_t capacity, 
     size_t requests = requests_made();
     Answer second = call(request, capacity);
     check_same(&first, &second);
-    if (once_in(random, 20)) {
+    /* Where there is too little memory as it is, each call takes all that there is first. */
+    if (once_in(random, 20) && first.status != PL_MEMORY) {
         check_refusals(request, &first, requests);
     }
     check_further(random, request, &first, may_be_long);

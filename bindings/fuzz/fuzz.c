@@ -1,8 +1,8 @@
-/* Hands random and damaged programs, JSON texts, and deep and long inputs to the library, and checks what each call
-   promises: no crash, a status of the list, what is said of `out` and `written` at each, and that calls with other
+/* Hands random and damaged programs, JSON and TOML texts, and deep and long inputs to the library, and checks what each
+   call promises: no crash, a status of the list, what is said of `out` and `written` at each, and that calls with other
    room and other limits fit. The same seed gives the same cases.
 
-   usage: fuzz [SEED [PROGRAMS [DAMAGED [TEXTS]]]]
+   usage: fuzz [SEED [PROGRAMS [DAMAGED [JSON [TOML]]]]]
 
    It ends in one line of counts, and status 0. At the first wrong outcome it prints the case to standard error and
    ends with status 1. A case that takes more than a minute is ended by SIGALRM. */
@@ -10,6 +10,7 @@
 #include "deep.h"
 #include "json_texts.h"
 #include "programs.h"
+#include "toml_texts.h"
 #include <pthread.h>
 #include <signal.h>
 #include <sys/resource.h>
@@ -20,7 +21,7 @@
 #define MOST_MEMORY (1024u * 1024 * 1024)
 #define MOST_LAYOUT 1000000
 
-enum { PROGRAMS, DAMAGED, TEXTS };
+enum { PROGRAMS, DAMAGED, JSON_TEXTS, TOML_TEXTS };
 
 static size_t counts[STATUSES];
 
@@ -101,7 +102,7 @@ static void check_damaged(uint64_t seed, size_t number_of_programs)
     release(&program.bytes);
 }
 
-/* A layout ends in LF, and is laid out as itself. */
+/* A layout ends in LF, but for an empty one of TOML, and is laid out as itself. */
 static void check_laid_again(const Request *request)
 {
     Answer first = call(request, 1 << 16);
@@ -112,38 +113,67 @@ static void check_laid_again(const Request *request)
         Answer second = call(&again, 1 << 16);
         bool is_same = second.status == PL_OK && second.written == first.written;
         if (!is_same || memcmp(first.out, second.out, first.written) != 0) {
-            wrong("the layout of a JSON text is not laid out as itself", &second);
+            wrong("the layout of a text is not laid out as itself", &second);
         }
-        if (first.written == 0 || first.out[first.written - 1] != '\n') {
-            wrong("the layout of a JSON text does not end in LF", &first);
+        bool is_ended = first.written == 0 ? request->kind == TOML : first.out[first.written - 1] == '\n';
+        if (!is_ended) {
+            wrong("the layout of a text does not end in LF", &first);
         }
         release_answer(&second);
     }
     release_answer(&first);
 }
 
-static void check_texts(uint64_t seed, size_t number_of_texts)
+static uint32_t check_text(Random *random, Request *request, bool is_whole)
+{
+    bool may_be_long = once_in(random, 1000);
+    request->indent = (uint32_t)(may_be_long ? next_number(random) : below(random, 9));
+    request->fill = once_in(random, 2);
+    /* A layout of gigabytes is counted to its end where nothing limits it, and no area has room for it. */
+    if (may_be_long) {
+        request->limit = any_limit(random, true);
+    }
+    alarm(SECONDS);
+    uint32_t status = check_request(random, request, any_capacity(random), true);
+    if (is_whole && status == refusal_of(request->kind)) {
+        wrong("the text is whole, but was refused", NULL);
+    }
+    check_laid_again(request);
+    return status;
+}
+
+static void check_json_texts(uint64_t seed, size_t number_of_texts)
 {
     Bytes text = {0};
     for (size_t number = 0; number < number_of_texts; number++) {
-        Random random = random_of(seed, TEXTS, number);
+        Random random = random_of(seed, JSON_TEXTS, number);
         bool is_whole = once_in(&random, 8);
         write_json(&random, &text);
         if (!is_whole) {
             damage_json(&random, &text);
         }
         Request request = any_request(&random, &text, false);
-        request.is_json = true;
-        request.indent = (uint32_t)(once_in(&random, 1000) ? next_number(&random) : below(&random, 9));
-        request.fill = once_in(&random, 2);
+        request.kind = JSON;
         now_at("a JSON text", seed, number, &request);
-        alarm(SECONDS);
-        uint32_t status = check_request(&random, &request, any_capacity(&random), true);
-        if (is_whole && status == PL_NOT_JSON) {
-            wrong("the text is JSON", NULL);
+        count(check_text(&random, &request, is_whole));
+    }
+    release(&text);
+}
+
+static void check_toml_texts(uint64_t seed, size_t number_of_texts)
+{
+    Bytes text = {0};
+    for (size_t number = 0; number < number_of_texts; number++) {
+        Random random = random_of(seed, TOML_TEXTS, number);
+        bool is_whole = once_in(&random, 2);
+        write_toml(&random, &text);
+        if (!is_whole) {
+            damage_toml(&random, &text);
         }
-        check_laid_again(&request);
-        count(status);
+        Request request = any_request(&random, &text, false);
+        request.kind = TOML;
+        now_at("a TOML text", seed, number, &request);
+        count(check_text(&random, &request, is_whole));
     }
     release(&text);
 }
@@ -244,9 +274,9 @@ static void prepare(void)
 }
 #endif
 
-static void say_counts(size_t programs, size_t damaged, size_t texts, size_t deep)
+static void say_counts(size_t programs, size_t damaged, size_t json, size_t toml, size_t deep)
 {
-    printf("fuzz: %zu programs, %zu damaged programs, %zu JSON texts, ", programs, damaged, texts);
+    printf("fuzz: %zu programs, %zu damaged programs, %zu JSON texts, %zu TOML texts, ", programs, damaged, json, toml);
     printf("%zu deep or long inputs, %zu calls with memory refused: none wrong; statuses", deep, calls_refused());
     for (size_t status = 0; status < STATUSES; status++) {
         if (counts[status] > 0) {
@@ -266,13 +296,15 @@ int main(int count_of_words, char **words)
     uint64_t seed = number_at(count_of_words, words, 1, 1);
     size_t programs = number_at(count_of_words, words, 2, 200000);
     size_t damaged = number_at(count_of_words, words, 3, 200000);
-    size_t texts = number_at(count_of_words, words, 4, 20000);
+    size_t json = number_at(count_of_words, words, 4, 20000);
+    size_t toml = number_at(count_of_words, words, 5, 20000);
     prepare();
     size_t deep = check_deep();
     check_threads(seed);
     check_programs(seed, programs);
     check_damaged(seed, damaged);
-    check_texts(seed, texts);
-    say_counts(programs, damaged, texts, deep);
+    check_json_texts(seed, json);
+    check_toml_texts(seed, toml);
+    say_counts(programs, damaged, json, toml, deep);
     return 0;
 }

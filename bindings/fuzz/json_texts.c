@@ -1,6 +1,5 @@
 #include "json_texts.h"
-
-#define COUNT_OF(list) (sizeof(list) / sizeof((list)[0]))
+#include "texts.h"
 
 static const char *const scalars[] = {
     "null",
@@ -29,11 +28,6 @@ static const char *const parts[] = {
     "[", "]", "{", "}",   ",",    ":",  "\"", "\\",   "\\u",  "-",    ".",
     "e", "0", "1", "nul", "true", "//", "'",  "\xff", "\xc3", "\x01",
 };
-
-static void put_any_of(Random *random, const char *const *list, size_t count, Bytes *text)
-{
-    put_text(text, list[below(random, count)]);
-}
 
 static void put_space(Random *random, Bytes *text)
 {
@@ -95,32 +89,7 @@ void write_json(Random *random, Bytes *text)
     }
 }
 
-static void damage_once(Random *random, Bytes *text)
-{
-    size_t from = below(random, text->length + 1), rest = text->length - from;
-    const char *part = parts[below(random, COUNT_OF(parts))];
-    switch (below(random, 5)) {
-    case 0:
-        text->length = from;
-        break;
-    case 1:
-        take_out(text, from, below(random, (rest < 8 ? rest : 8) + 1));
-        break;
-    case 2:
-        if (rest > 0) {
-            text->at[from] = (uint8_t)next_number(random);
-        }
-        break;
-    default:
-        insert(text, from, (const uint8_t *)part, strlen(part));
-        break;
-    }
-}
-
 void damage_json(Random *random, Bytes *text)
 {
-    size_t times = 1 + below(random, 3);
-    for (size_t i = 0; i < times; i++) {
-        damage_once(random, text);
-    }
+    damage_text(random, parts, COUNT_OF(parts), text);
 }

@@ -389,7 +389,8 @@ class Errors(unittest.TestCase):
             self.assertIn(f"status {status}: ", str(caught.exception))
 
     def test_errors_are_pickled(self):
-        for error in (LayoutError("a"), LimitError(1, "a"), JsonError(1, 2, "a value"), ProgramError(16)):
+        of_texts = (JsonError(1, 2, "a value"), TomlError(1, 2, "a key"))
+        for error in (LayoutError("a"), LimitError(1, "a"), *of_texts, ProgramError(16)):
             again = pickle.loads(pickle.dumps(error))
             self.assertEqual((type(again), str(again), vars(again)), (type(error), str(error), vars(error)))
 
@@ -438,7 +439,7 @@ class Json(unittest.TestCase):
             "[": (1, 2, "a value or `]`"),
             "[tru]": (1, 2, "a value or `]`"),
             '{"語" 1}': (1, 6, "`:`"),
-            "[" * 129: (1, 129, "at most 128 levels of nesting"),
+            "[" * 100_001: (1, 100_001, "at most 100,000 levels of nesting"),
             b"[\xff]": (1, 2, "UTF-8"),
         }
         for text, (row, column, expected) in cases.items():
@@ -466,6 +467,64 @@ class Json(unittest.TestCase):
         for wrong in (3, None, ["1"]):
             with self.assertRaises(TypeError):
                 format_json(wrong)
+
+
+class Toml(unittest.TestCase):
+    def test_layouts(self):
+        text = '# first\nname="Ada"\nlist=[1,22,333]#last\n[ empty ]\n'
+        broken = "[\n  1,\n  22,\n  333,\n]"
+        layout = f'# first\nname = "Ada"\nlist = {broken} #last\n[empty]\n'
+        self.assertEqual(format_toml(text, 16), layout)
+        self.assertEqual(format_toml(text.encode(), 16, indent=0), layout.replace("  ", ""))
+        self.assertEqual(format_toml(text), layout.replace(broken, "[1, 22, 333]"))
+        self.assertEqual(format_toml('"語"="語"'), '"語" = "語"\n')
+
+    def test_line_ends(self):
+        self.assertEqual(format_toml("a=1\r\nb=2"), "a = 1\r\nb = 2\r\n")
+        self.assertEqual(format_toml("a=1\nb=2\r\n"), "a = 1\nb = 2\n")
+        self.assertEqual(format_toml(""), "")
+
+    def test_a_layout_that_is_longer_than_was_guessed(self):
+        line = lambda level, text: " " * 1000 * level + text + "\n"
+        layout = "a = [\n" + line(1, "[") + line(2, "1,") + line(1, "],") + "]\n"
+        self.assertEqual(format_toml("a=[[1]]", 0, indent=1000), layout)
+
+    def test_errors(self):
+        cases = {
+            "a = [1,\n 2 3]": (2, 4, "`,` or `]`"),
+            "a = ": (1, 5, "a value"),
+            "a": (1, 2, "`.` or `=`"),
+            "a = {": (1, 6, "a key or `}`"),
+            "a = 1 2": (1, 7, "the end of the line"),
+            '"語" 1': (1, 5, "`.` or `=`"),
+            "a = " + "[" * 129 + "]" * 129: (1, 133, "at most 128 levels of nesting"),
+            b"a = 1\n# \xff": (2, 3, "UTF-8"),
+        }
+        for text, (row, column, expected) in cases.items():
+            with self.subTest(text), self.assertRaises(TomlError) as caught:
+                format_toml(text)
+            error = caught.exception
+            self.assertEqual((error.line, error.column, error.expected), (row, column, expected))
+            self.assertEqual(str(error), f"line {row}, column {column}: expected {expected}")
+            self.assertIsInstance(error, ValueError)
+
+    def test_limit(self):
+        self.assertEqual(format_toml("a=1", limit=6), "a = 1\n")
+        with self.assertRaises(LimitError) as caught:
+            format_toml("a=1", limit=5)
+        self.assertEqual(caught.exception.before, "a = 1")
+
+    def test_numbers(self):
+        for options in ({"width": -1}, {"indent": -1}, {"indent": 2**32}, {"limit": 0}):
+            with self.assertRaises(ValueError):
+                format_toml("a=1", **options)
+
+    def test_types(self):
+        with self.assertRaises(UnicodeEncodeError):
+            format_toml('a = "\ud800"')
+        for wrong in (3, None, ["a=1"]):
+            with self.assertRaises(TypeError):
+                format_toml(wrong)
 
 
 class Depth(unittest.TestCase):
@@ -544,7 +603,7 @@ class Names(unittest.TestCase):
 
 def load_tests(loader, tests, pattern):
     """The tests above, and the examples of the documentation."""
-    modules = (yezhgulo, yezhgulo.documents, yezhgulo.errors, yezhgulo.json_text)
+    modules = (yezhgulo, yezhgulo.documents, yezhgulo.errors, yezhgulo.json_text, yezhgulo.toml_text)
     tests.addTests(doctest.DocTestSuite(module) for module in modules)
     tests.addTest(doctest.DocFileSuite(os.path.join(HERE, "README.md"), module_relative=False))
     return tests

@@ -63,13 +63,16 @@ A remark at the end of a line is a `line_suffix`, and `flat_alt`, `if_break` and
 flat lines. `help(yezhgulo.documents)` has a table of the constants, such as `line`, and an example of each function.
 
 `Doc.layout` answers a `str`, and `str(doc)` is the layout within 80 columns. Where a document has no layout it raises a
-`LayoutError`, which has the text before the node that fails. `format_json` lays out a JSON text:
+`LayoutError`, which has the text before the node that fails. `format_json` lays out a JSON text, and `format_toml` a
+TOML text:
 
 >>> print(format_json('{"a": [1, 2], "b": null}', 16), end="")
 {
   "a": [1, 2],
   "b": null
 }
+>>> print(format_toml("a=[1,2] # two", 16), end="")
+a = [1, 2] # two
 
 Documents may be as deep as memory allows. The printer is a library, `libprettyless.so`, whose layouts are proved
 against a definition. The proof covers the library's calls, and not the code of this package.
@@ -79,9 +82,10 @@ from yezhgulo import documents, errors
 from yezhgulo.documents import *
 from yezhgulo.errors import *
 from yezhgulo.json_text import format_json
+from yezhgulo.toml_text import format_toml
 
 __version__ = "0.1.0"
 
-__all__ = ["format_json"]
+__all__ = ["format_json", "format_toml"]
 __all__ += documents.__all__
 __all__ += errors.__all__

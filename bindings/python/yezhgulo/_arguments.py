@@ -3,6 +3,7 @@
 from __future__ import annotations
 
 from operator import index
+from typing import Union
 
 # The greatest number that the library takes.
 MOST = 2**64 - 1
@@ -30,3 +31,12 @@ def encoded(text: str) -> bytes:
         return str.encode(text)
     except TypeError:
         raise TypeError(f"a text is a str, not {type(text).__name__}") from None
+
+
+def text_bytes(text: Union[str, bytes], name: str) -> bytes:
+    """The bytes of a text that is a `str` or is bytes already. A lone surrogate in it is a `UnicodeEncodeError`."""
+    if isinstance(text, str):
+        return str.encode(text)
+    if isinstance(text, bytes):
+        return text
+    raise TypeError(f"{name} is a str or bytes, not {type(text).__name__}")

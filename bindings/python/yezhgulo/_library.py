@@ -1,13 +1,13 @@
-"""The two calls of the library, and where it is found."""
+"""The three calls of the library, and where it is found."""
 
 from __future__ import annotations
 
 import ctypes
 import os
-from typing import Any, Callable, Optional, Tuple
+from typing import Any, Callable, Optional, Tuple, Type, Union
 
 from yezhgulo._arguments import number
-from yezhgulo.errors import JsonError, LayoutError, LimitError, ProgramError
+from yezhgulo.errors import JsonError, LayoutError, LimitError, ProgramError, TomlError
 
 _FILE = "libprettyless.so"
 
@@ -18,8 +18,9 @@ _MEMORY_REFUSED = 2
 _FAILS = 3
 _PAST_LIMIT = 4
 _NOT_JSON = 5
+_NOT_TOML = 6
 
-# The name of what was expected in a JSON text has fewer bytes.
+# The name of what was expected in a text has fewer bytes.
 _NAME = 256
 
 
@@ -62,8 +63,18 @@ _json_layout.argtypes = (
     + (_area, _size, _size_out, _size_out, _size_out)
 )
 
+_toml = _library.prettyless_toml
+_toml.restype = ctypes.c_uint32
+_toml.argtypes = (
+    (ctypes.c_char_p, _size, _size, ctypes.c_uint32, _size)
+    + (_area, _size, _size_out, _size_out, _size_out)
+)
+
 # Calls the library with an area, its capacity, and a place for the number of bytes that were written.
 _Call = Callable[[Any, int, Any], int]
+
+# The same with two places more, for a line and a column.
+_TextCall = Callable[[Any, int, Any, Any, Any], int]
 
 
 def _limit(limit: Optional[int]) -> int:
@@ -121,21 +132,40 @@ def layout(program: bytes, width: int, crlf: bool, deferred: bool, limit: Option
     return str(laid, "utf-8")
 
 
+def _text_layout(call: _TextCall, length: int, limit: int, refused: Type[Union[JsonError, TomlError]]) -> str:
+    """The layout of a text of so many bytes, or an error of this type where the text is refused."""
+    line, column = _size(), _size()
+
+    def called(area: Any, capacity: int, written: Any) -> int:
+        return call(area, capacity, written, ctypes.byref(line), ctypes.byref(column))
+
+    status, laid = _called(called, 2 * length + _NAME, limit)
+    if status in (_NOT_JSON, _NOT_TOML):
+        raise refused(line.value, column.value, str(laid, "utf-8", "ignore"))
+    if status != _LAID_OUT:
+        raise _error(status, laid, limit)
+    return str(laid, "utf-8")
+
+
 def json_layout(text: bytes, width: int, indent: int, fill: bool, limit: Optional[int]) -> str:
     """The layout of a JSON text."""
     columns = number(width, "width")
     step = number(indent, "indent", most=2**32 - 1)
     most = _limit(limit)
-    line, column = _size(), _size()
-    place = (ctypes.byref(line), ctypes.byref(column))
 
-    def call(area: Any, capacity: int, written: Any) -> int:
-        options = (columns, step, fill, most)
-        return int(_json_layout(text, len(text), *options, area, capacity, written, *place))
+    def call(*places: Any) -> int:
+        return int(_json_layout(text, len(text), columns, step, fill, most, *places))
 
-    status, laid = _called(call, 2 * len(text) + _NAME, most)
-    if status == _NOT_JSON:
-        raise JsonError(line.value, column.value, str(laid, "utf-8", "ignore"))
-    if status != _LAID_OUT:
-        raise _error(status, laid, most)
-    return str(laid, "utf-8")
+    return _text_layout(call, len(text), most, JsonError)
+
+
+def toml_layout(text: bytes, width: int, indent: int, limit: Optional[int]) -> str:
+    """The layout of a TOML text."""
+    columns = number(width, "width")
+    step = number(indent, "indent", most=2**32 - 1)
+    most = _limit(limit)
+
+    def call(*places: Any) -> int:
+        return int(_toml(text, len(text), columns, step, most, *places))
+
+    return _text_layout(call, len(text), most, TomlError)

@@ -7,7 +7,7 @@ There are exceptions of Python too. Memory that is refused is a `MemoryError`. A
 
 from __future__ import annotations
 
-__all__ = ["JsonError", "LayoutError", "LimitError", "ProgramError", "YezhguloError"]
+__all__ = ["JsonError", "LayoutError", "LimitError", "ProgramError", "TomlError", "YezhguloError"]
 
 _PROGRAM_FAULTS = {
     16: "a byte begins no instruction",
@@ -61,15 +61,8 @@ class LimitError(YezhguloError):
         return f"the layout is longer than {self.limit} bytes"
 
 
-class JsonError(YezhguloError, ValueError):
-    """The text is not JSON, or is more than 128 levels deep.
-
-    `line` and `column` say where the token begins that is wrong, both from 1; a column is a character. `expected` is
-    what was expected there.
-
-    >>> print(JsonError(2, 4, "`,` or `]`"))
-    line 2, column 4: expected `,` or `]`
-    """
+class _TextError(YezhguloError, ValueError):
+    """Where a text is wrong, and what was expected there."""
 
     def __init__(self, line: int, column: int, expected: str) -> None:
         super().__init__(line, column, expected)
@@ -79,6 +72,29 @@ class JsonError(YezhguloError, ValueError):
 
     def __str__(self) -> str:
         return f"line {self.line}, column {self.column}: expected {self.expected}"
+
+
+class JsonError(_TextError):
+    """The text is not JSON, or is more than 100,000 levels deep.
+
+    `line` and `column` say where the token begins that is wrong, and in a string where the escape or the control
+    character does, or the line ends before its closing quote, both from 1; a column is a character. `expected` is
+    what was expected there.
+
+    >>> print(JsonError(2, 4, "`,` or `]`"))
+    line 2, column 4: expected `,` or `]`
+    """
+
+
+class TomlError(_TextError):
+    """The text is not TOML, or more than 128 brackets are in one another.
+
+    `line` and `column` say where the token begins that is wrong, both from 1; a column is a character. `expected` is
+    what was expected there.
+
+    >>> print(TomlError(1, 3, "`.` or `=`"))
+    line 1, column 3: expected `.` or `=`
+    """
 
 
 class ProgramError(YezhguloError):

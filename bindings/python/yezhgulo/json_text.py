@@ -5,6 +5,7 @@ from __future__ import annotations
 from typing import Optional, Union
 
 from yezhgulo import _library
+from yezhgulo._arguments import text_bytes
 
 __all__ = ["format_json"]
 
@@ -15,10 +16,9 @@ def format_json(
     r"""The JSON text, laid out within `width` columns, with one LF at its end.
 
     The value stays the same, and each number and each string its spelling. `indent` is how many columns a level is
-    moved in. With `fill`, arrays of numbers fill lines. The text is a `str`, or bytes in UTF-8, and at most 128
-    levels deep. A text that is not JSON, or is deeper, is a `JsonError`, which says where. A layout of more than
-    `limit` bytes is a `LimitError`. The whole layout is made in memory first, so a limit bounds neither memory nor
-    time: see "Limits" in `docs/BINDINGS.md` of the repository.
+    moved in. With `fill`, arrays of numbers fill lines. The text is a `str`, or bytes in UTF-8, and at most
+    100,000 levels deep. A text that is not JSON, or is deeper, is a `JsonError`, which says where. A layout of more than
+    `limit` bytes is a `LimitError`, and ends once it is past the limit: a short text may have a very long layout.
 
     >>> print(format_json('{"name":"Ada","list":[1,22,333],"empty":{}}', 24), end="")
     {
@@ -38,7 +38,4 @@ def format_json(
     ...
     yezhgulo.errors.JsonError: line 1, column 4: expected `,` or `]`
     """
-    if not isinstance(text, (str, bytes)):
-        raise TypeError(f"a JSON text is a str or bytes, not {type(text).__name__}")
-    encoded = str.encode(text) if isinstance(text, str) else text
-    return _library.json_layout(encoded, width, indent, fill, limit)
+    return _library.json_layout(text_bytes(text, "a JSON text"), width, indent, fill, limit)

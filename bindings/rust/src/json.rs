@@ -1,7 +1,7 @@
 //! The layout of JSON texts.
 
-use crate::area::{fill_or_take, text_of};
-use crate::sys::{self, Place};
+use crate::format::{format, Refused};
+use crate::sys;
 use std::error;
 use std::fmt;
 use std::num::NonZeroUsize;
@@ -17,7 +17,6 @@ pub struct JsonStyle {
     /// Whether an array of numbers alone fills its lines. Otherwise it has one line, or a line for each number.
     pub fill: bool,
     /// The greatest length of the layout in bytes, if there is one. A longer layout is a [`JsonError::PastLimit`].
-    /// [`with_limit`](JsonStyle::with_limit) says what it does not bound.
     pub limit: Option<NonZeroUsize>,
 }
 
@@ -71,8 +70,7 @@ impl JsonStyle {
 
     /// The same with layouts of at most so many bytes; 0 is for no limit.
     ///
-    /// The whole layout is made in memory first, so a limit bounds neither memory nor time: see "Limits" in
-    /// `docs/BINDINGS.md` of the repository.
+    /// A short text may have a very long layout. Where there is a limit, the layout ends once it is past it.
     ///
     /// ```
     /// use yezhgulo::{format_json, JsonError, JsonStyle};
@@ -104,9 +102,9 @@ impl Default for JsonStyle {
 #[derive(Clone, Debug, PartialEq, Eq)]
 #[non_exhaustive]
 pub enum JsonError {
-    /// The text is not JSON, or is more than 128 levels deep.
+    /// The text is not JSON, or is more than 100,000 levels deep.
     NotJson {
-        /// The line where the token begins that is wrong, from 1.
+        /// The line where the token begins that is wrong, or the part of a string that is, from 1.
         line: usize,
         /// The column there, from 1, in characters.
         column: usize,
@@ -126,12 +124,12 @@ pub enum JsonError {
 
 impl JsonError {
     /// The error of a status that is not 0.
-    fn of(status: u32, written: &[u8], place: Place) -> JsonError {
-        match status {
+    fn of(refused: &Refused) -> JsonError {
+        match refused.status {
             sys::NOT_JSON => JsonError::NotJson {
-                line: place.line,
-                column: place.column,
-                expected: String::from_utf8_lossy(written).into_owned(),
+                line: refused.place.line,
+                column: refused.place.column,
+                expected: refused.expected(),
             },
             sys::PAST_LIMIT => JsonError::PastLimit,
             sys::MEMORY => JsonError::OutOfMemory,
@@ -155,19 +153,13 @@ impl fmt::Display for JsonError {
 
 impl error::Error for JsonError {}
 
-/// The room that a layout of a text of so many bytes gets at first. What was expected fits in it too.
-fn first_room(length: usize, style: &JsonStyle) -> usize {
-    let limit = style.limit.map_or(usize::MAX, NonZeroUsize::get);
-    length.saturating_mul(2).min(limit).max(256)
-}
-
 /// The layout of a JSON text, which ends in a line feed.
 ///
 /// Each lexeme stays as it is spelled. The text may be bytes: bytes that are not UTF-8 are not JSON.
 ///
 /// # Errors
 ///
-/// [`JsonError::NotJson`] where the text is not JSON (RFC 8259) or is more than 128 levels deep,
+/// [`JsonError::NotJson`] where the text is not JSON (RFC 8259) or is more than 100,000 levels deep,
 /// [`JsonError::PastLimit`] where the layout is longer than the limit, [`JsonError::OutOfMemory`] where memory is
 /// refused.
 ///
@@ -183,13 +175,5 @@ fn first_room(length: usize, style: &JsonStyle) -> usize {
 /// ```
 pub fn format_json(text: impl AsRef<[u8]>, style: &JsonStyle) -> Result<String, JsonError> {
     let text = text.as_ref();
-    let mut layout = Vec::new();
-    let mut place = Place::default();
-    fill_or_take(&mut layout, first_room(text.len(), style), |out| {
-        let (answer, at) = sys::json_layout(text, style, out);
-        place = at;
-        answer
-    })
-    .map_err(|(status, written)| JsonError::of(status, &written, place))?;
-    Ok(text_of(layout))
+    format(text.len(), style.limit, |out| sys::json_layout(text, style, out)).map_err(|refused| JsonError::of(&refused))
 }

@@ -32,9 +32,10 @@
 //!
 //! Documents and writers can be sent to other threads, and any number of threads may lay documents out at once.
 //!
-//! # JSON
+//! # JSON and TOML
 //!
-//! [`format_json`] lays out a JSON text of at most 128 levels, or says where a token is wrong.
+//! [`format_json`] lays out a JSON text of at most 100,000 levels and [`format_toml`] a TOML text of at most 128, or says
+//! where a token is wrong.
 //!
 //! # What is proved
 //!
@@ -50,11 +51,13 @@ mod choice;
 mod code;
 mod doc;
 mod error;
+mod format;
 mod json;
 mod layout;
 mod listing;
 mod options;
 mod sys;
+mod toml;
 mod writer;
 
 pub use choice::{ColumnTest, NestingTest};
@@ -63,4 +66,5 @@ pub use error::{Error, Fault};
 pub use json::{format_json, JsonError, JsonStyle};
 pub use layout::{layout, Print};
 pub use options::{IndentationPolicy, LineEnding, RenderOptions};
+pub use toml::{format_toml, TomlError, TomlStyle};
 pub use writer::Writer;

@@ -1,8 +1,9 @@
-//! The two calls of the library. All `unsafe` of the crate is here.
+//! The three calls of the library. All `unsafe` of the crate is here.
 #![allow(unsafe_code)]
 
 use crate::json::JsonStyle;
 use crate::options::{IndentationPolicy, LineEnding, RenderOptions};
+use crate::toml::TomlStyle;
 use std::num::NonZeroUsize;
 
 #[cfg(not(target_pointer_width = "64"))]
@@ -14,6 +15,7 @@ pub(crate) const MEMORY: u32 = 2;
 pub(crate) const FAILS: u32 = 3;
 pub(crate) const PAST_LIMIT: u32 = 4;
 pub(crate) const NOT_JSON: u32 = 5;
+pub(crate) const NOT_TOML: u32 = 6;
 pub(crate) const INSTRUCTION: u32 = 16;
 pub(crate) const OPERAND: u32 = 17;
 pub(crate) const TEXT: u32 = 18;
@@ -40,6 +42,19 @@ extern "C" {
         width: usize,
         indent: u32,
         fill: bool,
+        limit: usize,
+        out: *mut u8,
+        capacity: usize,
+        written: *mut usize,
+        line: *mut usize,
+        column: *mut usize,
+    ) -> u32;
+
+    fn prettyless_toml(
+        text: *const u8,
+        length: usize,
+        width: usize,
+        indent: u32,
         limit: usize,
         out: *mut u8,
         capacity: usize,
@@ -105,6 +120,28 @@ pub(crate) fn json_layout(text: &[u8], style: &JsonStyle, out: &mut [u8]) -> (An
             style.width,
             style.indent,
             style.fill,
+            limit_of(style.limit),
+            out.as_mut_ptr(),
+            out.len(),
+            &mut written,
+            &mut place.line,
+            &mut place.column,
+        )
+    };
+    (Answer { status, written }, place)
+}
+
+/// Lays out a TOML text.
+pub(crate) fn toml_layout(text: &[u8], style: &TomlStyle, out: &mut [u8]) -> (Answer, Place) {
+    let mut written = 0;
+    let mut place = Place::default();
+    // SAFETY: As in `json_layout`.
+    let status = unsafe {
+        prettyless_toml(
+            text.as_ptr(),
+            text.len(),
+            style.width,
+            style.indent,
             limit_of(style.limit),
             out.as_mut_ptr(),
             out.len(),

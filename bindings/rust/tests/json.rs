@@ -54,8 +54,8 @@ fn the_place_where_the_wrong_token_begins() {
     assert_eq!(refused(b"[1 2 \xff]"), expected(1, 6, "UTF-8"));
     assert_eq!(refused("{\"é\" 1}"), expected(1, 6, "`:`"));
     assert_eq!(refused([b'"', 0xff, b'"']), expected(1, 2, "UTF-8"));
-    let deep = "[".repeat(129) + &"]".repeat(129);
-    assert_eq!(refused(deep), expected(1, 129, "at most 128 levels of nesting"));
+    let deep = "[".repeat(100_001) + &"]".repeat(100_001);
+    assert_eq!(refused(deep), expected(1, 100_001, "at most 100,000 levels of nesting"));
 }
 
 #[test]

@@ -1,9 +1,4 @@
 //! The document of a workload.
-ghost use Rattle.std.specs.Prelude.{◌≡◌, ◌⊎◌, IfErr, IfOk};
-ghost use Rattle.prettyless.specs.BuildErrors.{IsMemory};
-ghost use Rattle.prettyless.specs.DocTree.{built};
-ghost use Rattle.bench_workloads.specs.Documents.{IsDocument};
-ghost use Rattle.bench_workloads.specs.declared.workload.Workload.TheVariants.{Json};
 
 use crate::groups::{bare_groups, tail_groups, text_groups};
 use crate::json::array;
@@ -21,11 +16,7 @@ fn built_at<'a, D: DocPlace<'a>>(
     place: &'a D,
     workload: Workload,
     size: usize,
-) -> Result<DocBuilder<'a, D>, BuildError>
-    ensures ok { IfOk result (λ b. IsDocument workload size (built D.Doc.tree b.1)) }
-    // A number is shown in a record, and no contract says when that fails.
-    ensures err { IfErr result (λ e. IsMemory e ⊎ (workload ≡ Json)) }
-{
+) -> Result<DocBuilder<'a, D>, BuildError> {
     match workload {
         Workload::Tree => tree(place, size),
         Workload::List | Workload::FlatList => list(place, size),
@@ -54,9 +45,6 @@ pub(crate) fn document<'a, D: DocPlace<'a>>(
     place: &'a D,
     workload: Workload,
     size: usize,
-) -> Result<D::Doc, BuildError>
-    ensures ok { IfOk result (λ p. IsDocument workload size (D.Doc.tree p)) }
-    ensures err { IfErr result (λ e. IsMemory e ⊎ (workload ≡ Json)) }
-{
+) -> Result<D::Doc, BuildError> {
     built_at(place, workload, size)?.into_doc()
 }

@@ -1,5 +1,4 @@
 ghost use Rattle.std.specs.Prelude.{◌≡◌};
-ghost use Rattle.bench_workloads.specs.Failures.{message_of, status_of};
 ghost use Rattle.bench_workloads.specs.declared.failure.Failure.TheVariants.{Build, Render, Memory, System};
 
 use prettyless::RenderError;
@@ -24,9 +23,7 @@ pub enum Failure {
 
 impl Failure {
     /// What standard error gets.
-    pub fn message(&self) -> &'static str
-        ensures { result.now ≡ message_of self.now }
-    {
+    pub fn message(&self) -> &'static str {
         match self {
             Failure::Words => "usage: bench [sizes | time [WORKLOAD] | wide WORKLOAD]",
             Failure::Build(_) => "error: a document was not built",
@@ -37,9 +34,7 @@ impl Failure {
     }
 
     /// The status that `bench` ends with.
-    pub fn status(&self) -> u8
-        ensures { result ≡ status_of self.now }
-    {
+    pub fn status(&self) -> u8 {
         match self {
             Failure::Words => 2,
             _ => 1,

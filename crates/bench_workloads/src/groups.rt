@@ -1,8 +1,4 @@
 //! Groups in groups.
-ghost use Rattle.std.specs.Prelude.{◌≡◌, IfOk, IfErr};
-ghost use Rattle.prettyless.specs.BuildErrors.{IsMemory};
-ghost use Rattle.prettyless.specs.DocTree.{built};
-ghost use Rattle.bench_workloads.specs.Documents as to;
 
 use crate::parts::{on_own_line, text, text_line};
 use prettyless::text::BuildError;
@@ -12,10 +8,7 @@ use prettyless::{BuildDoc, Doc, DocBuilder, DocPlace};
 pub(crate) fn text_groups<'a, D: DocPlace<'a>>(
     place: &'a D,
     depth: usize,
-) -> Result<DocBuilder<'a, D>, BuildError>
-    ensures ok { IfOk result (λ b. built D.Doc.tree b.1 ≡ to.text_groups depth) }
-    ensures err { IfErr result IsMemory }
-{
+) -> Result<DocBuilder<'a, D>, BuildError> {
     let mut all = text(place, "a");
     for _ in 0..depth {
         all = text_line(place, "a")?.join(all)?.group()?;
@@ -24,10 +17,7 @@ pub(crate) fn text_groups<'a, D: DocPlace<'a>>(
 }
 
 // Two texts that don't fit a line of 80 columns together, and a line between them.
-fn wide<'a, D: DocPlace<'a>>(place: &'a D) -> Result<DocBuilder<'a, D>, BuildError>
-    ensures ok { IfOk result (λ b. built D.Doc.tree b.1 ≡ to.wide) }
-    ensures err { IfErr result IsMemory }
-{
+fn wide<'a, D: DocPlace<'a>>(place: &'a D) -> Result<DocBuilder<'a, D>, BuildError> {
     let half = "a text of fifty columns, of which two fill a line.";
     text_line(place, half)?.join(text(place, half))
 }
@@ -36,10 +26,7 @@ fn wide<'a, D: DocPlace<'a>>(place: &'a D) -> Result<DocBuilder<'a, D>, BuildErr
 pub(crate) fn bare_groups<'a, D: DocPlace<'a>>(
     place: &'a D,
     depth: usize,
-) -> Result<DocBuilder<'a, D>, BuildError>
-    ensures ok { IfOk result (λ b. built D.Doc.tree b.1 ≡ to.bare_groups depth) }
-    ensures err { IfErr result IsMemory }
-{
+) -> Result<DocBuilder<'a, D>, BuildError> {
     let mut all = wide(place)?;
     for _ in 0..depth {
         // A builder makes no group of a group.
@@ -52,10 +39,7 @@ pub(crate) fn bare_groups<'a, D: DocPlace<'a>>(
 // A document on a line of its own where it does not fit, in a group, and a text after that.
 fn tail_group<'a, D: DocPlace<'a>>(
     inner: DocBuilder<'a, D>,
-) -> Result<DocBuilder<'a, D>, BuildError>
-    ensures ok { IfOk result (λ b. built D.Doc.tree b.1 ≡ to.tail_group (built D.Doc.tree inner.entry.1)) }
-    ensures err { IfErr result IsMemory }
-{
+) -> Result<DocBuilder<'a, D>, BuildError> {
     let place = inner.0;
     let front = on_own_line(inner)?.group()?;
     front.join(text(place, "a text of forty columns, behind a group."))
@@ -65,10 +49,7 @@ fn tail_group<'a, D: DocPlace<'a>>(
 pub(crate) fn tail_groups<'a, D: DocPlace<'a>>(
     place: &'a D,
     depth: usize,
-) -> Result<DocBuilder<'a, D>, BuildError>
-    ensures ok { IfOk result (λ b. built D.Doc.tree b.1 ≡ to.tail_groups depth) }
-    ensures err { IfErr result IsMemory }
-{
+) -> Result<DocBuilder<'a, D>, BuildError> {
     let mut all = text(place, "a");
     for _ in 0..depth {
         all = tail_group(all)?;

@@ -1,9 +1,4 @@
 //! Records in the notation of JSON.
-ghost use Rattle.std.specs.Prelude.{◌≡◌, IfOk, IfErr};
-ghost use Rattle.prettyless.specs.BuildErrors.{IsMemory};
-ghost use Rattle.prettyless.specs.DocTree.{built};
-ghost use Rattle.prettyless.specs.Tree.{Text};
-ghost use Rattle.bench_workloads.specs.Documents as to;
 
 use crate::parts::{on_own_line, text, text_line};
 use crate::words::word;
@@ -15,10 +10,7 @@ use prettyless::{DocAllocator, DocBuilder, DocPlace};
 fn opened<'a, D: DocPlace<'a>>(
     opening: &'a str,
     values: DocBuilder<'a, D>,
-) -> Result<DocBuilder<'a, D>, BuildError>
-    ensures ok { IfOk result (λ b. built D.Doc.tree b.1 ≡ to.opened (Text opening.now) (built D.Doc.tree values.entry.1)) }
-    ensures err { IfErr result IsMemory }
-{
+) -> Result<DocBuilder<'a, D>, BuildError> {
     let place = values.0;
     let inner = on_own_line(values)?.nest(2)?;
     text(place, opening).join(inner)
@@ -30,11 +22,7 @@ pub(crate) fn bracketed<'a, D: DocPlace<'a>>(
     opening: &'a str,
     values: DocBuilder<'a, D>,
     closing: &'a str,
-) -> Result<DocBuilder<'a, D>, BuildError>
-    ensures ok { IfOk result (λ b. built D.Doc.tree b.1
-        ≡ to.bracketed (Text opening.now) (built D.Doc.tree values.entry.1) (Text closing.now)) }
-    ensures err { IfErr result IsMemory }
-{
+) -> Result<DocBuilder<'a, D>, BuildError> {
     let place = values.0;
     let front = opened(opening, values)?;
     let end = on_own_line(text(place, closing))?;
@@ -46,11 +34,7 @@ pub(crate) fn bracketed<'a, D: DocPlace<'a>>(
 pub(crate) fn with_comma<'a, D: DocPlace<'a>>(
     front: DocBuilder<'a, D>,
     next: DocBuilder<'a, D>,
-) -> Result<DocBuilder<'a, D>, BuildError>
-    ensures ok { IfOk result (λ b. built D.Doc.tree b.1 ≡ to.with_comma
-        (built D.Doc.tree front.entry.1) (built D.Doc.tree next.entry.1)) }
-    ensures err { IfErr result IsMemory }
-{
+) -> Result<DocBuilder<'a, D>, BuildError> {
     let gap = text_line(front.0, ",")?;
     front.join(gap)?.join(next)
 }
@@ -60,10 +44,7 @@ pub(crate) fn with_comma<'a, D: DocPlace<'a>>(
 pub(crate) fn field<'a, D: DocPlace<'a>>(
     key: &'a str,
     value: DocBuilder<'a, D>,
-) -> Result<DocBuilder<'a, D>, BuildError>
-    ensures ok { IfOk result (λ b. built D.Doc.tree b.1 ≡ to.field key.now (built D.Doc.tree value.entry.1)) }
-    ensures err { IfErr result IsMemory }
-{
+) -> Result<DocBuilder<'a, D>, BuildError> {
     let place = value.0;
     text(place, key).join(value)
 }
@@ -74,11 +55,7 @@ pub(crate) fn with_field<'a, D: DocPlace<'a>>(
     front: DocBuilder<'a, D>,
     key: &'a str,
     value: DocBuilder<'a, D>,
-) -> Result<DocBuilder<'a, D>, BuildError>
-    ensures ok { IfOk result (λ b. built D.Doc.tree b.1 ≡ to.with_comma
-        (built D.Doc.tree front.entry.1) (to.field key.now (built D.Doc.tree value.entry.1))) }
-    ensures err { IfErr result IsMemory }
-{
+) -> Result<DocBuilder<'a, D>, BuildError> {
     let next = field(key, value)?;
     with_comma(front, next)
 }
@@ -90,10 +67,7 @@ pub(crate) fn triple<'a, D: DocPlace<'a>>(
     first: &'a str,
     second: &'a str,
     third: &'a str,
-) -> Result<DocBuilder<'a, D>, BuildError>
-    ensures ok { IfOk result (λ b. built D.Doc.tree b.1 ≡ to.triple first.now second.now third.now) }
-    ensures err { IfErr result IsMemory }
-{
+) -> Result<DocBuilder<'a, D>, BuildError> {
     let pair = with_comma(text(place, first), text(place, second))?;
     let values = with_comma(pair, text(place, third))?;
     bracketed("[", values, "]")
@@ -101,10 +75,7 @@ pub(crate) fn triple<'a, D: DocPlace<'a>>(
 
 // A field whose text depends on the number.
 #[inline(always)]
-fn name<'a, D: DocPlace<'a>>(place: &'a D, number: usize) -> Result<DocBuilder<'a, D>, BuildError>
-    ensures ok { IfOk result (λ b. built D.Doc.tree b.1 ≡ to.name_field number) }
-    ensures err { IfErr result IsMemory }
-{
+fn name<'a, D: DocPlace<'a>>(place: &'a D, number: usize) -> Result<DocBuilder<'a, D>, BuildError> {
     let name = text(place, "\"name\": \"").join(text(place, word(number)))?;
     name.join(text(place, "\""))
 }
@@ -114,9 +85,7 @@ fn name<'a, D: DocPlace<'a>>(place: &'a D, number: usize) -> Result<DocBuilder<'
 fn numbered_fields<'a, D: DocPlace<'a>>(
     place: &'a D,
     number: usize,
-) -> Result<DocBuilder<'a, D>, BuildError>
-    ensures { IfOk result (λ b. built D.Doc.tree b.1 ≡ to.numbered_fields number) }
-{
+) -> Result<DocBuilder<'a, D>, BuildError> {
     let id = field("\"id\": ", place.as_string(number)?)?;
     with_comma(id, name(place, number)?)
 }
@@ -126,9 +95,7 @@ fn numbered_fields<'a, D: DocPlace<'a>>(
 fn record_fields<'a, D: DocPlace<'a>>(
     place: &'a D,
     number: usize,
-) -> Result<DocBuilder<'a, D>, BuildError>
-    ensures { IfOk result (λ b. built D.Doc.tree b.1 ≡ to.record_fields number) }
-{
+) -> Result<DocBuilder<'a, D>, BuildError> {
     let numbered = numbered_fields(place, number)?;
     let tags = triple(place, "\"red\"", "\"green\"", "\"blue\"")?;
     let tagged = with_field(numbered, "\"tags\": ", tags)?;
@@ -137,9 +104,10 @@ fn record_fields<'a, D: DocPlace<'a>>(
 }
 
 // The fields of a number in braces.
-fn record<'a, D: DocPlace<'a>>(place: &'a D, number: usize) -> Result<DocBuilder<'a, D>, BuildError>
-    ensures { IfOk result (λ b. built D.Doc.tree b.1 ≡ to.record_of number) }
-{
+fn record<'a, D: DocPlace<'a>>(
+    place: &'a D,
+    number: usize,
+) -> Result<DocBuilder<'a, D>, BuildError> {
     bracketed("{", record_fields(place, number)?, "}")
 }
 
@@ -147,9 +115,7 @@ fn record<'a, D: DocPlace<'a>>(place: &'a D, number: usize) -> Result<DocBuilder
 pub(crate) fn array<'a, D: DocPlace<'a>>(
     place: &'a D,
     records: usize,
-) -> Result<DocBuilder<'a, D>, BuildError>
-    ensures { IfOk result (λ b. built D.Doc.tree b.1 ≡ to.array records) }
-{
+) -> Result<DocBuilder<'a, D>, BuildError> {
     let mut values = record(place, 0)?;
     for number in 1..records {
         values = with_comma(values, record(place, number)?)?;

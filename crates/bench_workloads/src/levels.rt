@@ -1,8 +1,4 @@
 //! Groups in groups, each with a line and more than a text, and lines of short groups.
-ghost use Rattle.std.specs.Prelude.{◌≡◌, IfOk, IfErr};
-ghost use Rattle.prettyless.specs.BuildErrors.{IsMemory};
-ghost use Rattle.prettyless.specs.DocTree.{built};
-ghost use Rattle.bench_workloads.specs.Documents as to;
 
 use crate::parts::{line_break, text};
 use prettyless::text::{BuildError, Text};
@@ -15,11 +11,7 @@ const CELLS: usize = 30;
 fn line_group<'a, D: DocPlace<'a>>(
     front: DocBuilder<'a, D>,
     next: DocBuilder<'a, D>,
-) -> Result<DocBuilder<'a, D>, BuildError>
-    ensures ok { IfOk result (λ b. built D.Doc.tree b.1
-        ≡ to.line_group (built D.Doc.tree front.entry.1) (built D.Doc.tree next.entry.1)) }
-    ensures err { IfErr result IsMemory }
-{
+) -> Result<DocBuilder<'a, D>, BuildError> {
     let line = front.0.line()?;
     front.join(line)?.join(next)?.group()
 }
@@ -28,10 +20,7 @@ fn line_group<'a, D: DocPlace<'a>>(
 pub(crate) fn sums<'a, D: DocPlace<'a>>(
     place: &'a D,
     depth: usize,
-) -> Result<DocBuilder<'a, D>, BuildError>
-    ensures ok { IfOk result (λ b. built D.Doc.tree b.1 ≡ to.sums depth) }
-    ensures err { IfErr result IsMemory }
-{
+) -> Result<DocBuilder<'a, D>, BuildError> {
     let mut all = text(place, "a");
     for _ in 0..depth {
         all = line_group(all, text(place, "+ b"))?;
@@ -42,10 +31,7 @@ pub(crate) fn sums<'a, D: DocPlace<'a>>(
 // A text, a weak space, a line and a document, in a group.
 fn spaced_group<'a, D: DocPlace<'a>>(
     inner: DocBuilder<'a, D>,
-) -> Result<DocBuilder<'a, D>, BuildError>
-    ensures ok { IfOk result (λ b. built D.Doc.tree b.1 ≡ to.spaced_group (built D.Doc.tree inner.entry.1)) }
-    ensures err { IfErr result IsMemory }
-{
+) -> Result<DocBuilder<'a, D>, BuildError> {
     let place = inner.0;
     let front = text(place, "a").join(DocBuilder::new(place, Doc::WeakSpace))?;
     line_group(front, inner)
@@ -55,10 +41,7 @@ fn spaced_group<'a, D: DocPlace<'a>>(
 pub(crate) fn spaced_groups<'a, D: DocPlace<'a>>(
     place: &'a D,
     depth: usize,
-) -> Result<DocBuilder<'a, D>, BuildError>
-    ensures ok { IfOk result (λ b. built D.Doc.tree b.1 ≡ to.spaced_groups depth) }
-    ensures err { IfErr result IsMemory }
-{
+) -> Result<DocBuilder<'a, D>, BuildError> {
     let mut all = text(place, "a");
     for _ in 0..depth {
         all = spaced_group(all)?;
@@ -69,10 +52,7 @@ pub(crate) fn spaced_groups<'a, D: DocPlace<'a>>(
 // A text, a remark put off to the end of the line, a line and a document, in a group.
 fn remark_group<'a, D: DocPlace<'a>>(
     inner: DocBuilder<'a, D>,
-) -> Result<DocBuilder<'a, D>, BuildError>
-    ensures ok { IfOk result (λ b. built D.Doc.tree b.1 ≡ to.remark_group (built D.Doc.tree inner.entry.1)) }
-    ensures err { IfErr result IsMemory }
-{
+) -> Result<DocBuilder<'a, D>, BuildError> {
     let place = inner.0;
     let remark = text(place, "  # why").as_line_suffix()?;
     let front = text(place, "a").join(remark)?;
@@ -83,10 +63,7 @@ fn remark_group<'a, D: DocPlace<'a>>(
 pub(crate) fn remark_groups<'a, D: DocPlace<'a>>(
     place: &'a D,
     depth: usize,
-) -> Result<DocBuilder<'a, D>, BuildError>
-    ensures ok { IfOk result (λ b. built D.Doc.tree b.1 ≡ to.remark_groups depth) }
-    ensures err { IfErr result IsMemory }
-{
+) -> Result<DocBuilder<'a, D>, BuildError> {
     let mut all = text(place, "a");
     for _ in 0..depth {
         all = remark_group(all)?;
@@ -97,10 +74,7 @@ pub(crate) fn remark_groups<'a, D: DocPlace<'a>>(
 // A text, a line, and a document or else another text, in a group.
 fn union_group<'a, D: DocPlace<'a>>(
     inner: DocBuilder<'a, D>,
-) -> Result<DocBuilder<'a, D>, BuildError>
-    ensures ok { IfOk result (λ b. built D.Doc.tree b.1 ≡ to.union_group (built D.Doc.tree inner.entry.1)) }
-    ensures err { IfErr result IsMemory }
-{
+) -> Result<DocBuilder<'a, D>, BuildError> {
     let place = inner.0;
     let either = inner.union(BuildDoc::Doc(Doc::Text(Text::Borrowed("b"))))?;
     line_group(text(place, "a"), either)
@@ -110,10 +84,7 @@ fn union_group<'a, D: DocPlace<'a>>(
 pub(crate) fn union_groups<'a, D: DocPlace<'a>>(
     place: &'a D,
     depth: usize,
-) -> Result<DocBuilder<'a, D>, BuildError>
-    ensures ok { IfOk result (λ b. built D.Doc.tree b.1 ≡ to.union_groups depth) }
-    ensures err { IfErr result IsMemory }
-{
+) -> Result<DocBuilder<'a, D>, BuildError> {
     let mut all = text(place, "a");
     for _ in 0..depth {
         all = union_group(all)?;
@@ -124,10 +95,7 @@ pub(crate) fn union_groups<'a, D: DocPlace<'a>>(
 // A text, a line, and a document whose first line fits or else another text, in a group.
 fn partial_group<'a, D: DocPlace<'a>>(
     inner: DocBuilder<'a, D>,
-) -> Result<DocBuilder<'a, D>, BuildError>
-    ensures ok { IfOk result (λ b. built D.Doc.tree b.1 ≡ to.partial_group (built D.Doc.tree inner.entry.1)) }
-    ensures err { IfErr result IsMemory }
-{
+) -> Result<DocBuilder<'a, D>, BuildError> {
     let place = inner.0;
     let either = inner.partial_union(BuildDoc::Doc(Doc::Text(Text::Borrowed("b"))))?;
     line_group(text(place, "a"), either)
@@ -137,10 +105,7 @@ fn partial_group<'a, D: DocPlace<'a>>(
 pub(crate) fn partial_groups<'a, D: DocPlace<'a>>(
     place: &'a D,
     depth: usize,
-) -> Result<DocBuilder<'a, D>, BuildError>
-    ensures ok { IfOk result (λ b. built D.Doc.tree b.1 ≡ to.partial_groups depth) }
-    ensures err { IfErr result IsMemory }
-{
+) -> Result<DocBuilder<'a, D>, BuildError> {
     let mut all = text(place, "a");
     for _ in 0..depth {
         all = partial_group(all)?;
@@ -149,18 +114,12 @@ pub(crate) fn partial_groups<'a, D: DocPlace<'a>>(
 }
 
 // Two texts in a group.
-fn cell<'a, D: DocPlace<'a>>(place: &'a D) -> Result<DocBuilder<'a, D>, BuildError>
-    ensures ok { IfOk result (λ b. built D.Doc.tree b.1 ≡ to.cell) }
-    ensures err { IfErr result IsMemory }
-{
+fn cell<'a, D: DocPlace<'a>>(place: &'a D) -> Result<DocBuilder<'a, D>, BuildError> {
     text(place, "a").join(text(place, "b"))?.group()
 }
 
 // So many of these groups.
-fn cells<'a, D: DocPlace<'a>>(place: &'a D, count: usize) -> Result<DocBuilder<'a, D>, BuildError>
-    ensures ok { IfOk result (λ b. built D.Doc.tree b.1 ≡ to.cells count) }
-    ensures err { IfErr result IsMemory }
-{
+fn cells<'a, D: DocPlace<'a>>(place: &'a D, count: usize) -> Result<DocBuilder<'a, D>, BuildError> {
     let mut all = DocBuilder::new(place, Doc::Nil);
     for _ in 0..count {
         all = all.join(cell(place)?)?;
@@ -169,10 +128,7 @@ fn cells<'a, D: DocPlace<'a>>(place: &'a D, count: usize) -> Result<DocBuilder<'
 }
 
 // Thirty of them, and the end of their line.
-fn cell_line<'a, D: DocPlace<'a>>(place: &'a D) -> Result<DocBuilder<'a, D>, BuildError>
-    ensures ok { IfOk result (λ b. built D.Doc.tree b.1 ≡ to.cell_line) }
-    ensures err { IfErr result IsMemory }
-{
+fn cell_line<'a, D: DocPlace<'a>>(place: &'a D) -> Result<DocBuilder<'a, D>, BuildError> {
     cells(place, CELLS)?.join(line_break(place))
 }
 
@@ -180,10 +136,7 @@ fn cell_line<'a, D: DocPlace<'a>>(place: &'a D) -> Result<DocBuilder<'a, D>, Bui
 pub(crate) fn cell_lines<'a, D: DocPlace<'a>>(
     place: &'a D,
     lines: usize,
-) -> Result<DocBuilder<'a, D>, BuildError>
-    ensures ok { IfOk result (λ b. built D.Doc.tree b.1 ≡ to.cell_lines lines) }
-    ensures err { IfErr result IsMemory }
-{
+) -> Result<DocBuilder<'a, D>, BuildError> {
     let mut all = DocBuilder::new(place, Doc::Nil);
     for _ in 0..lines {
         all = all.join(cell_line(place)?)?;

@@ -1,9 +1,4 @@
 //! Lists in parentheses.
-ghost use Rattle.std.specs.Prelude.{◌≡◌, IfOk, IfErr};
-ghost use Rattle.prettyless.specs.BuildErrors.{IsMemory};
-ghost use Rattle.prettyless.specs.DocTree.{built};
-ghost use Rattle.prettyless.specs.Tree.{Tree};
-ghost use Rattle.bench_workloads.specs.Documents as to;
 
 use crate::parts::text;
 use prettyless::combinators::line_or_space;
@@ -20,10 +15,7 @@ const CHILDREN: usize = 10;
 fn parenthesised<'a, D: DocPlace<'a>>(
     place: &'a D,
     items: DocBuilder<'a, D>,
-) -> Result<DocBuilder<'a, D>, BuildError>
-    ensures ok { IfOk result (λ b. built D.Doc.tree b.1 ≡ to.parenthesised (built D.Doc.tree items.entry.1)) }
-    ensures err { IfErr result IsMemory }
-{
+) -> Result<DocBuilder<'a, D>, BuildError> {
     let inner = items.nest(1)?.group()?;
     text(place, "(").join(inner)?.join(text(place, ")"))
 }
@@ -32,30 +24,26 @@ fn parenthesised<'a, D: DocPlace<'a>>(
 pub(crate) fn list<'a, D: DocPlace<'a>>(
     place: &'a D,
     atoms: usize,
-) -> Result<DocBuilder<'a, D>, BuildError>
-    ensures ok { IfOk result (λ b. built D.Doc.tree b.1 ≡ to.list atoms) }
-    ensures err { IfErr result IsMemory }
-{
+) -> Result<DocBuilder<'a, D>, BuildError> {
     let atom: &'a str = ATOM;
     let items = place.intersperse(iter::repeat_n(atom, atoms), line_or_space())?;
     parenthesised(place, items)
 }
 
 // An atom and a line in front of a document.
-fn in_front<'a, D: DocPlace<'a>>(inner: DocBuilder<'a, D>) -> Result<DocBuilder<'a, D>, BuildError>
-    ensures ok { IfOk result (λ b. built D.Doc.tree b.1 ≡ to.in_front (built D.Doc.tree inner.entry.1)) }
-    ensures err { IfErr result IsMemory }
-{
+fn in_front<'a, D: DocPlace<'a>>(
+    inner: DocBuilder<'a, D>,
+) -> Result<DocBuilder<'a, D>, BuildError> {
     let place = inner.0;
     let rest = place.line()?.join(inner)?;
     text(place, ATOM).join(rest)
 }
 
 // So many atoms in front of a last one.
-fn leaning<'a, D: DocPlace<'a>>(place: &'a D, atoms: usize) -> Result<DocBuilder<'a, D>, BuildError>
-    ensures ok { IfOk result (λ b. built D.Doc.tree b.1 ≡ to.leaning atoms) }
-    ensures err { IfErr result IsMemory }
-{
+fn leaning<'a, D: DocPlace<'a>>(
+    place: &'a D,
+    atoms: usize,
+) -> Result<DocBuilder<'a, D>, BuildError> {
     let mut all = text(place, ATOM);
     for _ in 0..atoms {
         all = in_front(all)?;
@@ -67,10 +55,7 @@ fn leaning<'a, D: DocPlace<'a>>(place: &'a D, atoms: usize) -> Result<DocBuilder
 pub(crate) fn right_list<'a, D: DocPlace<'a>>(
     place: &'a D,
     atoms: usize,
-) -> Result<DocBuilder<'a, D>, BuildError>
-    ensures ok { IfOk result (λ b. built D.Doc.tree b.1 ≡ to.right_list atoms) }
-    ensures err { IfErr result IsMemory }
-{
+) -> Result<DocBuilder<'a, D>, BuildError> {
     leaning(place, atoms)?.nest(1)?.group()
 }
 
@@ -78,35 +63,22 @@ pub(crate) fn right_list<'a, D: DocPlace<'a>>(
 trait TreePlace: Copy {
     /// The pointer to a tree.
     type Doc: Drop;
-
-    ghost tree: { Self.Doc → Tree };
-
     /// An atom.
-    fn atom(self) -> Result<Self::Doc, BuildError>
-        ensures ok { IfOk result (λ d. tree d ≡ to.tree 0) }
-        ensures err { IfErr result IsMemory };
-
+    fn atom(self) -> Result<Self::Doc, BuildError>;
     /// A document after another, with a line between them.
-    fn behind(self, front: Self::Doc, next: Self::Doc) -> Result<Self::Doc, BuildError>
-        ensures ok { IfOk result (λ d. tree d ≡ to.behind (tree front) (tree next)) }
-        ensures err { IfErr result IsMemory };
-
+    fn next_line(self, front: Self::Doc, next: Self::Doc) -> Result<Self::Doc, BuildError>;
     /// A list of these.
-    fn listed(self, items: Self::Doc) -> Result<Self::Doc, BuildError>
-        ensures ok { IfOk result (λ d. tree d ≡ to.parenthesised (tree items)) }
-        ensures err { IfErr result IsMemory };
+    fn listed(self, items: Self::Doc) -> Result<Self::Doc, BuildError>;
 }
 
 impl<'a, D: DocPlace<'a>> TreePlace for &'a D {
     type Doc = D::Doc;
 
-    ghost tree = { D.Doc.tree };
-
     fn atom(self) -> Result<D::Doc, BuildError> {
         text(self, ATOM).into_doc()
     }
 
-    fn behind(self, front: D::Doc, next: D::Doc) -> Result<D::Doc, BuildError> {
+    fn next_line(self, front: D::Doc, next: D::Doc) -> Result<D::Doc, BuildError> {
         let line = self.line()?;
         let front = DocBuilder::from_doc(self, front).join(line)?;
         let next = DocBuilder::from_doc(self, next);
@@ -119,16 +91,13 @@ impl<'a, D: DocPlace<'a>> TreePlace for &'a D {
 }
 
 // An atom, or a list of ten trees that have one level less.
-fn levels<P: TreePlace>(place: P, height: u32) -> Result<P::Doc, BuildError>
-    ensures ok { IfOk result (λ d. P.tree d ≡ to.tree height) }
-    ensures err { IfErr result IsMemory }
-{
+fn levels<P: TreePlace>(place: P, height: u32) -> Result<P::Doc, BuildError> {
     if height == 0 {
         return place.atom();
     }
     let mut items = levels(place, height - 1)?;
     for _ in 1..CHILDREN {
-        items = place.behind(items, levels(place, height - 1)?)?;
+        items = place.next_line(items, levels(place, height - 1)?)?;
     }
     place.listed(items)
 }
@@ -138,10 +107,7 @@ fn levels<P: TreePlace>(place: P, height: u32) -> Result<P::Doc, BuildError>
 pub(crate) fn tree<'a, D: DocPlace<'a>>(
     place: &'a D,
     atoms: usize,
-) -> Result<DocBuilder<'a, D>, BuildError>
-    ensures ok { IfOk result (λ b. to.IsTree atoms (built D.Doc.tree b.1)) }
-    ensures err { IfErr result IsMemory }
-{
+) -> Result<DocBuilder<'a, D>, BuildError> {
     let root = levels(place, atoms.max(1).ilog10())?;
     Ok(DocBuilder::from_doc(place, root))
 }

@@ -1,11 +1,4 @@
 //! Building and laying out, and how long it takes.
-ghost use Rattle.std.specs.Prelude.{◌≡◌, ℕ, List, length, IfErr, IfOk, OnOk};
-ghost use Rattle.std.specs.String.{string_bytes};
-ghost use Rattle.prettyless.specs.DocTree.{tree_of};
-ghost use Rattle.prettyless.specs.Layout as laid;
-ghost use Rattle.prettyless.specs.Options.{options_at};
-ghost use Rattle.bench_workloads.specs.Failures.{IsOfLayout, IsOfTiming};
-ghost use Rattle.bench_workloads.specs.Layouts.{IsLayout, IsOf, IsWithin};
 
 use crate::checksum::checksum;
 use crate::document::document;
@@ -50,10 +43,7 @@ fn layout<'a, D: DocPlace<'a>>(
     place: &'a D,
     workload: Workload,
     size: usize,
-) -> Result<String, Failure>
-    ensures ok { IfOk result (λ out. IsLayout workload size (string_bytes out)) }
-    ensures err { IfErr result IsOfLayout }
-{
+) -> Result<String, Failure> {
     let root = document(place, workload, size)?;
     let mut out = String::new(alloc);
     root.doc().render_fmt(alloc, workload.width(), &mut out)?;
@@ -61,10 +51,7 @@ fn layout<'a, D: DocPlace<'a>>(
 }
 
 /// Lays a workload out.
-pub(crate) fn lay(alloc: Global, workload: Workload, size: usize) -> Result<Laid, Failure>
-    ensures ok { IfOk result (λ laid. (bytes : List ℕ) × IsLayout workload size bytes × IsOf laid bytes) }
-    ensures err { IfErr result IsOfLayout }
-{
+pub(crate) fn lay(alloc: Global, workload: Workload, size: usize) -> Result<Laid, Failure> {
     let bump = Bump::new(alloc);
     let arena = Arena::new(alloc, &bump);
     let out = layout(alloc, &arena, workload, size)?;
@@ -82,10 +69,7 @@ fn time_render<'a, C: Clock, T: DocPtr<'a>>(
     width: usize,
     doc: &Doc<'a, T>,
     out: &mut String,
-) -> Result<Duration, Failure>
-    ensures ok { OnOk result (laid.layout (options_at width) (tree_of T.tree doc.now) ≡ laid.Whole (string_bytes out.new)) }
-    ensures err { IfErr result IsOfTiming }
-{
+) -> Result<Duration, Failure> {
     out.clear();
     let start = Instant::now(clock)?;
     doc.render_fmt(alloc, width, out)?;
@@ -99,10 +83,7 @@ fn least_render<'a, C: Clock, T: DocPtr<'a>>(
     width: usize,
     doc: &Doc<'a, T>,
     out: &mut String,
-) -> Result<Duration, Failure>
-    ensures ok { OnOk result (laid.layout (options_at width) (tree_of T.tree doc.now) ≡ laid.Whole (string_bytes out.new)) }
-    ensures err { IfErr result IsOfTiming }
-{
+) -> Result<Duration, Failure> {
     let mut least = time_render(clock, alloc, width, doc, out)?;
     for _ in 0..RENDERS {
         least = least.min(time_render(clock, alloc, width, doc, out)?);
@@ -117,10 +98,7 @@ fn time_in<'a, C: Clock, D: DocPlace<'a>>(
     workload: Workload,
     size: usize,
     width: usize,
-) -> Result<(usize, Duration, Duration), Failure>
-    ensures ok { IfOk result (λ r. (bytes : List ℕ) × IsWithin width workload size bytes × (r.0 ≡ length bytes)) }
-    ensures err { IfErr result IsOfTiming }
-{
+) -> Result<(usize, Duration, Duration), Failure> {
     let start = Instant::now(clock)?;
     let root = document(place, workload, size)?;
     let build = start.elapsed(clock)?;
@@ -136,10 +114,7 @@ pub(crate) fn time<C: Clock>(
     workload: Workload,
     size: usize,
     width: usize,
-) -> Result<Timed, Failure>
-    ensures ok { IfOk result (λ timed. (bytes : List ℕ) × IsWithin width workload size bytes × (timed.bytes ≡ length bytes)) }
-    ensures err { IfErr result IsOfTiming }
-{
+) -> Result<Timed, Failure> {
     let bump = Bump::new(alloc);
     let arena = Arena::new(alloc, &bump);
     let (bytes, build, render) = time_in(clock, alloc, &arena, workload, size, width)?;

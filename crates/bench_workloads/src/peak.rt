@@ -1,14 +1,10 @@
 //! The greatest memory that the process has held, as Linux counts it.
-ghost use Rattle.std.specs.Option.{option_copied};
-ghost use Rattle.bench_workloads.specs.Peaks.{IsPeak};
 
 use std::fs;
 use std::rt::Files;
 
 // The figure that a status names as the greatest memory, in KiB.
-fn peak_in(status: &str) -> Option<&str>
-    ensures { IsPeak status.now (option_copied result) }
-{
+fn peak_in(status: &str) -> Option<&str> {
     let (_, after) = status.split_once("VmHWM:")?;
     let (figure, _) = after.split_once(" kB")?;
     Some(figure.trim())

@@ -1,6 +1,4 @@
 //! The lines that are printed.
-ghost use Rattle.std.specs.Prelude.{IfErr};
-ghost use Rattle.bench_workloads.specs.Failures.{IsOfTiming};
 
 use crate::failure::Failure;
 use crate::measure::{lay, time};
@@ -11,9 +9,7 @@ use prettyless::{Arena, BoxDoc, BuildDoc, Doc, DocBuilder, RcDoc, RefDoc};
 use std::rt::{Clock, Files};
 
 /// Prints a line for the layout of each workload at its small size.
-pub fn compare<R: AllocGlobal + Print>(rt: &R) -> Result<(), Failure>
-    ensures err { IfErr result IsOfTiming }
-{
+pub fn compare<R: AllocGlobal + Print>(rt: &R) -> Result<(), Failure> {
     for &workload in WORKLOADS {
         let laid = lay(rt.alloc(), workload, workload.small_size())?;
         let name = workload.name();
@@ -46,9 +42,7 @@ fn type_sizes() -> [(&'static str, usize); 11] {
 }
 
 /// Prints a line for each of these types.
-pub fn sizes<R: Print>(rt: &R) -> Result<(), Failure>
-    ensures err { IfErr result IsOfTiming }
-{
+pub fn sizes<R: Print>(rt: &R) -> Result<(), Failure> {
     for (name, bytes) in type_sizes() {
         println!(rt; "{name:<25} {bytes:>3}")?;
     }
@@ -56,9 +50,7 @@ pub fn sizes<R: Print>(rt: &R) -> Result<(), Failure>
 }
 
 // Prints the greatest memory of a run, where it is known, and ends the line.
-fn print_peak<R: AllocGlobal + Files + Print>(rt: &R, counts: bool) -> Result<(), Failure>
-    ensures err { IfErr result IsOfTiming }
-{
+fn print_peak<R: AllocGlobal + Files + Print>(rt: &R, counts: bool) -> Result<(), Failure> {
     match peak(rt) {
         Some(figure) if counts => println!(rt; ", peak memory {figure} KiB")?,
         _ => println!(rt; "")?,
@@ -73,9 +65,7 @@ fn time_at<R: AllocGlobal + Clock + Files + Print>(
     workload: Workload,
     size: usize,
     width: usize,
-) -> Result<(), Failure>
-    ensures err { IfErr result IsOfTiming }
-{
+) -> Result<(), Failure> {
     let name = workload.name();
     let counts = forget_peak(rt);
     let timed = time(rt, rt.alloc(), workload, size, width)?;
@@ -94,9 +84,7 @@ fn time_at<R: AllocGlobal + Clock + Files + Print>(
 pub fn time_workload<R: AllocGlobal + Clock + Files + Print>(
     rt: &R,
     workload: Workload,
-) -> Result<(), Failure>
-    ensures err { IfErr result IsOfTiming }
-{
+) -> Result<(), Failure> {
     for size in workload.full_sizes() {
         time_at(rt, workload, *size, workload.width())?;
     }
@@ -107,9 +95,7 @@ pub fn time_workload<R: AllocGlobal + Clock + Files + Print>(
 pub fn time_wide<R: AllocGlobal + Clock + Files + Print>(
     rt: &R,
     workload: Workload,
-) -> Result<(), Failure>
-    ensures err { IfErr result IsOfTiming }
-{
+) -> Result<(), Failure> {
     for size in workload.full_sizes() {
         time_at(rt, workload, *size, *size)?;
     }
@@ -117,9 +103,7 @@ pub fn time_wide<R: AllocGlobal + Clock + Files + Print>(
 }
 
 /// Prints a line for each full size of each workload.
-pub fn time_all<R: AllocGlobal + Clock + Files + Print>(rt: &R) -> Result<(), Failure>
-    ensures err { IfErr result IsOfTiming }
-{
+pub fn time_all<R: AllocGlobal + Clock + Files + Print>(rt: &R) -> Result<(), Failure> {
     for &workload in WORKLOADS {
         time_workload(rt, workload)?;
     }

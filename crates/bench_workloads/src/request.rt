@@ -1,6 +1,3 @@
-ghost use Rattle.std.specs.Prelude.{◌≡◌};
-ghost use Rattle.bench_workloads.specs.Requests.{asked, timed_by};
-
 use crate::workload::{Workload, workload_named};
 
 /// What `bench` is asked for.
@@ -19,9 +16,7 @@ pub enum Request {
 }
 
 // What a word in front of a workload's name asks for: `time` or `wide`.
-fn timed(word: &str, workload: Workload) -> Option<Request>
-    ensures { result ≡ timed_by word.now workload }
-{
+fn timed(word: &str, workload: Workload) -> Option<Request> {
     match word {
         "time" => Some(Request::Time(workload)),
         "wide" => Some(Request::TimeWide(workload)),
@@ -30,9 +25,7 @@ fn timed(word: &str, workload: Workload) -> Option<Request>
 }
 
 /// What the words of `bench` ask for: nothing, `sizes`, `time`, or `time` or `wide` and a workload's name.
-pub fn requested(words: &[String]) -> Option<Request>
-    ensures { result ≡ asked words.now }
-{
+pub fn requested(words: &[String]) -> Option<Request> {
     match words {
         [] => Some(Request::Compare),
         [word] if word.as_str() == "sizes" => Some(Request::Sizes),

@@ -1,8 +1,4 @@
 //! Alternatives in alternatives.
-ghost use Rattle.std.specs.Prelude.{◌≡◌, IfOk, IfErr};
-ghost use Rattle.prettyless.specs.BuildErrors.{IsMemory};
-ghost use Rattle.prettyless.specs.DocTree.{built};
-ghost use Rattle.bench_workloads.specs.Documents as to;
 
 use crate::parts::{line_break, text};
 use prettyless::text::{BuildError, Text};
@@ -12,10 +8,7 @@ use prettyless::{BuildDoc, Doc, DocBuilder, DocPlace};
 #[inline(always)]
 fn kept_trial<'a, D: DocPlace<'a>>(
     inner: DocBuilder<'a, D>,
-) -> Result<DocBuilder<'a, D>, BuildError>
-    ensures ok { IfOk result (λ b. built D.Doc.tree b.1 ≡ to.kept_trial (built D.Doc.tree inner.entry.1)) }
-    ensures err { IfErr result IsMemory }
-{
+) -> Result<DocBuilder<'a, D>, BuildError> {
     let place = inner.0;
     let first = text(place, "a").join(line_break(place))?.join(inner)?;
     first.union(BuildDoc::Doc(Doc::Text(Text::Borrowed("b"))))
@@ -25,10 +18,7 @@ fn kept_trial<'a, D: DocPlace<'a>>(
 pub(crate) fn kept_trials<'a, D: DocPlace<'a>>(
     place: &'a D,
     depth: usize,
-) -> Result<DocBuilder<'a, D>, BuildError>
-    ensures ok { IfOk result (λ b. built D.Doc.tree b.1 ≡ to.kept_trials depth) }
-    ensures err { IfErr result IsMemory }
-{
+) -> Result<DocBuilder<'a, D>, BuildError> {
     let mut all = text(place, "a");
     for _ in 0..depth {
         all = kept_trial(all)?;
@@ -40,10 +30,7 @@ pub(crate) fn kept_trials<'a, D: DocPlace<'a>>(
 #[inline(always)]
 fn rejected_trial<'a, D: DocPlace<'a>>(
     inner: DocBuilder<'a, D>,
-) -> Result<DocBuilder<'a, D>, BuildError>
-    ensures ok { IfOk result (λ b. built D.Doc.tree b.1 ≡ to.rejected_trial (built D.Doc.tree inner.entry.1)) }
-    ensures err { IfErr result IsMemory }
-{
+) -> Result<DocBuilder<'a, D>, BuildError> {
     let place = inner.0;
     let first = line_break(place).join(inner)?.join(text(place, "toolong"))?;
     first.union(BuildDoc::Doc(Doc::Text(Text::Borrowed("x"))))
@@ -54,10 +41,7 @@ fn rejected_trial<'a, D: DocPlace<'a>>(
 pub(crate) fn rejected_trials<'a, D: DocPlace<'a>>(
     place: &'a D,
     depth: usize,
-) -> Result<DocBuilder<'a, D>, BuildError>
-    ensures ok { IfOk result (λ b. built D.Doc.tree b.1 ≡ to.rejected_trials depth) }
-    ensures err { IfErr result IsMemory }
-{
+) -> Result<DocBuilder<'a, D>, BuildError> {
     let mut all = text(place, "x");
     for _ in 0..depth {
         all = rejected_trial(all)?;

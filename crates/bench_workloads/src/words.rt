@@ -1,8 +1,4 @@
 //! Texts that fill lines, and texts that are lines.
-ghost use Rattle.std.specs.Prelude.{◌≡◌, ◌%◌, IfOk, IfErr};
-ghost use Rattle.prettyless.specs.BuildErrors.{IsMemory};
-ghost use Rattle.prettyless.specs.DocTree.{built};
-ghost use Rattle.bench_workloads.specs.Documents as to;
 
 use crate::parts::{line_break, text};
 use prettyless::combinators::hard_line;
@@ -13,9 +9,7 @@ use std::iter;
 const LINE: &str = "a line of text that is as long as it has to be for sixty is.";
 
 /// A word for a number.
-pub(crate) fn word<'a>(number: usize) -> &'a str
-    ensures { result.now ≡ to.word (number % 5) }
-{
+pub(crate) fn word<'a>(number: usize) -> &'a str {
     match number % 5 {
         0 => "to",
         1 => "fill",
@@ -29,10 +23,7 @@ pub(crate) fn word<'a>(number: usize) -> &'a str
 fn with_word<'a, D: DocPlace<'a>>(
     front: DocBuilder<'a, D>,
     next: &'a str,
-) -> Result<DocBuilder<'a, D>, BuildError>
-    ensures ok { IfOk result (λ b. built D.Doc.tree b.1 ≡ to.with_word (built D.Doc.tree front.entry.1) next.now) }
-    ensures err { IfErr result IsMemory }
-{
+) -> Result<DocBuilder<'a, D>, BuildError> {
     let place = front.0;
     front.join(place.softline()?)?.join(text(place, next))
 }
@@ -41,10 +32,7 @@ fn with_word<'a, D: DocPlace<'a>>(
 pub(crate) fn fill<'a, D: DocPlace<'a>>(
     place: &'a D,
     words: usize,
-) -> Result<DocBuilder<'a, D>, BuildError>
-    ensures ok { IfOk result (λ b. built D.Doc.tree b.1 ≡ to.fill words) }
-    ensures err { IfErr result IsMemory }
-{
+) -> Result<DocBuilder<'a, D>, BuildError> {
     let mut all = text(place, word(0));
     for number in 1..words {
         all = with_word(all, word(number))?;
@@ -56,10 +44,7 @@ pub(crate) fn fill<'a, D: DocPlace<'a>>(
 pub(crate) fn lines<'a, D: DocPlace<'a>>(
     place: &'a D,
     lines: usize,
-) -> Result<DocBuilder<'a, D>, BuildError>
-    ensures ok { IfOk result (λ b. built D.Doc.tree b.1 ≡ to.lines lines) }
-    ensures err { IfErr result IsMemory }
-{
+) -> Result<DocBuilder<'a, D>, BuildError> {
     let line: &'a str = LINE;
     place
         .intersperse(iter::repeat_n(line, lines), hard_line())?
@@ -67,10 +52,7 @@ pub(crate) fn lines<'a, D: DocPlace<'a>>(
 }
 
 // A text, a weak space, a remark put off to the end of the line, and that end.
-fn remarked<'a, D: DocPlace<'a>>(place: &'a D) -> Result<DocBuilder<'a, D>, BuildError>
-    ensures ok { IfOk result (λ b. built D.Doc.tree b.1 ≡ to.remarked) }
-    ensures err { IfErr result IsMemory }
-{
+fn remarked<'a, D: DocPlace<'a>>(place: &'a D) -> Result<DocBuilder<'a, D>, BuildError> {
     let space = DocBuilder::new(place, Doc::WeakSpace);
     let front = text(place, "a text with a remark").join(space)?;
     let remark = text(place, "  # why").as_line_suffix()?;
@@ -81,10 +63,7 @@ fn remarked<'a, D: DocPlace<'a>>(place: &'a D) -> Result<DocBuilder<'a, D>, Buil
 pub(crate) fn weak_spaces<'a, D: DocPlace<'a>>(
     place: &'a D,
     lines: usize,
-) -> Result<DocBuilder<'a, D>, BuildError>
-    ensures ok { IfOk result (λ b. built D.Doc.tree b.1 ≡ to.weak_spaces lines) }
-    ensures err { IfErr result IsMemory }
-{
+) -> Result<DocBuilder<'a, D>, BuildError> {
     let mut all = DocBuilder::new(place, Doc::Nil);
     for _ in 0..lines {
         all = all.join(remarked(place)?)?;

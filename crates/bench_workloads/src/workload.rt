@@ -1,6 +1,4 @@
 //! What is measured.
-ghost use Rattle.std.specs.Prelude.{◌≡◌, Some};
-ghost use Rattle.bench_workloads.specs.Names as names;
 
 /// A kind of document. Its size is a number of atoms, records, groups, words, lines, trials or objects.
 #[derive(Clone, Copy, Debug, PartialEq, Eq)]
@@ -73,9 +71,7 @@ pub const WORKLOADS: &[Workload] = &[
 
 impl Workload {
     /// The word that names it.
-    pub(crate) fn name(self) -> &'static str
-        ensures { names.workload_of result.now ≡ Some self }
-    {
+    pub(crate) fn name(self) -> &'static str {
         match self {
             Workload::Tree => "tree",
             Workload::List => "list",
@@ -101,9 +97,7 @@ impl Workload {
     }
 
     /// The width that it is laid out within, in columns.
-    pub(crate) fn width(self) -> usize
-        ensures { result ≡ names.width_of self }
-    {
+    pub(crate) fn width(self) -> usize {
         match self {
             Workload::FlatList => usize::MAX,
             Workload::RejectedTrials => 4,
@@ -112,9 +106,7 @@ impl Workload {
     }
 
     /// The size at which its layout is compared.
-    pub(crate) fn small_size(self) -> usize
-        ensures { result ≡ names.small_size_of self }
-    {
+    pub(crate) fn small_size(self) -> usize {
         match self {
             Workload::Json | Workload::Lines | Workload::CellLines => 50,
             Workload::BareGroups
@@ -127,9 +119,7 @@ impl Workload {
     }
 
     /// The sizes at which it is timed.
-    pub(crate) fn full_sizes(self) -> &'static [usize]
-        ensures { result.now ≡ names.full_sizes_of self }
-    {
+    pub(crate) fn full_sizes(self) -> &'static [usize] {
         match self {
             Workload::Tree => &[100_000, 1_000_000],
             Workload::Json => &[80_000],
@@ -151,9 +141,7 @@ impl Workload {
 }
 
 /// The workload of that name.
-pub(crate) fn workload_named(word: &str) -> Option<Workload>
-    ensures { result ≡ names.workload_of word.now }
-{
+pub(crate) fn workload_named(word: &str) -> Option<Workload> {
     match word {
         "tree" => Some(Workload::Tree),
         "list" => Some(Workload::List),

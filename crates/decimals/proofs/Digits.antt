@@ -19,11 +19,13 @@ pub not_all_digits : (text : List ℕ) (i : ℕ) → i < length text → is_asci
 not_all_digits text i lt e digits = no_digit (get_or text i 0) e (digit_at text i digits lt)
 
 -- one digit more
-pub digits_go_on : (text : List ℕ) (i : ℕ) → i < length text → is_ascii_digit (get_or text i 0) ≡ true → AllDigits 10 (take i text) → AllDigits 10 (take (i + 1) text)
+pub digits_go_on : (text : List ℕ) (i : ℕ) → i < length text → is_ascii_digit (get_or text i 0) ≡ true → AllDigits 10 (take i text)
+    → AllDigits 10 (take (i + 1) text)
 digits_go_on text i lt e digits = digits_more 10 text i lt digits (omega (arith, digit_is (get_or text i 0) e))
 
 -- and its value
-pub value_goes_on : (text : List ℕ) (i : ℕ) → i < length text → is_ascii_digit (get_or text i 0) ≡ true → digits_value 10 (take (i + 1) text) ≡ digits_value 10 (take i text) * 10 + (get_or text i 0 - 48)
+pub value_goes_on : (text : List ℕ) (i : ℕ) → i < length text → is_ascii_digit (get_or text i 0) ≡ true
+    → digits_value 10 (take (i + 1) text) ≡ digits_value 10 (take i text) * 10 + (get_or text i 0 - 48)
 value_goes_on text i lt e = rw (← (digit_is (get_or text i 0) e).2) (digits_value_more 10 text i lt)
 
 -- the digits so far write no more than all do

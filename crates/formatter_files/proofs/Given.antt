@@ -1,5 +1,6 @@
 -- The texts of the options that take a number, where a parse succeeds.
-use Rattle.std.proofs.Common.{◌≡◌, ◌⊎◌, ◌∙◌, ◌<◌, refl, sym, ap, subst, zero, suc, ℕ, Bool, true, false, not, ◌&&◌, List, [], ◌∷◌, length, map, Option, Some, None, inl, inr, arith, codes}
+use Rattle.std.proofs.Common.{◌≡◌, ◌⊎◌, ◌∙◌, ◌<◌, refl, sym, ap, subst, zero, suc, ℕ, Bool, true, false, not, ◌&&◌, List, [], ◌∷◌, length}
+use Rattle.std.proofs.Common.{map, Option, Some, None, inl, inr, arith, codes}
 use Rattle.std.specs.List.{All, list_all, slice_index_or}
 use Rattle.std.specs.Prelude.{option_map, slice_get, slice_index, unwrap_or}
 use Rattle.std.specs.Borrow.{Bor}
@@ -25,7 +26,7 @@ use Rattle.clap.specs.declared.builder.value_parser.ValueParser.{ValueParser}
 use Rattle.clap.specs.declared.builder.value_parser.ValueParser.TheVariants.{Unsigned}
 use Rattle.clap.specs.declared.parser.matches.ArgMatches.{ArgMatches}
 use Rattle.clap.specs.declared.parser.matches.MatchedArg.{MatchedArg}
-use Rattle.formatter_files.specs.Words.{IsNumberUpTo, most_32, most_64, number}
+use Rattle.formatter_files.specs.Words.{IsNumberUpTo, most_32, most_64, number_rule}
 
 is_not : (b : Bool) → not b ≡ true → b ≡ false
 is_not true e = cc
@@ -35,7 +36,8 @@ empty_nil : {X : Type 0} (xs : List X) → is_empty xs ≡ true → xs ≡ []
 empty_nil xs e = nil_from_length xs (eqb-true (length xs) 0 e)
 
 -- an element of a list whose elements all pass
-passes_at : {X : Type 0} (p : X → Bool) (xs : List X) (k : ℕ) (d : X) → list_all p xs ≡ true → k < length xs → p (slice_index_or xs k d) ≡ true
+passes_at : {X : Type 0} (p : X → Bool) (xs : List X) (k : ℕ) (d : X) → list_all p xs ≡ true → k < length xs →
+    p (slice_index_or xs k d) ≡ true
 passes_at p [] k d e lt = absurd (omega arith)
 passes_at p (x ∷ xs) zero d e lt = (and_parts (p x) (list_all p xs) e).0
 passes_at p (x ∷ xs) (suc k) d e lt = passes_at p xs k d (and_parts (p x) (list_all p xs) e).1 (omega arith)
@@ -51,7 +53,7 @@ is_other r = not (bytes_eq r.id (codes "width")) && not (bytes_eq r.id (codes "i
 -- A program whose first options are those that take a number.
 pub record TakesNumbers (app : App) : Type 0 where
   pub others : List Rule
-  pub rules : app.top.rules ≡ number (codes "width") most_64 ∷ number (codes "indent") most_32 ∷ others
+  pub rules : app.top.rules ≡ number_rule (codes "width") most_64 ∷ number_rule (codes "indent") most_32 ∷ others
   pub differ : list_all is_other others ≡ true
   pub plain : app.top.is_plain ≡ true
   pub simple : list_all (λ (r : Rule). r.is_simple) app.top.rules ≡ true
@@ -62,7 +64,7 @@ IsOnly rules id most = (k : ℕ) (r : Rule) → k < length rules → bytes_eq (s
     → ((slice_index_or rules k r).parser ≡ Some (Unsigned 0 most)) × ((slice_index_or rules k r).ignore_case ≡ false)
 
 abbrev with_numbers : List Rule → List Rule
-with_numbers others = number (codes "width") most_64 ∷ number (codes "indent") most_32 ∷ others
+with_numbers others = number_rule (codes "width") most_64 ∷ number_rule (codes "indent") most_32 ∷ others
 
 is_none : (b : Bool) → not b ≡ true → b ≡ true → ⊥
 is_none true e h = cc
@@ -93,7 +95,8 @@ module _ (app : App) (takes : TakesNumbers app) (old : Command) (m : ArgMatches)
   all_simple = subst (λ (rs : List Rule). list_all (λ (r : Rule). r.is_simple) rs ≡ true) takes.rules takes.simple
 
   rule_at : (k : ℕ) (d : Arg) → k < length (args_of old) → rule_of (slice_index_or (args_of old) k d) ≡ slice_index_or rules k (rule_of d)
-  rule_at k d lt = sym (get_or-map rule_of (args_of old) k d (rule_of d) lt) ∙ ap (λ (rs : List Rule). slice_index_or rs k (rule_of d)) rules_are
+  rule_at k d lt = sym (get_or-map rule_of (args_of old) k d (rule_of d) lt)
+      ∙ ap (λ (rs : List Rule). slice_index_or rs k (rule_of d)) rules_are
 
   within : (k : ℕ) → k < length (args_of old) → k < length rules
   within k lt =
@@ -114,7 +117,8 @@ module _ (app : App) (takes : TakesNumbers app) (old : Command) (m : ArgMatches)
       let globals = is_not _ (and_parts _ _ (and_parts _ _ (and_parts _ _ plain).1).1).0 in
       (p.parsed (p.from.globals ∙ globals)).values
 
-  module _ (id : Text) (most : ℕ) (only : IsOnly rules id most) (own : (id ≡ codes "help") ⊎ (id ≡ codes "version") → ⊥) (named : id ≡ [] → ⊥) where
+  module _ (id : Text) (most : ℕ) (only : IsOnly rules id most) (own : (id ≡ codes "help") ⊎ (id ≡ codes "version") → ⊥)
+      (named : id ≡ [] → ⊥) where
     -- an argument of the built command with this id has the parser
     parser_at : (k : ℕ) (a : Arg) → k < length (args_of p.built) → slice_index_or (args_of p.built) k a ≡ a → bytes_eq a.id.now id ≡ true
         → (a.value_parser ≡ Some (Unsigned 0 most)) × (a.ignore_case ≡ false)
@@ -123,7 +127,8 @@ module _ (app : App) (takes : TakesNumbers app) (old : Command) (m : ArgMatches)
           let s = subst (λ (w : Arg). SameRules (slice_index_or (args_of old) k a) w) at (p.from.kept k a low).1 in
           let rule = rule_at k a low in
           let same_old : bytes_eq (slice_index_or (args_of old) k a).id.now id ≡ true = rw (← s.id) same in
-          let same_rule : bytes_eq (slice_index_or rules k (rule_of a)).id id ≡ true = subst (λ (r : Rule). bytes_eq r.id id ≡ true) rule same_old in
+          let same_rule : bytes_eq (slice_index_or rules k (rule_of a)).id id ≡ true
+          = subst (λ (r : Rule). bytes_eq r.id id ≡ true) rule same_old in
           let is_rule = only k (rule_of a) (within k low) same_rule in
           let parser_old = ap (λ (r : Rule). r.parser) rule ∙ is_rule.0 in
           (s.parser (Unsigned 0 most) parser_old, s.ignore_case ∙ (ap (λ (r : Rule). r.ignore_case) rule ∙ is_rule.1))
@@ -137,7 +142,8 @@ module _ (app : App) (takes : TakesNumbers app) (old : Command) (m : ArgMatches)
     accepted value passes =
         let is_parser = parser_at passes.0 passes.1 passes.2 passes.3 passes.4.0 in
         let parser = ap (λ (q : Option ValueParser). parser_of_value q) is_parser.0 in
-        subst (λ (b : Bool). Accepts b (Unsigned 0 most) value) is_parser.1 (subst (λ (q : ValueParser). Accepts passes.1.ignore_case q value) parser passes.4.1)
+        subst (λ (b : Bool). Accepts b (Unsigned 0 most) value) is_parser.1
+        (subst (λ (q : ValueParser). Accepts passes.1.ignore_case q value) parser passes.4.1)
 
     as_written : (r : Reading) → HasReading p.built id r → r ≡ AsWritten
     as_written r has =
@@ -164,15 +170,18 @@ module _ (app : App) (takes : TakesNumbers app) (old : Command) (m : ArgMatches)
       | inr has ↦ as_written e.1.reading (subst (λ (w : Text). HasReading p.built w e.1.reading) key has)
     ]
 
-    first_at : (reading : Reading) (values : List (Bor Text)) (text : Text) → reading ≡ AsWritten → All (λ v. PassesArg p.built id v.now) values
+    first_at : (reading : Reading) (values : List (Bor Text)) (text : Text) → reading ≡ AsWritten →
+        All (λ v. PassesArg p.built id v.now) values
         → option_map (λ s. read_as reading s.now) (slice_get values 0) ≡ Some text → Accepts false (Unsigned 0 most) text
     first_at reading [] text is_written all is_text = cc
     first_at reading (v ∷ vs) text is_written all is_text =
         let same : Some v.now ≡ Some text = rw is_written at is_text in
         let same_text : v.now ≡ text = ap (λ (o : Option Text). unwrap_or o text) same in
-        subst (λ (t : Text). Accepts false (Unsigned 0 most) t) same_text (accepted v.now (All-get_or (λ w. PassesArg p.built id w.now) (v ∷ vs) 0 v (omega arith) all))
+        subst (λ (t : Text). Accepts false (Unsigned 0 most) t) same_text
+        (accepted v.now (All-get_or (λ w. PassesArg p.built id w.now) (v ∷ vs) 0 v (omega arith) all))
 
-    entry_accepts : (x : MatchedArg) (text : Text) → matched_of (found_of m) id ≡ Some x → option_map (λ s. read_as x.reading s.now) (slice_get x.vals.items 0) ≡ Some text
+    entry_accepts : (x : MatchedArg) (text : Text) → matched_of (found_of m) id ≡ Some x →
+        option_map (λ s. read_as x.reading s.now) (slice_get x.vals.items 0) ≡ Some text
         → Accepts false (Unsigned 0 most) text
     entry_accepts x text is_x is_text =
         let got = entry_by_id (EntryPasses p.built) (found_of m).entries.items id x values is_x in
@@ -185,7 +194,8 @@ module _ (app : App) (takes : TakesNumbers app) (old : Command) (m : ArgMatches)
     text_accepted : (text : Text) → one_text (found_of m) id ≡ Some text → Accepts false (Unsigned 0 most) text
     text_accepted text is_text = go (matched_of (found_of m) id) refl is_text
       where
-        go : (o : Option MatchedArg) → matched_of (found_of m) id ≡ o → one_text (found_of m) id ≡ Some text → Accepts false (Unsigned 0 most) text
+        go : (o : Option MatchedArg) → matched_of (found_of m) id ≡ o → one_text (found_of m) id ≡ Some text →
+            Accepts false (Unsigned 0 most) text
         go None is h =
             let bad : None ≡ Some text = rw is at h in
             cc
@@ -200,7 +210,11 @@ module _ (app : App) (takes : TakesNumbers app) (old : Command) (m : ArgMatches)
 
   -- the ids begin with other letters than what is added, and are not empty
   pub width_given : IsNumberUpTo most_64 (one_of (codes "width") (rows_of (found_of m)))
-  width_given = given (codes "width") most_64 (only_width takes.others takes.differ) (λ auto. elim auto [ inl h ↦ differ _ _ h (λ e. omega (arith, e)) | inr h ↦ differ _ _ h (λ e. omega (arith, e)) ]) (λ h. differ _ _ h (λ e. omega (arith, e))) _ (one_text-rows (found_of m) (codes "width"))
+  width_given = given (codes "width") most_64 (only_width takes.others takes.differ)
+      (λ auto. elim auto [ inl h ↦ differ _ _ h (λ e. omega (arith, e)) | inr h ↦ differ _ _ h (λ e. omega (arith, e)) ])
+      (λ h. differ _ _ h (λ e. omega (arith, e))) _ (one_text-rows (found_of m) (codes "width"))
 
   pub indent_given : IsNumberUpTo most_32 (one_of (codes "indent") (rows_of (found_of m)))
-  indent_given = given (codes "indent") most_32 (only_indent takes.others takes.differ) (λ auto. elim auto [ inl h ↦ differ _ _ h (λ e. omega (arith, e)) | inr h ↦ differ _ _ h (λ e. omega (arith, e)) ]) (λ h. differ _ _ h (λ e. omega (arith, e))) _ (one_text-rows (found_of m) (codes "indent"))
+  indent_given = given (codes "indent") most_32 (only_indent takes.others takes.differ)
+      (λ auto. elim auto [ inl h ↦ differ _ _ h (λ e. omega (arith, e)) | inr h ↦ differ _ _ h (λ e. omega (arith, e)) ])
+      (λ h. differ _ _ h (λ e. omega (arith, e))) _ (one_text-rows (found_of m) (codes "indent"))

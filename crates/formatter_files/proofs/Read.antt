@@ -5,7 +5,8 @@ use Rattle.clap.specs.Matches.{ReadsOne}
 use Rattle.clap.specs.Words.{Text}
 use Rattle.formatter_files.specs.Words.{HasNumber, IsNumberUpTo}
 
-module _ (E : Type 0) (gives : Text → Result ℕ E → Type 0) (bits most default : ℕ) (parses : (text : Text) (r : Result ℕ E) → gives text r → ParsesUnsigned bits 10 text r) where
+module _ (E : Type 0) (gives : Text → Result ℕ E → Type 0) (bits most default : ℕ)
+    (parses : (text : Text) (r : Result ℕ E) → gives text r → ParsesUnsigned bits 10 text r) where
   pub read : (given : Option Text) (got : Option ℕ) → most < 2 ^ bits → IsNumberUpTo most given → (given ≡ None → got ≡ None)
       → ((text : Text) → given ≡ Some text → ReadsOne gives text got) → HasNumber default given (unwrap_or got default)
   read None got fits number none some = rw (none refl) refl

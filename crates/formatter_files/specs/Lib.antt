@@ -1,5 +1,10 @@
 pub mod Actions
+pub mod Arguments
+pub mod Comparing
+pub mod Differences
 pub mod Endings
+pub mod Heads
+pub mod Layouts
 pub mod Names
 pub mod Places
 pub mod Words

@@ -14,8 +14,8 @@ abbrev pub flag : Text → Rule
 flag name = record (new_rule name) { long = Some name; action = Some SetTrue }
 
 -- an option that takes a number, no greater than `most`
-abbrev pub number : Text → ℕ → Rule
-number name most = record (new_rule name) { long = Some name; value_names = 1; parser = Some (Unsigned 0 most) }
+abbrev pub number_rule : Text → ℕ → Rule
+number_rule name most = record (new_rule name) { long = Some name; value_names = 1; parser = Some (Unsigned 0 most) }
 
 -- the greatest numbers of 64 bits, and of 32
 abbrev pub most_64 : ℕ
@@ -37,11 +37,11 @@ program name = record {
 
 -- with the options that take numbers
 abbrev pub with_numbers : App → App
-with_numbers a = with_rule (with_rule a (number (codes "width") most_64)) (number (codes "indent") most_32)
+with_numbers a = with_rule (with_rule a (number_rule (codes "width") most_64)) (number_rule (codes "indent") most_32)
 
 -- with what says what becomes of the layouts, and of which files
 abbrev pub with_files : App → App
-with_files a = with_rule (with_rule (with_rule a (flag (codes "check"))) (flag (codes "write"))) files
+with_files a = with_rule (with_rule (with_rule (with_rule a (flag (codes "check"))) (flag (codes "diff"))) (flag (codes "write"))) files
 
 -- the flag is given
 abbrev pub has_flag : Text → List Row → Bool
@@ -74,5 +74,6 @@ HasIndent rows = IsNumberUpTo most_32 (one_of (codes "indent") rows)
 -- What is to become of the layouts, and of which files.
 pub record IsTask (rows : List Row) (task : Task) : Type 0 where
   pub check : task.check ≡ has_flag (codes "check") rows
+  pub diff : task.diff ≡ has_flag (codes "diff") rows
   pub write : task.write ≡ has_flag (codes "write") rows
   pub files : map (λ file. file.now) task.files.items ≡ unwrap_or (all_of (codes "FILE") rows) []

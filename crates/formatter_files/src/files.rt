@@ -1,78 +1,250 @@
 //! Laying files out, one after the other.
-ghost use Rattle.std.specs.Prelude.{◌≡◌, ◌⊎◌, IfErr, IfOk};
+ghost use Rattle.std.specs.Prelude.{◌≡◌, ◌⊎◌, IfErr, IfOk, IsTrue};
 ghost use Rattle.clap.specs.Words.{kind_of};
 ghost use Rattle.formatter_files.specs.Endings.{ending_after};
 
 use crate::action::Action;
+use crate::arguments::shown_of;
+use crate::comparing::Comparing;
+use crate::difference::difference;
 use crate::ending::Ending;
-use crate::replace::replace;
-use std::fs::Files;
-use std::io::{Read, Write};
-use std::rt::Env;
-use std::{env, fs, io};
+use crate::formatter::{Formatter, LayoutError, Verdict};
+use crate::hunks::hunks;
+use crate::rewriting::Rewriting;
+use std::fs::{Files, OpenFile};
+use std::io::{ErrorKind, Read, Write};
+use std::{fs, io};
 
 /// What is to become of the layouts, and of which files.
 #[derive(Drop)]
 pub struct Task<'w> {
-    /// Whether each file is compared with its layout, and nothing is written.
+    /// Whether each file is compared with its layout and named where it differs, and nothing is written to files.
     pub check: bool,
+    /// Whether each file is compared with its layout, standard output has how it differs, and nothing is written to files.
+    pub diff: bool,
     /// Whether files are replaced by their layouts, in place of writing these to standard output.
     pub write: bool,
-    /// The names of files. Where there is none, standard input is meant, and its layout is written to standard output.
+    /// The names of files, of which `-` is standard input. Where there is none, standard input is meant. Its layout is
+    /// written to standard output.
     pub files: Vec<&'w str>,
 }
 
-/// What a program makes of a text.
-pub trait Formatter {
-    /// The name of the program, for its messages.
-    fn program(&self) -> &'static str;
-
-    /// The layout of these bytes. `None` where they are refused, after a message that says why and names them so.
-    fn layout<R: AllocGlobal + Eprint>(
-        &self,
-        rt: &R,
-        name: &str,
-        bytes: &[u8],
-    ) -> io::Result<Option<String>>;
+/// What failed.
+#[derive(Debug, Drop)]
+enum Failure {
+    /// What was done with one file. The others may come out well.
+    File(io::Error),
+    /// Standard output, which takes nothing more.
+    Output(io::Error),
 }
 
-/// Lays bytes out, and does what is asked for. Nothing is written before the whole layout is made.
+impl From<io::Error> for Failure {
+    fn from(error: io::Error) -> Failure {
+        Failure::File(error)
+    }
+}
+
+/// A text that is to be laid out.
+#[derive(Clone, Copy, Drop)]
+struct Source<'s> {
+    name: &'s str,
+    bytes: &'s [u8],
+    /// Whether its layout is to replace it.
+    replaced: bool,
+}
+
+/// How a text compares with its layout.
+#[derive(Clone, Copy, Drop)]
+enum Comparison {
+    Same,
+    Different,
+    /// It has none.
+    Refused,
+}
+
+/// Standard output, which takes all that is written at once or fails.
+#[derive(Drop)]
+struct Output<'r, R>(&'r R);
+
+impl<R: Print> Write for Output<'_, R> {
+    fn write(&mut self, buf: &[u8]) -> io::Result<usize> {
+        Print::write_all(self.0, buf)?;
+        Ok(buf.len())
+    }
+
+    fn flush(&mut self) -> io::Result<()> {
+        Ok(())
+    }
+}
+
+/// Writes the layout of a text to standard output while it is made.
+fn print<R: AllocGlobal + Eprint + Print, F: Formatter>(
+    rt: &R,
+    formatter: &F,
+    source: Source<'_>,
+) -> Result<Ending, Failure> {
+    match formatter.write_layout(rt, source.name, source.bytes, &mut Output(rt)) {
+        Ok(Verdict::LaidOut) => Ok(Ending::Good),
+        Ok(Verdict::Refused) => Ok(Ending::Refused),
+        Err(LayoutError::Text(error)) => Err(Failure::File(error)),
+        Err(LayoutError::Writer(error)) => Err(Failure::Output(error)),
+    }
+}
+
+/// Compares a text with its layout while that is made. They are the same only where the text is a layout of itself.
+fn compare<R: AllocGlobal + Eprint, F: Formatter>(
+    rt: &R,
+    formatter: &F,
+    source: Source<'_>,
+) -> io::Result<Comparison>
+    ensures { result ≡ Ok Comparison.Same → F.IsLayout formatter.now source.entry.bytes.now source.entry.bytes.now }
+{
+    let mut layout = Comparing::new(source.bytes);
+    match formatter.write_layout(rt, source.name, source.bytes, &mut layout) {
+        Ok(Verdict::LaidOut) if layout.is_whole() => Ok(Comparison::Same),
+        Ok(Verdict::LaidOut) | Err(LayoutError::Writer(_)) => Ok(Comparison::Different),
+        Ok(Verdict::Refused) => Ok(Comparison::Refused),
+        Err(LayoutError::Text(error)) => Err(error),
+    }
+}
+
+/// Prints how a text differs from its layout.
+fn show<R: AllocGlobal + Eprint + Print, F: Formatter>(
+    rt: &R,
+    formatter: &F,
+    source: Source<'_>,
+) -> Result<(), Failure> {
+    let mut layout = Vec::new(rt.alloc());
+    match formatter.write_layout(rt, source.name, source.bytes, &mut layout) {
+        Ok(_) => {}
+        Err(LayoutError::Text(error) | LayoutError::Writer(error)) => {
+            return Err(Failure::File(error));
+        }
+    }
+    let lines = difference(rt.alloc(), source.bytes, &layout).map_err(io::Error::from)?;
+    let text = hunks(rt.alloc(), source.name, &lines)?;
+    match Print::write_all(rt, &text) {
+        Ok(()) => Ok(()),
+        Err(error) => Err(Failure::Output(error)),
+    }
+}
+
+/// Says whether a text is not laid out, and how it differs from its layout, as far as that is asked for.
+fn check<R: AllocGlobal + Eprint + Print, F: Formatter>(
+    rt: &R,
+    formatter: &F,
+    task: &Task<'_>,
+    source: Source<'_>,
+) -> Result<Ending, Failure>
+    ensures { result ≡ Ok Ending.Good → F.IsLayout formatter.now source.entry.bytes.now source.entry.bytes.now }
+{
+    match compare(rt, formatter, source)? {
+        Comparison::Same => return Ok(Ending::Good),
+        Comparison::Refused => return Ok(Ending::Refused),
+        Comparison::Different => {}
+    }
+    let name = source.name;
+    if task.check {
+        eprintln!(rt; "{name}: not laid out")?;
+    }
+    if task.diff {
+        show(rt, formatter, source)?;
+    }
+    Ok(Ending::Refused)
+}
+
+/// Replaces a file by its layout, where they differ.
+fn rewrite<R: AllocGlobal + Files + Eprint, F: Formatter>(
+    rt: &R,
+    formatter: &F,
+    source: Source<'_>,
+) -> io::Result<Ending> {
+    let mut layout = Rewriting::new(rt, source.name, source.bytes);
+    match formatter.write_layout(rt, source.name, source.bytes, &mut layout) {
+        Ok(Verdict::LaidOut) => {
+            layout.finish()?;
+            Ok(Ending::Good)
+        }
+        Ok(Verdict::Refused) => {
+            layout.give_up();
+            Ok(Ending::Refused)
+        }
+        Err(LayoutError::Text(error) | LayoutError::Writer(error)) => {
+            layout.give_up();
+            Err(error)
+        }
+    }
+}
+
+/// Lays a text out, and does with the layout what is asked for while it is made.
 fn lay_out<R: AllocGlobal + Files + Eprint + Print, F: Formatter>(
     rt: &R,
     formatter: &F,
-    (check, write): (bool, bool),
-    name: &str,
-    bytes: &[u8],
-) -> io::Result<Ending> {
-    let Some(layout) = formatter.layout(rt, name, bytes)? else {
-        return Ok(Ending::Refused);
-    };
-    match Action::of(check, write, layout.as_bytes() == bytes) {
-        Action::Leave(ending) => return Ok(ending),
-        Action::Print => io::writer(rt).write_all(layout.as_bytes())?,
-        Action::Replace => replace(rt, name, layout.as_str())?,
+    task: &Task<'_>,
+    source: Source<'_>,
+) -> Result<Ending, Failure>
+    ensures { (IsTrue task.now.check ⊎ IsTrue task.now.diff) → result ≡ Ok Ending.Good
+        → F.IsLayout formatter.now source.entry.bytes.now source.entry.bytes.now }
+{
+    match Action::of(task.check || task.diff, source.replaced) {
+        Action::Compare => check(rt, formatter, task, source),
+        Action::Replace => Ok(rewrite(rt, formatter, source)?),
+        Action::Print => print(rt, formatter, source),
     }
-    Ok(Ending::Good)
 }
 
-fn lay_out_input<R: AllocGlobal + Files + Input + Eprint + Print, F: Formatter>(
-    rt: &R,
-    formatter: &F,
-    check: bool,
-) -> io::Result<Ending> {
+/// Whether this is standard input, and not the name of a file.
+fn is_input(file: &str) -> bool {
+    file == "-"
+}
+
+/// The file as messages name it.
+fn name_of(file: &str) -> &str {
+    if is_input(file) {
+        "<stdin>"
+    } else {
+        shown_of(file).unwrap_or(file)
+    }
+}
+
+/// All of a file, in memory for as much as it is said to have, and one byte more to see its end.
+///
+/// An error where its name is not UTF-8: such a file can't be opened.
+fn read_file<R: AllocGlobal + Files>(rt: &R, name: &str) -> io::Result<Vec<u8>> {
+    if shown_of(name).is_some() {
+        let error = "the name is not UTF-8; its text can be given as standard input";
+        return Err(io::Error::new(ErrorKind::InvalidFilename, error));
+    }
+    let mut file = fs::open(rt, name)?;
+    let len = file.metadata().map_or(0, |data| data.len());
+    let room = usize::try_from(len).unwrap_or(usize::MAX).saturating_add(1);
+    let mut bytes = Vec::with_capacity(rt.alloc(), room)?;
+    file.read_to_end(&mut bytes)?;
+    Ok(bytes)
+}
+
+fn read<R: AllocGlobal + Files + Input>(rt: &R, file: &str) -> io::Result<Vec<u8>> {
+    if !is_input(file) {
+        return read_file(rt, file);
+    }
     let mut bytes = Vec::new(rt.alloc());
     rt.reader().read_to_end(&mut bytes)?;
-    lay_out(rt, formatter, (check, false), "<stdin>", &bytes)
+    Ok(bytes)
 }
 
-fn lay_out_file<R: AllocGlobal + Files + Eprint + Print, F: Formatter>(
+fn lay_out_file<R: AllocGlobal + Files + Input + Eprint + Print, F: Formatter>(
     rt: &R,
     formatter: &F,
-    how: (bool, bool),
-    name: &str,
-) -> io::Result<Ending> {
-    let bytes = fs::read(rt, name)?;
-    lay_out(rt, formatter, how, name, &bytes)
+    task: &Task<'_>,
+    file: &str,
+) -> Result<Ending, Failure> {
+    let bytes = read(rt, file)?;
+    let source = Source {
+        name: name_of(file),
+        bytes: &bytes,
+        replaced: task.write && !is_input(file),
+    };
+    lay_out(rt, formatter, task, source)
 }
 
 /// How something came out. An error is said on standard error; where that takes no message, the status is what is left.
@@ -94,29 +266,66 @@ pub fn ending_of<R: Eprint>(
     }
 }
 
-/// Lays out each of the files, or standard input where none is named, and does with the layouts what is asked for. A file that
-/// is refused or fails is said on standard error, and the others are laid out all the same: the worst decides.
-pub fn lay_out_all<R: AllocGlobal + Files + Input + Eprint + Print, F: Formatter>(
+/// How the program ends where standard output fails. This is said on standard error, but for a pipe that its reader closed.
+fn ending_without_output<R: Eprint>(rt: &R, program: &str, error: io::Error) -> Ending
+    ensures { result ≡ Ending.Failed }
+{
+    if error.kind() == ErrorKind::BrokenPipe {
+        return Ending::Failed;
+    }
+    ending_of(rt, program, "<stdout>", Err(error))
+}
+
+fn lay_out_each<R: AllocGlobal + Files + Input + Eprint + Print, F: Formatter>(
     rt: &R,
     formatter: &F,
     task: &Task<'_>,
+    files: &[&str],
 ) -> Ending {
     let program = formatter.program();
-    if task.files.is_empty() {
-        let result = lay_out_input(rt, formatter, task.check);
-        return ending_of(rt, program, "<stdin>", result);
-    }
     let mut all = Ending::Good;
-    for file in &task.files {
-        let result = lay_out_file(rt, formatter, (task.check, task.write), file);
-        all = all.and(ending_of(rt, program, file, result));
+    for file in files {
+        let result = match lay_out_file(rt, formatter, task, file) {
+            Ok(ending) => Ok(ending),
+            Err(Failure::File(error)) => Err(error),
+            Err(Failure::Output(error)) => return ending_without_output(rt, program, error),
+        };
+        all = all.and(ending_of(rt, program, name_of(file), result));
     }
     all
 }
 
-/// The words that the program was called with, of which the first names it.
-pub fn words<R: AllocGlobal + Env>(rt: &R) -> io::Result<Vec<String>> {
-    Ok(env::args(rt)?.collect(rt.alloc())?)
+/// Says that files are not replaced where they are only compared.
+fn refuse_to_write<R: Eprint>(rt: &R, task: &Task<'_>) -> Ending
+    ensures { result ≡ Ending.BadWords }
+{
+    let other = if task.check { "--check" } else { "--diff" };
+    let _ = eprintln!(rt;
+        "error: the argument '--write' cannot be used with '{other}'\n\nFor more information, try '--help'."
+    );
+    Ending::BadWords
+}
+
+/// Lays out each of the files, or standard input where none is named, and does with the layouts what is asked for. A file that
+/// is refused or fails is said on standard error, and the others are laid out all the same: the worst decides. Where standard
+/// output fails, that is the end, and no later file is read.
+///
+/// Where files are to be replaced and to be compared alone, this is said, and no file is read.
+pub fn lay_out_all<R: AllocGlobal + Files + Input + Eprint + Print, F: Formatter>(
+    rt: &R,
+    formatter: &F,
+    task: &Task<'_>,
+) -> Ending
+    ensures { IsTrue task.now.write → (IsTrue task.now.check ⊎ IsTrue task.now.diff) → result ≡ Ending.BadWords }
+{
+    if task.write && (task.check || task.diff) {
+        return refuse_to_write(rt, task);
+    }
+    if task.files.is_empty() {
+        lay_out_each(rt, formatter, task, &["-"])
+    } else {
+        lay_out_each(rt, formatter, task, &task.files)
+    }
 }
 
 /// How the program ends where its words gave an error, after its message is printed; or that this failed.
@@ -125,6 +334,6 @@ pub fn ending_after<R: Eprint + Print>(rt: &R, program: &str, error: &clap::Erro
 {
     match error.print(rt) {
         Ok(()) => Ending::after(error.kind()),
-        Err(failure) => ending_of(rt, program, "<stdout>", Err(failure)),
+        Err(failure) => ending_without_output(rt, program, failure),
     }
 }

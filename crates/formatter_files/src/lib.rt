@@ -1,11 +1,19 @@
-//! What programs that format files have in common: the options that their words name, what becomes of a layout, how a file is
-//! replaced, places in a text, and how the program ends.
+//! What programs that format files have in common: the options that their words name, what becomes of a layout while it is made,
+//! how a file is replaced, how two texts differ, places in a text, and how the program ends.
 #![tactic(auto)]
 
 pub mod action;
+pub mod arguments;
+pub mod comparing;
+pub mod difference;
 pub mod ending;
 pub mod files;
+pub mod formatter;
+pub mod head;
+mod hunks;
 pub mod message;
 pub mod place;
 pub mod replace;
+mod rewriting;
+mod search;
 pub mod words;

@@ -16,13 +16,23 @@ pub fn say_expected<R: Eprint>(rt: &R, name: &str, place: Place, expected: &str)
     eprint!(rt; "{name}:{line}:{column}: expected {expected}")
 }
 
-/// Ends the message with the word that stands there.
+/// Says which word stands there. It leaves the line open.
 pub fn say_word<R: Eprint>(rt: &R, word: &str) -> io::Result<()> {
-    if word.len() > SHOWN {
-        eprintln!(rt; ", found a long word")
+    if word == "\n" || word == "\r" {
+        eprint!(rt; ", found the end of the line")
+    } else if word.starts_with('\u{FEFF}') {
+        eprint!(rt; ", found a byte order mark")
+    } else if word.len() > SHOWN {
+        eprint!(rt; ", found a long word")
     } else if is_plain(word) {
-        eprintln!(rt; ", found `{word}`")
+        eprint!(rt; ", found `{word}`")
     } else {
-        eprintln!(rt; ", found {word:?}")
+        eprint!(rt; ", found {word:?}")
     }
+}
+
+/// Says where the string or the bracket begins that is open there. It leaves the line open.
+pub fn say_opened<R: Eprint>(rt: &R, place: Place) -> io::Result<()> {
+    let (line, column) = (place.line, place.column);
+    eprint!(rt; ", opened at {line}:{column}")
 }

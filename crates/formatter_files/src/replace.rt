@@ -1,4 +1,4 @@
-//! Replacing a file by a text: the whole text is written to a file beside it, which then takes its name.
+//! Replacing a file: the new one is written beside it, and takes its name once it is whole.
 ghost use Rattle.std.specs.Prelude.{◌≡◌, IfOk};
 ghost use Rattle.std.specs.Path.{path_buf_bytes, path_bytes};
 ghost use Rattle.formatter_files.specs.Names.{path_beside};
@@ -43,31 +43,6 @@ fn create_beside<R: Files + AllocGlobal>(rt: &R, path: Path<'_>) -> io::Result<(
     Err(io::Error::new(ErrorKind::AlreadyExists, "no name beside it is free"))
 }
 
-/// Writes the whole text to the new file, and gives it the owner and the permissions of the file that it is to replace.
-fn fill<R: Files>(
-    rt: &R,
-    beside: Path<'_>,
-    mut file: R::File,
-    text: &[u8],
-    old: &Metadata,
-) -> io::Result<()> {
-    file.write_all(text)?;
-    lchown(rt, beside, Some(old.uid()), Some(old.gid()))?;
-    file.set_permissions(old.permissions())?;
-    file.sync_all()
-}
-
-/// Fills the new file and gives it the name of the old one.
-fn put<R: Files>(
-    rt: &R,
-    (beside, file): (Path<'_>, R::File),
-    text: &[u8],
-    (path, old): (Path<'_>, &Metadata),
-) -> io::Result<()> {
-    fill(rt, beside, file, text, old)?;
-    fs::rename(rt, beside, path)
-}
-
 /// What is known of the file at this path, if it is a regular file that may be written.
 fn replaceable<R: Files>(rt: &R, path: Path<'_>) -> io::Result<Metadata> {
     let old = fs::metadata(rt, path)?;
@@ -78,20 +53,74 @@ fn replaceable<R: Files>(rt: &R, path: Path<'_>) -> io::Result<Metadata> {
     Ok(old)
 }
 
-/// Replaces the file with this name by a text: by a new file, with its owner and its permissions, that is whole before it takes
-/// the name. Where the name is that of a symbolic link, the file that the link leads to is replaced, and the link stays. Other
-/// names of the same file (hard links) keep the old one.
+/// A new file beside the one that it is to replace. What is written to it is its text.
+#[derive(Drop)]
+pub struct NewFile<F> {
+    file: F,
+    /// Its path.
+    beside: PathBuf,
+    /// The path of the file that it replaces, and what is known of that.
+    path: PathBuf,
+    old: Metadata,
+}
+
+impl<F: Write> Write for NewFile<F> {
+    /// Writes all of the bytes, or fails after a part of them.
+    fn write(&mut self, buf: &[u8]) -> io::Result<usize> {
+        self.file.write_all(buf)?;
+        Ok(buf.len())
+    }
+
+    fn flush(&mut self) -> io::Result<()> {
+        self.file.flush()
+    }
+}
+
+/// Makes a file that is to replace the one with this name. Where the name is that of a symbolic link, it is to replace the file
+/// that the link leads to, and the link stays. No one else may read the new file yet.
 ///
-/// An error where any step fails, and where the file is no regular file or may not be written: then it is as it was, and
-/// no file is left beside it.
-pub fn replace<R: Files + AllocGlobal>(rt: &R, name: &str, text: &str) -> io::Result<()> {
-    let target = fs::canonicalize(rt, name)?;
-    let path = target.as_path();
-    let old = replaceable(rt, path)?;
-    let (beside, file) = create_beside(rt, path)?;
-    let outcome = put(rt, (beside.as_path(), file), text.as_bytes(), (path, &old));
+/// An error where any step fails, and where the file is no regular file or may not be written: then no file is left beside it.
+pub fn begin<R: Files + AllocGlobal>(rt: &R, name: &str) -> io::Result<NewFile<R::File>> {
+    let path = fs::canonicalize(rt, name)?;
+    let old = replaceable(rt, path.as_path())?;
+    let (beside, file) = create_beside(rt, path.as_path())?;
+    Ok(NewFile {
+        file,
+        beside,
+        path,
+        old,
+    })
+}
+
+/// Gives the new file the owner and the permissions of the old one, and waits until all of it is on disk.
+fn settle<R: Files>(rt: &R, file: R::File, beside: Path<'_>, old: &Metadata) -> io::Result<()> {
+    lchown(rt, beside, Some(old.uid()), Some(old.gid()))?;
+    file.set_permissions(old.permissions())?;
+    file.sync_all()
+}
+
+/// Has the new file replace the old one, with its owner and its permissions. Other names of the old one (hard links) keep it.
+///
+/// An error where any step fails: then the old file is as it was, and no file is left beside it.
+pub fn finish<R: Files>(rt: &R, new: NewFile<R::File>) -> io::Result<()> {
+    let NewFile {
+        file,
+        beside,
+        path,
+        old,
+    } = new;
+    let beside = beside.as_path();
+    let outcome = match settle(rt, file, beside, &old) {
+        Ok(()) => fs::rename(rt, beside, path.as_path()),
+        Err(error) => Err(error),
+    };
     if outcome.is_err() {
-        let _ = fs::remove_file(rt, beside.as_path());
+        let _ = fs::remove_file(rt, beside);
     }
     outcome
+}
+
+/// Removes the new file. The old one is as it was.
+pub fn give_up<R: Files>(rt: &R, new: NewFile<R::File>) {
+    let _ = fs::remove_file(rt, new.beside.as_path());
 }

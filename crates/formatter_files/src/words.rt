@@ -1,7 +1,8 @@
 //! The options that programs which format files have in common.
 ghost use Rattle.std.specs.Prelude.{◌≡◌, IfOk, false};
 ghost use Rattle.clap.specs.Words.{app_of, found_of, rows_of, rule_of};
-ghost use Rattle.formatter_files.specs.Words.{HasIndent, HasWidth, IsIndent, IsTask, IsWidth, files, flag, has_flag, number, program, with_files, with_numbers};
+ghost use Rattle.formatter_files.specs.Words.{HasIndent, HasWidth, IsIndent, IsTask, IsWidth, files, flag, has_flag, number_rule};
+ghost use Rattle.formatter_files.specs.Words.{program, with_files, with_numbers};
 
 use crate::files::Task;
 use clap::builder::ValueParser;
@@ -10,7 +11,7 @@ use std::alloc::{AllocError, Global};
 
 /// An option that takes a number, no greater than `most`.
 fn number<'w>(alloc: Global, name: &'w str, most: u64, help: &'w str) -> Arg<'w>
-    ensures rule { rule_of result ≡ number name.entry.now most }
+    ensures rule { rule_of result ≡ number_rule name.entry.now most }
     ensures local { result.global ≡ false }
 {
     Arg::new(alloc, name)
@@ -38,7 +39,7 @@ fn files<'w>(alloc: Global) -> Arg<'w>
 {
     Arg::new(alloc, "FILE")
         .action(ArgAction::Append)
-        .help("Files to lay out [default: standard input]")
+        .help("Files to lay out, `-` for standard input [default: -]")
 }
 
 /// A program of this name, with no option yet. Its `version` and what it is `about` are for people.
@@ -68,7 +69,7 @@ pub fn with_numbers<'w>(
         .arg(number(alloc, "indent", u64::from(u32::MAX), members))
 }
 
-/// The command with `--check`, `--write` and the files.
+/// The command with `--check`, `--diff`, `--write` and the files.
 ///
 /// `AllocError` where memory is refused.
 pub fn with_files<'w>(alloc: Global, command: Command<'w>) -> Result<Command<'w>, AllocError>
@@ -78,7 +79,12 @@ pub fn with_files<'w>(alloc: Global, command: Command<'w>) -> Result<Command<'w>
         .arg(flag(
             alloc,
             "check",
-            "Write nothing, and end with 1 where a file is not laid out so",
+            "Write nothing, name each file that is not laid out so, and end with 1 if one is not",
+        ))?
+        .arg(flag(
+            alloc,
+            "diff",
+            "Write nothing to files, print how each differs from its layout, and end with 1 if one does",
         ))?
         .arg(flag(
             alloc,
@@ -122,6 +128,7 @@ pub fn task<'w>(alloc: Global, matches: &ArgMatches<'w>) -> Result<Task<'w>, All
 {
     Ok(Task {
         check: has_flag(matches, "check"),
+        diff: has_flag(matches, "diff"),
         write: has_flag(matches, "write"),
         files: Vec::from_slice(alloc, matches.get_strs("FILE").unwrap_or(&[]))?,
     })

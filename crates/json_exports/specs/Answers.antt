@@ -1,7 +1,7 @@
 -- What a call for the layout of a JSON text answers, for each status.
-use Rattle.std.specs.Prelude.{◌≡◌, ◌≤◌, ◌<◌, ◌⊎◌, ℕ, Bool, List, length, take, None}
+use Rattle.std.specs.Prelude.{◌≡◌, ◌≤◌, ◌<◌, ◌⊎◌, ℕ, Bool, false, List, length, take, None}
 use Rattle.std.specs.Str.{IsUtf8}
-use Rattle.json.specs.Json.{document}
+use Rattle.json_validity.specs.Document.{document}
 use Rattle.json_formatter.specs.Formats.{IsFormatted}
 use Rattle.json_formatter.specs.declared.style.Style.{Style}
 use Rattle.jsonfmt_request.specs.Expected.{name_of}
@@ -11,16 +11,16 @@ use Rattle.jsonfmt_request.specs.declared.expected.Expected.TheVariants.{Utf8}
 use Rattle.prettyless_area.specs.Overlay.{overlay}
 use Rattle.prettyless_exports.specs.Answers.{Holds, IsUntouched}
 
--- the style that a caller asks for
+-- the style that a caller asks for; it keeps no blank lines
 abbrev pub style_of : ℕ → ℕ → Bool → Style
-style_of width indent fill = record { width = width; indent = indent; fill = fill }
+style_of width indent fill = record { width = width; indent = indent; fill = fill; blank_lines = false }
 
 -- the bytes are no JSON text
 abbrev pub IsNoJson : List ℕ → Type 0
 IsNoJson text = IsUtf8 text → document text ≡ None
 
 -- So far into the text it is JSON: there something else was expected, whose name is in the area.
-pub record IsFault (text old new : List ℕ) (written line column : ℕ) : Type 0 where
+pub record IsJsonFault (text old new : List ℕ) (written line column : ℕ) : Type 0 where
   pub expected : Expected
   -- the place of a byte of the text, or of its end
   pub place : IsPlaceWithin text (record { line = line; column = column })
@@ -29,17 +29,20 @@ pub record IsFault (text old new : List ℕ) (written line column : ℕ) : Type 
   pub encoding : ¬ IsUtf8 text → expected ≡ Utf8
 
 -- The answer to a text, for an area that held `old` and holds `new`.
-pub record Answers (style : Style) (limit : ℕ) (text old new : List ℕ) (written line column status : ℕ) : Type 0 where
+pub record AnswersJson (style : Style) (limit : ℕ) (text old new : List ℕ) (written line column status : ℕ) : Type 0 where
   -- the layout is in the area: it has `written` bytes
-  pub laid_out : status ≡ 0 → (bytes : List ℕ) × IsFormatted style text bytes × (length bytes ≤ limit) × (length bytes ≤ length old) × Holds bytes old new written
+  pub laid_out : status ≡ 0 → (bytes : List ℕ) × IsFormatted style text bytes × (length bytes ≤ limit)
+      × (length bytes ≤ length old) × Holds bytes old new written
   -- the layout has `written` bytes, more than the area, which holds its beginning
-  pub too_small : status ≡ 1 → (bytes : List ℕ) × IsFormatted style text bytes × (length bytes ≤ limit) × (length old < length bytes) × (new ≡ overlay bytes old) × (written ≡ length bytes)
+  pub too_small : status ≡ 1 → (bytes : List ℕ) × IsFormatted style text bytes × (length bytes ≤ limit)
+      × (length old < length bytes) × (new ≡ overlay bytes old) × (written ≡ length bytes)
   -- memory was refused, and the area is as it was
   pub memory : status ≡ 2 → IsUntouched old new written
   -- the layout is longer than the limit, and what is within the limit is in the area
-  pub past_limit : status ≡ 4 → (bytes : List ℕ) × IsFormatted style text bytes × (limit < length bytes) × Holds (take limit bytes) old new written
+  pub past_limit : status ≡ 4 → (bytes : List ℕ) × IsFormatted style text bytes × (limit < length bytes)
+      × Holds (take limit bytes) old new written
   -- the bytes are no JSON text, and where that is seen
-  pub not_json : status ≡ 5 → IsNoJson text × IsFault text old new written line column
+  pub not_json : status ≡ 5 → IsNoJson text × IsJsonFault text old new written line column
   -- at the other statuses there is no place
   pub no_place : ¬ (status ≡ 5) → (line ≡ 0) × (column ≡ 0)
   -- there is no other status

@@ -1,48 +1,41 @@
 //! The layout of a JSON text, into an area of bytes.
-ghost use Rattle.std.specs.Prelude.{◌≡◌, OnOk, OnErr};
+ghost use Rattle.std.specs.Prelude.{◌≡◌, IfErr, IfOk, OnErr, OnOk};
+ghost use Rattle.json_formatter.specs.BlankLines.{layout_of};
+ghost use Rattle.json_formatter.specs.Formats.{IsFormatted, IsRefused};
 ghost use Rattle.prettyless_area.specs.Overlay.{PutsAll, PutsToLimit};
-ghost use Rattle.jsonfmt_request.specs.Expected.{name_of};
-ghost use Rattle.prettyless_exports.specs.Answers.{Holds, limit_of};
-ghost use Rattle.json_exports.specs.Answers.{Answers, style_of};
-ghost use Rattle.json_exports.specs.Says.{IsPut, Refuses, Says};
+ghost use Rattle.prettyless_exports.specs.Answers.{limit_of};
+ghost use Rattle.json_exports.specs.Answers.{AnswersJson, style_of};
+ghost use Rattle.json_exports.specs.Says.{RefusesJson, SaysOfJson};
 
 use crate::status::Status;
-use json_formatter::{FormatError, Style, formatted};
-use jsonfmt_request::expected::Expected;
+use json_formatter::{FormatError, Style, render};
 use jsonfmt_request::fault::fault_of;
 use prettyless_area::area::{Area, Full};
 use prettyless_exports::layout::limit_from;
-use prettyless_sink::render::Render;
+use prettyless_exports::text::{Put, put_name};
 use std::alloc::Global;
 use std::str::from_utf8;
 
-/// Puts a text into an area.
-fn put(text: &str, limit: usize, out: &mut [u8], count: &mut usize) -> Result<(), Full>
-    ensures ok { OnOk result (PutsAll limit text.now out.old out.new count.new) }
-    ensures err { OnErr result (PutsToLimit limit text.now out.old out.new count.new) }
+/// Puts the layout of a text into an area while it is made, and counts its bytes as far as the limit. Where the text is refused,
+/// nothing is put.
+fn put_layout(
+    alloc: Global,
+    text: &str,
+    style: Style,
+    limit: usize,
+    out: &mut [u8],
+    count: &mut usize,
+) -> Result<Result<(), Full>, FormatError>
+    ensures formatted { OnOk result (IsFormatted style text.now (layout_of style text.now)) }
+    ensures ok { IfOk result (λ put. OnOk put (PutsAll limit (layout_of style text.now) out.old out.new count.new)) }
+    ensures err { IfOk result (λ put. OnErr put (PutsToLimit limit (layout_of style text.now) out.old out.new count.new)) }
+    ensures refused { IfErr result (IsRefused text.now) }
+    ensures untouched { OnErr result (out.new ≡ out.old) }
 {
     let mut area = Area::new(out, limit);
-    let answer = area.write_str_all(text);
+    let answer = render(alloc, text, style, &mut area);
     *count = area.count();
     answer
-}
-
-/// Puts a layout into an area.
-fn laid(layout: &str, limit: usize, out: &mut [u8], written: &mut usize) -> Status
-    ensures { IsPut limit layout.now out.old out.new written.new result }
-{
-    let capacity = out.len();
-    let mut count = 0;
-    let answer = put(layout, limit, out, &mut count);
-    *written = count.min(capacity);
-    match answer {
-        Ok(()) if count <= capacity => Status::LaidOut,
-        Ok(()) => {
-            *written = count;
-            Status::TooSmall
-        }
-        Err(_) => Status::PastLimit,
-    }
 }
 
 /// Lays out a text, if it is JSON.
@@ -54,10 +47,19 @@ fn text_laid(
     out: &mut [u8],
     written: &mut usize,
 ) -> Status
-    ensures { Says style limit text.now out.old out.new written.new result }
+    ensures { SaysOfJson style limit text.now out.old out.new written.new result }
 {
-    match formatted(alloc, text, style) {
-        Ok(layout) => laid(layout.as_str(), limit, out, written),
+    let capacity = out.len();
+    let mut count = 0;
+    let answer = put_layout(alloc, text, style, limit, out, &mut count);
+    *written = count.min(capacity);
+    match answer {
+        Ok(Ok(())) if count <= capacity => Status::LaidOut(Put::Whole),
+        Ok(Ok(())) => {
+            *written = count;
+            Status::LaidOut(Put::Beginning)
+        }
+        Ok(Err(_)) => Status::LaidOut(Put::PastLimit),
         Err(FormatError::NotJson) => Status::NotJson,
         Err(_) => {
             *written = 0;
@@ -75,22 +77,12 @@ fn laid_out(
     out: &mut [u8],
     written: &mut usize,
 ) -> Status
-    ensures { Says style limit text.now out.old out.new written.new result }
+    ensures { SaysOfJson style limit text.now out.old out.new written.new result }
 {
     match from_utf8(text) {
         Ok(text) => text_laid(alloc, text, style, limit, out, written),
         Err(_) => Status::NotJson,
     }
-}
-
-/// Puts the name of what was expected into an area.
-fn named(expected: Expected, out: &mut [u8], written: &mut usize)
-    ensures { Holds (name_of expected) out.old out.new written.new }
-{
-    let capacity = out.len();
-    let mut count = 0;
-    let _ = put(expected.name(), usize::MAX, out, &mut count);
-    *written = count.min(capacity);
 }
 
 /// Says where bytes stop being a JSON text, and puts the name of what was expected there into an area.
@@ -102,11 +94,11 @@ fn refused(
     line: &mut usize,
     column: &mut usize,
 ) -> Status
-    ensures { Refuses text.now out.old out.new written.new line.new column.new result }
+    ensures { RefusesJson text.now out.old out.new written.new line.new column.new result }
 {
     match fault_of(alloc, text) {
         Ok(fault) => {
-            named(fault.expected, out, written);
+            put_name(fault.expected.name(), out, written);
             *line = fault.place.line;
             *column = fault.place.column;
             Status::NotJson
@@ -138,12 +130,13 @@ pub fn json_layout(
     line: &mut usize,
     column: &mut usize,
 ) -> u32
-    ensures { Answers (style_of width indent fill) (limit_of limit) text.now out.old out.new written.new line.new column.new result }
+    ensures { AnswersJson (style_of width indent fill) (limit_of limit) text.now out.old out.new written.new line.new column.new result }
 {
     let style = Style {
         width,
         indent,
         fill,
+        blank_lines: false,
     };
     match laid_out(alloc, text, style, limit_from(limit), out, written) {
         Status::NotJson => refused(alloc, text, out, written, line, column).number(),

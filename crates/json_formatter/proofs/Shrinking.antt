@@ -4,7 +4,8 @@ use Rattle.std.proofs.lemmas.Bool.{cases_Bool}
 use Rattle.json.specs.Ascii as ascii
 use Rattle.prettyless.specs.Tree.{Tree, Nil}
 use Rattle.json_formatter.specs.declared.style.Style.{Style}
-use Rattle.json_formatter.specs.Documents.{Read, Reader, read, next_is, is_sign, opens, closes, lexeme_alone, with_value, with_comma, list_member, members, list_or_lexeme, value}
+use Rattle.json_formatter.specs.Documents.{Read, Reader, read, next_is, is_json_sign, opens, closes, lexeme_alone, with_value, with_comma}
+use Rattle.json_formatter.specs.Documents.{list_member, list_members, list_or_lexeme, value}
 use Rattle.json_formatter.proofs.Readers.{Shrinks, many_shrinks}
 
 -- where no lexeme is left, there is no value
@@ -22,16 +23,18 @@ alone_keeps [] = omega arith
 alone_keeps (s ∷ ss) = omega arith
 
 with_comma_keeps : (tree : Tree) → Keeps (with_comma tree)
-with_comma_keeps tree ss = by (cases_Bool (next_is (is_sign ascii.comma) ss))
+with_comma_keeps tree ss = by (cases_Bool (next_is (is_json_sign ascii.comma) ss))
   where
-    by : (next_is (is_sign ascii.comma) ss ≡ true) ⊎ (next_is (is_sign ascii.comma) ss ≡ false) → length (with_comma tree ss).left ≤ length ss
+    by : (next_is (is_json_sign ascii.comma) ss ≡ true) ⊎ (next_is (is_json_sign ascii.comma) ss ≡ false) →
+        length (with_comma tree ss).left ≤ length ss
     by (inl e) = rw e (omega (arith, length-drop 1 ss))
     by (inr e) = rw e (omega arith)
 
 with_value_keeps : (value : Reader Tree) → Keeps value → (key : Tree) → Keeps (with_value value key)
-with_value_keeps value keeps key ss = by (cases_Bool (next_is (is_sign ascii.colon) ss))
+with_value_keeps value keeps key ss = by (cases_Bool (next_is (is_json_sign ascii.colon) ss))
   where
-    by : (next_is (is_sign ascii.colon) ss ≡ true) ⊎ (next_is (is_sign ascii.colon) ss ≡ false) → length (with_value value key ss).left ≤ length ss
+    by : (next_is (is_json_sign ascii.colon) ss ≡ true) ⊎ (next_is (is_json_sign ascii.colon) ss ≡ false) →
+        length (with_value value key ss).left ≤ length ss
     by (inl e) = let h = keeps (drop 1 ss) in rw e (omega (arith, h, length-drop 1 ss))
     by (inr e) = rw e (omega arith)
 
@@ -50,7 +53,7 @@ list_shrinks style value shrinks keeps s ss = by (cases_Bool (opens s))
     by : (opens s ≡ true) ⊎ (opens s ≡ false) → length (list_or_lexeme style value (s ∷ ss)).left ≤ length ss
     by (inl e) =
         let a = many_shrinks closes (list_member value) (list_member_shrinks value shrinks keeps) (length ss) ss in
-        let b = alone_keeps (members value ss).left in
+        let b = alone_keeps (list_members value ss).left in
         rw e (omega (arith, a, b))
     by (inr e) = rw e (omega arith)
 

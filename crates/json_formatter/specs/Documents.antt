@@ -1,9 +1,10 @@
 -- The document of a JSON text, and its layout: what stands on a line is read off the lexemes alone.
-use Rattle.std.specs.Prelude.{◌≡◌, ℕ, zero, suc, ℤ, pos, Bool, true, false, ◌&&◌, ◌||◌, ◌==◌, List, [], ◌∷◌, ◌++◌, length, drop, map, if◌then◌else◌}
+use Rattle.std.specs.Prelude.{◌≡◌, ℕ, zero, suc, ℤ, pos, Bool, true, false, ◌&&◌, ◌||◌, ◌==◌, List, [], ◌∷◌, ◌++◌, length, drop, map}
+use Rattle.std.specs.Prelude.{if◌then◌else◌}
 use Rattle.std.specs.Char.{is_ascii_digit}
 use Rattle.std.specs.List.{fold, list_all}
 use Rattle.json.specs.Ascii as ascii
-use Rattle.json.specs.Json.{max_depth}
+use Rattle.json_validity.specs.Document.{max_depth}
 use Rattle.json.specs.Word.{head}
 use Rattle.json_lexemes.specs.Lexemes.{lexemes}
 use Rattle.prettyless.specs.Built.{append, enclose, group, nest, softline}
@@ -19,17 +20,17 @@ use Rattle.json_formatter.specs.declared.style.Style.{Style}
 -- ---- which lexeme it is
 
 -- this sign
-abbrev pub is_sign : ℕ → List ℕ → Bool
-is_sign sign (b ∷ []) = b == sign
-is_sign sign _ = false
+abbrev pub is_json_sign : ℕ → List ℕ → Bool
+is_json_sign sign (b ∷ []) = b == sign
+is_json_sign sign _ = false
 
 -- it opens a list, which is an object or an array
 abbrev pub opens : List ℕ → Bool
-opens s = is_sign ascii.open_brace s || is_sign ascii.open_bracket s
+opens s = is_json_sign ascii.open_brace s || is_json_sign ascii.open_bracket s
 
 -- it closes one
 abbrev pub closes : List ℕ → Bool
-closes s = is_sign ascii.close_brace s || is_sign ascii.close_bracket s
+closes s = is_json_sign ascii.close_brace s || is_json_sign ascii.close_bracket s
 
 -- a number, where it is a lexeme of a JSON text
 abbrev pub is_number : List ℕ → Bool
@@ -55,8 +56,8 @@ abbrev pub read : {A : Type 0} → A → Reader A
 read found left = record { found = found; left = left }
 
 -- one after the other; the second knows what the first found
-abbrev pub and_then : {A B : Type 0} → Read A → (A → Reader B) → Read B
-and_then first next = next first.found first.left
+abbrev pub then_read : {A B : Type 0} → Read A → (A → Reader B) → Read B
+then_read first next = next first.found first.left
 
 -- found in front of what is found later
 abbrev pub onto : {A : Type 0} → A → Read (List A) → Read (List A)
@@ -71,7 +72,7 @@ stops ends (s ∷ ss) = ends s
 unfoldable pub many : {A : Type 0} → (List ℕ → Bool) → Reader A → ℕ → Reader (List A)
 many ends reader zero ss = read [] ss
 many ends reader (suc n) ss =
-    if stops ends ss then read [] ss else and_then (reader ss) (λ x left. onto x (many ends reader n left))
+    if stops ends ss then read [] ss else then_read (reader ss) (λ x left. onto x (many ends reader n left))
 
 -- again and again until that; each takes a lexeme at least
 abbrev pub until : {A : Type 0} → (List ℕ → Bool) → Reader A → Reader (List A)
@@ -92,8 +93,8 @@ lexeme_alone (s ∷ ss) = read (text s) ss
 -- a key, and if a colon is next: it, a space, and the value
 abbrev pub with_value : Reader Tree → Tree → Reader Tree
 with_value value key ss =
-    if next_is (is_sign ascii.colon) ss
-    then and_then (value (drop 1 ss)) (λ v. read (append (append (append key (text (ascii.colon ∷ []))) space) v))
+    if next_is (is_json_sign ascii.colon) ss
+    then then_read (value (drop 1 ss)) (λ v. read (append (append (append key (text (ascii.colon ∷ []))) space) v))
     else read key ss
 
 -- a comma, a colon and a space
@@ -103,15 +104,15 @@ AreMarks comma colon gap = (comma ≡ text (ascii.comma ∷ [])) × (colon ≡ t
 -- a document, and the comma, if it is next
 abbrev pub with_comma : Tree → Reader Tree
 with_comma tree ss =
-    if next_is (is_sign ascii.comma) ss then read (append tree (text (ascii.comma ∷ []))) (drop 1 ss) else read tree ss
+    if next_is (is_json_sign ascii.comma) ss then read (append tree (text (ascii.comma ∷ []))) (drop 1 ss) else read tree ss
 
 -- a value, or a key with its value; with the comma after it
 abbrev pub member : Reader Tree → Reader Tree
-member value ss = and_then (and_then (value ss) (with_value value)) with_comma
+member value ss = then_read (then_read (value ss) (with_value value)) with_comma
 
 -- the same, as a member of a list
 abbrev pub list_member : Reader Tree → Reader Member
-list_member value ss = and_then (member value ss) (λ tree. read (record { tree = tree; is_number = next_is is_number ss }))
+list_member value ss = then_read (member value ss) (λ tree. read (record { tree = tree; is_number = next_is is_number ss }))
 
 -- the documents of members
 abbrev pub trees_of : List Member → List Tree
@@ -122,29 +123,29 @@ abbrev pub all_numbers : List Member → Bool
 all_numbers ms = list_all (λ m. m.is_number) ms
 
 -- the members of a list, up to what closes it
-abbrev pub members : Reader Tree → Reader (List Member)
-members value = until closes (list_member value)
+abbrev pub list_members : Reader Tree → Reader (List Member)
+list_members value = until closes (list_member value)
 
 -- members that were read after others: these trees came first, and so much is known of whether all are numbers
-pub record GoesOn (all later : Read (List Member)) (trees : List Tree) (are_numbers : Bool) : Type 0 where
+pub record ContinuesMembers (all later : Read (List Member)) (trees : List Tree) (are_numbers : Bool) : Type 0 where
   pub documents : trees_of all.found ≡ trees ++ trees_of later.found
   pub numbers : all_numbers all.found ≡ (are_numbers && all_numbers later.found)
   pub left : all.left ≡ later.left
 
 -- documents between two others: flat, or in lines that are filled, k columns further in
-abbrev pub filled : Tree → List Tree → Tree → ℤ → Tree
-filled before [] after k = append before after
-filled before (x ∷ xs) after k =
+abbrev pub filled_list : Tree → List Tree → Tree → ℤ → Tree
+filled_list before [] after k = append before after
+filled_list before (x ∷ xs) after k =
     group (enclose before (append (nest k (append line_ (intersperse softline (x ∷ xs)))) line_) after)
 
 -- they fill lines, or each has a line of its own where they aren't flat
 abbrev pub listed : Bool → Tree → List Tree → Tree → ℤ → Tree
-listed true before xs after k = filled before xs after k
+listed true before xs after k = filled_list before xs after k
 listed false before xs after k = bracketed before xs after k
 
 -- a list between its brackets; numbers alone fill lines where the style says so
-abbrev pub list : Style → List ℕ → List Member → Tree → Tree
-list style opening ms close =
+abbrev pub list_document : Style → List ℕ → List Member → Tree → Tree
+list_document style opening ms close =
     listed (style.fill && all_numbers ms) (text opening) (trees_of ms) close (pos style.indent)
 
 -- a list, whose values are read by `value`, or a lexeme alone
@@ -152,7 +153,7 @@ abbrev pub list_or_lexeme : Style → Reader Tree → Reader Tree
 list_or_lexeme style value [] = read Nil []
 list_or_lexeme style value (s ∷ ss) =
     if opens s
-    then and_then (members value ss) (λ ms left. and_then (lexeme_alone left) (λ close. read (list style s ms close)))
+    then then_read (list_members value ss) (λ ms left. then_read (lexeme_alone left) (λ close. read (list_document style s ms close)))
     else read (text s) ss
 
 -- the value that comes next; past so many lists inside one another a bracket stands alone
@@ -163,13 +164,9 @@ value style (suc depth) = list_or_lexeme style (value style depth)
 -- ---- the document of a text
 
 -- the values of the lexemes, one after the other; those of a JSON text are one value
-abbrev pub tree_of : Style → List (List ℕ) → Tree
-tree_of style ss = fold append Nil (until (λ _. false) (value style max_depth) ss).found
+abbrev pub lexemes_tree : Style → List (List ℕ) → Tree
+lexemes_tree style ss = fold append Nil (until (λ _. false) (value style max_depth) ss).found
 
--- the layout of a document in a style, and a line feed
+-- the layout of a document in a style
 abbrev pub laid : Style → Tree → List ℕ
-laid style tree = bytes_in (layout (options_at style.width) tree) ++ ascii.line_feed ∷ []
-
--- the layout of a text in a style: that of its document
-abbrev pub layout_of : Style → List ℕ → List ℕ
-layout_of style text = laid style (tree_of style (lexemes text))
+laid style tree = bytes_in (layout (options_at style.width) tree)

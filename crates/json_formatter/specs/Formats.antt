@@ -2,9 +2,9 @@
 use Rattle.std.specs.Prelude.{◌≡◌, ◌<◌, ℕ, List, [], ◌∷◌, ◌++◌, length, Option, None, IsSome, Result, Ok, Err}
 use Rattle.std.specs.Io.KnownBytes.{Keeps, Appends}
 use Rattle.json.specs.Ascii.{line_feed}
-use Rattle.json.specs.Json.{document}
+use Rattle.json_validity.specs.Document.{document}
 use Rattle.json_lexemes.specs.Lexemes.{lexemes}
-use Rattle.json_formatter.specs.Documents.{layout_of}
+use Rattle.json_formatter.specs.BlankLines.{layout_of}
 use Rattle.json_formatter.specs.declared.error.FormatError.{FormatError}
 use Rattle.json_formatter.specs.declared.error.FormatError.TheVariants.{NotJson, Memory, Write}
 use Rattle.json_formatter.specs.declared.style.Style.{Style}
@@ -17,7 +17,7 @@ pub record IsFormatted (style : Style) (text bytes : List ℕ) : Type 0 where
   pub value : document bytes ≡ document text
   -- They have the same lexemes in the same order, each as it was spelled.
   pub lexemes : lexemes bytes ≡ lexemes text
-  -- They are the layout of its document at the style's width, and a line feed.
+  -- They are the layout of its document at the style's width, with the blank lines that the style keeps, and a line feed.
   pub layout : bytes ≡ layout_of style text
   -- Laid out again in this style, they stay as they are.
   pub again : layout_of style bytes ≡ bytes
@@ -37,12 +37,13 @@ IsRefused text (Memory e) = Unit {0}
 IsRefused text (Write e) = ⊥
 
 -- a beginning of the bytes was appended, and not all of it
-abbrev pub AppendsBeginning : Option (List ℕ) → Option (List ℕ) → List ℕ → Type 0
-AppendsBeginning old new bytes = (front : List ℕ) × (back : List ℕ) × (bytes ≡ front ++ back) × (0 < length back) × Appends old new front
+abbrev pub AppendsProperBeginning : Option (List ℕ) → Option (List ℕ) → List ℕ → Type 0
+AppendsProperBeginning old new bytes = (front : List ℕ) × (back : List ℕ) × (bytes ≡ front ++ back) × (0 < length back)
+    × Appends old new front
 
 -- What a writer holds goes from old to new. Where the text is no JSON, or memory was refused, nothing was written.
 abbrev pub Formats : {A : Type 0} → Style → List ℕ → Option (List ℕ) → Option (List ℕ) → Result A FormatError → Type 0
 Formats style text old new (Ok done) = (bytes : List ℕ) × IsFormatted style text bytes × Appends old new bytes
 Formats style text old new (Err NotJson) = Keeps old new × (document text ≡ None)
 Formats style text old new (Err (Memory e)) = Keeps old new
-Formats style text old new (Err (Write e)) = (bytes : List ℕ) × IsFormatted style text bytes × AppendsBeginning old new bytes
+Formats style text old new (Err (Write e)) = (bytes : List ℕ) × IsFormatted style text bytes × AppendsProperBeginning old new bytes

@@ -1,3 +1,10 @@
 pub mod Ahead
+pub mod BlankLines
+pub mod ByValue
 pub mod Documents
+pub mod Flat
 pub mod Formats
+pub mod Window
+pub mod Gaps
+pub mod Kept
+pub mod Outputs

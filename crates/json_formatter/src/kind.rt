@@ -1,7 +1,7 @@
 ghost use Rattle.std.specs.Prelude.{◌≡◌};
-ghost use Rattle.json.specs.Ascii.{colon, comma};
+ghost use Rattle.json.specs.Ascii.{comma};
 ghost use Rattle.json_lexemes.specs.View.{text_of, IsNamed};
-ghost use Rattle.json_formatter.specs.Documents.{closes, is_number, is_sign, opens};
+ghost use Rattle.json_formatter.specs.Documents.{closes, is_number, is_json_sign, opens};
 
 use json_lexemes::Lexeme;
 
@@ -21,18 +21,10 @@ pub(crate) fn closes(lexeme: Lexeme<'_>) -> bool
     matches!(lexeme, Lexeme::CloseObject | Lexeme::CloseArray)
 }
 
-/// Whether the lexeme is a colon.
-pub(crate) fn is_colon(lexeme: Lexeme<'_>) -> bool
-    requires { IsNamed lexeme }
-    ensures { result ≡ is_sign colon (text_of lexeme.entry) }
-{
-    matches!(lexeme, Lexeme::Colon)
-}
-
 /// Whether the lexeme is a comma.
 pub(crate) fn is_comma(lexeme: Lexeme<'_>) -> bool
     requires { IsNamed lexeme }
-    ensures { result ≡ is_sign comma (text_of lexeme.entry) }
+    ensures { result ≡ is_json_sign comma (text_of lexeme.entry) }
 {
     matches!(lexeme, Lexeme::Comma)
 }

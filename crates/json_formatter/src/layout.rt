@@ -1,78 +1,30 @@
-ghost use Rattle.std.specs.Prelude.{◌≡◌, ℕ, List, IfOk, IfErr};
+ghost use Rattle.std.specs.Prelude.{◌≡◌, IfOk, IfErr, IsSome, OnErr, OnOk};
+ghost use Rattle.json_validity.specs.Document.{document};
 ghost use Rattle.std.specs.String.{string_bytes};
-ghost use Rattle.json_lexemes.specs.Lexemes.{lexemes};
-ghost use Rattle.prettyless.specs.Trees.{ref_tree};
-ghost use Rattle.json_formatter.specs.Documents.{laid, layout_of, tree_of};
+ghost use Rattle.json_formatter.specs.BlankLines.{layout_of};
 ghost use Rattle.json_formatter.specs.Formats.{IsFormatted, IsRefused, Formats};
+ghost use Rattle.prettyless_sink.specs.Sink.{Accepts, Refuses};
 
-use crate::document::document;
 use crate::error::FormatError;
-use crate::output::write_text;
+use crate::gaps::Layout;
+use crate::output::{push_layout, write_layout};
+use crate::sink::render_layout;
 use crate::style::Style;
-use bumpalo::Bump;
-use json::{Scratch, is_valid};
-use prettyless::text::BuildError;
-use prettyless::{Arena, DocPlace, DocPtr, RefDoc, RenderError};
-use std::alloc::{AllocError, Global};
+use json_validity::is_json;
+use prettyless_sink::render::Render;
+use std::alloc::Global;
 use std::io::Write;
 
-/// The document of a text, or memory was refused: each of its lexemes is a text that is there.
-fn built<'a>(
-    arena: &'a Arena<'a>,
-    alloc: Global,
-    text: &'a str,
-    style: Style,
-) -> Result<RefDoc<'a>, AllocError>
-    ensures { IfOk result (λ p. ref_tree p ≡ tree_of style (lexemes text.now)) }
+// Makes sure that a text is JSON.
+fn check_json(alloc: Global, text: &str) -> Result<(), FormatError>
+    ensures ok { OnOk result (IsSome (document text.now)) }
+    ensures err { IfErr result (IsRefused text.now) }
 {
-    match document(arena, alloc, text, style) {
-        Ok(document) => Ok(document),
-        Err(BuildError::Memory(error)) => Err(error),
-        Err(BuildError::Display) => unreachable!(),
+    if is_json(alloc, text)? {
+        Ok(())
+    } else {
+        Err(FormatError::NotJson)
     }
-}
-
-/// The layout of a document of lexemes, and a line feed, or memory was refused: no such document fails.
-fn rendered<'a, P: DocPtr<'a>>(
-    document: &P,
-    alloc: Global,
-    style: Style,
-) -> Result<String, AllocError>
-    requires { (ss : List (List ℕ)) × (P.tree document.now ≡ tree_of style ss) }
-    ensures { IfOk result (λ layout. string_bytes layout ≡ laid style (P.tree document.now)) }
-{
-    let mut layout = String::new(alloc);
-    let doc = document.doc();
-    match doc.render_fmt(alloc, style.width, &mut layout) {
-        Ok(()) => layout.push('\n')?,
-        Err(RenderError::Memory(error)) => return Err(error),
-        // A `String` fails for want of memory alone.
-        Err(RenderError::Sink(_)) => return Err(AllocError),
-        Err(RenderError::Document(_)) => unreachable!(),
-    }
-    Ok(layout)
-}
-
-/// The layout of a text in this style, and a line feed, or memory was refused.
-fn laid<'a>(
-    arena: &'a Arena<'a>,
-    alloc: Global,
-    text: &'a str,
-    style: Style,
-) -> Result<String, AllocError>
-    ensures { IfOk result (λ layout. string_bytes layout ≡ layout_of style text.now) }
-{
-    let document = built(arena, alloc, text, style)?;
-    rendered(&document, alloc, style)
-}
-
-/// The same, with the document in an arena of its own.
-fn laid_out(alloc: Global, text: &str, style: Style) -> Result<String, AllocError>
-    ensures { IfOk result (λ layout. string_bytes layout ≡ layout_of style text.now) }
-{
-    let bump = Bump::new(alloc);
-    let arena = Arena::new(alloc, &bump);
-    laid(&arena, alloc, text, style)
 }
 
 /// The layout of a JSON text in this style, and a line feed. It is the same value, and has the same lexemes. Laid out again
@@ -83,13 +35,13 @@ pub fn formatted(alloc: Global, text: &str, style: Style) -> Result<String, Form
     ensures ok { IfOk result (λ layout. IsFormatted style text.now (string_bytes layout)) }
     ensures err { IfErr result (IsRefused text.now) }
 {
-    if !is_valid(text, &mut Scratch::new(alloc))? {
-        return Err(FormatError::NotJson);
-    }
-    Ok(laid_out(alloc, text, style)?)
+    check_json(alloc, text)?;
+    let mut layout = String::new(alloc);
+    push_layout(&mut layout, &mut Layout::new(alloc, text, style))?;
+    Ok(layout)
 }
 
-/// Writes the layout of a JSON text in this style, and a line feed, as `formatted` does.
+/// Writes the layout of a JSON text in this style, and a line feed, while the text is laid out.
 ///
 /// `NotJson` exactly where the text is no JSON: then nothing was written, nor was it where memory was refused. Where the
 /// writer fails a beginning was written.
@@ -101,6 +53,29 @@ pub fn format<W: Write>(
 ) -> Result<(), FormatError>
     ensures { Formats style text.now (W.contents writer.old) (W.contents writer.new) result }
 {
-    let layout = formatted(alloc, text, style)?;
-    write_text(writer, layout.as_bytes())
+    check_json(alloc, text)?;
+    write_layout(writer, &mut Layout::new(alloc, text, style))
+}
+
+/// Puts the layout of a JSON text in this style, and a line feed, into a sink, while the text is laid out.
+///
+/// `NotJson` exactly where the text is no JSON, and else `Memory` where memory is refused: then nothing was put. Where the
+/// sink fails it got a beginning and no piece after that, and the inner answer is its error.
+pub fn render<S: Render>(
+    alloc: Global,
+    text: &str,
+    style: Style,
+    sink: &mut S,
+) -> Result<Result<(), S::Error>, FormatError>
+    ensures same_lender { S.lender sink.new ≡ S.lender sink.old }
+    ensures formatted { OnOk result (IsFormatted style text.now (layout_of style text.now)) }
+    ensures ok { IfOk result (λ answer. OnOk answer
+        (Accepts (S.bytes sink.old) (S.bytes sink.new) (layout_of style text.now) (S.failures sink.old) (S.failures sink.new))) }
+    ensures err { IfOk result (λ answer. OnErr answer
+        (Refuses (S.bytes sink.old) (S.bytes sink.new) (layout_of style text.now) (S.failures sink.old) (S.failures sink.new))) }
+    ensures refused { IfErr result (IsRefused text.now) }
+    ensures untouched { OnErr result (sink.new ≡ sink.old) }
+{
+    check_json(alloc, text)?;
+    Ok(render_layout(sink, &mut Layout::new(alloc, text, style)))
 }

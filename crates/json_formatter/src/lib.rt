@@ -2,15 +2,20 @@
 #![tactic(auto)]
 
 mod ahead;
-mod document;
+mod columns;
 mod error;
+mod gaps;
+mod kept;
 mod kind;
+mod laws;
 mod layout;
-mod list;
 mod output;
-mod parts;
+mod scanner;
+mod sink;
 mod style;
+mod window;
 
 pub use error::FormatError;
-pub use layout::{format, formatted};
+pub use laws::law_layout;
+pub use layout::{format, formatted, render};
 pub use style::Style;

@@ -1,18 +1,51 @@
-ghost use Rattle.std.specs.Prelude.{OnOk, OnErr, IfErr};
+//! Where a layout goes: into a text, or to a writer.
+ghost use Rattle.std.specs.Prelude.{◌≡◌, ℕ, ◌+◌, ◌<◌, ◌≤◌, List, ◌++◌, ◌∷◌, [], length, OnOk, OnErr, IfErr, IfSome, MatchOption};
+ghost use Rattle.std.specs.Bool.{MatchBool};
+ghost use Rattle.arrayvec.specs.ArrayString.{array_string_len};
+ghost use Rattle.std.specs.String.{string_bytes};
+ghost use Rattle.json.specs.Ascii.{line_feed};
+ghost use Rattle.json_lexemes.specs.View.{text_of};
 ghost use Rattle.std.specs.Io.KnownBytes.{Appends};
-ghost use Rattle.json_formatter.specs.Formats.{AppendsBeginning, IsWriting};
+ghost use Rattle.prettyless_model.specs.Spaces.{spaces};
+ghost use Rattle.json_formatter.specs.Formats.{AppendsProperBeginning, IsWriting};
+ghost use Rattle.json_formatter.specs.Gaps.{gap_bytes};
+ghost use Rattle.json_formatter.specs.Outputs.{HandsToWriter, StopsWriter};
 
 use crate::error::FormatError;
+use crate::gaps::{Gap, Layout};
+use arrayvec::ArrayString;
+use json_lexemes::Lexeme;
+use prettyless_model::spaces::some_spaces;
+use std::alloc::AllocError;
 use std::io;
 use std::io::{ErrorKind, Write};
+
+// A line end and 100 spaces.
+const LINE: &str =
+    "\n                                                                                                    ";
+
+// A line end and 31 spaces.
+const SHORT_LINE: &str = "\n                               ";
+
+// How many bytes a writer is handed at once, unless a lexeme has more.
+const HELD: usize = 16_384;
+
+// A line end and at most 100 spaces.
+#[inline(always)]
+fn some_line(indent: usize) -> &'static str
+    requires { indent ≤ 100 }
+    ensures { result.now ≡ line_feed ∷ spaces indent }
+{
+    &LINE[..indent + 1]
+}
 
 /// Writes the whole text, or fails after a beginning of it that isn't all.
 ///
 /// An error of the writer, an interruption too, is answered as `Write`, and so is a write that takes nothing, with the
 /// kind `WriteZero`.
-pub(crate) fn write_text<W: Write>(writer: &mut W, text: &[u8]) -> Result<(), FormatError>
+fn write_text<W: Write>(writer: &mut W, text: &[u8]) -> Result<(), FormatError>
     ensures ok { OnOk result (Appends (W.contents writer.old) (W.contents writer.new) text.now) }
-    ensures beginning { OnErr result (AppendsBeginning (W.contents writer.old) (W.contents writer.new) text.now) }
+    ensures beginning { OnErr result (AppendsProperBeginning (W.contents writer.old) (W.contents writer.new) text.now) }
     ensures err { IfErr result IsWriting }
 {
     let mut rest = text;
@@ -24,4 +57,268 @@ pub(crate) fn write_text<W: Write>(writer: &mut W, text: &[u8]) -> Result<(), Fo
         }
     }
     Ok(())
+}
+
+// Hands the writer what is held and a text that does not fit behind it.
+fn hand_on<W: Write>(
+    writer: &mut W,
+    held: &mut ArrayString<HELD>,
+    text: &str,
+) -> Result<(), FormatError>
+    ensures ok { OnOk result (HandsToWriter (W.contents writer.old) (W.contents writer.new) held.old.bytes held.new.bytes text.now) }
+    ensures beginning { OnErr result (StopsWriter (W.contents writer.old) (W.contents writer.new) held.old.bytes text.now) }
+    ensures err { IfErr result IsWriting }
+{
+    write_text(writer, held.as_str().as_bytes())?;
+    held.clear();
+    match held.try_push_str(text) {
+        Ok(()) => Ok(()),
+        Err(_) => write_text(writer, text.as_bytes()),
+    }
+}
+
+// Puts a text behind what is held for a writer.
+#[inline(always)]
+fn put<W: Write>(
+    writer: &mut W,
+    held: &mut ArrayString<HELD>,
+    text: &str,
+) -> Result<(), FormatError>
+    ensures ok { OnOk result (HandsToWriter (W.contents writer.old) (W.contents writer.new) held.old.bytes held.new.bytes text.now) }
+    ensures beginning { OnErr result (StopsWriter (W.contents writer.old) (W.contents writer.new) held.old.bytes text.now) }
+    ensures err { IfErr result IsWriting }
+{
+    match held.try_push_str(text) {
+        Ok(()) => Ok(()),
+        Err(_) => hand_on(writer, held, text),
+    }
+}
+
+// Puts so many spaces.
+#[inline(always)]
+fn put_spaces<W: Write>(
+    writer: &mut W,
+    held: &mut ArrayString<HELD>,
+    count: usize,
+) -> Result<(), FormatError>
+    ensures ok { OnOk result (HandsToWriter (W.contents writer.old) (W.contents writer.new) held.old.bytes held.new.bytes (spaces count)) }
+    ensures beginning { OnErr result (StopsWriter (W.contents writer.old) (W.contents writer.new) held.old.bytes (spaces count)) }
+    ensures err { IfErr result IsWriting }
+{
+    let mut left = count;
+    while left > 0 {
+        let piece = left.min(100);
+        put(writer, held, some_spaces(piece))?;
+        left -= piece;
+    }
+    Ok(())
+}
+
+// Puts a gap.
+#[inline(always)]
+fn put_gap<W: Write>(
+    writer: &mut W,
+    held: &mut ArrayString<HELD>,
+    gap: Gap,
+) -> Result<(), FormatError>
+    ensures ok { OnOk result (HandsToWriter (W.contents writer.old) (W.contents writer.new) held.old.bytes held.new.bytes (gap_bytes gap)) }
+    ensures beginning { OnErr result (StopsWriter (W.contents writer.old) (W.contents writer.new) held.old.bytes (gap_bytes gap)) }
+    ensures err { IfErr result IsWriting }
+{
+    match gap {
+        Gap::Nothing => Ok(()),
+        Gap::Space => put(writer, held, " "),
+        Gap::Line(indent) if indent <= 100 => put(writer, held, some_line(indent)),
+        Gap::Line(indent) => {
+            put(writer, held, "\n")?;
+            put_spaces(writer, held, indent)
+        }
+        Gap::BlankLine(indent) => {
+            put(writer, held, "\n\n")?;
+            put_spaces(writer, held, indent)
+        }
+    }
+}
+
+// Holds a line end and at most 31 spaces. The bytes are copied in a step of 32, without a call.
+#[inline(always)]
+fn hold_short_line(held: &mut ArrayString<HELD>, indent: usize)
+    requires indent { indent ≤ 31 }
+    requires room { array_string_len held.old + 32 ≤ HELD }
+    ensures { held.new.bytes ≡ held.old.bytes ++ (line_feed ∷ spaces indent) }
+{
+    let end = held.len() + (indent + 1);
+    held.push_str(SHORT_LINE);
+    held.truncate(end);
+}
+
+// Holds a word of a text. Those of one byte or two are copied without a call.
+#[inline(always)]
+fn hold_word(held: &mut ArrayString<HELD>, word: &str)
+    requires { array_string_len held.old + length word.now ≤ HELD }
+    ensures { held.new.bytes ≡ held.old.bytes ++ word.now }
+{
+    match word.len() {
+        1 => held.push_str(word),
+        2 => held.push_str(word),
+        _ => held.push_str(word),
+    }
+}
+
+// Holds a gap, unless it has more bytes than a line end and 100 spaces.
+#[inline(always)]
+fn hold_gap(held: &mut ArrayString<HELD>, gap: Gap) -> bool
+    requires { array_string_len held.old + 101 ≤ HELD }
+    ensures held { MatchBool result (held.new.bytes ≡ held.old.bytes ++ gap_bytes gap) (held.new ≡ held.old) }
+    ensures len { array_string_len held.new ≤ array_string_len held.old + 101 }
+{
+    match gap {
+        Gap::Nothing => {}
+        Gap::Space => held.push_str(" "),
+        Gap::Line(indent) if indent <= 31 => hold_short_line(held, indent),
+        Gap::Line(indent) if indent <= 100 => held.push_str(some_line(indent)),
+        Gap::Line(_) | Gap::BlankLine(_) => return false,
+    }
+    true
+}
+
+// Holds a lexeme.
+#[inline(always)]
+fn hold_lexeme(held: &mut ArrayString<HELD>, lexeme: Lexeme<'_>)
+    requires { array_string_len held.old + length (text_of lexeme) ≤ HELD }
+    ensures { held.new.bytes ≡ held.old.bytes ++ text_of lexeme.entry }
+{
+    match lexeme {
+        Lexeme::OpenObject => held.push_str("{"),
+        Lexeme::CloseObject => held.push_str("}"),
+        Lexeme::OpenArray => held.push_str("["),
+        Lexeme::CloseArray => held.push_str("]"),
+        Lexeme::Comma => held.push_str(","),
+        Lexeme::Colon => held.push_str(":"),
+        Lexeme::String(word) | Lexeme::Word(word) => hold_word(held, word),
+    }
+}
+
+// Holds a gap and the lexeme after it, if there is room for them and the gap is short.
+#[inline(always)]
+fn hold(held: &mut ArrayString<HELD>, gap: Gap, lexeme: Lexeme<'_>) -> bool
+    ensures { MatchBool result (held.new.bytes ≡ held.old.bytes ++ (gap_bytes gap ++ text_of lexeme.entry)) (held.new ≡ held.old) }
+{
+    if held.remaining_capacity() < 101 || held.remaining_capacity() - 101 < lexeme.text().len() {
+        return false;
+    }
+    if !hold_gap(held, gap) {
+        return false;
+    }
+    hold_lexeme(held, lexeme);
+    true
+}
+
+// Holds the lexemes of a layout with their gaps, as long as `hold` does. Answers the first one that it doesn't hold, or `None`
+// where none is left.
+fn hold_some<'a>(held: &mut ArrayString<HELD>, layout: &mut Layout<'a>) -> Option<(Gap, Lexeme<'a>)>
+    ensures held { MatchOption result ((held.new.bytes ≡ held.old.bytes ++ layout.old) × (layout.new ≡ []))
+        (λ next. (done : List ℕ) × (held.new.bytes ≡ held.old.bytes ++ done)
+        × (layout.old ≡ done ++ (gap_bytes next.0 ++ (text_of next.1 ++ layout.new)))) }
+    ensures fewer { IfSome result (λ next. length layout.new < length layout.old) }
+{
+    while let Some((gap, lexeme)) = layout.next() {
+        if !hold(held, gap, lexeme) {
+            return Some((gap, lexeme));
+        }
+    }
+    None
+}
+
+// Puts a layout.
+fn put_layout<W: Write>(
+    writer: &mut W,
+    held: &mut ArrayString<HELD>,
+    layout: &mut Layout<'_>,
+) -> Result<(), FormatError>
+    ensures ok { OnOk result (HandsToWriter (W.contents writer.old) (W.contents writer.new) held.old.bytes held.new.bytes layout.old) }
+    ensures beginning { OnErr result (StopsWriter (W.contents writer.old) (W.contents writer.new) held.old.bytes layout.old) }
+    ensures err { IfErr result IsWriting }
+{
+    while let Some((gap, lexeme)) = hold_some(held, layout) {
+        put_gap(writer, held, gap)?;
+        put(writer, held, lexeme.text())?;
+    }
+    Ok(())
+}
+
+/// Writes a layout and a line feed, or fails after a beginning of them that isn't all.
+pub(crate) fn write_layout<W: Write>(
+    writer: &mut W,
+    layout: &mut Layout<'_>,
+) -> Result<(), FormatError>
+    ensures ok { OnOk result (Appends (W.contents writer.old) (W.contents writer.new) (layout.old ++ line_feed ∷ [])) }
+    ensures beginning { OnErr result (AppendsProperBeginning (W.contents writer.old) (W.contents writer.new) (layout.old ++ line_feed ∷ [])) }
+    ensures err { IfErr result IsWriting }
+{
+    let mut held = ArrayString::new();
+    put_layout(writer, &mut held, layout)?;
+    put(writer, &mut held, "\n")?;
+    write_text(writer, held.as_str().as_bytes())
+}
+
+// Adds so many spaces to a text.
+#[inline(always)]
+fn push_spaces(text: &mut String, count: usize) -> Result<(), AllocError>
+    ensures { OnOk result (string_bytes text.new ≡ string_bytes text.old ++ spaces count) }
+{
+    let mut left = count;
+    while left > 0 {
+        let piece = left.min(100);
+        text.push_str(some_spaces(piece))?;
+        left -= piece;
+    }
+    Ok(())
+}
+
+// Adds a gap to a text.
+#[inline(always)]
+fn push_gap(text: &mut String, gap: Gap) -> Result<(), AllocError>
+    ensures { OnOk result (string_bytes text.new ≡ string_bytes text.old ++ gap_bytes gap) }
+{
+    match gap {
+        Gap::Nothing => Ok(()),
+        Gap::Space => text.push_str(" "),
+        Gap::Line(indent) if indent <= 100 => text.push_str(some_line(indent)),
+        Gap::Line(indent) => {
+            text.push_str("\n")?;
+            push_spaces(text, indent)
+        }
+        Gap::BlankLine(indent) => {
+            text.push_str("\n\n")?;
+            push_spaces(text, indent)
+        }
+    }
+}
+
+// Adds a lexeme to a text.
+#[inline(always)]
+fn push_lexeme(text: &mut String, lexeme: Lexeme<'_>) -> Result<(), AllocError>
+    ensures { OnOk result (string_bytes text.new ≡ string_bytes text.old ++ text_of lexeme.entry) }
+{
+    match lexeme {
+        Lexeme::OpenObject => text.push_str("{"),
+        Lexeme::CloseObject => text.push_str("}"),
+        Lexeme::OpenArray => text.push_str("["),
+        Lexeme::CloseArray => text.push_str("]"),
+        Lexeme::Comma => text.push_str(","),
+        Lexeme::Colon => text.push_str(":"),
+        Lexeme::String(word) | Lexeme::Word(word) => text.push_str(word),
+    }
+}
+
+/// Adds a layout and a line feed to a text, or memory was refused.
+pub(crate) fn push_layout(text: &mut String, layout: &mut Layout<'_>) -> Result<(), AllocError>
+    ensures { OnOk result (string_bytes text.new ≡ string_bytes text.old ++ (layout.old ++ line_feed ∷ [])) }
+{
+    while let Some((gap, lexeme)) = layout.next() {
+        push_gap(text, gap)?;
+        push_lexeme(text, lexeme)?;
+    }
+    text.push_str("\n")
 }

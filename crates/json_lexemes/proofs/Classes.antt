@@ -31,11 +31,13 @@ or_last P x c b p f (inr e) = subst P (sym (eqb-true x c e)) p
 -- a fact of each space, and of each operator
 pub each_space : (P : ℕ → Type 0) → P 32 → P 9 → P 10 → P 13 → (x : ℕ) → is_space x ≡ true → P x
 each_space P a b c d x h =
-    or_last P x 13 _ d (λ i. or_last P x 10 _ c (λ j. or_last P x 9 _ b (λ k. subst P (sym (eqb-true x 32 k)) a) (or_cases _ _ j)) (or_cases _ _ i)) (or_cases _ _ h)
+    or_last P x 13 _ d (λ i. or_last P x 10 _ c (λ j. or_last P x 9 _ b (λ k. subst P (sym (eqb-true x 32 k)) a) (or_cases _ _ j))
+    (or_cases _ _ i)) (or_cases _ _ h)
 
 pub each_operator : (P : ℕ → Type 0) → P 123 → P 125 → P 91 → P 93 → P 58 → P 44 → (x : ℕ) → is_operator x ≡ true → P x
 each_operator P a b c d e f x h =
-    or_last P x 44 _ f (λ i. or_last P x 58 _ e (λ j. or_last P x 93 _ d (λ k. or_last P x 91 _ c (λ l. or_last P x 125 _ b (λ m. subst P (sym (eqb-true x 123 m)) a)
+    or_last P x 44 _ f (λ i. or_last P x 58 _ e (λ j. or_last P x 93 _ d
+    (λ k. or_last P x 91 _ c (λ l. or_last P x 125 _ b (λ m. subst P (sym (eqb-true x 123 m)) a)
     (or_cases _ _ l)) (or_cases _ _ k)) (or_cases _ _ j)) (or_cases _ _ i)) (or_cases _ _ h)
 
 pub class-space : (x : ℕ) → is_space x ≡ true → class x ≡ space

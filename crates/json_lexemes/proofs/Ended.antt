@@ -1,5 +1,6 @@
 -- What a word is does not depend on what is after it, where that is an operator, a space or the end.
-use Rattle.std.proofs.Common.{◌≡◌, ℕ, ◌+◌, ◌-◌, Bool, true, false, cond, ◌&&◌, ◌||◌, ◌==◌, nat_eq, List, [], ◌∷◌, ◌++◌, length, take, drop, Option, Some, None, option_and_then, inl, inr, ◌⊎◌, refl, sym, ap, ap₂, ◌∙◌, subst, arith}
+use Rattle.std.proofs.Common.{◌≡◌, ℕ, ◌+◌, ◌-◌, Bool, true, false, cond, ◌&&◌, ◌||◌, ◌==◌, nat_eq, List, [], ◌∷◌, ◌++◌, length, take}
+use Rattle.std.proofs.Common.{drop, Option, Some, None, option_and_then, inl, inr, ◌⊎◌, refl, sym, ap, ap₂, ◌∙◌, subst, arith}
 use Rattle.std.proofs.lemmas.Bool.{true≢false, false≢true, ne_eqb, or_cases}
 use Rattle.std.proofs.lemmas.List.{length-append, take-append-le, drop-append-le}
 use Rattle.std.proofs.lemmas.List.Sums.{prefix_len-le-length}
@@ -7,7 +8,8 @@ use Rattle.std.specs.Prelude.{⊤}
 use Rattle.std.specs.List.{prefix_len, starts_with}
 use Rattle.std.specs.Char.{is_ascii_digit}
 use Rattle.json.specs.Token.{Token, number, boolean, null, bad}
-use Rattle.json.specs.Word.{is_operator, is_space, head, ends_word, after_digits, after_minus, after_sign, after_whole, after_fraction, after_exponent, after_number, number_before, literal, word}
+use Rattle.json.specs.Word.{is_operator, is_space, head, ends_word, after_digits, after_minus, after_sign, after_whole, after_fraction}
+use Rattle.json.specs.Word.{after_exponent, after_number, number_before, literal, word}
 use Rattle.json_lexemes.proofs.Classes.{each_space, each_operator}
 
 abbrev pub ends : ℕ → Bool
@@ -37,7 +39,8 @@ module _ (rest : List ℕ) (ended : ends_word rest ≡ true) where
   one c [] k e = absurd (false≢true (sym (is_not 32 c refl k) ∙ e))
   one c (x ∷ xs) k e = refl
 
-  either : (a b : ℕ) (t : List ℕ) → ends a ≡ false → ends b ≡ false → ((head t == a) || (head t == b)) ≡ true → drop 1 (t ++ rest) ≡ drop 1 t ++ rest
+  either : (a b : ℕ) (t : List ℕ) → ends a ≡ false → ends b ≡ false → ((head t == a) || (head t == b)) ≡ true →
+      drop 1 (t ++ rest) ≡ drop 1 t ++ rest
   either a b t k l e = go (or_cases _ _ e)
     where
       go : ((head t == a) ≡ true) ⊎ ((head t == b) ≡ true) → drop 1 (t ++ rest) ≡ drop 1 t ++ rest
@@ -51,7 +54,8 @@ module _ (rest : List ℕ) (ended : ends_word rest ≡ true) where
   by_test true false x y p q e f g = absurd (false≢true e)
   by_test false true x y p q e f g = absurd (true≢false e)
 
-  optional : (t : List ℕ) (b c : Bool) → c ≡ b → (b ≡ true → drop 1 (t ++ rest) ≡ drop 1 t ++ rest) → cond c (drop 1 (t ++ rest)) (t ++ rest) ≡ cond b (drop 1 t) t ++ rest
+  optional : (t : List ℕ) (b c : Bool) → c ≡ b → (b ≡ true → drop 1 (t ++ rest) ≡ drop 1 t ++ rest) →
+      cond c (drop 1 (t ++ rest)) (t ++ rest) ≡ cond b (drop 1 t) t ++ rest
   optional t true true e f = f refl
   optional t false false e f = refl
   optional t true false e f = absurd (false≢true e)
@@ -79,7 +83,8 @@ module _ (rest : List ℕ) (ended : ends_word rest ≡ true) where
   whole t = by_test (head t == 48) _ (Some (drop 1 t)) _ _ _ (same_test 48 t refl) (λ e. ap Some (one 48 t refl e)) (digits t)
 
   fraction : (t : List ℕ) → Extends (after_fraction t) (after_fraction (t ++ rest))
-  fraction t = by_test (head t == 46) _ _ (Some t) _ _ (same_test 46 t refl) (λ e. at after_digits (drop 1 t) _ (one 46 t refl e) (digits (drop 1 t))) refl
+  fraction t = by_test (head t == 46) _ _ (Some t) _ _ (same_test 46 t refl)
+      (λ e. at after_digits (drop 1 t) _ (one 46 t refl e) (digits (drop 1 t))) refl
 
   sign : (t : List ℕ) → after_sign (t ++ rest) ≡ after_sign t ++ rest
   sign t = optional t _ _ (ap₂ (λ a b. a || b) (same_test 45 t refl) (same_test 43 t refl)) (either 45 43 t refl refl)
@@ -102,7 +107,8 @@ module _ (rest : List ℕ) (ended : ends_word rest ≡ true) where
 
   whole_number : (t : List ℕ) → Extends (after_number t) (after_number (t ++ rest))
   unfolding after_number
-  whole_number t = then after_exponent exponent _ _ (then after_fraction fraction _ _ (at after_whole (after_minus t) _ (minus t) (whole (after_minus t))))
+  whole_number t = then after_exponent exponent _ _ (then after_fraction fraction _ _
+      (at after_whole (after_minus t) _ (minus t) (whole (after_minus t))))
 
   same_end : (t : List ℕ) → ends_word (t ++ rest) ≡ ends_word t
   same_end [] = ended
@@ -113,7 +119,8 @@ module _ (rest : List ℕ) (ended : ends_word rest ≡ true) where
   same_number t (Some r) p h =
       let n : length (t ++ rest) - length (r ++ rest) ≡ length t - length r = omega (arith, length-append t rest, length-append r rest) in
       ap (number_before (t ++ rest)) h
-      ∙ ap₂ (λ b s. cond b (number s) bad) (same_end r) (ap (λ k. take k (t ++ rest)) n ∙ take-append-le (length t - length r) t rest (omega arith))
+      ∙ ap₂ (λ b s. cond b (number s) bad) (same_end r) (ap (λ k. take k (t ++ rest)) n
+      ∙ take-append-le (length t - length r) t rest (omega arith))
 
   -- ---- literals
 
@@ -131,7 +138,8 @@ module _ (rest : List ℕ) (ended : ends_word rest ≡ true) where
   no_letter : (c : ℕ) (cs r : List ℕ) → ends c ≡ false → ends_word r ≡ true → fits (c ∷ cs) r ≡ false
   no_letter c cs [] k h = refl
   no_letter c cs (x ∷ xs) k h =
-      ap (λ b. (b && starts_with nat_eq xs cs) && ends_word (drop (length cs) xs)) (ne_eqb c x (λ e. true≢false (sym h ∙ ap ends (sym e) ∙ k)))
+      ap (λ b. (b && starts_with nat_eq xs cs) && ends_word (drop (length cs) xs))
+      (ne_eqb c x (λ e. true≢false (sym h ∙ ap ends (sym e) ∙ k)))
 
   same_fit : (name : List ℕ) → AreLetters name → (t : List ℕ) → fits name (t ++ rest) ≡ fits name t
   same_fit [] k [] = ended
@@ -146,5 +154,7 @@ module _ (rest : List ℕ) (ended : ends_word rest ≡ true) where
   unfolding word
   word-ended t = λ i.
       cond (same_test 116 t refl i) (same_literal (116 ∷ 114 ∷ 117 ∷ 101 ∷ []) (boolean true) t (refl, (refl, (refl, (refl, tt)))) i)
-      (cond (same_test 102 t refl i) (same_literal (102 ∷ 97 ∷ 108 ∷ 115 ∷ 101 ∷ []) (boolean false) t (refl, (refl, (refl, (refl, (refl, tt))))) i)
-      (cond (same_test 110 t refl i) (same_literal (110 ∷ 117 ∷ 108 ∷ 108 ∷ []) null t (refl, (refl, (refl, (refl, tt)))) i) (same_number t (after_number t) _ (whole_number t) i)))
+      (cond (same_test 102 t refl i) (same_literal (102 ∷ 97 ∷ 108 ∷ 115 ∷ 101 ∷ []) (boolean false) t
+      (refl, (refl, (refl, (refl, (refl, tt))))) i)
+      (cond (same_test 110 t refl i) (same_literal (110 ∷ 117 ∷ 108 ∷ 108 ∷ []) null t (refl, (refl, (refl, (refl, tt)))) i)
+      (same_number t (after_number t) _ (whole_number t) i)))

@@ -1,5 +1,6 @@
 -- The first lexeme from a place of the text on.
-use Rattle.std.proofs.Common.{◌≡◌, ℕ, suc, ◌+◌, ◌-◌, ◌<◌, ◌≤◌, ◌≢◌, Bool, true, false, ◌==◌, cond, List, [], ◌∷◌, length, take, drop, get_or, inl, inr, ◌⊎◌, refl, sym, ap, ◌∙◌, subst, arith, length-drop}
+use Rattle.std.proofs.Common.{◌≡◌, ℕ, suc, ◌+◌, ◌-◌, ◌<◌, ◌≤◌, ◌≢◌, Bool, true, false, ◌==◌, cond, List, [], ◌∷◌, length, take, drop}
+use Rattle.std.proofs.Common.{get_or, inl, inr, ◌⊎◌, refl, sym, ap, ◌∙◌, subst, arith, length-drop}
 use Rattle.std.proofs.lemmas.Bool.{cases_lt, ne_eqb, or_from}
 use Rattle.std.proofs.lemmas.List.{drop_more, drop_all, length-take-le}
 use Rattle.std.proofs.lemmas.Str.{IsCharBoundary-after_ascii, IsCharBoundary-before_ascii, IsCharBoundary-end}
@@ -9,11 +10,12 @@ use Rattle.json.specs.Lex.{quote, backslash, operator, space, other, class, Mode
 use Rattle.json_lexemes.specs.Lexemes.{lengthened, cut, cut_byte}
 use Rattle.json_lexemes.specs.View.{IsFirst}
 use Rattle.json_lexemes.proofs.Classes.{class-operator, class-space, each_operator, each_space}
-use Rattle.json_lexemes.proofs.Reading.{cut-space}
+use Rattle.json_lexemes.proofs.Sound.{cut-space}
 
 pub no_operator : (x : ℕ) → x ≢ 123 → x ≢ 125 → x ≢ 91 → x ≢ 93 → x ≢ 58 → x ≢ 44 → is_operator x ≡ false
 no_operator x a b c d e f =
-    or_from _ _ (or_from _ _ (or_from _ _ (or_from _ _ (or_from _ _ (ne_eqb x 123 a) (ne_eqb x 125 b)) (ne_eqb x 91 c)) (ne_eqb x 93 d)) (ne_eqb x 58 e)) (ne_eqb x 44 f)
+    or_from _ _ (or_from _ _ (or_from _ _ (or_from _ _ (or_from _ _ (ne_eqb x 123 a) (ne_eqb x 125 b)) (ne_eqb x 91 c)) (ne_eqb x 93 d))
+    (ne_eqb x 58 e)) (ne_eqb x 44 f)
 
 begins_word : (b : Bool) (x : ℕ) (k : Mode → List (List ℕ)) → cut_byte between (cond b backslash other) x k ≡ lengthened x (k in_word)
 begins_word true x k = refl
@@ -22,7 +24,8 @@ begins_word false x k = refl
 cut-begun : (x : ℕ) (r : List ℕ) → x ≢ 34 → is_operator x ≡ false → is_space x ≡ false → cut between (x ∷ r) ≡ lengthened x (cut in_word r)
 unfolding cut
 cut-begun x r q o s =
-    (λ i. cut_byte between (cond (ne_eqb x 34 q i) quote (cond (x == 92) backslash (cond (o i) operator (cond (s i) space other)))) x (λ m. cut m r))
+    (λ i. cut_byte between (cond (ne_eqb x 34 q i) quote (cond (x == 92) backslash (cond (o i) operator (cond (s i) space other)))) x
+    (λ m. cut m r))
     ∙ begins_word (x == 92) x (λ m. cut m r)
 
 module _ (d : List ℕ) (place : ℕ) (lt : place < length d) where
@@ -35,7 +38,8 @@ module _ (d : List ℕ) (place : ℕ) (lt : place < length d) where
         some = omega arith;
         within = omega arith;
         boundary = IsCharBoundary-after_ascii d place utf8 lt (subst (λ y. y < 128) (sym here) (ascii x h));
-        cuts = ap (cut between) (drop_more d place 0 lt ∙ ap (λ y. y ∷ drop (place + 1) d) here) ∙ ap (λ c. cut_byte between c x (λ m. cut m (drop (place + 1) d))) (class-operator x h);
+        cuts = ap (cut between) (drop_more d place 0 lt ∙ ap (λ y. y ∷ drop (place + 1) d) here)
+            ∙ ap (λ c. cut_byte between c x (λ m. cut m (drop (place + 1) d))) (class-operator x h);
       }
     where
       ascii : (y : ℕ) → is_operator y ≡ true → y < 128
@@ -59,7 +63,8 @@ module _ (d : List ℕ) (place : ℕ) (lt : place < length d) where
         ap (λ n. take n (drop place d)) k ∙ ap (take (suc (end - (place + 1)))) (drop_more d place 0 lt)
 
     -- the first byte begins the slice, and what is after it goes on with the rest
-    first_slice : (m : Mode) → cut between (get_or d place 0 ∷ drop (place + 1) d) ≡ lengthened (get_or d place 0) (cut m (drop (place + 1) d))
+    first_slice : (m : Mode) → cut between (get_or d place 0 ∷ drop (place + 1) d)
+        ≡ lengthened (get_or d place 0) (cut m (drop (place + 1) d))
         → cut m (drop (place + 1) d) ≡ tail ∷ cut between (drop end d) → IsCharBoundary d end → IsFirst d place slice
     first_slice m begun rest boundary =
         record {
@@ -70,12 +75,14 @@ module _ (d : List ℕ) (place : ℕ) (lt : place < length d) where
               ∙ (λ i. sym slice_is i ∷ cut between (drop (sym slice_end i) d));
         }
 
-    pub first_string : get_or d place 0 ≡ 34 → cut in_string (drop (place + 1) d) ≡ tail ∷ cut between (drop end d) → IsCharBoundary d end → IsFirst d place slice
+    pub first_string : get_or d place 0 ≡ 34 → cut in_string (drop (place + 1) d) ≡ tail ∷ cut between (drop end d) →
+        IsCharBoundary d end → IsFirst d place slice
     unfolding cut
     first_string q rest boundary =
         first_slice in_string (ap (λ c. cut_byte between c (get_or d place 0) (λ m. cut m (drop (place + 1) d))) (ap class q)) rest boundary
 
-    pub first_word : get_or d place 0 ≢ 34 → is_operator (get_or d place 0) ≡ false → is_space (get_or d place 0) ≡ false → cut in_word (drop (place + 1) d) ≡ tail ∷ cut between (drop end d)
+    pub first_word : get_or d place 0 ≢ 34 → is_operator (get_or d place 0) ≡ false → is_space (get_or d place 0) ≡ false →
+        cut in_word (drop (place + 1) d) ≡ tail ∷ cut between (drop end d)
         → IsCharBoundary d end → IsFirst d place slice
     first_word q o s rest boundary = first_slice in_word (cut-begun (get_or d place 0) (drop (place + 1) d) q o s) rest boundary
 
@@ -84,7 +91,8 @@ module _ (d : List ℕ) (place : ℕ) (lt : place < length d) where
     slice_head = ap head slice_is
 
 -- a text may be cut where it ends, and after an ASCII byte
-pub boundary_after : (d : List ℕ) (from end : ℕ) → IsUtf8 d → end ≤ length d → (end < length d → (from < end) × (get_or d (end - 1) 0 < 128)) → IsCharBoundary d end
+pub boundary_after : (d : List ℕ) (from end : ℕ) → IsUtf8 d → end ≤ length d →
+    (end < length d → (from < end) × (get_or d (end - 1) 0 < 128)) → IsCharBoundary d end
 boundary_after d from end utf8 within closed = go (cases_lt end (length d))
   where
     go : (end < length d) ⊎ (length d ≤ end) → IsCharBoundary d end
@@ -104,7 +112,8 @@ boundary_before d end within small = go (cases_lt end (length d))
 
 -- ---- spaces
 
-pub past_space : (d : List ℕ) (place : ℕ) → place < length d → is_space (get_or d place 0) ≡ true → cut between (drop (place + 1) d) ≡ cut between (drop place d)
+pub past_space : (d : List ℕ) (place : ℕ) → place < length d → is_space (get_or d place 0) ≡ true →
+    cut between (drop (place + 1) d) ≡ cut between (drop place d)
 past_space d place lt e =
     sym (ap (cut between) (drop_more d place 0 lt) ∙ cut-space (get_or d place 0) (drop (place + 1) d) (class-space (get_or d place 0) e))
 
@@ -112,7 +121,8 @@ pub space_ascii : (x : ℕ) → is_space x ≡ true → x < 128
 space_ascii = each_space (λ y. y < 128) (omega arith) (omega arith) (omega arith) (omega arith)
 
 -- a text may be cut after spaces, where it may be cut before them
-pub boundary_past : (d : List ℕ) (from place : ℕ) → IsUtf8 d → IsCharBoundary d from → from ≤ place → place ≤ length d → (from < place → get_or d (place - 1) 0 < 128) → IsCharBoundary d place
+pub boundary_past : (d : List ℕ) (from place : ℕ) → IsUtf8 d → IsCharBoundary d from → from ≤ place → place ≤ length d →
+    (from < place → get_or d (place - 1) 0 < 128) → IsCharBoundary d place
 boundary_past d from place utf8 before le within after = go (cases_lt from place)
   where
     go : (from < place) ⊎ (place ≤ from) → IsCharBoundary d place

@@ -2,11 +2,13 @@
 use Rattle.std.proofs.Common.{◌≡◌, ℕ, Bool, true, false, List, [], ◌∷◌, ◌++◌, Some, refl, sym, subst, append_assoc, append-nil}
 use Rattle.std.specs.Prelude.{⊤}
 use Rattle.json.specs.Token.{Token, begin_object, end_object, begin_array, end_array, key, string, number, boolean, null, bad}
-use Rattle.json.specs.Lex.{Lexeme, token, comma, colon, Place, fresh, after_value, after_comma, after_key, begins_colon, may_begin, may_close, if_allowed, place_token, punctuate, lex, between}
+use Rattle.json.specs.Lex.{Lexeme, token, comma, colon, Place, fresh, after_value, after_comma, after_key, begins_colon, may_begin}
+use Rattle.json.specs.Lex.{may_close, if_allowed, place_token, punctuate, lex, between}
 use Rattle.json.specs.Json as j
-use Rattle.json.specs.Json.{Json, Items, no_items, item, Members, no_members, member, document}
+use Rattle.json.specs.Json.{Json, Items, no_items, item, Members, no_members, member}
 use Rattle.json.specs.Tree.{json_tokens, items_tokens, members_tokens}
-use Rattle.json.proofs.Unique.Spelling.{tokens-document}
+use Rattle.json_validity.specs.Document.{document}
+use Rattle.json_validity.proofs.Documents.{document_tokens}
 
 -- no token is bad
 abbrev AreGood : List Token → Type 0
@@ -33,11 +35,13 @@ abbrev mutual
 
   AreGood-items : (vs : Items) (ts : List Token) → AreGood ts → AreGood (items_tokens vs ++ ts)
   AreGood-items no_items ts h = h
-  AreGood-items (item v vs) ts h = subst AreGood (sym (append_assoc (json_tokens v) (items_tokens vs) ts)) (AreGood-json v (items_tokens vs ++ ts) (AreGood-items vs ts h))
+  AreGood-items (item v vs) ts h = subst AreGood (sym (append_assoc (json_tokens v) (items_tokens vs) ts))
+      (AreGood-json v (items_tokens vs ++ ts) (AreGood-items vs ts h))
 
   AreGood-members : (ms : Members) (ts : List Token) → AreGood ts → AreGood (members_tokens ms ++ ts)
   AreGood-members no_members ts h = h
-  AreGood-members (member k v ms) ts h = subst AreGood (sym (append_assoc (json_tokens v) (members_tokens ms) ts)) (AreGood-json v (members_tokens ms ++ ts) (AreGood-members ms ts h))
+  AreGood-members (member k v ms) ts h = subst AreGood (sym (append_assoc (json_tokens v) (members_tokens ms) ts))
+      (AreGood-json v (members_tokens ms ++ ts) (AreGood-members ms ts h))
 
 -- nothing, or an operator first
 abbrev pub begins_operator : List Lexeme → Bool
@@ -109,8 +113,10 @@ module _ (ls : List Lexeme) (ih : (p : Place) → AreGood (punctuate p ls) → I
   placed p (key s) b h = absurd h
   placed p (string s) true h = (tt, ih after_key (allowed (may_begin p) (key s) _ after_key h))
   placed p (string s) false h = (tt, ih after_value (allowed (may_begin p) (string s) _ after_value h))
-  placed p (number s) b h = let g = allowed (may_begin p) (number s) (λ n. punctuate n ls) after_value h in (after_a_value ls g, ih after_value g)
-  placed p (boolean v) b h = let g = allowed (may_begin p) (boolean v) (λ n. punctuate n ls) after_value h in (after_a_value ls g, ih after_value g)
+  placed p (number s) b h = let g = allowed (may_begin p) (number s) (λ n. punctuate n ls) after_value h in
+      (after_a_value ls g, ih after_value g)
+  placed p (boolean v) b h = let g = allowed (may_begin p) (boolean v) (λ n. punctuate n ls) after_value h in
+      (after_a_value ls g, ih after_value g)
   placed p null b h = let g = allowed (may_begin p) null (λ n. punctuate n ls) after_value h in (after_a_value ls g, ih after_value g)
   placed p bad b h = absurd h
 
@@ -130,4 +136,4 @@ IsSound-punctuate (colon ∷ ls) after_key h = IsSound-punctuate ls fresh h
 pub IsSound-document : (text : List ℕ) (v : Json) → document text ≡ Some v → IsSound (lex between text)
 IsSound-document text v e =
     let good : AreGood (json_tokens v) = subst AreGood (append-nil (json_tokens v)) (AreGood-json v [] tt) in
-    IsSound-punctuate (lex between text) fresh (subst AreGood (sym (tokens-document text v e)) good)
+    IsSound-punctuate (lex between text) fresh (subst AreGood (sym (document_tokens text v e)) good)

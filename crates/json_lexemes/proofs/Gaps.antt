@@ -3,21 +3,21 @@ use Rattle.std.proofs.Common.{◌≡◌, ℕ, true, List, [], ◌∷◌, ◌++�
 use Rattle.json.specs.Word.{is_space}
 use Rattle.json.specs.Lex.{Mode, between, in_word, in_string, in_escape, Class, quote, backslash, operator, space, other, class}
 use Rattle.json_lexemes.specs.Lexemes.{lengthened, cut_byte, cut}
-use Rattle.json_lexemes.specs.Spaced.{IsSpaced}
+use Rattle.json_lexemes.specs.Spaced.{IsSpacedJson}
 use Rattle.json_lexemes.proofs.Classes.{Says, Says-class}
 
 -- the text goes on with what is left of a lexeme, and then with the others
 abbrev GoesOn : List ℕ → List (List ℕ) → Type 0
 GoesOn xs [] = ⊥
-GoesOn xs (s ∷ ss) = (rest : List ℕ) × (xs ≡ s ++ rest) × IsSpaced rest ss
+GoesOn xs (s ∷ ss) = (rest : List ℕ) × (xs ≡ s ++ rest) × IsSpacedJson rest ss
 
 abbrev IsCut : Mode → List ℕ → List (List ℕ) → Type 0
-IsCut between xs ss = IsSpaced xs ss
+IsCut between xs ss = IsSpacedJson xs ss
 IsCut in_word xs ss = GoesOn xs ss
 IsCut in_string xs ss = GoesOn xs ss
 IsCut in_escape xs ss = GoesOn xs ss
 
-space_first : (x : ℕ) (xs : List ℕ) (ss : List (List ℕ)) → is_space x ≡ true → IsSpaced xs ss → IsSpaced (x ∷ xs) ss
+space_first : (x : ℕ) (xs : List ℕ) (ss : List (List ℕ)) → is_space x ≡ true → IsSpacedJson xs ss → IsSpacedJson (x ∷ xs) ss
 space_first x xs [] e h = (e, h)
 space_first x xs (s ∷ ss) e h = (x ∷ h.0, h.1, (e, h.2), ap (λ l. x ∷ l) h.3, h.4)
 
@@ -25,11 +25,12 @@ byte_more : (x : ℕ) (xs : List ℕ) (ss : List (List ℕ)) → GoesOn xs ss �
 byte_more x xs [] h = absurd h
 byte_more x xs (s ∷ ss) h = (h.0, ap (λ l. x ∷ l) h.1, h.2)
 
-byte_first : (x : ℕ) (xs : List ℕ) (ss : List (List ℕ)) → GoesOn xs ss → IsSpaced (x ∷ xs) (lengthened x ss)
+byte_first : (x : ℕ) (xs : List ℕ) (ss : List (List ℕ)) → GoesOn xs ss → IsSpacedJson (x ∷ xs) (lengthened x ss)
 byte_first x xs [] h = absurd h
 byte_first x xs (s ∷ ss) h = ([], h.0, tt, ap (λ l. x ∷ l) h.1, h.2)
 
-one_byte : (m : Mode) (c : Class) (x : ℕ) (xs : List ℕ) (k : Mode → List (List ℕ)) → Says c x → ((n : Mode) → IsCut n xs (k n)) → IsCut m (x ∷ xs) (cut_byte m c x k)
+one_byte : (m : Mode) (c : Class) (x : ℕ) (xs : List ℕ) (k : Mode → List (List ℕ)) → Says c x → ((n : Mode) → IsCut n xs (k n)) →
+    IsCut m (x ∷ xs) (cut_byte m c x k)
 one_byte between quote x xs k e h = byte_first x xs (k in_string) (h in_string)
 one_byte between backslash x xs k e h = byte_first x xs (k in_word) (h in_word)
 one_byte between operator x xs k e h = ([], xs, tt, refl, h between)
@@ -55,5 +56,5 @@ IsCut-cut [] in_string = ([], refl, tt)
 IsCut-cut [] in_escape = ([], refl, tt)
 IsCut-cut (x ∷ xs) m = one_byte m (class x) x xs (λ n. cut n xs) (Says-class x) (IsCut-cut xs)
 
-pub IsSpaced-lexemes : (text : List ℕ) → IsSpaced text (cut between text)
+pub IsSpaced-lexemes : (text : List ℕ) → IsSpacedJson text (cut between text)
 IsSpaced-lexemes text = IsCut-cut text between

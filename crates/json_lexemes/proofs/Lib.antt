@@ -4,7 +4,13 @@ mod Ended
 mod Words
 mod Strings
 mod Following
+mod Sound
 pub mod Reading
 mod Places
+mod Runs
 mod Firsts
 pub mod NotEmpty
+pub mod SpacedLexemes
+mod Spelling
+mod Values
+pub mod Grammar

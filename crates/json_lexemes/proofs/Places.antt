@@ -1,5 +1,6 @@
 -- The cut of a text, between two places of it.
-use Rattle.std.proofs.Common.{◌≡◌, ℕ, ◌+◌, ◌-◌, ◌<◌, ◌≤◌, ◌≢◌, true, false, List, [], ◌∷◌, ◌++◌, length, take, drop, get_or, inl, inr, ◌⊎◌, sym, ap, ap₂, ◌∙◌, subst, arith, append_assoc, append-nil, length-drop, take-append-drop, drop-drop}
+use Rattle.std.proofs.Common.{◌≡◌, ℕ, ◌+◌, ◌-◌, ◌<◌, ◌≤◌, ◌≢◌, true, false, List, [], ◌∷◌, ◌++◌, length, take, drop, get_or, inl, inr}
+use Rattle.std.proofs.Common.{◌⊎◌, sym, ap, ap₂, ◌∙◌, subst, arith, append_assoc, append-nil, length-drop, take-append-drop, drop-drop}
 use Rattle.std.proofs.lemmas.Bool.{or_cases, cases_lt, ne_eqb}
 use Rattle.std.proofs.lemmas.List.{take_more, drop_more, drop_all, take_all, get_or-drop}
 use Rattle.json.specs.Word.{is_operator, is_space, ends_word}
@@ -30,7 +31,8 @@ module _ (d : List ℕ) (from place : ℕ) (le : from ≤ place) where
   rejoined : drop from d ≡ part ++ drop place d
   rejoined =
       let e : from + (place - from) ≡ place = omega arith in
-      sym (ap (λ l. part ++ l) (ap (λ k. drop k d) (sym e) ∙ sym (drop-drop (place - from) from d)) ∙ take-append-drop (place - from) (drop from d))
+      sym (ap (λ l. part ++ l) (ap (λ k. drop k d) (sym e) ∙ sym (drop-drop (place - from) from d))
+      ∙ take-append-drop (place - from) (drop from d))
 
   -- one byte more
   part_more : place < length d → take (place + 1 - from) (drop from d) ≡ part ++ get_or d place 0 ∷ []
@@ -48,7 +50,8 @@ module _ (d : List ℕ) (from place : ℕ) (le : from ≤ place) where
   word_to : IsRun part → ends_word (drop place d) ≡ true → cut in_word (drop from d) ≡ part ∷ cut between (drop place d)
   word_to run ended = ap (cut in_word) rejoined ∙ cut-run part (drop place d) run ended
 
-  pub word_to_byte : place < length d → IsRun part → ends (get_or d place 0) ≡ true → cut in_word (drop from d) ≡ part ∷ cut between (drop place d)
+  pub word_to_byte : place < length d → IsRun part → ends (get_or d place 0) ≡ true →
+      cut in_word (drop from d) ≡ part ∷ cut between (drop place d)
   word_to_byte lt run e = word_to run (ap ends_word (drop_more d place 0 lt) ∙ e)
 
   pub word_to_end : length d ≤ place → IsRun part → cut in_word (drop from d) ≡ part ∷ cut between (drop place d)
@@ -59,17 +62,16 @@ module _ (d : List ℕ) (from place : ℕ) (le : from ≤ place) where
 -- from a place on, what the cut finds in a mode is the rest of the string that goes on at `from`, and what is after it
 abbrev GoesOn : Mode → List ℕ → ℕ → ℕ → Type 0
 GoesOn m d from place =
-    (s : List ℕ) (ss : List (List ℕ)) → cut m (drop place d) ≡ s ∷ ss → cut in_string (drop from d) ≡ (take (place - from) (drop from d) ++ s) ∷ ss
+    (s : List ℕ) (ss : List (List ℕ)) → cut m (drop place d) ≡ s ∷ ss →
+    cut in_string (drop from d) ≡ (take (place - from) (drop from d) ++ s) ∷ ss
 
 -- within a string
 abbrev pub IsInside : List ℕ → ℕ → ℕ → Type 0
 IsInside d from place = GoesOn in_string d from place
 
-pub IsInside-start : (d : List ℕ) (from : ℕ) → IsInside d from from
-IsInside-start d from s ss e = let k : 0 ≡ from - from = omega arith in e ∙ ap (λ n. (take n (drop from d) ++ s) ∷ ss) k
-
 module _ (d : List ℕ) (from place : ℕ) (le : from ≤ place) where
-  one_byte : (m n : Mode) → place < length d → cut m (drop place d) ≡ lengthened (get_or d place 0) (cut n (drop (place + 1) d)) → GoesOn m d from place → GoesOn n d from (place + 1)
+  one_byte : (m n : Mode) → place < length d → cut m (drop place d) ≡ lengthened (get_or d place 0) (cut n (drop (place + 1) d)) →
+      GoesOn m d from place → GoesOn n d from (place + 1)
   one_byte m n lt step h s ss e =
       let x = get_or d place 0 in
       h (x ∷ s) ss (step ∙ ap (lengthened x) e)
@@ -78,13 +80,15 @@ module _ (d : List ℕ) (from place : ℕ) (le : from ≤ place) where
   pub inside_more : place < length d → get_or d place 0 ≢ 34 → get_or d place 0 ≢ 92 → IsInside d from place → IsInside d from (place + 1)
   inside_more lt q b h =
       let x = get_or d place 0 in
-      one_byte in_string in_string lt (ap (cut in_string) (drop_more d place 0 lt) ∙ cut-inside x (drop (place + 1) d) (ne_eqb x 34 q) (ne_eqb x 92 b)) h
+      one_byte in_string in_string lt (ap (cut in_string) (drop_more d place 0 lt)
+      ∙ cut-inside x (drop (place + 1) d) (ne_eqb x 34 q) (ne_eqb x 92 b)) h
 
   escape_more : place < length d → get_or d place 0 ≡ 92 → IsInside d from place → GoesOn in_escape d from (place + 1)
   unfolding cut
   escape_more lt b h =
       one_byte in_string in_escape lt
-      (ap (cut in_string) (drop_more d place 0 lt ∙ ap (λ x. x ∷ drop (place + 1) d) b) ∙ ap (λ x. lengthened x (cut in_escape (drop (place + 1) d))) (sym b)) h
+      (ap (cut in_string) (drop_more d place 0 lt ∙ ap (λ x. x ∷ drop (place + 1) d) b)
+      ∙ ap (λ x. lengthened x (cut in_escape (drop (place + 1) d))) (sym b)) h
 
   escaped_more : place < length d → GoesOn in_escape d from place → IsInside d from (place + 1)
   unfolding cut
@@ -97,21 +101,26 @@ module _ (d : List ℕ) (from place : ℕ) (le : from ≤ place) where
       h s ss (ap (cut in_escape) (drop_all place d past) ∙ sym (ap (cut in_string) (drop_all (place + 1) d (omega arith))) ∙ e)
       ∙ ap (λ l. (l ++ s) ∷ ss) (all place past ∙ sym (all (place + 1) (omega arith)))
 
-  pub closes_here : place < length d → get_or d place 0 ≡ 34 → IsInside d from place → cut in_string (drop from d) ≡ take (place + 1 - from) (drop from d) ∷ cut between (drop (place + 1) d)
+  pub closes_here : place < length d → get_or d place 0 ≡ 34 → IsInside d from place →
+      cut in_string (drop from d) ≡ take (place + 1 - from) (drop from d) ∷ cut between (drop (place + 1) d)
   unfolding cut
   closes_here lt q h =
       let x = get_or d place 0 in
-      h (x ∷ []) (cut between (drop (place + 1) d)) (ap (cut in_string) (drop_more d place 0 lt ∙ ap (λ y. y ∷ drop (place + 1) d) q) ∙ ap (λ y. (y ∷ []) ∷ cut between (drop (place + 1) d)) (sym q))
+      h (x ∷ []) (cut between (drop (place + 1) d)) (ap (cut in_string) (drop_more d place 0 lt ∙ ap (λ y. y ∷ drop (place + 1) d) q)
+      ∙ ap (λ y. (y ∷ []) ∷ cut between (drop (place + 1) d)) (sym q))
       ∙ ap (λ l. l ∷ cut between (drop (place + 1) d)) (sym (part_more d from place le lt))
 
-  pub never_closes : from ≤ length d → length d ≤ place → IsInside d from place → cut in_string (drop from d) ≡ take (length d - from) (drop from d) ∷ cut between (drop (length d) d)
+  pub never_closes : from ≤ length d → length d ≤ place → IsInside d from place →
+      cut in_string (drop from d) ≡ take (length d - from) (drop from d) ∷ cut between (drop (length d) d)
   unfolding cut
   never_closes within past h =
       let all = λ (k : ℕ) (l : length d ≤ k). take_all (k - from) (drop from d) (omega (arith, length-drop from d)) in
       h [] [] (ap (cut in_string) (drop_all place d past))
-      ∙ ap₂ (λ l t. l ∷ cut between t) (append-nil (take (place - from) (drop from d)) ∙ all place past ∙ sym (all (length d) (omega arith))) (sym (drop_all (length d) d (omega arith)))
+      ∙ ap₂ (λ l t. l ∷ cut between t) (append-nil (take (place - from) (drop from d)) ∙ all place past
+      ∙ sym (all (length d) (omega arith))) (sym (drop_all (length d) d (omega arith)))
 
-pub inside_escape : (d : List ℕ) (from place : ℕ) → from ≤ place → place < length d → get_or d place 0 ≡ 92 → IsInside d from place → IsInside d from (place + 2)
+pub inside_escape : (d : List ℕ) (from place : ℕ) → from ≤ place → place < length d → get_or d place 0 ≡ 92 → IsInside d from place →
+    IsInside d from (place + 2)
 inside_escape d from place le lt b h = subst (IsInside d from) two (go (cases_lt (place + 1) (length d)))
   where
     two : place + 1 + 1 ≡ place + 2

@@ -1,11 +1,14 @@
 -- A string in the text: what it says, and where it ends, do not depend on what is after its closing quote.
-use Rattle.std.proofs.Common.{◌≡◌, ℕ, Bool, true, false, cond, ◌&&◌, ◌==◌, nat_lt, List, [], ◌∷◌, ◌++◌, Option, Some, None, option_and_then, inl, inr, ◌⊎◌, refl, sym, ap, ap₂, ◌∙◌, subst, append_assoc}
+use Rattle.std.proofs.Common.{◌≡◌, ℕ, Bool, true, false, cond, ◌&&◌, ◌==◌, nat_lt, List, [], ◌∷◌, ◌++◌, Option, Some, None}
+use Rattle.std.proofs.Common.{option_and_then, inl, inr, ◌⊎◌, refl, sym, ap, ap₂, ◌∙◌, subst, append_assoc}
 use Rattle.std.proofs.lemmas.Bool.{false≢true, eqb-true, and_parts, ne_eqb, cases_Bool}
 use Rattle.std.specs.Char.{is_digit, encode_utf8}
-use Rattle.json.specs.Text.{code_unit, short_escape, is_high_surrogate, is_low_surrogate, surrogate_pair, Within, plain, after_backslash, after_u, after_high, prepend, content}
+use Rattle.json.specs.Text.{code_unit, short_escape, is_high_surrogate, is_low_surrogate, surrogate_pair, Within, plain, after_backslash}
+use Rattle.json.specs.Text.{after_u, after_high, prepend, content}
 use Rattle.json.specs.Word.{is_operator, is_space}
 use Rattle.json.specs.Token.{string}
-use Rattle.json.specs.Lex.{Lexeme, token, string_token, quote, backslash, operator, space, other, Mode, between, in_string, in_escape, lex, lex_byte}
+use Rattle.json.specs.Lex.{Lexeme, token, string_token, quote, backslash, operator, space, other, Mode, between, in_string, in_escape}
+use Rattle.json.specs.Lex.{lex, lex_byte}
 use Rattle.json.proofs.Found.{not_found}
 use Rattle.json_lexemes.specs.Lexemes.{lengthened, cut, cut_byte}
 
@@ -38,7 +41,8 @@ later : (f s : List ℕ) (o : Option (List ℕ)) → prepend f o ≡ Some s → 
 later f s None e = not_found s e
 later f s (Some t) e = (t, refl, cc)
 
-then : {w v : Within} {p f s xs : List ℕ} → Leads w v p f → content w (p ++ xs) ≡ Some s → ((t : List ℕ) → content v xs ≡ Some t → Closed v t xs) → Closed w s (p ++ xs)
+then : {w v : Within} {p f s xs : List ℕ} → Leads w v p f → content w (p ++ xs) ≡ Some s →
+    ((t : List ℕ) → content v xs ≡ Some t → Closed v t xs) → Closed w s (p ++ xs)
 then {w} {v} {p} {f} {s} {xs} leads e closed =
     let t = later f s (content v xs) (sym (leads.read xs) ∙ e) in
     let c = closed t.0 t.1 in
@@ -58,7 +62,8 @@ prepend-nil (Some s) = refl
 -- ---- a byte within a string
 
 passes : (o s : Bool) (x : ℕ) (r : List ℕ) (k : Mode → List Lexeme) (l : Mode → List (List ℕ))
-    → (lex_byte in_string (cond o operator (cond s space other)) x r k ≡ k in_string) × (cut_byte in_string (cond o operator (cond s space other)) x l ≡ lengthened x (l in_string))
+    → (lex_byte in_string (cond o operator (cond s space other)) x r k ≡ k in_string)
+    × (cut_byte in_string (cond o operator (cond s space other)) x l ≡ lengthened x (l in_string))
 passes true s x r k l = (refl, refl)
 passes false true x r k l = (refl, refl)
 passes false false x r k l = (refl, refl)
@@ -67,13 +72,15 @@ module _ (x : ℕ) (r : List ℕ) (q : (x == 34) ≡ false) (b : (x == 92) ≡ f
   pub lex-inside : lex in_string (x ∷ r) ≡ lex in_string r
   unfolding lex
   lex-inside =
-      (λ i. lex_byte in_string (cond (q i) quote (cond (b i) backslash (cond (is_operator x) operator (cond (is_space x) space other)))) x r (λ m. lex m r))
+      (λ i. lex_byte in_string (cond (q i) quote (cond (b i) backslash (cond (is_operator x) operator (cond (is_space x) space other)))) x
+      r (λ m. lex m r))
       ∙ (passes (is_operator x) (is_space x) x r (λ m. lex m r) (λ m. cut m r)).0
 
   pub cut-inside : cut in_string (x ∷ r) ≡ lengthened x (cut in_string r)
   unfolding cut
   cut-inside =
-      (λ i. cut_byte in_string (cond (q i) quote (cond (b i) backslash (cond (is_operator x) operator (cond (is_space x) space other)))) x (λ m. cut m r))
+      (λ i. cut_byte in_string (cond (q i) quote (cond (b i) backslash (cond (is_operator x) operator (cond (is_space x) space other)))) x
+      (λ m. cut m r))
       ∙ (passes (is_operator x) (is_space x) x r (λ m. lex m r) (λ m. cut m r)).1
 
 plain_leads : (x : ℕ) → (x == 34) ≡ false → (x == 92) ≡ false → nat_lt x 32 ≡ false → Leads plain plain (x ∷ []) (x ∷ [])
@@ -129,7 +136,8 @@ module _ (a b c d u : ℕ) (is : code_unit a b c d ≡ Some u) where
 
   lex-unit : (r : List ℕ) → lex in_string (a ∷ b ∷ c ∷ d ∷ r) ≡ lex in_string r
   lex-unit r =
-      (hex_byte a (b ∷ c ∷ d ∷ r) [] [] hex.0).0 ∙ (hex_byte b (c ∷ d ∷ r) [] [] hex.1).0 ∙ (hex_byte c (d ∷ r) [] [] hex.2).0 ∙ (hex_byte d r [] [] hex.3).0
+      (hex_byte a (b ∷ c ∷ d ∷ r) [] [] hex.0).0 ∙ (hex_byte b (c ∷ d ∷ r) [] [] hex.1).0 ∙ (hex_byte c (d ∷ r) [] [] hex.2).0
+      ∙ (hex_byte d r [] [] hex.3).0
 
   cut-unit : (r l : List ℕ) (ls : List (List ℕ)) → cut in_string r ≡ l ∷ ls → cut in_string (a ∷ b ∷ c ∷ d ∷ r) ≡ (a ∷ b ∷ c ∷ d ∷ l) ∷ ls
   cut-unit r l ls e =
@@ -141,7 +149,8 @@ module _ (a b c d u : ℕ) (is : code_unit a b c d ≡ Some u) where
   high_leads high =
       record {
         read = λ r.
-            ap (option_and_then (λ v. cond (is_high_surrogate v) (content (after_high v) r) (cond (is_low_surrogate v) None (prepend (encode_utf8 v) (content plain r))))) is
+            ap (option_and_then (λ v. cond (is_high_surrogate v) (content (after_high v) r)
+            (cond (is_low_surrogate v) None (prepend (encode_utf8 v) (content plain r))))) is
             ∙ ap (λ t. cond t (content (after_high u) r) (cond (is_low_surrogate u) None (prepend (encode_utf8 u) (content plain r)))) high
             ∙ prepend-nil (content (after_high u) r);
         lexed = lex-unit;
@@ -153,13 +162,15 @@ module _ (a b c d u : ℕ) (is : code_unit a b c d ≡ Some u) where
   unit_leads high low =
       record {
         read = λ r.
-            ap (option_and_then (λ v. cond (is_high_surrogate v) (content (after_high v) r) (cond (is_low_surrogate v) None (prepend (encode_utf8 v) (content plain r))))) is
+            ap (option_and_then (λ v. cond (is_high_surrogate v) (content (after_high v) r)
+            (cond (is_low_surrogate v) None (prepend (encode_utf8 v) (content plain r))))) is
             ∙ (λ i. cond (high i) (content (after_high u) r) (cond (low i) None (prepend (encode_utf8 u) (content plain r))));
         lexed = lex-unit;
         cuts = cut-unit;
       }
 
-  low_leads : (h : ℕ) → is_low_surrogate u ≡ true → Leads (after_high h) plain (92 ∷ 117 ∷ a ∷ b ∷ c ∷ d ∷ []) (encode_utf8 (surrogate_pair h u))
+  low_leads : (h : ℕ) → is_low_surrogate u ≡ true → Leads (after_high h) plain (92 ∷ 117 ∷ a ∷ b ∷ c ∷ d ∷ [])
+      (encode_utf8 (surrogate_pair h u))
   unfolding content lex cut
   low_leads h low =
       record {
@@ -183,15 +194,18 @@ at_byte : (x : ℕ) (xs : List ℕ) → Closes plain xs → Closes after_backsla
 unfolding content
 at_byte x xs go_on escaped s e = go (cases_Bool (x == 34)) (cases_Bool (x == 92)) (cases_Bool (nat_lt x 32))
   where
-    go : ((x == 34) ≡ true) ⊎ ((x == 34) ≡ false) → ((x == 92) ≡ true) ⊎ ((x == 92) ≡ false) → (nat_lt x 32 ≡ true) ⊎ (nat_lt x 32 ≡ false) → Closed plain s (x ∷ xs)
+    go : ((x == 34) ≡ true) ⊎ ((x == 34) ≡ false) → ((x == 92) ≡ true) ⊎ ((x == 92) ≡ false) →
+        (nat_lt x 32 ≡ true) ⊎ (nat_lt x 32 ≡ false) → Closed plain s (x ∷ xs)
     go (inl q) b c =
         let is = eqb-true x 34 q in
         subst (λ y. Closed plain s (y ∷ xs)) (sym is) (at_quote s xs (ap (λ y. content plain (y ∷ xs)) (sym is) ∙ e))
     go (inr q) (inl b) c =
         let is = eqb-true x 92 b in
-        subst (λ y. Closed plain s (y ∷ xs)) (sym is) (then {p = 92 ∷ []} backslash_leads (ap (λ y. content plain (y ∷ xs)) (sym is) ∙ e) escaped)
+        subst (λ y. Closed plain s (y ∷ xs)) (sym is) (then {p = 92 ∷ []} backslash_leads
+        (ap (λ y. content plain (y ∷ xs)) (sym is) ∙ e) escaped)
     go (inr q) (inr b) (inl c) =
-        let refused : content plain (x ∷ xs) ≡ None = λ i. cond (q i) (Some []) (cond (b i) (content after_backslash xs) (cond (c i) None (prepend (x ∷ []) (content plain xs)))) in
+        let refused : content plain (x ∷ xs) ≡ None = λ i. cond (q i) (Some [])
+        (cond (b i) (content after_backslash xs) (cond (c i) None (prepend (x ∷ []) (content plain xs)))) in
         not_found s (sym refused ∙ e)
     go (inr q) (inr b) (inr c) = then {p = x ∷ []} (plain_leads x q b c) e go_on
 
@@ -202,9 +216,11 @@ at_escape x xs go_on unit s e = go (cases_Bool (x == 117)) (short_escape x) refl
     go : ((x == 117) ≡ true) ⊎ ((x == 117) ≡ false) → (o : Option ℕ) → short_escape x ≡ o → Closed after_backslash s (x ∷ xs)
     go (inl u) o is =
         let x_is = eqb-true x 117 u in
-        subst (λ y. Closed after_backslash s (y ∷ xs)) (sym x_is) (then {p = 117 ∷ []} u_leads (ap (λ y. content after_backslash (y ∷ xs)) (sym x_is) ∙ e) unit)
+        subst (λ y. Closed after_backslash s (y ∷ xs)) (sym x_is) (then {p = 117 ∷ []} u_leads
+        (ap (λ y. content after_backslash (y ∷ xs)) (sym x_is) ∙ e) unit)
     go (inr u) None is =
-        let refused : content after_backslash (x ∷ xs) ≡ None = λ i. cond (u i) (content after_u xs) (option_and_then (λ c. prepend (c ∷ []) (content plain xs)) (is i)) in
+        let refused : content after_backslash (x ∷ xs) ≡ None = λ i. cond (u i) (content after_u xs)
+        (option_and_then (λ c. prepend (c ∷ []) (content plain xs)) (is i)) in
         not_found s (sym refused ∙ e)
     go (inr u) (Some c) is = then {p = x ∷ []} (short_leads x c u is) e go_on
 
@@ -213,12 +229,15 @@ unfolding content
 at_unit a b c d xs go_on high s e = go (code_unit a b c d) refl
   where
     here : ℕ → Option (List ℕ)
-    here u = cond (is_high_surrogate u) (content (after_high u) xs) (cond (is_low_surrogate u) None (prepend (encode_utf8 u) (content plain xs)))
+    here u = cond (is_high_surrogate u) (content (after_high u) xs) (cond (is_low_surrogate u) None
+        (prepend (encode_utf8 u) (content plain xs)))
 
-    by_unit : (u : ℕ) → code_unit a b c d ≡ Some u → (is_high_surrogate u ≡ true) ⊎ (is_high_surrogate u ≡ false) → (is_low_surrogate u ≡ true) ⊎ (is_low_surrogate u ≡ false) → Closed after_u s (a ∷ b ∷ c ∷ d ∷ xs)
+    by_unit : (u : ℕ) → code_unit a b c d ≡ Some u → (is_high_surrogate u ≡ true) ⊎ (is_high_surrogate u ≡ false) →
+        (is_low_surrogate u ≡ true) ⊎ (is_low_surrogate u ≡ false) → Closed after_u s (a ∷ b ∷ c ∷ d ∷ xs)
     by_unit u is (inl h) l = then {p = a ∷ b ∷ c ∷ d ∷ []} (high_leads a b c d u is h) e (high u)
     by_unit u is (inr h) (inl l) =
-        not_found s (sym (ap (option_and_then here) is ∙ (λ i. cond (h i) (content (after_high u) xs) (cond (l i) None (prepend (encode_utf8 u) (content plain xs))))) ∙ e)
+        not_found s (sym (ap (option_and_then here) is ∙ (λ i. cond (h i) (content (after_high u) xs)
+        (cond (l i) None (prepend (encode_utf8 u) (content plain xs))))) ∙ e)
     by_unit u is (inr h) (inr l) = then {p = a ∷ b ∷ c ∷ d ∷ []} (unit_leads a b c d u is h l) e go_on
 
     go : (o : Option ℕ) → code_unit a b c d ≡ o → Closed after_u s (a ∷ b ∷ c ∷ d ∷ xs)
@@ -232,13 +251,16 @@ at_pair h p u a b c d xs go_on s e = go (cases_Bool ((p == 92) && (u == 117))) (
     here : ℕ → Option (List ℕ)
     here l = cond (is_low_surrogate l) (prepend (encode_utf8 (surrogate_pair h l)) (content plain xs)) None
 
-    by_unit : (l : ℕ) → code_unit a b c d ≡ Some l → content (after_high h) (92 ∷ 117 ∷ a ∷ b ∷ c ∷ d ∷ xs) ≡ Some s → (is_low_surrogate l ≡ true) ⊎ (is_low_surrogate l ≡ false)
+    by_unit : (l : ℕ) → code_unit a b c d ≡ Some l → content (after_high h) (92 ∷ 117 ∷ a ∷ b ∷ c ∷ d ∷ xs) ≡ Some s →
+        (is_low_surrogate l ≡ true) ⊎ (is_low_surrogate l ≡ false)
         → Closed (after_high h) s (92 ∷ 117 ∷ a ∷ b ∷ c ∷ d ∷ xs)
     by_unit l is f (inl low) = then {p = 92 ∷ 117 ∷ a ∷ b ∷ c ∷ d ∷ []} (low_leads a b c d l is h low) f go_on
     by_unit l is f (inr low) =
-        not_found s (sym (ap (option_and_then here) is ∙ ap (λ t. cond t (prepend (encode_utf8 (surrogate_pair h l)) (content plain xs)) None) low) ∙ f)
+        not_found s (sym (ap (option_and_then here) is ∙ ap (λ t. cond t
+        (prepend (encode_utf8 (surrogate_pair h l)) (content plain xs)) None) low) ∙ f)
 
-    go : (((p == 92) && (u == 117)) ≡ true) ⊎ (((p == 92) && (u == 117)) ≡ false) → (o : Option ℕ) → code_unit a b c d ≡ o → Closed (after_high h) s (p ∷ u ∷ a ∷ b ∷ c ∷ d ∷ xs)
+    go : (((p == 92) && (u == 117)) ≡ true) ⊎ (((p == 92) && (u == 117)) ≡ false) → (o : Option ℕ) → code_unit a b c d ≡ o →
+        Closed (after_high h) s (p ∷ u ∷ a ∷ b ∷ c ∷ d ∷ xs)
     go (inr t) o is = not_found s (sym (ap (λ v. cond v (option_and_then here (code_unit a b c d)) None) t) ∙ e)
     go (inl t) None is =
         not_found s (sym (ap (λ v. cond v (option_and_then here (code_unit a b c d)) None) t ∙ ap (option_and_then here) is) ∙ e)
@@ -246,8 +268,10 @@ at_pair h p u a b c d xs go_on s e = go (cases_Bool ((p == 92) && (u == 117))) (
         let both = and_parts _ _ t in
         let p_is = eqb-true p 92 both.0 in
         let u_is = eqb-true u 117 both.1 in
-        subst (λ y. Closed (after_high h) s (y ∷ u ∷ a ∷ b ∷ c ∷ d ∷ xs)) (sym p_is) (subst (λ y. Closed (after_high h) s (92 ∷ y ∷ a ∷ b ∷ c ∷ d ∷ xs)) (sym u_is)
-        (by_unit l is (ap₂ (λ y z. content (after_high h) (y ∷ z ∷ a ∷ b ∷ c ∷ d ∷ xs)) (sym p_is) (sym u_is) ∙ e) (cases_Bool (is_low_surrogate l))))
+        subst (λ y. Closed (after_high h) s (y ∷ u ∷ a ∷ b ∷ c ∷ d ∷ xs)) (sym p_is)
+        (subst (λ y. Closed (after_high h) s (92 ∷ y ∷ a ∷ b ∷ c ∷ d ∷ xs)) (sym u_is)
+        (by_unit l is (ap₂ (λ y z. content (after_high h) (y ∷ z ∷ a ∷ b ∷ c ∷ d ∷ xs)) (sym p_is) (sym u_is) ∙ e)
+        (cases_Bool (is_low_surrogate l))))
 
 closed : (w : Within) (xs : List ℕ) → Closes w xs
 unfolding content

@@ -1,5 +1,6 @@
 -- A word in the text: the lexer and the cut pass over it up to an operator, a space or the end.
-use Rattle.std.proofs.Common.{◌≡◌, ℕ, Bool, true, false, ◌⊎◌, inl, inr, List, [], ◌∷◌, ◌++◌, Option, Some, None, cond, ◌==◌, refl, sym, ap, ap₂, ◌∙◌}
+use Rattle.std.proofs.Common.{◌≡◌, ℕ, Bool, true, false, ◌⊎◌, inl, inr, List, [], ◌∷◌, ◌++◌, Option, Some, None, cond, ◌==◌, refl, sym}
+use Rattle.std.proofs.Common.{ap, ap₂, ◌∙◌}
 use Rattle.std.proofs.lemmas.Bool.{or_parts, cases_Bool, or_cases, true≢false}
 use Rattle.std.specs.Prelude.{⊤}
 use Rattle.json.specs.Token.{Token, begin_object, end_object, begin_array, end_array, key, string, number, boolean, null, bad}
@@ -50,7 +51,8 @@ unfolding cut
 cut-ended [] h = refl
 cut-ended (x ∷ xs) h = go (or_cases _ _ h)
   where
-    go : (is_operator x ≡ true) ⊎ (is_space x ≡ true) → cut_byte in_word (class x) x (λ m. cut m xs) ≡ [] ∷ cut_byte between (class x) x (λ m. cut m xs)
+    go : (is_operator x ≡ true) ⊎ (is_space x ≡ true) → cut_byte in_word (class x) x (λ m. cut m xs) ≡ []
+        ∷ cut_byte between (class x) x (λ m. cut m xs)
     go (inl e) = rw (class-operator x e)
     go (inr e) = rw (class-space x e)
 
@@ -58,16 +60,19 @@ pub cut-run : (w r : List ℕ) → IsRun w → ends_word r ≡ true → cut in_w
 unfolding cut
 cut-run [] r h ended = cut-ended r ended
 cut-run (x ∷ w) r h ended =
-    (stays (class x) x (w ++ r) (λ m. lex m (w ++ r)) (λ m. cut m (w ++ r)) (Says-class x) h.0).1 ∙ ap (lengthened x) (cut-run w r h.1 ended)
+    (stays (class x) x (w ++ r) (λ m. lex m (w ++ r)) (λ m. cut m (w ++ r)) (Says-class x) h.0).1
+    ∙ ap (lengthened x) (cut-run w r h.1 ended)
 
 -- the lexer at a word, before whatever ends it
-pub lex-word : (x : ℕ) (w r : List ℕ) → class x ≡ other → IsRun w → ends_word r ≡ true → lex between ((x ∷ w) ++ r) ≡ token (word (x ∷ w)) ∷ lex between r
+pub lex-word : (x : ℕ) (w r : List ℕ) → class x ≡ other → IsRun w → ends_word r ≡ true →
+    lex between ((x ∷ w) ++ r) ≡ token (word (x ∷ w)) ∷ lex between r
 unfolding lex
 lex-word x w r is run ended =
     ap (λ c. lex_byte between c x (w ++ r) (λ m. lex m (w ++ r))) is
     ∙ ap₂ (λ t l. token t ∷ l) (word-ended r ended (x ∷ w)) (lex-run w r run ∙ in_word-ended r ended)
 
-pub cut-word : (x : ℕ) (w r : List ℕ) → class x ≡ other → IsRun w → ends_word r ≡ true → cut between ((x ∷ w) ++ r) ≡ (x ∷ w) ∷ cut between r
+pub cut-word : (x : ℕ) (w r : List ℕ) → class x ≡ other → IsRun w → ends_word r ≡ true →
+    cut between ((x ∷ w) ++ r) ≡ (x ∷ w) ∷ cut between r
 unfolding cut
 cut-word x w r is run ended = ap (λ c. cut_byte between c x (λ m. cut m (w ++ r))) is ∙ ap (lengthened x) (cut-run w r run ended)
 

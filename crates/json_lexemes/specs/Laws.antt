@@ -1,18 +1,37 @@
 -- What holds of the lexemes of a text.
-use Rattle.std.specs.Prelude.{◌≡◌, ◌≢◌, ℕ, List, [], Some, All}
-use Rattle.json.specs.Json.{Json, document}
+use Rattle.std.specs.Prelude.{◌≡◌, ◌≢◌, ℕ, List, [], ◌++◌, Some, All}
+use Rattle.json.specs.Json.{Json}
+use Rattle.json_validity.specs.Document.{document}
 use Rattle.json_lexemes.specs.Lexemes.{lexemes}
-use Rattle.json_lexemes.specs.Spaced.{IsSpaced}
+use Rattle.json_lexemes.specs.Spaced.{IsGap, IsSpacedJson}
+use Rattle.json_lexemes.specs.SpacedLexemes.{AreGaps, lexemes_of, put_together, spaced_lexemes}
+use Rattle.json_lexemes.specs.Grammar.{SpellValue}
 
 -- a text is its lexemes with gaps around them
 abbrev pub TextsAreSpacedLexemes : Type 0
-TextsAreSpacedLexemes = (text : List ℕ) → IsSpaced text (lexemes text)
+TextsAreSpacedLexemes = (text : List ℕ) → IsSpacedJson text (lexemes text)
 
 -- no lexeme is empty
 abbrev pub LexemesAreNotEmpty : Type 0
 LexemesAreNotEmpty = (text : List ℕ) → All (λ s. s ≢ []) (lexemes text)
 
+-- lexemes with their gaps are the text, but for the gap at its end
+abbrev pub TextsAreJoined : Type 0
+TextsAreJoined = (text : List ℕ) → (last : List ℕ) × IsGap last × (text ≡ put_together (spaced_lexemes text) ++ last)
+
+-- these gaps are spaces alone
+abbrev pub GapsAreSpaces : Type 0
+GapsAreSpaces = (text : List ℕ) → AreGaps (spaced_lexemes text)
+
+-- without them the lexemes are those of the text
+abbrev pub SpacedAreLexemes : Type 0
+SpacedAreLexemes = (text : List ℕ) → lexemes_of (spaced_lexemes text) ≡ lexemes text
+
 -- the lexemes of a text that is a value, with gaps around them, are the same value and have the same lexemes
 abbrev pub GapsKeepReadings : Type 0
 GapsKeepReadings =
-    (a b : List ℕ) (j : Json) → document a ≡ Some j → IsSpaced b (lexemes a) → (document b ≡ Some j) × (lexemes b ≡ lexemes a)
+    (a b : List ℕ) (j : Json) → document a ≡ Some j → IsSpacedJson b (lexemes a) → (document b ≡ Some j) × (lexemes b ≡ lexemes a)
+
+-- the lexemes of a text that is a value spell a value
+abbrev pub LexemesSpellValues : Type 0
+LexemesSpellValues = (text : List ℕ) (j : Json) → document text ≡ Some j → SpellValue (lexemes text)

@@ -1,5 +1,8 @@
 pub mod Lexemes
 pub mod Spaced
+pub mod SpacedLexemes
+pub mod Grammar
 pub mod Laws
 pub mod View
 pub mod Lexer
+pub mod Words

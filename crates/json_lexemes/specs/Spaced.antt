@@ -8,7 +8,7 @@ IsGap [] = ⊤
 IsGap (x ∷ xs) = (is_space x ≡ true) × IsGap xs
 
 -- bytes that are these texts in their order, with gaps before, between and after them, any of which may be empty
-abbrev pub IsSpaced : List ℕ → List (List ℕ) → Type 0
-IsSpaced bytes [] = IsGap bytes
-IsSpaced bytes (s ∷ ss) =
-    (g : List ℕ) × (rest : List ℕ) × IsGap g × (bytes ≡ g ++ (s ++ rest)) × IsSpaced rest ss
+abbrev pub IsSpacedJson : List ℕ → List (List ℕ) → Type 0
+IsSpacedJson bytes [] = IsGap bytes
+IsSpacedJson bytes (s ∷ ss) =
+    (g : List ℕ) × (rest : List ℕ) × IsGap g × (bytes ≡ g ++ (s ++ rest)) × IsSpacedJson rest ss

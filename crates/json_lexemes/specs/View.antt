@@ -6,7 +6,8 @@ use Rattle.json.specs.Word.{head, ends_word}
 use Rattle.json.specs.Lex.{between}
 use Rattle.json_lexemes.specs.Lexemes.{cut}
 use Rattle.json_lexemes.specs.declared.lexeme.Lexeme.{Lexeme}
-use Rattle.json_lexemes.specs.declared.lexeme.Lexeme.TheVariants.{OpenObject, CloseObject, OpenArray, CloseArray, Comma, Colon, String, Word}
+use Rattle.json_lexemes.specs.declared.lexeme.Lexeme.TheVariants.{OpenObject, CloseObject, OpenArray, CloseArray, Comma, Colon, String}
+use Rattle.json_lexemes.specs.declared.lexeme.Lexeme.TheVariants.{Word}
 
 -- how a lexeme is spelled
 abbrev pub text_of : Lexeme → List ℕ

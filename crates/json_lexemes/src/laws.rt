@@ -1,4 +1,5 @@
-ghost use Rattle.json_lexemes.specs.Laws.{GapsKeepReadings, LexemesAreNotEmpty, TextsAreSpacedLexemes};
+ghost use Rattle.json_lexemes.specs.Laws.{GapsAreSpaces, SpacedAreLexemes, TextsAreJoined};
+ghost use Rattle.json_lexemes.specs.Laws.{GapsKeepReadings, LexemesAreNotEmpty, LexemesSpellValues, TextsAreSpacedLexemes};
 
 /// A text is its lexemes in their order, with nothing but spaces before, between and after them. No lexeme is empty.
 pub fn law_spacing()
@@ -6,8 +7,23 @@ pub fn law_spacing()
     ensures some { LexemesAreNotEmpty }
 {}
 
+/// The lexemes with their gaps are the text, put together, but for the spaces at its end. Each gap is spaces alone, and the
+/// lexemes are those of the text.
+pub fn law_joined()
+    ensures joined { TextsAreJoined }
+    ensures spaces { GapsAreSpaces }
+    ensures lexemes { SpacedAreLexemes }
+{}
+
 /// The lexemes of a text that is a JSON value, with any spaces around them or none, are a text of the same value, and of
 /// the same lexemes.
 pub fn law_reading()
     ensures { GapsKeepReadings }
+{}
+
+/// The lexemes of a text that is a JSON value spell a value: a string, a number or a literal alone; or brackets with
+/// values in them and a comma between each two, where in braces a key and a colon come before each. Brackets nest no
+/// deeper than 100,000.
+pub fn law_grammar()
+    ensures { LexemesSpellValues }
 {}

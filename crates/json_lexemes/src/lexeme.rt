@@ -24,7 +24,7 @@ impl<'a> Lexeme<'a> {
     ghost use Rattle.json_lexemes.specs.View.{text_of};
 
     /// The lexeme as it is spelled.
-    #[inline]
+    #[inline(always)]
     pub fn text(self) -> &'a str
         ensures { result.now ≡ text_of self.entry }
     {

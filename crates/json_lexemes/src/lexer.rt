@@ -32,6 +32,17 @@ impl<'a> Lexer<'a> {
     {
         Lexer { text, place: 0 }
     }
+
+    /// Another lexer, which hands out the same lexemes.
+    #[inline]
+    pub fn again(&self) -> Lexer<'a>
+        ensures { result ≡ self.now }
+    {
+        Lexer {
+            text: self.text,
+            place: self.place,
+        }
+    }
 }
 
 impl<'a> Iterator for Lexer<'a> {
@@ -44,6 +55,7 @@ impl<'a> Iterator for Lexer<'a> {
 
     ghost remaining = { item_count (λ left. left) };
 
+    #[inline(always)]
     fn next(&mut self) -> Option<Lexeme<'a>> {
         let text = self.text;
         let place = spaces_end(text.as_bytes(), self.place);

@@ -1,7 +1,9 @@
 -- How messages name what was expected.
 use Rattle.std.specs.Prelude.{ℕ, List, codes}
 use Rattle.jsonfmt_request.specs.declared.expected.Expected.{Expected}
-use Rattle.jsonfmt_request.specs.declared.expected.Expected.TheVariants.{Utf8, Value, ValueOrBracket, Key, KeyOrBrace, Colon, CommaOrBracket, CommaOrBrace, End, Quote, Escapes, LessNesting}
+use Rattle.jsonfmt_request.specs.declared.expected.Expected.TheVariants.{Utf8, Value, ValueOrBracket, Key, KeyOrBrace, Colon}
+use Rattle.jsonfmt_request.specs.declared.expected.Expected.TheVariants.{CommaOrBracket, CommaOrBrace, End, Quote, Escape, Pair, Control}
+use Rattle.jsonfmt_request.specs.declared.expected.Expected.TheVariants.{LessNesting}
 
 -- the name
 abbrev pub name_of : Expected → List ℕ
@@ -15,5 +17,7 @@ name_of CommaOrBracket = codes "`,` or `]`"
 name_of CommaOrBrace = codes "`,` or `}`"
 name_of End = codes "the end of the text"
 name_of Quote = codes "a closing quote"
-name_of Escapes = codes "a string with valid escapes and no control characters"
-name_of LessNesting = codes "at most 128 levels of nesting"
+name_of Escape = codes "a valid escape"
+name_of Pair = codes "both halves of a surrogate pair"
+name_of Control = codes "an escape for a control character"
+name_of LessNesting = codes "at most 100,000 levels of nesting"

@@ -1,7 +1,8 @@
 -- What may come next in a JSON text.
 use Rattle.std.specs.Prelude.{Bool, true, false, Option, Some, None}
 use Rattle.jsonfmt_request.specs.declared.expected.Expected.{Expected}
-use Rattle.jsonfmt_request.specs.declared.expected.Expected.TheVariants.{Value, ValueOrBracket, Key, KeyOrBrace, Colon, CommaOrBracket, CommaOrBrace, End}
+use Rattle.jsonfmt_request.specs.declared.expected.Expected.TheVariants.{Value, ValueOrBracket, Key, KeyOrBrace, Colon, CommaOrBracket}
+use Rattle.jsonfmt_request.specs.declared.expected.Expected.TheVariants.{CommaOrBrace, End}
 use Rattle.jsonfmt_request.specs.declared.grammar.Bracket.{Bracket}
 use Rattle.jsonfmt_request.specs.declared.grammar.Bracket.TheVariants.{Array, Object}
 
@@ -12,10 +13,10 @@ after_value (Some Object) = CommaOrBrace
 after_value None = End
 
 -- a value may come
-abbrev pub is_value : Expected → Bool
-is_value Value = true
-is_value ValueOrBracket = true
-is_value _ = false
+abbrev pub expects_value : Expected → Bool
+expects_value Value = true
+expects_value ValueOrBracket = true
+expects_value _ = false
 
 -- a key may come
 abbrev pub is_key : Expected → Bool

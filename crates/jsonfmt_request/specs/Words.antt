@@ -6,7 +6,9 @@ use Rattle.jsonfmt_request.specs.declared.request.Request.{Request}
 
 -- the command
 abbrev pub jsonfmt : App
-jsonfmt = with_files (with_rule (with_numbers (program (codes "jsonfmt"))) (flag (codes "fill")))
+jsonfmt =
+    with_files
+    (with_rule (with_rule (with_numbers (program (codes "jsonfmt"))) (flag (codes "fill"))) (flag (codes "keep-blank-lines")))
 
 -- what `clap` reads in the words, of which the first names the program
 unfoldable pub matches : List Text → List Row
@@ -17,8 +19,9 @@ unfoldable pub faults : List Text → Kinds
 faults words = fault_of jsonfmt words
 
 -- What is asked for.
-pub record AsksFor (rows : List Row) (asked : Request) : Type 0 where
+pub record AsksForJson (rows : List Row) (asked : Request) : Type 0 where
   pub width : IsWidth rows asked.style.width
   pub indent : IsIndent rows asked.style.indent
   pub fill : asked.style.fill ≡ has_flag (codes "fill") rows
+  pub blank_lines : asked.style.blank_lines ≡ has_flag (codes "keep-blank-lines") rows
   pub task : IsTask rows asked.task

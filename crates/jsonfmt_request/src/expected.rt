@@ -25,8 +25,12 @@ pub enum Expected {
     End,
     /// The quote that ends a string.
     Quote,
-    /// A string of characters and escapes that JSON allows.
-    Escapes,
+    /// A backslash with what JSON has after it.
+    Escape,
+    /// The escape that is the other half of a surrogate pair.
+    Pair,
+    /// An escape in place of a control character.
+    Control,
     /// An array or an object that is less deep within others.
     LessNesting,
 }
@@ -47,8 +51,10 @@ impl Expected {
             Expected::CommaOrBrace => "`,` or `}`",
             Expected::End => "the end of the text",
             Expected::Quote => "a closing quote",
-            Expected::Escapes => "a string with valid escapes and no control characters",
-            Expected::LessNesting => "at most 128 levels of nesting",
+            Expected::Escape => "a valid escape",
+            Expected::Pair => "both halves of a surrogate pair",
+            Expected::Control => "an escape for a control character",
+            Expected::LessNesting => "at most 100,000 levels of nesting",
         }
     }
 }

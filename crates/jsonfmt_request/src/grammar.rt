@@ -1,10 +1,12 @@
 //! What may come next in a JSON text, lexeme by lexeme.
 ghost use Rattle.std.specs.Prelude.{◌≡◌};
-ghost use Rattle.jsonfmt_request.specs.Grammar.{after_colon, after_comma, after_value, closes_array, closes_object, is_key, is_value};
+ghost use Rattle.jsonfmt_request.specs.Grammar.{after_colon, after_comma, after_value, closes_array, closes_object, is_key, expects_value};
 
 use crate::expected::Expected;
-use json::{MAX_DEPTH, Scratch, is_valid};
+use crate::string::refused_part;
+use json::{Scratch, is_valid};
 use json_lexemes::Lexeme;
+use json_validity::MAX_DEPTH;
 use std::alloc::{AllocError, Global};
 
 /// What stays open until its bracket comes.
@@ -27,7 +29,7 @@ fn after_value(innermost: Option<Bracket>) -> Expected
 
 /// Whether a value may come.
 fn is_value(next: Expected) -> bool
-    ensures { result ≡ is_value next }
+    ensures { result ≡ expects_value next }
 {
     matches!(next, Expected::Value | Expected::ValueOrBracket)
 }
@@ -74,10 +76,36 @@ fn after_colon(next: Expected) -> Option<Expected>
     }
 }
 
+/// A bracket that is open.
+#[derive(Clone, Copy, Drop)]
+struct Open {
+    bracket: Bracket,
+    /// Where it stands in the text, in bytes.
+    offset: usize,
+}
+
+impl Open {
+    fn new(bracket: Bracket, offset: usize) -> Open {
+        Open { bracket, offset }
+    }
+}
+
+/// How many bytes of a word are letters, digits and what else numbers have, from its beginning on.
+fn plain_len(word: &str) -> usize {
+    let mut len = 0usize;
+    for byte in word.as_bytes() {
+        if !byte.is_ascii_alphanumeric() && !matches!(*byte, b'+' | b'-' | b'.' | b'_') {
+            break;
+        }
+        len = len.saturating_add(1);
+    }
+    len
+}
+
 /// The lexemes that were read so far: the brackets that they left open, and what is to come next.
 #[derive(Drop)]
 pub(crate) struct Reading {
-    open: Vec<Bracket>,
+    open: Vec<Open>,
     pub next: Expected,
     scratch: Scratch<Global>,
 }
@@ -93,14 +121,30 @@ impl Reading {
         }
     }
 
-    fn open(&mut self, bracket: Bracket, next: Expected) -> Result<Option<Expected>, AllocError> {
+    /// The innermost bracket that is open.
+    pub fn innermost(&self) -> Option<Bracket> {
+        match self.open.last() {
+            Some(open) => Some(open.bracket),
+            None => None,
+        }
+    }
+
+    /// Where that stands, in bytes.
+    pub fn opened(&self) -> Option<usize> {
+        match self.open.last() {
+            Some(open) => Some(open.offset),
+            None => None,
+        }
+    }
+
+    fn open(&mut self, open: Open, next: Expected) -> Result<Option<Expected>, AllocError> {
         if !is_value(self.next) {
             return Ok(Some(self.next));
         }
         if self.open.len() >= MAX_DEPTH {
             return Ok(Some(Expected::LessNesting));
         }
-        self.open.push(bracket)?;
+        self.open.push(open)?;
         self.next = next;
         Ok(None)
     }
@@ -110,7 +154,7 @@ impl Reading {
             return Some(self.next);
         }
         self.open.pop();
-        self.next = after_value(self.open.last().copied());
+        self.next = after_value(self.innermost());
         None
     }
 
@@ -129,7 +173,7 @@ impl Reading {
         if !is_value(self.next) {
             return Ok(Some(self.next));
         }
-        let next = after_value(self.open.last().copied());
+        let next = after_value(self.innermost());
         self.leaf(text, next)
     }
 
@@ -141,20 +185,45 @@ impl Reading {
         }
         Ok(Some(if !text.starts_with('"') {
             self.next
-        } else if text.len() > 1 && text.ends_with('"') {
-            Expected::Escapes
         } else {
-            Expected::Quote
+            match refused_part(text) {
+                Some(part) => part.expected,
+                None => Expected::Quote,
+            }
         }))
     }
 
-    /// Takes one lexeme. Where it may not stand here, what was expected is given.
+    /// How long the value is that a longer word begins with, in bytes, and what may follow it. `None` where a word that JSON does
+    /// not have begins with none, or where no value may come.
     ///
     /// `AllocError` where memory is refused.
-    pub fn step(&mut self, lexeme: Lexeme<'_>) -> Result<Option<Expected>, AllocError> {
+    pub fn value_in(&mut self, word: &str) -> Result<Option<(usize, Expected)>, AllocError> {
+        let len = plain_len(word);
+        let value = word.get(..len).unwrap_or("");
+        if is_value(self.next) && is_valid(value, &mut self.scratch)? {
+            Ok(Some((len, after_value(self.innermost()))))
+        } else {
+            Ok(None)
+        }
+    }
+
+    /// Takes one lexeme, which begins at this offset. Where it may not stand here, what was expected is given.
+    ///
+    /// `AllocError` where memory is refused.
+    pub fn step(
+        &mut self,
+        lexeme: Lexeme<'_>,
+        offset: usize,
+    ) -> Result<Option<Expected>, AllocError> {
         match lexeme {
-            Lexeme::OpenArray => self.open(Bracket::Array, Expected::ValueOrBracket),
-            Lexeme::OpenObject => self.open(Bracket::Object, Expected::KeyOrBrace),
+            Lexeme::OpenArray => self.open(
+                Open::new(Bracket::Array, offset),
+                Expected::ValueOrBracket,
+            ),
+            Lexeme::OpenObject => self.open(
+                Open::new(Bracket::Object, offset),
+                Expected::KeyOrBrace,
+            ),
             Lexeme::CloseArray => Ok(self.close(closes_array(self.next))),
             Lexeme::CloseObject => Ok(self.close(closes_object(self.next))),
             Lexeme::Comma => Ok(self.pass(after_comma(self.next))),

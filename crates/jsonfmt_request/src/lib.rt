@@ -5,3 +5,4 @@ pub mod expected;
 pub mod fault;
 mod grammar;
 pub mod request;
+mod string;

@@ -1,2 +1,6 @@
 pub use Rattle.prettyless_alloc.proofs.ShownItems
+pub use Rattle.prettyless_laws.proofs.Inline
+pub use Rattle.prettyless_laws.proofs.LineEnds
+pub use Rattle.prettyless_laws.proofs.NeverFlat
+pub use Rattle.prettyless_laws.proofs.Sequences
 pub use Rattle.prettyless_model.proofs.SpacedTexts

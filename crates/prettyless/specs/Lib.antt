@@ -16,6 +16,7 @@ pub use Rattle.prettyless_doc.specs.Small
 pub use Rattle.prettyless_doc.specs.TextBytes
 pub use Rattle.prettyless_doc.specs.Tree
 pub use Rattle.prettyless_laws.specs.FlatLines
+pub use Rattle.prettyless_laws.specs.Parts
 pub use Rattle.prettyless_laws.specs.Regrouped
 pub use Rattle.prettyless_laws.specs.Rows
 pub use Rattle.prettyless_laws.specs.TotalTrees

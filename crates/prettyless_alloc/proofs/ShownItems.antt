@@ -1,25 +1,33 @@
 -- What the document of each call shows. For each call there is one lemma, `CALL_shows`: what the call makes of documents shows
 -- items made of theirs.
-use Rattle.std.proofs.Common.{◌≡◌, refl, sym, ◌∙◌, ap, subst, arith, ℕ, zero, ◌<◌, length, ℤ, pos, List, [], ◌∷◌, ◌++◌, map, append_assoc, append-nil, inl, inr, Bool, true, false, if◌then◌else◌}
+use Rattle.std.proofs.Common.{◌≡◌, refl, sym, ◌∙◌, ap, subst, arith, ℕ, zero, ◌<◌, length, ℤ, pos, List, [], ◌∷◌, ◌++◌, map, append_assoc}
+use Rattle.std.proofs.Common.{append-nil, inl, inr, Bool, true, false, if◌then◌else◌}
 use Rattle.std.specs.Prelude.{⊤}
 use Rattle.std.specs.List.{AllZip, fold}
 use Rattle.prettyless_model.specs.Metrics.{is_ascii}
-use Rattle.prettyless_model.specs.Shows.{Reach, NoGap, SameLine, AnyLine, Least, Nothing, Spacing, LineEnd, EndsLine, Item, Shown, Gap, Mark, Late, spaced, apart, ended, loose, IsWeaker, Implies, NoneIsLate, TextShows, EitherShows, shows, texts, AreFixed, HasTexts, Place, at_start, after_text, with_gap, ShowsFrom}
+use Rattle.prettyless_model.specs.Shows.{Reach, NoGap, SameLine, AnyLine, Least, Nothing, Spacing, LineEnd, EndsLine, Item, Shown, Gap}
+use Rattle.prettyless_model.specs.Shows.{Mark, Late, spaced, apart, ended, loose, IsWeaker, Implies, NoneIsLate, TextShows, EitherShows}
+use Rattle.prettyless_model.specs.Shows.{shows, texts, AreFixed, HasTexts, Place, at_start, after_text, with_gap, ShowsFrom}
 use Rattle.prettyless_model.specs.declared.choice.ColumnTest.{ColumnTest}
 use Rattle.prettyless_model.specs.declared.choice.NestingTest.{NestingTest}
 use Rattle.prettyless_model.proofs.Implied.{implies_same}
 use Rattle.prettyless_doc.specs.Counted as counted
 use Rattle.prettyless_doc.specs.Lines.{line, line_, space}
-use Rattle.prettyless_doc.specs.Tree.{Tree, Nil, Fail, Text, TextWithLen, MultilineText, WeakSpace, HardLine, WeakLine, Append, LineSuffix, Nest, DedentToRoot, Align, ExpandParent, Flatten, BreakOrFlat, Group, Union, PartialUnion, OnColumn, OnNesting}
-use Rattle.prettyless_build.specs.Built.{align, append, append_to, as_line_suffix, between, chain, dedent_to_root, enclose, flatten, group, nest, nest_by, repeat, softline, softline_}
+use Rattle.prettyless_doc.specs.Tree.{Tree, Nil, Fail, Text, TextWithLen, MultilineText, WeakSpace, HardLine, WeakLine, Append, LineSuffix}
+use Rattle.prettyless_doc.specs.Tree.{Nest, DedentToRoot, Align, ExpandParent, Flatten, BreakOrFlat, Group, Union, PartialUnion, OnColumn}
+use Rattle.prettyless_doc.specs.Tree.{OnNesting}
+use Rattle.prettyless_build.specs.Built.{align, append, append_to, as_line_suffix, between, chain, dedent_to_root, enclose, flatten, group}
+use Rattle.prettyless_build.specs.Built.{nest, nest_by, repeat, softline, softline_}
 use Rattle.prettyless_alloc.specs.Lists.{change_all_but_last}
-use Rattle.prettyless_alloc.specs.Shown.{text_items, after_gaps, with_gaps, in_lines, TextsShow, SeparatedShow, PunctuatedShow, BracketedShow, MarksStandInGaps}
+use Rattle.prettyless_alloc.specs.Shown.{text_items, after_gaps, with_gaps, in_lines, TextsShow, SeparatedShow, PunctuatedShow}
+use Rattle.prettyless_alloc.specs.Shown.{BracketedShow, MarksStandInGaps}
 use Rattle.prettyless_alloc.specs.SpacedItems.{IsSpacedFrom, FixedAreSpaced}
 use Rattle.prettyless_alloc.specs.Words.{intersperse}
 
 -- ---- texts
 
-counted_shows : (by_bytes : Bool) (w : ℕ) (s : List ℕ) (items : List Item) → TextShows s items → shows (if by_bytes then Text s else TextWithLen w s) items
+counted_shows : (by_bytes : Bool) (w : ℕ) (s : List ℕ) (items : List Item) → TextShows s items
+    → shows (if by_bytes then Text s else TextWithLen w s) items
 counted_shows true w s items h = h
 counted_shows false w s items h = h
 
@@ -101,12 +109,14 @@ pub append_shows : (x y : Tree) (xs ys : List Item) → shows x xs → shows y y
 append_shows Nil y xs ys h k = subst (shows y) (sym (ap (λ (zs : List Item). zs ++ ys) h)) k
 append_shows x y xs ys h k = append_to_shows x y xs ys h k
 
-pub enclose_shows : (before x after : Tree) (first xs last : List Item) → shows before first → shows x xs → shows after last → shows (enclose before x after) ((first ++ xs) ++ last)
+pub enclose_shows : (before x after : Tree) (first xs last : List Item) → shows before first → shows x xs → shows after last
+    → shows (enclose before x after) ((first ++ xs) ++ last)
 enclose_shows before x after first xs last h j k =
     append_shows (append before x) after (first ++ xs) last (append_shows before x first xs h j) k
 
 -- between two characters
-pub between_shows : (b a : ℕ) (x : Tree) (xs : List Item) → shows x xs → shows (between b a x) (Shown (b ∷ []) ∷ (xs ++ Shown (a ∷ []) ∷ []))
+pub between_shows : (b a : ℕ) (x : Tree) (xs : List Item) → shows x xs
+    → shows (between b a x) (Shown (b ∷ []) ∷ (xs ++ Shown (a ∷ []) ∷ []))
 between_shows b a x xs h =
     enclose_shows (Text (b ∷ [])) x (Text (a ∷ [])) (Shown (b ∷ []) ∷ []) xs (Shown (a ∷ []) ∷ []) (inl refl) h (inl refl)
 
@@ -142,23 +152,29 @@ line_suffix_shows x items h n = (items, h, n, refl)
 
 -- ---- alternatives
 
-either : (x y : Tree) (xs ys items : List Item) → shows x xs → shows y ys → Implies xs items → Implies ys items → EitherShows (λ zs. shows x zs) (λ zs. shows y zs) items
+either : (x y : Tree) (xs ys items : List Item) → shows x xs → shows y ys → Implies xs items → Implies ys items
+    → EitherShows (λ zs. shows x zs) (λ zs. shows y zs) items
 either x y xs ys items h k i j = (xs, ys, h, k, i, j)
 
 -- what both alternatives imply
-pub flat_alt_shows : (x y : Tree) (xs ys items : List Item) → shows x xs → shows y ys → Implies xs items → Implies ys items → shows (BreakOrFlat x y) items
+pub flat_alt_shows : (x y : Tree) (xs ys items : List Item) → shows x xs → shows y ys → Implies xs items → Implies ys items
+    → shows (BreakOrFlat x y) items
 flat_alt_shows x y xs ys items h k i j = either x y xs ys items h k i j
 
-pub union_shows : (x y : Tree) (xs ys items : List Item) → shows x xs → shows y ys → Implies xs items → Implies ys items → shows (Union x y) items
+pub union_shows : (x y : Tree) (xs ys items : List Item) → shows x xs → shows y ys → Implies xs items → Implies ys items
+    → shows (Union x y) items
 union_shows x y xs ys items h k i j = either x y xs ys items h k i j
 
-pub partial_union_shows : (x y : Tree) (xs ys items : List Item) → shows x xs → shows y ys → Implies xs items → Implies ys items → shows (PartialUnion x y) items
+pub partial_union_shows : (x y : Tree) (xs ys items : List Item) → shows x xs → shows y ys → Implies xs items → Implies ys items
+    → shows (PartialUnion x y) items
 partial_union_shows x y xs ys items h k i j = either x y xs ys items h k i j
 
-pub if_column_shows : (test : ColumnTest) (x y : Tree) (xs ys items : List Item) → shows x xs → shows y ys → Implies xs items → Implies ys items → shows (OnColumn test x y) items
+pub if_column_shows : (test : ColumnTest) (x y : Tree) (xs ys items : List Item) → shows x xs → shows y ys → Implies xs items
+    → Implies ys items → shows (OnColumn test x y) items
 if_column_shows test x y xs ys items h k i j = either x y xs ys items h k i j
 
-pub if_nesting_shows : (test : NestingTest) (x y : Tree) (xs ys items : List Item) → shows x xs → shows y ys → Implies xs items → Implies ys items → shows (OnNesting test x y) items
+pub if_nesting_shows : (test : NestingTest) (x y : Tree) (xs ys items : List Item) → shows x xs → shows y ys → Implies xs items
+    → Implies ys items → shows (OnNesting test x y) items
 if_nesting_shows test x y xs ys items h k i j = either x y xs ys items h k i j
 
 -- a text that only broken lines have, or only flat ones
@@ -203,7 +219,8 @@ punctuated_shows mark (x ∷ y ∷ ys) marked (items ∷ next ∷ lists) h each 
     (append_shows x mark items marked each.0 h, punctuated_shows mark (y ∷ ys) marked (next ∷ lists) h each.1)
 
 -- trees on lines of their own, or flat
-pub lines_show : (k : ℤ) (x : Tree) (items : List Item) → shows x items → shows (append (nest k (append line_ x)) line_) (loose ∷ (items ++ loose ∷ []))
+pub lines_show : (k : ℤ) (x : Tree) (items : List Item) → shows x items → shows (append (nest k (append line_ x)) line_)
+    (loose ∷ (items ++ loose ∷ []))
 lines_show k x items h =
     append_shows (nest k (append line_ x)) line_ (loose ∷ items) (loose ∷ [])
     (nest_shows k (append line_ x) (loose ∷ items) (append_shows line_ x (loose ∷ []) items line__shows h)) line__shows
@@ -216,14 +233,16 @@ bracketed_shows before after k (x ∷ xs) first last [] h j each = absurd each
 bracketed_shows before after k (x ∷ xs) first last (items ∷ lists) h j each =
     let between = intersperse line (x ∷ xs) in
     let inside = append (nest k (append line_ between)) line_ in
-    let inner = lines_show k between (with_gaps (apart ∷ []) (items ∷ lists)) (intersperse_shows line (x ∷ xs) (apart ∷ []) (items ∷ lists) line_shows each) in
+    let inner = lines_show k between (with_gaps (apart ∷ []) (items ∷ lists))
+    (intersperse_shows line (x ∷ xs) (apart ∷ []) (items ∷ lists) line_shows each) in
     let whole = enclose_shows before inside after first (in_lines (items ∷ lists)) last h inner j in
     group_shows (enclose before inside after) (first ++ (in_lines (items ∷ lists) ++ last))
     (subst (shows (enclose before inside after)) (append_assoc first (in_lines (items ∷ lists)) last) whole)
 
 module _ (f : List Item → List Item) (gap next : List Item) where
   -- a gap in front of each is one in front of them all, with others in each gap
-  in_front : (lists : List (List Item)) → after_gaps gap (change_all_but_last f (next ∷ lists)) ≡ gap ++ with_gaps gap (change_all_but_last f (next ∷ lists))
+  in_front : (lists : List (List Item)) → after_gaps gap (change_all_but_last f (next ∷ lists)) ≡ gap ++ with_gaps gap
+      (change_all_but_last f (next ∷ lists))
   in_front [] = refl
   in_front (items ∷ lists) = refl
 
@@ -257,8 +276,13 @@ fixed_both (Late i ∷ xs) ys h k = absurd h
 
 -- a document that another is appended to has the texts of both
 pub append_texts : (x y : Tree) (ss ts : List (List ℕ)) → HasTexts x ss → HasTexts y ts → HasTexts (append x y) (ss ++ ts)
-append_texts x y ss ts h k =
-    (h.0 ++ k.0, append_shows x y h.0 k.0 h.1 k.1, fixed_both h.0 k.0 h.2 k.2, texts_both h.0 k.0 ∙ ap (λ (us : List (List ℕ)). us ++ texts k.0) h.3 ∙ ap (λ (us : List (List ℕ)). ss ++ us) k.3)
+append_texts x y ss ts h k = (
+  h.0 ++ k.0,
+  append_shows x y h.0 k.0 h.1 k.1,
+  fixed_both h.0 k.0 h.2 k.2,
+  texts_both h.0 k.0
+      ∙ ap (λ (us : List (List ℕ)). us ++ texts k.0) h.3 ∙ ap (λ (us : List (List ℕ)). ss ++ us) k.3,
+)
 
 -- what shows one text has it
 pub one_text : (x : Tree) (s : List ℕ) → shows x (Shown s ∷ []) → HasTexts x (s ∷ [])

@@ -43,5 +43,5 @@ between_nothing R s (x ∷ xs) a z e h =
     (h.0, (h.1.0, h.1.1, h.1.2 ∙ ap (λ (b : Tree). append b h.1.0) gone), between_nothing R s xs h.0 z e h.2)
 
 -- the same, with one tree that is appended first
-pub behind_nothing : (s a b z : Tree) → s ≡ Nil → z ≡ append a b → z ≡ append (append a s) b
-behind_nothing s a b z e h = h ∙ ap (λ (t : Tree). append t b) (sym (ap (append a) e ∙ append_nothing a))
+pub nothing_between : (s a b z : Tree) → s ≡ Nil → z ≡ append a b → z ≡ append (append a s) b
+nothing_between s a b z e h = h ∙ ap (λ (t : Tree). append t b) (sym (ap (append a) e ∙ append_nothing a))

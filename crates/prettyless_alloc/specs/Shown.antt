@@ -34,7 +34,8 @@ TextsShow = (s : List ℕ) → shows (counted.text s) (text_items s) × shows (c
 -- trees with a separator in each gap show their items with the separator's in each gap
 abbrev pub SeparatedShow : Type 0
 SeparatedShow =
-    (separator : Tree) (xs : List Tree) (gap : List Item) (lists : List (List Item)) → shows separator gap → AllZip shows xs lists → shows (intersperse separator xs) (with_gaps gap lists)
+    (separator : Tree) (xs : List Tree) (gap : List Item) (lists : List (List Item)) → shows separator gap → AllZip shows xs lists
+    → shows (intersperse separator xs) (with_gaps gap lists)
 
 -- trees with marks after them show their items, each but the last with the mark's after them
 abbrev pub PunctuatedShow : Type 0
@@ -45,10 +46,12 @@ PunctuatedShow =
 -- trees between brackets show their items between those of the brackets
 abbrev pub BracketedShow : Type 0
 BracketedShow =
-    (before after : Tree) (k : ℤ) (xs : List Tree) (first last : List Item) (lists : List (List Item)) → shows before first → shows after last
+    (before after : Tree) (k : ℤ) (xs : List Tree) (first last : List Item) (lists : List (List Item)) → shows before first
+    → shows after last
     → AllZip shows xs lists → shows (bracketed before xs after k) (first ++ (in_lines lists ++ last))
 
 -- a mark after all items but the last stands in each gap
 abbrev pub MarksStandInGaps : Type 0
 MarksStandInGaps =
-    (marked gap : List Item) (lists : List (List Item)) → with_gaps gap (change_all_but_last (λ items. items ++ marked) lists) ≡ with_gaps (marked ++ gap) lists
+    (marked gap : List Item) (lists : List (List Item)) → with_gaps gap (change_all_but_last (λ items. items ++ marked) lists) ≡ with_gaps
+    (marked ++ gap) lists

@@ -13,13 +13,13 @@ onto_first c [] = (c ∷ []) ∷ []
 onto_first c (p ∷ ps) = (c ∷ p) ∷ ps
 
 -- characters cut at each that is whitespace
-abbrev pub cut : List ℕ → List (List ℕ)
-cut [] = [] ∷ []
-cut (c ∷ cs) = if is_whitespace c then [] ∷ cut cs else onto_first c (cut cs)
+abbrev pub cut_at_whitespace : List ℕ → List (List ℕ)
+cut_at_whitespace [] = [] ∷ []
+cut_at_whitespace (c ∷ cs) = if is_whitespace c then [] ∷ cut_at_whitespace cs else onto_first c (cut_at_whitespace cs)
 
 -- the bytes between a text's whitespace
 abbrev pub pieces : List ℕ → List (List ℕ)
-pieces s = map encode_utf8_all (cut (chars s))
+pieces s = map encode_utf8_all (cut_at_whitespace (chars s))
 
 -- trees in order, with s in each gap
 abbrev pub intersperse : Tree → List Tree → Tree

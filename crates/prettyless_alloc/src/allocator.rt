@@ -103,7 +103,7 @@ pub trait DocAllocator<'a>: DocPlace<'a> {
     /// So many spaces, in texts of at most 100. Up to 100 it takes no memory; beyond that memory can
     /// fail.
     fn spaces(&'a self, count: usize) -> Result<DocBuilder<'a, Self>, BuildError>
-        ensures ok { IfOk result (λ b. built Self.Doc.tree b.1 ≡ to.spaces count) }
+        ensures ok { IfOk result (λ b. built Self.Doc.tree b.1 ≡ to.spaces_tree count) }
         ensures err { IfErr result (λ e. IsMemory e × (100 < count)) };
 
     /// A space; nothing at the start of a line, and nothing at its end unless a suffix is pending there. It takes no

@@ -13,7 +13,7 @@ pub(crate) fn spaces<'a, D: DocPlace<'a>>(
     place: &'a D,
     count: usize,
 ) -> Result<DocBuilder<'a, D>, BuildError>
-    ensures ok { IfOk result (λ b. built D.Doc.tree b.1 ≡ to.spaces count) }
+    ensures ok { IfOk result (λ b. built D.Doc.tree b.1 ≡ to.spaces_tree count) }
     ensures err { IfErr result (λ e. IsMemory e × (100 < count)) }
 {
     let mut all = DocBuilder::new(place, Doc::Nil);
@@ -26,7 +26,7 @@ pub(crate) fn spaces<'a, D: DocPlace<'a>>(
 // One text of so many spaces, or nothing for none.
 fn gap<'a, D: DocPlace<'a>>(place: &'a D, count: usize) -> DocBuilder<'a, D>
     requires { count ≤ 100 }
-    ensures { built D.Doc.tree result.1 ≡ to.gap count }
+    ensures { built D.Doc.tree result.1 ≡ to.gap_tree count }
 {
     if count == 0 {
         return DocBuilder::new(place, Doc::Nil);

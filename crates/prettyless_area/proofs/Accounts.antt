@@ -15,5 +15,11 @@ pub account_grew : (limit limit' : ℕ) (before before' given given' more : List
 account_grew limit limit' before before' given given' more e =
     let long : length before' ≡ length before = cc in
     let all : before' ++ given' ≡ before ++ (given ++ more) = cc (append_assoc before given more) in
-    let same : before' ≡ before = sym (take-append_seam before' given') ∙ ap (λ (x : List ℕ). take (length before') x) all ∙ ap (λ (n : ℕ). take n (before ++ (given ++ more))) long ∙ take-append_seam before (given ++ more) in
-    record { same_limit = cc; same_before = same; grown = append_cancel_left before given' (given ++ more) (ap (λ (x : List ℕ). x ++ given') (sym same) ∙ all) }
+    let same : before' ≡ before = sym (take-append_seam before' given') ∙ ap (λ (x : List ℕ). take (length before') x) all
+    ∙ ap (λ (n : ℕ). take n (before ++ (given ++ more))) long ∙ take-append_seam before (given ++ more) in
+    record {
+      same_limit = cc;
+      same_before = same;
+      grown = append_cancel_left before given' (given ++ more)
+          (ap (λ (x : List ℕ). x ++ given') (sym same) ∙ all);
+    }

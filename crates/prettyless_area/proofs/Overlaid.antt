@@ -1,4 +1,4 @@
--- An area after a piece is put behind those that it has.
+-- An area after a piece is put after those that it has.
 use Rattle.std.proofs.Common.{◌≡◌, inl, inr, ℕ, ◌+◌, ◌-◌, ◌≤◌, min, List, ◌++◌, length, take, drop, ap, sym, ◌∙◌, arith, rules}
 use Rattle.std.proofs.lemmas.Bool.{cases_lt}
 use Rattle.std.proofs.lemmas.List.{places, same_lists, length-take, take-append-drop, take-take}
@@ -10,12 +10,14 @@ overlay_full before bytes piece full = same_lists _ _ (search (rules, places)) (
 
 -- where there is room, as much of a piece as fits comes after the bytes
 overlay_room : (area before bytes piece : List ℕ) (fits : ℕ) → area ≡ overlay bytes before → length bytes ≤ length area
-    → fits ≡ min (length piece) (length area - length bytes) → take (length bytes) area ++ (take fits piece ++ drop fits (drop (length bytes) area)) ≡ overlay (bytes ++ piece) before
+    → fits ≡ min (length piece) (length area - length bytes)
+    → take (length bytes) area ++ (take fits piece ++ drop fits (drop (length bytes) area)) ≡ overlay (bytes ++ piece) before
 overlay_room area before bytes piece fits e room count = same_lists _ _ (search (rules, places)) (λ k d inside. grind (arith, places))
 
 -- as much of a piece as fits comes after the bytes
 overlay_more : (area before bytes piece : List ℕ) (from fits : ℕ) → area ≡ overlay bytes before → from ≡ min (length bytes) (length area)
-    → fits ≡ min (length piece) (length area - from) → take from area ++ (take fits piece ++ drop fits (drop from area)) ≡ overlay (bytes ++ piece) before
+    → fits ≡ min (length piece) (length area - from) → take from area ++ (take fits piece ++ drop fits (drop from area)) ≡ overlay
+    (bytes ++ piece) before
 overlay_more area before bytes piece from fits e start count =
     elim (cases_lt (length bytes) (length area)) [
       | inl room ↦
@@ -41,4 +43,5 @@ overlay_given area before given piece copied limit count taken from fits e count
     let same : (from + fits) - from ≡ fits = omega arith in
     let within : copied ≡ take fits (take taken piece) = copy ∙ sym (take-take fits taken piece (omega arith)) in
     rw (same, within, take_more limit count taken given piece counts takes)
-    (overlay_more area before (take limit given) (take taken piece) from fits e (omega (arith, length-take limit given)) (omega (arith, length-take taken piece)))
+    (overlay_more area before (take limit given) (take taken piece) from fits e (omega (arith, length-take limit given))
+    (omega (arith, length-take taken piece)))

@@ -1,6 +1,8 @@
 -- The trees that building makes of the trees that it is given, and when it gives one back as it is.
-use Rattle.std.specs.Prelude.{◌≡◌, ℕ, ℤ, pos, zero, suc, ◌/◌, ◌%◌, ◌⊎◌, [], ◌∷◌, replicate, Bool, true, false, IsTrue, Result, Ok, IfOk, IfErr}
-use Rattle.prettyless_doc.specs.Tree.{Tree, Nil, Fail, Text, TextWithLen, MultilineText, HardLine, Append, LineSuffix, Nest, DedentToRoot, Align, Flatten, Group}
+use Rattle.std.specs.Prelude.{◌≡◌, ℕ, ℤ, pos, zero, suc, ◌/◌, ◌%◌, ◌⊎◌, [], ◌∷◌, replicate, Bool, true, false, IsTrue, Result, Ok, IfOk}
+use Rattle.std.specs.Prelude.{IfErr}
+use Rattle.prettyless_doc.specs.Tree.{Tree, Nil, Fail, Text, TextWithLen, MultilineText, HardLine, Append, LineSuffix, Nest, DedentToRoot}
+use Rattle.prettyless_doc.specs.Tree.{Align, Flatten, Group}
 use Rattle.prettyless_doc.specs.DocTree.{is_nil}
 use Rattle.prettyless_doc.specs.BuildErrors.{IsMemory}
 use Rattle.prettyless_doc.specs.Lines.{line, line_}
@@ -16,7 +18,8 @@ pub record Builds {B : Type 0} (result : Result B BuildError) (seen : B → Tree
   pub err : IfErr result IsMemory
 
 -- The same of a call that gives `before` back as it is where it `keeps` it, which takes no memory.
-pub record BuildsOrKeeps {B : Type 0} (result : Result B BuildError) (seen : B → Tree) (wanted : Tree) (keeps : Bool) (before : B) : Type 0 where
+pub record BuildsOrKeeps {B : Type 0} (result : Result B BuildError) (seen : B → Tree) (wanted : Tree) (keeps : Bool)
+    (before : B) : Type 0 where
   -- `Ok`: what it answers has this tree.
   pub ok : IfOk result (λ b. seen b ≡ wanted)
   -- Where nothing is to be done, the call succeeds, and changes nothing.
@@ -25,14 +28,16 @@ pub record BuildsOrKeeps {B : Type 0} (result : Result B BuildError) (seen : B �
   pub err : IfErr result IsMemory
 
 -- The same of a call that makes a tree of the one that its operand becomes, and may answer an error of that operand.
-pub record BuildsOf {B : Type 0} (result : Result B BuildError) (seen : B → Tree) (becomes : Tree → Type 0) (refuses : BuildError → Type 0) (makes : Tree → Tree) : Type 0 where
+pub record BuildsOf {B : Type 0} (result : Result B BuildError) (seen : B → Tree) (becomes : Tree → Type 0) (refuses : BuildError → Type 0)
+    (makes : Tree → Tree) : Type 0 where
   -- `Ok`: what it answers has the tree that is made of one that the operand may become.
   pub ok : IfOk result (λ b. (y : Tree) × becomes y × (seen b ≡ makes y))
   -- `Err`: the operand answered this error, or memory was refused.
   pub err : IfErr result (λ e. refuses e ⊎ IsMemory e)
 
 -- The same of a call that makes a tree of those that two operands become.
-pub record BuildsOfTwo {B : Type 0} (result : Result B BuildError) (seen : B → Tree) (first second : Tree → Type 0) (refuses_first refuses_second : BuildError → Type 0) (makes : Tree → Tree → Tree) : Type 0 where
+pub record BuildsOfTwo {B : Type 0} (result : Result B BuildError) (seen : B → Tree) (first second : Tree → Type 0)
+    (refuses_first refuses_second : BuildError → Type 0) (makes : Tree → Tree → Tree) : Type 0 where
   -- `Ok`: what it answers has the tree that is made of one that the first operand may become and one of the second.
   pub ok : IfOk result (λ b. (x : Tree) × (y : Tree) × first x × second y × (seen b ≡ makes x y))
   -- `Err`: one of the operands answered this error, or memory was refused.
@@ -99,18 +104,18 @@ abbrev pub between : ℕ → ℕ → Tree → Tree
 between before after x = enclose (Text (before ∷ [])) x (Text (after ∷ []))
 
 -- one text of so many spaces, or nothing for none
-abbrev pub gap : ℕ → Tree
-gap zero = Nil
-gap (suc n) = Text (replicate (suc n) 32)
+abbrev pub gap_tree : ℕ → Tree
+gap_tree zero = Nil
+gap_tree (suc n) = Text (replicate (suc n) 32)
 
 -- so many texts of 100 spaces, each appended to those before it
 abbrev pub hundreds : ℕ → Tree
 hundreds zero = Nil
-hundreds (suc n) = append (hundreds n) (gap 100)
+hundreds (suc n) = append (hundreds n) (gap_tree 100)
 
 -- so many spaces: texts of 100, and then the rest, if any
-abbrev pub spaces : ℕ → Tree
-spaces n = append (hundreds (n / 100)) (gap (n % 100))
+abbrev pub spaces_tree : ℕ → Tree
+spaces_tree n = append (hundreds (n / 100)) (gap_tree (n % 100))
 
 -- a left chain of a tree and n more
 abbrev pub chain : ℕ → Tree → Tree

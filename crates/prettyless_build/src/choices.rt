@@ -40,6 +40,7 @@ impl<'a, D: DocPlace<'a>> DocBuilder<'a, D> {
 
     /// This document where it can be laid with each text within the width, and else `that`; where lines are flat, this
     /// one. It fails where memory is refused.
+    #[inline(always)]
     pub fn union(self, that: BuildDoc<'a, D::Doc>) -> Result<Self, BuildError>
         ensures { to.Builds result (λ b. built D.Doc.tree b.1)
             (Union (built D.Doc.tree self.entry.1) (built D.Doc.tree that.entry)) }
@@ -50,6 +51,7 @@ impl<'a, D: DocPlace<'a>> DocBuilder<'a, D> {
 
     /// This document where its first line fits, whatever comes after it, and else `that`; where lines are flat,
     /// this one. It fails where memory is refused.
+    #[inline(always)]
     pub fn partial_union(self, that: BuildDoc<'a, D::Doc>) -> Result<Self, BuildError>
         ensures { to.Builds result (λ b. built D.Doc.tree b.1)
             (PartialUnion (built D.Doc.tree self.entry.1) (built D.Doc.tree that.entry)) }

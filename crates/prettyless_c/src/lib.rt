@@ -4,10 +4,12 @@
 ghost use Rattle.json_exports.specs.Answers as json;
 ghost use Rattle.json_exports.specs.Answers.{style_of};
 ghost use Rattle.prettyless_exports.specs.Answers.{Answers, limit_of, options_of};
+ghost use Rattle.toml_exports.specs.Answers as toml;
 
 use json_exports::layout::json_layout;
 use prettyless_exports::layout::program_layout;
 use std::alloc::Global;
+use toml_exports::layout::toml_layout;
 
 /// Lays out the document that a program writes into `out`, at a width in columns.
 ///
@@ -46,9 +48,32 @@ pub extern "C" fn prettyless_json_layout(
     line: &mut usize,
     column: &mut usize,
 ) -> u32
-    ensures { json.Answers (style_of width indent fill) (limit_of limit) text.now out.old out.new written.new line.new column.new result }
+    ensures { json.AnswersJson (style_of width indent fill) (limit_of limit) text.now out.old out.new written.new line.new column.new result }
 {
     json_layout(
         alloc, text, width, indent, fill, limit, out, written, line, column,
+    )
+}
+
+/// Lays out a TOML text into `out`, at a width and with an indent for the members of a broken array, both in columns.
+///
+/// The answer is the number of a status, which says what `out` and `written` are, and of bytes that are no TOML text where
+/// that is seen. `limit` is the greatest length of the layout in bytes, or 0 for none.
+#[unsafe(no_mangle)]
+pub extern "C" fn prettyless_toml(
+    alloc: Global,
+    text: &[u8],
+    width: usize,
+    indent: u32,
+    limit: usize,
+    out: &mut [u8],
+    written: &mut usize,
+    line: &mut usize,
+    column: &mut usize,
+) -> u32
+    ensures { toml.AnswersToml (limit_of limit) text.now out.old out.new written.new line.new column.new result }
+{
+    toml_layout(
+        alloc, text, width, indent, limit, out, written, line, column,
     )
 }

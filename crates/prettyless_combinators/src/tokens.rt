@@ -172,7 +172,7 @@ impl<'a, D: DocPlace<'a>> Pretty<'a, D> for ExpandParent {
 pub struct Spaces(pub(crate) usize);
 
 impl<'a, D: DocPlace<'a>> Pretty<'a, D> for Spaces {
-    ghost becomes = { λ n y. y ≡ to.spaces n.0 };
+    ghost becomes = { λ n y. y ≡ to.spaces_tree n.0 };
 
     ghost refuses = { λ n e. IsMemory e × (100 < n.0) };
 

@@ -4,9 +4,11 @@ use Rattle.prettyless_model.specs.Tree as t
 use Rattle.prettyless_model.specs.Tree.{Tree}
 use Rattle.prettyless_doc.specs.Payload as payload
 use Rattle.prettyless_doc.specs.Payload.{payload_bytes}
-use Rattle.prettyless_doc.specs.TextBytes.{bytes_of, is_owned}
+use Rattle.prettyless_doc.specs.TextBytes.{bytes_of_text, is_owned}
 use Rattle.prettyless_doc.specs.declared.doc.Doc.{Doc}
-use Rattle.prettyless_doc.specs.declared.doc.Doc.TheVariants.{Nil, Fail, Text, TextWithLen, MultilineText, WeakSpace, HardLine, WeakLine, Append, LineSuffix, Nest, DedentToRoot, Align, ExpandParent, Flatten, BreakOrFlat, Group, Union, PartialUnion, OnColumn, OnNesting}
+use Rattle.prettyless_doc.specs.declared.doc.Doc.TheVariants.{Nil, Fail, Text, TextWithLen, MultilineText, WeakSpace, HardLine, WeakLine}
+use Rattle.prettyless_doc.specs.declared.doc.Doc.TheVariants.{Append, LineSuffix, Nest, DedentToRoot, Align, ExpandParent, Flatten}
+use Rattle.prettyless_doc.specs.declared.doc.Doc.TheVariants.{BreakOrFlat, Group, Union, PartialUnion, OnColumn, OnNesting}
 use Rattle.prettyless_doc.specs.declared.doc.BuildDoc.{BuildDoc}
 use Rattle.prettyless_doc.specs.declared.doc.BuildDoc.TheVariants.{DocPtr as Placed, Doc as Plain}
 
@@ -14,8 +16,8 @@ use Rattle.prettyless_doc.specs.declared.doc.BuildDoc.TheVariants.{DocPtr as Pla
 abbrev pub tree_of : {T : Type 0} → (T → Tree) → Doc T → Tree
 tree_of tree Nil = t.Nil
 tree_of tree Fail = t.Fail
-tree_of tree (Text s) = t.Text (bytes_of s)
-tree_of tree (TextWithLen w s) = t.TextWithLen w (bytes_of s)
+tree_of tree (Text s) = t.Text (bytes_of_text s)
+tree_of tree (TextWithLen w s) = t.TextWithLen w (bytes_of_text s)
 tree_of tree (MultilineText p) = t.MultilineText (payload_bytes p)
 tree_of tree WeakSpace = t.WeakSpace
 tree_of tree HardLine = t.HardLine
@@ -48,5 +50,5 @@ is_nil _ = false
 abbrev pub holds_memory : {T : Type 0} → Doc T → Bool
 holds_memory (Text s) = is_owned s
 holds_memory (TextWithLen w s) = is_owned s
-holds_memory (MultilineText p) = payload.is_owned p
+holds_memory (MultilineText p) = payload.is_owned_payload p
 holds_memory _ = false

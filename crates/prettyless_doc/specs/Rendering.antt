@@ -15,7 +15,8 @@ use Rattle.prettyless_sink.specs.declared.visits.Visits.{Visits}
 -- A render of the tree d to a sink, and its result. The sink writes through `lender`, then through `lender_after`; its
 -- bytes are `old`, then `new`, where they are known; its count of failures is n, then m. `fails` holds of the errors
 -- that say that the document fails.
-pub record RendersDoc {A E : Type 0} (o : RenderOptions) (d : Tree) (fails : E → Type 0) (lender lender_after : Option GName) (old new : Option (List ℕ)) (n m : ℕ) (result : Result A (RenderError E)) : Type 0 where
+pub record RendersDoc {A E : Type 0} (o : RenderOptions) (d : Tree) (fails : E → Type 0) (lender lender_after : Option GName)
+    (old new : Option (List ℕ)) (n m : ℕ) (result : Result A (RenderError E)) : Type 0 where
   -- The sink writes through the same reference as before, if it has one.
   pub same_lender : lender_after ≡ lender
   -- Known bytes stay known, and grow by bytes of the layout. `Ok`: the layout is whole, and by exactly its bytes.
@@ -29,7 +30,8 @@ pub record RendersDoc {A E : Type 0} (o : RenderOptions) (d : Tree) (fails : E �
   pub content : IfKnown old new (λ before after. IfOk result (λ _. AppendsContent d before after))
 
 -- The same of a writer that is lent to the call: its bytes are `old`, then `new`, where they are known.
-pub record RendersDocInto {A E : Type 0} (o : RenderOptions) (d : Tree) (fails : E → Type 0) (old new : Option (List ℕ)) (result : Result A (RenderError E)) : Type 0 where
+pub record RendersDocInto {A E : Type 0} (o : RenderOptions) (d : Tree) (fails : E → Type 0) (old new : Option (List ℕ))
+    (result : Result A (RenderError E)) : Type 0 where
   -- Known bytes stay known, and grow by bytes of the layout. `Ok`: the layout is whole, and by exactly its bytes.
   -- `Document`: the layout fails, by exactly the bytes before its failing node, and the error says that it fails.
   -- `Sink` and `Memory`: by a beginning of the layout's bytes.

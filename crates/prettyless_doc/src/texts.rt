@@ -4,7 +4,7 @@ ghost use Rattle.std.specs.Cow.{cow_str_bytes};
 ghost use Rattle.prettyless_doc.specs.Counted as to;
 ghost use Rattle.prettyless_doc.specs.DocTree.{tree_of};
 ghost use Rattle.prettyless_doc.specs.BuildErrors.{IsMemory};
-ghost use Rattle.prettyless_doc.specs.TextBytes.{bytes_of, IfLent};
+ghost use Rattle.prettyless_doc.specs.TextBytes.{bytes_of_text, IfLent};
 
 use crate::doc::{Doc, DocPtr};
 use crate::measure::{holds_break, is_ascii};
@@ -17,7 +17,7 @@ impl<'a, T: DocPtr<'a>> Doc<'a, T> {
     // A text that counts as its bytes if it is ASCII, and else as its display width.
     #[inline(always)]
     fn counted(text: Text<'a>) -> Self
-        ensures { tree_of T.tree result ≡ to.as_string (bytes_of text.entry) }
+        ensures { tree_of T.tree result ≡ to.as_string (bytes_of_text text.entry) }
     {
         if is_ascii(text.as_str()) {
             return Doc::Text(text);

@@ -23,7 +23,8 @@ laid fails y area limit old (Err (Sink e)) p = puts_to_limit area limit old (byt
 laid fails y area limit old (Err (Memory e)) p = (p.0.0, p.0.1, p.0.2, puts_all area limit old p.0.0 p.0.3 p.1)
 
 -- a whole layout has the content that was appended
-with_content : {A E : Type 0} (fails : E → Type 0) (o : RenderOptions) (d : Tree) (old new : List ℕ) (n m : ℕ) (r : Result A (RenderError E))
+with_content : {A E : Type 0} (fails : E → Type 0) (o : RenderOptions) (d : Tree) (old new : List ℕ) (n m : ℕ)
+    (r : Result A (RenderError E))
     → Rendered fails (layout o d) old new n m r → IfOk r (λ _. AppendsContent d old new) → OnOk r (HasContent d (bytes_in (layout o d)))
 with_content fails o d old new n m (Ok r) p q =
     let same : q.0 ≡ bytes_in (layout o d) = append_cancel_left old q.0 p.0 (sym q.1 ∙ p.2) ∙ sym (ap bytes_in p.1) in
@@ -31,8 +32,10 @@ with_content fails o d old new n m (Ok r) p q =
 with_content fails o d old new n m (Err e) p q = tt
 
 -- a document that was rendered to a new area is laid into it
-pub lays_into : {A E : Type 0} (fails : E → Type 0) (o : RenderOptions) (d : Tree) (area : Area) (limit : ℕ) (old : List ℕ) (r : Result A (RenderError E))
-    → IfKnown (Some (account limit old [])) (Some (account_of area)) (λ before after. Rendered fails (layout o d) before after 0 area.failures r)
+pub lays_into : {A E : Type 0} (fails : E → Type 0) (o : RenderOptions) (d : Tree) (area : Area) (limit : ℕ) (old : List ℕ)
+    (r : Result A (RenderError E))
+    → IfKnown (Some (account limit old [])) (Some (account_of area))
+    (λ before after. Rendered fails (layout o d) before after 0 area.failures r)
     → IfKnown (Some (account limit old [])) (Some (account_of area)) (λ before after. IfOk r (λ _. AppendsContent d before after))
     → LaysInto o d limit old area.out.now area.count r
 lays_into fails o d area limit old r rendered content =

@@ -1,2 +1,3 @@
 mod Lays
 pub mod Numbered
+mod Names

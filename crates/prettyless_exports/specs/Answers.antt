@@ -9,7 +9,7 @@ use Rattle.prettyless_model.specs.declared.options.LineEnding.{LineEnding}
 use Rattle.prettyless_model.specs.declared.options.LineEnding.TheVariants.{Lf, Crlf}
 use Rattle.prettyless_model.specs.declared.options.IndentationPolicy.{IndentationPolicy}
 use Rattle.prettyless_model.specs.declared.options.IndentationPolicy.TheVariants.{Eager, Deferred}
-use Rattle.prettyless_program.specs.Programs.{Writes}
+use Rattle.prettyless_program.specs.Programs.{WritesDocument}
 use Rattle.prettyless_program.specs.Faults.{HasFault, WritesNone}
 use Rattle.prettyless_program.specs.declared.fault.Fault.{Fault}
 use Rattle.prettyless_program.specs.declared.fault.Fault.TheVariants as fault
@@ -21,8 +21,8 @@ abbrev pub limit_of : ℕ → ℕ
 limit_of limit = if limit == 0 then 2 ^ 64 - 1 else limit
 
 -- what ends a line
-abbrev pub ending_of : Bool → LineEnding
-ending_of crlf = if crlf then Crlf else Lf
+abbrev pub line_ending_of : Bool → LineEnding
+line_ending_of crlf = if crlf then Crlf else Lf
 
 -- when an indent is written
 abbrev pub policy_of : Bool → IndentationPolicy
@@ -30,7 +30,7 @@ policy_of deferred = if deferred then Deferred else Eager
 
 -- the options that a caller asks for
 abbrev pub options_of : ℕ → Bool → Bool → RenderOptions
-options_of width crlf deferred = record { width = width; line_ending = ending_of crlf; indentation_policy = policy_of deferred }
+options_of width crlf deferred = record { width = width; line_ending = line_ending_of crlf; indentation_policy = policy_of deferred }
 
 -- ---- what an area holds
 
@@ -49,31 +49,31 @@ IsUntouched old new written = (new ≡ old) × (written ≡ 0)
 -- the program writes a document whose layout is whole: these bytes, which have its content and are within the limit
 pub record IsLaidOut (o : RenderOptions) (limit : ℕ) (program bytes : List ℕ) : Type 0 where
   pub document : Tree
-  pub writes : Writes program document
+  pub writes : WritesDocument program document
   pub layout : layout o document ≡ Whole bytes
   pub content : HasContent document bytes
   pub within : length bytes ≤ limit
 
 -- the program writes a document whose layout fails after these bytes, which are within the limit
-pub record IsCut (o : RenderOptions) (limit : ℕ) (program bytes : List ℕ) : Type 0 where
+pub record IsCutShort (o : RenderOptions) (limit : ℕ) (program bytes : List ℕ) : Type 0 where
   pub document : Tree
-  pub writes : Writes program document
+  pub writes : WritesDocument program document
   pub layout : layout o document ≡ Cut bytes
   pub within : length bytes ≤ limit
 
 -- the program writes a document whose layout is longer than the limit
 pub record IsPast (o : RenderOptions) (limit : ℕ) (program bytes : List ℕ) : Type 0 where
   pub document : Tree
-  pub writes : Writes program document
+  pub writes : WritesDocument program document
   pub layout : bytes_in (layout o document) ≡ bytes
   pub past : limit < length bytes
 
 -- if the program writes a document, these bytes are a beginning of its layout's
 abbrev pub BeginsLayout : RenderOptions → List ℕ → List ℕ → Type 0
-BeginsLayout o program front = (d : Tree) → Writes program d → (back : List ℕ) × (bytes_in (layout o d) ≡ front ++ back)
+BeginsLayout o program front = (d : Tree) → WritesDocument program d → (back : List ℕ) × (bytes_in (layout o d) ≡ front ++ back)
 
 -- the program has this fault and writes no document, and the area is as it was
-pub record IsRefused (fault : Fault) (program old new : List ℕ) (written : ℕ) : Type 0 where
+pub record IsProgramRefused (fault : Fault) (program old new : List ℕ) (written : ℕ) : Type 0 where
   pub has_fault : HasFault fault program
   pub no_document : WritesNone program
   pub untouched : IsUntouched old new written
@@ -83,19 +83,20 @@ pub record Answers (o : RenderOptions) (limit : ℕ) (program old new : List ℕ
   -- the layout is in the area: it has `written` bytes
   pub laid_out : status ≡ 0 → (bytes : List ℕ) × IsLaidOut o limit program bytes × (length bytes ≤ length old) × Holds bytes old new written
   -- the layout has `written` bytes, more than the area, which holds its beginning
-  pub too_small : status ≡ 1 → (bytes : List ℕ) × IsLaidOut o limit program bytes × (length old < length bytes) × (new ≡ overlay bytes old) × (written ≡ length bytes)
+  pub too_small : status ≡ 1 → (bytes : List ℕ) × IsLaidOut o limit program bytes × (length old < length bytes) × (new ≡ overlay bytes old)
+      × (written ≡ length bytes)
   -- memory was refused, and a beginning of the layout is in the area
   pub memory : status ≡ 2 → (front : List ℕ) × BeginsLayout o program front × Holds front old new written
   -- the layout fails, and the bytes before the node that fails are in the area
-  pub fails : status ≡ 3 → (bytes : List ℕ) × IsCut o limit program bytes × Holds bytes old new written
+  pub fails : status ≡ 3 → (bytes : List ℕ) × IsCutShort o limit program bytes × Holds bytes old new written
   -- the layout is longer than the limit, and what is within the limit is in the area
   pub past_limit : status ≡ 4 → (bytes : List ℕ) × IsPast o limit program bytes × Holds (take limit bytes) old new written
   -- the bytes write no document, and which way
-  pub instruction : status ≡ 16 → IsRefused fault.Instruction program old new written
-  pub operand : status ≡ 17 → IsRefused fault.Operand program old new written
-  pub text : status ≡ 18 → IsRefused fault.Text program old new written
-  pub document : status ≡ 19 → IsRefused fault.Document program old new written
-  pub unopened : status ≡ 20 → IsRefused fault.Unopened program old new written
-  pub unclosed : status ≡ 21 → IsRefused fault.Unclosed program old new written
+  pub instruction : status ≡ 16 → IsProgramRefused fault.Instruction program old new written
+  pub operand : status ≡ 17 → IsProgramRefused fault.Operand program old new written
+  pub text : status ≡ 18 → IsProgramRefused fault.Text program old new written
+  pub document : status ≡ 19 → IsProgramRefused fault.Document program old new written
+  pub unopened : status ≡ 20 → IsProgramRefused fault.Unopened program old new written
+  pub unclosed : status ≡ 21 → IsProgramRefused fault.Unclosed program old new written
   -- there is no other status
   pub known : (status ≤ 4) ⊎ ((16 ≤ status) × (status ≤ 21))

@@ -16,10 +16,12 @@ abbrev pub Laid : {A E : Type 0} → Bytes → ℕ → List ℕ → List ℕ →
 Laid y limit old new count (Ok r) = (bytes : List ℕ) × (y ≡ Whole bytes) × PutsAll limit bytes old new count
 Laid y limit old new count (Err (Document e)) = (bytes : List ℕ) × (y ≡ Cut bytes) × PutsAll limit bytes old new count
 Laid y limit old new count (Err (Sink e)) = PutsToLimit limit (bytes_in y) old new count
-Laid y limit old new count (Err (Memory e)) = (front : List ℕ) × (back : List ℕ) × (bytes_in y ≡ front ++ back) × PutsAll limit front old new count
+Laid y limit old new count (Err (Memory e)) = (front : List ℕ) × (back : List ℕ) × (bytes_in y ≡ front ++ back)
+    × PutsAll limit front old new count
 
 -- The tree d was laid into an area, with a limit.
-pub record LaysInto {A E : Type 0} (o : RenderOptions) (d : Tree) (limit : ℕ) (old new : List ℕ) (count : ℕ) (result : Result A (RenderError E)) : Type 0 where
+pub record LaysInto {A E : Type 0} (o : RenderOptions) (d : Tree) (limit : ℕ) (old new : List ℕ) (count : ℕ)
+    (result : Result A (RenderError E)) : Type 0 where
   -- what was put of the layout's bytes
   pub bytes : Laid (layout o d) limit old new count result
   -- `Ok`: the bytes have the document's content

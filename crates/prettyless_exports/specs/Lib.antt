@@ -2,6 +2,7 @@ pub mod Answers
 pub mod Laid
 pub mod Numbers
 pub mod Says
+pub mod Texts
 pub use Rattle.prettyless_area.specs.Overlay
 pub use Rattle.prettyless_program.specs.Programs
 pub use Rattle.prettyless_program.specs.Faults

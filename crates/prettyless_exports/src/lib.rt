@@ -4,3 +4,4 @@
 pub mod lay;
 pub mod layout;
 mod status;
+pub mod text;

@@ -1,7 +1,10 @@
 -- Columns that are alike: content would begin at the same place after the same weak spaces. What is read of them agrees.
-use Rattle.std.proofs.Common.{◌≡◌, ℕ, length, subst, ◌+◌, ◌-◌, ◌^◌, List, [], ◌∷◌, refl, ap, ap₂, ◌∙◌, min, arith, Bool, true, false, not, ◌&&◌, ◌||◌, ◌==◌, nat_le, if◌then◌else◌}
+use Rattle.std.proofs.Common.{◌≡◌, ℕ, length, subst, ◌+◌, ◌-◌, ◌^◌, List, [], ◌∷◌, refl, ap, ap₂, ◌∙◌, min, arith, Bool, true, false, not}
+use Rattle.std.proofs.Common.{◌&&◌, ◌||◌, ◌==◌, nat_le, if◌then◌else◌}
 use Rattle.prettyless_model.specs.declared.options.RenderOptions.{RenderOptions}
-use Rattle.prettyless_model.specs.Tree.{Tree, Fail, Text, TextWithLen, MultilineText, WeakSpace, HardLine, WeakLine, Append, Nest, DedentToRoot, Align, ExpandParent, Flatten, BreakOrFlat, Group, Union, PartialUnion, OnColumn, OnNesting}
+use Rattle.prettyless_model.specs.Tree.{Tree, Fail, Text, TextWithLen, MultilineText, WeakSpace, HardLine, WeakLine, Append, Nest}
+use Rattle.prettyless_model.specs.Tree.{DedentToRoot, Align, ExpandParent, Flatten, BreakOrFlat, Group, Union, PartialUnion, OnColumn}
+use Rattle.prettyless_model.specs.Tree.{OnNesting}
 use Rattle.prettyless_model.specs.Column.{saturating_add, prospective, commit, blank, nested, padding_fits}
 use Rattle.prettyless_model.specs.Choice.{column_holds, nesting_holds}
 use Rattle.prettyless_model.specs.Look.{Look, Answers, GoesOn, answer_of, by_mode, look, look_end, look_text, look_then}
@@ -40,7 +43,10 @@ committed_at w n = record { position = saturating_add n w; indent = 0; padding =
 pub commit_alike : (w : ℕ) (c e : Column) → Alike c e → commit w c ≡ commit w e
 commit_alike w c e h = ap (committed_at w) (prospective_alike c e h)
 
-blank_fields : (p i g q j k : ℕ) (f t : Bool) → Alike (record { position = p; indent = i; padding = g; fresh = f }) (record { position = q; indent = j; padding = k; fresh = t }) → Alike (blank (record { position = p; indent = i; padding = g; fresh = f })) (blank (record { position = q; indent = j; padding = k; fresh = t }))
+blank_fields : (p i g q j k : ℕ) (f t : Bool) → Alike (record { position = p; indent = i; padding = g; fresh = f })
+    (record { position = q; indent = j; padding = k; fresh = t })
+    → Alike (blank (record { position = p; indent = i; padding = g; fresh = f }))
+    (blank (record { position = q; indent = j; padding = k; fresh = t }))
 blank_fields p i g q j k true true h = h
 blank_fields p i g q j k false false h = record { fresh = refl; padding = ap (λ (x : ℕ). saturating_add x 1) h.padding; place = h.place }
 blank_fields p i g q j k true false h = absurd (cc h.fresh)
@@ -71,14 +77,16 @@ looks-same (GoesOn c p) = (alike_equal c c refl, refl)
 looks-equal : (x y : Look) → x ≡ y → AlikeLooks x y
 looks-equal x y e = rw (← e) (looks-same x)
 
-looks-then : (x y : Look) (f g : Column → Bool → Look) → AlikeLooks x y → ((c e : Column) (p : Bool) → Alike c e → AlikeLooks (f c p) (g e p)) → AlikeLooks (look_then x f) (look_then y g)
+looks-then : (x y : Look) (f g : Column → Bool → Look) → AlikeLooks x y
+    → ((c e : Column) (p : Bool) → Alike c e → AlikeLooks (f c p) (g e p)) → AlikeLooks (look_then x f) (look_then y g)
 looks-then (Answers a) (Answers b) f g h k = h
 looks-then (Answers a) (GoesOn e q) f g h k = absurd h
 looks-then (GoesOn c p) (Answers b) f g h k = absurd h
 looks-then (GoesOn c p) (GoesOn e q) f g h k = rw (← h.1) (k c e p h.0)
 
 -- one of two looks, by equal tests
-looks-either : (a b : Bool) (x y z w : Look) → a ≡ b → AlikeLooks x z → AlikeLooks y w → AlikeLooks (if a then x else y) (if b then z else w)
+looks-either : (a b : Bool) (x y z w : Look) → a ≡ b → AlikeLooks x z → AlikeLooks y w
+    → AlikeLooks (if a then x else y) (if b then z else w)
 looks-either true true x y z w e f g = f
 looks-either false false x y z w e f g = g
 looks-either true false x y z w e f g = absurd (cc e)
@@ -94,12 +102,14 @@ end_alike : (w : ℕ) (m : Mode) (c e : Column) (p : Bool) → Alike c e → Ali
 end_alike w m c e p h = ap (λ (x : Bool). by_mode m x false) (padding_fits_alike w p c e h)
 
 -- what a probe comes to from columns that are alike
-pub look_alike : (w : ℕ) (d : Tree) (i : ℕ) (m : Mode) (c e : Column) (p : Bool) → Alike c e → AlikeLooks (look w d i m c p) (look w d i m e p)
+pub look_alike : (w : ℕ) (d : Tree) (i : ℕ) (m : Mode) (c e : Column) (p : Bool) → Alike c e
+    → AlikeLooks (look w d i m c p) (look w d i m e p)
 look_alike w Fail i m c e p h = refl
 look_alike w (Text s) i m c e p h = text_alike w (length s) s c e p h
 look_alike w (TextWithLen n s) i m c e p h = text_alike w n s c e p h
 look_alike w (MultilineText s) i m c e p h =
-    ap (λ (x : Column). by_mode m (not (metrics s).first_nonempty || nat_le x.position w) false) (commit_alike (metrics s).first_width c e h)
+    ap (λ (x : Column). by_mode m (not (metrics s).first_nonempty || nat_le x.position w) false)
+    (commit_alike (metrics s).first_width c e h)
 look_alike w WeakSpace i m c e p h = (blank_alike c e h, refl)
 look_alike w HardLine i m c e p h = end_alike w m c e p h
 look_alike w WeakLine i m c e p h =
@@ -113,7 +123,8 @@ look_alike w (Append l r) i m c e p h =
 look_alike w (Nest k d) i m c e p h = look_alike w d (nested i k) m c e p h
 look_alike w (DedentToRoot d) i m c e p h = look_alike w d 0 m c e p h
 look_alike w (Align d) i m c e p h =
-    subst (λ (n : ℕ). AlikeLooks (look w d (prospective c) m c p) (look w d n m e p)) (prospective_alike c e h) (look_alike w d (prospective c) m c e p h)
+    subst (λ (n : ℕ). AlikeLooks (look w d (prospective c) m c p) (look w d n m e p)) (prospective_alike c e h)
+    (look_alike w d (prospective c) m c e p h)
 look_alike w ExpandParent i Break c e p h = (h, refl)
 look_alike w ExpandParent i Flat c e p h = refl
 look_alike w (Flatten d) i m c e p h = look_alike w d i Flat c e p h
@@ -125,18 +136,21 @@ look_alike w (Union l r) i Flat c e p h = look_alike w l i Flat c e p h
 look_alike w (PartialUnion l r) i Break c e p h = look_alike w r i Break c e p h
 look_alike w (PartialUnion l r) i Flat c e p h = look_alike w l i Flat c e p h
 look_alike w (OnColumn test y n) i m c e p h =
-    looks-either (column_holds test (prospective c) i) (column_holds test (prospective e) i) (look w y i m c p) (look w n i m c p) (look w y i m e p) (look w n i m e p)
+    looks-either (column_holds test (prospective c) i) (column_holds test (prospective e) i) (look w y i m c p) (look w n i m c p)
+    (look w y i m e p) (look w n i m e p)
     (ap (λ (x : ℕ). column_holds test x i) (prospective_alike c e h))
     (look_alike w y i m c e p h)
     (look_alike w n i m c e p h)
 look_alike w (OnNesting test y n) i m c e p h =
-    looks-either (nesting_holds test i) (nesting_holds test i) (look w y i m c p) (look w n i m c p) (look w y i m e p) (look w n i m e p) refl
+    looks-either (nesting_holds test i) (nesting_holds test i) (look w y i m c p) (look w n i m c p) (look w y i m e p)
+    (look w n i m e p) refl
     (look_alike w y i m c e p h)
     (look_alike w n i m c e p h)
 -- every other node leaves the column as it is
 look_alike w _ i m c e p h = (h, refl)
 
-answers-alike : (x y : Look) (f : Column → Bool → Bool) → AlikeLooks x y → ((c e : Column) (p : Bool) → Alike c e → f c p ≡ f e p) → answer_of x f ≡ answer_of y f
+answers-alike : (x y : Look) (f : Column → Bool → Bool) → AlikeLooks x y → ((c e : Column) (p : Bool) → Alike c e → f c p ≡ f e p)
+    → answer_of x f ≡ answer_of y f
 answers-alike (Answers a) (Answers b) f h k = h
 answers-alike (Answers a) (GoesOn e q) f h k = absurd h
 answers-alike (GoesOn c p) (Answers b) f h k = absurd h
@@ -148,15 +162,19 @@ rest_alike w (x ∷ rest) c e p h =
     answers-alike (look w x.tree x.indent Break c p) (look w x.tree x.indent Break e p) (λ u q. rest_fits w rest u q)
     (look_alike w x.tree x.indent Break c e p h) (λ u v q k. rest_alike w rest u v q k)
 
-pub probe_alike : (o p : RenderOptions) → o.width ≡ p.width → (d : Tree) (i : ℕ) (m : Mode) (rest : List Entry) (s u : State) → AlikeStates s u → probe o d i m rest s ≡ probe p d i m rest u
+pub probe_alike : (o p : RenderOptions) → o.width ≡ p.width → (d : Tree) (i : ℕ) (m : Mode) (rest : List Entry) (s u : State)
+    → AlikeStates s u → probe o d i m rest s ≡ probe p d i m rest u
 probe_alike o p e d i m rest s u h =
-    answers-alike (look o.width d i m s.column (some_pending s.pending)) (look o.width d i m u.column (some_pending s.pending)) (λ c q. rest_fits o.width rest c q)
+    answers-alike (look o.width d i m s.column (some_pending s.pending)) (look o.width d i m u.column (some_pending s.pending))
+    (λ c q. rest_fits o.width rest c q)
     (look_alike o.width d i m s.column u.column (some_pending s.pending) h.column) (λ a b q k. rest_alike o.width rest a b q k)
     ∙ ap₂ (λ (w : ℕ) (ps : List Tree). answer_of (look w d i m u.column (some_pending ps)) (λ c q. rest_fits w rest c q)) e h.pending
 
-pub payload_alike : (o p : RenderOptions) → o.width ≡ p.width → (m : Metrics) (c e : Column) → Alike c e → payload_fits o m c ≡ payload_fits p m e
+pub payload_alike : (o p : RenderOptions) → o.width ≡ p.width → (m : Metrics) (c e : Column) → Alike c e
+    → payload_fits o m c ≡ payload_fits p m e
 payload_alike o p q m c e h =
-    ap₂ (λ (w n : ℕ). (not m.first_nonempty || nat_le (saturating_add n m.first_width) w) && nat_le m.rest_width w) q (prospective_alike c e h)
+    ap₂ (λ (w n : ℕ). (not m.first_nonempty || nat_le (saturating_add n m.first_width) w) && nat_le m.rest_width w) q
+    (prospective_alike c e h)
 
 pub flushed_alike : (o p : RenderOptions) → o.width ≡ p.width → (s u : State) → AlikeStates s u → AlikeStates (flushed o s) (flushed p u)
 flushed_alike o p e s u h = record {

@@ -2,7 +2,8 @@
 -- same at a regrouped document.
 use Rattle.std.proofs.Common.{◌≡◌, ℕ, List, ◌∷◌, refl, ap, sym, ◌∙◌, Bool}
 use Rattle.prettyless_model.specs.declared.options.RenderOptions.{RenderOptions}
-use Rattle.prettyless_model.specs.Tree.{Tree, Append, Nest, DedentToRoot, Align, Flatten, BreakOrFlat, Group, Union, PartialUnion, OnColumn, OnNesting}
+use Rattle.prettyless_model.specs.Tree.{Tree, Append, Nest, DedentToRoot, Align, Flatten, BreakOrFlat, Group, Union, PartialUnion, OnColumn}
+use Rattle.prettyless_model.specs.Tree.{OnNesting}
 use Rattle.prettyless_model.specs.Choice.{column_holds, nesting_holds}
 use Rattle.prettyless_model.specs.Column.{nested, prospective}
 use Rattle.prettyless_model.specs.Look.{Look, answer_of, look, look_then}
@@ -13,10 +14,12 @@ use Rattle.prettyless_model.specs.declared.mode.Mode.TheVariants.{Break, Flat}
 use Rattle.prettyless_model.proofs.Looks.{answer-then, look-each, look-either, look-same, look-then-then}
 use Rattle.prettyless_model.proofs.Outcomes.{then-then}
 use Rattle.prettyless_laws.specs.Regrouped.{appended, right}
-use Rattle.prettyless_laws.proofs.Following.{Alike, ReadsAlike, then-same, lay_alike}
+use Rattle.prettyless_laws.specs.Parts.{FollowAlike, ReadsAlike}
+use Rattle.prettyless_laws.proofs.Following.{then-same, lay_alike}
 
 -- what holds of each tree and its `Append` before r, and goes past a left arm, holds of what is appended
-appended_by : (P : Tree → Tree → Type 0) (r : Tree) → ((l : Tree) → P l (Append l r)) → ((a b : Tree) → P b (appended b r) → P (Append a b) (Append a (appended b r))) → (l : Tree) → P l (appended l r)
+appended_by : (P : Tree → Tree → Type 0) (r : Tree) → ((l : Tree) → P l (Append l r))
+    → ((a b : Tree) → P b (appended b r) → P (Append a b) (Append a (appended b r))) → (l : Tree) → P l (appended l r)
 appended_by P r f g (Append a b) = g a b (appended_by P r f g b)
 appended_by P r f g l = f l
 
@@ -33,10 +36,11 @@ appended_looks w l r i m =
 
 -- the second tree is laid as the first one and then r
 abbrev LaidBefore : RenderOptions → Breaks → Tree → Tree → Tree → Type 0
-LaidBefore o brk r l t = (i : ℕ) (m : Mode) (s : List Entry) (st : State) → lay o brk t i m s st ≡ and_then (lay o brk l i m (entry i r ∷ s) st) (λ u. lay o brk r i m s u)
+LaidBefore o brk r l t = (i : ℕ) (m : Mode) (s : List Entry) (st : State)
+    → lay o brk t i m s st ≡ and_then (lay o brk l i m (entry i r ∷ s) st) (λ u. lay o brk r i m s u)
 
 -- what follows a left arm is alike in both groupings
-alike_appended : (i : ℕ) (b r : Tree) (s : List Entry) → Alike (entry i (appended b r) ∷ s) (entry i b ∷ entry i r ∷ s)
+alike_appended : (i : ℕ) (b r : Tree) (s : List Entry) → FollowAlike (entry i (appended b r) ∷ s) (entry i b ∷ entry i r ∷ s)
 alike_appended i b r s = (
   λ j. refl,
   λ w c p.
@@ -44,10 +48,12 @@ alike_appended i b r s = (
       ∙ answer-then (look w b i Break c p) (λ e q. look w r i Break e q) (λ e q. rest_fits w s e q),
 )
 
-past_left : (o : RenderOptions) (brk : Breaks) → ReadsAlike brk → (r a b : Tree) → LaidBefore o brk r b (appended b r) → LaidBefore o brk r (Append a b) (Append a (appended b r))
+past_left : (o : RenderOptions) (brk : Breaks) → ReadsAlike brk → (r a b : Tree) → LaidBefore o brk r b (appended b r)
+    → LaidBefore o brk r (Append a b) (Append a (appended b r))
 unfolding lay
 past_left o brk k r a b h = λ i m s st.
-    then-same (lay o brk a i m (entry i (appended b r) ∷ s) st) (lay o brk a i m (entry i b ∷ entry i r ∷ s) st) (λ u. lay o brk (appended b r) i m s u) (λ u. and_then (lay o brk b i m (entry i r ∷ s) u) (λ v. lay o brk r i m s v))
+    then-same (lay o brk a i m (entry i (appended b r) ∷ s) st) (lay o brk a i m (entry i b ∷ entry i r ∷ s) st)
+    (λ u. lay o brk (appended b r) i m s u) (λ u. and_then (lay o brk b i m (entry i r ∷ s) u) (λ v. lay o brk r i m s v))
     (lay_alike o brk k a i m (entry i (appended b r) ∷ s) (entry i b ∷ entry i r ∷ s) st (alike_appended i b r s))
     (h i m s)
     ∙ sym (then-then (lay o brk a i m (entry i b ∷ entry i r ∷ s) st) (λ u. lay o brk b i m (entry i r ∷ s) u) (λ v. lay o brk r i m s v))
@@ -73,7 +79,8 @@ right_looks (Union l r) w i Flat c p = right_looks l w i Flat c p
 right_looks (PartialUnion l r) w i Break c p = right_looks r w i Break c p
 right_looks (PartialUnion l r) w i Flat c p = right_looks l w i Flat c p
 right_looks (OnColumn test y n) w i m c p =
-    look-either (column_holds test (prospective c) i) (look w (right y) i m c p) (look w (right n) i m c p) (look w y i m c p) (look w n i m c p)
+    look-either (column_holds test (prospective c) i) (look w (right y) i m c p) (look w (right n) i m c p) (look w y i m c p)
+    (look w n i m c p)
     (right_looks y w i m c p) (right_looks n w i m c p)
 right_looks (OnNesting test y n) w i m c p =
     look-either (nesting_holds test i) (look w (right y) i m c p) (look w (right n) i m c p) (look w y i m c p) (look w n i m c p)

@@ -1,15 +1,18 @@
 -- Flat lines: a probe that answers yes goes through the states that the layout in Flat goes through, and its trace.
-use Rattle.std.proofs.Common.{◌≡◌, ℕ, suc, List, [], ◌∷◌, ◌++◌, length, refl, ap, sym, ◌∙◌, append_assoc, append-nil, Bool, true, false, not, ◌&&◌, nat_le, if◌then◌else◌, ◌⊎◌, inl, inr}
+use Rattle.std.proofs.Common.{◌≡◌, ℕ, suc, List, [], ◌∷◌, ◌++◌, length, refl, ap, sym, ◌∙◌, append_assoc, append-nil, Bool, true, false}
+use Rattle.std.proofs.Common.{not, ◌&&◌, nat_le, if◌then◌else◌, ◌⊎◌, inl, inr}
 use Rattle.std.proofs.Math.Bool.{and-true}
 use Rattle.std.proofs.lemmas.Bool.{and_parts, leb-true}
 use Rattle.std.proofs.lemmas.List.Elements.{All-nil, All-cons, All-append}
 use Rattle.prettyless_model.specs.Spaces.{spaces}
 use Rattle.prettyless_model.specs.declared.options.RenderOptions.{RenderOptions}
-use Rattle.prettyless_model.specs.Tree.{Tree, Nil, Text, TextWithLen, WeakSpace, WeakLine, Append, LineSuffix, Nest, DedentToRoot, Align, Flatten, BreakOrFlat, Group, Union, PartialUnion, OnColumn, OnNesting}
+use Rattle.prettyless_model.specs.Tree.{Tree, Nil, Text, TextWithLen, WeakSpace, WeakLine, Append, LineSuffix, Nest, DedentToRoot, Align}
+use Rattle.prettyless_model.specs.Tree.{Flatten, BreakOrFlat, Group, Union, PartialUnion, OnColumn, OnNesting}
 use Rattle.prettyless_model.specs.Column.{commit, blank, gap, prospective, nested}
 use Rattle.prettyless_model.specs.Choice.{column_holds, nesting_holds}
 use Rattle.prettyless_model.specs.Look.{Answers, GoesOn, answer_of, look, look_text}
-use Rattle.prettyless_model.specs.Layout.{State, Outcome, Done, Entry, Breaks, after_bytes, and_then, lay, lay_text, entry, probe, rest_fits, some_pending, tried, lay_ending, next_indent, break_with, breaks}
+use Rattle.prettyless_model.specs.Layout.{State, Outcome, Done, Entry, Breaks, after_bytes, and_then, lay, lay_text, entry, probe}
+use Rattle.prettyless_model.specs.Layout.{rest_fits, some_pending, tried, lay_ending, next_indent, break_with, breaks}
 use Rattle.prettyless_model.specs.Levels.{settle, queued}
 use Rattle.prettyless_model.specs.declared.column.Column.{Column}
 use Rattle.prettyless_model.specs.declared.mode.Mode.{Mode}
@@ -17,8 +20,10 @@ use Rattle.prettyless_model.specs.declared.mode.Mode.TheVariants.{Break, Flat}
 use Rattle.prettyless_model.proofs.Looks.{answer-then}
 use Rattle.prettyless_laws.specs.Trace as traces
 use Rattle.prettyless_laws.specs.Reading.{IsPlain}
-use Rattle.prettyless_laws.specs.Trace.{Gap, Chose, Side, First, Second, Tracing, Traced, BreakTraces, after_pieces, traced_then, trace_text, trace_ending, chosen, trace_at, trace_break_with, trace_breaks}
-use Rattle.prettyless_laws.specs.FlatLines.{LeavesPending, IsLike, SkipsWeakLines, LaysFlat, LiesOnOneLine, PassesWeakLines, TracesFlat, IsOnOneLine, IsNoAlternative, IsTracedOnOneLine, IsTracedAsFlatGroup}
+use Rattle.prettyless_laws.specs.Trace.{Gap, Chose, Side, First, Second, Tracing, Traced, BreakTraces, after_pieces, traced_then}
+use Rattle.prettyless_laws.specs.Trace.{trace_text, trace_ending, noted_choice, trace_at, trace_break_with, trace_breaks}
+use Rattle.prettyless_laws.specs.FlatLines.{LeavesPending, IsLike, SkipsWeakLines, LaysFlat, LiesOnOneLine, PassesWeakLines, TracesFlat}
+use Rattle.prettyless_laws.specs.FlatLines.{IsOnOneLine, IsNoAlternative, IsTracedOnOneLine, IsTracedAsFlatGroup}
 
 -- the answer is yes from a state, at an indent in Flat, with what is asked of the column after the tree
 abbrev Fits : RenderOptions → Tree → ℕ → (Column → Bool → Bool) → State → Type 0
@@ -33,12 +38,15 @@ none_pending [] e = refl
 none_pending (p ∷ ps) e = absurd (cc)
 
 -- a look that goes on by a test, or answers no
-only_on : (t : Bool) (c : Column) (p : Bool) (next : Column → Bool → Bool) → answer_of (if t then GoesOn c p else Answers false) next ≡ true → (t ≡ true) × (next c p ≡ true)
+only_on : (t : Bool) (c : Column) (p : Bool) (next : Column → Bool → Bool) → answer_of (if t then GoesOn c p else Answers false) next ≡ true
+    → (t ≡ true) × (next c p ≡ true)
 only_on true c p next e = (refl, e)
 only_on false c p next e = absurd (cc)
 
 -- a tree that writes nothing and leaves nothing pending
-flows_by : (o : RenderOptions) (d : Tree) (i : ℕ) (next : Column → Bool → Bool) (st u : State) → LaysFlat o d i st [] u → LaysFlat o d i (tried st) [] (tried u) → TracesFlat o d i st [] u → u.within ≡ st.within → u.pending ≡ st.pending → LeavesPending d [] → next u.column (some_pending u.pending) ≡ true → IsTracedOnOneLine o d i next st
+flows_by : (o : RenderOptions) (d : Tree) (i : ℕ) (next : Column → Bool → Bool) (st u : State) → LaysFlat o d i st [] u
+    → LaysFlat o d i (tried st) [] (tried u) → TracesFlat o d i st [] u → u.within ≡ st.within → u.pending ≡ st.pending → LeavesPending d []
+    → next u.column (some_pending u.pending) ≡ true → IsTracedOnOneLine o d i next st
 flows_by o d i next st u e f t w p n h = record {
   lies = record {
     bytes = [];
@@ -63,7 +71,11 @@ like_as d x f i j q (inl p) = inl (q p)
 like_as d x f i j q (inr e) = inr (ap f e)
 
 -- a tree that is laid and traced as another at an indent of its own
-flows_as : (o : RenderOptions) (d x : Tree) (i : ℕ) (f : ℕ → ℕ) (next : Column → Bool → Bool) (st : State) → ((brk : Breaks) (j : ℕ) (rest : List Entry) (u : State) → u.column ≡ st.column → lay o brk d j Flat rest u ≡ lay o brk x (f j) Flat rest u) → ((brk : BreakTraces) (j : ℕ) (rest : List Entry) → trace_at o brk d j Flat rest st ≡ trace_at o brk x (f j) Flat rest st) → ((ds : List Tree) → LeavesPending x ds → LeavesPending d ds) → (IsPlain d → IsPlain x) → IsTracedOnOneLine o x (f i) next st → IsTracedOnOneLine o d i next st
+flows_as : (o : RenderOptions) (d x : Tree) (i : ℕ) (f : ℕ → ℕ) (next : Column → Bool → Bool) (st : State)
+    → ((brk : Breaks) (j : ℕ) (rest : List Entry) (u : State) → u.column ≡ st.column → lay o brk d j Flat rest u ≡ lay o brk x (f j) Flat
+    rest u) → ((brk : BreakTraces) (j : ℕ) (rest : List Entry) → trace_at o brk d j Flat rest st ≡ trace_at o brk x (f j) Flat rest st)
+    → ((ds : List Tree) → LeavesPending x ds → LeavesPending d ds) → (IsPlain d → IsPlain x) → IsTracedOnOneLine o x (f i) next st
+    → IsTracedOnOneLine o d i next st
 flows_as o d x i f next st e t n q h = record {
   lies = record {
     bytes = h.lies.bytes;
@@ -88,7 +100,11 @@ only_like d i j q (inl p) = absurd (q p)
 only_like d i j q (inr e) = e
 
 -- a tree that is laid as another, which its trace notes as an alternative
-flows_chosen : (o : RenderOptions) (side : Side) (d x : Tree) (i : ℕ) (next : Column → Bool → Bool) (st : State) → ((brk : Breaks) (rest : List Entry) (u : State) → u.column ≡ st.column → lay o brk d i Flat rest u ≡ lay o brk x i Flat rest u) → ((brk : BreakTraces) (rest : List Entry) → trace_at o brk d i Flat rest st ≡ chosen side (trace_at o brk x i Flat rest st)) → ((ds : List Tree) → LeavesPending x ds → LeavesPending d ds) → (IsPlain d → ⊥) → IsTracedOnOneLine o x i next st → IsTracedOnOneLine o d i next st
+flows_chosen : (o : RenderOptions) (side : Side) (d x : Tree) (i : ℕ) (next : Column → Bool → Bool) (st : State)
+    → ((brk : Breaks) (rest : List Entry) (u : State) → u.column ≡ st.column → lay o brk d i Flat rest u ≡ lay o brk x i Flat rest u)
+    → ((brk : BreakTraces) (rest : List Entry) → trace_at o brk d i Flat rest st ≡ noted_choice side (trace_at o brk x i Flat rest st))
+    → ((ds : List Tree) → LeavesPending x ds → LeavesPending d ds) → (IsPlain d → ⊥) → IsTracedOnOneLine o x i next st
+    → IsTracedOnOneLine o d i next st
 flows_chosen o side d x i next st e t n q h = record {
   lies = record {
     bytes = h.lies.bytes;
@@ -107,24 +123,39 @@ flows_chosen o side d x i next st e t n q h = record {
   pieces = Chose side ∷ h.pieces;
   traced = λ brk k j a rest.
       ap (λ (m : ℕ). trace_at o brk d m Flat rest st) (only_like d i j q a) ∙ t brk rest
-      ∙ ap (chosen side) (h.traced brk k i (inr refl) rest);
+      ∙ ap (noted_choice side) (h.traced brk k i (inr refl) rest);
   on_one_line = All-cons (IsOnOneLine o.width) (Chose side) h.pieces tt h.on_one_line;
   plain = λ p. absurd (q p);
 }
 
 -- a tree that is laid as one of two by a test
-flows_choice : (o : RenderOptions) (d y n : Tree) (i : ℕ) (next : Column → Bool → Bool) (st : State) (t : Bool) → ((brk : Breaks) (rest : List Entry) (u : State) → u.column ≡ st.column → lay o brk d i Flat rest u ≡ (if t then lay o brk y i Flat rest u else lay o brk n i Flat rest u)) → ((brk : BreakTraces) (rest : List Entry) → trace_at o brk d i Flat rest st ≡ (if t then chosen First (trace_at o brk y i Flat rest st) else chosen Second (trace_at o brk n i Flat rest st))) → ((ds : List Tree) → LeavesPending y ds ⊎ LeavesPending n ds → LeavesPending d ds) → (IsPlain d → ⊥) → answer_of (if t then look o.width y i Flat st.column (some_pending st.pending) else look o.width n i Flat st.column (some_pending st.pending)) next ≡ true → (Fits o y i next st → IsTracedOnOneLine o y i next st) → (Fits o n i next st → IsTracedOnOneLine o n i next st) → IsTracedOnOneLine o d i next st
+flows_choice : (o : RenderOptions) (d y n : Tree) (i : ℕ) (next : Column → Bool → Bool) (st : State) (t : Bool)
+    → ((brk : Breaks) (rest : List Entry) (u : State) → u.column ≡ st.column
+    → lay o brk d i Flat rest u ≡ (if t then lay o brk y i Flat rest u else lay o brk n i Flat rest u))
+    → ((brk : BreakTraces) (rest : List Entry)
+    → trace_at o brk d i Flat rest st ≡ (if t then noted_choice First (trace_at o brk y i Flat rest st)
+    else noted_choice Second (trace_at o brk n i Flat rest st)))
+    → ((ds : List Tree) → LeavesPending y ds ⊎ LeavesPending n ds → LeavesPending d ds) → (IsPlain d → ⊥)
+    → answer_of (if t then look o.width y i Flat st.column (some_pending st.pending) else look o.width n i Flat st.column
+    (some_pending st.pending)) next ≡ true → (Fits o y i next st → IsTracedOnOneLine o y i next st)
+    → (Fits o n i next st → IsTracedOnOneLine o n i next st) → IsTracedOnOneLine o d i next st
 flows_choice o d y n i next st true e t l q h f g = flows_chosen o First d y i next st e t (λ ds k. l ds (inl k)) q (f h)
 flows_choice o d y n i next st false e t l q h f g = flows_chosen o Second d n i next st e t (λ ds k. l ds (inr k)) q (g h)
 
 -- the flag stays where the text ends within the width
-inked : (o : RenderOptions) (w : ℕ) (st : State) → nat_le (commit w st.column).position o.width ≡ true → (t : Bool) → (record st { column = commit w st.column; within = t && nat_le (commit w st.column).position o.width }) ≡ (record st { column = commit w st.column; within = t })
+inked : (o : RenderOptions) (w : ℕ) (st : State) → nat_le (commit w st.column).position o.width ≡ true → (t : Bool)
+    → (record st { column = commit w st.column; within = t && nat_le (commit w st.column).position o.width })
+    ≡ (record st { column = commit w st.column; within = t })
 inked o w st h t =
     ap (λ (x : Bool). record st { column = commit w st.column; within = x }) (ap (λ (x : Bool). t && x) h ∙ and-true t)
 
-text_flows : (o : RenderOptions) (d : Tree) (i : ℕ) (w : ℕ) (s : List ℕ) (next : Column → Bool → Bool) (st : State) → ((brk : Breaks) (j : ℕ) (rest : List Entry) (u : State) → lay o brk d j Flat rest u ≡ lay_text o w s u) → ((brk : BreakTraces) (j : ℕ) (rest : List Entry) → trace_at o brk d j Flat rest st ≡ trace_text o w s st) → LeavesPending d [] → answer_of (look_text o.width w s st.column (some_pending st.pending)) next ≡ true → IsTracedOnOneLine o d i next st
+text_flows : (o : RenderOptions) (d : Tree) (i : ℕ) (w : ℕ) (s : List ℕ) (next : Column → Bool → Bool) (st : State)
+    → ((brk : Breaks) (j : ℕ) (rest : List Entry) (u : State) → lay o brk d j Flat rest u ≡ lay_text o w s u)
+    → ((brk : BreakTraces) (j : ℕ) (rest : List Entry) → trace_at o brk d j Flat rest st ≡ trace_text o w s st) → LeavesPending d []
+    → answer_of (look_text o.width w s st.column (some_pending st.pending)) next ≡ true → IsTracedOnOneLine o d i next st
 text_flows o d i w [] next st e t n h =
-    flows_by o d i next st st (λ brk k j a rest. e brk j rest st) (λ brk k j a rest. e brk j rest (tried st)) (λ brk k j a rest. t brk j rest) refl refl n h
+    flows_by o d i next st st (λ brk k j a rest. e brk j rest st) (λ brk k j a rest. e brk j rest (tried st))
+    (λ brk k j a rest. t brk j rest) refl refl n h
 text_flows o d i w (b ∷ bs) next st e t n h =
     let parts = only_on (nat_le (commit w st.column).position o.width) (commit w st.column) (some_pending st.pending) next h in
     let bytes = spaces (gap st.column) ++ (b ∷ bs) in
@@ -160,7 +191,8 @@ like_second l r i j (inl p) = inl p.1
 like_second l r i j (inr e) = inr e
 
 -- one tree after another
-append_flows : (o : RenderOptions) (l r : Tree) (i : ℕ) (mid next : Column → Bool → Bool) (st : State) → (x : IsTracedOnOneLine o l i mid st) → IsTracedOnOneLine o r i next x.lies.state → IsTracedOnOneLine o (Append l r) i next st
+append_flows : (o : RenderOptions) (l r : Tree) (i : ℕ) (mid next : Column → Bool → Bool) (st : State)
+    → (x : IsTracedOnOneLine o l i mid st) → IsTracedOnOneLine o r i next x.lies.state → IsTracedOnOneLine o (Append l r) i next st
 unfolding lay trace_at
 append_flows o l r i mid next st x y = record {
   lies = record {
@@ -187,18 +219,22 @@ append_flows o l r i mid next st x y = record {
   plain = λ k. All-append IsNoAlternative x.pieces y.pieces (x.plain k.0) (y.plain k.1);
 }
 
-flows : (o : RenderOptions) (d : Tree) (i : ℕ) (next : Column → Bool → Bool) (st : State) → Fits o d i next st → IsTracedOnOneLine o d i next st
+flows : (o : RenderOptions) (d : Tree) (i : ℕ) (next : Column → Bool → Bool) (st : State) → Fits o d i next st
+    → IsTracedOnOneLine o d i next st
 unfolding lay trace_at
-flows o Nil i next st h = flows_by o Nil i next st st (λ brk k j a rest. refl) (λ brk k j a rest. refl) (λ brk k j a rest. refl) refl refl refl h
+flows o Nil i next st h = flows_by o Nil i next st st (λ brk k j a rest. refl) (λ brk k j a rest. refl) (λ brk k j a rest. refl)
+    refl refl refl h
 flows o (Text s) i next st h = text_flows o (Text s) i (length s) s next st (λ brk j rest u. refl) (λ brk j rest. refl) refl h
 flows o (TextWithLen w s) i next st h = text_flows o (TextWithLen w s) i w s next st (λ brk j rest u. refl) (λ brk j rest. refl) refl h
 flows o WeakSpace i next st h =
-    flows_by o WeakSpace i next st (record st { column = blank st.column }) (λ brk k j a rest. refl) (λ brk k j a rest. refl) (λ brk k j a rest. refl) refl refl refl h
+    flows_by o WeakSpace i next st (record st { column = blank st.column }) (λ brk k j a rest. refl) (λ brk k j a rest. refl)
+    (λ brk k j a rest. refl) refl refl refl h
 flows o WeakLine i next st h =
     let taken = only_on (st.column.fresh && not (some_pending st.pending)) st.column (some_pending st.pending) next h in
     let parts = and_parts _ _ taken.0 in
     let none = none_pending st.pending parts.1 in
-    flows_by o WeakLine i next st st (λ brk k j a rest. k j rest st none parts.0) (λ brk k j a rest. k j rest (tried st) none parts.0) (λ brk k j a rest. k j rest st none parts.0) refl refl refl taken.1
+    flows_by o WeakLine i next st st (λ brk k j a rest. k j rest st none parts.0) (λ brk k j a rest. k j rest (tried st) none parts.0)
+    (λ brk k j a rest. k j rest st none parts.0) refl refl refl taken.1
 flows o (Append l r) i next st h =
     let x = flows o l i (λ e q. answer_of (look o.width r i Flat e q) next) st
     (sym (answer-then (look o.width l i Flat st.column (some_pending st.pending)) (λ e q. look o.width r i Flat e q) next) ∙ h) in
@@ -221,53 +257,74 @@ flows o (LineSuffix d) i next st h = record {
   plain = λ k. All-nil IsNoAlternative;
 }
 flows o (Nest n d) i next st h =
-    flows_as o (Nest n d) d i (λ j. nested j n) next st (λ brk j rest u e. refl) (λ brk j rest. refl) (λ ds k. k) (λ k. k) (flows o d (nested i n) next st h)
+    flows_as o (Nest n d) d i (λ j. nested j n) next st (λ brk j rest u e. refl) (λ brk j rest. refl) (λ ds k. k) (λ k. k)
+    (flows o d (nested i n) next st h)
 flows o (DedentToRoot d) i next st h =
-    flows_as o (DedentToRoot d) d i (λ j. 0) next st (λ brk j rest u e. refl) (λ brk j rest. refl) (λ ds k. k) (λ k. k) (flows o d 0 next st h)
+    flows_as o (DedentToRoot d) d i (λ j. 0) next st (λ brk j rest u e. refl) (λ brk j rest. refl) (λ ds k. k) (λ k. k)
+    (flows o d 0 next st h)
 flows o (Align d) i next st h =
-    flows_as o (Align d) d i (λ j. prospective st.column) next st (λ brk j rest u e. ap (λ (c : Column). lay o brk d (prospective c) Flat rest u) e) (λ brk j rest. refl) (λ ds k. k) (λ k. k)
+    flows_as o (Align d) d i (λ j. prospective st.column) next st
+    (λ brk j rest u e. ap (λ (c : Column). lay o brk d (prospective c) Flat rest u) e) (λ brk j rest. refl) (λ ds k. k) (λ k. k)
     (flows o d (prospective st.column) next st h)
-flows o (Flatten d) i next st h = flows_as o (Flatten d) d i (λ j. j) next st (λ brk j rest u e. refl) (λ brk j rest. refl) (λ ds k. k) (λ k. k) (flows o d i next st h)
+flows o (Flatten d) i next st h = flows_as o (Flatten d) d i (λ j. j) next st (λ brk j rest u e. refl) (λ brk j rest. refl) (λ ds k. k)
+    (λ k. k) (flows o d i next st h)
 flows o (BreakOrFlat b f) i next st h =
-    flows_as o (BreakOrFlat b f) f i (λ j. j) next st (λ brk j rest u e. refl) (λ brk j rest. refl) (λ ds k. k) (λ k. k.1) (flows o f i next st h)
-flows o (Group d) i next st h = flows_as o (Group d) d i (λ j. j) next st (λ brk j rest u e. refl) (λ brk j rest. refl) (λ ds k. k) (λ k. k) (flows o d i next st h)
-flows o (Union l r) i next st h = flows_as o (Union l r) l i (λ j. j) next st (λ brk j rest u e. refl) (λ brk j rest. refl) (λ ds k. k) (λ k. k.0) (flows o l i next st h)
+    flows_as o (BreakOrFlat b f) f i (λ j. j) next st (λ brk j rest u e. refl) (λ brk j rest. refl) (λ ds k. k) (λ k. k.1)
+    (flows o f i next st h)
+flows o (Group d) i next st h = flows_as o (Group d) d i (λ j. j) next st (λ brk j rest u e. refl) (λ brk j rest. refl) (λ ds k. k) (λ k. k)
+    (flows o d i next st h)
+flows o (Union l r) i next st h = flows_as o (Union l r) l i (λ j. j) next st (λ brk j rest u e. refl) (λ brk j rest. refl) (λ ds k. k)
+    (λ k. k.0) (flows o l i next st h)
 flows o (PartialUnion l r) i next st h =
-    flows_as o (PartialUnion l r) l i (λ j. j) next st (λ brk j rest u e. refl) (λ brk j rest. refl) (λ ds k. k) (λ k. k.0) (flows o l i next st h)
+    flows_as o (PartialUnion l r) l i (λ j. j) next st (λ brk j rest u e. refl) (λ brk j rest. refl) (λ ds k. k) (λ k. k.0)
+    (flows o l i next st h)
 flows o (OnColumn test y n) i next st h =
     flows_choice o (OnColumn test y n) y n i next st (column_holds test (prospective st.column) i)
-    (λ brk rest u e. ap (λ (c : Column). if column_holds test (prospective c) i then lay o brk y i Flat rest u else lay o brk n i Flat rest u) e)
+    (λ brk rest u e. ap (λ (c : Column). if column_holds test (prospective c) i then lay o brk y i Flat rest u
+    else lay o brk n i Flat rest u) e)
     (λ brk rest. refl) (λ ds k. k) (λ k. k) h (flows o y i next st) (flows o n i next st)
 flows o (OnNesting test y n) i next st h =
-    flows_choice o (OnNesting test y n) y n i next st (nesting_holds test i) (λ brk rest u e. refl) (λ brk rest. refl) (λ ds k. k) (λ k. k) h
+    flows_choice o (OnNesting test y n) y n i next st (nesting_holds test i) (λ brk rest u e. refl) (λ brk rest. refl)
+    (λ ds k. k) (λ k. k) h
     (flows o y i next st) (flows o n i next st)
 -- the probe of a flat line answers no to every other node
 flows o _ i next st h = absurd (cc)
 
-pub one_line : (o : RenderOptions) (d : Tree) (i : ℕ) (rest : List Entry) (st : State) → probe o d i Flat rest st ≡ true → LiesOnOneLine o d i (λ c p. rest_fits o.width rest c p) st
+pub one_line : (o : RenderOptions) (d : Tree) (i : ℕ) (rest : List Entry) (st : State) → probe o d i Flat rest st ≡ true
+    → LiesOnOneLine o d i (λ c p. rest_fits o.width rest c p) st
 one_line o d i rest st h = (flows o d i (λ c p. rest_fits o.width rest c p) st h).lies
 
-pub traced_on_one_line : (o : RenderOptions) (d : Tree) (i : ℕ) (rest : List Entry) (st : State) → probe o d i Flat rest st ≡ true → IsTracedOnOneLine o d i (λ c p. rest_fits o.width rest c p) st
+pub traced_on_one_line : (o : RenderOptions) (d : Tree) (i : ℕ) (rest : List Entry) (st : State) → probe o d i Flat rest st ≡ true
+    → IsTracedOnOneLine o d i (λ c p. rest_fits o.width rest c p) st
 traced_on_one_line o d i rest st h = flows o d i (λ c p. rest_fits o.width rest c p) st h
 
-pub group_is_flat : (o : RenderOptions) (brk : Breaks) (d : Tree) (i : ℕ) (m : Mode) (rest : List Entry) (st : State) → probe o d i Flat rest st ≡ true → lay o brk (Group d) i m rest st ≡ lay o brk d i Flat rest st
+pub group_is_flat : (o : RenderOptions) (brk : Breaks) (d : Tree) (i : ℕ) (m : Mode) (rest : List Entry) (st : State)
+    → probe o d i Flat rest st ≡ true → lay o brk (Group d) i m rest st ≡ lay o brk d i Flat rest st
 unfolding lay
 group_is_flat o brk d i Break rest st h = ap (λ (t : Bool). lay o brk d i (if t then Flat else Break) rest st) h
 group_is_flat o brk d i Flat rest st h = refl
 
 -- the trace of a group in Break whose probe answers yes: its first alternative, and then its document in Flat
-group_chooses : (o : RenderOptions) (brk : BreakTraces) (d : Tree) (i : ℕ) (rest : List Entry) (st : State) → probe o d i Flat rest st ≡ true → trace_at o brk (Group d) i Break rest st ≡ chosen First (trace_at o brk d i Flat rest st)
+group_chooses : (o : RenderOptions) (brk : BreakTraces) (d : Tree) (i : ℕ) (rest : List Entry) (st : State)
+    → probe o d i Flat rest st ≡ true → trace_at o brk (Group d) i Break rest st ≡ noted_choice First (trace_at o brk d i Flat rest st)
 unfolding trace_at
 group_chooses o brk d i rest st h =
-    ap (λ (t : Bool). if t then chosen First (trace_at o brk d i Flat rest st) else chosen Second (trace_at o brk d i Break rest st)) h
+    ap (λ (t : Bool). if t then noted_choice First (trace_at o brk d i Flat rest st) else noted_choice Second
+    (trace_at o brk d i Break rest st)) h
 
-pub traced_as_flat_group : (o : RenderOptions) (d : Tree) (i : ℕ) (rest : List Entry) (st : State) → probe o d i Flat rest st ≡ true → IsTracedAsFlatGroup o d i rest st
+pub traced_as_flat_group : (o : RenderOptions) (d : Tree) (i : ℕ) (rest : List Entry) (st : State) → probe o d i Flat rest st ≡ true
+    → IsTracedAsFlatGroup o d i rest st
 traced_as_flat_group o d i rest st h =
     let x = traced_on_one_line o d i rest st h in
-    record { document = x; traced = λ brk k. group_chooses o brk d i rest st h ∙ ap (chosen First) (x.traced brk k i (inr refl) rest) }
+    record {
+      document = x;
+      traced = λ brk k. group_chooses o brk d i rest st h
+          ∙ ap (noted_choice First) (x.traced brk k i (inr refl) rest);
+    }
 
 -- a break runs `plain_break` where nothing is pending, and that skips a fresh weak line
-skips : (o : RenderOptions) (brk : Breaks) (i : ℕ) (rest : List Entry) (st : State) → st.pending ≡ [] → st.column.fresh ≡ true → break_with o brk st.pending WeakLine i Flat rest st ≡ Done [] st
+skips : (o : RenderOptions) (brk : Breaks) (i : ℕ) (rest : List Entry) (st : State) → st.pending ≡ [] → st.column.fresh ≡ true
+    → break_with o brk st.pending WeakLine i Flat rest st ≡ Done [] st
 skips o brk i rest st e f =
     ap (λ (ps : List Tree). break_with o brk ps WeakLine i Flat rest st) e
     ∙ ap (λ (t : Bool). if t then Done [] st else lay_ending o o.indentation_policy (next_indent i rest) st) f
@@ -281,7 +338,8 @@ unfolding settle
 settle_skips o = λ i rest st e f. breaks_skip o (queued st.pending) i rest st e f
 
 -- the same of the trace of a break
-passes : (o : RenderOptions) (brk : BreakTraces) (i : ℕ) (rest : List Entry) (st : State) → st.pending ≡ [] → st.column.fresh ≡ true → trace_break_with o brk st.pending WeakLine i Flat rest st ≡ Traced [] st
+passes : (o : RenderOptions) (brk : BreakTraces) (i : ℕ) (rest : List Entry) (st : State) → st.pending ≡ [] → st.column.fresh ≡ true
+    → trace_break_with o brk st.pending WeakLine i Flat rest st ≡ Traced [] st
 passes o brk i rest st e f =
     ap (λ (ps : List Tree). trace_break_with o brk ps WeakLine i Flat rest st) e
     ∙ ap (λ (t : Bool). if t then Traced [] st else trace_ending o.indentation_policy (next_indent i rest) st) f

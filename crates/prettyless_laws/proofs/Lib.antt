@@ -2,6 +2,11 @@ pub mod Following
 pub mod Appended
 pub mod Regrouping
 pub mod FlatLines
+pub mod Inline
+pub mod NeverFlat
+pub mod LineEnds
+pub mod Sequences
+pub mod Lists
 pub mod TotalTrees
 pub mod Alike
 pub mod Widths

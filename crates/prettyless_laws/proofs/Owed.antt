@@ -5,7 +5,7 @@ use Rattle.prettyless_model.specs.Spaces.{spaces}
 use Rattle.prettyless_model.specs.declared.options.RenderOptions.{RenderOptions}
 use Rattle.prettyless_model.specs.declared.options.IndentationPolicy.{IndentationPolicy}
 use Rattle.prettyless_model.specs.declared.options.IndentationPolicy.TheVariants.{Eager, Deferred}
-use Rattle.prettyless_laws.specs.Trace.{Piece, Ending, Indent, Gap, Text, Source, Chose, has_content, settled, indent_bytes, written}
+use Rattle.prettyless_laws.specs.Trace.{Piece, Ending, Indent, Gap, Text, Source, Chose, has_content, settled, indent_bytes, written_pieces}
 
 -- what is written of an indent with the end of the line before it
 abbrev pub at_once : IndentationPolicy → ℕ → ℕ
@@ -47,7 +47,8 @@ pub owed-append : (o : RenderOptions) (k : ℕ) (ps qs : List Piece) → owed o 
 owed-append o k [] qs = refl
 owed-append o k (Ending ∷ ps) qs = one-more _ _ (owed o 0 ps) (owed o (left o 0 ps) qs) (owed-append o 0 ps qs)
 owed-append o k (Indent j used ∷ ps) qs =
-    one-more (spaces (at_once o.indentation_policy j)) (owed o (later o.indentation_policy j) (ps ++ qs)) (owed o (later o.indentation_policy j) ps) (owed o (left o (later o.indentation_policy j) ps) qs)
+    one-more (spaces (at_once o.indentation_policy j)) (owed o (later o.indentation_policy j) (ps ++ qs))
+    (owed o (later o.indentation_policy j) ps) (owed o (left o (later o.indentation_policy j) ps) qs)
     (owed-append o (later o.indentation_policy j) ps qs)
 owed-append o k (Gap g ∷ ps) qs =
     two-more (spaces k) (spaces g) (owed o 0 (ps ++ qs)) (owed o 0 ps) (owed o (left o 0 ps) qs) (owed-append o 0 ps qs)
@@ -70,24 +71,26 @@ pub none_owed : (b : Bool) (x : List ℕ) → (if b then spaces 0 else []) ++ x 
 none_owed true x = refl
 none_owed false x = refl
 
-indent_owed : (p : IndentationPolicy) (j : ℕ) (b : Bool) (x : List ℕ) → spaces (at_once p j) ++ ((if b then spaces (later p j) else []) ++ x) ≡ indent_bytes p j b ++ x
+indent_owed : (p : IndentationPolicy) (j : ℕ) (b : Bool) (x : List ℕ)
+    → spaces (at_once p j) ++ ((if b then spaces (later p j) else []) ++ x) ≡ indent_bytes p j b ++ x
 indent_owed Eager j true x = refl
 indent_owed Eager j false x = refl
 indent_owed Deferred j true x = refl
 indent_owed Deferred j false x = refl
 
 -- what is pending is written at once where content uses it, and else not at all
-pub owed_settled : (o : RenderOptions) (k : ℕ) (ps : List Piece) → owed o k ps ≡ (if has_content ps then spaces k else []) ++ written o (settled ps)
+pub owed_settled : (o : RenderOptions) (k : ℕ) (ps : List Piece) → owed o k ps ≡ (if has_content ps then spaces k else [])
+    ++ written_pieces o (settled ps)
 owed_settled o k [] = refl
 owed_settled o k (Ending ∷ ps) =
-    ap (λ (x : List ℕ). ending o.line_ending ++ x) (owed_settled o 0 ps ∙ none_owed (has_content ps) (written o (settled ps)))
+    ap (λ (x : List ℕ). ending o.line_ending ++ x) (owed_settled o 0 ps ∙ none_owed (has_content ps) (written_pieces o (settled ps)))
 owed_settled o k (Indent j used ∷ ps) =
     ap (λ (x : List ℕ). spaces (at_once o.indentation_policy j) ++ x) (owed_settled o (later o.indentation_policy j) ps)
-    ∙ indent_owed o.indentation_policy j (has_content ps) (written o (settled ps))
+    ∙ indent_owed o.indentation_policy j (has_content ps) (written_pieces o (settled ps))
 owed_settled o k (Gap g ∷ ps) =
-    ap (λ (x : List ℕ). spaces k ++ (spaces g ++ x)) (owed_settled o 0 ps ∙ none_owed (has_content ps) (written o (settled ps)))
+    ap (λ (x : List ℕ). spaces k ++ (spaces g ++ x)) (owed_settled o 0 ps ∙ none_owed (has_content ps) (written_pieces o (settled ps)))
 owed_settled o k (Text s c ∷ ps) =
-    ap (λ (x : List ℕ). spaces k ++ (s ++ x)) (owed_settled o 0 ps ∙ none_owed (has_content ps) (written o (settled ps)))
+    ap (λ (x : List ℕ). spaces k ++ (s ++ x)) (owed_settled o 0 ps ∙ none_owed (has_content ps) (written_pieces o (settled ps)))
 owed_settled o k (Source s ∷ ps) =
-    ap (λ (x : List ℕ). s ++ x) (owed_settled o 0 ps ∙ none_owed (has_content ps) (written o (settled ps)))
+    ap (λ (x : List ℕ). s ++ x) (owed_settled o 0 ps ∙ none_owed (has_content ps) (written_pieces o (settled ps)))
 owed_settled o k (Chose side ∷ ps) = owed_settled o k ps

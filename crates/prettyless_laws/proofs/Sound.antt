@@ -1,12 +1,13 @@
 -- Columns as a layout comes to them: on a fresh line no weak space waits, and after content no indent. So nothing that waits
 -- is cut off at the greatest `usize`.
-use Rattle.std.proofs.Common.{◌≡◌, ℕ, ◌+◌, ◌-◌, ◌^◌, ◌≤◌, ℤ, pos, negsuc, List, [], ◌∷◌, ◌++◌, refl, ap, ◌∙◌, sym, arith, add-zero, zero-add, le_trans, sub-le, Bool, true, false, if◌then◌else◌}
+use Rattle.std.proofs.Common.{◌≡◌, ℕ, ◌+◌, ◌-◌, ◌^◌, ◌≤◌, ℤ, pos, negsuc, List, [], ◌∷◌, ◌++◌, refl, ap, ◌∙◌, sym, arith, add-zero}
+use Rattle.std.proofs.Common.{zero-add, le_trans, sub-le, Bool, true, false, if◌then◌else◌}
 use Rattle.std.proofs.Math.Nat.{min-le_right, min-eq_left}
 use Rattle.std.proofs.lemmas.List.{replicate-append-replicate}
 use Rattle.prettyless_model.specs.Spaces.{spaces}
 use Rattle.prettyless_model.specs.Tree.{Tree}
 use Rattle.prettyless_model.specs.Column.{start, saturating_add, gap, commit, blank, nested}
-use Rattle.prettyless_model.specs.Layout.{Entry, behind_payload, next_indent, entries}
+use Rattle.prettyless_model.specs.Layout.{Entry, after_payload, next_indent, entries}
 use Rattle.prettyless_model.specs.declared.column.Column.{Column}
 use Rattle.prettyless_model.specs.declared.metrics.Metrics.{Metrics}
 
@@ -40,7 +41,8 @@ pub next_in_range : (i : ℕ) (rest : List Entry) → InRange i → EntriesInRan
 next_in_range i [] h r = h
 next_in_range i (e ∷ es) h r = r.0
 
-pub entries_in_range : (i : ℕ) (ds : List Tree) (rest : List Entry) → InRange i → EntriesInRange rest → EntriesInRange (entries i ds ++ rest)
+pub entries_in_range : (i : ℕ) (ds : List Tree) (rest : List Entry) → InRange i → EntriesInRange rest
+    → EntriesInRange (entries i ds ++ rest)
 entries_in_range i [] rest h r = r
 entries_in_range i (d ∷ ds) rest h r = (h, entries_in_range i ds rest h r)
 
@@ -73,12 +75,12 @@ either_sound : (b : Bool) (w : ℕ) → Sound (if b then commit w start else sta
 either_sound true w = commit_sound w start
 either_sound false w = (zero_in_range, refl)
 
-pub after_sound : (m : Metrics) → Sound (behind_payload m)
+pub after_sound : (m : Metrics) → Sound (after_payload m)
 after_sound m = either_sound m.last_nonempty m.last_width
 
 either_indent : (b : Bool) (w : ℕ) → 0 ≡ (if b then commit w start else start).indent
 either_indent true w = refl
 either_indent false w = refl
 
-pub after_indent : (m : Metrics) → 0 ≡ (behind_payload m).indent
+pub after_indent : (m : Metrics) → 0 ≡ (after_payload m).indent
 after_indent m = either_indent m.last_nonempty m.last_width

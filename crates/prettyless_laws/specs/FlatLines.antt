@@ -1,7 +1,8 @@
 -- Laws of flat lines: what the probe answers yes to is laid on one line, and its trace shows that.
 use Rattle.std.specs.Prelude.{◌≡◌, ℕ, suc, ◌≤◌, Bool, true, List, [], ◌∷◌, ◌++◌, All, ◌⊎◌, ⊤}
 use Rattle.prettyless_model.specs.declared.options.RenderOptions.{RenderOptions}
-use Rattle.prettyless_model.specs.Tree.{Tree, WeakLine, Append, LineSuffix, Nest, DedentToRoot, Align, Flatten, BreakOrFlat, Group, Union, PartialUnion, OnColumn, OnNesting}
+use Rattle.prettyless_model.specs.Tree.{Tree, WeakLine, Append, LineSuffix, Nest, DedentToRoot, Align, Flatten, BreakOrFlat, Group, Union}
+use Rattle.prettyless_model.specs.Tree.{PartialUnion, OnColumn, OnNesting}
 use Rattle.prettyless_model.specs.Layout.{State, Done, Breaks, Entry, lay, probe, rest_fits, some_pending, tried, breaks}
 use Rattle.prettyless_model.specs.Levels.{settle}
 use Rattle.prettyless_model.specs.declared.column.Column.{Column}
@@ -74,7 +75,8 @@ WhatFitsLiesOnOneLine =
 -- a group is laid so wherever its probe answers yes
 abbrev pub GroupsThatFitAreFlat : Type 0
 GroupsThatFitAreFlat =
-    (o : RenderOptions) (brk : Breaks) (d : Tree) (i : ℕ) (m : Mode) (rest : List Entry) (st : State) → probe o d i Flat rest st ≡ true → lay o brk (Group d) i m rest st ≡ lay o brk d i Flat rest st
+    (o : RenderOptions) (brk : Breaks) (d : Tree) (i : ℕ) (m : Mode) (rest : List Entry) (st : State) → probe o d i Flat rest st ≡ true
+    → lay o brk (Group d) i m rest st ≡ lay o brk d i Flat rest st
 
 -- breaks with at least one level, and with as many as they need, leave out such weak lines
 abbrev pub BreaksSkipWeakLines : Type 0
@@ -104,7 +106,8 @@ PassesWeakLines brk =
 -- the trace of a break, and before anything
 abbrev pub TracesFlat : RenderOptions → Tree → ℕ → State → List Piece → State → Type 0
 TracesFlat o d i st pieces after =
-    (brk : BreakTraces) → PassesWeakLines brk → (j : ℕ) → IsLike d i j → (rest : List Entry) → trace_at o brk d j Flat rest st ≡ Traced pieces after
+    (brk : BreakTraces) → PassesWeakLines brk → (j : ℕ) → IsLike d i j → (rest : List Entry)
+    → trace_at o brk d j Flat rest st ≡ Traced pieces after
 
 -- a tree that is laid on one line, and its trace
 pub record IsTracedOnOneLine (o : RenderOptions) (d : Tree) (i : ℕ) (next : Column → Bool → Bool) (st : State) : Type 0 where
@@ -124,7 +127,8 @@ pub record IsTracedAsFlatGroup (o : RenderOptions) (d : Tree) (i : ℕ) (rest : 
   -- the document
   pub document : IsTracedOnOneLine o d i (λ c p. rest_fits o.width rest c p) st
   -- the group, whatever the trace of a break
-  pub traced : (brk : BreakTraces) → PassesWeakLines brk → trace_at o brk (Group d) i Break rest st ≡ Traced (Chose First ∷ document.pieces) document.lies.state
+  pub traced : (brk : BreakTraces) → PassesWeakLines brk → trace_at o brk (Group d) i Break rest st ≡ Traced (Chose First ∷ document.pieces)
+      document.lies.state
 
 -- what the probe answers yes to in Flat has its trace on one line
 abbrev pub WhatFitsIsTracedOnOneLine : Type 0
@@ -134,7 +138,8 @@ WhatFitsIsTracedOnOneLine =
 
 -- a group has such a trace wherever its probe answers yes
 abbrev pub GroupsThatFitAreTracedFlat : Type 0
-GroupsThatFitAreTracedFlat = (o : RenderOptions) (d : Tree) (i : ℕ) (rest : List Entry) (st : State) → probe o d i Flat rest st ≡ true → IsTracedAsFlatGroup o d i rest st
+GroupsThatFitAreTracedFlat = (o : RenderOptions) (d : Tree) (i : ℕ) (rest : List Entry) (st : State) → probe o d i Flat rest st ≡ true
+    → IsTracedAsFlatGroup o d i rest st
 
 -- the trace's own breaks, of at least one level, have nothing of such weak lines
 abbrev pub TraceBreaksPassWeakLines : Type 0

@@ -3,6 +3,7 @@ pub mod Regrouped
 pub use Rattle.prettyless_model.specs.Layout
 pub use Rattle.prettyless_model.specs.Tree
 pub mod FlatLines
+pub mod Parts
 pub mod TotalTrees
 pub mod Trace
 pub mod Traced

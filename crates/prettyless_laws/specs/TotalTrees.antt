@@ -1,7 +1,8 @@
 -- Documents that cannot fail.
 use Rattle.std.specs.Prelude.{◌≡◌, ℕ, List, ⊤}
 use Rattle.prettyless_model.specs.declared.options.RenderOptions.{RenderOptions}
-use Rattle.prettyless_model.specs.Tree.{Tree, Fail, Append, LineSuffix, Nest, DedentToRoot, Align, Flatten, BreakOrFlat, Group, Union, PartialUnion, OnColumn, OnNesting}
+use Rattle.prettyless_model.specs.Tree.{Tree, Fail, Append, LineSuffix, Nest, DedentToRoot, Align, Flatten, BreakOrFlat, Group, Union}
+use Rattle.prettyless_model.specs.Tree.{PartialUnion, OnColumn, OnNesting}
 use Rattle.prettyless_model.specs.Layout.{layout, Whole}
 
 -- a tree with no Fail and no Flatten

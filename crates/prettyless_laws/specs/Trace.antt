@@ -11,7 +11,8 @@ use Rattle.prettyless_model.specs.Metrics.{metrics}
 use Rattle.prettyless_model.specs.Column.{indented, deferred, prospective, commit, blank, padding_fits, nested}
 use Rattle.prettyless_model.specs.Choice.{column_holds, nesting_holds}
 use Rattle.prettyless_model.specs.Look.{by_mode}
-use Rattle.prettyless_model.specs.Layout.{State, Entry, Bytes, Whole, Cut, payload_fits, behind_payload, next_indent, entry, entries, some_pending, probe, tried, flushed, is_suppressed, initial}
+use Rattle.prettyless_model.specs.Layout.{State, Entry, Bytes, Whole, Cut, payload_fits, after_payload, next_indent, entry, entries}
+use Rattle.prettyless_model.specs.Layout.{some_pending, probe, tried, flushed, is_suppressed, initial}
 use Rattle.prettyless_model.specs.declared.metrics.Metrics.{Metrics}
 use Rattle.prettyless_model.specs.declared.mode.Mode.{Mode}
 use Rattle.prettyless_model.specs.declared.mode.Mode.TheVariants.{Break, Flat}
@@ -52,13 +53,14 @@ abbrev pub trace_text : RenderOptions → ℕ → List ℕ → State → Tracing
 trace_text o w [] st = Traced [] st
 trace_text o w (b ∷ bs) st =
     let c = commit w st.column in
-    Traced (Gap st.column.padding ∷ Text (b ∷ bs) c.position ∷ []) (record st { column = c; within = st.within && nat_le c.position o.width })
+    Traced (Gap st.column.padding ∷ Text (b ∷ bs) c.position ∷ [])
+    (record st { column = c; within = st.within && nat_le c.position o.width })
 
 -- a payload: the weak spaces before it come first, unless its first part is empty
 abbrev pub trace_payload : RenderOptions → Metrics → List ℕ → State → Tracing
 trace_payload o m s st =
     Traced ((if m.first_nonempty then Gap st.column.padding ∷ [] else []) ++ (Source s ∷ []))
-    (record st { column = behind_payload m; within = st.within && payload_fits o m st.column })
+    (record st { column = after_payload m; within = st.within && payload_fits o m st.column })
 
 -- the end of a line, and the indent of the next; what follows them will say whether it is used
 abbrev pub trace_ending : IndentationPolicy → ℕ → State → Tracing
@@ -66,14 +68,16 @@ trace_ending Eager k st = Traced (Ending ∷ Indent k false ∷ []) (record st {
 trace_ending Deferred k st = Traced (Ending ∷ Indent k false ∷ []) (record st { column = deferred k })
 
 -- an alternative, noted before what it lays
-abbrev pub chosen : Side → Tracing → Tracing
-chosen side x = after_pieces (Chose side ∷ []) x
+abbrev pub noted_choice : Side → Tracing → Tracing
+noted_choice side x = after_pieces (Chose side ∷ []) x
 
 -- the first branch of a union if it is kept, and else the second
 abbrev pub trace_accept : RenderOptions → Bool → Tracing → Tracing → Tracing
 trace_accept o was (Traced ps st) other =
-    if st.within && padding_fits o.width (some_pending st.pending) st.column then chosen First (Traced ps (record st { within = was })) else chosen Second other
-trace_accept o was (Stopped ps) other = chosen Second other
+    if st.within && padding_fits o.width (some_pending st.pending) st.column then noted_choice First
+    (Traced ps (record st { within = was }))
+    else noted_choice Second other
+trace_accept o was (Stopped ps) other = noted_choice Second other
 
 -- The trace of a break.
 abbrev pub BreakTraces : Type 0
@@ -99,18 +103,22 @@ trace_at o brk (t.Flatten d) i m rest st = trace_at o brk d i Flat rest st
 trace_at o brk (t.BreakOrFlat b f) i m rest st = by_mode m (trace_at o brk b i m rest st) (trace_at o brk f i m rest st)
 trace_at o brk (t.Group d) i m rest st =
     by_mode m
-    (if probe o d i Flat rest st then chosen First (trace_at o brk d i Flat rest st) else chosen Second (trace_at o brk d i Break rest st))
+    (if probe o d i Flat rest st then noted_choice First (trace_at o brk d i Flat rest st) else noted_choice Second
+    (trace_at o brk d i Break rest st))
     (trace_at o brk d i Flat rest st)
 trace_at o brk (t.Union l r) i m rest st =
-    by_mode m (trace_accept o st.within (trace_at o brk l i m rest (tried st)) (trace_at o brk r i m rest st)) (trace_at o brk l i m rest st)
+    by_mode m (trace_accept o st.within (trace_at o brk l i m rest (tried st)) (trace_at o brk r i m rest st))
+    (trace_at o brk l i m rest st)
 trace_at o brk (t.PartialUnion l r) i m rest st =
     by_mode m
-    (if probe o l i Break rest st then chosen First (trace_at o brk l i m rest st) else chosen Second (trace_at o brk r i m rest st))
+    (if probe o l i Break rest st then noted_choice First (trace_at o brk l i m rest st) else noted_choice Second
+    (trace_at o brk r i m rest st))
     (trace_at o brk l i m rest st)
 trace_at o brk (t.OnColumn test y n) i m rest st =
-    if column_holds test (prospective st.column) i then chosen First (trace_at o brk y i m rest st) else chosen Second (trace_at o brk n i m rest st)
+    if column_holds test (prospective st.column) i then noted_choice First (trace_at o brk y i m rest st)
+    else noted_choice Second (trace_at o brk n i m rest st)
 trace_at o brk (t.OnNesting test y n) i m rest st =
-    if nesting_holds test i then chosen First (trace_at o brk y i m rest st) else chosen Second (trace_at o brk n i m rest st)
+    if nesting_holds test i then noted_choice First (trace_at o brk y i m rest st) else noted_choice Second (trace_at o brk n i m rest st)
 
 -- trees one after another at one indent
 unfoldable pub trace_each : RenderOptions → BreakTraces → List Tree → ℕ → Mode → List Entry → State → Tracing
@@ -192,20 +200,20 @@ indent_bytes Eager k used = spaces k
 indent_bytes Deferred k used = if used then spaces k else []
 
 -- the bytes of a piece
-abbrev pub piece_bytes : RenderOptions → Piece → List ℕ
-piece_bytes o Ending = ending o.line_ending
-piece_bytes o (Indent k used) = indent_bytes o.indentation_policy k used
-piece_bytes o (Gap g) = spaces g
-piece_bytes o (Text s c) = s
-piece_bytes o (Source s) = s
-piece_bytes o (Chose side) = []
+abbrev pub piece_layout : RenderOptions → Piece → List ℕ
+piece_layout o Ending = ending o.line_ending
+piece_layout o (Indent k used) = indent_bytes o.indentation_policy k used
+piece_layout o (Gap g) = spaces g
+piece_layout o (Text s c) = s
+piece_layout o (Source s) = s
+piece_layout o (Chose side) = []
 
 -- the bytes of pieces, one after another
-abbrev pub written : RenderOptions → List Piece → List ℕ
-written o [] = []
-written o (piece ∷ ps) = piece_bytes o piece ++ written o ps
+abbrev pub written_pieces : RenderOptions → List Piece → List ℕ
+written_pieces o [] = []
+written_pieces o (piece ∷ ps) = piece_layout o piece ++ written_pieces o ps
 
 -- a trace written out as a layout
 abbrev pub written_out : RenderOptions → Trace → Bytes
-written_out o (Complete ps) = Whole (written o ps)
-written_out o (Partial ps) = Cut (written o ps)
+written_out o (Complete ps) = Whole (written_pieces o ps)
+written_out o (Partial ps) = Cut (written_pieces o ps)

@@ -1,4 +1,5 @@
-ghost use Rattle.prettyless_laws.specs.FlatLines.{WhatFitsLiesOnOneLine, GroupsThatFitAreFlat, BreaksSkipWeakLines, WhatFitsIsTracedOnOneLine, GroupsThatFitAreTracedFlat, TraceBreaksPassWeakLines};
+ghost use Rattle.prettyless_laws.specs.FlatLines.{WhatFitsLiesOnOneLine, GroupsThatFitAreFlat, BreaksSkipWeakLines};
+ghost use Rattle.prettyless_laws.specs.FlatLines.{WhatFitsIsTracedOnOneLine, GroupsThatFitAreTracedFlat, TraceBreaksPassWeakLines};
 
 /// Where the probe finds that a document fits when flat, the document is laid flat without a failure and without a line
 /// break; no text of it ends past the width, and no pending suffix is laid. So is a group whose probe answers yes.

@@ -3,6 +3,7 @@
 #![tactic(auto)]
 
 mod flat;
+mod parts;
 mod probed;
 mod regrouped;
 pub mod rows;
@@ -11,6 +12,7 @@ mod total;
 mod traced;
 
 pub use flat::law_flat_group;
+pub use parts::law_parts;
 pub use probed::law_probe;
 pub use regrouped::law_regroup;
 pub use texts::law_texts;

@@ -3,12 +3,16 @@ use Rattle.std.proofs.Common.{◌≡◌, ℕ, zero, suc, ◌+◌, ◌==◌, List
 use Rattle.std.proofs.lemmas.List.Sums.{sum_by-append}
 use Rattle.prettyless_model.specs.Spaces.{spaces}
 use Rattle.prettyless_model.specs.declared.options.RenderOptions.{RenderOptions}
-use Rattle.prettyless_model.specs.Tree.{Tree, Nil, Fail, Text, TextWithLen, MultilineText, WeakSpace, HardLine, WeakLine, Append, LineSuffix, Nest, DedentToRoot, Align, ExpandParent, Flatten, BreakOrFlat, Group, Union, PartialUnion, OnColumn, OnNesting, size}
+use Rattle.prettyless_model.specs.Tree.{Tree, Nil, Fail, Text, TextWithLen, MultilineText, WeakSpace, HardLine, WeakLine, Append}
+use Rattle.prettyless_model.specs.Tree.{LineSuffix, Nest, DedentToRoot, Align, ExpandParent, Flatten, BreakOrFlat, Group, Union}
+use Rattle.prettyless_model.specs.Tree.{PartialUnion, OnColumn, OnNesting, size}
 use Rattle.prettyless_model.specs.Column.{gap, blank, prospective, nested}
 use Rattle.prettyless_model.specs.Metrics.{metrics}
 use Rattle.prettyless_model.specs.Choice.{column_holds, nesting_holds}
 use Rattle.prettyless_model.specs.Look.{by_mode}
-use Rattle.prettyless_model.specs.Layout.{State, Outcome, Done, Failed, Entry, Breaks, Whole, after_bytes, and_then, lay, lay_each, lay_text, lay_payload, probe, tried, plain_break, flushed, entry, entries, break_with, end_with, breaks, finish, layout, layout_by, initial, bytes_of}
+use Rattle.prettyless_model.specs.Layout.{State, Outcome, Done, Failed, Entry, Breaks, Whole, after_bytes, and_then, lay, lay_each}
+use Rattle.prettyless_model.specs.Layout.{lay_text, lay_payload, probe, tried, plain_break, flushed, entry, entries, break_with, end_with}
+use Rattle.prettyless_model.specs.Layout.{breaks, finish, layout, layout_by, initial, bytes_of}
 use Rattle.prettyless_model.specs.Spelling.{ink, spells}
 use Rattle.prettyless_model.specs.Content.{count}
 use Rattle.prettyless_model.specs.declared.mode.Mode.{Mode}
@@ -31,7 +35,8 @@ count_ink : (c : ℕ) (a b : List ℕ) → count c (ink (a ++ b)) ≡ count c (i
 count_ink c a b = ap (count c) (ink-append a b) ∙ count-append c (ink a) (ink b)
 
 -- what is written while the pending documents stay
-leaves_writes : (c : ℕ) (v w q : List ℕ) (st : State) (o : Outcome) → Writes v st.pending o → w ≡ v → spells (row st.pending) q → Leaves c (count c w + count c q) o
+leaves_writes : (c : ℕ) (v w q : List ℕ) (st : State) (o : Outcome) → Writes v st.pending o → w ≡ v → spells (row st.pending) q
+    → Leaves c (count c w + count c q) o
 leaves_writes c v w q st (Done b after) h e s =
     (q, rw h.1 s, ap (λ (x : List ℕ). count c x + count c q) (h.0 ∙ sym e))
 leaves_writes c v w q st (Failed b) h e s = tt
@@ -44,15 +49,18 @@ leaves-after c n k b (Done a st) e h = (h.0, h.1, omega (arith, count_ink c b a,
 leaves-after c n k b (Failed a) e h = tt
 
 -- one outcome after another, of which the second adds v
-leaves-then : (c n v k : ℕ) (o : Outcome) (f : State → Outcome) → n + v ≡ k → Leaves c n o → ((st : State) (q : List ℕ) → spells (row st.pending) q → Leaves c (v + count c q) (f st)) → Leaves c k (and_then o f)
+leaves-then : (c n v k : ℕ) (o : Outcome) (f : State → Outcome) → n + v ≡ k → Leaves c n o
+    → ((st : State) (q : List ℕ) → spells (row st.pending) q → Leaves c (v + count c q) (f st)) → Leaves c k (and_then o f)
 leaves-then c n v k (Done b st) f e h g = leaves-after c (v + count c h.0) k b (f st) (omega (arith, h.2)) (g st h.0 h.1)
 leaves-then c n v k (Failed b) f e h g = tt
 
 -- a break loses nothing of what waits, and adds nothing
 abbrev pub Conserves : ℕ → Breaks → Type 0
-Conserves c brk = (d : Tree) (i : ℕ) (m : Mode) (rest : List Entry) (st : State) (q : List ℕ) → spells (row st.pending) q → Leaves c (count c q) (brk d i m rest st)
+Conserves c brk = (d : Tree) (i : ℕ) (m : Mode) (rest : List Entry) (st : State) (q : List ℕ) → spells (row st.pending) q
+    → Leaves c (count c q) (brk d i m rest st)
 
-pub lay_counts : (o : RenderOptions) (brk : Breaks) (c : ℕ) → Conserves c brk → (d : Tree) (i : ℕ) (m : Mode) (rest : List Entry) (st : State) (w q : List ℕ) → spells d w → spells (row st.pending) q → Leaves c (count c w + count c q) (lay o brk d i m rest st)
+pub lay_counts : (o : RenderOptions) (brk : Breaks) (c : ℕ) → Conserves c brk → (d : Tree) (i : ℕ) (m : Mode) (rest : List Entry)
+    (st : State) (w q : List ℕ) → spells d w → spells (row st.pending) q → Leaves c (count c w + count c q) (lay o brk d i m rest st)
 unfolding lay
 lay_counts o brk c k Nil i m rest st w q h s = leaves_writes c [] w q st (Done [] st) (refl, refl) h s
 lay_counts o brk c k Fail i m rest st w q h s = tt
@@ -87,7 +95,8 @@ lay_counts o brk c k (BreakOrFlat x y) i Flat rest st w q h s = lay_counts o brk
 lay_counts o brk c k (Group d) i m rest st w q h s =
     lay_counts o brk c k d i (by_mode m (if probe o d i Flat rest st then Flat else Break) Flat) rest st w q h s
 lay_counts o brk c k (Union x y) i Break rest st w q h s =
-    holds-accept (Leaves c (count c w + count c q)) (λ b z was e. e) o st.within (lay o brk x i Break rest (tried st)) (lay o brk y i Break rest st)
+    holds-accept (Leaves c (count c w + count c q)) (λ b z was e. e) o st.within (lay o brk x i Break rest (tried st))
+    (lay o brk y i Break rest st)
     (lay_counts o brk c k x i Break rest (tried st) w q h.0 s)
     (lay_counts o brk c k y i Break rest st w q h.1 s)
 lay_counts o brk c k (Union x y) i Flat rest st w q h s = lay_counts o brk c k x i Flat rest st w q h.0 s
@@ -97,7 +106,8 @@ lay_counts o brk c k (PartialUnion x y) i Break rest st w q h s =
     (lay_counts o brk c k y i Break rest st w q h.1 s)
 lay_counts o brk c k (PartialUnion x y) i Flat rest st w q h s = lay_counts o brk c k x i Flat rest st w q h.0 s
 lay_counts o brk c k (OnColumn test x y) i m rest st w q h s =
-    holds-either (Leaves c (count c w + count c q)) (column_holds test (prospective st.column) i) (lay o brk x i m rest st) (lay o brk y i m rest st)
+    holds-either (Leaves c (count c w + count c q)) (column_holds test (prospective st.column) i) (lay o brk x i m rest st)
+    (lay o brk y i m rest st)
     (lay_counts o brk c k x i m rest st w q h.0 s)
     (lay_counts o brk c k y i m rest st w q h.1 s)
 lay_counts o brk c k (OnNesting test x y) i m rest st w q h s =
@@ -105,7 +115,9 @@ lay_counts o brk c k (OnNesting test x y) i m rest st w q h s =
     (lay_counts o brk c k x i m rest st w q h.0 s)
     (lay_counts o brk c k y i m rest st w q h.1 s)
 
-each_counts : (o : RenderOptions) (brk : Breaks) (c : ℕ) → Conserves c brk → (ds : List Tree) (i : ℕ) (m : Mode) (rest : List Entry) (st : State) (w q : List ℕ) → spells (row ds) w → spells (row st.pending) q → Leaves c (count c w + count c q) (lay_each o brk ds i m rest st)
+each_counts : (o : RenderOptions) (brk : Breaks) (c : ℕ) → Conserves c brk → (ds : List Tree) (i : ℕ) (m : Mode) (rest : List Entry)
+    (st : State) (w q : List ℕ) → spells (row ds) w → spells (row st.pending) q
+    → Leaves c (count c w + count c q) (lay_each o brk ds i m rest st)
 unfolding lay_each
 each_counts o brk c k [] i m rest st w q h s = leaves_writes c [] w q st (Done [] st) (refl, refl) h s
 each_counts o brk c k (d ∷ ds) i m rest st w q h s =
@@ -115,16 +127,23 @@ each_counts o brk c k (d ∷ ds) i m rest st w q h s =
     (λ z r e. each_counts o brk c k ds i m rest z h.1 r h.3 e)
 
 -- what waits is laid, and what goes on conserves what waits still
-waiting_counts : (o : RenderOptions) (brk : Breaks) (c : ℕ) → Conserves c brk → (ps : List Tree) (i : ℕ) (m : Mode) (rest : List Entry) (st : State) (again : State → Outcome) (q : List ℕ) → spells (row ps) q → ((u : State) (r : List ℕ) → spells (row u.pending) r → Leaves c (count c r) (again u)) → Leaves c (count c q) (after_bytes (spaces (gap st.column)) (and_then (lay_each o brk ps i m rest (flushed o st)) again))
+waiting_counts : (o : RenderOptions) (brk : Breaks) (c : ℕ) → Conserves c brk → (ps : List Tree) (i : ℕ) (m : Mode) (rest : List Entry)
+    (st : State) (again : State → Outcome) (q : List ℕ) → spells (row ps) q
+    → ((u : State) (r : List ℕ) → spells (row u.pending) r → Leaves c (count c r) (again u))
+    → Leaves c (count c q) (after_bytes (spaces (gap st.column)) (and_then (lay_each o brk ps i m rest (flushed o st)) again))
 waiting_counts o brk c k ps i m rest st again q h g =
-    leaves-after c (count c q) (count c q) (spaces (gap st.column)) (and_then (lay_each o brk ps i m rest (flushed o st)) again) (omega (arith, ap (count c) (ink-spaces (gap st.column))))
+    leaves-after c (count c q) (count c q) (spaces (gap st.column)) (and_then (lay_each o brk ps i m rest (flushed o st)) again)
+    (omega (arith, ap (count c) (ink-spaces (gap st.column))))
     (leaves-then c (count c q + 0) 0 (count c q) (lay_each o brk ps i m rest (flushed o st)) again (omega arith)
     (each_counts o brk c k ps i m rest (flushed o st) q [] h refl)
     (λ u r e. leaves_same c (count c r) (0 + count c r) (again u) (omega arith) (g u r e)))
 
-break_counts : (o : RenderOptions) (brk : Breaks) (c : ℕ) → Conserves c brk → (ps : List Tree) (d : Tree) (i : ℕ) (m : Mode) (rest : List Entry) (st : State) (q : List ℕ) → spells (row ps) q → spells (row st.pending) q → Leaves c (count c q) (break_with o brk ps d i m rest st)
+break_counts : (o : RenderOptions) (brk : Breaks) (c : ℕ) → Conserves c brk → (ps : List Tree) (d : Tree) (i : ℕ) (m : Mode)
+    (rest : List Entry) (st : State) (q : List ℕ) → spells (row ps) q → spells (row st.pending) q
+    → Leaves c (count c q) (break_with o brk ps d i m rest st)
 break_counts o brk c k [] d i m rest st q h s =
-    leaves_same c _ _ (plain_break o d i rest st) (omega arith) (leaves_writes c [] [] q st (plain_break o d i rest st) (plain_writes o d i rest st) refl s)
+    leaves_same c _ _ (plain_break o d i rest st) (omega arith)
+    (leaves_writes c [] [] q st (plain_break o d i rest st) (plain_writes o d i rest st) refl s)
 break_counts o brk c k (p ∷ ps) d i m rest st q h s =
     waiting_counts o brk c k (p ∷ ps) i m (entry i d ∷ rest) st (brk d i m rest) q h (k d i m rest)
 
@@ -133,11 +152,14 @@ unfolding breaks
 breaks_count o zero c = λ d i m rest st q s. tt
 breaks_count o (suc n) c = λ d i m rest st q s. break_counts o (breaks o n) c (breaks_count o n c) st.pending d i m rest st q s s
 
-end_counts : (o : RenderOptions) (brk : Breaks) (c : ℕ) → Conserves c brk → (again : State → Outcome) → ((u : State) (r : List ℕ) → spells (row u.pending) r → Leaves c (count c r) (again u)) → (ps : List Tree) (st : State) (q : List ℕ) → spells (row ps) q → spells (row st.pending) q → Leaves c (count c q) (end_with o brk again ps st)
+end_counts : (o : RenderOptions) (brk : Breaks) (c : ℕ) → Conserves c brk → (again : State → Outcome)
+    → ((u : State) (r : List ℕ) → spells (row u.pending) r → Leaves c (count c r) (again u)) → (ps : List Tree) (st : State) (q : List ℕ)
+    → spells (row ps) q → spells (row st.pending) q → Leaves c (count c q) (end_with o brk again ps st)
 end_counts o brk c k again g [] st q h s = (q, s, omega arith)
 end_counts o brk c k again g (p ∷ ps) st q h s = waiting_counts o brk c k (p ∷ ps) 0 Break [] st again q h g
 
-finish_counts : (o : RenderOptions) (brk : Breaks) (c : ℕ) → Conserves c brk → (n : ℕ) (st : State) (q : List ℕ) → spells (row st.pending) q → Leaves c (count c q) (finish o brk n st)
+finish_counts : (o : RenderOptions) (brk : Breaks) (c : ℕ) → Conserves c brk → (n : ℕ) (st : State) (q : List ℕ) → spells (row st.pending) q
+    → Leaves c (count c q) (finish o brk n st)
 unfolding finish
 finish_counts o brk c k zero st q s = tt
 finish_counts o brk c k (suc n) st q s = end_counts o brk c k (finish o brk n) (finish_counts o brk c k n) st.pending st q s s
@@ -147,7 +169,8 @@ unfolding layout_by
 layout_by_counts o n c d w h =
     leaves-then c (count c w + 0) 0 (count c w) (lay o (breaks o n) d 0 Break [] initial) (finish o (breaks o n) n) (omega arith)
     (lay_counts o (breaks o n) c (breaks_count o n c) d 0 Break [] initial w [] h refl)
-    (λ u r e. leaves_same c (count c r) (0 + count c r) (finish o (breaks o n) n u) (omega arith) (finish_counts o (breaks o n) c (breaks_count o n c) n u r e))
+    (λ u r e. leaves_same c (count c r) (0 + count c r) (finish o (breaks o n) n u) (omega arith)
+    (finish_counts o (breaks o n) c (breaks_count o n c) n u r e))
 
 whole_counts : (x : Outcome) (c n : ℕ) (b : List ℕ) → Leaves c n x → NothingPending x → bytes_of x ≡ Whole b → count c (ink b) ≡ n
 whole_counts (Done a st) c n b h s e =
@@ -156,7 +179,8 @@ whole_counts (Done a st) c n b h s e =
     omega (arith, ap (λ (x : List ℕ). count c (ink x)) same, ap (count c) none, h.2)
 whole_counts (Failed a) c n b h s e = absurd (cc)
 
-pub content_counted : (o : RenderOptions) (d : Tree) (w b : List ℕ) → spells d w → layout o d ≡ Whole b → (c : ℕ) → count c (ink b) ≡ count c w
+pub content_counted : (o : RenderOptions) (d : Tree) (w b : List ℕ) → spells d w → layout o d ≡ Whole b → (c : ℕ)
+    → count c (ink b) ≡ count c w
 unfolding layout
 content_counted o d w b h e c =
     whole_counts (layout_by o (size d + 1) d) c (count c w) b (layout_by_counts o (size d + 1) c d w h) (layout_by_ends o (size d + 1) d) e

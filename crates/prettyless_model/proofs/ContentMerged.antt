@@ -1,15 +1,20 @@
 -- Content, merged: what a document writes interleaves what it spells outside its line suffixes with what waited. With
 -- no line suffix the content is in order.
-use Rattle.std.proofs.Common.{◌≡◌, ℕ, zero, suc, ◌+◌, ◌≤◌, List, [], ◌∷◌, ◌++◌, length, refl, ap, sym, ◌∙◌, append_assoc, append-nil, arith, if◌then◌else◌}
+use Rattle.std.proofs.Common.{◌≡◌, ℕ, zero, suc, ◌+◌, ◌≤◌, List, [], ◌∷◌, ◌++◌, length, refl, ap, sym, ◌∙◌, append_assoc, append-nil, arith}
+use Rattle.std.proofs.Common.{if◌then◌else◌}
 use Rattle.prettyless_model.specs.Spaces.{spaces}
 use Rattle.prettyless_model.specs.declared.options.RenderOptions.{RenderOptions}
-use Rattle.prettyless_model.specs.Tree.{Tree, Nil, Fail, Text, TextWithLen, MultilineText, WeakSpace, HardLine, WeakLine, Append, LineSuffix, Nest, DedentToRoot, Align, ExpandParent, Flatten, BreakOrFlat, Group, Union, PartialUnion, OnColumn, OnNesting, size}
+use Rattle.prettyless_model.specs.Tree.{Tree, Nil, Fail, Text, TextWithLen, MultilineText, WeakSpace, HardLine, WeakLine, Append}
+use Rattle.prettyless_model.specs.Tree.{LineSuffix, Nest, DedentToRoot, Align, ExpandParent, Flatten, BreakOrFlat, Group, Union}
+use Rattle.prettyless_model.specs.Tree.{PartialUnion, OnColumn, OnNesting, size}
 use Rattle.prettyless_model.specs.Column.{gap, blank, prospective, nested}
 use Rattle.prettyless_model.specs.Metrics.{metrics}
 use Rattle.prettyless_model.specs.Choice.{column_holds, nesting_holds}
 use Rattle.prettyless_model.specs.Look.{by_mode}
-use Rattle.prettyless_model.specs.Layout.{State, Outcome, Done, Failed, Entry, Breaks, Whole, after_bytes, and_then, lay, lay_each, lay_text, lay_payload, probe, tried, plain_break, flushed, entry, entries, break_with, end_with, breaks, finish, layout, layout_by, initial, bytes_of}
-use Rattle.prettyless_model.specs.Spelling.{ink, spells, parts}
+use Rattle.prettyless_model.specs.Layout.{State, Outcome, Done, Failed, Entry, Breaks, Whole, after_bytes, and_then, lay, lay_each}
+use Rattle.prettyless_model.specs.Layout.{lay_text, lay_payload, probe, tried, plain_break, flushed, entry, entries, break_with, end_with}
+use Rattle.prettyless_model.specs.Layout.{breaks, finish, layout, layout_by, initial, bytes_of}
+use Rattle.prettyless_model.specs.Spelling.{ink, spells, spelled_parts}
 use Rattle.prettyless_model.specs.Content.{suffix_depth, IsMerge}
 use Rattle.prettyless_model.specs.declared.mode.Mode.{Mode}
 use Rattle.prettyless_model.specs.declared.mode.Mode.TheVariants.{Break, Flat}
@@ -35,7 +40,8 @@ merges_writes v q st (Done b after) e h = ([], q, refl, rw e.0 (merge_of_first v
 merges_writes v q st (Failed b) e h = tt
 
 -- bytes that interleave v1 and x, before an outcome that does so with the rest
-merges-joined : (b x z v1 v2 q : List ℕ) (o : Outcome) → q ≡ x ++ z → IsMerge (ink b) v1 x → Merges v2 z o → Merges (v1 ++ v2) q (after_bytes b o)
+merges-joined : (b x z v1 v2 q : List ℕ) (o : Outcome) → q ≡ x ++ z → IsMerge (ink b) v1 x → Merges v2 z o
+    → Merges (v1 ++ v2) q (after_bytes b o)
 merges-joined b x z v1 v2 q (Done c st) e m h = (
   x ++ h.0,
   h.1,
@@ -49,13 +55,15 @@ merges-after : (b v q : List ℕ) (o : Outcome) → ink b ≡ [] → Merges v q 
 merges-after b v q o e h = merges-joined b [] q [] v q o refl (rw e (refl, refl)) h
 
 -- one outcome after another, of which the second adds a word to what waits
-merges-then : (v1 q v2 u : List ℕ) (o : Outcome) (f : State → Outcome) → Merges v1 q o → ((st : State) (r : List ℕ) → Waits st r → Merges v2 (r ++ u) (f st)) → Merges (v1 ++ v2) (q ++ u) (and_then o f)
+merges-then : (v1 q v2 u : List ℕ) (o : Outcome) (f : State → Outcome) → Merges v1 q o
+    → ((st : State) (r : List ℕ) → Waits st r → Merges v2 (r ++ u) (f st)) → Merges (v1 ++ v2) (q ++ u) (and_then o f)
 merges-then v1 q v2 u (Done b st) f h g =
     merges-joined b h.0 (h.1 ++ u) v1 v2 (q ++ u) (f st) (ap (λ (y : List ℕ). y ++ u) h.2 ∙ append_assoc h.0 h.1 u) h.3 (g st h.1 h.4)
 merges-then v1 q v2 u (Failed b) f h g = tt
 
 -- and where it adds none
-merges-next : (v1 q v2 : List ℕ) (o : Outcome) (f : State → Outcome) → Merges v1 q o → ((st : State) (r : List ℕ) → Waits st r → Merges v2 r (f st)) → Merges (v1 ++ v2) q (and_then o f)
+merges-next : (v1 q v2 : List ℕ) (o : Outcome) (f : State → Outcome) → Merges v1 q o
+    → ((st : State) (r : List ℕ) → Waits st r → Merges v2 r (f st)) → Merges (v1 ++ v2) q (and_then o f)
 merges-next v1 q v2 o f h g =
     let joined = merges-then v1 q v2 [] o f h (λ (st : State) (r : List ℕ) (w : Waits st r). rw append-nil (g st r w)) in
     rw (append-nil q) at joined
@@ -73,16 +81,19 @@ merges_late q (Failed b) h = tt
 
 -- a break writes what waits, and nothing else
 abbrev pub WritesWaiting : Breaks → Type 0
-WritesWaiting brk = (d : Tree) (i : ℕ) (m : Mode) (rest : List Entry) (st : State) (q : List ℕ) → Waits st q → Merges [] q (brk d i m rest st)
+WritesWaiting brk = (d : Tree) (i : ℕ) (m : Mode) (rest : List Entry) (st : State) (q : List ℕ) → Waits st q
+    → Merges [] q (brk d i m rest st)
 
 -- a document that spells this word, and adds nothing to what waits
 merges_to : (v v' q u : List ℕ) (o : Outcome) → (v ≡ v') × (u ≡ []) → Merges v' q o → Merges v (q ++ u) o
 merges_to v v' q u o e h = rw (e.0, e.1, append-nil q) h
 
-merges_piece : (v v' q u : List ℕ) (st : State) (o : Outcome) → Writes v' st.pending o → (v ≡ v') × (u ≡ []) → Waits st q → Merges v (q ++ u) o
+merges_piece : (v v' q u : List ℕ) (st : State) (o : Outcome) → Writes v' st.pending o → (v ≡ v') × (u ≡ []) → Waits st q
+    → Merges v (q ++ u) o
 merges_piece v v' q u st o h e w = merges_to v v' q u o e (merges_writes v' q st o h w)
 
-pub lay_merges : (o : RenderOptions) (brk : Breaks) → WritesWaiting brk → (d : Tree) (i : ℕ) (m : Mode) (rest : List Entry) (st : State) (v u q : List ℕ) → parts d v u → suffix_depth d ≤ 1 → Waits st q → Merges v (q ++ u) (lay o brk d i m rest st)
+pub lay_merges : (o : RenderOptions) (brk : Breaks) → WritesWaiting brk → (d : Tree) (i : ℕ) (m : Mode) (rest : List Entry) (st : State)
+    (v u q : List ℕ) → spelled_parts d v u → suffix_depth d ≤ 1 → Waits st q → Merges v (q ++ u) (lay o brk d i m rest st)
 unfolding lay
 lay_merges o brk k Nil i m rest st v u q h l w = merges_piece v [] q u st (Done [] st) (refl, refl) h w
 lay_merges o brk k Fail i m rest st v u q h l w = tt
@@ -94,7 +105,8 @@ lay_merges o brk k (MultilineText s) i Break rest st v u q h l w =
 lay_merges o brk k (MultilineText s) i Flat rest st v u q h l w = tt
 lay_merges o brk k WeakSpace i m rest st v u q h l w =
     merges_piece v [] q u st (Done [] (record st { column = blank st.column })) (refl, refl) h w
-lay_merges o brk k HardLine i Break rest st v u q h l w = merges_to v [] q u (brk HardLine i Break rest st) h (k HardLine i Break rest st q w)
+lay_merges o brk k HardLine i Break rest st v u q h l w = merges_to v [] q u (brk HardLine i Break rest st) h
+    (k HardLine i Break rest st q w)
 lay_merges o brk k HardLine i Flat rest st v u q h l w = tt
 lay_merges o brk k WeakLine i m rest st v u q h l w = merges_to v [] q u (brk WeakLine i m rest st) h (k WeakLine i m rest st q w)
 lay_merges o brk k (Append x y) i m rest st v u q h l w =
@@ -133,7 +145,8 @@ lay_merges o brk k (OnNesting test x y) i m rest st v u q h l w =
     (lay_merges o brk k y i m rest st v u q h.1 (omega arith) w)
 
 -- documents in a row, each with no line suffix, write what they spell before what waits already
-each_merges : (o : RenderOptions) (brk : Breaks) → WritesWaiting brk → (ds : List Tree) (i : ℕ) (m : Mode) (rest : List Entry) (st : State) (w q : List ℕ) → spells (row ds) w → suffix_depth (row ds) ≡ 0 → Waits st q → Merges w q (lay_each o brk ds i m rest st)
+each_merges : (o : RenderOptions) (brk : Breaks) → WritesWaiting brk → (ds : List Tree) (i : ℕ) (m : Mode) (rest : List Entry) (st : State)
+    (w q : List ℕ) → spells (row ds) w → suffix_depth (row ds) ≡ 0 → Waits st q → Merges w q (lay_each o brk ds i m rest st)
 unfolding lay_each
 each_merges o brk k [] i m rest st w q h l e = merges_writes w q st (Done [] st) (sym h, refl) e
 each_merges o brk k (d ∷ ds) i m rest st w q h l e =
@@ -144,13 +157,17 @@ each_merges o brk k (d ∷ ds) i m rest st w q h l e =
     (λ u r f. each_merges o brk k ds i m rest u h.1 r h.3 (omega arith) f))
 
 -- what waits is written, and then what goes on writes what waits still
-waiting_merges : (o : RenderOptions) (brk : Breaks) → WritesWaiting brk → (ps : List Tree) (i : ℕ) (m : Mode) (rest : List Entry) (st : State) (again : State → Outcome) (q : List ℕ) → spells (row ps) q → suffix_depth (row ps) ≡ 0 → ((u : State) (r : List ℕ) → Waits u r → Merges [] r (again u)) → Merges [] q (after_bytes (spaces (gap st.column)) (and_then (lay_each o brk ps i m rest (flushed o st)) again))
+waiting_merges : (o : RenderOptions) (brk : Breaks) → WritesWaiting brk → (ps : List Tree) (i : ℕ) (m : Mode) (rest : List Entry)
+    (st : State) (again : State → Outcome) (q : List ℕ) → spells (row ps) q → suffix_depth (row ps) ≡ 0
+    → ((u : State) (r : List ℕ) → Waits u r → Merges [] r (again u))
+    → Merges [] q (after_bytes (spaces (gap st.column)) (and_then (lay_each o brk ps i m rest (flushed o st)) again))
 waiting_merges o brk k ps i m rest st again q h l g =
     merges-after (spaces (gap st.column)) [] q (and_then (lay_each o brk ps i m rest (flushed o st)) again) (ink-spaces (gap st.column))
     (merges-next [] q [] (lay_each o brk ps i m rest (flushed o st)) again
     (merges_late q (lay_each o brk ps i m rest (flushed o st)) (each_merges o brk k ps i m rest (flushed o st) q [] h l (refl, refl))) g)
 
-break_merges : (o : RenderOptions) (brk : Breaks) → WritesWaiting brk → (ps : List Tree) (d : Tree) (i : ℕ) (m : Mode) (rest : List Entry) (st : State) (q : List ℕ) → spells (row ps) q → suffix_depth (row ps) ≡ 0 → Waits st q → Merges [] q (break_with o brk ps d i m rest st)
+break_merges : (o : RenderOptions) (brk : Breaks) → WritesWaiting brk → (ps : List Tree) (d : Tree) (i : ℕ) (m : Mode) (rest : List Entry)
+    (st : State) (q : List ℕ) → spells (row ps) q → suffix_depth (row ps) ≡ 0 → Waits st q → Merges [] q (break_with o brk ps d i m rest st)
 break_merges o brk k [] d i m rest st q h l w = merges_writes [] q st (plain_break o d i rest st) (plain_writes o d i rest st) w
 break_merges o brk k (p ∷ ps) d i m rest st q h l w =
     waiting_merges o brk k (p ∷ ps) i m (entry i d ∷ rest) st (brk d i m rest) q h l (k d i m rest)
@@ -160,16 +177,20 @@ unfolding breaks
 breaks_merge o zero = λ d i m rest st q w. tt
 breaks_merge o (suc n) = λ d i m rest st q w. break_merges o (breaks o n) (breaks_merge o n) st.pending d i m rest st q w.0 w.1 w
 
-end_merges : (o : RenderOptions) (brk : Breaks) → WritesWaiting brk → (again : State → Outcome) → ((u : State) (r : List ℕ) → Waits u r → Merges [] r (again u)) → (ps : List Tree) (st : State) (q : List ℕ) → spells (row ps) q → suffix_depth (row ps) ≡ 0 → Waits st q → Merges [] q (end_with o brk again ps st)
+end_merges : (o : RenderOptions) (brk : Breaks) → WritesWaiting brk → (again : State → Outcome)
+    → ((u : State) (r : List ℕ) → Waits u r → Merges [] r (again u)) → (ps : List Tree) (st : State) (q : List ℕ) → spells (row ps) q
+    → suffix_depth (row ps) ≡ 0 → Waits st q → Merges [] q (end_with o brk again ps st)
 end_merges o brk k again g [] st q h l w = merges_writes [] q st (Done [] st) (refl, refl) w
 end_merges o brk k again g (p ∷ ps) st q h l w = waiting_merges o brk k (p ∷ ps) 0 Break [] st again q h l g
 
-finish_merges : (o : RenderOptions) (brk : Breaks) → WritesWaiting brk → (n : ℕ) (st : State) (q : List ℕ) → Waits st q → Merges [] q (finish o brk n st)
+finish_merges : (o : RenderOptions) (brk : Breaks) → WritesWaiting brk → (n : ℕ) (st : State) (q : List ℕ) → Waits st q
+    → Merges [] q (finish o brk n st)
 unfolding finish
 finish_merges o brk k zero st q w = tt
 finish_merges o brk k (suc n) st q w = end_merges o brk k (finish o brk n) (finish_merges o brk k n) st.pending st q w.0 w.1 w
 
-layout_by_merges : (o : RenderOptions) (n : ℕ) (d : Tree) (v u : List ℕ) → parts d v u → suffix_depth d ≤ 1 → Merges v u (layout_by o n d)
+layout_by_merges : (o : RenderOptions) (n : ℕ) (d : Tree) (v u : List ℕ) → spelled_parts d v u → suffix_depth d ≤ 1 →
+    Merges v u (layout_by o n d)
 unfolding layout_by
 layout_by_merges o n d v u h l =
     let whole = merges-next v u [] (lay o (breaks o n) d 0 Break [] initial) (finish o (breaks o n) n)
@@ -184,7 +205,8 @@ whole_merges (Done c st) v u b h s e =
     rw (← same, h.2, none, append-nil) h.3
 whole_merges (Failed c) v u b h s e = absurd (cc)
 
-pub content_merged : (o : RenderOptions) (d : Tree) (v u b : List ℕ) → parts d v u → suffix_depth d ≤ 1 → layout o d ≡ Whole b → IsMerge (ink b) v u
+pub content_merged : (o : RenderOptions) (d : Tree) (v u b : List ℕ) → spelled_parts d v u → suffix_depth d ≤ 1 → layout o d ≡ Whole b
+    → IsMerge (ink b) v u
 unfolding layout
 content_merged o d v u b h l e =
     whole_merges (layout_by o (size d + 1) d) v u b (layout_by_merges o (size d + 1) d v u h l) (layout_by_ends o (size d + 1) d) e

@@ -4,7 +4,8 @@ use Rattle.prettyless_model.specs.Spaces.{spaces}
 use Rattle.prettyless_model.specs.declared.options.RenderOptions.{RenderOptions}
 use Rattle.prettyless_model.specs.Tree.{Tree}
 use Rattle.prettyless_model.specs.Column.{gap}
-use Rattle.prettyless_model.specs.Layout.{State, Outcome, Done, Failed, Breaks, after_bytes, and_then, lay, lay_each, flushed, end_with, breaks, finish, layout_by, initial}
+use Rattle.prettyless_model.specs.Layout.{State, Outcome, Done, Failed, Breaks, after_bytes, and_then, lay, lay_each, flushed, end_with}
+use Rattle.prettyless_model.specs.Layout.{breaks, finish, layout_by, initial}
 use Rattle.prettyless_model.specs.declared.mode.Mode.TheVariants.{Break}
 
 -- no document is pending after an outcome
@@ -20,7 +21,8 @@ none-then : (o : Outcome) (f : State → Outcome) → ((u : State) → NothingPe
 none-then (Done b st) f g = none-after b (f st) (g st)
 none-then (Failed b) f g = tt
 
-end_ends : (o : RenderOptions) (brk : Breaks) (again : State → Outcome) → ((u : State) → NothingPending (again u)) → (ps : List Tree) (st : State) → st.pending ≡ ps → NothingPending (end_with o brk again ps st)
+end_ends : (o : RenderOptions) (brk : Breaks) (again : State → Outcome) → ((u : State) → NothingPending (again u))
+    → (ps : List Tree) (st : State) → st.pending ≡ ps → NothingPending (end_with o brk again ps st)
 end_ends o brk again g [] st e = e
 end_ends o brk again g (p ∷ ps) st e =
     none-after (spaces (gap st.column)) (and_then (lay_each o brk (p ∷ ps) 0 Break [] (flushed o st)) again)

@@ -1,13 +1,16 @@
 -- The gap before the next text while a document is laid: what of it is written, and what waits to be written.
-use Rattle.std.proofs.Common.{◌≡◌, ℕ, zero, suc, ◌+◌, ◌<◌, List, [], ◌∷◌, ◌++◌, length, length-append, refl, subst, ap, ◌∙◌, append-nil, arith, inl, inr, ◌⊎◌, Bool, true, false, ◌==◌}
+use Rattle.std.proofs.Common.{◌≡◌, ℕ, zero, suc, ◌+◌, ◌<◌, List, [], ◌∷◌, ◌++◌, length, length-append, refl, subst, ap, ◌∙◌, append-nil}
+use Rattle.std.proofs.Common.{arith, inl, inr, ◌⊎◌, Bool, true, false, ◌==◌}
 use Rattle.std.specs.Prelude.{⊤}
 use Rattle.std.proofs.lemmas.Bool.{cases_Bool, eqb-true}
 use Rattle.std.proofs.lemmas.List.{length-replicate}
 use Rattle.prettyless_model.specs.Column.{gap, blank, saturating_add}
 use Rattle.prettyless_model.specs.Spaces.{spaces}
 use Rattle.prettyless_model.specs.declared.column.Column.{Column}
-use Rattle.prettyless_model.specs.Shows.{Reach, NoGap, SameLine, AnyLine, Least, Nothing, Spacing, LineEnd, further, more, EndsLine, IsBlank, StaysWithin, Has, Item, Place, Before, After, with_gap, same_line, late_place, IsGapAt, IsGapOnLine, IsEndAt}
-use Rattle.prettyless_model.proofs.Ink.{ink-spaces, ink-behind}
+use Rattle.prettyless_model.specs.Shows.{Reach, NoGap, SameLine, AnyLine, Least, Nothing, Spacing, LineEnd, further, more, EndsLine}
+use Rattle.prettyless_model.specs.Shows.{IsBlank, StaysWithin, Has, Item, Place, Before, After, with_gap, same_line, late_place, IsGapAt}
+use Rattle.prettyless_model.specs.Shows.{IsGapOnLine, IsEndAt}
+use Rattle.prettyless_model.proofs.Ink.{ink-spaces, ink-after}
 
 -- ---- bytes
 
@@ -47,7 +50,7 @@ ends_or_not (b ∷ bs) = by (cases_Bool (b == 10)) (ends_or_not bs)
     by (inr e) (inr k) = inr (λ h. elim h [ inl same ↦ absurd (cc (rw same at e)) | inr later ↦ k later ])
 
 pub blank_both : (a b : List ℕ) → IsBlank a → IsBlank b → IsBlank (a ++ b)
-blank_both a b h k = ink-behind a b h ∙ k
+blank_both a b h k = ink-after a b h ∙ k
 
 -- ---- what stands before the next text
 
@@ -88,18 +91,21 @@ on_line_both (w ∷ ws) g n h k = no_end_in g n h k
 
 -- ---- spaces
 
-within_spaced : (r : Reach) (g n : List ℕ) (c e : Column) → StandsWithin r g c → (EndsLine n → ⊥) → StandsWithin (further r SameLine) (g ++ n) e
+within_spaced : (r : Reach) (g n : List ℕ) (c e : Column) → StandsWithin r g c → (EndsLine n → ⊥)
+    → StandsWithin (further r SameLine) (g ++ n) e
 within_spaced NoGap g n c e h k = no_end_in g n (λ ends. subst EndsLine h.0 ends) k
 within_spaced SameLine g n c e h k = no_end_in g n h k
 within_spaced AnyLine g n c e h k = tt
 
-with_spaced : (l : Least) (g n : List ℕ) (c e : Column) → StandsWith l g c → 0 < length (g ++ n) + e.padding → StandsWith (more l Spacing) (g ++ n) e
+with_spaced : (l : Least) (g n : List ℕ) (c e : Column) → StandsWith l g c → 0 < length (g ++ n) + e.padding
+    → StandsWith (more l Spacing) (g ++ n) e
 with_spaced Nothing g n c e h k = k
 with_spaced Spacing g n c e h k = k
 with_spaced LineEnd g n c e h k = end_before g n h
 
 -- after spaces, written or waiting, the gap has some
-pub spaced_stands : (p : Place) (ws : List Item) (g n : List ℕ) (c e : Column) → Stands p ws g c → IsBlank n → (EndsLine n → ⊥) → e.fresh ≡ false → 0 < length (g ++ n) + e.padding → Stands (with_gap SameLine Spacing p) ws (g ++ n) e
+pub spaced_stands : (p : Place) (ws : List Item) (g n : List ℕ) (c e : Column) → Stands p ws g c → IsBlank n → (EndsLine n → ⊥)
+    → e.fresh ≡ false → 0 < length (g ++ n) + e.padding → Stands (with_gap SameLine Spacing p) ws (g ++ n) e
 spaced_stands (Before r) ws g n c e h b k f some =
     (blank_both g n h.0 b, on_line_both ws g n h.1 k, within_spaced r g n c e h.2 k)
 spaced_stands (After r l) ws g n c e h b k f some =
@@ -122,7 +128,8 @@ within_spaced_before SameLine g c h = h
 within_spaced_before AnyLine g c h = tt
 
 -- so it has on a fresh line
-fresh_stands : (p : Place) (ws : List Item) (g : List ℕ) (c : Column) → c.fresh ≡ true → Stands p ws g c → Stands (with_gap SameLine Spacing p) ws g c
+fresh_stands : (p : Place) (ws : List Item) (g : List ℕ) (c : Column) → c.fresh ≡ true → Stands p ws g c
+    → Stands (with_gap SameLine Spacing p) ws g c
 fresh_stands (Before r) ws g c e h = (h.0, h.1, within_spaced_before r g c h.2)
 fresh_stands (After r l) ws g c e h = (h.0, h.1, h.2, within_fresh r g c h.3 (h.2 e), with_fresh l g c h.4 (h.2 e))
 
@@ -130,13 +137,16 @@ some_padding : (n : ℕ) → 0 < saturating_add n 1
 some_padding n = omega arith
 
 -- and after a weak space
-blank_fields : (p : Place) (ws : List Item) (g : List ℕ) (x i n : ℕ) (f : Bool) → Stands p ws g (record { position = x; indent = i; padding = n; fresh = f }) → Stands (with_gap SameLine Spacing p) ws g (blank (record { position = x; indent = i; padding = n; fresh = f }))
+blank_fields : (p : Place) (ws : List Item) (g : List ℕ) (x i n : ℕ) (f : Bool)
+    → Stands p ws g (record { position = x; indent = i; padding = n; fresh = f }) → Stands (with_gap SameLine Spacing p) ws g
+    (blank (record { position = x; indent = i; padding = n; fresh = f }))
 blank_fields p ws g x i n true h = fresh_stands p ws g (record { position = x; indent = i; padding = n; fresh = true }) refl h
 blank_fields p ws g x i n false h =
     let c : Column = record { position = x; indent = i; padding = n; fresh = false } in
     rw (append-nil g) at (spaced_stands p ws g [] c (blank c) h refl (λ ends. ends) refl (omega (arith, some_padding n)))
 
-pub blank_stands : (p : Place) (ws : List Item) (g : List ℕ) (c : Column) → Stands p ws g c → Stands (with_gap SameLine Spacing p) ws g (blank c)
+pub blank_stands : (p : Place) (ws : List Item) (g : List ℕ) (c : Column) → Stands p ws g c
+    → Stands (with_gap SameLine Spacing p) ws g (blank c)
 blank_stands p ws g c h = blank_fields p ws g c.position c.indent c.padding c.fresh h
 
 -- ---- line ends
@@ -194,12 +204,14 @@ gap_before (Before r) ws g c h = (blank_both g (spaces (gap c)) h.0 (ink-spaces 
 gap_before (After r l) ws g c h =
     (blank_both g (spaces (gap c)) h.0 (ink-spaces (gap c)), within_content r g c h.3, with_content l g c h.4)
 
-pub gap_on_line : (p : Place) (w : Item) (ws : List Item) (g : List ℕ) (c : Column) → Stands p (w ∷ ws) g c → IsGapOnLine p (g ++ spaces (gap c))
+pub gap_on_line : (p : Place) (w : Item) (ws : List Item) (g : List ℕ) (c : Column) → Stands p (w ∷ ws) g c
+    → IsGapOnLine p (g ++ spaces (gap c))
 gap_on_line p w ws g c h =
     (gap_before p (w ∷ ws) g c h, no_end_in g (spaces (gap c)) (stands_on_line p (w ∷ ws) g c h) (spaces_end_none (gap c)))
 
 -- where the gap is written and no text follows it, nothing waits
-within_committed : (r : Reach) (g : List ℕ) (c e : Column) → StandsWithin r g c → e.indent ≡ 0 → e.padding ≡ 0 → StandsWithin r (g ++ spaces (gap c)) e
+within_committed : (r : Reach) (g : List ℕ) (c e : Column) → StandsWithin r g c → e.indent ≡ 0 → e.padding ≡ 0
+    → StandsWithin r (g ++ spaces (gap c)) e
 within_committed NoGap g c e h i n = (rw (h.0, no_spaces c h.1 h.2) refl, i, n)
 within_committed SameLine g c e h i n = no_end_in g (spaces (gap c)) h (spaces_end_none (gap c))
 within_committed AnyLine g c e h i n = tt
@@ -211,14 +223,21 @@ with_committed Spacing g c e h =
     omega arith
 with_committed LineEnd g c e h = end_before g (spaces (gap c)) h
 
-pub committed_stands : (p : Place) (g : List ℕ) (c e : Column) → Stands p [] g c → e.fresh ≡ false → e.indent ≡ 0 → e.padding ≡ 0 → Stands p [] (g ++ spaces (gap c)) e
+pub committed_stands : (p : Place) (g : List ℕ) (c e : Column) → Stands p [] g c → e.fresh ≡ false → e.indent ≡ 0 → e.padding ≡ 0
+    → Stands p [] (g ++ spaces (gap c)) e
 committed_stands (Before r) g c e h f i n =
     (blank_both g (spaces (gap c)) h.0 (ink-spaces (gap c)), tt, within_committed r g c e h.2 i n)
-committed_stands (After r l) g c e h f i n =
-    (blank_both g (spaces (gap c)) h.0 (ink-spaces (gap c)), tt, λ fresh. absurd (cc), within_committed r g c e h.3 i n, with_committed l g c e h.4)
+committed_stands (After r l) g c e h f i n = (
+  blank_both g (spaces (gap c)) h.0 (ink-spaces (gap c)),
+  tt,
+  λ fresh. absurd (cc),
+  within_committed r g c e h.3 i n,
+  with_committed l g c e h.4,
+)
 
 -- no line has ended in the gap
-pub same_line_stands : (p : Place) (w v : Item) (ws vs : List Item) (g : List ℕ) (c : Column) → Stands p (w ∷ ws) g c → Stands (same_line p) (v ∷ vs) g c
+pub same_line_stands : (p : Place) (w v : Item) (ws vs : List Item) (g : List ℕ) (c : Column) → Stands p (w ∷ ws) g c
+    → Stands (same_line p) (v ∷ vs) g c
 same_line_stands (Before NoGap) w v ws vs g c h = h
 same_line_stands (Before SameLine) w v ws vs g c h = h
 same_line_stands (Before AnyLine) w v ws vs g c h = (h.0, h.1, h.1)
@@ -227,13 +246,24 @@ same_line_stands (After SameLine l) w v ws vs g c h = h
 same_line_stands (After AnyLine l) w v ws vs g c h = (h.0, h.1, h.2, h.1, h.4)
 
 -- the items that wait come on the line of the last text
-pub late_stands : (p : Place) (w : Item) (ws : List Item) (g : List ℕ) (c e : Column) → Stands p (w ∷ ws) g c → e.fresh ≡ false → e.indent ≡ 0 → e.padding ≡ 0 → Stands (late_place p) [] (g ++ spaces (gap c)) e
-late_stands (Before r) w ws g c e h f i n =
-    (blank_both g (spaces (gap c)) h.0 (ink-spaces (gap c)), tt, λ fresh. absurd (cc), no_end_in g (spaces (gap c)) h.1 (spaces_end_none (gap c)), tt)
+pub late_stands : (p : Place) (w : Item) (ws : List Item) (g : List ℕ) (c e : Column) → Stands p (w ∷ ws) g c → e.fresh ≡ false
+    → e.indent ≡ 0 → e.padding ≡ 0 → Stands (late_place p) [] (g ++ spaces (gap c)) e
+late_stands (Before r) w ws g c e h f i n = (
+  blank_both g (spaces (gap c)) h.0 (ink-spaces (gap c)),
+  tt,
+  λ fresh. absurd (cc),
+  no_end_in g (spaces (gap c)) h.1 (spaces_end_none (gap c)),
+  tt,
+)
 late_stands (After NoGap l) w ws g c e h f i n = committed_stands (After NoGap l) g c e (h.0, tt, h.2, h.3, h.4) f i n
 late_stands (After SameLine l) w ws g c e h f i n = committed_stands (After SameLine l) g c e (h.0, tt, h.2, h.3, h.4) f i n
-late_stands (After AnyLine l) w ws g c e h f i n =
-    (blank_both g (spaces (gap c)) h.0 (ink-spaces (gap c)), tt, λ fresh. absurd (cc), no_end_in g (spaces (gap c)) h.1 (spaces_end_none (gap c)), tt)
+late_stands (After AnyLine l) w ws g c e h f i n = (
+  blank_both g (spaces (gap c)) h.0 (ink-spaces (gap c)),
+  tt,
+  λ fresh. absurd (cc),
+  no_end_in g (spaces (gap c)) h.1 (spaces_end_none (gap c)),
+  tt,
+)
 
 -- ---- the end
 

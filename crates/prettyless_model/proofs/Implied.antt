@@ -1,6 +1,9 @@
 -- Bytes that show items show what these imply.
 use Rattle.std.proofs.Common.{◌≡◌, ℕ, ◌<◌, length, arith, List, [], ◌∷◌, ◌++◌, refl, sym, subst, ap, ◌⊎◌, inl, inr}
-use Rattle.prettyless_model.specs.Shows.{Reach, NoGap, SameLine, AnyLine, Least, Nothing, Spacing, LineEnd, further, more, EndsLine, IsBlank, StaysWithin, Has, Item, Shown, Gap, Mark, Late, IsWeaker, Implies, Place, Before, After, with_gap, after_text, on_line, after_line, line_start, same_line, late_place, MayEnd, MayStay, IsGapAt, IsEndAt, ShowsText, ShowsLineEnd, ShowsThen, ShowsNext, ShowsFrom}
+use Rattle.prettyless_model.specs.Shows.{Reach, NoGap, SameLine, AnyLine, Least, Nothing, Spacing, LineEnd, further, more, EndsLine}
+use Rattle.prettyless_model.specs.Shows.{IsBlank, StaysWithin, Has, Item, Shown, Gap, Mark, Late, IsWeaker, Implies, Place, Before, After}
+use Rattle.prettyless_model.specs.Shows.{with_gap, after_text, on_line, after_line, line_start, same_line, late_place, MayEnd, MayStay}
+use Rattle.prettyless_model.specs.Shows.{IsGapAt, IsEndAt, ShowsText, ShowsLineEnd, ShowsThen, ShowsNext, ShowsFrom}
 
 -- ---- reaches and what gaps have at least: each has an order, in which `further` and `more` are the greater
 
@@ -245,7 +248,8 @@ late_may_end (After AnyLine l) h = refl
 
 -- ---- bytes
 
-pub then_mono : (A B : List ℕ → Type 0) → ((rest : List ℕ) → A rest → B rest) → (items : List Item) (p : Place) (bytes : List ℕ) → ShowsThen p bytes items A → ShowsThen p bytes items B
+pub then_mono : (A B : List ℕ → Type 0) → ((rest : List ℕ) → A rest → B rest) → (items : List Item) (p : Place) (bytes : List ℕ)
+    → ShowsThen p bytes items A → ShowsThen p bytes items B
 then_mono A B k [] p bytes h = k bytes h
 then_mono A B k (Shown s ∷ items) p bytes h = (h.0, h.1, h.2, h.3, then_mono A B k items after_text h.1 h.4)
 then_mono A B k (Gap r l ∷ items) p bytes h = then_mono A B k items (with_gap r l p) bytes h
@@ -254,16 +258,19 @@ then_mono A B k (Mark s ∷ items) p bytes (inr h) = inr (h.0, h.1, h.2, h.3, th
 then_mono A B k (Late i ∷ items) p bytes h = absurd h
 
 -- and from a looser place
-then_looser : (A : List ℕ → Type 0) (items : List Item) (p q : Place) (bytes : List ℕ) → IsLooser p q → ShowsThen p bytes items A → ShowsThen q bytes items A
+then_looser : (A : List ℕ → Type 0) (items : List Item) (p q : Place) (bytes : List ℕ) → IsLooser p q → ShowsThen p bytes items A
+    → ShowsThen q bytes items A
 then_looser A [] p q bytes e h = h
 then_looser A (Shown s ∷ items) p q bytes e h = (h.0, h.1, gap_at p q h.0 e h.2, h.3, h.4)
-then_looser A (Gap r l ∷ items) p q bytes e h = then_looser A items (with_gap r l p) (with_gap r l q) bytes (gap_looser p q r r l l e (weaker_same r l)) h
+then_looser A (Gap r l ∷ items) p q bytes e h = then_looser A items (with_gap r l p) (with_gap r l q) bytes
+    (gap_looser p q r r l l e (weaker_same r l)) h
 then_looser A (Mark s ∷ items) p q bytes e (inl h) = inl (then_looser A items p q bytes e h)
 then_looser A (Mark s ∷ items) p q bytes e (inr h) = inr (h.0, h.1, gap_at p q h.0 e h.2, h.3, h.4)
 then_looser A (Late i ∷ items) p q bytes e h = absurd h
 
 -- what comes later is one of two
-then_either : (A B C : List ℕ → Type 0) → ((rest : List ℕ) → C rest → A rest ⊎ B rest) → (items : List Item) (p : Place) (bytes : List ℕ) → ShowsThen p bytes items C → ShowsThen p bytes items A ⊎ ShowsThen p bytes items B
+then_either : (A B C : List ℕ → Type 0) → ((rest : List ℕ) → C rest → A rest ⊎ B rest) → (items : List Item) (p : Place) (bytes : List ℕ)
+    → ShowsThen p bytes items C → ShowsThen p bytes items A ⊎ ShowsThen p bytes items B
 then_either A B C k [] p bytes h = k bytes h
 then_either A B C k (Shown s ∷ items) p bytes h =
     elim (then_either A B C k items after_text h.1 h.4) [ inl a ↦ inl (h.0, h.1, h.2, h.3, a) | inr b ↦ inr (h.0, h.1, h.2, h.3, b) ]
@@ -271,7 +278,8 @@ then_either A B C k (Gap r l ∷ items) p bytes h = then_either A B C k items (w
 then_either A B C k (Mark s ∷ items) p bytes (inl h) =
     elim (then_either A B C k items p bytes h) [ inl a ↦ inl (inl a) | inr b ↦ inr (inl b) ]
 then_either A B C k (Mark s ∷ items) p bytes (inr h) =
-    elim (then_either A B C k items after_text h.1 h.4) [ inl a ↦ inl (inr (h.0, h.1, h.2, h.3, a)) | inr b ↦ inr (inr (h.0, h.1, h.2, h.3, b)) ]
+    elim (then_either A B C k items after_text h.1 h.4)
+    [ inl a ↦ inl (inr (h.0, h.1, h.2, h.3, a)) | inr b ↦ inr (inr (h.0, h.1, h.2, h.3, b)) ]
 then_either A B C k (Late i ∷ items) p bytes h = absurd h
 
 still_may_end : (p : Place) (r : Reach) (l : Least) → MayEnd p → MayEnd (with_gap r l p)
@@ -283,19 +291,24 @@ still_may_end (After NoGap m) r l h = absurd h
 still_may_end (After SameLine m) r l h = absurd h
 
 -- where a line may end, what waits may be shown before what comes next
-pub flushed : (items : List Item) (p : Place) (w : Item) (ws : List Item) (b : List ℕ) → MayEnd p → ShowsThen on_line b (w ∷ ws) (λ rest. ShowsFrom after_line [] rest items) → ShowsFrom p (w ∷ ws) b items
-flushed [] p w ws b may h = rw (late_may_end p may) (then_mono (λ rest. ShowsFrom after_line [] rest []) IsBlank (λ rest k. k.0) (w ∷ ws) on_line b h)
+pub flushed : (items : List Item) (p : Place) (w : Item) (ws : List Item) (b : List ℕ) → MayEnd p
+    → ShowsThen on_line b (w ∷ ws) (λ rest. ShowsFrom after_line [] rest items) → ShowsFrom p (w ∷ ws) b items
+flushed [] p w ws b may h = rw (late_may_end p may)
+    (then_mono (λ rest. ShowsFrom after_line [] rest []) IsBlank (λ rest k. k.0) (w ∷ ws) on_line b h)
 flushed (Shown s ∷ items) p w ws b may h = inr (may, h)
 flushed (Gap r Nothing ∷ items) p w ws b may h = flushed items (with_gap r Nothing p) w ws b (still_may_end p r Nothing may) h
 flushed (Gap r Spacing ∷ items) p w ws b may h = flushed items (with_gap r Spacing p) w ws b (still_may_end p r Spacing may) h
 flushed (Gap r LineEnd ∷ items) p w ws b may h = rw (late_may_end p may) h
 flushed (Mark s ∷ items) p w ws b may h =
-    elim (then_either (λ rest. ShowsFrom after_line [] rest items) (λ rest. ShowsNext after_line [] s rest (λ vs last. ShowsFrom after_text vs last items)) (λ rest. ShowsFrom after_line [] rest (Mark s ∷ items)) (λ rest k. k) (w ∷ ws) on_line b h)
+    elim (then_either (λ rest. ShowsFrom after_line [] rest items)
+    (λ rest. ShowsNext after_line [] s rest (λ vs last. ShowsFrom after_text vs last items))
+    (λ rest. ShowsFrom after_line [] rest (Mark s ∷ items)) (λ rest k. k) (w ∷ ws) on_line b h)
     [ inl k ↦ inl (flushed items p w ws b may k) | inr k ↦ inr (inr (may, k)) ]
 flushed (Late i ∷ items) p w ws b may h =
     inr (
       may,
-      then_mono (λ rest. ShowsFrom after_line [] rest (Late i ∷ items)) (λ rest. ShowsLineEnd rest (λ last. ShowsFrom line_start (i ∷ []) last items))
+      then_mono (λ rest. ShowsFrom after_line [] rest (Late i ∷ items))
+          (λ rest. ShowsLineEnd rest (λ last. ShowsFrom line_start (i ∷ []) last items))
           (λ rest k. elim k [ inl stays ↦ absurd stays.0 | inr ends ↦ ends.1 ]) (w ∷ ws) on_line b h,
     )
 
@@ -320,42 +333,52 @@ end_implied : Turns [] []
 end_implied p q [] b e h = end_at p q b e h
 end_implied p q (w ∷ ws) b e h = then_looser IsBlank (w ∷ ws) (late_place p) (late_place q) b (late_looser p q e) h
 
-text_on : (p q : Place) (s b : List ℕ) (A B : List ℕ → Type 0) → IsLooser p q → ((rest : List ℕ) → A rest → B rest) → ShowsText (IsGapAt p) s b A → ShowsText (IsGapAt q) s b B
+text_on : (p q : Place) (s b : List ℕ) (A B : List ℕ → Type 0) → IsLooser p q → ((rest : List ℕ) → A rest → B rest)
+    → ShowsText (IsGapAt p) s b A → ShowsText (IsGapAt q) s b B
 text_on p q s b A B e k h = (h.0, h.1, gap_at p q h.0 e h.2, h.3, k h.1 h.4)
 
 next_implied : (s : List ℕ) (xs ys : List Item) → Turns xs ys → (p q : Place) (ws : List Item) (b : List ℕ) → IsLooser p q
     → ShowsNext p ws s b (λ vs rest. ShowsFrom after_text vs rest xs) → ShowsNext q ws s b (λ vs rest. ShowsFrom after_text vs rest ys)
 next_implied s xs ys k p q [] b e h =
-    text_on p q s b (λ rest. ShowsFrom after_text [] rest xs) (λ rest. ShowsFrom after_text [] rest ys) e (λ rest. k after_text after_text [] rest (same_looser after_text)) h
+    text_on p q s b (λ rest. ShowsFrom after_text [] rest xs) (λ rest. ShowsFrom after_text [] rest ys) e
+    (λ rest. k after_text after_text [] rest (same_looser after_text)) h
 next_implied s xs ys k p q (w ∷ ws) b e (inl h) =
     inl (h.0, h.1, (gap_at p q h.0 e h.2.0, h.2.1), h.3, k after_text after_text (w ∷ ws) h.1 (same_looser after_text) h.4)
 next_implied s xs ys k p q (w ∷ ws) b e (inr h) =
     inr (
       may_end p q e h.0,
-      then_mono (λ rest. ShowsText (IsGapAt after_line) s rest (λ last. ShowsFrom after_text [] last xs)) (λ rest. ShowsText (IsGapAt after_line) s rest (λ last. ShowsFrom after_text [] last ys))
-          (λ rest. text_on after_line after_line s rest (λ last. ShowsFrom after_text [] last xs) (λ last. ShowsFrom after_text [] last ys) (same_looser after_line) (λ last. k after_text after_text [] last (same_looser after_text)))
+      then_mono (λ rest. ShowsText (IsGapAt after_line) s rest (λ last. ShowsFrom after_text [] last xs))
+          (λ rest. ShowsText (IsGapAt after_line) s rest (λ last. ShowsFrom after_text [] last ys))
+          (λ rest. text_on after_line after_line s rest (λ last. ShowsFrom after_text [] last xs) (λ last. ShowsFrom after_text [] last ys)
+          (same_looser after_line) (λ last. k after_text after_text [] last (same_looser after_text)))
           (w ∷ ws) on_line b h.1,
     )
 
 -- a weaker gap in place of one
 gap_implied : (xs ys : List Item) → Turns xs ys → (r s : Reach) (l m : Least) → IsWeaker r l s m → Turns (Gap r l ∷ xs) (Gap s m ∷ ys)
 gap_implied xs ys k r s l m weak p q [] b e h = k (with_gap r l p) (with_gap s m q) [] b (gap_looser p q r s l m e weak) h
-gap_implied xs ys k r s Nothing Nothing weak p q (w ∷ ws) b e h = k (with_gap r Nothing p) (with_gap s Nothing q) (w ∷ ws) b (gap_looser p q r s Nothing Nothing e weak) h
+gap_implied xs ys k r s Nothing Nothing weak p q (w ∷ ws) b e h = k (with_gap r Nothing p) (with_gap s Nothing q) (w ∷ ws) b
+    (gap_looser p q r s Nothing Nothing e weak) h
 gap_implied xs ys k r s Nothing Spacing weak p q (w ∷ ws) b e h = absurd (let f = weak.1 in cc)
 gap_implied xs ys k r s Nothing LineEnd weak p q (w ∷ ws) b e h = absurd (let f = weak.1 in cc)
-gap_implied xs ys k r s Spacing Nothing weak p q (w ∷ ws) b e h = k (with_gap r Spacing p) (with_gap s Nothing q) (w ∷ ws) b (gap_looser p q r s Spacing Nothing e weak) h
-gap_implied xs ys k r s Spacing Spacing weak p q (w ∷ ws) b e h = k (with_gap r Spacing p) (with_gap s Spacing q) (w ∷ ws) b (gap_looser p q r s Spacing Spacing e weak) h
+gap_implied xs ys k r s Spacing Nothing weak p q (w ∷ ws) b e h = k (with_gap r Spacing p) (with_gap s Nothing q) (w ∷ ws) b
+    (gap_looser p q r s Spacing Nothing e weak) h
+gap_implied xs ys k r s Spacing Spacing weak p q (w ∷ ws) b e h = k (with_gap r Spacing p) (with_gap s Spacing q) (w ∷ ws) b
+    (gap_looser p q r s Spacing Spacing e weak) h
 gap_implied xs ys k r s Spacing LineEnd weak p q (w ∷ ws) b e h = absurd (let f = weak.1 in cc)
 gap_implied xs ys k r s LineEnd Nothing weak p q (w ∷ ws) b e h =
     flushed ys (with_gap s Nothing q) w ws b (may_end_there q r s Nothing (λ none. cc) weak)
-    (then_mono (λ rest. ShowsFrom after_line [] rest xs) (λ rest. ShowsFrom after_line [] rest ys) (λ rest. k after_line after_line [] rest (same_looser after_line)) (w ∷ ws) on_line b
+    (then_mono (λ rest. ShowsFrom after_line [] rest xs) (λ rest. ShowsFrom after_line [] rest ys)
+    (λ rest. k after_line after_line [] rest (same_looser after_line)) (w ∷ ws) on_line b
     (then_looser (λ rest. ShowsFrom after_line [] rest xs) (w ∷ ws) (late_place p) on_line b (late_on_line p) h))
 gap_implied xs ys k r s LineEnd Spacing weak p q (w ∷ ws) b e h =
     flushed ys (with_gap s Spacing q) w ws b (may_end_there q r s Spacing (λ none. cc) weak)
-    (then_mono (λ rest. ShowsFrom after_line [] rest xs) (λ rest. ShowsFrom after_line [] rest ys) (λ rest. k after_line after_line [] rest (same_looser after_line)) (w ∷ ws) on_line b
+    (then_mono (λ rest. ShowsFrom after_line [] rest xs) (λ rest. ShowsFrom after_line [] rest ys)
+    (λ rest. k after_line after_line [] rest (same_looser after_line)) (w ∷ ws) on_line b
     (then_looser (λ rest. ShowsFrom after_line [] rest xs) (w ∷ ws) (late_place p) on_line b (late_on_line p) h))
 gap_implied xs ys k r s LineEnd LineEnd weak p q (w ∷ ws) b e h =
-    then_mono (λ rest. ShowsFrom after_line [] rest xs) (λ rest. ShowsFrom after_line [] rest ys) (λ rest. k after_line after_line [] rest (same_looser after_line)) (w ∷ ws) (late_place q) b
+    then_mono (λ rest. ShowsFrom after_line [] rest xs) (λ rest. ShowsFrom after_line [] rest ys)
+    (λ rest. k after_line after_line [] rest (same_looser after_line)) (w ∷ ws) (late_place q) b
     (then_looser (λ rest. ShowsFrom after_line [] rest xs) (w ∷ ws) (late_place p) (late_place q) b (late_looser p q e) h)
 
 -- a gap that may be nothing
@@ -375,13 +398,19 @@ line_end_mono A B k b h = (h.0, h.1, h.2, h.3, h.4, k h.1 h.5)
 late_implied : (i : Item) (xs ys : List Item) → Turns xs ys → Turns (Late i ∷ xs) (Late i ∷ ys)
 late_implied i xs ys k p q [] b e (inl h) = inl (may_stay p q e h.0, k (same_line p) (same_line q) (i ∷ []) b (same_line_looser p q e) h.1)
 late_implied i xs ys k p q [] b e (inr h) =
-    inr (may_end p q e h.0, line_end_mono (λ rest. ShowsFrom line_start (i ∷ []) rest xs) (λ rest. ShowsFrom line_start (i ∷ []) rest ys) (λ rest. k line_start line_start (i ∷ []) rest refl) b h.1)
+    inr (
+      may_end p q e h.0,
+      line_end_mono (λ rest. ShowsFrom line_start (i ∷ []) rest xs) (λ rest. ShowsFrom line_start (i ∷ []) rest ys)
+          (λ rest. k line_start line_start (i ∷ []) rest refl) b h.1,
+    )
 late_implied i xs ys k p q (w ∷ ws) b e (inl h) = inl (k (same_line p) (same_line q) (w ∷ (ws ++ i ∷ [])) b (same_line_looser p q e) h)
 late_implied i xs ys k p q (w ∷ ws) b e (inr h) =
     inr (
       may_end p q e h.0,
-      then_mono (λ rest. ShowsLineEnd rest (λ last. ShowsFrom line_start (i ∷ []) last xs)) (λ rest. ShowsLineEnd rest (λ last. ShowsFrom line_start (i ∷ []) last ys))
-          (λ rest. line_end_mono (λ last. ShowsFrom line_start (i ∷ []) last xs) (λ last. ShowsFrom line_start (i ∷ []) last ys) (λ last. k line_start line_start (i ∷ []) last refl) rest)
+      then_mono (λ rest. ShowsLineEnd rest (λ last. ShowsFrom line_start (i ∷ []) last xs))
+          (λ rest. ShowsLineEnd rest (λ last. ShowsFrom line_start (i ∷ []) last ys))
+          (λ rest. line_end_mono (λ last. ShowsFrom line_start (i ∷ []) last xs) (λ last. ShowsFrom line_start (i ∷ []) last ys)
+          (λ last. k line_start line_start (i ∷ []) last refl) rest)
           (w ∷ ws) on_line b h.1,
     )
 

@@ -19,5 +19,5 @@ ink-ending Lf = refl
 ink-ending Crlf = refl
 
 -- bytes with no ink before others
-pub ink-behind : (a b : List ℕ) → ink a ≡ [] → ink (a ++ b) ≡ ink b
-ink-behind a b e = ink-append a b ∙ ap (λ (x : List ℕ). x ++ ink b) e
+pub ink-after : (a b : List ℕ) → ink a ≡ [] → ink (a ++ b) ≡ ink b
+ink-after a b e = ink-append a b ∙ ap (λ (x : List ℕ). x ++ ink b) e

@@ -7,7 +7,8 @@ pub look-then-then : (x : Look) (f g : Column → Bool → Look) → look_then (
 look-then-then (Answers b) f g = refl
 look-then-then (GoesOn c p) f g = refl
 
-pub answer-then : (x : Look) (f : Column → Bool → Look) (g : Column → Bool → Bool) → answer_of (look_then x f) g ≡ answer_of x (λ c p. answer_of (f c p) g)
+pub answer-then : (x : Look) (f : Column → Bool → Look) (g : Column → Bool → Bool) → answer_of (look_then x f) g ≡ answer_of x
+    (λ c p. answer_of (f c p) g)
 answer-then (Answers b) f g = refl
 answer-then (GoesOn c p) f g = refl
 
@@ -16,7 +17,8 @@ look-each (Answers b) f g h = refl
 look-each (GoesOn c p) f g h = h c p
 
 -- equal looks, and then looks that are equal wherever the first ones go on
-pub look-same : (x y : Look) (f g : Column → Bool → Look) → x ≡ y → ((c : Column) (p : Bool) → f c p ≡ g c p) → look_then x f ≡ look_then y g
+pub look-same : (x y : Look) (f g : Column → Bool → Look) → x ≡ y → ((c : Column) (p : Bool) → f c p ≡ g c p)
+    → look_then x f ≡ look_then y g
 look-same x y f g e h = ap (λ (z : Look). look_then z f) e ∙ look-each y f g h
 
 pub answer-each : (x : Look) (f g : Column → Bool → Bool) → ((c : Column) (p : Bool) → f c p ≡ g c p) → answer_of x f ≡ answer_of x g
@@ -24,7 +26,8 @@ answer-each (Answers b) f g h = refl
 answer-each (GoesOn c p) f g h = h c p
 
 -- and then answers that are
-pub answer-same : (x y : Look) (f g : Column → Bool → Bool) → x ≡ y → ((c : Column) (p : Bool) → f c p ≡ g c p) → answer_of x f ≡ answer_of y g
+pub answer-same : (x y : Look) (f g : Column → Bool → Bool) → x ≡ y → ((c : Column) (p : Bool) → f c p ≡ g c p)
+    → answer_of x f ≡ answer_of y g
 answer-same x y f g e h = ap (λ (z : Look). answer_of z f) e ∙ answer-each y f g h
 
 -- one of two looks, by one test

@@ -5,7 +5,8 @@ use Rattle.prettyless_model.specs.Spelling.{is_blank_byte}
 use Rattle.prettyless_model.specs.Tree.{Tree}
 use Rattle.prettyless_model.specs.Layout.{layout, Whole}
 use Rattle.prettyless_model.specs.Content.{HasContent}
-use Rattle.prettyless_model.specs.Shows.{Item, Shown, Gap, Mark, Late, texts, AreFixed, HasTexts, IsBlank, IsSpaced, Place, Before, After, with_gap, after_text, at_start, IsGapAt, ShowsFrom, AreShown}
+use Rattle.prettyless_model.specs.Shows.{Item, Shown, Gap, Mark, Late, texts, AreFixed, HasTexts, IsBlank, IsSpaced, Place, Before, After}
+use Rattle.prettyless_model.specs.Shows.{with_gap, after_text, at_start, IsGapAt, ShowsFrom, AreShown}
 use Rattle.prettyless_model.proofs.Implied.{end_blank}
 use Rattle.prettyless_model.proofs.Showing.{layout_shows}
 

@@ -1,7 +1,8 @@
 -- Words: what documents spell in a row, and what one with no line suffix spells in parts.
 use Rattle.std.proofs.Common.{◌≡◌, ℕ, List, [], ◌∷◌, ◌++◌, refl, ap, sym, ◌∙◌, append_assoc, append-nil, arith}
-use Rattle.prettyless_model.specs.Tree.{Tree, Nil, Fail, Append, LineSuffix, Nest, DedentToRoot, Align, Flatten, BreakOrFlat, Group, Union, PartialUnion, OnColumn, OnNesting}
-use Rattle.prettyless_model.specs.Spelling.{spells, parts}
+use Rattle.prettyless_model.specs.Tree.{Tree, Nil, Fail, Append, LineSuffix, Nest, DedentToRoot, Align, Flatten, BreakOrFlat, Group, Union}
+use Rattle.prettyless_model.specs.Tree.{PartialUnion, OnColumn, OnNesting}
+use Rattle.prettyless_model.specs.Spelling.{spells, spelled_parts}
 use Rattle.prettyless_model.specs.Content.{suffix_depth}
 
 -- trees as one document, in a row
@@ -20,7 +21,7 @@ depth_one_more [] d p q = omega arith
 depth_one_more (t ∷ ts) d p q = omega (arith, depth_one_more ts d (omega arith) q)
 
 -- a document with no line suffix has one part
-pub parts_in_order : (d : Tree) (w : List ℕ) → spells d w → suffix_depth d ≡ 0 → parts d w []
+pub parts_in_order : (d : Tree) (w : List ℕ) → spells d w → suffix_depth d ≡ 0 → spelled_parts d w []
 parts_in_order Fail w h l = tt
 parts_in_order (Append x y) w h l =
     (h.0, [], h.1, [], parts_in_order x h.0 h.2 (omega arith), parts_in_order y h.1 h.3 (omega arith), h.4, refl)

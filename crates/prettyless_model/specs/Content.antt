@@ -2,9 +2,10 @@
 -- each text whole, with such gaps between them.
 use Rattle.std.specs.Prelude.{◌≡◌, ℕ, ◌+◌, ◌≤◌, max, ◌==◌, List, [], ◌∷◌, ◌++◌, Option, Some, ◌⊎◌, ⊤, count_by}
 use Rattle.prettyless_model.specs.declared.options.RenderOptions.{RenderOptions}
-use Rattle.prettyless_model.specs.Tree.{Tree, Append, LineSuffix, Nest, DedentToRoot, Align, Flatten, BreakOrFlat, Group, Union, PartialUnion, OnColumn, OnNesting}
+use Rattle.prettyless_model.specs.Tree.{Tree, Append, LineSuffix, Nest, DedentToRoot, Align, Flatten, BreakOrFlat, Group, Union}
+use Rattle.prettyless_model.specs.Tree.{PartialUnion, OnColumn, OnNesting}
 use Rattle.prettyless_model.specs.Layout.{Whole, layout}
-use Rattle.prettyless_model.specs.Spelling.{ink, spells, parts}
+use Rattle.prettyless_model.specs.Spelling.{ink, spells, spelled_parts}
 use Rattle.prettyless_model.specs.Shows.{Item, AreShown, shows}
 
 -- how deep line suffixes are in one another: 0 where there are none, 1 where none is inside another
@@ -40,7 +41,7 @@ pub record HasContent (d : Tree) (b : List ℕ) : Type 0 where
   -- each byte as often as in what the document spells
   pub counted : (w : List ℕ) → spells d w → (c : ℕ) → count c (ink b) ≡ count c w
   -- with no line suffix inside another: what it spells outside its line suffixes and what it spells inside them, interleaved
-  pub merged : (v u : List ℕ) → parts d v u → suffix_depth d ≤ 1 → IsMerge (ink b) v u
+  pub merged : (v u : List ℕ) → spelled_parts d v u → suffix_depth d ≤ 1 → IsMerge (ink b) v u
   -- what the document shows: its texts, each whole, in their order, with such gaps between them; late ones at the end of
   -- their line
   pub shown : (items : List Item) → shows d items → AreShown b items

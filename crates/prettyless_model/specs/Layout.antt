@@ -1,5 +1,6 @@
 -- The layout of a document: a recursion on its tree, from state to state.
-use Rattle.std.specs.Prelude.{ℕ, zero, suc, ◌+◌, Bool, true, false, Option, Some, None, not, ◌&&◌, ◌||◌, nat_le, List, [], ◌∷◌, ◌++◌, length, map, if◌then◌else◌}
+use Rattle.std.specs.Prelude.{ℕ, zero, suc, ◌+◌, Bool, true, false, Option, Some, None, not, ◌&&◌, ◌||◌, nat_le, List, [], ◌∷◌, ◌++◌}
+use Rattle.std.specs.Prelude.{length, map, if◌then◌else◌}
 use Rattle.prettyless_model.specs.Options.{ending}
 use Rattle.prettyless_model.specs.Spaces.{spaces}
 use Rattle.prettyless_model.specs.declared.options.RenderOptions.{RenderOptions}
@@ -54,14 +55,14 @@ abbrev pub payload_fits : RenderOptions → Metrics → Column → Bool
 payload_fits o m c = (not m.first_nonempty || nat_le (saturating_add (prospective c) m.first_width) o.width) && nat_le m.rest_width o.width
 
 -- the column after a payload: that of its last part
-abbrev pub behind_payload : Metrics → Column
-behind_payload m = if m.last_nonempty then commit m.last_width start else start
+abbrev pub after_payload : Metrics → Column
+after_payload m = if m.last_nonempty then commit m.last_width start else start
 
 -- a payload goes out byte for byte; the gap is written before it unless its first part is empty
 abbrev pub lay_payload : RenderOptions → Metrics → List ℕ → State → Outcome
 lay_payload o m s st =
     Done ((if m.first_nonempty then spaces (gap st.column) else []) ++ s)
-    (record st { column = behind_payload m; within = st.within && payload_fits o m st.column })
+    (record st { column = after_payload m; within = st.within && payload_fits o m st.column })
 
 -- a line ends, and the next has this indent: written at once, or with the first content
 abbrev pub lay_ending : RenderOptions → IndentationPolicy → ℕ → State → Outcome

@@ -103,7 +103,8 @@ IsWeaker r l s m = (further r s ≡ s) × (more m l ≡ l) × (l ≡ LineEnd →
 abbrev pub Implies : List Item → List Item → Type 0
 Implies xs [] = xs ≡ []
 Implies xs (Gap s m ∷ ys) =
-    (IsWeaker NoGap Nothing s m × Implies xs ys) ⊎ ((r : Reach) × (l : Least) × (rest : List Item) × (xs ≡ Gap r l ∷ rest) × IsWeaker r l s m × Implies rest ys)
+    (IsWeaker NoGap Nothing s m × Implies xs ys)
+    ⊎ ((r : Reach) × (l : Least) × (rest : List Item) × (xs ≡ Gap r l ∷ rest) × IsWeaker r l s m × Implies rest ys)
 Implies xs (Mark s ∷ ys) =
     Implies xs ys ⊎ ((rest : List Item) × ((xs ≡ Shown s ∷ rest) ⊎ (xs ≡ Mark s ∷ rest)) × Implies rest ys)
 Implies xs (y ∷ ys) = (rest : List Item) × (xs ≡ y ∷ rest) × Implies rest ys

@@ -33,22 +33,23 @@ spells (t.OnNesting test y n) w = spells y w × spells n w
 spells _ w = w ≡ []
 
 -- the same with two words: outside line suffixes, and inside them
-abbrev pub parts : Tree → List ℕ → List ℕ → Type 0
-parts t.Fail v u = Unit {0}
-parts (t.Text s) v u = (v ≡ ink s) × (u ≡ [])
-parts (t.TextWithLen n s) v u = (v ≡ ink s) × (u ≡ [])
-parts (t.MultilineText s) v u = (v ≡ ink s) × (u ≡ [])
-parts (t.Append l r) v u =
-    (v1 : List ℕ) × (u1 : List ℕ) × (v2 : List ℕ) × (u2 : List ℕ) × parts l v1 u1 × parts r v2 u2 × (v ≡ v1 ++ v2) × (u ≡ u1 ++ u2)
-parts (t.LineSuffix d) v u = (v ≡ []) × spells d u
-parts (t.Nest k d) v u = parts d v u
-parts (t.DedentToRoot d) v u = parts d v u
-parts (t.Align d) v u = parts d v u
-parts (t.Flatten d) v u = parts d v u
-parts (t.BreakOrFlat b f) v u = parts b v u × parts f v u
-parts (t.Group d) v u = parts d v u
-parts (t.Union l r) v u = parts l v u × parts r v u
-parts (t.PartialUnion l r) v u = parts l v u × parts r v u
-parts (t.OnColumn test y n) v u = parts y v u × parts n v u
-parts (t.OnNesting test y n) v u = parts y v u × parts n v u
-parts _ v u = (v ≡ []) × (u ≡ [])
+abbrev pub spelled_parts : Tree → List ℕ → List ℕ → Type 0
+spelled_parts t.Fail v u = Unit {0}
+spelled_parts (t.Text s) v u = (v ≡ ink s) × (u ≡ [])
+spelled_parts (t.TextWithLen n s) v u = (v ≡ ink s) × (u ≡ [])
+spelled_parts (t.MultilineText s) v u = (v ≡ ink s) × (u ≡ [])
+spelled_parts (t.Append l r) v u =
+    (v1 : List ℕ) × (u1 : List ℕ) × (v2 : List ℕ) × (u2 : List ℕ) × spelled_parts l v1 u1 × spelled_parts r v2 u2 × (v ≡ v1 ++ v2)
+    × (u ≡ u1 ++ u2)
+spelled_parts (t.LineSuffix d) v u = (v ≡ []) × spells d u
+spelled_parts (t.Nest k d) v u = spelled_parts d v u
+spelled_parts (t.DedentToRoot d) v u = spelled_parts d v u
+spelled_parts (t.Align d) v u = spelled_parts d v u
+spelled_parts (t.Flatten d) v u = spelled_parts d v u
+spelled_parts (t.BreakOrFlat b f) v u = spelled_parts b v u × spelled_parts f v u
+spelled_parts (t.Group d) v u = spelled_parts d v u
+spelled_parts (t.Union l r) v u = spelled_parts l v u × spelled_parts r v u
+spelled_parts (t.PartialUnion l r) v u = spelled_parts l v u × spelled_parts r v u
+spelled_parts (t.OnColumn test y n) v u = spelled_parts y v u × spelled_parts n v u
+spelled_parts (t.OnNesting test y n) v u = spelled_parts y v u × spelled_parts n v u
+spelled_parts _ v u = (v ≡ []) × (u ≡ [])

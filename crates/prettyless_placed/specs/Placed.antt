@@ -7,7 +7,8 @@ use Rattle.prettyless_text.specs.declared.text.BuildError.{BuildError}
 use Rattle.prettyless_build.specs.Built.{Builds, IfPlaced}
 
 -- `made` is what the other call answered, `doc` the document of a builder, and `tree` the tree of a pointer.
-pub record Places {B T : Type 0} (made : Result B BuildError) (doc : B → BuildDoc T) (tree : T → Tree) (result : Result T BuildError) : Type 0 where
+pub record Places {B T : Type 0} (made : Result B BuildError) (doc : B → BuildDoc T) (tree : T → Tree)
+    (result : Result T BuildError) : Type 0 where
   -- Where it is a document, the result is a pointer to it, or memory was refused.
   pub ok : IfOk made (λ b. Builds result tree (built tree (doc b)))
   -- Where that document has a pointer already, this is the result.

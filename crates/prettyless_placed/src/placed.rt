@@ -2,7 +2,8 @@
 ghost use Rattle.std.specs.Prelude.{◌≡◌, ◌⊎◌, IfOk, IfErr, List};
 ghost use Rattle.std.specs.Cow.{cow_str_bytes};
 ghost use Rattle.std.specs.Iterator.{IsFiniteIterable};
-ghost use Rattle.prettyless_doc.specs.Tree.{Tree, Nil, Fail, WeakSpace, HardLine, WeakLine, ExpandParent, BreakOrFlat, Union, OnColumn, OnNesting};
+ghost use Rattle.prettyless_doc.specs.Tree.{Tree, Nil, Fail, WeakSpace, HardLine, WeakLine, ExpandParent, BreakOrFlat, Union, OnColumn};
+ghost use Rattle.prettyless_doc.specs.Tree.{OnNesting};
 ghost use Rattle.prettyless_doc.specs.BuildErrors.{IsMemory};
 ghost use Rattle.prettyless_doc.specs.Counted as counted;
 ghost use Rattle.prettyless_doc.specs.DocTree.{built};

@@ -1,10 +1,10 @@
 -- Frames, pushed and popped.
 use Rattle.std.proofs.Common.{◌≡◌, ◌+◌, List, [], ◌∷◌, ◌++◌, refl, ap, arith}
 use Rattle.prettyless_model.specs.Tree.{Tree}
-use Rattle.prettyless_pointers.specs.Copying.{filled, frame_work, frames_work, whole}
+use Rattle.prettyless_pointers.specs.Copying.{filled, frame_work, frames_work, whole_copy}
 use Rattle.prettyless_pointers.specs.declared.copying.Frame.{Frame}
 
-pub whole_of_push : (fs : List Frame) (f : Frame) (x : Tree) → whole (fs ++ f ∷ []) x ≡ whole fs (filled f x)
+pub whole_of_push : (fs : List Frame) (f : Frame) (x : Tree) → whole_copy (fs ++ f ∷ []) x ≡ whole_copy fs (filled f x)
 whole_of_push [] f x = refl
 whole_of_push (g ∷ fs) f x = ap (filled g) (whole_of_push fs f x)
 

@@ -7,8 +7,9 @@ use Rattle.prettyless_model.specs.Tree.{Tree}
 use Rattle.prettyless_doc.specs.Constants.{constant_tree}
 use Rattle.prettyless_doc.specs.Lines.{space}
 use Rattle.prettyless_doc.specs.declared.constant.Constant.{Constant}
-use Rattle.prettyless_doc.specs.declared.constant.Constant.TheVariants.{Nil, Fail, Space, WeakSpace, HardLine, WeakLine, ExpandParent, LineOrSpace, LineOrNil, SoftLineOrSpace, SoftLineOrNil}
-use Rattle.prettyless_pointers.specs.Constants.{IsTable, LeadsTo, is_space, is_nil, is_line, is_grouped, is_constant}
+use Rattle.prettyless_doc.specs.declared.constant.Constant.TheVariants.{Nil, Fail, Space, WeakSpace, HardLine, WeakLine, ExpandParent}
+use Rattle.prettyless_doc.specs.declared.constant.Constant.TheVariants.{LineOrSpace, LineOrNil, SoftLineOrSpace, SoftLineOrNil}
+use Rattle.prettyless_pointers.specs.Constants.{IsTable, LeadsTo, is_space, is_nothing, is_line, is_grouped, is_constant}
 use Rattle.prettyless_doc.specs.declared.doc.Doc.{Doc}
 use Rattle.prettyless_doc.specs.declared.doc.Doc.TheVariants as n
 use Rattle.prettyless_pointers.specs.Trees.{ref_tree}
@@ -19,15 +20,17 @@ spaces-are : (d : Tree) → is_space d ≡ true → d ≡ space
 spaces-are (t.Text (b ∷ [])) h = ap (λ c. t.Text (c ∷ [])) (eqb-true b 32 h)
 spaces-are _ h = absurd cc
 
-nothings-are : (d : Tree) → is_nil d ≡ true → d ≡ t.Nil
+nothings-are : (d : Tree) → is_nothing d ≡ true → d ≡ t.Nil
 nothings-are t.Nil h = refl
 nothings-are _ h = absurd cc
 
-lines-are : (is_flat : Tree → Bool) (flat : Tree) → ((d : Tree) → is_flat d ≡ true → d ≡ flat) → (d : Tree) → is_line is_flat d ≡ true → d ≡ t.BreakOrFlat t.HardLine flat
+lines-are : (is_flat : Tree → Bool) (flat : Tree) → ((d : Tree) → is_flat d ≡ true → d ≡ flat) → (d : Tree) → is_line is_flat d ≡ true
+    → d ≡ t.BreakOrFlat t.HardLine flat
 lines-are is_flat flat same (t.BreakOrFlat t.HardLine f) h = ap (t.BreakOrFlat t.HardLine) (same f h)
 lines-are is_flat flat same _ h = absurd cc
 
-groups-are : (is_inner : Tree → Bool) (inner : Tree) → ((d : Tree) → is_inner d ≡ true → d ≡ inner) → (d : Tree) → is_grouped is_inner d ≡ true → d ≡ t.Group inner
+groups-are : (is_inner : Tree → Bool) (inner : Tree) → ((d : Tree) → is_inner d ≡ true → d ≡ inner) → (d : Tree)
+    → is_grouped is_inner d ≡ true → d ≡ t.Group inner
 groups-are is_inner inner same (t.Group d) h = ap t.Group (same d h)
 groups-are is_inner inner same _ h = absurd cc
 
@@ -41,9 +44,9 @@ constants-are HardLine t.HardLine h = refl
 constants-are WeakLine t.WeakLine h = refl
 constants-are ExpandParent t.ExpandParent h = refl
 constants-are LineOrSpace d h = lines-are is_space space spaces-are d h
-constants-are LineOrNil d h = lines-are is_nil t.Nil nothings-are d h
+constants-are LineOrNil d h = lines-are is_nothing t.Nil nothings-are d h
 constants-are SoftLineOrSpace d h = groups-are _ _ (lines-are is_space space spaces-are) d h
-constants-are SoftLineOrNil d h = groups-are _ _ (lines-are is_nil t.Nil nothings-are) d h
+constants-are SoftLineOrNil d h = groups-are _ _ (lines-are is_nothing t.Nil nothings-are) d h
 constants-are _ _ h = absurd cc
 
 -- the tree of a pointer is that of its node
@@ -52,15 +55,21 @@ node_tree a n.Nil = fold-roll-RefDoc Tree (λ d. tree_of (λ t. t) d.0.now) _
 node_tree a _ = fold-roll-RefDoc Tree (λ d. tree_of (λ t. t) d.0.now) _
 
 -- a pointer to a node leads to the constant that the node is
-pub leads : (c : Constant) (a : _) (d : Doc RefDoc) → is_constant c (tree_of ref_tree d) ≡ true → holds_memory d ≡ false → LeadsTo c (roll-RefDoc record { 0 = record { ref_ptr = a; now = d } })
-leads c a d same settled = (ap (is_constant c) (node_tree a d) ∙ same, ap (λ p. holds_memory p.0.now) (out-roll-RefDoc record { 0 = record { ref_ptr = a; now = d } }) ∙ settled)
+pub leads : (c : Constant) (a : _) (d : Doc RefDoc) → is_constant c (tree_of ref_tree d) ≡ true → holds_memory d ≡ false
+    → LeadsTo c (roll-RefDoc record { 0 = record { ref_ptr = a; now = d } })
+leads c a d same settled = (
+  ap (is_constant c) (node_tree a d) ∙ same,
+  ap (λ p. holds_memory p.0.now) (out-roll-RefDoc record { 0 = record { ref_ptr = a; now = d } }) ∙ settled,
+)
 
 -- a node of two constants
-pub line-is : (c : Constant) (flat : Constant) (p q : RefDoc) → LeadsTo HardLine p → LeadsTo flat q → is_constant c (t.BreakOrFlat t.HardLine (constant_tree flat)) ≡ true → is_constant c (t.BreakOrFlat (ref_tree p) (ref_tree q)) ≡ true
+pub line-is : (c : Constant) (flat : Constant) (p q : RefDoc) → LeadsTo HardLine p → LeadsTo flat q
+    → is_constant c (t.BreakOrFlat t.HardLine (constant_tree flat)) ≡ true → is_constant c (t.BreakOrFlat (ref_tree p) (ref_tree q)) ≡ true
 line-is c flat p q h g same = rw (constants-are HardLine _ h.0) (rw (constants-are flat _ g.0) same)
 
 -- a group of one
-pub soft-line-is : (c : Constant) (inner : Constant) (p : RefDoc) → LeadsTo inner p → is_constant c (t.Group (constant_tree inner)) ≡ true → is_constant c (t.Group (ref_tree p)) ≡ true
+pub soft-line-is : (c : Constant) (inner : Constant) (p : RefDoc) → LeadsTo inner p → is_constant c (t.Group (constant_tree inner)) ≡ true
+    → is_constant c (t.Group (ref_tree p)) ≡ true
 soft-line-is c inner p h same = rw (constants-are inner _ h.0) same
 
 -- the pointers to the constants, in order

@@ -1,3 +1,4 @@
 pub mod Copies
+pub mod CountedWeight
 pub mod InPlace
 pub mod Weight

@@ -4,7 +4,8 @@ use Rattle.prettyless_model.specs.Tree as t
 use Rattle.prettyless_model.specs.Tree.{Tree}
 use Rattle.prettyless_doc.specs.DocTree.{holds_memory}
 use Rattle.prettyless_doc.specs.declared.constant.Constant.{Constant}
-use Rattle.prettyless_doc.specs.declared.constant.Constant.TheVariants.{Nil, Fail, Space, WeakSpace, HardLine, WeakLine, ExpandParent, LineOrSpace, LineOrNil, SoftLineOrSpace, SoftLineOrNil}
+use Rattle.prettyless_doc.specs.declared.constant.Constant.TheVariants.{Nil, Fail, Space, WeakSpace, HardLine, WeakLine, ExpandParent}
+use Rattle.prettyless_doc.specs.declared.constant.Constant.TheVariants.{LineOrSpace, LineOrNil, SoftLineOrSpace, SoftLineOrNil}
 use Rattle.prettyless_pointers.specs.declared.arena.RefDoc.{RefDoc, out-RefDoc}
 use Rattle.prettyless_pointers.specs.Trees.{ref_tree}
 
@@ -14,9 +15,9 @@ is_space (t.Text (b ∷ [])) = eqb b 32
 is_space _ = false
 
 -- whether a tree is nothing
-abbrev pub is_nil : Tree → Bool
-is_nil t.Nil = true
-is_nil _ = false
+abbrev pub is_nothing : Tree → Bool
+is_nothing t.Nil = true
+is_nothing _ = false
 
 -- whether a tree is a line break, with this where lines are flat
 abbrev pub is_line : (Tree → Bool) → Tree → Bool
@@ -30,7 +31,7 @@ is_grouped is_inner _ = false
 
 -- whether a tree is this constant
 abbrev pub is_constant : Constant → Tree → Bool
-is_constant Nil d = is_nil d
+is_constant Nil d = is_nothing d
 is_constant Fail t.Fail = true
 is_constant Space d = is_space d
 is_constant WeakSpace t.WeakSpace = true
@@ -38,9 +39,9 @@ is_constant HardLine t.HardLine = true
 is_constant WeakLine t.WeakLine = true
 is_constant ExpandParent t.ExpandParent = true
 is_constant LineOrSpace d = is_line is_space d
-is_constant LineOrNil d = is_line is_nil d
+is_constant LineOrNil d = is_line is_nothing d
 is_constant SoftLineOrSpace d = is_grouped (is_line is_space) d
-is_constant SoftLineOrNil d = is_grouped (is_line is_nil) d
+is_constant SoftLineOrNil d = is_grouped (is_line is_nothing) d
 is_constant _ _ = false
 
 -- the pointer leads to this constant, in a node that holds no memory of its own

@@ -15,9 +15,9 @@ filled (First kind second) x = of_two kind x (box_tree second.now)
 filled (Second kind first) x = of_two kind (box_tree first) x
 
 -- all that is copied, where what the innermost frame waits for is copied as x
-abbrev pub whole : List Frame → Tree → Tree
-whole [] x = x
-whole (f ∷ fs) x = filled f (whole fs x)
+abbrev pub whole_copy : List Frame → Tree → Tree
+whole_copy [] x = x
+whole_copy (f ∷ fs) x = filled f (whole_copy fs x)
 
 -- the tree that a task copies
 abbrev pub task_tree : Task → Tree
@@ -45,9 +45,9 @@ task_work (Copy source) = tree_work (box_tree source.now)
 task_work (Put copy) = 0
 
 -- how much work is left in all
-abbrev pub work : List Frame → Task → ℕ
-work fs t = frames_work fs + task_work t
+abbrev pub copying_work : List Frame → Task → ℕ
+copying_work fs t = frames_work fs + task_work t
 
 -- the same, where a tree is to be copied
-abbrev pub work_at : List Frame → Tree → ℕ
-work_at fs x = frames_work fs + tree_work x
+abbrev pub copying_work_at : List Frame → Tree → ℕ
+copying_work_at fs x = frames_work fs + tree_work x

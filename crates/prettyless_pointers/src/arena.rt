@@ -7,8 +7,8 @@ ghost use Rattle.prettyless_doc.specs.Constants.{constant_tree};
 ghost use Rattle.prettyless_doc.specs.DocTree.{tree_of, built, holds_memory};
 ghost use Rattle.prettyless_doc.specs.Payload as source;
 ghost use Rattle.prettyless_doc.specs.Payload.{payload_bytes};
-ghost use Rattle.prettyless_doc.specs.TextBytes.{bytes_of, is_owned};
-ghost use Rattle.prettyless_doc.specs.Tree.{Tree, Append, Group, Nest, Text as TextTree};
+ghost use Rattle.prettyless_doc.specs.TextBytes.{bytes_of_text, is_owned};
+ghost use Rattle.prettyless_doc.specs.Tree.{Tree, Append, Group, Nest, Text as TextTree, Union};
 ghost use Rattle.prettyless_build.specs.Built.{IfPlaced};
 ghost use Rattle.prettyless_pointers.specs.Constants.{IsTable};
 ghost use Rattle.prettyless_pointers.specs.declared.arena.RefDoc.{out-RefDoc};
@@ -128,7 +128,7 @@ impl<'a> Arena<'a> {
 
 // An owned text is copied, since nothing in the arena is ever dropped.
 fn settle_text<'a>(bump: &'a Bump, text: Text<'a>) -> Result<Text<'a>, BuildError>
-    ensures same { IfOk result (λ t. bytes_of t ≡ bytes_of text.entry) }
+    ensures same { IfOk result (λ t. bytes_of_text t ≡ bytes_of_text text.entry) }
     ensures settled { IfOk result (λ t. is_owned t ≡ false) }
     ensures err { IfErr result IsMemory }
 {
@@ -145,7 +145,7 @@ fn settle_payload<'a>(
     payload: MultilineTextData<'a>,
 ) -> Result<MultilineTextData<'a>, BuildError>
     ensures same { IfOk result (λ p. payload_bytes p ≡ payload_bytes payload.entry) }
-    ensures settled { IfOk result (λ p. source.is_owned p ≡ false) }
+    ensures settled { IfOk result (λ p. source.is_owned_payload p ≡ false) }
     ensures err { IfErr result IsMemory }
 {
     if !payload.is_owned() {
@@ -279,6 +279,15 @@ impl<'a> Arena<'a> {
         self.put_fast(Doc::Group(inner))
     }
 
+    // A document, and another one to be laid where it does not fit.
+    #[inline(never)]
+    fn put_union(&self, first: RefDoc<'a>, second: RefDoc<'a>) -> Option<RefDoc<'a>>
+        ensures same { IfSome result (λ p. ref_tree p ≡ Union (ref_tree first.entry) (ref_tree second.entry)) }
+        ensures settled { IfSome result (λ p. holds_memory (out-RefDoc p).0.now ≡ false) }
+    {
+        self.put_fast(Doc::Union(first, second))
+    }
+
     // Any node: the pointer to a constant, or that of a new node, with a copy of its text where it holds a box.
     #[inline(never)]
     fn put_other(&self, doc: Doc<'a, RefDoc<'a>>) -> Option<RefDoc<'a>>
@@ -306,6 +315,7 @@ impl<'a> Arena<'a> {
             Doc::Text(Text::Borrowed(text)) => self.put_text(text),
             Doc::Nest(offset, inner) => self.put_nest(offset, inner),
             Doc::Group(inner) => self.put_group(inner),
+            Doc::Union(first, second) => self.put_union(first, second),
             other => self.put_other(other),
         }
     }

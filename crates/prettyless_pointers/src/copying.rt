@@ -4,7 +4,8 @@ ghost use Rattle.std.specs.Prelude.{◌≡◌, ◌+◌, ◌<◌, OnOk, IfOk, IfE
 ghost use Rattle.prettyless_doc.specs.BuildErrors.{IsMemory};
 ghost use Rattle.prettyless_doc.specs.DocTree.{tree_of};
 ghost use Rattle.prettyless_doc.specs.Tree.{Tree};
-ghost use Rattle.prettyless_pointers.specs.Copying.{filled, whole, task_tree, task_work, frame_work, frames_work, work, work_at};
+ghost use Rattle.prettyless_pointers.specs.Copying.{filled, whole_copy, task_tree, task_work, frame_work, frames_work, copying_work};
+ghost use Rattle.prettyless_pointers.specs.Copying.{copying_work_at};
 ghost use Rattle.prettyless_pointers.specs.Trees.{box_tree};
 
 use crate::boxes::BoxDoc;
@@ -33,7 +34,7 @@ pub(crate) enum Task<'d, 'a> {
 #[tactic(auto, using(crate::proofs::Copies::whole_of_push, crate::proofs::Copies::frames_work_of_push))]
 fn push<'d, 'a>(frames: &mut Vec<Frame<'d, 'a>>, frame: Frame<'d, 'a>) -> Result<(), BuildError>
     ensures whole { OnOk result ((x : Tree)
-        → whole frames.new.items x ≡ whole frames.old.items (filled frame.entry x)) }
+        → whole_copy frames.new.items x ≡ whole_copy frames.old.items (filled frame.entry x)) }
     ensures work { OnOk result (frames_work frames.new.items ≡ frame_work frame.entry + frames_work frames.old.items) }
     ensures err { IfErr result IsMemory }
 {
@@ -44,8 +45,8 @@ fn push<'d, 'a>(frames: &mut Vec<Frame<'d, 'a>>, frame: Frame<'d, 'a>) -> Result
 #[tactic(auto, using(crate::proofs::Copies::whole_of_push, crate::proofs::Copies::frames_work_of_push))]
 pub(crate) fn pop<'d, 'a>(frames: &mut Vec<Frame<'d, 'a>>) -> Option<Frame<'d, 'a>>
     ensures whole { MatchOption result
-        ((x : Tree) → whole frames.old.items x ≡ x)
-        (λ f. (x : Tree) → whole frames.old.items x ≡ whole frames.new.items (filled f x)) }
+        ((x : Tree) → whole_copy frames.old.items x ≡ x)
+        (λ f. (x : Tree) → whole_copy frames.old.items x ≡ whole_copy frames.new.items (filled f x)) }
     ensures work { IfSome result (λ f. frames_work frames.old.items ≡ frame_work f + frames_work frames.new.items) }
 {
     frames.pop()
@@ -66,10 +67,10 @@ fn begin<'d, 'a>(
     frames: &mut Vec<Frame<'d, 'a>>,
     source: &'d BoxDoc<'a>,
 ) -> Result<Task<'d, 'a>, BuildError>
-    ensures whole { IfOk result (λ t. whole frames.new.items (task_tree t)
-        ≡ whole frames.old.items (box_tree source.now)) }
-    ensures work { IfOk result (λ t. work frames.new.items t
-        < work_at frames.old.items (box_tree source.now)) }
+    ensures whole { IfOk result (λ t. whole_copy frames.new.items (task_tree t)
+        ≡ whole_copy frames.old.items (box_tree source.now)) }
+    ensures work { IfOk result (λ t. copying_work frames.new.items t
+        < copying_work_at frames.old.items (box_tree source.now)) }
     ensures err { IfErr result IsMemory }
 {
     match parts_of(alloc, source.doc())? {
@@ -92,9 +93,9 @@ fn fill<'d, 'a>(
     frame: Frame<'d, 'a>,
     copy: BoxDoc<'a>,
 ) -> Result<Task<'d, 'a>, BuildError>
-    ensures whole { IfOk result (λ t. whole frames.new.items (task_tree t)
-        ≡ whole frames.old.items (filled frame.entry (box_tree copy.entry))) }
-    ensures work { IfOk result (λ t. work frames.new.items t < frame_work frame.entry + frames_work frames.old.items) }
+    ensures whole { IfOk result (λ t. whole_copy frames.new.items (task_tree t)
+        ≡ whole_copy frames.old.items (filled frame.entry (box_tree copy.entry))) }
+    ensures work { IfOk result (λ t. copying_work frames.new.items t < frame_work frame.entry + frames_work frames.old.items) }
     ensures err { IfErr result IsMemory }
 {
     match frame {

@@ -1,33 +1,31 @@
 -- The contract of a turn, for each way that it ends.
-use Rattle.std.proofs.Common.{◌≡◌, ℕ, ◌+◌, ◌≤◌, List, [], ◌∷◌, ap, sym, ◌∙◌, arith, refl, subst, Ok, Err}
+use Rattle.std.proofs.Common.{◌≡◌, ℕ, ◌+◌, ◌≤◌, List, [], ◌∷◌, sym, ◌∙◌, arith, refl, subst, Ok, Err}
 use Rattle.prettyless_sink.specs.Sink.{Accepts, AppendsBeginning, Refuses, known, rise}
 use Rattle.prettyless_sink.specs.declared.error.RenderError.TheVariants.{Sink, Memory}
 use Rattle.prettyless_sink.specs.declared.visits.Visits.{Visits}
 use Rattle.prettyless_model.specs.declared.options.RenderOptions.{RenderOptions}
 use Rattle.prettyless_model.specs.Tree.{Tree}
-use Rattle.prettyless_model.specs.Layout.{State}
 use Rattle.prettyless_model.specs.Counts.{each_probe}
-use Rattle.prettyless_step.specs.Stack.{Task, nodes}
-use Rattle.prettyless_step.specs.Steps.{owed}
+use Rattle.prettyless_step.specs.Stack.{Task}
 use Rattle.prettyless_step.specs.Probing.{RisesBy}
 use Rattle.prettyless_step.specs.Printing.{Shows}
 use Rattle.prettyless_step.specs.declared.printer.Printer.{Printer}
-use Rattle.prettyless_step.specs.declared.printer.Taken.TheVariants.{Failed, Chosen}
+use Rattle.prettyless_step.specs.declared.printer.StepResult.TheVariants.{Failed, Choice}
 use Rattle.prettyless_step.proofs.Shown.{IsStuck, Asks}
-use Rattle.prettyless_printer.specs.Points.{Grows, Standing, standing, state_at, Seen, Point, point_at, point}
+use Rattle.prettyless_printer.specs.Points.{Standing, standing, state_at, Seen, Point, point_at, point}
 use Rattle.prettyless_printer.specs.Progress.{Inside}
-use Rattle.prettyless_printer.specs.Visits.{Plain, CountsAtMost, suffixes}
+use Rattle.prettyless_printer.specs.Visits.{Plain, CountsAtMost}
 use Rattle.prettyless_printer.specs.AtLeast.{CountsAtLeast, tally_above, tally_choice}
 use Rattle.prettyless_printer.specs.Turns.{Advances, ForWholes, bytes_before, next_size}
-use Rattle.prettyless_printer.specs.declared.answer.Turn.TheVariants as turn
+use Rattle.prettyless_printer.specs.declared.answer.TurnResult.TheVariants as turn_result
 use Rattle.prettyless_printer.proofs.Steps.{visits_within}
 use Rattle.prettyless_printer.proofs.Hands.{InHand, Visit, from_start}
 use Rattle.prettyless_printer.proofs.Standings.{Wrote, asks_there, step_from, stuck_there}
 use Rattle.prettyless_printer.proofs.Progresses.{inside_beginning}
 use Rattle.prettyless_printer.proofs.Trying.{grows-grows}
-use Rattle.prettyless_printer.proofs.Turnings.{inside_at, went, lessens, failed, chosen, choice_lessens, sink_broke}
-use Rattle.prettyless_printer.proofs.Visits.{went_at_most, failed_at_most, chosen_at_most, at_most_at, at_most_then, at_most_all, rise_then}
-use Rattle.prettyless_printer.proofs.AtLeast.{OneLaid, went_at_least, chosen_at_least, at_least_at, at_least_then, stack_counts}
+use Rattle.prettyless_printer.proofs.Turnings.{went, lessens, failed, chosen, choice_lessens, sink_broke}
+use Rattle.prettyless_printer.proofs.Visits.{went_at_most, failed_at_most, chosen_at_most, at_most_then, at_most_all, rise_then}
+use Rattle.prettyless_printer.proofs.AtLeast.{OneLaid, went_at_least, chosen_at_least, at_least_then}
 
 -- what a turn counts: the first node is a visit, and no more nodes are than the next task has
 record Counted (a : Point) (x : Visits) : Type 0 where
@@ -41,9 +39,11 @@ counted {a} {t} {b} {x} h one = record {
 }
 
 -- its bytes were written
-pub advances_went : {N E : Type 0} (f : N → Tree) {a : Point} {t : Task} {b : Point} (q : Standing) (s : Seen) (x : Visits) (bytes : List ℕ) → InHand a t b → Visit a.printer.options t b x →
+pub advances_went : {N E : Type 0} (f : N → Tree) {a : Point} {t : Task} {b : Point} (q : Standing) (s : Seen) (x : Visits) (bytes : List ℕ)
+    → InHand a t b → Visit a.printer.options t b x →
     RisesBy (each_probe t.tree t.mode) b.visits.probes x.probes → Wrote (step_from a.printer.options t b.printer) bytes b.printer q →
-    s.lender ≡ b.sink.lender → Accepts b.sink.bytes s.bytes bytes b.sink.failures s.failures → Advances {N = N} {E = E} f a (point_at q s x) (Ok turn.Went)
+    s.lender ≡ b.sink.lender → Accepts b.sink.bytes s.bytes bytes b.sink.failures s.failures
+    → Advances {N = N} {E = E} f a (point_at q s x) (Ok turn_result.Complete)
 advances_went {N} {E} f {a} {t} {b} q s x bytes h one probes k lender accepts =
     let o = a.printer.options in
     let ts : List Task = b.printer.tasks in
@@ -53,7 +53,7 @@ advances_went {N} {E} f {a} {t} {b} q s x bytes h one probes k lender accepts =
     let out = known b.sink.bytes in
     let laid : OneLaid t b.visits x = record { printer = one.least; probes = probes } in
     let count = counted h one in
-    from_start f (Ok turn.Went) h
+    from_start f (Ok turn_result.Complete) h
     (record {
       options = k.options ∙ h.options;
       grows = grows-grows a.printer b.printer q h.grows k.grows;
@@ -64,7 +64,9 @@ advances_went {N} {E} f {a} {t} {b} q s x bytes h one probes k lender accepts =
             y.0,
             (
               λ whole limit below old l m.
-                  subst (λ (z : List ℕ). Inside o whole limit below old us u z) (sym y.1.0) (went o whole limit below old t ts us st u out bytes (omega (arith, l, h.long)) (h.inside out whole limit below old l m) k.leads),
+                  subst (λ (z : List ℕ). Inside o whole limit below old us u z) (sym y.1.0)
+                  (went o whole limit below old t ts us st u out bytes (omega (arith, l, h.long))
+                  (h.inside out whole limit below old l m) k.leads),
               y.1.1,
             ),
           );
@@ -76,25 +78,33 @@ advances_went {N} {E} f {a} {t} {b} q s x bytes h one probes k lender accepts =
           let z = went_at_most o t ts us st u bytes b.visits x one.more y.0 k.leads in
           (record { none = z.0.0; pending = z.0.1 }, at_most_then y.1 z.1);
       at_least = λ n l. at_least_then (h.at_least n l)
-          (subst (λ (z : RenderOptions). CountsAtLeast (tally_above o n (t ∷ ts) st) (tally_above z n us u) b.visits x) (sym (k.options ∙ h.options))
+          (subst (λ (z : RenderOptions). CountsAtLeast (tally_above o n (t ∷ ts) st) (tally_above z n us u) b.visits x)
+          (sym (k.options ∙ h.options))
           (went_at_least o n t ts us st u bytes b.visits x laid (omega (arith, l, h.long)) k.leads));
     })
 
 failed_here : {N E : Type 0} (f : N → Tree) {a : Point} {t : Task} {b : Point} (x : Visits) → InHand a t b → Visit a.printer.options t b x →
-    IsStuck (step_from a.printer.options t b.printer) → Advances {N = N} {E = E} f a (point_at b.printer b.sink x) (Ok turn.Failed)
+    IsStuck (step_from a.printer.options t b.printer) → Advances {N = N} {E = E} f a (point_at b.printer b.sink x) (Ok turn_result.Failed)
 failed_here {N} {E} f {a} {t} {b} x h one fails =
     let o = a.printer.options in
     let ts : List Task = b.printer.tasks in
     let st = state_at b.printer in
     let out = known b.sink.bytes in
     let count = counted h one in
-    from_start f (Ok turn.Failed) h
+    from_start f (Ok turn_result.Failed) h
     (record {
       options = h.options;
       grows = h.grows;
       lessens = tt;
       same_lender = refl;
-      bytes = λ is_known. (is_known, ((λ whole limit below old l m. failed o whole limit below old t ts st out (omega (arith, l, h.long)) (h.inside out whole limit below old l m) fails), refl));
+      bytes = λ is_known. (
+        is_known,
+        (
+          (λ whole limit below old l m. failed o whole limit below old t ts st out (omega (arith, l, h.long))
+              (h.inside out whole limit below old l m) fails),
+          refl,
+        ),
+      );
       least = count.least;
       most = count.most;
       rise = rise_then h.rise one.rise;
@@ -103,14 +113,18 @@ failed_here {N} {E} f {a} {t} {b} x h one fails =
     })
 
 -- it fails
-pub advances_failed : {N E : Type 0} (f : N → Tree) {a : Point} {t : Task} {s : Seen} {v : Visits} (p q : Printer N) (x : Visits) → InHand a t (point f p s v) → Visit a.printer.options t (point f p s v) x →
-    Shows f t.mode Failed (step_from a.printer.options t (standing f p)) p q → Advances {N = N} {E = E} f a (point f q s x) (Ok turn.Failed)
+pub advances_failed : {N E : Type 0} (f : N → Tree) {a : Point} {t : Task} {s : Seen} {v : Visits} (p q : Printer N) (x : Visits)
+    → InHand a t (point f p s v) → Visit a.printer.options t (point f p s v) x →
+    Shows f t.mode Failed (step_from a.printer.options t (standing f p)) p q →
+    Advances {N = N} {E = E} f a (point f q s x) (Ok turn_result.Failed)
 advances_failed {N} {E} f {a} {t} {s} {v} p q x h one shows =
     let k = stuck_there f t.mode (step_from a.printer.options t (standing f p)) p q shows in
-    subst (λ (z : Standing). Advances {N = N} {E = E} f a (point_at z s x) (Ok turn.Failed)) (sym k.1) (failed_here f x h one k.0)
+    subst (λ (z : Standing). Advances {N = N} {E = E} f a (point_at z s x) (Ok turn_result.Failed)) (sym k.1) (failed_here f x h one k.0)
 
-chosen_here : {N E : Type 0} (f : N → Tree) {a : Point} {t : Task} {b : Point} (x : Visits) (i : ℕ) (l r : N) → InHand a t b → Visit a.printer.options t b x →
-    RisesBy (each_probe t.tree t.mode) b.visits.probes x.probes → Asks (step_from a.printer.options t b.printer) i (f l) (f r) → Advances {N = N} {E = E} f a (point_at b.printer b.sink x) (Ok (turn.Chosen i l r))
+chosen_here : {N E : Type 0} (f : N → Tree) {a : Point} {t : Task} {b : Point} (x : Visits) (i : ℕ) (l r : N) → InHand a t b
+    → Visit a.printer.options t b x →
+    RisesBy (each_probe t.tree t.mode) b.visits.probes x.probes → Asks (step_from a.printer.options t b.printer) i (f l) (f r)
+    → Advances {N = N} {E = E} f a (point_at b.printer b.sink x) (Ok (turn_result.Choice i l r))
 chosen_here {N} {E} f {a} {t} {b} x i l r h one probes wants =
     let o = a.printer.options in
     let ts : List Task = b.printer.tasks in
@@ -118,13 +132,20 @@ chosen_here {N} {E} f {a} {t} {b} x i l r h one probes wants =
     let out = known b.sink.bytes in
     let laid : OneLaid t b.visits x = record { printer = one.least; probes = probes } in
     let count = counted h one in
-    from_start f (Ok (turn.Chosen i l r)) h
+    from_start f (Ok (turn_result.Choice i l r)) h
     (record {
       options = h.options;
       grows = h.grows;
       lessens = (omega (arith, h.less, choice_lessens o t ts st i (f l) (f r) wants), h.within);
       same_lender = refl;
-      bytes = λ is_known. (is_known, ((λ whole limit below old n m. chosen o whole limit below old t ts st out i (f l) (f r) (omega (arith, n, h.long)) (h.inside out whole limit below old n m) wants), refl));
+      bytes = λ is_known. (
+        is_known,
+        (
+          (λ whole limit below old n m. chosen o whole limit below old t ts st out i (f l) (f r) (omega (arith, n, h.long))
+              (h.inside out whole limit below old n m) wants),
+          refl,
+        ),
+      );
       least = count.least;
       most = count.most;
       rise = rise_then h.rise one.rise;
@@ -133,29 +154,38 @@ chosen_here {N} {E} f {a} {t} {b} x i l r h one probes wants =
           let z = chosen_at_most o t ts st i (f l) (f r) b.visits x one.more y.0 wants in
           (record { none = omega (arith, y.0.0); pending = y.0.1 }, z.0, z.1, at_most_then y.1 z.2);
       at_least = λ n m. at_least_then (h.at_least n m)
-          (subst (λ (z : RenderOptions). CountsAtLeast (tally_above o n (t ∷ ts) st) (tally_choice z n i (f l) (f r) ts st) b.visits x) (sym h.options)
+          (subst (λ (z : RenderOptions). CountsAtLeast (tally_above o n (t ∷ ts) st) (tally_choice z n i (f l) (f r) ts st) b.visits
+          x) (sym h.options)
           (chosen_at_least o n t ts st i (f l) (f r) b.visits x laid (omega (arith, m, h.long)) wants));
     })
 
 -- two branches are to be chosen from
-pub advances_chosen : {N E : Type 0} (f : N → Tree) {a : Point} {t : Task} {s : Seen} {v : Visits} (p q : Printer N) (x : Visits) (i : ℕ) (l r : N) → InHand a t (point f p s v) → Visit a.printer.options t (point f p s v) x →
-    RisesBy (each_probe t.tree t.mode) v.probes x.probes → Shows f t.mode (Chosen i l r) (step_from a.printer.options t (standing f p)) p q → Advances {N = N} {E = E} f a (point f q s x) (Ok (turn.Chosen i l r))
+pub advances_chosen : {N E : Type 0} (f : N → Tree) {a : Point} {t : Task} {s : Seen} {v : Visits} (p q : Printer N) (x : Visits) (i : ℕ)
+    (l r : N) → InHand a t (point f p s v) → Visit a.printer.options t (point f p s v) x →
+    RisesBy (each_probe t.tree t.mode) v.probes x.probes → Shows f t.mode (Choice i l r) (step_from a.printer.options t (standing f p)) p q
+    → Advances {N = N} {E = E} f a (point f q s x) (Ok (turn_result.Choice i l r))
 advances_chosen {N} {E} f {a} {t} {s} {v} p q x i l r h one probes shows =
     let k = asks_there f t.mode i l r (step_from a.printer.options t (standing f p)) p q shows in
-    subst (λ (z : Standing). Advances {N = N} {E = E} f a (point_at z s x) (Ok (turn.Chosen i l r))) (sym k.1) (chosen_here f x i l r h one probes k.0)
+    subst (λ (z : Standing). Advances {N = N} {E = E} f a (point_at z s x) (Ok (turn_result.Choice i l r))) (sym k.1)
+    (chosen_here f x i l r h one probes k.0)
 
 -- what broke off has counted no more than the tasks allow
-broke_at_most : {a : Point} {t : Task} {b : Point} (x : Visits) → InHand a t b → Visit a.printer.options t b x → Plain a.printer → CountsAtMost a.printer.tasks [] a.visits x
+broke_at_most : {a : Point} {t : Task} {b : Point} (x : Visits) → InHand a t b → Visit a.printer.options t b x → Plain a.printer
+    → CountsAtMost a.printer.tasks [] a.visits x
 broke_at_most {a} {t} {b} x h one plain =
-    at_most_all (at_most_then (h.at_most plain).1 (failed_at_most a.printer.options t b.printer.tasks (state_at b.printer) b.visits x one.more))
+    at_most_all (at_most_then (h.at_most plain).1
+    (failed_at_most a.printer.options t b.printer.tasks (state_at b.printer) b.visits x one.more))
 
 -- what was written before a task in hand is a beginning of each whole
-hand_beginning : {a : Point} {t : Task} {b : Point} {out : List ℕ} → InHand a t b → ForWholes a.printer out (λ whole limit below old. AppendsBeginning old out (bytes_before whole))
+hand_beginning : {a : Point} {t : Task} {b : Point} {out : List ℕ} → InHand a t b
+    → ForWholes a.printer out (λ whole limit below old. AppendsBeginning old out (bytes_before whole))
 hand_beginning {a} {t} {b} {out} h = λ whole limit below old l m.
-    inside_beginning a.printer.options whole limit below old (t ∷ b.printer.tasks) (state_at b.printer) out (h.inside out whole limit below old l m)
+    inside_beginning a.printer.options whole limit below old (t ∷ b.printer.tasks) (state_at b.printer) out
+    (h.inside out whole limit below old l m)
 
 -- memory was refused
-pub advances_refused : {N E : Type 0} (f : N → Tree) {a : Point} {t : Task} {b : Point} (q : Standing) (x : Visits) (e : _) → InHand a t b → Visit a.printer.options t b x →
+pub advances_refused : {N E : Type 0} (f : N → Tree) {a : Point} {t : Task} {b : Point} (q : Standing) (x : Visits) (e : _) → InHand a t b
+    → Visit a.printer.options t b x →
     Advances {N = N} {E = E} f a (point_at q b.sink x) (Err (Memory e))
 advances_refused {N} {E} f {a} {t} {b} q x e h one =
     let count = counted h one in
@@ -174,9 +204,11 @@ advances_refused {N} {E} f {a} {t} {b} q x e h one =
     })
 
 -- the sink failed in its bytes
-pub advances_sink_failed : {N E : Type 0} (f : N → Tree) {a : Point} {t : Task} {b : Point} (q : Standing) (s : Seen) (x : Visits) (bytes : List ℕ) (e : E) → InHand a t b → Visit a.printer.options t b x →
+pub advances_sink_failed : {N E : Type 0} (f : N → Tree) {a : Point} {t : Task} {b : Point} (q : Standing) (s : Seen) (x : Visits)
+    (bytes : List ℕ) (e : E) → InHand a t b → Visit a.printer.options t b x →
     Wrote (step_from a.printer.options t b.printer) bytes b.printer q →
-    s.lender ≡ b.sink.lender → Refuses b.sink.bytes s.bytes bytes b.sink.failures s.failures → Advances {N = N} {E = E} f a (point_at q s x) (Err (Sink e))
+    s.lender ≡ b.sink.lender → Refuses b.sink.bytes s.bytes bytes b.sink.failures s.failures
+    → Advances {N = N} {E = E} f a (point_at q s x) (Err (Sink e))
 advances_sink_failed {N} {E} f {a} {t} {b} q s x bytes e h one k lender refused =
     let o = a.printer.options in
     let ts : List Task = b.printer.tasks in
@@ -194,7 +226,8 @@ advances_sink_failed {N} {E} f {a} {t} {b} q s x bytes e h one k lender refused 
             y.0,
             (
               λ whole limit below old l m.
-                  sink_broke o whole limit below old t ts q.tasks st (state_at q) out bytes (known s.bytes) (omega (arith, l, h.long)) (h.inside out whole limit below old l m) k.leads y.1.0,
+                  sink_broke o whole limit below old t ts q.tasks st (state_at q) out bytes (known s.bytes) (omega (arith, l, h.long))
+                  (h.inside out whole limit below old l m) k.leads y.1.0,
               y.1.1,
             ),
           );
@@ -202,48 +235,5 @@ advances_sink_failed {N} {E} f {a} {t} {b} q s x bytes e h one k lender refused 
       most = count.most;
       rise = rise_then h.rise one.rise;
       at_most = λ plain. broke_at_most x h one plain;
-      at_least = tt;
-    })
-
--- it stopped before the node in hand, which is the next task again
-pub advances_stopped : {N E : Type 0} (f : N → Tree) {a : Point} {t : Task} {b : Point} (q : Standing) → InHand a t b → q.tasks ≡ t ∷ b.printer.tasks → state_at q ≡ state_at b.printer → q.options ≡ b.printer.options →
-    Grows b.printer q → Advances {N = N} {E = E} f a (point_at q b.sink b.visits) (Ok turn.Shift)
-advances_stopped {N} {E} f {a} {t} {b} q h e s o g =
-    let ts : List Task = t ∷ b.printer.tasks in
-    let st = state_at b.printer in
-    let out = known b.sink.bytes in
-    from_start f (Ok turn.Shift) h
-    (record {
-      options = o ∙ h.options;
-      grows = grows-grows a.printer b.printer q h.grows g;
-      lessens = (omega (arith, h.less, ap nodes e, ap (λ (u : State). owed u.pending) s), ap (λ (u : State). u.within) s ∙ h.within);
-      same_lender = refl;
-      bytes = λ is_known. (
-        is_known,
-        ((λ whole limit below old l y. inside_at a.printer.options whole limit below old ts q.tasks st (state_at q) out out e s refl (h.inside out whole limit below old l y)), refl),
-      );
-      least = h.rise.printer;
-      most = omega (arith, h.most);
-      rise = h.rise;
-      at_most = λ plain.
-          let y = h.at_most plain in
-          (record { none = ap suffixes e ∙ y.0.0; pending = ap (λ (u : State). u.pending) s ∙ y.0.1 }, at_most_at q.tasks e y.1);
-      at_least = λ n l. at_least_at (λ k. omega arith) (λ k. omega (arith, stack_counts q n a.printer.options ts st k (o ∙ h.options) e s)) (h.at_least n l);
-    })
-
--- it was to stop there, and was refused memory
-pub advances_unstopped : {N E : Type 0} (f : N → Tree) {a : Point} {t : Task} {b : Point} (q : Standing) (e : _) → InHand a t b → Advances {N = N} {E = E} f a (point_at q b.sink b.visits) (Err (Memory e))
-advances_unstopped {N} {E} f {a} {t} {b} q e h =
-    from_start f (Err (Memory e)) h
-    (record {
-      options = tt;
-      grows = tt;
-      lessens = tt;
-      same_lender = refl;
-      bytes = λ is_known. (is_known, (hand_beginning h, refl));
-      least = h.rise.printer;
-      most = omega (arith, h.most);
-      rise = h.rise;
-      at_most = λ plain. at_most_all (h.at_most plain).1;
       at_least = tt;
     })

@@ -1,17 +1,22 @@
 -- Counts from below: of a step, of a choice, and of turns in a row.
-use Rattle.std.proofs.Common.{◌≡◌, ℕ, ◌+◌, ◌≤◌, nat_le, List, [], ◌∷◌, ◌++◌, length, arith, refl, ap, sym, ◌∙◌, append_assoc, length-append, subst, Bool, true, false, ◌&&◌, Result, Ok, Err, if◌then◌else◌}
+use Rattle.std.proofs.Common.{◌≡◌, ℕ, ◌+◌, ◌≤◌, nat_le, List, [], ◌∷◌, ◌++◌, length, arith, refl, ap, sym, ◌∙◌, append_assoc, length-append}
+use Rattle.std.proofs.Common.{subst, Bool, true, false, ◌&&◌, Result, Ok, Err, if◌then◌else◌}
 use Rattle.std.specs.Prelude.{OnOk}
 use Rattle.std.proofs.lemmas.Bool.{le-leb, leb-true}
 use Rattle.prettyless_sink.specs.Sink.{rise}
 use Rattle.prettyless_model.specs.Spaces.{spaces}
 use Rattle.prettyless_model.specs.declared.options.RenderOptions.{RenderOptions}
 use Rattle.prettyless_sink.specs.declared.visits.Visits.{Visits}
-use Rattle.prettyless_model.specs.Tree.{Tree, Nil, Fail, Text, TextWithLen, MultilineText, WeakSpace, HardLine, WeakLine, Append, LineSuffix, Nest, DedentToRoot, Align, ExpandParent, Flatten, BreakOrFlat, Group, Union, PartialUnion, OnColumn, OnNesting}
+use Rattle.prettyless_model.specs.Tree.{Tree, Nil, Fail, Text, TextWithLen, MultilineText, WeakSpace, HardLine, WeakLine, Append}
+use Rattle.prettyless_model.specs.Tree.{LineSuffix, Nest, DedentToRoot, Align, ExpandParent, Flatten, BreakOrFlat, Group, Union}
+use Rattle.prettyless_model.specs.Tree.{PartialUnion, OnColumn, OnNesting}
 use Rattle.prettyless_model.specs.Choice.{column_holds, nesting_holds}
 use Rattle.prettyless_model.specs.Metrics.{metrics}
 use Rattle.prettyless_model.specs.Column.{gap, prospective, padding_fits, nested}
 use Rattle.prettyless_model.specs.Look.{by_mode}
-use Rattle.prettyless_model.specs.Layout.{State, Outcome, Done, Failed, Entry, after_bytes, and_then, accept, lay, lay_each, lay_text, lay_payload, payload_fits, behind_payload, probe, some_pending, tried, initial, flushed, entry, entries, plain_break, break_with}
+use Rattle.prettyless_model.specs.Layout.{State, Outcome, Done, Failed, Entry, after_bytes, and_then, accept, lay, lay_each, lay_text}
+use Rattle.prettyless_model.specs.Layout.{lay_payload, payload_fits, after_payload, probe, some_pending, tried, initial, flushed, entry}
+use Rattle.prettyless_model.specs.Layout.{entries, plain_break, break_with}
 use Rattle.prettyless_model.specs.Levels.{settle}
 use Rattle.prettyless_model.specs.Counts.{Weight, each_node, each_probe, counted_then, counted_accept, tally}
 use Rattle.prettyless_model.proofs.Levels.{settle_fixed}
@@ -23,17 +28,20 @@ use Rattle.prettyless_step.proofs.Shown.{step_at, Leads, Asks}
 use Rattle.prettyless_printer.specs.Points.{Standing, state_at}
 use Rattle.prettyless_printer.specs.Trials.{TrialDid}
 use Rattle.prettyless_printer.specs.Visits.{Rise}
-use Rattle.prettyless_printer.specs.AtLeast.{tally_above, tally_choice, nothing_left, CountsAtLeast, stack_tally, choice_tally, trial_tally, VisitedAtLeast}
+use Rattle.prettyless_printer.specs.AtLeast.{tally_above, tally_choice, nothing_left, CountsAtLeast, stack_tally, choice_tally, trial_tally}
+use Rattle.prettyless_printer.specs.AtLeast.{VisitedAtLeast}
 use Rattle.prettyless_step.specs.Probing.{RisesBy}
 use Rattle.prettyless_printer.proofs.Runs.{follow-tasks, payload_branch, no_padding}
 
 -- what a task counts, and then those after it
 abbrev tally_with : RenderOptions → ℕ → Task → List Task → State → Weight → ℕ
 tally_with o n t ts st w =
-    tally o t.tree t.indent t.mode (follow ts) st w + counted_then (lay o (settle o) t.tree t.indent t.mode (follow ts) st) (λ u. tally_above o n ts u w)
+    tally o t.tree t.indent t.mode (follow ts) st w + counted_then (lay o (settle o) t.tree t.indent t.mode (follow ts) st)
+    (λ u. tally_above o n ts u w)
 
 -- more than n tasks: the first one counts
-above_is : (o : RenderOptions) (n : ℕ) (t : Task) (ts : List Task) (st : State) (w : Weight) → n ≤ length ts → tally_above o n (t ∷ ts) st w ≡ tally_with o n t ts st w
+above_is : (o : RenderOptions) (n : ℕ) (t : Task) (ts : List Task) (st : State) (w : Weight) → n ≤ length ts
+    → tally_above o n (t ∷ ts) st w ≡ tally_with o n t ts st w
 unfolding tally_above
 above_is o n t ts st w l = ap (λ (v : Bool). if v then tally_with o n t ts st w else 0) (le-leb n (length ts) l)
 
@@ -49,7 +57,8 @@ counted_after : (b : List ℕ) (out : Outcome) (k : State → ℕ) → counted_t
 counted_after b (Done c st) k = refl
 counted_after b (Failed c) k = refl
 
-counted_then-then : (out : Outcome) (next : State → Outcome) (k : State → ℕ) → counted_then (and_then out next) k ≡ counted_then out (λ u. counted_then (next u) k)
+counted_then-then : (out : Outcome) (next : State → Outcome) (k : State → ℕ) → counted_then (and_then out next) k ≡ counted_then out
+    (λ u. counted_then (next u) k)
 counted_then-then (Done b st) next k = counted_after b (next st) k
 counted_then-then (Failed b) next k = refl
 
@@ -58,7 +67,8 @@ counted_less (Done b st) j k h = h st
 counted_less (Failed b) j k h = omega arith
 
 -- two counts after an outcome, added up
-appended : (out : Outcome) (j k both : State → ℕ) → ((u : State) → both u ≡ j u + k u) → counted_then out both ≡ counted_then out j + counted_then out k
+appended : (out : Outcome) (j k both : State → ℕ) → ((u : State) → both u ≡ j u + k u) → counted_then out both ≡ counted_then out
+    j + counted_then out k
 appended (Done b st) j k both h = h st
 appended (Failed b) j k both h = refl
 
@@ -68,7 +78,8 @@ StepCounts o n ts st w was self (Move b pushed u) = was ≤ self + tally_above o
 StepCounts o n ts st w was self Stuck = Unit {0}
 StepCounts o n ts st w was self (Choose i l r) = was ≤ self + tally_choice o n i l r ts st w
 
-at_once_counts : (o : RenderOptions) (n : ℕ) (ts : List Task) (st : State) (w : Weight) (self : ℕ) (out : Outcome) → StepCounts o n ts st w (self + counted_then out (λ u. tally_above o n ts u w)) self (at_once out)
+at_once_counts : (o : RenderOptions) (n : ℕ) (ts : List Task) (st : State) (w : Weight) (self : ℕ) (out : Outcome)
+    → StepCounts o n ts st w (self + counted_then out (λ u. tally_above o n ts u w)) self (at_once out)
 at_once_counts o n ts st w self (Done b u) = omega arith
 at_once_counts o n ts st w self (Failed b) = tt
 
@@ -81,23 +92,32 @@ each_counts o n (d ∷ ds) i m us st w l =
     let out : Outcome = lay o (settle o) d i m (entries i ds ++ follow us) st in
     let next : State → ℕ = λ u. tally_above o n us u w in
     let rest : State → ℕ = λ u. tally_above o n (tasks i m ds ++ us) u w in
-    let a : counted_then (and_then out (λ u. lay_each o (settle o) ds i m (follow us) u)) next ≡ counted_then out (λ u. counted_then (lay_each o (settle o) ds i m (follow us) u) next) = counted_then-then out (λ u. lay_each o (settle o) ds i m (follow us) u) next in
-    let b : counted_then out (λ u. counted_then (lay_each o (settle o) ds i m (follow us) u) next) ≤ counted_then out rest = counted_less out (λ u. counted_then (lay_each o (settle o) ds i m (follow us) u) next) rest (λ u. each_counts o n ds i m us u w l) in
+    let a : counted_then (and_then out (λ u. lay_each o (settle o) ds i m (follow us) u)) next ≡ counted_then out
+    (λ u. counted_then (lay_each o (settle o) ds i m (follow us) u) next) =
+    counted_then-then out (λ u. lay_each o (settle o) ds i m (follow us) u) next in
+    let b : counted_then out (λ u. counted_then (lay_each o (settle o) ds i m (follow us) u) next) ≤ counted_then out rest =
+    counted_less out (λ u. counted_then (lay_each o (settle o) ds i m (follow us) u) next) rest
+    (λ u. each_counts o n ds i m us u w l) in
     let c = above_is o n (make_task i m d) (tasks i m ds ++ us) st w (omega (arith, length-append (tasks i m ds) us)) in
-    let e : counted_then (lay o (settle o) d i m (follow (tasks i m ds ++ us)) st) rest ≡ counted_then out rest = ap (λ (r : List Entry). counted_then (lay o (settle o) d i m r st) rest) (follow-tasks i m ds us) in
+    let e : counted_then (lay o (settle o) d i m (follow (tasks i m ds ++ us)) st) rest ≡ counted_then out rest =
+    ap (λ (r : List Entry). counted_then (lay o (settle o) d i m r st) rest) (follow-tasks i m ds us) in
     omega (arith, a, b, c, e)
 
 -- a break: the line ends, or what is pending comes first
-break_counts : (o : RenderOptions) (n : ℕ) (ps : List Tree) (d : Tree) (i : ℕ) (m : Mode) (ts : List Task) (st : State) (w : Weight) (self : ℕ) → n ≤ length ts →
+break_counts : (o : RenderOptions) (n : ℕ) (ps : List Tree) (d : Tree) (i : ℕ) (m : Mode) (ts : List Task) (st : State) (w : Weight)
+    (self : ℕ) → n ≤ length ts →
     (lay o (settle o) d i m (follow ts) ≡ settle o d i m (follow ts)) →
-    StepCounts o n ts st w (self + counted_then (break_with o (settle o) ps d i m (follow ts) st) (λ u. tally_above o n ts u w)) self (break_step o ps d i m (follow ts) st)
+    StepCounts o n ts st w (self + counted_then (break_with o (settle o) ps d i m (follow ts) st) (λ u. tally_above o n ts u w)) self
+    (break_step o ps d i m (follow ts) st)
 break_counts o n [] d i m ts st w self l e = at_once_counts o n ts st w self (plain_break o d i (follow ts) st)
 break_counts o n (p ∷ ps) d i m ts st w self l e =
     let rest : List Entry = follow ts in
     let again : Task = make_task i m d in
     let next : State → ℕ = λ u. tally_above o n ts u w in
     let out : Outcome = lay_each o (settle o) (p ∷ ps) i m (entry i d ∷ rest) (flushed o st) in
-    let a : counted_then (after_bytes (spaces (gap st.column)) (and_then out (settle o d i m rest))) next ≡ counted_then out (λ u. counted_then (settle o d i m rest u) next) = counted_after (spaces (gap st.column)) (and_then out (settle o d i m rest)) next ∙ counted_then-then out (settle o d i m rest) next in
+    let a : counted_then (after_bytes (spaces (gap st.column)) (and_then out (settle o d i m rest))) next ≡ counted_then out
+    (λ u. counted_then (settle o d i m rest u) next) = counted_after (spaces (gap st.column)) (and_then out (settle o d i m rest)) next
+    ∙ counted_then-then out (settle o d i m rest) next in
     let b : counted_then out (λ u. counted_then (settle o d i m rest u) next) ≤ counted_then out (λ u. tally_above o n (again ∷ ts) u w) =
     counted_less out (λ u. counted_then (settle o d i m rest u) next) (λ u. tally_above o n (again ∷ ts) u w)
     (λ u. omega (arith, above_is o n again ts u w l, ap (λ (g : State → Outcome). counted_then (g u) next) e)) in
@@ -106,9 +126,11 @@ break_counts o n (p ∷ ps) d i m ts st w self l e =
     omega (arith, a, b, c, x)
 
 -- one of two nodes
-either_counts : (o : RenderOptions) (n : ℕ) (l r : Tree) (i : ℕ) (m : Mode) (ts : List Task) (st : State) (w : Weight) (self : ℕ) (v : Bool) → n ≤ length ts →
+either_counts : (o : RenderOptions) (n : ℕ) (l r : Tree) (i : ℕ) (m : Mode) (ts : List Task) (st : State) (w : Weight) (self : ℕ) (v : Bool)
+    → n ≤ length ts →
     self + (if v then tally o l i m (follow ts) st w else tally o r i m (follow ts) st w)
-    + counted_then (if v then lay o (settle o) l i m (follow ts) st else lay o (settle o) r i m (follow ts) st) (λ u. tally_above o n ts u w)
+    + counted_then (if v then lay o (settle o) l i m (follow ts) st else lay o (settle o) r i m (follow ts) st)
+    (λ u. tally_above o n ts u w)
     ≤ self + tally_above o n (make_task i m (if v then l else r) ∷ ts) st w
 either_counts o n l r i m ts st w self true h = omega (arith, above_is o n (make_task i m l) ts st w h)
 either_counts o n l r i m ts st w self false h = omega (arith, above_is o n (make_task i m r) ts st w h)
@@ -118,10 +140,11 @@ payload_counts : (o : RenderOptions) (b : List ℕ) (st : State) (x y : ℕ) (v 
     counted_accept o (lay_payload o (metrics b) b (tried st)) x y ≡ (if v then x else y)
 payload_counts o b st x y true e =
     ap (λ (z : Bool). if z then x else y)
-    (ap (λ (z : Bool). z && padding_fits o.width (some_pending st.pending) (behind_payload (metrics b))) (sym e) ∙ no_padding o.width (some_pending st.pending) (metrics b).last_nonempty (metrics b))
+    (ap (λ (z : Bool). z && padding_fits o.width (some_pending st.pending) (after_payload (metrics b))) (sym e)
+    ∙ no_padding o.width (some_pending st.pending) (metrics b).last_nonempty (metrics b))
 payload_counts o b st x y false e =
     ap (λ (z : Bool). if z then x else y)
-    (ap (λ (z : Bool). z && padding_fits o.width (some_pending st.pending) (behind_payload (metrics b))) (sym e))
+    (ap (λ (z : Bool). z && padding_fits o.width (some_pending st.pending) (after_payload (metrics b))) (sym e))
 
 union_counts : (o : RenderOptions) (n : ℕ) (l r : Tree) (i : ℕ) (ts : List Task) (st : State) (w : Weight) (self : ℕ) → n ≤ length ts →
     StepCounts o n ts st w (self + tally_choice o n i l r ts st w) self (union_step (decided_by_metrics o l st) l r i st)
@@ -130,7 +153,8 @@ union_counts o n (MultilineText s) r i ts st w self h =
     let v : Bool = payload_fits o (metrics s) st.column in
     let next : State → ℕ = λ u. tally_above o n ts u w in
     let a = payload_counts o s st (w (MultilineText s) Break) (tally o r i Break (follow ts) st w) v refl in
-    let b = ap (λ (z : Outcome). counted_then z next) (payload_branch o (metrics s) s st (lay o (settle o) r i Break (follow ts) st) v refl) in
+    let b = ap (λ (z : Outcome). counted_then z next)
+    (payload_branch o (metrics s) s st (lay o (settle o) r i Break (follow ts) st) v refl) in
     omega (arith, a, b, either_counts o n (MultilineText s) r i Break ts st w self v h)
 union_counts o n _ r i ts st w self h = omega arith
 
@@ -146,17 +170,20 @@ step_counts o n (MultilineText s) i Break ts st w h = omega arith
 step_counts o n (MultilineText s) i Flat ts st w h = tt
 step_counts o n WeakSpace i m ts st w h = omega arith
 step_counts o n HardLine i Break ts st w h =
-    subst (λ (z : Outcome). StepCounts o n ts st w (w HardLine Break + counted_then z (λ u. tally_above o n ts u w)) (w HardLine Break) (break_step o st.pending HardLine i Break (follow ts) st))
+    subst (λ (z : Outcome). StepCounts o n ts st w (w HardLine Break + counted_then z (λ u. tally_above o n ts u w)) (w HardLine Break)
+    (break_step o st.pending HardLine i Break (follow ts) st))
     (sym (settle_fixed o HardLine i Break (follow ts) st)) (break_counts o n st.pending HardLine i Break ts st w (w HardLine Break) h refl)
 step_counts o n HardLine i Flat ts st w h = tt
 step_counts o n WeakLine i m ts st w h =
-    subst (λ (z : Outcome). StepCounts o n ts st w (w WeakLine m + counted_then z (λ u. tally_above o n ts u w)) (w WeakLine m) (break_step o st.pending WeakLine i m (follow ts) st))
+    subst (λ (z : Outcome). StepCounts o n ts st w (w WeakLine m + counted_then z (λ u. tally_above o n ts u w)) (w WeakLine m)
+    (break_step o st.pending WeakLine i m (follow ts) st))
     (sym (settle_fixed o WeakLine i m (follow ts) st)) (break_counts o n st.pending WeakLine i m ts st w (w WeakLine m) h refl)
 step_counts o n (Append l r) i m ts st w h =
     let out : Outcome = lay o (settle o) l i m (entry i r ∷ follow ts) st in
     let next : State → ℕ = λ u. tally_above o n ts u w in
     let a = counted_then-then out (λ u. lay o (settle o) r i m (follow ts) u) next in
-    let b = appended out (λ u. tally o r i m (follow ts) u w) (λ u. counted_then (lay o (settle o) r i m (follow ts) u) next) (λ u. tally_above o n (make_task i m r ∷ ts) u w) (λ u. above_is o n (make_task i m r) ts u w h) in
+    let b = appended out (λ u. tally o r i m (follow ts) u w) (λ u. counted_then (lay o (settle o) r i m (follow ts) u) next)
+    (λ u. tally_above o n (make_task i m r ∷ ts) u w) (λ u. above_is o n (make_task i m r) ts u w h) in
     omega (arith, a, b, above_is o n (make_task i m l) (make_task i m r ∷ ts) st w (omega arith))
 step_counts o n (LineSuffix d) i m ts st w h = omega arith
 step_counts o n (Nest k d) i m ts st w h = omega (arith, above_is o n (make_task (nested i k) m d) ts st w h)
@@ -169,7 +196,8 @@ step_counts o n (BreakOrFlat b f) i Flat ts st w h = omega (arith, above_is o n 
 step_counts o n (Group d) i m ts st w h =
     omega (arith, above_is o n (make_task i (by_mode m (if probe o d i Flat (follow ts) st then Flat else Break) Flat) d) ts st w h)
 step_counts o n (Union l r) i Break ts st w h =
-    subst (λ (z : ℕ). StepCounts o n ts st w z (w (Union l r) Break) (union_step (decided_by_metrics o l st) l r i st)) (omega arith) (union_counts o n l r i ts st w (w (Union l r) Break) h)
+    subst (λ (z : ℕ). StepCounts o n ts st w z (w (Union l r) Break) (union_step (decided_by_metrics o l st) l r i st)) (omega arith)
+    (union_counts o n l r i ts st w (w (Union l r) Break) h)
 step_counts o n (Union l r) i Flat ts st w h = omega (arith, above_is o n (make_task i Flat l) ts st w h)
 step_counts o n (PartialUnion l r) i Break ts st w h =
     omega (arith, either_counts o n l r i Break ts st w (w (PartialUnion l r) Break) (probe o l i Break (follow ts) st) h)
@@ -183,15 +211,19 @@ pub at_least_same : (a : Weight → ℕ) (v : Visits) → CountsAtLeast a a v v
 at_least_same a v = record { printer = omega arith; probes = omega arith }
 
 pub at_least_then : {a b c : Weight → ℕ} {v w x : Visits} → CountsAtLeast a b v w → CountsAtLeast b c w x → CountsAtLeast a c v x
-at_least_then {a} {b} {c} {v} {w} {x} h k = record { printer = omega (arith, h.printer, k.printer); probes = omega (arith, h.probes, k.probes) }
+at_least_then {a} {b} {c} {v} {w} {x} h k =
+    record { printer = omega (arith, h.printer, k.printer); probes = omega (arith, h.probes, k.probes) }
 
 -- less was left before, and more is left afterwards
-pub at_least_at : {a b c e : Weight → ℕ} {v w : Visits} → ((k : Weight) → c k ≤ a k) → ((k : Weight) → b k ≤ e k) → CountsAtLeast a b v w → CountsAtLeast c e v w
-at_least_at {a} {b} {c} {e} {v} {w} g h m = record { printer = omega (arith, g each_node, h each_node, m.printer); probes = omega (arith, g each_probe, h each_probe, m.probes) }
+pub at_least_at : {a b c e : Weight → ℕ} {v w : Visits} → ((k : Weight) → c k ≤ a k) → ((k : Weight) → b k ≤ e k) → CountsAtLeast a b v w
+    → CountsAtLeast c e v w
+at_least_at {a} {b} {c} {e} {v} {w} g h m =
+    record { printer = omega (arith, g each_node, h each_node, m.printer); probes = omega (arith, g each_probe, h each_probe, m.probes) }
 
 -- counts that did not fall, where no less is left
 pub at_least_rise : {a b : Weight → ℕ} {v w : Visits} → Rise v w → ((k : Weight) → a k ≤ b k) → CountsAtLeast a b v w
-at_least_rise {a} {b} {v} {w} r h = record { printer = omega (arith, h each_node, r.printer); probes = omega (arith, h each_probe, r.probes) }
+at_least_rise {a} {b} {v} {w} r h =
+    record { printer = omega (arith, h each_node, r.printer); probes = omega (arith, h each_probe, r.probes) }
 
 -- one node was counted, and the probe that it asks
 pub record OneLaid (t : Task) (v w : Visits) : Type 0 where
@@ -199,56 +231,78 @@ pub record OneLaid (t : Task) (v w : Visits) : Type 0 where
   pub probes : RisesBy (each_probe t.tree t.mode) v.probes w.probes
 
 -- a node was counted, and no less is left but for that
-laid_at_least : (t : Task) (a b : Weight → ℕ) (v w : Visits) → OneLaid t v w → ((k : Weight) → a k ≤ k t.tree t.mode + b k) → CountsAtLeast a b v w
-laid_at_least t a b v w one h = record { printer = omega (arith, h each_node, one.printer); probes = omega (arith, h each_probe, one.probes) }
+laid_at_least : (t : Task) (a b : Weight → ℕ) (v w : Visits) → OneLaid t v w → ((k : Weight) → a k ≤ k t.tree t.mode + b k)
+    → CountsAtLeast a b v w
+laid_at_least t a b v w one h =
+    record { printer = omega (arith, h each_node, one.printer); probes = omega (arith, h each_probe, one.probes) }
 
 -- the stack counts what its tasks do
-pub stack_counts : (p : Standing) (n : ℕ) (o : RenderOptions) (ts : List Task) (st : State) (w : Weight) → p.options ≡ o → p.tasks ≡ ts → state_at p ≡ st → stack_tally p n w ≡ tally_above o n ts st w
+pub stack_counts : (p : Standing) (n : ℕ) (o : RenderOptions) (ts : List Task) (st : State) (w : Weight) → p.options ≡ o → p.tasks ≡ ts
+    → state_at p ≡ st → stack_tally p n w ≡ tally_above o n ts st w
 stack_counts p n o ts st w e h k =
     ap (λ (x : RenderOptions). tally_above x n p.tasks (state_at p) w) e
     ∙ ap (λ (x : List Task). tally_above o n x (state_at p) w) h ∙ ap (λ (x : State). tally_above o n ts x w) k
 
 went_by : (o : RenderOptions) (n : ℕ) (t : Task) (ts us : List Task) (st u : State) (bytes : List ℕ) (w : Weight) (step : Step) →
-    StepCounts o n ts st w (tally_with o n t ts st w) (w t.tree t.mode) step → Leads step ts bytes us u → tally_with o n t ts st w ≤ w t.tree t.mode + tally_above o n us u w
+    StepCounts o n ts st w (tally_with o n t ts st w) (w t.tree t.mode) step → Leads step ts bytes us u
+    → tally_with o n t ts st w ≤ w t.tree t.mode + tally_above o n us u w
 went_by o n t ts us st u bytes w (Move b pushed x) s h =
     omega (arith, s, ap (λ (z : List Task). tally_above o n z u w) h.1, ap (λ (z : State). tally_above o n (pushed ++ ts) z w) h.2)
 went_by o n t ts us st u bytes w Stuck s h = absurd h
 went_by o n t ts us st u bytes w (Choose i x y) s h = absurd h
 
 -- a step of the node in hand
-pub went_at_least : (o : RenderOptions) (n : ℕ) (t : Task) (ts us : List Task) (st u : State) (bytes : List ℕ) (v w : Visits) → OneLaid t v w → n ≤ length ts → Leads (step_at o t ts st) ts bytes us u →
+pub went_at_least : (o : RenderOptions) (n : ℕ) (t : Task) (ts us : List Task) (st u : State) (bytes : List ℕ) (v w : Visits)
+    → OneLaid t v w → n ≤ length ts → Leads (step_at o t ts st) ts bytes us u →
     CountsAtLeast (tally_above o n (t ∷ ts) st) (tally_above o n us u) v w
 went_at_least o n t ts us st u bytes v w one l h =
     laid_at_least t (tally_above o n (t ∷ ts) st) (tally_above o n us u) v w one
-    (λ k. omega (arith, above_is o n t ts st k l, went_by o n t ts us st u bytes k (step_at o t ts st) (step_counts o n t.tree t.indent t.mode ts st k l) h))
+    (λ k. omega (
+      arith,
+      above_is o n t ts st k l,
+      went_by o n t ts us st u bytes k (step_at o t ts st)
+          (step_counts o n t.tree t.indent t.mode ts st k l) h,
+    ))
 
 chosen_by : (o : RenderOptions) (n : ℕ) (t : Task) (ts : List Task) (st : State) (i : ℕ) (x y : Tree) (w : Weight) (step : Step) →
-    StepCounts o n ts st w (tally_with o n t ts st w) (w t.tree t.mode) step → Asks step i x y → tally_with o n t ts st w ≤ w t.tree t.mode + tally_choice o n i x y ts st w
+    StepCounts o n ts st w (tally_with o n t ts st w) (w t.tree t.mode) step → Asks step i x y
+    → tally_with o n t ts st w ≤ w t.tree t.mode + tally_choice o n i x y ts st w
 chosen_by o n t ts st i x y w (Move b pushed u) s h = absurd h
 chosen_by o n t ts st i x y w Stuck s h = absurd h
 chosen_by o n t ts st i x y w (Choose j l r) s h =
     let same : tally_choice o n i x y ts st w ≡ tally_choice o n j l r ts st w =
-    ap (λ (z : ℕ). tally_choice o n z x y ts st w) h.0 ∙ ap (λ (z : Tree). tally_choice o n j z y ts st w) h.1 ∙ ap (λ (z : Tree). tally_choice o n j l z ts st w) h.2 in
+    ap (λ (z : ℕ). tally_choice o n z x y ts st w) h.0 ∙ ap (λ (z : Tree). tally_choice o n j z y ts st w) h.1
+    ∙ ap (λ (z : Tree). tally_choice o n j l z ts st w) h.2 in
     omega (arith, s, same)
 
 -- a step after which two branches are to be chosen from
-pub chosen_at_least : (o : RenderOptions) (n : ℕ) (t : Task) (ts : List Task) (st : State) (i : ℕ) (x y : Tree) (v w : Visits) → OneLaid t v w → n ≤ length ts → Asks (step_at o t ts st) i x y →
+pub chosen_at_least : (o : RenderOptions) (n : ℕ) (t : Task) (ts : List Task) (st : State) (i : ℕ) (x y : Tree) (v w : Visits)
+    → OneLaid t v w → n ≤ length ts → Asks (step_at o t ts st) i x y →
     CountsAtLeast (tally_above o n (t ∷ ts) st) (tally_choice o n i x y ts st) v w
 chosen_at_least o n t ts st i x y v w one l h =
     laid_at_least t (tally_above o n (t ∷ ts) st) (tally_choice o n i x y ts st) v w one
-    (λ k. omega (arith, above_is o n t ts st k l, chosen_by o n t ts st i x y k (step_at o t ts st) (step_counts o n t.tree t.indent t.mode ts st k l) h))
+    (λ k. omega (
+      arith,
+      above_is o n t ts st k l,
+      chosen_by o n t ts st i x y k (step_at o t ts st)
+          (step_counts o n t.tree t.indent t.mode ts st k l) h,
+    ))
 
 -- the first branch counts where it is accepted
-accepted_counts : (o : RenderOptions) (was : Bool) (out : Outcome) (bytes : List ℕ) (u : State) (x y : ℕ) → accept o was out (Failed []) ≡ Done bytes u → counted_accept o out x y ≡ x
+accepted_counts : (o : RenderOptions) (was : Bool) (out : Outcome) (bytes : List ℕ) (u : State) (x y : ℕ)
+    → accept o was out (Failed []) ≡ Done bytes u → counted_accept o out x y ≡ x
 accepted_counts o was (Done b st) bytes u x y e =
-    elim (st.within && padding_fits o.width (some_pending st.pending) st.column) as (λ v. (if v then Done b (record st { within = was }) else Failed []) ≡ Done bytes u → (if v then x else y) ≡ x)
+    elim (st.within && padding_fits o.width (some_pending st.pending) st.column) as
+    (λ v. (if v then Done b (record st { within = was }) else Failed []) ≡ Done bytes u → (if v then x else y) ≡ x)
     [ true ↦ (λ h. refl) | false ↦ (λ h. absurd (cc)) ] e
 accepted_counts o was (Failed b) bytes u x y e = absurd (cc)
 
 -- the second branch counts where the first one is not accepted
-rejected_counts : (o : RenderOptions) (was : Bool) (out : Outcome) (x y : ℕ) → accept o was out (Failed []) ≡ Failed [] → counted_accept o out x y ≡ y
+rejected_counts : (o : RenderOptions) (was : Bool) (out : Outcome) (x y : ℕ) → accept o was out (Failed []) ≡ Failed []
+    → counted_accept o out x y ≡ y
 rejected_counts o was (Done b st) x y e =
-    elim (st.within && padding_fits o.width (some_pending st.pending) st.column) as (λ v. (if v then Done b (record st { within = was }) else Failed []) ≡ Failed [] → (if v then x else y) ≡ y)
+    elim (st.within && padding_fits o.width (some_pending st.pending) st.column) as
+    (λ v. (if v then Done b (record st { within = was }) else Failed []) ≡ Failed [] → (if v then x else y) ≡ y)
     [ true ↦ (λ h. absurd (cc)) | false ↦ (λ h. refl) ] e
 rejected_counts o was (Failed b) x y e = refl
 
@@ -262,14 +316,16 @@ kept_at_least p q i x y old new v w n d m =
     let same : (k : Weight) → choice_tally p n i x y k ≡ trial_tally p i x k + stack_tally q n k = λ k.
     omega (
       arith,
-      accepted_counts p.options p.within out d.5.0 (state_at q) (trial_tally p i x k) (tally p.options y i Break (follow ts) (state_at p) k) (d.5.2 (Failed [])),
+      accepted_counts p.options p.within out d.5.0 (state_at q) (trial_tally p i x k) (tally p.options y i Break (follow ts) (state_at p) k)
+          (d.5.2 (Failed [])),
       ap (λ (z : Outcome). counted_then z (λ u. tally_above p.options n ts u k)) (d.5.2 other),
       stack_counts q n p.options ts (state_at q) k d.1 d.0 refl,
     ) in
     record { printer = omega (arith, same each_node, m.printer); probes = omega (arith, same each_probe, m.probes) }
 
 -- a choice whose second branch comes next
-pub other_at_least : (p q r : Standing) (i : ℕ) (x y : Tree) (old new : List ℕ) (v w : Visits) (n : ℕ) → n ≤ length p.tasks → TrialDid p q i x old new false →
+pub other_at_least : (p q r : Standing) (i : ℕ) (x y : Tree) (old new : List ℕ) (v w : Visits) (n : ℕ) → n ≤ length p.tasks
+    → TrialDid p q i x old new false →
     r.tasks ≡ make_task i Break y ∷ q.tasks → state_at r ≡ state_at q → r.options ≡ q.options →
     Rise v w → CountsAtLeast (choice_tally p n i x y) (stack_tally r n) v w
 other_at_least p q r i x y old new v w n l d e s z rise =
@@ -279,30 +335,44 @@ other_at_least p q r i x y old new v w n l d e s z rise =
     at_least_rise rise (λ k.
     omega (
       arith,
-      rejected_counts p.options p.within out (trial_tally p i x k) (tally p.options y i Break (follow ts) (state_at p) k) (d.5.2 (Failed [])),
+      rejected_counts p.options p.within out (trial_tally p i x k) (tally p.options y i Break (follow ts) (state_at p) k)
+          (d.5.2 (Failed [])),
       ap (λ (z : Outcome). counted_then z (λ u. tally_above p.options n ts u k)) (d.5.2 other),
-      stack_counts r n p.options (make_task i Break y ∷ ts) (state_at p) k (z ∙ d.1) (e ∙ ap (λ (c : List Task). make_task i Break y ∷ c) d.0) (s ∙ d.5.1),
+      stack_counts r n p.options (make_task i Break y ∷ ts) (state_at p) k (z ∙ d.1)
+          (e ∙ ap (λ (c : List Task). make_task i Break y ∷ c) d.0) (s ∙ d.5.1),
       above_is p.options n (make_task i Break y) ts (state_at p) k l,
     ))
 
 -- a trial begins
-pub trial_begins : (p q : Standing) (i : ℕ) (d : Tree) (v : Visits) → q.options ≡ p.options → q.tasks ≡ make_task i Break d ∷ p.tasks → state_at q ≡ tried (state_at p) →
+pub trial_begins : (p q : Standing) (i : ℕ) (d : Tree) (v : Visits) → q.options ≡ p.options → q.tasks ≡ make_task i Break d ∷ p.tasks
+    → state_at q ≡ tried (state_at p) →
     CountsAtLeast (trial_tally p i d) (stack_tally q (length p.tasks)) v v
 trial_begins p q i d v o e s =
     let ts : List Task = p.tasks in
     let t : Task = make_task i Break d in
     at_least_rise (record { printer = omega arith; probes = omega arith })
-    (λ k. omega (arith, stack_counts q (length ts) p.options (t ∷ ts) (tried (state_at p)) k o e s, above_is p.options (length ts) t ts (tried (state_at p)) k (omega arith)))
+    (λ k. omega (
+      arith,
+      stack_counts q (length ts) p.options (t ∷ ts) (tried (state_at p)) k o e s,
+      above_is p.options (length ts) t ts (tried (state_at p)) k (omega arith),
+    ))
 
 -- no more than n tasks are left
-pub at_least_end : {a : Weight → ℕ} {v w : Visits} (p : Standing) (n : ℕ) → length p.tasks ≤ n → CountsAtLeast a (stack_tally p n) v w → CountsAtLeast a nothing_left v w
+pub at_least_end : {a : Weight → ℕ} {v w : Visits} (p : Standing) (n : ℕ) → length p.tasks ≤ n → CountsAtLeast a (stack_tally p n) v w
+    → CountsAtLeast a nothing_left v w
 at_least_end {a} {v} {w} p n l m = at_least_at (λ k. omega arith) (λ k. omega (arith, above_none p.options n p.tasks (state_at p) k l)) m
 
 -- a run that has worked on one tree from the beginning
-pub visited_at_least : {A E : Type 0} (d : Tree) (p : Standing) (v w : Visits) (r : Result A E) → p.tasks ≡ make_task 0 Break d ∷ [] → state_at p ≡ initial →
+pub visited_at_least : {A E : Type 0} (d : Tree) (p : Standing) (v w : Visits) (r : Result A E) → p.tasks ≡ make_task 0 Break d ∷ []
+    → state_at p ≡ initial →
     OnOk r (CountsAtLeast (stack_tally p 0) nothing_left v w) → OnOk r (VisitedAtLeast p.options d v w)
 visited_at_least {A} {E} d p v w (Ok x) e s m =
     let less : (k : Weight) → tally p.options d 0 Break [] initial k ≤ stack_tally p 0 k = λ k.
-    omega (arith, stack_counts p 0 p.options (make_task 0 Break d ∷ []) initial k refl e s, above_is p.options 0 (make_task 0 Break d) [] initial k (omega arith)) in
+    omega (
+      arith,
+      stack_counts p 0 p.options (make_task 0 Break d ∷ []) initial k refl e s,
+      above_is p.options 0 (make_task 0 Break d) []
+          initial k (omega arith),
+    ) in
     record { printer = omega (arith, less each_node, m.printer); probes = omega (arith, less each_probe, m.probes) }
 visited_at_least {A} {E} d p v w (Err x) e s m = tt

@@ -9,7 +9,8 @@ use Rattle.prettyless_model.specs.Content.{HasContent, AppendsContent}
 use Rattle.prettyless_model.proofs.Content.{content_of}
 use Rattle.prettyless_printer.specs.Renders.{Rendered}
 
-pub rendered_content : {A E : Type 0} (fails : E → Type 0) (o : RenderOptions) (d : Tree) (old new : List ℕ) (n m : ℕ) (r : Result A (RenderError E)) →
+pub rendered_content : {A E : Type 0} (fails : E → Type 0) (o : RenderOptions) (d : Tree) (old new : List ℕ) (n m : ℕ)
+    (r : Result A (RenderError E)) →
     Rendered fails (layout o d) old new n m r → IfOk r (λ _. AppendsContent d old new)
 rendered_content {A} {E} fails o d old new n m (Ok x) h = (h.0, h.2, content_of o d h.0 h.1)
 rendered_content {A} {E} fails o d old new n m (Err e) h = tt

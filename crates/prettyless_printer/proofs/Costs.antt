@@ -1,6 +1,7 @@
 -- The measure of open trials: 2 to the power of the work of the present form, and of each form that the rejection of an open
 -- trial leads to. It falls at each turn, where a trial is opened, and where one ends.
-use Rattle.std.proofs.Common.{◌≡◌, ℕ, zero, suc, ◌+◌, ◌-◌, ◌*◌, ◌^◌, ◌≤◌, ◌<◌, List, [], ◌∷◌, ◌++◌, length, refl, ap, ◌∙◌, sym, arith, subst, append_assoc, Ok, take, drop, length-append, IsSome}
+use Rattle.std.proofs.Common.{◌≡◌, ℕ, zero, suc, ◌+◌, ◌-◌, ◌*◌, ◌^◌, ◌≤◌, ◌<◌, List, [], ◌∷◌, ◌++◌, length, refl, ap, ◌∙◌, sym, arith}
+use Rattle.std.proofs.Common.{subst, append_assoc, Ok, take, drop, length-append, IsSome}
 use Rattle.std.proofs.lemmas.List.{drop_at, take_at}
 use Rattle.std.proofs.Math.Pow.{pow-lt}
 use Rattle.std.proofs.Math.Nat.{two-pow-succ, one-le-pow, pow-le-pow_right}
@@ -13,8 +14,8 @@ use Rattle.prettyless_model.specs.Tree.{Tree, size}
 use Rattle.prettyless_step.specs.Stack.{Task, make_task, nodes}
 use Rattle.prettyless_step.specs.Steps.{owed}
 use Rattle.prettyless_step.proofs.Sizes.{size_positive}
-use Rattle.prettyless_printer.specs.declared.answer.Course.TheVariants as course
-use Rattle.prettyless_printer.specs.Points.{Standing, state_at, Grows, Seen, Point, point_at, work_at}
+use Rattle.prettyless_printer.specs.declared.answer.TrialState.TheVariants as trial_state
+use Rattle.prettyless_printer.specs.Points.{Standing, state_at, QueueGrows, Seen, Point, point_at, work_at}
 use Rattle.prettyless_printer.specs.Trials.{Attempt, Courses, OnTrial, Restores}
 use Rattle.prettyless_printer.specs.Open.{BeginsTrial, Chain, Held, Link, Marked, Open, Opens, below_all}
 use Rattle.prettyless_printer.proofs.Trying.{grows-grows, restored, restored_queue}
@@ -26,7 +27,8 @@ lowest_tasks k ts = drop (length ts - k) ts
 
 -- the work that is left once a printer is back at a mark, with a second branch to come
 abbrev pub second_work : Standing → Held → ℕ
-second_work p u = 2 * size u.second + (2 * nodes (lowest_tasks u.mark.commands p.tasks) + owed (drop u.mark.queue.start (take u.mark.queue.len p.queue)))
+second_work p u = 2 * size u.second
+    + (2 * nodes (lowest_tasks u.mark.commands p.tasks) + owed (drop u.mark.queue.start (take u.mark.queue.len p.queue)))
 
 -- what open trials may yet cost
 abbrev pub cost : Standing → List Held → ℕ
@@ -43,10 +45,14 @@ cost_push p (v ∷ us) u = omega (arith, cost_push p us u)
 
 -- a printer has all that another one had: tasks are above its tasks, and the queue has grown
 abbrev Above : Standing → Standing → Type 0
-Above p q = (above : List Task) × (q.tasks ≡ above ++ p.tasks) × Grows p q
+Above p q = (above : List Task) × (q.tasks ≡ above ++ p.tasks) × QueueGrows p q
 
 above-above : (p q r : Standing) → Above p q → Above q r → Above p r
-above-above p q r a b = (b.0 ++ a.0, b.1 ∙ ap (λ (x : List Task). b.0 ++ x) a.1 ∙ sym (append_assoc b.0 a.0 p.tasks), grows-grows p q r a.2 b.2)
+above-above p q r a b = (
+  b.0 ++ a.0,
+  b.1 ∙ ap (λ (x : List Task). b.0 ++ x) a.1 ∙ sym (append_assoc b.0 a.0 p.tasks),
+  grows-grows p q r a.2 b.2,
+)
 
 -- a trial is above where it began
 above_trial : {t : Attempt} {below : ℕ} {b : Point} → OnTrial t below b → Above t.start.printer b.printer
@@ -61,10 +67,12 @@ above_link o u t is_known h =
     let k = (w.bytes is_known).1.0 in
     (k.above, k.stack_is, w.grows)
 
-above_chain : (o : Attempt) (us : List Held) (t : Attempt) (p : Standing) → IsSome o.start.sink.bytes → Chain o us t → Above t.start.printer p → Above o.start.printer p
+above_chain : (o : Attempt) (us : List Held) (t : Attempt) (p : Standing) → IsSome o.start.sink.bytes → Chain o us t
+    → Above t.start.printer p → Above o.start.printer p
 above_chain o [] t p is_known h a = subst (λ (x : Attempt). Above x.start.printer p) h a
 above_chain o (u ∷ us) t p is_known h a =
-    above-above o.start.printer h.0.start.printer p (above_link o u h.0 is_known h.1) (above_chain h.0 us t p h.1.holds.marked.is_known h.2 a)
+    above-above o.start.printer h.0.start.printer p (above_link o u h.0 is_known h.1)
+    (above_chain h.0 us t p h.1.holds.marked.is_known h.2 a)
 
 -- the work after a rejection is that of where the trial began
 second_is : (u : Held) (a : Point) (p : Standing) → Marked u.mark a → Above a.printer p → second_work p u ≡ 2 * size u.second + work_at a
@@ -73,26 +81,38 @@ second_is u a p marked h =
     let k = marked.marks in
     let queue = a.printer.queue in
     let back : lowest_tasks m.commands p.tasks ≡ a.printer.tasks =
-    ap (λ (z : List Task). drop (length z - m.commands) z) h.1 ∙ drop_at h.0 a.printer.tasks (length (h.0 ++ a.printer.tasks) - m.commands) (omega (arith, length-append h.0 a.printer.tasks, k.commands)) in
+    ap (λ (z : List Task). drop (length z - m.commands) z) h.1 ∙ drop_at h.0 a.printer.tasks (length (h.0 ++ a.printer.tasks) - m.commands)
+    (omega (arith, length-append h.0 a.printer.tasks, k.commands)) in
     let front : take m.queue.len p.queue ≡ queue = ap (take m.queue.len) h.2.1 ∙ take_at queue h.2.0 m.queue.len (sym k.queued) in
     let waits : drop m.queue.start (take m.queue.len p.queue) ≡ drop a.printer.start queue =
     ap (λ (n : ℕ). drop n (take m.queue.len p.queue)) k.start ∙ ap (drop a.printer.start) front in
     omega (arith, ap nodes back, ap owed waits)
 
 -- what open trials may cost is the same as long as nothing of where they began is taken away
-cost_one : (u : Held) (a : Point) (p q : Standing) → Marked u.mark a → Above a.printer p → Above a.printer q → 2 ^ second_work p u ≡ 2 ^ second_work q u
+cost_one : (u : Held) (a : Point) (p q : Standing) → Marked u.mark a → Above a.printer p → Above a.printer q
+    → 2 ^ second_work p u ≡ 2 ^ second_work q u
 cost_one u a p q marked x y = ap (λ (z : ℕ). 2 ^ z) (second_is u a p marked x ∙ sym (second_is u a q marked y))
 
-cost_chain : (o : Attempt) (us : List Held) (t : Attempt) (p q : Standing) → Chain o us t → Above t.start.printer p → Above t.start.printer q → cost p us ≡ cost q us
+cost_chain : (o : Attempt) (us : List Held) (t : Attempt) (p q : Standing) → Chain o us t → Above t.start.printer p
+    → Above t.start.printer q → cost p us ≡ cost q us
 cost_chain o [] t p q h a b = refl
 cost_chain o (u ∷ us) t p q h a b =
     let c = h.0 in
     let marked = h.1.holds.marked in
-    omega (arith, cost_one u c.start p q marked (above_chain c us t p marked.is_known h.2 a) (above_chain c us t q marked.is_known h.2 b), cost_chain c us t p q h.2 a b)
+    omega (
+      arith,
+      cost_one u c.start p q marked (above_chain c us t p marked.is_known h.2 a) (above_chain c us t q marked.is_known h.2 b),
+      cost_chain c us t p q h.2 a b,
+    )
 
-cost_same : (s : Attempt) (u : Held) (us : List Held) (t : Attempt) (p q : Standing) → Marked u.mark s.start → Chain s us t → Above t.start.printer p → Above t.start.printer q → cost p (u ∷ us) ≡ cost q (u ∷ us)
+cost_same : (s : Attempt) (u : Held) (us : List Held) (t : Attempt) (p q : Standing) → Marked u.mark s.start → Chain s us t
+    → Above t.start.printer p → Above t.start.printer q → cost p (u ∷ us) ≡ cost q (u ∷ us)
 cost_same s u us t p q marked h a b =
-    omega (arith, cost_one u s.start p q marked (above_chain s us t p marked.is_known h a) (above_chain s us t q marked.is_known h b), cost_chain s us t p q h a b)
+    omega (
+      arith,
+      cost_one u s.start p q marked (above_chain s us t p marked.is_known h a) (above_chain s us t q marked.is_known h b),
+      cost_chain s us t p q h a b,
+    )
 
 -- a power is one at least
 pow_one : (n : ℕ) → 0 < 2 ^ n
@@ -107,15 +127,23 @@ pow_two a b zero l h = absurd (omega arith)
 pow_two a b (suc c) l h = omega (arith, two-pow-succ c, pow_le a c (omega arith), pow_le b c (omega arith))
 
 -- the innermost trial goes on
-pub less_goes : {N : Type 0} (E : Type 0) (f : N → Tree) (s : Attempt) (y : Tree) {a b : Point} (us : List Held) → Open s y us a → Courses {N = N} {E = E} f (below_all us) a b (Ok course.Goes) → left_at b us < left_at a us
+pub less_goes : {N : Type 0} (E : Type 0) (f : N → Tree) (s : Attempt) (y : Tree) {a b : Point} (us : List Held) → Open s y us a
+    → Courses {N = N} {E = E} f (below_all us) a b (Ok trial_state.Running) → left_at b us < left_at a us
 less_goes {N} E f s y {a} {b} [] h c = absurd h
 less_goes {N} E f s y {a} {b} (u ∷ us) h c =
     let z = c h.trial h.on in
-    omega (arith, pow-lt {i = work_at b} {j = work_at a} z.1, cost_same s u us h.trial a.printer b.printer h.holds.marked h.chain (above_trial h.on) (above_trial z.0))
+    omega (
+      arith,
+      pow-lt {i = work_at b} {j = work_at a} z.1,
+      cost_same s u us h.trial a.printer b.printer h.holds.marked h.chain
+          (above_trial h.on) (above_trial z.0),
+    )
 
 -- a trial more is open
-pub less_more : {N : Type 0} (E : Type 0) (f : N → Tree) (s : Attempt) (y : Tree) {a b : Point} (us vs : List Held) (i : ℕ) (x z : N) (q : Standing) (w : Seen) (v : Visits) → Open s y us a →
-    Courses {N = N} {E = E} f (below_all us) a b (Ok (course.Chosen i x z)) → Opens f i (f z) b.printer b.sink us vs → BeginsTrial i (f x) b.printer q → IsUtf8 (known b.sink.bytes) →
+pub less_more : {N : Type 0} (E : Type 0) (f : N → Tree) (s : Attempt) (y : Tree) {a b : Point} (us vs : List Held) (i : ℕ) (x z : N)
+    (q : Standing) (w : Seen) (v : Visits) → Open s y us a →
+    Courses {N = N} {E = E} f (below_all us) a b (Ok (trial_state.Choice i x z)) → Opens f i (f z) b.printer b.sink us vs
+    → BeginsTrial i (f x) b.printer q → IsUtf8 (known b.sink.bytes) →
     left_at (point_at q w v) vs < left_at a us
 less_more {N} E f s y {a} {b} [] vs i x z q w v h c opens begins text = absurd h
 less_more {N} E f s y {a} {b} (o ∷ us) vs i x z q w v h c opens begins text =
@@ -125,17 +153,23 @@ less_more {N} E f s y {a} {b} (o ∷ us) vs i x z q w v h c opens begins text =
     let marked : Marked opens.mark b = record { marks = opens.marks; is_known = k.0.is_known; text = text } in
     let waits = (k.0.waiting.bytes h.on.is_known).1.0 in
     let over_b : Above b.printer q = (make_task i Break (f x) ∷ [], begins.tasks, begins.grows) in
-    let over_t : Above t.start.printer q = above-above t.start.printer b.printer q (waits.above, waits.stack_is, k.0.waiting.grows) over_b in
+    let over_t : Above t.start.printer q =
+    above-above t.start.printer b.printer q (waits.above, waits.stack_is, k.0.waiting.grows) over_b in
     let same = cost_same s o us t a.printer q h.holds.marked h.chain (above_trial h.on) over_t in
     let split = ap (cost q) opens.more ∙ cost_push q (o ∷ us) u in
     let second = second_is u b q marked over_b in
-    let first : work_at (point_at q w v) ≡ 2 * size (f x) + work_at b = omega (arith, ap nodes begins.tasks, ap (λ (i : State). owed i.pending) begins.state) in
-    let two = pow_two (work_at (point_at q w v)) (second_work q u) (work_at a - 1) (omega (arith, first, second, k.1, size_positive (f z), size_positive (f x))) (omega (arith, first, second, k.1, size_positive (f z), size_positive (f x))) in
+    let first : work_at (point_at q w v) ≡ 2 * size (f x) + work_at b =
+    omega (arith, ap nodes begins.tasks, ap (λ (i : State). owed i.pending) begins.state) in
+    let two = pow_two (work_at (point_at q w v)) (second_work q u) (work_at a - 1)
+    (omega (arith, first, second, k.1, size_positive (f z), size_positive (f x)))
+    (omega (arith, first, second, k.1, size_positive (f z), size_positive (f x))) in
     omega (arith, two, same, split, pow-lt {i = work_at a - 1} {j = work_at a} (omega (arith, k.1)))
 
 -- an inner trial is kept
-kept_split : {N : Type 0} (E : Type 0) (f : N → Tree) (s : Attempt) (y : Tree) {a b : Point} (vs : List Held) (u : Held) (q : Standing) (w : Seen) (v : Visits) → 0 < length vs → Open s y (vs ++ u ∷ []) a →
-    Courses {N = N} {E = E} f (below_all (vs ++ u ∷ [])) a b (Ok course.Over) → q.tasks ≡ b.printer.tasks → (state_at q).pending ≡ (state_at b.printer).pending → Grows b.printer q →
+kept_split : {N : Type 0} (E : Type 0) (f : N → Tree) (s : Attempt) (y : Tree) {a b : Point} (vs : List Held) (u : Held) (q : Standing)
+    (w : Seen) (v : Visits) → 0 < length vs → Open s y (vs ++ u ∷ []) a →
+    Courses {N = N} {E = E} f (below_all (vs ++ u ∷ [])) a b (Ok trial_state.Complete) → q.tasks ≡ b.printer.tasks
+    → (state_at q).pending ≡ (state_at b.printer).pending → QueueGrows b.printer q →
     left_at (point_at q w v) vs < left_at a (vs ++ u ∷ [])
 kept_split {N} E f s y {a} {b} [] u q w v some h c e st g = absurd (omega (arith, some))
 kept_split {N} E f s y {a} {b} (o ∷ vs) u q w v some h c e st g =
@@ -146,13 +180,22 @@ kept_split {N} E f s y {a} {b} (o ∷ vs) u q w v some h c e st g =
     let link = above_link p.trial u t (chain_last o vs s p.trial (first_last h.holds.marked) p.chain).is_known p.link in
     let now = (lasts.path.bytes lasts.is_known).1.0 in
     let over : Above t.start.printer q = (now.above, e ∙ now.stack_is, grows-grows t.start.printer b.printer q lasts.path.grows g) in
-    let same = cost_same s o vs p.trial a.printer q h.holds.marked p.chain (above-above p.trial.start.printer t.start.printer a.printer link (above_trial h.on)) (above-above p.trial.start.printer t.start.printer q link over) in
-    omega (arith, pow_le (work_at (point_at q w v)) (work_at a) (omega (arith, z.1, ap nodes e, ap owed st)), same, cost_push a.printer (o ∷ vs) u, pow_one (second_work a.printer u))
+    let same = cost_same s o vs p.trial a.printer q h.holds.marked p.chain
+    (above-above p.trial.start.printer t.start.printer a.printer link (above_trial h.on))
+    (above-above p.trial.start.printer t.start.printer q link over) in
+    omega (
+      arith,
+      pow_le (work_at (point_at q w v)) (work_at a) (omega (arith, z.1, ap nodes e, ap owed st)),
+      same,
+      cost_push a.printer (o ∷ vs) u,
+      pow_one (second_work a.printer u),
+    )
 
 -- an inner trial is taken back
-other_split : {N : Type 0} (E : Type 0) (f : N → Tree) (s : Attempt) (y : Tree) {a b : Point} (vs : List Held) (u : Held) (r q : Standing) (w : Seen) (v : Visits) → 0 < length vs → Open s y (vs ++ u ∷ []) a →
-    Courses {N = N} {E = E} f (below_all (vs ++ u ∷ [])) a b (Ok course.Rejected) → Restores u.mark b.printer r →
-    q.tasks ≡ make_task u.indent Break u.second ∷ r.tasks → state_at q ≡ state_at r → Grows r q →
+other_split : {N : Type 0} (E : Type 0) (f : N → Tree) (s : Attempt) (y : Tree) {a b : Point} (vs : List Held) (u : Held) (r q : Standing)
+    (w : Seen) (v : Visits) → 0 < length vs → Open s y (vs ++ u ∷ []) a →
+    Courses {N = N} {E = E} f (below_all (vs ++ u ∷ [])) a b (Ok trial_state.Rejected) → Restores u.mark b.printer r →
+    q.tasks ≡ make_task u.indent Break u.second ∷ r.tasks → state_at q ≡ state_at r → QueueGrows r q →
     left_at (point_at q w v) vs < left_at a (vs ++ u ∷ [])
 other_split {N} E f s y {a} {b} [] u r q w v some h c back e st g = absurd (omega (arith, some))
 other_split {N} E f s y {a} {b} (o ∷ vs) u r q w v some h c back e st g =
@@ -165,25 +208,43 @@ other_split {N} E f s y {a} {b} (o ∷ vs) u r q w v some h c back e st g =
     let tasks_r : r.tasks ≡ t.start.printer.tasks = back.0 fell.above t.start.printer.tasks fell.stack (sym start.marks.commands) in
     let state_r : state_at r ≡ state_at t.start.printer = restored t.start.printer b.printer r m t.start.sink start.marks fell.grows back in
     let queue_r = restored_queue t.start.printer b.printer r m t.start.sink start.marks fell.grows back in
-    let over_q : Above t.start.printer q = (make_task u.indent Break u.second ∷ [], e ∙ ap (λ (k : List Task). make_task u.indent Break u.second ∷ k) tasks_r, (g.0, g.1 ∙ ap (λ (k : List Tree). k ++ g.0) queue_r)) in
-    let same = cost_same s o vs p.trial a.printer q h.holds.marked p.chain (above-above p.trial.start.printer t.start.printer a.printer link (above_trial h.on)) (above-above p.trial.start.printer t.start.printer q link over_q) in
+    let over_q : Above t.start.printer q = (
+      make_task u.indent Break u.second ∷ [],
+      e ∙ ap (λ (k : List Task). make_task u.indent Break u.second ∷ k) tasks_r,
+      (g.0, g.1 ∙ ap (λ (k : List Tree). k ++ g.0) queue_r),
+    ) in
+    let same = cost_same s o vs p.trial a.printer q h.holds.marked p.chain
+    (above-above p.trial.start.printer t.start.printer a.printer link (above_trial h.on))
+    (above-above p.trial.start.printer t.start.printer q link over_q) in
     let second = second_is u t.start a.printer start (above_trial h.on) in
     let work : work_at (point_at q w v) ≡ second_work a.printer u =
-    omega (arith, ap nodes e, ap nodes tasks_r, ap (λ (i : State). owed i.pending) st, ap (λ (i : State). owed i.pending) state_r, second) in
+    omega (
+      arith,
+      ap nodes e,
+      ap nodes tasks_r,
+      ap (λ (i : State). owed i.pending) st,
+      ap (λ (i : State). owed i.pending) state_r,
+      second,
+    ) in
     omega (arith, ap (λ (k : ℕ). 2 ^ k) work, same, cost_push a.printer (o ∷ vs) u, pow_one (work_at a))
 
 -- the same of all that were open
-pub less_kept : {N : Type 0} (E : Type 0) (f : N → Tree) (s : Attempt) (y : Tree) {a b : Point} (us vs : List Held) (u : Held) (q : Standing) (w : Seen) (v : Visits) → us ≡ vs ++ u ∷ [] → 0 < length vs → Open s y us a →
-    Courses {N = N} {E = E} f (below_all us) a b (Ok course.Over) → q.tasks ≡ b.printer.tasks → (state_at q).pending ≡ (state_at b.printer).pending → Grows b.printer q →
+pub less_kept : {N : Type 0} (E : Type 0) (f : N → Tree) (s : Attempt) (y : Tree) {a b : Point} (us vs : List Held) (u : Held)
+    (q : Standing) (w : Seen) (v : Visits) → us ≡ vs ++ u ∷ [] → 0 < length vs → Open s y us a →
+    Courses {N = N} {E = E} f (below_all us) a b (Ok trial_state.Complete) → q.tasks ≡ b.printer.tasks
+    → (state_at q).pending ≡ (state_at b.printer).pending → QueueGrows b.printer q →
     left_at (point_at q w v) vs < left_at a us
 less_kept {N} E f s y {a} {b} us vs u q w v popped some h c e st g =
     subst (λ (z : List Held). left_at (point_at q w v) vs < left_at a z) (sym popped)
-    (kept_split E f s y vs u q w v some (subst (λ (z : List Held). Open s y z a) popped h) (subst (λ (z : List Held). Courses {N = N} {E = E} f (below_all z) a b (Ok course.Over)) popped c) e st g)
+    (kept_split E f s y vs u q w v some (subst (λ (z : List Held). Open s y z a) popped h)
+    (subst (λ (z : List Held). Courses {N = N} {E = E} f (below_all z) a b (Ok trial_state.Complete)) popped c) e st g)
 
-pub less_other : {N : Type 0} (E : Type 0) (f : N → Tree) (s : Attempt) (y : Tree) {a b : Point} (us vs : List Held) (u : Held) (r q : Standing) (w : Seen) (v : Visits) → us ≡ vs ++ u ∷ [] → 0 < length vs → Open s y us a →
-    Courses {N = N} {E = E} f (below_all us) a b (Ok course.Rejected) → Restores u.mark b.printer r →
-    q.tasks ≡ make_task u.indent Break u.second ∷ r.tasks → state_at q ≡ state_at r → Grows r q →
+pub less_other : {N : Type 0} (E : Type 0) (f : N → Tree) (s : Attempt) (y : Tree) {a b : Point} (us vs : List Held) (u : Held)
+    (r q : Standing) (w : Seen) (v : Visits) → us ≡ vs ++ u ∷ [] → 0 < length vs → Open s y us a →
+    Courses {N = N} {E = E} f (below_all us) a b (Ok trial_state.Rejected) → Restores u.mark b.printer r →
+    q.tasks ≡ make_task u.indent Break u.second ∷ r.tasks → state_at q ≡ state_at r → QueueGrows r q →
     left_at (point_at q w v) vs < left_at a us
 less_other {N} E f s y {a} {b} us vs u r q w v popped some h c back e st g =
     subst (λ (z : List Held). left_at (point_at q w v) vs < left_at a z) (sym popped)
-    (other_split E f s y vs u r q w v some (subst (λ (z : List Held). Open s y z a) popped h) (subst (λ (z : List Held). Courses {N = N} {E = E} f (below_all z) a b (Ok course.Rejected)) popped c) back e st g)
+    (other_split E f s y vs u r q w v some (subst (λ (z : List Held). Open s y z a) popped h)
+    (subst (λ (z : List Held). Courses {N = N} {E = E} f (below_all z) a b (Ok trial_state.Rejected)) popped c) back e st g)

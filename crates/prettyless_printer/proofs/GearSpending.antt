@@ -10,7 +10,7 @@ use Rattle.prettyless_step.specs.declared.printer.Printer.{Printer}
 use Rattle.prettyless_table.specs.Shift.{nodes_left}
 use Rattle.prettyless_printer.specs.declared.gear.Gears.{Gears}
 use Rattle.prettyless_printer.specs.Points.{Standing, standing}
-use Rattle.prettyless_printer.specs.Gears.{limit_of}
+use Rattle.prettyless_printer.specs.Gears.{probe_limit}
 use Rattle.prettyless_printer.specs.Open.{Held, seconds}
 use Rattle.prettyless_printer.specs.Linear.{IsFew, IsLinearStart}
 use Rattle.prettyless_printer.specs.Spending.{AllHave, Left, Spends, left, left_nodes, none_left, rule_of}
@@ -23,7 +23,8 @@ pub record Within (n : ℕ) (v : Visits) (l : Left) : Type 0 where
   pub have : AllHave l
   pub probes : l.visits.probes + 2 * left_nodes l ≤ v.probes + (16 * n + 1000)
 
-pub within_start : (p : Standing) (us : List Held) (v : Visits) → us ≡ [] → IsLinearStart p → Within (nodes p.tasks) v (left p (seconds us) v)
+pub within_start : (p : Standing) (us : List Held) (v : Visits) → us ≡ [] → IsLinearStart p
+    → Within (nodes p.tasks) v (left p (seconds us) v)
 within_start p us v none linear =
     subst (λ (z : List Held). Within (nodes p.tasks) v (left p (seconds z) v)) (sym none)
     (record {
@@ -39,7 +40,9 @@ pub within_still : {n : ℕ} {v w x : Visits} (p : Standing) (ds : List Tree) �
 within_still {n} {v} {w} {x} p ds same h = subst (λ (z : Visits). Within n v (left p ds z)) (sym same) h
 
 -- it goes on to the limit
-pub within_goes : {n : ℕ} {v : Visits} {a b : Left} (has : Bool) (o : RenderOptions) (g : Gears) (limit : ℕ) → limit ≡ limit_of g a.visits → g.start ≡ v → g.next_try ≤ n → Within n v a → Spends (rule_of has o limit) a b → Within n v b
+pub within_goes : {n : ℕ} {v : Visits} {a b : Left} (has : Bool) (o : RenderOptions) (g : Gears) (limit : ℕ) →
+    limit ≡ probe_limit g a.visits
+    → g.start ≡ v → g.next_try ≤ n → Within n v a → Spends (rule_of has o limit) a b → Within n v b
 within_goes {n} {v} {a} {b} has o g limit is start next h k =
     let most : ℕ = v.probes + (16 * n + 1000) - 2 * left_nodes a in
     let low : limit + left_nodes a ≤ most =
@@ -58,18 +61,21 @@ pub within_few : {n : ℕ} {v : Visits} {l : Left} → Within n v l → IsFew 16
 within_few {n} {v} {l} h room = omega (arith, h.probes)
 
 -- what is left in second gear visits two nodes for each visit of the printer
-pub over_table : (o : RenderOptions) {limit : ℕ} {a : Left} {w : Visits} → Spends (rule_of true o limit) a (none_left w) → o.width < 2 ^ 32 → left_nodes a < 2 ^ 32 → AllHave a →
+pub over_table : (o : RenderOptions) {limit : ℕ} {a : Left} {w : Visits} → Spends (rule_of true o limit) a (none_left w) → o.width < 2 ^ 32
+    → left_nodes a < 2 ^ 32 → AllHave a →
     a.visits.printer + left_nodes a < 2 ^ 64 - 1 → w.probes ≤ a.visits.probes + 2 * left_nodes a
 over_table o {limit} {a} {w} h width small have room =
     let k = h.few refl width small have in
     omega (arith, k.1, k.2, h.printer, room)
 
-pub within_over : {n : ℕ} {v w : Visits} {a : Left} (o : RenderOptions) {limit : ℕ} → Within n v a → Spends (rule_of true o limit) a (none_left w) → o.width < 2 ^ 32 → n ≤ 4294967294 → IsFew 16 1000 n v w
+pub within_over : {n : ℕ} {v w : Visits} {a : Left} (o : RenderOptions) {limit : ℕ} → Within n v a
+    → Spends (rule_of true o limit) a (none_left w) → o.width < 2 ^ 32 → n ≤ 4294967294 → IsFew 16 1000 n v w
 within_over {n} {v} {w} {a} o {limit} h k width small room =
     omega (arith, over_table o k width (omega (arith, h.left, small)) h.have (omega (arith, h.printer, room)), h.probes)
 
 -- over a table from the first node on
-pub all_over : {w v : Visits} {p : Standing} {limit : ℕ} → IsLinearStart p → Spends (rule_of true p.options limit) (left p [] v) (none_left w) → IsFew 2 0 (nodes p.tasks) v w
+pub all_over : {w v : Visits} {p : Standing} {limit : ℕ} → IsLinearStart p → Spends (rule_of true p.options limit) (left p [] v)
+    (none_left w) → IsFew 2 0 (nodes p.tasks) v w
 all_over {w} {v} {p} {limit} linear k room =
     omega (arith, over_table p.options k linear.width (omega (arith, linear.size)) (linear.have, tt) (omega (arith, room)))
 
@@ -82,6 +88,7 @@ queue_none {N} f [] h = refl
 queue_none {N} f (x ∷ xs) h = absurd (omega (arith, ap length h))
 
 -- a table that was not had for want of room would have had more nodes than that
-pub no_room : {N : Type 0} (f : N → Tree) (p : Printer N) (ds : List Tree) (room n : ℕ) (v : Visits) → (standing f p).queue ≡ [] → left_nodes (left (standing f p) ds v) ≤ n → n ≤ 4294967294 →
+pub no_room : {N : Type 0} (f : N → Tree) (p : Printer N) (ds : List Tree) (room n : ℕ) (v : Visits) → (standing f p).queue ≡ []
+    → left_nodes (left (standing f p) ds v) ≤ n → n ≤ 4294967294 →
     min room 4294967294 < nodes_left f p + sum_by size ds → room < n
 no_room {N} f p ds room n v none within small large = omega (arith, within, small, large, queue_none f p.queue.nodes.items none)

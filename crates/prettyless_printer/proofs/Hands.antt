@@ -12,19 +12,20 @@ use Rattle.prettyless_step.specs.Steps.{Step, Stuck, Choose, Move, counted_paylo
 use Rattle.prettyless_step.specs.Probing.{asked, RisesBy}
 use Rattle.prettyless_step.specs.Printing.{Hands, Shows, state_of, tasks_of}
 use Rattle.prettyless_step.specs.declared.printer.Printer.{Printer}
-use Rattle.prettyless_step.specs.declared.printer.Taken.{Taken}
+use Rattle.prettyless_step.specs.declared.printer.StepResult.{StepResult}
 use Rattle.prettyless_step.proofs.Shown.{step_at, Leads}
 use Rattle.prettyless_step.proofs.Stacks.{nodes-append}
-use Rattle.prettyless_printer.specs.Points.{Standing, standing, state_at, Grows, Seen, Point, point_at, point}
+use Rattle.prettyless_printer.specs.Points.{Standing, standing, state_at, QueueGrows, Seen, Point, point_at, point}
 use Rattle.prettyless_printer.specs.Progress.{Inside}
 use Rattle.prettyless_printer.specs.Turns.{Advances, ForWholes, next_size}
-use Rattle.prettyless_printer.specs.Visits.{suffixes, Plain, Rise, CountsAtMost}
+use Rattle.prettyless_printer.specs.Visits.{suffix_depths, Plain, Rise, CountsAtMost}
 use Rattle.prettyless_printer.specs.AtLeast.{CountsAtLeast, stack_tally, tally_above}
 use Rattle.prettyless_printer.proofs.Standings.{put_in_hand, state_stands, step_from}
 use Rattle.prettyless_printer.proofs.Steps.{extra, step_less_visits, LeavesLess}
 use Rattle.prettyless_printer.proofs.Trying.{grows-grows}
 use Rattle.prettyless_printer.proofs.Turnings.{inside_at, lessens, went}
-use Rattle.prettyless_printer.proofs.Visits.{NoSuffix, OneMore, payload_visits-least, payload_visits-plus, went_at_most, at_most_same, at_most_then, rise_same, rise_then}
+use Rattle.prettyless_printer.proofs.Visits.{NoSuffix, OneMore, payload_visits-least, payload_visits-plus, went_at_most, at_most_same}
+use Rattle.prettyless_printer.proofs.Visits.{at_most_then, rise_same, rise_then}
 use Rattle.prettyless_printer.proofs.AtLeast.{OneLaid, went_at_least, at_least_same, at_least_then}
 
 -- the tasks, where one is in hand above the stack
@@ -37,24 +38,28 @@ pub record InHand (a : Point) (t : Task) (b : Point) : Type 0 where
   pub options : b.printer.options ≡ a.printer.options
   pub within : b.printer.within ≡ a.printer.within
   pub sink : b.sink ≡ a.sink
-  pub grows : Grows a.printer b.printer
+  pub grows : QueueGrows a.printer b.printer
   -- the tasks below the next one are there
   pub long : length a.printer.tasks ≤ length b.printer.tasks + 1
   -- there is no more work
   pub less : work (tasks_with t b.printer) (state_at b.printer) ≤ work a.printer.tasks (state_at a.printer)
   -- the work is inside the same wholes
-  pub inside : (out : List ℕ) → ForWholes a.printer out (λ whole limit below old. Inside a.printer.options whole limit below old (tasks_with t b.printer) (state_at b.printer) out)
+  pub inside : (out : List ℕ) → ForWholes a.printer out
+      (λ whole limit below old. Inside a.printer.options whole limit below old (tasks_with t b.printer) (state_at b.printer) out)
   -- no count of visits fell, and the next task's document has a node for each visit of the printer and those in hand
   pub rise : Rise a.visits b.visits
   pub most : b.visits.printer + size t.tree ≤ a.visits.printer + next_size a.printer.tasks
   -- without line suffixes, the nodes that left allow for the visits
-  pub at_most : Plain a.printer → NoSuffix (tasks_with t b.printer) (state_at b.printer) × CountsAtMost a.printer.tasks (tasks_with t b.printer) a.visits b.visits
+  pub at_most : Plain a.printer → NoSuffix (tasks_with t b.printer) (state_at b.printer) × CountsAtMost a.printer.tasks
+      (tasks_with t b.printer) a.visits b.visits
   -- what was laid is counted
   pub at_least : (n : ℕ) → n < length a.printer.tasks →
-      CountsAtLeast (stack_tally a.printer n) (tally_above a.printer.options n (tasks_with t b.printer) (state_at b.printer)) a.visits b.visits
+      CountsAtLeast (stack_tally a.printer n) (tally_above a.printer.options n (tasks_with t b.printer) (state_at b.printer))
+      a.visits b.visits
 
 -- the next command is taken
-pub in_hand : (a : Point) (p : Standing) (t : Task) → a.printer.tasks ≡ tasks_with t p → state_at p ≡ state_at a.printer → p.options ≡ a.printer.options → Grows a.printer p →
+pub in_hand : (a : Point) (p : Standing) (t : Task) → a.printer.tasks ≡ tasks_with t p → state_at p ≡ state_at a.printer
+    → p.options ≡ a.printer.options → QueueGrows a.printer p →
     InHand a t (point_at p a.sink a.visits)
 in_hand a p t e s o g =
     let p' = a.printer in
@@ -66,16 +71,18 @@ in_hand a p t e s o g =
       grows = g;
       long = omega (arith, ap length e);
       less = omega (arith, ap nodes e, ap (λ (x : State). owed x.pending) s);
-      inside = λ out whole limit below old l h. inside_at p'.options whole limit below old p'.tasks ts (state_at p') (state_at p) out out (sym e) s refl h;
+      inside = λ out whole limit below old l h. inside_at p'.options whole limit below old p'.tasks ts (state_at p') (state_at p) out out
+          (sym e) s refl h;
       rise = rise_same a.visits;
       most = omega (arith, ap next_size e);
       at_most = λ plain. (
-        (sym (ap suffixes e) ∙ plain.none, ap (λ (x : State). x.pending) s ∙ plain.pending),
+        (sym (ap suffix_depths e) ∙ plain.none, ap (λ (x : State). x.pending) s ∙ plain.pending),
         subst (λ (x : List Task). CountsAtMost p'.tasks x a.visits a.visits) e (at_most_same p'.tasks a.visits),
       );
       at_least = λ n l.
           subst (λ (x : State). CountsAtLeast (stack_tally p' n) (tally_above p'.options n ts x) a.visits a.visits) (sym s)
-          (subst (λ (x : List Task). CountsAtLeast (stack_tally p' n) (tally_above p'.options n x (state_at p')) a.visits a.visits) e (at_least_same (stack_tally p' n) a.visits));
+          (subst (λ (x : List Task). CountsAtLeast (stack_tally p' n) (tally_above p'.options n x (state_at p')) a.visits a.visits) e
+          (at_least_same (stack_tally p' n) a.visits));
     }
 
 -- what a step of the task in hand counts
@@ -84,13 +91,16 @@ pub record Visit (o : RenderOptions) (t : Task) (b : Point) (x : Visits) : Type 
   pub least : rise b.visits.printer ≤ x.printer
   pub rise : Rise b.visits x
 
-pub visit : {N : Type 0} (f : N → Tree) {a : Point} {t : Task} {s : Seen} {v : Visits} (p : Printer N) (x : Visits) (n : ℕ) → InHand a t (point f p s v) → n ≡ rise v.printer → v.printer ≤ n →
-    x.printer ≡ counted_payload (rejects_payload p.options t.tree t.mode (state_of f p)) n → v.probes ≤ x.probes → x.probes ≤ v.probes + asked t.tree t.mode (nodes (tasks_of f p)) →
+pub visit : {N : Type 0} (f : N → Tree) {a : Point} {t : Task} {s : Seen} {v : Visits} (p : Printer N) (x : Visits) (n : ℕ)
+    → InHand a t (point f p s v) → n ≡ rise v.printer → v.printer ≤ n →
+    x.printer ≡ counted_payload (rejects_payload p.options t.tree t.mode (state_of f p)) n → v.probes ≤ x.probes
+    → x.probes ≤ v.probes + asked t.tree t.mode (nodes (tasks_of f p)) →
     Visit a.printer.options t (point f p s v) x
 visit {N} f {a} {t} {s} {v} p x n hand e l h k z =
     let b = point f p s v in
     let rejected = rejects_payload p.options t.tree t.mode (state_at b.printer) in
-    let h' : x.printer ≡ counted_payload rejected n = h ∙ ap (λ (u : State). counted_payload (rejects_payload p.options t.tree t.mode u) n) (state_stands f p) in
+    let h' : x.printer ≡ counted_payload rejected n = h ∙ ap (λ (u : State). counted_payload (rejects_payload p.options t.tree t.mode u) n)
+    (state_stands f p) in
     let least : rise v.printer ≤ x.printer = payload_visits-least rejected v.printer n x.printer e h' in
     subst (λ (o : RenderOptions). Visit o t b x) hand.options
     (record {
@@ -100,15 +110,18 @@ visit {N} f {a} {t} {s} {v} p x n hand e l h k z =
     })
 
 -- what the code answers to the task in hand
-pub shown : {N : Type 0} (f : N → Tree) {a : Point} {t : Task} {s : Seen} {v : Visits} (p q : Printer N) (r r' : Taken N) → InHand a t (point f p s v) → r ≡ r' →
-    Shows f t.mode r (step_at p.options t (tasks_of f p) (state_of f p)) p q → Shows f t.mode r' (step_from a.printer.options t (standing f p)) p q
+pub shown : {N : Type 0} (f : N → Tree) {a : Point} {t : Task} {s : Seen} {v : Visits} (p q : Printer N) (r r' : StepResult N)
+    → InHand a t (point f p s v) → r ≡ r' →
+    Shows f t.mode r (step_at p.options t (tasks_of f p) (state_of f p)) p q
+    → Shows f t.mode r' (step_from a.printer.options t (standing f p)) p q
 shown {N} f {a} {t} {s} {v} p q r r' hand e h =
     subst (λ (o : RenderOptions). Shows f t.mode r' (step_from o t (standing f p)) p q) hand.options
     (subst (λ (u : State). Shows f t.mode r' (step_at p.options t (tasks_of f p) u) p q) (state_stands f p)
-    (subst (λ (z : Taken N). Shows f t.mode z (step_at p.options t (tasks_of f p) (state_of f p)) p q) e h))
+    (subst (λ (z : StepResult N). Shows f t.mode z (step_at p.options t (tasks_of f p) (state_of f p)) p q) e h))
 
 -- the nodes that are left after a step that adds k visits to its own
-leads_most : (t : Task) (ts us : List Task) (st u : State) (bytes : List ℕ) (k : ℕ) (step : Step) → LeavesLess (owed st.pending) (2 * size t.tree + owed st.pending - 2 * k) step → Leads step ts bytes us u → u ≡ st →
+leads_most : (t : Task) (ts us : List Task) (st u : State) (bytes : List ℕ) (k : ℕ) (step : Step)
+    → LeavesLess (owed st.pending) (2 * size t.tree + owed st.pending - 2 * k) step → Leads step ts bytes us u → u ≡ st →
     nodes us + 1 + k ≤ size t.tree + nodes ts
 leads_most t ts us st u bytes k (Move b pushed x) less h e =
     omega (arith, ap nodes h.1, nodes-append pushed ts, ap (λ (z : State). owed z.pending) h.2, ap (λ (z : State). owed z.pending) e)
@@ -116,8 +129,10 @@ leads_most t ts us st u bytes k Stuck less h e = absurd h
 leads_most t ts us st u bytes k (Choose i x y) less h e = absurd h
 
 -- a step leads to the next node in hand
-pub goes_down : {N : Type 0} (f : N → Tree) {a : Point} {t : Task} {s : Seen} {v : Visits} (p q : Printer N) (x : Visits) (i : ℕ) (m : Mode) (n : N) → InHand a t (point f p s v) → Visit a.printer.options t (point f p s v) x →
-    RisesBy (each_probe t.tree t.mode) v.probes x.probes → Hands f i m n (step_from a.printer.options t (standing f p)) p q → InHand a (make_task i m (f n)) (point f q s x)
+pub goes_down : {N : Type 0} (f : N → Tree) {a : Point} {t : Task} {s : Seen} {v : Visits} (p q : Printer N) (x : Visits) (i : ℕ) (m : Mode)
+    (n : N) → InHand a t (point f p s v) → Visit a.printer.options t (point f p s v) x →
+    RisesBy (each_probe t.tree t.mode) v.probes x.probes → Hands f i m n (step_from a.printer.options t (standing f p)) p q
+    → InHand a (make_task i m (f n)) (point f q s x)
 goes_down {N} f {a} {t} {s} {v} p q x i m n h one probes shows =
     let b = point f p s v in
     let c = standing f q in
@@ -129,7 +144,8 @@ goes_down {N} f {a} {t} {s} {v} p q x i m n h one probes shows =
     let k = put_in_hand f i m n (step_at o t ts st) p q shows in
     let laid : OneLaid t b.visits x = record { printer = one.least; probes = probes } in
     let more = extra (rejects_payload o t.tree t.mode st) in
-    let fewer : nodes us + 1 + more ≤ size t.tree + nodes ts = leads_most t ts us st u [] more (step_at o t ts st) (step_less_visits o t.tree t.indent t.mode _ st) k.leads k.state in
+    let fewer : nodes us + 1 + more ≤ size t.tree + nodes ts = leads_most t ts us st u [] more (step_at o t ts st)
+    (step_less_visits o t.tree t.indent t.mode _ st) k.leads k.state in
     record {
       options = k.options ∙ h.options;
       within = ap (λ (z : State). z.within) k.state ∙ h.within;
@@ -146,9 +162,12 @@ goes_down {N} f {a} {t} {s} {v} p q x i m n h one probes shows =
           let y = h.at_most plain in
           let z = went_at_most o t ts us st u [] b.visits x one.more y.0 k.leads in
           (z.0, at_most_then y.1 z.1);
-      at_least = λ j l. at_least_then (h.at_least j l) (went_at_least o j t ts us st u [] b.visits x laid (omega (arith, l, h.long)) k.leads);
+      at_least = λ j l. at_least_then (h.at_least j l)
+          (went_at_least o j t ts us st u [] b.visits x laid (omega (arith, l, h.long)) k.leads);
     }
 
 -- a turn is from where it began
-pub from_start : {N E : Type 0} (f : N → Tree) {a : Point} {t : Task} {b c : Point} (r : _) → InHand a t b → Advances {N = N} {E = E} f (point_at a.printer b.sink a.visits) c r → Advances {N = N} {E = E} f a c r
-from_start {N} {E} f {a} {t} {b} {c} r hand h = subst (λ (z : Seen). Advances {N = N} {E = E} f (point_at a.printer z a.visits) c r) hand.sink h
+pub from_start : {N E : Type 0} (f : N → Tree) {a : Point} {t : Task} {b c : Point} (r : _) → InHand a t b
+    → Advances {N = N} {E = E} f (point_at a.printer b.sink a.visits) c r → Advances {N = N} {E = E} f a c r
+from_start {N} {E} f {a} {t} {b} {c} r hand h =
+    subst (λ (z : Seen). Advances {N = N} {E = E} f (point_at a.printer z a.visits) c r) hand.sink h

@@ -1,5 +1,6 @@
 -- A document that is laid as its texts: how its nodes lead on, and how the turn ends.
-use Rattle.std.proofs.Common.{◌≡◌, ◌==◌, ℕ, ℤ, ◌^◌, ◌+◌, ◌≤◌, ◌<◌, ◌&&◌, nat_le, Bool, true, false, List, [], ◌∷◌, ◌++◌, length, refl, ap, sym, ◌∙◌, append-nil, arith, subst, Ok, Err, length-append, reverse}
+use Rattle.std.proofs.Common.{◌≡◌, ◌==◌, ℕ, ℤ, ◌^◌, ◌+◌, ◌≤◌, ◌<◌, ◌&&◌, nat_le, Bool, true, false, List, [], ◌∷◌, ◌++◌, length, refl, ap}
+use Rattle.std.proofs.Common.{sym, ◌∙◌, append-nil, arith, subst, Ok, Err, length-append, reverse}
 use Rattle.std.proofs.lemmas.List.{reverse-append}
 use Rattle.prettyless_sink.specs.Sink.{Accepts, IfKnown, Refuses, known, rise}
 use Rattle.prettyless_sink.specs.declared.error.RenderError.TheVariants.{Sink, Memory}
@@ -19,14 +20,14 @@ use Rattle.prettyless_step.specs.Printing.{Hands}
 use Rattle.prettyless_step.specs.declared.printer.Printer.{Printer}
 use Rattle.prettyless_step.proofs.Shown.{step_at, Leads}
 use Rattle.prettyless_step.proofs.Queues.{trees-append}
-use Rattle.prettyless_printer.specs.Points.{Grows, Standing, standing, state_at, Seen, Point, point_at, point}
+use Rattle.prettyless_printer.specs.Points.{QueueGrows, Standing, standing, state_at, Seen, Point, point_at, point}
 use Rattle.prettyless_printer.specs.Progress.{Inside}
 use Rattle.prettyless_printer.specs.Turns.{Advances, ForWholes}
 use Rattle.prettyless_printer.specs.Visits.{CountsAtMost, Plain, Rise}
 use Rattle.prettyless_printer.specs.AtLeast.{CountsAtLeast, stack_tally, tally_above}
 use Rattle.prettyless_printer.specs.Laying.{Laying, Lays, flat_tasks, laid_to, left_trees}
 use Rattle.prettyless_printer.specs.Spending.{Left, Rule, Spends, left}
-use Rattle.prettyless_printer.specs.declared.answer.Turn.TheVariants as turn
+use Rattle.prettyless_printer.specs.declared.answer.TurnResult.TheVariants as turn_result
 use Rattle.prettyless_printer.proofs.Spending.{left_with, spends_then}
 use Rattle.prettyless_printer.proofs.Hands.{InHand, Visit, goes_down}
 use Rattle.prettyless_printer.proofs.Standings.{put_in_hand, step_from}
@@ -57,8 +58,9 @@ once_rise {t} {v} {x} h = record { printer = h.rises; probes = omega (arith, h.p
 pub record LeadsOn (a : Point) (t : Task) (us : List Task) (b : Point) (vs : List Task) (q : Standing) (bytes : List ℕ) : Type 0 where
   pub tasks : q.tasks ≡ b.printer.tasks
   pub options : q.options ≡ b.printer.options
-  pub grows : Grows b.printer q
-  pub leads : Leads (step_at a.printer.options t (us ++ b.printer.tasks) (state_at b.printer)) (us ++ b.printer.tasks) bytes (vs ++ b.printer.tasks) (state_at q)
+  pub grows : QueueGrows b.printer q
+  pub leads : Leads (step_at a.printer.options t (us ++ b.printer.tasks) (state_at b.printer)) (us ++ b.printer.tasks) bytes
+      (vs ++ b.printer.tasks) (state_at q)
   pub fewer : nodes vs + 1 ≤ size t.tree + nodes us
 
 -- below the tasks in hand are no fewer than below the next task where the turn began
@@ -66,7 +68,8 @@ below_long : (us ts : List Task) (n m : ℕ) → n < m → m ≤ length ts + 1 �
 below_long us ts n m l h = omega (arith, l, h, length-append us ts)
 
 -- the first of the tasks above the stack is laid
-pub laying_step : {a : Point} {t : Task} {us : List Task} {b : Point} (vs : List Task) (q : Standing) (s : Seen) (x : Visits) (bytes : List ℕ) → Laying a (t ∷ us) b → Once t b.visits x →
+pub laying_step : {a : Point} {t : Task} {us : List Task} {b : Point} (vs : List Task) (q : Standing) (s : Seen) (x : Visits)
+    (bytes : List ℕ) → Laying a (t ∷ us) b → Once t b.visits x →
     LeadsOn a t us b vs q bytes → s.lender ≡ b.sink.lender → Accepts b.sink.bytes s.bytes bytes b.sink.failures s.failures →
     Laying a vs (point_at q s x)
 laying_step {a} {t} {us} {b} vs q s x bytes h once w lender accepts =
@@ -90,7 +93,9 @@ laying_step {a} {t} {us} {b} vs q s x bytes h once w lender accepts =
             (
               λ whole limit below before l m.
                   subst (λ (k : List ℕ). Inside o whole limit below before new u k) (sym z.1.0)
-                  (went o whole limit below before t ts new st u (known b.sink.bytes) bytes (below_long us b.printer.tasks (length below) (length a.printer.tasks) l h.long) (y.1.0 whole limit below before l m) w.leads),
+                  (went o whole limit below before t ts new st u (known b.sink.bytes) bytes
+                  (below_long us b.printer.tasks (length below) (length a.printer.tasks) l h.long)
+                  (y.1.0 whole limit below before l m) w.leads),
               z.1.1 ∙ y.1.1,
             ),
           );
@@ -102,12 +107,13 @@ laying_step {a} {t} {us} {b} vs q s x bytes h once w lender accepts =
           let z = went_at_most o t ts new st u bytes b.visits x more y.0 w.leads in
           (z.0, at_most_then y.1 z.1);
       at_least = λ j l. at_least_then (h.at_least j l)
-          (went_at_least o j t ts new st u bytes b.visits x (once_laid t b.visits x once) (below_long us b.printer.tasks j (length a.printer.tasks) l h.long) w.leads);
+          (went_at_least o j t ts new st u bytes b.visits x (once_laid t b.visits x once)
+          (below_long us b.printer.tasks j (length a.printer.tasks) l h.long) w.leads);
     } in
     subst (λ (k : List Task). Laying a vs (point_at (record q { tasks = k }) s x)) (sym w.tasks) goal
 
 -- all of it is laid
-pub laying_done : {N E : Type 0} (f : N → Tree) {a b : Point} → Laying a [] b → Advances {N = N} {E = E} f a b (Ok turn.Went)
+pub laying_done : {N E : Type 0} (f : N → Tree) {a b : Point} → Laying a [] b → Advances {N = N} {E = E} f a b (Ok turn_result.Complete)
 laying_done {N} {E} f {a} {b} h = record {
   options = h.options;
   grows = h.grows;
@@ -121,7 +127,8 @@ laying_done {N} {E} f {a} {b} h = record {
       let y = h.at_most plain in
       (record { none = y.0.0; pending = y.0.1 }, y.1);
   at_least = λ n l.
-      subst (λ (o : RenderOptions). CountsAtLeast (stack_tally a.printer n) (tally_above o n b.printer.tasks (state_at b.printer)) a.visits b.visits) (sym h.options) (h.at_least n l);
+      subst (λ (o : RenderOptions). CountsAtLeast (stack_tally a.printer n) (tally_above o n b.printer.tasks (state_at b.printer)) a.visits
+      b.visits) (sym h.options) (h.at_least n l);
 }
 
 -- what broke off at a task has counted no more than the tasks allow
@@ -130,11 +137,13 @@ laying_broke : {a : Point} {t : Task} {us : List Task} {b : Point} {x : Visits} 
 laying_broke {a} {t} {us} {b} {x} h once plain =
     let ts : List Task = us ++ b.printer.tasks in
     let st = state_at b.printer in
-    at_most_all (at_most_then (h.at_most plain).1 (failed_at_most a.printer.options t ts st b.visits x (once_more a.printer.options t ts st b.visits x once)))
+    at_most_all (at_most_then (h.at_most plain).1
+    (failed_at_most a.printer.options t ts st b.visits x (once_more a.printer.options t ts st b.visits x once)))
 
 -- the sink failed in the bytes of a text
 pub laying_sink_failed : {N E : Type 0} (f : N →
-    Tree) {a : Point} {t : Task} {us : List Task} {b : Point} (vs : List Task) (p q : Standing) (s : Seen) (x : Visits) (bytes : List ℕ) (e : E) → Laying a (t ∷ us) b →
+    Tree) {a : Point} {t : Task} {us : List Task} {b : Point} (vs : List Task) (p q : Standing) (s : Seen) (x : Visits) (bytes : List ℕ)
+    (e : E) → Laying a (t ∷ us) b →
     Once t b.visits x → LeadsOn a t us b vs q bytes → 1 ≤ size t.tree → s.lender ≡ b.sink.lender →
     Refuses b.sink.bytes s.bytes bytes b.sink.failures s.failures →
     Advances {N = N} {E = E} f a (point_at p s x) (Err (Sink e))
@@ -154,7 +163,9 @@ laying_sink_failed {N} {E} f {a} {t} {us} {b} vs p q s x bytes e h once w size_1
             z.0,
             (
               λ whole limit below old l m.
-                  sink_broke o whole limit below old t ts new st (state_at q) (known b.sink.bytes) bytes (known s.bytes) (below_long us b.printer.tasks (length below) (length a.printer.tasks) l h.long) (y.1.0 whole limit below old l m) w.leads z.1.0,
+                  sink_broke o whole limit below old t ts new st (state_at q) (known b.sink.bytes) bytes (known s.bytes)
+                  (below_long us b.printer.tasks (length below) (length a.printer.tasks) l h.long)
+                  (y.1.0 whole limit below old l m) w.leads z.1.0,
               z.1.1 ∙ ap rise y.1.1,
             ),
           );
@@ -179,7 +190,8 @@ laying_refused {N} {E} f {a} {t} {us} {b} p x e h once size_1 = record {
       let y = h.bytes is_known in (
         y.0,
         (
-          λ whole limit below old l m. inside_beginning a.printer.options whole limit below old (t ∷ us ++ b.printer.tasks) (state_at b.printer) (known b.sink.bytes) (y.1.0 whole limit below old l m),
+          λ whole limit below old l m. inside_beginning a.printer.options whole limit below old (t ∷ us ++ b.printer.tasks)
+              (state_at b.printer) (known b.sink.bytes) (y.1.0 whole limit below old l m),
           y.1.1,
         ),
       );
@@ -212,7 +224,8 @@ laying_begins {N} f {a} {t} {s} {v} p q x i n h one probes shows =
       less = omega (arith, h.less, lessens o t ts us (state_at b.printer) (state_at c) [] k.leads);
       bytes = λ is_known.
           subst (λ (z : Seen). IfKnown a.sink.bytes z.bytes (λ out new.
-          ForWholes a.printer out (λ whole limit below old. Inside o whole limit below old us (state_at c) new) × (z.failures ≡ a.sink.failures)))
+          ForWholes a.printer out (λ whole limit below old. Inside o whole limit below old us (state_at c) new)
+          × (z.failures ≡ a.sink.failures)))
           (sym g.sink) (λ y. (y, (g.inside (known a.sink.bytes), refl))) is_known;
       least = omega (arith, h.rise.printer, one.least);
       rise = g.rise;
@@ -239,10 +252,12 @@ head d ds (i ∷ is) = record { at = i; others = is; is_it = refl }
 -- the steps of the first document: it puts some in its place, each flat, and writes nothing
 laying_leads : {a : Point} {i : ℕ} {d : Tree} {us : List Task} {b : Point} (vs : List Task) (x : Visits) →
     Laying a (make_task i Flat d ∷ us) b → Once (make_task i Flat d) b.visits x →
-    Leads (step_at a.printer.options (make_task i Flat d) (us ++ b.printer.tasks) (state_at b.printer)) (us ++ b.printer.tasks) [] (vs ++ b.printer.tasks) (state_at b.printer) → nodes vs + 1 ≤ size d + nodes us →
+    Leads (step_at a.printer.options (make_task i Flat d) (us ++ b.printer.tasks) (state_at b.printer)) (us ++ b.printer.tasks) []
+    (vs ++ b.printer.tasks) (state_at b.printer) → nodes vs + 1 ≤ size d + nodes us →
     Laying a vs (point_at b.printer b.sink x)
 laying_leads {a} {i} {d} {us} {b} vs x h once leads fewer =
-    laying_step vs b.printer b.sink x [] h once (record { tasks = refl; options = refl; grows = ([], sym (append-nil b.printer.queue)); leads = leads; fewer = fewer }) refl
+    laying_step vs b.printer b.sink x [] h once
+    (record { tasks = refl; options = refl; grows = ([], sym (append-nil b.printer.queue)); leads = leads; fewer = fewer }) refl
     (λ is_known. (is_known, (sym (append-nil (known b.sink.bytes)), refl)))
 
 -- one document after another
@@ -251,7 +266,8 @@ pub lays_append : {a : Point} {b : Point} (l r : Tree) (ds : List Tree) (x : Vis
 lays_append {a} {b} l r ds x h once =
     let k = head (Append l r) ds h.0 in (
       k.at ∷ k.at ∷ k.others,
-      laying_leads (make_task k.at Flat l ∷ make_task k.at Flat r ∷ flat_tasks k.others ds) x (subst (λ (us : List Task). Laying a us b) k.is_it h.1) (once k.at) (refl, refl, refl) (omega arith),
+      laying_leads (make_task k.at Flat l ∷ make_task k.at Flat r ∷ flat_tasks k.others ds) x
+          (subst (λ (us : List Task). Laying a us b) k.is_it h.1) (once k.at) (refl, refl, refl) (omega arith),
     )
 
 -- a document in the place of another one
@@ -260,7 +276,8 @@ pub lays_nest : {a : Point} {b : Point} (k : ℤ) (d : Tree) (ds : List Tree) (x
 lays_nest {a} {b} k d ds x h once =
     let z = head (Nest k d) ds h.0 in (
       nested z.at k ∷ z.others,
-      laying_leads (make_task (nested z.at k) Flat d ∷ flat_tasks z.others ds) x (subst (λ (us : List Task). Laying a us b) z.is_it h.1) (once z.at) (refl, refl, refl) (omega arith),
+      laying_leads (make_task (nested z.at k) Flat d ∷ flat_tasks z.others ds) x (subst (λ (us : List Task). Laying a us b) z.is_it h.1)
+          (once z.at) (refl, refl, refl) (omega arith),
     )
 
 pub lays_group : {a : Point} {b : Point} (d : Tree) (ds : List Tree) (x : Visits) → Lays a (Group d ∷ ds) b → ((i : ℕ) →
@@ -268,7 +285,8 @@ pub lays_group : {a : Point} {b : Point} (d : Tree) (ds : List Tree) (x : Visits
 lays_group {a} {b} d ds x h once =
     let z = head (Group d) ds h.0 in (
       z.at ∷ z.others,
-      laying_leads (make_task z.at Flat d ∷ flat_tasks z.others ds) x (subst (λ (us : List Task). Laying a us b) z.is_it h.1) (once z.at) (refl, refl, refl) (omega arith),
+      laying_leads (make_task z.at Flat d ∷ flat_tasks z.others ds) x (subst (λ (us : List Task). Laying a us b) z.is_it h.1) (once z.at)
+          (refl, refl, refl) (omega arith),
     )
 
 pub lays_either : {a : Point} {b : Point} (c d : Tree) (ds : List Tree) (x : Visits) → Lays a (BreakOrFlat c d ∷ ds) b → ((i : ℕ) →
@@ -276,21 +294,28 @@ pub lays_either : {a : Point} {b : Point} (c d : Tree) (ds : List Tree) (x : Vis
 lays_either {a} {b} c d ds x h once =
     let z = head (BreakOrFlat c d) ds h.0 in (
       z.at ∷ z.others,
-      laying_leads (make_task z.at Flat d ∷ flat_tasks z.others ds) x (subst (λ (us : List Task). Laying a us b) z.is_it h.1) (once z.at) (refl, refl, refl) (omega arith),
+      laying_leads (make_task z.at Flat d ∷ flat_tasks z.others ds) x (subst (λ (us : List Task). Laying a us b) z.is_it h.1) (once z.at)
+          (refl, refl, refl) (omega arith),
     )
 
 -- nothing
 pub lays_nil : {a : Point} {b : Point} (ds : List Tree) (x : Visits) → Lays a (Nil ∷ ds) b → ((i : ℕ) →
     Once (make_task i Flat Nil) b.visits x) → Lays a ds (point_at b.printer b.sink x)
 lays_nil {a} {b} ds x h once =
-    let z = head Nil ds h.0 in
-    (z.others, laying_leads (flat_tasks z.others ds) x (subst (λ (us : List Task). Laying a us b) z.is_it h.1) (once z.at) (refl, refl, refl) (omega arith))
+    let z = head Nil ds h.0 in (
+      z.others,
+      laying_leads (flat_tasks z.others ds) x (subst (λ (us : List Task). Laying a us b) z.is_it h.1) (once z.at)
+          (refl, refl, refl) (omega arith),
+    )
 
 pub lays_empty : {a : Point} {b : Point} (s : List ℕ) (ds : List Tree) (x : Visits) → s ≡ [] → Lays a (Text s ∷ ds) b → ((i : ℕ) →
     Once (make_task i Flat (Text s)) b.visits x) → Lays a ds (point_at b.printer b.sink x)
 lays_empty {a} {b} [] ds x e h once =
-    let z = head (Text []) ds h.0 in
-    (z.others, laying_leads (flat_tasks z.others ds) x (subst (λ (us : List Task). Laying a us b) z.is_it h.1) (once z.at) (refl, refl, refl) (omega arith))
+    let z = head (Text []) ds h.0 in (
+      z.others,
+      laying_leads (flat_tasks z.others ds) x (subst (λ (us : List Task). Laying a us b) z.is_it h.1) (once z.at)
+          (refl, refl, refl) (omega arith),
+    )
 lays_empty {a} {b} (c ∷ cs) ds x e h once = absurd (cc)
 
 -- How a text is laid where a printer stands: after so many spaces, from a position on.
@@ -304,7 +329,8 @@ within_less true n m width l = grind (arith)
 
 text_leads : (o : RenderOptions) (p : Standing) (w : Bool) (g position : ℕ) (s : List ℕ) (i : ℕ) (ts : List Task) → o ≡ p.options →
     0 < length s → Spot p w g position →
-    Leads (step_at o (make_task i Flat (Text s)) ts (state_at (laid_to p w position))) ts (spaces g ++ s) ts (state_at (laid_to p true (saturating_add position (length s))))
+    Leads (step_at o (make_task i Flat (Text s)) ts (state_at (laid_to p w position))) ts (spaces g ++ s) ts
+    (state_at (laid_to p true (saturating_add position (length s))))
 text_leads o p w g position [] i ts e l h = absurd (omega (arith, l))
 text_leads o p false g position (c ∷ cs) i ts e l h =
     let s : List ℕ = c ∷ cs in (
@@ -322,9 +348,12 @@ text_leads o p true g position (c ∷ cs) i ts e l h =
     let after = saturating_add position (length s) in
     let less : position ≤ after = omega (arith, h.1) in
     let first = p.within && nat_le position p.options.width in
-    let stays : (p.within && nat_le after p.options.width) ≡ (first && nat_le after p.options.width) = within_less p.within position after p.options.width less in
+    let stays : (p.within && nat_le after p.options.width) ≡ (first && nat_le after p.options.width) =
+    within_less p.within position after p.options.width less in
     let moved = ap (λ (k : ℕ). first && nat_le (saturating_add k (length s)) p.options.width) at in
-    let opted = ap (λ (z : RenderOptions). first && nat_le (saturating_add (prospective (record { position = position; indent = 0; padding = 0; fresh = false })) (length s)) z.width) (sym e) in
+    let opted = ap (λ (z : RenderOptions). first && nat_le
+    (saturating_add (prospective (record { position = position; indent = 0; padding = 0; fresh = false })) (length s))
+    z.width) (sym e) in
     let within_is = stays ∙ moved ∙ opted in (
       ap (λ (k : ℕ). spaces k ++ s) h.0,
       refl,
@@ -336,7 +365,8 @@ text_leads o p true g position (c ∷ cs) i ts e l h =
     )
 
 -- A text that is not empty is about to be laid, where texts were laid up to a position.
-pub record AtText (a : Point) (p : Standing) (w : Bool) (g position : ℕ) (s : List ℕ) (ds : List Tree) (sink : Seen) (v x : Visits) : Type 0 where
+pub record AtText (a : Point) (p : Standing) (w : Bool) (g position : ℕ) (s : List ℕ) (ds : List Tree) (sink : Seen)
+    (v x : Visits) : Type 0 where
   pub lays : Lays a (Text s ∷ ds) (point_at (laid_to p w position) sink v)
   pub once : (i : ℕ) → Once (make_task i Flat (Text s)) v x
   pub some : 0 < length s
@@ -351,13 +381,14 @@ stands_tasks : (p : Standing) (w : Bool) (position : ℕ) → (laid_to p w posit
 stands_tasks p false position = refl
 stands_tasks p true position = refl
 
-stands_grows : (p : Standing) (w : Bool) (m n : ℕ) → Grows (laid_to p w m) (laid_to p true n)
+stands_grows : (p : Standing) (w : Bool) (m n : ℕ) → QueueGrows (laid_to p w m) (laid_to p true n)
 stands_grows p false m n = ([], sym (append-nil p.queue))
 stands_grows p true m n = ([], sym (append-nil p.queue))
 
 text_writes : (a : Point) (p : Standing) (w : Bool) (g position : ℕ) (s : List ℕ) (i : ℕ) (us : List Task) (sink : Seen) (v : Visits) →
     p.options ≡ a.printer.options → 0 < length s → Spot p w g position →
-    LeadsOn a (make_task i Flat (Text s)) us (point_at (laid_to p w position) sink v) us (laid_to p true (saturating_add position (length s))) (spaces g ++ s)
+    LeadsOn a (make_task i Flat (Text s)) us (point_at (laid_to p w position) sink v) us
+    (laid_to p true (saturating_add position (length s))) (spaces g ++ s)
 text_writes a p w g position s i us sink v e l h = record {
   tasks = sym (stands_tasks p w position);
   options = sym (stands_options p w position);
@@ -367,7 +398,8 @@ text_writes a p w g position s i us sink v e l h = record {
 }
 
 -- it is written
-pub lays_text : {a : Point} {p : Standing} {w : Bool} {g position : ℕ} {s : List ℕ} {ds : List Tree} {sink : Seen} {v x : Visits} (t : Seen) → AtText a p w g position s ds sink v x → t.lender ≡ sink.lender →
+pub lays_text : {a : Point} {p : Standing} {w : Bool} {g position : ℕ} {s : List ℕ} {ds : List Tree} {sink : Seen} {v x : Visits} (t : Seen)
+    → AtText a p w g position s ds sink v x → t.lender ≡ sink.lender →
     Accepts sink.bytes t.bytes (spaces g ++ s) sink.failures t.failures →
     Lays a ds (point_at (laid_to p true (saturating_add position (length s))) t x)
 lays_text {a} {p} {w} {g} {position} {s} {ds} {sink} {v} {x} t h lender accepts =
@@ -375,20 +407,23 @@ lays_text {a} {p} {w} {g} {position} {s} {ds} {sink} {v} {x} t h lender accepts 
     let z = head (Text s) ds h.lays.0 in
     let us : List Task = flat_tasks z.others ds in (
       z.others,
-      laying_step us (laid_to p true (saturating_add position (length s))) t x (spaces g ++ s) (subst (λ (k : List Task). Laying a k b) z.is_it h.lays.1) (h.once z.at)
+      laying_step us (laid_to p true (saturating_add position (length s))) t x (spaces g ++ s)
+          (subst (λ (k : List Task). Laying a k b) z.is_it h.lays.1) (h.once z.at)
           (text_writes a p w g position s z.at us sink v h.options h.some h.spot) lender accepts,
     )
 
 -- the sink failed in it
 pub lays_text_failed : {N E : Type 0} (f : N →
-    Tree) {a : Point} {p : Standing} {w : Bool} {g position : ℕ} {s : List ℕ} {ds : List Tree} {sink : Seen} {v x : Visits} (q : Standing) (t : Seen) (e : E) → AtText a p w g position s ds sink v x →
+    Tree) {a : Point} {p : Standing} {w : Bool} {g position : ℕ} {s : List ℕ} {ds : List Tree} {sink : Seen} {v x : Visits} (q : Standing)
+    (t : Seen) (e : E) → AtText a p w g position s ds sink v x →
     t.lender ≡ sink.lender → Refuses sink.bytes t.bytes (spaces g ++ s) sink.failures t.failures →
     Advances {N = N} {E = E} f a (point_at q t x) (Err (Sink e))
 lays_text_failed {N} {E} f {a} {p} {w} {g} {position} {s} {ds} {sink} {v} {x} q t e h lender refused =
     let b = point_at (laid_to p w position) sink v in
     let z = head (Text s) ds h.lays.0 in
     let us : List Task = flat_tasks z.others ds in
-    laying_sink_failed f us q (laid_to p true (saturating_add position (length s))) t x (spaces g ++ s) e (subst (λ (k : List Task). Laying a k b) z.is_it h.lays.1) (h.once z.at)
+    laying_sink_failed f us q (laid_to p true (saturating_add position (length s))) t x (spaces g ++ s) e
+    (subst (λ (k : List Task). Laying a k b) z.is_it h.lays.1) (h.once z.at)
     (text_writes a p w g position s z.at us sink v h.options h.some h.spot) (omega arith) lender refused
 
 -- memory was refused at the first document
@@ -400,7 +435,7 @@ lays_refused {N} {E} f {a} {b} d ds p x e h once size_1 =
     laying_refused f p x e (subst (λ (k : List Task). Laying a k b) z.is_it h.1) (once z.at) size_1
 
 -- no document is left
-pub lays_done : {N E : Type 0} (f : N → Tree) {a b : Point} → Lays a [] b → Advances {N = N} {E = E} f a b (Ok turn.Went)
+pub lays_done : {N E : Type 0} (f : N → Tree) {a b : Point} → Lays a [] b → Advances {N = N} {E = E} f a b (Ok turn_result.Complete)
 lays_done {N} {E} f {a} {b} h = laying_done f (subst (λ (k : List Task). Laying a k b) (none_left h.0) h.1)
 
 -- each document is its texts
@@ -421,7 +456,8 @@ pub record OneNode (count n : ℕ) : Type 0 where
 
 -- Where the laying of a first document has come, with documents that are left.
 pub record Laid (first : Tree) (b : Point) (ds : List Tree) (w : Bool) (g position : ℕ) (sink : Seen) (count : ℕ) : Type 0 where
-  pub lays : (a : Point) (i : ℕ) → Laying a (make_task i Flat first ∷ []) b → Lays a ds (point_at (laid_to b.printer w position) sink (record b.visits { printer = count }))
+  pub lays : (a : Point) (i : ℕ) → Laying a (make_task i Flat first ∷ []) b
+      → Lays a ds (point_at (laid_to b.printer w position) sink (record b.visits { printer = count }))
   pub texts : AllTexts ds
   pub spot : Spot b.printer w g position
   pub rises : b.visits.printer ≤ count
@@ -438,7 +474,8 @@ pub left_at : {first : Tree} {b : Point} {ds : List Tree} {w w' : Bool} {g g' po
 left_at {first} {b} {ds} {w} {w'} {g} {g'} {position} {position'} {sink} {sink'} {count} e h k m laid =
     subst (λ (z : Bool). Laid first b ds z g position sink count) (sym e)
     (subst (λ (z : ℕ). Laid first b ds w' z position sink count) (sym h)
-    (subst (λ (z : ℕ). Laid first b ds w' g' z sink count) (sym k) (subst (λ (z : Seen). Laid first b ds w' g' position' z count) (sym m) laid)))
+    (subst (λ (z : ℕ). Laid first b ds w' g' z sink count) (sym k)
+    (subst (λ (z : Seen). Laid first b ds w' g' position' z count) (sym m) laid)))
 
 -- it begins
 pub left_begins : {first : Tree} {b : Point} {ds : List Tree} {g position : ℕ} → ds ≡ [] → g ≡ gap b.printer.column →
@@ -454,10 +491,12 @@ left_begins {first} {b} {ds} {g} {position} none e h texts =
       counted = omega arith;
     })
 
-pub left_append : {first : Tree} {b : Point} {d : Tree} {ds : List Tree} {w : Bool} {g position : ℕ} {sink : Seen} {count n : ℕ} (l r : Tree) → Append l r ≡ d → OneNode count n →
+pub left_append : {first : Tree} {b : Point} {d : Tree} {ds : List Tree} {w : Bool} {g position : ℕ} {sink : Seen} {count n : ℕ}
+    (l r : Tree) → Append l r ≡ d → OneNode count n →
     Laid first b (d ∷ ds) w g position sink count → Laid first b (l ∷ r ∷ ds) w g position sink n
 left_append {first} {b} {d} {ds} {w} {g} {position} {sink} {count} {n} l r e one h =
-    let k : Laid first b (Append l r ∷ ds) w g position sink count = subst (λ (z : Tree). Laid first b (z ∷ ds) w g position sink count) (sym e) h in
+    let k : Laid first b (Append l r ∷ ds) w g position sink count =
+    subst (λ (z : Tree). Laid first b (z ∷ ds) w g position sink count) (sym e) h in
     record {
       lays = λ a i m. lays_append l r ds (record b.visits { printer = n }) (k.lays a i m) (once_at (Append l r) b.visits one refl);
       texts = (k.texts.0.0, (k.texts.0.1, k.texts.1));
@@ -466,10 +505,12 @@ left_append {first} {b} {d} {ds} {w} {g} {position} {sink} {count} {n} l r e one
       counted = omega (arith, k.counted, one.at_most);
     }
 
-pub left_nest : {first : Tree} {b : Point} {d : Tree} {ds : List Tree} {w : Bool} {g position : ℕ} {sink : Seen} {count n : ℕ} (j : ℤ) (c : Tree) → Nest j c ≡ d → OneNode count n →
+pub left_nest : {first : Tree} {b : Point} {d : Tree} {ds : List Tree} {w : Bool} {g position : ℕ} {sink : Seen} {count n : ℕ} (j : ℤ)
+    (c : Tree) → Nest j c ≡ d → OneNode count n →
     Laid first b (d ∷ ds) w g position sink count → Laid first b (c ∷ ds) w g position sink n
 left_nest {first} {b} {d} {ds} {w} {g} {position} {sink} {count} {n} j c e one h =
-    let k : Laid first b (Nest j c ∷ ds) w g position sink count = subst (λ (z : Tree). Laid first b (z ∷ ds) w g position sink count) (sym e) h in
+    let k : Laid first b (Nest j c ∷ ds) w g position sink count =
+    subst (λ (z : Tree). Laid first b (z ∷ ds) w g position sink count) (sym e) h in
     record {
       lays = λ a i m. lays_nest j c ds (record b.visits { printer = n }) (k.lays a i m) (once_at (Nest j c) b.visits one refl);
       texts = (k.texts.0, k.texts.1);
@@ -478,10 +519,12 @@ left_nest {first} {b} {d} {ds} {w} {g} {position} {sink} {count} {n} j c e one h
       counted = omega (arith, k.counted, one.at_most);
     }
 
-pub left_group : {first : Tree} {b : Point} {d : Tree} {ds : List Tree} {w : Bool} {g position : ℕ} {sink : Seen} {count n : ℕ} (c : Tree) → Group c ≡ d → OneNode count n →
+pub left_group : {first : Tree} {b : Point} {d : Tree} {ds : List Tree} {w : Bool} {g position : ℕ} {sink : Seen} {count n : ℕ} (c : Tree)
+    → Group c ≡ d → OneNode count n →
     Laid first b (d ∷ ds) w g position sink count → Laid first b (c ∷ ds) w g position sink n
 left_group {first} {b} {d} {ds} {w} {g} {position} {sink} {count} {n} c e one h =
-    let k : Laid first b (Group c ∷ ds) w g position sink count = subst (λ (z : Tree). Laid first b (z ∷ ds) w g position sink count) (sym e) h in
+    let k : Laid first b (Group c ∷ ds) w g position sink count =
+    subst (λ (z : Tree). Laid first b (z ∷ ds) w g position sink count) (sym e) h in
     record {
       lays = λ a i m. lays_group c ds (record b.visits { printer = n }) (k.lays a i m) (once_at (Group c) b.visits one refl);
       texts = (k.texts.0, k.texts.1);
@@ -490,10 +533,12 @@ left_group {first} {b} {d} {ds} {w} {g} {position} {sink} {count} {n} c e one h 
       counted = omega (arith, k.counted, one.at_most);
     }
 
-pub left_either : {first : Tree} {b : Point} {d : Tree} {ds : List Tree} {w : Bool} {g position : ℕ} {sink : Seen} {count n : ℕ} (x c : Tree) → BreakOrFlat x c ≡ d → OneNode count n →
+pub left_either : {first : Tree} {b : Point} {d : Tree} {ds : List Tree} {w : Bool} {g position : ℕ} {sink : Seen} {count n : ℕ}
+    (x c : Tree) → BreakOrFlat x c ≡ d → OneNode count n →
     Laid first b (d ∷ ds) w g position sink count → Laid first b (c ∷ ds) w g position sink n
 left_either {first} {b} {d} {ds} {w} {g} {position} {sink} {count} {n} x c e one h =
-    let k : Laid first b (BreakOrFlat x c ∷ ds) w g position sink count = subst (λ (z : Tree). Laid first b (z ∷ ds) w g position sink count) (sym e) h in
+    let k : Laid first b (BreakOrFlat x c ∷ ds) w g position sink count =
+    subst (λ (z : Tree). Laid first b (z ∷ ds) w g position sink count) (sym e) h in
     record {
       lays = λ a i m. lays_either x c ds (record b.visits { printer = n }) (k.lays a i m) (once_at (BreakOrFlat x c) b.visits one refl);
       texts = (k.texts.0, k.texts.1);
@@ -506,7 +551,8 @@ pub left_nil : {first : Tree} {b : Point} {d : Tree} {ds : List Tree} {w : Bool}
     Nil ≡ d → OneNode count n →
     Laid first b (d ∷ ds) w g position sink count → Laid first b ds w g position sink n
 left_nil {first} {b} {d} {ds} {w} {g} {position} {sink} {count} {n} e one h =
-    let k : Laid first b (Nil ∷ ds) w g position sink count = subst (λ (z : Tree). Laid first b (z ∷ ds) w g position sink count) (sym e) h in
+    let k : Laid first b (Nil ∷ ds) w g position sink count =
+    subst (λ (z : Tree). Laid first b (z ∷ ds) w g position sink count) (sym e) h in
     record {
       lays = λ a i m. lays_nil ds (record b.visits { printer = n }) (k.lays a i m) (once_at Nil b.visits one refl);
       texts = k.texts.1;
@@ -515,10 +561,12 @@ left_nil {first} {b} {d} {ds} {w} {g} {position} {sink} {count} {n} e one h =
       counted = omega (arith, k.counted, one.at_most);
     }
 
-pub left_empty : {first : Tree} {b : Point} {d : Tree} {ds : List Tree} {w : Bool} {g position : ℕ} {sink : Seen} {count n : ℕ} (s : List ℕ) → s ≡ [] → Text s ≡ d → OneNode count n →
+pub left_empty : {first : Tree} {b : Point} {d : Tree} {ds : List Tree} {w : Bool} {g position : ℕ} {sink : Seen} {count n : ℕ} (s : List ℕ)
+    → s ≡ [] → Text s ≡ d → OneNode count n →
     Laid first b (d ∷ ds) w g position sink count → Laid first b ds w g position sink n
 left_empty {first} {b} {d} {ds} {w} {g} {position} {sink} {count} {n} s empty e one h =
-    let k : Laid first b (Text s ∷ ds) w g position sink count = subst (λ (z : Tree). Laid first b (z ∷ ds) w g position sink count) (sym e) h in
+    let k : Laid first b (Text s ∷ ds) w g position sink count =
+    subst (λ (z : Tree). Laid first b (z ∷ ds) w g position sink count) (sym e) h in
     record {
       lays = λ a i m. lays_empty s ds (record b.visits { printer = n }) empty (k.lays a i m) (once_at (Text s) b.visits one refl);
       texts = k.texts.1;
@@ -540,12 +588,14 @@ at_text {first} {b} {ds} {w} {g} {position} {sink} {count} {n} s some one h a i 
   options = m.options;
 }
 
-pub left_text : {first : Tree} {b : Point} {d : Tree} {ds : List Tree} {w : Bool} {g position : ℕ} {sink : Seen} {count n : ℕ} (s : List ℕ) (t : Seen) → 0 < length s → Text s ≡ d → OneNode count n →
+pub left_text : {first : Tree} {b : Point} {d : Tree} {ds : List Tree} {w : Bool} {g position : ℕ} {sink : Seen} {count n : ℕ} (s : List ℕ)
+    (t : Seen) → 0 < length s → Text s ≡ d → OneNode count n →
     Laid first b (d ∷ ds) w g position sink count → t.lender ≡ sink.lender →
     Accepts sink.bytes t.bytes (spaces g ++ s) sink.failures t.failures →
     Laid first b ds true 0 (saturating_add position (length s)) t n
 left_text {first} {b} {d} {ds} {w} {g} {position} {sink} {count} {n} s t some e one h lender accepts =
-    let k : Laid first b (Text s ∷ ds) w g position sink count = subst (λ (z : Tree). Laid first b (z ∷ ds) w g position sink count) (sym e) h in
+    let k : Laid first b (Text s ∷ ds) w g position sink count =
+    subst (λ (z : Tree). Laid first b (z ∷ ds) w g position sink count) (sym e) h in
     record {
       lays = λ a i m. lays_text t (at_text s some one k a i m) lender accepts;
       texts = k.texts.1;
@@ -556,32 +606,42 @@ left_text {first} {b} {d} {ds} {w} {g} {position} {sink} {count} {n} s t some e 
 
 -- the sink fails in it
 pub left_text_failed : {N E : Type 0} (f : N →
-    Tree) {first : Tree} {b : Point} {d : Tree} {ds : List Tree} {w : Bool} {g position : ℕ} {sink : Seen} {count n : ℕ} (s : List ℕ) (q : Standing) (t : Seen) (x : Visits) (e : E) → 0 < length s →
+    Tree) {first : Tree} {b : Point} {d : Tree} {ds : List Tree} {w : Bool} {g position : ℕ} {sink : Seen} {count n : ℕ} (s : List ℕ)
+    (q : Standing) (t : Seen) (x : Visits) (e : E) → 0 < length s →
     Text s ≡ d → OneNode count n → Laid first b (d ∷ ds) w g position sink count → t.lender ≡ sink.lender →
     Refuses sink.bytes t.bytes (spaces g ++ s) sink.failures t.failures → x ≡ record b.visits { printer = n } →
     (a : Point) (i : ℕ) → Laying a (make_task i Flat first ∷ []) b → Advances {N = N} {E = E} f a (point_at q t x) (Err (Sink e))
 left_text_failed {N} {E} f {first} {b} {d} {ds} {w} {g} {position} {sink} {count} {n} s q t x e some is one h lender refused same a i m =
-    let k : Laid first b (Text s ∷ ds) w g position sink count = subst (λ (z : Tree). Laid first b (z ∷ ds) w g position sink count) (sym is) h in
-    subst (λ (z : Visits). Advances {N = N} {E = E} f a (point_at q t z) (Err (Sink e))) (sym same) (lays_text_failed f q t e (at_text s some one k a i m) lender refused)
+    let k : Laid first b (Text s ∷ ds) w g position sink count =
+    subst (λ (z : Tree). Laid first b (z ∷ ds) w g position sink count) (sym is) h in
+    subst (λ (z : Visits). Advances {N = N} {E = E} f a (point_at q t z) (Err (Sink e))) (sym same)
+    (lays_text_failed f q t e (at_text s some one k a i m) lender refused)
 
 -- memory is refused
 pub left_refused : {N E : Type 0} (f : N →
-    Tree) {first : Tree} {b : Point} {d : Tree} {ds : List Tree} {w : Bool} {g position : ℕ} {sink : Seen} {count n : ℕ} (l r : Tree) (q : Standing) (x : Visits) (e : _) → Append l r ≡ d →
+    Tree) {first : Tree} {b : Point} {d : Tree} {ds : List Tree} {w : Bool} {g position : ℕ} {sink : Seen} {count n : ℕ} (l r : Tree)
+    (q : Standing) (x : Visits) (e : _) → Append l r ≡ d →
     OneNode count n → Laid first b (d ∷ ds) w g position sink count → x ≡ record b.visits { printer = n } →
     (a : Point) (i : ℕ) → Laying a (make_task i Flat first ∷ []) b → Advances {N = N} {E = E} f a (point_at q sink x) (Err (Memory e))
 left_refused {N} {E} f {first} {b} {d} {ds} {w} {g} {position} {sink} {count} {n} l r q x e is one h same a i m =
-    let k : Laid first b (Append l r ∷ ds) w g position sink count = subst (λ (z : Tree). Laid first b (z ∷ ds) w g position sink count) (sym is) h in
+    let k : Laid first b (Append l r ∷ ds) w g position sink count =
+    subst (λ (z : Tree). Laid first b (z ∷ ds) w g position sink count) (sym is) h in
     subst (λ (z : Visits). Advances {N = N} {E = E} f a (point_at q sink z) (Err (Memory e))) (sym same)
-    (lays_refused f (Append l r) ds q (record b.visits { printer = n }) e (k.lays a i m) (once_at (Append l r) b.visits one refl) (omega arith))
+    (lays_refused f (Append l r) ds q (record b.visits { printer = n }) e (k.lays a i m)
+    (once_at (Append l r) b.visits one refl) (omega arith))
 
 -- nothing is left
-pub left_done : {N E : Type 0} (f : N → Tree) {first : Tree} {b : Point} {ds : List Tree} {w : Bool} {g position : ℕ} {sink : Seen} {count : ℕ} (q : Standing) (x : Visits) → ds ≡ [] → q ≡ laid_to b.printer w position →
+pub left_done : {N E : Type 0} (f : N → Tree) {first : Tree} {b : Point} {ds : List Tree} {w : Bool} {g position : ℕ} {sink : Seen}
+    {count : ℕ} (q : Standing) (x : Visits) → ds ≡ [] → q ≡ laid_to b.printer w position →
     x ≡ record b.visits { printer = count } → Laid first b ds w g position sink count →
-    (a : Point) (i : ℕ) → Laying a (make_task i Flat first ∷ []) b → Advances {N = N} {E = E} f a (point_at q sink x) (Ok turn.Went)
+    (a : Point) (i : ℕ) → Laying a (make_task i Flat first ∷ []) b → Advances {N = N} {E = E} f a (point_at q sink x)
+    (Ok turn_result.Complete)
 left_done {N} {E} f {first} {b} {ds} {w} {g} {position} {sink} {count} q x none stands same h a i m =
-    subst (λ (z : Visits). Advances {N = N} {E = E} f a (point_at q sink z) (Ok turn.Went)) (sym same)
-    (subst (λ (z : Standing). Advances {N = N} {E = E} f a (point_at z sink (record b.visits { printer = count })) (Ok turn.Went)) (sym stands)
-    (lays_done f (subst (λ (z : List Tree). Lays a z (point_at (laid_to b.printer w position) sink (record b.visits { printer = count }))) none (h.lays a i m))))
+    subst (λ (z : Visits). Advances {N = N} {E = E} f a (point_at q sink z) (Ok turn_result.Complete)) (sym same)
+    (subst (λ (z : Standing). Advances {N = N} {E = E} f a (point_at z sink (record b.visits { printer = count }))
+    (Ok turn_result.Complete)) (sym stands)
+    (lays_done f (subst (λ (z : List Tree). Lays a z (point_at (laid_to b.printer w position) sink (record b.visits { printer = count })))
+    none (h.lays a i m))))
 
 -- the last node comes first
 pub left_trees-push : {N : Type 0} (f : N → Tree) (ns : List N) (n : N) → left_trees f (ns ++ n ∷ []) ≡ f n ∷ left_trees f ns

@@ -51,7 +51,8 @@ open_plain s y b (u ∷ us) h plain =
     (h.on.path.at_most (began_plain t began.start began.branch)).0
 
 -- the same beside the second branches of open trials
-pub spends_beside : {r : Rule} {ts us : List Task} {q q' : List Tree} {v w : Visits} (ds : List Tree) → Spends r (on_tasks ts q v) (on_tasks us q' w) →
+pub spends_beside : {r : Rule} {ts us : List Task} {q q' : List Tree} {v w : Visits} (ds : List Tree)
+    → Spends r (on_tasks ts q v) (on_tasks us q' w) →
     Spends r (record (on_tasks ts q v) { seconds = ds }) (record (on_tasks us q' w) { seconds = ds })
 spends_beside {r} {ts} {us} {q} {q'} {v} {w} ds h = record {
   nodes = omega (arith, h.nodes);
@@ -63,18 +64,21 @@ spends_beside {r} {ts} {us} {q} {q'} {v} {w} ds h = record {
 }
 
 -- the innermost of open trials takes a turn, or comes to its end
-pub open_spends : (has : Bool) (limit : ℕ) (s : Attempt) (y : Tree) {start : Left} (us vs : List Held) (a b : Point) {ts : List Task} {q : List Tree} {w : Visits} → Open s y us a → Open s y vs b → IsPlainTrial s y →
+pub open_spends : (has : Bool) (limit : ℕ) (s : Attempt) (y : Tree) {start : Left} (us vs : List Held) (a b : Point) {ts : List Task}
+    {q : List Tree} {w : Visits} → Open s y us a → Open s y vs b → IsPlainTrial s y →
     Spends (rule_of has a.printer.options limit) start (left b.printer (seconds vs) b.visits) →
     (Plain b.printer → Spends (rule_of has b.printer.options limit) (left b.printer [] b.visits) (on_tasks ts q w)) →
     Spends (rule_of has a.printer.options limit) start (record (on_tasks ts q w) { seconds = seconds vs })
 open_spends has limit s y {start} us vs a b {ts} {q} {w} open_a open_b plain h k =
     let same = open_options s y b vs open_b ∙ sym (open_options s y a us open_a) in
     spends_then h
-    (subst (λ (o : RenderOptions). Spends (rule_of has o limit) (left b.printer (seconds vs) b.visits) (record (on_tasks ts q w) { seconds = seconds vs })) same
+    (subst (λ (o : RenderOptions). Spends (rule_of has o limit) (left b.printer (seconds vs) b.visits)
+    (record (on_tasks ts q w) { seconds = seconds vs })) same
     (spends_beside (seconds vs) (k (open_plain s y b vs open_b plain))))
 
 -- what broke off has nothing left
-pub spends_broke_as : {A E : Type 0} {r : Rule} {a : Left} (b : Left) (result : Result A E) → IsErr result → Spends r a (none_left b.visits) → SpendsAs r a b result
+pub spends_broke_as : {A E : Type 0} {r : Rule} {a : Left} (b : Left) (result : Result A E) → IsErr result → Spends r a (none_left b.visits)
+    → SpendsAs r a b result
 spends_broke_as {A} {E} {r} {a} b (Ok x) e h = cc
 spends_broke_as {A} {E} {r} {a} b (Err x) e h = h
 
@@ -92,7 +96,11 @@ spends_leaving r {a} {b} h = record {
   queue = h.queue;
   capped = λ most l m. omega (arith, l, ap (λ (v : Visits). v.probes) h.visits);
   have = h.have;
-  few = λ t width small g. (0, omega (arith, ap (λ (v : Visits). v.probes) h.visits), omega (arith, ap (λ (v : Visits). v.printer) h.visits));
+  few = λ t width small g. (
+    0,
+    omega (arith, ap (λ (v : Visits). v.probes) h.visits),
+    omega (arith, ap (λ (v : Visits). v.printer) h.visits),
+  );
 }
 
 trees_have_push : (ds : List Tree) (d : Tree) → TreesHave ds → HasSums d → TreesHave (ds ++ d ∷ [])
@@ -116,7 +124,8 @@ seconds_push us vs u e = ap seconds e ∙ map-append (λ (x : Held). x.second) v
 sizes_push : (ds : List Tree) (d : Tree) → sum_by size (ds ++ d ∷ []) ≡ sum_by size ds + size d
 sizes_push ds d = omega (arith, sum_by-append size ds (d ∷ []))
 
-kept_leaves : (p q : Standing) (ds : List Tree) (d : Tree) (v : Visits) → q.tasks ≡ p.tasks → q.queue ≡ p.queue → LeavesOnly (left p (ds ++ d ∷ []) v) (left q ds v)
+kept_leaves : (p q : Standing) (ds : List Tree) (d : Tree) (v : Visits) → q.tasks ≡ p.tasks → q.queue ≡ p.queue
+    → LeavesOnly (left p (ds ++ d ∷ []) v) (left q ds v)
 kept_leaves p q ds d v e h = record {
   nodes = omega (arith, ap nodes e, sizes_push ds d);
   queue = λ none. h ∙ none;
@@ -125,12 +134,15 @@ kept_leaves p q ds d v e h = record {
 }
 
 -- the innermost trial is kept
-pub spends_kept : {r : Rule} {a : Left} (p q : Standing) (us vs : List Held) (u : Held) {v : Visits} → us ≡ vs ++ u ∷ [] → q.tasks ≡ p.tasks → q.queue ≡ p.queue →
+pub spends_kept : {r : Rule} {a : Left} (p q : Standing) (us vs : List Held) (u : Held) {v : Visits} → us ≡ vs ++ u ∷ [] → q.tasks ≡ p.tasks
+    → q.queue ≡ p.queue →
     Spends r a (left p (seconds us) v) → Spends r a (left q (seconds vs) v)
 spends_kept {r} {a} p q us vs u {v} popped e h k =
-    spends_then (subst (λ (z : List Tree). Spends r a (left p z v)) (seconds_push us vs u popped) k) (spends_leaving r (kept_leaves p q (seconds vs) u.second v e h))
+    spends_then (subst (λ (z : List Tree). Spends r a (left p z v)) (seconds_push us vs u popped) k)
+    (spends_leaving r (kept_leaves p q (seconds vs) u.second v e h))
 
-back_leaves : (p q : Standing) (ts above : List Task) (i : ℕ) (ds : List Tree) (d : Tree) (v : Visits) → p.tasks ≡ above ++ ts → q.tasks ≡ make_task i Break d ∷ ts → (p.queue ≡ [] → q.queue ≡ []) →
+back_leaves : (p q : Standing) (ts above : List Task) (i : ℕ) (ds : List Tree) (d : Tree) (v : Visits) → p.tasks ≡ above ++ ts
+    → q.tasks ≡ make_task i Break d ∷ ts → (p.queue ≡ [] → q.queue ≡ []) →
     LeavesOnly (left p (ds ++ d ∷ []) v) (left q ds v)
 back_leaves p q ts above i ds d v e h queue = record {
   nodes = omega (arith, ap nodes e, nodes-append above ts, ap nodes h, sizes_push ds d);
@@ -145,17 +157,22 @@ take_none : (n : ℕ) (xs : List Tree) → xs ≡ [] → take n xs ≡ []
 take_none n xs e = ap (take n) e ∙ take-nil n
 
 -- the innermost trial is taken back, and its second branch comes next
-pub spends_back : {r : Rule} {a : Left} {b : Point} (p q : Standing) (us vs : List Held) (u : Held) {v : Visits} → us ≡ vs ++ u ∷ [] → Fell u b → Restores u.mark b.printer p →
-    q.tasks ≡ make_task u.indent Break u.second ∷ p.tasks → q.queue ≡ p.queue → Spends r a (left b.printer (seconds us) v) → Spends r a (left q (seconds vs) v)
+pub spends_back : {r : Rule} {a : Left} {b : Point} (p q : Standing) (us vs : List Held) (u : Held) {v : Visits} → us ≡ vs ++ u ∷ []
+    → Fell u b → Restores u.mark b.printer p →
+    q.tasks ≡ make_task u.indent Break u.second ∷ p.tasks → q.queue ≡ p.queue → Spends r a (left b.printer (seconds us) v)
+    → Spends r a (left q (seconds vs) v)
 spends_back {r} {a} {b} p q us vs u {v} popped fell back e h k =
     let t = fell.trial in
-    let tasks : p.tasks ≡ t.start.printer.tasks = back.0 fell.fallen.above t.start.printer.tasks fell.fallen.stack (sym fell.marked.marks.commands) in
+    let tasks : p.tasks ≡ t.start.printer.tasks = back.0 fell.fallen.above t.start.printer.tasks fell.fallen.stack
+    (sym fell.marked.marks.commands) in
     spends_then (subst (λ (z : List Tree). Spends r a (left b.printer z v)) (seconds_push us vs u popped) k)
     (spends_leaving r
-    (back_leaves b.printer q t.start.printer.tasks fell.fallen.above u.indent (seconds vs) u.second v fell.fallen.stack (e ∙ ap (λ (z : List Task). make_task u.indent Break u.second ∷ z) tasks)
+    (back_leaves b.printer q t.start.printer.tasks fell.fallen.above u.indent (seconds vs) u.second v fell.fallen.stack
+    (e ∙ ap (λ (z : List Task). make_task u.indent Break u.second ∷ z) tasks)
     (λ none. h ∙ back.1 ∙ take_none u.mark.queue.len b.printer.queue none)))
 
-more_leaves : (p q : Standing) (i : ℕ) (x y : Tree) (ds : List Tree) (v : Visits) → q.tasks ≡ make_task i Break x ∷ p.tasks → q.queue ≡ p.queue →
+more_leaves : (p q : Standing) (i : ℕ) (x y : Tree) (ds : List Tree) (v : Visits) → q.tasks ≡ make_task i Break x ∷ p.tasks
+    → q.queue ≡ p.queue →
     LeavesOnly (record (left p ds v) { tasks = make_task i Break x ∷ make_task i Break y ∷ p.tasks }) (left q (ds ++ y ∷ []) v)
 more_leaves p q i x y ds v e h = record {
   nodes = omega (arith, ap nodes e, sizes_push ds y);
@@ -165,8 +182,11 @@ more_leaves p q i x y ds v e h = record {
 }
 
 -- a trial more is open
-pub spends_more : {N : Type 0} {r : Rule} {a : Left} (f : N → Tree) (p q : Standing) {s : _} (us vs : List Held) (i : ℕ) (x : Tree) (y : N) {v : Visits} → Opens f i (f y) p s us vs → q.tasks ≡ make_task i Break x ∷ p.tasks → q.queue ≡ p.queue →
-    Spends r a (record (left p (seconds us) v) { tasks = make_task i Break x ∷ make_task i Break (f y) ∷ p.tasks }) → Spends r a (left q (seconds vs) v)
+pub spends_more : {N : Type 0} {r : Rule} {a : Left} (f : N → Tree) (p q : Standing) {s : _} (us vs : List Held) (i : ℕ) (x : Tree) (y : N)
+    {v : Visits} → Opens f i (f y) p s us vs → q.tasks ≡ make_task i Break x ∷ p.tasks → q.queue ≡ p.queue →
+    Spends r a (record (left p (seconds us) v) { tasks = make_task i Break x ∷ make_task i Break (f y) ∷ p.tasks })
+    → Spends r a (left q (seconds vs) v)
 spends_more {N} {r} {a} f p q {s} us vs i x y {v} opens e h k =
-    subst (λ (z : List Tree). Spends r a (left q z v)) (sym (seconds_push vs us (record { mark = opens.mark; indent = i; second = f y }) opens.more))
+    subst (λ (z : List Tree). Spends r a (left q z v))
+    (sym (seconds_push vs us (record { mark = opens.mark; indent = i; second = f y }) opens.more))
     (spends_then k (spends_leaving r (more_leaves p q i x (f y) (seconds us) v e h)))

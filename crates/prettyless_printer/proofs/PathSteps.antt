@@ -1,5 +1,6 @@
 -- Paths of a run: each step of it leads on, ends it, or breaks it off.
-use Rattle.std.proofs.Common.{◌≡◌, ℕ, ◌≤◌, ◌<◌, List, [], ◌∷◌, ◌++◌, length, refl, ap, sym, ◌∙◌, append-nil, arith, subst, Ok, Err, true, false}
+use Rattle.std.proofs.Common.{◌≡◌, ℕ, ◌≤◌, ◌<◌, List, [], ◌∷◌, ◌++◌, length, refl, ap, sym, ◌∙◌, append-nil, arith, subst, Ok, Err, true}
+use Rattle.std.proofs.Common.{false}
 use Rattle.prettyless_sink.specs.Sink.{AppendsBeginning, IfKnown, known, rise}
 use Rattle.prettyless_sink.specs.declared.error.RenderError.{RenderError}
 use Rattle.prettyless_sink.specs.declared.error.RenderError.TheVariants.{Document, Sink, Memory}
@@ -11,8 +12,8 @@ use Rattle.prettyless_model.specs.Layout.{State, Outcome}
 use Rattle.prettyless_model.proofs.Outcomes.{after-nil}
 use Rattle.prettyless_step.specs.Stack.{Task, make_task, nodes}
 use Rattle.prettyless_step.specs.Steps.{work, owed}
-use Rattle.prettyless_printer.specs.declared.answer.Turn.TheVariants as turn
-use Rattle.prettyless_printer.specs.Points.{Standing, state_at, Grows, Seen, Point, point_at, work_at}
+use Rattle.prettyless_printer.specs.declared.answer.TurnResult.TheVariants as turn_result
+use Rattle.prettyless_printer.specs.Points.{Standing, state_at, QueueGrows, Seen, Point, point_at, work_at}
 use Rattle.prettyless_printer.specs.Progress.{Inside}
 use Rattle.prettyless_printer.specs.Turns.{Advances, ForWholes, Goes, Turned, bytes_before}
 use Rattle.prettyless_printer.specs.Trials.{Tries}
@@ -23,13 +24,15 @@ use Rattle.prettyless_printer.specs.Paths.{Run, Path, Waiting, Broke, run_of}
 use Rattle.prettyless_printer.proofs.Progresses.{inside_beginning, inside_end, waits_beginning}
 use Rattle.prettyless_printer.proofs.Turnings.{beginning_less}
 use Rattle.prettyless_printer.proofs.Trying.{grows-grows, grows_same, choice_kept, choice_other}
-use Rattle.prettyless_printer.proofs.Visits.{rise_same, rise_then, at_most_same, at_most_then, at_most_all, at_most_at, at_most_first, at_most_besides, plain_push}
+use Rattle.prettyless_printer.proofs.Visits.{rise_same, rise_then, at_most_same, at_most_then, at_most_all, at_most_at, at_most_first}
+use Rattle.prettyless_printer.proofs.Visits.{at_most_besides, plain_push}
 use Rattle.prettyless_printer.proofs.AtLeast.{at_least_same, at_least_then, at_least_end, kept_at_least, other_at_least}
 
 -- what a turn says of every whole, at the whole of a run
 pub at_run : (r : Run) (q : Standing) (old out : List ℕ) (goal : RenderOptions → Outcome → ℕ → List Task → List ℕ → Type 0) →
     q.options ≡ r.start.printer.options → length r.below < length q.tasks →
-    Inside r.start.printer.options r.whole r.limit r.below old q.tasks (state_at q) out → ForWholes q out (goal q.options) → goal r.start.printer.options r.whole r.limit r.below old
+    Inside r.start.printer.options r.whole r.limit r.below old q.tasks (state_at q) out → ForWholes q out (goal q.options)
+    → goal r.start.printer.options r.whole r.limit r.below old
 at_run r q old out goal e l y h =
     subst (λ (w : RenderOptions). goal w r.whole r.limit r.below old) e
     (h r.whole r.limit r.below old l
@@ -38,11 +41,12 @@ at_run r q old out goal e l y h =
 -- What leads from one point of a run to another.
 record Carries (a b : Point) : Type 0 where
   options : b.printer.options ≡ a.printer.options
-  grows : Grows a.printer b.printer
+  grows : QueueGrows a.printer b.printer
   same_lender : b.sink.lender ≡ a.sink.lender
   less : work_at b ≤ work_at a
   bytes : IfKnown a.sink.bytes b.sink.bytes (λ out new.
-      ForWholes a.printer out (λ whole limit below old. Inside a.printer.options whole limit below old b.printer.tasks (state_at b.printer) new) × (b.sink.failures ≡ a.sink.failures))
+      ForWholes a.printer out (λ whole limit below old. Inside a.printer.options whole limit below old b.printer.tasks (state_at b.printer)
+      new) × (b.sink.failures ≡ a.sink.failures))
   rise : Rise a.visits b.visits
   at_most : Plain a.printer → Plain b.printer × CountsAtMost a.printer.tasks b.printer.tasks a.visits b.visits
   at_least : (n : ℕ) → n < length a.printer.tasks → CountsAtLeast (stack_tally a.printer n) (stack_tally b.printer n) a.visits b.visits
@@ -55,8 +59,16 @@ carried {r} {a} {b} p l h = record {
   less = omega (arith, h.less, p.less);
   bytes = λ is_known.
       let y = p.bytes is_known in
-      let e = h.bytes y.0 in
-      (e.0, (at_run r a.printer (known r.start.sink.bytes) (known a.sink.bytes) (λ o whole limit below old. Inside o whole limit below old b.printer.tasks (state_at b.printer) (known b.sink.bytes)) p.options l y.1.0 e.1.0, e.1.1 ∙ y.1.1));
+      let e = h.bytes y.0 in (
+        e.0,
+        (
+          at_run r a.printer (known r.start.sink.bytes) (known a.sink.bytes)
+              (λ o whole limit below old. Inside o whole limit below old b.printer.tasks (state_at b.printer)
+              (known b.sink.bytes)) p.options l
+              y.1.0 e.1.0,
+          e.1.1 ∙ y.1.1,
+        ),
+      );
   rise = rise_then p.rise h.rise;
   at_most = λ plain.
       let y = p.at_most plain in
@@ -67,7 +79,7 @@ carried {r} {a} {b} p l h = record {
 
 -- a turn that goes on
 pub goes_on : {N E : Type 0} (f : N → Tree) {r : Run} {a b : Point} → Path r a → length r.below < length a.printer.tasks →
-    Advances {N = N} {E = E} f a b (Ok turn.Went) → Path r b
+    Advances {N = N} {E = E} f a b (Ok turn_result.Complete) → Path r b
 goes_on {N} {E} f {r} {a} {b} p l h =
     carried p l
     (record {
@@ -83,7 +95,7 @@ goes_on {N} {E} f {r} {a} {b} p l h =
 
 -- a turn that stopped
 pub stops : {N E : Type 0} (f : N → Tree) {r : Run} {a b : Point} → Path r a → length r.below < length a.printer.tasks →
-    Advances {N = N} {E = E} f a b (Ok turn.Shift) → Path r b
+    Advances {N = N} {E = E} f a b (Ok turn_result.Shift) → Path r b
 stops {N} {E} f {r} {a} {b} p l h =
     carried p l
     (record {
@@ -98,8 +110,9 @@ stops {N} {E} f {r} {a} {b} p l h =
     })
 
 -- a turn after which two branches are to be chosen from
-pub comes_to_wait : {N E : Type 0} (f : N → Tree) {r : Run} {a b : Point} (i : ℕ) (x y : N) → Path r a → length r.below < length a.printer.tasks →
-    Advances {N = N} {E = E} f a b (Ok (turn.Chosen i x y)) → length r.below ≤ length b.printer.tasks → Waiting r i (f x) (f y) b
+pub comes_to_wait : {N E : Type 0} (f : N → Tree) {r : Run} {a b : Point} (i : ℕ) (x y : N) → Path r a
+    → length r.below < length a.printer.tasks →
+    Advances {N = N} {E = E} f a b (Ok (turn_result.Choice i x y)) → length r.below ≤ length b.printer.tasks → Waiting r i (f x) (f y) b
 comes_to_wait {N} {E} f {r} {a} {b} i x y p l h long = record {
   options = h.options ∙ p.options;
   grows = grows-grows r.start.printer a.printer b.printer p.grows h.grows;
@@ -108,8 +121,14 @@ comes_to_wait {N} {E} f {r} {a} {b} i x y p l h long = record {
   long = long;
   bytes = λ is_known.
       let y' = p.bytes is_known in
-      let e = h.bytes y'.0 in
-      (e.0, (at_run r a.printer (known r.start.sink.bytes) (known a.sink.bytes) (λ o. Goes f o b.printer (known b.sink.bytes) (turn.Chosen i x y)) p.options l y'.1.0 e.1.0, e.1.1 ∙ y'.1.1));
+      let e = h.bytes y'.0 in (
+        e.0,
+        (
+          at_run r a.printer (known r.start.sink.bytes) (known a.sink.bytes)
+              (λ o. Goes f o b.printer (known b.sink.bytes) (turn_result.Choice i x y)) p.options l y'.1.0 e.1.0,
+          e.1.1 ∙ y'.1.1,
+        ),
+      );
   rise = rise_then p.rise h.rise;
   at_most = λ plain.
       let y' = p.at_most plain in
@@ -119,8 +138,10 @@ comes_to_wait {N} {E} f {r} {a} {b} i x y p l h long = record {
 }
 
 -- the bytes of a turn that broke off
-broke_bytes : {N E : Type 0} (f : N → Tree) (r : Run) (a b : Standing) (fails : E → Type 0) (old out new : List ℕ) (n k m : ℕ) (e : RenderError E) → a.options ≡ r.start.printer.options → length r.below < length a.tasks →
-    Inside r.start.printer.options r.whole r.limit r.below old a.tasks (state_at a) out → k ≡ n → Turned f a b out new k m (Err e) → Stopped fails r.whole old new n m e
+broke_bytes : {N E : Type 0} (f : N → Tree) (r : Run) (a b : Standing) (fails : E → Type 0) (old out new : List ℕ) (n k m : ℕ)
+    (e : RenderError E) → a.options ≡ r.start.printer.options → length r.below < length a.tasks →
+    Inside r.start.printer.options r.whole r.limit r.below old a.tasks (state_at a) out → k ≡ n → Turned f a b out new k m (Err e)
+    → Stopped fails r.whole old new n m e
 broke_bytes {N} {E} f r a b fails old out new n k m (Document e) w l y s h = absurd h
 broke_bytes {N} {E} f r a b fails old out new n k m (Sink e) w l y s h =
     (at_run r a old out (λ (z : RenderOptions) whole limit below o. AppendsBeginning o new (bytes_before whole)) w l y h.0, h.1 ∙ ap rise s)
@@ -128,14 +149,18 @@ broke_bytes {N} {E} f r a b fails old out new n k m (Memory e) w l y s h =
     (at_run r a old out (λ (z : RenderOptions) whole limit below o. AppendsBeginning o new (bytes_before whole)) w l y h.0, h.1 ∙ s)
 
 -- a turn that broke off
-pub breaks_off : {N E : Type 0} (f : N → Tree) (fails : E → Type 0) {r : Run} {a b : Point} (e : RenderError E) → Path r a → length r.below < length a.printer.tasks →
+pub breaks_off : {N E : Type 0} (f : N → Tree) (fails : E → Type 0) {r : Run} {a b : Point} (e : RenderError E) → Path r a
+    → length r.below < length a.printer.tasks →
     Advances {N = N} {E = E} f a b (Err e) → Broke fails r e b
 breaks_off {N} {E} f fails {r} {a} {b} e p l h = record {
   same_lender = h.same_lender ∙ p.same_lender;
   bytes = λ is_known.
       let y = p.bytes is_known in
-      let z = h.bytes y.0 in
-      (z.0, broke_bytes f r a.printer b.printer fails (known r.start.sink.bytes) (known a.sink.bytes) (known b.sink.bytes) r.start.sink.failures a.sink.failures b.sink.failures e p.options l y.1.0 y.1.1 z.1);
+      let z = h.bytes y.0 in (
+        z.0,
+        broke_bytes f r a.printer b.printer fails (known r.start.sink.bytes) (known a.sink.bytes) (known b.sink.bytes)
+            r.start.sink.failures a.sink.failures b.sink.failures e p.options l y.1.0 y.1.1 z.1,
+      );
   rise = rise_then p.rise h.rise;
   at_most = λ plain.
       let y = p.at_most plain in
@@ -143,16 +168,26 @@ breaks_off {N} {E} f fails {r} {a} {b} e p l h = record {
 }
 
 -- what a turn at a node that fails says of the whole, where the sink's bytes are known
-pub at_failing : {N E : Type 0} (f : N → Tree) {r : Run} {a b : Point} → Path r a → length r.below < length a.printer.tasks → Advances {N = N} {E = E} f a b (Ok turn.Failed) →
-    IfKnown r.start.sink.bytes b.sink.bytes (λ old out. Goes f r.start.printer.options b.printer out turn.Failed r.whole r.limit r.below old × (b.sink.failures ≡ r.start.sink.failures))
+pub at_failing : {N E : Type 0} (f : N → Tree) {r : Run} {a b : Point} → Path r a → length r.below < length a.printer.tasks
+    → Advances {N = N} {E = E} f a b (Ok turn_result.Failed) →
+    IfKnown r.start.sink.bytes b.sink.bytes (λ old out. Goes f r.start.printer.options b.printer out turn_result.Failed r.whole r.limit
+    r.below old
+    × (b.sink.failures ≡ r.start.sink.failures))
 at_failing {N} {E} f {r} {a} {b} p l h = λ is_known.
     let y = p.bytes is_known in
-    let k = h.bytes y.0 in
-    (k.0, (at_run r a.printer (known r.start.sink.bytes) (known a.sink.bytes) (λ o. Goes f o b.printer (known b.sink.bytes) turn.Failed) p.options l y.1.0 k.1.0, k.1.1 ∙ y.1.1))
+    let k = h.bytes y.0 in (
+      k.0,
+      (
+        at_run r a.printer (known r.start.sink.bytes) (known a.sink.bytes) (λ o. Goes f o b.printer (known b.sink.bytes) turn_result.Failed)
+            p.options l y.1.0 k.1.0,
+        k.1.1 ∙ y.1.1,
+      ),
+    )
 
 -- a turn at a node that fails
-pub fails_there : {N E : Type 0} (f : N → Tree) (fails : E → Type 0) {r : Run} {a b : Point} (e : E) → Path r a → length r.below < length a.printer.tasks →
-    Advances {N = N} {E = E} f a b (Ok turn.Failed) → fails e → Broke fails r (Document e) b
+pub fails_there : {N E : Type 0} (f : N → Tree) (fails : E → Type 0) {r : Run} {a b : Point} (e : E) → Path r a
+    → length r.below < length a.printer.tasks →
+    Advances {N = N} {E = E} f a b (Ok turn_result.Failed) → fails e → Broke fails r (Document e) b
 fails_there {N} {E} f fails {r} {a} {b} e p l h w = record {
   same_lender = h.same_lender ∙ p.same_lender;
   bytes = λ is_known.
@@ -168,7 +203,8 @@ fails_there {N} {E} f fails {r} {a} {b} e p l h w = record {
 -- the first branch is kept, and what the trial wrote is appended
 pub goes_on_kept : {E : Type 0} {r : Run} {b c : Point} {s t : Seen} (i : ℕ) (x y : Tree) → Waiting r i x y b →
     Tries {E = E} i x (point_at b.printer s b.visits) (point_at c.printer t c.visits) (Ok true) → c.sink.lender ≡ b.sink.lender →
-    IfKnown b.sink.bytes c.sink.bytes (λ out new. ((piece : List ℕ) → known t.bytes ≡ known s.bytes ++ piece → new ≡ out ++ piece) × (c.sink.failures ≡ b.sink.failures)) → Path r c
+    IfKnown b.sink.bytes c.sink.bytes (λ out new. ((piece : List ℕ) → known t.bytes ≡ known s.bytes ++ piece → new ≡ out ++ piece)
+    × (c.sink.failures ≡ b.sink.failures)) → Path r c
 goes_on_kept {E} {r} {b} {c} {s} {t} i x y w tries lender wrote =
     let before = known s.bytes in
     let after = known t.bytes in
@@ -182,21 +218,32 @@ goes_on_kept {E} {r} {b} {c} {s} {t} i x y w tries lender wrote =
       bytes = λ is_known.
           let h = w.bytes is_known in
           let z = wrote h.0 in
-          let n = choice_kept b.printer c.printer o r.whole r.limit r.below (known r.start.sink.bytes) (known b.sink.bytes) i x y before after h.1.0 w.options d in
-          (z.0, (subst (Inside o r.whole r.limit r.below (known r.start.sink.bytes) c.printer.tasks (state_at c.printer)) (sym (z.1.0 n.0 n.1)) n.2, z.1.1 ∙ h.1.1));
+          let n = choice_kept b.printer c.printer o r.whole r.limit r.below (known r.start.sink.bytes) (known b.sink.bytes) i x y before
+          after h.1.0 w.options d in (
+            z.0,
+            (
+              subst (Inside o r.whole r.limit r.below (known r.start.sink.bytes) c.printer.tasks (state_at c.printer))
+                  (sym (z.1.0 n.0 n.1)) n.2,
+              z.1.1 ∙ h.1.1,
+            ),
+          );
       rise = rise_then w.rise tries.rise;
       at_most = λ plain.
           let h = w.at_most plain in
           let z = tries.at_most h.0 h.1 in
           (z.0, at_most_then h.3 (at_most_first (make_task i Break x) (make_task i Break y) z.1));
-      at_least = at_least_then w.at_least (kept_at_least b.printer c.printer i x y before after b.visits c.visits (length r.below) d tries.at_least);
+      at_least = at_least_then w.at_least (kept_at_least b.printer c.printer i x y before after b.visits c.visits (length r.below) d
+          tries.at_least);
     }
 
 -- the first branch is not kept, and the second one comes next
 pub goes_on_other : {E : Type 0} {r : Run} {b c : Point} {s t : Seen} (q : Standing) (i : ℕ) (x y : Tree) → Waiting r i x y b →
     Tries {E = E} i x (point_at b.printer s b.visits) (point_at q t c.visits) (Ok false) →
-    c.printer.tasks ≡ make_task i Break y ∷ q.tasks → state_at c.printer ≡ state_at q → c.printer.options ≡ q.options → Grows q c.printer → c.sink.lender ≡ b.sink.lender →
-    IfKnown b.sink.bytes c.sink.bytes (λ out new. (known t.bytes ≡ known s.bytes → new ≡ out) × (c.sink.failures ≡ b.sink.failures)) → Path r c
+    c.printer.tasks ≡ make_task i Break y ∷ q.tasks → state_at c.printer ≡ state_at q → c.printer.options ≡ q.options →
+    QueueGrows q c.printer
+    → c.sink.lender ≡ b.sink.lender →
+    IfKnown b.sink.bytes c.sink.bytes (λ out new. (known t.bytes ≡ known s.bytes → new ≡ out) × (c.sink.failures ≡ b.sink.failures))
+    → Path r c
 goes_on_other {E} {r} {b} {c} {s} {t} q i x y w tries pushed same options grows lender wrote =
     let before = known s.bytes in
     let after = known t.bytes in
@@ -210,8 +257,15 @@ goes_on_other {E} {r} {b} {c} {s} {t} q i x y w tries pushed same options grows 
       bytes = λ is_known.
           let h = w.bytes is_known in
           let z = wrote h.0 in
-          let n = choice_other b.printer q c.printer o r.whole r.limit r.below (known r.start.sink.bytes) (known b.sink.bytes) i x y before after h.1.0 w.options d pushed same in
-          (z.0, (subst (Inside o r.whole r.limit r.below (known r.start.sink.bytes) c.printer.tasks (state_at c.printer)) (sym (z.1.0 n.0)) n.1, z.1.1 ∙ h.1.1));
+          let n = choice_other b.printer q c.printer o r.whole r.limit r.below (known r.start.sink.bytes) (known b.sink.bytes) i x y before
+          after h.1.0 w.options d pushed same in (
+            z.0,
+            (
+              subst (Inside o r.whole r.limit r.below (known r.start.sink.bytes) c.printer.tasks (state_at c.printer)) (sym (z.1.0 n.0))
+                  n.1,
+              z.1.1 ∙ h.1.1,
+            ),
+          );
       rise = rise_then w.rise tries.rise;
       at_most = λ plain.
           let h = w.at_most plain in
@@ -219,13 +273,16 @@ goes_on_other {E} {r} {b} {c} {s} {t} q i x y w tries pushed same options grows 
             plain_push q c.printer (make_task i Break y) pushed (ap (λ (s : State). s.pending) same) h.2 z.0,
             at_most_at c.printer.tasks pushed (at_most_then h.3 (at_most_besides (make_task i Break x) (make_task i Break y) z.1)),
           );
-      at_least = at_least_then w.at_least (other_at_least b.printer q c.printer i x y before after b.visits c.visits (length r.below) w.long d pushed same options tries.rise);
+      at_least = at_least_then w.at_least (other_at_least b.printer q c.printer i x y before after b.visits c.visits (length r.below) w.long
+          d pushed same options tries.rise);
     }
 
 -- a choice that is refused memory, before anything of it is written
-pub choice_refused : {E : Type 0} (fails : E → Type 0) {r : Run} {b c : Point} (i : ℕ) (x y : Tree) (e : _) → Waiting r i x y b → c.sink.lender ≡ b.sink.lender →
+pub choice_refused : {E : Type 0} (fails : E → Type 0) {r : Run} {b c : Point} (i : ℕ) (x y : Tree) (e : _) → Waiting r i x y b
+    → c.sink.lender ≡ b.sink.lender →
     IfKnown b.sink.bytes c.sink.bytes (λ out new. (new ≡ out) × (c.sink.failures ≡ b.sink.failures)) → Rise b.visits c.visits →
-    (Plain b.printer → suffix_depth x ≡ 0 → CountsAtMost (make_task i Break x ∷ b.printer.tasks) [] b.visits c.visits) → Broke {E = E} fails r (Memory e) c
+    (Plain b.printer → suffix_depth x ≡ 0 → CountsAtMost (make_task i Break x ∷ b.printer.tasks) [] b.visits c.visits)
+    → Broke {E = E} fails r (Memory e) c
 choice_refused {E} fails {r} {b} {c} i x y e w lender wrote rise counts = record {
   same_lender = lender ∙ w.same_lender;
   bytes = λ is_known.
@@ -234,7 +291,8 @@ choice_refused {E} fails {r} {b} {c} i x y e w lender wrote rise counts = record
         z.0,
         (
           subst (λ (s : List ℕ). AppendsBeginning (known r.start.sink.bytes) s (bytes_before r.whole)) (sym z.1.0)
-              (waits_beginning r.start.printer.options r.whole r.limit r.below (known r.start.sink.bytes) i x y b.printer.tasks (state_at b.printer) (known b.sink.bytes) h.1.0),
+              (waits_beginning r.start.printer.options r.whole r.limit r.below (known r.start.sink.bytes) i x y b.printer.tasks
+              (state_at b.printer) (known b.sink.bytes) h.1.0),
           z.1.1 ∙ h.1.1,
         ),
       );
@@ -245,9 +303,12 @@ choice_refused {E} fails {r} {b} {c} i x y e w lender wrote rise counts = record
 }
 
 -- the first branch is kept, and the sink fails at what the trial wrote
-pub choice_unwritten : {E D : Type 0} (fails : E → Type 0) {r : Run} {b c : Point} {s t : Seen} (i : ℕ) (x y : Tree) (e : E) → Waiting r i x y b →
+pub choice_unwritten : {E D : Type 0} (fails : E → Type 0) {r : Run} {b c : Point} {s t : Seen} (i : ℕ) (x y : Tree) (e : E)
+    → Waiting r i x y b →
     Tries {E = D} i x (point_at b.printer s b.visits) (point_at c.printer t c.visits) (Ok true) → c.sink.lender ≡ b.sink.lender →
-    IfKnown b.sink.bytes c.sink.bytes (λ out new. ((piece : List ℕ) → known t.bytes ≡ known s.bytes ++ piece → AppendsBeginning out new piece) × (c.sink.failures ≡ rise b.sink.failures)) → Broke fails r (Sink e) c
+    IfKnown b.sink.bytes c.sink.bytes
+    (λ out new. ((piece : List ℕ) → known t.bytes ≡ known s.bytes ++ piece → AppendsBeginning out new piece)
+    × (c.sink.failures ≡ rise b.sink.failures)) → Broke fails r (Sink e) c
 choice_unwritten {E} {D} fails {r} {b} {c} {s} {t} i x y e w tries lender wrote =
     let before = known s.bytes in
     let after = known t.bytes in
@@ -263,7 +324,8 @@ choice_unwritten {E} {D} fails {r} {b} {c} {s} {t} i x y e w tries lender wrote 
             z.0,
             (
               beginning_less old out (known c.sink.bytes) n.0 (bytes_before r.whole) (z.1.0 n.0 n.1)
-                  (inside_beginning o r.whole r.limit r.below old c.printer.tasks (state_at c.printer) (out ++ n.0) n.2) (h.1.0.bytes, h.1.0.out_is),
+                  (inside_beginning o r.whole r.limit r.below old c.printer.tasks (state_at c.printer) (out ++ n.0) n.2)
+                  (h.1.0.bytes, h.1.0.out_is),
               z.1.1 ∙ ap rise h.1.1,
             ),
           );
@@ -305,7 +367,8 @@ no_tasks [] l = refl
 no_tasks (t ∷ ts) l = absurd (omega arith)
 
 -- it ends
-pub run_ends : {A E : Type 0} (fails : E → Type 0) {a b : Point} (x : A) → Path (run_of a) b → length b.printer.tasks ≤ 0 → WorksOff fails a b (Ok x)
+pub run_ends : {A E : Type 0} (fails : E → Type 0) {a b : Point} (x : A) → Path (run_of a) b → length b.printer.tasks ≤ 0
+    → WorksOff fails a b (Ok x)
 run_ends {A} {E} fails {a} {b} x p l = record {
   options = p.options;
   done = no_tasks b.printer.tasks l;
@@ -313,7 +376,8 @@ run_ends {A} {E} fails {a} {b} x p l = record {
   same_lender = p.same_lender;
   bytes = λ is_known.
       let y = p.bytes is_known in
-      let e = inside_end a.printer.options (rest_of a.printer) (work a.printer.tasks (state_at a.printer)) [] (known a.sink.bytes) b.printer.tasks (state_at b.printer) (known b.sink.bytes) y.1.0 l in
+      let e = inside_end a.printer.options (rest_of a.printer) (work a.printer.tasks (state_at a.printer)) [] (known a.sink.bytes)
+      b.printer.tasks (state_at b.printer) (known b.sink.bytes) y.1.0 l in
       (y.0, (e.0, e.2, e.1, y.1.1));
   rise = p.rise;
   at_most = λ plain. p.at_most (plain.none, plain.pending);
@@ -332,7 +396,8 @@ broke_anyhow {E} fails {r} {b} (Sink e) h = record { same_lender = h.same_lender
 broke_anyhow {E} fails {r} {b} (Memory e) h = record { same_lender = h.same_lender; bytes = h.bytes; rise = h.rise; at_most = h.at_most }
 
 -- it broke off
-pub run_broke_off : {A E : Type 0} (fails : E → Type 0) {a b : Point} (e : RenderError E) → Broke fails (run_of a) e b → WorksOff {A = A} {E = E} fails a b (Err e)
+pub run_broke_off : {A E : Type 0} (fails : E → Type 0) {a b : Point} (e : RenderError E) → Broke fails (run_of a) e b
+    → WorksOff {A = A} {E = E} fails a b (Err e)
 run_broke_off {A} {E} fails {a} {b} e h = record {
   options = tt;
   done = tt;

@@ -1,5 +1,6 @@
 -- Progress: what a step makes of the work inside a whole.
-use Rattle.std.proofs.Common.{◌≡◌, ℕ, ◌+◌, ◌*◌, ◌≤◌, List, [], ◌∷◌, ◌++◌, length, refl, ap, sym, ◌∙◌, append_assoc, append-nil, length-append, arith, subst, false}
+use Rattle.std.proofs.Common.{◌≡◌, ℕ, ◌+◌, ◌*◌, ◌≤◌, List, [], ◌∷◌, ◌++◌, length, refl, ap, sym, ◌∙◌, append_assoc, append-nil}
+use Rattle.std.proofs.Common.{length-append, arith, subst, false}
 use Rattle.prettyless_sink.specs.Sink.{AppendsBeginning}
 use Rattle.prettyless_model.specs.declared.options.RenderOptions.{RenderOptions}
 use Rattle.prettyless_model.specs.Tree.{Tree, size}
@@ -18,7 +19,8 @@ use Rattle.prettyless_printer.proofs.Steps.{LeavesLess, step_less}
 use Rattle.prettyless_printer.proofs.Within.{Past, all_past, past-after}
 
 -- what is left of the whole once a step is taken
-taken : (o : RenderOptions) (whole : Outcome) (limit : ℕ) (below : List Task) (old : List ℕ) (t : Task) (ts : List Task) (st : State) (out : List ℕ) →
+taken : (o : RenderOptions) (whole : Outcome) (limit : ℕ) (below : List Task) (old : List ℕ) (t : Task) (ts : List Task) (st : State)
+    (out : List ℕ) →
     length below ≤ length ts → Inside o whole limit below old (t ∷ ts) st out →
     (rest : List Task) × (bytes : List ℕ) × (ts ≡ rest ++ below) × (out ≡ old ++ bytes)
     × (after_bytes bytes (runs o (settle o) (step_of o t.tree t.indent t.mode (follow ts) st) rest (follow below) st) ≡ whole)
@@ -26,27 +28,33 @@ taken : (o : RenderOptions) (whole : Outcome) (limit : ℕ) (below : List Task) 
 taken o whole limit below old t ts st out l p =
     let w = split_top p.above below t ts p.stack_is l in
     let f : follow ts ≡ follow w.0 ++ follow below = ap follow w.2 ∙ follow-append w.0 below in
-    let e : lay_all o (settle o) (t ∷ w.0) (follow below) st ≡ runs o (settle o) (step_of o t.tree t.indent t.mode (follow ts) st) w.0 (follow below) st =
+    let e : lay_all o (settle o) (t ∷ w.0) (follow below) st ≡ runs o (settle o) (step_of o t.tree t.indent t.mode (follow ts) st) w.0
+    (follow below) st =
     step_runs o (settle o) (settle_fixed o) t.tree t.indent t.mode w.0 (follow below) st
     ∙ ap (λ (r : List Entry). runs o (settle o) (step_of o t.tree t.indent t.mode r st) w.0 (follow below) st) (sym f) in (
       w.0,
       p.bytes,
       w.2,
       p.out_is,
-      ap (after_bytes p.bytes) (sym e) ∙ ap (λ (x : List Task). after_bytes p.bytes (lay_all o (settle o) x (follow below) st)) (sym w.1) ∙ p.same,
+      ap (after_bytes p.bytes) (sym e) ∙ ap (λ (x : List Task). after_bytes p.bytes (lay_all o (settle o) x (follow below) st))
+          (sym w.1) ∙ p.same,
       subst (λ (x : List Task). work x st ≤ limit) w.1 p.bound,
     )
 
 -- what holds after a step: the work is inside the whole, or the whole fails after what was written, or a choice waits
-abbrev pub Steps : (o : RenderOptions) (whole : Outcome) (limit : ℕ) (below : List Task) (old : List ℕ) (ts : List Task) (st : State) (out : List ℕ) → Step → Type 0
+abbrev pub Steps : (o : RenderOptions) (whole : Outcome) (limit : ℕ) (below : List Task) (old : List ℕ) (ts : List Task) (st : State)
+    (out : List ℕ) → Step → Type 0
 Steps o whole limit below old ts st out (Move b pushed u) = Inside o whole limit below old (pushed ++ ts) u (out ++ b)
-Steps o whole limit below old ts st out Stuck = (bytes : List ℕ) × (above : List Task) × (out ≡ old ++ bytes) × (whole ≡ Failed bytes) × (ts ≡ above ++ below)
+Steps o whole limit below old ts st out Stuck = (bytes : List ℕ) × (above : List Task) × (out ≡ old ++ bytes) × (whole ≡ Failed bytes)
+    × (ts ≡ above ++ below)
 Steps o whole limit below old ts st out (Choose i x y) = Waits o whole limit below old i x y ts st out
 
-steps : (o : RenderOptions) (whole : Outcome) (limit : ℕ) (below : List Task) (old : List ℕ) (ts : List Task) (st : State) (out : List ℕ) (t : Task) (step : Step) →
+steps : (o : RenderOptions) (whole : Outcome) (limit : ℕ) (below : List Task) (old : List ℕ) (ts : List Task) (st : State) (out : List ℕ)
+    (t : Task) (step : Step) →
     LeavesLess (owed st.pending) (2 * size t.tree + owed st.pending) step →
     (rest : List Task) (bytes : List ℕ) → ts ≡ rest ++ below → out ≡ old ++ bytes →
-    after_bytes bytes (runs o (settle o) step rest (follow below) st) ≡ whole → work (t ∷ rest) st ≤ limit → Steps o whole limit below old ts st out step
+    after_bytes bytes (runs o (settle o) step rest (follow below) st) ≡ whole → work (t ∷ rest) st ≤ limit
+    → Steps o whole limit below old ts st out step
 steps o whole limit below old ts st out t (Move b pushed u) less rest bytes e w h l = record {
   above = pushed ++ rest;
   bytes = bytes ++ b;
@@ -61,26 +69,35 @@ steps o whole limit below old ts st out t (Choose i x y) less rest bytes e w h l
   bytes = bytes;
   stack_is = e;
   out_is = w;
-  same = ap (λ (r : List Entry). after_bytes bytes (and_then (chosen o (settle o) i x y r st) (λ u. lay_all o (settle o) rest (follow below) u))) (ap follow e ∙ follow-append rest below) ∙ h;
+  same = ap (λ (r : List Entry). after_bytes bytes
+      (and_then (chosen o (settle o) i x y r st) (λ u. lay_all o (settle o) rest (follow below) u)))
+      (ap follow e ∙ follow-append rest below) ∙ h;
   bound = omega arith;
 }
 
 -- a step, of the top of the stack
-pub stepping : (o : RenderOptions) (whole : Outcome) (limit : ℕ) (below : List Task) (old : List ℕ) (t : Task) (ts : List Task) (st : State) (out : List ℕ) →
-    length below ≤ length ts → Inside o whole limit below old (t ∷ ts) st out → Steps o whole limit below old ts st out (step_of o t.tree t.indent t.mode (follow ts) st)
+pub stepping : (o : RenderOptions) (whole : Outcome) (limit : ℕ) (below : List Task) (old : List ℕ) (t : Task) (ts : List Task) (st : State)
+    (out : List ℕ) →
+    length below ≤ length ts → Inside o whole limit below old (t ∷ ts) st out → Steps o whole limit below old ts st out
+    (step_of o t.tree t.indent t.mode (follow ts) st)
 stepping o whole limit below old t ts st out l p =
     let w = taken o whole limit below old t ts st out l p in
-    steps o whole limit below old ts st out t (step_of o t.tree t.indent t.mode (follow ts) st) (step_less o t.tree t.indent t.mode (follow ts) st) w.0 w.1 w.2 w.3 w.4 w.5
+    steps o whole limit below old ts st out t (step_of o t.tree t.indent t.mode (follow ts) st)
+    (step_less o t.tree t.indent t.mode (follow ts) st) w.0 w.1 w.2 w.3 w.4 w.5
 
 -- nothing is left above
-ends_at : (o : RenderOptions) (whole : Outcome) (below above : List Task) (bytes : List ℕ) (st : State) → length (above ++ below) ≤ length below → after_bytes bytes (lay_all o (settle o) above (follow below) st) ≡ whole → whole ≡ Done bytes st
+ends_at : (o : RenderOptions) (whole : Outcome) (below above : List Task) (bytes : List ℕ) (st : State)
+    → length (above ++ below) ≤ length below → after_bytes bytes (lay_all o (settle o) above (follow below) st) ≡ whole
+    → whole ≡ Done bytes st
 unfolding lay_all
 ends_at o whole below [] bytes st l h = sym h ∙ ap (λ (b : List ℕ). Done b st) (append-nil bytes)
 ends_at o whole below (a ∷ above) bytes st l h = absurd (omega (arith, length-append above below))
 
 -- the work is done: the whole is what was written
-pub inside_end : (o : RenderOptions) (whole : Outcome) (limit : ℕ) (below : List Task) (old : List ℕ) (stack : List Task) (st : State) (out : List ℕ) →
-    Inside o whole limit below old stack st out → length stack ≤ length below → (bytes : List ℕ) × (out ≡ old ++ bytes) × (whole ≡ Done bytes st) × (owed st.pending ≤ limit)
+pub inside_end : (o : RenderOptions) (whole : Outcome) (limit : ℕ) (below : List Task) (old : List ℕ) (stack : List Task) (st : State)
+    (out : List ℕ) →
+    Inside o whole limit below old stack st out → length stack ≤ length below → (bytes : List ℕ) × (out ≡ old ++ bytes)
+    × (whole ≡ Done bytes st) × (owed st.pending ≤ limit)
 inside_end o whole limit below old stack st out p l =
     let q = p.bound in
     (p.bytes, p.out_is, ends_at o whole below p.above p.bytes st (omega (arith, ap length p.stack_is)) p.same, omega arith)
@@ -90,14 +107,16 @@ bytes_before-after b (Done c st) = refl
 bytes_before-after b (Failed c) = refl
 
 -- what is written of a whole is a beginning of it
-pub inside_beginning : (o : RenderOptions) (whole : Outcome) (limit : ℕ) (below : List Task) (old : List ℕ) (stack : List Task) (st : State) (out : List ℕ) →
+pub inside_beginning : (o : RenderOptions) (whole : Outcome) (limit : ℕ) (below : List Task) (old : List ℕ) (stack : List Task) (st : State)
+    (out : List ℕ) →
     Inside o whole limit below old stack st out → AppendsBeginning old out (bytes_before whole)
 inside_beginning o whole limit below old stack st out p =
     let left : Outcome = lay_all o (settle o) p.above (follow below) st in
     (p.bytes, bytes_before left, sym (ap bytes_before p.same) ∙ bytes_before-after p.bytes left, p.out_is)
 
 -- a choice whose first branch is kept
-pub waits_kept : (o : RenderOptions) (whole : Outcome) (limit : ℕ) (below : List Task) (old : List ℕ) (i : ℕ) (x y : Tree) (stack : List Task) (st : State) (out : List ℕ) →
+pub waits_kept : (o : RenderOptions) (whole : Outcome) (limit : ℕ) (below : List Task) (old : List ℕ) (i : ℕ) (x y : Tree)
+    (stack : List Task) (st : State) (out : List ℕ) →
     Waits o whole limit below old i x y stack st out → (b : List ℕ) (u : State) →
     chosen o (settle o) i x y (follow stack) st ≡ Done b u → owed u.pending ≤ 2 * size x + owed st.pending →
     Inside o whole limit below old stack u (out ++ b)
@@ -112,12 +131,14 @@ waits_kept o whole limit below old i x y stack st out p b u h l = record {
 }
 
 lay_all-second : (o : RenderOptions) (i : ℕ) (y : Tree) (ts : List Task) (outer : List Entry) (st : State) →
-    lay_all o (settle o) (make_task i Break y ∷ ts) outer st ≡ and_then (lay o (settle o) y i Break (follow ts ++ outer) st) (λ u. lay_all o (settle o) ts outer u)
+    lay_all o (settle o) (make_task i Break y ∷ ts) outer st ≡ and_then (lay o (settle o) y i Break (follow ts ++ outer) st)
+    (λ u. lay_all o (settle o) ts outer u)
 unfolding lay_all
 lay_all-second o i y ts outer st = refl
 
 -- a choice whose first branch is not kept
-pub waits_other : (o : RenderOptions) (whole : Outcome) (limit : ℕ) (below : List Task) (old : List ℕ) (i : ℕ) (x y : Tree) (stack : List Task) (st : State) (out : List ℕ) →
+pub waits_other : (o : RenderOptions) (whole : Outcome) (limit : ℕ) (below : List Task) (old : List ℕ) (i : ℕ) (x y : Tree)
+    (stack : List Task) (st : State) (out : List ℕ) →
     Waits o whole limit below old i x y stack st out →
     ((other : Outcome) → accept o st.within (lay o (settle o) x i Break (follow stack) (tried st)) other ≡ other) →
     Inside o whole limit below old (make_task i Break y ∷ stack) st out
@@ -127,20 +148,25 @@ waits_other o whole limit below old i x y stack st out p h = record {
   stack_is = ap (λ (z : List Task). make_task i Break y ∷ z) p.stack_is;
   out_is = p.out_is;
   same = ap (after_bytes p.bytes) (lay_all-second o i y p.above (follow below) st)
-      ∙ ap (λ (r : List Entry). after_bytes p.bytes (and_then (lay o (settle o) y i Break r st) (λ v. lay_all o (settle o) p.above (follow below) v))) (sym (ap follow p.stack_is ∙ follow-append p.above below))
-      ∙ ap (λ (z : Outcome). after_bytes p.bytes (and_then z (λ v. lay_all o (settle o) p.above (follow below) v))) (sym (h (lay o (settle o) y i Break (follow stack) st))) ∙ p.same;
+      ∙ ap (λ (r : List Entry). after_bytes p.bytes
+      (and_then (lay o (settle o) y i Break r st) (λ v. lay_all o (settle o) p.above (follow below) v)))
+      (sym (ap follow p.stack_is ∙ follow-append p.above below))
+      ∙ ap (λ (z : Outcome). after_bytes p.bytes (and_then z (λ v. lay_all o (settle o) p.above (follow below) v)))
+      (sym (h (lay o (settle o) y i Break (follow stack) st))) ∙ p.same;
   bound = let q = p.bound in omega arith;
 }
 
 -- what is written of a whole in which a choice waits is a beginning of it
-pub waits_beginning : (o : RenderOptions) (whole : Outcome) (limit : ℕ) (below : List Task) (old : List ℕ) (i : ℕ) (x y : Tree) (stack : List Task) (st : State) (out : List ℕ) →
+pub waits_beginning : (o : RenderOptions) (whole : Outcome) (limit : ℕ) (below : List Task) (old : List ℕ) (i : ℕ) (x y : Tree)
+    (stack : List Task) (st : State) (out : List ℕ) →
     Waits o whole limit below old i x y stack st out → AppendsBeginning old out (bytes_before whole)
 waits_beginning o whole limit below old i x y stack st out p =
     let left : Outcome = and_then (chosen o (settle o) i x y (follow stack) st) (λ u. lay_all o (settle o) p.above (follow below) u) in
     (p.bytes, bytes_before left, sym (ap bytes_before p.same) ∙ bytes_before-after p.bytes left, p.out_is)
 
 -- work that went past the width
-pub inside_past : (o : RenderOptions) (whole : Outcome) (limit : ℕ) (below : List Task) (old : List ℕ) (stack : List Task) (st : State) (out : List ℕ) →
+pub inside_past : (o : RenderOptions) (whole : Outcome) (limit : ℕ) (below : List Task) (old : List ℕ) (stack : List Task) (st : State)
+    (out : List ℕ) →
     Inside o whole limit below old stack st out → st.within ≡ false → Past whole
 inside_past o whole limit below old stack st out p h =
     subst Past p.same (past-after p.bytes (lay_all o (settle o) p.above (follow below) st) (all_past o p.above (follow below) st h))

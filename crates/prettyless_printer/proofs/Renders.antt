@@ -1,5 +1,6 @@
 -- A run from the first command, with the rounds of the end, is a render of the layout.
-use Rattle.std.proofs.Common.{subst, Result, Ok, ◌≡◌, ℕ, ◌*◌, ◌≤◌, ◌<◌, List, [], ◌∷◌, ◌++◌, length, refl, ap, sym, ◌∙◌, append_assoc, append-nil, arith, Err}
+use Rattle.std.proofs.Common.{subst, Result, Ok, ◌≡◌, ℕ, ◌*◌, ◌≤◌, ◌<◌, List, [], ◌∷◌, ◌++◌, length, refl, ap, sym, ◌∙◌, append_assoc}
+use Rattle.std.proofs.Common.{append-nil, arith, Err}
 use Rattle.prettyless_sink.specs.Sink.{AppendsBeginning, known, rise}
 use Rattle.prettyless_model.specs.Spaces.{spaces}
 use Rattle.prettyless_model.specs.declared.options.RenderOptions.{RenderOptions}
@@ -10,7 +11,8 @@ use Rattle.prettyless_sink.specs.declared.visits.Visits.{Visits}
 use Rattle.prettyless_printer.specs.AtLeast.{VisitedAtLeast}
 use Rattle.std.specs.Prelude.{OnOk}
 use Rattle.prettyless_model.specs.Column.{gap}
-use Rattle.prettyless_model.specs.Layout.{State, Outcome, Done, Failed, Breaks, after_bytes, and_then, lay, lay_each, flushed, end_with, initial, layout, bytes_of, bytes_in, Bytes, Whole}
+use Rattle.prettyless_model.specs.Layout.{State, Outcome, Done, Failed, Breaks, after_bytes, and_then, lay, lay_each, flushed, end_with}
+use Rattle.prettyless_model.specs.Layout.{initial, layout, bytes_of, bytes_in, Bytes, Whole}
 use Rattle.prettyless_model.specs.Levels.{settle, settle_end}
 use Rattle.prettyless_model.specs.declared.mode.Mode.TheVariants.{Break}
 use Rattle.prettyless_model.proofs.Outcomes.{after-nil, after-after, then-done}
@@ -39,18 +41,21 @@ bytes_before-then (Done b st) k = (bytes_before (k st), bytes_before-after b (k 
 bytes_before-then (Failed b) k = ([], sym (append-nil b))
 
 -- a beginning of what the commands lay is one of the whole
-finishing_beginning : (whole : Outcome) (p : Standing) (old out new : List ℕ) → Finishing whole p old out → AppendsBeginning out new (bytes_before (rest_of p)) → AppendsBeginning old new (bytes_in (bytes_of whole))
+finishing_beginning : (whole : Outcome) (p : Standing) (old out new : List ℕ) → Finishing whole p old out
+    → AppendsBeginning out new (bytes_before (rest_of p)) → AppendsBeginning old new (bytes_in (bytes_of whole))
 finishing_beginning whole p old out new h q =
     let m = bytes_before-then (rest_of p) (settle_end p.options) in (
       h.bytes ++ q.0,
       q.1 ++ m.0,
       bytes_in-of whole ∙ sym (ap bytes_before h.same) ∙ bytes_before-after h.bytes (to_end p)
-          ∙ ap (λ (x : List ℕ). h.bytes ++ x) (m.1 ∙ ap (λ (x : List ℕ). x ++ m.0) q.2 ∙ append_assoc q.0 q.1 m.0) ∙ sym (append_assoc h.bytes q.0 (q.1 ++ m.0)),
+          ∙ ap (λ (x : List ℕ). h.bytes ++ x) (m.1 ∙ ap (λ (x : List ℕ). x ++ m.0) q.2 ∙ append_assoc q.0 q.1 m.0)
+          ∙ sym (append_assoc h.bytes q.0 (q.1 ++ m.0)),
       q.3 ∙ ap (λ (x : List ℕ). x ++ q.0) h.out_is ∙ append_assoc old h.bytes q.0,
     )
 
 -- the commands broke off
-pub finishing_stopped : (A : Type 0) {E : Type 0} (whole : Outcome) (p : Standing) (fails : E → Type 0) (old out new : List ℕ) (n k m : ℕ) (e : RenderError E) → Finishing whole p old out → k ≡ n → Stopped fails (rest_of p) out new k m e →
+pub finishing_stopped : (A : Type 0) {E : Type 0} (whole : Outcome) (p : Standing) (fails : E → Type 0) (old out new : List ℕ) (n k m : ℕ)
+    (e : RenderError E) → Finishing whole p old out → k ≡ n → Stopped fails (rest_of p) out new k m e →
     Rendered {A = A} fails (bytes_of whole) old new n m (Err e)
 finishing_stopped A {E} whole p fails old out new n k m (Document e) h a q = (
   h.bytes ++ q.0,
@@ -68,23 +73,28 @@ pub record Ending (whole : Outcome) (o : RenderOptions) (q : Standing) (old new 
   pub new_is : new ≡ old ++ bytes
   pub same : after_bytes bytes (end_with o (settle o) (settle_end o) (state_at q).pending (state_at q)) ≡ whole
 
-pub finishing_ends : (whole : Outcome) (p q : Standing) (old out new b : List ℕ) → Finishing whole p old out → rest_of p ≡ Done b (state_at q) → new ≡ out ++ b → Ending whole p.options q old new
+pub finishing_ends : (whole : Outcome) (p q : Standing) (old out new b : List ℕ) → Finishing whole p old out
+    → rest_of p ≡ Done b (state_at q) → new ≡ out ++ b → Ending whole p.options q old new
 finishing_ends whole p q old out new b h r w = record {
   bytes = h.bytes ++ b;
   new_is = w ∙ ap (λ (x : List ℕ). x ++ b) h.out_is ∙ append_assoc old h.bytes b;
-  same = ap (after_bytes (h.bytes ++ b)) (sym (end_fixed p.options (state_at q))) ∙ sym (after-after h.bytes b (settle_end p.options (state_at q)))
+  same = ap (after_bytes (h.bytes ++ b)) (sym (end_fixed p.options (state_at q)))
+      ∙ sym (after-after h.bytes b (settle_end p.options (state_at q)))
       ∙ ap (λ (x : Outcome). after_bytes h.bytes (and_then x (settle_end p.options))) (sym r) ∙ h.same;
 }
 
-none_pending : (o : RenderOptions) (brk : Breaks) (again : State → Outcome) (ps : List Tree) (st : State) → length ps ≤ 0 → end_with o brk again ps st ≡ Done [] st
+none_pending : (o : RenderOptions) (brk : Breaks) (again : State → Outcome) (ps : List Tree) (st : State) → length ps ≤ 0
+    → end_with o brk again ps st ≡ Done [] st
 none_pending o brk again [] st l = refl
 none_pending o brk again (p ∷ ps) st l = absurd (omega arith)
 
 -- nothing waits: that is all
-pub ending_done : (whole : Outcome) (o : RenderOptions) (q : Standing) (old new : List ℕ) → Ending whole o q old new → length (state_at q).pending ≤ 0 → (bytes : List ℕ) × (bytes_of whole ≡ Whole bytes) × (new ≡ old ++ bytes)
+pub ending_done : (whole : Outcome) (o : RenderOptions) (q : Standing) (old new : List ℕ) → Ending whole o q old new
+    → length (state_at q).pending ≤ 0 → (bytes : List ℕ) × (bytes_of whole ≡ Whole bytes) × (new ≡ old ++ bytes)
 ending_done whole o q old new h l = (
   h.bytes,
-  ap bytes_of (sym h.same ∙ ap (after_bytes h.bytes) (none_pending o (settle o) (settle_end o) (state_at q).pending (state_at q) l)) ∙ ap Whole (append-nil h.bytes),
+  ap bytes_of (sym h.same ∙ ap (after_bytes h.bytes) (none_pending o (settle o) (settle_end o) (state_at q).pending (state_at q) l))
+      ∙ ap Whole (append-nil h.bytes),
   h.new_is,
 )
 
@@ -95,16 +105,20 @@ unfolding lay_all
 round o brk again [] st l = absurd (omega arith)
 round o brk again (d ∷ ds) st l =
     ap (λ (x : Outcome). after_bytes (spaces (gap st.column)) (and_then x again))
-    (sym (ap (λ (x : List Task). lay_all o brk x [] (flushed o st)) (sym (append-nil (tasks 0 Break (d ∷ ds)))) ∙ lay_all-tasks o brk (d ∷ ds) 0 Break [] [] (flushed o st) ∙ then-done (lay_each o brk (d ∷ ds) 0 Break [] (flushed o st))))
+    (sym (ap (λ (x : List Task). lay_all o brk x [] (flushed o st)) (sym (append-nil (tasks 0 Break (d ∷ ds))))
+    ∙ lay_all-tasks o brk (d ∷ ds) 0 Break [] [] (flushed o st) ∙ then-done (lay_each o brk (d ∷ ds) 0 Break [] (flushed o st))))
 
 -- the documents that wait are the commands, and the gap before them is written
-pub ending_again : (whole : Outcome) (o : RenderOptions) (q r : Standing) (old new out : List ℕ) → Ending whole o q old new → r.options ≡ o → 0 < length (state_at q).pending →
-    r.tasks ≡ tasks 0 Break (state_at q).pending → state_at r ≡ flushed o (state_at q) → out ≡ new ++ spaces (gap q.column) → Finishing whole r old out
+pub ending_again : (whole : Outcome) (o : RenderOptions) (q r : Standing) (old new out : List ℕ) → Ending whole o q old new → r.options ≡ o
+    → 0 < length (state_at q).pending →
+    r.tasks ≡ tasks 0 Break (state_at q).pending → state_at r ≡ flushed o (state_at q) → out ≡ new ++ spaces (gap q.column)
+    → Finishing whole r old out
 ending_again whole o q r old new out h e l k u x =
     let st = state_at q in
     let rest : rest_of r ≡ lay_all o (settle o) (tasks 0 Break st.pending) [] (flushed o st) =
     ap (λ (z : RenderOptions). lay_all z (settle z) r.tasks [] (state_at r)) e
-    ∙ ap (λ (z : List Task). lay_all o (settle o) z [] (state_at r)) k ∙ ap (λ (z : State). lay_all o (settle o) (tasks 0 Break st.pending) [] z) u in
+    ∙ ap (λ (z : List Task). lay_all o (settle o) z [] (state_at r)) k
+    ∙ ap (λ (z : State). lay_all o (settle o) (tasks 0 Break st.pending) [] z) u in
     record {
       bytes = h.bytes ++ spaces (gap q.column);
       out_is = x ∙ ap (λ (z : List ℕ). z ++ spaces (gap q.column)) h.new_is ∙ append_assoc old h.bytes (spaces (gap q.column));
@@ -115,7 +129,8 @@ ending_again whole o q r old new out h e l k u x =
     }
 
 -- the gap before them broke off
-pub ending_stopped : (A : Type 0) {E : Type 0} (whole : Outcome) (o : RenderOptions) (q : Standing) (fails : E → Type 0) (old new last : List ℕ) (n k m : ℕ) (e : RenderError E) → Ending whole o q old new → 0 < length (state_at q).pending → k ≡ n →
+pub ending_stopped : (A : Type 0) {E : Type 0} (whole : Outcome) (o : RenderOptions) (q : Standing) (fails : E → Type 0)
+    (old new last : List ℕ) (n k m : ℕ) (e : RenderError E) → Ending whole o q old new → 0 < length (state_at q).pending → k ≡ n →
     Flushed {A = A} q new last k m (Err e) → Rendered {A = A} fails (bytes_of whole) old last n m (Err e)
 ending_stopped A {E} whole o q fails old new last n k m (Document e) h l a s = absurd s
 ending_stopped A {E} whole o q fails old new last n k m (Sink e) h l a s =
@@ -123,30 +138,42 @@ ending_stopped A {E} whole o q fails old new last n k m (Sink e) h l a s =
     let rest : Outcome = and_then (lay_all o (settle o) (tasks 0 Break st.pending) [] (flushed o st)) (settle_end o) in
     let all : bytes_before whole ≡ h.bytes ++ (spaces (gap q.column) ++ bytes_before rest) =
     sym (ap bytes_before h.same) ∙ bytes_before-after h.bytes (end_with o (settle o) (settle_end o) st.pending st)
-    ∙ ap (λ (z : List ℕ). h.bytes ++ z) (ap bytes_before (round o (settle o) (settle_end o) st.pending st l) ∙ bytes_before-after (spaces (gap q.column)) rest) in
+    ∙ ap (λ (z : List ℕ). h.bytes ++ z) (ap bytes_before (round o (settle o) (settle_end o) st.pending st l)
+    ∙ bytes_before-after (spaces (gap q.column)) rest) in
     let b = s.0 in (
       (
         h.bytes ++ b.0,
         b.1 ++ bytes_before rest,
-        bytes_in-of whole ∙ all ∙ ap (λ (z : List ℕ). h.bytes ++ z) (ap (λ (z : List ℕ). z ++ bytes_before rest) b.2 ∙ append_assoc b.0 b.1 (bytes_before rest)) ∙ sym (append_assoc h.bytes b.0 (b.1 ++ bytes_before rest)),
+        bytes_in-of whole ∙ all ∙ ap (λ (z : List ℕ). h.bytes ++ z)
+            (ap (λ (z : List ℕ). z ++ bytes_before rest) b.2 ∙ append_assoc b.0 b.1 (bytes_before rest))
+            ∙ sym (append_assoc h.bytes b.0 (b.1 ++ bytes_before rest)),
         b.3 ∙ ap (λ (z : List ℕ). z ++ b.0) h.new_is ∙ append_assoc old h.bytes b.0,
       ),
       s.1 ∙ ap rise a,
     )
 ending_stopped A {E} whole o q fails old new last n k m (Memory e) h l a s =
-    let left : Outcome = end_with o (settle o) (settle_end o) (state_at q).pending (state_at q) in
-    ((h.bytes, bytes_before left, bytes_in-of whole ∙ sym (ap bytes_before h.same) ∙ bytes_before-after h.bytes left, s.0 ∙ h.new_is), s.1 ∙ a)
+    let left : Outcome = end_with o (settle o) (settle_end o) (state_at q).pending (state_at q) in (
+      (
+        h.bytes,
+        bytes_before left,
+        bytes_in-of whole ∙ sym (ap bytes_before h.same) ∙ bytes_before-after h.bytes left,
+        s.0 ∙ h.new_is,
+      ),
+      s.1 ∙ a,
+    )
 
 -- the work of a round is less than what was owed for it
 pub round_less : (ps : List Tree) → 0 < length ps → 2 * nodes (tasks 0 Break ps) < owed ps
 round_less ps l = omega (arith, nodes-tasks 0 Break ps [], ap nodes (append-nil (tasks 0 Break ps)))
 
-lay_all-one : (o : RenderOptions) (d : Tree) (st : State) → lay_all o (settle o) (make_task 0 Break d ∷ []) [] st ≡ lay o (settle o) d 0 Break [] st
+lay_all-one : (o : RenderOptions) (d : Tree) (st : State) → lay_all o (settle o) (make_task 0 Break d ∷ []) [] st ≡ lay o
+    (settle o) d 0 Break [] st
 unfolding lay_all
 lay_all-one o d st = then-done (lay o (settle o) d 0 Break [] st)
 
 -- what a printer that begins lays to the end is the layout
-pub begins : (p : Standing) (d : Tree) → p.tasks ≡ make_task 0 Break d ∷ [] → state_at p ≡ initial → layout p.options d ≡ bytes_of (to_end p)
+pub begins : (p : Standing) (d : Tree) → p.tasks ≡ make_task 0 Break d ∷ [] → state_at p ≡ initial
+    → layout p.options d ≡ bytes_of (to_end p)
 begins p d e s =
     layout_is p.options d
     ∙ ap (λ (x : Outcome). bytes_of (and_then x (settle_end p.options)))
@@ -154,19 +181,24 @@ begins p d e s =
     ∙ ap (lay_all p.options (settle p.options) (make_task 0 Break d ∷ []) []) s ∙ lay_all-one p.options d initial))
 
 -- a count more does not change the others
-counted_with : {A E : Type 0} (o : RenderOptions) (d : Tree) (v w : Visits) (n : ℕ) (r : Result A E) → OnOk r (VisitedAtLeast o d v w) → OnOk r (VisitedAtLeast o d v (record w { refused = n }))
+counted_with : {A E : Type 0} (o : RenderOptions) (d : Tree) (v w : Visits) (n : ℕ) (r : Result A E) → OnOk r (VisitedAtLeast o d v w)
+    → OnOk r (VisitedAtLeast o d v (record w { refused = n }))
 counted_with {A} {E} o d v w n (Ok x) h = record { printer = h.printer; probes = h.probes }
 counted_with {A} {E} o d v w n (Err e) h = tt
 
 -- a run to the end, from a document that is the only task, is a render
-pub renders : {A E : Type 0} (fails : E → Type 0) (d : Tree) {a b : Point} (n : ℕ) (r : Result A (RenderError E)) → a.printer.tasks ≡ make_task 0 Break d ∷ [] → state_at a.printer ≡ initial → RunsToEnd fails a b r →
+pub renders : {A E : Type 0} (fails : E → Type 0) (d : Tree) {a b : Point} (n : ℕ) (r : Result A (RenderError E))
+    → a.printer.tasks ≡ make_task 0 Break d ∷ [] → state_at a.printer ≡ initial → RunsToEnd fails a b r →
     a.visits.refused ≤ n → (IsLinear a.printer.options.width d → n ≡ 0 → IsFew 16 1000 (size d) a.visits b.visits) →
     Renders fails a.printer.options d a.sink b.sink a.visits (record b.visits { refused = n }) r
 renders {A} {E} fails d {a} {b} n r e s h refused few = record {
   same_lender = h.same_lender;
   bytes = λ is_known.
-      let y = h.bytes is_known in
-      (y.0, subst (λ (z : Bytes). Rendered fails z (known a.sink.bytes) (known b.sink.bytes) a.sink.failures b.sink.failures r) (sym (begins a.printer d e s)) y.1);
+      let y = h.bytes is_known in (
+        y.0,
+        subst (λ (z : Bytes). Rendered fails z (known a.sink.bytes) (known b.sink.bytes) a.sink.failures b.sink.failures r)
+            (sym (begins a.printer d e s)) y.1,
+      );
   rise = record { printer = h.rise.printer; probes = h.rise.probes };
   visited =
       let once = visited d a.printer b.printer a.visits b.visits r e (ap (λ (u : State). u.pending) s) h.at_most in

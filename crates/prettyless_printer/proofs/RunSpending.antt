@@ -5,8 +5,8 @@ use Rattle.prettyless_model.specs.declared.options.RenderOptions.{RenderOptions}
 use Rattle.prettyless_model.specs.declared.mode.Mode.TheVariants.{Break}
 use Rattle.prettyless_model.specs.Tree.{Tree}
 use Rattle.prettyless_step.specs.Stack.{make_task}
-use Rattle.prettyless_printer.specs.declared.answer.Ran.{Ran}
-use Rattle.prettyless_printer.specs.declared.answer.Ran.TheVariants as ran
+use Rattle.prettyless_printer.specs.declared.answer.RunResult.{RunResult}
+use Rattle.prettyless_printer.specs.declared.answer.RunResult.TheVariants as run_result
 use Rattle.prettyless_printer.specs.Points.{Standing, state_at, Seen, Point}
 use Rattle.prettyless_printer.specs.Visits.{Plain}
 use Rattle.prettyless_printer.specs.Open.{Held, Opens, seconds}
@@ -18,23 +18,29 @@ use Rattle.prettyless_printer.proofs.Spending.{spends_same, spends_then}
 use Rattle.prettyless_printer.proofs.OpenSpending.{open_options, spends_more}
 
 -- runs in a row, of which the second one has the options of the first
-pub spends_on : {has : Bool} {limit : ℕ} {o o' : RenderOptions} {a b c : Left} → o' ≡ o → Spends (rule_of has o limit) a b → Spends (rule_of has o' limit) b c → Spends (rule_of has o limit) a c
-spends_on {has} {limit} {o} {o'} {a} {b} {c} same h k = spends_then h (subst (λ (x : RenderOptions). Spends (rule_of has x limit) b c) same k)
+pub spends_on : {has : Bool} {limit : ℕ} {o o' : RenderOptions} {a b c : Left} → o' ≡ o → Spends (rule_of has o limit) a b
+    → Spends (rule_of has o' limit) b c → Spends (rule_of has o limit) a c
+spends_on {has} {limit} {o} {o'} {a} {b} {c} same h k =
+    spends_then h (subst (λ (x : RenderOptions). Spends (rule_of has x limit) b c) same k)
 
 -- the same where the second one may have broken off
-pub spends_on_as : {A E : Type 0} {has : Bool} {limit : ℕ} {o o' : RenderOptions} {a b : Left} (c : Left) (result : Result A E) → o' ≡ o → Spends (rule_of has o limit) a b → SpendsAs (rule_of has o' limit) b c result →
+pub spends_on_as : {A E : Type 0} {has : Bool} {limit : ℕ} {o o' : RenderOptions} {a b : Left} (c : Left) (result : Result A E) → o' ≡ o
+    → Spends (rule_of has o limit) a b → SpendsAs (rule_of has o' limit) b c result →
     SpendsAs (rule_of has o limit) a c result
 spends_on_as {A} {E} {has} {limit} {o} {o'} {a} {b} c (Ok x) same h k = spends_on same h k
 spends_on_as {A} {E} {has} {limit} {o} {o'} {a} {b} c (Err e) same h k = spends_on same h k
 
 -- outside of trials no second branch waits
-pub seconds_none : {r : Rule} {a : Left} (p : Standing) (us : List Held) (v : Visits) → us ≡ [] → Spends r a (left p (seconds us) v) → Spends r a (left p [] v)
+pub seconds_none : {r : Rule} {a : Left} (p : Standing) (us : List Held) (v : Visits) → us ≡ [] → Spends r a (left p (seconds us) v)
+    → Spends r a (left p [] v)
 seconds_none {r} {a} p us v none h = subst (λ (z : List Held). Spends r a (left p (seconds z) v)) none h
 
-pub none_seconds : {r : Rule} {a : Left} (p : Standing) (us : List Held) (v : Visits) → us ≡ [] → Spends r a (left p [] v) → Spends r a (left p (seconds us) v)
+pub none_seconds : {r : Rule} {a : Left} (p : Standing) (us : List Held) (v : Visits) → us ≡ [] → Spends r a (left p [] v)
+    → Spends r a (left p (seconds us) v)
 none_seconds {r} {a} p us v none h = subst (λ (z : List Held). Spends r a (left p (seconds z) v)) (sym none) h
 
-pub from_none : {r : Rule} {b : Left} (p : Standing) (us : List Held) (v : Visits) → us ≡ [] → Spends r (left p (seconds us) v) b → Spends r (left p [] v) b
+pub from_none : {r : Rule} {b : Left} (p : Standing) (us : List Held) (v : Visits) → us ≡ [] → Spends r (left p (seconds us) v) b
+    → Spends r (left p [] v) b
 from_none {r} {b} p us v none h = subst (λ (z : List Held). Spends r (left p (seconds z) v) b) none h
 
 -- a run of all commands has come to a point, and goes on there
@@ -50,30 +56,37 @@ plain_waiting {a} {b} {i} {x} {y} waiting plain =
     record { plain = k.0; first = k.1; second = k.2 }
 
 -- a choice is made, or is open
-pub waiting_spends : {has : Bool} {limit : ℕ} {a b : Point} {start c : Left} {i : ℕ} {x y : Tree} → Waiting (run_of a) i x y b → Plain a.printer →
+pub waiting_spends : {has : Bool} {limit : ℕ} {a b : Point} {start c : Left} {i : ℕ} {x y : Tree} → Waiting (run_of a) i x y b
+    → Plain a.printer →
     Spends (rule_of has a.printer.options limit) start (left_choice i x y b.printer b.visits) →
     (IsPlainChoice b.printer x y → Spends (rule_of has b.printer.options limit) (left_choice i x y b.printer b.visits) c) →
     Spends (rule_of has a.printer.options limit) start c
-waiting_spends {has} {limit} {a} {b} {start} {c} {i} {x} {y} waiting plain h k = spends_on waiting.options h (k (plain_waiting waiting plain))
+waiting_spends {has} {limit} {a} {b} {start} {c} {i} {x} {y} waiting plain h k =
+    spends_on waiting.options h (k (plain_waiting waiting plain))
 
 -- the trial of a choice is opened, and no other one is open
-pub opens_spends : {N : Type 0} (r : Rule) (f : N → Tree) (p q : Standing) {s : Seen} (us vs : List Held) (i : ℕ) (x : Tree) (y : N) (v : Visits) → us ≡ [] → Opens f i (f y) p s us vs → q.tasks ≡ make_task i Break x ∷ p.tasks → q.queue ≡ p.queue →
+pub opens_spends : {N : Type 0} (r : Rule) (f : N → Tree) (p q : Standing) {s : Seen} (us vs : List Held) (i : ℕ) (x : Tree) (y : N)
+    (v : Visits) → us ≡ [] → Opens f i (f y) p s us vs → q.tasks ≡ make_task i Break x ∷ p.tasks → q.queue ≡ p.queue →
     Spends r (left_choice i x (f y) p v) (left q (seconds vs) v)
 opens_spends {N} r f p q {s} us vs i x y v none opens e h =
     spends_more f p q us vs i x y opens e h
-    (subst (λ (z : List Held). Spends r (left_choice i x (f y) p v) (record (left p (seconds z) v) { tasks = make_task i Break x ∷ make_task i Break (f y) ∷ p.tasks })) (sym none)
+    (subst (λ (z : List Held). Spends r (left_choice i x (f y) p v)
+    (record (left p (seconds z) v) { tasks = make_task i Break x ∷ make_task i Break (f y) ∷ p.tasks })) (sym none)
     (spends_same r (left_choice i x (f y) p v)))
 
 -- without line suffixes nothing is pending where the commands are worked off
-pub nothing_pending : {A E : Type 0} (fails : E → Type 0) {a b c : Point} (x : A) → Continues a b → Plain a.printer → WorksOff {A = A} {E = E} fails b c (Ok x) → 0 < length (state_at c.printer).pending → ⊥
+pub nothing_pending : {A E : Type 0} (fails : E → Type 0) {a b c : Point} (x : A) → Continues a b → Plain a.printer
+    → WorksOff {A = A} {E = E} fails b c (Ok x) → 0 < length (state_at c.printer).pending → ⊥
 nothing_pending {A} {E} fails {a} {b} {c} x h plain k some = omega (arith, some, ap length (k.at_most (h.at_most plain).0).0.pending)
 
 -- a run has come to a choice without line suffixes
-pub came_plain : {a : Point} {us : List Held} {buffer : Seen} {b : Point} (h : ComesInChoice a us buffer b) → Plain a.printer → IsPlainChoice h.at.printer h.first h.second
+pub came_plain : {a : Point} {us : List Held} {buffer : Seen} {b : Point} (h : ComesInChoice a us buffer b) → Plain a.printer
+    → IsPlainChoice h.at.printer h.first h.second
 came_plain {a} {us} {buffer} {b} h plain = plain_waiting h.waiting (h.continues.at_most plain).0
 
 -- the options are those of where the choice waited
-pub came_options : {E : Type 0} {a : Point} {us : List Held} {buffer : Seen} {b c : Point} (h : ComesInChoice a us buffer b) → Chooses {A = Ran} {E = E} h.indent h.first h.second h.at c (Ok ran.Done) →
+pub came_options : {E : Type 0} {a : Point} {us : List Held} {buffer : Seen} {b c : Point} (h : ComesInChoice a us buffer b)
+    → Chooses {A = RunResult} {E = E} h.indent h.first h.second h.at c (Ok run_result.Finished) →
     c.printer.options ≡ b.printer.options
 came_options {E} {a} {us} {buffer} {b} {c} h k =
     (k.runs (run_of h.c) h.waiting).options ∙ sym h.waiting.options ∙ sym (open_options _ h.second _ us h.choice.trials)

@@ -14,7 +14,7 @@ use Rattle.prettyless_step.specs.declared.printer.Printer.{Printer}
 use Rattle.prettyless_table.specs.Shift.{IsShifted}
 use Rattle.prettyless_printer.specs.declared.trial.OpenTrial.{OpenTrial}
 use Rattle.prettyless_printer.specs.Points.{Point, Seen, Standing, point_at, standing}
-use Rattle.prettyless_printer.specs.Visits.{suffixes}
+use Rattle.prettyless_printer.specs.Visits.{suffix_depths}
 use Rattle.prettyless_printer.specs.Linear.{IsFew, IsLinear, IsLinearStart}
 use Rattle.prettyless_printer.specs.Open.{Held, all_held, seconds}
 use Rattle.prettyless_printer.specs.Spending.{Left, Spends, left, rule_of}
@@ -26,7 +26,8 @@ use Rattle.prettyless_printer.proofs.Shifts.{continues_same}
 use Rattle.prettyless_printer.proofs.OpenSpending.{open_options}
 
 -- a printer over other nodes stands where this one does
-pub shifted_stands : {N M : Type 0} (f : N → Tree) (g : M → Tree) (p : Printer N) (q : Printer M) → IsShifted f g p q → standing g q ≡ standing f p
+pub shifted_stands : {N M : Type 0} (f : N → Tree) (g : M → Tree) (p : Printer N) (q : Printer M) → IsShifted f g p q
+    → standing g q ≡ standing f p
 shifted_stands {N} {M} f g p q h = λ j. record {
   options = h.options j;
   column = h.column j;
@@ -44,7 +45,8 @@ comes_over a {us} {vs} {p} {q} buffer s v same stands comes =
     (subst (λ (x : Standing). Comes a us buffer (point_at x s v)) (sym stands) comes)
 
 -- what it leaves then is what it leaves over the other nodes
-pub spends_over : {o o' : RenderOptions} {limit : ℕ} {us vs : List Held} {p q : Standing} {v : Visits} {b : Left} → vs ≡ us → q ≡ p → o' ≡ o →
+pub spends_over : {o o' : RenderOptions} {limit : ℕ} {us vs : List Held} {p q : Standing} {v : Visits} {b : Left} → vs ≡ us
+    → q ≡ p → o' ≡ o →
     Spends (rule_of true o' limit) (left q (seconds vs) v) b → Spends (rule_of true o limit) (left p (seconds us) v) b
 spends_over {o} {o'} {limit} {us} {vs} {p} {q} {v} {b} same stands options h =
     subst (λ (x : List Held). Spends (rule_of true o limit) (left p (seconds x) v) b) same
@@ -65,14 +67,19 @@ comes_still a us p {b} {c} {s} {t} {v} {w} sink visits buffer comes =
     (subst (λ (x : Visits). Comes a us b (point_at p s x)) (sym visits) comes))
 
 -- a run begins without open trials
-pub comes_first : {N : Type 0} (f : N → Tree) (us : List (OpenTrial N)) (buffer : Seen) (a : Point) → us ≡ [] → Comes a (all_held f us) buffer a
+pub comes_first : {N : Type 0} (f : N → Tree) (us : List (OpenTrial N)) (buffer : Seen) (a : Point) → us ≡ []
+    → Comes a (all_held f us) buffer a
 comes_first f us buffer a none =
     subst (λ (xs : List (OpenTrial _)). Comes a (all_held f xs) buffer a) (sym none) (continues_same a)
 
 -- a document that a table bounds
 pub begins_linear : {o : RenderOptions} {d : Tree} {p : Standing} → Begins o d p → IsLinear o.width d → IsLinearStart p
 begins_linear {o} {d} {p} begins linear = record {
-  plain = record { none = omega (arith, ap suffixes begins.tasks, linear.plain); pending = ap (λ (u : State). u.pending) begins.state };
+  plain = record {
+    none = omega (arith, ap suffix_depths begins.tasks, linear.plain);
+    pending
+        = ap (λ (u : State). u.pending) begins.state;
+  };
   queue = begins.queue;
   have = subst HaveSummaries (sym begins.tasks) (linear.have, tt);
   size = omega (arith, ap nodes begins.tasks, linear.size);
@@ -80,19 +87,22 @@ begins_linear {o} {d} {p} begins linear = record {
 }
 
 -- its nodes are those of the printer before it
-pub begins_few : {o : RenderOptions} {d : Tree} {p : Standing} (factor more : ℕ) (v w : Visits) → Begins o d p → IsFew factor more (nodes p.tasks) v w → IsFew factor more (size d) v w
+pub begins_few : {o : RenderOptions} {d : Tree} {p : Standing} (factor more : ℕ) (v w : Visits) → Begins o d p
+    → IsFew factor more (nodes p.tasks) v w → IsFew factor more (size d) v w
 begins_few {o} {d} {p} factor more v w begins few =
     let same : nodes p.tasks ≡ size d = omega (arith, ap nodes begins.tasks) in
     subst (λ (n : ℕ). IsFew factor more n v w) same few
 
 -- a run to the end, from before a document, is a render
-pub begun_renders : {A E : Type 0} (fails : E → Type 0) {o : RenderOptions} {d : Tree} {a b : Point} (n : ℕ) (r : Result A (RenderError E)) → Begins o d a.printer → RunsToEnd fails a b r →
+pub begun_renders : {A E : Type 0} (fails : E → Type 0) {o : RenderOptions} {d : Tree} {a b : Point} (n : ℕ) (r : Result A (RenderError E))
+    → Begins o d a.printer → RunsToEnd fails a b r →
     a.visits.refused ≤ n → (IsLinearStart a.printer → n ≡ 0 → IsFew 16 1000 (nodes a.printer.tasks) a.visits b.visits) →
     Renders fails o d a.sink b.sink a.visits (record b.visits { refused = n }) r
 begun_renders fails {o} {d} {a} {b} n r begins ran refused few =
     subst (λ (x : RenderOptions). Renders fails x d a.sink b.sink a.visits (record b.visits { refused = n }) r) begins.options
     (renders fails d n r begins.tasks begins.state ran refused
-    (λ linear none. begins_few 16 1000 a.visits b.visits begins (few (begins_linear begins (subst (λ (x : RenderOptions). IsLinear x.width d) begins.options linear)) none)))
+    (λ linear none. begins_few 16 1000 a.visits b.visits begins
+    (few (begins_linear begins (subst (λ (x : RenderOptions). IsLinear x.width d) begins.options linear)) none)))
 
 -- a render that is refused memory before its first node
 pub refused_renders : {A E : Type 0} (fails : E → Type 0) (o : RenderOptions) (d : Tree) (s : Seen) (v : Visits) (e : AllocError)

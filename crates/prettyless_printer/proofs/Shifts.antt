@@ -1,5 +1,6 @@
 -- Runs that stop and go on, over whatever type of nodes: what is left of a run is a run, and the two together are one.
-use Rattle.std.proofs.Common.{◌≡◌, ℕ, ◌≤◌, ◌<◌, List, [], ◌∷◌, ◌++◌, length, refl, ap, sym, ◌∙◌, append_assoc, append-nil, arith, subst, Result, Ok, Err}
+use Rattle.std.proofs.Common.{◌≡◌, ℕ, ◌≤◌, ◌<◌, List, [], ◌∷◌, ◌++◌, length, refl, ap, sym, ◌∙◌, append_assoc, append-nil, arith, subst}
+use Rattle.std.proofs.Common.{Result, Ok, Err}
 use Rattle.std.proofs.lemmas.List.{length-map}
 use Rattle.std.specs.Prelude.{OnOk}
 use Rattle.prettyless_sink.specs.Sink.{AppendsBeginning, known, rise}
@@ -14,17 +15,18 @@ use Rattle.prettyless_model.proofs.Outcomes.{after-after, then-after}
 use Rattle.prettyless_step.specs.Stack.{Task, nodes}
 use Rattle.prettyless_step.specs.Steps.{lay_all, owed}
 use Rattle.prettyless_model.specs.Tree.{Tree}
-use Rattle.prettyless_printer.specs.declared.answer.Ran.{Ran}
-use Rattle.prettyless_printer.specs.declared.answer.Ran.TheVariants as ran
+use Rattle.prettyless_printer.specs.declared.answer.RunResult.{RunResult}
+use Rattle.prettyless_printer.specs.declared.answer.RunResult.TheVariants as run_result
 use Rattle.prettyless_printer.specs.declared.trial.OpenTrial.{OpenTrial}
 use Rattle.prettyless_printer.specs.Points.{Point, Seen, Standing, point_at, state_at, work_at}
 use Rattle.prettyless_printer.specs.Visits.{CountsAtMost, RunCountsAtMost}
 use Rattle.prettyless_printer.specs.AtLeast.{CountsAtLeast, nothing_left, stack_tally}
 use Rattle.prettyless_printer.specs.Open.{Held, all_held, held}
-use Rattle.prettyless_printer.specs.Runs.{Comes, ComesInChoice, InChoice, RunsOn, Stops}
+use Rattle.prettyless_printer.specs.Runs.{Comes, ComesInChoice, InChoice, RunsOn, StopsPastLimit}
 use Rattle.prettyless_printer.specs.Paths.{Chooses, Path, Waiting, run_of}
 use Rattle.prettyless_printer.specs.Renders.{Continues, Finishing, FlushesEnd, Rendered, RunsToEnd, WorksOff, rest_of, to_end}
-use Rattle.prettyless_printer.proofs.Renders.{ending_again, ending_done, ending_stopped, finishing_begins, finishing_ends, finishing_stopped, round_less, Ending}
+use Rattle.prettyless_printer.proofs.Renders.{ending_again, ending_done, ending_stopped, finishing_begins, finishing_ends}
+use Rattle.prettyless_printer.proofs.Renders.{finishing_stopped, round_less, Ending}
 use Rattle.prettyless_printer.proofs.PathSteps as steps
 use Rattle.prettyless_printer.proofs.PathSteps.{run_broke_off}
 use Rattle.prettyless_printer.proofs.Visits.{at_most_same, at_most_then, rise_same, rise_then}
@@ -44,10 +46,12 @@ bytes_in-after b (Whole c) = refl
 bytes_in-after b (Cut c) = refl
 
 -- the bytes of a whole are what was written and those of what is left
-finishing_bytes : (whole : Outcome) (p : Standing) (old out : List ℕ) (h : Finishing whole p old out) → bytes_of whole ≡ bytes_after h.bytes (bytes_of (to_end p))
+finishing_bytes : (whole : Outcome) (p : Standing) (old out : List ℕ) (h : Finishing whole p old out)
+    → bytes_of whole ≡ bytes_after h.bytes (bytes_of (to_end p))
 finishing_bytes whole p old out h = sym (ap bytes_of h.same) ∙ bytes_of-after h.bytes (to_end p)
 
-finishing_then : (whole : Outcome) (p q : Standing) (old out new : List ℕ) → Finishing whole p old out → Finishing (to_end p) q out new → Finishing whole q old new
+finishing_then : (whole : Outcome) (p q : Standing) (old out new : List ℕ) → Finishing whole p old out → Finishing (to_end p) q out new
+    → Finishing whole q old new
 finishing_then whole p q old out new h k = record {
   bytes = h.bytes ++ k.bytes;
   out_is = k.out_is ∙ ap (λ (x : List ℕ). x ++ k.bytes) h.out_is ∙ append_assoc old h.bytes k.bytes;
@@ -55,44 +59,71 @@ finishing_then whole p q old out new h k = record {
 }
 
 -- what was written, and then the rest of the whole or a beginning of it
-finishing_rest : (whole : Outcome) (p : Standing) (old out new bytes : List ℕ) (h : Finishing whole p old out) → new ≡ out ++ bytes → new ≡ old ++ (h.bytes ++ bytes)
+finishing_rest : (whole : Outcome) (p : Standing) (old out new bytes : List ℕ) (h : Finishing whole p old out) → new ≡ out ++ bytes
+    → new ≡ old ++ (h.bytes ++ bytes)
 finishing_rest whole p old out new bytes h e = e ∙ ap (λ (x : List ℕ). x ++ bytes) h.out_is ∙ append_assoc old h.bytes bytes
 
-finishing_part : (whole : Outcome) (p : Standing) (old out new : List ℕ) → Finishing whole p old out → AppendsBeginning out new (bytes_in (bytes_of (to_end p))) → AppendsBeginning old new (bytes_in (bytes_of whole))
+finishing_part : (whole : Outcome) (p : Standing) (old out new : List ℕ) → Finishing whole p old out
+    → AppendsBeginning out new (bytes_in (bytes_of (to_end p))) → AppendsBeginning old new (bytes_in (bytes_of whole))
 finishing_part whole p old out new h q = (
   h.bytes ++ q.0,
   q.1,
-  ap bytes_in (finishing_bytes whole p old out h) ∙ bytes_in-after h.bytes (bytes_of (to_end p)) ∙ ap (λ (x : List ℕ). h.bytes ++ x) q.2 ∙ sym (append_assoc h.bytes q.0 q.1),
+  ap bytes_in (finishing_bytes whole p old out h) ∙ bytes_in-after h.bytes (bytes_of (to_end p)) ∙ ap (λ (x : List ℕ). h.bytes ++ x) q.2
+      ∙ sym (append_assoc h.bytes q.0 q.1),
   finishing_rest whole p old out new q.0 h q.3,
 )
 
 -- what is left is rendered
-finishing_rendered : {A E : Type 0} (fails : E → Type 0) (whole : Outcome) (p : Standing) (old out new : List ℕ) (n k m : ℕ) (r : Result A (RenderError E)) → Finishing whole p old out → k ≡ n →
+finishing_rendered : {A E : Type 0} (fails : E → Type 0) (whole : Outcome) (p : Standing) (old out new : List ℕ) (n k m : ℕ)
+    (r : Result A (RenderError E)) → Finishing whole p old out → k ≡ n →
     Rendered fails (bytes_of (to_end p)) out new k m r → Rendered fails (bytes_of whole) old new n m r
-finishing_rendered {A} {E} fails whole p old out new n k m (Ok x) h a q =
-    (h.bytes ++ q.0, finishing_bytes whole p old out h ∙ ap (bytes_after h.bytes) q.1, finishing_rest whole p old out new q.0 h q.2, q.3 ∙ a)
-finishing_rendered {A} {E} fails whole p old out new n k m (Err (Document e)) h a q =
-    (h.bytes ++ q.0, finishing_bytes whole p old out h ∙ ap (bytes_after h.bytes) q.1, finishing_rest whole p old out new q.0 h q.2, q.3 ∙ a, q.4)
-finishing_rendered {A} {E} fails whole p old out new n k m (Err (Sink e)) h a q = (finishing_part whole p old out new h q.0, q.1 ∙ ap rise a)
+finishing_rendered {A} {E} fails whole p old out new n k m (Ok x) h a q = (
+  h.bytes ++ q.0,
+  finishing_bytes whole p old out h ∙ ap (bytes_after h.bytes) q.1,
+  finishing_rest whole p old out new q.0 h q.2,
+  q.3 ∙ a,
+)
+finishing_rendered {A} {E} fails whole p old out new n k m (Err (Document e)) h a q = (
+  h.bytes ++ q.0,
+  finishing_bytes whole p old out h ∙ ap (bytes_after h.bytes) q.1,
+  finishing_rest whole p old out new q.0 h q.2,
+  q.3 ∙ a,
+  q.4,
+)
+finishing_rendered {A} {E} fails whole p old out new n k m (Err (Sink e)) h a q =
+    (finishing_part whole p old out new h q.0, q.1 ∙ ap rise a)
 finishing_rendered {A} {E} fails whole p old out new n k m (Err (Memory e)) h a q = (finishing_part whole p old out new h q.0, q.1 ∙ a)
 
 -- the counts of a run that went on
-run_counts_then : {A E : Type 0} (ts us : List Task) (q : Standing) (v w x : Visits) (r : Result A E) → CountsAtMost ts us v w → RunCountsAtMost us q w x r → RunCountsAtMost ts q v x r
+run_counts_then : {A E : Type 0} (ts us : List Task) (q : Standing) (v w x : Visits) (r : Result A E) → CountsAtMost ts us v w
+    → RunCountsAtMost us q w x r → RunCountsAtMost ts q v x r
 run_counts_then {A} {E} ts us q v w x (Ok y) h k = (k.0, at_most_then h k.1)
 run_counts_then {A} {E} ts us q v w x (Err e) h k = at_most_then h k
 
-tally_then : {A E : Type 0} (a b : Weight → ℕ) (v w x : Visits) (r : Result A E) → CountsAtLeast a b v w → OnOk r (CountsAtLeast b nothing_left w x) → OnOk r (CountsAtLeast a nothing_left v x)
+tally_then : {A E : Type 0} (a b : Weight → ℕ) (v w x : Visits) (r : Result A E) → CountsAtLeast a b v w
+    → OnOk r (CountsAtLeast b nothing_left w x) → OnOk r (CountsAtLeast a nothing_left v x)
 tally_then {A} {E} a b v w x (Ok y) h k = at_least_then h k
 tally_then {A} {E} a b v w x (Err e) h k = tt
 
 -- the same run, for another answer
-pub done_anyhow : {A B E : Type 0} (fails : E → Type 0) {a b : Point} (x : A) (y : B) → RunsToEnd fails a b (Ok x) → RunsToEnd fails a b (Ok y)
-done_anyhow {A} {B} {E} fails {a} {b} x y h = record { same_lender = h.same_lender; bytes = h.bytes; rise = h.rise; at_most = h.at_most; at_least = h.at_least }
+pub done_anyhow : {A B E : Type 0} (fails : E → Type 0) {a b : Point} (x : A) (y : B) → RunsToEnd fails a b (Ok x)
+    → RunsToEnd fails a b (Ok y)
+done_anyhow {A} {B} {E} fails {a} {b} x y h = record {
+  same_lender = h.same_lender;
+  bytes = h.bytes;
+  rise = h.rise;
+  at_most = h.at_most;
+  at_least = h.at_least;
+}
 
-pub broke_anyhow : {A B E : Type 0} (fails : E → Type 0) {a b : Point} (e : RenderError E) → RunsToEnd {A = A} fails a b (Err e) → RunsToEnd {A = B} fails a b (Err e)
-broke_anyhow {A} {B} {E} fails {a} {b} (Document e) h = record { same_lender = h.same_lender; bytes = h.bytes; rise = h.rise; at_most = h.at_most; at_least = tt }
-broke_anyhow {A} {B} {E} fails {a} {b} (Sink e) h = record { same_lender = h.same_lender; bytes = h.bytes; rise = h.rise; at_most = h.at_most; at_least = tt }
-broke_anyhow {A} {B} {E} fails {a} {b} (Memory e) h = record { same_lender = h.same_lender; bytes = h.bytes; rise = h.rise; at_most = h.at_most; at_least = tt }
+pub broke_anyhow : {A B E : Type 0} (fails : E → Type 0) {a b : Point} (e : RenderError E) → RunsToEnd {A = A} fails a b (Err e)
+    → RunsToEnd {A = B} fails a b (Err e)
+broke_anyhow {A} {B} {E} fails {a} {b} (Document e) h =
+    record { same_lender = h.same_lender; bytes = h.bytes; rise = h.rise; at_most = h.at_most; at_least = tt }
+broke_anyhow {A} {B} {E} fails {a} {b} (Sink e) h =
+    record { same_lender = h.same_lender; bytes = h.bytes; rise = h.rise; at_most = h.at_most; at_least = tt }
+broke_anyhow {A} {B} {E} fails {a} {b} (Memory e) h =
+    record { same_lender = h.same_lender; bytes = h.bytes; rise = h.rise; at_most = h.at_most; at_least = tt }
 
 -- a run has come nowhere yet
 pub continues_same : (a : Point) → Continues a a
@@ -112,8 +143,14 @@ continues_then {a} {b} {c} h k = record {
   same_lender = k.same_lender ∙ h.same_lender;
   bytes = λ is_known.
       let y = h.bytes is_known in
-      let z = k.bytes y.0 in
-      (z.0, (finishing_then (to_end a.printer) b.printer c.printer (known a.sink.bytes) (known b.sink.bytes) (known c.sink.bytes) y.1.0 z.1.0, z.1.1 ∙ y.1.1));
+      let z = k.bytes y.0 in (
+        z.0,
+        (
+          finishing_then (to_end a.printer) b.printer c.printer (known a.sink.bytes) (known b.sink.bytes) (known c.sink.bytes) y.1.0
+              z.1.0,
+          z.1.1 ∙ y.1.1,
+        ),
+      );
   rise = rise_then h.rise k.rise;
   at_most = λ plain.
       let y = h.at_most plain in
@@ -123,13 +160,17 @@ continues_then {a} {b} {c} h k = record {
 }
 
 -- What a run leaves and a run of that, which begins where the first one stands, are a run: the two may have nodes of different types.
-pub continues_to_end : {A E : Type 0} (fails : E → Type 0) {a b c : Point} (r : Result A (RenderError E)) → Continues a b → RunsToEnd fails b c r → RunsToEnd fails a c r
+pub continues_to_end : {A E : Type 0} (fails : E → Type 0) {a b c : Point} (r : Result A (RenderError E)) → Continues a b
+    → RunsToEnd fails b c r → RunsToEnd fails a c r
 continues_to_end {A} {E} fails {a} {b} {c} r h k = record {
   same_lender = k.same_lender ∙ h.same_lender;
   bytes = λ is_known.
       let y = h.bytes is_known in
-      let z = k.bytes y.0 in
-      (z.0, finishing_rendered fails (to_end a.printer) b.printer (known a.sink.bytes) (known b.sink.bytes) (known c.sink.bytes) a.sink.failures b.sink.failures c.sink.failures r y.1.0 y.1.1 z.1);
+      let z = k.bytes y.0 in (
+        z.0,
+        finishing_rendered fails (to_end a.printer) b.printer (known a.sink.bytes) (known b.sink.bytes) (known c.sink.bytes)
+            a.sink.failures b.sink.failures c.sink.failures r y.1.0 y.1.1 z.1,
+      );
   rise = rise_then h.rise k.rise;
   at_most = λ plain.
       let y = h.at_most plain in
@@ -168,33 +209,41 @@ path_continues {a} {b} p = record {
 }
 
 -- the commands broke off
-pub work_stopped : {A B E : Type 0} (fails : E → Type 0) {a b : Point} (e : RenderError E) → WorksOff {A = A} fails a b (Err e) → RunsToEnd {A = B} fails a b (Err e)
+pub work_stopped : {A B E : Type 0} (fails : E → Type 0) {a b : Point} (e : RenderError E) → WorksOff {A = A} fails a b (Err e)
+    → RunsToEnd {A = B} fails a b (Err e)
 work_stopped {A} {B} {E} fails {a} {b} e h =
     let old = known a.sink.bytes in
     record {
       same_lender = h.same_lender;
       bytes = λ is_known.
-          let y = h.bytes is_known in
-          (y.0, finishing_stopped B (to_end a.printer) a.printer fails old old (known b.sink.bytes) a.sink.failures a.sink.failures b.sink.failures e (finishing_begins a.printer old) refl y.1);
+          let y = h.bytes is_known in (
+            y.0,
+            finishing_stopped B (to_end a.printer) a.printer fails old old (known b.sink.bytes) a.sink.failures a.sink.failures
+                b.sink.failures e (finishing_begins a.printer old) refl y.1,
+          );
       rise = h.rise;
       at_most = h.at_most;
       at_least = tt;
     }
 
 -- what the commands left at the end
-work_ending : {A E : Type 0} (fails : E → Type 0) {a b : Point} (x : A) → WorksOff fails a b (Ok x) → (z : (bytes : List ℕ) × (rest_of a.printer ≡ Done bytes (state_at b.printer)) × (known b.sink.bytes ≡ known a.sink.bytes ++ bytes) × (b.sink.failures ≡ a.sink.failures)) →
+work_ending : {A E : Type 0} (fails : E → Type 0) {a b : Point} (x : A) → WorksOff fails a b (Ok x)
+    → (z : (bytes : List ℕ) × (rest_of a.printer ≡ Done bytes (state_at b.printer)) × (known b.sink.bytes ≡ known a.sink.bytes ++ bytes)
+    × (b.sink.failures ≡ a.sink.failures)) →
     Ending (to_end a.printer) a.printer.options b.printer (known a.sink.bytes) (known b.sink.bytes)
 work_ending {A} {E} fails {a} {b} x h z =
     let old = known a.sink.bytes in
     finishing_ends (to_end a.printer) a.printer b.printer old old (known b.sink.bytes) z.0 (finishing_begins a.printer old) z.1 z.2
 
 -- the commands are worked off, and nothing waits: that is all
-pub work_ends : {A B E : Type 0} (fails : E → Type 0) {a b : Point} (x : A) (y : B) → WorksOff fails a b (Ok x) → length (state_at b.printer).pending ≤ 0 → RunsToEnd fails a b (Ok y)
+pub work_ends : {A B E : Type 0} (fails : E → Type 0) {a b : Point} (x : A) (y : B) → WorksOff fails a b (Ok x)
+    → length (state_at b.printer).pending ≤ 0 → RunsToEnd fails a b (Ok y)
 work_ends {A} {B} {E} fails {a} {b} x y h none = record {
   same_lender = h.same_lender;
   bytes = λ is_known.
       let z = h.bytes is_known in
-      let all = ending_done (to_end a.printer) a.printer.options b.printer (known a.sink.bytes) (known b.sink.bytes) (work_ending fails x h z.1) none in
+      let all = ending_done (to_end a.printer) a.printer.options b.printer (known a.sink.bytes) (known b.sink.bytes)
+      (work_ending fails x h z.1) none in
       (z.0, (all.0, all.1, all.2, z.1.3));
   rise = h.rise;
   at_most = h.at_most;
@@ -202,13 +251,15 @@ work_ends {A} {B} {E} fails {a} {b} x y h none = record {
 }
 
 -- a round takes work away
-pub round_lessens : {A B E : Type 0} (fails : E → Type 0) {a b : Point} {q : Standing} {t : Seen} (x : A) (y : B) → WorksOff {A = A} {E = E} fails a b (Ok x) → FlushesEnd {A = B} {E = E} b.printer q b.sink t (Ok y) →
+pub round_lessens : {A B E : Type 0} (fails : E → Type 0) {a b : Point} {q : Standing} {t : Seen} (x : A) (y : B)
+    → WorksOff {A = A} {E = E} fails a b (Ok x) → FlushesEnd {A = B} {E = E} b.printer q b.sink t (Ok y) →
     0 < length (state_at b.printer).pending → work_at (point_at q t b.visits) < work_at a
 round_lessens {A} {B} {E} fails {a} {b} {q} {t} x y h k some =
     omega (arith, ap nodes k.stack, ap (λ (u : State). owed u.pending) k.state, round_less (state_at b.printer).pending some, h.lessens)
 
 -- what waits is laid next
-pub round_continues : {A B E : Type 0} (fails : E → Type 0) {a b : Point} {q : Standing} {t : Seen} (x : A) (y : B) → WorksOff {A = A} {E = E} fails a b (Ok x) → FlushesEnd {A = B} {E = E} b.printer q b.sink t (Ok y) →
+pub round_continues : {A B E : Type 0} (fails : E → Type 0) {a b : Point} {q : Standing} {t : Seen} (x : A) (y : B)
+    → WorksOff {A = A} {E = E} fails a b (Ok x) → FlushesEnd {A = B} {E = E} b.printer q b.sink t (Ok y) →
     0 < length (state_at b.printer).pending → Continues a (point_at q t b.visits)
 round_continues {A} {B} {E} fails {a} {b} {q} {t} x y h k some =
     let old = known a.sink.bytes in
@@ -219,16 +270,23 @@ round_continues {A} {B} {E} fails {a} {b} {q} {t} x y h k some =
       same_lender = k.same_lender ∙ h.same_lender;
       bytes = λ is_known.
           let z = h.bytes is_known in
-          let end = subst (λ (c : RenderOptions). Ending (to_end a.printer) c b.printer old new) (sym h.options) (work_ending fails x h z.1) in
-          let w = k.bytes z.0 in
-          (w.0, (ending_again (to_end a.printer) o b.printer q old new (known t.bytes) end k.options some k.stack k.state w.1.0, w.1.1 ∙ z.1.3));
+          let end = subst (λ (c : RenderOptions). Ending (to_end a.printer) c b.printer old new) (sym h.options)
+          (work_ending fails x h z.1) in
+          let w = k.bytes z.0 in (
+            w.0,
+            (
+              ending_again (to_end a.printer) o b.printer q old new (known t.bytes) end k.options some k.stack k.state w.1.0,
+              w.1.1 ∙ z.1.3,
+            ),
+          );
       rise = h.rise;
       at_most = λ plain. absurd (omega (arith, some, ap length (h.at_most plain).0.pending));
       at_least = at_least_at (λ k. omega arith) (λ k. omega arith) h.at_least;
     }
 
 -- the gap before what waits broke off
-pub round_stopped : {A B C E : Type 0} (fails before : E → Type 0) {a b : Point} {q : Standing} {t : Seen} (x : A) (e : RenderError E) → WorksOff {A = A} {E = E} before a b (Ok x) → FlushesEnd {A = B} {E = E} b.printer q b.sink t (Err e) →
+pub round_stopped : {A B C E : Type 0} (fails before : E → Type 0) {a b : Point} {q : Standing} {t : Seen} (x : A) (e : RenderError E)
+    → WorksOff {A = A} {E = E} before a b (Ok x) → FlushesEnd {A = B} {E = E} b.printer q b.sink t (Err e) →
     0 < length (state_at b.printer).pending → RunsToEnd {A = C} fails a (point_at q t b.visits) (Err e)
 round_stopped {A} {B} {C} {E} fails before {a} {b} {q} {t} x e h k some =
     let old = known a.sink.bytes in
@@ -237,8 +295,11 @@ round_stopped {A} {B} {C} {E} fails before {a} {b} {q} {t} x e h k some =
       same_lender = k.same_lender ∙ h.same_lender;
       bytes = λ is_known.
           let z = h.bytes is_known in
-          let w = k.bytes z.0 in
-          (w.0, ending_stopped C (to_end a.printer) a.printer.options b.printer fails old new (known t.bytes) a.sink.failures b.sink.failures t.failures e (work_ending before x h z.1) some z.1.3 w.1);
+          let w = k.bytes z.0 in (
+            w.0,
+            ending_stopped C (to_end a.printer) a.printer.options b.printer fails old new (known t.bytes) a.sink.failures
+                b.sink.failures t.failures e (work_ending before x h z.1) some z.1.3 w.1,
+          );
       rise = h.rise;
       at_most = λ plain. absurd (omega (arith, some, ap length (h.at_most plain).0.pending));
       at_least = tt;
@@ -261,7 +322,8 @@ pub came_alone : (a b : Point) (us : List Held) (buffer : Seen) → us ≡ [] �
 came_alone a b us buffer none h = subst (λ (u : List Held). Comes a u buffer b) none h
 
 -- it has come to a choice, whose trials are open
-pub comes_in_choice : (a c at b : Point) (us : List Held) (buffer : Seen) (i : ℕ) (x y : Tree) → Continues a c → Waiting (run_of c) i x y at → InChoice i x y at us buffer b → Comes a us buffer b
+pub comes_in_choice : (a c at b : Point) (us : List Held) (buffer : Seen) (i : ℕ) (x y : Tree) → Continues a c → Waiting (run_of c) i x y at
+    → InChoice i x y at us buffer b → Comes a us buffer b
 comes_in_choice a c at b [] buffer i x y h waiting choice = absurd choice.trials
 comes_in_choice a c at b (u ∷ us) buffer i x y h waiting choice =
     record { c = c; continues = h; indent = i; first = x; second = y; at = at; waiting = waiting; choice = choice }
@@ -274,22 +336,37 @@ came_in_choice a b (u ∷ us) buffer some h = h
 comes_then : (a b c : Point) (us : List Held) (buffer : Seen) → Continues a b → Comes b us buffer c → Comes a us buffer c
 comes_then a b c [] buffer h k = continues_then h k
 comes_then a b c (u ∷ us) buffer h k =
-    record { c = k.c; continues = continues_then h k.continues; indent = k.indent; first = k.first; second = k.second; at = k.at; waiting = k.waiting; choice = k.choice }
+    record {
+      c = k.c;
+      continues = continues_then h k.continues;
+      indent = k.indent;
+      first = k.first;
+      second = k.second;
+      at = k.at;
+      waiting =
+          k.waiting;
+      choice = k.choice;
+    }
 
-pub stops_then : (limit : ℕ) (a b c : Point) (us : List Held) (buffer : Seen) → Continues a b → Stops limit b us buffer c → Stops limit a us buffer c
+pub stops_then : (limit : ℕ) (a b c : Point) (us : List Held) (buffer : Seen) → Continues a b → StopsPastLimit limit b us buffer c
+    → StopsPastLimit limit a us buffer c
 stops_then limit a b c us buffer h k = record { comes = comes_then a b c us buffer h k.comes; past = k.past }
 
 -- what a run leaves and a run of that, which may stop, are a run that may stop
-pub runs_then : {E : Type 0} (fails : E → Type 0) (limit : ℕ) (a b c : Point) (us : List Held) (buffer : Seen) (r : Result Ran (RenderError E)) → Continues a b → RunsOn fails limit b us buffer c r → RunsOn fails limit a us buffer c r
-runs_then {E} fails limit a b c us buffer (Ok ran.Done) h k = continues_to_end fails (Ok ran.Done) h k
-runs_then {E} fails limit a b c us buffer (Ok ran.Shift) h k = stops_then limit a b c us buffer h k
+pub runs_then : {E : Type 0} (fails : E → Type 0) (limit : ℕ) (a b c : Point) (us : List Held) (buffer : Seen)
+    (r : Result RunResult (RenderError E)) → Continues a b → RunsOn fails limit b us buffer c r → RunsOn fails limit a us buffer c r
+runs_then {E} fails limit a b c us buffer (Ok run_result.Finished) h k = continues_to_end fails (Ok run_result.Finished) h k
+runs_then {E} fails limit a b c us buffer (Ok run_result.Shift) h k = stops_then limit a b c us buffer h k
 runs_then {E} fails limit a b c us buffer (Err e) h k = continues_to_end fails (Err e) h k
 
 -- a choice in which a run came is made
-pub choice_continues : {E : Type 0} {a c at b : Point} (i : ℕ) (x y : Tree) → Continues a c → Waiting (run_of c) i x y at → Chooses {A = Ran} {E = E} i x y at b (Ok ran.Done) → Continues a b
+pub choice_continues : {E : Type 0} {a c at b : Point} (i : ℕ) (x y : Tree) → Continues a c → Waiting (run_of c) i x y at
+    → Chooses {A = RunResult} {E = E} i x y at b (Ok run_result.Finished) → Continues a b
 choice_continues {E} {a} {c} {at} {b} i x y h waiting k = continues_then h (path_continues (k.runs (run_of c) waiting))
 
 -- it broke off
-pub choice_stopped : {E : Type 0} (fails : E → Type 0) {a c at b : Point} (i : ℕ) (x y : Tree) (e : RenderError E) → Continues a c → Waiting (run_of c) i x y at → Chooses {A = Ran} {E = E} i x y at b (Err e) → RunsToEnd {A = Ran} fails a b (Err e)
+pub choice_stopped : {E : Type 0} (fails : E → Type 0) {a c at b : Point} (i : ℕ) (x y : Tree) (e : RenderError E) → Continues a c
+    → Waiting (run_of c) i x y at → Chooses {A = RunResult} {E = E} i x y at b (Err e) → RunsToEnd {A = RunResult} fails a b (Err e)
 choice_stopped {E} fails {a} {c} {at} {b} i x y e h waiting k =
-    continues_to_end fails (Err e) h (work_stopped {A = Ran} fails e (run_broke_off fails e (steps.broke_anyhow fails e (k.runs (run_of c) waiting))))
+    continues_to_end fails (Err e) h
+    (work_stopped {A = RunResult} fails e (run_broke_off fails e (steps.broke_anyhow fails e (k.runs (run_of c) waiting))))

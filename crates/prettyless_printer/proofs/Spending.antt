@@ -5,7 +5,9 @@ use Rattle.prettyless_sink.specs.declared.visits.Visits.{Visits}
 use Rattle.prettyless_model.specs.declared.options.RenderOptions.{RenderOptions}
 use Rattle.prettyless_model.specs.declared.mode.Mode.{Mode}
 use Rattle.prettyless_model.specs.declared.mode.Mode.TheVariants.{Break, Flat}
-use Rattle.prettyless_model.specs.Tree.{Tree, Nil, Fail, Text, TextWithLen, MultilineText, WeakSpace, HardLine, WeakLine, Append, LineSuffix, Nest, DedentToRoot, Align, ExpandParent, Flatten, BreakOrFlat, Group, Union, PartialUnion, OnColumn, OnNesting, size}
+use Rattle.prettyless_model.specs.Tree.{Tree, Nil, Fail, Text, TextWithLen, MultilineText, WeakSpace, HardLine, WeakLine, Append}
+use Rattle.prettyless_model.specs.Tree.{LineSuffix, Nest, DedentToRoot, Align, ExpandParent, Flatten, BreakOrFlat, Group, Union}
+use Rattle.prettyless_model.specs.Tree.{PartialUnion, OnColumn, OnNesting, size}
 use Rattle.prettyless_model.specs.Content.{suffix_depth}
 use Rattle.prettyless_model.specs.Counts.{each_probe}
 use Rattle.prettyless_model.specs.Layout.{State, some_pending}
@@ -16,7 +18,7 @@ use Rattle.prettyless_step.specs.Probing.{asked, Few}
 use Rattle.prettyless_step.specs.Printing.{Hands, Shows, state_of, tasks_of}
 use Rattle.prettyless_step.specs.Sums.{AllSummed, HaveSummaries, StepHas, TreesHave}
 use Rattle.prettyless_step.specs.declared.printer.Printer.{Printer}
-use Rattle.prettyless_step.specs.declared.printer.Taken.TheVariants.{Failed, Chosen}
+use Rattle.prettyless_step.specs.declared.printer.StepResult.TheVariants.{Failed, Choice}
 use Rattle.prettyless_step.proofs.Shown.{step_at, Leads, Asks}
 use Rattle.prettyless_step.proofs.Summaries.{step_has}
 use Rattle.prettyless_printer.specs.Points.{Standing, standing, state_at, Seen, Point, point}
@@ -53,7 +55,8 @@ each_probe_one (OnColumn test l r) m = omega arith
 each_probe_one (OnNesting test l r) m = omega arith
 
 -- a probe that is asked within a limit visits no more nodes past it than are left
-capped_one : (d : Tree) (m : Mode) (k limit v x most : ℕ) → (0 < each_probe d m → v ≤ limit) → x ≤ v + asked d m k → v ≤ most → limit + (size d + k) ≤ most → x ≤ most
+capped_one : (d : Tree) (m : Mode) (k limit v x most : ℕ) → (0 < each_probe d m → v ≤ limit) → x ≤ v + asked d m k → v ≤ most
+    → limit + (size d + k) ≤ most → x ≤ most
 capped_one Nil m k limit v x most asks counted low high = omega (arith, counted)
 capped_one Fail m k limit v x most asks counted low high = omega (arith, counted)
 capped_one (Text s) m k limit v x most asks counted low high = omega (arith, counted)
@@ -126,7 +129,8 @@ abbrev pub on_tasks : List Task → List Tree → Visits → Left
 on_tasks ts q v = record { tasks = ts; seconds = []; queue = q; visits = v }
 
 -- one step
-step_spends : (r : Rule) (t : Task) (ts us : List Task) (q q' : List Tree) (v x : Visits) → StepVisits r t ts v x → CountsAtMost (t ∷ ts) us v x →
+step_spends : (r : Rule) (t : Task) (ts us : List Task) (q q' : List Tree) (v x : Visits) → StepVisits r t ts v x
+    → CountsAtMost (t ∷ ts) us v x →
     (HaveSummaries (t ∷ ts) → HaveSummaries us) → (q ≡ [] → q' ≡ []) → Spends r (on_tasks (t ∷ ts) q v) (on_tasks us q' x)
 step_spends r t ts us q q' v x one counts have queue = record {
   nodes = omega (arith, counts.left);
@@ -135,7 +139,8 @@ step_spends r t ts us q q' v x one counts have queue = record {
   capped = λ most l m. capped_one t.tree t.mode (nodes ts) r.limit v.probes x.probes most one.asks one.counted l (omega (arith, m));
   have = λ h. (have h.0, tt);
   few = λ is_true width small h.
-      let all : AllSummed r.has t.tree ts = record { summaries = is_true; own = h.0.0; small = omega (arith, small); below = (h.0.1, omega (arith, small)) } in
+      let all : AllSummed r.has t.tree ts =
+      record { summaries = is_true; own = h.0.0; small = omega (arith, small); below = (h.0.1, omega (arith, small)) } in
       (1, omega (arith, one.few width all, each_probe_one t.tree t.mode), omega (arith, one.least));
 }
 
@@ -143,7 +148,8 @@ have_append : (ts us : List Task) → HaveSummaries ts → HaveSummaries us → 
 have_append [] us h k = k
 have_append (t ∷ ts) us h k = (h.0, have_append ts us h.1 k)
 
-leads_have : (ts us : List Task) (bytes : List ℕ) (u : State) (step : Step) → StepHas step → HaveSummaries ts → Leads step ts bytes us u → HaveSummaries us
+leads_have : (ts us : List Task) (bytes : List ℕ) (u : State) (step : Step) → StepHas step → HaveSummaries ts → Leads step ts bytes us u
+    → HaveSummaries us
 leads_have ts us bytes u (Move b pushed x) h k l = subst HaveSummaries (sym l.1) (have_append pushed ts h.0 k)
 leads_have ts us bytes u Stuck h k l = absurd l
 leads_have ts us bytes u (Choose i x y) h k l = absurd l
@@ -154,7 +160,8 @@ asks_have i x y Stuck h k = absurd k
 asks_have i x y (Choose j l r) h k = (subst HasSums (sym k.1) h.0, subst HasSums (sym k.2) h.1)
 
 -- the step of a task of which all nodes have summaries, where nothing is pending
-task_has : (o : RenderOptions) (t : Task) (ts : List Task) (st : State) → st.pending ≡ [] → HaveSummaries (t ∷ ts) → StepHas (step_at o t ts st)
+task_has : (o : RenderOptions) (t : Task) (ts : List Task) (st : State) → st.pending ≡ [] → HaveSummaries (t ∷ ts)
+    → StepHas (step_at o t ts st)
 task_has o t ts st none h = step_has o t.tree t.indent t.mode (follow ts) st h.0 (subst TreesHave (sym none) tt)
 
 -- what is left with a task in hand
@@ -168,8 +175,10 @@ pub record Takes {N : Type 0} (f : N → Tree) (r : Rule) (a : Point) (t : Task)
   pub visits : StepVisits r t (tasks_of f p) v x
   pub spent : Plain a.printer → Spends r (left a.printer [] a.visits) (left_with t (standing f p) v)
 
-pub takes : {N : Type 0} (f : N → Tree) (has : Bool) (limit : ℕ) {a : Point} {t : Task} (p : Printer N) {s : Seen} {v : Visits} (x : Visits) → InHand a t (point f p s v) → Visit a.printer.options t (point f p s v) x →
-    (0 < each_probe t.tree t.mode → v.probes ≤ limit) → x.probes ≤ v.probes + asked t.tree t.mode (nodes (tasks_of f p)) → Few has p.options.width t.tree (tasks_of f p) (each_probe t.tree t.mode) v.probes x.probes →
+pub takes : {N : Type 0} (f : N → Tree) (has : Bool) (limit : ℕ) {a : Point} {t : Task} (p : Printer N) {s : Seen} {v : Visits} (x : Visits)
+    → InHand a t (point f p s v) → Visit a.printer.options t (point f p s v) x →
+    (0 < each_probe t.tree t.mode → v.probes ≤ limit) → x.probes ≤ v.probes + asked t.tree t.mode (nodes (tasks_of f p))
+    → Few has p.options.width t.tree (tasks_of f p) (each_probe t.tree t.mode) v.probes x.probes →
     (Plain a.printer → Spends (rule_of has a.printer.options limit) (left a.printer [] a.visits) (left_with t (standing f p) v)) →
     Takes f (rule_of has a.printer.options limit) a t p s v x
 takes {N} f has limit {a} {t} p {s} {v} x hand one asks counted few spent = record {
@@ -186,13 +195,16 @@ takes {N} f has limit {a} {t} p {s} {v} x hand one asks counted few spent = reco
 
 -- no line suffix is visited by the step
 same_queue : {N : Type 0} (f : N → Tree) (t : Task) (p q : Printer N) → NoSuffix (t ∷ tasks_of f p) (state_at (standing f p)) →
-    (suffix_depth t.tree ≡ 0 → some_pending (state_of f p).pending ≡ false → q.queue ≡ p.queue) → (standing f p).queue ≡ [] → (standing f q).queue ≡ []
+    (suffix_depth t.tree ≡ 0 → some_pending (state_of f p).pending ≡ false → q.queue ≡ p.queue) → (standing f p).queue ≡ []
+    → (standing f q).queue ≡ []
 same_queue {N} f t p q plain same none =
     ap (λ z. trees f z.nodes.items) (same (omega (arith, plain.0)) (waits_there f p ∙ ap some_pending plain.1)) ∙ none
 
 -- the step leads to the next node in hand
-pub spends_down : {N : Type 0} (f : N → Tree) {r : Rule} {a : Point} {t : Task} {s : Seen} {v x : Visits} (p q : Printer N) (i : ℕ) (m : Mode) (n : N) → Takes f r a t p s v x → Plain a.printer →
-    (suffix_depth t.tree ≡ 0 → some_pending (state_of f p).pending ≡ false → q.queue ≡ p.queue) → Hands f i m n (step_from a.printer.options t (standing f p)) p q →
+pub spends_down : {N : Type 0} (f : N → Tree) {r : Rule} {a : Point} {t : Task} {s : Seen} {v x : Visits} (p q : Printer N) (i : ℕ)
+    (m : Mode) (n : N) → Takes f r a t p s v x → Plain a.printer →
+    (suffix_depth t.tree ≡ 0 → some_pending (state_of f p).pending ≡ false → q.queue ≡ p.queue)
+    → Hands f i m n (step_from a.printer.options t (standing f p)) p q →
     Spends r (left a.printer [] a.visits) (left_with (make_task i m (f n)) (standing f q) x)
 spends_down {N} f {r} {a} {t} {s} {v} {x} p q i m n h plain same shows =
     let o = a.printer.options in
@@ -209,8 +221,10 @@ spends_down {N} f {r} {a} {t} {s} {v} {x} p q i m n h plain same shows =
     (same_queue f t p q y same))
 
 -- the step wrote its bytes
-pub spends_went : {N : Type 0} (f : N → Tree) {r : Rule} {a : Point} {t : Task} {s : Seen} {v x : Visits} (p q : Printer N) (bytes : List ℕ) → Takes f r a t p s v x → Plain a.printer →
-    (suffix_depth t.tree ≡ 0 → some_pending (state_of f p).pending ≡ false → q.queue ≡ p.queue) → Wrote (step_from a.printer.options t (standing f p)) bytes (standing f p) (standing f q) →
+pub spends_went : {N : Type 0} (f : N → Tree) {r : Rule} {a : Point} {t : Task} {s : Seen} {v x : Visits} (p q : Printer N) (bytes : List ℕ)
+    → Takes f r a t p s v x → Plain a.printer →
+    (suffix_depth t.tree ≡ 0 → some_pending (state_of f p).pending ≡ false → q.queue ≡ p.queue)
+    → Wrote (step_from a.printer.options t (standing f p)) bytes (standing f p) (standing f q) →
     Spends r (left a.printer [] a.visits) (left (standing f q) [] x)
 spends_went {N} f {r} {a} {t} {s} {v} {x} p q bytes h plain same k =
     let o = a.printer.options in
@@ -225,8 +239,10 @@ spends_went {N} f {r} {a} {t} {s} {v} {x} p q bytes h plain same k =
     (same_queue f t p q y same))
 
 -- the step fails
-pub spends_failed : {N : Type 0} (f : N → Tree) {r : Rule} {a : Point} {t : Task} {s : Seen} {v x : Visits} (p q : Printer N) → Takes f r a t p s v x → Plain a.printer →
-    Shows f t.mode Failed (step_from a.printer.options t (standing f p)) p q → Spends r (left a.printer [] a.visits) (left (standing f q) [] x)
+pub spends_failed : {N : Type 0} (f : N → Tree) {r : Rule} {a : Point} {t : Task} {s : Seen} {v x : Visits} (p q : Printer N)
+    → Takes f r a t p s v x → Plain a.printer →
+    Shows f t.mode Failed (step_from a.printer.options t (standing f p)) p q
+    → Spends r (left a.printer [] a.visits) (left (standing f q) [] x)
 spends_failed {N} f {r} {a} {t} {s} {v} {x} p q h plain shows =
     let o = a.printer.options in
     let b = standing f p in
@@ -235,9 +251,11 @@ spends_failed {N} f {r} {a} {t} {s} {v} {x} p q h plain shows =
     (spends_then (h.spent plain) (step_spends r t b.tasks b.tasks b.queue b.queue v x h.visits counts (λ g. g.1) (λ e. e)))
 
 -- a choice comes next
-pub spends_chosen : {N : Type 0} (f : N → Tree) {r : Rule} {a : Point} {t : Task} {s : Seen} {v x : Visits} (p q : Printer N) (i : ℕ) (y z : N) → Takes f r a t p s v x → Plain a.printer →
-    Shows f t.mode (Chosen i y z) (step_from a.printer.options t (standing f p)) p q →
-    Spends r (left a.printer [] a.visits) (on_tasks (make_task i Break (f y) ∷ make_task i Break (f z) ∷ (standing f q).tasks) (standing f q).queue x)
+pub spends_chosen : {N : Type 0} (f : N → Tree) {r : Rule} {a : Point} {t : Task} {s : Seen} {v x : Visits} (p q : Printer N) (i : ℕ)
+    (y z : N) → Takes f r a t p s v x → Plain a.printer →
+    Shows f t.mode (Choice i y z) (step_from a.printer.options t (standing f p)) p q →
+    Spends r (left a.printer [] a.visits)
+    (on_tasks (make_task i Break (f y) ∷ make_task i Break (f z) ∷ (standing f q).tasks) (standing f q).queue x)
 spends_chosen {N} f {r} {a} {t} {s} {v} {x} p q i y z h plain shows =
     let o = a.printer.options in
     let b = standing f p in
@@ -246,24 +264,31 @@ spends_chosen {N} f {r} {a} {t} {s} {v} {x} p q i y z h plain shows =
     let k = asks_there f t.mode i y z (step_from o t b) p q shows in
     let counts = (chosen_at_most o t b.tasks st i (f y) (f z) v x h.one.more none k.0).2 in
     let us : List Task = make_task i Break (f y) ∷ make_task i Break (f z) ∷ b.tasks in
-    subst (λ (u : Standing). Spends r (left a.printer [] a.visits) (on_tasks (make_task i Break (f y) ∷ make_task i Break (f z) ∷ u.tasks) u.queue x)) (sym k.1)
+    subst (λ (u : Standing). Spends r (left a.printer [] a.visits)
+    (on_tasks (make_task i Break (f y) ∷ make_task i Break (f z) ∷ u.tasks) u.queue x)) (sym k.1)
     (spends_then (h.spent plain)
     (step_spends r t b.tasks us b.queue b.queue v x h.visits counts
-    (λ g. let both = asks_have i (f y) (f z) (step_at o t b.tasks st) (task_has o t b.tasks st none.1 g) k.0 in (both.0, (both.1, g.1))) (λ e. e)))
+    (λ g. let both = asks_have i (f y) (f z) (step_at o t b.tasks st) (task_has o t b.tasks st none.1 g) k.0 in
+    (both.0, (both.1, g.1))) (λ e. e)))
 
 -- the step was refused memory
-pub spends_broke : {N : Type 0} (f : N → Tree) {r : Rule} {a : Point} {t : Task} {s : Seen} {v x : Visits} (p : Printer N) → Takes f r a t p s v x → Plain a.printer → Spends r (left a.printer [] a.visits) (none_left x)
+pub spends_broke : {N : Type 0} (f : N → Tree) {r : Rule} {a : Point} {t : Task} {s : Seen} {v x : Visits} (p : Printer N)
+    → Takes f r a t p s v x → Plain a.printer → Spends r (left a.printer [] a.visits) (none_left x)
 spends_broke {N} f {r} {a} {t} {s} {v} {x} p h plain =
     let b = standing f p in
     let counts = failed_at_most a.printer.options t b.tasks (state_at b) v x h.one.more in
     spends_then (h.spent plain) (step_spends r t b.tasks [] b.queue [] v x h.visits (at_most_all counts) (λ g. tt) (λ e. refl))
 
 -- the task in hand is the next one again
-pub spends_stopped : {r : Rule} {a : Left} (t : Task) (p : Standing) {v : Visits} (q : Standing) → q.tasks ≡ t ∷ p.tasks → q.queue ≡ p.queue → Spends r a (left_with t p v) → Spends r a (left q [] v)
+pub spends_stopped : {r : Rule} {a : Left} (t : Task) (p : Standing) {v : Visits} (q : Standing) → q.tasks ≡ t ∷ p.tasks → q.queue ≡ p.queue
+    → Spends r a (left_with t p v) → Spends r a (left q [] v)
 spends_stopped {r} {a} t p {v} q e h k =
-    subst (λ (z : List Task). Spends r a (on_tasks z q.queue v)) (sym e) (subst (λ (z : List Tree). Spends r a (on_tasks (t ∷ p.tasks) z v)) (sym h) k)
+    subst (λ (z : List Task). Spends r a (on_tasks z q.queue v)) (sym e)
+    (subst (λ (z : List Tree). Spends r a (on_tasks (t ∷ p.tasks) z v)) (sym h) k)
 
 -- the next command is in hand
-pub spends_begun : (r : Rule) (a p : Standing) (t : Task) (v : Visits) → a.tasks ≡ t ∷ p.tasks → p.queue ≡ a.queue → Spends r (left a [] v) (left_with t p v)
+pub spends_begun : (r : Rule) (a p : Standing) (t : Task) (v : Visits) → a.tasks ≡ t ∷ p.tasks → p.queue ≡ a.queue
+    → Spends r (left a [] v) (left_with t p v)
 spends_begun r a p t v e h =
-    subst (λ (z : List Task). Spends r (left a [] v) (on_tasks z p.queue v)) e (subst (λ (z : List Tree). Spends r (left a [] v) (on_tasks a.tasks z v)) (sym h) (spends_same r (left a [] v)))
+    subst (λ (z : List Task). Spends r (left a [] v) (on_tasks z p.queue v)) e
+    (subst (λ (z : List Tree). Spends r (left a [] v) (on_tasks a.tasks z v)) (sym h) (spends_same r (left a [] v)))

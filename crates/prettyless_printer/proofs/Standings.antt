@@ -10,17 +10,18 @@ use Rattle.prettyless_step.specs.Steps.{Step}
 use Rattle.prettyless_step.specs.Printing as step
 use Rattle.prettyless_step.specs.Printing.{state_of, tasks_of, Hands, Shows, Writes}
 use Rattle.prettyless_step.specs.declared.printer.Printer.{Printer}
-use Rattle.prettyless_step.specs.declared.printer.Taken.TheVariants.{Failed, Chosen}
+use Rattle.prettyless_step.specs.declared.printer.StepResult.TheVariants.{Failed, Choice}
 use Rattle.prettyless_step.proofs.Queues.{trees-append}
 use Rattle.prettyless_step.proofs.Shown.{step_at, Leads, IsStuck, Asks, written, handed, stuck, asks}
-use Rattle.prettyless_printer.specs.Points.{Grows, Standing, standing, state_at}
+use Rattle.prettyless_printer.specs.Points.{QueueGrows, Standing, standing, state_at}
 
 -- the state of a printer is that of where it stands
 pub state_stands : {N : Type 0} (f : N → Tree) (p : Printer N) → state_of f p ≡ state_at (standing f p)
 state_stands {N} f p = λ j. record { column = p.column; pending = sym (drop-map f p.queue.start p.queue.nodes.items) j; within = p.within }
 
 -- whether documents are pending
-pub waits_there : {N : Type 0} (f : N → Tree) (p : Printer N) → some_pending (state_of f p).pending ≡ some_pending (state_at (standing f p)).pending
+pub waits_there : {N : Type 0} (f : N → Tree) (p : Printer N) → some_pending (state_of f p).pending ≡ some_pending
+    (state_at (standing f p)).pending
 waits_there {N} f p = ap (λ (u : State). some_pending u.pending) (state_stands f p)
 
 -- the queue of a standing is as long as that of its printer
@@ -28,7 +29,7 @@ pub length_queue : {N : Type 0} (f : N → Tree) (p : Printer N) → length (sta
 length_queue {N} f p = length-map p.queue.nodes.items f ∙ sym p.queue.nodes.ok.0
 
 -- the queue only grows
-pub grows_stands : {N : Type 0} (f : N → Tree) (p q : Printer N) → step.Grows p q → Grows (standing f p) (standing f q)
+pub grows_stands : {N : Type 0} (f : N → Tree) (p q : Printer N) → step.PrinterGrows p q → QueueGrows (standing f p) (standing f q)
 grows_stands {N} f p q g = (trees f g.0, ap (trees f) g.1 ∙ trees-append f p.queue.nodes.items g.0)
 
 -- the step of a task, where a printer stands
@@ -39,9 +40,10 @@ step_from o t p = step_at o t p.tasks (state_at p)
 pub record Wrote (step : Step) (bytes : List ℕ) (p q : Standing) : Type 0 where
   pub leads : Leads step p.tasks bytes q.tasks (state_at q)
   pub options : q.options ≡ p.options
-  pub grows : Grows p q
+  pub grows : QueueGrows p q
 
-pub wrote : {N : Type 0} (f : N → Tree) (step : Step) (bytes : List ℕ) (p q : Printer N) → Writes f bytes step p q → Wrote step bytes (standing f p) (standing f q)
+pub wrote : {N : Type 0} (f : N → Tree) (step : Step) (bytes : List ℕ) (p q : Printer N) → Writes f bytes step p q
+    → Wrote step bytes (standing f p) (standing f q)
 wrote {N} f step bytes p q h =
     let k = written f bytes step p q h in
     record {
@@ -55,11 +57,12 @@ pub record PutInHand (t : Task) (step : Step) (p q : Standing) : Type 0 where
   pub leads : Leads step p.tasks [] (t ∷ q.tasks) (state_at q)
   pub state : state_at q ≡ state_at p
   pub options : q.options ≡ p.options
-  pub grows : Grows p q
+  pub grows : QueueGrows p q
   pub long : length p.tasks ≤ length q.tasks
   pub heavy : nodes p.tasks ≤ nodes q.tasks
 
-pub put_in_hand : {N : Type 0} (f : N → Tree) (i : ℕ) (m : Mode) (n : N) (step : Step) (p q : Printer N) → Hands f i m n step p q → PutInHand (make_task i m (f n)) step (standing f p) (standing f q)
+pub put_in_hand : {N : Type 0} (f : N → Tree) (i : ℕ) (m : Mode) (n : N) (step : Step) (p q : Printer N) → Hands f i m n step p q
+    → PutInHand (make_task i m (f n)) step (standing f p) (standing f q)
 put_in_hand {N} f i m n step p q h =
     let k = handed f i m n step p q h in
     record {
@@ -72,13 +75,15 @@ put_in_hand {N} f i m n step p q h =
     }
 
 -- the node fails, and the printer stands where it stood
-pub stuck_there : {N : Type 0} (f : N → Tree) (m : Mode) (step : Step) (p q : Printer N) → Shows f m Failed step p q → IsStuck step × (standing f q ≡ standing f p)
+pub stuck_there : {N : Type 0} (f : N → Tree) (m : Mode) (step : Step) (p q : Printer N) → Shows f m Failed step p q → IsStuck step
+    × (standing f q ≡ standing f p)
 stuck_there {N} f m step p q h =
     let k = stuck f m step p q h in
     (k.0, ap (standing f) k.1)
 
 -- two branches are to be chosen from, and the printer stands where it stood
-pub asks_there : {N : Type 0} (f : N → Tree) (m : Mode) (i : ℕ) (l r : N) (step : Step) (p q : Printer N) → Shows f m (Chosen i l r) step p q → Asks step i (f l) (f r) × (standing f q ≡ standing f p)
+pub asks_there : {N : Type 0} (f : N → Tree) (m : Mode) (i : ℕ) (l r : N) (step : Step) (p q : Printer N)
+    → Shows f m (Choice i l r) step p q → Asks step i (f l) (f r) × (standing f q ≡ standing f p)
 asks_there {N} f m i l r step p q h =
     let k = asks f m i l r step p q h in
     (k.0, ap (standing f) k.1)

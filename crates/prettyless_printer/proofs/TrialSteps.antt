@@ -1,8 +1,7 @@
 -- A trial as a run of its own: begun, gone on with, ended or taken back.
-use Rattle.std.proofs.Common.{◌≡◌, ℕ, ◌+◌, ◌*◌, ◌≤◌, ◌<◌, ◌∷◌, length, refl, ap, ◌∙◌, sym, arith, subst, Ok, true, false, take, length-append, IsErr, Result, Err, Bool}
+use Rattle.std.proofs.Common.{◌≡◌, ℕ, ◌+◌, ◌*◌, ◌≤◌, ◌<◌, ◌∷◌, length, refl, ap, ◌∙◌, arith, subst, Ok, true, false, take}
+use Rattle.std.proofs.Common.{length-append}
 use Rattle.prettyless_sink.specs.Sink.{known}
-use Rattle.prettyless_sink.specs.declared.error.RenderError.{RenderError}
-use Rattle.prettyless_sink.specs.declared.visits.Visits.{Visits}
 use Rattle.prettyless_model.specs.declared.options.RenderOptions.{RenderOptions}
 use Rattle.prettyless_model.specs.Column.{padding_fits}
 use Rattle.prettyless_model.specs.Layout.{State, tried, some_pending}
@@ -12,17 +11,19 @@ use Rattle.prettyless_model.specs.Tree.{Tree, size}
 use Rattle.prettyless_step.specs.Stack.{make_task, nodes}
 use Rattle.prettyless_step.specs.Steps.{owed}
 use Rattle.prettyless_printer.specs.declared.trial.Mark.{Mark}
-use Rattle.prettyless_printer.specs.Points.{Standing, state_at, Grows, Seen, Point, point_at, work_at}
-use Rattle.prettyless_printer.specs.Trials.{Attempt, AtChoice, Fallen, Lasts, Marks, OnTrial, Restores, TrialBroke, TrialDid, Tries, attempt, limit_of, trial_of, trial_run}
-use Rattle.prettyless_printer.specs.Visits.{Plain, suffixes}
+use Rattle.prettyless_printer.specs.Points.{Standing, state_at, QueueGrows, Seen, Point, point_at, work_at}
+use Rattle.prettyless_printer.specs.Trials.{Attempt, AtChoice, Fallen, Lasts, Marks, OnTrial, Restores, TrialBroke, TrialDid, Tries}
+use Rattle.prettyless_printer.specs.Trials.{attempt, work_limit, trial_of, trial_run}
+use Rattle.prettyless_printer.specs.Visits.{Plain, suffix_depths}
 use Rattle.prettyless_printer.specs.Paths.{BeganPlain, Path}
 use Rattle.prettyless_printer.specs.Turns.{Advances, Goes}
-use Rattle.prettyless_printer.specs.declared.answer.Turn.TheVariants as turn
-use Rattle.prettyless_printer.proofs.PathSteps.{at_failing, at_run, comes_to_wait, goes_on, stops}
+use Rattle.prettyless_printer.specs.declared.answer.TurnResult.TheVariants as turn_result
+use Rattle.prettyless_printer.proofs.PathSteps.{at_run, comes_to_wait, goes_on, stops}
 use Rattle.prettyless_printer.proofs.Progresses.{inside_past}
-use Rattle.prettyless_printer.proofs.Within.{Past, accept_past}
-use Rattle.prettyless_printer.proofs.Trying.{grows-grows, padding_rejects, trial_ends, trying_begins, trial_rejected, trial_kept}
-use Rattle.prettyless_printer.proofs.Visits.{rise_same, rise_then, at_most_all, at_most_same, at_most_at, at_most_cut, at_most_then, plain_at, plain_push}
+use Rattle.prettyless_printer.proofs.Within.{accept_past}
+use Rattle.prettyless_printer.proofs.Trying.{padding_rejects, trial_ends, trying_begins, trial_rejected, trial_kept}
+use Rattle.prettyless_printer.proofs.Visits.{rise_same, at_most_all, at_most_same, at_most_at, at_most_cut}
+use Rattle.prettyless_printer.proofs.Visits.{plain_at, plain_push}
 use Rattle.prettyless_printer.proofs.AtLeast.{at_least_end, trial_begins}
 
 -- it began without line suffixes, if there were none and the branch has none
@@ -30,8 +31,9 @@ pub began_plain : (t : Attempt) → Plain t.start.printer → suffix_depth t.bra
 began_plain t plain none = (omega (arith, plain.none, none), plain.pending)
 
 -- it begins: the branch is the next task
-pub trial_run_begins : (a : Point) (q : Standing) (i : ℕ) (d : Tree) → q.tasks ≡ make_task i Break d ∷ a.printer.tasks → state_at q ≡ tried (state_at a.printer) →
-    q.options ≡ a.printer.options → Grows a.printer q → Path (trial_run (attempt a i d)) (point_at q a.sink a.visits)
+pub trial_run_begins : (a : Point) (q : Standing) (i : ℕ) (d : Tree) → q.tasks ≡ make_task i Break d ∷ a.printer.tasks
+    → state_at q ≡ tried (state_at a.printer) →
+    q.options ≡ a.printer.options → QueueGrows a.printer q → Path (trial_run (attempt a i d)) (point_at q a.sink a.visits)
 trial_run_begins a q i d e s o grows = record {
   options = o;
   grows = grows;
@@ -40,13 +42,16 @@ trial_run_begins a q i d e s o grows = record {
   bytes = λ is_known. (is_known, (trying_begins a.printer q i d (known a.sink.bytes) e s, refl));
   rise = rise_same a.visits;
   at_most = λ began.
-      let plain : Plain a.printer = record { none = omega (arith, began.0); pending = began.1 } in
-      (plain_push a.printer q (make_task i Break d) e (ap (λ (z : State). z.pending) s) (omega (arith, began.0)) plain, at_most_at q.tasks e (at_most_same (make_task i Break d ∷ a.printer.tasks) a.visits));
+      let plain : Plain a.printer = record { none = omega (arith, began.0); pending = began.1 } in (
+        plain_push a.printer q (make_task i Break d) e (ap (λ (z : State). z.pending) s) (omega (arith, began.0)) plain,
+        at_most_at q.tasks e (at_most_same (make_task i Break d ∷ a.printer.tasks) a.visits),
+      );
   at_least = trial_begins a.printer q i d a.visits o e s;
 }
 
 -- a turn that goes on within the width
-pub course_goes : {N E : Type 0} (f : N → Tree) {t : Attempt} {below : ℕ} {a b : Point} → OnTrial t below a → below < length a.printer.tasks → Advances {N = N} {E = E} f a b (Ok turn.Went) →
+pub course_goes : {N E : Type 0} (f : N → Tree) {t : Attempt} {below : ℕ} {a b : Point} → OnTrial t below a → below < length a.printer.tasks
+    → Advances {N = N} {E = E} f a b (Ok turn_result.Complete) →
     b.printer.within ≡ true → OnTrial t below b × (work_at b < work_at a)
 course_goes {N} {E} f {t} {below} {a} {b} on l h within = (
   record { is_known = on.is_known; path = goes_on f on.path (omega (arith, l, on.height)) h; within = within; height = on.height },
@@ -54,7 +59,8 @@ course_goes {N} {E} f {t} {below} {a} {b} on l h within = (
 )
 
 -- a turn that stopped
-pub course_stops : {N E : Type 0} (f : N → Tree) {t : Attempt} {below : ℕ} {a b : Point} → OnTrial t below a → below < length a.printer.tasks → Advances {N = N} {E = E} f a b (Ok turn.Shift) → OnTrial t below b
+pub course_stops : {N E : Type 0} (f : N → Tree) {t : Attempt} {below : ℕ} {a b : Point} → OnTrial t below a
+    → below < length a.printer.tasks → Advances {N = N} {E = E} f a b (Ok turn_result.Shift) → OnTrial t below b
 course_stops {N} {E} f {t} {below} {a} {b} on l h = record {
   is_known = on.is_known;
   path = stops f on.path (omega (arith, l, on.height)) h;
@@ -63,7 +69,8 @@ course_stops {N} {E} f {t} {below} {a} {b} on l h = record {
 }
 
 -- a turn after which something is past the width
-pub course_past : {N E : Type 0} (f : N → Tree) {t : Attempt} {below : ℕ} {a b : Point} → OnTrial t below a → below < length a.printer.tasks → Advances {N = N} {E = E} f a b (Ok turn.Went) →
+pub course_past : {N E : Type 0} (f : N → Tree) {t : Attempt} {below : ℕ} {a b : Point} → OnTrial t below a → below < length a.printer.tasks
+    → Advances {N = N} {E = E} f a b (Ok turn_result.Complete) →
     b.printer.within ≡ false → Fallen t b
 course_past {N} {E} f {t} {below} {a} {b} on l h past =
     let p = t.start.printer in
@@ -81,43 +88,23 @@ course_past {N} {E} f {t} {below} {a} {b} on l h past =
       wrote = e.out_is;
       failures = k.1.1;
       rejected = λ other. accept_past p.options p.within (trial_of p t.indent t.branch) other
-          (inside_past p.options (trial_of p t.indent t.branch) (limit_of p t.branch) p.tasks (known t.start.sink.bytes) b.printer.tasks (state_at b.printer) (known b.sink.bytes) e past);
+          (inside_past p.options (trial_of p t.indent t.branch) (work_limit p t.branch) p.tasks (known t.start.sink.bytes) b.printer.tasks
+          (state_at b.printer) (known b.sink.bytes) e past);
       rise = path.rise;
       at_most = λ began. (path.at_most began).1;
     }
 
--- a turn at a node that fails
-pub course_failed : {N E : Type 0} (f : N → Tree) {t : Attempt} {below : ℕ} {a b : Point} → OnTrial t below a → below < length a.printer.tasks → Advances {N = N} {E = E} f a b (Ok turn.Failed) → Fallen t b
-course_failed {N} {E} f {t} {below} {a} {b} on l h =
-    let p = t.start.printer in
-    let k = at_failing f on.path (omega (arith, l, on.height)) h on.is_known in
-    let e = k.1.0 in
-    record {
-      above = e.1;
-      stack = e.4;
-      options = h.options ∙ on.path.options;
-      grows = grows-grows p a.printer b.printer on.path.grows h.grows;
-      same_lender = h.same_lender ∙ on.path.same_lender;
-      is_known = k.0;
-      bytes = e.0;
-      wrote = e.2;
-      failures = k.1.1;
-      rejected = λ other. accept_past p.options p.within (trial_of p t.indent t.branch) other (subst Past (sym e.3) tt);
-      rise = rise_then on.path.rise h.rise;
-      at_most = λ began.
-          let y = on.path.at_most began in
-          at_most_then y.1 (h.at_most y.0);
-    }
-
 -- a turn after which two branches are to be chosen from
-pub course_chosen : {N E : Type 0} (f : N → Tree) {t : Attempt} {below : ℕ} {a b : Point} (i : ℕ) (x y : N) → OnTrial t below a → below < length a.printer.tasks → Advances {N = N} {E = E} f a b (Ok (turn.Chosen i x y)) →
+pub course_chosen : {N E : Type 0} (f : N → Tree) {t : Attempt} {below : ℕ} {a b : Point} (i : ℕ) (x y : N) → OnTrial t below a
+    → below < length a.printer.tasks → Advances {N = N} {E = E} f a b (Ok (turn_result.Choice i x y)) →
     AtChoice t i (f x) (f y) b × (2 * (size (f x) + size (f y)) + work_at b < work_at a)
 course_chosen {N} {E} f {t} {below} {a} {b} i x y on l h =
     let r = trial_run t in
     let path = on.path in
     let less : length t.start.printer.tasks < length a.printer.tasks = omega (arith, l, on.height) in
     let k = path.bytes on.is_known in
-    let e = at_run r a.printer (known t.start.sink.bytes) (known a.sink.bytes) (λ o. Goes f o b.printer (known b.sink.bytes) (turn.Chosen i x y)) path.options less k.1.0 (h.bytes k.0).1.0 in (
+    let e = at_run r a.printer (known t.start.sink.bytes) (known a.sink.bytes)
+    (λ o. Goes f o b.printer (known b.sink.bytes) (turn_result.Choice i x y)) path.options less k.1.0 (h.bytes k.0).1.0 in (
       record {
         is_known = (h.bytes k.0).0;
         waiting = comes_to_wait f i x y path less h (omega (arith, ap length e.stack_is, length-append e.above t.start.printer.tasks));
@@ -126,25 +113,18 @@ course_chosen {N} {E} f {t} {below} {a} {b} i x y on l h =
       h.lessens.0,
     )
 
--- a turn that broke off
-pub course_broke : {N E : Type 0} (f : N → Tree) {t : Attempt} {below : ℕ} {a b : Point} (e : RenderError E) → OnTrial t below a → Advances {N = N} {E = E} f a b (Err e) → TrialBroke t b
-course_broke {N} {E} f {t} {below} {a} {b} e on h = record {
-  rise = rise_then on.path.rise h.rise;
-  at_most = λ began.
-      let y = on.path.at_most began in
-      at_most_then y.1 (h.at_most y.0);
-}
-
 -- it came to its end, and the padding fits
 pub course_over : {t : Attempt} {below : ℕ} {a : Point} → OnTrial t below a → length a.printer.tasks ≤ below →
-    padding_fits a.printer.options.width (some_pending (state_at a.printer).pending) a.printer.column ≡ true → Lasts t a × (work_at a ≤ work_at a)
+    padding_fits a.printer.options.width (some_pending (state_at a.printer).pending) a.printer.column ≡ true → Lasts t a
+    × (work_at a ≤ work_at a)
 course_over {t} {below} {a} on l fits = (
   record {
     is_known = on.is_known;
     path = on.path;
     within = on.within;
     ended = omega (arith, l, on.height);
-    fits = subst (λ (o : RenderOptions). padding_fits o.width (some_pending (state_at a.printer).pending) a.printer.column ≡ true) on.path.options fits;
+    fits = subst (λ (o : RenderOptions). padding_fits o.width (some_pending (state_at a.printer).pending) a.printer.column ≡ true)
+        on.path.options fits;
   },
   omega arith,
 )
@@ -169,7 +149,8 @@ course_unfit {t} {below} {a} on l unfit =
       wrote = e.2;
       failures = k.1.1;
       rejected = padding_rejects p a.printer t.indent t.branch e.1 e.3 on.within
-          (subst (λ (o : RenderOptions). padding_fits o.width (some_pending (state_at a.printer).pending) a.printer.column ≡ false) path.options unfit);
+          (subst (λ (o : RenderOptions). padding_fits o.width (some_pending (state_at a.printer).pending) a.printer.column ≡ false)
+          path.options unfit);
       rise = path.rise;
       at_most = λ began. (path.at_most began).1;
     }
@@ -181,29 +162,19 @@ fallen_broke {t} {b} h = record { rise = h.rise; at_most = λ began. at_most_all
 pub choice_broke : {t : Attempt} (i : ℕ) (x y : Tree) {b : Point} → AtChoice t i x y b → TrialBroke t b
 choice_broke {t} i x y {b} h = record { rise = h.waiting.rise; at_most = λ began. at_most_all (h.waiting.at_most began).3 }
 
--- it broke off
-pub trial_broke_off : {E : Type 0} {t : Attempt} {b : Point} (c : Point) (r : Result Bool E) → IsErr r → c.visits ≡ b.visits → TrialBroke t b → Tries t.indent t.branch t.start c r
-trial_broke_off {E} {t} {b} c (Ok x) h e broke = cc
-trial_broke_off {E} {t} {b} c (Err x) h e broke =
-    subst (λ (v : Visits). Tries {E = E} t.indent t.branch t.start (record c { visits = v }) (Err x)) (sym e)
-    (record {
-      decided = tt;
-      failures = tt;
-      rise = broke.rise;
-      at_most = λ plain none. broke.at_most (began_plain t plain none);
-      at_least = tt;
-    })
-
 -- it is taken back
-pub trial_undone : {E : Type 0} {t : Attempt} {b : Point} (m : Mark) (r : Standing) (s : Seen) → Fallen t b → Marks m t.start.printer t.start.sink → Restores m b.printer r →
-    known s.bytes ≡ take m.written (known b.sink.bytes) → s.failures ≡ b.sink.failures → Tries {E = E} t.indent t.branch t.start (point_at r s b.visits) (Ok false)
+pub trial_undone : {E : Type 0} {t : Attempt} {b : Point} (m : Mark) (r : Standing) (s : Seen) → Fallen t b
+    → Marks m t.start.printer t.start.sink → Restores m b.printer r →
+    known s.bytes ≡ take m.written (known b.sink.bytes) → s.failures ≡ b.sink.failures → Tries {E = E} t.indent t.branch t.start
+    (point_at r s b.visits) (Ok false)
 trial_undone {E} {t} {b} m r s fell marks back cut failures =
     let p = t.start.printer in
     let old = known t.start.sink.bytes in
     let out = known b.sink.bytes in
     let cut' : known s.bytes ≡ take (length old) out = cut ∙ ap (λ (n : ℕ). take n out) marks.written in
     let did : TrialDid p r t.indent t.branch old (known s.bytes) false =
-    trial_rejected p b.printer r t.indent t.branch m t.start.sink old out (known s.bytes) fell.bytes marks fell.above fell.stack fell.options fell.grows back fell.wrote cut' fell.rejected in
+    trial_rejected p b.printer r t.indent t.branch m t.start.sink old out (known s.bytes) fell.bytes marks fell.above fell.stack
+    fell.options fell.grows back fell.wrote cut' fell.rejected in
     record {
       decided = did;
       failures = failures ∙ fell.failures;
@@ -217,18 +188,31 @@ trial_undone {E} {t} {b} m r s fell marks back cut failures =
 
 -- it is kept
 pub trial_over : {E : Type 0} {t : Attempt} {b : Point} (r : Standing) → Lasts t b →
-    r.tasks ≡ b.printer.tasks → state_at r ≡ record { column = b.printer.column; pending = (state_at b.printer).pending; within = t.start.printer.within } →
-    r.options ≡ b.printer.options → Grows t.start.printer r → Tries {E = E} t.indent t.branch t.start (point_at r b.sink b.visits) (Ok true)
+    r.tasks ≡ b.printer.tasks → state_at r ≡ record {
+      column = b.printer.column;
+      pending = (state_at b.printer).pending;
+      within =
+          t.start.printer.within;
+    } →
+    r.options ≡ b.printer.options → QueueGrows t.start.printer r → Tries {E = E} t.indent t.branch t.start (point_at r b.sink b.visits)
+    (Ok true)
 trial_over {E} {t} {b} r lasts e s o grows =
     let p = lasts.path in
     let a = t.start in
     let h = p.bytes lasts.is_known in
     record {
-      decided = trial_kept a.printer b.printer r t.indent t.branch (known a.sink.bytes) (known b.sink.bytes) h.1.0 lasts.ended lasts.within lasts.fits e s (o ∙ p.options) grows;
+      decided = trial_kept a.printer b.printer r t.indent t.branch (known a.sink.bytes) (known b.sink.bytes) h.1.0 lasts.ended lasts.within
+          lasts.fits e s (o ∙ p.options) grows;
       failures = h.1.1;
       rise = p.rise;
       at_most = λ plain none.
-          let y = p.at_most (began_plain t plain none) in
-          (record { none = ap suffixes e ∙ y.0.none; pending = ap (λ (z : State). z.pending) s ∙ y.0.pending }, at_most_at r.tasks e y.1);
+          let y = p.at_most (began_plain t plain none) in (
+            record {
+              none = ap suffix_depths e ∙ y.0.none;
+              pending = ap (λ (z : State). z.pending) s
+                  ∙ y.0.pending;
+            },
+            at_most_at r.tasks e y.1,
+          );
       at_least = at_least_end b.printer (length a.printer.tasks) lasts.ended p.at_least;
     }

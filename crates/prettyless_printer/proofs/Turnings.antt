@@ -16,7 +16,8 @@ use Rattle.prettyless_printer.proofs.Steps.{LeavesLess, step_less}
 use Rattle.prettyless_printer.proofs.Progresses.{Steps, stepping, inside_beginning}
 
 -- the same progress, where stack, state and bytes are named otherwise
-pub inside_at : (o : RenderOptions) (whole : Outcome) (limit : ℕ) (below : List Task) (old : List ℕ) (stack stack' : List Task) (st st' : State) (out out' : List ℕ) →
+pub inside_at : (o : RenderOptions) (whole : Outcome) (limit : ℕ) (below : List Task) (old : List ℕ) (stack stack' : List Task)
+    (st st' : State) (out out' : List ℕ) →
     stack' ≡ stack → st' ≡ st → out' ≡ out → Inside o whole limit below old stack st out → Inside o whole limit below old stack' st' out'
 inside_at o whole limit below old stack stack' st st' out out' e f h p = record {
   above = p.above;
@@ -27,26 +28,32 @@ inside_at o whole limit below old stack stack' st st' out out' e f h p = record 
   bound = subst (λ (x : State). work p.above x ≤ limit) (sym f) p.bound;
 }
 
-lessens_by : (t : Task) (ts us : List Task) (st u : State) (bytes : List ℕ) (step : Step) → LeavesLess (owed st.pending) (2 * size t.tree + owed st.pending) step →
+lessens_by : (t : Task) (ts us : List Task) (st u : State) (bytes : List ℕ) (step : Step)
+    → LeavesLess (owed st.pending) (2 * size t.tree + owed st.pending) step →
     Leads step ts bytes us u → work us u < work (t ∷ ts) st
-lessens_by t ts us st u bytes (Move b pushed v) less h = omega (arith, ap nodes h.1, nodes-append pushed ts, ap (λ (x : State). owed x.pending) h.2)
+lessens_by t ts us st u bytes (Move b pushed v) less h =
+    omega (arith, ap nodes h.1, nodes-append pushed ts, ap (λ (x : State). owed x.pending) h.2)
 lessens_by t ts us st u bytes Stuck less h = absurd h
 lessens_by t ts us st u bytes (Choose i x y) less h = absurd h
 
 -- work is taken away
-pub lessens : (o : RenderOptions) (t : Task) (ts us : List Task) (st u : State) (bytes : List ℕ) → Leads (step_at o t ts st) ts bytes us u → work us u < work (t ∷ ts) st
+pub lessens : (o : RenderOptions) (t : Task) (ts us : List Task) (st u : State) (bytes : List ℕ) → Leads (step_at o t ts st) ts bytes us u
+    → work us u < work (t ∷ ts) st
 lessens o t ts us st u bytes h = lessens_by t ts us st u bytes (step_at o t ts st) (step_less o t.tree t.indent t.mode (follow ts) st) h
 
-choice_lessens_by : (t : Task) (ts : List Task) (st : State) (i : ℕ) (x y : Tree) (step : Step) → LeavesLess (owed st.pending) (2 * size t.tree + owed st.pending) step →
+choice_lessens_by : (t : Task) (ts : List Task) (st : State) (i : ℕ) (x y : Tree) (step : Step)
+    → LeavesLess (owed st.pending) (2 * size t.tree + owed st.pending) step →
     Asks step i x y → 2 * (size x + size y) + work ts st < work (t ∷ ts) st
 choice_lessens_by t ts st i x y (Move b pushed u) less h = absurd h
 choice_lessens_by t ts st i x y Stuck less h = absurd h
 choice_lessens_by t ts st i x y (Choose j v w) less h = omega (arith, ap size h.1, ap size h.2)
 
-pub choice_lessens : (o : RenderOptions) (t : Task) (ts : List Task) (st : State) (i : ℕ) (x y : Tree) → Asks (step_at o t ts st) i x y → 2 * (size x + size y) + work ts st < work (t ∷ ts) st
+pub choice_lessens : (o : RenderOptions) (t : Task) (ts : List Task) (st : State) (i : ℕ) (x y : Tree) → Asks (step_at o t ts st) i x y
+    → 2 * (size x + size y) + work ts st < work (t ∷ ts) st
 choice_lessens o t ts st i x y h = choice_lessens_by t ts st i x y (step_at o t ts st) (step_less o t.tree t.indent t.mode (follow ts) st) h
 
-went_by : (o : RenderOptions) (whole : Outcome) (limit : ℕ) (below : List Task) (old : List ℕ) (ts us : List Task) (st u : State) (out bytes : List ℕ) (step : Step) →
+went_by : (o : RenderOptions) (whole : Outcome) (limit : ℕ) (below : List Task) (old : List ℕ) (ts us : List Task) (st u : State)
+    (out bytes : List ℕ) (step : Step) →
     Steps o whole limit below old ts st out step → Leads step ts bytes us u → Inside o whole limit below old us u (out ++ bytes)
 went_by o whole limit below old ts us st u out bytes (Move b pushed v) p h =
     inside_at o whole limit below old (pushed ++ ts) us v u (out ++ b) (out ++ bytes) h.1 h.2 (ap (λ (x : List ℕ). out ++ x) h.0) p
@@ -54,47 +61,65 @@ went_by o whole limit below old ts us st u out bytes Stuck p h = absurd h
 went_by o whole limit below old ts us st u out bytes (Choose i x y) p h = absurd h
 
 -- the work goes on inside the whole
-pub went : (o : RenderOptions) (whole : Outcome) (limit : ℕ) (below : List Task) (old : List ℕ) (t : Task) (ts us : List Task) (st u : State) (out bytes : List ℕ) → length below ≤ length ts →
-    Inside o whole limit below old (t ∷ ts) st out → Leads (step_at o t ts st) ts bytes us u → Inside o whole limit below old us u (out ++ bytes)
-went o whole limit below old t ts us st u out bytes l p h = went_by o whole limit below old ts us st u out bytes (step_at o t ts st) (stepping o whole limit below old t ts st out l p) h
+pub went : (o : RenderOptions) (whole : Outcome) (limit : ℕ) (below : List Task) (old : List ℕ) (t : Task) (ts us : List Task)
+    (st u : State) (out bytes : List ℕ) → length below ≤ length ts →
+    Inside o whole limit below old (t ∷ ts) st out → Leads (step_at o t ts st) ts bytes us u
+    → Inside o whole limit below old us u (out ++ bytes)
+went o whole limit below old t ts us st u out bytes l p h = went_by o whole limit below old ts us st u out bytes (step_at o t ts st)
+    (stepping o whole limit below old t ts st out l p) h
 
-failed_by : (o : RenderOptions) (whole : Outcome) (limit : ℕ) (below : List Task) (old : List ℕ) (ts : List Task) (st : State) (out : List ℕ) (step : Step) →
-    Steps o whole limit below old ts st out step → IsStuck step → (bytes : List ℕ) × (above : List Task) × (out ≡ old ++ bytes) × (whole ≡ Failed bytes) × (ts ≡ above ++ below)
+failed_by : (o : RenderOptions) (whole : Outcome) (limit : ℕ) (below : List Task) (old : List ℕ) (ts : List Task) (st : State)
+    (out : List ℕ) (step : Step) →
+    Steps o whole limit below old ts st out step → IsStuck step → (bytes : List ℕ) × (above : List Task) × (out ≡ old ++ bytes)
+    × (whole ≡ Failed bytes) × (ts ≡ above ++ below)
 failed_by o whole limit below old ts st out (Move b pushed v) p h = absurd h
 failed_by o whole limit below old ts st out Stuck p h = p
 failed_by o whole limit below old ts st out (Choose i x y) p h = absurd h
 
 -- the whole fails after what was written
-pub failed : (o : RenderOptions) (whole : Outcome) (limit : ℕ) (below : List Task) (old : List ℕ) (t : Task) (ts : List Task) (st : State) (out : List ℕ) → length below ≤ length ts →
-    Inside o whole limit below old (t ∷ ts) st out → IsStuck (step_at o t ts st) → (bytes : List ℕ) × (above : List Task) × (out ≡ old ++ bytes) × (whole ≡ Failed bytes) × (ts ≡ above ++ below)
-failed o whole limit below old t ts st out l p h = failed_by o whole limit below old ts st out (step_at o t ts st) (stepping o whole limit below old t ts st out l p) h
+pub failed : (o : RenderOptions) (whole : Outcome) (limit : ℕ) (below : List Task) (old : List ℕ) (t : Task) (ts : List Task) (st : State)
+    (out : List ℕ) → length below ≤ length ts →
+    Inside o whole limit below old (t ∷ ts) st out → IsStuck (step_at o t ts st) → (bytes : List ℕ) × (above : List Task)
+    × (out ≡ old ++ bytes) × (whole ≡ Failed bytes) × (ts ≡ above ++ below)
+failed o whole limit below old t ts st out l p h = failed_by o whole limit below old ts st out (step_at o t ts st)
+    (stepping o whole limit below old t ts st out l p) h
 
-chosen_by : (o : RenderOptions) (whole : Outcome) (limit : ℕ) (below : List Task) (old : List ℕ) (ts : List Task) (st : State) (out : List ℕ) (i : ℕ) (x y : Tree) (step : Step) →
+chosen_by : (o : RenderOptions) (whole : Outcome) (limit : ℕ) (below : List Task) (old : List ℕ) (ts : List Task) (st : State)
+    (out : List ℕ) (i : ℕ) (x y : Tree) (step : Step) →
     Steps o whole limit below old ts st out step → Asks step i x y → Waits o whole limit below old i x y ts st out
 chosen_by o whole limit below old ts st out i x y (Move b pushed v) p h = absurd h
 chosen_by o whole limit below old ts st out i x y Stuck p h = absurd h
 chosen_by o whole limit below old ts st out i x y (Choose j v w) p h =
     subst (λ (k : ℕ). Waits o whole limit below old k x y ts st out) (sym h.0)
-    (subst (λ (k : Tree). Waits o whole limit below old j k y ts st out) (sym h.1) (subst (λ (k : Tree). Waits o whole limit below old j v k ts st out) (sym h.2) p))
+    (subst (λ (k : Tree). Waits o whole limit below old j k y ts st out) (sym h.1)
+    (subst (λ (k : Tree). Waits o whole limit below old j v k ts st out) (sym h.2) p))
 
 -- a choice waits
-pub chosen : (o : RenderOptions) (whole : Outcome) (limit : ℕ) (below : List Task) (old : List ℕ) (t : Task) (ts : List Task) (st : State) (out : List ℕ) (i : ℕ) (x y : Tree) → length below ≤ length ts →
+pub chosen : (o : RenderOptions) (whole : Outcome) (limit : ℕ) (below : List Task) (old : List ℕ) (t : Task) (ts : List Task) (st : State)
+    (out : List ℕ) (i : ℕ) (x y : Tree) → length below ≤ length ts →
     Inside o whole limit below old (t ∷ ts) st out → Asks (step_at o t ts st) i x y → Waits o whole limit below old i x y ts st out
-chosen o whole limit below old t ts st out i x y l p h = chosen_by o whole limit below old ts st out i x y (step_at o t ts st) (stepping o whole limit below old t ts st out l p) h
+chosen o whole limit below old t ts st out i x y l p h = chosen_by o whole limit below old ts st out i x y (step_at o t ts st)
+    (stepping o whole limit below old t ts st out l p) h
 
 -- a beginning of the next piece, after what was written, is a beginning of the whole
-pub beginning_less : (old out new b text : List ℕ) → AppendsBeginning out new b → AppendsBeginning old (out ++ b) text → (front : List ℕ) × (out ≡ old ++ front) → AppendsBeginning old new text
+pub beginning_less : (old out new b text : List ℕ) → AppendsBeginning out new b → AppendsBeginning old (out ++ b) text → (front : List ℕ)
+    × (out ≡ old ++ front) → AppendsBeginning old new text
 beginning_less old out new b text p q w =
-    let c : w.0 ++ b ≡ q.0 = append_cancel_left old (w.0 ++ b) q.0 (sym (append_assoc old w.0 b) ∙ ap (λ (x : List ℕ). x ++ b) (sym w.1) ∙ q.3) in (
+    let c : w.0 ++ b ≡ q.0 = append_cancel_left old (w.0 ++ b) q.0
+    (sym (append_assoc old w.0 b) ∙ ap (λ (x : List ℕ). x ++ b) (sym w.1) ∙ q.3) in (
       w.0 ++ p.0,
       p.1 ++ q.1,
-      q.2 ∙ ap (λ (x : List ℕ). x ++ q.1) (sym c ∙ ap (λ (x : List ℕ). w.0 ++ x) p.2 ∙ sym (append_assoc w.0 p.0 p.1)) ∙ append_assoc (w.0 ++ p.0) p.1 q.1,
+      q.2 ∙ ap (λ (x : List ℕ). x ++ q.1) (sym c ∙ ap (λ (x : List ℕ). w.0 ++ x) p.2 ∙ sym (append_assoc w.0 p.0 p.1))
+          ∙ append_assoc (w.0 ++ p.0) p.1 q.1,
       p.3 ∙ ap (λ (x : List ℕ). x ++ p.0) w.1 ∙ append_assoc old w.0 p.0,
     )
 
 -- the sink failed: a beginning of the whole was written
-pub sink_broke : (o : RenderOptions) (whole : Outcome) (limit : ℕ) (below : List Task) (old : List ℕ) (t : Task) (ts us : List Task) (st u : State) (out bytes new : List ℕ) → length below ≤ length ts →
-    Inside o whole limit below old (t ∷ ts) st out → Leads (step_at o t ts st) ts bytes us u → AppendsBeginning out new bytes → AppendsBeginning old new (bytes_before whole)
+pub sink_broke : (o : RenderOptions) (whole : Outcome) (limit : ℕ) (below : List Task) (old : List ℕ) (t : Task) (ts us : List Task)
+    (st u : State) (out bytes new : List ℕ) → length below ≤ length ts →
+    Inside o whole limit below old (t ∷ ts) st out → Leads (step_at o t ts st) ts bytes us u → AppendsBeginning out new bytes
+    → AppendsBeginning old new (bytes_before whole)
 sink_broke o whole limit below old t ts us st u out bytes new l p h part =
     beginning_less old out new bytes (bytes_before whole) part
-    (inside_beginning o whole limit below old us u (out ++ bytes) (went o whole limit below old t ts us st u out bytes l p h)) (p.bytes, p.out_is)
+    (inside_beginning o whole limit below old us u (out ++ bytes) (went o whole limit below old t ts us st u out bytes l p h))
+    (p.bytes, p.out_is)

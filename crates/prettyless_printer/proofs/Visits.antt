@@ -1,12 +1,14 @@
 -- The visits of a step, of a turn, and of turns in a row.
-use Rattle.std.proofs.Common.{◌≡◌, ℕ, ◌+◌, ◌-◌, ◌*◌, ◌≤◌, List, [], ◌∷◌, ◌++◌, arith, refl, ap, ◌∙◌, Bool, true, false, Option, Some, None, Result, Ok, Err, if◌then◌else◌, length}
-use Rattle.std.specs.Result.{IsErr}
+use Rattle.std.proofs.Common.{◌≡◌, ℕ, ◌+◌, ◌-◌, ◌*◌, ◌≤◌, List, [], ◌∷◌, ◌++◌, arith, refl, ap, ◌∙◌, Bool, true, false, Option, Some, None}
+use Rattle.std.proofs.Common.{Result, Ok, Err, if◌then◌else◌, length}
 use Rattle.prettyless_model.specs.declared.options.RenderOptions.{RenderOptions}
 use Rattle.prettyless_model.specs.declared.options.IndentationPolicy.{IndentationPolicy}
 use Rattle.prettyless_model.specs.declared.options.IndentationPolicy.TheVariants.{Eager, Deferred}
 use Rattle.prettyless_sink.specs.Sink.{rise}
 use Rattle.prettyless_sink.specs.declared.visits.Visits.{Visits}
-use Rattle.prettyless_model.specs.Tree.{Tree, Nil, Fail, Text, TextWithLen, MultilineText, WeakSpace, HardLine, WeakLine, Append, LineSuffix, Nest, DedentToRoot, Align, ExpandParent, Flatten, BreakOrFlat, Group, Union, PartialUnion, OnColumn, OnNesting, size, probed}
+use Rattle.prettyless_model.specs.Tree.{Tree, Nil, Fail, Text, TextWithLen, MultilineText, WeakSpace, HardLine, WeakLine, Append}
+use Rattle.prettyless_model.specs.Tree.{LineSuffix, Nest, DedentToRoot, Align, ExpandParent, Flatten, BreakOrFlat, Group, Union}
+use Rattle.prettyless_model.specs.Tree.{PartialUnion, OnColumn, OnNesting, size, probed}
 use Rattle.prettyless_model.specs.Content.{suffix_depth}
 use Rattle.prettyless_model.specs.Choice.{column_holds, nesting_holds}
 use Rattle.prettyless_model.specs.Column.{prospective}
@@ -14,9 +16,10 @@ use Rattle.prettyless_model.specs.Layout.{State, Done, Entry, lay_text, lay_endi
 use Rattle.prettyless_model.specs.declared.mode.Mode.{Mode}
 use Rattle.prettyless_model.specs.declared.mode.Mode.TheVariants.{Break, Flat}
 use Rattle.prettyless_step.specs.Stack.{Task, make_task, follow, nodes}
-use Rattle.prettyless_step.specs.Steps.{Step, Move, Stuck, Choose, step_of, union_step, decided_by_metrics, break_step, at_once, counted_payload, rejects_payload, owed}
+use Rattle.prettyless_step.specs.Steps.{Step, Move, Stuck, Choose, step_of, union_step, decided_by_metrics, break_step, at_once}
+use Rattle.prettyless_step.specs.Steps.{counted_payload, rejects_payload, owed}
 use Rattle.prettyless_printer.specs.Points.{Standing, state_at}
-use Rattle.prettyless_printer.specs.Visits.{suffixes, Plain, charges, Rise, CountsAtMost, RunCountsAtMost, Visited}
+use Rattle.prettyless_printer.specs.Visits.{suffix_depths, Plain, charges, Rise, CountsAtMost, RunCountsAtMost, Visited}
 use Rattle.prettyless_step.specs.Probing.{asked}
 use Rattle.prettyless_step.proofs.Stacks.{nodes-append}
 use Rattle.prettyless_step.proofs.Shown.{step_at, Leads, Asks}
@@ -65,37 +68,46 @@ asked_at_most (OnNesting test l r) m k n h = omega arith
 
 -- a step of a node that asked for a, in what a node may ask for
 abbrev StepAtMost : ℕ → ℕ → ℕ → Step → Type 0
-StepAtMost n a most (Move b pushed u) = (suffixes pushed ≡ 0) × (u.pending ≡ []) × (a + charges n pushed ≤ most)
+StepAtMost n a most (Move b pushed u) = (suffix_depths pushed ≡ 0) × (u.pending ≡ []) × (a + charges n pushed ≤ most)
 StepAtMost n a most Stuck = Unit {0}
 StepAtMost n a most (Choose i l r) = (suffix_depth l ≡ 0) × (suffix_depth r ≡ 0) × (a + (n * probed l + n * probed r) ≤ most)
 
-text_at_most : (o : RenderOptions) (w : ℕ) (s : List ℕ) (st : State) (n : ℕ) → st.pending ≡ [] → StepAtMost n 0 (n * 0) (at_once (lay_text o w s st))
+text_at_most : (o : RenderOptions) (w : ℕ) (s : List ℕ) (st : State) (n : ℕ) → st.pending ≡ []
+    → StepAtMost n 0 (n * 0) (at_once (lay_text o w s st))
 text_at_most o w [] st n h = (refl, h, omega arith)
 text_at_most o w (b ∷ bs) st n h = (refl, h, omega arith)
 
-ending_at_most : (o : RenderOptions) (p : IndentationPolicy) (k : ℕ) (st : State) (n : ℕ) → st.pending ≡ [] → StepAtMost n 0 (n * 0) (at_once (lay_ending o p k st))
+ending_at_most : (o : RenderOptions) (p : IndentationPolicy) (k : ℕ) (st : State) (n : ℕ) → st.pending ≡ []
+    → StepAtMost n 0 (n * 0) (at_once (lay_ending o p k st))
 ending_at_most o Eager k st n h = (refl, h, omega arith)
 ending_at_most o Deferred k st n h = (refl, h, omega arith)
 
-plain_at_most : (o : RenderOptions) (d : Tree) (i : ℕ) (rest : List Entry) (st : State) (n : ℕ) → st.pending ≡ [] → StepAtMost n 0 (n * 0) (at_once (plain_break o d i rest st))
+plain_at_most : (o : RenderOptions) (d : Tree) (i : ℕ) (rest : List Entry) (st : State) (n : ℕ) → st.pending ≡ []
+    → StepAtMost n 0 (n * 0) (at_once (plain_break o d i rest st))
 plain_at_most o d i rest st n h =
-    elim (is_suppressed d st.column) as (λ v. StepAtMost n 0 (n * 0) (at_once (if v then Done [] st else lay_ending o o.indentation_policy (next_indent i rest) st)))
+    elim (is_suppressed d st.column) as
+    (λ v. StepAtMost n 0 (n * 0) (at_once (if v then Done [] st else lay_ending o o.indentation_policy (next_indent i rest) st)))
     [ true ↦ (refl, h, omega arith) | false ↦ ending_at_most o o.indentation_policy (next_indent i rest) st n h ]
 
-break_at_most : (o : RenderOptions) (ps : List Tree) (d : Tree) (i : ℕ) (m : Mode) (rest : List Entry) (st : State) (n : ℕ) → ps ≡ [] → st.pending ≡ [] → StepAtMost n 0 (n * 0) (break_step o ps d i m rest st)
+break_at_most : (o : RenderOptions) (ps : List Tree) (d : Tree) (i : ℕ) (m : Mode) (rest : List Entry) (st : State) (n : ℕ) → ps ≡ []
+    → st.pending ≡ [] → StepAtMost n 0 (n * 0) (break_step o ps d i m rest st)
 break_at_most o [] d i m rest st n e h = plain_at_most o d i rest st n h
 break_at_most o (p ∷ ps) d i m rest st n e h = absurd (cc)
 
 -- one of two nodes
-either_at_most : (l r : Tree) (i : ℕ) (m : Mode) (st : State) (n a most : ℕ) (v : Bool) → suffix_depth l ≡ 0 → suffix_depth r ≡ 0 → st.pending ≡ [] → a + (n * probed l + n * probed r) ≤ most → StepAtMost n a most (Move [] (make_task i m (if v then l else r) ∷ []) st)
+either_at_most : (l r : Tree) (i : ℕ) (m : Mode) (st : State) (n a most : ℕ) (v : Bool) → suffix_depth l ≡ 0 → suffix_depth r ≡ 0
+    → st.pending ≡ [] → a + (n * probed l + n * probed r) ≤ most
+    → StepAtMost n a most (Move [] (make_task i m (if v then l else r) ∷ []) st)
 either_at_most l r i m st n a most true x y h k = (omega arith, h, omega arith)
 either_at_most l r i m st n a most false x y h k = (omega arith, h, omega arith)
 
-union_at_most : (l r : Tree) (i : ℕ) (st : State) (n most : ℕ) (v : Option Bool) → suffix_depth l ≡ 0 → suffix_depth r ≡ 0 → st.pending ≡ [] → n * probed l + n * probed r ≤ most → StepAtMost n 0 most (union_step v l r i st)
+union_at_most : (l r : Tree) (i : ℕ) (st : State) (n most : ℕ) (v : Option Bool) → suffix_depth l ≡ 0 → suffix_depth r ≡ 0 → st.pending ≡ []
+    → n * probed l + n * probed r ≤ most → StepAtMost n 0 most (union_step v l r i st)
 union_at_most l r i st n most (Some v) x y h k = either_at_most l r i Break st n 0 most v x y h (omega (arith, k))
 union_at_most l r i st n most None x y h k = (x, y, omega (arith, k))
 
-step_at_most : (o : RenderOptions) (d : Tree) (i : ℕ) (m : Mode) (rest : List Entry) (st : State) (n k : ℕ) → suffix_depth d ≡ 0 → st.pending ≡ [] → size d + k ≤ n → StepAtMost n (asked d m k) (n * probed d) (step_of o d i m rest st)
+step_at_most : (o : RenderOptions) (d : Tree) (i : ℕ) (m : Mode) (rest : List Entry) (st : State) (n k : ℕ) → suffix_depth d ≡ 0
+    → st.pending ≡ [] → size d + k ≤ n → StepAtMost n (asked d m k) (n * probed d) (step_of o d i m rest st)
 step_at_most o Nil i m rest st n k z h l = (refl, h, omega arith)
 step_at_most o Fail i m rest st n k z h l = tt
 step_at_most o (Text s) i m rest st n k z h l = text_at_most o (length s) s st n h
@@ -117,14 +129,18 @@ step_at_most o (BreakOrFlat b f) i Break rest st n k z h l = (omega arith, h, om
 step_at_most o (BreakOrFlat b f) i Flat rest st n k z h l = (omega arith, h, omega arith)
 step_at_most o (Group d) i Break rest st n k z h l = (omega arith, h, omega arith)
 step_at_most o (Group d) i Flat rest st n k z h l = (omega arith, h, omega arith)
-step_at_most o (Union a b) i Break rest st n k z h l = union_at_most a b i st n (n * (probed a + probed b)) (decided_by_metrics o a st) (omega arith) (omega arith) h (omega arith)
+step_at_most o (Union a b) i Break rest st n k z h l = union_at_most a b i st n (n * (probed a + probed b)) (decided_by_metrics o a st)
+    (omega arith) (omega arith) h (omega arith)
 step_at_most o (Union a b) i Flat rest st n k z h l = (omega arith, h, omega arith)
-step_at_most o (PartialUnion a b) i Break rest st n k z h l = either_at_most a b i Break st n (size a + k) (n * (probed a + probed b + 1)) (probe o a i Break rest st) (omega arith) (omega arith) h (omega arith)
+step_at_most o (PartialUnion a b) i Break rest st n k z h l = either_at_most a b i Break st n (size a + k) (n * (probed a + probed b + 1))
+    (probe o a i Break rest st) (omega arith) (omega arith) h (omega arith)
 step_at_most o (PartialUnion a b) i Flat rest st n k z h l = (omega arith, h, omega arith)
-step_at_most o (OnColumn test a b) i m rest st n k z h l = either_at_most a b i m st n 0 (n * (probed a + probed b)) (column_holds test (prospective st.column) i) (omega arith) (omega arith) h (omega arith)
-step_at_most o (OnNesting test a b) i m rest st n k z h l = either_at_most a b i m st n 0 (n * (probed a + probed b)) (nesting_holds test i) (omega arith) (omega arith) h (omega arith)
+step_at_most o (OnColumn test a b) i m rest st n k z h l = either_at_most a b i m st n 0 (n * (probed a + probed b))
+    (column_holds test (prospective st.column) i) (omega arith) (omega arith) h (omega arith)
+step_at_most o (OnNesting test a b) i m rest st n k z h l = either_at_most a b i m st n 0 (n * (probed a + probed b)) (nesting_holds test i)
+    (omega arith) (omega arith) h (omega arith)
 
-suffixes-append : (ts us : List Task) → suffixes (ts ++ us) ≡ suffixes ts + suffixes us
+suffixes-append : (ts us : List Task) → suffix_depths (ts ++ us) ≡ suffix_depths ts + suffix_depths us
 suffixes-append [] us = omega arith
 suffixes-append (t ∷ ts) us = omega (arith, suffixes-append ts us)
 
@@ -139,7 +155,7 @@ pub record OneMore (o : RenderOptions) (t : Task) (ts : List Task) (st : State) 
 
 -- no line suffix is among tasks, and no document is pending
 abbrev pub NoSuffix : List Task → State → Type 0
-NoSuffix ts st = (suffixes ts ≡ 0) × (st.pending ≡ [])
+NoSuffix ts st = (suffix_depths ts ≡ 0) × (st.pending ≡ [])
 
 abbrev Stepped : RenderOptions → Task → List Task → State → Step → Type 0
 Stepped o t ts st step =
@@ -153,12 +169,13 @@ stepped o t ts st plain = (
 )
 
 went_by : (o : RenderOptions) (t : Task) (ts us : List Task) (st u : State) (bytes : List ℕ) (v w : Visits) (step : Step) →
-    OneMore o t ts st v w → NoSuffix (t ∷ ts) st → Stepped o t ts st step → Leads step ts bytes us u → NoSuffix us u × CountsAtMost (t ∷ ts) us v w
+    OneMore o t ts st v w → NoSuffix (t ∷ ts) st → Stepped o t ts st step → Leads step ts bytes us u → NoSuffix us u
+    × CountsAtMost (t ∷ ts) us v w
 went_by o t ts us st u bytes v w (Move b pushed x) more plain s h =
     let a = s.1 (size t.tree + nodes ts) (omega arith) in
     let none : owed st.pending ≡ 0 = ap owed plain.1 in
     let less : nodes pushed + 1 + extra (rejects_payload o t.tree t.mode st) ≤ size t.tree = omega (arith, s.0, none) in (
-      (omega (arith, ap suffixes h.1, suffixes-append pushed ts, a.0, plain.0), ap (λ (z : State). z.pending) h.2 ∙ a.1),
+      (omega (arith, ap suffix_depths h.1, suffixes-append pushed ts, a.0, plain.0), ap (λ (z : State). z.pending) h.2 ∙ a.1),
       record {
         left = omega (arith, less, ap nodes h.1, nodes-append pushed ts);
         printer = omega (arith, less, more.printer, ap nodes h.1, nodes-append pushed ts);
@@ -170,11 +187,14 @@ went_by o t ts us st u bytes v w (Move b pushed x) more plain s h =
 went_by o t ts us st u bytes v w Stuck more plain s h = absurd h
 went_by o t ts us st u bytes v w (Choose i x y) more plain s h = absurd h
 
-pub went_at_most : (o : RenderOptions) (t : Task) (ts us : List Task) (st u : State) (bytes : List ℕ) (v w : Visits) → OneMore o t ts st v w → NoSuffix (t ∷ ts) st → Leads (step_at o t ts st) ts bytes us u →
+pub went_at_most : (o : RenderOptions) (t : Task) (ts us : List Task) (st u : State) (bytes : List ℕ) (v w : Visits) → OneMore o t ts st v w
+    → NoSuffix (t ∷ ts) st → Leads (step_at o t ts st) ts bytes us u →
     NoSuffix us u × CountsAtMost (t ∷ ts) us v w
-went_at_most o t ts us st u bytes v w more plain h = went_by o t ts us st u bytes v w (step_at o t ts st) more plain (stepped o t ts st plain) h
+went_at_most o t ts us st u bytes v w more plain h = went_by o t ts us st u bytes v w (step_at o t ts st) more plain
+    (stepped o t ts st plain) h
 
-pub failed_at_most : (o : RenderOptions) (t : Task) (ts : List Task) (st : State) (v w : Visits) → OneMore o t ts st v w → CountsAtMost (t ∷ ts) ts v w
+pub failed_at_most : (o : RenderOptions) (t : Task) (ts : List Task) (st : State) (v w : Visits) → OneMore o t ts st v w
+    → CountsAtMost (t ∷ ts) ts v w
 failed_at_most o t ts st v w more = record {
   left = omega arith;
   printer = omega (arith, more.printer, visits_within o t.tree t.mode st);
@@ -188,7 +208,8 @@ chosen_by o t ts st i x y v w (Move b pushed u) more plain s h = absurd h
 chosen_by o t ts st i x y v w Stuck more plain s h = absurd h
 chosen_by o t ts st i x y v w (Choose j l r) more plain s h =
     let z = s.1 (size t.tree + nodes ts) (omega arith) in
-    let less : size x + size y + 1 + extra (rejects_payload o t.tree t.mode st) ≤ size t.tree = omega (arith, s.0, ap size h.1, ap size h.2) in (
+    let less : size x + size y + 1 + extra (rejects_payload o t.tree t.mode st) ≤ size t.tree =
+    omega (arith, s.0, ap size h.1, ap size h.2) in (
       ap suffix_depth h.1 ∙ z.0,
       ap suffix_depth h.2 ∙ z.1,
       record {
@@ -200,7 +221,8 @@ chosen_by o t ts st i x y v w (Choose j l r) more plain s h =
       },
     )
 
-pub chosen_at_most : (o : RenderOptions) (t : Task) (ts : List Task) (st : State) (i : ℕ) (x y : Tree) (v w : Visits) → OneMore o t ts st v w → NoSuffix (t ∷ ts) st → Asks (step_at o t ts st) i x y →
+pub chosen_at_most : (o : RenderOptions) (t : Task) (ts : List Task) (st : State) (i : ℕ) (x y : Tree) (v w : Visits)
+    → OneMore o t ts st v w → NoSuffix (t ∷ ts) st → Asks (step_at o t ts st) i x y →
     (suffix_depth x ≡ 0) × (suffix_depth y ≡ 0) × CountsAtMost (t ∷ ts) (make_task i Break x ∷ make_task i Break y ∷ ts) v w
 chosen_at_most o t ts st i x y v w more plain h = chosen_by o t ts st i x y v w (step_at o t ts st) more plain (stepped o t ts st plain) h
 
@@ -221,7 +243,8 @@ at_most_then {ts} {us} {xs} {v} {w} {x} a b = record {
 }
 
 -- what is left is cut off down to what is below
-pub at_most_cut : {ts us : List Task} {v w : Visits} (above below xs : List Task) → us ≡ above ++ below → xs ≡ below → CountsAtMost ts us v w → CountsAtMost ts xs v w
+pub at_most_cut : {ts us : List Task} {v w : Visits} (above below xs : List Task) → us ≡ above ++ below → xs ≡ below
+    → CountsAtMost ts us v w → CountsAtMost ts xs v w
 at_most_cut {ts} {us} {v} {w} above below xs e h a = record {
   left = omega (arith, a.left, ap nodes e, nodes-append above below, ap nodes h);
   printer = omega (arith, a.printer, ap nodes e, nodes-append above below, ap nodes h);
@@ -237,7 +260,8 @@ at_most_all {ts} {us} {v} {w} a = record {
 }
 
 -- the first of two branches, with the second one kept for later
-pub at_most_besides : {ts us : List Task} {v w : Visits} (s t : Task) → CountsAtMost (s ∷ ts) us v w → CountsAtMost (s ∷ t ∷ ts) (t ∷ us) v w
+pub at_most_besides : {ts us : List Task} {v w : Visits} (s t : Task) → CountsAtMost (s ∷ ts) us v w
+    → CountsAtMost (s ∷ t ∷ ts) (t ∷ us) v w
 at_most_besides {ts} {us} {v} {w} s t a = record {
   left = omega (arith, a.left);
   printer = omega (arith, a.printer);
@@ -257,33 +281,30 @@ at_most_at {ts} {us} {v} {w} xs e a = at_most_cut [] us xs refl e a
 
 pub plain_at : (p q : Standing) → q.tasks ≡ p.tasks → state_at q ≡ state_at p → Plain p → Plain q
 plain_at p q e h a = record {
-  none = ap suffixes e ∙ a.none;
+  none = ap suffix_depths e ∙ a.none;
   pending = ap (λ (x : State). x.pending) h ∙ a.pending;
 }
 
 -- a task more on a stack
-pub plain_push : (p q : Standing) (t : Task) → q.tasks ≡ t ∷ p.tasks → (state_at q).pending ≡ (state_at p).pending → suffix_depth t.tree ≡ 0 → Plain p → Plain q
+pub plain_push : (p q : Standing) (t : Task) → q.tasks ≡ t ∷ p.tasks → (state_at q).pending ≡ (state_at p).pending → suffix_depth t.tree ≡ 0
+    → Plain p → Plain q
 plain_push p q t e h z a = record {
-  none = omega (arith, ap suffixes e, a.none, z);
+  none = omega (arith, ap suffix_depths e, a.none, z);
   pending = h ∙ a.pending;
 }
 
--- a run that broke off
-pub run_broke : {A E : Type 0} (ts : List Task) (q : Standing) (v w : Visits) (r : Result A E) → IsErr r → CountsAtMost ts [] v w → RunCountsAtMost ts q v w r
-run_broke {A} {E} ts q v w (Ok r) h a = cc
-run_broke {A} {E} ts q v w (Err e) h a = a
-
 -- a run that has worked on one tree
-pub visited : {A E : Type 0} (d : Tree) (p q : Standing) (v w : Visits) (r : Result A E) → p.tasks ≡ make_task 0 Break d ∷ [] → (state_at p).pending ≡ [] →
+pub visited : {A E : Type 0} (d : Tree) (p q : Standing) (v w : Visits) (r : Result A E) → p.tasks ≡ make_task 0 Break d ∷ []
+    → (state_at p).pending ≡ [] →
     (Plain p → RunCountsAtMost p.tasks q v w r) → Visited d v w
 visited {A} {E} d p q v w (Ok r) e h k =
-    let plain : suffix_depth d ≡ 0 → Plain p = λ z. record { none = omega (arith, ap suffixes e, z); pending = h } in
+    let plain : suffix_depth d ≡ 0 → Plain p = λ z. record { none = omega (arith, ap suffix_depths e, z); pending = h } in
     record {
       printer = λ z. omega (arith, (k (plain z)).1.printer, ap nodes e);
       probes = λ z. omega (arith, (k (plain z)).1.probes (size d) (omega (arith, ap nodes e)), ap (charges (size d)) e);
     }
 visited {A} {E} d p q v w (Err r) e h k =
-    let plain : suffix_depth d ≡ 0 → Plain p = λ z. record { none = omega (arith, ap suffixes e, z); pending = h } in
+    let plain : suffix_depth d ≡ 0 → Plain p = λ z. record { none = omega (arith, ap suffix_depths e, z); pending = h } in
     record {
       printer = λ z. omega (arith, (k (plain z)).printer, ap nodes e);
       probes = λ z. omega (arith, (k (plain z)).probes (size d) (omega (arith, ap nodes e)), ap (charges (size d)) e);

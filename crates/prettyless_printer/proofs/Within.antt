@@ -4,12 +4,16 @@ use Rattle.prettyless_model.specs.Spaces.{spaces}
 use Rattle.prettyless_model.specs.declared.options.RenderOptions.{RenderOptions}
 use Rattle.prettyless_model.specs.declared.options.IndentationPolicy.{IndentationPolicy}
 use Rattle.prettyless_model.specs.declared.options.IndentationPolicy.TheVariants.{Eager, Deferred}
-use Rattle.prettyless_model.specs.Tree.{Tree, Nil, Fail, Text, TextWithLen, MultilineText, WeakSpace, HardLine, WeakLine, Append, LineSuffix, Nest, DedentToRoot, Align, ExpandParent, Flatten, BreakOrFlat, Group, Union, PartialUnion, OnColumn, OnNesting}
+use Rattle.prettyless_model.specs.Tree.{Tree, Nil, Fail, Text, TextWithLen, MultilineText, WeakSpace, HardLine, WeakLine, Append}
+use Rattle.prettyless_model.specs.Tree.{LineSuffix, Nest, DedentToRoot, Align, ExpandParent, Flatten, BreakOrFlat, Group, Union}
+use Rattle.prettyless_model.specs.Tree.{PartialUnion, OnColumn, OnNesting}
 use Rattle.prettyless_model.specs.Metrics.{metrics}
 use Rattle.prettyless_model.specs.Choice.{column_holds, nesting_holds}
 use Rattle.prettyless_model.specs.Column.{gap, commit, prospective, padding_fits, nested}
 use Rattle.prettyless_model.specs.Look.{by_mode}
-use Rattle.prettyless_model.specs.Layout.{State, Outcome, Done, Failed, Entry, Breaks, after_bytes, and_then, lay, lay_each, lay_text, lay_ending, payload_fits, probe, some_pending, accept, tried, is_suppressed, flushed, entry, entries, next_indent, break_with, breaks}
+use Rattle.prettyless_model.specs.Layout.{State, Outcome, Done, Failed, Entry, Breaks, after_bytes, and_then, lay, lay_each, lay_text}
+use Rattle.prettyless_model.specs.Layout.{lay_ending, payload_fits, probe, some_pending, accept, tried, is_suppressed, flushed, entry}
+use Rattle.prettyless_model.specs.Layout.{entries, next_indent, break_with, breaks}
 use Rattle.prettyless_model.specs.Levels.{settle, queued}
 use Rattle.prettyless_model.specs.declared.mode.Mode.{Mode}
 use Rattle.prettyless_model.specs.declared.mode.Mode.TheVariants.{Break, Flat}
@@ -31,7 +35,8 @@ past-then (Failed b) f h g = tt
 
 past-accept : (o : RenderOptions) (was : Bool) (x other : Outcome) → was ≡ false → Past other → Past (accept o was x other)
 past-accept o was (Done b st) other w g =
-    elim (st.within && padding_fits o.width (some_pending st.pending) st.column) as (λ v. Past (if v then Done b (record st { within = was }) else other)) [ true ↦ w | false ↦ g ]
+    elim (st.within && padding_fits o.width (some_pending st.pending) st.column) as
+    (λ v. Past (if v then Done b (record st { within = was }) else other)) [ true ↦ w | false ↦ g ]
 past-accept o was (Failed b) other w g = g
 
 past-either : (v : Bool) (x y : Outcome) → Past x → Past y → Past (if v then x else y)
@@ -50,7 +55,8 @@ ending_past : (o : RenderOptions) (p : IndentationPolicy) (k : ℕ) (st : State)
 ending_past o Eager k st h = h
 ending_past o Deferred k st h = h
 
-lay_past : (o : RenderOptions) (brk : Breaks) → StaysPast brk → (d : Tree) (i : ℕ) (m : Mode) (rest : List Entry) (st : State) → st.within ≡ false → Past (lay o brk d i m rest st)
+lay_past : (o : RenderOptions) (brk : Breaks) → StaysPast brk → (d : Tree) (i : ℕ) (m : Mode) (rest : List Entry) (st : State)
+    → st.within ≡ false → Past (lay o brk d i m rest st)
 unfolding lay
 lay_past o brk k Nil i m rest st h = h
 lay_past o brk k Fail i m rest st h = tt
@@ -63,7 +69,8 @@ lay_past o brk k HardLine i Break rest st h = k HardLine i Break rest st h
 lay_past o brk k HardLine i Flat rest st h = tt
 lay_past o brk k WeakLine i m rest st h = k WeakLine i m rest st h
 lay_past o brk k (Append l r) i m rest st h =
-    past-then (lay o brk l i m (entry i r ∷ rest) st) (λ u. lay o brk r i m rest u) (lay_past o brk k l i m (entry i r ∷ rest) st h) (λ u q. lay_past o brk k r i m rest u q)
+    past-then (lay o brk l i m (entry i r ∷ rest) st) (λ u. lay o brk r i m rest u) (lay_past o brk k l i m (entry i r ∷ rest) st h)
+    (λ u q. lay_past o brk k r i m rest u q)
 lay_past o brk k (LineSuffix d) i m rest st h = h
 lay_past o brk k (Nest n d) i m rest st h = lay_past o brk k d (nested i n) m rest st h
 lay_past o brk k (DedentToRoot d) i m rest st h = lay_past o brk k d 0 m rest st h
@@ -72,27 +79,35 @@ lay_past o brk k ExpandParent i m rest st h = h
 lay_past o brk k (Flatten d) i m rest st h = lay_past o brk k d i Flat rest st h
 lay_past o brk k (BreakOrFlat b f) i Break rest st h = lay_past o brk k b i Break rest st h
 lay_past o brk k (BreakOrFlat b f) i Flat rest st h = lay_past o brk k f i Flat rest st h
-lay_past o brk k (Group d) i m rest st h = lay_past o brk k d i (by_mode m (if probe o d i Flat rest st then Flat else Break) Flat) rest st h
+lay_past o brk k (Group d) i m rest st h =
+    lay_past o brk k d i (by_mode m (if probe o d i Flat rest st then Flat else Break) Flat) rest st h
 lay_past o brk k (Union l r) i Break rest st h =
     past-accept o st.within (lay o brk l i Break rest (tried st)) (lay o brk r i Break rest st) h (lay_past o brk k r i Break rest st h)
 lay_past o brk k (Union l r) i Flat rest st h = lay_past o brk k l i Flat rest st h
 lay_past o brk k (PartialUnion l r) i Break rest st h =
-    past-either (probe o l i Break rest st) (lay o brk l i Break rest st) (lay o brk r i Break rest st) (lay_past o brk k l i Break rest st h) (lay_past o brk k r i Break rest st h)
+    past-either (probe o l i Break rest st) (lay o brk l i Break rest st) (lay o brk r i Break rest st)
+    (lay_past o brk k l i Break rest st h) (lay_past o brk k r i Break rest st h)
 lay_past o brk k (PartialUnion l r) i Flat rest st h = lay_past o brk k l i Flat rest st h
 lay_past o brk k (OnColumn test l r) i m rest st h =
-    past-either (column_holds test (prospective st.column) i) (lay o brk l i m rest st) (lay o brk r i m rest st) (lay_past o brk k l i m rest st h) (lay_past o brk k r i m rest st h)
+    past-either (column_holds test (prospective st.column) i) (lay o brk l i m rest st) (lay o brk r i m rest st)
+    (lay_past o brk k l i m rest st h) (lay_past o brk k r i m rest st h)
 lay_past o brk k (OnNesting test l r) i m rest st h =
-    past-either (nesting_holds test i) (lay o brk l i m rest st) (lay o brk r i m rest st) (lay_past o brk k l i m rest st h) (lay_past o brk k r i m rest st h)
+    past-either (nesting_holds test i) (lay o brk l i m rest st) (lay o brk r i m rest st) (lay_past o brk k l i m rest st h)
+    (lay_past o brk k r i m rest st h)
 
-each_past : (o : RenderOptions) (brk : Breaks) → StaysPast brk → (ds : List Tree) (i : ℕ) (m : Mode) (rest : List Entry) (st : State) → st.within ≡ false → Past (lay_each o brk ds i m rest st)
+each_past : (o : RenderOptions) (brk : Breaks) → StaysPast brk → (ds : List Tree) (i : ℕ) (m : Mode) (rest : List Entry) (st : State)
+    → st.within ≡ false → Past (lay_each o brk ds i m rest st)
 unfolding lay_each
 each_past o brk k [] i m rest st h = h
 each_past o brk k (d ∷ ds) i m rest st h =
-    past-then (lay o brk d i m (entries i ds ++ rest) st) (λ u. lay_each o brk ds i m rest u) (lay_past o brk k d i m (entries i ds ++ rest) st h) (λ u q. each_past o brk k ds i m rest u q)
+    past-then (lay o brk d i m (entries i ds ++ rest) st) (λ u. lay_each o brk ds i m rest u)
+    (lay_past o brk k d i m (entries i ds ++ rest) st h) (λ u q. each_past o brk k ds i m rest u q)
 
-break_past : (o : RenderOptions) (brk : Breaks) → StaysPast brk → (ps : List Tree) (d : Tree) (i : ℕ) (m : Mode) (rest : List Entry) (st : State) → st.within ≡ false → Past (break_with o brk ps d i m rest st)
+break_past : (o : RenderOptions) (brk : Breaks) → StaysPast brk → (ps : List Tree) (d : Tree) (i : ℕ) (m : Mode) (rest : List Entry)
+    (st : State) → st.within ≡ false → Past (break_with o brk ps d i m rest st)
 break_past o brk k [] d i m rest st h =
-    past-either (is_suppressed d st.column) (Done [] st) (lay_ending o o.indentation_policy (next_indent i rest) st) h (ending_past o o.indentation_policy (next_indent i rest) st h)
+    past-either (is_suppressed d st.column) (Done [] st) (lay_ending o o.indentation_policy (next_indent i rest) st) h
+    (ending_past o o.indentation_policy (next_indent i rest) st h)
 break_past o brk k (p ∷ ps) d i m rest st h =
     past-after (spaces (gap st.column)) (and_then (lay_each o brk (p ∷ ps) i m (entry i d ∷ rest) (flushed o st)) (brk d i m rest))
     (past-then (lay_each o brk (p ∷ ps) i m (entry i d ∷ rest) (flushed o st)) (brk d i m rest)
@@ -108,7 +123,8 @@ settle_past : (o : RenderOptions) → StaysPast (settle o)
 unfolding settle
 settle_past o = λ d i m rest st h. breaks_past o (suc (queued st.pending)) d i m rest st h
 
-pub all_past : (o : RenderOptions) (ts : List Task) (outer : List Entry) (st : State) → st.within ≡ false → Past (lay_all o (settle o) ts outer st)
+pub all_past : (o : RenderOptions) (ts : List Task) (outer : List Entry) (st : State) → st.within ≡ false
+    → Past (lay_all o (settle o) ts outer st)
 unfolding lay_all
 all_past o [] outer st h = h
 all_past o (t ∷ ts) outer st h =
@@ -118,5 +134,6 @@ all_past o (t ∷ ts) outer st h =
 -- what went past the width is not kept
 pub accept_past : (o : RenderOptions) (was : Bool) (x other : Outcome) → Past x → accept o was x other ≡ other
 accept_past o was (Done b st) other h =
-    ap (λ (v : Bool). if v && padding_fits o.width (some_pending st.pending) st.column then Done b (record st { within = was }) else other) h
+    ap (λ (v : Bool). if v && padding_fits o.width (some_pending st.pending) st.column
+    then Done b (record st { within = was }) else other) h
 accept_past o was (Failed b) other h = refl

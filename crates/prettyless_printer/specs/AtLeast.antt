@@ -11,21 +11,23 @@ use Rattle.prettyless_step.specs.Stack.{Task, follow}
 use Rattle.prettyless_step.specs.Steps.{chosen}
 use Rattle.prettyless_step.specs.Probing.{RisesBy}
 use Rattle.prettyless_printer.specs.Points.{Standing, state_at}
-use Rattle.prettyless_printer.specs.declared.answer.Turn.{Turn}
-use Rattle.prettyless_printer.specs.declared.answer.Turn.TheVariants.{Went, Failed, Chosen, Shift}
+use Rattle.prettyless_printer.specs.declared.answer.TurnResult.{TurnResult}
+use Rattle.prettyless_printer.specs.declared.answer.TurnResult.TheVariants.{Complete, Failed, Choice, Shift}
 
 -- what tasks count, one after another, until only n of them are left
 unfoldable pub tally_above : RenderOptions → ℕ → List Task → State → Weight → ℕ
 tally_above o n [] st w = 0
 tally_above o n (t ∷ ts) st w =
     if nat_le n (length ts)
-    then tally o t.tree t.indent t.mode (follow ts) st w + counted_then (lay o (settle o) t.tree t.indent t.mode (follow ts) st) (λ u. tally_above o n ts u w)
+    then tally o t.tree t.indent t.mode (follow ts) st w + counted_then (lay o (settle o) t.tree t.indent t.mode (follow ts) st)
+    (λ u. tally_above o n ts u w)
     else 0
 
 -- what a choice between two branches counts, and then the tasks after it
 abbrev pub tally_choice : RenderOptions → ℕ → ℕ → Tree → Tree → List Task → State → Weight → ℕ
 tally_choice o n i x y ts st w =
-    counted_accept o (lay o (settle o) x i Break (follow ts) (tried st)) (tally o x i Break (follow ts) (tried st) w) (tally o y i Break (follow ts) st w)
+    counted_accept o (lay o (settle o) x i Break (follow ts) (tried st)) (tally o x i Break (follow ts) (tried st) w)
+    (tally o y i Break (follow ts) st w)
     + counted_then (chosen o (settle o) i x y (follow ts) st) (λ u. tally_above o n ts u w)
 
 -- nothing is left to count
@@ -50,11 +52,11 @@ abbrev pub trial_tally : Standing → ℕ → Tree → Weight → ℕ
 trial_tally p i d w = tally p.options d i Break (follow p.tasks) (tried (state_at p)) w
 
 -- what a turn counts, seen from each place below the top of the stack
-abbrev pub TurnCountsAtLeast : {N E : Type 0} → (N → Tree) → Standing → Standing → Visits → Visits → Result (Turn N) E → Type 0
-TurnCountsAtLeast f p q v w (Ok Went) = (n : ℕ) → n < length p.tasks → CountsAtLeast (stack_tally p n) (stack_tally q n) v w
+abbrev pub TurnCountsAtLeast : {N E : Type 0} → (N → Tree) → Standing → Standing → Visits → Visits → Result (TurnResult N) E → Type 0
+TurnCountsAtLeast f p q v w (Ok Complete) = (n : ℕ) → n < length p.tasks → CountsAtLeast (stack_tally p n) (stack_tally q n) v w
 TurnCountsAtLeast f p q v w (Ok Shift) = (n : ℕ) → n < length p.tasks → CountsAtLeast (stack_tally p n) (stack_tally q n) v w
 TurnCountsAtLeast f p q v w (Ok Failed) = Unit {0}
-TurnCountsAtLeast f p q v w (Ok (Chosen i x y)) =
+TurnCountsAtLeast f p q v w (Ok (Choice i x y)) =
     (n : ℕ) → n < length p.tasks → CountsAtLeast (stack_tally p n) (choice_tally q n i (f x) (f y)) v w
 TurnCountsAtLeast f p q v w (Err e) = Unit {0}
 

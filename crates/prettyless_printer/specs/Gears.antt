@@ -13,5 +13,5 @@ abbrev pub worth : Gears → Visits → ℕ
 worth g v = max (capped (capped ((v.printer - g.start.printer) * 16) + 1000)) g.next_try
 
 -- the count of probes past which a table is worth it
-abbrev pub limit_of : Gears → Visits → ℕ
-limit_of g v = capped (g.start.probes + worth g v)
+abbrev pub probe_limit : Gears → Visits → ℕ
+probe_limit g v = capped (g.start.probes + worth g v)

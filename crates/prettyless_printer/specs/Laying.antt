@@ -1,23 +1,24 @@
 -- A document that is laid as its texts, in one turn: what holds from where the turn began to where it is.
-use Rattle.std.specs.Prelude.{◌≡◌, ℕ, ◌+◌, ◌<◌, ◌≤◌, ◌&&◌, nat_le, Bool, true, false, List, [], ◌∷◌, ◌++◌, length, map, reverse, Result, Ok, Err}
+use Rattle.std.specs.Prelude.{◌≡◌, ℕ, ◌+◌, ◌<◌, ◌≤◌, ◌&&◌, nat_le, Bool, true, false, List, [], ◌∷◌, ◌++◌, length, map, reverse, Result, Ok}
+use Rattle.std.specs.Prelude.{Err}
 use Rattle.prettyless_sink.specs.Sink.{IfKnown, rise}
 use Rattle.prettyless_model.specs.Tree.{Tree}
 use Rattle.prettyless_model.specs.declared.mode.Mode.TheVariants.{Flat}
 use Rattle.prettyless_step.specs.Stack.{Task, make_task, nodes, trees}
 use Rattle.prettyless_step.specs.Steps.{work}
-use Rattle.prettyless_printer.specs.Points.{Grows, Point, Standing, state_at, work_at}
+use Rattle.prettyless_printer.specs.Points.{QueueGrows, Point, Standing, state_at, work_at}
 use Rattle.prettyless_printer.specs.Progress.{Inside}
 use Rattle.prettyless_printer.specs.Turns.{ForWholes, next_size}
-use Rattle.prettyless_printer.specs.Visits.{CountsAtMost, Plain, Rise, suffixes}
-use Rattle.prettyless_printer.specs.declared.answer.Turn.{Turn}
-use Rattle.prettyless_printer.specs.declared.answer.Turn.TheVariants.{Went}
+use Rattle.prettyless_printer.specs.Visits.{CountsAtMost, Plain, Rise, suffix_depths}
+use Rattle.prettyless_printer.specs.declared.answer.TurnResult.{TurnResult}
+use Rattle.prettyless_printer.specs.declared.answer.TurnResult.TheVariants.{Complete}
 use Rattle.prettyless_printer.specs.AtLeast.{CountsAtLeast, stack_tally, tally_above}
 
 -- A turn that began at one point has come to another, with tasks above the stack; a node at least was visited.
 pub record Laying (a : Point) (us : List Task) (b : Point) : Type 0 where
   -- the options are the same, and the queue only grew
   pub options : b.printer.options ≡ a.printer.options
-  pub grows : Grows a.printer b.printer
+  pub grows : QueueGrows a.printer b.printer
   -- the sink writes through the same reference
   pub same_lender : b.sink.lender ≡ a.sink.lender
   -- the tasks below the next one are there
@@ -26,22 +27,24 @@ pub record Laying (a : Point) (us : List Task) (b : Point) : Type 0 where
   pub less : work (us ++ b.printer.tasks) (state_at b.printer) < work_at a
   -- where the sink's bytes are known, they go on in every whole that the work was inside of
   pub bytes : IfKnown a.sink.bytes b.sink.bytes (λ out new.
-      ForWholes a.printer out (λ whole limit below old. Inside a.printer.options whole limit below old (us ++ b.printer.tasks) (state_at b.printer) new)
+      ForWholes a.printer out (λ whole limit below old. Inside a.printer.options whole limit below old (us ++ b.printer.tasks)
+      (state_at b.printer) new)
       × (b.sink.failures ≡ a.sink.failures))
   -- a node was visited, no count fell, and the next task's document has a node for each visit of the printer and each that is left of it
   pub least : rise a.visits.printer ≤ b.visits.printer
   pub rise : Rise a.visits b.visits
   pub most : b.visits.printer + nodes us ≤ a.visits.printer + next_size a.printer.tasks
   -- without line suffixes, the nodes that left allow for the visits
-  pub at_most : Plain a.printer → ((suffixes (us ++ b.printer.tasks) ≡ 0) × ((state_at b.printer).pending ≡ []))
+  pub at_most : Plain a.printer → ((suffix_depths (us ++ b.printer.tasks) ≡ 0) × ((state_at b.printer).pending ≡ []))
       × CountsAtMost a.printer.tasks (us ++ b.printer.tasks) a.visits b.visits
   -- what was laid is counted
   pub at_least : (n : ℕ) → n < length a.printer.tasks →
-      CountsAtLeast (stack_tally a.printer n) (tally_above a.printer.options n (us ++ b.printer.tasks) (state_at b.printer)) a.visits b.visits
+      CountsAtLeast (stack_tally a.printer n) (tally_above a.printer.options n (us ++ b.printer.tasks) (state_at b.printer))
+      a.visits b.visits
 
 -- how a turn ends whose document was laid as its texts
-abbrev pub ends_turn : {N A E : Type 0} → Result A E → Result (Turn N) E
-ends_turn (Ok r) = Ok Went
+abbrev pub ends_turn : {N A E : Type 0} → Result A E → Result (TurnResult N) E
+ends_turn (Ok r) = Ok Complete
 ends_turn (Err e) = Err e
 
 -- the documents of nodes that are left, the last node first

@@ -8,9 +8,9 @@ use Rattle.prettyless_model.specs.declared.mode.Mode.TheVariants.{Break}
 use Rattle.prettyless_step.specs.Stack.{make_task}
 use Rattle.prettyless_printer.specs.declared.trial.Mark.{Mark}
 use Rattle.prettyless_printer.specs.declared.trial.OpenTrial.{OpenTrial}
-use Rattle.prettyless_printer.specs.declared.answer.Tried.{Tried}
-use Rattle.prettyless_printer.specs.declared.answer.Tried.TheVariants as tries
-use Rattle.prettyless_printer.specs.Points.{Standing, state_at, Grows, Seen, Point, point_at}
+use Rattle.prettyless_printer.specs.declared.answer.TrialResult.{TrialResult}
+use Rattle.prettyless_printer.specs.declared.answer.TrialResult.TheVariants as trial_result
+use Rattle.prettyless_printer.specs.Points.{Standing, state_at, QueueGrows, Seen, Point, point_at}
 use Rattle.prettyless_printer.specs.Turns.{IsPastLimit}
 use Rattle.prettyless_printer.specs.Trials.{Attempt, AtChoice, Marks, OnTrial, TrialBroke, Tries}
 
@@ -39,14 +39,14 @@ pub record Marked (m : Mark) (a : Point) : Type 0 where
   pub text : IsUtf8 (known a.sink.bytes)
 
 -- This is held of a trial, with this second branch.
-pub record Holds (u : Held) (t : Attempt) (y : Tree) : Type 0 where
+pub record HoldsTrial (u : Held) (t : Attempt) (y : Tree) : Type 0 where
   pub indent : u.indent ≡ t.indent
   pub second : u.second ≡ y
   pub marked : Marked u.mark t.start
 
 -- A trial of which this is held began inside another one, at a choice.
 pub record Link (o : Attempt) (u : Held) (t : Attempt) : Type 0 where
-  pub holds : Holds u t u.second
+  pub holds : HoldsTrial u t u.second
   pub choice : AtChoice o t.indent t.branch u.second t.start
 
 -- from a trial inwards, along the list, to another one
@@ -66,7 +66,7 @@ below_all (u ∷ us) = below_last u us
 -- Trials are open from the outermost one inwards, the first of them and then along a list, and a run has come to a point of the
 -- innermost. If the outermost one is not kept, this branch comes next.
 pub record OpenFrom (s : Attempt) (y : Tree) (u : Held) (us : List Held) (b : Point) : Type 0 where
-  pub holds : Holds u s y
+  pub holds : HoldsTrial u s y
   pub trial : Attempt
   pub chain : Chain s us trial
   pub on : OnTrial trial (below_last u us) b
@@ -87,7 +87,7 @@ pub record BeginsTrial (i : ℕ) (d : Tree) (p q : Standing) : Type 0 where
   pub tasks : q.tasks ≡ make_task i Break d ∷ p.tasks
   pub state : state_at q ≡ tried (state_at p)
   pub options : q.options ≡ p.options
-  pub grows : Grows p q
+  pub grows : QueueGrows p q
 
 -- A trial of a branch at an indent was taken back, and the second branch comes next.
 pub record ComesSecond (E : Type 0) (s : Attempt) (y : Tree) (b : Point) : Type 0 where
@@ -96,11 +96,11 @@ pub record ComesSecond (E : Type 0) (s : Attempt) (y : Tree) (b : Point) : Type 
   pub tasks : b.printer.tasks ≡ make_task s.indent Break y ∷ back.tasks
   pub state : state_at b.printer ≡ state_at back
   pub options : b.printer.options ≡ back.options
-  pub grows : Grows back b.printer
+  pub grows : QueueGrows back b.printer
 
 -- what open trials came to, and those that are open then
-abbrev pub Ends : {E : Type 0} → ℕ → Attempt → Tree → Point → List Held → Result Tried E → Type 0
-Ends {E} limit s y b us (Ok tries.Kept) = (us ≡ []) × Tries {E = E} s.indent s.branch s.start b (Ok true)
-Ends {E} limit s y b us (Ok tries.TakenBack) = (us ≡ []) × ComesSecond E s y b
-Ends {E} limit s y b us (Ok tries.Shift) = Open s y us b × IsPastLimit limit b.visits.probes
+abbrev pub Ends : {E : Type 0} → ℕ → Attempt → Tree → Point → List Held → Result TrialResult E → Type 0
+Ends {E} limit s y b us (Ok trial_result.Kept) = (us ≡ []) × Tries {E = E} s.indent s.branch s.start b (Ok true)
+Ends {E} limit s y b us (Ok trial_result.Rejected) = (us ≡ []) × ComesSecond E s y b
+Ends {E} limit s y b us (Ok trial_result.Shift) = Open s y us b × IsPastLimit limit b.visits.probes
 Ends {E} limit s y b us (Err e) = TrialBroke s b

@@ -9,9 +9,9 @@ use Rattle.prettyless_model.specs.Counts.{Weight}
 use Rattle.prettyless_model.specs.declared.mode.Mode.TheVariants.{Break}
 use Rattle.prettyless_step.specs.Stack.{Task, make_task, nodes}
 use Rattle.prettyless_step.specs.Steps.{work}
-use Rattle.prettyless_printer.specs.Points.{state_at, Grows, Point}
+use Rattle.prettyless_printer.specs.Points.{state_at, QueueGrows, Point}
 use Rattle.prettyless_printer.specs.Progress.{Inside, Waits}
-use Rattle.prettyless_printer.specs.Visits.{Plain, Rise, CountsAtMost, suffixes}
+use Rattle.prettyless_printer.specs.Visits.{Plain, Rise, CountsAtMost, suffix_depths}
 use Rattle.prettyless_printer.specs.AtLeast.{CountsAtLeast, stack_tally, choice_tally}
 use Rattle.prettyless_printer.specs.Renders.{Stopped, rest_of}
 
@@ -43,21 +43,22 @@ run_of a = record {
 
 -- no line suffix is among the first tasks, and none was pending
 abbrev pub BeganPlain : Run → Type 0
-BeganPlain r = (suffixes r.first ≡ 0) × ((state_at r.start.printer).pending ≡ [])
+BeganPlain r = (suffix_depths r.first ≡ 0) × ((state_at r.start.printer).pending ≡ [])
 
 -- A run has come to a point.
 pub record Path (r : Run) (b : Point) : Type 0 where
   -- the options are the same
   pub options : b.printer.options ≡ r.start.printer.options
   -- the queue of line suffixes only grew
-  pub grows : Grows r.start.printer b.printer
+  pub grows : QueueGrows r.start.printer b.printer
   -- the sink writes through the same reference
   pub same_lender : b.sink.lender ≡ r.start.sink.lender
   -- there is no more work than it may take, and that of the tasks below
   pub less : work b.printer.tasks (state_at b.printer) ≤ r.limit + 2 * nodes r.below
   -- where the sink's bytes are known, what was written and what is left are the whole, and the sink did not fail
   pub bytes : IfKnown r.start.sink.bytes b.sink.bytes (λ old out.
-      Inside r.start.printer.options r.whole r.limit r.below old b.printer.tasks (state_at b.printer) out × (b.sink.failures ≡ r.start.sink.failures))
+      Inside r.start.printer.options r.whole r.limit r.below old b.printer.tasks (state_at b.printer) out
+      × (b.sink.failures ≡ r.start.sink.failures))
   -- no count of visits fell
   pub rise : Rise r.start.visits b.visits
   -- without line suffixes, the nodes that left allow for the visits
@@ -70,7 +71,7 @@ pub record Waiting (r : Run) (i : ℕ) (x y : Tree) (b : Point) : Type 0 where
   -- the options are the same
   pub options : b.printer.options ≡ r.start.printer.options
   -- the queue of line suffixes only grew
-  pub grows : Grows r.start.printer b.printer
+  pub grows : QueueGrows r.start.printer b.printer
   -- the sink writes through the same reference
   pub same_lender : b.sink.lender ≡ r.start.sink.lender
   -- with both branches there is less work than it may take, and that of the tasks below
@@ -79,7 +80,8 @@ pub record Waiting (r : Run) (i : ℕ) (x y : Tree) (b : Point) : Type 0 where
   pub long : length r.below ≤ length b.printer.tasks
   -- where the sink's bytes are known, what was written, the choice and what is left are the whole, and the sink did not fail
   pub bytes : IfKnown r.start.sink.bytes b.sink.bytes (λ old out.
-      Waits r.start.printer.options r.whole r.limit r.below old i x y b.printer.tasks (state_at b.printer) out × (b.sink.failures ≡ r.start.sink.failures))
+      Waits r.start.printer.options r.whole r.limit r.below old i x y b.printer.tasks (state_at b.printer) out
+      × (b.sink.failures ≡ r.start.sink.failures))
   -- no count of visits fell
   pub rise : Rise r.start.visits b.visits
   -- without line suffixes, the nodes that left allow for the visits

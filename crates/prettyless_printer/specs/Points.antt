@@ -41,8 +41,8 @@ abbrev pub state_at : Standing → State
 state_at s = record { column = s.column; pending = drop s.start s.queue; within = s.within }
 
 -- the queue only grows
-abbrev pub Grows : Standing → Standing → Type 0
-Grows s t = (more : List Tree) × (t.queue ≡ s.queue ++ more)
+abbrev pub QueueGrows : Standing → Standing → Type 0
+QueueGrows s t = (more : List Tree) × (t.queue ≡ s.queue ++ more)
 
 -- What is seen of a sink.
 pub record Seen : Type 0 where

@@ -8,7 +8,8 @@ use Rattle.prettyless_step.specs.Stack.{Task, follow}
 use Rattle.prettyless_step.specs.Steps.{lay_all, chosen, work}
 
 -- What was written since `old`, and then what the tasks above `below` lay, is the whole.
-pub record Inside (o : RenderOptions) (whole : Outcome) (limit : ℕ) (below : List Task) (old : List ℕ) (stack : List Task) (st : State) (out : List ℕ) : Type 0 where
+pub record Inside (o : RenderOptions) (whole : Outcome) (limit : ℕ) (below : List Task) (old : List ℕ) (stack : List Task) (st : State)
+    (out : List ℕ) : Type 0 where
   pub above : List Task
   pub bytes : List ℕ
   pub stack_is : stack ≡ above ++ below
@@ -17,12 +18,14 @@ pub record Inside (o : RenderOptions) (whole : Outcome) (limit : ℕ) (below : L
   pub bound : work above st ≤ limit
 
 -- the same, where a choice between two branches comes next
-pub record Waits (o : RenderOptions) (whole : Outcome) (limit : ℕ) (below : List Task) (old : List ℕ) (i : ℕ) (x y : Tree) (stack : List Task) (st : State) (out : List ℕ) : Type 0 where
+pub record Waits (o : RenderOptions) (whole : Outcome) (limit : ℕ) (below : List Task) (old : List ℕ) (i : ℕ) (x y : Tree)
+    (stack : List Task) (st : State) (out : List ℕ) : Type 0 where
   pub above : List Task
   pub bytes : List ℕ
   pub stack_is : stack ≡ above ++ below
   pub out_is : out ≡ old ++ bytes
-  pub same : after_bytes bytes (and_then (chosen o (settle o) i x y (follow stack) st) (λ u. lay_all o (settle o) above (follow below) u)) ≡ whole
+  pub same : after_bytes bytes (and_then (chosen o (settle o) i x y (follow stack) st)
+      (λ u. lay_all o (settle o) above (follow below) u)) ≡ whole
   pub bound : 2 * (size x + size y) + work above st < limit
 
 -- what a trial of a branch decided: kept or not, by its outcome, with what was written and the states before and after

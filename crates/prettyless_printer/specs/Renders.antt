@@ -9,7 +9,8 @@ use Rattle.prettyless_model.specs.declared.mode.Mode.TheVariants.{Break}
 use Rattle.prettyless_model.specs.Tree.{Tree, size}
 use Rattle.prettyless_model.specs.Spaces.{spaces}
 use Rattle.prettyless_model.specs.Column.{gap}
-use Rattle.prettyless_model.specs.Layout.{Outcome, Done, Failed, Bytes, Whole, Cut, after_bytes, bytes_in, bytes_of, and_then, flushed, initial, layout}
+use Rattle.prettyless_model.specs.Layout.{Outcome, Done, Failed, Bytes, Whole, Cut, after_bytes, bytes_in, bytes_of, and_then, flushed}
+use Rattle.prettyless_model.specs.Layout.{initial, layout}
 use Rattle.prettyless_model.specs.Levels.{settle, settle_end}
 use Rattle.prettyless_step.specs.Stack.{make_task, tasks}
 use Rattle.prettyless_step.specs.Steps.{lay_all, owed, work}
@@ -72,7 +73,8 @@ pub record Continues (a b : Point) : Type 0 where
   -- the sink writes through the same reference
   pub same_lender : b.sink.lender ≡ a.sink.lender
   -- where the sink's bytes are known, what was written and what is left to the end are the whole, and the sink did not fail
-  pub bytes : IfKnown a.sink.bytes b.sink.bytes (λ old out. Finishing (to_end a.printer) b.printer old out × (b.sink.failures ≡ a.sink.failures))
+  pub bytes : IfKnown a.sink.bytes b.sink.bytes (λ old out. Finishing (to_end a.printer) b.printer old out
+      × (b.sink.failures ≡ a.sink.failures))
   -- no count of visits fell
   pub rise : Rise a.visits b.visits
   -- without line suffixes, the nodes that left allow for the visits
@@ -91,7 +93,8 @@ pub record WorksOff {A E : Type 0} (fails : E → Type 0) (a b : Point) (r : Res
   -- the sink writes through the same reference
   pub same_lender : b.sink.lender ≡ a.sink.lender
   -- where the sink's bytes are known, what the commands lay was written, as far as the result says
-  pub bytes : IfKnown a.sink.bytes b.sink.bytes (λ before after. WorkedOff a.printer b.printer fails before after a.sink.failures b.sink.failures r)
+  pub bytes : IfKnown a.sink.bytes b.sink.bytes
+      (λ before after. WorkedOff a.printer b.printer fails before after a.sink.failures b.sink.failures r)
   -- no count of visits fell
   pub rise : Rise a.visits b.visits
   -- without line suffixes, a visit is counted at most once for each node
@@ -137,7 +140,8 @@ pub record Begins (o : RenderOptions) (d : Tree) (p : Standing) : Type 0 where
   pub queue : p.queue ≡ []
 
 -- A render of a document to a sink, seen before and after, with the visits before and after.
-pub record Renders {A E : Type 0} (fails : E → Type 0) (o : RenderOptions) (d : Tree) (s t : Seen) (v w : Visits) (r : Result A (RenderError E)) : Type 0 where
+pub record Renders {A E : Type 0} (fails : E → Type 0) (o : RenderOptions) (d : Tree) (s t : Seen) (v w : Visits)
+    (r : Result A (RenderError E)) : Type 0 where
   -- the sink writes through the same reference
   pub same_lender : t.lender ≡ s.lender
   -- where the sink's bytes are known, the layout's bytes were appended, as far as the result says

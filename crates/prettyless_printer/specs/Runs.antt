@@ -3,8 +3,8 @@ use Rattle.std.specs.Prelude.{◌≡◌, ℕ, List, [], ◌∷◌, Result, Ok, E
 use Rattle.prettyless_sink.specs.Sink.{known}
 use Rattle.prettyless_sink.specs.declared.error.RenderError.{RenderError}
 use Rattle.prettyless_model.specs.Tree.{Tree}
-use Rattle.prettyless_printer.specs.declared.answer.Ran.{Ran}
-use Rattle.prettyless_printer.specs.declared.answer.Ran.TheVariants as ran
+use Rattle.prettyless_printer.specs.declared.answer.RunResult.{RunResult}
+use Rattle.prettyless_printer.specs.declared.answer.RunResult.TheVariants as run_result
 use Rattle.prettyless_printer.specs.Points.{Seen, Point, point_at}
 use Rattle.prettyless_printer.specs.Turns.{IsPastLimit}
 use Rattle.prettyless_printer.specs.Trials.{attempt}
@@ -21,10 +21,11 @@ pub record InChoice (i : ℕ) (x y : Tree) (a : Point) (us : List Held) (buffer 
   pub sink : b.sink ≡ a.sink
 
 -- a choice that waited at a was made at b, or its trials are still open there
-abbrev pub Settles : {E : Type 0} → ℕ → ℕ → Tree → Tree → Point → List Held → Seen → Point → Result Ran (RenderError E) → Type 0
-Settles {E} limit i x y a us buffer b (Ok ran.Done) = (us ≡ []) × Chooses {A = Ran} {E = E} i x y a b (Ok ran.Done)
-Settles {E} limit i x y a us buffer b (Ok ran.Shift) = InChoice i x y a us buffer b × IsPastLimit limit b.visits.probes
-Settles {E} limit i x y a us buffer b (Err e) = Chooses {A = Ran} {E = E} i x y a b (Err e)
+abbrev pub Settles : {E : Type 0} → ℕ → ℕ → Tree → Tree → Point → List Held → Seen → Point → Result RunResult (RenderError E) → Type 0
+Settles {E} limit i x y a us buffer b (Ok run_result.Finished) = (us ≡ [])
+    × Chooses {A = RunResult} {E = E} i x y a b (Ok run_result.Finished)
+Settles {E} limit i x y a us buffer b (Ok run_result.Shift) = InChoice i x y a us buffer b × IsPastLimit limit b.visits.probes
+Settles {E} limit i x y a us buffer b (Err e) = Chooses {A = RunResult} {E = E} i x y a b (Err e)
 
 -- A run has come from a to b, where trials are open.
 pub record ComesInChoice (a : Point) (us : List Held) (buffer : Seen) (b : Point) : Type 0 where
@@ -46,18 +47,18 @@ Comes a [] buffer b = Continues a b
 Comes a (u ∷ us) buffer b = ComesInChoice a (u ∷ us) buffer b
 
 -- A run stopped at b before a node, since probes were past a limit.
-pub record Stops (limit : ℕ) (a : Point) (us : List Held) (buffer : Seen) (b : Point) : Type 0 where
+pub record StopsPastLimit (limit : ℕ) (a : Point) (us : List Held) (buffer : Seen) (b : Point) : Type 0 where
   pub comes : Comes a us buffer b
   pub past : IsPastLimit limit b.visits.probes
 
 -- a run until no command is left, or probes are past a limit
-abbrev pub WorksOn : {E : Type 0} → (E → Type 0) → ℕ → Point → List Held → Seen → Point → Result Ran (RenderError E) → Type 0
-WorksOn fails limit a us buffer b (Ok ran.Done) = (us ≡ []) × WorksOff fails a b (Ok ran.Done)
-WorksOn fails limit a us buffer b (Ok ran.Shift) = Stops limit a us buffer b
-WorksOn fails limit a us buffer b (Err e) = WorksOff {A = Ran} fails a b (Err e)
+abbrev pub WorksOn : {E : Type 0} → (E → Type 0) → ℕ → Point → List Held → Seen → Point → Result RunResult (RenderError E) → Type 0
+WorksOn fails limit a us buffer b (Ok run_result.Finished) = (us ≡ []) × WorksOff fails a b (Ok run_result.Finished)
+WorksOn fails limit a us buffer b (Ok run_result.Shift) = StopsPastLimit limit a us buffer b
+WorksOn fails limit a us buffer b (Err e) = WorksOff {A = RunResult} fails a b (Err e)
 
 -- a run to the end, or until probes are past a limit
-abbrev pub RunsOn : {E : Type 0} → (E → Type 0) → ℕ → Point → List Held → Seen → Point → Result Ran (RenderError E) → Type 0
-RunsOn fails limit a us buffer b (Ok ran.Done) = RunsToEnd fails a b (Ok ran.Done)
-RunsOn fails limit a us buffer b (Ok ran.Shift) = Stops limit a us buffer b
-RunsOn fails limit a us buffer b (Err e) = RunsToEnd {A = Ran} fails a b (Err e)
+abbrev pub RunsOn : {E : Type 0} → (E → Type 0) → ℕ → Point → List Held → Seen → Point → Result RunResult (RenderError E) → Type 0
+RunsOn fails limit a us buffer b (Ok run_result.Finished) = RunsToEnd fails a b (Ok run_result.Finished)
+RunsOn fails limit a us buffer b (Ok run_result.Shift) = StopsPastLimit limit a us buffer b
+RunsOn fails limit a us buffer b (Err e) = RunsToEnd {A = RunResult} fails a b (Err e)

@@ -13,10 +13,10 @@ use Rattle.prettyless_step.specs.Sums.{HaveSummaries, TreesHave}
 use Rattle.prettyless_printer.specs.Points.{Standing}
 use Rattle.prettyless_printer.specs.Visits.{Plain}
 use Rattle.prettyless_printer.specs.Trials.{Attempt}
-use Rattle.prettyless_printer.specs.declared.answer.Course.{Course}
-use Rattle.prettyless_printer.specs.declared.answer.Course.TheVariants as course
-use Rattle.prettyless_printer.specs.declared.answer.Turn.{Turn}
-use Rattle.prettyless_printer.specs.declared.answer.Turn.TheVariants.{Went, Failed, Chosen, Shift}
+use Rattle.prettyless_printer.specs.declared.answer.TrialState.{TrialState}
+use Rattle.prettyless_printer.specs.declared.answer.TrialState.TheVariants as trial_state
+use Rattle.prettyless_printer.specs.declared.answer.TurnResult.{TurnResult}
+use Rattle.prettyless_printer.specs.declared.answer.TurnResult.TheVariants.{Complete, Failed, Choice, Shift}
 
 -- What a run has left: its tasks, the second branches of open trials, and the line suffixes that were visited; and the visits so far.
 pub record Left : Type 0 where
@@ -83,20 +83,20 @@ abbrev pub left_choice : ℕ → Tree → Tree → Standing → Visits → Left
 left_choice i x y p v = record (left p [] v) { tasks = make_task i Break x ∷ make_task i Break y ∷ p.tasks }
 
 -- what a turn leaves: where it comes to a choice, both branches
-abbrev pub after_turn : {N E : Type 0} → (N → Tree) → Standing → Visits → Result (Turn N) E → Left
-after_turn f q w (Ok Went) = left q [] w
+abbrev pub after_turn : {N E : Type 0} → (N → Tree) → Standing → Visits → Result (TurnResult N) E → Left
+after_turn f q w (Ok Complete) = left q [] w
 after_turn f q w (Ok Shift) = left q [] w
 after_turn f q w (Ok Failed) = left q [] w
-after_turn f q w (Ok (Chosen i x y)) = left_choice i (f x) (f y) q w
+after_turn f q w (Ok (Choice i x y)) = left_choice i (f x) (f y) q w
 after_turn f q w (Err e) = none_left w
 
 -- the same of a turn of a trial, or of its end
-abbrev pub after_course : {N E : Type 0} → (N → Tree) → Standing → Visits → Result (Course N) E → Left
-after_course f q w (Ok course.Goes) = left q [] w
-after_course f q w (Ok course.Over) = left q [] w
-after_course f q w (Ok course.Rejected) = left q [] w
-after_course f q w (Ok course.Shift) = left q [] w
-after_course f q w (Ok (course.Chosen i x y)) = left_choice i (f x) (f y) q w
+abbrev pub after_course : {N E : Type 0} → (N → Tree) → Standing → Visits → Result (TrialState N) E → Left
+after_course f q w (Ok trial_state.Running) = left q [] w
+after_course f q w (Ok trial_state.Complete) = left q [] w
+after_course f q w (Ok trial_state.Rejected) = left q [] w
+after_course f q w (Ok trial_state.Shift) = left q [] w
+after_course f q w (Ok (trial_state.Choice i x y)) = left_choice i (f x) (f y) q w
 after_course f q w (Err e) = none_left w
 
 -- No line suffix is among what a choice between two branches leads to, and none is pending.

@@ -1,5 +1,6 @@
 -- What a trial of a branch leaves, and how it goes.
-use Rattle.std.specs.Prelude.{◌≡◌, ℕ, ◌+◌, ◌*◌, ◌<◌, ◌≤◌, List, [], ◌++◌, length, take, Bool, true, ◌∷◌, Result, Ok, Err, IfOk, OnOk, IsSome}
+use Rattle.std.specs.Prelude.{◌≡◌, ℕ, ◌+◌, ◌*◌, ◌<◌, ◌≤◌, List, [], ◌++◌, length, take, Bool, true, ◌∷◌, Result, Ok, Err, IfOk, OnOk}
+use Rattle.std.specs.Prelude.{IsSome}
 use Rattle.prettyless_sink.specs.Sink.{known}
 use Rattle.prettyless_model.specs.Tree.{Tree, size}
 use Rattle.prettyless_model.specs.Column.{padding_fits}
@@ -11,11 +12,11 @@ use Rattle.prettyless_step.specs.Stack.{Task, follow, make_task}
 use Rattle.prettyless_step.specs.Steps.{owed}
 use Rattle.prettyless_printer.specs.Visits.{Plain, Rise, CountsAtMost, RunCountsAtMost}
 use Rattle.prettyless_printer.specs.AtLeast.{TrialCountsAtLeast, trial_tally}
-use Rattle.prettyless_printer.specs.Points.{Standing, state_at, Grows, Seen, Point, work_at}
+use Rattle.prettyless_printer.specs.Points.{Standing, state_at, QueueGrows, Seen, Point, work_at}
 use Rattle.prettyless_printer.specs.Paths.{BeganPlain, Path, Run, Waiting}
 use Rattle.prettyless_printer.specs.Progress.{Decides}
-use Rattle.prettyless_printer.specs.declared.answer.Course.{Course}
-use Rattle.prettyless_printer.specs.declared.answer.Course.TheVariants.{Goes, Over, Rejected, Chosen, Shift}
+use Rattle.prettyless_printer.specs.declared.answer.TrialState.{TrialState}
+use Rattle.prettyless_printer.specs.declared.answer.TrialState.TheVariants.{Running, Complete, Rejected, Choice, Shift}
 use Rattle.prettyless_printer.specs.Turns.{IsPastLimit}
 use Rattle.prettyless_printer.specs.declared.trial.Mark.{Mark}
 
@@ -39,9 +40,10 @@ Restores m p q =
 -- state has come; not kept, all is as before.
 abbrev pub TrialDid : Standing → Standing → ℕ → Tree → List ℕ → List ℕ → Bool → Type 0
 TrialDid p q i d old new kept =
-    (q.tasks ≡ p.tasks) × (q.options ≡ p.options) × Grows p q × (q.within ≡ p.within)
+    (q.tasks ≡ p.tasks) × (q.options ≡ p.options) × QueueGrows p q × (q.within ≡ p.within)
     × (owed (state_at q).pending ≤ 2 * size d + owed (state_at p).pending)
-    × Decides kept p.options (lay p.options (settle p.options) d i Break (follow p.tasks) (tried (state_at p))) p.within old new (state_at p) (state_at q)
+    × Decides kept p.options (lay p.options (settle p.options) d i Break (follow p.tasks) (tried (state_at p))) p.within old new
+    (state_at p) (state_at q)
 
 -- A trial of a branch at an indent, from one point to another. It writes to the buffer as its sink.
 pub record Tries {E : Type 0} (i : ℕ) (d : Tree) (a b : Point) (r : Result Bool E) : Type 0 where
@@ -61,8 +63,8 @@ abbrev pub trial_of : Standing → ℕ → Tree → Outcome
 trial_of p i d = lay p.options (settle p.options) d i Break (follow p.tasks) (tried (state_at p))
 
 -- the most work that it takes
-abbrev pub limit_of : Standing → Tree → ℕ
-limit_of p d = 2 * size d + owed (state_at p).pending
+abbrev pub work_limit : Standing → Tree → ℕ
+work_limit p d = 2 * size d + owed (state_at p).pending
 
 -- A trial: where it began, and its branch at an indent.
 pub record Attempt : Type 0 where
@@ -79,7 +81,7 @@ abbrev pub trial_run : Attempt → Run
 trial_run t = record {
   start = t.start;
   whole = trial_of t.start.printer t.indent t.branch;
-  limit = limit_of t.start.printer t.branch;
+  limit = work_limit t.start.printer t.branch;
   first = make_task t.indent Break t.branch ∷ t.start.printer.tasks;
   below = t.start.printer.tasks;
   tally = trial_tally t.start.printer t.indent t.branch;
@@ -98,7 +100,7 @@ pub record Fallen (t : Attempt) (b : Point) : Type 0 where
   pub above : List Task
   pub stack : b.printer.tasks ≡ above ++ t.start.printer.tasks
   pub options : b.printer.options ≡ t.start.printer.options
-  pub grows : Grows t.start.printer b.printer
+  pub grows : QueueGrows t.start.printer b.printer
   -- the sink writes through the same reference
   pub same_lender : b.sink.lender ≡ t.start.sink.lender
   -- what was written before is there, and the sink did not fail
@@ -107,10 +109,12 @@ pub record Fallen (t : Attempt) (b : Point) : Type 0 where
   pub wrote : known b.sink.bytes ≡ known t.start.sink.bytes ++ bytes
   pub failures : b.sink.failures ≡ t.start.sink.failures
   -- the outcome is not accepted
-  pub rejected : (other : Outcome) → accept t.start.printer.options t.start.printer.within (trial_of t.start.printer t.indent t.branch) other ≡ other
+  pub rejected : (other : Outcome) → accept t.start.printer.options t.start.printer.within
+      (trial_of t.start.printer t.indent t.branch) other ≡ other
   -- no count of visits fell; without line suffixes, the nodes that left allow for the visits
   pub rise : Rise t.start.visits b.visits
-  pub at_most : BeganPlain (trial_run t) → CountsAtMost (make_task t.indent Break t.branch ∷ t.start.printer.tasks) b.printer.tasks t.start.visits b.visits
+  pub at_most : BeganPlain (trial_run t) → CountsAtMost (make_task t.indent Break t.branch ∷ t.start.printer.tasks) b.printer.tasks
+      t.start.visits b.visits
 
 -- A trial has come to its end, and its branch is to be kept.
 pub record Lasts (t : Attempt) (b : Point) : Type 0 where
@@ -129,25 +133,26 @@ pub record AtChoice (t : Attempt) (i : ℕ) (x y : Tree) (b : Point) : Type 0 wh
 -- A trial that broke off.
 pub record TrialBroke (t : Attempt) (b : Point) : Type 0 where
   pub rise : Rise t.start.visits b.visits
-  pub at_most : BeganPlain (trial_run t) → CountsAtMost (make_task t.indent Break t.branch ∷ t.start.printer.tasks) [] t.start.visits b.visits
+  pub at_most : BeganPlain (trial_run t) → CountsAtMost (make_task t.indent Break t.branch ∷ t.start.printer.tasks) []
+      t.start.visits b.visits
 
 -- where a trial has come from one point to another by a turn, or at its end
-abbrev pub Runs : {N E : Type 0} → (N → Tree) → ℕ → Point → Point → Attempt → Result (Course N) E → Type 0
-Runs f below a b t (Ok Goes) = OnTrial t below b × (work_at b < work_at a)
-Runs f below a b t (Ok Over) = Lasts t b × (work_at b ≤ work_at a)
+abbrev pub Runs : {N E : Type 0} → (N → Tree) → ℕ → Point → Point → Attempt → Result (TrialState N) E → Type 0
+Runs f below a b t (Ok Running) = OnTrial t below b × (work_at b < work_at a)
+Runs f below a b t (Ok Complete) = Lasts t b × (work_at b ≤ work_at a)
 Runs f below a b t (Ok Rejected) = Fallen t b
-Runs f below a b t (Ok (Chosen i x y)) = AtChoice t i (f x) (f y) b × (2 * (size (f x) + size (f y)) + work_at b < work_at a)
+Runs f below a b t (Ok (Choice i x y)) = AtChoice t i (f x) (f y) b × (2 * (size (f x) + size (f y)) + work_at b < work_at a)
 Runs f below a b t (Ok Shift) = OnTrial t below b
 Runs f below a b t (Err e) = TrialBroke t b
 
 -- the same for each trial that was there, with this many commands below its branch
-abbrev pub Courses : {N E : Type 0} → (N → Tree) → ℕ → Point → Point → Result (Course N) E → Type 0
+abbrev pub Courses : {N E : Type 0} → (N → Tree) → ℕ → Point → Point → Result (TrialState N) E → Type 0
 Courses f below a b r = (t : Attempt) → OnTrial t below a → Runs f below a b t r
 
 -- a trial stopped only where probes were past the limit
-abbrev pub TrialStopsPast : {N : Type 0} → ℕ → ℕ → Course N → Type 0
-TrialStopsPast limit probes Goes = Unit {0}
-TrialStopsPast limit probes Over = Unit {0}
+abbrev pub TrialStopsPast : {N : Type 0} → ℕ → ℕ → TrialState N → Type 0
+TrialStopsPast limit probes Running = Unit {0}
+TrialStopsPast limit probes Complete = Unit {0}
 TrialStopsPast limit probes Rejected = Unit {0}
-TrialStopsPast limit probes (Chosen i x y) = Unit {0}
+TrialStopsPast limit probes (Choice i x y) = Unit {0}
 TrialStopsPast limit probes Shift = IsPastLimit limit probes

@@ -7,17 +7,17 @@ use Rattle.prettyless_model.specs.Content.{suffix_depth}
 use Rattle.prettyless_model.specs.declared.mode.Mode.TheVariants.{Break}
 use Rattle.prettyless_step.specs.Stack.{Task, make_task, nodes}
 use Rattle.prettyless_printer.specs.Points.{Standing, state_at}
-use Rattle.prettyless_printer.specs.declared.answer.Turn.{Turn}
-use Rattle.prettyless_printer.specs.declared.answer.Turn.TheVariants.{Went, Failed, Chosen, Shift}
+use Rattle.prettyless_printer.specs.declared.answer.TurnResult.{TurnResult}
+use Rattle.prettyless_printer.specs.declared.answer.TurnResult.TheVariants.{Complete, Failed, Choice, Shift}
 
 -- how deep line suffixes are in tasks, added up: 0 where there are none
-abbrev pub suffixes : List Task → ℕ
-suffixes [] = 0
-suffixes (t ∷ ts) = suffix_depth t.tree + suffixes ts
+abbrev pub suffix_depths : List Task → ℕ
+suffix_depths [] = 0
+suffix_depths (t ∷ ts) = suffix_depth t.tree + suffix_depths ts
 
 -- no line suffix is on the stack, and no document is pending
 pub record Plain (p : Standing) : Type 0 where
-  pub none : suffixes p.tasks ≡ 0
+  pub none : suffix_depths p.tasks ≡ 0
   pub pending : (state_at p).pending ≡ []
 
 -- what the probes of tasks may take up, each at most n nodes
@@ -37,11 +37,11 @@ pub record CountsAtMost (ts us : List Task) (v w : Visits) : Type 0 where
   pub probes : (n : ℕ) → nodes ts ≤ n → w.probes + charges n us ≤ v.probes + charges n ts
 
 -- the visits of a turn
-abbrev pub TurnCountsAtMost : {N E : Type 0} → (N → Tree) → Standing → Standing → Visits → Visits → Result (Turn N) E → Type 0
-TurnCountsAtMost f p q v w (Ok Went) = Plain q × CountsAtMost p.tasks q.tasks v w
+abbrev pub TurnCountsAtMost : {N E : Type 0} → (N → Tree) → Standing → Standing → Visits → Visits → Result (TurnResult N) E → Type 0
+TurnCountsAtMost f p q v w (Ok Complete) = Plain q × CountsAtMost p.tasks q.tasks v w
 TurnCountsAtMost f p q v w (Ok Shift) = Plain q × CountsAtMost p.tasks q.tasks v w
 TurnCountsAtMost f p q v w (Ok Failed) = CountsAtMost p.tasks q.tasks v w
-TurnCountsAtMost f p q v w (Ok (Chosen i x y)) =
+TurnCountsAtMost f p q v w (Ok (Choice i x y)) =
     Plain q × (suffix_depth (f x) ≡ 0) × (suffix_depth (f y) ≡ 0)
     × CountsAtMost p.tasks (make_task i Break (f x) ∷ make_task i Break (f y) ∷ q.tasks) v w
 TurnCountsAtMost f p q v w (Err e) = CountsAtMost p.tasks [] v w

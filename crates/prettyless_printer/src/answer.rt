@@ -3,36 +3,36 @@
 /// What a turn came to: its last node was visited and written, or fails, or two branches are to be chosen from; or it stopped before
 /// a node, since probes were past their limit.
 #[derive(Drop)]
-pub enum Turn<N> {
-    Went,
+pub enum TurnResult<N> {
+    Complete,
     Failed,
-    Chosen(usize, N, N),
+    Choice(usize, N, N),
     Shift,
 }
 
 /// What a run came to: all is done, or it stopped before a node, since probes were past their limit.
 #[derive(Clone, Copy)]
-pub enum Ran {
-    Done,
+pub enum RunResult {
+    Finished,
     Shift,
 }
 
 /// Where a trial has come: it goes on, or it is over and its branch is to be kept, or its branch is not to be kept, or two
 /// branches of a union in it are to be chosen from; or it stopped before a node, since probes were past their limit.
 #[derive(Drop)]
-pub enum Course<N> {
-    Goes,
-    Over,
+pub enum TrialState<N> {
+    Running,
+    Complete,
     Rejected,
-    Chosen(usize, N, N),
+    Choice(usize, N, N),
     Shift,
 }
 
 /// What open trials came to: the branch of the outermost one is kept, or taken back, with its second branch next; or they are still
 /// open, since probes were past their limit.
 #[derive(Clone, Copy)]
-pub enum Tried {
+pub enum TrialResult {
     Kept,
-    TakenBack,
+    Rejected,
     Shift,
 }

@@ -30,19 +30,19 @@ pub struct Gears {
 
 impl Gears {
     ghost use Rattle.std.specs.Prelude.{IsFalse};
-    ghost use Rattle.prettyless_printer.specs.Gears.{limit_of};
+    ghost use Rattle.prettyless_printer.specs.Gears.{probe_limit};
 
     /// Before a render. A table is laid out as soon as it is worth it.
     pub(crate) fn new(start: Visits) -> Self
         ensures first { result ≡ record { start = start; next_try = 0 } }
-        ensures within { start.probes ≤ limit_of result start }
+        ensures within { start.probes ≤ probe_limit result start }
     {
         Gears { start, next_try: 0 }
     }
 
     /// How many nodes probes may visit before a table is worth it.
     pub(crate) fn limit(&self, visits: Visits) -> u64
-        ensures { result ≡ limit_of self.now visits }
+        ensures { result ≡ probe_limit self.now visits }
     {
         let printer = visits.printer.saturating_sub(self.start.printer);
         let worth = printer.saturating_mul(FACTOR).saturating_add(GRACE);
@@ -51,7 +51,7 @@ impl Gears {
 
     /// Whether a table is worth it.
     pub(crate) fn is_worth(&self, visits: Visits) -> bool
-        ensures { IsFalse result → visits.probes ≤ limit_of self.now visits }
+        ensures { IsFalse result → visits.probes ≤ probe_limit self.now visits }
     {
         visits.probes > self.limit(visits)
     }
@@ -60,7 +60,7 @@ impl Gears {
     /// out once probes have visited as many nodes.
     pub(crate) fn next_room(&mut self, visits: Visits) -> u64
         ensures next { self.new ≡ record self.old { next_try = result } }
-        ensures within { visits.probes ≤ limit_of self.new visits }
+        ensures within { visits.probes ≤ probe_limit self.new visits }
     {
         let printer = visits.printer.saturating_sub(self.start.printer);
         let probes = visits.probes.saturating_sub(self.start.probes);

@@ -10,7 +10,7 @@ ghost use Rattle.prettyless_printer.specs.Visits.{Plain};
 ghost use Rattle.prettyless_printer.specs.Spending.{IsPlainChoice, Spends, SpendsAs, left, left_choice, none_left, rule_of};
 ghost use Rattle.prettyless_printer.specs.Runs.{Comes, InChoice, RunsOn, Settles, WorksOn};
 
-use crate::answer::{Ran, Tried, Turn};
+use crate::answer::{RunResult, TrialResult, TurnResult};
 use crate::buffer::Buffer;
 use crate::trial::{Trials, go_on_trying, open_trial};
 use crate::turn::turn;
@@ -31,7 +31,7 @@ fn go_on_choosing<N: Walk, W: Render>(
     out: &mut W,
     limit: u64,
     visits: &mut Visits,
-) -> Result<Ran, RenderError<W::Error>>
+) -> Result<RunResult, RenderError<W::Error>>
     requires open { (i : ℕ) × (x : Tree) × (y : Tree) × (a : Point) × InChoice i x y a (all_held N.tree trials.old.open.items)
         (buffer_seen buffer.old) (point N.tree printer.old (seen W.bytes W.failures W.lender out.old) visits.old) }
     requires summed { IsSummed N.HAS_SUMMARIES N.tree printer.old.commands }
@@ -48,10 +48,10 @@ fn go_on_choosing<N: Walk, W: Render>(
 {
     match go_on_trying(printer, trials, buffer, limit, visits) {
         Err(e) => Err(RenderError::Memory(e)),
-        Ok(Tried::Shift) => Ok(Ran::Shift),
-        Ok(Tried::TakenBack) => Ok(Ran::Done),
-        Ok(Tried::Kept) => match write_gap_and_text(out, 0, buffer.text.as_str()) {
-            Ok(()) => Ok(Ran::Done),
+        Ok(TrialResult::Shift) => Ok(RunResult::Shift),
+        Ok(TrialResult::Rejected) => Ok(RunResult::Finished),
+        Ok(TrialResult::Kept) => match write_gap_and_text(out, 0, buffer.text.as_str()) {
+            Ok(()) => Ok(RunResult::Finished),
             Err(e) => Err(RenderError::Sink(e)),
         },
     }
@@ -68,7 +68,7 @@ fn choose<N: Walk, W: Render>(
     second: N,
     limit: u64,
     visits: &mut Visits,
-) -> Result<Ran, RenderError<W::Error>>
+) -> Result<RunResult, RenderError<W::Error>>
     requires none { trials.old.open.items ≡ [] }
     requires summed { IsSummed N.HAS_SUMMARIES N.tree printer.old.commands }
     ensures settles { Settles limit indent (N.tree first) (N.tree second)
@@ -96,7 +96,7 @@ fn work_off<N: Walk, W: Render>(
     out: &mut W,
     limit: u64,
     visits: &mut Visits,
-) -> Result<Ran, RenderError<W::Error>>
+) -> Result<RunResult, RenderError<W::Error>>
     requires none { trials.old.open.items ≡ [] }
     requires summed { IsSummed N.HAS_SUMMARIES N.tree printer.old.commands }
     ensures works { WorksOn (W.document_errors out.new) limit
@@ -111,20 +111,20 @@ fn work_off<N: Walk, W: Render>(
 {
     'work: while printer.commands.len() > 0 {
         match turn(printer, out, limit, visits)? {
-            Turn::Failed => return Err(RenderError::Document(out.fail_doc())),
-            Turn::Went => {}
-            Turn::Shift => return Ok(Ran::Shift),
-            Turn::Chosen(indent, first, second) => {
+            TurnResult::Failed => return Err(RenderError::Document(out.fail_doc())),
+            TurnResult::Complete => {}
+            TurnResult::Shift => return Ok(RunResult::Shift),
+            TurnResult::Choice(indent, first, second) => {
                 match choose(
                     printer, trials, buffer, out, indent, first, second, limit, visits,
                 )? {
-                    Ran::Done => {}
-                    Ran::Shift => return Ok(Ran::Shift),
+                    RunResult::Finished => {}
+                    RunResult::Shift => return Ok(RunResult::Shift),
                 }
             }
         }
     }
-    Ok(Ran::Done)
+    Ok(RunResult::Finished)
 }
 
 // At the end the pending line suffixes become the commands, and the line's gap is written, as before content.
@@ -156,7 +156,7 @@ fn run_to_end<N: Walk, W: Render>(
     out: &mut W,
     limit: u64,
     visits: &mut Visits,
-) -> Result<Ran, RenderError<W::Error>>
+) -> Result<RunResult, RenderError<W::Error>>
     requires none { trials.old.open.items ≡ [] }
     requires summed { IsSummed N.HAS_SUMMARIES N.tree printer.old.commands }
     ensures runs { RunsOn (W.document_errors out.new) limit
@@ -171,10 +171,10 @@ fn run_to_end<N: Walk, W: Render>(
 {
     'rounds: loop {
         match work_off(printer, trials, buffer, out, limit, visits)? {
-            Ran::Shift => return Ok(Ran::Shift),
-            Ran::Done => {
+            RunResult::Shift => return Ok(RunResult::Shift),
+            RunResult::Finished => {
                 if !is_pending(printer) {
-                    return Ok(Ran::Done);
+                    return Ok(RunResult::Finished);
                 }
                 flush_end(printer, out)?;
             }
@@ -190,7 +190,7 @@ pub(crate) fn go_on<N: Walk, W: Render>(
     out: &mut W,
     limit: u64,
     visits: &mut Visits,
-) -> Result<Ran, RenderError<W::Error>>
+) -> Result<RunResult, RenderError<W::Error>>
     requires comes { (a : Point) × Comes a (all_held N.tree trials.old.open.items) (buffer_seen buffer.old)
         (point N.tree printer.old (seen W.bytes W.failures W.lender out.old) visits.old) }
     requires summed { IsSummed N.HAS_SUMMARIES N.tree printer.old.commands }
@@ -209,8 +209,8 @@ pub(crate) fn go_on<N: Walk, W: Render>(
         return run_to_end(printer, trials, buffer, out, limit, visits);
     }
     match go_on_choosing(printer, trials, buffer, out, limit, visits)? {
-        Ran::Done => run_to_end(printer, trials, buffer, out, limit, visits),
-        Ran::Shift => Ok(Ran::Shift),
+        RunResult::Finished => run_to_end(printer, trials, buffer, out, limit, visits),
+        RunResult::Shift => Ok(RunResult::Shift),
     }
 }
 
@@ -236,7 +236,7 @@ pub(crate) fn finish<N: Walk, W: Render>(
         (point N.tree printer.new (seen W.bytes W.failures W.lender out.new) visits.new) result }
 {
     match go_on(printer, trials, buffer, out, u64::MAX, visits)? {
-        Ran::Done => Ok(()),
-        Ran::Shift => unreachable!(),
+        RunResult::Finished => Ok(()),
+        RunResult::Shift => unreachable!(),
     }
 }

@@ -1,11 +1,12 @@
 //! The shift: what a run has left is laid out in a table, and the run goes on over that.
-ghost use Rattle.std.specs.Prelude.{◌≡◌, ◌<◌, ◌≤◌, ◌+◌, ◌-◌, ◌^◌, ⊤, IfOk, IfSome, List, MatchOption, length, map, min, true};
+ghost use Rattle.std.specs.Prelude.{◌≡◌, ◌<◌, ◌≤◌, ◌+◌, ◌-◌, ◌^◌, ◌++◌, ⊤, IfOk, IfSome, List, MatchOption, length, map, min, true};
 ghost use Rattle.std.specs.List.{sum_by};
 ghost use Rattle.prettyless_model.specs.Tree.{Tree, size};
 ghost use Rattle.prettyless_step.specs.Printing.{tasks_of};
-ghost use Rattle.prettyless_step.specs.Stack.{nodes};
+ghost use Rattle.prettyless_step.specs.Stack.{nodes, trees};
 ghost use Rattle.prettyless_step.specs.Sums.{IsSummed};
-ghost use Rattle.prettyless_table.specs.Cells.{Grows, IsSound};
+ghost use Rattle.prettyless_table.specs.Cells.{CellsGrow, CellsAreSound};
+ghost use Rattle.prettyless_table.specs.Owners.{Stand, all_owners, documents_left};
 ghost use Rattle.prettyless_table.specs.Shift.{AreNodes, nodes_left};
 ghost use Rattle.prettyless_printer.specs.Points.{Point, Standing, buffer_seen, point, seen, standing};
 ghost use Rattle.prettyless_printer.specs.Open.{Held, all_held, seconds};
@@ -15,7 +16,7 @@ ghost use Rattle.prettyless_printer.specs.Visits.{Plain};
 ghost use Rattle.prettyless_printer.specs.Linear.{IsFew, IsLinearStart};
 ghost use Rattle.prettyless_printer.specs.Spending.{IsUnended, Spends, left, none_left, rule_of};
 
-use crate::answer::Ran;
+use crate::answer::RunResult;
 use crate::buffer::Buffer;
 use crate::gear::{Gears, has_gears};
 use crate::run::{finish, go_on};
@@ -25,27 +26,30 @@ use prettyless_sink::render::Render;
 use prettyless_sink::visits::{Visits, one_more};
 use prettyless_step::printer::Printer;
 use prettyless_step::walk::Walk;
-use prettyless_table::{Placed, Table, count, count_left, lay_out_all, placed_printer};
+use prettyless_table::{MOST_CELLS, Placed, Table, count, count_left, lay_out_all, placed_printer};
 use std::alloc::{AllocError, Global};
 
-// How many nodes are left, with the second branches of open trials. `None` is answered where there are more than `most`: so nothing is
-// laid out in vain, and the table asks for its memory once.
+// How many nodes are left, with the second branches of open trials; those that take cells are listed after `owners`. `None` is answered
+// where there are more than `most`: so nothing is laid out in vain, and the table asks for its memory once.
 fn count_all<N: Walk>(
     alloc: Global,
     printer: &Printer<N>,
     trials: &Trials<N>,
+    owners: &mut Vec<N>,
     most: usize,
 ) -> Result<Option<usize>, AllocError>
-    ensures { IfOk result (λ o. MatchOption o
+    ensures counted { IfOk result (λ o. MatchOption o
         (most < nodes_left N.tree printer.now + sum_by size (seconds (all_held N.tree trials.now.open.items)))
-        (λ n. n ≡ nodes_left N.tree printer.now + sum_by size (seconds (all_held N.tree trials.now.open.items)))) }
+        (λ n. (n ≡ nodes_left N.tree printer.now + sum_by size (seconds (all_held N.tree trials.now.open.items))) × (n ≤ most))) }
+    ensures listed { IfOk result (λ o. IfSome o (λ _. trees N.tree owners.new.items ≡ trees N.tree owners.old.items
+        ++ all_owners (documents_left N.tree printer.now ++ seconds (all_held N.tree trials.now.open.items)))) }
 {
-    let Some(mut counted) = count_left(alloc, printer, most)? else {
+    let Some(mut counted) = count_left(alloc, printer, owners, most)? else {
         return Ok(None);
     };
     let mut k = 0;
     'trials: while k < trials.open.len() {
-        let Some(more) = count(alloc, trials.open[k].second, most - counted)? else {
+        let Some(more) = count(alloc, trials.open[k].second, owners, most - counted)? else {
             return Ok(None);
         };
         counted += more;
@@ -54,32 +58,27 @@ fn count_all<N: Walk>(
     Ok(Some(counted))
 }
 
-// Lays out the second branches of open trials, and answers their places, the outermost first. `None` is answered where there is no
-// room.
+// Adds the second branches of open trials to a table that has the cells of their nodes, and answers their places, the outermost first.
 fn lay_out_seconds<N: Walk>(
     alloc: Global,
     trials: &Trials<N>,
     table: &mut Table<N>,
-    most: usize,
-) -> Result<Option<Vec<u32>>, AllocError>
-    requires sound { IsSound N.tree table.old.cells.items }
-    ensures grows { Grows N.tree table.old.cells.items table.new.cells.items }
-    ensures laid { IfOk result (λ o. MatchOption o
-        (min most 4294967294 < length table.old.cells.items + sum_by size (seconds (all_held N.tree trials.now.open.items)))
-        (λ places. AreNodes N.tree table.new.cells.items places.items (seconds (all_held N.tree trials.now.open.items)))) }
-    ensures count { IfOk result (λ o. IfSome o (λ _. length table.new.cells.items
-        ≤ length table.old.cells.items + sum_by size (seconds (all_held N.tree trials.now.open.items)))) }
+    standing: &mut Vec<u32>,
+) -> Result<Vec<u32>, AllocError>
+    requires sound { CellsAreSound N.tree table.old.cells.items }
+    requires room { length table.old.cells.items + length trials.now.open.items ≤ 4294967294 }
+    requires stand { Stand table.old.cells.items (seconds (all_held N.tree trials.now.open.items)) standing.old.items }
+    ensures grows { CellsGrow N.tree table.old.cells.items table.new.cells.items }
+    ensures laid { IfOk result (λ places.
+        AreNodes N.tree table.new.cells.items places.items (seconds (all_held N.tree trials.now.open.items))) }
 {
     let mut places = Vec::new(alloc);
     let mut k = 0;
     'trials: while k < trials.open.len() {
-        let Some(place) = table.lay_out(trials.open[k].second, most)? else {
-            return Ok(None);
-        };
-        places.push(place)?;
+        places.push(table.add(trials.open[k].second, standing)?)?;
         k += 1;
     }
-    Ok(Some(places))
+    Ok(places)
 }
 
 // The open trials over a table in which their second branches stand at these places.
@@ -89,7 +88,7 @@ fn placed_trials<'t, N: Walk>(
     table: &'t Table<N>,
     places: &[u32],
 ) -> Result<Trials<Placed<'t, N>>, AllocError>
-    requires sound { IsSound N.tree table.now.cells.items }
+    requires sound { CellsAreSound N.tree table.now.cells.items }
     requires laid { AreNodes N.tree table.now.cells.items places.now (seconds (all_held N.tree trials.now.open.items)) }
     ensures { IfOk result (λ t. all_held ⟦<Placed<'t, N> as Walk>⟧.tree t.open.items ≡ all_held N.tree trials.now.open.items) }
 {
@@ -135,16 +134,15 @@ pub(crate) fn shift<N: Walk, W: Render>(
         (λ _. ⊤)) }
     ensures same { IsUnended result → (out.new ≡ out.old) × (visits.new ≡ visits.old) × (buffer.new ≡ buffer.old) }
 {
-    let Some(nodes) = count_all(alloc, printer, trials, room as usize)? else {
+    let most = (room as usize).min(MOST_CELLS);
+    let mut owners = Vec::new(alloc);
+    let Some(nodes) = count_all(alloc, printer, trials, &mut owners, most)? else {
         return Ok(None);
     };
     let mut table = Table::with_room(alloc, nodes)?;
-    let Some(seconds) = lay_out_seconds(alloc, trials, &mut table, nodes)? else {
-        return Ok(None);
-    };
-    let Some(places) = lay_out_all(alloc, printer, &mut table, nodes)? else {
-        return Ok(None);
-    };
+    let mut standing = table.fill(alloc, owners)?;
+    let places = lay_out_all(alloc, printer, &mut table, &mut standing)?;
+    let seconds = lay_out_seconds(alloc, trials, &mut table, &mut standing)?;
     let mut placed = placed_printer(alloc, printer, &table, &places)?;
     let mut placed_trials = placed_trials(alloc, trials, &table, &seconds)?;
     Ok(Some(finish(&mut placed, &mut placed_trials, buffer, out, visits)))
@@ -175,8 +173,8 @@ pub(crate) fn run_in_gears<N: Walk, W: Render>(
     'gears: loop {
         let limit = gears.limit(*visits);
         match go_on(printer, &mut trials, &mut buffer, out, limit, visits)? {
-            Ran::Done => return Ok(()),
-            Ran::Shift => {}
+            RunResult::Finished => return Ok(()),
+            RunResult::Shift => {}
         }
         if gears.is_worth(*visits) {
             let room = gears.next_room(*visits);

@@ -10,7 +10,7 @@ ghost use Rattle.prettyless_printer.specs.Open.{BeginsTrial, Ends, Open, Opens, 
 ghost use Rattle.prettyless_printer.specs.Visits.{Plain};
 ghost use Rattle.prettyless_printer.specs.Spending.{IsPlainTrial, Spends, SpendsAs, after_course, left, rule_of};
 
-use crate::answer::{Course, Tried, Turn};
+use crate::answer::{TrialResult, TrialState, TurnResult};
 use crate::buffer::Buffer;
 use crate::turn::turn;
 use prettyless_model::column::Column;
@@ -145,7 +145,7 @@ fn advance<N: Walk>(
     below: usize,
     limit: u64,
     visits: &mut Visits,
-) -> Result<Course<N>, AllocError>
+) -> Result<TrialState<N>, AllocError>
     requires summed { IsSummed N.HAS_SUMMARIES N.tree printer.old.commands }
     ensures courses { Courses N.tree below
         (point N.tree printer.old (buffer_seen buffer.old) visits.old)
@@ -162,21 +162,23 @@ fn advance<N: Walk>(
             .column
             .padding_fits(printer.options.width, is_pending(printer))
         {
-            return Ok(Course::Over);
+            return Ok(TrialState::Complete);
         }
-        return Ok(Course::Rejected);
+        return Ok(TrialState::Rejected);
     }
     match turn(printer, buffer, limit, visits) {
         Err(e) => Err(memory_of(e)),
-        Ok(Turn::Failed) => Ok(Course::Rejected),
-        Ok(Turn::Went) => {
+        Ok(TurnResult::Failed) => Ok(TrialState::Rejected),
+        Ok(TurnResult::Complete) => {
             if printer.within {
-                return Ok(Course::Goes);
+                return Ok(TrialState::Running);
             }
-            Ok(Course::Rejected)
+            Ok(TrialState::Rejected)
         }
-        Ok(Turn::Chosen(indent, first, second)) => Ok(Course::Chosen(indent, first, second)),
-        Ok(Turn::Shift) => Ok(Course::Shift),
+        Ok(TurnResult::Choice(indent, first, second)) => Ok(TrialState::Choice(
+            indent, first, second,
+        )),
+        Ok(TurnResult::Shift) => Ok(TrialState::Shift),
     }
 }
 
@@ -190,7 +192,7 @@ pub(crate) fn go_on_trying<N: Walk>(
     buffer: &mut Buffer,
     limit: u64,
     visits: &mut Visits,
-) -> Result<Tried, AllocError>
+) -> Result<TrialResult, AllocError>
     requires some { 0 < length trials.old.open.items }
     requires summed { IsSummed N.HAS_SUMMARIES N.tree printer.old.commands }
     requires open { (s : Attempt) × (y : Tree) × Open s y (all_held N.tree trials.old.open.items)
@@ -207,18 +209,18 @@ pub(crate) fn go_on_trying<N: Walk>(
 {
     'work: loop {
         match advance(printer, buffer, trials.below(), limit, visits)? {
-            Course::Goes => {}
-            Course::Shift => return Ok(Tried::Shift),
-            Course::Over => {
+            TrialState::Running => {}
+            TrialState::Shift => return Ok(TrialResult::Shift),
+            TrialState::Complete => {
                 let Some(trial) = trials.open.pop() else {
                     unreachable!()
                 };
                 printer.within = trial.mark.within;
                 if trials.is_empty() {
-                    return Ok(Tried::Kept);
+                    return Ok(TrialResult::Kept);
                 }
             }
-            Course::Rejected => {
+            TrialState::Rejected => {
                 let Some(trial) = trials.open.pop() else {
                     unreachable!()
                 };
@@ -227,10 +229,10 @@ pub(crate) fn go_on_trying<N: Walk>(
                     .commands
                     .push(trial.indent, Mode::Break, trial.second)?;
                 if trials.is_empty() {
-                    return Ok(Tried::TakenBack);
+                    return Ok(TrialResult::Rejected);
                 }
             }
-            Course::Chosen(indent, first, second) => {
+            TrialState::Choice(indent, first, second) => {
                 open_trial(printer, trials, buffer, indent, first, second)?;
             }
         }

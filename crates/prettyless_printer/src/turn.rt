@@ -7,14 +7,14 @@ ghost use Rattle.prettyless_printer.specs.Visits.{Plain};
 ghost use Rattle.prettyless_printer.specs.Spending.{Spends, after_turn, left, rule_of};
 ghost use Rattle.prettyless_printer.specs.Turns.{Advances, StopsPast};
 
-use crate::answer::Turn;
+use crate::answer::TurnResult;
 use crate::texts::lay_texts;
 use prettyless_model::mode::Mode;
 use prettyless_sink::error::RenderError;
 use prettyless_sink::render::Render;
 use prettyless_sink::visits::{Visits, one_more};
 use prettyless_step::piece::write_piece;
-use prettyless_step::printer::{Printer, Taken};
+use prettyless_step::printer::{Printer, StepResult};
 use prettyless_step::step::step;
 use prettyless_step::walk::Walk;
 
@@ -27,7 +27,7 @@ pub fn turn<N: Walk, W: Render>(
     out: &mut W,
     limit: u64,
     visits: &mut Visits,
-) -> Result<Turn<N>, RenderError<W::Error>>
+) -> Result<TurnResult<N>, RenderError<W::Error>>
     requires some { 0 < length (tasks_of N.tree printer.old) }
     requires summed { IsSummed N.HAS_SUMMARIES N.tree printer.old.commands }
     ensures advances { Advances N.tree
@@ -51,36 +51,36 @@ pub fn turn<N: Walk, W: Render>(
         visits.printer = one_more(before);
         match step(printer, indent, mode, &node, limit, visits) {
             Err(e) => return Err(RenderError::Memory(e)),
-            Ok(Taken::Shift) => {
+            Ok(StepResult::Shift) => {
                 visits.printer = before;
                 return match printer.commands.push(indent, mode, node) {
-                    Ok(()) => Ok(Turn::Shift),
+                    Ok(()) => Ok(TurnResult::Shift),
                     Err(e) => Err(RenderError::Memory(e)),
                 };
             }
-            Ok(Taken::Next(next_indent, next)) => {
+            Ok(StepResult::Descend(next_indent, next)) => {
                 indent = next_indent;
                 node = next;
             }
-            Ok(Taken::NextFlat(next_indent, next)) => {
+            Ok(StepResult::DescendFlat(next_indent, next)) => {
                 indent = next_indent;
                 mode = Mode::Flat;
                 node = next;
             }
-            Ok(Taken::NextTexts(_, next)) => {
+            Ok(StepResult::DescendTexts(_, next)) => {
                 return match lay_texts(printer, out, next, visits) {
-                    Ok(()) => Ok(Turn::Went),
+                    Ok(()) => Ok(TurnResult::Complete),
                     Err(e) => Err(e),
                 };
             }
-            Ok(Taken::Quiet) => return Ok(Turn::Went),
-            Ok(Taken::Failed) => return Ok(Turn::Failed),
-            Ok(Taken::Chosen(indent, first, second)) => {
-                return Ok(Turn::Chosen(indent, first, second));
+            Ok(StepResult::Silent) => return Ok(TurnResult::Complete),
+            Ok(StepResult::Failed) => return Ok(TurnResult::Failed),
+            Ok(StepResult::Choice(indent, first, second)) => {
+                return Ok(TurnResult::Choice(indent, first, second));
             }
-            Ok(Taken::Written(piece)) => {
+            Ok(StepResult::Emit(piece)) => {
                 return match write_piece(out, piece) {
-                    Ok(()) => Ok(Turn::Went),
+                    Ok(()) => Ok(TurnResult::Complete),
                     Err(e) => Err(RenderError::Sink(e)),
                 };
             }

@@ -2,7 +2,7 @@
 use Rattle.std.proofs.Common.{◌≡◌, ◌∙◌, List, [], ◌∷◌, ◌++◌, append-nil, refl, sym, ap, Some}
 use Rattle.prettyless_model.specs.Tree.{Tree}
 use Rattle.prettyless_program.specs.Laws.{WriteAtMostOne}
-use Rattle.prettyless_program.specs.Programs.{Instruction, and_then, encoded, run, whole}
+use Rattle.prettyless_program.specs.Programs.{Instruction, then_made, encoded, run, whole}
 use Rattle.prettyless_program.proofs.Same.{goes_on}
 
 some_tree : (d e : Tree) → Some d ≡ Some e → d ≡ e
@@ -14,6 +14,8 @@ none_later (i ∷ is) e = absurd cc
 
 pub at_most_one : WriteAtMostOne
 at_most_one bytes d e v w =
-    let k = goes_on w.instructions v.instructions [] w.writable v.writable (sym v.bytes ∙ w.bytes ∙ sym (append-nil (encoded w.instructions))) in
-    let same : v.instructions ≡ w.instructions = k.all ∙ ap (λ (is : List Instruction). w.instructions ++ is) (none_later k.later k.bytes) ∙ append-nil w.instructions in
-    some_tree d e (sym v.document ∙ ap (λ (is : List Instruction). and_then (run is []) whole) same ∙ w.document)
+    let k = goes_on w.instructions v.instructions [] w.writable v.writable
+    (sym v.bytes ∙ w.bytes ∙ sym (append-nil (encoded w.instructions))) in
+    let same : v.instructions ≡ w.instructions = k.all ∙ ap (λ (is : List Instruction). w.instructions ++ is) (none_later k.later k.bytes)
+    ∙ append-nil w.instructions in
+    some_tree d e (sym v.document ∙ ap (λ (is : List Instruction). then_made (run is []) whole) same ∙ w.document)

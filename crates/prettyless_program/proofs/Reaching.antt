@@ -1,8 +1,9 @@
 -- Following the instructions of a program, one after the other.
 use Rattle.std.proofs.Common.{◌≡◌, ◌∙◌, ℕ, List, [], ◌∷◌, ◌++◌, append_assoc, append-nil, refl, sym, ap, Option, Some}
 use Rattle.prettyless_model.specs.Tree.{Tree}
-use Rattle.prettyless_program.specs.Faults.{Reaches, Refuses, Stops}
-use Rattle.prettyless_program.specs.Programs.{Instruction, Item, IsWritable, Writes, and_then, written, encoded, run, step, whole}
+use Rattle.prettyless_program.specs.Faults.{Reaches, RefusesProgram, Stops}
+use Rattle.prettyless_program.specs.Programs.{Instruction, CodeItem, IsWritable, WritesDocument, then_made, written, encoded, run}
+use Rattle.prettyless_program.specs.Programs.{item_step, whole}
 use Rattle.prettyless_program.specs.declared.fault.Fault.{Fault}
 use Rattle.prettyless_program.proofs.NoDocument.{writes_none}
 use Rattle.prettyless_program.proofs.Runs.{run-append, encoded-append, All-append}
@@ -12,7 +13,9 @@ pub at_first : (bytes : List ℕ) → Reaches bytes bytes []
 at_first bytes = record { instructions = []; writable = tt; bytes = refl; made = refl }
 
 -- after one more
-pub one_more : (bytes before rest : List ℕ) (old new : List Item) (i : Instruction) → Reaches bytes before old → before ≡ written i ++ rest → IsWritable i → step i old ≡ Some new → Reaches bytes rest new
+pub one_more : (bytes before rest : List ℕ) (old new : List CodeItem) (i : Instruction) → Reaches bytes before old →
+    before ≡ written i ++ rest
+    → IsWritable i → item_step i old ≡ Some new → Reaches bytes rest new
 one_more bytes before rest old new i r e w s = record {
   instructions = r.instructions ++ i ∷ [];
   writable = All-append r.instructions (i ∷ []) r.writable (w, tt);
@@ -20,19 +23,22 @@ one_more bytes before rest old new i r e w s = record {
       r.bytes ∙ ap (λ (x : List ℕ). encoded r.instructions ++ x) (e ∙ ap (λ (x : List ℕ). x ++ rest) (sym (append-nil (written i))))
       ∙ sym (append_assoc (encoded r.instructions) (encoded (i ∷ [])) rest)
       ∙ ap (λ (x : List ℕ). x ++ rest) (sym (encoded-append r.instructions (i ∷ [])));
-  made = run-append r.instructions (i ∷ []) [] ∙ ap (λ (o : Option (List Item)). and_then o (run (i ∷ []))) r.made ∙ ap (λ (o : Option (List Item)). and_then o (run [])) s;
+  made = run-append r.instructions (i ∷ []) [] ∙ ap (λ (o : Option (List CodeItem)). then_made o (run (i ∷ []))) r.made
+      ∙ ap (λ (o : Option (List CodeItem)). then_made o (run [])) s;
 }
 
 -- at the end
-pub at_end : (bytes rest : List ℕ) (items : List Item) (d : Tree) → Reaches bytes rest items → rest ≡ [] → whole items ≡ Some d → Writes bytes d
+pub at_end : (bytes rest : List ℕ) (items : List CodeItem) (d : Tree) → Reaches bytes rest items → rest ≡ [] → whole items ≡ Some d
+    → WritesDocument bytes d
 at_end bytes rest items d r e w = record {
   instructions = r.instructions;
   writable = r.writable;
   bytes = r.bytes ∙ ap (λ (x : List ℕ). encoded r.instructions ++ x) e ∙ append-nil (encoded r.instructions);
-  document = ap (λ (o : Option (List Item)). and_then o whole) r.made ∙ w;
+  document = ap (λ (o : Option (List CodeItem)). then_made o whole) r.made ∙ w;
 }
 
 -- where it stops
-pub refused : (fault : Fault) (bytes rest : List ℕ) (items : List Item) → Reaches bytes rest items → Stops fault rest items → Refuses fault bytes
+pub refused : (fault : Fault) (bytes rest : List ℕ) (items : List CodeItem) → Reaches bytes rest items → Stops fault rest items
+    → RefusesProgram fault bytes
 refused fault bytes rest items r s =
     λ other. (record { rest = rest; items = items; reached = r; stops = s }, writes_none fault bytes rest items other r s)

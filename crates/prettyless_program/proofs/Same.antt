@@ -5,7 +5,8 @@ use Rattle.std.specs.List.{AllByRecursion}
 use Rattle.std.proofs.lemmas.Int.{to_z-of_z}
 use Rattle.std.proofs.lemmas.Nat.{from_le_bytes-to_le_bytes_4, from_le_bytes-to_le_bytes_8}
 use Rattle.std.proofs.Math.Facts.{Fits-of_z}
-use Rattle.prettyless_program.specs.Programs.{Instruction, Put, Write, Count, Wrap, Nest, Both, Choose, Open, Close, Fits, IsWritable, number, sized, operands, operation_in, written, encoded}
+use Rattle.prettyless_program.specs.Programs.{Instruction, Put, Write, Count, Wrap, Nest, Both, Choose, Open, Close, Fits, IsWritable}
+use Rattle.prettyless_program.specs.Programs.{number, sized, operands, operation_in, written, encoded}
 use Rattle.prettyless_program.proofs.Codes.{code_same}
 
 -- lists of one length in front of others
@@ -37,11 +38,13 @@ sized_same a b r s fa fb e =
     front_same a b r s h.0 h.1
 
 -- operands of one operation
-operands_same : (i j : Instruction) (r s : List ℕ) → Fits i → Fits j → operation_in i ≡ operation_in j → operands i ++ r ≡ operands j ++ s → (i ≡ j) × (r ≡ s)
+operands_same : (i j : Instruction) (r s : List ℕ) → Fits i → Fits j → operation_in i ≡ operation_in j → operands i ++ r ≡ operands j ++ s
+    → (i ≡ j) × (r ≡ s)
 operands_same (Put l) (Put m) r s fi fj e h = (cc, h)
 operands_same (Write w a) (Write v b) r s fi fj e h = let k = sized_same a b r s fi fj h in (let ka = k.0 in cc, k.1)
 operands_same (Count m a) (Count n b) r s fi fj e h =
-    let k = number_same m n (sized a ++ r) (sized b ++ s) fi.0 fj.0 (sym (append_assoc (number m) (sized a) r) ∙ h ∙ append_assoc (number n) (sized b) s) in
+    let k = number_same m n (sized a ++ r) (sized b ++ s) fi.0 fj.0
+    (sym (append_assoc (number m) (sized a) r) ∙ h ∙ append_assoc (number n) (sized b) s) in
     let t = sized_same a b r s fi.1 fj.1 k.1 in
     (let kn = k.0 in let ka = t.0 in cc, t.1)
 operands_same (Wrap w) (Wrap v) r s fi fj e h = (cc, h)
@@ -70,7 +73,8 @@ pub record GoesOn (is js : List Instruction) (rest : List ℕ) : Type 0 where
   pub all : is ≡ js ++ later
   pub bytes : rest ≡ encoded later
 
-pub goes_on : (js is : List Instruction) (rest : List ℕ) → AllByRecursion IsWritable js → AllByRecursion IsWritable is → encoded is ≡ encoded js ++ rest → GoesOn is js rest
+pub goes_on : (js is : List Instruction) (rest : List ℕ) → AllByRecursion IsWritable js → AllByRecursion IsWritable is
+    → encoded is ≡ encoded js ++ rest → GoesOn is js rest
 goes_on [] is rest wj wi e = record { later = is; writable = wi; all = refl; bytes = sym e }
 goes_on (j ∷ js) [] rest wj wi e = absurd cc
 goes_on (j ∷ js) (i ∷ is) rest wj wi e =

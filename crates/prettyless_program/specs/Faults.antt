@@ -6,15 +6,19 @@ use Rattle.std.specs.Str.{IsUtf8}
 use Rattle.prettyless_model.specs.Tree.{Tree}
 use Rattle.prettyless_program.specs.Codes.{code_of}
 use Rattle.prettyless_program.specs.Programs as programs
-use Rattle.prettyless_program.specs.Programs.{Instruction, Item, Writes, Fits, IsText, IsWritable, number, sized, written, encoded, run, step, whole, Close}
+use Rattle.prettyless_program.specs.Programs.{Instruction, CodeItem, WritesDocument, Fits, IsText, IsWritable, number, sized, written}
+use Rattle.prettyless_program.specs.Programs.{encoded, run}
+use Rattle.prettyless_program.specs.Programs.{item_step, whole, Close}
 use Rattle.prettyless_program.specs.declared.fault.Fault.{Fault}
-use Rattle.prettyless_program.specs.declared.fault.Fault.TheVariants.{Memory, Instruction as NoInstruction, Operand, Text, Document, Unopened, Unclosed}
+use Rattle.prettyless_program.specs.declared.fault.Fault.TheVariants.{Memory, Instruction as NoInstruction, Operand, Text, Document}
+use Rattle.prettyless_program.specs.declared.fault.Fault.TheVariants.{Unopened, Unclosed}
 use Rattle.prettyless_program.specs.declared.operation.Operation.{Operation}
 use Rattle.prettyless_program.specs.declared.operation.Operation.TheVariants as operation
 
 -- a text is cut off: the bytes end in its length, or before so many bytes
 abbrev pub IsTextCutOff : List ℕ → Type 0
-IsTextCutOff bytes = (length bytes < 4) ⊎ ((n : ℕ) × (rest : List ℕ) × (n < 2 ^ 32) × (bytes ≡ to_le_bytes w32 n ++ rest) × (length rest < n))
+IsTextCutOff bytes = (length bytes < 4)
+    ⊎ ((n : ℕ) × (rest : List ℕ) × (n < 2 ^ 32) × (bytes ≡ to_le_bytes w32 n ++ rest) × (length rest < n))
 
 -- no text comes next: it is cut off, or it is not UTF-8
 abbrev pub IsTextFault : Fault → List ℕ → Type 0
@@ -25,21 +29,22 @@ IsTextFault fault bytes = ⊥
 -- the operands of an operation are cut off: the bytes end in them
 abbrev pub IsCutOff : Operation → List ℕ → Type 0
 IsCutOff (operation.Words w) bytes = IsTextCutOff bytes
-IsCutOff operation.Counted bytes = (length bytes < 8) ⊎ ((n : ℕ) × (rest : List ℕ) × (n < 2 ^ 64) × (bytes ≡ number n ++ rest) × IsTextCutOff rest)
+IsCutOff operation.Counted bytes = (length bytes < 8)
+    ⊎ ((n : ℕ) × (rest : List ℕ) × (n < 2 ^ 64) × (bytes ≡ number n ++ rest) × IsTextCutOff rest)
 IsCutOff operation.Nest bytes = length bytes < 8
 IsCutOff (operation.Choose c) bytes = length bytes < 8
 IsCutOff o bytes = ⊥
 
 -- the last sequence has no document
-abbrev pub HasNoDocument : List Item → Type 0
-HasNoDocument items = (d : Tree) (rest : List Item) → ¬ (items ≡ programs.Document d ∷ rest)
+abbrev pub HasNoDocument : List CodeItem → Type 0
+HasNoDocument items = (d : Tree) (rest : List CodeItem) → ¬ (items ≡ programs.Document d ∷ rest)
 
 -- an instruction comes next that a program may have, and can't be followed
-abbrev pub IsStuck : Instruction → List ℕ → List Item → Type 0
-IsStuck i bytes items = IsWritable i × ((rest : List ℕ) × (bytes ≡ written i ++ rest)) × (step i items ≡ None)
+abbrev pub IsStuck : Instruction → List ℕ → List CodeItem → Type 0
+IsStuck i bytes items = IsWritable i × ((rest : List ℕ) × (bytes ≡ written i ++ rest)) × (item_step i items ≡ None)
 
 -- What each fault says of the bytes that are left, and of the items that were made before them.
-abbrev pub Stops : Fault → List ℕ → List Item → Type 0
+abbrev pub Stops : Fault → List ℕ → List CodeItem → Type 0
 Stops Memory bytes items = ⊤
 -- the next byte is the code of no operation
 Stops NoInstruction bytes items = (code : ℕ) × (rest : List ℕ) × (bytes ≡ code ∷ rest) × ((o : Operation) → ¬ (code ≡ code_of o))
@@ -55,7 +60,7 @@ Stops Unopened bytes items = IsStuck Close bytes items
 Stops Unclosed bytes items = (bytes ≡ []) × (whole items ≡ None)
 
 -- instructions that were followed from the first byte on, the items that they made, and the bytes that are left
-pub record Reaches (program rest : List ℕ) (items : List Item) : Type 0 where
+pub record Reaches (program rest : List ℕ) (items : List CodeItem) : Type 0 where
   pub instructions : List Instruction
   pub writable : AllByRecursion IsWritable instructions
   pub bytes : program ≡ encoded instructions ++ rest
@@ -64,14 +69,14 @@ pub record Reaches (program rest : List ℕ) (items : List Item) : Type 0 where
 -- the bytes have this fault somewhere
 pub record HasFault (fault : Fault) (program : List ℕ) : Type 0 where
   pub rest : List ℕ
-  pub items : List Item
+  pub items : List CodeItem
   pub reached : Reaches program rest items
   pub stops : Stops fault rest items
 
 -- the bytes write no document
 abbrev pub WritesNone : List ℕ → Type 0
-WritesNone bytes = (d : Tree) → ¬ Writes bytes d
+WritesNone bytes = (d : Tree) → ¬ WritesDocument bytes d
 
 -- unless memory was refused, the bytes have this fault, and write no document
-abbrev pub Refuses : Fault → List ℕ → Type 0
-Refuses fault bytes = ¬ (fault ≡ Memory) → HasFault fault bytes × WritesNone bytes
+abbrev pub RefusesProgram : Fault → List ℕ → Type 0
+RefusesProgram fault bytes = ¬ (fault ≡ Memory) → HasFault fault bytes × WritesNone bytes

@@ -14,11 +14,11 @@ use Rattle.prettyless_program.specs.declared.operation.Words.TheVariants as word
 use Rattle.prettyless_program.specs.declared.operation.Wrapper.TheVariants as wrapper
 use Rattle.prettyless_program.specs.declared.operation.Join.TheVariants as join
 use Rattle.prettyless_program.specs.declared.operation.Choice.TheVariants as choice
-use Rattle.prettyless_program.specs.Programs.{Instruction, Put, Write, Count, Wrap, Nest, Both, Choose, Writes, encoded}
+use Rattle.prettyless_program.specs.Programs.{Instruction, Put, Write, Count, Wrap, Nest, Both, Choose, WritesDocument, encoded}
 
 -- bytes write at most one document
 abbrev pub WriteAtMostOne : Type 0
-WriteAtMostOne = (bytes : List ℕ) (d e : Tree) → Writes bytes d → Writes bytes e → d ≡ e
+WriteAtMostOne = (bytes : List ℕ) (d e : Tree) → WritesDocument bytes d → WritesDocument bytes e → d ≡ e
 
 -- the instruction of a choice by column
 abbrev pub column_choice : ColumnTest → Instruction
@@ -96,4 +96,4 @@ IsProper d = ⊤
 
 -- each document has a program
 abbrev pub EachHasAProgram : Type 0
-EachHasAProgram = (d : Tree) → IsProper d → Writes (encode d) d
+EachHasAProgram = (d : Tree) → IsProper d → WritesDocument (encode d) d

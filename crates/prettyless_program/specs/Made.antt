@@ -20,11 +20,11 @@ instruction_of instruction.Open = programs.Open
 instruction_of instruction.Close = programs.Close
 
 -- an entry of the code
-abbrev pub item_of : {T : Type 0} → (T → Tree) → Entry T → programs.Item
-item_of tree (Document d) = programs.Document (tree d)
-item_of tree Opened = programs.Opened
+abbrev pub entry_item : {T : Type 0} → (T → Tree) → Entry T → programs.CodeItem
+entry_item tree (Document d) = programs.Document (tree d)
+entry_item tree Opened = programs.Opened
 
 -- the items of entries, the last first
-abbrev pub items_of : {T : Type 0} → (T → Tree) → List (Entry T) → List programs.Item
-items_of tree [] = []
-items_of tree (e ∷ es) = items_of tree es ++ item_of tree e ∷ []
+abbrev pub items_of_entries : {T : Type 0} → (T → Tree) → List (Entry T) → List programs.CodeItem
+items_of_entries tree [] = []
+items_of_entries tree (e ∷ es) = items_of_entries tree es ++ entry_item tree e ∷ []

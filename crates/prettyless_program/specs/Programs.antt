@@ -1,5 +1,6 @@
 -- Programs: bytes that write a document, one instruction for each node, after those of the documents below it.
-use Rattle.std.specs.Prelude.{◌≡◌, ◌<◌, ◌^◌, ℕ, ℤ, List, [], ◌∷◌, ◌++◌, length, Bool, true, false, Option, Some, None, ⊤, FitsSigned, if◌then◌else◌}
+use Rattle.std.specs.Prelude.{◌≡◌, ◌<◌, ◌^◌, ℕ, ℤ, List, [], ◌∷◌, ◌++◌, length, Bool, true, false, Option, Some, None, ⊤, FitsSigned}
+use Rattle.std.specs.Prelude.{if◌then◌else◌}
 use Rattle.std.specs.Int.{w32, w64, to_le_bytes, cast_unsigned}
 use Rattle.std.specs.List.{AllByRecursion}
 use Rattle.std.specs.Str.{IsUtf8}
@@ -103,15 +104,15 @@ IsWritable i = Fits i × IsText i
 -- ---- documents
 
 -- the document that a leaf stands for
-abbrev pub leaf_tree : Leaf → Tree
-leaf_tree leaf.Nil = tree.Nil
-leaf_tree leaf.Fail = tree.Fail
-leaf_tree leaf.WeakSpace = tree.WeakSpace
-leaf_tree leaf.HardLine = tree.HardLine
-leaf_tree leaf.WeakLine = tree.WeakLine
-leaf_tree leaf.ExpandParent = tree.ExpandParent
-leaf_tree leaf.Line = line
-leaf_tree leaf.LineOrNil = line_
+abbrev pub leaf_document : Leaf → Tree
+leaf_document leaf.Nil = tree.Nil
+leaf_document leaf.Fail = tree.Fail
+leaf_document leaf.WeakSpace = tree.WeakSpace
+leaf_document leaf.HardLine = tree.HardLine
+leaf_document leaf.WeakLine = tree.WeakLine
+leaf_document leaf.ExpandParent = tree.ExpandParent
+leaf_document leaf.Line = line
+leaf_document leaf.LineOrNil = line_
 
 -- the document of a text, by how it is counted
 abbrev pub text_tree : Words → List ℕ → Tree
@@ -120,104 +121,104 @@ text_tree words.Ascii s = tree.Text s
 text_tree words.Multiline s = to.multiline_text s
 
 -- the node over a document
-abbrev pub wrapped : Wrapper → Tree → Tree
-wrapped wrapper.Group d = tree.Group d
-wrapped wrapper.Flatten d = tree.Flatten d
-wrapped wrapper.Align d = tree.Align d
-wrapped wrapper.DedentToRoot d = tree.DedentToRoot d
-wrapped wrapper.LineSuffix d = tree.LineSuffix d
+abbrev pub node_over_one : Wrapper → Tree → Tree
+node_over_one wrapper.Group d = tree.Group d
+node_over_one wrapper.Flatten d = tree.Flatten d
+node_over_one wrapper.Align d = tree.Align d
+node_over_one wrapper.DedentToRoot d = tree.DedentToRoot d
+node_over_one wrapper.LineSuffix d = tree.LineSuffix d
 
 -- the node over two documents
-abbrev pub joined : Join → Tree → Tree → Tree
-joined join.Append l r = tree.Append l r
-joined join.BreakOrFlat l r = tree.BreakOrFlat l r
-joined join.Union l r = tree.Union l r
-joined join.PartialUnion l r = tree.PartialUnion l r
-joined join.OnIndent l r = tree.OnColumn by_column.IsNesting l r
+abbrev pub node_over_two : Join → Tree → Tree → Tree
+node_over_two join.Append l r = tree.Append l r
+node_over_two join.BreakOrFlat l r = tree.BreakOrFlat l r
+node_over_two join.Union l r = tree.Union l r
+node_over_two join.PartialUnion l r = tree.PartialUnion l r
+node_over_two join.OnIndent l r = tree.OnColumn by_column.IsNesting l r
 
 -- the choice between two documents, by a number of columns
-abbrev pub chosen : Choice → ℕ → Tree → Tree → Tree
-chosen choice.ColumnAtMost n l r = tree.OnColumn (by_column.AtMost n) l r
-chosen choice.ColumnAtLeast n l r = tree.OnColumn (by_column.AtLeast n) l r
-chosen choice.NestingAtMost n l r = tree.OnNesting (by_nesting.AtMost n) l r
-chosen choice.NestingAtLeast n l r = tree.OnNesting (by_nesting.AtLeast n) l r
+abbrev pub choice_of : Choice → ℕ → Tree → Tree → Tree
+choice_of choice.ColumnAtMost n l r = tree.OnColumn (by_column.AtMost n) l r
+choice_of choice.ColumnAtLeast n l r = tree.OnColumn (by_column.AtLeast n) l r
+choice_of choice.NestingAtMost n l r = tree.OnNesting (by_nesting.AtMost n) l r
+choice_of choice.NestingAtLeast n l r = tree.OnNesting (by_nesting.AtLeast n) l r
 
 -- ---- what instructions make
 
 -- a document, or where a sequence was opened
-pub data Item : Type 0 where
-  Document : Tree → Item
-  Opened : Item
+pub data CodeItem : Type 0 where
+  Document : Tree → CodeItem
+  Opened : CodeItem
 
 -- the documents of the last sequence as one; whether it was opened; and the items before that
 pub record Gathered : Type 0 where
   pub tree : Tree
   pub opened : Bool
-  pub rest : List Item
+  pub rest : List CodeItem
 
 -- documents in front of others that are one already, the last of them first
-abbrev pub gathered_onto : Tree → List Item → Gathered
+abbrev pub gathered_onto : Tree → List CodeItem → Gathered
 gathered_onto all [] = record { tree = all; opened = false; rest = [] }
 gathered_onto all (Document d ∷ items) = gathered_onto (tree.Append d all) items
 gathered_onto all (Opened ∷ items) = record { tree = all; opened = true; rest = items }
 
 -- the documents of the last sequence as one, of items of which the last is first
-abbrev pub gathered : List Item → Gathered
+abbrev pub gathered : List CodeItem → Gathered
 gathered [] = record { tree = tree.Nil; opened = false; rest = [] }
 gathered (Document d ∷ items) = gathered_onto d items
 gathered (Opened ∷ items) = record { tree = tree.Nil; opened = true; rest = items }
 
 -- with one document more
-abbrev pub put : Tree → List Item → Option (List Item)
+abbrev pub put : Tree → List CodeItem → Option (List CodeItem)
 put d items = Some (Document d ∷ items)
 
 -- with a node over the last document in its place
-abbrev pub over : (Tree → Tree) → List Item → Option (List Item)
+abbrev pub over : (Tree → Tree) → List CodeItem → Option (List CodeItem)
 over node (Document d ∷ items) = put (node d) items
 over node items = None
 
 -- with a node over the last two documents in their place
-abbrev pub over_two : (Tree → Tree → Tree) → List Item → Option (List Item)
+abbrev pub over_two : (Tree → Tree → Tree) → List CodeItem → Option (List CodeItem)
 over_two node (Document r ∷ (Document l ∷ items)) = put (node l r) items
 over_two node items = None
 
 -- with a sequence that was opened as one document
-abbrev pub closed : Gathered → Option (List Item)
+abbrev pub closed : Gathered → Option (List CodeItem)
 closed g = if g.opened then put g.tree g.rest else None
 
 -- what an instruction makes of the items, if it can
-abbrev pub step : Instruction → List Item → Option (List Item)
-step (Put l) items = put (leaf_tree l) items
-step (Write w s) items = put (text_tree w s) items
-step (Count n s) items = put (tree.TextWithLen n s) items
-step (Wrap w) items = over (wrapped w) items
-step (Nest k) items = over (tree.Nest k) items
-step (Both j) items = over_two (joined j) items
-step (Choose c n) items = over_two (chosen c n) items
-step Open items = Some (Opened ∷ items)
-step Close items = closed (gathered items)
+abbrev pub item_step : Instruction → List CodeItem → Option (List CodeItem)
+item_step (Put l) items = put (leaf_document l) items
+item_step (Write w s) items = put (text_tree w s) items
+item_step (Count n s) items = put (tree.TextWithLen n s) items
+item_step (Wrap w) items = over (node_over_one w) items
+item_step (Nest k) items = over (tree.Nest k) items
+item_step (Both j) items = over_two (node_over_two j) items
+item_step (Choose c n) items = over_two (choice_of c n) items
+item_step Open items = Some (Opened ∷ items)
+item_step Close items = closed (gathered items)
 
 -- one after the other
-abbrev pub and_then : {A B : Type 0} → Option A → (A → Option B) → Option B
-and_then None next = None
-and_then (Some x) next = next x
+abbrev pub then_made : {A B : Type 0} → Option A → (A → Option B) → Option B
+then_made None next = None
+then_made (Some x) next = next x
 
 -- what instructions make of the items, if all of them can
-abbrev pub run : List Instruction → List Item → Option (List Item)
+abbrev pub run : List Instruction → List CodeItem → Option (List CodeItem)
 run [] items = Some items
-run (i ∷ is) items = and_then (step i items) (run is)
+run (i ∷ is) items = then_made (item_step i items) (run is)
 
 -- the document of what was gathered at the end, where no sequence is open
-abbrev pub ended : Gathered → Option Tree
-ended g = if g.opened then None else Some g.tree
+abbrev pub gathered_document : Gathered → Option Tree
+gathered_document g = if g.opened then None else Some g.tree
 
 -- the one document of all items
-abbrev pub whole : List Item → Option Tree
-whole items = ended (gathered items)
+abbrev pub whole : List CodeItem → Option Tree
+whole items = gathered_document (gathered items)
 
 -- the bytes write this document
-pub record Writes (program : List ℕ) (d : Tree) : Type 0 where
+pub record WritesDocument (program : List ℕ) (d : Tree) : Type 0 where
   pub instructions : List Instruction
   pub writable : AllByRecursion IsWritable instructions
   pub bytes : program ≡ encoded instructions
-  pub document : and_then (run instructions []) whole ≡ Some d
+  pub document : then_made (run instructions []) whole ≡ Some d

@@ -1,8 +1,8 @@
 //! From a program to its document.
 ghost use Rattle.std.specs.Prelude.{◌≡◌, [], Some, IfOk, IfErr};
-ghost use Rattle.prettyless_program.specs.Faults.{Refuses, Stops};
-ghost use Rattle.prettyless_program.specs.Made.{items_of};
-ghost use Rattle.prettyless_program.specs.Programs.{whole, Writes};
+ghost use Rattle.prettyless_program.specs.Faults.{RefusesProgram, Stops};
+ghost use Rattle.prettyless_program.specs.Made.{items_of_entries};
+ghost use Rattle.prettyless_program.specs.Programs.{whole, WritesDocument};
 
 use crate::fault::Fault;
 use crate::making::follow;
@@ -15,8 +15,8 @@ fn whole<'a, D: DocPlace<'a>>(
     place: &'a D,
     entries: &mut Vec<Entry<D::Doc>>,
 ) -> Result<D::Doc, Fault>
-    ensures ok { IfOk result (λ p. whole (items_of D.Doc.tree entries.old.items) ≡ Some (D.Doc.tree p)) }
-    ensures err { IfErr result (λ fault. Stops fault [] (items_of D.Doc.tree entries.old.items)) }
+    ensures ok { IfOk result (λ p. whole (items_of_entries D.Doc.tree entries.old.items) ≡ Some (D.Doc.tree p)) }
+    ensures err { IfErr result (λ fault. Stops fault [] (items_of_entries D.Doc.tree entries.old.items)) }
 {
     let gathered = gather(place, entries)?;
     if gathered.opened {
@@ -30,8 +30,8 @@ fn whole<'a, D: DocPlace<'a>>(
 /// A fault other than `Memory` comes only where the bytes write no document, and says why.
 #[tactic(auto, using(crate::proofs::Reaching::at_first, crate::proofs::Reaching::one_more, crate::proofs::Reaching::at_end, crate::proofs::Reaching::refused))]
 pub fn decode<'a, D: DocPlace<'a>>(place: &'a D, program: &'a [u8]) -> Result<D::Doc, Fault>
-    ensures ok { IfOk result (λ p. Writes program.now (D.Doc.tree p)) }
-    ensures err { IfErr result (λ fault. Refuses fault program.now) }
+    ensures ok { IfOk result (λ p. WritesDocument program.now (D.Doc.tree p)) }
+    ensures err { IfErr result (λ fault. RefusesProgram fault program.now) }
 {
     let mut reader = Reader { rest: program };
     let mut entries: Vec<Entry<D::Doc>> = Vec::new(place.memory());

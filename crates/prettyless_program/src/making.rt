@@ -1,8 +1,9 @@
 //! The document that an instruction makes.
 ghost use Rattle.std.specs.Prelude.{◌≡◌, ◌∷◌, ◌++◌, ℕ, List, Some, OnOk, IfOk, IfErr};
 ghost use Rattle.prettyless_program.specs.Faults.{Stops};
-ghost use Rattle.prettyless_program.specs.Made.{instruction_of, item_of, items_of};
-ghost use Rattle.prettyless_program.specs.Programs.{Close, Document, IsWritable, chosen as chosen_tree, joined as joined_tree, leaf_tree, step, text_tree, wrapped as wrapped_tree, written};
+ghost use Rattle.prettyless_program.specs.Made.{instruction_of, entry_item, items_of_entries};
+ghost use Rattle.prettyless_program.specs.Programs.{Close, Document, IsWritable, choice_of as chosen_tree, node_over_two as joined_tree};
+ghost use Rattle.prettyless_program.specs.Programs.{leaf_document, item_step, text_tree, node_over_one as wrapped_tree, written};
 ghost use Rattle.prettyless_program.specs.declared.fault.Fault.TheVariants.{Memory};
 
 use crate::fault::Fault;
@@ -17,7 +18,7 @@ use prettyless_model::choice::{ColumnTest, NestingTest};
 /// A document that holds no other.
 #[inline(always)]
 fn leaf<'a, D: DocPlace<'a>>(place: &'a D, leaf: Leaf) -> Result<D::Doc, Fault>
-    ensures ok { IfOk result (λ p. D.Doc.tree p ≡ leaf_tree leaf) }
+    ensures ok { IfOk result (λ p. D.Doc.tree p ≡ leaf_document leaf) }
     ensures err { IfErr result (λ fault. fault ≡ Memory) }
 {
     let made = match leaf {
@@ -115,9 +116,9 @@ fn sequence<'a, D: DocPlace<'a>>(
     place: &'a D,
     entries: &mut Vec<Entry<D::Doc>>,
 ) -> Result<D::Doc, Fault>
-    ensures ok { IfOk result (λ p. step Close (items_of D.Doc.tree entries.old.items)
-        ≡ Some (Document (D.Doc.tree p) ∷ items_of D.Doc.tree entries.new.items)) }
-    ensures err { IfErr result (λ fault. (rest : List ℕ) → Stops fault (written Close ++ rest) (items_of D.Doc.tree entries.old.items)) }
+    ensures ok { IfOk result (λ p. item_step Close (items_of_entries D.Doc.tree entries.old.items)
+        ≡ Some (Document (D.Doc.tree p) ∷ items_of_entries D.Doc.tree entries.new.items)) }
+    ensures err { IfErr result (λ fault. (rest : List ℕ) → Stops fault (written Close ++ rest) (items_of_entries D.Doc.tree entries.old.items)) }
 {
     let gathered = gather(place, entries)?;
     if !gathered.opened {
@@ -134,10 +135,10 @@ fn made<'a, D: DocPlace<'a>>(
     entries: &mut Vec<Entry<D::Doc>>,
 ) -> Result<Entry<D::Doc>, Fault>
     requires { IsWritable (instruction_of instruction) }
-    ensures ok { IfOk result (λ entry. step (instruction_of instruction.entry) (items_of D.Doc.tree entries.old.items)
-        ≡ Some (item_of D.Doc.tree entry ∷ items_of D.Doc.tree entries.new.items)) }
+    ensures ok { IfOk result (λ entry. item_step (instruction_of instruction.entry) (items_of_entries D.Doc.tree entries.old.items)
+        ≡ Some (entry_item D.Doc.tree entry ∷ items_of_entries D.Doc.tree entries.new.items)) }
     ensures err { IfErr result (λ fault. (rest : List ℕ)
-        → Stops fault (written (instruction_of instruction.entry) ++ rest) (items_of D.Doc.tree entries.old.items)) }
+        → Stops fault (written (instruction_of instruction.entry) ++ rest) (items_of_entries D.Doc.tree entries.old.items)) }
 {
     match instruction {
         Instruction::Leaf(kind) => Ok(Entry::Document(leaf(place, kind)?)),
@@ -178,10 +179,10 @@ pub fn follow<'a, D: DocPlace<'a>>(
     entries: &mut Vec<Entry<D::Doc>>,
 ) -> Result<(), Fault>
     requires { IsWritable (instruction_of instruction) }
-    ensures ok { OnOk result (step (instruction_of instruction.entry) (items_of D.Doc.tree entries.old.items)
-        ≡ Some (items_of D.Doc.tree entries.new.items)) }
+    ensures ok { OnOk result (item_step (instruction_of instruction.entry) (items_of_entries D.Doc.tree entries.old.items)
+        ≡ Some (items_of_entries D.Doc.tree entries.new.items)) }
     ensures err { IfErr result (λ fault. (rest : List ℕ)
-        → Stops fault (written (instruction_of instruction.entry) ++ rest) (items_of D.Doc.tree entries.old.items)) }
+        → Stops fault (written (instruction_of instruction.entry) ++ rest) (items_of_entries D.Doc.tree entries.old.items)) }
 {
     let entry = made(place, instruction, entries)?;
     entries.push(entry)?;

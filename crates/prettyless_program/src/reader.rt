@@ -5,7 +5,7 @@ ghost use Rattle.std.specs.Str.{IsUtf8};
 ghost use Rattle.prettyless_program.specs.Codes.{code_of};
 ghost use Rattle.prettyless_program.specs.Faults.{IsTextFault, Stops};
 ghost use Rattle.prettyless_program.specs.Made.{instruction_of};
-ghost use Rattle.prettyless_program.specs.Programs.{Item, IsWritable, number, sized, written};
+ghost use Rattle.prettyless_program.specs.Programs.{CodeItem, IsWritable, number, sized, written};
 ghost use Rattle.prettyless_program.specs.declared.fault.Fault.TheVariants.{Operand};
 
 use crate::fault::Fault;
@@ -94,7 +94,7 @@ impl<'p> Reader<'p> {
     fn operands(&mut self, operation: Operation) -> Result<Instruction<'p>, Fault>
         ensures ok { IfOk result (λ i. (code_of operation ∷ self.old.rest.now ≡ written (instruction_of i) ++ self.new.rest.now)
             × IsWritable (instruction_of i)) }
-        ensures err { IfErr result (λ fault. (items : List Item) → Stops fault (code_of operation ∷ self.old.rest.now) items) }
+        ensures err { IfErr result (λ fault. (items : List CodeItem) → Stops fault (code_of operation ∷ self.old.rest.now) items) }
     {
         match operation {
             Operation::Leaf(leaf) => Ok(Instruction::Leaf(leaf)),
@@ -117,7 +117,7 @@ impl<'p> Reader<'p> {
     pub fn next(&mut self) -> Result<Option<Instruction<'p>>, Fault>
         ensures ok { IfOk result (λ next. MatchOption next (self.old.rest.now ≡ [])
             (λ i. (self.old.rest.now ≡ written (instruction_of i) ++ self.new.rest.now) × IsWritable (instruction_of i))) }
-        ensures err { IfErr result (λ fault. (items : List Item) → Stops fault self.old.rest.now items) }
+        ensures err { IfErr result (λ fault. (items : List CodeItem) → Stops fault self.old.rest.now items) }
     {
         let Some(code) = self.byte() else {
             return Ok(None);

@@ -1,7 +1,7 @@
 //! What was made so far.
 ghost use Rattle.std.specs.Prelude.{◌≡◌, ◌∷◌, [], ◌<◌, length, IfOk, IfErr, IfSome, IfNone, OnSome};
 ghost use Rattle.prettyless_program.specs.Faults.{HasNoDocument};
-ghost use Rattle.prettyless_program.specs.Made.{item_of, items_of};
+ghost use Rattle.prettyless_program.specs.Made.{entry_item, items_of_entries};
 ghost use Rattle.prettyless_program.specs.Programs as programs;
 ghost use Rattle.prettyless_program.specs.Programs.{gathered};
 ghost use Rattle.prettyless_program.specs.declared.fault.Fault.TheVariants.{Document as NoDocument, Memory};
@@ -27,8 +27,8 @@ pub struct Gathered<T> {
 #[inline(always)]
 #[tactic(auto, using(crate::proofs::Items::items_of_push))]
 fn take<'a, T: DocPtr<'a>>(entries: &mut Vec<Entry<T>>) -> Option<Entry<T>>
-    ensures some { IfSome result (λ e. items_of T.tree entries.old.items ≡ item_of T.tree e ∷ items_of T.tree entries.new.items) }
-    ensures none { IfNone result ((items_of T.tree entries.old.items ≡ []) × (items_of T.tree entries.new.items ≡ [])) }
+    ensures some { IfSome result (λ e. items_of_entries T.tree entries.old.items ≡ entry_item T.tree e ∷ items_of_entries T.tree entries.new.items) }
+    ensures none { IfNone result ((items_of_entries T.tree entries.old.items ≡ []) × (items_of_entries T.tree entries.new.items ≡ [])) }
     ensures fewer { OnSome result (length entries.new.items < length entries.old.items) }
 {
     entries.pop()
@@ -37,8 +37,8 @@ fn take<'a, T: DocPtr<'a>>(entries: &mut Vec<Entry<T>>) -> Option<Entry<T>>
 /// Takes the last document of the innermost open sequence.
 #[inline(always)]
 pub fn pop<'a, T: DocPtr<'a>>(entries: &mut Vec<Entry<T>>) -> Result<T, Fault>
-    ensures ok { IfOk result (λ d. items_of T.tree entries.old.items ≡ programs.Document (T.tree d) ∷ items_of T.tree entries.new.items) }
-    ensures err { IfErr result (λ fault. (fault ≡ NoDocument) × HasNoDocument (items_of T.tree entries.old.items)) }
+    ensures ok { IfOk result (λ d. items_of_entries T.tree entries.old.items ≡ programs.Document (T.tree d) ∷ items_of_entries T.tree entries.new.items) }
+    ensures err { IfErr result (λ fault. (fault ≡ NoDocument) × HasNoDocument (items_of_entries T.tree entries.old.items)) }
 {
     match take(entries) {
         Some(Entry::Document(document)) => Ok(document),
@@ -51,8 +51,8 @@ pub fn gather<'a, D: DocPlace<'a>>(
     place: &'a D,
     entries: &mut Vec<Entry<D::Doc>>,
 ) -> Result<Gathered<D::Doc>, Fault>
-    ensures ok { IfOk result (λ all. gathered (items_of D.Doc.tree entries.old.items)
-        ≡ record { tree = D.Doc.tree all.document; opened = all.opened; rest = items_of D.Doc.tree entries.new.items }) }
+    ensures ok { IfOk result (λ all. gathered (items_of_entries D.Doc.tree entries.old.items)
+        ≡ record { tree = D.Doc.tree all.document; opened = all.opened; rest = items_of_entries D.Doc.tree entries.new.items }) }
     ensures err { IfErr result (λ fault. fault ≡ Memory) }
 {
     let mut document = match take(entries) {

@@ -1,5 +1,6 @@
 -- What shapes show.
-use Rattle.std.proofs.Common.{◌≡◌, refl, ◌∙◌, ap, subst, ℕ, pos, Bool, true, false, if◌then◌else◌, List, [], ◌∷◌, ◌++◌, map, append_assoc, append-nil}
+use Rattle.std.proofs.Common.{◌≡◌, refl, ◌∙◌, ap, subst, ℕ, pos, Bool, true, false, if◌then◌else◌, List, [], ◌∷◌, ◌++◌, map, append_assoc}
+use Rattle.std.proofs.Common.{append-nil}
 use Rattle.std.specs.List.{AllZip}
 use Rattle.prettyless_model.specs.Shows.{Item, NoneIsLate, Late, spaced, apart, ended, loose, shows}
 use Rattle.prettyless_doc.specs.Counted.{text}
@@ -9,11 +10,13 @@ use Rattle.prettyless_build.specs.Built.{append, enclose, group, nest, softline}
 use Rattle.prettyless_alloc.specs.Lists.{change_all_but_last, punctuated}
 use Rattle.prettyless_alloc.specs.Shown.{text_items, with_gaps}
 use Rattle.prettyless_alloc.specs.Words.{intersperse}
-use Rattle.prettyless_alloc.proofs.ShownItems.{append_shows, enclose_shows, nest_shows, group_shows, line_suffix_shows, flat_alt_shows, if_group_break_shows}
+use Rattle.prettyless_alloc.proofs.ShownItems.{append_shows, enclose_shows, nest_shows, group_shows, line_suffix_shows, flat_alt_shows}
+use Rattle.prettyless_alloc.proofs.ShownItems.{if_group_break_shows}
 use Rattle.prettyless_alloc.proofs.ShownItems.{text_shows, space_shows, line_shows, line__shows, softline_shows, hard_line_shows}
 use Rattle.prettyless_alloc.proofs.ShownItems.{intersperse_shows, punctuated_shows, marks_stand_in_gaps}
-use Rattle.prettyless_shapes.specs.Items.{ShowsAll, ShowsBlock, ShowsBoth, ShowsMore, ShowsSame, ShowsList, mark_items, edge_item, trail_items, member_items, list_items}
-use Rattle.prettyless_shapes.specs.Shapes.{gapped, block, hanging, remarked, late_remarked, edge, gap, trail, members, inside, list}
+use Rattle.prettyless_shapes.specs.Items.{ShowsAll, ShowsBlock, ShowsBoth, ShowsMore, ShowsSame, ShowsList, mark_items, edge_item}
+use Rattle.prettyless_shapes.specs.Items.{trail_items, member_items, list_items}
+use Rattle.prettyless_shapes.specs.Shapes.{gapped, block, hanging, remarked, late_remarked, edge, gap_between, trail, members, inside, list}
 use Rattle.prettyless_shapes.specs.declared.lists.ListStyle.{ListStyle}
 
 -- ---- gaps
@@ -48,7 +51,7 @@ hanging_shows x y columns xs ys h k =
     append_shows x (group (nest (pos columns) (append line y))) xs (apart ∷ ys) h
     (group_shows (nest (pos columns) (append line y)) (apart ∷ ys) nested)
 
--- line ends behind two front parts, as they stand in items
+-- line ends after two front parts, as they stand in items
 block_items : (first items last : List Item)
     → (first ++ (ended ∷ items)) ++ (ended ∷ last) ≡ first ++ (ended ∷ (items ++ (ended ∷ last)))
 block_items first items last = append_assoc first (ended ∷ items) (ended ∷ last)
@@ -107,12 +110,12 @@ module _ (style : ListStyle) (mark : List ℕ) where
   members_show xs lists each =
       let marked = punctuated (text mark) xs in
       let marked_items = change_all_but_last (λ (items : List Item). items ++ text_items mark) lists in
-      let separated = intersperse_shows (gap style) marked (apart ∷ []) marked_items (gap_shows style.filled)
+      let separated = intersperse_shows (gap_between style) marked (apart ∷ []) marked_items (gap_shows style.filled)
       (punctuated_shows (text mark) xs (text_items mark) lists (text_shows mark) each) in
       let in_gaps = marks_stand_in_gaps (text_items mark) (apart ∷ []) lists in
-      append_shows (intersperse (gap style) marked) (trail style (text mark))
+      append_shows (intersperse (gap_between style) marked) (trail style (text mark))
       (with_gaps (text_items mark ++ apart ∷ []) lists) (trail_items style mark)
-      (subst (shows (intersperse (gap style) marked)) in_gaps separated) (trail_shows style.trailing mark)
+      (subst (shows (intersperse (gap_between style) marked)) in_gaps separated) (trail_shows style.trailing mark)
 
   -- what is between the brackets
   inside_shows : (xs : List Tree) (lists : List (List Item)) → AllZip shows xs lists

@@ -21,7 +21,8 @@ ShowsSame x z = (xs : List Item) → shows x xs → shows z xs
 -- the last tree shows what the first three show, with a line end in each gap
 abbrev pub ShowsBlock : Tree → Tree → Tree → Tree → Type 0
 ShowsBlock before x after z =
-    (first items last : List Item) → shows before first → shows x items → shows after last → shows z (first ++ (ended ∷ (items ++ (ended ∷ last))))
+    (first items last : List Item) → shows before first → shows x items → shows after last
+    → shows z (first ++ (ended ∷ (items ++ (ended ∷ last))))
 
 -- ---- lists
 

@@ -10,7 +10,7 @@ use Rattle.prettyless_shapes.specs.declared.lists.ListStyle.{ListStyle}
 
 -- two trees with a gap between them
 abbrev pub gapped : Tree → Tree → Tree → Tree
-gapped x gap y = append (append x gap) y
+gapped x gap_between y = append (append x gap_between) y
 
 -- a tree, and after it a group of a line and a second tree, which is nested by so many columns
 abbrev pub hanging : Tree → Tree → ℕ → Tree
@@ -35,8 +35,8 @@ abbrev pub edge : ListStyle → Tree
 edge style = if style.padded then line else line_
 
 -- between two members: a line, broken with all others or only where the next member has no room
-abbrev pub gap : ListStyle → Tree
-gap style = if style.filled then softline else line
+abbrev pub gap_between : ListStyle → Tree
+gap_between style = if style.filled then softline else line
 
 -- after the last member: the mark where lines are broken, or nothing
 abbrev pub trail : ListStyle → Tree → Tree
@@ -44,7 +44,7 @@ trail style mark = if style.trailing then BreakOrFlat mark Nil else Nil
 
 -- the members with their marks and gaps
 abbrev pub members : ListStyle → Tree → List Tree → Tree
-members style mark xs = append (intersperse (gap style) (punctuated mark xs)) (trail style mark)
+members style mark xs = append (intersperse (gap_between style) (punctuated mark xs)) (trail style mark)
 
 -- what is between the brackets
 abbrev pub inside : ListStyle → Tree → List Tree → Tree

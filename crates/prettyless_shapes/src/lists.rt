@@ -58,7 +58,7 @@ fn edge<'a, D: DocPlace<'a>>(
 
 // What is between two documents, after the mark.
 fn gap<'a, D: DocPlace<'a>>(place: &'a D, style: ListStyle) -> Result<DocBuilder<'a, D>, BuildError>
-    ensures { Builds result (λ b. built D.Doc.tree b.1) (shapes.gap style) }
+    ensures { Builds result (λ b. built D.Doc.tree b.1) (shapes.gap_between style) }
 {
     if style.filled {
         place.softline()

@@ -32,9 +32,16 @@ impl<A: Allocator> TextWriter for String<A> {
         ensures unchanged { OnErr result (string_bytes self.new ≡ string_bytes self.old) }
         ensures full { OnErr result (string_capacity self.old < string_len self.old + length piece.now) }
     {
-        match self.push_str(piece) {
-            Ok(()) => Ok(()),
-            Err(_) => Err(fmt::Error),
+        // Most texts of one byte are punctuation: a byte is stored, where another text is moved by a call.
+        match *piece.as_bytes() {
+            [byte] if byte < 128 => match self.push(byte as char) {
+                Ok(()) => Ok(()),
+                Err(_) => Err(fmt::Error),
+            },
+            _ => match self.push_str(piece) {
+                Ok(()) => Ok(()),
+                Err(_) => Err(fmt::Error),
+            },
         }
     }
 }

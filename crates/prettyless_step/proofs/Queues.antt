@@ -1,5 +1,6 @@
 -- The queue: what waits, what is put off, and whether anything does.
-use Rattle.std.proofs.Common.{◌≡◌, ℕ, suc, ◌+◌, ◌-◌, ◌≤◌, ◌<◌, List, [], ◌∷◌, ◌++◌, length, refl, ap, ◌∙◌, append_assoc, append-nil, arith, drop, length-drop, true, false}
+use Rattle.std.proofs.Common.{◌≡◌, ℕ, suc, ◌+◌, ◌-◌, ◌≤◌, ◌<◌, List, [], ◌∷◌, ◌++◌, length, refl, ap, ◌∙◌, append_assoc, append-nil, arith}
+use Rattle.std.proofs.Common.{drop, length-drop, true, false}
 use Rattle.std.proofs.lemmas.List.{map-append, drop-append-le, drop_all}
 use Rattle.prettyless_model.specs.Tree.{Tree}
 use Rattle.prettyless_model.specs.Layout.{some_pending}
@@ -9,7 +10,8 @@ pub trees-append : {N : Type 0} (f : N → Tree) (xs ys : List N) → trees f (x
 trees-append f xs ys = map-append f xs ys
 
 -- what waits, one document on
-pub trees_push : {N : Type 0} (f : N → Tree) (xs : List N) (n : ℕ) (x : N) → n ≤ length xs → trees f (drop n (xs ++ x ∷ [])) ≡ trees f (drop n xs) ++ f x ∷ []
+pub trees_push : {N : Type 0} (f : N → Tree) (xs : List N) (n : ℕ) (x : N) → n ≤ length xs → trees f (drop n (xs ++ x ∷ [])) ≡ trees f
+    (drop n xs) ++ f x ∷ []
 trees_push f xs n x h = ap (trees f) (drop-append-le n xs (x ∷ []) h) ∙ trees-append f (drop n xs) (x ∷ [])
 
 pub trees_none : {N : Type 0} (f : N → Tree) (xs : List N) (n : ℕ) → length xs ≤ n → trees f (drop n xs) ≡ []

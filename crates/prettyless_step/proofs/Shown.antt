@@ -6,9 +6,9 @@ use Rattle.prettyless_model.specs.Layout.{State}
 use Rattle.prettyless_model.specs.declared.mode.Mode.{Mode}
 use Rattle.prettyless_step.specs.Stack.{Task, make_task, follow, nodes}
 use Rattle.prettyless_step.specs.Steps.{Step, Move, Stuck, Choose, step_of}
-use Rattle.prettyless_step.specs.Printing.{state_of, tasks_of, Grows, Hands, Shows, Writes}
+use Rattle.prettyless_step.specs.Printing.{state_of, tasks_of, PrinterGrows, Hands, Shows, Writes}
 use Rattle.prettyless_step.specs.declared.printer.Printer.{Printer}
-use Rattle.prettyless_step.specs.declared.printer.Taken.TheVariants.{Failed, Chosen}
+use Rattle.prettyless_step.specs.declared.printer.StepResult.TheVariants.{Failed, Choice}
 use Rattle.prettyless_step.proofs.Stacks.{nodes-append}
 
 -- the step of a task with others after it
@@ -35,7 +35,7 @@ Asks (Choose j v w) i x y = (i ≡ j) × (x ≡ v) × (y ≡ w)
 
 -- bytes were written
 pub written : {N : Type 0} (f : N → Tree) (bytes : List ℕ) (step : Step) (p q : Printer N) → Writes f bytes step p q →
-    Leads step (tasks_of f p) bytes (tasks_of f q) (state_of f q) × (q.options ≡ p.options) × Grows p q
+    Leads step (tasks_of f p) bytes (tasks_of f q) (state_of f q) × (q.options ≡ p.options) × PrinterGrows p q
 written {N} f bytes (Move b pushed u) p q h = ((h.0, h.1, h.2), h.3, h.4)
 written {N} f bytes Stuck p q h = absurd h
 written {N} f bytes (Choose j x y) p q h = absurd h
@@ -45,11 +45,12 @@ pub record Handed {N : Type 0} (f : N → Tree) (t : Task) (step : Step) (p q : 
   pub leads : Leads step (tasks_of f p) [] (t ∷ tasks_of f q) (state_of f q)
   pub state : state_of f q ≡ state_of f p
   pub options : q.options ≡ p.options
-  pub grows : Grows p q
+  pub grows : PrinterGrows p q
   pub long : length (tasks_of f p) ≤ length (tasks_of f q)
   pub heavy : nodes (tasks_of f p) ≤ nodes (tasks_of f q)
 
-pub handed : {N : Type 0} (f : N → Tree) (i : ℕ) (m : Mode) (n : N) (step : Step) (p q : Printer N) → Hands f i m n step p q → Handed f (make_task i m (f n)) step p q
+pub handed : {N : Type 0} (f : N → Tree) (i : ℕ) (m : Mode) (n : N) (step : Step) (p q : Printer N) → Hands f i m n step p q
+    → Handed f (make_task i m (f n)) step p q
 handed {N} f i m n (Move b [] u) p q h = absurd h
 handed {N} f i m n (Move b (t ∷ pushed) u) p q h = record {
   leads = (sym h.0, ap (λ (x : Task). x ∷ tasks_of f q) h.1 ∙ ap (λ (x : List Task). t ∷ x) h.2, h.4 ∙ sym h.3);
@@ -69,7 +70,8 @@ stuck {N} f m Stuck p q h = (tt, h)
 stuck {N} f m (Choose j x y) p q h = absurd h
 
 -- two branches are to be chosen from
-pub asks : {N : Type 0} (f : N → Tree) (m : Mode) (i : ℕ) (l r : N) (step : Step) (p q : Printer N) → Shows f m (Chosen i l r) step p q → Asks step i (f l) (f r) × (q ≡ p)
+pub asks : {N : Type 0} (f : N → Tree) (m : Mode) (i : ℕ) (l r : N) (step : Step) (p q : Printer N) → Shows f m (Choice i l r) step p q
+    → Asks step i (f l) (f r) × (q ≡ p)
 asks {N} f m i l r (Move b pushed u) p q h = absurd h
 asks {N} f m i l r Stuck p q h = absurd h
 asks {N} f m i l r (Choose j x y) p q h = ((h.0, h.1, h.2), h.3)

@@ -25,7 +25,8 @@ text_has : (o : RenderOptions) (w : ℕ) (s : List ℕ) (st : State) → TreesHa
 text_has o w [] st h = (tt, h)
 text_has o w (b ∷ bs) st h = (tt, h)
 
-ending_has : (o : RenderOptions) (p : IndentationPolicy) (k : ℕ) (st : State) → TreesHave st.pending → StepHas (at_once (lay_ending o p k st))
+ending_has : (o : RenderOptions) (p : IndentationPolicy) (k : ℕ) (st : State) → TreesHave st.pending
+    → StepHas (at_once (lay_ending o p k st))
 ending_has o Eager k st h = (tt, h)
 ending_has o Deferred k st h = (tt, h)
 
@@ -37,17 +38,21 @@ tasks_have : (i : ℕ) (m : Mode) (ds : List Tree) (t : Task) → TreesHave ds �
 tasks_have i m [] t h k = (k, tt)
 tasks_have i m (d ∷ ds) t h k = (h.0, tasks_have i m ds t h.1 k)
 
-break_has : (o : RenderOptions) (ps : List Tree) (d : Tree) (i : ℕ) (m : Mode) (rest : List Entry) (st : State) → TreesHave ps → TreesHave st.pending → HasSums d → StepHas (break_step o ps d i m rest st)
+break_has : (o : RenderOptions) (ps : List Tree) (d : Tree) (i : ℕ) (m : Mode) (rest : List Entry) (st : State) → TreesHave ps
+    → TreesHave st.pending → HasSums d → StepHas (break_step o ps d i m rest st)
 break_has o [] d i m rest st none h k =
-    plain_has (is_suppressed d st.column) (Done [] st) (lay_ending o o.indentation_policy (next_indent i rest) st) (tt, h) (ending_has o o.indentation_policy (next_indent i rest) st h)
+    plain_has (is_suppressed d st.column) (Done [] st) (lay_ending o o.indentation_policy (next_indent i rest) st) (tt, h)
+    (ending_has o o.indentation_policy (next_indent i rest) st h)
 break_has o (p ∷ ps) d i m rest st some h k = (tasks_have i m (p ∷ ps) (make_task i m d) some k, tt)
 
-union_has : (v : Option Bool) (l r : Tree) (i : ℕ) (st : State) → HasSums l → HasSums r → TreesHave st.pending → StepHas (union_step v l r i st)
+union_has : (v : Option Bool) (l r : Tree) (i : ℕ) (st : State) → HasSums l → HasSums r → TreesHave st.pending
+    → StepHas (union_step v l r i st)
 union_has None l r i st x y h = (x, y)
 union_has (Some v) l r i st x y h = ((either_has v l r x y, tt), h)
 
 -- a node's step
-pub step_has : (o : RenderOptions) (d : Tree) (i : ℕ) (m : Mode) (rest : List Entry) (st : State) → HasSums d → TreesHave st.pending → StepHas (step_of o d i m rest st)
+pub step_has : (o : RenderOptions) (d : Tree) (i : ℕ) (m : Mode) (rest : List Entry) (st : State) → HasSums d → TreesHave st.pending
+    → StepHas (step_of o d i m rest st)
 step_has o t.Nil i m rest st k h = (tt, h)
 step_has o t.Fail i m rest st k h = tt
 step_has o (t.Text s) i m rest st k h = text_has o (length s) s st h

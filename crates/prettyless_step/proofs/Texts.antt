@@ -18,12 +18,14 @@ texts_known d [] h = h
 texts_known d (t ∷ ts) h = until t.mode (IsTexts d) (IsTexts t.tree → TextsOnce d ts) h (λ _. texts_known d ts h)
 
 -- a node that is read
-pub texts_read : (d : Tree) (m : Mode) (read : Tree) (ts : List Task) → IsTexts read → Until m (IsTexts d) (IsTexts read → TextsOnce d ts) → TextsOnce d ts
+pub texts_read : (d : Tree) (m : Mode) (read : Tree) (ts : List Task) → IsTexts read → Until m (IsTexts d) (IsTexts read → TextsOnce d ts)
+    → TextsOnce d ts
 texts_read d Break read ts own h = texts_known d ts h
 texts_read d Flat read ts own h = h own
 
 -- a node that is met in Break
-pub texts_broken : (d : Tree) (m : Mode) (read : Tree) (ts us : List Task) → m ≡ Break → Until m (IsTexts d) (IsTexts read → TextsOnce d ts) → TextsOnce d us
+pub texts_broken : (d : Tree) (m : Mode) (read : Tree) (ts us : List Task) → m ≡ Break → Until m (IsTexts d) (IsTexts read → TextsOnce d ts)
+    → TextsOnce d us
 texts_broken d Break read ts us e h = texts_known d us h
 texts_broken d Flat read ts us e h = absurd (cc)
 

@@ -9,8 +9,9 @@ use Rattle.prettyless_step.specs.Texts.{IsTexts}
 use Rattle.prettyless_step.specs.Steps.{Step, Move, Stuck, Choose}
 use Rattle.prettyless_step.specs.Piece.{piece_bytes}
 use Rattle.prettyless_step.specs.declared.printer.Printer.{Printer}
-use Rattle.prettyless_step.specs.declared.printer.Taken.{Taken}
-use Rattle.prettyless_step.specs.declared.printer.Taken.TheVariants.{Quiet, Next, NextFlat, NextTexts, Written, Failed, Chosen, Shift}
+use Rattle.prettyless_step.specs.declared.printer.StepResult.{StepResult}
+use Rattle.prettyless_step.specs.declared.printer.StepResult.TheVariants.{Silent, Descend, DescendFlat, DescendTexts, Emit, Failed}
+use Rattle.prettyless_step.specs.declared.printer.StepResult.TheVariants.{Choice, Shift}
 
 -- the tasks that the printer has still to lay, the next one first
 abbrev pub tasks_of : {N : Type 0} → (N → Tree) → Printer N → List Task
@@ -25,50 +26,51 @@ abbrev pub state_of : {N : Type 0} → (N → Tree) → Printer N → State
 state_of f p = record { column = p.column; pending = trees f (drop p.queue.start p.queue.nodes.items); within = p.within }
 
 -- the queue only grows
-abbrev pub Grows : {N : Type 0} → Printer N → Printer N → Type 0
-Grows {N} p q = (more : List N) × (q.queue.nodes.items ≡ p.queue.nodes.items ++ more)
+abbrev pub PrinterGrows : {N : Type 0} → Printer N → Printer N → Type 0
+PrinterGrows {N} p q = (more : List N) × (q.queue.nodes.items ≡ p.queue.nodes.items ++ more)
 
 -- these bytes are what the step writes, and the printer has gone along
 abbrev pub Writes : {N : Type 0} → (N → Tree) → List ℕ → Step → Printer N → Printer N → Type 0
 Writes f bytes (Move b pushed u) p q =
-    (bytes ≡ b) × (tasks_of f q ≡ pushed ++ tasks_of f p) × (state_of f q ≡ u) × (q.options ≡ p.options) × Grows p q
+    (bytes ≡ b) × (tasks_of f q ≡ pushed ++ tasks_of f p) × (state_of f q ≡ u) × (q.options ≡ p.options) × PrinterGrows p q
 Writes f bytes Stuck p q = ⊥
 Writes f bytes (Choose j x y) p q = ⊥
 
 -- nothing is written, the first of the step's tasks is in hand, the others are on the stack, and the state is as before
 abbrev pub Hands : {N : Type 0} → (N → Tree) → ℕ → Mode → N → Step → Printer N → Printer N → Type 0
 Hands f i m n (Move b (t ∷ pushed) u) p q =
-    (b ≡ []) × (make_task i m (f n) ≡ t) × (tasks_of f q ≡ pushed ++ tasks_of f p) × (u ≡ state_of f p) × (state_of f q ≡ state_of f p) × (q.options ≡ p.options) × Grows p q
+    (b ≡ []) × (make_task i m (f n) ≡ t) × (tasks_of f q ≡ pushed ++ tasks_of f p) × (u ≡ state_of f p) × (state_of f q ≡ state_of f p)
+    × (q.options ≡ p.options) × PrinterGrows p q
 Hands f i m n (Move b [] u) p q = ⊥
 Hands f i m n Stuck p q = ⊥
 Hands f i m n (Choose j x y) p q = ⊥
 
 -- what the code answers to a node in a mode is the step, and the printer has gone along
-abbrev pub Shows : {N : Type 0} → (N → Tree) → Mode → Taken N → Step → Printer N → Printer N → Type 0
-Shows f m Quiet step p q = Writes f [] step p q
-Shows f m (Next i n) step p q = Hands f i m n step p q
+abbrev pub Shows : {N : Type 0} → (N → Tree) → Mode → StepResult N → Step → Printer N → Printer N → Type 0
+Shows f m Silent step p q = Writes f [] step p q
+Shows f m (Descend i n) step p q = Hands f i m n step p q
 Shows f m Shift step p q = q ≡ p
-Shows f m (NextFlat i n) step p q = Hands f i Flat n step p q
-Shows f m (NextTexts i n) step p q = Hands f i Flat n step p q × IsTexts (f n)
-Shows f m (Written piece) step p q = Writes f (piece_bytes piece) step p q
+Shows f m (DescendFlat i n) step p q = Hands f i Flat n step p q
+Shows f m (DescendTexts i n) step p q = Hands f i Flat n step p q × IsTexts (f n)
+Shows f m (Emit piece) step p q = Writes f (piece_bytes piece) step p q
 Shows f m Failed Stuck p q = q ≡ p
-Shows f m (Chosen i l r) (Choose j x y) p q = (i ≡ j) × (f l ≡ x) × (f r ≡ y) × (q ≡ p)
+Shows f m (Choice i l r) (Choose j x y) p q = (i ≡ j) × (f l ≡ x) × (f r ≡ y) × (q ≡ p)
 Shows f m Failed (Move b pushed u) p q = ⊥
 Shows f m Failed (Choose j x y) p q = ⊥
-Shows f m (Chosen i l r) (Move b pushed u) p q = ⊥
-Shows f m (Chosen i l r) Stuck p q = ⊥
+Shows f m (Choice i l r) (Move b pushed u) p q = ⊥
+Shows f m (Choice i l r) Stuck p q = ⊥
 
 -- the step was not taken, since probes are past their limit
-abbrev pub IsStopped : {N : Type 0} → Taken N → Type 0
+abbrev pub IsStopped : {N : Type 0} → StepResult N → Type 0
 IsStopped Shift = Unit {0}
 IsStopped _ = ⊥
 
 -- the step was taken
-abbrev pub IsStepped : {N : Type 0} → Taken N → Type 0
+abbrev pub IsStepped : {N : Type 0} → StepResult N → Type 0
 IsStepped Shift = ⊥
 IsStepped _ = Unit {0}
 
 -- the step was taken, or was refused memory
-abbrev pub IsSteppedOrRefused : {N E : Type 0} → Result (Taken N) E → Type 0
+abbrev pub IsSteppedOrRefused : {N E : Type 0} → Result (StepResult N) E → Type 0
 IsSteppedOrRefused (Ok taken) = IsStepped taken
 IsSteppedOrRefused (Err e) = Unit {0}

@@ -9,7 +9,8 @@ use Rattle.prettyless_model.specs.Metrics.{metrics}
 use Rattle.prettyless_model.specs.Column.{gap, prospective, blank, nested}
 use Rattle.prettyless_model.specs.Choice.{column_holds, nesting_holds}
 use Rattle.prettyless_model.specs.Look.{by_mode}
-use Rattle.prettyless_model.specs.Layout.{State, Outcome, Done, Failed, Entry, Breaks, after_bytes, and_then, lay, lay_text, lay_payload, payload_fits, plain_break, probe, accept, tried, flushed}
+use Rattle.prettyless_model.specs.Layout.{State, Outcome, Done, Failed, Entry, Breaks, after_bytes, and_then, lay, lay_text, lay_payload}
+use Rattle.prettyless_model.specs.Layout.{payload_fits, plain_break, probe, accept, tried, flushed}
 use Rattle.prettyless_model.specs.declared.mode.Mode.{Mode}
 use Rattle.prettyless_model.specs.declared.mode.Mode.TheVariants.{Break, Flat}
 use Rattle.prettyless_step.specs.Stack.{Task, make_task, tasks, follow, nodes}

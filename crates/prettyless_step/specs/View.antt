@@ -4,7 +4,9 @@ use Rattle.prettyless_model.specs.Tree as t
 use Rattle.prettyless_model.specs.Tree.{Tree}
 use Rattle.prettyless_model.specs.Metrics.{metrics}
 use Rattle.prettyless_step.specs.declared.walk.View.{View}
-use Rattle.prettyless_step.specs.declared.walk.View.TheVariants.{Nil, Fail, Text, TextWithLen, MultilineText, WeakSpace, HardLine, WeakLine, Append, LineSuffix, Nest, DedentToRoot, Align, ExpandParent, Flatten, BreakOrFlat, Group, Union, PartialUnion, OnColumn, OnNesting}
+use Rattle.prettyless_step.specs.declared.walk.View.TheVariants.{Nil, Fail, Text, TextWithLen, MultilineText, WeakSpace, HardLine, WeakLine}
+use Rattle.prettyless_step.specs.declared.walk.View.TheVariants.{Append, LineSuffix, Nest, DedentToRoot, Align, ExpandParent, Flatten}
+use Rattle.prettyless_step.specs.declared.walk.View.TheVariants.{BreakOrFlat, Group, Union, PartialUnion, OnColumn, OnNesting}
 
 -- the tree that a view shows, given the trees of the children
 abbrev pub view_tree : {N : Type 0} → (N → Tree) → View N → Tree

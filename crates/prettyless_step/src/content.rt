@@ -1,6 +1,6 @@
 //! What texts and payloads do to the column.
 ghost use Rattle.std.specs.Prelude.{◌≡◌};
-ghost use Rattle.prettyless_model.specs.Layout.{behind_payload as behind_payload_of, lay_payload, lay_text, payload_fits as payload_fits_of};
+ghost use Rattle.prettyless_model.specs.Layout.{after_payload as after_payload_of, lay_payload, lay_text, payload_fits as payload_fits_of};
 ghost use Rattle.prettyless_step.specs.Steps.{at_once};
 ghost use Rattle.prettyless_step.specs.Printing.{Writes, state_of};
 ghost use Rattle.prettyless_step.specs.Piece.{piece_bytes};
@@ -46,8 +46,8 @@ pub fn payload_fits(options: RenderOptions, column: Column, metrics: Metrics) ->
 }
 
 // The column after a payload: that of its last part.
-fn behind_payload(metrics: Metrics) -> Column
-    ensures { result ≡ behind_payload_of metrics }
+fn after_payload(metrics: Metrics) -> Column
+    ensures { result ≡ after_payload_of metrics }
 {
     if metrics.last_nonempty {
         return Column::start().committed(metrics.last_width);
@@ -73,7 +73,7 @@ pub fn put_payload<'v, N: Walk>(
         0
     };
     printer.within = printer.within && payload_fits(printer.options, printer.column, metrics);
-    printer.column = behind_payload(metrics);
+    printer.column = after_payload(metrics);
     Piece {
         gap,
         text,

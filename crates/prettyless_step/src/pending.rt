@@ -3,7 +3,7 @@ ghost use Rattle.std.specs.Prelude.{◌≡◌, ◌++◌, IfOk, OnOk};
 ghost use Rattle.prettyless_model.specs.Column.{gap as gap_of};
 ghost use Rattle.prettyless_model.specs.Layout.{flushed, some_pending};
 ghost use Rattle.prettyless_step.specs.Stack.{tasks};
-ghost use Rattle.prettyless_step.specs.Printing.{Grows, state_of, tasks_of};
+ghost use Rattle.prettyless_step.specs.Printing.{PrinterGrows, state_of, tasks_of};
 ghost use Rattle.prettyless_step.specs.Sums.{IsSummed};
 
 use crate::printer::Printer;
@@ -32,7 +32,7 @@ pub fn take_pending<N: Walk>(
     ensures stack { OnOk result (tasks_of N.tree printer.new
         ≡ tasks indent mode (state_of N.tree printer.old).pending ++ tasks_of N.tree printer.old) }
     ensures state { OnOk result (state_of N.tree printer.new ≡ flushed printer.old.options (state_of N.tree printer.old)) }
-    ensures grows { Grows printer.old printer.new }
+    ensures grows { PrinterGrows printer.old printer.new }
     ensures summed { OnOk result (IsSummed N.HAS_SUMMARIES N.tree printer.old.commands
         → IsSummed N.HAS_SUMMARIES N.tree printer.new.commands) }
 {

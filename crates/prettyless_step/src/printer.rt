@@ -25,15 +25,15 @@ pub struct Printer<N> {
 /// What the visit of one node asks for: nothing, a node to go on with at an indent, in the same mode or flat, a piece to be
 /// written, or a choice between two branches at an indent; or the node fails.
 #[derive(Drop)]
-pub enum Taken<'v, N> {
-    Quiet,
-    Next(usize, N),
-    NextFlat(usize, N),
+pub enum StepResult<'v, N> {
+    Silent,
+    Descend(usize, N),
+    DescendFlat(usize, N),
     /// A node that is laid flat, as its texts.
-    NextTexts(usize, N),
-    Written(Piece<'v>),
+    DescendTexts(usize, N),
+    Emit(Piece<'v>),
     Failed,
     /// Nothing: the node asks a probe, and probes are past their limit.
     Shift,
-    Chosen(usize, N, N),
+    Choice(usize, N, N),
 }

@@ -1,15 +1,17 @@
 //! The probe: whether a node fits the line with what follows it.
-ghost use Rattle.std.specs.Prelude.{◌≡◌, ◌++◌, ◌∷◌, [], IfOk, OnOk, IfSome, MatchOption, List, false, true, IsTrue, ◌&&◌, ◌+◌, ◌<◌, ◌≤◌, if◌then◌else◌};
+ghost use Rattle.std.specs.Prelude.{◌≡◌, ◌++◌, ◌∷◌, [], IfOk, OnOk, IfSome, MatchOption, List, false, true, IsTrue, ◌&&◌, ◌+◌, ◌<◌, ◌≤◌};
+ghost use Rattle.std.specs.Prelude.{if◌then◌else◌};
 ghost use Rattle.prettyless_model.specs.Tree.{Tree, WeakLine, size};
 ghost use Rattle.prettyless_model.specs.declared.mode.Mode.TheVariants.{Flat};
 ghost use Rattle.prettyless_model.specs.Column.{nested, padding_fits};
 ghost use Rattle.prettyless_model.specs.Look.{answer_of, by_mode, look, look_text, payload_begins};
 ghost use Rattle.prettyless_model.specs.Layout.{rest_fits};
-ghost use Rattle.prettyless_step.specs.declared.probe.Read.TheVariants.{Answer, Done, Next};
-ghost use Rattle.prettyless_step.specs.declared.probe.Fit.TheVariants.{AsTexts, Fits, Past};
+ghost use Rattle.prettyless_step.specs.declared.probe.ProbeStep.TheVariants.{Answer, Silent, Descend};
+ghost use Rattle.prettyless_step.specs.declared.probe.Fit.TheVariants.{FitsAsTexts, Fits, Exceeds};
 ghost use Rattle.prettyless_step.specs.Probing.{Few, ReadsAs, RisesBy, TextsAt, is_fit, nodes_next, read_in, read_of};
 ghost use Rattle.prettyless_step.specs.Sums.{IsSummed};
-ghost use Rattle.prettyless_step.specs.Stack.{AnswersAs, Reads, Task, follow, in_break, make_task, nodes, stack_of, task, tasks_fit, unread};
+ghost use Rattle.prettyless_step.specs.Stack.{AnswersAs, Reads, Task, follow, in_break, make_task, nodes, stack_of, task, tasks_fit};
+ghost use Rattle.prettyless_step.specs.Stack.{unread};
 ghost use Rattle.prettyless_step.specs.Texts.{IsTexts, TextsOnce};
 
 use crate::choice::{by_column, by_nesting, either};
@@ -84,43 +86,43 @@ fn read_weak_line(width: usize, line: &Line, mode: Mode) -> Option<bool>
 
 /// What a probe comes to at one node: an answer, the node that it looks at next, or neither.
 #[derive(Clone, Copy)]
-pub enum Read<N> {
+pub enum ProbeStep<N> {
     /// Whether the line stays within the width.
     Answer(bool),
     /// A node, with its indent and its mode.
-    Next(usize, Mode, N),
-    Done,
+    Descend(usize, Mode, N),
+    Silent,
 }
 
 // An answer, or none.
 #[inline(always)]
-fn answered<N>(answer: Option<bool>) -> Read<N>
+fn answered<N>(answer: Option<bool>) -> ProbeStep<N>
     ensures { result ≡ read_of answer }
 {
     match answer {
-        Some(answer) => Read::Answer(answer),
-        None => Read::Done,
+        Some(answer) => ProbeStep::Answer(answer),
+        None => ProbeStep::Silent,
     }
 }
 
 // A line that stays within the width, or none.
 #[inline(always)]
-fn done<N>(within: bool) -> Read<N>
-    ensures { result ≡ if within then Done else Answer false }
+fn done<N>(within: bool) -> ProbeStep<N>
+    ensures { result ≡ if within then Silent else Answer false }
 {
     if within {
-        Read::Done
+        ProbeStep::Silent
     } else {
-        Read::Answer(false)
+        ProbeStep::Answer(false)
     }
 }
 
 // Goes on with the document of a nesting.
 #[inline(always)]
-fn read_nested<N>(indent: usize, offset: isize, mode: Mode, inner: N) -> Read<N>
-    ensures { result ≡ Next (nested indent offset) mode inner }
+fn read_nested<N>(indent: usize, offset: isize, mode: Mode, inner: N) -> ProbeStep<N>
+    ensures { result ≡ Descend (nested indent offset) mode inner }
 {
-    Read::Next(nested_indent(indent, offset), mode, inner)
+    ProbeStep::Descend(nested_indent(indent, offset), mode, inner)
 }
 
 // The branch of a union that is read: the first where lines are flat, else the second.
@@ -141,7 +143,7 @@ pub(crate) fn probe_one<N: Walk>(
     mode: Mode,
     node: N,
     stack: &mut Stack<N>,
-) -> Result<Read<N>, AllocError>
+) -> Result<ProbeStep<N>, AllocError>
     ensures answer { IfOk result (λ a. (ts : List Task) → ReadsAs N.tree width a
         (tasks_fit width (make_task indent mode (N.tree node) ∷ (stack_of N.tree stack.old ++ ts)) line.old.column line.old.pending)
         (stack_of N.tree stack.new ++ ts) line.new.column line.new.pending) }
@@ -149,49 +151,53 @@ pub(crate) fn probe_one<N: Walk>(
         nodes_next N.tree a + nodes (stack_of N.tree stack.new) < size (N.tree node) + nodes (stack_of N.tree stack.old)) }
 {
     match node.view() {
-        View::Nil => Ok(Read::Done),
-        View::Fail => Ok(Read::Answer(false)),
+        View::Nil => Ok(ProbeStep::Silent),
+        View::Fail => Ok(ProbeStep::Answer(false)),
         View::Text(s) => Ok(done(read_content(width, line, s.len(), s))),
         View::TextWithLen(counted, s) => Ok(done(read_content(width, line, counted, s))),
-        View::MultilineText(_, metrics) => Ok(Read::Answer(read_payload(
+        View::MultilineText(_, metrics) => Ok(ProbeStep::Answer(read_payload(
             width, line, mode, metrics,
         ))),
         View::WeakSpace => {
             line.column = line.column.blank();
-            Ok(Read::Done)
+            Ok(ProbeStep::Silent)
         }
-        View::HardLine => Ok(Read::Answer(read_line_end(width, line, mode))),
+        View::HardLine => Ok(ProbeStep::Answer(read_line_end(width, line, mode))),
         View::WeakLine => Ok(answered(read_weak_line(width, line, mode))),
         View::LineSuffix(_) => {
             line.pending = true;
-            Ok(Read::Done)
+            Ok(ProbeStep::Silent)
         }
         View::ExpandParent => match mode {
-            Mode::Break => Ok(Read::Done),
-            Mode::Flat => Ok(Read::Answer(false)),
+            Mode::Break => Ok(ProbeStep::Silent),
+            Mode::Flat => Ok(ProbeStep::Answer(false)),
         },
         View::Append(first, second) => {
             stack.push(indent, mode, second)?;
-            Ok(Read::Next(indent, mode, first))
+            Ok(ProbeStep::Descend(indent, mode, first))
         }
         View::Nest(offset, inner) => Ok(read_nested(indent, offset, mode, inner)),
-        View::DedentToRoot(inner) => Ok(Read::Next(0, mode, inner)),
-        View::Align(inner) => Ok(Read::Next(line.column.prospective(), mode, inner)),
-        View::Group(inner) => Ok(Read::Next(indent, mode, inner)),
-        View::Flatten(inner) => Ok(Read::Next(indent, Mode::Flat, inner)),
-        View::BreakOrFlat(broken, flat) => Ok(Read::Next(indent, mode, either(mode, broken, flat))),
+        View::DedentToRoot(inner) => Ok(ProbeStep::Descend(0, mode, inner)),
+        View::Align(inner) => Ok(ProbeStep::Descend(line.column.prospective(), mode, inner)),
+        View::Group(inner) => Ok(ProbeStep::Descend(indent, mode, inner)),
+        View::Flatten(inner) => Ok(ProbeStep::Descend(indent, Mode::Flat, inner)),
+        View::BreakOrFlat(broken, flat) => Ok(ProbeStep::Descend(
+            indent,
+            mode,
+            either(mode, broken, flat),
+        )),
         View::Union(first, second) | View::PartialUnion(first, second) => {
-            Ok(Read::Next(indent, mode, branch(mode, first, second)))
+            Ok(ProbeStep::Descend(indent, mode, branch(mode, first, second)))
         }
         View::OnColumn(test, first, second) => {
-            Ok(Read::Next(
+            Ok(ProbeStep::Descend(
                 indent,
                 mode,
                 by_column(test, line.column, indent, first, second),
             ))
         }
         View::OnNesting(test, first, second) => {
-            Ok(Read::Next(indent, mode, by_nesting(test, indent, first, second)))
+            Ok(ProbeStep::Descend(indent, mode, by_nesting(test, indent, first, second)))
         }
     }
 }
@@ -205,7 +211,7 @@ fn read_other<N: Walk>(
     mode: Mode,
     node: N,
     stack: &mut Stack<N>,
-) -> Result<Read<N>, AllocError>
+) -> Result<ProbeStep<N>, AllocError>
     ensures answer { IfOk result (λ a. (ts : List Task) → ReadsAs N.tree width a
         (tasks_fit width (make_task indent mode (N.tree node) ∷ (stack_of N.tree stack.old ++ ts)) line.old.column line.old.pending)
         (stack_of N.tree stack.new ++ ts) line.new.column line.new.pending) }
@@ -217,12 +223,12 @@ fn read_other<N: Walk>(
 
 /// What a probe comes to at one node, where the topmost frame of its stack is that of the node it looks at.
 #[derive(Clone, Copy)]
-enum Seen<N> {
+enum FrameStep<N> {
     /// Whether the line stays within the width.
     Answer(bool),
     /// A node of the topmost frame.
-    Next(N),
-    Done,
+    Descend(N),
+    Silent,
 }
 
 // Whether lines are flat in a mode.
@@ -255,7 +261,7 @@ fn visit_other<N: Walk>(
     node: N,
     stack: &mut Stack<N>,
     is_texts: &mut bool,
-) -> Result<Seen<N>, AllocError>
+) -> Result<FrameStep<N>, AllocError>
     ensures answer { IfOk result (λ a. (ts : List Task) → ReadsAs N.tree width (read_in stack.new a)
         (tasks_fit width (make_task stack.old.here.indent stack.old.here.mode (N.tree node) ∷ (stack_of N.tree stack.old ++ ts)) line.old.column line.old.pending)
         (stack_of N.tree stack.new ++ ts) line.new.column line.new.pending) }
@@ -272,12 +278,12 @@ fn visit_other<N: Walk>(
     *line = other;
     *is_texts = with_other(*is_texts, mode);
     match read {
-        Read::Answer(answer) => Ok(Seen::Answer(answer)),
-        Read::Next(next_indent, next_mode, next) => {
+        ProbeStep::Answer(answer) => Ok(FrameStep::Answer(answer)),
+        ProbeStep::Descend(next_indent, next_mode, next) => {
             stack.enter(next_indent, next_mode)?;
-            Ok(Seen::Next(next))
+            Ok(FrameStep::Descend(next))
         }
-        Read::Done => Ok(Seen::Done),
+        ProbeStep::Silent => Ok(FrameStep::Silent),
     }
 }
 
@@ -289,7 +295,7 @@ fn visit_one<N: Walk>(
     node: N,
     stack: &mut Stack<N>,
     is_texts: &mut bool,
-) -> Result<Seen<N>, AllocError>
+) -> Result<FrameStep<N>, AllocError>
     ensures answer { IfOk result (λ a. (ts : List Task) → ReadsAs N.tree width (read_in stack.new a)
         (tasks_fit width (make_task stack.old.here.indent stack.old.here.mode (N.tree node) ∷ (stack_of N.tree stack.old ++ ts)) line.old.column line.old.pending)
         (stack_of N.tree stack.new ++ ts) line.new.column line.new.pending) }
@@ -302,23 +308,27 @@ fn visit_one<N: Walk>(
     match node.view() {
         View::Append(first, second) => {
             stack.push_in(second)?;
-            Ok(Seen::Next(first))
+            Ok(FrameStep::Descend(first))
         }
         View::Text(s) => {
             if read_content(width, line, s.len(), s) {
-                Ok(Seen::Done)
+                Ok(FrameStep::Silent)
             } else {
-                Ok(Seen::Answer(false))
+                Ok(FrameStep::Answer(false))
             }
         }
-        View::BreakOrFlat(broken, flat) => Ok(Seen::Next(either(stack.mode_in(), broken, flat))),
+        View::BreakOrFlat(broken, flat) => Ok(FrameStep::Descend(either(
+            stack.mode_in(),
+            broken,
+            flat,
+        ))),
         View::Nest(offset, inner) => {
             stack.enter(nested_indent(stack.indent_in(), offset), stack.mode_in())?;
-            Ok(Seen::Next(inner))
+            Ok(FrameStep::Descend(inner))
         }
-        View::Group(inner) => Ok(Seen::Next(inner)),
-        View::HardLine => Ok(Seen::Answer(read_line_end(width, line, stack.mode_in()))),
-        View::Nil => Ok(Seen::Done),
+        View::Group(inner) => Ok(FrameStep::Descend(inner)),
+        View::HardLine => Ok(FrameStep::Answer(read_line_end(width, line, stack.mode_in()))),
+        View::Nil => Ok(FrameStep::Silent),
         _ => visit_other(width, line, node, stack, is_texts),
     }
 }
@@ -357,20 +367,24 @@ fn next_unread<N: Walk>(
 /// What a probe finds of a node: it goes past the width, it stays within the width, or it does and is its texts where it is laid flat.
 #[derive(Clone, Copy)]
 pub enum Fit {
-    Past,
+    Exceeds,
     Fits,
-    AsTexts,
+    FitsAsTexts,
 }
 
 // What is found of a node that fits or not, and is its texts or not.
 #[inline(always)]
 fn found(fits: bool, is_texts: bool) -> Fit
-    ensures { result ≡ if fits then (if is_texts then AsTexts else Fits) else Past }
+    ensures { result ≡ if fits then (if is_texts then FitsAsTexts else Fits) else Exceeds }
 {
     if !fits {
-        return Fit::Past;
+        return Fit::Exceeds;
     }
-    if is_texts { Fit::AsTexts } else { Fit::Fits }
+    if is_texts {
+        Fit::FitsAsTexts
+    } else {
+        Fit::Fits
+    }
 }
 
 // Visits a node, what is on the stack, and then the printer's commands downwards, up to an answer. Each node is counted in `probes`.
@@ -388,7 +402,7 @@ fn visit_all<N: Walk>(
     requires { Reads commands.now cursor }
     ensures answer { IfOk result
         (λ r. is_fit r ≡ tasks_fit width (task N.tree first ∷ (stack_of N.tree stack.old ++ in_break (unread N.tree commands.now cursor))) start.column start.pending) }
-    ensures texts { IfOk result (λ r. r ≡ AsTexts → stack_of N.tree stack.old ≡ [] → (first.mode ≡ Flat) × IsTexts (N.tree first.node)) }
+    ensures texts { IfOk result (λ r. r ≡ FitsAsTexts → stack_of N.tree stack.old ≡ [] → (first.mode ≡ Flat) × IsTexts (N.tree first.node)) }
     ensures rises { probes.old ≤ probes.new }
     ensures counted { probes.new
         ≤ probes.old + (size (N.tree first.node) + (nodes (stack_of N.tree stack.old) + nodes (unread N.tree commands.now cursor))) }
@@ -402,11 +416,11 @@ fn visit_all<N: Walk>(
     'read: loop {
         *probes = one_more(*probes);
         match visit_one(width, &mut line, node, stack, &mut is_texts)? {
-            Seen::Answer(answer) => return Ok(found(answer, is_texts)),
-            Seen::Next(next) => {
+            FrameStep::Answer(answer) => return Ok(found(answer, is_texts)),
+            FrameStep::Descend(next) => {
                 node = next;
             }
-            Seen::Done => {
+            FrameStep::Silent => {
                 let Some(next) = next_unread(commands, &mut below, stack)? else {
                     return Ok(found(line.column.padding_fits(width, line.pending), is_texts));
                 };
@@ -434,7 +448,7 @@ pub fn probe<N: Walk>(
     ensures answer { IfOk result
         (λ r. is_fit r ≡ answer_of (look width (N.tree node) indent mode start.column start.pending)
         (λ c p. rest_fits width (follow (stack_of N.tree commands.now)) c p)) }
-    ensures texts { IfOk result (λ r. r ≡ AsTexts → (mode ≡ Flat) × IsTexts (N.tree node)) }
+    ensures texts { IfOk result (λ r. r ≡ FitsAsTexts → (mode ≡ Flat) × IsTexts (N.tree node)) }
     ensures rises { probes.old ≤ probes.new }
     ensures counted { probes.new ≤ probes.old + (size (N.tree node) + nodes (stack_of N.tree commands.now)) }
     ensures asked { OnOk result (RisesBy 1 probes.old probes.new) }

@@ -41,7 +41,8 @@ pub struct Cursor {
 }
 
 impl<N: Walk> Stack<N> {
-    ghost use Rattle.std.specs.Prelude.{◌∷◌, ◌++◌, ◌<◌, [], List, length, IsTrue, IsFalse, OnOk, MatchOption, ℕ, ⊤, ◌+◌, take, if◌then◌else◌};
+    ghost use Rattle.std.specs.Prelude.{◌∷◌, ◌++◌, ◌<◌, [], List, length, IsTrue, IsFalse, OnOk, MatchOption, ℕ, ⊤, ◌+◌, take};
+    ghost use Rattle.std.specs.Prelude.{if◌then◌else◌};
     ghost use Rattle.prettyless_model.specs.Layout.{next_indent as next_indent_of};
     ghost use Rattle.prettyless_step.specs.Stack.{Reads, Task, follow, make_task, stack_of, task, tasks, trees, unread};
     ghost use Rattle.prettyless_step.specs.Sums.{AreSums, HaveSum, IsSummed, SumsUp, bottom};

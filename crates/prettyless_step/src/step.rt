@@ -7,12 +7,13 @@ ghost use Rattle.prettyless_model.specs.Counts.{each_probe};
 ghost use Rattle.prettyless_model.specs.Layout.{is_suppressed, lay_ending, some_pending, next_indent, probe as probe_of};
 ghost use Rattle.prettyless_model.specs.declared.mode.Mode.TheVariants.{Break, Flat};
 ghost use Rattle.prettyless_step.specs.Stack.{make_task, nodes};
-ghost use Rattle.prettyless_step.specs.Steps.{Move, at_once, break_step, counted_payload, decided_by_metrics, is_rejected, rejects_payload, step_of, union_step};
+ghost use Rattle.prettyless_step.specs.Steps.{Move, at_once, break_step, counted_payload, decided_by_metrics, is_rejected};
+ghost use Rattle.prettyless_step.specs.Steps.{rejects_payload, step_of, union_step};
 ghost use Rattle.prettyless_step.specs.Piece.{piece_bytes};
 ghost use Rattle.prettyless_step.specs.Printing.{IsStepped, IsSteppedOrRefused, IsStopped, Shows, Writes, following, state_of, tasks_of};
 ghost use Rattle.prettyless_step.specs.Probing.{Few, RisesBy, asked, is_fit};
 ghost use Rattle.prettyless_step.specs.Texts.{IsTexts};
-ghost use Rattle.prettyless_step.specs.declared.probe.Fit.TheVariants.{AsTexts};
+ghost use Rattle.prettyless_step.specs.declared.probe.Fit.TheVariants.{FitsAsTexts};
 ghost use Rattle.prettyless_step.specs.Sums.{IsSummed};
 
 use crate::choice::{by_column, by_nesting, either};
@@ -20,7 +21,7 @@ use crate::command::nested_indent;
 use crate::content::{payload_fits, put_payload, put_text};
 use crate::pending::{is_pending, take_pending};
 use crate::piece::Piece;
-use crate::printer::{Printer, Taken};
+use crate::printer::{Printer, StepResult};
 use crate::probe::{Fit, Line, probe};
 use crate::walk::{View, Walk};
 use prettyless_model::column::Column;
@@ -42,7 +43,7 @@ fn probe_here<N: Walk>(
     requires { IsSummed N.HAS_SUMMARIES N.tree printer.old.commands }
     ensures answer { IfOk result (λ fit. is_fit fit ≡ probe_of printer.old.options (N.tree node) indent mode
         (following N.tree printer.old) (state_of N.tree printer.old)) }
-    ensures texts { IfOk result (λ fit. fit ≡ AsTexts → (mode ≡ Flat) × IsTexts (N.tree node)) }
+    ensures texts { IfOk result (λ fit. fit ≡ FitsAsTexts → (mode ≡ Flat) × IsTexts (N.tree node)) }
     ensures others { printer.new ≡ record printer.old { scratch = printer.new.scratch } }
     ensures rises { probes.old ≤ probes.new }
     ensures counted { probes.new ≤ probes.old + (size (N.tree node) + nodes (tasks_of N.tree printer.old)) }
@@ -89,8 +90,8 @@ fn partial_choice<N: Walk>(
         return Ok(first);
     }
     match probe_here(printer, first, indent, Mode::Break, probes)? {
-        Fit::Past => Ok(second),
-        Fit::Fits | Fit::AsTexts => Ok(first),
+        Fit::Exceeds => Ok(second),
+        Fit::Fits | Fit::FitsAsTexts => Ok(first),
     }
 }
 
@@ -173,7 +174,7 @@ fn break_line<N: Walk>(
     mode: Mode,
     node: N,
     weak: bool,
-) -> Result<Taken<'static, N>, AllocError>
+) -> Result<StepResult<'static, N>, AllocError>
     requires suppressed { is_suppressed (N.tree node) printer.old.column ≡ (weak && printer.old.column.fresh) }
     requires summed { IsSummed N.HAS_SUMMARIES N.tree printer.old.commands }
     ensures step { IfOk result (λ taken. Shows N.tree mode taken
@@ -185,12 +186,12 @@ fn break_line<N: Walk>(
     ensures summed { OnOk result (IsSummed N.HAS_SUMMARIES N.tree printer.new.commands) }
 {
     if is_pending(printer) {
-        return Ok(Taken::Written(flush_line(printer, indent, mode, node)?));
+        return Ok(StepResult::Emit(flush_line(printer, indent, mode, node)?));
     }
     if weak && printer.column.fresh {
-        return Ok(Taken::Quiet);
+        return Ok(StepResult::Silent);
     }
-    Ok(Taken::Written(end_line(printer, indent)))
+    Ok(StepResult::Emit(end_line(printer, indent)))
 }
 
 // Whether probes have visited more nodes than a limit, which with the greatest one they never have.
@@ -212,7 +213,7 @@ fn group<N: Walk>(
     inner: N,
     limit: u64,
     probes: &mut u64,
-) -> Result<Taken<'static, N>, AllocError>
+) -> Result<StepResult<'static, N>, AllocError>
     requires { IsSummed N.HAS_SUMMARIES N.tree printer.old.commands }
     ensures step { IfOk result (λ taken. Shows N.tree mode taken
         (Move [] (make_task indent (by_mode mode
@@ -230,19 +231,19 @@ fn group<N: Walk>(
 {
     if let Mode::Break = mode {
         if is_past_limit(*probes, limit) {
-            return Ok(Taken::Shift);
+            return Ok(StepResult::Shift);
         }
         match probe_here(printer, inner, indent, Mode::Flat, probes)? {
-            Fit::Past => return Ok(Taken::Next(indent, inner)),
+            Fit::Exceeds => return Ok(StepResult::Descend(indent, inner)),
             // A break alone is laid as soon by the printer's own loop.
-            Fit::AsTexts => match inner.view() {
-                View::BreakOrFlat(_, _) => return Ok(Taken::NextFlat(indent, inner)),
-                _ => return Ok(Taken::NextTexts(indent, inner)),
+            Fit::FitsAsTexts => match inner.view() {
+                View::BreakOrFlat(_, _) => return Ok(StepResult::DescendFlat(indent, inner)),
+                _ => return Ok(StepResult::DescendTexts(indent, inner)),
             },
-            Fit::Fits => return Ok(Taken::NextFlat(indent, inner)),
+            Fit::Fits => return Ok(StepResult::DescendFlat(indent, inner)),
         }
     }
-    Ok(Taken::NextFlat(indent, inner))
+    Ok(StepResult::DescendFlat(indent, inner))
 }
 
 // A partial union: the first document where it fits.
@@ -255,7 +256,7 @@ fn partial_union<N: Walk>(
     second: N,
     limit: u64,
     probes: &mut u64,
-) -> Result<Taken<'static, N>, AllocError>
+) -> Result<StepResult<'static, N>, AllocError>
     requires { IsSummed N.HAS_SUMMARIES N.tree printer.old.commands }
     ensures step { IfOk result (λ taken. Shows N.tree mode taken
         (Move [] (make_task indent mode (by_mode mode
@@ -273,10 +274,10 @@ fn partial_union<N: Walk>(
     ensures summed { OnOk result (IsSummed N.HAS_SUMMARIES N.tree printer.new.commands) }
 {
     if matches!(mode, Mode::Break) && is_past_limit(*probes, limit) {
-        return Ok(Taken::Shift);
+        return Ok(StepResult::Shift);
     }
     let chosen = partial_choice(printer, indent, mode, first, second, probes)?;
-    Ok(Taken::Next(indent, chosen))
+    Ok(StepResult::Descend(indent, chosen))
 }
 
 // A union in Break: the metrics of its first branch decide, or a trial is asked for. A payload that they reject is a visit.
@@ -287,7 +288,7 @@ fn union<N: Walk>(
     first: N,
     second: N,
     visits: &mut Visits,
-) -> Result<Taken<'static, N>, AllocError>
+) -> Result<StepResult<'static, N>, AllocError>
     ensures step { IfOk result (λ taken. Shows N.tree Break taken
         (union_step (decided_by_metrics printer.old.options (N.tree first) (state_of N.tree printer.old))
         (N.tree first) (N.tree second) indent (state_of N.tree printer.old))
@@ -299,12 +300,12 @@ fn union<N: Walk>(
     ensures others { printer.new ≡ printer.old }
 {
     match metrics_choice(printer, &first) {
-        Some(true) => Ok(Taken::Next(indent, first)),
+        Some(true) => Ok(StepResult::Descend(indent, first)),
         Some(false) => {
             visits.printer = one_more(visits.printer);
-            Ok(Taken::Next(indent, second))
+            Ok(StepResult::Descend(indent, second))
         }
-        None => Ok(Taken::Chosen(indent, first, second)),
+        None => Ok(StepResult::Choice(indent, first, second)),
     }
 }
 
@@ -320,7 +321,7 @@ pub fn step<'v, N: Walk>(
     node: &'v N,
     limit: u64,
     visits: &mut Visits,
-) -> Result<Taken<'v, N>, AllocError>
+) -> Result<StepResult<'v, N>, AllocError>
     requires { IsSummed N.HAS_SUMMARIES N.tree printer.old.commands }
     ensures step { IfOk result (λ taken. Shows N.tree mode taken
         (step_of printer.old.options (N.tree node.now) indent mode
@@ -340,47 +341,50 @@ pub fn step<'v, N: Walk>(
     ensures summed { OnOk result (IsSummed N.HAS_SUMMARIES N.tree printer.new.commands) }
 {
     match node.view() {
-        View::Nil | View::ExpandParent => Ok(Taken::Quiet),
-        View::Fail => Ok(Taken::Failed),
-        View::Text(s) => Ok(Taken::Written(put_text(printer, s.len(), s))),
-        View::TextWithLen(counted, s) => Ok(Taken::Written(put_text(printer, counted, s))),
+        View::Nil | View::ExpandParent => Ok(StepResult::Silent),
+        View::Fail => Ok(StepResult::Failed),
+        View::Text(s) => Ok(StepResult::Emit(put_text(printer, s.len(), s))),
+        View::TextWithLen(counted, s) => Ok(StepResult::Emit(put_text(printer, counted, s))),
         View::MultilineText(s, metrics) => match mode {
-            Mode::Break => Ok(Taken::Written(put_payload(printer, s, metrics))),
-            Mode::Flat => Ok(Taken::Failed),
+            Mode::Break => Ok(StepResult::Emit(put_payload(printer, s, metrics))),
+            Mode::Flat => Ok(StepResult::Failed),
         },
         View::WeakSpace => {
             printer.column = printer.column.blank();
-            Ok(Taken::Quiet)
+            Ok(StepResult::Silent)
         }
         View::HardLine => match mode {
             Mode::Break => break_line(printer, indent, mode, *node, false),
-            Mode::Flat => Ok(Taken::Failed),
+            Mode::Flat => Ok(StepResult::Failed),
         },
         View::WeakLine => break_line(printer, indent, mode, *node, true),
         View::Append(l, r) => {
             printer.commands.push(indent, mode, r)?;
-            Ok(Taken::Next(indent, l))
+            Ok(StepResult::Descend(indent, l))
         }
         View::LineSuffix(d) => {
             printer.queue.push(d)?;
-            Ok(Taken::Quiet)
+            Ok(StepResult::Silent)
         }
-        View::Nest(offset, d) => Ok(Taken::Next(nested_indent(indent, offset), d)),
-        View::DedentToRoot(d) => Ok(Taken::Next(0, d)),
-        View::Align(d) => Ok(Taken::Next(printer.column.prospective(), d)),
-        View::Flatten(d) => Ok(Taken::NextFlat(indent, d)),
-        View::BreakOrFlat(b, f) => Ok(Taken::Next(indent, either(mode, b, f))),
+        View::Nest(offset, d) => Ok(StepResult::Descend(nested_indent(indent, offset), d)),
+        View::DedentToRoot(d) => Ok(StepResult::Descend(0, d)),
+        View::Align(d) => Ok(StepResult::Descend(printer.column.prospective(), d)),
+        View::Flatten(d) => Ok(StepResult::DescendFlat(indent, d)),
+        View::BreakOrFlat(b, f) => Ok(StepResult::Descend(indent, either(mode, b, f))),
         View::Group(d) => group(printer, indent, mode, d, limit, &mut visits.probes),
         View::Union(l, r) => match mode {
             Mode::Break => union(printer, indent, l, r, visits),
-            Mode::Flat => Ok(Taken::NextFlat(indent, l)),
+            Mode::Flat => Ok(StepResult::DescendFlat(indent, l)),
         },
         View::PartialUnion(l, r) => {
             partial_union(printer, indent, mode, l, r, limit, &mut visits.probes)
         }
         View::OnColumn(test, l, r) => {
-            Ok(Taken::Next(indent, by_column(test, printer.column, indent, l, r)))
+            Ok(StepResult::Descend(indent, by_column(test, printer.column, indent, l, r)))
         }
-        View::OnNesting(test, l, r) => Ok(Taken::Next(indent, by_nesting(test, indent, l, r))),
+        View::OnNesting(test, l, r) => Ok(StepResult::Descend(
+            indent,
+            by_nesting(test, indent, l, r),
+        )),
     }
 }

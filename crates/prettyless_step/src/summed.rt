@@ -4,12 +4,12 @@ ghost use Rattle.prettyless_model.specs.Tree.{size};
 ghost use Rattle.prettyless_model.specs.Look.{answer_of};
 ghost use Rattle.prettyless_summary.specs.Summary.{HasSums, look_by};
 ghost use Rattle.prettyless_step.specs.Probing.{Few, OneLeft, ReadsAs, RisesBy, nodes_next, pace};
-ghost use Rattle.prettyless_step.specs.declared.probe.Read.{Read};
+ghost use Rattle.prettyless_step.specs.declared.probe.ProbeStep.{ProbeStep};
 ghost use Rattle.prettyless_step.specs.Stack.{Reads, Task, in_break, make_task, nodes, stack_of, task, tasks_fit, unread};
 ghost use Rattle.prettyless_step.specs.Sums.{AreSums};
 
 use crate::command::Command;
-use crate::probe::{Line, Read, probe_one};
+use crate::probe::{Line, ProbeStep, probe_one};
 use crate::stack::{Cursor, Stack};
 use crate::walk::Walk;
 use prettyless_model::mode::Mode;
@@ -19,7 +19,7 @@ use std::alloc::AllocError;
 
 // Reads on by a summary.
 #[inline(always)]
-fn read_by<N: Walk>(width: usize, line: &mut Line, summary: Summary) -> Read<N>
+fn read_by<N: Walk>(width: usize, line: &mut Line, summary: Summary) -> ProbeStep<N>
     ensures answer { (ts : List Task) → ReadsAs N.tree width result
         (answer_of (look_by width summary line.old.column line.old.pending) (λ c p. tasks_fit width ts c p))
         ts line.new.column line.new.pending }
@@ -27,11 +27,11 @@ fn read_by<N: Walk>(width: usize, line: &mut Line, summary: Summary) -> Read<N>
     ensures nodes { nodes_next N.tree result ≡ 0 }
 {
     match summary.read(width, line.column, line.pending) {
-        Reached::Answer(answer) => Read::Answer(answer),
+        Reached::Answer(answer) => ProbeStep::Answer(answer),
         Reached::Line(column, pending) => {
             line.column = column;
             line.pending = pending;
-            Read::Done
+            ProbeStep::Silent
         }
     }
 }
@@ -46,7 +46,7 @@ fn read_one<N: Walk>(
     mode: Mode,
     node: N,
     stack: &mut Stack<N>,
-) -> Result<Read<N>, AllocError>
+) -> Result<ProbeStep<N>, AllocError>
     requires { width < 2 ^ 32 }
     ensures answer { IfOk result (λ a. (ts : List Task) → ReadsAs N.tree width a
         (tasks_fit width (make_task indent mode (N.tree node) ∷ (stack_of N.tree stack.old ++ ts)) line.old.column line.old.pending)
@@ -72,7 +72,7 @@ fn read_on<N: Walk>(
     below: &mut Cursor,
     stack: &mut Stack<N>,
     probes: &mut u64,
-) -> Read<N>
+) -> ProbeStep<N>
     requires narrow { width < 2 ^ 32 }
     requires of_this { Reads commands.now below.old }
     requires summed { AreSums commands.now.sums.items (unread N.tree commands.now below.old) }
@@ -87,12 +87,12 @@ fn read_on<N: Walk>(
     ensures counted { probes.new
         + (nodes_next N.tree result + (nodes (stack_of N.tree stack.new) + nodes (unread N.tree commands.now below.new)))
         ≤ probes.old + (nodes (stack_of N.tree stack.old) + nodes (unread N.tree commands.now below.old)) }
-    ensures few { (read : Read N) → OneLeft N.tree read (stack_of N.tree stack.old) (unread N.tree commands.now below.old) commands.now.sums.items
+    ensures few { (read : ProbeStep N) → OneLeft N.tree read (stack_of N.tree stack.old) (unread N.tree commands.now below.old) commands.now.sums.items
         → OneLeft N.tree result (stack_of N.tree stack.new) (unread N.tree commands.now below.new) commands.now.sums.items
         × (unread N.tree commands.now below.new ≡ []) × (probes.new ≤ probes.old + 1) }
 {
     if let Some(next) = stack.pop() {
-        return Read::Next(next.indent, next.mode, next.node);
+        return ProbeStep::Descend(next.indent, next.mode, next.node);
     }
     if let Some(sum) = commands.sum_of(below) {
         *probes = one_more(*probes);
@@ -100,8 +100,8 @@ fn read_on<N: Walk>(
         return read_by(width, line, sum.sum);
     }
     match commands.read_down(below) {
-        Some(next) => Read::Next(next.indent, Mode::Break, next.node),
-        None => Read::Answer(line.column.padding_fits(width, line.pending)),
+        Some(next) => ProbeStep::Descend(next.indent, Mode::Break, next.node),
+        None => ProbeStep::Answer(line.column.padding_fits(width, line.pending)),
     }
 }
 
@@ -143,12 +143,12 @@ pub(crate) fn visit_by_sums<N: Walk>(
     )?;
     'read: loop {
         read = match read {
-            Read::Answer(answer) => return Ok(answer),
-            Read::Next(indent, mode, node) => {
+            ProbeStep::Answer(answer) => return Ok(answer),
+            ProbeStep::Descend(indent, mode, node) => {
                 *probes = one_more(*probes);
                 read_one(width, &mut line, indent, mode, node, stack)?
             }
-            Read::Done => read_on(width, &mut line, commands, &mut below, stack, probes),
+            ProbeStep::Silent => read_on(width, &mut line, commands, &mut below, stack, probes),
         };
     }
 }

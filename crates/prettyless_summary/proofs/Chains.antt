@@ -1,24 +1,19 @@
 -- Summaries and looks, one after another.
 use Rattle.std.proofs.Common.{◌≡◌, ℕ, ◌^◌, ◌<◌, Bool, ◌||◌, refl, ap, ◌∙◌}
-use Rattle.prettyless_model.specs.Look.{Look, Answers, GoesOn, answer_of, look_then}
+use Rattle.prettyless_model.specs.Look.{Look, Answers, GoesOn, look_then}
 use Rattle.prettyless_model.specs.declared.column.Column.{Column}
-use Rattle.prettyless_model.proofs.Looks.{look-then-then, answer-then}
-use Rattle.prettyless_summary.specs.Summary.{Continues, ThenReads, look_by, look_ink, look_out, look_rest, look_weak, mode_of, spaced}
+use Rattle.prettyless_model.proofs.Looks.{look-then-then}
+use Rattle.prettyless_summary.specs.Summary.{ContinuesLook, look_by, look_ink, look_out, look_rest, look_weak, mode_of}
+use Rattle.prettyless_summary.specs.Summary.{after_spaces}
 use Rattle.prettyless_summary.specs.declared.summary.Summary.{Summary}
 use Rattle.prettyless_summary.specs.declared.summary.End.{End}
 use Rattle.prettyless_summary.specs.declared.summary.End.TheVariants.{Open, No, PaddingFits, Yes}
 
 -- a summary and then a look, and then another one
-pub continues : (s r t : Summary) (f g : ℕ → Column → Bool → Look) → Continues s f r → Continues r g t →
-    Continues s (λ width c p. look_then (f width c p) (g width)) t
+pub continues : (s r t : Summary) (f g : ℕ → Column → Bool → Look) → ContinuesLook s f r → ContinuesLook r g t →
+    ContinuesLook s (λ width c p. look_then (f width c p) (g width)) t
 continues s r t f g h k width c p l =
     k width c p l ∙ ap (λ (x : Look). look_then x (g width)) (h width c p l) ∙ look-then-then (look_by width s c p) (f width) (g width)
-
--- the answer of two summaries as one, and of what follows them
-pub answer-both : (s t r : Summary) → ThenReads s t r → (width : ℕ) → width < 2 ^ 32 → (next : Column → Bool → Bool)
-    (c : Column) (p : Bool) → answer_of (look_by width r c p) next ≡ answer_of (look_by width s c p) (λ e q. answer_of (look_by width t e q) next)
-answer-both s t r h width l next c p =
-    ap (λ (x : Look). answer_of x next) (h width c p l) ∙ answer-then (look_by width s c p) (look_by width t) next
 
 -- a look that answers, whatever follows it
 
@@ -35,8 +30,8 @@ answers_then (Answers b) f g h = refl
 answers_then (GoesOn c p) f g h = h c p
 
 -- a summary that is closed, and then anything, is that summary
-pub closed : (s : Summary) → (s.end ≡ Open → ⊥) → (f : ℕ → Column → Bool → Look) → Continues s f s
+pub closed : (s : Summary) → (s.end ≡ Open → ⊥) → (f : ℕ → Column → Bool → Look) → ContinuesLook s f s
 closed s h f width c p l =
-    answers_then (look_weak width (mode_of s.weak) (spaced s.lead c) p) (look_rest width s) (f width)
+    answers_then (look_weak width (mode_of s.weak) (after_spaces s.lead c) p) (look_rest width s) (f width)
     (λ e q. answers_then (look_ink width s.has_ink s.inner s.trail e q) (λ g r. look_out width s.end g (s.has_suffix || r)) (f width)
     (λ g r. closed_out width s.end h (f width) g (s.has_suffix || r)))

@@ -1,81 +1,23 @@
 -- The summary of each variant of a document, from those of its parts.
-use Rattle.std.proofs.Common.{◌≡◌, ℕ, ℤ, Bool, true, false, List, length, Some, ap, ◌∙◌}
+use Rattle.std.proofs.Common.{◌≡◌, ℤ, false, ◌∙◌}
 use Rattle.prettyless_model.specs.Tree as t
 use Rattle.prettyless_model.specs.Tree.{Tree}
-use Rattle.prettyless_model.specs.Metrics.{metrics}
-use Rattle.prettyless_model.specs.Column.{blank, nested, padding_fits, prospective}
-use Rattle.prettyless_model.specs.Look.{Look, Answers, GoesOn, by_mode, look, look_text, look_then, payload_begins}
-use Rattle.prettyless_model.specs.declared.column.Column.{Column}
+use Rattle.prettyless_model.specs.Column.{nested, padding_fits, prospective}
+use Rattle.prettyless_model.specs.Look.{Answers, by_mode}
 use Rattle.prettyless_model.specs.declared.mode.Mode.{Mode}
 use Rattle.prettyless_model.specs.declared.mode.Mode.TheVariants.{Break, Flat}
-use Rattle.prettyless_model.proofs.Looks.{look-same}
-use Rattle.prettyless_summary.proofs.Chains.{closed}
-use Rattle.prettyless_summary.specs.declared.summary.End.TheVariants.{Open}
-use Rattle.prettyless_summary.specs.Summary.{Reads, Summarizes, ThenReads, look_by, look_weak}
+use Rattle.prettyless_summary.specs.Summary.{ReadsLook, Summarizes}
 use Rattle.prettyless_summary.specs.declared.summary.Summary.{Summary}
 
 -- of what has no document below it
 
-pub summarizes_nil : (s : Summary) (m : Mode) → Reads s (λ width c p. GoesOn c p) → Summarizes s t.Nil m
-summarizes_nil s m h i = h
-
-pub summarizes_fail : (s : Summary) (m : Mode) → Reads s (λ width c p. Answers false) → Summarizes s t.Fail m
-summarizes_fail s m h i = h
-
-pub summarizes_text : (s : Summary) (m : Mode) (text : List ℕ) → Reads s (λ width c p. look_text width (length text) text c p) →
-    Summarizes s (t.Text text) m
-summarizes_text s m text h i = h
-
-pub summarizes_text_with_len : (s : Summary) (m : Mode) (columns : ℕ) (text : List ℕ) →
-    Reads s (λ width c p. look_text width columns text c p) →
-    Summarizes s (t.TextWithLen columns text) m
-summarizes_text_with_len s m columns text h i = h
-
-pub summarizes_multiline_text : (s : Summary) (text : List ℕ) →
-    Reads s (λ width c p. Answers (payload_begins width (metrics text) c)) →
-    Summarizes s (t.MultilineText text) Break
-summarizes_multiline_text s text h i = h
-
-pub summarizes_flat_multiline_text : (s : Summary) (text : List ℕ) → Reads s (λ width c p. Answers false) →
-    Summarizes s (t.MultilineText text) Flat
-summarizes_flat_multiline_text s text h i = h
-
-pub summarizes_weak_space : (s : Summary) (m : Mode) → Reads s (λ width c p. GoesOn (blank c) p) → Summarizes s t.WeakSpace m
-summarizes_weak_space s m h i = h
-
-pub summarizes_hard_line : (s : Summary) → Reads s (λ width c p. Answers (padding_fits width p c)) → Summarizes s t.HardLine Break
+pub summarizes_hard_line : (s : Summary) → ReadsLook s (λ width c p. Answers (padding_fits width p c)) → Summarizes s t.HardLine Break
 summarizes_hard_line s h i = h
 
-pub summarizes_flat_hard_line : (s : Summary) → Reads s (λ width c p. Answers false) → Summarizes s t.HardLine Flat
+pub summarizes_flat_hard_line : (s : Summary) → ReadsLook s (λ width c p. Answers false) → Summarizes s t.HardLine Flat
 summarizes_flat_hard_line s h i = h
 
-pub summarizes_weak_line : (s : Summary) (m : Mode) → Reads s (λ width c p. look_weak width (Some m) c p) → Summarizes s t.WeakLine m
-summarizes_weak_line s m h i = h
-
-pub summarizes_expand_parent : (s : Summary) → Reads s (λ width c p. GoesOn c p) → Summarizes s t.ExpandParent Break
-summarizes_expand_parent s h i = h
-
-pub summarizes_flat_expand_parent : (s : Summary) → Reads s (λ width c p. Answers false) → Summarizes s t.ExpandParent Flat
-summarizes_flat_expand_parent s h i = h
-
-pub summarizes_line_suffix : (s : Summary) (m : Mode) (d : Tree) → Reads s (λ width c p. GoesOn c true) → Summarizes s (t.LineSuffix d) m
-summarizes_line_suffix s m d h i = h
-
 -- of what has documents below it
-
-pub summarizes_append : (s l r : Summary) (m : Mode) (d e : Tree) → Summarizes l d m → Summarizes r e m → ThenReads l r s →
-    Summarizes s (t.Append d e) m
-summarizes_append s l r m d e h k a i width c p below =
-    a width c p below
-    ∙ look-same (look_by width l c p) (look width d i m c p) (look_by width r) (λ (f : Column) (q : Bool). look width e i m f q)
-    (h i width c p below) (λ f q. k i width f q below)
-
--- where the first answers, the second does not matter
-pub summarizes_append_closed : (s : Summary) (m : Mode) (d e : Tree) → Summarizes s d m → (s.end ≡ Open → ⊥) →
-    Summarizes s (t.Append d e) m
-summarizes_append_closed s m d e h o i width c p below =
-    closed s o (λ w f q. look w e i m f q) width c p below
-    ∙ ap (λ (x : Look). look_then x (λ (f : Column) (q : Bool). look width e i m f q)) (h i width c p below)
 
 pub summarizes_nest : (s : Summary) (m : Mode) (k : ℤ) (d : Tree) → Summarizes s d m → Summarizes s (t.Nest k d) m
 summarizes_nest s m k d h i = h (nested i k)

@@ -4,17 +4,17 @@ use Rattle.prettyless_model.specs.Look.{Look, GoesOn, look_end, look_then}
 use Rattle.prettyless_model.specs.declared.column.Column.{Column}
 use Rattle.prettyless_model.specs.declared.mode.Mode.{Mode}
 use Rattle.prettyless_model.proofs.Looks.{look-each, look-then-then}
-use Rattle.prettyless_summary.specs.Summary.{Continues, look_ink, look_out, look_rest, look_weak, mode_of, spaced}
+use Rattle.prettyless_summary.specs.Summary.{ContinuesLook, look_ink, look_out, look_rest, look_weak, mode_of, after_spaces}
 use Rattle.prettyless_summary.specs.declared.summary.Summary.{Summary}
 use Rattle.prettyless_summary.specs.declared.summary.End.{End}
 
 -- what a summary has after its weak line may say what a look after the whole summary says
 pub rest_continues : (s r : Summary) (f : ℕ → Column → Bool → Look) → r.lead ≡ s.lead → r.weak ≡ s.weak
-    → ((width : ℕ) (c : Column) (p : Bool) → look_rest width r c p ≡ look_then (look_rest width s c p) (f width)) → Continues s f r
+    → ((width : ℕ) (c : Column) (p : Bool) → look_rest width r c p ≡ look_then (look_rest width s c p) (f width)) → ContinuesLook s f r
 rest_continues s r f lead weak h width c p l =
-    rw (lead, weak) (look-each (look_weak width (mode_of s.weak) (spaced s.lead c) p) (look_rest width r)
+    rw (lead, weak) (look-each (look_weak width (mode_of s.weak) (after_spaces s.lead c) p) (look_rest width r)
     (λ e q. look_then (look_rest width s e q) (f width)) (h width)
-    ∙ sym (look-then-then (look_weak width (mode_of s.weak) (spaced s.lead c) p) (look_rest width s) (f width)))
+    ∙ sym (look-then-then (look_weak width (mode_of s.weak) (after_spaces s.lead c) p) (look_rest width s) (f width)))
 
 -- a weak line after ink or a line suffix ends the line
 pub rest_ends : (width : ℕ) (ink suffix : Bool) (inner trail : ℕ) (e : End) (m : Mode) (c : Column) (p : Bool)

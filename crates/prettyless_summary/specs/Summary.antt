@@ -1,7 +1,9 @@
 -- What a document shows a probe, taken up as one.
-use Rattle.std.specs.Prelude.{◌≡◌, ℕ, ◌+◌, ◌^◌, ◌<◌, ◌≤◌, Bool, true, false, not, ◌&&◌, ◌||◌, ◌==◌, nat_le, Option, Some, None, MatchOption, ⊤, FitsSigned, if◌then◌else◌}
+use Rattle.std.specs.Prelude.{◌≡◌, ℕ, ◌+◌, ◌^◌, ◌<◌, ◌≤◌, Bool, true, false, not, ◌&&◌, ◌||◌, ◌==◌, nat_le, Option, Some, None, MatchOption}
+use Rattle.std.specs.Prelude.{⊤, FitsSigned, if◌then◌else◌}
 use mir.Syntax.{w32}
-use Rattle.prettyless_model.specs.Tree.{Tree, Nest, Append, LineSuffix, DedentToRoot, Align, Flatten, BreakOrFlat, Group, Union, PartialUnion, OnColumn, OnNesting}
+use Rattle.prettyless_model.specs.Tree.{Tree, Nest, Append, LineSuffix, DedentToRoot, Align, Flatten, BreakOrFlat, Group, Union}
+use Rattle.prettyless_model.specs.Tree.{PartialUnion, OnColumn, OnNesting}
 use Rattle.prettyless_model.specs.Column.{saturating_add, commit, padding_fits}
 use Rattle.prettyless_model.specs.Look.{Look, Answers, GoesOn, look, look_end, look_then}
 use Rattle.prettyless_model.specs.declared.column.Column.{Column}
@@ -16,8 +18,8 @@ use Rattle.prettyless_summary.specs.declared.summary.Reached.{Reached}
 use Rattle.prettyless_summary.specs.declared.summary.Reached.TheVariants.{Answer, Line}
 
 -- so many weak spaces: nothing where the line is fresh
-abbrev pub spaced : ℕ → Column → Column
-spaced n c = if c.fresh || (n == 0) then c else record c { padding = saturating_add c.padding n }
+abbrev pub after_spaces : ℕ → Column → Column
+after_spaces n c = if c.fresh || (n == 0) then c else record c { padding = saturating_add c.padding n }
 
 -- the mode of the weak line that comes first, if there is one
 abbrev pub mode_of : Weak → Option Mode
@@ -34,7 +36,7 @@ look_weak width (Some m) c p = if c.fresh && not p then GoesOn c p else look_end
 abbrev pub look_ink : ℕ → Bool → ℕ → ℕ → Column → Bool → Look
 look_ink width false inner trail c p = GoesOn c p
 look_ink width true inner trail c p =
-    if nat_le (commit inner c).position width then GoesOn (spaced trail (commit inner c)) p else Answers false
+    if nat_le (commit inner c).position width then GoesOn (after_spaces trail (commit inner c)) p else Answers false
 
 -- what ends a reading or decides it
 abbrev pub look_out : ℕ → End → Column → Bool → Look
@@ -50,23 +52,23 @@ look_rest width s c p =
 
 -- What a line comes to that is read by a summary: weak spaces, then a weak line, then the rest.
 abbrev pub look_by : ℕ → Summary → Column → Bool → Look
-look_by width s c p = look_then (look_weak width (mode_of s.weak) (spaced s.lead c) p) (look_rest width s)
+look_by width s c p = look_then (look_weak width (mode_of s.weak) (after_spaces s.lead c) p) (look_rest width s)
 
 -- by a summary a line comes to what it comes to by a look, at every width below 2^32
-abbrev pub Reads : Summary → (ℕ → Column → Bool → Look) → Type 0
-Reads s f = (width : ℕ) (c : Column) (p : Bool) → width < 2 ^ 32 → look_by width s c p ≡ f width c p
+abbrev pub ReadsLook : Summary → (ℕ → Column → Bool → Look) → Type 0
+ReadsLook s f = (width : ℕ) (c : Column) (p : Bool) → width < 2 ^ 32 → look_by width s c p ≡ f width c p
 
 -- the summary of a document in a mode: it shows a probe the same, whatever the indent
 abbrev pub Summarizes : Summary → Tree → Mode → Type 0
-Summarizes s d m = (i : ℕ) → Reads s (λ width c p. look width d i m c p)
+Summarizes s d m = (i : ℕ) → ReadsLook s (λ width c p. look width d i m c p)
 
 -- one summary and then a look
-abbrev pub Continues : Summary → (ℕ → Column → Bool → Look) → Summary → Type 0
-Continues s f r = Reads r (λ width c p. look_then (look_by width s c p) (f width))
+abbrev pub ContinuesLook : Summary → (ℕ → Column → Bool → Look) → Summary → Type 0
+ContinuesLook s f r = ReadsLook r (λ width c p. look_then (look_by width s c p) (f width))
 
 -- one summary and then another
 abbrev pub ThenReads : Summary → Summary → Summary → Type 0
-ThenReads s t r = Continues s (λ width. look_by width t) r
+ThenReads s t r = ContinuesLook s (λ width. look_by width t) r
 
 -- the summary of a document in a mode, if it is known
 abbrev pub IsKnown : Option Summary → Tree → Mode → Type 0

@@ -1,9 +1,11 @@
 //! Summaries: of what a document may begin with, of two documents one after the other, and what a line comes to by one.
-ghost use Rattle.std.specs.Prelude.{◌≡◌, ℕ, ◌+◌, ◌<◌, ◌≤◌, ◌^◌, ◌↔◌, List, Bool, true, false, Option, Some, None, IfSome, IsTrue, MatchOption, ◌||◌, max, nat_le, if◌then◌else◌};
+ghost use Rattle.std.specs.Prelude.{◌≡◌, ℕ, ◌+◌, ◌<◌, ◌≤◌, ◌^◌, ◌↔◌, List, Bool, true, false, Option, Some, None, IfSome, IsTrue};
+ghost use Rattle.std.specs.Prelude.{MatchOption, ◌||◌, max, nat_le, if◌then◌else◌};
 ghost use Rattle.prettyless_model.specs.Column.{blank, commit, padding_fits};
 ghost use Rattle.prettyless_model.specs.Look.{Answers, GoesOn, look_end, look_text, payload_begins};
 ghost use Rattle.prettyless_model.specs.declared.column.Column.{Column};
-ghost use Rattle.prettyless_summary.specs.Summary.{Continues, IsSmall, Reads, ThenReads, look_by, look_ink, look_of, look_out, look_rest, look_weak, mode_of, spaced as spaced_by};
+ghost use Rattle.prettyless_summary.specs.Summary.{ContinuesLook, IsSmall, ReadsLook, ThenReads, look_by, look_ink, look_of, look_out};
+ghost use Rattle.prettyless_summary.specs.Summary.{look_rest, look_weak, mode_of, after_spaces as spaced_by};
 ghost use Rattle.prettyless_summary.specs.declared.summary.End.TheVariants.{Open};
 
 use prettyless_model::column::Column;
@@ -142,7 +144,7 @@ impl Summary {
     /// The summary of nothing.
     #[inline(always)]
     pub fn nothing() -> Self
-        ensures reads { Reads result (λ width c p. GoesOn c p) }
+        ensures reads { ReadsLook result (λ width c p. GoesOn c p) }
         ensures small { IsSmall 0 result }
     {
         NOTHING
@@ -151,7 +153,7 @@ impl Summary {
     /// The summary of a weak space.
     #[inline(always)]
     pub fn blank() -> Self
-        ensures reads { Reads result (λ width c p. GoesOn (blank c) p) }
+        ensures reads { ReadsLook result (λ width c p. GoesOn (blank c) p) }
         ensures small { IsSmall 1 result }
     {
         Summary { lead: 1, ..NOTHING }
@@ -160,7 +162,7 @@ impl Summary {
     /// The summary of a line suffix.
     #[inline(always)]
     pub fn suffix() -> Self
-        ensures reads { Reads result (λ width c p. GoesOn c true) }
+        ensures reads { ReadsLook result (λ width c p. GoesOn c true) }
         ensures small { IsSmall 0 result }
     {
         Summary {
@@ -172,7 +174,7 @@ impl Summary {
     /// The summary of what no line holds.
     #[inline(always)]
     pub fn no() -> Self
-        ensures reads { Reads result (λ width c p. Answers false) }
+        ensures reads { ReadsLook result (λ width c p. Answers false) }
         ensures small { IsSmall 0 result }
     {
         Summary {
@@ -184,7 +186,7 @@ impl Summary {
     /// The summary of the end of a line.
     #[inline(always)]
     pub fn hard() -> Self
-        ensures reads { Reads result (λ width c p. Answers (padding_fits width p c)) }
+        ensures reads { ReadsLook result (λ width c p. Answers (padding_fits width p c)) }
         ensures small { IsSmall 0 result }
     {
         Summary {
@@ -196,7 +198,7 @@ impl Summary {
     /// The summary of a weak line in this mode.
     #[inline(always)]
     pub fn weak(mode: Mode) -> Self
-        ensures reads { Reads result (λ width c p. look_weak width (Some mode) c p) }
+        ensures reads { ReadsLook result (λ width c p. look_weak width (Some mode) c p) }
         ensures small { IsSmall 0 result }
     {
         Summary {
@@ -208,7 +210,7 @@ impl Summary {
     /// The summary of a text that is not empty, by its counted width in columns.
     #[inline(always)]
     pub fn ink(columns: usize) -> Self
-        ensures reads { Reads result (λ width c p.
+        ensures reads { ReadsLook result (λ width c p.
             if nat_le (commit columns c).position width then GoesOn (commit columns c) p else Answers false) }
         ensures small { IsSmall 0 result }
     {
@@ -225,7 +227,7 @@ impl Summary {
     /// The summary of a text, by its counted width in columns.
     #[inline(always)]
     pub fn text(columns: usize, text: &str) -> Self
-        ensures reads { Reads result (λ width c p. look_text width columns text.now c p) }
+        ensures reads { ReadsLook result (λ width c p. look_text width columns text.now c p) }
         ensures small { IsSmall 0 result }
     {
         if text.is_empty() {
@@ -237,7 +239,7 @@ impl Summary {
     /// The summary of a payload whose lines are broken.
     #[inline(always)]
     pub fn payload(metrics: Metrics) -> Self
-        ensures reads { Reads result (λ width c p. Answers (payload_begins width metrics c)) }
+        ensures reads { ReadsLook result (λ width c p. Answers (payload_begins width metrics c)) }
         ensures small { IsSmall 0 result }
     {
         if !metrics.first_nonempty {
@@ -258,7 +260,7 @@ impl Summary {
     #[inline(always)]
     fn and_blanks(self, count: u32) -> Option<Self>
         requires { self.end ≡ Open }
-        ensures reads { IfSome result (λ sum. Continues self (λ width c p. GoesOn (spaced_by count c) p) sum) }
+        ensures reads { IfSome result (λ sum. ContinuesLook self (λ width c p. GoesOn (spaced_by count c) p) sum) }
         ensures open { IfSome result (λ sum. sum.end ≡ Open) }
         ensures lead { IfSome result (λ sum. sum.lead ≤ self.lead + count) }
         ensures small { MatchOption result (2 ^ 32 ≤ self.lead + self.trail + count) (IsSmall (self.lead + self.trail + count)) }
@@ -282,7 +284,7 @@ impl Summary {
     #[inline(always)]
     fn and_weak(self, weak: Weak) -> Self
         requires { self.end ≡ Open }
-        ensures reads { Continues self (λ width c p. look_weak width (mode_of weak) c p) result }
+        ensures reads { ContinuesLook self (λ width c p. look_weak width (mode_of weak) c p) result }
         ensures lead { result.lead ≡ self.lead }
         ensures trail { result.trail ≡ self.trail }
     {
@@ -305,7 +307,7 @@ impl Summary {
     #[inline(always)]
     fn and_ink(self, columns: u32, trail: u32) -> Self
         requires { self.end ≡ Open }
-        ensures reads { Continues self (λ width c p. look_ink width true columns trail c p) result }
+        ensures reads { ContinuesLook self (λ width c p. look_ink width true columns trail c p) result }
         ensures lead { result.lead ≡ self.lead }
         ensures trail { result.trail ≤ trail }
     {
@@ -333,7 +335,7 @@ impl Summary {
     // It and then an end, with a line suffix before it or none.
     #[inline(always)]
     fn and_end(self, has_suffix: bool, end: End) -> Self
-        ensures reads { Continues self (λ width c p. look_out width end c (has_suffix || p)) result }
+        ensures reads { ContinuesLook self (λ width c p. look_out width end c (has_suffix || p)) result }
         ensures lead { result.lead ≡ self.lead }
         ensures trail { result.trail ≡ self.trail }
     {
@@ -350,7 +352,7 @@ impl Summary {
     // It and then what another one has after its weak line.
     #[inline(always)]
     fn and_rest(self, next: Summary) -> Self
-        ensures reads { Continues self (λ width c p. look_rest width next c p) result }
+        ensures reads { ContinuesLook self (λ width c p. look_rest width next c p) result }
         ensures lead { result.lead ≡ self.lead }
         ensures trail { result.trail ≤ max self.trail next.trail }
     {

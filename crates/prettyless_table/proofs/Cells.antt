@@ -1,8 +1,10 @@
 -- Where documents stand in a table.
-use Rattle.std.proofs.Common.{◌≡◌, ℕ, zero, suc, ◌-◌, ◌<◌, ◌≤◌, Bool, true, false, List, [], ◌∷◌, ◌++◌, length, get_or, refl, ap, sym, subst, ◌∙◌, arith, length-append}
+use Rattle.std.proofs.Common.{◌≡◌, ℕ, zero, suc, ◌-◌, ◌<◌, ◌≤◌, Bool, true, false, List, [], ◌∷◌, ◌++◌, length, get_or, refl, ap, sym}
+use Rattle.std.proofs.Common.{subst, ◌∙◌, arith, length-append}
 use Rattle.std.proofs.lemmas.List.{get_or_push, get_or_append_left}
 use Rattle.std.proofs.Math.ListN.{get_or-eq_default}
-use Rattle.prettyless_model.specs.Tree.{Tree, Nil, Append, LineSuffix, Nest, DedentToRoot, Align, Flatten, BreakOrFlat, Group, Union, PartialUnion, OnColumn, OnNesting}
+use Rattle.prettyless_model.specs.Tree.{Tree, Nil, Append, LineSuffix, Nest, DedentToRoot, Align, Flatten, BreakOrFlat, Group, Union}
+use Rattle.prettyless_model.specs.Tree.{PartialUnion, OnColumn, OnNesting}
 use Rattle.prettyless_model.specs.Tree as t
 use Rattle.prettyless_table.specs.declared.cell.Cell.{Cell}
 use Rattle.prettyless_table.specs.Parts.{parts_of, small}
@@ -37,7 +39,8 @@ cell_stays {N} cells c at d h = record {
   keeps = λ x. subst (λ (y : Cell N). KeepsBoth y d) (sym (get_or_append_left cells (c ∷ []) x at h.within)) (h.keeps x);
 }
 
-second_stays : {N : Type 0} (cells : List (Cell N)) (c : Cell N) (at : ℕ) → at < length cells → second_at (cells ++ c ∷ []) at ≡ second_at cells at
+second_stays : {N : Type 0} (cells : List (Cell N)) (c : Cell N) (at : ℕ) → at < length cells
+    → second_at (cells ++ c ∷ []) at ≡ second_at cells at
 second_stays {N} cells c at h = ap second_of (get_or_append_left cells (c ∷ []) no_cell at h)
 
 pair_stays : {N : Type 0} (b : Bool) (cells : List (Cell N)) (c : Cell N) (at : ℕ) (d : Tree) {P P' : Type 0} (Q Q' : ℕ → Type 0)
@@ -144,7 +147,8 @@ pair_new {N} b cells c d l r keeps first second = unless_some b (
   cell_new cells c d keeps,
   (
     stays cells c l (length cells - 1) first,
-    subst (In (cells ++ c ∷ []) r) (sym (ap second_of (get_or_push cells c no_cell (length cells) refl))) (stays cells c r (second_of c) second),
+    subst (In (cells ++ c ∷ []) r) (sym (ap second_of (get_or_push cells c no_cell (length cells) refl)))
+        (stays cells c r (second_of c) second),
   ),
 )
 
@@ -157,7 +161,8 @@ own_new : {N : Type 0} (b : Bool) (cells : List (Cell N)) (c : Cell N) (d e : Tr
 own_new b cells c d e keeps own = unless_some b (cell_new cells c d keeps, small_in (cells ++ c ∷ []) e (length cells) own)
 
 -- a node stands where its cell was added
-pub stands_new : {N : Type 0} (cells : List (Cell N)) (c : Cell N) (d : Tree) → KeepsBoth c d → FirstIn cells (length cells - 1) (parts_of d)
+pub stands_new : {N : Type 0} (cells : List (Cell N)) (c : Cell N) (d : Tree) → KeepsBoth c d
+    → FirstIn cells (length cells - 1) (parts_of d)
     → SecondIn cells (second_of c) (parts_of d) → IsOwn d → In (cells ++ c ∷ []) d (length cells)
 stands_new cells c (Append l r) keeps first second own = pair_new (small (Append l r)) cells c (Append l r) l r keeps first second
 stands_new cells c (LineSuffix d) keeps first second own = single_new (small (LineSuffix d)) cells c (LineSuffix d) d keeps first
@@ -192,8 +197,3 @@ second_past cells at h = ap second_of (get_or-eq_default cells no_cell h)
 pub second_read : {N : Type 0} (cells : List (Cell N)) (at : ℕ) (x : Cell N) → at < length cells → x ≡ get_or cells at x
     → second_of x ≡ second_at cells at
 second_read cells at x h e = ap second_of (e ∙ get_or_any cells at x no_cell h)
-
--- the summaries in a cell that was read
-pub cell_read : {N : Type 0} (cells : List (Cell N)) (at : ℕ) (x : Cell N) (d : Tree) → small d ≡ false → In cells d at → x ≡ get_or cells at x
-    → KeepsBoth x d
-cell_read {N} cells at x d e h is = subst (λ (y : Cell N). KeepsBoth y d) (sym is) ((in_cell cells d at e h).keeps x)

@@ -2,6 +2,9 @@ pub mod Summing
 pub mod Trees
 pub mod Cells
 pub mod Sharing
-pub mod Waits
+pub mod Owners
+pub mod Standing
+pub mod Listing
+pub mod Rooms
 pub mod Shifting
 pub mod AtOnce

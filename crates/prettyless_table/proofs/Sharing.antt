@@ -1,6 +1,8 @@
 -- Nodes that have the place of their part, and those that have a cell of their own.
 use Rattle.std.proofs.Common.{◌≡◌, ℕ, ◌≤◌, true, false, List, [], ◌∷◌, get_or, ap, subst, sym, ◌∙◌, arith}
-use Rattle.prettyless_model.specs.Tree.{Tree, Nil, Fail, Text, TextWithLen, MultilineText, WeakSpace, HardLine, WeakLine, ExpandParent, LineSuffix, OnColumn, OnNesting, Nest, DedentToRoot, Align, Flatten, Group, BreakOrFlat, Union, PartialUnion, Append, size}
+use Rattle.prettyless_model.specs.Tree.{Tree, Nil, Fail, Text, TextWithLen, MultilineText, WeakSpace, HardLine, WeakLine, ExpandParent}
+use Rattle.prettyless_model.specs.Tree.{LineSuffix, OnColumn, OnNesting, Nest, DedentToRoot, Align, Flatten, Group, BreakOrFlat, Union}
+use Rattle.prettyless_model.specs.Tree.{PartialUnion, Append, size}
 use Rattle.prettyless_model.specs.declared.mode.Mode.{Mode}
 use Rattle.prettyless_model.specs.declared.mode.Mode.TheVariants.{Break, Flat}
 use Rattle.prettyless_summary.specs.Summary.{HasSums, Summarizes}
@@ -12,7 +14,7 @@ use Rattle.prettyless_table.specs.declared.cell.Cell.{Cell}
 use Rattle.prettyless_table.specs.declared.cell.Cell.TheVariants.{Sums, Root}
 use Rattle.prettyless_table.specs.Parts.{parts_of, shares, small}
 use Rattle.prettyless_table.specs.Cells.{HasCell, In, KeepsBoth}
-use Rattle.prettyless_table.specs.Laying.{IsOwn, Serves}
+use Rattle.prettyless_table.specs.Laying.{Serves}
 use Rattle.prettyless_table.proofs.Cells.{in_cell, unless_some}
 
 -- the summary of a part that a cell keeps is that of the node
@@ -89,51 +91,3 @@ serves_part N WeakSpace x e s little cells at h = cc
 serves_part N HardLine x e s little cells at h = cc
 serves_part N WeakLine x e s little cells at h = cc
 serves_part N ExpandParent x e s little cells at h = cc
-
--- a node whose part is small has a cell of its own
-pub own_small : (d x : Tree) → x ∷ [] ≡ parts_of d → small x ≡ true → IsOwn d
-own_small (Nest k d) x e h = ap (λ (ds : List Tree). small (get_or ds 0 Nil)) (sym e) ∙ h
-own_small (DedentToRoot d) x e h = ap (λ (ds : List Tree). small (get_or ds 0 Nil)) (sym e) ∙ h
-own_small (Align d) x e h = ap (λ (ds : List Tree). small (get_or ds 0 Nil)) (sym e) ∙ h
-own_small (Group d) x e h = ap (λ (ds : List Tree). small (get_or ds 0 Nil)) (sym e) ∙ h
-own_small (Append l r) x e h = tt
-own_small (LineSuffix d) x e h = tt
-own_small (Flatten d) x e h = tt
-own_small (BreakOrFlat l r) x e h = tt
-own_small (Union l r) x e h = tt
-own_small (PartialUnion l r) x e h = tt
-own_small (OnColumn test l r) x e h = tt
-own_small (OnNesting test l r) x e h = tt
-own_small Nil x e h = tt
-own_small Fail x e h = tt
-own_small (Text t) x e h = tt
-own_small (TextWithLen w t) x e h = tt
-own_small (MultilineText t) x e h = tt
-own_small WeakSpace x e h = tt
-own_small HardLine x e h = tt
-own_small WeakLine x e h = tt
-own_small ExpandParent x e h = tt
-
--- and so has one that never shares a place
-pub own_other : (d : Tree) → shares d ≡ false → IsOwn d
-own_other (Nest k d) h = cc
-own_other (DedentToRoot d) h = cc
-own_other (Align d) h = cc
-own_other (Group d) h = cc
-own_other (Append l r) h = tt
-own_other (LineSuffix d) h = tt
-own_other (Flatten d) h = tt
-own_other (BreakOrFlat l r) h = tt
-own_other (Union l r) h = tt
-own_other (PartialUnion l r) h = tt
-own_other (OnColumn test l r) h = tt
-own_other (OnNesting test l r) h = tt
-own_other Nil h = tt
-own_other Fail h = tt
-own_other (Text t) h = tt
-own_other (TextWithLen w t) h = tt
-own_other (MultilineText t) h = tt
-own_other WeakSpace h = tt
-own_other HardLine h = tt
-own_other WeakLine h = tt
-own_other ExpandParent h = tt

@@ -11,9 +11,9 @@ use Rattle.prettyless_step.specs.declared.command.Command.{Command}
 use Rattle.prettyless_step.specs.declared.printer.Printer.{Printer}
 use Rattle.prettyless_table.specs.declared.shift.Places.{Places}
 use Rattle.prettyless_table.specs.declared.cell.Cell.{Cell}
-use Rattle.prettyless_table.specs.Cells.{IsRoot, tree_at, tree_of, trees, Grows}
+use Rattle.prettyless_table.specs.Cells.{IsRoot, tree_at, tree_or_nil, cell_trees, CellsGrow}
 use Rattle.prettyless_table.specs.Laying.{HasAt}
-use Rattle.prettyless_table.specs.Shift.{AreCommands, AreNodes, IsLaidOut}
+use Rattle.prettyless_table.specs.Shift.{AreCommands, AreNodes, IsInTable}
 use Rattle.prettyless_table.proofs.Trees.{at_root, root_stays, tree_same}
 
 -- What is at these places is the first of all, and the later ones come after it.
@@ -52,34 +52,36 @@ FirstNodes f cells = AreFirst (λ (at : ℕ). IsRoot cells at) (tree_at f cells)
 
 pub command_more : {N : Type 0} (f : N → Tree) (old new : List (Cell N)) (places after : List (Command ℕ)) (c : Command ℕ) (d : Tree)
     (left later all : List Task)
-    → Grows f old new → HasAt (trees f new) c.node d → after ≡ places ++ c ∷ [] → left ≡ make_task c.indent c.mode d ∷ later
+    → CellsGrow f old new → HasAt (cell_trees f new) c.node d → after ≡ places ++ c ∷ [] → left ≡ make_task c.indent c.mode d ∷ later
     → FirstCommands f old places left all → FirstCommands f new after later all
 command_more f old new places after c d left later all grows has longer less first =
     first_more (λ (b : Command ℕ). IsRoot old b.node) (λ (b : Command ℕ). IsRoot new b.node) (task (tree_at f old)) (task (tree_at f new))
     places after c (make_task c.indent c.mode d) left later all (λ b. root_stays f old new b.node grows)
     (λ b l. ap (make_task b.indent b.mode) (tree_same f old new b.node grows l))
-    (at_root f new c.node d has) (ap (λ u. make_task c.indent c.mode (tree_of u)) has.is) longer less first
+    (at_root f new c.node d has) (ap (λ u. make_task c.indent c.mode (tree_or_nil u)) has.is) longer less first
 
 pub node_more : {N : Type 0} (f : N → Tree) (old new : List (Cell N)) (places after : List ℕ) (at : ℕ) (d : Tree)
     (left later all : List Tree)
-    → Grows f old new → HasAt (trees f new) at d → after ≡ places ++ at ∷ [] → left ≡ d ∷ later
+    → CellsGrow f old new → HasAt (cell_trees f new) at d → after ≡ places ++ at ∷ [] → left ≡ d ∷ later
     → FirstNodes f old places left all → FirstNodes f new after later all
 node_more f old new places after at d left later all grows has longer less first =
     first_more (λ (i : ℕ). IsRoot old i) (λ (i : ℕ). IsRoot new i) (tree_at f old) (tree_at f new) places after at d left later all
-    (λ i. root_stays f old new i grows) (λ i l. tree_same f old new i grows l) (at_root f new at d has) (ap tree_of has.is) longer less first
+    (λ i. root_stays f old new i grows) (λ i l. tree_same f old new i grows l) (at_root f new at d has) (ap tree_or_nil has.is)
+    longer less first
 
 -- commands at places are there after the table has grown
 pub commands_kept : {N : Type 0} (f : N → Tree) (old new : List (Cell N)) (places : List (Command ℕ)) (ts : List Task)
-    → Grows f old new → AreCommands f old places ts → AreCommands f new places ts
+    → CellsGrow f old new → AreCommands f old places ts → AreCommands f new places ts
 commands_kept f old new places ts grows are = record {
-  within = All-weaker (λ (c : Command ℕ). IsRoot old c.node) (λ c. IsRoot new c.node) (λ c. root_stays f old new c.node grows) places are.within;
+  within = All-weaker (λ (c : Command ℕ). IsRoot old c.node) (λ c. IsRoot new c.node) (λ c. root_stays f old new c.node grows)
+      places are.within;
   tasks = map_same (λ (c : Command ℕ). IsRoot old c.node) (task (tree_at f old)) (task (tree_at f new))
       (λ c l. ap (make_task c.indent c.mode) (tree_same f old new c.node grows l)) places are.within ∙ are.tasks;
 }
 
 -- nodes at places are there after the table has grown
 pub nodes_kept : {N : Type 0} (f : N → Tree) (old new : List (Cell N)) (places : List ℕ) (ds : List Tree)
-    → Grows f old new → AreNodes f old places ds → AreNodes f new places ds
+    → CellsGrow f old new → AreNodes f old places ds → AreNodes f new places ds
 nodes_kept f old new places ds grows are = record {
   within = All-weaker (λ (at : ℕ). IsRoot old at) (λ at. IsRoot new at) (λ at. root_stays f old new at grows) places are.within;
   trees = map_same (λ (at : ℕ). IsRoot old at) (tree_at f old) (tree_at f new) (λ at l. tree_same f old new at grows l) places are.within
@@ -88,7 +90,7 @@ nodes_kept f old new places ds grows are = record {
 
 -- all that a printer has left stands in a table after it has grown
 pub laid_out_kept : {N : Type 0} (f : N → Tree) (old new : List (Cell N)) (p : Printer N) (places : Places)
-    → Grows f old new → IsLaidOut f old p places → IsLaidOut f new p places
+    → CellsGrow f old new → IsInTable f old p places → IsInTable f new p places
 laid_out_kept f old new p places grows laid = record {
   commands = commands_kept f old new places.commands.items (tasks_of f p) grows laid.commands;
   queue = nodes_kept f old new places.queue.items (step.trees f p.queue.nodes.items) grows laid.queue;

@@ -1,7 +1,8 @@
 -- Tables: which documents stand where in their cells.
 use Rattle.std.specs.Prelude.{◌≡◌, ℕ, ◌-◌, ◌<◌, ◌≤◌, Bool, true, false, List, [], ◌∷◌, Option, Some, None, length, get_or, ⊤}
 use Rattle.std.specs.Coded.{×_prop, Unit-prop, le_prop}
-use Rattle.prettyless_model.specs.Tree.{Tree, Nil, Append, LineSuffix, Nest, DedentToRoot, Align, Flatten, BreakOrFlat, Group, Union, PartialUnion, OnColumn, OnNesting}
+use Rattle.prettyless_model.specs.Tree.{Tree, Nil, Append, LineSuffix, Nest, DedentToRoot, Align, Flatten, BreakOrFlat, Group, Union}
+use Rattle.prettyless_model.specs.Tree.{PartialUnion, OnColumn, OnNesting}
 use Rattle.prettyless_model.specs.Tree as t
 use Rattle.prettyless_model.specs.declared.mode.Mode.TheVariants.{Break, Flat}
 use Rattle.prettyless_table.specs.declared.sums.Counts.{Counts}
@@ -16,18 +17,18 @@ root_tree f (Root place n) = Some (f n)
 root_tree f (Sums a b second flat broken) = None
 
 -- the documents of cells
-abbrev pub trees : {N : Type 0} → (N → Tree) → List (Cell N) → List (Option Tree)
-trees f [] = []
-trees f (c ∷ cs) = root_tree f c ∷ trees f cs
+abbrev pub cell_trees : {N : Type 0} → (N → Tree) → List (Cell N) → List (Option Tree)
+cell_trees f [] = []
+cell_trees f (c ∷ cs) = root_tree f c ∷ cell_trees f cs
 
 -- a tree, if there is one
-abbrev pub tree_of : Option Tree → Tree
-tree_of (Some d) = d
-tree_of None = Nil
+abbrev pub tree_or_nil : Option Tree → Tree
+tree_or_nil (Some d) = d
+tree_or_nil None = Nil
 
 -- the document of the cell at a place
 abbrev pub tree_at : {N : Type 0} → (N → Tree) → List (Cell N) → ℕ → Tree
-tree_at f cells i = tree_of (get_or (trees f cells) i None)
+tree_at f cells i = tree_or_nil (get_or (cell_trees f cells) i None)
 
 -- a cell is for a document
 abbrev pub HasRoot : {N : Type 0} → Cell N → Type 0
@@ -72,7 +73,8 @@ Unless false P = P
 -- A document stands at a place of a table: it is small, or its summaries are in the cell there. Its first part, or only one, stands
 -- at the place before it, or at the same place, and the second one where the cell says.
 abbrev pub In : {N : Type 0} → List (Cell N) → Tree → ℕ → Type 0
-In cells (Append l r) at = Unless (small (Append l r)) (HasCell cells at (Append l r) × (In cells l (at - 1) × In cells r (second_at cells at)))
+In cells (Append l r) at = Unless (small (Append l r))
+    (HasCell cells at (Append l r) × (In cells l (at - 1) × In cells r (second_at cells at)))
 In cells (LineSuffix d) at = Unless (small (LineSuffix d)) (HasCell cells at (LineSuffix d) × In cells d (at - 1))
 In cells (Nest k d) at = Unless (small (Nest k d)) (HasCell cells at (Nest k d) × In cells d at)
 In cells (DedentToRoot d) at = Unless (small (DedentToRoot d)) (HasCell cells at (DedentToRoot d) × In cells d at)
@@ -81,7 +83,8 @@ In cells (Flatten d) at = Unless (small (Flatten d)) (HasCell cells at (Flatten 
 In cells (BreakOrFlat l r) at =
     Unless (small (BreakOrFlat l r)) (HasCell cells at (BreakOrFlat l r) × (In cells l (at - 1) × In cells r (second_at cells at)))
 In cells (Group d) at = Unless (small (Group d)) (HasCell cells at (Group d) × In cells d at)
-In cells (Union l r) at = Unless (small (Union l r)) (HasCell cells at (Union l r) × (In cells l (at - 1) × In cells r (second_at cells at)))
+In cells (Union l r) at = Unless (small (Union l r))
+    (HasCell cells at (Union l r) × (In cells l (at - 1) × In cells r (second_at cells at)))
 In cells (PartialUnion l r) at =
     Unless (small (PartialUnion l r)) (HasCell cells at (PartialUnion l r) × (In cells l (at - 1) × In cells r (second_at cells at)))
 In cells (OnColumn test l r) at =
@@ -96,8 +99,8 @@ IsPlaced f cells (Root place n) = In cells (f n) place
 IsPlaced f cells (Sums a b second flat broken) = ⊤
 
 -- each document that was laid out does
-abbrev pub IsSound : {N : Type 0} → (N → Tree) → List (Cell N) → Type 0
-IsSound {N} f cells = (i : ℕ) (c : Cell N) → i < length cells → IsPlaced f cells (get_or cells i c)
+abbrev pub CellsAreSound : {N : Type 0} → (N → Tree) → List (Cell N) → Type 0
+CellsAreSound {N} f cells = (i : ℕ) (c : Cell N) → i < length cells → IsPlaced f cells (get_or cells i c)
 
 KeepsBoth-prop : {N : Type 0} (c : Cell N) (d : Tree) → IsProp (KeepsBoth c d)
 KeepsBoth-prop (Sums a b second flat broken) d = ×_prop (Keeps-prop a flat d Flat) (Keeps-prop b broken d Break)
@@ -149,7 +152,7 @@ In-prop cells t.WeakLine at = Unit-prop
 In-prop cells t.ExpandParent at = Unit-prop
 
 -- cells were added: earlier ones are the same, and all documents stand where their cells say if they did
-pub record Grows {N : Type 0} (f : N → Tree) (old new : List (Cell N)) : Type 0 where
+pub record CellsGrow {N : Type 0} (f : N → Tree) (old new : List (Cell N)) : Type 0 where
   pub longer : length old ≤ length new
   pub same : (i : ℕ) (c : Cell N) → i < length old → get_or new i c ≡ get_or old i c
-  pub sound : IsSound f old → IsSound f new
+  pub sound : CellsAreSound f old → CellsAreSound f new

@@ -1,6 +1,7 @@
 -- Nodes and their parts: the documents that a node has below it.
-use Rattle.std.specs.Prelude.{◌≡◌, ℤ, Bool, true, false, ◌&&◌, List, [], ◌∷◌}
-use Rattle.prettyless_model.specs.Tree.{Tree, Append, LineSuffix, Nest, DedentToRoot, Align, Flatten, BreakOrFlat, Group, Union, PartialUnion, OnColumn, OnNesting}
+use Rattle.std.specs.Prelude.{◌≡◌, ℤ, Bool, true, false, ◌&&◌, if◌then◌else◌, List, [], ◌∷◌}
+use Rattle.prettyless_model.specs.Tree.{Tree, Append, LineSuffix, Nest, DedentToRoot, Align, Flatten, BreakOrFlat, Group, Union}
+use Rattle.prettyless_model.specs.Tree.{PartialUnion, OnColumn, OnNesting}
 use Rattle.prettyless_summary.specs.Summary.{HasSums}
 use Rattle.prettyless_table.specs.declared.kind.Single.{Single}
 use Rattle.prettyless_table.specs.declared.kind.Single.TheVariants as one
@@ -77,3 +78,15 @@ shares (DedentToRoot d) = true
 shares (Align d) = true
 shares (Group d) = true
 shares _ = false
+
+-- whether a node is small and has parts: one above it that would share its cell takes one
+abbrev pub lone : Tree → Bool
+lone d = if none (parts_of d) then false else small d
+
+-- whether a node takes a cell: it is not small, and does not share that of its part
+abbrev pub takes : Tree → Bool
+takes (Nest k d) = lone d
+takes (DedentToRoot d) = lone d
+takes (Align d) = lone d
+takes (Group d) = lone d
+takes d = if small d then false else true

@@ -26,7 +26,7 @@ pub record AreNodes {N : Type 0} (f : N → Tree) (cells : List (Cell N)) (place
   pub trees : trees (tree_at f cells) places ≡ ds
 
 -- All that a printer has left stands in a table.
-pub record IsLaidOut {N : Type 0} (f : N → Tree) (cells : List (Cell N)) (p : Printer N) (places : Places) : Type 0 where
+pub record IsInTable {N : Type 0} (f : N → Tree) (cells : List (Cell N)) (p : Printer N) (places : Places) : Type 0 where
   pub commands : AreCommands f cells places.commands.items (tasks_of f p)
   pub queue : AreNodes f cells places.queue.items (trees f p.queue.nodes.items)
 

@@ -17,14 +17,14 @@ use Rattle.prettyless_table.specs.declared.sums.Counts.{Counts}
 use Rattle.prettyless_table.specs.declared.sums.Sums.{Sums}
 
 -- the summary of a document in a mode, if it is known; it is where the document has one and is not too large
-pub record SumsUp (s : Option Summary) (d : Tree) (m : Mode) : Type 0 where
+pub record IsModeSummary (s : Option Summary) (d : Tree) (m : Mode) : Type 0 where
   pub known : IsKnown s d m
   pub found : HasSums d → size d < 2 ^ 32 → IsFound (size d) s
 
 -- the summaries of a document in both modes
-pub record AreSums (s : Sums) (d : Tree) : Type 0 where
-  pub flat : SumsUp s.flat d Flat
-  pub broken : SumsUp s.broken d Break
+pub record AreDocumentSums (s : Sums) (d : Tree) : Type 0 where
+  pub flat : IsModeSummary s.flat d Flat
+  pub broken : IsModeSummary s.broken d Break
 
 -- the only summary that has these marks and numbers
 abbrev pub IsOnly : ℕ → Counts → Summary → Type 0

@@ -2,7 +2,7 @@
 ghost use Rattle.std.specs.Prelude.{◌≡◌};
 ghost use Rattle.prettyless_model.specs.Tree.{Tree};
 ghost use Rattle.prettyless_table.specs.Cells.{KeepsBoth, second_of};
-ghost use Rattle.prettyless_table.specs.Sums.{SumsUp};
+ghost use Rattle.prettyless_table.specs.Sums.{IsModeSummary};
 
 use crate::sums::{Counts, kept};
 use prettyless_model::mode::Mode;
@@ -28,7 +28,7 @@ impl<N: Walk> Cell<N> {
     /// The summary in a mode that the cell keeps.
     #[inline(always)]
     pub fn summary(&self, mode: Mode) -> Option<Summary>
-        ensures { (d : Tree) → KeepsBoth self.now d → SumsUp result d mode }
+        ensures { (d : Tree) → KeepsBoth self.now d → IsModeSummary result d mode }
     {
         match self {
             Cell::Sums {

@@ -1,12 +1,13 @@
-//! How many nodes documents have: counted before they are laid out, so that none is laid out in vain.
-ghost use Rattle.std.specs.Prelude.{◌≡◌, ◌+◌, ◌<◌, ◌≤◌, IfOk, MatchOption, if◌then◌else◌};
+//! How many nodes documents have, and which of them take cells: counted and listed before cells are made, so that none is made in vain.
+ghost use Rattle.std.specs.Prelude.{◌≡◌, ◌+◌, ◌<◌, ◌≤◌, ◌++◌, List, IfOk, IfSome, OnOk, MatchOption, if◌then◌else◌};
 ghost use Rattle.std.specs.List.{sum_by};
-ghost use Rattle.prettyless_model.specs.Tree.{size};
-ghost use Rattle.prettyless_step.specs.Stack.{nodes, stack_of};
+ghost use Rattle.prettyless_model.specs.Tree.{Tree, size};
+ghost use Rattle.prettyless_step.specs.Stack.{nodes, stack_of, trees};
+ghost use Rattle.prettyless_table.specs.Owners.{all_owners, documents_left, owners_of, task_trees, waiting_owners, with_own};
 ghost use Rattle.prettyless_table.specs.Parts.{small};
 ghost use Rattle.prettyless_table.specs.Shift.{nodes_left};
 
-use crate::parts::{Parts, is_leaf, parts_below};
+use crate::parts::{Parts, is_leaf, parts_below, takes_cell};
 use prettyless_step::printer::Printer;
 use prettyless_step::stack::Stack;
 use prettyless_step::walk::Walk;
@@ -25,22 +26,38 @@ fn count_small<N: Walk>(node: &N) -> usize
     }
 }
 
-// Counts nodes from one downwards, to its first part where it has two; the second one then waits, unless it is small. The answer is
-// how much room is left, and `None` where there is none for all of them.
+// Lists a node, if it takes a cell.
+#[inline(always)]
+fn list_own<N: Walk>(node: N, owners: &mut Vec<N>) -> Result<(), AllocError>
+    ensures { OnOk result ((rest : List Tree) → trees N.tree owners.new.items ++ rest
+        ≡ trees N.tree owners.old.items ++ with_own (N.tree node) rest) }
+{
+    if takes_cell(&node) {
+        owners.push(node)?;
+    }
+    Ok(())
+}
+
+// Counts nodes from one downwards, to its first part where it has two; the second one then waits, unless it is small. Nodes that take
+// cells are listed. The answer is how much room is left, and `None` where there is none for all of them.
 fn count_down<N: Walk>(
     node: N,
     room: usize,
+    owners: &mut Vec<N>,
     waiting: &mut Vec<N>,
 ) -> Result<Option<usize>, AllocError>
-    ensures { IfOk result (λ o. MatchOption o
+    ensures counted { IfOk result (λ o. MatchOption o
         (room < sum_by (λ n. size (N.tree n)) waiting.old.items + size (N.tree node))
         (λ left. (left + size (N.tree node) + sum_by (λ n. size (N.tree n)) waiting.old.items
         ≡ room + sum_by (λ n. size (N.tree n)) waiting.new.items) × (left < room))) }
+    ensures listed { IfOk result (λ o. IfSome o (λ _. trees N.tree owners.new.items ++ waiting_owners N.tree waiting.new.items
+        ≡ trees N.tree owners.old.items ++ (owners_of (N.tree node) ++ waiting_owners N.tree waiting.old.items))) }
 {
     let mut next = node;
     let mut left = room;
     'down: while left > 0 {
         left -= 1;
+        list_own(next, owners)?;
         match parts_below(&next) {
             Parts::None => return Ok(Some(left)),
             Parts::One(inner) => next = inner,
@@ -60,21 +77,25 @@ fn count_down<N: Walk>(
     Ok(None)
 }
 
-// Counts the nodes of a document. The answer is how much room is left, and `None` where there is none for all of them.
+// Counts the nodes of a document, and lists those that take cells. The answer is how much room is left, and `None` where there is none
+// for all of them.
 fn count_one<N: Walk>(
     root: N,
     room: usize,
+    owners: &mut Vec<N>,
     waiting: &mut Vec<N>,
 ) -> Result<Option<usize>, AllocError>
-    ensures { IfOk result (λ o. MatchOption o
+    ensures counted { IfOk result (λ o. MatchOption o
         (room < size (N.tree root))
         (λ left. left + size (N.tree root) ≡ room)) }
+    ensures listed { IfOk result (λ o. IfSome o (λ _. trees N.tree owners.new.items
+        ≡ trees N.tree owners.old.items ++ owners_of (N.tree root))) }
 {
     waiting.clear();
     waiting.push(root)?;
     let mut left = room;
     'waiting: while let Some(next) = waiting.pop() {
-        match count_down(next, left, waiting)? {
+        match count_down(next, left, owners, waiting)? {
             Some(less) => left = less,
             None => return Ok(None),
         }
@@ -86,16 +107,19 @@ fn count_one<N: Walk>(
 fn count_commands<N: Walk>(
     commands: &Stack<N>,
     room: usize,
+    owners: &mut Vec<N>,
     waiting: &mut Vec<N>,
 ) -> Result<Option<usize>, AllocError>
-    ensures { IfOk result (λ o. MatchOption o
+    ensures counted { IfOk result (λ o. MatchOption o
         (room < nodes (stack_of N.tree commands.now))
         (λ left. left + nodes (stack_of N.tree commands.now) ≡ room)) }
+    ensures listed { IfOk result (λ o. IfSome o (λ _. trees N.tree owners.new.items
+        ≡ trees N.tree owners.old.items ++ all_owners (task_trees (stack_of N.tree commands.now)))) }
 {
     let mut left = room;
     let mut below = commands.cursor();
     'commands: while let Some(command) = commands.read_down(&mut below) {
-        match count_one(command.node, left, waiting)? {
+        match count_one(command.node, left, owners, waiting)? {
             Some(less) => left = less,
             None => return Ok(None),
         }
@@ -107,16 +131,19 @@ fn count_commands<N: Walk>(
 fn count_roots<N: Walk>(
     roots: &[N],
     room: usize,
+    owners: &mut Vec<N>,
     waiting: &mut Vec<N>,
 ) -> Result<Option<usize>, AllocError>
-    ensures { IfOk result (λ o. MatchOption o
+    ensures counted { IfOk result (λ o. MatchOption o
         (room < sum_by (λ n. size (N.tree n)) roots.now)
         (λ left. left + sum_by (λ n. size (N.tree n)) roots.now ≡ room)) }
+    ensures listed { IfOk result (λ o. IfSome o (λ _. trees N.tree owners.new.items
+        ≡ trees N.tree owners.old.items ++ all_owners (trees N.tree roots.now))) }
 {
     let mut left = room;
     let mut k = 0;
     'roots: while k < roots.len() {
-        match count_one(roots[k], left, waiting)? {
+        match count_one(roots[k], left, owners, waiting)? {
             Some(less) => left = less,
             None => return Ok(None),
         }
@@ -125,34 +152,45 @@ fn count_roots<N: Walk>(
     Ok(Some(left))
 }
 
-/// How many nodes a document has. `None` is answered where there are more than `most`.
-pub fn count<N: Walk>(alloc: Global, root: N, most: usize) -> Result<Option<usize>, AllocError>
-    ensures { IfOk result (λ o. MatchOption o
+/// How many nodes a document has; those that take cells are listed after `owners`. `None` is answered where there are more than `most`.
+pub fn count<N: Walk>(
+    alloc: Global,
+    root: N,
+    owners: &mut Vec<N>,
+    most: usize,
+) -> Result<Option<usize>, AllocError>
+    ensures counted { IfOk result (λ o. MatchOption o
         (most < size (N.tree root))
         (λ n. (n ≡ size (N.tree root)) × (n ≤ most))) }
+    ensures listed { IfOk result (λ o. IfSome o (λ _. trees N.tree owners.new.items
+        ≡ trees N.tree owners.old.items ++ owners_of (N.tree root))) }
 {
     let mut waiting = Vec::new(alloc);
-    let Some(left) = count_one(root, most, &mut waiting)? else {
+    let Some(left) = count_one(root, most, owners, &mut waiting)? else {
         return Ok(None);
     };
     Ok(Some(most - left))
 }
 
-/// How many nodes a printer has left, in its commands and its queue. `None` is answered where there are more than `most`.
+/// How many nodes a printer has left, in its commands and its queue; those that take cells are listed after `owners`. `None` is answered
+/// where there are more than `most`.
 pub fn count_left<N: Walk>(
     alloc: Global,
     printer: &Printer<N>,
+    owners: &mut Vec<N>,
     most: usize,
 ) -> Result<Option<usize>, AllocError>
-    ensures { IfOk result (λ o. MatchOption o
+    ensures counted { IfOk result (λ o. MatchOption o
         (most < nodes_left N.tree printer.now)
         (λ n. (n ≡ nodes_left N.tree printer.now) × (n ≤ most))) }
+    ensures listed { IfOk result (λ o. IfSome o (λ _. trees N.tree owners.new.items
+        ≡ trees N.tree owners.old.items ++ all_owners (documents_left N.tree printer.now))) }
 {
     let mut waiting = Vec::new(alloc);
-    let Some(room) = count_commands(&printer.commands, most, &mut waiting)? else {
+    let Some(room) = count_commands(&printer.commands, most, owners, &mut waiting)? else {
         return Ok(None);
     };
-    let Some(left) = count_roots(printer.queue.all(), room, &mut waiting)? else {
+    let Some(left) = count_roots(printer.queue.all(), room, owners, &mut waiting)? else {
         return Ok(None);
     };
     Ok(Some(most - left))

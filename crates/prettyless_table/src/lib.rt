@@ -17,4 +17,4 @@ mod table;
 pub use counting::{count, count_left};
 pub use placed::Placed;
 pub use shift::{Places, lay_out_all, placed_printer};
-pub use table::Table;
+pub use table::{MOST_CELLS, Table};

@@ -1,6 +1,6 @@
 //! The parts of a node, and which documents are so small that they take no cell.
 ghost use Rattle.std.specs.Prelude.{◌≡◌};
-ghost use Rattle.prettyless_table.specs.Parts.{IsShape, none, part_trees, parts_of, small};
+ghost use Rattle.prettyless_table.specs.Parts.{IsShape, none, part_trees, parts_of, small, takes};
 
 use crate::kind::{Pair, Single};
 use prettyless_step::walk::{View, Walk};
@@ -88,5 +88,19 @@ pub fn is_small<N: Walk>(node: &N) -> bool
         Parts::None => true,
         Parts::One(inner) => is_leaf(&inner),
         Parts::Two(first, second) => is_leaf(&first) && is_leaf(&second),
+    }
+}
+
+/// Whether a node takes a cell: it is not small, and does not share that of its part.
+#[inline(always)]
+pub fn takes_cell<N: Walk>(node: &N) -> bool
+    ensures { result ≡ takes (N.tree node.now) }
+{
+    match node.view() {
+        View::Nest(_, inner)
+        | View::DedentToRoot(inner)
+        | View::Align(inner)
+        | View::Group(inner) => { !is_leaf(&inner) && is_small(&inner) }
+        _ => !is_small(node),
     }
 }

@@ -1,6 +1,6 @@
 //! A node of a table, as a printer walks it.
 ghost use Rattle.std.specs.Prelude.{◌≡◌, ◌-◌, ◌<◌, length, true, ⊤};
-ghost use Rattle.prettyless_table.specs.Cells.{In, In-prop, IsRoot, IsSound, tree_at, second_at};
+ghost use Rattle.prettyless_table.specs.Cells.{In, In-prop, IsRoot, CellsAreSound, tree_at, second_at};
 
 use crate::table::Table;
 use prettyless_model::mode::Mode;
@@ -37,7 +37,7 @@ impl<N: Walk> Table<N> {
     #[inline(always)]
     pub fn node(&self, at: u32) -> Placed<'_, N>
         requires within { IsRoot self.now.cells.items at }
-        requires sound { IsSound N.tree self.now.cells.items }
+        requires sound { CellsAreSound N.tree self.now.cells.items }
         ensures { N.tree result.node ≡ tree_at N.tree self.now.cells.items at }
     {
         let (node, place) = self.root(at);

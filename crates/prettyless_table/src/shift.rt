@@ -1,11 +1,12 @@
 //! The shift: what a printer has left is laid out in a table, and a printer over the table goes on from where the first one stands.
-ghost use Rattle.std.specs.Prelude.{◌≡◌, ◌+◌, ◌<◌, ◌≤◌, [], length, map, min, IfOk, IfSome, MatchOption, true};
-ghost use Rattle.prettyless_step.specs.Stack.{nodes, stack_of, task, trees};
-ghost use Rattle.std.specs.List.{All, sum_by};
-ghost use Rattle.prettyless_model.specs.Tree.{size};
+ghost use Rattle.std.specs.Prelude.{◌≡◌, ◌+◌, ◌≤◌, ◌++◌, List, length, map, IfOk, true};
+ghost use Rattle.std.specs.List.{All};
+ghost use Rattle.prettyless_model.specs.Tree.{Tree};
+ghost use Rattle.prettyless_step.specs.Stack.{stack_of, task, trees};
 ghost use Rattle.prettyless_step.specs.Sums.{IsSummed};
-ghost use Rattle.prettyless_table.specs.Cells.{Grows, IsRoot, IsSound, tree_at};
-ghost use Rattle.prettyless_table.specs.Shift.{AreCommands, AreNodes, IsLaidOut, IsShifted, nodes_left};
+ghost use Rattle.prettyless_table.specs.Cells.{CellsGrow, IsRoot, CellsAreSound, tree_at};
+ghost use Rattle.prettyless_table.specs.Owners.{Stand, documents_left, task_trees};
+ghost use Rattle.prettyless_table.specs.Shift.{AreCommands, AreNodes, IsInTable, IsShifted};
 
 use crate::placed::Placed;
 use crate::table::{MOST_CELLS, Table};
@@ -23,86 +24,86 @@ pub struct Places {
     queue: Vec<u32>,
 }
 
-// Lays out commands, and answers their places, the next one first. `None` is answered where there is no room.
+// Adds commands to a table, and answers their places, the next one first.
 fn lay_out_commands<N: Walk>(
     alloc: Global,
     commands: &Stack<N>,
     table: &mut Table<N>,
-    most: usize,
-) -> Result<Option<Vec<Command<u32>>>, AllocError>
-    requires sound { IsSound N.tree table.old.cells.items }
-    ensures grows { Grows N.tree table.old.cells.items table.new.cells.items }
-    ensures laid { IfOk result (λ o. MatchOption o
-        (min most MOST_CELLS < length table.old.cells.items + nodes (stack_of N.tree commands.now))
-        (λ places. AreCommands N.tree table.new.cells.items places.items (stack_of N.tree commands.now))) }
-    ensures count { IfOk result (λ o. IfSome o (λ _. length table.new.cells.items
-        ≤ length table.old.cells.items + nodes (stack_of N.tree commands.now))) }
+    standing: &mut Vec<u32>,
+) -> Result<Vec<Command<u32>>, AllocError>
+    requires sound { CellsAreSound N.tree table.old.cells.items }
+    requires room { length table.old.cells.items + length (stack_of N.tree commands.now) ≤ MOST_CELLS }
+    requires stand { (later : List Tree)
+        × Stand table.old.cells.items (task_trees (stack_of N.tree commands.now) ++ later) standing.old.items }
+    ensures grows { CellsGrow N.tree table.old.cells.items table.new.cells.items }
+    ensures laid { IfOk result (λ places. AreCommands N.tree table.new.cells.items places.items (stack_of N.tree commands.now)) }
+    ensures count { IfOk result (λ _. length table.new.cells.items
+        ≡ length table.old.cells.items + length (stack_of N.tree commands.now)) }
+    ensures later { IfOk result (λ _. (later : List Tree)
+        → Stand table.old.cells.items (task_trees (stack_of N.tree commands.now) ++ later) standing.old.items
+        → Stand table.new.cells.items later standing.new.items) }
 {
     let mut places = Vec::new(alloc);
     let mut below = commands.cursor();
     'commands: while let Some(command) = commands.read_down(&mut below) {
-        let Some(node) = table.lay_out(command.node, most)? else {
-            return Ok(None);
-        };
+        let node = table.add(command.node, standing)?;
         places.push(Command {
             indent: command.indent,
             mode: command.mode,
             node,
         })?;
     }
-    Ok(Some(places))
+    Ok(places)
 }
 
-// Lays out nodes, and answers their places, in the same order. `None` is answered where there is no room.
+// Adds documents to a table, and answers their places, in the same order.
 fn lay_out_nodes<N: Walk>(
     alloc: Global,
     roots: &[N],
     table: &mut Table<N>,
-    most: usize,
-) -> Result<Option<Vec<u32>>, AllocError>
-    requires sound { IsSound N.tree table.old.cells.items }
-    ensures grows { Grows N.tree table.old.cells.items table.new.cells.items }
-    ensures laid { IfOk result (λ o. MatchOption o
-        (min most MOST_CELLS < length table.old.cells.items + sum_by (λ n. size (N.tree n)) roots.now)
-        (λ places. AreNodes N.tree table.new.cells.items places.items (trees N.tree roots.now))) }
-    ensures count { IfOk result (λ o. IfSome o (λ _. length table.new.cells.items
-        ≤ length table.old.cells.items + sum_by (λ n. size (N.tree n)) roots.now)) }
+    standing: &mut Vec<u32>,
+) -> Result<Vec<u32>, AllocError>
+    requires sound { CellsAreSound N.tree table.old.cells.items }
+    requires room { length table.old.cells.items + length roots.now ≤ MOST_CELLS }
+    requires stand { (later : List Tree) × Stand table.old.cells.items (trees N.tree roots.now ++ later) standing.old.items }
+    ensures grows { CellsGrow N.tree table.old.cells.items table.new.cells.items }
+    ensures laid { IfOk result (λ places. AreNodes N.tree table.new.cells.items places.items (trees N.tree roots.now)) }
+    ensures count { IfOk result (λ _. length table.new.cells.items ≡ length table.old.cells.items + length roots.now) }
+    ensures later { IfOk result (λ _. (later : List Tree)
+        → Stand table.old.cells.items (trees N.tree roots.now ++ later) standing.old.items
+        → Stand table.new.cells.items later standing.new.items) }
 {
     let mut places = Vec::new(alloc);
     let mut k = 0;
     'roots: while k < roots.len() {
-        let Some(place) = table.lay_out(roots[k], most)? else {
-            return Ok(None);
-        };
-        places.push(place)?;
+        places.push(table.add(roots[k], standing)?)?;
         k += 1;
     }
-    Ok(Some(places))
+    Ok(places)
 }
 
-/// Lays out all that a printer has left, and answers where it stands.
-///
-/// `None` is answered where the table would have more cells than `most`, or than a table can have.
+/// Adds all that a printer has left to a table that has the cells of its nodes, and answers where it stands.
 pub fn lay_out_all<N: Walk>(
     alloc: Global,
     printer: &Printer<N>,
     table: &mut Table<N>,
-    most: usize,
-) -> Result<Option<Places>, AllocError>
-    requires sound { IsSound N.tree table.old.cells.items }
-    ensures sound { IsSound N.tree table.new.cells.items }
-    ensures grows { Grows N.tree table.old.cells.items table.new.cells.items }
-    ensures laid { IfOk result (λ o. MatchOption o
-        (min most MOST_CELLS < length table.old.cells.items + nodes_left N.tree printer.now)
-        (λ places. IsLaidOut N.tree table.new.cells.items printer.now places)) }
+    standing: &mut Vec<u32>,
+) -> Result<Places, AllocError>
+    requires sound { CellsAreSound N.tree table.old.cells.items }
+    requires room { length table.old.cells.items + length (documents_left N.tree printer.now) ≤ MOST_CELLS }
+    requires stand { (later : List Tree) × Stand table.old.cells.items (documents_left N.tree printer.now ++ later) standing.old.items }
+    ensures sound { CellsAreSound N.tree table.new.cells.items }
+    ensures grows { CellsGrow N.tree table.old.cells.items table.new.cells.items }
+    ensures laid { IfOk result (λ places. IsInTable N.tree table.new.cells.items printer.now places) }
+    ensures count { IfOk result (λ _. length table.new.cells.items
+        ≡ length table.old.cells.items + length (documents_left N.tree printer.now)) }
+    ensures later { IfOk result (λ _. (later : List Tree)
+        → Stand table.old.cells.items (documents_left N.tree printer.now ++ later) standing.old.items
+        → Stand table.new.cells.items later standing.new.items) }
 {
-    let Some(commands) = lay_out_commands(alloc, &printer.commands, table, most)? else {
-        return Ok(None);
-    };
-    let Some(queue) = lay_out_nodes(alloc, printer.queue.all(), table, most)? else {
-        return Ok(None);
-    };
-    Ok(Some(Places { commands, queue }))
+    let commands = lay_out_commands(alloc, &printer.commands, table, standing)?;
+    let queue = lay_out_nodes(alloc, printer.queue.all(), table, standing)?;
+    Ok(Places { commands, queue })
 }
 
 // The commands at places of a table, the next one first, as a stack.
@@ -111,7 +112,7 @@ fn placed_commands<'t, N: Walk>(
     table: &'t Table<N>,
     places: &[Command<u32>],
 ) -> Result<Stack<Placed<'t, N>>, AllocError>
-    requires sound { IsSound N.tree table.now.cells.items }
+    requires sound { CellsAreSound N.tree table.now.cells.items }
     requires within { All (λ c. IsRoot table.now.cells.items c.node) places.now }
     ensures tasks { IfOk result (λ s. stack_of ⟦<Placed<'t, N> as Walk>⟧.tree s
         ≡ map (task (tree_at N.tree table.now.cells.items)) places.now) }
@@ -134,7 +135,7 @@ fn placed_queue<'t, N: Walk>(
     places: &[u32],
     queue: &Queue<N>,
 ) -> Result<Queue<Placed<'t, N>>, AllocError>
-    requires sound { IsSound N.tree table.now.cells.items }
+    requires sound { CellsAreSound N.tree table.now.cells.items }
     requires nodes { AreNodes N.tree table.now.cells.items places.now (trees N.tree queue.now.nodes.items) }
     ensures nodes { IfOk result (λ q. trees ⟦<Placed<'t, N> as Walk>⟧.tree q.nodes.items ≡ trees N.tree queue.now.nodes.items) }
     ensures start { IfOk result (λ q. q.start ≡ queue.now.start) }
@@ -156,8 +157,8 @@ pub fn placed_printer<'t, N: Walk>(
     table: &'t Table<N>,
     places: &Places,
 ) -> Result<Printer<Placed<'t, N>>, AllocError>
-    requires sound { IsSound N.tree table.now.cells.items }
-    requires laid { IsLaidOut N.tree table.now.cells.items printer.now places.now }
+    requires sound { CellsAreSound N.tree table.now.cells.items }
+    requires laid { IsInTable N.tree table.now.cells.items printer.now places.now }
     ensures shifted { IfOk result (λ p. IsShifted N.tree ⟦<Placed<'t, N> as Walk>⟧.tree printer.now p) }
 {
     Ok(Printer {

@@ -4,9 +4,9 @@ ghost use Rattle.prettyless_model.specs.Tree.{Tree};
 ghost use Rattle.prettyless_model.specs.Look.{Answers, by_mode};
 ghost use Rattle.prettyless_model.specs.declared.mode.Mode.{Mode};
 ghost use Rattle.prettyless_model.specs.declared.mode.Mode.TheVariants.{Break, Flat};
-ghost use Rattle.prettyless_summary.specs.Summary.{IsSmall, Reads, Summarizes};
+ghost use Rattle.prettyless_summary.specs.Summary.{IsSmall, ReadsLook, Summarizes};
 ghost use Rattle.prettyless_table.specs.Parts.{pair_tree, parts_of, single_tree, small};
-ghost use Rattle.prettyless_table.specs.Sums.{AreSums, Keeps, SumsUp};
+ghost use Rattle.prettyless_table.specs.Sums.{AreDocumentSums, Keeps, IsModeSummary};
 
 use crate::kind::{Pair, Single};
 use crate::parts::{Shape, shape_of};
@@ -36,7 +36,7 @@ pub const NOT_KNOWN: u8 = 255;
 /// The marks and the numbers of a summary, if it is known.
 #[inline(always)]
 pub fn packed(sum: Option<Summary>) -> (u8, Counts)
-    ensures { (d : Tree) (m : Mode) → SumsUp sum d m → Keeps result.0 result.1 d m }
+    ensures { (d : Tree) (m : Mode) → IsModeSummary sum d m → Keeps result.0 result.1 d m }
 {
     match sum {
         Some(sum) => {
@@ -61,7 +61,7 @@ pub fn packed(sum: Option<Summary>) -> (u8, Counts)
 // The summary of these marks and numbers, if it is known.
 #[inline(always)]
 fn unpacked(marks: u8, counts: Counts) -> Option<Summary>
-    ensures { (d : Tree) (m : Mode) → Keeps marks counts d m → SumsUp result d m }
+    ensures { (d : Tree) (m : Mode) → Keeps marks counts d m → IsModeSummary result d m }
 {
     if marks == NOT_KNOWN {
         return None;
@@ -78,7 +78,7 @@ pub fn kept(
     broken_marks: u8,
     broken: Counts,
 ) -> Option<Summary>
-    ensures { (d : Tree) → Keeps flat_marks flat d Flat → Keeps broken_marks broken d Break → SumsUp result d mode }
+    ensures { (d : Tree) → Keeps flat_marks flat d Flat → Keeps broken_marks broken d Break → IsModeSummary result d mode }
 {
     match mode {
         Mode::Flat => unpacked(flat_marks, flat),
@@ -91,7 +91,7 @@ pub fn kept(
 fn unless_flat(mode: Mode, broken: Summary) -> Summary
     requires { IsSmall 1 broken }
     ensures broken { mode ≡ Break → result ≡ broken }
-    ensures flat { mode ≡ Flat → Reads result (λ width c p. Answers false) }
+    ensures flat { mode ≡ Flat → ReadsLook result (λ width c p. Answers false) }
     ensures small { IsSmall 1 result }
 {
     match mode {
@@ -124,7 +124,7 @@ pub fn leaf_summary<N: Walk>(node: &N, mode: Mode) -> Summary
 #[inline(always)]
 pub fn leaf_sums<N: Walk>(node: &N) -> Sums
     requires { [] ≡ parts_of (N.tree node.now) }
-    ensures { AreSums result (N.tree node.now) }
+    ensures { AreDocumentSums result (N.tree node.now) }
 {
     Sums {
         flat: Some(leaf_summary(node, Mode::Flat)),
@@ -135,7 +135,7 @@ pub fn leaf_sums<N: Walk>(node: &N) -> Sums
 /// The summary in a mode, of those of a node.
 #[inline(always)]
 pub fn in_mode(sums: Sums, mode: Mode) -> Option<Summary>
-    ensures { (d : Tree) → AreSums sums d → SumsUp result d mode }
+    ensures { (d : Tree) → AreDocumentSums sums d → IsModeSummary result d mode }
 {
     match mode {
         Mode::Flat => sums.flat,
@@ -146,7 +146,7 @@ pub fn in_mode(sums: Sums, mode: Mode) -> Option<Summary>
 /// The summaries of a node with one part.
 #[inline(always)]
 pub fn of_single(kind: Single, inner: Sums) -> Sums
-    ensures { (k : ℤ) (d : Tree) → AreSums inner d → AreSums result (single_tree kind k d) }
+    ensures { (k : ℤ) (d : Tree) → AreDocumentSums inner d → AreDocumentSums result (single_tree kind k d) }
 {
     match kind {
         Single::LineSuffix => {
@@ -167,7 +167,7 @@ pub fn of_single(kind: Single, inner: Sums) -> Sums
 /// The summaries of a node with two parts.
 #[inline(always)]
 pub fn of_pair(kind: Pair, first: Sums, second: Sums) -> Sums
-    ensures { (d e : Tree) → AreSums first d → AreSums second e → AreSums result (pair_tree kind d e) }
+    ensures { (d e : Tree) → AreDocumentSums first d → AreDocumentSums second e → AreDocumentSums result (pair_tree kind d e) }
 {
     match kind {
         Pair::Append => Sums {
@@ -195,7 +195,7 @@ pub const NO_SUMS: Sums = Sums {
 #[inline(always)]
 pub fn small_sums<N: Walk>(node: &N) -> Sums
     requires { small (N.tree node.now) ≡ true }
-    ensures { AreSums result (N.tree node.now) }
+    ensures { AreDocumentSums result (N.tree node.now) }
 {
     match shape_of(node) {
         Shape::Leaf => leaf_sums(node),

@@ -1,99 +1,73 @@
 //! The table, and how a document is laid out in it.
-ghost use Rattle.std.specs.Prelude.{◌≡◌, []};
-ghost use Rattle.prettyless_table.specs.Laying.{FirstIs};
-ghost use Rattle.prettyless_table.specs.Parts.{parts_of, shares};
+ghost use Rattle.std.specs.Prelude.{◌≡◌, ◌∷◌, [], List, drop, get_or, reverse};
+ghost use Rattle.prettyless_model.specs.Tree.{Tree};
+ghost use Rattle.prettyless_table.specs.Cells.{In};
+ghost use Rattle.prettyless_table.specs.Owners.{Stand};
+ghost use Rattle.prettyless_table.specs.Parts.{parts_of};
 
 use crate::cell::Cell;
 use crate::parts::{Parts, Shape, is_small, parts_below, shape_of};
 use crate::sums::{NO_SUMS, Sums, in_mode, leaf_sums, of_pair, of_single, packed, small_sums};
 use prettyless_model::mode::Mode;
-use prettyless_step::walk::{View, Walk};
+use prettyless_step::walk::Walk;
 use prettyless_summary::summary::Summary;
 use std::alloc::{AllocError, Global};
 
 /// How many cells a table has at most: the place of each fits 32 bits, and so does the number after it.
 pub const MOST_CELLS: usize = 4_294_967_294;
 
-/// Memory for fewer nodes that wait is not worth giving back.
-const FEW: usize = 1024;
-
-// The first part of a node, which has one.
+// Takes the last of these places.
 #[inline(always)]
-fn first_below<N: Walk>(node: &N) -> N
-    requires { ([] ≡ parts_of (N.tree node.now)) → ⊥ }
-    ensures { FirstIs (N.tree result) (parts_of (N.tree node.now)) }
+fn take_place(standing: &mut Vec<u32>) -> u32
+    ensures taken { result ≡ get_or (reverse standing.old.items) 0 0 }
+    ensures left { reverse standing.new.items ≡ drop 1 (reverse standing.old.items) }
 {
-    match parts_below(node) {
-        Parts::None => unreachable!(),
-        Parts::One(first) | Parts::Two(first, _) => first,
-    }
+    standing.pop().unwrap_or(0)
 }
 
-// Whether a node has the place of its part, if that is not small.
+// Where a document stands: at the last of these places, which is taken; but a small one has none.
 #[inline(always)]
-fn shares_place<N: Walk>(node: &N) -> bool
-    ensures { result ≡ shares (N.tree node.now) }
+fn place_of<N: Walk>(root: &N, standing: &mut Vec<u32>) -> u32
+    ensures { (cells : List (Cell N)) (later : List Tree) → Stand cells (N.tree root.now ∷ later) standing.old.items
+        → In cells (N.tree root.now) result × Stand cells later standing.new.items }
 {
-    match node.view() {
-        View::Nest(_, _) | View::DedentToRoot(_) | View::Align(_) | View::Group(_) => true,
-        _ => false,
+    if is_small(root) {
+        return 0;
     }
-}
-
-/// A node whose parts are being laid out.
-#[derive(Drop)]
-pub enum Waiting<N> {
-    /// Its second part is laid out now.
-    Second(N),
-    /// Its first part, or only one, is laid out now. The second one is at this place.
-    First(u32, N),
-}
-
-// Gives memory back where a list has become much shorter than it was.
-#[inline(always)]
-fn give_back<T>(list: &mut Vec<T>)
-    ensures { list.new.items ≡ list.old.items }
-{
-    let quarter = list.capacity() / 4;
-    if quarter > FEW && list.len() < quarter {
-        list.shrink_to(quarter * 2);
-    }
+    take_place(standing)
 }
 
 /// Documents laid out in cells, each after the cells of its parts.
 #[derive(Drop)]
 pub struct Table<N> {
     pub(crate) cells: Vec<Cell<N>>,
-    waiting: Vec<Waiting<N>>,
 }
 
 impl<N: Walk> Table<N> {
-    ghost use Rattle.std.specs.Prelude.{ℕ, ◌+◌, ◌-◌, ◌≤◌, ◌<◌, ◌++◌, ◌∷◌, length, min, IfOk, IfSome, OnOk, MatchOption, IsTrue, IsFalse};
-    ghost use Rattle.prettyless_model.specs.Tree.{Tree, size};
-    ghost use Rattle.prettyless_table.specs.Sums.{AreSums, SumsUp};
-    ghost use Rattle.prettyless_table.specs.Cells.{Grows, In, IsPlaced, IsRoot, IsSound, KeepsBoth, second_at, second_of, tree_at, trees};
-    ghost use Rattle.prettyless_table.specs.Laying.{FirstIn, HasAt, IsLast, IsNext, SecondIn, owed, owed_by};
+    ghost use Rattle.std.specs.Prelude.{◌+◌, ◌-◌, ◌≤◌, ◌<◌, ◌++◌, length, map, IfOk};
+    ghost use Rattle.prettyless_table.specs.Sums.{AreDocumentSums, IsModeSummary};
+    ghost use Rattle.prettyless_table.specs.Cells.{CellsGrow, IsRoot, CellsAreSound, KeepsBoth, second_at, second_of, tree_at, cell_trees};
+    ghost use Rattle.prettyless_table.specs.Laying.{FirstIn, HasAt, SecondIn};
+    ghost use Rattle.prettyless_table.specs.Owners.{AreFound, WaitsInTable, all_owners, keepers};
 
     /// A table without documents. It takes no memory.
     pub fn new(alloc: Global) -> Self
         ensures empty { result.cells.items ≡ [] }
-        ensures sound { IsSound N.tree result.cells.items }
+        ensures sound { CellsAreSound N.tree result.cells.items }
     {
         Table {
             cells: Vec::new(alloc),
-            waiting: Vec::new(alloc),
         }
     }
 
     /// A table without documents, with memory for so many nodes.
     pub fn with_room(alloc: Global, nodes: usize) -> Result<Self, AllocError>
         ensures empty { IfOk result (λ t. t.cells.items ≡ []) }
-        ensures sound { IfOk result (λ t. IsSound N.tree t.cells.items) }
+        ensures sound { IfOk result (λ t. CellsAreSound N.tree t.cells.items) }
         ensures room { IfOk result (λ t. nodes ≤ t.cells.cap) }
     {
         Ok(Table {
             cells: Vec::with_capacity(alloc, nodes)?,
-            waiting: Vec::new(alloc),
         })
     }
 
@@ -107,7 +81,7 @@ impl<N: Walk> Table<N> {
     /// Takes all documents out, and keeps the memory.
     pub fn clear(&mut self)
         ensures empty { self.new.cells.items ≡ [] }
-        ensures sound { IsSound N.tree self.new.cells.items }
+        ensures sound { CellsAreSound N.tree self.new.cells.items }
     {
         self.cells.clear();
     }
@@ -116,7 +90,7 @@ impl<N: Walk> Table<N> {
     #[inline(always)]
     pub(crate) fn root(&self, at: u32) -> (N, u32)
         requires within { IsRoot self.now.cells.items at }
-        requires sound { IsSound N.tree self.now.cells.items }
+        requires sound { CellsAreSound N.tree self.now.cells.items }
         ensures tree { N.tree result.0 ≡ tree_at N.tree self.now.cells.items at }
         ensures stands { In self.now.cells.items (N.tree result.0) result.1 }
     {
@@ -141,7 +115,7 @@ impl<N: Walk> Table<N> {
     #[inline(always)]
     pub(crate) fn summary(&self, node: &N, at: u32, mode: Mode) -> Option<Summary>
         requires { In self.now.cells.items (N.tree node.now) at }
-        ensures { SumsUp result (N.tree node.now) mode }
+        ensures { IsModeSummary result (N.tree node.now) mode }
     {
         if is_small(node) {
             return in_mode(small_sums(node), mode);
@@ -153,7 +127,7 @@ impl<N: Walk> Table<N> {
     #[inline(always)]
     fn sums(&self, node: &N, at: u32) -> Sums
         requires { In self.now.cells.items (N.tree node.now) at }
-        ensures { AreSums result (N.tree node.now) }
+        ensures { AreDocumentSums result (N.tree node.now) }
     {
         if is_small(node) {
             return small_sums(node);
@@ -203,110 +177,71 @@ impl<N: Walk> Table<N> {
         }
     }
 
-    // Adds a cell, unless there are as many already as there may be.
-    fn add(&mut self, cell: Cell<N>, most: usize) -> Result<bool, AllocError>
-        requires placed { IsPlaced N.tree self.old.cells.items cell }
-        ensures grows { Grows N.tree self.old.cells.items self.new.cells.items }
-        ensures waiting { self.new.waiting ≡ self.old.waiting }
-        ensures added { IfOk result (λ b. IsTrue b
-            → (self.new.cells.items ≡ self.old.cells.items ++ cell ∷ []) × (length self.old.cells.items < most)) }
-        ensures full { IfOk result (λ b. IsFalse b → (self.new ≡ self.old) × (most ≤ length self.old.cells.items)) }
+    // The place of the second part of a node, whose parts stand in the table. Of documents that wait in the table the last one has the
+    // last cell, and `standing` has the places of all others. Where the node has none of them below it, the last one goes on waiting.
+    #[inline(always)]
+    fn second_place(&self, node: &N, standing: &mut Vec<u32>) -> Result<u32, AllocError>
+        requires { length self.now.cells.items ≤ MOST_CELLS }
+        ensures { IfOk result (λ second. (ds : List Tree)
+            → WaitsInTable self.now.cells.items (keepers (parts_of (N.tree node.now)) ++ ds) (reverse standing.old.items)
+            → AreFound self.now.cells.items (parts_of (N.tree node.now)) second ds (reverse standing.new.items)) }
     {
-        let at = self.cells.len();
-        if at >= most {
-            return Ok(false);
-        }
-        self.cells.push(cell)?;
-        Ok(true)
-    }
-
-    // Goes down from a node, to its second part where it has two, to a small one.
-    fn go_down(&mut self, node: N) -> Result<(), AllocError>
-        ensures cells { self.new.cells ≡ self.old.cells }
-        ensures lays { OnOk result ((d : Tree) (total : ℕ) → IsNext N.tree self.old.cells.items self.old.waiting.items d total node
-            → IsLast N.tree self.new.cells.items self.new.waiting.items d total) }
-        ensures owed { OnOk result (owed N.tree self.new.waiting.items + 1 ≤ owed N.tree self.old.waiting.items + size (N.tree node)) }
-    {
-        let mut next = node;
-        'down: loop {
-            if is_small(&next) {
-                return Ok(());
-            }
-            match parts_below(&next) {
-                Parts::None => return Ok(()),
-                Parts::One(inner) => {
-                    if !shares_place(&next) || is_small(&inner) {
-                        self.waiting.push(Waiting::First(0, next))?;
-                    }
-                    next = inner;
-                }
-                Parts::Two(_, second) => {
-                    self.waiting.push(Waiting::Second(next))?;
-                    next = second;
+        match parts_below(node) {
+            Parts::None => {}
+            Parts::One(inner) => {
+                if !is_small(&inner) {
+                    return Ok(0);
                 }
             }
+            Parts::Two(first, second) => match (is_small(&first), is_small(&second)) {
+                (true, true) => {}
+                (true, false) => return Ok(self.last()),
+                (false, true) => return Ok(0),
+                (false, false) => return Ok(take_place(standing)),
+            },
         }
+        standing.push(self.last())?;
+        Ok(0)
     }
 
-    // Goes on after the last part that was laid out, for which this node waits.
-    fn come_up(&mut self, next: Waiting<N>, most: usize) -> Result<bool, AllocError>
-        requires most { most ≤ MOST_CELLS }
-        requires below { length self.old.cells.items ≤ most }
-        requires waits { (d : Tree) × ((total : ℕ)
-            × IsLast N.tree self.old.cells.items (self.old.waiting.items ++ next ∷ []) d total) }
-        ensures grows { Grows N.tree self.old.cells.items self.new.cells.items }
-        ensures below { IfOk result (λ _. length self.new.cells.items ≤ most) }
-        ensures lays { IfOk result (λ b. IsTrue b → (d : Tree) (total : ℕ)
-            → IsLast N.tree self.old.cells.items (self.old.waiting.items ++ next ∷ []) d total
-            → IsLast N.tree self.new.cells.items self.new.waiting.items d total) }
-        ensures full { IfOk result (λ b. IsFalse b → (d : Tree) (total : ℕ)
-            → IsLast N.tree self.old.cells.items (self.old.waiting.items ++ next ∷ []) d total → most < total) }
-        ensures owed { IfOk result (λ _. owed N.tree self.new.waiting.items < owed N.tree self.old.waiting.items + owed_by N.tree next) }
+    /// Adds the cells of listed nodes, those of the last document first. The answer is where the documents stand that are not small,
+    /// the first one last.
+    pub fn fill(&mut self, alloc: Global, owners: Vec<N>) -> Result<Vec<u32>, AllocError>
+        requires room { length self.old.cells.items + length owners.items ≤ MOST_CELLS }
+        requires listed { (ds : List Tree) × (map N.tree owners.items ≡ all_owners ds) }
+        ensures grows { CellsGrow N.tree self.old.cells.items self.new.cells.items }
+        ensures count { IfOk result (λ _. length self.new.cells.items ≡ length self.old.cells.items + length owners.items) }
+        ensures stand { IfOk result (λ places. (ds : List Tree) → map N.tree owners.items ≡ all_owners ds
+            → Stand self.new.cells.items ds places.items) }
     {
-        match next {
-            Waiting::Second(node) => {
-                let first = first_below(&node);
-                let last = self.last();
-                self.waiting.push(Waiting::First(last, node))?;
-                self.go_down(first)?;
-                Ok(true)
-            }
-            Waiting::First(second, node) => {
-                let cell = self.cell_of(&node, second);
-                self.add(cell, most)
-            }
+        let mut standing = Vec::new(alloc);
+        let mut k = owners.len();
+        'owners: while k > 0 {
+            k -= 1;
+            let node = owners[k];
+            let second = self.second_place(&node, &mut standing)?;
+            let cell = self.cell_of(&node, second);
+            self.cells.push(cell)?;
         }
+        standing.push(self.last())?;
+        Ok(standing)
     }
 
-    /// Lays out a document, and answers the place of its node, the last one.
-    ///
-    /// `None` is answered where there would be more cells than `most`, or than the table can have.
-    pub fn lay_out(&mut self, root: N, most: usize) -> Result<Option<u32>, AllocError>
-        requires { IsSound N.tree self.old.cells.items }
-        ensures sound { IsSound N.tree self.new.cells.items }
-        ensures grows { Grows N.tree self.old.cells.items self.new.cells.items }
-        ensures laid { IfOk result (λ o. MatchOption o
-            (min most MOST_CELLS < length self.old.cells.items + size (N.tree root))
-            (λ at. HasAt (trees N.tree self.new.cells.items) at (N.tree root))) }
-        ensures count { IfOk result (λ o. IfSome o (λ at. (at + 1 ≡ length self.new.cells.items)
-            × (length self.new.cells.items ≤ length self.old.cells.items + size (N.tree root)))) }
+    /// Adds a document, whose nodes have their cells, and answers its place. Where it stands is the last of these places, unless it is
+    /// small.
+    pub fn add(&mut self, root: N, standing: &mut Vec<u32>) -> Result<u32, AllocError>
+        requires sound { CellsAreSound N.tree self.old.cells.items }
+        requires room { length self.old.cells.items < MOST_CELLS }
+        requires stands { (later : List Tree) × Stand self.old.cells.items (N.tree root ∷ later) standing.old.items }
+        ensures grows { CellsGrow N.tree self.old.cells.items self.new.cells.items }
+        ensures laid { IfOk result (λ at. HasAt (cell_trees N.tree self.new.cells.items) at (N.tree root)) }
+        ensures count { IfOk result (λ _. length self.new.cells.items ≡ length self.old.cells.items + 1) }
+        ensures later { IfOk result (λ _. (later : List Tree)
+            → Stand self.old.cells.items (N.tree root ∷ later) standing.old.items
+            → Stand self.new.cells.items later standing.new.items) }
     {
-        let limit = most.min(MOST_CELLS);
-        if self.cells.len() > limit {
-            return Ok(None);
-        }
-        self.waiting.clear();
-        self.go_down(root)?;
-        'up: while let Some(next) = self.waiting.pop() {
-            give_back(&mut self.waiting);
-            if !self.come_up(next, limit)? {
-                return Ok(None);
-            }
-        }
-        let place = self.last();
-        if !self.add(Cell::Root(place, root), limit)? {
-            return Ok(None);
-        }
-        Ok(Some(self.last()))
+        let place = place_of(&root, standing);
+        self.cells.push(Cell::Root(place, root))?;
+        Ok(self.last())
     }
 }

@@ -1,5 +1,6 @@
 -- `is_ascii` by its bytes.
-use Rattle.std.proofs.Common.{◌≡◌, ℕ, suc, zero, ◌+◌, ◌<◌, ◌≤◌, ◌∙◌, ap, add-one, true, false, List, [], ◌∷◌, length, take, get_or, bit_or, nat_lt, ◌&&◌, sym, refl, inl, inr, arith}
+use Rattle.std.proofs.Common.{◌≡◌, ℕ, suc, zero, ◌+◌, ◌<◌, ◌≤◌, ◌∙◌, ap, add-one, true, false, List, [], ◌∷◌, length, take, get_or, bit_or}
+use Rattle.std.proofs.Common.{nat_lt, ◌&&◌, sym, refl, inl, inr, arith}
 use Rattle.std.proofs.lemmas.Bool.{lt-ltb, le-ltb}
 use Rattle.std.proofs.lemmas.Bool.Decides.{leb_tells}
 use Rattle.std.proofs.lemmas.Nat.{le_or_l, le_or_r, or_lt}

@@ -1,7 +1,9 @@
 -- The metrics of a payload, found a part at a time.
-use Rattle.std.proofs.Common.{◌≡◌, ℕ, suc, ◌∙◌, ap, Bool, true, false, not, List, [], ◌∷◌, length, max, Option, Some, None, cond, sym, refl, arith}
+use Rattle.std.proofs.Common.{◌≡◌, ℕ, suc, ◌∙◌, ap, Bool, true, false, not, List, [], ◌∷◌, length, max, Option, Some, None, cond, sym, refl}
+use Rattle.std.proofs.Common.{arith}
 use Rattle.std.specs.List.{onto_first}
-use Rattle.prettyless_model.specs.Metrics.{is_break, parts, text_width, is_empty, widest, first_of_parts, later_parts, last_of_parts, metrics}
+use Rattle.prettyless_model.specs.Metrics.{is_break, parts, text_width, is_empty, widest, first_of_parts, later_parts, last_of_parts}
+use Rattle.prettyless_model.specs.Metrics.{metrics}
 use Rattle.prettyless_model.specs.declared.metrics.Metrics.{Metrics}
 
 -- how much of a text is left, with the break in front of it
@@ -41,7 +43,8 @@ max-zero a = omega arith
 zero-max : (a : ℕ) → max 0 a ≡ a
 zero-max a = omega arith
 
-measured-all : (first : List ℕ) (rest : ℕ) (p : List ℕ) (ps : List (List ℕ)) → measured (metrics_of first rest p) ps ≡ metrics_of first (max rest (widest ps)) (last_of_parts p ps)
+measured-all : (first : List ℕ) (rest : ℕ) (p : List ℕ) (ps : List (List ℕ)) → measured (metrics_of first rest p) ps ≡ metrics_of first
+    (max rest (widest ps)) (last_of_parts p ps)
 measured-all first rest p [] = ap (λ n. metrics_of first n p) (max-zero rest)
 measured-all first rest p (q ∷ ps) =
     measured-all first (max rest (text_width q)) q ps
@@ -66,7 +69,8 @@ pub record Splits (s : List ℕ) (width : ℕ) (nonempty : Bool) (left : List (L
   pub left_is : later_parts (parts s) ≡ left
 
 -- the first part gives all metrics but those of the later ones
-pub measured-first : (s : List ℕ) (w : ℕ) (b : Bool) (left : List (List ℕ)) → Splits s w b left → measured (record { first_width = w; first_nonempty = b; rest_width = 0; last_width = w; last_nonempty = b }) left ≡ metrics s
+pub measured-first : (s : List ℕ) (w : ℕ) (b : Bool) (left : List (List ℕ)) → Splits s w b left
+    → measured (record { first_width = w; first_nonempty = b; rest_width = 0; last_width = w; last_nonempty = b }) left ≡ metrics s
 measured-first s w b left h =
     let first = first_of_parts (parts s) in
     let later = later_parts (parts s) in
@@ -78,6 +82,14 @@ measured-first s w b left h =
     )
 
 -- a later part
-pub measured-later : (m : Metrics) (s : List ℕ) (r w : ℕ) (b : Bool) (left : List (List ℕ)) → Splits s w b left → r ≡ max m.rest_width w → measured (record { first_width = m.first_width; first_nonempty = m.first_nonempty; rest_width = r; last_width = w; last_nonempty = b }) left ≡ measured m (parts s)
+pub measured-later : (m : Metrics) (s : List ℕ) (r w : ℕ) (b : Bool) (left : List (List ℕ)) → Splits s w b left → r ≡ max m.rest_width w
+    → measured (record {
+      first_width = m.first_width;
+      first_nonempty = m.first_nonempty;
+      rest_width = r;
+      last_width = w;
+      last_nonempty =
+          b;
+    }) left ≡ measured m (parts s)
 measured-later m s r w b left h e =
     rw (e, h.width_is, h.nonempty_is, ← h.left_is) (ap (measured m) (sym (parts-cons s)))

@@ -1,5 +1,6 @@
 -- The parts of a text, by where its first part ends.
-use Rattle.std.proofs.Common.{◌≡◌, ℕ, suc, zero, ◌+◌, ◌<◌, ◌≤◌, ◌∙◌, ap, add-one, true, false, not, List, [], ◌∷◌, length, take, drop, nat_lt, cond, sym, refl, arith}
+use Rattle.std.proofs.Common.{◌≡◌, ℕ, suc, zero, ◌+◌, ◌<◌, ◌≤◌, ◌∙◌, ap, add-one, true, false, not, List, [], ◌∷◌, length, take, drop}
+use Rattle.std.proofs.Common.{nat_lt, cond, sym, refl, arith}
 use Rattle.std.proofs.Math.Nat.{sub-zero}
 use Rattle.std.specs.List.{onto_first, slice_range}
 use Rattle.std.proofs.lemmas.Bool.{lt-ltb}
@@ -21,27 +22,27 @@ parts-cut : (b : ℕ) (s : List ℕ) → is_break b ≡ true → parts (b ∷ s)
 parts-cut b s h = ap (λ t. cond t ([] ∷ parts s) (onto_first b (parts s))) h
 
 -- the parts after a break at n
-abbrev parts_behind : List ℕ → ℕ → List (List ℕ)
-parts_behind [] n = []
-parts_behind (b ∷ s) zero = parts s
-parts_behind (b ∷ s) (suc n) = parts_behind s n
+abbrev parts_after : List ℕ → ℕ → List (List ℕ)
+parts_after [] n = []
+parts_after (b ∷ s) zero = parts s
+parts_after (b ∷ s) (suc n) = parts_after s n
 
-parts-first : (s : List ℕ) (n : ℕ) → EndsFirstPart s n → parts s ≡ take n s ∷ parts_behind s n
+parts-first : (s : List ℕ) (n : ℕ) → EndsFirstPart s n → parts s ≡ take n s ∷ parts_after s n
 parts-first [] zero h = refl
 parts-first [] (suc n) h = refl
 parts-first (b ∷ s) zero h = parts-cut b s (h.found (omega arith))
 parts-first (b ∷ s) (suc n) h =
     parts-plain b s (h.before 0 (omega arith)) ∙ ap (onto_first b) (parts-first s n (EndsFirstPart-tail b s n h))
 
-parts_behind-inside : (s : List ℕ) (n : ℕ) → n < length s → parts_behind s n ≡ parts (drop (suc n) s)
-parts_behind-inside [] n l = absurd (omega arith)
-parts_behind-inside (b ∷ s) zero l = refl
-parts_behind-inside (b ∷ s) (suc n) l = parts_behind-inside s n (omega arith)
+parts_after-inside : (s : List ℕ) (n : ℕ) → n < length s → parts_after s n ≡ parts (drop (suc n) s)
+parts_after-inside [] n l = absurd (omega arith)
+parts_after-inside (b ∷ s) zero l = refl
+parts_after-inside (b ∷ s) (suc n) l = parts_after-inside s n (omega arith)
 
-parts_behind-end : (s : List ℕ) (n : ℕ) → length s ≤ n → parts_behind s n ≡ []
-parts_behind-end [] n l = refl
-parts_behind-end (b ∷ s) zero l = absurd (omega arith)
-parts_behind-end (b ∷ s) (suc n) l = parts_behind-end s n (omega arith)
+parts_after-end : (s : List ℕ) (n : ℕ) → length s ≤ n → parts_after s n ≡ []
+parts_after-end [] n l = refl
+parts_after-end (b ∷ s) zero l = absurd (omega arith)
+parts_after-end (b ∷ s) (suc n) l = parts_after-end s n (omega arith)
 
 is_empty-take : (s : List ℕ) (n : ℕ) → n ≤ length s → nat_lt 0 n ≡ not (is_empty (take n s))
 is_empty-take s zero l = refl
@@ -60,10 +61,10 @@ first-nonempty s n h = is_empty-take s n h.within ∙ ap (λ t. not (is_empty t)
 
 pub later-inside : (s : List ℕ) (n : ℕ) → EndsFirstPart s n → n < length s → later_parts (parts s) ≡ parts (drop (n + 1) s)
 later-inside s n h l =
-    ap later_parts (parts-first s n h) ∙ parts_behind-inside s n l ∙ ap (λ k. parts (drop k s)) (sym (add-one n))
+    ap later_parts (parts-first s n h) ∙ parts_after-inside s n l ∙ ap (λ k. parts (drop k s)) (sym (add-one n))
 
 pub later-end : (s : List ℕ) (n : ℕ) → EndsFirstPart s n → length s ≤ n → later_parts (parts s) ≡ []
-later-end s n h l = ap later_parts (parts-first s n h) ∙ parts_behind-end s n l
+later-end s n h l = ap later_parts (parts-first s n h) ∙ parts_after-end s n l
 
 -- a break is ASCII
 pub break-ascii : (b : ℕ) → is_break b ≡ true → b < 128

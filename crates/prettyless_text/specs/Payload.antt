@@ -20,8 +20,8 @@ abbrev pub payload_bytes : MultilineTextData → List ℕ
 payload_bytes p = source_bytes p.source
 
 -- the payload has memory of its own
-abbrev pub is_owned : MultilineTextData → Bool
-is_owned p = is_owned_source p.source
+abbrev pub is_owned_payload : MultilineTextData → Bool
+is_owned_payload p = is_owned_source p.source
 
 -- P, if the payload has no memory of its own
 abbrev pub IfBorrowed : MultilineTextData → Type 0 → Type 0

@@ -7,10 +7,10 @@ use Rattle.prettyless_text.specs.declared.text.Text.{Text}
 use Rattle.prettyless_text.specs.declared.text.Text.TheVariants.{Owned, Borrowed, Small}
 
 -- the bytes of a text, wherever they are
-abbrev pub bytes_of : Text → List ℕ
-bytes_of (Owned s) = boxed_str_bytes s.value
-bytes_of (Borrowed s) = s.now
-bytes_of (Small s) = s.bytes
+abbrev pub bytes_of_text : Text → List ℕ
+bytes_of_text (Owned s) = boxed_str_bytes s.value
+bytes_of_text (Borrowed s) = s.now
+bytes_of_text (Small s) = s.bytes
 
 -- the text has memory of its own
 abbrev pub is_owned : Text → Bool

@@ -2,7 +2,7 @@
 ghost use Rattle.std.specs.Prelude.{◌≡◌, ◌++◌, Err, IfErr, IfOk, IfSome, IsErr, IsOk, MatchResult, OnOk, ⊤};
 ghost use Rattle.std.specs.Result.{ForOk};
 ghost use Rattle.std.specs.String.{string_bytes};
-ghost use Rattle.prettyless_text.specs.TextBytes.{bytes_of, IsSmallIfItFits};
+ghost use Rattle.prettyless_text.specs.TextBytes.{bytes_of_text, IsSmallIfItFits};
 ghost use Rattle.prettyless_text.specs.Printed.{printed_bytes, bytes_so_far, IsPrinted};
 ghost use Rattle.prettyless_text.specs.BuildErrors.{IsMemory};
 ghost use Rattle.prettyless_text.specs.declared.text.BuildError.TheVariants.{Display, Memory};
@@ -42,7 +42,7 @@ impl Printed {
 
     fn into_text<'a>(self, alloc: Global) -> Result<Text<'a>, BuildError>
         requires { IsPrinted self }
-        ensures bytes { IfOk result (λ t. bytes_of t ≡ printed_bytes self) }
+        ensures bytes { IfOk result (λ t. bytes_of_text t ≡ printed_bytes self) }
         ensures small { IfOk result IsSmallIfItFits }
         ensures err { IfErr result IsMemory }
     {
@@ -101,7 +101,7 @@ impl Printer {
         ensures display { IsOk self.text → IsErr outcome → result ≡ Err Display }
         ensures text { IsOk self.text → IsOk outcome → IfErr result IsMemory }
         ensures ended { IfOk result (λ _. IsOk outcome) }
-        ensures bytes { IfOk result (λ t. bytes_of t ≡ bytes_so_far self.text) }
+        ensures bytes { IfOk result (λ t. bytes_of_text t ≡ bytes_so_far self.text) }
         ensures small { IfOk result IsSmallIfItFits }
     {
         let text = self.text?;
@@ -125,7 +125,7 @@ impl<'a> Text<'a> {
     /// Answers `Memory` where memory was refused, also if the value went on, and `Display` where the value's formatting
     /// failed and no memory was refused.
     pub fn from_display<V: fmt::Display + Drop>(alloc: Global, value: V) -> Result<Self, BuildError>
-        ensures bytes { IfOk result (λ t. IfSome (V.output value) (λ o. bytes_of t ≡ o)) }
+        ensures bytes { IfOk result (λ t. IfSome (V.output value) (λ o. bytes_of_text t ≡ o)) }
         ensures small { IfOk result IsSmallIfItFits }
     {
         let mut printer = Printer {

@@ -32,7 +32,7 @@ pub struct MultilineTextData<'a> {
 
 impl<'a> MultilineTextData<'a> {
     ghost use Rattle.prettyless_text.specs.BuildErrors.{IsMemory};
-    ghost use Rattle.prettyless_text.specs.Payload.{payload_bytes, is_owned, IfBorrowed};
+    ghost use Rattle.prettyless_text.specs.Payload.{payload_bytes, is_owned_payload, IfBorrowed};
 
     /// A payload of this source, which has to hold LF or CR. Only an owned source takes memory, and fails where that is
     /// refused.
@@ -88,7 +88,7 @@ impl<'a> MultilineTextData<'a> {
 
     /// Whether the source has memory of its own.
     pub fn is_owned(&self) -> bool
-        ensures { result ≡ is_owned self.now }
+        ensures { result ≡ is_owned_payload self.now }
     {
         matches!(self.source, Source::Owned(..))
     }
@@ -97,7 +97,7 @@ impl<'a> MultilineTextData<'a> {
     pub fn over<'b>(&self, source: &'b str) -> MultilineTextData<'b>
         requires { source.now ≡ payload_bytes self.now }
         ensures bytes { payload_bytes result ≡ payload_bytes self.now }
-        ensures borrowed { is_owned result ≡ false }
+        ensures borrowed { is_owned_payload result ≡ false }
     {
         MultilineTextData {
             source: Source::Borrowed(self.cached(), source),

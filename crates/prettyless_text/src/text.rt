@@ -1,6 +1,6 @@
 ghost use Rattle.std.specs.Prelude.{◌≡◌, IfOk, IfErr, IsOk, Ok, alloc_error};
 ghost use Rattle.std.specs.Cow.{cow_str_bytes};
-ghost use Rattle.prettyless_text.specs.TextBytes.{bytes_of, IfLent, IfUnowned};
+ghost use Rattle.prettyless_text.specs.TextBytes.{bytes_of_text, IfLent, IfUnowned};
 ghost use Rattle.prettyless_text.specs.BuildErrors.{IsMemory};
 ghost use Rattle.prettyless_text.specs.declared.text.BuildError.TheVariants.{Memory};
 
@@ -65,7 +65,7 @@ impl<'a> Text<'a> {
     /// memory for the pointer to it. Where that is refused, the text is given up, and nothing else changes.
     #[inline(always)]
     pub fn from_cow(alloc: Global, text: CowStr<'a>) -> Result<Self, BuildError>
-        ensures ok { IfOk result (λ t. bytes_of t ≡ cow_str_bytes text.entry) }
+        ensures ok { IfOk result (λ t. bytes_of_text t ≡ cow_str_bytes text.entry) }
         ensures borrowed { IfLent text.entry (IsOk result) }
         ensures err { IfErr result IsMemory }
     {
@@ -78,7 +78,7 @@ impl<'a> Text<'a> {
     /// The text, wherever its bytes are.
     #[inline(always)]
     pub fn as_str(&self) -> &str
-        ensures { result.now ≡ bytes_of self.now }
+        ensures { result.now ≡ bytes_of_text self.now }
     {
         match self {
             Text::Owned(s) => s.as_str(),
@@ -89,7 +89,7 @@ impl<'a> Text<'a> {
 
     /// The same bytes. Only an owned text takes memory for them, and fails where that is refused.
     pub fn clone(&self, alloc: Global) -> Result<Self, BuildError>
-        ensures ok { IfOk result (λ t. bytes_of t ≡ bytes_of self.now) }
+        ensures ok { IfOk result (λ t. bytes_of_text t ≡ bytes_of_text self.now) }
         ensures same { IfUnowned self.now (result ≡ Ok self.now) }
         ensures err { IfErr result IsMemory }
     {

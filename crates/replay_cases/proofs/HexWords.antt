@@ -1,5 +1,6 @@
 -- The words of texts.
-use Rattle.std.proofs.Common.{◌≡◌, ◌≢◌, ℕ, zero, suc, ◌+◌, ◌/◌, ◌<◌, true, List, [], ◌∷◌, ◌++◌, length, Result, Ok, Err, refl, sym, ap, subst, ◌∙◌, inl, inr, arith}
+use Rattle.std.proofs.Common.{◌≡◌, ◌≢◌, ℕ, zero, suc, ◌+◌, ◌/◌, ◌<◌, true, List, [], ◌∷◌, ◌++◌, length, Result, Ok, Err, refl, sym, ap}
+use Rattle.std.proofs.Common.{subst, ◌∙◌, inl, inr, arith}
 use Rattle.std.specs.Prelude.{codes}
 use Rattle.std.specs.Str.{IsUtf8}
 use Rattle.std.proofs.lemmas.Bool.{and_parts, cases_lt, lt-ltb, le-ltb}
@@ -43,7 +44,8 @@ char_bytes c lt =
         | inl b ↦ rw (lt-ltb c 2048 b) (two (192 + c / 64) c (omega arith))
         | inr b ↦ rw (le-ltb c 2048 b) (elim (cases_lt c 65536) [
           | inl d ↦ rw (lt-ltb c 65536 d) (three (224 + c / 4096) (c / 64) c (omega arith))
-          | inr d ↦ rw (le-ltb c 65536 d) (one_more (240 + c / 262144) (next (c / 4096) ∷ next (c / 64) ∷ next c ∷ []) (omega arith) (three (next (c / 4096)) (c / 64) c (next_small (c / 4096))))
+          | inr d ↦ rw (le-ltb c 65536 d) (one_more (240 + c / 262144) (next (c / 4096) ∷ next (c / 64) ∷ next c ∷ []) (omega arith)
+              (three (next (c / 4096)) (c / 64) c (next_small (c / 4096))))
         ])
       ])
     ]

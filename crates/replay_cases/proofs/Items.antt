@@ -1,12 +1,12 @@
 -- What is on top of the operands.
 use Rattle.std.proofs.Common.{◌≡◌, ◌<◌, List, [], ◌∷◌, ◌++◌, length, length-append, refl, ap, arith}
 use Rattle.std.proofs.lemmas.List.{nil_from_length}
-use Rattle.replay_cases.specs.Reading.{Item, item_of, items_of}
+use Rattle.replay_cases.specs.Reading.{OperandItem, item_of, items_of}
 use Rattle.replay_cases.specs.declared.operand.Operand.{Operand}
 
 pub items_of_push : (os : List Operand) (o : Operand) → items_of (os ++ o ∷ []) ≡ item_of o ∷ items_of os
 items_of_push [] o = refl
-items_of_push (p ∷ os) o = ap (λ (x : List Item). x ++ item_of p ∷ []) (items_of_push os o)
+items_of_push (p ∷ os) o = ap (λ (x : List OperandItem). x ++ item_of p ∷ []) (items_of_push os o)
 
 length-items_of : (os : List Operand) → length (items_of os) ≡ length os
 length-items_of [] = refl

@@ -1,5 +1,6 @@
 -- The first line of some bytes, and the answers to the lines after it.
-use Rattle.std.proofs.Common.{◌≡◌, ◌≢◌, ℕ, ◌+◌, Bool, true, false, cond, eqb, List, [], ◌∷◌, ◌++◌, refl, sym, ap, subst, ◌∙◌, inl, inr, append_assoc, append-nil, arith}
+use Rattle.std.proofs.Common.{◌≡◌, ◌≢◌, ℕ, ◌+◌, Bool, true, false, cond, eqb, List, [], ◌∷◌, ◌++◌, refl, sym, ap, subst, ◌∙◌, inl, inr}
+use Rattle.std.proofs.Common.{append_assoc, append-nil, arith}
 use Rattle.std.specs.Prelude.{Option, None, Some, IfSome}
 use Rattle.std.specs.Io.BufRead.{take_through, drop_through, DropsThrough}
 use Rattle.std.specs.List.{onto_first}
@@ -16,8 +17,10 @@ tails x y xs ys e = (cc, cc)
 -- ---- a line that ends
 
 -- the tests of both definitions at one byte
-ended : (x : ℕ) (xs p : List ℕ) (b : Bool) → (b ≡ false → x ≢ 10) → ((q : List ℕ) → take_through 10 xs ≡ q ++ 10 ∷ [] → lines_of xs ≡ q ∷ lines_of (drop_through 10 xs))
-    → cond b (x ∷ []) (x ∷ take_through 10 xs) ≡ p ++ 10 ∷ [] → cond b ([] ∷ lines_of xs) (onto_first x (lines_of xs)) ≡ p ∷ lines_of (cond b xs (drop_through 10 xs))
+ended : (x : ℕ) (xs p : List ℕ) (b : Bool) → (b ≡ false → x ≢ 10)
+    → ((q : List ℕ) → take_through 10 xs ≡ q ++ 10 ∷ [] → lines_of xs ≡ q ∷ lines_of (drop_through 10 xs))
+    → cond b (x ∷ []) (x ∷ take_through 10 xs) ≡ p ++ 10 ∷ [] → cond b ([] ∷ lines_of xs) (onto_first x (lines_of xs)) ≡ p ∷ lines_of
+    (cond b xs (drop_through 10 xs))
 ended x xs [] true other rest e = refl
 ended x xs (y ∷ p) true other rest e = absurd (no_end p (tails x y [] (p ++ 10 ∷ []) e).1)
   where
@@ -48,8 +51,10 @@ HasNoEnd bytes = (front : List ℕ) → take_through 10 bytes ≢ front ++ 10 �
 abbrev IsLast : List ℕ → Type 0
 IsLast bytes = (lines_of bytes ≡ take_through 10 bytes ∷ []) × (drop_through 10 bytes ≡ [])
 
-unended : (x : ℕ) (xs : List ℕ) (b : Bool) → (b ≡ true → x ≡ 10) → (HasNoEnd xs → IsLast xs) → ((front : List ℕ) → cond b (x ∷ []) (x ∷ take_through 10 xs) ≢ front ++ 10 ∷ [])
-    → (cond b ([] ∷ lines_of xs) (onto_first x (lines_of xs)) ≡ cond b (x ∷ []) (x ∷ take_through 10 xs) ∷ []) × (cond b xs (drop_through 10 xs) ≡ [])
+unended : (x : ℕ) (xs : List ℕ) (b : Bool) → (b ≡ true → x ≡ 10) → (HasNoEnd xs → IsLast xs)
+    → ((front : List ℕ) → cond b (x ∷ []) (x ∷ take_through 10 xs) ≢ front ++ 10 ∷ [])
+    → (cond b ([] ∷ lines_of xs) (onto_first x (lines_of xs)) ≡ cond b (x ∷ []) (x ∷ take_through 10 xs) ∷ [])
+    × (cond b xs (drop_through 10 xs) ≡ [])
 unended x xs true same rest none = absurd (none [] (ap (λ (y : ℕ). y ∷ []) (same refl)))
 unended x xs false same rest none =
     let last = rest (λ front e. none (x ∷ front) (ap (λ (y : List ℕ). x ∷ y) e)) in
@@ -73,7 +78,8 @@ no_answers n bytes e = subst (λ (x : List ℕ). AreAnswers n (lines_of x) []) (
 end_answers : (n : ℕ) (more : List ℕ) → AreAnswers n (lines_of []) more → more ≡ []
 end_answers n more (first, others, e, is, none) = e ∙ ap (λ (x : List ℕ). x ++ others) is ∙ none
 
-pub answers_go_on : (n : ℕ) (bytes line rest first more : List ℕ) → BeginsWithLine bytes line rest → AnswerLine (n + 1) line first → AreAnswers (n + 1) (lines_of rest) more → AreAnswers n (lines_of bytes) (first ++ more)
+pub answers_go_on : (n : ℕ) (bytes line rest first more : List ℕ) → BeginsWithLine bytes line rest → AnswerLine (n + 1) line first
+    → AreAnswers (n + 1) (lines_of rest) more → AreAnswers n (lines_of bytes) (first ++ more)
 answers_go_on n bytes line rest first more (inl e) is others = rw e (first, more, refl, is, others)
 answers_go_on n bytes line rest first more (inr last) is others =
     rw last.0 (first, more, refl, is, end_answers (n + 1) more (subst (λ (x : List ℕ). AreAnswers (n + 1) (lines_of x) more) last.1 others))
@@ -89,12 +95,14 @@ some_answers n (line ∷ lines) =
 -- ---- what a reader whose bytes are known has read
 
 -- a line that ends was read up to its line feed, which is taken off
-pub reads_ended : (known left : Option (List ℕ)) (read line : List ℕ) → IfSome known (λ bytes. read ≡ take_through 10 bytes) → DropsThrough known left 10 → read ≡ line ++ 10 ∷ [] → IfSome known (λ bytes. ReadsLine true bytes line left)
+pub reads_ended : (known left : Option (List ℕ)) (read line : List ℕ) → IfSome known (λ bytes. read ≡ take_through 10 bytes)
+    → DropsThrough known left 10 → read ≡ line ++ 10 ∷ [] → IfSome known (λ bytes. ReadsLine true bytes line left)
 reads_ended None left read line h d e = tt
 reads_ended (Some bytes) left read line h d e = (drop_through 10 bytes, d, ended_line bytes line (sym h ∙ e))
 
 -- the last line was read, where it doesn't end
-pub reads_last : (known left : Option (List ℕ)) (read : List ℕ) → IfSome known (λ bytes. read ≡ take_through 10 bytes) → DropsThrough known left 10 → ((front : List ℕ) → read ≢ front ++ 10 ∷ []) → IfSome known (λ bytes. ReadsLine true bytes read left)
+pub reads_last : (known left : Option (List ℕ)) (read : List ℕ) → IfSome known (λ bytes. read ≡ take_through 10 bytes)
+    → DropsThrough known left 10 → ((front : List ℕ) → read ≢ front ++ 10 ∷ []) → IfSome known (λ bytes. ReadsLine true bytes read left)
 reads_last None left read h d none = tt
 reads_last (Some bytes) left read h d none =
     let last = last_line bytes (λ front e. none front (h ∙ e)) in
@@ -104,7 +112,8 @@ reads_last (Some bytes) left read h d none =
 abbrev pub AnswersSoFar : Option (List ℕ) → ℕ → Option (List ℕ) → List ℕ → List ℕ → Type 0
 AnswersSoFar None n left old new = Unit {0}
 AnswersSoFar (Some bytes) n left old new =
-    (rest : List ℕ) × (written : List ℕ) × (left ≡ Some rest) × (new ≡ old ++ written) × ((more : List ℕ) → AreAnswers n (lines_of rest) more → AreAnswers 0 (lines_of bytes) (written ++ more))
+    (rest : List ℕ) × (written : List ℕ) × (left ≡ Some rest) × (new ≡ old ++ written)
+    × ((more : List ℕ) → AreAnswers n (lines_of rest) more → AreAnswers 0 (lines_of bytes) (written ++ more))
 
 pub answers_start : (known : Option (List ℕ)) (old : List ℕ) → AnswersSoFar known 0 known old old
 answers_start None old = tt
@@ -113,10 +122,13 @@ answers_start (Some bytes) old = (bytes, [], refl, sym (append-nil old), λ more
 if_some : (P : List ℕ → Type 0) (known : Option (List ℕ)) (bytes : List ℕ) → known ≡ Some bytes → IfSome known P → P bytes
 if_some P known bytes e h = subst (λ (o : Option (List ℕ)). IfSome o P) e h
 
-line_read : (left after : Option (List ℕ)) (rest line : List ℕ) (found : Bool) → found ≡ true → left ≡ Some rest → IfSome left (λ bytes. ReadsLine found bytes line after) → ReadsLine true rest line after
-line_read left after rest line found f e r = if_some (λ x. ReadsLine true x line after) left rest e (subst (λ (b : Bool). IfSome left (λ x. ReadsLine b x line after)) f r)
+line_read : (left after : Option (List ℕ)) (rest line : List ℕ) (found : Bool) → found ≡ true → left ≡ Some rest
+    → IfSome left (λ bytes. ReadsLine found bytes line after) → ReadsLine true rest line after
+line_read left after rest line found f e r = if_some (λ x. ReadsLine true x line after) left rest e
+    (subst (λ (b : Bool). IfSome left (λ x. ReadsLine b x line after)) f r)
 
-pub answers_one_more : (known : Option (List ℕ)) (n : ℕ) (left after : Option (List ℕ)) (old mid new line first : List ℕ) (found : Bool) → found ≡ true → AnswersSoFar known n left old mid → IfSome left (λ bytes. ReadsLine found bytes line after)
+pub answers_one_more : (known : Option (List ℕ)) (n : ℕ) (left after : Option (List ℕ)) (old mid new line first : List ℕ) (found : Bool)
+    → found ≡ true → AnswersSoFar known n left old mid → IfSome left (λ bytes. ReadsLine found bytes line after)
     → AnswerLine (n + 1) line first → new ≡ mid ++ first → AnswersSoFar known (n + 1) after old new
 answers_one_more None n left after old mid new line first found f h r is added = tt
 answers_one_more (Some bytes) n left after old mid new line first found f (rest, written, e, appended, more) r is added =
@@ -125,24 +137,30 @@ answers_one_more (Some bytes) n left after old mid new line first found f (rest,
       written ++ first,
       read.1,
       appended_on old mid new written first appended added,
-      λ others h. subst (AreAnswers 0 (lines_of bytes)) (sym (append_assoc written first others)) (more (first ++ others) (answers_go_on n rest line read.0 first others read.2 is h)),
+      λ others h. subst (AreAnswers 0 (lines_of bytes)) (sym (append_assoc written first others))
+          (more (first ++ others) (answers_go_on n rest line read.0 first others read.2 is h)),
     )
 
-pub answers_end : (known : Option (List ℕ)) (n : ℕ) (left after : Option (List ℕ)) (old new line : List ℕ) (found : Bool) → found ≡ false → AnswersSoFar known n left old new → IfSome left (λ bytes. ReadsLine found bytes line after) → IfSome known (λ bytes. AnswersAll bytes old new)
+pub answers_end : (known : Option (List ℕ)) (n : ℕ) (left after : Option (List ℕ)) (old new line : List ℕ) (found : Bool) → found ≡ false
+    → AnswersSoFar known n left old new → IfSome left (λ bytes. ReadsLine found bytes line after)
+    → IfSome known (λ bytes. AnswersAll bytes old new)
 answers_end None n left after old new line found f h r = tt
 answers_end (Some bytes) n left after old new line found f (rest, written, e, appended, more) r =
-    let none = if_some (λ x. ReadsLine false x line after) left rest e (subst (λ (b : Bool). IfSome left (λ x. ReadsLine b x line after)) f r) in
+    let none = if_some (λ x. ReadsLine false x line after) left rest e
+    (subst (λ (b : Bool). IfSome left (λ x. ReadsLine b x line after)) f r) in
     (written, subst (AreAnswers 0 (lines_of bytes)) (append-nil written) (more [] (no_answers n rest none)), appended)
 
 -- where it stops between two lines, the answers so far are a beginning of those to all
-pub answers_stop : (known : Option (List ℕ)) (n : ℕ) (left : Option (List ℕ)) (old new : List ℕ) → AnswersSoFar known n left old new → IfSome known (λ bytes. BeginsAnswers bytes old new)
+pub answers_stop : (known : Option (List ℕ)) (n : ℕ) (left : Option (List ℕ)) (old new : List ℕ) → AnswersSoFar known n left old new
+    → IfSome known (λ bytes. BeginsAnswers bytes old new)
 answers_stop None n left old new h = tt
 answers_stop (Some bytes) n left old new (rest, written, e, appended, more) =
     let others = some_answers n (lines_of rest) in
     (written ++ others.0, more others.0 others.1, (written, others.0, refl, appended))
 
 -- and so they are with a beginning of the next
-pub answers_break : (known : Option (List ℕ)) (n : ℕ) (left after : Option (List ℕ)) (old mid new line first : List ℕ) (found : Bool) → found ≡ true → AnswersSoFar known n left old mid → IfSome left (λ bytes. ReadsLine found bytes line after)
+pub answers_break : (known : Option (List ℕ)) (n : ℕ) (left after : Option (List ℕ)) (old mid new line first : List ℕ) (found : Bool)
+    → found ≡ true → AnswersSoFar known n left old mid → IfSome left (λ bytes. ReadsLine found bytes line after)
     → AnswerLine (n + 1) line first → AppendsBeginning mid new first → IfSome known (λ bytes. BeginsAnswers bytes old new)
 answers_break None n left after old mid new line first found f h r is begun = tt
 answers_break (Some bytes) n left after old mid new line first found f (rest, written, e, appended, more) r is begun =

@@ -28,7 +28,8 @@ names_others [] = true
 names_others (e ∷ es) = not (is_plain e.0) && names_others es
 
 plain_is_other : (w name : List ℕ) (b : Bool) → (b ≡ true → w ≡ name) → is_plain w ≡ true → not (is_plain name) ≡ true → b ≡ false
-plain_is_other w name true same plain other = let e = subst (λ (x : List ℕ). is_plain x ≡ true) (same refl) plain in absurd (grind (arith, nat_tests))
+plain_is_other w name true same plain other = let e = subst (λ (x : List ℕ). is_plain x ≡ true) (same refl) plain in
+    absurd (grind (arith, nat_tests))
 plain_is_other w name false same plain other = refl
 
 not_named : {A : Type 0} (es : List (List ℕ × A)) (w : List ℕ) → names_others es ≡ true → is_plain w ≡ true → named_in es w ≡ None
@@ -56,7 +57,8 @@ pub text_names_none : (s w : List ℕ) → IsTextWord s w → NamesNone w
 text_names_none [] w h = subst NamesNone (sym h.1) (refl, refl)
 text_names_none (b ∷ bs) w h =
     let d = decode_of-ok (encode_lower (b ∷ bs)) (b ∷ bs) (decode_of-encode_lower (b ∷ bs) (text_bytes (b ∷ bs) h.0)) in
-    subst NamesNone (sym h.1) (plain_names_none (encode_lower (b ∷ bs)) (hex_is_plain (encode_lower (b ∷ bs)) (list_all-from_AllPass is_hex_digit (encode_lower (b ∷ bs)) d.1)))
+    subst NamesNone (sym h.1) (plain_names_none (encode_lower (b ∷ bs))
+    (hex_is_plain (encode_lower (b ∷ bs)) (list_all-from_AllPass is_hex_digit (encode_lower (b ∷ bs)) d.1)))
 
 -- ---- numbers
 

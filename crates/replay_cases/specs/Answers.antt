@@ -16,14 +16,15 @@ IsAnswer number line text = IsReplayed line text ⊎ ((e : Refusal) × RefusesLi
 
 -- a line that is not skipped has an answer, and then LF
 abbrev pub AnswerLine : ℕ → List ℕ → List ℕ → Type 0
-AnswerLine number line written = MatchBool (is_skipped line) (written ≡ []) ((text : List ℕ) × (written ≡ text ++ 10 ∷ []) × IsAnswer number line text)
+AnswerLine number line written =
+    MatchBool (is_skipped line) (written ≡ []) ((text : List ℕ) × (written ≡ text ++ 10 ∷ []) × IsAnswer number line text)
 
 -- What a sink has of a text, whose bytes went from old to new and whose failures from n to m: all of it, or a beginning
 -- where the sink failed.
-abbrev pub Writes : {A E : Type 0} → List ℕ → List ℕ → List ℕ → ℕ → ℕ → Result A E → Type 0
-Writes text old new n m (Ok done) = (new ≡ old ++ text) × (m ≡ n)
-Writes text old new n m (Err e) = AppendsBeginning old new text × (m ≡ rise n)
+abbrev pub WritesAnswer : {A E : Type 0} → List ℕ → List ℕ → List ℕ → ℕ → ℕ → Result A E → Type 0
+WritesAnswer text old new n m (Ok done) = (new ≡ old ++ text) × (m ≡ n)
+WritesAnswer text old new n m (Err e) = AppendsBeginning old new text × (m ≡ rise n)
 
 -- the same of what is written for a line
-abbrev pub Answers : {A E : Type 0} → ℕ → List ℕ → List ℕ → List ℕ → ℕ → ℕ → Result A E → Type 0
-Answers number line old new n m r = (written : List ℕ) × AnswerLine number line written × Writes written old new n m r
+abbrev pub AnswersLine : {A E : Type 0} → ℕ → List ℕ → List ℕ → List ℕ → ℕ → ℕ → Result A E → Type 0
+AnswersLine number line old new n m r = (written : List ℕ) × AnswerLine number line written × WritesAnswer written old new n m r

@@ -1,6 +1,7 @@
 -- How a line writes a case: words with one space between two. First come the width, the end of a line and the policy of
 -- indents. Then the document comes, each node in front of what it holds. From "=>" on nothing counts.
-use Rattle.std.specs.Prelude.{◌≡◌, ℕ, ◌^◌, ◌<◌, ℤ, pos, neg_ℤ, FitsSigned, not, true, List, [], ◌∷◌, ◌++◌, drop, codes, Option, Some, None, ◌==◌, if◌then◌else◌}
+use Rattle.std.specs.Prelude.{◌≡◌, ℕ, ◌^◌, ◌<◌, ℤ, pos, neg_ℤ, FitsSigned, not, true, List, [], ◌∷◌, ◌++◌, drop, codes, Option, Some, None}
+use Rattle.std.specs.Prelude.{◌==◌, if◌then◌else◌}
 use Rattle.std.specs.Int.{w64}
 use Rattle.std.specs.List.{slice_split, take_while}
 use Rattle.std.specs.Map.{lookup}
@@ -87,7 +88,8 @@ Wraps name Inner ws = (inner : List (List ℕ)) × (ws ≡ name ∷ inner) × In
 
 -- a node in front of two documents
 abbrev pub Joins : List ℕ → (List (List ℕ) → Type 0) → (List (List ℕ) → Type 0) → List (List ℕ) → Type 0
-Joins name First Second ws = (first : List (List ℕ)) × (second : List (List ℕ)) × (ws ≡ name ∷ first ++ second) × First first × Second second
+Joins name First Second ws = (first : List (List ℕ)) × (second : List (List ℕ)) × (ws ≡ name ∷ first ++ second)
+    × First first × Second second
 
 -- the words of a test of the column
 abbrev pub IsColumnTest : ColumnTest → List (List ℕ) → Type 0
@@ -101,9 +103,11 @@ IsNestingTest (by_nesting.AtMost k) ws = (w : List ℕ) × (ws ≡ codes "atmost
 IsNestingTest (by_nesting.AtLeast k) ws = (w : List ℕ) × (ws ≡ codes "atleast" ∷ w ∷ []) × IsNumber k w
 
 -- a test, and two documents after it
-abbrev pub Chooses : List ℕ → (List (List ℕ) → Type 0) → (List (List ℕ) → Type 0) → (List (List ℕ) → Type 0) → List (List ℕ) → Type 0
-Chooses name Test First Second ws =
-    (test : List (List ℕ)) × (first : List (List ℕ)) × (second : List (List ℕ)) × (ws ≡ name ∷ test ++ (first ++ second)) × Test test × First first × Second second
+abbrev pub IsChoiceNotation : List ℕ → (List (List ℕ) → Type 0) → (List (List ℕ) → Type 0) → (List (List ℕ) → Type 0) → List (List ℕ) →
+    Type 0
+IsChoiceNotation name Test First Second ws =
+    (test : List (List ℕ)) × (first : List (List ℕ)) × (second : List (List ℕ)) × (ws ≡ name ∷ test ++ (first ++ second)) × Test test
+    × First first × Second second
 
 -- the words of a document
 abbrev pub IsSpelled : Tree → List (List ℕ) → Type 0
@@ -120,8 +124,8 @@ IsSpelled (t.BreakOrFlat b f) ws = Joins (codes "bof") (IsSpelled b) (IsSpelled 
 IsSpelled (t.Group d) ws = Wraps (codes "grp") (IsSpelled d) ws
 IsSpelled (t.Union l r) ws = Joins (codes "uni") (IsSpelled l) (IsSpelled r) ws
 IsSpelled (t.PartialUnion l r) ws = Joins (codes "puni") (IsSpelled l) (IsSpelled r) ws
-IsSpelled (t.OnColumn test y n) ws = Chooses (codes "oncol") (IsColumnTest test) (IsSpelled y) (IsSpelled n) ws
-IsSpelled (t.OnNesting test y n) ws = Chooses (codes "onnest") (IsNestingTest test) (IsSpelled y) (IsSpelled n) ws
+IsSpelled (t.OnColumn test y n) ws = IsChoiceNotation (codes "oncol") (IsColumnTest test) (IsSpelled y) (IsSpelled n) ws
+IsSpelled (t.OnNesting test y n) ws = IsChoiceNotation (codes "onnest") (IsNestingTest test) (IsSpelled y) (IsSpelled n) ws
 -- every other node is one word, which names it
 IsSpelled d ws = leaf_alone ws ≡ Some d
 

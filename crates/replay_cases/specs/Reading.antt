@@ -64,66 +64,69 @@ wrapped wrappers.Flatten d = t.Flatten d
 wrapped wrappers.Group d = t.Group d
 
 -- the tree of a node over two documents
-abbrev pub joined : Join → Tree → Tree → Tree
-joined joins.Append l r = t.Append l r
-joined joins.BreakOrFlat l r = t.BreakOrFlat l r
-joined joins.Union l r = t.Union l r
-joined joins.PartialUnion l r = t.PartialUnion l r
+abbrev pub node_of_two : Join → Tree → Tree → Tree
+node_of_two joins.Append l r = t.Append l r
+node_of_two joins.BreakOrFlat l r = t.BreakOrFlat l r
+node_of_two joins.Union l r = t.Union l r
+node_of_two joins.PartialUnion l r = t.PartialUnion l r
 
 -- ---- what was read
 
 -- a word that is no operator, or a document
-pub data Item : Type 0 where
-  word : List ℕ → Item
-  document : Tree → Item
+pub data OperandItem : Type 0 where
+  word : List ℕ → OperandItem
+  document : Tree → OperandItem
 
 -- an operand as an item
-abbrev pub item_of : Operand → Item
+abbrev pub item_of : Operand → OperandItem
 item_of (Word w) = word w.now
 item_of (Document d) = document (pointer_tree d)
 
 -- the items of a stack, the one that comes next first
-abbrev pub items_of : List Operand → List Item
+abbrev pub items_of : List Operand → List OperandItem
 items_of [] = []
 items_of (o ∷ os) = items_of os ++ item_of o ∷ []
 
 -- the items begin with a text's word, and then come the others
-abbrev pub BeginsWithText : List Item → List ℕ → List Item → Type 0
+abbrev pub BeginsWithText : List OperandItem → List ℕ → List OperandItem → Type 0
 BeginsWithText items s rest = (w : List ℕ) × (items ≡ word w ∷ rest) × IsTextWord s w
 
 -- the items begin with the words of a test of the column, and then come the others
-abbrev pub TakesColumnTest : List Item → ColumnTest → List Item → Type 0
+abbrev pub TakesColumnTest : List OperandItem → ColumnTest → List OperandItem → Type 0
 TakesColumnTest items (by_column.AtMost k) rest = (w : List ℕ) × (items ≡ word (codes "atmost") ∷ word w ∷ rest) × IsNumber k w
 TakesColumnTest items (by_column.AtLeast k) rest = (w : List ℕ) × (items ≡ word (codes "atleast") ∷ word w ∷ rest) × IsNumber k w
 TakesColumnTest items by_column.IsNesting rest = items ≡ word (codes "nesting") ∷ rest
 
 -- and with those of a test of the indent
-abbrev pub TakesNestingTest : List Item → NestingTest → List Item → Type 0
+abbrev pub TakesNestingTest : List OperandItem → NestingTest → List OperandItem → Type 0
 TakesNestingTest items (by_nesting.AtMost k) rest = (w : List ℕ) × (items ≡ word (codes "atmost") ∷ word w ∷ rest) × IsNumber k w
 TakesNestingTest items (by_nesting.AtLeast k) rest = (w : List ℕ) × (items ≡ word (codes "atleast") ∷ word w ∷ rest) × IsNumber k w
 
 -- an operator takes what it needs from the items, makes a document of it, and leaves the others
-abbrev pub Makes : Operator → List Item → Tree → List Item → Type 0
+abbrev pub Makes : Operator → List OperandItem → Tree → List OperandItem → Type 0
 Makes operators.Text items d rest = (s : List ℕ) × (d ≡ t.Text s) × BeginsWithText items s rest
 Makes operators.TextWithLen items d rest =
-    (u : List ℕ) × (n : ℕ) × (others : List Item) × (s : List ℕ) × (d ≡ t.TextWithLen n s) × (items ≡ word u ∷ others) × IsNumber n u × BeginsWithText others s rest
+    (u : List ℕ) × (n : ℕ) × (others : List OperandItem) × (s : List ℕ) × (d ≡ t.TextWithLen n s) × (items ≡ word u ∷ others) × IsNumber n u
+    × BeginsWithText others s rest
 Makes operators.Payload items d rest = (s : List ℕ) × (d ≡ t.MultilineText s) × BeginsWithText items s rest × (holds_break s ≡ true)
 Makes operators.Nest items d rest =
     (u : List ℕ) × (k : ℤ) × (inner : Tree) × (d ≡ t.Nest k inner) × (items ≡ word u ∷ document inner ∷ rest) × IsOffset k u
 Makes (operators.Wrapper wrapper) items d rest = (inner : Tree) × (d ≡ wrapped wrapper inner) × (items ≡ document inner ∷ rest)
 Makes (operators.Join join) items d rest =
-    (first : Tree) × (second : Tree) × (d ≡ joined join first second) × (items ≡ document first ∷ document second ∷ rest)
+    (first : Tree) × (second : Tree) × (d ≡ node_of_two join first second) × (items ≡ document first ∷ document second ∷ rest)
 Makes operators.OnColumn items d rest =
-    (test : ColumnTest) × (first : Tree) × (second : Tree) × (d ≡ t.OnColumn test first second) × TakesColumnTest items test (document first ∷ document second ∷ rest)
+    (test : ColumnTest) × (first : Tree) × (second : Tree) × (d ≡ t.OnColumn test first second) × TakesColumnTest items test
+    (document first ∷ document second ∷ rest)
 Makes operators.OnNesting items d rest =
-    (test : NestingTest) × (first : Tree) × (second : Tree) × (d ≡ t.OnNesting test first second) × TakesNestingTest items test (document first ∷ document second ∷ rest)
+    (test : NestingTest) × (first : Tree) × (second : Tree) × (d ≡ t.OnNesting test first second) × TakesNestingTest items test
+    (document first ∷ document second ∷ rest)
 
 -- what becomes of the items where this comes in front of them: a node, what an operator makes, or a word
-abbrev pub Puts : Option Tree → Option Operator → List ℕ → List Item → List Item → Type 0
-Puts (Some leaf) o w items new = new ≡ document leaf ∷ items
-Puts None (Some o) w items new = (d : Tree) × (rest : List Item) × Makes o items d rest × (new ≡ document d ∷ rest)
-Puts None None w items new = new ≡ word w ∷ items
+abbrev pub PutsItem : Option Tree → Option Operator → List ℕ → List OperandItem → List OperandItem → Type 0
+PutsItem (Some leaf) o w items new = new ≡ document leaf ∷ items
+PutsItem None (Some o) w items new = (d : Tree) × (rest : List OperandItem) × Makes o items d rest × (new ≡ document d ∷ rest)
+PutsItem None None w items new = new ≡ word w ∷ items
 
 -- what becomes of the items where this word comes in front of them
-abbrev pub Steps : List ℕ → List Item → List Item → Type 0
-Steps w items new = Puts (leaf_of w) (operator_of w) w items new
+abbrev pub Steps : List ℕ → List OperandItem → List OperandItem → Type 0
+Steps w items new = PutsItem (leaf_of w) (operator_of w) w items new

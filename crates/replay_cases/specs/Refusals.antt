@@ -11,13 +11,13 @@ use Rattle.replay_cases.specs.declared.expected.Expected.TheVariants as lacks
 use Rattle.replay_cases.specs.Notation.{Case, Denotes, IsNumber, named_in, line_endings, indentation_policies}
 
 -- what was asked for is not there, which is this fact, or memory was refused
-abbrev pub Refuses : Refusal → Type 0 → Type 0
-Refuses (NotACase expected) fact = fact
-Refuses OutOfMemory fact = Unit {0}
+abbrev pub RefusesWith : Refusal → Type 0 → Type 0
+RefusesWith (NotACase expected) fact = fact
+RefusesWith OutOfMemory fact = Unit {0}
 
 -- the line writes no case, or memory was refused
 abbrev pub RefusesLine : Refusal → List ℕ → Type 0
-RefusesLine e line = Refuses e ((c : Case) → Denotes line c → ⊥)
+RefusesLine e line = RefusesWith e ((c : Case) → Denotes line c → ⊥)
 
 -- the first of the three words of options that is none of its kind
 abbrev pub LacksOption : Expected → List ℕ → List ℕ → List ℕ → Type 0

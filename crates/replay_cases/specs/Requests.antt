@@ -28,13 +28,13 @@ Asks (word ∷ seed ∷ count ∷ []) asked =
 Asks (word ∷ seed ∷ count ∷ next ∷ more) asked = asked ≡ None
 
 -- what standard error has of an ending
-abbrev pub message_of : Ending → List ℕ
-message_of Words = codes "usage: replay [--help | --twice | --random SEED COUNT], with cases on standard input, one a line (docs/CASES.md)"
-message_of (Failed error) = codes "error: reading or writing failed"
-message_of Otherwise = codes "error: a random case comes out otherwise over a table"
+abbrev pub ending_message : Ending → List ℕ
+ending_message Words = codes "usage: replay [--help | --twice | --random SEED COUNT], with cases on standard input, one a line (docs/CASES.md)"
+ending_message (Failed error) = codes "error: reading or writing failed"
+ending_message Otherwise = codes "error: a random case comes out otherwise over a table"
 
 -- the status of an ending
-abbrev pub status_of : Ending → ℕ
-status_of Words = 2
-status_of (Failed error) = 1
-status_of Otherwise = 1
+abbrev pub ending_status : Ending → ℕ
+ending_status Words = 2
+ending_status (Failed error) = 1
+ending_status Otherwise = 1

@@ -12,7 +12,8 @@ lines_of bytes = slice_split (λ b. b == 10) bytes
 abbrev pub AreAnswers : ℕ → List (List ℕ) → List ℕ → Type 0
 AreAnswers before [] written = written ≡ []
 AreAnswers before (line ∷ lines) written =
-    (first : List ℕ) × (others : List ℕ) × (written ≡ first ++ others) × AnswerLine (before + 1) line first × AreAnswers (before + 1) lines others
+    (first : List ℕ) × (others : List ℕ) × (written ≡ first ++ others) × AnswerLine (before + 1) line first
+    × AreAnswers (before + 1) lines others
 
 -- those to all the lines of an input were appended
 abbrev pub AnswersAll : List ℕ → List ℕ → List ℕ → Type 0
@@ -24,9 +25,9 @@ BeginsAnswers bytes old new = (written : List ℕ) × AreAnswers 0 (lines_of byt
 
 -- A run over these bytes, where they are known: a sink has the answers to all lines, or a beginning of them before
 -- an error, and then failed once or not at all.
-abbrev pub Runs : {A E : Type 0} → Option (List ℕ) → List ℕ → List ℕ → ℕ → ℕ → Result A E → Type 0
-Runs known old new n m (Ok done) = IfSome known (λ bytes. AnswersAll bytes old new) × (m ≡ n)
-Runs known old new n m (Err e) = IfSome known (λ bytes. BeginsAnswers bytes old new) × ((m ≡ n) ⊎ (m ≡ rise n))
+abbrev pub RunsCases : {A E : Type 0} → Option (List ℕ) → List ℕ → List ℕ → ℕ → ℕ → Result A E → Type 0
+RunsCases known old new n m (Ok done) = IfSome known (λ bytes. AnswersAll bytes old new) × (m ≡ n)
+RunsCases known old new n m (Err e) = IfSome known (λ bytes. BeginsAnswers bytes old new) × ((m ≡ n) ⊎ (m ≡ rise n))
 
 -- the first line, and the bytes after its line feed; the last line has none
 abbrev pub BeginsWithLine : List ℕ → List ℕ → List ℕ → Type 0

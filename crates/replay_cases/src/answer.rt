@@ -1,7 +1,7 @@
 ghost use Rattle.std.specs.Prelude.{◌≡◌, ◌∷◌, ◌++◌, [], IfOk};
 ghost use Rattle.std.specs.String.{string_bytes};
 ghost use Rattle.prettyless_sink.specs.Sink.{IfKnown};
-ghost use Rattle.replay_cases.specs.Answers.{is_skipped, IsAnswer, Writes, Answers};
+ghost use Rattle.replay_cases.specs.Answers.{is_skipped, IsAnswer, WritesAnswer, AnswersLine};
 ghost use Rattle.replay_cases.specs.Refusals.{complaint};
 
 use crate::expected::Expected;
@@ -42,7 +42,7 @@ fn answer_text(alloc: Global, times: Times, number: u64, line: &[u8]) -> Result<
 
 fn write_line<S: Render>(out: &mut S, text: &str) -> Result<(), S::Error>
     ensures { IfKnown (S.bytes out.old) (S.bytes out.new) (λ before after.
-        Writes (text.now ++ 10 ∷ []) before after (S.failures out.old) (S.failures out.new) result) }
+        WritesAnswer (text.now ++ 10 ∷ []) before after (S.failures out.old) (S.failures out.new) result) }
 {
     out.write_str_all(text)?;
     out.write_str_all("\n")
@@ -60,7 +60,7 @@ pub fn answer<S: Render>(
     out: &mut S,
 ) -> Result<(), S::Error>
     ensures { IfKnown (S.bytes out.old) (S.bytes out.new) (λ before after.
-        Answers number line.now before after (S.failures out.old) (S.failures out.new) result) }
+        AnswersLine number line.now before after (S.failures out.old) (S.failures out.new) result) }
 {
     if is_skipped(line) {
         return Ok(());

@@ -2,7 +2,7 @@ ghost use Rattle.std.specs.Prelude.{◌≡◌, map, IfOk, IfErr};
 ghost use Rattle.prettyless_model.specs.declared.options.RenderOptions.{RenderOptions};
 ghost use Rattle.replay_cases.specs.Notation.{Case, Denotes, AreOptions, named_in, line_endings, indentation_policies, case_words};
 ghost use Rattle.replay_cases.specs.Cases.{case_of};
-ghost use Rattle.replay_cases.specs.Refusals.{LacksOption, Refuses};
+ghost use Rattle.replay_cases.specs.Refusals.{LacksOption, RefusesWith};
 
 use crate::expected::Expected;
 use crate::names::named_in;
@@ -68,7 +68,7 @@ pub fn read_case<'a>(place: &'a Place<'a>, line: &'a [u8]) -> Result<ReadCase<'a
     ensures ok { IfOk result (λ c. Denotes line.now (case_of c)) }
     // It is read as this case, and as no other.
     ensures only { IfOk result (λ c. (d : Case) → Denotes line.now d → d ≡ case_of c) }
-    ensures err { IfErr result (λ e. Refuses e ((c : Case) → Denotes line.now c → ⊥)) }
+    ensures err { IfErr result (λ e. RefusesWith e ((c : Case) → Denotes line.now c → ⊥)) }
 {
     let words = case_words(place.memory(), line)?;
     let [width, ending, policy, document @ ..] = words.as_slice() else {

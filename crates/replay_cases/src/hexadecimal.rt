@@ -3,7 +3,7 @@ ghost use Rattle.std.specs.Prelude.{◌≡◌, ℕ, List, IfOk, IfErr, codes};
 ghost use Rattle.std.specs.String.{string_bytes};
 ghost use Rattle.std.specs.Str.{IsUtf8};
 ghost use Rattle.replay_cases.specs.Notation.{hex_word, IsTextWord};
-ghost use Rattle.replay_cases.specs.Refusals.{Refuses};
+ghost use Rattle.replay_cases.specs.Refusals.{RefusesWith};
 
 use crate::expected::Expected;
 use crate::refusal::Refusal;
@@ -23,7 +23,7 @@ pub fn word_of(alloc: Global, bytes: &[u8]) -> Result<String, AllocError>
 // The bytes that the digits write, in upper case too, or none for `-`.
 fn decoded(alloc: Global, word: &[u8]) -> Result<Vec<u8>, Refusal>
     ensures only { IfOk result (λ v. (s : List ℕ) → IsTextWord s word.now → s ≡ v.items) }
-    ensures err { IfErr result (λ e. Refuses e ((s : List ℕ) → IsTextWord s word.now → ⊥)) }
+    ensures err { IfErr result (λ e. RefusesWith e ((s : List ℕ) → IsTextWord s word.now → ⊥)) }
 {
     if word == b"-".as_slice() {
         return Ok(Vec::new(alloc));
@@ -34,7 +34,7 @@ fn decoded(alloc: Global, word: &[u8]) -> Result<Vec<u8>, Refusal>
 /// The text that a word writes.
 pub fn text(alloc: Global, word: &[u8]) -> Result<String, Refusal>
     ensures ok { IfOk result (λ s. IsTextWord (string_bytes s) word.now) }
-    ensures err { IfErr result (λ e. Refuses e ((s : List ℕ) → IsTextWord s word.now → ⊥)) }
+    ensures err { IfErr result (λ e. RefusesWith e ((s : List ℕ) → IsTextWord s word.now → ⊥)) }
 {
     let bytes = decoded(alloc, word)?;
     // Each text has one word: upper case letters, or no digit at all, write none.

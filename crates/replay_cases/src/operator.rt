@@ -2,7 +2,7 @@ ghost use Rattle.std.specs.Prelude.{◌≡◌, option_map};
 ghost use Rattle.prettyless.specs.DocTree.{tree_of};
 ghost use Rattle.replay_cases.specs.Notation.{leaf_of};
 ghost use Rattle.replay_cases.specs.Pointers.{pointer_tree};
-ghost use Rattle.replay_cases.specs.Reading.{operator_of, leaf_tree, wrapped, joined};
+ghost use Rattle.replay_cases.specs.Reading.{operator_of, leaf_tree, wrapped, node_of_two};
 
 use crate::names::named_in;
 use crate::pointer::Pointer;
@@ -128,7 +128,7 @@ impl Wrapper {
 impl Join {
     /// The node with these documents below it.
     pub fn doc<'a>(self, first: Pointer<'a>, second: Pointer<'a>) -> Doc<'a, Pointer<'a>>
-        ensures { tree_of pointer_tree result ≡ joined self (pointer_tree first.entry) (pointer_tree second.entry) }
+        ensures { tree_of pointer_tree result ≡ node_of_two self (pointer_tree first.entry) (pointer_tree second.entry) }
     {
         match self {
             Join::Append => Doc::Append(first, second),

@@ -1,12 +1,12 @@
 ghost use Rattle.std.specs.Prelude.{◌≡◌, ℕ, List, map, true, IfOk, OnOk, IfErr};
 ghost use Rattle.std.specs.String.{string_bytes};
 ghost use Rattle.prettyless_doc.specs.Breaks.{holds_break};
-ghost use Rattle.prettyless.specs.TextBytes.{bytes_of};
+ghost use Rattle.prettyless.specs.TextBytes.{bytes_of_text};
 ghost use Rattle.prettyless.specs.Tree.{Tree};
 ghost use Rattle.replay_cases.specs.Notation.{IsSpelled};
 ghost use Rattle.replay_cases.specs.Pointers.{pointer_tree};
-ghost use Rattle.replay_cases.specs.Reading.{Item, items_of, BeginsWithText, Makes, Steps};
-ghost use Rattle.replay_cases.specs.Refusals.{Refuses};
+ghost use Rattle.replay_cases.specs.Reading.{OperandItem, items_of, BeginsWithText, Makes, Steps};
+ghost use Rattle.replay_cases.specs.Refusals.{RefusesWith};
 ghost use Rattle.replay_cases.specs.declared.operator.Operator.TheVariants as operators;
 
 use crate::condition::{take_column_test, take_nesting_test};
@@ -25,8 +25,8 @@ use std::alloc::Global;
 
 // Takes the text whose word comes next.
 fn take_text<'a>(alloc: Global, operands: &mut Vec<Operand<'a>>) -> Result<Text<'a>, Refusal>
-    ensures ok { IfOk result (λ s. BeginsWithText (items_of operands.old.items) (bytes_of s) (items_of operands.new.items)) }
-    ensures err { IfErr result (λ e. Refuses e ((s : List ℕ) (rest : List Item) → BeginsWithText (items_of operands.old.items) s rest → ⊥)) }
+    ensures ok { IfOk result (λ s. BeginsWithText (items_of operands.old.items) (bytes_of_text s) (items_of operands.new.items)) }
+    ensures err { IfErr result (λ e. RefusesWith e ((s : List ℕ) (rest : List OperandItem) → BeginsWithText (items_of operands.old.items) s rest → ⊥)) }
 {
     let text = text(alloc, take_word(operands, Expected::Text)?)?;
     Ok(Text::from_cow(alloc, CowStr::Owned(text))?)
@@ -36,7 +36,7 @@ fn take_text<'a>(alloc: Global, operands: &mut Vec<Operand<'a>>) -> Result<Text<
 fn take_payload<'a>(alloc: Global, operands: &mut Vec<Operand<'a>>) -> Result<String, Refusal>
     ensures ok { IfOk result (λ s. BeginsWithText (items_of operands.old.items) (string_bytes s) (items_of operands.new.items)) }
     ensures breaks { IfOk result (λ s. holds_break (string_bytes s) ≡ true) }
-    ensures err { IfErr result (λ e. Refuses e ((d : Tree) (rest : List Item) → Makes operators.Payload (items_of operands.old.items) d rest → ⊥)) }
+    ensures err { IfErr result (λ e. RefusesWith e ((d : Tree) (rest : List OperandItem) → Makes operators.Payload (items_of operands.old.items) d rest → ⊥)) }
 {
     let text = text(alloc, take_word(operands, Expected::Payload)?)?;
     if holds_break(text.as_str()) {
@@ -52,7 +52,7 @@ fn make_text<'a>(
     operands: &mut Vec<Operand<'a>>,
 ) -> Result<Pointer<'a>, Refusal>
     ensures ok { IfOk result (λ d. Makes operators.Text (items_of operands.old.items) (pointer_tree d) (items_of operands.new.items)) }
-    ensures err { IfErr result (λ e. Refuses e ((d : Tree) (rest : List Item) → Makes operators.Text (items_of operands.old.items) d rest → ⊥)) }
+    ensures err { IfErr result (λ e. RefusesWith e ((d : Tree) (rest : List OperandItem) → Makes operators.Text (items_of operands.old.items) d rest → ⊥)) }
 {
     let text = take_text(place.memory(), operands)?;
     put(place, Doc::Text(text))
@@ -64,7 +64,7 @@ fn make_counted_text<'a>(
     operands: &mut Vec<Operand<'a>>,
 ) -> Result<Pointer<'a>, Refusal>
     ensures ok { IfOk result (λ d. Makes operators.TextWithLen (items_of operands.old.items) (pointer_tree d) (items_of operands.new.items)) }
-    ensures err { IfErr result (λ e. Refuses e ((d : Tree) (rest : List Item) → Makes operators.TextWithLen (items_of operands.old.items) d rest → ⊥)) }
+    ensures err { IfErr result (λ e. RefusesWith e ((d : Tree) (rest : List OperandItem) → Makes operators.TextWithLen (items_of operands.old.items) d rest → ⊥)) }
 {
     let word = take_word(operands, Expected::Columns)?;
     let width = number(word).ok_or(Expected::Columns)?;
@@ -78,7 +78,7 @@ fn make_payload<'a>(
     operands: &mut Vec<Operand<'a>>,
 ) -> Result<Pointer<'a>, Refusal>
     ensures ok { IfOk result (λ d. Makes operators.Payload (items_of operands.old.items) (pointer_tree d) (items_of operands.new.items)) }
-    ensures err { IfErr result (λ e. Refuses e ((d : Tree) (rest : List Item) → Makes operators.Payload (items_of operands.old.items) d rest → ⊥)) }
+    ensures err { IfErr result (λ e. RefusesWith e ((d : Tree) (rest : List OperandItem) → Makes operators.Payload (items_of operands.old.items) d rest → ⊥)) }
 {
     let text = take_payload(place.memory(), operands)?;
     put_multiline(place, text)
@@ -90,7 +90,7 @@ fn make_nest<'a>(
     operands: &mut Vec<Operand<'a>>,
 ) -> Result<Pointer<'a>, Refusal>
     ensures ok { IfOk result (λ d. Makes operators.Nest (items_of operands.old.items) (pointer_tree d) (items_of operands.new.items)) }
-    ensures err { IfErr result (λ e. Refuses e ((d : Tree) (rest : List Item) → Makes operators.Nest (items_of operands.old.items) d rest → ⊥)) }
+    ensures err { IfErr result (λ e. RefusesWith e ((d : Tree) (rest : List OperandItem) → Makes operators.Nest (items_of operands.old.items) d rest → ⊥)) }
 {
     let word = take_word(operands, Expected::Offset)?;
     let offset = offset(word).ok_or(Expected::Offset)?;
@@ -105,7 +105,7 @@ fn make_wrapped<'a>(
     operands: &mut Vec<Operand<'a>>,
 ) -> Result<Pointer<'a>, Refusal>
     ensures ok { IfOk result (λ d. Makes (operators.Wrapper wrapper) (items_of operands.old.items) (pointer_tree d) (items_of operands.new.items)) }
-    ensures err { IfErr result (λ e. Refuses e ((d : Tree) (rest : List Item) → Makes (operators.Wrapper wrapper) (items_of operands.old.items) d rest → ⊥)) }
+    ensures err { IfErr result (λ e. RefusesWith e ((d : Tree) (rest : List OperandItem) → Makes (operators.Wrapper wrapper) (items_of operands.old.items) d rest → ⊥)) }
 {
     let inner = take_document(operands)?;
     put(place, wrapper.doc(inner))
@@ -118,7 +118,7 @@ fn make_joined<'a>(
     operands: &mut Vec<Operand<'a>>,
 ) -> Result<Pointer<'a>, Refusal>
     ensures ok { IfOk result (λ d. Makes (operators.Join join) (items_of operands.old.items) (pointer_tree d) (items_of operands.new.items)) }
-    ensures err { IfErr result (λ e. Refuses e ((d : Tree) (rest : List Item) → Makes (operators.Join join) (items_of operands.old.items) d rest → ⊥)) }
+    ensures err { IfErr result (λ e. RefusesWith e ((d : Tree) (rest : List OperandItem) → Makes (operators.Join join) (items_of operands.old.items) d rest → ⊥)) }
 {
     let first = take_document(operands)?;
     let second = take_document(operands)?;
@@ -131,7 +131,7 @@ fn make_by_column<'a>(
     operands: &mut Vec<Operand<'a>>,
 ) -> Result<Pointer<'a>, Refusal>
     ensures ok { IfOk result (λ d. Makes operators.OnColumn (items_of operands.old.items) (pointer_tree d) (items_of operands.new.items)) }
-    ensures err { IfErr result (λ e. Refuses e ((d : Tree) (rest : List Item) → Makes operators.OnColumn (items_of operands.old.items) d rest → ⊥)) }
+    ensures err { IfErr result (λ e. RefusesWith e ((d : Tree) (rest : List OperandItem) → Makes operators.OnColumn (items_of operands.old.items) d rest → ⊥)) }
 {
     let test = take_column_test(operands)?;
     let first = take_document(operands)?;
@@ -145,7 +145,7 @@ fn make_by_nesting<'a>(
     operands: &mut Vec<Operand<'a>>,
 ) -> Result<Pointer<'a>, Refusal>
     ensures ok { IfOk result (λ d. Makes operators.OnNesting (items_of operands.old.items) (pointer_tree d) (items_of operands.new.items)) }
-    ensures err { IfErr result (λ e. Refuses e ((d : Tree) (rest : List Item) → Makes operators.OnNesting (items_of operands.old.items) d rest → ⊥)) }
+    ensures err { IfErr result (λ e. RefusesWith e ((d : Tree) (rest : List OperandItem) → Makes operators.OnNesting (items_of operands.old.items) d rest → ⊥)) }
 {
     let test = take_nesting_test(operands)?;
     let first = take_document(operands)?;
@@ -160,7 +160,7 @@ fn make<'a>(
     operands: &mut Vec<Operand<'a>>,
 ) -> Result<Pointer<'a>, Refusal>
     ensures ok { IfOk result (λ d. Makes operator (items_of operands.old.items) (pointer_tree d) (items_of operands.new.items)) }
-    ensures err { IfErr result (λ e. Refuses e ((d : Tree) (rest : List Item) → Makes operator (items_of operands.old.items) d rest → ⊥)) }
+    ensures err { IfErr result (λ e. RefusesWith e ((d : Tree) (rest : List OperandItem) → Makes operator (items_of operands.old.items) d rest → ⊥)) }
 {
     match operator {
         Operator::Text => make_text(place, operands),
@@ -181,7 +181,7 @@ fn put_in_front<'a>(
     operands: &mut Vec<Operand<'a>>,
 ) -> Result<(), Refusal>
     ensures ok { OnOk result (Steps word.now (items_of operands.old.items) (items_of operands.new.items)) }
-    ensures err { IfErr result (λ e. Refuses e ((new : List Item) → Steps word.now (items_of operands.old.items) new → ⊥)) }
+    ensures err { IfErr result (λ e. RefusesWith e ((new : List OperandItem) → Steps word.now (items_of operands.old.items) new → ⊥)) }
 {
     let operand = match leaf_named(word) {
         Some(leaf) => Operand::Document(put(place, leaf.doc())?),
@@ -198,7 +198,7 @@ fn put_in_front<'a>(
 pub fn read_document<'a>(place: &'a Place<'a>, words: &[&'a [u8]]) -> Result<Pointer<'a>, Refusal>
     ensures ok { IfOk result (λ d. IsSpelled (pointer_tree d) (map (λ w. w.now) words.now)) }
     ensures only { IfOk result (λ d. (t : Tree) → IsSpelled t (map (λ w. w.now) words.now) → t ≡ pointer_tree d) }
-    ensures err { IfErr result (λ e. Refuses e ((t : Tree) → IsSpelled t (map (λ w. w.now) words.now) → ⊥)) }
+    ensures err { IfErr result (λ e. RefusesWith e ((t : Tree) → IsSpelled t (map (λ w. w.now) words.now) → ⊥)) }
 {
     let mut operands = Vec::new(place.memory());
     let mut at = words.len();

@@ -1,6 +1,6 @@
 //! What the words of `replay` ask for, and how a run of it ends.
 ghost use Rattle.std.specs.Prelude.{◌≡◌};
-ghost use Rattle.replay_cases.specs.Requests.{Asks, AsksRandom, message_of, status_of};
+ghost use Rattle.replay_cases.specs.Requests.{Asks, AsksRandom, ending_message, ending_status};
 ghost use Rattle.replay_cases.specs.declared.request.Ending.TheVariants.{Failed};
 
 use decimals::number;
@@ -62,7 +62,7 @@ pub enum Ending {
 impl Ending {
     /// What is written to standard error.
     pub fn message(&self) -> &'static str
-        ensures { result.now ≡ message_of self.now }
+        ensures { result.now ≡ ending_message self.now }
     {
         match self {
             Ending::Words => USAGE,
@@ -73,7 +73,7 @@ impl Ending {
 
     /// The status that `replay` ends with.
     pub fn status(&self) -> u8
-        ensures { result ≡ status_of self.now }
+        ensures { result ≡ ending_status self.now }
     {
         match self {
             Ending::Words => 2,

@@ -1,7 +1,7 @@
 ghost use Rattle.std.specs.Prelude.{IfOk, IfSome, OnErr};
 ghost use Rattle.std.specs.Io.KnownBytes.{Consumes};
 ghost use Rattle.prettyless_sink.specs.Sink.{IfKnown};
-ghost use Rattle.replay_cases.specs.Runs.{ReadsLine, Runs};
+ghost use Rattle.replay_cases.specs.Runs.{ReadsLine, RunsCases};
 
 use crate::answer::answer;
 use crate::outcome::Times;
@@ -38,7 +38,7 @@ pub fn run<R: BufRead, S: Render<Error = io::Error>>(
     out: &mut S,
 ) -> io::Result<()>
     ensures { IfKnown (S.bytes out.old) (S.bytes out.new) (λ before after.
-        Runs (R.remaining reader.old) before after (S.failures out.old) (S.failures out.new) result) }
+        RunsCases (R.remaining reader.old) before after (S.failures out.old) (S.failures out.new) result) }
 {
     let mut line = Vec::new(alloc);
     for before in 0..u64::MAX {

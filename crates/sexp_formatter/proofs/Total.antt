@@ -5,15 +5,16 @@ use Rattle.prettyless.specs.Tree.{Tree, size}
 use Rattle.prettyless.specs.Built.{append, append_to, nest, group}
 use Rattle.prettyless.specs.Lines.{line}
 use Rattle.prettyless.specs.Column.{nested}
-use Rattle.prettyless.specs.Layout.{State, Outcome, Bytes, Done, Failed, Entry, Breaks, Whole, Cut, after_bytes, and_then, entry, initial, lay, lay_text, breaks, finish, layout_by, layout, probe, lay_ending, next_indent, bytes_of}
+use Rattle.prettyless.specs.Layout.{State, Outcome, Bytes, Done, Failed, Entry, Breaks, Whole, Cut, after_bytes, and_then, entry, initial}
+use Rattle.prettyless.specs.Layout.{lay, lay_text, breaks, finish, layout_by, layout, probe, lay_ending, next_indent, bytes_of}
 use Rattle.prettyless_model.specs.declared.options.RenderOptions.{RenderOptions}
 use Rattle.prettyless_model.specs.declared.options.IndentationPolicy.{IndentationPolicy}
 use Rattle.prettyless_model.specs.declared.options.IndentationPolicy.TheVariants.{Eager, Deferred}
 use Rattle.prettyless_model.specs.declared.mode.Mode.{Mode}
 use Rattle.prettyless_model.specs.declared.mode.Mode.TheVariants.{Break, Flat}
 use Rattle.sexp_formatter.specs.Value.{Value, Values, number, list, none, first}
-use Rattle.sexp_formatter.specs.Documents.{document_of, interspersed, followed_by}
-use Rattle.sexp_formatter.specs.Runs.{layout_of}
+use Rattle.sexp_formatter.specs.Documents.{sexp_document, interspersed, followed_by}
+use Rattle.sexp_formatter.specs.Runs.{layout_of_value}
 
 whole_or_cut : (a b : List ℕ) → Whole a ≡ Cut b → ⊥
 whole_or_cut a b e = cc
@@ -59,7 +60,8 @@ after_done : (b : List ℕ) (x : Outcome) → IsDone x → IsDone (after_bytes b
 after_done b (Done c st) h = h
 after_done b (Failed c) h = h
 
-and_then_done : (x : Outcome) (next : State → Outcome) → IsDone x → ((st : State) → st.pending ≡ [] → IsDone (next st)) → IsDone (and_then x next)
+and_then_done : (x : Outcome) (next : State → Outcome) → IsDone x → ((st : State) → st.pending ≡ [] → IsDone (next st))
+    → IsDone (and_then x next)
 and_then_done (Done b st) next h k = after_done b (next st) (k st h)
 and_then_done (Failed b) next h k = absurd h
 
@@ -72,15 +74,18 @@ abbrev EndsLines : Breaks → Type 0
 EndsLines brk = (i : ℕ) (rest : List Entry) (st : State) → st.pending ≡ [] → IsDone (brk t.HardLine i Break rest st)
 
 module _ (o : RenderOptions) (brk : Breaks) (ends : EndsLines brk) where
-  lay_done : (d : Tree) (i : ℕ) (m : Mode) (rest : List Entry) (st : State) → st.pending ≡ [] → IsSafe m d → IsDone (lay o brk d i m rest st)
+  lay_done : (d : Tree) (i : ℕ) (m : Mode) (rest : List Entry) (st : State) → st.pending ≡ [] → IsSafe m d
+      → IsDone (lay o brk d i m rest st)
   unfolding lay
   lay_done t.Nil i m rest st h s = h
   lay_done (t.Text x) i m rest st h s = text_done o (length x) x st h
   lay_done (t.TextWithLen w x) i m rest st h s = text_done o w x st h
   lay_done t.HardLine i Break rest st h s = ends i rest st h
   lay_done t.HardLine i Flat rest st h s = absurd s
-  lay_done (t.Append l r) i Break rest st h s = and_then_done (lay o brk l i Break (entry i r ∷ rest) st) (λ u. lay o brk r i Break rest u) (lay_done l i Break (entry i r ∷ rest) st h s.0) (λ u k. lay_done r i Break rest u k s.1)
-  lay_done (t.Append l r) i Flat rest st h s = and_then_done (lay o brk l i Flat (entry i r ∷ rest) st) (λ u. lay o brk r i Flat rest u) (lay_done l i Flat (entry i r ∷ rest) st h s.0) (λ u k. lay_done r i Flat rest u k s.1)
+  lay_done (t.Append l r) i Break rest st h s = and_then_done (lay o brk l i Break (entry i r ∷ rest) st) (λ u. lay o brk r i Break rest u)
+      (lay_done l i Break (entry i r ∷ rest) st h s.0) (λ u k. lay_done r i Break rest u k s.1)
+  lay_done (t.Append l r) i Flat rest st h s = and_then_done (lay o brk l i Flat (entry i r ∷ rest) st) (λ u. lay o brk r i Flat rest u)
+      (lay_done l i Flat (entry i r ∷ rest) st h s.0) (λ u k. lay_done r i Flat rest u k s.1)
   lay_done (t.Nest k d) i Break rest st h s = lay_done d (nested i k) Break rest st h s
   lay_done (t.Nest k d) i Flat rest st h s = lay_done d (nested i k) Flat rest st h s
   lay_done (t.BreakOrFlat b f) i Break rest st h s = lay_done b i Break rest st h s
@@ -114,7 +119,8 @@ layout_by_done : (o : RenderOptions) (n : ℕ) (d : Tree) → IsBreakSafe d → 
 unfolding layout_by
 layout_by_done o n d safe =
     let brk = breaks o (suc n) in
-    and_then_done (lay o brk d 0 Break [] initial) (λ st. finish o brk (suc n) st) (lay_done o brk (breaks_end_lines o n) d 0 Break [] initial refl safe) (finish_done o brk n)
+    and_then_done (lay o brk d 0 Break [] initial) (λ st. finish o brk (suc n) st)
+    (lay_done o brk (breaks_end_lines o n) d 0 Break [] initial refl safe) (finish_done o brk n)
 
 safe_is_whole : (o : RenderOptions) (d : Tree) (bytes : List ℕ) → IsBreakSafe d → layout o d ≡ Cut bytes → ⊥
 unfolding layout
@@ -171,30 +177,32 @@ group_safe (t.Group d) a = a
 group_safe _ a = absurd a.0
 
 mutual
-  document_safe : (v : Value) → IsBothSafe (document_of v)
+  document_safe : (v : Value) → IsBothSafe (sexp_document v)
   document_safe (number n) = (tt, tt)
   document_safe (list vs) =
       let inner = group (nest (pos 1) (interspersed vs)) in
-      let front = append_safe (t.Text (40 ∷ [])) inner (tt, tt) (group_safe (nest (pos 1) (interspersed vs)) (nest_safe (interspersed vs) (interspersed_safe vs))) in
+      let front = append_safe (t.Text (40 ∷ [])) inner (tt, tt)
+      (group_safe (nest (pos 1) (interspersed vs)) (nest_safe (interspersed vs) (interspersed_safe vs))) in
       append_safe (append (t.Text (40 ∷ [])) inner) (t.Text (41 ∷ [])) front (tt, tt)
 
   interspersed_safe : (vs : Values) → IsBothSafe (interspersed vs)
   interspersed_safe none = (tt, tt)
-  interspersed_safe (first v vs) = followed_safe (document_of v) (document_safe v) vs
+  interspersed_safe (first v vs) = followed_safe (sexp_document v) (document_safe v) vs
 
   followed_safe : (x : Tree) → IsBothSafe x → (vs : Values) → IsBothSafe (followed_by x vs)
   followed_safe x a none = a
   followed_safe x a (first v vs) =
-      followed_safe (append (append x line) (document_of v)) (append_safe (append x line) (document_of v) (append_safe x line a (tt, tt)) (document_safe v)) vs
+      followed_safe (append (append x line) (sexp_document v))
+      (append_safe (append x line) (sexp_document v) (append_safe x line a (tt, tt)) (document_safe v)) vs
 
 -- the layout of a value is not cut
-pub layout_not_cut : (o : RenderOptions) (v : Value) (bytes : List ℕ) → layout_of o v ≡ Cut bytes → ⊥
-layout_not_cut o v bytes e = safe_is_whole o (document_of v) bytes (document_safe v).1 e
+pub layout_not_cut : (o : RenderOptions) (v : Value) (bytes : List ℕ) → layout_of_value o v ≡ Cut bytes → ⊥
+layout_not_cut o v bytes e = safe_is_whole o (sexp_document v) bytes (document_safe v).1 e
 
 not_cut_is_whole : (y : Bytes) → ((bytes : List ℕ) → y ≡ Cut bytes → ⊥) → (bytes : List ℕ) × (y ≡ Whole bytes)
 not_cut_is_whole (Whole bytes) h = (bytes, refl)
 not_cut_is_whole (Cut bytes) h = absurd (h bytes refl)
 
 -- but whole
-pub layout_whole : (o : RenderOptions) (v : Value) → (bytes : List ℕ) × (layout_of o v ≡ Whole bytes)
-layout_whole o v = not_cut_is_whole (layout_of o v) (layout_not_cut o v)
+pub layout_whole : (o : RenderOptions) (v : Value) → (bytes : List ℕ) × (layout_of_value o v ≡ Whole bytes)
+layout_whole o v = not_cut_is_whole (layout_of_value o v) (layout_not_cut o v)

@@ -9,16 +9,16 @@ use Rattle.sexp_formatter.specs.Grammar.{opening, closing}
 
 abbrev mutual
   -- a number in decimal, or the values of a list between parentheses: nested by 1 and grouped
-  pub document_of : Value → Tree
-  document_of (number n) = Text (decimal n)
-  document_of (list vs) = append (append (Text (opening ∷ [])) (group (nest (pos 1) (interspersed vs)))) (Text (closing ∷ []))
+  pub sexp_document : Value → Tree
+  sexp_document (number n) = Text (decimal n)
+  sexp_document (list vs) = append (append (Text (opening ∷ [])) (group (nest (pos 1) (interspersed vs)))) (Text (closing ∷ []))
 
   -- the values with a line between two
   pub interspersed : Values → Tree
   interspersed none = Nil
-  interspersed (first v vs) = followed_by (document_of v) vs
+  interspersed (first v vs) = followed_by (sexp_document v) vs
 
   -- this tree, and after it a line and a value for each
   pub followed_by : Tree → Values → Tree
   followed_by front none = front
-  followed_by front (first v vs) = followed_by (append (append front line) (document_of v)) vs
+  followed_by front (first v vs) = followed_by (append (append front line) (sexp_document v)) vs

@@ -6,10 +6,10 @@ use Rattle.sexp_formatter.specs.declared.ending.Ending.{Ending}
 use Rattle.sexp_formatter.specs.declared.ending.Ending.TheVariants.{BadWords, NotAnSexp, Failed}
 
 -- the program's status
-abbrev pub status_of : Ending → ℕ
-status_of BadWords = 2
-status_of NotAnSexp = 1
-status_of Failed = 3
+abbrev pub program_status : Ending → ℕ
+program_status BadWords = 2
+program_status NotAnSexp = 1
+program_status Failed = 3
 
 -- what it says
 abbrev pub message_of : Ending → List ℕ

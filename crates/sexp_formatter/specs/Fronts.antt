@@ -1,8 +1,8 @@
 -- What bytes begin with, as a reader finds it from the left, and what is after it.
 use Rattle.std.specs.Prelude.{◌≡◌, ℕ, ◌≤◌, ◌⊎◌, false, List, [], ◌∷◌, ◌++◌}
 use Rattle.std.specs.Char.{is_ascii_digit}
-use Rattle.sexp_formatter.specs.Value.{Value, Values, number, depth, depth_of_all}
-use Rattle.sexp_formatter.specs.Grammar.{closing, line_feed, IsText, AreTexts}
+use Rattle.sexp_formatter.specs.Value.{Value, Values, number, value_depth, depth_of_all}
+use Rattle.sexp_formatter.specs.Grammar.{closing, input_line_feed, IsValueText, AreTexts}
 use Rattle.sexp_formatter.specs.declared.error.RunError.{RunError}
 use Rattle.sexp_formatter.specs.declared.error.RunError.TheVariants.{NotAnSexp, Memory, Read, Write}
 
@@ -13,11 +13,11 @@ EndsNumber (b ∷ bs) = is_ascii_digit b ≡ false
 
 -- after the whole value nothing comes, or one line feed
 abbrev pub IsEnd : List ℕ → Type 0
-IsEnd rest = (rest ≡ []) ⊎ (rest ≡ line_feed ∷ [])
+IsEnd rest = (rest ≡ []) ⊎ (rest ≡ input_line_feed ∷ [])
 
 -- the text of a value, and then these bytes
-abbrev pub Begins : Value → List ℕ → List ℕ → Type 0
-Begins v bytes rest = (text : List ℕ) × (bytes ≡ text ++ rest) × IsText v text
+abbrev pub BeginsValue : Value → List ℕ → List ℕ → Type 0
+BeginsValue v bytes rest = (text : List ℕ) × (bytes ≡ text ++ rest) × IsValueText v text
 
 -- the values of a list up to its parenthesis, and then these bytes
 abbrev pub Closes : Values → List ℕ → List ℕ → Type 0
@@ -25,22 +25,22 @@ Closes vs bytes rest = (text : List ℕ) × (bytes ≡ text ++ closing ∷ rest)
 
 -- the bytes begin with this number, and with no other
 pub record IsNumberFront (bytes : List ℕ) (n : ℕ) (rest : List ℕ) : Type 0 where
-  pub begins : Begins (number n) bytes rest
-  pub only : (m : ℕ) (other : List ℕ) → Begins (number m) bytes other → EndsNumber other → (m ≡ n) × (other ≡ rest)
+  pub begins : BeginsValue (number n) bytes rest
+  pub only : (m : ℕ) (other : List ℕ) → BeginsValue (number m) bytes other → EndsNumber other → (m ≡ n) × (other ≡ rest)
 
 -- the bytes begin with no number
 abbrev pub HasNoNumberFront : List ℕ → Type 0
-HasNoNumberFront bytes = (m : ℕ) (other : List ℕ) → Begins (number m) bytes other → EndsNumber other → ⊥
+HasNoNumberFront bytes = (m : ℕ) (other : List ℕ) → BeginsValue (number m) bytes other → EndsNumber other → ⊥
 
 -- the bytes begin with this value of at most so many levels, and with no other of at most so many
 pub record IsFront (levels : ℕ) (bytes : List ℕ) (v : Value) (rest : List ℕ) : Type 0 where
-  pub begins : Begins v bytes rest
-  pub nesting : depth v ≤ levels
-  pub only : (w : Value) (other : List ℕ) → Begins w bytes other → depth w ≤ levels → EndsNumber other → (w ≡ v) × (other ≡ rest)
+  pub begins : BeginsValue v bytes rest
+  pub nesting : value_depth v ≤ levels
+  pub only : (w : Value) (other : List ℕ) → BeginsValue w bytes other → value_depth w ≤ levels → EndsNumber other → (w ≡ v) × (other ≡ rest)
 
 -- the bytes begin with no value of at most so many levels
 abbrev pub HasNoFront : ℕ → List ℕ → Type 0
-HasNoFront levels bytes = (w : Value) (other : List ℕ) → Begins w bytes other → depth w ≤ levels → EndsNumber other → ⊥
+HasNoFront levels bytes = (w : Value) (other : List ℕ) → BeginsValue w bytes other → value_depth w ≤ levels → EndsNumber other → ⊥
 
 -- the bytes begin with these values of a list, of at most so many levels, and with no others of at most so many
 pub record IsListFront (levels : ℕ) (bytes : List ℕ) (vs : Values) (rest : List ℕ) : Type 0 where
@@ -53,8 +53,8 @@ abbrev pub HasNoListFront : ℕ → List ℕ → Type 0
 HasNoListFront levels bytes = (ws : Values) (other : List ℕ) → Closes ws bytes other → depth_of_all ws ≤ levels → ⊥
 
 -- why nothing was read: this fact, or want of memory
-abbrev pub Refuses : RunError → Type 0 → Type 0
-Refuses NotAnSexp fact = fact
-Refuses (Memory e) fact = Unit {0}
-Refuses (Read e) fact = ⊥
-Refuses (Write e) fact = ⊥
+abbrev pub RefusesInput : RunError → Type 0 → Type 0
+RefusesInput NotAnSexp fact = fact
+RefusesInput (Memory e) fact = Unit {0}
+RefusesInput (Read e) fact = ⊥
+RefusesInput (Write e) fact = ⊥

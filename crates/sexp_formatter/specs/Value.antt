@@ -14,19 +14,19 @@ mutual
 
 -- how many parentheses are open at once, at most
 abbrev mutual
-  pub depth : Value → ℕ
-  depth (number n) = 0
-  depth (list vs) = suc (depth_of_all vs)
+  pub value_depth : Value → ℕ
+  value_depth (number n) = 0
+  value_depth (list vs) = suc (depth_of_all vs)
 
   pub depth_of_all : Values → ℕ
   depth_of_all none = 0
-  depth_of_all (first v vs) = max (depth v) (depth_of_all vs)
+  depth_of_all (first v vs) = max (value_depth v) (depth_of_all vs)
 
 -- these values, and then the others
-abbrev pub joined : List Value → Values → Values
-joined [] vs = vs
-joined (w ∷ ws) vs = first w (joined ws vs)
+abbrev pub values_before : List Value → Values → Values
+values_before [] vs = vs
+values_before (w ∷ ws) vs = first w (values_before ws vs)
 
 -- these values and no others
 abbrev pub values_of : List Value → Values
-values_of ws = joined ws none
+values_of ws = values_before ws none

@@ -4,10 +4,10 @@ ghost use Rattle.prettyless.specs.Built.{append, between, group, nest};
 ghost use Rattle.prettyless.specs.Lines.{line};
 ghost use Rattle.prettyless.specs.Tree.{Tree, Nil, Text};
 ghost use Rattle.prettyless.specs.Trees.{ref_tree};
-ghost use Rattle.sexp_formatter.specs.Transfer.{IsMemory};
+ghost use Rattle.sexp_formatter.specs.Transfer.{IsWantOfMemory};
 ghost use Rattle.sexp_formatter.specs.Value.{values_of};
 ghost use Rattle.sexp_formatter.specs.View.{value_of, values_in};
-ghost use Rattle.sexp_formatter.specs.Documents.{document_of, interspersed};
+ghost use Rattle.sexp_formatter.specs.Documents.{sexp_document, interspersed};
 
 use crate::error::RunError;
 use crate::expression::SExp;
@@ -97,7 +97,7 @@ fn joined<'a, D: DocPlace<'a>>(
 /// The document of an S-expression.
 #[cycle(built)]
 fn built<P: SexpPlace>(place: P, expression: &SExp) -> Result<P::Doc, BuildError>
-    ensures { IfOk result (λ p. P.tree p ≡ document_of (value_of expression.now)) }
+    ensures { IfOk result (λ p. P.tree p ≡ sexp_document (value_of expression.now)) }
 {
     match expression {
         SExp::Atom(number) => place.atom(*number),
@@ -127,15 +127,15 @@ fn lines<P: SexpPlace>(place: P, expressions: &[SExp]) -> Result<P::Doc, BuildEr
 
 /// The document of an S-expression, in any place.
 fn document_in<'a, D: DocPlace<'a>>(place: &'a D, expression: &SExp) -> Result<D::Doc, BuildError>
-    ensures { IfOk result (λ p. D.Doc.tree p ≡ document_of (value_of expression.now)) }
+    ensures { IfOk result (λ p. D.Doc.tree p ≡ sexp_document (value_of expression.now)) }
 {
     built(place, expression)
 }
 
 /// The document of an S-expression, with its nodes in this arena.
 pub fn document<'a>(arena: &'a Arena<'a>, expression: &SExp) -> Result<RefDoc<'a>, RunError>
-    ensures ok { IfOk result (λ p. ref_tree p ≡ document_of (value_of expression.now)) }
-    ensures err { IfErr result IsMemory }
+    ensures ok { IfOk result (λ p. ref_tree p ≡ sexp_document (value_of expression.now)) }
+    ensures err { IfErr result IsWantOfMemory }
 {
     Ok(document_in(arena, expression)?)
 }

@@ -13,11 +13,11 @@ pub enum Ending {
 
 impl Ending {
     ghost use Rattle.std.specs.Prelude.{◌≡◌};
-    ghost use Rattle.sexp_formatter.specs.Endings.{status_of, message_of};
+    ghost use Rattle.sexp_formatter.specs.Endings.{program_status, message_of};
 
     /// The status that the process ends with.
     pub fn status(self) -> u8
-        ensures { result ≡ status_of self }
+        ensures { result ≡ program_status self }
     {
         match self {
             Ending::BadWords => 2,

@@ -1,6 +1,6 @@
 ghost use Rattle.std.specs.Prelude.{OnOk, OnErr, IfErr};
 ghost use Rattle.std.specs.Io.KnownBytes.{Appends};
-ghost use Rattle.sexp_formatter.specs.Transfer.{IsWriting, AppendsBeginning};
+ghost use Rattle.sexp_formatter.specs.Transfer.{IsWriterFailure, TransfersBeginning};
 
 use crate::error::RunError;
 use std::io;
@@ -12,8 +12,8 @@ use std::io::{ErrorKind, Write};
 /// kind `WriteZero`.
 pub fn write_text<W: Write>(writer: &mut W, text: &[u8]) -> Result<(), RunError>
     ensures ok { OnOk result (Appends (W.contents writer.old) (W.contents writer.new) text.now) }
-    ensures beginning { OnErr result (AppendsBeginning (W.contents writer.old) (W.contents writer.new) text.now) }
-    ensures err { IfErr result IsWriting }
+    ensures beginning { OnErr result (TransfersBeginning (W.contents writer.old) (W.contents writer.new) text.now) }
+    ensures err { IfErr result IsWriterFailure }
 {
     let mut rest = text;
     while !rest.is_empty() {

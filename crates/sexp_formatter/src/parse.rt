@@ -2,8 +2,9 @@ ghost use Rattle.std.specs.Prelude.{◌≡◌, ◌≤◌, ◌↔◌, IfOk, IfErr
 ghost use Rattle.std.specs.Char.{is_ascii_digit};
 ghost use Rattle.sexp_formatter.specs.Value.{Value, values_of};
 ghost use Rattle.sexp_formatter.specs.View.{value_of, values_in};
-ghost use Rattle.sexp_formatter.specs.Grammar.{Reads};
-ghost use Rattle.sexp_formatter.specs.Fronts.{EndsNumber, IsEnd, IsNumberFront, HasNoNumberFront, IsFront, HasNoFront, IsListFront, HasNoListFront, Refuses};
+ghost use Rattle.sexp_formatter.specs.Grammar.{ReadsValue};
+ghost use Rattle.sexp_formatter.specs.Fronts.{EndsNumber, IsEnd, IsNumberFront, HasNoNumberFront, IsFront, HasNoFront, IsListFront};
+ghost use Rattle.sexp_formatter.specs.Fronts.{HasNoListFront, RefusesInput};
 
 use crate::error::RunError;
 use crate::expression::SExp;
@@ -53,7 +54,7 @@ fn after(bytes: &[u8], byte: u8) -> Option<&[u8]>
 #[cycle(value)]
 fn value(alloc: Global, bytes: &[u8], levels: usize) -> Result<(SExp, &[u8]), RunError>
     ensures ok { IfOk result (λ x. IsFront levels bytes.now (value_of x.0) x.1.now) }
-    ensures err { IfErr result (λ e. Refuses e (HasNoFront levels bytes.now)) }
+    ensures err { IfErr result (λ e. RefusesInput e (HasNoFront levels bytes.now)) }
 {
     if let Some(inner) = after(bytes, b'(') {
         if levels == 0 {
@@ -72,7 +73,7 @@ fn value(alloc: Global, bytes: &[u8], levels: usize) -> Result<(SExp, &[u8]), Ru
 #[cycle(value)]
 fn list(alloc: Global, bytes: &[u8], levels: usize) -> Result<(Vec<SExp>, &[u8]), RunError>
     ensures ok { IfOk result (λ x. IsListFront levels bytes.now (values_of (values_in x.0.items)) x.1.now) }
-    ensures err { IfErr result (λ e. Refuses e (HasNoListFront levels bytes.now)) }
+    ensures err { IfErr result (λ e. RefusesInput e (HasNoListFront levels bytes.now)) }
 {
     let mut items = Vec::new(alloc);
     if let Some(rest) = after(bytes, b')') {
@@ -104,10 +105,10 @@ fn is_end(rest: &[u8]) -> bool
 /// `NotAnSexp` where it is the text of none, and else `Memory` where memory is refused.
 pub fn parse(alloc: Global, input: &[u8]) -> Result<SExp, RunError>
     // The input is read as the answer, and as no other.
-    ensures ok { IfOk result (λ s. Reads input.now (value_of s)) }
-    ensures only { IfOk result (λ s. (v : Value) → Reads input.now v → v ≡ value_of s) }
+    ensures ok { IfOk result (λ s. ReadsValue input.now (value_of s)) }
+    ensures only { IfOk result (λ s. (v : Value) → ReadsValue input.now v → v ≡ value_of s) }
     // It is refused only where it is read as nothing.
-    ensures err { IfErr result (λ e. Refuses e ((v : Value) → Reads input.now v → ⊥)) }
+    ensures err { IfErr result (λ e. RefusesInput e ((v : Value) → ReadsValue input.now v → ⊥)) }
 {
     if input.len() > MOST_BYTES {
         return Err(RunError::NotAnSexp);

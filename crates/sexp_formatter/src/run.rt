@@ -1,6 +1,6 @@
 ghost use Rattle.std.specs.Prelude.{◌≡◌, IfOk, IfErr};
 ghost use Rattle.sexp_formatter.specs.View.{value_of};
-ghost use Rattle.sexp_formatter.specs.Runs.{Runs, Writes};
+ghost use Rattle.sexp_formatter.specs.Runs.{RunsFormatter, WritesValue};
 
 use crate::document::document;
 use crate::error::RunError;
@@ -20,7 +20,7 @@ fn write_layout<W: Write>(
     expression: &SExp,
     writer: &mut W,
 ) -> Result<(), RunError>
-    ensures { Writes options (value_of expression.now) (W.contents writer.old) (W.contents writer.new) result }
+    ensures { WritesValue options (value_of expression.now) (W.contents writer.old) (W.contents writer.new) result }
 {
     let bump = Bump::new(alloc);
     let arena = Arena::new(alloc, &bump);
@@ -44,7 +44,7 @@ pub fn run<R: Read, W: Write>(
     reader: &mut R,
     writer: &mut W,
 ) -> Result<(), RunError>
-    ensures { Runs options (R.remaining reader.old) (W.contents writer.old) (W.contents writer.new) result }
+    ensures { RunsFormatter options (R.remaining reader.old) (W.contents writer.old) (W.contents writer.new) result }
 {
     let input = read_input(alloc, reader)?;
     let expression = parse(alloc, &input)?;

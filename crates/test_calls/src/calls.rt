@@ -46,6 +46,21 @@ pub(crate) fn strings<'a, D: DocPlace<'a>>(rt: &impl Abort, place: &'a D) {
     assert!(rt; is_small(value.doc()));
 }
 
+// Eleven characters of two bytes: as many as a node has room for.
+const ELEVEN: &str = "ééééééééééé";
+
+fn is_eleven<T>(node: &Doc<'_, T>) -> bool {
+    match node {
+        Doc::TextWithLen(11, text @ Text::Small(_)) => text.as_str() == ELEVEN,
+        _ => false,
+    }
+}
+
+pub(crate) fn wide_strings<'a, D: DocPlace<'a>>(rt: &impl Abort, place: &'a D) {
+    let value = built(rt, place.as_string(ELEVEN));
+    assert!(rt; is_eleven(value.doc()));
+}
+
 pub(crate) fn operands<'a, D: DocPlace<'a>, P: Pretty<'a, D> + Copy>(
     rt: &impl Abort,
     place: &'a D,

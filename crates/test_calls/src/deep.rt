@@ -1,4 +1,4 @@
-//! Boxed documents deeper by far than the stack has room for calls.
+//! Documents deeper by far than the stack has room for calls.
 use prettyless::{Doc, DocPlace, DocPtr};
 use std::process::Abort;
 
@@ -82,9 +82,46 @@ fn clone_and_drop<'a, D: DocPlace<'a>>(rt: &impl Abort, place: &'a D, chain: D::
     drop(chain);
 }
 
+// Chains that are cloned and dropped.
 pub(crate) fn chains<'a, D: DocPlace<'a>>(rt: &impl Abort, place: &'a D) {
     clone_and_drop(rt, place, to_the_left(rt, place));
     clone_and_drop(rt, place, to_the_right(rt, place));
     drop(in_nests(rt, place));
     drop(in_all_kinds(rt, place));
+}
+
+// Nothing, twice in each node.
+fn doubled<'a, D: DocPlace<'a>>(rt: &impl Abort, place: &'a D) -> D::Doc {
+    let mut chain = placed(rt, place, Doc::Nil);
+    for _ in 0..DEPTH {
+        let copy = cloned(rt, place, &chain);
+        chain = placed(rt, place, Doc::Append(copy, chain));
+    }
+    chain
+}
+
+// Whether all lines of a chain to the left are there.
+fn is_whole<'a, T: DocPtr<'a>>(chain: &T) -> bool {
+    let mut rest = chain;
+    for _ in 0..DEPTH {
+        let Doc::Append(first, line) = rest.doc() else {
+            return false;
+        };
+        if !matches!(line.doc(), Doc::HardLine) {
+            return false;
+        }
+        rest = first;
+    }
+    matches!(rest.doc(), Doc::Nil)
+}
+
+// Documents whose nodes have several owners, where a clone copies no node.
+pub(crate) fn shared<'a, D: DocPlace<'a>>(rt: &impl Abort, place: &'a D) {
+    drop(doubled(rt, place));
+    let chain = to_the_left(rt, place);
+    let kept = cloned(rt, place, &chain);
+    let line = placed(rt, place, Doc::HardLine);
+    drop(placed(rt, place, Doc::Append(chain, line)));
+    assert!(rt; is_whole(&kept));
+    drop(kept);
 }

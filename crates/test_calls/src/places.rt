@@ -17,6 +17,7 @@ where
     calls::lines(rt, place);
     calls::texts(rt, place);
     calls::strings(rt, place);
+    calls::wide_strings(rt, place);
     lists::gaps(rt, place);
     lists::marks(rt, place);
     lists::brackets(rt, place);
@@ -159,6 +160,8 @@ where
 {
     all(rt, place);
     operands::pointed(rt, place);
+    deep::chains(rt, place);
+    deep::shared(rt, place);
 }
 
 #[test]

@@ -1,6 +1,7 @@
 //! Layouts of JSON texts into an area of fifteen bytes.
+use crate::answers::{Answer, compare_answers};
 use json_exports::layout::json_layout;
-use std::alloc::Global;
+use std::alloc::{AllocError, Global};
 use std::process::Abort;
 
 #[derive(Clone, Copy)]
@@ -38,20 +39,6 @@ fn limited(limit: usize) -> Options {
     Options { limit, ..PLAIN }
 }
 
-// The number of a status, how many bytes are written, what the area holds, and a line and a column.
-#[derive(Clone, Copy)]
-struct Answer<'a> {
-    status: u32,
-    written: usize,
-    held: &'a str,
-    place: (usize, usize),
-}
-
-// Ends the test where this is wrong of a text.
-fn check(rt: &impl Abort, holds: bool, what: &str, text: &[u8]) {
-    assert!(rt; holds, "{what} of {text:?}");
-}
-
 fn compare(rt: &impl Abort, memory: Global, options: Options, text: &[u8], wanted: Answer<'_>) {
     let Options {
         width,
@@ -73,15 +60,13 @@ fn compare(rt: &impl Abort, memory: Global, options: Options, text: &[u8], wante
         &mut line,
         &mut column,
     );
-    check(rt, status == wanted.status, "the status", text);
-    check(rt, written == wanted.written, "the count", text);
-    check(
-        rt,
-        out.as_slice() == wanted.held.as_bytes(),
-        "the area",
-        text,
-    );
-    check(rt, (line, column) == wanted.place, "the place", text);
+    let answer = Answer {
+        status,
+        written,
+        held: &out,
+        place: (line, column),
+    };
+    compare_answers(rt, text, answer, wanted);
 }
 
 // Compares a layout.
@@ -95,7 +80,7 @@ fn compare_layout(
     let wanted = Answer {
         status,
         written,
-        held,
+        held: held.as_bytes(),
         place: (0, 0),
     };
     compare(rt, memory, options, text.as_bytes(), wanted);
@@ -125,6 +110,43 @@ fn options_change_the_layout(rt: HostRuntime) {
     }
 }
 
+fn push_times(out: &mut String, text: &str, times: usize) -> Result<(), AllocError> {
+    for _ in 0..times {
+        out.push_str(text)?;
+    }
+    Ok(())
+}
+
+// So many arrays, one inside the other.
+fn arrays(memory: Global, count: usize) -> Result<String, AllocError> {
+    let mut text = String::new(memory);
+    push_times(&mut text, "[", count)?;
+    push_times(&mut text, "]", count)?;
+    Ok(text)
+}
+
+// Each bracket but the innermost two has a line of its own: the layout of n arrays has 2 * n * n + 1 bytes, for 100,000 of
+// them 20 GB.
+#[test]
+fn deep_layouts_are_counted_as_far_as_the_limit(rt: HostRuntime) {
+    let begun = "[\n  [\n    [\n   ";
+    for (count, options, status, written) in [
+        (1000, PLAIN, 1, 2_000_001),
+        (1000, limited(2_000_001), 1, 2_000_001),
+        (1000, limited(2_000_000), 4, 15),
+        (100_000, limited(1000), 4, 15),
+    ] {
+        let text = arrays(rt.alloc(), count).expect(&rt, "memory was refused");
+        compare_layout(
+            &rt,
+            rt.alloc(),
+            options,
+            text.as_str(),
+            (status, written, begun),
+        );
+    }
+}
+
 #[rattlefmt::skip]
 const FAULTS: &[(&[u8], (usize, usize), usize, &str)] = &[
     (b"", (1, 1), 7, "a value........"),
@@ -143,7 +165,7 @@ fn what_was_expected_is_named(rt: HostRuntime) {
         let wanted = Answer {
             status: 5,
             written,
-            held,
+            held: held.as_bytes(),
             place,
         };
         compare(&rt, rt.alloc(), limited(1), text, wanted);

@@ -2,6 +2,8 @@
 #![tactic(auto)]
 
 #[cfg(test)]
+mod answers;
+#[cfg(test)]
 mod areas;
 #[cfg(test)]
 mod faults;
@@ -11,3 +13,5 @@ mod instructions;
 mod json_areas;
 #[cfg(test)]
 mod places;
+#[cfg(test)]
+mod toml_areas;

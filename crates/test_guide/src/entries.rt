@@ -1,6 +1,6 @@
 //! Layouts of entries, worked by hand, and read back.
-use guide_formatters::entry::{Entry, Setting};
-use guide_formatters::entry_write::write_entries;
+use example_formatters::entry::{Entry, Setting};
+use example_formatters::entry_write::write_entries;
 use std::alloc::{AllocError, Global};
 use std::mem;
 use std::test::Fail;

@@ -1,6 +1,6 @@
 //! Layouts of terms, worked by hand.
-use guide_formatters::term::Term;
-use guide_formatters::write::write_term;
+use example_formatters::term::Term;
+use example_formatters::write::write_term;
 use std::alloc::{AllocError, Global};
 use std::test::Fail;
 

@@ -1,6 +1,6 @@
 //! The layouts of values of a type that contains itself.
 use crate::layouts::compare_doc;
-use guide_formatters::values::{Value, document};
+use example_formatters::values::{Value, document};
 use prettyless::{BoxAllocator, DocPtr};
 use std::test::Fail;
 

@@ -76,6 +76,7 @@ pub(crate) enum InBoxes {
     ByteWriters(writers::Wrong),
     CharacterOfBytes,
     TextWriters,
+    FullTexts,
 }
 
 fn done_in_boxes<'a, D: DocPlace<'a>>(
@@ -92,6 +93,7 @@ fn done_in_boxes<'a, D: DocPlace<'a>>(
         InBoxes::ByteWriters(wrong) => writers::compare_all_bytes(rt, place, wrong),
         InBoxes::CharacterOfBytes => writers::compare_character(rt, place),
         InBoxes::TextWriters => writers::compare_text_writers(rt, place),
+        InBoxes::FullTexts => refusals::full_texts(rt, place),
     }
 }
 

@@ -1,10 +1,12 @@
-//! Memory that an arena's `Bump` refuses: what the call was given is given up, and all else is as before.
+//! Memory that a `Bump` refuses. In an arena what the call was given is given up, and all else is as before. A text that cannot grow is
+//! a sink that fails.
 use crate::checks::check;
-use crate::places::{CountedPlace, InArena, in_arena};
+use crate::places::{CountedPlace, InArena, InBoxes, in_arena, in_boxes};
 use bumpalo::Bump;
 use prettyless::text::{BuildError, CowStr, MultilineTextData, Text};
-use prettyless::{Doc, DocPlace, DocPtr};
+use prettyless::{Doc, DocPlace, DocPtr, RenderError, RenderOptions};
 use std::alloc::{AllocError, Global};
+use std::fmt;
 use std::process::Abort;
 use std::test::Fail;
 
@@ -132,4 +134,43 @@ pub(crate) fn measures<'a, D: DocPlace<'a>>(rt: &impl Abort, place: &'a D) -> Re
 #[test]
 fn a_payload_keeps_its_measures(rt: HostRuntime) -> Result<(), Fail> {
     in_arena(&rt, rt.alloc(), None, InArena::Payloads)
+}
+
+// Two letters, and then a text that is too long.
+fn letters_and_text<'a, D: DocPlace<'a>>(place: &'a D) -> Result<D::Doc, Fail> {
+    let letters = place.alloc(Doc::Text(Text::Borrowed("ab")))?;
+    let text = place.alloc(text_of(place.memory())?)?;
+    Ok(place.alloc(Doc::Append(letters, text))?)
+}
+
+// The error is the sink's, and the text has what there was room for.
+fn check_full(
+    rt: &impl Abort,
+    ending: &Result<(), RenderError<fmt::Error>>,
+    out: &str,
+    expected: &str,
+) {
+    let is_of_sink = matches!(ending, Err(RenderError::Sink(_)));
+    check(rt, is_of_sink, "the end", "a text that cannot grow");
+    check(rt, out == expected, "the text", "a text that cannot grow");
+}
+
+// By both calls that render to a text.
+pub(crate) fn full_texts<'a, D: DocPlace<'a>>(rt: &impl Abort, place: &'a D) -> Result<(), Fail> {
+    let memory = place.memory();
+    let document = letters_and_text(place)?;
+    let bump = Bump::new(memory);
+    let mut out = String::from_str(&bump, ">")?;
+    bump.set_allocation_limit(Some(bump.allocated_bytes()));
+    let options = RenderOptions::new(80);
+    let ending = document.doc().render_fmt_with(memory, options, &mut out);
+    check_full(rt, &ending, out.as_str(), ">ab");
+    let ending = document.doc().render_fmt(memory, 80, &mut out);
+    check_full(rt, &ending, out.as_str(), ">abab");
+    Ok(())
+}
+
+#[test]
+fn a_text_cannot_grow(rt: HostRuntime) -> Result<(), Fail> {
+    in_boxes(&rt, rt.alloc(), InBoxes::FullTexts)
 }

@@ -33,6 +33,30 @@ const LAYOUTS: &[Case<'static>] = &[
     (4, ALIGNED, "abc\n  d"),
 ];
 
+// Alternatives, suffixes and indents with what is around them.
+#[rattlefmt::skip]
+const CONTEXTS: &[Case<'static>] = &[
+    // An alternative after a group, which is flat where what follows it fits.
+    (5, "Append Append Text 'aa' Group Append BreakOrFlat HardLine Text ' ' Text 'bb' Union Nil Text 'cccccccc'", "aa\nbb"),
+    (13, "Append Append Text 'aa' Group Append BreakOrFlat HardLine Text ' ' Text 'bb' Union Nil Text 'cccccccc'", "aa bb"),
+    // A line of an alternative is indented, also where only what follows it shows that.
+    (1, "Nest 2 Append Union Append Text 'a' HardLine Text 'x' Text 'b'", "a\n  b"),
+    (80, "Append Append Text 'a' WeakSpace Align Append HardLine Text 'b'", "a\n  b"),
+    // Each nest adds to the indent around it, which never goes below 0.
+    (80, "Nest -2 Nest 2 Append HardLine Text 'x'", "\n  x"),
+    (80, "Nest 2 Nest -2 Append HardLine Text 'x'", "\nx"),
+    // An alternative by its first line goes by what follows it too.
+    (4, "Append PartialUnion Text 'ab' Text 'c' Text 'dddd'", "cdddd"),
+    (6, "Append PartialUnion Text 'ab' Text 'c' Text 'dddd'", "abdddd"),
+    // A suffix in a suffix.
+    (80, "Append Append Append Text 'a' LineSuffix Append Text 'x' LineSuffix Text 'y' HardLine Text 'b'", "axy\nb"),
+    // A nest around a text indents no line.
+    (80, "Append Append Text 'a' HardLine Nest 4 Text 'x'", "a\nx"),
+    // A choice that fails where lines are broken.
+    (5, "Union Group Append BreakOrFlat Fail Nil Text '12345' Text 'abc'", "12345"),
+    (4, "Union Group Append BreakOrFlat Fail Nil Text '12345' Text 'abc'", "abc"),
+];
+
 #[rattlefmt::skip]
 const FAILURES: &[Case<'static>] = &[
     // A break in flat lines, and a suffix where it is laid.
@@ -48,6 +72,11 @@ const LATE_INDENTS: &[Case<'static>] = &[
 
 #[test]
 fn each_variant(rt: HostRuntime) -> Result<(), Fail> {
-    let tables = [(EAGER, LAYOUTS), (FAILING, FAILURES), (LATE, LATE_INDENTS)];
+    let tables = [
+        (EAGER, LAYOUTS),
+        (EAGER, CONTEXTS),
+        (FAILING, FAILURES),
+        (LATE, LATE_INDENTS),
+    ];
     compare(&rt, rt.alloc(), &tables)
 }

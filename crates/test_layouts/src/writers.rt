@@ -1,4 +1,4 @@
-//! Byte writers and text writers of which one call goes wrong.
+//! Byte writers and text writers of which one call goes wrong: each call that renders to one answers the error of its sink.
 ghost use Rattle.std.specs.Prelude.{Some};
 
 use crate::checks::check;
@@ -69,6 +69,16 @@ impl Write for ByBytes {
     }
 }
 
+// The calls that render to a writer: the first to a sink over it, the others to the writer itself.
+#[derive(Clone, Copy)]
+enum Form {
+    Raw,
+    WithOptions,
+    AtWidth,
+}
+
+const FORMS: &[Form] = &[Form::Raw, Form::WithOptions, Form::AtWidth];
+
 // How a render ends.
 #[derive(PartialEq, Drop)]
 enum Ending<E> {
@@ -86,16 +96,33 @@ fn undisturbed<E>(row: &Row<'_>) -> Ending<E> {
     }
 }
 
+fn render_bytes<'a, T: DocPtr<'a>>(
+    memory: Global,
+    document: &T,
+    width: usize,
+    form: Form,
+    writer: &mut ByBytes,
+) -> Result<(), RenderError<io::Error>> {
+    let options = RenderOptions::new(width);
+    match form {
+        Form::Raw => {
+            let mut sink = IoWrite::new(writer);
+            document.doc().render_raw_with(memory, options, &mut sink)
+        }
+        Form::WithOptions => document.doc().render_with(memory, options, writer),
+        Form::AtWidth => document.doc().render(memory, width, writer),
+    }
+}
+
 // How a render to such a writer ends, with the kind of the error.
 fn ending_of_bytes<'a, T: DocPtr<'a>>(
     memory: Global,
     document: &T,
     width: usize,
+    form: Form,
     writer: &mut ByBytes,
 ) -> Result<Ending<ErrorKind>, Fail> {
-    let options = RenderOptions::new(width);
-    let mut sink = IoWrite::new(writer);
-    match document.doc().render_raw_with(memory, options, &mut sink) {
+    match render_bytes(memory, document, width, form, writer) {
         Ok(()) => Ok(Ending::Laid),
         Err(RenderError::Document(_)) => Ok(Ending::Document),
         Err(RenderError::Sink(error)) => Ok(Ending::Sink(error.kind())),
@@ -141,11 +168,11 @@ fn compare_bytes<'a, T: DocPtr<'a>>(
     memory: Global,
     document: &T,
     row: &Row<'_>,
-    wrong: Wrong,
-    wrong_call: usize,
+    form: Form,
+    (wrong, wrong_call): (Wrong, usize),
 ) -> Result<bool, Fail> {
     let mut writer = ByBytes::new(memory, wrong, wrong_call);
-    let ending = ending_of_bytes(memory, document, row.width, &mut writer)?;
+    let ending = ending_of_bytes(memory, document, row.width, form, &mut writer)?;
     let layout = row.layout;
     if layout.len() < wrong_call {
         compare_all_of_bytes(rt, row, &writer, &ending);
@@ -162,10 +189,11 @@ fn compare_calls<'a, T: DocPtr<'a>>(
     memory: Global,
     document: &T,
     row: &Row<'_>,
+    form: Form,
     wrong: Wrong,
 ) -> Result<(), Fail> {
     for wrong_call in 1..100 {
-        if !compare_bytes(rt, memory, document, row, wrong, wrong_call)? {
+        if !compare_bytes(rt, memory, document, row, form, (wrong, wrong_call))? {
             return Ok(());
         }
     }
@@ -179,7 +207,10 @@ fn compare_row_of_bytes<'a, D: DocPlace<'a>>(
     wrong: Wrong,
 ) -> Result<(), Fail> {
     let document = read(place, row.written)?;
-    compare_calls(rt, place.memory(), &document, &row, wrong)
+    for &form in FORMS {
+        compare_calls(rt, place.memory(), &document, &row, form, wrong)?;
+    }
+    Ok(())
 }
 
 pub(crate) fn compare_all_bytes<'a, D: DocPlace<'a>>(
@@ -211,7 +242,7 @@ pub(crate) fn compare_character<'a, D: DocPlace<'a>>(
     let memory = place.memory();
     let document = read(place, ACCENTED)?;
     let mut writer = ByBytes::new(memory, Wrong::TakesNothing, usize::MAX);
-    let ending = ending_of_bytes(memory, &document, 80, &mut writer)?;
+    let ending = ending_of_bytes(memory, &document, 80, Form::Raw, &mut writer)?;
     check(rt, ending == Ending::Laid, "the end", ACCENTED);
     check(
         rt,
@@ -264,16 +295,33 @@ impl fmt::Write for ByPieces {
     }
 }
 
+fn render_text<'a, T: DocPtr<'a>, W: TextWriter>(
+    memory: Global,
+    document: &T,
+    width: usize,
+    form: Form,
+    writer: &mut W,
+) -> Result<(), RenderError<fmt::Error>> {
+    let options = RenderOptions::new(width);
+    match form {
+        Form::Raw => {
+            let mut sink = FmtWrite::new(writer);
+            document.doc().render_raw_with(memory, options, &mut sink)
+        }
+        Form::WithOptions => document.doc().render_fmt_with(memory, options, writer),
+        Form::AtWidth => document.doc().render_fmt(memory, width, writer),
+    }
+}
+
 // How a render to a text writer ends.
 fn ending_of_text<'a, T: DocPtr<'a>, W: TextWriter>(
     memory: Global,
     document: &T,
     width: usize,
+    form: Form,
     writer: &mut W,
 ) -> Result<Ending<fmt::Error>, Fail> {
-    let options = RenderOptions::new(width);
-    let mut sink = FmtWrite::new(writer);
-    match document.doc().render_raw_with(memory, options, &mut sink) {
+    match render_text(memory, document, width, form, writer) {
         Ok(()) => Ok(Ending::Laid),
         Err(RenderError::Document(_)) => Ok(Ending::Document),
         Err(RenderError::Sink(error)) => Ok(Ending::Sink(error)),
@@ -286,13 +334,13 @@ fn ending_of_pieces<'a, T: DocPtr<'a>>(
     memory: Global,
     document: &T,
     width: usize,
-    known: bool,
+    (form, known): (Form, bool),
     writer: &mut ByPieces,
 ) -> Result<Ending<fmt::Error>, Fail> {
     if known {
-        ending_of_text(memory, document, width, writer)
+        ending_of_text(memory, document, width, form, writer)
     } else {
-        ending_of_text(memory, document, width, &mut Untold(writer))
+        ending_of_text(memory, document, width, form, &mut Untold(writer))
     }
 }
 
@@ -341,7 +389,7 @@ fn compare_pieces<'a, T: DocPtr<'a>>(
     memory: Global,
     document: &T,
     row: &Row<'_>,
-    known: bool,
+    way: (Form, bool),
     wrong_piece: usize,
 ) -> Result<bool, Fail> {
     let mut writer = ByPieces {
@@ -350,7 +398,7 @@ fn compare_pieces<'a, T: DocPtr<'a>>(
         bytes: Vec::new(memory),
         failures: 0,
     };
-    let ending = ending_of_pieces(memory, document, row.width, known, &mut writer)?;
+    let ending = ending_of_pieces(memory, document, row.width, way, &mut writer)?;
     let comes = writer.failures != 0;
     if comes {
         compare_ended_pieces(rt, row.layout, &writer, &ending);
@@ -366,10 +414,10 @@ fn compare_all_pieces<'a, T: DocPtr<'a>>(
     memory: Global,
     document: &T,
     row: &Row<'_>,
-    known: bool,
+    way: (Form, bool),
 ) -> Result<(), Fail> {
     for wrong_piece in 1..100 {
-        if !compare_pieces(rt, memory, document, row, known, wrong_piece)? {
+        if !compare_pieces(rt, memory, document, row, way, wrong_piece)? {
             return Ok(());
         }
     }
@@ -382,8 +430,11 @@ fn compare_row_of_pieces<'a, D: DocPlace<'a>>(
     row: Row<'a>,
 ) -> Result<(), Fail> {
     let document = read(place, row.written)?;
-    compare_all_pieces(rt, place.memory(), &document, &row, true)?;
-    compare_all_pieces(rt, place.memory(), &document, &row, false)
+    for &form in FORMS {
+        compare_all_pieces(rt, place.memory(), &document, &row, (form, true))?;
+        compare_all_pieces(rt, place.memory(), &document, &row, (form, false))?;
+    }
+    Ok(())
 }
 
 pub(crate) fn compare_text_writers<'a, D: DocPlace<'a>>(

@@ -3,7 +3,13 @@
 #![tactic(auto)]
 
 #[cfg(test)]
+mod desk;
+#[cfg(test)]
 mod digits;
+#[cfg(test)]
+mod formatting;
+#[cfg(test)]
+mod jsonfmt_depth;
 #[cfg(test)]
 mod jsonfmt_layouts;
 #[cfg(test)]

@@ -1,6 +1,6 @@
 //! How a file is replaced, in a file system that refuses one call: in what order the calls are made, and what is left where one
 //! fails.
-use formatter_files::replace::replace;
+use formatter_files::replace::{begin, finish, give_up};
 use std::alloc::{Allocator, Global};
 use std::cell::Cell;
 use std::fs::{Files, Metadata, OpenFile, OpenOptions, Permissions};
@@ -226,11 +226,23 @@ impl<'f> Files for System<'f> {
     }
 }
 
+// Replaces the file behind the link by a text.
+fn replace<R: Files + AllocGlobal>(rt: &R, text: &str) -> io::Result<()> {
+    let mut new = begin(rt, "link")?;
+    match new.write_all(text.as_bytes()) {
+        Ok(()) => finish(rt, new),
+        Err(error) => {
+            give_up(rt, new);
+            Err(error)
+        }
+    }
+}
+
 // Whether the file is replaced, where the call after so many is refused. Then no other file is left, and each call came in its
 // turn.
 fn is_replaced(rt: &impl Abort, alloc: Global, left: u32, is_folder: bool) -> bool {
     let folder = Folder::new(left, is_folder);
-    let is_ok = replace(&(System(&folder), alloc), "link", TEXT).is_ok();
+    let is_ok = replace(&(System(&folder), alloc), TEXT).is_ok();
     assert!(rt;
         folder.stage.get() == 0,
         "a file is left where call {left} is refused"

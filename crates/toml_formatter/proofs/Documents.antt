@@ -5,11 +5,12 @@ use Rattle.prettyless.specs.Tree.{Tree}
 use Rattle.prettyless_model.specs.Shows as shown
 use Rattle.prettyless_model.specs.Shows.{Item, Gap, AnyLine, LineEnd, Before, After, ended, more, shows}
 use Rattle.toml_lexemes.specs.Bytes.{line_feed}
-use Rattle.toml_lexemes.specs.Lexemes.{lexemes}
+use Rattle.toml_lexemes.specs.Lexemes.{toml_lexemes_of}
 use Rattle.toml_statements.specs.Statements.{Collected, none_collected, line_ended, with_lexemes, statements_of, statements}
 use Rattle.toml_statements.specs.Shown.{Stage, first_stage, IsReady, AreRead, least_between}
 use Rattle.toml_statements.proofs.LineEnds.{ended_twice, statements_ended}
-use Rattle.toml_formatter.specs.Lines.{directly_after, before_next, StatementRead, TakesStatement, after_line_of, IsAtLine, DocumentRead, IsDocument, HasStatements}
+use Rattle.toml_formatter.specs.Lines.{directly_after, before_next, StatementRead, TakesStatement, after_line_of, IsAtLine, DocumentRead}
+use Rattle.toml_formatter.specs.Lines.{IsDocument, HasStatements}
 use Rattle.toml_formatter.proofs.Stages.{read_both, with_both}
 
 -- ---- where statements begin
@@ -63,24 +64,33 @@ unmarked_there b (inr h) = ap (λ (x : Stage). x.marked) h.2
 
 statements_there : (b : Stage) → IsAtLine b → statements_of b.collected ≡ statements_of (before_next b)
 statements_there b (inl e) = subst (λ (x : Stage). statements_of x.collected ≡ statements_of (before_next x)) (sym e) refl
-statements_there b (inr h) = subst (λ (x : Stage). statements_of x.collected ≡ statements_of (before_next x)) (sym h.2) (sym (statements_ended h.0))
+statements_there b (inr h) = subst (λ (x : Stage). statements_of x.collected ≡ statements_of (before_next x)) (sym h.2)
+    (sym (statements_ended h.0))
 
-blank_read : (blank : Bool) (b c : Stage) (items : List Item) → AreRead (at_blank blank b) items c → AreRead b (blank_items blank ++ items) c
+blank_read : (blank : Bool) (b c : Stage) (items : List Item) → AreRead (at_blank blank b) items c
+    → AreRead b (blank_items blank ++ items) c
 blank_read true b c items h = h
 blank_read false b c items h = h
 
 -- ---- documents
 
 pub document_none : (left : List (List ℕ)) (d : Tree) → shows d [] → IsDocument left [] d
-document_none left d h = record { items = []; shown = h; read = record { stage = first_stage; read = refl; at_line = inl refl; same = inl refl } }
+document_none left d h = record {
+  items = [];
+  shown = h;
+  read =
+      record { stage = first_stage; read = refl; at_line = inl refl; same = inl refl };
+}
 
 empty : {P : Type 0} (s : List ℕ) (ss : List (List ℕ)) → s ∷ ss ≡ [] → P
 empty s ss e = absurd (cc)
 
-pub document_blank : (left taken : List (List ℕ)) (d : Tree) → IsDocument ((line_feed ∷ []) ∷ left) taken d → IsDocument left (taken ++ (line_feed ∷ []) ∷ []) d
+pub document_blank : (left taken : List (List ℕ)) (d : Tree) → IsDocument ((line_feed ∷ []) ∷ left) taken d
+    → IsDocument left (taken ++ (line_feed ∷ []) ∷ []) d
 document_blank left taken d h =
     let r = h.read in
-    let same : before_next r.stage ≡ with_lexemes none_collected taken = elim r.same [ inl e ↦ e | inr e ↦ empty (line_feed ∷ []) left e.0 ] in
+    let same : before_next r.stage ≡ with_lexemes none_collected taken =
+    elim r.same [ inl e ↦ e | inr e ↦ empty (line_feed ∷ []) left e.0 ] in
     record {
       items = h.items;
       shown = h.shown;
@@ -88,7 +98,8 @@ document_blank left taken d h =
         stage = r.stage;
         read = r.read;
         at_line = r.at_line;
-        same = inl (sym (ended_there r.stage r.at_line) ∙ ap line_ended same ∙ sym (with_both none_collected taken ((line_feed ∷ []) ∷ [])));
+        same = inl (sym (ended_there r.stage r.at_line) ∙ ap line_ended same
+            ∙ sym (with_both none_collected taken ((line_feed ∷ []) ∷ [])));
       };
     }
 
@@ -129,19 +140,23 @@ document_more blank s old left taken d statement front whole front_shows whole_s
 
     read_all : AreRead first_stage items (after_line_of r.collected r.text)
     read_all =
-        subst (λ (xs : List Item). AreRead first_stage xs (after_line_of r.collected r.text)) (sym (append_assoc h.items (blank_items blank) (t.1.items ++ ended ∷ [])))
+        subst (λ (xs : List Item). AreRead first_stage xs (after_line_of r.collected r.text))
+        (sym (append_assoc h.items (blank_items blank) (t.1.items ++ ended ∷ [])))
         (read_both first_stage b (after_line_of r.collected r.text) h.items (blank_items blank ++ (t.1.items ++ ended ∷ [])) h.read.read
         (blank_read blank b (after_line_of r.collected r.text) (t.1.items ++ ended ∷ [])
-        (read_both (at_blank blank b) (directly_after r.collected r.text) (after_line_of r.collected r.text) t.1.items (ended ∷ []) r.read refl)))
+        (read_both (at_blank blank b) (directly_after r.collected r.text) (after_line_of r.collected r.text) t.1.items
+        (ended ∷ []) r.read refl)))
 
     ends_same : (w : (s ∷ old ≡ t.0 ++ (line_feed ∷ []) ∷ left) ⊎ ((s ∷ old ≡ t.0) × (left ≡ [])))
-        → (line_ended r.collected ≡ with_lexemes none_collected (taken ++ more_taken w)) ⊎ ((left ≡ []) × (line_ended r.collected ≡ line_ended (with_lexemes none_collected (taken ++ more_taken w))))
+        → (line_ended r.collected ≡ with_lexemes none_collected (taken ++ more_taken w))
+        ⊎ ((left ≡ []) × (line_ended r.collected ≡ line_ended (with_lexemes none_collected (taken ++ more_taken w))))
     ends_same (inl e) =
         inl (ap line_ended collected_is ∙ sym (with_both (with_lexemes none_collected taken) t.0 ((line_feed ∷ []) ∷ []))
         ∙ sym (with_both none_collected taken (t.0 ++ (line_feed ∷ []) ∷ [])))
     ends_same (inr e) = inr (e.1, ap line_ended (collected_is ∙ sym (with_both none_collected taken t.0)))
 
-    read_more : (w : (s ∷ old ≡ t.0 ++ (line_feed ∷ []) ∷ left) ⊎ ((s ∷ old ≡ t.0) × (left ≡ []))) → DocumentRead (taken ++ more_taken w) left items
+    read_more : (w : (s ∷ old ≡ t.0 ++ (line_feed ∷ []) ∷ left) ⊎ ((s ∷ old ≡ t.0) × (left ≡ [])))
+        → DocumentRead (taken ++ more_taken w) left items
     read_more w = record {
       stage = after_line_of r.collected r.text;
       read = read_all;
@@ -149,7 +164,8 @@ document_more blank s old left taken d statement front whole front_shows whole_s
       same = ends_same w;
     }
 
-pub document_whole : (text : List ℕ) (taken : List (List ℕ)) (d : Tree) → lexemes text ≡ taken → IsDocument [] taken d → HasStatements text d
+pub document_whole : (text : List ℕ) (taken : List (List ℕ)) (d : Tree) → toml_lexemes_of text ≡ taken → IsDocument [] taken d
+    → HasStatements text d
 unfolding statements
 document_whole text taken d e h =
     let r = h.read in

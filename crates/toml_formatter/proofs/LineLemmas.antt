@@ -10,16 +10,21 @@ use Rattle.prettyless_model.specs.Shows.{Item, Shown, Mark, LineEnd, more, shows
 use Rattle.prettyless_shapes.specs.Items.{ShowsBoth, ShowsMore}
 use Rattle.prettyless_shapes.specs.Shown.{text_items}
 use Rattle.toml_lexemes.specs.Bytes.{comma, hash, head, line_feed}
-use Rattle.toml_lexemes.specs.Lexemes.{cut}
-use Rattle.toml_statements.specs.Statements.{Role, a_remark, a_closing, role, trimmed, before_trimmed, Collected, line_ended, with_lexeme, with_lexemes}
+use Rattle.toml_lexemes.specs.Lexemes.{cut_toml}
+use Rattle.toml_statements.specs.Statements.{Role, a_remark, a_closing, role, trimmed, before_trimmed, Collected, line_ended, with_lexeme}
+use Rattle.toml_statements.specs.Statements.{with_lexemes}
 use Rattle.toml_statements.specs.Shown.{Stage, IsWholeLexeme, EndsWell, AreRead, least_between}
 use Rattle.toml_formatter.specs.declared.gaps.Gap.{Gap as Between}
 use Rattle.toml_formatter.specs.declared.kind.Last.{Last}
 use Rattle.toml_formatter.specs.declared.kind.Last.TheVariants as last
 use Rattle.toml_formatter.specs.declared.line.Line.{Line}
-use Rattle.toml_formatter.specs.Gaps.{gap_items, least_of, stays, least_needed, is_remark}
-use Rattle.toml_formatter.specs.Lines.{directly_after, before_next, IsNested, EndsAs, Ends, Agrees, AreRemarks, ReadsRemarks, WaitingRemarks, HoldsNothing, HoldsNothingAfter, waiting, IsOver, LineRead, IsLine, IsValue, ClosedRead, IsClosed, GoesOn, begun, may_hold}
-use Rattle.toml_formatter.proofs.Stages.{read_both, with_both, inside_line, text_read, with_remark, waiting_depth, remarks_depth, waiting_remarks, waiting_more, remarks_more, nested_along, waiting_agrees, agrees_then, closing_same, comma_passes}
+use Rattle.toml_formatter.specs.Gaps.{gap_items, least_of, stays, least_needed, is_last_remark}
+use Rattle.toml_formatter.specs.Lines.{directly_after, before_next, IsNested, EndsAs, EndsCollected, Agrees, AreRemarks, ReadsRemarks}
+use Rattle.toml_formatter.specs.Lines.{WaitingRemarks, HoldsNothing, HoldsNothingAfter, waiting, IsOver, LineRead, ShowsTaken, IsValue}
+use Rattle.toml_formatter.specs.Lines.{ClosedRead, IsClosed, TakesMore, begun, may_hold}
+use Rattle.toml_formatter.proofs.Stages.{read_both, with_both, inside_line, text_read, with_remark, waiting_depth, remarks_depth}
+use Rattle.toml_formatter.proofs.Stages.{waiting_remarks, waiting_more, remarks_more, nested_along, waiting_agrees, agrees_then}
+use Rattle.toml_formatter.proofs.Stages.{closing_same, comma_passes}
 
 -- ---- texts
 
@@ -27,7 +32,7 @@ clash : {b : Bool} → b ≡ true → b ≡ false → ⊥
 clash p q = cc
 
 pub comma_is_whole : IsWholeLexeme (comma ∷ [])
-unfolding cut
+unfolding cut_toml
 comma_is_whole = record { alone = refl; ends = record { ended = tt; apart = λ h. absurd (cc) } }
 
 -- a text that begins with `#`
@@ -62,7 +67,8 @@ trimmed_read c s h whole =
 -- ---- what waits
 
 -- remarks may wait after a comma too
-after_comma : (flag nested : Bool) (l : Last) (rs : List (List ℕ)) (items : List Item) → WaitingRemarks flag nested l rs items → WaitingRemarks flag nested last.Comma rs items
+after_comma : (flag nested : Bool) (l : Last) (rs : List (List ℕ)) (items : List Item) → WaitingRemarks flag nested l rs items
+    → WaitingRemarks flag nested last.Comma rs items
 after_comma true nested l rs items h = (h.0, λ c t e. h.1 c t (elim e [ inl p ↦ inr p | inr p ↦ inr p ]))
 after_comma false nested l rs items h = h
 
@@ -84,7 +90,7 @@ not_over line s left h = absurd (empty h.0)
 
 -- ---- steps
 
-pub no_lexeme : (doc : RefDoc) (left : List (List ℕ)) → shows (ref_tree doc) [] → IsLine true true (begun doc last.Start) left []
+pub no_lexeme : (doc : RefDoc) (left : List (List ℕ)) → shows (ref_tree doc) [] → ShowsTaken true true (begun doc last.Start) left []
 no_lexeme doc left h = record {
   items = [];
   remark_items = [];
@@ -92,27 +98,38 @@ no_lexeme doc left h = record {
   shown = h;
   remarks_shown = h;
   remarks = refl;
-  read = λ a b. record { collected = b.0; text = b.1; read = b.2; same = ap before_next b.2; ends = inr b.3; level = inr (λ e. ap (λ (x : Stage). (before_next x).depth) (sym b.2)) };
+  read = λ a b. record {
+    collected = b.0;
+    text = b.1;
+    read = b.2;
+    same = ap before_next b.2;
+    ends = inr b.3;
+    level =
+        inr (λ e. ap (λ (x : Stage). (before_next x).depth) (sym b.2));
+  };
 }
 
 -- where a lexeme is left, the line ends as it says
-line_ends : (nested exact : Bool) (line : Line) (s : List ℕ) (left taken : List (List ℕ)) (items : List Item) (rs : List (List ℕ)) (a : Stage)
-    → (r : LineRead nested exact line (s ∷ left) taken items rs a) → Ends nested line.last r.collected r.text
+line_ends : (nested exact : Bool) (line : Line) (s : List ℕ) (left taken : List (List ℕ)) (items : List Item)
+    (rs : List (List ℕ)) (a : Stage)
+    → (r : LineRead nested exact line (s ∷ left) taken items rs a) → EndsCollected nested line.last r.collected r.text
 line_ends nested exact line s left taken items rs a r = elim r.ends [ inl o ↦ not_over line s left o | inr e ↦ e ]
 
-line_level : (nested exact : Bool) (line : Line) (s : List ℕ) (left taken : List (List ℕ)) (items : List Item) (rs : List (List ℕ)) (a : Stage)
+line_level : (nested exact : Bool) (line : Line) (s : List ℕ) (left taken : List (List ℕ)) (items : List Item)
+    (rs : List (List ℕ)) (a : Stage)
     → (r : LineRead nested exact line (s ∷ left) taken items rs a) → nested ≡ true → r.collected.depth ≡ (before_next a).depth
 line_level nested exact line s left taken items rs a r = elim r.level [ inl o ↦ not_over line s left o | inr e ↦ e ]
 
 -- what waits leaves brackets open
-waiting_nested : (nested : Bool) (line : Line) (l : Last) (rs : List (List ℕ)) (items : List Item) (c : Collected) → WaitingRemarks line.is_remarked nested l rs items
+waiting_nested : (nested : Bool) (line : Line) (l : Last) (rs : List (List ℕ)) (items : List Item) (c : Collected)
+    → WaitingRemarks line.is_remarked nested l rs items
     → IsNested nested c → IsNested nested (with_lexemes c (waiting line.comma rs))
 waiting_nested nested line l rs items c w h =
     nested_along nested c (with_lexemes c (waiting line.comma rs))
     (waiting_depth line.comma c rs (waiting_remarks line.is_remarked nested l rs items w)) h
 
-pub line_end_taken : (line : Line) (p q : Bool) (left taken : List (List ℕ)) → IsLine true true line ((line_feed ∷ []) ∷ left) taken
-    → IsLine true true (record line { broken = p; blank = q }) left (taken ++ (line_feed ∷ []) ∷ [])
+pub line_end_taken : (line : Line) (p q : Bool) (left taken : List (List ℕ)) → ShowsTaken true true line ((line_feed ∷ []) ∷ left) taken
+    → ShowsTaken true true (record line { broken = p; blank = q }) left (taken ++ (line_feed ∷ []) ∷ [])
 line_end_taken line p q left taken h = record {
   items = h.items;
   remark_items = h.remark_items;
@@ -132,7 +149,8 @@ line_end_taken line p q left taken h = record {
           collected = r.collected;
           text = r.text;
           read = r.read;
-          same = with_both (before_next a) taken ((line_feed ∷ []) ∷ []) ∙ ap line_ended r.same ∙ inside_line (with_lexemes r.collected (waiting line.comma h.rs)) deep;
+          same = with_both (before_next a) taken ((line_feed ∷ []) ∷ []) ∙ ap line_ended r.same
+              ∙ inside_line (with_lexemes r.collected (waiting line.comma h.rs)) deep;
           ends = inr ends;
           level = inr (line_level true true line (line_feed ∷ []) left taken h.items h.rs a r);
         }
@@ -141,8 +159,8 @@ line_end_taken line p q left taken h = record {
 pub comma_shown : (nested exact : Bool) (line : Line) (left taken : List (List ℕ)) (gap : Between) (x : Tree) (doc : RefDoc)
     → line.comma ≡ true → shows x (Shown (comma ∷ []) ∷ []) → ShowsBoth (ref_tree line.doc) (gap_items gap) x (ref_tree doc)
     → more (least_needed line.last comma) (least_of gap) ≡ least_of gap → (nested ≡ false → stays gap ≡ true)
-    → IsLine nested exact line left taken
-    → IsLine nested exact (record line { doc = doc; last = last.Comma; comma = false }) left taken
+    → ShowsTaken nested exact line left taken
+    → ShowsTaken nested exact (record line { doc = doc; last = last.Comma; comma = false }) left taken
 comma_shown nested exact line left taken gap x doc waits x_shows both enough stays_there h = record {
   items = h.items ++ (gap_items gap ++ Shown (comma ∷ []) ∷ []);
   remark_items = h.remark_items;
@@ -154,17 +172,21 @@ comma_shown nested exact line left taken gap x doc waits x_shows both enough sta
 }
   where
     one : (a : Stage) → LineRead nested exact line left taken h.items h.rs a
-        → LineRead nested exact (record line { doc = doc; last = last.Comma; comma = false }) left taken (h.items ++ (gap_items gap ++ Shown (comma ∷ []) ∷ [])) h.rs a
+        → LineRead nested exact (record line { doc = doc; last = last.Comma; comma = false }) left taken
+        (h.items ++ (gap_items gap ++ Shown (comma ∷ []) ∷ [])) h.rs a
     one a r =
         let c = r.collected in
-        let ends : Ends nested line.last c r.text = elim r.ends [ inl o ↦ absurd (clash waits o.1) | inr e ↦ e ] in
+        let ends : EndsCollected nested line.last c r.text = elim r.ends [ inl o ↦ absurd (clash waits o.1) | inr e ↦ e ] in
         let k = with_lexeme c (comma ∷ []) in
         record {
           collected = k;
           text = comma ∷ [];
-          read = read_both a (directly_after c r.text) (directly_after k (comma ∷ [])) h.items (gap_items gap ++ Shown (comma ∷ []) ∷ []) r.read
-              (text_read nested line.last c r.text false gap (comma ∷ []) [] (directly_after k (comma ∷ [])) ends.needs ends.inside enough stays_there comma_is_whole (λ e. absurd (clash e refl)) refl);
-          same = agrees_then exact (with_lexemes (before_next a) taken) (with_lexemes c (waiting line.comma h.rs)) (with_lexemes k h.rs) r.same
+          read = read_both a (directly_after c r.text) (directly_after k (comma ∷ [])) h.items
+              (gap_items gap ++ Shown (comma ∷ []) ∷ []) r.read
+              (text_read nested line.last c r.text false gap (comma ∷ []) [] (directly_after k (comma ∷ [])) ends.needs ends.inside enough
+              stays_there comma_is_whole (λ e. absurd (clash e refl)) refl);
+          same = agrees_then exact (with_lexemes (before_next a) taken) (with_lexemes c (waiting line.comma h.rs))
+              (with_lexemes k h.rs) r.same
               (ap (λ (w : Bool). with_lexemes c (waiting w h.rs)) waits);
           ends = inr (record { needs = λ u. refl; plain = tt; inside = nested_along nested c k (waiting_depth true c [] tt) ends.inside });
           level = elim r.level [ inl o ↦ absurd (clash waits o.1) | inr e ↦ inr (λ n. waiting_depth true c [] tt ∙ e n) ];
@@ -173,8 +195,8 @@ comma_shown nested exact line left taken gap x doc waits x_shows both enough sta
 -- the remarks that wait are shown
 pub remarks_shown : (nested exact : Bool) (line : Line) (left taken : List (List ℕ)) (doc : RefDoc)
     → line.comma ≡ false → line.is_remarked ≡ true → ShowsBoth (ref_tree line.doc) [] (ref_tree line.remarks) (ref_tree doc)
-    → IsLine nested exact line left taken
-    → IsLine nested exact (record line { doc = doc; last = last.Remark; is_remarked = false }) left taken
+    → ShowsTaken nested exact line left taken
+    → ShowsTaken nested exact (record line { doc = doc; last = last.Remark; is_remarked = false }) left taken
 remarks_shown nested exact line left taken doc settled waits both h = record {
   items = h.items ++ h.remark_items;
   remark_items = h.remark_items;
@@ -189,17 +211,19 @@ remarks_shown nested exact line left taken doc settled waits both h = record {
     held = subst (λ (w : Bool). WaitingRemarks w nested line.last h.rs h.remark_items) waits h.remarks
 
     one : (a : Stage) → LineRead nested exact line left taken h.items h.rs a
-        → LineRead nested exact (record line { doc = doc; last = last.Remark; is_remarked = false }) left taken (h.items ++ h.remark_items) [] a
+        → LineRead nested exact (record line { doc = doc; last = last.Remark; is_remarked = false }) left taken
+        (h.items ++ h.remark_items) [] a
     one a r =
         let c = r.collected in
-        let ends : Ends nested line.last c r.text = elim r.ends [ inl o ↦ absurd (clash waits o.2) | inr e ↦ e ] in
+        let ends : EndsCollected nested line.last c r.text = elim r.ends [ inl o ↦ absurd (clash waits o.2) | inr e ↦ e ] in
         let k = with_lexemes c h.rs in
         let shown = held.1 c r.text (inl ends.needs) ends.inside in
         record {
           collected = k;
           text = shown.0;
           read = read_both a (directly_after c r.text) (directly_after k shown.0) h.items h.remark_items r.read shown.1;
-          same = agrees_then exact (with_lexemes (before_next a) taken) (with_lexemes c (waiting line.comma h.rs)) (with_lexemes k (waiting line.comma [])) r.same
+          same = agrees_then exact (with_lexemes (before_next a) taken) (with_lexemes c (waiting line.comma h.rs))
+              (with_lexemes k (waiting line.comma [])) r.same
               (ap (λ (w : Bool). with_lexemes c (waiting w h.rs)) settled ∙ sym (ap (λ (w : Bool). with_lexemes k (waiting w [])) settled));
           ends = inr (record { needs = shown.2; plain = tt; inside = nested_along nested c k (remarks_depth c h.rs held.0) ends.inside });
           level = elim r.level [ inl o ↦ absurd (clash waits o.2) | inr e ↦ inr (λ n. remarks_depth c h.rs held.0 ∙ e n) ];
@@ -207,8 +231,8 @@ remarks_shown nested exact line left taken doc settled waits both h = record {
 
 -- a comma is taken where none waits, and none of what waits was shown
 comma_held : (nested : Bool) (line : Line) (p q : Bool) (left taken : List (List ℕ)) → line.comma ≡ false → may_hold line.last ≡ false
-    → IsLine nested true line ((comma ∷ []) ∷ left) taken
-    → IsLine nested true (record line { comma = true; broken = p; blank = q }) left (taken ++ (comma ∷ []) ∷ [])
+    → ShowsTaken nested true line ((comma ∷ []) ∷ left) taken
+    → ShowsTaken nested true (record line { comma = true; broken = p; blank = q }) left (taken ++ (comma ∷ []) ∷ [])
 comma_held nested line p q left taken none plain h = record {
   items = h.items;
   remark_items = h.remark_items;
@@ -239,8 +263,8 @@ comma_held nested line p q left taken none plain h = record {
 
 -- a comma is taken where nothing waits
 comma_alone : (nested : Bool) (line : Line) (p q : Bool) (left taken : List (List ℕ)) → line.comma ≡ false → line.is_remarked ≡ false
-    → IsLine nested true line ((comma ∷ []) ∷ left) taken
-    → IsLine nested true (record line { comma = true; broken = p; blank = q }) left (taken ++ (comma ∷ []) ∷ [])
+    → ShowsTaken nested true line ((comma ∷ []) ∷ left) taken
+    → ShowsTaken nested true (record line { comma = true; broken = p; blank = q }) left (taken ++ (comma ∷ []) ∷ [])
 comma_alone nested line p q left taken none alone h = record {
   items = h.items;
   remark_items = h.remark_items;
@@ -272,21 +296,28 @@ comma_alone nested line p q left taken none alone h = record {
 
 -- a comma is taken, where nothing waits or none of what waits was shown
 pub comma_taken : (nested : Bool) (line : Line) (p q : Bool) (left taken : List (List ℕ)) → line.comma ≡ false
-    → (line.is_remarked ≡ false) ⊎ (may_hold line.last ≡ false) → IsLine nested true line ((comma ∷ []) ∷ left) taken
-    → IsLine nested true (record line { comma = true; broken = p; blank = q }) left (taken ++ (comma ∷ []) ∷ [])
+    → (line.is_remarked ≡ false) ⊎ (may_hold line.last ≡ false) → ShowsTaken nested true line ((comma ∷ []) ∷ left) taken
+    → ShowsTaken nested true (record line { comma = true; broken = p; blank = q }) left (taken ++ (comma ∷ []) ∷ [])
 comma_taken nested line p q left taken none e h =
-    elim e [ inl alone ↦ comma_alone nested line p q left taken none alone h | inr plain ↦ comma_held nested line p q left taken none plain h ]
+    elim e [
+      | inl alone ↦ comma_alone nested line p q left taken none alone h
+      | inr plain ↦ comma_held nested line p q left
+          taken none plain h
+    ]
 
 -- ---- a remark
 
 -- a remark after a gap, where remarks were read before it or not
-module _ (nested : Bool) (l : Last) (gap : Between) (remark : List ℕ) (is : head remark ≡ hash) (whole : IsWholeLexeme (trimmed remark)) where
-  remark_read : (m : Last) (c : Collected) (t : List ℕ) → EndsAs m t → IsNested nested c → more (least_needed m hash) (least_of gap) ≡ least_of gap
+module _ (nested : Bool) (l : Last) (gap : Between) (remark : List ℕ) (is : head remark ≡ hash)
+    (whole : IsWholeLexeme (trimmed remark)) where
+  remark_read : (m : Last) (c : Collected) (t : List ℕ) → EndsAs m t → IsNested nested c
+      → more (least_needed m hash) (least_of gap) ≡ least_of gap
       → (nested ≡ false → stays gap ≡ true)
       → AreRead (directly_after c t) (gap_items gap ++ Shown (trimmed remark) ∷ []) (directly_after (with_lexeme c remark) (trimmed remark))
   remark_read m c t ends inside enough stays_there =
       text_read nested m c t false gap (trimmed remark) [] (directly_after (with_lexeme c remark) (trimmed remark)) ends inside
-      (subst (λ (y : ℕ). more (least_needed m y) (least_of gap) ≡ least_of gap) (sym (trimmed_head remark is)) enough) stays_there whole (λ e. absurd (clash e refl))
+      (subst (λ (y : ℕ). more (least_needed m y) (least_of gap) ≡ least_of gap) (sym (trimmed_head remark is)) enough) stays_there whole
+      (λ e. absurd (clash e refl))
       (ap (λ (x : Collected). directly_after x (trimmed remark)) (trimmed_read c remark is whole))
 
   -- the first that waits
@@ -302,7 +333,8 @@ module _ (nested : Bool) (l : Last) (gap : Between) (remark : List ℕ) (is : he
   )
 
   -- one more
-  more_remarks : (rs : List (List ℕ)) (items : List Item) → AreRemarks rs → ReadsRemarks nested l rs items → least_of gap ≡ LineEnd → (nested ≡ false → stays gap ≡ true)
+  more_remarks : (rs : List (List ℕ)) (items : List Item) → AreRemarks rs → ReadsRemarks nested l rs items → least_of gap ≡ LineEnd
+      → (nested ≡ false → stays gap ≡ true)
       → ReadsRemarks nested l (rs ++ remark ∷ []) (items ++ (gap_items gap ++ Shown (trimmed remark) ∷ []))
   more_remarks rs items are h enough stays_there c t e inside =
       let before = h c t e inside in
@@ -311,17 +343,20 @@ module _ (nested : Bool) (l : Last) (gap : Between) (remark : List ℕ) (is : he
       let line_end : more LineEnd (least_of gap) ≡ least_of gap = rw enough refl in
       let next = remark_read last.Remark k before.0 before.2 deep line_end stays_there in (
         trimmed remark,
-        subst (λ (x : Collected). AreRead (directly_after c t) (items ++ (gap_items gap ++ Shown (trimmed remark) ∷ [])) (directly_after x (trimmed remark)))
+        subst (λ (x : Collected). AreRead (directly_after c t) (items ++ (gap_items gap ++ Shown (trimmed remark) ∷ []))
+            (directly_after x (trimmed remark)))
             (sym (with_both c rs (remark ∷ [])))
-            (read_both (directly_after c t) (directly_after k before.0) (directly_after (with_lexeme k remark) (trimmed remark)) items (gap_items gap ++ Shown (trimmed remark) ∷ []) before.1 next),
+            (read_both (directly_after c t) (directly_after k before.0) (directly_after (with_lexeme k remark) (trimmed remark)) items
+            (gap_items gap ++ Shown (trimmed remark) ∷ []) before.1 next),
         hash_ends (trimmed remark) (trimmed_head remark is),
       )
 
   module _ (line : Line) (p q : Bool) (doc : RefDoc) (front x : Tree) where
     -- the line with the remark among those that wait
-    with_items : (left taken : List (List ℕ)) → (h : IsLine nested true line (remark ∷ left) taken) → (items : List Item) → shows (ref_tree doc) items
+    with_items : (left taken : List (List ℕ)) → (h : ShowsTaken nested true line (remark ∷ left) taken) → (items : List Item)
+        → shows (ref_tree doc) items
         → AreRemarks (h.rs ++ remark ∷ []) × ReadsRemarks nested line.last (h.rs ++ remark ∷ []) items
-        → IsLine nested true (record line { is_remarked = true; remarks = doc; broken = p; blank = q }) left (taken ++ remark ∷ [])
+        → ShowsTaken nested true (record line { is_remarked = true; remarks = doc; broken = p; blank = q }) left (taken ++ remark ∷ [])
     with_items left taken h items shown remarks = record {
       items = h.items;
       remark_items = items;
@@ -333,7 +368,8 @@ module _ (nested : Bool) (l : Last) (gap : Between) (remark : List ℕ) (is : he
     }
       where
         one : (a : Stage) → LineRead nested true line (remark ∷ left) taken h.items h.rs a
-            → LineRead nested true (record line { is_remarked = true; remarks = doc; broken = p; blank = q }) left (taken ++ remark ∷ []) h.items (h.rs ++ remark ∷ []) a
+            → LineRead nested true (record line { is_remarked = true; remarks = doc; broken = p; blank = q }) left (taken ++ remark ∷ [])
+            h.items (h.rs ++ remark ∷ []) a
         one a r =
             let c = r.collected in
             record {
@@ -349,40 +385,48 @@ module _ (nested : Bool) (l : Last) (gap : Between) (remark : List ℕ) (is : he
             }
 
     -- none waited
-    pub remark_first : line.is_remarked ≡ false → line.last ≡ l → shows front [] → shows x (Shown (trimmed remark) ∷ []) → ShowsBoth front (gap_items gap) x (ref_tree doc)
+    pub remark_first : line.is_remarked ≡ false → line.last ≡ l → shows front [] → shows x (Shown (trimmed remark) ∷ [])
+        → ShowsBoth front (gap_items gap) x (ref_tree doc)
         → more (least_needed l hash) (least_of gap) ≡ least_of gap → (nested ≡ false → stays gap ≡ true)
-        → (left taken : List (List ℕ)) → IsLine nested true line (remark ∷ left) taken
-        → IsLine nested true (record line { is_remarked = true; remarks = doc; broken = p; blank = q }) left (taken ++ remark ∷ [])
+        → (left taken : List (List ℕ)) → ShowsTaken nested true line (remark ∷ left) taken
+        → ShowsTaken nested true (record line { is_remarked = true; remarks = doc; broken = p; blank = q }) left (taken ++ remark ∷ [])
     remark_first alone is_last none x_shows both enough stays_there left taken h =
         let no_remarks : h.rs ≡ [] = subst (λ (w : Bool). WaitingRemarks w nested line.last h.rs h.remark_items) alone h.remarks in
         with_items left taken h (gap_items gap ++ Shown (trimmed remark) ∷ []) (both [] (Shown (trimmed remark) ∷ []) none x_shows)
-        (subst (λ (rs : List (List ℕ)). AreRemarks (rs ++ remark ∷ []) × ReadsRemarks nested line.last (rs ++ remark ∷ []) (gap_items gap ++ Shown (trimmed remark) ∷ []))
+        (subst (λ (rs : List (List ℕ)). AreRemarks (rs ++ remark ∷ []) × ReadsRemarks nested line.last (rs ++ remark ∷ [])
+        (gap_items gap ++ Shown (trimmed remark) ∷ []))
         (sym no_remarks) (
           (hash_role remark is, tt),
-          subst (λ (m : Last). ReadsRemarks nested m (remark ∷ []) (gap_items gap ++ Shown (trimmed remark) ∷ [])) (sym is_last) (first_remark enough stays_there),
+          subst (λ (m : Last). ReadsRemarks nested m (remark ∷ []) (gap_items gap ++ Shown (trimmed remark) ∷ [])) (sym is_last)
+              (first_remark enough stays_there),
         ))
 
     -- others waited
-    pub remark_next : line.is_remarked ≡ true → line.last ≡ l → shows x (Shown (trimmed remark) ∷ []) → ShowsBoth (ref_tree line.remarks) (gap_items gap) x (ref_tree doc)
+    pub remark_next : line.is_remarked ≡ true → line.last ≡ l → shows x (Shown (trimmed remark) ∷ [])
+        → ShowsBoth (ref_tree line.remarks) (gap_items gap) x (ref_tree doc)
         → least_of gap ≡ LineEnd → (nested ≡ false → stays gap ≡ true)
-        → (left taken : List (List ℕ)) → IsLine nested true line (remark ∷ left) taken
-        → IsLine nested true (record line { is_remarked = true; remarks = doc; broken = p; blank = q }) left (taken ++ remark ∷ [])
+        → (left taken : List (List ℕ)) → ShowsTaken nested true line (remark ∷ left) taken
+        → ShowsTaken nested true (record line { is_remarked = true; remarks = doc; broken = p; blank = q }) left (taken ++ remark ∷ [])
     remark_next others is_last x_shows both enough stays_there left taken h =
         let held : AreRemarks h.rs × ReadsRemarks nested line.last h.rs h.remark_items
         = subst (λ (w : Bool). WaitingRemarks w nested line.last h.rs h.remark_items) others h.remarks in
-        with_items left taken h (h.remark_items ++ (gap_items gap ++ Shown (trimmed remark) ∷ [])) (both h.remark_items (Shown (trimmed remark) ∷ []) h.remarks_shown x_shows) (
+        with_items left taken h (h.remark_items ++ (gap_items gap ++ Shown (trimmed remark) ∷ []))
+        (both h.remark_items (Shown (trimmed remark) ∷ []) h.remarks_shown x_shows) (
           remarks_more h.rs remark held.0 (hash_role remark is),
-          subst (λ (m : Last). ReadsRemarks nested m (h.rs ++ remark ∷ []) (h.remark_items ++ (gap_items gap ++ Shown (trimmed remark) ∷ []))) (sym is_last)
-              (more_remarks h.rs h.remark_items held.0 (subst (λ (m : Last). ReadsRemarks nested m h.rs h.remark_items) is_last held.1) enough stays_there),
+          subst (λ (m : Last). ReadsRemarks nested m (h.rs ++ remark ∷ [])
+              (h.remark_items ++ (gap_items gap ++ Shown (trimmed remark) ∷ []))) (sym is_last)
+              (more_remarks h.rs h.remark_items held.0 (subst (λ (m : Last). ReadsRemarks nested m h.rs h.remark_items) is_last held.1)
+              enough stays_there),
         )
 
 -- ---- a value
 
-pub value_taken : (nested : Bool) (line : Line) (p q : Bool) (gap : Between) (doc : RefDoc) (x : Tree) (l : Last) (s : List ℕ) (left old taken vs : List (List ℕ))
+pub value_taken : (nested : Bool) (line : Line) (p q : Bool) (gap : Between) (doc : RefDoc) (x : Tree) (l : Last) (s : List ℕ)
+    (left old taken vs : List (List ℕ))
     → line.comma ≡ false → line.is_remarked ≡ false → ShowsBoth (ref_tree line.doc) (gap_items gap) x (ref_tree doc)
     → more (least_needed line.last (head s)) (least_of gap) ≡ least_of gap → (nested ≡ false → stays gap ≡ true) → IsWholeLexeme s
-    → IsLine nested true line (s ∷ old) taken → IsValue l s left vs x
-    → IsLine nested true (record line { doc = doc; last = l; broken = p; blank = q }) left (taken ++ (s ∷ vs))
+    → ShowsTaken nested true line (s ∷ old) taken → IsValue l s left vs x
+    → ShowsTaken nested true (record line { doc = doc; last = l; broken = p; blank = q }) left (taken ++ (s ∷ vs))
 value_taken nested line p q gap doc x l s left old taken vs none alone both enough stays_there whole h v = record {
   items = items;
   remark_items = h.remark_items;
@@ -400,7 +444,8 @@ value_taken nested line p q gap doc x l s left old taken vs none alone both enou
     no_remarks = subst (λ (w : Bool). WaitingRemarks w nested line.last h.rs h.remark_items) alone h.remarks
 
     one : (a : Stage) → LineRead nested true line (s ∷ old) taken h.items h.rs a
-        → LineRead nested true (record line { doc = doc; last = l; broken = p; blank = q }) left (taken ++ (s ∷ vs)) (h.items ++ (gap_items gap ++ (Shown s ∷ v.items))) h.rs a
+        → LineRead nested true (record line { doc = doc; last = l; broken = p; blank = q }) left (taken ++ (s ∷ vs))
+        (h.items ++ (gap_items gap ++ (Shown s ∷ v.items))) h.rs a
     one a r =
         let c = r.collected in
         let ends = line_ends nested true line s old taken h.items h.rs a r in
@@ -410,8 +455,10 @@ value_taken nested line p q gap doc x l s left old taken vs none alone both enou
         record {
           collected = w.collected;
           text = w.text;
-          read = read_both a (directly_after c r.text) (directly_after w.collected w.text) h.items (gap_items gap ++ (Shown s ∷ v.items)) r.read
-              (text_read nested line.last c r.text false gap s v.items (directly_after w.collected w.text) ends.needs ends.inside enough stays_there whole (λ e. absurd (clash e refl)) w.read);
+          read = read_both a (directly_after c r.text) (directly_after w.collected w.text) h.items
+              (gap_items gap ++ (Shown s ∷ v.items)) r.read
+              (text_read nested line.last c r.text false gap s v.items (directly_after w.collected w.text) ends.needs ends.inside enough
+              stays_there whole (λ e. absurd (clash e refl)) w.read);
           same = with_both (before_next a) taken (s ∷ vs)
               ∙ ap (λ (y : Collected). with_lexemes y (s ∷ vs)) (r.same ∙ nothing c)
               ∙ sym w.same ∙ sym (nothing w.collected);
@@ -428,8 +475,9 @@ value_taken nested line p q gap doc x l s left old taken vs none alone both enou
 -- ---- before a closing bracket
 
 -- the comma that waits may be another one, where none was shown
-pub comma_changed : (nested : Bool) (line : Line) (w : Bool) (x : List ℕ) (left taken : List (List ℕ)) → (may_hold line.last ≡ true → w ≡ line.comma)
-    → IsLine nested true line (x ∷ left) taken → IsLine nested false (record line { comma = w }) (x ∷ left) taken
+pub comma_changed : (nested : Bool) (line : Line) (w : Bool) (x : List ℕ) (left taken : List (List ℕ))
+    → (may_hold line.last ≡ true → w ≡ line.comma)
+    → ShowsTaken nested true line (x ∷ left) taken → ShowsTaken nested false (record line { comma = w }) (x ∷ left) taken
 comma_changed nested line w x left taken keeps h = record {
   items = h.items;
   remark_items = h.remark_items;
@@ -440,12 +488,15 @@ comma_changed nested line w x left taken keeps h = record {
   read = λ a b. one a (h.read a b);
 }
   where
-    same : (c : Collected) → HoldsNothingAfter line.last c → (b : Bool) → may_hold line.last ≡ b → Agrees false (with_lexemes c (waiting line.comma h.rs)) (with_lexemes c (waiting w h.rs))
+    same : (c : Collected) → HoldsNothingAfter line.last c → (b : Bool) → may_hold line.last ≡ b
+        → Agrees false (with_lexemes c (waiting line.comma h.rs)) (with_lexemes c (waiting w h.rs))
     same c e true k = ap (λ (v : Bool). record (with_lexemes c (waiting v h.rs)) { comma = false }) (sym (keeps k))
     same c e false k =
-        waiting_agrees line.comma w c h.rs (holds_nothing line.last c k e).0 (waiting_remarks line.is_remarked nested line.last h.rs h.remark_items h.remarks)
+        waiting_agrees line.comma w c h.rs (holds_nothing line.last c k e).0
+        (waiting_remarks line.is_remarked nested line.last h.rs h.remark_items h.remarks)
 
-    one : (a : Stage) → LineRead nested true line (x ∷ left) taken h.items h.rs a → LineRead nested false (record line { comma = w }) (x ∷ left) taken h.items h.rs a
+    one : (a : Stage) → LineRead nested true line (x ∷ left) taken h.items h.rs a → LineRead nested false (record line { comma = w })
+        (x ∷ left) taken h.items h.rs a
     one a r =
         let ends = line_ends nested true line x left taken h.items h.rs a r in
         record {
@@ -458,14 +509,16 @@ comma_changed nested line w x left taken keeps h = record {
         }
 
 -- a line where nothing waits, with a mark at its end or without
-module _ (nested : Bool) (line : Line) (x : List ℕ) (left taken : List (List ℕ)) (closing : role x ≡ a_closing) (none : line.comma ≡ false) (alone : line.is_remarked ≡ false)
-    (h : IsLine nested false line (x ∷ left) taken) where
+module _ (nested : Bool) (line : Line) (x : List ℕ) (left taken : List (List ℕ)) (closing : role x ≡ a_closing) (none : line.comma ≡ false)
+    (alone : line.is_remarked ≡ false)
+    (h : ShowsTaken nested false line (x ∷ left) taken) where
   nothing_waits : (k : Collected) → with_lexemes k (waiting line.comma h.rs) ≡ k
   nothing_waits k =
       let no_remarks : h.rs ≡ [] = subst (λ (w : Bool). WaitingRemarks w nested line.last h.rs h.remark_items) alone h.remarks in
       ap (λ (b : Bool). with_lexemes k (waiting b h.rs)) none ∙ ap (λ (rs : List (List ℕ)). with_lexemes k rs) no_remarks
 
-  closes : (a : Stage) → (r : LineRead nested false line (x ∷ left) taken h.items h.rs a) → with_lexemes (before_next a) (taken ++ x ∷ []) ≡ with_lexeme r.collected x
+  closes : (a : Stage) → (r : LineRead nested false line (x ∷ left) taken h.items h.rs a)
+      → with_lexemes (before_next a) (taken ++ x ∷ []) ≡ with_lexeme r.collected x
   closes a r =
       with_both (before_next a) taken (x ∷ [])
       ∙ closing_same (with_lexemes (before_next a) taken) (with_lexemes r.collected (waiting line.comma h.rs)) x closing r.same
@@ -477,11 +530,27 @@ module _ (nested : Bool) (line : Line) (x : List ℕ) (left taken : List (List �
       one : (a : Stage) → LineRead nested false line (x ∷ left) taken h.items h.rs a → ClosedRead nested line x taken h.items a
       one a r =
           let ends = line_ends nested false line x left taken h.items h.rs a r in
-          record { collected = r.collected; text = r.text; marked = false; read = r.read; same = closes a r; needs = ends.needs; inside = ends.inside; level = line_level nested false line x left taken h.items h.rs a r }
+          record {
+            collected = r.collected;
+            text = r.text;
+            marked = false;
+            read = r.read;
+            same = closes a r;
+            needs = ends.needs;
+            inside =
+                ends.inside;
+            level = line_level nested false line x left taken h.items h.rs a r;
+          }
 
-  pub closed_marked : (doc : RefDoc) → nested ≡ true → may_hold line.last ≡ false → ShowsMore (ref_tree line.doc) (Mark (comma ∷ []) ∷ []) (ref_tree doc)
+  pub closed_marked : (doc : RefDoc) → nested ≡ true → may_hold line.last ≡ false
+      → ShowsMore (ref_tree line.doc) (Mark (comma ∷ []) ∷ []) (ref_tree doc)
       → IsClosed nested (record line { doc = doc }) x taken
-  closed_marked doc inner plain more_shown = record { items = h.items ++ Mark (comma ∷ []) ∷ []; shown = more_shown h.items h.shown; read = λ a b. one a (h.read a b) }
+  closed_marked doc inner plain more_shown = record {
+    items = h.items ++ Mark (comma ∷ []) ∷ [];
+    shown = more_shown h.items h.shown;
+    read =
+        λ a b. one a (h.read a b);
+  }
     where
       nothing_needed : (l : Last) → may_hold l ≡ false → least_needed l comma ≡ shown.Nothing
       nothing_needed last.Start e = refl
@@ -492,7 +561,8 @@ module _ (nested : Bool) (line : Line) (x : List ℕ) (left taken : List (List �
       nothing_needed last.Comma e = absurd (cc)
       nothing_needed last.Remark e = absurd (cc)
 
-      one : (a : Stage) → LineRead nested false line (x ∷ left) taken h.items h.rs a → ClosedRead nested (record line { doc = doc }) x taken (h.items ++ Mark (comma ∷ []) ∷ []) a
+      one : (a : Stage) → LineRead nested false line (x ∷ left) taken h.items h.rs a → ClosedRead nested (record line { doc = doc }) x taken
+          (h.items ++ Mark (comma ∷ []) ∷ []) a
       one a r =
           let c = r.collected in
           let ends = line_ends nested false line x left taken h.items h.rs a r in
@@ -502,8 +572,17 @@ module _ (nested : Bool) (line : Line) (x : List ℕ) (left taken : List (List �
             collected = c;
             text = r.text;
             marked = true;
-            read = read_both a (directly_after c r.text) (record { collected = c; last = r.text; place = shown.after_text; marked = true }) h.items (Mark (comma ∷ []) ∷ []) r.read
-                (record { comma = refl; apart = rw before_comma refl; inside = subst (λ (n : Bool). IsNested n c) inner ends.inside; no_comma = nothing.0; no_mark = refl }, refl);
+            read = read_both a (directly_after c r.text) (record { collected = c; last = r.text; place = shown.after_text; marked = true })
+                h.items (Mark (comma ∷ []) ∷ []) r.read (
+                  record {
+                    comma = refl;
+                    apart = rw before_comma refl;
+                    inside = subst (λ (n : Bool). IsNested n c) inner ends.inside;
+                    no_comma = nothing.0;
+                    no_mark = refl;
+                  },
+                  refl,
+                );
             same = closes a r;
             needs = ends.needs;
             inside = ends.inside;
@@ -512,18 +591,18 @@ module _ (nested : Bool) (line : Line) (x : List ℕ) (left taken : List (List �
 
 -- ---- where a line goes on
 
-pub goes_on_last : (nested : Bool) (line : Line) → GoesOn nested line → nested ≡ false → is_remark line.last ≡ false
+pub goes_on_last : (nested : Bool) (line : Line) → TakesMore nested line → nested ≡ false → is_last_remark line.last ≡ false
 goes_on_last true line h e = absurd (clash refl e)
 goes_on_last false line h e = h.1
 
-pub goes_on_alone : (nested : Bool) (line : Line) → GoesOn nested line → nested ≡ false → line.is_remarked ≡ false
+pub goes_on_alone : (nested : Bool) (line : Line) → TakesMore nested line → nested ≡ false → line.is_remarked ≡ false
 goes_on_alone true line h e = absurd (clash refl e)
 goes_on_alone false line h e = h.0
 
 pub never : {P : Type 0} → true ≡ false → P
 never e = absurd (clash refl e)
 
-pub remarked_nested : (nested : Bool) (line : Line) {P : Type 0} → GoesOn nested line → line.is_remarked ≡ true → nested ≡ false → P
+pub remarked_nested : (nested : Bool) (line : Line) {P : Type 0} → TakesMore nested line → line.is_remarked ≡ true → nested ≡ false → P
 remarked_nested nested line h r e = absurd (clash r (goes_on_alone nested line h e))
 
 -- a remark's text shows itself

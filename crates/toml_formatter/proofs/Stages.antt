@@ -3,7 +3,8 @@ use Rattle.std.proofs.Common.{◌≡◌, refl, sym, ◌∙◌, ap, subst, ℕ, z
 use Rattle.prettyless_model.specs.Shows as shown
 use Rattle.prettyless_model.specs.Shows.{Item, Shown, Gap, Mark, Late, SameLine, AnyLine, Spacing, LineEnd, After, with_gap, more}
 use Rattle.toml_lexemes.specs.Bytes.{comma, head}
-use Rattle.toml_statements.specs.Statements.{Role, a_remark, a_closing, role, trimmed, Collected, line_ended, line_ended_at, with_held_comma, with_role, with_lexeme, with_lexemes}
+use Rattle.toml_statements.specs.Statements.{Role, a_remark, a_closing, role, trimmed, Collected, line_ended, line_ended_at}
+use Rattle.toml_statements.specs.Statements.{with_held_comma, with_role, with_lexeme, with_lexemes}
 use Rattle.toml_statements.specs.Shown.{Stage, IsWholeLexeme, IsInside, MayStand, AreRead, after_shown, least_between}
 use Rattle.toml_formatter.specs.declared.gaps.Gap.{Gap as Between}
 use Rattle.toml_formatter.specs.declared.gaps.Gap.TheVariants.{Nothing, Space, Edge, Line, BlankLine, Break, BlankBreak}
@@ -77,7 +78,8 @@ stands c t BlankBreak s e h true k = record { apart = e; lines = tt; mark = k re
 stands c t BlankBreak s e h false k = record { apart = e; lines = tt; mark = tt }
 
 -- the gap changes nothing of what is collected
-pub gap_keeps : (c : Collected) (t : List ℕ) (gap : Between) (m : Bool) → (stays gap ≡ false → IsInside c.depth) → before_next (at_gap c t gap m) ≡ c
+pub gap_keeps : (c : Collected) (t : List ℕ) (gap : Between) (m : Bool) → (stays gap ≡ false → IsInside c.depth)
+    → before_next (at_gap c t gap m) ≡ c
 gap_keeps c t Nothing m h = refl
 gap_keeps c t Space m h = refl
 gap_keeps c t Edge m h = refl
@@ -98,7 +100,8 @@ shown_after c t Break s m = refl
 shown_after c t BlankBreak s m = refl
 
 -- where brackets are open, or the gap stays on its line
-pub ends_lines : (nested : Bool) (c : Collected) (gap : Between) → (nested ≡ false → stays gap ≡ true) → IsNested nested c → stays gap ≡ false → IsInside c.depth
+pub ends_lines : (nested : Bool) (c : Collected) (gap : Between) → (nested ≡ false → stays gap ≡ true) → IsNested nested c
+    → stays gap ≡ false → IsInside c.depth
 ends_lines true c gap h k e = k
 ends_lines false c gap h k e = absurd (clash (stays gap) (h refl) e)
   where
@@ -106,8 +109,10 @@ ends_lines false c gap h k e = absurd (clash (stays gap) (h refl) e)
     clash b p q = cc
 
 -- a gap, a text and what comes after it
-pub text_read : (nested : Bool) (last : Last) (c : Collected) (t : List ℕ) (m : Bool) (gap : Between) (s : List ℕ) (items : List Item) (b : Stage)
-    → EndsAs last t → IsNested nested c → more (least_needed last (head s)) (least_of gap) ≡ least_of gap → (nested ≡ false → stays gap ≡ true)
+pub text_read : (nested : Bool) (last : Last) (c : Collected) (t : List ℕ) (m : Bool) (gap : Between) (s : List ℕ)
+    (items : List Item) (b : Stage)
+    → EndsAs last t → IsNested nested c → more (least_needed last (head s)) (least_of gap) ≡ least_of gap
+    → (nested ≡ false → stays gap ≡ true)
     → IsWholeLexeme s → (m ≡ true → role s ≡ a_closing) → AreRead (directly_after (with_lexeme c s) s) items b
     → AreRead (after_mark c t m) (gap_items gap ++ (Shown s ∷ items)) b
 text_read nested last c t m gap s items b ends inside enough line whole closing h =
@@ -116,7 +121,8 @@ text_read nested last c t m gap s items b ends inside enough line whole closing 
     gap_read c t m gap (Shown s ∷ items) b (
       whole,
       stands c t gap s apart lines m closing,
-      subst (λ (x : Stage). AreRead x items b) (sym (shown_after c t gap s m ∙ ap (λ (x : Collected). directly_after (with_lexeme x s) s) (gap_keeps c t gap m lines))) h,
+      subst (λ (x : Stage). AreRead x items b)
+          (sym (shown_after c t gap s m ∙ ap (λ (x : Collected). directly_after (with_lexeme x s) s) (gap_keeps c t gap m lines))) h,
     )
 
 -- ---- lexemes that wait
@@ -133,11 +139,13 @@ pub remarks_depth : (c : Collected) (rs : List (List ℕ)) → AreRemarks rs →
 remarks_depth c [] h = refl
 remarks_depth c (s ∷ ss) h = remarks_depth (with_lexeme c s) ss h.1 ∙ ap (λ (x : Collected). x.depth) (with_remark c s h.0)
 
-pub waiting_depth : (comma : Bool) (c : Collected) (rs : List (List ℕ)) → AreRemarks rs → (with_lexemes c (waiting comma rs)).depth ≡ c.depth
+pub waiting_depth : (comma : Bool) (c : Collected) (rs : List (List ℕ)) → AreRemarks rs
+    → (with_lexemes c (waiting comma rs)).depth ≡ c.depth
 waiting_depth false c rs h = remarks_depth c rs h
 waiting_depth true c rs h = remarks_depth (with_held_comma c.comma c) rs h ∙ held_depth c.comma c
 
-pub waiting_remarks : (flag nested : Bool) (last : Last) (rs : List (List ℕ)) (items : List Item) → WaitingRemarks flag nested last rs items → AreRemarks rs
+pub waiting_remarks : (flag nested : Bool) (last : Last) (rs : List (List ℕ)) (items : List Item)
+    → WaitingRemarks flag nested last rs items → AreRemarks rs
 waiting_remarks true nested last rs items h = h.0
 waiting_remarks false nested last rs items h = subst AreRemarks (sym h) tt
 
@@ -160,7 +168,8 @@ abbrev without_comma : Collected → Collected
 without_comma y = record y { comma = false }
 
 -- a comma that waits, and remarks after it
-forgets : (c : Collected) (rs : List (List ℕ)) → AreRemarks rs → Agrees false (with_lexemes (record c { comma = true }) rs) (with_lexemes c rs)
+forgets : (c : Collected) (rs : List (List ℕ)) → AreRemarks rs → Agrees false (with_lexemes (record c { comma = true }) rs)
+    (with_lexemes c rs)
 forgets c [] h = refl
 forgets c (s ∷ ss) h =
     let d : Collected = record c { remarks = c.remarks ++ trimmed s ∷ [] } in
@@ -168,7 +177,8 @@ forgets c (s ∷ ss) h =
     ∙ forgets d ss h.1
     ∙ sym (ap (λ (y : Collected). without_comma (with_lexemes y ss)) (with_remark c s h.0))
 
-forgets_comma : (c : Collected) (rs : List (List ℕ)) → c.comma ≡ false → AreRemarks rs → Agrees false (with_lexemes c (waiting true rs)) (with_lexemes c rs)
+forgets_comma : (c : Collected) (rs : List (List ℕ)) → c.comma ≡ false → AreRemarks rs → Agrees false (with_lexemes c (waiting true rs))
+    (with_lexemes c rs)
 forgets_comma c rs n h = ap (λ (b : Bool). without_comma (with_lexemes (with_held_comma b c) rs)) n ∙ forgets c rs h
 
 -- whether a comma waits makes no difference but for a comma
@@ -178,10 +188,6 @@ waiting_agrees true true c rs n h = refl
 waiting_agrees false false c rs n h = refl
 waiting_agrees true false c rs n h = forgets_comma c rs n h
 waiting_agrees false true c rs n h = sym (forgets_comma c rs n h)
-
-pub agrees_less : (exact : Bool) (c d : Collected) → Agrees exact c d → Agrees false c d
-agrees_less true c d h = ap without_comma h
-agrees_less false c d h = h
 
 pub agrees_then : (exact : Bool) (c d e : Collected) → Agrees exact c d → d ≡ e → Agrees exact c e
 agrees_then exact c d e h k = subst (Agrees exact c) k h

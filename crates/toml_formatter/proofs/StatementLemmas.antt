@@ -7,7 +7,7 @@ use Rattle.prettyless_model.specs.Shows as shown
 use Rattle.prettyless_model.specs.Shows.{Item, Shown, more, shows}
 use Rattle.prettyless_shapes.specs.Items.{ShowsBoth}
 use Rattle.toml_lexemes.specs.Bytes.{comma, hash, head}
-use Rattle.toml_lexemes.specs.View.{text_of}
+use Rattle.toml_lexemes.specs.View.{toml_text_of}
 use Rattle.toml_lexemes.specs.declared.lexeme.Lexeme.{Lexeme}
 use Rattle.toml_lexemes.specs.declared.lexeme.Lexeme.TheVariants as lexeme
 use Rattle.toml_statements.specs.Statements.{trimmed, Collected, with_lexeme, with_lexemes}
@@ -16,10 +16,12 @@ use Rattle.toml_formatter.specs.declared.gaps.Gap.TheVariants as gap
 use Rattle.toml_formatter.specs.declared.kind.Last.{Last}
 use Rattle.toml_formatter.specs.declared.kind.Last.TheVariants as last
 use Rattle.toml_formatter.specs.declared.line.Line.{Line}
-use Rattle.toml_formatter.specs.Gaps.{least_needed, is_remark}
+use Rattle.toml_formatter.specs.Gaps.{least_needed, is_last_remark}
 use Rattle.toml_formatter.specs.Kinds.{is_closing, IsPart}
 use Rattle.toml_statements.specs.Sound.{IsSound, LineEndsNext}
-use Rattle.toml_formatter.specs.Lines.{directly_after, before_next, Ends, WaitingRemarks, waiting, LineRead, IsLine, ValueRead, IsValue, ClosedRead, IsClosed, GoesOn, MayGoOn, begun, StatementRead, IsStatement}
+use Rattle.toml_formatter.specs.Lines.{directly_after, before_next, EndsCollected, WaitingRemarks, waiting, LineRead, ShowsTaken}
+use Rattle.toml_formatter.specs.Lines.{ValueRead, IsValue}
+use Rattle.toml_formatter.specs.Lines.{ClosedRead, IsClosed, TakesMore, MayGoOn, begun, StatementRead, IsStatement}
 use Rattle.toml_formatter.proofs.Stages.{read_both, text_read}
 use Rattle.toml_formatter.proofs.LineLemmas.{comma_is_whole, hash_ends, trimmed_head, trimmed_read}
 use Rattle.toml_formatter.proofs.Values.{closing_ends, closing_head, closing_role, closing_whole}
@@ -29,8 +31,8 @@ outside_brackets e = absurd (cc)
 
 -- a lexeme alone begins a line
 pub text_begins : (doc : RefDoc) (l : Last) (s t : List ℕ) (left : List (List ℕ)) → shows (ref_tree doc) (Shown t ∷ []) → IsWholeLexeme t
-    → ((c : Collected) → with_lexeme c t ≡ with_lexeme c s) → ((c : Collected) → Ends false l (with_lexeme c t) t)
-    → IsLine false true (begun doc l) left (s ∷ [])
+    → ((c : Collected) → with_lexeme c t ≡ with_lexeme c s) → ((c : Collected) → EndsCollected false l (with_lexeme c t) t)
+    → ShowsTaken false true (begun doc l) left (s ∷ [])
 text_begins doc l s t left h whole same ends = record {
   items = Shown t ∷ [];
   remark_items = Shown t ∷ [];
@@ -48,23 +50,27 @@ text_begins doc l s t left h whole same ends = record {
   };
 }
 
-pub comma_begins : (doc : RefDoc) (left : List (List ℕ)) → shows (ref_tree doc) (Shown (comma ∷ []) ∷ []) → IsLine false true (begun doc last.Comma) left ((comma ∷ []) ∷ [])
+pub comma_begins : (doc : RefDoc) (left : List (List ℕ)) → shows (ref_tree doc) (Shown (comma ∷ []) ∷ [])
+    → ShowsTaken false true (begun doc last.Comma) left ((comma ∷ []) ∷ [])
 comma_begins doc left h =
-    text_begins doc last.Comma (comma ∷ []) (comma ∷ []) left h comma_is_whole (λ c. refl) (λ c. record { needs = λ u. refl; plain = tt; inside = tt })
+    text_begins doc last.Comma (comma ∷ []) (comma ∷ []) left h comma_is_whole (λ c. refl)
+    (λ c. record { needs = λ u. refl; plain = tt; inside = tt })
 
-pub remark_begins : (doc : RefDoc) (r : List ℕ) (left : List (List ℕ)) → head r ≡ hash → IsWholeLexeme (trimmed r) → shows (ref_tree doc) (Shown (trimmed r) ∷ [])
-    → IsLine false true (begun doc last.Remark) left (r ∷ [])
+pub remark_begins : (doc : RefDoc) (r : List ℕ) (left : List (List ℕ)) → head r ≡ hash → IsWholeLexeme (trimmed r)
+    → shows (ref_tree doc) (Shown (trimmed r) ∷ [])
+    → ShowsTaken false true (begun doc last.Remark) left (r ∷ [])
 remark_begins doc r left e whole h =
     text_begins doc last.Remark r (trimmed r) left h whole (λ c. trimmed_read c r e whole)
     (λ c. record { needs = hash_ends (trimmed r) (trimmed_head r e); plain = tt; inside = tt })
 
-pub bracket_begins : (doc : RefDoc) (x : Lexeme) (left : List (List ℕ)) → is_closing x ≡ true → IsSound (text_of x) left → shows (ref_tree doc) (Shown (text_of x) ∷ [])
-    → IsLine false true (begun doc last.Close) left (text_of x ∷ [])
+pub bracket_begins : (doc : RefDoc) (x : Lexeme) (left : List (List ℕ)) → is_closing x ≡ true → IsSound (toml_text_of x) left
+    → shows (ref_tree doc) (Shown (toml_text_of x) ∷ [])
+    → ShowsTaken false true (begun doc last.Close) left (toml_text_of x ∷ [])
 bracket_begins doc x left e sound h =
-    text_begins doc last.Close (text_of x) (text_of x) left h (closing_whole x left e sound) (λ c. refl) (closing_ends x e)
+    text_begins doc last.Close (toml_text_of x) (toml_text_of x) left h (closing_whole x left e sound) (λ c. refl) (closing_ends x e)
 
 pub value_begins : (doc : RefDoc) (l : Last) (s : List ℕ) (left vs : List (List ℕ)) → IsWholeLexeme s → IsValue l s left vs (ref_tree doc)
-    → IsLine false true (begun doc l) left (s ∷ vs)
+    → ShowsTaken false true (begun doc l) left (s ∷ vs)
 value_begins doc l s left vs whole v = record {
   items = Shown s ∷ v.items;
   remark_items = Shown s ∷ v.items;
@@ -75,7 +81,8 @@ value_begins doc l s left vs whole v = record {
   read = λ a ready. one a ready (v.read (before_next a));
 }
   where
-    one : (a : Stage) → IsReady a → ValueRead l s left vs v.items (before_next a) → LineRead false true (begun doc l) left (s ∷ vs) (Shown s ∷ v.items) [] a
+    one : (a : Stage) → IsReady a → ValueRead l s left vs v.items (before_next a) → LineRead false true (begun doc l) left (s ∷ vs)
+        (Shown s ∷ v.items) [] a
     one a ready w = record {
       collected = w.collected;
       text = w.text;
@@ -85,7 +92,7 @@ value_begins doc l s left vs whole v = record {
       level = inr outside_brackets;
     }
 
-nothing_needed : (l : Last) → is_remark l ≡ false → least_needed l 93 ≡ shown.Nothing
+nothing_needed : (l : Last) → is_last_remark l ≡ false → least_needed l 93 ≡ shown.Nothing
 nothing_needed last.Start e = refl
 nothing_needed last.Close e = refl
 nothing_needed last.Equals e = refl
@@ -95,37 +102,44 @@ nothing_needed last.Comma e = refl
 nothing_needed last.Remark e = absurd (cc)
 
 -- a bracket that closes nothing
-pub bracket_taken : (line : Line) (doc : RefDoc) (d : Tree) (x : Lexeme) (left taken : List (List ℕ)) → is_closing x ≡ true → is_remark line.last ≡ false
-    → IsSound (text_of x) left → shows d (Shown (text_of x) ∷ []) → ShowsBoth (ref_tree line.doc) [] d (ref_tree doc) → IsClosed false line (text_of x) taken
-    → IsLine false true (begun doc last.Close) left (taken ++ text_of x ∷ [])
+pub bracket_taken : (line : Line) (doc : RefDoc) (d : Tree) (x : Lexeme) (left taken : List (List ℕ)) → is_closing x ≡ true
+    → is_last_remark line.last ≡ false
+    → IsSound (toml_text_of x) left → shows d (Shown (toml_text_of x) ∷ []) → ShowsBoth (ref_tree line.doc) [] d (ref_tree doc)
+    → IsClosed false line (toml_text_of x) taken
+    → ShowsTaken false true (begun doc last.Close) left (taken ++ toml_text_of x ∷ [])
 bracket_taken line doc d x left taken closes plain sound d_shows both h = record {
-  items = h.items ++ Shown (text_of x) ∷ [];
-  remark_items = h.items ++ Shown (text_of x) ∷ [];
+  items = h.items ++ Shown (toml_text_of x) ∷ [];
+  remark_items = h.items ++ Shown (toml_text_of x) ∷ [];
   rs = [];
-  shown = both h.items (Shown (text_of x) ∷ []) h.shown d_shows;
-  remarks_shown = both h.items (Shown (text_of x) ∷ []) h.shown d_shows;
+  shown = both h.items (Shown (toml_text_of x) ∷ []) h.shown d_shows;
+  remarks_shown = both h.items (Shown (toml_text_of x) ∷ []) h.shown d_shows;
   remarks = refl;
   read = λ a ready. one a (h.read a ready);
 }
   where
-    needed : more (least_needed line.last (head (text_of x))) shown.Nothing ≡ shown.Nothing
+    needed : more (least_needed line.last (head (toml_text_of x))) shown.Nothing ≡ shown.Nothing
     needed = rw (closing_head x closes line.last, nothing_needed line.last plain) refl
 
-    one : (a : Stage) → ClosedRead false line (text_of x) taken h.items a → LineRead false true (begun doc last.Close) left (taken ++ text_of x ∷ []) (h.items ++ Shown (text_of x) ∷ []) [] a
+    one : (a : Stage) → ClosedRead false line (toml_text_of x) taken h.items a → LineRead false true (begun doc last.Close) left
+        (taken ++ toml_text_of x ∷ []) (h.items ++ Shown (toml_text_of x) ∷ []) [] a
     one a r =
-        let k = with_lexeme r.collected (text_of x) in
+        let k = with_lexeme r.collected (toml_text_of x) in
         record {
           collected = k;
-          text = text_of x;
-          read = read_both a (record { collected = r.collected; last = r.text; place = shown.after_text; marked = r.marked }) (directly_after k (text_of x)) h.items (Shown (text_of x) ∷ []) r.read
-              (text_read false line.last r.collected r.text r.marked gap.Nothing (text_of x) [] (directly_after k (text_of x)) r.needs tt needed (λ e. refl) (closing_whole x left closes sound) (λ e. closing_role x closes) refl);
+          text = toml_text_of x;
+          read = read_both a (record { collected = r.collected; last = r.text; place = shown.after_text; marked = r.marked })
+              (directly_after k (toml_text_of x)) h.items (Shown (toml_text_of x) ∷ []) r.read
+              (text_read false line.last r.collected r.text r.marked gap.Nothing (toml_text_of x) []
+              (directly_after k (toml_text_of x)) r.needs tt
+              needed (λ e. refl) (closing_whole x left closes sound) (λ e. closing_role x closes) refl);
           same = r.same;
           ends = inr (closing_ends x closes r.collected);
           level = inr outside_brackets;
         }
 
 -- the end of a statement
-pub line_is_statement : (line : Line) (left taken : List (List ℕ)) → line.comma ≡ false → line.is_remarked ≡ false → IsLine false true line left taken → IsStatement taken (ref_tree line.doc)
+pub line_is_statement : (line : Line) (left taken : List (List ℕ)) → line.comma ≡ false → line.is_remarked ≡ false
+    → ShowsTaken false true line left taken → IsStatement taken (ref_tree line.doc)
 line_is_statement line left taken none alone h = record { items = h.items; shown = h.shown; read = λ a ready. one a (h.read a ready) }
   where
     no_remarks : h.rs ≡ []
@@ -136,17 +150,20 @@ line_is_statement line left taken none alone h = record { items = h.items; shown
       collected = r.collected;
       text = r.text;
       read = r.read;
-      same = r.same ∙ ap (λ (w : Bool). with_lexemes r.collected (waiting w h.rs)) none ∙ ap (λ (rs : List (List ℕ)). with_lexemes r.collected rs) no_remarks;
+      same = r.same ∙ ap (λ (w : Bool). with_lexemes r.collected (waiting w h.rs)) none
+          ∙ ap (λ (rs : List (List ℕ)). with_lexemes r.collected rs) no_remarks;
     }
 
-pub may_settle : (line : Line) (left : List (List ℕ)) → MayGoOn line left → false ≡ false → line.comma ≡ true → is_remark line.last ≡ false
+pub may_settle : (line : Line) (left : List (List ℕ)) → MayGoOn line left → false ≡ false → line.comma ≡ true →
+    is_last_remark line.last ≡ false
 may_settle line left h e k = elim h [ inl g ↦ g.1 | inr g ↦ g.0 k ]
 
-pub goes_on : (line : Line) (left : List (List ℕ)) → (LineEndsNext left → ⊥) → MayGoOn line left → GoesOn false line
+pub goes_on : (line : Line) (left : List (List ℕ)) → (LineEndsNext left → ⊥) → MayGoOn line left → TakesMore false line
 goes_on line left none h = elim h [ inl g ↦ g | inr g ↦ absurd (none g.1) ]
 
 -- what closes no list and is no comma, remark or line end is a part of a statement
-pub part_of : (x : Lexeme) (ls : List (List ℕ)) → (LineEndsNext (text_of x ∷ ls) → ⊥) → is_closing x ≡ false → (x ≡ lexeme.Comma → ⊥) → ((r : Bor (List ℕ)) → x ≡ lexeme.Remark r → ⊥) → IsPart x
+pub part_of : (x : Lexeme) (ls : List (List ℕ)) → (LineEndsNext (toml_text_of x ∷ ls) → ⊥) → is_closing x ≡ false → (x ≡ lexeme.Comma → ⊥)
+    → ((r : Bor (List ℕ)) → x ≡ lexeme.Remark r → ⊥) → IsPart x
 part_of lexeme.OpenArray ls n e p q = tt
 part_of lexeme.OpenTable ls n e p q = tt
 part_of lexeme.Equals ls n e p q = tt

@@ -1,5 +1,6 @@
 -- The blanks at the end of a remark.
-use Rattle.std.proofs.Common.{◌≡◌, sym, ◌∙◌, ap, ℕ, ◌+◌, ◌-◌, ◌<◌, ◌≤◌, Bool, true, false, cond, List, [], ◌∷◌, ◌++◌, length, take, get_or, ◌||◌, ◌==◌, inl, inr, arith}
+use Rattle.std.proofs.Common.{◌≡◌, sym, ◌∙◌, ap, ℕ, ◌+◌, ◌-◌, ◌<◌, ◌≤◌, Bool, true, false, cond, List, [], ◌∷◌, ◌++◌, length, take, get_or}
+use Rattle.std.proofs.Common.{◌||◌, ◌==◌, inl, inr, arith}
 use Rattle.std.proofs.lemmas.Bool.{eqb-true, or_cases}
 use Rattle.std.proofs.lemmas.List.{take_more}
 use Rattle.toml_lexemes.specs.Bytes.{is_blank}
@@ -17,7 +18,8 @@ last_byte d n some within =
     let one : n - 1 + 1 ≡ n = omega arith in
     ap (λ (k : ℕ). take k d) (sym one) ∙ take_more d (n - 1) 0 (omega arith)
 
-pub blank_less : (d : List ℕ) (n : ℕ) → 0 < n → n ≤ length d → is_blank (get_or d (n - 1) 0) ≡ true → trimmed (take (n - 1) d) ≡ trimmed (take n d)
+pub blank_less : (d : List ℕ) (n : ℕ) → 0 < n → n ≤ length d → is_blank (get_or d (n - 1) 0) ≡ true
+    → trimmed (take (n - 1) d) ≡ trimmed (take n d)
 blank_less d n some within e =
     sym (ap trimmed (last_byte d n some within) ∙ trimmed_before_gap (take (n - 1) d) (get_or d (n - 1) 0 ∷ []) (e, tt))
 

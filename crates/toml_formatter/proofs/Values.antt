@@ -8,10 +8,11 @@ use Rattle.prettyless_model.specs.Shows.{Item, Shown, more, shows}
 use Rattle.prettyless_shapes.specs.Items.{ShowsBoth, ShowsSame}
 use Rattle.prettyless_shapes.specs.Shown.{text_items}
 use Rattle.toml_lexemes.specs.Bytes.{hash, head, is_sign, is_quote, ends_word, is_blank}
-use Rattle.toml_lexemes.specs.View.{text_of, IsNamed}
+use Rattle.toml_lexemes.specs.View.{toml_text_of, HasTomlKind}
 use Rattle.toml_lexemes.specs.declared.lexeme.Lexeme.{Lexeme}
 use Rattle.toml_lexemes.specs.declared.lexeme.Lexeme.TheVariants as lexeme
-use Rattle.toml_statements.specs.Statements.{Role, a_closing, any_other, role, role_of, trimmed, Collected, outside, with_role, with_lexeme, with_lexemes}
+use Rattle.toml_statements.specs.Statements.{Role, a_closing, any_other, role, role_of, trimmed, Collected, outside, with_role, with_lexeme}
+use Rattle.toml_statements.specs.Statements.{with_lexemes}
 use Rattle.toml_statements.specs.Shown.{IsWholeLexeme, least_after}
 use Rattle.toml_formatter.specs.declared.gaps.Gap.{Gap as Between}
 use Rattle.toml_formatter.specs.declared.kind.Last.{Last}
@@ -20,7 +21,9 @@ use Rattle.toml_formatter.specs.declared.line.Line.{Line}
 use Rattle.toml_formatter.specs.Gaps.{gap_items, least_of, least_needed}
 use Rattle.toml_formatter.specs.Kinds.{is_closing, is_opening, last_after, IsPart}
 use Rattle.toml_statements.specs.Sound.{IsSound, IsSoundIn, LineEndsNext}
-use Rattle.toml_formatter.specs.Lines.{directly_after, EndsAs, Ends, HoldsNothingAfter, WaitingRemarks, waiting, LineRead, IsLine, ValueRead, IsValue, ClosedRead, IsClosed}
+use Rattle.toml_formatter.specs.Lines.{directly_after, EndsAs, EndsCollected, HoldsNothingAfter, WaitingRemarks, waiting, LineRead}
+use Rattle.toml_formatter.specs.Lines.{ShowsTaken}
+use Rattle.toml_formatter.specs.Lines.{ValueRead, IsValue, ClosedRead, IsClosed}
 use Rattle.std.proofs.lemmas.Bool.{eqb-true, or_cases}
 use Rattle.toml_statements.proofs.WholeLexemes.{quote_role, word_role}
 use Rattle.toml_formatter.proofs.LineLemmas.{hash_role}
@@ -29,7 +32,8 @@ use Rattle.toml_formatter.proofs.Stages.{read_both, text_read}
 -- ---- what lexemes end as
 
 -- a list begins after its bracket
-pub opening_ends : (x : Lexeme) → is_opening x ≡ true → (c : Collected) → Ends true last.Start (with_lexeme c (text_of x)) (text_of x)
+pub opening_ends : (x : Lexeme) → is_opening x ≡ true → (c : Collected) →
+    EndsCollected true last.Start (with_lexeme c (toml_text_of x)) (toml_text_of x)
 opening_ends lexeme.OpenArray e c = record { needs = λ u. refl; plain = (refl, refl); inside = tt }
 opening_ends lexeme.OpenTable e c = record { needs = λ u. refl; plain = (refl, refl); inside = tt }
 opening_ends lexeme.CloseArray e c = absurd (cc)
@@ -42,11 +46,11 @@ opening_ends (lexeme.String s) e c = absurd (cc)
 opening_ends (lexeme.Word s) e c = absurd (cc)
 
 -- and opens one bracket more
-pub opening_depth : (x : Lexeme) → is_opening x ≡ true → (c : Collected) (k : Collected) → k.depth ≡ (with_lexeme c (text_of x)).depth
-    → (y : Lexeme) → is_closing y ≡ true → (with_lexeme k (text_of y)).depth ≡ c.depth
+pub opening_depth : (x : Lexeme) → is_opening x ≡ true → (c : Collected) (k : Collected) → k.depth ≡ (with_lexeme c (toml_text_of x)).depth
+    → (y : Lexeme) → is_closing y ≡ true → (with_lexeme k (toml_text_of y)).depth ≡ c.depth
 opening_depth x e c k h y f = closing_depth y f k c (h ∙ deeper x e)
   where
-    deeper : (x : Lexeme) → is_opening x ≡ true → (with_lexeme c (text_of x)).depth ≡ suc c.depth
+    deeper : (x : Lexeme) → is_opening x ≡ true → (with_lexeme c (toml_text_of x)).depth ≡ suc c.depth
     deeper lexeme.OpenArray e = refl
     deeper lexeme.OpenTable e = refl
     deeper lexeme.CloseArray e = absurd (cc)
@@ -58,7 +62,8 @@ opening_depth x e c k h y f = closing_depth y f k c (h ∙ deeper x e)
     deeper (lexeme.String s) e = absurd (cc)
     deeper (lexeme.Word s) e = absurd (cc)
 
-    closing_depth : (y : Lexeme) → is_closing y ≡ true → (k c : Collected) → k.depth ≡ suc c.depth → (with_lexeme k (text_of y)).depth ≡ c.depth
+    closing_depth : (y : Lexeme) → is_closing y ≡ true → (k c : Collected) → k.depth ≡ suc c.depth
+        → (with_lexeme k (toml_text_of y)).depth ≡ c.depth
     closing_depth lexeme.CloseArray e k c h = ap outside h
     closing_depth lexeme.CloseTable e k c h = ap outside h
     closing_depth lexeme.OpenArray e k c h = absurd (cc)
@@ -70,7 +75,8 @@ opening_depth x e c k h y f = closing_depth y f k c (h ∙ deeper x e)
     closing_depth (lexeme.String s) e k c h = absurd (cc)
     closing_depth (lexeme.Word s) e k c h = absurd (cc)
 
-pub closing_ends : (x : Lexeme) → is_closing x ≡ true → (c : Collected) → Ends false last.Close (with_lexeme c (text_of x)) (text_of x)
+pub closing_ends : (x : Lexeme) → is_closing x ≡ true → (c : Collected) →
+    EndsCollected false last.Close (with_lexeme c (toml_text_of x)) (toml_text_of x)
 closing_ends lexeme.CloseArray e c = record { needs = λ u. refl; plain = (refl, refl); inside = tt }
 closing_ends lexeme.CloseTable e c = record { needs = λ u. refl; plain = (refl, refl); inside = tt }
 closing_ends lexeme.OpenArray e c = absurd (cc)
@@ -82,7 +88,7 @@ closing_ends (lexeme.Remark s) e c = absurd (cc)
 closing_ends (lexeme.String s) e c = absurd (cc)
 closing_ends (lexeme.Word s) e c = absurd (cc)
 
-pub closing_role : (x : Lexeme) → is_closing x ≡ true → role (text_of x) ≡ a_closing
+pub closing_role : (x : Lexeme) → is_closing x ≡ true → role (toml_text_of x) ≡ a_closing
 closing_role lexeme.CloseArray e = refl
 closing_role lexeme.CloseTable e = refl
 closing_role lexeme.OpenArray e = absurd (cc)
@@ -94,10 +100,10 @@ closing_role (lexeme.Remark s) e = absurd (cc)
 closing_role (lexeme.String s) e = absurd (cc)
 closing_role (lexeme.Word s) e = absurd (cc)
 
-pub closing_whole : (x : Lexeme) (ss : List (List ℕ)) → is_closing x ≡ true → IsSound (text_of x) ss → IsWholeLexeme (text_of x)
-closing_whole x ss e h = subst (λ (r : Role). IsSoundIn r (text_of x) ss) (closing_role x e) h.sound
+pub closing_whole : (x : Lexeme) (ss : List (List ℕ)) → is_closing x ≡ true → IsSound (toml_text_of x) ss → IsWholeLexeme (toml_text_of x)
+closing_whole x ss e h = subst (λ (r : Role). IsSoundIn r (toml_text_of x) ss) (closing_role x e) h.sound
 
-pub closing_head : (x : Lexeme) → is_closing x ≡ true → (l : Last) → least_needed l (head (text_of x)) ≡ least_needed l 93
+pub closing_head : (x : Lexeme) → is_closing x ≡ true → (l : Last) → least_needed l (head (toml_text_of x)) ≡ least_needed l 93
 closing_head lexeme.CloseArray e l = refl
 closing_head lexeme.CloseTable e last.Start = refl
 closing_head lexeme.CloseTable e last.Close = refl
@@ -116,7 +122,8 @@ closing_head (lexeme.String s) e l = absurd (cc)
 closing_head (lexeme.Word s) e l = absurd (cc)
 
 -- a bracket's text shows itself
-pub closing_shows : (x : Lexeme) (d : Tree) (t : List ℕ) → is_closing x ≡ true → t ≡ text_of x → shows d (text_items t) → shows d (Shown (text_of x) ∷ [])
+pub closing_shows : (x : Lexeme) (d : Tree) (t : List ℕ) → is_closing x ≡ true → t ≡ toml_text_of x → shows d (text_items t)
+    → shows d (Shown (toml_text_of x) ∷ [])
 closing_shows lexeme.CloseArray d t e f h = subst (λ (s : List ℕ). shows d (text_items s)) f h
 closing_shows lexeme.CloseTable d t e f h = subst (λ (s : List ℕ). shows d (text_items s)) f h
 closing_shows lexeme.OpenArray d t e f h = absurd (cc)
@@ -128,7 +135,8 @@ closing_shows (lexeme.Remark s) d t e f h = absurd (cc)
 closing_shows (lexeme.String s) d t e f h = absurd (cc)
 closing_shows (lexeme.Word s) d t e f h = absurd (cc)
 
-pub opening_shows : (x : Lexeme) (d : Tree) (t : List ℕ) → is_opening x ≡ true → t ≡ text_of x → shows d (text_items t) → shows d (Shown (text_of x) ∷ [])
+pub opening_shows : (x : Lexeme) (d : Tree) (t : List ℕ) → is_opening x ≡ true → t ≡ toml_text_of x → shows d (text_items t)
+    → shows d (Shown (toml_text_of x) ∷ [])
 opening_shows lexeme.OpenArray d t e f h = subst (λ (s : List ℕ). shows d (text_items s)) f h
 opening_shows lexeme.OpenTable d t e f h = subst (λ (s : List ℕ). shows d (text_items s)) f h
 opening_shows lexeme.CloseArray d t e f h = absurd (cc)
@@ -155,59 +163,79 @@ opening_last (lexeme.Word s) e = absurd (cc)
 -- ---- lists
 
 pub list_closed : (x y : Lexeme) (line : Line) (gap : Between) (left taken : List (List ℕ)) (o front nested close doc whole : Tree)
-    → is_opening x ≡ true → is_closing y ≡ true → shows o (Shown (text_of x) ∷ []) → shows close (Shown (text_of y) ∷ [])
+    → is_opening x ≡ true → is_closing y ≡ true → shows o (Shown (toml_text_of x) ∷ []) → shows close (Shown (toml_text_of y) ∷ [])
     → ShowsBoth o [] (ref_tree line.doc) front → ShowsSame front nested → ShowsBoth nested (gap_items gap) close doc → ShowsSame doc whole
-    → more (least_needed line.last 93) (least_of gap) ≡ least_of gap → IsSound (text_of y) left → IsClosed true line (text_of y) taken
-    → IsValue (last_after x) (text_of x) left (taken ++ text_of y ∷ []) whole
-list_closed x y line gap left taken o front nested close doc whole opens closes o_shows close_shows front_shows nested_shows doc_shows whole_shows enough sound h = record {
-  items = h.items ++ (gap_items gap ++ Shown (text_of y) ∷ []);
-  shown = whole_shows (Shown (text_of x) ∷ (h.items ++ (gap_items gap ++ Shown (text_of y) ∷ [])))
-      (doc_shows (Shown (text_of x) ∷ h.items) (Shown (text_of y) ∷ []) (nested_shows (Shown (text_of x) ∷ h.items) (front_shows (Shown (text_of x) ∷ []) h.items o_shows h.shown)) close_shows);
-  read = λ c. one c (h.read (directly_after (with_lexeme c (text_of x)) (text_of x)) (with_lexeme c (text_of x), text_of x, refl, opening_ends x opens c));
-}
+    → more (least_needed line.last 93) (least_of gap) ≡ least_of gap → IsSound (toml_text_of y) left →
+    IsClosed true line (toml_text_of y) taken
+    → IsValue (last_after x) (toml_text_of x) left (taken ++ toml_text_of y ∷ []) whole
+list_closed x y line gap left taken o front nested close doc whole opens closes o_shows close_shows front_shows nested_shows doc_shows
+    whole_shows enough sound h = record {
+      items = h.items ++ (gap_items gap ++ Shown (toml_text_of y) ∷ []);
+      shown = whole_shows (Shown (toml_text_of x) ∷ (h.items ++ (gap_items gap ++ Shown (toml_text_of y) ∷ [])))
+          (doc_shows (Shown (toml_text_of x) ∷ h.items) (Shown (toml_text_of y) ∷ [])
+          (nested_shows (Shown (toml_text_of x) ∷ h.items) (front_shows
+          (Shown (toml_text_of x) ∷ []) h.items o_shows h.shown)) close_shows);
+      read = λ c. one c (h.read (directly_after (with_lexeme c (toml_text_of x)) (toml_text_of x)) (
+        with_lexeme c (toml_text_of x),
+        toml_text_of x,
+        refl,
+        opening_ends x opens c,
+      ));
+    }
   where
     clash : true ≡ false → ⊥
     clash e = cc
 
-    one : (c : Collected) → ClosedRead true line (text_of y) taken h.items (directly_after (with_lexeme c (text_of x)) (text_of x))
-        → ValueRead (last_after x) (text_of x) left (taken ++ text_of y ∷ []) (h.items ++ (gap_items gap ++ Shown (text_of y) ∷ [])) c
+    one : (c : Collected) → ClosedRead true line (toml_text_of y) taken h.items
+        (directly_after (with_lexeme c (toml_text_of x)) (toml_text_of x))
+        → ValueRead (last_after x) (toml_text_of x) left (taken ++ toml_text_of y ∷ [])
+        (h.items ++ (gap_items gap ++ Shown (toml_text_of y) ∷ [])) c
     one c r =
-        let a = directly_after (with_lexeme c (text_of x)) (text_of x) in
-        let k = with_lexeme r.collected (text_of y) in
-        let enough_there : more (least_needed line.last (head (text_of y))) (least_of gap) ≡ least_of gap
+        let a = directly_after (with_lexeme c (toml_text_of x)) (toml_text_of x) in
+        let k = with_lexeme r.collected (toml_text_of y) in
+        let enough_there : more (least_needed line.last (head (toml_text_of y))) (least_of gap) ≡ least_of gap
         = subst (λ (l : shown.Least). more l (least_of gap) ≡ least_of gap) (sym (closing_head y closes line.last)) enough in
         record {
           collected = k;
-          text = text_of y;
-          read = read_both a (record { collected = r.collected; last = r.text; place = shown.after_text; marked = r.marked }) (directly_after k (text_of y)) h.items (gap_items gap ++ Shown (text_of y) ∷ []) r.read
-              (text_read true line.last r.collected r.text r.marked gap (text_of y) [] (directly_after k (text_of y)) r.needs r.inside enough_there (λ e. absurd (clash e)) (closing_whole y left closes sound) (λ e. closing_role y closes) refl);
+          text = toml_text_of y;
+          read = read_both a (record { collected = r.collected; last = r.text; place = shown.after_text; marked = r.marked })
+              (directly_after k (toml_text_of y)) h.items (gap_items gap ++ Shown (toml_text_of y) ∷ []) r.read
+              (text_read true line.last r.collected r.text r.marked gap (toml_text_of y) []
+              (directly_after k (toml_text_of y)) r.needs r.inside
+              enough_there (λ e. absurd (clash e)) (closing_whole y left closes sound) (λ e. closing_role y closes) refl);
           same = sym r.same;
           ends = inr (
-            subst (λ (l : Last). Ends false l k (text_of y)) (sym (opening_last x opens)) (closing_ends y closes r.collected),
+            subst (λ (l : Last). EndsCollected false l k (toml_text_of y)) (sym (opening_last x opens)) (closing_ends y closes r.collected),
             opening_depth x opens c r.collected (r.level refl) y closes,
           );
         }
 
 pub list_unclosed : (x : Lexeme) (line : Line) (taken : List (List ℕ)) (o whole : Tree)
-    → is_opening x ≡ true → shows o (Shown (text_of x) ∷ []) → ShowsBoth o [] (ref_tree line.doc) whole
-    → line.comma ≡ false → line.is_remarked ≡ false → IsLine true true line [] taken
-    → IsValue (last_after x) (text_of x) [] taken whole
+    → is_opening x ≡ true → shows o (Shown (toml_text_of x) ∷ []) → ShowsBoth o [] (ref_tree line.doc) whole
+    → line.comma ≡ false → line.is_remarked ≡ false → ShowsTaken true true line [] taken
+    → IsValue (last_after x) (toml_text_of x) [] taken whole
 list_unclosed x line taken o whole opens o_shows both none alone h = record {
   items = h.items;
-  shown = both (Shown (text_of x) ∷ []) h.items o_shows h.shown;
-  read = λ c. one c (h.read (directly_after (with_lexeme c (text_of x)) (text_of x)) (with_lexeme c (text_of x), text_of x, refl, opening_ends x opens c));
+  shown = both (Shown (toml_text_of x) ∷ []) h.items o_shows h.shown;
+  read = λ c. one c (h.read (directly_after (with_lexeme c (toml_text_of x)) (toml_text_of x)) (
+    with_lexeme c (toml_text_of x),
+    toml_text_of x,
+    refl,
+    opening_ends x opens c,
+  ));
 }
   where
     no_remarks : h.rs ≡ []
     no_remarks = subst (λ (w : Bool). WaitingRemarks w true line.last h.rs h.remark_items) alone h.remarks
 
-    one : (c : Collected) → LineRead true true line [] taken h.items h.rs (directly_after (with_lexeme c (text_of x)) (text_of x))
-        → ValueRead (last_after x) (text_of x) [] taken h.items c
+    one : (c : Collected) → LineRead true true line [] taken h.items h.rs (directly_after (with_lexeme c (toml_text_of x)) (toml_text_of x))
+        → ValueRead (last_after x) (toml_text_of x) [] taken h.items c
     one c r = record {
       collected = r.collected;
       text = r.text;
       read = r.read;
-      same = sym (r.same ∙ ap (λ (w : Bool). with_lexemes r.collected (waiting w h.rs)) none ∙ ap (λ (rs : List (List ℕ)). with_lexemes r.collected rs) no_remarks);
+      same = sym (r.same ∙ ap (λ (w : Bool). with_lexemes r.collected (waiting w h.rs)) none
+          ∙ ap (λ (rs : List (List ℕ)). with_lexemes r.collected rs) no_remarks);
       ends = inl refl;
     }
 
@@ -249,24 +277,32 @@ alone l x xs left d is needs plain h = record {
     text = x ∷ xs;
     read = refl;
     same = refl;
-    ends = inr (record { needs = needs; plain = plain (with_lexeme c (x ∷ xs)) (nothing c); inside = tt }, ap (λ (r : Role). (with_role r c (x ∷ xs)).depth) is);
+    ends = inr (
+      record { needs = needs; plain = plain (with_lexeme c (x ∷ xs)) (nothing c); inside = tt },
+      ap (λ (r : Role). (with_role r c (x ∷ xs)).depth) is,
+    );
   };
 }
   where
     nothing : (c : Collected) → ((with_lexeme c (x ∷ xs)).comma ≡ false) × ((with_lexeme c (x ∷ xs)).remarks ≡ [])
     nothing c = (ap (λ (r : Role). (with_role r c (x ∷ xs)).comma) is, ap (λ (r : Role). (with_role r c (x ∷ xs)).remarks) is)
 
-string_alone : (s : List ℕ) (left : List (List ℕ)) (d : Tree) → is_quote (head s) ≡ true → shows d (text_items s) → IsValue last.String s left [] d
+string_alone : (s : List ℕ) (left : List (List ℕ)) (d : Tree) → is_quote (head s) ≡ true → shows d (text_items s)
+    → IsValue last.String s left [] d
 string_alone [] left d e h = absurd (cc)
 string_alone (x ∷ xs) left d e h = alone last.String x xs left d (quote_role x e) (quote_needs x xs e) (λ c n. n) h
 
-word_alone : (s : List ℕ) (left : List (List ℕ)) (d : Tree) → ends_word (head s) ≡ false → shows d (text_items s) → IsValue last.Word s left [] d
+word_alone : (s : List ℕ) (left : List (List ℕ)) (d : Tree) → ends_word (head s) ≡ false → shows d (text_items s)
+    → IsValue last.Word s left [] d
 word_alone [] left d e h = absurd (cc)
 word_alone (x ∷ xs) left d e h = alone last.Word x xs left d (word_role x e) (word_needs x xs e) (λ c n. n) h
 
-pub part_alone : (x : Lexeme) (t : List ℕ) (left : List (List ℕ)) (d : Tree) → IsNamed x → IsPart x → is_opening x ≡ false → t ≡ text_of x → shows d (text_items t)
-    → IsValue (last_after x) (text_of x) left [] d
-part_alone lexeme.Equals t left d n p e f h = alone last.Equals 61 [] left d refl (λ u. refl) (λ c k. k) (subst (λ (s : List ℕ). shows d (text_items s)) f h)
+pub part_alone : (x : Lexeme) (t : List ℕ) (left : List (List ℕ)) (d : Tree) → HasTomlKind x → IsPart x → is_opening x ≡ false →
+    t ≡ toml_text_of x
+    → shows d (text_items t)
+    → IsValue (last_after x) (toml_text_of x) left [] d
+part_alone lexeme.Equals t left d n p e f h = alone last.Equals 61 [] left d refl (λ u. refl) (λ c k. k)
+    (subst (λ (s : List ℕ). shows d (text_items s)) f h)
 part_alone (lexeme.String s) t left d n p e f h = string_alone s.now left d n (subst (λ (y : List ℕ). shows d (text_items y)) f h)
 part_alone (lexeme.Word s) t left d n p e f h = word_alone s.now left d n (subst (λ (y : List ℕ). shows d (text_items y)) f h)
 part_alone lexeme.OpenArray t left d n p e f h = absurd (cc)
@@ -278,7 +314,7 @@ part_alone lexeme.LineEnd t left d n p e f h = absurd p
 part_alone (lexeme.Remark s) t left d n p e f h = absurd p
 
 -- a part of a statement is whole
-pub part_whole : (x : Lexeme) (ss : List (List ℕ)) → IsNamed x → IsPart x → IsSound (text_of x) ss → IsWholeLexeme (text_of x)
+pub part_whole : (x : Lexeme) (ss : List (List ℕ)) → HasTomlKind x → IsPart x → IsSound (toml_text_of x) ss → IsWholeLexeme (toml_text_of x)
 part_whole lexeme.OpenArray ss n p h = h.sound
 part_whole lexeme.OpenTable ss n p h = h.sound
 part_whole lexeme.Equals ss n p h = h.sound

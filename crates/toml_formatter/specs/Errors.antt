@@ -3,10 +3,10 @@ use Rattle.toml_formatter.specs.declared.error.FormatError.{FormatError}
 use Rattle.toml_formatter.specs.declared.error.FormatError.TheVariants.{NotToml, TooDeep, Memory}
 
 -- memory was refused
-abbrev pub IsMemory : FormatError → Type 0
-IsMemory NotToml = ⊥
-IsMemory TooDeep = ⊥
-IsMemory (Memory e) = Unit {0}
+abbrev pub IsFormatMemory : FormatError → Type 0
+IsFormatMemory NotToml = ⊥
+IsFormatMemory TooDeep = ⊥
+IsFormatMemory (Memory e) = Unit {0}
 
 -- not for what the text is: brackets are too deep in one another, or memory was refused
 abbrev pub IsRefusal : FormatError → Type 0

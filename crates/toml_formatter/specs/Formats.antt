@@ -6,14 +6,14 @@ use Rattle.toml_formatter.specs.declared.error.FormatError.{FormatError}
 use Rattle.toml_formatter.specs.declared.error.FormatError.TheVariants.{NotToml, TooDeep, Memory}
 
 -- These bytes are the text laid out.
-pub record IsFormatted (text bytes : List ℕ) : Type 0 where
+pub record IsFormattedToml (text bytes : List ℕ) : Type 0 where
   -- The text is TOML.
   pub toml : is_toml text ≡ true
   -- They have the same statements in the same order, each with the same lexemes.
   pub same : statements bytes ≡ statements text
 
 -- the text is no TOML; or it is, and brackets are too deep in one another, or memory was refused
-abbrev pub IsRefused : List ℕ → FormatError → Type 0
-IsRefused text NotToml = is_toml text ≡ false
-IsRefused text TooDeep = is_toml text ≡ true
-IsRefused text (Memory e) = Unit {0}
+abbrev pub IsRefusedToml : List ℕ → FormatError → Type 0
+IsRefusedToml text NotToml = is_toml text ≡ false
+IsRefusedToml text TooDeep = is_toml text ≡ true
+IsRefusedToml text (Memory e) = Unit {0}

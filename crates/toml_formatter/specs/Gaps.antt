@@ -47,14 +47,14 @@ is_nested Header = true
 is_nested Table = true
 is_nested Array = true
 
-abbrev pub is_remark : Last → Bool
-is_remark Start = false
-is_remark Close = false
-is_remark Equals = false
-is_remark Word = false
-is_remark String = false
-is_remark Comma = false
-is_remark Remark = true
+abbrev pub is_last_remark : Last → Bool
+is_last_remark Start = false
+is_last_remark Close = false
+is_last_remark Equals = false
+is_last_remark Word = false
+is_last_remark String = false
+is_last_remark Comma = false
+is_last_remark Remark = true
 
 -- what is at least between what ends so and a text that begins with the byte y
 abbrev pub least_needed : Last → ℕ → Least

@@ -8,7 +8,7 @@ use Rattle.toml_lexemes.specs.Bytes.{comma, head, line_feed}
 use Rattle.toml_statements.specs.Statements.{a_remark, role, Collected, none_collected}
 use Rattle.toml_statements.specs.Statements.{line_ended, with_lexeme, with_lexemes, statements_of, statements}
 use Rattle.toml_statements.specs.Shown.{Stage, first_stage, IsInside, IsReady, AreRead, collected_at, least_between}
-use Rattle.toml_formatter.specs.Gaps.{least_needed, is_remark}
+use Rattle.toml_formatter.specs.Gaps.{least_needed, is_last_remark}
 use Rattle.toml_statements.specs.Sound.{LineEndsNext}
 use Rattle.toml_formatter.specs.declared.kind.Last.{Last}
 use Rattle.toml_formatter.specs.declared.kind.Last.TheVariants.{Start, Close, Equals, Word, String, Comma, Remark}
@@ -46,7 +46,7 @@ abbrev pub EndsAs : Last → List ℕ → Type 0
 EndsAs last t = (u : List ℕ) → least_between t u ≡ least_needed last (head u)
 
 -- what was collected last ends so
-pub record Ends (nested : Bool) (last : Last) (c : Collected) (t : List ℕ) : Type 0 where
+pub record EndsCollected (nested : Bool) (last : Last) (c : Collected) (t : List ℕ) : Type 0 where
   pub needs : EndsAs last t
   pub plain : HoldsNothingAfter last c
   pub inside : IsNested nested c
@@ -59,7 +59,7 @@ pub record ValueRead (last : Last) (s : List ℕ) (left taken : List (List ℕ))
   pub text : List ℕ
   pub read : AreRead (directly_after (with_lexeme c s) s) items (directly_after collected text)
   pub same : collected ≡ with_lexemes c (s ∷ taken)
-  pub ends : (left ≡ []) ⊎ (Ends false last collected text × (collected.depth ≡ c.depth))
+  pub ends : (left ≡ []) ⊎ (EndsCollected false last collected text × (collected.depth ≡ c.depth))
 
 -- The document shows a lexeme and those that were taken after it.
 pub record IsValue (last : Last) (s : List ℕ) (left taken : List (List ℕ)) (d : Tree) : Type 0 where
@@ -74,9 +74,9 @@ TakesValue last s old new d = (taken : List (List ℕ)) × (old ≡ taken ++ new
 -- ---- lines
 
 -- where a line begins: after a bracket, or where any text may stand
-abbrev pub Begins : Bool → Stage → Type 0
-Begins true a = (c : Collected) × (t : List ℕ) × (a ≡ directly_after c t) × Ends true Start c t
-Begins false a = IsReady a
+abbrev pub BeginsLine : Bool → Stage → Type 0
+BeginsLine true a = (c : Collected) × (t : List ℕ) × (a ≡ directly_after c t) × EndsCollected true Start c t
+BeginsLine false a = IsReady a
 
 -- what waits: a comma, and remarks
 abbrev pub waiting : Bool → List (List ℕ) → List (List ℕ)
@@ -115,18 +115,18 @@ pub record LineRead (nested exact : Bool) (line : Line) (left taken : List (List
   pub text : List ℕ
   pub read : AreRead a items (directly_after collected text)
   pub same : Agrees exact (with_lexemes (before_next a) taken) (with_lexemes collected (waiting line.comma rs))
-  pub ends : IsOver line left ⊎ Ends nested line.last collected text
+  pub ends : IsOver line left ⊎ EndsCollected nested line.last collected text
   pub level : IsOver line left ⊎ (nested ≡ true → collected.depth ≡ (before_next a).depth)
 
 -- The line shows the lexemes that were taken, but for those that wait.
-pub record IsLine (nested exact : Bool) (line : Line) (left taken : List (List ℕ)) : Type 0 where
+pub record ShowsTaken (nested exact : Bool) (line : Line) (left taken : List (List ℕ)) : Type 0 where
   pub items : List Item
   pub remark_items : List Item
   pub rs : List (List ℕ)
   pub shown : shows (ref_tree line.doc) items
   pub remarks_shown : shows (ref_tree line.remarks) remark_items
   pub remarks : WaitingRemarks line.is_remarked nested line.last rs remark_items
-  pub read : (a : Stage) → Begins nested a → LineRead nested exact line left taken items rs a
+  pub read : (a : Stage) → BeginsLine nested a → LineRead nested exact line left taken items rs a
 
 -- what ends so may have a comma or remarks that wait in it
 abbrev pub may_hold : Last → Bool
@@ -139,13 +139,13 @@ may_hold Comma = true
 may_hold Remark = true
 
 -- outside of brackets nothing may come after a remark on its line
-abbrev pub GoesOn : Bool → Line → Type 0
-GoesOn true line = ⊤
-GoesOn false line = (line.is_remarked ≡ false) × (is_remark line.last ≡ false)
+abbrev pub TakesMore : Bool → Line → Type 0
+TakesMore true line = ⊤
+TakesMore false line = (line.is_remarked ≡ false) × (is_last_remark line.last ≡ false)
 
 -- a statement goes on where it may, or a line ends
 abbrev pub MayGoOn : Line → List (List ℕ) → Type 0
-MayGoOn line left = GoesOn false line ⊎ ((line.comma ≡ true → is_remark line.last ≡ false) × LineEndsNext left)
+MayGoOn line left = TakesMore false line ⊎ ((line.comma ≡ true → is_last_remark line.last ≡ false) × LineEndsNext left)
 
 -- a document that ends so, with nothing that waits
 abbrev pub begun : RefDoc → Last → Line
@@ -169,11 +169,11 @@ pub record ClosedRead (nested : Bool) (line : Line) (x : List ℕ) (taken : List
 pub record IsClosed (nested : Bool) (line : Line) (x : List ℕ) (taken : List (List ℕ)) : Type 0 where
   pub items : List Item
   pub shown : shows (ref_tree line.doc) items
-  pub read : (a : Stage) → Begins nested a → ClosedRead nested line x taken items a
+  pub read : (a : Stage) → BeginsLine nested a → ClosedRead nested line x taken items a
 
 -- lines of lexemes that were taken from the front of these
 abbrev pub TakesLine : Line → List (List ℕ) → List (List ℕ) → Type 0
-TakesLine line old new = (taken : List (List ℕ)) × (old ≡ taken ++ new) × IsLine true true line new taken
+TakesLine line old new = (taken : List (List ℕ)) × (old ≡ taken ++ new) × ShowsTaken true true line new taken
 
 -- ---- statements
 

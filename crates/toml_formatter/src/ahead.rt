@@ -1,7 +1,7 @@
 ghost use Rattle.std.specs.Prelude.{◌≡◌, ◌∷◌, [], true, false, IfSome, IfNone, MatchOption, ◌⊎◌};
 ghost use Rattle.toml_lexemes.specs.Bytes.{line_feed};
-ghost use Rattle.toml_lexemes.specs.Lexemes.{lexemes};
-ghost use Rattle.toml_lexemes.specs.View.{text_of, IsNamed};
+ghost use Rattle.toml_lexemes.specs.Lexemes.{toml_lexemes_of};
+ghost use Rattle.toml_lexemes.specs.View.{toml_text_of, HasTomlKind};
 ghost use Rattle.toml_formatter.specs.Kinds.{is_closing};
 ghost use Rattle.toml_formatter.specs.Lexing.{ClosesNext};
 ghost use Rattle.toml_statements.specs.Sound.{AreSound, IsSound, LineEndsNext};
@@ -19,20 +19,20 @@ pub(crate) struct Ahead<'a> {
 
 impl<'a> Model for Ahead<'a> {
     ghost use Rattle.std.specs.Prelude.{ℕ, List};
-    ghost use Rattle.toml_formatter.specs.Ahead.{left, IsAhead};
+    ghost use Rattle.toml_formatter.specs.Ahead.{toml_lexemes_left, IsTomlAhead};
 
     ghost Value = { List (List ℕ) };
 
-    ghost view = { λ a. left a.next a.lexer };
+    ghost view = { λ a. toml_lexemes_left a.next a.lexer };
 
-    ghost invariant = { λ a. IsAhead a.next a.lexer };
+    ghost invariant = { λ a. IsTomlAhead a.next a.lexer };
 }
 
 impl<'a> Ahead<'a> {
     /// All lexemes of this text.
     pub(crate) fn new(text: &'a str) -> Ahead<'a>
-        requires { AreSound (lexemes text.now) }
-        ensures { result ≡ lexemes text.now }
+        requires { AreSound (toml_lexemes_of text.now) }
+        ensures { result ≡ toml_lexemes_of text.now }
     {
         let mut lexer = Lexer::new(text);
         let next = lexer.next();
@@ -42,9 +42,9 @@ impl<'a> Ahead<'a> {
     /// Takes the next lexeme, or answers `None` where none is left.
     pub(crate) fn next(&mut self) -> Option<Lexeme<'a>>
         ensures next { MatchOption result ((self.old ≡ []) × (self.new ≡ []))
-            (λ lexeme. self.old ≡ text_of lexeme ∷ self.new) }
-        ensures named { IfSome result IsNamed }
-        ensures sound { IfSome result (λ lexeme. IsSound (text_of lexeme) self.new) }
+            (λ lexeme. self.old ≡ toml_text_of lexeme ∷ self.new) }
+        ensures named { IfSome result HasTomlKind }
+        ensures sound { IfSome result (λ lexeme. IsSound (toml_text_of lexeme) self.new) }
     {
         let taken = self.next;
         if taken.is_some() {
@@ -55,10 +55,10 @@ impl<'a> Ahead<'a> {
 
     /// Takes the next lexeme, unless it closes a list.
     pub(crate) fn next_inside(&mut self) -> Option<Lexeme<'a>>
-        ensures some { IfSome result (λ lexeme. (self.old ≡ text_of lexeme ∷ self.new)
+        ensures some { IfSome result (λ lexeme. (self.old ≡ toml_text_of lexeme ∷ self.new)
             × (is_closing lexeme ≡ false)) }
-        ensures named { IfSome result IsNamed }
-        ensures sound { IfSome result (λ lexeme. IsSound (text_of lexeme) self.new) }
+        ensures named { IfSome result HasTomlKind }
+        ensures sound { IfSome result (λ lexeme. IsSound (toml_text_of lexeme) self.new) }
         ensures none { IfNone result (self.new ≡ self.old) }
         ensures closing { IfNone result (ClosesNext self.old) }
     {
@@ -70,9 +70,9 @@ impl<'a> Ahead<'a> {
 
     /// Takes the next lexeme, or answers `None` where none is left. A line end is taken too, and is answered as `None`.
     pub(crate) fn next_on_line(&mut self) -> Option<Lexeme<'a>>
-        ensures some { IfSome result (λ lexeme. self.old ≡ text_of lexeme ∷ self.new) }
-        ensures named { IfSome result IsNamed }
-        ensures sound { IfSome result (λ lexeme. IsSound (text_of lexeme) self.new) }
+        ensures some { IfSome result (λ lexeme. self.old ≡ toml_text_of lexeme ∷ self.new) }
+        ensures named { IfSome result HasTomlKind }
+        ensures sound { IfSome result (λ lexeme. IsSound (toml_text_of lexeme) self.new) }
         ensures none { IfNone result (((self.old ≡ []) × (self.new ≡ [])) ⊎ (self.old ≡ (line_feed ∷ []) ∷ self.new)) }
         ensures no_line_end { IfSome result (λ lexeme. LineEndsNext self.old → ⊥) }
     {

@@ -1,7 +1,7 @@
 //! The document of a text.
 ghost use Rattle.std.specs.Prelude.{◌≡◌, ◌++◌, ◌∷◌, ℕ, List, IfOk, IfErr};
 ghost use Rattle.prettyless.specs.Trees.{ref_tree};
-ghost use Rattle.toml_lexemes.specs.Lexemes.{lexemes};
+ghost use Rattle.toml_lexemes.specs.Lexemes.{toml_lexemes_of};
 ghost use Rattle.toml_formatter.specs.Errors.{IsRefusal};
 ghost use Rattle.toml_statements.specs.Sound.{AreSound};
 ghost use Rattle.toml_formatter.specs.Lines.{HasStatements, IsDocument, TakesStatement};
@@ -41,7 +41,7 @@ pub(crate) fn document<'a>(
     text: &'a str,
     style: Style,
 ) -> Result<RefDoc<'a>, FormatError>
-    requires { AreSound (lexemes text.now) }
+    requires { AreSound (toml_lexemes_of text.now) }
     ensures made { IfOk result (λ p. HasStatements text.now (ref_tree p)) }
     ensures err { IfErr result IsRefusal }
 {

@@ -1,5 +1,5 @@
 ghost use Rattle.std.specs.Prelude.{◌≡◌};
-ghost use Rattle.toml_formatter.specs.Errors.{IsMemory};
+ghost use Rattle.toml_formatter.specs.Errors.{IsFormatMemory};
 ghost use Rattle.toml_formatter.specs.declared.error.FormatError.TheVariants.{Memory};
 
 use prettyless::text::BuildError;
@@ -25,7 +25,7 @@ impl From<AllocError> for FormatError {
 }
 
 impl From<BuildError> for FormatError {
-    ghost from_gives = { λ e r. IsMemory r };
+    ghost from_gives = { λ e r. IsFormatMemory r };
 
     // The texts of a document are there already, so memory alone can fail.
     fn from(error: BuildError) -> FormatError {

@@ -2,8 +2,8 @@
 ghost use Rattle.std.specs.Prelude.{◌≡◌, true, false};
 ghost use Rattle.prettyless_model.specs.Shows.{LineEnd, Spacing, more};
 ghost use Rattle.toml_lexemes.specs.Bytes.{comma, close_bracket, hash, head};
-ghost use Rattle.toml_lexemes.specs.View.{text_of, IsNamed};
-ghost use Rattle.toml_formatter.specs.Gaps.{is_nested, is_remark, least_needed, least_of, stays, Suits};
+ghost use Rattle.toml_lexemes.specs.View.{toml_text_of, HasTomlKind};
+ghost use Rattle.toml_formatter.specs.Gaps.{is_nested, is_last_remark, least_needed, least_of, stays, Suits};
 
 use crate::kind::{Kind, Last};
 use toml_lexemes::Lexeme;
@@ -56,9 +56,9 @@ fn edge(kind: Kind) -> Gap
 
 /// What is between two lexemes of one key or value.
 fn between(last: Last, next: Lexeme<'_>) -> Gap
-    requires named { IsNamed next }
-    requires no_remark { is_remark last ≡ false }
-    ensures enough { more (least_needed last (head (text_of next.entry))) (least_of result) ≡ least_of result }
+    requires named { HasTomlKind next }
+    requires no_remark { is_last_remark last ≡ false }
+    ensures enough { more (least_needed last (head (toml_text_of next.entry))) (least_of result) ≡ least_of result }
     ensures stays { stays result ≡ true }
 {
     match (last, next) {
@@ -70,9 +70,9 @@ fn between(last: Last, next: Lexeme<'_>) -> Gap
 
 /// What is before a lexeme that begins a value or goes on with one.
 pub(crate) fn before(kind: Kind, last: Last, next: Lexeme<'_>, blank: bool) -> Gap
-    requires named { IsNamed next }
-    requires goes_on { is_nested kind ≡ false → is_remark last ≡ false }
-    ensures { Suits (is_nested kind) last (head (text_of next.entry)) result }
+    requires named { HasTomlKind next }
+    requires goes_on { is_nested kind ≡ false → is_last_remark last ≡ false }
+    ensures { Suits (is_nested kind) last (head (toml_text_of next.entry)) result }
 {
     match last {
         Last::Start => edge(kind),
@@ -85,7 +85,7 @@ pub(crate) fn before(kind: Kind, last: Last, next: Lexeme<'_>, blank: bool) -> G
 /// What is before a comma.
 pub(crate) fn before_comma(last: Last) -> Gap
     ensures enough { more (least_needed last comma) (least_of result) ≡ least_of result }
-    ensures stays { is_remark last ≡ false → stays result ≡ true }
+    ensures stays { is_last_remark last ≡ false → stays result ≡ true }
 {
     match last {
         Last::Remark => Gap::Break,
@@ -95,7 +95,7 @@ pub(crate) fn before_comma(last: Last) -> Gap
 
 /// What is before a remark, which other remarks stand before or not.
 pub(crate) fn before_remark(kind: Kind, last: Last, others: bool, broken: bool, blank: bool) -> Gap
-    requires { is_nested kind ≡ false → is_remark last ≡ false }
+    requires { is_nested kind ≡ false → is_last_remark last ≡ false }
     ensures enough { more (least_needed last hash) (least_of result) ≡ least_of result }
     ensures others { others ≡ true → least_of result ≡ LineEnd }
     ensures stays { is_nested kind ≡ false → others ≡ false → stays result ≡ true }

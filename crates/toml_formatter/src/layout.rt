@@ -2,10 +2,10 @@
 ghost use Rattle.std.specs.Prelude.{◌≡◌, IfOk, IfErr};
 ghost use Rattle.std.specs.String.{string_bytes};
 ghost use Rattle.prettyless.specs.Content.{HasContent};
-ghost use Rattle.toml_lexemes.specs.Lexemes.{lexemes};
+ghost use Rattle.toml_lexemes.specs.Lexemes.{toml_lexemes_of};
 ghost use Rattle.toml_statements.specs.Statements.{statements};
 ghost use Rattle.toml_formatter.specs.Errors.{IsRefusal};
-ghost use Rattle.toml_formatter.specs.Formats.{IsFormatted, IsRefused};
+ghost use Rattle.toml_formatter.specs.Formats.{IsFormattedToml, IsRefusedToml};
 ghost use Rattle.toml_statements.specs.Sound.{AreSound};
 
 use crate::document::document;
@@ -68,7 +68,7 @@ fn laid<'a>(
     text: &'a str,
     style: Style,
 ) -> Result<String, FormatError>
-    requires { AreSound (lexemes text.now) }
+    requires { AreSound (toml_lexemes_of text.now) }
     ensures ok { IfOk result (λ layout. statements (string_bytes layout) ≡ statements text.now) }
     ensures err { IfErr result IsRefusal }
 {
@@ -78,7 +78,7 @@ fn laid<'a>(
 
 /// The same, with the document in an arena of its own.
 fn laid_out(alloc: Global, text: &str, style: Style) -> Result<String, FormatError>
-    requires { AreSound (lexemes text.now) }
+    requires { AreSound (toml_lexemes_of text.now) }
     ensures ok { IfOk result (λ layout. statements (string_bytes layout) ≡ statements text.now) }
     ensures err { IfErr result IsRefusal }
 {
@@ -94,8 +94,8 @@ fn laid_out(alloc: Global, text: &str, style: Style) -> Result<String, FormatErr
 /// `NotToml` only where the text is no TOML, and `TooDeep` only where it is TOML and more than 128 brackets are in one another.
 /// `Memory` where memory is refused, whatever the text is.
 pub fn formatted(alloc: Global, text: &str, style: Style) -> Result<String, FormatError>
-    ensures ok { IfOk result (λ layout. IsFormatted text.now (string_bytes layout)) }
-    ensures err { IfErr result (IsRefused text.now) }
+    ensures ok { IfOk result (λ layout. IsFormattedToml text.now (string_bytes layout)) }
+    ensures err { IfErr result (IsRefusedToml text.now) }
 {
     match fault_of(alloc, text)? {
         Some(_) => Err(FormatError::NotToml),

@@ -2,12 +2,12 @@
 ghost use Rattle.std.specs.Prelude.{◌≡◌, ◌++◌, ◌⊎◌, ◌∷◌, [], ℕ, Bool, List, true, false, ◌||◌, IfOk};
 ghost use Rattle.prettyless.specs.Trees.{ref_tree};
 ghost use Rattle.toml_lexemes.specs.Bytes.{comma, hash, head, line_feed};
-ghost use Rattle.toml_lexemes.specs.View.{text_of, IsNamed};
+ghost use Rattle.toml_lexemes.specs.View.{toml_text_of, HasTomlKind};
 ghost use Rattle.toml_statements.specs.Statements.{role, trimmed, a_closing};
 ghost use Rattle.toml_statements.specs.Shown.{IsWholeLexeme};
-ghost use Rattle.toml_formatter.specs.Gaps.{is_nested, is_remark};
+ghost use Rattle.toml_formatter.specs.Gaps.{is_nested, is_last_remark};
 ghost use Rattle.toml_formatter.specs.Kinds.{last_after, IsPart};
-ghost use Rattle.toml_formatter.specs.Lines.{begun, may_hold, IsValue, IsLine, IsClosed, GoesOn};
+ghost use Rattle.toml_formatter.specs.Lines.{begun, may_hold, IsValue, ShowsTaken, IsClosed, TakesMore};
 
 use crate::gaps::{before, before_comma, before_remark};
 use crate::kind::{Kind, Last, last_of};
@@ -60,15 +60,15 @@ impl<'a> Line<'a> {
 
     /// No lexeme of a list.
     pub(crate) fn new(arena: &'a Arena<'a>) -> Result<Line<'a>, BuildError>
-        ensures { IfOk result (λ line. (left : List (List ℕ)) → IsLine true true line left []) }
+        ensures { IfOk result (λ line. (left : List (List ℕ)) → ShowsTaken true true line left []) }
     {
         Ok(Line::begun(nil(arena)?, Last::Start))
     }
 
     /// The same with a line end in brackets after it.
     pub(crate) fn with_line_end(self) -> Line<'a>
-        ensures { (left taken : List (List ℕ)) → IsLine true true self.entry ((line_feed ∷ []) ∷ left) taken
-            → IsLine true true result left (taken ++ (line_feed ∷ []) ∷ []) }
+        ensures { (left taken : List (List ℕ)) → ShowsTaken true true self.entry ((line_feed ∷ []) ∷ left) taken
+            → ShowsTaken true true result left (taken ++ (line_feed ∷ []) ∷ []) }
     {
         Line {
             broken: true,
@@ -80,11 +80,11 @@ impl<'a> Line<'a> {
     /// The same with the comma that waits in its place.
     fn with_pending_comma(self, arena: &'a Arena<'a>) -> Result<Line<'a>, BuildError>
         ensures line { IfOk result (λ line. (nested exact : Bool) (left taken : List (List ℕ))
-            → (nested ≡ false → self.entry.comma ≡ true → is_remark self.entry.last ≡ false)
-            → IsLine nested exact self.entry left taken → IsLine nested exact line left taken) }
+            → (nested ≡ false → self.entry.comma ≡ true → is_last_remark self.entry.last ≡ false)
+            → ShowsTaken nested exact self.entry left taken → ShowsTaken nested exact line left taken) }
         ensures no_comma { IfOk result (λ line. line.comma ≡ false) }
         ensures remarked { IfOk result (λ line. line.is_remarked ≡ self.entry.is_remarked) }
-        ensures last { IfOk result (λ line. is_remark self.entry.last ≡ false → is_remark line.last ≡ false) }
+        ensures last { IfOk result (λ line. is_last_remark self.entry.last ≡ false → is_last_remark line.last ≡ false) }
     {
         if !self.comma {
             return Ok(self);
@@ -102,11 +102,11 @@ impl<'a> Line<'a> {
     /// The same with the remarks that wait in their place, where no comma waits.
     fn with_pending_remarks(self, arena: &'a Arena<'a>) -> Result<Line<'a>, BuildError>
         ensures line { IfOk result (λ line. (nested exact : Bool) (left taken : List (List ℕ))
-            → self.entry.comma ≡ false → IsLine nested exact self.entry left taken → IsLine nested exact line left taken) }
+            → self.entry.comma ≡ false → ShowsTaken nested exact self.entry left taken → ShowsTaken nested exact line left taken) }
         ensures comma { IfOk result (λ line. line.comma ≡ self.entry.comma) }
         ensures remarked { IfOk result (λ line. line.is_remarked ≡ false) }
-        ensures last { IfOk result (λ line. self.entry.is_remarked ≡ false → is_remark self.entry.last ≡ false
-            → is_remark line.last ≡ false) }
+        ensures last { IfOk result (λ line. self.entry.is_remarked ≡ false → is_last_remark self.entry.last ≡ false
+            → is_last_remark line.last ≡ false) }
     {
         if !self.is_remarked {
             return Ok(self);
@@ -123,12 +123,12 @@ impl<'a> Line<'a> {
     /// The same with the comma and the remarks that wait in their places.
     pub(crate) fn settled(self, arena: &'a Arena<'a>) -> Result<Line<'a>, BuildError>
         ensures line { IfOk result (λ line. (nested exact : Bool) (left taken : List (List ℕ))
-            → (nested ≡ false → self.entry.comma ≡ true → is_remark self.entry.last ≡ false)
-            → IsLine nested exact self.entry left taken → IsLine nested exact line left taken) }
+            → (nested ≡ false → self.entry.comma ≡ true → is_last_remark self.entry.last ≡ false)
+            → ShowsTaken nested exact self.entry left taken → ShowsTaken nested exact line left taken) }
         ensures no_comma { IfOk result (λ line. line.comma ≡ false) }
         ensures no_remarks { IfOk result (λ line. line.is_remarked ≡ false) }
-        ensures last { IfOk result (λ line. self.entry.is_remarked ≡ false → is_remark self.entry.last ≡ false
-            → is_remark line.last ≡ false) }
+        ensures last { IfOk result (λ line. self.entry.is_remarked ≡ false → is_last_remark self.entry.last ≡ false
+            → is_last_remark line.last ≡ false) }
     {
         self.with_pending_comma(arena)?.with_pending_remarks(arena)
     }
@@ -144,7 +144,7 @@ impl<'a> Line<'a> {
     fn with_waiting_comma(self) -> Line<'a>
         ensures line { (nested : Bool) (left taken : List (List ℕ)) → self.entry.comma ≡ false
             → (self.entry.is_remarked ≡ false) ⊎ (may_hold self.entry.last ≡ false)
-            → IsLine nested true self.entry ((comma ∷ []) ∷ left) taken → IsLine nested true result left (taken ++ (comma ∷ []) ∷ []) }
+            → ShowsTaken nested true self.entry ((comma ∷ []) ∷ left) taken → ShowsTaken nested true result left (taken ++ (comma ∷ []) ∷ []) }
         ensures last { result.last ≡ self.entry.last }
         ensures remarked { result.is_remarked ≡ self.entry.is_remarked }
     {
@@ -158,9 +158,9 @@ impl<'a> Line<'a> {
 
     /// The same with a comma taken.
     pub(crate) fn with_comma(self, arena: &'a Arena<'a>) -> Result<Line<'a>, BuildError>
-        ensures line { IfOk result (λ line. (nested : Bool) (left taken : List (List ℕ)) → GoesOn nested self.entry
-            → IsLine nested true self.entry ((comma ∷ []) ∷ left) taken → IsLine nested true line left (taken ++ (comma ∷ []) ∷ [])) }
-        ensures goes_on { IfOk result (λ line. (nested : Bool) → GoesOn nested self.entry → GoesOn nested line) }
+        ensures line { IfOk result (λ line. (nested : Bool) (left taken : List (List ℕ)) → TakesMore nested self.entry
+            → ShowsTaken nested true self.entry ((comma ∷ []) ∷ left) taken → ShowsTaken nested true line left (taken ++ (comma ∷ []) ∷ [])) }
+        ensures goes_on { IfOk result (λ line. (nested : Bool) → TakesMore nested self.entry → TakesMore nested line) }
     {
         if self.settles() {
             return Ok(self.settled(arena)?.with_waiting_comma());
@@ -188,12 +188,12 @@ impl<'a> Line<'a> {
         kind: Kind,
         remark: &'a str,
     ) -> Result<Line<'a>, BuildError>
-        requires goes_on { GoesOn (is_nested kind) self }
+        requires goes_on { TakesMore (is_nested kind) self }
         requires whole { IsWholeLexeme (trimmed remark.now) }
         requires remark { head remark.now ≡ hash }
         ensures line { IfOk result (λ line. (left taken : List (List ℕ))
-            → IsLine (is_nested kind) true self.entry (remark.now ∷ left) taken
-            → IsLine (is_nested kind) true line left (taken ++ remark.now ∷ [])) }
+            → ShowsTaken (is_nested kind) true self.entry (remark.now ∷ left) taken
+            → ShowsTaken (is_nested kind) true line left (taken ++ remark.now ∷ [])) }
         ensures last { IfOk result (λ line. line.last ≡ self.entry.last) }
     {
         let gap = before_remark(kind, self.last, self.is_remarked, self.broken, self.blank);
@@ -214,15 +214,15 @@ impl<'a> Line<'a> {
         first: Lexeme<'a>,
         value: RefDoc<'a>,
     ) -> Result<Line<'a>, BuildError>
-        requires named { IsNamed first }
+        requires named { HasTomlKind first }
         requires part { IsPart first }
-        requires goes_on { GoesOn (is_nested kind) self }
-        requires whole { IsWholeLexeme (text_of first) }
+        requires goes_on { TakesMore (is_nested kind) self }
+        requires whole { IsWholeLexeme (toml_text_of first) }
         ensures line { IfOk result (λ line. (left old taken more : List (List ℕ))
-            → IsLine (is_nested kind) true self.entry (text_of first.entry ∷ old) taken
-            → IsValue (last_after first.entry) (text_of first.entry) left more (ref_tree value.entry)
-            → IsLine (is_nested kind) true line left (taken ++ (text_of first.entry ∷ more))) }
-        ensures goes_on { IfOk result (λ line. GoesOn (is_nested kind) line) }
+            → ShowsTaken (is_nested kind) true self.entry (toml_text_of first.entry ∷ old) taken
+            → IsValue (last_after first.entry) (toml_text_of first.entry) left more (ref_tree value.entry)
+            → ShowsTaken (is_nested kind) true line left (taken ++ (toml_text_of first.entry ∷ more))) }
+        ensures goes_on { IfOk result (λ line. TakesMore (is_nested kind) line) }
     {
         let line = self.settled(arena)?;
         let gap = before(kind, line.last, first, line.blank);
@@ -266,11 +266,11 @@ impl<'a> Line<'a> {
     /// The same as it stands before a closing bracket: with its remarks in their place, and a comma in front of them or at the
     /// end where an array is broken.
     pub(crate) fn closed(self, arena: &'a Arena<'a>, kind: Kind) -> Result<Line<'a>, BuildError>
-        requires { is_nested kind ≡ false → is_remark self.last ≡ false }
-        ensures last { IfOk result (λ line. self.entry.is_remarked ≡ false → is_remark self.entry.last ≡ false
-            → is_remark line.last ≡ false) }
+        requires { is_nested kind ≡ false → is_last_remark self.last ≡ false }
+        ensures last { IfOk result (λ line. self.entry.is_remarked ≡ false → is_last_remark self.entry.last ≡ false
+            → is_last_remark line.last ≡ false) }
         ensures closed { IfOk result (λ line. (x : List ℕ) (left taken : List (List ℕ)) → role x ≡ a_closing
-            → IsLine (is_nested kind) true self.entry (x ∷ left) taken → IsClosed (is_nested kind) line x taken) }
+            → ShowsTaken (is_nested kind) true self.entry (x ∷ left) taken → IsClosed (is_nested kind) line x taken) }
     {
         let line = Line {
             comma: self.keeps_comma(kind),

@@ -1,13 +1,13 @@
 //! The documents of values.
 ghost use Rattle.std.specs.Prelude.{◌≡◌, ◌++◌, ◌≤◌, ◌∷◌, [], ℕ, List, length, true, false, IfOk, IfErr, OnOk};
 ghost use Rattle.prettyless.specs.Trees.{ref_tree};
-ghost use Rattle.toml_lexemes.specs.View.{text_of, IsNamed};
+ghost use Rattle.toml_lexemes.specs.View.{toml_text_of, HasTomlKind};
 ghost use Rattle.toml_formatter.specs.Errors.{IsRefusal};
 ghost use Rattle.toml_formatter.specs.Gaps.{is_nested};
 ghost use Rattle.toml_formatter.specs.Kinds.{is_closing, is_opening, last_after, IsPart};
 ghost use Rattle.toml_formatter.specs.Lexing.{ClosesNext};
 ghost use Rattle.toml_statements.specs.Sound.{IsSound};
-ghost use Rattle.toml_formatter.specs.Lines.{IsValue, IsLine, TakesLine, TakesValue};
+ghost use Rattle.toml_formatter.specs.Lines.{IsValue, ShowsTaken, TakesLine, TakesValue};
 
 use crate::ahead::Ahead;
 use crate::error::FormatError;
@@ -38,9 +38,9 @@ fn closed<'a>(
     requires kind { is_nested kind ≡ true }
     requires opens { is_opening bracket ≡ true }
     requires closes { is_closing close ≡ true }
-    ensures made { IfOk result (λ p. (left taken : List (List ℕ)) → IsSound (text_of close.entry) left
-        → IsLine true true line.entry (text_of close.entry ∷ left) taken
-        → IsValue (last_after bracket.entry) (text_of bracket.entry) left (taken ++ text_of close.entry ∷ []) (ref_tree p)) }
+    ensures made { IfOk result (λ p. (left taken : List (List ℕ)) → IsSound (toml_text_of close.entry) left
+        → ShowsTaken true true line.entry (toml_text_of close.entry ∷ left) taken
+        → IsValue (last_after bracket.entry) (toml_text_of bracket.entry) left (taken ++ toml_text_of close.entry ∷ []) (ref_tree p)) }
     ensures err { IfErr result IsRefusal }
 {
     let arena = setting.arena;
@@ -63,8 +63,8 @@ fn unclosed<'a>(
     line: Line<'a>,
 ) -> Result<RefDoc<'a>, FormatError>
     requires { is_opening bracket ≡ true }
-    ensures made { IfOk result (λ p. (taken : List (List ℕ)) → IsLine true true line.entry [] taken
-        → IsValue (last_after bracket.entry) (text_of bracket.entry) [] taken (ref_tree p)) }
+    ensures made { IfOk result (λ p. (taken : List (List ℕ)) → ShowsTaken true true line.entry [] taken
+        → IsValue (last_after bracket.entry) (toml_text_of bracket.entry) [] taken (ref_tree p)) }
     ensures err { IfErr result IsRefusal }
 {
     let arena = setting.arena;
@@ -83,10 +83,10 @@ pub(crate) fn value<'a>(
     first: Lexeme<'a>,
     depth: usize,
 ) -> Result<RefDoc<'a>, FormatError>
-    requires named { IsNamed first }
+    requires named { HasTomlKind first }
     requires part { IsPart first }
     ensures made { IfOk result (λ p.
-        TakesValue (last_after first.entry) (text_of first.entry) lexemes.old lexemes.new (ref_tree p)) }
+        TakesValue (last_after first.entry) (toml_text_of first.entry) lexemes.old lexemes.new (ref_tree p)) }
     ensures fewer { OnOk result (length lexemes.new ≤ length lexemes.old) }
     ensures err { IfErr result IsRefusal }
 {
@@ -136,12 +136,12 @@ fn with_next<'a>(
     depth: usize,
 ) -> Result<Line<'a>, FormatError>
     requires kind { is_nested kind ≡ true }
-    requires named { IsNamed next }
-    requires sound { IsSound (text_of next) lexemes.old }
+    requires named { HasTomlKind next }
+    requires sound { IsSound (toml_text_of next) lexemes.old }
     requires part { is_closing next ≡ false }
-    ensures made { IfOk result (λ made. (taken : List (List ℕ)) → IsLine true true line.entry (text_of next.entry ∷ lexemes.old) taken
-        → (more : List (List ℕ)) × (text_of next.entry ∷ lexemes.old ≡ more ++ lexemes.new)
-        × IsLine true true made lexemes.new (taken ++ more)) }
+    ensures made { IfOk result (λ made. (taken : List (List ℕ)) → ShowsTaken true true line.entry (toml_text_of next.entry ∷ lexemes.old) taken
+        → (more : List (List ℕ)) × (toml_text_of next.entry ∷ lexemes.old ≡ more ++ lexemes.new)
+        × ShowsTaken true true made lexemes.new (taken ++ more)) }
     ensures fewer { OnOk result (length lexemes.new ≤ length lexemes.old) }
     ensures err { IfErr result IsRefusal }
 {

@@ -2,11 +2,11 @@
 ghost use Rattle.std.specs.Prelude.{◌≡◌, ◌∷◌, ◌++◌, ◌≤◌, [], ℕ, List, length, false, true, IfOk, IfErr, OnOk};
 ghost use Rattle.prettyless.specs.Trees.{ref_tree};
 ghost use Rattle.toml_lexemes.specs.Bytes.{line_feed};
-ghost use Rattle.toml_lexemes.specs.View.{text_of, IsNamed};
+ghost use Rattle.toml_lexemes.specs.View.{toml_text_of, HasTomlKind};
 ghost use Rattle.toml_formatter.specs.Errors.{IsRefusal};
 ghost use Rattle.toml_formatter.specs.Kinds.{is_closing};
 ghost use Rattle.toml_statements.specs.Sound.{IsSound, LineEndsNext};
-ghost use Rattle.toml_formatter.specs.Lines.{GoesOn, IsLine, MayGoOn, TakesStatement};
+ghost use Rattle.toml_formatter.specs.Lines.{TakesMore, ShowsTaken, MayGoOn, TakesStatement};
 
 use crate::ahead::Ahead;
 use crate::error::FormatError;
@@ -28,11 +28,11 @@ fn with_closing<'a>(
     bracket: Lexeme<'a>,
 ) -> Result<Line<'a>, FormatError>
     requires closes { is_closing bracket ≡ true }
-    requires goes_on { GoesOn false line }
-    ensures line { IfOk result (λ made. (left taken : List (List ℕ)) → IsSound (text_of bracket.entry) left
-        → IsLine false true line.entry (text_of bracket.entry ∷ left) taken
-        → IsLine false true made left (taken ++ text_of bracket.entry ∷ [])) }
-    ensures goes_on { IfOk result (λ made. GoesOn false made) }
+    requires goes_on { TakesMore false line }
+    ensures line { IfOk result (λ made. (left taken : List (List ℕ)) → IsSound (toml_text_of bracket.entry) left
+        → ShowsTaken false true line.entry (toml_text_of bracket.entry ∷ left) taken
+        → ShowsTaken false true made left (taken ++ toml_text_of bracket.entry ∷ [])) }
+    ensures goes_on { IfOk result (λ made. TakesMore false made) }
     ensures err { IfErr result IsRefusal }
 {
     let line = line.closed(setting.arena, Kind::Statement)?;
@@ -47,11 +47,11 @@ fn begun<'a>(
     lexemes: &mut Ahead<'a>,
     first: Lexeme<'a>,
 ) -> Result<Line<'a>, FormatError>
-    requires named { IsNamed first }
-    requires sound { IsSound (text_of first) lexemes.old }
-    requires no_line_end { LineEndsNext (text_of first ∷ lexemes.old) → ⊥ }
-    ensures line { IfOk result (λ made. (more : List (List ℕ)) × (text_of first.entry ∷ lexemes.old ≡ more ++ lexemes.new)
-        × IsLine false true made lexemes.new more) }
+    requires named { HasTomlKind first }
+    requires sound { IsSound (toml_text_of first) lexemes.old }
+    requires no_line_end { LineEndsNext (toml_text_of first ∷ lexemes.old) → ⊥ }
+    ensures line { IfOk result (λ made. (more : List (List ℕ)) × (toml_text_of first.entry ∷ lexemes.old ≡ more ++ lexemes.new)
+        × ShowsTaken false true made lexemes.new more) }
     ensures goes_on { IfOk result (λ made. MayGoOn made lexemes.new) }
     ensures fewer { OnOk result (length lexemes.new ≤ length lexemes.old) }
     ensures err { IfErr result IsRefusal }
@@ -78,13 +78,13 @@ fn with_next<'a>(
     line: Line<'a>,
     next: Lexeme<'a>,
 ) -> Result<Line<'a>, FormatError>
-    requires named { IsNamed next }
-    requires sound { IsSound (text_of next) lexemes.old }
-    requires no_line_end { LineEndsNext (text_of next ∷ lexemes.old) → ⊥ }
-    requires goes_on { GoesOn false line }
-    ensures line { IfOk result (λ made. (taken : List (List ℕ)) → IsLine false true line.entry (text_of next.entry ∷ lexemes.old) taken
-        → (more : List (List ℕ)) × (text_of next.entry ∷ lexemes.old ≡ more ++ lexemes.new)
-        × IsLine false true made lexemes.new (taken ++ more)) }
+    requires named { HasTomlKind next }
+    requires sound { IsSound (toml_text_of next) lexemes.old }
+    requires no_line_end { LineEndsNext (toml_text_of next ∷ lexemes.old) → ⊥ }
+    requires goes_on { TakesMore false line }
+    ensures line { IfOk result (λ made. (taken : List (List ℕ)) → ShowsTaken false true line.entry (toml_text_of next.entry ∷ lexemes.old) taken
+        → (more : List (List ℕ)) × (toml_text_of next.entry ∷ lexemes.old ≡ more ++ lexemes.new)
+        × ShowsTaken false true made lexemes.new (taken ++ more)) }
     ensures goes_on { IfOk result (λ made. MayGoOn made lexemes.new) }
     ensures fewer { OnOk result (length lexemes.new ≤ length lexemes.old) }
     ensures err { IfErr result IsRefusal }
@@ -110,10 +110,10 @@ pub(crate) fn statement<'a>(
     lexemes: &mut Ahead<'a>,
     first: Lexeme<'a>,
 ) -> Result<RefDoc<'a>, FormatError>
-    requires named { IsNamed first }
-    requires sound { IsSound (text_of first) lexemes.old }
-    requires no_line_end { LineEndsNext (text_of first ∷ lexemes.old) → ⊥ }
-    ensures made { IfOk result (λ p. TakesStatement (text_of first.entry ∷ lexemes.old) lexemes.new (ref_tree p)) }
+    requires named { HasTomlKind first }
+    requires sound { IsSound (toml_text_of first) lexemes.old }
+    requires no_line_end { LineEndsNext (toml_text_of first ∷ lexemes.old) → ⊥ }
+    ensures made { IfOk result (λ p. TakesStatement (toml_text_of first.entry ∷ lexemes.old) lexemes.new (ref_tree p)) }
     ensures fewer { OnOk result (length lexemes.new ≤ length lexemes.old) }
     ensures err { IfErr result IsRefusal }
 {

@@ -1,16 +1,18 @@
 -- The strings and remarks of a text that is TOML are those that TOML allows.
-use Rattle.std.proofs.Common.{◌≡◌, ℕ, ◌+◌, Bool, true, false, cond, ◌==◌, ◌⊎◌, inl, inr, List, [], ◌∷◌, length, drop, Option, Some, None, Result, Ok, Err, All, refl, sym, ap, subst, arith}
+use Rattle.std.proofs.Common.{◌≡◌, ℕ, ◌+◌, Bool, true, false, cond, ◌==◌, ◌⊎◌, inl, inr, List, [], ◌∷◌, length, drop, Option, Some, None}
+use Rattle.std.proofs.Common.{Result, Ok, Err, All, refl, sym, ap, subst, arith}
 use Rattle.std.specs.Prelude.{⊤, is_ok}
 use Rattle.std.proofs.lemmas.Bool.{true≢false, eqb-true, or_cases}
 use Rattle.std.proofs.lemmas.List.Elements.{All-from_recursion}
 use Rattle.toml_lexemes.specs.Bytes.{is_quote, hash, head}
-use Rattle.toml_lexemes.specs.Lexemes.{lexemes}
-use Rattle.toml_lexemes.specs.SpacedLexemes.{Spaced, after_gap, blanks, spaced_as}
+use Rattle.toml_lexemes.specs.Lexemes.{toml_lexemes_of}
+use Rattle.toml_lexemes.specs.SpacedLexemes.{SpacedToml, after_toml_gap, blanks, toml_spaced_as}
 use Rattle.toml_words.specs.Remarks.{is_remark}
 use Rattle.toml_words.specs.Strings.{is_key_string, is_string}
 use Rattle.toml_words.proofs.Closed.{key_strings_are_strings}
 use Rattle.toml_grammar.specs.Sorts as sort
-use Rattle.toml_grammar.specs.Grammar.{Reading, first_reading, where_so, string_turn, remark_after, remark_turn, sort_turn, is_line_end, is_clear, turn, innermost, turned, step, and_then, reading_after, is_toml}
+use Rattle.toml_grammar.specs.Grammar.{Reading, first_reading, where_so, string_turn, remark_after, remark_turn, sort_turn, is_line_end}
+use Rattle.toml_grammar.specs.Grammar.{is_clear, turn_of_lexeme, innermost, turned, lexeme_step, then_lexemes, reading_after, is_toml}
 use Rattle.toml_grammar.specs.declared.expected.Expected.{Expected}
 use Rattle.toml_grammar.specs.declared.next.Bracket.{Bracket}
 use Rattle.toml_grammar.specs.declared.next.Bracket.TheVariants.{Array, Table}
@@ -83,12 +85,12 @@ pub record IsAllowed (s : List ℕ) : Type 0 where
   pub if_string : sort.sort_of s ≡ sort.string → is_string s ≡ true
   pub if_remark : sort.sort_of s ≡ sort.remark → is_remark s ≡ true
 
-allowed_step : (r t : Reading) (p : Spaced) → step r p ≡ Ok t → IsAllowed p.lexeme
+allowed_step : (r t : Reading) (p : SpacedToml) → lexeme_step r p ≡ Ok t → IsAllowed p.lexeme
 allowed_step r t p e =
     let b = innermost r.open_brackets in
     let n = r.next in
     let passes : Passes (sort_turn (sort.sort_of p.lexeme) n b p.gap p.lexeme) =
-    passes_cond (is_clear p.gap (is_line_end (sort.sort_of p.lexeme))) _ _ (passes_turned r.open_brackets (turn n b p) t e) in
+    passes_cond (is_clear p.gap (is_line_end (sort.sort_of p.lexeme))) _ _ (passes_turned r.open_brackets (turn_of_lexeme n b p) t e) in
     record {
       if_string = λ is. string_passes n b p.lexeme (subst (λ x. Passes (sort_turn x n b p.gap p.lexeme)) is passes);
       if_remark = λ is. remark_passes n b (is_remark p.lexeme) (subst (λ x. Passes (sort_turn x n b p.gap p.lexeme)) is passes);
@@ -98,22 +100,22 @@ abbrev AreAllowed : List (List ℕ) → Type 0
 AreAllowed [] = ⊤
 AreAllowed (s ∷ ss) = IsAllowed s × AreAllowed ss
 
-allowed_then : (m : Result Reading Expected) (ps : List Spaced) (P Q : Type 0) → ((t : Reading) → m ≡ Ok t → P)
-    → ((t : Reading) → is_ok (reading_after t ps) ≡ true → Q) → is_ok (and_then m (λ t. reading_after t ps)) ≡ true → P × Q
+allowed_then : (m : Result Reading Expected) (ps : List SpacedToml) (P Q : Type 0) → ((t : Reading) → m ≡ Ok t → P)
+    → ((t : Reading) → is_ok (reading_after t ps) ≡ true → Q) → is_ok (then_lexemes m (λ t. reading_after t ps)) ≡ true → P × Q
 allowed_then (Ok t) ps P Q f g h = (f t refl, g t h)
 allowed_then (Err e) ps P Q f g h = absurd (true≢false (sym h))
 
-allowed_as : (ss : List (List ℕ)) (bytes : List ℕ) (r : Reading) → is_ok (reading_after r (spaced_as bytes ss)) ≡ true → AreAllowed ss
+allowed_as : (ss : List (List ℕ)) (bytes : List ℕ) (r : Reading) → is_ok (reading_after r (toml_spaced_as bytes ss)) ≡ true → AreAllowed ss
 allowed_as [] bytes r h = tt
 allowed_as (s ∷ ss) bytes r h =
-    let p = after_gap (blanks bytes) s in
+    let p = after_toml_gap (blanks bytes) s in
     let rest = drop (length (blanks bytes) + length s) bytes in
-    allowed_then (step r p) (spaced_as rest ss) (IsAllowed s) (AreAllowed ss) (λ t e. allowed_step r t p e)
+    allowed_then (lexeme_step r p) (toml_spaced_as rest ss) (IsAllowed s) (AreAllowed ss) (λ t e. allowed_step r t p e)
     (λ t g. allowed_as ss rest t g) h
 
-pub lexemes_allowed : (text : List ℕ) → is_toml text ≡ true → All IsAllowed (lexemes text)
+pub lexemes_allowed : (text : List ℕ) → is_toml text ≡ true → All IsAllowed (toml_lexemes_of text)
 unfolding is_toml
-lexemes_allowed text h = All-from_recursion IsAllowed (lexemes text) (allowed_as (lexemes text) text first_reading h)
+lexemes_allowed text h = All-from_recursion IsAllowed (toml_lexemes_of text) (allowed_as (toml_lexemes_of text) text first_reading h)
 
 -- ---- how they begin
 

@@ -1,7 +1,9 @@
 -- How messages name what was expected.
 use Rattle.std.specs.Prelude.{ℕ, List, codes}
 use Rattle.toml_grammar.specs.declared.expected.Expected.{Expected}
-use Rattle.toml_grammar.specs.declared.expected.Expected.TheVariants.{Line, Key, DotOrEquals, DotOrBracket, DotOrBrackets, Bracket, Value, ValueOrBracket, KeyOrBrace, CommaOrBracket, CommaOrBrace, LineEnd, LineFeed, String, KeyString, Remark}
+use Rattle.toml_grammar.specs.declared.expected.Expected.TheVariants.{Line, Key, DotOrEquals, DotOrBracket, DotOrBrackets, Bracket, Value}
+use Rattle.toml_grammar.specs.declared.expected.Expected.TheVariants.{ValueOrBracket, KeyOrBrace, CommaOrBracket, CommaOrBrace, LineEnd}
+use Rattle.toml_grammar.specs.declared.expected.Expected.TheVariants.{LineFeed, String, KeyString, Remark}
 
 -- the name
 abbrev pub expected_name : Expected → List ℕ

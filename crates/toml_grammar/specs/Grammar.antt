@@ -1,14 +1,16 @@
 -- The grammar of TOML 1.0, over the lexemes of a text with the gaps before them. Keys that are defined twice are none of its concern.
-use Rattle.std.specs.Prelude.{ℕ, ◌-◌, ◌==◌, ◌&&◌, Bool, true, false, not, cond, List, [], ◌∷◌, ◌++◌, length, take, Option, Some, None, Result, Ok, Err, is_ok, slice_get}
+use Rattle.std.specs.Prelude.{ℕ, ◌-◌, ◌==◌, ◌&&◌, Bool, true, false, not, cond, List, [], ◌∷◌, ◌++◌, length, take, Option, Some, None}
+use Rattle.std.specs.Prelude.{Result, Ok, Err, is_ok, slice_get}
 use Rattle.std.specs.List.{list_all}
-use Rattle.toml_lexemes.specs.Bytes.{space, carriage_return}
-use Rattle.toml_lexemes.specs.SpacedLexemes.{Spaced, spaced_lexemes}
+use Rattle.toml_lexemes.specs.Bytes.{blank_space, carriage_return}
+use Rattle.toml_lexemes.specs.SpacedLexemes.{SpacedToml, toml_spaced_lexemes}
 use Rattle.toml_words.specs.Dates.{is_date, is_time}
 use Rattle.toml_words.specs.Keys.{key_word}
 use Rattle.toml_words.specs.Remarks.{is_remark}
 use Rattle.toml_words.specs.Strings.{is_key_string, is_string}
 use Rattle.toml_words.specs.Values.{is_value}
-use Rattle.toml_grammar.specs.Sorts.{Sort, open_array, close_array, open_table, close_table, comma, equals, line_end, remark, string, word, text_end, sort_of}
+use Rattle.toml_grammar.specs.Sorts.{Sort, open_array, close_array, open_table, close_table, comma, equals, line_end, remark, string, word}
+use Rattle.toml_grammar.specs.Sorts.{text_end, sort_of}
 use Rattle.toml_grammar.specs.declared.expected.Expected.{Expected}
 use Rattle.toml_grammar.specs.declared.expected.Expected.TheVariants as want
 use Rattle.toml_grammar.specs.declared.next.Bracket.{Bracket}
@@ -56,7 +58,7 @@ is_empty_gap g = length g == 0
 -- exactly one space is the gap
 abbrev pub is_one_space : List ℕ → Bool
 is_one_space [] = false
-is_one_space (x ∷ []) = x == space
+is_one_space (x ∷ []) = x == blank_space
 is_one_space (x ∷ (y ∷ ys)) = false
 
 -- the sort is a line end
@@ -116,15 +118,15 @@ close_table_turn AfterDate b = table_end AfterDate b
 close_table_turn n b = Stops (expected n b)
 
 -- what a comma after a value leads to
-abbrev pub after_comma : Next → Option Bracket → Turn
-after_comma n None = Stops (expected n None)
-after_comma n (Some bracket.Array) = GoesOn Member
-after_comma n (Some bracket.Table) = GoesOn (Key owner.Value true)
+abbrev pub after_value_comma : Next → Option Bracket → Turn
+after_value_comma n None = Stops (expected n None)
+after_value_comma n (Some bracket.Array) = GoesOn Member
+after_value_comma n (Some bracket.Table) = GoesOn (Key owner.Value true)
 
 -- a comma stands after a value: in an array the bracket may follow it, in an inline table a key does
 abbrev pub comma_turn : Next → Option Bracket → Turn
-comma_turn After b = after_comma After b
-comma_turn AfterDate b = after_comma AfterDate b
+comma_turn After b = after_value_comma After b
+comma_turn AfterDate b = after_value_comma AfterDate b
 comma_turn n b = Stops (expected n b)
 
 -- an equals sign stands after the key of a value
@@ -216,8 +218,8 @@ sort_turn word n b g s = word_turn n b g s
 sort_turn text_end n b g s = end_turn n b
 
 -- a lexeme with the gap before it
-abbrev pub turn : Next → Option Bracket → Spaced → Turn
-turn n b p =
+abbrev pub turn_of_lexeme : Next → Option Bracket → SpacedToml → Turn
+turn_of_lexeme n b p =
     let sort = sort_of p.lexeme in
     cond (is_clear p.gap (is_line_end sort)) (sort_turn sort n b p.gap p.lexeme) (Stops want.LineFeed)
 
@@ -240,18 +242,18 @@ turned bs Closes = Ok record { open_brackets = take (length bs - 1) bs; next = A
 turned bs (Stops e) = Err e
 
 -- one lexeme more
-abbrev pub step : Reading → Spaced → Result Reading Expected
-step r p = turned r.open_brackets (turn r.next (innermost r.open_brackets) p)
+abbrev pub lexeme_step : Reading → SpacedToml → Result Reading Expected
+lexeme_step r p = turned r.open_brackets (turn_of_lexeme r.next (innermost r.open_brackets) p)
 
 -- where the first step led, these lexemes more
-abbrev pub and_then : Result Reading Expected → (Reading → Result Reading Expected) → Result Reading Expected
-and_then (Ok r) k = k r
-and_then (Err e) k = Err e
+abbrev pub then_lexemes : Result Reading Expected → (Reading → Result Reading Expected) → Result Reading Expected
+then_lexemes (Ok r) k = k r
+then_lexemes (Err e) k = Err e
 
 -- the reading after these lexemes, or what was expected at the first that may not stand there
-abbrev pub reading_after : Reading → List Spaced → Result Reading Expected
+abbrev pub reading_after : Reading → List SpacedToml → Result Reading Expected
 reading_after r [] = Ok r
-reading_after r (p ∷ ps) = and_then (step r p) (λ t. reading_after t ps)
+reading_after r (p ∷ ps) = then_lexemes (lexeme_step r p) (λ t. reading_after t ps)
 
 -- before the first lexeme
 abbrev pub first_reading : Reading
@@ -259,4 +261,4 @@ first_reading = record { open_brackets = []; next = Line }
 
 -- whether a text is TOML: all its lexemes may stand where they do, and so may its end
 unfoldable pub is_toml : List ℕ → Bool
-is_toml text = is_ok (reading_after first_reading (spaced_lexemes text))
+is_toml text = is_ok (reading_after first_reading (toml_spaced_lexemes text))

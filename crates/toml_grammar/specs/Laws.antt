@@ -1,7 +1,7 @@
 -- What holds of the lexemes of a TOML text.
 use Rattle.std.specs.Prelude.{◌≡◌, ◌≢◌, ℕ, List, ◌∷◌, All, true, false}
 use Rattle.toml_lexemes.specs.Bytes.{carriage_return, hash, is_quote, head}
-use Rattle.toml_lexemes.specs.Lexemes.{lexemes}
+use Rattle.toml_lexemes.specs.Lexemes.{toml_lexemes_of}
 use Rattle.toml_lexemes.specs.Spaced.{MayFollow}
 use Rattle.toml_grammar.specs.Grammar.{is_toml}
 
@@ -15,8 +15,8 @@ IsClearIfRemark s = head s ≡ hash → All (λ x. x ≢ carriage_return) s
 
 -- the strings of a TOML text are closed
 abbrev pub StringsOfTomlAreClosed : Type 0
-StringsOfTomlAreClosed = (text : List ℕ) → is_toml text ≡ true → All IsClosedIfString (lexemes text)
+StringsOfTomlAreClosed = (text : List ℕ) → is_toml text ≡ true → All IsClosedIfString (toml_lexemes_of text)
 
 -- the remarks of a TOML text hold no CR
 abbrev pub RemarksOfTomlAreClear : Type 0
-RemarksOfTomlAreClear = (text : List ℕ) → is_toml text ≡ true → All IsClearIfRemark (lexemes text)
+RemarksOfTomlAreClear = (text : List ℕ) → is_toml text ≡ true → All IsClearIfRemark (toml_lexemes_of text)

@@ -33,8 +33,8 @@ pub(crate) fn start(alloc: Global) -> Reading
 pub(crate) fn step(reading: &mut Reading, found: Spaced<'_>) -> Result<Option<Expected>, AllocError>
     requires { IsNamedIf found.lexeme }
     ensures { IfOk result (λ stopped. MatchOption stopped
-        (spec.step (reading_of reading.old) (spaced_of found.entry) ≡ Ok (reading_of reading.new))
-        (λ expected. spec.step (reading_of reading.old) (spaced_of found.entry) ≡ Err expected)) }
+        (spec.lexeme_step (reading_of reading.old) (spaced_of found.entry) ≡ Ok (reading_of reading.new))
+        (λ expected. spec.lexeme_step (reading_of reading.old) (spaced_of found.entry) ≡ Err expected)) }
 {
     let innermost = reading.open.last().copied();
     match turn_at(reading.next, innermost, found) {

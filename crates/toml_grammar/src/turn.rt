@@ -268,7 +268,7 @@ fn lexeme_turn(next: Next, innermost: Option<Bracket>, found: Spaced<'_>) -> Tur
 /// What a lexeme does with this gap before it.
 pub(crate) fn turn_at(next: Next, innermost: Option<Bracket>, found: Spaced<'_>) -> Turn
     requires { IsNamedIf found.lexeme }
-    ensures { result ≡ spec.turn next innermost (spaced_of found.entry) }
+    ensures { result ≡ spec.turn_of_lexeme next innermost (spaced_of found.entry) }
 {
     let before_line_end = matches!(found.lexeme, Some(Lexeme::LineEnd));
     if is_clear(found.gap, before_line_end) {

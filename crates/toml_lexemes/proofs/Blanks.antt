@@ -1,10 +1,11 @@
 -- The blanks that stand before a lexeme.
-use Rattle.std.proofs.Common.{◌≡◌, ℕ, ◌+◌, ◌-◌, ◌<◌, ◌≤◌, true, false, List, [], ◌∷◌, ◌++◌, length, take, drop, get_or, sym, ap, ◌∙◌, arith, append-nil, append_assoc, length-drop}
+use Rattle.std.proofs.Common.{◌≡◌, ℕ, ◌+◌, ◌-◌, ◌<◌, ◌≤◌, true, false, List, [], ◌∷◌, ◌++◌, length, take, drop, get_or, sym, ap, ◌∙◌, arith}
+use Rattle.std.proofs.Common.{append-nil, append_assoc, length-drop}
 use Rattle.std.proofs.lemmas.List.{drop_more, drop_all, drop-drop, take_more, get_or-drop, length-take-le}
 use Rattle.toml_lexemes.specs.Bytes.{is_blank}
-use Rattle.toml_lexemes.specs.Lexemes.{between, cut}
-use Rattle.toml_lexemes.specs.SpacedLexemes.{after_gap, blanks, spaced_as, spaced_lexemes}
-use Rattle.toml_lexemes.specs.View.{IsFirst}
+use Rattle.toml_lexemes.specs.Lexemes.{between, cut_toml}
+use Rattle.toml_lexemes.specs.SpacedLexemes.{after_toml_gap, blanks, toml_spaced_as, toml_spaced_lexemes}
+use Rattle.toml_lexemes.specs.View.{IsFirstTomlLexeme}
 
 pub blanks_cons : (x : ℕ) (xs : List ℕ) → is_blank x ≡ true → blanks (x ∷ xs) ≡ x ∷ blanks xs
 blanks_cons x xs e = rw e
@@ -41,16 +42,18 @@ module _ (d : List ℕ) (from place : ℕ) (le : from ≤ place) where
   ends_blanks past h = h ∙ ap (λ l. part ++ blanks l) (drop_all place d past) ∙ append-nil part
 
   -- the next lexeme with its gap, where these blanks stand before it
-  pub next_spaced : (s : List ℕ) → place ≤ length d → blanks (drop from d) ≡ part → cut between (drop place d) ≡ cut between (drop from d)
-      → IsFirst d place s → spaced_lexemes (drop from d) ≡ after_gap part s ∷ spaced_lexemes (drop (place + length s) d)
+  pub next_spaced : (s : List ℕ) → place ≤ length d → blanks (drop from d) ≡ part →
+      cut_toml between (drop place d) ≡ cut_toml between (drop from d)
+      → IsFirstTomlLexeme d place s → toml_spaced_lexemes (drop from d) ≡ after_toml_gap part s
+      ∷ toml_spaced_lexemes (drop (place + length s) d)
   next_spaced s inside gap same first =
-      let rest = cut between (drop (place + length s) d) in
+      let rest = cut_toml between (drop (place + length s) d) in
       let long : from + (length part + length s) ≡ place + length s =
       omega (arith, length-take-le (place - from) (drop from d) (omega (arith, length-drop from d))) in
-      ap (spaced_as (drop from d)) (sym same ∙ first.cuts)
-      ∙ ap (λ g. after_gap g s ∷ spaced_as (drop (length g + length s) (drop from d)) rest) gap
-      ∙ ap (λ l. after_gap part s ∷ spaced_as l rest) (drop-drop (length part + length s) from d ∙ ap (λ n. drop n d) long)
+      ap (toml_spaced_as (drop from d)) (sym same ∙ first.cuts)
+      ∙ ap (λ g. after_toml_gap g s ∷ toml_spaced_as (drop (length g + length s) (drop from d)) rest) gap
+      ∙ ap (λ l. after_toml_gap part s ∷ toml_spaced_as l rest) (drop-drop (length part + length s) from d ∙ ap (λ n. drop n d) long)
 
 -- the end, where no lexeme is left
-pub last_spaced : (bytes : List ℕ) → cut between bytes ≡ [] → spaced_lexemes bytes ≡ after_gap bytes [] ∷ []
-last_spaced bytes none = ap (spaced_as bytes) none
+pub last_spaced : (bytes : List ℕ) → cut_toml between bytes ≡ [] → toml_spaced_lexemes bytes ≡ after_toml_gap bytes [] ∷ []
+last_spaced bytes none = ap (toml_spaced_as bytes) none

@@ -1,8 +1,12 @@
 -- What may follow a lexeme.
-use Rattle.std.proofs.Common.{◌≡◌, ◌≢◌, ◌↔◌, ℕ, Bool, true, false, cond, ◌==◌, ◌&&◌, ◌||◌, ◌⊎◌, inl, inr, List, [], ◌∷◌, refl, sym, ap, ◌∙◌, subst}
+use Rattle.std.proofs.Common.{◌≡◌, ◌≢◌, ◌↔◌, ℕ, Bool, true, false, cond, ◌==◌, ◌&&◌, ◌||◌, ◌⊎◌, inl, inr, List, [], ◌∷◌, refl, sym, ap, ◌∙◌}
+use Rattle.std.proofs.Common.{subst}
 use Rattle.std.proofs.lemmas.Bool.{cond_both, true≢false, ne_eqb, or_parts, eqb-true}
 use Rattle.toml_lexemes.specs.Bytes.{is_sign, is_blank, is_quote, ends_word, head}
-use Rattle.toml_lexemes.specs.Lexemes.{Kind, basic, literal, mark, escapes, Inner, in_word, in_remark, opened, doubled, in_line, in_line_escape, in_lines, in_lines_escape, closing, closing_more, closed, closed_more, Mode, between, within, passed, alone, begins, first, Turn, goes_on, stops, line_turn, lines_turn, turn, begins_line_feed, cut_first, cut}
+use Rattle.toml_lexemes.specs.Lexemes.{Kind, basic, literal, quote_mark, escapes, Inner, in_word, in_remark, opened, doubled, in_line}
+use Rattle.toml_lexemes.specs.Lexemes.{in_line_escape, in_lines, in_lines_escape, closing, closing_more, closed, closed_more, Mode, between}
+use Rattle.toml_lexemes.specs.Lexemes.{within, passed, alone, begins, first, Turn, goes_on, stops, line_turn, lines_turn, turn}
+use Rattle.toml_lexemes.specs.Lexemes.{begins_line_feed, cut_first, cut_toml}
 use Rattle.toml_lexemes.specs.Spaced.{mode_first, mode_turn, mode_after, EndsBefore, EndsWithReturn, MayFollow, begins_line_end}
 use Rattle.toml_lexemes.proofs.Bytes.{or_both}
 use Rattle.toml_lexemes.proofs.Firsts.{cut_begun}
@@ -24,15 +28,15 @@ by_test P b t u f g = cond_both b t u (IfStop P) f g
 -- in a string of one line only a line feed stops
 line_stop : (k : Kind) (x : ℕ) → IfStop ((x == 10) ≡ true) (line_turn k x)
 line_stop k x =
-    by_test _ (x == 10) _ _ (λ e h. e) (λ e. by_test _ (x == mark k) _ _ (λ f h. cc)
+    by_test _ (x == 10) _ _ (λ e h. e) (λ e. by_test _ (x == quote_mark k) _ _ (λ f h. cc)
     (λ f. by_test _ (escapes k x) _ _ (λ g h. cc) (λ g h. cc)))
 
 -- in a string of several lines none does
 lines_stop : (k : Kind) (x : ℕ) → IfStop ⊥ (lines_turn k x)
-lines_stop k x = by_test _ (x == mark k) _ _ (λ f h. cc) (λ f. by_test _ (escapes k x) _ _ (λ g h. cc) (λ g h. cc))
+lines_stop k x = by_test _ (x == quote_mark k) _ _ (λ f h. cc) (λ f. by_test _ (escapes k x) _ _ (λ g h. cc) (λ g h. cc))
 
 -- a byte that is no quote stops after two quotes, and after a string of several lines
-no_mark : (k : Kind) (t : Turn) (y : ℕ) → is_quote y ≡ false → cond (y == mark k) t stops ≡ stops
+no_mark : (k : Kind) (t : Turn) (y : ℕ) → is_quote y ≡ false → cond (y == quote_mark k) t stops ≡ stops
 no_mark basic t y q = ap (λ b. cond b t stops) (or_parts (y == 34) (y == 39) q).0
 no_mark literal t y q = ap (λ b. cond b t stops) (or_parts (y == 34) (y == 39) q).1
 
@@ -50,8 +54,8 @@ stop_at_line_feed (in_line k) x b c e = refl
 stop_at_line_feed in_line_escape x b c e = refl
 stop_at_line_feed (in_lines k) x b c e = absurd (lines_stop k x e)
 stop_at_line_feed in_lines_escape x b c e = cc
-stop_at_line_feed (closing k) x b c e = absurd (by_test ⊥ (x == mark k) _ _ (λ f h. cc) (λ f. lines_stop k x) e)
-stop_at_line_feed (closing_more k) x b c e = absurd (by_test ⊥ (x == mark k) _ _ (λ f h. cc) (λ f. lines_stop k x) e)
+stop_at_line_feed (closing k) x b c e = absurd (by_test ⊥ (x == quote_mark k) _ _ (λ f h. cc) (λ f. lines_stop k x) e)
+stop_at_line_feed (closing_more k) x b c e = absurd (by_test ⊥ (x == quote_mark k) _ _ (λ f h. cc) (λ f. lines_stop k x) e)
 stop_at_line_feed (closed k) x b c e = no_mark k _ 10 refl
 stop_at_line_feed (closed_more k) x b c e = no_mark k _ 10 refl
 
@@ -69,14 +73,14 @@ stop_at_blank : (i : Inner) (x y : ℕ) (b c : Bool) → ((x == 10) || ((x == 13
 stop_at_blank in_word x y b c n w q e = ap (λ t. cond t stops (goes_on in_word)) w
 stop_at_blank in_remark x y b c n w q e = absurd (true≢false (sym (remark_stop _ e) ∙ n))
 stop_at_blank (opened k) x y b c n w q e =
-    absurd (left (x == 10) _ n (by_test _ (x == mark k) _ _ (λ f h. cc) (λ f. line_stop k x) e))
+    absurd (left (x == 10) _ n (by_test _ (x == quote_mark k) _ _ (λ f h. cc) (λ f. line_stop k x) e))
 stop_at_blank (doubled k) x y b c n w q e = no_mark k _ y q
 stop_at_blank (in_line k) x y b c n w q e = absurd (left (x == 10) _ n (line_stop k x e))
 stop_at_blank in_line_escape x y b c n w q e = absurd (left (x == 10) _ n (by_test _ (x == 10) _ _ (λ f h. f) (λ f h. cc) e))
 stop_at_blank (in_lines k) x y b c n w q e = absurd (lines_stop k x e)
 stop_at_blank in_lines_escape x y b c n w q e = cc
-stop_at_blank (closing k) x y b c n w q e = absurd (by_test ⊥ (x == mark k) _ _ (λ f h. cc) (λ f. lines_stop k x) e)
-stop_at_blank (closing_more k) x y b c n w q e = absurd (by_test ⊥ (x == mark k) _ _ (λ f h. cc) (λ f. lines_stop k x) e)
+stop_at_blank (closing k) x y b c n w q e = absurd (by_test ⊥ (x == quote_mark k) _ _ (λ f h. cc) (λ f. lines_stop k x) e)
+stop_at_blank (closing_more k) x y b c n w q e = absurd (by_test ⊥ (x == quote_mark k) _ _ (λ f h. cc) (λ f. lines_stop k x) e)
 stop_at_blank (closed k) x y b c n w q e = no_mark k _ y q
 stop_at_blank (closed_more k) x y b c n w q e = no_mark k _ y q
 
@@ -125,22 +129,22 @@ module _ (x : ℕ) (xs : List ℕ) where
 -- a lexeme that is in a mode stays in it, where any other byte would stop it
 module _ (i : Inner) (stays : (x : ℕ) (b : Bool) → (turn i x b ≡ stops) ⊎ (turn i x b ≡ goes_on i)) where
   one_byte : (x : ℕ) (s : List ℕ) → (turn i x (begins_line_feed s) ≡ stops) ⊎ (turn i x (begins_line_feed s) ≡ goes_on i)
-      → (cut (within i) s ≡ s ∷ [] → mode_after (within i) s ≡ within i) → cut (within i) (x ∷ s) ≡ (x ∷ s) ∷ []
+      → (cut_toml (within i) s ≡ s ∷ [] → mode_after (within i) s ≡ within i) → cut_toml (within i) (x ∷ s) ≡ (x ∷ s) ∷ []
       → mode_after (within i) (x ∷ s) ≡ within i
   one_byte x s (inl e) more h =
-      let clash : [] ∷ cut_first (first x) x (λ m. cut m s) ≡ (x ∷ s) ∷ [] = sym (cut_turned i x s stops e) ∙ h in
+      let clash : [] ∷ cut_first (first x) x (λ m. cut_toml m s) ≡ (x ∷ s) ∷ [] = sym (cut_turned i x s stops e) ∙ h in
       absurd cc
   one_byte x s (inr e) more h =
-      ap (λ t. mode_after (mode_turn t) s) e ∙ more (shortened x s (cut (within i) s) (some_cut i s)
+      ap (λ t. mode_after (mode_turn t) s) e ∙ more (shortened x s (cut_toml (within i) s) (some_cut i s)
       (sym (cut_turned i x s (goes_on i) e) ∙ h))
 
-  stays_in : (s : List ℕ) → cut (within i) s ≡ s ∷ [] → mode_after (within i) s ≡ within i
+  stays_in : (s : List ℕ) → cut_toml (within i) s ≡ s ∷ [] → mode_after (within i) s ≡ within i
   stays_in [] h = refl
   stays_in (x ∷ s) h = one_byte x s (stays x (begins_line_feed s)) (stays_in s) h
 
-  mode_left : (x : ℕ) (s : List ℕ) → first x ≡ begins i → cut between (x ∷ s) ≡ (x ∷ s) ∷ [] → mode_after between (x ∷ s) ≡ within i
+  mode_left : (x : ℕ) (s : List ℕ) → first x ≡ begins i → cut_toml between (x ∷ s) ≡ (x ∷ s) ∷ [] → mode_after between (x ∷ s) ≡ within i
   mode_left x s e h =
-      ap (λ f. mode_after (mode_first f) s) e ∙ stays_in s (shortened x s (cut (within i) s) (some_cut i s)
+      ap (λ f. mode_after (mode_first f) s) e ∙ stays_in s (shortened x s (cut_toml (within i) s) (some_cut i s)
       (sym (cut_begun x s (begins i) e) ∙ h))
 
 either : (p : Bool) (i : Inner) → (cond p stops (goes_on i) ≡ stops) ⊎ (cond p stops (goes_on i) ≡ goes_on i)
@@ -161,11 +165,11 @@ word_stop : (p : Bool) → cond p stops (goes_on in_word) ≡ stops → p ≡ tr
 word_stop true e = refl
 word_stop false e = cc
 
-cut-nil : cut between [] ≡ []
-unfolding cut
+cut-nil : cut_toml between [] ≡ []
+unfolding cut_toml
 cut-nil = refl
 
-no_lexeme : cut between [] ≡ [] ∷ [] → ⊥
+no_lexeme : cut_toml between [] ≡ [] ∷ [] → ⊥
 no_lexeme e = let clash : [] ≡ [] ∷ [] = sym cut-nil ∙ e in cc
 
 after_word : (s r : List ℕ) → mode_after between s ≡ within in_word → MayFollow s r ↔ (ends_word (head r) ≡ true)
@@ -178,7 +182,8 @@ after_word s (y ∷ ys) mode = (
   },
 )
 
-pub words_are_ended : (s r : List ℕ) → cut between s ≡ s ∷ [] → ends_word (head s) ≡ false → MayFollow s r ↔ (ends_word (head r) ≡ true)
+pub words_are_ended : (s r : List ℕ) → cut_toml between s ≡ s ∷ [] → ends_word (head s) ≡ false →
+    MayFollow s r ↔ (ends_word (head r) ≡ true)
 words_are_ended [] r h e = absurd (no_lexeme h)
 words_are_ended (x ∷ s) r h e =
     after_word (x ∷ s) r (mode_left in_word (λ y b. either (ends_word y) in_word) x s (first_word x e) h)
@@ -196,7 +201,7 @@ after_remark s y ys mode = (
   },
 )
 
-pub remarks_are_ended : (s : List ℕ) (y : ℕ) (ys : List ℕ) → cut between s ≡ s ∷ [] → head s ≡ 35
+pub remarks_are_ended : (s : List ℕ) (y : ℕ) (ys : List ℕ) → cut_toml between s ≡ s ∷ [] → head s ≡ 35
     → MayFollow s (y ∷ ys) ↔ ((begins_line_end (y ∷ ys) ≡ true) × (EndsWithReturn s → y ≢ 10))
 remarks_are_ended [] y ys h e = absurd (no_lexeme h)
 remarks_are_ended (x ∷ s) y ys h e =

@@ -4,19 +4,20 @@ use Rattle.std.specs.Prelude.{⊤, ◌≢◌}
 use Rattle.std.proofs.lemmas.Bool.{cond_both}
 use Rattle.std.proofs.lemmas.List.Elements.{All-from_recursion}
 use Rattle.toml_lexemes.specs.Bytes.{is_blank, is_sign}
-use Rattle.toml_lexemes.specs.Lexemes.{Inner, in_remark, Mode, between, within, First, passed, alone, begins, first, Turn, goes_on, ends, stops, turn, begins_line_feed, lengthened, cut_first, cut_turn, cut}
-use Rattle.toml_lexemes.specs.Spaced.{IsSpaced, mode_first, mode_turn, mode_after, EndsBefore, EndsWithReturn, MayFollow, IsWellSpaced}
+use Rattle.toml_lexemes.specs.Lexemes.{Inner, in_remark, Mode, between, within, First, passed, alone, begins, first, Turn, goes_on, ends}
+use Rattle.toml_lexemes.specs.Lexemes.{stops, turn, begins_line_feed, lengthened_toml, cut_first, cut_turn, cut_toml}
+use Rattle.toml_lexemes.specs.Spaced.{IsSpacedToml, mode_first, mode_turn, mode_after, EndsBefore, EndsWithReturn, MayFollow, IsWellSpaced}
 use Rattle.toml_lexemes.proofs.Remarks.{From, From-turn, last_turn, no_line_feed}
 
 -- what is left of a lexeme that is read in the mode i, before the rest of the text
 pub record IsPart (i : Inner) (s rest : List ℕ) : Type 0 where
-  pub whole : cut (within i) s ≡ s ∷ []
+  pub whole : cut_toml (within i) s ≡ s ∷ []
   pub ended : EndsBefore (mode_after (within i) s) rest
   pub apart : mode_after (within i) s ≡ within in_remark → EndsWithReturn s → begins_line_feed rest ≡ false
 
 abbrev AreLexemes : List (List ℕ) → Type 0
 AreLexemes [] = ⊤
-AreLexemes (s ∷ ss) = (cut between s ≡ s ∷ []) × AreLexemes ss
+AreLexemes (s ∷ ss) = (cut_toml between s ≡ s ∷ []) × AreLexemes ss
 
 -- the text goes on with what is left of a lexeme, and then with the others
 abbrev GoesOn : Inner → List ℕ → List (List ℕ) → Type 0
@@ -35,11 +36,11 @@ any_bytes (x ∷ xs) = tt
 
 part_more : (i n : Inner) (x : ℕ) (s rest : List ℕ) → turn i x (begins_line_feed (s ++ rest)) ≡ goes_on n → IsPart n s rest
     → IsPart i (x ∷ s) rest
-unfolding cut
+unfolding cut_toml
 part_more i n x [] rest e h =
     let here = last_turn i x (begins_line_feed rest) (goes_on n) e (λ f. cc) in
     record {
-      whole = ap (λ t. cut_turn t (first x) x (λ m. cut m [])) here;
+      whole = ap (λ t. cut_turn t (first x) x (λ m. cut_toml m [])) here;
       ended = subst (λ m. EndsBefore m rest) (sym (ap mode_turn here)) h.ended;
       apart = λ m is.
           let same : within n ≡ within in_remark = sym (ap mode_turn here) ∙ m in
@@ -50,27 +51,27 @@ part_more i n x [] rest e h =
     }
 part_more i n x (y ∷ ys) rest e h =
     record {
-      whole = ap (λ t. cut_turn t (first x) x (λ m. cut m (y ∷ ys))) e ∙ ap (lengthened x) h.whole;
+      whole = ap (λ t. cut_turn t (first x) x (λ m. cut_toml m (y ∷ ys))) e ∙ ap (lengthened_toml x) h.whole;
       ended = subst (λ m. EndsBefore (mode_after m (y ∷ ys)) rest) (sym (ap mode_turn e)) h.ended;
       apart = λ m is. h.apart (ap (λ n. mode_after n (y ∷ ys)) (sym (ap mode_turn e)) ∙ m) is;
     }
 
 part_end : (i : Inner) (x : ℕ) (xs : List ℕ) → turn i x (begins_line_feed xs) ≡ ends → IsPart i (x ∷ []) xs
-unfolding cut
+unfolding cut_toml
 part_end i x xs e =
     let here = last_turn i x (begins_line_feed xs) ends e (λ f. cc) in
     record {
-      whole = ap (λ t. cut_turn t (first x) x (λ m. cut m [])) here;
+      whole = ap (λ t. cut_turn t (first x) x (λ m. cut_toml m [])) here;
       ended = subst (λ m. EndsBefore m xs) (sym (ap mode_turn here)) (any_bytes xs);
       apart = λ m is. let clash : between ≡ within in_remark = sym (ap mode_turn here) ∙ m in cc;
     }
 
 part_none : (i : Inner) (rest : List ℕ) → EndsBefore (within i) rest → IsPart i [] rest
-unfolding cut
+unfolding cut_toml
 part_none i rest e = record { whole = refl; ended = e; apart = λ m is. absurd is }
 
 byte_more : (i n : Inner) (x : ℕ) (xs : List ℕ) (ss : List (List ℕ)) → turn i x (begins_line_feed xs) ≡ goes_on n → GoesOn n xs ss
-    → GoesOn i (x ∷ xs) (lengthened x ss)
+    → GoesOn i (x ∷ xs) (lengthened_toml x ss)
 byte_more i n x xs [] e h = absurd h
 byte_more i n x xs (s ∷ ss) e (rest, is, part, spaced, lexemes) =
     (rest, ap (λ l. x ∷ l) is, part_more i n x s rest (ap (λ l. turn i x (begins_line_feed l)) (sym is) ∙ e) part, spaced, lexemes)
@@ -115,29 +116,29 @@ follows_begun x i (y ∷ ys) rest e part =
     }
 
 byte_first : (x : ℕ) (i : Inner) (xs : List ℕ) (ss : List (List ℕ)) → first x ≡ begins i → GoesOn i xs ss
-    → IsCut between (x ∷ xs) (lengthened x ss)
-unfolding cut
+    → IsCut between (x ∷ xs) (lengthened_toml x ss)
+unfolding cut_toml
 byte_first x i xs [] e h = absurd h
 byte_first x i xs (s ∷ ss) e (rest, is, part, spaced, lexemes) = (
   ([], rest, tt, ap (λ l. x ∷ l) is, follows_begun x i s rest e part, spaced),
-  (ap (λ f. cut_first f x (λ m. cut m s)) e ∙ ap (lengthened x) part.whole, lexemes),
+  (ap (λ f. cut_first f x (λ m. cut_toml m s)) e ∙ ap (lengthened_toml x) part.whole, lexemes),
 )
 
-module _ (x : ℕ) (xs : List ℕ) (h : (m : Mode) → IsCut m xs (cut m xs)) where
-  one_first : (f : First) → first x ≡ f → IsCut between (x ∷ xs) (cut_first f x (λ m. cut m xs))
-  unfolding cut
-  one_first passed e = (blank_first x xs (cut between xs) (subst (Says x) e (Says-first x)) (h between).0, (h between).1)
+module _ (x : ℕ) (xs : List ℕ) (h : (m : Mode) → IsCut m xs (cut_toml m xs)) where
+  one_first : (f : First) → first x ≡ f → IsCut between (x ∷ xs) (cut_first f x (λ m. cut_toml m xs))
+  unfolding cut_toml
+  one_first passed e = (blank_first x xs (cut_toml between xs) (subst (Says x) e (Says-first x)) (h between).0, (h between).1)
   one_first alone e =
-      (([], xs, tt, refl, follows_one x xs e, (h between).0), (ap (λ f. cut_first f x (λ m. cut m [])) e, (h between).1))
-  one_first (begins i) e = byte_first x i xs (cut (within i) xs) e (h (within i))
+      (([], xs, tt, refl, follows_one x xs e, (h between).0), (ap (λ f. cut_first f x (λ m. cut_toml m [])) e, (h between).1))
+  one_first (begins i) e = byte_first x i xs (cut_toml (within i) xs) e (h (within i))
 
-  one_turn : (i : Inner) (t : Turn) → turn i x (begins_line_feed xs) ≡ t → GoesOn i (x ∷ xs) (cut_turn t (first x) x (λ m. cut m xs))
-  one_turn i (goes_on n) e = byte_more i n x xs (cut (within n) xs) e (h (within n))
+  one_turn : (i : Inner) (t : Turn) → turn i x (begins_line_feed xs) ≡ t → GoesOn i (x ∷ xs) (cut_turn t (first x) x (λ m. cut_toml m xs))
+  one_turn i (goes_on n) e = byte_more i n x xs (cut_toml (within n) xs) e (h (within n))
   one_turn i ends e = (xs, refl, part_end i x xs e, (h between).0, (h between).1)
   one_turn i stops e = let f = one_first (first x) refl in (x ∷ xs, refl, part_none i (x ∷ xs) e, f.0, f.1)
 
-IsCut-cut : (xs : List ℕ) (m : Mode) → IsCut m xs (cut m xs)
-unfolding cut
+IsCut-cut : (xs : List ℕ) (m : Mode) → IsCut m xs (cut_toml m xs)
+unfolding cut_toml
 IsCut-cut [] between = (tt, tt)
 IsCut-cut [] (within i) = ([], refl, part_none i [] tt, tt, tt)
 IsCut-cut (x ∷ xs) between = one_first x xs (IsCut-cut xs) (first x) refl
@@ -145,22 +146,22 @@ IsCut-cut (x ∷ xs) (within i) = one_turn x xs (IsCut-cut xs) i (turn i x (begi
 
 -- ---- the whole text
 
-pub IsWellSpaced-lexemes : (text : List ℕ) → IsWellSpaced text (cut between text)
+pub IsWellSpaced-lexemes : (text : List ℕ) → IsWellSpaced text (cut_toml between text)
 IsWellSpaced-lexemes text = (IsCut-cut text between).0
 
-forget : (ss : List (List ℕ)) (text : List ℕ) → IsWellSpaced text ss → IsSpaced text ss
+forget : (ss : List (List ℕ)) (text : List ℕ) → IsWellSpaced text ss → IsSpacedToml text ss
 forget [] text h = h
 forget (s ∷ ss) text (g, rest, gap, is, follows, h) = (g, rest, gap, is, forget ss rest h)
 
-pub IsSpaced-lexemes : (text : List ℕ) → IsSpaced text (cut between text)
-IsSpaced-lexemes text = forget (cut between text) text (IsWellSpaced-lexemes text)
+pub IsSpaced-lexemes : (text : List ℕ) → IsSpacedToml text (cut_toml between text)
+IsSpaced-lexemes text = forget (cut_toml between text) text (IsWellSpaced-lexemes text)
 
-pub lexemes_alone : (text : List ℕ) → All (λ s. cut between s ≡ s ∷ []) (cut between text)
-lexemes_alone text = All-from_recursion (λ s. cut between s ≡ s ∷ []) (cut between text) (IsCut-cut text between).1
+pub lexemes_alone : (text : List ℕ) → All (λ s. cut_toml between s ≡ s ∷ []) (cut_toml between text)
+lexemes_alone text = All-from_recursion (λ s. cut_toml between s ≡ s ∷ []) (cut_toml between text) (IsCut-cut text between).1
 
-some : (s : List ℕ) → cut between s ≡ s ∷ [] → s ≢ []
-unfolding cut
-some s h e = let clash : [] ≡ [] ∷ [] = subst (λ t. cut between t ≡ t ∷ []) e h in cc
+some : (s : List ℕ) → cut_toml between s ≡ s ∷ [] → s ≢ []
+unfolding cut_toml
+some s h e = let clash : [] ≡ [] ∷ [] = subst (λ t. cut_toml between t ≡ t ∷ []) e h in cc
 
-pub lexemes_some : (text : List ℕ) → All (λ s. s ≢ []) (cut between text)
+pub lexemes_some : (text : List ℕ) → All (λ s. s ≢ []) (cut_toml between text)
 lexemes_some text k d lt = some _ (lexemes_alone text k d lt)

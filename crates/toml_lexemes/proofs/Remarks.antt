@@ -3,7 +3,10 @@ use Rattle.std.proofs.Common.{◌≡◌, ℕ, Bool, true, false, cond, ◌==◌,
 use Rattle.std.specs.Prelude.{⊤}
 use Rattle.std.proofs.lemmas.Bool.{cond_both, true≢false, eqb-true}
 use Rattle.toml_lexemes.specs.Bytes.{ends_word}
-use Rattle.toml_lexemes.specs.Lexemes.{Kind, mark, escapes, Inner, in_word, in_remark, opened, doubled, in_line, in_line_escape, in_lines, in_lines_escape, closing, closing_more, closed, closed_more, Turn, goes_on, ends, stops, line_turn, lines_turn, turn}
+use Rattle.toml_lexemes.specs.Lexemes.{Kind, quote_mark, escapes, Inner, in_word, in_remark, opened, doubled, in_line, in_line_escape}
+use Rattle.toml_lexemes.specs.Lexemes.{in_lines}
+use Rattle.toml_lexemes.specs.Lexemes.{in_lines_escape, closing, closing_more, closed, closed_more, Turn, goes_on, ends, stops, line_turn}
+use Rattle.toml_lexemes.specs.Lexemes.{lines_turn, turn}
 
 -- a remark is begun by its first byte alone
 abbrev pub From : Inner → Turn → Type 0
@@ -16,24 +19,24 @@ module _ (i : Inner) where
   by_test b t u p q = cond_both b t u (From i) (λ e. p) (λ e. q)
 
   in_one_line : (k : Kind) (x : ℕ) → From i (line_turn k x)
-  in_one_line k x = by_test (x == 10) _ _ tt (by_test (x == mark k) _ _ tt (by_test (escapes k x) _ _ (λ e. cc) (λ e. cc)))
+  in_one_line k x = by_test (x == 10) _ _ tt (by_test (x == quote_mark k) _ _ tt (by_test (escapes k x) _ _ (λ e. cc) (λ e. cc)))
 
   in_some_lines : (k : Kind) (x : ℕ) → From i (lines_turn k x)
-  in_some_lines k x = by_test (x == mark k) _ _ (λ e. cc) (by_test (escapes k x) _ _ (λ e. cc) (λ e. cc))
+  in_some_lines k x = by_test (x == quote_mark k) _ _ (λ e. cc) (by_test (escapes k x) _ _ (λ e. cc) (λ e. cc))
 
 pub From-turn : (i : Inner) (x : ℕ) (b : Bool) → From i (turn i x b)
 From-turn in_word x b = by_test in_word (ends_word x) _ _ tt (λ e. cc)
 From-turn in_remark x b = by_test in_remark ((x == 10) || ((x == 13) && b)) _ _ tt (λ e. refl)
-From-turn (opened k) x b = by_test (opened k) (x == mark k) _ _ (λ e. cc) (in_one_line (opened k) k x)
-From-turn (doubled k) x b = by_test (doubled k) (x == mark k) _ _ (λ e. cc) tt
+From-turn (opened k) x b = by_test (opened k) (x == quote_mark k) _ _ (λ e. cc) (in_one_line (opened k) k x)
+From-turn (doubled k) x b = by_test (doubled k) (x == quote_mark k) _ _ (λ e. cc) tt
 From-turn (in_line k) x b = in_one_line (in_line k) k x
 From-turn in_line_escape x b = by_test in_line_escape (x == 10) _ _ tt (λ e. cc)
 From-turn (in_lines k) x b = in_some_lines (in_lines k) k x
 From-turn in_lines_escape x b = λ e. cc
-From-turn (closing k) x b = by_test (closing k) (x == mark k) _ _ (λ e. cc) (in_some_lines (closing k) k x)
-From-turn (closing_more k) x b = by_test (closing_more k) (x == mark k) _ _ (λ e. cc) (in_some_lines (closing_more k) k x)
-From-turn (closed k) x b = by_test (closed k) (x == mark k) _ _ (λ e. cc) tt
-From-turn (closed_more k) x b = by_test (closed_more k) (x == mark k) _ _ tt tt
+From-turn (closing k) x b = by_test (closing k) (x == quote_mark k) _ _ (λ e. cc) (in_some_lines (closing k) k x)
+From-turn (closing_more k) x b = by_test (closing_more k) (x == quote_mark k) _ _ (λ e. cc) (in_some_lines (closing_more k) k x)
+From-turn (closed k) x b = by_test (closed k) (x == quote_mark k) _ _ (λ e. cc) tt
+From-turn (closed_more k) x b = by_test (closed_more k) (x == quote_mark k) _ _ tt tt
 
 -- ---- the last byte of a lexeme, alone and before other bytes
 

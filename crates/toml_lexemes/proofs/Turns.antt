@@ -2,7 +2,10 @@
 use Rattle.std.proofs.Common.{◌≡◌, ℕ, ◌<◌, Bool, true, false, cond, ◌==◌, ◌&&◌, ◌||◌, refl, sym, ◌∙◌, arith}
 use Rattle.std.proofs.lemmas.Bool.{cond_both, false≢true, and_parts}
 use Rattle.toml_lexemes.specs.Bytes.{ends_word}
-use Rattle.toml_lexemes.specs.Lexemes.{Kind, basic, mark, escapes, Inner, in_word, in_remark, opened, doubled, in_line, in_line_escape, in_lines, in_lines_escape, closing, closing_more, closed, closed_more, Turn, goes_on, ends, stops, line_turn, lines_turn, turn}
+use Rattle.toml_lexemes.specs.Lexemes.{Kind, basic, quote_mark, escapes, Inner, in_word, in_remark, opened, doubled, in_line}
+use Rattle.toml_lexemes.specs.Lexemes.{in_line_escape}
+use Rattle.toml_lexemes.specs.Lexemes.{in_lines, in_lines_escape, closing, closing_more, closed, closed_more, Turn, goes_on, ends, stops}
+use Rattle.toml_lexemes.specs.Lexemes.{line_turn, lines_turn, turn}
 use Rattle.toml_lexemes.specs.Modes.{is_after_quote}
 use Rattle.toml_lexemes.proofs.Bytes.{or_both, small, ends_ascii, mark_ascii}
 
@@ -20,12 +23,12 @@ module _ (i : Inner) (x : ℕ) where
   goes : (n : Inner) → is_after_quote n ≡ false → Tied i x (goes_on n)
   goes n e h = absurd (false≢true (sym e ∙ h))
 
-  by_mark : (k : Kind) (n : Inner) (u : Turn) → Tied i x u → Tied i x (cond (x == mark k) (goes_on n) u)
-  by_mark k n u g = by_test (x == mark k) (goes_on n) u (λ e h. mark_ascii k x e) g
+  by_mark : (k : Kind) (n : Inner) (u : Turn) → Tied i x u → Tied i x (cond (x == quote_mark k) (goes_on n) u)
+  by_mark k n u g = by_test (x == quote_mark k) (goes_on n) u (λ e h. mark_ascii k x e) g
 
   in_one_line : (k : Kind) → Tied i x (line_turn k x)
   in_one_line k =
-      by_test (x == 10) _ _ (λ e h. small x 10 (omega arith) e) (by_test (x == mark k) _ _ (mark_ascii k x)
+      by_test (x == 10) _ _ (λ e h. small x 10 (omega arith) e) (by_test (x == quote_mark k) _ _ (mark_ascii k x)
       (by_test (escapes k x) _ _ (λ e. goes in_line_escape refl) (goes (in_line k) refl)))
 
   in_some_lines : (k : Kind) → Tied i x (lines_turn k x)
@@ -53,4 +56,4 @@ Tied-turn in_lines_escape x b = goes in_lines_escape x (in_lines basic) refl
 Tied-turn (closing k) x b = by_mark (closing k) x k (closing_more k) _ (in_some_lines (closing k) x k)
 Tied-turn (closing_more k) x b = by_mark (closing_more k) x k (closed k) _ (in_some_lines (closing_more k) x k)
 Tied-turn (closed k) x b = by_mark (closed k) x k (closed_more k) stops (free (closed k) x refl)
-Tied-turn (closed_more k) x b = by_test (closed_more k) x (x == mark k) ends stops (mark_ascii k x) (free (closed_more k) x refl)
+Tied-turn (closed_more k) x b = by_test (closed_more k) x (x == quote_mark k) ends stops (mark_ascii k x) (free (closed_more k) x refl)

@@ -10,8 +10,8 @@ line_feed = 10
 abbrev pub carriage_return : ℕ
 carriage_return = 13
 
-abbrev pub space : ℕ
-space = 32
+abbrev pub blank_space : ℕ
+blank_space = 32
 
 abbrev pub quote : ℕ
 quote = 34
@@ -50,7 +50,7 @@ is_sign c =
 
 -- a blank: a space, a tab or CR
 abbrev pub is_blank : ℕ → Bool
-is_blank c = (c == space) || (c == tab) || (c == carriage_return)
+is_blank c = (c == blank_space) || (c == tab) || (c == carriage_return)
 
 -- a quote of either kind
 abbrev pub is_quote : ℕ → Bool
@@ -62,4 +62,4 @@ ends_word c = is_sign c || is_blank c || is_quote c || (c == line_feed) || (c ==
 
 -- the first byte, or a space where there is none
 abbrev pub head : List ℕ → ℕ
-head t = get_or t 0 space
+head t = get_or t 0 blank_space

@@ -1,42 +1,42 @@
 -- What holds of the lexemes of a text.
 use Rattle.std.specs.Prelude.{◌≡◌, ◌≢◌, ◌↔◌, ◌==◌, ◌||◌, ℕ, true, false, List, [], ◌∷◌, ◌++◌, map, All}
 use Rattle.toml_lexemes.specs.Bytes.{line_feed, carriage_return, hash, is_sign, is_quote, ends_word, head}
-use Rattle.toml_lexemes.specs.Lexemes.{lexemes}
-use Rattle.toml_lexemes.specs.SpacedLexemes.{spaced_lexemes, put_together}
-use Rattle.toml_lexemes.specs.Spaced.{IsGap, IsSpaced, EndsWithReturn, MayFollow, IsWellSpaced, begins_line_end}
+use Rattle.toml_lexemes.specs.Lexemes.{toml_lexemes_of}
+use Rattle.toml_lexemes.specs.SpacedLexemes.{toml_spaced_lexemes, toml_put_together}
+use Rattle.toml_lexemes.specs.Spaced.{IsTomlGap, IsSpacedToml, EndsWithReturn, MayFollow, IsWellSpaced, begins_line_end}
 
 -- a text is its lexemes with gaps around them
-abbrev pub TextsAreSpacedLexemes : Type 0
-TextsAreSpacedLexemes = (text : List ℕ) → IsSpaced text (lexemes text)
+abbrev pub TomlTextsAreSpacedLexemes : Type 0
+TomlTextsAreSpacedLexemes = (text : List ℕ) → IsSpacedToml text (toml_lexemes_of text)
 
 -- no lexeme is empty
-abbrev pub LexemesAreNotEmpty : Type 0
-LexemesAreNotEmpty = (text : List ℕ) → All (λ s. s ≢ []) (lexemes text)
+abbrev pub TomlLexemesAreNotEmpty : Type 0
+TomlLexemesAreNotEmpty = (text : List ℕ) → All (λ s. s ≢ []) (toml_lexemes_of text)
 
 -- each lexeme of a text, as a text of its own, is that lexeme alone
 abbrev pub LexemesStandAlone : Type 0
-LexemesStandAlone = (text : List ℕ) → All (λ s. lexemes s ≡ s ∷ []) (lexemes text)
+LexemesStandAlone = (text : List ℕ) → All (λ s. toml_lexemes_of s ≡ s ∷ []) (toml_lexemes_of text)
 
 -- texts that are one lexeme each, with gaps around them and after each what may follow it, have themselves as lexemes
 abbrev pub GapsKeepLexemes : Type 0
 GapsKeepLexemes =
-    (text : List ℕ) (ss : List (List ℕ)) → All (λ s. lexemes s ≡ s ∷ []) ss → IsWellSpaced text ss → lexemes text ≡ ss
+    (text : List ℕ) (ss : List (List ℕ)) → All (λ s. toml_lexemes_of s ≡ s ∷ []) ss → IsWellSpaced text ss → toml_lexemes_of text ≡ ss
 
 -- after each lexeme of a text stands what may follow it
 abbrev pub TextsAreWellSpaced : Type 0
-TextsAreWellSpaced = (text : List ℕ) → IsWellSpaced text (lexemes text)
+TextsAreWellSpaced = (text : List ℕ) → IsWellSpaced text (toml_lexemes_of text)
 
 -- the gaps and lexemes of a text in their order, put together, are the text
-abbrev pub TextsAreJoined : Type 0
-TextsAreJoined = (text : List ℕ) → put_together (spaced_lexemes text) ≡ text
+abbrev pub TomlTextsAreJoined : Type 0
+TomlTextsAreJoined = (text : List ℕ) → toml_put_together (toml_spaced_lexemes text) ≡ text
 
 -- each gap is blanks alone
 abbrev pub GapsAreBlanks : Type 0
-GapsAreBlanks = (text : List ℕ) → All (λ p. IsGap p.gap) (spaced_lexemes text)
+GapsAreBlanks = (text : List ℕ) → All (λ p. IsTomlGap p.gap) (toml_spaced_lexemes text)
 
 -- after the gaps stand the lexemes of the text, and then the end
-abbrev pub SpacedAreLexemes : Type 0
-SpacedAreLexemes = (text : List ℕ) → map (λ p. p.lexeme) (spaced_lexemes text) ≡ lexemes text ++ [] ∷ []
+abbrev pub SpacedAreTomlLexemes : Type 0
+SpacedAreTomlLexemes = (text : List ℕ) → map (λ p. p.lexeme) (toml_spaced_lexemes text) ≡ toml_lexemes_of text ++ [] ∷ []
 
 -- ---- what may follow a lexeme
 
@@ -62,12 +62,12 @@ FirstByteDecides = (s : List ℕ) (x : ℕ) (xs ys : List ℕ) → x ≢ carriag
 -- after a word may stand what ends a word, and nothing else
 abbrev pub WordsAreEnded : Type 0
 WordsAreEnded =
-    (s r : List ℕ) → lexemes s ≡ s ∷ [] → ends_word (head s) ≡ false → MayFollow s r ↔ (ends_word (head r) ≡ true)
+    (s r : List ℕ) → toml_lexemes_of s ≡ s ∷ [] → ends_word (head s) ≡ false → MayFollow s r ↔ (ends_word (head r) ≡ true)
 
 -- after a remark may stand a line end or the end of the text, and nothing else; after one that ends with CR no line feed may
 abbrev pub RemarksAreEnded : Type 0
 RemarksAreEnded =
-    (s : List ℕ) (x : ℕ) (xs : List ℕ) → lexemes s ≡ s ∷ [] → head s ≡ hash
+    (s : List ℕ) (x : ℕ) (xs : List ℕ) → toml_lexemes_of s ≡ s ∷ [] → head s ≡ hash
     → MayFollow s (x ∷ xs) ↔ ((begins_line_end (x ∷ xs) ≡ true) × (EndsWithReturn s → x ≢ line_feed))
 
 -- after a sign and after a line end any bytes may stand

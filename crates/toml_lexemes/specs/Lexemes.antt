@@ -8,9 +8,9 @@ pub data Kind : Type 0 where
   literal : Kind
 
 -- the quote that a string of this kind is written with
-abbrev pub mark : Kind → ℕ
-mark basic = quote
-mark literal = apostrophe
+abbrev pub quote_mark : Kind → ℕ
+quote_mark basic = quote
+quote_mark literal = apostrophe
 
 -- whether the byte escapes the next one in a string of this kind
 abbrev pub escapes : Kind → ℕ → Bool
@@ -70,27 +70,27 @@ pub data Turn : Type 0 where
 abbrev pub line_turn : Kind → ℕ → Turn
 line_turn k x =
     cond (x == line_feed) stops
-    (cond (x == mark k) ends
+    (cond (x == quote_mark k) ends
     (cond (escapes k x) (goes_on in_line_escape) (goes_on (in_line k))))
 
 -- what the byte x is in a string of several lines
 abbrev pub lines_turn : Kind → ℕ → Turn
-lines_turn k x = cond (x == mark k) (goes_on (closing k)) (cond (escapes k x) (goes_on in_lines_escape) (goes_on (in_lines k)))
+lines_turn k x = cond (x == quote_mark k) (goes_on (closing k)) (cond (escapes k x) (goes_on in_lines_escape) (goes_on (in_lines k)))
 
 -- what the byte x is in a lexeme; `before` says whether it stands directly before a line feed
 abbrev pub turn : Inner → ℕ → Bool → Turn
 turn in_word x before = cond (ends_word x) stops (goes_on in_word)
 turn in_remark x before = cond ((x == line_feed) || ((x == carriage_return) && before)) stops (goes_on in_remark)
-turn (opened k) x before = cond (x == mark k) (goes_on (doubled k)) (line_turn k x)
-turn (doubled k) x before = cond (x == mark k) (goes_on (in_lines k)) stops
+turn (opened k) x before = cond (x == quote_mark k) (goes_on (doubled k)) (line_turn k x)
+turn (doubled k) x before = cond (x == quote_mark k) (goes_on (in_lines k)) stops
 turn (in_line k) x before = line_turn k x
 turn in_line_escape x before = cond (x == line_feed) stops (goes_on (in_line basic))
 turn (in_lines k) x before = lines_turn k x
 turn in_lines_escape x before = goes_on (in_lines basic)
-turn (closing k) x before = cond (x == mark k) (goes_on (closing_more k)) (lines_turn k x)
-turn (closing_more k) x before = cond (x == mark k) (goes_on (closed k)) (lines_turn k x)
-turn (closed k) x before = cond (x == mark k) (goes_on (closed_more k)) stops
-turn (closed_more k) x before = cond (x == mark k) ends stops
+turn (closing k) x before = cond (x == quote_mark k) (goes_on (closing_more k)) (lines_turn k x)
+turn (closing_more k) x before = cond (x == quote_mark k) (goes_on (closed k)) (lines_turn k x)
+turn (closed k) x before = cond (x == quote_mark k) (goes_on (closed_more k)) stops
+turn (closed_more k) x before = cond (x == quote_mark k) ends stops
 
 -- whether a line feed comes first
 abbrev pub begins_line_feed : List ℕ → Bool
@@ -98,29 +98,29 @@ begins_line_feed [] = false
 begins_line_feed (x ∷ xs) = x == line_feed
 
 -- one byte more in front of the lexeme that comes first
-abbrev pub lengthened : ℕ → List (List ℕ) → List (List ℕ)
-lengthened x [] = (x ∷ []) ∷ []
-lengthened x (s ∷ ss) = (x ∷ s) ∷ ss
+abbrev pub lengthened_toml : ℕ → List (List ℕ) → List (List ℕ)
+lengthened_toml x [] = (x ∷ []) ∷ []
+lengthened_toml x (s ∷ ss) = (x ∷ s) ∷ ss
 
 -- the byte x between two lexemes, after which k goes on
 abbrev pub cut_first : First → ℕ → (Mode → List (List ℕ)) → List (List ℕ)
 cut_first passed x k = k between
 cut_first alone x k = (x ∷ []) ∷ k between
-cut_first (begins i) x k = lengthened x (k (within i))
+cut_first (begins i) x k = lengthened_toml x (k (within i))
 
 -- the byte x after the beginning of a lexeme: where the lexeme stops before x, that byte is one between two lexemes
 abbrev pub cut_turn : Turn → First → ℕ → (Mode → List (List ℕ)) → List (List ℕ)
-cut_turn (goes_on i) f x k = lengthened x (k (within i))
+cut_turn (goes_on i) f x k = lengthened_toml x (k (within i))
 cut_turn ends f x k = (x ∷ []) ∷ k between
 cut_turn stops f x k = [] ∷ cut_first f x k
 
 -- what is left of the lexeme that is being read, where one is, and then the lexemes after it
-unfoldable pub cut : Mode → List ℕ → List (List ℕ)
-cut between [] = []
-cut (within i) [] = [] ∷ []
-cut between (x ∷ xs) = cut_first (first x) x (λ next. cut next xs)
-cut (within i) (x ∷ xs) = cut_turn (turn i x (begins_line_feed xs)) (first x) x (λ next. cut next xs)
+unfoldable pub cut_toml : Mode → List ℕ → List (List ℕ)
+cut_toml between [] = []
+cut_toml (within i) [] = [] ∷ []
+cut_toml between (x ∷ xs) = cut_first (first x) x (λ next. cut_toml next xs)
+cut_toml (within i) (x ∷ xs) = cut_turn (turn i x (begins_line_feed xs)) (first x) x (λ next. cut_toml next xs)
 
 -- the lexemes of a text, in their order
-abbrev pub lexemes : List ℕ → List (List ℕ)
-lexemes text = cut between text
+abbrev pub toml_lexemes_of : List ℕ → List (List ℕ)
+toml_lexemes_of text = cut_toml between text

@@ -4,7 +4,8 @@ use Rattle.toml_lexemes.specs.Lexemes as spec
 use Rattle.toml_lexemes.specs.declared.mode.Kind.{Kind}
 use Rattle.toml_lexemes.specs.declared.mode.Kind.TheVariants.{Basic, Literal}
 use Rattle.toml_lexemes.specs.declared.mode.Mode.{Mode}
-use Rattle.toml_lexemes.specs.declared.mode.Mode.TheVariants.{InWord, InRemark, Opened, Doubled, InLine, InLineEscape, InLines, InLinesEscape, Closing, ClosingMore, Closed, ClosedMore}
+use Rattle.toml_lexemes.specs.declared.mode.Mode.TheVariants.{InWord, InRemark, Opened, Doubled, InLine, InLineEscape, InLines}
+use Rattle.toml_lexemes.specs.declared.mode.Mode.TheVariants.{InLinesEscape, Closing, ClosingMore, Closed, ClosedMore}
 use Rattle.toml_lexemes.specs.declared.mode.Turn.{Turn}
 use Rattle.toml_lexemes.specs.declared.mode.Turn.TheVariants.{GoesOn, Ends, Stops}
 

@@ -1,18 +1,19 @@
 -- Texts with gaps around them.
 use Rattle.std.specs.Prelude.{◌≡◌, ◌==◌, ◌&&◌, ◌||◌, ℕ, Bool, true, false, List, [], ◌∷◌, ◌++◌, ⊤}
 use Rattle.toml_lexemes.specs.Bytes.{carriage_return, line_feed, is_blank}
-use Rattle.toml_lexemes.specs.Lexemes.{in_remark, Mode, between, within, First, passed, alone, begins, first, Turn, goes_on, ends, stops, turn, begins_line_feed}
+use Rattle.toml_lexemes.specs.Lexemes.{in_remark, Mode, between, within, First, passed, alone, begins, first, Turn, goes_on, ends, stops}
+use Rattle.toml_lexemes.specs.Lexemes.{turn, begins_line_feed}
 
 -- a gap: blanks alone, which are the space, the tab and CR
-abbrev pub IsGap : List ℕ → Type 0
-IsGap [] = ⊤
-IsGap (x ∷ xs) = (is_blank x ≡ true) × IsGap xs
+abbrev pub IsTomlGap : List ℕ → Type 0
+IsTomlGap [] = ⊤
+IsTomlGap (x ∷ xs) = (is_blank x ≡ true) × IsTomlGap xs
 
 -- bytes that are these texts in their order, with gaps before, between and after them, any of which may be empty
-abbrev pub IsSpaced : List ℕ → List (List ℕ) → Type 0
-IsSpaced bytes [] = IsGap bytes
-IsSpaced bytes (s ∷ ss) =
-    (g : List ℕ) × (rest : List ℕ) × IsGap g × (bytes ≡ g ++ (s ++ rest)) × IsSpaced rest ss
+abbrev pub IsSpacedToml : List ℕ → List (List ℕ) → Type 0
+IsSpacedToml bytes [] = IsTomlGap bytes
+IsSpacedToml bytes (s ∷ ss) =
+    (g : List ℕ) × (rest : List ℕ) × IsTomlGap g × (bytes ≡ g ++ (s ++ rest)) × IsSpacedToml rest ss
 
 -- ---- what may follow a lexeme
 
@@ -57,9 +58,9 @@ pub record MayFollow (lexeme bytes : List ℕ) : Type 0 where
 
 -- spaced, and each text has after it what may follow it
 abbrev pub IsWellSpaced : List ℕ → List (List ℕ) → Type 0
-IsWellSpaced bytes [] = IsGap bytes
+IsWellSpaced bytes [] = IsTomlGap bytes
 IsWellSpaced bytes (s ∷ ss) =
-    (g : List ℕ) × (rest : List ℕ) × IsGap g × (bytes ≡ g ++ (s ++ rest)) × MayFollow s rest × IsWellSpaced rest ss
+    (g : List ℕ) × (rest : List ℕ) × IsTomlGap g × (bytes ≡ g ++ (s ++ rest)) × MayFollow s rest × IsWellSpaced rest ss
 
 -- whether a line end comes first: LF, or CR directly before LF
 abbrev pub begins_line_end : List ℕ → Bool

@@ -1,16 +1,16 @@
 -- The lexemes of a text, each with the gap before it.
 use Rattle.std.specs.Prelude.{ℕ, ◌+◌, List, [], ◌∷◌, ◌++◌, length, drop, cond}
 use Rattle.toml_lexemes.specs.Bytes.{is_blank}
-use Rattle.toml_lexemes.specs.Lexemes.{lexemes}
+use Rattle.toml_lexemes.specs.Lexemes.{toml_lexemes_of}
 
 -- a lexeme after its gap; at the end of the text the last gap, and an empty lexeme
-pub record Spaced : Type 0 where
+pub record SpacedToml : Type 0 where
   pub gap : List ℕ
   pub lexeme : List ℕ
 
 -- the lexeme after the gap
-abbrev pub after_gap : List ℕ → List ℕ → Spaced
-after_gap g s = record { gap = g; lexeme = s }
+abbrev pub after_toml_gap : List ℕ → List ℕ → SpacedToml
+after_toml_gap g s = record { gap = g; lexeme = s }
 
 -- the blanks that the bytes begin with
 abbrev pub blanks : List ℕ → List ℕ
@@ -18,15 +18,15 @@ blanks [] = []
 blanks (x ∷ xs) = cond (is_blank x) (x ∷ blanks xs) []
 
 -- the lexemes that these bytes are, each after the blanks before it, and then the end
-abbrev pub spaced_as : List ℕ → List (List ℕ) → List Spaced
-spaced_as bytes [] = after_gap bytes [] ∷ []
-spaced_as bytes (s ∷ ss) = after_gap (blanks bytes) s ∷ spaced_as (drop (length (blanks bytes) + length s) bytes) ss
+abbrev pub toml_spaced_as : List ℕ → List (List ℕ) → List SpacedToml
+toml_spaced_as bytes [] = after_toml_gap bytes [] ∷ []
+toml_spaced_as bytes (s ∷ ss) = after_toml_gap (blanks bytes) s ∷ toml_spaced_as (drop (length (blanks bytes) + length s) bytes) ss
 
 -- the lexemes of a text, each after its gap, and then the end
-abbrev pub spaced_lexemes : List ℕ → List Spaced
-spaced_lexemes text = spaced_as text (lexemes text)
+abbrev pub toml_spaced_lexemes : List ℕ → List SpacedToml
+toml_spaced_lexemes text = toml_spaced_as text (toml_lexemes_of text)
 
 -- the bytes of gaps and lexemes
-abbrev pub put_together : List Spaced → List ℕ
-put_together [] = []
-put_together (p ∷ ps) = p.gap ++ (p.lexeme ++ put_together ps)
+abbrev pub toml_put_together : List SpacedToml → List ℕ
+toml_put_together [] = []
+toml_put_together (p ∷ ps) = p.gap ++ (p.lexeme ++ toml_put_together ps)

@@ -1,10 +1,10 @@
 ghost use Rattle.std.specs.Prelude.{◌≡◌, ◌+◌, ◌-◌, ◌<◌, ◌≤◌, ◌⊎◌, ◌∷◌, false, length, take, drop, slice_index};
 ghost use Rattle.std.specs.Str.{IsCharBoundary};
 ghost use Rattle.toml_lexemes.specs.Bytes as ascii;
-ghost use Rattle.toml_lexemes.specs.Lexemes.{begins, begins_line_feed, between, cut, first, within};
+ghost use Rattle.toml_lexemes.specs.Lexemes.{begins, begins_line_feed, between, cut_toml, first, within};
 ghost use Rattle.toml_lexemes.specs.Modes.{inner_of, is_after_quote};
 ghost use Rattle.toml_lexemes.specs.SpacedLexemes.{blanks};
-ghost use Rattle.toml_lexemes.specs.View.{text_of, IsNamed, IsFirst};
+ghost use Rattle.toml_lexemes.specs.View.{toml_text_of, HasTomlKind, IsFirstTomlLexeme};
 
 use crate::lexeme::Lexeme;
 use crate::mode::{Kind, Mode, Turn, is_blank, turn_at};
@@ -14,7 +14,7 @@ use crate::mode::{Kind, Mode, Turn, is_blank, turn_at};
 pub(crate) fn blanks_end(bytes: &[u8], from: usize) -> usize
     requires { from ≤ length bytes.now }
     ensures bounds { (from ≤ result) × (result ≤ length bytes.now) }
-    ensures cut { cut between (drop result bytes.now) ≡ cut between (drop from bytes.now) }
+    ensures cut { cut_toml between (drop result bytes.now) ≡ cut_toml between (drop from bytes.now) }
     ensures blanks { blanks (drop from bytes.now) ≡ take (result - from) (drop from bytes.now) }
     ensures after { from < result → slice_index bytes.now (result - 1) < 128 }
     ensures stops { result < length bytes.now → ascii.is_blank (slice_index bytes.now result) ≡ false }
@@ -41,8 +41,8 @@ fn lexeme_end(bytes: &[u8], from: usize, begun: Mode) -> usize
     requires within { from ≤ length bytes.now }
     requires begun { is_after_quote (inner_of begun) ≡ false }
     ensures bounds { (from ≤ result) × (result ≤ length bytes.now) }
-    ensures cut { cut (within (inner_of begun)) (drop from bytes.now)
-        ≡ take (result - from) (drop from bytes.now) ∷ cut between (drop result bytes.now) }
+    ensures cut { cut_toml (within (inner_of begun)) (drop from bytes.now)
+        ≡ take (result - from) (drop from bytes.now) ∷ cut_toml between (drop result bytes.now) }
     ensures ended { result < length bytes.now
         → (slice_index bytes.now result < 128)
         ⊎ (let before = result - 1 in (from < result) × (slice_index bytes.now before < 128)) }
@@ -65,7 +65,7 @@ fn slice_at<'a>(text: &'a str, place: usize, begun: Mode) -> &'a str
     requires boundary { IsCharBoundary text.now place }
     requires begun { is_after_quote (inner_of begun) ≡ false }
     requires begins { first (slice_index text.now place) ≡ begins (inner_of begun) }
-    ensures first { IsFirst text.now place result.now }
+    ensures first { IsFirstTomlLexeme text.now place result.now }
     ensures head { ascii.head result.now ≡ slice_index text.now place }
 {
     &text[place..lexeme_end(text.as_bytes(), place + 1, begun)]
@@ -77,8 +77,8 @@ pub(crate) fn lexeme_at<'a>(text: &'a str, place: usize) -> Lexeme<'a>
     requires within { place < length text.now }
     requires boundary { IsCharBoundary text.now place }
     requires begins { ascii.is_blank (slice_index text.now place) ≡ false }
-    ensures first { IsFirst text.now place (text_of result) }
-    ensures named { IsNamed result }
+    ensures first { IsFirstTomlLexeme text.now place (toml_text_of result) }
+    ensures named { HasTomlKind result }
 {
     match text.as_bytes()[place] {
         b'[' => Lexeme::OpenArray,

@@ -1,20 +1,20 @@
 ghost use Rattle.toml_lexemes.specs.Laws.{BlankMayFollow, EndMayFollow, FirstByteDecides, LineFeedMayFollow};
 ghost use Rattle.toml_lexemes.specs.Laws.{RemarksAreEnded, SignsAreEnded, WordsAreEnded};
 ghost use Rattle.toml_lexemes.specs.Laws.{GapsKeepLexemes, LexemesStandAlone, TextsAreWellSpaced};
-ghost use Rattle.toml_lexemes.specs.Laws.{LexemesAreNotEmpty, TextsAreSpacedLexemes};
-ghost use Rattle.toml_lexemes.specs.Laws.{GapsAreBlanks, SpacedAreLexemes, TextsAreJoined};
+ghost use Rattle.toml_lexemes.specs.Laws.{TomlLexemesAreNotEmpty, TomlTextsAreSpacedLexemes};
+ghost use Rattle.toml_lexemes.specs.Laws.{GapsAreBlanks, SpacedAreTomlLexemes, TomlTextsAreJoined};
 
 /// A text is its lexemes in their order, with nothing but blanks before, between and after them. No lexeme is empty.
 pub fn law_spacing()
-    ensures spaced { TextsAreSpacedLexemes }
-    ensures some { LexemesAreNotEmpty }
+    ensures spaced { TomlTextsAreSpacedLexemes }
+    ensures some { TomlLexemesAreNotEmpty }
 {}
 
 /// The lexemes with their gaps are the text, put together. Each gap is blanks alone, and the lexemes are those of the text.
 pub fn law_joined()
-    ensures joined { TextsAreJoined }
+    ensures joined { TomlTextsAreJoined }
     ensures blanks { GapsAreBlanks }
-    ensures lexemes { SpacedAreLexemes }
+    ensures lexemes { SpacedAreTomlLexemes }
 {}
 
 /// Lexemes with any gaps of blanks around them, and after each what may follow it, are a text of the same lexemes. Each

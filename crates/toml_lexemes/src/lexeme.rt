@@ -27,12 +27,12 @@ pub enum Lexeme<'a> {
 
 impl<'a> Lexeme<'a> {
     ghost use Rattle.std.specs.Prelude.{◌≡◌};
-    ghost use Rattle.toml_lexemes.specs.View.{text_of};
+    ghost use Rattle.toml_lexemes.specs.View.{toml_text_of};
 
     /// The lexeme as it is spelled; a line end is LF alone.
     #[inline]
     pub fn text(self) -> &'a str
-        ensures { result.now ≡ text_of self.entry }
+        ensures { result.now ≡ toml_text_of self.entry }
     {
         match self {
             Lexeme::OpenArray => "[",

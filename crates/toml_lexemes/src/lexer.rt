@@ -1,6 +1,6 @@
 ghost use Rattle.std.specs.Prelude.{◌≡◌, map, IfOk, All};
-ghost use Rattle.toml_lexemes.specs.Lexemes.{lexemes};
-ghost use Rattle.toml_lexemes.specs.View.{text_of, IsNamed};
+ghost use Rattle.toml_lexemes.specs.Lexemes.{toml_lexemes_of};
+ghost use Rattle.toml_lexemes.specs.View.{toml_text_of, HasTomlKind};
 
 use crate::cut::{blanks_end, lexeme_at};
 use crate::lexeme::Lexeme;
@@ -16,19 +16,19 @@ pub struct Lexer<'a> {
 
 impl<'a> Model for Lexer<'a> {
     ghost use Rattle.std.specs.Prelude.{ℕ, List};
-    ghost use Rattle.toml_lexemes.specs.Lexer.{lexer_view, IsLexer};
+    ghost use Rattle.toml_lexemes.specs.Lexer.{toml_lexer_view, IsTomlLexer};
 
     ghost Value = { List (List ℕ) };
 
-    ghost view = { lexer_view };
+    ghost view = { toml_lexer_view };
 
-    ghost invariant = { IsLexer };
+    ghost invariant = { IsTomlLexer };
 }
 
 impl<'a> Lexer<'a> {
     /// Hands out all lexemes of this text.
     pub fn new(text: &'a str) -> Lexer<'a>
-        ensures { result ≡ lexemes text.now }
+        ensures { result ≡ toml_lexemes_of text.now }
     {
         Lexer { text, place: 0 }
     }
@@ -38,9 +38,9 @@ impl<'a> Iterator for Lexer<'a> {
     type Item = Lexeme<'a>;
 
     ghost use Rattle.std.specs.Iterator.{item_count};
-    ghost use Rattle.toml_lexemes.specs.View.{HandsOut};
+    ghost use Rattle.toml_lexemes.specs.View.{HandsOutTomlLexeme};
 
-    ghost next_gives = { HandsOut };
+    ghost next_gives = { HandsOutTomlLexeme };
 
     ghost remaining = { item_count (λ left. left) };
 
@@ -61,8 +61,8 @@ impl<'a> Iterator for Lexer<'a> {
 ///
 /// `AllocError` where memory is refused.
 pub fn lexemes<'a>(alloc: Global, text: &'a str) -> Result<Vec<Lexeme<'a>>, AllocError>
-    ensures texts { IfOk result (λ found. map text_of found.items ≡ lexemes text.now) }
-    ensures names { IfOk result (λ found. All IsNamed found.items) }
+    ensures texts { IfOk result (λ found. map toml_text_of found.items ≡ toml_lexemes_of text.now) }
+    ensures names { IfOk result (λ found. All HasTomlKind found.items) }
 {
     let mut found = Vec::new(alloc);
     for lexeme in Lexer::new(text) {

@@ -80,7 +80,7 @@ fn ends_word(byte: u8) -> bool
 /// Whether the byte is the quote of this kind of string.
 #[inline]
 fn is_mark(kind: Kind, byte: u8) -> bool
-    ensures { result ≡ (byte == spec.mark (kind_of kind)) }
+    ensures { result ≡ (byte == spec.quote_mark (kind_of kind)) }
 {
     match kind {
         Kind::Basic => byte == b'"',
@@ -133,7 +133,7 @@ fn lines_turn(kind: Kind, byte: u8) -> Turn
 #[inline]
 fn at_mark(kind: Kind, byte: u8, mode: Mode, other: Turn) -> Turn
     ensures { turn_of result
-        ≡ cond (byte == spec.mark (kind_of kind)) (spec.goes_on (inner_of mode)) (turn_of other) }
+        ≡ cond (byte == spec.quote_mark (kind_of kind)) (spec.goes_on (inner_of mode)) (turn_of other) }
 {
     if is_mark(kind, byte) {
         Turn::GoesOn(mode)

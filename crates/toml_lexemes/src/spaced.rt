@@ -41,7 +41,7 @@ impl<'a> Model for SpacedLexer<'a> {
     ghost use Rattle.toml_lexemes.specs.SpacedLexemes as spec;
     ghost use Rattle.toml_lexemes.specs.SpacedLexer.{spaced_lexer_view, IsSpacedLexer};
 
-    ghost Value = { List spec.Spaced };
+    ghost Value = { List spec.SpacedToml };
 
     ghost view = { spaced_lexer_view };
 
@@ -50,11 +50,11 @@ impl<'a> Model for SpacedLexer<'a> {
 
 impl<'a> SpacedLexer<'a> {
     ghost use Rattle.std.specs.Prelude.{◌≡◌};
-    ghost use Rattle.toml_lexemes.specs.SpacedLexemes.{spaced_lexemes};
+    ghost use Rattle.toml_lexemes.specs.SpacedLexemes.{toml_spaced_lexemes};
 
     /// Hands out all lexemes of this text, and the end.
     pub fn new(text: &'a str) -> SpacedLexer<'a>
-        ensures { result ≡ spaced_lexemes text.now }
+        ensures { result ≡ toml_spaced_lexemes text.now }
     {
         SpacedLexer {
             text,

@@ -1,18 +1,20 @@
 -- Statements do not depend on gaps, and a line end outside of brackets divides them.
 use Rattle.std.proofs.Common.{◌≡◌, ℕ, zero, suc, Bool, true, false, List, [], ◌∷◌, ◌++◌, All, refl, sym, ap, ◌∙◌, append_assoc, append-nil}
 use Rattle.std.proofs.lemmas.List.Elements.{All-head, All-tail}
-use Rattle.toml_lexemes.specs.Lexemes.{between, cut}
+use Rattle.toml_lexemes.specs.Lexemes.{between, cut_toml}
 use Rattle.toml_lexemes.specs.Spaced.{IsWellSpaced}
 use Rattle.toml_lexemes.proofs.Gaps.{lexemes_alone}
 use Rattle.toml_lexemes.proofs.Kept.{same_lexemes}
-use Rattle.toml_statements.specs.Statements.{Role, a_comma, a_remark, a_line_end, an_opening, a_closing, any_other, role, Collected, none_collected, whole_line, with_statement, statements_of, line_ended_at, line_ended, with_held_comma, with_role, with_lexeme, with_lexemes, statements}
+use Rattle.toml_statements.specs.Statements.{Role, a_comma, a_remark, a_line_end, an_opening, a_closing, any_other, role, Collected}
+use Rattle.toml_statements.specs.Statements.{none_collected, whole_line, with_statement, statements_of, line_ended_at, line_ended}
+use Rattle.toml_statements.specs.Statements.{with_held_comma, with_role, with_lexeme, with_lexemes, statements}
 use Rattle.toml_statements.specs.Laws.{IsBalanced}
 use Rattle.toml_statements.proofs.LineEnds.{with_both}
 
-pub gaps_keep_statements : (text other : List ℕ) → IsWellSpaced other (cut between text) → statements other ≡ statements text
+pub gaps_keep_statements : (text other : List ℕ) → IsWellSpaced other (cut_toml between text) → statements other ≡ statements text
 unfolding statements
 gaps_keep_statements text other spaced =
-    ap (λ ss. statements_of (with_lexemes none_collected ss)) (same_lexemes other (cut between text) (lexemes_alone text) spaced)
+    ap (λ ss. statements_of (with_lexemes none_collected ss)) (same_lexemes other (cut_toml between text) (lexemes_alone text) spaced)
 
 -- line ends alone
 nothing_collected : (ss : List (List ℕ)) → All (λ s. s ≡ 10 ∷ []) ss → with_lexemes none_collected ss ≡ none_collected
@@ -21,9 +23,9 @@ nothing_collected (s ∷ ss) h =
     ap (λ t. with_lexemes (with_lexeme none_collected t) ss) (All-head (λ t. t ≡ 10 ∷ []) s ss h)
     ∙ nothing_collected ss (All-tail (λ t. t ≡ 10 ∷ []) s ss h)
 
-pub line_ends_say_nothing : (text : List ℕ) → All (λ s. s ≡ 10 ∷ []) (cut between text) → statements text ≡ []
+pub line_ends_say_nothing : (text : List ℕ) → All (λ s. s ≡ 10 ∷ []) (cut_toml between text) → statements text ≡ []
 unfolding statements
-line_ends_say_nothing text h = ap statements_of (nothing_collected (cut between text) h)
+line_ends_say_nothing text h = ap statements_of (nothing_collected (cut_toml between text) h)
 
 -- ---- statements that ended before
 
@@ -75,13 +77,13 @@ divided c e =
     (sym (append-nil (statements_of c)))
 
 pub line_ends_divide : (text before after : List ℕ) → IsBalanced before
-    → cut between text ≡ cut between before ++ (10 ∷ []) ∷ cut between after
+    → cut_toml between text ≡ cut_toml between before ++ (10 ∷ []) ∷ cut_toml between after
     → statements text ≡ statements before ++ statements after
 unfolding statements
 line_ends_divide text before after balanced e =
-    let c = with_lexemes none_collected (cut between before) in
+    let c = with_lexemes none_collected (cut_toml between before) in
     ap (λ ss. statements_of (with_lexemes none_collected ss)) e
-    ∙ ap statements_of (with_both none_collected (cut between before) ((10 ∷ []) ∷ cut between after))
-    ∙ ap (λ d. statements_of (with_lexemes d (cut between after))) (divided c balanced)
-    ∙ ap statements_of (lexemes_later (statements_of c) (cut between after) none_collected)
-    ∙ statements_later (statements_of c) (with_lexemes none_collected (cut between after))
+    ∙ ap statements_of (with_both none_collected (cut_toml between before) ((10 ∷ []) ∷ cut_toml between after))
+    ∙ ap (λ d. statements_of (with_lexemes d (cut_toml between after))) (divided c balanced)
+    ∙ ap statements_of (lexemes_later (statements_of c) (cut_toml between after) none_collected)
+    ∙ statements_later (statements_of c) (with_lexemes none_collected (cut_toml between after))

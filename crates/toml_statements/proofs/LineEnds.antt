@@ -1,10 +1,11 @@
 -- Gaps in front of a lexeme: their line ends are lexemes, and no other of their bytes is in one.
-use Rattle.std.proofs.Common.{◌≡◌, ℕ, zero, suc, Bool, true, false, cond, ◌==◌, ◌||◌, List, [], ◌∷◌, ◌++◌, refl, sym, ap, ◌∙◌, subst, inl, inr}
+use Rattle.std.proofs.Common.{◌≡◌, ℕ, zero, suc, Bool, true, false, cond, ◌==◌, ◌||◌, List, [], ◌∷◌, ◌++◌, refl, sym, ap, ◌∙◌, subst, inl}
+use Rattle.std.proofs.Common.{inr}
 use Rattle.std.proofs.lemmas.Bool.{cond_both, eqb-true, true≢false}
 use Rattle.prettyless_model.specs.Shows.{EndsLine, IsBlank}
 use Rattle.prettyless_model.specs.Spelling.{is_blank_byte}
 use Rattle.toml_lexemes.specs.Bytes.{is_blank}
-use Rattle.toml_lexemes.specs.Lexemes.{between, passed, first, cut_first, cut}
+use Rattle.toml_lexemes.specs.Lexemes.{between, passed, first, cut_first, cut_toml}
 use Rattle.toml_statements.specs.Statements.{Collected, line_ended_at, line_ended, with_lexeme, with_lexemes, statements_of}
 
 -- the line ends among the bytes
@@ -37,25 +38,25 @@ first_blank x e = rw e
 
 -- ---- lexemes
 
-pub cut-nil : cut between [] ≡ []
-unfolding cut
+pub cut-nil : cut_toml between [] ≡ []
+unfolding cut_toml
 cut-nil = refl
 
-pub cut_line_feed : (x : ℕ) (w : List ℕ) → x ≡ 10 → cut between (x ∷ w) ≡ (10 ∷ []) ∷ cut between w
-unfolding cut
-cut_line_feed x w e = ap (λ y. cut between (y ∷ w)) e
+pub cut_line_feed : (x : ℕ) (w : List ℕ) → x ≡ 10 → cut_toml between (x ∷ w) ≡ (10 ∷ []) ∷ cut_toml between w
+unfolding cut_toml
+cut_line_feed x w e = ap (λ y. cut_toml between (y ∷ w)) e
 
-pub cut_blank : (x : ℕ) (w : List ℕ) → is_blank x ≡ true → cut between (x ∷ w) ≡ cut between w
-unfolding cut
-cut_blank x w e = ap (λ f. cut_first f x (λ m. cut m w)) (first_blank x e)
+pub cut_blank : (x : ℕ) (w : List ℕ) → is_blank x ≡ true → cut_toml between (x ∷ w) ≡ cut_toml between w
+unfolding cut_toml
+cut_blank x w e = ap (λ f. cut_first f x (λ m. cut_toml m w)) (first_blank x e)
 
 -- the lexemes of a gap and what is after it
-pub cut_gap : (g w : List ℕ) → IsBlank g → cut between (g ++ w) ≡ line_ends g ++ cut between w
+pub cut_gap : (g w : List ℕ) → IsBlank g → cut_toml between (g ++ w) ≡ line_ends g ++ cut_toml between w
 cut_gap [] w h = refl
 cut_gap (x ∷ g) w h = let parts = gap_byte x g h in by_byte (x == 10) refl parts.0 (cut_gap g w parts.1)
   where
-    by_byte : (b : Bool) → (x == 10) ≡ b → is_blank_byte x ≡ true → cut between (g ++ w) ≡ line_ends g ++ cut between w
-        → cut between (x ∷ (g ++ w)) ≡ cond b ((10 ∷ []) ∷ line_ends g) (line_ends g) ++ cut between w
+    by_byte : (b : Bool) → (x == 10) ≡ b → is_blank_byte x ≡ true → cut_toml between (g ++ w) ≡ line_ends g ++ cut_toml between w
+        → cut_toml between (x ∷ (g ++ w)) ≡ cond b ((10 ∷ []) ∷ line_ends g) (line_ends g) ++ cut_toml between w
     by_byte true e blank more = cut_line_feed x (g ++ w) (eqb-true x 10 e) ∙ ap (λ l. (10 ∷ []) ∷ l) more
     by_byte false e blank more = cut_blank x (g ++ w) (blank_byte x blank e) ∙ more
 

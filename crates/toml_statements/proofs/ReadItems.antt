@@ -1,13 +1,19 @@
 -- Bytes that show items have the statements that the items are read as.
-use Rattle.std.proofs.Common.{◌≡◌, ℕ, zero, suc, Bool, true, false, List, [], ◌∷◌, ◌++◌, refl, sym, ap, ◌∙◌, subst, ◌⊎◌, inl, inr, append-nil}
+use Rattle.std.proofs.Common.{◌≡◌, ℕ, zero, suc, Bool, true, false, List, [], ◌∷◌, ◌++◌, refl, sym, ap, ◌∙◌, subst, ◌⊎◌, inl, inr}
+use Rattle.std.proofs.Common.{append-nil}
 use Rattle.std.proofs.lemmas.Bool.{true≢false}
-use Rattle.prettyless_model.specs.Shows.{NoGap, SameLine, AnyLine, Least, Nothing, Spacing, LineEnd, more, EndsLine, IsBlank, Has, Item, Shown, Gap, Mark, Late, Place, Before, After, with_gap, after_text, IsGapAt, ShowsText, ShowsFrom, AreShown}
+use Rattle.prettyless_model.specs.Shows.{NoGap, SameLine, AnyLine, Least, Nothing, Spacing, LineEnd, more, EndsLine, IsBlank, Has, Item}
+use Rattle.prettyless_model.specs.Shows.{Shown, Gap, Mark, Late, Place, Before, After, with_gap, after_text, IsGapAt, ShowsText, ShowsFrom}
+use Rattle.prettyless_model.specs.Shows.{AreShown}
 use Rattle.prettyless_model.proofs.Gaps.{some_in, ends_or_not}
 use Rattle.prettyless_model.proofs.Implied.{end_blank}
-use Rattle.toml_lexemes.specs.Lexemes.{between, cut}
-use Rattle.toml_statements.specs.Statements.{a_closing, role, Collected, none_collected, line_ended_at, line_ended, with_held_comma, with_role, with_lexeme, with_lexemes, statements_of, statements}
-use Rattle.toml_statements.specs.Shown.{IsWholeLexeme, least_between, Stage, first_stage, least_at, LinesAgree, AgreesWithMark, MayStand, IsInside, MayMark, collected_at, after_shown, AreRead}
-use Rattle.toml_statements.proofs.LineEnds.{cut-nil, line_ends, cut_gap, none_ends, statements_ended, line_ends_keep, line_ends_end, with_both}
+use Rattle.toml_lexemes.specs.Lexemes.{between, cut_toml}
+use Rattle.toml_statements.specs.Statements.{a_closing, role, Collected, none_collected, line_ended_at, line_ended, with_held_comma}
+use Rattle.toml_statements.specs.Statements.{with_role, with_lexeme, with_lexemes, statements_of, statements}
+use Rattle.toml_statements.specs.Shown.{IsWholeLexeme, least_between, Stage, first_stage, least_at, LinesAgree, AgreesWithMark, MayStand}
+use Rattle.toml_statements.specs.Shown.{IsInside, MayMark, collected_at, after_shown, AreRead}
+use Rattle.toml_statements.proofs.LineEnds.{cut-nil, line_ends, cut_gap, none_ends, statements_ended, line_ends_keep, line_ends_end}
+use Rattle.toml_statements.proofs.LineEnds.{with_both}
 use Rattle.toml_statements.proofs.WholeLexemes.{sign_is_whole}
 use Rattle.toml_statements.proofs.TextsApart.{LeavesRoom, IsCutApart, cut_apart, some_bytes}
 
@@ -74,20 +80,20 @@ IsBefore c (x ∷ s) d = IsWholeLexeme (x ∷ s) × (with_lexeme c (x ∷ s) ≡
 
 -- the last text is read, and then the gap, and then the rest
 last_read : (c d : Collected) (s g w : List ℕ) → IsBefore c s d → IsBlank g → LeavesRoom s g w
-    → with_lexemes c (cut between (s ++ (g ++ w))) ≡ with_lexemes (with_lexemes d (line_ends g)) (cut between w)
+    → with_lexemes c (cut_toml between (s ++ (g ++ w))) ≡ with_lexemes (with_lexemes d (line_ends g)) (cut_toml between w)
 last_read c d [] g w before blank room =
-    ap (λ l. with_lexemes c l) (cut_gap g w blank) ∙ ap (λ e. with_lexemes e (line_ends g ++ cut between w)) before
-    ∙ with_both d (line_ends g) (cut between w)
+    ap (λ l. with_lexemes c l) (cut_gap g w blank) ∙ ap (λ e. with_lexemes e (line_ends g ++ cut_toml between w)) before
+    ∙ with_both d (line_ends g) (cut_toml between w)
 last_read c d (x ∷ s) g w (whole, is) blank room = by (cut_apart (x ∷ s) g w blank whole room)
   where
     by : IsCutApart (x ∷ s) g w
-        → with_lexemes c (cut between (x ∷ (s ++ (g ++ w)))) ≡ with_lexemes (with_lexemes d (line_ends g)) (cut between w)
+        → with_lexemes c (cut_toml between (x ∷ (s ++ (g ++ w)))) ≡ with_lexemes (with_lexemes d (line_ends g)) (cut_toml between w)
     by (t, same, e) =
-        ap (λ l. with_lexemes c l) e ∙ ap (λ b. with_lexemes b (line_ends g ++ cut between w)) (same c ∙ is)
-        ∙ with_both d (line_ends g) (cut between w)
+        ap (λ l. with_lexemes c l) e ∙ ap (λ b. with_lexemes b (line_ends g ++ cut_toml between w)) (same c ∙ is)
+        ∙ with_both d (line_ends g) (cut_toml between w)
 
-cut_comma : (w : List ℕ) → cut between (44 ∷ w) ≡ (44 ∷ []) ∷ cut between w
-unfolding cut
+cut_comma : (w : List ℕ) → cut_toml between (44 ∷ w) ≡ (44 ∷ []) ∷ cut_toml between w
+unfolding cut_toml
 cut_comma w = refl
 
 -- ---- items
@@ -96,19 +102,19 @@ cut_comma w = refl
 abbrev ReadsOn : List Item → Type 0
 ReadsOn items =
     (a b : Stage) (c : Collected) (bytes : List ℕ) → IsBefore c a.last a.collected → AreRead a items b → b.marked ≡ false
-    → ShowsFrom a.place [] bytes items → statements_of (with_lexemes c (cut between (a.last ++ bytes))) ≡ statements_of b.collected
+    → ShowsFrom a.place [] bytes items → statements_of (with_lexemes c (cut_toml between (a.last ++ bytes))) ≡ statements_of b.collected
 
 -- the same after a mark that is there, from any place on
 abbrev ReadsOnAfterMark : List Item → Type 0
 ReadsOnAfterMark items =
     (a b : Stage) (p : Place) (bytes : List ℕ) → a.marked ≡ true → IsInside a.collected.depth → a.collected.comma ≡ false
     → AreRead a items b → b.marked ≡ false → ShowsFrom p [] bytes items
-    → statements_of (with_lexemes a.collected (cut between (44 ∷ bytes))) ≡ statements_of b.collected
+    → statements_of (with_lexemes a.collected (cut_toml between (44 ∷ bytes))) ≡ statements_of b.collected
 
 no_items : ReadsOn []
 no_items a b c bytes before same unmarked end =
     let blank = end_blank a.place bytes end in
-    ap (λ l. statements_of (with_lexemes c (cut between (a.last ++ l)))) (sym (append-nil bytes))
+    ap (λ l. statements_of (with_lexemes c (cut_toml between (a.last ++ l)))) (sym (append-nil bytes))
     ∙ ap statements_of (last_read c a.collected a.last bytes [] before blank (inl refl))
     ∙ ap (λ l. statements_of (with_lexemes (with_lexemes a.collected (line_ends bytes)) l)) cut-nil
     ∙ end_read a.collected bytes ∙ ap (λ s. statements_of s.collected) same
@@ -142,32 +148,32 @@ module _ (items : List Item) (later : ReadsOn items) where
   text_read : (s : List ℕ) (a b : Stage) (c : Collected) (bytes : List ℕ) → IsBefore c a.last a.collected → IsWholeLexeme s → MayStand a s
       → AreRead (after_shown a s) items b → b.marked ≡ false
       → ShowsText (IsGapAt a.place) s bytes (λ rest. ShowsFrom after_text [] rest items)
-      → statements_of (with_lexemes c (cut between (a.last ++ bytes))) ≡ statements_of b.collected
+      → statements_of (with_lexemes c (cut_toml between (a.last ++ bytes))) ≡ statements_of b.collected
   text_read s a b c bytes before whole stand read unmarked (g, rest, gap, is, shown) =
       let here = collected_at a.place a.collected in
-      ap (λ l. statements_of (with_lexemes c (cut between (a.last ++ l)))) is
+      ap (λ l. statements_of (with_lexemes c (cut_toml between (a.last ++ l)))) is
       ∙ ap statements_of (last_read c a.collected a.last g (s ++ rest) before (gap_blank a.place g gap)
       (room_before a.place a.last s g rest whole gap stand.apart))
-      ∙ ap (λ d. statements_of (with_lexemes d (cut between (s ++ rest)))) (gap_read a.collected g a.place gap stand.lines)
+      ∙ ap (λ d. statements_of (with_lexemes d (cut_toml between (s ++ rest)))) (gap_read a.collected g a.place gap stand.lines)
       ∙ later (after_shown a s) b here rest (before_last here (with_lexeme here s) s whole refl) read unmarked shown
 
   -- a closing bracket after a mark that is there
   closing_read : (s : List ℕ) (a b : Stage) (p : Place) (bytes : List ℕ) → IsInside a.collected.depth → a.collected.comma ≡ false
       → IsWholeLexeme s → role s ≡ a_closing → AreRead (after_shown a s) items b → b.marked ≡ false
       → ShowsText (IsGapAt p) s bytes (λ rest. ShowsFrom after_text [] rest items)
-      → statements_of (with_lexemes a.collected (cut between (44 ∷ bytes))) ≡ statements_of b.collected
+      → statements_of (with_lexemes a.collected (cut_toml between (44 ∷ bytes))) ≡ statements_of b.collected
   closing_read s a b p bytes inside comma whole closes read unmarked (g, rest, gap, is, shown) =
       let held = record a.collected { comma = true } in
       let here = collected_at a.place a.collected in
       let same : here ≡ a.collected = keeps a.place in
       let dropped : with_lexeme held s ≡ with_lexeme here s =
       ap (λ r. with_role r held s) closes ∙ ap (λ d. with_role a_closing d s) (sym same) ∙ ap (λ r. with_role r here s) (sym closes) in
-      ap (λ l. statements_of (with_lexemes a.collected (cut between (44 ∷ l)))) is
+      ap (λ l. statements_of (with_lexemes a.collected (cut_toml between (44 ∷ l)))) is
       ∙ ap (λ l. statements_of (with_lexemes a.collected l)) (cut_comma (g ++ (s ++ rest)))
-      ∙ ap (λ d. statements_of (with_lexemes d (cut between (g ++ (s ++ rest))))) (ap (λ t. with_held_comma t a.collected) comma)
+      ∙ ap (λ d. statements_of (with_lexemes d (cut_toml between (g ++ (s ++ rest))))) (ap (λ t. with_held_comma t a.collected) comma)
       ∙ ap (λ l. statements_of (with_lexemes held l)) (cut_gap g (s ++ rest) (gap_blank p g gap))
-      ∙ ap statements_of (with_both held (line_ends g) (cut between (s ++ rest)))
-      ∙ ap (λ d. statements_of (with_lexemes d (cut between (s ++ rest)))) (line_ends_keep held (inside_keeps held inside) g)
+      ∙ ap statements_of (with_both held (line_ends g) (cut_toml between (s ++ rest)))
+      ∙ ap (λ d. statements_of (with_lexemes d (cut_toml between (s ++ rest)))) (line_ends_keep held (inside_keeps held inside) g)
       ∙ later (after_shown a s) b held rest (before_last held (with_lexeme here s) s whole dropped) read unmarked shown
     where
       keeps : (q : Place) → collected_at q a.collected ≡ a.collected
@@ -180,12 +186,12 @@ module _ (items : List Item) (later : ReadsOn items) where
 comma_read : (items : List Item) → ReadsOnAfterMark items → (a b : Stage) (c : Collected) (bytes : List ℕ)
     → IsBefore c a.last a.collected → MayMark a (44 ∷ []) → AreRead (record a { marked = true }) items b → b.marked ≡ false
     → ShowsText (IsGapAt a.place) (44 ∷ []) bytes (λ rest. ShowsFrom after_text [] rest items)
-    → statements_of (with_lexemes c (cut between (a.last ++ bytes))) ≡ statements_of b.collected
+    → statements_of (with_lexemes c (cut_toml between (a.last ++ bytes))) ≡ statements_of b.collected
 comma_read items later a b c bytes before mark read unmarked (g, rest, gap, is, shown) =
-    ap (λ l. statements_of (with_lexemes c (cut between (a.last ++ l)))) is
+    ap (λ l. statements_of (with_lexemes c (cut_toml between (a.last ++ l)))) is
     ∙ ap statements_of (last_read c a.collected a.last g (44 ∷ rest) before (gap_blank a.place g gap)
     (room_before a.place a.last (44 ∷ []) g rest (sign_is_whole 44 refl) gap mark.apart))
-    ∙ ap (λ d. statements_of (with_lexemes d (cut between (44 ∷ rest))))
+    ∙ ap (λ d. statements_of (with_lexemes d (cut_toml between (44 ∷ rest))))
     (line_ends_keep a.collected (inside_keeps a.collected mark.inside) g)
     ∙ later (record a { marked = true }) b after_text rest refl mark.inside mark.no_comma read unmarked shown
 
@@ -215,7 +221,7 @@ reads_on (Mark s ∷ items) = (
   where
     mark_read : ReadsOn items × ReadsOnAfterMark items → (a b : Stage) (c : Collected) (bytes : List ℕ) → IsBefore c a.last a.collected
         → MayMark a s → AreRead (record a { marked = true }) items b → b.marked ≡ false → ShowsFrom a.place [] bytes (Mark s ∷ items)
-        → statements_of (with_lexemes c (cut between (a.last ++ bytes))) ≡ statements_of b.collected
+        → statements_of (with_lexemes c (cut_toml between (a.last ++ bytes))) ≡ statements_of b.collected
     mark_read later a b c bytes before mark read unmarked (inl shown) =
         later.0 (record a { marked = true }) b c bytes before read unmarked shown
     mark_read later a b c bytes before mark read unmarked (inr shown) =

@@ -1,10 +1,13 @@
 -- The lexemes of a text are in its statements, in their order, but the commas and the line ends.
-use Rattle.std.proofs.Common.{◌≡◌, ℕ, zero, suc, Bool, true, false, not, List, [], ◌∷◌, ◌++◌, refl, sym, ap, ap₂, ◌∙◌, subst, append_assoc, append-nil, filter}
+use Rattle.std.proofs.Common.{◌≡◌, ℕ, zero, suc, Bool, true, false, not, List, [], ◌∷◌, ◌++◌, refl, sym, ap, ap₂, ◌∙◌, subst, append_assoc}
+use Rattle.std.proofs.Common.{append-nil, filter}
 use Rattle.std.specs.List.{flat_map}
 use Rattle.std.proofs.lemmas.Grind.{flat_map-append}
 use Rattle.std.proofs.lemmas.List.Elements.{filter-append}
-use Rattle.toml_lexemes.specs.Lexemes.{between, cut}
-use Rattle.toml_statements.specs.Statements.{Role, a_comma, a_remark, a_line_end, an_opening, a_closing, any_other, role, trimmed, with_comma, Collected, none_collected, whole_line, with_statement, statements_of, line_ended_at, with_held_comma, with_role, with_lexeme, with_lexemes, statements}
+use Rattle.toml_lexemes.specs.Lexemes.{between, cut_toml}
+use Rattle.toml_statements.specs.Statements.{Role, a_comma, a_remark, a_line_end, an_opening, a_closing, any_other, role, trimmed}
+use Rattle.toml_statements.specs.Statements.{followed_by_comma, Collected, none_collected, whole_line, with_statement, statements_of}
+use Rattle.toml_statements.specs.Statements.{line_ended_at, with_held_comma, with_role, with_lexeme, with_lexemes, statements}
 use Rattle.toml_statements.specs.Laws.{is_comma_role, is_comma, said_first, said}
 use Rattle.toml_statements.proofs.SoundTexts.{remark_begins}
 use Rattle.toml_statements.proofs.WholeLexemes.{trimmed_begins}
@@ -25,13 +28,13 @@ abbrev said_by : Collected → List (List ℕ)
 said_by c = no_commas (all_of c.done) ++ (no_commas c.line ++ no_commas c.remarks)
 
 -- a comma is not said
-with_comma_said : (line : List (List ℕ)) (b : Bool) → no_commas (with_comma line b) ≡ no_commas line
+with_comma_said : (line : List (List ℕ)) (b : Bool) → no_commas (followed_by_comma line b) ≡ no_commas line
 with_comma_said line false = refl
 with_comma_said line true = no_commas_both line ((44 ∷ []) ∷ []) ∙ append-nil (no_commas line)
 
 whole_said : (c : Collected) → no_commas (whole_line c) ≡ no_commas c.line ++ no_commas c.remarks
 whole_said c =
-    no_commas_both (with_comma c.line c.comma) c.remarks
+    no_commas_both (followed_by_comma c.line c.comma) c.remarks
     ∙ ap (λ (l : List (List ℕ)). l ++ no_commas c.remarks) (with_comma_said c.line c.comma)
 
 statement_said : (done : List (List (List ℕ))) (line : List (List ℕ))
@@ -106,7 +109,7 @@ all_said (s ∷ ss) c =
     ∙ append_assoc (said_by c) (said_first (role s) s []) (said ss)
     ∙ ap (λ (l : List (List ℕ)). said_by c ++ l) (said_more (role s) s (said ss))
 
-pub lexemes_are_said : (text : List ℕ) → no_commas (all_of (statements text)) ≡ said (cut between text)
+pub lexemes_are_said : (text : List ℕ) → no_commas (all_of (statements text)) ≡ said (cut_toml between text)
 unfolding statements
 lexemes_are_said text =
-    statements_said (with_lexemes none_collected (cut between text)) ∙ all_said (cut between text) none_collected
+    statements_said (with_lexemes none_collected (cut_toml between text)) ∙ all_said (cut_toml between text) none_collected

@@ -1,11 +1,14 @@
 -- Reading items from stage to stage.
-use Rattle.std.proofs.Common.{◌≡◌, ℕ, Bool, true, false, cond, ◌==◌, List, [], ◌∷◌, ◌++◌, map, refl, sym, ap, ◌∙◌, subst, append_assoc, append-nil}
+use Rattle.std.proofs.Common.{◌≡◌, ℕ, Bool, true, false, cond, ◌==◌, List, [], ◌∷◌, ◌++◌, map, refl, sym, ap, ◌∙◌, subst, append_assoc}
+use Rattle.std.proofs.Common.{append-nil}
 use Rattle.std.specs.Prelude.{⊤}
 use Rattle.std.proofs.lemmas.Bool.{cond_both}
-use Rattle.prettyless_model.specs.Shows.{Reach, Least, Nothing, Spacing, LineEnd, more, further, AnyLine, SameLine, NoGap, Item, Shown, Gap, Mark, Late, After, with_gap}
+use Rattle.prettyless_model.specs.Shows.{Least, Nothing, Spacing, LineEnd, more, Item, Shown, Gap}
+use Rattle.prettyless_model.specs.Shows.{Mark, Late, with_gap}
 use Rattle.toml_lexemes.specs.Bytes.{is_sign, is_quote, ends_word, head}
 use Rattle.toml_statements.specs.Statements.{a_remark, role, trimmed, Collected, with_role, with_lexemes}
-use Rattle.toml_statements.specs.Shown.{least_between, Stage, first_stage, least_at, IsApart, LinesAgree, AgreesWithMark, IsReady, after_shown, AreRead}
+use Rattle.toml_statements.specs.Shown.{least_between, Stage, IsApart, LinesAgree, AgreesWithMark, IsReady}
+use Rattle.toml_statements.specs.Shown.{after_shown, AreRead}
 
 -- ---- items after items
 
@@ -17,17 +20,6 @@ reads_append (Mark s ∷ xs) ys a b c h k = (h.0, reads_append xs ys (record a {
 reads_append (Late i ∷ xs) ys a b c h k = absurd h
 
 -- ---- what may stand next
-
--- a line end is as much as any gap has to have
-pub more_line_end : (n : Least) → more n LineEnd ≡ LineEnd
-more_line_end Nothing = refl
-more_line_end Spacing = refl
-more_line_end LineEnd = refl
-
-pub further_any_line : (r : Reach) → further r AnyLine ≡ AnyLine
-further_any_line NoGap = refl
-further_any_line SameLine = refl
-further_any_line AnyLine = refl
 
 -- after a sign nothing has to stand
 pub sign_least : (x : ℕ) (xs s : List ℕ) → is_sign x ≡ true → least_between (x ∷ xs) s ≡ Nothing
@@ -60,22 +52,6 @@ module _ (last s : List ℕ) where
       by [] e = refl
       by (x ∷ xs) e = spaced_least x xs s e
 
--- what a text needs of the gap before it, whatever it is: nothing after a sign
-pub apart_after_sign : (a : Stage) → is_sign (head a.last) ≡ true → (s : List ℕ) → IsApart a s
-apart_after_sign a e s = after_sign a.last s (least_at a.place) e
-
--- some byte after what is no remark
-pub apart_after_space : (a : Stage) → (head a.last == 35) ≡ false → least_at a.place ≡ Spacing → (s : List ℕ) → IsApart a s
-apart_after_space a e has s = subst (λ l. more (least_between a.last s) l ≡ l) (sym has) (after_space a.last s e)
-
--- a line end after any text
-pub apart_after_line_end : (a : Stage) → least_at a.place ≡ LineEnd → (s : List ℕ) → IsApart a s
-apart_after_line_end a has s = subst (λ l. more (least_between a.last s) l ≡ l) (sym has) (more_line_end (least_between a.last s))
-
--- nothing where there is no text before it
-pub apart_at_first : (a : Stage) → a.last ≡ [] → (s : List ℕ) → IsApart a s
-apart_at_first a e s = ap (λ t. more (least_between t s) (least_at a.place)) e
-
 agrees : (m : Bool) (s : List ℕ) → m ≡ false → AgreesWithMark m s
 agrees true s e = absurd (cc)
 agrees false s e = tt
@@ -83,14 +59,6 @@ agrees false s e = tt
 -- any text may stand next, where any has the gap that it needs, a line end changes nothing, and no mark was last
 pub ready : (a : Stage) → LinesAgree a.place a.collected → a.marked ≡ false → ((s : List ℕ) → IsApart a s) → IsReady a
 ready a lines unmarked apart s = record { apart = apart s; lines = lines; mark = agrees a.marked s unmarked }
-
--- the first stage is ready
-pub first_ready : IsReady first_stage
-first_ready s = record { apart = refl; lines = tt; mark = tt }
-
--- where it is known that a line end is in the gap, nothing is left to say of it
-pub line_end_agrees : (r : Reach) (c : Collected) → LinesAgree (After r LineEnd) c
-line_end_agrees r c = tt
 
 -- ---- remarks
 

@@ -1,12 +1,14 @@
 -- A text that is a lexeme, a gap and what is after it, cut into lexemes.
-use Rattle.std.proofs.Common.{◌≡◌, ℕ, Bool, true, false, cond, ◌==◌, ◌||◌, List, [], ◌∷◌, ◌++◌, length, length-append, refl, sym, ap, ◌∙◌, subst, ◌⊎◌, inl, inr, arith}
+use Rattle.std.proofs.Common.{◌≡◌, ℕ, Bool, true, false, cond, ◌==◌, ◌||◌, List, [], ◌∷◌, ◌++◌, length, length-append, refl, sym, ap, ◌∙◌}
+use Rattle.std.proofs.Common.{subst, ◌⊎◌, inl, inr, arith}
 use Rattle.std.proofs.lemmas.Bool.{eqb-true, or_parts, or_cases}
 use Rattle.std.proofs.lemmas.List.Elements.{All-cons}
 use Rattle.prettyless_model.specs.Shows.{Least, Nothing, Spacing, LineEnd, EndsLine, IsBlank, Has}
 use Rattle.prettyless_model.specs.Spelling.{is_blank_byte}
 use Rattle.toml_lexemes.specs.Bytes.{is_sign, is_blank, is_quote, ends_word, head}
-use Rattle.toml_lexemes.specs.Lexemes.{between, passed, alone, first, begins, opened, basic, literal, in_remark, in_word, cut_first, cut}
-use Rattle.toml_lexemes.specs.Spaced.{IsGap, IsSpaced, MayFollow}
+use Rattle.toml_lexemes.specs.Lexemes.{between, passed, alone, first, begins, opened, basic, literal, in_remark, in_word, cut_first}
+use Rattle.toml_lexemes.specs.Lexemes.{cut_toml}
+use Rattle.toml_lexemes.specs.Spaced.{IsTomlGap, IsSpacedToml, MayFollow}
 use Rattle.toml_lexemes.proofs.Following.{end_may_follow, words_are_ended, signs_are_ended}
 use Rattle.toml_lexemes.proofs.Gaps.{IsSpaced-lexemes, IsWellSpaced-lexemes, lexemes_alone}
 use Rattle.toml_lexemes.proofs.Kept.{same_lexemes}
@@ -28,13 +30,13 @@ pub data Beginning (x : ℕ) : Type 0 where
   a_letter : ends_word x ≡ false → Beginning x
 
 -- no lexeme is longer than the text
-too_long : (x : ℕ) (s : List ℕ) → cut between s ≡ (x ∷ s) ∷ [] → ⊥
-too_long x s e = go (subst (IsSpaced s) e (IsSpaced-lexemes s))
+too_long : (x : ℕ) (s : List ℕ) → cut_toml between s ≡ (x ∷ s) ∷ [] → ⊥
+too_long x s e = go (subst (IsSpacedToml s) e (IsSpaced-lexemes s))
   where
-    go : IsSpaced s ((x ∷ s) ∷ []) → ⊥
+    go : IsSpacedToml s ((x ∷ s) ∷ []) → ⊥
     go (g, rest, gap, is, h) = omega (arith, ap length is, length-append g ((x ∷ s) ++ rest), length-append (x ∷ s) rest)
 
-pub no_blank : (x : ℕ) (s : List ℕ) → cut between (x ∷ s) ≡ (x ∷ s) ∷ [] → is_blank x ≡ true → ⊥
+pub no_blank : (x : ℕ) (s : List ℕ) → cut_toml between (x ∷ s) ≡ (x ∷ s) ∷ [] → is_blank x ≡ true → ⊥
 no_blank x s lexeme e = too_long x s (sym (cut_blank x s e) ∙ lexeme)
 
 no_line_end : (x : ℕ) (s : List ℕ) → EndsWell (role (x ∷ s)) (x ∷ s) → x ≡ 10 → ⊥
@@ -87,19 +89,19 @@ module _ (w : List ℕ) where
 
 -- ---- a lexeme before what may follow it
 
-lexeme_first : (s rest : List ℕ) → cut between s ≡ s ∷ [] → MayFollow s rest → cut between (s ++ rest) ≡ s ∷ cut between rest
+lexeme_first : (s rest : List ℕ) → cut_toml between s ≡ s ∷ [] → MayFollow s rest → cut_toml between (s ++ rest) ≡ s ∷ cut_toml between rest
 lexeme_first s rest lexeme follows =
-    same_lexemes (s ++ rest) (s ∷ cut between rest)
-    (All-cons (λ t. cut between t ≡ t ∷ []) s (cut between rest) lexeme (lexemes_alone rest))
+    same_lexemes (s ++ rest) (s ∷ cut_toml between rest)
+    (All-cons (λ t. cut_toml between t ≡ t ∷ []) s (cut_toml between rest) lexeme (lexemes_alone rest))
     ([], rest, tt, refl, follows, IsWellSpaced-lexemes rest)
 
-pub sign_alone : (x : ℕ) (s : List ℕ) → is_sign x ≡ true → is_blank x ≡ false → cut between (x ∷ s) ≡ (x ∷ s) ∷ [] → s ≡ []
-unfolding cut
+pub sign_alone : (x : ℕ) (s : List ℕ) → is_sign x ≡ true → is_blank x ≡ false → cut_toml between (x ∷ s) ≡ (x ∷ s) ∷ [] → s ≡ []
+unfolding cut_toml
 sign_alone x s sign blank lexeme =
     let f : first x ≡ alone = λ j. cond (blank j) passed (cond (sign j || (x == 10)) alone
     (cond (x == 35) (begins in_remark) (cond (x == 34) (begins (opened basic))
     (cond (x == 39) (begins (opened literal)) (begins in_word))))) in
-    let one : (x ∷ []) ∷ cut between s ≡ (x ∷ s) ∷ [] = sym (ap (λ k. cut_first k x (λ m. cut m s)) f) ∙ lexeme in
+    let one : (x ∷ []) ∷ cut_toml between s ≡ (x ∷ s) ∷ [] = sym (ap (λ k. cut_first k x (λ m. cut_toml m s)) f) ∙ lexeme in
     cc
 
 -- ---- a lexeme, a gap and what is after it
@@ -109,14 +111,14 @@ sign_alone x s sign blank lexeme =
 abbrev pub IsCutApart : List ℕ → List ℕ → List ℕ → Type 0
 IsCutApart s g w =
     (t : List ℕ) × ((c : Collected) → with_lexeme c t ≡ with_lexeme c s)
-    × (cut between (s ++ (g ++ w)) ≡ t ∷ (line_ends g ++ cut between w))
+    × (cut_toml between (s ++ (g ++ w)) ≡ t ∷ (line_ends g ++ cut_toml between w))
 
 -- nothing is after the gap, or the gap has what it has to have in front of it
 abbrev pub LeavesRoom : List ℕ → List ℕ → List ℕ → Type 0
 LeavesRoom s g w = (w ≡ []) ⊎ Has (least_between s w) g
 
 module _ (s g w : List ℕ) where
-  as_it_is : (t : List ℕ) → IsBlank g → cut between t ≡ t ∷ [] → MayFollow t (g ++ w) → IsCutApart t g w
+  as_it_is : (t : List ℕ) → IsBlank g → cut_toml between t ≡ t ∷ [] → MayFollow t (g ++ w) → IsCutApart t g w
   as_it_is t blank lexeme follows = (t, λ c. refl, lexeme_first t (g ++ w) lexeme follows ∙ ap (λ l. t ∷ l) (cut_gap g w blank))
 
   sign_apart : (x : ℕ) → is_sign x ≡ true → IsBlank g → IsWholeLexeme (x ∷ s) → MayFollow (x ∷ s) (g ++ w)
@@ -161,7 +163,8 @@ module _ (s g w : List ℕ) where
       swap (inl e) = inr e
       swap (inr has) = inl has
 
-      by_rest : (t : List ℕ) × IsGap t × (cut between (35 ∷ (s ++ (g ++ w))) ≡ (35 ∷ (s ++ t)) ∷ (line_ends g ++ cut between w))
+      by_rest : (t : List ℕ) × IsTomlGap t × (cut_toml between (35 ∷ (s ++ (g ++ w))) ≡ (35 ∷ (s ++ t))
+          ∷ (line_ends g ++ cut_toml between w))
           → IsCutApart (35 ∷ s) g w
       by_rest (t, gap, e) = (
         35 ∷ (s ++ t),

@@ -1,16 +1,16 @@
 -- Bytes without the blanks at their end.
 use Rattle.std.proofs.Common.{◌≡◌, ℕ, Bool, true, false, cond, List, [], ◌∷◌, ◌++◌, refl, ap, ◌∙◌, subst}
 use Rattle.toml_lexemes.specs.Bytes.{is_blank}
-use Rattle.toml_lexemes.specs.Spaced.{IsGap, EndsWithReturn}
+use Rattle.toml_lexemes.specs.Spaced.{IsTomlGap, EndsWithReturn}
 use Rattle.toml_statements.specs.Statements.{before_trimmed, trimmed}
 
 -- of blanks alone nothing is left
-pub trimmed_gap : (g : List ℕ) → IsGap g → trimmed g ≡ []
+pub trimmed_gap : (g : List ℕ) → IsTomlGap g → trimmed g ≡ []
 trimmed_gap [] h = refl
 trimmed_gap (x ∷ g) h = ap (before_trimmed x) (trimmed_gap g h.1) ∙ ap (λ b. cond b [] (x ∷ [])) h.0
 
 -- blanks at the end change nothing
-pub trimmed_before_gap : (s g : List ℕ) → IsGap g → trimmed (s ++ g) ≡ trimmed s
+pub trimmed_before_gap : (s g : List ℕ) → IsTomlGap g → trimmed (s ++ g) ≡ trimmed s
 trimmed_before_gap [] g h = trimmed_gap g h
 trimmed_before_gap (x ∷ s) g h = ap (before_trimmed x) (trimmed_before_gap s g h)
 

@@ -1,12 +1,14 @@
 -- Which texts are whole lexemes, and stay so where blanks follow them.
-use Rattle.std.proofs.Common.{◌≡◌, ℕ, Bool, true, false, cond, ◌==◌, ◌&&◌, ◌||◌, List, [], ◌∷◌, ◌++◌, refl, sym, ap, ◌∙◌, subst, ◌⊎◌, inl, inr}
+use Rattle.std.proofs.Common.{◌≡◌, ℕ, Bool, true, false, cond, ◌==◌, ◌&&◌, ◌||◌, List, [], ◌∷◌, ◌++◌, refl, sym, ap, ◌∙◌, subst, ◌⊎◌, inl}
+use Rattle.std.proofs.Common.{inr}
 use Rattle.std.proofs.lemmas.Bool.{eqb-true, true≢false, or_parts, or_cases}
 use Rattle.toml_lexemes.specs.Bytes.{is_sign, is_blank, is_quote, ends_word, head}
-use Rattle.toml_lexemes.specs.Lexemes.{in_remark, between, within, goes_on, stops, begins_line_feed, lengthened, cut}
+use Rattle.toml_lexemes.specs.Lexemes.{in_remark, between, within, goes_on, stops, begins_line_feed, lengthened_toml, cut_toml}
 use Rattle.toml_lexemes.specs.Spaced.{MayFollow}
 use Rattle.toml_lexemes.proofs.Following.{words_are_ended, signs_are_ended}
 use Rattle.toml_lexemes.proofs.Kept.{cut_turned}
-use Rattle.toml_statements.specs.Statements.{a_comma, a_remark, a_line_end, an_opening, a_closing, any_other, role_of, role, before_trimmed, trimmed, Collected, with_lexeme}
+use Rattle.toml_statements.specs.Statements.{a_comma, a_remark, a_line_end, an_opening, a_closing, any_other, role_of, role, before_trimmed}
+use Rattle.toml_statements.specs.Statements.{trimmed, Collected, with_lexeme}
 use Rattle.toml_statements.specs.Shown.{EndsWell, IsWholeLexeme}
 use Rattle.toml_statements.proofs.Remarks.{byte_goes_on, tail_alone, remark_begun, after_hash}
 use Rattle.toml_statements.proofs.Trimmed.{trimmed_twice}
@@ -26,7 +28,7 @@ by_sign P p q r s t u x e =
     or_either p q f g h = elim (or_cases p q h) [ inl e ↦ f e | inr e ↦ g e ]
 
 pub sign_is_whole : (x : ℕ) → is_sign x ≡ true → IsWholeLexeme (x ∷ [])
-unfolding cut
+unfolding cut_toml
 sign_is_whole =
     by_sign (λ x. IsWholeLexeme (x ∷ [])) (record { alone = refl; ends = signs_are_ended 91 (32 ∷ []) refl })
     (record { alone = refl; ends = signs_are_ended 93 (32 ∷ []) refl }) (record { alone = refl; ends = signs_are_ended 123 (32 ∷ []) refl })
@@ -60,16 +62,16 @@ quote_role x e = go (or_cases (x == 34) (x == 39) e)
 ends_by_role : (s : List ℕ) → role s ≡ any_other → MayFollow s (32 ∷ []) → EndsWell (role s) s
 ends_by_role s e h = subst (λ r. EndsWell r s) (sym e) h
 
-pub word_is_whole : (s : List ℕ) → cut between s ≡ s ∷ [] → ends_word (head s) ≡ false → IsWholeLexeme s
+pub word_is_whole : (s : List ℕ) → cut_toml between s ≡ s ∷ [] → ends_word (head s) ≡ false → IsWholeLexeme s
 word_is_whole s lexeme e =
     record { alone = lexeme; ends = ends_by_role s (word_role (head s) e) ((words_are_ended s (32 ∷ []) lexeme e).1 refl) }
 
-pub string_is_whole : (s : List ℕ) → cut between s ≡ s ∷ [] → is_quote (head s) ≡ true → MayFollow s (32 ∷ []) → IsWholeLexeme s
+pub string_is_whole : (s : List ℕ) → cut_toml between s ≡ s ∷ [] → is_quote (head s) ≡ true → MayFollow s (32 ∷ []) → IsWholeLexeme s
 string_is_whole s lexeme e closed = record { alone = lexeme; ends = ends_by_role s (quote_role (head s) e) closed }
 
 -- ---- remarks
 
-no_line_feed : (x : ℕ) (xs : List ℕ) → cut (within in_remark) (x ∷ xs) ≡ (x ∷ xs) ∷ [] → (x == 10) ≡ false
+no_line_feed : (x : ℕ) (xs : List ℕ) → cut_toml (within in_remark) (x ∷ xs) ≡ (x ∷ xs) ∷ [] → (x == 10) ≡ false
 no_line_feed x xs alone = by (x == 10) ((x == 13) && begins_line_feed xs) (byte_goes_on x xs alone)
   where
     by : (p q : Bool) → cond (p || q) stops (goes_on in_remark) ≡ goes_on in_remark → p ≡ false
@@ -82,19 +84,20 @@ remark_byte false true b e = refl
 remark_byte false false b e = refl
 
 module _ (x : ℕ) (no : (x == 10) ≡ false) where
-  one_alone : (b : Bool) → cut (within in_remark) (cond b [] (x ∷ [])) ≡ cond b [] (x ∷ []) ∷ []
-  unfolding cut
+  one_alone : (b : Bool) → cut_toml (within in_remark) (cond b [] (x ∷ [])) ≡ cond b [] (x ∷ []) ∷ []
+  unfolding cut_toml
   one_alone true = refl
   one_alone false = cut_turned in_remark x [] (goes_on in_remark) (remark_byte (x == 10) (x == 13) false no)
 
-  before_alone : (t : List ℕ) → cut (within in_remark) t ≡ t ∷ [] → cut (within in_remark) (before_trimmed x t) ≡ before_trimmed x t ∷ []
+  before_alone : (t : List ℕ) → cut_toml (within in_remark) t ≡ t ∷ [] →
+      cut_toml (within in_remark) (before_trimmed x t) ≡ before_trimmed x t ∷ []
   before_alone [] e = one_alone (is_blank x)
   before_alone (y ∷ ys) e =
       cut_turned in_remark x (y ∷ ys) (goes_on in_remark)
       ((λ j. cond ((x == 10) || ((x == 13) && no_line_feed y ys e j)) stops (goes_on in_remark)) ∙ remark_byte (x == 10) (x == 13) false no)
-      ∙ ap (lengthened x) e
+      ∙ ap (lengthened_toml x) e
 
-trimmed_alone : (s : List ℕ) → cut (within in_remark) s ≡ s ∷ [] → cut (within in_remark) (trimmed s) ≡ trimmed s ∷ []
+trimmed_alone : (s : List ℕ) → cut_toml (within in_remark) s ≡ s ∷ [] → cut_toml (within in_remark) (trimmed s) ≡ trimmed s ∷ []
 trimmed_alone [] e = e
 trimmed_alone (x ∷ s) e = before_alone x (no_line_feed x s e) (trimmed s) (trimmed_alone s (tail_alone x s e))
 
@@ -106,23 +109,23 @@ trimmed_begins s = go (trimmed s)
     go [] = refl
     go (y ∷ ys) = refl
 
-trimmed_remark : (s : List ℕ) → cut between (35 ∷ s) ≡ (35 ∷ s) ∷ [] → IsWholeLexeme (trimmed (35 ∷ s))
+trimmed_remark : (s : List ℕ) → cut_toml between (35 ∷ s) ≡ (35 ∷ s) ∷ [] → IsWholeLexeme (trimmed (35 ∷ s))
 trimmed_remark s lexeme =
     subst IsWholeLexeme (sym (trimmed_begins s))
     (record {
-      alone = remark_begun (trimmed s) ∙ ap (lengthened 35) (trimmed_alone s (after_hash s lexeme));
+      alone = remark_begun (trimmed s) ∙ ap (lengthened_toml 35) (trimmed_alone s (after_hash s lexeme));
       ends = trimmed_begins (trimmed s) ∙ ap (λ l. 35 ∷ l) (trimmed_twice s);
     })
 
-pub no_lexeme : cut between [] ≡ [] ∷ [] → ⊥
-unfolding cut
+pub no_lexeme : cut_toml between [] ≡ [] ∷ [] → ⊥
+unfolding cut_toml
 no_lexeme e = cc
 
 -- a remark without the blanks at its end is one
-pub remark_is_whole : (s : List ℕ) → cut between s ≡ s ∷ [] → head s ≡ 35 → IsWholeLexeme (trimmed s)
+pub remark_is_whole : (s : List ℕ) → cut_toml between s ≡ s ∷ [] → head s ≡ 35 → IsWholeLexeme (trimmed s)
 remark_is_whole [] lexeme e = absurd (no_lexeme lexeme)
 remark_is_whole (x ∷ s) lexeme e =
-    subst (λ y. cut between (y ∷ s) ≡ (y ∷ s) ∷ [] → IsWholeLexeme (trimmed (y ∷ s))) (sym e) (trimmed_remark s) lexeme
+    subst (λ y. cut_toml between (y ∷ s) ≡ (y ∷ s) ∷ [] → IsWholeLexeme (trimmed (y ∷ s))) (sym e) (trimmed_remark s) lexeme
 
 -- and is read as the same
 pub remark_read : (s : List ℕ) → head s ≡ 35 → (c : Collected) → with_lexeme c (trimmed s) ≡ with_lexeme c s

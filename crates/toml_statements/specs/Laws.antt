@@ -3,9 +3,10 @@ use Rattle.std.specs.Prelude.{◌≡◌, ℕ, Bool, true, false, not, List, [], 
 use Rattle.std.specs.List.{flat_map}
 use Rattle.prettyless_model.specs.Shows.{Item, AreShown}
 use Rattle.toml_lexemes.specs.Bytes as byte
-use Rattle.toml_lexemes.specs.Lexemes.{lexemes}
+use Rattle.toml_lexemes.specs.Lexemes.{toml_lexemes_of}
 use Rattle.toml_lexemes.specs.Spaced.{IsWellSpaced}
-use Rattle.toml_statements.specs.Statements.{Role, a_comma, a_remark, a_line_end, role, trimmed, none_collected, with_lexemes, statements_of, statements}
+use Rattle.toml_statements.specs.Statements.{Role, a_comma, a_remark, a_line_end, role, trimmed, none_collected, with_lexemes}
+use Rattle.toml_statements.specs.Statements.{statements_of, statements}
 use Rattle.toml_statements.specs.Shown.{Stage, first_stage, AreRead}
 use Rattle.toml_statements.specs.Sound.{IsClosedString, AreSound}
 
@@ -19,26 +20,27 @@ ShownAsRead =
 
 -- the lexemes of a text may be shown, where its strings are closed
 abbrev pub ClosedTextsAreSound : Type 0
-ClosedTextsAreSound = (text : List ℕ) → All IsClosedString (lexemes text) → AreSound (lexemes text)
+ClosedTextsAreSound = (text : List ℕ) → All IsClosedString (toml_lexemes_of text) → AreSound (toml_lexemes_of text)
 
 -- ---- what the statements have of a text
 
 -- the same lexemes with any gaps around them, and after each what may follow it, are the same statements
 abbrev pub GapsKeepStatements : Type 0
-GapsKeepStatements = (text other : List ℕ) → IsWellSpaced other (lexemes text) → statements other ≡ statements text
+GapsKeepStatements = (text other : List ℕ) → IsWellSpaced other (toml_lexemes_of text) → statements other ≡ statements text
 
 -- line ends alone are no statement
 abbrev pub LineEndsSayNothing : Type 0
-LineEndsSayNothing = (text : List ℕ) → All (λ s. s ≡ byte.line_feed ∷ []) (lexemes text) → statements text ≡ []
+LineEndsSayNothing = (text : List ℕ) → All (λ s. s ≡ byte.line_feed ∷ []) (toml_lexemes_of text) → statements text ≡ []
 
 -- as many brackets are closed in a text as are opened
 abbrev pub IsBalanced : List ℕ → Type 0
-IsBalanced text = (with_lexemes none_collected (lexemes text)).depth ≡ 0
+IsBalanced text = (with_lexemes none_collected (toml_lexemes_of text)).depth ≡ 0
 
 -- a line end outside of brackets divides the statements
 abbrev pub LineEndsDivide : Type 0
 LineEndsDivide =
-    (text before after : List ℕ) → IsBalanced before → lexemes text ≡ lexemes before ++ (byte.line_feed ∷ []) ∷ lexemes after
+    (text before after : List ℕ) → IsBalanced before → toml_lexemes_of text ≡ toml_lexemes_of before ++ (byte.line_feed ∷ [])
+    ∷ toml_lexemes_of after
     → statements text ≡ statements before ++ statements after
 
 abbrev pub is_comma_role : Role → Bool
@@ -64,4 +66,4 @@ said (s ∷ ss) = said_first (role s) s (said ss)
 -- nothing but line ends and commas is left out or moved: the other lexemes are in the statements, in their order
 abbrev pub LexemesAreSaid : Type 0
 LexemesAreSaid =
-    (text : List ℕ) → filter (λ s. not (is_comma s)) (flat_map (λ line. line) (statements text)) ≡ said (lexemes text)
+    (text : List ℕ) → filter (λ s. not (is_comma s)) (flat_map (λ line. line) (statements text)) ≡ said (toml_lexemes_of text)

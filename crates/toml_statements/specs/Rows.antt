@@ -10,8 +10,8 @@ abbrev pub statement : List String → List (List ℕ)
 statement ss = map codes ss
 
 -- the text has these statements
-abbrev pub Says : String → List (List (List ℕ)) → Type 0
-Says text lines = statements (codes text) ≡ lines
+abbrev pub SaysStatements : String → List (List (List ℕ)) → Type 0
+SaysStatements text lines = statements (codes text) ≡ lines
 
 -- the text has the statements of another, in which they are easier to read
 abbrev pub SaysTheSame : String → String → Type 0

@@ -1,11 +1,13 @@
 -- How items that a document shows are read as statements.
 use Rattle.std.specs.Prelude.{◌≡◌, ℕ, zero, suc, List, [], ◌∷◌, Bool, true, false, cond, ◌==◌, ⊤}
-use Rattle.prettyless_model.specs.Shows.{AnyLine, Least, Nothing, Spacing, LineEnd, more, Item, Shown, Gap, Mark, Late, Place, Before, After, with_gap, at_start, after_text}
+use Rattle.prettyless_model.specs.Shows.{AnyLine, Least, Nothing, Spacing, LineEnd, more, Item, Shown, Gap, Mark, Late, Place, Before}
+use Rattle.prettyless_model.specs.Shows.{After, with_gap, at_start, after_text}
 use Rattle.toml_lexemes.specs.Bytes as byte
 use Rattle.toml_lexemes.specs.Bytes.{is_sign, is_quote, ends_word, head}
-use Rattle.toml_lexemes.specs.Lexemes.{lexemes}
+use Rattle.toml_lexemes.specs.Lexemes.{toml_lexemes_of}
 use Rattle.toml_lexemes.specs.Spaced.{MayFollow}
-use Rattle.toml_statements.specs.Statements.{Role, a_remark, a_line_end, a_closing, role, trimmed, Collected, none_collected, line_ended, with_lexeme}
+use Rattle.toml_statements.specs.Statements.{Role, a_remark, a_line_end, a_closing, role, trimmed, Collected, none_collected, line_ended}
+use Rattle.toml_statements.specs.Statements.{with_lexeme}
 
 -- ---- texts that are lexemes
 
@@ -14,11 +16,11 @@ use Rattle.toml_statements.specs.Statements.{Role, a_remark, a_line_end, a_closi
 abbrev pub EndsWell : Role → List ℕ → Type 0
 EndsWell a_remark s = trimmed s ≡ s
 EndsWell a_line_end s = ⊥
-EndsWell r s = MayFollow s (byte.space ∷ [])
+EndsWell r s = MayFollow s (byte.blank_space ∷ [])
 
 -- the text is one lexeme, and where blanks follow it, it is the same lexeme
 pub record IsWholeLexeme (s : List ℕ) : Type 0 where
-  pub alone : lexemes s ≡ s ∷ []
+  pub alone : toml_lexemes_of s ≡ s ∷ []
   pub ends : EndsWell (role s) s
 
 -- what a gap has at least between a text that begins with the byte x and one that begins with the byte y

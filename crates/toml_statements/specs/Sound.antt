@@ -8,7 +8,7 @@ use Rattle.toml_statements.specs.Shown.{IsWholeLexeme}
 
 -- if the lexeme is a string, it is closed: a space may stand after it
 abbrev pub IsClosedString : List ℕ → Type 0
-IsClosedString s = is_quote (head s) ≡ true → MayFollow s (byte.space ∷ [])
+IsClosedString s = is_quote (head s) ≡ true → MayFollow s (byte.blank_space ∷ [])
 
 -- no lexeme comes next, or a line end does
 abbrev pub LineEndsNext : List (List ℕ) → Type 0

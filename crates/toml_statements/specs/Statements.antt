@@ -2,7 +2,7 @@
 use Rattle.std.specs.Prelude.{ℕ, zero, suc, List, [], ◌∷◌, ◌++◌, Bool, true, false, cond, ◌||◌, ◌==◌}
 use Rattle.toml_lexemes.specs.Bytes as byte
 use Rattle.toml_lexemes.specs.Bytes.{is_blank, head}
-use Rattle.toml_lexemes.specs.Lexemes.{lexemes}
+use Rattle.toml_lexemes.specs.Lexemes.{toml_lexemes_of}
 
 -- what a lexeme is to the statement that it is in
 pub data Role : Type 0 where
@@ -57,13 +57,13 @@ abbrev pub none_collected : Collected
 none_collected = record { depth = 0; comma = false; remarks = []; line = []; done = [] }
 
 -- lexemes and then a comma, where there is one
-abbrev pub with_comma : List (List ℕ) → Bool → List (List ℕ)
-with_comma line false = line
-with_comma line true = line ++ (byte.comma ∷ []) ∷ []
+abbrev pub followed_by_comma : List (List ℕ) → Bool → List (List ℕ)
+followed_by_comma line false = line
+followed_by_comma line true = line ++ (byte.comma ∷ []) ∷ []
 
 -- the statement as far as it was read
 abbrev pub whole_line : Collected → List (List ℕ)
-whole_line a = with_comma a.line a.comma ++ a.remarks
+whole_line a = followed_by_comma a.line a.comma ++ a.remarks
 
 -- statements and then one more, which is none where it has no lexeme
 abbrev pub with_statement : List (List (List ℕ)) → List (List ℕ) → List (List (List ℕ))
@@ -117,4 +117,4 @@ with_lexemes a (s ∷ ss) = with_lexemes (with_lexeme a s) ss
 -- the commas before closing brackets. Remarks are among the lexemes, without blanks at their end. The end of the text ends
 -- the last statement, also where a bracket is open.
 unfoldable pub statements : List ℕ → List (List (List ℕ))
-statements text = statements_of (with_lexemes none_collected (lexemes text))
+statements text = statements_of (with_lexemes none_collected (toml_lexemes_of text))

@@ -2,38 +2,38 @@
 
 ghost use Rattle.std.specs.Prelude.{◌∷◌, []};
 ghost use Rattle.prettyless_model.specs.Shows.{apart, ended, loose, spaced};
-ghost use Rattle.toml_statements.specs.Rows.{AreNotRead, AreReadAs, Says, SaysOther, SaysTheSame, mark, shown, statement};
+ghost use Rattle.toml_statements.specs.Rows.{AreNotRead, AreReadAs, SaysStatements, SaysOther, SaysTheSame, mark, shown, statement};
 
 /// A statement goes on to the end of its line, and in brackets over line ends.
-#[tactic(auto, unfolding(crate::specs::Statements::statements, toml_lexemes::specs::Lexemes::cut))]
+#[tactic(auto, unfolding(crate::specs::Statements::statements, toml_lexemes::specs::Lexemes::cut_toml))]
 pub fn lines()
-    ensures key_and_value { Says "a = 1\n" (statement ("a" ∷ "=" ∷ "1" ∷ []) ∷ []) }
-    ensures two { Says "a=1\nb.c = 'x'" (statement ("a" ∷ "=" ∷ "1" ∷ []) ∷ statement ("b.c" ∷ "=" ∷ "'x'" ∷ []) ∷ []) }
-    ensures header { Says "[a.b]\nc = 1\n"
+    ensures key_and_value { SaysStatements "a = 1\n" (statement ("a" ∷ "=" ∷ "1" ∷ []) ∷ []) }
+    ensures two { SaysStatements "a=1\nb.c = 'x'" (statement ("a" ∷ "=" ∷ "1" ∷ []) ∷ statement ("b.c" ∷ "=" ∷ "'x'" ∷ []) ∷ []) }
+    ensures header { SaysStatements "[a.b]\nc = 1\n"
         (statement ("[" ∷ "a.b" ∷ "]" ∷ []) ∷ statement ("c" ∷ "=" ∷ "1" ∷ []) ∷ []) }
-    ensures header_of_array { Says "[[a]]" (statement ("[" ∷ "[" ∷ "a" ∷ "]" ∷ "]" ∷ []) ∷ []) }
-    ensures table { Says "a = { b = 1, c = 2 }"
+    ensures header_of_array { SaysStatements "[[a]]" (statement ("[" ∷ "[" ∷ "a" ∷ "]" ∷ "]" ∷ []) ∷ []) }
+    ensures table { SaysStatements "a = { b = 1, c = 2 }"
         (statement ("a" ∷ "=" ∷ "{" ∷ "b" ∷ "=" ∷ "1" ∷ "," ∷ "c" ∷ "=" ∷ "2" ∷ "}" ∷ []) ∷ []) }
-    ensures date { Says "a = 1979-05-27 07:32:00" (statement ("a" ∷ "=" ∷ "1979-05-27" ∷ "07:32:00" ∷ []) ∷ []) }
-    ensures string_over_lines { Says "a = '''\n[ # \n'''\n" (statement ("a" ∷ "=" ∷ "'''\n[ # \n'''" ∷ []) ∷ []) }
-    ensures array_over_lines { Says "a = [\n  1,\n  [2, 3],\n]\n"
+    ensures date { SaysStatements "a = 1979-05-27 07:32:00" (statement ("a" ∷ "=" ∷ "1979-05-27" ∷ "07:32:00" ∷ []) ∷ []) }
+    ensures string_over_lines { SaysStatements "a = '''\n[ # \n'''\n" (statement ("a" ∷ "=" ∷ "'''\n[ # \n'''" ∷ []) ∷ []) }
+    ensures array_over_lines { SaysStatements "a = [\n  1,\n  [2, 3],\n]\n"
         (statement ("a" ∷ "=" ∷ "[" ∷ "1" ∷ "," ∷ "[" ∷ "2" ∷ "," ∷ "3" ∷ "]" ∷ "]" ∷ []) ∷ []) }
-    ensures not_closed { Says "a = [1\n" (statement ("a" ∷ "=" ∷ "[" ∷ "1" ∷ []) ∷ []) }
+    ensures not_closed { SaysStatements "a = [1\n" (statement ("a" ∷ "=" ∷ "[" ∷ "1" ∷ []) ∷ []) }
 {}
 
 /// What does not matter: gaps, empty lines, how lines end, and a comma before a closing bracket.
-#[tactic(auto, unfolding(crate::specs::Statements::statements, toml_lexemes::specs::Lexemes::cut))]
+#[tactic(auto, unfolding(crate::specs::Statements::statements, toml_lexemes::specs::Lexemes::cut_toml))]
 pub fn layouts()
     ensures gaps { SaysTheSame "\t a=1 " "a = 1" }
     ensures empty_lines { SaysTheSame "\n\na = 1\n \n\nb = 2\n" "a = 1\nb = 2" }
     ensures crlf { SaysTheSame "a = 1\r\nb = [\r\n]\r\n" "a = 1\nb = []\n" }
-    ensures nothing { Says " \n\r\n" [] }
+    ensures nothing { SaysStatements " \n\r\n" [] }
     ensures last_comma { SaysTheSame "a = [1, 2,]" "a = [\n  1,\n  2\n]\n" }
     ensures array_with_remarks { SaysTheSame "a = [ # x\n  1, # one\n\n  2 # two\n  , # y\n]\n" "a=[# x\n1,# one\n2# two\n# y\n]" }
 {}
 
 /// What matters: each lexeme, their order, and which are on a line of their own.
-#[tactic(auto, unfolding(crate::specs::Statements::statements, toml_lexemes::specs::Lexemes::cut))]
+#[tactic(auto, unfolding(crate::specs::Statements::statements, toml_lexemes::specs::Lexemes::cut_toml))]
 pub fn differences()
     ensures value { SaysOther "a = 1" "a = 2" }
     ensures order { SaysOther "a = 1\nb = 2" "b = 2\na = 1" }
@@ -47,12 +47,12 @@ pub fn differences()
 {}
 
 /// A remark is read without the blanks at its end, and after the comma that it stands before.
-#[tactic(auto, unfolding(crate::specs::Statements::statements, toml_lexemes::specs::Lexemes::cut))]
+#[tactic(auto, unfolding(crate::specs::Statements::statements, toml_lexemes::specs::Lexemes::cut_toml))]
 pub fn remarks()
-    ensures with_value { Says "a = 1 # one \t\r\n" (statement ("a" ∷ "=" ∷ "1" ∷ "# one" ∷ []) ∷ []) }
-    ensures alone { Says "# one\n# two" (statement ("# one" ∷ []) ∷ statement ("# two" ∷ []) ∷ []) }
+    ensures with_value { SaysStatements "a = 1 # one \t\r\n" (statement ("a" ∷ "=" ∷ "1" ∷ "# one" ∷ []) ∷ []) }
+    ensures alone { SaysStatements "# one\n# two" (statement ("# one" ∷ []) ∷ statement ("# two" ∷ []) ∷ []) }
     ensures before_comma { SaysTheSame "a = [1 # one\n, 2]" "a = [1, # one\n2]" }
-    ensures around_comma { Says "a = [1 # x\n, # y\n2]"
+    ensures around_comma { SaysStatements "a = [1 # x\n, # y\n2]"
         (statement ("a" ∷ "=" ∷ "[" ∷ "1" ∷ "," ∷ "# x" ∷ "# y" ∷ "2" ∷ "]" ∷ []) ∷ []) }
 {}
 

@@ -1,18 +1,24 @@
 -- A valid string is closed.
-use Rattle.std.proofs.Common.{◌≡◌, ℕ, ◌-◌, Bool, true, false, cond, ◌==◌, ◌&&◌, ◌||◌, nat_lt, nat_le, List, [], ◌∷◌, inl, inr, refl, sym, ap, subst}
+use Rattle.std.proofs.Common.{◌≡◌, ℕ, ◌-◌, Bool, true, false, cond, ◌==◌, ◌&&◌, ◌||◌, nat_lt, nat_le, List, [], ◌∷◌, inl, inr, refl, sym}
+use Rattle.std.proofs.Common.{ap, subst}
 use Rattle.std.proofs.lemmas.Bool.{cases_Bool, eqb-true, or_parts}
 use Rattle.std.specs.Prelude.{⊤}
 use Rattle.std.specs.List.{fold}
 use Rattle.std.specs.Char.{is_digit}
 use Rattle.toml_lexemes.specs.Bytes.{is_quote}
-use Rattle.toml_lexemes.specs.Lexemes.{Kind, basic, literal, mark, in_remark, opened, doubled, in_line, in_line_escape, in_lines, in_lines_escape, closing, closing_more, closed, closed_more, Mode, between, within, first, Turn, stops, line_turn, lines_turn, turn, begins_line_feed}
+use Rattle.toml_lexemes.specs.Lexemes.{Kind, basic, literal, quote_mark, in_remark, opened, doubled, in_line, in_line_escape, in_lines}
+use Rattle.toml_lexemes.specs.Lexemes.{in_lines_escape, closing, closing_more, closed, closed_more, Mode, between, within, first, Turn}
+use Rattle.toml_lexemes.specs.Lexemes.{stops, line_turn, lines_turn, turn, begins_line_feed}
 use Rattle.toml_lexemes.specs.Spaced.{mode_first, mode_turn, mode_after, EndsBefore, MayFollow}
 use Rattle.toml_words.specs.declared.string.Quoting.{Quoting}
 use Rattle.toml_words.specs.declared.string.Quoting.TheVariants.{Basic, Literal}
 use Rattle.toml_words.specs.declared.string.StringPlace.{StringPlace}
-use Rattle.toml_words.specs.declared.string.StringPlace.TheVariants.{Start, Opened, Doubled, InLine, EndedLine, InLines, Returned, Closing, ClosingMore, Closed, ClosedMore, EndedLines, Escaped, Folded, Hex, Wrong}
+use Rattle.toml_words.specs.declared.string.StringPlace.TheVariants.{Start, Opened, Doubled, InLine, EndedLine, InLines, Returned, Closing}
+use Rattle.toml_words.specs.declared.string.StringPlace.TheVariants.{ClosingMore, Closed, ClosedMore, EndedLines, Escaped, Folded, Hex}
+use Rattle.toml_words.specs.declared.string.StringPlace.TheVariants.{Wrong}
 use Rattle.toml_words.specs.Bytes.{is_non_eol}
-use Rattle.toml_words.specs.Strings.{line_place, lines_place, is_escape_letter, folded_place, escaped_place, is_scalar, after_hex, hex_place, string_next, string_place, ends_line_string, ends_lines_string, is_key_string, is_string}
+use Rattle.toml_words.specs.Strings.{line_place, lines_place, is_escape_letter, folded_place, escaped_place, is_scalar, after_hex}
+use Rattle.toml_words.specs.Strings.{hex_place, string_next, string_place, ends_line_string, ends_lines_string, is_key_string, is_string}
 
 abbrev kind_of : Quoting → Kind
 kind_of Basic = basic
@@ -195,7 +201,7 @@ agrees_after (x ∷ xs) m p h =
 -- ---- at the end
 
 -- a byte that is no quote stops where the same quote would go on
-no_mark : (k : Quoting) (t : Turn) (x : ℕ) → is_quote x ≡ false → cond (x == mark (kind_of k)) t stops ≡ stops
+no_mark : (k : Quoting) (t : Turn) (x : ℕ) → is_quote x ≡ false → cond (x == quote_mark (kind_of k)) t stops ≡ stops
 no_mark Basic t x q = ap (λ b. cond b t stops) (or_parts (x == 34) (x == 39) q).0
 no_mark Literal t x q = ap (λ b. cond b t stops) (or_parts (x == 34) (x == 39) q).1
 

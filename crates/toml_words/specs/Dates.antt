@@ -1,5 +1,6 @@
 -- The dates and times of TOML 1.0.
-use Rattle.std.specs.Prelude.{ℕ, ◌+◌, ◌-◌, ◌*◌, ◌%◌, Bool, not, ◌&&◌, ◌||◌, ◌==◌, nat_lt, nat_le, if◌then◌else◌, List, length, take, drop, slice_index, codes}
+use Rattle.std.specs.Prelude.{ℕ, ◌+◌, ◌-◌, ◌*◌, ◌%◌, Bool, not, ◌&&◌, ◌||◌, ◌==◌, nat_lt, nat_le, if◌then◌else◌, List, length, take, drop}
+use Rattle.std.specs.Prelude.{slice_index, codes}
 use Rattle.std.specs.List.{prefix_len, list_all, zip}
 use Rattle.std.specs.Char.{is_ascii_digit}
 use Rattle.toml_words.specs.Bytes.{dot, zero_digit, first_byte, is_plus_or_minus}

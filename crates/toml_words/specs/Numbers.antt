@@ -1,5 +1,6 @@
 -- The numbers of TOML 1.0, of any size.
-use Rattle.std.specs.Prelude.{ℕ, Bool, true, false, not, ◌&&◌, ◌||◌, ◌==◌, nat_lt, if◌then◌else◌, List, [], ◌∷◌, length, take, drop, slice_index, codes}
+use Rattle.std.specs.Prelude.{ℕ, Bool, true, false, not, ◌&&◌, ◌||◌, ◌==◌, nat_lt, if◌then◌else◌, List, [], ◌∷◌, length, take, drop}
+use Rattle.std.specs.Prelude.{slice_index, codes}
 use Rattle.std.specs.List.{position_or_len}
 use Rattle.std.specs.Char.{is_digit}
 use Rattle.std.specs.Str.{bytes_eq}
@@ -61,5 +62,5 @@ is_prefixed s =
     ((first_byte s == zero_digit) && nat_lt 0 (radix_of (slice_index s 1))) && is_digits (radix_of (slice_index s 1)) (drop 2 s)
 
 -- integer or float
-unfoldable pub is_number : List ℕ → Bool
-is_number s = (is_decimal (unsigned s) || is_special (unsigned s)) || is_prefixed s
+unfoldable pub is_toml_number : List ℕ → Bool
+is_toml_number s = (is_decimal (unsigned s) || is_special (unsigned s)) || is_prefixed s

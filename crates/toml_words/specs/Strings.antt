@@ -2,11 +2,13 @@
 use Rattle.std.specs.Prelude.{ℕ, ◌+◌, ◌-◌, ◌*◌, Bool, true, false, cond, ◌&&◌, ◌||◌, ◌==◌, nat_lt, nat_le, List}
 use Rattle.std.specs.List.{fold}
 use Rattle.std.specs.Char.{is_digit, digit_value}
-use Rattle.toml_lexemes.specs.Bytes.{tab, line_feed, carriage_return, space, quote, apostrophe, backslash}
+use Rattle.toml_lexemes.specs.Bytes.{tab, line_feed, carriage_return, blank_space, quote, apostrophe, backslash}
 use Rattle.toml_words.specs.declared.string.Quoting.{Quoting}
 use Rattle.toml_words.specs.declared.string.Quoting.TheVariants.{Basic, Literal}
 use Rattle.toml_words.specs.declared.string.StringPlace.{StringPlace}
-use Rattle.toml_words.specs.declared.string.StringPlace.TheVariants.{Start, Opened, Doubled, InLine, EndedLine, InLines, Returned, Closing, ClosingMore, Closed, ClosedMore, EndedLines, Escaped, Folded, Hex, Wrong}
+use Rattle.toml_words.specs.declared.string.StringPlace.TheVariants.{Start, Opened, Doubled, InLine, EndedLine, InLines, Returned, Closing}
+use Rattle.toml_words.specs.declared.string.StringPlace.TheVariants.{ClosingMore, Closed, ClosedMore, EndedLines, Escaped, Folded, Hex}
+use Rattle.toml_words.specs.declared.string.StringPlace.TheVariants.{Wrong}
 use Rattle.toml_words.specs.Bytes.{is_non_eol}
 
 -- the quote that a string is written with
@@ -45,7 +47,7 @@ is_escape_letter x =
 -- mlb-escaped-nl, after its backslash: blanks, and then a newline
 abbrev pub folded_place : ℕ → StringPlace
 folded_place x =
-    cond ((x == space) || (x == tab)) Folded
+    cond ((x == blank_space) || (x == tab)) Folded
     (cond (x == line_feed) (InLines Basic)
     (cond (x == carriage_return) (Returned Basic) Wrong))
 

@@ -1,7 +1,7 @@
 -- The words that are values.
 use Rattle.std.specs.Prelude.{ℕ, Bool, ◌||◌, List, codes}
 use Rattle.std.specs.Str.{bytes_eq}
-use Rattle.toml_words.specs.Numbers.{is_number}
+use Rattle.toml_words.specs.Numbers.{is_toml_number}
 use Rattle.toml_words.specs.Dates.{is_date, is_local_time, is_date_time}
 
 -- boolean
@@ -10,4 +10,4 @@ is_boolean s = bytes_eq s (codes "true") || bytes_eq s (codes "false")
 
 -- boolean, integer, float or date-time, where a date and its time are one word
 unfoldable pub is_value : List ℕ → Bool
-is_value s = (((is_boolean s || is_number s) || is_date s) || is_local_time s) || is_date_time s
+is_value s = (((is_boolean s || is_toml_number s) || is_date s) || is_local_time s) || is_date_time s

@@ -137,9 +137,9 @@ fn is_prefixed(bytes: &[u8]) -> bool
 }
 
 /// Whether the bytes are an integer or a float, of any size.
-#[tactic(auto, unfolding(crate::specs::Numbers::is_number))]
+#[tactic(auto, unfolding(crate::specs::Numbers::is_toml_number))]
 pub(crate) fn is_number(bytes: &[u8]) -> bool
-    ensures { result ≡ spec.is_number bytes.now }
+    ensures { result ≡ spec.is_toml_number bytes.now }
 {
     let number = unsigned(bytes);
     is_decimal(number) || is_special(number) || is_prefixed(bytes)

@@ -1,14 +1,22 @@
 //! Lays TOML texts out: `tomlfmt [--width N] [--indent N] [FILE]..` writes the layout of each file, or of standard input, to
-//! standard output. With `--write` the layout of a file replaces it, where it is not laid out already. With `--check` nothing is
-//! written, and the status says whether each is laid out. A text that is no TOML is named with the place where it stops being
-//! TOML, what was expected there, and what stands there.
+//! standard output. With `--write` the layout of a file replaces it, where it is not laid out already. With `--check` no layout is
+//! written: the files that are not laid out are named, and the status says whether there is one. With `--diff` it is printed how they
+//! differ from their layouts. A text that is no TOML is named with the place where it stops being TOML, what was expected there, and
+//! what stands there.
 #![tactic(auto)]
 
+ghost use Rattle.std.specs.Prelude.{◌≡◌, IfErr, IfOk, OnOk};
+ghost use Rattle.std.specs.Io.KnownBytes.{Appends};
+ghost use Rattle.formatter_files.specs.Layouts.{IsOfWriter};
+
+use formatter_files::arguments::words;
 use formatter_files::ending::Ending;
-use formatter_files::files::{Formatter, ending_after, ending_of, lay_out_all, words};
+use formatter_files::files::{ending_after, ending_of, lay_out_all};
+use formatter_files::formatter::{Formatter, LayoutError, Verdict};
 use formatter_files::message::{say_expected, say_word};
 use std::fs::Files;
 use std::io;
+use std::io::Write;
 use std::process::ExitCode;
 use std::rt::Env;
 use std::str::from_utf8;
@@ -17,14 +25,14 @@ use toml_lexemes::Lexeme;
 use tomlfmt_request::refusal::{Found, refusal_of};
 use tomlfmt_request::request::requested;
 
-// Ends the message with what stands there.
+// Says what stands there. It leaves the line open.
 fn say_found<R: Eprint>(rt: &R, found: Found<'_>) -> io::Result<()> {
     match found {
-        Found::Byte => eprintln!(rt),
-        Found::End => eprintln!(rt; ", found the end of the text"),
-        Found::Lexeme(Lexeme::LineEnd) => eprintln!(rt; ", found the end of the line"),
-        Found::Lexeme(Lexeme::String(_)) => eprintln!(rt; ", found a string"),
-        Found::Lexeme(Lexeme::Remark(_)) => eprintln!(rt; ", found a remark"),
+        Found::Byte => Ok(()),
+        Found::End => eprint!(rt; ", found the end of the text"),
+        Found::Lexeme(Lexeme::LineEnd) => eprint!(rt; ", found the end of the line"),
+        Found::Lexeme(Lexeme::String(_)) => eprint!(rt; ", found a string"),
+        Found::Lexeme(Lexeme::Remark(_)) => eprint!(rt; ", found a remark"),
         Found::Lexeme(lexeme) => say_word(rt, lexeme.text()),
     }
 }
@@ -33,7 +41,20 @@ fn say_found<R: Eprint>(rt: &R, found: Found<'_>) -> io::Result<()> {
 fn refuse<R: AllocGlobal + Eprint>(rt: &R, name: &str, bytes: &[u8]) -> io::Result<()> {
     let refusal = refusal_of(rt.alloc(), bytes)?;
     say_expected(rt, name, refusal.place, refusal.expected)?;
-    say_found(rt, refusal.found)
+    say_found(rt, refusal.found)?;
+    eprintln!(rt)
+}
+
+// Writes a layout that is made.
+fn write<W: Write>(writer: &mut W, layout: &str) -> Result<Verdict, LayoutError>
+    ensures ok { OnOk result (Appends (W.contents writer.old) (W.contents writer.new) layout.now) }
+    ensures verdict { IfOk result (λ verdict. verdict ≡ Verdict.LaidOut) }
+    ensures err { IfErr result IsOfWriter }
+{
+    match writer.write_all(layout.as_bytes()) {
+        Ok(()) => Ok(Verdict::LaidOut),
+        Err(error) => Err(LayoutError::Writer(error)),
+    }
 }
 
 // TOML texts, laid out in a style.
@@ -41,25 +62,32 @@ fn refuse<R: AllocGlobal + Eprint>(rt: &R, name: &str, bytes: &[u8]) -> io::Resu
 struct Toml(Style);
 
 impl Formatter for Toml {
+    ghost use Rattle.toml_formatter.specs.Formats.{IsFormattedToml};
+
+    ghost IsLayout = { λ _ text layout. IsFormattedToml text layout };
+
     fn program(&self) -> &'static str {
         "tomlfmt"
     }
 
-    fn layout<R: AllocGlobal + Eprint>(
+    fn write_layout<R: AllocGlobal + Eprint, W: Write>(
         &self,
         rt: &R,
         name: &str,
         bytes: &[u8],
-    ) -> io::Result<Option<String>> {
+        writer: &mut W,
+    ) -> Result<Verdict, LayoutError> {
         if let Ok(text) = from_utf8(bytes) {
             match formatted(rt.alloc(), text, self.0) {
-                Ok(layout) => return Ok(Some(layout)),
+                Ok(layout) => return write(writer, layout.as_str()),
                 Err(FormatError::NotToml | FormatError::TooDeep) => {}
-                Err(FormatError::Memory(error)) => return Err(io::Error::from(error)),
+                Err(FormatError::Memory(error)) => {
+                    return Err(LayoutError::Text(io::Error::from(error)));
+                }
             }
         }
         refuse(rt, name, bytes)?;
-        Ok(None)
+        Ok(Verdict::Refused)
     }
 }
 

@@ -9,15 +9,15 @@ abbrev pub tomlfmt : App
 tomlfmt = with_files (with_numbers (program (codes "tomlfmt")))
 
 -- what `clap` reads in the words, of which the first names the program
-unfoldable pub matches : List Text → List Row
-matches words = matches_of tomlfmt words
+unfoldable pub tomlfmt_matches : List Text → List Row
+tomlfmt_matches words = matches_of tomlfmt words
 
 -- the kinds of error that it has for them
-unfoldable pub faults : List Text → Kinds
-faults words = fault_of tomlfmt words
+unfoldable pub tomlfmt_faults : List Text → Kinds
+tomlfmt_faults words = fault_of tomlfmt words
 
 -- What is asked for.
-pub record AsksFor (rows : List Row) (asked : Request) : Type 0 where
+pub record AsksForToml (rows : List Row) (asked : Request) : Type 0 where
   pub width : IsWidth rows asked.style.width
   pub indent : IsIndent rows asked.style.indent
   pub task : IsTask rows asked.task

@@ -2,7 +2,7 @@
 ghost use Rattle.std.specs.Prelude.{◌≡◌, IfOk, map};
 ghost use Rattle.clap.specs.Words.{FailsBy, app_of, found_of, rows_of};
 ghost use Rattle.formatter_files.specs.Words.{HasIndent, HasWidth};
-ghost use Rattle.tomlfmt_request.specs.Words.{AsksFor, faults, matches, tomlfmt};
+ghost use Rattle.tomlfmt_request.specs.Words.{AsksForToml, tomlfmt_faults, tomlfmt_matches, tomlfmt};
 
 use clap::{ArgMatches, Command, Error};
 use formatter_files::files::Task;
@@ -34,7 +34,7 @@ fn command<'w>(alloc: Global) -> Result<Command<'w>, AllocError>
 fn asked<'w>(alloc: Global, matches: &ArgMatches<'w>) -> Result<Request<'w>, AllocError>
     requires width { HasWidth (rows_of (found_of matches.now)) }
     requires indent { HasIndent (rows_of (found_of matches.now)) }
-    ensures { IfOk result (AsksFor (rows_of (found_of matches.now))) }
+    ensures { IfOk result (AsksForToml (rows_of (found_of matches.now))) }
 {
     Ok(Request {
         style: Style {
@@ -49,8 +49,8 @@ fn asked<'w>(alloc: Global, matches: &ArgMatches<'w>) -> Result<Request<'w>, All
 ///
 /// Its error where they are not such words, and where they ask for help or the version: it has the text for the user.
 pub fn requested<'w, S: AsStr>(alloc: Global, words: &'w [S]) -> Result<Request<'w>, Error>
-    ensures ok { IfOk result (AsksFor (matches (map S.text words.entry.now))) }
-    ensures err { FailsBy (faults (map S.text words.entry.now)) result }
+    ensures ok { IfOk result (AsksForToml (tomlfmt_matches (map S.text words.entry.now))) }
+    ensures err { FailsBy (tomlfmt_faults (map S.text words.entry.now)) result }
 {
     let matches = command(alloc)?.try_get_matches_from(words)?;
     Ok(asked(alloc, &matches)?)

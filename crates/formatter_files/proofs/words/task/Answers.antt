@@ -7,7 +7,8 @@ use Rattle.formatter_files.proofs.words.task.Goals as goal
 abbrev texts : Bor (List (Bor Text)) → List Text
 texts files = map (λ file. file.now) files.now
 
-listed : (got : Option (Bor (List (Bor Text)))) (none : Bor (List (Bor Text))) → none.now ≡ [] → texts (unwrap_or got none) ≡ unwrap_or (option_map texts got) []
+listed : (got : Option (Bor (List (Bor Text)))) (none : Bor (List (Bor Text))) → none.now ≡ [] →
+    texts (unwrap_or got none) ≡ unwrap_or (option_map texts got) []
 listed None none empty = ap (map (λ file. file.now)) empty
 listed (Some files) none empty = refl
 
@@ -16,7 +17,9 @@ returns c =
     let found = found_of c.args.matches.now in
     record {
       check = c.has_flag.ensures;
-      write = c.has_flag-2.ensures;
+      diff = c.has_flag-2.ensures;
+      write = c.has_flag-3.ensures;
       files = ap (λ (items : List (Bor Text)). map (λ file. file.now) items) c.in_ok-from_slice.ensures.items
-          ∙ (ap texts c.unwrap_or.ensures ∙ (listed c.get_strs.result _ refl ∙ ap (λ (given : Option (List Text)). unwrap_or given []) (c.get_strs.ensures ∙ raw_values-rows found (codes "FILE"))));
+          ∙ (ap texts c.unwrap_or.ensures ∙ (listed c.get_strs.result _ refl
+          ∙ ap (λ (given : Option (List Text)). unwrap_or given []) (c.get_strs.ensures ∙ raw_values-rows found (codes "FILE"))));
     }

@@ -4,14 +4,16 @@ use Rattle.json_lexemes.proofs.cut.string_end.Goals as goal
 
 pub returns-in-34-clause-cut : goal.returns-in-34-clause-cut
 returns-in-34-clause-cut c =
-    closes_here c.args.bytes.now c.args.from c.loop-place.place c.loop-place.invariant.after (omega arith) c.in-34.is c.loop-place.invariant.inside
+    closes_here c.args.bytes.now c.args.from c.loop-place.place c.loop-place.invariant.after
+    (omega arith) c.in-34.is c.loop-place.invariant.inside
 
 pub loop-place-preserved-in-92 : goal.loop-place-preserved-in-92
 loop-place-preserved-in-92 c =
     record {
       after = omega arith;
       near = omega arith;
-      inside = inside_escape c.args.bytes.now c.args.from c.loop-place.place c.loop-place.invariant.after (omega arith) c.in-92.is c.loop-place.invariant.inside;
+      inside = inside_escape c.args.bytes.now c.args.from c.loop-place.place c.loop-place.invariant.after
+          (omega arith) c.in-92.is c.loop-place.invariant.inside;
     }
 
 pub loop-place-preserved : goal.loop-place-preserved
@@ -19,8 +21,10 @@ loop-place-preserved c =
     record {
       after = omega arith;
       near = omega arith;
-      inside = inside_more c.args.bytes.now c.args.from c.loop-place.place c.loop-place.invariant.after (omega arith) (λ e. omega arith) (λ e. omega arith) c.loop-place.invariant.inside;
+      inside = inside_more c.args.bytes.now c.args.from c.loop-place.place c.loop-place.invariant.after (omega arith) (λ e. omega arith)
+          (λ e. omega arith) c.loop-place.invariant.inside;
     }
 
 pub returns-clause-cut : goal.returns-clause-cut
-returns-clause-cut c = never_closes c.args.bytes.now c.args.from c.loop-place.place c.loop-place.invariant.after c.requires (omega arith) c.loop-place.invariant.inside
+returns-clause-cut c = never_closes c.args.bytes.now c.args.from c.loop-place.place c.loop-place.invariant.after c.requires
+    (omega arith) c.loop-place.invariant.inside

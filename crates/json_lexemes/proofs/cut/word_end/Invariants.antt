@@ -1,7 +1,6 @@
-use Rattle.std.proofs.Common.{◌-◌, take, drop}
-use Rattle.json_lexemes.proofs.Words.{IsRun}
+use Rattle.json_lexemes.specs.Words.{WordGoesOn}
 use Rattle.json_lexemes.proofs.cut.word_end.Given as goal
 
--- the bytes so far are in the word
+-- no byte so far ends the word
 abbrev pub invariant-loop-place : goal.invariant-loop-place
-invariant-loop-place l = IsRun (take (l.place - l.from) (drop l.from l.bytes))
+invariant-loop-place l = WordGoesOn l.bytes l.from l.place

@@ -3,7 +3,7 @@ use Rattle.std.proofs.lemmas.Result.{err_from_is_err_and}
 use Rattle.std.specs.Prelude.{Result}
 use Rattle.clap.specs.Words.{App, FailsBy, HasKind, Kinds, Row, app_of, fault_of, is_simple, is_simple_and_free, matches_of}
 use Rattle.clap.specs.declared.error.Error.{Error}
-use Rattle.jsonfmt_request.specs.Words.{AsksFor, faults, jsonfmt, matches}
+use Rattle.jsonfmt_request.specs.Words.{AsksForJson, faults, jsonfmt, matches}
 use Rattle.jsonfmt_request.specs.declared.request.Request.{Request}
 use Rattle.formatter_files.proofs.Given.{TakesNumbers, indent_given, width_given}
 use Rattle.jsonfmt_request.proofs.request.requested.Goals as goal
@@ -29,21 +29,25 @@ pub returns-clause-ok : goal.returns-clause-ok
 unfolding matches
 returns-clause-ok g c =
     let words = map g.S.AsStr.text c.args.words.now in
-    let rows = (c.in_ok-matches.ensures.matches (ap is_simple c.in_ok-command.ensures ∙ simple)).0 ∙ ap (λ (a : App). matches_of a words) c.in_ok-command.ensures in
-    subst (λ (found : List Row). AsksFor found c.in_ok-asked.field-0) rows c.in_ok-asked.ensures
+    let rows = (c.in_ok-matches.ensures.matches (ap is_simple c.in_ok-command.ensures ∙ simple)).0
+    ∙ ap (λ (a : App). matches_of a words) c.in_ok-command.ensures in
+    subst (λ (found : List Row). AsksForJson found c.in_ok-asked.field-0) rows c.in_ok-asked.ensures
 
 pub returns-clause-err : goal.returns-clause-err
 unfolding faults
 returns-clause-err g c =
     let words = map g.S.AsStr.text c.args.words.now in
-    ap (λ (a : App). fault_of a words) (sym c.in_ok-command.ensures) ∙ c.in_ok-matches.ensures.kinds (ap is_simple_and_free c.in_ok-command.ensures ∙ free)
+    ap (λ (a : App). fault_of a words) (sym c.in_ok-command.ensures) ∙ c.in_ok-matches.ensures.kinds
+    (ap is_simple_and_free c.in_ok-command.ensures ∙ free)
 
 pub returns-in_err-matches-clause-err : goal.returns-in_err-matches-clause-err
 unfolding faults
 returns-in_err-matches-clause-err g c =
     let words = map g.S.AsStr.text c.args.words.now in
-    let has : HasKind (fault_of (app_of c.in_ok-command.field-0) words) c.in_err-matches.field-0.0 = c.in_err-matches.ensures.kinds (ap is_simple_and_free c.in_ok-command.ensures ∙ free) in
+    let has : HasKind (fault_of (app_of c.in_ok-command.field-0) words) c.in_err-matches.field-0.0
+    = c.in_err-matches.ensures.kinds (ap is_simple_and_free c.in_ok-command.ensures ∙ free) in
     let got = err_from_is_err_and c.from_residual-in_err-matches.result c.from_residual-in_err-matches.ensures.1 in
     let here = ap (λ (a : App). fault_of a words) c.in_ok-command.ensures in
     subst (λ (r : Result Request Error). FailsBy (fault_of jsonfmt words) r) (sym got.1)
-    (subst (λ (e : Error). HasKind (fault_of jsonfmt words) e) (sym got.2) (subst (λ (kinds : Kinds). HasKind kinds c.in_err-matches.field-0.0) here has))
+    (subst (λ (e : Error). HasKind (fault_of jsonfmt words) e) (sym got.2)
+    (subst (λ (kinds : Kinds). HasKind kinds c.in_err-matches.field-0.0) here has))

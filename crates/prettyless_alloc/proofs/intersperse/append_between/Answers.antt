@@ -11,5 +11,12 @@ loop-item-preserved g c =
     let gap = g.D.Doc.DocPtr.tree c.args.gap in
     let before : Tree = tree c.loop-item.all.1 in
     let last : Tree = tree c.loop-item.last.1 in
-    let made = c.in_ok-all.ensures.ok ∙ ap (λ (k : Tree). append (append before k) last) c.in_ok-copy.ensures.ok in
-    (search rules, search rules, FoldsTo-push _ _ _ _ _ _ c.loop-item.invariant.2 (tree c.in_ok-doc.doc.1, c.in_ok-doc.ensures.ok, ap (λ (a : Tree). append (append a gap) (tree c.in_ok-doc.doc.1)) made))
+    let made = c.in_ok-all.ensures.ok ∙ ap (λ (k : Tree). append (append before k) last) c.in_ok-copy.ensures.ok in (
+      search rules,
+      search rules,
+      FoldsTo-push _ _ _ _ _ _ c.loop-item.invariant.2 (
+        tree c.in_ok-doc.doc.1,
+        c.in_ok-doc.ensures.ok,
+        ap (λ (a : Tree). append (append a gap) (tree c.in_ok-doc.doc.1)) made,
+      ),
+    )

@@ -4,7 +4,7 @@ use Rattle.std.specs.List.{FoldsTo}
 use Rattle.prettyless_doc.specs.DocTree.{built}
 use Rattle.prettyless_doc.specs.Tree.{Tree}
 use Rattle.prettyless_build.specs.Iterated.{appends_after}
-use Rattle.prettyless_alloc.proofs.Walks.{nil_from, between_nothing, behind_nothing}
+use Rattle.prettyless_alloc.proofs.Walks.{nil_from, between_nothing, nothing_between}
 use Rattle.prettyless_alloc.proofs.intersperse.with_gaps.Goals as goal
 
 pub returns-in_err-separator-clause-err : goal.returns-in_err-separator-clause-err
@@ -16,14 +16,15 @@ returns-then-is_nil-clause-ok g c =
     let tree = built g.D.Doc.DocPtr.tree in
     let gap : Tree = tree c.in_ok-separator.separator.1 in
     let nothing = sym c.doc.ensures ∙ nil_from _ (sym c.is_nil.ensures ∙ c.if-is_nil.true) in
-    let joined = behind_nothing gap (tree c.args.first.1) (tree c.args.second.1) _ nothing c.in_ok-join.ensures.ok in
+    let joined = nothing_between gap (tree c.args.first.1) (tree c.args.second.1) _ nothing c.in_ok-join.ensures.ok in
     IfOk-weaker c.append_all.result _ _
     (λ b h. (
       gap,
       h.0,
       c.in_ok-separator.ensures.ok,
       h.1,
-      subst (λ (t : Tree). FoldsTo (appends_after gap g.I.Item.Pretty.becomes) t h.0 (tree b.1)) joined (between_nothing _ _ _ _ _ nothing h.2),
+      subst (λ (t : Tree). FoldsTo (appends_after gap g.I.Item.Pretty.becomes) t h.0 (tree b.1)) joined
+          (between_nothing _ _ _ _ _ nothing h.2),
     ))
     c.append_all.ensures.ok
 

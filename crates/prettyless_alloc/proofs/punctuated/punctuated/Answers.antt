@@ -12,4 +12,5 @@ returns-clause-ok g c =
     let mark = built tree c.args.mark.1 in
     let others = map tree c.pop.new.self.items in
     let each = c.in_ok-marked.ensures.ok ∙ ap (λ (m : Tree). map (λ x. append x m) others) c.in_ok-mark.ensures.ok in
-    marked_before_last tree mark _ c.pop.new.self.items c.in_ok-marked.marked.items c.push.new.self.items c.in-Some.last c.in-Some.ensures.items each c.in_ok-push.ensures.items
+    marked_before_last tree mark _ c.pop.new.self.items c.in_ok-marked.marked.items c.push.new.self.items c.in-Some.last
+    c.in-Some.ensures.items each c.in_ok-push.ensures.items

@@ -12,7 +12,8 @@ returns-clause-ok c =
     let bytes = spaces 2 ++ c.args.text.now in
     rw c.count.ensures
     (on_ok_weaker c.write_gap_and_text-answer.result
-    (λ wrote. subst (λ x. PutsAll c.args.limit bytes c.args.out.now x area.count) (sym (search rules)) (accepted area c.args.limit c.args.out.now bytes wrote))
+    (λ wrote. subst (λ x. PutsAll c.args.limit bytes c.args.out.now x area.count) (sym (search rules))
+    (accepted area c.args.limit c.args.out.now bytes wrote))
     (rw (new.limit, new.before, new.given, new.failures) at c.write_gap_and_text-answer.ensures.ok))
 
 pub returns-clause-err : goal.returns-clause-err
@@ -22,5 +23,6 @@ returns-clause-err c =
     let bytes = spaces 2 ++ c.args.text.now in
     rw c.count.ensures
     (on_err_weaker c.write_gap_and_text-answer.result
-    (λ failed. subst (λ x. PutsToLimit c.args.limit bytes c.args.out.now x area.count) (sym (search rules)) (refused area c.args.limit c.args.out.now bytes failed))
+    (λ failed. subst (λ x. PutsToLimit c.args.limit bytes c.args.out.now x area.count) (sym (search rules))
+    (refused area c.args.limit c.args.out.now bytes failed))
     (rw (new.limit, new.before, new.given, new.failures) at c.write_gap_and_text-answer.ensures.err))

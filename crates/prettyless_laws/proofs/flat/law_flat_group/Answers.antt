@@ -1,4 +1,5 @@
-use Rattle.prettyless_laws.proofs.FlatLines.{one_line, group_is_flat, breaks_skip, settle_skips, traced_on_one_line, traced_as_flat_group, trace_breaks_pass}
+use Rattle.prettyless_laws.proofs.FlatLines.{one_line, group_is_flat, breaks_skip, settle_skips, traced_on_one_line, traced_as_flat_group}
+use Rattle.prettyless_laws.proofs.FlatLines.{trace_breaks_pass}
 use Rattle.prettyless_laws.proofs.flat.law_flat_group.Goals as goal
 
 pub returns-clause-one_line : goal.returns-clause-one_line

@@ -1,15 +1,19 @@
-use Rattle.std.proofs.Common.{◌≡◌, ℕ, List, [], ◌∷◌, ◌++◌, ◌∙◌, length, arith, refl, sym, subst, ap, codes, ◌⊎◌, inl, inr, Bool, true, false, ◌||◌, ◌==◌}
+use Rattle.std.proofs.Common.{◌≡◌, ℕ, List, [], ◌∷◌, ◌++◌, ◌∙◌, length, arith, refl, sym, subst, ap, codes, ◌⊎◌, inl, inr, Bool, true}
+use Rattle.std.proofs.Common.{false, ◌||◌, ◌==◌}
 use Rattle.std.proofs.Math.Bool.{or-true}
 use Rattle.std.proofs.lemmas.List.{append_cancel_left, append_cancel_right}
 use Rattle.prettyless_model.specs.Spelling.{is_blank_byte, ink}
-use Rattle.prettyless_model.specs.Tree.{Nil, BreakOrFlat, LineSuffix, HardLine, MultilineText}
+use Rattle.prettyless_model.specs.Tree.{Nil, BreakOrFlat, LineSuffix}
 use Rattle.prettyless_model.specs.Layout.{lay, lay_each, breaks, finish, layout_by, layout}
-use Rattle.prettyless_model.specs.Rows.{in_turn, line, numbers, pair, text}
-use Rattle.prettyless_model.specs.Shows.{Reach, Least, Item, Shown, Gap, Mark, Late, apart, ended, loose, spaced, TextShows, shows, AreFixed, IsWeaker, Implies, IsBlank, EndsLine, ShowsFrom, ShowsText, after_text, AreShown, IsGapAt, at_start, IsEndAt}
+use Rattle.prettyless_model.specs.Rows.{in_turn, row_line, numbers, pair, row_text}
+use Rattle.prettyless_model.specs.Shows.{Reach, Least, Item, Shown, Gap, Mark, Late, apart, ended, loose, spaced, TextShows, shows}
+use Rattle.prettyless_model.specs.Shows.{AreFixed, IsWeaker, Implies, EndsLine, ShowsFrom, ShowsText, after_text, IsGapAt, at_start}
 use Rattle.prettyless_model.proofs.Gaps.{end_before, end_after}
-use Rattle.prettyless_model.proofs.Ink.{ink-behind}
+use Rattle.prettyless_model.proofs.Ink.{ink-after}
 use Rattle.prettyless_model.proofs.SpacedTexts.{text_begins}
-use Rattle.prettyless_laws.specs.Rows.{DoesNotHave, DoesNotShow, HasNoTexts, NoneIsEmpty, either_number, late_item, late_remark, late_with, lined, lined_items, numbers_items, numbers_with, one_number, one_number_items, remark_with, text_item, tight_line, two_late, two_late_items}
+use Rattle.prettyless_laws.specs.Rows.{DoesNotHave, DoesNotShow, HasNoTexts, NoneIsEmpty, either_number, late_item, late_remark, late_with}
+use Rattle.prettyless_laws.specs.Rows.{lined, lined_items, numbers_items, numbers_with, one_number, one_number_items, remark_with}
+use Rattle.prettyless_laws.specs.Rows.{text_item, tight_line, two_late, two_late_items}
 use Rattle.prettyless_laws.proofs.rows.texts.Goals as goal
 
 -- ---- line ends
@@ -33,7 +37,7 @@ no_end bytes n h = let e = end_is_lf bytes h in cc (n, e)
 weakened : (r s : Reach) (l m : Least) → IsWeaker r l s m → Implies (Gap r l ∷ []) (Gap s m ∷ [])
 weakened r s l m h = inr (r, l, [], refl, h, refl)
 
-line_shows : shows line (apart ∷ [])
+line_shows : shows row_line (apart ∷ [])
 line_shows =
     let flat : TextShows (codes " ") (spaced ∷ []) = inr (refl, no_end (codes " ") refl, refl) in
     (_, _, refl, flat, weakened _ _ _ _ (refl, refl, λ e. inr refl), weakened _ _ _ _ (refl, refl, λ e. inr refl))
@@ -42,11 +46,12 @@ tight_line_shows : shows tight_line (loose ∷ [])
 tight_line_shows = (ended ∷ [], [], refl, refl, weakened _ _ _ _ (refl, refl, λ e. inr refl), inl ((refl, refl, λ e. inr refl), refl))
 
 -- a comma, or nothing
-comma_shows : shows (BreakOrFlat (text ",") Nil) (Mark (codes ",") ∷ [])
+comma_shows : shows (BreakOrFlat (row_text ",") Nil) (Mark (codes ",") ∷ [])
 comma_shows = (_, [], inl refl, refl, inr (_, inl refl, refl), inl refl)
 
 -- the numbers, without what is around them
-inner_shows : shows (in_turn (text "1") (line ∷ text "2" ∷ line ∷ text "3" ∷ [])) (numbers_with (apart ∷ []) ++ (apart ∷ text_item "3" ∷ []))
+inner_shows : shows (in_turn (row_text "1") (row_line ∷ row_text "2" ∷ row_line ∷ row_text "3" ∷ []))
+    (numbers_with (apart ∷ []) ++ (apart ∷ text_item "3" ∷ []))
 inner_shows = (_, _, (_, apart ∷ [], (_, _, (_, apart ∷ [], inl refl, line_shows, refl), inl refl, refl), line_shows, refl), inl refl, refl)
 
 numbers_show : shows numbers numbers_items
@@ -54,7 +59,7 @@ numbers_show = (_, _, (_, _, inl refl, inner_shows, refl), inl refl, refl)
 
 one_number_shows : shows one_number one_number_items
 one_number_shows =
-    let first : shows (in_turn (text "(") (tight_line ∷ text "1" ∷ [])) (text_item "(" ∷ loose ∷ text_item "1" ∷ []) =
+    let first : shows (in_turn (row_text "(") (tight_line ∷ row_text "1" ∷ [])) (text_item "(" ∷ loose ∷ text_item "1" ∷ []) =
     (_, _, (_, loose ∷ [], inl refl, tight_line_shows, refl), inl refl, refl) in
     (_, _, (_, loose ∷ [], (_, Mark (codes ",") ∷ [], first, comma_shows, refl), tight_line_shows, refl), inl refl, refl)
 
@@ -63,7 +68,8 @@ late_remark_shows = (_, _, (_, _, inl refl, (_, inl refl, tt, refl), refl), (apa
 
 two_late_show : shows two_late two_late_items
 two_late_show =
-    let first : shows (in_turn (text "a") (LineSuffix (text " #1") ∷ text "b" ∷ [])) (text_item "a" ∷ late_item " #1" ∷ text_item "b" ∷ []) =
+    let first : shows (in_turn (row_text "a") (LineSuffix (row_text " #1") ∷ row_text "b" ∷ []))
+    (text_item "a" ∷ late_item " #1" ∷ text_item "b" ∷ []) =
     (_, _, (_, _, inl refl, (_, inl refl, tt, refl), refl), inl refl, refl) in
     (_, _, (_, _, (_, _, first, (_, inl refl, tt, refl), refl), refl, refl), inl refl, refl)
 
@@ -164,7 +170,7 @@ not_ended h =
 next_first : (s t bytes : List ℕ) → (EndsLine bytes → ⊥) → ShowsFrom after_text [] bytes (Late (Shown s) ∷ apart ∷ Shown t ∷ [])
     → (rest : List ℕ) × (ink bytes ≡ ink (t ++ rest))
 next_first s t bytes n (inr h) = absurd h.0
-next_first s t bytes n (inl (stays, inl h)) = (h.1, ap ink h.3 ∙ ink-behind h.0 (t ++ h.1) h.2.0.0)
+next_first s t bytes n (inl (stays, inl h)) = (h.1, ap ink h.3 ∙ ink-after h.0 (t ++ h.1) h.2.0.0)
 next_first s t bytes n (inl (stays, inr h)) =
     let k = h.1 in
     absurd (n (has_end k.0 s k.1 bytes k.3 (inr (has_end k.4.0 t k.4.1 k.1 k.4.3 (inl k.4.2.2)))))

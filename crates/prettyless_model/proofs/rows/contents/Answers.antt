@@ -2,10 +2,34 @@ use Rattle.std.proofs.Common.{refl, codes, []}
 use Rattle.prettyless_model.proofs.rows.contents.Goals as goal
 
 pub returns-clause-spelled : goal.returns-clause-spelled
-returns-clause-spelled c = (codes "a//1//2", codes "b", (codes "a//1", codes "//2", (codes "a//1", [], (codes "a", codes "//1", refl, refl, refl), refl, refl), refl, refl), refl, refl)
+returns-clause-spelled c = (
+  codes "a//1//2",
+  codes "b",
+  (codes "a//1", codes "//2", (codes "a//1", [], (codes "a", codes "//1", refl, refl, refl), refl, refl), refl, refl),
+  refl,
+  refl,
+)
 
 pub returns-clause-parted : goal.returns-clause-parted
-returns-clause-parted c = (codes "a", codes "//1//2", codes "b", [], (codes "a", codes "//1", [], codes "//2", (codes "a", codes "//1", [], [], (codes "a", [], [], codes "//1", (refl, refl), (refl, refl), refl, refl), (refl, refl), refl, refl), (refl, refl), refl, refl), (refl, refl), refl, refl)
+returns-clause-parted c = (
+  codes "a",
+  codes "//1//2",
+  codes "b",
+  [],
+  (
+    codes "a",
+    codes "//1",
+    [],
+    codes "//2",
+    (codes "a", codes "//1", [], [], (codes "a", [], [], codes "//1", (refl, refl), (refl, refl), refl, refl), (refl, refl), refl, refl),
+    (refl, refl),
+    refl,
+    refl,
+  ),
+  (refl, refl),
+  refl,
+  refl,
+)
 
 pub returns-clause-written : goal.returns-clause-written
 returns-clause-written c = refl

@@ -7,7 +7,7 @@ unfolding lay lay_each breaks finish layout_by layout
 returns c = record {
   before_break = refl;
   in_group = refl;
-  behind_payload = refl;
+  after_payload = refl;
   on_fresh_line = refl;
   from_a_suffix = refl;
   padded = refl;

@@ -1,5 +1,6 @@
 use Rattle.std.proofs.Common.{refl}
-use Rattle.prettyless_doc.specs.declared.constant.Constant.TheVariants.{Nil, Fail, Space, WeakSpace, HardLine, WeakLine, ExpandParent, LineOrSpace, LineOrNil, SoftLineOrSpace, SoftLineOrNil}
+use Rattle.prettyless_doc.specs.declared.constant.Constant.TheVariants.{Nil, Fail, Space, WeakSpace, HardLine, WeakLine, ExpandParent}
+use Rattle.prettyless_doc.specs.declared.constant.Constant.TheVariants.{LineOrSpace, LineOrNil, SoftLineOrSpace, SoftLineOrNil}
 use Rattle.prettyless_pointers.proofs.InPlace.{InOrder, is-table, leads, line-is, soft-line-is}
 use Rattle.prettyless_pointers.proofs.constants.table.Goals as goal
 
@@ -17,9 +18,19 @@ returns-clause-ok c =
       hard_line = leads HardLine _ _ (rw leaves refl) (rw leaves refl);
       weak_line = leads WeakLine _ _ (rw leaves refl) (rw leaves refl);
       expand_parent = leads ExpandParent _ _ (rw leaves refl) (rw leaves refl);
-      line = leads LineOrSpace _ _ (rw lines (line-is LineOrSpace Space _ _ (leads HardLine _ _ (rw leaves refl) (rw leaves refl)) (leads Space _ _ (rw leaves refl) (rw leaves refl)) refl)) (rw lines refl);
-      line_ = leads LineOrNil _ _ (rw lines (line-is LineOrNil Nil _ _ (leads HardLine _ _ (rw leaves refl) (rw leaves refl)) (leads Nil _ _ (rw leaves refl) (rw leaves refl)) refl)) (rw lines refl);
-      softline = leads SoftLineOrSpace _ _ (rw soft_lines (soft-line-is SoftLineOrSpace LineOrSpace _ (leads LineOrSpace _ _ (rw lines (line-is LineOrSpace Space _ _ (leads HardLine _ _ (rw leaves refl) (rw leaves refl)) (leads Space _ _ (rw leaves refl) (rw leaves refl)) refl)) (rw lines refl)) refl)) (rw soft_lines refl);
-      softline_ = leads SoftLineOrNil _ _ (rw soft_lines (soft-line-is SoftLineOrNil LineOrNil _ (leads LineOrNil _ _ (rw lines (line-is LineOrNil Nil _ _ (leads HardLine _ _ (rw leaves refl) (rw leaves refl)) (leads Nil _ _ (rw leaves refl) (rw leaves refl)) refl)) (rw lines refl)) refl)) (rw soft_lines refl);
+      line = leads LineOrSpace _ _ (rw lines (line-is LineOrSpace Space _ _ (leads HardLine _ _ (rw leaves refl) (rw leaves refl))
+          (leads Space _ _ (rw leaves refl) (rw leaves refl)) refl)) (rw lines refl);
+      line_ = leads LineOrNil _ _ (rw lines
+          (line-is LineOrNil Nil _ _ (leads HardLine _ _ (rw leaves refl) (rw leaves refl))
+          (leads Nil _ _ (rw leaves refl) (rw leaves refl)) refl)) (rw lines refl);
+      softline = leads SoftLineOrSpace _ _
+          (rw soft_lines (soft-line-is SoftLineOrSpace LineOrSpace _
+          (leads LineOrSpace _ _ (rw lines (line-is LineOrSpace Space _ _ (leads HardLine _ _ (rw leaves refl) (rw leaves refl))
+          (leads Space _ _ (rw leaves refl) (rw leaves refl)) refl)) (rw lines refl)) refl)) (rw soft_lines refl);
+      softline_ = leads SoftLineOrNil _ _
+          (rw soft_lines (soft-line-is SoftLineOrNil LineOrNil _
+          (leads LineOrNil _ _ (rw lines
+          (line-is LineOrNil Nil _ _ (leads HardLine _ _ (rw leaves refl) (rw leaves refl))
+          (leads Nil _ _ (rw leaves refl) (rw leaves refl)) refl)) (rw lines refl)) refl)) (rw soft_lines refl);
     }
     in is-table h c.in_ok-table.ensures

@@ -8,7 +8,8 @@ pub returns-clause-begins : goal.returns-clause-begins
 returns-clause-begins g c =
     let f = g.N.Walk.tree in
     let start = c.new-4.result.start in
-    let n : drop start (trees f c.new-4.result.nodes.items) ≡ [] = ap (λ x. drop start (trees f x)) c.new-4.ensures ∙ drop_all start [] (omega arith) in
+    let n : drop start (trees f c.new-4.result.nodes.items) ≡ [] = ap (λ x. drop start (trees f x)) c.new-4.ensures
+    ∙ drop_all start [] (omega arith) in
     record {
       options = refl;
       tasks = c.in_ok-push.ensures.pushed ∙ ap (λ x. make_task 0 Break (f c.args.node) ∷ x) c.new.ensures.empty;

@@ -4,7 +4,8 @@ use Rattle.prettyless_printer.proofs.render.render.Goals as goal
 
 pub returns-in-Ok : goal.returns-in-Ok
 returns-in-Ok g c =
-    begun_renders (g.W.Render.document_errors c.run_in_gears-result.new.out) c.run_in_gears-result.new.refused c.run_in_gears-result.result c.in-Ok.ensures.begins c.run_in_gears-result.ensures.ends.1
+    begun_renders (g.W.Render.document_errors c.run_in_gears-result.new.out) c.run_in_gears-result.new.refused c.run_in_gears-result.result
+    c.in-Ok.ensures.begins c.run_in_gears-result.ensures.ends.1
     c.run_in_gears-result.ensures.rises c.run_in_gears-result.ensures.few
 
 -- the document is refused memory

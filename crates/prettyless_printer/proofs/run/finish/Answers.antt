@@ -1,6 +1,6 @@
 use Rattle.std.proofs.Common.{arith}
 use Rattle.std.proofs.lemmas.Result.{err_from_is_err_and}
-use Rattle.prettyless_printer.specs.declared.answer.Ran.TheVariants as ran
+use Rattle.prettyless_printer.specs.declared.answer.RunResult.TheVariants as run_result
 use Rattle.prettyless_printer.proofs.Shifts.{broke_anyhow, done_anyhow}
 use Rattle.prettyless_printer.proofs.run.finish.Goals as goal
 
@@ -8,7 +8,7 @@ use Rattle.prettyless_printer.proofs.run.finish.Goals as goal
 pub returns-clause-ends : goal.returns-clause-ends
 returns-clause-ends g c = λ a h.
     let fails = g.W.Render.document_errors c.go_on.new.out in
-    done_anyhow fails ran.Done tt ((rw c.in-Done.is at c.in_ok-go_on.ensures.runs) a h)
+    done_anyhow fails run_result.Finished tt ((rw c.in-Finished.is at c.in_ok-go_on.ensures.runs) a h)
 
 -- it broke off
 pub returns-in_err-go_on-clause-ends : goal.returns-in_err-go_on-clause-ends

@@ -20,7 +20,8 @@ returns-in-Err-write_gap_and_text-clause-flushes g c =
       stack = tt;
       state = tt;
       same_lender = c.write_gap_and_text.ensures.same_lender;
-      bytes = subst (λ text. Refuses (known old) (known new) text (failures old) (failures new)) (append-nil (spaces (gap c.args.printer.now.column))) (rw c.in-Ok.ensures.gap at c.in-Err-write_gap_and_text.ensures.err);
+      bytes = subst (λ text. Refuses (known old) (known new) text (failures old) (failures new))
+          (append-nil (spaces (gap c.args.printer.now.column))) (rw c.in-Ok.ensures.gap at c.in-Err-write_gap_and_text.ensures.err);
     }
 
 pub returns-in-Ok-write_gap_and_text-clause-flushes : goal.returns-in-Ok-write_gap_and_text-clause-flushes
@@ -35,8 +36,10 @@ returns-in-Ok-write_gap_and_text-clause-flushes g c =
     let put = tasks 0 Break (state_of f p).pending in
     record {
       options = c.in-Ok.ensures.options;
-      stack = c.in-Ok.ensures.stack ∙ ap (λ ts. put ++ ts) c.requires.none ∙ append-nil put ∙ ap (λ (x : State). tasks 0 Break x.pending) before;
+      stack = c.in-Ok.ensures.stack ∙ ap (λ ts. put ++ ts) c.requires.none ∙ append-nil put
+          ∙ ap (λ (x : State). tasks 0 Break x.pending) before;
       state = sym (state_stands f c.take_pending.new.printer) ∙ c.in-Ok.ensures.state ∙ ap (flushed p.options) before;
       same_lender = c.write_gap_and_text.ensures.same_lender;
-      bytes = subst (λ text. Accepts (known old) (known new) text (failures old) (failures new)) (append-nil (spaces (gap c.args.printer.now.column))) (rw c.in-Ok.ensures.gap at c.in-Ok-write_gap_and_text.ensures.ok);
+      bytes = subst (λ text. Accepts (known old) (known new) text (failures old) (failures new))
+          (append-nil (spaces (gap c.args.printer.now.column))) (rw c.in-Ok.ensures.gap at c.in-Ok-write_gap_and_text.ensures.ok);
     }

@@ -3,7 +3,8 @@ use Rattle.std.proofs.lemmas.List.{nil_from_length}
 use Rattle.std.proofs.lemmas.Result.{err_from_is_err_and}
 use Rattle.prettyless_printer.specs.Points.{buffer_seen, point, seen, standing}
 use Rattle.prettyless_printer.specs.Open.{all_held}
-use Rattle.prettyless_printer.proofs.Shifts.{came_alone, came_in_choice, choice_continues, choice_stopped, comes_in_choice, none_open, runs_then, some_open}
+use Rattle.prettyless_printer.proofs.Shifts.{came_alone, came_in_choice, choice_continues, choice_stopped, comes_in_choice, none_open}
+use Rattle.prettyless_printer.proofs.Shifts.{runs_then, some_open}
 use Rattle.prettyless_printer.specs.Spending.{left}
 use Rattle.prettyless_printer.proofs.OpenSpending.{spends_broke_as}
 use Rattle.prettyless_printer.proofs.RunSpending.{came_options, came_plain, seconds_none, spends_on_as}
@@ -18,7 +19,8 @@ returns-then-is_empty-clause-runs g c = λ a h.
     let here = point f c.args.printer.now (sink c.args.out.now) c.args.visits.now in
     let last = point f c.run_to_end.new.printer (sink c.run_to_end.new.out) c.run_to_end.new.visits in
     let none = ap (all_held f) (nil_from_length c.args.trials.now.open.items (c.is_empty.ensures.none c.if-is_empty.true)) in
-    runs_then fails c.args.limit a here last (all_held f c.run_to_end.new.trials.open.items) (buffer_seen c.run_to_end.new.buffer) c.run_to_end.result
+    runs_then fails c.args.limit a here last (all_held f c.run_to_end.new.trials.open.items) (buffer_seen c.run_to_end.new.buffer)
+    c.run_to_end.result
     (came_alone a here (all_held f c.args.trials.now.open.items) (buffer_seen c.args.buffer.now) none h) c.run_to_end.ensures.runs
 
 -- some are, in a choice
@@ -48,29 +50,31 @@ returns-in_err-go_on_choosing-clause-runs g c =
     (c.in_err-go_on_choosing.ensures.settles came.indent came.first came.second came.at came.choice)
 
 -- the choice is made
-pub run_to_end-requires-in-Done-clause-none : goal.run_to_end-requires-in-Done-clause-none
-run_to_end-requires-in-Done-clause-none g c =
+pub run_to_end-requires-in-Finished-clause-none : goal.run_to_end-requires-in-Finished-clause-none
+run_to_end-requires-in-Finished-clause-none g c =
     let f = g.N.Walk.tree in
     let us = c.args.trials.now.open.items in
     let here = point f c.args.printer.now (seen g.W.Render.bytes g.W.Render.failures g.W.Render.lender c.args.out.now) c.args.visits.now in
     let some = some_open f us (c.is_empty.ensures.some c.if-is_empty.false) in
     let came = came_in_choice c.requires.comes.0 here (all_held f us) (buffer_seen c.args.buffer.now) some c.requires.comes.1 in
-    none_open f c.go_on_choosing.new.trials.open.items ((rw c.in-Done.is at c.in_ok-go_on_choosing.ensures.settles) came.indent came.first came.second came.at came.choice).0
+    none_open f c.go_on_choosing.new.trials.open.items
+    ((rw c.in-Finished.is at c.in_ok-go_on_choosing.ensures.settles) came.indent came.first came.second came.at came.choice).0
 
-pub returns-in-Done-clause-runs : goal.returns-in-Done-clause-runs
-returns-in-Done-clause-runs g c = λ a h.
+pub returns-in-Finished-clause-runs : goal.returns-in-Finished-clause-runs
+returns-in-Finished-clause-runs g c = λ a h.
     let f = g.N.Walk.tree in
     let us = c.args.trials.now.open.items in
     let sink = seen g.W.Render.bytes g.W.Render.failures g.W.Render.lender in
-    let fails = g.W.Render.document_errors c.run_to_end-in-Done.new.out in
+    let fails = g.W.Render.document_errors c.run_to_end-in-Finished.new.out in
     let here = point f c.args.printer.now (sink c.args.out.now) c.args.visits.now in
     let next = point f c.go_on_choosing.new.printer (sink c.go_on_choosing.new.out) c.go_on_choosing.new.visits in
-    let last = point f c.run_to_end-in-Done.new.printer (sink c.run_to_end-in-Done.new.out) c.run_to_end-in-Done.new.visits in
+    let last = point f c.run_to_end-in-Finished.new.printer (sink c.run_to_end-in-Finished.new.out) c.run_to_end-in-Finished.new.visits in
     let some = some_open f us (c.is_empty.ensures.some c.if-is_empty.false) in
     let came = came_in_choice a here (all_held f us) (buffer_seen c.args.buffer.now) some h in
-    let settled = (rw c.in-Done.is at c.in_ok-go_on_choosing.ensures.settles) came.indent came.first came.second came.at came.choice in
-    runs_then fails c.args.limit a next last (all_held f c.run_to_end-in-Done.new.trials.open.items) (buffer_seen c.run_to_end-in-Done.new.buffer) c.run_to_end-in-Done.result
-    (choice_continues came.indent came.first came.second came.continues came.waiting settled.1) c.run_to_end-in-Done.ensures.runs
+    let settled = (rw c.in-Finished.is at c.in_ok-go_on_choosing.ensures.settles) came.indent came.first came.second came.at came.choice in
+    runs_then fails c.args.limit a next last (all_held f c.run_to_end-in-Finished.new.trials.open.items)
+    (buffer_seen c.run_to_end-in-Finished.new.buffer) c.run_to_end-in-Finished.result
+    (choice_continues came.indent came.first came.second came.continues came.waiting settled.1) c.run_to_end-in-Finished.ensures.runs
 
 -- it stops in the choice again
 pub returns-in-Shift-clause-runs : goal.returns-in-Shift-clause-runs
@@ -84,7 +88,8 @@ returns-in-Shift-clause-runs g c = λ a h.
     let came = came_in_choice a here (all_held f us) (buffer_seen c.args.buffer.now) some h in
     let settled = (rw c.in-Shift.is at c.in_ok-go_on_choosing.ensures.settles) came.indent came.first came.second came.at came.choice in
     record {
-      comes = comes_in_choice a came.c came.at next (all_held f c.go_on_choosing.new.trials.open.items) (buffer_seen c.go_on_choosing.new.buffer) came.indent came.first came.second came.continues came.waiting settled.0;
+      comes = comes_in_choice a came.c came.at next (all_held f c.go_on_choosing.new.trials.open.items)
+          (buffer_seen c.go_on_choosing.new.buffer) came.indent came.first came.second came.continues came.waiting settled.0;
       past = settled.1;
     }
 
@@ -96,7 +101,8 @@ returns-in_err-go_on_choosing-clause-spends g c = λ a h plain.
     let here = point f c.args.printer.now (seen g.W.Render.bytes g.W.Render.failures g.W.Render.lender c.args.out.now) c.args.visits.now in
     let some = some_open f us (c.is_empty.ensures.some c.if-is_empty.false) in
     let came = came_in_choice a here (all_held f us) (buffer_seen c.args.buffer.now) some h in
-    spends_broke_as (left (standing f c.go_on_choosing.new.printer) _ c.go_on_choosing.new.visits) c.from_residual.result c.from_residual.ensures.0
+    spends_broke_as (left (standing f c.go_on_choosing.new.printer) _ c.go_on_choosing.new.visits) c.from_residual.result
+    c.from_residual.ensures.0
     (c.in_err-go_on_choosing.ensures.spends came.indent came.first came.second came.at came.choice (came_plain came plain))
 
 pub returns-in-Shift-clause-spends : goal.returns-in-Shift-clause-spends
@@ -108,15 +114,16 @@ returns-in-Shift-clause-spends g c = λ a h plain.
     let came = came_in_choice a here (all_held f us) (buffer_seen c.args.buffer.now) some h in
     c.in_ok-go_on_choosing.ensures.spends came.indent came.first came.second came.at came.choice (came_plain came plain)
 
-pub returns-in-Done-clause-spends : goal.returns-in-Done-clause-spends
-returns-in-Done-clause-spends g c = λ a h plain.
+pub returns-in-Finished-clause-spends : goal.returns-in-Finished-clause-spends
+returns-in-Finished-clause-spends g c = λ a h plain.
     let f = g.N.Walk.tree in
     let us = c.args.trials.now.open.items in
     let here = point f c.args.printer.now (seen g.W.Render.bytes g.W.Render.failures g.W.Render.lender c.args.out.now) c.args.visits.now in
     let some = some_open f us (c.is_empty.ensures.some c.if-is_empty.false) in
     let came = came_in_choice a here (all_held f us) (buffer_seen c.args.buffer.now) some h in
-    let settled = (rw c.in-Done.is at c.in_ok-go_on_choosing.ensures.settles) came.indent came.first came.second came.at came.choice in
+    let settled = (rw c.in-Finished.is at c.in_ok-go_on_choosing.ensures.settles) came.indent came.first came.second came.at came.choice in
     let continues = choice_continues came.indent came.first came.second came.continues came.waiting settled.1 in
-    spends_on_as _ c.run_to_end-in-Done.result (came_options came settled.1)
-    (seconds_none (standing f c.go_on_choosing.new.printer) _ c.go_on_choosing.new.visits settled.0 (c.in_ok-go_on_choosing.ensures.spends came.indent came.first came.second came.at came.choice (came_plain came plain)))
-    (c.run_to_end-in-Done.ensures.spends (continues.at_most plain).0)
+    spends_on_as _ c.run_to_end-in-Finished.result (came_options came settled.1)
+    (seconds_none (standing f c.go_on_choosing.new.printer) _ c.go_on_choosing.new.visits settled.0
+    (c.in_ok-go_on_choosing.ensures.spends came.indent came.first came.second came.at came.choice (came_plain came plain)))
+    (c.run_to_end-in-Finished.ensures.spends (continues.at_most plain).0)

@@ -3,9 +3,10 @@ use Rattle.std.proofs.lemmas.Result.{err_from_is_err_and}
 use Rattle.prettyless_step.proofs.Queues.{length_some, length_none}
 use Rattle.prettyless_printer.specs.Points.{buffer_seen, point, seen, standing, state_at}
 use Rattle.prettyless_printer.specs.Open.{all_held}
-use Rattle.prettyless_printer.specs.declared.answer.Ran.TheVariants as ran
+use Rattle.prettyless_printer.specs.declared.answer.RunResult.TheVariants as run_result
 use Rattle.prettyless_printer.proofs.Standings.{waits_there}
-use Rattle.prettyless_printer.proofs.Shifts.{continues_same, continues_then, continues_to_end, none_open, stops_then, round_continues, round_lessens, round_stopped, work_ends, work_stopped}
+use Rattle.prettyless_printer.proofs.Shifts.{continues_same, continues_then, continues_to_end, none_open, stops_then, round_continues}
+use Rattle.prettyless_printer.proofs.Shifts.{round_lessens, round_stopped, work_ends, work_stopped}
 use Rattle.prettyless_printer.specs.Spending.{left}
 use Rattle.prettyless_printer.proofs.Spending.{spends_same}
 use Rattle.prettyless_printer.proofs.OpenSpending.{spends_broke_as}
@@ -14,7 +15,8 @@ use Rattle.prettyless_printer.proofs.run.run_to_end.Goals as goal
 
 pub rounds-init : goal.rounds-init
 rounds-init g c = record {
-  continues = continues_same (point g.N.Walk.tree c.args.printer.now (seen g.W.Render.bytes g.W.Render.failures g.W.Render.lender c.args.out.now) c.args.visits.now);
+  continues = continues_same (point g.N.Walk.tree c.args.printer.now
+      (seen g.W.Render.bytes g.W.Render.failures g.W.Render.lender c.args.out.now) c.args.visits.now);
   none = c.requires.none;
   spends = λ plain. spends_same _ _;
   summed = c.requires.summed;
@@ -36,61 +38,80 @@ returns-in-Shift-clause-runs g c =
     let start = point f c.args.printer.now (sink c.args.out.now) c.args.visits.now in
     let here = point f c.rounds.printer (sink c.rounds.out) c.rounds.visits in
     let next = point f c.work_off.new.printer (sink c.work_off.new.out) c.work_off.new.visits in
-    stops_then c.args.limit start here next (all_held f c.work_off.new.trials.open.items) (buffer_seen c.work_off.new.buffer) c.rounds.invariant.continues (rw c.in-Shift.is at c.in_ok-work_off.ensures.works)
+    stops_then c.args.limit start here next (all_held f c.work_off.new.trials.open.items) (buffer_seen c.work_off.new.buffer)
+    c.rounds.invariant.continues (rw c.in-Shift.is at c.in_ok-work_off.ensures.works)
 
 -- nothing waits
 pub returns-then-not-is_pending-clause-runs : goal.returns-then-not-is_pending-clause-runs
 returns-then-not-is_pending-clause-runs g c =
     let f = g.N.Walk.tree in
     let fails = g.W.Render.document_errors c.work_off.new.out in
-    let none = length_none (state_at (standing f c.work_off.new.printer)).pending (sym (waits_there f c.work_off.new.printer) ∙ sym c.is_pending.ensures ∙ c.if-not-is_pending.true) in
-    continues_to_end fails _ c.rounds.invariant.continues (work_ends fails ran.Done ran.Done ((rw c.in-Done.is at c.in_ok-work_off.ensures.works).1) none)
+    let none = length_none (state_at (standing f c.work_off.new.printer)).pending
+    (sym (waits_there f c.work_off.new.printer) ∙ sym c.is_pending.ensures ∙ c.if-not-is_pending.true) in
+    continues_to_end fails _ c.rounds.invariant.continues
+    (work_ends fails run_result.Finished run_result.Finished ((rw c.in-Finished.is at c.in_ok-work_off.ensures.works).1) none)
 
 -- what waits is laid next
 pub rounds-smaller : goal.rounds-smaller
 rounds-smaller g c =
     let f = g.N.Walk.tree in
     let fails = g.W.Render.document_errors c.work_off.new.out in
-    let some = length_some (state_at (standing f c.work_off.new.printer)).pending (sym (waits_there f c.work_off.new.printer) ∙ sym c.is_pending.ensures ∙ c.if-not-is_pending.false) in
-    round_lessens fails ran.Done tt ((rw c.in-Done.is at c.in_ok-work_off.ensures.works).1) c.in_ok-flush_end-in-Done.ensures.flushes some
+    let some = length_some (state_at (standing f c.work_off.new.printer)).pending
+    (sym (waits_there f c.work_off.new.printer) ∙ sym c.is_pending.ensures ∙ c.if-not-is_pending.false) in
+    round_lessens fails run_result.Finished tt ((rw c.in-Finished.is at c.in_ok-work_off.ensures.works).1)
+    c.in_ok-flush_end-in-Finished.ensures.flushes some
 
 pub rounds-preserved : goal.rounds-preserved
 rounds-preserved g c =
     let f = g.N.Walk.tree in
     let fails = g.W.Render.document_errors c.work_off.new.out in
-    let some = length_some (state_at (standing f c.work_off.new.printer)).pending (sym (waits_there f c.work_off.new.printer) ∙ sym c.is_pending.ensures ∙ c.if-not-is_pending.false) in
+    let some = length_some (state_at (standing f c.work_off.new.printer)).pending
+    (sym (waits_there f c.work_off.new.printer) ∙ sym c.is_pending.ensures ∙ c.if-not-is_pending.false) in
     record {
-      continues = continues_then c.rounds.invariant.continues (round_continues fails ran.Done tt ((rw c.in-Done.is at c.in_ok-work_off.ensures.works).1) c.in_ok-flush_end-in-Done.ensures.flushes some);
-      none = none_open f c.work_off.new.trials.open.items (rw c.in-Done.is at c.in_ok-work_off.ensures.works).0;
-      spends = λ plain. absurd (nothing_pending fails ran.Done c.rounds.invariant.continues plain ((rw c.in-Done.is at c.in_ok-work_off.ensures.works).1) some);
-      summed = c.in_ok-flush_end-in-Done.ensures.summed;
+      continues = continues_then c.rounds.invariant.continues
+          (round_continues fails run_result.Finished tt ((rw c.in-Finished.is at c.in_ok-work_off.ensures.works).1)
+          c.in_ok-flush_end-in-Finished.ensures.flushes some);
+      none = none_open f c.work_off.new.trials.open.items (rw c.in-Finished.is at c.in_ok-work_off.ensures.works).0;
+      spends = λ plain. absurd (nothing_pending fails run_result.Finished c.rounds.invariant.continues plain
+          ((rw c.in-Finished.is at c.in_ok-work_off.ensures.works).1) some);
+      summed = c.in_ok-flush_end-in-Finished.ensures.summed;
     }
 
 -- its gap broke off
-pub returns-in_err-flush_end-in-Done-clause-runs : goal.returns-in_err-flush_end-in-Done-clause-runs
-returns-in_err-flush_end-in-Done-clause-runs g c =
-    let residual = err_from_is_err_and c.from_residual-in_err-flush_end-in-Done.result c.from_residual-in_err-flush_end-in-Done.ensures.1 in
+pub returns-in_err-flush_end-in-Finished-clause-runs : goal.returns-in_err-flush_end-in-Finished-clause-runs
+returns-in_err-flush_end-in-Finished-clause-runs g c =
+    let residual = err_from_is_err_and c.from_residual-in_err-flush_end-in-Finished.result
+    c.from_residual-in_err-flush_end-in-Finished.ensures.1 in
     rw (residual.1, residual.2)
     let f = g.N.Walk.tree in
     let fails = g.W.Render.document_errors c.flush_end.new.out in
-    let some = length_some (state_at (standing f c.work_off.new.printer)).pending (sym (waits_there f c.work_off.new.printer) ∙ sym c.is_pending.ensures ∙ c.if-not-is_pending.false) in
-    continues_to_end fails _ c.rounds.invariant.continues (round_stopped fails (g.W.Render.document_errors c.work_off.new.out) ran.Done _ ((rw c.in-Done.is at c.in_ok-work_off.ensures.works).1) c.in_err-flush_end-in-Done.ensures.flushes some)
+    let some = length_some (state_at (standing f c.work_off.new.printer)).pending
+    (sym (waits_there f c.work_off.new.printer) ∙ sym c.is_pending.ensures ∙ c.if-not-is_pending.false) in
+    continues_to_end fails _ c.rounds.invariant.continues
+    (round_stopped fails (g.W.Render.document_errors c.work_off.new.out) run_result.Finished _
+    ((rw c.in-Finished.is at c.in_ok-work_off.ensures.works).1) c.in_err-flush_end-in-Finished.ensures.flushes some)
 
 -- what is left where it ends
 pub returns-in_err-work_off-clause-spends : goal.returns-in_err-work_off-clause-spends
 returns-in_err-work_off-clause-spends g c = λ plain.
-    spends_broke_as (left (standing g.N.Walk.tree c.work_off.new.printer) _ c.work_off.new.visits) c.from_residual.result c.from_residual.ensures.0
-    (spends_on c.rounds.invariant.continues.options (c.rounds.invariant.spends plain) (c.in_err-work_off.ensures.spends (c.rounds.invariant.continues.at_most plain).0))
+    spends_broke_as (left (standing g.N.Walk.tree c.work_off.new.printer) _ c.work_off.new.visits) c.from_residual.result
+    c.from_residual.ensures.0
+    (spends_on c.rounds.invariant.continues.options (c.rounds.invariant.spends plain)
+    (c.in_err-work_off.ensures.spends (c.rounds.invariant.continues.at_most plain).0))
 
 pub returns-in-Shift-clause-spends : goal.returns-in-Shift-clause-spends
-returns-in-Shift-clause-spends g c = λ plain. spends_on c.rounds.invariant.continues.options (c.rounds.invariant.spends plain) (c.in_ok-work_off.ensures.spends (c.rounds.invariant.continues.at_most plain).0)
+returns-in-Shift-clause-spends g c = λ plain. spends_on c.rounds.invariant.continues.options (c.rounds.invariant.spends plain)
+    (c.in_ok-work_off.ensures.spends (c.rounds.invariant.continues.at_most plain).0)
 
 pub returns-then-not-is_pending-clause-spends : goal.returns-then-not-is_pending-clause-spends
-returns-then-not-is_pending-clause-spends g c = λ plain. spends_on c.rounds.invariant.continues.options (c.rounds.invariant.spends plain) (c.in_ok-work_off.ensures.spends (c.rounds.invariant.continues.at_most plain).0)
+returns-then-not-is_pending-clause-spends g c = λ plain. spends_on c.rounds.invariant.continues.options (c.rounds.invariant.spends plain)
+    (c.in_ok-work_off.ensures.spends (c.rounds.invariant.continues.at_most plain).0)
 
-pub returns-in_err-flush_end-in-Done-clause-spends : goal.returns-in_err-flush_end-in-Done-clause-spends
-returns-in_err-flush_end-in-Done-clause-spends g c = λ plain.
+pub returns-in_err-flush_end-in-Finished-clause-spends : goal.returns-in_err-flush_end-in-Finished-clause-spends
+returns-in_err-flush_end-in-Finished-clause-spends g c = λ plain.
     let f = g.N.Walk.tree in
     let fails = g.W.Render.document_errors c.work_off.new.out in
-    let some = length_some (state_at (standing f c.work_off.new.printer)).pending (sym (waits_there f c.work_off.new.printer) ∙ sym c.is_pending.ensures ∙ c.if-not-is_pending.false) in
-    absurd (nothing_pending fails ran.Done c.rounds.invariant.continues plain ((rw c.in-Done.is at c.in_ok-work_off.ensures.works).1) some)
+    let some = length_some (state_at (standing f c.work_off.new.printer)).pending
+    (sym (waits_there f c.work_off.new.printer) ∙ sym c.is_pending.ensures ∙ c.if-not-is_pending.false) in
+    absurd (nothing_pending fails run_result.Finished c.rounds.invariant.continues plain
+    ((rw c.in-Finished.is at c.in_ok-work_off.ensures.works).1) some)

@@ -1,9 +1,10 @@
 use Rattle.std.proofs.Common.{◌<◌, ◌≤◌, length, ap, arith}
 use Rattle.std.proofs.lemmas.Result.{err_from_is_err_and}
 use Rattle.prettyless_step.specs.Printing.{tasks_of}
-use Rattle.prettyless_printer.specs.declared.answer.Ran.TheVariants as ran
+use Rattle.prettyless_printer.specs.declared.answer.RunResult.TheVariants as run_result
 use Rattle.prettyless_printer.specs.Points.{buffer_seen, point, seen, standing}
-use Rattle.prettyless_printer.proofs.PathSteps.{run_begins, run_ends, run_broke_off, goes_on, stops, comes_to_wait, breaks_off, fails_there, broke_anyhow}
+use Rattle.prettyless_printer.proofs.PathSteps.{run_begins, run_ends, run_broke_off, goes_on, stops, comes_to_wait, breaks_off, fails_there}
+use Rattle.prettyless_printer.proofs.PathSteps.{broke_anyhow}
 use Rattle.prettyless_printer.specs.Open.{all_held}
 use Rattle.prettyless_printer.specs.Paths.{run_of}
 use Rattle.prettyless_printer.proofs.Shifts.{comes_alone, comes_in_choice, continues_same, none_open, path_continues}
@@ -15,18 +16,20 @@ use Rattle.prettyless_printer.proofs.run.work_off.Goals as goal
 
 pub work-init : goal.work-init
 work-init g c =
-    let a = point g.N.Walk.tree c.args.printer.now (seen g.W.Render.bytes g.W.Render.failures g.W.Render.lender c.args.out.now) c.args.visits.now in
+    let a = point g.N.Walk.tree c.args.printer.now (seen g.W.Render.bytes g.W.Render.failures g.W.Render.lender c.args.out.now)
+    c.args.visits.now in
     record { path = run_begins a; none = c.requires.none; spends = λ plain. spends_same _ _; summed = c.requires.summed }
 
-pub work-preserved-in-Went : goal.work-preserved-in-Went
-work-preserved-in-Went g c =
+pub work-preserved-in-Complete : goal.work-preserved-in-Complete
+work-preserved-in-Complete g c =
     let f = g.N.Walk.tree in
     let v = c.work.printer in
     let l : 0 < length (tasks_of f v) = omega (arith, c.work-test.true, c.len.ensures) in
-    let turned = rw c.in-Went.is at c.in_ok-turn.ensures.advances in
+    let turned = rw c.in-Complete.is at c.in_ok-turn.ensures.advances in
     record {
       path = goes_on f c.work.invariant.path l turned;
-      spends = λ plain. path_spends c.work.invariant.path plain (c.work.invariant.spends plain) (rw c.in-Went.is at c.in_ok-turn.ensures.spends);
+      spends = λ plain. path_spends c.work.invariant.path plain (c.work.invariant.spends plain)
+          (rw c.in-Complete.is at c.in_ok-turn.ensures.spends);
       none = c.work.invariant.none;
       summed = c.in_ok-turn.ensures.summed;
     }
@@ -38,17 +41,18 @@ work-preserved g c =
     let l : 0 < length (tasks_of f v) = omega (arith, c.work-test.true, c.len.ensures) in
     let sink = seen g.W.Render.bytes g.W.Render.failures g.W.Render.lender in
     let start = point f c.args.printer.now (sink c.args.out.now) c.args.visits.now in
-    let turned = rw c.in-Chosen.is at c.in_ok-turn.ensures.advances in
-    let waiting = comes_to_wait f c.in-Chosen.indent c.in-Chosen.first c.in-Chosen.second c.work.invariant.path l turned (omega arith) in
-    let settled = rw c.in-Done.is at c.in_ok-choose-in-Chosen.ensures.settles in
+    let turned = rw c.in-Choice.is at c.in_ok-turn.ensures.advances in
+    let waiting = comes_to_wait f c.in-Choice.indent c.in-Choice.first c.in-Choice.second c.work.invariant.path l turned (omega arith) in
+    let settled = rw c.in-Finished.is at c.in_ok-choose-in-Choice.ensures.settles in
     record {
       path = settled.1.runs (run_of start) waiting;
       spends = λ plain.
           seconds_none (standing f c.choose.new.printer) _ c.choose.new.visits settled.0
           (waiting_spends waiting plain
-          (path_spends c.work.invariant.path plain (c.work.invariant.spends plain) (rw c.in-Chosen.is at c.in_ok-turn.ensures.spends)) c.in_ok-choose-in-Chosen.ensures.spends);
+          (path_spends c.work.invariant.path plain (c.work.invariant.spends plain) (rw c.in-Choice.is at c.in_ok-turn.ensures.spends))
+          c.in_ok-choose-in-Choice.ensures.spends);
       none = none_open f c.choose.new.trials.open.items settled.0;
-      summed = c.in_ok-choose-in-Chosen.ensures.summed;
+      summed = c.in_ok-choose-in-Choice.ensures.summed;
     }
 
 -- it stops before a node
@@ -62,7 +66,8 @@ returns-in-Shift-clause-works g c =
     let next = point f c.turn.new.printer (sink c.turn.new.out) c.turn.new.visits in
     let turned = rw c.in-Shift.is at c.in_ok-turn.ensures.advances in
     record {
-      comes = comes_alone start next (all_held f c.work.trials.open.items) (buffer_seen c.work.buffer) (ap (all_held f) c.work.invariant.none) (path_continues (stops f c.work.invariant.path l turned));
+      comes = comes_alone start next (all_held f c.work.trials.open.items) (buffer_seen c.work.buffer)
+          (ap (all_held f) c.work.invariant.none) (path_continues (stops f c.work.invariant.path l turned));
       past = rw c.in-Shift.is at c.in_ok-turn.ensures.past;
     }
 
@@ -72,7 +77,8 @@ returns-in-Failed-clause-works g c =
     let v = c.work.printer in
     let fails = g.W.Render.document_errors c.turn.new.out in
     let l : 0 < length (tasks_of f v) = omega (arith, c.work-test.true, c.len.ensures) in
-    run_broke_off fails _ (fails_there f fails c.fail_doc.result c.work.invariant.path l (rw c.in-Failed.is at c.in_ok-turn.ensures.advances) c.fail_doc.ensures)
+    run_broke_off fails _ (fails_there f fails c.fail_doc.result c.work.invariant.path l
+    (rw c.in-Failed.is at c.in_ok-turn.ensures.advances) c.fail_doc.ensures)
 
 pub returns-in_err-turn-clause-works : goal.returns-in_err-turn-clause-works
 returns-in_err-turn-clause-works g c =
@@ -82,27 +88,31 @@ returns-in_err-turn-clause-works g c =
     let v = c.work.printer in
     let fails = g.W.Render.document_errors c.turn.new.out in
     let l : 0 < length (tasks_of f v) = omega (arith, c.work-test.true, c.len.ensures) in
-    run_broke_off fails c.in_err-turn.field-0.0 (breaks_off f fails c.in_err-turn.field-0.0 c.work.invariant.path l c.in_err-turn.ensures.advances)
+    run_broke_off fails c.in_err-turn.field-0.0
+    (breaks_off f fails c.in_err-turn.field-0.0 c.work.invariant.path l c.in_err-turn.ensures.advances)
 
-pub returns-in_err-choose-in-Chosen-clause-works : goal.returns-in_err-choose-in-Chosen-clause-works
-returns-in_err-choose-in-Chosen-clause-works g c =
-    let residual = err_from_is_err_and c.from_residual-in_err-choose-in-Chosen.result c.from_residual-in_err-choose-in-Chosen.ensures.1 in
+pub returns-in_err-choose-in-Choice-clause-works : goal.returns-in_err-choose-in-Choice-clause-works
+returns-in_err-choose-in-Choice-clause-works g c =
+    let residual = err_from_is_err_and c.from_residual-in_err-choose-in-Choice.result c.from_residual-in_err-choose-in-Choice.ensures.1 in
     rw (residual.1, residual.2)
     let f = g.N.Walk.tree in
     let v = c.work.printer in
     let fails = g.W.Render.document_errors c.choose.new.out in
-    let e = c.in_err-choose-in-Chosen.field-0.0 in
+    let e = c.in_err-choose-in-Choice.field-0.0 in
     let l : 0 < length (tasks_of f v) = omega (arith, c.work-test.true, c.len.ensures) in
-    let waiting = comes_to_wait f c.in-Chosen.indent c.in-Chosen.first c.in-Chosen.second c.work.invariant.path l (rw c.in-Chosen.is at c.in_ok-turn.ensures.advances) (omega arith) in
+    let waiting = comes_to_wait f c.in-Choice.indent c.in-Choice.first c.in-Choice.second c.work.invariant.path l
+    (rw c.in-Choice.is at c.in_ok-turn.ensures.advances) (omega arith) in
     run_broke_off fails e
-    (broke_anyhow fails e (c.in_err-choose-in-Chosen.ensures.settles.runs (run_of (point f c.args.printer.now (seen g.W.Render.bytes g.W.Render.failures g.W.Render.lender c.args.out.now) c.args.visits.now)) waiting))
+    (broke_anyhow fails e (c.in_err-choose-in-Choice.ensures.settles.runs
+    (run_of (point f c.args.printer.now (seen g.W.Render.bytes g.W.Render.failures g.W.Render.lender c.args.out.now) c.args.visits.now))
+    waiting))
 
 pub returns-clause-works : goal.returns-clause-works
 returns-clause-works g c =
     let f = g.N.Walk.tree in
     let q = c.work.printer in
     let l : length (tasks_of f q) ≤ 0 = omega (arith, c.work-test.false, c.len.ensures) in
-    (ap (all_held f) c.work.invariant.none, run_ends (g.W.Render.document_errors c.work.out) ran.Done c.work.invariant.path l)
+    (ap (all_held f) c.work.invariant.none, run_ends (g.W.Render.document_errors c.work.out) run_result.Finished c.work.invariant.path l)
 
 -- it stops in a choice
 pub returns-in-Shift-2-clause-works : goal.returns-in-Shift-2-clause-works
@@ -114,42 +124,53 @@ returns-in-Shift-2-clause-works g c =
     let start = point f c.args.printer.now (sink c.args.out.now) c.args.visits.now in
     let at = point f c.turn.new.printer (sink c.turn.new.out) c.turn.new.visits in
     let next = point f c.choose.new.printer (sink c.choose.new.out) c.choose.new.visits in
-    let waiting = comes_to_wait f c.in-Chosen.indent c.in-Chosen.first c.in-Chosen.second c.work.invariant.path l (rw c.in-Chosen.is at c.in_ok-turn.ensures.advances) (omega arith) in
-    let settled = rw c.in-Shift-2.is at c.in_ok-choose-in-Chosen.ensures.settles in
+    let waiting = comes_to_wait f c.in-Choice.indent c.in-Choice.first c.in-Choice.second c.work.invariant.path l
+    (rw c.in-Choice.is at c.in_ok-turn.ensures.advances) (omega arith) in
+    let settled = rw c.in-Shift-2.is at c.in_ok-choose-in-Choice.ensures.settles in
     record {
-      comes = comes_in_choice start start at next (all_held f c.choose.new.trials.open.items) (buffer_seen c.choose.new.buffer) c.in-Chosen.indent (f c.in-Chosen.first) (f c.in-Chosen.second) (continues_same start) waiting settled.0;
+      comes = comes_in_choice start start at next (all_held f c.choose.new.trials.open.items) (buffer_seen c.choose.new.buffer)
+          c.in-Choice.indent (f c.in-Choice.first) (f c.in-Choice.second) (continues_same start) waiting settled.0;
       past = settled.1;
     }
 
 -- what is left where it ends
 pub returns-in_err-turn-clause-spends : goal.returns-in_err-turn-clause-spends
 returns-in_err-turn-clause-spends g c = λ plain.
-    spends_broke_as (left (standing g.N.Walk.tree c.turn.new.printer) _ c.turn.new.visits) c.from_residual.result c.from_residual.ensures.0 (path_spends c.work.invariant.path plain (c.work.invariant.spends plain) c.in_err-turn.ensures.spends)
+    spends_broke_as (left (standing g.N.Walk.tree c.turn.new.printer) _ c.turn.new.visits) c.from_residual.result c.from_residual.ensures.0
+    (path_spends c.work.invariant.path plain (c.work.invariant.spends plain) c.in_err-turn.ensures.spends)
 
 pub returns-in-Failed-clause-spends : goal.returns-in-Failed-clause-spends
-returns-in-Failed-clause-spends g c = λ plain. spends_all (path_spends c.work.invariant.path plain (c.work.invariant.spends plain) (rw c.in-Failed.is at c.in_ok-turn.ensures.spends))
+returns-in-Failed-clause-spends g c =
+    λ plain. spends_all (path_spends c.work.invariant.path plain (c.work.invariant.spends plain)
+    (rw c.in-Failed.is at c.in_ok-turn.ensures.spends))
 
 pub returns-in-Shift-clause-spends : goal.returns-in-Shift-clause-spends
 returns-in-Shift-clause-spends g c = λ plain.
     none_seconds (standing g.N.Walk.tree c.turn.new.printer) _ c.turn.new.visits (ap (all_held g.N.Walk.tree) c.work.invariant.none)
     (path_spends c.work.invariant.path plain (c.work.invariant.spends plain) (rw c.in-Shift.is at c.in_ok-turn.ensures.spends))
 
-pub returns-in_err-choose-in-Chosen-clause-spends : goal.returns-in_err-choose-in-Chosen-clause-spends
-returns-in_err-choose-in-Chosen-clause-spends g c = λ plain.
+pub returns-in_err-choose-in-Choice-clause-spends : goal.returns-in_err-choose-in-Choice-clause-spends
+returns-in_err-choose-in-Choice-clause-spends g c = λ plain.
     let f = g.N.Walk.tree in
     let l : 0 < length (tasks_of f c.work.printer) = omega (arith, c.work-test.true, c.len.ensures) in
-    let waiting = comes_to_wait f c.in-Chosen.indent c.in-Chosen.first c.in-Chosen.second c.work.invariant.path l (rw c.in-Chosen.is at c.in_ok-turn.ensures.advances) (omega arith) in
-    spends_broke_as (left (standing f c.choose.new.printer) _ c.choose.new.visits) c.from_residual-in_err-choose-in-Chosen.result c.from_residual-in_err-choose-in-Chosen.ensures.0
+    let waiting = comes_to_wait f c.in-Choice.indent c.in-Choice.first c.in-Choice.second c.work.invariant.path l
+    (rw c.in-Choice.is at c.in_ok-turn.ensures.advances) (omega arith) in
+    spends_broke_as (left (standing f c.choose.new.printer) _ c.choose.new.visits) c.from_residual-in_err-choose-in-Choice.result
+    c.from_residual-in_err-choose-in-Choice.ensures.0
     (waiting_spends waiting plain
-    (path_spends c.work.invariant.path plain (c.work.invariant.spends plain) (rw c.in-Chosen.is at c.in_ok-turn.ensures.spends)) c.in_err-choose-in-Chosen.ensures.spends)
+    (path_spends c.work.invariant.path plain (c.work.invariant.spends plain) (rw c.in-Choice.is at c.in_ok-turn.ensures.spends))
+    c.in_err-choose-in-Choice.ensures.spends)
 
 pub returns-in-Shift-2-clause-spends : goal.returns-in-Shift-2-clause-spends
 returns-in-Shift-2-clause-spends g c = λ plain.
     let f = g.N.Walk.tree in
     let l : 0 < length (tasks_of f c.work.printer) = omega (arith, c.work-test.true, c.len.ensures) in
-    let waiting = comes_to_wait f c.in-Chosen.indent c.in-Chosen.first c.in-Chosen.second c.work.invariant.path l (rw c.in-Chosen.is at c.in_ok-turn.ensures.advances) (omega arith) in
+    let waiting = comes_to_wait f c.in-Choice.indent c.in-Choice.first c.in-Choice.second c.work.invariant.path l
+    (rw c.in-Choice.is at c.in_ok-turn.ensures.advances) (omega arith) in
     waiting_spends waiting plain
-    (path_spends c.work.invariant.path plain (c.work.invariant.spends plain) (rw c.in-Chosen.is at c.in_ok-turn.ensures.spends)) c.in_ok-choose-in-Chosen.ensures.spends
+    (path_spends c.work.invariant.path plain (c.work.invariant.spends plain) (rw c.in-Choice.is at c.in_ok-turn.ensures.spends))
+    c.in_ok-choose-in-Choice.ensures.spends
 
 pub returns-clause-spends : goal.returns-clause-spends
-returns-clause-spends g c = λ plain. none_seconds (standing g.N.Walk.tree c.work.printer) _ c.work.visits (ap (all_held g.N.Walk.tree) c.work.invariant.none) (c.work.invariant.spends plain)
+returns-clause-spends g c = λ plain. none_seconds (standing g.N.Walk.tree c.work.printer) _ c.work.visits
+    (ap (all_held g.N.Walk.tree) c.work.invariant.none) (c.work.invariant.spends plain)

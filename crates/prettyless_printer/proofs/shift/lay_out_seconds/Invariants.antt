@@ -1,7 +1,6 @@
-use Rattle.std.proofs.Common.{◌+◌, ◌-◌, ◌≤◌, drop, length}
-use Rattle.std.specs.List.{sum_by}
-use Rattle.prettyless_model.specs.Tree.{size}
-use Rattle.prettyless_table.specs.Cells.{Grows}
+use Rattle.std.proofs.Common.{◌≡◌, ◌+◌, ◌-◌, ◌≤◌, drop, length}
+use Rattle.prettyless_table.specs.Cells.{CellsGrow}
+use Rattle.prettyless_table.specs.Owners.{Stand}
 use Rattle.prettyless_table.proofs.Shifting.{FirstNodes}
 use Rattle.prettyless_printer.specs.Open.{all_held, seconds}
 use Rattle.prettyless_printer.proofs.shift.lay_out_seconds.Given as goal
@@ -12,9 +11,10 @@ invariant-trials g l =
     let all = l.trials.open.items in
     record {
       within : l.k ≤ length all;
-      count : length l.table.cells.items + sum_by size (seconds (all_held f (drop l.k all))) ≤ length l.fn.table.cells.items + sum_by size (seconds (all_held f all));
-      grows : Grows f l.fn.table.cells.items l.table.cells.items;
+      count : length l.table.cells.items ≡ length l.fn.table.cells.items + l.k;
+      grows : CellsGrow f l.fn.table.cells.items l.table.cells.items;
       first : FirstNodes f l.table.cells.items l.places.items (seconds (all_held f (drop l.k all))) (seconds (all_held f all));
+      stand : Stand l.table.cells.items (seconds (all_held f (drop l.k all))) l.standing.items;
     }
 
 abbrev pub decreases-trials : goal.decreases-trials

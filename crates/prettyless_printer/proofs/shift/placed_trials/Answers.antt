@@ -1,4 +1,5 @@
-use Rattle.std.proofs.Common.{◌≡◌, ℕ, zero, suc, ◌+◌, ◌<◌, List, [], ◌∷◌, ◌++◌, ◌∙◌, ap, append_assoc, arith, drop, get_or, length, map, sym}
+use Rattle.std.proofs.Common.{◌≡◌, ℕ, zero, suc, ◌+◌, ◌<◌, List, [], ◌∷◌, ◌++◌, ◌∙◌, ap, append_assoc, arith, drop, get_or, length, map}
+use Rattle.std.proofs.Common.{sym}
 use Rattle.std.proofs.lemmas.List.{drop_more, map-append}
 use Rattle.prettyless_model.specs.Tree.{Tree, Nil}
 use Rattle.prettyless_table.specs.Cells.{tree_at}

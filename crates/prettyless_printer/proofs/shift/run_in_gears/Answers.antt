@@ -4,9 +4,9 @@ use Rattle.prettyless_sink.specs.declared.visits.Visits.{Visits}
 use Rattle.prettyless_model.specs.declared.options.RenderOptions.{RenderOptions}
 use Rattle.prettyless_printer.specs.Points.{buffer_seen, point, seen, standing}
 use Rattle.prettyless_printer.specs.Open.{all_held, seconds}
-use Rattle.prettyless_printer.specs.declared.answer.Ran.TheVariants as ran
+use Rattle.prettyless_printer.specs.declared.answer.RunResult.TheVariants as run_result
 use Rattle.prettyless_printer.specs.declared.gear.Gears.{Gears}
-use Rattle.prettyless_printer.specs.Gears.{limit_of}
+use Rattle.prettyless_printer.specs.Gears.{probe_limit}
 use Rattle.prettyless_printer.proofs.Shifts.{broke_anyhow, done_anyhow}
 use Rattle.prettyless_printer.proofs.Shifted.{comes_first, comes_options, comes_still}
 use Rattle.prettyless_printer.proofs.GearSpending.{no_room, within_few, within_goes, within_over, within_start, within_still}
@@ -24,24 +24,30 @@ gears-init g c =
       low = c.new-gears.ensures.within;
       rises = omega arith;
       next = λ linear none. omega (arith, ap (λ (x : Gears). x.next_try) first);
-      within = λ linear none. within_start (standing f c.args.printer.now) (all_held f c.new-trials.result.open.items) c.args.visits.now (ap (all_held f) c.new-trials.ensures) linear;
+      within = λ linear none. within_start (standing f c.args.printer.now) (all_held f c.new-trials.result.open.items) c.args.visits.now
+          (ap (all_held f) c.new-trials.ensures) linear;
       summed = c.requires;
     }
 
 -- the run is done
-pub returns-in-Done-clause-ends : goal.returns-in-Done-clause-ends
-returns-in-Done-clause-ends g c =
+pub returns-in-Finished-clause-ends : goal.returns-in-Finished-clause-ends
+returns-in-Finished-clause-ends g c =
     let f = g.N.Walk.tree in
     let sink = seen g.W.Render.bytes g.W.Render.failures g.W.Render.lender in
-    let start = point f c.args.printer.now (sink c.args.out.now) c.args.visits.now in
-    (standing f c.go_on.new.printer, done_anyhow (g.W.Render.document_errors c.go_on.new.out) ran.Done tt (rw c.in-Done.is at c.in_ok-go_on.ensures.runs start c.gears.invariant.comes))
+    let start = point f c.args.printer.now (sink c.args.out.now) c.args.visits.now in (
+      standing f c.go_on.new.printer,
+      done_anyhow (g.W.Render.document_errors c.go_on.new.out) run_result.Finished tt
+          (rw c.in-Finished.is at c.in_ok-go_on.ensures.runs start c.gears.invariant.comes),
+    )
 
-pub returns-in-Done-clause-few : goal.returns-in-Done-clause-few
-returns-in-Done-clause-few g c = λ linear none.
+pub returns-in-Finished-clause-few : goal.returns-in-Finished-clause-few
+returns-in-Finished-clause-few g c = λ linear none.
     let f = g.N.Walk.tree in
     let sink = seen g.W.Render.bytes g.W.Render.failures g.W.Render.lender in
     let start = point f c.args.printer.now (sink c.args.out.now) c.args.visits.now in
-    within_few (within_goes g.N.Walk.HAS_SUMMARIES c.gears.printer.options c.gears.gears c.limit-limit.result c.limit-limit.ensures c.gears.invariant.start (c.gears.invariant.next linear none) (c.gears.invariant.within linear none) (c.in_ok-go_on.ensures.spends start c.gears.invariant.comes linear.plain))
+    within_few (within_goes g.N.Walk.HAS_SUMMARIES c.gears.printer.options c.gears.gears c.limit-limit.result c.limit-limit.ensures
+    c.gears.invariant.start (c.gears.invariant.next linear none) (c.gears.invariant.within linear none)
+    (c.in_ok-go_on.ensures.spends start c.gears.invariant.comes linear.plain))
 
 -- it broke off
 pub returns-in_err-go_on-clause-ends : goal.returns-in_err-go_on-clause-ends
@@ -50,15 +56,20 @@ returns-in_err-go_on-clause-ends g c =
     rw (residual.1, residual.2)
     let f = g.N.Walk.tree in
     let sink = seen g.W.Render.bytes g.W.Render.failures g.W.Render.lender in
-    let start = point f c.args.printer.now (sink c.args.out.now) c.args.visits.now in
-    (standing f c.go_on.new.printer, broke_anyhow (g.W.Render.document_errors c.go_on.new.out) _ (c.in_err-go_on.ensures.runs start c.gears.invariant.comes))
+    let start = point f c.args.printer.now (sink c.args.out.now) c.args.visits.now in (
+      standing f c.go_on.new.printer,
+      broke_anyhow (g.W.Render.document_errors c.go_on.new.out) _
+          (c.in_err-go_on.ensures.runs start c.gears.invariant.comes),
+    )
 
 pub returns-in_err-go_on-clause-few : goal.returns-in_err-go_on-clause-few
 returns-in_err-go_on-clause-few g c = λ linear none.
     let f = g.N.Walk.tree in
     let sink = seen g.W.Render.bytes g.W.Render.failures g.W.Render.lender in
     let start = point f c.args.printer.now (sink c.args.out.now) c.args.visits.now in
-    within_few (within_goes g.N.Walk.HAS_SUMMARIES c.gears.printer.options c.gears.gears c.limit-limit.result c.limit-limit.ensures c.gears.invariant.start (c.gears.invariant.next linear none) (c.gears.invariant.within linear none) (c.in_err-go_on.ensures.spends start c.gears.invariant.comes linear.plain))
+    within_few (within_goes g.N.Walk.HAS_SUMMARIES c.gears.printer.options c.gears.gears c.limit-limit.result c.limit-limit.ensures
+    c.gears.invariant.start (c.gears.invariant.next linear none) (c.gears.invariant.within linear none)
+    (c.in_err-go_on.ensures.spends start c.gears.invariant.comes linear.plain))
 
 -- it stopped, and goes on over a table to the end
 pub returns-in-Ok-Some-clause-ends : goal.returns-in-Ok-Some-clause-ends
@@ -77,7 +88,9 @@ returns-in-Ok-Some-clause-few g c = λ linear none.
     let stopped = rw c.in-Shift.is at c.in_ok-go_on.ensures.runs start c.gears.invariant.comes in
     let options = comes_options start _ (all_held f c.go_on.new.trials.open.items) (buffer_seen c.go_on.new.buffer) stopped.comes in
     within_over c.go_on.new.printer.options
-    (within_goes g.N.Walk.HAS_SUMMARIES c.gears.printer.options c.gears.gears c.limit-limit.result c.limit-limit.ensures c.gears.invariant.start (c.gears.invariant.next linear none) (c.gears.invariant.within linear none) (c.in_ok-go_on.ensures.spends start c.gears.invariant.comes linear.plain))
+    (within_goes g.N.Walk.HAS_SUMMARIES c.gears.printer.options c.gears.gears c.limit-limit.result c.limit-limit.ensures
+    c.gears.invariant.start (c.gears.invariant.next linear none) (c.gears.invariant.within linear none)
+    (c.in_ok-go_on.ensures.spends start c.gears.invariant.comes linear.plain))
     ((rw c.in-Ok-Some.field-0-is at c.in-Ok-Some.ensures.spends) start stopped.comes linear.plain)
     (omega (arith, linear.width, ap (λ (o : RenderOptions). o.width) options)) linear.size
 
@@ -94,16 +107,22 @@ gears-preserved-in-Ok-None g c =
     record {
       comes = comes_still start us p (ap sink same.0) same.1 (ap buffer_seen same.2) stopped.comes;
       start = ap (λ (x : Gears). x.start) c.next_room-room.ensures.next ∙ c.gears.invariant.start;
-      low = subst (λ (v : Visits). v.probes ≤ limit_of c.next_room-room.new.self v) (sym same.1) c.next_room-room.ensures.within;
+      low = subst (λ (v : Visits). v.probes ≤ probe_limit c.next_room-room.new.self v) (sym same.1) c.next_room-room.ensures.within;
       rises = c.gears.invariant.rises;
       next = λ linear none.
-          let now = within_goes g.N.Walk.HAS_SUMMARIES c.gears.printer.options c.gears.gears c.limit-limit.result c.limit-limit.ensures c.gears.invariant.start (c.gears.invariant.next linear none) (c.gears.invariant.within linear none) (c.in_ok-go_on.ensures.spends start c.gears.invariant.comes linear.plain) in
+          let now = within_goes g.N.Walk.HAS_SUMMARIES c.gears.printer.options c.gears.gears c.limit-limit.result c.limit-limit.ensures
+          c.gears.invariant.start (c.gears.invariant.next linear none) (c.gears.invariant.within linear none)
+          (c.in_ok-go_on.ensures.spends start c.gears.invariant.comes linear.plain) in
           omega (
             arith,
             ap (λ (x : Gears). x.next_try) c.next_room-room.ensures.next,
-            no_room f c.go_on.new.printer (seconds us) c.next_room-room.result _ c.go_on.new.visits now.queue now.left linear.size (rw c.in-Ok-None.field-0-is at c.in-Ok-None.ensures.large),
+            no_room f c.go_on.new.printer (seconds us) c.next_room-room.result _ c.go_on.new.visits now.queue now.left linear.size
+                (rw c.in-Ok-None.field-0-is at c.in-Ok-None.ensures.large),
           );
-      within = λ linear none. within_still p (seconds us) same.1 (within_goes g.N.Walk.HAS_SUMMARIES c.gears.printer.options c.gears.gears c.limit-limit.result c.limit-limit.ensures c.gears.invariant.start (c.gears.invariant.next linear none) (c.gears.invariant.within linear none) (c.in_ok-go_on.ensures.spends start c.gears.invariant.comes linear.plain));
+      within = λ linear none. within_still p (seconds us) same.1
+          (within_goes g.N.Walk.HAS_SUMMARIES c.gears.printer.options c.gears.gears c.limit-limit.result c.limit-limit.ensures
+          c.gears.invariant.start (c.gears.invariant.next linear none) (c.gears.invariant.within linear none)
+          (c.in_ok-go_on.ensures.spends start c.gears.invariant.comes linear.plain));
       summed = c.in_ok-go_on.ensures.summed;
     }
 
@@ -120,7 +139,7 @@ gears-preserved-in-Err g c =
     record {
       comes = comes_still start us p (ap sink same.0) same.1 (ap buffer_seen same.2) stopped.comes;
       start = ap (λ (x : Gears). x.start) c.next_room-room.ensures.next ∙ c.gears.invariant.start;
-      low = subst (λ (v : Visits). v.probes ≤ limit_of c.next_room-room.new.self v) (sym same.1) c.next_room-room.ensures.within;
+      low = subst (λ (v : Visits). v.probes ≤ probe_limit c.next_room-room.new.self v) (sym same.1) c.next_room-room.ensures.within;
       rises = omega (arith, c.gears.invariant.rises, c.one_more.ensures.rises);
       next = λ linear none. absurd (omega (arith, none, c.one_more.ensures.one));
       within = λ linear none. absurd (omega (arith, none, c.one_more.ensures.one));
@@ -140,7 +159,9 @@ gears-preserved g c =
       low = c.if-is_worth.ensures refl;
       rises = c.gears.invariant.rises;
       next = c.gears.invariant.next;
-      within = λ linear none. within_goes g.N.Walk.HAS_SUMMARIES c.gears.printer.options c.gears.gears c.limit-limit.result c.limit-limit.ensures c.gears.invariant.start (c.gears.invariant.next linear none) (c.gears.invariant.within linear none) (c.in_ok-go_on.ensures.spends start c.gears.invariant.comes linear.plain);
+      within = λ linear none. within_goes g.N.Walk.HAS_SUMMARIES c.gears.printer.options c.gears.gears c.limit-limit.result
+          c.limit-limit.ensures c.gears.invariant.start (c.gears.invariant.next linear none) (c.gears.invariant.within linear none)
+          (c.in_ok-go_on.ensures.spends start c.gears.invariant.comes linear.plain);
       summed = c.in_ok-go_on.ensures.summed;
     }
 
@@ -156,5 +177,8 @@ pub returns-then-not-has_gears-clause-ends : goal.returns-then-not-has_gears-cla
 returns-then-not-has_gears-clause-ends g c =
     let f = g.N.Walk.tree in
     let sink = seen g.W.Render.bytes g.W.Render.failures g.W.Render.lender in
-    let start = point f c.args.printer.now (sink c.args.out.now) c.args.visits.now in
-    (standing f c.finish.new.printer, c.finish.ensures.ends start (comes_first f c.new-trials.result.open.items (buffer_seen c.new-buffer.result) start c.new-trials.ensures))
+    let start = point f c.args.printer.now (sink c.args.out.now) c.args.visits.now in (
+      standing f c.finish.new.printer,
+      c.finish.ensures.ends start (comes_first f c.new-trials.result.open.items (buffer_seen c.new-buffer.result) start
+          c.new-trials.ensures),
+    )

@@ -5,7 +5,7 @@ use Rattle.prettyless_step.specs.Sums.{IsSummed}
 use Rattle.prettyless_printer.specs.Points.{buffer_seen, point, seen, standing}
 use Rattle.prettyless_printer.specs.Open.{all_held, seconds}
 use Rattle.prettyless_printer.specs.Runs.{Comes}
-use Rattle.prettyless_printer.specs.Gears.{limit_of}
+use Rattle.prettyless_printer.specs.Gears.{probe_limit}
 use Rattle.prettyless_printer.specs.Linear.{IsLinearStart}
 use Rattle.prettyless_printer.specs.Spending.{left}
 use Rattle.prettyless_printer.proofs.GearSpending.{Within}
@@ -20,7 +20,7 @@ invariant-gears g l =
       comes : Comes (point f l.fn.printer (sink l.fn.out) l.fn.visits) (all_held f l.trials.open.items) (buffer_seen l.buffer)
           (point f l.printer (sink l.out) l.visits);
       start : l.gears.start ≡ l.fn.visits;
-      low : l.visits.probes ≤ limit_of l.gears l.visits;
+      low : l.visits.probes ≤ probe_limit l.gears l.visits;
       rises : l.fn.refused ≤ l.refused;
       next : IsLinearStart (standing f l.fn.printer) → l.refused ≡ 0 → l.gears.next_try ≤ n;
       within : IsLinearStart (standing f l.fn.printer) → l.refused ≡ 0 →

@@ -47,7 +47,8 @@ returns-in-Ok-Some-clause-few g c = λ linear none.
     let start = point f c.args.printer.now (sink c.args.out.now) c.args.visits.now in
     let first = comes_first f c.new-trials.result.open.items (buffer_seen c.new-buffer.result) start c.new-trials.ensures in
     all_over linear
-    (from_none (standing f c.args.printer.now) (all_held f c.new-trials.result.open.items) c.args.visits.now (ap (all_held f) c.new-trials.ensures)
+    (from_none (standing f c.args.printer.now) (all_held f c.new-trials.result.open.items) c.args.visits.now
+    (ap (all_held f) c.new-trials.ensures)
     ((rw c.in-Ok-Some.field-0-is at c.in-Ok-Some.ensures.spends) start first linear.plain))
 
 -- no table had room
@@ -58,7 +59,8 @@ finish-requires-in-Ok-None-clause-comes g c =
     let start = point f c.args.printer.now (sink c.args.out.now) c.args.visits.now in
     let first = comes_first f c.new-trials.result.open.items (buffer_seen c.new-buffer.result) start c.new-trials.ensures in
     let same = (rw c.in-Ok-None.field-0-is at c.in-Ok-None.ensures.same) tt in
-    let comes = comes_still start (all_held f c.new-trials.result.open.items) (standing f c.args.printer.now) (ap sink same.0) same.1 (ap buffer_seen same.2) first in
+    let comes = comes_still start (all_held f c.new-trials.result.open.items) (standing f c.args.printer.now) (ap sink same.0) same.1
+    (ap buffer_seen same.2) first in
     (start, comes)
 
 pub returns-in-Ok-None-clause-ends : goal.returns-in-Ok-None-clause-ends
@@ -68,7 +70,8 @@ returns-in-Ok-None-clause-ends g c =
     let start = point f c.args.printer.now (sink c.args.out.now) c.args.visits.now in
     let first = comes_first f c.new-trials.result.open.items (buffer_seen c.new-buffer.result) start c.new-trials.ensures in
     let same = (rw c.in-Ok-None.field-0-is at c.in-Ok-None.ensures.same) tt in
-    let comes = comes_still start (all_held f c.new-trials.result.open.items) (standing f c.args.printer.now) (ap sink same.0) same.1 (ap buffer_seen same.2) first in
+    let comes = comes_still start (all_held f c.new-trials.result.open.items) (standing f c.args.printer.now) (ap sink same.0) same.1
+    (ap buffer_seen same.2) first in
     (standing f c.finish-in-Ok-None.new.printer, c.finish-in-Ok-None.ensures.ends start comes)
 
 pub returns-in-Ok-None-clause-few : goal.returns-in-Ok-None-clause-few
@@ -76,7 +79,12 @@ returns-in-Ok-None-clause-few g c = λ linear none.
     let f = g.N.Walk.tree in
     let us = all_held f c.new-trials.result.open.items in
     let now = within_start (standing f c.args.printer.now) us c.args.visits.now (ap (all_held f) c.new-trials.ensures) linear in
-    absurd (omega (arith, linear.size, no_room f c.args.printer.now (seconds us) 18446744073709551615 _ c.args.visits.now now.queue now.left linear.size (rw c.in-Ok-None.field-0-is at c.in-Ok-None.ensures.large)))
+    absurd (omega (
+      arith,
+      linear.size,
+      no_room f c.args.printer.now (seconds us) 18446744073709551615 _ c.args.visits.now now.queue now.left
+          linear.size (rw c.in-Ok-None.field-0-is at c.in-Ok-None.ensures.large),
+    ))
 
 -- a table was refused memory
 pub finish-requires-in-Err-clause-comes : goal.finish-requires-in-Err-clause-comes
@@ -86,7 +94,8 @@ finish-requires-in-Err-clause-comes g c =
     let start = point f c.args.printer.now (sink c.args.out.now) c.args.visits.now in
     let first = comes_first f c.new-trials.result.open.items (buffer_seen c.new-buffer.result) start c.new-trials.ensures in
     let same = (rw c.in-Err.is at c.shift.ensures.same) tt in
-    let comes = comes_still start (all_held f c.new-trials.result.open.items) (standing f c.args.printer.now) (ap sink same.0) same.1 (ap buffer_seen same.2) first in
+    let comes = comes_still start (all_held f c.new-trials.result.open.items) (standing f c.args.printer.now) (ap sink same.0) same.1
+    (ap buffer_seen same.2) first in
     (start, comes)
 
 pub returns-clause-ends : goal.returns-clause-ends
@@ -96,7 +105,8 @@ returns-clause-ends g c =
     let start = point f c.args.printer.now (sink c.args.out.now) c.args.visits.now in
     let first = comes_first f c.new-trials.result.open.items (buffer_seen c.new-buffer.result) start c.new-trials.ensures in
     let same = (rw c.in-Err.is at c.shift.ensures.same) tt in
-    let comes = comes_still start (all_held f c.new-trials.result.open.items) (standing f c.args.printer.now) (ap sink same.0) same.1 (ap buffer_seen same.2) first in
+    let comes = comes_still start (all_held f c.new-trials.result.open.items) (standing f c.args.printer.now) (ap sink same.0) same.1
+    (ap buffer_seen same.2) first in
     (standing f c.finish-in-Err.new.printer, c.finish-in-Err.ensures.ends start comes)
 
 pub returns-clause-few : goal.returns-clause-few

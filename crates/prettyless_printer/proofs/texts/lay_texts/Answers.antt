@@ -4,13 +4,17 @@ use Rattle.prettyless_model.specs.Tree.{Tree}
 use Rattle.prettyless_step.specs.declared.printer.Printer.{Printer}
 use Rattle.prettyless_printer.specs.Points.{point, seen, standing}
 use Rattle.prettyless_printer.specs.Laying.{laid_to, left_trees}
-use Rattle.prettyless_printer.proofs.Laying.{Laid, OneNode, left_append, left_at, left_begins, left_done, left_either, left_empty, left_group, left_nest, left_nil, left_refused, no_bytes, some_bytes, left_text, left_text_failed, left_trees-push}
+use Rattle.prettyless_printer.proofs.Laying.{Laid, OneNode, left_append, left_at, left_begins, left_done, left_either, left_empty}
+use Rattle.prettyless_printer.proofs.Laying.{left_group, left_nest, left_nil, left_refused, no_bytes, some_bytes, left_text}
+use Rattle.prettyless_printer.proofs.Laying.{left_text_failed, left_trees-push}
 use Rattle.prettyless_printer.proofs.texts.lay_texts.Goals as goal
-use Rattle.prettyless_printer.proofs.texts.lay_texts.Goals.{in-Text+then-not-is_empty+in_default-write_gap_and_text, in-Text+else-not-is_empty, in-Nil}
+use Rattle.prettyless_printer.proofs.texts.lay_texts.Goals.{in-Text+then-not-is_empty+in_default-write_gap_and_text}
+use Rattle.prettyless_printer.proofs.texts.lay_texts.Goals.{in-Text+else-not-is_empty, in-Nil}
 
 pub nodes-init : goal.nodes-init
 nodes-init g c = record {
-  left = left_begins (ap (left_trees g.N.Walk.tree) c.clear.ensures.items) c.gap-gap.ensures c.prospective-position.ensures c.requires.texts;
+  left = left_begins (ap (left_trees g.N.Walk.tree) c.clear.ensures.items) c.gap-gap.ensures c.prospective-position.ensures
+      c.requires.texts;
   printer = refl;
   visits = refl;
 }
@@ -20,11 +24,14 @@ nodes-preserved-in-Append g c =
     let f = g.N.Walk.tree in
     let see = seen g.W.Render.bytes g.W.Render.failures g.W.Render.lender in
     let h = c.nodes.invariant in
-    let one : OneNode c.nodes.count c.one_more-count.result = record { one = c.one_more-count.ensures.one; rises = c.one_more-count.ensures.rises; at_most = c.one_more-count.ensures.at_most } in
+    let one : OneNode c.nodes.count c.one_more-count.result =
+    record { one = c.one_more-count.ensures.one; rises = c.one_more-count.ensures.rises; at_most = c.one_more-count.ensures.at_most } in
     let pushed = ap (left_trees f) c.in_default-push.ensures.items ∙ left_trees-push f c.nodes.printer.flat.items c.in-Append.r in
     record {
-      left = subst (λ (ds : List Tree). Laid (f c.args.first) (point f c.args.printer.now (see c.args.out.now) c.args.visits.now) (f c.in-Append.l ∷ ds) c.nodes.is_written c.nodes.gap c.nodes.position
-          (see c.nodes.out) c.one_more-count.result) (sym pushed) (left_append (f c.in-Append.l) (f c.in-Append.r) c.in-Append.ensures.tree one h.left);
+      left = subst (λ (ds : List Tree). Laid (f c.args.first) (point f c.args.printer.now (see c.args.out.now) c.args.visits.now)
+          (f c.in-Append.l ∷ ds) c.nodes.is_written c.nodes.gap c.nodes.position
+          (see c.nodes.out) c.one_more-count.result) (sym pushed)
+          (left_append (f c.in-Append.l) (f c.in-Append.r) c.in-Append.ensures.tree one h.left);
       printer = ap (λ (z : Printer g.row.N.Denot). record z { flat = c.push.new.self }) h.printer;
       visits = h.visits;
     }
@@ -34,7 +41,12 @@ nodes-preserved-in-Nest g c =
     let h = c.nodes.invariant in
     record {
       left = left_nest _ _ c.in-Nest.ensures.tree
-          (record { one = c.one_more-count.ensures.one; rises = c.one_more-count.ensures.rises; at_most = c.one_more-count.ensures.at_most }) h.left;
+          (record {
+            one = c.one_more-count.ensures.one;
+            rises = c.one_more-count.ensures.rises;
+            at_most =
+                c.one_more-count.ensures.at_most;
+          }) h.left;
       printer = h.printer;
       visits = h.visits;
     }
@@ -44,7 +56,12 @@ nodes-preserved-in-Nest-2 g c =
     let h = c.nodes.invariant in
     record {
       left = left_group _ c.in-Nest.ensures.tree
-          (record { one = c.one_more-count.ensures.one; rises = c.one_more-count.ensures.rises; at_most = c.one_more-count.ensures.at_most }) h.left;
+          (record {
+            one = c.one_more-count.ensures.one;
+            rises = c.one_more-count.ensures.rises;
+            at_most =
+                c.one_more-count.ensures.at_most;
+          }) h.left;
       printer = h.printer;
       visits = h.visits;
     }
@@ -54,7 +71,12 @@ nodes-preserved-in-Nest-3 g c =
     let h = c.nodes.invariant in
     record {
       left = left_either _ _ c.in-Nest.ensures.tree
-          (record { one = c.one_more-count.ensures.one; rises = c.one_more-count.ensures.rises; at_most = c.one_more-count.ensures.at_most }) h.left;
+          (record {
+            one = c.one_more-count.ensures.one;
+            rises = c.one_more-count.ensures.rises;
+            at_most =
+                c.one_more-count.ensures.at_most;
+          }) h.left;
       printer = h.printer;
       visits = h.visits;
     }
@@ -63,7 +85,8 @@ pub returns-in-Err-clause-lays : goal.returns-in-Err-clause-lays
 returns-in-Err-clause-lays g c = λ a i m.
     let f = g.N.Walk.tree in
     let h = c.nodes.invariant in
-    let one : OneNode c.nodes.count c.one_more-count.result = record { one = c.one_more-count.ensures.one; rises = c.one_more-count.ensures.rises; at_most = c.one_more-count.ensures.at_most } in
+    let one : OneNode c.nodes.count c.one_more-count.result =
+    record { one = c.one_more-count.ensures.one; rises = c.one_more-count.ensures.rises; at_most = c.one_more-count.ensures.at_most } in
     let same = ap (λ (z : Visits). record z { printer = c.one_more-count.result }) h.visits in
     left_refused f (f c.in-Append.l) (f c.in-Append.r) _ _ _ c.in-Append.ensures.tree one h.left same a i m
 
@@ -71,9 +94,12 @@ pub returns-in-Err-write_gap_and_text-clause-lays : goal.returns-in-Err-write_ga
 returns-in-Err-write_gap_and_text-clause-lays g c = λ a i m.
     let f = g.N.Walk.tree in
     let h = c.nodes.invariant in
-    let one : OneNode c.nodes.count c.one_more-count.result = record { one = c.one_more-count.ensures.one; rises = c.one_more-count.ensures.rises; at_most = c.one_more-count.ensures.at_most } in
+    let one : OneNode c.nodes.count c.one_more-count.result =
+    record { one = c.one_more-count.ensures.one; rises = c.one_more-count.ensures.rises; at_most = c.one_more-count.ensures.at_most } in
     let same = ap (λ (z : Visits). record z { printer = c.one_more-count.result }) h.visits in
-    left_text_failed f c.in-Text.s.now _ _ _ c.in-Err-write_gap_and_text.e (some_bytes c.is_empty.result c.in-Text.s.now c.is_empty.ensures c.if-not-is_empty.true) c.in-Text.ensures.tree one h.left c.write_gap_and_text.ensures.same_lender
+    left_text_failed f c.in-Text.s.now _ _ _ c.in-Err-write_gap_and_text.e
+    (some_bytes c.is_empty.result c.in-Text.s.now c.is_empty.ensures c.if-not-is_empty.true) c.in-Text.ensures.tree one h.left
+    c.write_gap_and_text.ensures.same_lender
     c.in-Err-write_gap_and_text.ensures.err same a i m
 
 pub returns-in_default-pop-clause-lays : goal.returns-in_default-pop-clause-lays
@@ -81,7 +107,8 @@ returns-in_default-pop-clause-lays g c = λ a i m.
     let f = g.N.Walk.tree in
     let see = seen g.W.Render.bytes g.W.Render.failures g.W.Render.lender in
     let h = c.nodes.invariant in
-    let one : OneNode c.nodes.count c.one_more-count.result = record { one = c.one_more-count.ensures.one; rises = c.one_more-count.ensures.rises; at_most = c.one_more-count.ensures.at_most } in
+    let one : OneNode c.nodes.count c.one_more-count.result =
+    record { one = c.one_more-count.ensures.one; rises = c.one_more-count.ensures.rises; at_most = c.one_more-count.ensures.at_most } in
     let b = point f c.args.printer.now (see c.args.out.now) c.args.visits.now in
     let ds : List Tree = left_trees f c.nodes.printer.flat.items in
     let n = c.one_more-count.result in
@@ -89,12 +116,17 @@ returns-in_default-pop-clause-lays g c = λ a i m.
     elim c.match-view.branch [
       | in-Text+then-not-is_empty+in_default-write_gap_and_text w ↦
           left_at w.is_written-is w.gap-is (w.position-is ∙ w.saturating_add-position.ensures) (ap see w.out-is)
-          (left_text w.in-Text.s.now (see w.write_gap_and_text.new.out) (some_bytes w.is_empty.result w.in-Text.s.now w.is_empty.ensures w.if-not-is_empty.true) w.in-Text.ensures.tree one h.left w.write_gap_and_text.ensures.same_lender w.in_default-write_gap_and_text.ensures.ok)
-      | in-Text+else-not-is_empty w ↦ left_at w.is_written-is w.gap-is w.position-is (ap see w.out-is) (left_empty w.in-Text.s.now (no_bytes w.is_empty.result w.in-Text.s.now w.is_empty.ensures w.if-not-is_empty.false) w.in-Text.ensures.tree one h.left)
+          (left_text w.in-Text.s.now (see w.write_gap_and_text.new.out)
+          (some_bytes w.is_empty.result w.in-Text.s.now w.is_empty.ensures w.if-not-is_empty.true) w.in-Text.ensures.tree one h.left
+          w.write_gap_and_text.ensures.same_lender w.in_default-write_gap_and_text.ensures.ok)
+      | in-Text+else-not-is_empty w ↦ left_at w.is_written-is w.gap-is w.position-is (ap see w.out-is)
+          (left_empty w.in-Text.s.now (no_bytes w.is_empty.result w.in-Text.s.now w.is_empty.ensures w.if-not-is_empty.false)
+          w.in-Text.ensures.tree one h.left)
       | in-Nil w ↦ left_at w.is_written-is w.gap-is w.position-is (ap see w.out-is) (left_nil w.in-Nil.ensures.tree one h.left)
     ] in
     let none : c.nodes.printer.flat.items ≡ [] = search rules in
-    let stands = c.leave_at.ensures.stands ∙ ap (λ (z : Printer g.row.N.Denot). laid_to (standing f z) c.match-view.is_written c.match-view.position) h.printer in
+    let stands = c.leave_at.ensures.stands
+    ∙ ap (λ (z : Printer g.row.N.Denot). laid_to (standing f z) c.match-view.is_written c.match-view.position) h.printer in
     left_done f _ _ (ap (left_trees f) none) stands (ap (λ (z : Visits). record z { printer = n }) h.visits) left a i m
 
 pub nodes-preserved : goal.nodes-preserved
@@ -102,7 +134,8 @@ nodes-preserved g c =
     let f = g.N.Walk.tree in
     let see = seen g.W.Render.bytes g.W.Render.failures g.W.Render.lender in
     let h = c.nodes.invariant in
-    let one : OneNode c.nodes.count c.one_more-count.result = record { one = c.one_more-count.ensures.one; rises = c.one_more-count.ensures.rises; at_most = c.one_more-count.ensures.at_most } in
+    let one : OneNode c.nodes.count c.one_more-count.result =
+    record { one = c.one_more-count.ensures.one; rises = c.one_more-count.ensures.rises; at_most = c.one_more-count.ensures.at_most } in
     let b = point f c.args.printer.now (see c.args.out.now) c.args.visits.now in
     let ds : List Tree = left_trees f c.nodes.printer.flat.items in
     let n = c.one_more-count.result in
@@ -110,13 +143,18 @@ nodes-preserved g c =
     elim c.match-view.branch [
       | in-Text+then-not-is_empty+in_default-write_gap_and_text w ↦
           left_at w.is_written-is w.gap-is (w.position-is ∙ w.saturating_add-position.ensures) (ap see w.out-is)
-          (left_text w.in-Text.s.now (see w.write_gap_and_text.new.out) (some_bytes w.is_empty.result w.in-Text.s.now w.is_empty.ensures w.if-not-is_empty.true) w.in-Text.ensures.tree one h.left w.write_gap_and_text.ensures.same_lender w.in_default-write_gap_and_text.ensures.ok)
-      | in-Text+else-not-is_empty w ↦ left_at w.is_written-is w.gap-is w.position-is (ap see w.out-is) (left_empty w.in-Text.s.now (no_bytes w.is_empty.result w.in-Text.s.now w.is_empty.ensures w.if-not-is_empty.false) w.in-Text.ensures.tree one h.left)
+          (left_text w.in-Text.s.now (see w.write_gap_and_text.new.out)
+          (some_bytes w.is_empty.result w.in-Text.s.now w.is_empty.ensures w.if-not-is_empty.true) w.in-Text.ensures.tree one h.left
+          w.write_gap_and_text.ensures.same_lender w.in_default-write_gap_and_text.ensures.ok)
+      | in-Text+else-not-is_empty w ↦ left_at w.is_written-is w.gap-is w.position-is (ap see w.out-is)
+          (left_empty w.in-Text.s.now (no_bytes w.is_empty.result w.in-Text.s.now w.is_empty.ensures w.if-not-is_empty.false)
+          w.in-Text.ensures.tree one h.left)
       | in-Nil w ↦ left_at w.is_written-is w.gap-is w.position-is (ap see w.out-is) (left_nil w.in-Nil.ensures.tree one h.left)
     ] in
     let popped = ap (left_trees f) c.in-Some.ensures.items ∙ left_trees-push f c.pop.new.self.items c.in-Some.next in
     record {
-      left = subst (λ (z : List Tree). Laid (f c.args.first) b z c.match-view.is_written c.match-view.gap c.match-view.position (see c.match-view.out) n) popped left;
+      left = subst (λ (z : List Tree). Laid (f c.args.first) b z c.match-view.is_written c.match-view.gap c.match-view.position
+          (see c.match-view.out) n) popped left;
       printer = ap (λ (z : Printer g.row.N.Denot). record z { flat = c.pop.new.self }) h.printer;
       visits = h.visits;
     }

@@ -10,7 +10,8 @@ invariant-nodes g l =
     let f = g.N.Walk.tree in
     let sink = seen g.W.Render.bytes g.W.Render.failures g.W.Render.lender in
     record {
-      left : Laid (f l.fn.first) (point f l.fn.printer (sink l.fn.out) l.fn.visits) (f l.node ∷ left_trees f l.printer.flat.items) l.is_written l.gap l.position (sink l.out) l.count;
+      left : Laid (f l.fn.first) (point f l.fn.printer (sink l.fn.out) l.fn.visits) (f l.node ∷ left_trees f l.printer.flat.items)
+          l.is_written l.gap l.position (sink l.out) l.count;
       printer : l.printer ≡ record l.fn.printer { flat = l.printer.flat };
       visits : l.visits ≡ l.fn.visits;
     }

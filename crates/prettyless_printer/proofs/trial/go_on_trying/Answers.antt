@@ -7,7 +7,9 @@ use Rattle.prettyless_printer.specs.Points.{buffer_seen, point, standing}
 use Rattle.prettyless_model.specs.Tree.{Tree}
 use Rattle.prettyless_printer.specs.Trials.{Attempt}
 use Rattle.prettyless_printer.specs.Open.{Open, all_held, held}
-use Rattle.prettyless_printer.proofs.Chains.{all_held-push, broke_at, keeps_open, keeps_over, length-all_held, open_broke, open_choice_broke, open_fallen_broke, open_fell, open_goes, open_kept, open_more, open_other, open_some, open_stops, other_open, other_over}
+use Rattle.prettyless_printer.proofs.Chains.{all_held-push, broke_at, keeps_open, keeps_over, length-all_held, open_broke}
+use Rattle.prettyless_printer.proofs.Chains.{open_choice_broke, open_fallen_broke, open_fell, open_goes, open_kept, open_more, open_other}
+use Rattle.prettyless_printer.proofs.Chains.{open_some, open_stops, other_open, other_over}
 use Rattle.prettyless_printer.proofs.Costs.{less_goes, less_more, less_kept, less_other}
 use Rattle.prettyless_printer.proofs.Trying.{cut_back, grows_same, queue_marked}
 use Rattle.prettyless_printer.proofs.Standings.{length_queue}
@@ -19,7 +21,13 @@ use Rattle.prettyless_step.specs.declared.queue.Queue.{Queue}
 use Rattle.prettyless_printer.proofs.trial.go_on_trying.Goals as goal
 
 pub work-init : goal.work-init
-work-init g c = record { trials = λ s y h. h; some = c.requires.«open»; spends = λ s y h plain. spends_same _ _; summed = c.requires.summed }
+work-init g c = record {
+  trials = λ s y h. h;
+  some = c.requires.«open»;
+  spends = λ s y h plain. spends_same _ _;
+  summed =
+      c.requires.summed;
+}
 
 -- one trial is open at least
 pub below-requires : goal.below-requires
@@ -30,31 +38,37 @@ below-requires g c =
 -- the innermost trial is refused memory
 pub returns-in_err-advance-clause-ends : goal.returns-in_err-advance-clause-ends
 returns-in_err-advance-clause-ends g c =
-    λ s y h. ends_broke AllocError c.args.limit s y (all_held g.N.Walk.tree c.work.trials.«open».items) c.from_residual.result c.from_residual.ensures.0
-    (open_broke g.N.Walk.tree s y _ c.in_err-advance.field-0.0 (c.work.invariant.trials s y h) (rw c.below.ensures at c.in_err-advance.ensures.courses))
+    λ s y h. ends_broke AllocError c.args.limit s y (all_held g.N.Walk.tree c.work.trials.«open».items) c.from_residual.result
+    c.from_residual.ensures.0
+    (open_broke g.N.Walk.tree s y _ c.in_err-advance.field-0.0 (c.work.invariant.trials s y h)
+    (rw c.below.ensures at c.in_err-advance.ensures.courses))
 
 -- it goes on
-pub work-smaller-in-Goes : goal.work-smaller-in-Goes
-work-smaller-in-Goes g c =
+pub work-smaller-in-Running : goal.work-smaller-in-Running
+work-smaller-in-Running g c =
     let some = c.work.invariant.some in
-    less_goes AllocError g.N.Walk.tree some.0 some.1 _ some.2 (rw (c.in-Goes.is, c.below.ensures) at c.in_ok-advance.ensures.courses)
+    less_goes AllocError g.N.Walk.tree some.0 some.1 _ some.2 (rw (c.in-Running.is, c.below.ensures) at c.in_ok-advance.ensures.courses)
 
-pub work-preserved-in-Goes : goal.work-preserved-in-Goes
-work-preserved-in-Goes g c =
+pub work-preserved-in-Running : goal.work-preserved-in-Running
+work-preserved-in-Running g c =
     let f = g.N.Walk.tree in
     let some = c.work.invariant.some in
-    let course = rw (c.in-Goes.is, c.below.ensures) at c.in_ok-advance.ensures.courses in
+    let course = rw (c.in-Running.is, c.below.ensures) at c.in_ok-advance.ensures.courses in
     record {
       trials = λ s y h. open_goes AllocError f s y _ (c.work.invariant.trials s y h) course;
       some = (some.0, some.1, open_goes AllocError f some.0 some.1 _ some.2 course);
-      spends = λ s y h plain. open_spends g.N.Walk.HAS_SUMMARIES c.args.limit s y _ _ (point f c.args.printer.now (buffer_seen c.args.buffer.now) c.args.visits.now) (point f c.work.printer (buffer_seen c.work.buffer) c.work.visits) h (c.work.invariant.trials s y h) plain (c.work.invariant.spends s y h plain) (rw c.in-Goes.is at c.in_ok-advance.ensures.spends);
+      spends = λ s y h plain. open_spends g.N.Walk.HAS_SUMMARIES c.args.limit s y _ _
+          (point f c.args.printer.now (buffer_seen c.args.buffer.now) c.args.visits.now)
+          (point f c.work.printer (buffer_seen c.work.buffer) c.work.visits) h (c.work.invariant.trials s y h) plain
+          (c.work.invariant.spends s y h plain) (rw c.in-Running.is at c.in_ok-advance.ensures.spends);
       summed = c.in_ok-advance.ensures.summed;
     }
 
 -- it stopped
 pub returns-in-Shift-clause-ends : goal.returns-in-Shift-clause-ends
 returns-in-Shift-clause-ends g c = λ s y h. (
-  open_stops AllocError g.N.Walk.tree s y _ (c.work.invariant.trials s y h) (rw (c.in-Shift.is, c.below.ensures) at c.in_ok-advance.ensures.courses),
+  open_stops AllocError g.N.Walk.tree s y _ (c.work.invariant.trials s y h)
+      (rw (c.in-Shift.is, c.below.ensures) at c.in_ok-advance.ensures.courses),
   rw c.in-Shift.is at c.in_ok-advance.ensures.past,
 )
 
@@ -69,8 +83,9 @@ returns-then-is_empty-clause-ends g c =
     λ s y h. (
       none,
       keeps_over AllocError s y (point f q (buffer_seen c.advance.new.buffer) c.advance.new.visits) (all_held f us) none
-          (open_kept AllocError f s y _ (all_held f us) (held f c.in-Some.trial) (standing f q) (all_held-push f _ us c.in-Some.trial c.in-Some.ensures.items) (c.work.invariant.trials s y h)
-          (rw (c.in-Over.is, c.below.ensures) at c.in_ok-advance.ensures.courses) refl refl refl (grows_same (standing f p))),
+          (open_kept AllocError f s y _ (all_held f us) (held f c.in-Some.trial) (standing f q)
+          (all_held-push f _ us c.in-Some.trial c.in-Some.ensures.items) (c.work.invariant.trials s y h)
+          (rw (c.in-Complete.is, c.below.ensures) at c.in_ok-advance.ensures.courses) refl refl refl (grows_same (standing f p))),
     )
 
 -- an inner one is kept
@@ -82,8 +97,11 @@ work-smaller-else-is_empty g c =
     let us = c.pop.new.self.items in
     let some = c.work.invariant.some in
     let inner : 0 < length us = c.is_empty.ensures.some c.if-is_empty.false in
-    less_kept AllocError f some.0 some.1 _ (all_held f us) (held f c.in-Some.trial) (standing f q) (buffer_seen c.advance.new.buffer) c.advance.new.visits (all_held-push f _ us c.in-Some.trial c.in-Some.ensures.items)
-    (omega (arith, length-all_held f us, inner)) some.2 (rw (c.in-Over.is, c.below.ensures) at c.in_ok-advance.ensures.courses) refl refl (grows_same (standing f p))
+    less_kept AllocError f some.0 some.1 _ (all_held f us) (held f c.in-Some.trial) (standing f q) (buffer_seen c.advance.new.buffer)
+    c.advance.new.visits (all_held-push f _ us c.in-Some.trial c.in-Some.ensures.items)
+    (omega (arith, length-all_held f us, inner)) some.2 (rw (c.in-Complete.is, c.below.ensures) at c.in_ok-advance.ensures.courses) refl
+    refl
+    (grows_same (standing f p))
 
 pub work-preserved-else-is_empty : goal.work-preserved-else-is_empty
 work-preserved-else-is_empty g c =
@@ -95,16 +113,21 @@ work-preserved-else-is_empty g c =
     let a = point f c.work.printer (buffer_seen c.work.buffer) c.work.visits in
     let b = point f q (buffer_seen c.advance.new.buffer) c.advance.new.visits in
     let inner : 0 < length us = c.is_empty.ensures.some c.if-is_empty.false in
-    let course = rw (c.in-Over.is, c.below.ensures) at c.in_ok-advance.ensures.courses in
+    let course = rw (c.in-Complete.is, c.below.ensures) at c.in_ok-advance.ensures.courses in
     let kept : (s : Attempt) (y : Tree) → Open s y (all_held f c.work.trials.«open».items) a → Open s y (all_held f us) b = λ s y h.
     keeps_open AllocError s y b (all_held f us) (omega (arith, length-all_held f us, inner))
-    (open_kept AllocError f s y _ (all_held f us) (held f c.in-Some.trial) (standing f q) (all_held-push f _ us c.in-Some.trial c.in-Some.ensures.items) h course refl refl refl (grows_same (standing f p))) in
+    (open_kept AllocError f s y _ (all_held f us) (held f c.in-Some.trial) (standing f q)
+    (all_held-push f _ us c.in-Some.trial c.in-Some.ensures.items) h course refl refl refl (grows_same (standing f p))) in
     record {
       trials = λ s y h. kept s y (c.work.invariant.trials s y h);
       some = (some.0, some.1, kept some.0 some.1 some.2);
       spends = λ s y h plain.
-          spends_kept (standing f p) (standing f q) _ (all_held f us) (held f c.in-Some.trial) (all_held-push f _ us c.in-Some.trial c.in-Some.ensures.items) refl refl
-          (open_spends g.N.Walk.HAS_SUMMARIES c.args.limit s y _ _ (point f c.args.printer.now (buffer_seen c.args.buffer.now) c.args.visits.now) (point f c.work.printer (buffer_seen c.work.buffer) c.work.visits) h (c.work.invariant.trials s y h) plain (c.work.invariant.spends s y h plain) (rw c.in-Over.is at c.in_ok-advance.ensures.spends));
+          spends_kept (standing f p) (standing f q) _ (all_held f us) (held f c.in-Some.trial)
+          (all_held-push f _ us c.in-Some.trial c.in-Some.ensures.items) refl refl
+          (open_spends g.N.Walk.HAS_SUMMARIES c.args.limit s y _ _
+          (point f c.args.printer.now (buffer_seen c.args.buffer.now) c.args.visits.now)
+          (point f c.work.printer (buffer_seen c.work.buffer) c.work.visits) h (c.work.invariant.trials s y h) plain
+          (c.work.invariant.spends s y h plain) (rw c.in-Complete.is at c.in_ok-advance.ensures.spends));
       summed = c.in_ok-advance.ensures.summed;
     }
 
@@ -113,22 +136,34 @@ pub take_back-requires-clause-mark : goal.take_back-requires-clause-mark
 take_back-requires-clause-mark g c =
     let f = g.N.Walk.tree in
     let some = c.work.invariant.some in
-    let fell = open_fell AllocError f some.0 some.1 _ _ (held f c.in-Some-pop.trial) (all_held-push f _ _ c.in-Some-pop.trial c.in-Some-pop.ensures.items) some.2 (rw (c.in-Rejected.is, c.below.ensures) at c.in_ok-advance.ensures.courses) in
-    omega (arith, queue_marked fell.trial.start.printer (standing f c.advance.new.printer) c.in-Some-pop.trial.mark fell.trial.start.sink fell.marked.marks fell.fallen.grows, length_queue f c.advance.new.printer)
+    let fell = open_fell AllocError f some.0 some.1 _ _ (held f c.in-Some-pop.trial)
+    (all_held-push f _ _ c.in-Some-pop.trial c.in-Some-pop.ensures.items) some.2
+    (rw (c.in-Rejected.is, c.below.ensures) at c.in_ok-advance.ensures.courses) in
+    omega (
+      arith,
+      queue_marked fell.trial.start.printer (standing f c.advance.new.printer) c.in-Some-pop.trial.mark fell.trial.start.sink
+          fell.marked.marks fell.fallen.grows,
+      length_queue f c.advance.new.printer,
+    )
 
 pub take_back-requires-clause-buffer : goal.take_back-requires-clause-buffer
 take_back-requires-clause-buffer g c =
     let f = g.N.Walk.tree in
     let some = c.work.invariant.some in
-    let fell = open_fell AllocError f some.0 some.1 _ _ (held f c.in-Some-pop.trial) (all_held-push f _ _ c.in-Some-pop.trial c.in-Some-pop.ensures.items) some.2 (rw (c.in-Rejected.is, c.below.ensures) at c.in_ok-advance.ensures.courses) in
-    cut_back (known fell.trial.start.sink.bytes) c.advance.new.buffer.text c.in-Some-pop.trial.mark.written fell.fallen.bytes fell.marked.text fell.marked.marks.written fell.fallen.wrote
+    let fell = open_fell AllocError f some.0 some.1 _ _ (held f c.in-Some-pop.trial)
+    (all_held-push f _ _ c.in-Some-pop.trial c.in-Some-pop.ensures.items) some.2
+    (rw (c.in-Rejected.is, c.below.ensures) at c.in_ok-advance.ensures.courses) in
+    cut_back (known fell.trial.start.sink.bytes) c.advance.new.buffer.text c.in-Some-pop.trial.mark.written fell.fallen.bytes
+    fell.marked.text fell.marked.marks.written fell.fallen.wrote
 
 -- its second branch is refused memory
 pub returns-in_err-push-in-Rejected-clause-ends : goal.returns-in_err-push-in-Rejected-clause-ends
 returns-in_err-push-in-Rejected-clause-ends g c =
     let f = g.N.Walk.tree in
-    λ s y h. ends_broke AllocError c.args.limit s y _ c.from_residual-in_err-push-in-Rejected.result c.from_residual-in_err-push-in-Rejected.ensures.0
-    (broke_at refl (open_fallen_broke AllocError f s y _ (c.work.invariant.trials s y h) (rw (c.in-Rejected.is, c.below.ensures) at c.in_ok-advance.ensures.courses)))
+    λ s y h. ends_broke AllocError c.args.limit s y _ c.from_residual-in_err-push-in-Rejected.result
+    c.from_residual-in_err-push-in-Rejected.ensures.0
+    (broke_at refl (open_fallen_broke AllocError f s y _ (c.work.invariant.trials s y h)
+    (rw (c.in-Rejected.is, c.below.ensures) at c.in_ok-advance.ensures.courses)))
 
 -- the outermost one is taken back
 pub returns-then-is_empty-2-clause-ends : goal.returns-then-is_empty-2-clause-ends
@@ -138,12 +173,15 @@ returns-then-is_empty-2-clause-ends g c =
     let q = record r { commands = c.push.new.self } in
     let w = buffer_seen c.take_back.new.buffer in
     let us = c.pop-in-Rejected.new.self.items in
-    let none : all_held f us ≡ [] = nil_from_length (all_held f us) (length-all_held f us ∙ c.is_empty-in-Rejected.ensures.none c.if-is_empty-2.true) in
+    let none : all_held f us ≡ [] =
+    nil_from_length (all_held f us) (length-all_held f us ∙ c.is_empty-in-Rejected.ensures.none c.if-is_empty-2.true) in
     λ s y h. (
       none,
       other_over AllocError s y (point f q w c.advance.new.visits) (all_held f us) none
-          (open_other AllocError f s y _ (all_held f us) (held f c.in-Some-pop.trial) (standing f r) (standing f q) w (all_held-push f _ us c.in-Some-pop.trial c.in-Some-pop.ensures.items) (c.work.invariant.trials s y h)
-          (rw (c.in-Rejected.is, c.below.ensures) at c.in_ok-advance.ensures.courses) c.take_back.ensures.printer refl c.take_back.ensures.buffer c.take_back.ensures.failures refl
+          (open_other AllocError f s y _ (all_held f us) (held f c.in-Some-pop.trial) (standing f r) (standing f q) w
+          (all_held-push f _ us c.in-Some-pop.trial c.in-Some-pop.ensures.items) (c.work.invariant.trials s y h)
+          (rw (c.in-Rejected.is, c.below.ensures) at c.in_ok-advance.ensures.courses) c.take_back.ensures.printer refl
+          c.take_back.ensures.buffer c.take_back.ensures.failures refl
           c.in_ok-push-in-Rejected.ensures.pushed refl refl (grows_same (standing f r))),
     )
 
@@ -156,8 +194,10 @@ work-smaller-else-is_empty-2 g c =
     let us = c.pop-in-Rejected.new.self.items in
     let some = c.work.invariant.some in
     let inner : 0 < length us = c.is_empty-in-Rejected.ensures.some c.if-is_empty-2.false in
-    less_other AllocError f some.0 some.1 _ (all_held f us) (held f c.in-Some-pop.trial) (standing f r) (standing f q) (buffer_seen c.take_back.new.buffer) c.advance.new.visits (all_held-push f _ us c.in-Some-pop.trial c.in-Some-pop.ensures.items)
-    (omega (arith, length-all_held f us, inner)) some.2 (rw (c.in-Rejected.is, c.below.ensures) at c.in_ok-advance.ensures.courses) c.take_back.ensures.printer c.in_ok-push-in-Rejected.ensures.pushed refl (grows_same (standing f r))
+    less_other AllocError f some.0 some.1 _ (all_held f us) (held f c.in-Some-pop.trial) (standing f r) (standing f q)
+    (buffer_seen c.take_back.new.buffer) c.advance.new.visits (all_held-push f _ us c.in-Some-pop.trial c.in-Some-pop.ensures.items)
+    (omega (arith, length-all_held f us, inner)) some.2 (rw (c.in-Rejected.is, c.below.ensures) at c.in_ok-advance.ensures.courses)
+    c.take_back.ensures.printer c.in_ok-push-in-Rejected.ensures.pushed refl (grows_same (standing f r))
 
 pub work-preserved-else-is_empty-2 : goal.work-preserved-else-is_empty-2
 work-preserved-else-is_empty-2 g c =
@@ -173,15 +213,24 @@ work-preserved-else-is_empty-2 g c =
     let course = rw (c.in-Rejected.is, c.below.ensures) at c.in_ok-advance.ensures.courses in
     let other : (s : Attempt) (y : Tree) → Open s y (all_held f c.work.trials.«open».items) a → Open s y (all_held f us) b = λ s y h.
     other_open AllocError s y b (all_held f us) (omega (arith, length-all_held f us, inner))
-    (open_other AllocError f s y _ (all_held f us) (held f c.in-Some-pop.trial) (standing f r) (standing f q) w (all_held-push f _ us c.in-Some-pop.trial c.in-Some-pop.ensures.items) h course
-    c.take_back.ensures.printer refl c.take_back.ensures.buffer c.take_back.ensures.failures refl c.in_ok-push-in-Rejected.ensures.pushed refl refl (grows_same (standing f r))) in
+    (open_other AllocError f s y _ (all_held f us) (held f c.in-Some-pop.trial) (standing f r) (standing f q) w
+    (all_held-push f _ us c.in-Some-pop.trial c.in-Some-pop.ensures.items) h course
+    c.take_back.ensures.printer refl c.take_back.ensures.buffer c.take_back.ensures.failures refl c.in_ok-push-in-Rejected.ensures.pushed
+    refl refl (grows_same (standing f r))) in
     record {
       trials = λ s y h. other s y (c.work.invariant.trials s y h);
       some = (some.0, some.1, other some.0 some.1 some.2);
       spends = λ s y h plain.
-          spends_back (standing f r) (standing f q) _ (all_held f us) (held f c.in-Some-pop.trial) (all_held-push f _ us c.in-Some-pop.trial c.in-Some-pop.ensures.items)
-          (open_fell AllocError f some.0 some.1 _ _ (held f c.in-Some-pop.trial) (all_held-push f _ _ c.in-Some-pop.trial c.in-Some-pop.ensures.items) some.2 (rw (c.in-Rejected.is, c.below.ensures) at c.in_ok-advance.ensures.courses)) c.take_back.ensures.printer c.in_ok-push-in-Rejected.ensures.pushed refl
-          (open_spends g.N.Walk.HAS_SUMMARIES c.args.limit s y _ _ (point f c.args.printer.now (buffer_seen c.args.buffer.now) c.args.visits.now) (point f c.work.printer (buffer_seen c.work.buffer) c.work.visits) h (c.work.invariant.trials s y h) plain (c.work.invariant.spends s y h plain) (rw c.in-Rejected.is at c.in_ok-advance.ensures.spends));
+          spends_back (standing f r) (standing f q) _ (all_held f us) (held f c.in-Some-pop.trial)
+          (all_held-push f _ us c.in-Some-pop.trial c.in-Some-pop.ensures.items)
+          (open_fell AllocError f some.0 some.1 _ _ (held f c.in-Some-pop.trial)
+          (all_held-push f _ _ c.in-Some-pop.trial c.in-Some-pop.ensures.items) some.2
+          (rw (c.in-Rejected.is, c.below.ensures) at c.in_ok-advance.ensures.courses)) c.take_back.ensures.printer
+          c.in_ok-push-in-Rejected.ensures.pushed refl
+          (open_spends g.N.Walk.HAS_SUMMARIES c.args.limit s y _ _
+          (point f c.args.printer.now (buffer_seen c.args.buffer.now) c.args.visits.now)
+          (point f c.work.printer (buffer_seen c.work.buffer) c.work.visits) h (c.work.invariant.trials s y h) plain
+          (c.work.invariant.spends s y h plain) (rw c.in-Rejected.is at c.in_ok-advance.ensures.spends));
       summed = c.in_ok-push-in-Rejected.ensures.summed (c.take_back.ensures.summed c.in_ok-advance.ensures.summed);
     }
 
@@ -190,8 +239,10 @@ pub work-smaller : goal.work-smaller
 work-smaller g c =
     let f = g.N.Walk.tree in
     let some = c.work.invariant.some in
-    less_more AllocError f some.0 some.1 _ _ c.in-Chosen.indent c.in-Chosen.first c.in-Chosen.second (standing f c.open_trial.new.printer) (buffer_seen c.advance.new.buffer) c.advance.new.visits some.2
-    (rw (c.in-Chosen.is, c.below.ensures) at c.in_ok-advance.ensures.courses) c.in_ok-open_trial-in-Chosen.ensures.held c.in_ok-open_trial-in-Chosen.ensures.begun (IsUtf8-string_bytes c.advance.new.buffer.text)
+    less_more AllocError f some.0 some.1 _ _ c.in-Choice.indent c.in-Choice.first c.in-Choice.second (standing f c.open_trial.new.printer)
+    (buffer_seen c.advance.new.buffer) c.advance.new.visits some.2
+    (rw (c.in-Choice.is, c.below.ensures) at c.in_ok-advance.ensures.courses) c.in_ok-open_trial-in-Choice.ensures.held
+    c.in_ok-open_trial-in-Choice.ensures.begun (IsUtf8-string_bytes c.advance.new.buffer.text)
 
 pub work-preserved : goal.work-preserved
 work-preserved g c =
@@ -199,38 +250,51 @@ work-preserved g c =
     let some = c.work.invariant.some in
     let a = point f c.work.printer (buffer_seen c.work.buffer) c.work.visits in
     let b = point f c.open_trial.new.printer (buffer_seen c.advance.new.buffer) c.advance.new.visits in
-    let course = rw (c.in-Chosen.is, c.below.ensures) at c.in_ok-advance.ensures.courses in
-    let more : (s : Attempt) (y : Tree) → Open s y (all_held f c.work.trials.«open».items) a → Open s y (all_held f c.open_trial.new.trials.«open».items) b = λ s y h.
-    open_more AllocError f s y _ _ c.in-Chosen.indent c.in-Chosen.first c.in-Chosen.second (standing f c.open_trial.new.printer) h course
-    c.in_ok-open_trial-in-Chosen.ensures.held c.in_ok-open_trial-in-Chosen.ensures.begun (IsUtf8-string_bytes c.advance.new.buffer.text) in
+    let course = rw (c.in-Choice.is, c.below.ensures) at c.in_ok-advance.ensures.courses in
+    let more : (s : Attempt) (y : Tree) → Open s y (all_held f c.work.trials.«open».items) a
+    → Open s y (all_held f c.open_trial.new.trials.«open».items) b = λ s y h.
+    open_more AllocError f s y _ _ c.in-Choice.indent c.in-Choice.first c.in-Choice.second (standing f c.open_trial.new.printer) h course
+    c.in_ok-open_trial-in-Choice.ensures.held c.in_ok-open_trial-in-Choice.ensures.begun (IsUtf8-string_bytes c.advance.new.buffer.text) in
     record {
       trials = λ s y h. more s y (c.work.invariant.trials s y h);
       some = (some.0, some.1, more some.0 some.1 some.2);
       spends = λ s y h plain.
-          spends_more f (standing f c.advance.new.printer) (standing f c.open_trial.new.printer) _ _ c.in-Chosen.indent (f c.in-Chosen.first) c.in-Chosen.second c.in_ok-open_trial-in-Chosen.ensures.held
-          c.in_ok-open_trial-in-Chosen.ensures.begun.tasks (ap (λ (z : Queue _). trees f z.nodes.items) c.in_ok-open_trial-in-Chosen.ensures.queue)
-          (open_spends g.N.Walk.HAS_SUMMARIES c.args.limit s y _ _ (point f c.args.printer.now (buffer_seen c.args.buffer.now) c.args.visits.now) (point f c.work.printer (buffer_seen c.work.buffer) c.work.visits) h (c.work.invariant.trials s y h) plain (c.work.invariant.spends s y h plain) (rw c.in-Chosen.is at c.in_ok-advance.ensures.spends));
-      summed = c.in_ok-open_trial-in-Chosen.ensures.summed;
+          spends_more f (standing f c.advance.new.printer) (standing f c.open_trial.new.printer) _ _ c.in-Choice.indent
+          (f c.in-Choice.first) c.in-Choice.second c.in_ok-open_trial-in-Choice.ensures.held
+          c.in_ok-open_trial-in-Choice.ensures.begun.tasks
+          (ap (λ (z : Queue _). trees f z.nodes.items) c.in_ok-open_trial-in-Choice.ensures.queue)
+          (open_spends g.N.Walk.HAS_SUMMARIES c.args.limit s y _ _
+          (point f c.args.printer.now (buffer_seen c.args.buffer.now) c.args.visits.now)
+          (point f c.work.printer (buffer_seen c.work.buffer) c.work.visits) h (c.work.invariant.trials s y h) plain
+          (c.work.invariant.spends s y h plain) (rw c.in-Choice.is at c.in_ok-advance.ensures.spends));
+      summed = c.in_ok-open_trial-in-Choice.ensures.summed;
     }
 
 -- a trial more is refused memory
-pub returns-in_err-open_trial-in-Chosen-clause-ends : goal.returns-in_err-open_trial-in-Chosen-clause-ends
-returns-in_err-open_trial-in-Chosen-clause-ends g c =
+pub returns-in_err-open_trial-in-Choice-clause-ends : goal.returns-in_err-open_trial-in-Choice-clause-ends
+returns-in_err-open_trial-in-Choice-clause-ends g c =
     let f = g.N.Walk.tree in
-    λ s y h. ends_broke AllocError c.args.limit s y _ c.from_residual-in_err-open_trial-in-Chosen.result c.from_residual-in_err-open_trial-in-Chosen.ensures.0
-    (broke_at refl (open_choice_broke AllocError f s y _ c.in-Chosen.indent c.in-Chosen.first c.in-Chosen.second (c.work.invariant.trials s y h) (rw (c.in-Chosen.is, c.below.ensures) at c.in_ok-advance.ensures.courses)))
+    λ s y h. ends_broke AllocError c.args.limit s y _ c.from_residual-in_err-open_trial-in-Choice.result
+    c.from_residual-in_err-open_trial-in-Choice.ensures.0
+    (broke_at refl (open_choice_broke AllocError f s y _ c.in-Choice.indent c.in-Choice.first c.in-Choice.second
+    (c.work.invariant.trials s y h) (rw (c.in-Choice.is, c.below.ensures) at c.in_ok-advance.ensures.courses)))
 
 -- what is left then
 pub returns-in_err-advance-clause-spends : goal.returns-in_err-advance-clause-spends
 returns-in_err-advance-clause-spends g c =
     let f = g.N.Walk.tree in
     λ s y h plain. spends_broke_as _ c.from_residual.result c.from_residual.ensures.0 (spends_all
-    (open_spends g.N.Walk.HAS_SUMMARIES c.args.limit s y _ _ (point f c.args.printer.now (buffer_seen c.args.buffer.now) c.args.visits.now) (point f c.work.printer (buffer_seen c.work.buffer) c.work.visits) h (c.work.invariant.trials s y h) plain (c.work.invariant.spends s y h plain) c.in_err-advance.ensures.spends))
+    (open_spends g.N.Walk.HAS_SUMMARIES c.args.limit s y _ _ (point f c.args.printer.now (buffer_seen c.args.buffer.now) c.args.visits.now)
+    (point f c.work.printer (buffer_seen c.work.buffer) c.work.visits) h (c.work.invariant.trials s y h) plain
+    (c.work.invariant.spends s y h plain) c.in_err-advance.ensures.spends))
 
 pub returns-in-Shift-clause-spends : goal.returns-in-Shift-clause-spends
 returns-in-Shift-clause-spends g c =
     let f = g.N.Walk.tree in
-    λ s y h plain. open_spends g.N.Walk.HAS_SUMMARIES c.args.limit s y _ _ (point f c.args.printer.now (buffer_seen c.args.buffer.now) c.args.visits.now) (point f c.work.printer (buffer_seen c.work.buffer) c.work.visits) h (c.work.invariant.trials s y h) plain (c.work.invariant.spends s y h plain) (rw c.in-Shift.is at c.in_ok-advance.ensures.spends)
+    λ s y h plain. open_spends g.N.Walk.HAS_SUMMARIES c.args.limit s y _ _
+    (point f c.args.printer.now (buffer_seen c.args.buffer.now) c.args.visits.now)
+    (point f c.work.printer (buffer_seen c.work.buffer) c.work.visits) h (c.work.invariant.trials s y h) plain
+    (c.work.invariant.spends s y h plain) (rw c.in-Shift.is at c.in_ok-advance.ensures.spends)
 
 pub returns-then-is_empty-clause-spends : goal.returns-then-is_empty-clause-spends
 returns-then-is_empty-clause-spends g c =
@@ -239,14 +303,20 @@ returns-then-is_empty-clause-spends g c =
     let q = record p { within = c.in-Some.trial.mark.within } in
     let us = c.pop.new.self.items in
     λ s y h plain.
-    spends_kept (standing f p) (standing f q) _ (all_held f us) (held f c.in-Some.trial) (all_held-push f _ us c.in-Some.trial c.in-Some.ensures.items) refl refl
-    (open_spends g.N.Walk.HAS_SUMMARIES c.args.limit s y _ _ (point f c.args.printer.now (buffer_seen c.args.buffer.now) c.args.visits.now) (point f c.work.printer (buffer_seen c.work.buffer) c.work.visits) h (c.work.invariant.trials s y h) plain (c.work.invariant.spends s y h plain) (rw c.in-Over.is at c.in_ok-advance.ensures.spends))
+    spends_kept (standing f p) (standing f q) _ (all_held f us) (held f c.in-Some.trial)
+    (all_held-push f _ us c.in-Some.trial c.in-Some.ensures.items) refl refl
+    (open_spends g.N.Walk.HAS_SUMMARIES c.args.limit s y _ _ (point f c.args.printer.now (buffer_seen c.args.buffer.now) c.args.visits.now)
+    (point f c.work.printer (buffer_seen c.work.buffer) c.work.visits) h (c.work.invariant.trials s y h) plain
+    (c.work.invariant.spends s y h plain) (rw c.in-Complete.is at c.in_ok-advance.ensures.spends))
 
 pub returns-in_err-push-in-Rejected-clause-spends : goal.returns-in_err-push-in-Rejected-clause-spends
 returns-in_err-push-in-Rejected-clause-spends g c =
     let f = g.N.Walk.tree in
-    λ s y h plain. spends_broke_as _ c.from_residual-in_err-push-in-Rejected.result c.from_residual-in_err-push-in-Rejected.ensures.0 (spends_all
-    (open_spends g.N.Walk.HAS_SUMMARIES c.args.limit s y _ _ (point f c.args.printer.now (buffer_seen c.args.buffer.now) c.args.visits.now) (point f c.work.printer (buffer_seen c.work.buffer) c.work.visits) h (c.work.invariant.trials s y h) plain (c.work.invariant.spends s y h plain) (rw c.in-Rejected.is at c.in_ok-advance.ensures.spends)))
+    λ s y h plain. spends_broke_as _ c.from_residual-in_err-push-in-Rejected.result
+    c.from_residual-in_err-push-in-Rejected.ensures.0 (spends_all
+    (open_spends g.N.Walk.HAS_SUMMARIES c.args.limit s y _ _ (point f c.args.printer.now (buffer_seen c.args.buffer.now) c.args.visits.now)
+    (point f c.work.printer (buffer_seen c.work.buffer) c.work.visits) h (c.work.invariant.trials s y h) plain
+    (c.work.invariant.spends s y h plain) (rw c.in-Rejected.is at c.in_ok-advance.ensures.spends)))
 
 pub returns-then-is_empty-2-clause-spends : goal.returns-then-is_empty-2-clause-spends
 returns-then-is_empty-2-clause-spends g c =
@@ -256,12 +326,21 @@ returns-then-is_empty-2-clause-spends g c =
     let us = c.pop-in-Rejected.new.self.items in
     let some = c.work.invariant.some in
     λ s y h plain.
-    spends_back (standing f r) (standing f q) _ (all_held f us) (held f c.in-Some-pop.trial) (all_held-push f _ us c.in-Some-pop.trial c.in-Some-pop.ensures.items)
-    (open_fell AllocError f some.0 some.1 _ _ (held f c.in-Some-pop.trial) (all_held-push f _ _ c.in-Some-pop.trial c.in-Some-pop.ensures.items) some.2 (rw (c.in-Rejected.is, c.below.ensures) at c.in_ok-advance.ensures.courses)) c.take_back.ensures.printer c.in_ok-push-in-Rejected.ensures.pushed refl
-    (open_spends g.N.Walk.HAS_SUMMARIES c.args.limit s y _ _ (point f c.args.printer.now (buffer_seen c.args.buffer.now) c.args.visits.now) (point f c.work.printer (buffer_seen c.work.buffer) c.work.visits) h (c.work.invariant.trials s y h) plain (c.work.invariant.spends s y h plain) (rw c.in-Rejected.is at c.in_ok-advance.ensures.spends))
+    spends_back (standing f r) (standing f q) _ (all_held f us) (held f c.in-Some-pop.trial)
+    (all_held-push f _ us c.in-Some-pop.trial c.in-Some-pop.ensures.items)
+    (open_fell AllocError f some.0 some.1 _ _ (held f c.in-Some-pop.trial)
+    (all_held-push f _ _ c.in-Some-pop.trial c.in-Some-pop.ensures.items) some.2
+    (rw (c.in-Rejected.is, c.below.ensures) at c.in_ok-advance.ensures.courses)) c.take_back.ensures.printer
+    c.in_ok-push-in-Rejected.ensures.pushed refl
+    (open_spends g.N.Walk.HAS_SUMMARIES c.args.limit s y _ _ (point f c.args.printer.now (buffer_seen c.args.buffer.now) c.args.visits.now)
+    (point f c.work.printer (buffer_seen c.work.buffer) c.work.visits) h (c.work.invariant.trials s y h) plain
+    (c.work.invariant.spends s y h plain) (rw c.in-Rejected.is at c.in_ok-advance.ensures.spends))
 
-pub returns-in_err-open_trial-in-Chosen-clause-spends : goal.returns-in_err-open_trial-in-Chosen-clause-spends
-returns-in_err-open_trial-in-Chosen-clause-spends g c =
+pub returns-in_err-open_trial-in-Choice-clause-spends : goal.returns-in_err-open_trial-in-Choice-clause-spends
+returns-in_err-open_trial-in-Choice-clause-spends g c =
     let f = g.N.Walk.tree in
-    λ s y h plain. spends_broke_as _ c.from_residual-in_err-open_trial-in-Chosen.result c.from_residual-in_err-open_trial-in-Chosen.ensures.0 (spends_all
-    (open_spends g.N.Walk.HAS_SUMMARIES c.args.limit s y _ _ (point f c.args.printer.now (buffer_seen c.args.buffer.now) c.args.visits.now) (point f c.work.printer (buffer_seen c.work.buffer) c.work.visits) h (c.work.invariant.trials s y h) plain (c.work.invariant.spends s y h plain) (rw c.in-Chosen.is at c.in_ok-advance.ensures.spends)))
+    λ s y h plain. spends_broke_as _ c.from_residual-in_err-open_trial-in-Choice.result
+    c.from_residual-in_err-open_trial-in-Choice.ensures.0 (spends_all
+    (open_spends g.N.Walk.HAS_SUMMARIES c.args.limit s y _ _ (point f c.args.printer.now (buffer_seen c.args.buffer.now) c.args.visits.now)
+    (point f c.work.printer (buffer_seen c.work.buffer) c.work.visits) h (c.work.invariant.trials s y h) plain
+    (c.work.invariant.spends s y h plain) (rw c.in-Choice.is at c.in_ok-advance.ensures.spends)))

@@ -13,7 +13,8 @@ invariant-work g l =
     let start = point f l.fn.printer (buffer_seen l.fn.buffer) l.fn.visits in
     let now = point f l.printer (buffer_seen l.buffer) l.visits in
     record {
-      trials : (s : Attempt) (y : Tree) → Open s y (all_held f l.fn.trials.open.items) start → Open s y (all_held f l.trials.open.items) now;
+      trials : (s : Attempt) (y : Tree) → Open s y (all_held f l.fn.trials.open.items) start
+          → Open s y (all_held f l.trials.open.items) now;
       some : (s : Attempt) × (y : Tree) × Open s y (all_held f l.trials.open.items) now;
       spends : (s : Attempt) (y : Tree) → Open s y (all_held f l.fn.trials.open.items) start → IsPlainTrial s y →
           Spends (rule_of g.N.Walk.HAS_SUMMARIES l.fn.printer.options l.limit)

@@ -7,5 +7,11 @@ use Rattle.prettyless_printer.proofs.trial.take_back.Goals as goal
 pub returns-clause-printer : goal.returns-clause-printer
 returns-clause-printer g c =
     let f = g.N.Walk.tree in
-    let p = c.args.printer.now in
-    (c.cut.ensures.cut, ap (trees f) c.go_back.ensures.nodes ∙ sym (take-map f c.args.mark.queue.len p.queue.nodes.items), c.go_back.ensures.start, refl, refl, refl)
+    let p = c.args.printer.now in (
+      c.cut.ensures.cut,
+      ap (trees f) c.go_back.ensures.nodes ∙ sym (take-map f c.args.mark.queue.len p.queue.nodes.items),
+      c.go_back.ensures.start,
+      refl,
+      refl,
+      refl,
+    )

@@ -6,7 +6,7 @@ use Rattle.prettyless_step.specs.Stack.{stack_of, task, trees}
 use Rattle.prettyless_step.specs.declared.queue.Queue.{Queue}
 use Rattle.prettyless_step.specs.Piece.{piece_bytes}
 use Rattle.prettyless_step.specs.Printing.{IsStepped, IsStopped}
-use Rattle.prettyless_step.specs.declared.printer.Taken.TheVariants as taken
+use Rattle.prettyless_step.specs.declared.printer.StepResult.TheVariants as step_result
 use Rattle.prettyless_sink.specs.declared.error.RenderError.{RenderError}
 use Rattle.prettyless_printer.specs.Turns.{Advances}
 use Rattle.prettyless_printer.specs.Laying.{ends_turn}
@@ -14,7 +14,8 @@ use Rattle.prettyless_printer.specs.Points.{point, seen, standing}
 use Rattle.prettyless_printer.proofs.Trying.{grows_same}
 use Rattle.prettyless_printer.proofs.Hands.{goes_down, in_hand, shown, visit}
 use Rattle.prettyless_printer.proofs.Standings.{wrote}
-use Rattle.prettyless_printer.proofs.Spending.{spends_all, spends_begun, spends_broke, spends_chosen, spends_down, spends_failed, spends_stopped, spends_went, takes}
+use Rattle.prettyless_printer.proofs.Spending.{spends_all, spends_begun, spends_broke, spends_chosen, spends_down, spends_failed}
+use Rattle.prettyless_printer.proofs.Spending.{spends_stopped, spends_went, takes}
 use Rattle.prettyless_printer.proofs.Laying.{laying_begins, spends_laid}
 use Rattle.prettyless_printer.proofs.Advancing.{advances_chosen, advances_failed, advances_refused, advances_sink_failed, advances_went}
 use Rattle.prettyless_printer.proofs.turn.turn.Goals as goal
@@ -27,24 +28,35 @@ pub down-init : goal.down-init
 down-init g c =
     let p = c.args.printer.now in
     record {
-      hand = in_hand (point g.N.Walk.tree p (seen g.W.Render.bytes g.W.Render.failures g.W.Render.lender c.args.out.now) c.args.visits.now) (standing g.N.Walk.tree (record p { commands = c.pop.new.self }))
+      hand = in_hand (point g.N.Walk.tree p (seen g.W.Render.bytes g.W.Render.failures g.W.Render.lender c.args.out.now) c.args.visits.now)
+          (standing g.N.Walk.tree (record p { commands = c.pop.new.self }))
           (task g.N.Walk.tree c.in-Some.command) c.in-Some.ensures.popped refl refl (grows_same (standing g.N.Walk.tree p));
       summed = c.pop.ensures.summed c.requires.summed;
-      spends = λ plain. spends_begun _ (standing g.N.Walk.tree p) (standing g.N.Walk.tree (record p { commands = c.pop.new.self })) (task g.N.Walk.tree c.in-Some.command) c.args.visits.now c.in-Some.ensures.popped refl;
+      spends = λ plain. spends_begun _ (standing g.N.Walk.tree p) (standing g.N.Walk.tree (record p { commands = c.pop.new.self }))
+          (task g.N.Walk.tree c.in-Some.command) c.args.visits.now c.in-Some.ensures.popped refl;
     }
 
-pub down-preserved-in-Ok-Next : goal.down-preserved-in-Ok-Next
-down-preserved-in-Ok-Next g c =
+pub down-preserved-in-Ok-Descend : goal.down-preserved-in-Ok-Descend
+down-preserved-in-Ok-Descend g c =
     let f = g.N.Walk.tree in
     let q = c.step.new.printer in
     let x = c.step.new.visits in
     let hand = c.down.invariant.hand in
-    let one = visit f c.down.printer x c.one_more-visits.result hand c.one_more-visits.ensures.one c.one_more-visits.ensures.rises c.step.ensures.printer c.step.ensures.rises c.step.ensures.counted in
-    let took = takes f g.N.Walk.HAS_SUMMARIES c.args.limit c.down.printer x hand one (c.in-Ok-Next.ensures.within (subst IsStepped (sym c.in-Ok-Next.field-0-is) tt)) c.step.ensures.counted c.step.ensures.few c.down.invariant.spends in
+    let one = visit f c.down.printer x c.one_more-visits.result hand c.one_more-visits.ensures.one c.one_more-visits.ensures.rises
+    c.step.ensures.printer c.step.ensures.rises c.step.ensures.counted in
+    let took = takes f g.N.Walk.HAS_SUMMARIES c.args.limit c.down.printer x hand one
+    (c.in-Ok-Descend.ensures.within (subst IsStepped (sym c.in-Ok-Descend.field-0-is) tt)) c.step.ensures.counted c.step.ensures.few
+    c.down.invariant.spends in
     record {
-      hand = goes_down f c.down.printer q x c.in-Ok-Next.next_indent c.down.mode c.in-Ok-Next.next hand one (c.in-Ok-Next.ensures.asked (subst IsStepped (sym c.in-Ok-Next.field-0-is) tt)) (shown f c.down.printer q c.in-Ok-Next.field-0 (taken.Next c.in-Ok-Next.next_indent c.in-Ok-Next.next) hand c.in-Ok-Next.field-0-is c.in-Ok-Next.ensures.step);
-      summed = c.in-Ok-Next.ensures.summed;
-      spends = λ plain. spends_down f c.down.printer q c.in-Ok-Next.next_indent c.down.mode c.in-Ok-Next.next took plain c.step.ensures.queue (shown f c.down.printer q c.in-Ok-Next.field-0 (taken.Next c.in-Ok-Next.next_indent c.in-Ok-Next.next) hand c.in-Ok-Next.field-0-is c.in-Ok-Next.ensures.step);
+      hand = goes_down f c.down.printer q x c.in-Ok-Descend.next_indent c.down.mode c.in-Ok-Descend.next hand one
+          (c.in-Ok-Descend.ensures.asked (subst IsStepped (sym c.in-Ok-Descend.field-0-is) tt))
+          (shown f c.down.printer q c.in-Ok-Descend.field-0 (step_result.Descend c.in-Ok-Descend.next_indent c.in-Ok-Descend.next) hand
+          c.in-Ok-Descend.field-0-is c.in-Ok-Descend.ensures.step);
+      summed = c.in-Ok-Descend.ensures.summed;
+      spends = λ plain. spends_down f c.down.printer q c.in-Ok-Descend.next_indent c.down.mode c.in-Ok-Descend.next took plain
+          c.step.ensures.queue (shown f c.down.printer q c.in-Ok-Descend.field-0
+          (step_result.Descend c.in-Ok-Descend.next_indent c.in-Ok-Descend.next) hand
+          c.in-Ok-Descend.field-0-is c.in-Ok-Descend.ensures.step);
     }
 
 pub down-preserved : goal.down-preserved
@@ -53,12 +65,22 @@ down-preserved g c =
     let q = c.step.new.printer in
     let x = c.step.new.visits in
     let hand = c.down.invariant.hand in
-    let one = visit f c.down.printer x c.one_more-visits.result hand c.one_more-visits.ensures.one c.one_more-visits.ensures.rises c.step.ensures.printer c.step.ensures.rises c.step.ensures.counted in
-    let took = takes f g.N.Walk.HAS_SUMMARIES c.args.limit c.down.printer x hand one (c.in-Ok-NextFlat.ensures.within (subst IsStepped (sym c.in-Ok-NextFlat.field-0-is) tt)) c.step.ensures.counted c.step.ensures.few c.down.invariant.spends in
+    let one = visit f c.down.printer x c.one_more-visits.result hand c.one_more-visits.ensures.one c.one_more-visits.ensures.rises
+    c.step.ensures.printer c.step.ensures.rises c.step.ensures.counted in
+    let took = takes f g.N.Walk.HAS_SUMMARIES c.args.limit c.down.printer x hand one
+    (c.in-Ok-DescendFlat.ensures.within (subst IsStepped (sym c.in-Ok-DescendFlat.field-0-is) tt)) c.step.ensures.counted c.step.ensures.few
+    c.down.invariant.spends in
     record {
-      hand = goes_down f c.down.printer q x c.in-Ok-NextFlat.next_indent Flat c.in-Ok-NextFlat.next hand one (c.in-Ok-NextFlat.ensures.asked (subst IsStepped (sym c.in-Ok-NextFlat.field-0-is) tt)) (shown f c.down.printer q c.in-Ok-NextFlat.field-0 (taken.NextFlat c.in-Ok-NextFlat.next_indent c.in-Ok-NextFlat.next) hand c.in-Ok-NextFlat.field-0-is c.in-Ok-NextFlat.ensures.step);
-      summed = c.in-Ok-NextFlat.ensures.summed;
-      spends = λ plain. spends_down f c.down.printer q c.in-Ok-NextFlat.next_indent Flat c.in-Ok-NextFlat.next took plain c.step.ensures.queue (shown f c.down.printer q c.in-Ok-NextFlat.field-0 (taken.NextFlat c.in-Ok-NextFlat.next_indent c.in-Ok-NextFlat.next) hand c.in-Ok-NextFlat.field-0-is c.in-Ok-NextFlat.ensures.step);
+      hand = goes_down f c.down.printer q x c.in-Ok-DescendFlat.next_indent Flat c.in-Ok-DescendFlat.next hand one
+          (c.in-Ok-DescendFlat.ensures.asked (subst IsStepped (sym c.in-Ok-DescendFlat.field-0-is) tt))
+          (shown f c.down.printer q c.in-Ok-DescendFlat.field-0 (step_result.DescendFlat c.in-Ok-DescendFlat.next_indent
+          c.in-Ok-DescendFlat.next) hand
+          c.in-Ok-DescendFlat.field-0-is c.in-Ok-DescendFlat.ensures.step);
+      summed = c.in-Ok-DescendFlat.ensures.summed;
+      spends = λ plain. spends_down f c.down.printer q c.in-Ok-DescendFlat.next_indent Flat c.in-Ok-DescendFlat.next took plain
+          c.step.ensures.queue (shown f c.down.printer q c.in-Ok-DescendFlat.field-0
+          (step_result.DescendFlat c.in-Ok-DescendFlat.next_indent c.in-Ok-DescendFlat.next) hand c.in-Ok-DescendFlat.field-0-is
+          c.in-Ok-DescendFlat.ensures.step);
     }
 
 pub returns-in-Ok-lay_texts-clause-advances : goal.returns-in-Ok-lay_texts-clause-advances
@@ -67,30 +89,41 @@ returns-in-Ok-lay_texts-clause-advances g c =
     let see = seen g.W.Render.bytes g.W.Render.failures g.W.Render.lender in
     let q = c.step.new.printer in
     let x = c.step.new.visits in
-    let i = c.in-Ok-NextTexts.field-0-0 in
-    let n = c.in-Ok-NextTexts.next in
+    let i = c.in-Ok-DescendTexts.field-0-0 in
+    let n = c.in-Ok-DescendTexts.next in
     let hand = c.down.invariant.hand in
-    let one = visit f c.down.printer x c.one_more-visits.result hand c.one_more-visits.ensures.one c.one_more-visits.ensures.rises c.step.ensures.printer c.step.ensures.rises c.step.ensures.counted in
-    subst (λ (z : Result (Unit {0}) (RenderError g.row.W-Error.Denot)). Advances f (point f c.args.printer.now (see c.args.out.now) c.args.visits.now)
+    let one = visit f c.down.printer x c.one_more-visits.result hand c.one_more-visits.ensures.one c.one_more-visits.ensures.rises
+    c.step.ensures.printer c.step.ensures.rises c.step.ensures.counted in
+    subst (λ (z : Result (Unit {0}) (RenderError g.row.W-Error.Denot)). Advances f
+    (point f c.args.printer.now (see c.args.out.now) c.args.visits.now)
     (point f c.lay_texts.new.printer (see c.lay_texts.new.out) c.lay_texts.new.visits) (ends_turn z)) c.in-Ok-lay_texts.is
     (c.lay_texts.ensures.lays _ i
-    (laying_begins f c.down.printer q x i n hand one (c.in-Ok-NextTexts.ensures.asked (subst IsStepped (sym c.in-Ok-NextTexts.field-0-is) tt)) (shown f c.down.printer q c.in-Ok-NextTexts.field-0 (taken.NextTexts i n) hand c.in-Ok-NextTexts.field-0-is c.in-Ok-NextTexts.ensures.step).0))
+    (laying_begins f c.down.printer q x i n hand one
+    (c.in-Ok-DescendTexts.ensures.asked (subst IsStepped (sym c.in-Ok-DescendTexts.field-0-is) tt))
+    (shown f c.down.printer q c.in-Ok-DescendTexts.field-0 (step_result.DescendTexts i n) hand c.in-Ok-DescendTexts.field-0-is
+    c.in-Ok-DescendTexts.ensures.step).0))
 
 pub returns-in-Ok-lay_texts-clause-spends : goal.returns-in-Ok-lay_texts-clause-spends
 returns-in-Ok-lay_texts-clause-spends g c =
     let f = g.N.Walk.tree in
     let q = c.step.new.printer in
     let x = c.step.new.visits in
-    let i = c.in-Ok-NextTexts.field-0-0 in
-    let n = c.in-Ok-NextTexts.next in
+    let i = c.in-Ok-DescendTexts.field-0-0 in
+    let n = c.in-Ok-DescendTexts.next in
     let laid = c.lay_texts.ensures in
     let hand = c.down.invariant.hand in
-    let one = visit f c.down.printer x c.one_more-visits.result hand c.one_more-visits.ensures.one c.one_more-visits.ensures.rises c.step.ensures.printer c.step.ensures.rises c.step.ensures.counted in
-    let took = takes f g.N.Walk.HAS_SUMMARIES c.args.limit c.down.printer x hand one (c.in-Ok-NextTexts.ensures.within (subst IsStepped (sym c.in-Ok-NextTexts.field-0-is) tt)) c.step.ensures.counted c.step.ensures.few c.down.invariant.spends in
+    let one = visit f c.down.printer x c.one_more-visits.result hand c.one_more-visits.ensures.one c.one_more-visits.ensures.rises
+    c.step.ensures.printer c.step.ensures.rises c.step.ensures.counted in
+    let took = takes f g.N.Walk.HAS_SUMMARIES c.args.limit c.down.printer x hand one
+    (c.in-Ok-DescendTexts.ensures.within (subst IsStepped (sym c.in-Ok-DescendTexts.field-0-is) tt)) c.step.ensures.counted
+    c.step.ensures.few
+    c.down.invariant.spends in
     λ plain.
-    (spends_laid (standing f q) (standing f c.lay_texts.new.printer) c.lay_texts.new.visits (ap (stack_of f) laid.commands) (ap (λ (z : Queue g.row.N.Denot). trees f z.nodes.items) laid.queue) laid.probes laid.rises laid.counted
+    (spends_laid (standing f q) (standing f c.lay_texts.new.printer) c.lay_texts.new.visits (ap (stack_of f) laid.commands)
+    (ap (λ (z : Queue g.row.N.Denot). trees f z.nodes.items) laid.queue) laid.probes laid.rises laid.counted
     (spends_down f c.down.printer q i Flat n took plain c.step.ensures.queue
-    (shown f c.down.printer q c.in-Ok-NextTexts.field-0 (taken.NextTexts i n) hand c.in-Ok-NextTexts.field-0-is c.in-Ok-NextTexts.ensures.step).0))
+    (shown f c.down.printer q c.in-Ok-DescendTexts.field-0 (step_result.DescendTexts i n) hand c.in-Ok-DescendTexts.field-0-is
+    c.in-Ok-DescendTexts.ensures.step).0))
 
 pub returns-in-Err-lay_texts-clause-advances : goal.returns-in-Err-lay_texts-clause-advances
 returns-in-Err-lay_texts-clause-advances g c =
@@ -98,40 +131,55 @@ returns-in-Err-lay_texts-clause-advances g c =
     let see = seen g.W.Render.bytes g.W.Render.failures g.W.Render.lender in
     let q = c.step.new.printer in
     let x = c.step.new.visits in
-    let i = c.in-Ok-NextTexts.field-0-0 in
-    let n = c.in-Ok-NextTexts.next in
+    let i = c.in-Ok-DescendTexts.field-0-0 in
+    let n = c.in-Ok-DescendTexts.next in
     let hand = c.down.invariant.hand in
-    let one = visit f c.down.printer x c.one_more-visits.result hand c.one_more-visits.ensures.one c.one_more-visits.ensures.rises c.step.ensures.printer c.step.ensures.rises c.step.ensures.counted in
-    subst (λ (z : Result (Unit {0}) (RenderError g.row.W-Error.Denot)). Advances f (point f c.args.printer.now (see c.args.out.now) c.args.visits.now)
+    let one = visit f c.down.printer x c.one_more-visits.result hand c.one_more-visits.ensures.one c.one_more-visits.ensures.rises
+    c.step.ensures.printer c.step.ensures.rises c.step.ensures.counted in
+    subst (λ (z : Result (Unit {0}) (RenderError g.row.W-Error.Denot)). Advances f
+    (point f c.args.printer.now (see c.args.out.now) c.args.visits.now)
     (point f c.lay_texts.new.printer (see c.lay_texts.new.out) c.lay_texts.new.visits) (ends_turn z)) c.in-Err-lay_texts.is
     (c.lay_texts.ensures.lays _ i
-    (laying_begins f c.down.printer q x i n hand one (c.in-Ok-NextTexts.ensures.asked (subst IsStepped (sym c.in-Ok-NextTexts.field-0-is) tt)) (shown f c.down.printer q c.in-Ok-NextTexts.field-0 (taken.NextTexts i n) hand c.in-Ok-NextTexts.field-0-is c.in-Ok-NextTexts.ensures.step).0))
+    (laying_begins f c.down.printer q x i n hand one
+    (c.in-Ok-DescendTexts.ensures.asked (subst IsStepped (sym c.in-Ok-DescendTexts.field-0-is) tt))
+    (shown f c.down.printer q c.in-Ok-DescendTexts.field-0 (step_result.DescendTexts i n) hand c.in-Ok-DescendTexts.field-0-is
+    c.in-Ok-DescendTexts.ensures.step).0))
 
 pub returns-in-Err-lay_texts-clause-spends : goal.returns-in-Err-lay_texts-clause-spends
 returns-in-Err-lay_texts-clause-spends g c =
     let f = g.N.Walk.tree in
     let q = c.step.new.printer in
     let x = c.step.new.visits in
-    let i = c.in-Ok-NextTexts.field-0-0 in
-    let n = c.in-Ok-NextTexts.next in
+    let i = c.in-Ok-DescendTexts.field-0-0 in
+    let n = c.in-Ok-DescendTexts.next in
     let laid = c.lay_texts.ensures in
     let hand = c.down.invariant.hand in
-    let one = visit f c.down.printer x c.one_more-visits.result hand c.one_more-visits.ensures.one c.one_more-visits.ensures.rises c.step.ensures.printer c.step.ensures.rises c.step.ensures.counted in
-    let took = takes f g.N.Walk.HAS_SUMMARIES c.args.limit c.down.printer x hand one (c.in-Ok-NextTexts.ensures.within (subst IsStepped (sym c.in-Ok-NextTexts.field-0-is) tt)) c.step.ensures.counted c.step.ensures.few c.down.invariant.spends in
+    let one = visit f c.down.printer x c.one_more-visits.result hand c.one_more-visits.ensures.one c.one_more-visits.ensures.rises
+    c.step.ensures.printer c.step.ensures.rises c.step.ensures.counted in
+    let took = takes f g.N.Walk.HAS_SUMMARIES c.args.limit c.down.printer x hand one
+    (c.in-Ok-DescendTexts.ensures.within (subst IsStepped (sym c.in-Ok-DescendTexts.field-0-is) tt)) c.step.ensures.counted
+    c.step.ensures.few
+    c.down.invariant.spends in
     λ plain.
-    spends_all (spends_laid (standing f q) (standing f c.lay_texts.new.printer) c.lay_texts.new.visits (ap (stack_of f) laid.commands) (ap (λ (z : Queue g.row.N.Denot). trees f z.nodes.items) laid.queue) laid.probes laid.rises laid.counted
+    spends_all (spends_laid (standing f q) (standing f c.lay_texts.new.printer) c.lay_texts.new.visits (ap (stack_of f) laid.commands)
+    (ap (λ (z : Queue g.row.N.Denot). trees f z.nodes.items) laid.queue) laid.probes laid.rises laid.counted
     (spends_down f c.down.printer q i Flat n took plain c.step.ensures.queue
-    (shown f c.down.printer q c.in-Ok-NextTexts.field-0 (taken.NextTexts i n) hand c.in-Ok-NextTexts.field-0-is c.in-Ok-NextTexts.ensures.step).0))
+    (shown f c.down.printer q c.in-Ok-DescendTexts.field-0 (step_result.DescendTexts i n) hand c.in-Ok-DescendTexts.field-0-is
+    c.in-Ok-DescendTexts.ensures.step).0))
 
-pub returns-in-Ok-Quiet-clause-advances : goal.returns-in-Ok-Quiet-clause-advances
-returns-in-Ok-Quiet-clause-advances g c =
+pub returns-in-Ok-Silent-clause-advances : goal.returns-in-Ok-Silent-clause-advances
+returns-in-Ok-Silent-clause-advances g c =
     let f = g.N.Walk.tree in
     let see = seen g.W.Render.bytes g.W.Render.failures g.W.Render.lender in
     let q = c.step.new.printer in
     let x = c.step.new.visits in
     let hand = c.down.invariant.hand in
-    let one = visit f c.down.printer x c.one_more-visits.result hand c.one_more-visits.ensures.one c.one_more-visits.ensures.rises c.step.ensures.printer c.step.ensures.rises c.step.ensures.counted in
-    advances_went f (standing f q) (see c.down.out) x [] hand one (c.in-Ok-Quiet.ensures.asked (subst IsStepped (sym c.in-Ok-Quiet.field-0-is) tt)) (wrote f _ [] c.down.printer q (shown f c.down.printer q c.in-Ok-Quiet.field-0 taken.Quiet hand c.in-Ok-Quiet.field-0-is c.in-Ok-Quiet.ensures.step)) refl
+    let one = visit f c.down.printer x c.one_more-visits.result hand c.one_more-visits.ensures.one c.one_more-visits.ensures.rises
+    c.step.ensures.printer c.step.ensures.rises c.step.ensures.counted in
+    advances_went f (standing f q) (see c.down.out) x [] hand one
+    (c.in-Ok-Silent.ensures.asked (subst IsStepped (sym c.in-Ok-Silent.field-0-is) tt))
+    (wrote f _ [] c.down.printer q (shown f c.down.printer q c.in-Ok-Silent.field-0 step_result.Silent hand c.in-Ok-Silent.field-0-is
+    c.in-Ok-Silent.ensures.step)) refl
     (λ is_known. (is_known, (sym (append-nil (known (g.W.Render.bytes c.down.out))), refl)))
 
 pub returns-in-Ok-Failed-clause-advances : goal.returns-in-Ok-Failed-clause-advances
@@ -140,18 +188,24 @@ returns-in-Ok-Failed-clause-advances g c =
     let q = c.step.new.printer in
     let x = c.step.new.visits in
     let hand = c.down.invariant.hand in
-    let one = visit f c.down.printer x c.one_more-visits.result hand c.one_more-visits.ensures.one c.one_more-visits.ensures.rises c.step.ensures.printer c.step.ensures.rises c.step.ensures.counted in
-    advances_failed f c.down.printer q x hand one (shown f c.down.printer q c.in-Ok-Failed.field-0 taken.Failed hand c.in-Ok-Failed.field-0-is c.in-Ok-Failed.ensures.step)
+    let one = visit f c.down.printer x c.one_more-visits.result hand c.one_more-visits.ensures.one c.one_more-visits.ensures.rises
+    c.step.ensures.printer c.step.ensures.rises c.step.ensures.counted in
+    advances_failed f c.down.printer q x hand one
+    (shown f c.down.printer q c.in-Ok-Failed.field-0 step_result.Failed hand c.in-Ok-Failed.field-0-is c.in-Ok-Failed.ensures.step)
 
-pub returns-in-Ok-Chosen-clause-advances : goal.returns-in-Ok-Chosen-clause-advances
-returns-in-Ok-Chosen-clause-advances g c =
+pub returns-in-Ok-Choice-clause-advances : goal.returns-in-Ok-Choice-clause-advances
+returns-in-Ok-Choice-clause-advances g c =
     let f = g.N.Walk.tree in
     let q = c.step.new.printer in
     let x = c.step.new.visits in
     let hand = c.down.invariant.hand in
-    let one = visit f c.down.printer x c.one_more-visits.result hand c.one_more-visits.ensures.one c.one_more-visits.ensures.rises c.step.ensures.printer c.step.ensures.rises c.step.ensures.counted in
-    advances_chosen f c.down.printer q x c.in-Ok-Chosen.indent c.in-Ok-Chosen.first c.in-Ok-Chosen.second hand one (c.in-Ok-Chosen.ensures.asked (subst IsStepped (sym c.in-Ok-Chosen.field-0-is) tt))
-    (shown f c.down.printer q c.in-Ok-Chosen.field-0 (taken.Chosen c.in-Ok-Chosen.indent c.in-Ok-Chosen.first c.in-Ok-Chosen.second) hand c.in-Ok-Chosen.field-0-is c.in-Ok-Chosen.ensures.step)
+    let one = visit f c.down.printer x c.one_more-visits.result hand c.one_more-visits.ensures.one c.one_more-visits.ensures.rises
+    c.step.ensures.printer c.step.ensures.rises c.step.ensures.counted in
+    advances_chosen f c.down.printer q x c.in-Ok-Choice.indent c.in-Ok-Choice.first c.in-Ok-Choice.second hand one
+    (c.in-Ok-Choice.ensures.asked (subst IsStepped (sym c.in-Ok-Choice.field-0-is) tt))
+    (shown f c.down.printer q c.in-Ok-Choice.field-0 (step_result.Choice c.in-Ok-Choice.indent c.in-Ok-Choice.first c.in-Ok-Choice.second)
+    hand
+    c.in-Ok-Choice.field-0-is c.in-Ok-Choice.ensures.step)
 
 pub returns-in-Ok-write_piece-clause-advances : goal.returns-in-Ok-write_piece-clause-advances
 returns-in-Ok-write_piece-clause-advances g c =
@@ -160,8 +214,13 @@ returns-in-Ok-write_piece-clause-advances g c =
     let q = c.step.new.printer in
     let x = c.step.new.visits in
     let hand = c.down.invariant.hand in
-    let one = visit f c.down.printer x c.one_more-visits.result hand c.one_more-visits.ensures.one c.one_more-visits.ensures.rises c.step.ensures.printer c.step.ensures.rises c.step.ensures.counted in
-    advances_went f (standing f q) (see c.write_piece.new.out) x (piece_bytes c.in-Ok-Written.piece) hand one (c.in-Ok-Written.ensures.asked (subst IsStepped (sym c.in-Ok-Written.field-0-is) tt)) (wrote f _ (piece_bytes c.in-Ok-Written.piece) c.down.printer q (shown f c.down.printer q c.in-Ok-Written.field-0 (taken.Written c.in-Ok-Written.piece) hand c.in-Ok-Written.field-0-is c.in-Ok-Written.ensures.step))
+    let one = visit f c.down.printer x c.one_more-visits.result hand c.one_more-visits.ensures.one c.one_more-visits.ensures.rises
+    c.step.ensures.printer c.step.ensures.rises c.step.ensures.counted in
+    advances_went f (standing f q) (see c.write_piece.new.out) x (piece_bytes c.in-Ok-Emit.piece) hand one
+    (c.in-Ok-Emit.ensures.asked (subst IsStepped (sym c.in-Ok-Emit.field-0-is) tt))
+    (wrote f _ (piece_bytes c.in-Ok-Emit.piece) c.down.printer q
+    (shown f c.down.printer q c.in-Ok-Emit.field-0 (step_result.Emit c.in-Ok-Emit.piece) hand c.in-Ok-Emit.field-0-is
+    c.in-Ok-Emit.ensures.step))
     c.write_piece.ensures.same_lender c.in-Ok-write_piece.ensures.ok
 
 pub returns-in-Err-clause-advances : goal.returns-in-Err-clause-advances
@@ -170,7 +229,8 @@ returns-in-Err-clause-advances g c =
     let q = c.step.new.printer in
     let x = c.step.new.visits in
     let hand = c.down.invariant.hand in
-    let one = visit f c.down.printer x c.one_more-visits.result hand c.one_more-visits.ensures.one c.one_more-visits.ensures.rises c.step.ensures.printer c.step.ensures.rises c.step.ensures.counted in
+    let one = visit f c.down.printer x c.one_more-visits.result hand c.one_more-visits.ensures.one c.one_more-visits.ensures.rises
+    c.step.ensures.printer c.step.ensures.rises c.step.ensures.counted in
     advances_refused f (standing f q) x c.in-Err.e hand one
 
 pub returns-in-Err-write_piece-clause-advances : goal.returns-in-Err-write_piece-clause-advances
@@ -180,8 +240,12 @@ returns-in-Err-write_piece-clause-advances g c =
     let q = c.step.new.printer in
     let x = c.step.new.visits in
     let hand = c.down.invariant.hand in
-    let one = visit f c.down.printer x c.one_more-visits.result hand c.one_more-visits.ensures.one c.one_more-visits.ensures.rises c.step.ensures.printer c.step.ensures.rises c.step.ensures.counted in
-    advances_sink_failed f (standing f q) (see c.write_piece.new.out) x (piece_bytes c.in-Ok-Written.piece) c.in-Err-write_piece.e hand one (wrote f _ (piece_bytes c.in-Ok-Written.piece) c.down.printer q (shown f c.down.printer q c.in-Ok-Written.field-0 (taken.Written c.in-Ok-Written.piece) hand c.in-Ok-Written.field-0-is c.in-Ok-Written.ensures.step))
+    let one = visit f c.down.printer x c.one_more-visits.result hand c.one_more-visits.ensures.one c.one_more-visits.ensures.rises
+    c.step.ensures.printer c.step.ensures.rises c.step.ensures.counted in
+    advances_sink_failed f (standing f q) (see c.write_piece.new.out) x (piece_bytes c.in-Ok-Emit.piece) c.in-Err-write_piece.e hand one
+    (wrote f _ (piece_bytes c.in-Ok-Emit.piece) c.down.printer q
+    (shown f c.down.printer q c.in-Ok-Emit.field-0 (step_result.Emit c.in-Ok-Emit.piece) hand c.in-Ok-Emit.field-0-is
+    c.in-Ok-Emit.ensures.step))
     c.write_piece.ensures.same_lender c.in-Err-write_piece.ensures.err
 
 pub returns-in-Err-clause-spends : goal.returns-in-Err-clause-spends
@@ -189,20 +253,27 @@ returns-in-Err-clause-spends g c =
     let f = g.N.Walk.tree in
     let x = c.step.new.visits in
     let hand = c.down.invariant.hand in
-    let one = visit f c.down.printer x c.one_more-visits.result hand c.one_more-visits.ensures.one c.one_more-visits.ensures.rises c.step.ensures.printer c.step.ensures.rises c.step.ensures.counted in
-    let took = takes f g.N.Walk.HAS_SUMMARIES c.args.limit c.down.printer x hand one (c.in-Err.ensures.within tt) c.step.ensures.counted c.step.ensures.few c.down.invariant.spends in
+    let one = visit f c.down.printer x c.one_more-visits.result hand c.one_more-visits.ensures.one c.one_more-visits.ensures.rises
+    c.step.ensures.printer c.step.ensures.rises c.step.ensures.counted in
+    let took = takes f g.N.Walk.HAS_SUMMARIES c.args.limit c.down.printer x hand one (c.in-Err.ensures.within tt) c.step.ensures.counted
+    c.step.ensures.few c.down.invariant.spends in
     λ plain. spends_broke f c.down.printer took plain
 
-pub returns-in-Ok-Quiet-clause-spends : goal.returns-in-Ok-Quiet-clause-spends
-returns-in-Ok-Quiet-clause-spends g c =
+pub returns-in-Ok-Silent-clause-spends : goal.returns-in-Ok-Silent-clause-spends
+returns-in-Ok-Silent-clause-spends g c =
     let f = g.N.Walk.tree in
     let q = c.step.new.printer in
     let x = c.step.new.visits in
     let hand = c.down.invariant.hand in
-    let one = visit f c.down.printer x c.one_more-visits.result hand c.one_more-visits.ensures.one c.one_more-visits.ensures.rises c.step.ensures.printer c.step.ensures.rises c.step.ensures.counted in
-    let took = takes f g.N.Walk.HAS_SUMMARIES c.args.limit c.down.printer x hand one (c.in-Ok-Quiet.ensures.within (subst IsStepped (sym c.in-Ok-Quiet.field-0-is) tt)) c.step.ensures.counted c.step.ensures.few c.down.invariant.spends in
+    let one = visit f c.down.printer x c.one_more-visits.result hand c.one_more-visits.ensures.one c.one_more-visits.ensures.rises
+    c.step.ensures.printer c.step.ensures.rises c.step.ensures.counted in
+    let took = takes f g.N.Walk.HAS_SUMMARIES c.args.limit c.down.printer x hand one
+    (c.in-Ok-Silent.ensures.within (subst IsStepped (sym c.in-Ok-Silent.field-0-is) tt)) c.step.ensures.counted c.step.ensures.few
+    c.down.invariant.spends in
     λ plain.
-    spends_went f c.down.printer q [] took plain c.step.ensures.queue (wrote f _ [] c.down.printer q (shown f c.down.printer q c.in-Ok-Quiet.field-0 taken.Quiet hand c.in-Ok-Quiet.field-0-is c.in-Ok-Quiet.ensures.step))
+    spends_went f c.down.printer q [] took plain c.step.ensures.queue
+    (wrote f _ [] c.down.printer q (shown f c.down.printer q c.in-Ok-Silent.field-0 step_result.Silent hand c.in-Ok-Silent.field-0-is
+    c.in-Ok-Silent.ensures.step))
 
 pub returns-in-Ok-Failed-clause-spends : goal.returns-in-Ok-Failed-clause-spends
 returns-in-Ok-Failed-clause-spends g c =
@@ -210,21 +281,30 @@ returns-in-Ok-Failed-clause-spends g c =
     let q = c.step.new.printer in
     let x = c.step.new.visits in
     let hand = c.down.invariant.hand in
-    let one = visit f c.down.printer x c.one_more-visits.result hand c.one_more-visits.ensures.one c.one_more-visits.ensures.rises c.step.ensures.printer c.step.ensures.rises c.step.ensures.counted in
-    let took = takes f g.N.Walk.HAS_SUMMARIES c.args.limit c.down.printer x hand one (c.in-Ok-Failed.ensures.within (subst IsStepped (sym c.in-Ok-Failed.field-0-is) tt)) c.step.ensures.counted c.step.ensures.few c.down.invariant.spends in
-    λ plain. spends_failed f c.down.printer q took plain (shown f c.down.printer q c.in-Ok-Failed.field-0 taken.Failed hand c.in-Ok-Failed.field-0-is c.in-Ok-Failed.ensures.step)
+    let one = visit f c.down.printer x c.one_more-visits.result hand c.one_more-visits.ensures.one c.one_more-visits.ensures.rises
+    c.step.ensures.printer c.step.ensures.rises c.step.ensures.counted in
+    let took = takes f g.N.Walk.HAS_SUMMARIES c.args.limit c.down.printer x hand one
+    (c.in-Ok-Failed.ensures.within (subst IsStepped (sym c.in-Ok-Failed.field-0-is) tt)) c.step.ensures.counted c.step.ensures.few
+    c.down.invariant.spends in
+    λ plain. spends_failed f c.down.printer q took plain
+    (shown f c.down.printer q c.in-Ok-Failed.field-0 step_result.Failed hand c.in-Ok-Failed.field-0-is c.in-Ok-Failed.ensures.step)
 
-pub returns-in-Ok-Chosen-clause-spends : goal.returns-in-Ok-Chosen-clause-spends
-returns-in-Ok-Chosen-clause-spends g c =
+pub returns-in-Ok-Choice-clause-spends : goal.returns-in-Ok-Choice-clause-spends
+returns-in-Ok-Choice-clause-spends g c =
     let f = g.N.Walk.tree in
     let q = c.step.new.printer in
     let x = c.step.new.visits in
     let hand = c.down.invariant.hand in
-    let one = visit f c.down.printer x c.one_more-visits.result hand c.one_more-visits.ensures.one c.one_more-visits.ensures.rises c.step.ensures.printer c.step.ensures.rises c.step.ensures.counted in
-    let took = takes f g.N.Walk.HAS_SUMMARIES c.args.limit c.down.printer x hand one (c.in-Ok-Chosen.ensures.within (subst IsStepped (sym c.in-Ok-Chosen.field-0-is) tt)) c.step.ensures.counted c.step.ensures.few c.down.invariant.spends in
+    let one = visit f c.down.printer x c.one_more-visits.result hand c.one_more-visits.ensures.one c.one_more-visits.ensures.rises
+    c.step.ensures.printer c.step.ensures.rises c.step.ensures.counted in
+    let took = takes f g.N.Walk.HAS_SUMMARIES c.args.limit c.down.printer x hand one
+    (c.in-Ok-Choice.ensures.within (subst IsStepped (sym c.in-Ok-Choice.field-0-is) tt)) c.step.ensures.counted c.step.ensures.few
+    c.down.invariant.spends in
     λ plain.
-    spends_chosen f c.down.printer q c.in-Ok-Chosen.indent c.in-Ok-Chosen.first c.in-Ok-Chosen.second took plain
-    (shown f c.down.printer q c.in-Ok-Chosen.field-0 (taken.Chosen c.in-Ok-Chosen.indent c.in-Ok-Chosen.first c.in-Ok-Chosen.second) hand c.in-Ok-Chosen.field-0-is c.in-Ok-Chosen.ensures.step)
+    spends_chosen f c.down.printer q c.in-Ok-Choice.indent c.in-Ok-Choice.first c.in-Ok-Choice.second took plain
+    (shown f c.down.printer q c.in-Ok-Choice.field-0 (step_result.Choice c.in-Ok-Choice.indent c.in-Ok-Choice.first c.in-Ok-Choice.second)
+    hand
+    c.in-Ok-Choice.field-0-is c.in-Ok-Choice.ensures.step)
 
 pub returns-in-Ok-write_piece-clause-spends : goal.returns-in-Ok-write_piece-clause-spends
 returns-in-Ok-write_piece-clause-spends g c =
@@ -232,20 +312,27 @@ returns-in-Ok-write_piece-clause-spends g c =
     let q = c.step.new.printer in
     let x = c.step.new.visits in
     let hand = c.down.invariant.hand in
-    let one = visit f c.down.printer x c.one_more-visits.result hand c.one_more-visits.ensures.one c.one_more-visits.ensures.rises c.step.ensures.printer c.step.ensures.rises c.step.ensures.counted in
-    let took = takes f g.N.Walk.HAS_SUMMARIES c.args.limit c.down.printer x hand one (c.in-Ok-Written.ensures.within (subst IsStepped (sym c.in-Ok-Written.field-0-is) tt)) c.step.ensures.counted c.step.ensures.few c.down.invariant.spends in
-    let bytes = piece_bytes c.in-Ok-Written.piece in
+    let one = visit f c.down.printer x c.one_more-visits.result hand c.one_more-visits.ensures.one c.one_more-visits.ensures.rises
+    c.step.ensures.printer c.step.ensures.rises c.step.ensures.counted in
+    let took = takes f g.N.Walk.HAS_SUMMARIES c.args.limit c.down.printer x hand one
+    (c.in-Ok-Emit.ensures.within (subst IsStepped (sym c.in-Ok-Emit.field-0-is) tt)) c.step.ensures.counted c.step.ensures.few
+    c.down.invariant.spends in
+    let bytes = piece_bytes c.in-Ok-Emit.piece in
     λ plain.
     spends_went f c.down.printer q bytes took plain c.step.ensures.queue
-    (wrote f _ bytes c.down.printer q (shown f c.down.printer q c.in-Ok-Written.field-0 (taken.Written c.in-Ok-Written.piece) hand c.in-Ok-Written.field-0-is c.in-Ok-Written.ensures.step))
+    (wrote f _ bytes c.down.printer q (shown f c.down.printer q c.in-Ok-Emit.field-0 (step_result.Emit c.in-Ok-Emit.piece) hand
+    c.in-Ok-Emit.field-0-is c.in-Ok-Emit.ensures.step))
 
 pub returns-in-Err-write_piece-clause-spends : goal.returns-in-Err-write_piece-clause-spends
 returns-in-Err-write_piece-clause-spends g c =
     let f = g.N.Walk.tree in
     let x = c.step.new.visits in
     let hand = c.down.invariant.hand in
-    let one = visit f c.down.printer x c.one_more-visits.result hand c.one_more-visits.ensures.one c.one_more-visits.ensures.rises c.step.ensures.printer c.step.ensures.rises c.step.ensures.counted in
-    let took = takes f g.N.Walk.HAS_SUMMARIES c.args.limit c.down.printer x hand one (c.in-Ok-Written.ensures.within (subst IsStepped (sym c.in-Ok-Written.field-0-is) tt)) c.step.ensures.counted c.step.ensures.few c.down.invariant.spends in
+    let one = visit f c.down.printer x c.one_more-visits.result hand c.one_more-visits.ensures.one c.one_more-visits.ensures.rises
+    c.step.ensures.printer c.step.ensures.rises c.step.ensures.counted in
+    let took = takes f g.N.Walk.HAS_SUMMARIES c.args.limit c.down.printer x hand one
+    (c.in-Ok-Emit.ensures.within (subst IsStepped (sym c.in-Ok-Emit.field-0-is) tt)) c.step.ensures.counted c.step.ensures.few
+    c.down.invariant.spends in
     λ plain. spends_broke f c.down.printer took plain
 
 pub returns-in-Ok-clause-past : goal.returns-in-Ok-clause-past

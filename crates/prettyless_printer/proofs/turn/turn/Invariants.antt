@@ -15,10 +15,12 @@ invariant-down g l =
     let f = g.N.Walk.tree in
     let sink = seen g.W.Render.bytes g.W.Render.failures g.W.Render.lender in
     record {
-      hand : InHand (point f l.fn.printer (sink l.fn.out) l.fn.visits) (make_task l.indent l.mode (f l.node)) (point f l.printer (sink l.out) l.visits);
+      hand : InHand (point f l.fn.printer (sink l.fn.out) l.fn.visits) (make_task l.indent l.mode (f l.node))
+          (point f l.printer (sink l.out) l.visits);
       summed : IsSummed g.N.Walk.HAS_SUMMARIES f l.printer.commands;
       spends : Plain (standing f l.fn.printer) → Spends (rule_of g.N.Walk.HAS_SUMMARIES l.fn.printer.options l.limit)
-          (left (standing f l.fn.printer) [] l.fn.visits) (left_with (make_task l.indent l.mode (f l.node)) (standing f l.printer) l.visits);
+          (left (standing f l.fn.printer) [] l.fn.visits)
+          (left_with (make_task l.indent l.mode (f l.node)) (standing f l.printer) l.visits);
     }
 
 abbrev pub decreases-down : goal.decreases-down

@@ -10,7 +10,8 @@ use Rattle.prettyless_sink.proofs.pieces.write_gap_and_text.Goals.{then-gap-gt0+
 
 pub returns-in_err-write_spaces-clause-err : goal.returns-in_err-write_spaces-clause-err
 returns-in_err-write_spaces-clause-err g c =
-    on_err c.from_residual.result (λ is_known. let failed = c.in_err-write_spaces.ensures.err is_known in (failed.0, (beginning_of_more _ _ _ c.args.text.now failed.1.0, failed.1.1)))
+    on_err c.from_residual.result (λ is_known. let failed = c.in_err-write_spaces.ensures.err is_known in
+    (failed.0, (beginning_of_more _ _ _ c.args.text.now failed.1.0, failed.1.1)))
 
 pub returns-clause-ok : goal.returns-clause-ok
 returns-clause-ok g c =

@@ -12,7 +12,8 @@ returns-in_err-write_str_all-clause-err g c =
     let failed = c.in_err-write_str_all.ensures.err before.0 in (
       failed.0,
       (
-        beginning_of_gap _ _ _ _ c.args.count (c.args.count - c.loop-left.left) c.min-piece.result (omega arith) c.some_spaces.ensures before.1.0 failed.1.0,
+        beginning_of_gap _ _ _ _ c.args.count (c.args.count - c.loop-left.left) c.min-piece.result (omega arith) c.some_spaces.ensures
+            before.1.0 failed.1.0,
         failed.1.1 ∙ ap rise before.1.1,
       ),
     ))
@@ -26,7 +27,8 @@ loop-left-preserved g c = (
       let wrote = c.in_ok-write_str_all.ensures.ok before.0 in (
         wrote.0,
         (
-          piece_after_gap _ _ _ _ _ (c.args.count - c.loop-left.left) c.min-piece.result (omega arith) c.some_spaces.ensures before.1.0 wrote.1.0,
+          piece_after_gap _ _ _ _ _ (c.args.count - c.loop-left.left) c.min-piece.result (omega arith) c.some_spaces.ensures
+              before.1.0 wrote.1.0,
           wrote.1.1 ∙ before.1.1,
         ),
       ),

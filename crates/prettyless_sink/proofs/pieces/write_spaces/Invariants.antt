@@ -6,7 +6,8 @@ use Rattle.prettyless_sink.proofs.pieces.write_spaces.Given as goal
 abbrev pub invariant-loop-left : goal.invariant-loop-left
 invariant-loop-left g l = (l.left ≤ l.count)
     × (g.W.Render.lender l.out ≡ g.W.Render.lender l.fn.out)
-    × Accepts (g.W.Render.bytes l.fn.out) (g.W.Render.bytes l.out) (spaces (l.count - l.left)) (g.W.Render.failures l.fn.out) (g.W.Render.failures l.out)
+    × Accepts (g.W.Render.bytes l.fn.out) (g.W.Render.bytes l.out) (spaces (l.count - l.left)) (g.W.Render.failures l.fn.out)
+    (g.W.Render.failures l.out)
 
 abbrev pub decreases-loop-left : goal.decreases-loop-left
 decreases-loop-left g l = l.left

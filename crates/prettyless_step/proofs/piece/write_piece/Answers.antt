@@ -27,11 +27,13 @@ returns-in_err-write_gap_and_text-2-clause-err g c =
     let old = c.args.out.now in
     let new = c.write_gap_and_text-then-piece-gt0.new.out in
     let piece = c.args.piece in
-    let both = refused_after _ _ _ (spaces piece.gap ++ piece.text.now) (spaces piece.indent ++ []) _ _ _ c.in_ok-write_gap_and_text.ensures.ok c.in_err-write_gap_and_text-2.ensures.err in
+    let both = refused_after _ _ _ (spaces piece.gap ++ piece.text.now) (spaces piece.indent ++ []) _ _ _
+    c.in_ok-write_gap_and_text.ensures.ok c.in_err-write_gap_and_text-2.ensures.err in
     on_err
     {P = Refuses (bytes old) (bytes new) (piece_bytes piece) (failures old) (failures new)}
     c.from_residual-in_err-write_gap_and_text-2.result
-    (subst (λ x. Refuses (bytes old) (bytes new) ((spaces piece.gap ++ piece.text.now) ++ x) (failures old) (failures new)) (append-nil (spaces piece.indent)) both)
+    (subst (λ x. Refuses (bytes old) (bytes new) ((spaces piece.gap ++ piece.text.now) ++ x) (failures old) (failures new))
+    (append-nil (spaces piece.indent)) both)
 
 pub returns-clause-ok : goal.returns-clause-ok
 returns-clause-ok g c = grind (arith, common_steps)

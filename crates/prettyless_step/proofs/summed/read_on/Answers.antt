@@ -29,25 +29,42 @@ returns-in-Some-sum_of-clause-answer g c =
     subst (λ x. ReadsAs f w c.read_by.result x after new.column new.pending)
     (sym (ap (λ (z : List Task). tasks_fit w (z ++ in_break ts) line.column line.pending) none.0
     ∙ c.in-Some-sum_of.ensures.0.fits w line.column line.pending c.requires.narrow
-    ∙ answer-each (look_by w sum.sum line.column line.pending) (λ e q. tasks_fit w (in_break (bottom sum.left ts)) e q) (λ e q. tasks_fit w after e q) (λ e q. ap (λ (z : List Task). tasks_fit w z e q) (sym left))))
+    ∙ answer-each (look_by w sum.sum line.column line.pending) (λ e q. tasks_fit w (in_break (bottom sum.left ts)) e q)
+    (λ e q. tasks_fit w after e q) (λ e q. ap (λ (z : List Task). tasks_fit w z e q) (sym left))))
     (c.read_by.ensures.answer after)
 
 pub returns-in-Some-sum_of-clause-smaller : goal.returns-in-Some-sum_of-clause-smaller
 returns-in-Some-sum_of-clause-smaller g c =
     let ts = unread g.N.Walk.tree c.args.commands.now c.args.below.now in
-    omega (arith, c.read_by.ensures.pace, ap nodes c.in_default.ensures.popped.1, ap nodes c.skip_to.ensures.unread, nodes_bottom c.in-Some-sum_of.sum.left ts c.in-Some-sum_of.ensures.1)
+    omega (
+      arith,
+      c.read_by.ensures.pace,
+      ap nodes c.in_default.ensures.popped.1,
+      ap nodes c.skip_to.ensures.unread,
+      nodes_bottom c.in-Some-sum_of.sum.left ts c.in-Some-sum_of.ensures.1,
+    )
 
 pub returns-in-Some-sum_of-clause-counted : goal.returns-in-Some-sum_of-clause-counted
 returns-in-Some-sum_of-clause-counted g c =
     let ts = unread g.N.Walk.tree c.args.commands.now c.args.below.now in
-    omega (arith, c.one_more.ensures.at_most, c.read_by.ensures.nodes, ap nodes c.in_default.ensures.popped.1, ap nodes c.skip_to.ensures.unread, nodes_bottom c.in-Some-sum_of.sum.left ts c.in-Some-sum_of.ensures.1)
+    omega (
+      arith,
+      c.one_more.ensures.at_most,
+      c.read_by.ensures.nodes,
+      ap nodes c.in_default.ensures.popped.1,
+      ap nodes c.skip_to.ensures.unread,
+      nodes_bottom c.in-Some-sum_of.sum.left ts c.in-Some-sum_of.ensures.1,
+    )
 
 pub returns-in-Some-read_down-clause-summed : goal.returns-in-Some-read_down-clause-summed
 returns-in-Some-read_down-clause-summed g c =
     let f = g.N.Walk.tree in
-    sums_less c.args.commands.now.sums.items (unread f c.args.commands.now c.args.below.now) (task f c.in-Some-read_down.next ∷ []) (unread f c.args.commands.now c.read_down.new.cursor) c.in-Some-read_down.ensures.unread c.requires.summed
+    sums_less c.args.commands.now.sums.items (unread f c.args.commands.now c.args.below.now) (task f c.in-Some-read_down.next ∷ [])
+    (unread f c.args.commands.now c.read_down.new.cursor) c.in-Some-read_down.ensures.unread c.requires.summed
 
 pub returns-in-None-clause-summed : goal.returns-in-None-clause-summed
 returns-in-None-clause-summed g c =
     let f = g.N.Walk.tree in
-    sums_less c.args.commands.now.sums.items (unread f c.args.commands.now c.args.below.now) [] (unread f c.args.commands.now c.read_down.new.cursor) (c.in-None.ensures.unread.0 ∙ sym c.in-None.ensures.unread.1) c.requires.summed
+    sums_less c.args.commands.now.sums.items (unread f c.args.commands.now c.args.below.now) []
+    (unread f c.args.commands.now c.read_down.new.cursor) (c.in-None.ensures.unread.0 ∙ sym c.in-None.ensures.unread.1)
+    c.requires.summed

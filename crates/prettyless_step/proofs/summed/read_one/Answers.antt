@@ -12,5 +12,6 @@ returns-in-Some-clause-answer g c ts =
     let after = stack_of f c.args.stack.now ++ ts in
     let new = c.read_by.new.line in
     subst (λ x. ReadsAs f w c.read_by.result x after new.column new.pending)
-    (ap (λ (x : Look). answer_of x (λ e q. tasks_fit w after e q)) (c.in-Some.ensures.known c.args.indent w line.column line.pending c.requires))
+    (ap (λ (x : Look). answer_of x (λ e q. tasks_fit w after e q))
+    (c.in-Some.ensures.known c.args.indent w line.column line.pending c.requires))
     (c.read_by.ensures.answer after)

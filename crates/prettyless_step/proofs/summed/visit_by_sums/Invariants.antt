@@ -10,12 +10,16 @@ invariant-read g l = record {
   of_this : Reads l.commands l.below;
   summed : AreSums l.commands.sums.items (unread g.N.Walk.tree l.commands l.below);
   same : ReadsAs g.N.Walk.tree l.width l.read
-      (tasks_fit l.width (task g.N.Walk.tree l.fn.first ∷ (stack_of g.N.Walk.tree l.fn.stack ++ in_break (unread g.N.Walk.tree l.commands l.fn.cursor))) l.fn.start.column l.fn.start.pending)
+      (tasks_fit l.width (task g.N.Walk.tree
+      l.fn.first ∷ (stack_of g.N.Walk.tree l.fn.stack ++ in_break (unread g.N.Walk.tree l.commands l.fn.cursor))) l.fn.start.column
+      l.fn.start.pending)
       (stack_of g.N.Walk.tree l.stack ++ in_break (unread g.N.Walk.tree l.commands l.below)) l.line.column l.line.pending;
   rises : l.fn.probes ≤ l.probes;
   asked : RisesBy 1 l.fn.probes l.probes;
-  counted : l.probes + (nodes_next g.N.Walk.tree l.read + (nodes (stack_of g.N.Walk.tree l.stack) + nodes (unread g.N.Walk.tree l.commands l.below)))
-      ≤ l.fn.probes + (size (g.N.Walk.tree l.fn.first.node) + (nodes (stack_of g.N.Walk.tree l.fn.stack) + nodes (unread g.N.Walk.tree l.commands l.fn.cursor)));
+  counted : l.probes + (nodes_next g.N.Walk.tree
+      l.read + (nodes (stack_of g.N.Walk.tree l.stack) + nodes (unread g.N.Walk.tree l.commands l.below)))
+      ≤ l.fn.probes + (size (g.N.Walk.tree l.fn.first.node)
+      + (nodes (stack_of g.N.Walk.tree l.fn.stack) + nodes (unread g.N.Walk.tree l.commands l.fn.cursor)));
   few : AllSummed g.N.Walk.HAS_SUMMARIES (g.N.Walk.tree l.fn.first.node) (unread g.N.Walk.tree l.commands l.fn.cursor)
       → stack_of g.N.Walk.tree l.fn.stack ≡ [] → length (unread g.N.Walk.tree l.commands l.fn.cursor) ≤ length l.commands.sums.items
       → OneLeft g.N.Walk.tree l.read (stack_of g.N.Walk.tree l.stack) (unread g.N.Walk.tree l.commands l.below) l.commands.sums.items

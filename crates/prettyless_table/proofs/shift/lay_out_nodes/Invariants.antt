@@ -1,19 +1,20 @@
-use Rattle.std.proofs.Common.{◌+◌, ◌-◌, ◌≤◌, drop, length}
-use Rattle.std.specs.List.{sum_by}
-use Rattle.prettyless_model.specs.Tree.{size}
+use Rattle.std.proofs.Common.{◌≡◌, ◌+◌, ◌++◌, ◌-◌, ◌≤◌, List, drop, length}
+use Rattle.prettyless_model.specs.Tree.{Tree}
 use Rattle.prettyless_step.specs.Stack.{trees}
-use Rattle.prettyless_table.specs.Cells.{Grows}
+use Rattle.prettyless_table.specs.Cells.{CellsGrow}
+use Rattle.prettyless_table.specs.Owners.{Stand}
 use Rattle.prettyless_table.proofs.Shifting.{FirstNodes}
 use Rattle.prettyless_table.proofs.shift.lay_out_nodes.Given as goal
 
 abbrev pub invariant-roots : goal.invariant-roots
 invariant-roots g l = record {
   within : l.k ≤ length l.roots;
-  grows : Grows g.N.Walk.tree l.fn.table.cells.items l.table.cells.items;
+  grows : CellsGrow g.N.Walk.tree l.fn.table.cells.items l.table.cells.items;
   first : FirstNodes g.N.Walk.tree l.table.cells.items l.places.items
       (trees g.N.Walk.tree (drop l.k l.roots)) (trees g.N.Walk.tree l.roots);
-  count : length l.table.cells.items + sum_by (λ n. size (g.N.Walk.tree n)) (drop l.k l.roots)
-      ≤ length l.fn.table.cells.items + sum_by (λ n. size (g.N.Walk.tree n)) l.roots;
+  count : length l.table.cells.items ≡ length l.fn.table.cells.items + l.k;
+  stand : (later : List Tree) → Stand l.fn.table.cells.items (trees g.N.Walk.tree l.roots ++ later) l.fn.standing.items
+      → Stand l.table.cells.items (trees g.N.Walk.tree (drop l.k l.roots) ++ later) l.standing.items;
 }
 
 abbrev pub decreases-roots : goal.decreases-roots

@@ -13,7 +13,8 @@ added : (p q : Printer) (o : Option (List ℕ)) → WritesText took p o q → If
 added p q None h = tt
 added p q (Some bs) h = contents_after_writes took (λ r. bytes_so_far r.text) (λ _ _ _ e. e) p bs q h
 
-added_on_ok : {E : Type 0} (r : Result (Unit {0}) E) (p q : Printer) (o : Option (List ℕ)) → OnOk r (WritesText took p o q) → OnOk r (IfSome o (λ bs. took p bs q))
+added_on_ok : {E : Type 0} (r : Result (Unit {0}) E) (p q : Printer) (o : Option (List ℕ)) → OnOk r (WritesText took p o q)
+    → OnOk r (IfSome o (λ bs. took p bs q))
 added_on_ok (Ok x) p q o h = added p q o h
 added_on_ok (Err e) p q o h = h
 

@@ -12,5 +12,6 @@ returns c =
     let from = c.take_while.ensures.source in
     let split = c.split.ensures in
     map_from_collect _ c.collect.ensures.ran (YieldsList-from_take_while _ (λ w. not (bytes_eq w (codes "=>")))
-    (YieldsList-from_slice_split _ (λ b. nat_eq b 32) c.args.line.now (ap split_rest from ∙ split.rest) (ap split_done from ∙ split.done) (ap split_callee from ∙ split.closure) (λ x b q k. search (rules, tests)))
+    (YieldsList-from_slice_split _ (λ b. nat_eq b 32) c.args.line.now (ap split_rest from ∙ split.rest) (ap split_done from ∙ split.done)
+    (ap split_callee from ∙ split.closure) (λ x b q k. search (rules, tests)))
     c.take_while.ensures.closure c.take_while.ensures.done (λ x b q k. search (rules, tests)))

@@ -11,4 +11,5 @@ returns-clause-ok c =
     let word = c.args.word.now in
     let same : word ≡ hex_word c.in_ok-bytes.bytes.items = search (rules, tests) in
     ok_kept _ (λ s. IsTextWord (string_bytes s) word) c.from_utf8.result c.map_err.result c.map_err.ensures.cases
-    (IfOk-weaker c.from_utf8.result _ _ (λ s is. (IsUtf8-string_bytes s, same ∙ ap (λ v. hex_word v.items) (sym is))) c.from_utf8.ensures.ok)
+    (IfOk-weaker c.from_utf8.result _ _ (λ s is. (IsUtf8-string_bytes s, same ∙ ap (λ v. hex_word v.items) (sym is)))
+    c.from_utf8.ensures.ok)

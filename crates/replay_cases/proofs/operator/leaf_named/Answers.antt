@@ -8,7 +8,8 @@ use Rattle.replay_cases.specs.Reading.{leaf_tree}
 use Rattle.replay_cases.proofs.operator.leaf_named.Goals as goal
 
 abbrev leaves : List (List ℕ × Leaf)
-leaves = (codes "nil", Nil) ∷ (codes "fail", Fail) ∷ (codes "ws", WeakSpace) ∷ (codes "hl", HardLine) ∷ (codes "wl", WeakLine) ∷ (codes "exp", ExpandParent) ∷ []
+leaves = (codes "nil", Nil) ∷ (codes "fail", Fail) ∷ (codes "ws", WeakSpace) ∷ (codes "hl", HardLine) ∷ (codes "wl", WeakLine)
+    ∷ (codes "exp", ExpandParent) ∷ []
 
 pub returns : goal.returns
 returns c = ap (option_map leaf_tree) c.named_in.ensures ∙ sym (lookup-map_values leaf_tree (bytes_eq c.args.word.now) leaves)

@@ -5,7 +5,8 @@ use Rattle.replay_cases.proofs.Lines.{answers_start, answers_one_more, answers_e
 use Rattle.replay_cases.proofs.run.run.Goals as goal
 
 pub loop-before-init : goal.loop-before-init
-loop-before-init g c = λ is_known. (is_known, answers_start (g.R.Read.remaining c.args.reader.now) (known (g.S.Render.bytes c.args.out.now)), refl)
+loop-before-init g c = λ is_known.
+    (is_known, answers_start (g.R.Read.remaining c.args.reader.now) (known (g.S.Render.bytes c.args.out.now)), refl)
 
 pub loop-before-preserved : goal.loop-before-preserved
 loop-before-preserved g c = λ is_known.
@@ -15,7 +16,9 @@ loop-before-preserved g c = λ is_known.
     let wrote = (rw c.deref.ensures.value at c.in_ok-answer.ensures) before.0 in
     let answer = wrote.1 in (
       wrote.0,
-      answers_one_more (left c.args.reader.now) c.loop-before.before (left c.loop-before.reader) (left c.next_line.new.reader) (written c.args.out.now) (written c.loop-before.out) (written c.answer.new.out) c.next_line.new.line.items answer.0 c.in_ok-next_line.field-0
+      answers_one_more (left c.args.reader.now) c.loop-before.before (left c.loop-before.reader) (left c.next_line.new.reader)
+          (written c.args.out.now) (written c.loop-before.out) (written c.answer.new.out) c.next_line.new.line.items answer.0
+          c.in_ok-next_line.field-0
           c.if-not-branch.false before.1 c.in_ok-next_line.ensures.ok answer.1 answer.2.0,
       answer.2.1 ∙ before.2,
     )
@@ -27,7 +30,8 @@ returns-then-not-branch g c = λ is_known.
     let before = c.loop-before.invariant is_known in (
       before.0,
       (
-        answers_end (left c.args.reader.now) c.loop-before.before (left c.loop-before.reader) (left c.next_line.new.reader) (written c.args.out.now) (written c.loop-before.out) c.next_line.new.line.items c.in_ok-next_line.field-0
+        answers_end (left c.args.reader.now) c.loop-before.before (left c.loop-before.reader) (left c.next_line.new.reader)
+            (written c.args.out.now) (written c.loop-before.out) c.next_line.new.line.items c.in_ok-next_line.field-0
             c.if-not-branch.true before.1 c.in_ok-next_line.ensures.ok,
         before.2,
       ),
@@ -37,8 +41,14 @@ pub returns-in_err-next_line : goal.returns-in_err-next_line
 returns-in_err-next_line g c =
     let p = err_from_is_err_and c.from_residual.result c.from_residual.ensures.1 in
     rw p.1 (λ is_known.
-    let before = c.loop-before.invariant is_known in
-    (before.0, (answers_stop (g.R.Read.remaining c.args.reader.now) c.loop-before.before (g.R.Read.remaining c.loop-before.reader) (known (g.S.Render.bytes c.args.out.now)) (known (g.S.Render.bytes c.loop-before.out)) before.1, inl before.2)))
+    let before = c.loop-before.invariant is_known in (
+      before.0,
+      (
+        answers_stop (g.R.Read.remaining c.args.reader.now) c.loop-before.before (g.R.Read.remaining c.loop-before.reader)
+            (known (g.S.Render.bytes c.args.out.now)) (known (g.S.Render.bytes c.loop-before.out)) before.1,
+        inl before.2,
+      ),
+    ))
 
 pub returns-in_err-answer : goal.returns-in_err-answer
 returns-in_err-answer g c =
@@ -51,7 +61,9 @@ returns-in_err-answer g c =
     let answer = wrote.1 in (
       wrote.0,
       (
-        answers_break (left c.args.reader.now) c.loop-before.before (left c.loop-before.reader) (left c.next_line.new.reader) (written c.args.out.now) (written c.loop-before.out) (written c.answer.new.out) c.next_line.new.line.items answer.0 c.in_ok-next_line.field-0
+        answers_break (left c.args.reader.now) c.loop-before.before (left c.loop-before.reader) (left c.next_line.new.reader)
+            (written c.args.out.now) (written c.loop-before.out) (written c.answer.new.out) c.next_line.new.line.items answer.0
+            c.in_ok-next_line.field-0
             c.if-not-branch.false before.1 c.in_ok-next_line.ensures.ok answer.1 answer.2.0,
         inr (answer.2.1 ∙ ap rise before.2),
       ),
@@ -59,5 +71,11 @@ returns-in_err-answer g c =
 
 pub returns : goal.returns
 returns g c = λ is_known.
-    let before = c.loop-before.invariant is_known in
-    (before.0, (answers_stop (g.R.Read.remaining c.args.reader.now) c.loop-before.before (g.R.Read.remaining c.loop-before.reader) (known (g.S.Render.bytes c.args.out.now)) (known (g.S.Render.bytes c.loop-before.out)) before.1, inl before.2))
+    let before = c.loop-before.invariant is_known in (
+      before.0,
+      (
+        answers_stop (g.R.Read.remaining c.args.reader.now) c.loop-before.before (g.R.Read.remaining c.loop-before.reader)
+            (known (g.S.Render.bytes c.args.out.now)) (known (g.S.Render.bytes c.loop-before.out)) before.1,
+        inl before.2,
+      ),
+    )

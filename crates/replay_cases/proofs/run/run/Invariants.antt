@@ -7,5 +7,6 @@ use Rattle.replay_cases.proofs.run.run.Given as goal
 abbrev pub invariant-loop-before : goal.invariant-loop-before
 invariant-loop-before g l =
     IsSome (g.S.Render.bytes l.fn.out) → IsSome (g.S.Render.bytes l.out)
-    × AnswersSoFar (g.R.Read.remaining l.fn.reader) l.before (g.R.Read.remaining l.reader) (known (g.S.Render.bytes l.fn.out)) (known (g.S.Render.bytes l.out))
+    × AnswersSoFar (g.R.Read.remaining l.fn.reader) l.before (g.R.Read.remaining l.reader) (known (g.S.Render.bytes l.fn.out))
+    (known (g.S.Render.bytes l.out))
     × (g.S.Render.failures l.out ≡ g.S.Render.failures l.fn.out)

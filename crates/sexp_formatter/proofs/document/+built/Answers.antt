@@ -8,11 +8,13 @@ use Rattle.prettyless.specs.Lines.{line}
 use Rattle.sexp_formatter.specs.declared.expression.SExp.{SExp}
 use Rattle.sexp_formatter.specs.Value.{values_of}
 use Rattle.sexp_formatter.specs.View.{value_of, values_in}
-use Rattle.sexp_formatter.specs.Documents.{document_of, interspersed, followed_by}
+use Rattle.sexp_formatter.specs.Documents.{sexp_document, interspersed, followed_by}
 use Rattle.sexp_formatter.proofs.document.+built.Goals as goal
 
 -- the next expression is after the document so far
-after_next : (so_far all : Tree) (es : List SExp) (i : ℕ) (d : SExp) → i < length es → followed_by so_far (values_of (values_in (drop i es))) ≡ all → followed_by (append (append so_far line) (document_of (value_of (get_or es i d)))) (values_of (values_in (drop (i + 1) es))) ≡ all
+after_next : (so_far all : Tree) (es : List SExp) (i : ℕ) (d : SExp) → i < length es
+    → followed_by so_far (values_of (values_in (drop i es))) ≡ all
+    → followed_by (append (append so_far line) (sexp_document (value_of (get_or es i d)))) (values_of (values_in (drop (i + 1) es))) ≡ all
 after_next so_far all es i d near h = rw (drop_more es i d near) at h
 
 pub lines-loop-expression-preserved : goal.lines-loop-expression-preserved
@@ -20,7 +22,8 @@ lines-loop-expression-preserved g t c =
     let joined = rw (c.in_ok-gap.ensures, c.in_ok-next.ensures) at c.in_ok-all-2.ensures in
     let es = take (length c.args.expressions.now - 1) (drop 1 c.args.expressions.now) in
     rw (joined, c.expression-item.is)
-    (after_next (g.P.SexpPlace.tree c.loop-expression.all) (interspersed (values_of (values_in c.args.expressions.now))) es c.loop-expression.expression-index c.expression-item.result c.loop-expression-test.true c.loop-expression.invariant)
+    (after_next (g.P.SexpPlace.tree c.loop-expression.all) (interspersed (values_of (values_in c.args.expressions.now))) es
+    c.loop-expression.expression-index c.expression-item.result c.loop-expression-test.true c.loop-expression.invariant)
 
 pub lines-loop-expression-init : goal.lines-loop-expression-init
 lines-loop-expression-init g t c = grind (arith, common_steps)

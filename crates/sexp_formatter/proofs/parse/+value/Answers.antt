@@ -20,7 +20,8 @@ pub list-returns-in_err-item-clause-err : goal.list-returns-in_err-item-clause-e
 list-returns-in_err-item-clause-err t c =
     let p = err_from_is_err_and c.from_residual.result c.from_residual.ensures.1 in
     let l = c.loop-items in
-    rw (p.1, p.2) (refuses_more c.in_err-item.field-0.0 (HasNoFront c.args.levels l.rest.now) (HasNoListFront c.args.levels c.args.bytes.now)
+    rw (p.1, p.2) (refuses_more c.in_err-item.field-0.0 (HasNoFront c.args.levels l.rest.now)
+    (HasNoListFront c.args.levels c.args.bytes.now)
     (no_value c.args.levels c.args.bytes.now (values_in l.items.items) l.rest.now l.invariant) c.in_err-item.ensures.err)
 
 pub list-returns-in-Some-after-clause-ok : goal.list-returns-in-Some-after-clause-ok
@@ -28,40 +29,47 @@ list-returns-in-Some-after-clause-ok t c =
     let l = c.loop-items in
     let front = rw c.in-Some-after.ensures.some at c.in_ok-item.ensures.ok in
     rw (c.in_ok-push.ensures.items, map_push value_of l.items.items c.in_ok-item.item)
-    (list_closes c.args.levels c.args.bytes.now (values_in l.items.items) l.rest.now (value_of c.in_ok-item.item) c.in-Some-after.end.now l.invariant front)
+    (list_closes c.args.levels c.args.bytes.now (values_in l.items.items) l.rest.now (value_of c.in_ok-item.item) c.in-Some-after.end.now
+    l.invariant front)
 
 pub list-loop-items-preserved : goal.list-loop-items-preserved
 list-loop-items-preserved t c =
     let l = c.loop-items in
     let front = rw c.in-Some-after-2.ensures.some at c.in_ok-item.ensures.ok in
     rw (c.in_ok-push.ensures.items, map_push value_of l.items.items c.in_ok-item.item)
-    (list_goes_on c.args.levels c.args.bytes.now (values_in l.items.items) l.rest.now (value_of c.in_ok-item.item) c.in-Some-after-2.more.now l.invariant front)
+    (list_goes_on c.args.levels c.args.bytes.now (values_in l.items.items) l.rest.now (value_of c.in_ok-item.item)
+    c.in-Some-after-2.more.now l.invariant front)
 
 pub list-returns-in-None-clause-err : goal.list-returns-in-None-clause-err
 list-returns-in-None-clause-err t c =
     let l = c.loop-items in
-    no_next c.args.levels c.args.bytes.now (values_in l.items.items) l.rest.now (value_of c.in_ok-item.item) c.in_ok-item.next.now l.invariant c.in_ok-item.ensures.ok c.in_default-after.ensures.none c.in-None.ensures.none
+    no_next c.args.levels c.args.bytes.now (values_in l.items.items) l.rest.now (value_of c.in_ok-item.item) c.in_ok-item.next.now
+    l.invariant c.in_ok-item.ensures.ok c.in_default-after.ensures.none c.in-None.ensures.none
 
 -- ---- value
 
 pub value-returns-then-levels-eq0-clause-err : goal.value-returns-then-levels-eq0-clause-err
-value-returns-then-levels-eq0-clause-err t c = rw c.in-Some.ensures.some (no_level_left c.args.levels c.in-Some.inner.now c.if-levels-eq0.true)
+value-returns-then-levels-eq0-clause-err t c =
+    rw c.in-Some.ensures.some (no_level_left c.args.levels c.in-Some.inner.now c.if-levels-eq0.true)
 
 pub value-returns-in_err-items-clause-err : goal.value-returns-in_err-items-clause-err
 value-returns-in_err-items-clause-err t c =
     let p = err_from_is_err_and c.from_residual.result c.from_residual.ensures.1 in
     let inner = c.in-Some.inner.now in
-    rw (p.1, p.2, c.in-Some.ensures.some) (refuses_more c.in_err-items.field-0.0 (HasNoListFront (c.args.levels - 1) inner) (HasNoFront c.args.levels (opening ∷ inner))
+    rw (p.1, p.2, c.in-Some.ensures.some)
+    (refuses_more c.in_err-items.field-0.0 (HasNoListFront (c.args.levels - 1) inner) (HasNoFront c.args.levels (opening ∷ inner))
     (no_list_front c.args.levels inner (omega arith)) c.in_err-items.ensures.err)
 
 pub value-returns-in-Some-clause-ok : goal.value-returns-in-Some-clause-ok
 value-returns-in-Some-clause-ok t c =
     rw (c.in-Some.ensures.some, value_of-List c.in_ok-items.items)
-    (list_front c.args.levels c.in-Some.inner.now (values_of (values_in c.in_ok-items.items.items)) c.in_ok-items.rest.now (omega arith) c.in_ok-items.ensures.ok)
+    (list_front c.args.levels c.in-Some.inner.now (values_of (values_in c.in_ok-items.items.items)) c.in_ok-items.rest.now (omega arith)
+    c.in_ok-items.ensures.ok)
 
 pub value-returns-in-Some-atom-clause-ok : goal.value-returns-in-Some-atom-clause-ok
 value-returns-in-Some-atom-clause-ok t c =
-    rw (value_of-Atom c.in-Some-atom.number) (atom_front c.args.levels c.args.bytes.now c.in_default.ensures.none c.in-Some-atom.number c.in-Some-atom.rest.now c.in-Some-atom.ensures.some)
+    rw (value_of-Atom c.in-Some-atom.number) (atom_front c.args.levels c.args.bytes.now c.in_default.ensures.none c.in-Some-atom.number
+    c.in-Some-atom.rest.now c.in-Some-atom.ensures.some)
 
 pub value-returns-in-None-clause-err : goal.value-returns-in-None-clause-err
 value-returns-in-None-clause-err t c = no_atom_front c.args.levels c.args.bytes.now c.in_default.ensures.none c.in-None.ensures.none

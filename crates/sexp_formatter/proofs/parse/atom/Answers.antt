@@ -16,14 +16,16 @@ not_taken_over (Err d) n h e small = h small
 pub returns-in_err-number-clause-none : goal.returns-in_err-number-clause-none
 returns-in_err-number-clause-none c =
     let d = c.digits_len.ensures in
-    rw c.from_residual.ensures (is_no_front c.args.bytes.now c.digits_len.result d.within d.digits d.end (λ h small. c.in_err-number.ensures (rw c.split_at.ensures.front (h, omega (arith, small)))))
+    rw c.from_residual.ensures (is_no_front c.args.bytes.now c.digits_len.result d.within d.digits d.end
+    (λ h small. c.in_err-number.ensures (rw c.split_at.ensures.front (h, omega (arith, small)))))
 
 pub returns-in_err-value-clause-none : goal.returns-in_err-value-clause-none
 returns-in_err-value-clause-none c =
     let d = c.digits_len.ensures in
     let n = rw c.split_at.ensures.front at c.in_ok-number.ensures in
     rw c.from_residual-in_err-value.ensures (is_no_front c.args.bytes.now c.digits_len.result d.within d.digits d.end
-    (λ h small. not_taken_over c.try_from.result c.in_ok-number.field-0 c.try_from.ensures c.in_err-value.ensures.value (omega (arith, n.1))))
+    (λ h small. not_taken_over c.try_from.result c.in_ok-number.field-0 c.try_from.ensures c.in_err-value.ensures.value
+    (omega (arith, n.1))))
 
 pub returns-clause-some : goal.returns-clause-some
 returns-clause-some c =

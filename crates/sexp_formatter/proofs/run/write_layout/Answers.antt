@@ -4,7 +4,8 @@ use Rattle.sexp_formatter.proofs.run.write_layout.Goals as goal
 
 pub returns-in_err-document : goal.returns-in_err-document
 returns-in_err-document g c =
-    not_begun c.args.options (value_of c.args.expression.now) (g.W.Write.contents c.args.writer.now) c.from_residual.result c.in_err-document.field-0.0 c.from_residual.ensures.1 c.in_err-document.ensures.err
+    not_begun c.args.options (value_of c.args.expression.now) (g.W.Write.contents c.args.writer.now) c.from_residual.result
+    c.in_err-document.field-0.0 c.from_residual.ensures.1 c.in_err-document.ensures.err
 
 pub returns-in-Ok : goal.returns-in-Ok
 returns-in-Ok g c =
@@ -17,7 +18,11 @@ returns-in-Ok g c =
 
 pub returns-in-Err-Memory : goal.returns-in-Err-Memory
 returns-in-Err-Memory g c =
-    begun (Unit {0}) _ c.args.options (value_of c.args.expression.now) (g.W.Write.contents c.args.writer.now) (g.W.Write.contents c.render_with.new.out) c.in-Err-Memory.field-0 (rw (c.doc.ensures, c.in_ok-document.ensures.ok) at c.in-Err-Memory.ensures.bytes)
+    begun (Unit {0}) _ c.args.options (value_of c.args.expression.now) (g.W.Write.contents c.args.writer.now)
+    (g.W.Write.contents c.render_with.new.out) c.in-Err-Memory.field-0
+    (rw (c.doc.ensures, c.in_ok-document.ensures.ok) at c.in-Err-Memory.ensures.bytes)
 
 pub returns-in-Err-Sink : goal.returns-in-Err-Sink
-returns-in-Err-Sink g c = begun (Unit {0}) _ c.args.options (value_of c.args.expression.now) (g.W.Write.contents c.args.writer.now) (g.W.Write.contents c.render_with.new.out) c.in-Err-Sink.field-0 (rw (c.doc.ensures, c.in_ok-document.ensures.ok) at c.in-Err-Sink.ensures.bytes)
+returns-in-Err-Sink g c = begun (Unit {0}) _ c.args.options (value_of c.args.expression.now) (g.W.Write.contents c.args.writer.now)
+    (g.W.Write.contents c.render_with.new.out) c.in-Err-Sink.field-0
+    (rw (c.doc.ensures, c.in_ok-document.ensures.ok) at c.in-Err-Sink.ensures.bytes)

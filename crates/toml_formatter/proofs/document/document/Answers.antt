@@ -1,7 +1,7 @@
 use Rattle.std.proofs.Common.{◌≡◌, sym, ◌∙◌, ap, subst, ◌∷◌, ◌++◌, [], List, ℕ, append_assoc, append-nil}
 use Rattle.prettyless.specs.Trees.{ref_tree}
 use Rattle.toml_lexemes.specs.Bytes.{line_feed}
-use Rattle.toml_lexemes.specs.View.{text_of}
+use Rattle.toml_lexemes.specs.View.{toml_text_of}
 use Rattle.toml_lexemes.specs.declared.lexeme.Lexeme.{Lexeme}
 use Rattle.toml_formatter.specs.Lines.{IsDocument}
 use Rattle.toml_formatter.proofs.Documents.{document_blank, document_none, document_whole}
@@ -15,7 +15,8 @@ loop-first-preserved-in-LineEnd c =
     let before = c.loop-first.invariant in
     let left = c.next.new.self in
     let d = ref_tree c.loop-first.doc in
-    let e : c.loop-first.lexemes ≡ (line_feed ∷ []) ∷ left = c.in-Some.ensures.next ∙ ap (λ (x : Lexeme). text_of x ∷ left) c.in-LineEnd.is in (
+    let e : c.loop-first.lexemes ≡ (line_feed ∷ []) ∷ left = c.in-Some.ensures.next ∙ ap (λ (x : Lexeme). toml_text_of x ∷ left)
+    c.in-LineEnd.is in (
       before.0 ++ (line_feed ∷ []) ∷ [],
       before.1 ∙ ap (λ (ss : List (List ℕ)). before.0 ++ ss) e ∙ sym (append_assoc before.0 ((line_feed ∷ []) ∷ []) left),
       document_blank left before.0 d (subst (λ (ss : List (List ℕ)). IsDocument ss before.0 d) e before.2),
@@ -24,7 +25,7 @@ loop-first-preserved-in-LineEnd c =
 pub loop-first-preserved : goal.loop-first-preserved
 loop-first-preserved c =
     let before = c.loop-first.invariant in
-    let s = text_of c.in-Some.first in
+    let s = toml_text_of c.in-Some.first in
     let e = c.in-Some.ensures.next in
     let left = c.statement.new.lexemes in
     let h = subst (λ (ss : List (List ℕ)). IsDocument ss before.0 (ref_tree c.loop-first.doc)) e before.2 in

@@ -3,14 +3,14 @@ use Rattle.std.specs.Prelude.{Result, Ok, Err, IfErr}
 use Rattle.std.proofs.lemmas.Result.{IfOk-weaker}
 use Rattle.toml_grammar.specs.Grammar.{is_toml}
 use Rattle.toml_formatter.specs.Errors.{IsRefusal}
-use Rattle.toml_formatter.specs.Formats.{IsRefused}
+use Rattle.toml_formatter.specs.Formats.{IsRefusedToml}
 use Rattle.toml_formatter.specs.declared.error.FormatError.{FormatError}
 use Rattle.toml_formatter.specs.declared.error.FormatError.TheVariants.{NotToml, TooDeep, Memory}
 use Rattle.toml_formatter.proofs.SoundTexts.{sound_text}
 use Rattle.toml_formatter.proofs.layout.formatted.Goals as goal
 
 -- where the text is TOML, it was not refused for what it is
-refused : {A : Type 0} (text : List ℕ) (r : Result A FormatError) → is_toml text ≡ true → IfErr r IsRefusal → IfErr r (IsRefused text)
+refused : {A : Type 0} (text : List ℕ) (r : Result A FormatError) → is_toml text ≡ true → IfErr r IsRefusal → IfErr r (IsRefusedToml text)
 refused text (Ok x) e h = tt
 refused text (Err NotToml) e h = absurd h
 refused text (Err TooDeep) e h = e

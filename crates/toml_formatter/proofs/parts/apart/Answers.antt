@@ -6,7 +6,8 @@ use Rattle.prettyless_shapes.specs.Items.{ShowsBoth, ShowsMore}
 use Rattle.toml_formatter.proofs.parts.apart.Goals as goal
 
 -- a document with a gap at its end, and another one after one more gap
-after_more : (front more next all : Tree) (i : Item) (gap : List Item) → ShowsMore front (i ∷ []) more → ShowsBoth more gap next all → ShowsBoth front (i ∷ gap) next all
+after_more : (front more next all : Tree) (i : Item) (gap : List Item) → ShowsMore front (i ∷ []) more → ShowsBoth more gap next all
+    → ShowsBoth front (i ∷ gap) next all
 after_more front more next all i gap h k xs ys shown next_shown =
     subst (shows all) (append_assoc xs (i ∷ []) (gap ++ ys)) (k (xs ++ i ∷ []) ys (h xs shown) next_shown)
 
@@ -15,7 +16,8 @@ returns-in_ok-edged-in-Edge g c =
     let tree = g.D.Doc.DocPtr.tree in
     rw c.in-Edge.is
     (IfOk-weaker c.joined-in-Edge.result _ _
-    (λ p f. after_more (tree c.args.front) (tree c.in_ok-edged-in-Edge.field-0) (tree c.args.next) (tree p) loose [] c.in_ok-edged-in-Edge.ensures.items f)
+    (λ p f. after_more (tree c.args.front) (tree c.in_ok-edged-in-Edge.field-0) (tree c.args.next) (tree p) loose []
+    c.in_ok-edged-in-Edge.ensures.items f)
     c.joined-in-Edge.ensures.items)
 
 pub returns-in_ok-edged-in-BlankLine : goal.returns-in_ok-edged-in-BlankLine
@@ -23,7 +25,8 @@ returns-in_ok-edged-in-BlankLine g c =
     let tree = g.D.Doc.DocPtr.tree in
     rw c.in-BlankLine.is
     (IfOk-weaker c.lined-in-BlankLine.result _ _
-    (λ p f. after_more (tree c.args.front) (tree c.in_ok-edged-in-BlankLine.field-0) (tree c.args.next) (tree p) loose (apart ∷ []) c.in_ok-edged-in-BlankLine.ensures.items f)
+    (λ p f. after_more (tree c.args.front) (tree c.in_ok-edged-in-BlankLine.field-0) (tree c.args.next) (tree p) loose (apart ∷ [])
+    c.in_ok-edged-in-BlankLine.ensures.items f)
     c.lined-in-BlankLine.ensures.items)
 
 pub returns-in_ok-ended-in-BlankBreak : goal.returns-in_ok-ended-in-BlankBreak
@@ -31,5 +34,6 @@ returns-in_ok-ended-in-BlankBreak g c =
     let tree = g.D.Doc.DocPtr.tree in
     rw c.in-BlankBreak.is
     (IfOk-weaker c.stacked-in-BlankBreak.result _ _
-    (λ p f. after_more (tree c.args.front) (tree c.in_ok-ended-in-BlankBreak.field-0) (tree c.args.next) (tree p) ended (ended ∷ []) c.in_ok-ended-in-BlankBreak.ensures.items f)
+    (λ p f. after_more (tree c.args.front) (tree c.in_ok-ended-in-BlankBreak.field-0) (tree c.args.next) (tree p) ended (ended ∷ [])
+    c.in_ok-ended-in-BlankBreak.ensures.items f)
     c.stacked-in-BlankBreak.ensures.items)

@@ -15,4 +15,5 @@ pub returns-clause-items : goal.returns-clause-items
 returns-clause-items g c =
     let tree = g.D.Doc.DocPtr.tree in
     let doc = tree c.args.doc in
-    of_made c.into_doc.result tree (append doc line_) (ShowsMore doc (loose ∷ [])) (append_shows_more doc line_ (loose ∷ []) line__shows) (returns-clause-ok g c)
+    of_made c.into_doc.result tree (append doc line_) (ShowsMore doc (loose ∷ [])) (append_shows_more doc line_ (loose ∷ []) line__shows)
+    (returns-clause-ok g c)

@@ -19,4 +19,5 @@ returns-clause-items g c =
     let doc = tree c.args.doc in
     let mark = BreakOrFlat (text (comma ∷ [])) Nil in
     of_made c.into_doc.result tree (append doc mark) (ShowsMore doc (Mark (comma ∷ []) ∷ []))
-    (append_shows_more doc mark (Mark (comma ∷ []) ∷ []) (if_group_break_shows (text (comma ∷ [])) (comma ∷ []) (text_shows (comma ∷ [])))) (returns-clause-ok g c)
+    (append_shows_more doc mark (Mark (comma ∷ []) ∷ []) (if_group_break_shows (text (comma ∷ [])) (comma ∷ []) (text_shows (comma ∷ []))))
+    (returns-clause-ok g c)

@@ -1,13 +1,13 @@
 use Rattle.std.proofs.Common.{◌≡◌, refl, sym, ◌∙◌, ap, subst, true, false, ◌∷◌, [], List, ℕ, inl, inr}
 use Rattle.prettyless.specs.Trees.{ref_tree}
 use Rattle.toml_lexemes.specs.Bytes.{comma}
-use Rattle.toml_lexemes.specs.View.{text_of, IsNamed}
+use Rattle.toml_lexemes.specs.View.{toml_text_of, HasTomlKind}
 use Rattle.toml_lexemes.specs.declared.lexeme.Lexeme.{Lexeme}
 use Rattle.toml_lexemes.specs.declared.lexeme.Lexeme.TheVariants as lexeme
 use Rattle.toml_formatter.specs.Kinds.{is_closing, last_after}
-use Rattle.toml_formatter.specs.Gaps.{is_remark}
+use Rattle.toml_formatter.specs.Gaps.{is_last_remark}
 use Rattle.toml_statements.specs.Sound.{IsSound}
-use Rattle.toml_formatter.specs.Lines.{IsLine, MayGoOn, begun}
+use Rattle.toml_formatter.specs.Lines.{ShowsTaken, MayGoOn, begun}
 use Rattle.toml_formatter.specs.declared.line.Line.{Line}
 use Rattle.toml_formatter.proofs.LineLemmas.{trimmed_shows}
 use Rattle.toml_formatter.proofs.StatementLemmas.{bracket_begins, comma_begins, part_of, remark_begins, value_begins}
@@ -15,16 +15,17 @@ use Rattle.toml_formatter.proofs.Values.{closing_shows, part_whole, remark_whole
 use Rattle.toml_formatter.proofs.statement.begun.Goals as goal
 
 pub value-requires-clause-part : goal.value-requires-clause-part
-value-requires-clause-part c = part_of c.args.first c.args.lexemes.now c.requires.no_line_end (sym c.closes.ensures ∙ c.if-closes.false) c.in_default.not-Comma c.in_default.not-Remark
+value-requires-clause-part c = part_of c.args.first c.args.lexemes.now c.requires.no_line_end (sym c.closes.ensures ∙ c.if-closes.false)
+    c.in_default.not-Comma c.in_default.not-Remark
 
 pub returns-then-closes-clause-line : goal.returns-then-closes-clause-line
 returns-then-closes-clause-line c =
     let x = c.args.first in
     let ls = c.args.lexemes.now in
     let closing : is_closing x ≡ true = sym c.closes.ensures ∙ c.if-closes.true in (
-      text_of x ∷ [],
+      toml_text_of x ∷ [],
       refl,
-      subst (λ (l : Line). IsLine false true l ls (text_of x ∷ [])) (sym c.begun.ensures)
+      subst (λ (l : Line). ShowsTaken false true l ls (toml_text_of x ∷ [])) (sym c.begun.ensures)
           (bracket_begins c.in_ok-bracket.bracket x ls closing c.requires.sound
           (closing_shows x (ref_tree c.in_ok-bracket.bracket) c.text.result.now closing c.text.ensures c.in_ok-bracket.ensures.items)),
     )
@@ -32,10 +33,10 @@ returns-then-closes-clause-line c =
 pub returns-in_ok-text-in-Comma-clause-line : goal.returns-in_ok-text-in-Comma-clause-line
 returns-in_ok-text-in-Comma-clause-line c =
     let ls = c.args.lexemes.now in
-    let e : text_of c.args.first ≡ comma ∷ [] = ap text_of c.in-Comma.is in (
+    let e : toml_text_of c.args.first ≡ comma ∷ [] = ap toml_text_of c.in-Comma.is in (
       (comma ∷ []) ∷ [],
       ap (λ (s : List ℕ). s ∷ ls) e,
-      subst (λ (l : Line). IsLine false true l ls ((comma ∷ []) ∷ [])) (sym c.begun-in-Comma.ensures)
+      subst (λ (l : Line). ShowsTaken false true l ls ((comma ∷ []) ∷ [])) (sym c.begun-in-Comma.ensures)
           (comma_begins c.in_ok-text-in-Comma.field-0 ls c.in_ok-text-in-Comma.ensures.items),
     )
 
@@ -43,13 +44,13 @@ pub returns-in_ok-text-in-Remark-clause-line : goal.returns-in_ok-text-in-Remark
 returns-in_ok-text-in-Remark-clause-line c =
     let ls = c.args.lexemes.now in
     let r = c.in-Remark.remark.now in
-    let e : text_of c.args.first ≡ r = ap text_of c.in-Remark.is in
-    let named = subst IsNamed c.in-Remark.is c.requires.named in
+    let e : toml_text_of c.args.first ≡ r = ap toml_text_of c.in-Remark.is in
+    let named = subst HasTomlKind c.in-Remark.is c.requires.named in
     let sound = subst (λ (s : List ℕ). IsSound s ls) e c.requires.sound in
     let d = c.in_ok-text-in-Remark in (
       r ∷ [],
       ap (λ (s : List ℕ). s ∷ ls) e,
-      subst (λ (l : Line). IsLine false true l ls (r ∷ [])) (sym c.begun-in-Remark.ensures)
+      subst (λ (l : Line). ShowsTaken false true l ls (r ∷ [])) (sym c.begun-in-Remark.ensures)
           (remark_begins d.field-0 r ls named (remark_whole r ls named sound).0
           (trimmed_shows (ref_tree d.field-0) r c.trimmed.result.now named c.trimmed.ensures d.ensures.items)),
     )
@@ -58,8 +59,8 @@ pub returns-in_ok-text-in-Remark-clause-goes_on : goal.returns-in_ok-text-in-Rem
 returns-in_ok-text-in-Remark-clause-goes_on c =
     let ls = c.args.lexemes.now in
     let r = c.in-Remark.remark.now in
-    let e : text_of c.args.first ≡ r = ap text_of c.in-Remark.is in
-    let named = subst IsNamed c.in-Remark.is c.requires.named in
+    let e : toml_text_of c.args.first ≡ r = ap toml_text_of c.in-Remark.is in
+    let named = subst HasTomlKind c.in-Remark.is c.requires.named in
     let sound = subst (λ (s : List ℕ). IsSound s ls) e c.requires.sound in
     subst (λ (l : Line). MayGoOn l ls) (sym c.begun-in-Remark.ensures) (inr (λ e. absurd (cc), (remark_whole r ls named sound).1))
 
@@ -68,19 +69,23 @@ returns-in_ok-value-in_default-clause-line c =
     let x = c.args.first in
     let v = c.in_ok-value-in_default.ensures.made in
     let left = c.value.new.lexemes in
-    let part = part_of x c.args.lexemes.now c.requires.no_line_end (sym c.closes.ensures ∙ c.if-closes.false) c.in_default.not-Comma c.in_default.not-Remark in (
-      text_of x ∷ v.0,
-      ap (λ (ss : List (List ℕ)). text_of x ∷ ss) v.1,
-      subst (λ (l : Line). IsLine false true l left (text_of x ∷ v.0)) (sym (c.begun-in_default.ensures ∙ ap (begun c.in_ok-value-in_default.value) c.last_of.ensures))
-          (value_begins c.in_ok-value-in_default.value (last_after x) (text_of x) left v.0 (part_whole x c.args.lexemes.now c.requires.named part c.requires.sound) v.2),
+    let part = part_of x c.args.lexemes.now c.requires.no_line_end (sym c.closes.ensures ∙ c.if-closes.false) c.in_default.not-Comma
+    c.in_default.not-Remark in (
+      toml_text_of x ∷ v.0,
+      ap (λ (ss : List (List ℕ)). toml_text_of x ∷ ss) v.1,
+      subst (λ (l : Line). ShowsTaken false true l left (toml_text_of x ∷ v.0))
+          (sym (c.begun-in_default.ensures ∙ ap (begun c.in_ok-value-in_default.value) c.last_of.ensures))
+          (value_begins c.in_ok-value-in_default.value (last_after x) (toml_text_of x) left v.0
+          (part_whole x c.args.lexemes.now c.requires.named part c.requires.sound) v.2),
     )
 
 pub returns-in_ok-value-in_default-clause-goes_on : goal.returns-in_ok-value-in_default-clause-goes_on
 returns-in_ok-value-in_default-clause-goes_on c =
-    subst (λ (l : Line). MayGoOn l c.value.new.lexemes) (sym (c.begun-in_default.ensures ∙ ap (begun c.in_ok-value-in_default.value) c.last_of.ensures))
+    subst (λ (l : Line). MayGoOn l c.value.new.lexemes)
+    (sym (c.begun-in_default.ensures ∙ ap (begun c.in_ok-value-in_default.value) c.last_of.ensures))
     (inl (refl, no_remark c.args.first))
   where
-    no_remark : (x : Lexeme) → is_remark (last_after x) ≡ false
+    no_remark : (x : Lexeme) → is_last_remark (last_after x) ≡ false
     no_remark lexeme.OpenArray = refl
     no_remark lexeme.OpenTable = refl
     no_remark lexeme.CloseArray = refl

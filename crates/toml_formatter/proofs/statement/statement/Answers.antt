@@ -1,5 +1,6 @@
-use Rattle.std.proofs.Common.{sym, ◌∙◌, ap, subst, true, false, ◌++◌, List, ℕ, inl, inr, append_assoc, append-nil, arith, length, length-append}
-use Rattle.toml_formatter.specs.Lines.{IsLine}
+use Rattle.std.proofs.Common.{sym, ◌∙◌, ap, subst, true, false, ◌++◌, List, ℕ, inl, inr, append_assoc, append-nil, arith, length}
+use Rattle.std.proofs.Common.{length-append}
+use Rattle.toml_formatter.specs.Lines.{ShowsTaken}
 use Rattle.toml_formatter.proofs.StatementLemmas.{line_is_statement, may_settle}
 use Rattle.toml_formatter.proofs.statement.statement.Goals as goal
 
@@ -7,7 +8,7 @@ pub loop-next-preserved : goal.loop-next-preserved
 loop-next-preserved c =
     let before = c.loop-next.invariant in
     let e = c.in-Some.ensures.some in
-    let h = subst (λ (ss : List (List ℕ)). IsLine false true c.loop-next.line ss before.0) e before.2 in
+    let h = subst (λ (ss : List (List ℕ)). ShowsTaken false true c.loop-next.line ss before.0) e before.2 in
     let made = c.in_ok-line-2.ensures.line before.0 h in (
       before.0 ++ made.0,
       before.1 ∙ ap (λ (ss : List (List ℕ)). before.0 ++ ss) (e ∙ made.1) ∙ sym (append_assoc before.0 made.0 c.with_next.new.lexemes),

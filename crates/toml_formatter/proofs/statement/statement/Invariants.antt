@@ -1,11 +1,12 @@
 use Rattle.std.proofs.Common.{◌≡◌, List, ℕ, ◌∷◌, ◌++◌, length, false, true}
-use Rattle.toml_lexemes.specs.View.{text_of}
-use Rattle.toml_formatter.specs.Lines.{IsLine, MayGoOn}
+use Rattle.toml_lexemes.specs.View.{toml_text_of}
+use Rattle.toml_formatter.specs.Lines.{ShowsTaken, MayGoOn}
 use Rattle.toml_formatter.proofs.statement.statement.Given as goal
 
 -- the line has the lexemes that were taken
 abbrev pub invariant-loop-next : goal.invariant-loop-next
-invariant-loop-next l = (taken : List (List ℕ)) × (text_of l.fn.first ∷ l.fn.lexemes ≡ taken ++ l.lexemes) × IsLine false true l.line l.lexemes taken × MayGoOn l.line l.lexemes
+invariant-loop-next l = (taken : List (List ℕ)) × (toml_text_of l.fn.first ∷ l.fn.lexemes ≡ taken ++ l.lexemes)
+    × ShowsTaken false true l.line l.lexemes taken × MayGoOn l.line l.lexemes
 
 abbrev pub decreases-loop-next : goal.decreases-loop-next
 decreases-loop-next l = length l.lexemes

@@ -1,21 +1,22 @@
 use Rattle.std.proofs.Common.{◌≡◌, refl, sym, ◌∙◌, ap, subst, true, false, ◌∷◌, [], List, ℕ, inl, inr}
 use Rattle.std.proofs.lemmas.Result.{IfOk-weaker}
 use Rattle.toml_lexemes.specs.Bytes.{comma}
-use Rattle.toml_lexemes.specs.View.{text_of, IsNamed}
+use Rattle.toml_lexemes.specs.View.{toml_text_of, HasTomlKind}
 use Rattle.toml_statements.specs.Sound.{IsSound}
-use Rattle.toml_formatter.specs.Lines.{IsLine}
-use Rattle.toml_formatter.specs.Gaps.{is_remark}
+use Rattle.toml_formatter.specs.Lines.{ShowsTaken}
+use Rattle.toml_formatter.specs.Gaps.{is_last_remark}
 use Rattle.toml_formatter.proofs.StatementLemmas.{part_of}
 use Rattle.toml_formatter.proofs.Values.{remark_whole}
 use Rattle.toml_formatter.proofs.statement.with_next.Goals as goal
 
 pub value-requires-clause-part : goal.value-requires-clause-part
-value-requires-clause-part c = part_of c.args.next c.args.lexemes.now c.requires.no_line_end (sym c.closes.ensures ∙ c.if-closes.false) c.in_default.not-Comma c.in_default.not-Remark
+value-requires-clause-part c = part_of c.args.next c.args.lexemes.now c.requires.no_line_end (sym c.closes.ensures ∙ c.if-closes.false)
+    c.in_default.not-Comma c.in_default.not-Remark
 
 pub returns-then-closes-clause-line : goal.returns-then-closes-clause-line
 returns-then-closes-clause-line c =
     let ls = c.args.lexemes.now in
-    let x = text_of c.args.next in
+    let x = toml_text_of c.args.next in
     IfOk-weaker c.with_closing.result _ _ (λ made f taken h. (x ∷ [], refl, f ls taken c.requires.sound h)) c.with_closing.ensures.line
 
 pub returns-then-closes-clause-goes_on : goal.returns-then-closes-clause-goes_on
@@ -24,10 +25,11 @@ returns-then-closes-clause-goes_on c = IfOk-weaker c.with_closing.result _ _ (λ
 pub returns-in_ok-with_comma-in-Comma-clause-line : goal.returns-in_ok-with_comma-in-Comma-clause-line
 returns-in_ok-with_comma-in-Comma-clause-line c = λ taken h.
     let ls = c.args.lexemes.now in
-    let e : text_of c.args.next ≡ comma ∷ [] = ap text_of c.in-Comma.is in (
+    let e : toml_text_of c.args.next ≡ comma ∷ [] = ap toml_text_of c.in-Comma.is in (
       (comma ∷ []) ∷ [],
       ap (λ (s : List ℕ). s ∷ ls) e,
-      c.in_ok-with_comma-in-Comma.ensures.line false ls taken c.requires.goes_on (subst (λ (s : List ℕ). IsLine false true c.args.line (s ∷ ls) taken) e h),
+      c.in_ok-with_comma-in-Comma.ensures.line false ls taken c.requires.goes_on
+          (subst (λ (s : List ℕ). ShowsTaken false true c.args.line (s ∷ ls) taken) e h),
     )
 
 pub returns-in_ok-with_comma-in-Comma-clause-goes_on : goal.returns-in_ok-with_comma-in-Comma-clause-goes_on
@@ -37,24 +39,24 @@ pub returns-in_ok-with_remark-in-Remark-clause-line : goal.returns-in_ok-with_re
 returns-in_ok-with_remark-in-Remark-clause-line c = λ taken h.
     let ls = c.args.lexemes.now in
     let r = c.in-Remark.remark.now in
-    let e : text_of c.args.next ≡ r = ap text_of c.in-Remark.is in (
+    let e : toml_text_of c.args.next ≡ r = ap toml_text_of c.in-Remark.is in (
       r ∷ [],
       ap (λ (s : List ℕ). s ∷ ls) e,
-      c.in_ok-with_remark-in-Remark.ensures.line ls taken (subst (λ (s : List ℕ). IsLine false true c.args.line (s ∷ ls) taken) e h),
+      c.in_ok-with_remark-in-Remark.ensures.line ls taken (subst (λ (s : List ℕ). ShowsTaken false true c.args.line (s ∷ ls) taken) e h),
     )
 
 pub returns-in_ok-with_remark-in-Remark-clause-goes_on : goal.returns-in_ok-with_remark-in-Remark-clause-goes_on
 returns-in_ok-with_remark-in-Remark-clause-goes_on c =
     let ls = c.args.lexemes.now in
     let r = c.in-Remark.remark.now in
-    let e : text_of c.args.next ≡ r = ap text_of c.in-Remark.is in
-    let named = subst IsNamed c.in-Remark.is c.requires.named in
+    let e : toml_text_of c.args.next ≡ r = ap toml_text_of c.in-Remark.is in
+    let named = subst HasTomlKind c.in-Remark.is c.requires.named in
     let sound = subst (λ (s : List ℕ). IsSound s ls) e c.requires.sound in
-    inr (λ k. ap is_remark c.in_ok-with_remark-in-Remark.ensures.last ∙ c.requires.goes_on.1, (remark_whole r ls named sound).1)
+    inr (λ k. ap is_last_remark c.in_ok-with_remark-in-Remark.ensures.last ∙ c.requires.goes_on.1, (remark_whole r ls named sound).1)
 
 pub returns-in_ok-with_value-in_default-clause-line : goal.returns-in_ok-with_value-in_default-clause-line
 returns-in_ok-with_value-in_default-clause-line c = λ taken h.
-    let s = text_of c.args.next in
+    let s = toml_text_of c.args.next in
     let v = c.in_ok-value-in_default.ensures.made in
     let left = c.value.new.lexemes in
     (s ∷ v.0, ap (λ (ss : List (List ℕ)). s ∷ ss) v.1, c.in_ok-with_value-in_default.ensures.line left c.args.lexemes.now taken v.0 h v.2)

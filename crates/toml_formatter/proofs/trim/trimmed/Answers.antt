@@ -25,7 +25,8 @@ returns c =
     let is : c.range.result.now ≡ take n d = c.range.ensures.value ∙ ap (λ k. take k d) whole in
     elim c.loop-end-test.branch [
       | then-loop-end-test+else-is_blank w ↦
-          let plain : is_blank (get_or d (n - 1) 0) ≡ false = rw (← c.as_bytes-bytes.ensures.value) (sym w.is_blank.ensures ∙ w.if-is_blank.false) in
+          let plain : is_blank (get_or d (n - 1) 0) ≡ false =
+          rw (← c.as_bytes-bytes.ensures.value) (sym w.is_blank.ensures ∙ w.if-is_blank.false) in
           is ∙ sym (blank_none d n w.loop-end-test.true inv.within plain) ∙ inv.same
       | else-loop-end-test w ↦
           let none : n ≡ 0 = omega arith in

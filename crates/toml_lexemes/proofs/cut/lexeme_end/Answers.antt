@@ -1,5 +1,6 @@
-use Rattle.std.proofs.Common.{◌≡◌, ◌+◌, ◌-◌, ◌<◌, ◌⊎◌, inl, inr, Bool, true, false, length, take, drop, get_or, ◌∷◌, refl, sym, ap, ◌∙◌, subst, arith}
-use Rattle.toml_lexemes.specs.Lexemes.{between, within, begins_line_feed, goes_on, ends, stops, turn, cut}
+use Rattle.std.proofs.Common.{◌≡◌, ◌+◌, ◌-◌, ◌<◌, ◌⊎◌, inl, inr, Bool, true, false, length, take, drop, get_or, ◌∷◌, refl, sym, ap, ◌∙◌}
+use Rattle.std.proofs.Common.{subst, arith}
+use Rattle.toml_lexemes.specs.Lexemes.{between, within, begins_line_feed, goes_on, ends, stops, turn, cut_toml}
 use Rattle.toml_lexemes.specs.Modes.{inner_of, is_after_quote, turn_of}
 use Rattle.toml_lexemes.proofs.Turns.{Tied, Tied-turn}
 use Rattle.toml_lexemes.proofs.Places.{goes_more, ends_here, stops_here, never_ends}
@@ -65,8 +66,8 @@ returns c =
     let all : place ≡ length d = omega arith in
     record {
       bounds = (omega arith, omega arith);
-      cut = subst (λ k. cut (within (inner_of c.args.begun)) (drop c.args.from d) ≡ take (k - c.args.from)
-          (drop c.args.from d) ∷ cut between (drop k d)) all
+      cut = subst (λ k. cut_toml (within (inner_of c.args.begun)) (drop c.args.from d) ≡ take (k - c.args.from)
+          (drop c.args.from d) ∷ cut_toml between (drop k d)) all
           (never_ends (inner_of c.args.begun) d c.args.from place c.loop-place.auto.place (inner_of c.loop-place.mode)
           (omega arith) c.loop-place.invariant.goes);
       ended = λ more. absurd (omega arith);

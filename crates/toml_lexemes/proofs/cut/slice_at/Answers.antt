@@ -1,6 +1,6 @@
 use Rattle.std.proofs.Common.{◌+◌, ◌≤◌, length, sym, ◌∙◌, subst, ap}
 use Rattle.toml_lexemes.specs.Bytes.{head}
-use Rattle.toml_lexemes.specs.View.{IsFirst}
+use Rattle.toml_lexemes.specs.View.{IsFirstTomlLexeme}
 use Rattle.toml_lexemes.specs.Modes.{inner_of}
 use Rattle.toml_lexemes.proofs.Firsts.{boundary_at, first_slice, slice_head}
 use Rattle.toml_lexemes.proofs.cut.slice_at.Goals as goal
@@ -18,7 +18,7 @@ returns-clause-first c =
     let same = c.as_bytes.ensures.value in
     let within : end ≤ length d = rw (← same) c.lexeme_end.ensures.bounds.1 in
     let boundary = boundary_at d (c.args.place + 1) end c.utf8.text within (rw (← same) c.lexeme_end.ensures.ended) in
-    subst (IsFirst d c.args.place) (sym c.range.ensures.value)
+    subst (IsFirstTomlLexeme d c.args.place) (sym c.range.ensures.value)
     (first_slice d c.args.place c.requires.within end c.lexeme_end.ensures.bounds.0 within (inner_of c.args.begun) c.requires.begins
     (rw (← same) c.lexeme_end.ensures.cut) boundary)
 

@@ -1,4 +1,5 @@
-use Rattle.toml_lexemes.proofs.Following.{end_may_follow, line_feed_may_follow, blank_may_follow, first_byte_decides, words_are_ended, remarks_are_ended, signs_are_ended}
+use Rattle.toml_lexemes.proofs.Following.{end_may_follow, line_feed_may_follow, blank_may_follow, first_byte_decides, words_are_ended}
+use Rattle.toml_lexemes.proofs.Following.{remarks_are_ended, signs_are_ended}
 use Rattle.toml_lexemes.proofs.laws.law_following.Goals as goal
 
 pub returns-clause-end : goal.returns-clause-end

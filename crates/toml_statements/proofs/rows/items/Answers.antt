@@ -1,16 +1,16 @@
 use Rattle.std.proofs.Common.{◌≡◌, ℕ, false, [], ◌∷◌, refl, codes}
 use Rattle.toml_lexemes.specs.Bytes.{ends_word}
-use Rattle.toml_lexemes.specs.Lexemes.{lexemes, cut}
+use Rattle.toml_lexemes.specs.Lexemes.{toml_lexemes_of, cut_toml}
 use Rattle.toml_statements.specs.Shown.{IsWholeLexeme}
 use Rattle.toml_statements.proofs.WholeLexemes.{sign_is_whole, word_is_whole, remark_is_whole}
 use Rattle.toml_statements.proofs.rows.items.Goals as goal
 
 -- words of one byte
-word : (x : ℕ) → lexemes (x ∷ []) ≡ (x ∷ []) ∷ [] → ends_word x ≡ false → IsWholeLexeme (x ∷ [])
+word : (x : ℕ) → toml_lexemes_of (x ∷ []) ≡ (x ∷ []) ∷ [] → ends_word x ≡ false → IsWholeLexeme (x ∷ [])
 word x e f = word_is_whole (x ∷ []) e f
 
 pub returns-clause-key_and_value : goal.returns-clause-key_and_value
-unfolding cut
+unfolding cut_toml
 returns-clause-key_and_value c = (
   _,
   (
@@ -35,7 +35,7 @@ returns-clause-key_and_value c = (
 )
 
 pub returns-clause-array : goal.returns-clause-array
-unfolding cut
+unfolding cut_toml
 returns-clause-array c = (
   _,
   (
@@ -63,5 +63,5 @@ returns-clause-array c = (
 )
 
 pub returns-clause-two_lexemes : goal.returns-clause-two_lexemes
-unfolding cut
-returns-clause-two_lexemes c = λ b h. let e : lexemes (codes "a b") ≡ codes "a b" ∷ [] = h.0.alone in cc
+unfolding cut_toml
+returns-clause-two_lexemes c = λ b h. let e : toml_lexemes_of (codes "a b") ≡ codes "a b" ∷ [] = h.0.alone in cc

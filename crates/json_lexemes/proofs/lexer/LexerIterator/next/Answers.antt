@@ -9,13 +9,15 @@ returns-then-place-text-clause-steps c =
     let d = c.self.inside.text.now in
     let place = c.spaces_end-place.result in
     let none : cut between (drop place d) ≡ [] = cut-past d place (omega arith) in
-    let passed : cut between (drop place d) ≡ cut between (drop c.self.inside.place d) = rw (← c.as_bytes.ensures.value) c.spaces_end-place.ensures.cut in
+    let passed : cut between (drop place d) ≡ cut between (drop c.self.inside.place d)
+    = rw (← c.as_bytes.ensures.value) c.spaces_end-place.ensures.cut in
     (sym c.self.view_is ∙ sym passed ∙ none, none)
 
 pub lexeme_at-lexeme-requires-clause-boundary : goal.lexeme_at-lexeme-requires-clause-boundary
 lexeme_at-lexeme-requires-clause-boundary c =
     let same = c.as_bytes.ensures.value in
-    boundary_past c.self.inside.text.now c.self.inside.place c.spaces_end-place.result c.self.invariant.utf8 c.self.invariant.boundary c.spaces_end-place.ensures.bounds.0
+    boundary_past c.self.inside.text.now c.self.inside.place c.spaces_end-place.result c.self.invariant.utf8 c.self.invariant.boundary
+    c.spaces_end-place.ensures.bounds.0
     (rw (← same) c.spaces_end-place.ensures.bounds.1) (rw (← same) c.spaces_end-place.ensures.after)
 
 pub returns-clause-steps : goal.returns-clause-steps

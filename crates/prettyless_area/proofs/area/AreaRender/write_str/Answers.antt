@@ -13,5 +13,10 @@ pub returns-clause-ok : goal.returns-clause-ok
 returns-clause-ok c = λ known.
     let had = λ (area : Area). account area.limit area.history.before area.history.given in
     let wrote = c.in_ok-write_str_all.ensures.ok known in
-    let fair : IsFairCount c.args.s.now (length c.args.s.now) = search rules in
-    (refl, (whole_count (had c.args.self.now) (had c.write_str_all.new.self) c.args.s.now wrote.1.0, ((λ f. wrote.1.1), λ unfair. absurd (unfair fair))))
+    let fair : IsFairCount c.args.s.now (length c.args.s.now) = search rules in (
+      refl,
+      (
+        whole_count (had c.args.self.now) (had c.write_str_all.new.self) c.args.s.now wrote.1.0,
+        ((λ f. wrote.1.1), λ unfair. absurd (unfair fair)),
+      ),
+    )

@@ -27,7 +27,8 @@ use denote.Slice.{slice_val, shr_slice_vals, shr_slice_Tells}
 use denote.Triple.Entry.{on_entry, alive, Args}
 use denote.Triple.Spec.{Meets, triple_of}
 use denote.Triple.Table.{entered}
-use denote.Triple.Walked.{says, stay_none_ref, stay_none_slice, Stays, walk_of, Walks, ends_at, walked, Goes-none_ref, Goes-none_slice, walk_Meets}
+use denote.Triple.Walked.{says, stay_none_ref, stay_none_slice, Stays, walk_of, Walks, ends_at, walked, Goes-none_ref, Goes-none_slice}
+use denote.Triple.Walked.{walk_Meets}
 use Rattle.prettyless_area.specs.declared.history.History.{History}
 use Rattle.prettyless_area.specs.contracts.history.History as history
 use Rattle.prettyless_area.specs.contracts.history.History.and as f
@@ -61,7 +62,8 @@ module _ {M : Type 1} {𝓤 : Ura M} (𝓛 : Logic 𝓤) (mem : Memory → SProp
         (WpFn 𝓤 H C Λ code.function (before ∷ piece ∷ []) ((walk_of 𝓛 f.ended stayed (f.clauses 𝓛 mem run)).post bound))
     walk short =
         qed 𝓛 (raw (alive 𝓛 f.signature κs qs) ∷ ‵ passed ∷ []) ∵ enter ! C Λ code.function (before ∷ piece ∷ []) _ $
-        alloc_all ! (λ l. pass_all ! refl ((tt, tt), ((tt, (tt, (record { fits = short }, tt))), tt)) $ sets ! (agg ! (no_more !)) refl (tt, tt) $
+        alloc_all ! (λ l. pass_all ! refl ((tt, tt), ((tt, (tt, (record { fits = short }, tt))), tt)) $ sets !
+        (agg ! (no_more !)) refl (tt, tt) $
         returns ! (look_at ! 0 refl) $ free_all ! refl $
         suffices ! _ (ends_at 𝓛 f.ended stayed (f.clauses 𝓛 mem run) bound (vstruct vnil) after (tt, (tt, tt)) (tt, (tt, tt))) $
         says ! refl $ pure_i ! (history.the_row.own_val after (vstruct vnil ∷ [])) ((λ vss. (tt, tt)), tt) ((tt, (refl, tt)), tt) $
@@ -76,7 +78,10 @@ module _ {M : Type 1} {𝓤 : Ura M} (𝓛 : Logic 𝓤) (mem : Memory → SProp
 meets : {M : Type 1} {𝓤 : Ura M} (𝓛 : Logic 𝓤) (mem : Memory → SProp 𝓤) (run : Routine → Fun 𝓤) (𝓣 : Tables 𝓤 𝓛.H)
     → Meets 𝓛 f.signature (WpFn 𝓤 𝓛.H 𝓣.C 𝓣.Λ code.function) (f.spec 𝓛 mem run)
 meets {𝓤 = 𝓤} 𝓛 mem run 𝓣 =
-    walk_Meets 𝓛 f.ended stayed (Goes-none_ref 𝓛 2 (0 ∷ []) tt (plain (λ _. history.the_row)) yes, (Goes-none_slice 𝓛 2 (1 ∷ []) tt (plain (λ _. u8)) yes, tt)) (f.clauses 𝓛 mem run)
+    walk_Meets 𝓛 f.ended stayed (
+      Goes-none_ref 𝓛 2 (0 ∷ []) tt (plain (λ _. history.the_row)) yes,
+      (Goes-none_slice 𝓛 2 (1 ∷ []) tt (plain (λ _. u8)) yes, tt),
+    ) (f.clauses 𝓛 mem run)
     (WpFn 𝓤 𝓛.H 𝓣.C 𝓣.Λ code.function) (WpFn-mono 𝓤 𝓛.H 𝓛.laws 𝓣 code.function) (walks 𝓛 mem run 𝓣.C 𝓣.Λ)
 
 pub and_spec : {M : Type 1} → stated.statement M

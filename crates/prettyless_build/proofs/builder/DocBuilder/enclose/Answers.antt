@@ -23,7 +23,14 @@ returns-clause-ok g c =
     let y : Tree = tree c.in_ok-after.after.1 in
     let front : Tree = tree c.in_ok-join.field-0.1 in
     IfOk-weaker c.join-2.result _ _
-    (λ b made. (x, y, c.in_ok-before.ensures.ok, c.in_ok-after.ensures.ok, enclosed x (tree c.args.self.1) y front (tree b.1) c.in_ok-join.ensures.ok made))
+    (λ b made. (
+      x,
+      y,
+      c.in_ok-before.ensures.ok,
+      c.in_ok-after.ensures.ok,
+      enclosed x (tree c.args.self.1) y front (tree b.1)
+          c.in_ok-join.ensures.ok made,
+    ))
     c.join-2.ensures.ok
 
 pub returns-clause-err : goal.returns-clause-err

@@ -31,7 +31,8 @@ returns-clause-ok g c =
     let original : Tree = tree c.in_ok-original-in_default.original in
     let same = ap (Append front) c.from_doc-last.ensures.tree in
     IfOk-weaker c.of_two.result (λ b. built tree b.1 ≡ Append front last) _
-    (λ b made. repeated c.args.count _ front original _ more (made ∙ same) c.in_ok-front-in_default.ensures.ok c.in_ok-original-in_default.ensures.ok)
+    (λ b made. repeated c.args.count _ front original _ more (made ∙ same) c.in_ok-front-in_default.ensures.ok
+    c.in_ok-original-in_default.ensures.ok)
     c.of_two.ensures.ok
 
 pub returns-clause-same : goal.returns-clause-same

@@ -19,8 +19,13 @@ returns-then-not-is_fair_count-clause-err g c =
     let kept = c.loop-rest.invariant in
     λ is_known.
     let before = kept.accepted is_known in
-    let took = c.in_ok-count.ensures.ok before.0 in
-    (took.0, (beginning_of_rest _ _ _ _ _ _ kept.split before.1.0 took.1.0.1, took.1.1.1 (λ fair. cc (c.if-not-is_fair_count.ensures.1 fair)) ∙ ap rise before.1.1))
+    let took = c.in_ok-count.ensures.ok before.0 in (
+      took.0,
+      (
+        beginning_of_rest _ _ _ _ _ _ kept.split before.1.0 took.1.0.1,
+        took.1.1.1 (λ fair. cc (c.if-not-is_fair_count.ensures.1 fair)) ∙ ap rise before.1.1,
+      ),
+    )
 
 pub loop-rest-preserved : goal.loop-rest-preserved
 loop-rest-preserved g c =

@@ -10,7 +10,8 @@ invariant-loop-rest g l = record {
   same_lender : g.Self.Render.lender l.self ≡ g.Self.Render.lender l.fn.self;
   done : List ℕ;
   split : l.fn.s ≡ done ++ l.rest;
-  accepted : Accepts (g.Self.Render.bytes l.fn.self) (g.Self.Render.bytes l.self) done (g.Self.Render.failures l.fn.self) (g.Self.Render.failures l.self);
+  accepted : Accepts (g.Self.Render.bytes l.fn.self) (g.Self.Render.bytes l.self) done (g.Self.Render.failures l.fn.self)
+      (g.Self.Render.failures l.self);
 }
 
 abbrev pub decreases-loop-rest : goal.decreases-loop-rest

@@ -19,7 +19,8 @@ pub returns-clause-same : goal.returns-clause-same
 returns-clause-same g c =
     let s = c.args.self.now in
     let other : Frame = record { indent = c.args.indent; mode = c.args.mode; below = s.here.below } in
-    tasks_at g.N.Walk.tree s.frames.items s.here other s.nodes.items (omega (arith, s.top, s.nodes.ok.0, c.if-self-len.false, c.len.ensures)) refl
+    tasks_at g.N.Walk.tree s.frames.items s.here other s.nodes.items
+    (omega (arith, s.top, s.nodes.ok.0, c.if-self-len.false, c.len.ensures)) refl
 
 pub returns-clause-summed : goal.returns-clause-summed
 returns-clause-summed g c =

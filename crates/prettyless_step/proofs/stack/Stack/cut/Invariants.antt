@@ -5,7 +5,8 @@ use Rattle.prettyless_step.proofs.stack.Stack.cut.Given as goal
 
 abbrev pub invariant-frames : goal.invariant-frames
 invariant-frames g l = record {
-  kept : (above below : List Task) → stack_of g.N.Walk.tree l.fn.self ≡ above ++ below → length below ≡ l.kept → (rest : List Task) × (stack_of g.N.Walk.tree l.self ≡ rest ++ below);
+  kept : (above below : List Task) → stack_of g.N.Walk.tree l.fn.self ≡ above ++ below → length below ≡ l.kept → (rest : List Task)
+      × (stack_of g.N.Walk.tree l.self ≡ rest ++ below);
   summed : IsSummed g.N.Walk.HAS_SUMMARIES g.N.Walk.tree l.fn.self → IsSummed g.N.Walk.HAS_SUMMARIES g.N.Walk.tree l.self;
 }
 

@@ -17,7 +17,8 @@ invariant_of-self g c =
 pub returns-in-Some-clause-same : goal.returns-in-Some-clause-same
 returns-in-Some-clause-same g c =
     let s = c.args.self.now in
-    tasks_left g.N.Walk.tree s.frames.items c.pop.new.self.items c.in-Some.frame s.here s.nodes.items c.in-Some.ensures.items (omega (arith, c.requires, s.nodes.ok.0))
+    tasks_left g.N.Walk.tree s.frames.items c.pop.new.self.items c.in-Some.frame s.here s.nodes.items c.in-Some.ensures.items
+    (omega (arith, c.requires, s.nodes.ok.0))
 
 pub returns-in-Some-clause-more : goal.returns-in-Some-clause-more
 returns-in-Some-clause-more g c more =

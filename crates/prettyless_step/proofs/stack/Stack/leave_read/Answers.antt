@@ -30,7 +30,8 @@ returns-clause-same g c =
     let frame = c.index.result.now in
     let reads = c.requires.of_this in
     let whole = take_last xs old.frames frame (omega (arith, c.if-cursor-eq0.false)) reads.frames c.index.ensures in
-    tasks_left g.N.Walk.tree (take old.frames xs) (take (old.frames - 1) xs) frame old.here (take old.nodes s.nodes.items) whole (omega (arith, c.requires.read, length-take-le old.nodes s.nodes.items reads.nodes))
+    tasks_left g.N.Walk.tree (take old.frames xs) (take (old.frames - 1) xs) frame old.here (take old.nodes s.nodes.items) whole
+    (omega (arith, c.requires.read, length-take-le old.nodes s.nodes.items reads.nodes))
 
 pub returns-clause-more : goal.returns-clause-more
 returns-clause-more g c more =

@@ -13,7 +13,8 @@ invariant_of-self-2 g c =
     let items = c.in_ok-push.ensures.items in
     record {
       bottom = sym (lowest_left c.push.new.self.items s.frames.items s.here new items) ∙ s.bottom;
-      rises = subst (λ xs. Rises xs new) (sym items) (rises_open s.frames.items s.here new s.rises (omega (arith, c.requires, c.len.ensures)));
+      rises = subst (λ xs. Rises xs new) (sym items)
+          (rises_open s.frames.items s.here new s.rises (omega (arith, c.requires, c.len.ensures)));
       top = omega (arith, c.len.ensures);
     }
 
@@ -21,7 +22,8 @@ pub returns-clause-same : goal.returns-clause-same
 returns-clause-same g c =
     let s = c.args.self.now in
     let new : Frame = record { indent = c.args.indent; mode = c.args.mode; below = c.len.result } in
-    sym (tasks_left g.N.Walk.tree c.push.new.self.items s.frames.items s.here new s.nodes.items c.in_ok-push.ensures.items (omega (arith, c.len.ensures, s.nodes.ok.0)))
+    sym (tasks_left g.N.Walk.tree c.push.new.self.items s.frames.items s.here new s.nodes.items c.in_ok-push.ensures.items
+    (omega (arith, c.len.ensures, s.nodes.ok.0)))
 
 pub returns-clause-summed : goal.returns-clause-summed
 returns-clause-summed g c =

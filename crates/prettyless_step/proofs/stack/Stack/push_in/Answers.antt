@@ -9,7 +9,8 @@ pub returns-clause-pushed : goal.returns-clause-pushed
 returns-clause-pushed g c =
     let f = g.N.Walk.tree in
     let u = c.push_sum.new.self in
-    tasks_last f u.frames.items u.here c.push.new.self.items u.nodes.items c.args.node c.in_ok-push.ensures.items u.rises (omega (arith, u.top, u.nodes.ok.0))
+    tasks_last f u.frames.items u.here c.push.new.self.items u.nodes.items c.args.node c.in_ok-push.ensures.items u.rises
+    (omega (arith, u.top, u.nodes.ok.0))
     ∙ ap (λ z. make_task z.here.indent z.here.mode (f c.args.node) ∷ stack_of f z) c.in_ok-push_sum.ensures.others
 
 pub returns-clause-summed : goal.returns-clause-summed
@@ -23,5 +24,6 @@ returns-clause-summed g c h =
     record {
       long = long_push has (length u.sums.items) (length s.sums.items) (length s.nodes.items) h.long c.in_ok-push_sum.ensures.long
           ∙ ap (λ k. if has then k else 0) (omega (arith, ap length c.in_ok-push.ensures.items, more, same));
-      sums = subst (λ (z : List Task). AreSums u.sums.items z) (sym (returns-clause-pushed g c)) (c.in_ok-push_sum.ensures.sums s.here.indent s.here.mode h);
+      sums = subst (λ (z : List Task). AreSums u.sums.items z) (sym (returns-clause-pushed g c))
+          (c.in_ok-push_sum.ensures.sums s.here.indent s.here.mode h);
     }

@@ -13,4 +13,5 @@ returns-in_ok-push-clause-sums g c i m h =
     let on : g.N.Walk.HAS_SUMMARIES ≡ true = cc in
     let t = make_task i m (f c.args.node.now) in
     subst (λ (z : List Below). AreSums z (t ∷ stack_of f s)) (sym c.in_ok-push.ensures.items)
-    (sums_push s.sums.items (stack_of f s) c.sum_with-sum.result t (h.long ∙ ap (λ (has : Bool). if has then length s.nodes.items else 0) on ∙ sym (length-stack_of f s)) h.sums (c.sum_with-sum.ensures i m h))
+    (sums_push s.sums.items (stack_of f s) c.sum_with-sum.result t (h.long ∙ ap (λ (has : Bool). if has then length s.nodes.items else 0) on
+    ∙ sym (length-stack_of f s)) h.sums (c.sum_with-sum.ensures i m h))

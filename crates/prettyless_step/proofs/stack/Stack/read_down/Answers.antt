@@ -11,5 +11,6 @@ returns-then-not-leave_read-clause-unread g c =
     let new = c.leave_read.new.cursor in
     let reads = c.leave_read.ensures.of_this in
     let long = length-take-le new.nodes s.nodes.items reads.nodes in
-    let none : unread f s new ≡ [] = no_tasks f (take new.frames s.frames.items) new.here (take new.nodes s.nodes.items) reads.covers.bottom reads.covers.rises (omega (arith, reads.covers.top, long)) (omega (arith, c.if-not-leave_read.ensures.none refl, long)) in
+    let none : unread f s new ≡ [] = no_tasks f (take new.frames s.frames.items) new.here (take new.nodes s.nodes.items) reads.covers.bottom
+    reads.covers.rises (omega (arith, reads.covers.top, long)) (omega (arith, c.if-not-leave_read.ensures.none refl, long)) in
     (sym (ap (unread f s) c.in_default.ensures.unread.1) ∙ sym c.leave_read.ensures.same ∙ none, none)

@@ -12,5 +12,6 @@ returns-clause-unread g c =
     let node = c.index.result.now in
     let reads = c.requires in
     let whole = take_last ns old.nodes node (omega (arith, c.if-cursor.false, reads.covers.top)) reads.nodes c.index.ensures in
-    tasks_last g.N.Walk.tree (take old.frames s.frames.items) old.here (take old.nodes ns) (take (old.nodes - 1) ns) node whole reads.covers.rises
+    tasks_last g.N.Walk.tree (take old.frames s.frames.items) old.here (take old.nodes ns) (take (old.nodes - 1) ns) node whole
+    reads.covers.rises
     (omega (arith, c.if-cursor.false, reads.covers.top, reads.nodes, length-take-le (old.nodes - 1) ns (omega (arith, reads.nodes))))

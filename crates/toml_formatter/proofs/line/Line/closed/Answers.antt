@@ -8,12 +8,15 @@ returns-then-may_trail-clause-closed c = λ x left taken closing h.
     let n = is_nested c.args.kind in
     let settled = c.in_ok-line.ensures in
     closed_marked n c.in_ok-line.line x left taken closing settled.no_comma settled.no_remarks
-    (settled.line n false (x ∷ left) taken (λ e k. c.requires e) (comma_changed n c.args.self c.keeps_comma.result x left taken c.keeps_comma.ensures h))
-    c.in_ok-doc.doc (c.may_trail.ensures.nested c.if-may_trail.true) (c.may_trail.ensures.plain c.if-may_trail.true) c.in_ok-doc.ensures.items
+    (settled.line n false (x ∷ left) taken (λ e k. c.requires e)
+    (comma_changed n c.args.self c.keeps_comma.result x left taken c.keeps_comma.ensures h))
+    c.in_ok-doc.doc (c.may_trail.ensures.nested c.if-may_trail.true) (c.may_trail.ensures.plain c.if-may_trail.true)
+    c.in_ok-doc.ensures.items
 
 pub returns-clause-closed : goal.returns-clause-closed
 returns-clause-closed c = λ x left taken closing h.
     let n = is_nested c.args.kind in
     let settled = c.in_ok-line.ensures in
     closed_plain n c.in_ok-line.line x left taken closing settled.no_comma settled.no_remarks
-    (settled.line n false (x ∷ left) taken (λ e k. c.requires e) (comma_changed n c.args.self c.keeps_comma.result x left taken c.keeps_comma.ensures h))
+    (settled.line n false (x ∷ left) taken (λ e k. c.requires e)
+    (comma_changed n c.args.self c.keeps_comma.result x left taken c.keeps_comma.ensures h))

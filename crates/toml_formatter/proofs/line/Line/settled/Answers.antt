@@ -5,5 +5,6 @@ pub returns-clause-line : goal.returns-clause-line
 returns-clause-line c =
     let before = c.in_ok-with_pending_comma.ensures in
     IfOk-weaker c.with_pending_remarks.result _ _
-    (λ line then nested exact left taken goes_on h. then nested exact left taken before.no_comma (before.line nested exact left taken goes_on h))
+    (λ line then nested exact left taken goes_on h. then nested exact left taken before.no_comma
+    (before.line nested exact left taken goes_on h))
     c.with_pending_remarks.ensures.line

@@ -1,5 +1,5 @@
 use Rattle.std.proofs.Common.{◌≡◌, [], drop, sym, ◌∙◌, arith, rules}
-use Rattle.toml_lexemes.specs.Lexemes.{between, cut}
+use Rattle.toml_lexemes.specs.Lexemes.{between, cut_toml}
 use Rattle.toml_lexemes.proofs.Firsts.{boundary_past, cut-past}
 use Rattle.toml_lexemes.proofs.lexer.LexerIterator.next.Goals as goal
 
@@ -7,8 +7,8 @@ pub returns-then-place-text-clause-steps : goal.returns-then-place-text-clause-s
 returns-then-place-text-clause-steps c =
     let d = c.self.inside.text.now in
     let place = c.blanks_end-place.result in
-    let none : cut between (drop place d) ≡ [] = cut-past d place (omega arith) in
-    let passed : cut between (drop place d) ≡ cut between (drop c.self.inside.place d) = rw
+    let none : cut_toml between (drop place d) ≡ [] = cut-past d place (omega arith) in
+    let passed : cut_toml between (drop place d) ≡ cut_toml between (drop c.self.inside.place d) = rw
     (← c.as_bytes.ensures.value) c.blanks_end-place.ensures.cut in
     (sym c.self.view_is ∙ sym passed ∙ none, none)
 

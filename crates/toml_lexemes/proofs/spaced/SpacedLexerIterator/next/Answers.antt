@@ -1,8 +1,8 @@
 use Rattle.std.proofs.Common.{◌≡◌, ◌+◌, List, [], ◌∷◌, cond, length, drop, Some, None, sym, ap, ◌∙◌, arith, rules}
-use Rattle.toml_lexemes.specs.Lexemes.{between, cut}
+use Rattle.toml_lexemes.specs.Lexemes.{between, cut_toml}
 use Rattle.toml_lexemes.specs.SpacedLexemes as spec
 use Rattle.toml_lexemes.specs.SpacedLexer.{spaced_of}
-use Rattle.toml_lexemes.specs.View.{text_of}
+use Rattle.toml_lexemes.specs.View.{toml_text_of}
 use Rattle.toml_lexemes.proofs.Blanks.{next_spaced, last_spaced}
 use Rattle.toml_lexemes.proofs.Firsts.{boundary_past, cut-past}
 use Rattle.toml_lexemes.proofs.spaced.SpacedLexerIterator.next.Goals as goal
@@ -13,10 +13,10 @@ all c =
     let from = c.self.inside.place in
     let place = c.blanks_end-place.result in
     let same = c.as_bytes.ensures.value in
-    let passed : cut between (drop place d) ≡ cut between (drop from d) = rw (← same) c.blanks_end-place.ensures.cut in
-    let none : cut between (drop from d) ≡ [] = sym passed ∙ cut-past d place (omega arith) in
-    sym c.self.view_is ∙ ap (λ b. cond b [] (spec.spaced_lexemes (drop from d))) c.if-self.false ∙ last_spaced (drop from d) none
-    ∙ ap (λ g. spec.after_gap g [] ∷ []) (sym c.range_from.ensures.value)
+    let passed : cut_toml between (drop place d) ≡ cut_toml between (drop from d) = rw (← same) c.blanks_end-place.ensures.cut in
+    let none : cut_toml between (drop from d) ≡ [] = sym passed ∙ cut-past d place (omega arith) in
+    sym c.self.view_is ∙ ap (λ b. cond b [] (spec.toml_spaced_lexemes (drop from d))) c.if-self.false ∙ last_spaced (drop from d) none
+    ∙ ap (λ g. spec.after_toml_gap g [] ∷ []) (sym c.range_from.ensures.value)
 
 pub returns-then-place-text-clause-steps : goal.returns-then-place-text-clause-steps
 returns-then-place-text-clause-steps c = (all c, tt)
@@ -44,14 +44,14 @@ returns-clause-steps c =
     let from = c.self.inside.place in
     let place = c.blanks_end-place.result in
     let same = c.as_bytes.ensures.value in
-    let s = text_of c.lexeme_at-lexeme.result in
-    let left : (t : List (spec.Spaced)) → cond c.self.inside.ended [] t ≡ t = λ t. ap (λ b. cond b [] t) c.if-self.false in
+    let s = toml_text_of c.lexeme_at-lexeme.result in
+    let left : (t : List (spec.SpacedToml)) → cond c.self.inside.ended [] t ≡ t = λ t. ap (λ b. cond b [] t) c.if-self.false in
     let next = next_spaced d from place c.blanks_end-place.ensures.bounds.0 s (rw (← same) c.blanks_end-place.ensures.bounds.1)
     (rw (← same) c.blanks_end-place.ensures.blanks) (rw (← same) c.blanks_end-place.ensures.cut) c.lexeme_at-lexeme.ensures.first in (
       sym c.self.view_is ∙ left _ ∙ next
-          ∙ ap (λ g. spec.after_gap g s ∷ spec.spaced_lexemes (drop (place + length s) d)) (sym c.range.ensures.value)
+          ∙ ap (λ g. spec.after_toml_gap g s ∷ spec.toml_spaced_lexemes (drop (place + length s) d)) (sym c.range.ensures.value)
           ∙ ap (λ k. spaced_of record { gap = c.range.result; lexeme = Some c.lexeme_at-lexeme.result }
-          ∷ spec.spaced_lexemes (drop (place + length k) d))
+          ∷ spec.toml_spaced_lexemes (drop (place + length k) d))
           (sym c.text.ensures)
           ∙ ap (λ t. spaced_of record { gap = c.range.result; lexeme = Some c.lexeme_at-lexeme.result } ∷ t) (sym (left _)),
       c.lexeme_at-lexeme.ensures.named,

@@ -5,7 +5,8 @@ use Rattle.test_calls.proofs.parts.render.ShortRender.write_str.Goals as goal
 pub returns-then-not-is_fair_count-clause-ok : goal.returns-then-not-is_fair_count-clause-ok
 returns-then-not-is_fair_count-clause-ok c =
     let taken : c.min-taken.result ≡ min c.if-short.count (length c.args.s.now) = search rules in
-    let appended : c.extend_from_slice.new.self.items ≡ c.args.self.now.bytes.items ++ take c.min-taken.result c.args.s.now = search rules in
+    let appended : c.extend_from_slice.new.self.items ≡ c.args.self.now.bytes.items ++ take c.min-taken.result c.args.s.now
+    = search rules in
     λ is_known. (
       refl,
       (
@@ -17,7 +18,8 @@ returns-then-not-is_fair_count-clause-ok c =
 pub returns-else-not-is_fair_count-clause-ok : goal.returns-else-not-is_fair_count-clause-ok
 returns-else-not-is_fair_count-clause-ok c =
     let taken : c.min-taken.result ≡ min c.if-short.count (length c.args.s.now) = search rules in
-    let appended : c.extend_from_slice.new.self.items ≡ c.args.self.now.bytes.items ++ take c.min-taken.result c.args.s.now = search rules in
+    let appended : c.extend_from_slice.new.self.items ≡ c.args.self.now.bytes.items ++ take c.min-taken.result c.args.s.now
+    = search rules in
     λ is_known. (
       refl,
       (

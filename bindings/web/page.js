@@ -1,0 +1,301 @@
+// The page: it hands the text to the worker while one types, and shows what comes back.
+
+"use strict";
+
+// Texts up to this length are laid out at once; longer ones after a pause in typing, in milliseconds.
+const SHORT = 20000;
+const PAUSE = 200;
+// The layout is shown in parts of about this many characters, so that a browser draws those alone that are seen.
+const PART = 20000;
+
+const EXAMPLES = {
+    json: `{"name":"Ada Lovelace","born":1815,"languages":["en","fr"],
+"address":{"city":"London",
+"place":{"latitude":51.507,"longitude":-0.1278}},"tags":[],
+"sequence":[1,1,2,3,5,8,13,21,34,55,89,144,233],
+"note":"my brain is something more than merely mortal"}
+`,
+    toml: `[package]# the crate
+name="hello"
+authors=["Ada Lovelace <ada@example.org>",
+"Charles Babbage <charles@example.org>"]
+keywords=["pretty","printer",# two
+"toml"]
+
+[dependencies]
+prettyless={version="0.4",features=["arena","terminal"]}
+`,
+};
+
+const NAMES = { json: "JSON", toml: "TOML" };
+const PROMISES = {
+    json: "a layout has the same value as your text, each lexeme spelled as it was",
+    toml: "a layout has the same statements as your text, each lexeme and remark spelled as it was",
+};
+
+const at = (id) => document.getElementById(id);
+const [text, layout, paper, status] = ["text", "layout", "paper", "status"].map(at);
+const language = () => document.querySelector("[name=language]:checked").value;
+
+// The worker
+
+function startWorker() {
+    const source = URL.createObjectURL(new Blob([at("worker").textContent], { type: "text/javascript" }));
+    const started = new Worker(source);
+    const module = Uint8Array.from(atob(at("module").textContent), (it) => it.charCodeAt(0));
+    started.postMessage({ module }, [module.buffer]);
+    started.onmessage = ({ data }) => received(data);
+    started.onerror = () => say("This browser starts no worker here, so nothing is laid out.", true);
+    return started;
+}
+
+// Whether the worker has answered all that it was sent, and whether it is to lay out the text as it is then.
+let isFree = false;
+let isWanted = false;
+let asked = null;
+let pause = 0;
+
+// Has the text laid out after so many milliseconds, or when the worker is free.
+function want(wait) {
+    paper.setAttribute("aria-busy", "true");
+    at("copied").textContent = "";
+    clearTimeout(pause);
+    pause = setTimeout(() => { pause = 0; isWanted = true; ask(); }, wait);
+}
+
+function ask() {
+    if (!isFree || !isWanted) return;
+    [isFree, isWanted] = [false, false];
+    asked = { text: text.value, options: options() };
+    worker.postMessage(asked);
+}
+
+function received({ answered, took, failed }) {
+    isFree = true;
+    if (failed) say(`Nothing was laid out: ${failed}.`, true);
+    if (answered) show(answered, took);
+    ask();
+    paper.setAttribute("aria-busy", String(!isFree || pause !== 0));
+}
+
+// What is shown
+
+function show(answered, took) {
+    const isFault = answered.status === 5 || answered.status === 6;
+    mark(isFault && !isBlank(asked.text) ? answered : null);
+    at("figures").textContent = "";
+    if (isBlank(asked.text)) {
+        showLayout("");
+        say("There is no text yet.", false);
+    } else if (answered.status === 0) {
+        showLayout(answered.text);
+        say("Laid out.", false);
+        const time = took.toFixed(took < 10 ? 1 : 0);
+        at("figures").textContent = `${count(answered.text.length, "character")} in ${time} ms`;
+    } else {
+        const place = `Line ${answered.line}, column ${answered.column}: expected ${answered.text}.`;
+        say(isFault ? place : "There is too little memory for this text.", true);
+    }
+}
+
+const isBlank = (it) => !/[^ \t\r\n]/.test(it);
+
+// A reader of the screen says the line aloud where it has changed. At a fault the layout is an older one.
+function say(line, isFault) {
+    status.parentElement.classList.toggle("fault", isFault);
+    layout.classList.toggle("stale", isFault);
+    at("layout-name").textContent = isFault && shown ? "Layout of an earlier text" : "Layout";
+    at("copy").disabled = isFault || !shown;
+    if (status.textContent !== line) status.textContent = line;
+}
+
+const count = (number, what) => `${number.toLocaleString("en")} ${what}${number === 1 ? "" : "s"}`;
+
+let shown = "";
+
+function showLayout(lines) {
+    if (lines === shown) return;
+    shown = lines;
+    layout.replaceChildren(...parts(lines).map(partOf));
+}
+
+// The layout cut at ends of lines, without the last line end of each part.
+function parts(lines) {
+    const cut = [];
+    for (let from = 0; from < lines.length; ) {
+        const end = lines.indexOf("\n", from + PART);
+        cut.push(lines.slice(from, end < 0 ? lines.length : end));
+        from = end < 0 ? lines.length : end + 1;
+    }
+    return cut;
+}
+
+// A part, with the height that it has where it is not drawn.
+function partOf(lines) {
+    const part = document.createElement("div");
+    part.textContent = lines;
+    part.style.containIntrinsicSize = `auto 0px auto calc(${lines.split("\n").length} * 1.25rem)`;
+    return part;
+}
+
+// The fault
+
+// Where a line begins in the text, and where it ends.
+function lineOf(whole, line) {
+    let from = 0;
+    for (let it = 1; it < line; it++) from = whole.indexOf("\n", from) + 1;
+    const end = whole.indexOf("\n", from);
+    return [from, end < 0 ? whole.length : end];
+}
+
+let fault = null;
+
+// Marks the token that begins at a line and a column, which counts characters, from 1 on.
+function mark(place) {
+    fault = null;
+    at("marks").hidden = at("go").hidden = !place;
+    text.setAttribute("aria-invalid", String(Boolean(place)));
+    if (!place) return;
+    const [from, end] = lineOf(asked.text, place.line);
+    const line = asked.text.slice(from, end);
+    const before = [...line].slice(0, place.column - 1).join("");
+    const [token] = line.slice(before.length).match(/^(?:"[^"]*"?|[\w.+-]+|[^]?)/u);
+    fault = { line: place.line, from: from + before.length, end: from + before.length + token.length };
+    at("before").textContent = before;
+    at("mark").textContent = token;
+    followScroll();
+}
+
+const lineHeight = () => parseFloat(getComputedStyle(text).lineHeight);
+
+function followScroll() {
+    if (!fault) return;
+    const top = parseFloat(getComputedStyle(text).paddingTop) + (fault.line - 1) * lineHeight() - text.scrollTop;
+    at("marked").style.transform = `translate(${-text.scrollLeft}px, ${top}px)`;
+}
+
+function goToFault() {
+    const { line, from, end } = fault;
+    text.focus();
+    text.setSelectionRange(from, Math.max(from, end));
+    text.scrollTop = (line - 0.5) * lineHeight() - text.clientHeight / 2;
+    text.scrollLeft = at("mark").offsetLeft - text.clientWidth / 2;
+}
+
+// The options
+
+function options() {
+    return { language: language(), ...numbers, fill: at("fill").checked };
+}
+
+// The numbers that are used: the nearest to those typed that may be. While none is typed the last one stays.
+const numbers = { width: 80, indent: 2 };
+
+function takeNumber(id) {
+    const { valueAsNumber, min, max } = at(id);
+    if (!Number.isNaN(valueAsNumber)) numbers[id] = Math.min(Math.max(Math.trunc(valueAsNumber), min), max);
+    at("slider").value = numbers.width;
+    paper.style.setProperty("--columns", numbers.width);
+}
+
+// Each language has a text of its own.
+const texts = { ...EXAMPLES };
+let current = "json";
+
+function showLanguage() {
+    texts[current] = text.value;
+    current = language();
+    text.value = texts[current];
+    // An example is selected, so that what is pasted takes its place.
+    if (text.value === EXAMPLES[current]) text.setSelectionRange(0, text.textLength);
+    at("fill").disabled = current !== "json";
+    at("promise").textContent = PROMISES[current];
+    at("text-name").textContent = `Text (${NAMES[current]})`;
+}
+
+// Options and short texts are kept over a reload, where the browser keeps anything for such a page. An empty text is
+// not, so that its example comes back.
+const KEPT = "yezhgulo";
+const isKept = ([, it]) => it.length <= SHORT && !isBlank(it);
+
+function keep() {
+    texts[current] = text.value;
+    const short = Object.fromEntries(Object.entries(texts).filter(isKept));
+    try {
+        localStorage.setItem(KEPT, JSON.stringify({ ...options(), texts: short }));
+    } catch { /* It keeps nothing. */ }
+}
+
+function kept() {
+    try {
+        return JSON.parse(localStorage.getItem(KEPT));
+    } catch {
+        return {};
+    }
+}
+
+function takeKept() {
+    const { language, width, indent, fill, texts: short } = { language: "json", ...numbers, fill: false, ...kept() };
+    Object.assign(texts, short);
+    for (const it of document.getElementsByName("language")) it.checked ||= it.value === language;
+    at("width").value = width;
+    at("indent").value = indent;
+    at("fill").checked = fill;
+    Object.keys(numbers).forEach(takeNumber);
+    text.value = texts[current];
+    showLanguage();
+}
+
+function drawRuler() {
+    const places = Array.from({ length: Number(at("width").max) / 5 + 1 }, (_, it) => it * 5);
+    at("ruler").replaceChildren(...places.map((column) => {
+        const tick = document.createElement("span");
+        tick.style.left = `calc(0.75rem + ${column} * 1ch)`;
+        if (column % 10 === 0) tick.dataset.column = column;
+        return tick;
+    }));
+}
+
+// In the layout the keys that select all select it alone.
+function selectLayout(event) {
+    if (!(event.ctrlKey || event.metaKey) || event.altKey || event.key.toLowerCase() !== "a") return;
+    event.preventDefault();
+    getSelection().selectAllChildren(layout);
+}
+
+async function copy() {
+    try {
+        await navigator.clipboard.writeText(shown);
+        at("copied").textContent = "Copied.";
+    } catch {
+        getSelection().selectAllChildren(layout);
+        at("copied").textContent = "Selected: copy it by the keyboard.";
+    }
+}
+
+takeKept();
+drawRuler();
+say("Loading.", false);
+const worker = startWorker();
+want(0);
+
+text.addEventListener("input", () => want(text.textLength > SHORT ? PAUSE : 0));
+text.addEventListener("scroll", followScroll, { passive: true });
+for (const id in numbers) {
+    at(id).addEventListener("input", () => { takeNumber(id); want(0); });
+    at(id).addEventListener("change", () => { at(id).value = numbers[id]; });
+}
+at("slider").addEventListener("input", () => {
+    at("width").value = at("slider").value;
+    takeNumber("width");
+    want(0);
+});
+at("fill").addEventListener("input", () => want(0));
+for (const it of document.getElementsByName("language")) {
+    it.addEventListener("change", () => { showLanguage(); want(0); });
+}
+at("go").addEventListener("click", goToFault);
+at("copy").addEventListener("click", copy);
+paper.addEventListener("keydown", selectLayout);
+addEventListener("resize", followScroll);
+for (const it of ["pagehide", "visibilitychange"]) addEventListener(it, keep);

@@ -1,0 +1,392 @@
+"""Drives the page in a browser, and compares what it shows with what the programs print for the same text."""
+
+import itertools
+import json
+import os
+import pathlib
+import subprocess
+import tempfile
+
+from browsers import ARROW_LEFT, ARROW_RIGHT, CONTROL, SPACE, TAB, Chromium, Firefox, waited_for
+
+LISTS = '{"name":"Ada","list":[1,22,333],"empty":{}}'
+NUMBERS = json.dumps({"numbers": list(range(40)), "nested": [[1, 2], [3, [4.5, -6e7]]], "empty": [[], {}]})
+STRANGE = '{"größe":"日本語 \\ud83d\\ude00 😀","escapes":"\\"\\\\\\n","deep":' + "[" * 60 + "]" * 60 + "}"
+MEMBERS = '{"a":{"b":{"c":[{"d":1},{"e":"f"}]}}}'
+TABLES = """title="a" # remark
+[a.b]
+list=[1,2,# two
+3]
+when=2026-11-28T20:00:00Z
+[[c]]
+inline={x=1,"y z"=[true,"ü"]}
+"""
+REMARKS = "# a remark alone\n\n\n\n# another"
+STRINGS = 'x = """\ntwo lines\n"""\ny = \'one\' # line'
+# The deepest that is laid out.
+DEEP = "[" * 128 + "]" * 128
+TEXTS = {
+    "json": [LISTS, NUMBERS, STRANGE, MEMBERS, DEEP, "null", '"a"', "[]", " [ 1 , 2 ]\n\n"],
+    "toml": [TABLES, REMARKS, STRINGS, f"a = {DEEP}", "a.b . c = [[1, 2], [3, 4], []]"],
+}
+FAULTS = {
+    "json": ["[1, 2", '{"a":tru}', "[1 2]", '{"größe"\t:\n\t"日本" x}', '["a\\q"]', "\n\n  ]", "[" * 129],
+    "toml": ["a = ", "[table", "a = 1 b = 2", "x = 'one\ny = 2", "\n\nü = 1", "a = [1, 2\n\n", "k = 1979-13-01"],
+}
+WIDTHS, INDENTS = (1, 24, 80, 400), (0, 2, 7)
+# What is on what, and the least contrast that it has by WCAG 2.1: 4.5 of texts, 3 of what is drawn.
+CONTRASTS = [("ink", "paper", 4.5), ("ink", "desk", 4.5), ("quiet", "paper", 4.5), ("quiet", "desk", 4.5)]
+CONTRASTS += [("fault", "desk", 4.5), ("ink", "fault-line", 4.5), ("ink", "fault-mark", 4.5)]
+CONTRASTS += [("accent", "paper", 3), ("limit", "paper", 3)]
+
+
+class Wrong(Exception):
+    """The page showed another thing than was wanted."""
+
+
+def same(what, shown, wanted):
+    if shown != wanted:
+        raise Wrong(f"{what}: {shown!r} is shown, and {wanted!r} is wanted")
+
+
+class Page:
+    """The page in a browser."""
+
+    def __init__(self, browser, path, formatters):
+        self.browser, self.formatters, self.counts = browser, formatters, {"layouts": 0, "faults": 0}
+        self.path = pathlib.Path(path).resolve()
+        browser.resize(1280, 800)
+        self.open()
+
+    def open(self):
+        self.browser.open(self.path.as_uri())
+
+    def script(self, code, *arguments):
+        return self.browser.script(f"const at = (id) => document.getElementById(id); {code}", *arguments)
+
+    def settle(self):
+        """Waits until what is shown is of the text and the options as they are."""
+        waited_for("the page", lambda: self.script("return at('paper').getAttribute('aria-busy') === 'false'"))
+
+    def put(self, language, text, width=56, indent=2, fill=False):
+        """Puts a text and options in, as typing does."""
+        self.script(
+            """const [language, text, width, indent, fill] = arguments;
+            const changed = (it, how) => it.dispatchEvent(new Event(how, { bubbles: true }));
+            const radio = document.querySelector(`[value=${language}]`);
+            if (!radio.checked) { radio.checked = true; changed(radio, "change"); }
+            Object.assign(at("fill"), { checked: fill });
+            for (const [id, value] of Object.entries({ text, width, indent })) {
+                at(id).value = value;
+                changed(at(id), "input");
+            }""",
+            *(language, text, width, indent, fill),
+        )
+        self.settle()
+
+    def state(self):
+        """What is shown."""
+        return self.script(
+            """return {
+                language: document.querySelector("[name=language]:checked").value,
+                text: at("text").value, width: at("width").value, indent: at("indent").value, fill: at("fill").checked,
+                layout: [...at("layout").children].map((it) => it.textContent).join("\\n"),
+                status: at("status").textContent, invalid: at("text").getAttribute("aria-invalid"),
+                copy: !at("copy").disabled,
+                marks: !at("marks").hidden, mark: at("mark").textContent, before: at("before").textContent,
+            }"""
+        )
+
+    def printed(self, state):
+        """What the program for this language prints, and says."""
+        words = [f"{self.formatters}/{state['language']}fmt", "--width", state["width"], "--indent", state["indent"]]
+        words += ["--fill"] if state["fill"] and state["language"] == "json" else []
+        ended = subprocess.run(words, input=state["text"].encode(), stdout=subprocess.PIPE, stderr=subprocess.PIPE)
+        return ended.returncode, ended.stdout.decode(), ended.stderr.decode()
+
+    def compare(self):
+        """Compares the layout with the program's."""
+        self.settle()
+        state = self.state()
+        status, layout, said = self.printed(state)
+        same(f"the status of {state['language']}fmt, which says {said!r}", status, 0)
+        same(f"the layout of {state['text'][:80]!r}", state["layout"].rstrip("\n"), layout.rstrip("\n"))
+        said = (state["status"], state["invalid"], state["marks"], state["copy"])
+        same("what is said", said, ("Laid out.", "false", False, True))
+        self.counts["layouts"] += 1
+
+    def compare_fault(self):
+        """Compares the place of a fault, and what was expected, with the program's message, and looks at the mark."""
+        self.settle()
+        state = self.state()
+        _, _, said = self.printed(state)
+        _, line, column, expected = said.split(":", 3)
+        expected = expected.strip().split(", found")[0]
+        same("what is said", state["status"], f"Line {line}, column {column}: {expected}.")
+        said = (state["invalid"], state["marks"], state["copy"])
+        same("whether a fault is marked, and the layout is copied", said, ("true", True, False))
+        before = state["text"].split("\n")[int(line) - 1][: int(column) - 1]
+        same("what is before the mark", state["before"], before)
+        self.script("at('go').click()")
+        same("what is selected", (self.selected(), self.focused()), (state["mark"], "text"))
+        self.counts["faults"] += 1
+
+    def selected(self):
+        return self.script("const it = at('text'); return it.value.slice(it.selectionStart, it.selectionEnd)")
+
+    def focused(self):
+        return self.script("return document.activeElement.id")
+
+
+def clear(page):
+    page.script("at('text').value = ''; at('text').dispatchEvent(new Event('input'))")
+
+
+def test_keyboard(page):
+    """Types a text, moves the slider, and changes the indent and the filling, each by keys."""
+    page.compare()
+    clear(page)
+    page.browser.keys("#text", LISTS)
+    page.compare()
+    page.browser.keys("#slider", ARROW_LEFT * 56)
+    same("the width", page.state()["width"], "24")
+    page.compare()
+    page.script("at('indent').select()")
+    page.browser.keys("#indent", "5")
+    same("the indent", page.state()["indent"], "5")
+    page.compare()
+    test_numbers(page)
+    clear(page)
+    page.browser.keys("#text", "[" + ",".join(map(str, range(30))) + "]")
+    page.browser.keys("#fill", SPACE)
+    same("the filling", page.state()["fill"], True)
+    page.compare()
+    page.browser.keys("[value=json]", ARROW_RIGHT)
+    same("the language", page.state()["language"], "toml")
+    page.compare()
+    page.browser.keys("[value=toml]", ARROW_LEFT)
+    page.compare()
+
+
+def test_numbers(page):
+    """Types numbers that may not be: the nearest is used, and is shown once the number is left."""
+    typed = [("width", "31", "31"), ("width", "2000", "1000"), ("width", "0", "1"), ("width", "24", "24")]
+    for id, keys, used in typed + [("indent", "99", "16"), ("indent", "-3", "0"), ("indent", "2.7", "2")]:
+        page.script("at(arguments[0]).select()", id)
+        page.browser.keys(f"#{id}", keys)
+        same(f"the {id} while it is typed", page.script("return at(arguments[0]).value", id), keys)
+        page.browser.keys(f"#{id}", TAB)
+        same(f"the {id}", page.state()[id], used)
+        slider = str(min(int(page.state()["width"]), 160))
+        same("the slider", page.script("return at('slider').value"), slider)
+        page.compare()
+
+
+def test_focus(page):
+    """Walks through what takes keys. In Firefox a part that scrolls takes keys of itself."""
+    page.put("json", "[1,")
+    page.script("document.querySelector('[name=language]:checked').focus()")
+    walked = []
+    for _ in range(7):
+        walked.append(page.focused())
+        selector = f"#{walked[-1]}" if walked[-1] else "[name=language]:checked"
+        page.browser.keys(selector, TAB)
+    same("what takes keys", walked, ["", "slider", "width", "indent", "fill", "text", "go"])
+    same("what comes last", page.focused(), "paper")
+
+
+def test_example(page):
+    """What is typed at first takes the place of the example."""
+    waited_for("the focus", lambda: page.focused() == "text")
+    same("what is selected", page.selected(), page.state()["text"])
+    page.script("document.execCommand('insertText', false, '[1]')")
+    same("the text", page.state()["text"], "[1]")
+    page.compare()
+
+
+def test_kept(page):
+    """Opens the page again: options and texts are as they were, but for long texts and empty ones."""
+    page.put("toml", TABLES, 33, 5)
+    page.put("json", NUMBERS, 44, 3, True)
+    before = page.state()
+    page.open()
+    page.compare()
+    same("what is shown after a reload", page.state(), {**before, "before": ""})
+    same("what is selected", page.selected(), "")
+    page.put("toml", " ", 33, 5)
+    page.open()
+    page.compare()
+    same("the language after a reload", page.state()["language"], "toml")
+    page.put("json", NUMBERS * 200)
+    page.open()
+    page.compare()
+    same("the example, which is selected", page.selected(), page.state()["text"])
+
+
+def test_nothing_kept(kind, path, formatters):
+    """The page where nothing may be kept."""
+    refusal = "<script>Object.defineProperty(window, 'localStorage', { get() { throw Error(); } });</script>"
+    html = pathlib.Path(path).read_text(encoding="utf-8").replace("<style>", f"{refusal}<style>", 1)
+    with kind() as browser, tempfile.NamedTemporaryFile("w", suffix=".html", encoding="utf-8") as file:
+        file.write(html)
+        file.flush()
+        page = Page(browser, file.name, formatters)
+        page.compare()
+        page.put("toml", TABLES)
+        page.compare()
+        page.open()
+        page.compare()
+        same("the language after a reload", page.state()["language"], "json")
+
+
+def test_options(page):
+    """Each text with each of the options."""
+    for language, texts in TEXTS.items():
+        fills = (False, True) if language == "json" else (False,)
+        for text, width, indent, fill in itertools.product(texts, WIDTHS, INDENTS, fills):
+            page.put(language, text, width, indent, fill)
+            page.compare()
+
+
+def test_faults(page):
+    for language, texts in FAULTS.items():
+        for text in texts:
+            page.put(language, text)
+            page.compare_fault()
+
+
+def test_blank(page):
+    """A text of blanks alone, or of none, is no fault, and has no layout."""
+    for language, text in itertools.product(("json", "toml"), ("", " \n\t\n")):
+        page.put(language, "[")
+        page.put(language, text)
+        state = page.state()
+        said = (state["status"], state["invalid"], state["marks"], state["copy"], state["layout"])
+        same("what is said of no text", said, ("There is no text yet.", "false", False, False, ""))
+        same("whether it is red", page.script("return Boolean(document.querySelector('.fault, .stale'))"), False)
+
+
+def test_mark(page):
+    """The mark is where the text area shows the token: a column is as wide as one in the layout."""
+    page.put("json", '[1, 2,\n   "a", tru]')
+    boxes = page.script(
+        """const [mark, area] = ["mark", "text"].map((id) => at(id).getBoundingClientRect());
+        const style = getComputedStyle(at("text"));
+        const canvas = document.createElement("canvas").getContext("2d");
+        canvas.font = style.font;
+        const column = canvas.measureText("0".repeat(100)).width / 100;
+        const [left, top] = [area.left + parseFloat(style.paddingLeft), area.top + parseFloat(style.paddingTop)];
+        return [(mark.left - left) / column, mark.width / column, (mark.top - top) / parseFloat(style.lineHeight)];"""
+    )
+    same("the columns before the mark, its columns and the lines before it", [round(it, 1) for it in boxes], [8, 3, 1])
+
+
+def test_select(page):
+    """The keys that select all select the layout alone, where it has the focus."""
+    page.put("json", LISTS)
+    page.browser.keys("#paper", CONTROL + "a")
+    selected = page.script("return getSelection().toString()")
+    same("what is selected", selected.strip(), page.state()["layout"].strip())
+
+
+def test_small(page):
+    """In small windows what is said and the begin of the layout are seen, and nothing lies beside the window."""
+    page.put("json", "[1 2]", 80)
+    for width, height in ((360, 740), (640, 400)):
+        page.browser.resize(width, height)
+        seen = page.script(
+            """const [text, go, layout] = ["text", "go", "layout"].map((id) => at(id).getBoundingClientRect());
+            return [text.bottom <= go.top, go.bottom <= innerHeight, layout.top + 60 <= innerHeight,
+                document.documentElement.scrollWidth <= innerWidth];"""
+        )
+        same(f"what is seen at {width} to {height}", seen, [True] * 4)
+    page.browser.resize(1280, 800)
+
+
+def test_contrasts(page):
+    for text, ground, least in CONTRASTS:
+        ratio = page.script(
+            """const light = (name) => {
+                const hex = getComputedStyle(document.documentElement).getPropertyValue(`--${name}`).trim();
+                const parts = [1, 3, 5].map((it) => parseInt(hex.slice(it, it + 2), 16) / 255);
+                const [r, g, b] = parts.map((it) => (it <= 0.04045 ? it / 12.92 : ((it + 0.055) / 1.055) ** 2.4));
+                return 0.2126 * r + 0.7152 * g + 0.0722 * b + 0.05;
+            };
+            const [a, b] = [light(arguments[0]), light(arguments[1])];
+            return Math.max(a, b) / Math.min(a, b);""",
+            *(text, ground),
+        )
+        if ratio < least:
+            raise Wrong(f"{text} on {ground} has a contrast of {ratio:.2f}, where {least} is wanted")
+
+
+def large_text():
+    """About 1 MB of JSON, with lines."""
+    rows = ({"id": it, "name": f"row {it}", "values": [it, it * 2.5], "ok": it % 2 == 0} for it in range(15500))
+    return "[" + ",\n".join(json.dumps(it) for it in rows) + "]"
+
+
+def test_large(page):
+    """A text of 1 MB. What the page says of its time, and the longest that a key waited for the next picture, in ms."""
+    page.put("json", large_text(), 80)
+    page.compare()
+    took = page.script("return at('figures').textContent")
+    page.script(
+        """at("text").setSelectionRange(1, 1);
+        window.longest = 0;
+        let last = performance.now();
+        (function look() {
+            requestAnimationFrame(() => {
+                window.longest = Math.max(window.longest, performance.now() - last);
+                last = performance.now();
+                look();
+            });
+        })();"""
+    )
+    for _ in range(10):
+        page.browser.keys("#text", " ")
+    page.settle()
+    longest = round(page.script("return window.longest"))
+    page.compare()
+    return took, longest
+
+
+def picture(page, name):
+    page.browser.picture(f"{name}.png")
+
+
+def test_dark(kind, path, formatters, pictures):
+    with kind(dark=True) as browser:
+        page = Page(browser, path, formatters)
+        page.compare()
+        test_contrasts(page)
+        page.put("json", '{"name": "Ada Lovelace",\n "born": 1815,\n "langs": ["en", "fr" "de"]}')
+        picture(page, f"{pictures}/{kind.name.lower()}_dark")
+        page.compare_fault()
+
+
+def test_in(kind, path, formatters, pictures):
+    """All tests in one browser. A line of counts and figures."""
+    with kind() as browser:
+        page = Page(browser, path, formatters)
+        page.compare()
+        picture(page, f"{pictures}/{kind.name.lower()}_light")
+        for test in (test_example, test_keyboard, test_focus, test_kept, test_options, test_faults):
+            test(page)
+        for test in (test_blank, test_mark, test_select, test_small, test_contrasts):
+            test(page)
+        took, wait = test_large(page)
+    test_nothing_kept(kind, path, formatters)
+    test_dark(kind, path, formatters, pictures)
+    counts = f"{page.counts['layouts']} layouts and {page.counts['faults']} faults"
+    return f"{kind.name}: {counts} as the programs print them; {took}, with at most {wait} ms between two pictures"
+
+
+def test_page(path, formatters, pictures):
+    """All tests in each browser; a line of each."""
+    os.makedirs(pictures, exist_ok=True)
+    for kind in (Chromium, Firefox):
+        try:
+            yield test_in(kind, path, formatters, pictures)
+        except Wrong as wrong:
+            raise Wrong(f"{kind.name}: {wrong}") from wrong

@@ -1,0 +1,17 @@
+//! The entries of a configuration.
+
+/// A name, its value, and the remark after it, if there is one. A remark begins with its sign, as in `# why`, and goes up to
+/// the end of its line.
+#[derive(Debug, Drop, PartialEq)]
+pub struct Setting {
+    pub name: String,
+    pub value: String,
+    pub remark: Option<String>,
+}
+
+/// A setting, or a name with entries of its own.
+#[derive(Debug, Drop, PartialEq)]
+pub enum Entry {
+    Setting(Setting),
+    Block(String, Vec<Entry>),
+}

@@ -1,0 +1,78 @@
+//! Replacing a file by its layout where they differ, while the layout is made.
+use crate::comparing::Comparing;
+use crate::replace::{NewFile, begin, finish, give_up};
+use std::fs::Files;
+use std::io;
+use std::io::Write;
+
+/// A writer that compares what is written with the text of a file. From the first difference on it goes to a new file, which
+/// begins with what was the same.
+#[derive(Drop)]
+pub(crate) struct Rewriting<'r, R: Files> {
+    rt: &'r R,
+    name: &'r str,
+    same: Comparing<'r>,
+    new: Option<NewFile<R::File>>,
+}
+
+impl<'r, R: Files + AllocGlobal> Rewriting<'r, R> {
+    /// Nothing is written yet of what may replace the file with this name and this text.
+    pub(crate) fn new(rt: &'r R, name: &'r str, text: &'r [u8]) -> Rewriting<'r, R> {
+        Rewriting {
+            rt,
+            name,
+            same: Comparing::new(text),
+            new: None,
+        }
+    }
+
+    // Begins the new file with what was the same, and these bytes.
+    fn differ(&mut self, bytes: &[u8]) -> io::Result<()> {
+        let new = self.new.insert(begin(self.rt, self.name)?);
+        new.write_all(self.same.written())?;
+        new.write_all(bytes)
+    }
+
+    /// Has what was written replace the file, unless it is the file's text.
+    ///
+    /// An error where any step fails: then the file is as it was, and no file is left beside it.
+    pub(crate) fn finish(mut self) -> io::Result<()> {
+        if self.new.is_none() && !self.same.is_whole() {
+            if let Err(error) = self.differ(&[]) {
+                self.give_up();
+                return Err(error);
+            }
+        }
+        let Rewriting { rt, new, .. } = self;
+        match new {
+            Some(new) => finish(rt, new),
+            None => Ok(()),
+        }
+    }
+
+    /// Leaves the file as it was, and no file beside it.
+    pub(crate) fn give_up(self) {
+        let Rewriting { rt, new, .. } = self;
+        if let Some(new) = new {
+            give_up(rt, new);
+        }
+    }
+}
+
+impl<R: Files + AllocGlobal> Write for Rewriting<'_, R> {
+    fn write(&mut self, buf: &[u8]) -> io::Result<usize> {
+        match &mut self.new {
+            Some(new) => new.write_all(buf)?,
+            None => {
+                if self.same.write(buf).is_err() {
+                    self.differ(buf)?;
+                }
+            }
+        }
+        Ok(buf.len())
+    }
+
+    fn flush(&mut self) -> io::Result<()> {
+        Ok(())
+    }
+}

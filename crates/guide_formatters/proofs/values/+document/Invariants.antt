@@ -1,8 +1,0 @@
-use Rattle.std.proofs.Common.{◌≡◌, map, take}
-use Rattle.prettyless.specs.Trees.{box_tree}
-use Rattle.guide_formatters.specs.Values.{document_of}
-use Rattle.guide_formatters.proofs.values.+document.Given as goal
-
--- a document for each value so far, in order
-abbrev pub invariant-loop-value : goal.invariant-loop-value
-invariant-loop-value l = map box_tree l.docs.items ≡ map document_of (take l.value-index l.value-items)

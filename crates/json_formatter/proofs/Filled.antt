@@ -1,0 +1,167 @@
+-- Numbers are laid in lines that are filled.
+use Rattle.std.proofs.Common.{◌≡◌, refl, sym, ◌∙◌, ap, subst, ℕ, suc, ◌+◌, ◌≤◌, Bool, true, false, ◌&&◌, nat_le, List, [], ◌∷◌, ◌++◌}
+use Rattle.std.proofs.Common.{length, append_assoc, append-nil}
+use Rattle.std.proofs.lemmas.Bool.{and_parts}
+use Rattle.json.specs.Word.{ends_word}
+use Rattle.json_lexemes.specs.Grammar.{Value, alone, array, object, Items, no_items, item}
+use Rattle.json_lexemes.specs.Grammar.{AreFormedItems}
+use Rattle.prettyless_model.specs.declared.mode.Mode.TheVariants.{Break}
+use Rattle.prettyless_model.specs.Column.{saturating_add}
+use Rattle.prettyless_model.specs.Metrics.{text_width}
+use Rattle.prettyless_model.specs.Layout.{State, Entry, breaks, entry, lay, rest_fits}
+use Rattle.prettyless_model.specs.Look.{look}
+use Rattle.prettyless_model.proofs.Looks.{answer-then}
+use Rattle.prettyless_laws.proofs.Inline.{group_is_text, unfit_is_broken}
+use Rattle.prettyless_model.specs.Options.{options_at}
+use Rattle.prettyless.specs.Built.{softline}
+use Rattle.prettyless.specs.Counted.{text}
+use Rattle.prettyless.specs.Lines.{line, space}
+use Rattle.prettyless.specs.Tree.{Tree, Text, Append}
+use Rattle.json_formatter.specs.declared.style.Style.{Style}
+use Rattle.json_formatter.specs.ByValue.{are_numbers, filled_after, filled_lines, item_comma, new_line}
+use Rattle.json_formatter.specs.Documents.{is_number}
+use Rattle.json_formatter.specs.Flat.{flat_line, flat_width}
+use Rattle.json_formatter.proofs.Chains.{append_is, chain, text_some}
+use Rattle.json_formatter.proofs.FlatTrees.{line_of, plus_nothing, width_of}
+use Rattle.json_formatter.proofs.LaidLists.{Lays, LaysLines, word_lays}
+use Rattle.json_formatter.proofs.LaidParts.{At, in_break, Writes, Follows, greatest, then_writes, writes_same, writes_rested, text_writes}
+use Rattle.json_formatter.proofs.LaidParts.{line_writes, end_follows, comma_follows, sum_twice, text_fits_as, word_follows}
+use Rattle.json_formatter.proofs.ValueTrees.{tree, item_trees, item_marked, formed_plain}
+
+-- ---- one number
+
+-- a document is laid so before a line end, and ends at column c
+abbrev LaysTo : Style → ℕ → Tree → ℕ → State → List ℕ → ℕ → Type 0
+LaysTo style n t j st bytes c =
+    (rest : List Entry) → Follows style.width rest 0 → Writes (in_break style n t j rest st) bytes (At c)
+
+-- what comes first in a document comes first where it follows
+appended_follows : (width i k : ℕ) (l r : Tree) (rest : List Entry) → Follows width (entry i l ∷ entry i r ∷ rest) k
+    → Follows width (entry i (Append l r) ∷ rest) k
+appended_follows width i k l r rest h = λ c p q m.
+    ap (λ (x : Bool). nat_le c.position width && x)
+    (answer-then (look width l i Break c false) (λ e q. look width r i Break e q) (λ e q. rest_fits width rest e q))
+    ∙ h c p q m
+
+-- a lexeme, and a number with its comma
+text_follows : (width i : ℕ) (s : List ℕ) (k : ℕ) (rest : List Entry) → ends_word s ≡ false → Follows width rest k
+    → Follows width (entry i (text s) ∷ rest) (text_width s + k)
+text_follows width i [] k rest e h = absurd (cc)
+text_follows width i (b ∷ bs) k rest e h = word_follows width i b bs k rest h
+
+number_follows : (width j : ℕ) (s : List ℕ) (vs : Items) (rest : List Entry) → ends_word s ≡ false → Follows width rest 0
+    → Follows width (entry j (item_marked (text s) vs) ∷ rest) (text_width s + length (item_comma vs))
+number_follows width j s no_items rest e h = text_follows width j s 0 rest e h
+number_follows width j s (item v vs) rest e h =
+    rw (append_is (text s) (Text (44 ∷ [])) (text_some s e) tt)
+    (appended_follows width j (text_width s + 1) (text s) (Text (44 ∷ [])) rest
+    (text_follows width j s 1 (entry j (Text (44 ∷ [])) ∷ rest) e (comma_follows width j rest h)))
+
+-- it is laid from column c on
+number_lays : (style : Style) (n j c : ℕ) (s : List ℕ) (vs : Items) (u : State) → ends_word s ≡ false → At c u
+    → LaysTo style n (item_marked (text s) vs) j u (s ++ item_comma vs) (saturating_add c (text_width s + length (item_comma vs)))
+unfolding lay
+number_lays style n j c s no_items u e h = λ rest f.
+    rw (plus_nothing (text_width s))
+    (writes_same refl (append-nil s) (word_lays (options_at style.width) (breaks (options_at style.width) (suc n)) s j c rest u e h))
+number_lays style n j c s (item v vs) u e h = λ rest f.
+    rw (append_is (text s) (Text (44 ∷ [])) (text_some s e) tt, ← (sum_twice c (text_width s) 1))
+    (then_writes
+    (word_lays (options_at style.width) (breaks (options_at style.width) (suc n)) s j c (entry j (Text (44 ∷ [])) ∷ rest) u e h)
+    (λ w r. text_writes (options_at style.width) 1 (saturating_add c (text_width s)) 44 [] w r))
+
+-- ---- the gap before a number
+
+-- a space, or a line end; and the column after it
+abbrev gap_bytes : ℕ → Bool → List ℕ
+gap_bytes j true = 32 ∷ []
+gap_bytes j false = new_line j
+
+abbrev gap_end : ℕ → ℕ → Bool → ℕ
+gap_end c j true = saturating_add c 1
+gap_end c j false = j
+
+-- a space where the number fits behind it with what follows, and else a line end
+gap_lays : (style : Style) (n j c k : ℕ) (t : Tree) (rest : List Entry) (u : State) (y : Bool) → j ≤ greatest → At c u
+    → Follows style.width (entry j t ∷ rest) k
+    → nat_le (saturating_add c (1 + k)) style.width ≡ y
+    → Writes (in_break style n softline j (entry j t ∷ rest) u) (gap_bytes j y) (At (gap_end c j y))
+gap_lays style n j c k t rest u true l h f e =
+    writes_same
+    (group_is_text (options_at style.width) (breaks (options_at style.width) (suc n)) line j Break (entry j t ∷ rest) u tt
+    (text_fits_as style 1 c k 32 [] (entry j t ∷ rest) u h f ∙ e))
+    refl (text_writes (options_at style.width) 1 c 32 [] u h)
+gap_lays style n j c k t rest u false l h f e =
+    writes_same
+    (unfit_is_broken (options_at style.width) (breaks (options_at style.width) (suc n)) line j (entry j t ∷ rest) u tt
+    (text_fits_as style 1 c k 32 [] (entry j t ∷ rest) u h f ∙ e))
+    refl (line_writes style n j j space t rest u h.0 l)
+
+-- one more number
+one_more : (style : Style) (n j c : ℕ) (z : Tree) (b : List ℕ) (st : State) (s : List ℕ) (vs : Items) (y : Bool) → j ≤ greatest
+    → ends_word s ≡ false → LaysTo style n z j st b c
+    → nat_le (saturating_add c (1 + (text_width s + length (item_comma vs)))) style.width ≡ y
+    → LaysTo style n (Append (Append z softline) (item_marked (text s) vs)) j st (b ++ (gap_bytes j y ++ (s ++ item_comma vs)))
+    (saturating_add (gap_end c j y) (text_width s + length (item_comma vs)))
+unfolding lay
+one_more style n j c z b st s vs y l e h fit = λ rest f.
+    let t = item_marked (text s) vs in
+    let both =
+    then_writes
+    (h (entry j softline ∷ entry j t ∷ rest) (end_follows style.width (entry j softline ∷ entry j t ∷ rest) (λ d. refl)))
+    (λ u r. gap_lays style n j c (text_width s + length (item_comma vs)) t rest u y l r (number_follows style.width j s vs rest e f) fit) in
+    writes_same refl (sym (append_assoc b (gap_bytes j y) (s ++ item_comma vs)))
+    (then_writes both (λ u r. number_lays style n j (gap_end c j y) s vs u e r rest f))
+
+-- ---- numbers
+
+number_line : (s : List ℕ) → ends_word s ≡ false → flat_line (s ∷ []) ≡ s
+number_line s e = line_of s [] (formed_plain s e).mark ∙ append-nil s
+
+number_width : (s : List ℕ) → ends_word s ≡ false → flat_width (s ∷ []) ≡ text_width s
+number_width s e = width_of s [] (formed_plain s e).mark ∙ plus_nothing (text_width s)
+
+-- what the definition has for one more number
+filled_more : (style : Style) (j c : ℕ) (s : List ℕ) (vs : Items) (y : Bool) → ends_word s ≡ false
+    → nat_le (saturating_add c (1 + (text_width s + length (item_comma vs)))) style.width ≡ y
+    → filled_after style j c (item (alone s) vs)
+    ≡ gap_bytes j y ++ ((s ++ item_comma vs) ++ filled_after style j (saturating_add (gap_end c j y)
+    (text_width s + length (item_comma vs))) vs)
+filled_more style j c s vs true e fit =
+    rw (number_line s e, number_width s e, sum_twice c 1 (text_width s + length (item_comma vs)), fit) refl
+filled_more style j c s vs false e fit =
+    rw (number_line s e, number_width s e, sum_twice c 1 (text_width s + length (item_comma vs)), fit) refl
+
+-- numbers after a document that ends at column c
+filled_lay : (style : Style) (n j c : ℕ) (vs : Items) → j ≤ greatest → are_numbers vs ≡ true → AreFormedItems vs
+    → (z : Tree) (b : List ℕ) (st : State) → LaysTo style n z j st b c
+    → Lays style n (chain softline z (item_trees style vs)) j st (b ++ filled_after style j c vs)
+filled_lay style n j c no_items l e h z b st lays = λ rest f. writes_same refl (append-nil b) (writes_rested (lays rest f))
+filled_lay style n j c (item (alone s) vs) l e h z b st lays =
+    let w = text_width s + length (item_comma vs) in
+    let y = nat_le (saturating_add c (1 + w)) style.width in
+    let more = one_more style n j c z b st s vs y l h.0 lays refl in
+    let later =
+    filled_lay style n j (saturating_add (gap_end c j y) w) vs l (and_parts (is_number s) (are_numbers vs) e).1 h.1
+    (Append (Append z softline) (item_marked (text s) vs)) (b ++ (gap_bytes j y ++ (s ++ item_comma vs))) st more in
+    subst (Lays style n (chain softline z (item_trees style (item (alone s) vs))) j st)
+    (append_assoc b (gap_bytes j y ++ (s ++ item_comma vs)) _
+    ∙ ap (λ (x : List ℕ). b ++ x) (append_assoc (gap_bytes j y) (s ++ item_comma vs) _ ∙ sym (filled_more style j c s vs y h.0 refl)))
+    later
+filled_lay style n j c (item (array ws) vs) l e h z b st lays = absurd (cc)
+filled_lay style n j c (item (object ms) vs) l e h z b st lays = absurd (cc)
+
+-- the first number, and those after it
+pub filled_numbers : (style : Style) (n j : ℕ) (v : Value) (vs : Items) → j ≤ greatest → are_numbers (item v vs) ≡ true
+    → AreFormedItems (item v vs)
+    → LaysLines style n j true (item_marked (tree style v) vs) (item_trees style vs) (filled_lines style j (item v vs))
+filled_numbers style n j (alone s) vs l e h =
+    let w = text_width s + length (item_comma vs) in
+    record {
+      bytes = (s ++ item_comma vs) ++ filled_after style j (saturating_add j w) vs;
+      is = rw (number_line s h.0, number_width s h.0) refl;
+      lays = λ u r. filled_lay style n j (saturating_add j w) vs l (and_parts (is_number s) (are_numbers vs) e).1 h.1
+          (item_marked (text s) vs) (s ++ item_comma vs) u (number_lays style n j j s vs u h.0 r);
+    }
+filled_numbers style n j (array ws) vs l e h = absurd (cc)
+filled_numbers style n j (object ms) vs l e h = absurd (cc)

@@ -1,0 +1,190 @@
+-- A layout that keeps blank lines: its lexemes have gaps between them, and laid out again it keeps the same.
+use Rattle.std.proofs.Common.{◌≡◌, refl, sym, ◌∙◌, ap, subst, ℕ, zero, suc, ◌+◌, Bool, true, false, ◌&&◌, nat_le, List, [], ◌∷◌, ◌++◌}
+use Rattle.std.proofs.Common.{append-nil, drop, Some}
+use Rattle.std.proofs.lemmas.Bool.{eqb-true}
+use Rattle.std.specs.Prelude.{None, if◌then◌else◌}
+use Rattle.json.specs.Json.{Json}
+use Rattle.json_validity.specs.Document.{document}
+use Rattle.json_lexemes.specs.Lexemes.{lexemes}
+use Rattle.json_lexemes.specs.Spaced.{IsGap, IsSpacedJson}
+use Rattle.json_lexemes.specs.SpacedLexemes.{AreGaps, Spaced, after_gap, has_blank_line, lexemes_of, line_feeds, put_together, spaced_as}
+use Rattle.json_lexemes.specs.SpacedLexemes.{spaced_lexemes}
+use Rattle.json_lexemes.proofs.NotEmpty.{AreBegun, lexemes_begun}
+use Rattle.json_lexemes.proofs.Reading.{same_reading}
+use Rattle.json_lexemes.proofs.SpacedLexemes.{spaced_together, together_spaced}
+use Rattle.prettyless_model.specs.Spaces.{spaces}
+use Rattle.json_formatter.specs.BlankLines.{ends_line, first_gap, kept_from, kept_gap, with_blank_lines, with_kept_lines}
+use Rattle.json_formatter.specs.ByValue.{new_line}
+use Rattle.json_formatter.specs.Documents.{is_json_sign}
+use Rattle.json_formatter.specs.Gaps.{gap_before, gap_bytes, laid_from, spaced_from, start_state, state_after}
+use Rattle.json_formatter.specs.Kept.{kept_of, laid_left}
+use Rattle.json_formatter.specs.declared.gaps.Gap.{Gap}
+use Rattle.json_formatter.specs.declared.gaps.Gap.TheVariants as gap
+use Rattle.json_formatter.specs.declared.gaps.State.{State}
+use Rattle.json_formatter.specs.declared.style.Style.{Style}
+
+-- ---- a gap
+
+spaces_gap : (n : ℕ) → IsGap (spaces n)
+spaces_gap zero = tt
+spaces_gap (suc n) = (refl, spaces_gap n)
+
+is_gap : (g : Gap) → IsGap (gap_bytes g)
+is_gap gap.Nothing = tt
+is_gap gap.Space = (refl, tt)
+is_gap (gap.Line i) = (refl, spaces_gap i)
+is_gap (gap.BlankLine i) = (refl, (refl, spaces_gap i))
+
+no_feeds : (n : ℕ) → line_feeds (spaces n) ≡ 0
+no_feeds zero = refl
+no_feeds (suc n) = no_feeds n
+
+-- an empty line before a line
+pub line_kept : (i : ℕ) (after_comma : Bool) (source : List ℕ) → after_comma ≡ true → has_blank_line source ≡ true
+    → 10 ∷ new_line i ≡ kept_gap after_comma source (new_line i)
+line_kept i after_comma source e f = rw (e, no_feeds i, f) refl
+
+-- ---- a gap that is kept
+
+pub kept_is_gap : (c : Bool) (source g : List ℕ) → IsGap g → IsGap (kept_gap c source g)
+kept_is_gap false source g h = h
+kept_is_gap true source g h = by (ends_line g) (has_blank_line source)
+  where
+    by : (e b : Bool) → IsGap (if e && b then 10 ∷ g else g)
+    by false b = h
+    by true false = h
+    by true true = (refl, h)
+
+-- with the same gap before it in the text, it is kept again
+kept_twice : (c : Bool) (source g : List ℕ) → kept_gap c (kept_gap c source g) g ≡ kept_gap c source g
+kept_twice false source g = refl
+kept_twice true source g = by (ends_line g) (has_blank_line source) refl refl
+  where
+    none : ends_line g ≡ true → has_blank_line g ≡ false
+    none e = ap (λ (n : ℕ). nat_le 2 n) (eqb-true (line_feeds g) 1 e)
+
+    some : ends_line g ≡ true → has_blank_line (10 ∷ g) ≡ true
+    some e = ap (λ (n : ℕ). nat_le 2 (1 + n)) (eqb-true (line_feeds g) 1 e)
+
+    by : (e b : Bool) → ends_line g ≡ e → has_blank_line source ≡ b → kept_gap true (kept_gap true source g) g ≡ kept_gap true source g
+    by false b e f = rw e refl
+    by true false e f = rw (e, f, none e) refl
+    by true true e f = rw (e, f, some e) refl
+
+-- ---- lexemes
+
+pub spaced_gaps : (style : Style) (st : State) (ss : List (List ℕ)) → AreGaps (spaced_from style st ss)
+spaced_gaps style st [] = tt
+spaced_gaps style st (s ∷ ss) = (is_gap (gap_before style st s ss), spaced_gaps style (state_after style st s ss) ss)
+
+pub spaced_are : (style : Style) (st : State) (ss : List (List ℕ)) → lexemes_of (spaced_from style st ss) ≡ ss
+spaced_are style st [] = refl
+spaced_are style st (s ∷ ss) = ap (λ (l : List (List ℕ)). s ∷ l) (spaced_are style (state_after style st s ss) ss)
+
+kept_gaps : (c : Bool) (sources ps : List Spaced) → AreGaps ps → AreGaps (kept_from c sources ps)
+kept_gaps c sources [] h = tt
+kept_gaps c sources (p ∷ ps) h =
+    (kept_is_gap c (first_gap sources) p.gap h.0, kept_gaps (is_json_sign 44 p.lexeme) (drop 1 sources) ps h.1)
+
+kept_are : (c : Bool) (sources ps : List Spaced) → lexemes_of (kept_from c sources ps) ≡ lexemes_of ps
+kept_are c sources [] = refl
+kept_are c sources (p ∷ ps) = ap (λ (l : List (List ℕ)). p.lexeme ∷ l) (kept_are (is_json_sign 44 p.lexeme) (drop 1 sources) ps)
+
+kept_again : (c : Bool) (sources ps : List Spaced) → kept_from c (kept_from c sources ps) ps ≡ kept_from c sources ps
+kept_again c sources [] = refl
+kept_again c sources (p ∷ ps) =
+    let later = drop 1 sources in
+    let comma = is_json_sign 44 p.lexeme in
+    ap (λ (g : List ℕ). after_gap g p.lexeme ∷ kept_from comma (kept_from comma later ps) ps) (kept_twice c (first_gap sources) p.gap)
+    ∙ ap (λ (l : List Spaced). after_gap (kept_gap c (first_gap sources) p.gap) p.lexeme ∷ l) (kept_again comma later ps)
+
+-- ---- the lexemes of a layout, where blank lines are kept or not
+
+abbrev pub chosen : Bool → List Spaced → List Spaced → List Spaced
+chosen false sources ps = ps
+chosen true sources ps = kept_from false sources ps
+
+chosen_gaps : (b : Bool) (sources ps : List Spaced) → AreGaps ps → AreGaps (chosen b sources ps)
+chosen_gaps false sources ps h = h
+chosen_gaps true sources ps h = kept_gaps false sources ps h
+
+chosen_are : (b : Bool) (sources ps : List Spaced) → lexemes_of (chosen b sources ps) ≡ lexemes_of ps
+chosen_are false sources ps = refl
+chosen_are true sources ps = kept_are false sources ps
+
+chosen_again : (b : Bool) (sources ps : List Spaced) → chosen b (chosen b sources ps) ps ≡ chosen b sources ps
+chosen_again false sources ps = refl
+chosen_again true sources ps = kept_again false sources ps
+
+-- ---- a text
+
+module _ (style : Style) (text : List ℕ) where
+  -- its lexemes in the layout of the style
+  abbrev pub laid : List Spaced
+  laid = spaced_from style start_state (lexemes text)
+
+  abbrev pub kept : List Spaced
+  kept = chosen style.blank_lines (spaced_lexemes text) laid
+
+  pub kept_gaps_of : AreGaps kept
+  kept_gaps_of = chosen_gaps style.blank_lines (spaced_lexemes text) laid (spaced_gaps style start_state (lexemes text))
+
+  pub kept_lexemes : lexemes_of kept ≡ lexemes text
+  kept_lexemes = chosen_are style.blank_lines (spaced_lexemes text) laid ∙ spaced_are style start_state (lexemes text)
+
+  left_is : (b : Bool)
+      → laid_left style start_state (if b then Some (record { blank_lines = text; after_comma = false }) else None) (lexemes text)
+      ≡ put_together (chosen b (spaced_lexemes text) laid)
+  left_is false = refl
+  left_is true = refl
+
+  -- the code's layout
+  pub laid_is : laid_left style start_state (kept_of style text) (lexemes text) ≡ put_together kept
+  laid_is = left_is style.blank_lines
+
+-- ---- a text that is JSON
+
+module _ (style : Style) (text : List ℕ) (j : Json) (is : document text ≡ Some j) where
+  -- its lexemes after other gaps are the same value and the same lexemes
+  reads : (ps : List Spaced) (last : List ℕ) → AreGaps ps → IsGap last → lexemes_of ps ≡ lexemes text
+      → (document (put_together ps ++ last) ≡ Some j) × (lexemes (put_together ps ++ last) ≡ lexemes text)
+  reads ps last gaps gap e =
+      same_reading text (put_together ps ++ last) j is
+      (subst (λ (ss : List (List ℕ)). IsSpacedJson (put_together ps ++ last) ss) e (together_spaced ps last gaps gap))
+
+  -- and have these gaps
+  gaps_again : (ps : List Spaced) (last : List ℕ) → AreGaps ps → IsGap last → lexemes_of ps ≡ lexemes text
+      → spaced_lexemes (put_together ps ++ last) ≡ ps
+  gaps_again ps last gaps gap e =
+      ap (λ (ss : List (List ℕ)). spaced_as (put_together ps ++ last) ss) ((reads ps last gaps gap e).1 ∙ sym e)
+      ∙ spaced_together ps last gaps (subst AreBegun (sym e) (lexemes_begun text))
+
+  -- the layout that the style has for it, with a line feed
+  abbrev pub ended : List ℕ
+  ended = put_together (kept style text) ++ 10 ∷ []
+
+  pub reads_kept : (document ended ≡ Some j) × (lexemes ended ≡ lexemes text)
+  reads_kept = reads (kept style text) (10 ∷ []) (kept_gaps_of style text) (refl, tt) (kept_lexemes style text)
+
+  laid_again : spaced_lexemes (laid_from style start_state (lexemes text)) ≡ laid style text
+  laid_again =
+      ap spaced_lexemes (sym (append-nil (laid_from style start_state (lexemes text))))
+      ∙ gaps_again (laid style text) [] (spaced_gaps style start_state (lexemes text)) tt (spaced_are style start_state (lexemes text))
+
+  -- it is the layout without blank lines, with those that are kept
+  pub kept_is : with_kept_lines style text (laid_from style start_state (lexemes text)) ≡ put_together (kept style text)
+  kept_is = by style.blank_lines
+    where
+      by : (b : Bool)
+          → (if b then with_blank_lines text (laid_from style start_state (lexemes text)) else laid_from style start_state (lexemes text))
+          ≡ put_together (chosen b (spaced_lexemes text) (laid style text))
+      by false = refl
+      by true = ap (λ (ps : List Spaced). put_together (kept_from false (spaced_lexemes text) ps)) laid_again
+
+  -- laid out again it stays
+  pub kept_stays : kept style ended ≡ kept style text
+  kept_stays =
+      ap (λ (ss : List (List ℕ)). chosen style.blank_lines (spaced_lexemes ended) (spaced_from style start_state ss)) (reads_kept.1)
+      ∙ ap (λ (ps : List Spaced). chosen style.blank_lines ps (laid style text))
+      (gaps_again (kept style text) (10 ∷ []) (kept_gaps_of style text) (refl, tt) (kept_lexemes style text))
+      ∙ chosen_again style.blank_lines (spaced_lexemes text) (laid style text)

@@ -1,0 +1,157 @@
+-- A text whose lexemes spell a value is laid out lexeme by lexeme as it is by that value.
+use Rattle.std.proofs.Common.{◌≡◌, refl, sym, ◌∙◌, ap, subst, ℕ, suc, ◌+◌, ◌≤◌, min, Bool, true, false, ◌&&◌, List, [], ◌∷◌, ◌++◌}
+use Rattle.std.proofs.Common.{append-nil, Some, zero-mul, arith}
+use Rattle.std.specs.Prelude.{if◌then◌else◌}
+use Rattle.json.specs.Json.{Json}
+use Rattle.json_validity.specs.Document.{document, max_depth}
+use Rattle.json_lexemes.specs.Grammar.{Value, alone, array, object, Items, no_items, item, Members, no_members, member}
+use Rattle.json_lexemes.specs.Grammar.{spelled, spelled_items, more_items, spelled_members}
+use Rattle.json_lexemes.specs.Grammar.{SpellValue, depth, items_depth, members_depth, IsFormed, AreFormedItems, AreFormedMembers}
+use Rattle.json_lexemes.specs.Lexemes.{lexemes}
+use Rattle.json_lexemes.proofs.Grammar.{spell_document}
+use Rattle.json_formatter.specs.BlankLines.{layout_of, with_kept_lines}
+use Rattle.json_formatter.specs.ByValue.{are_numbers, filled_lines, item_lines, laid_value}
+use Rattle.json_formatter.specs.Documents.{closes, stops}
+use Rattle.json_formatter.specs.Gaps.{indent_at, laid_from, start_state}
+use Rattle.json_formatter.specs.declared.gaps.Joint.TheVariants as joint
+use Rattle.json_formatter.specs.declared.style.Style.{Style}
+use Rattle.json_formatter.proofs.ByValue.{laid_by_value}
+use Rattle.json_formatter.proofs.GapsAhead.{items_ahead, items_numbers, members_ahead, members_no_numbers}
+use Rattle.json_formatter.proofs.GapsFilled.{both_hold, numbers_lay}
+use Rattle.json_formatter.proofs.GapsFlat.{items_on_line, members_on_line, most}
+use Rattle.json_formatter.proofs.GapsLists.{IsList, curly, list_lays, square}
+use Rattle.json_formatter.proofs.GapsMembers.{FirstLays, MoreItemsLay, MoreMembersLay, ValueLays, closed_items, closed_members}
+use Rattle.json_formatter.proofs.GapsMembers.{comma_lays, item_lays, member_lays}
+use Rattle.json_formatter.proofs.GapsSteps.{Lays, close_next, closing_line, inner_indent, outside, word_next}
+use Rattle.json_formatter.proofs.GapsWords.{key_word, word_formed}
+
+-- ---- lists
+
+one_more : (d a : ℕ) → d + suc a ≤ most → d + 1 ≤ most
+one_more d a l = omega (arith, l)
+
+inside : (d a : ℕ) → d + suc a ≤ most → (d + 1) + a ≤ most
+inside d a l = omega (arith, l)
+
+alone_deep : (d a : ℕ) → d + suc a ≤ most → 1 + a ≤ most
+alone_deep d a l = omega (arith, l)
+
+something : (v : Value) (more ss : List (List ℕ)) → IsFormed v → stops closes ((spelled v ++ more) ++ ss) ≡ false
+something (alone s) more ss h = (word_formed s h).closes
+something (array vs) more ss h = refl
+something (object ms) more ss h = refl
+
+array_list : (style : Style) (d c : ℕ) (v : Value) (vs : Items) → AreFormedItems (item v vs)
+    → d + depth (array (item v vs)) ≤ most → (ss : List (List ℕ))
+    → IsList style d c (are_numbers (item v vs)) (spelled_items (item v vs)) ss
+array_list style d c v vs h l ss =
+    record {
+      ahead = items_ahead (item v vs) h;
+      begins = something v (more_items vs) ss h.0;
+      numbers = items_numbers (item v vs) h ss;
+      on_line = items_on_line style d c (item v vs) h (alone_deep d (items_depth (item v vs)) l) ss;
+      deep = one_more d (items_depth (item v vs)) l;
+    }
+
+object_list : (style : Style) (d c : ℕ) (k : List ℕ) (v : Value) (ms : Members) → AreFormedMembers (member k v ms)
+    → d + depth (object (member k v ms)) ≤ most → (ss : List (List ℕ)) → IsList style d c false (spelled_members (member k v ms)) ss
+object_list style d c k v ms h l ss =
+    record {
+      ahead = members_ahead (member k v ms) h;
+      begins = (key_word k h.0).closes;
+      numbers = members_no_numbers k v ms h.0 ss;
+      on_line = members_on_line style d c (member k v ms) h (alone_deep d (members_depth (member k v ms)) l) ss;
+      deep = one_more d (members_depth (member k v ms)) l;
+    }
+
+-- the lines of an array: its numbers fill them, or each item has one of its own
+abbrev lines_of : Style → ℕ → Items → Bool → List ℕ
+lines_of style j vs fills = if fills then filled_lines style j vs else item_lines style j vs
+
+array_lines : (style : Style) (v : Value) (vs : Items) (fills : Bool) → AreFormedItems (item v vs)
+    → (style.fill && are_numbers (item v vs)) ≡ fills
+    → (d c : ℕ) (ss : List (List ℕ)) → FirstLays style d c (spelled_items (item v vs)) ss (closed_items style d (item v vs))
+    → Lays style (outside (d + 1) c fills joint.Line) (spelled_items (item v vs) ++ ss)
+    (lines_of style (indent_at style (d + 1)) (item v vs) fills ++ closing_line style d 93) d ss
+array_lines style v vs false h e d c ss lines = lines
+array_lines style v vs true h e d c ss lines = numbers_lay style d ss c v vs h (both_hold style.fill (are_numbers (item v vs)) e).1
+
+no_fill : (a : Bool) → (a && false) ≡ false
+no_fill true = refl
+no_fill false = refl
+
+-- ---- values
+
+array_lays : (style : Style) (v : Value) (vs : Items) → AreFormedItems (item v vs) → ValueLays style v → MoreItemsLay style vs
+    → ValueLays style (array (item v vs))
+array_lays style v vs h one more d c l ss =
+    let items = item v vs in
+    let fills = style.fill && are_numbers items in
+    let own_lines = item_lays style v vs h.0 one more d c (inside d (items_depth items) l) ss in
+    let bytes : List ℕ = lines_of style (indent_at style (d + 1)) items fills ++ closing_line style d 93 in
+    rw (inner_indent style d)
+    (list_lays 91 (spelled_items items) ss square (array_list style d c v vs h l ss) bytes
+    (array_lines style v vs fills h refl d c ss own_lines))
+
+object_lays : (style : Style) (k : List ℕ) (v : Value) (ms : Members) → AreFormedMembers (member k v ms)
+    → ValueLays style v → MoreMembersLay style ms → ValueLays style (object (member k v ms))
+object_lays style k v ms h one more d c l ss =
+    let members = member k v ms in
+    let bytes : List ℕ = closed_members style d members in
+    let own_lines = member_lays style k v ms h.0 h.1 one more d c (inside d (members_depth members) l) ss in
+    rw (inner_indent style d)
+    (list_lays 123 (spelled_members members) ss curly (object_list style d c k v ms h l ss) bytes
+    (subst (λ (fills : Bool). Lays style (outside (d + 1) c fills joint.Line) (spelled_members members ++ ss) bytes d ss)
+    (sym (no_fill style.fill)) own_lines))
+
+mutual
+  value_lays : (style : Style) (v : Value) → IsFormed v → ValueLays style v
+  value_lays style (alone s) h d c l ss = record { column = _; is = word_next style d c false s ss (word_formed s h) }
+  value_lays style (array no_items) h d c l ss = record { column = c; is = refl }
+  value_lays style (array (item v vs)) h d c l ss =
+      array_lays style v vs h (value_lays style v h.0) (more_items_lay style vs h.1) d c l ss
+  value_lays style (object no_members) h d c l ss = record { column = c; is = refl }
+  value_lays style (object (member k v ms)) h d c l ss =
+      object_lays style k v ms h (value_lays style v h.1) (more_members_lay style ms h.2) d c l ss
+
+  more_items_lay : (style : Style) (vs : Items) → AreFormedItems vs → MoreItemsLay style vs
+  more_items_lay style no_items h d c l ss = close_next style d c false 93 ss refl refl refl
+  more_items_lay style (item v vs) h d c l ss =
+      comma_lays (closed_items style d (item v vs))
+      (λ x. item_lays style v vs h.0 (value_lays style v h.0) (more_items_lay style vs h.1) d x l ss)
+
+  more_members_lay : (style : Style) (ms : Members) → AreFormedMembers ms → MoreMembersLay style ms
+  more_members_lay style no_members h d c l ss = close_next style d c false 125 ss refl refl refl
+  more_members_lay style (member k v ms) h d c l ss =
+      comma_lays (closed_members style d (member k v ms))
+      (λ x. member_lays style k v ms h.0 h.1 (value_lays style v h.1) (more_members_lay style ms h.2) d x l ss)
+
+-- ---- a text
+
+no_indent : (style : Style) → indent_at style 0 ≡ 0
+no_indent style = ap (λ (n : ℕ). min n most) (zero-mul style.indent)
+
+shallow_enough : (n : ℕ) → n ≤ max_depth → 0 + n ≤ most
+shallow_enough n l = omega (arith, l)
+
+-- the lexemes of a value are laid out as the value is
+pub gaps_by_value : (style : Style) (v : Value) → IsFormed v → depth v ≤ max_depth
+    → laid_from style start_state (spelled v) ≡ laid_value style 0 0 0 v
+gaps_by_value style v h l =
+    ap (laid_from style start_state) (sym (append-nil (spelled v)))
+    ∙ (value_lays style v h 0 0 (shallow_enough (depth v) l) []).is
+    ∙ append-nil (laid_value style (indent_at style 0) 0 0 v)
+    ∙ ap (λ (i : ℕ). laid_value style i 0 0 v) (no_indent style)
+
+-- the layout of a text whose lexemes spell a value: its lexemes, each after its gap, with the blank lines that are kept, and a line feed
+pub layout_by_gaps : (style : Style) (text : List ℕ) → SpellValue (lexemes text)
+    → layout_of style text ≡ with_kept_lines style text (laid_from style start_state (lexemes text)) ++ 10 ∷ []
+layout_by_gaps style text h =
+    let laid = ap (laid_from style start_state) h.spells ∙ gaps_by_value style h.value h.formed h.shallow in
+    laid_by_value style text h.value h.spells h.shallow h.formed
+    ∙ ap (λ (bs : List ℕ). with_kept_lines style text bs ++ 10 ∷ []) (sym laid)
+
+-- the lexemes of each text that is JSON spell one
+pub json_by_gaps : (style : Style) (text : List ℕ) (j : Json) → document text ≡ Some j
+    → layout_of style text ≡ with_kept_lines style text (laid_from style start_state (lexemes text)) ++ 10 ∷ []
+json_by_gaps style text j is = layout_by_gaps style text (spell_document text j is)

@@ -1,0 +1,61 @@
+-- A layout on its way into a sink, piece by piece.
+use Rattle.std.proofs.Common.{◌≡◌, sym, ◌∙◌, ap, subst, ℕ, List, [], ◌++◌, append_assoc, append-nil, Option}
+use Rattle.prettyless_model.specs.Spaces.{spaces}
+use Rattle.prettyless_sink.specs.Sink.{Accepts, Refuses}
+use Rattle.prettyless_sink.proofs.Beginnings.{accepted_both, beginning_of_more, refused_after}
+
+-- the same text
+pub accepts_same : (old new : Option (List ℕ)) (x y : List ℕ) (n m : ℕ) → x ≡ y → Accepts old new x n m → Accepts old new y n m
+accepts_same old new x y n m e wrote = subst (λ (l : List ℕ). Accepts old new l n m) e wrote
+
+pub refuses_same : (old new : Option (List ℕ)) (x y : List ℕ) (n m : ℕ) → x ≡ y → Refuses old new x n m → Refuses old new y n m
+refuses_same old new x y n m e failed = subst (λ (l : List ℕ). Refuses old new l n m) e failed
+
+-- the sink fails before another text
+pub refuses_more : (old new : Option (List ℕ)) (x y : List ℕ) (n m : ℕ) → Refuses old new x n m → Refuses old new (x ++ y) n m
+refuses_more old new x y n m failed = λ is_known.
+    let f = failed is_known in
+    (f.0, (beginning_of_more _ _ x y f.1.0, f.1.1))
+
+-- ---- a lexeme
+
+-- the line ends of a gap, its spaces, and a text
+pub gap_text : (gap ends text : List ℕ) (indent : ℕ) → gap ≡ ends ++ spaces indent
+    → (spaces 0 ++ ends) ++ (spaces indent ++ text) ≡ gap ++ text
+gap_text gap ends text indent e = sym (append_assoc ends (spaces indent) text) ∙ ap (λ (l : List ℕ). l ++ text) (sym e)
+
+-- the gap and the lexeme that come next are done too
+pub lexeme_more : (all done left gap text spelled rest : List ℕ) → all ≡ done ++ left → left ≡ gap ++ (spelled ++ rest) → text ≡ spelled
+    → all ≡ (done ++ (gap ++ text)) ++ rest
+lexeme_more all done left gap text spelled rest e next same =
+    e
+    ∙ ap (λ (l : List ℕ). done ++ l) (next ∙ ap (λ (l : List ℕ). gap ++ (l ++ rest)) (sym same) ∙ sym (append_assoc gap text rest))
+    ∙ sym (append_assoc done (gap ++ text) rest)
+
+-- ---- a layout, and what ends it
+
+-- the sink fails in a part of it
+pub refuses_in : (old mid new : Option (List ℕ)) (all done part rest ended : List ℕ) (n m k : ℕ) → all ≡ (done ++ part) ++ rest
+    → Accepts old mid done n m → Refuses mid new part m k → Refuses old new (all ++ ended) n k
+refuses_in old mid new all done part rest ended n m k e wrote failed =
+    refuses_same old new ((done ++ part) ++ (rest ++ ended)) (all ++ ended) n k
+    (sym (append_assoc (done ++ part) rest ended) ∙ ap (λ (l : List ℕ). l ++ ended) (sym e))
+    (refuses_more old new (done ++ part) (rest ++ ended) n k (refused_after old mid new done part n m k wrote failed))
+
+-- all of it is done
+done_all : (all done left : List ℕ) → all ≡ done ++ left → left ≡ [] → done ≡ all
+done_all all done left e none = sym (e ∙ ap (λ (l : List ℕ). done ++ l) none ∙ append-nil done)
+
+-- the sink takes what ends it
+pub accepts_end : (old mid new : Option (List ℕ)) (all done left ended : List ℕ) (n m k : ℕ) → all ≡ done ++ left → left ≡ []
+    → Accepts old mid done n m → Accepts mid new ended m k → Accepts old new (all ++ ended) n k
+accepts_end old mid new all done left ended n m k e none wrote more =
+    accepts_same old new (done ++ ended) (all ++ ended) n k (ap (λ (l : List ℕ). l ++ ended) (done_all all done left e none))
+    (accepted_both old mid new done ended n m k wrote more)
+
+-- the sink fails in what ends it
+pub refuses_end : (old mid new : Option (List ℕ)) (all done left ended : List ℕ) (n m k : ℕ) → all ≡ done ++ left → left ≡ []
+    → Accepts old mid done n m → Refuses mid new ended m k → Refuses old new (all ++ ended) n k
+refuses_end old mid new all done left ended n m k e none wrote failed =
+    refuses_same old new (done ++ ended) (all ++ ended) n k (ap (λ (l : List ℕ). l ++ ended) (done_all all done left e none))
+    (refused_after old mid new done ended n m k wrote failed)

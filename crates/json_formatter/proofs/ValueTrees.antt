@@ -1,0 +1,233 @@
+-- The document of a value, by recursion on the value: it is what is read of the lexemes that spell it.
+use Rattle.std.proofs.Common.{◌≡◌, refl, sym, ◌∙◌, ap, ℕ, zero, suc, ◌≤◌, max, Bool, true, false, ◌&&◌, ◌||◌, ◌==◌, List, [], ◌∷◌, ◌++◌}
+use Rattle.std.proofs.Common.{append_assoc, arith}
+use Rattle.std.specs.Prelude.{pos}
+use Rattle.std.specs.Char.{is_ascii_digit}
+use Rattle.std.proofs.lemmas.Bool.{or_parts}
+use Rattle.json.specs.Ascii as ascii
+use Rattle.json.specs.Word.{is_operator, is_space, head, ends_word}
+use Rattle.json_lexemes.specs.Grammar.{Value, alone, array, object, Items, no_items, item, Members, no_members}
+use Rattle.json_lexemes.specs.Grammar as g
+use Rattle.json_lexemes.specs.Grammar.{spelled, spelled_items, more_items, spelled_members, more_members, depth, items_depth, members_depth}
+use Rattle.json_lexemes.specs.Grammar.{IsFormed, AreFormedItems, AreFormedMembers}
+use Rattle.prettyless.specs.Built.{append}
+use Rattle.prettyless.specs.Counted.{text}
+use Rattle.prettyless.specs.Lines.{space}
+use Rattle.prettyless.specs.Tree.{Tree}
+use Rattle.json_formatter.specs.declared.style.Style.{Style}
+use Rattle.json_formatter.specs.ByValue.{are_numbers, is_number_alone, is_empty_object}
+use Rattle.json_formatter.specs.Flat.{is_mark}
+use Rattle.json_formatter.specs.Documents.{Read, Reader, Member, read, then_read, onto, is_number, opens, closes, with_value, with_comma}
+use Rattle.json_formatter.specs.Documents.{member, list_member, list_members, trees_of, all_numbers, listed, value}
+use Rattle.json_formatter.proofs.Readers.{until_more, many_stops}
+use Rattle.json_formatter.proofs.ReadOn.{member_reads, value_plain}
+use Rattle.json_formatter.proofs.Shrinking.{list_member_shrinks, value_shrinks, value_keeps}
+
+-- ---- the document
+
+-- with the comma, where items come after it
+abbrev pub item_marked : Tree → Items → Tree
+item_marked t no_items = t
+item_marked t (item v vs) = append t (text (ascii.comma ∷ []))
+
+abbrev pub member_marked : Tree → Members → Tree
+member_marked t no_members = t
+member_marked t (g.member k v ms) = append t (text (ascii.comma ∷ []))
+
+-- a key, its colon and a space
+abbrev pub key_tree : List ℕ → Tree
+key_tree k = append (append (text k) (text (ascii.colon ∷ []))) space
+
+-- the document of a value, and those of the items and members of a list
+abbrev mutual
+  pub tree : Style → Value → Tree
+  tree style (alone s) = text s
+  tree style (array vs) =
+      listed (style.fill && are_numbers vs) (text (ascii.open_bracket ∷ [])) (item_trees style vs) (text (ascii.close_bracket ∷ []))
+      (pos style.indent)
+  tree style (object ms) =
+      listed (style.fill && is_empty_object ms) (text (ascii.open_brace ∷ [])) (member_trees style ms) (text (ascii.close_brace ∷ []))
+      (pos style.indent)
+
+  pub item_trees : Style → Items → List Tree
+  item_trees style no_items = []
+  item_trees style (item v vs) = item_marked (tree style v) vs ∷ item_trees style vs
+
+  pub member_trees : Style → Members → List Tree
+  member_trees style no_members = []
+  member_trees style (g.member k v ms) = member_marked (append (key_tree k) (tree style v)) ms ∷ member_trees style ms
+
+-- ---- lexemes that are no signs
+
+-- a lexeme that begins with no sign
+pub record IsPlain (s : List ℕ) : Type 0 where
+  pub opens : opens s ≡ false
+  pub closes : closes s ≡ false
+  pub mark : is_mark s ≡ false
+
+-- one that begins with no sign and no space
+pub formed_plain : (s : List ℕ) → ends_word s ≡ false → IsPlain s
+formed_plain [] e = absurd (cc)
+formed_plain (b ∷ c ∷ bs) e = record { opens = refl; closes = refl; mark = refl }
+formed_plain (b ∷ []) e =
+    let a = (or_parts (is_operator b) (is_space b) e).0 in
+    let z = or_parts ((b == 123) || (b == 125) || (b == 91) || (b == 93) || (b == 58)) (b == 44) a in
+    let y = or_parts ((b == 123) || (b == 125) || (b == 91) || (b == 93)) (b == 58) z.0 in
+    let x = or_parts ((b == 123) || (b == 125) || (b == 91)) (b == 93) y.0 in
+    let w = or_parts ((b == 123) || (b == 125)) (b == 91) x.0 in
+    let v = or_parts (b == 123) (b == 125) w.0 in
+    record { opens = rw (v.0, w.1) refl; closes = rw (v.1, x.1) refl; mark = rw (z.1, y.1) refl }
+
+-- a key begins with a quote
+pub key_formed : (k : List ℕ) → head k ≡ 34 → ends_word k ≡ false
+key_formed k e = ap (λ x. is_operator x || is_space x) e
+
+key_no_number : (k : List ℕ) → head k ≡ 34 → is_number k ≡ false
+key_no_number k e = ap (λ x. (x == 45) || is_ascii_digit x) e
+
+-- ---- one more member
+
+-- members that were read: their documents, whether all are numbers, and what is left
+record Reads (r : Read (List Member)) (rest : List (List ℕ)) (trees : List Tree) (numbers : Bool) : Type 0 where
+  left : r.left ≡ rest
+  documents : trees_of r.found ≡ trees
+  are : all_numbers r.found ≡ numbers
+
+-- no more
+reads_none : (style : Style) (d : ℕ) (s : List ℕ) (rest : List (List ℕ)) → closes s ≡ true
+    → Reads (list_members (value style d) (s ∷ rest)) (s ∷ rest) [] true
+reads_none style d s rest e =
+    let stops = many_stops closes (list_member (value style d)) _ (s ∷ rest) e in
+    record {
+      left = ap (λ (q : Read (List Member)). q.left) stops;
+      documents = ap (λ (q : Read (List Member)). trees_of q.found) stops;
+      are = ap (λ (q : Read (List Member)). all_numbers q.found) stops;
+    }
+
+-- one more
+reads_more : (style : Style) (d : ℕ) (ss : List (List ℕ)) (s : List ℕ) (more left rest : List (List ℕ)) (t : Tree) (trees : List Tree)
+    (first numbers : Bool)
+    → ss ≡ s ∷ more → closes s ≡ false → is_number s ≡ first → member (value style d) ss ≡ read t left
+    → Reads (list_members (value style d) left) rest trees numbers
+    → Reads (list_members (value style d) ss) rest (t ∷ trees) (first && numbers)
+reads_more style d ss s more left rest t trees first numbers e f is m h =
+    let v = value style d in
+    let one : list_member v (s ∷ more) ≡ read (record { tree = t; is_number = is_number s }) left =
+    ap (λ (p : Read Tree). then_read p (λ (x : Tree). read (record { tree = x; is_number = is_number s }))) (ap (member v) (sym e) ∙ m) in
+    let next : list_members v ss ≡ onto (record { tree = t; is_number = is_number s }) (list_members v left) =
+    ap (list_members v) e ∙ until_more closes (list_member v) (list_member_shrinks v (value_shrinks style d) (value_keeps style d)) s more f
+    ∙ ap (λ (p : Read Member). onto p.found (list_members v p.left)) one in
+    record {
+      left = ap (λ (q : Read (List Member)). q.left) next ∙ h.left;
+      documents = ap (λ (q : Read (List Member)). trees_of q.found) next ∙ ap (λ (ts : List Tree). t ∷ ts) h.documents;
+      are = ap (λ (q : Read (List Member)). all_numbers q.found) next ∙ ap (λ (x : Bool). is_number s && x) h.are
+          ∙ ap (λ (x : Bool). x && numbers) is;
+    }
+
+-- a list whose members were read
+reads_list : (style : Style) (d : ℕ) (s close : List ℕ) (ss rest : List (List ℕ)) (trees : List Tree) (numbers : Bool) → opens s ≡ true
+    → Reads (list_members (value style d) ss) (close ∷ rest) trees numbers
+    → value style (suc d) (s ∷ ss) ≡ read (listed (style.fill && numbers) (text s) trees (text close) (pos style.indent)) rest
+unfolding value
+reads_list style d s close ss rest trees numbers e h = rw (e, h.left, h.documents, h.are) refl
+
+-- ---- values
+
+-- where a value begins
+pub record Begins (v : Value) (rest : List (List ℕ)) : Type 0 where
+  pub first : List ℕ
+  pub tail : List (List ℕ)
+  pub is : spelled v ++ rest ≡ first ∷ tail
+  pub closes : closes first ≡ false
+  pub number : is_number first ≡ is_number_alone v
+
+pub begins : (v : Value) → IsFormed v → (rest : List (List ℕ)) → Begins v rest
+begins (alone s) h rest = record { first = s; tail = rest; is = refl; closes = (formed_plain s h).closes; number = refl }
+begins (array vs) h rest = record { first = _; tail = spelled_items vs ++ rest; is = refl; closes = refl; number = refl }
+begins (object ms) h rest = record { first = _; tail = spelled_members ms ++ rest; is = refl; closes = refl; number = refl }
+
+-- no colon after an item, and a comma where more come
+no_colon_after : (v : Reader Tree) (t : Tree) (vs : Items) (rest : List (List ℕ))
+    → with_value v t (more_items vs ++ rest) ≡ read t (more_items vs ++ rest)
+no_colon_after v t no_items rest = refl
+no_colon_after v t (item w vs) rest = refl
+
+comma_after : (t : Tree) (vs : Items) (rest : List (List ℕ))
+    → with_comma t (more_items vs ++ rest) ≡ read (item_marked t vs) (spelled_items vs ++ rest)
+comma_after t no_items rest = refl
+comma_after t (item v vs) rest = refl
+
+comma_after_member : (t : Tree) (ms : Members) (rest : List (List ℕ))
+    → with_comma t (more_members ms ++ rest) ≡ read (member_marked t ms) (spelled_members ms ++ rest)
+comma_after_member t no_members rest = refl
+comma_after_member t (g.member k v ms) rest = refl
+
+-- an item, or a member, with the comma after it
+reads_item : (style : Style) (d : ℕ) (v : Value) (vs : Items) (rest : List (List ℕ))
+    → value style d (spelled v ++ (more_items vs ++ rest)) ≡ read (tree style v) (more_items vs ++ rest)
+    → member (value style d) (spelled v ++ (more_items vs ++ rest)) ≡ read (item_marked (tree style v) vs) (spelled_items vs ++ rest)
+reads_item style d v vs rest h =
+    member_reads (value style d) _ _ _ _ (tree style v) (tree style v) _ h (no_colon_after (value style d) (tree style v) vs rest)
+    (comma_after (tree style v) vs rest)
+
+reads_member : (style : Style) (d : ℕ) (k : List ℕ) (v : Value) (ms : Members) (rest : List (List ℕ)) → opens k ≡ false
+    → value style d (spelled v ++ (more_members ms ++ rest)) ≡ read (tree style v) (more_members ms ++ rest)
+    → member (value style d) (k ∷ (ascii.colon ∷ []) ∷ (spelled v ++ (more_members ms ++ rest)))
+    ≡ read (member_marked (append (key_tree k) (tree style v)) ms) (spelled_members ms ++ rest)
+reads_member style d k v ms rest e h =
+    member_reads (value style d) _ _ _ _ (text k) (append (key_tree k) (tree style v)) _ (value_plain style d k _ e)
+    (ap (λ (p : Read Tree). then_read p (λ (t : Tree). read (append (key_tree k) t))) h)
+    (comma_after_member (append (key_tree k) (tree style v)) ms rest)
+
+-- how deep what is in a list may be
+max_left : (a b d : ℕ) → max a b ≤ d → a ≤ d
+max_left a b d h = omega (arith, h)
+
+max_right : (a b d : ℕ) → max a b ≤ d → b ≤ d
+max_right a b d h = omega (arith, h)
+
+none_deeper : (a : ℕ) → suc a ≤ 0 → ⊥
+none_deeper a h = absurd (omega (arith, h))
+
+less_deep : (a d : ℕ) → suc a ≤ suc d → a ≤ d
+less_deep a d h = omega (arith, h)
+
+mutual
+  -- a value is read of its lexemes, and what follows it is left
+  pub reads_value : (style : Style) (d : ℕ) (v : Value) → depth v ≤ d → IsFormed v → (rest : List (List ℕ))
+      → value style d (spelled v ++ rest) ≡ read (tree style v) rest
+  reads_value style d (alone s) l h rest = value_plain style d s rest (formed_plain s h).opens
+  reads_value style zero (array vs) l h rest = absurd (none_deeper (items_depth vs) l)
+  reads_value style (suc d) (array vs) l h rest =
+      reads_list style d _ _ (spelled_items vs ++ rest) rest (item_trees style vs) (are_numbers vs) refl
+      (reads_items style d vs (less_deep (items_depth vs) d l) h rest)
+  reads_value style zero (object ms) l h rest = absurd (none_deeper (members_depth ms) l)
+  reads_value style (suc d) (object ms) l h rest =
+      reads_list style d _ _ (spelled_members ms ++ rest) rest (member_trees style ms) (is_empty_object ms) refl
+      (reads_members style d ms (less_deep (members_depth ms) d l) h rest)
+
+  reads_items : (style : Style) (d : ℕ) (vs : Items) → items_depth vs ≤ d → AreFormedItems vs → (rest : List (List ℕ))
+      → Reads (list_members (value style d) (spelled_items vs ++ rest)) ((ascii.close_bracket ∷ []) ∷ rest) (item_trees style vs)
+      (are_numbers vs)
+  reads_items style d no_items l h rest = reads_none style d _ rest refl
+  reads_items style d (item v vs) l h rest =
+      let begin = begins v h.0 (more_items vs ++ rest) in
+      let first = reads_value style d v (max_left (depth v) (items_depth vs) d l) h.0 (more_items vs ++ rest) in
+      let later = reads_items style d vs (max_right (depth v) (items_depth vs) d l) h.1 rest in
+      let all =
+      reads_more style d _ begin.first begin.tail (spelled_items vs ++ rest) _ _ _ _ _ begin.is begin.closes begin.number
+      (reads_item style d v vs rest first) later in
+      rw (append_assoc (spelled v) (more_items vs) rest) all
+
+  reads_members : (style : Style) (d : ℕ) (ms : Members) → members_depth ms ≤ d → AreFormedMembers ms → (rest : List (List ℕ))
+      → Reads (list_members (value style d) (spelled_members ms ++ rest)) ((ascii.close_brace ∷ []) ∷ rest) (member_trees style ms)
+      (is_empty_object ms)
+  reads_members style d no_members l h rest = reads_none style d _ rest refl
+  reads_members style d (g.member k v ms) l h rest =
+      let plain = formed_plain k (key_formed k h.0) in
+      let first = reads_value style d v (max_left (depth v) (members_depth ms) d l) h.1 (more_members ms ++ rest) in
+      let later = reads_members style d ms (max_right (depth v) (members_depth ms) d l) h.2 rest in
+      let all =
+      reads_more style d _ k _ (spelled_members ms ++ rest) _ _ _ _ _ refl plain.closes (key_no_number k h.0)
+      (reads_member style d k v ms rest plain.opens first) later in
+      rw (append_assoc (spelled v) (more_members ms) rest) all

@@ -1,0 +1,134 @@
+-- The layout of a JSON text by the value that its lexemes spell.
+use Rattle.std.specs.Prelude.{◌≡◌, ℕ, ◌+◌, ◌≤◌, Bool, true, false, ◌&&◌, ◌||◌, nat_le, List, [], ◌∷◌, ◌++◌, length, Some, if◌then◌else◌}
+use Rattle.json.specs.Ascii as ascii
+use Rattle.json.specs.Json.{Json}
+use Rattle.json_validity.specs.Document.{document, max_depth}
+use Rattle.json_lexemes.specs.Grammar.{Value, alone, array, object, Items, no_items, item, Members, no_members, member}
+use Rattle.json_lexemes.specs.Grammar.{spelled, depth, IsFormed}
+use Rattle.json_lexemes.specs.Lexemes.{lexemes}
+use Rattle.prettyless_model.specs.Column.{saturating_add}
+use Rattle.prettyless_model.specs.Spaces.{spaces}
+use Rattle.json_formatter.specs.BlankLines.{layout_of, with_kept_lines}
+use Rattle.json_formatter.specs.Documents.{is_number}
+use Rattle.json_formatter.specs.Flat.{flat_line, flat_width}
+use Rattle.json_formatter.specs.declared.style.Style.{Style}
+
+-- ---- lines
+
+-- a line ends, and the next one has this indent
+abbrev pub new_line : ℕ → List ℕ
+new_line i = ascii.line_feed ∷ spaces i
+
+-- the indent of what is in a list whose brackets have indent i
+abbrev pub inner : Style → ℕ → ℕ
+inner style i = saturating_add i style.indent
+
+-- the column at which a flat line ends that begins at column c, with k columns after it
+abbrev pub end_column : ℕ → List (List ℕ) → ℕ → ℕ
+end_column c ss k = saturating_add c (flat_width ss + k)
+
+-- it stays within the width
+abbrev pub fits_width : Style → ℕ → ℕ → List (List ℕ) → Bool
+fits_width style c k ss = nat_le (end_column c ss k) style.width
+
+-- the comma after an item or a member, where these come after it
+abbrev pub item_comma : Items → List ℕ
+item_comma no_items = []
+item_comma (item v vs) = ascii.comma ∷ []
+
+abbrev pub member_comma : Members → List ℕ
+member_comma no_members = []
+member_comma (member key v ms) = ascii.comma ∷ []
+
+-- there are none
+abbrev pub is_empty_array : Items → Bool
+is_empty_array no_items = true
+is_empty_array (item v vs) = false
+
+abbrev pub is_empty_object : Members → Bool
+is_empty_object no_members = true
+is_empty_object (member key v ms) = false
+
+-- ---- numbers that fill lines
+
+-- a number
+abbrev pub is_number_alone : Value → Bool
+is_number_alone (alone s) = is_number s
+is_number_alone _ = false
+
+-- numbers alone
+abbrev pub are_numbers : Items → Bool
+are_numbers no_items = true
+are_numbers (item v vs) = is_number_alone v && are_numbers vs
+
+-- an item on a flat line, with its comma
+abbrev pub flat_item : Value → Items → List ℕ
+flat_item v vs = flat_line (spelled v) ++ item_comma vs
+
+-- the column after it, from column c on
+abbrev pub item_end : ℕ → Value → Items → ℕ
+item_end c v vs = end_column c (spelled v) (length (item_comma vs))
+
+-- items after one that ends at column c with its comma: a space, or where the next doesn't fit behind that, a line that has indent j
+abbrev pub filled_after : Style → ℕ → ℕ → Items → List ℕ
+filled_after style j c no_items = []
+filled_after style j c (item v vs) =
+    if fits_width style (saturating_add c 1) (length (item_comma vs)) (spelled v)
+    then 32 ∷ (flat_item v vs ++ filled_after style j (item_end (saturating_add c 1) v vs) vs)
+    else new_line j ++ (flat_item v vs ++ filled_after style j (item_end j v vs) vs)
+
+-- items in lines that are filled, at indent j
+abbrev pub filled_lines : Style → ℕ → Items → List ℕ
+filled_lines style j no_items = []
+filled_lines style j (item v vs) = new_line j ++ (flat_item v vs ++ filled_after style j (item_end j v vs) vs)
+
+-- ---- values
+
+-- the column after a key, its colon and a space, in a line with indent j
+abbrev pub after_key : ℕ → List ℕ → ℕ
+after_key j key = end_column j (key ∷ (ascii.colon ∷ []) ∷ []) 0
+
+-- A value from column c on of a line with indent i, with k columns after it: a comma, or nothing. A list that is empty or fits is one
+-- flat line. Else what is in it stands in lines of its own between its brackets, further in; numbers alone fill lines where the style
+-- says so.
+abbrev mutual
+  pub laid_value : Style → ℕ → ℕ → ℕ → Value → List ℕ
+  laid_value style i c k (alone s) = s
+  laid_value style i c k (array vs) =
+      if is_empty_array vs || fits_width style c k (spelled (array vs))
+      then flat_line (spelled (array vs))
+      else ascii.open_bracket
+      ∷ ((if style.fill && are_numbers vs then filled_lines style (inner style i) vs else item_lines style (inner style i) vs)
+      ++ (new_line i ++ ascii.close_bracket ∷ []))
+  laid_value style i c k (object ms) =
+      if is_empty_object ms || fits_width style c k (spelled (object ms))
+      then flat_line (spelled (object ms))
+      else ascii.open_brace ∷ (member_lines style (inner style i) ms ++ (new_line i ++ ascii.close_brace ∷ []))
+
+  -- each item in a line of its own
+  pub item_lines : Style → ℕ → Items → List ℕ
+  item_lines style j no_items = []
+  item_lines style j (item v vs) =
+      new_line j ++ (laid_value style j j (length (item_comma vs)) v ++ (item_comma vs ++ item_lines style j vs))
+
+  -- each member in a line of its own
+  pub member_lines : Style → ℕ → Members → List ℕ
+  member_lines style j no_members = []
+  member_lines style j (member key v ms) =
+      new_line j
+      ++ (key ++ ascii.colon ∷ 32 ∷ (laid_value style j (after_key j key) (length (member_comma ms)) v
+      ++ (member_comma ms ++ member_lines style j ms)))
+
+-- a text whose lexemes spell a value is laid out by that value, from the beginning of a line with no indent, with the blank lines that
+-- are kept
+abbrev pub LayoutsGoByValues : Type 0
+LayoutsGoByValues =
+    (style : Style) (text : List ℕ) (v : Value) → lexemes text ≡ spelled v → depth v ≤ max_depth → IsFormed v
+    → layout_of style text ≡ with_kept_lines style text (laid_value style 0 0 0 v) ++ ascii.line_feed ∷ []
+
+-- and so is each text that is JSON: its lexemes spell a value
+abbrev pub TextsAreLaidByValues : Type 0
+TextsAreLaidByValues =
+    (style : Style) (text : List ℕ) (j : Json) → document text ≡ Some j
+    → (v : Value) × (lexemes text ≡ spelled v)
+    × (layout_of style text ≡ with_kept_lines style text (laid_value style 0 0 0 v) ++ ascii.line_feed ∷ [])

@@ -1,0 +1,147 @@
+-- How a JSON text is laid out lexeme by lexeme: what stands before each, and what is known after it.
+use Rattle.std.specs.Prelude.{ℕ, ◌+◌, ◌-◌, ◌*◌, ◌^◌, Bool, true, false, not, ◌&&◌, ◌||◌, nat_le, min, List, [], ◌∷◌, Option, Some, None}
+use Rattle.std.specs.Prelude.{if◌then◌else◌}
+use Rattle.json.specs.Ascii as ascii
+use Rattle.json_lexemes.specs.SpacedLexemes.{Spaced, after_gap, put_together}
+use Rattle.prettyless_model.specs.Column.{saturating_add}
+use Rattle.prettyless_model.specs.Metrics.{text_width}
+use Rattle.json_formatter.specs.ByValue.{new_line}
+use Rattle.json_formatter.specs.Documents.{closes, is_number, is_json_sign, next_is, opens, stops}
+use Rattle.json_formatter.specs.Flat.{is_mark, width_to_close}
+use Rattle.json_formatter.specs.declared.gaps.Gap.{Gap}
+use Rattle.json_formatter.specs.declared.gaps.Gap.TheVariants as gap
+use Rattle.json_formatter.specs.declared.gaps.Joint.{Joint}
+use Rattle.json_formatter.specs.declared.gaps.Joint.TheVariants as joint
+use Rattle.json_formatter.specs.declared.gaps.State.{State}
+use Rattle.json_formatter.specs.declared.style.Style.{Style}
+
+-- the bytes of a gap
+abbrev pub gap_bytes : Gap → List ℕ
+gap_bytes gap.Nothing = []
+gap_bytes gap.Space = 32 ∷ []
+gap_bytes (gap.Line i) = new_line i
+gap_bytes (gap.BlankLine i) = ascii.line_feed ∷ new_line i
+
+-- the indent of what stands in so many lists
+abbrev pub indent_at : Style → ℕ → ℕ
+indent_at style depth = min (depth * style.indent) (2 ^ 64 - 1)
+
+-- one column, if there is a comma
+abbrev pub comma_column : Bool → ℕ
+comma_column comma = if comma then 1 else 0
+
+-- ---- what is read ahead
+
+-- a comma comes after what closes the list of which n are open, one inside the other
+abbrev pub comma_after : ℕ → List (List ℕ) → Bool
+comma_after n [] = false
+comma_after n (s ∷ ss) =
+    if opens s then comma_after (n + 1) ss
+    else (if closes s then (if nat_le n 1 then next_is (is_json_sign ascii.comma) ss else comma_after (n - 1) ss) else comma_after n ss)
+
+-- numbers alone stand in the list that is open, with commas
+abbrev pub only_numbers : List (List ℕ) → Bool
+only_numbers [] = false
+only_numbers (s ∷ ss) = closes s || ((is_number s || is_json_sign ascii.comma s) && only_numbers ss)
+
+-- the column after a list whose bracket is at column c, with a comma after it; one that is not closed goes on for ever
+abbrev pub list_end : ℕ → Option ℕ → Bool → ℕ
+list_end c None comma = 2 ^ 64 - 1
+list_end c (Some w) comma = saturating_add c (1 + w + comma_column comma)
+
+-- the list that is opened at column c stays within the width
+abbrev pub list_fits : Style → ℕ → List (List ℕ) → Bool
+list_fits style c ss = nat_le (list_end c (width_to_close 1 ss) (comma_after 1 ss)) style.width
+
+-- ---- on one line
+
+abbrev pub flat_gap : Joint → Gap
+flat_gap joint.Space = gap.Space
+flat_gap _ = gap.Nothing
+
+-- how many lists are open after a lexeme
+abbrev pub open_after : ℕ → List ℕ → ℕ
+open_after n s = if opens s then saturating_add n 1 else (if closes s then n - 1 else n)
+
+-- the state after a lexeme of a list on one line
+abbrev pub flat_after : State → List ℕ → State
+flat_after st s = record st { flat = open_after st.flat s; joint = if is_mark s then joint.Space else joint.Nothing }
+
+-- ---- in lines of their own
+
+-- after a comma or a colon
+abbrev pub mark_after : State → Joint → State
+mark_after st next = record st { column = saturating_add st.column 1; joint = next }
+
+-- after what closes a list
+abbrev pub close_after : State → State
+close_after st = record st { depth = st.depth - 1; fills = false; joint = joint.Nothing }
+
+-- a number fits the line after a space, with its comma
+abbrev pub number_fits : Style → ℕ → List ℕ → Bool → Bool
+number_fits style c s comma =
+    nat_le (saturating_add (saturating_add (saturating_add c 1) (text_width s)) (comma_column comma)) style.width
+
+-- the gap before a value or a key
+abbrev pub value_gap : Style → State → Joint → List ℕ → Bool → Gap
+value_gap style st joint.Nothing s comma = gap.Nothing
+value_gap style st joint.Space s comma = gap.Space
+value_gap style st joint.Line s comma = gap.Line (indent_at style st.depth)
+value_gap style st joint.Fill s comma =
+    if number_fits style st.column s comma then gap.Space else gap.Line (indent_at style st.depth)
+
+-- the column after a gap
+abbrev pub gap_end : ℕ → Gap → ℕ
+gap_end c gap.Nothing = c
+gap_end c gap.Space = saturating_add c 1
+gap_end c (gap.Line i) = i
+gap_end c (gap.BlankLine i) = i
+
+-- after the bracket that opens a list at this column: it is laid out on one line if it fits or is empty, and else in lines of their own
+abbrev pub open_at : Style → State → ℕ → List (List ℕ) → State
+open_at style st c ss =
+    if stops closes ss || list_fits style c ss
+    then record st { flat = 1; column = c; joint = joint.Nothing }
+    else record st { depth = saturating_add st.depth 1; column = c; fills = style.fill && only_numbers ss; joint = joint.Line }
+
+-- the column after a word or a key at this column; it is not counted where a comma comes next, and then a new line
+abbrev pub word_end : Bool → ℕ → List ℕ → List (List ℕ) → ℕ
+word_end fills c s ss = if not fills && next_is (is_json_sign ascii.comma) ss then c else saturating_add c (text_width s)
+
+-- after the first lexeme of a value, or a key, at this column
+abbrev pub value_at : Style → State → ℕ → List ℕ → List (List ℕ) → State
+value_at style st c s ss =
+    if opens s then open_at style st c ss
+    else record st { column = word_end st.fills c s ss; joint = joint.Nothing }
+
+-- ---- a lexeme
+
+-- the gap before a lexeme, after which others come
+abbrev pub gap_before : Style → State → List ℕ → List (List ℕ) → Gap
+gap_before style st s ss =
+    if nat_le 1 st.flat then flat_gap st.joint
+    else (if is_mark s then gap.Nothing
+    else (if closes s then gap.Line (indent_at style (st.depth - 1)) else value_gap style st st.joint s
+    (next_is (is_json_sign ascii.comma) ss)))
+
+-- the state after it
+abbrev pub state_after : Style → State → List ℕ → List (List ℕ) → State
+state_after style st s ss =
+    if nat_le 1 st.flat then flat_after st s
+    else (if is_json_sign ascii.comma s then mark_after st (if st.fills then joint.Fill else joint.Line)
+    else (if is_json_sign ascii.colon s then mark_after st joint.Space
+    else (if closes s then close_after st
+    else value_at style st (gap_end st.column (value_gap style st st.joint s (next_is (is_json_sign ascii.comma) ss))) s ss)))
+
+-- lexemes, each after its gap
+abbrev pub spaced_from : Style → State → List (List ℕ) → List Spaced
+spaced_from style st [] = []
+spaced_from style st (s ∷ ss) = after_gap (gap_bytes (gap_before style st s ss)) s ∷ spaced_from style (state_after style st s ss) ss
+
+-- their bytes
+abbrev pub laid_from : Style → State → List (List ℕ) → List ℕ
+laid_from style st ss = put_together (spaced_from style st ss)
+
+-- before the first lexeme
+abbrev pub start_state : State
+start_state = record { depth = 0; flat = 0; column = 0; fills = false; joint = joint.Nothing }

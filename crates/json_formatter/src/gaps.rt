@@ -1,0 +1,357 @@
+//! A layout of a JSON text is its lexemes in their order, with a gap before each.
+ghost use Rattle.std.specs.Prelude.{◌≡◌, ◌<◌, ◌++◌, [], length, MatchOption, IfSome};
+ghost use Rattle.json_lexemes.specs.Lexemes.{lexemes};
+ghost use Rattle.json_lexemes.specs.View.{text_of, IsNamed};
+ghost use Rattle.json.specs.Ascii.{comma};
+ghost use Rattle.json_formatter.specs.Documents.{closes, is_json_sign, next_is, stops};
+ghost use Rattle.json_formatter.specs.Gaps.{close_after, flat_after, flat_gap, gap_before, gap_bytes, gap_end, indent_at, list_fits};
+ghost use Rattle.json_formatter.specs.Gaps.{mark_after, number_fits, only_numbers, open_at, start_state, state_after, value_at};
+ghost use Rattle.json_formatter.specs.Gaps.{value_gap, word_end};
+ghost use Rattle.json_formatter.specs.Kept.{kept_of, laid_left};
+
+use crate::ahead::Ahead;
+use crate::columns::text_columns;
+use crate::kept::Kept;
+use crate::kind::{closes, is_comma, is_number, opens};
+use crate::style::Style;
+use crate::window::Lexemes;
+use json_lexemes::Lexeme;
+use std::alloc::Global;
+use std::marker::Model;
+
+/// What stands before a lexeme.
+#[derive(Clone, Copy)]
+pub(crate) enum Gap {
+    Nothing,
+    Space,
+    /// The end of a line, and so many spaces in the next one.
+    Line(usize),
+    /// The same, with an empty line between them.
+    BlankLine(usize),
+}
+
+/// What joins the next value or key to what is before it.
+#[derive(Clone, Copy)]
+enum Joint {
+    /// Nothing: it comes right after a bracket, or is the first one.
+    Nothing,
+    /// A space.
+    Space,
+    /// A new line.
+    Line,
+    /// A space where a number fits the line with its comma, and else a new line.
+    Fill,
+}
+
+/// Where a layout stands between two lexemes.
+#[derive(Clone, Copy)]
+struct State {
+    /// How many lists are open whose members stand in lines of their own.
+    depth: usize,
+    /// How many lists are open on one line, each in the one before; none outside of such lines.
+    flat: usize,
+    /// The column where the line ends, outside of lists on one line. A word before a comma isn't counted where a new line comes
+    /// after it.
+    column: usize,
+    /// Whether the innermost list in lines of its own fills them.
+    fills: bool,
+    joint: Joint,
+}
+
+// Before the first lexeme.
+const START: State = State {
+    depth: 0,
+    flat: 0,
+    column: 0,
+    fills: false,
+    joint: Joint::Nothing,
+};
+
+// The indent of what stands in so many lists.
+#[inline(always)]
+fn indent_at(style: Style, depth: usize) -> usize
+    ensures { result ≡ indent_at style depth }
+{
+    depth.saturating_mul(style.indent as usize)
+}
+
+// Whether numbers alone, with commas, stand in the list that is open here.
+fn only_numbers(mut lexemes: Ahead<'_>) -> bool
+    ensures { result ≡ only_numbers lexemes.entry }
+{
+    while let Some(lexeme) = lexemes.next() {
+        if closes(lexeme) {
+            return true;
+        }
+        if !is_number(lexeme) && !is_comma(lexeme) {
+            return false;
+        }
+    }
+    false
+}
+
+// Whether the list that is opened at a column stays within the width, with a comma that comes after it.
+#[inline(always)]
+fn list_fits(lexemes: &mut Lexemes<'_>, style: Style, column: usize) -> bool
+    ensures same { lexemes.new ≡ lexemes.old }
+    ensures fits { result ≡ list_fits style column lexemes.old }
+{
+    if style.width == usize::MAX {
+        return true;
+    }
+    if column >= style.width {
+        return false;
+    }
+    lexemes
+        .columns_with_comma(style.width - column - 1)
+        .is_some()
+}
+
+// Whether nothing stands in the list that is open here.
+#[inline(always)]
+fn is_empty(lexemes: &Lexemes<'_>) -> bool
+    ensures { result ≡ stops closes lexemes.now }
+{
+    match lexemes.peek() {
+        Some(lexeme) => closes(lexeme),
+        None => true,
+    }
+}
+
+// Whether a number fits the line after a space, with its comma.
+#[inline(always)]
+fn number_fits(style: Style, column: usize, lexeme: Lexeme<'_>, comma: bool) -> bool
+    ensures { result ≡ number_fits style column (text_of lexeme.entry) comma }
+{
+    let end = column
+        .saturating_add(1)
+        .saturating_add(text_columns(lexeme));
+    end.saturating_add(usize::from(comma)) <= style.width
+}
+
+// The gap before a lexeme of a list on one line.
+#[inline(always)]
+fn flat_gap(joint: Joint) -> Gap
+    ensures { result ≡ flat_gap joint }
+{
+    match joint {
+        Joint::Space => Gap::Space,
+        _ => Gap::Nothing,
+    }
+}
+
+// The column after a gap.
+#[inline(always)]
+fn gap_end(column: usize, gap: Gap) -> usize
+    ensures { result ≡ gap_end column gap }
+{
+    match gap {
+        Gap::Nothing => column,
+        Gap::Space => column.saturating_add(1),
+        Gap::Line(indent) | Gap::BlankLine(indent) => indent,
+    }
+}
+
+impl State {
+    // Goes past a lexeme of a list on one line.
+    #[inline(always)]
+    fn pass_flat(&mut self, lexeme: Lexeme<'_>)
+        requires { IsNamed lexeme }
+        ensures { self.new ≡ flat_after self.old (text_of lexeme.entry) }
+    {
+        self.joint = Joint::Nothing;
+        match lexeme {
+            Lexeme::Comma | Lexeme::Colon => self.joint = Joint::Space,
+            Lexeme::OpenObject | Lexeme::OpenArray => self.flat = self.flat.saturating_add(1),
+            Lexeme::CloseObject | Lexeme::CloseArray => self.flat = self.flat.saturating_sub(1),
+            Lexeme::String(_) | Lexeme::Word(_) => {}
+        }
+    }
+
+    // Goes past a comma or a colon.
+    #[inline(always)]
+    fn pass_mark(&mut self, joint: Joint)
+        ensures { self.new ≡ mark_after self.old joint }
+    {
+        self.column = self.column.saturating_add(1);
+        self.joint = joint;
+    }
+
+    // Goes past what closes a list in lines of its own.
+    #[inline(always)]
+    fn pass_close(&mut self)
+        ensures { self.new ≡ close_after self.old }
+    {
+        self.depth = self.depth.saturating_sub(1);
+        self.fills = false;
+        self.joint = Joint::Nothing;
+    }
+
+    // The gap before a value or a key, after whose first lexeme these come.
+    #[inline(always)]
+    fn value_gap(&self, style: Style, lexeme: Lexeme<'_>, lexemes: &Lexemes<'_>) -> Gap
+        ensures { result ≡ value_gap style self.now self.now.joint (text_of lexeme.entry) (next_is (is_json_sign comma) lexemes.now) }
+    {
+        match self.joint {
+            Joint::Nothing => Gap::Nothing,
+            Joint::Space => Gap::Space,
+            Joint::Fill if number_fits(style, self.column, lexeme, lexemes.next_is_comma()) => {
+                Gap::Space
+            }
+            Joint::Line | Joint::Fill => Gap::Line(indent_at(style, self.depth)),
+        }
+    }
+
+    // Goes past the bracket that opens a list at a column.
+    #[inline(always)]
+    fn open_at(&mut self, style: Style, column: usize, lexemes: &mut Lexemes<'_>)
+        ensures same { lexemes.new ≡ lexemes.old }
+        ensures state { self.new ≡ open_at style self.old column lexemes.old }
+    {
+        self.column = column;
+        if is_empty(lexemes) || list_fits(lexemes, style, column) {
+            self.flat = 1;
+            self.joint = Joint::Nothing;
+            return;
+        }
+        self.depth = self.depth.saturating_add(1);
+        self.fills = style.fill && only_numbers(lexemes.again());
+        self.joint = Joint::Line;
+    }
+
+    // The column after a word or a key that begins at a column. It isn't counted where a comma comes next, and then a new line.
+    #[inline(always)]
+    fn word_end(&self, column: usize, lexeme: Lexeme<'_>, lexemes: &Lexemes<'_>) -> usize
+        ensures { result ≡ word_end self.now.fills column (text_of lexeme.entry) lexemes.now }
+    {
+        if !self.fills && lexemes.next_is_comma() {
+            column
+        } else {
+            column.saturating_add(text_columns(lexeme))
+        }
+    }
+
+    // Goes past the first lexeme of a value, or a key, at a column.
+    #[inline(always)]
+    fn value_at(
+        &mut self,
+        style: Style,
+        column: usize,
+        lexeme: Lexeme<'_>,
+        lexemes: &mut Lexemes<'_>,
+    )
+        requires { IsNamed lexeme }
+        ensures same { lexemes.new ≡ lexemes.old }
+        ensures state { self.new ≡ value_at style self.old column (text_of lexeme.entry) lexemes.old }
+    {
+        if opens(lexeme) {
+            self.open_at(style, column, lexemes);
+        } else {
+            self.column = self.word_end(column, lexeme, lexemes);
+            self.joint = Joint::Nothing;
+        }
+    }
+
+    // The gap before a value or a key. Goes past its first lexeme.
+    #[inline(always)]
+    fn value(&mut self, style: Style, lexeme: Lexeme<'_>, lexemes: &mut Lexemes<'_>) -> Gap
+        requires { IsNamed lexeme }
+        ensures same { lexemes.new ≡ lexemes.old }
+        ensures gap { result ≡ value_gap style self.old self.old.joint (text_of lexeme.entry) (next_is (is_json_sign comma) lexemes.old) }
+        ensures state { self.new ≡ value_at style self.old (gap_end self.old.column result) (text_of lexeme.entry) lexemes.old }
+    {
+        let gap = self.value_gap(style, lexeme, lexemes);
+        let column = gap_end(self.column, gap);
+        self.value_at(style, column, lexeme, lexemes);
+        gap
+    }
+
+    // The gap before a lexeme, after which these come. Goes past it.
+    #[inline(always)]
+    fn step(&mut self, style: Style, lexeme: Lexeme<'_>, lexemes: &mut Lexemes<'_>) -> Gap
+        requires { IsNamed lexeme }
+        ensures same { lexemes.new ≡ lexemes.old }
+        ensures gap { result ≡ gap_before style self.old (text_of lexeme.entry) lexemes.old }
+        ensures state { self.new ≡ state_after style self.old (text_of lexeme.entry) lexemes.old }
+    {
+        if self.flat > 0 {
+            let gap = flat_gap(self.joint);
+            self.pass_flat(lexeme);
+            return gap;
+        }
+        match lexeme {
+            Lexeme::Comma if self.fills => {
+                self.pass_mark(Joint::Fill);
+                Gap::Nothing
+            }
+            Lexeme::Comma => {
+                self.pass_mark(Joint::Line);
+                Gap::Nothing
+            }
+            Lexeme::Colon => {
+                self.pass_mark(Joint::Space);
+                Gap::Nothing
+            }
+            Lexeme::CloseObject | Lexeme::CloseArray => {
+                let indent = indent_at(style, self.depth.saturating_sub(1));
+                self.pass_close();
+                Gap::Line(indent)
+            }
+            _ => self.value(style, lexeme, lexemes),
+        }
+    }
+}
+
+/// The lexemes of a text as they are laid out in a style. A clause sees the bytes of the layout that are left.
+#[derive(Drop)]
+pub(crate) struct Layout<'a> {
+    lexemes: Lexemes<'a>,
+    style: Style,
+    state: State,
+    /// Where it stands in the text, if blank lines are kept.
+    kept: Option<Kept<'a>>,
+}
+
+impl<'a> Model for Layout<'a> {
+    ghost use Rattle.std.specs.Prelude.{ℕ, List, ⊤};
+    ghost use Rattle.json_formatter.specs.Kept.{laid_left};
+
+    ghost Value = { List ℕ };
+
+    ghost view = { λ a. laid_left a.style a.state a.kept a.lexemes };
+
+    ghost invariant = { λ a. ⊤ };
+}
+
+impl<'a> Layout<'a> {
+    /// The lexemes of this text, laid out in this style.
+    pub(crate) fn new(alloc: Global, text: &'a str, style: Style) -> Layout<'a>
+        ensures { result ≡ laid_left style start_state (kept_of style text.now) (lexemes text.now) }
+    {
+        Layout {
+            lexemes: Lexemes::new(alloc, text),
+            style,
+            state: START,
+            kept: if style.blank_lines {
+                Some(Kept::new(text))
+            } else {
+                None
+            },
+        }
+    }
+
+    /// The next lexeme, with the gap before it, or `None` where none is left.
+    #[inline(always)]
+    pub(crate) fn next(&mut self) -> Option<(Gap, Lexeme<'a>)>
+        ensures next { MatchOption result ((self.old ≡ []) × (self.new ≡ []))
+            (λ next. self.old ≡ gap_bytes next.0 ++ (text_of next.1 ++ self.new)) }
+        ensures fewer { IfSome result (λ next. length self.new < length self.old) }
+    {
+        let lexeme = self.lexemes.next()?;
+        let gap = self.state.step(self.style, lexeme, &mut self.lexemes);
+        match &mut self.kept {
+            Some(kept) => Some((kept.gap(gap, lexeme), lexeme)),
+            None => Some((gap, lexeme)),
+        }
+    }
+}

@@ -1,0 +1,153 @@
+ghost use Rattle.std.specs.Prelude.{◌≡◌, ℕ, ◌-◌, ◌<◌, ◌≤◌, ◌∷◌, ◌++◌, [], true, false, List, IfOk, length, take};
+ghost use Rattle.json_formatter.specs.Window.{closed_last, comma_columns, rest_at, AreWithin, IsRight, IsWidthUpTo, Knows};
+
+use crate::ahead::Ahead;
+use crate::columns::lexeme_columns;
+use crate::kind::{closes, opens};
+use std::alloc::{AllocError, Global};
+
+/// A list that the scanner has seen opened.
+#[derive(Clone, Copy)]
+pub(crate) struct Opened {
+    /// The columns that the scanner had passed then.
+    start: usize,
+    /// The columns that the list takes from there to what closes it, with the comma after that, if one comes, once the scanner
+    /// has seen it closed.
+    width: Option<usize>,
+}
+
+/// Goes over lexemes ahead of their reader, and measures the lists that it sees opened, each lexeme once.
+#[derive(Drop)]
+pub(crate) struct Scanner<'a> {
+    lexemes: Ahead<'a>,
+    lists: Vec<Opened>,
+    unclosed: Vec<usize>,
+    total: usize,
+}
+
+impl<'a> Scanner<'a> {
+    /// Has seen no list, and goes on with these lexemes.
+    pub(crate) fn new(alloc: Global, lexemes: Ahead<'a>) -> Scanner<'a>
+        ensures lexemes { result.lexemes ≡ lexemes.entry }
+        ensures lists { result.lists.items ≡ [] }
+        ensures unclosed { result.unclosed.items ≡ [] }
+    {
+        Scanner {
+            lexemes,
+            lists: Vec::new(alloc),
+            unclosed: Vec::new(alloc),
+            total: 0,
+        }
+    }
+
+    /// How many lists it has seen opened.
+    #[inline]
+    pub(crate) fn list_count(&self) -> usize
+        ensures { result ≡ length self.now.lists.items }
+    {
+        self.lists.len()
+    }
+
+    /// Forgets all lists, and goes on with these lexemes.
+    pub(crate) fn restart(&mut self, lexemes: Ahead<'a>)
+        ensures lexemes { self.new.lexemes ≡ lexemes.entry }
+        ensures lists { self.new.lists.items ≡ [] }
+        ensures unclosed { self.new.unclosed.items ≡ [] }
+    {
+        self.lexemes = lexemes;
+        self.lists.clear();
+        self.unclosed.clear();
+        self.total = 0;
+    }
+
+    /// Adds the list whose opening lexeme was scanned last.
+    ///
+    /// `AllocError` where memory is refused.
+    pub(crate) fn opened(&mut self) -> Result<(), AllocError>
+        ensures lists { IfOk result (λ _. self.new.lists.items
+            ≡ self.old.lists.items ++ record { start = self.old.total; width = None } ∷ []) }
+        ensures unclosed { IfOk result (λ _. self.new.unclosed.items
+            ≡ self.old.unclosed.items ++ length self.old.lists.items ∷ []) }
+        ensures total { self.new.total ≡ self.old.total }
+        ensures lexemes { self.new.lexemes ≡ self.old.lexemes }
+    {
+        self.unclosed.push(self.lists.len())?;
+        self.lists.push(Opened {
+            start: self.total,
+            width: None,
+        })?;
+        Ok(())
+    }
+
+    /// Sets the width of the innermost list, whose closing lexeme was scanned last.
+    ///
+    /// `AllocError` where the width is more than a `usize` holds.
+    fn closed(&mut self) -> Result<(), AllocError>
+        requires { AreWithin self.old.lists.items self.old.unclosed.items self.old.total }
+        ensures lists { IfOk result (λ _. self.new.lists.items ≡ closed_last
+            self.old.lists.items self.old.unclosed.items self.old.total (comma_columns self.old.lexemes)) }
+        ensures unclosed { IfOk result (λ _. self.new.unclosed.items
+            ≡ take (length self.old.unclosed.items - 1) self.old.unclosed.items) }
+        ensures total { self.new.total ≡ self.old.total }
+        ensures lexemes { self.new.lexemes ≡ self.old.lexemes }
+    {
+        if let Some(index) = self.unclosed.pop() {
+            let width = self.total - self.lists[index].start;
+            let comma = usize::from(self.lexemes.next_is_comma());
+            self.lists[index].width = Some(width.checked_add(comma).ok_or(AllocError)?);
+        }
+        Ok(())
+    }
+
+    /// Scans one lexeme, or answers `false` where none is left.
+    ///
+    /// `AllocError` where memory is refused, or the columns are more than a `usize` holds: nothing is known of the lists then.
+    fn step(&mut self) -> Result<bool, AllocError>
+        requires { IsRight self.old }
+        ensures scanned { IfOk result (λ _. (rests : List (List (List ℕ)))
+            → Knows self.old rests → Knows self.new rests) }
+        ensures lists { IfOk result (λ _. length self.old.lists.items ≤ length self.new.lists.items) }
+        ensures shorter { IfOk result (λ more. more ≡ true
+            → length self.new.lexemes < length self.old.lexemes) }
+        ensures end { IfOk result (λ more. more ≡ false
+            → (self.old.lexemes ≡ []) × (self.new ≡ self.old)) }
+    {
+        let Some(lexeme) = self.lexemes.next() else {
+            return Ok(false);
+        };
+        let Some(total) = self.total.checked_add(lexeme_columns(lexeme)) else {
+            return Err(AllocError);
+        };
+        self.total = total;
+        if opens(lexeme) {
+            self.opened()?;
+        } else if closes(lexeme) {
+            self.closed()?;
+        }
+        Ok(true)
+    }
+
+    /// The columns that a list takes from its opening lexeme to what closes it, with the comma after that, if one comes, where
+    /// these are at most so many. The scanner goes on until it knows.
+    ///
+    /// `AllocError` where memory is refused, or the columns are more than a `usize` holds: nothing is known of the lists then.
+    pub(crate) fn width(&mut self, index: usize, most: usize) -> Result<Option<usize>, AllocError>
+        requires right { IsRight self.old }
+        requires index { index < length self.old.lists.items }
+        ensures scanned { IfOk result (λ _. (rests : List (List (List ℕ)))
+            → Knows self.old rests → Knows self.new rests) }
+        ensures lists { IfOk result (λ _. length self.old.lists.items ≤ length self.new.lists.items) }
+        ensures width { IfOk result (λ width. (rests : List (List (List ℕ)))
+            → Knows self.old rests → IsWidthUpTo most (rest_at rests index) width) }
+    {
+        loop {
+            let list = self.lists[index];
+            if let Some(width) = list.width {
+                return Ok(if width <= most { Some(width) } else { None });
+            }
+            if self.total - list.start > most || !self.step()? {
+                return Ok(None);
+            }
+        }
+    }
+}

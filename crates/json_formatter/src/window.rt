@@ -1,0 +1,157 @@
+ghost use Rattle.std.specs.Prelude.{◌≡◌, ℕ, ◌<◌, ◌≤◌, ◌∷◌, [], List, drop, IfSome, IfNone, MatchOption, if◌then◌else◌, true, false};
+ghost use Rattle.json.specs.Ascii.{colon, comma};
+ghost use Rattle.json_lexemes.specs.Lexemes.{lexemes};
+ghost use Rattle.json_lexemes.specs.View.{text_of, IsNamed};
+ghost use Rattle.json_formatter.specs.Documents.{closes, is_json_sign, next_is, opens, stops};
+ghost use Rattle.json_formatter.specs.Window.{width_with_comma, IsWidthUpTo, IsWindow};
+
+use crate::ahead::Ahead;
+use crate::columns::lexeme_columns;
+use crate::kind::{closes, opens};
+use crate::scanner::Scanner;
+use json_lexemes::Lexeme;
+use std::alloc::Global;
+use std::marker::Model;
+
+/// The lexemes of a text, read in their order, with a scanner ahead of them that measures lists. A clause sees how those that
+/// are left are spelled.
+#[derive(Drop)]
+pub(crate) struct Lexemes<'a> {
+    reader: Ahead<'a>,
+    scanner: Scanner<'a>,
+    /// How many of the scanner's lists the reader has opened.
+    passed: usize,
+    /// Which of them the reader has just opened, if the last lexeme opened one.
+    here: Option<usize>,
+}
+
+impl<'a> Model for Lexemes<'a> {
+    ghost use Rattle.std.specs.Prelude.{ℕ, List};
+    ghost use Rattle.json_formatter.specs.Window.{IsWindow};
+
+    ghost Value = { List (List ℕ) };
+
+    ghost view = { λ a. a.reader };
+
+    ghost invariant = { λ a. IsWindow a.reader a.scanner a.passed a.here };
+}
+
+impl<'a> Lexemes<'a> {
+    /// All lexemes of this text.
+    pub(crate) fn new(alloc: Global, text: &'a str) -> Lexemes<'a>
+        ensures { result ≡ lexemes text.now }
+    {
+        let reader = Ahead::new(text);
+        let scanner = Scanner::new(alloc, reader.again());
+        Lexemes {
+            reader,
+            scanner,
+            passed: 0,
+            here: None,
+        }
+    }
+
+    /// Takes the next lexeme, or answers `None` where none is left.
+    #[inline(always)]
+    pub(crate) fn next(&mut self) -> Option<Lexeme<'a>>
+        ensures next { MatchOption result ((self.old ≡ []) × (self.new ≡ []))
+            (λ lexeme. self.old ≡ text_of lexeme ∷ self.new) }
+        ensures named { IfSome result IsNamed }
+    {
+        let taken = self.reader.next();
+        self.here = None;
+        if let Some(lexeme) = taken
+            && opens(lexeme)
+        {
+            self.here = open_list(&self.reader, &mut self.scanner, &mut self.passed);
+        }
+        taken
+    }
+
+    /// The lexemes that are left, once more.
+    pub(crate) fn again(&self) -> Ahead<'a>
+        ensures { result ≡ self.now }
+    {
+        self.reader.again()
+    }
+
+    /// The next lexeme, which stays.
+    pub(crate) fn peek(&self) -> Option<Lexeme<'a>>
+        ensures next { MatchOption result (self.now ≡ [])
+            (λ lexeme. (rest : List (List ℕ)) × (self.now ≡ text_of lexeme ∷ rest)) }
+        ensures named { IfSome result IsNamed }
+    {
+        self.reader.peek()
+    }
+
+    /// Whether a comma comes next.
+    pub(crate) fn next_is_comma(&self) -> bool
+        ensures { result ≡ next_is (is_json_sign comma) self.now }
+    {
+        self.reader.next_is_comma()
+    }
+
+    /// The columns from here to what closes the list that is open here, on one line, with the comma after that, if one comes, where
+    /// these are at most so many.
+    pub(crate) fn columns_with_comma(&mut self, most: usize) -> Option<usize>
+        ensures same { self.new ≡ self.old }
+        ensures width { MatchOption result
+            ((w : ℕ) → width_with_comma 1 self.old ≡ Some w → most < w)
+            (λ w. (width_with_comma 1 self.old ≡ Some w) × (w ≤ most)) }
+    {
+        if let Some(index) = self.here {
+            match self.scanner.width(index, most) {
+                Ok(width) => return width,
+                Err(_) => {
+                    self.scanner.restart(self.reader.again());
+                    self.passed = 0;
+                    self.here = None;
+                }
+            }
+        }
+        width_up_to(self.reader.again(), most)
+    }
+}
+
+/// Passes the lexeme that opens a list, which the reader has just taken. Answers its index among the scanner's lists, or `None`
+/// where memory is refused for it.
+fn open_list<'a>(reader: &Ahead<'a>, scanner: &mut Scanner<'a>, passed: &mut usize) -> Option<usize>
+    ensures { (s : List ℕ) → opens s ≡ true → IsWindow (s ∷ reader.now) scanner.old passed.old None
+        → IsWindow reader.now scanner.new passed.new result }
+{
+    let index = *passed;
+    if index < scanner.list_count() {
+        *passed += 1;
+        return Some(index);
+    }
+    scanner.restart(reader.again());
+    *passed = 0;
+    if scanner.opened().is_err() {
+        scanner.restart(reader.again());
+        return None;
+    }
+    *passed = 1;
+    Some(0)
+}
+
+/// The columns from here to what closes the list that is open here, on one line, with the comma after that, if one comes, where
+/// these are at most so many. It measures them anew.
+fn width_up_to(mut lexemes: Ahead<'_>, most: usize) -> Option<usize>
+    ensures { IsWidthUpTo most lexemes.entry result }
+{
+    let mut room = most;
+    let mut inner: usize = 0;
+    while let Some(lexeme) = lexemes.next() {
+        room = room.checked_sub(lexeme_columns(lexeme))?;
+        if opens(lexeme) {
+            inner += 1;
+        } else if closes(lexeme) {
+            if inner == 0 {
+                room = room.checked_sub(usize::from(lexemes.next_is_comma()))?;
+                return Some(most - room);
+            }
+            inner -= 1;
+        }
+    }
+    None
+}

@@ -1,0 +1,5 @@
+mod Fuel
+mod Lists
+mod Values
+mod Open
+pub mod Documents

@@ -1,0 +1,89 @@
+-- The nodes of documents that take cells, in the order in which they are listed, and where documents stand meanwhile.
+use Rattle.std.specs.Prelude.{ℕ, ◌-◌, if◌then◌else◌, List, [], ◌∷◌, ◌++◌, map, length, reverse, ⊤}
+use Rattle.prettyless_model.specs.Tree.{Tree, Append, LineSuffix, Nest, DedentToRoot, Align, Flatten, BreakOrFlat, Group, Union}
+use Rattle.prettyless_model.specs.Tree.{PartialUnion, OnColumn, OnNesting}
+use Rattle.prettyless_step.specs.Stack.{Task, trees}
+use Rattle.prettyless_step.specs.Printing.{tasks_of}
+use Rattle.prettyless_step.specs.declared.printer.Printer.{Printer}
+use Rattle.prettyless_table.specs.declared.cell.Cell.{Cell}
+use Rattle.prettyless_table.specs.Parts.{small, takes}
+use Rattle.prettyless_table.specs.Cells.{In}
+use Rattle.prettyless_table.specs.Laying.{FirstIn, SecondIn}
+
+-- a tree before others, if it takes a cell
+abbrev pub with_own : Tree → List Tree → List Tree
+with_own d ds = if takes d then d ∷ ds else ds
+
+-- the nodes of a tree that take cells: itself before those below it, and those of its first part before those of its second one
+abbrev pub owners_of : Tree → List Tree
+owners_of (Append l r) = with_own (Append l r) (owners_of l ++ owners_of r)
+owners_of (LineSuffix d) = with_own (LineSuffix d) (owners_of d)
+owners_of (Nest k d) = with_own (Nest k d) (owners_of d)
+owners_of (DedentToRoot d) = with_own (DedentToRoot d) (owners_of d)
+owners_of (Align d) = with_own (Align d) (owners_of d)
+owners_of (Flatten d) = with_own (Flatten d) (owners_of d)
+owners_of (BreakOrFlat l r) = with_own (BreakOrFlat l r) (owners_of l ++ owners_of r)
+owners_of (Group d) = with_own (Group d) (owners_of d)
+owners_of (Union l r) = with_own (Union l r) (owners_of l ++ owners_of r)
+owners_of (PartialUnion l r) = with_own (PartialUnion l r) (owners_of l ++ owners_of r)
+owners_of (OnColumn test l r) = with_own (OnColumn test l r) (owners_of l ++ owners_of r)
+owners_of (OnNesting test l r) = with_own (OnNesting test l r) (owners_of l ++ owners_of r)
+owners_of _ = []
+
+-- and those of trees
+abbrev pub all_owners : List Tree → List Tree
+all_owners [] = []
+all_owners (d ∷ ds) = owners_of d ++ all_owners ds
+
+-- and those of nodes that wait, of the last one first
+abbrev pub waiting_owners : {N : Type 0} → (N → Tree) → List N → List Tree
+waiting_owners f [] = []
+waiting_owners f (n ∷ ns) = waiting_owners f ns ++ owners_of (f n)
+
+-- the trees that are not small
+abbrev pub large : List Tree → List Tree
+large [] = []
+large (d ∷ ds) = if small d then large ds else d ∷ large ds
+
+-- the node whose cell a tree has that is not small: itself, or that of its part
+abbrev pub keeper : Tree → Tree
+keeper (Nest k d) = if small d then Nest k d else keeper d
+keeper (DedentToRoot d) = if small d then DedentToRoot d else keeper d
+keeper (Align d) = if small d then Align d else keeper d
+keeper (Group d) = if small d then Group d else keeper d
+keeper d = d
+
+-- the nodes whose cells trees have
+abbrev pub keepers : List Tree → List Tree
+keepers [] = []
+keepers (d ∷ ds) = if small d then keepers ds else keeper d ∷ keepers ds
+
+-- documents stand at places, which others may follow
+abbrev pub StandAt : {N : Type 0} → List (Cell N) → List Tree → List ℕ → Type 0
+StandAt cells [] places = ⊤
+StandAt cells (d ∷ ds) [] = ⊥
+StandAt cells (d ∷ ds) (at ∷ places) = In cells d at × StandAt cells ds places
+
+-- documents wait in a table: the first one has its last cell, and the others stand at places
+abbrev pub WaitsInTable : {N : Type 0} → List (Cell N) → List Tree → List ℕ → Type 0
+WaitsInTable cells [] places = ⊤
+WaitsInTable cells (d ∷ ds) places = In cells d (length cells - 1) × StandAt cells ds places
+
+-- of documents that wait the first ones are the parts of a node: these stand where its cell wants them, and the others at places
+pub record AreFound {N : Type 0} (cells : List (Cell N)) (parts : List Tree) (at : ℕ) (ds : List Tree) (places : List ℕ)
+    : Type 0 where
+  pub first : FirstIn cells (length cells - 1) parts
+  pub second : SecondIn cells at parts
+  pub others : StandAt cells ds places
+
+-- the documents that are not small stand at places of a stack, the first one at the last of them
+abbrev pub Stand : {N : Type 0} → List (Cell N) → List Tree → List ℕ → Type 0
+Stand cells ds places = StandAt cells (large ds) (reverse places)
+
+-- the trees of tasks
+abbrev pub task_trees : List Task → List Tree
+task_trees = map (λ t. t.tree)
+
+-- the documents that a printer has left: those of its commands, the next one first, and those of its queue
+abbrev pub documents_left : {N : Type 0} → (N → Tree) → Printer N → List Tree
+documents_left f p = task_trees (tasks_of f p) ++ trees f p.queue.nodes.items

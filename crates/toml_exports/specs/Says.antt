@@ -1,0 +1,21 @@
+-- What each status of the code says.
+use Rattle.std.specs.Prelude.{◌≡◌, ℕ, List}
+use Rattle.prettyless_exports.specs.Answers.{IsUntouched}
+use Rattle.prettyless_exports.specs.Texts.{IsPut}
+use Rattle.toml_formatter.specs.Formats.{IsFormattedToml}
+use Rattle.toml_exports.specs.Answers.{IsTomlFault}
+use Rattle.toml_exports.specs.declared.status.Status.{Status}
+use Rattle.toml_exports.specs.declared.status.Status.TheVariants as status
+
+-- what a status says of the layout of a text: it was put, or it is not there
+abbrev pub SaysOfToml : ℕ → List ℕ → List ℕ → List ℕ → ℕ → Status → Type 0
+SaysOfToml limit text old new written (status.LaidOut put) = (bytes : List ℕ) × IsFormattedToml text bytes
+    × IsPut limit bytes old new written put
+SaysOfToml limit text old new written status.Memory = IsUntouched old new written
+SaysOfToml limit text old new written status.NotToml = new ≡ old
+
+-- what a status says of where a text stops being TOML
+abbrev pub RefusesToml : List ℕ → List ℕ → List ℕ → ℕ → ℕ → ℕ → Status → Type 0
+RefusesToml text old new written line column status.Memory = IsUntouched old new written × (line ≡ 0) × (column ≡ 0)
+RefusesToml text old new written line column status.NotToml = IsTomlFault text old new written line column
+RefusesToml text old new written line column s = ⊥
