@@ -1,5 +1,5 @@
 //! The probe: whether a node fits the line with what follows it.
-ghost use Rattle.std.specs.Prelude.{◌≡◌, ◌++◌, ◌∷◌, [], IfOk, OnOk, IfSome, MatchOption, List, false, true, IsTrue, ◌&&◌, ◌+◌, ◌<◌, ◌≤◌};
+ghost use Rattle.std.specs.Prelude.{◌≡◌, ◌++◌, ◌∷◌, [], IfOk, OnOk, IfSome, MatchOption, List, false, length, true, IsTrue, ◌&&◌, ◌+◌, ◌<◌, ◌≤◌};
 ghost use Rattle.std.specs.Prelude.{if◌then◌else◌};
 ghost use Rattle.prettyless_model.specs.Tree.{Tree, WeakLine, size};
 ghost use Rattle.prettyless_model.specs.declared.mode.Mode.TheVariants.{Flat};
@@ -24,6 +24,7 @@ use prettyless_model::metrics::Metrics;
 use prettyless_model::mode::Mode;
 use prettyless_sink::visits::one_more;
 use std::alloc::AllocError;
+use std::marker::Model;
 
 /// The state of a line where a probe has come to.
 #[derive(Clone, Copy)]
@@ -31,6 +32,76 @@ pub struct Line {
     pub column: Column,
     /// Whether a line suffix is pending.
     pub pending: bool,
+}
+
+/// A line while a probe reads texts: how it was before them, and where the next content would begin. So a text changes one number.
+#[derive(Drop)]
+struct LineSoFar {
+    before: Line,
+    position: usize,
+    has_text: bool,
+}
+
+impl Model for LineSoFar {
+    ghost use Rattle.std.specs.Prelude.{◌≡◌};
+    ghost use Rattle.prettyless_model.specs.Column.{prospective};
+    ghost use Rattle.prettyless_step.specs.Probing.{column_after};
+    ghost use Rattle.prettyless_step.specs.declared.probe.Line.{Line};
+
+    ghost Value = { Line };
+
+    ghost view = { λ s. record { column = column_after s.has_text s.position s.before.column; pending = s.before.pending } };
+
+    ghost invariant = { λ s. prospective (column_after s.has_text s.position s.before.column) ≡ s.position };
+}
+
+impl LineSoFar {
+    // A line of which no text was read.
+    #[inline(always)]
+    fn at(line: Line) -> Self
+        ensures { result ≡ line }
+    {
+        LineSoFar {
+            before: line,
+            position: line.column.prospective(),
+            has_text: false,
+        }
+    }
+
+    // The line itself.
+    #[inline(always)]
+    fn line(&self) -> Line
+        ensures { result ≡ self.now }
+    {
+        if !self.has_text {
+            return self.before;
+        }
+        let column = Column {
+            position: self.position,
+            indent: 0,
+            padding: 0,
+            fresh: false,
+        };
+        Line {
+            column,
+            pending: self.before.pending,
+        }
+    }
+
+    // Reads a text, as `read_content` does.
+    #[inline(always)]
+    fn read_text(&mut self, width: usize, text: &str) -> bool
+        ensures { (ts : List Task) →
+            answer_of (look_text width (length text.now) text.now self.old.column self.old.pending) (λ c p. tasks_fit width ts c p)
+            ≡ (result && tasks_fit width ts self.new.column self.new.pending) }
+    {
+        if text.is_empty() {
+            return true;
+        }
+        self.position = self.position.saturating_add(text.len());
+        self.has_text = true;
+        self.position <= width
+    }
 }
 
 // Reads content: an empty text is nothing, another commits the column. The answer is whether the line stays within the width.
@@ -253,11 +324,11 @@ fn with_other(is_texts: bool, mode: Mode) -> bool
     }
 }
 
-// Looks at one node that probes seldom meet. One that is met flat is no text. The line is copied, so that its own place may be a register.
+// Looks at one node that probes seldom meet. One that is met flat is no text.
 #[inline(always)]
 fn visit_other<N: Walk>(
     width: usize,
-    line: &mut Line,
+    line: &mut LineSoFar,
     node: N,
     stack: &mut Stack<N>,
     is_texts: &mut bool,
@@ -271,11 +342,11 @@ fn visit_other<N: Walk>(
         → TextsOnce d (make_task stack.old.here.indent stack.old.here.mode (N.tree node) ∷ stack_of N.tree stack.old)
         → TextsAt N.tree d (read_in stack.new a) (stack_of N.tree stack.new))) }
 {
-    let mut other = *line;
+    let mut other = line.line();
     let indent = stack.indent_in();
     let mode = stack.mode_in();
     let read = read_other(width, &mut other, indent, mode, node, stack)?;
-    *line = other;
+    *line = LineSoFar::at(other);
     *is_texts = with_other(*is_texts, mode);
     match read {
         ProbeStep::Answer(answer) => Ok(FrameStep::Answer(answer)),
@@ -291,7 +362,7 @@ fn visit_other<N: Walk>(
 #[inline(always)]
 fn visit_one<N: Walk>(
     width: usize,
-    line: &mut Line,
+    line: &mut LineSoFar,
     node: N,
     stack: &mut Stack<N>,
     is_texts: &mut bool,
@@ -311,7 +382,7 @@ fn visit_one<N: Walk>(
             Ok(FrameStep::Descend(first))
         }
         View::Text(s) => {
-            if read_content(width, line, s.len(), s) {
+            if line.read_text(width, s) {
                 Ok(FrameStep::Silent)
             } else {
                 Ok(FrameStep::Answer(false))
@@ -327,7 +398,7 @@ fn visit_one<N: Walk>(
             Ok(FrameStep::Descend(inner))
         }
         View::Group(inner) => Ok(FrameStep::Descend(inner)),
-        View::HardLine => Ok(FrameStep::Answer(read_line_end(width, line, stack.mode_in()))),
+        View::HardLine => Ok(FrameStep::Answer(read_line_end(width, &line.line(), stack.mode_in()))),
         View::Nil => Ok(FrameStep::Silent),
         _ => visit_other(width, line, node, stack, is_texts),
     }
@@ -408,7 +479,7 @@ fn visit_all<N: Walk>(
         ≤ probes.old + (size (N.tree first.node) + (nodes (stack_of N.tree stack.old) + nodes (unread N.tree commands.now cursor))) }
     ensures asked { OnOk result (RisesBy 1 probes.old probes.new) }
 {
-    let mut line = start;
+    let mut line = LineSoFar::at(start);
     let mut below = cursor;
     let mut node = first.node;
     let mut is_texts = is_flat(first.mode);
@@ -422,7 +493,7 @@ fn visit_all<N: Walk>(
             }
             FrameStep::Silent => {
                 let Some(next) = next_unread(commands, &mut below, stack)? else {
-                    return Ok(found(line.column.padding_fits(width, line.pending), is_texts));
+                    return Ok(found(read_line_end(width, &line.line(), Mode::Break), is_texts));
                 };
                 node = next;
             }

@@ -4,8 +4,8 @@ use Rattle.prettyless_step.specs.Texts.{IsTexts}
 use Rattle.prettyless_step.proofs.Texts.{texts_read}
 use Rattle.prettyless_step.proofs.probe.visit_one.Goals as goal
 
-pub returns-then-read_content-clause-texts : goal.returns-then-read_content-clause-texts
-returns-then-read_content-clause-texts g c flag =
+pub returns-then-read_text-clause-texts : goal.returns-then-read_text-clause-texts
+returns-then-read_text-clause-texts g c flag =
     let f = g.N.Walk.tree in
     let s = c.args.stack.now in
     (flag, λ d h. texts_read d s.here.mode (f c.args.node) (stack_of f s) (subst IsTexts c.in-Text.ensures.tree tt) h)
