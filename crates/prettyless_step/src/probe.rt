@@ -50,7 +50,7 @@ impl Model for LineSoFar {
 
     ghost Value = { Line };
 
-    ghost view = { λ s. record { column = column_after s.has_text s.position s.before.column; pending = s.before.pending } };
+    ghost view = { λ s. record s.before { column = column_after s.has_text s.position s.before.column } };
 
     ghost invariant = { λ s. prospective (column_after s.has_text s.position s.before.column) ≡ s.position };
 }
@@ -73,19 +73,11 @@ impl LineSoFar {
     fn line(&self) -> Line
         ensures { result ≡ self.now }
     {
-        if !self.has_text {
-            return self.before;
+        let mut line = self.before;
+        if self.has_text {
+            line.column = Column::start().committed(self.position);
         }
-        let column = Column {
-            position: self.position,
-            indent: 0,
-            padding: 0,
-            fresh: false,
-        };
-        Line {
-            column,
-            pending: self.before.pending,
-        }
+        line
     }
 
     // Reads a text, as `read_content` does.
