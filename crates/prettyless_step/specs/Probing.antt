@@ -17,11 +17,6 @@ use Rattle.prettyless_step.specs.declared.probe.FrameStep.TheVariants as frame_s
 use Rattle.prettyless_step.specs.declared.probe.ProbeStep.{ProbeStep}
 use Rattle.prettyless_step.specs.declared.probe.ProbeStep.TheVariants.{Answer, Descend, Silent}
 
--- the column that texts end at, if there are any, else the column before them
-abbrev pub column_after : Bool → ℕ → Column → Column
-column_after true k c = record { position = k; indent = 0; padding = 0; fresh = false }
-column_after false k c = c
-
 -- an answer, or nothing that is looked at next
 abbrev pub read_of : {N : Type 0} → Option Bool → ProbeStep N
 read_of (Some b) = Answer b

@@ -3,9 +3,10 @@ ghost use Rattle.std.specs.Prelude.{◌≡◌, ◌++◌, ◌∷◌, [], IfOk, On
 ghost use Rattle.std.specs.Prelude.{if◌then◌else◌};
 ghost use Rattle.prettyless_model.specs.Tree.{Tree, WeakLine, size};
 ghost use Rattle.prettyless_model.specs.declared.mode.Mode.TheVariants.{Flat};
-ghost use Rattle.prettyless_model.specs.Column.{nested, padding_fits};
+ghost use Rattle.prettyless_model.specs.Column.{commit, nested, padding_fits, prospective, start};
 ghost use Rattle.prettyless_model.specs.Look.{answer_of, by_mode, look, look_text, payload_begins};
 ghost use Rattle.prettyless_model.specs.Layout.{rest_fits};
+ghost use Rattle.prettyless_step.specs.declared.probe.Line.{Line};
 ghost use Rattle.prettyless_step.specs.declared.probe.ProbeStep.TheVariants.{Answer, Silent, Descend};
 ghost use Rattle.prettyless_step.specs.declared.probe.Fit.TheVariants.{FitsAsTexts, Fits, Exceeds};
 ghost use Rattle.prettyless_step.specs.Probing.{Few, ReadsAs, RisesBy, TextsAt, is_fit, nodes_next, read_in, read_of};
@@ -43,16 +44,11 @@ struct LineSoFar {
 }
 
 impl Model for LineSoFar {
-    ghost use Rattle.std.specs.Prelude.{◌≡◌};
-    ghost use Rattle.prettyless_model.specs.Column.{prospective};
-    ghost use Rattle.prettyless_step.specs.Probing.{column_after};
-    ghost use Rattle.prettyless_step.specs.declared.probe.Line.{Line};
-
     ghost Value = { Line };
 
-    ghost view = { λ s. record s.before { column = column_after s.has_text s.position s.before.column } };
+    ghost view = { λ s. record s.before { column = if s.has_text then commit s.position start else s.before.column } };
 
-    ghost invariant = { λ s. prospective (column_after s.has_text s.position s.before.column) ≡ s.position };
+    ghost invariant = { λ s. prospective (if s.has_text then commit s.position start else s.before.column) ≡ s.position };
 }
 
 impl LineSoFar {
@@ -390,7 +386,11 @@ fn visit_one<N: Walk>(
             Ok(FrameStep::Descend(inner))
         }
         View::Group(inner) => Ok(FrameStep::Descend(inner)),
-        View::HardLine => Ok(FrameStep::Answer(read_line_end(width, &line.line(), stack.mode_in()))),
+        View::HardLine => Ok(FrameStep::Answer(read_line_end(
+            width,
+            &line.line(),
+            stack.mode_in(),
+        ))),
         View::Nil => Ok(FrameStep::Silent),
         _ => visit_other(width, line, node, stack, is_texts),
     }
