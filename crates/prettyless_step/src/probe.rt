@@ -66,7 +66,7 @@ impl LineSoFar {
 
     // The line itself.
     #[inline(always)]
-    fn line(&self) -> Line
+    fn get(&self) -> Line
         ensures { result ≡ self.now }
     {
         let mut line = self.before;
@@ -261,7 +261,8 @@ pub(crate) fn probe_one<N: Walk>(
     }
 }
 
-// Looks at one node that probes seldom meet. It is not copied into their loop, which is shorter without it.
+// Looks at one node that probes seldom meet. It is not copied into their loop, whose registers are for other nodes.
+#[cold]
 #[inline(never)]
 fn read_other<N: Walk>(
     width: usize,
@@ -330,7 +331,7 @@ fn visit_other<N: Walk>(
         → TextsOnce d (make_task stack.old.here.indent stack.old.here.mode (N.tree node) ∷ stack_of N.tree stack.old)
         → TextsAt N.tree d (read_in stack.new a) (stack_of N.tree stack.new))) }
 {
-    let mut other = line.line();
+    let mut other = line.get();
     let indent = stack.indent_in();
     let mode = stack.mode_in();
     let read = read_other(width, &mut other, indent, mode, node, stack)?;
@@ -386,11 +387,7 @@ fn visit_one<N: Walk>(
             Ok(FrameStep::Descend(inner))
         }
         View::Group(inner) => Ok(FrameStep::Descend(inner)),
-        View::HardLine => Ok(FrameStep::Answer(read_line_end(
-            width,
-            &line.line(),
-            stack.mode_in(),
-        ))),
+        View::HardLine => Ok(FrameStep::Answer(read_line_end(width, &line.get(), stack.mode_in()))),
         View::Nil => Ok(FrameStep::Silent),
         _ => visit_other(width, line, node, stack, is_texts),
     }
@@ -485,7 +482,7 @@ fn visit_all<N: Walk>(
             }
             FrameStep::Silent => {
                 let Some(next) = next_unread(commands, &mut below, stack)? else {
-                    return Ok(found(read_line_end(width, &line.line(), Mode::Break), is_texts));
+                    return Ok(found(read_line_end(width, &line.get(), Mode::Break), is_texts));
                 };
                 node = next;
             }
