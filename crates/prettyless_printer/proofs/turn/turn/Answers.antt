@@ -16,7 +16,7 @@ use Rattle.prettyless_printer.proofs.Hands.{goes_down, in_hand, shown, visit}
 use Rattle.prettyless_printer.proofs.Standings.{wrote}
 use Rattle.prettyless_printer.proofs.Visits.{visited_more-zero}
 use Rattle.prettyless_printer.proofs.Spending.{spends_all, spends_begun, spends_broke, spends_chosen, spends_down, spends_failed}
-use Rattle.prettyless_printer.proofs.Spending.{spends_stopped, spends_went, takes}
+use Rattle.prettyless_printer.proofs.Spending.{spends_went, takes}
 use Rattle.prettyless_printer.proofs.Laying.{laying_begins, spends_laid}
 use Rattle.prettyless_printer.proofs.Advancing.{advances_chosen, advances_failed, advances_refused, advances_sink_failed, advances_went}
 use Rattle.prettyless_printer.proofs.turn.turn.Goals as goal
