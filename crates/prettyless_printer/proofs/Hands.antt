@@ -18,13 +18,13 @@ use Rattle.prettyless_step.proofs.Stacks.{nodes-append}
 use Rattle.prettyless_printer.specs.Points.{Standing, standing, state_at, QueueGrows, Seen, Point, point_at, point}
 use Rattle.prettyless_printer.specs.Progress.{Inside}
 use Rattle.prettyless_printer.specs.Turns.{Advances, ForWholes, next_size}
-use Rattle.prettyless_printer.specs.Visits.{suffix_depths, Plain, Rise, CountsAtMost}
+use Rattle.prettyless_printer.specs.Visits.{suffix_depths, Plain, Rise, CountsAtMost, visited_more}
 use Rattle.prettyless_printer.specs.AtLeast.{CountsAtLeast, stack_tally, tally_above}
 use Rattle.prettyless_printer.proofs.Standings.{put_in_hand, state_stands, step_from}
 use Rattle.prettyless_printer.proofs.Steps.{extra, step_less_visits, LeavesLess}
 use Rattle.prettyless_printer.proofs.Trying.{grows-grows}
 use Rattle.prettyless_printer.proofs.Turnings.{inside_at, lessens, went}
-use Rattle.prettyless_printer.proofs.Visits.{NoSuffix, OneMore, payload_visits-least, payload_visits-plus, went_at_most, at_most_same}
+use Rattle.prettyless_printer.proofs.Visits.{NoSuffix, OneMore, payload_visits-add, payload_visits-least, payload_visits-plus, went_at_most, at_most_same}
 use Rattle.prettyless_printer.proofs.Visits.{at_most_then, rise_same, rise_then}
 use Rattle.prettyless_printer.proofs.AtLeast.{OneLaid, went_at_least, at_least_same, at_least_then}
 
@@ -91,22 +91,26 @@ pub record Visit (o : RenderOptions) (t : Task) (b : Point) (x : Visits) : Type 
   pub least : rise b.visits.printer ≤ x.printer
   pub rise : Rise b.visits x
 
-pub visit : {N : Type 0} (f : N → Tree) {a : Point} {t : Task} {s : Seen} {v : Visits} (p : Printer N) (x : Visits) (n : ℕ)
-    → InHand a t (point f p s v) → n ≡ rise v.printer → v.printer ≤ n →
-    x.printer ≡ counted_payload (rejects_payload p.options t.tree t.mode (state_of f p)) n → v.probes ≤ x.probes
+-- the step is taken after k nodes that led to it, none of which is counted yet: all of these are with its own
+pub visit : {N : Type 0} (f : N → Tree) {a : Point} {t : Task} {s : Seen} (k : ℕ) (v : Visits) (p : Printer N) (x : Visits) (n : ℕ)
+    → InHand a t (point f p s (visited_more k v)) → n ≡ rise k →
+    x.printer ≡ counted_payload (rejects_payload p.options t.tree t.mode (state_of f p)) v.printer → v.probes ≤ x.probes
     → x.probes ≤ v.probes + asked t.tree t.mode (nodes (tasks_of f p)) →
-    Visit a.printer.options t (point f p s v) x
-visit {N} f {a} {t} {s} {v} p x n hand e l h k z =
-    let b = point f p s v in
+    Visit a.printer.options t (point f p s (visited_more k v)) (visited_more n x)
+visit {N} f {a} {t} {s} k v p x n hand e h probes most =
+    let w = visited_more k v in
+    let y = visited_more n x in
+    let b = point f p s w in
     let rejected = rejects_payload p.options t.tree t.mode (state_at b.printer) in
-    let h' : x.printer ≡ counted_payload rejected n = h ∙ ap (λ (u : State). counted_payload (rejects_payload p.options t.tree t.mode u) n)
-    (state_stands f p) in
-    let least : rise v.printer ≤ x.printer = payload_visits-least rejected v.printer n x.printer e h' in
-    subst (λ (o : RenderOptions). Visit o t b x) hand.options
+    let at_state : x.printer ≡ counted_payload rejected v.printer =
+    h ∙ ap (λ (u : State). counted_payload (rejects_payload p.options t.tree t.mode u) v.printer) (state_stands f p) in
+    let counted : y.printer ≡ counted_payload rejected (rise w.printer) = payload_visits-add rejected v.printer x.printer k n at_state e in
+    let least : rise w.printer ≤ y.printer = payload_visits-least rejected w.printer (rise w.printer) y.printer refl counted in
+    subst (λ (o : RenderOptions). Visit o t b y) hand.options
     (record {
-      more = record { printer = payload_visits-plus rejected v.printer n x.printer e h'; probes = z };
+      more = record { printer = payload_visits-plus rejected w.printer (rise w.printer) y.printer refl counted; probes = most };
       least = least;
-      rise = record { printer = omega (arith, least, e, l); probes = k };
+      rise = record { printer = omega (arith, least); probes = probes };
     })
 
 -- what the code answers to the task in hand

@@ -1,5 +1,5 @@
 -- The visits of a step, of a turn, and of turns in a row.
-use Rattle.std.proofs.Common.{◌≡◌, ℕ, ◌+◌, ◌-◌, ◌*◌, ◌≤◌, List, [], ◌∷◌, ◌++◌, arith, refl, ap, ◌∙◌, Bool, true, false, Option, Some, None}
+use Rattle.std.proofs.Common.{◌≡◌, ℕ, ◌+◌, ◌-◌, ◌*◌, ◌^◌, ◌≤◌, ◌<◌, min, List, [], ◌∷◌, ◌++◌, arith, refl, ap, ◌∙◌, Bool, true, false, Option, Some, None}
 use Rattle.std.proofs.Common.{Result, Ok, Err, if◌then◌else◌, length}
 use Rattle.prettyless_model.specs.declared.options.RenderOptions.{RenderOptions}
 use Rattle.prettyless_model.specs.declared.options.IndentationPolicy.{IndentationPolicy}
@@ -19,7 +19,7 @@ use Rattle.prettyless_step.specs.Stack.{Task, make_task, follow, nodes}
 use Rattle.prettyless_step.specs.Steps.{Step, Move, Stuck, Choose, step_of, union_step, decided_by_metrics, break_step, at_once}
 use Rattle.prettyless_step.specs.Steps.{counted_payload, rejects_payload, owed}
 use Rattle.prettyless_printer.specs.Points.{Standing, state_at}
-use Rattle.prettyless_printer.specs.Visits.{suffix_depths, Plain, charges, Rise, CountsAtMost, RunCountsAtMost, Visited}
+use Rattle.prettyless_printer.specs.Visits.{suffix_depths, Plain, charges, Rise, CountsAtMost, RunCountsAtMost, Visited, visited_more}
 use Rattle.prettyless_step.specs.Probing.{asked}
 use Rattle.prettyless_step.proofs.Stacks.{nodes-append}
 use Rattle.prettyless_step.proofs.Shown.{step_at, Leads, Asks}
@@ -39,6 +39,17 @@ payload_visits-plus true v w x h k = omega arith
 payload_visits-plus false v w x h k = omega arith
 
 pub ruleset payload_visits = (payload_visits-least, payload_visits-most)
+
+-- a payload that is rejected is counted before nodes are added, or after them
+pub payload_visits-add : (b : Bool) (v w k n : ℕ) → w ≡ counted_payload b v → n ≡ rise k →
+    min (w + n) (2 ^ 64 - 1) ≡ counted_payload b (rise (min (v + k) (2 ^ 64 - 1)))
+payload_visits-add true v w k n h e = omega arith
+payload_visits-add false v w k n h e = omega arith
+
+pub visited_more-zero : (v : Visits) → v.printer < 2 ^ 64 → visited_more 0 v ≡ v
+visited_more-zero v h =
+    let same : min (v.printer + 0) (2 ^ 64 - 1) ≡ v.printer = omega arith in
+    ap (λ (n : ℕ). record v { printer = n }) same
 
 -- what a node asks for is most by it
 pub asked_at_most : (d : Tree) (m : Mode) (k n : ℕ) → size d + k ≤ n → asked d m k ≤ n * probed d

@@ -1,6 +1,6 @@
 -- How many nodes a run visits. Where no line suffix is, each node of the commands is visited at most once by the
 -- printer; a probe visits each node of the commands at most once, and is asked at most once by each node that asks.
-use Rattle.std.specs.Prelude.{◌≡◌, ℕ, ◌+◌, ◌*◌, ◌≤◌, List, [], ◌∷◌, Result, Ok, Err}
+use Rattle.std.specs.Prelude.{◌≡◌, ℕ, ◌+◌, ◌-◌, ◌*◌, ◌^◌, ◌≤◌, min, List, [], ◌∷◌, Result, Ok, Err}
 use Rattle.prettyless_sink.specs.declared.visits.Visits.{Visits}
 use Rattle.prettyless_model.specs.Tree.{Tree, size, probed}
 use Rattle.prettyless_model.specs.Content.{suffix_depth}
@@ -24,6 +24,10 @@ pub record Plain (p : Standing) : Type 0 where
 abbrev pub charges : ℕ → List Task → ℕ
 charges n [] = 0
 charges n (t ∷ ts) = n * probed t.tree + charges n ts
+
+-- the visits with n more nodes of the printer, in a count that stays at its greatest value
+abbrev pub visited_more : ℕ → Visits → Visits
+visited_more n v = record v { printer = min (v.printer + n) (2 ^ 64 - 1) }
 
 -- no count fell
 pub record Rise (v w : Visits) : Type 0 where

@@ -1,9 +1,9 @@
 //! A turn: a command is taken and stepped, and so is each that comes in hand; the last one is written.
-ghost use Rattle.std.specs.Prelude.{◌<◌, [], length, IfOk, OnOk};
+ghost use Rattle.std.specs.Prelude.{◌≡◌, ◌<◌, [], length, IfOk, OnOk};
 ghost use Rattle.prettyless_step.specs.Printing.{tasks_of};
 ghost use Rattle.prettyless_step.specs.Sums.{IsSummed};
 ghost use Rattle.prettyless_printer.specs.Points.{point, seen, standing};
-ghost use Rattle.prettyless_printer.specs.Visits.{Plain};
+ghost use Rattle.prettyless_printer.specs.Visits.{Plain, visited_more};
 ghost use Rattle.prettyless_printer.specs.Spending.{Spends, after_turn, left, rule_of};
 ghost use Rattle.prettyless_printer.specs.Turns.{Advances, StopsPast};
 
@@ -17,6 +17,14 @@ use prettyless_step::piece::write_piece;
 use prettyless_step::printer::{Printer, StepResult};
 use prettyless_step::step::step;
 use prettyless_step::walk::Walk;
+
+// Adds so many nodes to those that the printer visited.
+#[inline(always)]
+fn count_more(visits: &mut Visits, count: u64)
+    ensures more { visits.new ≡ visited_more count visits.old }
+{
+    visits.printer = visits.printer.saturating_add(count);
+}
 
 /// Takes the next command, goes on with what is in hand down to a node that leads to no other, and writes what that one gives.
 /// Each of these nodes is a visit, and so is a payload that a step rejects. Before a node that asks a probe it stops if probes have
@@ -46,13 +54,17 @@ pub fn turn<N: Walk, W: Render>(
     let mut indent = command.indent;
     let mut mode = command.mode;
     let mut node = command.node;
+    // Once it is read, it is known to be a number of 64 bits.
+    let _visited = visits.printer;
+    let mut count = 0;
     'down: loop {
-        let before = visits.printer;
-        visits.printer = one_more(before);
         match step(printer, indent, mode, &node, limit, visits) {
-            Err(e) => return Err(RenderError::Memory(e)),
+            Err(e) => {
+                count_more(visits, one_more(count));
+                return Err(RenderError::Memory(e));
+            }
             Ok(StepResult::Shift) => {
-                visits.printer = before;
+                count_more(visits, count);
                 return match printer.commands.push(indent, mode, node) {
                     Ok(()) => Ok(TurnResult::Shift),
                     Err(e) => Err(RenderError::Memory(e)),
@@ -61,24 +73,35 @@ pub fn turn<N: Walk, W: Render>(
             Ok(StepResult::Descend(next_indent, next)) => {
                 indent = next_indent;
                 node = next;
+                count = one_more(count);
             }
             Ok(StepResult::DescendFlat(next_indent, next)) => {
                 indent = next_indent;
                 mode = Mode::Flat;
                 node = next;
+                count = one_more(count);
             }
             Ok(StepResult::DescendTexts(_, next)) => {
+                count_more(visits, one_more(count));
                 return match lay_texts(printer, out, next, visits) {
                     Ok(()) => Ok(TurnResult::Complete),
                     Err(e) => Err(e),
                 };
             }
-            Ok(StepResult::Silent) => return Ok(TurnResult::Complete),
-            Ok(StepResult::Failed) => return Ok(TurnResult::Failed),
+            Ok(StepResult::Silent) => {
+                count_more(visits, one_more(count));
+                return Ok(TurnResult::Complete);
+            }
+            Ok(StepResult::Failed) => {
+                count_more(visits, one_more(count));
+                return Ok(TurnResult::Failed);
+            }
             Ok(StepResult::Choice(indent, first, second)) => {
+                count_more(visits, one_more(count));
                 return Ok(TurnResult::Choice(indent, first, second));
             }
             Ok(StepResult::Emit(piece)) => {
+                count_more(visits, one_more(count));
                 return match write_piece(out, piece) {
                     Ok(()) => Ok(TurnResult::Complete),
                     Err(e) => Err(RenderError::Sink(e)),

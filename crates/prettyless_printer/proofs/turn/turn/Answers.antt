@@ -1,21 +1,22 @@
 use Rattle.std.proofs.Common.{[], Result, subst, length, ap, append-nil, arith, refl, sym}
 use Rattle.prettyless_sink.specs.Sink.{known}
-use Rattle.prettyless_sink.specs.declared.visits.Visits.{Visits}
 use Rattle.prettyless_model.specs.declared.mode.Mode.TheVariants.{Flat}
 use Rattle.prettyless_step.specs.Stack.{stack_of, task, trees}
 use Rattle.prettyless_step.specs.declared.queue.Queue.{Queue}
 use Rattle.prettyless_step.specs.Piece.{piece_bytes}
-use Rattle.prettyless_step.specs.Printing.{IsStepped, IsStopped}
+use Rattle.prettyless_step.specs.Printing.{IsStepped}
 use Rattle.prettyless_step.specs.declared.printer.StepResult.TheVariants as step_result
 use Rattle.prettyless_sink.specs.declared.error.RenderError.{RenderError}
 use Rattle.prettyless_printer.specs.Turns.{Advances}
 use Rattle.prettyless_printer.specs.Laying.{ends_turn}
 use Rattle.prettyless_printer.specs.Points.{point, seen, standing}
+use Rattle.prettyless_printer.specs.Visits.{visited_more}
 use Rattle.prettyless_printer.proofs.Trying.{grows_same}
 use Rattle.prettyless_printer.proofs.Hands.{goes_down, in_hand, shown, visit}
 use Rattle.prettyless_printer.proofs.Standings.{wrote}
+use Rattle.prettyless_printer.proofs.Visits.{visited_more-zero}
 use Rattle.prettyless_printer.proofs.Spending.{spends_all, spends_begun, spends_broke, spends_chosen, spends_down, spends_failed}
-use Rattle.prettyless_printer.proofs.Spending.{spends_stopped, spends_went, takes}
+use Rattle.prettyless_printer.proofs.Spending.{spends_went, takes}
 use Rattle.prettyless_printer.proofs.Laying.{laying_begins, spends_laid}
 use Rattle.prettyless_printer.proofs.Advancing.{advances_chosen, advances_failed, advances_refused, advances_sink_failed, advances_went}
 use Rattle.prettyless_printer.proofs.turn.turn.Goals as goal
@@ -26,24 +27,30 @@ unreachable-requires g c =
 
 pub down-init : goal.down-init
 down-init g c =
+    let f = g.N.Walk.tree in
     let p = c.args.printer.now in
+    let v = c.args.visits.now in
+    let none = visited_more-zero v (omega arith) in
     record {
-      hand = in_hand (point g.N.Walk.tree p (seen g.W.Render.bytes g.W.Render.failures g.W.Render.lender c.args.out.now) c.args.visits.now)
-          (standing g.N.Walk.tree (record p { commands = c.pop.new.self }))
-          (task g.N.Walk.tree c.in-Some.command) c.in-Some.ensures.popped refl refl (grows_same (standing g.N.Walk.tree p));
+      hand = rw none
+          (in_hand (point f p (seen g.W.Render.bytes g.W.Render.failures g.W.Render.lender c.args.out.now) v)
+          (standing f (record p { commands = c.pop.new.self })) (task f c.in-Some.command) c.in-Some.ensures.popped refl refl
+          (grows_same (standing f p)));
       summed = c.pop.ensures.summed c.requires.summed;
-      spends = λ plain. spends_begun _ (standing g.N.Walk.tree p) (standing g.N.Walk.tree (record p { commands = c.pop.new.self }))
-          (task g.N.Walk.tree c.in-Some.command) c.args.visits.now c.in-Some.ensures.popped refl;
+      spends = λ plain. rw none
+          (spends_begun _ (standing f p) (standing f (record p { commands = c.pop.new.self })) (task f c.in-Some.command) v
+          c.in-Some.ensures.popped refl);
     }
 
 pub down-preserved-in-Ok-Descend : goal.down-preserved-in-Ok-Descend
 down-preserved-in-Ok-Descend g c =
     let f = g.N.Walk.tree in
     let q = c.step.new.printer in
-    let x = c.step.new.visits in
+    let n = c.one_more-count.result in
+    let x = visited_more n c.step.new.visits in
     let hand = c.down.invariant.hand in
-    let one = visit f c.down.printer x c.one_more-visits.result hand c.one_more-visits.ensures.one c.one_more-visits.ensures.rises
-    c.step.ensures.printer c.step.ensures.rises c.step.ensures.counted in
+    let one = visit f c.down.count c.down.visits c.down.printer c.step.new.visits n hand c.one_more-count.ensures.one c.step.ensures.printer
+    c.step.ensures.rises c.step.ensures.counted in
     let took = takes f g.N.Walk.HAS_SUMMARIES c.args.limit c.down.printer x hand one
     (c.in-Ok-Descend.ensures.within (subst IsStepped (sym c.in-Ok-Descend.field-0-is) tt)) c.step.ensures.counted c.step.ensures.few
     c.down.invariant.spends in
@@ -63,10 +70,11 @@ pub down-preserved : goal.down-preserved
 down-preserved g c =
     let f = g.N.Walk.tree in
     let q = c.step.new.printer in
-    let x = c.step.new.visits in
+    let n = c.one_more-count-in-Ok-DescendFlat.result in
+    let x = visited_more n c.step.new.visits in
     let hand = c.down.invariant.hand in
-    let one = visit f c.down.printer x c.one_more-visits.result hand c.one_more-visits.ensures.one c.one_more-visits.ensures.rises
-    c.step.ensures.printer c.step.ensures.rises c.step.ensures.counted in
+    let one = visit f c.down.count c.down.visits c.down.printer c.step.new.visits n hand c.one_more-count-in-Ok-DescendFlat.ensures.one c.step.ensures.printer
+    c.step.ensures.rises c.step.ensures.counted in
     let took = takes f g.N.Walk.HAS_SUMMARIES c.args.limit c.down.printer x hand one
     (c.in-Ok-DescendFlat.ensures.within (subst IsStepped (sym c.in-Ok-DescendFlat.field-0-is) tt)) c.step.ensures.counted c.step.ensures.few
     c.down.invariant.spends in
@@ -88,16 +96,18 @@ returns-in-Ok-lay_texts-clause-advances g c =
     let f = g.N.Walk.tree in
     let see = seen g.W.Render.bytes g.W.Render.failures g.W.Render.lender in
     let q = c.step.new.printer in
-    let x = c.step.new.visits in
+    let k = c.one_more-in-Ok-DescendTexts.result in
+    let x = visited_more k c.step.new.visits in
     let i = c.in-Ok-DescendTexts.field-0-0 in
     let n = c.in-Ok-DescendTexts.next in
     let hand = c.down.invariant.hand in
-    let one = visit f c.down.printer x c.one_more-visits.result hand c.one_more-visits.ensures.one c.one_more-visits.ensures.rises
-    c.step.ensures.printer c.step.ensures.rises c.step.ensures.counted in
+    let one = visit f c.down.count c.down.visits c.down.printer c.step.new.visits k hand c.one_more-in-Ok-DescendTexts.ensures.one c.step.ensures.printer
+    c.step.ensures.rises c.step.ensures.counted in
+    let lays = rw c.count_more-in-Ok-DescendTexts.ensures.more at c.lay_texts.ensures.lays in
     subst (λ (z : Result (Unit {0}) (RenderError g.row.W-Error.Denot)). Advances f
     (point f c.args.printer.now (see c.args.out.now) c.args.visits.now)
     (point f c.lay_texts.new.printer (see c.lay_texts.new.out) c.lay_texts.new.visits) (ends_turn z)) c.in-Ok-lay_texts.is
-    (c.lay_texts.ensures.lays _ i
+    (lays (point f c.args.printer.now (see c.args.out.now) c.args.visits.now) i
     (laying_begins f c.down.printer q x i n hand one
     (c.in-Ok-DescendTexts.ensures.asked (subst IsStepped (sym c.in-Ok-DescendTexts.field-0-is) tt))
     (shown f c.down.printer q c.in-Ok-DescendTexts.field-0 (step_result.DescendTexts i n) hand c.in-Ok-DescendTexts.field-0-is
@@ -107,20 +117,24 @@ pub returns-in-Ok-lay_texts-clause-spends : goal.returns-in-Ok-lay_texts-clause-
 returns-in-Ok-lay_texts-clause-spends g c =
     let f = g.N.Walk.tree in
     let q = c.step.new.printer in
-    let x = c.step.new.visits in
+    let k = c.one_more-in-Ok-DescendTexts.result in
+    let x = visited_more k c.step.new.visits in
     let i = c.in-Ok-DescendTexts.field-0-0 in
     let n = c.in-Ok-DescendTexts.next in
     let laid = c.lay_texts.ensures in
     let hand = c.down.invariant.hand in
-    let one = visit f c.down.printer x c.one_more-visits.result hand c.one_more-visits.ensures.one c.one_more-visits.ensures.rises
-    c.step.ensures.printer c.step.ensures.rises c.step.ensures.counted in
+    let one = visit f c.down.count c.down.visits c.down.printer c.step.new.visits k hand c.one_more-in-Ok-DescendTexts.ensures.one c.step.ensures.printer
+    c.step.ensures.rises c.step.ensures.counted in
     let took = takes f g.N.Walk.HAS_SUMMARIES c.args.limit c.down.printer x hand one
     (c.in-Ok-DescendTexts.ensures.within (subst IsStepped (sym c.in-Ok-DescendTexts.field-0-is) tt)) c.step.ensures.counted
     c.step.ensures.few
     c.down.invariant.spends in
+    let probes = rw c.count_more-in-Ok-DescendTexts.ensures.more at laid.probes in
+    let rises = rw c.count_more-in-Ok-DescendTexts.ensures.more at laid.rises in
+    let counted = rw c.count_more-in-Ok-DescendTexts.ensures.more at laid.counted in
     λ plain.
     (spends_laid (standing f q) (standing f c.lay_texts.new.printer) c.lay_texts.new.visits (ap (stack_of f) laid.commands)
-    (ap (λ (z : Queue g.row.N.Denot). trees f z.nodes.items) laid.queue) laid.probes laid.rises laid.counted
+    (ap (λ (z : Queue g.row.N.Denot). trees f z.nodes.items) laid.queue) probes rises counted
     (spends_down f c.down.printer q i Flat n took plain c.step.ensures.queue
     (shown f c.down.printer q c.in-Ok-DescendTexts.field-0 (step_result.DescendTexts i n) hand c.in-Ok-DescendTexts.field-0-is
     c.in-Ok-DescendTexts.ensures.step).0))
@@ -130,16 +144,18 @@ returns-in-Err-lay_texts-clause-advances g c =
     let f = g.N.Walk.tree in
     let see = seen g.W.Render.bytes g.W.Render.failures g.W.Render.lender in
     let q = c.step.new.printer in
-    let x = c.step.new.visits in
+    let k = c.one_more-in-Ok-DescendTexts.result in
+    let x = visited_more k c.step.new.visits in
     let i = c.in-Ok-DescendTexts.field-0-0 in
     let n = c.in-Ok-DescendTexts.next in
     let hand = c.down.invariant.hand in
-    let one = visit f c.down.printer x c.one_more-visits.result hand c.one_more-visits.ensures.one c.one_more-visits.ensures.rises
-    c.step.ensures.printer c.step.ensures.rises c.step.ensures.counted in
+    let one = visit f c.down.count c.down.visits c.down.printer c.step.new.visits k hand c.one_more-in-Ok-DescendTexts.ensures.one c.step.ensures.printer
+    c.step.ensures.rises c.step.ensures.counted in
+    let lays = rw c.count_more-in-Ok-DescendTexts.ensures.more at c.lay_texts.ensures.lays in
     subst (λ (z : Result (Unit {0}) (RenderError g.row.W-Error.Denot)). Advances f
     (point f c.args.printer.now (see c.args.out.now) c.args.visits.now)
     (point f c.lay_texts.new.printer (see c.lay_texts.new.out) c.lay_texts.new.visits) (ends_turn z)) c.in-Err-lay_texts.is
-    (c.lay_texts.ensures.lays _ i
+    (lays (point f c.args.printer.now (see c.args.out.now) c.args.visits.now) i
     (laying_begins f c.down.printer q x i n hand one
     (c.in-Ok-DescendTexts.ensures.asked (subst IsStepped (sym c.in-Ok-DescendTexts.field-0-is) tt))
     (shown f c.down.printer q c.in-Ok-DescendTexts.field-0 (step_result.DescendTexts i n) hand c.in-Ok-DescendTexts.field-0-is
@@ -149,20 +165,24 @@ pub returns-in-Err-lay_texts-clause-spends : goal.returns-in-Err-lay_texts-claus
 returns-in-Err-lay_texts-clause-spends g c =
     let f = g.N.Walk.tree in
     let q = c.step.new.printer in
-    let x = c.step.new.visits in
+    let k = c.one_more-in-Ok-DescendTexts.result in
+    let x = visited_more k c.step.new.visits in
     let i = c.in-Ok-DescendTexts.field-0-0 in
     let n = c.in-Ok-DescendTexts.next in
     let laid = c.lay_texts.ensures in
     let hand = c.down.invariant.hand in
-    let one = visit f c.down.printer x c.one_more-visits.result hand c.one_more-visits.ensures.one c.one_more-visits.ensures.rises
-    c.step.ensures.printer c.step.ensures.rises c.step.ensures.counted in
+    let one = visit f c.down.count c.down.visits c.down.printer c.step.new.visits k hand c.one_more-in-Ok-DescendTexts.ensures.one c.step.ensures.printer
+    c.step.ensures.rises c.step.ensures.counted in
     let took = takes f g.N.Walk.HAS_SUMMARIES c.args.limit c.down.printer x hand one
     (c.in-Ok-DescendTexts.ensures.within (subst IsStepped (sym c.in-Ok-DescendTexts.field-0-is) tt)) c.step.ensures.counted
     c.step.ensures.few
     c.down.invariant.spends in
+    let probes = rw c.count_more-in-Ok-DescendTexts.ensures.more at laid.probes in
+    let rises = rw c.count_more-in-Ok-DescendTexts.ensures.more at laid.rises in
+    let counted = rw c.count_more-in-Ok-DescendTexts.ensures.more at laid.counted in
     λ plain.
     spends_all (spends_laid (standing f q) (standing f c.lay_texts.new.printer) c.lay_texts.new.visits (ap (stack_of f) laid.commands)
-    (ap (λ (z : Queue g.row.N.Denot). trees f z.nodes.items) laid.queue) laid.probes laid.rises laid.counted
+    (ap (λ (z : Queue g.row.N.Denot). trees f z.nodes.items) laid.queue) probes rises counted
     (spends_down f c.down.printer q i Flat n took plain c.step.ensures.queue
     (shown f c.down.printer q c.in-Ok-DescendTexts.field-0 (step_result.DescendTexts i n) hand c.in-Ok-DescendTexts.field-0-is
     c.in-Ok-DescendTexts.ensures.step).0))
@@ -172,170 +192,189 @@ returns-in-Ok-Silent-clause-advances g c =
     let f = g.N.Walk.tree in
     let see = seen g.W.Render.bytes g.W.Render.failures g.W.Render.lender in
     let q = c.step.new.printer in
-    let x = c.step.new.visits in
+    let n = c.one_more-in-Ok-Silent.result in
+    let x = visited_more n c.step.new.visits in
     let hand = c.down.invariant.hand in
-    let one = visit f c.down.printer x c.one_more-visits.result hand c.one_more-visits.ensures.one c.one_more-visits.ensures.rises
-    c.step.ensures.printer c.step.ensures.rises c.step.ensures.counted in
-    advances_went f (standing f q) (see c.down.out) x [] hand one
+    let one = visit f c.down.count c.down.visits c.down.printer c.step.new.visits n hand c.one_more-in-Ok-Silent.ensures.one c.step.ensures.printer
+    c.step.ensures.rises c.step.ensures.counted in
+    rw c.count_more-in-Ok-Silent.ensures.more
+    (advances_went f (standing f q) (see c.down.out) x [] hand one
     (c.in-Ok-Silent.ensures.asked (subst IsStepped (sym c.in-Ok-Silent.field-0-is) tt))
     (wrote f _ [] c.down.printer q (shown f c.down.printer q c.in-Ok-Silent.field-0 step_result.Silent hand c.in-Ok-Silent.field-0-is
     c.in-Ok-Silent.ensures.step)) refl
-    (λ is_known. (is_known, (sym (append-nil (known (g.W.Render.bytes c.down.out))), refl)))
+    (λ is_known. (is_known, (sym (append-nil (known (g.W.Render.bytes c.down.out))), refl))))
 
 pub returns-in-Ok-Failed-clause-advances : goal.returns-in-Ok-Failed-clause-advances
 returns-in-Ok-Failed-clause-advances g c =
     let f = g.N.Walk.tree in
     let q = c.step.new.printer in
-    let x = c.step.new.visits in
+    let n = c.one_more-in-Ok-Failed.result in
+    let x = visited_more n c.step.new.visits in
     let hand = c.down.invariant.hand in
-    let one = visit f c.down.printer x c.one_more-visits.result hand c.one_more-visits.ensures.one c.one_more-visits.ensures.rises
-    c.step.ensures.printer c.step.ensures.rises c.step.ensures.counted in
-    advances_failed f c.down.printer q x hand one
-    (shown f c.down.printer q c.in-Ok-Failed.field-0 step_result.Failed hand c.in-Ok-Failed.field-0-is c.in-Ok-Failed.ensures.step)
+    let one = visit f c.down.count c.down.visits c.down.printer c.step.new.visits n hand c.one_more-in-Ok-Failed.ensures.one c.step.ensures.printer
+    c.step.ensures.rises c.step.ensures.counted in
+    rw c.count_more-in-Ok-Failed.ensures.more
+    (advances_failed f c.down.printer q x hand one
+    (shown f c.down.printer q c.in-Ok-Failed.field-0 step_result.Failed hand c.in-Ok-Failed.field-0-is c.in-Ok-Failed.ensures.step))
 
 pub returns-in-Ok-Choice-clause-advances : goal.returns-in-Ok-Choice-clause-advances
 returns-in-Ok-Choice-clause-advances g c =
     let f = g.N.Walk.tree in
     let q = c.step.new.printer in
-    let x = c.step.new.visits in
+    let n = c.one_more-in-Ok-Choice.result in
+    let x = visited_more n c.step.new.visits in
     let hand = c.down.invariant.hand in
-    let one = visit f c.down.printer x c.one_more-visits.result hand c.one_more-visits.ensures.one c.one_more-visits.ensures.rises
-    c.step.ensures.printer c.step.ensures.rises c.step.ensures.counted in
-    advances_chosen f c.down.printer q x c.in-Ok-Choice.indent c.in-Ok-Choice.first c.in-Ok-Choice.second hand one
+    let one = visit f c.down.count c.down.visits c.down.printer c.step.new.visits n hand c.one_more-in-Ok-Choice.ensures.one c.step.ensures.printer
+    c.step.ensures.rises c.step.ensures.counted in
+    rw c.count_more-in-Ok-Choice.ensures.more
+    (advances_chosen f c.down.printer q x c.in-Ok-Choice.indent c.in-Ok-Choice.first c.in-Ok-Choice.second hand one
     (c.in-Ok-Choice.ensures.asked (subst IsStepped (sym c.in-Ok-Choice.field-0-is) tt))
     (shown f c.down.printer q c.in-Ok-Choice.field-0 (step_result.Choice c.in-Ok-Choice.indent c.in-Ok-Choice.first c.in-Ok-Choice.second)
     hand
-    c.in-Ok-Choice.field-0-is c.in-Ok-Choice.ensures.step)
+    c.in-Ok-Choice.field-0-is c.in-Ok-Choice.ensures.step))
 
 pub returns-in-Ok-write_piece-clause-advances : goal.returns-in-Ok-write_piece-clause-advances
 returns-in-Ok-write_piece-clause-advances g c =
     let f = g.N.Walk.tree in
     let see = seen g.W.Render.bytes g.W.Render.failures g.W.Render.lender in
     let q = c.step.new.printer in
-    let x = c.step.new.visits in
+    let n = c.one_more-in-Ok-Emit.result in
+    let x = visited_more n c.step.new.visits in
     let hand = c.down.invariant.hand in
-    let one = visit f c.down.printer x c.one_more-visits.result hand c.one_more-visits.ensures.one c.one_more-visits.ensures.rises
-    c.step.ensures.printer c.step.ensures.rises c.step.ensures.counted in
-    advances_went f (standing f q) (see c.write_piece.new.out) x (piece_bytes c.in-Ok-Emit.piece) hand one
+    let one = visit f c.down.count c.down.visits c.down.printer c.step.new.visits n hand c.one_more-in-Ok-Emit.ensures.one c.step.ensures.printer
+    c.step.ensures.rises c.step.ensures.counted in
+    rw c.count_more-in-Ok-Emit.ensures.more
+    (advances_went f (standing f q) (see c.write_piece.new.out) x (piece_bytes c.in-Ok-Emit.piece) hand one
     (c.in-Ok-Emit.ensures.asked (subst IsStepped (sym c.in-Ok-Emit.field-0-is) tt))
     (wrote f _ (piece_bytes c.in-Ok-Emit.piece) c.down.printer q
     (shown f c.down.printer q c.in-Ok-Emit.field-0 (step_result.Emit c.in-Ok-Emit.piece) hand c.in-Ok-Emit.field-0-is
     c.in-Ok-Emit.ensures.step))
-    c.write_piece.ensures.same_lender c.in-Ok-write_piece.ensures.ok
+    c.write_piece.ensures.same_lender c.in-Ok-write_piece.ensures.ok)
 
 pub returns-in-Err-clause-advances : goal.returns-in-Err-clause-advances
 returns-in-Err-clause-advances g c =
     let f = g.N.Walk.tree in
     let q = c.step.new.printer in
-    let x = c.step.new.visits in
+    let n = c.one_more.result in
+    let x = visited_more n c.step.new.visits in
     let hand = c.down.invariant.hand in
-    let one = visit f c.down.printer x c.one_more-visits.result hand c.one_more-visits.ensures.one c.one_more-visits.ensures.rises
-    c.step.ensures.printer c.step.ensures.rises c.step.ensures.counted in
-    advances_refused f (standing f q) x c.in-Err.e hand one
+    let one = visit f c.down.count c.down.visits c.down.printer c.step.new.visits n hand c.one_more.ensures.one c.step.ensures.printer
+    c.step.ensures.rises c.step.ensures.counted in
+    rw c.count_more.ensures.more
+    (advances_refused f (standing f q) x c.in-Err.e hand one)
 
 pub returns-in-Err-write_piece-clause-advances : goal.returns-in-Err-write_piece-clause-advances
 returns-in-Err-write_piece-clause-advances g c =
     let f = g.N.Walk.tree in
     let see = seen g.W.Render.bytes g.W.Render.failures g.W.Render.lender in
     let q = c.step.new.printer in
-    let x = c.step.new.visits in
+    let n = c.one_more-in-Ok-Emit.result in
+    let x = visited_more n c.step.new.visits in
     let hand = c.down.invariant.hand in
-    let one = visit f c.down.printer x c.one_more-visits.result hand c.one_more-visits.ensures.one c.one_more-visits.ensures.rises
-    c.step.ensures.printer c.step.ensures.rises c.step.ensures.counted in
-    advances_sink_failed f (standing f q) (see c.write_piece.new.out) x (piece_bytes c.in-Ok-Emit.piece) c.in-Err-write_piece.e hand one
+    let one = visit f c.down.count c.down.visits c.down.printer c.step.new.visits n hand c.one_more-in-Ok-Emit.ensures.one c.step.ensures.printer
+    c.step.ensures.rises c.step.ensures.counted in
+    rw c.count_more-in-Ok-Emit.ensures.more
+    (advances_sink_failed f (standing f q) (see c.write_piece.new.out) x (piece_bytes c.in-Ok-Emit.piece) c.in-Err-write_piece.e hand one
     (wrote f _ (piece_bytes c.in-Ok-Emit.piece) c.down.printer q
     (shown f c.down.printer q c.in-Ok-Emit.field-0 (step_result.Emit c.in-Ok-Emit.piece) hand c.in-Ok-Emit.field-0-is
     c.in-Ok-Emit.ensures.step))
-    c.write_piece.ensures.same_lender c.in-Err-write_piece.ensures.err
+    c.write_piece.ensures.same_lender c.in-Err-write_piece.ensures.err)
 
 pub returns-in-Err-clause-spends : goal.returns-in-Err-clause-spends
 returns-in-Err-clause-spends g c =
     let f = g.N.Walk.tree in
-    let x = c.step.new.visits in
+    let n = c.one_more.result in
+    let x = visited_more n c.step.new.visits in
     let hand = c.down.invariant.hand in
-    let one = visit f c.down.printer x c.one_more-visits.result hand c.one_more-visits.ensures.one c.one_more-visits.ensures.rises
-    c.step.ensures.printer c.step.ensures.rises c.step.ensures.counted in
+    let one = visit f c.down.count c.down.visits c.down.printer c.step.new.visits n hand c.one_more.ensures.one c.step.ensures.printer
+    c.step.ensures.rises c.step.ensures.counted in
     let took = takes f g.N.Walk.HAS_SUMMARIES c.args.limit c.down.printer x hand one (c.in-Err.ensures.within tt) c.step.ensures.counted
     c.step.ensures.few c.down.invariant.spends in
-    λ plain. spends_broke f c.down.printer took plain
+    rw c.count_more.ensures.more
+    (λ plain. spends_broke f c.down.printer took plain)
 
 pub returns-in-Ok-Silent-clause-spends : goal.returns-in-Ok-Silent-clause-spends
 returns-in-Ok-Silent-clause-spends g c =
     let f = g.N.Walk.tree in
     let q = c.step.new.printer in
-    let x = c.step.new.visits in
+    let n = c.one_more-in-Ok-Silent.result in
+    let x = visited_more n c.step.new.visits in
     let hand = c.down.invariant.hand in
-    let one = visit f c.down.printer x c.one_more-visits.result hand c.one_more-visits.ensures.one c.one_more-visits.ensures.rises
-    c.step.ensures.printer c.step.ensures.rises c.step.ensures.counted in
+    let one = visit f c.down.count c.down.visits c.down.printer c.step.new.visits n hand c.one_more-in-Ok-Silent.ensures.one c.step.ensures.printer
+    c.step.ensures.rises c.step.ensures.counted in
     let took = takes f g.N.Walk.HAS_SUMMARIES c.args.limit c.down.printer x hand one
     (c.in-Ok-Silent.ensures.within (subst IsStepped (sym c.in-Ok-Silent.field-0-is) tt)) c.step.ensures.counted c.step.ensures.few
     c.down.invariant.spends in
-    λ plain.
+    rw c.count_more-in-Ok-Silent.ensures.more
+    (λ plain.
     spends_went f c.down.printer q [] took plain c.step.ensures.queue
     (wrote f _ [] c.down.printer q (shown f c.down.printer q c.in-Ok-Silent.field-0 step_result.Silent hand c.in-Ok-Silent.field-0-is
-    c.in-Ok-Silent.ensures.step))
+    c.in-Ok-Silent.ensures.step)))
 
 pub returns-in-Ok-Failed-clause-spends : goal.returns-in-Ok-Failed-clause-spends
 returns-in-Ok-Failed-clause-spends g c =
     let f = g.N.Walk.tree in
     let q = c.step.new.printer in
-    let x = c.step.new.visits in
+    let n = c.one_more-in-Ok-Failed.result in
+    let x = visited_more n c.step.new.visits in
     let hand = c.down.invariant.hand in
-    let one = visit f c.down.printer x c.one_more-visits.result hand c.one_more-visits.ensures.one c.one_more-visits.ensures.rises
-    c.step.ensures.printer c.step.ensures.rises c.step.ensures.counted in
+    let one = visit f c.down.count c.down.visits c.down.printer c.step.new.visits n hand c.one_more-in-Ok-Failed.ensures.one c.step.ensures.printer
+    c.step.ensures.rises c.step.ensures.counted in
     let took = takes f g.N.Walk.HAS_SUMMARIES c.args.limit c.down.printer x hand one
     (c.in-Ok-Failed.ensures.within (subst IsStepped (sym c.in-Ok-Failed.field-0-is) tt)) c.step.ensures.counted c.step.ensures.few
     c.down.invariant.spends in
-    λ plain. spends_failed f c.down.printer q took plain
-    (shown f c.down.printer q c.in-Ok-Failed.field-0 step_result.Failed hand c.in-Ok-Failed.field-0-is c.in-Ok-Failed.ensures.step)
+    rw c.count_more-in-Ok-Failed.ensures.more
+    (λ plain. spends_failed f c.down.printer q took plain
+    (shown f c.down.printer q c.in-Ok-Failed.field-0 step_result.Failed hand c.in-Ok-Failed.field-0-is c.in-Ok-Failed.ensures.step))
 
 pub returns-in-Ok-Choice-clause-spends : goal.returns-in-Ok-Choice-clause-spends
 returns-in-Ok-Choice-clause-spends g c =
     let f = g.N.Walk.tree in
     let q = c.step.new.printer in
-    let x = c.step.new.visits in
+    let n = c.one_more-in-Ok-Choice.result in
+    let x = visited_more n c.step.new.visits in
     let hand = c.down.invariant.hand in
-    let one = visit f c.down.printer x c.one_more-visits.result hand c.one_more-visits.ensures.one c.one_more-visits.ensures.rises
-    c.step.ensures.printer c.step.ensures.rises c.step.ensures.counted in
+    let one = visit f c.down.count c.down.visits c.down.printer c.step.new.visits n hand c.one_more-in-Ok-Choice.ensures.one c.step.ensures.printer
+    c.step.ensures.rises c.step.ensures.counted in
     let took = takes f g.N.Walk.HAS_SUMMARIES c.args.limit c.down.printer x hand one
     (c.in-Ok-Choice.ensures.within (subst IsStepped (sym c.in-Ok-Choice.field-0-is) tt)) c.step.ensures.counted c.step.ensures.few
     c.down.invariant.spends in
-    λ plain.
+    rw c.count_more-in-Ok-Choice.ensures.more
+    (λ plain.
     spends_chosen f c.down.printer q c.in-Ok-Choice.indent c.in-Ok-Choice.first c.in-Ok-Choice.second took plain
     (shown f c.down.printer q c.in-Ok-Choice.field-0 (step_result.Choice c.in-Ok-Choice.indent c.in-Ok-Choice.first c.in-Ok-Choice.second)
     hand
-    c.in-Ok-Choice.field-0-is c.in-Ok-Choice.ensures.step)
+    c.in-Ok-Choice.field-0-is c.in-Ok-Choice.ensures.step))
 
 pub returns-in-Ok-write_piece-clause-spends : goal.returns-in-Ok-write_piece-clause-spends
 returns-in-Ok-write_piece-clause-spends g c =
     let f = g.N.Walk.tree in
     let q = c.step.new.printer in
-    let x = c.step.new.visits in
+    let n = c.one_more-in-Ok-Emit.result in
+    let x = visited_more n c.step.new.visits in
     let hand = c.down.invariant.hand in
-    let one = visit f c.down.printer x c.one_more-visits.result hand c.one_more-visits.ensures.one c.one_more-visits.ensures.rises
-    c.step.ensures.printer c.step.ensures.rises c.step.ensures.counted in
+    let one = visit f c.down.count c.down.visits c.down.printer c.step.new.visits n hand c.one_more-in-Ok-Emit.ensures.one c.step.ensures.printer
+    c.step.ensures.rises c.step.ensures.counted in
     let took = takes f g.N.Walk.HAS_SUMMARIES c.args.limit c.down.printer x hand one
     (c.in-Ok-Emit.ensures.within (subst IsStepped (sym c.in-Ok-Emit.field-0-is) tt)) c.step.ensures.counted c.step.ensures.few
     c.down.invariant.spends in
     let bytes = piece_bytes c.in-Ok-Emit.piece in
-    λ plain.
+    rw c.count_more-in-Ok-Emit.ensures.more
+    (λ plain.
     spends_went f c.down.printer q bytes took plain c.step.ensures.queue
     (wrote f _ bytes c.down.printer q (shown f c.down.printer q c.in-Ok-Emit.field-0 (step_result.Emit c.in-Ok-Emit.piece) hand
-    c.in-Ok-Emit.field-0-is c.in-Ok-Emit.ensures.step))
+    c.in-Ok-Emit.field-0-is c.in-Ok-Emit.ensures.step)))
 
 pub returns-in-Err-write_piece-clause-spends : goal.returns-in-Err-write_piece-clause-spends
 returns-in-Err-write_piece-clause-spends g c =
     let f = g.N.Walk.tree in
-    let x = c.step.new.visits in
+    let n = c.one_more-in-Ok-Emit.result in
+    let x = visited_more n c.step.new.visits in
     let hand = c.down.invariant.hand in
-    let one = visit f c.down.printer x c.one_more-visits.result hand c.one_more-visits.ensures.one c.one_more-visits.ensures.rises
-    c.step.ensures.printer c.step.ensures.rises c.step.ensures.counted in
+    let one = visit f c.down.count c.down.visits c.down.printer c.step.new.visits n hand c.one_more-in-Ok-Emit.ensures.one c.step.ensures.printer
+    c.step.ensures.rises c.step.ensures.counted in
     let took = takes f g.N.Walk.HAS_SUMMARIES c.args.limit c.down.printer x hand one
     (c.in-Ok-Emit.ensures.within (subst IsStepped (sym c.in-Ok-Emit.field-0-is) tt)) c.step.ensures.counted c.step.ensures.few
     c.down.invariant.spends in
-    λ plain. spends_broke f c.down.printer took plain
-
-pub returns-in-Ok-clause-past : goal.returns-in-Ok-clause-past
-returns-in-Ok-clause-past g c =
-    let past = c.in-Ok-Shift.ensures.past (subst IsStopped (sym c.in-Ok-Shift.field-0-is) tt) in
-    (omega (arith, past.0, ap (λ (v : Visits). v.probes) past.2), omega (arith, past.1, ap (λ (v : Visits). v.probes) past.2))
+    rw c.count_more-in-Ok-Emit.ensures.more
+    (λ plain. spends_broke f c.down.printer took plain)

@@ -4,7 +4,7 @@ use Rattle.prettyless_step.specs.Steps.{work}
 use Rattle.prettyless_step.specs.Sums.{IsSummed}
 use Rattle.prettyless_step.specs.Printing.{state_of, tasks_of}
 use Rattle.prettyless_printer.specs.Points.{point, seen, standing}
-use Rattle.prettyless_printer.specs.Visits.{Plain}
+use Rattle.prettyless_printer.specs.Visits.{Plain, visited_more}
 use Rattle.prettyless_printer.specs.Spending.{Spends, left, rule_of}
 use Rattle.prettyless_printer.proofs.Hands.{InHand}
 use Rattle.prettyless_printer.proofs.Spending.{left_with}
@@ -16,11 +16,11 @@ invariant-down g l =
     let sink = seen g.W.Render.bytes g.W.Render.failures g.W.Render.lender in
     record {
       hand : InHand (point f l.fn.printer (sink l.fn.out) l.fn.visits) (make_task l.indent l.mode (f l.node))
-          (point f l.printer (sink l.out) l.visits);
+          (point f l.printer (sink l.out) (visited_more l.count l.visits));
       summed : IsSummed g.N.Walk.HAS_SUMMARIES f l.printer.commands;
       spends : Plain (standing f l.fn.printer) → Spends (rule_of g.N.Walk.HAS_SUMMARIES l.fn.printer.options l.limit)
           (left (standing f l.fn.printer) [] l.fn.visits)
-          (left_with (make_task l.indent l.mode (f l.node)) (standing f l.printer) l.visits);
+          (left_with (make_task l.indent l.mode (f l.node)) (standing f l.printer) (visited_more l.count l.visits));
     }
 
 abbrev pub decreases-down : goal.decreases-down
