@@ -419,8 +419,11 @@ class Memory(unittest.TestCase):
 
 
 class Texts:
-    """What the formatter of a language does. A class of tests has the formatter and its error, a short text with its
-    layout, a text with a lone surrogate, and texts that are refused, with the place and what was expected there."""
+    """What the formatters of both languages do.
+
+    A class of tests has a formatter and its error, a short text with its layout, a text with a lone surrogate, and
+    texts that are refused, with the place and what was expected there.
+    """
 
     def test_errors(self):
         for text, (row, column, expected) in self.refused.items():

@@ -83,7 +83,7 @@ fn limit_of(limit: Option<NonZeroUsize>) -> usize {
     limit.map_or(0, NonZeroUsize::get)
 }
 
-/// What a call answers: it writes its count to the place that it gets.
+/// The answer of a call, which writes how many bytes it has written.
 fn answer(call: impl FnOnce(&mut usize) -> u32) -> Answer {
     let mut written = 0;
     let status = call(&mut written);
