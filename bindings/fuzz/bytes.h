@@ -26,12 +26,27 @@ static inline void reserve(Bytes *bytes, size_t more)
     }
 }
 
+/* Leaves no bytes; `at` is not null after it. */
+static inline void clear(Bytes *bytes)
+{
+    bytes->length = 0;
+    reserve(bytes, 1);
+}
+
 static inline void put_all(Bytes *bytes, const void *from, size_t count)
 {
     reserve(bytes, count);
     if (count > 0) {
         memcpy(bytes->at + bytes->length, from, count);
         bytes->length += count;
+    }
+}
+
+/* The same so many times. */
+static inline void put_times(Bytes *bytes, const void *from, size_t count, size_t times)
+{
+    for (size_t i = 0; i < times; i++) {
+        put_all(bytes, from, count);
     }
 }
 

@@ -123,13 +123,6 @@ static const Input inputs[] = {
 static const Input indented_input = {
     "100,000 arrays in arrays, each further in", NOTHING, TEXT("["), 100000, TEXT("]"), 100000, ONLY(PL_PAST_LIMIT), JSON};
 
-static void put_times(Bytes *bytes, const char *piece, size_t length, size_t times)
-{
-    for (size_t i = 0; i < times; i++) {
-        put_all(bytes, piece, length);
-    }
-}
-
 static Bytes bytes_of(const Input *input)
 {
     Bytes bytes = {0};

@@ -23,6 +23,31 @@
 
 enum { PROGRAMS, DAMAGED, JSON_TEXTS, TOML_TEXTS };
 
+/* Programs that are made in one way. */
+typedef struct {
+    const char *name;
+    uint64_t stream;
+    bool are_whole;
+    void (*write)(Random *, Program *);
+} Programs;
+
+static const Programs whole_programs = {"a program", PROGRAMS, true, write_program};
+static const Programs damaged_programs = {"a damaged program", DAMAGED, false, write_damaged};
+
+/* Texts of one language. */
+typedef struct {
+    const char *name;
+    uint64_t stream;
+    Kind kind;
+    /* One text in so many is left whole. */
+    size_t whole_in;
+    void (*write)(Random *, Bytes *);
+    void (*damage)(Random *, Bytes *);
+} Texts;
+
+static const Texts json_texts = {"a JSON text", JSON_TEXTS, JSON, 8, write_json, damage_json};
+static const Texts toml_texts = {"a TOML text", TOML_TEXTS, TOML, 2, write_toml, damage_toml};
+
 static size_t counts[STATUSES];
 
 static void count(uint32_t status)
@@ -70,34 +95,20 @@ static Request any_request(Random *random, const Bytes *given, bool may_be_long)
     return request;
 }
 
-static void check_programs(uint64_t seed, size_t number_of_programs)
+static void check_programs(const Programs *programs, uint64_t seed, size_t number_of_programs)
 {
     Program program = {.text_at = 0};
     for (size_t number = 0; number < number_of_programs; number++) {
-        Random random = random_of(seed, PROGRAMS, number);
-        write_program(&random, &program);
+        Random random = random_of(seed, programs->stream, number);
+        programs->write(&random, &program);
         Request request = any_request(&random, &program.bytes, program.may_be_long);
-        now_at("a program", seed, number, &request);
+        now_at(programs->name, seed, number, &request);
         alarm(SECONDS);
         uint32_t status = check_request(&random, &request, any_capacity(&random), program.may_be_long);
-        if (status > PL_PAST_LIMIT) {
+        if (programs->are_whole && status > PL_PAST_LIMIT) {
             wrong("the program is whole, but was not followed", NULL);
         }
         count(status);
-    }
-    release(&program.bytes);
-}
-
-static void check_damaged(uint64_t seed, size_t number_of_programs)
-{
-    Program program = {.text_at = 0};
-    for (size_t number = 0; number < number_of_programs; number++) {
-        Random random = random_of(seed, DAMAGED, number);
-        write_damaged(&random, &program);
-        Request request = any_request(&random, &program.bytes, program.may_be_long);
-        now_at("a damaged program", seed, number, &request);
-        alarm(SECONDS);
-        count(check_request(&random, &request, any_capacity(&random), program.may_be_long));
     }
     release(&program.bytes);
 }
@@ -142,37 +153,19 @@ static uint32_t check_text(Random *random, Request *request, bool is_whole)
     return status;
 }
 
-static void check_json_texts(uint64_t seed, size_t number_of_texts)
+static void check_texts(const Texts *texts, uint64_t seed, size_t number_of_texts)
 {
     Bytes text = {0};
     for (size_t number = 0; number < number_of_texts; number++) {
-        Random random = random_of(seed, JSON_TEXTS, number);
-        bool is_whole = once_in(&random, 8);
-        write_json(&random, &text);
+        Random random = random_of(seed, texts->stream, number);
+        bool is_whole = once_in(&random, texts->whole_in);
+        texts->write(&random, &text);
         if (!is_whole) {
-            damage_json(&random, &text);
+            texts->damage(&random, &text);
         }
         Request request = any_request(&random, &text, false);
-        request.kind = JSON;
-        now_at("a JSON text", seed, number, &request);
-        count(check_text(&random, &request, is_whole));
-    }
-    release(&text);
-}
-
-static void check_toml_texts(uint64_t seed, size_t number_of_texts)
-{
-    Bytes text = {0};
-    for (size_t number = 0; number < number_of_texts; number++) {
-        Random random = random_of(seed, TOML_TEXTS, number);
-        bool is_whole = once_in(&random, 2);
-        write_toml(&random, &text);
-        if (!is_whole) {
-            damage_toml(&random, &text);
-        }
-        Request request = any_request(&random, &text, false);
-        request.kind = TOML;
-        now_at("a TOML text", seed, number, &request);
+        request.kind = texts->kind;
+        now_at(texts->name, seed, number, &request);
         count(check_text(&random, &request, is_whole));
     }
     release(&text);
@@ -301,10 +294,10 @@ int main(int count_of_words, char **words)
     prepare();
     size_t deep = check_deep();
     check_threads(seed);
-    check_programs(seed, programs);
-    check_damaged(seed, damaged);
-    check_json_texts(seed, json);
-    check_toml_texts(seed, toml);
+    check_programs(&whole_programs, seed, programs);
+    check_programs(&damaged_programs, seed, damaged);
+    check_texts(&json_texts, seed, json);
+    check_texts(&toml_texts, seed, toml);
     say_counts(programs, damaged, json, toml, deep);
     return 0;
 }

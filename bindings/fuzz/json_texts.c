@@ -69,19 +69,14 @@ static void write_value(Random *random, size_t levels, Bytes *text)
 /* A value within as many arrays. */
 static void write_within(Random *random, size_t arrays, Bytes *text)
 {
-    for (size_t i = 0; i < arrays; i++) {
-        put_text(text, "[");
-    }
+    put_times(text, "[", 1, arrays);
     write_value(random, 2, text);
-    for (size_t i = 0; i < arrays; i++) {
-        put_text(text, "]");
-    }
+    put_times(text, "]", 1, arrays);
 }
 
 void write_json(Random *random, Bytes *text)
 {
-    text->length = 0;
-    reserve(text, 1);
+    clear(text);
     if (once_in(random, 50)) {
         write_within(random, 100 + below(random, 27), text);
     } else {

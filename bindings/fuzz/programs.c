@@ -167,9 +167,8 @@ static void write_instruction(Writer *writer)
 static void write_instructions(Random *random, size_t count, Program *program)
 {
     Writer writer = {.random = random, .program = program};
-    program->bytes.length = 0;
+    clear(&program->bytes);
     program->text_at = 0;
-    reserve(&program->bytes, 1);
     for (size_t i = 0; i < count; i++) {
         write_instruction(&writer);
     }
@@ -268,8 +267,7 @@ static void damage(Random *random, Program *program)
 static void write_any(Random *random, Bytes *bytes)
 {
     size_t count = below(random, 80);
-    bytes->length = 0;
-    reserve(bytes, 1);
+    clear(bytes);
     for (size_t i = 0; i < count; i++) {
         put(bytes, any_byte(random));
     }

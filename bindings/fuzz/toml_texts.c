@@ -129,13 +129,9 @@ static void write_value(Random *random, size_t levels, Bytes *text)
 static void write_within(Random *random, size_t arrays, Bytes *text)
 {
     put_text(text, "a=");
-    for (size_t i = 0; i < arrays; i++) {
-        put_text(text, "[");
-    }
+    put_times(text, "[", 1, arrays);
     write_value(random, 2, text);
-    for (size_t i = 0; i < arrays; i++) {
-        put_text(text, "]");
-    }
+    put_times(text, "]", 1, arrays);
 }
 
 static void write_header(Random *random, Bytes *text)
@@ -162,8 +158,7 @@ static void write_line(Random *random, Bytes *text)
 void write_toml(Random *random, Bytes *text)
 {
     size_t lines = below(random, 6);
-    text->length = 0;
-    reserve(text, 1);
+    clear(text);
     for (size_t i = 0; i < lines; i++) {
         write_line(random, text);
         put_line_end(random, text);

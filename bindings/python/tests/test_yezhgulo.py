@@ -418,7 +418,57 @@ class Memory(unittest.TestCase):
         self.assertEqual(output, "the layout was refused memory\ngoes on\n")
 
 
-class Json(unittest.TestCase):
+class Texts:
+    """What the formatters of both languages do.
+
+    A class of tests has a formatter and its error, a short text with its layout, a text with a lone surrogate, and
+    texts that are refused, with the place and what was expected there.
+    """
+
+    def test_errors(self):
+        for text, (row, column, expected) in self.refused.items():
+            with self.subTest(text), self.assertRaises(self.error) as caught:
+                self.format(text)
+            error = caught.exception
+            self.assertEqual((error.line, error.column, error.expected), (row, column, expected))
+            self.assertEqual(str(error), f"line {row}, column {column}: expected {expected}")
+            self.assertIsInstance(error, ValueError)
+
+    def test_limit(self):
+        text, layout = self.short
+        self.assertEqual(self.format(text, limit=len(layout)), layout)
+        with self.assertRaises(LimitError) as caught:
+            self.format(text, limit=len(layout) - 1)
+        self.assertEqual(caught.exception.before, layout[:-1])
+
+    def test_numbers(self):
+        for options in ({"width": -1}, {"indent": -1}, {"indent": 2**32}, {"limit": 0}):
+            with self.assertRaises(ValueError):
+                self.format(self.short[0], **options)
+
+    def test_types(self):
+        with self.assertRaises(UnicodeEncodeError):
+            self.format(self.surrogate)
+        for wrong in (3, None, [self.short[0]]):
+            with self.assertRaises(TypeError):
+                self.format(wrong)
+
+
+class Json(Texts, unittest.TestCase):
+    format = staticmethod(format_json)
+    error = JsonError
+    short = ("[1]", "[1]\n")
+    surrogate = '"\ud800"'
+    refused = {
+        '{"a": [1,\n 2 3]}': (2, 4, "`,` or `]`"),
+        "": (1, 1, "a value"),
+        "[": (1, 2, "a value or `]`"),
+        "[tru]": (1, 2, "a value or `]`"),
+        '{"語" 1}': (1, 6, "`:`"),
+        "[" * 100_001: (1, 100_001, "at most 100,000 levels of nesting"),
+        b"[\xff]": (1, 2, "UTF-8"),
+    }
+
     def test_layouts(self):
         text = '{"name":"Ada","list":[1,22,333],"empty":{}}'
         layout = '{\n  "name": "Ada",\n  "list": [1, 22, 333],\n  "empty": {}\n}\n'
@@ -432,44 +482,23 @@ class Json(unittest.TestCase):
         end = "".join("\n" + " " * 1000 * i + "]" for i in reversed(range(128)))
         self.assertEqual(format_json(text, 0, indent=1000), begin + " " * 128_000 + "1" + end + "\n")
 
-    def test_errors(self):
-        cases = {
-            '{"a": [1,\n 2 3]}': (2, 4, "`,` or `]`"),
-            "": (1, 1, "a value"),
-            "[": (1, 2, "a value or `]`"),
-            "[tru]": (1, 2, "a value or `]`"),
-            '{"語" 1}': (1, 6, "`:`"),
-            "[" * 100_001: (1, 100_001, "at most 100,000 levels of nesting"),
-            b"[\xff]": (1, 2, "UTF-8"),
-        }
-        for text, (row, column, expected) in cases.items():
-            with self.subTest(text), self.assertRaises(JsonError) as caught:
-                format_json(text)
-            error = caught.exception
-            self.assertEqual((error.line, error.column, error.expected), (row, column, expected))
-            self.assertEqual(str(error), f"line {row}, column {column}: expected {expected}")
-            self.assertIsInstance(error, ValueError)
 
-    def test_limit(self):
-        self.assertEqual(format_json("[1]", limit=4), "[1]\n")
-        with self.assertRaises(LimitError) as caught:
-            format_json("[1]", limit=3)
-        self.assertEqual(caught.exception.before, "[1]")
+class Toml(Texts, unittest.TestCase):
+    format = staticmethod(format_toml)
+    error = TomlError
+    short = ("a=1", "a = 1\n")
+    surrogate = 'a = "\ud800"'
+    refused = {
+        "a = [1,\n 2 3]": (2, 4, "`,` or `]`"),
+        "a = ": (1, 5, "a value"),
+        "a": (1, 2, "`.` or `=`"),
+        "a = {": (1, 6, "a key or `}`"),
+        "a = 1 2": (1, 7, "the end of the line"),
+        '"語" 1': (1, 5, "`.` or `=`"),
+        "a = " + "[" * 129 + "]" * 129: (1, 133, "at most 128 levels of nesting"),
+        b"a = 1\n# \xff": (2, 3, "UTF-8"),
+    }
 
-    def test_numbers(self):
-        for options in ({"width": -1}, {"indent": -1}, {"indent": 2**32}, {"limit": 0}):
-            with self.assertRaises(ValueError):
-                format_json("1", **options)
-
-    def test_types(self):
-        with self.assertRaises(UnicodeEncodeError):
-            format_json('"\ud800"')
-        for wrong in (3, None, ["1"]):
-            with self.assertRaises(TypeError):
-                format_json(wrong)
-
-
-class Toml(unittest.TestCase):
     def test_layouts(self):
         text = '# first\nname="Ada"\nlist=[1,22,333]#last\n[ empty ]\n'
         broken = "[\n  1,\n  22,\n  333,\n]"
@@ -488,43 +517,6 @@ class Toml(unittest.TestCase):
         line = lambda level, text: " " * 1000 * level + text + "\n"
         layout = "a = [\n" + line(1, "[") + line(2, "1,") + line(1, "],") + "]\n"
         self.assertEqual(format_toml("a=[[1]]", 0, indent=1000), layout)
-
-    def test_errors(self):
-        cases = {
-            "a = [1,\n 2 3]": (2, 4, "`,` or `]`"),
-            "a = ": (1, 5, "a value"),
-            "a": (1, 2, "`.` or `=`"),
-            "a = {": (1, 6, "a key or `}`"),
-            "a = 1 2": (1, 7, "the end of the line"),
-            '"語" 1': (1, 5, "`.` or `=`"),
-            "a = " + "[" * 129 + "]" * 129: (1, 133, "at most 128 levels of nesting"),
-            b"a = 1\n# \xff": (2, 3, "UTF-8"),
-        }
-        for text, (row, column, expected) in cases.items():
-            with self.subTest(text), self.assertRaises(TomlError) as caught:
-                format_toml(text)
-            error = caught.exception
-            self.assertEqual((error.line, error.column, error.expected), (row, column, expected))
-            self.assertEqual(str(error), f"line {row}, column {column}: expected {expected}")
-            self.assertIsInstance(error, ValueError)
-
-    def test_limit(self):
-        self.assertEqual(format_toml("a=1", limit=6), "a = 1\n")
-        with self.assertRaises(LimitError) as caught:
-            format_toml("a=1", limit=5)
-        self.assertEqual(caught.exception.before, "a = 1")
-
-    def test_numbers(self):
-        for options in ({"width": -1}, {"indent": -1}, {"indent": 2**32}, {"limit": 0}):
-            with self.assertRaises(ValueError):
-                format_toml("a=1", **options)
-
-    def test_types(self):
-        with self.assertRaises(UnicodeEncodeError):
-            format_toml('a = "\ud800"')
-        for wrong in (3, None, ["a=1"]):
-            with self.assertRaises(TypeError):
-                format_toml(wrong)
 
 
 class Depth(unittest.TestCase):

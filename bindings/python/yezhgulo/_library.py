@@ -52,29 +52,27 @@ _area = ctypes.POINTER(ctypes.c_char)
 _size_out = ctypes.POINTER(_size)
 _library = _open()
 
-_layout = _library.prettyless_layout
-_layout.restype = ctypes.c_uint32
-_layout.argtypes = (ctypes.c_char_p, _size, _size, ctypes.c_bool, ctypes.c_bool, _size, _area, _size, _size_out)
+# A function of the library.
+_Function = Callable[..., int]
 
-_json_layout = _library.prettyless_json_layout
-_json_layout.restype = ctypes.c_uint32
-_json_layout.argtypes = (
-    (ctypes.c_char_p, _size, _size, ctypes.c_uint32, ctypes.c_bool, _size)
-    + (_area, _size, _size_out, _size_out, _size_out)
-)
-
-_toml = _library.prettyless_toml
-_toml.restype = ctypes.c_uint32
-_toml.argtypes = (
-    (ctypes.c_char_p, _size, _size, ctypes.c_uint32, _size)
-    + (_area, _size, _size_out, _size_out, _size_out)
-)
+# The error of a text that is refused.
+_Refused = Type[Union[JsonError, TomlError]]
 
 # Calls the library with an area, its capacity, and a place for the number of bytes that were written.
 _Call = Callable[[Any, int, Any], int]
 
-# The same with two places more, for a line and a column.
-_TextCall = Callable[[Any, int, Any, Any, Any], int]
+
+def _function(name: str, *options: Any, places: int) -> _Function:
+    """A function that takes bytes, a width, these options, a limit, an area, and places for so many numbers."""
+    function = getattr(_library, name)
+    function.restype = ctypes.c_uint32
+    function.argtypes = (ctypes.c_char_p, _size, _size, *options, _size, _area, _size, *[_size_out] * places)
+    return function
+
+
+_layout = _function("prettyless_layout", ctypes.c_bool, ctypes.c_bool, places=1)
+_json_layout = _function("prettyless_json_layout", ctypes.c_uint32, ctypes.c_bool, places=3)
+_toml = _function("prettyless_toml", ctypes.c_uint32, places=3)
 
 
 def _limit(limit: Optional[int]) -> int:
@@ -123,7 +121,7 @@ def layout(program: bytes, width: int, crlf: bool, deferred: bool, limit: Option
     most = _limit(limit)
 
     def call(area: Any, capacity: int, written: Any) -> int:
-        return int(_layout(program, len(program), columns, crlf, deferred, most, area, capacity, written))
+        return _layout(program, len(program), columns, crlf, deferred, most, area, capacity, written)
 
     # Most layouts are shorter than their programs: those of deep indents alone are longer than this.
     status, laid = _called(call, 2 * len(program) + 64, most)
@@ -132,40 +130,32 @@ def layout(program: bytes, width: int, crlf: bool, deferred: bool, limit: Option
     return str(laid, "utf-8")
 
 
-def _text_layout(call: _TextCall, length: int, limit: int, refused: Type[Union[JsonError, TomlError]]) -> str:
-    """The layout of a text of so many bytes, or an error of this type where the text is refused."""
+def _text_layout(
+    function: _Function, refused: _Refused, text: bytes, width: int, indent: int, *flags: bool, limit: Optional[int]
+) -> str:
+    """The layout of a text by this function, or an error of this type where the text is refused."""
+    columns = number(width, "width")
+    step = number(indent, "indent", most=2**32 - 1)
+    most = _limit(limit)
     line, column = _size(), _size()
+    place = (ctypes.byref(line), ctypes.byref(column))
 
-    def called(area: Any, capacity: int, written: Any) -> int:
-        return call(area, capacity, written, ctypes.byref(line), ctypes.byref(column))
+    def call(area: Any, capacity: int, written: Any) -> int:
+        return function(text, len(text), columns, step, *flags, most, area, capacity, written, *place)
 
-    status, laid = _called(called, 2 * length + _NAME, limit)
+    status, laid = _called(call, 2 * len(text) + _NAME, most)
     if status in (_NOT_JSON, _NOT_TOML):
         raise refused(line.value, column.value, str(laid, "utf-8", "ignore"))
     if status != _LAID_OUT:
-        raise _error(status, laid, limit)
+        raise _error(status, laid, most)
     return str(laid, "utf-8")
 
 
 def json_layout(text: bytes, width: int, indent: int, fill: bool, limit: Optional[int]) -> str:
     """The layout of a JSON text."""
-    columns = number(width, "width")
-    step = number(indent, "indent", most=2**32 - 1)
-    most = _limit(limit)
-
-    def call(*places: Any) -> int:
-        return int(_json_layout(text, len(text), columns, step, fill, most, *places))
-
-    return _text_layout(call, len(text), most, JsonError)
+    return _text_layout(_json_layout, JsonError, text, width, indent, fill, limit=limit)
 
 
 def toml_layout(text: bytes, width: int, indent: int, limit: Optional[int]) -> str:
     """The layout of a TOML text."""
-    columns = number(width, "width")
-    step = number(indent, "indent", most=2**32 - 1)
-    most = _limit(limit)
-
-    def call(*places: Any) -> int:
-        return int(_toml(text, len(text), columns, step, most, *places))
-
-    return _text_layout(call, len(text), most, TomlError)
+    return _text_layout(_toml, TomlError, text, width, indent, limit=limit)

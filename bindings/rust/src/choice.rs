@@ -1,5 +1,7 @@
 //! What a choice between two documents asks.
 
+use crate::code;
+
 /// What [`Doc::if_column`](crate::Doc::if_column) asks of the column in which the next content would begin.
 ///
 /// Columns count from 0, and weak spaces that wait count.
@@ -37,6 +39,15 @@ impl ColumnTest {
             ColumnTest::IsNesting => column == indent,
         }
     }
+
+    /// Hands out the instruction that chooses by this test.
+    pub(crate) fn with_instruction<T>(self, take: impl FnOnce(&[u8]) -> T) -> T {
+        match self {
+            ColumnTest::AtMost(most) => take(&code::with_number(code::COLUMN_AT_MOST, most as u64)),
+            ColumnTest::AtLeast(least) => take(&code::with_number(code::COLUMN_AT_LEAST, least as u64)),
+            ColumnTest::IsNesting => take(&[code::COLUMN_IS_NESTING]),
+        }
+    }
 }
 
 /// What [`Doc::if_nesting`](crate::Doc::if_nesting) asks of the indent, in columns.
@@ -68,6 +79,14 @@ impl NestingTest {
         match self {
             NestingTest::AtMost(most) => indent <= most,
             NestingTest::AtLeast(least) => indent >= least,
+        }
+    }
+
+    /// The instruction that chooses by this test.
+    pub(crate) fn instruction(self) -> [u8; 9] {
+        match self {
+            NestingTest::AtMost(most) => code::with_number(code::NESTING_AT_MOST, most as u64),
+            NestingTest::AtLeast(least) => code::with_number(code::NESTING_AT_LEAST, least as u64),
         }
     }
 }

@@ -1,5 +1,6 @@
 //! Why a document has no layout.
 
+use crate::message;
 use crate::sys;
 use std::error;
 use std::fmt;
@@ -116,10 +117,10 @@ impl fmt::Display for Error {
                     written.len()
                 )
             }
-            Error::PastLimit { .. } => f.write_str("the layout is longer than its limit"),
-            Error::OutOfMemory { .. } => f.write_str("memory was refused"),
+            Error::PastLimit { .. } => f.write_str(message::PAST_LIMIT),
+            Error::OutOfMemory { .. } => f.write_str(message::OUT_OF_MEMORY),
             Error::NotAProgram(fault) => write!(f, "the bytes are no program: {fault}"),
-            Error::Unknown { status } => write!(f, "the library gave the unknown status {status}"),
+            Error::Unknown { status } => message::unknown(*status, f),
         }
     }
 }

@@ -13,29 +13,28 @@ pub(crate) struct Refused {
 
 impl Refused {
     /// The name of what was expected at the place.
-    pub(crate) fn expected(&self) -> String {
+    pub(crate) fn expected(self) -> String {
         String::from_utf8_lossy(&self.written).into_owned()
     }
 }
 
-/// The room that a layout of a text of so many bytes gets at first. What was expected fits in it too.
-fn first_room(length: usize, limit: Option<NonZeroUsize>) -> usize {
+/// The room that the layout of a text gets at first. What was expected fits in it too.
+fn first_room(text: &[u8], limit: Option<NonZeroUsize>) -> usize {
     let limit = limit.map_or(usize::MAX, NonZeroUsize::get);
-    length.saturating_mul(2).min(limit).max(256)
+    text.len().saturating_mul(2).min(limit).max(256)
 }
 
-/// The layout of a text of so many bytes, which a call writes.
-pub(crate) fn format(
-    length: usize,
+/// The layout of a text in this style, which a call of the library writes.
+pub(crate) fn format<S>(
+    text: &[u8],
+    style: &S,
     limit: Option<NonZeroUsize>,
-    mut call: impl FnMut(&mut [u8]) -> (Answer, Place),
+    call: fn(&[u8], &S, &mut [u8], &mut Place) -> Answer,
 ) -> Result<String, Refused> {
     let mut layout = Vec::new();
     let mut place = Place::default();
-    fill_or_take(&mut layout, first_room(length, limit), |out| {
-        let (answer, at) = call(out);
-        place = at;
-        answer
+    fill_or_take(&mut layout, first_room(text, limit), |out| {
+        call(text, style, out, &mut place)
     })
     .map_err(|(status, written)| Refused { status, place, written })?;
     Ok(text_of(layout))

@@ -1,6 +1,7 @@
 //! The layout of JSON texts.
 
 use crate::format::{format, Refused};
+use crate::message;
 use crate::sys;
 use std::error;
 use std::fmt;
@@ -124,7 +125,7 @@ pub enum JsonError {
 
 impl JsonError {
     /// The error of a status that is not 0.
-    fn of(refused: &Refused) -> JsonError {
+    fn of(refused: Refused) -> JsonError {
         match refused.status {
             sys::NOT_JSON => JsonError::NotJson {
                 line: refused.place.line,
@@ -141,12 +142,10 @@ impl JsonError {
 impl fmt::Display for JsonError {
     fn fmt(&self, f: &mut fmt::Formatter<'_>) -> fmt::Result {
         match self {
-            JsonError::NotJson { line, column, expected } => {
-                write!(f, "line {line}, column {column}: expected {expected}")
-            }
-            JsonError::PastLimit => f.write_str("the layout is longer than its limit"),
-            JsonError::OutOfMemory => f.write_str("memory was refused"),
-            JsonError::Unknown { status } => write!(f, "the library gave the unknown status {status}"),
+            JsonError::NotJson { line, column, expected } => message::refused(*line, *column, expected, f),
+            JsonError::PastLimit => f.write_str(message::PAST_LIMIT),
+            JsonError::OutOfMemory => f.write_str(message::OUT_OF_MEMORY),
+            JsonError::Unknown { status } => message::unknown(*status, f),
         }
     }
 }
@@ -174,6 +173,5 @@ impl error::Error for JsonError {}
 /// # Ok::<(), JsonError>(())
 /// ```
 pub fn format_json(text: impl AsRef<[u8]>, style: &JsonStyle) -> Result<String, JsonError> {
-    let text = text.as_ref();
-    format(text.len(), style.limit, |out| sys::json_layout(text, style, out)).map_err(|refused| JsonError::of(&refused))
+    format(text.as_ref(), style, style.limit, sys::json_layout).map_err(JsonError::of)
 }

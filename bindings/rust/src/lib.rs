@@ -55,6 +55,7 @@ mod format;
 mod json;
 mod layout;
 mod listing;
+mod message;
 mod options;
 mod sys;
 mod toml;

@@ -83,14 +83,20 @@ fn limit_of(limit: Option<NonZeroUsize>) -> usize {
     limit.map_or(0, NonZeroUsize::get)
 }
 
+/// The answer of a call, which writes how many bytes it has written.
+fn answer(call: impl FnOnce(&mut usize) -> u32) -> Answer {
+    let mut written = 0;
+    let status = call(&mut written);
+    Answer { status, written }
+}
+
 /// Lays out the document that a program writes.
 pub(crate) fn layout(program: &[u8], options: &RenderOptions, out: &mut [u8]) -> Answer {
-    let mut written = 0;
     // SAFETY: The call reads `length` bytes from `program`, writes at most `capacity` bytes from `out` on and one
     // number to `written`, and keeps no pointer. All three come from references to initialised memory of these lengths,
     // so they are valid, aligned, and not null for length 0 either. `out` and `written` are borrowed mutably, so no two
     // of the areas overlap. Any number of threads may call at once. Any bytes may be handed in as a program.
-    let status = unsafe {
+    answer(|written| unsafe {
         prettyless_layout(
             program.as_ptr(),
             program.len(),
@@ -100,20 +106,17 @@ pub(crate) fn layout(program: &[u8], options: &RenderOptions, out: &mut [u8]) ->
             limit_of(options.limit),
             out.as_mut_ptr(),
             out.len(),
-            &mut written,
+            written,
         )
-    };
-    Answer { status, written }
+    })
 }
 
-/// Lays out a JSON text.
-pub(crate) fn json_layout(text: &[u8], style: &JsonStyle, out: &mut [u8]) -> (Answer, Place) {
-    let mut written = 0;
-    let mut place = Place::default();
+/// Lays out a JSON text. The place is where the text is refused, if it is.
+pub(crate) fn json_layout(text: &[u8], style: &JsonStyle, out: &mut [u8], place: &mut Place) -> Answer {
     // SAFETY: As in `layout`: the call reads `length` bytes from `text`, writes at most `capacity` bytes from `out` on
     // and one number each to `written`, `line` and `column`, and keeps no pointer. These come from references, all but
     // the first mutable and to different places. Any bytes may be handed in as a text.
-    let status = unsafe {
+    answer(|written| unsafe {
         prettyless_json_layout(
             text.as_ptr(),
             text.len(),
@@ -123,20 +126,17 @@ pub(crate) fn json_layout(text: &[u8], style: &JsonStyle, out: &mut [u8]) -> (An
             limit_of(style.limit),
             out.as_mut_ptr(),
             out.len(),
-            &mut written,
+            written,
             &mut place.line,
             &mut place.column,
         )
-    };
-    (Answer { status, written }, place)
+    })
 }
 
-/// Lays out a TOML text.
-pub(crate) fn toml_layout(text: &[u8], style: &TomlStyle, out: &mut [u8]) -> (Answer, Place) {
-    let mut written = 0;
-    let mut place = Place::default();
+/// Lays out a TOML text. The place is where the text is refused, if it is.
+pub(crate) fn toml_layout(text: &[u8], style: &TomlStyle, out: &mut [u8], place: &mut Place) -> Answer {
     // SAFETY: As in `json_layout`.
-    let status = unsafe {
+    answer(|written| unsafe {
         prettyless_toml(
             text.as_ptr(),
             text.len(),
@@ -145,10 +145,9 @@ pub(crate) fn toml_layout(text: &[u8], style: &TomlStyle, out: &mut [u8]) -> (An
             limit_of(style.limit),
             out.as_mut_ptr(),
             out.len(),
-            &mut written,
+            written,
             &mut place.line,
             &mut place.column,
         )
-    };
-    (Answer { status, written }, place)
+    })
 }

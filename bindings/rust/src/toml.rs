@@ -1,6 +1,7 @@
 //! The layout of TOML texts.
 
 use crate::format::{format, Refused};
+use crate::message;
 use crate::sys;
 use std::error;
 use std::fmt;
@@ -109,7 +110,7 @@ pub enum TomlError {
 
 impl TomlError {
     /// The error of a status that is not 0.
-    fn of(refused: &Refused) -> TomlError {
+    fn of(refused: Refused) -> TomlError {
         match refused.status {
             sys::NOT_TOML => TomlError::NotToml {
                 line: refused.place.line,
@@ -126,12 +127,10 @@ impl TomlError {
 impl fmt::Display for TomlError {
     fn fmt(&self, f: &mut fmt::Formatter<'_>) -> fmt::Result {
         match self {
-            TomlError::NotToml { line, column, expected } => {
-                write!(f, "line {line}, column {column}: expected {expected}")
-            }
-            TomlError::PastLimit => f.write_str("the layout is longer than its limit"),
-            TomlError::OutOfMemory => f.write_str("memory was refused"),
-            TomlError::Unknown { status } => write!(f, "the library gave the unknown status {status}"),
+            TomlError::NotToml { line, column, expected } => message::refused(*line, *column, expected, f),
+            TomlError::PastLimit => f.write_str(message::PAST_LIMIT),
+            TomlError::OutOfMemory => f.write_str(message::OUT_OF_MEMORY),
+            TomlError::Unknown { status } => message::unknown(*status, f),
         }
     }
 }
@@ -161,6 +160,5 @@ impl error::Error for TomlError {}
 /// # Ok::<(), TomlError>(())
 /// ```
 pub fn format_toml(text: impl AsRef<[u8]>, style: &TomlStyle) -> Result<String, TomlError> {
-    let text = text.as_ref();
-    format(text.len(), style.limit, |out| sys::toml_layout(text, style, out)).map_err(|refused| TomlError::of(&refused))
+    format(text.as_ref(), style, style.limit, sys::toml_layout).map_err(TomlError::of)
 }

@@ -641,12 +641,8 @@ impl Writer {
         yes: impl FnOnce(&mut Writer),
         no: impl FnOnce(&mut Writer),
     ) -> &mut Writer {
-        self.both(yes, no);
-        match test {
-            ColumnTest::AtMost(most) => self.put(&code::with_number(code::COLUMN_AT_MOST, most as u64)),
-            ColumnTest::AtLeast(least) => self.put(&code::with_number(code::COLUMN_AT_LEAST, least as u64)),
-            ColumnTest::IsNesting => self.put(&[code::COLUMN_IS_NESTING]),
-        }
+        let after = self.both(yes, no);
+        test.with_instruction(|instruction| after.put(instruction))
     }
 
     /// Writes two documents, of which the test of the indent takes one, as [`Doc::if_nesting`].
@@ -664,10 +660,7 @@ impl Writer {
         yes: impl FnOnce(&mut Writer),
         no: impl FnOnce(&mut Writer),
     ) -> &mut Writer {
-        self.both(yes, no).put(&match test {
-            NestingTest::AtMost(most) => code::with_number(code::NESTING_AT_MOST, most as u64),
-            NestingTest::AtLeast(least) => code::with_number(code::NESTING_AT_LEAST, least as u64),
-        })
+        self.both(yes, no).put(&test.instruction())
     }
 }
 

@@ -4,11 +4,12 @@ use yezhgulo::{format_json, JsonError, JsonStyle};
 
 const TEXT: &str = r#"{"name":"Ada","list":[1,22,333],"empty":{}}"#;
 
-fn refused(text: impl AsRef<[u8]>) -> (usize, usize, String) {
-    match format_json(text, &JsonStyle::default()) {
-        Err(JsonError::NotJson { line, column, expected }) => (line, column, expected),
-        other => panic!("{other:?}"),
-    }
+/// Checks at which place a text is refused, and what was expected there.
+#[track_caller]
+fn refuses(text: impl AsRef<[u8]>, line: usize, column: usize, expected: &str) {
+    let expected = expected.to_string();
+    let error = JsonError::NotJson { line, column, expected };
+    assert_eq!(format_json(text, &JsonStyle::default()), Err(error));
 }
 
 #[test]
@@ -45,17 +46,16 @@ fn a_layout_may_be_far_longer_than_its_text() {
 
 #[test]
 fn the_place_where_the_wrong_token_begins() {
-    let expected = |line, column, what: &str| (line, column, what.to_string());
-    assert_eq!(refused(""), expected(1, 1, "a value"));
-    assert_eq!(refused("[1,"), expected(1, 4, "a value"));
-    assert_eq!(refused("[\n]]"), expected(2, 2, "the end of the text"));
-    assert_eq!(refused("[,"), expected(1, 2, "a value or `]`"));
-    assert_eq!(refused("[tru]"), expected(1, 2, "a value or `]`"));
-    assert_eq!(refused(b"[1 2 \xff]"), expected(1, 6, "UTF-8"));
-    assert_eq!(refused("{\"é\" 1}"), expected(1, 6, "`:`"));
-    assert_eq!(refused([b'"', 0xff, b'"']), expected(1, 2, "UTF-8"));
+    refuses("", 1, 1, "a value");
+    refuses("[1,", 1, 4, "a value");
+    refuses("[\n]]", 2, 2, "the end of the text");
+    refuses("[,", 1, 2, "a value or `]`");
+    refuses("[tru]", 1, 2, "a value or `]`");
+    refuses(b"[1 2 \xff]", 1, 6, "UTF-8");
+    refuses("{\"é\" 1}", 1, 6, "`:`");
+    refuses([b'"', 0xff, b'"'], 1, 2, "UTF-8");
     let deep = "[".repeat(100_001) + &"]".repeat(100_001);
-    assert_eq!(refused(deep), expected(1, 100_001, "at most 100,000 levels of nesting"));
+    refuses(deep, 1, 100_001, "at most 100,000 levels of nesting");
 }
 
 #[test]

@@ -4,11 +4,12 @@ use yezhgulo::{format_toml, TomlError, TomlStyle};
 
 const TEXT: &str = "# first\nname=\"Ada\"\nlist=[1,22,333]#last\n[ empty ]\n";
 
-fn refused(text: impl AsRef<[u8]>) -> (usize, usize, String) {
-    match format_toml(text, &TomlStyle::default()) {
-        Err(TomlError::NotToml { line, column, expected }) => (line, column, expected),
-        other => panic!("{other:?}"),
-    }
+/// Checks at which place a text is refused, and what was expected there.
+#[track_caller]
+fn refuses(text: impl AsRef<[u8]>, line: usize, column: usize, expected: &str) {
+    let expected = expected.to_string();
+    let error = TomlError::NotToml { line, column, expected };
+    assert_eq!(format_toml(text, &TomlStyle::default()), Err(error));
 }
 
 #[test]
@@ -54,16 +55,15 @@ fn a_layout_may_be_far_longer_than_its_text() {
 
 #[test]
 fn the_place_where_the_wrong_token_begins() {
-    let expected = |line, column, what: &str| (line, column, what.to_string());
-    assert_eq!(refused("a"), expected(1, 2, "`.` or `=`"));
-    assert_eq!(refused("a = 1\nb ="), expected(2, 4, "a value"));
-    assert_eq!(refused("a = {"), expected(1, 6, "a key or `}`"));
-    assert_eq!(refused("a = 1 2"), expected(1, 7, "the end of the line"));
-    assert_eq!(refused("[a\n"), expected(1, 3, "`.` or `]`"));
-    assert_eq!(refused("\"é\" = [1 2]"), expected(1, 10, "`,` or `]`"));
-    assert_eq!(refused(b"a = 1\n# \xff"), expected(2, 3, "UTF-8"));
+    refuses("a", 1, 2, "`.` or `=`");
+    refuses("a = 1\nb =", 2, 4, "a value");
+    refuses("a = {", 1, 6, "a key or `}`");
+    refuses("a = 1 2", 1, 7, "the end of the line");
+    refuses("[a\n", 1, 3, "`.` or `]`");
+    refuses("\"é\" = [1 2]", 1, 10, "`,` or `]`");
+    refuses(b"a = 1\n# \xff", 2, 3, "UTF-8");
     let deep = "a = ".to_string() + &"[".repeat(129) + &"]".repeat(129);
-    assert_eq!(refused(deep), expected(1, 133, "at most 128 levels of nesting"));
+    refuses(deep, 1, 133, "at most 128 levels of nesting");
 }
 
 #[test]

@@ -382,11 +382,7 @@ impl Doc {
     /// ```
     pub fn if_column(test: ColumnTest, yes: impl Into<Doc>, no: impl Into<Doc>) -> Doc {
         let (yes, no) = (yes.into(), no.into());
-        match test {
-            ColumnTest::AtMost(most) => yes.with(no, &code::with_number(code::COLUMN_AT_MOST, most as u64)),
-            ColumnTest::AtLeast(least) => yes.with(no, &code::with_number(code::COLUMN_AT_LEAST, least as u64)),
-            ColumnTest::IsNesting => yes.with(no, &[code::COLUMN_IS_NESTING]),
-        }
+        test.with_instruction(|instruction| yes.with(no, instruction))
     }
 
     /// `yes` where the test of the indent holds, else `no`.
@@ -400,10 +396,6 @@ impl Doc {
     /// # Ok::<(), yezhgulo::Error>(())
     /// ```
     pub fn if_nesting(test: NestingTest, yes: impl Into<Doc>, no: impl Into<Doc>) -> Doc {
-        let instruction = match test {
-            NestingTest::AtMost(most) => code::with_number(code::NESTING_AT_MOST, most as u64),
-            NestingTest::AtLeast(least) => code::with_number(code::NESTING_AT_LEAST, least as u64),
-        };
-        yes.into().with(no.into(), &instruction)
+        yes.into().with(no.into(), &test.instruction())
     }
 }
