@@ -161,7 +161,7 @@ kept_tries : {E : Type 0} (t : Attempt) (m : Mark) (b : Point) (r : Standing) �
     → r.options ≡ b.printer.options → QueueGrows b.printer r →
     Tries {E = E} t.indent t.branch t.start (point_at r b.sink b.visits) (Ok true)
 kept_tries {E} t m b r marked lasts e st o g =
-    let grew = lasts.path.grows in
+    let grew = lasts.path.queue in
     trial_over {E = E} r lasts e (st
     ∙ ap (λ (w : Bool). record { column = b.printer.column; pending = (state_at b.printer).pending; within = w }) marked.marks.within) o
     (grew.0 ++ g.0, g.1 ∙ ap (λ (z : List Tree). z ++ g.0) grew.1 ∙ append_assoc t.start.printer.queue grew.0 g.0)

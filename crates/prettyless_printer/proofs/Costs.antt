@@ -58,14 +58,14 @@ above-above p q r a b = (
 above_trial : {t : Attempt} {below : ℕ} {b : Point} → OnTrial t below b → Above t.start.printer b.printer
 above_trial {t} {below} {b} h =
     let k = (h.path.bytes h.is_known).1.0 in
-    (k.above, k.stack_is, h.path.grows)
+    (k.above, k.stack_is, h.path.queue)
 
 -- an inner trial began above where the outer one began
 above_link : (o : Attempt) (u : Held) (t : Attempt) → IsSome o.start.sink.bytes → Link o u t → Above o.start.printer t.start.printer
 above_link o u t is_known h =
     let w = h.choice.waiting in
     let k = (w.bytes is_known).1.0 in
-    (k.above, k.stack_is, w.grows)
+    (k.above, k.stack_is, w.queue)
 
 above_chain : (o : Attempt) (us : List Held) (t : Attempt) (p : Standing) → IsSome o.start.sink.bytes → Chain o us t
     → Above t.start.printer p → Above o.start.printer p
@@ -154,7 +154,7 @@ less_more {N} E f s y {a} {b} (o ∷ us) vs i x z q w v h c opens begins text =
     let waits = (k.0.waiting.bytes h.on.is_known).1.0 in
     let over_b : Above b.printer q = (make_task i Break (f x) ∷ [], begins.tasks, begins.grows) in
     let over_t : Above t.start.printer q =
-    above-above t.start.printer b.printer q (waits.above, waits.stack_is, k.0.waiting.grows) over_b in
+    above-above t.start.printer b.printer q (waits.above, waits.stack_is, k.0.waiting.queue) over_b in
     let same = cost_same s o us t a.printer q h.holds.marked h.chain (above_trial h.on) over_t in
     let split = ap (cost q) opens.more ∙ cost_push q (o ∷ us) u in
     let second = second_is u b q marked over_b in
@@ -179,7 +179,7 @@ kept_split {N} E f s y {a} {b} (o ∷ vs) u q w v some h c e st g =
     let p = chain_pop s vs u t h.chain in
     let link = above_link p.trial u t (chain_last o vs s p.trial (first_last h.holds.marked) p.chain).is_known p.link in
     let now = (lasts.path.bytes lasts.is_known).1.0 in
-    let over : Above t.start.printer q = (now.above, e ∙ now.stack_is, grows-grows t.start.printer b.printer q lasts.path.grows g) in
+    let over : Above t.start.printer q = (now.above, e ∙ now.stack_is, grows-grows t.start.printer b.printer q lasts.path.queue g) in
     let same = cost_same s o vs p.trial a.printer q h.holds.marked p.chain
     (above-above p.trial.start.printer t.start.printer a.printer link (above_trial h.on))
     (above-above p.trial.start.printer t.start.printer q link over) in

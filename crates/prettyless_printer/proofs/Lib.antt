@@ -22,4 +22,5 @@ pub mod Advancing
 pub mod Spending
 pub mod OpenSpending
 pub mod RunSpending
+pub mod Forgetting
 pub mod GearSpending

@@ -23,7 +23,7 @@ use Rattle.prettyless_printer.specs.Renders.{rest_of, Stopped, WorksOff}
 use Rattle.prettyless_printer.specs.Paths.{Run, Path, Waiting, Broke, run_of}
 use Rattle.prettyless_printer.proofs.Progresses.{inside_beginning, inside_end, waits_beginning}
 use Rattle.prettyless_printer.proofs.Turnings.{beginning_less}
-use Rattle.prettyless_printer.proofs.Trying.{grows-grows, grows_same, choice_kept, choice_other}
+use Rattle.prettyless_printer.proofs.Trying.{begins-grows, grows-grows, choice_kept, choice_other}
 use Rattle.prettyless_printer.proofs.Visits.{rise_same, rise_then, at_most_same, at_most_then, at_most_all, at_most_at, at_most_first}
 use Rattle.prettyless_printer.proofs.Visits.{at_most_besides, plain_push}
 use Rattle.prettyless_printer.proofs.AtLeast.{at_least_same, at_least_then, at_least_end, kept_at_least, other_at_least}
@@ -54,7 +54,7 @@ record Carries (a b : Point) : Type 0 where
 carried : {r : Run} {a b : Point} → Path r a → length r.below < length a.printer.tasks → Carries a b → Path r b
 carried {r} {a} {b} p l h = record {
   options = h.options ∙ p.options;
-  grows = grows-grows r.start.printer a.printer b.printer p.grows h.grows;
+  queue = begins-grows r.queue a.printer b.printer p.queue h.grows;
   same_lender = h.same_lender ∙ p.same_lender;
   less = omega (arith, h.less, p.less);
   bytes = λ is_known.
@@ -115,7 +115,7 @@ pub comes_to_wait : {N E : Type 0} (f : N → Tree) {r : Run} {a b : Point} (i :
     Advances {N = N} {E = E} f a b (Ok (turn_result.Choice i x y)) → length r.below ≤ length b.printer.tasks → Waiting r i (f x) (f y) b
 comes_to_wait {N} {E} f {r} {a} {b} i x y p l h long = record {
   options = h.options ∙ p.options;
-  grows = grows-grows r.start.printer a.printer b.printer p.grows h.grows;
+  queue = begins-grows r.queue a.printer b.printer p.queue h.grows;
   same_lender = h.same_lender ∙ p.same_lender;
   less = omega (arith, h.lessens.0, p.less);
   long = long;
@@ -212,7 +212,7 @@ goes_on_kept {E} {r} {b} {c} {s} {t} i x y w tries lender wrote =
     let d = tries.decided in
     record {
       options = d.1 ∙ w.options;
-      grows = grows-grows r.start.printer b.printer c.printer w.grows d.2;
+      queue = begins-grows r.queue b.printer c.printer w.queue d.2;
       same_lender = lender ∙ w.same_lender;
       less = omega (arith, w.less, d.4, ap nodes d.0);
       bytes = λ is_known.
@@ -251,7 +251,7 @@ goes_on_other {E} {r} {b} {c} {s} {t} q i x y w tries pushed same options grows 
     let d = tries.decided in
     record {
       options = options ∙ d.1 ∙ w.options;
-      grows = grows-grows r.start.printer b.printer c.printer w.grows (grows-grows b.printer q c.printer d.2 grows);
+      queue = begins-grows r.queue b.printer c.printer w.queue (grows-grows b.printer q c.printer d.2 grows);
       same_lender = lender ∙ w.same_lender;
       less = omega (arith, w.less, d.4, ap nodes d.0, ap nodes pushed, ap (λ (s : State). owed s.pending) same);
       bytes = λ is_known.
@@ -339,7 +339,7 @@ choice_unwritten {E} {D} fails {r} {b} {c} {s} {t} i x y e w tries lender wrote 
 pub run_begins : (a : Point) → Path (run_of a) a
 run_begins a = record {
   options = refl;
-  grows = grows_same a.printer;
+  queue = (a.printer.queue, refl);
   same_lender = refl;
   less = omega arith;
   bytes = λ is_known. (

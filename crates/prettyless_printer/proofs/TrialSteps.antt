@@ -36,7 +36,7 @@ pub trial_run_begins : (a : Point) (q : Standing) (i : ℕ) (d : Tree) → q.tas
     q.options ≡ a.printer.options → QueueGrows a.printer q → Path (trial_run (attempt a i d)) (point_at q a.sink a.visits)
 trial_run_begins a q i d e s o grows = record {
   options = o;
-  grows = grows;
+  queue = grows;
   same_lender = refl;
   less = omega (arith, ap nodes e, ap (λ (z : State). owed z.pending) s);
   bytes = λ is_known. (is_known, (trying_begins a.printer q i d (known a.sink.bytes) e s, refl));
@@ -81,7 +81,7 @@ course_past {N} {E} f {t} {below} {a} {b} on l h past =
       above = e.above;
       stack = e.stack_is;
       options = path.options;
-      grows = path.grows;
+      grows = path.queue;
       same_lender = path.same_lender;
       is_known = k.0;
       bytes = e.bytes;
@@ -142,7 +142,7 @@ course_unfit {t} {below} {a} on l unfit =
       above = z.above;
       stack = z.stack_is;
       options = path.options;
-      grows = path.grows;
+      grows = path.queue;
       same_lender = path.same_lender;
       is_known = k.0;
       bytes = e.1;

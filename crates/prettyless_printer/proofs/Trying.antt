@@ -17,7 +17,7 @@ use Rattle.prettyless_model.proofs.Outcomes.{after-nil, then-done}
 use Rattle.prettyless_step.specs.Stack.{Task, make_task, follow}
 use Rattle.prettyless_step.specs.Steps.{lay_all, owed}
 use Rattle.prettyless_printer.specs.Progress.{Inside, Waits, Decides}
-use Rattle.prettyless_printer.specs.Points.{Standing, state_at, QueueGrows, Seen, seen}
+use Rattle.prettyless_printer.specs.Points.{Standing, state_at, QueueBegins, QueueGrows, Seen, seen}
 use Rattle.prettyless_printer.specs.Trials.{Marks, Restores, TrialDid, work_limit, trial_of}
 use Rattle.prettyless_printer.proofs.Progresses.{waits_kept, waits_other, inside_end}
 use Rattle.prettyless_printer.proofs.Turnings.{inside_at}
@@ -47,8 +47,11 @@ trying_begins p q i d old e s =
       bound = omega arith;
     })
 
+pub begins-grows : (ds : List Tree) (q r : Standing) → QueueBegins ds q → QueueGrows q r → QueueBegins ds r
+begins-grows ds q r a b = (a.0 ++ b.0, b.1 ∙ ap (λ (x : List Tree). x ++ b.0) a.1 ∙ append_assoc ds a.0 b.0)
+
 pub grows-grows : (p q r : Standing) → QueueGrows p q → QueueGrows q r → QueueGrows p r
-grows-grows p q r a b = (a.0 ++ b.0, b.1 ∙ ap (λ (x : List Tree). x ++ b.0) a.1 ∙ append_assoc p.queue a.0 b.0)
+grows-grows p q r a b = begins-grows p.queue q r a b
 
 -- a queue that is the same
 pub grows_same : (p : Standing) → QueueGrows p p

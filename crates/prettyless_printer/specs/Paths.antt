@@ -9,7 +9,7 @@ use Rattle.prettyless_model.specs.Counts.{Weight}
 use Rattle.prettyless_model.specs.declared.mode.Mode.TheVariants.{Break}
 use Rattle.prettyless_step.specs.Stack.{Task, make_task, nodes}
 use Rattle.prettyless_step.specs.Steps.{work}
-use Rattle.prettyless_printer.specs.Points.{state_at, QueueGrows, Point}
+use Rattle.prettyless_printer.specs.Points.{state_at, QueueBegins, Point}
 use Rattle.prettyless_printer.specs.Progress.{Inside, Waits}
 use Rattle.prettyless_printer.specs.Visits.{Plain, Rise, CountsAtMost, suffix_depths}
 use Rattle.prettyless_printer.specs.AtLeast.{CountsAtLeast, stack_tally, choice_tally}
@@ -27,10 +27,12 @@ pub record Run : Type 0 where
   pub first : List Task
   -- those of them that it leaves alone
   pub below : List Task
+  -- the line suffixes that it leaves in the queue
+  pub queue : List Tree
   -- what it is to count
   pub tally : Weight → ℕ
 
--- A run of all commands.
+-- A run of all commands. No trial is taken back past its beginning, so it need not keep what its queue has.
 abbrev pub run_of : Point → Run
 run_of a = record {
   start = a;
@@ -38,6 +40,7 @@ run_of a = record {
   limit = work a.printer.tasks (state_at a.printer);
   first = a.printer.tasks;
   below = [];
+  queue = [];
   tally = stack_tally a.printer 0;
 }
 
@@ -49,8 +52,8 @@ BeganPlain r = (suffix_depths r.first ≡ 0) × ((state_at r.start.printer).pend
 pub record Path (r : Run) (b : Point) : Type 0 where
   -- the options are the same
   pub options : b.printer.options ≡ r.start.printer.options
-  -- the queue of line suffixes only grew
-  pub grows : QueueGrows r.start.printer b.printer
+  -- the line suffixes that it leaves in the queue are there
+  pub queue : QueueBegins r.queue b.printer
   -- the sink writes through the same reference
   pub same_lender : b.sink.lender ≡ r.start.sink.lender
   -- there is no more work than it may take, and that of the tasks below
@@ -70,8 +73,8 @@ pub record Path (r : Run) (b : Point) : Type 0 where
 pub record Waiting (r : Run) (i : ℕ) (x y : Tree) (b : Point) : Type 0 where
   -- the options are the same
   pub options : b.printer.options ≡ r.start.printer.options
-  -- the queue of line suffixes only grew
-  pub grows : QueueGrows r.start.printer b.printer
+  -- the line suffixes that it leaves in the queue are there
+  pub queue : QueueBegins r.queue b.printer
   -- the sink writes through the same reference
   pub same_lender : b.sink.lender ≡ r.start.sink.lender
   -- with both branches there is less work than it may take, and that of the tasks below

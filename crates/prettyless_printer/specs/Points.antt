@@ -40,9 +40,13 @@ standing f p = record {
 abbrev pub state_at : Standing → State
 state_at s = record { column = s.column; pending = drop s.start s.queue; within = s.within }
 
+-- the queue begins with these line suffixes
+abbrev pub QueueBegins : List Tree → Standing → Type 0
+QueueBegins ds p = (more : List Tree) × (p.queue ≡ ds ++ more)
+
 -- the queue only grows
 abbrev pub QueueGrows : Standing → Standing → Type 0
-QueueGrows s t = (more : List Tree) × (t.queue ≡ s.queue ++ more)
+QueueGrows s t = QueueBegins s.queue t
 
 -- What is seen of a sink.
 pub record Seen : Type 0 where

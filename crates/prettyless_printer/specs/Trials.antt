@@ -84,6 +84,7 @@ trial_run t = record {
   limit = work_limit t.start.printer t.branch;
   first = make_task t.indent Break t.branch ∷ t.start.printer.tasks;
   below = t.start.printer.tasks;
+  queue = t.start.printer.queue;
   tally = trial_tally t.start.printer t.indent t.branch;
 }
 

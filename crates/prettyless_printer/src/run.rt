@@ -88,7 +88,8 @@ fn choose<N: Walk, W: Render>(
     }
 }
 
-// Takes commands until none is left, or before a node probes are past the limit.
+// Takes commands until none is left, or before a node probes are past the limit. No trial is open between two of them: line suffixes
+// that were laid are forgotten there.
 fn work_off<N: Walk, W: Render>(
     printer: &mut Printer<N>,
     trials: &mut Trials<N>,
@@ -112,13 +113,13 @@ fn work_off<N: Walk, W: Render>(
     'work: while printer.commands.len() > 0 {
         match turn(printer, out, limit, visits)? {
             TurnResult::Failed => return Err(RenderError::Document(out.fail_doc())),
-            TurnResult::Complete => {}
+            TurnResult::Complete => printer.queue.forget_laid(),
             TurnResult::Shift => return Ok(RunResult::Shift),
             TurnResult::Choice(indent, first, second) => {
                 match choose(
                     printer, trials, buffer, out, indent, first, second, limit, visits,
                 )? {
-                    RunResult::Finished => {}
+                    RunResult::Finished => printer.queue.forget_laid(),
                     RunResult::Shift => return Ok(RunResult::Shift),
                 }
             }

@@ -74,6 +74,29 @@ impl<N: Copy> Queue<N> {
         self.start = self.nodes.len();
     }
 
+    /// Forgets those that were laid, where none is pending.
+    #[inline(always)]
+    pub fn forget_laid(&mut self)
+        ensures pending { drop self.new.start self.new.nodes.items ≡ drop self.old.start self.old.nodes.items }
+        ensures forgotten { drop self.old.start self.old.nodes.items ≡ [] → self.new.nodes.items ≡ [] }
+    {
+        if self.start > 0 {
+            self.clear_laid();
+        }
+    }
+
+    // The same, at a call: few turns lay a suffix.
+    #[inline(never)]
+    fn clear_laid(&mut self)
+        ensures pending { drop self.new.start self.new.nodes.items ≡ drop self.old.start self.old.nodes.items }
+        ensures forgotten { drop self.old.start self.old.nodes.items ≡ [] → self.new.nodes.items ≡ [] }
+    {
+        if self.start == self.nodes.len() {
+            self.nodes.clear();
+            self.start = 0;
+        }
+    }
+
     /// How far it is.
     #[inline(always)]
     pub fn mark(&self) -> QueueMark

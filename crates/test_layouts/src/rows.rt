@@ -38,6 +38,10 @@ pub(crate) const ROWS: &[Row<'static>] = &[
     Row { width: 10, written: "Append LineSuffix Text ' // caller' Union Append Union Append Text 'inner' LineSuffix Text ' // s' \
                                Text 'inner fallback' Text ' long overflow' Text 'outer fallback'",
           layout: "outer fallback // caller", fails: false },
+    // Two lines with a suffix. Of an alternative that is not kept the line end laid the second one too.
+    Row { width: 5, written: "Append Append Append Text 'a' LineSuffix Text '!' HardLine Append Append Text 'b' LineSuffix Text '?' \
+                              Append Union Append Append Text 'c' HardLine Text 'longer' Text 'd' Append HardLine Text 'e'",
+          layout: "a!\nbd?\ne", fails: false },
     // A suffix that fails, after an alternative that is kept.
     Row { width: 2, written: "Append Union Append Text 'a' LineSuffix Fail Text 'x' Text 'b'", layout: "ab", fails: true },
 ];

@@ -11,6 +11,7 @@ use Rattle.prettyless_printer.proofs.Shifts.{comes_alone, comes_in_choice, conti
 use Rattle.prettyless_printer.specs.Spending.{left}
 use Rattle.prettyless_printer.proofs.Spending.{spends_all, spends_same}
 use Rattle.prettyless_printer.proofs.OpenSpending.{spends_broke_as}
+use Rattle.prettyless_printer.proofs.Forgetting.{path_forgets, spends_forgets, work_forgets}
 use Rattle.prettyless_printer.proofs.RunSpending.{none_seconds, path_spends, seconds_none, waiting_spends}
 use Rattle.prettyless_printer.proofs.run.work_off.Goals as goal
 
@@ -20,16 +21,40 @@ work-init g c =
     c.args.visits.now in
     record { path = run_begins a; none = c.requires.none; spends = λ plain. spends_same _ _; summed = c.requires.summed }
 
+pub work-smaller-in-Complete : goal.work-smaller-in-Complete
+work-smaller-in-Complete g c =
+    let turned = rw c.in-Complete.is at c.in_ok-turn.ensures.advances in
+    omega (
+      arith,
+      work_forgets g.N.Walk.tree c.turn.new.printer c.forget_laid.new.self c.forget_laid.ensures.pending,
+      turned.lessens,
+    )
+
+pub work-smaller : goal.work-smaller
+work-smaller g c =
+    let turned = rw c.in-Choice.is at c.in_ok-turn.ensures.advances in
+    let settled = rw c.in-Finished.is at c.in_ok-choose-in-Choice.ensures.settles in
+    let forgotten = c.forget_laid-in-Finished in
+    omega (
+      arith,
+      work_forgets g.N.Walk.tree c.choose.new.printer forgotten.new.self forgotten.ensures.pending,
+      settled.1.lessens,
+      turned.lessens.0,
+    )
+
 pub work-preserved-in-Complete : goal.work-preserved-in-Complete
 work-preserved-in-Complete g c =
     let f = g.N.Walk.tree in
     let v = c.work.printer in
     let l : 0 < length (tasks_of f v) = omega (arith, c.work-test.true, c.len.ensures) in
     let turned = rw c.in-Complete.is at c.in_ok-turn.ensures.advances in
+    let visits = c.turn.new.visits in
     record {
-      path = goes_on f c.work.invariant.path l turned;
-      spends = λ plain. path_spends c.work.invariant.path plain (c.work.invariant.spends plain)
-          (rw c.in-Complete.is at c.in_ok-turn.ensures.spends);
+      path = path_forgets f c.turn.new.printer c.forget_laid.new.self _ visits c.forget_laid.ensures.pending
+          (goes_on f c.work.invariant.path l turned);
+      spends = λ plain.
+          spends_forgets f c.turn.new.printer c.forget_laid.new.self visits c.forget_laid.ensures.forgotten
+          (path_spends c.work.invariant.path plain (c.work.invariant.spends plain) (rw c.in-Complete.is at c.in_ok-turn.ensures.spends));
       none = c.work.invariant.none;
       summed = c.in_ok-turn.ensures.summed;
     }
@@ -44,13 +69,18 @@ work-preserved g c =
     let turned = rw c.in-Choice.is at c.in_ok-turn.ensures.advances in
     let waiting = comes_to_wait f c.in-Choice.indent c.in-Choice.first c.in-Choice.second c.work.invariant.path l turned (omega arith) in
     let settled = rw c.in-Finished.is at c.in_ok-choose-in-Choice.ensures.settles in
+    let q = c.choose.new.printer in
+    let forgotten = c.forget_laid-in-Finished in
+    let after = forgotten.new.self in
+    let visits = c.choose.new.visits in
     record {
-      path = settled.1.runs (run_of start) waiting;
+      path = path_forgets f q after _ visits forgotten.ensures.pending (settled.1.runs (run_of start) waiting);
       spends = λ plain.
-          seconds_none (standing f c.choose.new.printer) _ c.choose.new.visits settled.0
+          spends_forgets f q after visits forgotten.ensures.forgotten
+          (seconds_none (standing f q) _ visits settled.0
           (waiting_spends waiting plain
           (path_spends c.work.invariant.path plain (c.work.invariant.spends plain) (rw c.in-Choice.is at c.in_ok-turn.ensures.spends))
-          c.in_ok-choose-in-Choice.ensures.spends);
+          c.in_ok-choose-in-Choice.ensures.spends));
       none = none_open f c.choose.new.trials.open.items settled.0;
       summed = c.in_ok-choose-in-Choice.ensures.summed;
     }
