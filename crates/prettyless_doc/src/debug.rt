@@ -6,7 +6,7 @@ ghost use Rattle.prettyless_doc.specs.Shown.{IsBelow};
 use crate::doc::{BuildDoc, Doc, DocPtr};
 use crate::text::Text;
 use prettyless_model::choice::{ColumnTest, NestingTest};
-use prettyless_step::walk::{View, Walk};
+use prettyless_probe::walk::{View, Walk};
 use std::fmt;
 
 impl<'a, T: DocPtr<'a>> fmt::Debug for Doc<'a, T> {

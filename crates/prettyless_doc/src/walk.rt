@@ -3,7 +3,7 @@ ghost use Rattle.prettyless_doc.specs.DocTree.{tree_of};
 
 use crate::doc::{Doc, DocPtr};
 use prettyless_model::mode::Mode;
-use prettyless_step::walk::{View, Walk};
+use prettyless_probe::walk::{View, Walk};
 use prettyless_summary::summary::Summary;
 
 /// A document as the printer walks it.

@@ -6,8 +6,8 @@ use Rattle.prettyless_sink.specs.declared.visits.Visits.{Visits}
 use Rattle.prettyless_model.specs.declared.options.RenderOptions.{RenderOptions}
 use Rattle.prettyless_model.specs.Tree.{Tree}
 use Rattle.prettyless_model.specs.Counts.{each_probe}
-use Rattle.prettyless_step.specs.Stack.{Task}
-use Rattle.prettyless_step.specs.Probing.{RisesBy}
+use Rattle.prettyless_probe.specs.Stack.{Task}
+use Rattle.prettyless_probe.specs.Probing.{RisesBy}
 use Rattle.prettyless_step.specs.Printing.{Shows}
 use Rattle.prettyless_step.specs.declared.printer.Printer.{Printer}
 use Rattle.prettyless_step.specs.declared.printer.StepResult.TheVariants.{Failed, Choice}

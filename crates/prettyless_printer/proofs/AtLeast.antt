@@ -22,7 +22,7 @@ use Rattle.prettyless_model.specs.Counts.{Weight, each_node, each_probe, counted
 use Rattle.prettyless_model.proofs.Levels.{settle_fixed}
 use Rattle.prettyless_model.specs.declared.mode.Mode.{Mode}
 use Rattle.prettyless_model.specs.declared.mode.Mode.TheVariants.{Break, Flat}
-use Rattle.prettyless_step.specs.Stack.{Task, make_task, tasks, follow}
+use Rattle.prettyless_probe.specs.Stack.{Task, make_task, tasks, follow}
 use Rattle.prettyless_step.specs.Steps.{Step, Move, Stuck, Choose, step_of, union_step, decided_by_metrics, break_step, at_once}
 use Rattle.prettyless_step.proofs.Shown.{step_at, Leads, Asks}
 use Rattle.prettyless_printer.specs.Points.{Standing, state_at}
@@ -30,7 +30,7 @@ use Rattle.prettyless_printer.specs.Trials.{TrialDid}
 use Rattle.prettyless_printer.specs.Visits.{Rise}
 use Rattle.prettyless_printer.specs.AtLeast.{tally_above, tally_choice, nothing_left, CountsAtLeast, stack_tally, choice_tally, trial_tally}
 use Rattle.prettyless_printer.specs.AtLeast.{VisitedAtLeast}
-use Rattle.prettyless_step.specs.Probing.{RisesBy}
+use Rattle.prettyless_probe.specs.Probing.{RisesBy}
 use Rattle.prettyless_printer.proofs.Runs.{follow-tasks, payload_branch, no_padding}
 
 -- what a task counts, and then those after it

@@ -8,7 +8,7 @@ use Rattle.prettyless_sink.specs.declared.visits.Visits.{Visits}
 use Rattle.prettyless_model.specs.Layout.{State}
 use Rattle.prettyless_model.specs.declared.mode.Mode.TheVariants.{Break}
 use Rattle.prettyless_model.specs.Tree.{Tree}
-use Rattle.prettyless_step.specs.Stack.{make_task}
+use Rattle.prettyless_probe.specs.Stack.{make_task}
 use Rattle.prettyless_printer.specs.declared.trial.Mark.{Mark}
 use Rattle.prettyless_printer.specs.declared.trial.OpenTrial.{OpenTrial}
 use Rattle.prettyless_printer.specs.declared.answer.TrialState.TheVariants as trial_state

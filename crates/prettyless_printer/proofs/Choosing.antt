@@ -5,7 +5,7 @@ use Rattle.prettyless_sink.specs.Sink.{Accepts, AppendsBeginning, IfKnown, Refus
 use Rattle.prettyless_sink.specs.declared.error.RenderError.TheVariants.{Memory, Sink}
 use Rattle.prettyless_model.specs.Tree.{Tree}
 use Rattle.prettyless_model.specs.Layout.{State}
-use Rattle.prettyless_step.specs.Stack.{nodes}
+use Rattle.prettyless_probe.specs.Stack.{nodes}
 use Rattle.prettyless_step.specs.Steps.{owed}
 use Rattle.prettyless_printer.specs.Points.{Point, Seen, Standing, point_at}
 use Rattle.prettyless_printer.specs.Trials.{TrialBroke, Tries, attempt}

@@ -11,9 +11,9 @@ use Rattle.prettyless_sink.specs.declared.visits.Visits.{Visits}
 use Rattle.prettyless_model.specs.Layout.{State}
 use Rattle.prettyless_model.specs.declared.mode.Mode.TheVariants.{Break}
 use Rattle.prettyless_model.specs.Tree.{Tree, size}
-use Rattle.prettyless_step.specs.Stack.{Task, make_task, nodes}
+use Rattle.prettyless_probe.specs.Stack.{Task, make_task, nodes}
 use Rattle.prettyless_step.specs.Steps.{owed}
-use Rattle.prettyless_step.proofs.Sizes.{size_positive}
+use Rattle.prettyless_probe.proofs.Sizes.{size_positive}
 use Rattle.prettyless_printer.specs.declared.answer.TrialState.TheVariants as trial_state
 use Rattle.prettyless_printer.specs.Points.{Standing, state_at, QueueGrows, Seen, Point, point_at, work_at}
 use Rattle.prettyless_printer.specs.Trials.{Attempt, Courses, OnTrial, Restores}

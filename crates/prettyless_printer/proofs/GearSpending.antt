@@ -5,7 +5,7 @@ use Rattle.std.specs.List.{sum_by}
 use Rattle.prettyless_sink.specs.declared.visits.Visits.{Visits}
 use Rattle.prettyless_model.specs.declared.options.RenderOptions.{RenderOptions}
 use Rattle.prettyless_model.specs.Tree.{Tree, size}
-use Rattle.prettyless_step.specs.Stack.{nodes, trees}
+use Rattle.prettyless_probe.specs.Stack.{nodes, trees}
 use Rattle.prettyless_step.specs.declared.printer.Printer.{Printer}
 use Rattle.prettyless_table.specs.Shift.{nodes_left}
 use Rattle.prettyless_printer.specs.declared.gear.Gears.{Gears}

@@ -7,14 +7,14 @@ use Rattle.prettyless_model.specs.Tree.{Tree, size}
 use Rattle.prettyless_model.specs.Layout.{State}
 use Rattle.prettyless_model.specs.declared.mode.Mode.{Mode}
 use Rattle.prettyless_model.specs.Counts.{each_probe}
-use Rattle.prettyless_step.specs.Stack.{Task, make_task, nodes}
+use Rattle.prettyless_probe.specs.Stack.{Task, make_task, nodes}
 use Rattle.prettyless_step.specs.Steps.{Step, Stuck, Choose, Move, counted_payload, rejects_payload, work, owed}
-use Rattle.prettyless_step.specs.Probing.{asked, RisesBy}
+use Rattle.prettyless_probe.specs.Probing.{asked, RisesBy}
 use Rattle.prettyless_step.specs.Printing.{Hands, Shows, state_of, tasks_of}
 use Rattle.prettyless_step.specs.declared.printer.Printer.{Printer}
 use Rattle.prettyless_step.specs.declared.printer.StepResult.{StepResult}
 use Rattle.prettyless_step.proofs.Shown.{step_at, Leads}
-use Rattle.prettyless_step.proofs.Stacks.{nodes-append}
+use Rattle.prettyless_probe.proofs.Stacks.{nodes-append}
 use Rattle.prettyless_printer.specs.Points.{Standing, standing, state_at, QueueGrows, Seen, Point, point_at, point}
 use Rattle.prettyless_printer.specs.Progress.{Inside}
 use Rattle.prettyless_printer.specs.Turns.{Advances, ForWholes, next_size}

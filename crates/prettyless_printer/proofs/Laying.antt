@@ -12,10 +12,10 @@ use Rattle.prettyless_model.specs.Column.{gap, nested, prospective, saturating_a
 use Rattle.prettyless_model.specs.Spaces.{spaces}
 use Rattle.prettyless_model.specs.Layout.{State}
 use Rattle.prettyless_model.specs.Counts.{each_probe}
-use Rattle.prettyless_step.specs.Stack.{Task, make_task, nodes, trees}
-use Rattle.prettyless_step.specs.Texts.{IsTexts}
-use Rattle.prettyless_step.specs.Probing.{RisesBy}
-use Rattle.prettyless_step.specs.Sums.{HaveSummaries}
+use Rattle.prettyless_probe.specs.Stack.{Task, make_task, nodes, trees}
+use Rattle.prettyless_probe.specs.Texts.{IsTexts}
+use Rattle.prettyless_probe.specs.Probing.{RisesBy}
+use Rattle.prettyless_probe.specs.Sums.{HaveSummaries}
 use Rattle.prettyless_step.specs.Printing.{Hands}
 use Rattle.prettyless_step.specs.declared.printer.Printer.{Printer}
 use Rattle.prettyless_step.proofs.Shown.{step_at, Leads}

@@ -10,9 +10,9 @@ use Rattle.prettyless_model.specs.declared.mode.Mode.TheVariants.{Break}
 use Rattle.prettyless_model.specs.Tree.{Tree, size}
 use Rattle.prettyless_model.specs.Content.{suffix_depth}
 use Rattle.prettyless_summary.specs.Summary.{HasSums}
-use Rattle.prettyless_step.specs.Stack.{Task, make_task, nodes}
-use Rattle.prettyless_step.specs.Sums.{HaveSummaries, TreesHave}
-use Rattle.prettyless_step.proofs.Stacks.{nodes-append}
+use Rattle.prettyless_probe.specs.Stack.{Task, make_task, nodes}
+use Rattle.prettyless_probe.specs.Sums.{HaveSummaries, TreesHave}
+use Rattle.prettyless_probe.proofs.Stacks.{nodes-append}
 use Rattle.prettyless_printer.specs.Points.{Standing, Point}
 use Rattle.prettyless_printer.specs.Visits.{Plain}
 use Rattle.prettyless_printer.specs.Trials.{Attempt, Restores}

@@ -10,7 +10,7 @@ use Rattle.prettyless_model.specs.Tree.{Tree}
 use Rattle.prettyless_model.specs.Content.{suffix_depth}
 use Rattle.prettyless_model.specs.Layout.{State, Outcome}
 use Rattle.prettyless_model.proofs.Outcomes.{after-nil}
-use Rattle.prettyless_step.specs.Stack.{Task, make_task, nodes}
+use Rattle.prettyless_probe.specs.Stack.{Task, make_task, nodes}
 use Rattle.prettyless_step.specs.Steps.{work, owed}
 use Rattle.prettyless_printer.specs.declared.answer.TurnResult.TheVariants as turn_result
 use Rattle.prettyless_printer.specs.Points.{Standing, state_at, QueueGrows, Seen, Point, point_at, work_at}

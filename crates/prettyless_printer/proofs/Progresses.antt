@@ -9,11 +9,11 @@ use Rattle.prettyless_model.specs.Levels.{settle}
 use Rattle.prettyless_model.specs.declared.mode.Mode.TheVariants.{Break}
 use Rattle.prettyless_model.proofs.Outcomes.{after-after}
 use Rattle.prettyless_model.proofs.Levels.{settle_fixed}
-use Rattle.prettyless_step.specs.Stack.{Task, make_task, follow}
+use Rattle.prettyless_probe.specs.Stack.{Task, make_task, follow}
 use Rattle.prettyless_step.specs.Steps.{lay_all, work, owed, Step, Move, Stuck, Choose, step_of, chosen, runs}
 use Rattle.prettyless_printer.specs.Progress.{Inside, Waits}
 use Rattle.prettyless_printer.specs.Turns.{bytes_before}
-use Rattle.prettyless_step.proofs.Stacks.{follow-append, nodes-append, split_top}
+use Rattle.prettyless_probe.proofs.Stacks.{follow-append, nodes-append, split_top}
 use Rattle.prettyless_printer.proofs.Runs.{step_runs}
 use Rattle.prettyless_printer.proofs.Steps.{LeavesLess, step_less}
 use Rattle.prettyless_printer.proofs.Within.{Past, all_past, past-after}

@@ -17,7 +17,7 @@ use Rattle.prettyless_model.specs.Levels.{settle, settle_end}
 use Rattle.prettyless_model.specs.declared.mode.Mode.TheVariants.{Break}
 use Rattle.prettyless_model.proofs.Outcomes.{after-nil, after-after, then-done}
 use Rattle.prettyless_model.proofs.Levels.{end_fixed, layout_is}
-use Rattle.prettyless_step.specs.Stack.{Task, make_task, nodes, tasks}
+use Rattle.prettyless_probe.specs.Stack.{Task, make_task, nodes, tasks}
 use Rattle.prettyless_step.specs.Steps.{lay_all, owed}
 use Rattle.prettyless_printer.specs.Points.{Point, Standing, state_at}
 use Rattle.prettyless_printer.specs.Linear.{IsFew, IsLinear}

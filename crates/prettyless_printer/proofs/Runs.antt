@@ -19,7 +19,7 @@ use Rattle.prettyless_model.proofs.Outcomes.{after-nil, then-after, then-then}
 use Rattle.prettyless_model.proofs.Levels.{Fixed}
 use Rattle.prettyless_model.specs.declared.mode.Mode.{Mode}
 use Rattle.prettyless_model.specs.declared.mode.Mode.TheVariants.{Break, Flat}
-use Rattle.prettyless_step.specs.Stack.{Task, make_task, tasks, follow}
+use Rattle.prettyless_probe.specs.Stack.{Task, make_task, tasks, follow}
 use Rattle.prettyless_step.specs.Steps.{lay_all, step_of, break_step, union_step, decided_by_metrics, at_once, chosen, runs}
 
 pub follow-tasks : (i : ℕ) (m : Mode) (ds : List Tree) (us : List Task) → follow (tasks i m ds ++ us) ≡ entries i ds ++ follow us

@@ -8,8 +8,8 @@ use Rattle.prettyless_sink.specs.declared.visits.Visits.{Visits}
 use Rattle.prettyless_model.specs.declared.options.RenderOptions.{RenderOptions}
 use Rattle.prettyless_model.specs.Layout.{State, bytes_in, layout}
 use Rattle.prettyless_model.specs.Tree.{Tree, size}
-use Rattle.prettyless_step.specs.Stack.{nodes}
-use Rattle.prettyless_step.specs.Sums.{HaveSummaries}
+use Rattle.prettyless_probe.specs.Stack.{nodes}
+use Rattle.prettyless_probe.specs.Sums.{HaveSummaries}
 use Rattle.prettyless_step.specs.declared.printer.Printer.{Printer}
 use Rattle.prettyless_table.specs.Shift.{IsShifted}
 use Rattle.prettyless_printer.specs.declared.trial.OpenTrial.{OpenTrial}

@@ -12,7 +12,7 @@ use Rattle.prettyless_model.specs.Layout.{State, Outcome, Done, Failed, Bytes, W
 use Rattle.prettyless_model.specs.Levels.{settle, settle_end}
 use Rattle.prettyless_model.specs.Counts.{Weight}
 use Rattle.prettyless_model.proofs.Outcomes.{after-after, then-after}
-use Rattle.prettyless_step.specs.Stack.{Task, nodes}
+use Rattle.prettyless_probe.specs.Stack.{Task, nodes}
 use Rattle.prettyless_step.specs.Steps.{lay_all, owed}
 use Rattle.prettyless_model.specs.Tree.{Tree}
 use Rattle.prettyless_printer.specs.declared.answer.RunResult.{RunResult}

@@ -12,11 +12,11 @@ use Rattle.prettyless_model.specs.Content.{suffix_depth}
 use Rattle.prettyless_model.specs.Counts.{each_probe}
 use Rattle.prettyless_model.specs.Layout.{State, some_pending}
 use Rattle.prettyless_summary.specs.Summary.{HasSums}
-use Rattle.prettyless_step.specs.Stack.{Task, make_task, nodes, follow, trees}
-use Rattle.prettyless_step.specs.Steps.{Step, Move, Stuck, Choose}
-use Rattle.prettyless_step.specs.Probing.{asked, Few}
+use Rattle.prettyless_probe.specs.Stack.{Task, make_task, nodes, follow, trees}
+use Rattle.prettyless_step.specs.Steps.{Step, StepHas, Move, Stuck, Choose}
+use Rattle.prettyless_probe.specs.Probing.{asked, Few}
 use Rattle.prettyless_step.specs.Printing.{Hands, Shows, state_of, tasks_of}
-use Rattle.prettyless_step.specs.Sums.{AllSummed, HaveSummaries, StepHas, TreesHave}
+use Rattle.prettyless_probe.specs.Sums.{AllSummed, HaveSummaries, TreesHave}
 use Rattle.prettyless_step.specs.declared.printer.Printer.{Printer}
 use Rattle.prettyless_step.specs.declared.printer.StepResult.TheVariants.{Failed, Choice}
 use Rattle.prettyless_step.proofs.Shown.{step_at, Leads, Asks}

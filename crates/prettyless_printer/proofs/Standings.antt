@@ -5,7 +5,7 @@ use Rattle.prettyless_model.specs.declared.mode.Mode.{Mode}
 use Rattle.prettyless_model.specs.declared.options.RenderOptions.{RenderOptions}
 use Rattle.prettyless_model.specs.Layout.{State, some_pending}
 use Rattle.prettyless_model.specs.Tree.{Tree}
-use Rattle.prettyless_step.specs.Stack.{Task, make_task, nodes, trees}
+use Rattle.prettyless_probe.specs.Stack.{Task, make_task, nodes, trees}
 use Rattle.prettyless_step.specs.Steps.{Step}
 use Rattle.prettyless_step.specs.Printing as step
 use Rattle.prettyless_step.specs.Printing.{state_of, tasks_of, Hands, Shows, Writes}

@@ -14,10 +14,10 @@ use Rattle.prettyless_model.specs.Layout.{State, Done, Entry, lay_text, lay_endi
 use Rattle.prettyless_model.specs.Layout.{probe}
 use Rattle.prettyless_model.specs.declared.mode.Mode.{Mode}
 use Rattle.prettyless_model.specs.declared.mode.Mode.TheVariants.{Break, Flat}
-use Rattle.prettyless_step.specs.Stack.{Task, make_task, tasks, nodes}
+use Rattle.prettyless_probe.specs.Stack.{Task, make_task, tasks, nodes}
 use Rattle.prettyless_step.specs.Steps.{Step, Move, Stuck, Choose, step_of, union_step, decided_by_metrics, is_rejected, rejects_payload}
 use Rattle.prettyless_step.specs.Steps.{break_step, at_once, owed}
-use Rattle.prettyless_step.proofs.Sizes.{size_positive}
+use Rattle.prettyless_probe.proofs.Sizes.{size_positive}
 
 -- the step leaves less work than n, where p is owed for the documents that wait
 abbrev pub LeavesLess : ℕ → ℕ → Step → Type 0

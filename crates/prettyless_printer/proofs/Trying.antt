@@ -14,7 +14,7 @@ use Rattle.prettyless_model.specs.Layout.{State, Outcome, Done, accept, tried, l
 use Rattle.prettyless_model.specs.Levels.{settle}
 use Rattle.prettyless_model.specs.declared.mode.Mode.TheVariants.{Break}
 use Rattle.prettyless_model.proofs.Outcomes.{after-nil, then-done}
-use Rattle.prettyless_step.specs.Stack.{Task, make_task, follow}
+use Rattle.prettyless_probe.specs.Stack.{Task, make_task, follow}
 use Rattle.prettyless_step.specs.Steps.{lay_all, owed}
 use Rattle.prettyless_printer.specs.Progress.{Inside, Waits, Decides}
 use Rattle.prettyless_printer.specs.Points.{Standing, state_at, QueueBegins, QueueGrows, Seen, seen}

@@ -6,9 +6,9 @@ use Rattle.prettyless_model.specs.declared.options.RenderOptions.{RenderOptions}
 use Rattle.prettyless_model.specs.Tree.{Tree, size}
 use Rattle.prettyless_model.specs.Layout.{State, Outcome, Failed, after_bytes}
 use Rattle.prettyless_model.specs.Levels.{settle}
-use Rattle.prettyless_step.specs.Stack.{Task, follow, nodes}
+use Rattle.prettyless_probe.specs.Stack.{Task, follow, nodes}
 use Rattle.prettyless_step.specs.Steps.{lay_all, work, owed, Step, Move, Stuck, Choose}
-use Rattle.prettyless_step.proofs.Stacks.{nodes-append}
+use Rattle.prettyless_probe.proofs.Stacks.{nodes-append}
 use Rattle.prettyless_step.proofs.Shown.{step_at, Leads, IsStuck, Asks}
 use Rattle.prettyless_printer.specs.Progress.{Inside, Waits}
 use Rattle.prettyless_printer.specs.Turns.{bytes_before}

@@ -15,13 +15,13 @@ use Rattle.prettyless_model.specs.Column.{prospective}
 use Rattle.prettyless_model.specs.Layout.{State, Done, Entry, lay_text, lay_ending, next_indent, is_suppressed, plain_break, probe}
 use Rattle.prettyless_model.specs.declared.mode.Mode.{Mode}
 use Rattle.prettyless_model.specs.declared.mode.Mode.TheVariants.{Break, Flat}
-use Rattle.prettyless_step.specs.Stack.{Task, make_task, follow, nodes}
+use Rattle.prettyless_probe.specs.Stack.{Task, make_task, follow, nodes}
 use Rattle.prettyless_step.specs.Steps.{Step, Move, Stuck, Choose, step_of, union_step, decided_by_metrics, break_step, at_once}
 use Rattle.prettyless_step.specs.Steps.{counted_payload, rejects_payload, owed}
 use Rattle.prettyless_printer.specs.Points.{Standing, state_at}
 use Rattle.prettyless_printer.specs.Visits.{suffix_depths, Plain, charges, Rise, CountsAtMost, RunCountsAtMost, Visited, visited_more}
-use Rattle.prettyless_step.specs.Probing.{asked}
-use Rattle.prettyless_step.proofs.Stacks.{nodes-append}
+use Rattle.prettyless_probe.specs.Probing.{asked}
+use Rattle.prettyless_probe.proofs.Stacks.{nodes-append}
 use Rattle.prettyless_step.proofs.Shown.{step_at, Leads, Asks}
 use Rattle.prettyless_printer.proofs.Steps.{LeavesLess, extra, step_less_visits, visits_within}
 

@@ -17,7 +17,7 @@ use Rattle.prettyless_model.specs.Layout.{entries, next_indent, break_with, brea
 use Rattle.prettyless_model.specs.Levels.{settle, queued}
 use Rattle.prettyless_model.specs.declared.mode.Mode.{Mode}
 use Rattle.prettyless_model.specs.declared.mode.Mode.TheVariants.{Break, Flat}
-use Rattle.prettyless_step.specs.Stack.{Task, follow}
+use Rattle.prettyless_probe.specs.Stack.{Task, follow}
 use Rattle.prettyless_step.specs.Steps.{lay_all}
 
 -- something went past the width, or failed

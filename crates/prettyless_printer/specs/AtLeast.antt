@@ -7,9 +7,9 @@ use Rattle.prettyless_model.specs.Layout.{State, lay, tried}
 use Rattle.prettyless_model.specs.Levels.{settle}
 use Rattle.prettyless_model.specs.Counts.{Weight, each_node, each_probe, counted_then, counted_accept, tally, laid_nodes, laid_probes}
 use Rattle.prettyless_model.specs.declared.mode.Mode.TheVariants.{Break}
-use Rattle.prettyless_step.specs.Stack.{Task, follow}
+use Rattle.prettyless_probe.specs.Stack.{Task, follow}
 use Rattle.prettyless_step.specs.Steps.{chosen}
-use Rattle.prettyless_step.specs.Probing.{RisesBy}
+use Rattle.prettyless_probe.specs.Probing.{RisesBy}
 use Rattle.prettyless_printer.specs.Points.{Standing, state_at}
 use Rattle.prettyless_printer.specs.declared.answer.TurnResult.{TurnResult}
 use Rattle.prettyless_printer.specs.declared.answer.TurnResult.TheVariants.{Complete, Failed, Choice, Shift}

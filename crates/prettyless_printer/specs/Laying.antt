@@ -4,7 +4,7 @@ use Rattle.std.specs.Prelude.{Err}
 use Rattle.prettyless_sink.specs.Sink.{IfKnown, rise}
 use Rattle.prettyless_model.specs.Tree.{Tree}
 use Rattle.prettyless_model.specs.declared.mode.Mode.TheVariants.{Flat}
-use Rattle.prettyless_step.specs.Stack.{Task, make_task, nodes, trees}
+use Rattle.prettyless_probe.specs.Stack.{Task, make_task, nodes, trees}
 use Rattle.prettyless_step.specs.Steps.{work}
 use Rattle.prettyless_printer.specs.Points.{QueueGrows, Point, Standing, state_at, work_at}
 use Rattle.prettyless_printer.specs.Progress.{Inside}

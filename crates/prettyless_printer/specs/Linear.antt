@@ -4,8 +4,8 @@ use Rattle.prettyless_sink.specs.declared.visits.Visits.{Visits}
 use Rattle.prettyless_model.specs.Tree.{Tree, size}
 use Rattle.prettyless_model.specs.Content.{suffix_depth}
 use Rattle.prettyless_summary.specs.Summary.{HasSums}
-use Rattle.prettyless_step.specs.Stack.{nodes}
-use Rattle.prettyless_step.specs.Sums.{HaveSummaries}
+use Rattle.prettyless_probe.specs.Stack.{nodes}
+use Rattle.prettyless_probe.specs.Sums.{HaveSummaries}
 use Rattle.prettyless_printer.specs.Points.{Standing}
 use Rattle.prettyless_printer.specs.Visits.{Plain}
 

@@ -7,7 +7,7 @@ use Rattle.prettyless_model.specs.Layout.{Outcome}
 use Rattle.prettyless_model.specs.Content.{suffix_depth}
 use Rattle.prettyless_model.specs.Counts.{Weight}
 use Rattle.prettyless_model.specs.declared.mode.Mode.TheVariants.{Break}
-use Rattle.prettyless_step.specs.Stack.{Task, make_task, nodes}
+use Rattle.prettyless_probe.specs.Stack.{Task, make_task, nodes}
 use Rattle.prettyless_step.specs.Steps.{work}
 use Rattle.prettyless_printer.specs.Points.{state_at, QueueBegins, Point}
 use Rattle.prettyless_printer.specs.Progress.{Inside, Waits}

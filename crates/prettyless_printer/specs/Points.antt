@@ -7,7 +7,7 @@ use Rattle.prettyless_model.specs.declared.column.Column.{Column}
 use Rattle.prettyless_model.specs.declared.options.RenderOptions.{RenderOptions}
 use Rattle.prettyless_model.specs.Tree.{Tree}
 use Rattle.prettyless_model.specs.Layout.{State}
-use Rattle.prettyless_step.specs.Stack.{Task, trees}
+use Rattle.prettyless_probe.specs.Stack.{Task, trees}
 use Rattle.prettyless_step.specs.Steps.{work}
 use Rattle.prettyless_step.specs.Printing.{tasks_of}
 use Rattle.prettyless_step.specs.declared.printer.Printer.{Printer}

@@ -4,7 +4,7 @@ use Rattle.prettyless_model.specs.declared.options.RenderOptions.{RenderOptions}
 use Rattle.prettyless_model.specs.Tree.{Tree, size}
 use Rattle.prettyless_model.specs.Layout.{State, Outcome, Done, after_bytes, and_then, accept}
 use Rattle.prettyless_model.specs.Levels.{settle}
-use Rattle.prettyless_step.specs.Stack.{Task, follow}
+use Rattle.prettyless_probe.specs.Stack.{Task, follow}
 use Rattle.prettyless_step.specs.Steps.{lay_all, chosen, work}
 
 -- What was written since `old`, and then what the tasks above `below` lay, is the whole.

@@ -12,7 +12,7 @@ use Rattle.prettyless_model.specs.Column.{gap}
 use Rattle.prettyless_model.specs.Layout.{Outcome, Done, Failed, Bytes, Whole, Cut, after_bytes, bytes_in, bytes_of, and_then, flushed}
 use Rattle.prettyless_model.specs.Layout.{initial, layout}
 use Rattle.prettyless_model.specs.Levels.{settle, settle_end}
-use Rattle.prettyless_step.specs.Stack.{make_task, tasks}
+use Rattle.prettyless_probe.specs.Stack.{make_task, tasks}
 use Rattle.prettyless_step.specs.Steps.{lay_all, owed, work}
 use Rattle.prettyless_printer.specs.Points.{Standing, state_at, Seen, Point, point_at}
 use Rattle.prettyless_printer.specs.Visits.{CountsAtMost, Plain, Rise, RunCountsAtMost, Visited}

@@ -7,9 +7,9 @@ use Rattle.prettyless_model.specs.declared.options.RenderOptions.{RenderOptions}
 use Rattle.prettyless_model.specs.Tree.{Tree, size}
 use Rattle.prettyless_model.specs.Content.{suffix_depth}
 use Rattle.prettyless_model.specs.declared.mode.Mode.TheVariants.{Break}
-use Rattle.prettyless_step.specs.Stack.{Task, make_task, nodes}
-use Rattle.prettyless_step.specs.Probing.{RisesBy}
-use Rattle.prettyless_step.specs.Sums.{HaveSummaries, TreesHave}
+use Rattle.prettyless_probe.specs.Stack.{Task, make_task, nodes}
+use Rattle.prettyless_probe.specs.Probing.{RisesBy}
+use Rattle.prettyless_probe.specs.Sums.{HaveSummaries, TreesHave}
 use Rattle.prettyless_printer.specs.Points.{Standing}
 use Rattle.prettyless_printer.specs.Visits.{Plain}
 use Rattle.prettyless_printer.specs.Trials.{Attempt}

@@ -8,7 +8,7 @@ use Rattle.prettyless_model.specs.Content.{suffix_depth}
 use Rattle.prettyless_model.specs.Layout.{Outcome, accept, lay, some_pending, tried}
 use Rattle.prettyless_model.specs.Levels.{settle}
 use Rattle.prettyless_model.specs.declared.mode.Mode.TheVariants.{Break}
-use Rattle.prettyless_step.specs.Stack.{Task, follow, make_task}
+use Rattle.prettyless_probe.specs.Stack.{Task, follow, make_task}
 use Rattle.prettyless_step.specs.Steps.{owed}
 use Rattle.prettyless_printer.specs.Visits.{Plain, Rise, CountsAtMost, RunCountsAtMost}
 use Rattle.prettyless_printer.specs.AtLeast.{TrialCountsAtLeast, trial_tally}

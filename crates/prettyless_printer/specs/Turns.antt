@@ -7,7 +7,7 @@ use Rattle.prettyless_sink.specs.declared.error.RenderError.TheVariants.{Documen
 use Rattle.prettyless_model.specs.Tree.{Tree, size}
 use Rattle.prettyless_model.specs.Layout as layout
 use Rattle.prettyless_model.specs.Layout.{Outcome, Done}
-use Rattle.prettyless_step.specs.Stack.{Task}
+use Rattle.prettyless_probe.specs.Stack.{Task}
 use Rattle.prettyless_printer.specs.Points.{QueueGrows, Point, Standing, state_at, work_at}
 use Rattle.prettyless_printer.specs.Visits.{Plain, Rise, TurnCountsAtMost}
 use Rattle.prettyless_printer.specs.AtLeast.{TurnCountsAtLeast}

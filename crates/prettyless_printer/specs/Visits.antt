@@ -5,7 +5,7 @@ use Rattle.prettyless_sink.specs.declared.visits.Visits.{Visits}
 use Rattle.prettyless_model.specs.Tree.{Tree, size, probed}
 use Rattle.prettyless_model.specs.Content.{suffix_depth}
 use Rattle.prettyless_model.specs.declared.mode.Mode.TheVariants.{Break}
-use Rattle.prettyless_step.specs.Stack.{Task, make_task, nodes}
+use Rattle.prettyless_probe.specs.Stack.{Task, make_task, nodes}
 use Rattle.prettyless_printer.specs.Points.{Standing, state_at}
 use Rattle.prettyless_printer.specs.declared.answer.TurnResult.{TurnResult}
 use Rattle.prettyless_printer.specs.declared.answer.TurnResult.TheVariants.{Complete, Failed, Choice, Shift}

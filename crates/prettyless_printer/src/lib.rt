@@ -1,6 +1,6 @@
 //! The printer: it works off a document's nodes by steps, tries alternatives, and writes the document's layout to a sink.
 //!
-//! It is proved once, over any nodes that can show themselves (`prettyless_step::walk`), and against the definitions of
+//! It is proved once, over any nodes that can show themselves (`prettyless_probe::walk`), and against the definitions of
 //! `prettyless_model`.
 #![tactic(auto)]
 

@@ -1,7 +1,7 @@
 //! Rendering a document to a sink.
 ghost use Rattle.std.specs.Prelude.{◌≡◌, IfOk};
 ghost use Rattle.prettyless_model.specs.Tree.{size};
-ghost use Rattle.prettyless_step.specs.Sums.{IsSummed};
+ghost use Rattle.prettyless_probe.specs.Sums.{IsSummed};
 ghost use Rattle.prettyless_printer.specs.Points.{seen, standing};
 ghost use Rattle.prettyless_printer.specs.Renders.{Begins, Renders};
 ghost use Rattle.prettyless_printer.specs.Linear.{IsFew, IsLinear};
@@ -10,13 +10,13 @@ use crate::shift::{run_in_gears, run_over_table};
 use prettyless_model::column::Column;
 use prettyless_model::mode::Mode;
 use prettyless_model::options::RenderOptions;
+use prettyless_probe::stack::Stack;
+use prettyless_probe::walk::Walk;
 use prettyless_sink::error::RenderError;
 use prettyless_sink::render::Render;
 use prettyless_sink::visits::Visits;
 use prettyless_step::printer::Printer;
 use prettyless_step::queue::Queue;
-use prettyless_step::stack::Stack;
-use prettyless_step::walk::Walk;
 use std::alloc::{AllocError, Global};
 
 // A printer before a document.

@@ -2,7 +2,7 @@
 ghost use Rattle.std.specs.Prelude.{ℕ, ◌≡◌, ◌<◌, ◌^◌, ◌-◌, [], length, IsTrue, OnOk};
 ghost use Rattle.prettyless_model.specs.Tree.{Tree};
 ghost use Rattle.prettyless_step.specs.Printing.{tasks_of};
-ghost use Rattle.prettyless_step.specs.Sums.{IsSummed};
+ghost use Rattle.prettyless_probe.specs.Sums.{IsSummed};
 ghost use Rattle.prettyless_printer.specs.Points.{Point, buffer_seen, point, seen, standing};
 ghost use Rattle.prettyless_printer.specs.Renders.{FlushesEnd, RunsToEnd};
 ghost use Rattle.prettyless_printer.specs.Open.{all_held, seconds};
@@ -15,13 +15,13 @@ use crate::buffer::Buffer;
 use crate::trial::{Trials, go_on_trying, open_trial};
 use crate::turn::turn;
 use prettyless_model::mode::Mode;
+use prettyless_probe::walk::Walk;
 use prettyless_sink::error::RenderError;
 use prettyless_sink::pieces::write_gap_and_text;
 use prettyless_sink::render::Render;
 use prettyless_sink::visits::Visits;
 use prettyless_step::pending::{is_pending, take_pending};
 use prettyless_step::printer::Printer;
-use prettyless_step::walk::Walk;
 
 // Goes on with a choice whose trials are open. A branch that is kept goes to the sink in one piece.
 fn go_on_choosing<N: Walk, W: Render>(

@@ -3,8 +3,8 @@ ghost use Rattle.std.specs.Prelude.{◌≡◌, ◌<◌, ◌≤◌, ◌+◌, ◌-
 ghost use Rattle.std.specs.List.{sum_by};
 ghost use Rattle.prettyless_model.specs.Tree.{Tree, size};
 ghost use Rattle.prettyless_step.specs.Printing.{tasks_of};
-ghost use Rattle.prettyless_step.specs.Stack.{nodes, trees};
-ghost use Rattle.prettyless_step.specs.Sums.{IsSummed};
+ghost use Rattle.prettyless_probe.specs.Stack.{nodes, trees};
+ghost use Rattle.prettyless_probe.specs.Sums.{IsSummed};
 ghost use Rattle.prettyless_table.specs.Cells.{CellsGrow, CellsAreSound};
 ghost use Rattle.prettyless_table.specs.Owners.{Stand, all_owners, documents_left};
 ghost use Rattle.prettyless_table.specs.Shift.{AreNodes, nodes_left};
@@ -21,11 +21,11 @@ use crate::buffer::Buffer;
 use crate::gear::{Gears, has_gears};
 use crate::run::{finish, go_on};
 use crate::trial::{OpenTrial, Trials};
+use prettyless_probe::walk::Walk;
 use prettyless_sink::error::RenderError;
 use prettyless_sink::render::Render;
 use prettyless_sink::visits::{Visits, one_more};
 use prettyless_step::printer::Printer;
-use prettyless_step::walk::Walk;
 use prettyless_table::{MOST_CELLS, Placed, Table, count, count_left, lay_out_all, placed_printer};
 use std::alloc::{AllocError, Global};
 

@@ -2,19 +2,19 @@
 ghost use Rattle.std.specs.Prelude.{◌≡◌, ◌+◌, ◌≤◌, ◌∷◌, [], ℕ};
 ghost use Rattle.prettyless_model.specs.Tree.{size};
 ghost use Rattle.prettyless_model.specs.declared.mode.Mode.TheVariants.{Flat};
-ghost use Rattle.prettyless_step.specs.Stack.{make_task};
-ghost use Rattle.prettyless_step.specs.Texts.{IsTexts};
+ghost use Rattle.prettyless_probe.specs.Stack.{make_task};
+ghost use Rattle.prettyless_probe.specs.Texts.{IsTexts};
 ghost use Rattle.prettyless_printer.specs.Points.{Point, point, seen, standing};
 ghost use Rattle.prettyless_printer.specs.Turns.{Advances};
 ghost use Rattle.prettyless_printer.specs.Laying.{Laying, ends_turn, laid_to};
 
 use prettyless_model::column::Column;
+use prettyless_probe::walk::{View, Walk};
 use prettyless_sink::error::RenderError;
 use prettyless_sink::pieces::write_gap_and_text;
 use prettyless_sink::render::Render;
 use prettyless_sink::visits::{Visits, one_more};
 use prettyless_step::printer::Printer;
-use prettyless_step::walk::{View, Walk};
 
 // Leaves the printer at the position where texts end, if one of them was not empty.
 #[inline(always)]

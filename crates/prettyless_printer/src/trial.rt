@@ -3,7 +3,7 @@ ghost use Rattle.std.specs.Prelude.{◌≡◌, ◌≤◌, ◌<◌, [], length, t
 ghost use Rattle.std.specs.String.{string_bytes};
 ghost use Rattle.std.specs.String.Boundary.{IsSplitPoint};
 ghost use Rattle.prettyless_model.specs.Tree.{Tree};
-ghost use Rattle.prettyless_step.specs.Sums.{IsSummed};
+ghost use Rattle.prettyless_probe.specs.Sums.{IsSummed};
 ghost use Rattle.prettyless_printer.specs.Points.{buffer_seen, point, standing};
 ghost use Rattle.prettyless_printer.specs.Trials.{Attempt, Courses, Marks, Restores, TrialStopsPast};
 ghost use Rattle.prettyless_printer.specs.Open.{BeginsTrial, Ends, Open, Opens, all_held, below_all, seconds};
@@ -15,12 +15,12 @@ use crate::buffer::Buffer;
 use crate::turn::turn;
 use prettyless_model::column::Column;
 use prettyless_model::mode::Mode;
+use prettyless_probe::walk::Walk;
 use prettyless_sink::error::RenderError;
 use prettyless_sink::visits::Visits;
 use prettyless_step::pending::is_pending;
 use prettyless_step::printer::Printer;
 use prettyless_step::queue::QueueMark;
-use prettyless_step::walk::Walk;
 use std::alloc::{AllocError, Global};
 
 /// What a trial goes back to if it is not kept.

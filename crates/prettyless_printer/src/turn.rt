@@ -1,7 +1,7 @@
 //! A turn: a command is taken and stepped, and so is each that comes in hand; the last one is written.
 ghost use Rattle.std.specs.Prelude.{◌≡◌, ◌<◌, [], length, IfOk, OnOk};
 ghost use Rattle.prettyless_step.specs.Printing.{tasks_of};
-ghost use Rattle.prettyless_step.specs.Sums.{IsSummed};
+ghost use Rattle.prettyless_probe.specs.Sums.{IsSummed};
 ghost use Rattle.prettyless_printer.specs.Points.{point, seen, standing};
 ghost use Rattle.prettyless_printer.specs.Visits.{Plain, visited_more};
 ghost use Rattle.prettyless_printer.specs.Spending.{Spends, after_turn, left, rule_of};
@@ -10,13 +10,13 @@ ghost use Rattle.prettyless_printer.specs.Turns.{Advances, StopsPast};
 use crate::answer::TurnResult;
 use crate::texts::lay_texts;
 use prettyless_model::mode::Mode;
+use prettyless_probe::walk::Walk;
 use prettyless_sink::error::RenderError;
 use prettyless_sink::render::Render;
 use prettyless_sink::visits::{Visits, one_more};
 use prettyless_step::piece::write_piece;
 use prettyless_step::printer::{Printer, StepResult};
 use prettyless_step::step::step;
-use prettyless_step::walk::Walk;
 
 // Adds so many nodes to those that the printer visited.
 #[inline(always)]

@@ -1,9 +1,3 @@
-pub mod Sizes
-pub mod Frames
-pub mod Stacks
-pub mod Probes
-pub mod Texts
 pub mod Queues
 pub mod Shown
-pub mod Sums
 pub mod Summaries

@@ -4,7 +4,7 @@ use Rattle.std.proofs.Common.{drop, length-drop, true, false}
 use Rattle.std.proofs.lemmas.List.{map-append, drop-append-le, drop_all}
 use Rattle.prettyless_model.specs.Tree.{Tree}
 use Rattle.prettyless_model.specs.Layout.{some_pending}
-use Rattle.prettyless_step.specs.Stack.{trees}
+use Rattle.prettyless_probe.specs.Stack.{trees}
 
 pub trees-append : {N : Type 0} (f : N → Tree) (xs ys : List N) → trees f (xs ++ ys) ≡ trees f xs ++ trees f ys
 trees-append f xs ys = map-append f xs ys

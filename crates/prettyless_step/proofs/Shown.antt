@@ -4,12 +4,12 @@ use Rattle.prettyless_model.specs.declared.options.RenderOptions.{RenderOptions}
 use Rattle.prettyless_model.specs.Tree.{Tree}
 use Rattle.prettyless_model.specs.Layout.{State}
 use Rattle.prettyless_model.specs.declared.mode.Mode.{Mode}
-use Rattle.prettyless_step.specs.Stack.{Task, make_task, follow, nodes}
+use Rattle.prettyless_probe.specs.Stack.{Task, make_task, follow, nodes}
 use Rattle.prettyless_step.specs.Steps.{Step, Move, Stuck, Choose, step_of}
 use Rattle.prettyless_step.specs.Printing.{state_of, tasks_of, PrinterGrows, Hands, Shows, Writes}
 use Rattle.prettyless_step.specs.declared.printer.Printer.{Printer}
 use Rattle.prettyless_step.specs.declared.printer.StepResult.TheVariants.{Failed, Choice}
-use Rattle.prettyless_step.proofs.Stacks.{nodes-append}
+use Rattle.prettyless_probe.proofs.Stacks.{nodes-append}
 
 -- the step of a task with others after it
 abbrev pub step_at : RenderOptions → Task → List Task → State → Step

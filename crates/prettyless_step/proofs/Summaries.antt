@@ -9,9 +9,9 @@ use Rattle.prettyless_model.specs.Layout.{State, Outcome, Done, Entry, is_suppre
 use Rattle.prettyless_model.specs.declared.mode.Mode.{Mode}
 use Rattle.prettyless_model.specs.declared.mode.Mode.TheVariants.{Break, Flat}
 use Rattle.prettyless_summary.specs.Summary.{HasSums}
-use Rattle.prettyless_step.specs.Stack.{Task, make_task, tasks}
-use Rattle.prettyless_step.specs.Steps.{at_once, break_step, step_of, union_step, decided_by_metrics}
-use Rattle.prettyless_step.specs.Sums.{HaveSummaries, StepHas, TreesHave}
+use Rattle.prettyless_probe.specs.Stack.{Task, make_task, tasks}
+use Rattle.prettyless_step.specs.Steps.{StepHas, at_once, break_step, step_of, union_step, decided_by_metrics}
+use Rattle.prettyless_probe.specs.Sums.{HaveSummaries, TreesHave}
 
 either_has : (b : Bool) (x y : Tree) → HasSums x → HasSums y → HasSums (if b then x else y)
 either_has true x y h k = h

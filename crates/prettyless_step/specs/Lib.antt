@@ -1,9 +1,3 @@
-pub mod View
-pub mod Frames
-pub mod Stack
 pub mod Piece
 pub mod Steps
-pub mod Sums
-pub mod Probing
-pub mod Texts
 pub mod Printing

@@ -1,11 +1,11 @@
 -- The printer's state as the definitions see it, and what a step of the code shows of the step that is defined.
 use Rattle.std.specs.Prelude.{◌≡◌, ℕ, List, [], ◌∷◌, ◌++◌, drop, Result, Ok, Err}
 use Rattle.prettyless_model.specs.Tree.{Tree}
-use Rattle.prettyless_model.specs.Layout.{State, Entry, probe}
+use Rattle.prettyless_model.specs.Layout.{State, Entry}
 use Rattle.prettyless_model.specs.declared.mode.Mode.{Mode}
 use Rattle.prettyless_model.specs.declared.mode.Mode.TheVariants.{Flat}
-use Rattle.prettyless_step.specs.Stack.{Task, make_task, follow, stack_of, trees}
-use Rattle.prettyless_step.specs.Texts.{IsTexts}
+use Rattle.prettyless_probe.specs.Stack.{Task, make_task, follow, stack_of, trees}
+use Rattle.prettyless_probe.specs.Texts.{IsTexts}
 use Rattle.prettyless_step.specs.Steps.{Step, Move, Stuck, Choose}
 use Rattle.prettyless_step.specs.Piece.{piece_bytes}
 use Rattle.prettyless_step.specs.declared.printer.Printer.{Printer}

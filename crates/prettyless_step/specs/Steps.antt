@@ -1,5 +1,5 @@
 -- What the visit of one node does, and what the tasks that are left lay.
-use Rattle.std.specs.Prelude.{ℕ, ◌+◌, ◌*◌, List, [], ◌∷◌, ◌++◌, length, Bool, true, false, Option, Some, None, if◌then◌else◌}
+use Rattle.std.specs.Prelude.{ℕ, ◌+◌, ◌*◌, List, [], ◌∷◌, ◌++◌, length, ⊤, Bool, true, false, Option, Some, None, if◌then◌else◌}
 use Rattle.prettyless_sink.specs.Sink.{rise}
 use Rattle.prettyless_model.specs.Spaces.{spaces}
 use Rattle.prettyless_model.specs.declared.options.RenderOptions.{RenderOptions}
@@ -13,7 +13,9 @@ use Rattle.prettyless_model.specs.Layout.{State, Outcome, Done, Failed, Entry, B
 use Rattle.prettyless_model.specs.Layout.{payload_fits, plain_break, probe, accept, tried, flushed}
 use Rattle.prettyless_model.specs.declared.mode.Mode.{Mode}
 use Rattle.prettyless_model.specs.declared.mode.Mode.TheVariants.{Break, Flat}
-use Rattle.prettyless_step.specs.Stack.{Task, make_task, tasks, follow, nodes}
+use Rattle.prettyless_summary.specs.Summary.{HasSums}
+use Rattle.prettyless_probe.specs.Stack.{Task, make_task, tasks, follow, nodes}
+use Rattle.prettyless_probe.specs.Sums.{HaveSummaries, TreesHave}
 
 -- the tasks in turn, each with the later ones and then `outer` following
 unfoldable pub lay_all : RenderOptions → Breaks → List Task → List Entry → State → Outcome
@@ -104,3 +106,9 @@ owed (d ∷ ds) = 2 * size d + 1 + owed ds
 -- the work that is left: it falls at each step
 abbrev pub work : List Task → State → ℕ
 work ts st = 2 * nodes ts + owed st.pending
+
+-- what a step leads to has summaries
+abbrev pub StepHas : Step → Type 0
+StepHas (Move b pushed u) = HaveSummaries pushed × TreesHave u.pending
+StepHas Stuck = ⊤
+StepHas (Choose i l r) = HasSums l × HasSums r

@@ -7,10 +7,10 @@ ghost use Rattle.prettyless_step.specs.Piece.{piece_bytes};
 
 use crate::piece::Piece;
 use crate::printer::Printer;
-use crate::walk::Walk;
 use prettyless_model::column::Column;
 use prettyless_model::metrics::Metrics;
 use prettyless_model::options::RenderOptions;
+use prettyless_probe::walk::Walk;
 
 /// Content of this counted width, in columns: the column moves past it, and `within` falls where that is past the width.
 /// An empty text is nothing.

@@ -2,13 +2,13 @@
 ghost use Rattle.std.specs.Prelude.{◌≡◌, ◌++◌, IfOk, OnOk};
 ghost use Rattle.prettyless_model.specs.Column.{gap as gap_of};
 ghost use Rattle.prettyless_model.specs.Layout.{flushed, some_pending};
-ghost use Rattle.prettyless_step.specs.Stack.{tasks};
+ghost use Rattle.prettyless_probe.specs.Stack.{tasks};
 ghost use Rattle.prettyless_step.specs.Printing.{PrinterGrows, state_of, tasks_of};
-ghost use Rattle.prettyless_step.specs.Sums.{IsSummed};
+ghost use Rattle.prettyless_probe.specs.Sums.{IsSummed};
 
 use crate::printer::Printer;
-use crate::walk::Walk;
 use prettyless_model::mode::Mode;
+use prettyless_probe::walk::Walk;
 use std::alloc::AllocError;
 
 /// Whether a line suffix is pending.

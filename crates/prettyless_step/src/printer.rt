@@ -1,9 +1,9 @@
 //! The printer's state, and what a step answers.
 use crate::piece::Piece;
 use crate::queue::Queue;
-use crate::stack::Stack;
 use prettyless_model::column::Column;
 use prettyless_model::options::RenderOptions;
+use prettyless_probe::stack::Stack;
 
 /// The printer's state: the column, the commands that are left, and the pending line suffixes.
 #[derive(Drop)]

@@ -6,27 +6,27 @@ ghost use Rattle.prettyless_model.specs.Content.{suffix_depth};
 ghost use Rattle.prettyless_model.specs.Counts.{each_probe};
 ghost use Rattle.prettyless_model.specs.Layout.{is_suppressed, lay_ending, some_pending, next_indent, probe as probe_of};
 ghost use Rattle.prettyless_model.specs.declared.mode.Mode.TheVariants.{Break, Flat};
-ghost use Rattle.prettyless_step.specs.Stack.{make_task, nodes};
+ghost use Rattle.prettyless_probe.specs.Stack.{make_task, nodes};
 ghost use Rattle.prettyless_step.specs.Steps.{Move, at_once, break_step, counted_payload, decided_by_metrics, is_rejected};
 ghost use Rattle.prettyless_step.specs.Steps.{rejects_payload, step_of, union_step};
 ghost use Rattle.prettyless_step.specs.Piece.{piece_bytes};
 ghost use Rattle.prettyless_step.specs.Printing.{IsStepped, IsSteppedOrRefused, IsStopped, Shows, Writes, following, state_of, tasks_of};
-ghost use Rattle.prettyless_step.specs.Probing.{Few, RisesBy, asked, is_fit};
-ghost use Rattle.prettyless_step.specs.Texts.{IsTexts};
-ghost use Rattle.prettyless_step.specs.declared.probe.Fit.TheVariants.{FitsAsTexts};
-ghost use Rattle.prettyless_step.specs.Sums.{IsSummed};
+ghost use Rattle.prettyless_probe.specs.Probing.{Few, RisesBy, asked, is_fit};
+ghost use Rattle.prettyless_probe.specs.Texts.{IsTexts};
+ghost use Rattle.prettyless_probe.specs.declared.probe.Fit.TheVariants.{FitsAsTexts};
+ghost use Rattle.prettyless_probe.specs.Sums.{IsSummed};
 
-use crate::choice::{by_column, by_nesting, either};
-use crate::command::nested_indent;
 use crate::content::{payload_fits, put_payload, put_text};
 use crate::pending::{is_pending, take_pending};
 use crate::piece::Piece;
 use crate::printer::{Printer, StepResult};
-use crate::probe::{Fit, Line, probe};
-use crate::walk::{View, Walk};
 use prettyless_model::column::Column;
 use prettyless_model::mode::Mode;
 use prettyless_model::options::IndentationPolicy;
+use prettyless_probe::choice::{by_column, by_nesting, either};
+use prettyless_probe::command::nested_indent;
+use prettyless_probe::probe::{Fit, Line, probe};
+use prettyless_probe::walk::{View, Walk};
 use prettyless_sink::visits::{Visits, one_more};
 use std::alloc::AllocError;
 
@@ -142,7 +142,7 @@ fn end_line<N: Walk>(printer: &mut Printer<N>, indent: usize) -> Piece<'static>
 }
 
 // The pending line suffixes come next, and after them the break again.
-#[tactic(auto, using(crate::proofs::Stacks::below_steps))]
+#[tactic(auto, using(prettyless_probe::proofs::Stacks::below_steps))]
 fn flush_line<N: Walk>(
     printer: &mut Printer<N>,
     indent: usize,
@@ -205,7 +205,7 @@ fn is_past_limit(probes: u64, limit: u64) -> bool
 
 // A group, whose document is laid flat where it fits. It is not asked for where probes are past the limit.
 #[inline(always)]
-#[tactic(auto, using(crate::proofs::Sizes::size_positive))]
+#[tactic(auto, using(prettyless_probe::proofs::Sizes::size_positive))]
 fn group<N: Walk>(
     printer: &mut Printer<N>,
     indent: usize,

@@ -6,7 +6,7 @@ use Rattle.std.proofs.Math.Seq.{drop-append_seam}
 use Rattle.prettyless_model.specs.Tree.{Tree, Nil, Fail, Text, TextWithLen, MultilineText, WeakSpace, HardLine, WeakLine, Append}
 use Rattle.prettyless_model.specs.Tree.{LineSuffix, Nest, DedentToRoot, Align, ExpandParent, Flatten, BreakOrFlat, Group, Union}
 use Rattle.prettyless_model.specs.Tree.{PartialUnion, OnColumn, OnNesting, size}
-use Rattle.prettyless_step.proofs.Sizes.{size_positive}
+use Rattle.prettyless_probe.proofs.Sizes.{size_positive}
 use Rattle.prettyless_table.specs.Parts.{leaves, none, parts_of, small, takes}
 use Rattle.prettyless_table.specs.Laying.{IsOwn, Serves}
 use Rattle.prettyless_table.specs.Owners.{all_owners, keeper, keepers, owners_of, with_own}

@@ -4,7 +4,7 @@ use Rattle.std.specs.List.{sum_by}
 use Rattle.std.proofs.lemmas.List.{length-map}
 use Rattle.std.proofs.lemmas.List.Sums.{sum_by-cons}
 use Rattle.prettyless_model.specs.Tree.{Tree, size}
-use Rattle.prettyless_step.specs.Stack.{Task, nodes, trees}
+use Rattle.prettyless_probe.specs.Stack.{Task, nodes, trees}
 use Rattle.prettyless_step.specs.Printing.{tasks_of}
 use Rattle.prettyless_step.specs.declared.printer.Printer.{Printer}
 use Rattle.prettyless_table.specs.Owners.{all_owners, documents_left, task_trees}

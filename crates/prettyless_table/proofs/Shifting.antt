@@ -4,10 +4,10 @@ use Rattle.std.specs.List.{All}
 use Rattle.std.proofs.lemmas.List.{map-append}
 use Rattle.std.proofs.lemmas.List.Elements.{All-head, All-push, All-same, All-tail, All-weaker}
 use Rattle.prettyless_model.specs.Tree.{Tree}
-use Rattle.prettyless_step.specs.Stack.{Task, make_task, task}
-use Rattle.prettyless_step.specs.Stack as step
+use Rattle.prettyless_probe.specs.Stack.{Task, make_task, task}
+use Rattle.prettyless_probe.specs.Stack as step
 use Rattle.prettyless_step.specs.Printing.{tasks_of}
-use Rattle.prettyless_step.specs.declared.command.Command.{Command}
+use Rattle.prettyless_probe.specs.declared.command.Command.{Command}
 use Rattle.prettyless_step.specs.declared.printer.Printer.{Printer}
 use Rattle.prettyless_table.specs.declared.shift.Places.{Places}
 use Rattle.prettyless_table.specs.declared.cell.Cell.{Cell}

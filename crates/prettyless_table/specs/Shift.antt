@@ -2,10 +2,10 @@
 use Rattle.std.specs.Prelude.{◌≡◌, ℕ, ◌+◌, List, map, true}
 use Rattle.std.specs.List.{All, sum_by}
 use Rattle.prettyless_model.specs.Tree.{Tree, size}
-use Rattle.prettyless_step.specs.Stack.{Task, nodes, task, trees}
+use Rattle.prettyless_probe.specs.Stack.{Task, nodes, task, trees}
 use Rattle.prettyless_step.specs.Printing.{tasks_of}
-use Rattle.prettyless_step.specs.Sums.{IsSummed}
-use Rattle.prettyless_step.specs.declared.command.Command.{Command}
+use Rattle.prettyless_probe.specs.Sums.{IsSummed}
+use Rattle.prettyless_probe.specs.declared.command.Command.{Command}
 use Rattle.prettyless_step.specs.declared.printer.Printer.{Printer}
 use Rattle.prettyless_table.specs.declared.cell.Cell.{Cell}
 use Rattle.prettyless_table.specs.declared.shift.Places.{Places}

@@ -6,7 +6,7 @@ ghost use Rattle.prettyless_table.specs.Sums.{IsModeSummary};
 
 use crate::sums::{Counts, kept};
 use prettyless_model::mode::Mode;
-use prettyless_step::walk::Walk;
+use prettyless_probe::walk::Walk;
 use prettyless_summary::summary::Summary;
 
 /// A cell of a table: the summaries of a node, or a document that was laid out.

@@ -2,15 +2,15 @@
 ghost use Rattle.std.specs.Prelude.{◌≡◌, ◌+◌, ◌<◌, ◌≤◌, ◌++◌, List, IfOk, IfSome, OnOk, MatchOption, if◌then◌else◌};
 ghost use Rattle.std.specs.List.{sum_by};
 ghost use Rattle.prettyless_model.specs.Tree.{Tree, size};
-ghost use Rattle.prettyless_step.specs.Stack.{nodes, stack_of, trees};
+ghost use Rattle.prettyless_probe.specs.Stack.{nodes, stack_of, trees};
 ghost use Rattle.prettyless_table.specs.Owners.{all_owners, documents_left, owners_of, task_trees, waiting_owners, with_own};
 ghost use Rattle.prettyless_table.specs.Parts.{small};
 ghost use Rattle.prettyless_table.specs.Shift.{nodes_left};
 
 use crate::parts::{Parts, is_leaf, parts_below, takes_cell};
+use prettyless_probe::stack::Stack;
+use prettyless_probe::walk::Walk;
 use prettyless_step::printer::Printer;
-use prettyless_step::stack::Stack;
-use prettyless_step::walk::Walk;
 use std::alloc::{AllocError, Global};
 
 // How many nodes a small document has, and 0 for another one.

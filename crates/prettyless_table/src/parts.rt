@@ -3,7 +3,7 @@ ghost use Rattle.std.specs.Prelude.{◌≡◌};
 ghost use Rattle.prettyless_table.specs.Parts.{IsShape, none, part_trees, parts_of, small, takes};
 
 use crate::kind::{Pair, Single};
-use prettyless_step::walk::{View, Walk};
+use prettyless_probe::walk::{View, Walk};
 
 /// The parts of a node.
 #[derive(Drop)]

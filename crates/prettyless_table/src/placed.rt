@@ -4,7 +4,7 @@ ghost use Rattle.prettyless_table.specs.Cells.{In, In-prop, IsRoot, CellsAreSoun
 
 use crate::table::Table;
 use prettyless_model::mode::Mode;
-use prettyless_step::walk::{View, Walk};
+use prettyless_probe::walk::{View, Walk};
 use prettyless_summary::summary::Summary;
 use std::alloc::AllocError;
 

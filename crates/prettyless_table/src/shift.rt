@@ -2,19 +2,19 @@
 ghost use Rattle.std.specs.Prelude.{◌≡◌, ◌+◌, ◌≤◌, ◌++◌, List, length, map, IfOk, true};
 ghost use Rattle.std.specs.List.{All};
 ghost use Rattle.prettyless_model.specs.Tree.{Tree};
-ghost use Rattle.prettyless_step.specs.Stack.{stack_of, task, trees};
-ghost use Rattle.prettyless_step.specs.Sums.{IsSummed};
+ghost use Rattle.prettyless_probe.specs.Stack.{stack_of, task, trees};
+ghost use Rattle.prettyless_probe.specs.Sums.{IsSummed};
 ghost use Rattle.prettyless_table.specs.Cells.{CellsGrow, IsRoot, CellsAreSound, tree_at};
 ghost use Rattle.prettyless_table.specs.Owners.{Stand, documents_left, task_trees};
 ghost use Rattle.prettyless_table.specs.Shift.{AreCommands, AreNodes, IsInTable, IsShifted};
 
 use crate::placed::Placed;
 use crate::table::{MOST_CELLS, Table};
-use prettyless_step::command::Command;
+use prettyless_probe::command::Command;
+use prettyless_probe::stack::Stack;
+use prettyless_probe::walk::Walk;
 use prettyless_step::printer::Printer;
 use prettyless_step::queue::Queue;
-use prettyless_step::stack::Stack;
-use prettyless_step::walk::Walk;
 use std::alloc::{AllocError, Global};
 
 /// Where all that a printer has left stands in a table: its commands, the next one first, and its queue, the oldest suffix first.

@@ -11,7 +11,7 @@ ghost use Rattle.prettyless_table.specs.Sums.{AreDocumentSums, Keeps, IsModeSumm
 use crate::kind::{Pair, Single};
 use crate::parts::{Shape, shape_of};
 use prettyless_model::mode::Mode;
-use prettyless_step::walk::{View, Walk};
+use prettyless_probe::walk::{View, Walk};
 use prettyless_summary::known::appended;
 use prettyless_summary::summary::Summary;
 

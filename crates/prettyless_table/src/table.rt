@@ -9,7 +9,7 @@ use crate::cell::Cell;
 use crate::parts::{Parts, Shape, is_small, parts_below, shape_of};
 use crate::sums::{NO_SUMS, Sums, in_mode, leaf_sums, of_pair, of_single, packed, small_sums};
 use prettyless_model::mode::Mode;
-use prettyless_step::walk::Walk;
+use prettyless_probe::walk::Walk;
 use prettyless_summary::summary::Summary;
 use std::alloc::{AllocError, Global};
 

@@ -12,11 +12,11 @@ use crate::hexadecimal::word_of;
 use prettyless::DocPtr;
 use prettyless_model::options::RenderOptions;
 use prettyless_printer::render::{render, render_over_table};
+use prettyless_probe::walk::Walk;
 use prettyless_sink::error::RenderError;
 use prettyless_sink::fmt_write::FmtWrite;
 use prettyless_sink::render::Render;
 use prettyless_sink::visits::Visits;
-use prettyless_step::walk::Walk;
 use std::alloc::{AllocError, Global};
 
 /// How often a case is laid out.

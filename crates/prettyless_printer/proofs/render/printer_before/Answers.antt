@@ -1,7 +1,7 @@
 use Rattle.std.proofs.Common.{◌≡◌, ◌∷◌, [], ◌∙◌, true, ap, arith, refl, drop}
 use Rattle.std.proofs.lemmas.List.{drop_all}
 use Rattle.prettyless_model.specs.declared.mode.Mode.TheVariants.{Break}
-use Rattle.prettyless_step.specs.Stack.{make_task, trees}
+use Rattle.prettyless_probe.specs.Stack.{make_task, trees}
 use Rattle.prettyless_printer.proofs.render.printer_before.Goals as goal
 
 pub returns-clause-begins : goal.returns-clause-begins

@@ -4,7 +4,7 @@ use Rattle.prettyless_model.specs.Layout.{State, flushed}
 use Rattle.prettyless_model.specs.Spaces.{spaces}
 use Rattle.prettyless_sink.specs.Sink.{Accepts, Refuses}
 use Rattle.prettyless_model.specs.declared.mode.Mode.TheVariants.{Break}
-use Rattle.prettyless_step.specs.Stack.{tasks}
+use Rattle.prettyless_probe.specs.Stack.{tasks}
 use Rattle.prettyless_step.specs.Printing.{state_of}
 use Rattle.prettyless_printer.proofs.Standings.{state_stands}
 use Rattle.prettyless_printer.proofs.run.flush_end.Goals as goal

@@ -1,6 +1,6 @@
 use Rattle.std.proofs.Common.{◌≡◌, []}
 use Rattle.prettyless_step.specs.Steps.{work}
-use Rattle.prettyless_step.specs.Sums.{IsSummed}
+use Rattle.prettyless_probe.specs.Sums.{IsSummed}
 use Rattle.prettyless_step.specs.Printing.{tasks_of}
 use Rattle.prettyless_printer.specs.Points.{point, seen, standing, state_at}
 use Rattle.prettyless_printer.specs.Visits.{Plain}

@@ -1,7 +1,7 @@
 use Rattle.std.proofs.Common.{◌≡◌, ◌+◌, ◌++◌, ◌-◌, ◌≤◌, drop, length}
 use Rattle.std.specs.List.{sum_by}
 use Rattle.prettyless_model.specs.Tree.{size}
-use Rattle.prettyless_step.specs.Stack.{trees}
+use Rattle.prettyless_probe.specs.Stack.{trees}
 use Rattle.prettyless_table.specs.Owners.{all_owners, documents_left}
 use Rattle.prettyless_table.specs.Shift.{nodes_left}
 use Rattle.prettyless_printer.specs.Open.{all_held, seconds}

@@ -1,5 +1,5 @@
 use Rattle.std.proofs.Common.{◌≡◌, ◌++◌, ◌-◌, ◌≤◌, drop, length}
-use Rattle.prettyless_step.specs.Stack.{trees}
+use Rattle.prettyless_probe.specs.Stack.{trees}
 use Rattle.prettyless_table.specs.Cells.{tree_at}
 use Rattle.prettyless_printer.specs.Open.{all_held, seconds}
 use Rattle.prettyless_printer.proofs.shift.placed_trials.Given as goal

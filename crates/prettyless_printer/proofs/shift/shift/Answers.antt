@@ -2,7 +2,7 @@ use Rattle.std.proofs.Common.{◌≡◌, ◌+◌, ◌++◌, ◌≤◌, ◌∙◌
 use Rattle.std.specs.List.{sum_by}
 use Rattle.std.proofs.lemmas.List.{length-map}
 use Rattle.prettyless_model.specs.Tree.{Tree, size}
-use Rattle.prettyless_step.specs.Stack.{trees}
+use Rattle.prettyless_probe.specs.Stack.{trees}
 use Rattle.prettyless_step.specs.declared.printer.Printer.{Printer}
 use Rattle.prettyless_table.specs.Owners.{all_owners, documents_left}
 use Rattle.prettyless_table.specs.Shift.{nodes_left}

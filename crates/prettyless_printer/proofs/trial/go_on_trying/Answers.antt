@@ -16,7 +16,7 @@ use Rattle.prettyless_printer.proofs.Standings.{length_queue}
 use Rattle.prettyless_printer.proofs.Chains.{ends_broke}
 use Rattle.prettyless_printer.proofs.Spending.{spends_all, spends_same}
 use Rattle.prettyless_printer.proofs.OpenSpending.{open_spends, spends_back, spends_broke_as, spends_kept, spends_more}
-use Rattle.prettyless_step.specs.Stack.{trees}
+use Rattle.prettyless_probe.specs.Stack.{trees}
 use Rattle.prettyless_step.specs.declared.queue.Queue.{Queue}
 use Rattle.prettyless_printer.proofs.trial.go_on_trying.Goals as goal
 

@@ -1,5 +1,5 @@
 use Rattle.prettyless_model.specs.Tree.{Tree}
-use Rattle.prettyless_step.specs.Sums.{IsSummed}
+use Rattle.prettyless_probe.specs.Sums.{IsSummed}
 use Rattle.prettyless_printer.specs.Points.{buffer_seen, point, standing}
 use Rattle.prettyless_printer.specs.Trials.{Attempt}
 use Rattle.prettyless_printer.specs.Open.{Open, all_held, seconds}

@@ -1,7 +1,7 @@
 use Rattle.std.proofs.Common.{[], Result, subst, length, ap, append-nil, arith, refl, sym}
 use Rattle.prettyless_sink.specs.Sink.{known}
 use Rattle.prettyless_model.specs.declared.mode.Mode.TheVariants.{Flat}
-use Rattle.prettyless_step.specs.Stack.{stack_of, task, trees}
+use Rattle.prettyless_probe.specs.Stack.{stack_of, task, trees}
 use Rattle.prettyless_step.specs.declared.queue.Queue.{Queue}
 use Rattle.prettyless_step.specs.Piece.{piece_bytes}
 use Rattle.prettyless_step.specs.Printing.{IsStepped}

@@ -1,7 +1,7 @@
 use Rattle.std.proofs.Common.{[], ◌∷◌}
-use Rattle.prettyless_step.specs.Stack.{make_task}
+use Rattle.prettyless_probe.specs.Stack.{make_task}
 use Rattle.prettyless_step.specs.Steps.{work}
-use Rattle.prettyless_step.specs.Sums.{IsSummed}
+use Rattle.prettyless_probe.specs.Sums.{IsSummed}
 use Rattle.prettyless_step.specs.Printing.{state_of, tasks_of}
 use Rattle.prettyless_printer.specs.Points.{point, seen, standing}
 use Rattle.prettyless_printer.specs.Visits.{Plain, visited_more}

@@ -1,5 +1,5 @@
 use Rattle.std.proofs.Common.{◌≡◌, ◌∷◌, ap, arith}
-use Rattle.prettyless_step.specs.Stack.{nodes, stack_of, task, trees, unread}
+use Rattle.prettyless_probe.specs.Stack.{nodes, stack_of, task, trees, unread}
 use Rattle.prettyless_table.specs.Owners.{all_owners, task_trees}
 use Rattle.prettyless_table.proofs.Listing.{lists_next}
 use Rattle.prettyless_table.proofs.counting.count_commands.Goals as goal

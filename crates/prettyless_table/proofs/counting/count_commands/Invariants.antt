@@ -1,5 +1,5 @@
 use Rattle.std.proofs.Common.{◌≡◌, ◌+◌, ◌++◌, length}
-use Rattle.prettyless_step.specs.Stack.{Reads, nodes, stack_of, trees, unread}
+use Rattle.prettyless_probe.specs.Stack.{Reads, nodes, stack_of, trees, unread}
 use Rattle.prettyless_table.specs.Owners.{all_owners, task_trees}
 use Rattle.prettyless_table.proofs.counting.count_commands.Given as goal
 

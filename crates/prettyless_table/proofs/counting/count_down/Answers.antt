@@ -1,8 +1,8 @@
 use Rattle.std.proofs.Common.{◌≡◌, ◌++◌, ◌∙◌, ap, arith, sym}
 use Rattle.std.proofs.lemmas.List.Sums.{sum_by_push}
 use Rattle.prettyless_model.specs.Tree.{size}
-use Rattle.prettyless_step.specs.Stack.{trees}
-use Rattle.prettyless_step.proofs.Sizes.{size_positive}
+use Rattle.prettyless_probe.specs.Stack.{trees}
+use Rattle.prettyless_probe.proofs.Sizes.{size_positive}
 use Rattle.prettyless_table.specs.Parts.{small}
 use Rattle.prettyless_table.specs.Owners.{owners_of, waiting_owners}
 use Rattle.prettyless_table.proofs.AtOnce.{counted_all, counted_at_most}

@@ -1,7 +1,7 @@
 use Rattle.std.proofs.Common.{◌++◌, ◌∙◌, List, ap, append_assoc, sym}
 use Rattle.prettyless_model.specs.Tree.{Tree}
 use Rattle.prettyless_step.specs.Printing.{tasks_of}
-use Rattle.prettyless_step.specs.Stack.{trees}
+use Rattle.prettyless_probe.specs.Stack.{trees}
 use Rattle.prettyless_table.specs.Owners.{all_owners, task_trees}
 use Rattle.prettyless_table.proofs.Listing.{all_owners-append}
 use Rattle.prettyless_table.proofs.counting.count_left.Goals as goal

@@ -1,7 +1,7 @@
 use Rattle.std.proofs.Common.{◌≡◌, ◌+◌, ◌++◌}
 use Rattle.std.specs.List.{sum_by}
 use Rattle.prettyless_model.specs.Tree.{size}
-use Rattle.prettyless_step.specs.Stack.{trees}
+use Rattle.prettyless_probe.specs.Stack.{trees}
 use Rattle.prettyless_table.specs.Owners.{owners_of, waiting_owners}
 use Rattle.prettyless_table.proofs.counting.count_one.Given as goal
 

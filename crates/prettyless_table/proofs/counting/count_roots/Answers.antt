@@ -3,7 +3,7 @@ use Rattle.std.specs.List.{sum_by}
 use Rattle.std.proofs.lemmas.List.{drop_more}
 use Rattle.std.proofs.lemmas.List.Sums.{sum_by-cons}
 use Rattle.prettyless_model.specs.Tree.{size}
-use Rattle.prettyless_step.specs.Stack.{trees}
+use Rattle.prettyless_probe.specs.Stack.{trees}
 use Rattle.prettyless_table.specs.Owners.{all_owners}
 use Rattle.prettyless_table.proofs.Listing.{lists_next}
 use Rattle.prettyless_table.proofs.counting.count_roots.Goals as goal

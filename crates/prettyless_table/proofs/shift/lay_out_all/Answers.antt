@@ -1,6 +1,6 @@
 use Rattle.std.proofs.Common.{List, subst}
 use Rattle.prettyless_step.specs.Printing.{tasks_of}
-use Rattle.prettyless_step.specs.Stack.{trees}
+use Rattle.prettyless_probe.specs.Stack.{trees}
 use Rattle.prettyless_table.specs.Shift.{AreNodes}
 use Rattle.prettyless_table.proofs.Shifting.{commands_kept}
 use Rattle.prettyless_table.proofs.shift.lay_out_all.Goals as goal

@@ -1,6 +1,6 @@
 use Rattle.std.proofs.Common.{◌≡◌, ℕ, ◌++◌, ◌∷◌, ap, arith, length, subst}
-use Rattle.prettyless_step.specs.Stack.{stack_of, task, unread}
-use Rattle.prettyless_step.specs.declared.command.Command.{Command}
+use Rattle.prettyless_probe.specs.Stack.{stack_of, task, unread}
+use Rattle.prettyless_probe.specs.declared.command.Command.{Command}
 use Rattle.prettyless_table.specs.Owners.{Stand, task_trees}
 use Rattle.prettyless_table.proofs.Trees.{grows_then}
 use Rattle.prettyless_table.proofs.Shifting.{command_more}

@@ -1,6 +1,6 @@
 use Rattle.std.proofs.Common.{◌≡◌, ◌+◌, ◌++◌, ◌∷◌, ◌∙◌, ap, arith, drop, subst, sym}
 use Rattle.std.proofs.lemmas.List.{drop_more}
-use Rattle.prettyless_step.specs.Stack as step
+use Rattle.prettyless_probe.specs.Stack as step
 use Rattle.prettyless_table.specs.Owners.{Stand}
 use Rattle.prettyless_table.proofs.Trees.{grows_then}
 use Rattle.prettyless_table.proofs.Shifting.{node_more}

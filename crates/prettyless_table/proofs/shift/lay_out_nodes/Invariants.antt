@@ -1,6 +1,6 @@
 use Rattle.std.proofs.Common.{◌≡◌, ◌+◌, ◌++◌, ◌-◌, ◌≤◌, List, drop, length}
 use Rattle.prettyless_model.specs.Tree.{Tree}
-use Rattle.prettyless_step.specs.Stack.{trees}
+use Rattle.prettyless_probe.specs.Stack.{trees}
 use Rattle.prettyless_table.specs.Cells.{CellsGrow}
 use Rattle.prettyless_table.specs.Owners.{Stand}
 use Rattle.prettyless_table.proofs.Shifting.{FirstNodes}

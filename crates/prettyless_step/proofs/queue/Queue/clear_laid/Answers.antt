@@ -1,4 +1,4 @@
-use Rattle.std.proofs.Common.{◌≡◌, ap, arith, length, length-drop}
+use Rattle.std.proofs.Common.{ap, arith, length, length-drop}
 use Rattle.prettyless_step.proofs.queue.Queue.clear_laid.Goals as goal
 
 -- some are pending

@@ -1,0 +1,30 @@
+use Rattle.std.proofs.Common.{List, ap, arith, length, subst, sym}
+use Rattle.prettyless_probe.specs.Stack.{Task}
+use Rattle.prettyless_probe.specs.Sums.{AllSummed, AreSums}
+use Rattle.prettyless_probe.proofs.Stacks.{length-stack_of}
+use Rattle.prettyless_probe.proofs.Sums.{long_all}
+use Rattle.prettyless_probe.proofs.probe.probe.Goals as goal
+
+pub visit_by_sums-requires-clause-summed : goal.visit_by_sums-requires-clause-summed
+visit_by_sums-requires-clause-summed g c =
+    subst (λ (ts : List Task). AreSums c.args.commands.now.sums.items ts) (sym c.cursor-below.ensures.unread) c.requires.sums
+
+pub returns-then-width-clause-few : goal.returns-then-width-clause-few
+returns-then-width-clause-few g c narrow all =
+    let f = g.N.Walk.tree in
+    let has = g.N.Walk.HAS_SUMMARIES in
+    let s = c.args.commands.now in
+    let same = c.cursor-below.ensures.unread in
+    let long = long_all has (length s.sums.items) (length s.nodes.items) all.summaries c.requires.long in
+    c.visit_by_sums.ensures.few c.clear.ensures (omega (arith, ap length same, length-stack_of f s, long)) narrow
+    (subst (λ (ts : List Task). AllSummed has (f c.args.node) ts) (sym same) all)
+
+pub returns-in_err-fits-clause-few : goal.returns-in_err-fits-clause-few
+returns-in_err-fits-clause-few g c narrow all =
+    let f = g.N.Walk.tree in
+    let has = g.N.Walk.HAS_SUMMARIES in
+    let s = c.args.commands.now in
+    let same = c.cursor-below.ensures.unread in
+    let long = long_all has (length s.sums.items) (length s.nodes.items) all.summaries c.requires.long in
+    c.visit_by_sums.ensures.few c.clear.ensures (omega (arith, ap length same, length-stack_of f s, long)) narrow
+    (subst (λ (ts : List Task). AllSummed has (f c.args.node) ts) (sym same) all)

@@ -1,0 +1,6 @@
+pub mod View
+pub mod Frames
+pub mod Stack
+pub mod Sums
+pub mod Probing
+pub mod Texts

@@ -1,0 +1,53 @@
+-- Sums of summaries: what a stack shows a probe from each of its nodes down.
+use Rattle.std.specs.Prelude.{◌≡◌, ℕ, ◌-◌, ◌^◌, ◌<◌, ◌≤◌, Bool, IsTrue, List, [], ◌∷◌, ◌++◌, drop, get_or, length, ⊤, if◌then◌else◌}
+use Rattle.prettyless_model.specs.Tree.{Tree, size}
+use Rattle.prettyless_model.specs.Look.{answer_of}
+use Rattle.prettyless_model.specs.declared.column.Column.{Column}
+use Rattle.prettyless_summary.specs.Summary.{HasSums, IsSmall, look_by}
+use Rattle.prettyless_probe.specs.Stack.{Task, in_break, nodes, stack_of, tasks_fit}
+use Rattle.prettyless_probe.specs.declared.stack.Below.{Below}
+use Rattle.prettyless_probe.specs.declared.stack.Stack.{Stack}
+
+-- the n tasks at the bottom
+abbrev pub bottom : ℕ → List Task → List Task
+bottom n ts = drop (length ts - n) ts
+
+-- tasks all of whose nodes have summaries
+abbrev pub HaveSummaries : List Task → Type 0
+HaveSummaries [] = ⊤
+HaveSummaries (t ∷ ts) = HasSums t.tree × HaveSummaries ts
+
+-- tasks that are taken up as one: all of their nodes have summaries, and they are too few for a number of their sum to pass 32 bits
+abbrev pub HaveSum : List Task → Type 0
+HaveSum ts = HaveSummaries ts × (nodes ts < 2 ^ 32)
+
+-- A sum of tasks: in Break they fit the line as what the sum reads does, with the tasks at the bottom that it leaves. It leaves none of
+-- tasks that are taken up as one.
+pub record SumsUp (b : Below) (ts : List Task) : Type 0 where
+  pub left : b.left ≤ length ts
+  pub fits : (width : ℕ) (c : Column) (p : Bool) → width < 2 ^ 32 →
+      tasks_fit width (in_break ts) c p ≡ answer_of (look_by width b.sum c p) (λ e q. tasks_fit width (in_break (bottom b.left ts)) e q)
+  pub whole : HaveSum ts → (b.left ≡ 0) × IsSmall (nodes ts) b.sum
+
+-- each sum is one of the task at its height and of those below that
+abbrev pub AreSums : List Below → List Task → Type 0
+AreSums sums ts =
+    (above below : List Task) (t : Task) (b : Below) →
+    ts ≡ above ++ t ∷ below → length below < length sums → b ≡ get_or sums (length below) b → SumsUp b (t ∷ below)
+
+-- A stack has a sum for each of its nodes where nodes have summaries, and else none.
+pub record IsSummed {N : Type 0} (has : Bool) (f : N → Tree) (s : Stack N) : Type 0 where
+  pub long : length s.sums.items ≡ (if has then length s.nodes.items else 0)
+  pub sums : AreSums s.sums.items (stack_of f s)
+
+-- A probe of a document before tasks finds all summed up: nodes have summaries, the document has one, and the tasks are taken up as one.
+pub record AllSummed (has : Bool) (d : Tree) (ts : List Task) : Type 0 where
+  pub summaries : IsTrue has
+  pub own : HasSums d
+  pub small : size d < 2 ^ 32
+  pub below : HaveSum ts
+
+-- trees all of whose nodes have summaries
+abbrev pub TreesHave : List Tree → Type 0
+TreesHave [] = ⊤
+TreesHave (d ∷ ds) = HasSums d × TreesHave ds

@@ -1,0 +1,26 @@
+-- Documents that are their texts where they are laid flat.
+use Rattle.std.specs.Prelude.{List, [], ◌∷◌}
+use Rattle.prettyless_model.specs.Tree.{Tree, Nil, Text, Append, Nest, BreakOrFlat, Group}
+use Rattle.prettyless_model.specs.declared.mode.Mode.{Mode}
+use Rattle.prettyless_model.specs.declared.mode.Mode.TheVariants.{Break, Flat}
+use Rattle.prettyless_probe.specs.Stack.{Task}
+
+-- laid flat, the document lays its texts one after another, and no more
+abbrev pub IsTexts : Tree → Type 0
+IsTexts Nil = Unit {0}
+IsTexts (Text s) = Unit {0}
+IsTexts (Append l r) = IsTexts l × IsTexts r
+IsTexts (Nest i d) = IsTexts d
+IsTexts (BreakOrFlat b f) = IsTexts f
+IsTexts (Group d) = IsTexts d
+IsTexts _ = ⊥
+
+-- x in Break, y in Flat
+abbrev pub Until : Mode → Type 0 → Type 0 → Type 0
+Until Break x y = x
+Until Flat x y = y
+
+-- the document is its texts, if those of the tasks are theirs that come before the first one in Break
+abbrev pub TextsOnce : Tree → List Task → Type 0
+TextsOnce d [] = IsTexts d
+TextsOnce d (t ∷ ts) = Until t.mode (IsTexts d) (IsTexts t.tree → TextsOnce d ts)

@@ -1,0 +1,528 @@
+//! The probe: whether a node fits the line with what follows it.
+ghost use Rattle.std.specs.Prelude.{◌≡◌, ◌++◌, ◌∷◌, [], IfOk, OnOk, IfSome, MatchOption, List, false, length, true, IsTrue, ◌&&◌, ◌+◌, ◌<◌, ◌≤◌};
+ghost use Rattle.std.specs.Prelude.{if◌then◌else◌};
+ghost use Rattle.prettyless_model.specs.Tree.{Tree, WeakLine, size};
+ghost use Rattle.prettyless_model.specs.declared.mode.Mode.TheVariants.{Flat};
+ghost use Rattle.prettyless_model.specs.Column.{commit, nested, padding_fits, prospective, start};
+ghost use Rattle.prettyless_model.specs.Look.{answer_of, by_mode, look, look_text, payload_begins};
+ghost use Rattle.prettyless_model.specs.Layout.{rest_fits};
+ghost use Rattle.prettyless_probe.specs.declared.probe.Line.{Line};
+ghost use Rattle.prettyless_probe.specs.declared.probe.ProbeStep.TheVariants.{Answer, Silent, Descend};
+ghost use Rattle.prettyless_probe.specs.declared.probe.Fit.TheVariants.{FitsAsTexts, Fits, Exceeds};
+ghost use Rattle.prettyless_probe.specs.Probing.{Few, ReadsAs, RisesBy, TextsAt, is_fit, nodes_next, read_in, read_of};
+ghost use Rattle.prettyless_probe.specs.Sums.{IsSummed};
+ghost use Rattle.prettyless_probe.specs.Stack.{AnswersAs, Reads, Task, follow, in_break, make_task, nodes, stack_of, task, tasks_fit};
+ghost use Rattle.prettyless_probe.specs.Stack.{unread};
+ghost use Rattle.prettyless_probe.specs.Texts.{IsTexts, TextsOnce};
+
+use crate::choice::{by_column, by_nesting, either};
+use crate::command::{Command, nested_indent};
+use crate::stack::{Cursor, Stack};
+use crate::summed::visit_by_sums;
+use crate::walk::{View, Walk};
+use prettyless_model::column::Column;
+use prettyless_model::metrics::Metrics;
+use prettyless_model::mode::Mode;
+use prettyless_sink::visits::one_more;
+use std::alloc::AllocError;
+use std::marker::Model;
+
+/// The state of a line where a probe has come to.
+#[derive(Clone, Copy)]
+pub struct Line {
+    pub column: Column,
+    /// Whether a line suffix is pending.
+    pub pending: bool,
+}
+
+/// A line while a probe reads texts: how it was before them, and where the next content would begin. So a text changes one number.
+#[derive(Drop)]
+struct LineSoFar {
+    before: Line,
+    position: usize,
+    has_text: bool,
+}
+
+impl Model for LineSoFar {
+    ghost Value = { Line };
+
+    ghost view = { λ s. record s.before { column = if s.has_text then commit s.position start else s.before.column } };
+
+    ghost invariant = { λ s. prospective (if s.has_text then commit s.position start else s.before.column) ≡ s.position };
+}
+
+impl LineSoFar {
+    // A line of which no text was read.
+    #[inline(always)]
+    fn at(line: Line) -> Self
+        ensures { result ≡ line }
+    {
+        LineSoFar {
+            before: line,
+            position: line.column.prospective(),
+            has_text: false,
+        }
+    }
+
+    // The line itself.
+    #[inline(always)]
+    fn get(&self) -> Line
+        ensures { result ≡ self.now }
+    {
+        let mut line = self.before;
+        if self.has_text {
+            line.column = Column::start().committed(self.position);
+        }
+        line
+    }
+
+    // Reads a text, as `read_content` does.
+    #[inline(always)]
+    fn read_text(&mut self, width: usize, text: &str) -> bool
+        ensures { (ts : List Task) →
+            answer_of (look_text width (length text.now) text.now self.old.column self.old.pending) (λ c p. tasks_fit width ts c p)
+            ≡ (result && tasks_fit width ts self.new.column self.new.pending) }
+    {
+        if text.is_empty() {
+            return true;
+        }
+        self.position = self.position.saturating_add(text.len());
+        self.has_text = true;
+        self.position <= width
+    }
+}
+
+// Reads content: an empty text is nothing, another commits the column. The answer is whether the line stays within the width.
+#[inline(always)]
+fn read_content(width: usize, line: &mut Line, counted: usize, text: &str) -> bool
+    ensures { (ts : List Task) →
+        answer_of (look_text width counted text.now line.old.column line.old.pending) (λ c p. tasks_fit width ts c p)
+        ≡ (result && tasks_fit width ts line.new.column line.new.pending) }
+{
+    if text.is_empty() {
+        return true;
+    }
+    line.column = line.column.committed(counted);
+    line.column.position <= width
+}
+
+// Reads a payload, which ends the line: with its first part, in Break, and not at all when flat.
+#[inline(always)]
+fn read_payload(width: usize, line: &Line, mode: Mode, metrics: Metrics) -> bool
+    ensures { result ≡ by_mode mode (payload_begins width metrics line.now.column) false }
+{
+    match mode {
+        Mode::Break => {
+            !metrics.first_nonempty || line.column.committed(metrics.first_width).position <= width
+        }
+        Mode::Flat => false,
+    }
+}
+
+// Reads a line end that no flat line holds.
+#[inline(always)]
+fn read_line_end(width: usize, line: &Line, mode: Mode) -> bool
+    ensures { result ≡ by_mode mode (padding_fits width line.now.pending line.now.column) false }
+{
+    match mode {
+        Mode::Break => line.column.padding_fits(width, line.pending),
+        Mode::Flat => false,
+    }
+}
+
+// Reads a weak line, which is nothing on a fresh line where no suffix is pending. Its indent does not matter.
+#[inline(always)]
+fn read_weak_line(width: usize, line: &Line, mode: Mode) -> Option<bool>
+    ensures { (ts : List Task) → AnswersAs result
+        (tasks_fit width (make_task 0 mode WeakLine ∷ ts) line.now.column line.now.pending)
+        (tasks_fit width ts line.now.column line.now.pending) }
+{
+    if line.column.fresh && !line.pending {
+        return None;
+    }
+    Some(read_line_end(width, line, mode))
+}
+
+/// What a probe comes to at one node: an answer, the node that it looks at next, or neither.
+#[derive(Clone, Copy)]
+pub enum ProbeStep<N> {
+    /// Whether the line stays within the width.
+    Answer(bool),
+    /// A node, with its indent and its mode.
+    Descend(usize, Mode, N),
+    Silent,
+}
+
+// An answer, or none.
+#[inline(always)]
+fn answered<N>(answer: Option<bool>) -> ProbeStep<N>
+    ensures { result ≡ read_of answer }
+{
+    match answer {
+        Some(answer) => ProbeStep::Answer(answer),
+        None => ProbeStep::Silent,
+    }
+}
+
+// A line that stays within the width, or none.
+#[inline(always)]
+fn done<N>(within: bool) -> ProbeStep<N>
+    ensures { result ≡ if within then Silent else Answer false }
+{
+    if within {
+        ProbeStep::Silent
+    } else {
+        ProbeStep::Answer(false)
+    }
+}
+
+// Goes on with the document of a nesting.
+#[inline(always)]
+fn read_nested<N>(indent: usize, offset: isize, mode: Mode, inner: N) -> ProbeStep<N>
+    ensures { result ≡ Descend (nested indent offset) mode inner }
+{
+    ProbeStep::Descend(nested_indent(indent, offset), mode, inner)
+}
+
+// The branch of a union that is read: the first where lines are flat, else the second.
+#[inline(always)]
+fn branch<N: Copy>(mode: Mode, first: N, second: N) -> N
+    ensures { result ≡ by_mode mode second first }
+{
+    either(mode, second, first)
+}
+
+// Looks at one node. The nodes below it are looked at next: the first is answered, and a second one is now on the stack.
+#[inline(always)]
+#[tactic(auto, using(crate::proofs::Probes::looks))]
+pub(crate) fn probe_one<N: Walk>(
+    width: usize,
+    line: &mut Line,
+    indent: usize,
+    mode: Mode,
+    node: N,
+    stack: &mut Stack<N>,
+) -> Result<ProbeStep<N>, AllocError>
+    ensures answer { IfOk result (λ a. (ts : List Task) → ReadsAs N.tree width a
+        (tasks_fit width (make_task indent mode (N.tree node) ∷ (stack_of N.tree stack.old ++ ts)) line.old.column line.old.pending)
+        (stack_of N.tree stack.new ++ ts) line.new.column line.new.pending) }
+    ensures smaller { IfOk result (λ a.
+        nodes_next N.tree a + nodes (stack_of N.tree stack.new) < size (N.tree node) + nodes (stack_of N.tree stack.old)) }
+{
+    match node.view() {
+        View::Nil => Ok(ProbeStep::Silent),
+        View::Fail => Ok(ProbeStep::Answer(false)),
+        View::Text(s) => Ok(done(read_content(width, line, s.len(), s))),
+        View::TextWithLen(counted, s) => Ok(done(read_content(width, line, counted, s))),
+        View::MultilineText(_, metrics) => Ok(ProbeStep::Answer(read_payload(
+            width, line, mode, metrics,
+        ))),
+        View::WeakSpace => {
+            line.column = line.column.blank();
+            Ok(ProbeStep::Silent)
+        }
+        View::HardLine => Ok(ProbeStep::Answer(read_line_end(width, line, mode))),
+        View::WeakLine => Ok(answered(read_weak_line(width, line, mode))),
+        View::LineSuffix(_) => {
+            line.pending = true;
+            Ok(ProbeStep::Silent)
+        }
+        View::ExpandParent => match mode {
+            Mode::Break => Ok(ProbeStep::Silent),
+            Mode::Flat => Ok(ProbeStep::Answer(false)),
+        },
+        View::Append(first, second) => {
+            stack.push(indent, mode, second)?;
+            Ok(ProbeStep::Descend(indent, mode, first))
+        }
+        View::Nest(offset, inner) => Ok(read_nested(indent, offset, mode, inner)),
+        View::DedentToRoot(inner) => Ok(ProbeStep::Descend(0, mode, inner)),
+        View::Align(inner) => Ok(ProbeStep::Descend(line.column.prospective(), mode, inner)),
+        View::Group(inner) => Ok(ProbeStep::Descend(indent, mode, inner)),
+        View::Flatten(inner) => Ok(ProbeStep::Descend(indent, Mode::Flat, inner)),
+        View::BreakOrFlat(broken, flat) => Ok(ProbeStep::Descend(
+            indent,
+            mode,
+            either(mode, broken, flat),
+        )),
+        View::Union(first, second) | View::PartialUnion(first, second) => {
+            Ok(ProbeStep::Descend(indent, mode, branch(mode, first, second)))
+        }
+        View::OnColumn(test, first, second) => {
+            Ok(ProbeStep::Descend(
+                indent,
+                mode,
+                by_column(test, line.column, indent, first, second),
+            ))
+        }
+        View::OnNesting(test, first, second) => {
+            Ok(ProbeStep::Descend(indent, mode, by_nesting(test, indent, first, second)))
+        }
+    }
+}
+
+// Looks at one node that probes seldom meet. It is not copied into their loop, whose registers are for other nodes.
+#[cold]
+#[inline(never)]
+fn read_other<N: Walk>(
+    width: usize,
+    line: &mut Line,
+    indent: usize,
+    mode: Mode,
+    node: N,
+    stack: &mut Stack<N>,
+) -> Result<ProbeStep<N>, AllocError>
+    ensures answer { IfOk result (λ a. (ts : List Task) → ReadsAs N.tree width a
+        (tasks_fit width (make_task indent mode (N.tree node) ∷ (stack_of N.tree stack.old ++ ts)) line.old.column line.old.pending)
+        (stack_of N.tree stack.new ++ ts) line.new.column line.new.pending) }
+    ensures smaller { IfOk result (λ a.
+        nodes_next N.tree a + nodes (stack_of N.tree stack.new) < size (N.tree node) + nodes (stack_of N.tree stack.old)) }
+{
+    probe_one(width, line, indent, mode, node, stack)
+}
+
+/// What a probe comes to at one node, where the topmost frame of its stack is that of the node it looks at.
+#[derive(Clone, Copy)]
+enum FrameStep<N> {
+    /// Whether the line stays within the width.
+    Answer(bool),
+    /// A node of the topmost frame.
+    Descend(N),
+    Silent,
+}
+
+// Whether lines are flat in a mode.
+#[inline(always)]
+fn is_flat(mode: Mode) -> bool
+    ensures { result ≡ by_mode mode false true }
+{
+    match mode {
+        Mode::Break => false,
+        Mode::Flat => true,
+    }
+}
+
+// Whether all that was met flat is texts, with a node that is none and is met in a mode.
+#[inline(always)]
+fn with_other(is_texts: bool, mode: Mode) -> bool
+    ensures { result ≡ by_mode mode is_texts false }
+{
+    match mode {
+        Mode::Break => is_texts,
+        Mode::Flat => false,
+    }
+}
+
+// Looks at one node that probes seldom meet. One that is met flat is no text.
+#[inline(always)]
+fn visit_other<N: Walk>(
+    width: usize,
+    line: &mut LineSoFar,
+    node: N,
+    stack: &mut Stack<N>,
+    is_texts: &mut bool,
+) -> Result<FrameStep<N>, AllocError>
+    ensures answer { IfOk result (λ a. (ts : List Task) → ReadsAs N.tree width (read_in stack.new a)
+        (tasks_fit width (make_task stack.old.here.indent stack.old.here.mode (N.tree node) ∷ (stack_of N.tree stack.old ++ ts)) line.old.column line.old.pending)
+        (stack_of N.tree stack.new ++ ts) line.new.column line.new.pending) }
+    ensures smaller { IfOk result (λ a.
+        nodes_next N.tree (read_in stack.new a) + nodes (stack_of N.tree stack.new) < size (N.tree node) + nodes (stack_of N.tree stack.old)) }
+    ensures texts { IfOk result (λ a. IsTrue is_texts.new → IsTrue is_texts.old × ((d : Tree)
+        → TextsOnce d (make_task stack.old.here.indent stack.old.here.mode (N.tree node) ∷ stack_of N.tree stack.old)
+        → TextsAt N.tree d (read_in stack.new a) (stack_of N.tree stack.new))) }
+{
+    let mut other = line.get();
+    let indent = stack.indent_in();
+    let mode = stack.mode_in();
+    let read = read_other(width, &mut other, indent, mode, node, stack)?;
+    *line = LineSoFar::at(other);
+    *is_texts = with_other(*is_texts, mode);
+    match read {
+        ProbeStep::Answer(answer) => Ok(FrameStep::Answer(answer)),
+        ProbeStep::Descend(next_indent, next_mode, next) => {
+            stack.enter(next_indent, next_mode)?;
+            Ok(FrameStep::Descend(next))
+        }
+        ProbeStep::Silent => Ok(FrameStep::Silent),
+    }
+}
+
+// Looks at one node, of the indent and the mode of the topmost frame.
+#[inline(always)]
+fn visit_one<N: Walk>(
+    width: usize,
+    line: &mut LineSoFar,
+    node: N,
+    stack: &mut Stack<N>,
+    is_texts: &mut bool,
+) -> Result<FrameStep<N>, AllocError>
+    ensures answer { IfOk result (λ a. (ts : List Task) → ReadsAs N.tree width (read_in stack.new a)
+        (tasks_fit width (make_task stack.old.here.indent stack.old.here.mode (N.tree node) ∷ (stack_of N.tree stack.old ++ ts)) line.old.column line.old.pending)
+        (stack_of N.tree stack.new ++ ts) line.new.column line.new.pending) }
+    ensures smaller { IfOk result (λ a.
+        nodes_next N.tree (read_in stack.new a) + nodes (stack_of N.tree stack.new) < size (N.tree node) + nodes (stack_of N.tree stack.old)) }
+    ensures texts { IfOk result (λ a. IsTrue is_texts.new → IsTrue is_texts.old × ((d : Tree)
+        → TextsOnce d (make_task stack.old.here.indent stack.old.here.mode (N.tree node) ∷ stack_of N.tree stack.old)
+        → TextsAt N.tree d (read_in stack.new a) (stack_of N.tree stack.new))) }
+{
+    match node.view() {
+        View::Append(first, second) => {
+            stack.push_in(second)?;
+            Ok(FrameStep::Descend(first))
+        }
+        View::Text(s) => {
+            if line.read_text(width, s) {
+                Ok(FrameStep::Silent)
+            } else {
+                Ok(FrameStep::Answer(false))
+            }
+        }
+        View::BreakOrFlat(broken, flat) => Ok(FrameStep::Descend(either(
+            stack.mode_in(),
+            broken,
+            flat,
+        ))),
+        View::Nest(offset, inner) => {
+            stack.enter(nested_indent(stack.indent_in(), offset), stack.mode_in())?;
+            Ok(FrameStep::Descend(inner))
+        }
+        View::Group(inner) => Ok(FrameStep::Descend(inner)),
+        View::HardLine => Ok(FrameStep::Answer(read_line_end(width, &line.get(), stack.mode_in()))),
+        View::Nil => Ok(FrameStep::Silent),
+        _ => visit_other(width, line, node, stack, is_texts),
+    }
+}
+
+// The next node that the probe looks at: one of its own, and then the printer's commands downwards, each in Break. The topmost frame
+// of its stack is that of this node then.
+#[inline(always)]
+#[tactic(auto, using(crate::proofs::Stacks::below_steps))]
+fn next_unread<N: Walk>(
+    commands: &Stack<N>,
+    below: &mut Cursor,
+    stack: &mut Stack<N>,
+) -> Result<Option<N>, AllocError>
+    requires { Reads commands.now below.old }
+    ensures of_this { Reads commands.now below.new }
+    ensures ahead { IfOk result (λ o. MatchOption o
+        (stack_of N.tree stack.old ++ in_break (unread N.tree commands.now below.old) ≡ [])
+        (λ n. stack_of N.tree stack.old ++ in_break (unread N.tree commands.now below.old)
+        ≡ make_task stack.new.here.indent stack.new.here.mode (N.tree n) ∷ (stack_of N.tree stack.new ++ in_break (unread N.tree commands.now below.new)))) }
+    ensures left { IfOk result (λ o. IfSome o
+        (λ n. nodes (stack_of N.tree stack.old) + nodes (unread N.tree commands.now below.old)
+        ≡ size (N.tree n) + (nodes (stack_of N.tree stack.new) + nodes (unread N.tree commands.now below.new)))) }
+    ensures texts { IfOk result (λ o. (d : Tree) → TextsOnce d (stack_of N.tree stack.old)
+        → MatchOption o (IsTexts d) (λ n. TextsOnce d (make_task stack.new.here.indent stack.new.here.mode (N.tree n) ∷ stack_of N.tree stack.new))) }
+{
+    if let Some(next) = stack.pop_in() {
+        return Ok(Some(next));
+    }
+    let Some(next) = commands.read_down(below) else {
+        return Ok(None);
+    };
+    stack.enter(next.indent, Mode::Break)?;
+    Ok(Some(next.node))
+}
+
+/// What a probe finds of a node: it goes past the width, it stays within the width, or it does and is its texts where it is laid flat.
+#[derive(Clone, Copy)]
+pub enum Fit {
+    Exceeds,
+    Fits,
+    FitsAsTexts,
+}
+
+// What is found of a node that fits or not, and is its texts or not.
+#[inline(always)]
+fn found(fits: bool, is_texts: bool) -> Fit
+    ensures { result ≡ if fits then (if is_texts then FitsAsTexts else Fits) else Exceeds }
+{
+    if !fits {
+        return Fit::Exceeds;
+    }
+    if is_texts {
+        Fit::FitsAsTexts
+    } else {
+        Fit::Fits
+    }
+}
+
+// Visits a node, what is on the stack, and then the printer's commands downwards, up to an answer. Each node is counted in `probes`.
+#[inline(always)]
+#[tactic(auto, using(crate::proofs::Sizes::size_positive))]
+fn visit_all<N: Walk>(
+    width: usize,
+    start: Line,
+    first: Command<N>,
+    commands: &Stack<N>,
+    cursor: Cursor,
+    stack: &mut Stack<N>,
+    probes: &mut u64,
+) -> Result<Fit, AllocError>
+    requires { Reads commands.now cursor }
+    ensures answer { IfOk result
+        (λ r. is_fit r ≡ tasks_fit width (task N.tree first ∷ (stack_of N.tree stack.old ++ in_break (unread N.tree commands.now cursor))) start.column start.pending) }
+    ensures texts { IfOk result (λ r. r ≡ FitsAsTexts → stack_of N.tree stack.old ≡ [] → (first.mode ≡ Flat) × IsTexts (N.tree first.node)) }
+    ensures rises { probes.old ≤ probes.new }
+    ensures counted { probes.new
+        ≤ probes.old + (size (N.tree first.node) + (nodes (stack_of N.tree stack.old) + nodes (unread N.tree commands.now cursor))) }
+    ensures asked { OnOk result (RisesBy 1 probes.old probes.new) }
+{
+    let mut line = LineSoFar::at(start);
+    let mut below = cursor;
+    let mut node = first.node;
+    let mut is_texts = is_flat(first.mode);
+    stack.enter(first.indent, first.mode)?;
+    'read: loop {
+        *probes = one_more(*probes);
+        match visit_one(width, &mut line, node, stack, &mut is_texts)? {
+            FrameStep::Answer(answer) => return Ok(found(answer, is_texts)),
+            FrameStep::Descend(next) => {
+                node = next;
+            }
+            FrameStep::Silent => {
+                let Some(next) = next_unread(commands, &mut below, stack)? else {
+                    return Ok(found(read_line_end(width, &line.get(), Mode::Break), is_texts));
+                };
+                node = next;
+            }
+        }
+    }
+}
+
+/// Whether a node, laid at this indent and in this mode from where the line is, stays within the width together with what
+/// follows it, up to the first line end. `stack` is only a place to work in. The nodes that it visits are counted in `probes`: one at
+/// least, and two at most where all is summed up.
+#[tactic(auto, using(crate::proofs::Probes::probe_fits))]
+pub fn probe<N: Walk>(
+    width: usize,
+    start: Line,
+    node: N,
+    indent: usize,
+    mode: Mode,
+    commands: &Stack<N>,
+    stack: &mut Stack<N>,
+    probes: &mut u64,
+) -> Result<Fit, AllocError>
+    requires { IsSummed N.HAS_SUMMARIES N.tree commands.now }
+    ensures answer { IfOk result
+        (λ r. is_fit r ≡ answer_of (look width (N.tree node) indent mode start.column start.pending)
+        (λ c p. rest_fits width (follow (stack_of N.tree commands.now)) c p)) }
+    ensures texts { IfOk result (λ r. r ≡ FitsAsTexts → (mode ≡ Flat) × IsTexts (N.tree node)) }
+    ensures rises { probes.old ≤ probes.new }
+    ensures counted { probes.new ≤ probes.old + (size (N.tree node) + nodes (stack_of N.tree commands.now)) }
+    ensures asked { OnOk result (RisesBy 1 probes.old probes.new) }
+    ensures few { Few N.HAS_SUMMARIES width (N.tree node) (stack_of N.tree commands.now) 1 probes.old probes.new }
+{
+    stack.clear();
+    let first = Command { indent, mode, node };
+    let below = commands.cursor();
+    if N::has_summaries() && width <= u32::MAX as usize {
+        let fits = visit_by_sums(width, start, first, commands, below, stack, probes)?;
+        return Ok(found(fits, false));
+    }
+    let mut count = *probes;
+    let fit = visit_all(width, start, first, commands, below, stack, &mut count);
+    *probes = count;
+    fit
+}

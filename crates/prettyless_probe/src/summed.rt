@@ -1,0 +1,154 @@
+//! The probe where nodes have summaries: it reads a node that is known by its summary, and what follows by its sum.
+ghost use Rattle.std.specs.Prelude.{◌≡◌, ◌++◌, ◌∷◌, IfOk, IsTrue, OnOk, List, [], length, ◌+◌, ◌*◌, ◌^◌, ◌<◌, ◌≤◌};
+ghost use Rattle.prettyless_model.specs.Tree.{size};
+ghost use Rattle.prettyless_model.specs.Look.{answer_of};
+ghost use Rattle.prettyless_summary.specs.Summary.{HasSums, look_by};
+ghost use Rattle.prettyless_probe.specs.Probing.{Few, OneLeft, ReadsAs, RisesBy, nodes_next, pace};
+ghost use Rattle.prettyless_probe.specs.declared.probe.ProbeStep.{ProbeStep};
+ghost use Rattle.prettyless_probe.specs.Stack.{Reads, Task, in_break, make_task, nodes, stack_of, task, tasks_fit, unread};
+ghost use Rattle.prettyless_probe.specs.Sums.{AreSums};
+
+use crate::command::Command;
+use crate::probe::{Line, ProbeStep, probe_one};
+use crate::stack::{Cursor, Stack};
+use crate::walk::Walk;
+use prettyless_model::mode::Mode;
+use prettyless_sink::visits::one_more;
+use prettyless_summary::summary::{Reached, Summary};
+use std::alloc::AllocError;
+
+// Reads on by a summary.
+#[inline(always)]
+fn read_by<N: Walk>(width: usize, line: &mut Line, summary: Summary) -> ProbeStep<N>
+    ensures answer { (ts : List Task) → ReadsAs N.tree width result
+        (answer_of (look_by width summary line.old.column line.old.pending) (λ c p. tasks_fit width ts c p))
+        ts line.new.column line.new.pending }
+    ensures pace { pace N.tree result ≤ 1 }
+    ensures nodes { nodes_next N.tree result ≡ 0 }
+{
+    match summary.read(width, line.column, line.pending) {
+        Reached::Answer(answer) => ProbeStep::Answer(answer),
+        Reached::Line(column, pending) => {
+            line.column = column;
+            line.pending = pending;
+            ProbeStep::Silent
+        }
+    }
+}
+
+// Looks at one node, by its summary where that is known.
+#[inline(always)]
+#[tactic(auto, using(crate::proofs::Sizes::size_positive))]
+fn read_one<N: Walk>(
+    width: usize,
+    line: &mut Line,
+    indent: usize,
+    mode: Mode,
+    node: N,
+    stack: &mut Stack<N>,
+) -> Result<ProbeStep<N>, AllocError>
+    requires { width < 2 ^ 32 }
+    ensures answer { IfOk result (λ a. (ts : List Task) → ReadsAs N.tree width a
+        (tasks_fit width (make_task indent mode (N.tree node) ∷ (stack_of N.tree stack.old ++ ts)) line.old.column line.old.pending)
+        (stack_of N.tree stack.new ++ ts) line.new.column line.new.pending) }
+    ensures smaller { IfOk result (λ a.
+        nodes_next N.tree a + nodes (stack_of N.tree stack.new) < size (N.tree node) + nodes (stack_of N.tree stack.old)) }
+    ensures few { IfOk result (λ a. IsTrue N.HAS_SUMMARIES → HasSums (N.tree node) → size (N.tree node) < 2 ^ 32
+        → (nodes_next N.tree a ≡ 0) × (stack_of N.tree stack.new ≡ stack_of N.tree stack.old)) }
+{
+    match node.known(mode) {
+        Some(summary) => Ok(read_by(width, line, summary)),
+        None => probe_one(width, line, indent, mode, node, stack),
+    }
+}
+
+// Goes on where nothing comes next: with one of the probe's own nodes; then by the sum of the printer's commands that are not read
+// yet, or with the next of them.
+#[inline(always)]
+fn read_on<N: Walk>(
+    width: usize,
+    line: &mut Line,
+    commands: &Stack<N>,
+    below: &mut Cursor,
+    stack: &mut Stack<N>,
+    probes: &mut u64,
+) -> ProbeStep<N>
+    requires narrow { width < 2 ^ 32 }
+    requires of_this { Reads commands.now below.old }
+    requires summed { AreSums commands.now.sums.items (unread N.tree commands.now below.old) }
+    ensures of_this { Reads commands.now below.new }
+    ensures summed { AreSums commands.now.sums.items (unread N.tree commands.now below.new) }
+    ensures answer { ReadsAs N.tree width result
+        (tasks_fit width (stack_of N.tree stack.old ++ in_break (unread N.tree commands.now below.old)) line.old.column line.old.pending)
+        (stack_of N.tree stack.new ++ in_break (unread N.tree commands.now below.new)) line.new.column line.new.pending }
+    ensures smaller { pace N.tree result + 2 * (nodes (stack_of N.tree stack.new) + nodes (unread N.tree commands.now below.new))
+        < 1 + 2 * (nodes (stack_of N.tree stack.old) + nodes (unread N.tree commands.now below.old)) }
+    ensures rises { probes.old ≤ probes.new }
+    ensures counted { probes.new
+        + (nodes_next N.tree result + (nodes (stack_of N.tree stack.new) + nodes (unread N.tree commands.now below.new)))
+        ≤ probes.old + (nodes (stack_of N.tree stack.old) + nodes (unread N.tree commands.now below.old)) }
+    ensures few { (read : ProbeStep N) → OneLeft N.tree read (stack_of N.tree stack.old) (unread N.tree commands.now below.old) commands.now.sums.items
+        → OneLeft N.tree result (stack_of N.tree stack.new) (unread N.tree commands.now below.new) commands.now.sums.items
+        × (unread N.tree commands.now below.new ≡ []) × (probes.new ≤ probes.old + 1) }
+{
+    if let Some(next) = stack.pop() {
+        return ProbeStep::Descend(next.indent, next.mode, next.node);
+    }
+    if let Some(sum) = commands.sum_of(below) {
+        *probes = one_more(*probes);
+        commands.skip_to(below, sum.left);
+        return read_by(width, line, sum.sum);
+    }
+    match commands.read_down(below) {
+        Some(next) => ProbeStep::Descend(next.indent, Mode::Break, next.node),
+        None => ProbeStep::Answer(line.column.padding_fits(width, line.pending)),
+    }
+}
+
+/// Visits a node, what is on the stack, and then the printer's commands downwards, up to an answer. Each node that is looked at and
+/// each sum is counted in `probes`.
+#[tactic(auto, using(crate::proofs::Sizes::size_positive))]
+pub(crate) fn visit_by_sums<N: Walk>(
+    width: usize,
+    start: Line,
+    first: Command<N>,
+    commands: &Stack<N>,
+    cursor: Cursor,
+    stack: &mut Stack<N>,
+    probes: &mut u64,
+) -> Result<bool, AllocError>
+    requires narrow { width < 2 ^ 32 }
+    requires of_this { Reads commands.now cursor }
+    requires summed { AreSums commands.now.sums.items (unread N.tree commands.now cursor) }
+    ensures answer { IfOk result
+        (λ r. r ≡ tasks_fit width (task N.tree first ∷ (stack_of N.tree stack.old ++ in_break (unread N.tree commands.now cursor)))
+        start.column start.pending) }
+    ensures rises { probes.old ≤ probes.new }
+    ensures counted { probes.new
+        ≤ probes.old + (size (N.tree first.node) + (nodes (stack_of N.tree stack.old) + nodes (unread N.tree commands.now cursor))) }
+    ensures asked { OnOk result (RisesBy 1 probes.old probes.new) }
+    ensures few { stack_of N.tree stack.old ≡ [] → length (unread N.tree commands.now cursor) ≤ length commands.now.sums.items
+        → Few N.HAS_SUMMARIES width (N.tree first.node) (unread N.tree commands.now cursor) 1 probes.old probes.new }
+{
+    let mut line = start;
+    let mut below = cursor;
+    *probes = one_more(*probes);
+    let mut read = read_one(
+        width,
+        &mut line,
+        first.indent,
+        first.mode,
+        first.node,
+        stack,
+    )?;
+    'read: loop {
+        read = match read {
+            ProbeStep::Answer(answer) => return Ok(answer),
+            ProbeStep::Descend(indent, mode, node) => {
+                *probes = one_more(*probes);
+                read_one(width, &mut line, indent, mode, node, stack)?
+            }
+            ProbeStep::Silent => read_on(width, &mut line, commands, &mut below, stack, probes),
+        };
+    }
+}

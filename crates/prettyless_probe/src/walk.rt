@@ -1,0 +1,63 @@
+//! The seam to documents: a node as the printer sees it.
+ghost use Rattle.std.specs.Prelude.{◌≡◌, ◌<◌, ◌^◌, Bool, IsTrue};
+ghost use Rattle.prettyless_model.specs.Tree.{Tree, size};
+ghost use Rattle.prettyless_probe.specs.View.{IsMeasured, view_tree};
+ghost use Rattle.prettyless_summary.specs.Summary.{HasSums, IsFound, IsKnown};
+
+use prettyless_model::choice::{ColumnTest, NestingTest};
+use prettyless_model::metrics::Metrics;
+use prettyless_model::mode::Mode;
+use prettyless_summary::summary::Summary;
+
+/// One node, as the printer sees it: its variant, its text and its children. Widths are columns.
+#[derive(Drop)]
+pub enum View<'v, N> {
+    Nil,
+    Fail,
+    Text(&'v str),
+    TextWithLen(usize, &'v str),
+    /// A payload, with what is measured of it.
+    MultilineText(&'v str, Metrics),
+    WeakSpace,
+    HardLine,
+    WeakLine,
+    Append(N, N),
+    LineSuffix(N),
+    Nest(isize, N),
+    DedentToRoot(N),
+    Align(N),
+    ExpandParent,
+    Flatten(N),
+    BreakOrFlat(N, N),
+    Group(N),
+    Union(N, N),
+    PartialUnion(N, N),
+    OnColumn(ColumnTest, N, N),
+    OnNesting(NestingTest, N, N),
+}
+
+/// A node that the printer can walk.
+///
+/// It knows no lifetime of a document, so that functions that call themselves may have it as a bound.
+pub trait Walk: Copy {
+    // the tree below the node
+    ghost tree: { Self → Tree };
+
+    // whether nodes have summaries
+    ghost HAS_SUMMARIES: { Bool };
+
+    /// Whether nodes have summaries. A stack of such nodes keeps their sums, by which a probe reads what it would walk else.
+    fn has_summaries() -> bool
+        ensures { result ≡ HAS_SUMMARIES };
+
+    /// What the node is.
+    fn view(&self) -> View<'_, Self>
+        ensures tree { view_tree tree result ≡ tree self.now }
+        ensures metrics { IsMeasured result };
+
+    /// What the node shows a probe in a mode, where that is known: where nodes have summaries, it is so for one all of whose nodes have
+    /// them, and which is not too large.
+    fn known(&self, mode: Mode) -> Option<Summary>
+        ensures known { IsKnown result (tree self.now) mode }
+        ensures found { IsTrue HAS_SUMMARIES → HasSums (tree self.now) → size (tree self.now) < 2 ^ 32 → IsFound (size (tree self.now)) result };
+}
