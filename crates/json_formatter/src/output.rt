@@ -253,7 +253,8 @@ pub(crate) fn write_layout<W: Write>(
     layout: &mut Layout<'_>,
 ) -> Result<(), FormatError>
     ensures ok { OnOk result (Appends (W.contents writer.old) (W.contents writer.new) (layout.old ++ line_feed ∷ [])) }
-    ensures beginning { OnErr result (AppendsProperBeginning (W.contents writer.old) (W.contents writer.new) (layout.old ++ line_feed ∷ [])) }
+    ensures beginning { OnErr result
+        (AppendsProperBeginning (W.contents writer.old) (W.contents writer.new) (layout.old ++ line_feed ∷ [])) }
     ensures err { IfErr result IsWriting }
 {
     let mut held = ArrayString::new();

@@ -86,7 +86,8 @@ impl<'a, T: DocPtr<'a>> Doc<'a, T> {
         options: RenderOptions,
         out: &mut W,
     ) -> Result<(), RenderError<io::Error>>
-        ensures { RendersDocInto options (tree_of T.tree self.now) (λ e. error_kind e ≡ Other) (W.contents out.old) (W.contents out.new) result }
+        ensures { RendersDocInto options (tree_of T.tree self.now) (λ e. error_kind e ≡ Other) (W.contents out.old)
+            (W.contents out.new) result }
     {
         self.render_raw_with(alloc, options, &mut IoWrite::new(out))
     }
@@ -98,7 +99,8 @@ impl<'a, T: DocPtr<'a>> Doc<'a, T> {
         width: usize,
         out: &mut W,
     ) -> Result<(), RenderError<io::Error>>
-        ensures { RendersDocInto (options_at width) (tree_of T.tree self.now) (λ e. error_kind e ≡ Other) (W.contents out.old) (W.contents out.new) result }
+        ensures { RendersDocInto (options_at width) (tree_of T.tree self.now) (λ e. error_kind e ≡ Other) (W.contents out.old)
+            (W.contents out.new) result }
     {
         self.render_with(alloc, RenderOptions::new(width), out)
     }
