@@ -17,6 +17,10 @@ use prettyless_model::choice::{ColumnTest, NestingTest};
 /// `P` and `Q` are parameters of the trait and not of its calls, as for `DocAllocatorOf`.
 pub trait DocAllocatorOfTwo<'a, P: Pretty<'a, Self>, Q: Pretty<'a, Self>>: DocPlace<'a> {
     /// The first document where the test of the column at which it would start holds, else the second, flat or broken.
+    ///
+    /// ```
+    /// docs![place, "ab", place.if_column(ColumnTest::AtMost(1), "c", "d")?]? // "abd"
+    /// ```
     fn if_column(
         &'a self,
         test: ColumnTest,
@@ -27,6 +31,10 @@ pub trait DocAllocatorOfTwo<'a, P: Pretty<'a, Self>, Q: Pretty<'a, Self>>: DocPl
             (OnColumn test) };
 
     /// The first document where the test of the indent holds, else the second, flat or broken.
+    ///
+    /// ```
+    /// place.if_nesting(NestingTest::AtLeast(2), "c", "d")?.nest(2)? // "c"
+    /// ```
     fn if_nesting(
         &'a self,
         test: NestingTest,

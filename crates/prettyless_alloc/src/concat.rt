@@ -21,6 +21,10 @@ where
     /// The items' documents, appended in order: nothing if there is none.
     ///
     /// `docs` has to be an iterator whose `next` may be called, and one that ends: the prover asks for both.
+    ///
+    /// ```
+    /// place.concat(["a", "b"])? // "ab"
+    /// ```
     fn concat(&'a self, docs: I) -> Result<DocBuilder<'a, Self>, BuildError>
         requires { IsFiniteIterable I.into_iter_gives I.IntoIter.can_next I.IntoIter.remaining docs }
         ensures ok { IfOk result (λ b. (xs : List I.Item)

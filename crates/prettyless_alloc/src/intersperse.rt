@@ -24,6 +24,10 @@ where
     /// separator becomes a document once, and only where there is a gap.
     ///
     /// `docs` has to be an iterator whose `next` may be called, and one that ends: the prover asks for both.
+    ///
+    /// ```
+    /// place.intersperse(["a", "b"], ", ")? // "a, b"
+    /// ```
     fn intersperse(&'a self, docs: I, separator: S) -> Result<DocBuilder<'a, Self>, BuildError>
         requires { IsFiniteIterable I.into_iter_gives I.IntoIter.can_next I.IntoIter.remaining docs }
         ensures ok { IfOk result (λ b. (xs : List I.Item)

@@ -15,6 +15,10 @@ pub trait Pretty<'a, D: DocPlace<'a>> {
     ghost refuses: { Self → BuildError → Type 0 };
 
     /// The document that it becomes, in `allocator`.
+    ///
+    /// ```
+    /// Pretty::pretty("a", place)? // "a"
+    /// ```
     fn pretty(self, allocator: &'a D) -> Result<DocBuilder<'a, D>, BuildError>
         ensures ok { IfOk result (λ b. becomes self (built D.Doc.tree b.1)) }
         ensures err { IfErr result (refuses self) };

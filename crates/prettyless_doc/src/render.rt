@@ -27,6 +27,11 @@ use std::{fmt, io};
 impl<'a, T: DocPtr<'a>> Doc<'a, T> {
     /// Renders to a sink. Only where the answer is `Sink` do the sink's failures rise, by one (at their greatest value they
     /// stay).
+    ///
+    /// ```
+    /// let options = RenderOptions::new(80).with_line_ending(LineEnding::Crlf);
+    /// doc.render_raw_with(alloc, options, &mut FmtWrite::new(&mut text))?; // `text` grew by the layout
+    /// ```
     pub fn render_raw_with<W: Render>(
         &self,
         alloc: Global,
@@ -51,6 +56,11 @@ impl<'a, T: DocPtr<'a>> Doc<'a, T> {
     /// After `Ok` the printer has visited at least the nodes that the layout lays, and its probes at least one node for
     /// each probe that the layout asks, up to the greatest `u64`. In this lower bound a rejected branch of a union counts
     /// nothing, and neither does the document of a line suffix; a branch that is kept counts.
+    ///
+    /// ```
+    /// let mut visits = Visits::default();
+    /// doc.render_raw_counted_with(alloc, RenderOptions::new(80), &mut FmtWrite::new(&mut text), &mut visits)?;
+    /// ```
     pub fn render_raw_counted_with<W: Render>(
         &self,
         alloc: Global,
@@ -66,6 +76,10 @@ impl<'a, T: DocPtr<'a>> Doc<'a, T> {
     }
 
     /// Renders to a sink at this width, in columns, as `render_raw_with` does by `RenderOptions::new(width)`.
+    ///
+    /// ```
+    /// doc.render_raw(alloc, 80, &mut FmtWrite::new(&mut text))?; // `text` grew by the layout
+    /// ```
     pub fn render_raw<W: Render>(
         &self,
         alloc: Global,
@@ -80,6 +94,11 @@ impl<'a, T: DocPtr<'a>> Doc<'a, T> {
 
     /// Renders to a byte writer, piece by piece: hand in a `BufWriter` where a write is slow, and flush it afterwards,
     /// since no call here does. An interruption is answered as `Sink`, and not tried again.
+    ///
+    /// ```
+    /// let options = RenderOptions::new(80).with_line_ending(LineEnding::Crlf);
+    /// doc.render_with(alloc, options, &mut bytes)?; // `bytes`, a `Vec<u8>`, grew by the layout
+    /// ```
     pub fn render_with<W: io::Write>(
         &self,
         alloc: Global,
@@ -92,6 +111,10 @@ impl<'a, T: DocPtr<'a>> Doc<'a, T> {
     }
 
     /// Renders to a byte writer at this width, in columns, as `render_with` does by `RenderOptions::new(width)`.
+    ///
+    /// ```
+    /// doc.render(alloc, 80, &mut bytes)?; // `bytes`, a `Vec<u8>`, grew by the layout
+    /// ```
     pub fn render<W: io::Write>(
         &self,
         alloc: Global,
@@ -104,6 +127,11 @@ impl<'a, T: DocPtr<'a>> Doc<'a, T> {
     }
 
     /// Renders to a text writer.
+    ///
+    /// ```
+    /// let options = RenderOptions::new(80).with_indentation_policy(IndentationPolicy::Deferred);
+    /// doc.render_fmt_with(alloc, options, &mut text)?; // `text`, a `String`, grew by the layout
+    /// ```
     pub fn render_fmt_with<W: TextWriter>(
         &self,
         alloc: Global,
@@ -116,6 +144,10 @@ impl<'a, T: DocPtr<'a>> Doc<'a, T> {
     }
 
     /// Renders to a text writer at this width, in columns, as `render_fmt_with` does by `RenderOptions::new(width)`.
+    ///
+    /// ```
+    /// doc.render_fmt(alloc, 80, &mut text)?; // `text`, a `String`, grew by the layout
+    /// ```
     pub fn render_fmt<W: TextWriter>(
         &self,
         alloc: Global,
