@@ -120,7 +120,7 @@ pub trait DocAllocator<'a>: DocPlace<'a> {
         ensures ok { IfOk result (λ b. built Self.Doc.tree b.1 ≡ HardLine) }
         ensures err { IfErr result to.IsNever };
 
-    /// `hard_line` by another name.
+    /// `hard_line` by another name. It takes no memory.
     ///
     /// ```
     /// docs![place, "a", place.hardline()?, "b"]? // "a\nb"
@@ -148,8 +148,8 @@ pub trait DocAllocator<'a>: DocPlace<'a> {
         ensures ok { IfOk result (λ b. built Self.Doc.tree b.1 ≡ lines.space) }
         ensures err { IfErr result to.IsNever };
 
-    /// So many spaces, in texts of at most 100. Up to 100 it takes no memory; beyond that memory can
-    /// fail.
+    /// So many spaces, in texts of at most 100: nothing for 0. Up to 100 it takes no memory; beyond that it fails where
+    /// memory is refused.
     ///
     /// ```
     /// docs![place, "a", place.spaces(3)?, "b"]? // "a   b"

@@ -22,7 +22,8 @@ pub trait DocAllocatorOf<'a, P: Pretty<'a, Self>>: DocPlace<'a> {
         ensures ok { IfOk result (λ b. P.becomes doc (built Self.Doc.tree b.1)) }
         ensures err { IfErr result (P.refuses doc) };
 
-    /// The document as a line suffix, pending until its line ends, also where it is nothing.
+    /// The document as a line suffix, pending until its line ends, also where it is nothing. It fails as the making of the
+    /// document does, and where memory is refused.
     ///
     /// ```
     /// docs![place, place.line_suffix(" # b")?, "a", place.hard_line()?]? // "a # b\n"
@@ -30,7 +31,8 @@ pub trait DocAllocatorOf<'a, P: Pretty<'a, Self>>: DocPlace<'a> {
     fn line_suffix(&'a self, doc: P) -> Result<DocBuilder<'a, Self>, BuildError>
         ensures { to.BuildsOf result (λ b. built Self.Doc.tree b.1) (P.becomes doc) (P.refuses doc) LineSuffix };
 
-    /// Nothing where lines are broken, and the document where they are flat.
+    /// Nothing where lines are broken, and the document where they are flat. It fails as the making of the document does,
+    /// and where memory is refused.
     ///
     /// ```
     /// docs![place, "a", place.if_group_flat(";")?, place.line_()?, "b"]?.group()? // "a;b" at 3 columns, "a\nb" at 2
@@ -38,7 +40,8 @@ pub trait DocAllocatorOf<'a, P: Pretty<'a, Self>>: DocPlace<'a> {
     fn if_group_flat(&'a self, doc: P) -> Result<DocBuilder<'a, Self>, BuildError>
         ensures { to.BuildsOf result (λ b. built Self.Doc.tree b.1) (P.becomes doc) (P.refuses doc) (BreakOrFlat Nil) };
 
-    /// The document where lines are broken, and nothing where they are flat.
+    /// The document where lines are broken, and nothing where they are flat. It fails as the making of the document does,
+    /// and where memory is refused.
     ///
     /// ```
     /// docs![place, "a", place.if_group_break(",")?, place.line_()?, "b"]?.group()? // "ab" at 2 columns, "a,\nb" at 1

@@ -18,7 +18,8 @@ pub trait DocAllocatorOver<'a, I: IntoIterator>: DocPlace<'a>
 where
     I::Item: Pretty<'a, Self>,
 {
-    /// The items' documents, appended in order: nothing if there is none.
+    /// The items' documents, appended in order: nothing if there is none. It fails as the making of an item does, and where
+    /// memory is refused.
     ///
     /// `docs` has to be an iterator whose `next` may be called, and one that ends: the prover asks for both.
     ///

@@ -29,7 +29,8 @@ impl<'a, D: DocPlace<'a>> DocBuilder<'a, D> {
         Ok(DocBuilder::new(allocator, Doc::Nest(offset, inner)))
     }
 
-    /// This document with its indent moved right by so many columns, as `nest` does it. They have to be at most `isize::MAX`.
+    /// This document with its indent moved right by so many columns, which have to be at most `isize::MAX`. By 0, or where it
+    /// is nothing, it stays as it is, which takes no memory; else memory may be refused.
     ///
     /// ```
     /// docs![place, "a", hard_line(), "b"]?.indent(2)? // "a\n  b"
@@ -43,7 +44,8 @@ impl<'a, D: DocPlace<'a>> DocBuilder<'a, D> {
         self.nest(offset as isize)
     }
 
-    /// This document with its indent moved left by so many columns, as `nest` does it. They have to be at most `isize::MAX`.
+    /// This document with its indent moved left by so many columns, which have to be at most `isize::MAX`. By 0, or where it
+    /// is nothing, it stays as it is, which takes no memory; else memory may be refused.
     ///
     /// ```
     /// docs![place, "a", hard_line(), "b"]?.dedent(1)?.indent(2)? // "a\n b"

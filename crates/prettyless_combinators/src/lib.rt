@@ -1,4 +1,6 @@
 //! Combinators: values that become documents once there is an allocator. To make one takes no memory.
+//!
+//! An example is a value. Beside it is the layout of its document, at any width where none is named.
 #![tactic(auto)]
 
 ghost use Rattle.std.specs.Prelude.{◌≡◌, ◌≤◌, ◌-◌, ◌^◌, pos, neg_ℤ};

@@ -64,7 +64,7 @@ impl<'a, T: DocPtr<'a>> Doc<'a, T> {
     /// where no suffix is pending.
     ///
     /// ```
-    /// Doc::weak_line() // nothing on a fresh line, else "\n"
+    /// Doc::weak_line() // "\n" after a text
     /// ```
     pub fn weak_line() -> Self
         ensures { tree_of T.tree result ≡ tree.WeakLine }
@@ -86,7 +86,7 @@ impl<'a, T: DocPtr<'a>> Doc<'a, T> {
     /// A space; nothing at the start of a line, and nothing at its end unless a suffix is pending there.
     ///
     /// ```
-    /// Doc::weak_space() // nothing at both ends of a line, else " "
+    /// Doc::weak_space() // " " between two texts
     /// ```
     pub fn weak_space() -> Self
         ensures { tree_of T.tree result ≡ tree.WeakSpace }
@@ -187,7 +187,7 @@ impl<'a, D: DocPtr<'a>> BuildDoc<'a, D> {
     /// where no suffix is pending.
     ///
     /// ```
-    /// BuildDoc::weak_line() // nothing on a fresh line, else "\n"
+    /// BuildDoc::weak_line() // "\n" after a text
     /// ```
     pub fn weak_line() -> Self
         ensures { built D.tree result ≡ tree.WeakLine }
@@ -209,7 +209,7 @@ impl<'a, D: DocPtr<'a>> BuildDoc<'a, D> {
     /// A space; nothing at the start of a line, and nothing at its end unless a suffix is pending there.
     ///
     /// ```
-    /// BuildDoc::weak_space() // nothing at both ends of a line, else " "
+    /// BuildDoc::weak_space() // " " between two texts
     /// ```
     pub fn weak_space() -> Self
         ensures { built D.tree result ≡ tree.WeakSpace }
