@@ -18,7 +18,7 @@ pub struct Comparing<'t> {
 }
 
 impl<'t> Comparing<'t> {
-    /// Nothing is written yet.
+    /// A writer that compares with this text, and to which nothing is written yet.
     pub fn new(text: &'t [u8]) -> Comparing<'t>
         ensures text { result.text.now ≡ text.entry.now }
         ensures count { result.count ≡ 0 }

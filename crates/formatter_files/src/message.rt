@@ -10,13 +10,13 @@ fn is_plain(word: &str) -> bool {
     word.bytes().all(|byte| byte.is_ascii_graphic())
 }
 
-/// Says where a text is refused, and what was expected there. It leaves the line open.
+/// Says where a text is refused, and what was expected there. It leaves the line open. It fails where standard error does.
 pub fn say_expected<R: Eprint>(rt: &R, name: &str, place: Place, expected: &str) -> io::Result<()> {
     let (line, column) = (place.line, place.column);
     eprint!(rt; "{name}:{line}:{column}: expected {expected}")
 }
 
-/// Says which word stands there. It leaves the line open.
+/// Says which word stands there. It leaves the line open. It fails where standard error does.
 pub fn say_word<R: Eprint>(rt: &R, word: &str) -> io::Result<()> {
     if word == "\n" || word == "\r" {
         eprint!(rt; ", found the end of the line")
@@ -31,7 +31,7 @@ pub fn say_word<R: Eprint>(rt: &R, word: &str) -> io::Result<()> {
     }
 }
 
-/// Says where the string or the bracket begins that is open there. It leaves the line open.
+/// Says where the string or the bracket begins that is open there. It leaves the line open. It fails where standard error does.
 pub fn say_opened<R: Eprint>(rt: &R, place: Place) -> io::Result<()> {
     let (line, column) = (place.line, place.column);
     eprint!(rt; ", opened at {line}:{column}")

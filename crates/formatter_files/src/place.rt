@@ -5,7 +5,9 @@ ghost use Rattle.formatter_files.specs.Places.{IsPlace, begins_character};
 /// A place in a text: its line and its column, from 1. A column is a character.
 #[derive(Clone, Copy, Debug, Drop, PartialEq, Eq)]
 pub struct Place {
+    /// How many line feeds are before it, and one.
     pub line: usize,
+    /// How many characters of its line are before it, and one.
     pub column: usize,
 }
 

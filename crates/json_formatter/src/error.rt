@@ -9,9 +9,9 @@ use std::io;
 pub enum FormatError {
     /// The text is no JSON, or its lists are more than 100,000 deep in one another.
     NotJson,
-    /// Memory was refused.
+    /// Memory was refused. Nothing was written.
     Memory(AllocError),
-    /// The layout could not be written to its end.
+    /// The layout could not be written to its end. A beginning was written.
     Write(io::Error),
 }
 

@@ -30,7 +30,11 @@ fn check_json(alloc: Global, text: &str) -> Result<(), FormatError>
 /// The layout of a JSON text in this style, and a line feed. It is the same value, and has the same lexemes. Laid out again
 /// in this style, it stays as it is.
 ///
-/// `NotJson` exactly where the text is no JSON, and else `Memory` where memory is refused.
+/// `NotJson` only where the text is no JSON. `Memory` where memory is refused, whatever the text is.
+///
+/// ```
+/// formatted(alloc, "[1,2]", Style::default())? // "[1, 2]\n"
+/// ```
 pub fn formatted(alloc: Global, text: &str, style: Style) -> Result<String, FormatError>
     ensures ok { IfOk result (λ layout. IsFormatted style text.now (string_bytes layout)) }
     ensures err { IfErr result (IsRefused text.now) }
@@ -43,8 +47,12 @@ pub fn formatted(alloc: Global, text: &str, style: Style) -> Result<String, Form
 
 /// Writes the layout of a JSON text in this style, and a line feed, while the text is laid out.
 ///
-/// `NotJson` exactly where the text is no JSON: then nothing was written, nor was it where memory was refused. Where the
-/// writer fails a beginning was written.
+/// `NotJson` only where the text is no JSON, and `Memory` where memory is refused, whatever the text is: then nothing was
+/// written. `Write` where the writer fails: then a beginning was written, and not all.
+///
+/// ```
+/// format(alloc, "[1,2]", Style::default(), &mut bytes)?; // appends "[1, 2]\n" to `bytes`, a `Vec<u8>`
+/// ```
 pub fn format<W: Write>(
     alloc: Global,
     text: &str,
@@ -59,8 +67,12 @@ pub fn format<W: Write>(
 
 /// Puts the layout of a JSON text in this style, and a line feed, into a sink, while the text is laid out.
 ///
-/// `NotJson` exactly where the text is no JSON, and else `Memory` where memory is refused: then nothing was put. Where the
-/// sink fails it got a beginning and no piece after that, and the inner answer is its error.
+/// `NotJson` only where the text is no JSON, and `Memory` where memory is refused, whatever the text is: then the sink is as
+/// it was. Where the sink fails it got a beginning and no piece after that, and the inner answer is its error.
+///
+/// ```
+/// render(alloc, "[1,2]", Style::default(), &mut Area::new(&mut out, 1000))? // `Ok`: `out` begins with "[1, 2]\n"
+/// ```
 pub fn render<S: Render>(
     alloc: Global,
     text: &str,

@@ -24,23 +24,39 @@ use std::fmt;
 pub trait DocAllocator<'a>: DocPlace<'a> {
     /// A pointer to the document: its own where it has one, which takes no memory, and else that of
     /// a new node, or an error where memory is refused.
+    ///
+    /// ```
+    /// place.alloc_cow(BuildDoc::Doc(Doc::HardLine))? // a pointer to a line break
+    /// ```
     fn alloc_cow(&'a self, doc: BuildDoc<'a, Self::Doc>) -> Result<Self::Doc, BuildError>
         ensures ok { IfOk result (λ p. Self.Doc.tree p ≡ built Self.Doc.tree doc.entry) }
         ensures placed { to.IfPlaced doc.entry (λ p. result ≡ Ok p) }
         ensures err { IfErr result IsMemory };
 
     /// Nothing. It takes no memory.
+    ///
+    /// ```
+    /// place.nil()? // ""
+    /// ```
     fn nil(&'a self) -> Result<DocBuilder<'a, Self>, BuildError>
         ensures ok { IfOk result (λ b. built Self.Doc.tree b.1 ≡ Nil) }
         ensures err { IfErr result to.IsNever };
 
     /// A document that cannot be laid: a render that comes to it fails. It takes no memory.
+    ///
+    /// ```
+    /// docs![place, "a", place.fail()?]? // writes "a", then `RenderError::Document`
+    /// ```
     fn fail(&'a self) -> Result<DocBuilder<'a, Self>, BuildError>
         ensures ok { IfOk result (λ b. built Self.Doc.tree b.1 ≡ Fail) }
         ensures err { IfErr result to.IsNever };
 
     /// A text that counts as one column a byte, also where it is empty or not ASCII. Only an owned
     /// text takes memory, and fails where that is refused.
+    ///
+    /// ```
+    /// place.ascii_text(CowStr::Borrowed("a"))? // "a", one column
+    /// ```
     fn ascii_text(&'a self, text: CowStr<'a>) -> Result<DocBuilder<'a, Self>, BuildError>
         ensures ok { IfOk result (λ b. built Self.Doc.tree b.1 ≡ TextTree (cow_str_bytes text.entry)) }
         ensures borrowed { IfLent text.entry (IsOk result) }
@@ -49,6 +65,10 @@ pub trait DocAllocator<'a>: DocPlace<'a> {
     /// A text, written as it is: nothing if it is empty. It counts as its bytes if it is ASCII, and else as its display
     /// width. A line end in it is not seen by the layout: `multiline_text` is for such texts. Only an
     /// owned text takes memory, and fails where that is refused.
+    ///
+    /// ```
+    /// place.text(CowStr::Borrowed("你好"))? // "你好", four columns
+    /// ```
     fn text(&'a self, text: CowStr<'a>) -> Result<DocBuilder<'a, Self>, BuildError>
         ensures ok { IfOk result (λ b. built Self.Doc.tree b.1 ≡ counted.text (cow_str_bytes text.entry)) }
         ensures borrowed { IfLent text.entry (IsOk result) }
@@ -59,6 +79,10 @@ pub trait DocAllocator<'a>: DocPlace<'a> {
     ///
     /// Answers `Memory` where memory was refused, and `Display` where only the value's
     /// formatting failed.
+    ///
+    /// ```
+    /// place.as_string(42)? // "42"
+    /// ```
     fn as_string<V: fmt::Display + Drop>(
         &'a self,
         value: V,
@@ -69,6 +93,10 @@ pub trait DocAllocator<'a>: DocPlace<'a> {
     /// A text whose line ends, each LF or CR, are written as they are, with no indent after them. It keeps the groups
     /// around it from being flat, and fails under `flatten`. Without one it is as `text` makes it. Only an owned
     /// text takes memory, and fails where that is refused.
+    ///
+    /// ```
+    /// place.multiline_text(CowStr::Borrowed("a\nb"))?.nest(2)? // "a\nb"
+    /// ```
     fn multiline_text(&'a self, text: CowStr<'a>) -> Result<DocBuilder<'a, Self>, BuildError>
         ensures ok { IfOk result (λ b. built Self.Doc.tree b.1 ≡ counted.multiline_text (cow_str_bytes text.entry)) }
         ensures borrowed { IfLent text.entry (IsOk result) }
@@ -76,65 +104,113 @@ pub trait DocAllocator<'a>: DocPlace<'a> {
 
     /// The pieces of a text between its whitespace, each as `text` makes it, with a `softline` in place
     /// of each whitespace character. It fails where memory is refused.
+    ///
+    /// ```
+    /// place.reflow("a b c")? // "a b\nc" at 3 columns, "a\nb\nc" at 2
+    /// ```
     fn reflow(&'a self, text: &'a str) -> Result<DocBuilder<'a, Self>, BuildError>
         ensures { to.Builds result (λ b. built Self.Doc.tree b.1) (words.reflow text.now) };
 
     /// A line break. It keeps the groups around it from being flat, and fails under `flatten`. It takes no memory.
+    ///
+    /// ```
+    /// docs![place, "a", place.hard_line()?, "b"]?.nest(2)? // "a\n  b"
+    /// ```
     fn hard_line(&'a self) -> Result<DocBuilder<'a, Self>, BuildError>
         ensures ok { IfOk result (λ b. built Self.Doc.tree b.1 ≡ HardLine) }
         ensures err { IfErr result to.IsNever };
 
-    /// `hard_line` by another name.
+    /// `hard_line` by another name. It takes no memory.
+    ///
+    /// ```
+    /// docs![place, "a", place.hardline()?, "b"]? // "a\nb"
+    /// ```
     fn hardline(&'a self) -> Result<DocBuilder<'a, Self>, BuildError>
         ensures ok { IfOk result (λ b. built Self.Doc.tree b.1 ≡ HardLine) }
         ensures err { IfErr result to.IsNever };
 
     /// A line break, under `flatten` too. It keeps the groups around it from being flat. It is nothing on a fresh line
     /// where no suffix is pending. It takes no memory.
+    ///
+    /// ```
+    /// docs![place, "a", place.weak_line()?, place.weak_line()?, "b"]? // "a\nb"
+    /// ```
     fn weak_line(&'a self) -> Result<DocBuilder<'a, Self>, BuildError>
         ensures ok { IfOk result (λ b. built Self.Doc.tree b.1 ≡ WeakLine) }
         ensures err { IfErr result to.IsNever };
 
     /// The text of one space. It takes no memory.
+    ///
+    /// ```
+    /// docs![place, "a", place.space()?, "b"]? // "a b"
+    /// ```
     fn space(&'a self) -> Result<DocBuilder<'a, Self>, BuildError>
         ensures ok { IfOk result (λ b. built Self.Doc.tree b.1 ≡ lines.space) }
         ensures err { IfErr result to.IsNever };
 
-    /// So many spaces, in texts of at most 100. Up to 100 it takes no memory; beyond that memory can
-    /// fail.
+    /// So many spaces, in texts of at most 100: nothing for 0. Up to 100 it takes no memory; beyond that it fails where
+    /// memory is refused.
+    ///
+    /// ```
+    /// docs![place, "a", place.spaces(3)?, "b"]? // "a   b"
+    /// ```
     fn spaces(&'a self, count: usize) -> Result<DocBuilder<'a, Self>, BuildError>
         ensures ok { IfOk result (λ b. built Self.Doc.tree b.1 ≡ to.spaces_tree count) }
         ensures err { IfErr result (λ e. IsMemory e × (100 < count)) };
 
     /// A space; nothing at the start of a line, and nothing at its end unless a suffix is pending there. It takes no
     /// memory.
+    ///
+    /// ```
+    /// docs![place, "a", place.weak_space()?, place.hard_line()?, "b"]? // "a\nb"
+    /// ```
     fn weak_space(&'a self) -> Result<DocBuilder<'a, Self>, BuildError>
         ensures ok { IfOk result (λ b. built Self.Doc.tree b.1 ≡ WeakSpace) }
         ensures err { IfErr result to.IsNever };
 
     /// Nothing, but it keeps the groups around it from being flat. It takes no memory.
+    ///
+    /// ```
+    /// docs![place, "a", place.line()?, place.expand_parent()?, "b"]?.group()? // "a\nb"
+    /// ```
     fn expand_parent(&'a self) -> Result<DocBuilder<'a, Self>, BuildError>
         ensures ok { IfOk result (λ b. built Self.Doc.tree b.1 ≡ ExpandParent) }
         ensures err { IfErr result to.IsNever };
 
     /// A line break, or one space where lines are flat. It fails where memory is refused.
+    ///
+    /// ```
+    /// docs![place, "a", place.line()?, "b"]?.group()? // "a b" at 3 columns, "a\nb" at 2
+    /// ```
     fn line(&'a self) -> Result<DocBuilder<'a, Self>, BuildError>
         ensures ok { IfOk result (λ b. built Self.Doc.tree b.1 ≡ lines.line) }
         ensures err { IfErr result IsMemory };
 
     /// A line break, or nothing where lines are flat. It fails where memory is refused.
+    ///
+    /// ```
+    /// docs![place, "a", place.line_()?, "b"]?.group()? // "ab" at 2 columns, "a\nb" at 1
+    /// ```
     fn line_(&'a self) -> Result<DocBuilder<'a, Self>, BuildError>
         ensures ok { IfOk result (λ b. built Self.Doc.tree b.1 ≡ lines.line_) }
         ensures err { IfErr result IsMemory };
 
     /// One space, or a line break where what follows, up to the next possible break, would go past the width.
     /// It fails where memory is refused.
+    ///
+    /// ```
+    /// docs![place, "a", place.softline()?, "b"]? // "a b" at 3 columns, "a\nb" at 2
+    /// ```
     fn softline(&'a self) -> Result<DocBuilder<'a, Self>, BuildError>
         ensures ok { IfOk result (λ b. built Self.Doc.tree b.1 ≡ to.softline) }
         ensures err { IfErr result IsMemory };
 
     /// Nothing, or a line break where what follows, up to the next possible break, would go past the width.
     /// It fails where memory is refused.
+    ///
+    /// ```
+    /// docs![place, "a", place.softline_()?, "b"]? // "ab" at 2 columns, "a\nb" at 1
+    /// ```
     fn softline_(&'a self) -> Result<DocBuilder<'a, Self>, BuildError>
         ensures ok { IfOk result (λ b. built Self.Doc.tree b.1 ≡ to.softline_) }
         ensures err { IfErr result IsMemory };
@@ -144,6 +220,10 @@ pub trait DocAllocator<'a>: DocPlace<'a> {
     ///
     /// It is `intersperse` of documents that are made already. So it serves a function that calls itself, whose
     /// iterator would call it too.
+    ///
+    /// ```
+    /// place.separate(docs, place.pretty(", ")?)? // of "a" and "b": "a, b"
+    /// ```
     fn separate(
         &'a self,
         docs: Vec<Self::Doc>,
@@ -154,6 +234,10 @@ pub trait DocAllocator<'a>: DocPlace<'a> {
 
     /// The documents in order, each but the last with the mark after it: a comma, for instance. It fails where memory is
     /// refused.
+    ///
+    /// ```
+    /// place.punctuated(docs, place.pretty(",")?)? // of "a" and "b": "a," and "b"
+    /// ```
     fn punctuated(
         &'a self,
         docs: Vec<Self::Doc>,
@@ -168,6 +252,10 @@ pub trait DocAllocator<'a>: DocPlace<'a> {
     /// Where there is no document, the two texts stand side by side, with no break. It fails where memory is refused.
     ///
     /// For a list with commas it takes the documents that `punctuated` answers.
+    ///
+    /// ```
+    /// place.bracketed("[", docs, "]", 2)? // of "a" and "b": "[a b]" at 5 columns, "[\n  a\n  b\n]" at 4
+    /// ```
     fn bracketed(
         &'a self,
         before: &'a str,

@@ -14,19 +14,38 @@ use prettyless_doc::{BuildError, Doc, DocPlace};
 /// It follows from the operand: `allocator.line_suffix(doc)` is written without it.
 pub trait DocAllocatorOf<'a, P: Pretty<'a, Self>>: DocPlace<'a> {
     /// The document that it becomes. Only the making of it can fail.
+    ///
+    /// ```
+    /// place.pretty("a")? // "a"
+    /// ```
     fn pretty(&'a self, doc: P) -> Result<DocBuilder<'a, Self>, BuildError>
         ensures ok { IfOk result (λ b. P.becomes doc (built Self.Doc.tree b.1)) }
         ensures err { IfErr result (P.refuses doc) };
 
-    /// The document as a line suffix, pending until its line ends, also where it is nothing.
+    /// The document as a line suffix, pending until its line ends, also where it is nothing. It fails as the making of the
+    /// document does, and where memory is refused.
+    ///
+    /// ```
+    /// docs![place, place.line_suffix(" # b")?, "a", place.hard_line()?]? // "a # b\n"
+    /// ```
     fn line_suffix(&'a self, doc: P) -> Result<DocBuilder<'a, Self>, BuildError>
         ensures { to.BuildsOf result (λ b. built Self.Doc.tree b.1) (P.becomes doc) (P.refuses doc) LineSuffix };
 
-    /// Nothing where lines are broken, and the document where they are flat.
+    /// Nothing where lines are broken, and the document where they are flat. It fails as the making of the document does,
+    /// and where memory is refused.
+    ///
+    /// ```
+    /// docs![place, "a", place.if_group_flat(";")?, place.line_()?, "b"]?.group()? // "a;b" at 3 columns, "a\nb" at 2
+    /// ```
     fn if_group_flat(&'a self, doc: P) -> Result<DocBuilder<'a, Self>, BuildError>
         ensures { to.BuildsOf result (λ b. built Self.Doc.tree b.1) (P.becomes doc) (P.refuses doc) (BreakOrFlat Nil) };
 
-    /// The document where lines are broken, and nothing where they are flat.
+    /// The document where lines are broken, and nothing where they are flat. It fails as the making of the document does,
+    /// and where memory is refused.
+    ///
+    /// ```
+    /// docs![place, "a", place.if_group_break(",")?, place.line_()?, "b"]?.group()? // "ab" at 2 columns, "a,\nb" at 1
+    /// ```
     fn if_group_break(&'a self, doc: P) -> Result<DocBuilder<'a, Self>, BuildError>
         ensures { to.BuildsOf result (λ b. built Self.Doc.tree b.1) (P.becomes doc) (P.refuses doc) (λ y. BreakOrFlat y Nil) };
 }

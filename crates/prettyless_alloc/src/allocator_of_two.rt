@@ -17,6 +17,11 @@ use prettyless_model::choice::{ColumnTest, NestingTest};
 /// `P` and `Q` are parameters of the trait and not of its calls, as for `DocAllocatorOf`.
 pub trait DocAllocatorOfTwo<'a, P: Pretty<'a, Self>, Q: Pretty<'a, Self>>: DocPlace<'a> {
     /// The first document where the test of the column at which it would start holds, else the second, flat or broken.
+    /// It fails as the making of one of the two does, and where memory is refused.
+    ///
+    /// ```
+    /// docs![place, "ab", place.if_column(ColumnTest::AtMost(1), "c", "d")?]? // "abd"
+    /// ```
     fn if_column(
         &'a self,
         test: ColumnTest,
@@ -27,6 +32,11 @@ pub trait DocAllocatorOfTwo<'a, P: Pretty<'a, Self>, Q: Pretty<'a, Self>>: DocPl
             (Q.refuses second) (OnColumn test) };
 
     /// The first document where the test of the indent holds, else the second, flat or broken.
+    /// It fails as the making of one of the two does, and where memory is refused.
+    ///
+    /// ```
+    /// place.if_nesting(NestingTest::AtLeast(2), "c", "d")?.nest(2)? // "c"
+    /// ```
     fn if_nesting(
         &'a self,
         test: NestingTest,

@@ -18,9 +18,14 @@ pub trait DocAllocatorOver<'a, I: IntoIterator>: DocPlace<'a>
 where
     I::Item: Pretty<'a, Self>,
 {
-    /// The items' documents, appended in order: nothing if there is none.
+    /// The items' documents, appended in order: nothing if there is none. It fails as the making of an item does, and where
+    /// memory is refused.
     ///
     /// `docs` has to be an iterator whose `next` may be called, and one that ends: the prover asks for both.
+    ///
+    /// ```
+    /// place.concat(["a", "b"])? // "ab"
+    /// ```
     fn concat(&'a self, docs: I) -> Result<DocBuilder<'a, Self>, BuildError>
         requires { IsFiniteIterable I.into_iter_gives I.IntoIter.can_next I.IntoIter.remaining docs }
         ensures ok { IfOk result (λ b. (xs : List I.Item)

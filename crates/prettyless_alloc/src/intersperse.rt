@@ -21,9 +21,14 @@ where
     I::Item: Pretty<'a, Self>,
 {
     /// The items' documents in order, with the separator in each gap: nothing if there is none. The
-    /// separator becomes a document once, and only where there is a gap.
+    /// separator becomes a document once, and only where there is a gap. It fails as the making of an item or of the
+    /// separator does, and where memory is refused.
     ///
     /// `docs` has to be an iterator whose `next` may be called, and one that ends: the prover asks for both.
+    ///
+    /// ```
+    /// place.intersperse(["a", "b"], ", ")? // "a, b"
+    /// ```
     fn intersperse(&'a self, docs: I, separator: S) -> Result<DocBuilder<'a, Self>, BuildError>
         requires { IsFiniteIterable I.into_iter_gives I.IntoIter.can_next I.IntoIter.remaining docs }
         ensures ok { IfOk result (λ b. (xs : List I.Item)

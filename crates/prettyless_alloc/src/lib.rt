@@ -1,4 +1,7 @@
 //! Starting documents: the calls of every place of nodes.
+//!
+//! An example is a document in `place`, which is any place of nodes. Beside it is its layout, at any width where none is
+//! named; `docs` are the documents "a" and "b".
 #![tactic(auto)]
 
 pub mod allocator;

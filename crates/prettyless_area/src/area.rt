@@ -37,6 +37,10 @@ pub struct Area<'o> {
 
 impl<'o> Area<'o> {
     /// An area that was given nothing. It takes as many bytes as `limit`.
+    ///
+    /// ```
+    /// Area::new(&mut out, 1000) // its `count` is at most 1000
+    /// ```
     pub fn new(out: &'o mut [u8], limit: usize) -> Self
         ensures same_reference { result.out.ghost_name ≡ out.entry.ghost_name }
         ensures limit { result.limit ≡ limit }

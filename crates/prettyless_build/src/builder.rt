@@ -23,6 +23,10 @@ impl<'a, D: DocPlace<'a>> Drop for DocBuilder<'a, D> {
 
 impl<'a, D: DocPlace<'a>> DocBuilder<'a, D> {
     /// A node that is not placed yet.
+    ///
+    /// ```
+    /// DocBuilder::new(place, Doc::HardLine) // "\n"
+    /// ```
     #[inline(always)]
     pub fn new(allocator: &'a D, doc: Doc<'a, D::Doc>) -> Self
         ensures { result.1 ≡ Plain doc.entry }
@@ -31,6 +35,10 @@ impl<'a, D: DocPlace<'a>> DocBuilder<'a, D> {
     }
 
     /// The document that a pointer leads to, which takes no memory: `into_doc` gives the pointer back.
+    ///
+    /// ```
+    /// DocBuilder::from_doc(place, pointer) // the document of the pointer
+    /// ```
     #[inline(always)]
     pub fn from_doc(allocator: &'a D, pointer: D::Doc) -> Self
         ensures tree { built D.Doc.tree result.1 ≡ D.Doc.tree pointer }
@@ -49,6 +57,10 @@ impl<'a, D: DocPlace<'a>> DocBuilder<'a, D> {
 
     /// A pointer to the document: its own where it has one, which takes no memory, and else that of
     /// a new node, or an error where memory is refused.
+    ///
+    /// ```
+    /// place.pretty("a")?.into_doc()? // a pointer to "a"
+    /// ```
     #[inline(always)]
     pub fn into_doc(self) -> Result<D::Doc, BuildError>
         ensures ok { IfOk result (λ p. D.Doc.tree p ≡ built D.Doc.tree self.entry.1) }
@@ -72,6 +84,10 @@ impl<'a, D: DocPlace<'a>> DocBuilder<'a, D> {
 
     /// `append` of what is a builder already. Where one of the two is nothing it is the other as it is,
     /// which takes no memory; else memory may be refused.
+    ///
+    /// ```
+    /// place.pretty("a")?.join(place.pretty("b")?)? // "ab"
+    /// ```
     #[inline(always)]
     pub fn join(self, that: DocBuilder<'a, D>) -> Result<Self, BuildError>
         ensures ok { IfOk result (λ b. built D.Doc.tree b.1
@@ -94,6 +110,10 @@ impl<'a, D: DocPlace<'a>> DocBuilder<'a, D> {
 
     /// This document, then `that`. Where one of them is nothing it is the other as it is, and only
     /// the making of `that` can fail; else memory may be refused too.
+    ///
+    /// ```
+    /// place.pretty("a")?.append("b")? // "ab"
+    /// ```
     #[inline(always)]
     pub fn append<E: Pretty<'a, D>>(self, that: E) -> Result<Self, BuildError>
         ensures ok { IfOk result (λ b. (y : Tree) × E.becomes that y
@@ -108,6 +128,10 @@ impl<'a, D: DocPlace<'a>> DocBuilder<'a, D> {
 
     /// This document, laid flat where it fits the line with what follows up to the next line break, and else broken.
     /// Where it is nothing, a text or a group, it stays as it is, which takes no memory; else memory may be refused.
+    ///
+    /// ```
+    /// docs![place, "a", line_or_space(), "b"]?.group()? // "a b" at 3 columns, "a\nb" at 2
+    /// ```
     #[inline(always)]
     pub fn group(self) -> Result<Self, BuildError>
         ensures { to.BuildsOrKeeps result (λ b. built D.Doc.tree b.1)
@@ -131,6 +155,10 @@ impl<'a, D: DocPlace<'a>> DocBuilder<'a, D> {
     /// This document, laid flat. Where it is nothing, a text or flat already, it stays as it is. A
     /// hard line break or a payload, which no flat line holds, becomes a document that fails. Neither takes
     /// memory; else memory may be refused.
+    ///
+    /// ```
+    /// docs![place, "a", line_or_space(), "b"]?.flatten()? // "a b", also at 2 columns
+    /// ```
     pub fn flatten(self) -> Result<Self, BuildError>
         ensures ok { IfOk result (λ b. built D.Doc.tree b.1 ≡ to.flatten (built D.Doc.tree self.entry.1)) }
         ensures same { IsTrue (to.keeps_flattened (built D.Doc.tree self.entry.1)) → result ≡ Ok self.entry }
@@ -147,6 +175,10 @@ impl<'a, D: DocPlace<'a>> DocBuilder<'a, D> {
 
     /// This document as a line suffix, pending until its line ends. Where it is nothing or one already, it
     /// stays as it is, which takes no memory; else memory may be refused.
+    ///
+    /// ```
+    /// docs![place, place.pretty(" # b")?.as_line_suffix()?, "a"]? // "a # b"
+    /// ```
     pub fn as_line_suffix(self) -> Result<Self, BuildError>
         ensures { to.BuildsOrKeeps result (λ b. built D.Doc.tree b.1)
             (to.as_line_suffix (built D.Doc.tree self.entry.1))

@@ -12,6 +12,10 @@ use prettyless_doc::{BuildDoc, BuildError, Doc, DocPlace};
 impl<'a, D: DocPlace<'a>> DocBuilder<'a, D> {
     /// This document where lines are broken, and `that` where they are flat. The making of `that` can
     /// fail, and memory may be refused.
+    ///
+    /// ```
+    /// place.pretty("broken")?.flat_alt("flat")?.group()? // "flat" at 4 columns, "broken" at 3
+    /// ```
     pub fn flat_alt<E: Pretty<'a, D>>(self, that: E) -> Result<Self, BuildError>
         ensures { to.BuildsOf result (λ b. built D.Doc.tree b.1) (E.becomes that) (E.refuses that)
             (BreakOrFlat (built D.Doc.tree self.entry.1)) }
@@ -22,6 +26,10 @@ impl<'a, D: DocPlace<'a>> DocBuilder<'a, D> {
 
     /// Nothing where lines are broken, and this document where they are flat. It fails where
     /// memory is refused.
+    ///
+    /// ```
+    /// docs![place, "a", place.pretty(";")?.when_group_flat()?, line_or_nil(), "b"]?.group()? // "a;b" at 3 columns, "a\nb" at 2
+    /// ```
     pub fn when_group_flat(self) -> Result<Self, BuildError>
         ensures { to.Builds result (λ b. built D.Doc.tree b.1) (BreakOrFlat Nil (built D.Doc.tree self.entry.1)) }
     {
@@ -31,6 +39,10 @@ impl<'a, D: DocPlace<'a>> DocBuilder<'a, D> {
 
     /// This document where lines are broken, and nothing where they are flat. It fails where
     /// memory is refused.
+    ///
+    /// ```
+    /// docs![place, "a", place.pretty(",")?.when_group_break()?, line_or_nil(), "b"]?.group()? // "ab" at 2 columns, "a,\nb" at 1
+    /// ```
     pub fn when_group_break(self) -> Result<Self, BuildError>
         ensures { to.Builds result (λ b. built D.Doc.tree b.1) (BreakOrFlat (built D.Doc.tree self.entry.1) Nil) }
     {
@@ -40,6 +52,10 @@ impl<'a, D: DocPlace<'a>> DocBuilder<'a, D> {
 
     /// This document where it can be laid with each text within the width, and else `that`; where lines are flat, this
     /// one. It fails where memory is refused.
+    ///
+    /// ```
+    /// docs![place, "a", hard_line(), "bcd"]?.union(BuildDoc::Doc(Doc::Nil))? // "a\nbcd" at 3 columns, nothing at 2
+    /// ```
     #[inline(always)]
     pub fn union(self, that: BuildDoc<'a, D::Doc>) -> Result<Self, BuildError>
         ensures { to.Builds result (λ b. built D.Doc.tree b.1)
@@ -51,6 +67,10 @@ impl<'a, D: DocPlace<'a>> DocBuilder<'a, D> {
 
     /// This document where its first line fits, whatever comes after it, and else `that`; where lines are flat,
     /// this one. It fails where memory is refused.
+    ///
+    /// ```
+    /// docs![place, "a", hard_line(), "bcd"]?.partial_union(BuildDoc::Doc(Doc::Nil))? // "a\nbcd" at 1 column, nothing at 0
+    /// ```
     #[inline(always)]
     pub fn partial_union(self, that: BuildDoc<'a, D::Doc>) -> Result<Self, BuildError>
         ensures { to.Builds result (λ b. built D.Doc.tree b.1)

@@ -12,6 +12,10 @@ use prettyless_doc::{BuildError, Doc, DocPlace};
 impl<'a, D: DocPlace<'a>> DocBuilder<'a, D> {
     /// So many copies of this document, one after the other, also where it is nothing. None is
     /// nothing, and one is the document as it is: neither takes memory. Else memory may be refused.
+    ///
+    /// ```
+    /// place.pretty("ab")?.repeat(3)? // "ababab"
+    /// ```
     #[tactic(auto, using(crate::proofs::Chains::repeat_more))]
     pub fn repeat(self, count: usize) -> Result<Self, BuildError>
         ensures ok { IfOk result (λ b. built D.Doc.tree b.1
@@ -33,6 +37,10 @@ impl<'a, D: DocPlace<'a>> DocBuilder<'a, D> {
     }
 
     /// The same document once more. It fails where memory is refused.
+    ///
+    /// ```
+    /// place.pretty("a")?.clone()? // "a"
+    /// ```
     pub fn clone(&self) -> Result<Self, BuildError>
         ensures { to.Builds result (λ b. built D.Doc.tree b.1) (built D.Doc.tree self.now.1) }
     {

@@ -12,6 +12,10 @@ use prettyless_doc::{BuildError, Doc, DocPlace, Text};
 impl<'a, D: DocPlace<'a>> DocBuilder<'a, D> {
     /// `before`, this document and `after`, appended. It fails as the making of `before` or of `after` does, and where
     /// memory is refused, which it wants only where two of the three are something.
+    ///
+    /// ```
+    /// place.pretty("a")?.enclose("let ", ";")? // "let a;"
+    /// ```
     pub fn enclose<B: Pretty<'a, D>, A: Pretty<'a, D>>(
         self,
         before: B,
@@ -43,6 +47,10 @@ impl<'a, D: DocPlace<'a>> DocBuilder<'a, D> {
     }
 
     /// This document between single quotes. It fails where memory is refused.
+    ///
+    /// ```
+    /// place.pretty("a")?.single_quotes()? // "'a'"
+    /// ```
     pub fn single_quotes(self) -> Result<Self, BuildError>
         ensures { to.Builds result (λ b. built D.Doc.tree b.1) (to.between 39 39 (built D.Doc.tree self.entry.1)) }
     {
@@ -50,6 +58,10 @@ impl<'a, D: DocPlace<'a>> DocBuilder<'a, D> {
     }
 
     /// This document between double quotes. It fails where memory is refused.
+    ///
+    /// ```
+    /// place.pretty("a")?.double_quotes()? // "\"a\""
+    /// ```
     pub fn double_quotes(self) -> Result<Self, BuildError>
         ensures { to.Builds result (λ b. built D.Doc.tree b.1) (to.between 34 34 (built D.Doc.tree self.entry.1)) }
     {
@@ -57,6 +69,10 @@ impl<'a, D: DocPlace<'a>> DocBuilder<'a, D> {
     }
 
     /// This document between parentheses. It fails where memory is refused.
+    ///
+    /// ```
+    /// place.pretty("a")?.parens()? // "(a)"
+    /// ```
     pub fn parens(self) -> Result<Self, BuildError>
         ensures { to.Builds result (λ b. built D.Doc.tree b.1) (to.between 40 41 (built D.Doc.tree self.entry.1)) }
     {
@@ -64,6 +80,10 @@ impl<'a, D: DocPlace<'a>> DocBuilder<'a, D> {
     }
 
     /// This document between angle brackets. It fails where memory is refused.
+    ///
+    /// ```
+    /// place.pretty("a")?.angles()? // "<a>"
+    /// ```
     pub fn angles(self) -> Result<Self, BuildError>
         ensures { to.Builds result (λ b. built D.Doc.tree b.1) (to.between 60 62 (built D.Doc.tree self.entry.1)) }
     {
@@ -71,6 +91,10 @@ impl<'a, D: DocPlace<'a>> DocBuilder<'a, D> {
     }
 
     /// This document between braces. It fails where memory is refused.
+    ///
+    /// ```
+    /// place.pretty("a")?.braces()? // "{a}"
+    /// ```
     pub fn braces(self) -> Result<Self, BuildError>
         ensures { to.Builds result (λ b. built D.Doc.tree b.1) (to.between 123 125 (built D.Doc.tree self.entry.1)) }
     {
@@ -78,6 +102,10 @@ impl<'a, D: DocPlace<'a>> DocBuilder<'a, D> {
     }
 
     /// This document between square brackets. It fails where memory is refused.
+    ///
+    /// ```
+    /// place.pretty("a")?.brackets()? // "[a]"
+    /// ```
     pub fn brackets(self) -> Result<Self, BuildError>
         ensures { to.Builds result (λ b. built D.Doc.tree b.1) (to.between 91 93 (built D.Doc.tree self.entry.1)) }
     {

@@ -11,6 +11,10 @@ use prettyless_doc::{BuildError, Doc, DocPlace};
 impl<'a, D: DocPlace<'a>> DocBuilder<'a, D> {
     /// This document with its indent moved by so many columns. By 0, or where it is nothing, it stays
     /// as it is, which takes no memory; else memory may be refused.
+    ///
+    /// ```
+    /// docs![place, "a", hard_line(), "b"]?.nest(2)? // "a\n  b"
+    /// ```
     #[inline(always)]
     pub fn nest(self, offset: isize) -> Result<Self, BuildError>
         ensures { to.BuildsOrKeeps result (λ b. built D.Doc.tree b.1)
@@ -25,7 +29,12 @@ impl<'a, D: DocPlace<'a>> DocBuilder<'a, D> {
         Ok(DocBuilder::new(allocator, Doc::Nest(offset, inner)))
     }
 
-    /// This document with its indent moved right by so many columns, as `nest` does it. They have to be at most `isize::MAX`.
+    /// This document with its indent moved right by so many columns, which have to be at most `isize::MAX`. By 0, or where it
+    /// is nothing, it stays as it is, which takes no memory; else memory may be refused.
+    ///
+    /// ```
+    /// docs![place, "a", hard_line(), "b"]?.indent(2)? // "a\n  b"
+    /// ```
     pub fn indent(self, offset: usize) -> Result<Self, BuildError>
         requires { offset ≤ 2 ^ 63 - 1 }
         ensures { to.BuildsOrKeeps result (λ b. built D.Doc.tree b.1)
@@ -35,7 +44,12 @@ impl<'a, D: DocPlace<'a>> DocBuilder<'a, D> {
         self.nest(offset as isize)
     }
 
-    /// This document with its indent moved left by so many columns, as `nest` does it. They have to be at most `isize::MAX`.
+    /// This document with its indent moved left by so many columns, which have to be at most `isize::MAX`. By 0, or where it
+    /// is nothing, it stays as it is, which takes no memory; else memory may be refused.
+    ///
+    /// ```
+    /// docs![place, "a", hard_line(), "b"]?.dedent(1)?.indent(2)? // "a\n b"
+    /// ```
     pub fn dedent(self, offset: usize) -> Result<Self, BuildError>
         requires { offset ≤ 2 ^ 63 - 1 }
         ensures { to.BuildsOrKeeps result (λ b. built D.Doc.tree b.1)
@@ -47,6 +61,10 @@ impl<'a, D: DocPlace<'a>> DocBuilder<'a, D> {
 
     /// This document with indent 0. Where it is nothing, or has that already, it stays as it is,
     /// which takes no memory; else memory may be refused.
+    ///
+    /// ```
+    /// docs![place, "a", hard_line(), "b"]?.dedent_to_root()?.nest(2)? // "a\nb"
+    /// ```
     pub fn dedent_to_root(self) -> Result<Self, BuildError>
         ensures { to.BuildsOrKeeps result (λ b. built D.Doc.tree b.1)
             (to.dedent_to_root (built D.Doc.tree self.entry.1))
@@ -60,6 +78,10 @@ impl<'a, D: DocPlace<'a>> DocBuilder<'a, D> {
 
     /// This document with its indent at the column where it starts. Where it is nothing, or has that
     /// already, it stays as it is, which takes no memory; else memory may be refused.
+    ///
+    /// ```
+    /// docs![place, "a = ", docs![place, "b", hard_line(), "c"]?.align()?]? // "a = b\n    c"
+    /// ```
     pub fn align(self) -> Result<Self, BuildError>
         ensures { to.BuildsOrKeeps result (λ b. built D.Doc.tree b.1)
             (to.align (built D.Doc.tree self.entry.1))

@@ -1,4 +1,7 @@
 //! Building documents: what becomes one, and the builder, which makes a larger one of it.
+//!
+//! An example is a document in `place`, which is any place of nodes. Beside it is its layout, at any width where none is
+//! named.
 #![tactic(auto)]
 
 pub mod arrays;

@@ -8,6 +8,10 @@ use prettyless_doc::parts::{Pair, Single};
 use prettyless_doc::{BuildError, DocPlace};
 
 /// A node of this kind around the document. It fails where memory is refused.
+///
+/// ```
+/// around(Single::Nest(2), docs![place, "a", hard_line(), "b"]?)? // "a\n  b"
+/// ```
 #[inline(always)]
 pub fn around<'a, D: DocPlace<'a>>(
     kind: Single,
@@ -21,6 +25,10 @@ pub fn around<'a, D: DocPlace<'a>>(
 }
 
 /// A node of this kind of the two documents. It fails where memory is refused.
+///
+/// ```
+/// of_two(Pair::Append, place.pretty("a")?, place.pretty("b")?)? // "ab"
+/// ```
 #[inline(always)]
 pub fn of_two<'a, D: DocPlace<'a>>(
     kind: Pair,

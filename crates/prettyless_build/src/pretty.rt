@@ -14,7 +14,11 @@ pub trait Pretty<'a, D: DocPlace<'a>> {
     // the errors that it may answer in place of a tree
     ghost refuses: { Self → BuildError → Type 0 };
 
-    /// The document that it becomes, in `allocator`.
+    /// The document that it becomes, in `allocator`. Where it fails, by an error that `refuses` names, the value is given up.
+    ///
+    /// ```
+    /// Pretty::pretty("a", place)? // "a"
+    /// ```
     fn pretty(self, allocator: &'a D) -> Result<DocBuilder<'a, D>, BuildError>
         ensures ok { IfOk result (λ b. becomes self (built D.Doc.tree b.1)) }
         ensures err { IfErr result (refuses self) };

@@ -1,4 +1,6 @@
 //! Combinators: values that become documents once there is an allocator. To make one takes no memory.
+//!
+//! An example is a value. Beside it is the layout of its document, at any width where none is named.
 #![tactic(auto)]
 
 ghost use Rattle.std.specs.Prelude.{◌≡◌, ◌≤◌, ◌-◌, ◌^◌, pos, neg_ℤ};
@@ -17,62 +19,110 @@ use std::fmt;
 use types::*;
 
 /// Nothing.
+///
+/// ```
+/// ("a", nil(), "b") // "ab"
+/// ```
 pub fn nil() -> Nil {
     Nil
 }
 
 /// A document that cannot be laid: a render that comes to it fails.
+///
+/// ```
+/// ("a", fail()) // writes "a", then `RenderError::Document`
+/// ```
 pub fn fail() -> Fail {
     Fail
 }
 
 /// A line break. It keeps the groups around it from being flat, and fails under `flatten`.
+///
+/// ```
+/// nest(2, ("a", hard_line(), "b")) // "a\n  b"
+/// ```
 pub fn hard_line() -> HardLine {
     HardLine
 }
 
 /// A line break, or nothing where lines are flat.
+///
+/// ```
+/// group(("a", line_or_nil(), "b")) // "ab" at 2 columns, "a\nb" at 1
+/// ```
 pub fn line_or_nil() -> LineOrNil {
     LineOrNil
 }
 
 /// A line break, or one space where lines are flat.
+///
+/// ```
+/// group(("a", line_or_space(), "b")) // "a b" at 3 columns, "a\nb" at 2
+/// ```
 pub fn line_or_space() -> LineOrSpace {
     LineOrSpace
 }
 
 /// Nothing, or a line break where what follows, up to the next possible break, would go past the width.
+///
+/// ```
+/// ("a", soft_line_or_nil(), "b") // "ab" at 2 columns, "a\nb" at 1
+/// ```
 pub fn soft_line_or_nil() -> SoftLineOrNil {
     SoftLineOrNil
 }
 
 /// One space, or a line break where what follows, up to the next possible break, would go past the width.
+///
+/// ```
+/// ("a", soft_line_or_space(), "b") // "a b" at 3 columns, "a\nb" at 2
+/// ```
 pub fn soft_line_or_space() -> SoftLineOrSpace {
     SoftLineOrSpace
 }
 
 /// A line break, under `flatten` too. It keeps the groups around it from being flat. It is nothing on a fresh line
 /// where no suffix is pending.
+///
+/// ```
+/// ("a", weak_line(), weak_line(), "b") // "a\nb"
+/// ```
 pub fn weak_line() -> WeakLine {
     WeakLine
 }
 
 /// The text of one space.
+///
+/// ```
+/// ("a", space(), "b") // "a b"
+/// ```
 pub fn space() -> Space {
     Space
 }
 
 /// A space; nothing at the start of a line, and nothing at its end unless a suffix is pending there.
+///
+/// ```
+/// ("a", weak_space(), hard_line(), "b") // "a\nb"
+/// ```
 pub fn weak_space() -> WeakSpace {
     WeakSpace
 }
 
 /// Nothing, but it keeps the groups around it from being flat.
+///
+/// ```
+/// group(("a", line_or_space(), expand_parent(), "b")) // "a\nb"
+/// ```
 pub fn expand_parent() -> ExpandParent {
     ExpandParent
 }
 
 /// So many spaces.
+///
+/// ```
+/// ("a", spaces(3), "b") // "a   b"
+/// ```
 pub fn spaces(count: usize) -> Spaces
     ensures { result.0 ≡ count }
 {
@@ -80,6 +130,10 @@ pub fn spaces(count: usize) -> Spaces
 }
 
 /// What `{}` shows of the value: an empty text where it shows nothing.
+///
+/// ```
+/// ("a", as_string(42)) // "a42"
+/// ```
 pub fn as_string<T: fmt::Display>(value: T) -> AsString<T>
     ensures { result.0 ≡ value }
 {
@@ -88,6 +142,10 @@ pub fn as_string<T: fmt::Display>(value: T) -> AsString<T>
 
 /// A text whose line ends, each LF or CR, are written as they are, with no indent after them. It keeps the groups
 /// around it from being flat, and fails under `flatten`.
+///
+/// ```
+/// nest(2, multiline_text(CowStr::Borrowed("a\nb"))) // "a\nb"
+/// ```
 pub fn multiline_text<'a>(text: CowStr<'a>) -> MultilineText<'a>
     ensures { result.0 ≡ text.entry }
 {
@@ -95,6 +153,10 @@ pub fn multiline_text<'a>(text: CowStr<'a>) -> MultilineText<'a>
 }
 
 /// The document with its indent moved by so many columns.
+///
+/// ```
+/// nest(2, ("a", hard_line(), "b")) // "a\n  b"
+/// ```
 pub fn nest<T>(offset: isize, doc: T) -> Nest<T>
     ensures by { result.0 ≡ offset }
     ensures inner { result.1 ≡ doc }
@@ -103,6 +165,10 @@ pub fn nest<T>(offset: isize, doc: T) -> Nest<T>
 }
 
 /// The document with its indent moved right by so many columns. They have to be at most `isize::MAX`.
+///
+/// ```
+/// indent(2, ("a", hard_line(), "b")) // "a\n  b"
+/// ```
 pub fn indent<T>(offset: usize, doc: T) -> Nest<T>
     requires { offset ≤ 2 ^ 63 - 1 }
     ensures by { result.0 ≡ pos offset }
@@ -112,6 +178,10 @@ pub fn indent<T>(offset: usize, doc: T) -> Nest<T>
 }
 
 /// The document with its indent moved left by so many columns. They have to be at most `isize::MAX`.
+///
+/// ```
+/// indent(2, dedent(1, ("a", hard_line(), "b"))) // "a\n b"
+/// ```
 pub fn dedent<T>(offset: usize, doc: T) -> Nest<T>
     requires { offset ≤ 2 ^ 63 - 1 }
     ensures by { result.0 ≡ neg_ℤ (pos offset) }
@@ -121,6 +191,10 @@ pub fn dedent<T>(offset: usize, doc: T) -> Nest<T>
 }
 
 /// The document, laid flat where it fits the line with what follows up to the next line break, and else broken.
+///
+/// ```
+/// group(("a", line_or_space(), "b")) // "a b" at 3 columns, "a\nb" at 2
+/// ```
 pub fn group<T>(doc: T) -> Group<T>
     ensures inner { result.0 ≡ doc }
 {
@@ -128,6 +202,10 @@ pub fn group<T>(doc: T) -> Group<T>
 }
 
 /// The document with its indent at the column where it starts.
+///
+/// ```
+/// ("a = ", align(("b", hard_line(), "c"))) // "a = b\n    c"
+/// ```
 pub fn align<T>(doc: T) -> Align<T>
     ensures inner { result.0 ≡ doc }
 {
@@ -135,6 +213,10 @@ pub fn align<T>(doc: T) -> Align<T>
 }
 
 /// The document with indent 0.
+///
+/// ```
+/// nest(2, dedent_to_root(("a", hard_line(), "b"))) // "a\nb"
+/// ```
 pub fn dedent_to_root<T>(doc: T) -> DedentToRoot<T>
     ensures inner { result.0 ≡ doc }
 {
@@ -143,6 +225,10 @@ pub fn dedent_to_root<T>(doc: T) -> DedentToRoot<T>
 
 /// The document, laid flat whether it fits or not. A hard line or a payload shown in it fails; a weak line still
 /// breaks.
+///
+/// ```
+/// flatten(("a", line_or_space(), "b")) // "a b", also at 2 columns
+/// ```
 pub fn flatten<T>(doc: T) -> Flatten<T>
     ensures inner { result.0 ≡ doc }
 {
@@ -150,6 +236,10 @@ pub fn flatten<T>(doc: T) -> Flatten<T>
 }
 
 /// The document as a line suffix, pending until its line ends, also where it is nothing.
+///
+/// ```
+/// (line_suffix(" # b"), "a", hard_line()) // "a # b\n"
+/// ```
 pub fn line_suffix<T>(doc: T) -> LineSuffix<T>
     ensures inner { result.0 ≡ doc }
 {
@@ -158,6 +248,10 @@ pub fn line_suffix<T>(doc: T) -> LineSuffix<T>
 
 /// The first document where it can be laid with each text, and each line of a payload, within the width, and else the
 /// second; where lines are flat, the first.
+///
+/// ```
+/// union(("a", hard_line(), "bcd"), "e") // "a\nbcd" at 3 columns, "e" at 2
+/// ```
 pub fn union<T, U>(first: T, second: U) -> Union<T, U>
     ensures first { result.0 ≡ first }
     ensures second { result.1 ≡ second }
@@ -167,6 +261,10 @@ pub fn union<T, U>(first: T, second: U) -> Union<T, U>
 
 /// The first document where its first line fits, whatever comes after that line, and else the second; where lines are
 /// flat, the first.
+///
+/// ```
+/// partial_union(("a", hard_line(), "bcd"), nil()) // "a\nbcd" at 1 column, nothing at 0
+/// ```
 pub fn partial_union<T, U>(first: T, second: U) -> PartialUnion<T, U>
     ensures first { result.0 ≡ first }
     ensures second { result.1 ≡ second }
@@ -175,6 +273,10 @@ pub fn partial_union<T, U>(first: T, second: U) -> PartialUnion<T, U>
 }
 
 /// The first document where lines are broken, and the second where they are flat.
+///
+/// ```
+/// group(flat_alt("broken", "flat")) // "flat" at 4 columns, "broken" at 3
+/// ```
 pub fn flat_alt<T, U>(broken: T, flat: U) -> FlatAlt<T, U>
     ensures broken { result.0 ≡ broken }
     ensures flat { result.1 ≡ flat }
@@ -183,6 +285,10 @@ pub fn flat_alt<T, U>(broken: T, flat: U) -> FlatAlt<T, U>
 }
 
 /// The first document where the test of the column at which it would start holds, else the second, flat or broken.
+///
+/// ```
+/// ("ab", if_column(ColumnTest::AtMost(1), "c", "d")) // "abd"
+/// ```
 pub fn if_column<T, U>(test: ColumnTest, first: T, second: U) -> IfColumn<T, U>
     ensures test { result.0 ≡ test }
     ensures first { result.1 ≡ first }
@@ -192,6 +298,10 @@ pub fn if_column<T, U>(test: ColumnTest, first: T, second: U) -> IfColumn<T, U>
 }
 
 /// The first document where the test of the indent holds, else the second, flat or broken.
+///
+/// ```
+/// nest(2, if_nesting(NestingTest::AtLeast(2), "c", "d")) // "c"
+/// ```
 pub fn if_nesting<T, U>(test: NestingTest, first: T, second: U) -> IfNesting<T, U>
     ensures test { result.0 ≡ test }
     ensures first { result.1 ≡ first }
@@ -203,6 +313,10 @@ pub fn if_nesting<T, U>(test: NestingTest, first: T, second: U) -> IfNesting<T, 
 /// The documents of all items, appended in order: nothing if there is none.
 ///
 /// `docs` has to be an iterator whose `next` may be called, and one that ends: the prover asks for both.
+///
+/// ```
+/// concat(["a", "b"]) // "ab"
+/// ```
 pub fn concat<I: IntoIterator>(docs: I) -> Concat<I::IntoIter>
     requires { IsFiniteIterable I.into_iter_gives I.IntoIter.can_next I.IntoIter.remaining docs }
     ensures { I.into_iter_gives docs result }
@@ -214,6 +328,10 @@ pub fn concat<I: IntoIterator>(docs: I) -> Concat<I::IntoIter>
 /// separator becomes a document once, and only where there is a gap.
 ///
 /// `docs` has to be an iterator whose `next` may be called, and one that ends: the prover asks for both.
+///
+/// ```
+/// intersperse(", ", ["a", "b"]) // "a, b"
+/// ```
 pub fn intersperse<I: IntoIterator, S>(separator: S, docs: I) -> Intersperse<I::IntoIter, S>
     requires { IsFiniteIterable I.into_iter_gives I.IntoIter.can_next I.IntoIter.remaining docs }
     ensures items { I.into_iter_gives docs result.0 }
@@ -223,6 +341,10 @@ pub fn intersperse<I: IntoIterator, S>(separator: S, docs: I) -> Intersperse<I::
 }
 
 /// So many copies of the document, one after the other.
+///
+/// ```
+/// repeat(3, "ab") // "ababab"
+/// ```
 pub fn repeat<T>(count: usize, doc: T) -> Repeat<T>
     ensures count { result.0 ≡ count }
     ensures inner { result.1 ≡ doc }

@@ -17,6 +17,10 @@ use std::fmt;
 
 impl<'a, T: DocPtr<'a>> Doc<'a, T> {
     /// Nothing.
+    ///
+    /// ```
+    /// Doc::nil() // ""
+    /// ```
     pub fn nil() -> Self
         ensures { tree_of T.tree result ≡ tree.Nil }
     {
@@ -24,6 +28,10 @@ impl<'a, T: DocPtr<'a>> Doc<'a, T> {
     }
 
     /// A document that cannot be laid: a render that comes to it fails.
+    ///
+    /// ```
+    /// Doc::fail() // its render answers `RenderError::Document`
+    /// ```
     pub fn fail() -> Self
         ensures { tree_of T.tree result ≡ tree.Fail }
     {
@@ -31,6 +39,10 @@ impl<'a, T: DocPtr<'a>> Doc<'a, T> {
     }
 
     /// A line break. It keeps the groups around it from being flat, and fails under `flatten`.
+    ///
+    /// ```
+    /// Doc::hard_line() // "\n"
+    /// ```
     pub fn hard_line() -> Self
         ensures { tree_of T.tree result ≡ tree.HardLine }
     {
@@ -38,6 +50,10 @@ impl<'a, T: DocPtr<'a>> Doc<'a, T> {
     }
 
     /// `hard_line` by another name.
+    ///
+    /// ```
+    /// Doc::hardline() // "\n"
+    /// ```
     pub fn hardline() -> Self
         ensures { tree_of T.tree result ≡ tree.HardLine }
     {
@@ -46,6 +62,10 @@ impl<'a, T: DocPtr<'a>> Doc<'a, T> {
 
     /// A line break, under `flatten` too. It keeps the groups around it from being flat. It is nothing on a fresh line
     /// where no suffix is pending.
+    ///
+    /// ```
+    /// Doc::weak_line() // "\n" after a text
+    /// ```
     pub fn weak_line() -> Self
         ensures { tree_of T.tree result ≡ tree.WeakLine }
     {
@@ -53,6 +73,10 @@ impl<'a, T: DocPtr<'a>> Doc<'a, T> {
     }
 
     /// The text of one space.
+    ///
+    /// ```
+    /// Doc::space() // " "
+    /// ```
     pub fn space() -> Self
         ensures { tree_of T.tree result ≡ space }
     {
@@ -60,6 +84,10 @@ impl<'a, T: DocPtr<'a>> Doc<'a, T> {
     }
 
     /// A space; nothing at the start of a line, and nothing at its end unless a suffix is pending there.
+    ///
+    /// ```
+    /// Doc::weak_space() // " " between two texts
+    /// ```
     pub fn weak_space() -> Self
         ensures { tree_of T.tree result ≡ tree.WeakSpace }
     {
@@ -67,6 +95,10 @@ impl<'a, T: DocPtr<'a>> Doc<'a, T> {
     }
 
     /// Nothing, but it keeps the groups around it from being flat.
+    ///
+    /// ```
+    /// Doc::expand_parent() // ""
+    /// ```
     pub fn expand_parent() -> Self
         ensures { tree_of T.tree result ≡ tree.ExpandParent }
     {
@@ -76,6 +108,10 @@ impl<'a, T: DocPtr<'a>> Doc<'a, T> {
 
 impl<'a, T> Doc<'a, T> {
     /// A line break, or one space where lines are flat. It fails where memory is refused.
+    ///
+    /// ```
+    /// Doc::line(place)? // "\n", or " " where lines are flat
+    /// ```
     #[inline(always)]
     pub fn line<D: DocPlace<'a, Doc = T>>(place: &'a D) -> Result<Self, BuildError>
         ensures ok { IfOk result (λ d. tree_of T.tree d ≡ line) }
@@ -87,6 +123,10 @@ impl<'a, T> Doc<'a, T> {
     }
 
     /// A line break, or nothing where lines are flat. It fails where memory is refused.
+    ///
+    /// ```
+    /// Doc::line_(place)? // "\n", or nothing where lines are flat
+    /// ```
     #[inline(always)]
     pub fn line_<D: DocPlace<'a, Doc = T>>(place: &'a D) -> Result<Self, BuildError>
         ensures ok { IfOk result (λ d. tree_of T.tree d ≡ line_) }
@@ -100,6 +140,10 @@ impl<'a, T> Doc<'a, T> {
 
 impl<'a, D: DocPtr<'a>> BuildDoc<'a, D> {
     /// Nothing.
+    ///
+    /// ```
+    /// BuildDoc::nil() // ""
+    /// ```
     pub fn nil() -> Self
         ensures { built D.tree result ≡ tree.Nil }
     {
@@ -107,6 +151,10 @@ impl<'a, D: DocPtr<'a>> BuildDoc<'a, D> {
     }
 
     /// A document that cannot be laid: a render that comes to it fails.
+    ///
+    /// ```
+    /// BuildDoc::fail() // its render answers `RenderError::Document`
+    /// ```
     pub fn fail() -> Self
         ensures { built D.tree result ≡ tree.Fail }
     {
@@ -114,6 +162,10 @@ impl<'a, D: DocPtr<'a>> BuildDoc<'a, D> {
     }
 
     /// A line break. It keeps the groups around it from being flat, and fails under `flatten`.
+    ///
+    /// ```
+    /// BuildDoc::hard_line() // "\n"
+    /// ```
     pub fn hard_line() -> Self
         ensures { built D.tree result ≡ tree.HardLine }
     {
@@ -121,6 +173,10 @@ impl<'a, D: DocPtr<'a>> BuildDoc<'a, D> {
     }
 
     /// `hard_line` by another name.
+    ///
+    /// ```
+    /// BuildDoc::hardline() // "\n"
+    /// ```
     pub fn hardline() -> Self
         ensures { built D.tree result ≡ tree.HardLine }
     {
@@ -129,6 +185,10 @@ impl<'a, D: DocPtr<'a>> BuildDoc<'a, D> {
 
     /// A line break, under `flatten` too. It keeps the groups around it from being flat. It is nothing on a fresh line
     /// where no suffix is pending.
+    ///
+    /// ```
+    /// BuildDoc::weak_line() // "\n" after a text
+    /// ```
     pub fn weak_line() -> Self
         ensures { built D.tree result ≡ tree.WeakLine }
     {
@@ -136,6 +196,10 @@ impl<'a, D: DocPtr<'a>> BuildDoc<'a, D> {
     }
 
     /// The text of one space.
+    ///
+    /// ```
+    /// BuildDoc::space() // " "
+    /// ```
     pub fn space() -> Self
         ensures { built D.tree result ≡ space }
     {
@@ -143,6 +207,10 @@ impl<'a, D: DocPtr<'a>> BuildDoc<'a, D> {
     }
 
     /// A space; nothing at the start of a line, and nothing at its end unless a suffix is pending there.
+    ///
+    /// ```
+    /// BuildDoc::weak_space() // " " between two texts
+    /// ```
     pub fn weak_space() -> Self
         ensures { built D.tree result ≡ tree.WeakSpace }
     {
@@ -150,6 +218,10 @@ impl<'a, D: DocPtr<'a>> BuildDoc<'a, D> {
     }
 
     /// Nothing, but it keeps the groups around it from being flat.
+    ///
+    /// ```
+    /// BuildDoc::expand_parent() // ""
+    /// ```
     pub fn expand_parent() -> Self
         ensures { built D.tree result ≡ tree.ExpandParent }
     {
@@ -159,6 +231,10 @@ impl<'a, D: DocPtr<'a>> BuildDoc<'a, D> {
     /// A text, written as it is: nothing if it is empty. It counts as its bytes if it is ASCII, and else as its display
     /// width. A line end in it is not seen by the layout: `multiline_text` is for such texts. Only an owned
     /// text takes memory, and fails where that is refused.
+    ///
+    /// ```
+    /// BuildDoc::text(alloc, CowStr::Borrowed("你好"))? // "你好", four columns
+    /// ```
     pub fn text(alloc: Global, text: CowStr<'a>) -> Result<Self, BuildError>
         ensures ok { IfOk result (λ d. built D.tree d ≡ to.text (cow_str_bytes text.entry)) }
         ensures borrowed { IfLent text.entry (IsOk result) }
@@ -172,6 +248,10 @@ impl<'a, D: DocPtr<'a>> BuildDoc<'a, D> {
     ///
     /// Answers `Memory` where memory was refused, and `Display` where only the value's
     /// formatting failed.
+    ///
+    /// ```
+    /// BuildDoc::as_string(alloc, 42)? // "42"
+    /// ```
     pub fn as_string<V: fmt::Display + Drop>(alloc: Global, value: V) -> Result<Self, BuildError>
         ensures ok { IfOk result (λ d. to.IsStringOf (V.output value) (built D.tree d)) }
     {
@@ -181,6 +261,10 @@ impl<'a, D: DocPtr<'a>> BuildDoc<'a, D> {
     /// A text whose line ends, each LF or CR, are written as they are, with no indent after them. It keeps the groups
     /// around it from being flat, and fails under `flatten`. Without one it is as `text` makes it. Only an owned
     /// text takes memory, and fails where that is refused.
+    ///
+    /// ```
+    /// BuildDoc::multiline_text(alloc, CowStr::Borrowed("a\nb"))? // "a\nb"
+    /// ```
     pub fn multiline_text(alloc: Global, text: CowStr<'a>) -> Result<Self, BuildError>
         ensures ok { IfOk result (λ d. built D.tree d ≡ to.multiline_text (cow_str_bytes text.entry)) }
         ensures borrowed { IfLent text.entry (IsOk result) }
@@ -192,6 +276,10 @@ impl<'a, D: DocPtr<'a>> BuildDoc<'a, D> {
 
 impl<'a, T> BuildDoc<'a, T> {
     /// A line break, or one space where lines are flat. It fails where memory is refused.
+    ///
+    /// ```
+    /// BuildDoc::line(place)? // "\n", or " " where lines are flat
+    /// ```
     #[inline(always)]
     pub fn line<D: DocPlace<'a, Doc = T>>(place: &'a D) -> Result<Self, BuildError>
         ensures ok { IfOk result (λ d. built T.tree d ≡ line) }
@@ -204,6 +292,10 @@ impl<'a, T> BuildDoc<'a, T> {
     }
 
     /// A line break, or nothing where lines are flat. It fails where memory is refused.
+    ///
+    /// ```
+    /// BuildDoc::line_(place)? // "\n", or nothing where lines are flat
+    /// ```
     #[inline(always)]
     pub fn line_<D: DocPlace<'a, Doc = T>>(place: &'a D) -> Result<Self, BuildError>
         ensures ok { IfOk result (λ d. built T.tree d ≡ line_) }

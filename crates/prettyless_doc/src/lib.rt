@@ -1,4 +1,7 @@
 //! Documents: nodes, the pointers between nodes, and the places of nodes.
+//!
+//! An example is a document in `place`, which is any place of nodes. Beside it is its layout, at any width where none is
+//! named.
 #![tactic(auto)]
 
 mod clone;

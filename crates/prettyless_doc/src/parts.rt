@@ -9,10 +9,11 @@ use crate::text::BuildError;
 use prettyless_model::choice::{ColumnTest, NestingTest};
 use std::alloc::Global;
 
-/// The kinds of node that hold one document.
+/// The kinds of node that hold one document, named as the variants of `Doc`.
 #[derive(Clone, Copy)]
 pub enum Single {
     LineSuffix,
+    /// With the columns by which it moves the indent.
     Nest(isize),
     DedentToRoot,
     Align,
@@ -36,14 +37,16 @@ impl Single {
     }
 }
 
-/// The kinds of node that hold two.
+/// The kinds of node that hold two, named as the variants of `Doc`.
 #[derive(Clone, Copy)]
 pub enum Pair {
     Append,
     BreakOrFlat,
     Union,
     PartialUnion,
+    /// With its test of the column.
     OnColumn(ColumnTest),
+    /// With its test of the indent.
     OnNesting(NestingTest),
 }
 
@@ -68,7 +71,9 @@ impl Pair {
 pub enum Parts<'d, 'a, T> {
     /// A copy of the node, as it holds no document.
     None(Doc<'a, T>),
+    /// Its kind, and the document that it holds.
     One(Single, &'d T),
+    /// Its kind, and the two documents that it holds, in order.
     Two(Pair, &'d T, &'d T),
 }
 

@@ -22,6 +22,10 @@ pub struct PrettyFmt<'a, 'd, T> {
 
 impl<'a, T: DocPtr<'a>> Doc<'a, T> {
     /// The document, to be printed at this width, in columns.
+    ///
+    /// ```
+    /// println!(rt; "{}", doc.print(alloc, 80))?;
+    /// ```
     pub fn print<'d>(&'d self, alloc: Global, width: usize) -> PrettyFmt<'a, 'd, T>
         ensures options { result.options ≡ options_at width }
         ensures doc { result.doc.now ≡ self.now }
@@ -32,6 +36,10 @@ impl<'a, T: DocPtr<'a>> Doc<'a, T> {
     }
 
     /// The document, to be printed with these options.
+    ///
+    /// ```
+    /// println!(rt; "{}", doc.print_with(alloc, RenderOptions::default()))?;
+    /// ```
     pub fn print_with<'d>(&'d self, alloc: Global, options: RenderOptions) -> PrettyFmt<'a, 'd, T>
         ensures options { result.options ≡ options }
         ensures doc { result.doc.now ≡ self.now }

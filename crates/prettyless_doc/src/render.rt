@@ -25,8 +25,13 @@ use std::{fmt, io};
 ///
 /// A width is in columns. Lines end in LF and indents are written at once, unless options say otherwise.
 impl<'a, T: DocPtr<'a>> Doc<'a, T> {
-    /// Renders to a sink. Only where the answer is `Sink` do the sink's failures rise, by one (at their greatest value they
-    /// stay).
+    /// Renders to a sink. Each error says what was appended by then. Only where it is `Sink` do the sink's failures rise,
+    /// by one (at their greatest value they stay).
+    ///
+    /// ```
+    /// let options = RenderOptions::new(80).with_line_ending(LineEnding::Crlf);
+    /// doc.render_raw_with(alloc, options, &mut FmtWrite::new(&mut text))?; // `text` grew by the layout
+    /// ```
     pub fn render_raw_with<W: Render>(
         &self,
         alloc: Global,
@@ -39,7 +44,8 @@ impl<'a, T: DocPtr<'a>> Doc<'a, T> {
         self.render_raw_counted_with(alloc, options, out, &mut Visits::default())
     }
 
-    /// Renders to a sink, and adds to `visits` how many nodes the printer and its probes visit.
+    /// Renders to a sink as `render_raw_with` does, and adds to `visits` how many nodes the printer and its probes visit,
+    /// also where it fails.
     ///
     /// In a document with no line suffix the printer visits each node at most once, also where a trial is not kept.
     /// Each group and partial union asks at most one probe, which visits each node at most once.
@@ -51,6 +57,11 @@ impl<'a, T: DocPtr<'a>> Doc<'a, T> {
     /// After `Ok` the printer has visited at least the nodes that the layout lays, and its probes at least one node for
     /// each probe that the layout asks, up to the greatest `u64`. In this lower bound a rejected branch of a union counts
     /// nothing, and neither does the document of a line suffix; a branch that is kept counts.
+    ///
+    /// ```
+    /// let mut visits = Visits::default();
+    /// doc.render_raw_counted_with(alloc, RenderOptions::new(80), &mut FmtWrite::new(&mut text), &mut visits)?;
+    /// ```
     pub fn render_raw_counted_with<W: Render>(
         &self,
         alloc: Global,
@@ -65,7 +76,12 @@ impl<'a, T: DocPtr<'a>> Doc<'a, T> {
         render::render(alloc, self, options, out, visits)
     }
 
-    /// Renders to a sink at this width, in columns, as `render_raw_with` does by `RenderOptions::new(width)`.
+    /// Renders to a sink at this width, in columns, as `render_raw_with` does by `RenderOptions::new(width)`: with the same
+    /// errors.
+    ///
+    /// ```
+    /// doc.render_raw(alloc, 80, &mut FmtWrite::new(&mut text))?; // `text` grew by the layout
+    /// ```
     pub fn render_raw<W: Render>(
         &self,
         alloc: Global,
@@ -79,7 +95,13 @@ impl<'a, T: DocPtr<'a>> Doc<'a, T> {
     }
 
     /// Renders to a byte writer, piece by piece: hand in a `BufWriter` where a write is slow, and flush it afterwards,
-    /// since no call here does. An interruption is answered as `Sink`, and not tried again.
+    /// since no call here does. An interruption is answered as `Sink`, and not tried again. Each error says what was
+    /// appended by then; that of `Document` is of the kind `Other`.
+    ///
+    /// ```
+    /// let options = RenderOptions::new(80).with_line_ending(LineEnding::Crlf);
+    /// doc.render_with(alloc, options, &mut bytes)?; // `bytes`, a `Vec<u8>`, grew by the layout
+    /// ```
     pub fn render_with<W: io::Write>(
         &self,
         alloc: Global,
@@ -92,7 +114,12 @@ impl<'a, T: DocPtr<'a>> Doc<'a, T> {
         self.render_raw_with(alloc, options, &mut IoWrite::new(out))
     }
 
-    /// Renders to a byte writer at this width, in columns, as `render_with` does by `RenderOptions::new(width)`.
+    /// Renders to a byte writer at this width, in columns, as `render_with` does by `RenderOptions::new(width)`: with the
+    /// same errors.
+    ///
+    /// ```
+    /// doc.render(alloc, 80, &mut bytes)?; // `bytes`, a `Vec<u8>`, grew by the layout
+    /// ```
     pub fn render<W: io::Write>(
         &self,
         alloc: Global,
@@ -105,7 +132,12 @@ impl<'a, T: DocPtr<'a>> Doc<'a, T> {
         self.render_with(alloc, RenderOptions::new(width), out)
     }
 
-    /// Renders to a text writer.
+    /// Renders to a text writer. Each error says what was appended by then.
+    ///
+    /// ```
+    /// let options = RenderOptions::new(80).with_indentation_policy(IndentationPolicy::Deferred);
+    /// doc.render_fmt_with(alloc, options, &mut text)?; // `text`, a `String`, grew by the layout
+    /// ```
     pub fn render_fmt_with<W: TextWriter>(
         &self,
         alloc: Global,
@@ -117,7 +149,12 @@ impl<'a, T: DocPtr<'a>> Doc<'a, T> {
         self.render_raw_with(alloc, options, &mut FmtWrite::new(out))
     }
 
-    /// Renders to a text writer at this width, in columns, as `render_fmt_with` does by `RenderOptions::new(width)`.
+    /// Renders to a text writer at this width, in columns, as `render_fmt_with` does by `RenderOptions::new(width)`: with
+    /// the same errors.
+    ///
+    /// ```
+    /// doc.render_fmt(alloc, 80, &mut text)?; // `text`, a `String`, grew by the layout
+    /// ```
     pub fn render_fmt<W: TextWriter>(
         &self,
         alloc: Global,

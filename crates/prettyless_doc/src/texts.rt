@@ -29,6 +29,10 @@ impl<'a, T: DocPtr<'a>> Doc<'a, T> {
     /// A text, written as it is: nothing if it is empty. It counts as its bytes if it is ASCII, and else as its display
     /// width. A line end in it is not seen by the layout: `multiline_text` is for such texts. Only an owned
     /// text takes memory, and fails where that is refused.
+    ///
+    /// ```
+    /// Doc::text(alloc, CowStr::Borrowed("你好"))? // "你好", four columns
+    /// ```
     #[inline(always)]
     pub fn text(alloc: Global, text: CowStr<'a>) -> Result<Self, BuildError>
         ensures ok { IfOk result (λ d. tree_of T.tree d ≡ to.text (cow_str_bytes text.entry)) }
@@ -46,6 +50,10 @@ impl<'a, T: DocPtr<'a>> Doc<'a, T> {
     ///
     /// Answers `Memory` where memory was refused, and `Display` where only the value's
     /// formatting failed.
+    ///
+    /// ```
+    /// Doc::as_string(alloc, 42)? // "42"
+    /// ```
     pub fn as_string<V: fmt::Display + Drop>(alloc: Global, value: V) -> Result<Self, BuildError>
         ensures ok { IfOk result (λ d. to.IsStringOf (V.output value) (tree_of T.tree d)) }
     {
@@ -55,6 +63,10 @@ impl<'a, T: DocPtr<'a>> Doc<'a, T> {
     /// A text whose line ends, each LF or CR, are written as they are, with no indent after them. It keeps the groups
     /// around it from being flat, and fails under `flatten`. Without one it is as `text` makes it. Only an owned
     /// text takes memory, and fails where that is refused.
+    ///
+    /// ```
+    /// Doc::multiline_text(alloc, CowStr::Borrowed("a\nb"))? // "a\nb"
+    /// ```
     pub fn multiline_text(alloc: Global, text: CowStr<'a>) -> Result<Self, BuildError>
         ensures ok { IfOk result (λ d. tree_of T.tree d ≡ to.multiline_text (cow_str_bytes text.entry)) }
         ensures borrowed { IfLent text.entry (IsOk result) }

@@ -14,6 +14,10 @@ use std::alloc::Global;
 /// and never more than `limit`. Where the document fails, these are the bytes before its failing node. Where memory is
 /// refused, they are a beginning of the layout. Where the layout is longer than `limit`, the answer is `Sink`, and they
 /// are its first `limit` bytes. Past them the area stays as it was.
+///
+/// ```
+/// lay_into(doc, alloc, RenderOptions::new(80), 1000, &mut out, &mut written)?; // at most 1000 bytes
+/// ```
 pub fn lay_into<'a, T: DocPtr<'a>>(
     document: &Doc<'a, T>,
     alloc: Global,

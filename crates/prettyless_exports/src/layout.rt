@@ -97,7 +97,7 @@ fn options_from(width: usize, crlf: bool, deferred: bool) -> RenderOptions
     }
 }
 
-/// The greatest length that this limit allows: 0 is no limit.
+/// The greatest length in bytes that this limit allows: 0 is no limit, and gives that of all areas.
 pub fn limit_from(limit: usize) -> usize
     ensures { result ≡ limit_of limit }
 {
@@ -107,7 +107,11 @@ pub fn limit_from(limit: usize) -> usize
 /// Lays out the document that a program writes into an area of bytes, at a width in columns.
 ///
 /// The layout is made once, and straight into the area. `limit` is the greatest length of the layout in bytes, or 0 for
-/// none. The answer is a status: it says what `out` and `written` are.
+/// none. The answer is the number of a [`Status`], which says what `out` and `written` are then.
+///
+/// ```
+/// program_layout(alloc, &[3], 80, false, false, 0, &mut out, &mut written) // 0: `out` begins with "\n", `written` is 1
+/// ```
 pub fn program_layout(
     alloc: Global,
     program: &[u8],

@@ -7,17 +7,19 @@ use prettyless_program::Fault;
 /// How a call ended.
 #[derive(Clone, Copy, Debug, PartialEq, Eq)]
 pub enum Status {
-    /// The area holds the whole layout.
+    /// The area holds the whole layout, of `written` bytes.
     LaidOut,
-    /// The area holds the beginning of the layout that it has room for.
+    /// The area holds the beginning of the layout that it has room for. `written` is the length of the layout in bytes.
     TooSmall,
-    /// Memory was refused.
+    /// Memory was refused. The area holds `written` bytes of a beginning of the layout.
     Memory,
-    /// The layout of the document fails.
+    /// The layout of the document fails. The area holds the bytes before the node that fails, as far as there is room:
+    /// `written` of them.
     Fails,
-    /// The layout is longer than the limit.
+    /// The layout is longer than the limit. The area holds what is within the limit, as far as there is room: `written`
+    /// bytes.
     PastLimit,
-    /// The bytes were not read as a document.
+    /// The bytes were not read as a document. The area is as it was, and `written` is 0.
     Refused(Fault),
 }
 

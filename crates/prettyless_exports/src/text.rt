@@ -50,7 +50,9 @@ pub fn put_text(text: &str, limit: usize, out: &mut [u8], written: &mut usize) -
     }
 }
 
-/// The same without a limit. `written` is how many bytes were put.
+/// Puts a name into an area of bytes from its start, as far as there is room. Past that the area stays as it was.
+///
+/// `written` is how many bytes were put.
 pub fn put_name(name: &str, out: &mut [u8], written: &mut usize)
     ensures { Holds name.now out.old out.new written.new }
 {

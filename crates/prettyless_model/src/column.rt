@@ -46,7 +46,7 @@ impl Column {
         }
     }
 
-    /// Where the next content would begin.
+    /// The column at which the next content would begin.
     pub fn prospective(self) -> usize
         ensures { result ≡ spec.prospective self }
     {

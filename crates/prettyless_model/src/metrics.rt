@@ -3,10 +3,14 @@
 /// A part is what is between two breaks, each LF or CR.
 #[derive(Clone, Copy)]
 pub struct Metrics {
+    /// The width of the first part.
     pub first_width: usize,
+    /// Whether the first part has any byte.
     pub first_nonempty: bool,
     /// The greatest width of all parts but the first.
     pub rest_width: usize,
+    /// The width of the last part.
     pub last_width: usize,
+    /// Whether the last part has any byte.
     pub last_nonempty: bool,
 }

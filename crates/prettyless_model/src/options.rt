@@ -75,6 +75,10 @@ impl Default for RenderOptions {
 
 impl RenderOptions {
     /// This width, with lines that end in LF and indents that are written at once.
+    ///
+    /// ```
+    /// RenderOptions::new(100) // 100 columns, LF, indents at once
+    /// ```
     pub fn new(width: usize) -> Self
         ensures { result ≡ options_at width }
     {
@@ -86,6 +90,10 @@ impl RenderOptions {
     }
 
     /// These options at another width, in columns.
+    ///
+    /// ```
+    /// RenderOptions::default().with_width(100)
+    /// ```
     pub fn with_width(self, width: usize) -> Self
         ensures { result ≡ record self { width = width } }
     {
@@ -93,6 +101,10 @@ impl RenderOptions {
     }
 
     /// These options with another end of lines.
+    ///
+    /// ```
+    /// RenderOptions::new(80).with_line_ending(LineEnding::Crlf)
+    /// ```
     pub fn with_line_ending(self, line_ending: LineEnding) -> Self
         ensures { result ≡ record self { line_ending = line_ending } }
     {
@@ -103,6 +115,10 @@ impl RenderOptions {
     }
 
     /// These options with indents written by another policy.
+    ///
+    /// ```
+    /// RenderOptions::new(80).with_indentation_policy(IndentationPolicy::Deferred)
+    /// ```
     pub fn with_indentation_policy(self, indentation_policy: IndentationPolicy) -> Self
         ensures { result ≡ record self { indentation_policy = indentation_policy } }
     {

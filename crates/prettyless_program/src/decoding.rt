@@ -28,6 +28,10 @@ fn whole<'a, D: DocPlace<'a>>(
 /// The document that the program writes. Its nodes are put in this place, and its texts are those of the program.
 ///
 /// A fault other than `Memory` comes only where the bytes write no document, and says why.
+///
+/// ```
+/// decode(place, &[3])? // "\n"
+/// ```
 #[tactic(auto, using(crate::proofs::Reaching::at_first, crate::proofs::Reaching::one_more, crate::proofs::Reaching::at_end, crate::proofs::Reaching::refused))]
 pub fn decode<'a, D: DocPlace<'a>>(place: &'a D, program: &'a [u8]) -> Result<D::Doc, Fault>
     ensures ok { IfOk result (λ p. WritesDocument program.now (D.Doc.tree p)) }

@@ -59,13 +59,18 @@ pub enum Choice {
 /// What an instruction does, apart from its operands.
 #[derive(Clone, Copy)]
 pub enum Operation {
+    /// A document that holds no other.
     Leaf(Leaf),
+    /// A text, counted in this way.
     Words(Words),
     /// A text that counts as many columns as a number says.
     Counted,
+    /// A node over one document.
     Wrap(Wrapper),
     Nest,
+    /// A node over two documents.
     Join(Join),
+    /// A choice between two documents, by a number of columns.
     Choose(Choice),
     Open,
     Close,

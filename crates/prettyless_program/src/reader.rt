@@ -16,6 +16,7 @@ use std::str::from_utf8;
 /// What is left of a program.
 #[derive(Clone, Copy)]
 pub struct Reader<'p> {
+    /// The bytes that are not read yet.
     pub rest: &'p [u8],
 }
 
@@ -113,6 +114,8 @@ impl<'p> Reader<'p> {
     }
 
     /// The instruction that comes next, if the program goes on.
+    ///
+    /// A `Fault` says why the bytes there are no instruction. Nothing is promised of the reader then.
     #[inline(always)]
     pub fn next(&mut self) -> Result<Option<Instruction<'p>>, Fault>
         ensures ok { IfOk result (λ next. MatchOption next (self.old.rest.now ≡ [])

@@ -12,14 +12,18 @@ use prettyless_doc::{Doc, DocPlace, DocPtr};
 /// A document, or where a sequence was opened.
 #[derive(Drop)]
 pub enum Entry<T> {
+    /// A document.
     Document(T),
+    /// Where a sequence was opened.
     Opened,
 }
 
 /// What comes of the last entries: the documents one after the other, and whether a sequence was opened before them.
 #[derive(Drop)]
 pub struct Gathered<T> {
+    /// The documents, one after the other: nothing if there is none.
     pub document: T,
+    /// Whether a sequence was opened before them.
     pub opened: bool,
 }
 
@@ -36,6 +40,8 @@ fn take<'a, T: DocPtr<'a>>(entries: &mut Vec<Entry<T>>) -> Option<Entry<T>>
 }
 
 /// Takes the last document of the innermost open sequence.
+///
+/// `Fault::Document` where it has none. Nothing is promised of the entries then.
 #[inline(always)]
 pub fn pop<'a, T: DocPtr<'a>>(entries: &mut Vec<Entry<T>>) -> Result<T, Fault>
     ensures ok { IfOk result (λ d. items_of_entries T.tree entries.old.items ≡ programs.Document (T.tree d)
@@ -49,6 +55,8 @@ pub fn pop<'a, T: DocPtr<'a>>(entries: &mut Vec<Entry<T>>) -> Result<T, Fault>
 }
 
 /// Takes the documents of the innermost open sequence, one after the other, and what opened it.
+///
+/// `Fault::Memory` where memory is refused. Nothing is promised of the entries then.
 pub fn gather<'a, D: DocPlace<'a>>(
     place: &'a D,
     entries: &mut Vec<Entry<D::Doc>>,

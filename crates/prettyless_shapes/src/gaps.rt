@@ -27,6 +27,10 @@ pub(crate) fn followed<'a, D: DocPlace<'a>>(
 }
 
 /// The two documents side by side, with nothing between them. It fails where memory is refused.
+///
+/// ```
+/// joined(place, a, b)? // "ab"
+/// ```
 pub fn joined<'a, D: DocPlace<'a>>(
     place: &'a D,
     first: D::Doc,
@@ -40,6 +44,10 @@ pub fn joined<'a, D: DocPlace<'a>>(
 }
 
 /// The two documents with one space between them, also where one of them is nothing. It fails where memory is refused.
+///
+/// ```
+/// spaced(place, a, b)? // "a b"
+/// ```
 pub fn spaced<'a, D: DocPlace<'a>>(
     place: &'a D,
     first: D::Doc,
@@ -55,6 +63,10 @@ pub fn spaced<'a, D: DocPlace<'a>>(
 
 /// The two documents with a line between them, also where one of them is nothing: a line break, or one space where lines
 /// are flat. It fails where memory is refused.
+///
+/// ```
+/// grouped(place, lined(place, a, b)?)? // "a b" at 3 columns, "a\nb" at 2
+/// ```
 pub fn lined<'a, D: DocPlace<'a>>(
     place: &'a D,
     first: D::Doc,
@@ -70,6 +82,10 @@ pub fn lined<'a, D: DocPlace<'a>>(
 
 /// The second document below the first: a line break is between them, also where one of them is nothing. It keeps the
 /// groups around it from being flat, and fails where memory is refused.
+///
+/// ```
+/// stacked(place, a, b)? // "a\nb"
+/// ```
 pub fn stacked<'a, D: DocPlace<'a>>(
     place: &'a D,
     first: D::Doc,
@@ -84,6 +100,10 @@ pub fn stacked<'a, D: DocPlace<'a>>(
 
 /// The documents, each below the one before: a line break is between two, also where one of them is nothing. Nothing, where
 /// there is no document. It keeps the groups around it from being flat, and fails where memory is refused.
+///
+/// ```
+/// stacked_all(place, docs)? // of "a" and "b": "a\nb"
+/// ```
 pub fn stacked_all<'a, D: DocPlace<'a>>(
     place: &'a D,
     docs: Vec<D::Doc>,
@@ -98,6 +118,10 @@ pub fn stacked_all<'a, D: DocPlace<'a>>(
 
 /// The document with a line break after it, also where it is nothing. It keeps the groups around it from being flat, and
 /// fails where memory is refused.
+///
+/// ```
+/// ended(place, a)? // "a\n"
+/// ```
 pub fn ended<'a, D: DocPlace<'a>>(place: &'a D, doc: D::Doc) -> Result<D::Doc, BuildError>
     ensures ok { IfOk result (λ p. D.Doc.tree p ≡ append (D.Doc.tree doc) HardLine) }
     ensures items { IfOk result (λ p. ShowsMore (D.Doc.tree doc) (ended ∷ []) (D.Doc.tree p)) }

@@ -13,6 +13,10 @@ use prettyless_build::DocBuilder;
 use prettyless_doc::{BuildError, DocPlace};
 
 /// The document with its lines but the first so many columns further in. It fails where memory is refused.
+///
+/// ```
+/// indented(place, stacked(place, a, b)?, 2)? // "a\n  b"
+/// ```
 pub fn indented<'a, D: DocPlace<'a>>(
     place: &'a D,
     doc: D::Doc,
@@ -29,6 +33,10 @@ pub fn indented<'a, D: DocPlace<'a>>(
 
 /// The document, laid flat where it fits the line with what follows up to the next line break, and else broken. It fails
 /// where memory is refused.
+///
+/// ```
+/// grouped(place, lined(place, a, b)?)? // "a b" at 3 columns, "a\nb" at 2
+/// ```
 pub fn grouped<'a, D: DocPlace<'a>>(place: &'a D, doc: D::Doc) -> Result<D::Doc, BuildError>
     ensures ok { IfOk result (λ p. D.Doc.tree p ≡ group (D.Doc.tree doc)) }
     ensures items { IfOk result (λ p. ShowsSame (D.Doc.tree doc) (D.Doc.tree p)) }
@@ -38,6 +46,10 @@ pub fn grouped<'a, D: DocPlace<'a>>(place: &'a D, doc: D::Doc) -> Result<D::Doc,
 }
 
 /// The document, with the groups around it kept from being flat. It fails where memory is refused.
+///
+/// ```
+/// grouped(place, broken(place, lined(place, a, b)?)?)? // "a\nb"
+/// ```
 pub fn broken<'a, D: DocPlace<'a>>(place: &'a D, doc: D::Doc) -> Result<D::Doc, BuildError>
     ensures ok { IfOk result (λ p. D.Doc.tree p ≡ append (D.Doc.tree doc) ExpandParent) }
     ensures items { IfOk result (λ p. ShowsSame (D.Doc.tree doc) (D.Doc.tree p)) }
@@ -49,6 +61,10 @@ pub fn broken<'a, D: DocPlace<'a>>(place: &'a D, doc: D::Doc) -> Result<D::Doc, 
 /// The first document and the second after it: after a space where the second, flat, fits the line, and else on the next
 /// line, so many columns further in. The first is not in the group of the second, so it may be broken where the second
 /// follows on its last line. It fails where memory is refused.
+///
+/// ```
+/// hanging(place, a, b, 2)? // "a b" at 3 columns, "a\n  b" at 2
+/// ```
 pub fn hanging<'a, D: DocPlace<'a>>(
     place: &'a D,
     first: D::Doc,
@@ -67,6 +83,10 @@ pub fn hanging<'a, D: DocPlace<'a>>(
 /// The second document below the first, so many columns further in, and the third below that, as far in as the first. A line
 /// break is between two, also where one of them is nothing. It keeps the groups around it from being flat, and fails where
 /// memory is refused.
+///
+/// ```
+/// block(place, text(place, "{")?, a, text(place, "}")?, 2)? // "{\n  a\n}"
+/// ```
 pub fn block<'a, D: DocPlace<'a>>(
     place: &'a D,
     before: D::Doc,

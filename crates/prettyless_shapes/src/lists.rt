@@ -30,6 +30,10 @@ pub struct ListStyle {
 impl ListStyle {
     /// Documents so many columns further in, each on a line of its own, with no mark after the last, where lines are
     /// broken. Flat lists have no space inside the brackets.
+    ///
+    /// ```
+    /// ListStyle { trailing: true, ..ListStyle::new(2) } // lists with a mark after the last document too
+    /// ```
     pub const fn new(indent: u32) -> Self
         ensures { result ≡ record { indent = indent; padded = false; trailing = false; filled = false } }
     {
@@ -119,6 +123,10 @@ fn inside<'a, D: DocPlace<'a>>(
 /// The documents between two brackets, each but the last with the mark after it: flat where they fit the line, and else
 /// as the style says. Where there is no document, the brackets stand side by side, with no break. It fails where memory is
 /// refused.
+///
+/// ```
+/// list(place, "[", docs, ",", "]", ListStyle::new(2))? // of "a" and "b": "[a, b]" at 6 columns, "[\n  a,\n  b\n]" at 5
+/// ```
 pub fn list<'a, D: DocPlace<'a>>(
     place: &'a D,
     before: &'a str,

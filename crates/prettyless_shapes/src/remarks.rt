@@ -16,6 +16,10 @@ use prettyless_doc::{BuildError, DocPlace};
 /// groups around it from being flat, and fails where memory is refused.
 ///
 /// Where a mark, as a comma, is to come before the remark, `with_late_remark` is for it.
+///
+/// ```
+/// joined(place, with_remark(place, a, "# c")?, b)? // "a # c\nb"
+/// ```
 pub fn with_remark<'a, D: DocPlace<'a>>(
     place: &'a D,
     doc: D::Doc,
@@ -34,6 +38,10 @@ pub fn with_remark<'a, D: DocPlace<'a>>(
 /// them. It fails where memory is refused.
 ///
 /// It breaks no line. Around it, `broken` keeps the groups that it is in from being flat.
+///
+/// ```
+/// joined(place, with_late_remark(place, a, "# c")?, b)? // "ab # c"
+/// ```
 pub fn with_late_remark<'a, D: DocPlace<'a>>(
     place: &'a D,
     doc: D::Doc,

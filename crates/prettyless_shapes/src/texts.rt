@@ -12,6 +12,10 @@ use prettyless_doc::{BuildError, DocPlace};
 
 /// A text, written as it is: nothing if it is empty. A line end in it is not seen by the layout. It fails where memory is
 /// refused.
+///
+/// ```
+/// text(place, "a")? // "a"
+/// ```
 pub fn text<'a, D: DocPlace<'a>>(place: &'a D, text: &'a str) -> Result<D::Doc, BuildError>
     ensures ok { IfOk result (λ p. D.Doc.tree p ≡ counted.text text.now) }
     ensures items { IfOk result (λ p. shows (D.Doc.tree p) (text_items text.now)) }
@@ -21,6 +25,10 @@ pub fn text<'a, D: DocPlace<'a>>(place: &'a D, text: &'a str) -> Result<D::Doc, 
 }
 
 /// Nothing. It fails where memory is refused.
+///
+/// ```
+/// nil(place)? // ""
+/// ```
 pub fn nil<'a, D: DocPlace<'a>>(place: &'a D) -> Result<D::Doc, BuildError>
     ensures ok { IfOk result (λ p. D.Doc.tree p ≡ Nil) }
     ensures items { IfOk result (λ p. shows (D.Doc.tree p) []) }

@@ -14,6 +14,10 @@ pub struct FmtWrite<W> {
 
 impl<W> FmtWrite<W> {
     /// A sink that appends to what `upstream` has. It has not failed.
+    ///
+    /// ```
+    /// doc.render_raw(alloc, 80, &mut FmtWrite::new(&mut text))?; // `text`, a `String`, grew by the layout
+    /// ```
     pub fn new(upstream: W) -> Self
         ensures { result ≡ record { upstream = upstream; failures = 0 } }
     {

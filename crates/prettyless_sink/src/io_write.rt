@@ -17,6 +17,10 @@ pub struct IoWrite<W> {
 
 impl<W> IoWrite<W> {
     /// A sink that appends to what `upstream` has. It has not failed.
+    ///
+    /// ```
+    /// doc.render_raw(alloc, 80, &mut IoWrite::new(&mut bytes))?; // `bytes`, a `Vec<u8>`, grew by the layout
+    /// ```
     pub fn new(upstream: W) -> Self
         ensures { result ≡ record { upstream = upstream; failures = 0 } }
     {

@@ -5,9 +5,10 @@ ghost use Rattle.prettyless_sink.specs.Sink.{rise};
 /// How many nodes were visited, and how often that was not bounded. Each count stops at the greatest `u64`.
 #[derive(Clone, Copy, Debug, Default)]
 pub struct Visits {
-    /// By the printer: to be laid, also in a trial that was not kept; and a payload that a union rejected by its metrics.
+    /// Visits of nodes by the printer: to lay them, also in a trial that was not kept. A payload that a union rejected by
+    /// its metrics counts too.
     pub printer: u64,
-    /// By probes: to be read.
+    /// Visits of nodes by probes, to read them.
     pub probes: u64,
     /// Tables that were refused memory, which is no error. Without one, probes may visit more nodes.
     pub refused: u64,

@@ -124,6 +124,10 @@ impl<'a> Text<'a> {
     ///
     /// Answers `Memory` where memory was refused, also if the value went on, and `Display` where the value's formatting
     /// failed and no memory was refused.
+    ///
+    /// ```
+    /// Text::from_display(alloc, 42)? // its `as_str` is "42"
+    /// ```
     pub fn from_display<V: fmt::Display + Drop>(alloc: Global, value: V) -> Result<Self, BuildError>
         ensures bytes { IfOk result (λ t. IfSome (V.output value) (λ o. bytes_of_text t ≡ o)) }
         ensures small { IfOk result IsSmallIfItFits }

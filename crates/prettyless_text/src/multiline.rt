@@ -36,6 +36,10 @@ impl<'a> MultilineTextData<'a> {
 
     /// A payload of this source, which has to hold LF or CR. Only an owned source takes memory, and fails where that is
     /// refused.
+    ///
+    /// ```
+    /// MultilineTextData::new(alloc, CowStr::Borrowed("a\nb"))? // its `as_str` is "a\nb"
+    /// ```
     pub fn new(alloc: Global, text: CowStr<'a>) -> Result<Self, BuildError>
         requires { holds_break (cow_str_bytes text) ≡ true }
         ensures ok { IfOk result (λ p. payload_bytes p ≡ cow_str_bytes text.entry) }

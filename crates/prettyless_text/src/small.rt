@@ -34,6 +34,10 @@ impl Model for SmallText {
 
 impl SmallText {
     /// A copy of a text, where it has at most 22 bytes.
+    ///
+    /// ```
+    /// SmallText::new("ab") // `Some`; `None` of a text of 23 bytes
+    /// ```
     pub fn new(text: &str) -> Option<Self>
         ensures fits { IsSome result ↔ (length text.now ≤ 22) }
         ensures bytes { IfSome result (λ t. t.bytes ≡ text.now) }

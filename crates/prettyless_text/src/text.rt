@@ -63,6 +63,10 @@ pub enum Text<'a> {
 impl<'a> Text<'a> {
     /// The same bytes. A borrowed text stays borrowed, which takes no memory. An owned one keeps its buffer; it takes
     /// memory for the pointer to it. Where that is refused, the text is given up, and nothing else changes.
+    ///
+    /// ```
+    /// Text::from_cow(alloc, CowStr::Borrowed("ab"))? // its `as_str` is "ab"
+    /// ```
     #[inline(always)]
     pub fn from_cow(alloc: Global, text: CowStr<'a>) -> Result<Self, BuildError>
         ensures ok { IfOk result (λ t. bytes_of_text t ≡ cow_str_bytes text.entry) }

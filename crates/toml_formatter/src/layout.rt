@@ -93,6 +93,10 @@ fn laid_out(alloc: Global, text: &str, style: Style) -> Result<String, FormatErr
 ///
 /// `NotToml` only where the text is no TOML, and `TooDeep` only where it is TOML and more than 128 brackets are in one another.
 /// `Memory` where memory is refused, whatever the text is.
+///
+/// ```
+/// formatted(alloc, "a=1", Style::default())? // "a = 1\n"
+/// ```
 pub fn formatted(alloc: Global, text: &str, style: Style) -> Result<String, FormatError>
     ensures ok { IfOk result (λ layout. IsFormattedToml text.now (string_bytes layout)) }
     ensures err { IfErr result (IsRefusedToml text.now) }
