@@ -151,12 +151,12 @@ chosen_here {N} {E} f {a} {t} {b} x i l r h one probes wants =
       rise = rise_then h.rise one.rise;
       at_most = λ plain.
           let y = h.at_most plain in
-          let z = chosen_at_most o t ts st i (f l) (f r) b.visits x one.more y.0 wants in
+          let z = chosen_at_most i (f l) (f r) one.more y.0 wants in
           (record { none = omega (arith, y.0.0); pending = y.0.1 }, z.0, z.1, at_most_then y.1 z.2);
       at_least = λ n m. at_least_then (h.at_least n m)
           (subst (λ (z : RenderOptions). CountsAtLeast (tally_above o n (t ∷ ts) st) (tally_choice z n i (f l) (f r) ts st) b.visits
           x) (sym h.options)
-          (chosen_at_least o n t ts st i (f l) (f r) b.visits x laid (omega (arith, m, h.long)) wants));
+          (chosen_at_least o n ts st i (f l) (f r) laid (omega (arith, m, h.long)) wants));
     })
 
 -- two branches are to be chosen from

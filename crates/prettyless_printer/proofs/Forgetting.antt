@@ -10,7 +10,7 @@ use Rattle.prettyless_step.specs.Steps.{owed, work}
 use Rattle.prettyless_step.specs.Printing.{tasks_of}
 use Rattle.prettyless_step.specs.declared.printer.Printer.{Printer}
 use Rattle.prettyless_step.specs.declared.queue.Queue.{Queue}
-use Rattle.prettyless_printer.specs.Points.{Standing, standing, state_at, Seen, Point, point_at, point}
+use Rattle.prettyless_printer.specs.Points.{standing, state_at, Seen, Point, point_at, point}
 use Rattle.prettyless_printer.specs.Progress.{Inside}
 use Rattle.prettyless_printer.specs.AtLeast.{CountsAtLeast, tally_above}
 use Rattle.prettyless_printer.specs.Paths.{Path, run_of}
