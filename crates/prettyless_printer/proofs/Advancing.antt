@@ -75,12 +75,12 @@ advances_went {N} {E} f {a} {t} {b} q s x bytes h one probes k lender accepts =
       rise = rise_then h.rise one.rise;
       at_most = λ plain.
           let y = h.at_most plain in
-          let z = went_at_most o t ts us st u bytes b.visits x one.more y.0 k.leads in
+          let z = went_at_most us u bytes one.more y.0 k.leads in
           (record { none = z.0.0; pending = z.0.1 }, at_most_then y.1 z.1);
       at_least = λ n l. at_least_then (h.at_least n l)
           (subst (λ (z : RenderOptions). CountsAtLeast (tally_above o n (t ∷ ts) st) (tally_above z n us u) b.visits x)
           (sym (k.options ∙ h.options))
-          (went_at_least o n t ts us st u bytes b.visits x laid (omega (arith, l, h.long)) k.leads));
+          (went_at_least o n ts us st u bytes laid (omega (arith, l, h.long)) k.leads));
     })
 
 failed_here : {N E : Type 0} (f : N → Tree) {a : Point} {t : Task} {b : Point} (x : Visits) → InHand a t b → Visit a.printer.options t b x →
@@ -108,7 +108,7 @@ failed_here {N} {E} f {a} {t} {b} x h one fails =
       least = count.least;
       most = count.most;
       rise = rise_then h.rise one.rise;
-      at_most = λ plain. at_most_then (h.at_most plain).1 (failed_at_most o t ts st b.visits x one.more);
+      at_most = λ plain. at_most_then (h.at_most plain).1 (failed_at_most one.more);
       at_least = tt;
     })
 
@@ -174,14 +174,13 @@ broke_at_most : {a : Point} {t : Task} {b : Point} (x : Visits) → InHand a t b
     → CountsAtMost a.printer.tasks [] a.visits x
 broke_at_most {a} {t} {b} x h one plain =
     at_most_all (at_most_then (h.at_most plain).1
-    (failed_at_most a.printer.options t b.printer.tasks (state_at b.printer) b.visits x one.more))
+    (failed_at_most one.more))
 
 -- what was written before a task in hand is a beginning of each whole
 hand_beginning : {a : Point} {t : Task} {b : Point} {out : List ℕ} → InHand a t b
     → ForWholes a.printer out (λ whole limit below old. AppendsBeginning old out (bytes_before whole))
 hand_beginning {a} {t} {b} {out} h = λ whole limit below old l m.
-    inside_beginning a.printer.options whole limit below old (t ∷ b.printer.tasks) (state_at b.printer) out
-    (h.inside out whole limit below old l m)
+    inside_beginning (h.inside out whole limit below old l m)
 
 -- memory was refused
 pub advances_refused : {N E : Type 0} (f : N → Tree) {a : Point} {t : Task} {b : Point} (q : Standing) (x : Visits) (e : _) → InHand a t b

@@ -251,10 +251,10 @@ stack_counts p n o ts st w e h k =
     ∙ ap (λ (x : List Task). tally_above o n x (state_at p) w) h ∙ ap (λ (x : State). tally_above o n ts x w) k
 
 -- a step of the node in hand
-pub went_at_least : (o : RenderOptions) (n : ℕ) (t : Task) (ts us : List Task) (st u : State) (bytes : List ℕ) (v w : Visits)
+pub went_at_least : {t : Task} {v w : Visits} (o : RenderOptions) (n : ℕ) (ts us : List Task) (st u : State) (bytes : List ℕ)
     → OneLaid t v w → n ≤ length ts → Leads (step_at o t ts st) ts bytes us u →
     CountsAtLeast (tally_above o n (t ∷ ts) st) (tally_above o n us u) v w
-went_at_least o n t ts us st u bytes v w one l h =
+went_at_least {t} {v} {w} o n ts us st u bytes one l h =
     laid_at_least t (tally_above o n (t ∷ ts) st) (tally_above o n us u) v w one
     (λ k. omega (arith, above_is o n t ts st k l, went k (step_at o t ts st) (step_counts o n ts st k l t.tree t.indent t.mode) h))
   where

@@ -311,7 +311,7 @@ choice_unwritten {E} {D} fails {r} {b} {c} {s} {t} {i} {x} {y} e w tries lender 
             z.0,
             (
               beginning_less old out (known c.sink.bytes) n.0 (bytes_before r.whole) (z.1.0 n.0 n.1)
-                  (inside_beginning o r.whole r.limit r.below old c.printer.tasks (state_at c.printer) (out ++ n.0) n.2)
+                  (inside_beginning n.2)
                   (h.1.0.bytes, h.1.0.out_is),
               z.1.1 ∙ ap rise h.1.1,
             ),

@@ -80,13 +80,12 @@ module _ {o : RenderOptions} {whole : Outcome} {limit : ℕ} {below : List Task}
     bound = omega (arith, w.bound);
   }
 
--- a step, of the top of the stack
-pub stepping : (o : RenderOptions) (whole : Outcome) (limit : ℕ) (below : List Task) (old : List ℕ) (t : Task) (ts : List Task) (st : State)
-    (out : List ℕ) →
-    length below ≤ length ts → Inside o whole limit below old (t ∷ ts) st out → Steps o whole limit below old ts st out
-    (step_of o t.tree t.indent t.mode (follow ts) st)
-stepping o whole limit below old t ts st out l p =
-    steps (step_of o t.tree t.indent t.mode (follow ts) st) (step_less o t.tree t.indent t.mode (follow ts) st) (taken l p)
+  -- a step, of the top of the stack
+  pub stepping : {t : Task} {ts : List Task} {st : State} {out : List ℕ} → length below ≤ length ts
+      → Inside o whole limit below old (t ∷ ts) st out
+      → Steps o whole limit below old ts st out (step_of o t.tree t.indent t.mode (follow ts) st)
+  stepping {t} {ts} {st} l p =
+      steps (step_of o t.tree t.indent t.mode (follow ts) st) (step_less o t.tree t.indent t.mode (follow ts) st) (taken l p)
 
 -- nothing is left above
 ends_at : (o : RenderOptions) (whole : Outcome) (below above : List Task) (bytes : List ℕ) (st : State)
@@ -96,24 +95,9 @@ unfolding lay_all
 ends_at o whole below [] bytes st l h = sym h ∙ ap (λ (b : List ℕ). Done b st) (append-nil bytes)
 ends_at o whole below (a ∷ above) bytes st l h = absurd (omega (arith, length-append above below))
 
--- the work is done: the whole is what was written
-pub inside_end : {o : RenderOptions} {whole : Outcome} {limit : ℕ} {below : List Task} {old : List ℕ} {stack : List Task} {st : State}
-    {out : List ℕ} → Inside o whole limit below old stack st out → length stack ≤ length below →
-    (bytes : List ℕ) × (out ≡ old ++ bytes) × (whole ≡ Done bytes st) × (owed st.pending ≤ limit)
-inside_end {o} {whole} {limit} {below} {old} {stack} {st} {out} p l =
-    (p.bytes, p.out_is, ends_at o whole below p.above p.bytes st (omega (arith, ap length p.stack_is, l)) p.same, omega (arith, p.bound))
-
 pub bytes_before-after : (b : List ℕ) (o : Outcome) → bytes_before (after_bytes b o) ≡ b ++ bytes_before o
 bytes_before-after b (Done c st) = refl
 bytes_before-after b (Failed c) = refl
-
--- what is written of a whole is a beginning of it
-pub inside_beginning : (o : RenderOptions) (whole : Outcome) (limit : ℕ) (below : List Task) (old : List ℕ) (stack : List Task) (st : State)
-    (out : List ℕ) →
-    Inside o whole limit below old stack st out → AppendsBeginning old out (bytes_before whole)
-inside_beginning o whole limit below old stack st out p =
-    let left : Outcome = lay_all o (settle o) p.above (follow below) st in
-    (p.bytes, bytes_before left, sym (ap bytes_before p.same) ∙ bytes_before-after p.bytes left, p.out_is)
 
 lay_all-second : (o : RenderOptions) (i : ℕ) (y : Tree) (ts : List Task) (outer : List Entry) (st : State) →
     lay_all o (settle o) (make_task i Break y ∷ ts) outer st ≡ and_then (lay o (settle o) y i Break (follow ts ++ outer) st)
@@ -123,6 +107,18 @@ lay_all-second o i y ts outer st = refl
 
 module _ {o : RenderOptions} {whole : Outcome} {limit : ℕ} {below : List Task} {old : List ℕ} {stack : List Task} {st : State}
     {out : List ℕ} where
+  -- the work is done: the whole is what was written
+  pub inside_end : Inside o whole limit below old stack st out → length stack ≤ length below →
+      (bytes : List ℕ) × (out ≡ old ++ bytes) × (whole ≡ Done bytes st) × (owed st.pending ≤ limit)
+  inside_end p l =
+      (p.bytes, p.out_is, ends_at o whole below p.above p.bytes st (omega (arith, ap length p.stack_is, l)) p.same, omega (arith, p.bound))
+
+  -- what is written of a whole is a beginning of it
+  pub inside_beginning : Inside o whole limit below old stack st out → AppendsBeginning old out (bytes_before whole)
+  inside_beginning p =
+      let left : Outcome = lay_all o (settle o) p.above (follow below) st in
+      (p.bytes, bytes_before left, sym (ap bytes_before p.same) ∙ bytes_before-after p.bytes left, p.out_is)
+
   -- work that went past the width
   pub inside_past : Inside o whole limit below old stack st out → st.within ≡ false → Past whole
   inside_past p h =

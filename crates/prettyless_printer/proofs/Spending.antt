@@ -182,7 +182,7 @@ spends_down {N} f {r} {a} {t} {s} {v} {x} p q i m n h plain same shows =
     let us : List Task = make_task i m (f n) ∷ c.tasks in
     let y = (h.hand.at_most plain).0 in
     let k = put_in_hand f i m n (step_at o t b.tasks st) p q shows in
-    let counts = (went_at_most o t b.tasks us st (state_at c) [] v x h.one.more y k.leads).1 in
+    let counts = (went_at_most us (state_at c) [] h.one.more y k.leads).1 in
     spends_then (h.spent plain)
     (step_spends h.visits counts
     (λ g. leads_have b.tasks us [] (state_at c) (step_at o t b.tasks st) (task_has o t b.tasks st y.1 g) g.1 k.leads)
@@ -200,7 +200,7 @@ spends_went {N} f {r} {a} {t} {s} {v} {x} p q bytes h plain same k =
     let c = standing f q in
     let st = state_at b in
     let y = (h.hand.at_most plain).0 in
-    let counts = (went_at_most o t b.tasks c.tasks st (state_at c) bytes v x h.one.more y k.leads).1 in
+    let counts = (went_at_most c.tasks (state_at c) bytes h.one.more y k.leads).1 in
     spends_then (h.spent plain)
     (step_spends h.visits counts
     (λ g. leads_have b.tasks c.tasks bytes (state_at c) (step_at o t b.tasks st) (task_has o t b.tasks st y.1 g) g.1 k.leads)
@@ -214,7 +214,7 @@ pub spends_failed : {N : Type 0} (f : N → Tree) {r : Rule} {a : Point} {t : Ta
 spends_failed {N} f {r} {a} {t} {s} {v} {x} p q h plain shows =
     let o = a.printer.options in
     let b = standing f p in
-    let counts = failed_at_most o t b.tasks (state_at b) v x h.one.more in
+    let counts = failed_at_most h.one.more in
     subst (λ (z : Standing). Spends r (left a.printer [] a.visits) (left z [] x)) (sym (stuck_there f t.mode (step_from o t b) p q shows).1)
     (spends_then (h.spent plain) (step_spends h.visits counts (λ g. g.1) (λ e. e)))
 
@@ -244,7 +244,7 @@ pub spends_broke : {N : Type 0} (f : N → Tree) {r : Rule} {a : Point} {t : Tas
     → Takes f r a t p s v x → Plain a.printer → Spends r (left a.printer [] a.visits) (none_left x)
 spends_broke {N} f {r} {a} {t} {s} {v} {x} p h plain =
     let b = standing f p in
-    let counts = failed_at_most a.printer.options t b.tasks (state_at b) v x h.one.more in
+    let counts = failed_at_most h.one.more in
     spends_then (h.spent plain) (step_spends h.visits (at_most_all counts) (λ g. tt) (λ e. refl))
 
 -- the task in hand is the next one again

@@ -157,10 +157,10 @@ stepped o t ts st plain = (
   λ n l. step_at_most o (follow ts) st n plain.1 t.tree t.indent t.mode (nodes ts) (omega (arith, plain.0)) l,
 )
 
-pub went_at_most : (o : RenderOptions) (t : Task) (ts us : List Task) (st u : State) (bytes : List ℕ) (v w : Visits) → OneMore o t ts st v w
-    → NoSuffix (t ∷ ts) st → Leads (step_at o t ts st) ts bytes us u →
+pub went_at_most : {o : RenderOptions} {t : Task} {ts : List Task} {st : State} {v w : Visits} (us : List Task) (u : State) (bytes : List ℕ)
+    → OneMore o t ts st v w → NoSuffix (t ∷ ts) st → Leads (step_at o t ts st) ts bytes us u →
     NoSuffix us u × CountsAtMost (t ∷ ts) us v w
-went_at_most o t ts us st u bytes v w more plain h = went (step_at o t ts st) (stepped o t ts st plain) h
+went_at_most {o} {t} {ts} {st} {v} {w} us u bytes more plain h = went (step_at o t ts st) (stepped o t ts st plain) h
   where
     went : (step : Step) → Stepped o t ts st step → Leads step ts bytes us u → NoSuffix us u × CountsAtMost (t ∷ ts) us v w
     went (Move b pushed x) s h =
@@ -178,9 +178,9 @@ went_at_most o t ts us st u bytes v w more plain h = went (step_at o t ts st) (s
     went Stuck s h = absurd h
     went (Choose i x y) s h = absurd h
 
-pub failed_at_most : (o : RenderOptions) (t : Task) (ts : List Task) (st : State) (v w : Visits) → OneMore o t ts st v w
+pub failed_at_most : {o : RenderOptions} {t : Task} {ts : List Task} {st : State} {v w : Visits} → OneMore o t ts st v w
     → CountsAtMost (t ∷ ts) ts v w
-failed_at_most o t ts st v w more = record {
+failed_at_most {o} {t} {ts} {st} {v} {w} more = record {
   left = omega arith;
   printer = omega (arith, more.printer, visits_within o t.tree t.mode st);
   probes = λ n l. omega (arith, asked_at_most t.tree t.mode (nodes ts) n l, more.probes);
