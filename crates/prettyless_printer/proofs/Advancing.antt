@@ -39,12 +39,12 @@ counted {a} {t} {b} {x} h one = record {
 }
 
 -- its bytes were written
-pub advances_went : {N E : Type 0} (f : N → Tree) {a : Point} {t : Task} {b : Point} (q : Standing) (s : Seen) (x : Visits) (bytes : List ℕ)
+pub advances_went : {N E : Type 0} {f : N → Tree} {a : Point} {t : Task} {b : Point} {q : Standing} {s : Seen} {x : Visits} {bytes : List ℕ}
     → InHand a t b → Visit a.printer.options t b x →
     RisesBy (each_probe t.tree t.mode) b.visits.probes x.probes → Wrote (step_from a.printer.options t b.printer) bytes b.printer q →
     s.lender ≡ b.sink.lender → Accepts b.sink.bytes s.bytes bytes b.sink.failures s.failures
     → Advances {N = N} {E = E} f a (point_at q s x) (Ok turn_result.Complete)
-advances_went {N} {E} f {a} {t} {b} q s x bytes h one probes k lender accepts =
+advances_went {N} {E} {f} {a} {t} {b} {q} {s} {x} {bytes} h one probes k lender accepts =
     let o = a.printer.options in
     let ts : List Task = b.printer.tasks in
     let us : List Task = q.tasks in
@@ -83,9 +83,9 @@ advances_went {N} {E} f {a} {t} {b} q s x bytes h one probes k lender accepts =
           (went_at_least o n ts us st u bytes laid (omega (arith, l, h.long)) k.leads));
     })
 
-failed_here : {N E : Type 0} (f : N → Tree) {a : Point} {t : Task} {b : Point} (x : Visits) → InHand a t b → Visit a.printer.options t b x →
+failed_here : {N E : Type 0} {f : N → Tree} {a : Point} {t : Task} {b : Point} {x : Visits} → InHand a t b → Visit a.printer.options t b x →
     IsStuck (step_from a.printer.options t b.printer) → Advances {N = N} {E = E} f a (point_at b.printer b.sink x) (Ok turn_result.Failed)
-failed_here {N} {E} f {a} {t} {b} x h one fails =
+failed_here {N} {E} {f} {a} {t} {b} {x} h one fails =
     let o = a.printer.options in
     let ts : List Task = b.printer.tasks in
     let st = state_at b.printer in
@@ -113,19 +113,18 @@ failed_here {N} {E} f {a} {t} {b} x h one fails =
     })
 
 -- it fails
-pub advances_failed : {N E : Type 0} (f : N → Tree) {a : Point} {t : Task} {s : Seen} {v : Visits} (p q : Printer N) (x : Visits)
-    → InHand a t (point f p s v) → Visit a.printer.options t (point f p s v) x →
-    Shows f t.mode Failed (step_from a.printer.options t (standing f p)) p q →
+pub advances_failed : {N E : Type 0} (f : N → Tree) {a : Point} {t : Task} {s : Seen} {v x : Visits} (p q : Printer N)
+    → InHand a t (point f p s v) → Visit a.printer.options t (point f p s v) x → Shows f t.mode Failed (step_from a.printer.options t (standing f p)) p q →
     Advances {N = N} {E = E} f a (point f q s x) (Ok turn_result.Failed)
-advances_failed {N} {E} f {a} {t} {s} {v} p q x h one shows =
+advances_failed {N} {E} f {a} {t} {s} {v} {x} p q h one shows =
     let k = stuck_there f t.mode (step_from a.printer.options t (standing f p)) p q shows in
-    subst (λ (z : Standing). Advances {N = N} {E = E} f a (point_at z s x) (Ok turn_result.Failed)) (sym k.1) (failed_here f x h one k.0)
+    subst (λ (z : Standing). Advances {N = N} {E = E} f a (point_at z s x) (Ok turn_result.Failed)) (sym k.1) (failed_here h one k.0)
 
-chosen_here : {N E : Type 0} (f : N → Tree) {a : Point} {t : Task} {b : Point} (x : Visits) (i : ℕ) (l r : N) → InHand a t b
+chosen_here : {N E : Type 0} {f : N → Tree} {a : Point} {t : Task} {b : Point} {x : Visits} {i : ℕ} {l r : N} → InHand a t b
     → Visit a.printer.options t b x →
     RisesBy (each_probe t.tree t.mode) b.visits.probes x.probes → Asks (step_from a.printer.options t b.printer) i (f l) (f r)
     → Advances {N = N} {E = E} f a (point_at b.printer b.sink x) (Ok (turn_result.Choice i l r))
-chosen_here {N} {E} f {a} {t} {b} x i l r h one probes wants =
+chosen_here {N} {E} {f} {a} {t} {b} {x} {i} {l} {r} h one probes wants =
     let o = a.printer.options in
     let ts : List Task = b.printer.tasks in
     let st = state_at b.printer in
@@ -160,19 +159,19 @@ chosen_here {N} {E} f {a} {t} {b} x i l r h one probes wants =
     })
 
 -- two branches are to be chosen from
-pub advances_chosen : {N E : Type 0} (f : N → Tree) {a : Point} {t : Task} {s : Seen} {v : Visits} (p q : Printer N) (x : Visits) (i : ℕ)
-    (l r : N) → InHand a t (point f p s v) → Visit a.printer.options t (point f p s v) x →
+pub advances_chosen : {N E : Type 0} (f : N → Tree) {a : Point} {t : Task} {s : Seen} {v x : Visits} {i : ℕ} {l r : N} (p q : Printer N)
+    → InHand a t (point f p s v) → Visit a.printer.options t (point f p s v) x →
     RisesBy (each_probe t.tree t.mode) v.probes x.probes → Shows f t.mode (Choice i l r) (step_from a.printer.options t (standing f p)) p q
     → Advances {N = N} {E = E} f a (point f q s x) (Ok (turn_result.Choice i l r))
-advances_chosen {N} {E} f {a} {t} {s} {v} p q x i l r h one probes shows =
+advances_chosen {N} {E} f {a} {t} {s} {v} {x} {i} {l} {r} p q h one probes shows =
     let k = asks_there f t.mode i l r (step_from a.printer.options t (standing f p)) p q shows in
     subst (λ (z : Standing). Advances {N = N} {E = E} f a (point_at z s x) (Ok (turn_result.Choice i l r))) (sym k.1)
-    (chosen_here f x i l r h one probes k.0)
+    (chosen_here h one probes k.0)
 
 -- what broke off has counted no more than the tasks allow
-broke_at_most : {a : Point} {t : Task} {b : Point} (x : Visits) → InHand a t b → Visit a.printer.options t b x → Plain a.printer
+broke_at_most : {a : Point} {t : Task} {b : Point} {x : Visits} → InHand a t b → Visit a.printer.options t b x → Plain a.printer
     → CountsAtMost a.printer.tasks [] a.visits x
-broke_at_most {a} {t} {b} x h one plain =
+broke_at_most {a} {t} {b} {x} h one plain =
     at_most_all (at_most_then (h.at_most plain).1
     (failed_at_most one.more))
 
@@ -183,10 +182,10 @@ hand_beginning {a} {t} {b} {out} h = λ whole limit below old l m.
     inside_beginning (h.inside out whole limit below old l m)
 
 -- memory was refused
-pub advances_refused : {N E : Type 0} (f : N → Tree) {a : Point} {t : Task} {b : Point} (q : Standing) (x : Visits) (e : _) → InHand a t b
+pub advances_refused : {N E : Type 0} {f : N → Tree} {a : Point} {t : Task} {b : Point} {q : Standing} {x : Visits} {e : _} → InHand a t b
     → Visit a.printer.options t b x →
     Advances {N = N} {E = E} f a (point_at q b.sink x) (Err (Memory e))
-advances_refused {N} {E} f {a} {t} {b} q x e h one =
+advances_refused {N} {E} {f} {a} {t} {b} {q} {x} {e} h one =
     let count = counted h one in
     from_start f (Err (Memory e)) h
     (record {
@@ -198,17 +197,17 @@ advances_refused {N} {E} f {a} {t} {b} q x e h one =
       least = (rise_then h.rise one.rise).printer;
       most = count.most;
       rise = rise_then h.rise one.rise;
-      at_most = λ plain. broke_at_most x h one plain;
+      at_most = λ plain. broke_at_most h one plain;
       at_least = tt;
     })
 
 -- the sink failed in its bytes
-pub advances_sink_failed : {N E : Type 0} (f : N → Tree) {a : Point} {t : Task} {b : Point} (q : Standing) (s : Seen) (x : Visits)
-    (bytes : List ℕ) (e : E) → InHand a t b → Visit a.printer.options t b x →
+pub advances_sink_failed : {N E : Type 0} {f : N → Tree} {a : Point} {t : Task} {b : Point} {q : Standing} {s : Seen} {x : Visits}
+    {bytes : List ℕ} {e : E} → InHand a t b → Visit a.printer.options t b x →
     Wrote (step_from a.printer.options t b.printer) bytes b.printer q →
     s.lender ≡ b.sink.lender → Refuses b.sink.bytes s.bytes bytes b.sink.failures s.failures
     → Advances {N = N} {E = E} f a (point_at q s x) (Err (Sink e))
-advances_sink_failed {N} {E} f {a} {t} {b} q s x bytes e h one k lender refused =
+advances_sink_failed {N} {E} {f} {a} {t} {b} {q} {s} {x} {bytes} {e} h one k lender refused =
     let o = a.printer.options in
     let ts : List Task = b.printer.tasks in
     let st = state_at b.printer in
@@ -233,6 +232,6 @@ advances_sink_failed {N} {E} f {a} {t} {b} q s x bytes e h one k lender refused 
       least = count.least;
       most = count.most;
       rise = rise_then h.rise one.rise;
-      at_most = λ plain. broke_at_most x h one plain;
+      at_most = λ plain. broke_at_most h one plain;
       at_least = tt;
     })

@@ -143,13 +143,13 @@ pub record Takes {N : Type 0} (f : N → Tree) (r : Rule) (a : Point) (t : Task)
   pub visits : StepVisits r t (tasks_of f p) v x
   pub spent : Plain a.printer → Spends r (left a.printer [] a.visits) (left_with t (standing f p) v)
 
-pub takes : {N : Type 0} (f : N → Tree) (has : Bool) (limit : ℕ) {a : Point} {t : Task} (p : Printer N) {s : Seen} {v : Visits} (x : Visits)
+pub takes : {N : Type 0} (f : N → Tree) {has : Bool} {limit : ℕ} {a : Point} {t : Task} (p : Printer N) {s : Seen} {v x : Visits}
     → InHand a t (point f p s v) → Visit a.printer.options t (point f p s v) x →
     (0 < each_probe t.tree t.mode → v.probes ≤ limit) → x.probes ≤ v.probes + asked t.tree t.mode (nodes (tasks_of f p))
     → Few has p.options.width t.tree (tasks_of f p) (each_probe t.tree t.mode) v.probes x.probes →
     (Plain a.printer → Spends (rule_of has a.printer.options limit) (left a.printer [] a.visits) (left_with t (standing f p) v)) →
     Takes f (rule_of has a.printer.options limit) a t p s v x
-takes {N} f has limit {a} {t} p {s} {v} x hand one asks counted few spent = record {
+takes {N} f {has} {limit} {a} {t} p {s} {v} {x} hand one asks counted few spent = record {
   hand = hand;
   one = one;
   visits = record {
