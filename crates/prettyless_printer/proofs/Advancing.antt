@@ -114,7 +114,8 @@ failed_here {N} {E} {f} {a} {t} {b} {x} h one fails =
 
 -- it fails
 pub advances_failed : {N E : Type 0} (f : N → Tree) {a : Point} {t : Task} {s : Seen} {v x : Visits} (p q : Printer N)
-    → InHand a t (point f p s v) → Visit a.printer.options t (point f p s v) x → Shows f t.mode Failed (step_from a.printer.options t (standing f p)) p q →
+    → InHand a t (point f p s v) → Visit a.printer.options t (point f p s v) x →
+    Shows f t.mode Failed (step_from a.printer.options t (standing f p)) p q →
     Advances {N = N} {E = E} f a (point f q s x) (Ok turn_result.Failed)
 advances_failed {N} {E} f {a} {t} {s} {v} {x} p q h one shows =
     let k = stuck_there f t.mode (step_from a.printer.options t (standing f p)) p q shows in

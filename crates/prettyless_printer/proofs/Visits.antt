@@ -65,8 +65,17 @@ StepAtMost n a most (Move b pushed u) = (suffix_depths pushed ≡ 0) × (u.pendi
 StepAtMost n a most Stuck = Unit {0}
 StepAtMost n a most (Choose i l r) = (suffix_depth l ≡ 0) × (suffix_depth r ≡ 0) × (a + (n * probed l + n * probed r) ≤ most)
 
--- a step with no document pending
-module _ (o : RenderOptions) (rest : List Entry) (st : State) (n : ℕ) (none : st.pending ≡ []) where
+-- one of two nodes
+either_at_most : (n : ℕ) (l r : Tree) (i : ℕ) (m : Mode) (v : Bool) → suffix_depth l + suffix_depth r ≡ 0 →
+    (suffix_depths (make_task i m (if v then l else r) ∷ []) ≡ 0)
+    × (charges n (make_task i m (if v then l else r) ∷ []) ≤ n * probed l + n * probed r)
+either_at_most n l r i m true h = (omega (arith, h), omega arith)
+either_at_most n l r i m false h = (omega (arith, h), omega arith)
+
+-- # One step
+
+-- a step, with no document pending
+module _ (o : RenderOptions) (ts : List Task) (st : State) (n : ℕ) (none : st.pending ≡ []) where
   text_at_most : (w : ℕ) (s : List ℕ) → StepAtMost n 0 (n * 0) (at_once (lay_text o w s st))
   text_at_most w [] = (refl, none, omega arith)
   text_at_most w (b ∷ bs) = (refl, none, omega arith)
@@ -75,59 +84,55 @@ module _ (o : RenderOptions) (rest : List Entry) (st : State) (n : ℕ) (none : 
   ending_at_most Eager k = (refl, none, omega arith)
   ending_at_most Deferred k = (refl, none, omega arith)
 
-  break_at_most : (ps : List Tree) (d : Tree) (i : ℕ) (m : Mode) → ps ≡ [] → StepAtMost n 0 (n * 0) (break_step o ps d i m rest st)
+  break_at_most : (ps : List Tree) (d : Tree) (i : ℕ) (m : Mode) → ps ≡ [] → StepAtMost n 0 (n * 0) (break_step o ps d i m (follow ts) st)
   break_at_most [] d i m e =
       elim (is_suppressed d st.column) as
-      (λ v. StepAtMost n 0 (n * 0) (at_once (if v then Done [] st else lay_ending o o.indentation_policy (next_indent i rest) st)))
-      [ true ↦ (refl, none, omega arith) | false ↦ ending_at_most o.indentation_policy (next_indent i rest) ]
+      (λ v. StepAtMost n 0 (n * 0) (at_once (if v then Done [] st else lay_ending o o.indentation_policy (next_indent i (follow ts)) st)))
+      [ true ↦ (refl, none, omega arith) | false ↦ ending_at_most o.indentation_policy (next_indent i (follow ts)) ]
   break_at_most (p ∷ ps) d i m e = absurd (cc)
 
-  -- one of two nodes
-  either_at_most : (l r : Tree) (i : ℕ) (m : Mode) (a most : ℕ) (v : Bool) → StepAtMost n a most (Choose i l r)
-      → StepAtMost n a most (Move [] (make_task i m (if v then l else r) ∷ []) st)
-  either_at_most l r i m a most true h = (omega (arith, h.0), none, omega (arith, h.2))
-  either_at_most l r i m a most false h = (omega (arith, h.1), none, omega (arith, h.2))
+  union_at_most : (l r : Tree) (i : ℕ) (v : Option Bool) → suffix_depth l + suffix_depth r ≡ 0
+      → StepAtMost n 0 (n * (probed l + probed r)) (union_step v l r i st)
+  union_at_most l r i (Some v) h =
+      let e = either_at_most n l r i Break v h in
+      (e.0, none, omega (arith, e.1))
+  union_at_most l r i None h = (omega (arith, h), omega (arith, h), omega arith)
 
-  union_at_most : (l r : Tree) (i : ℕ) (most : ℕ) (v : Option Bool) → StepAtMost n 0 most (Choose i l r)
-      → StepAtMost n 0 most (union_step v l r i st)
-  union_at_most l r i most (Some v) h = either_at_most l r i Break 0 most v h
-  union_at_most l r i most None h = h
-
-  step_at_most : (d : Tree) (i : ℕ) (m : Mode) (k : ℕ) → suffix_depth d ≡ 0 → size d + k ≤ n
-      → StepAtMost n (asked d m k) (n * probed d) (step_of o d i m rest st)
-  step_at_most Nil i m k z l = (refl, none, omega arith)
-  step_at_most Fail i m k z l = tt
-  step_at_most (Text s) i m k z l = text_at_most (length s) s
-  step_at_most (TextWithLen w s) i m k z l = text_at_most w s
-  step_at_most (MultilineText s) i Break k z l = (refl, none, omega arith)
-  step_at_most (MultilineText s) i Flat k z l = tt
-  step_at_most WeakSpace i m k z l = (refl, none, omega arith)
-  step_at_most HardLine i Break k z l = break_at_most st.pending HardLine i Break none
-  step_at_most HardLine i Flat k z l = tt
-  step_at_most WeakLine i m k z l = break_at_most st.pending WeakLine i m none
-  step_at_most (Append a b) i m k z l = (omega arith, none, omega arith)
-  step_at_most (LineSuffix d) i m k z l = absurd (omega arith)
-  step_at_most (Nest j d) i m k z l = (omega arith, none, omega arith)
-  step_at_most (DedentToRoot d) i m k z l = (omega arith, none, omega arith)
-  step_at_most (Align d) i m k z l = (omega arith, none, omega arith)
-  step_at_most ExpandParent i m k z l = (refl, none, omega arith)
-  step_at_most (Flatten d) i m k z l = (omega arith, none, omega arith)
-  step_at_most (BreakOrFlat b f) i Break k z l = (omega arith, none, omega arith)
-  step_at_most (BreakOrFlat b f) i Flat k z l = (omega arith, none, omega arith)
-  step_at_most (Group d) i Break k z l = (omega arith, none, omega arith)
-  step_at_most (Group d) i Flat k z l = (omega arith, none, omega arith)
-  step_at_most (Union a b) i Break k z l =
-      union_at_most a b i (n * (probed a + probed b)) (decided_by_metrics o a st) (omega arith, omega arith, omega arith)
-  step_at_most (Union a b) i Flat k z l = (omega arith, none, omega arith)
-  step_at_most (PartialUnion a b) i Break k z l =
-      either_at_most a b i Break (size a + k) (n * (probed a + probed b + 1)) (probe o a i Break rest st)
-      (omega arith, omega arith, omega arith)
-  step_at_most (PartialUnion a b) i Flat k z l = (omega arith, none, omega arith)
-  step_at_most (OnColumn test a b) i m k z l =
-      either_at_most a b i m 0 (n * (probed a + probed b)) (column_holds test (prospective st.column) i)
-      (omega arith, omega arith, omega arith)
-  step_at_most (OnNesting test a b) i m k z l =
-      either_at_most a b i m 0 (n * (probed a + probed b)) (nesting_holds test i) (omega arith, omega arith, omega arith)
+  step_at_most : (d : Tree) (i : ℕ) (m : Mode) → suffix_depth d ≡ 0 → size d + nodes ts ≤ n
+      → StepAtMost n (asked d m (nodes ts)) (n * probed d) (step_of o d i m (follow ts) st)
+  step_at_most Nil i m z l = (refl, none, omega arith)
+  step_at_most Fail i m z l = tt
+  step_at_most (Text s) i m z l = text_at_most (length s) s
+  step_at_most (TextWithLen w s) i m z l = text_at_most w s
+  step_at_most (MultilineText s) i Break z l = (refl, none, omega arith)
+  step_at_most (MultilineText s) i Flat z l = tt
+  step_at_most WeakSpace i m z l = (refl, none, omega arith)
+  step_at_most HardLine i Break z l = break_at_most st.pending HardLine i Break none
+  step_at_most HardLine i Flat z l = tt
+  step_at_most WeakLine i m z l = break_at_most st.pending WeakLine i m none
+  step_at_most (Append a b) i m z l = (omega arith, none, omega arith)
+  step_at_most (LineSuffix d) i m z l = absurd (omega arith)
+  step_at_most (Nest j d) i m z l = (omega arith, none, omega arith)
+  step_at_most (DedentToRoot d) i m z l = (omega arith, none, omega arith)
+  step_at_most (Align d) i m z l = (omega arith, none, omega arith)
+  step_at_most ExpandParent i m z l = (refl, none, omega arith)
+  step_at_most (Flatten d) i m z l = (omega arith, none, omega arith)
+  step_at_most (BreakOrFlat b f) i Break z l = (omega arith, none, omega arith)
+  step_at_most (BreakOrFlat b f) i Flat z l = (omega arith, none, omega arith)
+  step_at_most (Group d) i Break z l = (omega arith, none, omega arith)
+  step_at_most (Group d) i Flat z l = (omega arith, none, omega arith)
+  step_at_most (Union a b) i Break z l = union_at_most a b i (decided_by_metrics o a st) (omega arith)
+  step_at_most (Union a b) i Flat z l = (omega arith, none, omega arith)
+  step_at_most (PartialUnion a b) i Break z l =
+      let e = either_at_most n a b i Break (probe o a i Break (follow ts) st) (omega arith) in
+      (e.0, none, omega (arith, e.1))
+  step_at_most (PartialUnion a b) i Flat z l = (omega arith, none, omega arith)
+  step_at_most (OnColumn test a b) i m z l =
+      let e = either_at_most n a b i m (column_holds test (prospective st.column) i) (omega arith) in
+      (e.0, none, omega (arith, e.1))
+  step_at_most (OnNesting test a b) i m z l =
+      let e = either_at_most n a b i m (nesting_holds test i) (omega arith) in
+      (e.0, none, omega (arith, e.1))
 
 suffixes-append : (ts us : List Task) → suffix_depths (ts ++ us) ≡ suffix_depths ts + suffix_depths us
 suffixes-append [] us = omega arith
@@ -154,7 +159,7 @@ Stepped o t ts st step =
 stepped : (o : RenderOptions) (t : Task) (ts : List Task) (st : State) → NoSuffix (t ∷ ts) st → Stepped o t ts st (step_at o t ts st)
 stepped o t ts st plain = (
   step_less_visits o t.tree t.indent t.mode (follow ts) st,
-  λ n l. step_at_most o (follow ts) st n plain.1 t.tree t.indent t.mode (nodes ts) (omega (arith, plain.0)) l,
+  λ n l. step_at_most o ts st n plain.1 t.tree t.indent t.mode (omega (arith, plain.0)) l,
 )
 
 pub went_at_most : {o : RenderOptions} {t : Task} {ts : List Task} {st : State} {v w : Visits} (us : List Task) (u : State) (bytes : List ℕ)
