@@ -164,10 +164,10 @@ goes_down {N} f {a} {t} {s} {v} p q x i m n h one probes shows =
       most = omega (arith, h.most, one.more.printer, fewer, k.heavy);
       at_most = λ plain.
           let y = h.at_most plain in
-          let z = went_at_most o t ts us st u [] b.visits x one.more y.0 k.leads in
+          let z = went_at_most us u [] one.more y.0 k.leads in
           (z.0, at_most_then y.1 z.1);
       at_least = λ j l. at_least_then (h.at_least j l)
-          (went_at_least o j t ts us st u [] b.visits x laid (omega (arith, l, h.long)) k.leads);
+          (went_at_least o j ts us st u [] laid (omega (arith, l, h.long)) k.leads);
     }
 
 -- a turn is from where it began

@@ -9,7 +9,7 @@ use Rattle.prettyless_printer.specs.declared.answer.RunResult.{RunResult}
 use Rattle.prettyless_printer.specs.declared.answer.RunResult.TheVariants as run_result
 use Rattle.prettyless_printer.specs.Points.{Standing, state_at, Seen, Point}
 use Rattle.prettyless_printer.specs.Visits.{Plain}
-use Rattle.prettyless_printer.specs.Open.{Held, Opens, seconds}
+use Rattle.prettyless_printer.specs.Open.{BeginsTrial, Held, Opens, seconds}
 use Rattle.prettyless_printer.specs.Paths.{Chooses, Path, Waiting, run_of}
 use Rattle.prettyless_printer.specs.Renders.{Continues, WorksOff}
 use Rattle.prettyless_printer.specs.Runs.{ComesInChoice}
@@ -65,14 +65,13 @@ waiting_spends {has} {limit} {a} {b} {start} {c} {i} {x} {y} waiting plain h k =
     spends_on waiting.options h (k (plain_waiting waiting plain))
 
 -- the trial of a choice is opened, and no other one is open
-pub opens_spends : {N : Type 0} (r : Rule) (f : N → Tree) (p q : Standing) {s : Seen} (us vs : List Held) (i : ℕ) (x : Tree) (y : N)
-    (v : Visits) → us ≡ [] → Opens f i (f y) p s us vs → q.tasks ≡ make_task i Break x ∷ p.tasks → q.queue ≡ p.queue →
-    Spends r (left_choice i x (f y) p v) (left q (seconds vs) v)
-opens_spends {N} r f p q {s} us vs i x y v none opens e h =
-    spends_more f p q us vs i x y opens e h
-    (subst (λ (z : List Held). Spends r (left_choice i x (f y) p v)
-    (record (left p (seconds z) v) { tasks = make_task i Break x ∷ make_task i Break (f y) ∷ p.tasks })) (sym none)
-    (spends_same r (left_choice i x (f y) p v)))
+pub opens_spends : {N : Type 0} {r : Rule} {f : N → Tree} {p q : Standing} {s : Seen} {us vs : List Held} {i : ℕ} {x y : Tree} {v : Visits}
+    → us ≡ [] → Opens f i y p s us vs → BeginsTrial i x p q → q.queue ≡ p.queue → Spends r (left_choice i x y p v) (left q (seconds vs) v)
+opens_spends {N} {r} {f} {p} {q} {s} {us} {vs} {i} {x} {y} {v} none opens begins h =
+    spends_more opens begins h
+    (subst (λ (z : List Held). Spends r (left_choice i x y p v)
+    (record (left p (seconds z) v) { tasks = make_task i Break x ∷ make_task i Break y ∷ p.tasks })) (sym none)
+    (spends_same r (left_choice i x y p v)))
 
 -- without line suffixes nothing is pending where the commands are worked off
 pub nothing_pending : {A E : Type 0} (fails : E → Type 0) {a b c : Point} (x : A) → Continues a b → Plain a.printer

@@ -88,8 +88,7 @@ returns-in-Shift-clause-runs g c = λ a h.
     let came = came_in_choice a here (all_held f us) (buffer_seen c.args.buffer.now) some h in
     let settled = (rw c.in-Shift.is at c.in_ok-go_on_choosing.ensures.settles) came.indent came.first came.second came.at came.choice in
     record {
-      comes = comes_in_choice a came.c came.at next (all_held f c.go_on_choosing.new.trials.open.items)
-          (buffer_seen c.go_on_choosing.new.buffer) came.indent came.first came.second came.continues came.waiting settled.0;
+      comes = comes_in_choice came.continues came.waiting settled.0;
       past = settled.1;
     }
 
