@@ -30,7 +30,7 @@ const LETTER: &str =
 // A document as the reader takes it, and what is visited of it.
 #[rattlefmt::skip]
 const CASES: &[(&str, Visited)] = &[
-    // A group asks one probe, which ends at the first text past the width.
+    // A group starts one probe, which ends at the first text past the width.
     (PAIR, Visited { width: 80, printer: 7, probes: 6, fails: false }),
     (PAIR, Visited { width: 2, printer: 7, probes: 6, fails: false }),
     (PAIR, Visited { width: 1, printer: 7, probes: 5, fails: false }),
