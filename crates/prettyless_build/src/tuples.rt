@@ -13,7 +13,7 @@ use crate::pretty::Pretty;
 use prettyless_doc::{BuildError, DocPlace};
 
 // What was made in front, and then the last, appended: also where the front failed, the last is made. Each tuple calls
-// the shorter one by itself, since to hand that on as a parameter costs a proof of what it is.
+// the shorter one by itself, since to pass that as a parameter costs a proof of what it is.
 #[inline]
 fn then<'a, D: DocPlace<'a>, Y: Pretty<'a, D>>(
     allocator: &'a D,

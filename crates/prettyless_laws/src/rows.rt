@@ -106,7 +106,7 @@ pub fn texts()
     ensures late_after_space { ShowsItems 80 noted (text_item "a" ∷ spaced ∷ late_item "//" ∷ []) (codes "a //") }
     ensures late_in_late { ShowsNothing (LineSuffix (LineSuffix (row_text "x"))) }
 
-    // What is there by some alternatives alone is a mark.
+    // What is there by some alternatives alone is an optional text.
     ensures mark_left_out { ShowsItems 80 one_number one_number_items (codes "(1)") }
     ensures mark_set { ShowsItems 1 one_number one_number_items (codes "(\n1,\n)") }
     ensures first_of_two { ShowsItems 80 either_number (Mark (codes "12") ∷ Mark (codes "1") ∷ []) (codes "12") }

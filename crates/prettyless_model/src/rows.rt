@@ -149,7 +149,7 @@ pub fn alternatives()
         ≡ Whole (codes "z\r\nw") }
 {}
 
-/// A choice by column looks at where the next content would begin, one by nesting at the indent, in both modes. A probe
+/// A choice by column tests where the next content would begin, one by nesting the indent, in both modes. A probe
 /// takes the document that the layout takes.
 pub fn choices()
     ensures hung_on_one_line { IsLaidAs 70 binding (codes "let x = \\y -> y") }
@@ -167,7 +167,7 @@ pub fn choices()
     ensures in_group { IsLaidAs 80 letter_in_group (codes "a c") }
 {}
 
-/// A document fails after what is before the node that fails. A branch that fails is not kept, and what is not laid does
+/// A document fails after what is before the node that fails. A branch that fails is rejected, and what is not laid does
 /// not fail.
 pub fn failures()
     ensures at_once { Fails 80 (Group Fail) [] }
@@ -193,8 +193,8 @@ pub fn contents()
     ensures by_no_word { (w : List ℕ) → spells (Union (row_text "a") (row_text "b")) w → ⊥ }
 {}
 
-/// What layouts count: the nodes that they lay, and the probes that they ask. A tree has so many nodes, of which so many
-/// ask a probe.
+/// What layouts count: the nodes that they lay, and the probes that they need. A tree has so many nodes, of which so many
+/// need a probe.
 pub fn counts()
     ensures pair_nodes { size (pair "a" "b") ≡ 8 }
     ensures pair_probed { probed (pair "a" "b") ≡ 1 }

@@ -169,14 +169,14 @@ advances_chosen {N} {E} f {a} {t} {s} {v} {x} {i} {l} {r} p q h one probes shows
     subst (λ (z : Standing). Advances {N = N} {E = E} f a (point_at z s x) (Ok (turn_result.Choice i l r))) (sym k.1)
     (chosen_here h one probes k.0)
 
--- what broke off has counted no more than the tasks allow
+-- what ended in an error has counted no more than the tasks allow
 broke_at_most : {a : Point} {t : Task} {b : Point} {x : Visits} → InHand a t b → Visit a.printer.options t b x → Plain a.printer
     → CountsAtMost a.printer.tasks [] a.visits x
 broke_at_most {a} {t} {b} {x} h one plain =
     at_most_all (at_most_then (h.at_most plain).1
     (failed_at_most one.more))
 
--- what was written before a task in hand is a beginning of each whole
+-- what was written before the current task is a beginning of each whole
 hand_beginning : {a : Point} {t : Task} {b : Point} {out : List ℕ} → InHand a t b
     → ForWholes a.printer out (λ whole limit below old. AppendsBeginning old out (bytes_before whole))
 hand_beginning {a} {t} {b} {out} h = λ whole limit below old l m.

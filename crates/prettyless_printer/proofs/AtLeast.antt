@@ -232,7 +232,7 @@ pub at_least_rise : {a b : Weight → ℕ} {v w : Visits} → Rise v w → ((k :
 at_least_rise {a} {b} {v} {w} r h =
     record { printer = omega (arith, h each_node, r.printer); probes = omega (arith, h each_probe, r.probes) }
 
--- one node was counted, and the probe that it asks
+-- one node was counted, and the probe that it needs
 pub record OneLaid (t : Task) (v w : Visits) : Type 0 where
   pub printer : rise v.printer ≤ w.printer
   pub probes : RisesBy (each_probe t.tree t.mode) v.probes w.probes
@@ -250,7 +250,7 @@ stack_counts p n o ts st w e h k =
     ap (λ (x : RenderOptions). tally_above x n p.tasks (state_at p) w) e
     ∙ ap (λ (x : List Task). tally_above o n x (state_at p) w) h ∙ ap (λ (x : State). tally_above o n ts x w) k
 
--- a step of the node in hand
+-- a step of the current node
 pub went_at_least : {t : Task} {v w : Visits} (o : RenderOptions) (n : ℕ) (ts us : List Task) (st u : State) (bytes : List ℕ)
     → OneLaid t v w → n ≤ length ts → Leads (step_at o t ts st) ts bytes us u →
     CountsAtLeast (tally_above o n (t ∷ ts) st) (tally_above o n us u) v w

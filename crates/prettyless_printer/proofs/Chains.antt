@@ -65,7 +65,7 @@ chain_last u [] o t last h = subst (λ (x : Attempt). Last u.mark.commands x) (s
 chain_last u (v ∷ us) o t last h =
     chain_last v us h.0 t (first_last h.1.holds.marked) h.2
 
--- what broke off inside broke off outside
+-- what ended in an error inside did so outside
 broke_outside : (o c : Attempt) (y : Tree) (b : Point) → AtChoice o c.indent c.branch y c.start → TrialBroke c b → TrialBroke o b
 broke_outside o c y b choice broke = record {
   rise = rise_then choice.waiting.rise broke.rise;
@@ -79,7 +79,7 @@ chain_broke : (o : Attempt) (us : List Held) (t : Attempt) (b : Point) → Chain
 chain_broke o [] t b h broke = subst (λ (x : Attempt). TrialBroke x b) h broke
 chain_broke o (u ∷ us) t b h broke = broke_outside o h.0 u.second b h.1.choice (chain_broke h.0 us t b h.2 broke)
 
--- it broke off wherever as much was visited
+-- it ended in an error wherever as much was visited
 pub broke_at : {t : Attempt} {b c : Point} → c.visits ≡ b.visits → TrialBroke t b → TrialBroke t c
 broke_at {t} {b} {c} e h =
     subst (λ (v : Visits). TrialBroke t (point_at c.printer c.sink v)) (sym e) (record { rise = h.rise; at_most = h.at_most })
@@ -131,14 +131,14 @@ module _ {N E : Type 0} {f : N → Tree} {s : Attempt} {y : Tree} {a b : Point} 
       let k = h.trials in
       record { holds = k.holds; trial = k.trial; chain = k.chain; on = h.courses k.trial k.on }
 
-  -- it broke off
+  -- it ended in an error
   pub open_broke : {us : List Held} {e : E} → Took f s y us a b (Err e) → TrialBroke s b
   open_broke {us = []} h = absurd h.trials
   open_broke {us = u ∷ us} h =
       let k = h.trials in
       chain_broke s us k.trial b k.chain (h.courses k.trial k.on)
 
-  -- it was taken back, and its second branch was refused memory
+  -- it was undone, and its second branch was refused memory
   pub open_fallen_broke : {us : List Held} → Took {E = E} f s y us a b (Ok trial_state.Rejected) → TrialBroke s b
   open_fallen_broke {us = []} h = absurd h.trials
   open_fallen_broke {us = u ∷ us} h =
@@ -222,14 +222,14 @@ pub open_kept : {N E : Type 0} {f : N → Tree} {s : Attempt} {y : Tree} {a b : 
 open_kept {N} {E} {f} {s} {y} {a} {b} {us} {r} vs u popped h =
     kept_split vs u (subst (λ (z : List Held). Took {E = E} f s y z a b (Ok trial_state.Complete)) popped h)
 
--- # A trial that is taken back
+-- # A trial that is undone
 
--- what becomes of open trials where the innermost one is taken back, and its second branch comes next
+-- what becomes of open trials where the innermost one is undone, and its second branch comes next
 abbrev pub GoesOnSecond : Type 0 → Attempt → Tree → List Held → Point → Type 0
 GoesOnSecond E s y [] b = ComesSecond E s y b
 GoesOnSecond E s y (u ∷ us) b = Open s y (u ∷ us) b
 
--- the innermost one is taken back, and its second branch comes next
+-- the innermost one is undone, and its second branch comes next
 other_split : {N E : Type 0} {f : N → Tree} {s : Attempt} {y : Tree} {a b : Point} {q : Standing} {w : Seen} (vs : List Held) (u : Held)
     (r : Standing) → Took {E = E} f s y (vs ++ u ∷ []) a b (Ok trial_state.Rejected) → Restores u.mark b.printer r
     → CutBack u.mark b.sink w → Pushed (make_task u.indent Break u.second) r q → GoesOnSecond E s y vs (point_at q w b.visits)
@@ -287,7 +287,7 @@ innermost_split s y {a} [] u h =
     record { trial = h.trial; marked = subst (λ (x : Attempt). Marked u.mark x.start) (sym h.chain) h.holds.marked; on = h.on }
 innermost_split s y {a} (v ∷ vs) u h = record { trial = h.trial; marked = (chain_pop s vs u h.trial h.chain).link.holds.marked; on = h.on }
 
--- A point at which the innermost trial, of which this is held, is not kept.
+-- A point at which the innermost trial, of which this is held, is rejected.
 pub record Fell (u : Held) (b : Point) : Type 0 where
   pub trial : Attempt
   pub marked : Marked u.mark trial.start
@@ -307,7 +307,7 @@ pub open_some : (s : Attempt) (y : Tree) (a : Point) (us : List Held) → Open s
 open_some s y a [] h = absurd h
 open_some s y a (u ∷ us) h = omega arith
 
--- what is kept, or taken back, goes on while a trial is open
+-- what is kept, or undone, goes on while a trial is open
 pub keeps_open : (E : Type 0) (s : Attempt) (y : Tree) (b : Point) (us : List Held) → 0 < length us → KeepsOn E s y us b → Open s y us b
 keeps_open E s y b [] some h = absurd (omega (arith, some))
 keeps_open E s y b (u ∷ us) some h = h
@@ -346,7 +346,7 @@ all_held-push {N} f us vs u e = ap (all_held f) e ∙ map-append (held f) vs (u 
 pub length-all_held : {N : Type 0} (f : N → Tree) (us : List (OpenTrial N)) → length (all_held f us) ≡ length us
 length-all_held {N} f us = length-map us (held f)
 
--- want of memory ends open trials wherever as much was visited
+-- a refusal of memory ends open trials wherever as much was visited
 pub ends_broke : (E : Type 0) (limit : ℕ) (s : Attempt) (y : Tree) {b : Point} (us : List Held) (r : Result TrialResult E) → IsErr r
     → TrialBroke s b → Ends limit s y b us r
 ends_broke E limit s y {b} us (Ok x) e h = cc

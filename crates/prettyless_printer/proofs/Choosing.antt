@@ -54,7 +54,7 @@ chooses_unwritten {A} {E} {D} {i} {x} {y} {a} {c} {s} {t} {out} {z} empty tries 
           ));
     }
 
--- it is not kept, and the second one comes next
+-- it is rejected, and the second one comes next
 pub chooses_other : {A E D : Type 0} {i : ℕ} {x y : Tree} {a c : Point} {s t : Seen} {z : A} →
     ComesSecond D (attempt (point_at a.printer s a.visits) i x) y (point_at c.printer t c.visits) → c.sink ≡ a.sink
     → Chooses {A = A} {E = E} i x y a c (Ok z)

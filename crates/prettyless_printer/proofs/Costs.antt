@@ -199,7 +199,7 @@ module _ {N E : Type 0} {f : N → Tree} {s : Attempt} {y : Tree} {a b : Point} 
         pow_one (second_work a.printer u),
       )
 
-  -- an inner trial is taken back
+  -- an inner trial is undone
   other_split : (vs : List Held) (u : Held) (r : Standing) (c : Point) → 0 < length vs
       → Took {E = E} f s y (vs ++ u ∷ []) a b (Ok trial_state.Rejected) → Restores u.mark b.printer r
       → Pushed (make_task u.indent Break u.second) r c.printer → left_at c vs < left_at a (vs ++ u ∷ [])

@@ -37,7 +37,7 @@ use Rattle.prettyless_printer.proofs.Turnings.{lessens, sink_broke, went}
 use Rattle.prettyless_printer.proofs.Visits.{OneMore, at_most_all, at_most_then, failed_at_most, rise_then, went_at_most}
 use Rattle.prettyless_printer.proofs.AtLeast.{OneLaid, at_least_then, went_at_least}
 
--- A task that asks no probe was visited, once.
+-- A task that needs no probe was visited, once.
 pub record Once (t : Task) (v x : Visits) : Type 0 where
   pub least : rise v.printer ≤ x.printer
   pub rises : v.printer ≤ x.printer
@@ -63,7 +63,7 @@ pub record LeadsOn (a : Point) (t : Task) (us : List Task) (b : Point) (vs : Lis
       (vs ++ b.printer.tasks) (state_at q)
   pub fewer : nodes vs + 1 ≤ size t.tree + nodes us
 
--- below the tasks in hand are no fewer than below the next task where the turn began
+-- below the current tasks are no fewer than below the next task where the turn began
 below_long : (us ts : List Task) (n m : ℕ) → n < m → m ≤ length ts + 1 → n ≤ length (us ++ ts)
 below_long us ts n m l h = omega (arith, l, h, length-append us ts)
 
@@ -131,7 +131,7 @@ laying_done {N} {E} f {a} {b} h = record {
       b.visits) (sym h.options) (h.at_least n l);
 }
 
--- what broke off at a task has counted no more than the tasks allow
+-- what ended in an error at a task has counted no more than the tasks allow
 laying_broke : {a : Point} {t : Task} {us : List Task} {b : Point} {x : Visits} → Laying a (t ∷ us) b → Once t b.visits x →
     Plain a.printer → CountsAtMost a.printer.tasks [] a.visits x
 laying_broke {a} {t} {us} {b} {x} h once plain =

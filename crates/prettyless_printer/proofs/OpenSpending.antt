@@ -83,7 +83,7 @@ open_spends {has} {limit} {s} {y} {us} {vs} {a} {b} {start} {ts} {q} {w} between
     (record (on_tasks ts q w) { seconds = seconds vs })) same
     (spends_beside (seconds vs) (k (open_plain s y b vs between.now between.plain))))
 
--- what broke off has nothing left
+-- what ended in an error has nothing left
 pub spends_broke_as : {A E : Type 0} {r : Rule} {a : Left} (b : Left) (result : Result A E) → IsErr result → Spends r a (none_left b.visits)
     → SpendsAs r a b result
 spends_broke_as {A} {E} {r} {a} b (Ok x) e h = cc
@@ -161,7 +161,7 @@ back_leaves {ts} {i} {d} p q above ds v e h queue = record {
 take_none : (n : ℕ) (xs : List Tree) → xs ≡ [] → take n xs ≡ []
 take_none n xs e = ap (take n) e ∙ take-nil n
 
--- the innermost trial is taken back, and its second branch comes next
+-- the innermost trial is undone, and its second branch comes next
 pub spends_back : {r : Rule} {a : Left} {b : Point} {us : List Held} {q : Standing} {v : Visits} (p : Standing) (vs : List Held) (u : Held)
     → us ≡ vs ++ u ∷ [] → Fell u b → Restores u.mark b.printer p → Pushed (make_task u.indent Break u.second) p q → q.queue ≡ p.queue →
     Spends r a (left b.printer (seconds us) v) → Spends r a (left q (seconds vs) v)

@@ -139,7 +139,7 @@ comes_to_wait {N} {E} f {r} {a} {b} i x y p l h long = record {
   at_least = at_least_then p.at_least (h.at_least (length r.below) l);
 }
 
--- a turn that broke off
+-- a turn that ended in an error
 pub breaks_off : {N E : Type 0} (f : N → Tree) (fails : E → Type 0) {r : Run} {a b : Point} (e : RenderError E) → Path r a
     → length r.below < length a.printer.tasks →
     Advances {N = N} {E = E} f a b (Err e) → Broke fails r e b
@@ -232,7 +232,7 @@ goes_on_kept {E} {r} {b} {c} {s} {t} {i} {x} {y} w tries lender wrote =
       at_least = at_least_then w.at_least (kept_at_least y (length r.below) tries);
     }
 
--- the first branch is not kept, and the second one comes next
+-- the first branch is rejected, and the second one comes next
 pub goes_on_other : {E : Type 0} {r : Run} {b c : Point} {q : Standing} {s t : Seen} {i : ℕ} {x y : Tree} → Waiting r i x y b →
     Tries {E = E} i x (point_at b.printer s b.visits) (point_at q t c.visits) (Ok false) → Pushed (make_task i Break y) q c.printer
     → c.sink.lender ≡ b.sink.lender →
@@ -372,7 +372,7 @@ run_ends {A} {E} fails {a} {b} x p l = record {
   at_least = at_least_end b.printer 0 l p.at_least;
 }
 
--- what breaks off where no document fails, breaks off where some may
+-- what ends in an error where no document fails, does so where some may
 pub broke_anyhow : {E : Type 0} (fails : E → Type 0) {r : Run} {b : Point} (e : RenderError E) → Broke (λ _. ⊥) r e b → Broke fails r e b
 broke_anyhow {E} fails {r} {b} (Document e) h = record {
   same_lender = h.same_lender;
@@ -383,7 +383,7 @@ broke_anyhow {E} fails {r} {b} (Document e) h = record {
 broke_anyhow {E} fails {r} {b} (Sink e) h = record { same_lender = h.same_lender; bytes = h.bytes; rise = h.rise; at_most = h.at_most }
 broke_anyhow {E} fails {r} {b} (Memory e) h = record { same_lender = h.same_lender; bytes = h.bytes; rise = h.rise; at_most = h.at_most }
 
--- it broke off
+-- it ended in an error
 pub run_broke_off : {A E : Type 0} (fails : E → Type 0) {a b : Point} (e : RenderError E) → Broke fails (run_of a) e b
     → WorksOff {A = A} {E = E} fails a b (Err e)
 run_broke_off {A} {E} fails {a} {b} e h = record {

@@ -138,7 +138,7 @@ module _ {o : RenderOptions} {whole : Outcome} {limit : ℕ} {below : List Task}
     bound = omega (arith, l, p.bound);
   }
 
-  -- a choice whose first branch is not kept
+  -- a choice whose first branch is rejected
   pub waits_other : {i : ℕ} {x y : Tree} → Waits o whole limit below old i x y stack st out
       → ((other : Outcome) → accept o st.within (lay o (settle o) x i Break (follow stack) (tried st)) other ≡ other)
       → Inside o whole limit below old (make_task i Break y ∷ stack) st out

@@ -53,7 +53,7 @@ finishing_beginning {whole} {p} {old} {out} {new} h q =
       q.3 ∙ ap (λ (x : List ℕ). x ++ q.0) h.out_is ∙ append_assoc old h.bytes q.0,
     )
 
--- the commands broke off
+-- the commands ended in an error
 pub finishing_stopped : (A : Type 0) {E : Type 0} {whole : Outcome} {p : Standing} {old out : List ℕ} {n k : ℕ} (fails : E → Type 0)
     (new : List ℕ) (m : ℕ) (e : RenderError E) → Finishing whole p old out → k ≡ n → Stopped fails (rest_of p) out new k m e →
     Rendered {A = A} fails (bytes_of whole) old new n m (Err e)
@@ -67,7 +67,7 @@ finishing_stopped A {E} {whole} {p} {old} {out} fails new m (Document e) h a q =
 finishing_stopped A {E} {whole} {p} {old} {out} fails new m (Sink e) h a q = (finishing_beginning h q.0, q.1 ∙ ap rise a)
 finishing_stopped A {E} {whole} {p} {old} {out} fails new m (Memory e) h a q = (finishing_beginning h q.0, q.1 ∙ a)
 
--- the commands are worked off: what is left is the end
+-- the commands are laid: what is left is the end
 pub record Ending (whole : Outcome) (o : RenderOptions) (q : Standing) (old new : List ℕ) : Type 0 where
   pub bytes : List ℕ
   pub new_is : new ≡ old ++ bytes
@@ -129,7 +129,7 @@ ending_again {A} {E} {whole} {o} {q} {r} {s} {t} {old} {new} {out} {y} h same k 
           ∙ ap (after_bytes h.bytes) (sym (round o (settle o) (settle_end o) st.pending st l)) ∙ h.same;
     }
 
--- the gap before them broke off
+-- the gap before them ended in an error
 pub ending_stopped : (A : Type 0) {E : Type 0} {whole : Outcome} {o : RenderOptions} {q : Standing} {old new : List ℕ} {n k : ℕ}
     (fails : E → Type 0) (last : List ℕ) (m : ℕ) (e : RenderError E) → Ending whole o q old new → 0 < length (state_at q).pending → k ≡ n →
     Flushed {A = A} q new last k m (Err e) → Rendered {A = A} fails (bytes_of whole) old last n m (Err e)

@@ -194,7 +194,7 @@ path_continues {a} {b} p = record {
   at_least = p.at_least;
 }
 
--- the commands broke off
+-- the commands ended in an error
 pub work_stopped : {A B E : Type 0} (fails : E → Type 0) {a b : Point} (e : RenderError E) → WorksOff {A = A} fails a b (Err e)
     → RunsToEnd {A = B} fails a b (Err e)
 work_stopped {A} {B} {E} fails {a} {b} e h = record {
@@ -215,7 +215,7 @@ work_ending : {A E : Type 0} (fails : E → Type 0) {a b : Point} (x : A) → Wo
 work_ending {A} {E} fails {a} {b} x h z =
     finishing_ends (finishing_begins a.printer (known a.sink.bytes)) z.1 z.2
 
--- the commands are worked off, and nothing waits: that is all
+-- the commands are laid, and nothing waits: that is all
 pub work_ends : {A B E : Type 0} (fails : E → Type 0) {a b : Point} (x : A) (y : B) → WorksOff fails a b (Ok x)
     → length (state_at b.printer).pending ≤ 0 → RunsToEnd fails a b (Ok y)
 work_ends {A} {B} {E} fails {a} {b} x y h none = record {
@@ -252,7 +252,7 @@ round_continues {A} {B} {E} fails {a} {b} {q} {t} x y h k some = record {
   at_least = at_least_at (λ k. omega arith) (λ k. omega arith) h.at_least;
 }
 
--- the gap before what waits broke off
+-- the gap before what waits ended in an error
 pub round_stopped : {A B C E : Type 0} (fails before : E → Type 0) {a b : Point} {q : Standing} {t : Seen} (x : A) (e : RenderError E)
     → WorksOff {A = A} {E = E} before a b (Ok x) → FlushesEnd {A = B} {E = E} b.printer q b.sink t (Err e) →
     0 < length (state_at b.printer).pending → RunsToEnd {A = C} fails a (point_at q t b.visits) (Err e)
@@ -283,7 +283,7 @@ comes_alone a b us buffer none h = subst (λ (u : List Held). Comes a u buffer b
 pub came_alone : (a b : Point) (us : List Held) (buffer : Seen) → us ≡ [] → Comes a us buffer b → Continues a b
 came_alone a b us buffer none h = subst (λ (u : List Held). Comes a u buffer b) none h
 
--- it has come to a choice, whose trials are open
+-- it has reached a choice, whose trials are open
 pub comes_in_choice : {a c at b : Point} {us : List Held} {buffer : Seen} {i : ℕ} {x y : Tree} → Continues a c
     → Waiting (run_of c) i x y at → InChoice i x y at us buffer b → Comes a us buffer b
 comes_in_choice {us = []} h waiting choice = absurd choice.trials
@@ -326,7 +326,7 @@ pub choice_continues : {E : Type 0} {a c at b : Point} (i : ℕ) (x y : Tree) �
     → Chooses {A = RunResult} {E = E} i x y at b (Ok run_result.Finished) → Continues a b
 choice_continues {E} {a} {c} {at} {b} i x y h waiting k = continues_then h (path_continues (k.runs (run_of c) waiting))
 
--- it broke off
+-- it ended in an error
 pub choice_stopped : {E : Type 0} (fails : E → Type 0) {a c at b : Point} (i : ℕ) (x y : Tree) (e : RenderError E) → Continues a c
     → Waiting (run_of c) i x y at → Chooses {A = RunResult} {E = E} i x y at b (Err e) → RunsToEnd {A = RunResult} fails a b (Err e)
 choice_stopped {E} fails {a} {c} {at} {b} i x y e h waiting k =

@@ -28,7 +28,7 @@ use Rattle.prettyless_printer.proofs.Standings.{Wrote, asks_there, put_in_hand, 
 use Rattle.prettyless_printer.proofs.Hands.{InHand, Visit}
 use Rattle.prettyless_printer.proofs.Visits.{NoSuffix, at_most_all, chosen_at_most, failed_at_most, went_at_most}
 
--- a node asks one probe at most
+-- a node needs one probe at most
 each_probe_one : (d : Tree) (m : Mode) → each_probe d m ≤ 1
 each_probe_one (Group d) Break = omega arith
 each_probe_one (Group d) Flat = omega arith
@@ -36,7 +36,7 @@ each_probe_one (PartialUnion l r) Break = omega arith
 each_probe_one (PartialUnion l r) Flat = omega arith
 each_probe_one _ m = omega arith
 
--- a probe that is asked within a limit visits no more nodes past it than are left
+-- a probe that is started within a limit visits no more nodes past it than are left
 capped_one : (d : Tree) (m : Mode) (k : ℕ) {limit v x : ℕ} → (0 < each_probe d m → v ≤ limit) → x ≤ v + asked d m k
     → Capped limit (size d + k) v x
 capped_one (Group d) Break k asks counted = λ most low high. omega (arith, counted, asks (omega arith))
@@ -83,7 +83,7 @@ spends_all {r} {a} {b} h = record {
   few = h.few;
 }
 
--- What one step visits: the node, and what its probe does, which is asked within the limit.
+-- What one step visits: the node, and what its probe does, which is started within the limit.
 pub record StepVisits (r : Rule) (t : Task) (ts : List Task) (v x : Visits) : Type 0 where
   pub asks : 0 < each_probe t.tree t.mode → v.probes ≤ r.limit
   pub least : rise v.printer ≤ x.printer
@@ -132,11 +132,11 @@ task_has o t ts st none h = step_has o t.tree t.indent t.mode (follow ts) st h.0
 
 -- # A turn
 
--- what is left with a task in hand
+-- what is left with a current task
 abbrev pub left_with : Task → Standing → Visits → Left
 left_with t p v = on_tasks (t ∷ p.tasks) p.queue v
 
--- A turn has come to a task in hand, and its step is about to be taken.
+-- A turn has reached a current task, and its step is about to be taken.
 pub record Takes {N : Type 0} (f : N → Tree) (r : Rule) (a : Point) (t : Task) (p : Printer N) (s : Seen) (v x : Visits) : Type 0 where
   pub hand : InHand a t (point f p s v)
   pub one : Visit a.printer.options t (point f p s v) x
@@ -168,7 +168,7 @@ same_queue : {N : Type 0} (f : N → Tree) (t : Task) (p q : Printer N) → NoSu
 same_queue {N} f t p q plain same none =
     ap (λ z. trees f z.nodes.items) (same (omega (arith, plain.0)) (waits_there f p ∙ ap some_pending plain.1)) ∙ none
 
--- the step leads to the next node in hand
+-- the step leads to the next node
 pub spends_down : {N : Type 0} (f : N → Tree) {r : Rule} {a : Point} {t : Task} {s : Seen} {v x : Visits} (p q : Printer N) (i : ℕ)
     (m : Mode) (n : N) → Takes f r a t p s v x → Plain a.printer →
     (suffix_depth t.tree ≡ 0 → some_pending (state_of f p).pending ≡ false → q.queue ≡ p.queue)
@@ -247,14 +247,14 @@ spends_broke {N} f {r} {a} {t} {s} {v} {x} p h plain =
     let counts = failed_at_most h.one.more in
     spends_then (h.spent plain) (step_spends h.visits (at_most_all counts) (λ g. tt) (λ e. refl))
 
--- the task in hand is the next one again
+-- the current task is the next one again
 pub spends_stopped : {r : Rule} {a : Left} (t : Task) (p : Standing) {v : Visits} (q : Standing) → q.tasks ≡ t ∷ p.tasks → q.queue ≡ p.queue
     → Spends r a (left_with t p v) → Spends r a (left q [] v)
 spends_stopped {r} {a} t p {v} q e h k =
     subst (λ (z : List Task). Spends r a (on_tasks z q.queue v)) (sym e)
     (subst (λ (z : List Tree). Spends r a (on_tasks (t ∷ p.tasks) z v)) (sym h) k)
 
--- the next command is in hand
+-- the next command is the current one
 pub spends_begun : (r : Rule) (a p : Standing) (t : Task) (v : Visits) → a.tasks ≡ t ∷ p.tasks → p.queue ≡ a.queue
     → Spends r (left a [] v) (left_with t p v)
 spends_begun r a p t v e h =

@@ -66,7 +66,7 @@ wrote {N} f step bytes p q h =
       grows = grows_stands f p q k.2;
     }
 
--- A step put a task in hand, above the others, and the stack has lost nothing.
+-- A step made a task the current one, above the others, and the stack has lost nothing.
 pub record PutInHand (t : Task) (step : Step) (p q : Standing) : Type 0 where
   pub leads : Leads step p.tasks [] (t ∷ q.tasks) (state_at q)
   pub state : state_at q ≡ state_at p

@@ -1,4 +1,4 @@
--- A trial as a run of its own: begun, gone on with, ended or taken back.
+-- A trial as a run of its own: begun, continued, ended or undone.
 use Rattle.std.proofs.Common.{◌≡◌, ℕ, ◌+◌, ◌*◌, ◌≤◌, ◌<◌, ◌∷◌, length, refl, ap, ◌∙◌, arith, subst, Ok, true, false, take}
 use Rattle.std.proofs.Common.{length-append, IsSome}
 use Rattle.prettyless_sink.specs.Sink.{known}
@@ -153,7 +153,7 @@ course_unfit {t} {below} {a} on l unfit =
       at_most = λ began. (path.at_most began).1;
     }
 
--- what fell, or waits for a choice, may break off
+-- what is rejected, or waits for a choice, may end in an error
 pub fallen_broke : {t : Attempt} {b : Point} → Fallen t b → TrialBroke t b
 fallen_broke {t} {b} h = record { rise = h.rise; at_most = λ began. at_most_all (h.at_most began) }
 
@@ -167,7 +167,7 @@ pub record CutBack (m : Mark) (s t : Seen) : Type 0 where
   pub failures : t.failures ≡ s.failures
   pub lender : t.lender ≡ s.lender
 
--- it is taken back
+-- it is undone
 pub trial_undone : {E : Type 0} {t : Attempt} {b : Point} {m : Mark} {s : Seen} (r : Standing) → Fallen t b
     → Marks m t.start.printer t.start.sink → Restores m b.printer r → CutBack m b.sink s →
     Tries {E = E} t.indent t.branch t.start (point_at r s b.visits) (Ok false)

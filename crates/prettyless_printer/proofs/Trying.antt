@@ -1,4 +1,4 @@
--- A trial: begun, on its way, kept or taken back.
+-- A trial: begun, on its way, kept or undone.
 use Rattle.std.proofs.Common.{◌≡◌, ℕ, ◌≤◌, List, [], ◌∷◌, ◌++◌, length, refl, ap, sym, ◌∙◌, append_assoc, append-nil, length-append, arith}
 use Rattle.std.proofs.Common.{Bool, true, false, ◌&&◌, subst, take, drop, if◌then◌else◌, Ok}
 use Rattle.std.specs.String.{string_bytes}
@@ -86,7 +86,7 @@ restored p q r m s e g h =
     let o : r.within ≡ p.within = h.4 ∙ e.within in
     λ j. record { column = c j; pending = a j; within = o j }
 
--- a trial that is taken back: what it wrote is cut off, and its outcome is not accepted
+-- a trial that is undone: what it wrote is cut off, and its outcome is not accepted
 pub trial_rejected : {t : Attempt} {b : Point} {m : Mark} (r : Standing) (new : List ℕ) → Fallen t b → Marks m t.start.printer t.start.sink
     → Restores m b.printer r → new ≡ take m.written (known b.sink.bytes) →
     TrialDid t.start.printer r t.indent t.branch (known t.start.sink.bytes) new false
@@ -169,7 +169,7 @@ module _ {E : Type 0} {o : RenderOptions} {whole : Outcome} {limit : ℕ} {below
             (waits_kept waits (k.2 (lay o (settle o) y j Break (follow q.tasks) (state_at q))) d.4),
       )
 
-  -- a choice, and its trial not kept: the second branch comes next
+  -- a choice, and its trial rejected: the second branch comes next
   pub choice_other : {q : Standing} → Tries {E = E} j x a b (Ok false)
       → Waits o whole limit below old j x y a.printer.tasks (state_at a.printer) out → a.printer.options ≡ o
       → Pushed (make_task j Break y) b.printer q

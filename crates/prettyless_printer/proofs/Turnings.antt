@@ -1,4 +1,4 @@
--- A turn: the node in hand is stepped, and its piece is written.
+-- A turn: the current node is stepped, and its piece is written.
 use Rattle.std.proofs.Common.{◌≡◌, ℕ, ◌+◌, ◌*◌, ◌≤◌, ◌<◌, List, ◌∷◌, ◌++◌, length, ap, sym, ◌∙◌, append_assoc, arith, subst}
 use Rattle.std.proofs.lemmas.List.{append_cancel_left}
 use Rattle.prettyless_sink.specs.Sink.{AppendsBeginning}

@@ -33,7 +33,7 @@ go_on_choosing-requires-clause-open g c =
     let came = came_in_choice c.requires.comes.0 here (all_held f us) (buffer_seen c.args.buffer.now) some c.requires.comes.1 in
     (came.indent, came.first, came.second, came.at, came.choice)
 
--- it broke off
+-- it ended in an error
 pub returns-in_err-go_on_choosing-clause-runs : goal.returns-in_err-go_on_choosing-clause-runs
 returns-in_err-go_on_choosing-clause-runs g c =
     let residual = err_from_is_err_and c.from_residual.result c.from_residual.ensures.1 in

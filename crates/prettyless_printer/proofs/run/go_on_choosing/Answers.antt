@@ -19,7 +19,7 @@ returns-in-Err-write_gap_and_text-clause-settles g c = λ i x y a h.
     chooses_unwritten h.empty ends.1 h.sink c.write_gap_and_text.ensures.same_lender
     (rw c.as_str.ensures.value at c.in-Err-write_gap_and_text.ensures.err)
 
--- it is not kept
+-- it is rejected
 pub returns-in-Ok-Rejected-clause-settles : goal.returns-in-Ok-Rejected-clause-settles
 returns-in-Ok-Rejected-clause-settles g c = λ i x y a h.
     let ends = (rw c.in-Ok-Rejected.field-0-is at c.in-Ok-Rejected.ensures.ends)

@@ -132,7 +132,7 @@ work-preserved-else-is_empty g c =
       summed = c.in_ok-advance.ensures.summed;
     }
 
--- the innermost one is not kept
+-- the innermost one is rejected
 pub take_back-requires-clause-mark : goal.take_back-requires-clause-mark
 take_back-requires-clause-mark g c =
     let f = g.N.Walk.tree in
@@ -164,7 +164,7 @@ returns-in_err-push-in-Rejected-clause-ends g c =
     (broke_at refl (open_fallen_broke (took AllocError f (c.work.invariant.trials s y h)
     (rw (c.in-Rejected.is, c.below.ensures) at c.in_ok-advance.ensures.courses))))
 
--- the outermost one is taken back
+-- the outermost one is undone
 pub returns-then-is_empty-2-clause-ends : goal.returns-then-is_empty-2-clause-ends
 returns-then-is_empty-2-clause-ends g c =
     let f = g.N.Walk.tree in
@@ -184,7 +184,7 @@ returns-then-is_empty-2-clause-ends g c =
           (pushed (standing f q) c.in_ok-push-in-Rejected.ensures.pushed refl refl refl)),
     )
 
--- an inner one is taken back
+-- an inner one is undone
 pub work-smaller-else-is_empty-2 : goal.work-smaller-else-is_empty-2
 work-smaller-else-is_empty-2 g c =
     let f = g.N.Walk.tree in
