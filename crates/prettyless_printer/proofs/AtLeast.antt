@@ -170,13 +170,10 @@ module _ (o : RenderOptions) (n : ℕ) (ts : List Task) (st : State) (w : Weight
   step_counts : (d : Tree) (i : ℕ) (m : Mode) →
       StepCounts o n ts st w (tally_with o n (make_task i m d) ts st w) (w d m) (step_of o d i m (follow ts) st)
   unfolding lay tally
-  step_counts Nil i m = omega arith
   step_counts Fail i m = tt
   step_counts (Text s) i m = at_once_counts (w (Text s) m) (lay_text o (length s) s st)
   step_counts (TextWithLen k s) i m = at_once_counts (w (TextWithLen k s) m) (lay_text o k s st)
-  step_counts (MultilineText s) i Break = omega arith
   step_counts (MultilineText s) i Flat = tt
-  step_counts WeakSpace i m = omega arith
   step_counts HardLine i Break =
       subst (λ (z : Outcome). StepCounts o n ts st w (w HardLine Break + counted_then z (λ u. tally_above o n ts u w)) (w HardLine Break)
       (break_step o st.pending HardLine i Break (follow ts) st))
@@ -193,11 +190,9 @@ module _ (o : RenderOptions) (n : ℕ) (ts : List Task) (st : State) (w : Weight
       let b = appended out (λ u. tally o r i m (follow ts) u w) (λ u. counted_then (lay o (settle o) r i m (follow ts) u) next)
       (λ u. tally_above o n (make_task i m r ∷ ts) u w) (λ u. above_is o n (make_task i m r) ts u w h) in
       omega (arith, a, b, above_is o n (make_task i m l) (make_task i m r ∷ ts) st w (omega (arith, h)))
-  step_counts (LineSuffix d) i m = omega arith
   step_counts (Nest k d) i m = omega (arith, first_is (make_task (nested i k) m d))
   step_counts (DedentToRoot d) i m = omega (arith, first_is (make_task 0 m d))
   step_counts (Align d) i m = omega (arith, first_is (make_task (prospective st.column) m d))
-  step_counts ExpandParent i m = omega arith
   step_counts (Flatten d) i m = omega (arith, first_is (make_task i Flat d))
   step_counts (BreakOrFlat b f) i Break = omega (arith, first_is (make_task i Break b))
   step_counts (BreakOrFlat b f) i Flat = omega (arith, first_is (make_task i Flat f))
@@ -211,6 +206,7 @@ module _ (o : RenderOptions) (n : ℕ) (ts : List Task) (st : State) (w : Weight
   step_counts (PartialUnion l r) i Flat = omega (arith, first_is (make_task i Flat l))
   step_counts (OnColumn test l r) i m = omega (arith, either_counts l r i m (column_holds test (prospective st.column) i))
   step_counts (OnNesting test l r) i m = omega (arith, either_counts l r i m (nesting_holds test i))
+  step_counts _ i m = omega arith
 
 -- # Counts in a row
 

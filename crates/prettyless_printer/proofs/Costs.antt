@@ -211,12 +211,11 @@ module _ {N E : Type 0} {f : N → Tree} {s : Attempt} {y : Tree} {a b : Point} 
       let fell = h.courses t k.on in
       let p = chain_pop s vs u t k.chain in
       let start = p.link.holds.marked in
-      let m = u.mark in
       let link = above_link p.trial u t (chain_last o vs s p.trial (first_last k.holds.marked) p.chain).is_known p.link in
       let tasks_r : r.tasks ≡ t.start.printer.tasks = back.0 fell.above t.start.printer.tasks fell.stack (sym start.marks.commands) in
       let state_r : state_at r ≡ state_at t.start.printer =
-      restored t.start.printer b.printer r m t.start.sink start.marks fell.grows back in
-      let queue_r = restored_queue t.start.printer b.printer r m t.start.sink start.marks fell.grows back in
+      restored b.printer r start.marks fell.grows back in
+      let queue_r = restored_queue b.printer r start.marks fell.grows back in
       let over_q : Above t.start.printer q = (
         make_task u.indent Break u.second ∷ [],
         pushed.tasks ∙ ap (λ (z : List Task). make_task u.indent Break u.second ∷ z) tasks_r,

@@ -23,7 +23,7 @@ use Rattle.prettyless_printer.proofs.PathSteps.{at_run, comes_to_wait, goes_on, 
 use Rattle.prettyless_printer.proofs.Progresses.{inside_past}
 use Rattle.prettyless_printer.proofs.Standings.{Flagged}
 use Rattle.prettyless_printer.proofs.Within.{accept_past}
-use Rattle.prettyless_printer.proofs.Trying.{padding_rejects, trial_ends, trying_begins, trial_rejected, trial_kept}
+use Rattle.prettyless_printer.proofs.Trying.{padding_decides, trial_ends, trying_begins, trial_rejected, trial_kept}
 use Rattle.prettyless_printer.proofs.Visits.{rise_same, at_most_all, at_most_same, at_most_at, at_most_cut}
 use Rattle.prettyless_printer.proofs.Visits.{plain_at, plain_push}
 use Rattle.prettyless_printer.proofs.AtLeast.{at_least_end, trial_begins}
@@ -146,7 +146,7 @@ course_unfit {t} {below} {a} on l unfit =
       bytes = e.1;
       wrote = e.2;
       failures = k.1.1;
-      rejected = padding_rejects p a.printer t.indent t.branch e.1 e.3 on.within
+      rejected = padding_decides p a.printer t.indent t.branch e.1 false e.3 on.within
           (subst (λ (o : RenderOptions). padding_fits o.width (some_pending (state_at a.printer).pending) a.printer.column ≡ false)
           path.options unfit);
       rise = path.rise;

@@ -68,20 +68,23 @@ pub pushed : {t : Task} {p : Standing} (q : Standing) → q.tasks ≡ t ∷ p.ta
     → q.options ≡ p.options → Pushed t p q
 pushed {t} {p} q e g h o = record { tasks = e; state = h; options = o; grows = ([], g ∙ sym (append-nil p.queue)) }
 
+-- # A trial that is taken back
+
 -- what was added since the mark is all that the queue has more
 pub queue_marked : (p q : Standing) (m : Mark) (s : Seen) → Marks m p s → QueueGrows p q → m.queue.len ≤ length q.queue
 queue_marked p q m s e g = omega (arith, e.queued, ap length g.1, length-append p.queue g.0)
 
-pub restored_queue : (p q r : Standing) (m : Mark) (s : Seen) → Marks m p s → QueueGrows p q → Restores m q r → r.queue ≡ p.queue
-restored_queue p q r m s e g h =
+pub restored_queue : {p : Standing} {m : Mark} {s : Seen} (q r : Standing) → Marks m p s → QueueGrows p q → Restores m q r
+    → r.queue ≡ p.queue
+restored_queue {p} {m} {s} q r e g h =
     h.1 ∙ ap (λ (x : ℕ). take x q.queue) (e.queued) ∙ ap (take (length p.queue)) g.1 ∙ take_at p.queue g.0 (length p.queue) refl
 
 -- the state is as before
-pub restored : (p q r : Standing) (m : Mark) (s : Seen) → Marks m p s → QueueGrows p q → Restores m q r → state_at r ≡ state_at p
-restored p q r m s e g h =
+pub restored : {p : Standing} {m : Mark} {s : Seen} (q r : Standing) → Marks m p s → QueueGrows p q → Restores m q r
+    → state_at r ≡ state_at p
+restored {p} {m} {s} q r e g h =
     let n : r.start ≡ p.start = h.2 ∙ e.start in
-    let k = restored_queue p q r m s e g h in
-    let a : drop r.start r.queue ≡ drop p.start p.queue = ap (λ (x : ℕ). drop x r.queue) n ∙ ap (drop p.start) k in
+    let a : drop r.start r.queue ≡ drop p.start p.queue = ap (λ (x : ℕ). drop x r.queue) n ∙ ap (drop p.start) (restored_queue q r e g h) in
     let c : r.column ≡ p.column = h.3 ∙ e.column in
     let o : r.within ≡ p.within = h.4 ∙ e.within in
     λ j. record { column = c j; pending = a j; within = o j }
@@ -93,14 +96,16 @@ pub trial_rejected : {t : Attempt} {b : Point} {m : Mark} (r : Standing) (new : 
 trial_rejected {t} {b} {m} r new fell marks back cut =
     let p = t.start.printer in
     let old = known t.start.sink.bytes in
-    let s : state_at r ≡ state_at p = restored p b.printer r m t.start.sink marks fell.grows back in (
+    let s : state_at r ≡ state_at p = restored b.printer r marks fell.grows back in (
       back.0 fell.above p.tasks fell.stack (sym marks.commands),
       back.5 ∙ fell.options,
-      ([], restored_queue p b.printer r m t.start.sink marks fell.grows back ∙ sym (append-nil p.queue)),
+      ([], restored_queue b.printer r marks fell.grows back ∙ sym (append-nil p.queue)),
       back.4 ∙ marks.within,
       omega (arith, ap (λ (x : State). owed x.pending) s),
       (cut ∙ ap (take m.written) fell.wrote ∙ take_at old fell.bytes m.written (sym marks.written), s, fell.rejected),
     )
+
+-- # A trial at its end
 
 none_above : (above below stack : List Task) → stack ≡ above ++ below → length stack ≤ length below → stack ≡ below
 none_above [] below stack e l = e
@@ -114,15 +119,15 @@ trial_ends p q i d old out y l =
     let z = inside_end y l in
     (none_above y.above p.tasks q.tasks y.stack_is l, z.0, z.1, z.2, z.3)
 
--- at its end the padding does not fit
-pub padding_rejects : (p q : Standing) (i : ℕ) (d : Tree) (bytes : List ℕ) → trial_of p i d ≡ Done bytes (state_at q) → q.within ≡ true →
-    padding_fits p.options.width (some_pending (state_at q).pending) q.column ≡ false → (other : Outcome)
-    → accept p.options p.within (trial_of p i d) other ≡ other
-padding_rejects p q i d bytes e w h other =
+-- where it is within the width, the padding decides
+pub padding_decides : (p q : Standing) (i : ℕ) (d : Tree) (bytes : List ℕ) (fits : Bool) → trial_of p i d ≡ Done bytes (state_at q)
+    → q.within ≡ true → padding_fits p.options.width (some_pending (state_at q).pending) q.column ≡ fits → (other : Outcome) →
+    accept p.options p.within (trial_of p i d) other
+    ≡ (if fits then Done bytes (record (state_at q) { within = p.within }) else other)
+padding_decides p q i d bytes fits e w h other =
+    let done : Bool → Outcome = λ v. if v then Done bytes (record (state_at q) { within = p.within }) else other in
     ap (λ (x : Outcome). accept p.options p.within x other) e
-    ∙ ap (λ (v : Bool). if v && padding_fits p.options.width (some_pending (state_at q).pending) q.column
-    then Done bytes (record { column = q.column; pending = (state_at q).pending; within = p.within }) else other) w
-    ∙ ap (λ (v : Bool). if v then Done bytes (record { column = q.column; pending = (state_at q).pending; within = p.within }) else other) h
+    ∙ ap (λ (v : Bool). done (v && padding_fits p.options.width (some_pending (state_at q).pending) q.column)) w ∙ ap done h
 
 -- a trial that is kept
 pub trial_kept : {t : Attempt} {b : Point} {r : Standing} → Lasts t b → Flagged t.start.printer.within b.printer r →
@@ -131,19 +136,21 @@ trial_kept {t} {b} {r} lasts kept =
     let p = t.start.printer in
     let q = b.printer in
     let path = lasts.path in
-    let z = trial_ends p q t.indent t.branch (known t.start.sink.bytes) (known b.sink.bytes) (path.bytes lasts.is_known).1.0 lasts.ended in
-    let done : Outcome → Bool → Outcome = λ other v. if v then Done z.1 (record (state_at q) { within = p.within }) else other in
-    let accepted : (other : Outcome) → accept p.options p.within (trial_of p t.indent t.branch) other ≡ Done z.1 (state_at r) = λ other.
-    ap (λ (x : Outcome). accept p.options p.within x other) z.3
-    ∙ ap (λ (v : Bool). done other (v && padding_fits p.options.width (some_pending (state_at q).pending) q.column)) lasts.within
-    ∙ ap (done other) lasts.fits ∙ ap (Done z.1) (sym kept.state) in (
+    let z = trial_ends p q t.indent t.branch (known t.start.sink.bytes) (known b.sink.bytes) (path.bytes lasts.is_known).1.0
+    lasts.ended in (
       kept.tasks ∙ z.0,
       kept.options ∙ path.options,
       begins-grows p.queue q r path.queue kept.grows,
       ap (λ (x : State). x.within) kept.state,
       omega (arith, z.4, ap (λ (x : State). owed x.pending) kept.state),
-      (z.1, z.2, accepted),
+      (
+        z.1,
+        z.2,
+        λ other. padding_decides p q t.indent t.branch z.1 true z.3 lasts.within lasts.fits other ∙ ap (Done z.1) (sym kept.state),
+      ),
     )
+
+-- # A choice
 
 -- what a trial decides, under options that are the same
 decides_at : (q r : Standing) (o : RenderOptions) (j : ℕ) (x : Tree) (kept : Bool) (old new : List ℕ) → q.options ≡ o →

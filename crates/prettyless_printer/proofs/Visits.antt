@@ -1,6 +1,6 @@
 -- The visits of a step, of a turn, and of turns in a row.
-use Rattle.std.proofs.Common.{◌≡◌, ℕ, ◌+◌, ◌-◌, ◌*◌, ◌^◌, ◌≤◌, ◌<◌, min, List, [], ◌∷◌, ◌++◌, arith, refl, ap, ◌∙◌, Bool, true, false, Option, Some, None}
-use Rattle.std.proofs.Common.{Result, Ok, Err, if◌then◌else◌, length}
+use Rattle.std.proofs.Common.{◌≡◌, ℕ, ◌+◌, ◌-◌, ◌*◌, ◌^◌, ◌≤◌, ◌<◌, min, List, [], ◌∷◌, ◌++◌, arith, refl, ap, ◌∙◌, Bool, true, false}
+use Rattle.std.proofs.Common.{Option, Some, None, Result, Ok, Err, if◌then◌else◌, length}
 use Rattle.prettyless_model.specs.declared.options.RenderOptions.{RenderOptions}
 use Rattle.prettyless_model.specs.declared.options.IndentationPolicy.{IndentationPolicy}
 use Rattle.prettyless_model.specs.declared.options.IndentationPolicy.TheVariants.{Eager, Deferred}
@@ -100,39 +100,29 @@ module _ (o : RenderOptions) (ts : List Task) (st : State) (n : ℕ) (none : st.
 
   step_at_most : (d : Tree) (i : ℕ) (m : Mode) → suffix_depth d ≡ 0 → size d + nodes ts ≤ n
       → StepAtMost n (asked d m (nodes ts)) (n * probed d) (step_of o d i m (follow ts) st)
-  step_at_most Nil i m z l = (refl, none, omega arith)
   step_at_most Fail i m z l = tt
   step_at_most (Text s) i m z l = text_at_most (length s) s
   step_at_most (TextWithLen w s) i m z l = text_at_most w s
-  step_at_most (MultilineText s) i Break z l = (refl, none, omega arith)
   step_at_most (MultilineText s) i Flat z l = tt
-  step_at_most WeakSpace i m z l = (refl, none, omega arith)
   step_at_most HardLine i Break z l = break_at_most st.pending HardLine i Break none
   step_at_most HardLine i Flat z l = tt
   step_at_most WeakLine i m z l = break_at_most st.pending WeakLine i m none
-  step_at_most (Append a b) i m z l = (omega arith, none, omega arith)
   step_at_most (LineSuffix d) i m z l = absurd (omega arith)
-  step_at_most (Nest j d) i m z l = (omega arith, none, omega arith)
-  step_at_most (DedentToRoot d) i m z l = (omega arith, none, omega arith)
-  step_at_most (Align d) i m z l = (omega arith, none, omega arith)
-  step_at_most ExpandParent i m z l = (refl, none, omega arith)
-  step_at_most (Flatten d) i m z l = (omega arith, none, omega arith)
   step_at_most (BreakOrFlat b f) i Break z l = (omega arith, none, omega arith)
   step_at_most (BreakOrFlat b f) i Flat z l = (omega arith, none, omega arith)
   step_at_most (Group d) i Break z l = (omega arith, none, omega arith)
   step_at_most (Group d) i Flat z l = (omega arith, none, omega arith)
   step_at_most (Union a b) i Break z l = union_at_most a b i (decided_by_metrics o a st) (omega arith)
-  step_at_most (Union a b) i Flat z l = (omega arith, none, omega arith)
   step_at_most (PartialUnion a b) i Break z l =
       let e = either_at_most n a b i Break (probe o a i Break (follow ts) st) (omega arith) in
       (e.0, none, omega (arith, e.1))
-  step_at_most (PartialUnion a b) i Flat z l = (omega arith, none, omega arith)
   step_at_most (OnColumn test a b) i m z l =
       let e = either_at_most n a b i m (column_holds test (prospective st.column) i) (omega arith) in
       (e.0, none, omega (arith, e.1))
   step_at_most (OnNesting test a b) i m z l =
       let e = either_at_most n a b i m (nesting_holds test i) (omega arith) in
       (e.0, none, omega (arith, e.1))
+  step_at_most _ i m z l = (omega arith, none, omega arith)
 
 suffixes-append : (ts us : List Task) → suffix_depths (ts ++ us) ≡ suffix_depths ts + suffix_depths us
 suffixes-append [] us = omega arith
