@@ -214,18 +214,18 @@ pub at_least_same : (a : Weight → ℕ) (v : Visits) → CountsAtLeast a a v v
 at_least_same a v = record { printer = omega arith; probes = omega arith }
 
 pub at_least_then : {a b c : Weight → ℕ} {v w x : Visits} → CountsAtLeast a b v w → CountsAtLeast b c w x → CountsAtLeast a c v x
-at_least_then {a} {b} {c} {v} {w} {x} h k =
+at_least_then h k =
     record { printer = omega (arith, h.printer, k.printer); probes = omega (arith, h.probes, k.probes) }
 
 -- less was left before, and more is left afterwards
 pub at_least_at : {a b c e : Weight → ℕ} {v w : Visits} → ((k : Weight) → c k ≤ a k) → ((k : Weight) → b k ≤ e k) → CountsAtLeast a b v w
     → CountsAtLeast c e v w
-at_least_at {a} {b} {c} {e} {v} {w} g h m =
+at_least_at g h m =
     record { printer = omega (arith, g each_node, h each_node, m.printer); probes = omega (arith, g each_probe, h each_probe, m.probes) }
 
 -- counts that did not fall, where no less is left
 pub at_least_rise : {a b : Weight → ℕ} {v w : Visits} → Rise v w → ((k : Weight) → a k ≤ b k) → CountsAtLeast a b v w
-at_least_rise {a} {b} {v} {w} r h =
+at_least_rise r h =
     record { printer = omega (arith, h each_node, r.printer); probes = omega (arith, h each_probe, r.probes) }
 
 -- one node was counted, and the probe that it asks
@@ -305,7 +305,7 @@ rejected_counts o was (Failed b) x y e = refl
 -- a choice whose first branch is kept
 pub kept_at_least : {E : Type 0} {i : ℕ} {x : Tree} {a b : Point} (y : Tree) (n : ℕ) → Tries {E = E} i x a b (Ok true) →
     CountsAtLeast (choice_tally a.printer n i x y) (stack_tally b.printer n) a.visits b.visits
-kept_at_least {E} {i} {x} {a} {b} y n tries =
+kept_at_least {i} {x} {a} {b} y n tries =
     let p = a.printer in
     let d = tries.decided in
     let m = tries.at_least in
@@ -326,7 +326,7 @@ kept_at_least {E} {i} {x} {a} {b} y n tries =
 pub other_at_least : {E : Type 0} {i : ℕ} {x y : Tree} {a b : Point} {q : Standing} (n : ℕ) → n ≤ length a.printer.tasks
     → Tries {E = E} i x a b (Ok false) → Pushed (make_task i Break y) b.printer q →
     CountsAtLeast (choice_tally a.printer n i x y) (stack_tally q n) a.visits b.visits
-other_at_least {E} {i} {x} {y} {a} {b} {q} n l tries pushed =
+other_at_least {i} {x} {y} {a} {q} n l tries pushed =
     let p = a.printer in
     let d = tries.decided in
     let ts : List Task = p.tasks in
@@ -360,13 +360,13 @@ trial_begins p q i d v o e s =
 -- no more than n tasks are left
 pub at_least_end : {a : Weight → ℕ} {v w : Visits} (p : Standing) (n : ℕ) → length p.tasks ≤ n → CountsAtLeast a (stack_tally p n) v w
     → CountsAtLeast a nothing_left v w
-at_least_end {a} {v} {w} p n l m = at_least_at (λ k. omega arith) (λ k. omega (arith, above_none p.options n p.tasks (state_at p) k l)) m
+at_least_end p n l m = at_least_at (λ k. omega arith) (λ k. omega (arith, above_none p.options n p.tasks (state_at p) k l)) m
 
 -- a run that has worked on one tree from the beginning
 pub visited_at_least : {A E : Type 0} (d : Tree) (p : Standing) (v w : Visits) (r : Result A E) → p.tasks ≡ make_task 0 Break d ∷ []
     → state_at p ≡ initial →
     OnOk r (CountsAtLeast (stack_tally p 0) nothing_left v w) → OnOk r (VisitedAtLeast p.options d v w)
-visited_at_least {A} {E} d p v w (Ok x) e s m =
+visited_at_least d p v w (Ok x) e s m =
     let less : (k : Weight) → tally p.options d 0 Break [] initial k ≤ stack_tally p 0 k = λ k.
     omega (
       arith,
@@ -375,4 +375,4 @@ visited_at_least {A} {E} d p v w (Ok x) e s m =
           initial k (omega arith),
     ) in
     record { printer = omega (arith, less each_node, m.printer); probes = omega (arith, less each_probe, m.probes) }
-visited_at_least {A} {E} d p v w (Err x) e s m = tt
+visited_at_least d p v w (Err x) e s m = tt

@@ -66,7 +66,7 @@ flagged flag p = record { tasks = refl; state = refl; options = refl; grows = gr
 -- a task alone is pushed
 pub pushed : {t : Task} {p : Standing} (q : Standing) → q.tasks ≡ t ∷ p.tasks → q.queue ≡ p.queue → state_at q ≡ state_at p
     → q.options ≡ p.options → Pushed t p q
-pushed {t} {p} q e g h o = record { tasks = e; state = h; options = o; grows = ([], g ∙ sym (append-nil p.queue)) }
+pushed {p} q e g h o = record { tasks = e; state = h; options = o; grows = ([], g ∙ sym (append-nil p.queue)) }
 
 -- # A trial that is taken back
 
@@ -76,13 +76,13 @@ queue_marked p q m s e g = omega (arith, e.queued, ap length g.1, length-append 
 
 pub restored_queue : {p : Standing} {m : Mark} {s : Seen} (q r : Standing) → Marks m p s → QueueGrows p q → Restores m q r
     → r.queue ≡ p.queue
-restored_queue {p} {m} {s} q r e g h =
+restored_queue {p} q r e g h =
     h.1 ∙ ap (λ (x : ℕ). take x q.queue) (e.queued) ∙ ap (take (length p.queue)) g.1 ∙ take_at p.queue g.0 (length p.queue) refl
 
 -- the state is as before
 pub restored : {p : Standing} {m : Mark} {s : Seen} (q r : Standing) → Marks m p s → QueueGrows p q → Restores m q r
     → state_at r ≡ state_at p
-restored {p} {m} {s} q r e g h =
+restored {p} q r e g h =
     let n : r.start ≡ p.start = h.2 ∙ e.start in
     let a : drop r.start r.queue ≡ drop p.start p.queue = ap (λ (x : ℕ). drop x r.queue) n ∙ ap (drop p.start) (restored_queue q r e g h) in
     let c : r.column ≡ p.column = h.3 ∙ e.column in

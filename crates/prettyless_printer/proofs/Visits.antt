@@ -175,7 +175,7 @@ went_at_most {o} {t} {ts} {st} {v} {w} us u bytes more plain h = went (step_at o
 
 pub failed_at_most : {o : RenderOptions} {t : Task} {ts : List Task} {st : State} {v w : Visits} → OneMore o t ts st v w
     → CountsAtMost (t ∷ ts) ts v w
-failed_at_most {o} {t} {ts} {st} {v} {w} more = record {
+failed_at_most {o} {t} {ts} {st} more = record {
   left = omega arith;
   printer = omega (arith, more.printer, visits_within o t.tree t.mode st);
   probes = λ n l. omega (arith, asked_at_most t.tree t.mode (nodes ts) n l, more.probes);
@@ -211,13 +211,13 @@ pub rise_same : (v : Visits) → Rise v v
 rise_same v = record { printer = omega arith; probes = omega arith }
 
 pub rise_then : {v w x : Visits} → Rise v w → Rise w x → Rise v x
-rise_then {v} {w} {x} a b = record { printer = omega (arith, a.printer, b.printer); probes = omega (arith, a.probes, b.probes) }
+rise_then a b = record { printer = omega (arith, a.printer, b.printer); probes = omega (arith, a.probes, b.probes) }
 
 pub at_most_same : (ts : List Task) (v : Visits) → CountsAtMost ts ts v v
 at_most_same ts v = record { left = omega arith; printer = omega arith; probes = λ n l. omega arith }
 
 pub at_most_then : {ts us xs : List Task} {v w x : Visits} → CountsAtMost ts us v w → CountsAtMost us xs w x → CountsAtMost ts xs v x
-at_most_then {ts} {us} {xs} {v} {w} {x} a b = record {
+at_most_then a b = record {
   left = omega (arith, a.left, b.left);
   printer = omega (arith, a.printer, b.printer);
   probes = λ n l. omega (arith, a.probes n l, b.probes n (omega (arith, l, a.left)));
@@ -226,7 +226,7 @@ at_most_then {ts} {us} {xs} {v} {w} {x} a b = record {
 -- what is left is cut off down to what is below
 pub at_most_cut : {ts us : List Task} {v w : Visits} (above below xs : List Task) → us ≡ above ++ below → xs ≡ below
     → CountsAtMost ts us v w → CountsAtMost ts xs v w
-at_most_cut {ts} {us} {v} {w} above below xs e h a = record {
+at_most_cut above below xs e h a = record {
   left = omega (arith, a.left, ap nodes e, nodes-append above below, ap nodes h);
   printer = omega (arith, a.printer, ap nodes e, nodes-append above below, ap nodes h);
   probes = λ n l. omega (arith, a.probes n l, ap (charges n) e, charges-append n above below, ap (charges n) h);
@@ -234,7 +234,7 @@ at_most_cut {ts} {us} {v} {w} above below xs e h a = record {
 
 -- none of it is left
 pub at_most_all : {ts us : List Task} {v w : Visits} → CountsAtMost ts us v w → CountsAtMost ts [] v w
-at_most_all {ts} {us} {v} {w} a = record {
+at_most_all a = record {
   left = omega arith;
   printer = omega (arith, a.printer);
   probes = λ n l. omega (arith, a.probes n l);
@@ -243,7 +243,7 @@ at_most_all {ts} {us} {v} {w} a = record {
 -- the first of two branches, with the second one kept for later
 pub at_most_besides : {ts us : List Task} {v w : Visits} (s t : Task) → CountsAtMost (s ∷ ts) us v w
     → CountsAtMost (s ∷ t ∷ ts) (t ∷ us) v w
-at_most_besides {ts} {us} {v} {w} s t a = record {
+at_most_besides s t a = record {
   left = omega (arith, a.left);
   printer = omega (arith, a.printer);
   probes = λ n l. omega (arith, a.probes n (omega (arith, l)));
@@ -251,14 +251,14 @@ at_most_besides {ts} {us} {v} {w} s t a = record {
 
 -- the same where only the first branch is of use
 pub at_most_first : {ts us : List Task} {v w : Visits} (s t : Task) → CountsAtMost (s ∷ ts) us v w → CountsAtMost (s ∷ t ∷ ts) us v w
-at_most_first {ts} {us} {v} {w} s t a = record {
+at_most_first s t a = record {
   left = omega (arith, a.left);
   printer = omega (arith, a.printer);
   probes = λ n l. omega (arith, a.probes n (omega (arith, l)));
 }
 
 pub at_most_at : {ts us : List Task} {v w : Visits} (xs : List Task) → xs ≡ us → CountsAtMost ts us v w → CountsAtMost ts xs v w
-at_most_at {ts} {us} {v} {w} xs e a = at_most_cut [] us xs refl e a
+at_most_at {us} xs e a = at_most_cut [] us xs refl e a
 
 pub plain_at : (p q : Standing) → q.tasks ≡ p.tasks → state_at q ≡ state_at p → Plain p → Plain q
 plain_at p q e h a = record {
@@ -278,13 +278,13 @@ plain_push p q t e h z a = record {
 pub visited : {A E : Type 0} (d : Tree) (p q : Standing) (v w : Visits) (r : Result A E) → p.tasks ≡ make_task 0 Break d ∷ []
     → (state_at p).pending ≡ [] →
     (Plain p → RunCountsAtMost p.tasks q v w r) → Visited d v w
-visited {A} {E} d p q v w (Ok r) e h k =
+visited d p q v w (Ok r) e h k =
     let plain : suffix_depth d ≡ 0 → Plain p = λ z. record { none = omega (arith, ap suffix_depths e, z); pending = h } in
     record {
       printer = λ z. omega (arith, (k (plain z)).1.printer, ap nodes e);
       probes = λ z. omega (arith, (k (plain z)).1.probes (size d) (omega (arith, ap nodes e)), ap (charges (size d)) e);
     }
-visited {A} {E} d p q v w (Err r) e h k =
+visited d p q v w (Err r) e h k =
     let plain : suffix_depth d ≡ 0 → Plain p = λ z. record { none = omega (arith, ap suffix_depths e, z); pending = h } in
     record {
       printer = λ z. omega (arith, (k (plain z)).printer, ap nodes e);
