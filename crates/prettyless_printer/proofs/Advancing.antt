@@ -27,6 +27,8 @@ use Rattle.prettyless_printer.proofs.Turnings.{went, lessens, failed, chosen, ch
 use Rattle.prettyless_printer.proofs.Visits.{went_at_most, failed_at_most, chosen_at_most, at_most_then, at_most_all, rise_then}
 use Rattle.prettyless_printer.proofs.AtLeast.{OneLaid, went_at_least, chosen_at_least, at_least_then}
 
+-- # Turns that are done
+
 -- what a turn counts: the first node is a visit, and no more nodes are than the next task has
 record Counted (a : Point) (x : Visits) : Type 0 where
   least : rise a.visits.printer ≤ x.printer
@@ -168,6 +170,8 @@ advances_chosen {N} {E} f {a} {t} {s} {x} {i} {l} {r} p q h one probes shows =
     let k = asks_there f t.mode i l r (step_from a.printer.options t (standing f p)) p q shows in
     subst (λ (z : Standing). Advances {N = N} {E = E} f a (point_at z s x) (Ok (turn_result.Choice i l r))) (sym k.1)
     (chosen_here h one probes k.0)
+
+-- # Turns that broke off
 
 -- what broke off has counted no more than the tasks allow
 broke_at_most : {a : Point} {t : Task} {b : Point} {x : Visits} → InHand a t b → Visit a.printer.options t b x → Plain a.printer

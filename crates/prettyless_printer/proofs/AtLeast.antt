@@ -34,6 +34,8 @@ use Rattle.prettyless_step.specs.Probing.{RisesBy}
 use Rattle.prettyless_printer.proofs.Runs.{follow-tasks, payload_branch, no_padding}
 use Rattle.prettyless_printer.proofs.Standings.{Pushed}
 
+-- # What tasks count
+
 -- what a task counts, and then those after it
 abbrev tally_with : RenderOptions → ℕ → Task → List Task → State → Weight → ℕ
 tally_with o n t ts st w =

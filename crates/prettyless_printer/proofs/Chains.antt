@@ -25,6 +25,8 @@ use Rattle.prettyless_printer.proofs.TrialSteps.{CutBack, began_plain, choice_br
 use Rattle.prettyless_printer.proofs.TrialSteps.{trial_undone}
 use Rattle.prettyless_printer.proofs.Visits.{rise_then, at_most_first, at_most_then}
 
+-- # Trials in one another
+
 -- a trial more is open
 chain_push : (o : Attempt) (us : List Held) (t : Attempt) (u : Held) (c : Attempt) → Chain o us t → Link t u c → Chain o (us ++ u ∷ []) c
 chain_push o [] t u c h link = (c, subst (λ (x : Attempt). Link x u c) h link, refl)

@@ -23,6 +23,8 @@ use Rattle.prettyless_printer.proofs.TrialSteps.{began_plain}
 use Rattle.prettyless_printer.proofs.Spending.{on_tasks, spends_then}
 use Rattle.prettyless_printer.proofs.Standings.{Pushed}
 
+-- # Options and line suffixes
+
 -- the options of open trials are those of the outermost one
 chain_options : (o : Attempt) (us : List Held) (t : Attempt) → Chain o us t → t.start.printer.options ≡ o.start.printer.options
 chain_options o [] t h = ap (λ (x : Attempt). x.start.printer.options) h
@@ -50,6 +52,8 @@ open_plain s y b (u ∷ us) h plain =
     let t = h.trial in
     let began = chain_plain s us t h.chain (record { start = plain.plain; branch = plain.first }) in
     (h.on.path.at_most (began_plain t began.start began.branch)).0
+
+-- # A turn of the innermost trial
 
 -- the same beside the second branches of open trials
 pub spends_beside : {r : Rule} {ts us : List Task} {q q' : List Tree} {v w : Visits} (ds : List Tree)
@@ -88,6 +92,8 @@ pub spends_broke_as : {A E : Type 0} {r : Rule} {a : Left} (b : Left) (result : 
     → SpendsAs r a b result
 spends_broke_as b (Ok x) e h = cc
 spends_broke_as b (Err x) e h = h
+
+-- # Trials that begin and end
 
 -- Less is left, and nothing was visited.
 pub record LeavesOnly (a b : Left) : Type 0 where

@@ -32,6 +32,8 @@ use Rattle.prettyless_printer.proofs.PathSteps.{run_broke_off}
 use Rattle.prettyless_printer.proofs.Visits.{at_most_same, at_most_then, rise_same, rise_then}
 use Rattle.prettyless_printer.proofs.AtLeast.{at_least_at, at_least_same, at_least_then}
 
+-- # What is written of a whole
+
 -- bytes after others
 abbrev bytes_after : List ℕ → Bytes → Bytes
 bytes_after b (Whole c) = Whole (b ++ c)
@@ -82,16 +84,18 @@ module _ {whole : Outcome} {p : Standing} {old out : List ℕ} (h : Finishing wh
   finishing_rendered fails new m (Err (Sink e)) a q = (finishing_part q.0, q.1 ∙ ap rise a)
   finishing_rendered fails new m (Err (Memory e)) a q = (finishing_part q.0, q.1 ∙ a)
 
--- the counts of a run that went on
-run_counts_then : {A E : Type 0} (ts us : List Task) (q : Standing) (v w x : Visits) (r : Result A E) → CountsAtMost ts us v w
-    → RunCountsAtMost us q w x r → RunCountsAtMost ts q v x r
-run_counts_then ts us q v w x (Ok y) h k = (k.0, at_most_then h k.1)
-run_counts_then ts us q v w x (Err e) h k = at_most_then h k
+-- # Runs in a row
 
-tally_then : {A E : Type 0} (a b : Weight → ℕ) (v w x : Visits) (r : Result A E) → CountsAtLeast a b v w
+-- the counts of a run that went on
+run_counts_then : {A E : Type 0} {ts us : List Task} {v w : Visits} (q : Standing) (x : Visits) (r : Result A E) → CountsAtMost ts us v w
+    → RunCountsAtMost us q w x r → RunCountsAtMost ts q v x r
+run_counts_then q x (Ok y) h k = (k.0, at_most_then h k.1)
+run_counts_then q x (Err e) h k = at_most_then h k
+
+tally_then : {A E : Type 0} {a b : Weight → ℕ} {v w : Visits} (x : Visits) (r : Result A E) → CountsAtLeast a b v w
     → OnOk r (CountsAtLeast b nothing_left w x) → OnOk r (CountsAtLeast a nothing_left v x)
-tally_then a b v w x (Ok y) h k = at_least_then h k
-tally_then a b v w x (Err e) h k = tt
+tally_then x (Ok y) h k = at_least_then h k
+tally_then x (Err e) h k = tt
 
 -- the same run, for another answer
 pub done_anyhow : {A B E : Type 0} (fails : E → Type 0) {a b : Point} (x : A) (y : B) → RunsToEnd fails a b (Ok x)
@@ -160,8 +164,8 @@ continues_to_end fails {a} {b} {c} r h k = record {
   rise = rise_then h.rise k.rise;
   at_most = λ plain.
       let y = h.at_most plain in
-      run_counts_then a.printer.tasks b.printer.tasks c.printer a.visits b.visits c.visits r y.1 (k.at_most y.0);
-  at_least = tally_then (stack_tally a.printer 0) (stack_tally b.printer 0) a.visits b.visits c.visits r h.at_least k.at_least;
+      run_counts_then c.printer c.visits r y.1 (k.at_most y.0);
+  at_least = tally_then c.visits r h.at_least k.at_least;
 }
 
 -- a path of all commands
@@ -193,6 +197,8 @@ path_continues {a} {b} p = record {
   at_most = λ plain. p.at_most (plain.none, plain.pending);
   at_least = p.at_least;
 }
+
+-- # The rounds of the end
 
 -- the commands broke off
 pub work_stopped : {A B E : Type 0} (fails : E → Type 0) {a b : Point} (e : RenderError E) → WorksOff {A = A} fails a b (Err e)
@@ -266,6 +272,8 @@ round_stopped {C} fails before {t} x e h k some = record {
   at_most = λ plain. absurd (omega (arith, some, ap length (h.at_most plain).0.pending));
   at_least = tt;
 }
+
+-- # Open trials
 
 -- nothing is held of trials only where none is open
 pub none_open : {N : Type 0} (f : N → Tree) (us : List (OpenTrial N)) → all_held f us ≡ [] → us ≡ []

@@ -28,6 +28,8 @@ use Rattle.prettyless_printer.proofs.Standings.{Wrote, asks_there, put_in_hand, 
 use Rattle.prettyless_printer.proofs.Hands.{InHand, Visit}
 use Rattle.prettyless_printer.proofs.Visits.{NoSuffix, at_most_all, chosen_at_most, failed_at_most, went_at_most}
 
+-- # One probe
+
 -- a node asks one probe at most
 each_probe_one : (d : Tree) (m : Mode) → each_probe d m ≤ 1
 each_probe_one (Group d) Break = omega arith

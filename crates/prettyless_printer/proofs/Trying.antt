@@ -25,6 +25,8 @@ use Rattle.prettyless_printer.proofs.Standings.{Flagged, Pushed}
 use Rattle.prettyless_printer.proofs.Turnings.{inside_at}
 use Rattle.prettyless_printer.specs.declared.trial.Mark.{Mark}
 
+-- # A trial that begins
+
 -- the trial is on its way, in q
 abbrev pub Trying : Standing → ℕ → Tree → List ℕ → Standing → List ℕ → Type 0
 Trying p i d old q out = Inside p.options (trial_of p i d) (work_limit p d) p.tasks old q.tasks (state_at q) out

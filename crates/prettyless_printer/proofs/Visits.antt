@@ -25,6 +25,8 @@ use Rattle.prettyless_step.proofs.Stacks.{nodes-append}
 use Rattle.prettyless_step.proofs.Shown.{step_at, Leads, Asks}
 use Rattle.prettyless_printer.proofs.Steps.{LeavesLess, extra, step_less_visits, visits_within}
 
+-- # Payloads and probes
+
 -- a visit more at most where a payload is rejected, and no visit less
 pub payload_visits-least : (b : Bool) (v w x : ℕ) → w ≡ rise v → x ≡ counted_payload b w → rise v ≤ x
 payload_visits-least true v w x h k = omega arith
