@@ -38,18 +38,15 @@ lay_all-one o i d ts st = then-done (lay o (settle o) d i Break (follow ts) st)
 
 pub trying_begins : (p q : Standing) (i : ℕ) (d : Tree) (old : List ℕ) → q.tasks ≡ make_task i Break d ∷ p.tasks
     → state_at q ≡ tried (state_at p) → Trying p i d old q old
-trying_begins p q i d old e s =
-    inside_at p.options (trial_of p i d) (work_limit p d) p.tasks old (make_task i Break d ∷ p.tasks) q.tasks (tried (state_at p))
-    (state_at q) old old e s refl
-    (record {
-      above = make_task i Break d ∷ [];
-      bytes = [];
-      stack_is = refl;
-      out_is = sym (append-nil old);
-      same = after-nil (lay_all p.options (settle p.options) (make_task i Break d ∷ []) (follow p.tasks) (tried (state_at p)))
-          ∙ lay_all-one p.options i d p.tasks (tried (state_at p));
-      bound = omega arith;
-    })
+trying_begins p q i d old e s = record {
+  above = make_task i Break d ∷ [];
+  bytes = [];
+  stack_is = e;
+  out_is = sym (append-nil old);
+  same = after-nil (lay_all p.options (settle p.options) (make_task i Break d ∷ []) (follow p.tasks) (state_at q))
+      ∙ lay_all-one p.options i d p.tasks (state_at q) ∙ ap (lay p.options (settle p.options) d i Break (follow p.tasks)) s;
+  bound = omega (arith, ap (λ (u : State). owed u.pending) s);
+}
 
 pub begins-grows : (ds : List Tree) (q r : Standing) → QueueBegins ds q → QueueGrows q r → QueueBegins ds r
 begins-grows ds q r a b = (a.0 ++ b.0, b.1 ∙ ap (λ (x : List Tree). x ++ b.0) a.1 ∙ append_assoc ds a.0 b.0)
