@@ -26,6 +26,7 @@ use Rattle.prettyless_step.specs.Stack.{Task, make_task, tasks, follow}
 use Rattle.prettyless_step.specs.Steps.{Step, Move, Stuck, Choose, step_of, union_step, decided_by_metrics, break_step, at_once}
 use Rattle.prettyless_step.proofs.Shown.{step_at, Leads, Asks}
 use Rattle.prettyless_printer.specs.Points.{Point, Standing, state_at}
+use Rattle.prettyless_printer.specs.Open.{BeginsTrial}
 use Rattle.prettyless_printer.specs.Trials.{Tries}
 use Rattle.prettyless_printer.specs.Visits.{Rise}
 use Rattle.prettyless_printer.specs.AtLeast.{tally_above, tally_choice, nothing_left, CountsAtLeast, stack_tally, choice_tally, trial_tally}
@@ -346,16 +347,15 @@ other_at_least {i} {x} {y} {a} {q} n l tries pushed =
     ))
 
 -- a trial begins
-pub trial_begins : (p q : Standing) (i : ℕ) (d : Tree) (v : Visits) → q.options ≡ p.options → q.tasks ≡ make_task i Break d ∷ p.tasks
-    → state_at q ≡ tried (state_at p) →
+pub trial_begins : {p q : Standing} {i : ℕ} {d : Tree} (v : Visits) → BeginsTrial i d p q →
     CountsAtLeast (trial_tally p i d) (stack_tally q (length p.tasks)) v v
-trial_begins p q i d v o e s =
+trial_begins {p} {q} {i} {d} v h =
     let ts : List Task = p.tasks in
     let t : Task = make_task i Break d in
     at_least_rise (record { printer = omega arith; probes = omega arith })
     (λ k. omega (
       arith,
-      stack_counts q (length ts) p.options (t ∷ ts) (tried (state_at p)) k o e s,
+      stack_counts q (length ts) p.options (t ∷ ts) (tried (state_at p)) k h.options h.tasks h.state,
       above_is p.options (length ts) t ts (tried (state_at p)) k (omega arith),
     ))
 

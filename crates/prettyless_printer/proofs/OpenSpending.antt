@@ -181,13 +181,12 @@ spends_back {r} {a} {b} {us} {q} {v} p vs u popped fell back pushed h k =
     (pushed.tasks ∙ ap (λ (z : List Task). make_task u.indent Break u.second ∷ z) tasks)
     (λ none. h ∙ back.1 ∙ take_none u.mark.queue.len b.printer.queue none)))
 
-more_leaves : (p q : Standing) (i : ℕ) (x y : Tree) (ds : List Tree) (v : Visits) → q.tasks ≡ make_task i Break x ∷ p.tasks
-    → q.queue ≡ p.queue →
+more_leaves : {p q : Standing} {i : ℕ} {x : Tree} (y : Tree) (ds : List Tree) (v : Visits) → BeginsTrial i x p q → q.queue ≡ p.queue →
     LeavesOnly (record (left p ds v) { tasks = make_task i Break x ∷ make_task i Break y ∷ p.tasks }) (left q (ds ++ y ∷ []) v)
-more_leaves p q i x y ds v e h = record {
-  nodes = omega (arith, ap nodes e, sizes_push ds y);
+more_leaves y ds v begins h = record {
+  nodes = omega (arith, ap nodes begins.tasks, sizes_push ds y);
   queue = λ none. h ∙ none;
-  have = λ g. (subst HaveSummaries (sym e) (g.0.0, g.0.1.1), trees_have_push ds y g.1 g.0.1.0);
+  have = λ g. (subst HaveSummaries (sym begins.tasks) (g.0.0, g.0.1.1), trees_have_push ds y g.1 g.0.1.0);
   visits = refl;
 }
 
@@ -199,4 +198,4 @@ pub spends_more : {N : Type 0} {r : Rule} {a : Left} {f : N → Tree} {p q : Sta
 spends_more {r} {a} {p} {q} {us} {vs} {i} {x} {y} {v} opens begins h k =
     subst (λ (z : List Tree). Spends r a (left q z v))
     (sym (seconds_push vs us (record { mark = opens.mark; indent = i; second = y }) opens.more))
-    (spends_then k (spends_leaving r (more_leaves p q i x y (seconds us) v begins.tasks h)))
+    (spends_then k (spends_leaving r (more_leaves y (seconds us) v begins h)))

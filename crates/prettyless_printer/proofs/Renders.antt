@@ -208,7 +208,7 @@ renders fails d {a} {b} n r e s h refused few = record {
       );
   rise = record { printer = h.rise.printer; probes = h.rise.probes };
   visited =
-      let once = visited d a.printer b.printer a.visits b.visits r e (ap (λ (u : State). u.pending) s) h.at_most in
+      let once = visited b.printer r e (ap (λ (u : State). u.pending) s) h.at_most in
       record { printer = once.printer; probes = once.probes };
   refused = refused;
   few = few;

@@ -40,14 +40,14 @@ trial_run_begins a q i d h = record {
   queue = h.grows;
   same_lender = refl;
   less = omega (arith, ap nodes h.tasks, ap (λ (z : State). owed z.pending) h.state);
-  bytes = λ is_known. (is_known, (trying_begins a.printer q i d (known a.sink.bytes) h.tasks h.state, refl));
+  bytes = λ is_known. (is_known, (trying_begins (known a.sink.bytes) h, refl));
   rise = rise_same a.visits;
   at_most = λ began.
       let plain : Plain a.printer = record { none = omega (arith, began.0); pending = began.1 } in (
         plain_push a.printer q (make_task i Break d) h.tasks (ap (λ (z : State). z.pending) h.state) (omega (arith, began.0)) plain,
         at_most_at q.tasks h.tasks (at_most_same (make_task i Break d ∷ a.printer.tasks) a.visits),
       );
-  at_least = trial_begins a.printer q i d a.visits h.options h.tasks h.state;
+  at_least = trial_begins a.visits h;
 }
 
 -- a turn that goes on within the width

@@ -11,7 +11,7 @@ use Rattle.prettyless_sink.specs.Sink.{known}
 use Rattle.prettyless_model.specs.declared.options.RenderOptions.{RenderOptions}
 use Rattle.prettyless_model.specs.Tree.{Tree}
 use Rattle.prettyless_model.specs.Column.{padding_fits}
-use Rattle.prettyless_model.specs.Layout.{State, Outcome, Done, accept, tried, lay, some_pending}
+use Rattle.prettyless_model.specs.Layout.{State, Outcome, Done, accept, lay, some_pending, tried}
 use Rattle.prettyless_model.specs.Levels.{settle}
 use Rattle.prettyless_model.specs.declared.mode.Mode.TheVariants.{Break}
 use Rattle.prettyless_model.proofs.Outcomes.{after-nil, then-done}
@@ -19,10 +19,10 @@ use Rattle.prettyless_step.specs.Stack.{Task, make_task, follow}
 use Rattle.prettyless_step.specs.Steps.{lay_all, owed}
 use Rattle.prettyless_printer.specs.Progress.{Inside, Waits, Decides}
 use Rattle.prettyless_printer.specs.Points.{Standing, state_at, QueueBegins, QueueGrows, Seen, Point}
+use Rattle.prettyless_printer.specs.Open.{BeginsTrial}
 use Rattle.prettyless_printer.specs.Trials.{Attempt, Fallen, Lasts, Marks, Restores, TrialDid, Tries, work_limit, trial_of}
 use Rattle.prettyless_printer.proofs.Progresses.{waits_kept, waits_other, inside_end}
 use Rattle.prettyless_printer.proofs.Standings.{Flagged, Pushed}
-use Rattle.prettyless_printer.proofs.Turnings.{inside_at}
 use Rattle.prettyless_printer.specs.declared.trial.Mark.{Mark}
 
 -- # A trial that begins
@@ -36,16 +36,15 @@ lay_all-one : (o : RenderOptions) (i : ℕ) (d : Tree) (ts : List Task) (st : St
 unfolding lay_all
 lay_all-one o i d ts st = then-done (lay o (settle o) d i Break (follow ts) st)
 
-pub trying_begins : (p q : Standing) (i : ℕ) (d : Tree) (old : List ℕ) → q.tasks ≡ make_task i Break d ∷ p.tasks
-    → state_at q ≡ tried (state_at p) → Trying p i d old q old
-trying_begins p q i d old e s = record {
+pub trying_begins : {p q : Standing} {i : ℕ} {d : Tree} (old : List ℕ) → BeginsTrial i d p q → Trying p i d old q old
+trying_begins {p} {q} {i} {d} old h = record {
   above = make_task i Break d ∷ [];
   bytes = [];
-  stack_is = e;
+  stack_is = h.tasks;
   out_is = sym (append-nil old);
   same = after-nil (lay_all p.options (settle p.options) (make_task i Break d ∷ []) (follow p.tasks) (state_at q))
-      ∙ lay_all-one p.options i d p.tasks (state_at q) ∙ ap (lay p.options (settle p.options) d i Break (follow p.tasks)) s;
-  bound = omega (arith, ap (λ (u : State). owed u.pending) s);
+      ∙ lay_all-one p.options i d p.tasks (state_at q) ∙ ap (lay p.options (settle p.options) d i Break (follow p.tasks)) h.state;
+  bound = omega (arith, ap (λ (u : State). owed u.pending) h.state);
 }
 
 pub begins-grows : (ds : List Tree) (q r : Standing) → QueueBegins ds q → QueueGrows q r → QueueBegins ds r

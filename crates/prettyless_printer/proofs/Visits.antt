@@ -277,16 +277,15 @@ plain_push p q t e h z a = record {
 }
 
 -- a run that has worked on one tree
-pub visited : {A E : Type 0} (d : Tree) (p q : Standing) (v w : Visits) (r : Result A E) → p.tasks ≡ make_task 0 Break d ∷ []
-    → (state_at p).pending ≡ [] →
-    (Plain p → RunCountsAtMost p.tasks q v w r) → Visited d v w
-visited d p q v w (Ok r) e h k =
+pub visited : {A E : Type 0} {d : Tree} {p : Standing} {v w : Visits} (q : Standing) (r : Result A E) → p.tasks ≡ make_task 0 Break d ∷ []
+    → (state_at p).pending ≡ [] → (Plain p → RunCountsAtMost p.tasks q v w r) → Visited d v w
+visited {d} {p} q (Ok r) e h k =
     let plain : suffix_depth d ≡ 0 → Plain p = λ z. record { none = omega (arith, ap suffix_depths e, z); pending = h } in
     record {
       printer = λ z. omega (arith, (k (plain z)).1.printer, ap nodes e);
       probes = λ z. omega (arith, (k (plain z)).1.probes (size d) (omega (arith, ap nodes e)), ap (charges (size d)) e);
     }
-visited d p q v w (Err r) e h k =
+visited {d} {p} q (Err r) e h k =
     let plain : suffix_depth d ≡ 0 → Plain p = λ z. record { none = omega (arith, ap suffix_depths e, z); pending = h } in
     record {
       printer = λ z. omega (arith, (k (plain z)).printer, ap nodes e);
