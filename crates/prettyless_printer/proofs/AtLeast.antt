@@ -7,8 +7,8 @@ use Rattle.prettyless_sink.specs.Sink.{rise}
 use Rattle.prettyless_model.specs.Spaces.{spaces}
 use Rattle.prettyless_model.specs.declared.options.RenderOptions.{RenderOptions}
 use Rattle.prettyless_sink.specs.declared.visits.Visits.{Visits}
-use Rattle.prettyless_model.specs.Tree.{Tree, Nil, Fail, Text, TextWithLen, MultilineText, WeakSpace, HardLine, WeakLine, Append}
-use Rattle.prettyless_model.specs.Tree.{LineSuffix, Nest, DedentToRoot, Align, ExpandParent, Flatten, BreakOrFlat, Group, Union}
+use Rattle.prettyless_model.specs.Tree.{Tree, Fail, Text, TextWithLen, MultilineText, HardLine, WeakLine, Append}
+use Rattle.prettyless_model.specs.Tree.{Nest, DedentToRoot, Align, Flatten, BreakOrFlat, Group, Union}
 use Rattle.prettyless_model.specs.Tree.{PartialUnion, OnColumn, OnNesting}
 use Rattle.prettyless_model.specs.Choice.{column_holds, nesting_holds}
 use Rattle.prettyless_model.specs.Metrics.{metrics}
