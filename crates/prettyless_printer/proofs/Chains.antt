@@ -181,21 +181,21 @@ kept_tries : {E : Type 0} {t : Attempt} {m : Mark} {b : Point} {r : Standing} �
     → Flagged m.within b.printer r → Tries {E = E} t.indent t.branch t.start (point_at r b.sink b.visits) (Ok true)
 kept_tries {b} {r} marked lasts kept = trial_over lasts (subst (λ (w : Bool). Flagged w b.printer r) marked.marks.within kept)
 
--- what became of open trials where the innermost one is kept
-abbrev pub KeepsOn : Type 0 → Attempt → Tree → List Held → Point → Type 0
-KeepsOn E s y [] b = Tries {E = E} s.indent s.branch s.start b (Ok true)
-KeepsOn E s y (u ∷ us) b = Open s y (u ∷ us) b
-
--- the innermost one is kept
-kept_split : {N E : Type 0} {f : N → Tree} {s : Attempt} {y : Tree} {a b : Point} {r : Standing} (vs : List Held) (u : Held)
-    → Took {E = E} f s y (vs ++ u ∷ []) a b (Ok trial_state.Complete) → Flagged u.mark.within b.printer r →
-    KeepsOn E s y vs (point_at r b.sink b.visits)
-kept_split {E} {b} {r} [] u h kept =
+-- the outermost one is kept
+kept_last : {N E : Type 0} {f : N → Tree} {s : Attempt} {y : Tree} {a b : Point} {u : Held} {r : Standing}
+    → Took {E = E} f s y (u ∷ []) a b (Ok trial_state.Complete) → Flagged u.mark.within b.printer r →
+    Tries {E = E} s.indent s.branch s.start (point_at r b.sink b.visits) (Ok true)
+kept_last {E} {b} {u} {r} h kept =
     let k = h.trials in
     let marked = subst (λ (x : Attempt). Marked u.mark x.start) (sym k.chain) k.holds.marked in
     subst (λ (x : Attempt). Tries {E = E} x.indent x.branch x.start (point_at r b.sink b.visits) (Ok true)) k.chain
     (kept_tries marked (h.courses k.trial k.on).0 kept)
-kept_split {E} {s} {b} {r} (v ∷ vs) u h kept =
+
+-- an inner one is kept
+kept_inner : {N E : Type 0} {f : N → Tree} {s : Attempt} {y : Tree} {a b : Point} {r : Standing} (v : Held) (vs : List Held) (u : Held)
+    → Took {E = E} f s y (v ∷ vs ++ u ∷ []) a b (Ok trial_state.Complete) → Flagged u.mark.within b.printer r →
+    Open s y (v ∷ vs) (point_at r b.sink b.visits)
+kept_inner {E} {s} {b} {r} v vs u h kept =
     let k = h.trials in
     let t = k.trial in
     let lasts = (h.courses t k.on).0 in
@@ -218,24 +218,27 @@ kept_split {E} {s} {b} {r} (v ∷ vs) u h kept =
       };
     }
 
-pub open_kept : {N E : Type 0} {f : N → Tree} {s : Attempt} {y : Tree} {a b : Point} {us : List Held} {r : Standing} (vs : List Held)
-    (u : Held) → us ≡ vs ++ u ∷ [] → Took {E = E} f s y us a b (Ok trial_state.Complete) → Flagged u.mark.within b.printer r →
-    KeepsOn E s y vs (point_at r b.sink b.visits)
-open_kept {E} {f} {s} {y} {a} {b} vs u popped h =
-    kept_split vs u (subst (λ (z : List Held). Took {E = E} f s y z a b (Ok trial_state.Complete)) popped h)
+-- the same of all that were open
+module _ {N E : Type 0} {f : N → Tree} {s : Attempt} {y : Tree} {a b : Point} {us : List Held} {r : Standing} where
+  pub open_kept : (vs : List Held) (u : Held) → us ≡ vs ++ u ∷ [] → 0 < length vs
+      → Took {E = E} f s y us a b (Ok trial_state.Complete) → Flagged u.mark.within b.printer r → Open s y vs (point_at r b.sink b.visits)
+  open_kept [] u popped some h = absurd (omega (arith, some))
+  open_kept (v ∷ vs) u popped some h =
+      kept_inner v vs u (subst (λ (z : List Held). Took {E = E} f s y z a b (Ok trial_state.Complete)) popped h)
+
+  pub last_kept : (vs : List Held) (u : Held) → us ≡ vs ++ u ∷ [] → vs ≡ []
+      → Took {E = E} f s y us a b (Ok trial_state.Complete) → Flagged u.mark.within b.printer r
+      → Tries {E = E} s.indent s.branch s.start (point_at r b.sink b.visits) (Ok true)
+  last_kept vs u popped none h = kept_last (subst (λ (z : List Held). Took {E = E} f s y z a b (Ok trial_state.Complete))
+      (popped ∙ ap (λ (z : List Held). z ++ u ∷ []) none) h)
 
 -- # A trial that is taken back
 
--- what becomes of open trials where the innermost one is taken back, and its second branch comes next
-abbrev pub GoesOnSecond : Type 0 → Attempt → Tree → List Held → Point → Type 0
-GoesOnSecond E s y [] b = ComesSecond E s y b
-GoesOnSecond E s y (u ∷ us) b = Open s y (u ∷ us) b
-
--- the innermost one is taken back, and its second branch comes next
-other_split : {N E : Type 0} {f : N → Tree} {s : Attempt} {y : Tree} {a b : Point} {q : Standing} {w : Seen} (vs : List Held) (u : Held)
-    (r : Standing) → Took {E = E} f s y (vs ++ u ∷ []) a b (Ok trial_state.Rejected) → Restores u.mark b.printer r
-    → CutBack u.mark b.sink w → Pushed (make_task u.indent Break u.second) r q → GoesOnSecond E s y vs (point_at q w b.visits)
-other_split {E} {s} {b} [] u r h back cut pushed =
+-- the outermost one is taken back, and its second branch comes next
+back_last : {N E : Type 0} {f : N → Tree} {s : Attempt} {y : Tree} {a b : Point} {u : Held} {q : Standing} {w : Seen} (r : Standing)
+    → Took {E = E} f s y (u ∷ []) a b (Ok trial_state.Rejected) → Restores u.mark b.printer r → CutBack u.mark b.sink w
+    → Pushed (make_task u.indent Break u.second) r q → ComesSecond E s y (point_at q w b.visits)
+back_last {E} {s} {b} {u} r h back cut pushed =
     let k = h.trials in
     let fell = subst (λ (x : Attempt). Fallen x b) k.chain (h.courses k.trial k.on) in
     record {
@@ -247,7 +250,12 @@ other_split {E} {s} {b} [] u r h back cut pushed =
       options = pushed.options;
       grows = pushed.grows;
     }
-other_split {E} {s} {b} {q} {w} (v ∷ vs) u r h back cut pushed =
+
+-- an inner one is taken back
+back_inner : {N E : Type 0} {f : N → Tree} {s : Attempt} {y : Tree} {a b : Point} {q : Standing} {w : Seen} (v : Held) (vs : List Held)
+    (u : Held) (r : Standing) → Took {E = E} f s y (v ∷ vs ++ u ∷ []) a b (Ok trial_state.Rejected) → Restores u.mark b.printer r
+    → CutBack u.mark b.sink w → Pushed (make_task u.indent Break u.second) r q → Open s y (v ∷ vs) (point_at q w b.visits)
+back_inner {E} {s} {b} {q} {w} v vs u r h back cut pushed =
     let k = h.trials in
     let t = k.trial in
     let fell = h.courses t k.on in
@@ -270,12 +278,20 @@ other_split {E} {s} {b} {q} {w} (v ∷ vs) u r h back cut pushed =
       };
     }
 
-pub open_other : {N E : Type 0} {f : N → Tree} {s : Attempt} {y : Tree} {a b : Point} {us : List Held} {q : Standing} {w : Seen}
-    (vs : List Held) (u : Held) (r : Standing) → us ≡ vs ++ u ∷ [] → Took {E = E} f s y us a b (Ok trial_state.Rejected)
-    → Restores u.mark b.printer r → CutBack u.mark b.sink w → Pushed (make_task u.indent Break u.second) r q →
-    GoesOnSecond E s y vs (point_at q w b.visits)
-open_other {E} {f} {s} {y} {a} {b} vs u r popped h =
-    other_split vs u r (subst (λ (z : List Held). Took {E = E} f s y z a b (Ok trial_state.Rejected)) popped h)
+-- the same of all that were open
+module _ {N E : Type 0} {f : N → Tree} {s : Attempt} {y : Tree} {a b : Point} {us : List Held} {q : Standing} {w : Seen} where
+  pub open_other : (vs : List Held) (u : Held) (r : Standing) → us ≡ vs ++ u ∷ [] → 0 < length vs
+      → Took {E = E} f s y us a b (Ok trial_state.Rejected) → Restores u.mark b.printer r → CutBack u.mark b.sink w
+      → Pushed (make_task u.indent Break u.second) r q → Open s y vs (point_at q w b.visits)
+  open_other [] u r popped some h = absurd (omega (arith, some))
+  open_other (v ∷ vs) u r popped some h =
+      back_inner v vs u r (subst (λ (z : List Held). Took {E = E} f s y z a b (Ok trial_state.Rejected)) popped h)
+
+  pub last_other : (vs : List Held) (u : Held) (r : Standing) → us ≡ vs ++ u ∷ [] → vs ≡ []
+      → Took {E = E} f s y us a b (Ok trial_state.Rejected) → Restores u.mark b.printer r → CutBack u.mark b.sink w
+      → Pushed (make_task u.indent Break u.second) r q → ComesSecond E s y (point_at q w b.visits)
+  last_other vs u r popped none h = back_last r (subst (λ (z : List Held). Took {E = E} f s y z a b (Ok trial_state.Rejected))
+      (popped ∙ ap (λ (z : List Held). z ++ u ∷ []) none) h)
 
 -- The innermost of open trials, with what is held of it.
 pub record Innermost (u : Held) (n : ℕ) (a : Point) : Type 0 where
@@ -308,27 +324,6 @@ open_fell {E} {f} {s} {y} {a} {b} vs u popped h =
 pub open_some : (s : Attempt) (y : Tree) (a : Point) (us : List Held) → Open s y us a → 0 < length us
 open_some s y a [] h = absurd h
 open_some s y a (u ∷ us) h = omega arith
-
--- what is kept, or taken back, goes on while a trial is open
-pub keeps_open : (E : Type 0) (s : Attempt) (y : Tree) (b : Point) (us : List Held) → 0 < length us → KeepsOn E s y us b → Open s y us b
-keeps_open E s y b [] some h = absurd (omega (arith, some))
-keeps_open E s y b (u ∷ us) some h = h
-
-pub other_open : (E : Type 0) (s : Attempt) (y : Tree) (b : Point) (us : List Held) → 0 < length us
-    → GoesOnSecond E s y us b → Open s y us b
-other_open E s y b [] some h = absurd (omega (arith, some))
-other_open E s y b (u ∷ us) some h = h
-
--- and is over where none is
-pub keeps_over : (E : Type 0) (s : Attempt) (y : Tree) (b : Point) (us : List Held) → us ≡ [] → KeepsOn E s y us b
-    → Tries {E = E} s.indent s.branch s.start b (Ok true)
-keeps_over E s y b [] none h = h
-keeps_over E s y b (u ∷ us) none h = absurd (omega (arith, ap length none))
-
-pub other_over : (E : Type 0) (s : Attempt) (y : Tree) (b : Point) (us : List Held) → us ≡ [] → GoesOnSecond E s y us b
-    → ComesSecond E s y b
-other_over E s y b [] none h = h
-other_over E s y b (u ∷ us) none h = absurd (omega (arith, ap length none))
 
 -- the innermost of a list of open trials
 pub below_index : {N : Type 0} (f : N → Tree) (us : List (OpenTrial N)) (k : ℕ) (u : OpenTrial N) → k + 1 ≡ length us
