@@ -27,13 +27,15 @@ use Rattle.prettyless_printer.proofs.Turnings.{went, lessens, failed, chosen, ch
 use Rattle.prettyless_printer.proofs.Visits.{went_at_most, failed_at_most, chosen_at_most, at_most_then, at_most_all, rise_then}
 use Rattle.prettyless_printer.proofs.AtLeast.{OneLaid, went_at_least, chosen_at_least, at_least_then}
 
+-- # Turns that are done
+
 -- what a turn counts: the first node is a visit, and no more nodes are than the next task has
 record Counted (a : Point) (x : Visits) : Type 0 where
   least : rise a.visits.printer ≤ x.printer
   most : x.printer ≤ a.visits.printer + next_size a.printer.tasks
 
 counted : {a : Point} {t : Task} {b : Point} {x : Visits} → InHand a t b → Visit a.printer.options t b x → Counted a x
-counted {a} {t} {b} {x} h one = record {
+counted {a} {t} {b} h one = record {
   least = omega (arith, h.rise.printer, one.least);
   most = omega (arith, h.most, one.more.printer, visits_within a.printer.options t.tree t.mode (state_at b.printer));
 }
@@ -44,7 +46,7 @@ pub advances_went : {N E : Type 0} {f : N → Tree} {a : Point} {t : Task} {b : 
     RisesBy (each_probe t.tree t.mode) b.visits.probes x.probes → Wrote (step_from a.printer.options t b.printer) bytes b.printer q →
     s.lender ≡ b.sink.lender → Accepts b.sink.bytes s.bytes bytes b.sink.failures s.failures
     → Advances {N = N} {E = E} f a (point_at q s x) (Ok turn_result.Complete)
-advances_went {N} {E} {f} {a} {t} {b} {q} {s} {x} {bytes} h one probes k lender accepts =
+advances_went {f} {a} {t} {b} {q} {x} {bytes} h one probes k lender accepts =
     let o = a.printer.options in
     let ts : List Task = b.printer.tasks in
     let us : List Task = q.tasks in
@@ -85,7 +87,7 @@ advances_went {N} {E} {f} {a} {t} {b} {q} {s} {x} {bytes} h one probes k lender 
 
 failed_here : {N E : Type 0} {f : N → Tree} {a : Point} {t : Task} {b : Point} {x : Visits} → InHand a t b → Visit a.printer.options t b x →
     IsStuck (step_from a.printer.options t b.printer) → Advances {N = N} {E = E} f a (point_at b.printer b.sink x) (Ok turn_result.Failed)
-failed_here {N} {E} {f} {a} {t} {b} {x} h one fails =
+failed_here {f} {a} {t} {b} h one fails =
     let o = a.printer.options in
     let ts : List Task = b.printer.tasks in
     let st = state_at b.printer in
@@ -117,7 +119,7 @@ pub advances_failed : {N E : Type 0} (f : N → Tree) {a : Point} {t : Task} {s 
     → InHand a t (point f p s v) → Visit a.printer.options t (point f p s v) x →
     Shows f t.mode Failed (step_from a.printer.options t (standing f p)) p q →
     Advances {N = N} {E = E} f a (point f q s x) (Ok turn_result.Failed)
-advances_failed {N} {E} f {a} {t} {s} {v} {x} p q h one shows =
+advances_failed {N} {E} f {a} {t} {s} {x} p q h one shows =
     let k = stuck_there f t.mode (step_from a.printer.options t (standing f p)) p q shows in
     subst (λ (z : Standing). Advances {N = N} {E = E} f a (point_at z s x) (Ok turn_result.Failed)) (sym k.1) (failed_here h one k.0)
 
@@ -125,7 +127,7 @@ chosen_here : {N E : Type 0} {f : N → Tree} {a : Point} {t : Task} {b : Point}
     → Visit a.printer.options t b x →
     RisesBy (each_probe t.tree t.mode) b.visits.probes x.probes → Asks (step_from a.printer.options t b.printer) i (f l) (f r)
     → Advances {N = N} {E = E} f a (point_at b.printer b.sink x) (Ok (turn_result.Choice i l r))
-chosen_here {N} {E} {f} {a} {t} {b} {x} {i} {l} {r} h one probes wants =
+chosen_here {f} {a} {t} {b} {x} {i} {l} {r} h one probes wants =
     let o = a.printer.options in
     let ts : List Task = b.printer.tasks in
     let st = state_at b.printer in
@@ -164,29 +166,31 @@ pub advances_chosen : {N E : Type 0} (f : N → Tree) {a : Point} {t : Task} {s 
     → InHand a t (point f p s v) → Visit a.printer.options t (point f p s v) x →
     RisesBy (each_probe t.tree t.mode) v.probes x.probes → Shows f t.mode (Choice i l r) (step_from a.printer.options t (standing f p)) p q
     → Advances {N = N} {E = E} f a (point f q s x) (Ok (turn_result.Choice i l r))
-advances_chosen {N} {E} f {a} {t} {s} {v} {x} {i} {l} {r} p q h one probes shows =
+advances_chosen {N} {E} f {a} {t} {s} {x} {i} {l} {r} p q h one probes shows =
     let k = asks_there f t.mode i l r (step_from a.printer.options t (standing f p)) p q shows in
     subst (λ (z : Standing). Advances {N = N} {E = E} f a (point_at z s x) (Ok (turn_result.Choice i l r))) (sym k.1)
     (chosen_here h one probes k.0)
 
+-- # Turns that ended in an error
+
 -- what ended in an error has counted no more than the tasks allow
 broke_at_most : {a : Point} {t : Task} {b : Point} {x : Visits} → InHand a t b → Visit a.printer.options t b x → Plain a.printer
     → CountsAtMost a.printer.tasks [] a.visits x
-broke_at_most {a} {t} {b} {x} h one plain =
+broke_at_most h one plain =
     at_most_all (at_most_then (h.at_most plain).1
     (failed_at_most one.more))
 
 -- what was written before the current task is a beginning of each whole
 hand_beginning : {a : Point} {t : Task} {b : Point} {out : List ℕ} → InHand a t b
     → ForWholes a.printer out (λ whole limit below old. AppendsBeginning old out (bytes_before whole))
-hand_beginning {a} {t} {b} {out} h = λ whole limit below old l m.
+hand_beginning {out} h = λ whole limit below old l m.
     inside_beginning (h.inside out whole limit below old l m)
 
 -- memory was refused
 pub advances_refused : {N E : Type 0} {f : N → Tree} {a : Point} {t : Task} {b : Point} {q : Standing} {x : Visits} {e : _} → InHand a t b
     → Visit a.printer.options t b x →
     Advances {N = N} {E = E} f a (point_at q b.sink x) (Err (Memory e))
-advances_refused {N} {E} {f} {a} {t} {b} {q} {x} {e} h one =
+advances_refused {f} {e} h one =
     let count = counted h one in
     from_start f (Err (Memory e)) h
     (record {
@@ -208,7 +212,7 @@ pub advances_sink_failed : {N E : Type 0} {f : N → Tree} {a : Point} {t : Task
     Wrote (step_from a.printer.options t b.printer) bytes b.printer q →
     s.lender ≡ b.sink.lender → Refuses b.sink.bytes s.bytes bytes b.sink.failures s.failures
     → Advances {N = N} {E = E} f a (point_at q s x) (Err (Sink e))
-advances_sink_failed {N} {E} {f} {a} {t} {b} {q} {s} {x} {bytes} {e} h one k lender refused =
+advances_sink_failed {f} {a} {t} {b} {q} {s} {bytes} {e} h one k lender refused =
     let o = a.printer.options in
     let ts : List Task = b.printer.tasks in
     let st = state_at b.printer in

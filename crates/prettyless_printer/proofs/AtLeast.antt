@@ -7,8 +7,8 @@ use Rattle.prettyless_sink.specs.Sink.{rise}
 use Rattle.prettyless_model.specs.Spaces.{spaces}
 use Rattle.prettyless_model.specs.declared.options.RenderOptions.{RenderOptions}
 use Rattle.prettyless_sink.specs.declared.visits.Visits.{Visits}
-use Rattle.prettyless_model.specs.Tree.{Tree, Nil, Fail, Text, TextWithLen, MultilineText, WeakSpace, HardLine, WeakLine, Append}
-use Rattle.prettyless_model.specs.Tree.{LineSuffix, Nest, DedentToRoot, Align, ExpandParent, Flatten, BreakOrFlat, Group, Union}
+use Rattle.prettyless_model.specs.Tree.{Tree, Fail, Text, TextWithLen, MultilineText, HardLine, WeakLine, Append}
+use Rattle.prettyless_model.specs.Tree.{Nest, DedentToRoot, Align, Flatten, BreakOrFlat, Group, Union}
 use Rattle.prettyless_model.specs.Tree.{PartialUnion, OnColumn, OnNesting}
 use Rattle.prettyless_model.specs.Choice.{column_holds, nesting_holds}
 use Rattle.prettyless_model.specs.Metrics.{metrics}
@@ -26,6 +26,7 @@ use Rattle.prettyless_probe.specs.Stack.{Task, make_task, tasks, follow}
 use Rattle.prettyless_step.specs.Steps.{Step, Move, Stuck, Choose, step_of, union_step, decided_by_metrics, break_step, at_once}
 use Rattle.prettyless_step.proofs.Shown.{step_at, Leads, Asks}
 use Rattle.prettyless_printer.specs.Points.{Point, Standing, state_at}
+use Rattle.prettyless_printer.specs.Open.{BeginsTrial}
 use Rattle.prettyless_printer.specs.Trials.{Tries}
 use Rattle.prettyless_printer.specs.Visits.{Rise}
 use Rattle.prettyless_printer.specs.AtLeast.{tally_above, tally_choice, nothing_left, CountsAtLeast, stack_tally, choice_tally, trial_tally}
@@ -33,6 +34,8 @@ use Rattle.prettyless_printer.specs.AtLeast.{VisitedAtLeast}
 use Rattle.prettyless_probe.specs.Probing.{RisesBy}
 use Rattle.prettyless_printer.proofs.Runs.{follow-tasks, payload_branch, no_padding}
 use Rattle.prettyless_printer.proofs.Standings.{Pushed}
+
+-- # What tasks count
 
 -- what a task counts, and then those after it
 abbrev tally_with : RenderOptions → ℕ → Task → List Task → State → Weight → ℕ
@@ -170,13 +173,10 @@ module _ (o : RenderOptions) (n : ℕ) (ts : List Task) (st : State) (w : Weight
   step_counts : (d : Tree) (i : ℕ) (m : Mode) →
       StepCounts o n ts st w (tally_with o n (make_task i m d) ts st w) (w d m) (step_of o d i m (follow ts) st)
   unfolding lay tally
-  step_counts Nil i m = omega arith
   step_counts Fail i m = tt
   step_counts (Text s) i m = at_once_counts (w (Text s) m) (lay_text o (length s) s st)
   step_counts (TextWithLen k s) i m = at_once_counts (w (TextWithLen k s) m) (lay_text o k s st)
-  step_counts (MultilineText s) i Break = omega arith
   step_counts (MultilineText s) i Flat = tt
-  step_counts WeakSpace i m = omega arith
   step_counts HardLine i Break =
       subst (λ (z : Outcome). StepCounts o n ts st w (w HardLine Break + counted_then z (λ u. tally_above o n ts u w)) (w HardLine Break)
       (break_step o st.pending HardLine i Break (follow ts) st))
@@ -193,11 +193,9 @@ module _ (o : RenderOptions) (n : ℕ) (ts : List Task) (st : State) (w : Weight
       let b = appended out (λ u. tally o r i m (follow ts) u w) (λ u. counted_then (lay o (settle o) r i m (follow ts) u) next)
       (λ u. tally_above o n (make_task i m r ∷ ts) u w) (λ u. above_is o n (make_task i m r) ts u w h) in
       omega (arith, a, b, above_is o n (make_task i m l) (make_task i m r ∷ ts) st w (omega (arith, h)))
-  step_counts (LineSuffix d) i m = omega arith
   step_counts (Nest k d) i m = omega (arith, first_is (make_task (nested i k) m d))
   step_counts (DedentToRoot d) i m = omega (arith, first_is (make_task 0 m d))
   step_counts (Align d) i m = omega (arith, first_is (make_task (prospective st.column) m d))
-  step_counts ExpandParent i m = omega arith
   step_counts (Flatten d) i m = omega (arith, first_is (make_task i Flat d))
   step_counts (BreakOrFlat b f) i Break = omega (arith, first_is (make_task i Break b))
   step_counts (BreakOrFlat b f) i Flat = omega (arith, first_is (make_task i Flat f))
@@ -211,6 +209,7 @@ module _ (o : RenderOptions) (n : ℕ) (ts : List Task) (st : State) (w : Weight
   step_counts (PartialUnion l r) i Flat = omega (arith, first_is (make_task i Flat l))
   step_counts (OnColumn test l r) i m = omega (arith, either_counts l r i m (column_holds test (prospective st.column) i))
   step_counts (OnNesting test l r) i m = omega (arith, either_counts l r i m (nesting_holds test i))
+  step_counts _ i m = omega arith
 
 -- # Counts in a row
 
@@ -218,18 +217,18 @@ pub at_least_same : (a : Weight → ℕ) (v : Visits) → CountsAtLeast a a v v
 at_least_same a v = record { printer = omega arith; probes = omega arith }
 
 pub at_least_then : {a b c : Weight → ℕ} {v w x : Visits} → CountsAtLeast a b v w → CountsAtLeast b c w x → CountsAtLeast a c v x
-at_least_then {a} {b} {c} {v} {w} {x} h k =
+at_least_then h k =
     record { printer = omega (arith, h.printer, k.printer); probes = omega (arith, h.probes, k.probes) }
 
 -- less was left before, and more is left afterwards
 pub at_least_at : {a b c e : Weight → ℕ} {v w : Visits} → ((k : Weight) → c k ≤ a k) → ((k : Weight) → b k ≤ e k) → CountsAtLeast a b v w
     → CountsAtLeast c e v w
-at_least_at {a} {b} {c} {e} {v} {w} g h m =
+at_least_at g h m =
     record { printer = omega (arith, g each_node, h each_node, m.printer); probes = omega (arith, g each_probe, h each_probe, m.probes) }
 
 -- counts that did not fall, where no less is left
 pub at_least_rise : {a b : Weight → ℕ} {v w : Visits} → Rise v w → ((k : Weight) → a k ≤ b k) → CountsAtLeast a b v w
-at_least_rise {a} {b} {v} {w} r h =
+at_least_rise r h =
     record { printer = omega (arith, h each_node, r.printer); probes = omega (arith, h each_probe, r.probes) }
 
 -- one node was counted, and the probe that it needs
@@ -309,7 +308,7 @@ rejected_counts o was (Failed b) x y e = refl
 -- a choice whose first branch is kept
 pub kept_at_least : {E : Type 0} {i : ℕ} {x : Tree} {a b : Point} (y : Tree) (n : ℕ) → Tries {E = E} i x a b (Ok true) →
     CountsAtLeast (choice_tally a.printer n i x y) (stack_tally b.printer n) a.visits b.visits
-kept_at_least {E} {i} {x} {a} {b} y n tries =
+kept_at_least {i} {x} {a} {b} y n tries =
     let p = a.printer in
     let d = tries.decided in
     let m = tries.at_least in
@@ -330,7 +329,7 @@ kept_at_least {E} {i} {x} {a} {b} y n tries =
 pub other_at_least : {E : Type 0} {i : ℕ} {x y : Tree} {a b : Point} {q : Standing} (n : ℕ) → n ≤ length a.printer.tasks
     → Tries {E = E} i x a b (Ok false) → Pushed (make_task i Break y) b.printer q →
     CountsAtLeast (choice_tally a.printer n i x y) (stack_tally q n) a.visits b.visits
-other_at_least {E} {i} {x} {y} {a} {b} {q} n l tries pushed =
+other_at_least {i} {x} {y} {a} {q} n l tries pushed =
     let p = a.printer in
     let d = tries.decided in
     let ts : List Task = p.tasks in
@@ -348,29 +347,28 @@ other_at_least {E} {i} {x} {y} {a} {b} {q} n l tries pushed =
     ))
 
 -- a trial begins
-pub trial_begins : (p q : Standing) (i : ℕ) (d : Tree) (v : Visits) → q.options ≡ p.options → q.tasks ≡ make_task i Break d ∷ p.tasks
-    → state_at q ≡ tried (state_at p) →
+pub trial_begins : {p q : Standing} {i : ℕ} {d : Tree} (v : Visits) → BeginsTrial i d p q →
     CountsAtLeast (trial_tally p i d) (stack_tally q (length p.tasks)) v v
-trial_begins p q i d v o e s =
+trial_begins {p} {q} {i} {d} v h =
     let ts : List Task = p.tasks in
     let t : Task = make_task i Break d in
     at_least_rise (record { printer = omega arith; probes = omega arith })
     (λ k. omega (
       arith,
-      stack_counts q (length ts) p.options (t ∷ ts) (tried (state_at p)) k o e s,
+      stack_counts q (length ts) p.options (t ∷ ts) (tried (state_at p)) k h.options h.tasks h.state,
       above_is p.options (length ts) t ts (tried (state_at p)) k (omega arith),
     ))
 
 -- no more than n tasks are left
 pub at_least_end : {a : Weight → ℕ} {v w : Visits} (p : Standing) (n : ℕ) → length p.tasks ≤ n → CountsAtLeast a (stack_tally p n) v w
     → CountsAtLeast a nothing_left v w
-at_least_end {a} {v} {w} p n l m = at_least_at (λ k. omega arith) (λ k. omega (arith, above_none p.options n p.tasks (state_at p) k l)) m
+at_least_end p n l m = at_least_at (λ k. omega arith) (λ k. omega (arith, above_none p.options n p.tasks (state_at p) k l)) m
 
 -- a run that has worked on one tree from the beginning
 pub visited_at_least : {A E : Type 0} (d : Tree) (p : Standing) (v w : Visits) (r : Result A E) → p.tasks ≡ make_task 0 Break d ∷ []
     → state_at p ≡ initial →
     OnOk r (CountsAtLeast (stack_tally p 0) nothing_left v w) → OnOk r (VisitedAtLeast p.options d v w)
-visited_at_least {A} {E} d p v w (Ok x) e s m =
+visited_at_least d p v w (Ok x) e s m =
     let less : (k : Weight) → tally p.options d 0 Break [] initial k ≤ stack_tally p 0 k = λ k.
     omega (
       arith,
@@ -379,4 +377,4 @@ visited_at_least {A} {E} d p v w (Ok x) e s m =
           initial k (omega arith),
     ) in
     record { printer = omega (arith, less each_node, m.printer); probes = omega (arith, less each_probe, m.probes) }
-visited_at_least {A} {E} d p v w (Err x) e s m = tt
+visited_at_least d p v w (Err x) e s m = tt

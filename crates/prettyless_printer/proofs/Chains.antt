@@ -25,6 +25,8 @@ use Rattle.prettyless_printer.proofs.TrialSteps.{CutBack, began_plain, choice_br
 use Rattle.prettyless_printer.proofs.TrialSteps.{trial_undone}
 use Rattle.prettyless_printer.proofs.Visits.{rise_then, at_most_first, at_most_then}
 
+-- # Trials in one another
+
 -- a trial more is open
 chain_push : (o : Attempt) (us : List Held) (t : Attempt) (u : Held) (c : Attempt) → Chain o us t → Link t u c → Chain o (us ++ u ∷ []) c
 chain_push o [] t u c h link = (c, subst (λ (x : Attempt). Link x u c) h link, refl)
@@ -58,7 +60,7 @@ pub record Last (n : ℕ) (t : Attempt) : Type 0 where
 
 -- the outermost one
 pub first_last : {m : Mark} {t : Attempt} → Marked m t.start → Last m.commands t
-first_last {m} {t} marked = record { height = marked.marks.commands; is_known = marked.is_known }
+first_last marked = record { height = marked.marks.commands; is_known = marked.is_known }
 
 pub chain_last : (u : Held) (us : List Held) (o t : Attempt) → Last u.mark.commands o → Chain o us t → Last (below_last u us) t
 chain_last u [] o t last h = subst (λ (x : Attempt). Last u.mark.commands x) (sym h) last
@@ -81,13 +83,13 @@ chain_broke o (u ∷ us) t b h broke = broke_outside o h.0 u.second b h.1.choice
 
 -- it ended in an error wherever as much was visited
 pub broke_at : {t : Attempt} {b c : Point} → c.visits ≡ b.visits → TrialBroke t b → TrialBroke t c
-broke_at {t} {b} {c} e h =
+broke_at {t} {c} e h =
     subst (λ (v : Visits). TrialBroke t (point_at c.printer c.sink v)) (sym e) (record { rise = h.rise; at_most = h.at_most })
 
 -- a trial that begins
 on_begun : {a : Point} {m : Mark} {i : ℕ} {d : Tree} {q : Standing} → Marked m a → BeginsTrial i d a.printer q
     → OnTrial (attempt a i d) m.commands (point_at q a.sink a.visits)
-on_begun {a} {m} {i} {d} {q} marked begins = record {
+on_begun {a} {i} {d} {q} marked begins = record {
   is_known = marked.is_known;
   path = trial_run_begins a q i d begins;
   within = ap (λ (z : State). z.within) begins.state;
@@ -97,7 +99,7 @@ on_begun {a} {m} {i} {d} {q} marked begins = record {
 -- the outermost one begins
 pub open_begins : {a : Point} {m : Mark} {i : ℕ} {x : Tree} {q : Standing} (y : Tree) → Marked m a → BeginsTrial i x a.printer q →
     Open (attempt a i x) y (record { mark = m; indent = i; second = y } ∷ []) (point_at q a.sink a.visits)
-open_begins {a} {m} {i} {x} {q} y marked begins = record {
+open_begins {a} {i} {x} y marked begins = record {
   holds = record { indent = refl; second = refl; marked = marked };
   trial = attempt a i x;
   chain = refl;
@@ -114,7 +116,7 @@ pub record Took {N E : Type 0} (f : N → Tree) (s : Attempt) (y : Tree) (us : L
 
 pub took : {N : Type 0} (E : Type 0) (f : N → Tree) {s : Attempt} {y : Tree} {us : List Held} {a b : Point} {r : Result (TrialState N) E}
     → Open s y us a → Courses f (below_all us) a b r → Took f s y us a b r
-took {N} E f {s} {y} {us} {a} {b} {r} trials courses = record { trials = trials; courses = courses }
+took E f trials courses = record { trials = trials; courses = courses }
 
 module _ {N E : Type 0} {f : N → Tree} {s : Attempt} {y : Tree} {a b : Point} where
   -- the innermost one goes on
@@ -157,7 +159,7 @@ module _ {N E : Type 0} {f : N → Tree} {s : Attempt} {y : Tree} {a b : Point} 
       → Opens f i (f z) b.printer b.sink us vs → BeginsTrial i (f x) b.printer q → IsUtf8 (known b.sink.bytes)
       → Open s y vs (point_at q b.sink b.visits)
   open_more {us = []} h opens begins text = absurd h.trials
-  open_more {us = u ∷ us} {vs} {i} {x} {z} {q} h opens begins text =
+  open_more {us = u ∷ us} {i} {x} {z} {q} h opens begins text =
       let k = h.trials in
       let w : Held = record { mark = opens.mark; indent = i; second = f z } in
       let choice = (h.courses k.trial k.on).0 in
@@ -177,23 +179,23 @@ module _ {N E : Type 0} {f : N → Tree} {s : Attempt} {y : Tree} {a b : Point} 
 -- it is over, with the flag as it was
 kept_tries : {E : Type 0} {t : Attempt} {m : Mark} {b : Point} {r : Standing} → Marked m t.start → Lasts t b
     → Flagged m.within b.printer r → Tries {E = E} t.indent t.branch t.start (point_at r b.sink b.visits) (Ok true)
-kept_tries {E} {t} {m} {b} {r} marked lasts kept = trial_over lasts (subst (λ (w : Bool). Flagged w b.printer r) marked.marks.within kept)
+kept_tries {b} {r} marked lasts kept = trial_over lasts (subst (λ (w : Bool). Flagged w b.printer r) marked.marks.within kept)
 
--- what became of open trials where the innermost one is kept
-abbrev pub KeepsOn : Type 0 → Attempt → Tree → List Held → Point → Type 0
-KeepsOn E s y [] b = Tries {E = E} s.indent s.branch s.start b (Ok true)
-KeepsOn E s y (u ∷ us) b = Open s y (u ∷ us) b
-
--- the innermost one is kept
-kept_split : {N E : Type 0} {f : N → Tree} {s : Attempt} {y : Tree} {a b : Point} {r : Standing} (vs : List Held) (u : Held)
-    → Took {E = E} f s y (vs ++ u ∷ []) a b (Ok trial_state.Complete) → Flagged u.mark.within b.printer r →
-    KeepsOn E s y vs (point_at r b.sink b.visits)
-kept_split {N} {E} {f} {s} {y} {a} {b} {r} [] u h kept =
+-- the outermost one is kept
+kept_last : {N E : Type 0} {f : N → Tree} {s : Attempt} {y : Tree} {a b : Point} {u : Held} {r : Standing}
+    → Took {E = E} f s y (u ∷ []) a b (Ok trial_state.Complete) → Flagged u.mark.within b.printer r →
+    Tries {E = E} s.indent s.branch s.start (point_at r b.sink b.visits) (Ok true)
+kept_last {E} {b} {u} {r} h kept =
     let k = h.trials in
     let marked = subst (λ (x : Attempt). Marked u.mark x.start) (sym k.chain) k.holds.marked in
     subst (λ (x : Attempt). Tries {E = E} x.indent x.branch x.start (point_at r b.sink b.visits) (Ok true)) k.chain
     (kept_tries marked (h.courses k.trial k.on).0 kept)
-kept_split {N} {E} {f} {s} {y} {a} {b} {r} (v ∷ vs) u h kept =
+
+-- an inner one is kept
+kept_inner : {N E : Type 0} {f : N → Tree} {s : Attempt} {y : Tree} {a b : Point} {r : Standing} (v : Held) (vs : List Held) (u : Held)
+    → Took {E = E} f s y (v ∷ vs ++ u ∷ []) a b (Ok trial_state.Complete) → Flagged u.mark.within b.printer r →
+    Open s y (v ∷ vs) (point_at r b.sink b.visits)
+kept_inner {E} {s} {b} {r} v vs u h kept =
     let k = h.trials in
     let t = k.trial in
     let lasts = (h.courses t k.on).0 in
@@ -216,24 +218,27 @@ kept_split {N} {E} {f} {s} {y} {a} {b} {r} (v ∷ vs) u h kept =
       };
     }
 
-pub open_kept : {N E : Type 0} {f : N → Tree} {s : Attempt} {y : Tree} {a b : Point} {us : List Held} {r : Standing} (vs : List Held)
-    (u : Held) → us ≡ vs ++ u ∷ [] → Took {E = E} f s y us a b (Ok trial_state.Complete) → Flagged u.mark.within b.printer r →
-    KeepsOn E s y vs (point_at r b.sink b.visits)
-open_kept {N} {E} {f} {s} {y} {a} {b} {us} {r} vs u popped h =
-    kept_split vs u (subst (λ (z : List Held). Took {E = E} f s y z a b (Ok trial_state.Complete)) popped h)
+-- the same of all that were open
+module _ {N E : Type 0} {f : N → Tree} {s : Attempt} {y : Tree} {a b : Point} {us : List Held} {r : Standing} where
+  pub open_kept : (vs : List Held) (u : Held) → us ≡ vs ++ u ∷ [] → 0 < length vs
+      → Took {E = E} f s y us a b (Ok trial_state.Complete) → Flagged u.mark.within b.printer r → Open s y vs (point_at r b.sink b.visits)
+  open_kept [] u popped some h = absurd (omega (arith, some))
+  open_kept (v ∷ vs) u popped some h =
+      kept_inner v vs u (subst (λ (z : List Held). Took {E = E} f s y z a b (Ok trial_state.Complete)) popped h)
+
+  pub last_kept : (vs : List Held) (u : Held) → us ≡ vs ++ u ∷ [] → vs ≡ []
+      → Took {E = E} f s y us a b (Ok trial_state.Complete) → Flagged u.mark.within b.printer r
+      → Tries {E = E} s.indent s.branch s.start (point_at r b.sink b.visits) (Ok true)
+  last_kept vs u popped none h = kept_last (subst (λ (z : List Held). Took {E = E} f s y z a b (Ok trial_state.Complete))
+      (popped ∙ ap (λ (z : List Held). z ++ u ∷ []) none) h)
 
 -- # A trial that is undone
 
--- what becomes of open trials where the innermost one is undone, and its second branch comes next
-abbrev pub GoesOnSecond : Type 0 → Attempt → Tree → List Held → Point → Type 0
-GoesOnSecond E s y [] b = ComesSecond E s y b
-GoesOnSecond E s y (u ∷ us) b = Open s y (u ∷ us) b
-
--- the innermost one is undone, and its second branch comes next
-other_split : {N E : Type 0} {f : N → Tree} {s : Attempt} {y : Tree} {a b : Point} {q : Standing} {w : Seen} (vs : List Held) (u : Held)
-    (r : Standing) → Took {E = E} f s y (vs ++ u ∷ []) a b (Ok trial_state.Rejected) → Restores u.mark b.printer r
-    → CutBack u.mark b.sink w → Pushed (make_task u.indent Break u.second) r q → GoesOnSecond E s y vs (point_at q w b.visits)
-other_split {N} {E} {f} {s} {y} {a} {b} {q} {w} [] u r h back cut pushed =
+-- the outermost one is undone, and its second branch comes next
+back_last : {N E : Type 0} {f : N → Tree} {s : Attempt} {y : Tree} {a b : Point} {u : Held} {q : Standing} {w : Seen} (r : Standing)
+    → Took {E = E} f s y (u ∷ []) a b (Ok trial_state.Rejected) → Restores u.mark b.printer r → CutBack u.mark b.sink w
+    → Pushed (make_task u.indent Break u.second) r q → ComesSecond E s y (point_at q w b.visits)
+back_last {E} {s} {b} {u} r h back cut pushed =
     let k = h.trials in
     let fell = subst (λ (x : Attempt). Fallen x b) k.chain (h.courses k.trial k.on) in
     record {
@@ -245,7 +250,12 @@ other_split {N} {E} {f} {s} {y} {a} {b} {q} {w} [] u r h back cut pushed =
       options = pushed.options;
       grows = pushed.grows;
     }
-other_split {N} {E} {f} {s} {y} {a} {b} {q} {w} (v ∷ vs) u r h back cut pushed =
+
+-- an inner one is undone
+back_inner : {N E : Type 0} {f : N → Tree} {s : Attempt} {y : Tree} {a b : Point} {q : Standing} {w : Seen} (v : Held) (vs : List Held)
+    (u : Held) (r : Standing) → Took {E = E} f s y (v ∷ vs ++ u ∷ []) a b (Ok trial_state.Rejected) → Restores u.mark b.printer r
+    → CutBack u.mark b.sink w → Pushed (make_task u.indent Break u.second) r q → Open s y (v ∷ vs) (point_at q w b.visits)
+back_inner {E} {s} {b} {q} {w} v vs u r h back cut pushed =
     let k = h.trials in
     let t = k.trial in
     let fell = h.courses t k.on in
@@ -268,12 +278,20 @@ other_split {N} {E} {f} {s} {y} {a} {b} {q} {w} (v ∷ vs) u r h back cut pushed
       };
     }
 
-pub open_other : {N E : Type 0} {f : N → Tree} {s : Attempt} {y : Tree} {a b : Point} {us : List Held} {q : Standing} {w : Seen}
-    (vs : List Held) (u : Held) (r : Standing) → us ≡ vs ++ u ∷ [] → Took {E = E} f s y us a b (Ok trial_state.Rejected)
-    → Restores u.mark b.printer r → CutBack u.mark b.sink w → Pushed (make_task u.indent Break u.second) r q →
-    GoesOnSecond E s y vs (point_at q w b.visits)
-open_other {N} {E} {f} {s} {y} {a} {b} {us} {q} {w} vs u r popped h =
-    other_split vs u r (subst (λ (z : List Held). Took {E = E} f s y z a b (Ok trial_state.Rejected)) popped h)
+-- the same of all that were open
+module _ {N E : Type 0} {f : N → Tree} {s : Attempt} {y : Tree} {a b : Point} {us : List Held} {q : Standing} {w : Seen} where
+  pub open_other : (vs : List Held) (u : Held) (r : Standing) → us ≡ vs ++ u ∷ [] → 0 < length vs
+      → Took {E = E} f s y us a b (Ok trial_state.Rejected) → Restores u.mark b.printer r → CutBack u.mark b.sink w
+      → Pushed (make_task u.indent Break u.second) r q → Open s y vs (point_at q w b.visits)
+  open_other [] u r popped some h = absurd (omega (arith, some))
+  open_other (v ∷ vs) u r popped some h =
+      back_inner v vs u r (subst (λ (z : List Held). Took {E = E} f s y z a b (Ok trial_state.Rejected)) popped h)
+
+  pub last_other : (vs : List Held) (u : Held) (r : Standing) → us ≡ vs ++ u ∷ [] → vs ≡ []
+      → Took {E = E} f s y us a b (Ok trial_state.Rejected) → Restores u.mark b.printer r → CutBack u.mark b.sink w
+      → Pushed (make_task u.indent Break u.second) r q → ComesSecond E s y (point_at q w b.visits)
+  last_other vs u r popped none h = back_last r (subst (λ (z : List Held). Took {E = E} f s y z a b (Ok trial_state.Rejected))
+      (popped ∙ ap (λ (z : List Held). z ++ u ∷ []) none) h)
 
 -- The innermost of open trials, with what is held of it.
 pub record Innermost (u : Held) (n : ℕ) (a : Point) : Type 0 where
@@ -283,9 +301,9 @@ pub record Innermost (u : Held) (n : ℕ) (a : Point) : Type 0 where
 
 innermost_split : (s : Attempt) (y : Tree) {a : Point} (vs : List Held) (u : Held) → Open s y (vs ++ u ∷ []) a
     → Innermost u (below_all (vs ++ u ∷ [])) a
-innermost_split s y {a} [] u h =
+innermost_split s y [] u h =
     record { trial = h.trial; marked = subst (λ (x : Attempt). Marked u.mark x.start) (sym h.chain) h.holds.marked; on = h.on }
-innermost_split s y {a} (v ∷ vs) u h = record { trial = h.trial; marked = (chain_pop s vs u h.trial h.chain).link.holds.marked; on = h.on }
+innermost_split s y (v ∷ vs) u h = record { trial = h.trial; marked = (chain_pop s vs u h.trial h.chain).link.holds.marked; on = h.on }
 
 -- A point at which the innermost trial, of which this is held, is rejected.
 pub record Fell (u : Held) (b : Point) : Type 0 where
@@ -295,7 +313,7 @@ pub record Fell (u : Held) (b : Point) : Type 0 where
 
 pub open_fell : {N E : Type 0} {f : N → Tree} {s : Attempt} {y : Tree} {a b : Point} {us : List Held} (vs : List Held) (u : Held)
     → us ≡ vs ++ u ∷ [] → Took {E = E} f s y us a b (Ok trial_state.Rejected) → Fell u b
-open_fell {N} {E} {f} {s} {y} {a} {b} {us} vs u popped h =
+open_fell {E} {f} {s} {y} {a} {b} vs u popped h =
     let k = subst (λ (z : List Held). Took {E = E} f s y z a b (Ok trial_state.Rejected)) popped h in
     let last = innermost_split s y vs u k.trials in
     record { trial = last.trial; marked = last.marked; fallen = k.courses last.trial last.on }
@@ -307,47 +325,26 @@ pub open_some : (s : Attempt) (y : Tree) (a : Point) (us : List Held) → Open s
 open_some s y a [] h = absurd h
 open_some s y a (u ∷ us) h = omega arith
 
--- what is kept, or undone, goes on while a trial is open
-pub keeps_open : (E : Type 0) (s : Attempt) (y : Tree) (b : Point) (us : List Held) → 0 < length us → KeepsOn E s y us b → Open s y us b
-keeps_open E s y b [] some h = absurd (omega (arith, some))
-keeps_open E s y b (u ∷ us) some h = h
-
-pub other_open : (E : Type 0) (s : Attempt) (y : Tree) (b : Point) (us : List Held) → 0 < length us
-    → GoesOnSecond E s y us b → Open s y us b
-other_open E s y b [] some h = absurd (omega (arith, some))
-other_open E s y b (u ∷ us) some h = h
-
--- and is over where none is
-pub keeps_over : (E : Type 0) (s : Attempt) (y : Tree) (b : Point) (us : List Held) → us ≡ [] → KeepsOn E s y us b
-    → Tries {E = E} s.indent s.branch s.start b (Ok true)
-keeps_over E s y b [] none h = h
-keeps_over E s y b (u ∷ us) none h = absurd (omega (arith, ap length none))
-
-pub other_over : (E : Type 0) (s : Attempt) (y : Tree) (b : Point) (us : List Held) → us ≡ [] → GoesOnSecond E s y us b
-    → ComesSecond E s y b
-other_over E s y b [] none h = h
-other_over E s y b (u ∷ us) none h = absurd (omega (arith, ap length none))
-
 -- the innermost of a list of open trials
 pub below_index : {N : Type 0} (f : N → Tree) (us : List (OpenTrial N)) (k : ℕ) (u : OpenTrial N) → k + 1 ≡ length us
     → (get_or us k u).mark.commands ≡ below_all (all_held f us)
-below_index {N} f [] k u e = absurd (omega (arith, e))
-below_index {N} f (v ∷ []) zero u e = refl
-below_index {N} f (v ∷ []) (suc k) u e = absurd (omega (arith, e))
-below_index {N} f (v ∷ w ∷ us) zero u e = absurd (omega (arith, e))
-below_index {N} f (v ∷ w ∷ us) (suc k) u e = below_index f (w ∷ us) k u (omega (arith, e))
+below_index f [] k u e = absurd (omega (arith, e))
+below_index f (v ∷ []) zero u e = refl
+below_index f (v ∷ []) (suc k) u e = absurd (omega (arith, e))
+below_index f (v ∷ w ∷ us) zero u e = absurd (omega (arith, e))
+below_index f (v ∷ w ∷ us) (suc k) u e = below_index f (w ∷ us) k u (omega (arith, e))
 
 -- one more trial is held
 pub all_held-push : {N : Type 0} (f : N → Tree) (us vs : List (OpenTrial N)) (u : OpenTrial N) → us ≡ vs ++ u ∷ []
     → all_held f us ≡ all_held f vs ++ held f u ∷ []
-all_held-push {N} f us vs u e = ap (all_held f) e ∙ map-append (held f) vs (u ∷ [])
+all_held-push f us vs u e = ap (all_held f) e ∙ map-append (held f) vs (u ∷ [])
 
 -- so many are held as are open
 pub length-all_held : {N : Type 0} (f : N → Tree) (us : List (OpenTrial N)) → length (all_held f us) ≡ length us
-length-all_held {N} f us = length-map us (held f)
+length-all_held f us = length-map us (held f)
 
 -- a refusal of memory ends open trials wherever as much was visited
 pub ends_broke : (E : Type 0) (limit : ℕ) (s : Attempt) (y : Tree) {b : Point} (us : List Held) (r : Result TrialResult E) → IsErr r
     → TrialBroke s b → Ends limit s y b us r
-ends_broke E limit s y {b} us (Ok x) e h = cc
-ends_broke E limit s y {b} us (Err x) e h = h
+ends_broke E limit s y us (Ok x) e h = cc
+ends_broke E limit s y us (Err x) e h = h

@@ -21,7 +21,7 @@ pub chooses_kept : {A E D : Type 0} {i : ℕ} {x y : Tree} {a c : Point} {s t ou
     Tries {E = D} i x (point_at a.printer s a.visits) (point_at c.printer t c.visits) (Ok true) → out ≡ a.sink
     → c.sink.lender ≡ out.lender →
     Accepts out.bytes c.sink.bytes (known t.bytes) out.failures c.sink.failures → Chooses {A = A} {E = E} i x y a c (Ok z)
-chooses_kept {A} {E} {D} {i} {x} {y} {a} {c} {s} {t} {out} {z} empty tries same lender accepts =
+chooses_kept {a} {c} {t} empty tries same lender accepts =
     let wrote = subst (λ (u : Seen). Accepts u.bytes c.sink.bytes (known t.bytes) u.failures c.sink.failures) same accepts in
     record {
       lessens = omega (arith, tries.decided.4, ap nodes tries.decided.0);
@@ -37,7 +37,7 @@ pub chooses_unwritten : {A E D : Type 0} {i : ℕ} {x y : Tree} {a c : Point} {s
     Tries {E = D} i x (point_at a.printer s a.visits) (point_at c.printer t c.visits) (Ok true) → out ≡ a.sink
     → c.sink.lender ≡ out.lender →
     Refuses out.bytes c.sink.bytes (known t.bytes) out.failures c.sink.failures → Chooses {A = A} {E = E} i x y a c (Err (Sink z))
-chooses_unwritten {A} {E} {D} {i} {x} {y} {a} {c} {s} {t} {out} {z} empty tries same lender refuses =
+chooses_unwritten {a} {c} {t} {z} empty tries same lender refuses =
     let wrote = subst (λ (u : Seen). Refuses u.bytes c.sink.bytes (known t.bytes) u.failures c.sink.failures) same refuses in
     record {
       lessens = tt;
@@ -58,7 +58,7 @@ chooses_unwritten {A} {E} {D} {i} {x} {y} {a} {c} {s} {t} {out} {z} empty tries 
 pub chooses_other : {A E D : Type 0} {i : ℕ} {x y : Tree} {a c : Point} {s t : Seen} {z : A} →
     ComesSecond D (attempt (point_at a.printer s a.visits) i x) y (point_at c.printer t c.visits) → c.sink ≡ a.sink
     → Chooses {A = A} {E = E} i x y a c (Ok z)
-chooses_other {A} {E} {D} {i} {x} {y} {a} {c} {s} {t} {z} second same =
+chooses_other {a} {s} {t} second same =
     let tries = second.tries in
     record {
       lessens = omega (
@@ -81,7 +81,7 @@ chooses_other {A} {E} {D} {i} {x} {y} {a} {c} {s} {t} {z} second same =
 pub chooses_broke : {A E : Type 0} {i : ℕ} {x y : Tree} {a c : Point} {s t : Seen} {z : _} →
     TrialBroke (attempt (point_at a.printer s a.visits) i x) (point_at c.printer t c.visits) → c.sink ≡ a.sink
     → Chooses {A = A} {E = E} i x y a c (Err (Memory z))
-chooses_broke {A} {E} {i} {x} {y} {a} {c} {s} {t} {z} broke same = record {
+chooses_broke {i} {x} {a} {s} {z} broke same = record {
   lessens = tt;
   runs = λ run waiting.
       choice_refused (λ _. ⊥) z waiting (ap (λ (u : Seen). u.lender) same)
@@ -94,7 +94,7 @@ chooses_broke {A} {E} {i} {x} {y} {a} {c} {s} {t} {z} broke same = record {
 pub choice_opens : {N : Type 0} {f : N → Tree} {i : ℕ} {x y : Tree} {a : Point} {s : Seen} {us vs : List Held} {q : Standing} → us ≡ []
     → known s.bytes ≡ [] → IsSome s.bytes → IsUtf8 (known s.bytes) →
     Opens f i y a.printer s us vs → BeginsTrial i x a.printer q → InChoice i x y a vs s (point_at q a.sink a.visits)
-choice_opens {N} {f} {i} {x} {y} {a} {s} {us} {vs} {q} none empty is_known text opens begun =
+choice_opens {i} {x} {y} {a} {s} {vs} {q} none empty is_known text opens begun =
     let one : Held = record { mark = opens.mark; indent = i; second = y } in
     let start : Point = point_at a.printer s a.visits in
     let alone : vs ≡ one ∷ [] = opens.more ∙ ap (λ (u : List Held). u ++ one ∷ []) none in

@@ -60,7 +60,7 @@ above-above p q r a b = (
 
 -- a trial is above where it began
 above_trial : {t : Attempt} {below : ℕ} {b : Point} → OnTrial t below b → Above t.start.printer b.printer
-above_trial {t} {below} {b} h =
+above_trial h =
     let k = (h.path.bytes h.is_known).1.0 in
     (k.above, k.stack_is, h.path.queue)
 
@@ -152,7 +152,7 @@ module _ {N E : Type 0} {f : N → Tree} {s : Attempt} {y : Tree} {a b : Point} 
       → Opens f i (f z) b.printer b.sink us vs → BeginsTrial i (f x) b.printer c.printer → IsUtf8 (known b.sink.bytes)
       → left_at c vs < left_at a us
   less_more {us = []} c h opens begins text = absurd h.trials
-  less_more {us = o ∷ us} {vs} {i} {x} {z} c h opens begins text =
+  less_more {us = o ∷ us} {i} {x} {z} c h opens begins text =
       let q = c.printer in
       let u : Held = record { mark = opens.mark; indent = i; second = f z } in
       let l = h.trials in
@@ -211,12 +211,11 @@ module _ {N E : Type 0} {f : N → Tree} {s : Attempt} {y : Tree} {a b : Point} 
       let fell = h.courses t k.on in
       let p = chain_pop s vs u t k.chain in
       let start = p.link.holds.marked in
-      let m = u.mark in
       let link = above_link p.trial u t (chain_last o vs s p.trial (first_last k.holds.marked) p.chain).is_known p.link in
       let tasks_r : r.tasks ≡ t.start.printer.tasks = back.0 fell.above t.start.printer.tasks fell.stack (sym start.marks.commands) in
       let state_r : state_at r ≡ state_at t.start.printer =
-      restored t.start.printer b.printer r m t.start.sink start.marks fell.grows back in
-      let queue_r = restored_queue t.start.printer b.printer r m t.start.sink start.marks fell.grows back in
+      restored b.printer r start.marks fell.grows back in
+      let queue_r = restored_queue b.printer r start.marks fell.grows back in
       let over_q : Above t.start.printer q = (
         make_task u.indent Break u.second ∷ [],
         pushed.tasks ∙ ap (λ (z : List Task). make_task u.indent Break u.second ∷ z) tasks_r,
@@ -239,13 +238,13 @@ module _ {N E : Type 0} {f : N → Tree} {s : Attempt} {y : Tree} {a b : Point} 
   -- the same of all that were open
   pub less_kept : {us : List Held} (vs : List Held) (u : Held) (c : Point) → us ≡ vs ++ u ∷ [] → 0 < length vs
       → Took {E = E} f s y us a b (Ok trial_state.Complete) → Flagged u.mark.within b.printer c.printer → left_at c vs < left_at a us
-  less_kept {us} vs u c popped some h kept =
+  less_kept vs u c popped some h kept =
       subst (λ (z : List Held). left_at c vs < left_at a z) (sym popped)
       (kept_split vs u c some (subst (λ (z : List Held). Took {E = E} f s y z a b (Ok trial_state.Complete)) popped h) kept)
 
   pub less_other : {us : List Held} (vs : List Held) (u : Held) (r : Standing) (c : Point) → us ≡ vs ++ u ∷ [] → 0 < length vs
       → Took {E = E} f s y us a b (Ok trial_state.Rejected) → Restores u.mark b.printer r
       → Pushed (make_task u.indent Break u.second) r c.printer → left_at c vs < left_at a us
-  less_other {us} vs u r c popped some h back pushed =
+  less_other vs u r c popped some h back pushed =
       subst (λ (z : List Held). left_at c vs < left_at a z) (sym popped)
       (other_split vs u r c some (subst (λ (z : List Held). Took {E = E} f s y z a b (Ok trial_state.Rejected)) popped h) back pushed)

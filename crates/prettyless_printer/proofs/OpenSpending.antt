@@ -23,6 +23,8 @@ use Rattle.prettyless_printer.proofs.TrialSteps.{began_plain}
 use Rattle.prettyless_printer.proofs.Spending.{on_tasks, spends_then}
 use Rattle.prettyless_printer.proofs.Standings.{Pushed}
 
+-- # Options and line suffixes
+
 -- the options of open trials are those of the outermost one
 chain_options : (o : Attempt) (us : List Held) (t : Attempt) → Chain o us t → t.start.printer.options ≡ o.start.printer.options
 chain_options o [] t h = ap (λ (x : Attempt). x.start.printer.options) h
@@ -51,11 +53,13 @@ open_plain s y b (u ∷ us) h plain =
     let began = chain_plain s us t h.chain (record { start = plain.plain; branch = plain.first }) in
     (h.on.path.at_most (began_plain t began.start began.branch)).0
 
+-- # A turn of the innermost trial
+
 -- the same beside the second branches of open trials
 pub spends_beside : {r : Rule} {ts us : List Task} {q q' : List Tree} {v w : Visits} (ds : List Tree)
     → Spends r (on_tasks ts q v) (on_tasks us q' w) →
     Spends r (record (on_tasks ts q v) { seconds = ds }) (record (on_tasks us q' w) { seconds = ds })
-spends_beside {r} {ts} {us} {q} {q'} {v} {w} ds h = record {
+spends_beside {q'} ds h = record {
   nodes = omega (arith, h.nodes);
   printer = omega (arith, h.printer);
   queue = h.queue;
@@ -76,7 +80,7 @@ pub open_spends : {has : Bool} {limit : ℕ} {s : Attempt} {y : Tree} {us vs : L
     Spends (rule_of has a.printer.options limit) start (left b.printer (seconds vs) b.visits) →
     (Plain b.printer → Spends (rule_of has b.printer.options limit) (left b.printer [] b.visits) (on_tasks ts q w)) →
     Spends (rule_of has a.printer.options limit) start (record (on_tasks ts q w) { seconds = seconds vs })
-open_spends {has} {limit} {s} {y} {us} {vs} {a} {b} {start} {ts} {q} {w} between h k =
+open_spends {has} {limit} {s} {y} {us} {vs} {a} {b} {ts} {q} {w} between h k =
     let same = open_options s y b vs between.now ∙ sym (open_options s y a us between.before) in
     spends_then h
     (subst (λ (o : RenderOptions). Spends (rule_of has o limit) (left b.printer (seconds vs) b.visits)
@@ -86,8 +90,10 @@ open_spends {has} {limit} {s} {y} {us} {vs} {a} {b} {start} {ts} {q} {w} between
 -- what ended in an error has nothing left
 pub spends_broke_as : {A E : Type 0} {r : Rule} {a : Left} (b : Left) (result : Result A E) → IsErr result → Spends r a (none_left b.visits)
     → SpendsAs r a b result
-spends_broke_as {A} {E} {r} {a} b (Ok x) e h = cc
-spends_broke_as {A} {E} {r} {a} b (Err x) e h = h
+spends_broke_as b (Ok x) e h = cc
+spends_broke_as b (Err x) e h = h
+
+-- # Trials that begin and end
 
 -- Less is left, and nothing was visited.
 pub record LeavesOnly (a b : Left) : Type 0 where
@@ -97,7 +103,7 @@ pub record LeavesOnly (a b : Left) : Type 0 where
   pub visits : b.visits ≡ a.visits
 
 pub spends_leaving : (r : Rule) {a b : Left} → LeavesOnly a b → Spends r a b
-spends_leaving r {a} {b} h = record {
+spends_leaving r h = record {
   nodes = h.nodes;
   printer = omega (arith, h.nodes, ap (λ (v : Visits). v.printer) h.visits);
   queue = h.queue;
@@ -149,7 +155,7 @@ spends_kept {r} {a} {us} {v} p q vs u popped e h k =
 
 back_leaves : {ts : List Task} {i : ℕ} {d : Tree} (p q : Standing) (above : List Task) (ds : List Tree) (v : Visits) → p.tasks ≡ above ++ ts
     → q.tasks ≡ make_task i Break d ∷ ts → (p.queue ≡ [] → q.queue ≡ []) → LeavesOnly (left p (ds ++ d ∷ []) v) (left q ds v)
-back_leaves {ts} {i} {d} p q above ds v e h queue = record {
+back_leaves {ts} {d} p q above ds v e h queue = record {
   nodes = omega (arith, ap nodes e, nodes-append above ts, ap nodes h, sizes_push ds d);
   queue = queue;
   have = λ g.
@@ -175,13 +181,12 @@ spends_back {r} {a} {b} {us} {q} {v} p vs u popped fell back pushed h k =
     (pushed.tasks ∙ ap (λ (z : List Task). make_task u.indent Break u.second ∷ z) tasks)
     (λ none. h ∙ back.1 ∙ take_none u.mark.queue.len b.printer.queue none)))
 
-more_leaves : (p q : Standing) (i : ℕ) (x y : Tree) (ds : List Tree) (v : Visits) → q.tasks ≡ make_task i Break x ∷ p.tasks
-    → q.queue ≡ p.queue →
+more_leaves : {p q : Standing} {i : ℕ} {x : Tree} (y : Tree) (ds : List Tree) (v : Visits) → BeginsTrial i x p q → q.queue ≡ p.queue →
     LeavesOnly (record (left p ds v) { tasks = make_task i Break x ∷ make_task i Break y ∷ p.tasks }) (left q (ds ++ y ∷ []) v)
-more_leaves p q i x y ds v e h = record {
-  nodes = omega (arith, ap nodes e, sizes_push ds y);
+more_leaves y ds v begins h = record {
+  nodes = omega (arith, ap nodes begins.tasks, sizes_push ds y);
   queue = λ none. h ∙ none;
-  have = λ g. (subst HaveSummaries (sym e) (g.0.0, g.0.1.1), trees_have_push ds y g.1 g.0.1.0);
+  have = λ g. (subst HaveSummaries (sym begins.tasks) (g.0.0, g.0.1.1), trees_have_push ds y g.1 g.0.1.0);
   visits = refl;
 }
 
@@ -190,7 +195,7 @@ pub spends_more : {N : Type 0} {r : Rule} {a : Left} {f : N → Tree} {p q : Sta
     {v : Visits} → Opens f i y p s us vs → BeginsTrial i x p q → q.queue ≡ p.queue →
     Spends r a (record (left p (seconds us) v) { tasks = make_task i Break x ∷ make_task i Break y ∷ p.tasks })
     → Spends r a (left q (seconds vs) v)
-spends_more {N} {r} {a} {f} {p} {q} {s} {us} {vs} {i} {x} {y} {v} opens begins h k =
+spends_more {r} {a} {p} {q} {us} {vs} {i} {x} {y} {v} opens begins h k =
     subst (λ (z : List Tree). Spends r a (left q z v))
     (sym (seconds_push vs us (record { mark = opens.mark; indent = i; second = y }) opens.more))
-    (spends_then k (spends_leaving r (more_leaves p q i x y (seconds us) v begins.tasks h)))
+    (spends_then k (spends_leaving r (more_leaves y (seconds us) v begins h)))

@@ -83,7 +83,7 @@ carried {r} {a} {b} p l h = record {
 -- a turn that goes on
 pub goes_on : {N E : Type 0} (f : N → Tree) {r : Run} {a b : Point} → Path r a → length r.below < length a.printer.tasks →
     Advances {N = N} {E = E} f a b (Ok turn_result.Complete) → Path r b
-goes_on {N} {E} f {r} {a} {b} p l h =
+goes_on f p l h =
     carried p l
     (record {
       options = h.options;
@@ -99,7 +99,7 @@ goes_on {N} {E} f {r} {a} {b} p l h =
 -- a turn that stopped
 pub stops : {N E : Type 0} (f : N → Tree) {r : Run} {a b : Point} → Path r a → length r.below < length a.printer.tasks →
     Advances {N = N} {E = E} f a b (Ok turn_result.Shift) → Path r b
-stops {N} {E} f {r} {a} {b} p l h =
+stops f p l h =
     carried p l
     (record {
       options = h.options;
@@ -116,7 +116,7 @@ stops {N} {E} f {r} {a} {b} p l h =
 pub comes_to_wait : {N E : Type 0} (f : N → Tree) {r : Run} {a b : Point} (i : ℕ) (x y : N) → Path r a
     → length r.below < length a.printer.tasks →
     Advances {N = N} {E = E} f a b (Ok (turn_result.Choice i x y)) → length r.below ≤ length b.printer.tasks → Waiting r i (f x) (f y) b
-comes_to_wait {N} {E} f {r} {a} {b} i x y p l h long = record {
+comes_to_wait f {r} {a} {b} i x y p l h long = record {
   options = h.options ∙ p.options;
   queue = begins-grows r.queue a.printer b.printer p.queue h.grows;
   same_lender = h.same_lender ∙ p.same_lender;
@@ -143,7 +143,7 @@ comes_to_wait {N} {E} f {r} {a} {b} i x y p l h long = record {
 pub breaks_off : {N E : Type 0} (f : N → Tree) (fails : E → Type 0) {r : Run} {a b : Point} (e : RenderError E) → Path r a
     → length r.below < length a.printer.tasks →
     Advances {N = N} {E = E} f a b (Err e) → Broke fails r e b
-breaks_off {N} {E} f fails {r} {a} {b} e p l h = record {
+breaks_off {E} f fails {r} {a} {b} e p l h = record {
   same_lender = h.same_lender ∙ p.same_lender;
   bytes = λ is_known.
       let z = h.bytes (p.bytes is_known).0 in
@@ -173,7 +173,7 @@ pub at_failing : {N E : Type 0} (f : N → Tree) {r : Run} {a b : Point} → Pat
     IfKnown r.start.sink.bytes b.sink.bytes (λ old out. Goes f r.start.printer.options b.printer out turn_result.Failed r.whole r.limit
     r.below old
     × (b.sink.failures ≡ r.start.sink.failures))
-at_failing {N} {E} f {r} {a} {b} p l h = λ is_known.
+at_failing f {b} p l h = λ is_known.
     let y = p.bytes is_known in
     let k = h.bytes y.0 in (
       k.0,
@@ -187,7 +187,7 @@ at_failing {N} {E} f {r} {a} {b} p l h = λ is_known.
 pub fails_there : {N E : Type 0} (f : N → Tree) (fails : E → Type 0) {r : Run} {a b : Point} (e : E) → Path r a
     → length r.below < length a.printer.tasks →
     Advances {N = N} {E = E} f a b (Ok turn_result.Failed) → fails e → Broke fails r (Document e) b
-fails_there {N} {E} f fails {r} {a} {b} e p l h w = record {
+fails_there f fails e p l h w = record {
   same_lender = h.same_lender ∙ p.same_lender;
   bytes = λ is_known.
       let k = at_failing f p l h is_known in
@@ -206,7 +206,7 @@ pub goes_on_kept : {E : Type 0} {r : Run} {b c : Point} {s t : Seen} {i : ℕ} {
     Tries {E = E} i x (point_at b.printer s b.visits) (point_at c.printer t c.visits) (Ok true) → c.sink.lender ≡ b.sink.lender →
     IfKnown b.sink.bytes c.sink.bytes (λ out new. ((piece : List ℕ) → known t.bytes ≡ known s.bytes ++ piece → new ≡ out ++ piece)
     × (c.sink.failures ≡ b.sink.failures)) → Path r c
-goes_on_kept {E} {r} {b} {c} {s} {t} {i} {x} {y} w tries lender wrote =
+goes_on_kept {r} {b} {c} {i} {x} {y} w tries lender wrote =
     let d = tries.decided in
     record {
       options = d.1 ∙ w.options;
@@ -238,7 +238,7 @@ pub goes_on_other : {E : Type 0} {r : Run} {b c : Point} {q : Standing} {s t : S
     → c.sink.lender ≡ b.sink.lender →
     IfKnown b.sink.bytes c.sink.bytes (λ out new. (known t.bytes ≡ known s.bytes → new ≡ out) × (c.sink.failures ≡ b.sink.failures))
     → Path r c
-goes_on_other {E} {r} {b} {c} {q} {s} {t} {i} {x} {y} w tries pushed lender wrote =
+goes_on_other {r} {b} {c} {q} {s} {i} {x} {y} w tries pushed lender wrote =
     let d = tries.decided in
     record {
       options = pushed.options ∙ d.1 ∙ w.options;
@@ -273,7 +273,7 @@ pub choice_refused : {E : Type 0} (fails : E → Type 0) {r : Run} {b c : Point}
     IfKnown b.sink.bytes c.sink.bytes (λ out new. (new ≡ out) × (c.sink.failures ≡ b.sink.failures)) → Rise b.visits c.visits →
     (Plain b.printer → suffix_depth x ≡ 0 → CountsAtMost (make_task i Break x ∷ b.printer.tasks) [] b.visits c.visits)
     → Broke {E = E} fails r (Memory e) c
-choice_refused {E} fails {r} {b} {c} {i} {x} {y} e w lender wrote rise counts = record {
+choice_refused fails {r} {i} {x} {y} e w lender wrote rise counts = record {
   same_lender = lender ∙ w.same_lender;
   bytes = λ is_known.
       let h = w.bytes is_known in
@@ -298,7 +298,7 @@ pub choice_unwritten : {E D : Type 0} (fails : E → Type 0) {r : Run} {b c : Po
     IfKnown b.sink.bytes c.sink.bytes
     (λ out new. ((piece : List ℕ) → known t.bytes ≡ known s.bytes ++ piece → AppendsBeginning out new piece)
     × (c.sink.failures ≡ rise b.sink.failures)) → Broke fails r (Sink e) c
-choice_unwritten {E} {D} fails {r} {b} {c} {s} {t} {i} {x} {y} e w tries lender wrote =
+choice_unwritten fails {r} {b} {c} {i} {x} {y} e w tries lender wrote =
     let o = r.start.printer.options in
     let old = known r.start.sink.bytes in
     let out = known b.sink.bytes in
@@ -358,7 +358,7 @@ no_tasks (t ∷ ts) l = absurd (omega arith)
 -- it ends
 pub run_ends : {A E : Type 0} (fails : E → Type 0) {a b : Point} (x : A) → Path (run_of a) b → length b.printer.tasks ≤ 0
     → WorksOff fails a b (Ok x)
-run_ends {A} {E} fails {a} {b} x p l = record {
+run_ends fails {b} x p l = record {
   options = p.options;
   done = no_tasks b.printer.tasks l;
   lessens = omega (arith, p.less);
@@ -374,19 +374,19 @@ run_ends {A} {E} fails {a} {b} x p l = record {
 
 -- what ends in an error where no document fails, does so where some may
 pub broke_anyhow : {E : Type 0} (fails : E → Type 0) {r : Run} {b : Point} (e : RenderError E) → Broke (λ _. ⊥) r e b → Broke fails r e b
-broke_anyhow {E} fails {r} {b} (Document e) h = record {
+broke_anyhow fails (Document e) h = record {
   same_lender = h.same_lender;
   bytes = λ is_known. absurd ((h.bytes is_known).1.4);
   rise = h.rise;
   at_most = h.at_most;
 }
-broke_anyhow {E} fails {r} {b} (Sink e) h = record { same_lender = h.same_lender; bytes = h.bytes; rise = h.rise; at_most = h.at_most }
-broke_anyhow {E} fails {r} {b} (Memory e) h = record { same_lender = h.same_lender; bytes = h.bytes; rise = h.rise; at_most = h.at_most }
+broke_anyhow fails (Sink e) h = record { same_lender = h.same_lender; bytes = h.bytes; rise = h.rise; at_most = h.at_most }
+broke_anyhow fails (Memory e) h = record { same_lender = h.same_lender; bytes = h.bytes; rise = h.rise; at_most = h.at_most }
 
 -- it ended in an error
 pub run_broke_off : {A E : Type 0} (fails : E → Type 0) {a b : Point} (e : RenderError E) → Broke fails (run_of a) e b
     → WorksOff {A = A} {E = E} fails a b (Err e)
-run_broke_off {A} {E} fails {a} {b} e h = record {
+run_broke_off fails e h = record {
   options = tt;
   done = tt;
   lessens = tt;

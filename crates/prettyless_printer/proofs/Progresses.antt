@@ -60,7 +60,7 @@ module _ {o : RenderOptions} {whole : Outcome} {limit : ℕ} {below : List Task}
   steps : {t : Task} {ts : List Task} {st : State} {out : List ℕ} (step : Step)
       → LeavesLess (owed st.pending) (2 * size t.tree + owed st.pending) step → Taken o whole limit below old t ts st out step
       → Steps o whole limit below old ts st out step
-  steps {t} {ts} {st} {out} (Move b pushed u) less w = record {
+  steps (Move b pushed u) less w = record {
     above = pushed ++ w.rest;
     bytes = w.bytes ++ b;
     stack_is = ap (λ (x : List Task). pushed ++ x) w.tasks_are ∙ sym (append_assoc pushed w.rest below);
@@ -68,8 +68,8 @@ module _ {o : RenderOptions} {whole : Outcome} {limit : ℕ} {below : List Task}
     same = sym (after-after w.bytes b (lay_all o (settle o) (pushed ++ w.rest) (follow below) u)) ∙ w.same;
     bound = omega (arith, nodes-append pushed w.rest, w.bound);
   }
-  steps {t} {ts} {st} {out} Stuck less w = (w.bytes, w.rest, w.out_is, sym w.same ∙ ap Failed (append-nil w.bytes), w.tasks_are)
-  steps {t} {ts} {st} {out} (Choose i x y) less w = record {
+  steps Stuck less w = (w.bytes, w.rest, w.out_is, sym w.same ∙ ap Failed (append-nil w.bytes), w.tasks_are)
+  steps {st} (Choose i x y) less w = record {
     above = w.rest;
     bytes = w.bytes;
     stack_is = w.tasks_are;
@@ -128,7 +128,7 @@ module _ {o : RenderOptions} {whole : Outcome} {limit : ℕ} {below : List Task}
   pub waits_kept : {i : ℕ} {x y : Tree} {b : List ℕ} {u : State} → Waits o whole limit below old i x y stack st out
       → chosen o (settle o) i x y (follow stack) st ≡ Done b u → owed u.pending ≤ 2 * size x + owed st.pending
       → Inside o whole limit below old stack u (out ++ b)
-  waits_kept {i} {x} {y} {b} {u} p h l = record {
+  waits_kept {b} {u} p h l = record {
     above = p.above;
     bytes = p.bytes ++ b;
     stack_is = p.stack_is;
@@ -142,7 +142,7 @@ module _ {o : RenderOptions} {whole : Outcome} {limit : ℕ} {below : List Task}
   pub waits_other : {i : ℕ} {x y : Tree} → Waits o whole limit below old i x y stack st out
       → ((other : Outcome) → accept o st.within (lay o (settle o) x i Break (follow stack) (tried st)) other ≡ other)
       → Inside o whole limit below old (make_task i Break y ∷ stack) st out
-  waits_other {i} {x} {y} p h = record {
+  waits_other {i} {y} p h = record {
     above = make_task i Break y ∷ p.above;
     bytes = p.bytes;
     stack_is = ap (λ (z : List Task). make_task i Break y ∷ z) p.stack_is;

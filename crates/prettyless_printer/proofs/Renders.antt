@@ -29,6 +29,8 @@ use Rattle.prettyless_printer.proofs.Steps.{nodes-tasks}
 use Rattle.prettyless_printer.proofs.Visits.{visited}
 use Rattle.prettyless_printer.proofs.AtLeast.{visited_at_least}
 
+-- # What is written of a whole
+
 pub finishing_begins : (p : Standing) (out : List ℕ) → Finishing (to_end p) p out out
 finishing_begins p out = record { bytes = []; out_is = sym (append-nil out); same = after-nil (to_end p) }
 
@@ -43,7 +45,7 @@ bytes_before-then (Failed b) k = ([], sym (append-nil b))
 -- a beginning of what the commands lay is one of the whole
 finishing_beginning : {whole : Outcome} {p : Standing} {old out new : List ℕ} → Finishing whole p old out
     → AppendsBeginning out new (bytes_before (rest_of p)) → AppendsBeginning old new (bytes_in (bytes_of whole))
-finishing_beginning {whole} {p} {old} {out} {new} h q =
+finishing_beginning {whole} {p} {old} h q =
     let m = bytes_before-then (rest_of p) (settle_end p.options) in (
       h.bytes ++ q.0,
       q.1 ++ m.0,
@@ -57,15 +59,17 @@ finishing_beginning {whole} {p} {old} {out} {new} h q =
 pub finishing_stopped : (A : Type 0) {E : Type 0} {whole : Outcome} {p : Standing} {old out : List ℕ} {n k : ℕ} (fails : E → Type 0)
     (new : List ℕ) (m : ℕ) (e : RenderError E) → Finishing whole p old out → k ≡ n → Stopped fails (rest_of p) out new k m e →
     Rendered {A = A} fails (bytes_of whole) old new n m (Err e)
-finishing_stopped A {E} {whole} {p} {old} {out} fails new m (Document e) h a q = (
+finishing_stopped A {p} {old} fails new m (Document e) h a q = (
   h.bytes ++ q.0,
   ap bytes_of (sym h.same ∙ ap (λ (x : Outcome). after_bytes h.bytes (and_then x (settle_end p.options))) q.1),
   q.2 ∙ ap (λ (x : List ℕ). x ++ q.0) h.out_is ∙ append_assoc old h.bytes q.0,
   q.3 ∙ a,
   q.4,
 )
-finishing_stopped A {E} {whole} {p} {old} {out} fails new m (Sink e) h a q = (finishing_beginning h q.0, q.1 ∙ ap rise a)
-finishing_stopped A {E} {whole} {p} {old} {out} fails new m (Memory e) h a q = (finishing_beginning h q.0, q.1 ∙ a)
+finishing_stopped A fails new m (Sink e) h a q = (finishing_beginning h q.0, q.1 ∙ ap rise a)
+finishing_stopped A fails new m (Memory e) h a q = (finishing_beginning h q.0, q.1 ∙ a)
+
+-- # The rounds of the end
 
 -- the commands are laid: what is left is the end
 pub record Ending (whole : Outcome) (o : RenderOptions) (q : Standing) (old new : List ℕ) : Type 0 where
@@ -75,7 +79,7 @@ pub record Ending (whole : Outcome) (o : RenderOptions) (q : Standing) (old new 
 
 pub finishing_ends : {whole : Outcome} {p q : Standing} {old out new b : List ℕ} → Finishing whole p old out
     → rest_of p ≡ Done b (state_at q) → new ≡ out ++ b → Ending whole p.options q old new
-finishing_ends {whole} {p} {q} {old} {out} {new} {b} h r w = record {
+finishing_ends {p} {q} {old} {b} h r w = record {
   bytes = h.bytes ++ b;
   new_is = w ∙ ap (λ (x : List ℕ). x ++ b) h.out_is ∙ append_assoc old h.bytes b;
   same = ap (after_bytes (h.bytes ++ b)) (sym (end_fixed p.options (state_at q)))
@@ -91,7 +95,7 @@ none_pending o brk again (p ∷ ps) st l = absurd (omega arith)
 -- nothing waits: that is all
 pub ending_done : {whole : Outcome} {o : RenderOptions} {q : Standing} {old new : List ℕ} → Ending whole o q old new
     → length (state_at q).pending ≤ 0 → (bytes : List ℕ) × (bytes_of whole ≡ Whole bytes) × (new ≡ old ++ bytes)
-ending_done {whole} {o} {q} {old} {new} h l = (
+ending_done {o} {q} h l = (
   h.bytes,
   ap bytes_of (sym h.same ∙ ap (after_bytes h.bytes) (none_pending o (settle o) (settle_end o) (state_at q).pending (state_at q) l))
       ∙ ap Whole (append-nil h.bytes),
@@ -112,7 +116,7 @@ round o brk again (d ∷ ds) st l =
 pub ending_again : {A E : Type 0} {whole : Outcome} {o : RenderOptions} {q r : Standing} {s t : Seen} {old new out : List ℕ} {y : A}
     → Ending whole o q old new → q.options ≡ o → FlushesEnd {A = A} {E = E} q r s t (Ok y) → 0 < length (state_at q).pending
     → out ≡ new ++ spaces (gap q.column) → Finishing whole r old out
-ending_again {A} {E} {whole} {o} {q} {r} {s} {t} {old} {new} {out} {y} h same k l x =
+ending_again {o} {q} {r} {old} h same k l x =
     let st = state_at q in
     let e : r.options ≡ o = k.options ∙ same in
     let rest : rest_of r ≡ lay_all o (settle o) (tasks 0 Break st.pending) [] (flushed o st) =
@@ -133,8 +137,8 @@ ending_again {A} {E} {whole} {o} {q} {r} {s} {t} {old} {new} {out} {y} h same k 
 pub ending_stopped : (A : Type 0) {E : Type 0} {whole : Outcome} {o : RenderOptions} {q : Standing} {old new : List ℕ} {n k : ℕ}
     (fails : E → Type 0) (last : List ℕ) (m : ℕ) (e : RenderError E) → Ending whole o q old new → 0 < length (state_at q).pending → k ≡ n →
     Flushed {A = A} q new last k m (Err e) → Rendered {A = A} fails (bytes_of whole) old last n m (Err e)
-ending_stopped A {E} {whole} {o} {q} {old} {new} fails last m (Document e) h l a s = absurd s
-ending_stopped A {E} {whole} {o} {q} {old} {new} fails last m (Sink e) h l a s =
+ending_stopped A fails last m (Document e) h l a s = absurd s
+ending_stopped A {whole} {o} {q} {old} fails last m (Sink e) h l a s =
     let st = state_at q in
     let rest : Outcome = and_then (lay_all o (settle o) (tasks 0 Break st.pending) [] (flushed o st)) (settle_end o) in
     let all : bytes_before whole ≡ h.bytes ++ (spaces (gap q.column) ++ bytes_before rest) =
@@ -152,7 +156,7 @@ ending_stopped A {E} {whole} {o} {q} {old} {new} fails last m (Sink e) h l a s =
       ),
       s.1 ∙ ap rise a,
     )
-ending_stopped A {E} {whole} {o} {q} {old} {new} fails last m (Memory e) h l a s =
+ending_stopped A {whole} {o} {q} fails last m (Memory e) h l a s =
     let left : Outcome = end_with o (settle o) (settle_end o) (state_at q).pending (state_at q) in (
       (
         h.bytes,
@@ -166,6 +170,8 @@ ending_stopped A {E} {whole} {o} {q} {old} {new} fails last m (Memory e) h l a s
 -- the work of a round is less than what was owed for it
 pub round_less : (ps : List Tree) → 0 < length ps → 2 * nodes (tasks 0 Break ps) < owed ps
 round_less ps l = omega (arith, nodes-tasks 0 Break ps [], ap nodes (append-nil (tasks 0 Break ps)))
+
+-- # A render
 
 lay_all-one : (o : RenderOptions) (d : Tree) (st : State) → lay_all o (settle o) (make_task 0 Break d ∷ []) [] st ≡ lay o
     (settle o) d 0 Break [] st
@@ -184,15 +190,15 @@ begins p d e s =
 -- a count more does not change the others
 counted_with : {A E : Type 0} (o : RenderOptions) (d : Tree) (v w : Visits) (n : ℕ) (r : Result A E) → OnOk r (VisitedAtLeast o d v w)
     → OnOk r (VisitedAtLeast o d v (record w { refused = n }))
-counted_with {A} {E} o d v w n (Ok x) h = record { printer = h.printer; probes = h.probes }
-counted_with {A} {E} o d v w n (Err e) h = tt
+counted_with o d v w n (Ok x) h = record { printer = h.printer; probes = h.probes }
+counted_with o d v w n (Err e) h = tt
 
 -- a run to the end, from a document that is the only task, is a render
 pub renders : {A E : Type 0} (fails : E → Type 0) (d : Tree) {a b : Point} (n : ℕ) (r : Result A (RenderError E))
     → a.printer.tasks ≡ make_task 0 Break d ∷ [] → state_at a.printer ≡ initial → RunsToEnd fails a b r →
     a.visits.refused ≤ n → (IsLinear a.printer.options.width d → n ≡ 0 → IsFew 16 1000 (size d) a.visits b.visits) →
     Renders fails a.printer.options d a.sink b.sink a.visits (record b.visits { refused = n }) r
-renders {A} {E} fails d {a} {b} n r e s h refused few = record {
+renders fails d {a} {b} n r e s h refused few = record {
   same_lender = h.same_lender;
   bytes = λ is_known.
       let y = h.bytes is_known in (
@@ -202,7 +208,7 @@ renders {A} {E} fails d {a} {b} n r e s h refused few = record {
       );
   rise = record { printer = h.rise.printer; probes = h.rise.probes };
   visited =
-      let once = visited d a.printer b.printer a.visits b.visits r e (ap (λ (u : State). u.pending) s) h.at_most in
+      let once = visited b.printer r e (ap (λ (u : State). u.pending) s) h.at_most in
       record { printer = once.printer; probes = once.probes };
   refused = refused;
   few = few;

@@ -20,15 +20,15 @@ use Rattle.prettyless_printer.proofs.OpenSpending.{open_options, spends_more}
 -- runs in a row, of which the second one has the options of the first
 pub spends_on : {has : Bool} {limit : ℕ} {o o' : RenderOptions} {a b c : Left} → o' ≡ o → Spends (rule_of has o limit) a b
     → Spends (rule_of has o' limit) b c → Spends (rule_of has o limit) a c
-spends_on {has} {limit} {o} {o'} {a} {b} {c} same h k =
+spends_on {has} {limit} {o'} {b} {c} same h k =
     spends_then h (subst (λ (x : RenderOptions). Spends (rule_of has x limit) b c) same k)
 
 -- the same where the second one may have ended in an error
 pub spends_on_as : {A E : Type 0} {has : Bool} {limit : ℕ} {o o' : RenderOptions} {a b : Left} (c : Left) (result : Result A E) → o' ≡ o
     → Spends (rule_of has o limit) a b → SpendsAs (rule_of has o' limit) b c result →
     SpendsAs (rule_of has o limit) a c result
-spends_on_as {A} {E} {has} {limit} {o} {o'} {a} {b} c (Ok x) same h k = spends_on same h k
-spends_on_as {A} {E} {has} {limit} {o} {o'} {a} {b} c (Err e) same h k = spends_on same h k
+spends_on_as {o'} c (Ok x) same h k = spends_on same h k
+spends_on_as {o'} c (Err e) same h k = spends_on same h k
 
 -- outside of trials no second branch waits
 pub seconds_none : {r : Rule} {a : Left} (p : Standing) (us : List Held) (v : Visits) → us ≡ [] → Spends r a (left p (seconds us) v)
@@ -48,10 +48,10 @@ pub path_spends : {has : Bool} {limit : ℕ} {a b : Point} {c : Left} → Path (
     Spends (rule_of has a.printer.options limit) (left a.printer [] a.visits) (left b.printer [] b.visits) →
     (Plain b.printer → Spends (rule_of has b.printer.options limit) (left b.printer [] b.visits) c) →
     Spends (rule_of has a.printer.options limit) (left a.printer [] a.visits) c
-path_spends {has} {limit} {a} {b} {c} path plain h k = spends_on path.options h (k (path.at_most (plain.none, plain.pending)).0)
+path_spends path plain h k = spends_on path.options h (k (path.at_most (plain.none, plain.pending)).0)
 
 plain_waiting : {a b : Point} {i : ℕ} {x y : Tree} → Waiting (run_of a) i x y b → Plain a.printer → IsPlainChoice b.printer x y
-plain_waiting {a} {b} {i} {x} {y} waiting plain =
+plain_waiting waiting plain =
     let k = waiting.at_most (plain.none, plain.pending) in
     record { plain = k.0; first = k.1; second = k.2 }
 
@@ -61,13 +61,13 @@ pub waiting_spends : {has : Bool} {limit : ℕ} {a b : Point} {start c : Left} {
     Spends (rule_of has a.printer.options limit) start (left_choice i x y b.printer b.visits) →
     (IsPlainChoice b.printer x y → Spends (rule_of has b.printer.options limit) (left_choice i x y b.printer b.visits) c) →
     Spends (rule_of has a.printer.options limit) start c
-waiting_spends {has} {limit} {a} {b} {start} {c} {i} {x} {y} waiting plain h k =
+waiting_spends waiting plain h k =
     spends_on waiting.options h (k (plain_waiting waiting plain))
 
 -- the trial of a choice is opened, and no other one is open
 pub opens_spends : {N : Type 0} {r : Rule} {f : N → Tree} {p q : Standing} {s : Seen} {us vs : List Held} {i : ℕ} {x y : Tree} {v : Visits}
     → us ≡ [] → Opens f i y p s us vs → BeginsTrial i x p q → q.queue ≡ p.queue → Spends r (left_choice i x y p v) (left q (seconds vs) v)
-opens_spends {N} {r} {f} {p} {q} {s} {us} {vs} {i} {x} {y} {v} none opens begins h =
+opens_spends {r} {p} {i} {x} {y} {v} none opens begins h =
     spends_more opens begins h
     (subst (λ (z : List Held). Spends r (left_choice i x y p v)
     (record (left p (seconds z) v) { tasks = make_task i Break x ∷ make_task i Break y ∷ p.tasks })) (sym none)
@@ -76,16 +76,16 @@ opens_spends {N} {r} {f} {p} {q} {s} {us} {vs} {i} {x} {y} {v} none opens begins
 -- without line suffixes nothing is pending where the commands are laid
 pub nothing_pending : {A E : Type 0} (fails : E → Type 0) {a b c : Point} (x : A) → Continues a b → Plain a.printer
     → WorksOff {A = A} {E = E} fails b c (Ok x) → 0 < length (state_at c.printer).pending → ⊥
-nothing_pending {A} {E} fails {a} {b} {c} x h plain k some = omega (arith, some, ap length (k.at_most (h.at_most plain).0).0.pending)
+nothing_pending fails x h plain k some = omega (arith, some, ap length (k.at_most (h.at_most plain).0).0.pending)
 
 -- a run has reached a choice without line suffixes
 pub came_plain : {a : Point} {us : List Held} {buffer : Seen} {b : Point} (h : ComesInChoice a us buffer b) → Plain a.printer
     → IsPlainChoice h.at.printer h.first h.second
-came_plain {a} {us} {buffer} {b} h plain = plain_waiting h.waiting (h.continues.at_most plain).0
+came_plain h plain = plain_waiting h.waiting (h.continues.at_most plain).0
 
 -- the options are those of where the choice waited
 pub came_options : {E : Type 0} {a : Point} {us : List Held} {buffer : Seen} {b c : Point} (h : ComesInChoice a us buffer b)
     → Chooses {A = RunResult} {E = E} h.indent h.first h.second h.at c (Ok run_result.Finished) →
     c.printer.options ≡ b.printer.options
-came_options {E} {a} {us} {buffer} {b} {c} h k =
+came_options {us} {c} h k =
     (k.runs (run_of h.c) h.waiting).options ∙ sym h.waiting.options ∙ sym (open_options _ h.second _ us h.choice.trials)

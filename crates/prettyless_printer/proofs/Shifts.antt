@@ -32,6 +32,8 @@ use Rattle.prettyless_printer.proofs.PathSteps.{run_broke_off}
 use Rattle.prettyless_printer.proofs.Visits.{at_most_same, at_most_then, rise_same, rise_then}
 use Rattle.prettyless_printer.proofs.AtLeast.{at_least_at, at_least_same, at_least_then}
 
+-- # What is written of a whole
+
 -- bytes after others
 abbrev bytes_after : List ℕ → Bytes → Bytes
 bytes_after b (Whole c) = Whole (b ++ c)
@@ -82,21 +84,23 @@ module _ {whole : Outcome} {p : Standing} {old out : List ℕ} (h : Finishing wh
   finishing_rendered fails new m (Err (Sink e)) a q = (finishing_part q.0, q.1 ∙ ap rise a)
   finishing_rendered fails new m (Err (Memory e)) a q = (finishing_part q.0, q.1 ∙ a)
 
--- the counts of a run that went on
-run_counts_then : {A E : Type 0} (ts us : List Task) (q : Standing) (v w x : Visits) (r : Result A E) → CountsAtMost ts us v w
-    → RunCountsAtMost us q w x r → RunCountsAtMost ts q v x r
-run_counts_then {A} {E} ts us q v w x (Ok y) h k = (k.0, at_most_then h k.1)
-run_counts_then {A} {E} ts us q v w x (Err e) h k = at_most_then h k
+-- # Runs in a row
 
-tally_then : {A E : Type 0} (a b : Weight → ℕ) (v w x : Visits) (r : Result A E) → CountsAtLeast a b v w
+-- the counts of a run that went on
+run_counts_then : {A E : Type 0} {ts us : List Task} {v w : Visits} (q : Standing) (x : Visits) (r : Result A E) → CountsAtMost ts us v w
+    → RunCountsAtMost us q w x r → RunCountsAtMost ts q v x r
+run_counts_then q x (Ok y) h k = (k.0, at_most_then h k.1)
+run_counts_then q x (Err e) h k = at_most_then h k
+
+tally_then : {A E : Type 0} {a b : Weight → ℕ} {v w : Visits} (x : Visits) (r : Result A E) → CountsAtLeast a b v w
     → OnOk r (CountsAtLeast b nothing_left w x) → OnOk r (CountsAtLeast a nothing_left v x)
-tally_then {A} {E} a b v w x (Ok y) h k = at_least_then h k
-tally_then {A} {E} a b v w x (Err e) h k = tt
+tally_then x (Ok y) h k = at_least_then h k
+tally_then x (Err e) h k = tt
 
 -- the same run, for another answer
 pub done_anyhow : {A B E : Type 0} (fails : E → Type 0) {a b : Point} (x : A) (y : B) → RunsToEnd fails a b (Ok x)
     → RunsToEnd fails a b (Ok y)
-done_anyhow {A} {B} {E} fails {a} {b} x y h = record {
+done_anyhow fails x y h = record {
   same_lender = h.same_lender;
   bytes = h.bytes;
   rise = h.rise;
@@ -106,11 +110,11 @@ done_anyhow {A} {B} {E} fails {a} {b} x y h = record {
 
 pub broke_anyhow : {A B E : Type 0} (fails : E → Type 0) {a b : Point} (e : RenderError E) → RunsToEnd {A = A} fails a b (Err e)
     → RunsToEnd {A = B} fails a b (Err e)
-broke_anyhow {A} {B} {E} fails {a} {b} (Document e) h =
+broke_anyhow fails (Document e) h =
     record { same_lender = h.same_lender; bytes = h.bytes; rise = h.rise; at_most = h.at_most; at_least = tt }
-broke_anyhow {A} {B} {E} fails {a} {b} (Sink e) h =
+broke_anyhow fails (Sink e) h =
     record { same_lender = h.same_lender; bytes = h.bytes; rise = h.rise; at_most = h.at_most; at_least = tt }
-broke_anyhow {A} {B} {E} fails {a} {b} (Memory e) h =
+broke_anyhow fails (Memory e) h =
     record { same_lender = h.same_lender; bytes = h.bytes; rise = h.rise; at_most = h.at_most; at_least = tt }
 
 -- a run has come nowhere yet
@@ -126,7 +130,7 @@ continues_same a = record {
 
 -- it has come further
 pub continues_then : {a b c : Point} → Continues a b → Continues b c → Continues a c
-continues_then {a} {b} {c} h k = record {
+continues_then h k = record {
   options = k.options ∙ h.options;
   same_lender = k.same_lender ∙ h.same_lender;
   bytes = λ is_known.
@@ -149,7 +153,7 @@ continues_then {a} {b} {c} h k = record {
 -- What a run leaves and a run of that, which begins where the first one stands, are a run: the two may have nodes of different types.
 pub continues_to_end : {A E : Type 0} (fails : E → Type 0) {a b c : Point} (r : Result A (RenderError E)) → Continues a b
     → RunsToEnd fails b c r → RunsToEnd fails a c r
-continues_to_end {A} {E} fails {a} {b} {c} r h k = record {
+continues_to_end fails {a} {b} {c} r h k = record {
   same_lender = k.same_lender ∙ h.same_lender;
   bytes = λ is_known.
       let y = h.bytes is_known in
@@ -160,8 +164,8 @@ continues_to_end {A} {E} fails {a} {b} {c} r h k = record {
   rise = rise_then h.rise k.rise;
   at_most = λ plain.
       let y = h.at_most plain in
-      run_counts_then a.printer.tasks b.printer.tasks c.printer a.visits b.visits c.visits r y.1 (k.at_most y.0);
-  at_least = tally_then (stack_tally a.printer 0) (stack_tally b.printer 0) a.visits b.visits c.visits r h.at_least k.at_least;
+      run_counts_then c.printer c.visits r y.1 (k.at_most y.0);
+  at_least = tally_then c.visits r h.at_least k.at_least;
 }
 
 -- a path of all commands
@@ -194,10 +198,12 @@ path_continues {a} {b} p = record {
   at_least = p.at_least;
 }
 
+-- # The rounds of the end
+
 -- the commands ended in an error
 pub work_stopped : {A B E : Type 0} (fails : E → Type 0) {a b : Point} (e : RenderError E) → WorksOff {A = A} fails a b (Err e)
     → RunsToEnd {A = B} fails a b (Err e)
-work_stopped {A} {B} {E} fails {a} {b} e h = record {
+work_stopped {B} fails {a} {b} e h = record {
   same_lender = h.same_lender;
   bytes = λ is_known.
       let y = h.bytes is_known in
@@ -212,13 +218,13 @@ work_ending : {A E : Type 0} (fails : E → Type 0) {a b : Point} (x : A) → Wo
     → (z : (bytes : List ℕ) × (rest_of a.printer ≡ Done bytes (state_at b.printer)) × (known b.sink.bytes ≡ known a.sink.bytes ++ bytes)
     × (b.sink.failures ≡ a.sink.failures)) →
     Ending (to_end a.printer) a.printer.options b.printer (known a.sink.bytes) (known b.sink.bytes)
-work_ending {A} {E} fails {a} {b} x h z =
+work_ending fails {a} x h z =
     finishing_ends (finishing_begins a.printer (known a.sink.bytes)) z.1 z.2
 
 -- the commands are laid, and nothing waits: that is all
 pub work_ends : {A B E : Type 0} (fails : E → Type 0) {a b : Point} (x : A) (y : B) → WorksOff fails a b (Ok x)
     → length (state_at b.printer).pending ≤ 0 → RunsToEnd fails a b (Ok y)
-work_ends {A} {B} {E} fails {a} {b} x y h none = record {
+work_ends fails x y h none = record {
   same_lender = h.same_lender;
   bytes = λ is_known.
       let z = h.bytes is_known in
@@ -233,14 +239,14 @@ work_ends {A} {B} {E} fails {a} {b} x y h none = record {
 pub round_lessens : {A B E : Type 0} (fails : E → Type 0) {a b : Point} {q : Standing} {t : Seen} (x : A) (y : B)
     → WorksOff {A = A} {E = E} fails a b (Ok x) → FlushesEnd {A = B} {E = E} b.printer q b.sink t (Ok y) →
     0 < length (state_at b.printer).pending → work_at (point_at q t b.visits) < work_at a
-round_lessens {A} {B} {E} fails {a} {b} {q} {t} x y h k some =
+round_lessens fails {b} x y h k some =
     omega (arith, ap nodes k.stack, ap (λ (u : State). owed u.pending) k.state, round_less (state_at b.printer).pending some, h.lessens)
 
 -- what waits is laid next
 pub round_continues : {A B E : Type 0} (fails : E → Type 0) {a b : Point} {q : Standing} {t : Seen} (x : A) (y : B)
     → WorksOff {A = A} {E = E} fails a b (Ok x) → FlushesEnd {A = B} {E = E} b.printer q b.sink t (Ok y) →
     0 < length (state_at b.printer).pending → Continues a (point_at q t b.visits)
-round_continues {A} {B} {E} fails {a} {b} {q} {t} x y h k some = record {
+round_continues fails x y h k some = record {
   options = k.options ∙ h.options;
   same_lender = k.same_lender ∙ h.same_lender;
   bytes = λ is_known.
@@ -256,7 +262,7 @@ round_continues {A} {B} {E} fails {a} {b} {q} {t} x y h k some = record {
 pub round_stopped : {A B C E : Type 0} (fails before : E → Type 0) {a b : Point} {q : Standing} {t : Seen} (x : A) (e : RenderError E)
     → WorksOff {A = A} {E = E} before a b (Ok x) → FlushesEnd {A = B} {E = E} b.printer q b.sink t (Err e) →
     0 < length (state_at b.printer).pending → RunsToEnd {A = C} fails a (point_at q t b.visits) (Err e)
-round_stopped {A} {B} {C} {E} fails before {a} {b} {q} {t} x e h k some = record {
+round_stopped {C} fails before {t} x e h k some = record {
   same_lender = k.same_lender ∙ h.same_lender;
   bytes = λ is_known.
       let z = h.bytes is_known in
@@ -267,14 +273,16 @@ round_stopped {A} {B} {C} {E} fails before {a} {b} {q} {t} x e h k some = record
   at_least = tt;
 }
 
+-- # Open trials
+
 -- nothing is held of trials only where none is open
 pub none_open : {N : Type 0} (f : N → Tree) (us : List (OpenTrial N)) → all_held f us ≡ [] → us ≡ []
-none_open {N} f [] h = refl
-none_open {N} f (u ∷ us) h = absurd (omega (arith, ap length h))
+none_open f [] h = refl
+none_open f (u ∷ us) h = absurd (omega (arith, ap length h))
 
 -- something is held of trials that are open
 pub some_open : {N : Type 0} (f : N → Tree) (us : List (OpenTrial N)) → 0 < length us → 0 < length (all_held f us)
-some_open {N} f us some = omega (arith, length-map us (held f), some)
+some_open f us some = omega (arith, length-map us (held f), some)
 
 -- a run has come outside of trials
 pub comes_alone : (a b : Point) (us : List Held) (buffer : Seen) → us ≡ [] → Continues a b → Comes a us buffer b
@@ -317,18 +325,18 @@ stops_then limit a b c us buffer h k = record { comes = comes_then a b c us buff
 -- what a run leaves and a run of that, which may stop, are a run that may stop
 pub runs_then : {E : Type 0} (fails : E → Type 0) (limit : ℕ) (a b c : Point) (us : List Held) (buffer : Seen)
     (r : Result RunResult (RenderError E)) → Continues a b → RunsOn fails limit b us buffer c r → RunsOn fails limit a us buffer c r
-runs_then {E} fails limit a b c us buffer (Ok run_result.Finished) h k = continues_to_end fails (Ok run_result.Finished) h k
-runs_then {E} fails limit a b c us buffer (Ok run_result.Shift) h k = stops_then limit a b c us buffer h k
-runs_then {E} fails limit a b c us buffer (Err e) h k = continues_to_end fails (Err e) h k
+runs_then fails limit a b c us buffer (Ok run_result.Finished) h k = continues_to_end fails (Ok run_result.Finished) h k
+runs_then fails limit a b c us buffer (Ok run_result.Shift) h k = stops_then limit a b c us buffer h k
+runs_then fails limit a b c us buffer (Err e) h k = continues_to_end fails (Err e) h k
 
 -- a choice in which a run came is made
 pub choice_continues : {E : Type 0} {a c at b : Point} (i : ℕ) (x y : Tree) → Continues a c → Waiting (run_of c) i x y at
     → Chooses {A = RunResult} {E = E} i x y at b (Ok run_result.Finished) → Continues a b
-choice_continues {E} {a} {c} {at} {b} i x y h waiting k = continues_then h (path_continues (k.runs (run_of c) waiting))
+choice_continues {c} i x y h waiting k = continues_then h (path_continues (k.runs (run_of c) waiting))
 
 -- it ended in an error
 pub choice_stopped : {E : Type 0} (fails : E → Type 0) {a c at b : Point} (i : ℕ) (x y : Tree) (e : RenderError E) → Continues a c
     → Waiting (run_of c) i x y at → Chooses {A = RunResult} {E = E} i x y at b (Err e) → RunsToEnd {A = RunResult} fails a b (Err e)
-choice_stopped {E} fails {a} {c} {at} {b} i x y e h waiting k =
+choice_stopped fails {c} i x y e h waiting k =
     continues_to_end fails (Err e) h
     (work_stopped {A = RunResult} fails e (run_broke_off fails e (steps.broke_anyhow fails e (k.runs (run_of c) waiting))))

@@ -13,10 +13,10 @@ use Rattle.prettyless_model.specs.Counts.{each_probe}
 use Rattle.prettyless_model.specs.Layout.{State, some_pending}
 use Rattle.prettyless_summary.specs.Summary.{HasSums}
 use Rattle.prettyless_probe.specs.Stack.{Task, make_task, nodes, follow, trees}
-use Rattle.prettyless_step.specs.Steps.{Step, StepHas, Move, Stuck, Choose}
+use Rattle.prettyless_step.specs.Steps.{Step, Move, Stuck, Choose}
 use Rattle.prettyless_probe.specs.Probing.{asked, Few}
 use Rattle.prettyless_step.specs.Printing.{Hands, Shows, state_of, tasks_of}
-use Rattle.prettyless_probe.specs.Sums.{AllSummed, HaveSummaries, TreesHave}
+use Rattle.prettyless_probe.specs.Sums.{AllSummed, HaveSummaries, StepHas, TreesHave}
 use Rattle.prettyless_step.specs.declared.printer.Printer.{Printer}
 use Rattle.prettyless_step.specs.declared.printer.StepResult.TheVariants.{Failed, Choice}
 use Rattle.prettyless_step.proofs.Shown.{step_at, Leads, Asks}
@@ -27,6 +27,8 @@ use Rattle.prettyless_printer.specs.Spending.{Capped, Left, Rule, Spends, left, 
 use Rattle.prettyless_printer.proofs.Standings.{Wrote, asks_there, put_in_hand, step_from, stuck_there, waits_there}
 use Rattle.prettyless_printer.proofs.Hands.{InHand, Visit}
 use Rattle.prettyless_printer.proofs.Visits.{NoSuffix, at_most_all, chosen_at_most, failed_at_most, went_at_most}
+
+-- # One probe
 
 -- a node needs one probe at most
 each_probe_one : (d : Tree) (m : Mode) → each_probe d m ≤ 1
@@ -60,7 +62,7 @@ spends_same r a = record {
 
 -- runs in a row
 pub spends_then : {r : Rule} {a b c : Left} → Spends r a b → Spends r b c → Spends r a c
-spends_then {r} {a} {b} {c} h k = record {
+spends_then h k = record {
   nodes = omega (arith, h.nodes, k.nodes);
   printer = omega (arith, h.printer, k.printer);
   queue = λ e. k.queue (h.queue e);
@@ -74,7 +76,7 @@ spends_then {r} {a} {b} {c} h k = record {
 
 -- nothing is left of it
 pub spends_all : {r : Rule} {a b : Left} → Spends r a b → Spends r a (none_left b.visits)
-spends_all {r} {a} {b} h = record {
+spends_all h = record {
   nodes = omega arith;
   printer = omega (arith, h.printer);
   queue = λ e. refl;
@@ -98,7 +100,7 @@ on_tasks ts q v = record { tasks = ts; seconds = []; queue = q; visits = v }
 step_spends : {r : Rule} {t : Task} {ts us : List Task} {q q' : List Tree} {v x : Visits} → StepVisits r t ts v x
     → CountsAtMost (t ∷ ts) us v x →
     (HaveSummaries (t ∷ ts) → HaveSummaries us) → (q ≡ [] → q' ≡ []) → Spends r (on_tasks (t ∷ ts) q v) (on_tasks us q' x)
-step_spends {r} {t} {ts} {us} {q} {q'} {v} {x} one counts have queue = record {
+step_spends {r} {t} {ts} {q'} one counts have queue = record {
   nodes = omega (arith, counts.left);
   printer = omega (arith, counts.printer);
   queue = queue;
@@ -149,7 +151,7 @@ pub takes : {N : Type 0} (f : N → Tree) {has : Bool} {limit : ℕ} {a : Point}
     → Few has p.options.width t.tree (tasks_of f p) (each_probe t.tree t.mode) v.probes x.probes →
     (Plain a.printer → Spends (rule_of has a.printer.options limit) (left a.printer [] a.visits) (left_with t (standing f p) v)) →
     Takes f (rule_of has a.printer.options limit) a t p s v x
-takes {N} f {has} {limit} {a} {t} p {s} {v} {x} hand one asks counted few spent = record {
+takes f p hand one asks counted few spent = record {
   hand = hand;
   one = one;
   visits = record {
@@ -165,7 +167,7 @@ takes {N} f {has} {limit} {a} {t} p {s} {v} {x} hand one asks counted few spent 
 same_queue : {N : Type 0} (f : N → Tree) (t : Task) (p q : Printer N) → NoSuffix (t ∷ tasks_of f p) (state_at (standing f p)) →
     (suffix_depth t.tree ≡ 0 → some_pending (state_of f p).pending ≡ false → q.queue ≡ p.queue) → (standing f p).queue ≡ []
     → (standing f q).queue ≡ []
-same_queue {N} f t p q plain same none =
+same_queue f t p q plain same none =
     ap (λ z. trees f z.nodes.items) (same (omega (arith, plain.0)) (waits_there f p ∙ ap some_pending plain.1)) ∙ none
 
 -- the step leads to the next node
@@ -174,7 +176,7 @@ pub spends_down : {N : Type 0} (f : N → Tree) {r : Rule} {a : Point} {t : Task
     (suffix_depth t.tree ≡ 0 → some_pending (state_of f p).pending ≡ false → q.queue ≡ p.queue)
     → Hands f i m n (step_from a.printer.options t (standing f p)) p q →
     Spends r (left a.printer [] a.visits) (left_with (make_task i m (f n)) (standing f q) x)
-spends_down {N} f {r} {a} {t} {s} {v} {x} p q i m n h plain same shows =
+spends_down f {a} {t} p q i m n h plain same shows =
     let o = a.printer.options in
     let b = standing f p in
     let c = standing f q in
@@ -194,7 +196,7 @@ pub spends_went : {N : Type 0} (f : N → Tree) {r : Rule} {a : Point} {t : Task
     (suffix_depth t.tree ≡ 0 → some_pending (state_of f p).pending ≡ false → q.queue ≡ p.queue)
     → Wrote (step_from a.printer.options t (standing f p)) bytes (standing f p) (standing f q) →
     Spends r (left a.printer [] a.visits) (left (standing f q) [] x)
-spends_went {N} f {r} {a} {t} {s} {v} {x} p q bytes h plain same k =
+spends_went f {a} {t} p q bytes h plain same k =
     let o = a.printer.options in
     let b = standing f p in
     let c = standing f q in
@@ -211,7 +213,7 @@ pub spends_failed : {N : Type 0} (f : N → Tree) {r : Rule} {a : Point} {t : Ta
     → Takes f r a t p s v x → Plain a.printer →
     Shows f t.mode Failed (step_from a.printer.options t (standing f p)) p q
     → Spends r (left a.printer [] a.visits) (left (standing f q) [] x)
-spends_failed {N} f {r} {a} {t} {s} {v} {x} p q h plain shows =
+spends_failed f {r} {a} {t} {x} p q h plain shows =
     let o = a.printer.options in
     let b = standing f p in
     let counts = failed_at_most h.one.more in
@@ -224,7 +226,7 @@ pub spends_chosen : {N : Type 0} (f : N → Tree) {r : Rule} {a : Point} {t : Ta
     Shows f t.mode (Choice i y z) (step_from a.printer.options t (standing f p)) p q →
     Spends r (left a.printer [] a.visits)
     (on_tasks (make_task i Break (f y) ∷ make_task i Break (f z) ∷ (standing f q).tasks) (standing f q).queue x)
-spends_chosen {N} f {r} {a} {t} {s} {v} {x} p q i y z h plain shows =
+spends_chosen f {r} {a} {t} {x} p q i y z h plain shows =
     let o = a.printer.options in
     let b = standing f p in
     let st = state_at b in
@@ -242,7 +244,7 @@ spends_chosen {N} f {r} {a} {t} {s} {v} {x} p q i y z h plain shows =
 -- the step was refused memory
 pub spends_broke : {N : Type 0} (f : N → Tree) {r : Rule} {a : Point} {t : Task} {s : Seen} {v x : Visits} (p : Printer N)
     → Takes f r a t p s v x → Plain a.printer → Spends r (left a.printer [] a.visits) (none_left x)
-spends_broke {N} f {r} {a} {t} {s} {v} {x} p h plain =
+spends_broke f p h plain =
     let b = standing f p in
     let counts = failed_at_most h.one.more in
     spends_then (h.spent plain) (step_spends h.visits (at_most_all counts) (λ g. tt) (λ e. refl))

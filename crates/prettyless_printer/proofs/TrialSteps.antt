@@ -23,7 +23,7 @@ use Rattle.prettyless_printer.proofs.PathSteps.{at_run, comes_to_wait, goes_on, 
 use Rattle.prettyless_printer.proofs.Progresses.{inside_past}
 use Rattle.prettyless_printer.proofs.Standings.{Flagged}
 use Rattle.prettyless_printer.proofs.Within.{accept_past}
-use Rattle.prettyless_printer.proofs.Trying.{padding_rejects, trial_ends, trying_begins, trial_rejected, trial_kept}
+use Rattle.prettyless_printer.proofs.Trying.{padding_decides, trial_ends, trying_begins, trial_rejected, trial_kept}
 use Rattle.prettyless_printer.proofs.Visits.{rise_same, at_most_all, at_most_same, at_most_at, at_most_cut}
 use Rattle.prettyless_printer.proofs.Visits.{plain_at, plain_push}
 use Rattle.prettyless_printer.proofs.AtLeast.{at_least_end, trial_begins}
@@ -40,21 +40,21 @@ trial_run_begins a q i d h = record {
   queue = h.grows;
   same_lender = refl;
   less = omega (arith, ap nodes h.tasks, ap (λ (z : State). owed z.pending) h.state);
-  bytes = λ is_known. (is_known, (trying_begins a.printer q i d (known a.sink.bytes) h.tasks h.state, refl));
+  bytes = λ is_known. (is_known, (trying_begins (known a.sink.bytes) h, refl));
   rise = rise_same a.visits;
   at_most = λ began.
       let plain : Plain a.printer = record { none = omega (arith, began.0); pending = began.1 } in (
         plain_push a.printer q (make_task i Break d) h.tasks (ap (λ (z : State). z.pending) h.state) (omega (arith, began.0)) plain,
         at_most_at q.tasks h.tasks (at_most_same (make_task i Break d ∷ a.printer.tasks) a.visits),
       );
-  at_least = trial_begins a.printer q i d a.visits h.options h.tasks h.state;
+  at_least = trial_begins a.visits h;
 }
 
 -- a turn that goes on within the width
 pub course_goes : {N E : Type 0} (f : N → Tree) {t : Attempt} {below : ℕ} {a b : Point} → OnTrial t below a → below < length a.printer.tasks
     → Advances {N = N} {E = E} f a b (Ok turn_result.Complete) →
     b.printer.within ≡ true → OnTrial t below b × (work_at b < work_at a)
-course_goes {N} {E} f {t} {below} {a} {b} on l h within = (
+course_goes f on l h within = (
   record { is_known = on.is_known; path = goes_on f on.path (omega (arith, l, on.height)) h; within = within; height = on.height },
   h.lessens,
 )
@@ -62,7 +62,7 @@ course_goes {N} {E} f {t} {below} {a} {b} on l h within = (
 -- a turn that stopped
 pub course_stops : {N E : Type 0} (f : N → Tree) {t : Attempt} {below : ℕ} {a b : Point} → OnTrial t below a
     → below < length a.printer.tasks → Advances {N = N} {E = E} f a b (Ok turn_result.Shift) → OnTrial t below b
-course_stops {N} {E} f {t} {below} {a} {b} on l h = record {
+course_stops f on l h = record {
   is_known = on.is_known;
   path = stops f on.path (omega (arith, l, on.height)) h;
   within = h.lessens.1 ∙ on.within;
@@ -73,7 +73,7 @@ course_stops {N} {E} f {t} {below} {a} {b} on l h = record {
 pub course_past : {N E : Type 0} (f : N → Tree) {t : Attempt} {below : ℕ} {a b : Point} → OnTrial t below a → below < length a.printer.tasks
     → Advances {N = N} {E = E} f a b (Ok turn_result.Complete) →
     b.printer.within ≡ false → Fallen t b
-course_past {N} {E} f {t} {below} {a} {b} on l h past =
+course_past f {t} on l h past =
     let p = t.start.printer in
     let path = goes_on f on.path (omega (arith, l, on.height)) h in
     let k = path.bytes on.is_known in
@@ -98,7 +98,7 @@ course_past {N} {E} f {t} {below} {a} {b} on l h past =
 pub course_chosen : {N E : Type 0} (f : N → Tree) {t : Attempt} {below : ℕ} {a b : Point} (i : ℕ) (x y : N) → OnTrial t below a
     → below < length a.printer.tasks → Advances {N = N} {E = E} f a b (Ok (turn_result.Choice i x y)) →
     AtChoice t i (f x) (f y) b × (2 * (size (f x) + size (f y)) + work_at b < work_at a)
-course_chosen {N} {E} f {t} {below} {a} {b} i x y on l h =
+course_chosen f {t} {a} {b} i x y on l h =
     let path = on.path in
     let less : length t.start.printer.tasks < length a.printer.tasks = omega (arith, l, on.height) in
     let k = path.bytes on.is_known in
@@ -115,7 +115,7 @@ course_chosen {N} {E} f {t} {below} {a} {b} i x y on l h =
 pub course_over : {t : Attempt} {below : ℕ} {a : Point} → OnTrial t below a → length a.printer.tasks ≤ below →
     padding_fits a.printer.options.width (some_pending (state_at a.printer).pending) a.printer.column ≡ true → Lasts t a
     × (work_at a ≤ work_at a)
-course_over {t} {below} {a} on l fits = (
+course_over {a} on l fits = (
   record {
     is_known = on.is_known;
     path = on.path;
@@ -130,7 +130,7 @@ course_over {t} {below} {a} on l fits = (
 -- it came to its end, and the padding does not fit
 pub course_unfit : {t : Attempt} {below : ℕ} {a : Point} → OnTrial t below a → length a.printer.tasks ≤ below →
     padding_fits a.printer.options.width (some_pending (state_at a.printer).pending) a.printer.column ≡ false → Fallen t a
-course_unfit {t} {below} {a} on l unfit =
+course_unfit {t} {a} on l unfit =
     let p = t.start.printer in
     let path = on.path in
     let k = path.bytes on.is_known in
@@ -146,7 +146,7 @@ course_unfit {t} {below} {a} on l unfit =
       bytes = e.1;
       wrote = e.2;
       failures = k.1.1;
-      rejected = padding_rejects p a.printer t.indent t.branch e.1 e.3 on.within
+      rejected = padding_decides p a.printer t.indent t.branch e.1 false e.3 on.within
           (subst (λ (o : RenderOptions). padding_fits o.width (some_pending (state_at a.printer).pending) a.printer.column ≡ false)
           path.options unfit);
       rise = path.rise;
@@ -155,10 +155,10 @@ course_unfit {t} {below} {a} on l unfit =
 
 -- what is rejected, or waits for a choice, may end in an error
 pub fallen_broke : {t : Attempt} {b : Point} → Fallen t b → TrialBroke t b
-fallen_broke {t} {b} h = record { rise = h.rise; at_most = λ began. at_most_all (h.at_most began) }
+fallen_broke h = record { rise = h.rise; at_most = λ began. at_most_all (h.at_most began) }
 
 pub choice_broke : {t : Attempt} (i : ℕ) (x y : Tree) {b : Point} → AtChoice t i x y b → TrialBroke t b
-choice_broke {t} i x y {b} h = record { rise = h.waiting.rise; at_most = λ began. at_most_all (h.waiting.at_most began).3 }
+choice_broke i x y h = record { rise = h.waiting.rise; at_most = λ began. at_most_all (h.waiting.at_most began).3 }
 
 -- A sink was cut back to where a mark was set.
 pub record CutBack (m : Mark) (s t : Seen) : Type 0 where
@@ -171,7 +171,7 @@ pub record CutBack (m : Mark) (s t : Seen) : Type 0 where
 pub trial_undone : {E : Type 0} {t : Attempt} {b : Point} {m : Mark} {s : Seen} (r : Standing) → Fallen t b
     → Marks m t.start.printer t.start.sink → Restores m b.printer r → CutBack m b.sink s →
     Tries {E = E} t.indent t.branch t.start (point_at r s b.visits) (Ok false)
-trial_undone {E} {t} {b} {m} {s} r fell marks back cut =
+trial_undone {t} {s} r fell marks back cut =
     let p = t.start.printer in
     let did = trial_rejected r (known s.bytes) fell marks back cut.bytes in
     record {
@@ -188,7 +188,7 @@ trial_undone {E} {t} {b} {m} {s} r fell marks back cut =
 -- it is kept
 pub trial_over : {E : Type 0} {t : Attempt} {b : Point} {r : Standing} → Lasts t b → Flagged t.start.printer.within b.printer r →
     Tries {E = E} t.indent t.branch t.start (point_at r b.sink b.visits) (Ok true)
-trial_over {E} {t} {b} {r} lasts kept =
+trial_over {t} {b} {r} lasts kept =
     let p = lasts.path in
     record {
       decided = trial_kept lasts kept;

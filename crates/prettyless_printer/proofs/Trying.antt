@@ -11,7 +11,7 @@ use Rattle.prettyless_sink.specs.Sink.{known}
 use Rattle.prettyless_model.specs.declared.options.RenderOptions.{RenderOptions}
 use Rattle.prettyless_model.specs.Tree.{Tree}
 use Rattle.prettyless_model.specs.Column.{padding_fits}
-use Rattle.prettyless_model.specs.Layout.{State, Outcome, Done, accept, tried, lay, some_pending}
+use Rattle.prettyless_model.specs.Layout.{State, Outcome, Done, accept, lay, some_pending, tried}
 use Rattle.prettyless_model.specs.Levels.{settle}
 use Rattle.prettyless_model.specs.declared.mode.Mode.TheVariants.{Break}
 use Rattle.prettyless_model.proofs.Outcomes.{after-nil, then-done}
@@ -19,11 +19,13 @@ use Rattle.prettyless_probe.specs.Stack.{Task, make_task, follow}
 use Rattle.prettyless_step.specs.Steps.{lay_all, owed}
 use Rattle.prettyless_printer.specs.Progress.{Inside, Waits, Decides}
 use Rattle.prettyless_printer.specs.Points.{Standing, state_at, QueueBegins, QueueGrows, Seen, Point}
+use Rattle.prettyless_printer.specs.Open.{BeginsTrial}
 use Rattle.prettyless_printer.specs.Trials.{Attempt, Fallen, Lasts, Marks, Restores, TrialDid, Tries, work_limit, trial_of}
 use Rattle.prettyless_printer.proofs.Progresses.{waits_kept, waits_other, inside_end}
 use Rattle.prettyless_printer.proofs.Standings.{Flagged, Pushed}
-use Rattle.prettyless_printer.proofs.Turnings.{inside_at}
 use Rattle.prettyless_printer.specs.declared.trial.Mark.{Mark}
+
+-- # A trial that begins
 
 -- the trial is on its way, in q
 abbrev pub Trying : Standing → ℕ → Tree → List ℕ → Standing → List ℕ → Type 0
@@ -34,20 +36,16 @@ lay_all-one : (o : RenderOptions) (i : ℕ) (d : Tree) (ts : List Task) (st : St
 unfolding lay_all
 lay_all-one o i d ts st = then-done (lay o (settle o) d i Break (follow ts) st)
 
-pub trying_begins : (p q : Standing) (i : ℕ) (d : Tree) (old : List ℕ) → q.tasks ≡ make_task i Break d ∷ p.tasks
-    → state_at q ≡ tried (state_at p) → Trying p i d old q old
-trying_begins p q i d old e s =
-    inside_at p.options (trial_of p i d) (work_limit p d) p.tasks old (make_task i Break d ∷ p.tasks) q.tasks (tried (state_at p))
-    (state_at q) old old e s refl
-    (record {
-      above = make_task i Break d ∷ [];
-      bytes = [];
-      stack_is = refl;
-      out_is = sym (append-nil old);
-      same = after-nil (lay_all p.options (settle p.options) (make_task i Break d ∷ []) (follow p.tasks) (tried (state_at p)))
-          ∙ lay_all-one p.options i d p.tasks (tried (state_at p));
-      bound = omega arith;
-    })
+pub trying_begins : {p q : Standing} {i : ℕ} {d : Tree} (old : List ℕ) → BeginsTrial i d p q → Trying p i d old q old
+trying_begins {p} {q} {i} {d} old h = record {
+  above = make_task i Break d ∷ [];
+  bytes = [];
+  stack_is = h.tasks;
+  out_is = sym (append-nil old);
+  same = after-nil (lay_all p.options (settle p.options) (make_task i Break d ∷ []) (follow p.tasks) (state_at q))
+      ∙ lay_all-one p.options i d p.tasks (state_at q) ∙ ap (lay p.options (settle p.options) d i Break (follow p.tasks)) h.state;
+  bound = omega (arith, ap (λ (u : State). owed u.pending) h.state);
+}
 
 pub begins-grows : (ds : List Tree) (q r : Standing) → QueueBegins ds q → QueueGrows q r → QueueBegins ds r
 begins-grows ds q r a b = (a.0 ++ b.0, b.1 ∙ ap (λ (x : List Tree). x ++ b.0) a.1 ∙ append_assoc ds a.0 b.0)
@@ -66,22 +64,25 @@ flagged flag p = record { tasks = refl; state = refl; options = refl; grows = gr
 -- a task alone is pushed
 pub pushed : {t : Task} {p : Standing} (q : Standing) → q.tasks ≡ t ∷ p.tasks → q.queue ≡ p.queue → state_at q ≡ state_at p
     → q.options ≡ p.options → Pushed t p q
-pushed {t} {p} q e g h o = record { tasks = e; state = h; options = o; grows = ([], g ∙ sym (append-nil p.queue)) }
+pushed {p} q e g h o = record { tasks = e; state = h; options = o; grows = ([], g ∙ sym (append-nil p.queue)) }
+
+-- # A trial that is taken back
 
 -- what was added since the mark is all that the queue has more
 pub queue_marked : (p q : Standing) (m : Mark) (s : Seen) → Marks m p s → QueueGrows p q → m.queue.len ≤ length q.queue
 queue_marked p q m s e g = omega (arith, e.queued, ap length g.1, length-append p.queue g.0)
 
-pub restored_queue : (p q r : Standing) (m : Mark) (s : Seen) → Marks m p s → QueueGrows p q → Restores m q r → r.queue ≡ p.queue
-restored_queue p q r m s e g h =
+pub restored_queue : {p : Standing} {m : Mark} {s : Seen} (q r : Standing) → Marks m p s → QueueGrows p q → Restores m q r
+    → r.queue ≡ p.queue
+restored_queue {p} q r e g h =
     h.1 ∙ ap (λ (x : ℕ). take x q.queue) (e.queued) ∙ ap (take (length p.queue)) g.1 ∙ take_at p.queue g.0 (length p.queue) refl
 
 -- the state is as before
-pub restored : (p q r : Standing) (m : Mark) (s : Seen) → Marks m p s → QueueGrows p q → Restores m q r → state_at r ≡ state_at p
-restored p q r m s e g h =
+pub restored : {p : Standing} {m : Mark} {s : Seen} (q r : Standing) → Marks m p s → QueueGrows p q → Restores m q r
+    → state_at r ≡ state_at p
+restored {p} q r e g h =
     let n : r.start ≡ p.start = h.2 ∙ e.start in
-    let k = restored_queue p q r m s e g h in
-    let a : drop r.start r.queue ≡ drop p.start p.queue = ap (λ (x : ℕ). drop x r.queue) n ∙ ap (drop p.start) k in
+    let a : drop r.start r.queue ≡ drop p.start p.queue = ap (λ (x : ℕ). drop x r.queue) n ∙ ap (drop p.start) (restored_queue q r e g h) in
     let c : r.column ≡ p.column = h.3 ∙ e.column in
     let o : r.within ≡ p.within = h.4 ∙ e.within in
     λ j. record { column = c j; pending = a j; within = o j }
@@ -93,14 +94,16 @@ pub trial_rejected : {t : Attempt} {b : Point} {m : Mark} (r : Standing) (new : 
 trial_rejected {t} {b} {m} r new fell marks back cut =
     let p = t.start.printer in
     let old = known t.start.sink.bytes in
-    let s : state_at r ≡ state_at p = restored p b.printer r m t.start.sink marks fell.grows back in (
+    let s : state_at r ≡ state_at p = restored b.printer r marks fell.grows back in (
       back.0 fell.above p.tasks fell.stack (sym marks.commands),
       back.5 ∙ fell.options,
-      ([], restored_queue p b.printer r m t.start.sink marks fell.grows back ∙ sym (append-nil p.queue)),
+      ([], restored_queue b.printer r marks fell.grows back ∙ sym (append-nil p.queue)),
       back.4 ∙ marks.within,
       omega (arith, ap (λ (x : State). owed x.pending) s),
       (cut ∙ ap (take m.written) fell.wrote ∙ take_at old fell.bytes m.written (sym marks.written), s, fell.rejected),
     )
+
+-- # A trial at its end
 
 none_above : (above below stack : List Task) → stack ≡ above ++ below → length stack ≤ length below → stack ≡ below
 none_above [] below stack e l = e
@@ -114,15 +117,15 @@ trial_ends p q i d old out y l =
     let z = inside_end y l in
     (none_above y.above p.tasks q.tasks y.stack_is l, z.0, z.1, z.2, z.3)
 
--- at its end the padding does not fit
-pub padding_rejects : (p q : Standing) (i : ℕ) (d : Tree) (bytes : List ℕ) → trial_of p i d ≡ Done bytes (state_at q) → q.within ≡ true →
-    padding_fits p.options.width (some_pending (state_at q).pending) q.column ≡ false → (other : Outcome)
-    → accept p.options p.within (trial_of p i d) other ≡ other
-padding_rejects p q i d bytes e w h other =
+-- where it is within the width, the padding decides
+pub padding_decides : (p q : Standing) (i : ℕ) (d : Tree) (bytes : List ℕ) (fits : Bool) → trial_of p i d ≡ Done bytes (state_at q)
+    → q.within ≡ true → padding_fits p.options.width (some_pending (state_at q).pending) q.column ≡ fits → (other : Outcome) →
+    accept p.options p.within (trial_of p i d) other
+    ≡ (if fits then Done bytes (record (state_at q) { within = p.within }) else other)
+padding_decides p q i d bytes fits e w h other =
+    let done : Bool → Outcome = λ v. if v then Done bytes (record (state_at q) { within = p.within }) else other in
     ap (λ (x : Outcome). accept p.options p.within x other) e
-    ∙ ap (λ (v : Bool). if v && padding_fits p.options.width (some_pending (state_at q).pending) q.column
-    then Done bytes (record { column = q.column; pending = (state_at q).pending; within = p.within }) else other) w
-    ∙ ap (λ (v : Bool). if v then Done bytes (record { column = q.column; pending = (state_at q).pending; within = p.within }) else other) h
+    ∙ ap (λ (v : Bool). done (v && padding_fits p.options.width (some_pending (state_at q).pending) q.column)) w ∙ ap done h
 
 -- a trial that is kept
 pub trial_kept : {t : Attempt} {b : Point} {r : Standing} → Lasts t b → Flagged t.start.printer.within b.printer r →
@@ -131,19 +134,21 @@ trial_kept {t} {b} {r} lasts kept =
     let p = t.start.printer in
     let q = b.printer in
     let path = lasts.path in
-    let z = trial_ends p q t.indent t.branch (known t.start.sink.bytes) (known b.sink.bytes) (path.bytes lasts.is_known).1.0 lasts.ended in
-    let done : Outcome → Bool → Outcome = λ other v. if v then Done z.1 (record (state_at q) { within = p.within }) else other in
-    let accepted : (other : Outcome) → accept p.options p.within (trial_of p t.indent t.branch) other ≡ Done z.1 (state_at r) = λ other.
-    ap (λ (x : Outcome). accept p.options p.within x other) z.3
-    ∙ ap (λ (v : Bool). done other (v && padding_fits p.options.width (some_pending (state_at q).pending) q.column)) lasts.within
-    ∙ ap (done other) lasts.fits ∙ ap (Done z.1) (sym kept.state) in (
+    let z = trial_ends p q t.indent t.branch (known t.start.sink.bytes) (known b.sink.bytes) (path.bytes lasts.is_known).1.0
+    lasts.ended in (
       kept.tasks ∙ z.0,
       kept.options ∙ path.options,
       begins-grows p.queue q r path.queue kept.grows,
       ap (λ (x : State). x.within) kept.state,
       omega (arith, z.4, ap (λ (x : State). owed x.pending) kept.state),
-      (z.1, z.2, accepted),
+      (
+        z.1,
+        z.2,
+        λ other. padding_decides p q t.indent t.branch z.1 true z.3 lasts.within lasts.fits other ∙ ap (Done z.1) (sym kept.state),
+      ),
     )
+
+-- # A choice
 
 -- what a trial decides, under options that are the same
 decides_at : (q r : Standing) (o : RenderOptions) (j : ℕ) (x : Tree) (kept : Bool) (old new : List ℕ) → q.options ≡ o →

@@ -1,18 +1,18 @@
 -- The visits of a step, of a turn, and of turns in a row.
-use Rattle.std.proofs.Common.{◌≡◌, ℕ, ◌+◌, ◌-◌, ◌*◌, ◌^◌, ◌≤◌, ◌<◌, min, List, [], ◌∷◌, ◌++◌, arith, refl, ap, ◌∙◌, Bool, true, false, Option, Some, None}
-use Rattle.std.proofs.Common.{Result, Ok, Err, if◌then◌else◌, length}
+use Rattle.std.proofs.Common.{◌≡◌, ℕ, ◌+◌, ◌-◌, ◌*◌, ◌^◌, ◌≤◌, ◌<◌, min, List, [], ◌∷◌, ◌++◌, arith, refl, ap, ◌∙◌, Bool, true, false}
+use Rattle.std.proofs.Common.{Option, Some, None, Result, Ok, Err, if◌then◌else◌, length}
 use Rattle.prettyless_model.specs.declared.options.RenderOptions.{RenderOptions}
 use Rattle.prettyless_model.specs.declared.options.IndentationPolicy.{IndentationPolicy}
 use Rattle.prettyless_model.specs.declared.options.IndentationPolicy.TheVariants.{Eager, Deferred}
 use Rattle.prettyless_sink.specs.Sink.{rise}
 use Rattle.prettyless_sink.specs.declared.visits.Visits.{Visits}
-use Rattle.prettyless_model.specs.Tree.{Tree, Nil, Fail, Text, TextWithLen, MultilineText, WeakSpace, HardLine, WeakLine, Append}
-use Rattle.prettyless_model.specs.Tree.{LineSuffix, Nest, DedentToRoot, Align, ExpandParent, Flatten, BreakOrFlat, Group, Union}
+use Rattle.prettyless_model.specs.Tree.{Tree, Fail, Text, TextWithLen, MultilineText, HardLine, WeakLine}
+use Rattle.prettyless_model.specs.Tree.{LineSuffix, BreakOrFlat, Group, Union}
 use Rattle.prettyless_model.specs.Tree.{PartialUnion, OnColumn, OnNesting, size, probed}
 use Rattle.prettyless_model.specs.Content.{suffix_depth}
 use Rattle.prettyless_model.specs.Choice.{column_holds, nesting_holds}
 use Rattle.prettyless_model.specs.Column.{prospective}
-use Rattle.prettyless_model.specs.Layout.{State, Done, Entry, lay_text, lay_ending, next_indent, is_suppressed, probe}
+use Rattle.prettyless_model.specs.Layout.{State, Done, lay_text, lay_ending, next_indent, is_suppressed, probe}
 use Rattle.prettyless_model.specs.declared.mode.Mode.{Mode}
 use Rattle.prettyless_model.specs.declared.mode.Mode.TheVariants.{Break, Flat}
 use Rattle.prettyless_probe.specs.Stack.{Task, make_task, follow, nodes}
@@ -24,6 +24,8 @@ use Rattle.prettyless_probe.specs.Probing.{asked}
 use Rattle.prettyless_probe.proofs.Stacks.{nodes-append}
 use Rattle.prettyless_step.proofs.Shown.{step_at, Leads, Asks}
 use Rattle.prettyless_printer.proofs.Steps.{LeavesLess, extra, step_less_visits, visits_within}
+
+-- # Payloads and probes
 
 -- a visit more at most where a payload is rejected, and no visit less
 pub payload_visits-least : (b : Bool) (v w x : ℕ) → w ≡ rise v → x ≡ counted_payload b w → rise v ≤ x
@@ -100,39 +102,29 @@ module _ (o : RenderOptions) (ts : List Task) (st : State) (n : ℕ) (none : st.
 
   step_at_most : (d : Tree) (i : ℕ) (m : Mode) → suffix_depth d ≡ 0 → size d + nodes ts ≤ n
       → StepAtMost n (asked d m (nodes ts)) (n * probed d) (step_of o d i m (follow ts) st)
-  step_at_most Nil i m z l = (refl, none, omega arith)
   step_at_most Fail i m z l = tt
   step_at_most (Text s) i m z l = text_at_most (length s) s
   step_at_most (TextWithLen w s) i m z l = text_at_most w s
-  step_at_most (MultilineText s) i Break z l = (refl, none, omega arith)
   step_at_most (MultilineText s) i Flat z l = tt
-  step_at_most WeakSpace i m z l = (refl, none, omega arith)
   step_at_most HardLine i Break z l = break_at_most st.pending HardLine i Break none
   step_at_most HardLine i Flat z l = tt
   step_at_most WeakLine i m z l = break_at_most st.pending WeakLine i m none
-  step_at_most (Append a b) i m z l = (omega arith, none, omega arith)
   step_at_most (LineSuffix d) i m z l = absurd (omega arith)
-  step_at_most (Nest j d) i m z l = (omega arith, none, omega arith)
-  step_at_most (DedentToRoot d) i m z l = (omega arith, none, omega arith)
-  step_at_most (Align d) i m z l = (omega arith, none, omega arith)
-  step_at_most ExpandParent i m z l = (refl, none, omega arith)
-  step_at_most (Flatten d) i m z l = (omega arith, none, omega arith)
   step_at_most (BreakOrFlat b f) i Break z l = (omega arith, none, omega arith)
   step_at_most (BreakOrFlat b f) i Flat z l = (omega arith, none, omega arith)
   step_at_most (Group d) i Break z l = (omega arith, none, omega arith)
   step_at_most (Group d) i Flat z l = (omega arith, none, omega arith)
   step_at_most (Union a b) i Break z l = union_at_most a b i (decided_by_metrics o a st) (omega arith)
-  step_at_most (Union a b) i Flat z l = (omega arith, none, omega arith)
   step_at_most (PartialUnion a b) i Break z l =
       let e = either_at_most n a b i Break (probe o a i Break (follow ts) st) (omega arith) in
       (e.0, none, omega (arith, e.1))
-  step_at_most (PartialUnion a b) i Flat z l = (omega arith, none, omega arith)
   step_at_most (OnColumn test a b) i m z l =
       let e = either_at_most n a b i m (column_holds test (prospective st.column) i) (omega arith) in
       (e.0, none, omega (arith, e.1))
   step_at_most (OnNesting test a b) i m z l =
       let e = either_at_most n a b i m (nesting_holds test i) (omega arith) in
       (e.0, none, omega (arith, e.1))
+  step_at_most _ i m z l = (omega arith, none, omega arith)
 
 suffixes-append : (ts us : List Task) → suffix_depths (ts ++ us) ≡ suffix_depths ts + suffix_depths us
 suffixes-append [] us = omega arith
@@ -185,7 +177,7 @@ went_at_most {o} {t} {ts} {st} {v} {w} us u bytes more plain h = went (step_at o
 
 pub failed_at_most : {o : RenderOptions} {t : Task} {ts : List Task} {st : State} {v w : Visits} → OneMore o t ts st v w
     → CountsAtMost (t ∷ ts) ts v w
-failed_at_most {o} {t} {ts} {st} {v} {w} more = record {
+failed_at_most {o} {t} {ts} {st} more = record {
   left = omega arith;
   printer = omega (arith, more.printer, visits_within o t.tree t.mode st);
   probes = λ n l. omega (arith, asked_at_most t.tree t.mode (nodes ts) n l, more.probes);
@@ -221,13 +213,13 @@ pub rise_same : (v : Visits) → Rise v v
 rise_same v = record { printer = omega arith; probes = omega arith }
 
 pub rise_then : {v w x : Visits} → Rise v w → Rise w x → Rise v x
-rise_then {v} {w} {x} a b = record { printer = omega (arith, a.printer, b.printer); probes = omega (arith, a.probes, b.probes) }
+rise_then a b = record { printer = omega (arith, a.printer, b.printer); probes = omega (arith, a.probes, b.probes) }
 
 pub at_most_same : (ts : List Task) (v : Visits) → CountsAtMost ts ts v v
 at_most_same ts v = record { left = omega arith; printer = omega arith; probes = λ n l. omega arith }
 
 pub at_most_then : {ts us xs : List Task} {v w x : Visits} → CountsAtMost ts us v w → CountsAtMost us xs w x → CountsAtMost ts xs v x
-at_most_then {ts} {us} {xs} {v} {w} {x} a b = record {
+at_most_then a b = record {
   left = omega (arith, a.left, b.left);
   printer = omega (arith, a.printer, b.printer);
   probes = λ n l. omega (arith, a.probes n l, b.probes n (omega (arith, l, a.left)));
@@ -236,7 +228,7 @@ at_most_then {ts} {us} {xs} {v} {w} {x} a b = record {
 -- what is left is cut off down to what is below
 pub at_most_cut : {ts us : List Task} {v w : Visits} (above below xs : List Task) → us ≡ above ++ below → xs ≡ below
     → CountsAtMost ts us v w → CountsAtMost ts xs v w
-at_most_cut {ts} {us} {v} {w} above below xs e h a = record {
+at_most_cut above below xs e h a = record {
   left = omega (arith, a.left, ap nodes e, nodes-append above below, ap nodes h);
   printer = omega (arith, a.printer, ap nodes e, nodes-append above below, ap nodes h);
   probes = λ n l. omega (arith, a.probes n l, ap (charges n) e, charges-append n above below, ap (charges n) h);
@@ -244,7 +236,7 @@ at_most_cut {ts} {us} {v} {w} above below xs e h a = record {
 
 -- none of it is left
 pub at_most_all : {ts us : List Task} {v w : Visits} → CountsAtMost ts us v w → CountsAtMost ts [] v w
-at_most_all {ts} {us} {v} {w} a = record {
+at_most_all a = record {
   left = omega arith;
   printer = omega (arith, a.printer);
   probes = λ n l. omega (arith, a.probes n l);
@@ -253,7 +245,7 @@ at_most_all {ts} {us} {v} {w} a = record {
 -- the first of two branches, with the second one kept for later
 pub at_most_besides : {ts us : List Task} {v w : Visits} (s t : Task) → CountsAtMost (s ∷ ts) us v w
     → CountsAtMost (s ∷ t ∷ ts) (t ∷ us) v w
-at_most_besides {ts} {us} {v} {w} s t a = record {
+at_most_besides s t a = record {
   left = omega (arith, a.left);
   printer = omega (arith, a.printer);
   probes = λ n l. omega (arith, a.probes n (omega (arith, l)));
@@ -261,14 +253,14 @@ at_most_besides {ts} {us} {v} {w} s t a = record {
 
 -- the same where only the first branch is of use
 pub at_most_first : {ts us : List Task} {v w : Visits} (s t : Task) → CountsAtMost (s ∷ ts) us v w → CountsAtMost (s ∷ t ∷ ts) us v w
-at_most_first {ts} {us} {v} {w} s t a = record {
+at_most_first s t a = record {
   left = omega (arith, a.left);
   printer = omega (arith, a.printer);
   probes = λ n l. omega (arith, a.probes n (omega (arith, l)));
 }
 
 pub at_most_at : {ts us : List Task} {v w : Visits} (xs : List Task) → xs ≡ us → CountsAtMost ts us v w → CountsAtMost ts xs v w
-at_most_at {ts} {us} {v} {w} xs e a = at_most_cut [] us xs refl e a
+at_most_at {us} xs e a = at_most_cut [] us xs refl e a
 
 pub plain_at : (p q : Standing) → q.tasks ≡ p.tasks → state_at q ≡ state_at p → Plain p → Plain q
 plain_at p q e h a = record {
@@ -285,16 +277,15 @@ plain_push p q t e h z a = record {
 }
 
 -- a run that has worked on one tree
-pub visited : {A E : Type 0} (d : Tree) (p q : Standing) (v w : Visits) (r : Result A E) → p.tasks ≡ make_task 0 Break d ∷ []
-    → (state_at p).pending ≡ [] →
-    (Plain p → RunCountsAtMost p.tasks q v w r) → Visited d v w
-visited {A} {E} d p q v w (Ok r) e h k =
+pub visited : {A E : Type 0} {d : Tree} {p : Standing} {v w : Visits} (q : Standing) (r : Result A E) → p.tasks ≡ make_task 0 Break d ∷ []
+    → (state_at p).pending ≡ [] → (Plain p → RunCountsAtMost p.tasks q v w r) → Visited d v w
+visited {d} {p} q (Ok r) e h k =
     let plain : suffix_depth d ≡ 0 → Plain p = λ z. record { none = omega (arith, ap suffix_depths e, z); pending = h } in
     record {
       printer = λ z. omega (arith, (k (plain z)).1.printer, ap nodes e);
       probes = λ z. omega (arith, (k (plain z)).1.probes (size d) (omega (arith, ap nodes e)), ap (charges (size d)) e);
     }
-visited {A} {E} d p q v w (Err r) e h k =
+visited {d} {p} q (Err r) e h k =
     let plain : suffix_depth d ≡ 0 → Plain p = λ z. record { none = omega (arith, ap suffix_depths e, z); pending = h } in
     record {
       printer = λ z. omega (arith, (k (plain z)).printer, ap nodes e);

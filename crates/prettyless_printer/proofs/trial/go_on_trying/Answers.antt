@@ -7,9 +7,9 @@ use Rattle.prettyless_printer.specs.Points.{buffer_seen, point, standing}
 use Rattle.prettyless_model.specs.Tree.{Tree}
 use Rattle.prettyless_printer.specs.Trials.{Attempt}
 use Rattle.prettyless_printer.specs.Open.{Open, all_held, held}
-use Rattle.prettyless_printer.proofs.Chains.{all_held-push, broke_at, keeps_open, keeps_over, length-all_held, open_broke}
+use Rattle.prettyless_printer.proofs.Chains.{all_held-push, broke_at, last_kept, last_other, length-all_held, open_broke}
 use Rattle.prettyless_printer.proofs.Chains.{open_choice_broke, open_fallen_broke, open_fell, open_goes, open_kept, open_more, open_other}
-use Rattle.prettyless_printer.proofs.Chains.{open_some, open_stops, other_open, other_over, took}
+use Rattle.prettyless_printer.proofs.Chains.{open_some, open_stops, took}
 use Rattle.prettyless_printer.proofs.Costs.{less_goes, less_more, less_kept, less_other}
 use Rattle.prettyless_printer.proofs.Trying.{cut_back, flagged, pushed, queue_marked}
 use Rattle.prettyless_printer.proofs.Standings.{length_queue}
@@ -41,16 +41,14 @@ returns-in_err-advance-clause-ends g c =
     let f = g.N.Walk.tree in
     λ s y h. ends_broke AllocError c.args.limit s y (all_held f c.work.trials.«open».items) c.from_residual.result
     c.from_residual.ensures.0
-    (open_broke (took AllocError f (c.work.invariant.trials s y h)
-    (rw c.below.ensures at c.in_err-advance.ensures.courses)))
+    (open_broke (took AllocError f (c.work.invariant.trials s y h) (rw c.below.ensures at c.in_err-advance.ensures.courses)))
 
 -- it goes on
 pub work-smaller-in-Running : goal.work-smaller-in-Running
 work-smaller-in-Running g c =
     let f = g.N.Walk.tree in
     let some = c.work.invariant.some in
-    less_goes
-    (took AllocError f some.2 (rw (c.in-Running.is, c.below.ensures) at c.in_ok-advance.ensures.courses))
+    less_goes (took AllocError f some.2 (rw (c.in-Running.is, c.below.ensures) at c.in_ok-advance.ensures.courses))
 
 pub work-preserved-in-Running : goal.work-preserved-in-Running
 work-preserved-in-Running g c =
@@ -85,11 +83,9 @@ returns-then-is_empty-clause-ends g c =
     let none : all_held f us ≡ [] = nil_from_length (all_held f us) (length-all_held f us ∙ c.is_empty.ensures.none c.if-is_empty.true) in
     λ s y h. (
       none,
-      keeps_over AllocError s y (point f q (buffer_seen c.advance.new.buffer) c.advance.new.visits) (all_held f us) none
-          (open_kept _ _ (all_held-push f _ us c.in-Some.trial c.in-Some.ensures.items)
-          (took AllocError f (c.work.invariant.trials s y h)
-          (rw (c.in-Complete.is, c.below.ensures) at c.in_ok-advance.ensures.courses))
-          (flagged c.in-Some.trial.mark.within (standing f p))),
+      last_kept _ _ (all_held-push f _ us c.in-Some.trial c.in-Some.ensures.items) none
+          (took AllocError f (c.work.invariant.trials s y h) (rw (c.in-Complete.is, c.below.ensures) at c.in_ok-advance.ensures.courses))
+          (flagged c.in-Some.trial.mark.within (standing f p)),
     )
 
 -- an inner one is kept
@@ -118,9 +114,8 @@ work-preserved-else-is_empty g c =
     let inner : 0 < length us = c.is_empty.ensures.some c.if-is_empty.false in
     let course = rw (c.in-Complete.is, c.below.ensures) at c.in_ok-advance.ensures.courses in
     let kept : (s : Attempt) (y : Tree) → Open s y (all_held f c.work.trials.«open».items) a → Open s y (all_held f us) b = λ s y h.
-    keeps_open AllocError s y b (all_held f us) (omega (arith, length-all_held f us, inner))
-    (open_kept _ _ (all_held-push f _ us c.in-Some.trial c.in-Some.ensures.items) (took AllocError f h course)
-    (flagged c.in-Some.trial.mark.within (standing f p))) in
+    open_kept _ _ (all_held-push f _ us c.in-Some.trial c.in-Some.ensures.items) (omega (arith, length-all_held f us, inner))
+    (took AllocError f h course) (flagged c.in-Some.trial.mark.within (standing f p)) in
     record {
       trials = λ s y h. kept s y (c.work.invariant.trials s y h);
       some = (some.0, some.1, kept some.0 some.1 some.2);
@@ -176,12 +171,11 @@ returns-then-is_empty-2-clause-ends g c =
     nil_from_length (all_held f us) (length-all_held f us ∙ c.is_empty-in-Rejected.ensures.none c.if-is_empty-2.true) in
     λ s y h. (
       none,
-      other_over AllocError s y (point f q w c.advance.new.visits) (all_held f us) none
-          (open_other _ _ (standing f r) (all_held-push f _ us c.in-Some-pop.trial c.in-Some-pop.ensures.items)
+      last_other _ _ (standing f r) (all_held-push f _ us c.in-Some-pop.trial c.in-Some-pop.ensures.items) none
           (took AllocError f (c.work.invariant.trials s y h)
           (rw (c.in-Rejected.is, c.below.ensures) at c.in_ok-advance.ensures.courses)) c.take_back.ensures.printer
           (record { is_known = refl; bytes = c.take_back.ensures.buffer; failures = c.take_back.ensures.failures; lender = refl })
-          (pushed (standing f q) c.in_ok-push-in-Rejected.ensures.pushed refl refl refl)),
+          (pushed (standing f q) c.in_ok-push-in-Rejected.ensures.pushed refl refl refl),
     )
 
 -- an inner one is undone
@@ -211,11 +205,10 @@ work-preserved-else-is_empty-2 g c =
     let inner : 0 < length us = c.is_empty-in-Rejected.ensures.some c.if-is_empty-2.false in
     let course = rw (c.in-Rejected.is, c.below.ensures) at c.in_ok-advance.ensures.courses in
     let other : (s : Attempt) (y : Tree) → Open s y (all_held f c.work.trials.«open».items) a → Open s y (all_held f us) b = λ s y h.
-    other_open AllocError s y b (all_held f us) (omega (arith, length-all_held f us, inner))
-    (open_other _ _ (standing f r) (all_held-push f _ us c.in-Some-pop.trial c.in-Some-pop.ensures.items)
-    (took AllocError f h course) c.take_back.ensures.printer
+    open_other _ _ (standing f r) (all_held-push f _ us c.in-Some-pop.trial c.in-Some-pop.ensures.items)
+    (omega (arith, length-all_held f us, inner)) (took AllocError f h course) c.take_back.ensures.printer
     (record { is_known = refl; bytes = c.take_back.ensures.buffer; failures = c.take_back.ensures.failures; lender = refl })
-    (pushed (standing f q) c.in_ok-push-in-Rejected.ensures.pushed refl refl refl)) in
+    (pushed (standing f q) c.in_ok-push-in-Rejected.ensures.pushed refl refl refl) in
     record {
       trials = λ s y h. other s y (c.work.invariant.trials s y h);
       some = (some.0, some.1, other some.0 some.1 some.2);
