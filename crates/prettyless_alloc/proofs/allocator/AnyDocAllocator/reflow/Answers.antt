@@ -1,5 +1,0 @@
-use Rattle.std.proofs.Common.{rules}
-use Rattle.prettyless_alloc.proofs.allocator.AnyDocAllocator.reflow.Goals as goal
-
-pub returns : goal.returns
-returns g c = search rules depth 1

@@ -1,4 +1,0 @@
-use Rattle.prettyless_build.proofs.builder.DocBuilder.brackets.Goals as goal
-
-pub returns : goal.returns
-returns g c = c.between.ensures
