@@ -1,5 +1,8 @@
 //! Combinators: values that become documents once there is an allocator. To make one takes no memory.
 //!
+//! `pretty` makes its document. That fails as the same call of a place or a builder does, or as the making of a value that
+//! it holds.
+//!
 //! An example is a value. Beside it is the layout of its document, at any width where none is named.
 #![tactic(auto)]
 
