@@ -92,7 +92,7 @@ fn laid_out(alloc: Global, text: &str, style: Style) -> Result<String, FormatErr
 /// Its lines end as the first line of the text does that ends outside of strings. It ends with a line end, unless it is empty.
 ///
 /// `NotToml` only where the text is no TOML, and `TooDeep` only where it is TOML and more than 128 brackets are in one another.
-/// `Memory` where memory is refused, whatever the text is.
+/// `Memory` where memory is refused, whatever the text is. No clause speaks of the layout's line ends, nor of the 128.
 ///
 /// ```
 /// formatted(alloc, "a=1", Style::default())? // "a = 1\n"
