@@ -249,7 +249,7 @@ pub fn line_suffix<T>(doc: T) -> LineSuffix<T>
     LineSuffix(doc)
 }
 
-/// The first document where it can be laid with each text, and each line of a payload, within the width, and else the
+/// The first document where it can be laid with each text, and each line of a payload, within the width. Else the
 /// second; where lines are flat, the first.
 ///
 /// ```
