@@ -5,7 +5,7 @@ ghost use Rattle.formatter_files.specs.Actions.{action_of};
 /// What is done with a layout while it is made.
 #[derive(Clone, Copy, Debug, Drop, PartialEq, Eq)]
 pub enum Action {
-    /// It is compared with the text, and the user is told where they differ.
+    /// It is compared with the text, and it is said where they differ.
     Compare,
     /// It replaces the file, where they differ.
     Replace,

@@ -49,7 +49,7 @@ pub fn program<'w>(alloc: Global, name: &'w str, version: &'w str, about: &'w st
     Command::new(alloc, name).version(version).about(about)
 }
 
-/// The command with the options `--width` and `--indent`, of which the second says how far in the `members` are.
+/// The command with the options `--width` and `--indent`, of which the second says how far the `members` are indented.
 ///
 /// `AllocError` where memory is refused.
 pub fn with_numbers<'w>(

@@ -81,7 +81,7 @@ abbrev gap_end : ℕ → ℕ → Bool → ℕ
 gap_end c j true = saturating_add c 1
 gap_end c j false = j
 
--- a space where the number fits behind it with what follows, and else a line end
+-- a space where the number fits after it with what follows, and else a line end
 gap_lays : (style : Style) (n j c k : ℕ) (t : Tree) (rest : List Entry) (u : State) (y : Bool) → j ≤ greatest → At c u
     → Follows style.width (entry j t ∷ rest) k
     → nat_le (saturating_add c (1 + k)) style.width ≡ y

@@ -34,7 +34,7 @@ pub width_joined : (xs ys : List (List ℕ)) → flat_width (xs ++ ys) ≡ flat_
 width_joined [] ys = omega arith
 width_joined (x ∷ xs) ys = let h = width_joined xs ys in omega (arith, h)
 
--- a lexeme that is no mark
+-- a lexeme that is neither a comma nor a colon
 pub line_of : (s : List ℕ) (ss : List (List ℕ)) → is_mark s ≡ false → flat_line (s ∷ ss) ≡ s ++ flat_line ss
 line_of s ss e = rw e refl
 

@@ -38,7 +38,7 @@ sum_twice c w k = omega arith
 word_end : (s : List ℕ) (c k : ℕ) → IsWord s → saturating_add (saturating_add c (text_width s)) k ≡ end_column c (s ∷ []) k
 word_end s c k w = sum_twice c (text_width s) k ∙ ap (λ (n : ℕ). saturating_add c (n + k)) (sym (word_width s w))
 
--- it fits the line behind a space, with its comma
+-- it fits the line after a space, with its comma
 word_fits : (style : Style) (s : List ℕ) (c : ℕ) (vs : Items) (ss : List (List ℕ)) → IsWord s
     → number_fits style c s (next_is (is_json_sign 44) (more_items vs ++ ss))
     ≡ fits_width style (saturating_add c 1) (length (item_comma vs)) (s ∷ [])

@@ -18,7 +18,7 @@ use Rattle.json_formatter.proofs.GapsPassed.{HasRoom, Walks, items_pass, members
 
 -- ---- the end
 
--- there is a last lexeme, and it is no mark
+-- there is a last lexeme, and it is neither a comma nor a colon
 abbrev EndPlainly : List (List ℕ) → Type 0
 EndPlainly [] = ⊥
 EndPlainly (s ∷ []) = is_mark s ≡ false
@@ -61,7 +61,7 @@ space_moves : (b : Bool) (bs : List ℕ)
 space_moves true bs = refl
 space_moves false bs = refl
 
--- the spaces before lexemes are those after marks
+-- the spaces before lexemes are those after commas and colons
 flat_steps : (xs : List (List ℕ)) (later : Joint → List ℕ) (j : Joint) → EndPlainly xs
     → steps lexeme_laid xs later j ≡ gap_bytes (flat_gap j) ++ (flat_line xs ++ later joint.Nothing)
 unfolding steps

@@ -245,7 +245,7 @@ line_writes style n i j f d rest st h l = record {
   state = (record { pending = h.pending; indent = refl; padding = refl; within = l }, refl);
 }
 
--- what is nested, further in
+-- what is nested, at its indent
 pub nest_writes : {Q : State → Type 0} (o : RenderOptions) (brk : Breaks) (k i : ℕ) (l r : Tree) (rest : List Entry) (st : State)
     (bytes : List ℕ) → i ≤ greatest
     → Writes (lay o brk (Append l r) (saturating_add i k) Break rest st) bytes Q

@@ -64,7 +64,7 @@ layout_formatted style text laid some e =
 
 -- ---- a layout that is written
 
--- a writer that took it, or a beginning of it, was handed the text laid out
+-- a writer that took it, or a beginning of it, was given the text laid out
 pub written : {A : Type 0} (style : Style) (text bytes : List ℕ) (old new : Option (List ℕ)) (result : Result A FormatError) →
     IsFormatted style text bytes
     → OnOk result (Appends old new bytes) → OnErr result (AppendsProperBeginning old new bytes) → IfErr result IsWriting →

@@ -167,7 +167,7 @@ pub out_fails : (a b c : Option (List ℕ)) (held mid x y : List ℕ) → held �
 out_fails a b c held mid x y none h m =
     stops_all a c (x ++ y) (hands_stops [] mid x y (subst (λ (l : List ℕ). HandsToWriter a b l mid x) none h) m)
 
--- both are behind what was held at first, which is nothing
+-- both are after what was held at first, which is nothing
 pub out_hands : (a b c : Option (List ℕ)) (held mid left x y : List ℕ) → held ≡ [] → HandsToWriter a b held mid x →
     HandsToWriter b c mid left y
     → HandsToWriter a c [] left (x ++ y)

@@ -1,4 +1,4 @@
--- What the steps of the code come to: each reads on where the one before it stopped.
+-- The results of the code's steps: each reads on where the one before it stopped.
 use Rattle.std.proofs.Common.{◌≡◌, refl, sym, ◌∙◌, ap, subst, ℕ, zero, suc, ◌-◌, ◌<◌, Bool, true, false, ◌&&◌, List, [], ◌∷◌, ◌++◌}
 use Rattle.std.proofs.Common.{length, append_assoc, arith}
 use Rattle.std.specs.Prelude.{if◌then◌else◌}

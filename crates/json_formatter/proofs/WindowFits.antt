@@ -33,7 +33,7 @@ width_splits n (s ∷ ss) = elim (cases_Bool (opens s)) [
   ]
 ]
 
--- a list fits where the window finds its width in the columns behind its bracket
+-- a list fits where the window finds its width in the columns after its bracket
 pub fits_found : (style : Style) (c : ℕ) (ss : List (List ℕ)) (found : Option ℕ) → style.width < 2 ^ 64 - 1 → c < style.width
     → IsWidthUpTo (style.width - c - 1) ss found → is_some found ≡ list_fits style c ss
 fits_found style c ss None l h is = go (width_to_close 1 ss) refl

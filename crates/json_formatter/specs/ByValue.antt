@@ -69,7 +69,7 @@ flat_item v vs = flat_line (spelled v) ++ item_comma vs
 abbrev pub item_end : ℕ → Value → Items → ℕ
 item_end c v vs = end_column c (spelled v) (length (item_comma vs))
 
--- items after one that ends at column c with its comma: a space, or where the next doesn't fit behind that, a line that has indent j
+-- items after one that ends at column c with its comma: a space, or where the next doesn't fit after that, a line that has indent j
 abbrev pub filled_after : Style → ℕ → ℕ → Items → List ℕ
 filled_after style j c no_items = []
 filled_after style j c (item v vs) =
@@ -89,7 +89,7 @@ abbrev pub after_key : ℕ → List ℕ → ℕ
 after_key j key = end_column j (key ∷ (ascii.colon ∷ []) ∷ []) 0
 
 -- A value from column c on of a line with indent i, with k columns after it: a comma, or nothing. A list that is empty or fits is one
--- flat line. Else what is in it stands in lines of its own between its brackets, further in; numbers alone fill lines where the style
+-- flat line. Else what is in it stands in lines of its own between its brackets, indented; numbers alone fill lines where the style
 -- says so.
 abbrev mutual
   pub laid_value : Style → ℕ → ℕ → ℕ → Value → List ℕ

@@ -132,7 +132,7 @@ pub record ContinuesMembers (all later : Read (List Member)) (trees : List Tree)
   pub numbers : all_numbers all.found ≡ (are_numbers && all_numbers later.found)
   pub left : all.left ≡ later.left
 
--- documents between two others: flat, or in lines that are filled, k columns further in
+-- documents between two others: flat, or in lines that are filled, indented by k columns
 abbrev pub filled_list : Tree → List Tree → Tree → ℤ → Tree
 filled_list before [] after k = append before after
 filled_list before (x ∷ xs) after k =

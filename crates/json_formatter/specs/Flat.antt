@@ -21,7 +21,7 @@ flat_width (s ∷ ss) = lexeme_columns s + flat_width ss
 abbrev pub after_mark : List ℕ → List ℕ
 after_mark s = if is_mark s then 32 ∷ [] else []
 
--- a flat line: each lexeme, with a space after a mark
+-- a flat line: each lexeme, with a space after a comma or a colon
 abbrev pub flat_line : List (List ℕ) → List ℕ
 flat_line [] = []
 flat_line (s ∷ ss) = s ++ (after_mark s ++ flat_line ss)

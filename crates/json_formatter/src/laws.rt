@@ -4,8 +4,8 @@ ghost use Rattle.json_formatter.specs.ByValue.{LayoutsGoByValues, TextsAreLaidBy
 ///
 /// A string, a number or a literal stands as it is spelled. An array or an object is one line, with a space after each comma
 /// and colon, where that line stays within the width together with the comma that may follow it. Else each item or member is
-/// laid out in the same way in a line of its own, further in than the brackets, which stand at the indent of the line in
-/// which the list begins. The items of an array of numbers alone fill these lines where the style says so: each stands behind
+/// laid out in the same way in a line of its own, indented relative to the brackets, which stand at the indent of the line in
+/// which the list begins. The items of an array of numbers alone fill these lines where the style says so: each stands after
 /// the one before it where it stays within the width there with its comma, and else in the next line. A list that is empty is
 /// its two brackets wherever it stands.
 ///

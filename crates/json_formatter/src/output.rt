@@ -27,7 +27,7 @@ const LINE: &str =
 // A line end and 31 spaces.
 const SHORT_LINE: &str = "\n                               ";
 
-// How many bytes a writer is handed at once, unless a lexeme has more.
+// How many bytes a writer is given at once, unless a lexeme has more.
 const HELD: usize = 16_384;
 
 // A line end and at most 100 spaces.
@@ -59,7 +59,7 @@ fn write_text<W: Write>(writer: &mut W, text: &[u8]) -> Result<(), FormatError>
     Ok(())
 }
 
-// Hands the writer what is held and a text that does not fit behind it.
+// Gives the writer what is held and a text that does not fit after it.
 fn hand_on<W: Write>(
     writer: &mut W,
     held: &mut ArrayString<HELD>,
@@ -77,7 +77,7 @@ fn hand_on<W: Write>(
     }
 }
 
-// Puts a text behind what is held for a writer.
+// Puts a text after what is held for a writer.
 #[inline(always)]
 fn put<W: Write>(
     writer: &mut W,
@@ -253,7 +253,8 @@ pub(crate) fn write_layout<W: Write>(
     layout: &mut Layout<'_>,
 ) -> Result<(), FormatError>
     ensures ok { OnOk result (Appends (W.contents writer.old) (W.contents writer.new) (layout.old ++ line_feed ∷ [])) }
-    ensures beginning { OnErr result (AppendsProperBeginning (W.contents writer.old) (W.contents writer.new) (layout.old ++ line_feed ∷ [])) }
+    ensures beginning { OnErr result
+        (AppendsProperBeginning (W.contents writer.old) (W.contents writer.new) (layout.old ++ line_feed ∷ [])) }
     ensures err { IfErr result IsWriting }
 {
     let mut held = ArrayString::new();

@@ -24,8 +24,10 @@ fn parts(gap: Gap) -> (&'static str, usize)
 // Puts a gap and the text after it.
 fn render_lexeme<S: Render>(sink: &mut S, gap: Gap, text: &str) -> Result<(), S::Error>
     ensures same_lender { S.lender sink.new ≡ S.lender sink.old }
-    ensures ok { OnOk result (Accepts (S.bytes sink.old) (S.bytes sink.new) (gap_bytes gap ++ text.now) (S.failures sink.old) (S.failures sink.new)) }
-    ensures err { OnErr result (Refuses (S.bytes sink.old) (S.bytes sink.new) (gap_bytes gap ++ text.now) (S.failures sink.old) (S.failures sink.new)) }
+    ensures ok { OnOk result (Accepts (S.bytes sink.old) (S.bytes sink.new) (gap_bytes gap ++ text.now) (S.failures sink.old)
+        (S.failures sink.new)) }
+    ensures err { OnErr result (Refuses (S.bytes sink.old) (S.bytes sink.new) (gap_bytes gap ++ text.now) (S.failures sink.old)
+        (S.failures sink.new)) }
 {
     let (ends, indent) = parts(gap);
     write_gap_and_text(sink, 0, ends)?;
@@ -38,8 +40,10 @@ pub(crate) fn render_layout<S: Render>(
     layout: &mut Layout<'_>,
 ) -> Result<(), S::Error>
     ensures same_lender { S.lender sink.new ≡ S.lender sink.old }
-    ensures ok { OnOk result (Accepts (S.bytes sink.old) (S.bytes sink.new) (layout.old ++ line_feed ∷ []) (S.failures sink.old) (S.failures sink.new)) }
-    ensures err { OnErr result (Refuses (S.bytes sink.old) (S.bytes sink.new) (layout.old ++ line_feed ∷ []) (S.failures sink.old) (S.failures sink.new)) }
+    ensures ok { OnOk result (Accepts (S.bytes sink.old) (S.bytes sink.new) (layout.old ++ line_feed ∷ []) (S.failures sink.old)
+        (S.failures sink.new)) }
+    ensures err { OnErr result (Refuses (S.bytes sink.old) (S.bytes sink.new) (layout.old ++ line_feed ∷ []) (S.failures sink.old)
+        (S.failures sink.new)) }
 {
     while let Some((gap, lexeme)) = layout.next() {
         render_lexeme(sink, gap, lexeme.text())?;

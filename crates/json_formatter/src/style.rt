@@ -5,7 +5,7 @@ ghost use Rattle.std.specs.Prelude.{◌≡◌, false};
 pub struct Style {
     /// The width of a line, in columns.
     pub width: usize,
-    /// How many columns the members of an object or an array are further in than its brackets.
+    /// By how many columns the members of an object or an array are indented relative to its brackets.
     pub indent: u32,
     /// Whether an array of numbers alone fills its lines.
     pub fill: bool,

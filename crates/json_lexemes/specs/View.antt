@@ -31,7 +31,7 @@ IsNamed Colon = ⊤
 IsNamed (String s) = head s.now ≡ ascii.quote
 IsNamed (Word s) = (head s.now ≢ ascii.quote) × (ends_word s.now ≡ false)
 
--- of these texts the first is handed out, as a lexeme, and the others are left; or none was left
+-- of these texts the first is returned, as a lexeme, and the others are left; or none was left
 abbrev pub HandsOut : List (List ℕ) → Option Lexeme → List (List ℕ) → Type 0
 HandsOut old r new = MatchOption r ((old ≡ []) × (new ≡ [])) (λ l. (old ≡ text_of l ∷ new) × IsNamed l)
 

@@ -8,7 +8,7 @@ ghost use Rattle.json_lexemes.specs.Words.{WordGoesOn};
 
 use crate::lexeme::Lexeme;
 
-/// Whether the byte is one of JSON's spaces. One test tells that most bytes are none.
+/// Whether the byte is one of JSON's spaces. One test shows that most bytes are none.
 #[inline]
 fn is_space(byte: u8) -> bool
     ensures { result ≡ is_space byte }
@@ -16,7 +16,7 @@ fn is_space(byte: u8) -> bool
     byte <= b' ' && matches!(byte, b' ' | b'\t' | b'\n' | b'\r')
 }
 
-/// Whether a word ends before this byte. One test tells that it doesn't before digits, points and minus signs.
+/// Whether a word ends before this byte. One test shows that it doesn't before digits, points and minus signs.
 #[inline]
 fn ends_word(byte: u8) -> bool
     ensures { result ≡ (is_operator byte || is_space byte) }

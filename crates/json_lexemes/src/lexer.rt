@@ -7,7 +7,7 @@ use crate::lexeme::Lexeme;
 use std::alloc::{AllocError, Global};
 use std::marker::Model;
 
-/// Hands out the lexemes of a text, in their order. It takes no memory. A clause sees how those that are left are spelled.
+/// Returns the lexemes of a text one by one, in their order. It takes no memory. A clause sees how those that are left are spelled.
 #[derive(Drop)]
 pub struct Lexer<'a> {
     text: &'a str,
@@ -26,14 +26,14 @@ impl<'a> Model for Lexer<'a> {
 }
 
 impl<'a> Lexer<'a> {
-    /// Hands out all lexemes of this text.
+    /// Returns all lexemes of this text.
     pub fn new(text: &'a str) -> Lexer<'a>
         ensures { result ≡ lexemes text.now }
     {
         Lexer { text, place: 0 }
     }
 
-    /// Another lexer, which hands out the same lexemes.
+    /// Another lexer, which returns the same lexemes.
     #[inline]
     pub fn again(&self) -> Lexer<'a>
         ensures { result ≡ self.now }

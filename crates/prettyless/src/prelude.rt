@@ -11,6 +11,6 @@ pub use prettyless_combinators::{
     soft_line_or_space, space, spaces, union, weak_line, weak_space,
 };
 pub use prettyless_doc::DocPlace;
-pub use prettyless_placed::{
+pub use prettyless_pointers::{
     PlacedDoc, PlacedDocBetween, PlacedDocOf, PlacedDocOfTwo, PlacedDocOver,
 };

@@ -1,4 +1,4 @@
--- Marks after all documents but the last, and brackets around some documents.
+-- Punctuation after all documents but the last, and brackets around some documents.
 use Rattle.std.proofs.Common.{◌≡◌, refl, sym, ◌∙◌, ap, ◌<◌, ℤ, arith, List, [], ◌∷◌, ◌++◌, length, map}
 use Rattle.std.proofs.lemmas.List.{map-append}
 use Rattle.prettyless_doc.specs.Lines.{line, line_}

@@ -207,7 +207,7 @@ intersperse_shows s [] gap (items ∷ lists) h each = absurd each
 intersperse_shows s (x ∷ xs) gap [] h each = absurd each
 intersperse_shows s (x ∷ xs) gap (items ∷ lists) h each = after_shows s gap h xs lists each.1 x items each.0
 
--- trees with a mark after each but the last
+-- trees with punctuation after each but the last
 pub punctuated_shows : PunctuatedShow
 punctuated_shows mark [] marked [] h each = tt
 punctuated_shows mark [] marked (items ∷ lists) h each = absurd each
@@ -246,7 +246,7 @@ module _ (f : List Item → List Item) (gap next : List Item) where
   in_front [] = refl
   in_front (items ∷ lists) = refl
 
--- marks stand in gaps
+-- punctuation stands in the gaps
 pub marks_stand_in_gaps : MarksStandInGaps
 marks_stand_in_gaps marked gap [] = refl
 marks_stand_in_gaps marked gap (items ∷ []) = refl

@@ -1,4 +1,4 @@
--- Lists of documents: marks after them, and brackets around them.
+-- Lists of documents: punctuation after them, and brackets around them.
 use Rattle.std.specs.Prelude.{ℤ, List, [], ◌∷◌}
 use Rattle.prettyless_doc.specs.Tree.{Tree}
 use Rattle.prettyless_doc.specs.Lines.{line, line_}
@@ -11,7 +11,7 @@ change_all_but_last f [] = []
 change_all_but_last f (x ∷ []) = x ∷ []
 change_all_but_last f (x ∷ y ∷ ys) = f x ∷ change_all_but_last f (y ∷ ys)
 
--- trees, each but the last with a mark after it
+-- trees, each but the last with punctuation after it
 abbrev pub punctuated : Tree → List Tree → List Tree
 punctuated mark xs = change_all_but_last (λ x. append x mark) xs
 

@@ -37,7 +37,7 @@ SeparatedShow =
     (separator : Tree) (xs : List Tree) (gap : List Item) (lists : List (List Item)) → shows separator gap → AllZip shows xs lists
     → shows (intersperse separator xs) (with_gaps gap lists)
 
--- trees with marks after them show their items, each but the last with the mark's after them
+-- trees with punctuation after them show their items, each but the last with the punctuation's after them
 abbrev pub PunctuatedShow : Type 0
 PunctuatedShow =
     (mark : Tree) (xs : List Tree) (marked : List Item) (lists : List (List Item)) → shows mark marked → AllZip shows xs lists
@@ -50,7 +50,7 @@ BracketedShow =
     → shows after last
     → AllZip shows xs lists → shows (bracketed before xs after k) (first ++ (in_lines lists ++ last))
 
--- a mark after all items but the last stands in each gap
+-- punctuation after all items but the last stands in each gap
 abbrev pub MarksStandInGaps : Type 0
 MarksStandInGaps =
     (marked gap : List Item) (lists : List (List Item)) → with_gaps gap (change_all_but_last (λ items. items ++ marked) lists) ≡ with_gaps

@@ -3,7 +3,7 @@ use Rattle.std.specs.Prelude.{◌≡◌, ℕ, List, [], ◌∷◌, ◌++◌}
 use Rattle.prettyless_model.specs.Shows.{Item, Shown, Gap, Place, at_start, after_text, with_gap, IsGapAt, IsEndAt, AreFixed, AreShown}
 
 -- Bytes that are the texts among these items, each whole and in their order, with the gaps around them that the items say,
--- from a place on. None of the items is a mark, and none is late.
+-- from a place on. None of the items is an optional text, and none is late.
 abbrev pub IsSpacedFrom : Place → List ℕ → List Item → Type 0
 IsSpacedFrom p bytes [] = IsEndAt p bytes
 IsSpacedFrom p bytes (Gap r l ∷ items) = IsSpacedFrom (with_gap r l p) bytes items

@@ -42,7 +42,7 @@ pub trait DocAllocator<'a>: DocPlace<'a> {
         ensures ok { IfOk result (λ b. built Self.Doc.tree b.1 ≡ Nil) }
         ensures err { IfErr result to.IsNever };
 
-    /// A document that cannot be laid: a render that comes to it fails. It takes no memory.
+    /// A document that cannot be laid: a render that reaches it fails. It takes no memory.
     ///
     /// ```
     /// docs![place, "a", place.fail()?]? // writes "a", then `RenderError::Document`
@@ -232,7 +232,7 @@ pub trait DocAllocator<'a>: DocPlace<'a> {
         ensures { to.Builds result (λ b. built Self.Doc.tree b.1)
             (words.intersperse (built Self.Doc.tree separator.entry.1) (map Self.Doc.tree docs.items)) };
 
-    /// The documents in order, each but the last with the mark after it: a comma, for instance. It fails where memory is
+    /// The documents in order, each but the last with the punctuation after it: a comma, for instance. It fails where memory is
     /// refused.
     ///
     /// ```

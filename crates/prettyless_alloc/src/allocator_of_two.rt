@@ -28,8 +28,8 @@ pub trait DocAllocatorOfTwo<'a, P: Pretty<'a, Self>, Q: Pretty<'a, Self>>: DocPl
         first: P,
         second: Q,
     ) -> Result<DocBuilder<'a, Self>, BuildError>
-        ensures { to.BuildsOfTwo result (λ b. built Self.Doc.tree b.1) (P.becomes first) (Q.becomes second) (P.refuses first) (Q.refuses second)
-            (OnColumn test) };
+        ensures { to.BuildsOfTwo result (λ b. built Self.Doc.tree b.1) (P.becomes first) (Q.becomes second) (P.refuses first)
+            (Q.refuses second) (OnColumn test) };
 
     /// The first document where the test of the indent holds, else the second, flat or broken.
     /// It fails as the making of one of the two does, and where memory is refused.
@@ -43,8 +43,8 @@ pub trait DocAllocatorOfTwo<'a, P: Pretty<'a, Self>, Q: Pretty<'a, Self>>: DocPl
         first: P,
         second: Q,
     ) -> Result<DocBuilder<'a, Self>, BuildError>
-        ensures { to.BuildsOfTwo result (λ b. built Self.Doc.tree b.1) (P.becomes first) (Q.becomes second) (P.refuses first) (Q.refuses second)
-            (OnNesting test) };
+        ensures { to.BuildsOfTwo result (λ b. built Self.Doc.tree b.1) (P.becomes first) (Q.becomes second) (P.refuses first)
+            (Q.refuses second) (OnNesting test) };
 }
 
 impl<'a, D: DocPlace<'a>, P: Pretty<'a, D>, Q: Pretty<'a, D>> DocAllocatorOfTwo<'a, P, Q> for D {

@@ -1,4 +1,4 @@
-//! Documents of a vector, with a mark after each but the last.
+//! Documents of a vector, with punctuation after each but the last.
 ghost use Rattle.std.specs.Prelude.{◌≡◌, IfOk, IfErr, map};
 ghost use Rattle.prettyless_doc.specs.BuildErrors.{IsMemory};
 ghost use Rattle.prettyless_doc.specs.DocTree.{built};
@@ -8,7 +8,7 @@ ghost use Rattle.prettyless_alloc.specs.Lists as lists;
 use prettyless_build::DocBuilder;
 use prettyless_doc::{BuildError, DocPlace};
 
-// The documents in order, each but the last with the mark after it.
+// The documents in order, each but the last with the punctuation after it.
 pub(crate) fn punctuated<'a, D: DocPlace<'a>>(
     place: &'a D,
     docs: Vec<D::Doc>,
@@ -28,7 +28,7 @@ pub(crate) fn punctuated<'a, D: DocPlace<'a>>(
     Ok(marked)
 }
 
-// The documents in order, each with the mark after it.
+// The documents in order, each with the punctuation after it.
 fn with_marks<'a, D: DocPlace<'a>>(
     place: &'a D,
     docs: Vec<D::Doc>,

@@ -2,7 +2,7 @@ ghost use Rattle.prettyless_alloc.specs.Shown.{BracketedShow, MarksStandInGaps, 
 ghost use Rattle.prettyless_alloc.specs.SpacedItems.{FixedAreSpaced};
 
 /// Where each of some documents shows items, as `law_texts` says, so do lists of them: with those of the separator in each
-/// gap, those of the mark after each document but the last, and those of the brackets around them all.
+/// gap, those of the punctuation after each document but the last, and those of the brackets around them all.
 pub fn law_lists()
     ensures texts { TextsShow }
     ensures separated { SeparatedShow }

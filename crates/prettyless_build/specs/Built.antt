@@ -79,7 +79,7 @@ append x y = append_to x y
 abbrev pub joined : (Tree → Type 0) → (Tree → Type 0) → Tree → Type 0
 joined P Q z = (x : Tree) × (y : Tree) × P x × Q y × (z ≡ append x y)
 
--- an error that P or Q knows, or want of memory
+-- an error that P or Q knows, or a refusal of memory
 abbrev pub refused : (BuildError → Type 0) → (BuildError → Type 0) → BuildError → Type 0
 refused P Q e = P e ⊎ Q e ⊎ IsMemory e
 

@@ -13,7 +13,7 @@ use crate::pretty::Pretty;
 use prettyless_doc::{BuildError, DocPlace};
 
 // What was made in front, and then the last, appended: also where the front failed, the last is made. Each tuple calls
-// the shorter one by itself, since to hand that on as a parameter costs a proof of what it is.
+// the shorter one by itself, since to pass that as a parameter costs a proof of what it is.
 #[inline]
 fn then<'a, D: DocPlace<'a>, Y: Pretty<'a, D>>(
     allocator: &'a D,
@@ -78,7 +78,9 @@ impl<
 > Pretty<'a, D> for (Field1, Field2, Field3, Field4) {
     ghost becomes = { λ t. joined (joined (joined (Field1.becomes t.0) (Field2.becomes t.1)) (Field3.becomes t.2)) (Field4.becomes t.3) };
 
-    ghost refuses = { λ t. refused (refused (refused (Field1.refuses t.0) (Field2.refuses t.1)) (Field3.refuses t.2)) (Field4.refuses t.3) };
+    ghost refuses = { λ t.
+        refused (refused (refused
+        (Field1.refuses t.0) (Field2.refuses t.1)) (Field3.refuses t.2)) (Field4.refuses t.3) };
 
     fn pretty(self, allocator: &'a D) -> Result<DocBuilder<'a, D>, BuildError> {
         let (t1, t2, t3, t4) = self;
@@ -95,9 +97,13 @@ impl<
     Field4: Pretty<'a, D>,
     Field5: Pretty<'a, D>,
 > Pretty<'a, D> for (Field1, Field2, Field3, Field4, Field5) {
-    ghost becomes = { λ t. joined (joined (joined (joined (Field1.becomes t.0) (Field2.becomes t.1)) (Field3.becomes t.2)) (Field4.becomes t.3)) (Field5.becomes t.4) };
+    ghost becomes = { λ t.
+        joined (joined (joined (joined
+        (Field1.becomes t.0) (Field2.becomes t.1)) (Field3.becomes t.2)) (Field4.becomes t.3)) (Field5.becomes t.4) };
 
-    ghost refuses = { λ t. refused (refused (refused (refused (Field1.refuses t.0) (Field2.refuses t.1)) (Field3.refuses t.2)) (Field4.refuses t.3)) (Field5.refuses t.4) };
+    ghost refuses = { λ t.
+        refused (refused (refused (refused
+        (Field1.refuses t.0) (Field2.refuses t.1)) (Field3.refuses t.2)) (Field4.refuses t.3)) (Field5.refuses t.4) };
 
     fn pretty(self, allocator: &'a D) -> Result<DocBuilder<'a, D>, BuildError> {
         let (t1, t2, t3, t4, t5) = self;
@@ -115,9 +121,15 @@ impl<
     Field5: Pretty<'a, D>,
     Field6: Pretty<'a, D>,
 > Pretty<'a, D> for (Field1, Field2, Field3, Field4, Field5, Field6) {
-    ghost becomes = { λ t. joined (joined (joined (joined (joined (Field1.becomes t.0) (Field2.becomes t.1)) (Field3.becomes t.2)) (Field4.becomes t.3)) (Field5.becomes t.4)) (Field6.becomes t.5) };
+    ghost becomes = { λ t.
+        joined (joined (joined (joined (joined
+        (Field1.becomes t.0) (Field2.becomes t.1)) (Field3.becomes t.2)) (Field4.becomes t.3)) (Field5.becomes t.4))
+        (Field6.becomes t.5) };
 
-    ghost refuses = { λ t. refused (refused (refused (refused (refused (Field1.refuses t.0) (Field2.refuses t.1)) (Field3.refuses t.2)) (Field4.refuses t.3)) (Field5.refuses t.4)) (Field6.refuses t.5) };
+    ghost refuses = { λ t.
+        refused (refused (refused (refused (refused
+        (Field1.refuses t.0) (Field2.refuses t.1)) (Field3.refuses t.2)) (Field4.refuses t.3)) (Field5.refuses t.4))
+        (Field6.refuses t.5) };
 
     fn pretty(self, allocator: &'a D) -> Result<DocBuilder<'a, D>, BuildError> {
         let (t1, t2, t3, t4, t5, t6) = self;
@@ -136,9 +148,15 @@ impl<
     Field6: Pretty<'a, D>,
     Field7: Pretty<'a, D>,
 > Pretty<'a, D> for (Field1, Field2, Field3, Field4, Field5, Field6, Field7) {
-    ghost becomes = { λ t. joined (joined (joined (joined (joined (joined (Field1.becomes t.0) (Field2.becomes t.1)) (Field3.becomes t.2)) (Field4.becomes t.3)) (Field5.becomes t.4)) (Field6.becomes t.5)) (Field7.becomes t.6) };
+    ghost becomes = { λ t.
+        joined (joined (joined (joined (joined (joined
+        (Field1.becomes t.0) (Field2.becomes t.1)) (Field3.becomes t.2)) (Field4.becomes t.3)) (Field5.becomes t.4))
+        (Field6.becomes t.5)) (Field7.becomes t.6) };
 
-    ghost refuses = { λ t. refused (refused (refused (refused (refused (refused (Field1.refuses t.0) (Field2.refuses t.1)) (Field3.refuses t.2)) (Field4.refuses t.3)) (Field5.refuses t.4)) (Field6.refuses t.5)) (Field7.refuses t.6) };
+    ghost refuses = { λ t.
+        refused (refused (refused (refused (refused (refused
+        (Field1.refuses t.0) (Field2.refuses t.1)) (Field3.refuses t.2)) (Field4.refuses t.3)) (Field5.refuses t.4))
+        (Field6.refuses t.5)) (Field7.refuses t.6) };
 
     fn pretty(self, allocator: &'a D) -> Result<DocBuilder<'a, D>, BuildError> {
         let (t1, t2, t3, t4, t5, t6, t7) = self;
@@ -168,9 +186,15 @@ impl<
         Field7,
         Field8,
     ) {
-    ghost becomes = { λ t. joined (joined (joined (joined (joined (joined (joined (Field1.becomes t.0) (Field2.becomes t.1)) (Field3.becomes t.2)) (Field4.becomes t.3)) (Field5.becomes t.4)) (Field6.becomes t.5)) (Field7.becomes t.6)) (Field8.becomes t.7) };
+    ghost becomes = { λ t.
+        joined (joined (joined (joined (joined (joined (joined
+        (Field1.becomes t.0) (Field2.becomes t.1)) (Field3.becomes t.2)) (Field4.becomes t.3)) (Field5.becomes t.4))
+        (Field6.becomes t.5)) (Field7.becomes t.6)) (Field8.becomes t.7) };
 
-    ghost refuses = { λ t. refused (refused (refused (refused (refused (refused (refused (Field1.refuses t.0) (Field2.refuses t.1)) (Field3.refuses t.2)) (Field4.refuses t.3)) (Field5.refuses t.4)) (Field6.refuses t.5)) (Field7.refuses t.6)) (Field8.refuses t.7) };
+    ghost refuses = { λ t.
+        refused (refused (refused (refused (refused (refused (refused
+        (Field1.refuses t.0) (Field2.refuses t.1)) (Field3.refuses t.2)) (Field4.refuses t.3)) (Field5.refuses t.4))
+        (Field6.refuses t.5)) (Field7.refuses t.6)) (Field8.refuses t.7) };
 
     fn pretty(self, allocator: &'a D) -> Result<DocBuilder<'a, D>, BuildError> {
         let (t1, t2, t3, t4, t5, t6, t7, t8) = self;
@@ -206,9 +230,15 @@ impl<
         Field8,
         Field9,
     ) {
-    ghost becomes = { λ t. joined (joined (joined (joined (joined (joined (joined (joined (Field1.becomes t.0) (Field2.becomes t.1)) (Field3.becomes t.2)) (Field4.becomes t.3)) (Field5.becomes t.4)) (Field6.becomes t.5)) (Field7.becomes t.6)) (Field8.becomes t.7)) (Field9.becomes t.8) };
+    ghost becomes = { λ t.
+        joined (joined (joined (joined (joined (joined (joined (joined
+        (Field1.becomes t.0) (Field2.becomes t.1)) (Field3.becomes t.2)) (Field4.becomes t.3)) (Field5.becomes t.4))
+        (Field6.becomes t.5)) (Field7.becomes t.6)) (Field8.becomes t.7)) (Field9.becomes t.8) };
 
-    ghost refuses = { λ t. refused (refused (refused (refused (refused (refused (refused (refused (Field1.refuses t.0) (Field2.refuses t.1)) (Field3.refuses t.2)) (Field4.refuses t.3)) (Field5.refuses t.4)) (Field6.refuses t.5)) (Field7.refuses t.6)) (Field8.refuses t.7)) (Field9.refuses t.8) };
+    ghost refuses = { λ t.
+        refused (refused (refused (refused (refused (refused (refused (refused
+        (Field1.refuses t.0) (Field2.refuses t.1)) (Field3.refuses t.2)) (Field4.refuses t.3)) (Field5.refuses t.4))
+        (Field6.refuses t.5)) (Field7.refuses t.6)) (Field8.refuses t.7)) (Field9.refuses t.8) };
 
     fn pretty(self, allocator: &'a D) -> Result<DocBuilder<'a, D>, BuildError> {
         let (t1, t2, t3, t4, t5, t6, t7, t8, t9) = self;
@@ -246,9 +276,17 @@ impl<
         Field9,
         Field10,
     ) {
-    ghost becomes = { λ t. joined (joined (joined (joined (joined (joined (joined (joined (joined (Field1.becomes t.0) (Field2.becomes t.1)) (Field3.becomes t.2)) (Field4.becomes t.3)) (Field5.becomes t.4)) (Field6.becomes t.5)) (Field7.becomes t.6)) (Field8.becomes t.7)) (Field9.becomes t.8)) (Field10.becomes t.9) };
+    ghost becomes = { λ t.
+        joined (joined (joined (joined (joined (joined (joined (joined (joined
+        (Field1.becomes t.0) (Field2.becomes t.1)) (Field3.becomes t.2)) (Field4.becomes t.3)) (Field5.becomes t.4))
+        (Field6.becomes t.5)) (Field7.becomes t.6)) (Field8.becomes t.7)) (Field9.becomes t.8))
+        (Field10.becomes t.9) };
 
-    ghost refuses = { λ t. refused (refused (refused (refused (refused (refused (refused (refused (refused (Field1.refuses t.0) (Field2.refuses t.1)) (Field3.refuses t.2)) (Field4.refuses t.3)) (Field5.refuses t.4)) (Field6.refuses t.5)) (Field7.refuses t.6)) (Field8.refuses t.7)) (Field9.refuses t.8)) (Field10.refuses t.9) };
+    ghost refuses = { λ t.
+        refused (refused (refused (refused (refused (refused (refused (refused (refused
+        (Field1.refuses t.0) (Field2.refuses t.1)) (Field3.refuses t.2)) (Field4.refuses t.3)) (Field5.refuses t.4))
+        (Field6.refuses t.5)) (Field7.refuses t.6)) (Field8.refuses t.7)) (Field9.refuses t.8))
+        (Field10.refuses t.9) };
 
     fn pretty(self, allocator: &'a D) -> Result<DocBuilder<'a, D>, BuildError> {
         let (t1, t2, t3, t4, t5, t6, t7, t8, t9, t10) = self;
@@ -288,9 +326,17 @@ impl<
         Field10,
         Field11,
     ) {
-    ghost becomes = { λ t. joined (joined (joined (joined (joined (joined (joined (joined (joined (joined (Field1.becomes t.0) (Field2.becomes t.1)) (Field3.becomes t.2)) (Field4.becomes t.3)) (Field5.becomes t.4)) (Field6.becomes t.5)) (Field7.becomes t.6)) (Field8.becomes t.7)) (Field9.becomes t.8)) (Field10.becomes t.9)) (Field11.becomes t.10) };
+    ghost becomes = { λ t.
+        joined (joined (joined (joined (joined (joined (joined (joined (joined (joined
+        (Field1.becomes t.0) (Field2.becomes t.1)) (Field3.becomes t.2)) (Field4.becomes t.3)) (Field5.becomes t.4))
+        (Field6.becomes t.5)) (Field7.becomes t.6)) (Field8.becomes t.7)) (Field9.becomes t.8))
+        (Field10.becomes t.9)) (Field11.becomes t.10) };
 
-    ghost refuses = { λ t. refused (refused (refused (refused (refused (refused (refused (refused (refused (refused (Field1.refuses t.0) (Field2.refuses t.1)) (Field3.refuses t.2)) (Field4.refuses t.3)) (Field5.refuses t.4)) (Field6.refuses t.5)) (Field7.refuses t.6)) (Field8.refuses t.7)) (Field9.refuses t.8)) (Field10.refuses t.9)) (Field11.refuses t.10) };
+    ghost refuses = { λ t.
+        refused (refused (refused (refused (refused (refused (refused (refused (refused (refused
+        (Field1.refuses t.0) (Field2.refuses t.1)) (Field3.refuses t.2)) (Field4.refuses t.3)) (Field5.refuses t.4))
+        (Field6.refuses t.5)) (Field7.refuses t.6)) (Field8.refuses t.7)) (Field9.refuses t.8))
+        (Field10.refuses t.9)) (Field11.refuses t.10) };
 
     fn pretty(self, allocator: &'a D) -> Result<DocBuilder<'a, D>, BuildError> {
         let (t1, t2, t3, t4, t5, t6, t7, t8, t9, t10, t11) = self;
@@ -332,9 +378,17 @@ impl<
         Field11,
         Field12,
     ) {
-    ghost becomes = { λ t. joined (joined (joined (joined (joined (joined (joined (joined (joined (joined (joined (Field1.becomes t.0) (Field2.becomes t.1)) (Field3.becomes t.2)) (Field4.becomes t.3)) (Field5.becomes t.4)) (Field6.becomes t.5)) (Field7.becomes t.6)) (Field8.becomes t.7)) (Field9.becomes t.8)) (Field10.becomes t.9)) (Field11.becomes t.10)) (Field12.becomes t.11) };
+    ghost becomes = { λ t.
+        joined (joined (joined (joined (joined (joined (joined (joined (joined (joined (joined
+        (Field1.becomes t.0) (Field2.becomes t.1)) (Field3.becomes t.2)) (Field4.becomes t.3)) (Field5.becomes t.4))
+        (Field6.becomes t.5)) (Field7.becomes t.6)) (Field8.becomes t.7)) (Field9.becomes t.8))
+        (Field10.becomes t.9)) (Field11.becomes t.10)) (Field12.becomes t.11) };
 
-    ghost refuses = { λ t. refused (refused (refused (refused (refused (refused (refused (refused (refused (refused (refused (Field1.refuses t.0) (Field2.refuses t.1)) (Field3.refuses t.2)) (Field4.refuses t.3)) (Field5.refuses t.4)) (Field6.refuses t.5)) (Field7.refuses t.6)) (Field8.refuses t.7)) (Field9.refuses t.8)) (Field10.refuses t.9)) (Field11.refuses t.10)) (Field12.refuses t.11) };
+    ghost refuses = { λ t.
+        refused (refused (refused (refused (refused (refused (refused (refused (refused (refused (refused
+        (Field1.refuses t.0) (Field2.refuses t.1)) (Field3.refuses t.2)) (Field4.refuses t.3)) (Field5.refuses t.4))
+        (Field6.refuses t.5)) (Field7.refuses t.6)) (Field8.refuses t.7)) (Field9.refuses t.8))
+        (Field10.refuses t.9)) (Field11.refuses t.10)) (Field12.refuses t.11) };
 
     fn pretty(self, allocator: &'a D) -> Result<DocBuilder<'a, D>, BuildError> {
         let (t1, t2, t3, t4, t5, t6, t7, t8, t9, t10, t11, t12) = self;
@@ -378,9 +432,21 @@ impl<
         Field12,
         Field13,
     ) {
-    ghost becomes = { λ t. joined (joined (joined (joined (joined (joined (joined (joined (joined (joined (joined (joined (Field1.becomes t.0) (Field2.becomes t.1.0)) (Field3.becomes t.1.1.0)) (Field4.becomes t.1.1.1.0)) (Field5.becomes t.1.1.1.1.0)) (Field6.becomes t.1.1.1.1.1.0)) (Field7.becomes t.1.1.1.1.1.1.0)) (Field8.becomes t.1.1.1.1.1.1.1.0)) (Field9.becomes t.1.1.1.1.1.1.1.1.0)) (Field10.becomes t.1.1.1.1.1.1.1.1.1.0)) (Field11.becomes t.1.1.1.1.1.1.1.1.1.1.0)) (Field12.becomes t.1.1.1.1.1.1.1.1.1.1.1.0)) (Field13.becomes t.1.1.1.1.1.1.1.1.1.1.1.1.0) };
+    ghost becomes = { λ t.
+        joined (joined (joined (joined (joined (joined (joined (joined (joined (joined (joined (joined
+        (Field1.becomes t.0) (Field2.becomes t.1.0)) (Field3.becomes t.1.1.0)) (Field4.becomes t.1.1.1.0))
+        (Field5.becomes t.1.1.1.1.0)) (Field6.becomes t.1.1.1.1.1.0)) (Field7.becomes t.1.1.1.1.1.1.0))
+        (Field8.becomes t.1.1.1.1.1.1.1.0)) (Field9.becomes t.1.1.1.1.1.1.1.1.0))
+        (Field10.becomes t.1.1.1.1.1.1.1.1.1.0)) (Field11.becomes t.1.1.1.1.1.1.1.1.1.1.0))
+        (Field12.becomes t.1.1.1.1.1.1.1.1.1.1.1.0)) (Field13.becomes t.1.1.1.1.1.1.1.1.1.1.1.1.0) };
 
-    ghost refuses = { λ t. refused (refused (refused (refused (refused (refused (refused (refused (refused (refused (refused (refused (Field1.refuses t.0) (Field2.refuses t.1.0)) (Field3.refuses t.1.1.0)) (Field4.refuses t.1.1.1.0)) (Field5.refuses t.1.1.1.1.0)) (Field6.refuses t.1.1.1.1.1.0)) (Field7.refuses t.1.1.1.1.1.1.0)) (Field8.refuses t.1.1.1.1.1.1.1.0)) (Field9.refuses t.1.1.1.1.1.1.1.1.0)) (Field10.refuses t.1.1.1.1.1.1.1.1.1.0)) (Field11.refuses t.1.1.1.1.1.1.1.1.1.1.0)) (Field12.refuses t.1.1.1.1.1.1.1.1.1.1.1.0)) (Field13.refuses t.1.1.1.1.1.1.1.1.1.1.1.1.0) };
+    ghost refuses = { λ t.
+        refused (refused (refused (refused (refused (refused (refused (refused (refused (refused (refused (refused
+        (Field1.refuses t.0) (Field2.refuses t.1.0)) (Field3.refuses t.1.1.0)) (Field4.refuses t.1.1.1.0))
+        (Field5.refuses t.1.1.1.1.0)) (Field6.refuses t.1.1.1.1.1.0)) (Field7.refuses t.1.1.1.1.1.1.0))
+        (Field8.refuses t.1.1.1.1.1.1.1.0)) (Field9.refuses t.1.1.1.1.1.1.1.1.0))
+        (Field10.refuses t.1.1.1.1.1.1.1.1.1.0)) (Field11.refuses t.1.1.1.1.1.1.1.1.1.1.0))
+        (Field12.refuses t.1.1.1.1.1.1.1.1.1.1.1.0)) (Field13.refuses t.1.1.1.1.1.1.1.1.1.1.1.1.0) };
 
     fn pretty(self, allocator: &'a D) -> Result<DocBuilder<'a, D>, BuildError> {
         let (t1, t2, t3, t4, t5, t6, t7, t8, t9, t10, t11, t12, t13) = self;
@@ -426,9 +492,23 @@ impl<
         Field13,
         Field14,
     ) {
-    ghost becomes = { λ t. joined (joined (joined (joined (joined (joined (joined (joined (joined (joined (joined (joined (joined (Field1.becomes t.0) (Field2.becomes t.1.0)) (Field3.becomes t.1.1.0)) (Field4.becomes t.1.1.1.0)) (Field5.becomes t.1.1.1.1.0)) (Field6.becomes t.1.1.1.1.1.0)) (Field7.becomes t.1.1.1.1.1.1.0)) (Field8.becomes t.1.1.1.1.1.1.1.0)) (Field9.becomes t.1.1.1.1.1.1.1.1.0)) (Field10.becomes t.1.1.1.1.1.1.1.1.1.0)) (Field11.becomes t.1.1.1.1.1.1.1.1.1.1.0)) (Field12.becomes t.1.1.1.1.1.1.1.1.1.1.1.0)) (Field13.becomes t.1.1.1.1.1.1.1.1.1.1.1.1.0)) (Field14.becomes t.1.1.1.1.1.1.1.1.1.1.1.1.1.0) };
+    ghost becomes = { λ t.
+        joined (joined (joined (joined (joined (joined (joined (joined (joined (joined (joined (joined (joined
+        (Field1.becomes t.0) (Field2.becomes t.1.0)) (Field3.becomes t.1.1.0)) (Field4.becomes t.1.1.1.0))
+        (Field5.becomes t.1.1.1.1.0)) (Field6.becomes t.1.1.1.1.1.0)) (Field7.becomes t.1.1.1.1.1.1.0))
+        (Field8.becomes t.1.1.1.1.1.1.1.0)) (Field9.becomes t.1.1.1.1.1.1.1.1.0))
+        (Field10.becomes t.1.1.1.1.1.1.1.1.1.0)) (Field11.becomes t.1.1.1.1.1.1.1.1.1.1.0))
+        (Field12.becomes t.1.1.1.1.1.1.1.1.1.1.1.0)) (Field13.becomes t.1.1.1.1.1.1.1.1.1.1.1.1.0))
+        (Field14.becomes t.1.1.1.1.1.1.1.1.1.1.1.1.1.0) };
 
-    ghost refuses = { λ t. refused (refused (refused (refused (refused (refused (refused (refused (refused (refused (refused (refused (refused (Field1.refuses t.0) (Field2.refuses t.1.0)) (Field3.refuses t.1.1.0)) (Field4.refuses t.1.1.1.0)) (Field5.refuses t.1.1.1.1.0)) (Field6.refuses t.1.1.1.1.1.0)) (Field7.refuses t.1.1.1.1.1.1.0)) (Field8.refuses t.1.1.1.1.1.1.1.0)) (Field9.refuses t.1.1.1.1.1.1.1.1.0)) (Field10.refuses t.1.1.1.1.1.1.1.1.1.0)) (Field11.refuses t.1.1.1.1.1.1.1.1.1.1.0)) (Field12.refuses t.1.1.1.1.1.1.1.1.1.1.1.0)) (Field13.refuses t.1.1.1.1.1.1.1.1.1.1.1.1.0)) (Field14.refuses t.1.1.1.1.1.1.1.1.1.1.1.1.1.0) };
+    ghost refuses = { λ t.
+        refused (refused (refused (refused (refused (refused (refused (refused (refused (refused (refused (refused (refused
+        (Field1.refuses t.0) (Field2.refuses t.1.0)) (Field3.refuses t.1.1.0)) (Field4.refuses t.1.1.1.0))
+        (Field5.refuses t.1.1.1.1.0)) (Field6.refuses t.1.1.1.1.1.0)) (Field7.refuses t.1.1.1.1.1.1.0))
+        (Field8.refuses t.1.1.1.1.1.1.1.0)) (Field9.refuses t.1.1.1.1.1.1.1.1.0))
+        (Field10.refuses t.1.1.1.1.1.1.1.1.1.0)) (Field11.refuses t.1.1.1.1.1.1.1.1.1.1.0))
+        (Field12.refuses t.1.1.1.1.1.1.1.1.1.1.1.0)) (Field13.refuses t.1.1.1.1.1.1.1.1.1.1.1.1.0))
+        (Field14.refuses t.1.1.1.1.1.1.1.1.1.1.1.1.1.0) };
 
     fn pretty(self, allocator: &'a D) -> Result<DocBuilder<'a, D>, BuildError> {
         let (t1, t2, t3, t4, t5, t6, t7, t8, t9, t10, t11, t12, t13, t14) = self;
@@ -476,9 +556,23 @@ impl<
         Field14,
         Field15,
     ) {
-    ghost becomes = { λ t. joined (joined (joined (joined (joined (joined (joined (joined (joined (joined (joined (joined (joined (joined (Field1.becomes t.0) (Field2.becomes t.1.0)) (Field3.becomes t.1.1.0)) (Field4.becomes t.1.1.1.0)) (Field5.becomes t.1.1.1.1.0)) (Field6.becomes t.1.1.1.1.1.0)) (Field7.becomes t.1.1.1.1.1.1.0)) (Field8.becomes t.1.1.1.1.1.1.1.0)) (Field9.becomes t.1.1.1.1.1.1.1.1.0)) (Field10.becomes t.1.1.1.1.1.1.1.1.1.0)) (Field11.becomes t.1.1.1.1.1.1.1.1.1.1.0)) (Field12.becomes t.1.1.1.1.1.1.1.1.1.1.1.0)) (Field13.becomes t.1.1.1.1.1.1.1.1.1.1.1.1.0)) (Field14.becomes t.1.1.1.1.1.1.1.1.1.1.1.1.1.0)) (Field15.becomes t.1.1.1.1.1.1.1.1.1.1.1.1.1.1.0) };
+    ghost becomes = { λ t.
+        joined (joined (joined (joined (joined (joined (joined (joined (joined (joined (joined (joined (joined (joined
+        (Field1.becomes t.0) (Field2.becomes t.1.0)) (Field3.becomes t.1.1.0)) (Field4.becomes t.1.1.1.0))
+        (Field5.becomes t.1.1.1.1.0)) (Field6.becomes t.1.1.1.1.1.0)) (Field7.becomes t.1.1.1.1.1.1.0))
+        (Field8.becomes t.1.1.1.1.1.1.1.0)) (Field9.becomes t.1.1.1.1.1.1.1.1.0))
+        (Field10.becomes t.1.1.1.1.1.1.1.1.1.0)) (Field11.becomes t.1.1.1.1.1.1.1.1.1.1.0))
+        (Field12.becomes t.1.1.1.1.1.1.1.1.1.1.1.0)) (Field13.becomes t.1.1.1.1.1.1.1.1.1.1.1.1.0))
+        (Field14.becomes t.1.1.1.1.1.1.1.1.1.1.1.1.1.0)) (Field15.becomes t.1.1.1.1.1.1.1.1.1.1.1.1.1.1.0) };
 
-    ghost refuses = { λ t. refused (refused (refused (refused (refused (refused (refused (refused (refused (refused (refused (refused (refused (refused (Field1.refuses t.0) (Field2.refuses t.1.0)) (Field3.refuses t.1.1.0)) (Field4.refuses t.1.1.1.0)) (Field5.refuses t.1.1.1.1.0)) (Field6.refuses t.1.1.1.1.1.0)) (Field7.refuses t.1.1.1.1.1.1.0)) (Field8.refuses t.1.1.1.1.1.1.1.0)) (Field9.refuses t.1.1.1.1.1.1.1.1.0)) (Field10.refuses t.1.1.1.1.1.1.1.1.1.0)) (Field11.refuses t.1.1.1.1.1.1.1.1.1.1.0)) (Field12.refuses t.1.1.1.1.1.1.1.1.1.1.1.0)) (Field13.refuses t.1.1.1.1.1.1.1.1.1.1.1.1.0)) (Field14.refuses t.1.1.1.1.1.1.1.1.1.1.1.1.1.0)) (Field15.refuses t.1.1.1.1.1.1.1.1.1.1.1.1.1.1.0) };
+    ghost refuses = { λ t.
+        refused (refused (refused (refused (refused (refused (refused (refused (refused (refused (refused (refused (refused (refused
+        (Field1.refuses t.0) (Field2.refuses t.1.0)) (Field3.refuses t.1.1.0)) (Field4.refuses t.1.1.1.0))
+        (Field5.refuses t.1.1.1.1.0)) (Field6.refuses t.1.1.1.1.1.0)) (Field7.refuses t.1.1.1.1.1.1.0))
+        (Field8.refuses t.1.1.1.1.1.1.1.0)) (Field9.refuses t.1.1.1.1.1.1.1.1.0))
+        (Field10.refuses t.1.1.1.1.1.1.1.1.1.0)) (Field11.refuses t.1.1.1.1.1.1.1.1.1.1.0))
+        (Field12.refuses t.1.1.1.1.1.1.1.1.1.1.1.0)) (Field13.refuses t.1.1.1.1.1.1.1.1.1.1.1.1.0))
+        (Field14.refuses t.1.1.1.1.1.1.1.1.1.1.1.1.1.0)) (Field15.refuses t.1.1.1.1.1.1.1.1.1.1.1.1.1.1.0) };
 
     fn pretty(self, allocator: &'a D) -> Result<DocBuilder<'a, D>, BuildError> {
         let (t1, t2, t3, t4, t5, t6, t7, t8, t9, t10, t11, t12, t13, t14, t15) = self;
@@ -528,9 +622,26 @@ impl<
         Field15,
         Field16,
     ) {
-    ghost becomes = { λ t. joined (joined (joined (joined (joined (joined (joined (joined (joined (joined (joined (joined (joined (joined (joined (Field1.becomes t.0) (Field2.becomes t.1.0)) (Field3.becomes t.1.1.0)) (Field4.becomes t.1.1.1.0)) (Field5.becomes t.1.1.1.1.0)) (Field6.becomes t.1.1.1.1.1.0)) (Field7.becomes t.1.1.1.1.1.1.0)) (Field8.becomes t.1.1.1.1.1.1.1.0)) (Field9.becomes t.1.1.1.1.1.1.1.1.0)) (Field10.becomes t.1.1.1.1.1.1.1.1.1.0)) (Field11.becomes t.1.1.1.1.1.1.1.1.1.1.0)) (Field12.becomes t.1.1.1.1.1.1.1.1.1.1.1.0)) (Field13.becomes t.1.1.1.1.1.1.1.1.1.1.1.1.0)) (Field14.becomes t.1.1.1.1.1.1.1.1.1.1.1.1.1.0)) (Field15.becomes t.1.1.1.1.1.1.1.1.1.1.1.1.1.1.0)) (Field16.becomes t.1.1.1.1.1.1.1.1.1.1.1.1.1.1.1.0) };
+    ghost becomes = { λ t.
+        joined (joined (joined (joined (joined (joined (joined (joined (joined (joined (joined (joined (joined (joined (joined
+        (Field1.becomes t.0) (Field2.becomes t.1.0)) (Field3.becomes t.1.1.0)) (Field4.becomes t.1.1.1.0))
+        (Field5.becomes t.1.1.1.1.0)) (Field6.becomes t.1.1.1.1.1.0)) (Field7.becomes t.1.1.1.1.1.1.0))
+        (Field8.becomes t.1.1.1.1.1.1.1.0)) (Field9.becomes t.1.1.1.1.1.1.1.1.0))
+        (Field10.becomes t.1.1.1.1.1.1.1.1.1.0)) (Field11.becomes t.1.1.1.1.1.1.1.1.1.1.0))
+        (Field12.becomes t.1.1.1.1.1.1.1.1.1.1.1.0)) (Field13.becomes t.1.1.1.1.1.1.1.1.1.1.1.1.0))
+        (Field14.becomes t.1.1.1.1.1.1.1.1.1.1.1.1.1.0)) (Field15.becomes t.1.1.1.1.1.1.1.1.1.1.1.1.1.1.0))
+        (Field16.becomes t.1.1.1.1.1.1.1.1.1.1.1.1.1.1.1.0) };
 
-    ghost refuses = { λ t. refused (refused (refused (refused (refused (refused (refused (refused (refused (refused (refused (refused (refused (refused (refused (Field1.refuses t.0) (Field2.refuses t.1.0)) (Field3.refuses t.1.1.0)) (Field4.refuses t.1.1.1.0)) (Field5.refuses t.1.1.1.1.0)) (Field6.refuses t.1.1.1.1.1.0)) (Field7.refuses t.1.1.1.1.1.1.0)) (Field8.refuses t.1.1.1.1.1.1.1.0)) (Field9.refuses t.1.1.1.1.1.1.1.1.0)) (Field10.refuses t.1.1.1.1.1.1.1.1.1.0)) (Field11.refuses t.1.1.1.1.1.1.1.1.1.1.0)) (Field12.refuses t.1.1.1.1.1.1.1.1.1.1.1.0)) (Field13.refuses t.1.1.1.1.1.1.1.1.1.1.1.1.0)) (Field14.refuses t.1.1.1.1.1.1.1.1.1.1.1.1.1.0)) (Field15.refuses t.1.1.1.1.1.1.1.1.1.1.1.1.1.1.0)) (Field16.refuses t.1.1.1.1.1.1.1.1.1.1.1.1.1.1.1.0) };
+    ghost refuses = { λ t.
+        refused (refused (refused (refused (refused (refused (refused (refused
+        (refused (refused (refused (refused (refused (refused (refused
+        (Field1.refuses t.0) (Field2.refuses t.1.0)) (Field3.refuses t.1.1.0)) (Field4.refuses t.1.1.1.0))
+        (Field5.refuses t.1.1.1.1.0)) (Field6.refuses t.1.1.1.1.1.0)) (Field7.refuses t.1.1.1.1.1.1.0))
+        (Field8.refuses t.1.1.1.1.1.1.1.0)) (Field9.refuses t.1.1.1.1.1.1.1.1.0))
+        (Field10.refuses t.1.1.1.1.1.1.1.1.1.0)) (Field11.refuses t.1.1.1.1.1.1.1.1.1.1.0))
+        (Field12.refuses t.1.1.1.1.1.1.1.1.1.1.1.0)) (Field13.refuses t.1.1.1.1.1.1.1.1.1.1.1.1.0))
+        (Field14.refuses t.1.1.1.1.1.1.1.1.1.1.1.1.1.0)) (Field15.refuses t.1.1.1.1.1.1.1.1.1.1.1.1.1.1.0))
+        (Field16.refuses t.1.1.1.1.1.1.1.1.1.1.1.1.1.1.1.0) };
 
     fn pretty(self, allocator: &'a D) -> Result<DocBuilder<'a, D>, BuildError> {
         let (t1, t2, t3, t4, t5, t6, t7, t8, t9, t10, t11, t12, t13, t14, t15, t16) = self;

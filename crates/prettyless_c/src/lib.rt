@@ -48,7 +48,8 @@ pub extern "C" fn prettyless_json_layout(
     line: &mut usize,
     column: &mut usize,
 ) -> u32
-    ensures { json.AnswersJson (style_of width indent fill) (limit_of limit) text.now out.old out.new written.new line.new column.new result }
+    ensures { json.AnswersJson (style_of width indent fill) (limit_of limit) text.now out.old out.new written.new line.new
+        column.new result }
 {
     json_layout(
         alloc, text, width, indent, fill, limit, out, written, line, column,

@@ -30,7 +30,7 @@ pub fn nil() -> Nil {
     Nil
 }
 
-/// A document that cannot be laid: a render that comes to it fails.
+/// A document that cannot be laid: a render that reaches it fails.
 ///
 /// ```
 /// ("a", fail()) // writes "a", then `RenderError::Document`

@@ -23,7 +23,7 @@ impl<'a, D: DocPlace<'a>> Pretty<'a, D> for Nil {
     }
 }
 
-/// A document that cannot be laid: a render that comes to it fails. It takes no memory.
+/// A document that cannot be laid: a render that reaches it fails. It takes no memory.
 #[derive(Clone, Copy, Debug)]
 pub struct Fail;
 

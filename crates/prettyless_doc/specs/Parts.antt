@@ -27,7 +27,7 @@ of_two PartialUnion x y = t.PartialUnion x y
 of_two (OnColumn test) x y = t.OnColumn test x y
 of_two (OnNesting test) x y = t.OnNesting test x y
 
--- the tree of a node by its parts, where f tells the trees of its pointers
+-- the tree of a node by its parts, where f gives the trees of its pointers
 abbrev pub parts_tree : {T : Type 0} → (T → Tree) → Parts T → Tree
 parts_tree f (None node) = tree_of f node
 parts_tree f (One kind x) = around kind (f x.now)

@@ -27,7 +27,7 @@ impl<'a, T: DocPtr<'a>> Doc<'a, T> {
         Doc::Nil
     }
 
-    /// A document that cannot be laid: a render that comes to it fails.
+    /// A document that cannot be laid: a render that reaches it fails.
     ///
     /// ```
     /// Doc::fail() // its render answers `RenderError::Document`
@@ -150,7 +150,7 @@ impl<'a, D: DocPtr<'a>> BuildDoc<'a, D> {
         BuildDoc::Doc(Doc::nil())
     }
 
-    /// A document that cannot be laid: a render that comes to it fails.
+    /// A document that cannot be laid: a render that reaches it fails.
     ///
     /// ```
     /// BuildDoc::fail() // its render answers `RenderError::Document`

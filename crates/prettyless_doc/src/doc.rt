@@ -10,8 +10,8 @@ use prettyless_model::choice::{ColumnTest, NestingTest};
 pub enum Doc<'a, T> {
     /// Nothing.
     Nil,
-    /// A document that cannot be laid: a render that comes to it answers `RenderError::Document`, and a union in broken
-    /// lines rejects a first branch whose laying comes to it.
+    /// A document that cannot be laid: a render that reaches it answers `RenderError::Document`, and a union in broken
+    /// lines rejects a first branch whose laying reaches it.
     Fail,
     /// A text, counted as one column a byte.
     Text(Text<'a>),
@@ -53,7 +53,7 @@ pub enum Doc<'a, T> {
     /// whatever follows; else the second. Where lines are flat it is always the first.
     Union(T, T),
     /// The first document where its first line fits, together with what follows if it has no line break; else the
-    /// second. What comes after that line is not looked at, and may fail. Where lines are flat it is always the
+    /// second. What comes after that line is not read, and may fail. Where lines are flat it is always the
     /// first.
     PartialUnion(T, T),
     /// The first document where the test of the column at which it would start holds, else the second, flat or broken.

@@ -31,7 +31,7 @@ pub trait DocPlace<'a>: Sized {
         ensures { IfSome result (λ p. Self.Doc.tree p ≡ constant_tree which) };
 }
 
-/// The same place. It is handed on by reference.
+/// The same place. It is passed by reference.
 impl<'a, D: DocPlace<'a>> DocPlace<'a> for &'a D {
     type Doc = D::Doc;
 

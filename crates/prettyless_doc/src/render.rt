@@ -47,15 +47,15 @@ impl<'a, T: DocPtr<'a>> Doc<'a, T> {
     /// Renders to a sink as `render_raw_with` does, and adds to `visits` how many nodes the printer and its probes visit,
     /// also where it fails.
     ///
-    /// In a document with no line suffix the printer visits each node at most once, also where a trial is not kept.
-    /// Each group and partial union asks at most one probe, which visits each node at most once.
+    /// In a document with no line suffix the printer visits each node at most once, also where a trial is rejected.
+    /// Each group and partial union starts at most one probe, which visits each node at most once.
     ///
     /// Take one that has no choice by column or nesting either, no indent of more than 32 bits, and fewer than 2^32 - 1
-    /// nodes. At a width below 2^32 probes visit at most sixteen nodes for each of its nodes, and a thousand. That asks
-    /// that no table was refused memory, which `visits` counts too.
+    /// nodes. At a width below 2^32 probes visit at most sixteen nodes for each of its nodes, and a thousand. That holds
+    /// where no table was refused memory, which `visits` counts too.
     ///
     /// After `Ok` the printer has visited at least the nodes that the layout lays. Its probes have visited at least one
-    /// node for each probe that the layout asks. Both hold up to the greatest `u64`. In this lower bound a rejected
+    /// node for each probe that the layout needs. Both hold up to the greatest `u64`. In this lower bound a rejected
     /// branch of a union counts nothing, and neither does the document of a line suffix. A branch that is kept counts.
     ///
     /// ```
@@ -94,7 +94,7 @@ impl<'a, T: DocPtr<'a>> Doc<'a, T> {
         self.render_raw_with(alloc, RenderOptions::new(width), out)
     }
 
-    /// Renders to a byte writer, piece by piece. Hand in a `BufWriter` where a write is slow, and flush it afterwards,
+    /// Renders to a byte writer, piece by piece. Pass a `BufWriter` where a write is slow, and flush it afterwards,
     /// since no call here does. An interruption is answered as `Sink`, and not tried again. Each error says what was
     /// appended by then; that of `Document` is of the kind `Other`.
     ///
@@ -108,7 +108,8 @@ impl<'a, T: DocPtr<'a>> Doc<'a, T> {
         options: RenderOptions,
         out: &mut W,
     ) -> Result<(), RenderError<io::Error>>
-        ensures { RendersDocInto options (tree_of T.tree self.now) (λ e. error_kind e ≡ Other) (W.contents out.old) (W.contents out.new) result }
+        ensures { RendersDocInto options (tree_of T.tree self.now) (λ e. error_kind e ≡ Other) (W.contents out.old)
+            (W.contents out.new) result }
     {
         self.render_raw_with(alloc, options, &mut IoWrite::new(out))
     }
@@ -125,7 +126,8 @@ impl<'a, T: DocPtr<'a>> Doc<'a, T> {
         width: usize,
         out: &mut W,
     ) -> Result<(), RenderError<io::Error>>
-        ensures { RendersDocInto (options_at width) (tree_of T.tree self.now) (λ e. error_kind e ≡ Other) (W.contents out.old) (W.contents out.new) result }
+        ensures { RendersDocInto (options_at width) (tree_of T.tree self.now) (λ e. error_kind e ≡ Other) (W.contents out.old)
+            (W.contents out.new) result }
     {
         self.render_with(alloc, RenderOptions::new(width), out)
     }

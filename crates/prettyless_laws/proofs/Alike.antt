@@ -101,7 +101,7 @@ text_alike w n (b ∷ bs) c e p h =
 end_alike : (w : ℕ) (m : Mode) (c e : Column) (p : Bool) → Alike c e → AlikeLooks (look_end w m c p) (look_end w m e p)
 end_alike w m c e p h = ap (λ (x : Bool). by_mode m x false) (padding_fits_alike w p c e h)
 
--- what a probe comes to from columns that are alike
+-- the result of a probe from columns that are alike
 pub look_alike : (w : ℕ) (d : Tree) (i : ℕ) (m : Mode) (c e : Column) (p : Bool) → Alike c e
     → AlikeLooks (look w d i m c p) (look w d i m e p)
 look_alike w Fail i m c e p h = refl

@@ -1,5 +1,5 @@
--- A document at the end of another's right arms: the two are looked at and laid as their `Append`, and so a probe comes to the
--- same at a regrouped document.
+-- A document at the end of another's right arms: the two are read and laid as their `Append`, and so a probe has the
+-- same result at a regrouped document.
 use Rattle.std.proofs.Common.{◌≡◌, ℕ, List, ◌∷◌, refl, ap, sym, ◌∙◌, Bool}
 use Rattle.prettyless_model.specs.declared.options.RenderOptions.{RenderOptions}
 use Rattle.prettyless_model.specs.Tree.{Tree, Append, Nest, DedentToRoot, Align, Flatten, BreakOrFlat, Group, Union, PartialUnion, OnColumn}
@@ -23,7 +23,7 @@ appended_by : (P : Tree → Tree → Type 0) (r : Tree) → ((l : Tree) → P l 
 appended_by P r f g (Append a b) = g a b (appended_by P r f g b)
 appended_by P r f g l = f l
 
--- what a probe comes to at one document after another
+-- the result of a probe at one document after another
 abbrev in_turn : ℕ → Tree → Tree → ℕ → Mode → Column → Bool → Look
 in_turn w l r i m c p = look_then (look w l i m c p) (λ e q. look w r i m e q)
 

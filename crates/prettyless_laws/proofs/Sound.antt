@@ -1,4 +1,4 @@
--- Columns as a layout comes to them: on a fresh line no weak space waits, and after content no indent. So nothing that waits
+-- Columns as a layout reaches them: on a fresh line no weak space waits, and after content no indent. So nothing that waits
 -- is cut off at the greatest `usize`.
 use Rattle.std.proofs.Common.{◌≡◌, ℕ, ◌+◌, ◌-◌, ◌^◌, ◌≤◌, ℤ, pos, negsuc, List, [], ◌∷◌, ◌++◌, refl, ap, ◌∙◌, sym, arith, add-zero}
 use Rattle.std.proofs.Common.{zero-add, le_trans, sub-le, Bool, true, false, if◌then◌else◌}

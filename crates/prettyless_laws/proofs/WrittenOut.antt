@@ -135,7 +135,7 @@ plain_either : (o : RenderOptions) (k : ℕ) (t : Bool) (x y : Outcome) (z w : T
 plain_either o k true x y z w h g = h
 plain_either o k false x y z w h g = g
 
--- breaks that match, from the columns that a layout comes to
+-- breaks that match, from the columns that a layout reaches
 abbrev pub BreaksMatch : RenderOptions → Breaks → BreakTraces → Type 0
 BreaksMatch o a b = (d : Tree) (i : ℕ) (m : Mode) (rest : List Entry) (s : State) → InRange i → EntriesInRange rest → Sound s.column
     → Matches o s.column.indent (a d i m rest s) (b d i m rest s)

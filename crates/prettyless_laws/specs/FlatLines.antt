@@ -115,7 +115,7 @@ pub record IsTracedOnOneLine (o : RenderOptions) (d : Tree) (i : ℕ) (next : Co
   pub lies : LiesOnOneLine o d i next st
   -- its trace
   pub pieces : List Piece
-  -- these, up to the state that its layout comes to
+  -- these, up to the state that its layout reaches
   pub traced : TracesFlat o d i st pieces lies.state
   -- no end of a line is among them, no indent and no payload, and no text that ends past the width
   pub on_one_line : All (IsOnOneLine o.width) pieces

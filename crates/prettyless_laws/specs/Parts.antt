@@ -71,7 +71,7 @@ InlineIsLaidAsOneText =
     (o : RenderOptions) (brk : Breaks) (d : Tree) (i : ℕ) (rest : List Entry) (st : State) → IsInline d
     → lay o brk d i Flat rest st ≡ lay_text o (flat_columns d) (flat_bytes d) st
 
--- and a probe looks at it as at one text
+-- and a probe reads it as one text
 abbrev pub InlineIsSeenAsOneText : Type 0
 InlineIsSeenAsOneText =
     (width : ℕ) (d : Tree) (i : ℕ) (c : Column) (p : Bool) → IsInline d

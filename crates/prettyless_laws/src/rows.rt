@@ -29,7 +29,8 @@ pub fn rows()
         (Chose First ∷ Gap 0 ∷ text_piece "a" 1 ∷ Gap 0 ∷ text_piece " " 2 ∷ Gap 0 ∷ text_piece "b" 3 ∷ []) }
     ensures group_breaks { HasTrace 2 (pair "a" "b")
         (Chose Second ∷ Gap 0 ∷ text_piece "a" 1 ∷ Ending ∷ Indent 0 true ∷ Gap 0 ∷ text_piece "b" 1 ∷ []) }
-    ensures flattened { HasTrace 1 (Flatten (pair "a" "b")) (Gap 0 ∷ text_piece "a" 1 ∷ Gap 0 ∷ text_piece " " 2 ∷ Gap 0 ∷ text_piece "b" 3 ∷ []) }
+    ensures flattened { HasTrace 1 (Flatten (pair "a" "b"))
+        (Gap 0 ∷ text_piece "a" 1 ∷ Gap 0 ∷ text_piece " " 2 ∷ Gap 0 ∷ text_piece "b" 3 ∷ []) }
     ensures kept { HasTrace 5 (Union (row_text "short") (row_text "much longer text")) (Chose First ∷ Gap 0 ∷ text_piece "short" 5 ∷ []) }
     ensures not_kept { HasTrace 1 (Union (row_text "short") (row_text "x")) (Chose Second ∷ Gap 0 ∷ text_piece "x" 1 ∷ []) }
     ensures by_first_line { HasTrace 10 (PartialUnion (two_lines "a" "long long long") (row_text "x"))
@@ -56,7 +57,8 @@ pub fn rows()
         (Gap 0 ∷ text_piece "a" 1 ∷ Gap 1 ∷ Gap 0 ∷ text_piece "//" 4 ∷ Ending ∷ Indent 0 false ∷ []) }
     ensures empty_suffix { HasTrace 80 (Nest (pos 2) (in_turn HardLine (LineSuffix Nil ∷ HardLine ∷ row_text "b" ∷ [])))
         (Ending ∷ Indent 2 true ∷ Gap 0 ∷ Ending ∷ Indent 2 true ∷ Gap 0 ∷ text_piece "b" 3 ∷ []) }
-    ensures failure { FailsAfter 80 (in_turn (row_text "a") (HardLine ∷ Fail ∷ [])) (Gap 0 ∷ text_piece "a" 1 ∷ Ending ∷ Indent 0 false ∷ []) }
+    ensures failure { FailsAfter 80 (in_turn (row_text "a") (HardLine ∷ Fail ∷ []))
+        (Gap 0 ∷ text_piece "a" 1 ∷ Ending ∷ Indent 0 false ∷ []) }
 {}
 
 /// On a flat line a document is one text. Lists that are wider than the width are laid by their members, each on lines of its own.
@@ -104,7 +106,7 @@ pub fn texts()
     ensures late_after_space { ShowsItems 80 noted (text_item "a" ∷ spaced ∷ late_item "//" ∷ []) (codes "a //") }
     ensures late_in_late { ShowsNothing (LineSuffix (LineSuffix (row_text "x"))) }
 
-    // What is there by some alternatives alone is a mark.
+    // What is there by some alternatives alone is an optional text.
     ensures mark_left_out { ShowsItems 80 one_number one_number_items (codes "(1)") }
     ensures mark_set { ShowsItems 1 one_number one_number_items (codes "(\n1,\n)") }
     ensures first_of_two { ShowsItems 80 either_number (Mark (codes "12") ∷ Mark (codes "1") ∷ []) (codes "12") }

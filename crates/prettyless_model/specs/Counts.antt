@@ -1,4 +1,4 @@
--- What a layout counts: the nodes that it lays, and the probes that it asks. What a rejected branch of a union counts is
+-- What a layout counts: the nodes that it lays, and the probes that it needs. What a rejected branch of a union counts is
 -- left out. A LineSuffix counts as a node, and the document in it is left out, as are breaks that are begun again.
 use Rattle.std.specs.Prelude.{ℕ, ◌+◌, ◌&&◌, if◌then◌else◌, ◌∷◌, [], List}
 use Rattle.prettyless_model.specs.declared.options.RenderOptions.{RenderOptions}
@@ -20,7 +20,7 @@ Weight = Tree → Mode → ℕ
 abbrev pub each_node : Weight
 each_node d m = 1
 
--- a group and a partial union ask one probe in Break
+-- a group and a partial union need one probe in Break
 abbrev pub each_probe : Weight
 each_probe (t.Group d) m = by_mode m 1 0
 each_probe (t.PartialUnion l r) m = by_mode m 1 0
@@ -69,6 +69,6 @@ tally o d i m rest st w = w d m
 abbrev pub laid_nodes : RenderOptions → Tree → ℕ
 laid_nodes o d = tally o d 0 Break [] initial each_node
 
--- how many probes the layout of a document asks
+-- how many probes the layout of a document needs
 abbrev pub laid_probes : RenderOptions → Tree → ℕ
 laid_probes o d = tally o d 0 Break [] initial each_probe

@@ -15,7 +15,7 @@ abbrev pub by_mode : {A : Type 0} → Mode → A → A → A
 by_mode Break b f = b
 by_mode Flat b f = f
 
--- what looking at a document comes to: an answer, or the column after it and whether a document is pending there
+-- the result of a look at a document: an answer, or the column after it and whether a document is pending there
 pub data Look : Type 0 where
   Answers : Bool → Look
   GoesOn : Column → Bool → Look
@@ -43,7 +43,7 @@ payload_begins width m c = not m.first_nonempty || nat_le (commit m.first_width 
 abbrev pub look_end : ℕ → Mode → Column → Bool → Look
 look_end width m c p = Answers (by_mode m (padding_fits width p c) false)
 
--- What a document comes to at an indent in a mode, from a column on; `p` says whether a document is pending.
+-- The result of a look at a document at an indent in a mode, from a column on; `p` says whether a document is pending.
 abbrev pub look : ℕ → Tree → ℕ → Mode → Column → Bool → Look
 look width t.Nil i m c p = GoesOn c p
 look width t.Fail i m c p = Answers false

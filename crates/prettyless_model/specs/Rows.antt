@@ -21,7 +21,7 @@ IsLaidAs width d bytes = layout (options_at width) d ≡ Whole bytes
 abbrev pub Fails : ℕ → Tree → List ℕ → Type 0
 Fails width d bytes = layout (options_at width) d ≡ Cut bytes
 
--- at this width so many nodes are laid, and so many probes asked
+-- at this width so many nodes are laid, and so many probes needed
 abbrev pub Counts : ℕ → Tree → ℕ → ℕ → Type 0
 Counts width d nodes probes = (laid_nodes (options_at width) d ≡ nodes) × (laid_probes (options_at width) d ≡ probes)
 

@@ -65,7 +65,7 @@ pub data Item : Type 0 where
   Shown : List ℕ → Item
   -- a gap, which reaches so far and has so much
   Gap : Reach → Least → Item
-  -- a text, whole, or nothing: it is there by some alternatives alone
+  -- a text, whole, or nothing: an optional text, there by some alternatives alone
   Mark : List ℕ → Item
   -- an item that is put off to the end of its line
   Late : Item → Item
@@ -98,8 +98,8 @@ NoneIsLate (i ∷ items) = NoneIsLate items
 abbrev pub IsWeaker : Reach → Least → Reach → Least → Type 0
 IsWeaker r l s m = (further r s ≡ s) × (more m l ≡ l) × (l ≡ LineEnd → (m ≡ LineEnd) ⊎ (s ≡ AnyLine))
 
--- What shows the first items shows the second: gaps that reach further, or have less, marks in place of texts, and marks
--- and gaps that may be nothing.
+-- What shows the first items shows the second: gaps that reach further, or have less, optional texts in place of texts, and such
+-- texts and gaps where there may be nothing.
 abbrev pub Implies : List Item → List Item → Type 0
 Implies xs [] = xs ≡ []
 Implies xs (Gap s m ∷ ys) =
@@ -282,7 +282,7 @@ texts [] = []
 texts (Shown s ∷ items) = s ∷ texts items
 texts (i ∷ items) = texts items
 
--- each text is there, in its place: none is a mark, and none is late
+-- each text is there, in its place: none is an optional text, and none is late
 abbrev pub AreFixed : List Item → Type 0
 AreFixed [] = ⊤
 AreFixed (Shown s ∷ items) = AreFixed items

@@ -43,7 +43,7 @@ size (OnColumn test y n) = size y + size n + 1
 size (OnNesting test y n) = size y + size n + 1
 size _ = 1
 
--- how many nodes of a tree ask the probe: its groups and its partial unions
+-- how many nodes of a tree need a probe: its groups and its partial unions
 abbrev pub probed : Tree → ℕ
 probed (Append l r) = probed l + probed r
 probed (LineSuffix d) = probed d

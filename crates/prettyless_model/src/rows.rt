@@ -39,13 +39,16 @@ pub fn indents()
     ensures nested_and_back { IsLaidAs 80 (Nest (pos 2) (Nest (negsuc 1) below)) (codes "\nx") }
 
     // An indent is written at once, also on an empty line, or with the first content.
-    ensures empty_line { IsLaidAs 80 (Nest (pos 2) (in_turn (row_text "aaa") (HardLine ∷ HardLine ∷ row_text "bbb" ∷ []))) (codes "aaa\n  \n  bbb") }
-    ensures empty_line_deferred { layout (deferred_at 80) (Nest (pos 2) (in_turn (row_text "aaa") (HardLine ∷ HardLine ∷ row_text "bbb" ∷ [])))
+    ensures empty_line { IsLaidAs 80 (Nest (pos 2) (in_turn (row_text "aaa") (HardLine ∷ HardLine ∷ row_text "bbb" ∷ [])))
+        (codes "aaa\n  \n  bbb") }
+    ensures empty_line_deferred { layout (deferred_at 80)
+        (Nest (pos 2) (in_turn (row_text "aaa") (HardLine ∷ HardLine ∷ row_text "bbb" ∷ [])))
         ≡ Whole (codes "aaa\n\n  bbb") }
 
     // An alignment counts a space that is not written yet, and the root is column 0.
     ensures aligned { IsLaidAs 80 (in_turn (row_text "a") (WeakSpace ∷ Align (Append HardLine (row_text "b")) ∷ [])) (codes "a\n  b") }
-    ensures to_root { IsLaidAs 10 (Nest (pos 4) (in_turn (row_text "a") (DedentToRoot (two_lines "b" "c") ∷ HardLine ∷ row_text "e" ∷ []))) (codes "ab\nc\n    e") }
+    ensures to_root { IsLaidAs 10 (Nest (pos 4)
+        (in_turn (row_text "a") (DedentToRoot (two_lines "b" "c") ∷ HardLine ∷ row_text "e" ∷ []))) (codes "ab\nc\n    e") }
     ensures crlf { layout (crlf_at 80) (in_turn (Nest (pos 2) (two_lines "x" "y")) (HardLine ∷ row_text "z" ∷ []))
         ≡ Whole (codes "x\r\n  y\r\nz") }
 {}
@@ -85,8 +88,10 @@ pub fn line_suffixes()
     ensures in_group { IsLaidAs 5
         (Group (in_turn (row_text "a") (LineSuffix (row_text " // 1") ∷ row_line ∷ LineSuffix (row_text " // 2") ∷ row_text "b" ∷ [])))
         (codes "a b // 1 // 2") }
-    ensures after_payload { IsLaidAs 80 (Append (LineSuffix (row_text " // 1")) (MultilineText (codes "\"b\nc\""))) (codes "\"b\nc\" // 1") }
-    ensures on_fresh_line { IsLaidAs 80 (Group (in_turn (LineSuffix Nil) (WeakLine ∷ row_text "a" ∷ row_line ∷ row_text "b" ∷ []))) (codes "\na\nb") }
+    ensures after_payload { IsLaidAs 80 (Append (LineSuffix (row_text " // 1")) (MultilineText (codes "\"b\nc\"")))
+        (codes "\"b\nc\" // 1") }
+    ensures on_fresh_line { IsLaidAs 80 (Group (in_turn (LineSuffix Nil) (WeakLine ∷ row_text "a" ∷ row_line ∷ row_text "b" ∷ [])))
+        (codes "\na\nb") }
     ensures from_a_suffix { IsLaidAs 80
         (in_turn (row_text "a") (LineSuffix (Append (row_text "x") (LineSuffix (row_text "y"))) ∷ HardLine ∷ row_text "b" ∷ []))
         (codes "axy\nb") }
@@ -121,8 +126,10 @@ pub fn alternatives()
     ensures padding_in_partial { IsLaidAs 1 (PartialUnion noted (row_text "x")) (codes "x") }
 
     // What went past the width before a branch does not count, and what follows it is known to it.
-    ensures after_long_line { IsLaidAs 3 (in_turn (row_text "long") (HardLine ∷ Union (row_text "a b") (two_lines "a" "b") ∷ [])) (codes "long\na b") }
-    ensures follower_known { IsLaidAs 1 (Nest (pos 2) (Append (Union (Append (row_text "a") HardLine) (row_text "x")) (row_text "b"))) (codes "a\n  b") }
+    ensures after_long_line { IsLaidAs 3 (in_turn (row_text "long") (HardLine ∷ Union (row_text "a b") (two_lines "a" "b") ∷ []))
+        (codes "long\na b") }
+    ensures follower_known { IsLaidAs 1
+        (Nest (pos 2) (Append (Union (Append (row_text "a") HardLine) (row_text "x")) (row_text "b"))) (codes "a\n  b") }
 
     // A probe reads a union broken by its second branch.
     ensures read_by_second { IsLaidAs 5 tail (codes "aa\nbb") }
@@ -131,7 +138,8 @@ pub fn alternatives()
     // What a branch left waiting is gone with it, and waits on where it is kept.
     ensures rejected_suffix { IsLaidAs 10
         (Append (LineSuffix (row_text " // caller"))
-        (Union (Append (Union (Append (row_text "inner") (LineSuffix (row_text " // s"))) (row_text "inner fallback")) (row_text " long overflow"))
+        (Union (Append (Union (Append (row_text "inner") (LineSuffix (row_text " // s"))) (row_text "inner fallback"))
+        (row_text " long overflow"))
         (row_text "outer fallback")))
         (codes "outer fallback // caller") }
     ensures kept_suffix { IsLaidAs 80
@@ -141,7 +149,7 @@ pub fn alternatives()
         ≡ Whole (codes "z\r\nw") }
 {}
 
-/// A choice by column looks at where the next content would begin, one by nesting at the indent, in both modes. A probe
+/// A choice by column tests where the next content would begin, one by nesting the indent, in both modes. A probe
 /// takes the document that the layout takes.
 pub fn choices()
     ensures hung_on_one_line { IsLaidAs 70 binding (codes "let x = \\y -> y") }
@@ -159,14 +167,16 @@ pub fn choices()
     ensures in_group { IsLaidAs 80 letter_in_group (codes "a c") }
 {}
 
-/// A document fails after what is before the node that fails. A branch that fails is not kept, and what is not laid does
+/// A document fails after what is before the node that fails. A branch that fails is rejected, and what is not laid does
 /// not fail.
 pub fn failures()
     ensures at_once { Fails 80 (Group Fail) [] }
     ensures flat_line { Fails 80 (Flatten (two_lines "a" "b")) (codes "a") }
     ensures at_the_end { Fails 80 (Append (LineSuffix Fail) (row_text "a")) (codes "a") }
-    ensures after_kept_branch { Fails 2 (Append (Union (Append (row_text "a") (LineSuffix Fail)) (row_text "x")) (row_text "b")) (codes "ab") }
-    ensures in_branch { IsLaidAs 3 (in_turn (row_text "p") (WeakSpace ∷ Union (in_turn (row_text "long") (HardLine ∷ Fail ∷ [])) (row_text "x") ∷ [])) (codes "p x") }
+    ensures after_kept_branch { Fails 2 (Append (Union (Append (row_text "a") (LineSuffix Fail)) (row_text "x")) (row_text "b"))
+        (codes "ab") }
+    ensures in_branch { IsLaidAs 3 (in_turn (row_text "p")
+        (WeakSpace ∷ Union (in_turn (row_text "long") (HardLine ∷ Fail ∷ [])) (row_text "x") ∷ [])) (codes "p x") }
     ensures in_group_of_branch { IsLaidAs 4 (Union flat_or_failed (row_text "abc")) (codes "abc") }
     ensures not_laid { IsLaidAs 5 (Union flat_or_failed (row_text "abc")) (codes "12345") }
     ensures nothing_laid { IsLaidAs 0 (Group (BreakOrFlat Fail Nil)) [] }
@@ -183,8 +193,8 @@ pub fn contents()
     ensures by_no_word { (w : List ℕ) → spells (Union (row_text "a") (row_text "b")) w → ⊥ }
 {}
 
-/// What layouts count: the nodes that they lay, and the probes that they ask. A tree has so many nodes, of which so many
-/// ask a probe.
+/// What layouts count: the nodes that they lay, and the probes that they need. A tree has so many nodes, of which so many
+/// need a probe.
 pub fn counts()
     ensures pair_nodes { size (pair "a" "b") ≡ 8 }
     ensures pair_probed { probed (pair "a" "b") ≡ 1 }

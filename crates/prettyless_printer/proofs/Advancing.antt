@@ -39,12 +39,12 @@ counted {a} {t} {b} {x} h one = record {
 }
 
 -- its bytes were written
-pub advances_went : {N E : Type 0} (f : N → Tree) {a : Point} {t : Task} {b : Point} (q : Standing) (s : Seen) (x : Visits) (bytes : List ℕ)
+pub advances_went : {N E : Type 0} {f : N → Tree} {a : Point} {t : Task} {b : Point} {q : Standing} {s : Seen} {x : Visits} {bytes : List ℕ}
     → InHand a t b → Visit a.printer.options t b x →
     RisesBy (each_probe t.tree t.mode) b.visits.probes x.probes → Wrote (step_from a.printer.options t b.printer) bytes b.printer q →
     s.lender ≡ b.sink.lender → Accepts b.sink.bytes s.bytes bytes b.sink.failures s.failures
     → Advances {N = N} {E = E} f a (point_at q s x) (Ok turn_result.Complete)
-advances_went {N} {E} f {a} {t} {b} q s x bytes h one probes k lender accepts =
+advances_went {N} {E} {f} {a} {t} {b} {q} {s} {x} {bytes} h one probes k lender accepts =
     let o = a.printer.options in
     let ts : List Task = b.printer.tasks in
     let us : List Task = q.tasks in
@@ -75,17 +75,17 @@ advances_went {N} {E} f {a} {t} {b} q s x bytes h one probes k lender accepts =
       rise = rise_then h.rise one.rise;
       at_most = λ plain.
           let y = h.at_most plain in
-          let z = went_at_most o t ts us st u bytes b.visits x one.more y.0 k.leads in
+          let z = went_at_most us u bytes one.more y.0 k.leads in
           (record { none = z.0.0; pending = z.0.1 }, at_most_then y.1 z.1);
       at_least = λ n l. at_least_then (h.at_least n l)
           (subst (λ (z : RenderOptions). CountsAtLeast (tally_above o n (t ∷ ts) st) (tally_above z n us u) b.visits x)
           (sym (k.options ∙ h.options))
-          (went_at_least o n t ts us st u bytes b.visits x laid (omega (arith, l, h.long)) k.leads));
+          (went_at_least o n ts us st u bytes laid (omega (arith, l, h.long)) k.leads));
     })
 
-failed_here : {N E : Type 0} (f : N → Tree) {a : Point} {t : Task} {b : Point} (x : Visits) → InHand a t b → Visit a.printer.options t b x →
+failed_here : {N E : Type 0} {f : N → Tree} {a : Point} {t : Task} {b : Point} {x : Visits} → InHand a t b → Visit a.printer.options t b x →
     IsStuck (step_from a.printer.options t b.printer) → Advances {N = N} {E = E} f a (point_at b.printer b.sink x) (Ok turn_result.Failed)
-failed_here {N} {E} f {a} {t} {b} x h one fails =
+failed_here {N} {E} {f} {a} {t} {b} {x} h one fails =
     let o = a.printer.options in
     let ts : List Task = b.printer.tasks in
     let st = state_at b.printer in
@@ -108,24 +108,24 @@ failed_here {N} {E} f {a} {t} {b} x h one fails =
       least = count.least;
       most = count.most;
       rise = rise_then h.rise one.rise;
-      at_most = λ plain. at_most_then (h.at_most plain).1 (failed_at_most o t ts st b.visits x one.more);
+      at_most = λ plain. at_most_then (h.at_most plain).1 (failed_at_most one.more);
       at_least = tt;
     })
 
 -- it fails
-pub advances_failed : {N E : Type 0} (f : N → Tree) {a : Point} {t : Task} {s : Seen} {v : Visits} (p q : Printer N) (x : Visits)
+pub advances_failed : {N E : Type 0} (f : N → Tree) {a : Point} {t : Task} {s : Seen} {v x : Visits} (p q : Printer N)
     → InHand a t (point f p s v) → Visit a.printer.options t (point f p s v) x →
     Shows f t.mode Failed (step_from a.printer.options t (standing f p)) p q →
     Advances {N = N} {E = E} f a (point f q s x) (Ok turn_result.Failed)
-advances_failed {N} {E} f {a} {t} {s} {v} p q x h one shows =
+advances_failed {N} {E} f {a} {t} {s} {v} {x} p q h one shows =
     let k = stuck_there f t.mode (step_from a.printer.options t (standing f p)) p q shows in
-    subst (λ (z : Standing). Advances {N = N} {E = E} f a (point_at z s x) (Ok turn_result.Failed)) (sym k.1) (failed_here f x h one k.0)
+    subst (λ (z : Standing). Advances {N = N} {E = E} f a (point_at z s x) (Ok turn_result.Failed)) (sym k.1) (failed_here h one k.0)
 
-chosen_here : {N E : Type 0} (f : N → Tree) {a : Point} {t : Task} {b : Point} (x : Visits) (i : ℕ) (l r : N) → InHand a t b
+chosen_here : {N E : Type 0} {f : N → Tree} {a : Point} {t : Task} {b : Point} {x : Visits} {i : ℕ} {l r : N} → InHand a t b
     → Visit a.printer.options t b x →
     RisesBy (each_probe t.tree t.mode) b.visits.probes x.probes → Asks (step_from a.printer.options t b.printer) i (f l) (f r)
     → Advances {N = N} {E = E} f a (point_at b.printer b.sink x) (Ok (turn_result.Choice i l r))
-chosen_here {N} {E} f {a} {t} {b} x i l r h one probes wants =
+chosen_here {N} {E} {f} {a} {t} {b} {x} {i} {l} {r} h one probes wants =
     let o = a.printer.options in
     let ts : List Task = b.printer.tasks in
     let st = state_at b.printer in
@@ -151,43 +151,42 @@ chosen_here {N} {E} f {a} {t} {b} x i l r h one probes wants =
       rise = rise_then h.rise one.rise;
       at_most = λ plain.
           let y = h.at_most plain in
-          let z = chosen_at_most o t ts st i (f l) (f r) b.visits x one.more y.0 wants in
+          let z = chosen_at_most i (f l) (f r) one.more y.0 wants in
           (record { none = omega (arith, y.0.0); pending = y.0.1 }, z.0, z.1, at_most_then y.1 z.2);
       at_least = λ n m. at_least_then (h.at_least n m)
           (subst (λ (z : RenderOptions). CountsAtLeast (tally_above o n (t ∷ ts) st) (tally_choice z n i (f l) (f r) ts st) b.visits
           x) (sym h.options)
-          (chosen_at_least o n t ts st i (f l) (f r) b.visits x laid (omega (arith, m, h.long)) wants));
+          (chosen_at_least o n ts st i (f l) (f r) laid (omega (arith, m, h.long)) wants));
     })
 
 -- two branches are to be chosen from
-pub advances_chosen : {N E : Type 0} (f : N → Tree) {a : Point} {t : Task} {s : Seen} {v : Visits} (p q : Printer N) (x : Visits) (i : ℕ)
-    (l r : N) → InHand a t (point f p s v) → Visit a.printer.options t (point f p s v) x →
+pub advances_chosen : {N E : Type 0} (f : N → Tree) {a : Point} {t : Task} {s : Seen} {v x : Visits} {i : ℕ} {l r : N} (p q : Printer N)
+    → InHand a t (point f p s v) → Visit a.printer.options t (point f p s v) x →
     RisesBy (each_probe t.tree t.mode) v.probes x.probes → Shows f t.mode (Choice i l r) (step_from a.printer.options t (standing f p)) p q
     → Advances {N = N} {E = E} f a (point f q s x) (Ok (turn_result.Choice i l r))
-advances_chosen {N} {E} f {a} {t} {s} {v} p q x i l r h one probes shows =
+advances_chosen {N} {E} f {a} {t} {s} {v} {x} {i} {l} {r} p q h one probes shows =
     let k = asks_there f t.mode i l r (step_from a.printer.options t (standing f p)) p q shows in
     subst (λ (z : Standing). Advances {N = N} {E = E} f a (point_at z s x) (Ok (turn_result.Choice i l r))) (sym k.1)
-    (chosen_here f x i l r h one probes k.0)
+    (chosen_here h one probes k.0)
 
--- what broke off has counted no more than the tasks allow
-broke_at_most : {a : Point} {t : Task} {b : Point} (x : Visits) → InHand a t b → Visit a.printer.options t b x → Plain a.printer
+-- what ended in an error has counted no more than the tasks allow
+broke_at_most : {a : Point} {t : Task} {b : Point} {x : Visits} → InHand a t b → Visit a.printer.options t b x → Plain a.printer
     → CountsAtMost a.printer.tasks [] a.visits x
-broke_at_most {a} {t} {b} x h one plain =
+broke_at_most {a} {t} {b} {x} h one plain =
     at_most_all (at_most_then (h.at_most plain).1
-    (failed_at_most a.printer.options t b.printer.tasks (state_at b.printer) b.visits x one.more))
+    (failed_at_most one.more))
 
--- what was written before a task in hand is a beginning of each whole
+-- what was written before the current task is a beginning of each whole
 hand_beginning : {a : Point} {t : Task} {b : Point} {out : List ℕ} → InHand a t b
     → ForWholes a.printer out (λ whole limit below old. AppendsBeginning old out (bytes_before whole))
 hand_beginning {a} {t} {b} {out} h = λ whole limit below old l m.
-    inside_beginning a.printer.options whole limit below old (t ∷ b.printer.tasks) (state_at b.printer) out
-    (h.inside out whole limit below old l m)
+    inside_beginning (h.inside out whole limit below old l m)
 
 -- memory was refused
-pub advances_refused : {N E : Type 0} (f : N → Tree) {a : Point} {t : Task} {b : Point} (q : Standing) (x : Visits) (e : _) → InHand a t b
+pub advances_refused : {N E : Type 0} {f : N → Tree} {a : Point} {t : Task} {b : Point} {q : Standing} {x : Visits} {e : _} → InHand a t b
     → Visit a.printer.options t b x →
     Advances {N = N} {E = E} f a (point_at q b.sink x) (Err (Memory e))
-advances_refused {N} {E} f {a} {t} {b} q x e h one =
+advances_refused {N} {E} {f} {a} {t} {b} {q} {x} {e} h one =
     let count = counted h one in
     from_start f (Err (Memory e)) h
     (record {
@@ -199,17 +198,17 @@ advances_refused {N} {E} f {a} {t} {b} q x e h one =
       least = (rise_then h.rise one.rise).printer;
       most = count.most;
       rise = rise_then h.rise one.rise;
-      at_most = λ plain. broke_at_most x h one plain;
+      at_most = λ plain. broke_at_most h one plain;
       at_least = tt;
     })
 
 -- the sink failed in its bytes
-pub advances_sink_failed : {N E : Type 0} (f : N → Tree) {a : Point} {t : Task} {b : Point} (q : Standing) (s : Seen) (x : Visits)
-    (bytes : List ℕ) (e : E) → InHand a t b → Visit a.printer.options t b x →
+pub advances_sink_failed : {N E : Type 0} {f : N → Tree} {a : Point} {t : Task} {b : Point} {q : Standing} {s : Seen} {x : Visits}
+    {bytes : List ℕ} {e : E} → InHand a t b → Visit a.printer.options t b x →
     Wrote (step_from a.printer.options t b.printer) bytes b.printer q →
     s.lender ≡ b.sink.lender → Refuses b.sink.bytes s.bytes bytes b.sink.failures s.failures
     → Advances {N = N} {E = E} f a (point_at q s x) (Err (Sink e))
-advances_sink_failed {N} {E} f {a} {t} {b} q s x bytes e h one k lender refused =
+advances_sink_failed {N} {E} {f} {a} {t} {b} {q} {s} {x} {bytes} {e} h one k lender refused =
     let o = a.printer.options in
     let ts : List Task = b.printer.tasks in
     let st = state_at b.printer in
@@ -234,6 +233,6 @@ advances_sink_failed {N} {E} f {a} {t} {b} q s x bytes e h one k lender refused 
       least = count.least;
       most = count.most;
       rise = rise_then h.rise one.rise;
-      at_most = λ plain. broke_at_most x h one plain;
+      at_most = λ plain. broke_at_most h one plain;
       at_least = tt;
     })

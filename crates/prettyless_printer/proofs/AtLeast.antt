@@ -25,13 +25,14 @@ use Rattle.prettyless_model.specs.declared.mode.Mode.TheVariants.{Break, Flat}
 use Rattle.prettyless_probe.specs.Stack.{Task, make_task, tasks, follow}
 use Rattle.prettyless_step.specs.Steps.{Step, Move, Stuck, Choose, step_of, union_step, decided_by_metrics, break_step, at_once}
 use Rattle.prettyless_step.proofs.Shown.{step_at, Leads, Asks}
-use Rattle.prettyless_printer.specs.Points.{Standing, state_at}
-use Rattle.prettyless_printer.specs.Trials.{TrialDid}
+use Rattle.prettyless_printer.specs.Points.{Point, Standing, state_at}
+use Rattle.prettyless_printer.specs.Trials.{Tries}
 use Rattle.prettyless_printer.specs.Visits.{Rise}
 use Rattle.prettyless_printer.specs.AtLeast.{tally_above, tally_choice, nothing_left, CountsAtLeast, stack_tally, choice_tally, trial_tally}
 use Rattle.prettyless_printer.specs.AtLeast.{VisitedAtLeast}
 use Rattle.prettyless_probe.specs.Probing.{RisesBy}
 use Rattle.prettyless_printer.proofs.Runs.{follow-tasks, payload_branch, no_padding}
+use Rattle.prettyless_printer.proofs.Standings.{Pushed}
 
 -- what a task counts, and then those after it
 abbrev tally_with : RenderOptions → ℕ → Task → List Task → State → Weight → ℕ
@@ -78,11 +79,6 @@ StepCounts o n ts st w was self (Move b pushed u) = was ≤ self + tally_above o
 StepCounts o n ts st w was self Stuck = Unit {0}
 StepCounts o n ts st w was self (Choose i l r) = was ≤ self + tally_choice o n i l r ts st w
 
-at_once_counts : (o : RenderOptions) (n : ℕ) (ts : List Task) (st : State) (w : Weight) (self : ℕ) (out : Outcome)
-    → StepCounts o n ts st w (self + counted_then out (λ u. tally_above o n ts u w)) self (at_once out)
-at_once_counts o n ts st w self (Done b u) = omega arith
-at_once_counts o n ts st w self (Failed b) = tt
-
 -- trees of one list count no less as tasks
 each_counts : (o : RenderOptions) (n : ℕ) (ds : List Tree) (i : ℕ) (m : Mode) (us : List Task) (st : State) (w : Weight) → n ≤ length us →
     counted_then (lay_each o (settle o) ds i m (follow us) st) (λ u. tally_above o n us u w) ≤ tally_above o n (tasks i m ds ++ us) st w
@@ -103,38 +99,6 @@ each_counts o n (d ∷ ds) i m us st w l =
     ap (λ (r : List Entry). counted_then (lay o (settle o) d i m r st) rest) (follow-tasks i m ds us) in
     omega (arith, a, b, c, e)
 
--- a break: the line ends, or what is pending comes first
-break_counts : (o : RenderOptions) (n : ℕ) (ps : List Tree) (d : Tree) (i : ℕ) (m : Mode) (ts : List Task) (st : State) (w : Weight)
-    (self : ℕ) → n ≤ length ts →
-    (lay o (settle o) d i m (follow ts) ≡ settle o d i m (follow ts)) →
-    StepCounts o n ts st w (self + counted_then (break_with o (settle o) ps d i m (follow ts) st) (λ u. tally_above o n ts u w)) self
-    (break_step o ps d i m (follow ts) st)
-break_counts o n [] d i m ts st w self l e = at_once_counts o n ts st w self (plain_break o d i (follow ts) st)
-break_counts o n (p ∷ ps) d i m ts st w self l e =
-    let rest : List Entry = follow ts in
-    let again : Task = make_task i m d in
-    let next : State → ℕ = λ u. tally_above o n ts u w in
-    let out : Outcome = lay_each o (settle o) (p ∷ ps) i m (entry i d ∷ rest) (flushed o st) in
-    let a : counted_then (after_bytes (spaces (gap st.column)) (and_then out (settle o d i m rest))) next ≡ counted_then out
-    (λ u. counted_then (settle o d i m rest u) next) = counted_after (spaces (gap st.column)) (and_then out (settle o d i m rest)) next
-    ∙ counted_then-then out (settle o d i m rest) next in
-    let b : counted_then out (λ u. counted_then (settle o d i m rest u) next) ≤ counted_then out (λ u. tally_above o n (again ∷ ts) u w) =
-    counted_less out (λ u. counted_then (settle o d i m rest u) next) (λ u. tally_above o n (again ∷ ts) u w)
-    (λ u. omega (arith, above_is o n again ts u w l, ap (λ (g : State → Outcome). counted_then (g u) next) e)) in
-    let c = each_counts o n (p ∷ ps) i m (again ∷ ts) (flushed o st) w (omega arith) in
-    let x = ap (λ (us : List Task). tally_above o n us (flushed o st) w) (append_assoc (tasks i m (p ∷ ps)) (again ∷ []) ts) in
-    omega (arith, a, b, c, x)
-
--- one of two nodes
-either_counts : (o : RenderOptions) (n : ℕ) (l r : Tree) (i : ℕ) (m : Mode) (ts : List Task) (st : State) (w : Weight) (self : ℕ) (v : Bool)
-    → n ≤ length ts →
-    self + (if v then tally o l i m (follow ts) st w else tally o r i m (follow ts) st w)
-    + counted_then (if v then lay o (settle o) l i m (follow ts) st else lay o (settle o) r i m (follow ts) st)
-    (λ u. tally_above o n ts u w)
-    ≤ self + tally_above o n (make_task i m (if v then l else r) ∷ ts) st w
-either_counts o n l r i m ts st w self true h = omega (arith, above_is o n (make_task i m l) ts st w h)
-either_counts o n l r i m ts st w self false h = omega (arith, above_is o n (make_task i m r) ts st w h)
-
 -- a payload as the first branch counts where its metrics say so
 payload_counts : (o : RenderOptions) (b : List ℕ) (st : State) (x y : ℕ) (v : Bool) → v ≡ payload_fits o (metrics b) st.column →
     counted_accept o (lay_payload o (metrics b) b (tried st)) x y ≡ (if v then x else y)
@@ -146,66 +110,109 @@ payload_counts o b st x y false e =
     ap (λ (z : Bool). if z then x else y)
     (ap (λ (z : Bool). z && padding_fits o.width (some_pending st.pending) (after_payload (metrics b))) (sym e))
 
-union_counts : (o : RenderOptions) (n : ℕ) (l r : Tree) (i : ℕ) (ts : List Task) (st : State) (w : Weight) (self : ℕ) → n ≤ length ts →
-    StepCounts o n ts st w (self + tally_choice o n i l r ts st w) self (union_step (decided_by_metrics o l st) l r i st)
-unfolding lay tally
-union_counts o n (MultilineText s) r i ts st w self h =
-    let v : Bool = payload_fits o (metrics s) st.column in
-    let next : State → ℕ = λ u. tally_above o n ts u w in
-    let a = payload_counts o s st (w (MultilineText s) Break) (tally o r i Break (follow ts) st w) v refl in
-    let b = ap (λ (z : Outcome). counted_then z next)
-    (payload_branch o (metrics s) s st (lay o (settle o) r i Break (follow ts) st) v refl) in
-    omega (arith, a, b, either_counts o n (MultilineText s) r i Break ts st w self v h)
-union_counts o n _ r i ts st w self h = omega arith
+-- # One step
 
--- After a step no less is left to count, but for what its node counts.
-step_counts : (o : RenderOptions) (n : ℕ) (d : Tree) (i : ℕ) (m : Mode) (ts : List Task) (st : State) (w : Weight) → n ≤ length ts →
-    StepCounts o n ts st w (tally_with o n (make_task i m d) ts st w) (w d m) (step_of o d i m (follow ts) st)
-unfolding lay tally
-step_counts o n Nil i m ts st w h = omega arith
-step_counts o n Fail i m ts st w h = tt
-step_counts o n (Text s) i m ts st w h = at_once_counts o n ts st w (w (Text s) m) (lay_text o (length s) s st)
-step_counts o n (TextWithLen k s) i m ts st w h = at_once_counts o n ts st w (w (TextWithLen k s) m) (lay_text o k s st)
-step_counts o n (MultilineText s) i Break ts st w h = omega arith
-step_counts o n (MultilineText s) i Flat ts st w h = tt
-step_counts o n WeakSpace i m ts st w h = omega arith
-step_counts o n HardLine i Break ts st w h =
-    subst (λ (z : Outcome). StepCounts o n ts st w (w HardLine Break + counted_then z (λ u. tally_above o n ts u w)) (w HardLine Break)
-    (break_step o st.pending HardLine i Break (follow ts) st))
-    (sym (settle_fixed o HardLine i Break (follow ts) st)) (break_counts o n st.pending HardLine i Break ts st w (w HardLine Break) h refl)
-step_counts o n HardLine i Flat ts st w h = tt
-step_counts o n WeakLine i m ts st w h =
-    subst (λ (z : Outcome). StepCounts o n ts st w (w WeakLine m + counted_then z (λ u. tally_above o n ts u w)) (w WeakLine m)
-    (break_step o st.pending WeakLine i m (follow ts) st))
-    (sym (settle_fixed o WeakLine i m (follow ts) st)) (break_counts o n st.pending WeakLine i m ts st w (w WeakLine m) h refl)
-step_counts o n (Append l r) i m ts st w h =
-    let out : Outcome = lay o (settle o) l i m (entry i r ∷ follow ts) st in
-    let next : State → ℕ = λ u. tally_above o n ts u w in
-    let a = counted_then-then out (λ u. lay o (settle o) r i m (follow ts) u) next in
-    let b = appended out (λ u. tally o r i m (follow ts) u w) (λ u. counted_then (lay o (settle o) r i m (follow ts) u) next)
-    (λ u. tally_above o n (make_task i m r ∷ ts) u w) (λ u. above_is o n (make_task i m r) ts u w h) in
-    omega (arith, a, b, above_is o n (make_task i m l) (make_task i m r ∷ ts) st w (omega arith))
-step_counts o n (LineSuffix d) i m ts st w h = omega arith
-step_counts o n (Nest k d) i m ts st w h = omega (arith, above_is o n (make_task (nested i k) m d) ts st w h)
-step_counts o n (DedentToRoot d) i m ts st w h = omega (arith, above_is o n (make_task 0 m d) ts st w h)
-step_counts o n (Align d) i m ts st w h = omega (arith, above_is o n (make_task (prospective st.column) m d) ts st w h)
-step_counts o n ExpandParent i m ts st w h = omega arith
-step_counts o n (Flatten d) i m ts st w h = omega (arith, above_is o n (make_task i Flat d) ts st w h)
-step_counts o n (BreakOrFlat b f) i Break ts st w h = omega (arith, above_is o n (make_task i Break b) ts st w h)
-step_counts o n (BreakOrFlat b f) i Flat ts st w h = omega (arith, above_is o n (make_task i Flat f) ts st w h)
-step_counts o n (Group d) i m ts st w h =
-    omega (arith, above_is o n (make_task i (by_mode m (if probe o d i Flat (follow ts) st then Flat else Break) Flat) d) ts st w h)
-step_counts o n (Union l r) i Break ts st w h =
-    subst (λ (z : ℕ). StepCounts o n ts st w z (w (Union l r) Break) (union_step (decided_by_metrics o l st) l r i st)) (omega arith)
-    (union_counts o n l r i ts st w (w (Union l r) Break) h)
-step_counts o n (Union l r) i Flat ts st w h = omega (arith, above_is o n (make_task i Flat l) ts st w h)
-step_counts o n (PartialUnion l r) i Break ts st w h =
-    omega (arith, either_counts o n l r i Break ts st w (w (PartialUnion l r) Break) (probe o l i Break (follow ts) st) h)
-step_counts o n (PartialUnion l r) i Flat ts st w h = omega (arith, above_is o n (make_task i Flat l) ts st w h)
-step_counts o n (OnColumn test l r) i m ts st w h =
-    omega (arith, either_counts o n l r i m ts st w (w (OnColumn test l r) m) (column_holds test (prospective st.column) i) h)
-step_counts o n (OnNesting test l r) i m ts st w h =
-    omega (arith, either_counts o n l r i m ts st w (w (OnNesting test l r) m) (nesting_holds test i) h)
+-- of a task with no fewer than n after it
+module _ (o : RenderOptions) (n : ℕ) (ts : List Task) (st : State) (w : Weight) (h : n ≤ length ts) where
+  first_is : (t : Task) → tally_above o n (t ∷ ts) st w ≡ tally_with o n t ts st w
+  first_is t = above_is o n t ts st w h
+
+  at_once_counts : (self : ℕ) (out : Outcome)
+      → StepCounts o n ts st w (self + counted_then out (λ u. tally_above o n ts u w)) self (at_once out)
+  at_once_counts self (Done b u) = omega arith
+  at_once_counts self (Failed b) = tt
+
+  -- a break: the line ends, or what is pending comes first
+  break_counts : (ps : List Tree) (t : Task) (self : ℕ)
+      → (lay o (settle o) t.tree t.indent t.mode (follow ts) ≡ settle o t.tree t.indent t.mode (follow ts))
+      → StepCounts o n ts st w
+      (self + counted_then (break_with o (settle o) ps t.tree t.indent t.mode (follow ts) st) (λ u. tally_above o n ts u w)) self
+      (break_step o ps t.tree t.indent t.mode (follow ts) st)
+  break_counts [] t self e = at_once_counts self (plain_break o t.tree t.indent (follow ts) st)
+  break_counts (p ∷ ps) t self e =
+      let rest : List Entry = follow ts in
+      let again : State → Outcome = settle o t.tree t.indent t.mode rest in
+      let next : State → ℕ = λ u. tally_above o n ts u w in
+      let out : Outcome = lay_each o (settle o) (p ∷ ps) t.indent t.mode (entry t.indent t.tree ∷ rest) (flushed o st) in
+      let a : counted_then (after_bytes (spaces (gap st.column)) (and_then out again)) next ≡ counted_then out
+      (λ u. counted_then (again u) next) =
+      counted_after (spaces (gap st.column)) (and_then out again) next ∙ counted_then-then out again next in
+      let b : counted_then out (λ u. counted_then (again u) next) ≤ counted_then out (λ u. tally_above o n (t ∷ ts) u w) =
+      counted_less out (λ u. counted_then (again u) next) (λ u. tally_above o n (t ∷ ts) u w)
+      (λ u. omega (arith, above_is o n t ts u w h, ap (λ (g : State → Outcome). counted_then (g u) next) e)) in
+      let c = each_counts o n (p ∷ ps) t.indent t.mode (t ∷ ts) (flushed o st) w (omega (arith, h)) in
+      let x = ap (λ (us : List Task). tally_above o n us (flushed o st) w)
+      (append_assoc (tasks t.indent t.mode (p ∷ ps)) (t ∷ []) ts) in
+      omega (arith, a, b, c, x)
+
+  -- one of two nodes
+  either_counts : (l r : Tree) (i : ℕ) (m : Mode) (v : Bool) →
+      (if v then tally o l i m (follow ts) st w else tally o r i m (follow ts) st w)
+      + counted_then (if v then lay o (settle o) l i m (follow ts) st else lay o (settle o) r i m (follow ts) st)
+      (λ u. tally_above o n ts u w)
+      ≤ tally_above o n (make_task i m (if v then l else r) ∷ ts) st w
+  either_counts l r i m true = omega (arith, first_is (make_task i m l))
+  either_counts l r i m false = omega (arith, first_is (make_task i m r))
+
+  union_counts : (l r : Tree) (i : ℕ) (self : ℕ) →
+      StepCounts o n ts st w (self + tally_choice o n i l r ts st w) self (union_step (decided_by_metrics o l st) l r i st)
+  unfolding lay tally
+  union_counts (MultilineText s) r i self =
+      let v : Bool = payload_fits o (metrics s) st.column in
+      let next : State → ℕ = λ u. tally_above o n ts u w in
+      let a = payload_counts o s st (w (MultilineText s) Break) (tally o r i Break (follow ts) st w) v refl in
+      let b = ap (λ (z : Outcome). counted_then z next)
+      (payload_branch o (metrics s) s st (lay o (settle o) r i Break (follow ts) st) v refl) in
+      omega (arith, a, b, either_counts (MultilineText s) r i Break v)
+  union_counts _ r i self = omega arith
+
+  -- after a step no less is left to count, but for what its node counts
+  step_counts : (d : Tree) (i : ℕ) (m : Mode) →
+      StepCounts o n ts st w (tally_with o n (make_task i m d) ts st w) (w d m) (step_of o d i m (follow ts) st)
+  unfolding lay tally
+  step_counts Nil i m = omega arith
+  step_counts Fail i m = tt
+  step_counts (Text s) i m = at_once_counts (w (Text s) m) (lay_text o (length s) s st)
+  step_counts (TextWithLen k s) i m = at_once_counts (w (TextWithLen k s) m) (lay_text o k s st)
+  step_counts (MultilineText s) i Break = omega arith
+  step_counts (MultilineText s) i Flat = tt
+  step_counts WeakSpace i m = omega arith
+  step_counts HardLine i Break =
+      subst (λ (z : Outcome). StepCounts o n ts st w (w HardLine Break + counted_then z (λ u. tally_above o n ts u w)) (w HardLine Break)
+      (break_step o st.pending HardLine i Break (follow ts) st))
+      (sym (settle_fixed o HardLine i Break (follow ts) st)) (break_counts st.pending (make_task i Break HardLine) (w HardLine Break) refl)
+  step_counts HardLine i Flat = tt
+  step_counts WeakLine i m =
+      subst (λ (z : Outcome). StepCounts o n ts st w (w WeakLine m + counted_then z (λ u. tally_above o n ts u w)) (w WeakLine m)
+      (break_step o st.pending WeakLine i m (follow ts) st))
+      (sym (settle_fixed o WeakLine i m (follow ts) st)) (break_counts st.pending (make_task i m WeakLine) (w WeakLine m) refl)
+  step_counts (Append l r) i m =
+      let out : Outcome = lay o (settle o) l i m (entry i r ∷ follow ts) st in
+      let next : State → ℕ = λ u. tally_above o n ts u w in
+      let a = counted_then-then out (λ u. lay o (settle o) r i m (follow ts) u) next in
+      let b = appended out (λ u. tally o r i m (follow ts) u w) (λ u. counted_then (lay o (settle o) r i m (follow ts) u) next)
+      (λ u. tally_above o n (make_task i m r ∷ ts) u w) (λ u. above_is o n (make_task i m r) ts u w h) in
+      omega (arith, a, b, above_is o n (make_task i m l) (make_task i m r ∷ ts) st w (omega (arith, h)))
+  step_counts (LineSuffix d) i m = omega arith
+  step_counts (Nest k d) i m = omega (arith, first_is (make_task (nested i k) m d))
+  step_counts (DedentToRoot d) i m = omega (arith, first_is (make_task 0 m d))
+  step_counts (Align d) i m = omega (arith, first_is (make_task (prospective st.column) m d))
+  step_counts ExpandParent i m = omega arith
+  step_counts (Flatten d) i m = omega (arith, first_is (make_task i Flat d))
+  step_counts (BreakOrFlat b f) i Break = omega (arith, first_is (make_task i Break b))
+  step_counts (BreakOrFlat b f) i Flat = omega (arith, first_is (make_task i Flat f))
+  step_counts (Group d) i m =
+      omega (arith, first_is (make_task i (by_mode m (if probe o d i Flat (follow ts) st then Flat else Break) Flat) d))
+  step_counts (Union l r) i Break =
+      subst (λ (z : ℕ). StepCounts o n ts st w z (w (Union l r) Break) (union_step (decided_by_metrics o l st) l r i st)) (omega arith)
+      (union_counts l r i (w (Union l r) Break))
+  step_counts (Union l r) i Flat = omega (arith, first_is (make_task i Flat l))
+  step_counts (PartialUnion l r) i Break = omega (arith, either_counts l r i Break (probe o l i Break (follow ts) st))
+  step_counts (PartialUnion l r) i Flat = omega (arith, first_is (make_task i Flat l))
+  step_counts (OnColumn test l r) i m = omega (arith, either_counts l r i m (column_holds test (prospective st.column) i))
+  step_counts (OnNesting test l r) i m = omega (arith, either_counts l r i m (nesting_holds test i))
+
+-- # Counts in a row
 
 pub at_least_same : (a : Weight → ℕ) (v : Visits) → CountsAtLeast a a v v
 at_least_same a v = record { printer = omega arith; probes = omega arith }
@@ -225,7 +232,7 @@ pub at_least_rise : {a b : Weight → ℕ} {v w : Visits} → Rise v w → ((k :
 at_least_rise {a} {b} {v} {w} r h =
     record { printer = omega (arith, h each_node, r.printer); probes = omega (arith, h each_probe, r.probes) }
 
--- one node was counted, and the probe that it asks
+-- one node was counted, and the probe that it needs
 pub record OneLaid (t : Task) (v w : Visits) : Type 0 where
   pub printer : rise v.printer ≤ w.printer
   pub probes : RisesBy (each_probe t.tree t.mode) v.probes w.probes
@@ -243,50 +250,43 @@ stack_counts p n o ts st w e h k =
     ap (λ (x : RenderOptions). tally_above x n p.tasks (state_at p) w) e
     ∙ ap (λ (x : List Task). tally_above o n x (state_at p) w) h ∙ ap (λ (x : State). tally_above o n ts x w) k
 
-went_by : (o : RenderOptions) (n : ℕ) (t : Task) (ts us : List Task) (st u : State) (bytes : List ℕ) (w : Weight) (step : Step) →
-    StepCounts o n ts st w (tally_with o n t ts st w) (w t.tree t.mode) step → Leads step ts bytes us u
-    → tally_with o n t ts st w ≤ w t.tree t.mode + tally_above o n us u w
-went_by o n t ts us st u bytes w (Move b pushed x) s h =
-    omega (arith, s, ap (λ (z : List Task). tally_above o n z u w) h.1, ap (λ (z : State). tally_above o n (pushed ++ ts) z w) h.2)
-went_by o n t ts us st u bytes w Stuck s h = absurd h
-went_by o n t ts us st u bytes w (Choose i x y) s h = absurd h
-
--- a step of the node in hand
-pub went_at_least : (o : RenderOptions) (n : ℕ) (t : Task) (ts us : List Task) (st u : State) (bytes : List ℕ) (v w : Visits)
+-- a step of the current node
+pub went_at_least : {t : Task} {v w : Visits} (o : RenderOptions) (n : ℕ) (ts us : List Task) (st u : State) (bytes : List ℕ)
     → OneLaid t v w → n ≤ length ts → Leads (step_at o t ts st) ts bytes us u →
     CountsAtLeast (tally_above o n (t ∷ ts) st) (tally_above o n us u) v w
-went_at_least o n t ts us st u bytes v w one l h =
+went_at_least {t} {v} {w} o n ts us st u bytes one l h =
     laid_at_least t (tally_above o n (t ∷ ts) st) (tally_above o n us u) v w one
-    (λ k. omega (
-      arith,
-      above_is o n t ts st k l,
-      went_by o n t ts us st u bytes k (step_at o t ts st)
-          (step_counts o n t.tree t.indent t.mode ts st k l) h,
-    ))
-
-chosen_by : (o : RenderOptions) (n : ℕ) (t : Task) (ts : List Task) (st : State) (i : ℕ) (x y : Tree) (w : Weight) (step : Step) →
-    StepCounts o n ts st w (tally_with o n t ts st w) (w t.tree t.mode) step → Asks step i x y
-    → tally_with o n t ts st w ≤ w t.tree t.mode + tally_choice o n i x y ts st w
-chosen_by o n t ts st i x y w (Move b pushed u) s h = absurd h
-chosen_by o n t ts st i x y w Stuck s h = absurd h
-chosen_by o n t ts st i x y w (Choose j l r) s h =
-    let same : tally_choice o n i x y ts st w ≡ tally_choice o n j l r ts st w =
-    ap (λ (z : ℕ). tally_choice o n z x y ts st w) h.0 ∙ ap (λ (z : Tree). tally_choice o n j z y ts st w) h.1
-    ∙ ap (λ (z : Tree). tally_choice o n j l z ts st w) h.2 in
-    omega (arith, s, same)
+    (λ k. omega (arith, above_is o n t ts st k l, went k (step_at o t ts st) (step_counts o n ts st k l t.tree t.indent t.mode) h))
+  where
+    went : (k : Weight) (step : Step) → StepCounts o n ts st k (tally_with o n t ts st k) (k t.tree t.mode) step → Leads step ts bytes us u
+        → tally_with o n t ts st k ≤ k t.tree t.mode + tally_above o n us u k
+    went k (Move b pushed x) s h =
+        omega (arith, s, ap (λ (z : List Task). tally_above o n z u k) h.1, ap (λ (z : State). tally_above o n (pushed ++ ts) z k) h.2)
+    went k Stuck s h = absurd h
+    went k (Choose i x y) s h = absurd h
 
 -- a step after which two branches are to be chosen from
-pub chosen_at_least : (o : RenderOptions) (n : ℕ) (t : Task) (ts : List Task) (st : State) (i : ℕ) (x y : Tree) (v w : Visits)
+pub chosen_at_least : {t : Task} {v w : Visits} (o : RenderOptions) (n : ℕ) (ts : List Task) (st : State) (i : ℕ) (x y : Tree)
     → OneLaid t v w → n ≤ length ts → Asks (step_at o t ts st) i x y →
     CountsAtLeast (tally_above o n (t ∷ ts) st) (tally_choice o n i x y ts st) v w
-chosen_at_least o n t ts st i x y v w one l h =
+chosen_at_least {t} {v} {w} o n ts st i x y one l h =
     laid_at_least t (tally_above o n (t ∷ ts) st) (tally_choice o n i x y ts st) v w one
-    (λ k. omega (
-      arith,
-      above_is o n t ts st k l,
-      chosen_by o n t ts st i x y k (step_at o t ts st)
-          (step_counts o n t.tree t.indent t.mode ts st k l) h,
-    ))
+    (λ k. omega (arith, above_is o n t ts st k l, asked k (step_at o t ts st) (step_counts o n ts st k l t.tree t.indent t.mode) h))
+  where
+    asked : (k : Weight) (step : Step) → StepCounts o n ts st k (tally_with o n t ts st k) (k t.tree t.mode) step → Asks step i x y
+        → tally_with o n t ts st k ≤ k t.tree t.mode + tally_choice o n i x y ts st k
+    asked k (Move b pushed u) s h = absurd h
+    asked k Stuck s h = absurd h
+    asked k (Choose j l r) s h =
+        omega (
+          arith,
+          s,
+          ap (λ (z : ℕ). tally_choice o n z x y ts st k) h.0,
+          ap (λ (z : Tree). tally_choice o n j z y ts st k) h.1,
+          ap (λ (z : Tree). tally_choice o n j l z ts st k) h.2,
+        )
+
+-- # Choices and trials
 
 -- the first branch counts where it is accepted
 accepted_counts : (o : RenderOptions) (was : Bool) (out : Outcome) (bytes : List ℕ) (u : State) (x y : ℕ)
@@ -307,39 +307,43 @@ rejected_counts o was (Done b st) x y e =
 rejected_counts o was (Failed b) x y e = refl
 
 -- a choice whose first branch is kept
-pub kept_at_least : (p q : Standing) (i : ℕ) (x y : Tree) (old new : List ℕ) (v w : Visits) (n : ℕ) → TrialDid p q i x old new true →
-    CountsAtLeast (trial_tally p i x) nothing_left v w → CountsAtLeast (choice_tally p n i x y) (stack_tally q n) v w
-kept_at_least p q i x y old new v w n d m =
+pub kept_at_least : {E : Type 0} {i : ℕ} {x : Tree} {a b : Point} (y : Tree) (n : ℕ) → Tries {E = E} i x a b (Ok true) →
+    CountsAtLeast (choice_tally a.printer n i x y) (stack_tally b.printer n) a.visits b.visits
+kept_at_least {E} {i} {x} {a} {b} y n tries =
+    let p = a.printer in
+    let d = tries.decided in
+    let m = tries.at_least in
     let ts : List Task = p.tasks in
     let out : Outcome = lay p.options (settle p.options) x i Break (follow ts) (tried (state_at p)) in
     let other : Outcome = lay p.options (settle p.options) y i Break (follow ts) (state_at p) in
-    let same : (k : Weight) → choice_tally p n i x y k ≡ trial_tally p i x k + stack_tally q n k = λ k.
+    let same : (k : Weight) → choice_tally p n i x y k ≡ trial_tally p i x k + stack_tally b.printer n k = λ k.
     omega (
       arith,
-      accepted_counts p.options p.within out d.5.0 (state_at q) (trial_tally p i x k) (tally p.options y i Break (follow ts) (state_at p) k)
-          (d.5.2 (Failed [])),
+      accepted_counts p.options p.within out d.5.0 (state_at b.printer) (trial_tally p i x k)
+          (tally p.options y i Break (follow ts) (state_at p) k) (d.5.2 (Failed [])),
       ap (λ (z : Outcome). counted_then z (λ u. tally_above p.options n ts u k)) (d.5.2 other),
-      stack_counts q n p.options ts (state_at q) k d.1 d.0 refl,
+      stack_counts b.printer n p.options ts (state_at b.printer) k d.1 d.0 refl,
     ) in
     record { printer = omega (arith, same each_node, m.printer); probes = omega (arith, same each_probe, m.probes) }
 
 -- a choice whose second branch comes next
-pub other_at_least : (p q r : Standing) (i : ℕ) (x y : Tree) (old new : List ℕ) (v w : Visits) (n : ℕ) → n ≤ length p.tasks
-    → TrialDid p q i x old new false →
-    r.tasks ≡ make_task i Break y ∷ q.tasks → state_at r ≡ state_at q → r.options ≡ q.options →
-    Rise v w → CountsAtLeast (choice_tally p n i x y) (stack_tally r n) v w
-other_at_least p q r i x y old new v w n l d e s z rise =
+pub other_at_least : {E : Type 0} {i : ℕ} {x y : Tree} {a b : Point} {q : Standing} (n : ℕ) → n ≤ length a.printer.tasks
+    → Tries {E = E} i x a b (Ok false) → Pushed (make_task i Break y) b.printer q →
+    CountsAtLeast (choice_tally a.printer n i x y) (stack_tally q n) a.visits b.visits
+other_at_least {E} {i} {x} {y} {a} {b} {q} n l tries pushed =
+    let p = a.printer in
+    let d = tries.decided in
     let ts : List Task = p.tasks in
     let out : Outcome = lay p.options (settle p.options) x i Break (follow ts) (tried (state_at p)) in
     let other : Outcome = lay p.options (settle p.options) y i Break (follow ts) (state_at p) in
-    at_least_rise rise (λ k.
+    at_least_rise tries.rise (λ k.
     omega (
       arith,
       rejected_counts p.options p.within out (trial_tally p i x k) (tally p.options y i Break (follow ts) (state_at p) k)
           (d.5.2 (Failed [])),
       ap (λ (z : Outcome). counted_then z (λ u. tally_above p.options n ts u k)) (d.5.2 other),
-      stack_counts r n p.options (make_task i Break y ∷ ts) (state_at p) k (z ∙ d.1)
-          (e ∙ ap (λ (c : List Task). make_task i Break y ∷ c) d.0) (s ∙ d.5.1),
+      stack_counts q n p.options (make_task i Break y ∷ ts) (state_at p) k (pushed.options ∙ d.1)
+          (pushed.tasks ∙ ap (λ (c : List Task). make_task i Break y ∷ c) d.0) (pushed.state ∙ d.5.1),
       above_is p.options n (make_task i Break y) ts (state_at p) k l,
     ))
 

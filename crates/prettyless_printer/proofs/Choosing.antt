@@ -17,32 +17,32 @@ use Rattle.prettyless_printer.proofs.PathSteps.{choice_refused, choice_unwritten
 use Rattle.prettyless_printer.proofs.TrialSteps.{began_plain}
 
 -- the first branch is kept: what the trial wrote, to a buffer that was empty, is the piece that goes to the sink
-pub chooses_kept : {A E D : Type 0} (i : ℕ) (x y : Tree) (a c : Point) (s t out : Seen) (z : A) → known s.bytes ≡ [] →
+pub chooses_kept : {A E D : Type 0} {i : ℕ} {x y : Tree} {a c : Point} {s t out : Seen} {z : A} → known s.bytes ≡ [] →
     Tries {E = D} i x (point_at a.printer s a.visits) (point_at c.printer t c.visits) (Ok true) → out ≡ a.sink
     → c.sink.lender ≡ out.lender →
     Accepts out.bytes c.sink.bytes (known t.bytes) out.failures c.sink.failures → Chooses {A = A} {E = E} i x y a c (Ok z)
-chooses_kept {A} {E} {D} i x y a c s t out z empty tries same lender accepts =
+chooses_kept {A} {E} {D} {i} {x} {y} {a} {c} {s} {t} {out} {z} empty tries same lender accepts =
     let wrote = subst (λ (u : Seen). Accepts u.bytes c.sink.bytes (known t.bytes) u.failures c.sink.failures) same accepts in
     record {
       lessens = omega (arith, tries.decided.4, ap nodes tries.decided.0);
       runs = λ run waiting.
-          goes_on_kept i x y waiting tries (lender ∙ ap (λ (u : Seen). u.lender) same)
+          goes_on_kept waiting tries (lender ∙ ap (λ (u : Seen). u.lender) same)
           (λ is_known.
           let e = wrote is_known in
           (e.0, (λ piece put. e.1.0 ∙ ap (λ (u : List ℕ). known a.sink.bytes ++ u) (put ∙ ap (λ (u : List ℕ). u ++ piece) empty), e.1.1)));
     }
 
 -- the sink fails at it
-pub chooses_unwritten : {A E D : Type 0} (i : ℕ) (x y : Tree) (a c : Point) (s t out : Seen) (z : E) → known s.bytes ≡ [] →
+pub chooses_unwritten : {A E D : Type 0} {i : ℕ} {x y : Tree} {a c : Point} {s t out : Seen} {z : E} → known s.bytes ≡ [] →
     Tries {E = D} i x (point_at a.printer s a.visits) (point_at c.printer t c.visits) (Ok true) → out ≡ a.sink
     → c.sink.lender ≡ out.lender →
     Refuses out.bytes c.sink.bytes (known t.bytes) out.failures c.sink.failures → Chooses {A = A} {E = E} i x y a c (Err (Sink z))
-chooses_unwritten {A} {E} {D} i x y a c s t out z empty tries same lender refuses =
+chooses_unwritten {A} {E} {D} {i} {x} {y} {a} {c} {s} {t} {out} {z} empty tries same lender refuses =
     let wrote = subst (λ (u : Seen). Refuses u.bytes c.sink.bytes (known t.bytes) u.failures c.sink.failures) same refuses in
     record {
       lessens = tt;
       runs = λ run waiting.
-          choice_unwritten (λ _. ⊥) i x y z waiting tries (lender ∙ ap (λ (u : Seen). u.lender) same)
+          choice_unwritten (λ _. ⊥) z waiting tries (lender ∙ ap (λ (u : Seen). u.lender) same)
           (λ is_known.
           let e = wrote is_known in (
             e.0,
@@ -54,11 +54,11 @@ chooses_unwritten {A} {E} {D} i x y a c s t out z empty tries same lender refuse
           ));
     }
 
--- it is not kept, and the second one comes next
-pub chooses_other : {A E D : Type 0} (i : ℕ) (x y : Tree) (a c : Point) (s t : Seen) (z : A) →
+-- it is rejected, and the second one comes next
+pub chooses_other : {A E D : Type 0} {i : ℕ} {x y : Tree} {a c : Point} {s t : Seen} {z : A} →
     ComesSecond D (attempt (point_at a.printer s a.visits) i x) y (point_at c.printer t c.visits) → c.sink ≡ a.sink
     → Chooses {A = A} {E = E} i x y a c (Ok z)
-chooses_other {A} {E} {D} i x y a c s t z second same =
+chooses_other {A} {E} {D} {i} {x} {y} {a} {c} {s} {t} {z} second same =
     let tries = second.tries in
     record {
       lessens = omega (
@@ -69,7 +69,8 @@ chooses_other {A} {E} {D} i x y a c s t z second same =
         ap (λ (u : State). owed u.pending) second.state,
       );
       runs = λ run waiting.
-          goes_on_other second.back i x y waiting tries second.tasks second.state second.options second.grows
+          goes_on_other waiting tries
+          (record { tasks = second.tasks; state = second.state; options = second.options; grows = second.grows })
           (ap (λ (u : Seen). u.lender) same)
           (subst (λ (u : Seen). IfKnown a.sink.bytes u.bytes
           (λ out new. (known t.bytes ≡ known s.bytes → new ≡ out) × (u.failures ≡ a.sink.failures))) (sym same)
@@ -77,23 +78,23 @@ chooses_other {A} {E} {D} i x y a c s t z second same =
     }
 
 -- its trial is refused memory
-pub chooses_broke : {A E : Type 0} (i : ℕ) (x y : Tree) (a c : Point) (s t : Seen) (z : _) →
+pub chooses_broke : {A E : Type 0} {i : ℕ} {x y : Tree} {a c : Point} {s t : Seen} {z : _} →
     TrialBroke (attempt (point_at a.printer s a.visits) i x) (point_at c.printer t c.visits) → c.sink ≡ a.sink
     → Chooses {A = A} {E = E} i x y a c (Err (Memory z))
-chooses_broke {A} {E} i x y a c s t z broke same = record {
+chooses_broke {A} {E} {i} {x} {y} {a} {c} {s} {t} {z} broke same = record {
   lessens = tt;
   runs = λ run waiting.
-      choice_refused (λ _. ⊥) i x y z waiting (ap (λ (u : Seen). u.lender) same)
+      choice_refused (λ _. ⊥) z waiting (ap (λ (u : Seen). u.lender) same)
       (subst (λ (u : Seen). IfKnown a.sink.bytes u.bytes (λ out new. (new ≡ out) × (u.failures ≡ a.sink.failures))) (sym same)
       (λ is_known. (is_known, (refl, refl))))
       broke.rise (λ plain none. broke.at_most (began_plain (attempt (point_at a.printer s a.visits) i x) plain none));
 }
 
 -- its trial is opened, and no other one is open
-pub choice_opens : {N : Type 0} (f : N → Tree) (i : ℕ) (x y : Tree) (a : Point) (s : Seen) (us vs : List Held) (q : Standing) → us ≡ []
+pub choice_opens : {N : Type 0} {f : N → Tree} {i : ℕ} {x y : Tree} {a : Point} {s : Seen} {us vs : List Held} {q : Standing} → us ≡ []
     → known s.bytes ≡ [] → IsSome s.bytes → IsUtf8 (known s.bytes) →
     Opens f i y a.printer s us vs → BeginsTrial i x a.printer q → InChoice i x y a vs s (point_at q a.sink a.visits)
-choice_opens {N} f i x y a s us vs q none empty is_known text opens begun =
+choice_opens {N} {f} {i} {x} {y} {a} {s} {us} {vs} {q} none empty is_known text opens begun =
     let one : Held = record { mark = opens.mark; indent = i; second = y } in
     let start : Point = point_at a.printer s a.visits in
     let alone : vs ≡ one ∷ [] = opens.more ∙ ap (λ (u : List Held). u ++ one ∷ []) none in
@@ -101,6 +102,6 @@ choice_opens {N} f i x y a s us vs q none empty is_known text opens begun =
       before = s;
       empty = empty;
       trials = subst (λ (u : List Held). Open (attempt start i x) y u (point_at q s a.visits)) (sym alone)
-          (open_begins start opens.mark i x y q (record { marks = opens.marks; is_known = is_known; text = text }) begun);
+          (open_begins y (record { marks = opens.marks; is_known = is_known; text = text }) begun);
       sink = refl;
     }

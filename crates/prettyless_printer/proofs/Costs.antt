@@ -7,7 +7,6 @@ use Rattle.std.proofs.Math.Pow.{pow-lt}
 use Rattle.std.proofs.Math.Nat.{two-pow-succ, one-le-pow, pow-le-pow_right}
 use Rattle.std.specs.Str.{IsUtf8}
 use Rattle.prettyless_sink.specs.Sink.{known}
-use Rattle.prettyless_sink.specs.declared.visits.Visits.{Visits}
 use Rattle.prettyless_model.specs.Layout.{State}
 use Rattle.prettyless_model.specs.declared.mode.Mode.TheVariants.{Break}
 use Rattle.prettyless_model.specs.Tree.{Tree, size}
@@ -15,11 +14,14 @@ use Rattle.prettyless_probe.specs.Stack.{Task, make_task, nodes}
 use Rattle.prettyless_step.specs.Steps.{owed}
 use Rattle.prettyless_probe.proofs.Sizes.{size_positive}
 use Rattle.prettyless_printer.specs.declared.answer.TrialState.TheVariants as trial_state
-use Rattle.prettyless_printer.specs.Points.{Standing, state_at, QueueGrows, Seen, Point, point_at, work_at}
-use Rattle.prettyless_printer.specs.Trials.{Attempt, Courses, OnTrial, Restores}
-use Rattle.prettyless_printer.specs.Open.{BeginsTrial, Chain, Held, Link, Marked, Open, Opens, below_all}
+use Rattle.prettyless_printer.specs.Points.{Standing, state_at, QueueGrows, Point, work_at}
+use Rattle.prettyless_printer.specs.Trials.{Attempt, OnTrial, Restores}
+use Rattle.prettyless_printer.specs.Open.{BeginsTrial, Chain, Held, Link, Marked, Opens}
 use Rattle.prettyless_printer.proofs.Trying.{grows-grows, restored, restored_queue}
-use Rattle.prettyless_printer.proofs.Chains.{chain_last, chain_pop, first_last}
+use Rattle.prettyless_printer.proofs.Standings.{Flagged, Pushed}
+use Rattle.prettyless_printer.proofs.Chains.{Took, chain_last, chain_pop, first_last}
+
+-- # The measure
 
 -- the last k tasks
 abbrev lowest_tasks : ℕ → List Task → List Task
@@ -42,6 +44,8 @@ left_at a us = 2 ^ work_at a + cost a.printer us
 cost_push : (p : Standing) (us : List Held) (u : Held) → cost p (us ++ u ∷ []) ≡ cost p us + 2 ^ second_work p u
 cost_push p [] u = omega arith
 cost_push p (v ∷ us) u = omega (arith, cost_push p us u)
+
+-- # What is above where a trial began
 
 -- a printer has all that another one had: tasks are above its tasks, and the queue has grown
 abbrev Above : Standing → Standing → Type 0
@@ -114,6 +118,8 @@ cost_same s u us t p q marked h a b =
       cost_chain s us t p q h a b,
     )
 
+-- # Powers
+
 -- a power is one at least
 pow_one : (n : ℕ) → 0 < 2 ^ n
 pow_one n = omega (arith, one-le-pow n 2 (omega arith))
@@ -126,125 +132,120 @@ pow_two : (a b c : ℕ) → a < c → b < c → 2 ^ a + 2 ^ b ≤ 2 ^ c
 pow_two a b zero l h = absurd (omega arith)
 pow_two a b (suc c) l h = omega (arith, two-pow-succ c, pow_le a c (omega arith), pow_le b c (omega arith))
 
--- the innermost trial goes on
-pub less_goes : {N : Type 0} (E : Type 0) (f : N → Tree) (s : Attempt) (y : Tree) {a b : Point} (us : List Held) → Open s y us a
-    → Courses {N = N} {E = E} f (below_all us) a b (Ok trial_state.Running) → left_at b us < left_at a us
-less_goes {N} E f s y {a} {b} [] h c = absurd h
-less_goes {N} E f s y {a} {b} (u ∷ us) h c =
-    let z = c h.trial h.on in
-    omega (
-      arith,
-      pow-lt {i = work_at b} {j = work_at a} z.1,
-      cost_same s u us h.trial a.printer b.printer h.holds.marked h.chain
-          (above_trial h.on) (above_trial z.0),
-    )
+-- # The measure falls
 
--- a trial more is open
-pub less_more : {N : Type 0} (E : Type 0) (f : N → Tree) (s : Attempt) (y : Tree) {a b : Point} (us vs : List Held) (i : ℕ) (x z : N)
-    (q : Standing) (w : Seen) (v : Visits) → Open s y us a →
-    Courses {N = N} {E = E} f (below_all us) a b (Ok (trial_state.Choice i x z)) → Opens f i (f z) b.printer b.sink us vs
-    → BeginsTrial i (f x) b.printer q → IsUtf8 (known b.sink.bytes) →
-    left_at (point_at q w v) vs < left_at a us
-less_more {N} E f s y {a} {b} [] vs i x z q w v h c opens begins text = absurd h
-less_more {N} E f s y {a} {b} (o ∷ us) vs i x z q w v h c opens begins text =
-    let u : Held = record { mark = opens.mark; indent = i; second = f z } in
-    let t = h.trial in
-    let k = c t h.on in
-    let marked : Marked opens.mark b = record { marks = opens.marks; is_known = k.0.is_known; text = text } in
-    let waits = (k.0.waiting.bytes h.on.is_known).1.0 in
-    let over_b : Above b.printer q = (make_task i Break (f x) ∷ [], begins.tasks, begins.grows) in
-    let over_t : Above t.start.printer q =
-    above-above t.start.printer b.printer q (waits.above, waits.stack_is, k.0.waiting.queue) over_b in
-    let same = cost_same s o us t a.printer q h.holds.marked h.chain (above_trial h.on) over_t in
-    let split = ap (cost q) opens.more ∙ cost_push q (o ∷ us) u in
-    let second = second_is u b q marked over_b in
-    let first : work_at (point_at q w v) ≡ 2 * size (f x) + work_at b =
-    omega (arith, ap nodes begins.tasks, ap (λ (i : State). owed i.pending) begins.state) in
-    let two = pow_two (work_at (point_at q w v)) (second_work q u) (work_at a - 1)
-    (omega (arith, first, second, k.1, size_positive (f z), size_positive (f x)))
-    (omega (arith, first, second, k.1, size_positive (f z), size_positive (f x))) in
-    omega (arith, two, same, split, pow-lt {i = work_at a - 1} {j = work_at a} (omega (arith, k.1)))
+module _ {N E : Type 0} {f : N → Tree} {s : Attempt} {y : Tree} {a b : Point} where
+  -- the innermost trial goes on
+  pub less_goes : {us : List Held} → Took {E = E} f s y us a b (Ok trial_state.Running) → left_at b us < left_at a us
+  less_goes {us = []} h = absurd h.trials
+  less_goes {us = u ∷ us} h =
+      let k = h.trials in
+      let z = h.courses k.trial k.on in
+      omega (
+        arith,
+        pow-lt {i = work_at b} {j = work_at a} z.1,
+        cost_same s u us k.trial a.printer b.printer k.holds.marked k.chain (above_trial k.on) (above_trial z.0),
+      )
 
--- an inner trial is kept
-kept_split : {N : Type 0} (E : Type 0) (f : N → Tree) (s : Attempt) (y : Tree) {a b : Point} (vs : List Held) (u : Held) (q : Standing)
-    (w : Seen) (v : Visits) → 0 < length vs → Open s y (vs ++ u ∷ []) a →
-    Courses {N = N} {E = E} f (below_all (vs ++ u ∷ [])) a b (Ok trial_state.Complete) → q.tasks ≡ b.printer.tasks
-    → (state_at q).pending ≡ (state_at b.printer).pending → QueueGrows b.printer q →
-    left_at (point_at q w v) vs < left_at a (vs ++ u ∷ [])
-kept_split {N} E f s y {a} {b} [] u q w v some h c e st g = absurd (omega (arith, some))
-kept_split {N} E f s y {a} {b} (o ∷ vs) u q w v some h c e st g =
-    let t = h.trial in
-    let z = c t h.on in
-    let lasts = z.0 in
-    let p = chain_pop s vs u t h.chain in
-    let link = above_link p.trial u t (chain_last o vs s p.trial (first_last h.holds.marked) p.chain).is_known p.link in
-    let now = (lasts.path.bytes lasts.is_known).1.0 in
-    let over : Above t.start.printer q = (now.above, e ∙ now.stack_is, grows-grows t.start.printer b.printer q lasts.path.queue g) in
-    let same = cost_same s o vs p.trial a.printer q h.holds.marked p.chain
-    (above-above p.trial.start.printer t.start.printer a.printer link (above_trial h.on))
-    (above-above p.trial.start.printer t.start.printer q link over) in
-    omega (
-      arith,
-      pow_le (work_at (point_at q w v)) (work_at a) (omega (arith, z.1, ap nodes e, ap owed st)),
-      same,
-      cost_push a.printer (o ∷ vs) u,
-      pow_one (second_work a.printer u),
-    )
+  -- a trial more is open
+  pub less_more : {us vs : List Held} {i : ℕ} {x z : N} (c : Point) → Took {E = E} f s y us a b (Ok (trial_state.Choice i x z))
+      → Opens f i (f z) b.printer b.sink us vs → BeginsTrial i (f x) b.printer c.printer → IsUtf8 (known b.sink.bytes)
+      → left_at c vs < left_at a us
+  less_more {us = []} c h opens begins text = absurd h.trials
+  less_more {us = o ∷ us} {vs} {i} {x} {z} c h opens begins text =
+      let q = c.printer in
+      let u : Held = record { mark = opens.mark; indent = i; second = f z } in
+      let l = h.trials in
+      let t = l.trial in
+      let k = h.courses t l.on in
+      let marked : Marked opens.mark b = record { marks = opens.marks; is_known = k.0.is_known; text = text } in
+      let waits = (k.0.waiting.bytes l.on.is_known).1.0 in
+      let over_b : Above b.printer q = (make_task i Break (f x) ∷ [], begins.tasks, begins.grows) in
+      let over_t : Above t.start.printer q =
+      above-above t.start.printer b.printer q (waits.above, waits.stack_is, k.0.waiting.queue) over_b in
+      let same = cost_same s o us t a.printer q l.holds.marked l.chain (above_trial l.on) over_t in
+      let split = ap (cost q) opens.more ∙ cost_push q (o ∷ us) u in
+      let second = second_is u b q marked over_b in
+      let first : work_at c ≡ 2 * size (f x) + work_at b =
+      omega (arith, ap nodes begins.tasks, ap (λ (i : State). owed i.pending) begins.state) in
+      let two = pow_two (work_at c) (second_work q u) (work_at a - 1)
+      (omega (arith, first, second, k.1, size_positive (f z), size_positive (f x)))
+      (omega (arith, first, second, k.1, size_positive (f z), size_positive (f x))) in
+      omega (arith, two, same, split, pow-lt {i = work_at a - 1} {j = work_at a} (omega (arith, k.1)))
 
--- an inner trial is taken back
-other_split : {N : Type 0} (E : Type 0) (f : N → Tree) (s : Attempt) (y : Tree) {a b : Point} (vs : List Held) (u : Held) (r q : Standing)
-    (w : Seen) (v : Visits) → 0 < length vs → Open s y (vs ++ u ∷ []) a →
-    Courses {N = N} {E = E} f (below_all (vs ++ u ∷ [])) a b (Ok trial_state.Rejected) → Restores u.mark b.printer r →
-    q.tasks ≡ make_task u.indent Break u.second ∷ r.tasks → state_at q ≡ state_at r → QueueGrows r q →
-    left_at (point_at q w v) vs < left_at a (vs ++ u ∷ [])
-other_split {N} E f s y {a} {b} [] u r q w v some h c back e st g = absurd (omega (arith, some))
-other_split {N} E f s y {a} {b} (o ∷ vs) u r q w v some h c back e st g =
-    let t = h.trial in
-    let fell = c t h.on in
-    let p = chain_pop s vs u t h.chain in
-    let start = p.link.holds.marked in
-    let m = u.mark in
-    let link = above_link p.trial u t (chain_last o vs s p.trial (first_last h.holds.marked) p.chain).is_known p.link in
-    let tasks_r : r.tasks ≡ t.start.printer.tasks = back.0 fell.above t.start.printer.tasks fell.stack (sym start.marks.commands) in
-    let state_r : state_at r ≡ state_at t.start.printer = restored t.start.printer b.printer r m t.start.sink start.marks fell.grows back in
-    let queue_r = restored_queue t.start.printer b.printer r m t.start.sink start.marks fell.grows back in
-    let over_q : Above t.start.printer q = (
-      make_task u.indent Break u.second ∷ [],
-      e ∙ ap (λ (k : List Task). make_task u.indent Break u.second ∷ k) tasks_r,
-      (g.0, g.1 ∙ ap (λ (k : List Tree). k ++ g.0) queue_r),
-    ) in
-    let same = cost_same s o vs p.trial a.printer q h.holds.marked p.chain
-    (above-above p.trial.start.printer t.start.printer a.printer link (above_trial h.on))
-    (above-above p.trial.start.printer t.start.printer q link over_q) in
-    let second = second_is u t.start a.printer start (above_trial h.on) in
-    let work : work_at (point_at q w v) ≡ second_work a.printer u =
-    omega (
-      arith,
-      ap nodes e,
-      ap nodes tasks_r,
-      ap (λ (i : State). owed i.pending) st,
-      ap (λ (i : State). owed i.pending) state_r,
-      second,
-    ) in
-    omega (arith, ap (λ (k : ℕ). 2 ^ k) work, same, cost_push a.printer (o ∷ vs) u, pow_one (work_at a))
+  -- an inner trial is kept
+  kept_split : (vs : List Held) (u : Held) (c : Point) → 0 < length vs → Took {E = E} f s y (vs ++ u ∷ []) a b (Ok trial_state.Complete)
+      → Flagged u.mark.within b.printer c.printer → left_at c vs < left_at a (vs ++ u ∷ [])
+  kept_split [] u c some h kept = absurd (omega (arith, some))
+  kept_split (o ∷ vs) u c some h kept =
+      let q = c.printer in
+      let k = h.trials in
+      let t = k.trial in
+      let z = h.courses t k.on in
+      let lasts = z.0 in
+      let p = chain_pop s vs u t k.chain in
+      let link = above_link p.trial u t (chain_last o vs s p.trial (first_last k.holds.marked) p.chain).is_known p.link in
+      let now = (lasts.path.bytes lasts.is_known).1.0 in
+      let over : Above t.start.printer q =
+      (now.above, kept.tasks ∙ now.stack_is, grows-grows t.start.printer b.printer q lasts.path.queue kept.grows) in
+      let same = cost_same s o vs p.trial a.printer q k.holds.marked p.chain
+      (above-above p.trial.start.printer t.start.printer a.printer link (above_trial k.on))
+      (above-above p.trial.start.printer t.start.printer q link over) in
+      omega (
+        arith,
+        pow_le (work_at c) (work_at a) (omega (arith, z.1, ap nodes kept.tasks, ap (λ (i : State). owed i.pending) kept.state)),
+        same,
+        cost_push a.printer (o ∷ vs) u,
+        pow_one (second_work a.printer u),
+      )
 
--- the same of all that were open
-pub less_kept : {N : Type 0} (E : Type 0) (f : N → Tree) (s : Attempt) (y : Tree) {a b : Point} (us vs : List Held) (u : Held)
-    (q : Standing) (w : Seen) (v : Visits) → us ≡ vs ++ u ∷ [] → 0 < length vs → Open s y us a →
-    Courses {N = N} {E = E} f (below_all us) a b (Ok trial_state.Complete) → q.tasks ≡ b.printer.tasks
-    → (state_at q).pending ≡ (state_at b.printer).pending → QueueGrows b.printer q →
-    left_at (point_at q w v) vs < left_at a us
-less_kept {N} E f s y {a} {b} us vs u q w v popped some h c e st g =
-    subst (λ (z : List Held). left_at (point_at q w v) vs < left_at a z) (sym popped)
-    (kept_split E f s y vs u q w v some (subst (λ (z : List Held). Open s y z a) popped h)
-    (subst (λ (z : List Held). Courses {N = N} {E = E} f (below_all z) a b (Ok trial_state.Complete)) popped c) e st g)
+  -- an inner trial is undone
+  other_split : (vs : List Held) (u : Held) (r : Standing) (c : Point) → 0 < length vs
+      → Took {E = E} f s y (vs ++ u ∷ []) a b (Ok trial_state.Rejected) → Restores u.mark b.printer r
+      → Pushed (make_task u.indent Break u.second) r c.printer → left_at c vs < left_at a (vs ++ u ∷ [])
+  other_split [] u r c some h back pushed = absurd (omega (arith, some))
+  other_split (o ∷ vs) u r c some h back pushed =
+      let q = c.printer in
+      let k = h.trials in
+      let t = k.trial in
+      let fell = h.courses t k.on in
+      let p = chain_pop s vs u t k.chain in
+      let start = p.link.holds.marked in
+      let m = u.mark in
+      let link = above_link p.trial u t (chain_last o vs s p.trial (first_last k.holds.marked) p.chain).is_known p.link in
+      let tasks_r : r.tasks ≡ t.start.printer.tasks = back.0 fell.above t.start.printer.tasks fell.stack (sym start.marks.commands) in
+      let state_r : state_at r ≡ state_at t.start.printer =
+      restored t.start.printer b.printer r m t.start.sink start.marks fell.grows back in
+      let queue_r = restored_queue t.start.printer b.printer r m t.start.sink start.marks fell.grows back in
+      let over_q : Above t.start.printer q = (
+        make_task u.indent Break u.second ∷ [],
+        pushed.tasks ∙ ap (λ (z : List Task). make_task u.indent Break u.second ∷ z) tasks_r,
+        (pushed.grows.0, pushed.grows.1 ∙ ap (λ (z : List Tree). z ++ pushed.grows.0) queue_r),
+      ) in
+      let same = cost_same s o vs p.trial a.printer q k.holds.marked p.chain
+      (above-above p.trial.start.printer t.start.printer a.printer link (above_trial k.on))
+      (above-above p.trial.start.printer t.start.printer q link over_q) in
+      let work : work_at c ≡ second_work a.printer u =
+      omega (
+        arith,
+        ap nodes pushed.tasks,
+        ap nodes tasks_r,
+        ap (λ (i : State). owed i.pending) pushed.state,
+        ap (λ (i : State). owed i.pending) state_r,
+        second_is u t.start a.printer start (above_trial k.on),
+      ) in
+      omega (arith, ap (λ (z : ℕ). 2 ^ z) work, same, cost_push a.printer (o ∷ vs) u, pow_one (work_at a))
 
-pub less_other : {N : Type 0} (E : Type 0) (f : N → Tree) (s : Attempt) (y : Tree) {a b : Point} (us vs : List Held) (u : Held)
-    (r q : Standing) (w : Seen) (v : Visits) → us ≡ vs ++ u ∷ [] → 0 < length vs → Open s y us a →
-    Courses {N = N} {E = E} f (below_all us) a b (Ok trial_state.Rejected) → Restores u.mark b.printer r →
-    q.tasks ≡ make_task u.indent Break u.second ∷ r.tasks → state_at q ≡ state_at r → QueueGrows r q →
-    left_at (point_at q w v) vs < left_at a us
-less_other {N} E f s y {a} {b} us vs u r q w v popped some h c back e st g =
-    subst (λ (z : List Held). left_at (point_at q w v) vs < left_at a z) (sym popped)
-    (other_split E f s y vs u r q w v some (subst (λ (z : List Held). Open s y z a) popped h)
-    (subst (λ (z : List Held). Courses {N = N} {E = E} f (below_all z) a b (Ok trial_state.Rejected)) popped c) back e st g)
+  -- the same of all that were open
+  pub less_kept : {us : List Held} (vs : List Held) (u : Held) (c : Point) → us ≡ vs ++ u ∷ [] → 0 < length vs
+      → Took {E = E} f s y us a b (Ok trial_state.Complete) → Flagged u.mark.within b.printer c.printer → left_at c vs < left_at a us
+  less_kept {us} vs u c popped some h kept =
+      subst (λ (z : List Held). left_at c vs < left_at a z) (sym popped)
+      (kept_split vs u c some (subst (λ (z : List Held). Took {E = E} f s y z a b (Ok trial_state.Complete)) popped h) kept)
+
+  pub less_other : {us : List Held} (vs : List Held) (u : Held) (r : Standing) (c : Point) → us ≡ vs ++ u ∷ [] → 0 < length vs
+      → Took {E = E} f s y us a b (Ok trial_state.Rejected) → Restores u.mark b.printer r
+      → Pushed (make_task u.indent Break u.second) r c.printer → left_at c vs < left_at a us
+  less_other {us} vs u r c popped some h back pushed =
+      subst (λ (z : List Held). left_at c vs < left_at a z) (sym popped)
+      (other_split vs u r c some (subst (λ (z : List Held). Took {E = E} f s y z a b (Ok trial_state.Rejected)) popped h) back pushed)

@@ -87,7 +87,7 @@ queue_none : {N : Type 0} (f : N → Tree) (xs : List N) → trees f xs ≡ [] �
 queue_none {N} f [] h = refl
 queue_none {N} f (x ∷ xs) h = absurd (omega (arith, ap length h))
 
--- a table that was not had for want of room would have had more nodes than that
+-- a table for which there was no room would have had more nodes than that
 pub no_room : {N : Type 0} (f : N → Tree) (p : Printer N) (ds : List Tree) (room n : ℕ) (v : Visits) → (standing f p).queue ≡ []
     → left_nodes (left (standing f p) ds v) ≤ n → n ≤ 4294967294 →
     min room 4294967294 < nodes_left f p + sum_by size ds → room < n

@@ -1,4 +1,4 @@
--- A node in hand: what holds from where a turn began to there, and how one step leads to the next node in hand.
+-- The current node: what holds from where a turn began to there, and how one step leads to the next one.
 use Rattle.std.proofs.Common.{◌≡◌, ℕ, ◌+◌, ◌-◌, ◌*◌, ◌≤◌, ◌<◌, List, [], ◌∷◌, ◌++◌, length, refl, ap, sym, ◌∙◌, append-nil, arith, subst}
 use Rattle.prettyless_sink.specs.Sink.{rise}
 use Rattle.prettyless_sink.specs.declared.visits.Visits.{Visits}
@@ -28,11 +28,11 @@ use Rattle.prettyless_printer.proofs.Visits.{NoSuffix, OneMore, payload_visits-a
 use Rattle.prettyless_printer.proofs.Visits.{at_most_then, rise_same, rise_then}
 use Rattle.prettyless_printer.proofs.AtLeast.{OneLaid, went_at_least, at_least_same, at_least_then}
 
--- the tasks, where one is in hand above the stack
+-- the tasks, where the current one is above the stack
 abbrev pub tasks_with : Task → Standing → List Task
 tasks_with t p = t ∷ p.tasks
 
--- A turn that began at one point has come to another, with a task in hand above the stack; it has written nothing.
+-- A turn that began at one point has reached another, with the current task above the stack; it has written nothing.
 pub record InHand (a : Point) (t : Task) (b : Point) : Type 0 where
   -- options, flag and sink are the same, and the queue only grew
   pub options : b.printer.options ≡ a.printer.options
@@ -46,7 +46,7 @@ pub record InHand (a : Point) (t : Task) (b : Point) : Type 0 where
   -- the work is inside the same wholes
   pub inside : (out : List ℕ) → ForWholes a.printer out
       (λ whole limit below old. Inside a.printer.options whole limit below old (tasks_with t b.printer) (state_at b.printer) out)
-  -- no count of visits fell, and the next task's document has a node for each visit of the printer and those in hand
+  -- no count of visits fell, and the next task's document has a node for each visit of the printer and those of the current task
   pub rise : Rise a.visits b.visits
   pub most : b.visits.printer + size t.tree ≤ a.visits.printer + next_size a.printer.tasks
   -- without line suffixes, the nodes that left allow for the visits
@@ -85,7 +85,7 @@ in_hand a p t e s o g =
           (at_least_same (stack_tally p' n) a.visits));
     }
 
--- what a step of the task in hand counts
+-- what a step of the current task counts
 pub record Visit (o : RenderOptions) (t : Task) (b : Point) (x : Visits) : Type 0 where
   pub more : OneMore o t b.printer.tasks (state_at b.printer) b.visits x
   pub least : rise b.visits.printer ≤ x.printer
@@ -113,7 +113,7 @@ visit {N} f {a} {t} {s} k v p x n hand e h probes most =
       rise = record { printer = omega (arith, least); probes = probes };
     })
 
--- what the code answers to the task in hand
+-- what the code answers to the current task
 pub shown : {N : Type 0} (f : N → Tree) {a : Point} {t : Task} {s : Seen} {v : Visits} (p q : Printer N) (r r' : StepResult N)
     → InHand a t (point f p s v) → r ≡ r' →
     Shows f t.mode r (step_at p.options t (tasks_of f p) (state_of f p)) p q
@@ -132,7 +132,7 @@ leads_most t ts us st u bytes k (Move b pushed x) less h e =
 leads_most t ts us st u bytes k Stuck less h e = absurd h
 leads_most t ts us st u bytes k (Choose i x y) less h e = absurd h
 
--- a step leads to the next node in hand
+-- a step leads to the next node
 pub goes_down : {N : Type 0} (f : N → Tree) {a : Point} {t : Task} {s : Seen} {v : Visits} (p q : Printer N) (x : Visits) (i : ℕ) (m : Mode)
     (n : N) → InHand a t (point f p s v) → Visit a.printer.options t (point f p s v) x →
     RisesBy (each_probe t.tree t.mode) v.probes x.probes → Hands f i m n (step_from a.printer.options t (standing f p)) p q
@@ -164,10 +164,10 @@ goes_down {N} f {a} {t} {s} {v} p q x i m n h one probes shows =
       most = omega (arith, h.most, one.more.printer, fewer, k.heavy);
       at_most = λ plain.
           let y = h.at_most plain in
-          let z = went_at_most o t ts us st u [] b.visits x one.more y.0 k.leads in
+          let z = went_at_most us u [] one.more y.0 k.leads in
           (z.0, at_most_then y.1 z.1);
       at_least = λ j l. at_least_then (h.at_least j l)
-          (went_at_least o j t ts us st u [] b.visits x laid (omega (arith, l, h.long)) k.leads);
+          (went_at_least o j ts us st u [] laid (omega (arith, l, h.long)) k.leads);
     }
 
 -- a turn is from where it began

@@ -37,7 +37,7 @@ use Rattle.prettyless_printer.proofs.Turnings.{lessens, sink_broke, went}
 use Rattle.prettyless_printer.proofs.Visits.{OneMore, at_most_all, at_most_then, failed_at_most, rise_then, went_at_most}
 use Rattle.prettyless_printer.proofs.AtLeast.{OneLaid, at_least_then, went_at_least}
 
--- A task that asks no probe was visited, once.
+-- A task that needs no probe was visited, once.
 pub record Once (t : Task) (v x : Visits) : Type 0 where
   pub least : rise v.printer ≤ x.printer
   pub rises : v.printer ≤ x.printer
@@ -63,7 +63,7 @@ pub record LeadsOn (a : Point) (t : Task) (us : List Task) (b : Point) (vs : Lis
       (vs ++ b.printer.tasks) (state_at q)
   pub fewer : nodes vs + 1 ≤ size t.tree + nodes us
 
--- below the tasks in hand are no fewer than below the next task where the turn began
+-- below the current tasks are no fewer than below the next task where the turn began
 below_long : (us ts : List Task) (n m : ℕ) → n < m → m ≤ length ts + 1 → n ≤ length (us ++ ts)
 below_long us ts n m l h = omega (arith, l, h, length-append us ts)
 
@@ -104,10 +104,10 @@ laying_step {a} {t} {us} {b} vs q s x bytes h once w lender accepts =
       most = omega (arith, h.most, once.most, w.fewer);
       at_most = λ plain.
           let y = h.at_most plain in
-          let z = went_at_most o t ts new st u bytes b.visits x more y.0 w.leads in
+          let z = went_at_most new u bytes more y.0 w.leads in
           (z.0, at_most_then y.1 z.1);
       at_least = λ j l. at_least_then (h.at_least j l)
-          (went_at_least o j t ts new st u bytes b.visits x (once_laid t b.visits x once)
+          (went_at_least o j ts new st u bytes (once_laid t b.visits x once)
           (below_long us b.printer.tasks j (length a.printer.tasks) l h.long) w.leads);
     } in
     subst (λ (k : List Task). Laying a vs (point_at (record q { tasks = k }) s x)) (sym w.tasks) goal
@@ -131,14 +131,14 @@ laying_done {N} {E} f {a} {b} h = record {
       b.visits) (sym h.options) (h.at_least n l);
 }
 
--- what broke off at a task has counted no more than the tasks allow
+-- what ended in an error at a task has counted no more than the tasks allow
 laying_broke : {a : Point} {t : Task} {us : List Task} {b : Point} {x : Visits} → Laying a (t ∷ us) b → Once t b.visits x →
     Plain a.printer → CountsAtMost a.printer.tasks [] a.visits x
 laying_broke {a} {t} {us} {b} {x} h once plain =
     let ts : List Task = us ++ b.printer.tasks in
     let st = state_at b.printer in
     at_most_all (at_most_then (h.at_most plain).1
-    (failed_at_most a.printer.options t ts st b.visits x (once_more a.printer.options t ts st b.visits x once)))
+    (failed_at_most (once_more a.printer.options t ts st b.visits x once)))
 
 -- the sink failed in the bytes of a text
 pub laying_sink_failed : {N E : Type 0} (f : N →
@@ -190,8 +190,7 @@ laying_refused {N} {E} f {a} {t} {us} {b} p x e h once size_1 = record {
       let y = h.bytes is_known in (
         y.0,
         (
-          λ whole limit below old l m. inside_beginning a.printer.options whole limit below old (t ∷ us ++ b.printer.tasks)
-              (state_at b.printer) (known b.sink.bytes) (y.1.0 whole limit below old l m),
+          λ whole limit below old l m. inside_beginning (y.1.0 whole limit below old l m),
           y.1.1,
         ),
       );

@@ -13,14 +13,15 @@ use Rattle.prettyless_summary.specs.Summary.{HasSums}
 use Rattle.prettyless_probe.specs.Stack.{Task, make_task, nodes}
 use Rattle.prettyless_probe.specs.Sums.{HaveSummaries, TreesHave}
 use Rattle.prettyless_probe.proofs.Stacks.{nodes-append}
-use Rattle.prettyless_printer.specs.Points.{Standing, Point}
+use Rattle.prettyless_printer.specs.Points.{Seen, Standing, Point}
 use Rattle.prettyless_printer.specs.Visits.{Plain}
 use Rattle.prettyless_printer.specs.Trials.{Attempt, Restores}
-use Rattle.prettyless_printer.specs.Open.{Chain, Held, Open, Opens, seconds}
+use Rattle.prettyless_printer.specs.Open.{BeginsTrial, Chain, Held, Open, Opens, seconds}
 use Rattle.prettyless_printer.specs.Spending.{AllHave, IsPlainTrial, Left, Rule, Spends, SpendsAs, left, none_left, rule_of}
 use Rattle.prettyless_printer.proofs.Chains.{Fell}
 use Rattle.prettyless_printer.proofs.TrialSteps.{began_plain}
 use Rattle.prettyless_printer.proofs.Spending.{on_tasks, spends_then}
+use Rattle.prettyless_printer.proofs.Standings.{Pushed}
 
 -- the options of open trials are those of the outermost one
 chain_options : (o : Attempt) (us : List Held) (t : Attempt) → Chain o us t → t.start.printer.options ≡ o.start.printer.options
@@ -63,20 +64,26 @@ spends_beside {r} {ts} {us} {q} {q'} {v} {w} ds h = record {
   few = λ t width small g. h.few t width (omega (arith, small)) (g.0, tt);
 }
 
+-- In an outermost trial without line suffixes, trials were open at a point, and trials are open at another one.
+pub record OpenBetween (s : Attempt) (y : Tree) (us vs : List Held) (a b : Point) : Type 0 where
+  pub before : Open s y us a
+  pub now : Open s y vs b
+  pub plain : IsPlainTrial s y
+
 -- the innermost of open trials takes a turn, or comes to its end
-pub open_spends : (has : Bool) (limit : ℕ) (s : Attempt) (y : Tree) {start : Left} (us vs : List Held) (a b : Point) {ts : List Task}
-    {q : List Tree} {w : Visits} → Open s y us a → Open s y vs b → IsPlainTrial s y →
+pub open_spends : {has : Bool} {limit : ℕ} {s : Attempt} {y : Tree} {us vs : List Held} {a b : Point} {start : Left} {ts : List Task}
+    {q : List Tree} {w : Visits} → OpenBetween s y us vs a b →
     Spends (rule_of has a.printer.options limit) start (left b.printer (seconds vs) b.visits) →
     (Plain b.printer → Spends (rule_of has b.printer.options limit) (left b.printer [] b.visits) (on_tasks ts q w)) →
     Spends (rule_of has a.printer.options limit) start (record (on_tasks ts q w) { seconds = seconds vs })
-open_spends has limit s y {start} us vs a b {ts} {q} {w} open_a open_b plain h k =
-    let same = open_options s y b vs open_b ∙ sym (open_options s y a us open_a) in
+open_spends {has} {limit} {s} {y} {us} {vs} {a} {b} {start} {ts} {q} {w} between h k =
+    let same = open_options s y b vs between.now ∙ sym (open_options s y a us between.before) in
     spends_then h
     (subst (λ (o : RenderOptions). Spends (rule_of has o limit) (left b.printer (seconds vs) b.visits)
     (record (on_tasks ts q w) { seconds = seconds vs })) same
-    (spends_beside (seconds vs) (k (open_plain s y b vs open_b plain))))
+    (spends_beside (seconds vs) (k (open_plain s y b vs between.now between.plain))))
 
--- what broke off has nothing left
+-- what ended in an error has nothing left
 pub spends_broke_as : {A E : Type 0} {r : Rule} {a : Left} (b : Left) (result : Result A E) → IsErr result → Spends r a (none_left b.visits)
     → SpendsAs r a b result
 spends_broke_as {A} {E} {r} {a} b (Ok x) e h = cc
@@ -134,17 +141,15 @@ kept_leaves p q ds d v e h = record {
 }
 
 -- the innermost trial is kept
-pub spends_kept : {r : Rule} {a : Left} (p q : Standing) (us vs : List Held) (u : Held) {v : Visits} → us ≡ vs ++ u ∷ [] → q.tasks ≡ p.tasks
-    → q.queue ≡ p.queue →
-    Spends r a (left p (seconds us) v) → Spends r a (left q (seconds vs) v)
-spends_kept {r} {a} p q us vs u {v} popped e h k =
+pub spends_kept : {r : Rule} {a : Left} {us : List Held} {v : Visits} (p q : Standing) (vs : List Held) (u : Held) → us ≡ vs ++ u ∷ []
+    → q.tasks ≡ p.tasks → q.queue ≡ p.queue → Spends r a (left p (seconds us) v) → Spends r a (left q (seconds vs) v)
+spends_kept {r} {a} {us} {v} p q vs u popped e h k =
     spends_then (subst (λ (z : List Tree). Spends r a (left p z v)) (seconds_push us vs u popped) k)
     (spends_leaving r (kept_leaves p q (seconds vs) u.second v e h))
 
-back_leaves : (p q : Standing) (ts above : List Task) (i : ℕ) (ds : List Tree) (d : Tree) (v : Visits) → p.tasks ≡ above ++ ts
-    → q.tasks ≡ make_task i Break d ∷ ts → (p.queue ≡ [] → q.queue ≡ []) →
-    LeavesOnly (left p (ds ++ d ∷ []) v) (left q ds v)
-back_leaves p q ts above i ds d v e h queue = record {
+back_leaves : {ts : List Task} {i : ℕ} {d : Tree} (p q : Standing) (above : List Task) (ds : List Tree) (v : Visits) → p.tasks ≡ above ++ ts
+    → q.tasks ≡ make_task i Break d ∷ ts → (p.queue ≡ [] → q.queue ≡ []) → LeavesOnly (left p (ds ++ d ∷ []) v) (left q ds v)
+back_leaves {ts} {i} {d} p q above ds v e h queue = record {
   nodes = omega (arith, ap nodes e, nodes-append above ts, ap nodes h, sizes_push ds d);
   queue = queue;
   have = λ g.
@@ -156,19 +161,18 @@ back_leaves p q ts above i ds d v e h queue = record {
 take_none : (n : ℕ) (xs : List Tree) → xs ≡ [] → take n xs ≡ []
 take_none n xs e = ap (take n) e ∙ take-nil n
 
--- the innermost trial is taken back, and its second branch comes next
-pub spends_back : {r : Rule} {a : Left} {b : Point} (p q : Standing) (us vs : List Held) (u : Held) {v : Visits} → us ≡ vs ++ u ∷ []
-    → Fell u b → Restores u.mark b.printer p →
-    q.tasks ≡ make_task u.indent Break u.second ∷ p.tasks → q.queue ≡ p.queue → Spends r a (left b.printer (seconds us) v)
-    → Spends r a (left q (seconds vs) v)
-spends_back {r} {a} {b} p q us vs u {v} popped fell back e h k =
+-- the innermost trial is undone, and its second branch comes next
+pub spends_back : {r : Rule} {a : Left} {b : Point} {us : List Held} {q : Standing} {v : Visits} (p : Standing) (vs : List Held) (u : Held)
+    → us ≡ vs ++ u ∷ [] → Fell u b → Restores u.mark b.printer p → Pushed (make_task u.indent Break u.second) p q → q.queue ≡ p.queue →
+    Spends r a (left b.printer (seconds us) v) → Spends r a (left q (seconds vs) v)
+spends_back {r} {a} {b} {us} {q} {v} p vs u popped fell back pushed h k =
     let t = fell.trial in
-    let tasks : p.tasks ≡ t.start.printer.tasks = back.0 fell.fallen.above t.start.printer.tasks fell.fallen.stack
-    (sym fell.marked.marks.commands) in
+    let tasks : p.tasks ≡ t.start.printer.tasks =
+    back.0 fell.fallen.above t.start.printer.tasks fell.fallen.stack (sym fell.marked.marks.commands) in
     spends_then (subst (λ (z : List Tree). Spends r a (left b.printer z v)) (seconds_push us vs u popped) k)
     (spends_leaving r
-    (back_leaves b.printer q t.start.printer.tasks fell.fallen.above u.indent (seconds vs) u.second v fell.fallen.stack
-    (e ∙ ap (λ (z : List Task). make_task u.indent Break u.second ∷ z) tasks)
+    (back_leaves b.printer q fell.fallen.above (seconds vs) v fell.fallen.stack
+    (pushed.tasks ∙ ap (λ (z : List Task). make_task u.indent Break u.second ∷ z) tasks)
     (λ none. h ∙ back.1 ∙ take_none u.mark.queue.len b.printer.queue none)))
 
 more_leaves : (p q : Standing) (i : ℕ) (x y : Tree) (ds : List Tree) (v : Visits) → q.tasks ≡ make_task i Break x ∷ p.tasks
@@ -182,11 +186,11 @@ more_leaves p q i x y ds v e h = record {
 }
 
 -- a trial more is open
-pub spends_more : {N : Type 0} {r : Rule} {a : Left} (f : N → Tree) (p q : Standing) {s : _} (us vs : List Held) (i : ℕ) (x : Tree) (y : N)
-    {v : Visits} → Opens f i (f y) p s us vs → q.tasks ≡ make_task i Break x ∷ p.tasks → q.queue ≡ p.queue →
-    Spends r a (record (left p (seconds us) v) { tasks = make_task i Break x ∷ make_task i Break (f y) ∷ p.tasks })
+pub spends_more : {N : Type 0} {r : Rule} {a : Left} {f : N → Tree} {p q : Standing} {s : Seen} {us vs : List Held} {i : ℕ} {x y : Tree}
+    {v : Visits} → Opens f i y p s us vs → BeginsTrial i x p q → q.queue ≡ p.queue →
+    Spends r a (record (left p (seconds us) v) { tasks = make_task i Break x ∷ make_task i Break y ∷ p.tasks })
     → Spends r a (left q (seconds vs) v)
-spends_more {N} {r} {a} f p q {s} us vs i x y {v} opens e h k =
+spends_more {N} {r} {a} {f} {p} {q} {s} {us} {vs} {i} {x} {y} {v} opens begins h k =
     subst (λ (z : List Tree). Spends r a (left q z v))
-    (sym (seconds_push vs us (record { mark = opens.mark; indent = i; second = f y }) opens.more))
-    (spends_then k (spends_leaving r (more_leaves p q i x (f y) (seconds us) v e h)))
+    (sym (seconds_push vs us (record { mark = opens.mark; indent = i; second = y }) opens.more))
+    (spends_then k (spends_leaving r (more_leaves p q i x y (seconds us) v begins.tasks h)))

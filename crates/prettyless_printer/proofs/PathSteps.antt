@@ -1,6 +1,6 @@
 -- Paths of a run: each step of it leads on, ends it, or breaks it off.
 use Rattle.std.proofs.Common.{◌≡◌, ℕ, ◌≤◌, ◌<◌, List, [], ◌∷◌, ◌++◌, length, refl, ap, sym, ◌∙◌, append-nil, arith, subst, Ok, Err, true}
-use Rattle.std.proofs.Common.{false}
+use Rattle.std.proofs.Common.{false, IsSome}
 use Rattle.prettyless_sink.specs.Sink.{AppendsBeginning, IfKnown, known, rise}
 use Rattle.prettyless_sink.specs.declared.error.RenderError.{RenderError}
 use Rattle.prettyless_sink.specs.declared.error.RenderError.TheVariants.{Document, Sink, Memory}
@@ -11,7 +11,7 @@ use Rattle.prettyless_model.specs.Content.{suffix_depth}
 use Rattle.prettyless_model.specs.Layout.{State, Outcome}
 use Rattle.prettyless_model.proofs.Outcomes.{after-nil}
 use Rattle.prettyless_probe.specs.Stack.{Task, make_task, nodes}
-use Rattle.prettyless_step.specs.Steps.{work, owed}
+use Rattle.prettyless_step.specs.Steps.{owed}
 use Rattle.prettyless_printer.specs.declared.answer.TurnResult.TheVariants as turn_result
 use Rattle.prettyless_printer.specs.Points.{Standing, state_at, QueueGrows, Seen, Point, point_at, work_at}
 use Rattle.prettyless_printer.specs.Progress.{Inside}
@@ -22,21 +22,26 @@ use Rattle.prettyless_printer.specs.AtLeast.{CountsAtLeast, stack_tally}
 use Rattle.prettyless_printer.specs.Renders.{rest_of, Stopped, WorksOff}
 use Rattle.prettyless_printer.specs.Paths.{Run, Path, Waiting, Broke, run_of}
 use Rattle.prettyless_printer.proofs.Progresses.{inside_beginning, inside_end, waits_beginning}
+use Rattle.prettyless_printer.proofs.Standings.{Pushed}
 use Rattle.prettyless_printer.proofs.Turnings.{beginning_less}
 use Rattle.prettyless_printer.proofs.Trying.{begins-grows, grows-grows, choice_kept, choice_other}
 use Rattle.prettyless_printer.proofs.Visits.{rise_same, rise_then, at_most_same, at_most_then, at_most_all, at_most_at, at_most_first}
 use Rattle.prettyless_printer.proofs.Visits.{at_most_besides, plain_push}
 use Rattle.prettyless_printer.proofs.AtLeast.{at_least_same, at_least_then, at_least_end, kept_at_least, other_at_least}
 
+-- # One turn
+
 -- what a turn says of every whole, at the whole of a run
-pub at_run : (r : Run) (q : Standing) (old out : List ℕ) (goal : RenderOptions → Outcome → ℕ → List Task → List ℕ → Type 0) →
-    q.options ≡ r.start.printer.options → length r.below < length q.tasks →
-    Inside r.start.printer.options r.whole r.limit r.below old q.tasks (state_at q) out → ForWholes q out (goal q.options)
-    → goal r.start.printer.options r.whole r.limit r.below old
-at_run r q old out goal e l y h =
-    subst (λ (w : RenderOptions). goal w r.whole r.limit r.below old) e
+pub at_run : {r : Run} {a : Point} (goal : RenderOptions → Outcome → ℕ → List Task → List ℕ → Type 0) → Path r a
+    → length r.below < length a.printer.tasks → IsSome r.start.sink.bytes →
+    ForWholes a.printer (known a.sink.bytes) (goal a.printer.options)
+    → goal r.start.printer.options r.whole r.limit r.below (known r.start.sink.bytes)
+at_run {r} {a} goal p l is_known h =
+    let old = known r.start.sink.bytes in
+    subst (λ (w : RenderOptions). goal w r.whole r.limit r.below old) p.options
     (h r.whole r.limit r.below old l
-    (subst (λ (w : RenderOptions). Inside w r.whole r.limit r.below old q.tasks (state_at q) out) (sym e) y))
+    (subst (λ (w : RenderOptions). Inside w r.whole r.limit r.below old a.printer.tasks (state_at a.printer) (known a.sink.bytes))
+    (sym p.options) (p.bytes is_known).1.0))
 
 -- What leads from one point of a run to another.
 record Carries (a b : Point) : Type 0 where
@@ -62,10 +67,8 @@ carried {r} {a} {b} p l h = record {
       let e = h.bytes y.0 in (
         e.0,
         (
-          at_run r a.printer (known r.start.sink.bytes) (known a.sink.bytes)
-              (λ o whole limit below old. Inside o whole limit below old b.printer.tasks (state_at b.printer)
-              (known b.sink.bytes)) p.options l
-              y.1.0 e.1.0,
+          at_run (λ o whole limit below old. Inside o whole limit below old b.printer.tasks (state_at b.printer) (known b.sink.bytes))
+              p l is_known e.1.0,
           e.1.1 ∙ y.1.1,
         ),
       );
@@ -124,8 +127,7 @@ comes_to_wait {N} {E} f {r} {a} {b} i x y p l h long = record {
       let e = h.bytes y'.0 in (
         e.0,
         (
-          at_run r a.printer (known r.start.sink.bytes) (known a.sink.bytes)
-              (λ o. Goes f o b.printer (known b.sink.bytes) (turn_result.Choice i x y)) p.options l y'.1.0 e.1.0,
+          at_run (λ o. Goes f o b.printer (known b.sink.bytes) (turn_result.Choice i x y)) p l is_known e.1.0,
           e.1.1 ∙ y'.1.1,
         ),
       );
@@ -137,35 +139,33 @@ comes_to_wait {N} {E} f {r} {a} {b} i x y p l h long = record {
   at_least = at_least_then p.at_least (h.at_least (length r.below) l);
 }
 
--- the bytes of a turn that broke off
-broke_bytes : {N E : Type 0} (f : N → Tree) (r : Run) (a b : Standing) (fails : E → Type 0) (old out new : List ℕ) (n k m : ℕ)
-    (e : RenderError E) → a.options ≡ r.start.printer.options → length r.below < length a.tasks →
-    Inside r.start.printer.options r.whole r.limit r.below old a.tasks (state_at a) out → k ≡ n → Turned f a b out new k m (Err e)
-    → Stopped fails r.whole old new n m e
-broke_bytes {N} {E} f r a b fails old out new n k m (Document e) w l y s h = absurd h
-broke_bytes {N} {E} f r a b fails old out new n k m (Sink e) w l y s h =
-    (at_run r a old out (λ (z : RenderOptions) whole limit below o. AppendsBeginning o new (bytes_before whole)) w l y h.0, h.1 ∙ ap rise s)
-broke_bytes {N} {E} f r a b fails old out new n k m (Memory e) w l y s h =
-    (at_run r a old out (λ (z : RenderOptions) whole limit below o. AppendsBeginning o new (bytes_before whole)) w l y h.0, h.1 ∙ s)
-
--- a turn that broke off
+-- a turn that ended in an error
 pub breaks_off : {N E : Type 0} (f : N → Tree) (fails : E → Type 0) {r : Run} {a b : Point} (e : RenderError E) → Path r a
     → length r.below < length a.printer.tasks →
     Advances {N = N} {E = E} f a b (Err e) → Broke fails r e b
 breaks_off {N} {E} f fails {r} {a} {b} e p l h = record {
   same_lender = h.same_lender ∙ p.same_lender;
   bytes = λ is_known.
-      let y = p.bytes is_known in
-      let z = h.bytes y.0 in (
-        z.0,
-        broke_bytes f r a.printer b.printer fails (known r.start.sink.bytes) (known a.sink.bytes) (known b.sink.bytes)
-            r.start.sink.failures a.sink.failures b.sink.failures e p.options l y.1.0 y.1.1 z.1,
-      );
+      let z = h.bytes (p.bytes is_known).0 in
+      (z.0, stopped e is_known z.1);
   rise = rise_then p.rise h.rise;
   at_most = λ plain.
       let y = p.at_most plain in
       at_most_then y.1 (h.at_most y.0);
 }
+  where
+    stopped : (e : RenderError E) → IsSome r.start.sink.bytes
+        → Turned f a.printer b.printer (known a.sink.bytes) (known b.sink.bytes) a.sink.failures b.sink.failures (Err e)
+        → Stopped fails r.whole (known r.start.sink.bytes) (known b.sink.bytes) r.start.sink.failures b.sink.failures e
+    stopped (Document e) is_known h = absurd h
+    stopped (Sink e) is_known h = (
+      at_run (λ o whole limit below old. AppendsBeginning old (known b.sink.bytes) (bytes_before whole)) p l is_known h.0,
+      h.1 ∙ ap rise (p.bytes is_known).1.1,
+    )
+    stopped (Memory e) is_known h = (
+      at_run (λ o whole limit below old. AppendsBeginning old (known b.sink.bytes) (bytes_before whole)) p l is_known h.0,
+      h.1 ∙ (p.bytes is_known).1.1,
+    )
 
 -- what a turn at a node that fails says of the whole, where the sink's bytes are known
 pub at_failing : {N E : Type 0} (f : N → Tree) {r : Run} {a b : Point} → Path r a → length r.below < length a.printer.tasks
@@ -178,8 +178,7 @@ at_failing {N} {E} f {r} {a} {b} p l h = λ is_known.
     let k = h.bytes y.0 in (
       k.0,
       (
-        at_run r a.printer (known r.start.sink.bytes) (known a.sink.bytes) (λ o. Goes f o b.printer (known b.sink.bytes) turn_result.Failed)
-            p.options l y.1.0 k.1.0,
+        at_run (λ o. Goes f o b.printer (known b.sink.bytes) turn_result.Failed) p l is_known k.1.0,
         k.1.1 ∙ y.1.1,
       ),
     )
@@ -200,15 +199,14 @@ fails_there {N} {E} f fails {r} {a} {b} e p l h w = record {
       at_most_all (at_most_then y.1 (h.at_most y.0));
 }
 
+-- # Choices
+
 -- the first branch is kept, and what the trial wrote is appended
-pub goes_on_kept : {E : Type 0} {r : Run} {b c : Point} {s t : Seen} (i : ℕ) (x y : Tree) → Waiting r i x y b →
+pub goes_on_kept : {E : Type 0} {r : Run} {b c : Point} {s t : Seen} {i : ℕ} {x y : Tree} → Waiting r i x y b →
     Tries {E = E} i x (point_at b.printer s b.visits) (point_at c.printer t c.visits) (Ok true) → c.sink.lender ≡ b.sink.lender →
     IfKnown b.sink.bytes c.sink.bytes (λ out new. ((piece : List ℕ) → known t.bytes ≡ known s.bytes ++ piece → new ≡ out ++ piece)
     × (c.sink.failures ≡ b.sink.failures)) → Path r c
-goes_on_kept {E} {r} {b} {c} {s} {t} i x y w tries lender wrote =
-    let before = known s.bytes in
-    let after = known t.bytes in
-    let o = r.start.printer.options in
+goes_on_kept {E} {r} {b} {c} {s} {t} {i} {x} {y} w tries lender wrote =
     let d = tries.decided in
     record {
       options = d.1 ∙ w.options;
@@ -218,11 +216,10 @@ goes_on_kept {E} {r} {b} {c} {s} {t} i x y w tries lender wrote =
       bytes = λ is_known.
           let h = w.bytes is_known in
           let z = wrote h.0 in
-          let n = choice_kept b.printer c.printer o r.whole r.limit r.below (known r.start.sink.bytes) (known b.sink.bytes) i x y before
-          after h.1.0 w.options d in (
+          let n = choice_kept tries h.1.0 w.options in (
             z.0,
             (
-              subst (Inside o r.whole r.limit r.below (known r.start.sink.bytes) c.printer.tasks (state_at c.printer))
+              subst (Inside r.start.printer.options r.whole r.limit r.below (known r.start.sink.bytes) c.printer.tasks (state_at c.printer))
                   (sym (z.1.0 n.0 n.1)) n.2,
               z.1.1 ∙ h.1.1,
             ),
@@ -232,37 +229,30 @@ goes_on_kept {E} {r} {b} {c} {s} {t} i x y w tries lender wrote =
           let h = w.at_most plain in
           let z = tries.at_most h.0 h.1 in
           (z.0, at_most_then h.3 (at_most_first (make_task i Break x) (make_task i Break y) z.1));
-      at_least = at_least_then w.at_least (kept_at_least b.printer c.printer i x y before after b.visits c.visits (length r.below) d
-          tries.at_least);
+      at_least = at_least_then w.at_least (kept_at_least y (length r.below) tries);
     }
 
--- the first branch is not kept, and the second one comes next
-pub goes_on_other : {E : Type 0} {r : Run} {b c : Point} {s t : Seen} (q : Standing) (i : ℕ) (x y : Tree) → Waiting r i x y b →
-    Tries {E = E} i x (point_at b.printer s b.visits) (point_at q t c.visits) (Ok false) →
-    c.printer.tasks ≡ make_task i Break y ∷ q.tasks → state_at c.printer ≡ state_at q → c.printer.options ≡ q.options →
-    QueueGrows q c.printer
+-- the first branch is rejected, and the second one comes next
+pub goes_on_other : {E : Type 0} {r : Run} {b c : Point} {q : Standing} {s t : Seen} {i : ℕ} {x y : Tree} → Waiting r i x y b →
+    Tries {E = E} i x (point_at b.printer s b.visits) (point_at q t c.visits) (Ok false) → Pushed (make_task i Break y) q c.printer
     → c.sink.lender ≡ b.sink.lender →
     IfKnown b.sink.bytes c.sink.bytes (λ out new. (known t.bytes ≡ known s.bytes → new ≡ out) × (c.sink.failures ≡ b.sink.failures))
     → Path r c
-goes_on_other {E} {r} {b} {c} {s} {t} q i x y w tries pushed same options grows lender wrote =
-    let before = known s.bytes in
-    let after = known t.bytes in
-    let o = r.start.printer.options in
+goes_on_other {E} {r} {b} {c} {q} {s} {t} {i} {x} {y} w tries pushed lender wrote =
     let d = tries.decided in
     record {
-      options = options ∙ d.1 ∙ w.options;
-      queue = begins-grows r.queue b.printer c.printer w.queue (grows-grows b.printer q c.printer d.2 grows);
+      options = pushed.options ∙ d.1 ∙ w.options;
+      queue = begins-grows r.queue b.printer c.printer w.queue (grows-grows b.printer q c.printer d.2 pushed.grows);
       same_lender = lender ∙ w.same_lender;
-      less = omega (arith, w.less, d.4, ap nodes d.0, ap nodes pushed, ap (λ (s : State). owed s.pending) same);
+      less = omega (arith, w.less, d.4, ap nodes d.0, ap nodes pushed.tasks, ap (λ (s : State). owed s.pending) pushed.state);
       bytes = λ is_known.
           let h = w.bytes is_known in
           let z = wrote h.0 in
-          let n = choice_other b.printer q c.printer o r.whole r.limit r.below (known r.start.sink.bytes) (known b.sink.bytes) i x y before
-          after h.1.0 w.options d pushed same in (
+          let n = choice_other tries h.1.0 w.options pushed in (
             z.0,
             (
-              subst (Inside o r.whole r.limit r.below (known r.start.sink.bytes) c.printer.tasks (state_at c.printer)) (sym (z.1.0 n.0))
-                  n.1,
+              subst (Inside r.start.printer.options r.whole r.limit r.below (known r.start.sink.bytes) c.printer.tasks (state_at c.printer))
+                  (sym (z.1.0 n.0)) n.1,
               z.1.1 ∙ h.1.1,
             ),
           );
@@ -270,20 +260,20 @@ goes_on_other {E} {r} {b} {c} {s} {t} q i x y w tries pushed same options grows 
       at_most = λ plain.
           let h = w.at_most plain in
           let z = tries.at_most h.0 h.1 in (
-            plain_push q c.printer (make_task i Break y) pushed (ap (λ (s : State). s.pending) same) h.2 z.0,
-            at_most_at c.printer.tasks pushed (at_most_then h.3 (at_most_besides (make_task i Break x) (make_task i Break y) z.1)),
+            plain_push q c.printer (make_task i Break y) pushed.tasks (ap (λ (s : State). s.pending) pushed.state) h.2 z.0,
+            at_most_at c.printer.tasks pushed.tasks
+                (at_most_then h.3 (at_most_besides (make_task i Break x) (make_task i Break y) z.1)),
           );
-      at_least = at_least_then w.at_least (other_at_least b.printer q c.printer i x y before after b.visits c.visits (length r.below) w.long
-          d pushed same options tries.rise);
+      at_least = at_least_then w.at_least (other_at_least (length r.below) w.long tries pushed);
     }
 
 -- a choice that is refused memory, before anything of it is written
-pub choice_refused : {E : Type 0} (fails : E → Type 0) {r : Run} {b c : Point} (i : ℕ) (x y : Tree) (e : _) → Waiting r i x y b
+pub choice_refused : {E : Type 0} (fails : E → Type 0) {r : Run} {b c : Point} {i : ℕ} {x y : Tree} (e : _) → Waiting r i x y b
     → c.sink.lender ≡ b.sink.lender →
     IfKnown b.sink.bytes c.sink.bytes (λ out new. (new ≡ out) × (c.sink.failures ≡ b.sink.failures)) → Rise b.visits c.visits →
     (Plain b.printer → suffix_depth x ≡ 0 → CountsAtMost (make_task i Break x ∷ b.printer.tasks) [] b.visits c.visits)
     → Broke {E = E} fails r (Memory e) c
-choice_refused {E} fails {r} {b} {c} i x y e w lender wrote rise counts = record {
+choice_refused {E} fails {r} {b} {c} {i} {x} {y} e w lender wrote rise counts = record {
   same_lender = lender ∙ w.same_lender;
   bytes = λ is_known.
       let h = w.bytes is_known in
@@ -291,8 +281,7 @@ choice_refused {E} fails {r} {b} {c} i x y e w lender wrote rise counts = record
         z.0,
         (
           subst (λ (s : List ℕ). AppendsBeginning (known r.start.sink.bytes) s (bytes_before r.whole)) (sym z.1.0)
-              (waits_beginning r.start.printer.options r.whole r.limit r.below (known r.start.sink.bytes) i x y b.printer.tasks
-              (state_at b.printer) (known b.sink.bytes) h.1.0),
+              (waits_beginning h.1.0),
           z.1.1 ∙ h.1.1,
         ),
       );
@@ -303,15 +292,13 @@ choice_refused {E} fails {r} {b} {c} i x y e w lender wrote rise counts = record
 }
 
 -- the first branch is kept, and the sink fails at what the trial wrote
-pub choice_unwritten : {E D : Type 0} (fails : E → Type 0) {r : Run} {b c : Point} {s t : Seen} (i : ℕ) (x y : Tree) (e : E)
+pub choice_unwritten : {E D : Type 0} (fails : E → Type 0) {r : Run} {b c : Point} {s t : Seen} {i : ℕ} {x y : Tree} (e : E)
     → Waiting r i x y b →
     Tries {E = D} i x (point_at b.printer s b.visits) (point_at c.printer t c.visits) (Ok true) → c.sink.lender ≡ b.sink.lender →
     IfKnown b.sink.bytes c.sink.bytes
     (λ out new. ((piece : List ℕ) → known t.bytes ≡ known s.bytes ++ piece → AppendsBeginning out new piece)
     × (c.sink.failures ≡ rise b.sink.failures)) → Broke fails r (Sink e) c
-choice_unwritten {E} {D} fails {r} {b} {c} {s} {t} i x y e w tries lender wrote =
-    let before = known s.bytes in
-    let after = known t.bytes in
+choice_unwritten {E} {D} fails {r} {b} {c} {s} {t} {i} {x} {y} e w tries lender wrote =
     let o = r.start.printer.options in
     let old = known r.start.sink.bytes in
     let out = known b.sink.bytes in
@@ -320,11 +307,11 @@ choice_unwritten {E} {D} fails {r} {b} {c} {s} {t} i x y e w tries lender wrote 
       bytes = λ is_known.
           let h = w.bytes is_known in
           let z = wrote h.0 in
-          let n = choice_kept b.printer c.printer o r.whole r.limit r.below old out i x y before after h.1.0 w.options tries.decided in (
+          let n = choice_kept tries h.1.0 w.options in (
             z.0,
             (
               beginning_less old out (known c.sink.bytes) n.0 (bytes_before r.whole) (z.1.0 n.0 n.1)
-                  (inside_beginning o r.whole r.limit r.below old c.printer.tasks (state_at c.printer) (out ++ n.0) n.2)
+                  (inside_beginning n.2)
                   (h.1.0.bytes, h.1.0.out_is),
               z.1.1 ∙ ap rise h.1.1,
             ),
@@ -334,6 +321,8 @@ choice_unwritten {E} {D} fails {r} {b} {c} {s} {t} i x y e w tries lender wrote 
           let h = w.at_most plain in
           at_most_then h.3 (at_most_all (at_most_first (make_task i Break x) (make_task i Break y) (tries.at_most h.0 h.1).1));
     }
+
+-- # The beginning and the end
 
 -- it begins
 pub run_begins : (a : Point) → Path (run_of a) a
@@ -376,15 +365,14 @@ run_ends {A} {E} fails {a} {b} x p l = record {
   same_lender = p.same_lender;
   bytes = λ is_known.
       let y = p.bytes is_known in
-      let e = inside_end a.printer.options (rest_of a.printer) (work a.printer.tasks (state_at a.printer)) [] (known a.sink.bytes)
-      b.printer.tasks (state_at b.printer) (known b.sink.bytes) y.1.0 l in
+      let e = inside_end y.1.0 l in
       (y.0, (e.0, e.2, e.1, y.1.1));
   rise = p.rise;
   at_most = λ plain. p.at_most (plain.none, plain.pending);
   at_least = at_least_end b.printer 0 l p.at_least;
 }
 
--- what breaks off where no document fails, breaks off where some may
+-- what ends in an error where no document fails, does so where some may
 pub broke_anyhow : {E : Type 0} (fails : E → Type 0) {r : Run} {b : Point} (e : RenderError E) → Broke (λ _. ⊥) r e b → Broke fails r e b
 broke_anyhow {E} fails {r} {b} (Document e) h = record {
   same_lender = h.same_lender;
@@ -395,7 +383,7 @@ broke_anyhow {E} fails {r} {b} (Document e) h = record {
 broke_anyhow {E} fails {r} {b} (Sink e) h = record { same_lender = h.same_lender; bytes = h.bytes; rise = h.rise; at_most = h.at_most }
 broke_anyhow {E} fails {r} {b} (Memory e) h = record { same_lender = h.same_lender; bytes = h.bytes; rise = h.rise; at_most = h.at_most }
 
--- it broke off
+-- it ended in an error
 pub run_broke_off : {A E : Type 0} (fails : E → Type 0) {a b : Point} (e : RenderError E) → Broke fails (run_of a) e b
     → WorksOff {A = A} {E = E} fails a b (Err e)
 run_broke_off {A} {E} fails {a} {b} e h = record {

@@ -19,10 +19,10 @@ use Rattle.prettyless_model.proofs.Outcomes.{after-nil, after-after, then-done}
 use Rattle.prettyless_model.proofs.Levels.{end_fixed, layout_is}
 use Rattle.prettyless_probe.specs.Stack.{Task, make_task, nodes, tasks}
 use Rattle.prettyless_step.specs.Steps.{lay_all, owed}
-use Rattle.prettyless_printer.specs.Points.{Point, Standing, state_at}
+use Rattle.prettyless_printer.specs.Points.{Point, Seen, Standing, state_at}
 use Rattle.prettyless_printer.specs.Linear.{IsFew, IsLinear}
 use Rattle.prettyless_printer.specs.Turns.{bytes_before}
-use Rattle.prettyless_printer.specs.Renders.{Finishing, Renders, RunsToEnd, rest_of, to_end, Stopped, Flushed, Rendered}
+use Rattle.prettyless_printer.specs.Renders.{Finishing, FlushesEnd, Renders, RunsToEnd, rest_of, to_end, Stopped, Flushed, Rendered}
 use Rattle.prettyless_printer.proofs.Progresses.{bytes_before-after}
 use Rattle.prettyless_printer.proofs.Runs.{lay_all-tasks}
 use Rattle.prettyless_printer.proofs.Steps.{nodes-tasks}
@@ -41,9 +41,9 @@ bytes_before-then (Done b st) k = (bytes_before (k st), bytes_before-after b (k 
 bytes_before-then (Failed b) k = ([], sym (append-nil b))
 
 -- a beginning of what the commands lay is one of the whole
-finishing_beginning : (whole : Outcome) (p : Standing) (old out new : List ℕ) → Finishing whole p old out
+finishing_beginning : {whole : Outcome} {p : Standing} {old out new : List ℕ} → Finishing whole p old out
     → AppendsBeginning out new (bytes_before (rest_of p)) → AppendsBeginning old new (bytes_in (bytes_of whole))
-finishing_beginning whole p old out new h q =
+finishing_beginning {whole} {p} {old} {out} {new} h q =
     let m = bytes_before-then (rest_of p) (settle_end p.options) in (
       h.bytes ++ q.0,
       q.1 ++ m.0,
@@ -53,29 +53,29 @@ finishing_beginning whole p old out new h q =
       q.3 ∙ ap (λ (x : List ℕ). x ++ q.0) h.out_is ∙ append_assoc old h.bytes q.0,
     )
 
--- the commands broke off
-pub finishing_stopped : (A : Type 0) {E : Type 0} (whole : Outcome) (p : Standing) (fails : E → Type 0) (old out new : List ℕ) (n k m : ℕ)
-    (e : RenderError E) → Finishing whole p old out → k ≡ n → Stopped fails (rest_of p) out new k m e →
+-- the commands ended in an error
+pub finishing_stopped : (A : Type 0) {E : Type 0} {whole : Outcome} {p : Standing} {old out : List ℕ} {n k : ℕ} (fails : E → Type 0)
+    (new : List ℕ) (m : ℕ) (e : RenderError E) → Finishing whole p old out → k ≡ n → Stopped fails (rest_of p) out new k m e →
     Rendered {A = A} fails (bytes_of whole) old new n m (Err e)
-finishing_stopped A {E} whole p fails old out new n k m (Document e) h a q = (
+finishing_stopped A {E} {whole} {p} {old} {out} fails new m (Document e) h a q = (
   h.bytes ++ q.0,
   ap bytes_of (sym h.same ∙ ap (λ (x : Outcome). after_bytes h.bytes (and_then x (settle_end p.options))) q.1),
   q.2 ∙ ap (λ (x : List ℕ). x ++ q.0) h.out_is ∙ append_assoc old h.bytes q.0,
   q.3 ∙ a,
   q.4,
 )
-finishing_stopped A {E} whole p fails old out new n k m (Sink e) h a q = (finishing_beginning whole p old out new h q.0, q.1 ∙ ap rise a)
-finishing_stopped A {E} whole p fails old out new n k m (Memory e) h a q = (finishing_beginning whole p old out new h q.0, q.1 ∙ a)
+finishing_stopped A {E} {whole} {p} {old} {out} fails new m (Sink e) h a q = (finishing_beginning h q.0, q.1 ∙ ap rise a)
+finishing_stopped A {E} {whole} {p} {old} {out} fails new m (Memory e) h a q = (finishing_beginning h q.0, q.1 ∙ a)
 
--- the commands are worked off: what is left is the end
+-- the commands are laid: what is left is the end
 pub record Ending (whole : Outcome) (o : RenderOptions) (q : Standing) (old new : List ℕ) : Type 0 where
   pub bytes : List ℕ
   pub new_is : new ≡ old ++ bytes
   pub same : after_bytes bytes (end_with o (settle o) (settle_end o) (state_at q).pending (state_at q)) ≡ whole
 
-pub finishing_ends : (whole : Outcome) (p q : Standing) (old out new b : List ℕ) → Finishing whole p old out
+pub finishing_ends : {whole : Outcome} {p q : Standing} {old out new b : List ℕ} → Finishing whole p old out
     → rest_of p ≡ Done b (state_at q) → new ≡ out ++ b → Ending whole p.options q old new
-finishing_ends whole p q old out new b h r w = record {
+finishing_ends {whole} {p} {q} {old} {out} {new} {b} h r w = record {
   bytes = h.bytes ++ b;
   new_is = w ∙ ap (λ (x : List ℕ). x ++ b) h.out_is ∙ append_assoc old h.bytes b;
   same = ap (after_bytes (h.bytes ++ b)) (sym (end_fixed p.options (state_at q)))
@@ -89,9 +89,9 @@ none_pending o brk again [] st l = refl
 none_pending o brk again (p ∷ ps) st l = absurd (omega arith)
 
 -- nothing waits: that is all
-pub ending_done : (whole : Outcome) (o : RenderOptions) (q : Standing) (old new : List ℕ) → Ending whole o q old new
+pub ending_done : {whole : Outcome} {o : RenderOptions} {q : Standing} {old new : List ℕ} → Ending whole o q old new
     → length (state_at q).pending ≤ 0 → (bytes : List ℕ) × (bytes_of whole ≡ Whole bytes) × (new ≡ old ++ bytes)
-ending_done whole o q old new h l = (
+ending_done {whole} {o} {q} {old} {new} h l = (
   h.bytes,
   ap bytes_of (sym h.same ∙ ap (after_bytes h.bytes) (none_pending o (settle o) (settle_end o) (state_at q).pending (state_at q) l))
       ∙ ap Whole (append-nil h.bytes),
@@ -109,16 +109,17 @@ round o brk again (d ∷ ds) st l =
     ∙ lay_all-tasks o brk (d ∷ ds) 0 Break [] [] (flushed o st) ∙ then-done (lay_each o brk (d ∷ ds) 0 Break [] (flushed o st))))
 
 -- the documents that wait are the commands, and the gap before them is written
-pub ending_again : (whole : Outcome) (o : RenderOptions) (q r : Standing) (old new out : List ℕ) → Ending whole o q old new → r.options ≡ o
-    → 0 < length (state_at q).pending →
-    r.tasks ≡ tasks 0 Break (state_at q).pending → state_at r ≡ flushed o (state_at q) → out ≡ new ++ spaces (gap q.column)
-    → Finishing whole r old out
-ending_again whole o q r old new out h e l k u x =
+pub ending_again : {A E : Type 0} {whole : Outcome} {o : RenderOptions} {q r : Standing} {s t : Seen} {old new out : List ℕ} {y : A}
+    → Ending whole o q old new → q.options ≡ o → FlushesEnd {A = A} {E = E} q r s t (Ok y) → 0 < length (state_at q).pending
+    → out ≡ new ++ spaces (gap q.column) → Finishing whole r old out
+ending_again {A} {E} {whole} {o} {q} {r} {s} {t} {old} {new} {out} {y} h same k l x =
     let st = state_at q in
+    let e : r.options ≡ o = k.options ∙ same in
     let rest : rest_of r ≡ lay_all o (settle o) (tasks 0 Break st.pending) [] (flushed o st) =
     ap (λ (z : RenderOptions). lay_all z (settle z) r.tasks [] (state_at r)) e
-    ∙ ap (λ (z : List Task). lay_all o (settle o) z [] (state_at r)) k
-    ∙ ap (λ (z : State). lay_all o (settle o) (tasks 0 Break st.pending) [] z) u in
+    ∙ ap (λ (z : List Task). lay_all o (settle o) z [] (state_at r)) k.stack
+    ∙ ap (λ (z : State). lay_all o (settle o) (tasks 0 Break st.pending) [] z)
+    (k.state ∙ ap (λ (z : RenderOptions). flushed z st) same) in
     record {
       bytes = h.bytes ++ spaces (gap q.column);
       out_is = x ∙ ap (λ (z : List ℕ). z ++ spaces (gap q.column)) h.new_is ∙ append_assoc old h.bytes (spaces (gap q.column));
@@ -128,12 +129,12 @@ ending_again whole o q r old new out h e l k u x =
           ∙ ap (after_bytes h.bytes) (sym (round o (settle o) (settle_end o) st.pending st l)) ∙ h.same;
     }
 
--- the gap before them broke off
-pub ending_stopped : (A : Type 0) {E : Type 0} (whole : Outcome) (o : RenderOptions) (q : Standing) (fails : E → Type 0)
-    (old new last : List ℕ) (n k m : ℕ) (e : RenderError E) → Ending whole o q old new → 0 < length (state_at q).pending → k ≡ n →
+-- the gap before them ended in an error
+pub ending_stopped : (A : Type 0) {E : Type 0} {whole : Outcome} {o : RenderOptions} {q : Standing} {old new : List ℕ} {n k : ℕ}
+    (fails : E → Type 0) (last : List ℕ) (m : ℕ) (e : RenderError E) → Ending whole o q old new → 0 < length (state_at q).pending → k ≡ n →
     Flushed {A = A} q new last k m (Err e) → Rendered {A = A} fails (bytes_of whole) old last n m (Err e)
-ending_stopped A {E} whole o q fails old new last n k m (Document e) h l a s = absurd s
-ending_stopped A {E} whole o q fails old new last n k m (Sink e) h l a s =
+ending_stopped A {E} {whole} {o} {q} {old} {new} fails last m (Document e) h l a s = absurd s
+ending_stopped A {E} {whole} {o} {q} {old} {new} fails last m (Sink e) h l a s =
     let st = state_at q in
     let rest : Outcome = and_then (lay_all o (settle o) (tasks 0 Break st.pending) [] (flushed o st)) (settle_end o) in
     let all : bytes_before whole ≡ h.bytes ++ (spaces (gap q.column) ++ bytes_before rest) =
@@ -151,7 +152,7 @@ ending_stopped A {E} whole o q fails old new last n k m (Sink e) h l a s =
       ),
       s.1 ∙ ap rise a,
     )
-ending_stopped A {E} whole o q fails old new last n k m (Memory e) h l a s =
+ending_stopped A {E} {whole} {o} {q} {old} {new} fails last m (Memory e) h l a s =
     let left : Outcome = end_with o (settle o) (settle_end o) (state_at q).pending (state_at q) in (
       (
         h.bytes,

@@ -9,7 +9,7 @@ use Rattle.prettyless_printer.specs.declared.answer.RunResult.{RunResult}
 use Rattle.prettyless_printer.specs.declared.answer.RunResult.TheVariants as run_result
 use Rattle.prettyless_printer.specs.Points.{Standing, state_at, Seen, Point}
 use Rattle.prettyless_printer.specs.Visits.{Plain}
-use Rattle.prettyless_printer.specs.Open.{Held, Opens, seconds}
+use Rattle.prettyless_printer.specs.Open.{BeginsTrial, Held, Opens, seconds}
 use Rattle.prettyless_printer.specs.Paths.{Chooses, Path, Waiting, run_of}
 use Rattle.prettyless_printer.specs.Renders.{Continues, WorksOff}
 use Rattle.prettyless_printer.specs.Runs.{ComesInChoice}
@@ -23,7 +23,7 @@ pub spends_on : {has : Bool} {limit : ℕ} {o o' : RenderOptions} {a b c : Left}
 spends_on {has} {limit} {o} {o'} {a} {b} {c} same h k =
     spends_then h (subst (λ (x : RenderOptions). Spends (rule_of has x limit) b c) same k)
 
--- the same where the second one may have broken off
+-- the same where the second one may have ended in an error
 pub spends_on_as : {A E : Type 0} {has : Bool} {limit : ℕ} {o o' : RenderOptions} {a b : Left} (c : Left) (result : Result A E) → o' ≡ o
     → Spends (rule_of has o limit) a b → SpendsAs (rule_of has o' limit) b c result →
     SpendsAs (rule_of has o limit) a c result
@@ -43,7 +43,7 @@ pub from_none : {r : Rule} {b : Left} (p : Standing) (us : List Held) (v : Visit
     → Spends r (left p [] v) b
 from_none {r} {b} p us v none h = subst (λ (z : List Held). Spends r (left p (seconds z) v) b) none h
 
--- a run of all commands has come to a point, and goes on there
+-- a run of all commands has reached a point, and goes on there
 pub path_spends : {has : Bool} {limit : ℕ} {a b : Point} {c : Left} → Path (run_of a) b → Plain a.printer →
     Spends (rule_of has a.printer.options limit) (left a.printer [] a.visits) (left b.printer [] b.visits) →
     (Plain b.printer → Spends (rule_of has b.printer.options limit) (left b.printer [] b.visits) c) →
@@ -65,21 +65,20 @@ waiting_spends {has} {limit} {a} {b} {start} {c} {i} {x} {y} waiting plain h k =
     spends_on waiting.options h (k (plain_waiting waiting plain))
 
 -- the trial of a choice is opened, and no other one is open
-pub opens_spends : {N : Type 0} (r : Rule) (f : N → Tree) (p q : Standing) {s : Seen} (us vs : List Held) (i : ℕ) (x : Tree) (y : N)
-    (v : Visits) → us ≡ [] → Opens f i (f y) p s us vs → q.tasks ≡ make_task i Break x ∷ p.tasks → q.queue ≡ p.queue →
-    Spends r (left_choice i x (f y) p v) (left q (seconds vs) v)
-opens_spends {N} r f p q {s} us vs i x y v none opens e h =
-    spends_more f p q us vs i x y opens e h
-    (subst (λ (z : List Held). Spends r (left_choice i x (f y) p v)
-    (record (left p (seconds z) v) { tasks = make_task i Break x ∷ make_task i Break (f y) ∷ p.tasks })) (sym none)
-    (spends_same r (left_choice i x (f y) p v)))
+pub opens_spends : {N : Type 0} {r : Rule} {f : N → Tree} {p q : Standing} {s : Seen} {us vs : List Held} {i : ℕ} {x y : Tree} {v : Visits}
+    → us ≡ [] → Opens f i y p s us vs → BeginsTrial i x p q → q.queue ≡ p.queue → Spends r (left_choice i x y p v) (left q (seconds vs) v)
+opens_spends {N} {r} {f} {p} {q} {s} {us} {vs} {i} {x} {y} {v} none opens begins h =
+    spends_more opens begins h
+    (subst (λ (z : List Held). Spends r (left_choice i x y p v)
+    (record (left p (seconds z) v) { tasks = make_task i Break x ∷ make_task i Break y ∷ p.tasks })) (sym none)
+    (spends_same r (left_choice i x y p v)))
 
--- without line suffixes nothing is pending where the commands are worked off
+-- without line suffixes nothing is pending where the commands are laid
 pub nothing_pending : {A E : Type 0} (fails : E → Type 0) {a b c : Point} (x : A) → Continues a b → Plain a.printer
     → WorksOff {A = A} {E = E} fails b c (Ok x) → 0 < length (state_at c.printer).pending → ⊥
 nothing_pending {A} {E} fails {a} {b} {c} x h plain k some = omega (arith, some, ap length (k.at_most (h.at_most plain).0).0.pending)
 
--- a run has come to a choice without line suffixes
+-- a run has reached a choice without line suffixes
 pub came_plain : {a : Point} {us : List Held} {buffer : Seen} {b : Point} (h : ComesInChoice a us buffer b) → Plain a.printer
     → IsPlainChoice h.at.printer h.first h.second
 came_plain {a} {us} {buffer} {b} h plain = plain_waiting h.waiting (h.continues.at_most plain).0

@@ -37,7 +37,7 @@ shifted_stands {N} {M} f g p q h = λ j. record {
   start = h.start j;
 }
 
--- a run comes to where its printer and its trials stand, whatever their nodes
+-- a run reaches where its printer and its trials stand, whatever their nodes
 pub comes_over : (a : Point) {us vs : List Held} {p q : Standing} (buffer s : Seen) (v : Visits) → vs ≡ us → q ≡ p
     → Comes a us buffer (point_at p s v) → Comes a vs buffer (point_at q s v)
 comes_over a {us} {vs} {p} {q} buffer s v same stands comes =

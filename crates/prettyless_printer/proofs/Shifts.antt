@@ -45,54 +45,42 @@ bytes_in-after : (b : List ℕ) (y : Bytes) → bytes_in (bytes_after b y) ≡ b
 bytes_in-after b (Whole c) = refl
 bytes_in-after b (Cut c) = refl
 
--- the bytes of a whole are what was written and those of what is left
-finishing_bytes : (whole : Outcome) (p : Standing) (old out : List ℕ) (h : Finishing whole p old out)
-    → bytes_of whole ≡ bytes_after h.bytes (bytes_of (to_end p))
-finishing_bytes whole p old out h = sym (ap bytes_of h.same) ∙ bytes_of-after h.bytes (to_end p)
+-- of a whole, something was written
+module _ {whole : Outcome} {p : Standing} {old out : List ℕ} (h : Finishing whole p old out) where
+  -- the bytes of a whole are what was written and those of what is left
+  finishing_bytes : bytes_of whole ≡ bytes_after h.bytes (bytes_of (to_end p))
+  finishing_bytes = sym (ap bytes_of h.same) ∙ bytes_of-after h.bytes (to_end p)
 
-finishing_then : (whole : Outcome) (p q : Standing) (old out new : List ℕ) → Finishing whole p old out → Finishing (to_end p) q out new
-    → Finishing whole q old new
-finishing_then whole p q old out new h k = record {
-  bytes = h.bytes ++ k.bytes;
-  out_is = k.out_is ∙ ap (λ (x : List ℕ). x ++ k.bytes) h.out_is ∙ append_assoc old h.bytes k.bytes;
-  same = sym (after-after h.bytes k.bytes (to_end q)) ∙ ap (after_bytes h.bytes) k.same ∙ h.same;
-}
+  -- what was written, and then the rest of the whole or a beginning of it
+  finishing_rest : {new : List ℕ} (bytes : List ℕ) → new ≡ out ++ bytes → new ≡ old ++ (h.bytes ++ bytes)
+  finishing_rest bytes e = e ∙ ap (λ (x : List ℕ). x ++ bytes) h.out_is ∙ append_assoc old h.bytes bytes
 
--- what was written, and then the rest of the whole or a beginning of it
-finishing_rest : (whole : Outcome) (p : Standing) (old out new bytes : List ℕ) (h : Finishing whole p old out) → new ≡ out ++ bytes
-    → new ≡ old ++ (h.bytes ++ bytes)
-finishing_rest whole p old out new bytes h e = e ∙ ap (λ (x : List ℕ). x ++ bytes) h.out_is ∙ append_assoc old h.bytes bytes
+  finishing_then : {q : Standing} {new : List ℕ} → Finishing (to_end p) q out new → Finishing whole q old new
+  finishing_then {q} k = record {
+    bytes = h.bytes ++ k.bytes;
+    out_is = finishing_rest k.bytes k.out_is;
+    same = sym (after-after h.bytes k.bytes (to_end q)) ∙ ap (after_bytes h.bytes) k.same ∙ h.same;
+  }
 
-finishing_part : (whole : Outcome) (p : Standing) (old out new : List ℕ) → Finishing whole p old out
-    → AppendsBeginning out new (bytes_in (bytes_of (to_end p))) → AppendsBeginning old new (bytes_in (bytes_of whole))
-finishing_part whole p old out new h q = (
-  h.bytes ++ q.0,
-  q.1,
-  ap bytes_in (finishing_bytes whole p old out h) ∙ bytes_in-after h.bytes (bytes_of (to_end p)) ∙ ap (λ (x : List ℕ). h.bytes ++ x) q.2
-      ∙ sym (append_assoc h.bytes q.0 q.1),
-  finishing_rest whole p old out new q.0 h q.3,
-)
+  finishing_part : {new : List ℕ} → AppendsBeginning out new (bytes_in (bytes_of (to_end p)))
+      → AppendsBeginning old new (bytes_in (bytes_of whole))
+  finishing_part q = (
+    h.bytes ++ q.0,
+    q.1,
+    ap bytes_in finishing_bytes ∙ bytes_in-after h.bytes (bytes_of (to_end p)) ∙ ap (λ (x : List ℕ). h.bytes ++ x) q.2
+        ∙ sym (append_assoc h.bytes q.0 q.1),
+    finishing_rest q.0 q.3,
+  )
 
--- what is left is rendered
-finishing_rendered : {A E : Type 0} (fails : E → Type 0) (whole : Outcome) (p : Standing) (old out new : List ℕ) (n k m : ℕ)
-    (r : Result A (RenderError E)) → Finishing whole p old out → k ≡ n →
-    Rendered fails (bytes_of (to_end p)) out new k m r → Rendered fails (bytes_of whole) old new n m r
-finishing_rendered {A} {E} fails whole p old out new n k m (Ok x) h a q = (
-  h.bytes ++ q.0,
-  finishing_bytes whole p old out h ∙ ap (bytes_after h.bytes) q.1,
-  finishing_rest whole p old out new q.0 h q.2,
-  q.3 ∙ a,
-)
-finishing_rendered {A} {E} fails whole p old out new n k m (Err (Document e)) h a q = (
-  h.bytes ++ q.0,
-  finishing_bytes whole p old out h ∙ ap (bytes_after h.bytes) q.1,
-  finishing_rest whole p old out new q.0 h q.2,
-  q.3 ∙ a,
-  q.4,
-)
-finishing_rendered {A} {E} fails whole p old out new n k m (Err (Sink e)) h a q =
-    (finishing_part whole p old out new h q.0, q.1 ∙ ap rise a)
-finishing_rendered {A} {E} fails whole p old out new n k m (Err (Memory e)) h a q = (finishing_part whole p old out new h q.0, q.1 ∙ a)
+  -- what is left is rendered
+  finishing_rendered : {A E : Type 0} {n k : ℕ} (fails : E → Type 0) (new : List ℕ) (m : ℕ) (r : Result A (RenderError E)) → k ≡ n →
+      Rendered fails (bytes_of (to_end p)) out new k m r → Rendered fails (bytes_of whole) old new n m r
+  finishing_rendered fails new m (Ok x) a q =
+      (h.bytes ++ q.0, finishing_bytes ∙ ap (bytes_after h.bytes) q.1, finishing_rest q.0 q.2, q.3 ∙ a)
+  finishing_rendered fails new m (Err (Document e)) a q =
+      (h.bytes ++ q.0, finishing_bytes ∙ ap (bytes_after h.bytes) q.1, finishing_rest q.0 q.2, q.3 ∙ a, q.4)
+  finishing_rendered fails new m (Err (Sink e)) a q = (finishing_part q.0, q.1 ∙ ap rise a)
+  finishing_rendered fails new m (Err (Memory e)) a q = (finishing_part q.0, q.1 ∙ a)
 
 -- the counts of a run that went on
 run_counts_then : {A E : Type 0} (ts us : List Task) (q : Standing) (v w x : Visits) (r : Result A E) → CountsAtMost ts us v w
@@ -146,8 +134,7 @@ continues_then {a} {b} {c} h k = record {
       let z = k.bytes y.0 in (
         z.0,
         (
-          finishing_then (to_end a.printer) b.printer c.printer (known a.sink.bytes) (known b.sink.bytes) (known c.sink.bytes) y.1.0
-              z.1.0,
+          finishing_then y.1.0 z.1.0,
           z.1.1 ∙ y.1.1,
         ),
       );
@@ -168,8 +155,7 @@ continues_to_end {A} {E} fails {a} {b} {c} r h k = record {
       let y = h.bytes is_known in
       let z = k.bytes y.0 in (
         z.0,
-        finishing_rendered fails (to_end a.printer) b.printer (known a.sink.bytes) (known b.sink.bytes) (known c.sink.bytes)
-            a.sink.failures b.sink.failures c.sink.failures r y.1.0 y.1.1 z.1,
+        finishing_rendered y.1.0 fails (known c.sink.bytes) c.sink.failures r y.1.1 z.1,
       );
   rise = rise_then h.rise k.rise;
   at_most = λ plain.
@@ -208,23 +194,18 @@ path_continues {a} {b} p = record {
   at_least = p.at_least;
 }
 
--- the commands broke off
+-- the commands ended in an error
 pub work_stopped : {A B E : Type 0} (fails : E → Type 0) {a b : Point} (e : RenderError E) → WorksOff {A = A} fails a b (Err e)
     → RunsToEnd {A = B} fails a b (Err e)
-work_stopped {A} {B} {E} fails {a} {b} e h =
-    let old = known a.sink.bytes in
-    record {
-      same_lender = h.same_lender;
-      bytes = λ is_known.
-          let y = h.bytes is_known in (
-            y.0,
-            finishing_stopped B (to_end a.printer) a.printer fails old old (known b.sink.bytes) a.sink.failures a.sink.failures
-                b.sink.failures e (finishing_begins a.printer old) refl y.1,
-          );
-      rise = h.rise;
-      at_most = h.at_most;
-      at_least = tt;
-    }
+work_stopped {A} {B} {E} fails {a} {b} e h = record {
+  same_lender = h.same_lender;
+  bytes = λ is_known.
+      let y = h.bytes is_known in
+      (y.0, finishing_stopped B fails (known b.sink.bytes) b.sink.failures e (finishing_begins a.printer (known a.sink.bytes)) refl y.1);
+  rise = h.rise;
+  at_most = h.at_most;
+  at_least = tt;
+}
 
 -- what the commands left at the end
 work_ending : {A E : Type 0} (fails : E → Type 0) {a b : Point} (x : A) → WorksOff fails a b (Ok x)
@@ -232,18 +213,16 @@ work_ending : {A E : Type 0} (fails : E → Type 0) {a b : Point} (x : A) → Wo
     × (b.sink.failures ≡ a.sink.failures)) →
     Ending (to_end a.printer) a.printer.options b.printer (known a.sink.bytes) (known b.sink.bytes)
 work_ending {A} {E} fails {a} {b} x h z =
-    let old = known a.sink.bytes in
-    finishing_ends (to_end a.printer) a.printer b.printer old old (known b.sink.bytes) z.0 (finishing_begins a.printer old) z.1 z.2
+    finishing_ends (finishing_begins a.printer (known a.sink.bytes)) z.1 z.2
 
--- the commands are worked off, and nothing waits: that is all
+-- the commands are laid, and nothing waits: that is all
 pub work_ends : {A B E : Type 0} (fails : E → Type 0) {a b : Point} (x : A) (y : B) → WorksOff fails a b (Ok x)
     → length (state_at b.printer).pending ≤ 0 → RunsToEnd fails a b (Ok y)
 work_ends {A} {B} {E} fails {a} {b} x y h none = record {
   same_lender = h.same_lender;
   bytes = λ is_known.
       let z = h.bytes is_known in
-      let all = ending_done (to_end a.printer) a.printer.options b.printer (known a.sink.bytes) (known b.sink.bytes)
-      (work_ending fails x h z.1) none in
+      let all = ending_done (work_ending fails x h z.1) none in
       (z.0, (all.0, all.1, all.2, z.1.3));
   rise = h.rise;
   at_most = h.at_most;
@@ -261,49 +240,32 @@ round_lessens {A} {B} {E} fails {a} {b} {q} {t} x y h k some =
 pub round_continues : {A B E : Type 0} (fails : E → Type 0) {a b : Point} {q : Standing} {t : Seen} (x : A) (y : B)
     → WorksOff {A = A} {E = E} fails a b (Ok x) → FlushesEnd {A = B} {E = E} b.printer q b.sink t (Ok y) →
     0 < length (state_at b.printer).pending → Continues a (point_at q t b.visits)
-round_continues {A} {B} {E} fails {a} {b} {q} {t} x y h k some =
-    let old = known a.sink.bytes in
-    let new = known b.sink.bytes in
-    let o = b.printer.options in
-    record {
-      options = k.options ∙ h.options;
-      same_lender = k.same_lender ∙ h.same_lender;
-      bytes = λ is_known.
-          let z = h.bytes is_known in
-          let end = subst (λ (c : RenderOptions). Ending (to_end a.printer) c b.printer old new) (sym h.options)
-          (work_ending fails x h z.1) in
-          let w = k.bytes z.0 in (
-            w.0,
-            (
-              ending_again (to_end a.printer) o b.printer q old new (known t.bytes) end k.options some k.stack k.state w.1.0,
-              w.1.1 ∙ z.1.3,
-            ),
-          );
-      rise = h.rise;
-      at_most = λ plain. absurd (omega (arith, some, ap length (h.at_most plain).0.pending));
-      at_least = at_least_at (λ k. omega arith) (λ k. omega arith) h.at_least;
-    }
+round_continues {A} {B} {E} fails {a} {b} {q} {t} x y h k some = record {
+  options = k.options ∙ h.options;
+  same_lender = k.same_lender ∙ h.same_lender;
+  bytes = λ is_known.
+      let z = h.bytes is_known in
+      let w = k.bytes z.0 in
+      (w.0, (ending_again (work_ending fails x h z.1) h.options k some w.1.0, w.1.1 ∙ z.1.3));
+  rise = h.rise;
+  at_most = λ plain. absurd (omega (arith, some, ap length (h.at_most plain).0.pending));
+  at_least = at_least_at (λ k. omega arith) (λ k. omega arith) h.at_least;
+}
 
--- the gap before what waits broke off
+-- the gap before what waits ended in an error
 pub round_stopped : {A B C E : Type 0} (fails before : E → Type 0) {a b : Point} {q : Standing} {t : Seen} (x : A) (e : RenderError E)
     → WorksOff {A = A} {E = E} before a b (Ok x) → FlushesEnd {A = B} {E = E} b.printer q b.sink t (Err e) →
     0 < length (state_at b.printer).pending → RunsToEnd {A = C} fails a (point_at q t b.visits) (Err e)
-round_stopped {A} {B} {C} {E} fails before {a} {b} {q} {t} x e h k some =
-    let old = known a.sink.bytes in
-    let new = known b.sink.bytes in
-    record {
-      same_lender = k.same_lender ∙ h.same_lender;
-      bytes = λ is_known.
-          let z = h.bytes is_known in
-          let w = k.bytes z.0 in (
-            w.0,
-            ending_stopped C (to_end a.printer) a.printer.options b.printer fails old new (known t.bytes) a.sink.failures
-                b.sink.failures t.failures e (work_ending before x h z.1) some z.1.3 w.1,
-          );
-      rise = h.rise;
-      at_most = λ plain. absurd (omega (arith, some, ap length (h.at_most plain).0.pending));
-      at_least = tt;
-    }
+round_stopped {A} {B} {C} {E} fails before {a} {b} {q} {t} x e h k some = record {
+  same_lender = k.same_lender ∙ h.same_lender;
+  bytes = λ is_known.
+      let z = h.bytes is_known in
+      let w = k.bytes z.0 in
+      (w.0, ending_stopped C fails (known t.bytes) t.failures e (work_ending before x h z.1) some z.1.3 w.1);
+  rise = h.rise;
+  at_most = λ plain. absurd (omega (arith, some, ap length (h.at_most plain).0.pending));
+  at_least = tt;
+}
 
 -- nothing is held of trials only where none is open
 pub none_open : {N : Type 0} (f : N → Tree) (us : List (OpenTrial N)) → all_held f us ≡ [] → us ≡ []
@@ -321,11 +283,11 @@ comes_alone a b us buffer none h = subst (λ (u : List Held). Comes a u buffer b
 pub came_alone : (a b : Point) (us : List Held) (buffer : Seen) → us ≡ [] → Comes a us buffer b → Continues a b
 came_alone a b us buffer none h = subst (λ (u : List Held). Comes a u buffer b) none h
 
--- it has come to a choice, whose trials are open
-pub comes_in_choice : (a c at b : Point) (us : List Held) (buffer : Seen) (i : ℕ) (x y : Tree) → Continues a c → Waiting (run_of c) i x y at
-    → InChoice i x y at us buffer b → Comes a us buffer b
-comes_in_choice a c at b [] buffer i x y h waiting choice = absurd choice.trials
-comes_in_choice a c at b (u ∷ us) buffer i x y h waiting choice =
+-- it has reached a choice, whose trials are open
+pub comes_in_choice : {a c at b : Point} {us : List Held} {buffer : Seen} {i : ℕ} {x y : Tree} → Continues a c
+    → Waiting (run_of c) i x y at → InChoice i x y at us buffer b → Comes a us buffer b
+comes_in_choice {us = []} h waiting choice = absurd choice.trials
+comes_in_choice {c = c} {at = at} {us = u ∷ us} {i = i} {x = x} {y = y} h waiting choice =
     record { c = c; continues = h; indent = i; first = x; second = y; at = at; waiting = waiting; choice = choice }
 
 pub came_in_choice : (a b : Point) (us : List Held) (buffer : Seen) → 0 < length us → Comes a us buffer b → ComesInChoice a us buffer b
@@ -364,7 +326,7 @@ pub choice_continues : {E : Type 0} {a c at b : Point} (i : ℕ) (x y : Tree) �
     → Chooses {A = RunResult} {E = E} i x y at b (Ok run_result.Finished) → Continues a b
 choice_continues {E} {a} {c} {at} {b} i x y h waiting k = continues_then h (path_continues (k.runs (run_of c) waiting))
 
--- it broke off
+-- it ended in an error
 pub choice_stopped : {E : Type 0} (fails : E → Type 0) {a c at b : Point} (i : ℕ) (x y : Tree) (e : RenderError E) → Continues a c
     → Waiting (run_of c) i x y at → Chooses {A = RunResult} {E = E} i x y at b (Err e) → RunsToEnd {A = RunResult} fails a b (Err e)
 choice_stopped {E} fails {a} {c} {at} {b} i x y e h waiting k =

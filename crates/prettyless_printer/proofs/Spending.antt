@@ -5,9 +5,9 @@ use Rattle.prettyless_sink.specs.declared.visits.Visits.{Visits}
 use Rattle.prettyless_model.specs.declared.options.RenderOptions.{RenderOptions}
 use Rattle.prettyless_model.specs.declared.mode.Mode.{Mode}
 use Rattle.prettyless_model.specs.declared.mode.Mode.TheVariants.{Break, Flat}
-use Rattle.prettyless_model.specs.Tree.{Tree, Nil, Fail, Text, TextWithLen, MultilineText, WeakSpace, HardLine, WeakLine, Append}
-use Rattle.prettyless_model.specs.Tree.{LineSuffix, Nest, DedentToRoot, Align, ExpandParent, Flatten, BreakOrFlat, Group, Union}
-use Rattle.prettyless_model.specs.Tree.{PartialUnion, OnColumn, OnNesting, size}
+use Rattle.prettyless_model.specs.Tree.{Tree}
+use Rattle.prettyless_model.specs.Tree.{Group}
+use Rattle.prettyless_model.specs.Tree.{PartialUnion, size}
 use Rattle.prettyless_model.specs.Content.{suffix_depth}
 use Rattle.prettyless_model.specs.Counts.{each_probe}
 use Rattle.prettyless_model.specs.Layout.{State, some_pending}
@@ -23,63 +23,29 @@ use Rattle.prettyless_step.proofs.Shown.{step_at, Leads, Asks}
 use Rattle.prettyless_step.proofs.Summaries.{step_has}
 use Rattle.prettyless_printer.specs.Points.{Standing, standing, state_at, Seen, Point, point}
 use Rattle.prettyless_printer.specs.Visits.{Plain, CountsAtMost}
-use Rattle.prettyless_printer.specs.Spending.{Left, Rule, Spends, left, none_left, rule_of}
+use Rattle.prettyless_printer.specs.Spending.{Capped, Left, Rule, Spends, left, none_left, rule_of}
 use Rattle.prettyless_printer.proofs.Standings.{Wrote, asks_there, put_in_hand, step_from, stuck_there, waits_there}
 use Rattle.prettyless_printer.proofs.Hands.{InHand, Visit}
 use Rattle.prettyless_printer.proofs.Visits.{NoSuffix, at_most_all, chosen_at_most, failed_at_most, went_at_most}
 
--- a node asks one probe at most
+-- a node needs one probe at most
 each_probe_one : (d : Tree) (m : Mode) → each_probe d m ≤ 1
-each_probe_one Nil m = omega arith
-each_probe_one Fail m = omega arith
-each_probe_one (Text s) m = omega arith
-each_probe_one (TextWithLen w s) m = omega arith
-each_probe_one (MultilineText s) m = omega arith
-each_probe_one WeakSpace m = omega arith
-each_probe_one HardLine m = omega arith
-each_probe_one WeakLine m = omega arith
-each_probe_one (Append l r) m = omega arith
-each_probe_one (LineSuffix d) m = omega arith
-each_probe_one (Nest i d) m = omega arith
-each_probe_one (DedentToRoot d) m = omega arith
-each_probe_one (Align d) m = omega arith
-each_probe_one ExpandParent m = omega arith
-each_probe_one (Flatten d) m = omega arith
-each_probe_one (BreakOrFlat b f) m = omega arith
 each_probe_one (Group d) Break = omega arith
 each_probe_one (Group d) Flat = omega arith
-each_probe_one (Union l r) m = omega arith
 each_probe_one (PartialUnion l r) Break = omega arith
 each_probe_one (PartialUnion l r) Flat = omega arith
-each_probe_one (OnColumn test l r) m = omega arith
-each_probe_one (OnNesting test l r) m = omega arith
+each_probe_one _ m = omega arith
 
--- a probe that is asked within a limit visits no more nodes past it than are left
-capped_one : (d : Tree) (m : Mode) (k limit v x most : ℕ) → (0 < each_probe d m → v ≤ limit) → x ≤ v + asked d m k → v ≤ most
-    → limit + (size d + k) ≤ most → x ≤ most
-capped_one Nil m k limit v x most asks counted low high = omega (arith, counted)
-capped_one Fail m k limit v x most asks counted low high = omega (arith, counted)
-capped_one (Text s) m k limit v x most asks counted low high = omega (arith, counted)
-capped_one (TextWithLen w s) m k limit v x most asks counted low high = omega (arith, counted)
-capped_one (MultilineText s) m k limit v x most asks counted low high = omega (arith, counted)
-capped_one WeakSpace m k limit v x most asks counted low high = omega (arith, counted)
-capped_one HardLine m k limit v x most asks counted low high = omega (arith, counted)
-capped_one WeakLine m k limit v x most asks counted low high = omega (arith, counted)
-capped_one (Append l r) m k limit v x most asks counted low high = omega (arith, counted)
-capped_one (LineSuffix d) m k limit v x most asks counted low high = omega (arith, counted)
-capped_one (Nest i d) m k limit v x most asks counted low high = omega (arith, counted)
-capped_one (DedentToRoot d) m k limit v x most asks counted low high = omega (arith, counted)
-capped_one (Align d) m k limit v x most asks counted low high = omega (arith, counted)
-capped_one ExpandParent m k limit v x most asks counted low high = omega (arith, counted)
-capped_one (Flatten d) m k limit v x most asks counted low high = omega (arith, counted)
-capped_one (BreakOrFlat b f) m k limit v x most asks counted low high = omega (arith, counted)
-capped_one (Group d) Break k limit v x most asks counted low high = omega (arith, counted, asks (omega arith))
-capped_one (Group d) Flat k limit v x most asks counted low high = omega (arith, counted)
-capped_one (Union l r) m k limit v x most asks counted low high = omega (arith, counted)
-capped_one (PartialUnion l r) Break k limit v x most asks counted low high = omega (arith, counted, asks (omega arith))
-capped_one (PartialUnion l r) Flat k limit v x most asks counted low high = omega (arith, counted)
-capped_one (OnColumn test l r) m k limit v x most asks counted low high = omega (arith, counted)
-capped_one (OnNesting test l r) m k limit v x most asks counted low high = omega (arith, counted)
+-- a probe that is started within a limit visits no more nodes past it than are left
+capped_one : (d : Tree) (m : Mode) (k : ℕ) {limit v x : ℕ} → (0 < each_probe d m → v ≤ limit) → x ≤ v + asked d m k
+    → Capped limit (size d + k) v x
+capped_one (Group d) Break k asks counted = λ most low high. omega (arith, counted, asks (omega arith))
+capped_one (Group d) Flat k asks counted = λ most low high. omega (arith, counted)
+capped_one (PartialUnion l r) Break k asks counted = λ most low high. omega (arith, counted, asks (omega arith))
+capped_one (PartialUnion l r) Flat k asks counted = λ most low high. omega (arith, counted)
+capped_one _ m k asks counted = λ most low high. omega (arith, counted)
+
+-- # Steps and runs in a row
 
 -- What is left stays so where nothing is done.
 pub spends_same : (r : Rule) (a : Left) → Spends r a a
@@ -117,7 +83,7 @@ spends_all {r} {a} {b} h = record {
   few = h.few;
 }
 
--- What one step visits: the node, and what its probe does, which is asked within the limit.
+-- What one step visits: the node, and what its probe does, which is started within the limit.
 pub record StepVisits (r : Rule) (t : Task) (ts : List Task) (v x : Visits) : Type 0 where
   pub asks : 0 < each_probe t.tree t.mode → v.probes ≤ r.limit
   pub least : rise v.printer ≤ x.printer
@@ -129,14 +95,14 @@ abbrev pub on_tasks : List Task → List Tree → Visits → Left
 on_tasks ts q v = record { tasks = ts; seconds = []; queue = q; visits = v }
 
 -- one step
-step_spends : (r : Rule) (t : Task) (ts us : List Task) (q q' : List Tree) (v x : Visits) → StepVisits r t ts v x
+step_spends : {r : Rule} {t : Task} {ts us : List Task} {q q' : List Tree} {v x : Visits} → StepVisits r t ts v x
     → CountsAtMost (t ∷ ts) us v x →
     (HaveSummaries (t ∷ ts) → HaveSummaries us) → (q ≡ [] → q' ≡ []) → Spends r (on_tasks (t ∷ ts) q v) (on_tasks us q' x)
-step_spends r t ts us q q' v x one counts have queue = record {
+step_spends {r} {t} {ts} {us} {q} {q'} {v} {x} one counts have queue = record {
   nodes = omega (arith, counts.left);
   printer = omega (arith, counts.printer);
   queue = queue;
-  capped = λ most l m. capped_one t.tree t.mode (nodes ts) r.limit v.probes x.probes most one.asks one.counted l (omega (arith, m));
+  capped = λ most l m. capped_one t.tree t.mode (nodes ts) one.asks one.counted most l (omega (arith, m));
   have = λ h. (have h.0, tt);
   few = λ is_true width small h.
       let all : AllSummed r.has t.tree ts =
@@ -164,24 +130,26 @@ task_has : (o : RenderOptions) (t : Task) (ts : List Task) (st : State) → st.p
     → StepHas (step_at o t ts st)
 task_has o t ts st none h = step_has o t.tree t.indent t.mode (follow ts) st h.0 (subst TreesHave (sym none) tt)
 
--- what is left with a task in hand
+-- # A turn
+
+-- what is left with a current task
 abbrev pub left_with : Task → Standing → Visits → Left
 left_with t p v = on_tasks (t ∷ p.tasks) p.queue v
 
--- A turn has come to a task in hand, and its step is about to be taken.
+-- A turn has reached a current task, and its step is about to be taken.
 pub record Takes {N : Type 0} (f : N → Tree) (r : Rule) (a : Point) (t : Task) (p : Printer N) (s : Seen) (v x : Visits) : Type 0 where
   pub hand : InHand a t (point f p s v)
   pub one : Visit a.printer.options t (point f p s v) x
   pub visits : StepVisits r t (tasks_of f p) v x
   pub spent : Plain a.printer → Spends r (left a.printer [] a.visits) (left_with t (standing f p) v)
 
-pub takes : {N : Type 0} (f : N → Tree) (has : Bool) (limit : ℕ) {a : Point} {t : Task} (p : Printer N) {s : Seen} {v : Visits} (x : Visits)
+pub takes : {N : Type 0} (f : N → Tree) {has : Bool} {limit : ℕ} {a : Point} {t : Task} (p : Printer N) {s : Seen} {v x : Visits}
     → InHand a t (point f p s v) → Visit a.printer.options t (point f p s v) x →
     (0 < each_probe t.tree t.mode → v.probes ≤ limit) → x.probes ≤ v.probes + asked t.tree t.mode (nodes (tasks_of f p))
     → Few has p.options.width t.tree (tasks_of f p) (each_probe t.tree t.mode) v.probes x.probes →
     (Plain a.printer → Spends (rule_of has a.printer.options limit) (left a.printer [] a.visits) (left_with t (standing f p) v)) →
     Takes f (rule_of has a.printer.options limit) a t p s v x
-takes {N} f has limit {a} {t} p {s} {v} x hand one asks counted few spent = record {
+takes {N} f {has} {limit} {a} {t} p {s} {v} {x} hand one asks counted few spent = record {
   hand = hand;
   one = one;
   visits = record {
@@ -200,7 +168,7 @@ same_queue : {N : Type 0} (f : N → Tree) (t : Task) (p q : Printer N) → NoSu
 same_queue {N} f t p q plain same none =
     ap (λ z. trees f z.nodes.items) (same (omega (arith, plain.0)) (waits_there f p ∙ ap some_pending plain.1)) ∙ none
 
--- the step leads to the next node in hand
+-- the step leads to the next node
 pub spends_down : {N : Type 0} (f : N → Tree) {r : Rule} {a : Point} {t : Task} {s : Seen} {v x : Visits} (p q : Printer N) (i : ℕ)
     (m : Mode) (n : N) → Takes f r a t p s v x → Plain a.printer →
     (suffix_depth t.tree ≡ 0 → some_pending (state_of f p).pending ≡ false → q.queue ≡ p.queue)
@@ -214,9 +182,9 @@ spends_down {N} f {r} {a} {t} {s} {v} {x} p q i m n h plain same shows =
     let us : List Task = make_task i m (f n) ∷ c.tasks in
     let y = (h.hand.at_most plain).0 in
     let k = put_in_hand f i m n (step_at o t b.tasks st) p q shows in
-    let counts = (went_at_most o t b.tasks us st (state_at c) [] v x h.one.more y k.leads).1 in
+    let counts = (went_at_most us (state_at c) [] h.one.more y k.leads).1 in
     spends_then (h.spent plain)
-    (step_spends r t b.tasks us b.queue c.queue v x h.visits counts
+    (step_spends h.visits counts
     (λ g. leads_have b.tasks us [] (state_at c) (step_at o t b.tasks st) (task_has o t b.tasks st y.1 g) g.1 k.leads)
     (same_queue f t p q y same))
 
@@ -232,9 +200,9 @@ spends_went {N} f {r} {a} {t} {s} {v} {x} p q bytes h plain same k =
     let c = standing f q in
     let st = state_at b in
     let y = (h.hand.at_most plain).0 in
-    let counts = (went_at_most o t b.tasks c.tasks st (state_at c) bytes v x h.one.more y k.leads).1 in
+    let counts = (went_at_most c.tasks (state_at c) bytes h.one.more y k.leads).1 in
     spends_then (h.spent plain)
-    (step_spends r t b.tasks c.tasks b.queue c.queue v x h.visits counts
+    (step_spends h.visits counts
     (λ g. leads_have b.tasks c.tasks bytes (state_at c) (step_at o t b.tasks st) (task_has o t b.tasks st y.1 g) g.1 k.leads)
     (same_queue f t p q y same))
 
@@ -246,9 +214,9 @@ pub spends_failed : {N : Type 0} (f : N → Tree) {r : Rule} {a : Point} {t : Ta
 spends_failed {N} f {r} {a} {t} {s} {v} {x} p q h plain shows =
     let o = a.printer.options in
     let b = standing f p in
-    let counts = failed_at_most o t b.tasks (state_at b) v x h.one.more in
+    let counts = failed_at_most h.one.more in
     subst (λ (z : Standing). Spends r (left a.printer [] a.visits) (left z [] x)) (sym (stuck_there f t.mode (step_from o t b) p q shows).1)
-    (spends_then (h.spent plain) (step_spends r t b.tasks b.tasks b.queue b.queue v x h.visits counts (λ g. g.1) (λ e. e)))
+    (spends_then (h.spent plain) (step_spends h.visits counts (λ g. g.1) (λ e. e)))
 
 -- a choice comes next
 pub spends_chosen : {N : Type 0} (f : N → Tree) {r : Rule} {a : Point} {t : Task} {s : Seen} {v x : Visits} (p q : Printer N) (i : ℕ)
@@ -262,12 +230,12 @@ spends_chosen {N} f {r} {a} {t} {s} {v} {x} p q i y z h plain shows =
     let st = state_at b in
     let none = (h.hand.at_most plain).0 in
     let k = asks_there f t.mode i y z (step_from o t b) p q shows in
-    let counts = (chosen_at_most o t b.tasks st i (f y) (f z) v x h.one.more none k.0).2 in
+    let counts = (chosen_at_most i (f y) (f z) h.one.more none k.0).2 in
     let us : List Task = make_task i Break (f y) ∷ make_task i Break (f z) ∷ b.tasks in
     subst (λ (u : Standing). Spends r (left a.printer [] a.visits)
     (on_tasks (make_task i Break (f y) ∷ make_task i Break (f z) ∷ u.tasks) u.queue x)) (sym k.1)
     (spends_then (h.spent plain)
-    (step_spends r t b.tasks us b.queue b.queue v x h.visits counts
+    (step_spends h.visits counts
     (λ g. let both = asks_have i (f y) (f z) (step_at o t b.tasks st) (task_has o t b.tasks st none.1 g) k.0 in
     (both.0, (both.1, g.1))) (λ e. e)))
 
@@ -276,17 +244,17 @@ pub spends_broke : {N : Type 0} (f : N → Tree) {r : Rule} {a : Point} {t : Tas
     → Takes f r a t p s v x → Plain a.printer → Spends r (left a.printer [] a.visits) (none_left x)
 spends_broke {N} f {r} {a} {t} {s} {v} {x} p h plain =
     let b = standing f p in
-    let counts = failed_at_most a.printer.options t b.tasks (state_at b) v x h.one.more in
-    spends_then (h.spent plain) (step_spends r t b.tasks [] b.queue [] v x h.visits (at_most_all counts) (λ g. tt) (λ e. refl))
+    let counts = failed_at_most h.one.more in
+    spends_then (h.spent plain) (step_spends h.visits (at_most_all counts) (λ g. tt) (λ e. refl))
 
--- the task in hand is the next one again
+-- the current task is the next one again
 pub spends_stopped : {r : Rule} {a : Left} (t : Task) (p : Standing) {v : Visits} (q : Standing) → q.tasks ≡ t ∷ p.tasks → q.queue ≡ p.queue
     → Spends r a (left_with t p v) → Spends r a (left q [] v)
 spends_stopped {r} {a} t p {v} q e h k =
     subst (λ (z : List Task). Spends r a (on_tasks z q.queue v)) (sym e)
     (subst (λ (z : List Tree). Spends r a (on_tasks (t ∷ p.tasks) z v)) (sym h) k)
 
--- the next command is in hand
+-- the next command is the current one
 pub spends_begun : (r : Rule) (a p : Standing) (t : Task) (v : Visits) → a.tasks ≡ t ∷ p.tasks → p.queue ≡ a.queue
     → Spends r (left a [] v) (left_with t p v)
 spends_begun r a p t v e h =

@@ -1,5 +1,5 @@
 -- What the code does, by where its printer stands.
-use Rattle.std.proofs.Common.{◌≡◌, ℕ, ◌≤◌, List, [], ◌∷◌, length, vec_len, ap, sym, ◌∙◌, subst}
+use Rattle.std.proofs.Common.{◌≡◌, ℕ, ◌≤◌, Bool, List, [], ◌∷◌, length, vec_len, ap, sym, ◌∙◌, subst}
 use Rattle.std.proofs.lemmas.List.{drop-map, length-map}
 use Rattle.prettyless_model.specs.declared.mode.Mode.{Mode}
 use Rattle.prettyless_model.specs.declared.options.RenderOptions.{RenderOptions}
@@ -14,6 +14,20 @@ use Rattle.prettyless_step.specs.declared.printer.StepResult.TheVariants.{Failed
 use Rattle.prettyless_step.proofs.Queues.{trees-append}
 use Rattle.prettyless_step.proofs.Shown.{step_at, Leads, IsStuck, Asks, written, handed, stuck, asks}
 use Rattle.prettyless_printer.specs.Points.{QueueGrows, Standing, standing, state_at}
+
+-- A printer stands as another one does, with one task more, and its queue only grew.
+pub record Pushed (t : Task) (p q : Standing) : Type 0 where
+  pub tasks : q.tasks ≡ t ∷ p.tasks
+  pub state : state_at q ≡ state_at p
+  pub options : q.options ≡ p.options
+  pub grows : QueueGrows p q
+
+-- A printer stands as another one does, but for the flag, and its queue only grew.
+pub record Flagged (flag : Bool) (p q : Standing) : Type 0 where
+  pub tasks : q.tasks ≡ p.tasks
+  pub state : state_at q ≡ record (state_at p) { within = flag }
+  pub options : q.options ≡ p.options
+  pub grows : QueueGrows p q
 
 -- the state of a printer is that of where it stands
 pub state_stands : {N : Type 0} (f : N → Tree) (p : Printer N) → state_of f p ≡ state_at (standing f p)
@@ -52,7 +66,7 @@ wrote {N} f step bytes p q h =
       grows = grows_stands f p q k.2;
     }
 
--- A step put a task in hand, above the others, and the stack has lost nothing.
+-- A step made a task the current one, above the others, and the stack has lost nothing.
 pub record PutInHand (t : Task) (step : Step) (p q : Standing) : Type 0 where
   pub leads : Leads step p.tasks [] (t ∷ q.tasks) (state_at q)
   pub state : state_at q ≡ state_at p

@@ -1,25 +1,27 @@
--- A trial as a run of its own: begun, gone on with, ended or taken back.
+-- A trial as a run of its own: begun, continued, ended or undone.
 use Rattle.std.proofs.Common.{◌≡◌, ℕ, ◌+◌, ◌*◌, ◌≤◌, ◌<◌, ◌∷◌, length, refl, ap, ◌∙◌, arith, subst, Ok, true, false, take}
-use Rattle.std.proofs.Common.{length-append}
+use Rattle.std.proofs.Common.{length-append, IsSome}
 use Rattle.prettyless_sink.specs.Sink.{known}
 use Rattle.prettyless_model.specs.declared.options.RenderOptions.{RenderOptions}
 use Rattle.prettyless_model.specs.Column.{padding_fits}
-use Rattle.prettyless_model.specs.Layout.{State, tried, some_pending}
+use Rattle.prettyless_model.specs.Layout.{State, some_pending}
 use Rattle.prettyless_model.specs.declared.mode.Mode.TheVariants.{Break}
 use Rattle.prettyless_model.specs.Content.{suffix_depth}
 use Rattle.prettyless_model.specs.Tree.{Tree, size}
 use Rattle.prettyless_probe.specs.Stack.{make_task, nodes}
 use Rattle.prettyless_step.specs.Steps.{owed}
 use Rattle.prettyless_printer.specs.declared.trial.Mark.{Mark}
-use Rattle.prettyless_printer.specs.Points.{Standing, state_at, QueueGrows, Seen, Point, point_at, work_at}
-use Rattle.prettyless_printer.specs.Trials.{Attempt, AtChoice, Fallen, Lasts, Marks, OnTrial, Restores, TrialBroke, TrialDid, Tries}
-use Rattle.prettyless_printer.specs.Trials.{attempt, work_limit, trial_of, trial_run}
+use Rattle.prettyless_printer.specs.Points.{Standing, state_at, Seen, Point, point_at, work_at}
+use Rattle.prettyless_printer.specs.Trials.{Attempt, AtChoice, Fallen, Lasts, Marks, OnTrial, Restores, TrialBroke, Tries}
+use Rattle.prettyless_printer.specs.Trials.{attempt, trial_of, trial_run}
+use Rattle.prettyless_printer.specs.Open.{BeginsTrial}
 use Rattle.prettyless_printer.specs.Visits.{Plain, suffix_depths}
 use Rattle.prettyless_printer.specs.Paths.{BeganPlain, Path}
 use Rattle.prettyless_printer.specs.Turns.{Advances, Goes}
 use Rattle.prettyless_printer.specs.declared.answer.TurnResult.TheVariants as turn_result
 use Rattle.prettyless_printer.proofs.PathSteps.{at_run, comes_to_wait, goes_on, stops}
 use Rattle.prettyless_printer.proofs.Progresses.{inside_past}
+use Rattle.prettyless_printer.proofs.Standings.{Flagged}
 use Rattle.prettyless_printer.proofs.Within.{accept_past}
 use Rattle.prettyless_printer.proofs.Trying.{padding_rejects, trial_ends, trying_begins, trial_rejected, trial_kept}
 use Rattle.prettyless_printer.proofs.Visits.{rise_same, at_most_all, at_most_same, at_most_at, at_most_cut}
@@ -31,22 +33,21 @@ pub began_plain : (t : Attempt) → Plain t.start.printer → suffix_depth t.bra
 began_plain t plain none = (omega (arith, plain.none, none), plain.pending)
 
 -- it begins: the branch is the next task
-pub trial_run_begins : (a : Point) (q : Standing) (i : ℕ) (d : Tree) → q.tasks ≡ make_task i Break d ∷ a.printer.tasks
-    → state_at q ≡ tried (state_at a.printer) →
-    q.options ≡ a.printer.options → QueueGrows a.printer q → Path (trial_run (attempt a i d)) (point_at q a.sink a.visits)
-trial_run_begins a q i d e s o grows = record {
-  options = o;
-  queue = grows;
+pub trial_run_begins : (a : Point) (q : Standing) (i : ℕ) (d : Tree) → BeginsTrial i d a.printer q
+    → Path (trial_run (attempt a i d)) (point_at q a.sink a.visits)
+trial_run_begins a q i d h = record {
+  options = h.options;
+  queue = h.grows;
   same_lender = refl;
-  less = omega (arith, ap nodes e, ap (λ (z : State). owed z.pending) s);
-  bytes = λ is_known. (is_known, (trying_begins a.printer q i d (known a.sink.bytes) e s, refl));
+  less = omega (arith, ap nodes h.tasks, ap (λ (z : State). owed z.pending) h.state);
+  bytes = λ is_known. (is_known, (trying_begins a.printer q i d (known a.sink.bytes) h.tasks h.state, refl));
   rise = rise_same a.visits;
   at_most = λ began.
       let plain : Plain a.printer = record { none = omega (arith, began.0); pending = began.1 } in (
-        plain_push a.printer q (make_task i Break d) e (ap (λ (z : State). z.pending) s) (omega (arith, began.0)) plain,
-        at_most_at q.tasks e (at_most_same (make_task i Break d ∷ a.printer.tasks) a.visits),
+        plain_push a.printer q (make_task i Break d) h.tasks (ap (λ (z : State). z.pending) h.state) (omega (arith, began.0)) plain,
+        at_most_at q.tasks h.tasks (at_most_same (make_task i Break d ∷ a.printer.tasks) a.visits),
       );
-  at_least = trial_begins a.printer q i d a.visits o e s;
+  at_least = trial_begins a.printer q i d a.visits h.options h.tasks h.state;
 }
 
 -- a turn that goes on within the width
@@ -88,8 +89,7 @@ course_past {N} {E} f {t} {below} {a} {b} on l h past =
       wrote = e.out_is;
       failures = k.1.1;
       rejected = λ other. accept_past p.options p.within (trial_of p t.indent t.branch) other
-          (inside_past p.options (trial_of p t.indent t.branch) (work_limit p t.branch) p.tasks (known t.start.sink.bytes) b.printer.tasks
-          (state_at b.printer) (known b.sink.bytes) e past);
+          (inside_past e past);
       rise = path.rise;
       at_most = λ began. (path.at_most began).1;
     }
@@ -99,12 +99,10 @@ pub course_chosen : {N E : Type 0} (f : N → Tree) {t : Attempt} {below : ℕ} 
     → below < length a.printer.tasks → Advances {N = N} {E = E} f a b (Ok (turn_result.Choice i x y)) →
     AtChoice t i (f x) (f y) b × (2 * (size (f x) + size (f y)) + work_at b < work_at a)
 course_chosen {N} {E} f {t} {below} {a} {b} i x y on l h =
-    let r = trial_run t in
     let path = on.path in
     let less : length t.start.printer.tasks < length a.printer.tasks = omega (arith, l, on.height) in
     let k = path.bytes on.is_known in
-    let e = at_run r a.printer (known t.start.sink.bytes) (known a.sink.bytes)
-    (λ o. Goes f o b.printer (known b.sink.bytes) (turn_result.Choice i x y)) path.options less k.1.0 (h.bytes k.0).1.0 in (
+    let e = at_run (λ o. Goes f o b.printer (known b.sink.bytes) (turn_result.Choice i x y)) path less on.is_known (h.bytes k.0).1.0 in (
       record {
         is_known = (h.bytes k.0).0;
         waiting = comes_to_wait f i x y path less h (omega (arith, ap length e.stack_is, length-append e.above t.start.printer.tasks));
@@ -155,29 +153,30 @@ course_unfit {t} {below} {a} on l unfit =
       at_most = λ began. (path.at_most began).1;
     }
 
--- what fell, or waits for a choice, may break off
+-- what is rejected, or waits for a choice, may end in an error
 pub fallen_broke : {t : Attempt} {b : Point} → Fallen t b → TrialBroke t b
 fallen_broke {t} {b} h = record { rise = h.rise; at_most = λ began. at_most_all (h.at_most began) }
 
 pub choice_broke : {t : Attempt} (i : ℕ) (x y : Tree) {b : Point} → AtChoice t i x y b → TrialBroke t b
 choice_broke {t} i x y {b} h = record { rise = h.waiting.rise; at_most = λ began. at_most_all (h.waiting.at_most began).3 }
 
--- it is taken back
-pub trial_undone : {E : Type 0} {t : Attempt} {b : Point} (m : Mark) (r : Standing) (s : Seen) → Fallen t b
-    → Marks m t.start.printer t.start.sink → Restores m b.printer r →
-    known s.bytes ≡ take m.written (known b.sink.bytes) → s.failures ≡ b.sink.failures → Tries {E = E} t.indent t.branch t.start
-    (point_at r s b.visits) (Ok false)
-trial_undone {E} {t} {b} m r s fell marks back cut failures =
+-- A sink was cut back to where a mark was set.
+pub record CutBack (m : Mark) (s t : Seen) : Type 0 where
+  pub is_known : IsSome t.bytes
+  pub bytes : known t.bytes ≡ take m.written (known s.bytes)
+  pub failures : t.failures ≡ s.failures
+  pub lender : t.lender ≡ s.lender
+
+-- it is undone
+pub trial_undone : {E : Type 0} {t : Attempt} {b : Point} {m : Mark} {s : Seen} (r : Standing) → Fallen t b
+    → Marks m t.start.printer t.start.sink → Restores m b.printer r → CutBack m b.sink s →
+    Tries {E = E} t.indent t.branch t.start (point_at r s b.visits) (Ok false)
+trial_undone {E} {t} {b} {m} {s} r fell marks back cut =
     let p = t.start.printer in
-    let old = known t.start.sink.bytes in
-    let out = known b.sink.bytes in
-    let cut' : known s.bytes ≡ take (length old) out = cut ∙ ap (λ (n : ℕ). take n out) marks.written in
-    let did : TrialDid p r t.indent t.branch old (known s.bytes) false =
-    trial_rejected p b.printer r t.indent t.branch m t.start.sink old out (known s.bytes) fell.bytes marks fell.above fell.stack
-    fell.options fell.grows back fell.wrote cut' fell.rejected in
+    let did = trial_rejected r (known s.bytes) fell marks back cut.bytes in
     record {
       decided = did;
-      failures = failures ∙ fell.failures;
+      failures = cut.failures ∙ fell.failures;
       rise = fell.rise;
       at_most = λ plain none. (
         plain_at p r did.0 did.5.1 plain,
@@ -187,32 +186,22 @@ trial_undone {E} {t} {b} m r s fell marks back cut failures =
     }
 
 -- it is kept
-pub trial_over : {E : Type 0} {t : Attempt} {b : Point} (r : Standing) → Lasts t b →
-    r.tasks ≡ b.printer.tasks → state_at r ≡ record {
-      column = b.printer.column;
-      pending = (state_at b.printer).pending;
-      within =
-          t.start.printer.within;
-    } →
-    r.options ≡ b.printer.options → QueueGrows t.start.printer r → Tries {E = E} t.indent t.branch t.start (point_at r b.sink b.visits)
-    (Ok true)
-trial_over {E} {t} {b} r lasts e s o grows =
+pub trial_over : {E : Type 0} {t : Attempt} {b : Point} {r : Standing} → Lasts t b → Flagged t.start.printer.within b.printer r →
+    Tries {E = E} t.indent t.branch t.start (point_at r b.sink b.visits) (Ok true)
+trial_over {E} {t} {b} {r} lasts kept =
     let p = lasts.path in
-    let a = t.start in
-    let h = p.bytes lasts.is_known in
     record {
-      decided = trial_kept a.printer b.printer r t.indent t.branch (known a.sink.bytes) (known b.sink.bytes) h.1.0 lasts.ended lasts.within
-          lasts.fits e s (o ∙ p.options) grows;
-      failures = h.1.1;
+      decided = trial_kept lasts kept;
+      failures = (p.bytes lasts.is_known).1.1;
       rise = p.rise;
       at_most = λ plain none.
           let y = p.at_most (began_plain t plain none) in (
             record {
-              none = ap suffix_depths e ∙ y.0.none;
-              pending = ap (λ (z : State). z.pending) s
+              none = ap suffix_depths kept.tasks ∙ y.0.none;
+              pending = ap (λ (z : State). z.pending) kept.state
                   ∙ y.0.pending;
             },
-            at_most_at r.tasks e y.1,
+            at_most_at r.tasks kept.tasks y.1,
           );
-      at_least = at_least_end b.printer (length a.printer.tasks) lasts.ended p.at_least;
+      at_least = at_least_end b.printer (length t.start.printer.tasks) lasts.ended p.at_least;
     }

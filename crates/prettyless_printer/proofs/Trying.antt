@@ -1,12 +1,13 @@
--- A trial: begun, on its way, kept or taken back.
+-- A trial: begun, on its way, kept or undone.
 use Rattle.std.proofs.Common.{◌≡◌, ℕ, ◌≤◌, List, [], ◌∷◌, ◌++◌, length, refl, ap, sym, ◌∙◌, append_assoc, append-nil, length-append, arith}
-use Rattle.std.proofs.Common.{Bool, true, false, ◌&&◌, subst, take, drop, if◌then◌else◌}
+use Rattle.std.proofs.Common.{Bool, true, false, ◌&&◌, subst, take, drop, if◌then◌else◌, Ok}
 use Rattle.std.specs.String.{string_bytes}
 use Rattle.std.proofs.lemmas.List.{take_at}
 use Rattle.std.proofs.lemmas.Str.{IsUtf8-string_bytes, IsCharBoundary-from_take}
 use Rattle.std.specs.Str.{IsUtf8}
 use Rattle.std.specs.String.Boundary.{IsSplitPoint}
 use Rattle.std.specs.declared.string.String.{String}
+use Rattle.prettyless_sink.specs.Sink.{known}
 use Rattle.prettyless_model.specs.declared.options.RenderOptions.{RenderOptions}
 use Rattle.prettyless_model.specs.Tree.{Tree}
 use Rattle.prettyless_model.specs.Column.{padding_fits}
@@ -17,9 +18,10 @@ use Rattle.prettyless_model.proofs.Outcomes.{after-nil, then-done}
 use Rattle.prettyless_probe.specs.Stack.{Task, make_task, follow}
 use Rattle.prettyless_step.specs.Steps.{lay_all, owed}
 use Rattle.prettyless_printer.specs.Progress.{Inside, Waits, Decides}
-use Rattle.prettyless_printer.specs.Points.{Standing, state_at, QueueBegins, QueueGrows, Seen, seen}
-use Rattle.prettyless_printer.specs.Trials.{Marks, Restores, TrialDid, work_limit, trial_of}
+use Rattle.prettyless_printer.specs.Points.{Standing, state_at, QueueBegins, QueueGrows, Seen, Point}
+use Rattle.prettyless_printer.specs.Trials.{Attempt, Fallen, Lasts, Marks, Restores, TrialDid, Tries, work_limit, trial_of}
 use Rattle.prettyless_printer.proofs.Progresses.{waits_kept, waits_other, inside_end}
+use Rattle.prettyless_printer.proofs.Standings.{Flagged, Pushed}
 use Rattle.prettyless_printer.proofs.Turnings.{inside_at}
 use Rattle.prettyless_printer.specs.declared.trial.Mark.{Mark}
 
@@ -57,6 +59,15 @@ grows-grows p q r a b = begins-grows p.queue q r a b
 pub grows_same : (p : Standing) → QueueGrows p p
 grows_same p = ([], sym (append-nil p.queue))
 
+-- the flag alone is another one
+pub flagged : (flag : Bool) (p : Standing) → Flagged flag p (record p { within = flag })
+flagged flag p = record { tasks = refl; state = refl; options = refl; grows = grows_same p }
+
+-- a task alone is pushed
+pub pushed : {t : Task} {p : Standing} (q : Standing) → q.tasks ≡ t ∷ p.tasks → q.queue ≡ p.queue → state_at q ≡ state_at p
+    → q.options ≡ p.options → Pushed t p q
+pushed {t} {p} q e g h o = record { tasks = e; state = h; options = o; grows = ([], g ∙ sym (append-nil p.queue)) }
+
 -- what was added since the mark is all that the queue has more
 pub queue_marked : (p q : Standing) (m : Mark) (s : Seen) → Marks m p s → QueueGrows p q → m.queue.len ≤ length q.queue
 queue_marked p q m s e g = omega (arith, e.queued, ap length g.1, length-append p.queue g.0)
@@ -75,19 +86,20 @@ restored p q r m s e g h =
     let o : r.within ≡ p.within = h.4 ∙ e.within in
     λ j. record { column = c j; pending = a j; within = o j }
 
--- a trial that is taken back: what it wrote is cut off, and its outcome is not accepted
-pub trial_rejected : (p q r : Standing) (i : ℕ) (d : Tree) (m : Mark) (s : Seen) (old out new bytes : List ℕ) → Marks m p s →
-    (above : List Task) → q.tasks ≡ above ++ p.tasks → q.options ≡ p.options → QueueGrows p q → Restores m q r →
-    out ≡ old ++ bytes → new ≡ take (length old) out →
-    ((other : Outcome) → accept p.options p.within (trial_of p i d) other ≡ other) → TrialDid p r i d old new false
-trial_rejected p q r i d m seen old out new bytes e above k w g h b t rejected =
-    let s : state_at r ≡ state_at p = restored p q r m seen e g h in (
-      h.0 above p.tasks k (sym e.commands),
-      h.5 ∙ w,
-      ([], restored_queue p q r m seen e g h ∙ sym (append-nil p.queue)),
-      h.4 ∙ e.within,
+-- a trial that is undone: what it wrote is cut off, and its outcome is not accepted
+pub trial_rejected : {t : Attempt} {b : Point} {m : Mark} (r : Standing) (new : List ℕ) → Fallen t b → Marks m t.start.printer t.start.sink
+    → Restores m b.printer r → new ≡ take m.written (known b.sink.bytes) →
+    TrialDid t.start.printer r t.indent t.branch (known t.start.sink.bytes) new false
+trial_rejected {t} {b} {m} r new fell marks back cut =
+    let p = t.start.printer in
+    let old = known t.start.sink.bytes in
+    let s : state_at r ≡ state_at p = restored p b.printer r m t.start.sink marks fell.grows back in (
+      back.0 fell.above p.tasks fell.stack (sym marks.commands),
+      back.5 ∙ fell.options,
+      ([], restored_queue p b.printer r m t.start.sink marks fell.grows back ∙ sym (append-nil p.queue)),
+      back.4 ∙ marks.within,
       omega (arith, ap (λ (x : State). owed x.pending) s),
-      (t ∙ ap (take (length old)) b ∙ take_at old bytes (length old) refl, s, rejected),
+      (cut ∙ ap (take m.written) fell.wrote ∙ take_at old fell.bytes m.written (sym marks.written), s, fell.rejected),
     )
 
 none_above : (above below stack : List Task) → stack ≡ above ++ below → length stack ≤ length below → stack ≡ below
@@ -99,7 +111,7 @@ pub trial_ends : (p q : Standing) (i : ℕ) (d : Tree) (old out : List ℕ) → 
     (q.tasks ≡ p.tasks) × (bytes : List ℕ) × (out ≡ old ++ bytes) × (trial_of p i d ≡ Done bytes (state_at q))
     × (owed (state_at q).pending ≤ work_limit p d)
 trial_ends p q i d old out y l =
-    let z = inside_end p.options (trial_of p i d) (work_limit p d) p.tasks old q.tasks (state_at q) out y l in
+    let z = inside_end y l in
     (none_above y.above p.tasks q.tasks y.stack_is l, z.0, z.1, z.2, z.3)
 
 -- at its end the padding does not fit
@@ -113,19 +125,25 @@ padding_rejects p q i d bytes e w h other =
     ∙ ap (λ (v : Bool). if v then Done bytes (record { column = q.column; pending = (state_at q).pending; within = p.within }) else other) h
 
 -- a trial that is kept
-pub trial_kept : (p q r : Standing) (i : ℕ) (d : Tree) (old out : List ℕ) → Trying p i d old q out → length q.tasks ≤ length p.tasks →
-    q.within ≡ true → padding_fits p.options.width (some_pending (state_at q).pending) q.column ≡ true →
-    r.tasks ≡ q.tasks → state_at r ≡ record { column = q.column; pending = (state_at q).pending; within = p.within } → r.options ≡ p.options
-    → QueueGrows p r → TrialDid p r i d old out true
-trial_kept p q r i d old out y l w h e s o g =
-    let z = trial_ends p q i d old out y l in
-    let kept : (other : Outcome) → accept p.options p.within (trial_of p i d) other ≡ Done z.1 (state_at r) = λ other.
+pub trial_kept : {t : Attempt} {b : Point} {r : Standing} → Lasts t b → Flagged t.start.printer.within b.printer r →
+    TrialDid t.start.printer r t.indent t.branch (known t.start.sink.bytes) (known b.sink.bytes) true
+trial_kept {t} {b} {r} lasts kept =
+    let p = t.start.printer in
+    let q = b.printer in
+    let path = lasts.path in
+    let z = trial_ends p q t.indent t.branch (known t.start.sink.bytes) (known b.sink.bytes) (path.bytes lasts.is_known).1.0 lasts.ended in
+    let done : Outcome → Bool → Outcome = λ other v. if v then Done z.1 (record (state_at q) { within = p.within }) else other in
+    let accepted : (other : Outcome) → accept p.options p.within (trial_of p t.indent t.branch) other ≡ Done z.1 (state_at r) = λ other.
     ap (λ (x : Outcome). accept p.options p.within x other) z.3
-    ∙ ap (λ (v : Bool). if v && padding_fits p.options.width (some_pending (state_at q).pending) q.column
-    then Done z.1 (record { column = q.column; pending = (state_at q).pending; within = p.within }) else other) w
-    ∙ ap (λ (v : Bool). if v then Done z.1 (record { column = q.column; pending = (state_at q).pending; within = p.within }) else other) h
-    ∙ ap (Done z.1) (sym s) in
-    (e ∙ z.0, o, g, ap (λ (x : State). x.within) s, omega (arith, z.4, ap (λ (x : State). owed x.pending) s), (z.1, z.2, kept))
+    ∙ ap (λ (v : Bool). done other (v && padding_fits p.options.width (some_pending (state_at q).pending) q.column)) lasts.within
+    ∙ ap (done other) lasts.fits ∙ ap (Done z.1) (sym kept.state) in (
+      kept.tasks ∙ z.0,
+      kept.options ∙ path.options,
+      begins-grows p.queue q r path.queue kept.grows,
+      ap (λ (x : State). x.within) kept.state,
+      omega (arith, z.4, ap (λ (x : State). owed x.pending) kept.state),
+      (z.1, z.2, accepted),
+    )
 
 -- what a trial decides, under options that are the same
 decides_at : (q r : Standing) (o : RenderOptions) (j : ℕ) (x : Tree) (kept : Bool) (old new : List ℕ) → q.options ≡ o →
@@ -135,33 +153,36 @@ decides_at q r o j x kept old new e h =
     subst (λ (z : RenderOptions). Decides kept z (lay z (settle z) x j Break (follow q.tasks) (tried (state_at q))) q.within old new
     (state_at q) (state_at r)) e h
 
--- a choice, and its trial kept
-pub choice_kept : (q r : Standing) (o : RenderOptions) (whole : Outcome) (limit : ℕ) (below : List Task) (old out : List ℕ) (j : ℕ)
-    (x y : Tree) (before after : List ℕ) →
-    Waits o whole limit below old j x y q.tasks (state_at q) out → q.options ≡ o → TrialDid q r j x before after true →
-    (bytes : List ℕ) × (after ≡ before ++ bytes) × Inside o whole limit below old r.tasks (state_at r) (out ++ bytes)
-choice_kept q r o whole limit below old out j x y before after h e d =
-    let k = decides_at q r o j x true before after e d.5 in (
-      k.0,
-      k.1,
-      inside_at o whole limit below old q.tasks r.tasks (state_at r) (state_at r) (out ++ k.0) (out ++ k.0) d.0 refl refl
-          (waits_kept o whole limit below old j x y q.tasks (state_at q) out h k.0 (state_at r)
-          (k.2 (lay o (settle o) y j Break (follow q.tasks) (state_at q))) d.4),
-    )
+module _ {E : Type 0} {o : RenderOptions} {whole : Outcome} {limit : ℕ} {below : List Task} {old out : List ℕ} {j : ℕ} {x y : Tree}
+    {a b : Point} where
+  -- a choice, and its trial kept
+  pub choice_kept : Tries {E = E} j x a b (Ok true) → Waits o whole limit below old j x y a.printer.tasks (state_at a.printer) out
+      → a.printer.options ≡ o → (bytes : List ℕ) × (known b.sink.bytes ≡ known a.sink.bytes ++ bytes)
+      × Inside o whole limit below old b.printer.tasks (state_at b.printer) (out ++ bytes)
+  choice_kept tries waits e =
+      let q = a.printer in
+      let d = tries.decided in
+      let k = decides_at q b.printer o j x true (known a.sink.bytes) (known b.sink.bytes) e d.5 in (
+        k.0,
+        k.1,
+        subst (λ (z : List Task). Inside o whole limit below old z (state_at b.printer) (out ++ k.0)) (sym d.0)
+            (waits_kept waits (k.2 (lay o (settle o) y j Break (follow q.tasks) (state_at q))) d.4),
+      )
 
--- a choice, and its trial not kept: the second branch comes next
-pub choice_other : (q r u : Standing) (o : RenderOptions) (whole : Outcome) (limit : ℕ) (below : List Task) (old out : List ℕ) (j : ℕ)
-    (x y : Tree) (before after : List ℕ) →
-    Waits o whole limit below old j x y q.tasks (state_at q) out → q.options ≡ o → TrialDid q r j x before after false →
-    u.tasks ≡ make_task j Break y ∷ r.tasks → state_at u ≡ state_at r →
-    (after ≡ before) × Inside o whole limit below old u.tasks (state_at u) out
-choice_other q r u o whole limit below old out j x y before after h e d a s =
-    let k = decides_at q r o j x false before after e d.5 in (
-      k.0,
-      inside_at o whole limit below old (make_task j Break y ∷ q.tasks) u.tasks (state_at q) (state_at u) out out
-          (a ∙ ap (λ (z : List Task). make_task j Break y ∷ z) d.0) (s ∙ k.1) refl
-          (waits_other o whole limit below old j x y q.tasks (state_at q) out h k.2),
-    )
+  -- a choice, and its trial rejected: the second branch comes next
+  pub choice_other : {q : Standing} → Tries {E = E} j x a b (Ok false)
+      → Waits o whole limit below old j x y a.printer.tasks (state_at a.printer) out → a.printer.options ≡ o
+      → Pushed (make_task j Break y) b.printer q
+      → (known b.sink.bytes ≡ known a.sink.bytes) × Inside o whole limit below old q.tasks (state_at q) out
+  choice_other {q} tries waits e pushed =
+      let d = tries.decided in
+      let k = decides_at a.printer b.printer o j x false (known a.sink.bytes) (known b.sink.bytes) e d.5 in (
+        k.0,
+        subst (λ (z : List Task). Inside o whole limit below old z (state_at q) out)
+            (sym (pushed.tasks ∙ ap (λ (z : List Task). make_task j Break y ∷ z) d.0))
+            (subst (λ (u : State). Inside o whole limit below old (make_task j Break y ∷ a.printer.tasks) u out)
+            (sym (pushed.state ∙ k.1)) (waits_other waits k.2)),
+      )
 
 -- a text may be cut where it ended before something was appended
 pub cut_back : {Z : Type 0} (old : List ℕ) (t : String Z) (n : ℕ) (bytes : List ℕ) → IsUtf8 old → n ≡ length old

@@ -1,4 +1,4 @@
--- A turn: the node in hand is stepped, and its piece is written.
+-- A turn: the current node is stepped, and its piece is written.
 use Rattle.std.proofs.Common.{◌≡◌, ℕ, ◌+◌, ◌*◌, ◌≤◌, ◌<◌, List, ◌∷◌, ◌++◌, length, ap, sym, ◌∙◌, append_assoc, arith, subst}
 use Rattle.std.proofs.lemmas.List.{append_cancel_left}
 use Rattle.prettyless_sink.specs.Sink.{AppendsBeginning}
@@ -66,7 +66,7 @@ pub went : (o : RenderOptions) (whole : Outcome) (limit : ℕ) (below : List Tas
     Inside o whole limit below old (t ∷ ts) st out → Leads (step_at o t ts st) ts bytes us u
     → Inside o whole limit below old us u (out ++ bytes)
 went o whole limit below old t ts us st u out bytes l p h = went_by o whole limit below old ts us st u out bytes (step_at o t ts st)
-    (stepping o whole limit below old t ts st out l p) h
+    (stepping l p) h
 
 failed_by : (o : RenderOptions) (whole : Outcome) (limit : ℕ) (below : List Task) (old : List ℕ) (ts : List Task) (st : State)
     (out : List ℕ) (step : Step) →
@@ -82,7 +82,7 @@ pub failed : (o : RenderOptions) (whole : Outcome) (limit : ℕ) (below : List T
     Inside o whole limit below old (t ∷ ts) st out → IsStuck (step_at o t ts st) → (bytes : List ℕ) × (above : List Task)
     × (out ≡ old ++ bytes) × (whole ≡ Failed bytes) × (ts ≡ above ++ below)
 failed o whole limit below old t ts st out l p h = failed_by o whole limit below old ts st out (step_at o t ts st)
-    (stepping o whole limit below old t ts st out l p) h
+    (stepping l p) h
 
 chosen_by : (o : RenderOptions) (whole : Outcome) (limit : ℕ) (below : List Task) (old : List ℕ) (ts : List Task) (st : State)
     (out : List ℕ) (i : ℕ) (x y : Tree) (step : Step) →
@@ -99,7 +99,7 @@ pub chosen : (o : RenderOptions) (whole : Outcome) (limit : ℕ) (below : List T
     (out : List ℕ) (i : ℕ) (x y : Tree) → length below ≤ length ts →
     Inside o whole limit below old (t ∷ ts) st out → Asks (step_at o t ts st) i x y → Waits o whole limit below old i x y ts st out
 chosen o whole limit below old t ts st out i x y l p h = chosen_by o whole limit below old ts st out i x y (step_at o t ts st)
-    (stepping o whole limit below old t ts st out l p) h
+    (stepping l p) h
 
 -- a beginning of the next piece, after what was written, is a beginning of the whole
 pub beginning_less : (old out new b text : List ℕ) → AppendsBeginning out new b → AppendsBeginning old (out ++ b) text → (front : List ℕ)
@@ -121,5 +121,5 @@ pub sink_broke : (o : RenderOptions) (whole : Outcome) (limit : ℕ) (below : Li
     → AppendsBeginning old new (bytes_before whole)
 sink_broke o whole limit below old t ts us st u out bytes new l p h part =
     beginning_less old out new bytes (bytes_before whole) part
-    (inside_beginning o whole limit below old us u (out ++ bytes) (went o whole limit below old t ts us st u out bytes l p h))
+    (inside_beginning (went o whole limit below old t ts us st u out bytes l p h))
     (p.bytes, p.out_is)

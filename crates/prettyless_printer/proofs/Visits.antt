@@ -12,7 +12,7 @@ use Rattle.prettyless_model.specs.Tree.{PartialUnion, OnColumn, OnNesting, size,
 use Rattle.prettyless_model.specs.Content.{suffix_depth}
 use Rattle.prettyless_model.specs.Choice.{column_holds, nesting_holds}
 use Rattle.prettyless_model.specs.Column.{prospective}
-use Rattle.prettyless_model.specs.Layout.{State, Done, Entry, lay_text, lay_ending, next_indent, is_suppressed, plain_break, probe}
+use Rattle.prettyless_model.specs.Layout.{State, Done, Entry, lay_text, lay_ending, next_indent, is_suppressed, probe}
 use Rattle.prettyless_model.specs.declared.mode.Mode.{Mode}
 use Rattle.prettyless_model.specs.declared.mode.Mode.TheVariants.{Break, Flat}
 use Rattle.prettyless_probe.specs.Stack.{Task, make_task, follow, nodes}
@@ -53,29 +53,11 @@ visited_more-zero v h =
 
 -- what a node asks for is most by it
 pub asked_at_most : (d : Tree) (m : Mode) (k n : ℕ) → size d + k ≤ n → asked d m k ≤ n * probed d
-asked_at_most Nil m k n h = omega arith
-asked_at_most Fail m k n h = omega arith
-asked_at_most (Text s) m k n h = omega arith
-asked_at_most (TextWithLen w s) m k n h = omega arith
-asked_at_most (MultilineText s) m k n h = omega arith
-asked_at_most WeakSpace m k n h = omega arith
-asked_at_most HardLine m k n h = omega arith
-asked_at_most WeakLine m k n h = omega arith
-asked_at_most (Append l r) m k n h = omega arith
-asked_at_most (LineSuffix d) m k n h = omega arith
-asked_at_most (Nest i d) m k n h = omega arith
-asked_at_most (DedentToRoot d) m k n h = omega arith
-asked_at_most (Align d) m k n h = omega arith
-asked_at_most ExpandParent m k n h = omega arith
-asked_at_most (Flatten d) m k n h = omega arith
-asked_at_most (BreakOrFlat b f) m k n h = omega arith
 asked_at_most (Group d) Break k n h = omega arith
 asked_at_most (Group d) Flat k n h = omega arith
-asked_at_most (Union l r) m k n h = omega arith
 asked_at_most (PartialUnion l r) Break k n h = omega arith
 asked_at_most (PartialUnion l r) Flat k n h = omega arith
-asked_at_most (OnColumn test l r) m k n h = omega arith
-asked_at_most (OnNesting test l r) m k n h = omega arith
+asked_at_most _ m k n h = omega arith
 
 -- a step of a node that asked for a, in what a node may ask for
 abbrev StepAtMost : ℕ → ℕ → ℕ → Step → Type 0
@@ -83,73 +65,74 @@ StepAtMost n a most (Move b pushed u) = (suffix_depths pushed ≡ 0) × (u.pendi
 StepAtMost n a most Stuck = Unit {0}
 StepAtMost n a most (Choose i l r) = (suffix_depth l ≡ 0) × (suffix_depth r ≡ 0) × (a + (n * probed l + n * probed r) ≤ most)
 
-text_at_most : (o : RenderOptions) (w : ℕ) (s : List ℕ) (st : State) (n : ℕ) → st.pending ≡ []
-    → StepAtMost n 0 (n * 0) (at_once (lay_text o w s st))
-text_at_most o w [] st n h = (refl, h, omega arith)
-text_at_most o w (b ∷ bs) st n h = (refl, h, omega arith)
-
-ending_at_most : (o : RenderOptions) (p : IndentationPolicy) (k : ℕ) (st : State) (n : ℕ) → st.pending ≡ []
-    → StepAtMost n 0 (n * 0) (at_once (lay_ending o p k st))
-ending_at_most o Eager k st n h = (refl, h, omega arith)
-ending_at_most o Deferred k st n h = (refl, h, omega arith)
-
-plain_at_most : (o : RenderOptions) (d : Tree) (i : ℕ) (rest : List Entry) (st : State) (n : ℕ) → st.pending ≡ []
-    → StepAtMost n 0 (n * 0) (at_once (plain_break o d i rest st))
-plain_at_most o d i rest st n h =
-    elim (is_suppressed d st.column) as
-    (λ v. StepAtMost n 0 (n * 0) (at_once (if v then Done [] st else lay_ending o o.indentation_policy (next_indent i rest) st)))
-    [ true ↦ (refl, h, omega arith) | false ↦ ending_at_most o o.indentation_policy (next_indent i rest) st n h ]
-
-break_at_most : (o : RenderOptions) (ps : List Tree) (d : Tree) (i : ℕ) (m : Mode) (rest : List Entry) (st : State) (n : ℕ) → ps ≡ []
-    → st.pending ≡ [] → StepAtMost n 0 (n * 0) (break_step o ps d i m rest st)
-break_at_most o [] d i m rest st n e h = plain_at_most o d i rest st n h
-break_at_most o (p ∷ ps) d i m rest st n e h = absurd (cc)
-
 -- one of two nodes
-either_at_most : (l r : Tree) (i : ℕ) (m : Mode) (st : State) (n a most : ℕ) (v : Bool) → suffix_depth l ≡ 0 → suffix_depth r ≡ 0
-    → st.pending ≡ [] → a + (n * probed l + n * probed r) ≤ most
-    → StepAtMost n a most (Move [] (make_task i m (if v then l else r) ∷ []) st)
-either_at_most l r i m st n a most true x y h k = (omega arith, h, omega arith)
-either_at_most l r i m st n a most false x y h k = (omega arith, h, omega arith)
+either_at_most : (n : ℕ) (l r : Tree) (i : ℕ) (m : Mode) (v : Bool) → suffix_depth l + suffix_depth r ≡ 0 →
+    (suffix_depths (make_task i m (if v then l else r) ∷ []) ≡ 0)
+    × (charges n (make_task i m (if v then l else r) ∷ []) ≤ n * probed l + n * probed r)
+either_at_most n l r i m true h = (omega (arith, h), omega arith)
+either_at_most n l r i m false h = (omega (arith, h), omega arith)
 
-union_at_most : (l r : Tree) (i : ℕ) (st : State) (n most : ℕ) (v : Option Bool) → suffix_depth l ≡ 0 → suffix_depth r ≡ 0 → st.pending ≡ []
-    → n * probed l + n * probed r ≤ most → StepAtMost n 0 most (union_step v l r i st)
-union_at_most l r i st n most (Some v) x y h k = either_at_most l r i Break st n 0 most v x y h (omega (arith, k))
-union_at_most l r i st n most None x y h k = (x, y, omega (arith, k))
+-- # One step
 
-step_at_most : (o : RenderOptions) (d : Tree) (i : ℕ) (m : Mode) (rest : List Entry) (st : State) (n k : ℕ) → suffix_depth d ≡ 0
-    → st.pending ≡ [] → size d + k ≤ n → StepAtMost n (asked d m k) (n * probed d) (step_of o d i m rest st)
-step_at_most o Nil i m rest st n k z h l = (refl, h, omega arith)
-step_at_most o Fail i m rest st n k z h l = tt
-step_at_most o (Text s) i m rest st n k z h l = text_at_most o (length s) s st n h
-step_at_most o (TextWithLen w s) i m rest st n k z h l = text_at_most o w s st n h
-step_at_most o (MultilineText s) i Break rest st n k z h l = (refl, h, omega arith)
-step_at_most o (MultilineText s) i Flat rest st n k z h l = tt
-step_at_most o WeakSpace i m rest st n k z h l = (refl, h, omega arith)
-step_at_most o HardLine i Break rest st n k z h l = break_at_most o st.pending HardLine i Break rest st n h h
-step_at_most o HardLine i Flat rest st n k z h l = tt
-step_at_most o WeakLine i m rest st n k z h l = break_at_most o st.pending WeakLine i m rest st n h h
-step_at_most o (Append a b) i m rest st n k z h l = (omega arith, h, omega arith)
-step_at_most o (LineSuffix d) i m rest st n k z h l = absurd (omega arith)
-step_at_most o (Nest j d) i m rest st n k z h l = (omega arith, h, omega arith)
-step_at_most o (DedentToRoot d) i m rest st n k z h l = (omega arith, h, omega arith)
-step_at_most o (Align d) i m rest st n k z h l = (omega arith, h, omega arith)
-step_at_most o ExpandParent i m rest st n k z h l = (refl, h, omega arith)
-step_at_most o (Flatten d) i m rest st n k z h l = (omega arith, h, omega arith)
-step_at_most o (BreakOrFlat b f) i Break rest st n k z h l = (omega arith, h, omega arith)
-step_at_most o (BreakOrFlat b f) i Flat rest st n k z h l = (omega arith, h, omega arith)
-step_at_most o (Group d) i Break rest st n k z h l = (omega arith, h, omega arith)
-step_at_most o (Group d) i Flat rest st n k z h l = (omega arith, h, omega arith)
-step_at_most o (Union a b) i Break rest st n k z h l = union_at_most a b i st n (n * (probed a + probed b)) (decided_by_metrics o a st)
-    (omega arith) (omega arith) h (omega arith)
-step_at_most o (Union a b) i Flat rest st n k z h l = (omega arith, h, omega arith)
-step_at_most o (PartialUnion a b) i Break rest st n k z h l = either_at_most a b i Break st n (size a + k) (n * (probed a + probed b + 1))
-    (probe o a i Break rest st) (omega arith) (omega arith) h (omega arith)
-step_at_most o (PartialUnion a b) i Flat rest st n k z h l = (omega arith, h, omega arith)
-step_at_most o (OnColumn test a b) i m rest st n k z h l = either_at_most a b i m st n 0 (n * (probed a + probed b))
-    (column_holds test (prospective st.column) i) (omega arith) (omega arith) h (omega arith)
-step_at_most o (OnNesting test a b) i m rest st n k z h l = either_at_most a b i m st n 0 (n * (probed a + probed b)) (nesting_holds test i)
-    (omega arith) (omega arith) h (omega arith)
+-- a step, with no document pending
+module _ (o : RenderOptions) (ts : List Task) (st : State) (n : ℕ) (none : st.pending ≡ []) where
+  text_at_most : (w : ℕ) (s : List ℕ) → StepAtMost n 0 (n * 0) (at_once (lay_text o w s st))
+  text_at_most w [] = (refl, none, omega arith)
+  text_at_most w (b ∷ bs) = (refl, none, omega arith)
+
+  ending_at_most : (p : IndentationPolicy) (k : ℕ) → StepAtMost n 0 (n * 0) (at_once (lay_ending o p k st))
+  ending_at_most Eager k = (refl, none, omega arith)
+  ending_at_most Deferred k = (refl, none, omega arith)
+
+  break_at_most : (ps : List Tree) (d : Tree) (i : ℕ) (m : Mode) → ps ≡ [] → StepAtMost n 0 (n * 0) (break_step o ps d i m (follow ts) st)
+  break_at_most [] d i m e =
+      elim (is_suppressed d st.column) as
+      (λ v. StepAtMost n 0 (n * 0) (at_once (if v then Done [] st else lay_ending o o.indentation_policy (next_indent i (follow ts)) st)))
+      [ true ↦ (refl, none, omega arith) | false ↦ ending_at_most o.indentation_policy (next_indent i (follow ts)) ]
+  break_at_most (p ∷ ps) d i m e = absurd (cc)
+
+  union_at_most : (l r : Tree) (i : ℕ) (v : Option Bool) → suffix_depth l + suffix_depth r ≡ 0
+      → StepAtMost n 0 (n * (probed l + probed r)) (union_step v l r i st)
+  union_at_most l r i (Some v) h =
+      let e = either_at_most n l r i Break v h in
+      (e.0, none, omega (arith, e.1))
+  union_at_most l r i None h = (omega (arith, h), omega (arith, h), omega arith)
+
+  step_at_most : (d : Tree) (i : ℕ) (m : Mode) → suffix_depth d ≡ 0 → size d + nodes ts ≤ n
+      → StepAtMost n (asked d m (nodes ts)) (n * probed d) (step_of o d i m (follow ts) st)
+  step_at_most Nil i m z l = (refl, none, omega arith)
+  step_at_most Fail i m z l = tt
+  step_at_most (Text s) i m z l = text_at_most (length s) s
+  step_at_most (TextWithLen w s) i m z l = text_at_most w s
+  step_at_most (MultilineText s) i Break z l = (refl, none, omega arith)
+  step_at_most (MultilineText s) i Flat z l = tt
+  step_at_most WeakSpace i m z l = (refl, none, omega arith)
+  step_at_most HardLine i Break z l = break_at_most st.pending HardLine i Break none
+  step_at_most HardLine i Flat z l = tt
+  step_at_most WeakLine i m z l = break_at_most st.pending WeakLine i m none
+  step_at_most (Append a b) i m z l = (omega arith, none, omega arith)
+  step_at_most (LineSuffix d) i m z l = absurd (omega arith)
+  step_at_most (Nest j d) i m z l = (omega arith, none, omega arith)
+  step_at_most (DedentToRoot d) i m z l = (omega arith, none, omega arith)
+  step_at_most (Align d) i m z l = (omega arith, none, omega arith)
+  step_at_most ExpandParent i m z l = (refl, none, omega arith)
+  step_at_most (Flatten d) i m z l = (omega arith, none, omega arith)
+  step_at_most (BreakOrFlat b f) i Break z l = (omega arith, none, omega arith)
+  step_at_most (BreakOrFlat b f) i Flat z l = (omega arith, none, omega arith)
+  step_at_most (Group d) i Break z l = (omega arith, none, omega arith)
+  step_at_most (Group d) i Flat z l = (omega arith, none, omega arith)
+  step_at_most (Union a b) i Break z l = union_at_most a b i (decided_by_metrics o a st) (omega arith)
+  step_at_most (Union a b) i Flat z l = (omega arith, none, omega arith)
+  step_at_most (PartialUnion a b) i Break z l =
+      let e = either_at_most n a b i Break (probe o a i Break (follow ts) st) (omega arith) in
+      (e.0, none, omega (arith, e.1))
+  step_at_most (PartialUnion a b) i Flat z l = (omega arith, none, omega arith)
+  step_at_most (OnColumn test a b) i m z l =
+      let e = either_at_most n a b i m (column_holds test (prospective st.column) i) (omega arith) in
+      (e.0, none, omega (arith, e.1))
+  step_at_most (OnNesting test a b) i m z l =
+      let e = either_at_most n a b i m (nesting_holds test i) (omega arith) in
+      (e.0, none, omega (arith, e.1))
 
 suffixes-append : (ts us : List Task) → suffix_depths (ts ++ us) ≡ suffix_depths ts + suffix_depths us
 suffixes-append [] us = omega arith
@@ -176,66 +159,63 @@ Stepped o t ts st step =
 stepped : (o : RenderOptions) (t : Task) (ts : List Task) (st : State) → NoSuffix (t ∷ ts) st → Stepped o t ts st (step_at o t ts st)
 stepped o t ts st plain = (
   step_less_visits o t.tree t.indent t.mode (follow ts) st,
-  λ n l. step_at_most o t.tree t.indent t.mode (follow ts) st n (nodes ts) (omega (arith, plain.0)) plain.1 l,
+  λ n l. step_at_most o ts st n plain.1 t.tree t.indent t.mode (omega (arith, plain.0)) l,
 )
 
-went_by : (o : RenderOptions) (t : Task) (ts us : List Task) (st u : State) (bytes : List ℕ) (v w : Visits) (step : Step) →
-    OneMore o t ts st v w → NoSuffix (t ∷ ts) st → Stepped o t ts st step → Leads step ts bytes us u → NoSuffix us u
-    × CountsAtMost (t ∷ ts) us v w
-went_by o t ts us st u bytes v w (Move b pushed x) more plain s h =
-    let a = s.1 (size t.tree + nodes ts) (omega arith) in
-    let none : owed st.pending ≡ 0 = ap owed plain.1 in
-    let less : nodes pushed + 1 + extra (rejects_payload o t.tree t.mode st) ≤ size t.tree = omega (arith, s.0, none) in (
-      (omega (arith, ap suffix_depths h.1, suffixes-append pushed ts, a.0, plain.0), ap (λ (z : State). z.pending) h.2 ∙ a.1),
-      record {
-        left = omega (arith, less, ap nodes h.1, nodes-append pushed ts);
-        printer = omega (arith, less, more.printer, ap nodes h.1, nodes-append pushed ts);
-        probes = λ n l.
-            let k = s.1 n l in
-            omega (arith, k.2, more.probes, ap (charges n) h.1, charges-append n pushed ts);
-      },
-    )
-went_by o t ts us st u bytes v w Stuck more plain s h = absurd h
-went_by o t ts us st u bytes v w (Choose i x y) more plain s h = absurd h
-
-pub went_at_most : (o : RenderOptions) (t : Task) (ts us : List Task) (st u : State) (bytes : List ℕ) (v w : Visits) → OneMore o t ts st v w
-    → NoSuffix (t ∷ ts) st → Leads (step_at o t ts st) ts bytes us u →
+pub went_at_most : {o : RenderOptions} {t : Task} {ts : List Task} {st : State} {v w : Visits} (us : List Task) (u : State) (bytes : List ℕ)
+    → OneMore o t ts st v w → NoSuffix (t ∷ ts) st → Leads (step_at o t ts st) ts bytes us u →
     NoSuffix us u × CountsAtMost (t ∷ ts) us v w
-went_at_most o t ts us st u bytes v w more plain h = went_by o t ts us st u bytes v w (step_at o t ts st) more plain
-    (stepped o t ts st plain) h
+went_at_most {o} {t} {ts} {st} {v} {w} us u bytes more plain h = went (step_at o t ts st) (stepped o t ts st plain) h
+  where
+    went : (step : Step) → Stepped o t ts st step → Leads step ts bytes us u → NoSuffix us u × CountsAtMost (t ∷ ts) us v w
+    went (Move b pushed x) s h =
+        let a = s.1 (size t.tree + nodes ts) (omega arith) in
+        let less : nodes pushed + 1 + extra (rejects_payload o t.tree t.mode st) ≤ size t.tree = omega (arith, s.0, ap owed plain.1) in (
+          (omega (arith, ap suffix_depths h.1, suffixes-append pushed ts, a.0, plain.0), ap (λ (z : State). z.pending) h.2 ∙ a.1),
+          record {
+            left = omega (arith, less, ap nodes h.1, nodes-append pushed ts);
+            printer = omega (arith, less, more.printer, ap nodes h.1, nodes-append pushed ts);
+            probes = λ n l.
+                let k = s.1 n l in
+                omega (arith, k.2, more.probes, ap (charges n) h.1, charges-append n pushed ts);
+          },
+        )
+    went Stuck s h = absurd h
+    went (Choose i x y) s h = absurd h
 
-pub failed_at_most : (o : RenderOptions) (t : Task) (ts : List Task) (st : State) (v w : Visits) → OneMore o t ts st v w
+pub failed_at_most : {o : RenderOptions} {t : Task} {ts : List Task} {st : State} {v w : Visits} → OneMore o t ts st v w
     → CountsAtMost (t ∷ ts) ts v w
-failed_at_most o t ts st v w more = record {
+failed_at_most {o} {t} {ts} {st} {v} {w} more = record {
   left = omega arith;
   printer = omega (arith, more.printer, visits_within o t.tree t.mode st);
   probes = λ n l. omega (arith, asked_at_most t.tree t.mode (nodes ts) n l, more.probes);
 }
 
-chosen_by : (o : RenderOptions) (t : Task) (ts : List Task) (st : State) (i : ℕ) (x y : Tree) (v w : Visits) (step : Step) →
-    OneMore o t ts st v w → NoSuffix (t ∷ ts) st → Stepped o t ts st step → Asks step i x y →
-    (suffix_depth x ≡ 0) × (suffix_depth y ≡ 0) × CountsAtMost (t ∷ ts) (make_task i Break x ∷ make_task i Break y ∷ ts) v w
-chosen_by o t ts st i x y v w (Move b pushed u) more plain s h = absurd h
-chosen_by o t ts st i x y v w Stuck more plain s h = absurd h
-chosen_by o t ts st i x y v w (Choose j l r) more plain s h =
-    let z = s.1 (size t.tree + nodes ts) (omega arith) in
-    let less : size x + size y + 1 + extra (rejects_payload o t.tree t.mode st) ≤ size t.tree =
-    omega (arith, s.0, ap size h.1, ap size h.2) in (
-      ap suffix_depth h.1 ∙ z.0,
-      ap suffix_depth h.2 ∙ z.1,
-      record {
-        left = omega (arith, less);
-        printer = omega (arith, less, more.printer);
-        probes = λ n m.
-            let k = s.1 n m in
-            omega (arith, k.2, more.probes, ap (λ (d : Tree). n * probed d) h.1, ap (λ (d : Tree). n * probed d) h.2);
-      },
-    )
-
-pub chosen_at_most : (o : RenderOptions) (t : Task) (ts : List Task) (st : State) (i : ℕ) (x y : Tree) (v w : Visits)
+pub chosen_at_most : {o : RenderOptions} {t : Task} {ts : List Task} {st : State} {v w : Visits} (i : ℕ) (x y : Tree)
     → OneMore o t ts st v w → NoSuffix (t ∷ ts) st → Asks (step_at o t ts st) i x y →
     (suffix_depth x ≡ 0) × (suffix_depth y ≡ 0) × CountsAtMost (t ∷ ts) (make_task i Break x ∷ make_task i Break y ∷ ts) v w
-chosen_at_most o t ts st i x y v w more plain h = chosen_by o t ts st i x y v w (step_at o t ts st) more plain (stepped o t ts st plain) h
+chosen_at_most {o} {t} {ts} {st} {v} {w} i x y more plain h = asked (step_at o t ts st) (stepped o t ts st plain) h
+  where
+    asked : (step : Step) → Stepped o t ts st step → Asks step i x y →
+        (suffix_depth x ≡ 0) × (suffix_depth y ≡ 0) × CountsAtMost (t ∷ ts) (make_task i Break x ∷ make_task i Break y ∷ ts) v w
+    asked (Move b pushed u) s h = absurd h
+    asked Stuck s h = absurd h
+    asked (Choose j l r) s h =
+        let z = s.1 (size t.tree + nodes ts) (omega arith) in
+        let less : size x + size y + 1 + extra (rejects_payload o t.tree t.mode st) ≤ size t.tree =
+        omega (arith, s.0, ap size h.1, ap size h.2) in (
+          ap suffix_depth h.1 ∙ z.0,
+          ap suffix_depth h.2 ∙ z.1,
+          record {
+            left = omega (arith, less);
+            printer = omega (arith, less, more.printer);
+            probes = λ n m.
+                let k = s.1 n m in
+                omega (arith, k.2, more.probes, ap (λ (d : Tree). n * probed d) h.1, ap (λ (d : Tree). n * probed d) h.2);
+          },
+        )
+
+-- # Counts in a row
 
 pub rise_same : (v : Visits) → Rise v v
 rise_same v = record { printer = omega arith; probes = omega arith }

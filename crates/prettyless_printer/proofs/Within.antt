@@ -1,4 +1,4 @@
--- A text past the width: the flag stays down, and a trial is not kept.
+-- A text past the width: the flag stays down, and a trial is rejected.
 use Rattle.std.proofs.Common.{◌≡◌, ℕ, zero, suc, List, [], ◌∷◌, ◌++◌, length, refl, ap, Bool, true, false, ◌&&◌, nat_le, if◌then◌else◌}
 use Rattle.prettyless_model.specs.Spaces.{spaces}
 use Rattle.prettyless_model.specs.declared.options.RenderOptions.{RenderOptions}
@@ -131,7 +131,7 @@ all_past o (t ∷ ts) outer st h =
     past-then (lay o (settle o) t.tree t.indent t.mode (follow ts ++ outer) st) (λ u. lay_all o (settle o) ts outer u)
     (lay_past o (settle o) (settle_past o) t.tree t.indent t.mode (follow ts ++ outer) st h) (λ u q. all_past o ts outer u q)
 
--- what went past the width is not kept
+-- what went past the width is rejected
 pub accept_past : (o : RenderOptions) (was : Bool) (x other : Outcome) → Past x → accept o was x other ≡ other
 accept_past o was (Done b st) other h =
     ap (λ (v : Bool). if v && padding_fits o.width (some_pending st.pending) st.column

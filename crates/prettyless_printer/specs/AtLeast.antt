@@ -1,4 +1,4 @@
--- Counts from below: what tasks are still to count, and counts that keep up with it.
+-- Counts from below: what tasks are still to count, and lower bounds of the counts.
 use Rattle.std.specs.Prelude.{ℕ, ◌+◌, ◌<◌, nat_le, List, [], ◌∷◌, length, if◌then◌else◌, Result, Ok, Err, Bool, true, false}
 use Rattle.prettyless_model.specs.declared.options.RenderOptions.{RenderOptions}
 use Rattle.prettyless_sink.specs.declared.visits.Visits.{Visits}
@@ -34,7 +34,7 @@ tally_choice o n i x y ts st w =
 abbrev pub nothing_left : Weight → ℕ
 nothing_left w = 0
 
--- The counts keep up: with what is left to count they have no less than before, or are at the greatest value.
+-- Lower bounds of the counts: with what is left to count they have no less than before, or are at the greatest value.
 pub record CountsAtLeast (before left : Weight → ℕ) (v w : Visits) : Type 0 where
   pub printer : RisesBy (before each_node) v.printer (w.printer + left each_node)
   pub probes : RisesBy (before each_probe) v.probes (w.probes + left each_probe)
@@ -65,7 +65,7 @@ abbrev pub TrialCountsAtLeast : Standing → ℕ → Tree → Visits → Visits 
 TrialCountsAtLeast p i d v w true = CountsAtLeast (trial_tally p i d) nothing_left v w
 TrialCountsAtLeast p i d v w false = Unit {0}
 
--- A render counts at least the nodes that the layout lays, and at least the probes that it asks, up to the greatest count.
+-- A render counts at least the nodes that the layout lays, and at least the probes that it needs, up to the greatest count.
 pub record VisitedAtLeast (o : RenderOptions) (d : Tree) (v w : Visits) : Type 0 where
   pub printer : RisesBy (laid_nodes o d) v.printer w.printer
   pub probes : RisesBy (laid_probes o d) v.probes w.probes

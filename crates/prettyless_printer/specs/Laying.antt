@@ -14,7 +14,7 @@ use Rattle.prettyless_printer.specs.declared.answer.TurnResult.{TurnResult}
 use Rattle.prettyless_printer.specs.declared.answer.TurnResult.TheVariants.{Complete}
 use Rattle.prettyless_printer.specs.AtLeast.{CountsAtLeast, stack_tally, tally_above}
 
--- A turn that began at one point has come to another, with tasks above the stack; a node at least was visited.
+-- A turn that began at one point has reached another, with tasks above the stack; a node at least was visited.
 pub record Laying (a : Point) (us : List Task) (b : Point) : Type 0 where
   -- the options are the same, and the queue only grew
   pub options : b.printer.options ≡ a.printer.options
@@ -65,6 +65,6 @@ flat_tasks [] ds = map (make_task 0 Flat) ds
 flat_tasks (i ∷ is) [] = []
 flat_tasks (i ∷ is) (d ∷ ds) = make_task i Flat d ∷ flat_tasks is ds
 
--- a turn has come to a point with documents above the stack, each flat at some indent
+-- a turn has reached a point with documents above the stack, each flat at some indent
 abbrev pub Lays : Point → List Tree → Point → Type 0
 Lays a ds b = (is : List ℕ) × Laying a (flat_tasks is ds) b

@@ -63,8 +63,8 @@ abbrev pub below_all : List Held → ℕ
 below_all [] = 0
 below_all (u ∷ us) = below_last u us
 
--- Trials are open from the outermost one inwards, the first of them and then along a list, and a run has come to a point of the
--- innermost. If the outermost one is not kept, this branch comes next.
+-- Trials are open from the outermost one inwards, the first of them and then along a list, and a run has reached a point of the
+-- innermost. If the outermost one is rejected, this branch comes next.
 pub record OpenFrom (s : Attempt) (y : Tree) (u : Held) (us : List Held) (b : Point) : Type 0 where
   pub holds : HoldsTrial u s y
   pub trial : Attempt
@@ -89,7 +89,7 @@ pub record BeginsTrial (i : ℕ) (d : Tree) (p q : Standing) : Type 0 where
   pub options : q.options ≡ p.options
   pub grows : QueueGrows p q
 
--- A trial of a branch at an indent was taken back, and the second branch comes next.
+-- A trial of a branch at an indent was undone, and the second branch comes next.
 pub record ComesSecond (E : Type 0) (s : Attempt) (y : Tree) (b : Point) : Type 0 where
   pub back : Standing
   pub tries : Tries {E = E} s.indent s.branch s.start (point_at back b.sink b.visits) (Ok false)
@@ -98,7 +98,7 @@ pub record ComesSecond (E : Type 0) (s : Attempt) (y : Tree) (b : Point) : Type 
   pub options : b.printer.options ≡ back.options
   pub grows : QueueGrows back b.printer
 
--- what open trials came to, and those that are open then
+-- the result of open trials, and those that are open then
 abbrev pub Ends : {E : Type 0} → ℕ → Attempt → Tree → Point → List Held → Result TrialResult E → Type 0
 Ends {E} limit s y b us (Ok trial_result.Kept) = (us ≡ []) × Tries {E = E} s.indent s.branch s.start b (Ok true)
 Ends {E} limit s y b us (Ok trial_result.Rejected) = (us ≡ []) × ComesSecond E s y b

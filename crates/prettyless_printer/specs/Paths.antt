@@ -32,7 +32,7 @@ pub record Run : Type 0 where
   -- what it is to count
   pub tally : Weight → ℕ
 
--- A run of all commands. No trial is taken back past its beginning, so it need not keep what its queue has.
+-- A run of all commands. No trial is undone past its beginning, so it need not keep what its queue has.
 abbrev pub run_of : Point → Run
 run_of a = record {
   start = a;
@@ -48,7 +48,7 @@ run_of a = record {
 abbrev pub BeganPlain : Run → Type 0
 BeganPlain r = (suffix_depths r.first ≡ 0) × ((state_at r.start.printer).pending ≡ [])
 
--- A run has come to a point.
+-- A run has reached a point.
 pub record Path (r : Run) (b : Point) : Type 0 where
   -- the options are the same
   pub options : b.printer.options ≡ r.start.printer.options
@@ -93,7 +93,7 @@ pub record Waiting (r : Run) (i : ℕ) (x y : Tree) (b : Point) : Type 0 where
   -- what was laid is counted
   pub at_least : CountsAtLeast r.tally (choice_tally b.printer (length r.below) i x y) r.start.visits b.visits
 
--- A run that broke off.
+-- A run that ended in an error.
 pub record Broke {E : Type 0} (fails : E → Type 0) (r : Run) (e : RenderError E) (b : Point) : Type 0 where
   -- the sink writes through the same reference
   pub same_lender : b.sink.lender ≡ r.start.sink.lender
@@ -104,7 +104,7 @@ pub record Broke {E : Type 0} (fails : E → Type 0) (r : Run) (e : RenderError 
   -- without line suffixes, the nodes that it began with allow for the visits
   pub at_most : BeganPlain r → CountsAtMost r.first [] r.start.visits b.visits
 
--- A run goes on, or breaks off.
+-- A run goes on, or ends in an error.
 abbrev pub GoesOn : {A E : Type 0} → (E → Type 0) → Run → Point → Result A (RenderError E) → Type 0
 GoesOn fails r b (Ok x) = Path r b
 GoesOn fails r b (Err e) = Broke fails r e b
@@ -113,5 +113,5 @@ GoesOn fails r b (Err e) = Broke fails r e b
 pub record Chooses {A E : Type 0} (i : ℕ) (x y : Tree) (a b : Point) (r : Result A (RenderError E)) : Type 0 where
   -- there is no more work than with both branches
   pub lessens : OnOk r (work b.printer.tasks (state_at b.printer) ≤ 2 * (size x + size y) + work a.printer.tasks (state_at a.printer))
-  -- each run in which it waits goes on, or breaks off; no document fails by it
+  -- each run in which it comes next goes on, or ends in an error; no document fails by it
   pub runs : (run : Run) → Waiting run i x y a → GoesOn (λ _. ⊥) run b r

@@ -30,7 +30,7 @@ Stopped fails o old new n m (Document e) = (bytes : List ℕ) × (o ≡ Failed b
 Stopped fails o old new n m (Sink e) = AppendsBeginning old new (bytes_before o) × (m ≡ rise n)
 Stopped fails o old new n m (Memory e) = AppendsBeginning old new (bytes_before o) × (m ≡ n)
 
--- the commands are worked off: their bytes are written, and none is left
+-- the commands are laid: their bytes are written, and none is left
 abbrev pub WorkedOff : {A E : Type 0} → Standing → Standing → (E → Type 0) → List ℕ → List ℕ → ℕ → ℕ → Result A (RenderError E) → Type 0
 WorkedOff p q fails old new n m (Ok r) =
     (bytes : List ℕ) × (rest_of p ≡ Done bytes (state_at q)) × (new ≡ old ++ bytes) × (m ≡ n)
@@ -44,7 +44,7 @@ Flushed p old new n m (Err (Sink e)) = AppendsBeginning old new (spaces (gap p.c
 Flushed p old new n m (Err (Memory e)) = (new ≡ old) × (m ≡ n)
 
 -- A render: the layout's bytes on success; the bytes before the failing node where the document fails, with an error
--- that says so; a beginning where the sink fails, which raises its failures, or no memory is had, which does not.
+-- that says so; a beginning where the sink fails, which raises its failures, or memory is refused, which does not.
 abbrev pub Rendered : {A E : Type 0} → (E → Type 0) → Bytes → List ℕ → List ℕ → ℕ → ℕ → Result A (RenderError E) → Type 0
 Rendered fails y old new n m (Ok r) = (bytes : List ℕ) × (y ≡ Whole bytes) × (new ≡ old ++ bytes) × (m ≡ n)
 Rendered fails y old new n m (Err (Document e)) = (bytes : List ℕ) × (y ≡ Cut bytes) × (new ≡ old ++ bytes) × (m ≡ n) × fails e
@@ -55,7 +55,7 @@ Rendered fails y old new n m (Err (Memory e)) = AppendsBeginning old new (bytes_
 abbrev pub to_end : Standing → Outcome
 to_end p = and_then (rest_of p) (settle_end p.options)
 
--- the commands and the rounds of the end are worked off
+-- the commands and the rounds of the end are laid
 abbrev pub RanToEnd : {A E : Type 0} → Standing → (E → Type 0) → List ℕ → List ℕ → ℕ → ℕ → Result A (RenderError E) → Type 0
 RanToEnd p fails old new n m r = Rendered fails (bytes_of (to_end p)) old new n m r
 
@@ -148,13 +148,13 @@ pub record Renders {A E : Type 0} (fails : E → Type 0) (o : RenderOptions) (d 
   pub bytes : IfKnown s.bytes t.bytes (λ before after. Rendered fails (layout o d) before after s.failures t.failures r)
   -- no count of visits fell
   pub rise : Rise v w
-  -- without line suffixes, the printer visits each node at most once, and probes as often as nodes ask
+  -- without line suffixes, the printer visits each node at most once, and probes at most once for each node that needs one
   pub visited : Visited d v w
   -- refusals of memory for a table are counted
   pub refused : v.refused ≤ w.refused
   -- where a table bounds the probes, and none was refused memory, they visit at most sixteen nodes for each node, and a thousand
   pub few : IsLinear o.width d → w.refused ≡ 0 → IsFew 16 1000 (size d) v w
-  -- on success, at least the nodes that the layout lays are counted, and the probes that it asks
+  -- on success, at least the nodes that the layout lays are counted, and the probes that it needs
   pub at_least : OnOk r (VisitedAtLeast o d v w)
 
 -- The same where no failures are seen: what a render appended.

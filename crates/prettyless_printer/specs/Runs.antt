@@ -12,7 +12,7 @@ use Rattle.prettyless_printer.specs.Paths.{Chooses, Waiting, run_of}
 use Rattle.prettyless_printer.specs.Renders.{Continues, RunsToEnd, WorksOff}
 use Rattle.prettyless_printer.specs.Open.{Held, Open}
 
--- A choice between two branches at an indent waited at a, and trials are open from there to b. They write to a buffer, which was
+-- A choice between two branches at an indent came next at a, and trials are open from there to b. They write to a buffer, which was
 -- empty, and nothing was written to the sink.
 pub record InChoice (i : ℕ) (x y : Tree) (a : Point) (us : List Held) (buffer : Seen) (b : Point) : Type 0 where
   pub before : Seen
@@ -20,7 +20,7 @@ pub record InChoice (i : ℕ) (x y : Tree) (a : Point) (us : List Held) (buffer 
   pub trials : Open (attempt (point_at a.printer before a.visits) i x) y us (point_at b.printer buffer b.visits)
   pub sink : b.sink ≡ a.sink
 
--- a choice that waited at a was made at b, or its trials are still open there
+-- a choice that came next at a was made at b, or its trials are still open there
 abbrev pub Settles : {E : Type 0} → ℕ → ℕ → Tree → Tree → Point → List Held → Seen → Point → Result RunResult (RenderError E) → Type 0
 Settles {E} limit i x y a us buffer b (Ok run_result.Finished) = (us ≡ [])
     × Chooses {A = RunResult} {E = E} i x y a b (Ok run_result.Finished)
@@ -29,10 +29,10 @@ Settles {E} limit i x y a us buffer b (Err e) = Chooses {A = RunResult} {E = E} 
 
 -- A run has come from a to b, where trials are open.
 pub record ComesInChoice (a : Point) (us : List Held) (buffer : Seen) (b : Point) : Type 0 where
-  -- it came to c, whatever the type of nodes there
+  -- it reached c, whatever the type of nodes there
   pub c : Point
   pub continues : Continues a c
-  -- the commands were worked off from there to a choice between two branches at an indent
+  -- the commands were laid from there to a choice between two branches at an indent
   pub indent : ℕ
   pub first : Tree
   pub second : Tree

@@ -1,4 +1,4 @@
--- How many nodes probes visit while nodes leave. A probe is asked only where their count is within a limit, and visits no more nodes
+-- How many nodes probes visit while nodes leave. A probe is started only where their count is within a limit, and visits no more nodes
 -- than are left; where all is summed up, it visits two.
 use Rattle.std.specs.Prelude.{◌≡◌, ℕ, ◌+◌, ◌*◌, ◌^◌, ◌≤◌, ◌<◌, Bool, IsTrue, List, [], ◌∷◌, Option, Some, None, Result, Ok, Err}
 use Rattle.std.specs.List.{sum_by}
@@ -41,7 +41,7 @@ left_nodes l = nodes l.tasks + sum_by size l.seconds
 abbrev pub AllHave : Left → Type 0
 AllHave l = HaveSummaries l.tasks × TreesHave l.seconds
 
--- What bounds the probes of a run: whether its nodes have summaries, its width, and the count past which none is asked.
+-- What bounds the probes of a run: whether its nodes have summaries, its width, and the count past which none is started.
 pub record Rule : Type 0 where
   pub has : Bool
   pub width : ℕ
@@ -51,11 +51,11 @@ pub record Rule : Type 0 where
 abbrev pub rule_of : Bool → RenderOptions → ℕ → Rule
 rule_of has o limit = record { has = has; width = o.width; limit = limit }
 
--- a count comes to no more than it was, or than n more than a limit
+-- a count is no more than it was, or than n more than a limit
 abbrev pub Capped : ℕ → ℕ → ℕ → ℕ → Type 0
 Capped limit n old new = (most : ℕ) → old ≤ most → limit + n ≤ most → new ≤ most
 
--- probes visited two nodes at most for each visit of the printer, whose count may have come to its greatest value
+-- probes visited two nodes at most for each visit of the printer, whose count may have reached its greatest value
 abbrev pub TwoEach : Visits → Visits → Type 0
 TwoEach v w = (k : ℕ) × (w.probes ≤ v.probes + 2 * k) × RisesBy k v.printer w.printer
 
@@ -66,14 +66,14 @@ pub record Spends (r : Rule) (a b : Left) : Type 0 where
   pub printer : b.visits.printer + left_nodes b ≤ a.visits.printer + left_nodes a
   -- no line suffix is visited
   pub queue : a.queue ≡ [] → b.queue ≡ []
-  -- each probe was asked within the limit, and visited no more nodes than were left
+  -- each probe was started within the limit, and visited no more nodes than were left
   pub capped : Capped r.limit (left_nodes a) a.visits.probes b.visits.probes
   -- summaries lead to summaries
   pub have : AllHave a → AllHave b
   -- where all is summed up, a probe visits two nodes
   pub few : IsTrue r.has → r.width < 2 ^ 32 → left_nodes a < 2 ^ 32 → AllHave a → TwoEach a.visits b.visits
 
--- what a run comes to: after an error, nothing is left
+-- what a run leaves: after an error, nothing is left
 abbrev pub SpendsAs : {A E : Type 0} → Rule → Left → Left → Result A E → Type 0
 SpendsAs r a b (Ok x) = Spends r a b
 SpendsAs r a b (Err e) = Spends r a (none_left b.visits)
@@ -82,7 +82,7 @@ SpendsAs r a b (Err e) = Spends r a (none_left b.visits)
 abbrev pub left_choice : ℕ → Tree → Tree → Standing → Visits → Left
 left_choice i x y p v = record (left p [] v) { tasks = make_task i Break x ∷ make_task i Break y ∷ p.tasks }
 
--- what a turn leaves: where it comes to a choice, both branches
+-- what a turn leaves: where it reaches a choice, both branches
 abbrev pub after_turn : {N E : Type 0} → (N → Tree) → Standing → Visits → Result (TurnResult N) E → Left
 after_turn f q w (Ok Complete) = left q [] w
 after_turn f q w (Ok Shift) = left q [] w

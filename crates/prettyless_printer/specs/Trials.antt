@@ -37,7 +37,7 @@ Restores m p q =
     × (q.start ≡ m.queue.start) × (q.column ≡ m.column) × (q.within ≡ m.within) × (q.options ≡ p.options)
 
 -- A trial of a branch: what follows is still on the stack and the flag is as before; kept, its bytes are written and its
--- state has come; not kept, all is as before.
+-- state has come; rejected, all is as before.
 abbrev pub TrialDid : Standing → Standing → ℕ → Tree → List ℕ → List ℕ → Bool → Type 0
 TrialDid p q i d old new kept =
     (q.tasks ≡ p.tasks) × (q.options ≡ p.options) × QueueGrows p q × (q.within ≡ p.within)
@@ -88,14 +88,14 @@ trial_run t = record {
   tally = trial_tally t.start.printer t.indent t.branch;
 }
 
--- A trial has come to a point, with this many commands below its branch, and nothing of it is past the width.
+-- A trial has reached a point, with this many commands below its branch, and nothing of it is past the width.
 pub record OnTrial (t : Attempt) (below : ℕ) (b : Point) : Type 0 where
   pub is_known : IsSome t.start.sink.bytes
   pub path : Path (trial_run t) b
   pub within : b.printer.within ≡ true
   pub height : below ≡ length t.start.printer.tasks
 
--- A trial has come to a point where it is clear that its branch is not kept.
+-- A trial has reached a point where it is clear that its branch is rejected.
 pub record Fallen (t : Attempt) (b : Point) : Type 0 where
   -- the tasks below are there, and the queue only grew
   pub above : List Task
@@ -117,7 +117,7 @@ pub record Fallen (t : Attempt) (b : Point) : Type 0 where
   pub at_most : BeganPlain (trial_run t) → CountsAtMost (make_task t.indent Break t.branch ∷ t.start.printer.tasks) b.printer.tasks
       t.start.visits b.visits
 
--- A trial has come to its end, and its branch is to be kept.
+-- A trial has reached its end, and its branch is to be kept.
 pub record Lasts (t : Attempt) (b : Point) : Type 0 where
   pub is_known : IsSome t.start.sink.bytes
   pub path : Path (trial_run t) b
@@ -125,19 +125,19 @@ pub record Lasts (t : Attempt) (b : Point) : Type 0 where
   pub ended : length b.printer.tasks ≤ length t.start.printer.tasks
   pub fits : padding_fits t.start.printer.options.width (some_pending (state_at b.printer).pending) b.printer.column ≡ true
 
--- A trial has come to a choice between two branches at an indent, and nothing of it is past the width.
+-- A trial has reached a choice between two branches at an indent, and nothing of it is past the width.
 pub record AtChoice (t : Attempt) (i : ℕ) (x y : Tree) (b : Point) : Type 0 where
   pub is_known : IsSome b.sink.bytes
   pub waiting : Waiting (trial_run t) i x y b
   pub within : b.printer.within ≡ true
 
--- A trial that broke off.
+-- A trial that ended in an error.
 pub record TrialBroke (t : Attempt) (b : Point) : Type 0 where
   pub rise : Rise t.start.visits b.visits
   pub at_most : BeganPlain (trial_run t) → CountsAtMost (make_task t.indent Break t.branch ∷ t.start.printer.tasks) []
       t.start.visits b.visits
 
--- where a trial has come from one point to another by a turn, or at its end
+-- where a trial has gone from one point to another by a turn, or at its end
 abbrev pub Runs : {N E : Type 0} → (N → Tree) → ℕ → Point → Point → Attempt → Result (TrialState N) E → Type 0
 Runs f below a b t (Ok Running) = OnTrial t below b × (work_at b < work_at a)
 Runs f below a b t (Ok Complete) = Lasts t b × (work_at b ≤ work_at a)

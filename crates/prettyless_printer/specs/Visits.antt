@@ -1,5 +1,5 @@
 -- How many nodes a run visits. Where no line suffix is, each node of the commands is visited at most once by the
--- printer; a probe visits each node of the commands at most once, and is asked at most once by each node that asks.
+-- printer; a probe visits each node of the commands at most once, and each node that needs a probe starts one at most.
 use Rattle.std.specs.Prelude.{◌≡◌, ℕ, ◌+◌, ◌-◌, ◌*◌, ◌^◌, ◌≤◌, min, List, [], ◌∷◌, Result, Ok, Err}
 use Rattle.prettyless_sink.specs.declared.visits.Visits.{Visits}
 use Rattle.prettyless_model.specs.Tree.{Tree, size, probed}
@@ -20,7 +20,7 @@ pub record Plain (p : Standing) : Type 0 where
   pub none : suffix_depths p.tasks ≡ 0
   pub pending : (state_at p).pending ≡ []
 
--- what the probes of tasks may take up, each at most n nodes
+-- what the probes of tasks may visit, each at most n nodes
 abbrev pub charges : ℕ → List Task → ℕ
 charges n [] = 0
 charges n (t ∷ ts) = n * probed t.tree + charges n ts
@@ -55,7 +55,7 @@ abbrev pub RunCountsAtMost : {A E : Type 0} → List Task → Standing → Visit
 RunCountsAtMost ts q v w (Ok r) = Plain q × CountsAtMost ts q.tasks v w
 RunCountsAtMost ts q v w (Err e) = CountsAtMost ts [] v w
 
--- the visits of a render: with no line suffix, at most the nodes, and for probes as often as nodes ask
+-- the visits of a render: with no line suffix, at most the nodes, and for probes as many for each node that needs one
 pub record Visited (d : Tree) (v w : Visits) : Type 0 where
   pub printer : suffix_depth d ≡ 0 → w.printer ≤ v.printer + size d
   pub probes : suffix_depth d ≡ 0 → w.probes ≤ v.probes + size d * probed d

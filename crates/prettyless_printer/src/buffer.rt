@@ -5,7 +5,7 @@ ghost use Rattle.std.specs.String.{string_bytes};
 use prettyless_sink::render::Render;
 use std::alloc::{AllocError, Global};
 
-/// What open trials write to: one text for all of them, which is cut back to where a trial began if it is not kept.
+/// What open trials write to: one text for all of them, which is cut back to where a trial began if it is rejected.
 #[derive(Drop)]
 pub struct Buffer {
     pub text: String,

@@ -24,7 +24,7 @@ pub(crate) fn has_gears(width: usize) -> bool
 pub struct Gears {
     /// The visits before the render.
     pub start: Visits,
-    /// Probes visit so many nodes before a table is laid out.
+    /// Probes visit so many nodes before a table is made.
     pub next_try: u64,
 }
 
@@ -32,7 +32,7 @@ impl Gears {
     ghost use Rattle.std.specs.Prelude.{IsFalse};
     ghost use Rattle.prettyless_printer.specs.Gears.{probe_limit};
 
-    /// Before a render. A table is laid out as soon as it is worth it.
+    /// Before a render. A table is made as soon as it is worth it.
     pub(crate) fn new(start: Visits) -> Self
         ensures first { result ≡ record { start = start; next_try = 0 } }
         ensures within { start.probes ≤ probe_limit result start }
@@ -56,8 +56,8 @@ impl Gears {
         visits.probes > self.limit(visits)
     }
 
-    /// How many nodes a table may have: so many times as many as were visited in the render. Where it is not had, the next one is laid
-    /// out once probes have visited as many nodes.
+    /// How many nodes a table may have: so many times as many as were visited in the render. Where it cannot be allocated, the next one
+    /// is tried once probes have visited as many nodes.
     pub(crate) fn next_room(&mut self, visits: Visits) -> u64
         ensures next { self.new ≡ record self.old { next_try = result } }
         ensures within { visits.probes ≤ probe_limit self.new visits }

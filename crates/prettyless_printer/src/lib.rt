@@ -1,4 +1,4 @@
-//! The printer: it works off a document's nodes by steps, tries alternatives, and writes the document's layout to a sink.
+//! The printer: it lays a document's nodes by steps, tries alternatives, and writes the document's layout to a sink.
 //!
 //! It is proved once, over any nodes that can show themselves (`prettyless_probe::walk`), and against the definitions of
 //! `prettyless_model`.

@@ -49,9 +49,9 @@ fn printer_before<N: Walk>(
 /// beginning of the layout's bytes.
 ///
 /// The nodes that are visited are added to `visits`. On success the printer has visited at least the nodes that the layout
-/// lays, and its probes at least one node for each probe that the layout asks; a rejected branch counts nothing here.
+/// lays, and its probes at least one node for each probe that the layout needs; a rejected branch counts nothing here.
 /// Without line suffixes the printer visits at most as many nodes as the document has, and its probes together at most
-/// that many for each node that asks one. Where the document is linear too (`IsLinear`) and no table was refused memory, probes
+/// that many for each node that needs one. Where the document is linear too (`IsLinear`) and no table was refused memory, probes
 /// visit at most sixteen nodes for each node of the document, and a thousand.
 pub fn render<N: Walk, W: Render>(
     alloc: Global,
@@ -76,7 +76,7 @@ pub fn render<N: Walk, W: Render>(
 }
 
 /// Renders the document of a node as `render` does, over a table of all of its nodes from the first one on: each probe takes two
-/// visits where no choice by column or nesting stands in what it reads. A document that is laid out so takes two to four times as
+/// visits where no choice by column or nesting stands in what it reads. A document that is rendered so takes two to four times as
 /// long as most documents take without a table. It is rendered without one where memory for that is refused, where it has 2^32 - 1
 /// nodes or more, and at widths of 2^32 columns or more.
 pub fn render_over_table<N: Walk, W: Render>(

@@ -1,4 +1,4 @@
-//! The run: commands are worked off into a sink, and then what is pending at the end.
+//! The run: commands are laid into a sink until none is left, and then what is pending at the end.
 ghost use Rattle.std.specs.Prelude.{ℕ, ◌≡◌, ◌<◌, ◌^◌, ◌-◌, [], length, IsTrue, OnOk};
 ghost use Rattle.prettyless_model.specs.Tree.{Tree};
 ghost use Rattle.prettyless_step.specs.Printing.{tasks_of};
@@ -148,7 +148,7 @@ fn flush_end<N: Walk, W: Render>(
     }
 }
 
-// Works off the commands and then, round by round, the line suffixes that are pending at the end, as long as probes are not past
+// Lays the commands and then, round by round, the line suffixes that are pending at the end, as long as probes are not past
 // the limit.
 fn run_to_end<N: Walk, W: Render>(
     printer: &mut Printer<N>,

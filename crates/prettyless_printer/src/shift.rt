@@ -1,4 +1,4 @@
-//! The shift: what a run has left is laid out in a table, and the run goes on over that.
+//! The shift: what a run has left is stored in a table, and the run goes on over that.
 ghost use Rattle.std.specs.Prelude.{◌≡◌, ◌<◌, ◌≤◌, ◌+◌, ◌-◌, ◌^◌, ◌++◌, ⊤, IfOk, IfSome, List, MatchOption, length, map, min, true};
 ghost use Rattle.std.specs.List.{sum_by};
 ghost use Rattle.prettyless_model.specs.Tree.{Tree, size};
@@ -30,7 +30,7 @@ use prettyless_table::{MOST_CELLS, Placed, Table, count, count_left, lay_out_all
 use std::alloc::{AllocError, Global};
 
 // How many nodes are left, with the second branches of open trials; those that take cells are listed after `owners`. `None` is answered
-// where there are more than `most`: so nothing is laid out in vain, and the table asks for its memory once.
+// where there are more than `most`: so nothing is stored in vain, and the table asks for its memory once.
 fn count_all<N: Walk>(
     alloc: Global,
     printer: &Printer<N>,
@@ -106,7 +106,7 @@ fn placed_trials<'t, N: Walk>(
     Ok(placed)
 }
 
-// Lays out what is left in a table, with the second branches of open trials, and goes on over that to the end. `None` is answered
+// Stores what is left in a table, with the second branches of open trials, and goes on over that to the end. `None` is answered
 // where it would have more nodes than there is room for, or than a table can have. Then nothing has changed, nor where memory is
 // refused for the table.
 #[inline(never)]
@@ -187,7 +187,7 @@ pub(crate) fn run_in_gears<N: Walk, W: Render>(
     }
 }
 
-/// Runs to the end over a table, or without one where it is not to be had. A table that is refused memory is counted.
+/// Runs to the end over a table, or without one where there is no room for it. A table that is refused memory is counted.
 pub(crate) fn run_over_table<N: Walk, W: Render>(
     alloc: Global,
     printer: &mut Printer<N>,

@@ -1,4 +1,4 @@
-//! Trials: a union's first branch is printed, and kept or taken back.
+//! Trials: a union's first branch is printed, and kept or rejected.
 ghost use Rattle.std.specs.Prelude.{◌≡◌, ◌≤◌, ◌<◌, [], length, take, vec_len, IfOk, IsFalse, IsTrue, OnOk};
 ghost use Rattle.std.specs.String.{string_bytes};
 ghost use Rattle.std.specs.String.Boundary.{IsSplitPoint};
@@ -23,7 +23,7 @@ use prettyless_step::printer::Printer;
 use prettyless_step::queue::QueueMark;
 use std::alloc::{AllocError, Global};
 
-/// What a trial goes back to if it is not kept.
+/// What a trial goes back to if its branch is rejected.
 #[derive(Clone, Copy)]
 pub struct Mark {
     pub commands: usize,
@@ -34,7 +34,7 @@ pub struct Mark {
     pub written: usize,
 }
 
-/// A trial that is open: its mark, and the second branch at its indent, which comes next if the first one is not kept.
+/// A trial that is open: its mark, and the second branch at its indent, which comes next if the first one is rejected.
 #[derive(Drop)]
 pub struct OpenTrial<N> {
     pub mark: Mark,
@@ -184,8 +184,8 @@ fn advance<N: Walk>(
 
 /// Goes on with the open trials, each turn in the innermost one, until the outermost one is over, or before a node probes are past
 /// the limit. A trial prints its branch without what follows it but with that known. The branch is kept if it does not fail, nothing
-/// of it goes past the width, and at its end the padding fits; else all is as before, and the second branch comes next. Want of
-/// memory is an error, and never a reason not to keep a branch.
+/// of it goes past the width, and at its end the padding fits; else all is as before, and the second branch comes next. A refusal
+/// of memory is an error, and never a reason to reject a branch.
 pub(crate) fn go_on_trying<N: Walk>(
     printer: &mut Printer<N>,
     trials: &mut Trials<N>,

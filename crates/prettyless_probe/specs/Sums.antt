@@ -17,12 +17,12 @@ abbrev pub HaveSummaries : List Task → Type 0
 HaveSummaries [] = ⊤
 HaveSummaries (t ∷ ts) = HasSums t.tree × HaveSummaries ts
 
--- tasks that are taken up as one: all of their nodes have summaries, and they are too few for a number of their sum to pass 32 bits
+-- tasks that are combined: all of their nodes have summaries, and they are too few for a number of their sum to pass 32 bits
 abbrev pub HaveSum : List Task → Type 0
 HaveSum ts = HaveSummaries ts × (nodes ts < 2 ^ 32)
 
 -- A sum of tasks: in Break they fit the line as what the sum reads does, with the tasks at the bottom that it leaves. It leaves none of
--- tasks that are taken up as one.
+-- tasks that are combined.
 pub record SumsUp (b : Below) (ts : List Task) : Type 0 where
   pub left : b.left ≤ length ts
   pub fits : (width : ℕ) (c : Column) (p : Bool) → width < 2 ^ 32 →
@@ -40,7 +40,7 @@ pub record IsSummed {N : Type 0} (has : Bool) (f : N → Tree) (s : Stack N) : T
   pub long : length s.sums.items ≡ (if has then length s.nodes.items else 0)
   pub sums : AreSums s.sums.items (stack_of f s)
 
--- A probe of a document before tasks finds all summed up: nodes have summaries, the document has one, and the tasks are taken up as one.
+-- A probe of a document before tasks finds all summed up: nodes have summaries, the document has one, and the tasks are combined.
 pub record AllSummed (has : Bool) (d : Tree) (ts : List Task) : Type 0 where
   pub summaries : IsTrue has
   pub own : HasSums d

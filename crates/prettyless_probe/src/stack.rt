@@ -95,7 +95,7 @@ impl<N: Walk> Stack<N> {
         }
     }
 
-    // Opens a frame above the topmost one. It is not copied into the loops, which seldom come to it.
+    // Opens a frame above the topmost one. It is not copied into the loops, which seldom reach it.
     #[inline(never)]
     fn open(&mut self, indent: usize, mode: Mode) -> Result<(), AllocError>
         requires { self.old.here.below < vec_len self.old.nodes }
@@ -454,7 +454,7 @@ impl<N: Walk> Stack<N> {
         self.read_here(cursor)
     }
 
-    /// The sum of what is not read yet, where it takes up a node at least. It does where all of that is taken up as one, if it is a node.
+    /// The sum of what is not read yet, where it combines a node at least: so it does where all of that is combined, and there is a node.
     #[inline]
     pub fn sum_of(&self, cursor: &Cursor) -> Option<Below>
         requires of_this { Reads self.now cursor.now }

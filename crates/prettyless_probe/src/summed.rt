@@ -36,7 +36,7 @@ fn read_by<N: Walk>(width: usize, line: &mut Line, summary: Summary) -> ProbeSte
     }
 }
 
-// Looks at one node, by its summary where that is known.
+// Reads one node, by its summary where that is known.
 #[inline(always)]
 #[tactic(auto, using(crate::proofs::Sizes::size_positive))]
 fn read_one<N: Walk>(
@@ -105,7 +105,7 @@ fn read_on<N: Walk>(
     }
 }
 
-/// Visits a node, what is on the stack, and then the printer's commands downwards, up to an answer. Each node that is looked at and
+/// Visits a node, what is on the stack, and then the printer's commands downwards, up to an answer. Each node that is read and
 /// each sum is counted in `probes`.
 #[tactic(auto, using(crate::proofs::Sizes::size_positive))]
 pub(crate) fn visit_by_sums<N: Walk>(

@@ -1,4 +1,4 @@
-//! The seam to documents: a node as the printer sees it.
+//! The interface to documents: a node as the printer sees it.
 ghost use Rattle.std.specs.Prelude.{◌≡◌, ◌<◌, ◌^◌, Bool, IsTrue};
 ghost use Rattle.prettyless_model.specs.Tree.{Tree, size};
 ghost use Rattle.prettyless_probe.specs.View.{IsMeasured, view_tree};
@@ -46,7 +46,7 @@ pub trait Walk: Copy {
     // whether nodes have summaries
     ghost HAS_SUMMARIES: { Bool };
 
-    /// Whether nodes have summaries. A stack of such nodes keeps their sums, by which a probe reads what it would walk else.
+    /// Whether nodes have summaries. A stack of such nodes keeps their sums, by which a probe reads what it would visit else.
     fn has_summaries() -> bool
         ensures { result ≡ HAS_SUMMARIES };
 

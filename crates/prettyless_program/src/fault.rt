@@ -42,7 +42,7 @@ impl<T: Drop> From<AllocFailed<T>> for Fault {
 impl From<BuildError> for Fault {
     ghost from_gives = { λ _ fault. fault ≡ Memory };
 
-    // Nothing here prints a value, so a node is refused for want of memory alone.
+    // Nothing here prints a value, so a node is refused only where memory is refused.
     fn from(_error: BuildError) -> Fault {
         Fault::Memory
     }

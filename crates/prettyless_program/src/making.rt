@@ -118,7 +118,8 @@ fn sequence<'a, D: DocPlace<'a>>(
 ) -> Result<D::Doc, Fault>
     ensures ok { IfOk result (λ p. item_step Close (items_of_entries D.Doc.tree entries.old.items)
         ≡ Some (Document (D.Doc.tree p) ∷ items_of_entries D.Doc.tree entries.new.items)) }
-    ensures err { IfErr result (λ fault. (rest : List ℕ) → Stops fault (written Close ++ rest) (items_of_entries D.Doc.tree entries.old.items)) }
+    ensures err { IfErr result (λ fault. (rest : List ℕ)
+        → Stops fault (written Close ++ rest) (items_of_entries D.Doc.tree entries.old.items)) }
 {
     let gathered = gather(place, entries)?;
     if !gathered.opened {

@@ -31,7 +31,8 @@ pub struct Gathered<T> {
 #[inline(always)]
 #[tactic(auto, using(crate::proofs::Items::items_of_push))]
 fn take<'a, T: DocPtr<'a>>(entries: &mut Vec<Entry<T>>) -> Option<Entry<T>>
-    ensures some { IfSome result (λ e. items_of_entries T.tree entries.old.items ≡ entry_item T.tree e ∷ items_of_entries T.tree entries.new.items) }
+    ensures some { IfSome result (λ e. items_of_entries T.tree entries.old.items ≡ entry_item T.tree e
+        ∷ items_of_entries T.tree entries.new.items) }
     ensures none { IfNone result ((items_of_entries T.tree entries.old.items ≡ []) × (items_of_entries T.tree entries.new.items ≡ [])) }
     ensures fewer { OnSome result (length entries.new.items < length entries.old.items) }
 {
@@ -43,7 +44,8 @@ fn take<'a, T: DocPtr<'a>>(entries: &mut Vec<Entry<T>>) -> Option<Entry<T>>
 /// `Fault::Document` where it has none. Nothing is promised of the entries then.
 #[inline(always)]
 pub fn pop<'a, T: DocPtr<'a>>(entries: &mut Vec<Entry<T>>) -> Result<T, Fault>
-    ensures ok { IfOk result (λ d. items_of_entries T.tree entries.old.items ≡ programs.Document (T.tree d) ∷ items_of_entries T.tree entries.new.items) }
+    ensures ok { IfOk result (λ d. items_of_entries T.tree entries.old.items ≡ programs.Document (T.tree d)
+        ∷ items_of_entries T.tree entries.new.items) }
     ensures err { IfErr result (λ fault. (fault ≡ NoDocument) × HasNoDocument (items_of_entries T.tree entries.old.items)) }
 {
     match take(entries) {

@@ -104,7 +104,7 @@ trail_shows true [] = flat_alt_shows Nil Nil [] [] [] refl refl refl refl
 trail_shows true (b ∷ bs) = if_group_break_shows (text (b ∷ bs)) (b ∷ bs) (text_shows (b ∷ bs))
 
 module _ (style : ListStyle) (mark : List ℕ) where
-  -- the members with marks and gaps
+  -- the members with punctuation and gaps
   members_show : (xs : List Tree) (lists : List (List Item)) → AllZip shows xs lists
       → shows (members style (text mark) xs) (member_items style mark lists)
   members_show xs lists each =

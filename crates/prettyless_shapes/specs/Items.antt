@@ -39,11 +39,11 @@ mark_items (b ∷ bs) = Mark (b ∷ bs) ∷ []
 abbrev pub edge_item : ListStyle → Item
 edge_item style = if style.padded then apart else loose
 
--- after the last member: the mark, which may be left out, or nothing
+-- after the last member: the punctuation, as an optional text, or nothing
 abbrev pub trail_items : ListStyle → List ℕ → List Item
 trail_items style mark = if style.trailing then mark_items mark else []
 
--- the members' items with the mark, and a space or a line end, in each gap
+-- the members' items with the punctuation, and a space or a line end, in each gap
 abbrev pub member_items : ListStyle → List ℕ → List (List Item) → List Item
 member_items style mark lists = with_gaps (text_items mark ++ apart ∷ []) lists ++ trail_items style mark
 

@@ -38,11 +38,11 @@ edge style = if style.padded then line else line_
 abbrev pub gap_between : ListStyle → Tree
 gap_between style = if style.filled then softline else line
 
--- after the last member: the mark where lines are broken, or nothing
+-- after the last member: the punctuation where lines are broken, or nothing
 abbrev pub trail : ListStyle → Tree → Tree
 trail style mark = if style.trailing then BreakOrFlat mark Nil else Nil
 
--- the members with their marks and gaps
+-- the members with their punctuation and gaps
 abbrev pub members : ListStyle → Tree → List Tree → Tree
 members style mark xs = append (intersperse (gap_between style) (punctuated mark xs)) (trail style mark)
 

@@ -1,4 +1,4 @@
-//! Documents further in, and documents that are laid flat where they fit.
+//! Indented documents, and documents that are laid flat where they fit.
 ghost use Rattle.std.specs.Prelude.{◌≡◌, pos, [], ◌∷◌, IfOk, IfErr};
 ghost use Rattle.prettyless_model.specs.Shows.{apart};
 ghost use Rattle.prettyless_doc.specs.BuildErrors.{IsMemory};
@@ -12,7 +12,7 @@ use prettyless_alloc::DocAllocator;
 use prettyless_build::DocBuilder;
 use prettyless_doc::{BuildError, DocPlace};
 
-/// The document with its lines but the first so many columns further in. It fails where memory is refused.
+/// The document with its lines but the first indented by so many columns. It fails where memory is refused.
 ///
 /// ```
 /// indented(place, stacked(place, a, b)?, 2)? // "a\n  b"
@@ -59,7 +59,7 @@ pub fn broken<'a, D: DocPlace<'a>>(place: &'a D, doc: D::Doc) -> Result<D::Doc, 
 }
 
 /// The first document and the second after it. Where the second, flat, fits the line, it follows a space, and else it
-/// is on the next line, so many columns further in. The first is not in the group of the second, so it may be broken
+/// is on the next line, indented by so many columns. The first is not in the group of the second, so it may be broken
 /// where the second follows on its last line. It fails where memory is refused.
 ///
 /// ```
@@ -80,7 +80,7 @@ pub fn hanging<'a, D: DocPlace<'a>>(
     followed(place, first, next)
 }
 
-/// The second document below the first, so many columns further in, and the third below that, as far in as the first. A line
+/// The second document below the first, indented by so many columns, and the third below that, at the indent of the first. A line
 /// break is between two, also where one of them is nothing. It keeps the groups around it from being flat, and fails where
 /// memory is refused.
 ///

@@ -13,26 +13,26 @@ use prettyless_alloc::DocAllocator;
 use prettyless_build::{DocBuilder, Pretty};
 use prettyless_doc::{BuildError, DocPlace};
 
-/// How a list is laid out. Where it fits its line, it is flat, with a mark and a space between two documents. Else its
+/// How a list is laid out. Where it fits its line, it is flat, with the punctuation and a space between two documents. Else its
 /// lines are broken, after the first bracket and before the last one too.
 #[derive(Clone, Copy, Debug, Drop, PartialEq, Eq)]
 pub struct ListStyle {
-    /// How many columns the documents are further in than the brackets, where lines are broken.
+    /// By how many columns the documents are indented relative to the brackets, where lines are broken.
     pub indent: u32,
     /// Whether a space is inside each bracket where the list is flat, as in `{ a, b }`.
     pub padded: bool,
-    /// Whether the mark is after the last document too, where lines are broken.
+    /// Whether the punctuation is after the last document too, where lines are broken.
     pub trailing: bool,
     /// Whether documents fill lines, where these are broken. Else each has a line of its own.
     pub filled: bool,
 }
 
 impl ListStyle {
-    /// Documents so many columns further in, each on a line of its own, with no mark after the last, where lines are
+    /// Documents indented by so many columns, each on a line of its own, with no punctuation after the last, where lines are
     /// broken. Flat lists have no space inside the brackets.
     ///
     /// ```
-    /// ListStyle { trailing: true, ..ListStyle::new(2) } // lists with a mark after the last document too
+    /// ListStyle { trailing: true, ..ListStyle::new(2) } // lists with punctuation after the last document too
     /// ```
     pub const fn new(indent: u32) -> Self
         ensures { result ≡ record { indent = indent; padded = false; trailing = false; filled = false } }
@@ -60,7 +60,7 @@ fn edge<'a, D: DocPlace<'a>>(
     }
 }
 
-// What is between two documents, after the mark.
+// What is between two documents, after the punctuation.
 fn gap<'a, D: DocPlace<'a>>(place: &'a D, style: ListStyle) -> Result<DocBuilder<'a, D>, BuildError>
     ensures { Builds result (λ b. built D.Doc.tree b.1) (shapes.gap_between style) }
 {
@@ -86,7 +86,7 @@ fn trail<'a, D: DocPlace<'a>>(
     }
 }
 
-// The documents with their marks and gaps.
+// The documents with their punctuation and gaps.
 fn members<'a, D: DocPlace<'a>>(
     place: &'a D,
     docs: Vec<D::Doc>,
@@ -103,7 +103,7 @@ fn members<'a, D: DocPlace<'a>>(
         .join(trail(place, mark, style)?)
 }
 
-// The same, further in and with what is inside the brackets.
+// The same, indented and with what is inside the brackets.
 fn inside<'a, D: DocPlace<'a>>(
     place: &'a D,
     docs: Vec<D::Doc>,
@@ -120,9 +120,9 @@ fn inside<'a, D: DocPlace<'a>>(
     nested.join(edge(place, style)?)
 }
 
-/// The documents between two brackets, each but the last with the mark after it. They are flat where they fit the line,
-/// and else as the style says. Where there is no document, the brackets stand side by side, with no break. It fails
-/// where memory is refused.
+/// The documents between two brackets, each but the last with the punctuation after it. They are flat where they fit
+/// the line, and else as the style says. Where there is no document, the brackets stand side by side, with no break. It
+/// fails where memory is refused.
 ///
 /// ```
 /// list(place, "[", docs, ",", "]", ListStyle::new(2))? // of "a" and "b": "[a, b]" at 6 columns, "[\n  a,\n  b\n]" at 5

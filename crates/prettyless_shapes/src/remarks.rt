@@ -15,7 +15,7 @@ use prettyless_doc::{BuildError, DocPlace};
 /// The document, a space, the remark and a line break, so that nothing comes after the remark on its line. It keeps the
 /// groups around it from being flat, and fails where memory is refused.
 ///
-/// Where a mark, as a comma, is to come before the remark, `with_late_remark` is for it.
+/// Where punctuation, as a comma, is to come before the remark, `with_late_remark` is for it.
 ///
 /// ```
 /// joined(place, with_remark(place, a, "# c")?, b)? // "a # c\nb"

@@ -39,14 +39,14 @@ impl<'w, W: TextWriter> Render for FmtWrite<&'w mut W> {
 
     ghost document_errors = { λ _ _. ⊤ };
 
-    /// Hands the whole text on, and answers its length.
+    /// Passes the whole text on, and answers its length.
     #[inline]
     fn write_str(&mut self, s: &str) -> Result<usize, fmt::Error> {
         self.write_str_all(s)?;
         Ok(s.len())
     }
 
-    /// Hands the whole text on in one piece. Where the writer fails, the failures rise by one.
+    /// Passes the whole text on in one piece. Where the writer fails, the failures rise by one.
     #[inline]
     fn write_str_all(&mut self, s: &str) -> Result<(), fmt::Error> {
         match self.upstream.write_text(s) {

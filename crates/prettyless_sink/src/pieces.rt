@@ -13,8 +13,10 @@ use prettyless_model::spaces::some_spaces;
 #[inline(always)]
 pub fn write_gap_and_text<W: Render>(out: &mut W, gap: usize, text: &str) -> Result<(), W::Error>
     ensures same_lender { W.lender out.new ≡ W.lender out.old }
-    ensures ok { OnOk result (Accepts (W.bytes out.old) (W.bytes out.new) (spaces gap ++ text.now) (W.failures out.old) (W.failures out.new)) }
-    ensures err { OnErr result (Refuses (W.bytes out.old) (W.bytes out.new) (spaces gap ++ text.now) (W.failures out.old) (W.failures out.new)) }
+    ensures ok { OnOk result (Accepts (W.bytes out.old) (W.bytes out.new) (spaces gap ++ text.now) (W.failures out.old)
+        (W.failures out.new)) }
+    ensures err { OnErr result (Refuses (W.bytes out.old) (W.bytes out.new) (spaces gap ++ text.now) (W.failures out.old)
+        (W.failures out.new)) }
 {
     if gap > 0 {
         write_spaces(out, gap)?;

@@ -60,7 +60,7 @@ impl<W: TextWriter> TextWriter for &mut W {
 pub struct Untold<W>(pub W);
 
 impl<W: fmt::Write> TextWriter for Untold<W> {
-    /// Hands the piece on. On success it did what the writer says of a write.
+    /// Passes the piece on. On success it did what the writer says of a write.
     #[inline]
     fn write_text(&mut self, piece: &str) -> fmt::Result
         ensures ok { OnOk result (Appends None None piece.now) }

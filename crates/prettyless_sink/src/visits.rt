@@ -5,7 +5,7 @@ ghost use Rattle.prettyless_sink.specs.Sink.{rise};
 /// How many nodes were visited, and how often that was not bounded. Each count stops at the greatest `u64`.
 #[derive(Clone, Copy, Debug, Default)]
 pub struct Visits {
-    /// Visits of nodes by the printer: to lay them, also in a trial that was not kept. A payload that a union rejected by
+    /// Visits of nodes by the printer: to lay them, also in a trial that was rejected. A payload that a union rejected by
     /// its metrics counts too.
     pub printer: u64,
     /// Visits of nodes by probes, to read them.

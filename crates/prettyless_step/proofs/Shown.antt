@@ -27,7 +27,7 @@ IsStuck (Move b pushed u) = ⊥
 IsStuck Stuck = Unit {0}
 IsStuck (Choose i x y) = ⊥
 
--- the step asks for a choice between two branches at an indent
+-- the step leads to a choice between two branches at an indent
 abbrev pub Asks : Step → ℕ → Tree → Tree → Type 0
 Asks (Move b pushed u) i x y = ⊥
 Asks Stuck i x y = ⊥
@@ -40,7 +40,7 @@ written {N} f bytes (Move b pushed u) p q h = ((h.0, h.1, h.2), h.3, h.4)
 written {N} f bytes Stuck p q h = absurd h
 written {N} f bytes (Choose j x y) p q h = absurd h
 
--- A task is in hand: the step leads to it, above the others, and the stack has lost nothing.
+-- A task is the current one: the step leads to it, above the others, and the stack has lost nothing.
 pub record Handed {N : Type 0} (f : N → Tree) (t : Task) (step : Step) (p q : Printer N) : Type 0 where
   pub leads : Leads step (tasks_of f p) [] (t ∷ tasks_of f q) (state_of f q)
   pub state : state_of f q ≡ state_of f p

@@ -36,7 +36,7 @@ Writes f bytes (Move b pushed u) p q =
 Writes f bytes Stuck p q = ⊥
 Writes f bytes (Choose j x y) p q = ⊥
 
--- nothing is written, the first of the step's tasks is in hand, the others are on the stack, and the state is as before
+-- nothing is written, the first of the step's tasks is the current one, the others are on the stack, and the state is as before
 abbrev pub Hands : {N : Type 0} → (N → Tree) → ℕ → Mode → N → Step → Printer N → Printer N → Type 0
 Hands f i m n (Move b (t ∷ pushed) u) p q =
     (b ≡ []) × (make_task i m (f n) ≡ t) × (tasks_of f q ≡ pushed ++ tasks_of f p) × (u ≡ state_of f p) × (state_of f q ≡ state_of f p)

@@ -31,8 +31,10 @@ impl<'v> Piece<'v> {
 #[inline(always)]
 pub fn write_piece<W: Render>(out: &mut W, piece: Piece<'_>) -> Result<(), W::Error>
     ensures same_lender { W.lender out.new ≡ W.lender out.old }
-    ensures ok { OnOk result (Accepts (W.bytes out.old) (W.bytes out.new) (piece_bytes piece.entry) (W.failures out.old) (W.failures out.new)) }
-    ensures err { OnErr result (Refuses (W.bytes out.old) (W.bytes out.new) (piece_bytes piece.entry) (W.failures out.old) (W.failures out.new)) }
+    ensures ok { OnOk result (Accepts (W.bytes out.old) (W.bytes out.new) (piece_bytes piece.entry) (W.failures out.old)
+        (W.failures out.new)) }
+    ensures err { OnErr result (Refuses (W.bytes out.old) (W.bytes out.new) (piece_bytes piece.entry) (W.failures out.old)
+        (W.failures out.new)) }
 {
     write_gap_and_text(out, piece.gap, piece.text)?;
     if piece.indent > 0 {

@@ -4,7 +4,7 @@ ghost use Rattle.std.specs.Prelude.{◌≡◌, ◌∷◌, ◌++◌, ◌<◌, ◌
 use std::alloc::{AllocError, Global};
 
 /// The line suffixes that were visited, the oldest first. Those from a start on are pending: the earlier ones were laid, and are
-/// kept for trials that are taken back.
+/// kept for trials that are undone.
 #[derive(Drop)]
 pub struct Queue<N> {
     nodes: Vec<N>,

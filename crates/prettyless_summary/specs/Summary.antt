@@ -1,4 +1,4 @@
--- What a document shows a probe, taken up as one.
+-- What a document shows a probe, in one value.
 use Rattle.std.specs.Prelude.{◌≡◌, ℕ, ◌+◌, ◌^◌, ◌<◌, ◌≤◌, Bool, true, false, not, ◌&&◌, ◌||◌, ◌==◌, nat_le, Option, Some, None, MatchOption}
 use Rattle.std.specs.Prelude.{⊤, FitsSigned, if◌then◌else◌}
 use mir.Syntax.{w32}
@@ -50,11 +50,11 @@ abbrev pub look_rest : ℕ → Summary → Column → Bool → Look
 look_rest width s c p =
     look_then (look_ink width s.has_ink s.inner s.trail c p) (λ e q. look_out width s.end e (s.has_suffix || q))
 
--- What a line comes to that is read by a summary: weak spaces, then a weak line, then the rest.
+-- The result of reading a line by a summary: weak spaces, then a weak line, then the rest.
 abbrev pub look_by : ℕ → Summary → Column → Bool → Look
 look_by width s c p = look_then (look_weak width (mode_of s.weak) (after_spaces s.lead c) p) (look_rest width s)
 
--- by a summary a line comes to what it comes to by a look, at every width below 2^32
+-- reading a line by a summary has the result of a look, at every width below 2^32
 abbrev pub ReadsLook : Summary → (ℕ → Column → Bool → Look) → Type 0
 ReadsLook s f = (width : ℕ) (c : Column) (p : Bool) → width < 2 ^ 32 → look_by width s c p ≡ f width c p
 

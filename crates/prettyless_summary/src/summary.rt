@@ -1,4 +1,4 @@
-//! Summaries: of what a document may begin with, of two documents one after the other, and what a line comes to by one.
+//! Summaries: of what a document may begin with, of two documents one after the other, and the result of reading a line by one.
 ghost use Rattle.std.specs.Prelude.{◌≡◌, ℕ, ◌+◌, ◌<◌, ◌≤◌, ◌^◌, ◌↔◌, List, Bool, true, false, Option, Some, None, IfSome, IsTrue};
 ghost use Rattle.std.specs.Prelude.{MatchOption, ◌||◌, max, nat_le, if◌then◌else◌};
 ghost use Rattle.prettyless_model.specs.Column.{blank, commit, padding_fits};
@@ -93,7 +93,7 @@ const NOTHING: Summary = Summary {
     end: End::Open,
 };
 
-/// What a line comes to that is read by a summary.
+/// The result of reading a line by a summary.
 #[derive(Clone, Copy)]
 pub enum Reached {
     /// The answer of the probe.
@@ -127,7 +127,7 @@ fn weak_end(mode: Mode) -> End
     }
 }
 
-// What a line comes to by an end.
+// The result of reading a line by an end.
 #[inline(always)]
 fn read_end(end: End, width: usize, column: Column, pending: bool) -> Reached
     ensures { look_of result ≡ look_out width end column pending }
@@ -380,7 +380,7 @@ impl Summary {
         Some(blanks.and_weak(next.weak).and_rest(next))
     }
 
-    /// What a line comes to that is read by it.
+    /// The result of reading a line by it.
     #[inline]
     pub fn read(self, width: usize, column: Column, pending: bool) -> Reached
         ensures { look_of result ≡ look_by width self column pending }

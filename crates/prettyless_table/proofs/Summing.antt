@@ -84,7 +84,7 @@ sums_partial_union s t d e h k = record {
       k.broken;
 }
 
--- what is known of two summaries taken up as one
+-- what is known of two summaries combined
 pub sums_append : (s t r : Option Summary) (d e : Tree) (m : Mode) → IsModeSummary s d m → IsModeSummary t e m → IsKnown r (Append d e) m
     → ((n k : ℕ) → n + k < 2 ^ 32 → IsFound n s → IsFound k t → IsFound (n + k) r) → IsModeSummary r (Append d e) m
 sums_append s t r d e m h k known found = record {

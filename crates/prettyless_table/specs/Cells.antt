@@ -11,7 +11,7 @@ use Rattle.prettyless_table.specs.declared.cell.Cell.TheVariants.{Sums, Root}
 use Rattle.prettyless_table.specs.Sums.{Keeps, Keeps-prop}
 use Rattle.prettyless_table.specs.Parts.{small}
 
--- the document that was laid out before a cell, if the cell is for one
+-- the document that was stored before a cell, if the cell is for one
 abbrev pub root_tree : {N : Type 0} → (N → Tree) → Cell N → Option Tree
 root_tree f (Root place n) = Some (f n)
 root_tree f (Sums a b second flat broken) = None
@@ -93,12 +93,12 @@ In cells (OnNesting test l r) at =
     Unless (small (OnNesting test l r)) (HasCell cells at (OnNesting test l r) × (In cells l (at - 1) × In cells r (second_at cells at)))
 In cells _ at = ⊤
 
--- a document that was laid out stands where its cell says
+-- a document that was stored stands where its cell says
 abbrev pub IsPlaced : {N : Type 0} → (N → Tree) → List (Cell N) → Cell N → Type 0
 IsPlaced f cells (Root place n) = In cells (f n) place
 IsPlaced f cells (Sums a b second flat broken) = ⊤
 
--- each document that was laid out does
+-- each document that was stored does
 abbrev pub CellsAreSound : {N : Type 0} → (N → Tree) → List (Cell N) → Type 0
 CellsAreSound {N} f cells = (i : ℕ) (c : Cell N) → i < length cells → IsPlaced f cells (get_or cells i c)
 

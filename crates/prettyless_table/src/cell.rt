@@ -9,7 +9,7 @@ use prettyless_model::mode::Mode;
 use prettyless_probe::walk::Walk;
 use prettyless_summary::summary::Summary;
 
-/// A cell of a table: the summaries of a node, or a document that was laid out.
+/// A cell of a table: the summaries of a node, or a document that was stored.
 #[derive(Drop)]
 pub enum Cell<N> {
     /// A node that is not small: its summaries, and the place of its second part. Its first part, or only one, has the cell before it.
@@ -20,7 +20,7 @@ pub enum Cell<N> {
         flat: Counts,
         broken: Counts,
     },
-    /// A document that was laid out, and its place.
+    /// A document that was stored, and its place.
     Root(u32, N),
 }
 

@@ -8,7 +8,7 @@ use prettyless_probe::walk::{View, Walk};
 use prettyless_summary::summary::Summary;
 use std::alloc::AllocError;
 
-/// A node of a document that is laid out in a table, with its place there.
+/// A node of a document that is stored in a table, with its place there.
 pub struct Placed<'t, N: Walk> {
     table: &'t Table<N>,
     node: N,

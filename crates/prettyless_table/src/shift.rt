@@ -1,4 +1,4 @@
-//! The shift: what a printer has left is laid out in a table, and a printer over the table goes on from where the first one stands.
+//! The shift: what a printer has left is stored in a table, and a printer over the table goes on from where the first one stands.
 ghost use Rattle.std.specs.Prelude.{◌≡◌, ◌+◌, ◌≤◌, ◌++◌, List, length, map, IfOk, true};
 ghost use Rattle.std.specs.List.{All};
 ghost use Rattle.prettyless_model.specs.Tree.{Tree};

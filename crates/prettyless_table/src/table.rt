@@ -1,4 +1,4 @@
-//! The table, and how a document is laid out in it.
+//! The table, and how a document is stored in it.
 ghost use Rattle.std.specs.Prelude.{◌≡◌, ◌∷◌, [], List, drop, get_or, reverse};
 ghost use Rattle.prettyless_model.specs.Tree.{Tree};
 ghost use Rattle.prettyless_table.specs.Cells.{In};
@@ -37,7 +37,7 @@ fn place_of<N: Walk>(root: &N, standing: &mut Vec<u32>) -> u32
     take_place(standing)
 }
 
-/// Documents laid out in cells, each after the cells of its parts.
+/// Documents stored in cells, each after the cells of its parts.
 #[derive(Drop)]
 pub struct Table<N> {
     pub(crate) cells: Vec<Cell<N>>,
@@ -148,7 +148,7 @@ impl<N: Walk> Table<N> {
         self.cells.len().saturating_sub(1) as u32
     }
 
-    // The cell of a node whose parts are laid out: the first one last, and the second one at this place.
+    // The cell of a node whose parts are stored: the first one last, and the second one at this place.
     fn cell_of(&self, node: &N, second: u32) -> Cell<N>
         requires most { length self.now.cells.items ≤ MOST_CELLS }
         requires first { FirstIn self.now.cells.items (length self.now.cells.items - 1) (parts_of (N.tree node.now)) }

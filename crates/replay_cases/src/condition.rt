@@ -15,7 +15,8 @@ use prettyless::{ColumnTest, NestingTest};
 // Takes the number of columns whose word comes next.
 fn take_columns<'a>(operands: &mut Vec<Operand<'a>>) -> Result<usize, Refusal>
     ensures ok { IfOk result (λ n. (w : List ℕ) × (items_of operands.old.items ≡ word w ∷ items_of operands.new.items) × IsNumber n w) }
-    ensures err { IfErr result (λ e. RefusesWith e ((n : ℕ) (w : List ℕ) (rest : List OperandItem) → items_of operands.old.items ≡ word w ∷ rest → IsNumber n w → ⊥)) }
+    ensures err { IfErr result (λ e. RefusesWith e
+        ((n : ℕ) (w : List ℕ) (rest : List OperandItem) → items_of operands.old.items ≡ word w ∷ rest → IsNumber n w → ⊥)) }
 {
     let word = take_word(operands, Expected::Columns)?;
     Ok(number(word).ok_or(Expected::Columns)?)
@@ -24,7 +25,8 @@ fn take_columns<'a>(operands: &mut Vec<Operand<'a>>) -> Result<usize, Refusal>
 /// Takes the test of a column whose words come next.
 pub fn take_column_test<'a>(operands: &mut Vec<Operand<'a>>) -> Result<ColumnTest, Refusal>
     ensures ok { IfOk result (λ t. TakesColumnTest (items_of operands.old.items) t (items_of operands.new.items)) }
-    ensures err { IfErr result (λ e. RefusesWith e ((t : ColumnTestOf) (rest : List OperandItem) → TakesColumnTest (items_of operands.old.items) t rest → ⊥)) }
+    ensures err { IfErr result (λ e. RefusesWith e
+        ((t : ColumnTestOf) (rest : List OperandItem) → TakesColumnTest (items_of operands.old.items) t rest → ⊥)) }
 {
     let word = take_word(operands, Expected::ColumnTest)?;
     if word == b"nesting".as_slice() {
@@ -40,7 +42,8 @@ pub fn take_column_test<'a>(operands: &mut Vec<Operand<'a>>) -> Result<ColumnTes
 /// Takes the test of an indent whose words come next.
 pub fn take_nesting_test<'a>(operands: &mut Vec<Operand<'a>>) -> Result<NestingTest, Refusal>
     ensures ok { IfOk result (λ t. TakesNestingTest (items_of operands.old.items) t (items_of operands.new.items)) }
-    ensures err { IfErr result (λ e. RefusesWith e ((t : NestingTestOf) (rest : List OperandItem) → TakesNestingTest (items_of operands.old.items) t rest → ⊥)) }
+    ensures err { IfErr result (λ e. RefusesWith e
+        ((t : NestingTestOf) (rest : List OperandItem) → TakesNestingTest (items_of operands.old.items) t rest → ⊥)) }
 {
     match take_word(operands, Expected::NestingTest)? {
         b"atmost" => Ok(NestingTest::AtMost(take_columns(operands)?)),

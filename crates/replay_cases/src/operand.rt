@@ -23,7 +23,8 @@ pub fn take_word<'a>(
     expected: Expected,
 ) -> Result<&'a [u8], Refusal>
     ensures ok { IfOk result (λ w. items_of operands.old.items ≡ word w.now ∷ items_of operands.new.items) }
-    ensures err { IfErr result (λ e. RefusesWith e ((w : List ℕ) (rest : List OperandItem) → items_of operands.old.items ≡ word w ∷ rest → ⊥)) }
+    ensures err { IfErr result (λ e. RefusesWith e
+        ((w : List ℕ) (rest : List OperandItem) → items_of operands.old.items ≡ word w ∷ rest → ⊥)) }
 {
     match operands.pop() {
         Some(Operand::Word(word)) => Ok(word),
@@ -35,7 +36,8 @@ pub fn take_word<'a>(
 #[tactic(auto, using(crate::proofs::Items::items_of_push))]
 pub fn take_document<'a>(operands: &mut Vec<Operand<'a>>) -> Result<Pointer<'a>, Refusal>
     ensures ok { IfOk result (λ d. items_of operands.old.items ≡ document (pointer_tree d) ∷ items_of operands.new.items) }
-    ensures err { IfErr result (λ e. RefusesWith e ((d : Tree) (rest : List OperandItem) → items_of operands.old.items ≡ document d ∷ rest → ⊥)) }
+    ensures err { IfErr result (λ e. RefusesWith e
+        ((d : Tree) (rest : List OperandItem) → items_of operands.old.items ≡ document d ∷ rest → ⊥)) }
 {
     match operands.pop() {
         Some(Operand::Document(document)) => Ok(document),

@@ -26,7 +26,8 @@ use std::alloc::Global;
 // Takes the text whose word comes next.
 fn take_text<'a>(alloc: Global, operands: &mut Vec<Operand<'a>>) -> Result<Text<'a>, Refusal>
     ensures ok { IfOk result (λ s. BeginsWithText (items_of operands.old.items) (bytes_of_text s) (items_of operands.new.items)) }
-    ensures err { IfErr result (λ e. RefusesWith e ((s : List ℕ) (rest : List OperandItem) → BeginsWithText (items_of operands.old.items) s rest → ⊥)) }
+    ensures err { IfErr result (λ e. RefusesWith e ((s : List ℕ) (rest : List OperandItem)
+        → BeginsWithText (items_of operands.old.items) s rest → ⊥)) }
 {
     let text = text(alloc, take_word(operands, Expected::Text)?)?;
     Ok(Text::from_cow(alloc, CowStr::Owned(text))?)
@@ -36,7 +37,8 @@ fn take_text<'a>(alloc: Global, operands: &mut Vec<Operand<'a>>) -> Result<Text<
 fn take_payload<'a>(alloc: Global, operands: &mut Vec<Operand<'a>>) -> Result<String, Refusal>
     ensures ok { IfOk result (λ s. BeginsWithText (items_of operands.old.items) (string_bytes s) (items_of operands.new.items)) }
     ensures breaks { IfOk result (λ s. holds_break (string_bytes s) ≡ true) }
-    ensures err { IfErr result (λ e. RefusesWith e ((d : Tree) (rest : List OperandItem) → Makes operators.Payload (items_of operands.old.items) d rest → ⊥)) }
+    ensures err { IfErr result (λ e. RefusesWith e ((d : Tree) (rest : List OperandItem)
+        → Makes operators.Payload (items_of operands.old.items) d rest → ⊥)) }
 {
     let text = text(alloc, take_word(operands, Expected::Payload)?)?;
     if holds_break(text.as_str()) {
@@ -52,7 +54,8 @@ fn make_text<'a>(
     operands: &mut Vec<Operand<'a>>,
 ) -> Result<Pointer<'a>, Refusal>
     ensures ok { IfOk result (λ d. Makes operators.Text (items_of operands.old.items) (pointer_tree d) (items_of operands.new.items)) }
-    ensures err { IfErr result (λ e. RefusesWith e ((d : Tree) (rest : List OperandItem) → Makes operators.Text (items_of operands.old.items) d rest → ⊥)) }
+    ensures err { IfErr result (λ e. RefusesWith e ((d : Tree) (rest : List OperandItem)
+        → Makes operators.Text (items_of operands.old.items) d rest → ⊥)) }
 {
     let text = take_text(place.memory(), operands)?;
     put(place, Doc::Text(text))
@@ -63,8 +66,10 @@ fn make_counted_text<'a>(
     place: &'a Place<'a>,
     operands: &mut Vec<Operand<'a>>,
 ) -> Result<Pointer<'a>, Refusal>
-    ensures ok { IfOk result (λ d. Makes operators.TextWithLen (items_of operands.old.items) (pointer_tree d) (items_of operands.new.items)) }
-    ensures err { IfErr result (λ e. RefusesWith e ((d : Tree) (rest : List OperandItem) → Makes operators.TextWithLen (items_of operands.old.items) d rest → ⊥)) }
+    ensures ok { IfOk result (λ d.
+        Makes operators.TextWithLen (items_of operands.old.items) (pointer_tree d) (items_of operands.new.items)) }
+    ensures err { IfErr result (λ e. RefusesWith e ((d : Tree) (rest : List OperandItem)
+        → Makes operators.TextWithLen (items_of operands.old.items) d rest → ⊥)) }
 {
     let word = take_word(operands, Expected::Columns)?;
     let width = number(word).ok_or(Expected::Columns)?;
@@ -78,7 +83,8 @@ fn make_payload<'a>(
     operands: &mut Vec<Operand<'a>>,
 ) -> Result<Pointer<'a>, Refusal>
     ensures ok { IfOk result (λ d. Makes operators.Payload (items_of operands.old.items) (pointer_tree d) (items_of operands.new.items)) }
-    ensures err { IfErr result (λ e. RefusesWith e ((d : Tree) (rest : List OperandItem) → Makes operators.Payload (items_of operands.old.items) d rest → ⊥)) }
+    ensures err { IfErr result (λ e. RefusesWith e ((d : Tree) (rest : List OperandItem)
+        → Makes operators.Payload (items_of operands.old.items) d rest → ⊥)) }
 {
     let text = take_payload(place.memory(), operands)?;
     put_multiline(place, text)
@@ -90,7 +96,8 @@ fn make_nest<'a>(
     operands: &mut Vec<Operand<'a>>,
 ) -> Result<Pointer<'a>, Refusal>
     ensures ok { IfOk result (λ d. Makes operators.Nest (items_of operands.old.items) (pointer_tree d) (items_of operands.new.items)) }
-    ensures err { IfErr result (λ e. RefusesWith e ((d : Tree) (rest : List OperandItem) → Makes operators.Nest (items_of operands.old.items) d rest → ⊥)) }
+    ensures err { IfErr result (λ e. RefusesWith e ((d : Tree) (rest : List OperandItem)
+        → Makes operators.Nest (items_of operands.old.items) d rest → ⊥)) }
 {
     let word = take_word(operands, Expected::Offset)?;
     let offset = offset(word).ok_or(Expected::Offset)?;
@@ -104,8 +111,10 @@ fn make_wrapped<'a>(
     wrapper: Wrapper,
     operands: &mut Vec<Operand<'a>>,
 ) -> Result<Pointer<'a>, Refusal>
-    ensures ok { IfOk result (λ d. Makes (operators.Wrapper wrapper) (items_of operands.old.items) (pointer_tree d) (items_of operands.new.items)) }
-    ensures err { IfErr result (λ e. RefusesWith e ((d : Tree) (rest : List OperandItem) → Makes (operators.Wrapper wrapper) (items_of operands.old.items) d rest → ⊥)) }
+    ensures ok { IfOk result (λ d.
+        Makes (operators.Wrapper wrapper) (items_of operands.old.items) (pointer_tree d) (items_of operands.new.items)) }
+    ensures err { IfErr result (λ e. RefusesWith e ((d : Tree) (rest : List OperandItem)
+        → Makes (operators.Wrapper wrapper) (items_of operands.old.items) d rest → ⊥)) }
 {
     let inner = take_document(operands)?;
     put(place, wrapper.doc(inner))
@@ -117,8 +126,10 @@ fn make_joined<'a>(
     join: Join,
     operands: &mut Vec<Operand<'a>>,
 ) -> Result<Pointer<'a>, Refusal>
-    ensures ok { IfOk result (λ d. Makes (operators.Join join) (items_of operands.old.items) (pointer_tree d) (items_of operands.new.items)) }
-    ensures err { IfErr result (λ e. RefusesWith e ((d : Tree) (rest : List OperandItem) → Makes (operators.Join join) (items_of operands.old.items) d rest → ⊥)) }
+    ensures ok { IfOk result (λ d.
+        Makes (operators.Join join) (items_of operands.old.items) (pointer_tree d) (items_of operands.new.items)) }
+    ensures err { IfErr result (λ e. RefusesWith e ((d : Tree) (rest : List OperandItem)
+        → Makes (operators.Join join) (items_of operands.old.items) d rest → ⊥)) }
 {
     let first = take_document(operands)?;
     let second = take_document(operands)?;
@@ -131,7 +142,8 @@ fn make_by_column<'a>(
     operands: &mut Vec<Operand<'a>>,
 ) -> Result<Pointer<'a>, Refusal>
     ensures ok { IfOk result (λ d. Makes operators.OnColumn (items_of operands.old.items) (pointer_tree d) (items_of operands.new.items)) }
-    ensures err { IfErr result (λ e. RefusesWith e ((d : Tree) (rest : List OperandItem) → Makes operators.OnColumn (items_of operands.old.items) d rest → ⊥)) }
+    ensures err { IfErr result (λ e. RefusesWith e ((d : Tree) (rest : List OperandItem)
+        → Makes operators.OnColumn (items_of operands.old.items) d rest → ⊥)) }
 {
     let test = take_column_test(operands)?;
     let first = take_document(operands)?;
@@ -145,7 +157,8 @@ fn make_by_nesting<'a>(
     operands: &mut Vec<Operand<'a>>,
 ) -> Result<Pointer<'a>, Refusal>
     ensures ok { IfOk result (λ d. Makes operators.OnNesting (items_of operands.old.items) (pointer_tree d) (items_of operands.new.items)) }
-    ensures err { IfErr result (λ e. RefusesWith e ((d : Tree) (rest : List OperandItem) → Makes operators.OnNesting (items_of operands.old.items) d rest → ⊥)) }
+    ensures err { IfErr result (λ e. RefusesWith e ((d : Tree) (rest : List OperandItem)
+        → Makes operators.OnNesting (items_of operands.old.items) d rest → ⊥)) }
 {
     let test = take_nesting_test(operands)?;
     let first = take_document(operands)?;
@@ -160,7 +173,8 @@ fn make<'a>(
     operands: &mut Vec<Operand<'a>>,
 ) -> Result<Pointer<'a>, Refusal>
     ensures ok { IfOk result (λ d. Makes operator (items_of operands.old.items) (pointer_tree d) (items_of operands.new.items)) }
-    ensures err { IfErr result (λ e. RefusesWith e ((d : Tree) (rest : List OperandItem) → Makes operator (items_of operands.old.items) d rest → ⊥)) }
+    ensures err { IfErr result (λ e. RefusesWith e ((d : Tree) (rest : List OperandItem)
+        → Makes operator (items_of operands.old.items) d rest → ⊥)) }
 {
     match operator {
         Operator::Text => make_text(place, operands),

@@ -42,7 +42,7 @@ impl<T: Drop> From<AllocFailed<T>> for Refusal {
 impl From<BuildError> for Refusal {
     ghost from_gives = { λ _ r. r ≡ OutOfMemory };
 
-    // A node is refused for want of memory alone.
+    // A node is refused only where memory is refused.
     fn from(_error: BuildError) -> Refusal {
         Refusal::OutOfMemory
     }

@@ -13,7 +13,8 @@ use std::io::{BufRead, ErrorKind};
 // Reads the next line, without its LF. It is false where none is left. Where the reader fails, the line has the bytes that
 // it gave.
 fn next_line<R: BufRead>(reader: &mut R, line: &mut Vec<u8>) -> io::Result<bool>
-    ensures ok { IfOk result (λ found. IfSome (R.remaining reader.old) (λ bytes. ReadsLine found bytes line.new.items (R.remaining reader.new))) }
+    ensures ok { IfOk result (λ found. IfSome (R.remaining reader.old)
+        (λ bytes. ReadsLine found bytes line.new.items (R.remaining reader.new))) }
     ensures err { OnErr result (Consumes (R.remaining reader.old) (R.remaining reader.new) line.new.items) }
 {
     line.clear();

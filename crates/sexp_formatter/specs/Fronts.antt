@@ -52,7 +52,7 @@ pub record IsListFront (levels : ℕ) (bytes : List ℕ) (vs : Values) (rest : L
 abbrev pub HasNoListFront : ℕ → List ℕ → Type 0
 HasNoListFront levels bytes = (ws : Values) (other : List ℕ) → Closes ws bytes other → depth_of_all ws ≤ levels → ⊥
 
--- why nothing was read: this fact, or want of memory
+-- why nothing was read: this fact, or a refusal of memory
 abbrev pub RefusesInput : RunError → Type 0 → Type 0
 RefusesInput NotAnSexp fact = fact
 RefusesInput (Memory e) fact = Unit {0}

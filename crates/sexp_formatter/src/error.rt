@@ -37,7 +37,7 @@ impl<T: Drop> From<AllocFailed<T>> for RunError {
 impl From<BuildError> for RunError {
     ghost from_gives = { λ _ r. r ≡ Memory alloc_error };
 
-    // A document of numbers and lists is refused for want of memory alone.
+    // A document of numbers and lists is refused only where memory is refused.
     fn from(error: BuildError) -> RunError {
         match error {
             BuildError::Memory(error) => RunError::Memory(error),

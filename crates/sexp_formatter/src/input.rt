@@ -12,7 +12,7 @@ const CHUNK: usize = 8192;
 
 /// Reads to the end, or until more bytes have come than an input may have.
 ///
-/// An error of the reader, an interruption too, is answered as `Read`, and want of memory as `Memory`.
+/// An error of the reader, an interruption too, is answered as `Read`, and a refusal of memory as `Memory`.
 pub fn read_input<R: Read>(alloc: Global, reader: &mut R) -> Result<Vec<u8>, RunError>
     ensures taken { IfOk result (λ input. Consumes (R.remaining reader.old) (R.remaining reader.new) input.items) }
     ensures all { IfOk result (λ input. IsAtEnd (R.remaining reader.new) ⊎ (MOST_BYTES < length input.items)) }

@@ -48,7 +48,7 @@ fn place_lines<'a, D: DocPlace<'a>>(place: &'a D) -> Result<(), BuildError> {
     place_built(place.softline_())
 }
 
-// Lines are handed out, and none is placed.
+// Lines are returned, and none is placed.
 fn lines<'a, D: CountedPlace<'a>>(rt: &impl Abort, place: &'a D) -> Result<(), Fail> {
     place_lines(place)?;
     check(rt, place.has_no_node(), "the nodes", "lines");

@@ -1,6 +1,6 @@
 //! Tests of layouts. Documents are written down node by node, and put into each place of nodes: what each is laid out and shown as, by each
-//! way to render, and how many of its nodes a render visits; awkward trees; sinks that fail or lie, and the pieces that sinks are given;
-//! the constants of an arena, and arenas that are refused memory.
+//! way to render, and how many of its nodes a render visits; trees at the limits; sinks that fail or lie, and the pieces that sinks are
+//! given; the constants of an arena, and arenas that are refused memory.
 #![tactic(auto)]
 
 #[cfg(test)]

@@ -86,7 +86,7 @@ fn refused<'a, D: CountedPlace<'a>>(
     Ok(after)
 }
 
-// The text that is handed in again is placed where the limit is gone.
+// The text that is given again is placed where the limit is gone.
 fn placed_again<'a, D: CountedPlace<'a>>(
     rt: &impl Abort,
     bump: &Bump,

@@ -38,7 +38,7 @@ pub(crate) const ROWS: &[Row<'static>] = &[
     Row { width: 10, written: "Append LineSuffix Text ' // caller' Union Append Union Append Text 'inner' LineSuffix Text ' // s' \
                                Text 'inner fallback' Text ' long overflow' Text 'outer fallback'",
           layout: "outer fallback // caller", fails: false },
-    // Two lines with a suffix. Of an alternative that is not kept the line end laid the second one too.
+    // Two lines with a suffix. Of an alternative that is rejected the line end laid the second one too.
     Row { width: 5, written: "Append Append Append Text 'a' LineSuffix Text '!' HardLine Append Append Text 'b' LineSuffix Text '?' \
                               Append Union Append Append Text 'c' HardLine Text 'longer' Text 'd' Append HardLine Text 'e'",
           layout: "a!\nbd?\ne", fails: false },

@@ -164,7 +164,7 @@ fn ending<'a, T: DocPtr<'a>>(
     document.doc().render_raw_with(memory, options, sink)
 }
 
-// Compares how a render ends of which one call goes wrong, and answers whether it comes to that call.
+// Compares how a render ends of which one call goes wrong, and answers whether it reaches that call.
 fn compare<'a, T: DocPtr<'a>>(
     rt: &impl Abort,
     memory: Global,

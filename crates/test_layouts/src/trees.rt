@@ -1,4 +1,4 @@
-//! Awkward trees. All are tried in an arena, so that nothing deep is dropped.
+//! Trees at the limits: deep, long, with unions in unions. All are tried in an arena, so that nothing deep is dropped.
 use crate::checks::check;
 use crate::gear::{Gear, render_in};
 use crate::places::{InArena, in_arena};

@@ -162,7 +162,7 @@ fn compare_ended_bytes(
     check(rt, writer.calls == writer.wrong_call, "the calls", layout);
 }
 
-// Compares how a render ends of which one call goes wrong, and answers whether it comes to that call.
+// Compares how a render ends of which one call goes wrong, and answers whether it reaches that call.
 fn compare_bytes<'a, T: DocPtr<'a>>(
     rt: &impl Abort,
     memory: Global,
@@ -383,7 +383,7 @@ fn compare_ended_pieces(
     );
 }
 
-// Compares how a render ends of which one piece goes wrong, and answers whether it comes to that piece.
+// Compares how a render ends of which one piece goes wrong, and answers whether it reaches that piece.
 fn compare_pieces<'a, T: DocPtr<'a>>(
     rt: &impl Abort,
     memory: Global,

@@ -1,6 +1,6 @@
 //! Uses of memory of which one request is refused. This reads a number from standard input and makes as many requests of its
 //! own. Then it builds documents, copies them and lays them out, and runs the formatters of `sexp` and `replay`, all over
-//! fixed arrays. It writes where memory was refused, as far as the answers tell: `before`, `within` and the use, `after`, or
+//! fixed arrays. It writes where memory was refused, as far as the answers show it: `before`, `within` and the use, `after`, or
 //! `nowhere`. Where an answer is wrong it writes `wrong` and which it is, and fails.
 //!
 //! No program can have its own requests refused, so `tools/refuse_memory` has that done from outside.

@@ -1,7 +1,7 @@
 //! Where memory was refused in a run.
 use crate::run::{Run, Use, Wrong};
 
-/// Where memory was refused, as far as the answers tell.
+/// Where memory was refused, as far as the answers show it.
 #[derive(Clone, Copy, Drop)]
 pub enum Refused<'s> {
     /// Before the uses.
@@ -10,11 +10,11 @@ pub enum Refused<'s> {
     Within(Use<'s>),
     /// After the uses.
     After,
-    /// No answer tells of it.
+    /// No answer shows it.
     Nowhere,
 }
 
-/// Where memory was refused. It is at one place at most: an answer that tells of another refusal is wrong.
+/// Where memory was refused. It is at one place at most: an answer that shows another refusal is wrong.
 pub fn place_of_refusal<'s>(
     granted_before: bool,
     run: &Run<'s>,

@@ -1,7 +1,7 @@
 //! Requests for memory that stand before the uses and after them.
 use std::alloc::Global;
 
-/// How many requests are made after the uses: enough to come to the one that is refused, wherever that is.
+/// How many requests are made after the uses: enough to reach the one that is refused, wherever that is.
 pub const AFTER: usize = 1_000;
 
 // Makes a request, and answers whether it is granted.

@@ -1,4 +1,4 @@
-//! A run: which use it is at, and what its answers have told of so far.
+//! A run: which use it is at, and what its answers have shown so far.
 use prettyless::text::BuildError;
 
 /// A use of memory: where documents are, and what is done.
@@ -11,13 +11,13 @@ pub struct Use<'s> {
 /// Why an answer is wrong.
 #[derive(Clone, Copy, Drop)]
 pub enum Wrong {
-    /// It is no success, and does not tell that memory was refused.
+    /// It is no success, and does not show that memory was refused.
     Error,
     /// It is a success, with other bytes.
     Bytes,
     /// Memory was refused, and what was written is no beginning of the bytes.
     NoBeginning,
-    /// It tells of a second refusal, or of one where none was.
+    /// It shows a second refusal, or one where none was.
     Refused,
 }
 
@@ -50,7 +50,7 @@ pub enum Answer {
     Refused,
 }
 
-/// What the uses have come to.
+/// The result of the uses so far.
 #[derive(Drop)]
 pub struct Run<'s> {
     at: Use<'s>,
@@ -72,7 +72,7 @@ impl<'s> Run<'s> {
         self.at
     }
 
-    /// The use whose answer told of a refusal.
+    /// The use whose answer showed a refusal.
     pub fn refused(&self) -> Option<Use<'s>> {
         self.refused
     }

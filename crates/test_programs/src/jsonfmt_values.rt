@@ -1,4 +1,4 @@
-//! Texts of awkward values, and their layouts.
+//! Texts of values with escapes, wide letters, long numbers or a repeated key, and their layouts.
 use crate::jsonfmt_layouts::is_laid_out;
 use json_formatter::Style;
 

@@ -508,7 +508,7 @@ comma_changed nested line w x left taken keeps h = record {
           level = inr (line_level nested true line x left taken h.items h.rs a r);
         }
 
--- a line where nothing waits, with a mark at its end or without
+-- a line where nothing waits, with an optional text at its end or without
 module _ (nested : Bool) (line : Line) (x : List ℕ) (left taken : List (List ℕ)) (closing : role x ≡ a_closing) (none : line.comma ≡ false)
     (alone : line.is_remarked ≡ false)
     (h : ShowsTaken nested false line (x ∷ left) taken) where

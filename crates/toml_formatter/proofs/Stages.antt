@@ -1,4 +1,4 @@
--- How items are read one after the other, and what lexemes that wait come to.
+-- How items are read one after the other, and what becomes of lexemes that wait.
 use Rattle.std.proofs.Common.{◌≡◌, refl, sym, ◌∙◌, ap, subst, ℕ, zero, suc, Bool, true, false, List, [], ◌∷◌, ◌++◌}
 use Rattle.prettyless_model.specs.Shows as shown
 use Rattle.prettyless_model.specs.Shows.{Item, Shown, Gap, Mark, Late, SameLine, AnyLine, Spacing, LineEnd, After, with_gap, more}
@@ -45,7 +45,7 @@ at_gap c t BlankLine m = record { collected = c; last = t; place = After AnyLine
 at_gap c t Break m = record { collected = c; last = t; place = After AnyLine LineEnd; marked = m }
 at_gap c t BlankBreak m = record { collected = c; last = t; place = After AnyLine LineEnd; marked = m }
 
--- the same after a mark
+-- the same after an optional text
 abbrev pub after_mark : Collected → List ℕ → Bool → Stage
 after_mark c t m = record { collected = c; last = t; place = shown.after_text; marked = m }
 

@@ -165,7 +165,7 @@ pub record ClosedRead (nested : Bool) (line : Line) (x : List ℕ) (taken : List
   pub inside : IsNested nested collected
   pub level : nested ≡ true → collected.depth ≡ (before_next a).depth
 
--- the line before this closing bracket, where nothing waits, but the comma may be a mark
+-- the line before this closing bracket, where nothing waits, but the comma may be an optional text
 pub record IsClosed (nested : Bool) (line : Line) (x : List ℕ) (taken : List (List ℕ)) : Type 0 where
   pub items : List Item
   pub shown : shows (ref_tree line.doc) items

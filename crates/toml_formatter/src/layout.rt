@@ -54,7 +54,7 @@ fn rendered<'a, P: DocPtr<'a>>(
     match doc.render_fmt_with(alloc, options, &mut layout) {
         Ok(()) => Ok(layout),
         Err(RenderError::Memory(error)) => Err(FormatError::Memory(error)),
-        // A `String` fails for want of memory alone, and a document of lexemes has nothing that fails.
+        // A `String` fails only where memory is refused, and a document of lexemes has nothing that fails.
         Err(RenderError::Sink(_) | RenderError::Document(_)) => {
             Err(FormatError::Memory(AllocError))
         }

@@ -144,7 +144,8 @@ impl<'a> Line<'a> {
     fn with_waiting_comma(self) -> Line<'a>
         ensures line { (nested : Bool) (left taken : List (List ℕ)) → self.entry.comma ≡ false
             → (self.entry.is_remarked ≡ false) ⊎ (may_hold self.entry.last ≡ false)
-            → ShowsTaken nested true self.entry ((comma ∷ []) ∷ left) taken → ShowsTaken nested true result left (taken ++ (comma ∷ []) ∷ []) }
+            → ShowsTaken nested true self.entry ((comma ∷ []) ∷ left) taken
+            → ShowsTaken nested true result left (taken ++ (comma ∷ []) ∷ []) }
         ensures last { result.last ≡ self.entry.last }
         ensures remarked { result.is_remarked ≡ self.entry.is_remarked }
     {
@@ -159,7 +160,8 @@ impl<'a> Line<'a> {
     /// The same with a comma taken.
     pub(crate) fn with_comma(self, arena: &'a Arena<'a>) -> Result<Line<'a>, BuildError>
         ensures line { IfOk result (λ line. (nested : Bool) (left taken : List (List ℕ)) → TakesMore nested self.entry
-            → ShowsTaken nested true self.entry ((comma ∷ []) ∷ left) taken → ShowsTaken nested true line left (taken ++ (comma ∷ []) ∷ [])) }
+            → ShowsTaken nested true self.entry ((comma ∷ []) ∷ left) taken
+            → ShowsTaken nested true line left (taken ++ (comma ∷ []) ∷ [])) }
         ensures goes_on { IfOk result (λ line. (nested : Bool) → TakesMore nested self.entry → TakesMore nested line) }
     {
         if self.settles() {

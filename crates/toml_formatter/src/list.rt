@@ -139,7 +139,8 @@ fn with_next<'a>(
     requires named { HasTomlKind next }
     requires sound { IsSound (toml_text_of next) lexemes.old }
     requires part { is_closing next ≡ false }
-    ensures made { IfOk result (λ made. (taken : List (List ℕ)) → ShowsTaken true true line.entry (toml_text_of next.entry ∷ lexemes.old) taken
+    ensures made { IfOk result (λ made. (taken : List (List ℕ))
+        → ShowsTaken true true line.entry (toml_text_of next.entry ∷ lexemes.old) taken
         → (more : List (List ℕ)) × (toml_text_of next.entry ∷ lexemes.old ≡ more ++ lexemes.new)
         × ShowsTaken true true made lexemes.new (taken ++ more)) }
     ensures fewer { OnOk result (length lexemes.new ≤ length lexemes.old) }

@@ -82,7 +82,8 @@ fn with_next<'a>(
     requires sound { IsSound (toml_text_of next) lexemes.old }
     requires no_line_end { LineEndsNext (toml_text_of next ∷ lexemes.old) → ⊥ }
     requires goes_on { TakesMore false line }
-    ensures line { IfOk result (λ made. (taken : List (List ℕ)) → ShowsTaken false true line.entry (toml_text_of next.entry ∷ lexemes.old) taken
+    ensures line { IfOk result (λ made. (taken : List (List ℕ))
+        → ShowsTaken false true line.entry (toml_text_of next.entry ∷ lexemes.old) taken
         → (more : List (List ℕ)) × (toml_text_of next.entry ∷ lexemes.old ≡ more ++ lexemes.new)
         × ShowsTaken false true made lexemes.new (taken ++ more)) }
     ensures goes_on { IfOk result (λ made. MayGoOn made lexemes.new) }

@@ -5,7 +5,7 @@ ghost use Rattle.std.specs.Prelude.{◌≡◌};
 pub struct Style {
     /// The width of a line, in columns.
     pub width: usize,
-    /// How many columns the members of a broken array are further in than its brackets.
+    /// By how many columns the members of a broken array are indented relative to its brackets.
     pub indent: u32,
 }
 

@@ -1,4 +1,4 @@
--- The model of a lexer that hands out gaps too.
+-- The model of a lexer that returns gaps too.
 use Rattle.std.specs.Prelude.{◌≡◌, ℕ, List, [], ◌∷◌, cond, drop, Option, Some, None, MatchOption, ⊤}
 use Rattle.std.specs.Str.{IsUtf8, IsCharBoundary}
 use Rattle.toml_lexemes.specs.SpacedLexemes as spec
@@ -30,6 +30,6 @@ IsNamedIf (Some l) = HasTomlKind l
 abbrev pub spaced_of : Spaced → spec.SpacedToml
 spaced_of p = spec.after_toml_gap p.gap.now (text_if p.lexeme)
 
--- of these the first is handed out, and the others are left; or none was left
+-- of these the first is returned, and the others are left; or none was left
 abbrev pub HandsOutSpaced : List spec.SpacedToml → Option Spaced → List spec.SpacedToml → Type 0
 HandsOutSpaced old r new = MatchOption r ((old ≡ []) × (new ≡ [])) (λ p. (old ≡ spaced_of p ∷ new) × IsNamedIf p.lexeme)

@@ -33,7 +33,7 @@ HasTomlKind (Remark s) = byte.head s.now ≡ byte.hash
 HasTomlKind (String s) = byte.is_quote (byte.head s.now) ≡ true
 HasTomlKind (Word s) = byte.ends_word (byte.head s.now) ≡ false
 
--- of these texts the first is handed out, as a lexeme, and the others are left; or none was left
+-- of these texts the first is returned, as a lexeme, and the others are left; or none was left
 abbrev pub HandsOutTomlLexeme : List (List ℕ) → Option Lexeme → List (List ℕ) → Type 0
 HandsOutTomlLexeme old r new = MatchOption r ((old ≡ []) × (new ≡ [])) (λ l. (old ≡ toml_text_of l ∷ new) × HasTomlKind l)
 

@@ -7,7 +7,7 @@ use crate::lexeme::Lexeme;
 use std::alloc::{AllocError, Global};
 use std::marker::Model;
 
-/// Hands out the lexemes of a text, in their order. It takes no memory. A clause sees how those that are left are spelled.
+/// Returns the lexemes of a text one by one, in their order. It takes no memory. A clause sees how those that are left are spelled.
 #[derive(Drop)]
 pub struct Lexer<'a> {
     text: &'a str,
@@ -26,7 +26,7 @@ impl<'a> Model for Lexer<'a> {
 }
 
 impl<'a> Lexer<'a> {
-    /// Hands out all lexemes of this text.
+    /// Returns all lexemes of this text.
     pub fn new(text: &'a str) -> Lexer<'a>
         ensures { result ≡ toml_lexemes_of text.now }
     {

@@ -27,7 +27,7 @@ impl<'a> Spaced<'a> {
     }
 }
 
-/// Hands out the lexemes of a text, each with the gap before it, and then the end with the last gap. It takes no memory.
+/// Returns the lexemes of a text one by one, each with the gap before it, and then the end with the last gap. It takes no memory.
 /// A clause sees those that are left.
 #[derive(Drop)]
 pub struct SpacedLexer<'a> {
@@ -52,7 +52,7 @@ impl<'a> SpacedLexer<'a> {
     ghost use Rattle.std.specs.Prelude.{◌≡◌};
     ghost use Rattle.toml_lexemes.specs.SpacedLexemes.{toml_spaced_lexemes};
 
-    /// Hands out all lexemes of this text, and the end.
+    /// Returns all lexemes of this text, and the end.
     pub fn new(text: &'a str) -> SpacedLexer<'a>
         ensures { result ≡ toml_spaced_lexemes text.now }
     {

@@ -104,7 +104,7 @@ ReadsOn items =
     (a b : Stage) (c : Collected) (bytes : List ℕ) → IsBefore c a.last a.collected → AreRead a items b → b.marked ≡ false
     → ShowsFrom a.place [] bytes items → statements_of (with_lexemes c (cut_toml between (a.last ++ bytes))) ≡ statements_of b.collected
 
--- the same after a mark that is there, from any place on
+-- the same after an optional text that is there, from any place on
 abbrev ReadsOnAfterMark : List Item → Type 0
 ReadsOnAfterMark items =
     (a b : Stage) (p : Place) (bytes : List ℕ) → a.marked ≡ true → IsInside a.collected.depth → a.collected.comma ≡ false
@@ -157,7 +157,7 @@ module _ (items : List Item) (later : ReadsOn items) where
       ∙ ap (λ d. statements_of (with_lexemes d (cut_toml between (s ++ rest)))) (gap_read a.collected g a.place gap stand.lines)
       ∙ later (after_shown a s) b here rest (before_last here (with_lexeme here s) s whole refl) read unmarked shown
 
-  -- a closing bracket after a mark that is there
+  -- a closing bracket after an optional text that is there
   closing_read : (s : List ℕ) (a b : Stage) (p : Place) (bytes : List ℕ) → IsInside a.collected.depth → a.collected.comma ≡ false
       → IsWholeLexeme s → role s ≡ a_closing → AreRead (after_shown a s) items b → b.marked ≡ false
       → ShowsText (IsGapAt p) s bytes (λ rest. ShowsFrom after_text [] rest items)
@@ -182,7 +182,7 @@ module _ (items : List Item) (later : ReadsOn items) where
       keeps (After r Spacing) = refl
       keeps (Before r) = refl
 
--- a comma that is there by a mark
+-- a comma that an optional text left there
 comma_read : (items : List Item) → ReadsOnAfterMark items → (a b : Stage) (c : Collected) (bytes : List ℕ)
     → IsBefore c a.last a.collected → MayMark a (44 ∷ []) → AreRead (record a { marked = true }) items b → b.marked ≡ false
     → ShowsText (IsGapAt a.place) (44 ∷ []) bytes (λ rest. ShowsFrom after_text [] rest items)

@@ -56,7 +56,7 @@ agrees : (m : Bool) (s : List ℕ) → m ≡ false → AgreesWithMark m s
 agrees true s e = absurd (cc)
 agrees false s e = tt
 
--- any text may stand next, where any has the gap that it needs, a line end changes nothing, and no mark was last
+-- any text may stand next, where any has the gap that it needs, a line end changes nothing, and no optional text was last
 pub ready : (a : Stage) → LinesAgree a.place a.collected → a.marked ≡ false → ((s : List ℕ) → IsApart a s) → IsReady a
 ready a lines unmarked apart s = record { apart = apart s; lines = lines; mark = agrees a.marked s unmarked }
 

@@ -12,7 +12,7 @@ use Rattle.toml_statements.specs.Sound.{IsClosedString, AreSound}
 
 -- ---- what is shown
 
--- bytes that show items have the statements that these are read as, where no mark is the last of them
+-- bytes that show items have the statements that these are read as, where no optional text is the last of them
 abbrev pub ShownAsRead : Type 0
 ShownAsRead =
     (bytes : List ℕ) (items : List Item) (b : Stage) → AreRead first_stage items b → b.marked ≡ false → AreShown bytes items

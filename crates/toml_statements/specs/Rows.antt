@@ -21,7 +21,7 @@ SaysTheSame text other = statements (codes text) ≡ statements (codes other)
 abbrev pub SaysOther : String → String → Type 0
 SaysOther text other = statements (codes text) ≢ statements (codes other)
 
--- a text and a mark that are ASCII
+-- a text and an optional text that are ASCII
 abbrev pub shown : String → Item
 shown s = Shown (codes s)
 

@@ -46,7 +46,7 @@ pub record Stage : Type 0 where
   pub last : List ℕ
   -- where the next one stands
   pub place : Place
-  -- since then there was a mark
+  -- since then there was an optional text
   pub marked : Bool
 
 -- before the first item
@@ -69,7 +69,7 @@ LinesAgree (After AnyLine l) c = line_ended c ≡ c
 LinesAgree (Before AnyLine) c = line_ended c ≡ c
 LinesAgree p c = ⊤
 
--- after a mark, which may be there or not, comes a closing bracket
+-- after an optional text comes a closing bracket
 abbrev pub AgreesWithMark : Bool → List ℕ → Type 0
 AgreesWithMark false s = ⊤
 AgreesWithMark true s = role s ≡ a_closing
@@ -85,7 +85,7 @@ abbrev pub IsInside : ℕ → Type 0
 IsInside zero = ⊥
 IsInside (suc n) = ⊤
 
--- the mark may stand next, and be there or not: it is a comma in brackets, where no comma waits already
+-- the optional text may stand next: it is a comma in brackets, where no comma waits already
 pub record MayMark (a : Stage) (s : List ℕ) : Type 0 where
   pub comma : s ≡ byte.comma ∷ []
   pub apart : IsApart a s

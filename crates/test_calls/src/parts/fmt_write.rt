@@ -12,7 +12,8 @@ use std::fmt;
 // The owner of a text learns what a sink over it wrote.
 fn write_indented<W: TextWriter>(out: &mut W, text: &str) -> fmt::Result
     ensures ok { OnOk result (IsSome (W.text out.old) → known (W.text out.new) ≡ known (W.text out.old) ++ (spaces 2 ++ text.now)) }
-    ensures err { OnErr result (IsSome (W.text out.old) → AppendsBeginning (known (W.text out.old)) (known (W.text out.new)) (spaces 2 ++ text.now)) }
+    ensures err { OnErr result (IsSome (W.text out.old)
+        → AppendsBeginning (known (W.text out.old)) (known (W.text out.new)) (spaces 2 ++ text.now)) }
 {
     let mut sink = FmtWrite::new(out);
     write_gap_and_text(&mut sink, 2, text)

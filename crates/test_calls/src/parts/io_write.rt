@@ -116,8 +116,10 @@ fn a_document_that_fails_is_of_kind_other(rt: HostRuntime) {
 
 // The owner of a writer learns what a sink over it wrote.
 fn write_indented<W: Write>(out: &mut W, text: &str) -> io::Result<()>
-    ensures ok { OnOk result (IsSome (W.contents out.old) → known (W.contents out.new) ≡ known (W.contents out.old) ++ (spaces 2 ++ text.now)) }
-    ensures err { OnErr result (IsSome (W.contents out.old) → AppendsBeginning (known (W.contents out.old)) (known (W.contents out.new)) (spaces 2 ++ text.now)) }
+    ensures ok { OnOk result (IsSome (W.contents out.old) → known (W.contents out.new) ≡ known (W.contents out.old)
+        ++ (spaces 2 ++ text.now)) }
+    ensures err { OnErr result (IsSome (W.contents out.old)
+        → AppendsBeginning (known (W.contents out.old)) (known (W.contents out.new)) (spaces 2 ++ text.now)) }
 {
     let mut sink = IoWrite::new(out);
     write_gap_and_text(&mut sink, 2, text)

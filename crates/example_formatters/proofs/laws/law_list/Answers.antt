@@ -14,7 +14,7 @@ comma = Shown (codes ",") ∷ []
 abbrev marked : List (List Item) → List (List Item)
 marked lists = change_all_but_last (λ (items : List Item). items ++ comma) lists
 
--- the commas are marks first, and then stand in the gaps
+-- the commas are punctuation first, and then stand in the gaps
 commas_in_lines : (lists : List (List Item)) → in_lines (marked lists) ≡ with_commas lists
 commas_in_lines [] = refl
 commas_in_lines (items ∷ []) = refl

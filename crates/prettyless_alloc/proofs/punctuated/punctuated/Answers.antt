@@ -5,7 +5,7 @@ use Rattle.prettyless_build.specs.Built.{append}
 use Rattle.prettyless_alloc.proofs.Lists.{marked_before_last}
 use Rattle.prettyless_alloc.proofs.punctuated.punctuated.Goals as goal
 
--- the documents with marks, and then the last
+-- the documents with punctuation, and then the last
 pub returns-clause-ok : goal.returns-clause-ok
 returns-clause-ok g c =
     let tree = g.D.Doc.DocPtr.tree in

@@ -2,7 +2,7 @@ use Rattle.std.proofs.Common.{◌≡◌, map}
 use Rattle.prettyless_build.specs.Built.{append}
 use Rattle.prettyless_alloc.proofs.punctuated.with_marks.Given as goal
 
--- the mark after each document that came
+-- the punctuation after each document that came
 abbrev pub invariant-loop-doc : goal.invariant-loop-doc
 invariant-loop-doc g l =
     let tree = g.D.Doc.DocPtr.tree in

@@ -1,6 +1,6 @@
 use Rattle.std.proofs.Common.{ap, refl}
 use Rattle.std.proofs.lemmas.Str.{IsUtf8-string_bytes}
-use Rattle.prettyless_printer.specs.Points.{buffer_seen, point, seen, standing}
+use Rattle.prettyless_printer.specs.Points.{point, seen}
 use Rattle.prettyless_printer.specs.Open.{all_held}
 use Rattle.prettyless_printer.proofs.Choosing.{choice_opens}
 use Rattle.prettyless_probe.specs.Stack.{trees}
@@ -12,40 +12,30 @@ use Rattle.prettyless_printer.proofs.run.choose.Goals as goal
 pub go_on_choosing-requires-clause-open : goal.go_on_choosing-requires-clause-open
 go_on_choosing-requires-clause-open g c =
     let f = g.N.Walk.tree in
-    let a = point f c.args.printer.now (seen g.W.Render.bytes g.W.Render.failures g.W.Render.lender c.args.out.now) c.args.visits.now in
-    let buffer = buffer_seen (record c.args.buffer.now { text = c.clear.new.self }) in (
+    let a = point f c.args.printer.now (seen g.W.Render.bytes g.W.Render.failures g.W.Render.lender c.args.out.now) c.args.visits.now in (
       c.args.indent,
       f c.args.first,
       f c.args.second,
       a,
-      choice_opens f c.args.indent (f c.args.first) (f c.args.second) a buffer (all_held f c.args.trials.now.open.items)
-          (all_held f c.open_trial.new.trials.open.items) (standing f c.open_trial.new.printer) (ap (all_held f) c.requires.none)
-          c.clear.ensures.bytes refl (IsUtf8-string_bytes c.clear.new.self) c.in-Ok.ensures.held c.in-Ok.ensures.begun,
+      choice_opens (ap (all_held f) c.requires.none) c.clear.ensures.bytes refl (IsUtf8-string_bytes c.clear.new.self)
+          c.in-Ok.ensures.held c.in-Ok.ensures.begun,
     )
 
 pub returns-in-Ok-clause-settles : goal.returns-in-Ok-clause-settles
 returns-in-Ok-clause-settles g c =
     let f = g.N.Walk.tree in
     let a = point f c.args.printer.now (seen g.W.Render.bytes g.W.Render.failures g.W.Render.lender c.args.out.now) c.args.visits.now in
-    let buffer = buffer_seen (record c.args.buffer.now { text = c.clear.new.self }) in
     c.go_on_choosing.ensures.settles c.args.indent (f c.args.first) (f c.args.second) a
-    (choice_opens f c.args.indent (f c.args.first) (f c.args.second) a buffer (all_held f c.args.trials.now.open.items)
-    (all_held f c.open_trial.new.trials.open.items) (standing f c.open_trial.new.printer) (ap (all_held f) c.requires.none)
-    c.clear.ensures.bytes refl (IsUtf8-string_bytes c.clear.new.self) c.in-Ok.ensures.held c.in-Ok.ensures.begun)
+    (choice_opens (ap (all_held f) c.requires.none) c.clear.ensures.bytes refl (IsUtf8-string_bytes c.clear.new.self)
+    c.in-Ok.ensures.held c.in-Ok.ensures.begun)
 
 -- its trial is opened, and what is left then
 pub returns-in-Ok-clause-spends : goal.returns-in-Ok-clause-spends
 returns-in-Ok-clause-spends g c = λ plain.
     let f = g.N.Walk.tree in
     let a = point f c.args.printer.now (seen g.W.Render.bytes g.W.Render.failures g.W.Render.lender c.args.out.now) c.args.visits.now in
-    let q = standing f c.open_trial.new.printer in
-    let buffer = buffer_seen (record c.args.buffer.now { text = c.clear.new.self }) in
-    let us = all_held f c.args.trials.now.open.items in
-    let vs = all_held f c.open_trial.new.trials.open.items in
     let none = ap (all_held f) c.requires.none in
     spends_on_as _ c.go_on_choosing.result c.in-Ok.ensures.begun.options
-    (opens_spends _ f a.printer q us vs c.args.indent (f c.args.first) c.args.second c.args.visits.now none c.in-Ok.ensures.held
-    c.in-Ok.ensures.begun.tasks (ap (λ (z : Queue _). trees f z.nodes.items) c.in-Ok.ensures.queue))
+    (opens_spends none c.in-Ok.ensures.held c.in-Ok.ensures.begun (ap (λ (z : Queue _). trees f z.nodes.items) c.in-Ok.ensures.queue))
     (c.go_on_choosing.ensures.spends c.args.indent (f c.args.first) (f c.args.second) a
-    (choice_opens f c.args.indent (f c.args.first) (f c.args.second) a buffer us vs q none c.clear.ensures.bytes refl
-    (IsUtf8-string_bytes c.clear.new.self) c.in-Ok.ensures.held c.in-Ok.ensures.begun) plain)
+    (choice_opens none c.clear.ensures.bytes refl (IsUtf8-string_bytes c.clear.new.self) c.in-Ok.ensures.held c.in-Ok.ensures.begun) plain)

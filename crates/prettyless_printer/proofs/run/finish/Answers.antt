@@ -10,7 +10,7 @@ returns-clause-ends g c = λ a h.
     let fails = g.W.Render.document_errors c.go_on.new.out in
     done_anyhow fails run_result.Finished tt ((rw c.in-Finished.is at c.in_ok-go_on.ensures.runs) a h)
 
--- it broke off
+-- it ended in an error
 pub returns-in_err-go_on-clause-ends : goal.returns-in_err-go_on-clause-ends
 returns-in_err-go_on-clause-ends g c =
     let residual = err_from_is_err_and c.from_residual.result c.from_residual.ensures.1 in

@@ -33,7 +33,7 @@ go_on_choosing-requires-clause-open g c =
     let came = came_in_choice c.requires.comes.0 here (all_held f us) (buffer_seen c.args.buffer.now) some c.requires.comes.1 in
     (came.indent, came.first, came.second, came.at, came.choice)
 
--- it broke off
+-- it ended in an error
 pub returns-in_err-go_on_choosing-clause-runs : goal.returns-in_err-go_on_choosing-clause-runs
 returns-in_err-go_on_choosing-clause-runs g c =
     let residual = err_from_is_err_and c.from_residual.result c.from_residual.ensures.1 in
@@ -88,8 +88,7 @@ returns-in-Shift-clause-runs g c = λ a h.
     let came = came_in_choice a here (all_held f us) (buffer_seen c.args.buffer.now) some h in
     let settled = (rw c.in-Shift.is at c.in_ok-go_on_choosing.ensures.settles) came.indent came.first came.second came.at came.choice in
     record {
-      comes = comes_in_choice a came.c came.at next (all_held f c.go_on_choosing.new.trials.open.items)
-          (buffer_seen c.go_on_choosing.new.buffer) came.indent came.first came.second came.continues came.waiting settled.0;
+      comes = comes_in_choice came.continues came.waiting settled.0;
       past = settled.1;
     }
 

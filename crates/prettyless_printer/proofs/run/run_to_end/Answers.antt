@@ -22,7 +22,7 @@ rounds-init g c = record {
   summed = c.requires.summed;
 }
 
--- the commands broke off
+-- the commands ended in an error
 pub returns-in_err-work_off-clause-runs : goal.returns-in_err-work_off-clause-runs
 returns-in_err-work_off-clause-runs g c =
     let residual = err_from_is_err_and c.from_residual.result c.from_residual.ensures.1 in
@@ -30,7 +30,7 @@ returns-in_err-work_off-clause-runs g c =
     let fails = g.W.Render.document_errors c.work_off.new.out in
     continues_to_end fails _ c.rounds.invariant.continues (work_stopped fails _ c.in_err-work_off.ensures.works)
 
--- they are not worked off: probes are past the limit
+-- they are not all laid: probes are past the limit
 pub returns-in-Shift-clause-runs : goal.returns-in-Shift-clause-runs
 returns-in-Shift-clause-runs g c =
     let f = g.N.Walk.tree in
@@ -77,7 +77,7 @@ rounds-preserved g c =
       summed = c.in_ok-flush_end-in-Finished.ensures.summed;
     }
 
--- its gap broke off
+-- its gap ended in an error
 pub returns-in_err-flush_end-in-Finished-clause-runs : goal.returns-in_err-flush_end-in-Finished-clause-runs
 returns-in_err-flush_end-in-Finished-clause-runs g c =
     let residual = err_from_is_err_and c.from_residual-in_err-flush_end-in-Finished.result

@@ -158,8 +158,7 @@ returns-in-Shift-2-clause-works g c =
     (rw c.in-Choice.is at c.in_ok-turn.ensures.advances) (omega arith) in
     let settled = rw c.in-Shift-2.is at c.in_ok-choose-in-Choice.ensures.settles in
     record {
-      comes = comes_in_choice start start at next (all_held f c.choose.new.trials.open.items) (buffer_seen c.choose.new.buffer)
-          c.in-Choice.indent (f c.in-Choice.first) (f c.in-Choice.second) (continues_same start) waiting settled.0;
+      comes = comes_in_choice (continues_same start) waiting settled.0;
       past = settled.1;
     }
 

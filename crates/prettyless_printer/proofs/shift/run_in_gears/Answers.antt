@@ -49,7 +49,7 @@ returns-in-Finished-clause-few g c = λ linear none.
     c.gears.invariant.start (c.gears.invariant.next linear none) (c.gears.invariant.within linear none)
     (c.in_ok-go_on.ensures.spends start c.gears.invariant.comes linear.plain))
 
--- it broke off
+-- it ended in an error
 pub returns-in_err-go_on-clause-ends : goal.returns-in_err-go_on-clause-ends
 returns-in_err-go_on-clause-ends g c =
     let residual = err_from_is_err_and c.from_residual.result c.from_residual.ensures.1 in

@@ -56,7 +56,7 @@ lay_out_seconds-requires-clause-room g c =
       length-map trials (held f),
     )
 
--- what is left stands where it was laid out, after the table has grown
+-- what is left stands where it was stored, after the table has grown
 pub placed_printer-requires-clause-laid : goal.placed_printer-requires-clause-laid
 placed_printer-requires-clause-laid g c =
     laid_out_kept g.N.Walk.tree c.lay_out_all.new.table.cells.items c.lay_out_seconds.new.table.cells.items c.args.printer.now
@@ -83,7 +83,7 @@ returns-clause-ended g c = λ a comes.
           (shifted_stands f _ c.args.printer.now c.in_ok-placed.placed c.in_ok-placed.ensures.shifted) comes),
     )
 
--- what it leaves visits two nodes for each that it asks a probe
+-- what it leaves visits two nodes for each that needs a probe
 pub returns-clause-spends : goal.returns-clause-spends
 returns-clause-spends g c = λ a comes plain.
     let f = g.N.Walk.tree in

@@ -9,9 +9,9 @@ use Rattle.prettyless_printer.specs.Trials.{Attempt}
 use Rattle.prettyless_printer.specs.Open.{Open, all_held, held}
 use Rattle.prettyless_printer.proofs.Chains.{all_held-push, broke_at, keeps_open, keeps_over, length-all_held, open_broke}
 use Rattle.prettyless_printer.proofs.Chains.{open_choice_broke, open_fallen_broke, open_fell, open_goes, open_kept, open_more, open_other}
-use Rattle.prettyless_printer.proofs.Chains.{open_some, open_stops, other_open, other_over}
+use Rattle.prettyless_printer.proofs.Chains.{open_some, open_stops, other_open, other_over, took}
 use Rattle.prettyless_printer.proofs.Costs.{less_goes, less_more, less_kept, less_other}
-use Rattle.prettyless_printer.proofs.Trying.{cut_back, grows_same, queue_marked}
+use Rattle.prettyless_printer.proofs.Trying.{cut_back, flagged, pushed, queue_marked}
 use Rattle.prettyless_printer.proofs.Standings.{length_queue}
 use Rattle.prettyless_printer.proofs.Chains.{ends_broke}
 use Rattle.prettyless_printer.proofs.Spending.{spends_all, spends_same}
@@ -38,16 +38,19 @@ below-requires g c =
 -- the innermost trial is refused memory
 pub returns-in_err-advance-clause-ends : goal.returns-in_err-advance-clause-ends
 returns-in_err-advance-clause-ends g c =
-    λ s y h. ends_broke AllocError c.args.limit s y (all_held g.N.Walk.tree c.work.trials.«open».items) c.from_residual.result
+    let f = g.N.Walk.tree in
+    λ s y h. ends_broke AllocError c.args.limit s y (all_held f c.work.trials.«open».items) c.from_residual.result
     c.from_residual.ensures.0
-    (open_broke g.N.Walk.tree s y _ c.in_err-advance.field-0.0 (c.work.invariant.trials s y h)
-    (rw c.below.ensures at c.in_err-advance.ensures.courses))
+    (open_broke (took AllocError f (c.work.invariant.trials s y h)
+    (rw c.below.ensures at c.in_err-advance.ensures.courses)))
 
 -- it goes on
 pub work-smaller-in-Running : goal.work-smaller-in-Running
 work-smaller-in-Running g c =
+    let f = g.N.Walk.tree in
     let some = c.work.invariant.some in
-    less_goes AllocError g.N.Walk.tree some.0 some.1 _ some.2 (rw (c.in-Running.is, c.below.ensures) at c.in_ok-advance.ensures.courses)
+    less_goes
+    (took AllocError f some.2 (rw (c.in-Running.is, c.below.ensures) at c.in_ok-advance.ensures.courses))
 
 pub work-preserved-in-Running : goal.work-preserved-in-Running
 work-preserved-in-Running g c =
@@ -55,22 +58,22 @@ work-preserved-in-Running g c =
     let some = c.work.invariant.some in
     let course = rw (c.in-Running.is, c.below.ensures) at c.in_ok-advance.ensures.courses in
     record {
-      trials = λ s y h. open_goes AllocError f s y _ (c.work.invariant.trials s y h) course;
-      some = (some.0, some.1, open_goes AllocError f some.0 some.1 _ some.2 course);
-      spends = λ s y h plain. open_spends g.N.Walk.HAS_SUMMARIES c.args.limit s y _ _
-          (point f c.args.printer.now (buffer_seen c.args.buffer.now) c.args.visits.now)
-          (point f c.work.printer (buffer_seen c.work.buffer) c.work.visits) h (c.work.invariant.trials s y h) plain
-          (c.work.invariant.spends s y h plain) (rw c.in-Running.is at c.in_ok-advance.ensures.spends);
+      trials = λ s y h. open_goes (took AllocError f (c.work.invariant.trials s y h) course);
+      some = (some.0, some.1, open_goes (took AllocError f some.2 course));
+      spends = λ s y h plain.
+          open_spends (record { before = h; now = c.work.invariant.trials s y h; plain = plain }) (c.work.invariant.spends s y h plain)
+          (rw c.in-Running.is at c.in_ok-advance.ensures.spends);
       summed = c.in_ok-advance.ensures.summed;
     }
 
 -- it stopped
 pub returns-in-Shift-clause-ends : goal.returns-in-Shift-clause-ends
-returns-in-Shift-clause-ends g c = λ s y h. (
-  open_stops AllocError g.N.Walk.tree s y _ (c.work.invariant.trials s y h)
-      (rw (c.in-Shift.is, c.below.ensures) at c.in_ok-advance.ensures.courses),
-  rw c.in-Shift.is at c.in_ok-advance.ensures.past,
-)
+returns-in-Shift-clause-ends g c = λ s y h.
+    let f = g.N.Walk.tree in (
+      open_stops (took AllocError f (c.work.invariant.trials s y h)
+          (rw (c.in-Shift.is, c.below.ensures) at c.in_ok-advance.ensures.courses)),
+      rw c.in-Shift.is at c.in_ok-advance.ensures.past,
+    )
 
 -- the outermost one is kept
 pub returns-then-is_empty-clause-ends : goal.returns-then-is_empty-clause-ends
@@ -83,9 +86,10 @@ returns-then-is_empty-clause-ends g c =
     λ s y h. (
       none,
       keeps_over AllocError s y (point f q (buffer_seen c.advance.new.buffer) c.advance.new.visits) (all_held f us) none
-          (open_kept AllocError f s y _ (all_held f us) (held f c.in-Some.trial) (standing f q)
-          (all_held-push f _ us c.in-Some.trial c.in-Some.ensures.items) (c.work.invariant.trials s y h)
-          (rw (c.in-Complete.is, c.below.ensures) at c.in_ok-advance.ensures.courses) refl refl refl (grows_same (standing f p))),
+          (open_kept _ _ (all_held-push f _ us c.in-Some.trial c.in-Some.ensures.items)
+          (took AllocError f (c.work.invariant.trials s y h)
+          (rw (c.in-Complete.is, c.below.ensures) at c.in_ok-advance.ensures.courses))
+          (flagged c.in-Some.trial.mark.within (standing f p))),
     )
 
 -- an inner one is kept
@@ -97,11 +101,10 @@ work-smaller-else-is_empty g c =
     let us = c.pop.new.self.items in
     let some = c.work.invariant.some in
     let inner : 0 < length us = c.is_empty.ensures.some c.if-is_empty.false in
-    less_kept AllocError f some.0 some.1 _ (all_held f us) (held f c.in-Some.trial) (standing f q) (buffer_seen c.advance.new.buffer)
-    c.advance.new.visits (all_held-push f _ us c.in-Some.trial c.in-Some.ensures.items)
-    (omega (arith, length-all_held f us, inner)) some.2 (rw (c.in-Complete.is, c.below.ensures) at c.in_ok-advance.ensures.courses) refl
-    refl
-    (grows_same (standing f p))
+    less_kept _ _ (point f q (buffer_seen c.advance.new.buffer) c.advance.new.visits)
+    (all_held-push f _ us c.in-Some.trial c.in-Some.ensures.items) (omega (arith, length-all_held f us, inner))
+    (took AllocError f some.2 (rw (c.in-Complete.is, c.below.ensures) at c.in_ok-advance.ensures.courses))
+    (flagged c.in-Some.trial.mark.within (standing f p))
 
 pub work-preserved-else-is_empty : goal.work-preserved-else-is_empty
 work-preserved-else-is_empty g c =
@@ -116,29 +119,26 @@ work-preserved-else-is_empty g c =
     let course = rw (c.in-Complete.is, c.below.ensures) at c.in_ok-advance.ensures.courses in
     let kept : (s : Attempt) (y : Tree) → Open s y (all_held f c.work.trials.«open».items) a → Open s y (all_held f us) b = λ s y h.
     keeps_open AllocError s y b (all_held f us) (omega (arith, length-all_held f us, inner))
-    (open_kept AllocError f s y _ (all_held f us) (held f c.in-Some.trial) (standing f q)
-    (all_held-push f _ us c.in-Some.trial c.in-Some.ensures.items) h course refl refl refl (grows_same (standing f p))) in
+    (open_kept _ _ (all_held-push f _ us c.in-Some.trial c.in-Some.ensures.items) (took AllocError f h course)
+    (flagged c.in-Some.trial.mark.within (standing f p))) in
     record {
       trials = λ s y h. kept s y (c.work.invariant.trials s y h);
       some = (some.0, some.1, kept some.0 some.1 some.2);
       spends = λ s y h plain.
-          spends_kept (standing f p) (standing f q) _ (all_held f us) (held f c.in-Some.trial)
+          spends_kept (standing f p) (standing f q) (all_held f us) (held f c.in-Some.trial)
           (all_held-push f _ us c.in-Some.trial c.in-Some.ensures.items) refl refl
-          (open_spends g.N.Walk.HAS_SUMMARIES c.args.limit s y _ _
-          (point f c.args.printer.now (buffer_seen c.args.buffer.now) c.args.visits.now)
-          (point f c.work.printer (buffer_seen c.work.buffer) c.work.visits) h (c.work.invariant.trials s y h) plain
-          (c.work.invariant.spends s y h plain) (rw c.in-Complete.is at c.in_ok-advance.ensures.spends));
+          (open_spends (record { before = h; now = c.work.invariant.trials s y h; plain = plain }) (c.work.invariant.spends s y h plain)
+          (rw c.in-Complete.is at c.in_ok-advance.ensures.spends));
       summed = c.in_ok-advance.ensures.summed;
     }
 
--- the innermost one is not kept
+-- the innermost one is rejected
 pub take_back-requires-clause-mark : goal.take_back-requires-clause-mark
 take_back-requires-clause-mark g c =
     let f = g.N.Walk.tree in
     let some = c.work.invariant.some in
-    let fell = open_fell AllocError f some.0 some.1 _ _ (held f c.in-Some-pop.trial)
-    (all_held-push f _ _ c.in-Some-pop.trial c.in-Some-pop.ensures.items) some.2
-    (rw (c.in-Rejected.is, c.below.ensures) at c.in_ok-advance.ensures.courses) in
+    let fell = open_fell _ _ (all_held-push f _ _ c.in-Some-pop.trial c.in-Some-pop.ensures.items)
+    (took AllocError f some.2 (rw (c.in-Rejected.is, c.below.ensures) at c.in_ok-advance.ensures.courses)) in
     omega (
       arith,
       queue_marked fell.trial.start.printer (standing f c.advance.new.printer) c.in-Some-pop.trial.mark fell.trial.start.sink
@@ -150,9 +150,8 @@ pub take_back-requires-clause-buffer : goal.take_back-requires-clause-buffer
 take_back-requires-clause-buffer g c =
     let f = g.N.Walk.tree in
     let some = c.work.invariant.some in
-    let fell = open_fell AllocError f some.0 some.1 _ _ (held f c.in-Some-pop.trial)
-    (all_held-push f _ _ c.in-Some-pop.trial c.in-Some-pop.ensures.items) some.2
-    (rw (c.in-Rejected.is, c.below.ensures) at c.in_ok-advance.ensures.courses) in
+    let fell = open_fell _ _ (all_held-push f _ _ c.in-Some-pop.trial c.in-Some-pop.ensures.items)
+    (took AllocError f some.2 (rw (c.in-Rejected.is, c.below.ensures) at c.in_ok-advance.ensures.courses)) in
     cut_back (known fell.trial.start.sink.bytes) c.advance.new.buffer.text c.in-Some-pop.trial.mark.written fell.fallen.bytes
     fell.marked.text fell.marked.marks.written fell.fallen.wrote
 
@@ -162,10 +161,10 @@ returns-in_err-push-in-Rejected-clause-ends g c =
     let f = g.N.Walk.tree in
     λ s y h. ends_broke AllocError c.args.limit s y _ c.from_residual-in_err-push-in-Rejected.result
     c.from_residual-in_err-push-in-Rejected.ensures.0
-    (broke_at refl (open_fallen_broke AllocError f s y _ (c.work.invariant.trials s y h)
-    (rw (c.in-Rejected.is, c.below.ensures) at c.in_ok-advance.ensures.courses)))
+    (broke_at refl (open_fallen_broke (took AllocError f (c.work.invariant.trials s y h)
+    (rw (c.in-Rejected.is, c.below.ensures) at c.in_ok-advance.ensures.courses))))
 
--- the outermost one is taken back
+-- the outermost one is undone
 pub returns-then-is_empty-2-clause-ends : goal.returns-then-is_empty-2-clause-ends
 returns-then-is_empty-2-clause-ends g c =
     let f = g.N.Walk.tree in
@@ -178,14 +177,14 @@ returns-then-is_empty-2-clause-ends g c =
     λ s y h. (
       none,
       other_over AllocError s y (point f q w c.advance.new.visits) (all_held f us) none
-          (open_other AllocError f s y _ (all_held f us) (held f c.in-Some-pop.trial) (standing f r) (standing f q) w
-          (all_held-push f _ us c.in-Some-pop.trial c.in-Some-pop.ensures.items) (c.work.invariant.trials s y h)
-          (rw (c.in-Rejected.is, c.below.ensures) at c.in_ok-advance.ensures.courses) c.take_back.ensures.printer refl
-          c.take_back.ensures.buffer c.take_back.ensures.failures refl
-          c.in_ok-push-in-Rejected.ensures.pushed refl refl (grows_same (standing f r))),
+          (open_other _ _ (standing f r) (all_held-push f _ us c.in-Some-pop.trial c.in-Some-pop.ensures.items)
+          (took AllocError f (c.work.invariant.trials s y h)
+          (rw (c.in-Rejected.is, c.below.ensures) at c.in_ok-advance.ensures.courses)) c.take_back.ensures.printer
+          (record { is_known = refl; bytes = c.take_back.ensures.buffer; failures = c.take_back.ensures.failures; lender = refl })
+          (pushed (standing f q) c.in_ok-push-in-Rejected.ensures.pushed refl refl refl)),
     )
 
--- an inner one is taken back
+-- an inner one is undone
 pub work-smaller-else-is_empty-2 : goal.work-smaller-else-is_empty-2
 work-smaller-else-is_empty-2 g c =
     let f = g.N.Walk.tree in
@@ -194,10 +193,10 @@ work-smaller-else-is_empty-2 g c =
     let us = c.pop-in-Rejected.new.self.items in
     let some = c.work.invariant.some in
     let inner : 0 < length us = c.is_empty-in-Rejected.ensures.some c.if-is_empty-2.false in
-    less_other AllocError f some.0 some.1 _ (all_held f us) (held f c.in-Some-pop.trial) (standing f r) (standing f q)
-    (buffer_seen c.take_back.new.buffer) c.advance.new.visits (all_held-push f _ us c.in-Some-pop.trial c.in-Some-pop.ensures.items)
-    (omega (arith, length-all_held f us, inner)) some.2 (rw (c.in-Rejected.is, c.below.ensures) at c.in_ok-advance.ensures.courses)
-    c.take_back.ensures.printer c.in_ok-push-in-Rejected.ensures.pushed refl (grows_same (standing f r))
+    less_other _ _ (standing f r) (point f q (buffer_seen c.take_back.new.buffer) c.advance.new.visits)
+    (all_held-push f _ us c.in-Some-pop.trial c.in-Some-pop.ensures.items) (omega (arith, length-all_held f us, inner))
+    (took AllocError f some.2 (rw (c.in-Rejected.is, c.below.ensures) at c.in_ok-advance.ensures.courses))
+    c.take_back.ensures.printer (pushed (standing f q) c.in_ok-push-in-Rejected.ensures.pushed refl refl refl)
 
 pub work-preserved-else-is_empty-2 : goal.work-preserved-else-is_empty-2
 work-preserved-else-is_empty-2 g c =
@@ -213,24 +212,21 @@ work-preserved-else-is_empty-2 g c =
     let course = rw (c.in-Rejected.is, c.below.ensures) at c.in_ok-advance.ensures.courses in
     let other : (s : Attempt) (y : Tree) → Open s y (all_held f c.work.trials.«open».items) a → Open s y (all_held f us) b = λ s y h.
     other_open AllocError s y b (all_held f us) (omega (arith, length-all_held f us, inner))
-    (open_other AllocError f s y _ (all_held f us) (held f c.in-Some-pop.trial) (standing f r) (standing f q) w
-    (all_held-push f _ us c.in-Some-pop.trial c.in-Some-pop.ensures.items) h course
-    c.take_back.ensures.printer refl c.take_back.ensures.buffer c.take_back.ensures.failures refl c.in_ok-push-in-Rejected.ensures.pushed
-    refl refl (grows_same (standing f r))) in
+    (open_other _ _ (standing f r) (all_held-push f _ us c.in-Some-pop.trial c.in-Some-pop.ensures.items)
+    (took AllocError f h course) c.take_back.ensures.printer
+    (record { is_known = refl; bytes = c.take_back.ensures.buffer; failures = c.take_back.ensures.failures; lender = refl })
+    (pushed (standing f q) c.in_ok-push-in-Rejected.ensures.pushed refl refl refl)) in
     record {
       trials = λ s y h. other s y (c.work.invariant.trials s y h);
       some = (some.0, some.1, other some.0 some.1 some.2);
       spends = λ s y h plain.
-          spends_back (standing f r) (standing f q) _ (all_held f us) (held f c.in-Some-pop.trial)
+          spends_back (standing f r) (all_held f us) (held f c.in-Some-pop.trial)
           (all_held-push f _ us c.in-Some-pop.trial c.in-Some-pop.ensures.items)
-          (open_fell AllocError f some.0 some.1 _ _ (held f c.in-Some-pop.trial)
-          (all_held-push f _ _ c.in-Some-pop.trial c.in-Some-pop.ensures.items) some.2
-          (rw (c.in-Rejected.is, c.below.ensures) at c.in_ok-advance.ensures.courses)) c.take_back.ensures.printer
-          c.in_ok-push-in-Rejected.ensures.pushed refl
-          (open_spends g.N.Walk.HAS_SUMMARIES c.args.limit s y _ _
-          (point f c.args.printer.now (buffer_seen c.args.buffer.now) c.args.visits.now)
-          (point f c.work.printer (buffer_seen c.work.buffer) c.work.visits) h (c.work.invariant.trials s y h) plain
-          (c.work.invariant.spends s y h plain) (rw c.in-Rejected.is at c.in_ok-advance.ensures.spends));
+          (open_fell _ _ (all_held-push f _ _ c.in-Some-pop.trial c.in-Some-pop.ensures.items)
+          (took AllocError f some.2 (rw (c.in-Rejected.is, c.below.ensures) at c.in_ok-advance.ensures.courses)))
+          c.take_back.ensures.printer (pushed (standing f q) c.in_ok-push-in-Rejected.ensures.pushed refl refl refl) refl
+          (open_spends (record { before = h; now = c.work.invariant.trials s y h; plain = plain }) (c.work.invariant.spends s y h plain)
+          (rw c.in-Rejected.is at c.in_ok-advance.ensures.spends));
       summed = c.in_ok-push-in-Rejected.ensures.summed (c.take_back.ensures.summed c.in_ok-advance.ensures.summed);
     }
 
@@ -239,10 +235,10 @@ pub work-smaller : goal.work-smaller
 work-smaller g c =
     let f = g.N.Walk.tree in
     let some = c.work.invariant.some in
-    less_more AllocError f some.0 some.1 _ _ c.in-Choice.indent c.in-Choice.first c.in-Choice.second (standing f c.open_trial.new.printer)
-    (buffer_seen c.advance.new.buffer) c.advance.new.visits some.2
-    (rw (c.in-Choice.is, c.below.ensures) at c.in_ok-advance.ensures.courses) c.in_ok-open_trial-in-Choice.ensures.held
-    c.in_ok-open_trial-in-Choice.ensures.begun (IsUtf8-string_bytes c.advance.new.buffer.text)
+    less_more (point f c.open_trial.new.printer (buffer_seen c.advance.new.buffer) c.advance.new.visits)
+    (took AllocError f some.2 (rw (c.in-Choice.is, c.below.ensures) at c.in_ok-advance.ensures.courses))
+    c.in_ok-open_trial-in-Choice.ensures.held c.in_ok-open_trial-in-Choice.ensures.begun
+    (IsUtf8-string_bytes c.advance.new.buffer.text)
 
 pub work-preserved : goal.work-preserved
 work-preserved g c =
@@ -253,20 +249,16 @@ work-preserved g c =
     let course = rw (c.in-Choice.is, c.below.ensures) at c.in_ok-advance.ensures.courses in
     let more : (s : Attempt) (y : Tree) → Open s y (all_held f c.work.trials.«open».items) a
     → Open s y (all_held f c.open_trial.new.trials.«open».items) b = λ s y h.
-    open_more AllocError f s y _ _ c.in-Choice.indent c.in-Choice.first c.in-Choice.second (standing f c.open_trial.new.printer) h course
+    open_more (took AllocError f h course)
     c.in_ok-open_trial-in-Choice.ensures.held c.in_ok-open_trial-in-Choice.ensures.begun (IsUtf8-string_bytes c.advance.new.buffer.text) in
     record {
       trials = λ s y h. more s y (c.work.invariant.trials s y h);
       some = (some.0, some.1, more some.0 some.1 some.2);
       spends = λ s y h plain.
-          spends_more f (standing f c.advance.new.printer) (standing f c.open_trial.new.printer) _ _ c.in-Choice.indent
-          (f c.in-Choice.first) c.in-Choice.second c.in_ok-open_trial-in-Choice.ensures.held
-          c.in_ok-open_trial-in-Choice.ensures.begun.tasks
+          spends_more c.in_ok-open_trial-in-Choice.ensures.held c.in_ok-open_trial-in-Choice.ensures.begun
           (ap (λ (z : Queue _). trees f z.nodes.items) c.in_ok-open_trial-in-Choice.ensures.queue)
-          (open_spends g.N.Walk.HAS_SUMMARIES c.args.limit s y _ _
-          (point f c.args.printer.now (buffer_seen c.args.buffer.now) c.args.visits.now)
-          (point f c.work.printer (buffer_seen c.work.buffer) c.work.visits) h (c.work.invariant.trials s y h) plain
-          (c.work.invariant.spends s y h plain) (rw c.in-Choice.is at c.in_ok-advance.ensures.spends));
+          (open_spends (record { before = h; now = c.work.invariant.trials s y h; plain = plain }) (c.work.invariant.spends s y h plain)
+          (rw c.in-Choice.is at c.in_ok-advance.ensures.spends));
       summed = c.in_ok-open_trial-in-Choice.ensures.summed;
     }
 
@@ -276,25 +268,23 @@ returns-in_err-open_trial-in-Choice-clause-ends g c =
     let f = g.N.Walk.tree in
     λ s y h. ends_broke AllocError c.args.limit s y _ c.from_residual-in_err-open_trial-in-Choice.result
     c.from_residual-in_err-open_trial-in-Choice.ensures.0
-    (broke_at refl (open_choice_broke AllocError f s y _ c.in-Choice.indent c.in-Choice.first c.in-Choice.second
-    (c.work.invariant.trials s y h) (rw (c.in-Choice.is, c.below.ensures) at c.in_ok-advance.ensures.courses)))
+    (broke_at refl (open_choice_broke (took AllocError f (c.work.invariant.trials s y h)
+    (rw (c.in-Choice.is, c.below.ensures) at c.in_ok-advance.ensures.courses))))
 
 -- what is left then
 pub returns-in_err-advance-clause-spends : goal.returns-in_err-advance-clause-spends
 returns-in_err-advance-clause-spends g c =
     let f = g.N.Walk.tree in
     λ s y h plain. spends_broke_as _ c.from_residual.result c.from_residual.ensures.0 (spends_all
-    (open_spends g.N.Walk.HAS_SUMMARIES c.args.limit s y _ _ (point f c.args.printer.now (buffer_seen c.args.buffer.now) c.args.visits.now)
-    (point f c.work.printer (buffer_seen c.work.buffer) c.work.visits) h (c.work.invariant.trials s y h) plain
-    (c.work.invariant.spends s y h plain) c.in_err-advance.ensures.spends))
+    (open_spends (record { before = h; now = c.work.invariant.trials s y h; plain = plain }) (c.work.invariant.spends s y h plain)
+    c.in_err-advance.ensures.spends))
 
 pub returns-in-Shift-clause-spends : goal.returns-in-Shift-clause-spends
 returns-in-Shift-clause-spends g c =
     let f = g.N.Walk.tree in
-    λ s y h plain. open_spends g.N.Walk.HAS_SUMMARIES c.args.limit s y _ _
-    (point f c.args.printer.now (buffer_seen c.args.buffer.now) c.args.visits.now)
-    (point f c.work.printer (buffer_seen c.work.buffer) c.work.visits) h (c.work.invariant.trials s y h) plain
-    (c.work.invariant.spends s y h plain) (rw c.in-Shift.is at c.in_ok-advance.ensures.spends)
+    λ s y h plain.
+    open_spends (record { before = h; now = c.work.invariant.trials s y h; plain = plain }) (c.work.invariant.spends s y h plain)
+    (rw c.in-Shift.is at c.in_ok-advance.ensures.spends)
 
 pub returns-then-is_empty-clause-spends : goal.returns-then-is_empty-clause-spends
 returns-then-is_empty-clause-spends g c =
@@ -303,20 +293,18 @@ returns-then-is_empty-clause-spends g c =
     let q = record p { within = c.in-Some.trial.mark.within } in
     let us = c.pop.new.self.items in
     λ s y h plain.
-    spends_kept (standing f p) (standing f q) _ (all_held f us) (held f c.in-Some.trial)
+    spends_kept (standing f p) (standing f q) (all_held f us) (held f c.in-Some.trial)
     (all_held-push f _ us c.in-Some.trial c.in-Some.ensures.items) refl refl
-    (open_spends g.N.Walk.HAS_SUMMARIES c.args.limit s y _ _ (point f c.args.printer.now (buffer_seen c.args.buffer.now) c.args.visits.now)
-    (point f c.work.printer (buffer_seen c.work.buffer) c.work.visits) h (c.work.invariant.trials s y h) plain
-    (c.work.invariant.spends s y h plain) (rw c.in-Complete.is at c.in_ok-advance.ensures.spends))
+    (open_spends (record { before = h; now = c.work.invariant.trials s y h; plain = plain }) (c.work.invariant.spends s y h plain)
+    (rw c.in-Complete.is at c.in_ok-advance.ensures.spends))
 
 pub returns-in_err-push-in-Rejected-clause-spends : goal.returns-in_err-push-in-Rejected-clause-spends
 returns-in_err-push-in-Rejected-clause-spends g c =
     let f = g.N.Walk.tree in
     λ s y h plain. spends_broke_as _ c.from_residual-in_err-push-in-Rejected.result
     c.from_residual-in_err-push-in-Rejected.ensures.0 (spends_all
-    (open_spends g.N.Walk.HAS_SUMMARIES c.args.limit s y _ _ (point f c.args.printer.now (buffer_seen c.args.buffer.now) c.args.visits.now)
-    (point f c.work.printer (buffer_seen c.work.buffer) c.work.visits) h (c.work.invariant.trials s y h) plain
-    (c.work.invariant.spends s y h plain) (rw c.in-Rejected.is at c.in_ok-advance.ensures.spends)))
+    (open_spends (record { before = h; now = c.work.invariant.trials s y h; plain = plain }) (c.work.invariant.spends s y h plain)
+    (rw c.in-Rejected.is at c.in_ok-advance.ensures.spends)))
 
 pub returns-then-is_empty-2-clause-spends : goal.returns-then-is_empty-2-clause-spends
 returns-then-is_empty-2-clause-spends g c =
@@ -326,21 +314,18 @@ returns-then-is_empty-2-clause-spends g c =
     let us = c.pop-in-Rejected.new.self.items in
     let some = c.work.invariant.some in
     λ s y h plain.
-    spends_back (standing f r) (standing f q) _ (all_held f us) (held f c.in-Some-pop.trial)
+    spends_back (standing f r) (all_held f us) (held f c.in-Some-pop.trial)
     (all_held-push f _ us c.in-Some-pop.trial c.in-Some-pop.ensures.items)
-    (open_fell AllocError f some.0 some.1 _ _ (held f c.in-Some-pop.trial)
-    (all_held-push f _ _ c.in-Some-pop.trial c.in-Some-pop.ensures.items) some.2
-    (rw (c.in-Rejected.is, c.below.ensures) at c.in_ok-advance.ensures.courses)) c.take_back.ensures.printer
-    c.in_ok-push-in-Rejected.ensures.pushed refl
-    (open_spends g.N.Walk.HAS_SUMMARIES c.args.limit s y _ _ (point f c.args.printer.now (buffer_seen c.args.buffer.now) c.args.visits.now)
-    (point f c.work.printer (buffer_seen c.work.buffer) c.work.visits) h (c.work.invariant.trials s y h) plain
-    (c.work.invariant.spends s y h plain) (rw c.in-Rejected.is at c.in_ok-advance.ensures.spends))
+    (open_fell _ _ (all_held-push f _ _ c.in-Some-pop.trial c.in-Some-pop.ensures.items)
+    (took AllocError f some.2 (rw (c.in-Rejected.is, c.below.ensures) at c.in_ok-advance.ensures.courses))) c.take_back.ensures.printer
+    (pushed (standing f q) c.in_ok-push-in-Rejected.ensures.pushed refl refl refl) refl
+    (open_spends (record { before = h; now = c.work.invariant.trials s y h; plain = plain }) (c.work.invariant.spends s y h plain)
+    (rw c.in-Rejected.is at c.in_ok-advance.ensures.spends))
 
 pub returns-in_err-open_trial-in-Choice-clause-spends : goal.returns-in_err-open_trial-in-Choice-clause-spends
 returns-in_err-open_trial-in-Choice-clause-spends g c =
     let f = g.N.Walk.tree in
     λ s y h plain. spends_broke_as _ c.from_residual-in_err-open_trial-in-Choice.result
     c.from_residual-in_err-open_trial-in-Choice.ensures.0 (spends_all
-    (open_spends g.N.Walk.HAS_SUMMARIES c.args.limit s y _ _ (point f c.args.printer.now (buffer_seen c.args.buffer.now) c.args.visits.now)
-    (point f c.work.printer (buffer_seen c.work.buffer) c.work.visits) h (c.work.invariant.trials s y h) plain
-    (c.work.invariant.spends s y h plain) (rw c.in-Choice.is at c.in_ok-advance.ensures.spends)))
+    (open_spends (record { before = h; now = c.work.invariant.trials s y h; plain = plain }) (c.work.invariant.spends s y h plain)
+    (rw c.in-Choice.is at c.in_ok-advance.ensures.spends)))

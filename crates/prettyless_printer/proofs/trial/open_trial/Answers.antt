@@ -6,7 +6,7 @@ always : {T E P : Type 0} (r : Result T E) → P → OnOk r P
 always {T} {E} {P} (Ok x) p = p
 always {T} {E} {P} (Err e) p = tt
 
--- the trial is held, whether or not its branch is had
+-- the trial is held, whether or not there was room for its branch
 pub returns-clause-held : goal.returns-clause-held
 returns-clause-held g c =
     always c.push-2.result (record {

@@ -51,7 +51,7 @@ down-preserved-in-Ok-Descend g c =
     let hand = c.down.invariant.hand in
     let one = visit f c.down.count c.down.visits c.down.printer c.step.new.visits n hand c.one_more-count.ensures.one c.step.ensures.printer
     c.step.ensures.rises c.step.ensures.counted in
-    let took = takes f g.N.Walk.HAS_SUMMARIES c.args.limit c.down.printer x hand one
+    let took = takes f c.down.printer hand one
     (c.in-Ok-Descend.ensures.within (subst IsStepped (sym c.in-Ok-Descend.field-0-is) tt)) c.step.ensures.counted c.step.ensures.few
     c.down.invariant.spends in
     record {
@@ -75,7 +75,7 @@ down-preserved g c =
     let hand = c.down.invariant.hand in
     let one = visit f c.down.count c.down.visits c.down.printer c.step.new.visits n hand c.one_more-count-in-Ok-DescendFlat.ensures.one c.step.ensures.printer
     c.step.ensures.rises c.step.ensures.counted in
-    let took = takes f g.N.Walk.HAS_SUMMARIES c.args.limit c.down.printer x hand one
+    let took = takes f c.down.printer hand one
     (c.in-Ok-DescendFlat.ensures.within (subst IsStepped (sym c.in-Ok-DescendFlat.field-0-is) tt)) c.step.ensures.counted c.step.ensures.few
     c.down.invariant.spends in
     record {
@@ -125,7 +125,7 @@ returns-in-Ok-lay_texts-clause-spends g c =
     let hand = c.down.invariant.hand in
     let one = visit f c.down.count c.down.visits c.down.printer c.step.new.visits k hand c.one_more-in-Ok-DescendTexts.ensures.one c.step.ensures.printer
     c.step.ensures.rises c.step.ensures.counted in
-    let took = takes f g.N.Walk.HAS_SUMMARIES c.args.limit c.down.printer x hand one
+    let took = takes f c.down.printer hand one
     (c.in-Ok-DescendTexts.ensures.within (subst IsStepped (sym c.in-Ok-DescendTexts.field-0-is) tt)) c.step.ensures.counted
     c.step.ensures.few
     c.down.invariant.spends in
@@ -173,7 +173,7 @@ returns-in-Err-lay_texts-clause-spends g c =
     let hand = c.down.invariant.hand in
     let one = visit f c.down.count c.down.visits c.down.printer c.step.new.visits k hand c.one_more-in-Ok-DescendTexts.ensures.one c.step.ensures.printer
     c.step.ensures.rises c.step.ensures.counted in
-    let took = takes f g.N.Walk.HAS_SUMMARIES c.args.limit c.down.printer x hand one
+    let took = takes f c.down.printer hand one
     (c.in-Ok-DescendTexts.ensures.within (subst IsStepped (sym c.in-Ok-DescendTexts.field-0-is) tt)) c.step.ensures.counted
     c.step.ensures.few
     c.down.invariant.spends in
@@ -198,7 +198,7 @@ returns-in-Ok-Silent-clause-advances g c =
     let one = visit f c.down.count c.down.visits c.down.printer c.step.new.visits n hand c.one_more-in-Ok-Silent.ensures.one c.step.ensures.printer
     c.step.ensures.rises c.step.ensures.counted in
     rw c.count_more-in-Ok-Silent.ensures.more
-    (advances_went f (standing f q) (see c.down.out) x [] hand one
+    (advances_went hand one
     (c.in-Ok-Silent.ensures.asked (subst IsStepped (sym c.in-Ok-Silent.field-0-is) tt))
     (wrote f _ [] c.down.printer q (shown f c.down.printer q c.in-Ok-Silent.field-0 step_result.Silent hand c.in-Ok-Silent.field-0-is
     c.in-Ok-Silent.ensures.step)) refl
@@ -214,7 +214,7 @@ returns-in-Ok-Failed-clause-advances g c =
     let one = visit f c.down.count c.down.visits c.down.printer c.step.new.visits n hand c.one_more-in-Ok-Failed.ensures.one c.step.ensures.printer
     c.step.ensures.rises c.step.ensures.counted in
     rw c.count_more-in-Ok-Failed.ensures.more
-    (advances_failed f c.down.printer q x hand one
+    (advances_failed f c.down.printer q hand one
     (shown f c.down.printer q c.in-Ok-Failed.field-0 step_result.Failed hand c.in-Ok-Failed.field-0-is c.in-Ok-Failed.ensures.step))
 
 pub returns-in-Ok-Choice-clause-advances : goal.returns-in-Ok-Choice-clause-advances
@@ -227,7 +227,7 @@ returns-in-Ok-Choice-clause-advances g c =
     let one = visit f c.down.count c.down.visits c.down.printer c.step.new.visits n hand c.one_more-in-Ok-Choice.ensures.one c.step.ensures.printer
     c.step.ensures.rises c.step.ensures.counted in
     rw c.count_more-in-Ok-Choice.ensures.more
-    (advances_chosen f c.down.printer q x c.in-Ok-Choice.indent c.in-Ok-Choice.first c.in-Ok-Choice.second hand one
+    (advances_chosen f c.down.printer q hand one
     (c.in-Ok-Choice.ensures.asked (subst IsStepped (sym c.in-Ok-Choice.field-0-is) tt))
     (shown f c.down.printer q c.in-Ok-Choice.field-0 (step_result.Choice c.in-Ok-Choice.indent c.in-Ok-Choice.first c.in-Ok-Choice.second)
     hand
@@ -244,7 +244,7 @@ returns-in-Ok-write_piece-clause-advances g c =
     let one = visit f c.down.count c.down.visits c.down.printer c.step.new.visits n hand c.one_more-in-Ok-Emit.ensures.one c.step.ensures.printer
     c.step.ensures.rises c.step.ensures.counted in
     rw c.count_more-in-Ok-Emit.ensures.more
-    (advances_went f (standing f q) (see c.write_piece.new.out) x (piece_bytes c.in-Ok-Emit.piece) hand one
+    (advances_went hand one
     (c.in-Ok-Emit.ensures.asked (subst IsStepped (sym c.in-Ok-Emit.field-0-is) tt))
     (wrote f _ (piece_bytes c.in-Ok-Emit.piece) c.down.printer q
     (shown f c.down.printer q c.in-Ok-Emit.field-0 (step_result.Emit c.in-Ok-Emit.piece) hand c.in-Ok-Emit.field-0-is
@@ -261,7 +261,7 @@ returns-in-Err-clause-advances g c =
     let one = visit f c.down.count c.down.visits c.down.printer c.step.new.visits n hand c.one_more.ensures.one c.step.ensures.printer
     c.step.ensures.rises c.step.ensures.counted in
     rw c.count_more.ensures.more
-    (advances_refused f (standing f q) x c.in-Err.e hand one)
+    (advances_refused hand one)
 
 pub returns-in-Err-write_piece-clause-advances : goal.returns-in-Err-write_piece-clause-advances
 returns-in-Err-write_piece-clause-advances g c =
@@ -274,7 +274,7 @@ returns-in-Err-write_piece-clause-advances g c =
     let one = visit f c.down.count c.down.visits c.down.printer c.step.new.visits n hand c.one_more-in-Ok-Emit.ensures.one c.step.ensures.printer
     c.step.ensures.rises c.step.ensures.counted in
     rw c.count_more-in-Ok-Emit.ensures.more
-    (advances_sink_failed f (standing f q) (see c.write_piece.new.out) x (piece_bytes c.in-Ok-Emit.piece) c.in-Err-write_piece.e hand one
+    (advances_sink_failed hand one
     (wrote f _ (piece_bytes c.in-Ok-Emit.piece) c.down.printer q
     (shown f c.down.printer q c.in-Ok-Emit.field-0 (step_result.Emit c.in-Ok-Emit.piece) hand c.in-Ok-Emit.field-0-is
     c.in-Ok-Emit.ensures.step))
@@ -288,7 +288,7 @@ returns-in-Err-clause-spends g c =
     let hand = c.down.invariant.hand in
     let one = visit f c.down.count c.down.visits c.down.printer c.step.new.visits n hand c.one_more.ensures.one c.step.ensures.printer
     c.step.ensures.rises c.step.ensures.counted in
-    let took = takes f g.N.Walk.HAS_SUMMARIES c.args.limit c.down.printer x hand one (c.in-Err.ensures.within tt) c.step.ensures.counted
+    let took = takes f c.down.printer hand one (c.in-Err.ensures.within tt) c.step.ensures.counted
     c.step.ensures.few c.down.invariant.spends in
     rw c.count_more.ensures.more
     (λ plain. spends_broke f c.down.printer took plain)
@@ -302,7 +302,7 @@ returns-in-Ok-Silent-clause-spends g c =
     let hand = c.down.invariant.hand in
     let one = visit f c.down.count c.down.visits c.down.printer c.step.new.visits n hand c.one_more-in-Ok-Silent.ensures.one c.step.ensures.printer
     c.step.ensures.rises c.step.ensures.counted in
-    let took = takes f g.N.Walk.HAS_SUMMARIES c.args.limit c.down.printer x hand one
+    let took = takes f c.down.printer hand one
     (c.in-Ok-Silent.ensures.within (subst IsStepped (sym c.in-Ok-Silent.field-0-is) tt)) c.step.ensures.counted c.step.ensures.few
     c.down.invariant.spends in
     rw c.count_more-in-Ok-Silent.ensures.more
@@ -320,7 +320,7 @@ returns-in-Ok-Failed-clause-spends g c =
     let hand = c.down.invariant.hand in
     let one = visit f c.down.count c.down.visits c.down.printer c.step.new.visits n hand c.one_more-in-Ok-Failed.ensures.one c.step.ensures.printer
     c.step.ensures.rises c.step.ensures.counted in
-    let took = takes f g.N.Walk.HAS_SUMMARIES c.args.limit c.down.printer x hand one
+    let took = takes f c.down.printer hand one
     (c.in-Ok-Failed.ensures.within (subst IsStepped (sym c.in-Ok-Failed.field-0-is) tt)) c.step.ensures.counted c.step.ensures.few
     c.down.invariant.spends in
     rw c.count_more-in-Ok-Failed.ensures.more
@@ -336,7 +336,7 @@ returns-in-Ok-Choice-clause-spends g c =
     let hand = c.down.invariant.hand in
     let one = visit f c.down.count c.down.visits c.down.printer c.step.new.visits n hand c.one_more-in-Ok-Choice.ensures.one c.step.ensures.printer
     c.step.ensures.rises c.step.ensures.counted in
-    let took = takes f g.N.Walk.HAS_SUMMARIES c.args.limit c.down.printer x hand one
+    let took = takes f c.down.printer hand one
     (c.in-Ok-Choice.ensures.within (subst IsStepped (sym c.in-Ok-Choice.field-0-is) tt)) c.step.ensures.counted c.step.ensures.few
     c.down.invariant.spends in
     rw c.count_more-in-Ok-Choice.ensures.more
@@ -355,7 +355,7 @@ returns-in-Ok-write_piece-clause-spends g c =
     let hand = c.down.invariant.hand in
     let one = visit f c.down.count c.down.visits c.down.printer c.step.new.visits n hand c.one_more-in-Ok-Emit.ensures.one c.step.ensures.printer
     c.step.ensures.rises c.step.ensures.counted in
-    let took = takes f g.N.Walk.HAS_SUMMARIES c.args.limit c.down.printer x hand one
+    let took = takes f c.down.printer hand one
     (c.in-Ok-Emit.ensures.within (subst IsStepped (sym c.in-Ok-Emit.field-0-is) tt)) c.step.ensures.counted c.step.ensures.few
     c.down.invariant.spends in
     let bytes = piece_bytes c.in-Ok-Emit.piece in
@@ -373,7 +373,7 @@ returns-in-Err-write_piece-clause-spends g c =
     let hand = c.down.invariant.hand in
     let one = visit f c.down.count c.down.visits c.down.printer c.step.new.visits n hand c.one_more-in-Ok-Emit.ensures.one c.step.ensures.printer
     c.step.ensures.rises c.step.ensures.counted in
-    let took = takes f g.N.Walk.HAS_SUMMARIES c.args.limit c.down.printer x hand one
+    let took = takes f c.down.printer hand one
     (c.in-Ok-Emit.ensures.within (subst IsStepped (sym c.in-Ok-Emit.field-0-is) tt)) c.step.ensures.counted c.step.ensures.few
     c.down.invariant.spends in
     rw c.count_more-in-Ok-Emit.ensures.more

@@ -1,5 +1,5 @@
 use Rattle.std.proofs.Common.{rules}
-use Rattle.prettyless_placed.proofs.placed.AnyPlacedDoc.weak_space.Goals as goal
+use Rattle.prettyless_pointers.proofs.placed.AnyPlacedDoc.weak_space.Goals as goal
 
 pub returns : goal.returns
 returns g c = search rules depth 1

@@ -1,5 +1,5 @@
 use Rattle.std.proofs.Common.{rules}
-use Rattle.prettyless_placed.proofs.placed.AnyPlacedDocBetween.intersperse.Goals as goal
+use Rattle.prettyless_pointers.proofs.placed.AnyPlacedDocOver.concat.Goals as goal
 
 pub returns-clause-ok : goal.returns-clause-ok
 returns-clause-ok g c = search rules depth 1

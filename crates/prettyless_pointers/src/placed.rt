@@ -10,7 +10,7 @@ ghost use Rattle.prettyless_doc.specs.DocTree.{built};
 ghost use Rattle.prettyless_doc.specs.Lines as lines;
 ghost use Rattle.prettyless_build.specs.Built as to;
 ghost use Rattle.prettyless_build.specs.Iterated.{GivesAll, GivesSome, HasGap, Concatenates, Intersperses};
-ghost use Rattle.prettyless_placed.specs.Placed.{Places};
+ghost use Rattle.prettyless_pointers.specs.Placed.{Places};
 
 use prettyless_alloc::{DocAllocator, DocAllocatorBetween, DocAllocatorOfTwo, DocAllocatorOver};
 use prettyless_build::{DocBuilder, Pretty};
@@ -237,11 +237,13 @@ pub trait PlacedDocOfTwo<
 >: DocPtr<'a> {
     /// The first document where the test of the column at which it would start holds, else the second, flat or broken.
     fn if_column(place: &'a D, test: ColumnTest, first: P, second: Q) -> Result<Self, BuildError>
-        ensures { to.BuildsOfTwo result Self.tree (P.becomes first) (Q.becomes second) (P.refuses first) (Q.refuses second) (OnColumn test) };
+        ensures { to.BuildsOfTwo result Self.tree (P.becomes first) (Q.becomes second)
+            (P.refuses first) (Q.refuses second) (OnColumn test) };
 
     /// The first document where the test of the indent holds, else the second, flat or broken.
     fn if_nesting(place: &'a D, test: NestingTest, first: P, second: Q) -> Result<Self, BuildError>
-        ensures { to.BuildsOfTwo result Self.tree (P.becomes first) (Q.becomes second) (P.refuses first) (Q.refuses second) (OnNesting test) };
+        ensures { to.BuildsOfTwo result Self.tree (P.becomes first) (Q.becomes second)
+            (P.refuses first) (Q.refuses second) (OnNesting test) };
 }
 
 impl<
