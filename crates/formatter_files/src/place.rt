@@ -39,7 +39,7 @@ fn after(place: Place, byte: u8) -> Place
     }
 }
 
-/// The place of the byte at this offset.
+/// The place of the byte at this offset in bytes, or of the end.
 pub fn place_at(bytes: &[u8], offset: usize) -> Place
     requires { offset ≤ length bytes.now }
     ensures { IsPlace (take offset bytes.now) result }

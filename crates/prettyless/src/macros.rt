@@ -8,7 +8,11 @@ use prettyless_doc::{BuildError, DocPlace};
 /// The documents, appended in order, as a `Result` of a builder: `docs![allocator, first, rest..]`.
 ///
 /// An operand is evaluated and becomes a document after those before it, and not where one of them was
-/// refused. `Pretty` need not be in scope.
+/// refused. An error is one that an operand answers, or memory was refused. `Pretty` need not be in scope.
+///
+/// ```
+/// docs![place, "a", hard_line(), "b"]? // laid out as "a\nb"
+/// ```
 #[macro_export]
 macro_rules! docs {
     ($allocator:expr, $first:expr $(,)?) => {
@@ -40,6 +44,10 @@ macro_rules! docs_onto {
 ///
 /// The tree is that of the first three with the fourth appended, and so on down to the first. An error is one
 /// that an operand may answer, or memory was refused.
+///
+/// ```
+/// four_in_order(place, "a", hard_line(), "b", ";")? // laid out as "a\nb;"
+/// ```
 pub fn four_in_order<
     'a,
     D: DocPlace<'a>,

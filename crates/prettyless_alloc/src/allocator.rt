@@ -22,8 +22,8 @@ use std::fmt;
 
 /// The documents that every place of nodes can start.
 pub trait DocAllocator<'a>: DocPlace<'a> {
-    /// A pointer to the document: its own where it has one, which takes no memory, and else that of
-    /// a new node, or an error where memory is refused.
+    /// A pointer to the document: its own where it has one, which takes no memory. Else it is that of a new node, and
+    /// fails where memory is refused.
     ///
     /// ```
     /// place.alloc_cow(BuildDoc::Doc(Doc::HardLine))? // a pointer to a line break
@@ -77,8 +77,8 @@ pub trait DocAllocator<'a>: DocPlace<'a> {
     /// What `{}` shows of the value: an empty text where it shows nothing. It counts as its bytes if it is ASCII, and
     /// else as its display width.
     ///
-    /// Answers `Memory` where memory was refused, and `Display` where only the value's
-    /// formatting failed.
+    /// Answers `Memory` where memory was refused, and `Display` where only the value's formatting failed. No clause says
+    /// which of the two comes.
     ///
     /// ```
     /// place.as_string(42)? // "42"
@@ -248,8 +248,9 @@ pub trait DocAllocator<'a>: DocPlace<'a> {
         ensures err { IfErr result IsMemory };
 
     /// The documents between two texts, each of which is as `text` makes it. They are in a group: flat, with one space
-    /// between two documents, or broken, with each document on a line of its own and its indent moved by so many columns.
-    /// Where there is no document, the two texts stand side by side, with no break. It fails where memory is refused.
+    /// between two documents, or broken. Then each document is on a line of its own, its indent moved by so many
+    /// columns. Where there is no document, the two texts stand side by side, with no break. It fails where memory is
+    /// refused.
     ///
     /// For a list with commas it takes the documents that `punctuated` answers.
     ///

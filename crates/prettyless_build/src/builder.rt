@@ -55,8 +55,8 @@ impl<'a, D: DocPlace<'a>> DocBuilder<'a, D> {
         self.1.doc()
     }
 
-    /// A pointer to the document: its own where it has one, which takes no memory, and else that of
-    /// a new node, or an error where memory is refused.
+    /// A pointer to the document: its own where it has one, which takes no memory. Else it is that of a new node, and
+    /// fails where memory is refused.
     ///
     /// ```
     /// place.pretty("a")?.into_doc()? // a pointer to "a"
@@ -108,8 +108,8 @@ impl<'a, D: DocPlace<'a>> DocBuilder<'a, D> {
         Ok(DocBuilder::new(allocator, Doc::Append(left, right)))
     }
 
-    /// This document, then `that`. Where one of them is nothing it is the other as it is, and only
-    /// the making of `that` can fail; else memory may be refused too.
+    /// This document, then `that`. Where one of them is nothing it is the other as it is, and only the making of `that`
+    /// can fail. Else memory may be refused too.
     ///
     /// ```
     /// place.pretty("a")?.append("b")? // "ab"

@@ -11,7 +11,7 @@ use prettyless_doc::{BuildError, Doc, DocPlace, Text};
 
 impl<'a, D: DocPlace<'a>> DocBuilder<'a, D> {
     /// `before`, this document and `after`, appended. It fails as the making of `before` or of `after` does, and where
-    /// memory is refused, which it wants only where two of the three are something.
+    /// memory is refused. It takes memory only where two of the three are something.
     ///
     /// ```
     /// place.pretty("a")?.enclose("let ", ";")? // "let a;"

@@ -1,5 +1,8 @@
 //! Combinators: values that become documents once there is an allocator. To make one takes no memory.
 //!
+//! `pretty` makes its document. That fails as the same call of a place or a builder does, or as the making of a value that
+//! it holds.
+//!
 //! An example is a value. Beside it is the layout of its document, at any width where none is named.
 #![tactic(auto)]
 
@@ -246,7 +249,7 @@ pub fn line_suffix<T>(doc: T) -> LineSuffix<T>
     LineSuffix(doc)
 }
 
-/// The first document where it can be laid with each text, and each line of a payload, within the width, and else the
+/// The first document where it can be laid with each text, and each line of a payload, within the width. Else the
 /// second; where lines are flat, the first.
 ///
 /// ```

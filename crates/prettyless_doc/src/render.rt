@@ -50,13 +50,13 @@ impl<'a, T: DocPtr<'a>> Doc<'a, T> {
     /// In a document with no line suffix the printer visits each node at most once, also where a trial is rejected.
     /// Each group and partial union starts at most one probe, which visits each node at most once.
     ///
-    /// Where it has no choice by column or nesting either, no indent of more than 32 bits, and fewer than 2^32 - 1 nodes, and the width
-    /// is below 2^32, probes visit at most sixteen nodes for each of its nodes, and a thousand. That holds where no table was refused
-    /// memory, which `visits` counts too.
+    /// Take one that has no choice by column or nesting either, no indent of more than 32 bits, and fewer than 2^32 - 1
+    /// nodes. At a width below 2^32 probes visit at most sixteen nodes for each of its nodes, and a thousand. That holds
+    /// where no table was refused memory, which `visits` counts too.
     ///
-    /// After `Ok` the printer has visited at least the nodes that the layout lays, and its probes at least one node for
-    /// each probe that the layout needs, up to the greatest `u64`. In this lower bound a rejected branch of a union counts
-    /// nothing, and neither does the document of a line suffix; a branch that is kept counts.
+    /// After `Ok` the printer has visited at least the nodes that the layout lays. Its probes have visited at least one
+    /// node for each probe that the layout needs. Both hold up to the greatest `u64`. In this lower bound a rejected
+    /// branch of a union counts nothing, and neither does the document of a line suffix. A branch that is kept counts.
     ///
     /// ```
     /// let mut visits = Visits::default();
@@ -94,7 +94,7 @@ impl<'a, T: DocPtr<'a>> Doc<'a, T> {
         self.render_raw_with(alloc, RenderOptions::new(width), out)
     }
 
-    /// Renders to a byte writer, piece by piece: pass a `BufWriter` where a write is slow, and flush it afterwards,
+    /// Renders to a byte writer, piece by piece. Pass a `BufWriter` where a write is slow, and flush it afterwards,
     /// since no call here does. An interruption is answered as `Sink`, and not tried again. Each error says what was
     /// appended by then; that of `Document` is of the kind `Other`.
     ///

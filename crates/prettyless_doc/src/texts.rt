@@ -48,8 +48,8 @@ impl<'a, T: DocPtr<'a>> Doc<'a, T> {
     /// What `{}` shows of the value: an empty text where it shows nothing. It counts as its bytes if it is ASCII, and
     /// else as its display width.
     ///
-    /// Answers `Memory` where memory was refused, and `Display` where only the value's
-    /// formatting failed.
+    /// Answers `Memory` where memory was refused, and `Display` where only the value's formatting failed. No clause says
+    /// which of the two comes.
     ///
     /// ```
     /// Doc::as_string(alloc, 42)? // "42"

@@ -2,7 +2,8 @@
 ghost use Rattle.std.specs.Prelude.{◌≡◌};
 ghost use Rattle.prettyless_model.specs.Choice.{column_holds, nesting_holds};
 
-/// What a choice by column asks: of the column where the next content would begin, weak spaces that wait included.
+/// What a choice by column asks: of the column where the next content would begin, weak spaces that wait included. The
+/// first column is 0.
 #[derive(Clone, Copy, Debug, PartialEq, Eq)]
 pub enum ColumnTest {
     /// Whether it is at most this.
@@ -27,7 +28,7 @@ impl ColumnTest {
     }
 }
 
-/// What a choice by nesting asks of the indent.
+/// What a choice by nesting asks of the indent, in columns.
 #[derive(Clone, Copy, Debug, PartialEq, Eq)]
 pub enum NestingTest {
     /// Whether it is at most this.

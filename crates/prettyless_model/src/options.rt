@@ -74,7 +74,7 @@ impl Default for RenderOptions {
 }
 
 impl RenderOptions {
-    /// This width, with lines that end in LF and indents that are written at once.
+    /// This width in columns, with lines that end in LF and indents that are written at once.
     ///
     /// ```
     /// RenderOptions::new(100) // 100 columns, LF, indents at once

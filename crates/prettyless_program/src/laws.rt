@@ -6,8 +6,8 @@ pub fn law_one_document()
     ensures { WriteAtMostOne }
 {}
 
-/// Each document has a program, which `encode` names: of which every number is a value of its type, every payload holds LF
-/// or CR, and every text is UTF-8 and has fewer than 2^32 bytes.
+/// A document has a program, which `encode` names, if three things hold. Every number is a value of its type, every
+/// payload holds LF or CR, and every text is UTF-8 of fewer than 2^32 bytes.
 pub fn law_program()
     ensures { EachHasAProgram }
 {}

@@ -58,9 +58,9 @@ pub fn broken<'a, D: DocPlace<'a>>(place: &'a D, doc: D::Doc) -> Result<D::Doc, 
     followed(place, doc, place.expand_parent()?)
 }
 
-/// The first document and the second after it: after a space where the second, flat, fits the line, and else on the next
-/// line, indented by so many columns. The first is not in the group of the second, so it may be broken where the second
-/// follows on its last line. It fails where memory is refused.
+/// The first document and the second after it. Where the second, flat, fits the line, it follows a space, and else it
+/// is on the next line, indented by so many columns. The first is not in the group of the second, so it may be broken
+/// where the second follows on its last line. It fails where memory is refused.
 ///
 /// ```
 /// hanging(place, a, b, 2)? // "a b" at 3 columns, "a\n  b" at 2

@@ -120,9 +120,9 @@ fn inside<'a, D: DocPlace<'a>>(
     nested.join(edge(place, style)?)
 }
 
-/// The documents between two brackets, each but the last with the punctuation after it: flat where they fit the line, and else
-/// as the style says. Where there is no document, the brackets stand side by side, with no break. It fails where memory is
-/// refused.
+/// The documents between two brackets, each but the last with the punctuation after it. They are flat where they fit
+/// the line, and else as the style says. Where there is no document, the brackets stand side by side, with no break. It
+/// fails where memory is refused.
 ///
 /// ```
 /// list(place, "[", docs, ",", "]", ListStyle::new(2))? // of "a" and "b": "[a, b]" at 6 columns, "[\n  a,\n  b\n]" at 5

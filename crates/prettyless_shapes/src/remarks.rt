@@ -34,8 +34,8 @@ pub fn with_remark<'a, D: DocPlace<'a>>(
     ended(place, spaced(place, doc, remark)?)
 }
 
-/// The document, with a space and the remark put off to the end of the line: what else comes on this line is in front of
-/// them. It fails where memory is refused.
+/// The document, with a space and the remark put off to the end of the line. What else comes on this line is in front
+/// of them. It fails where memory is refused.
 ///
 /// It breaks no line. Around it, `broken` keeps the groups that it is in from being flat.
 ///

@@ -123,7 +123,7 @@ impl<'a> Text<'a> {
     /// What `{}` shows of the value: in the node itself if that has at most 22 bytes, and else owned.
     ///
     /// Answers `Memory` where memory was refused, also if the value went on, and `Display` where the value's formatting
-    /// failed and no memory was refused.
+    /// failed and no memory was refused. No clause says which of the two comes.
     ///
     /// ```
     /// Text::from_display(alloc, 42)? // its `as_str` is "42"

@@ -87,12 +87,13 @@ fn laid_out(alloc: Global, text: &str, style: Style) -> Result<String, FormatErr
     laid(&arena, alloc, text, style)
 }
 
-/// The layout of a TOML text in this style. It has the same statements: the same lexemes, remarks among them, in the same
-/// order, but for line ends in brackets, commas before closing brackets, and remarks before a comma, which stand after it.
-/// Its lines end as the first line of the text does that ends outside of strings. It ends with a line end, unless it is empty.
+/// The layout of a TOML text in this style. It has the same statements: the same lexemes in the same order, remarks
+/// among them. Three things may differ: line ends in brackets, commas before closing brackets, and remarks before a
+/// comma, which stand after it. Its lines end as the first line of the text does that ends outside of strings. It ends
+/// with a line end, unless it is empty.
 ///
 /// `NotToml` only where the text is no TOML, and `TooDeep` only where it is TOML and more than 128 brackets are in one another.
-/// `Memory` where memory is refused, whatever the text is.
+/// `Memory` where memory is refused, whatever the text is. No clause speaks of the layout's line ends, nor of the 128.
 ///
 /// ```
 /// formatted(alloc, "a=1", Style::default())? // "a = 1\n"
