@@ -145,8 +145,11 @@ broke_bytes : {N E : Type 0} (f : N → Tree) (r : Run) (a b : Standing) (fails 
 broke_bytes {N} {E} f r a b fails old out new n k m (Document e) w l y s h = absurd h
 broke_bytes {N} {E} f r a b fails old out new n k m (Sink e) w l y s h =
     (at_run r a old out (λ (z : RenderOptions) whole limit below o. AppendsBeginning o new (bytes_before whole)) w l y h.0, h.1 ∙ ap rise s)
-broke_bytes {N} {E} f r a b fails old out new n k m (Memory e) w l y s h =
-    (at_run r a old out (λ (z : RenderOptions) whole limit below o. AppendsBeginning o new (bytes_before whole)) w l y h.0, h.1 ∙ s)
+broke_bytes {N} {E} f r a b fails old out new n k m (Memory e) w l y s h = (
+  subst (λ (z : List ℕ). AppendsBeginning old z (bytes_before r.whole)) (sym h.0)
+      (inside_beginning r.start.printer.options r.whole r.limit r.below old a.tasks (state_at a) out y),
+  h.1 ∙ s,
+)
 
 -- a turn that broke off
 pub breaks_off : {N E : Type 0} (f : N → Tree) (fails : E → Type 0) {r : Run} {a b : Point} (e : RenderError E) → Path r a
