@@ -1,6 +1,6 @@
 -- The contract of a turn, for each way that it ends.
 use Rattle.std.proofs.Common.{◌≡◌, ℕ, ◌+◌, ◌≤◌, List, [], ◌∷◌, sym, ◌∙◌, arith, refl, subst, Ok, Err}
-use Rattle.prettyless_sink.specs.Sink.{Accepts, AppendsBeginning, Refuses, known, rise}
+use Rattle.prettyless_sink.specs.Sink.{Accepts, Refuses, known, rise}
 use Rattle.prettyless_sink.specs.declared.error.RenderError.TheVariants.{Sink, Memory}
 use Rattle.prettyless_sink.specs.declared.visits.Visits.{Visits}
 use Rattle.prettyless_model.specs.declared.options.RenderOptions.{RenderOptions}
@@ -16,12 +16,11 @@ use Rattle.prettyless_printer.specs.Points.{Standing, standing, state_at, Seen, 
 use Rattle.prettyless_printer.specs.Progress.{Inside}
 use Rattle.prettyless_printer.specs.Visits.{Plain, CountsAtMost}
 use Rattle.prettyless_printer.specs.AtLeast.{CountsAtLeast, tally_above, tally_choice}
-use Rattle.prettyless_printer.specs.Turns.{Advances, ForWholes, bytes_before, next_size}
+use Rattle.prettyless_printer.specs.Turns.{Advances, next_size}
 use Rattle.prettyless_printer.specs.declared.answer.TurnResult.TheVariants as turn_result
 use Rattle.prettyless_printer.proofs.Steps.{visits_within}
 use Rattle.prettyless_printer.proofs.Hands.{InHand, Visit, from_start}
 use Rattle.prettyless_printer.proofs.Standings.{Wrote, asks_there, step_from, stuck_there}
-use Rattle.prettyless_printer.proofs.Progresses.{inside_beginning}
 use Rattle.prettyless_printer.proofs.Trying.{grows-grows}
 use Rattle.prettyless_printer.proofs.Turnings.{went, lessens, failed, chosen, choice_lessens, sink_broke}
 use Rattle.prettyless_printer.proofs.Visits.{went_at_most, failed_at_most, chosen_at_most, at_most_then, at_most_all, rise_then}
@@ -180,12 +179,6 @@ broke_at_most h one plain =
     at_most_all (at_most_then (h.at_most plain).1
     (failed_at_most one.more))
 
--- what was written before the current task is a beginning of each whole
-hand_beginning : {a : Point} {t : Task} {b : Point} {out : List ℕ} → InHand a t b
-    → ForWholes a.printer out (λ whole limit below old. AppendsBeginning old out (bytes_before whole))
-hand_beginning {out} h = λ whole limit below old l m.
-    inside_beginning (h.inside out whole limit below old l m)
-
 -- memory was refused
 pub advances_refused : {N E : Type 0} {f : N → Tree} {a : Point} {t : Task} {b : Point} {q : Standing} {x : Visits} {e : _} → InHand a t b
     → Visit a.printer.options t b x →
@@ -198,7 +191,7 @@ advances_refused {f} {e} h one =
       grows = tt;
       lessens = tt;
       same_lender = refl;
-      bytes = λ is_known. (is_known, (hand_beginning h, refl));
+      bytes = λ is_known. (is_known, (refl, refl));
       least = (rise_then h.rise one.rise).printer;
       most = count.most;
       rise = rise_then h.rise one.rise;

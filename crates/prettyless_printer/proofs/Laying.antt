@@ -1,9 +1,9 @@
 -- A document that is laid as its texts: how its nodes lead on, and how the turn ends.
 use Rattle.std.proofs.Common.{◌≡◌, ◌==◌, ℕ, ℤ, ◌^◌, ◌+◌, ◌≤◌, ◌<◌, ◌&&◌, nat_le, Bool, true, false, List, [], ◌∷◌, ◌++◌, length, refl, ap}
 use Rattle.std.proofs.Common.{sym, ◌∙◌, append-nil, arith, subst, Ok, Err, length-append, reverse}
-use Rattle.std.proofs.lemmas.List.{reverse-append}
+use Rattle.std.proofs.lemmas.List.{length-map, length-reverse, reverse-append}
 use Rattle.prettyless_sink.specs.Sink.{Accepts, IfKnown, Refuses, known, rise}
-use Rattle.prettyless_sink.specs.declared.error.RenderError.TheVariants.{Sink, Memory}
+use Rattle.prettyless_sink.specs.declared.error.RenderError.TheVariants.{Sink}
 use Rattle.prettyless_sink.specs.declared.visits.Visits.{Visits}
 use Rattle.prettyless_model.specs.declared.options.RenderOptions.{RenderOptions}
 use Rattle.prettyless_model.specs.declared.mode.Mode.TheVariants.{Flat}
@@ -13,7 +13,7 @@ use Rattle.prettyless_model.specs.Spaces.{spaces}
 use Rattle.prettyless_model.specs.Layout.{State}
 use Rattle.prettyless_model.specs.Counts.{each_probe}
 use Rattle.prettyless_probe.specs.Stack.{Task, make_task, nodes, trees}
-use Rattle.prettyless_probe.specs.Texts.{IsTexts}
+use Rattle.prettyless_probe.specs.Texts.{IsTexts, texts_waiting}
 use Rattle.prettyless_probe.specs.Probing.{RisesBy}
 use Rattle.prettyless_probe.specs.Sums.{HaveSummaries}
 use Rattle.prettyless_step.specs.Printing.{Hands}
@@ -25,13 +25,12 @@ use Rattle.prettyless_printer.specs.Progress.{Inside}
 use Rattle.prettyless_printer.specs.Turns.{Advances, ForWholes}
 use Rattle.prettyless_printer.specs.Visits.{CountsAtMost, Plain, Rise}
 use Rattle.prettyless_printer.specs.AtLeast.{CountsAtLeast, stack_tally, tally_above}
-use Rattle.prettyless_printer.specs.Laying.{Laying, Lays, flat_tasks, laid_to, left_trees}
+use Rattle.prettyless_printer.specs.Laying.{Laying, Lays, flat_tasks, laid_to, left_trees, trees_waiting}
 use Rattle.prettyless_printer.specs.Spending.{Left, Rule, Spends, left}
 use Rattle.prettyless_printer.specs.declared.answer.TurnResult.TheVariants as turn_result
 use Rattle.prettyless_printer.proofs.Spending.{left_with, spends_then}
 use Rattle.prettyless_printer.proofs.Hands.{InHand, Visit, goes_down}
 use Rattle.prettyless_printer.proofs.Standings.{put_in_hand, step_from}
-use Rattle.prettyless_printer.proofs.Progresses.{inside_beginning}
 use Rattle.prettyless_printer.proofs.Trying.{grows-grows}
 use Rattle.prettyless_printer.proofs.Turnings.{lessens, sink_broke, went}
 use Rattle.prettyless_printer.proofs.Visits.{OneMore, at_most_all, at_most_then, failed_at_most, rise_then, went_at_most}
@@ -175,31 +174,6 @@ laying_sink_failed {N} {E} f {a} {t} {us} {b} vs p q s x bytes e h once w size_1
       at_most = λ plain. laying_broke h once plain;
       at_least = tt;
     }
-
--- memory was refused at a task
-pub laying_refused : {N E : Type 0} (f : N →
-    Tree) {a : Point} {t : Task} {us : List Task} {b : Point} (p : Standing) (x : Visits) (e : _) → Laying a (t ∷ us) b →
-    Once t b.visits x → 1 ≤ size t.tree →
-    Advances {N = N} {E = E} f a (point_at p b.sink x) (Err (Memory e))
-laying_refused {N} {E} f {a} {t} {us} {b} p x e h once size_1 = record {
-  options = tt;
-  grows = tt;
-  lessens = tt;
-  same_lender = h.same_lender;
-  bytes = λ is_known.
-      let y = h.bytes is_known in (
-        y.0,
-        (
-          λ whole limit below old l m. inside_beginning (y.1.0 whole limit below old l m),
-          y.1.1,
-        ),
-      );
-  least = (rise_then h.rise (once_rise once)).printer;
-  most = omega (arith, h.most, once.most, size_1);
-  rise = rise_then h.rise (once_rise once);
-  at_most = λ plain. laying_broke h once plain;
-  at_least = tt;
-}
 
 -- a step led to the document
 pub laying_begins : {N : Type 0} (f : N →
@@ -425,14 +399,6 @@ lays_text_failed {N} {E} f {a} {p} {w} {g} {position} {s} {ds} {sink} {v} {x} q 
     (subst (λ (k : List Task). Laying a k b) z.is_it h.lays.1) (h.once z.at)
     (text_writes a p w g position s z.at us sink v h.options h.some h.spot) (omega arith) lender refused
 
--- memory was refused at the first document
-pub lays_refused : {N E : Type 0} (f : N → Tree) {a b : Point} (d : Tree) (ds : List Tree) (p : Standing) (x : Visits) (e : _) →
-    Lays a (d ∷ ds) b → ((i : ℕ) → Once (make_task i Flat d) b.visits x) → 1 ≤ size d →
-    Advances {N = N} {E = E} f a (point_at p b.sink x) (Err (Memory e))
-lays_refused {N} {E} f {a} {b} d ds p x e h once size_1 =
-    let z = head d ds h.0 in
-    laying_refused f p x e (subst (λ (k : List Task). Laying a k b) z.is_it h.1) (once z.at) size_1
-
 -- no document is left
 pub lays_done : {N E : Type 0} (f : N → Tree) {a b : Point} → Lays a [] b → Advances {N = N} {E = E} f a b (Ok turn_result.Complete)
 lays_done {N} {E} f {a} {b} h = laying_done f (subst (λ (k : List Task). Laying a k b) (none_left h.0) h.1)
@@ -616,19 +582,6 @@ left_text_failed {N} {E} f {first} {b} {d} {ds} {w} {g} {position} {sink} {count
     subst (λ (z : Visits). Advances {N = N} {E = E} f a (point_at q t z) (Err (Sink e))) (sym same)
     (lays_text_failed f q t e (at_text s some one k a i m) lender refused)
 
--- memory is refused
-pub left_refused : {N E : Type 0} (f : N →
-    Tree) {first : Tree} {b : Point} {d : Tree} {ds : List Tree} {w : Bool} {g position : ℕ} {sink : Seen} {count n : ℕ} (l r : Tree)
-    (q : Standing) (x : Visits) (e : _) → Append l r ≡ d →
-    OneNode count n → Laid first b (d ∷ ds) w g position sink count → x ≡ record b.visits { printer = n } →
-    (a : Point) (i : ℕ) → Laying a (make_task i Flat first ∷ []) b → Advances {N = N} {E = E} f a (point_at q sink x) (Err (Memory e))
-left_refused {N} {E} f {first} {b} {d} {ds} {w} {g} {position} {sink} {count} {n} l r q x e is one h same a i m =
-    let k : Laid first b (Append l r ∷ ds) w g position sink count =
-    subst (λ (z : Tree). Laid first b (z ∷ ds) w g position sink count) (sym is) h in
-    subst (λ (z : Visits). Advances {N = N} {E = E} f a (point_at q sink z) (Err (Memory e))) (sym same)
-    (lays_refused f (Append l r) ds q (record b.visits { printer = n }) e (k.lays a i m)
-    (once_at (Append l r) b.visits one refl) (omega arith))
-
 -- nothing is left
 pub left_done : {N E : Type 0} (f : N → Tree) {first : Tree} {b : Point} {ds : List Tree} {w : Bool} {g position : ℕ} {sink : Seen}
     {count : ℕ} (q : Standing) (x : Visits) → ds ≡ [] → q ≡ laid_to b.printer w position →
@@ -645,6 +598,23 @@ left_done {N} {E} f {first} {b} {ds} {w} {g} {position} {sink} {count} q x none 
 -- the last node comes first
 pub left_trees-push : {N : Type 0} (f : N → Tree) (ns : List N) (n : N) → left_trees f (ns ++ n ∷ []) ≡ f n ∷ left_trees f ns
 left_trees-push {N} f ns n = ap reverse (trees-append f ns (n ∷ [])) ∙ reverse-append (trees f ns) (f n ∷ [])
+
+-- as many documents are left as nodes
+pub length-left_trees : {N : Type 0} (f : N → Tree) (ns : List N) → length (left_trees f ns) ≡ length ns
+length-left_trees {N} f ns = length-reverse (trees f ns) ∙ length-map ns f
+
+-- the second document of two waits for the first
+pub room_to_wait : {d : Tree} {room : ℕ} (ds : List Tree) (l r : Tree) → Append l r ≡ d → trees_waiting (d ∷ ds) ≤ room → length ds < room
+room_to_wait {d} {room} ds l r e h =
+    let k : trees_waiting (Append l r ∷ ds) ≤ room = subst (λ (z : Tree). trees_waiting (z ∷ ds) ≤ room) (sym e) h in
+    omega (arith, k)
+
+pub room_append : {d : Tree} {room : ℕ} (ds : List Tree) (l r : Tree) → Append l r ≡ d → trees_waiting (d ∷ ds) ≤ room
+    → trees_waiting (l ∷ r ∷ ds) ≤ room
+room_append {d} {room} ds l r e h =
+    let k : trees_waiting (Append l r ∷ ds) ≤ room = subst (λ (z : Tree). trees_waiting (z ∷ ds) ≤ room) (sym e) h in
+    let longer : length ds + 1 ≡ length (r ∷ ds) = omega arith in
+    omega (arith, k, ap (texts_waiting l) longer)
 
 -- whether a text is empty
 pub some_bytes : (b : Bool) (s : List ℕ) → b ≡ (length s == 0) → b ≡ false → 0 < length s

@@ -163,7 +163,8 @@ breaks_off {E} f fails {r} {a} {b} e p l h = record {
       h.1 ∙ ap rise (p.bytes is_known).1.1,
     )
     stopped (Memory e) is_known h = (
-      at_run (λ o whole limit below old. AppendsBeginning old (known b.sink.bytes) (bytes_before whole)) p l is_known h.0,
+      subst (λ (z : List ℕ). AppendsBeginning (known r.start.sink.bytes) z (bytes_before r.whole)) (sym h.0)
+          (inside_beginning (p.bytes is_known).1.0),
       h.1 ∙ (p.bytes is_known).1.1,
     )
 

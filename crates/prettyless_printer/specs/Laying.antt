@@ -1,10 +1,13 @@
 -- A document that is laid as its texts, in one turn: what holds from where the turn began to where it is.
-use Rattle.std.specs.Prelude.{◌≡◌, ℕ, ◌+◌, ◌<◌, ◌≤◌, ◌&&◌, nat_le, Bool, true, false, List, [], ◌∷◌, ◌++◌, length, map, reverse, Result, Ok}
-use Rattle.std.specs.Prelude.{Err}
+use Rattle.std.specs.Prelude.{◌≡◌, ℕ, ◌+◌, ◌<◌, ◌≤◌, max, ◌&&◌, nat_le, Bool, true, false, List, [], ◌∷◌, ◌++◌, length, map, reverse}
+use Rattle.std.specs.Prelude.{Result, Ok, Err}
 use Rattle.prettyless_sink.specs.Sink.{IfKnown, rise}
+use Rattle.prettyless_sink.specs.declared.error.RenderError.{RenderError}
+use Rattle.prettyless_sink.specs.declared.error.RenderError.TheVariants.{Sink}
 use Rattle.prettyless_model.specs.Tree.{Tree}
 use Rattle.prettyless_model.specs.declared.mode.Mode.TheVariants.{Flat}
 use Rattle.prettyless_probe.specs.Stack.{Task, make_task, nodes, trees}
+use Rattle.prettyless_probe.specs.Texts.{texts_waiting}
 use Rattle.prettyless_step.specs.Steps.{work}
 use Rattle.prettyless_printer.specs.Points.{QueueGrows, Point, Standing, state_at, work_at}
 use Rattle.prettyless_printer.specs.Progress.{Inside}
@@ -43,13 +46,18 @@ pub record Laying (a : Point) (us : List Task) (b : Point) : Type 0 where
       a.visits b.visits
 
 -- how a turn ends whose document was laid as its texts
-abbrev pub ends_turn : {N A E : Type 0} → Result A E → Result (TurnResult N) E
+abbrev pub ends_turn : {N A E : Type 0} → Result A E → Result (TurnResult N) (RenderError E)
 ends_turn (Ok r) = Ok Complete
-ends_turn (Err e) = Err e
+ends_turn (Err e) = Err (Sink e)
 
 -- the documents of nodes that are left, the last node first
 abbrev pub left_trees : {N : Type 0} → (N → Tree) → List N → List Tree
 left_trees f ns = reverse (trees f ns)
+
+-- how many nodes wait at most while documents are laid as their texts one after another, each with those after it waiting
+abbrev pub trees_waiting : List Tree → ℕ
+trees_waiting [] = 0
+trees_waiting (d ∷ ds) = max (texts_waiting d (length ds)) (trees_waiting ds)
 
 -- where a printer stands once texts were laid up to a position, if one of them was not empty
 abbrev pub laid_to : Standing → Bool → ℕ → Standing

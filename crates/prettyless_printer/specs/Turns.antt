@@ -53,8 +53,7 @@ Turned f p q out new n m (Ok r) = ForWholes p out (Goes f p.options q new r) × 
 Turned f p q out new n m (Err (Document e)) = ⊥
 Turned f p q out new n m (Err (Sink e)) =
     ForWholes p out (λ whole limit below old. AppendsBeginning old new (bytes_before whole)) × (m ≡ rise n)
-Turned f p q out new n m (Err (Memory e)) =
-    ForWholes p out (λ whole limit below old. AppendsBeginning old new (bytes_before whole)) × (m ≡ n)
+Turned f p q out new n m (Err (Memory e)) = (new ≡ out) × (m ≡ n)
 
 -- the next node is a visit, unless the turn stopped or was refused memory
 abbrev pub VisitsNext : {N E : Type 0} → ℕ → ℕ → Result (TurnResult N) (RenderError E) → Type 0

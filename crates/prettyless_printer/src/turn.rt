@@ -8,7 +8,7 @@ ghost use Rattle.prettyless_printer.specs.Spending.{Spends, after_turn, left, ru
 ghost use Rattle.prettyless_printer.specs.Turns.{Advances, StopsPast};
 
 use crate::answer::TurnResult;
-use crate::texts::lay_texts;
+use crate::texts::{lay_texts, make_room};
 use prettyless_model::mode::Mode;
 use prettyless_probe::walk::Walk;
 use prettyless_sink::error::RenderError;
@@ -83,9 +83,12 @@ pub fn turn<N: Walk, W: Render>(
             }
             Ok(StepResult::DescendTexts(_, next)) => {
                 count_more(visits, one_more(count));
+                if let Err(e) = make_room(printer) {
+                    return Err(RenderError::Memory(e));
+                }
                 return match lay_texts(printer, out, next, visits) {
                     Ok(()) => Ok(TurnResult::Complete),
-                    Err(e) => Err(e),
+                    Err(e) => Err(RenderError::Sink(e)),
                 };
             }
             Ok(StepResult::Silent) => {

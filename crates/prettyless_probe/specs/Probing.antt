@@ -1,6 +1,6 @@
 -- What a probe comes to at one node, and how many nodes a probe may visit.
-use Rattle.std.specs.Prelude.{◌≡◌, ℕ, ◌+◌, ◌*◌, ◌-◌, ◌^◌, ◌<◌, ◌≤◌, min, Bool, true, false, IsTrue, List, [], ◌∷◌, length, Option, Some}
-use Rattle.std.specs.Prelude.{None}
+use Rattle.std.specs.Prelude.{◌≡◌, ℕ, ◌+◌, ◌*◌, ◌-◌, ◌^◌, ◌<◌, ◌≤◌, min, max, Bool, true, false, IsTrue, List, [], ◌∷◌, length, Option}
+use Rattle.std.specs.Prelude.{Some, None}
 use Rattle.prettyless_model.specs.Tree.{Tree, Group, PartialUnion, size}
 use Rattle.prettyless_model.specs.Look.{by_mode}
 use Rattle.prettyless_model.specs.declared.mode.Mode.{Mode}
@@ -8,7 +8,7 @@ use Rattle.prettyless_model.specs.declared.column.Column.{Column}
 use Rattle.prettyless_probe.specs.Stack.{Task, make_task, tasks_fit}
 use Rattle.prettyless_probe.specs.Sums.{AllSummed, HaveSum}
 use Rattle.prettyless_probe.specs.declared.stack.Below.{Below}
-use Rattle.prettyless_probe.specs.Texts.{TextsOnce}
+use Rattle.prettyless_probe.specs.Texts.{TextsOnce, tasks_waiting}
 use Rattle.prettyless_probe.specs.declared.stack.Stack.{Stack}
 use Rattle.prettyless_probe.specs.declared.probe.Fit.{Fit}
 use Rattle.prettyless_probe.specs.declared.probe.Fit.TheVariants.{Exceeds, Fits, FitsAsTexts}
@@ -46,6 +46,12 @@ abbrev pub TextsAt : {N : Type 0} → (N → Tree) → Tree → ProbeStep N → 
 TextsAt f d (Answer b) ts = IsTrue b → TextsOnce d []
 TextsAt f d (Descend i m n) ts = TextsOnce d (make_task i m (f n) ∷ ts)
 TextsAt f d Silent ts = TextsOnce d ts
+
+-- k nodes that wait are no more than there is room for, or than are still to wait: at an answer that is true, there is room for all
+abbrev pub RoomAt : {N : Type 0} → (N → Tree) → ℕ → ℕ → ProbeStep N → List Task → Type 0
+RoomAt f k room (Answer b) ts = IsTrue b → k ≤ room
+RoomAt f k room (Descend i m n) ts = k ≤ max room (tasks_waiting (make_task i m (f n) ∷ ts))
+RoomAt f k room Silent ts = k ≤ max room (tasks_waiting ts)
 
 -- whether a node stays within the width
 abbrev pub is_fit : Fit → Bool

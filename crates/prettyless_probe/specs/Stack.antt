@@ -1,5 +1,5 @@
 -- Stacks of nodes, seen as tasks.
-use Rattle.std.specs.Prelude.{◌≡◌, ℕ, ◌+◌, ◌≤◌, List, [], ◌∷◌, ◌++◌, map, take, length, Option, Some, None, Bool}
+use Rattle.std.specs.Prelude.{◌≡◌, ℕ, ◌+◌, ◌≤◌, List, [], ◌∷◌, ◌++◌, map, take, length, Option, Some, None, Bool, vec_capacity}
 use Rattle.prettyless_model.specs.Tree.{Tree, size}
 use Rattle.prettyless_model.specs.Column.{padding_fits}
 use Rattle.prettyless_model.specs.Look.{answer_of, look}
@@ -39,6 +39,10 @@ framed_tasks f frames here nodes = downwards (task f) (spread frames here nodes)
 -- the tasks of a stack, the one on top first
 abbrev pub stack_of : {N : Type 0} → (N → Tree) → Stack N → List Task
 stack_of f s = framed_tasks f s.frames.items s.here s.nodes.items
+
+-- how many nodes a stack has memory for
+abbrev pub room_of : {N : Type 0} → Stack N → ℕ
+room_of s = vec_capacity s.nodes
 
 -- the tasks of a stack that are not read yet, the one that is read next first
 abbrev pub unread : {N : Type 0} → (N → Tree) → Stack N → Cursor → List Task

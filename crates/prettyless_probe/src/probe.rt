@@ -9,11 +9,11 @@ ghost use Rattle.prettyless_model.specs.Layout.{rest_fits};
 ghost use Rattle.prettyless_probe.specs.declared.probe.Line.{Line};
 ghost use Rattle.prettyless_probe.specs.declared.probe.ProbeStep.TheVariants.{Answer, Silent, Descend};
 ghost use Rattle.prettyless_probe.specs.declared.probe.Fit.TheVariants.{FitsAsTexts, Fits, Exceeds};
-ghost use Rattle.prettyless_probe.specs.Probing.{Few, ReadsAs, RisesBy, TextsAt, is_fit, nodes_next, read_in, read_of};
+ghost use Rattle.prettyless_probe.specs.Probing.{Few, ReadsAs, RisesBy, RoomAt, TextsAt, is_fit, nodes_next, read_in, read_of};
 ghost use Rattle.prettyless_probe.specs.Sums.{IsSummed};
 ghost use Rattle.prettyless_probe.specs.Stack.{AnswersAs, Reads, Task, follow, in_break, make_task, nodes, stack_of, task, tasks_fit};
-ghost use Rattle.prettyless_probe.specs.Stack.{unread};
-ghost use Rattle.prettyless_probe.specs.Texts.{IsTexts, TextsOnce};
+ghost use Rattle.prettyless_probe.specs.Stack.{room_of, unread};
+ghost use Rattle.prettyless_probe.specs.Texts.{IsTexts, TextsOnce, tasks_waiting, texts_waiting};
 
 use crate::choice::{by_column, by_nesting, either};
 use crate::command::{Command, nested_indent};
@@ -208,6 +208,7 @@ pub(crate) fn probe_one<N: Walk>(
         (stack_of N.tree stack.new ++ ts) line.new.column line.new.pending) }
     ensures smaller { IfOk result (λ a.
         nodes_next N.tree a + nodes (stack_of N.tree stack.new) < size (N.tree node) + nodes (stack_of N.tree stack.old)) }
+    ensures room { OnOk result (room_of stack.old ≤ room_of stack.new) }
 {
     match node.view() {
         View::Nil => Ok(ProbeStep::Silent),
@@ -277,6 +278,7 @@ fn read_other<N: Walk>(
         (stack_of N.tree stack.new ++ ts) line.new.column line.new.pending) }
     ensures smaller { IfOk result (λ a.
         nodes_next N.tree a + nodes (stack_of N.tree stack.new) < size (N.tree node) + nodes (stack_of N.tree stack.old)) }
+    ensures room { OnOk result (room_of stack.old ≤ room_of stack.new) }
 {
     probe_one(width, line, indent, mode, node, stack)
 }
@@ -330,6 +332,10 @@ fn visit_other<N: Walk>(
     ensures texts { IfOk result (λ a. IsTrue is_texts.new → IsTrue is_texts.old × ((d : Tree)
         → TextsOnce d (make_task stack.old.here.indent stack.old.here.mode (N.tree node) ∷ stack_of N.tree stack.old)
         → TextsAt N.tree d (read_in stack.new a) (stack_of N.tree stack.new))) }
+    ensures room { OnOk result (room_of stack.old ≤ room_of stack.new) }
+    ensures waiting { IfOk result (λ a. IsTrue is_texts.new → RoomAt N.tree
+        (tasks_waiting (make_task stack.old.here.indent stack.old.here.mode (N.tree node) ∷ stack_of N.tree stack.old))
+        (room_of stack.new) (read_in stack.new a) (stack_of N.tree stack.new)) }
 {
     let mut other = line.get();
     let indent = stack.indent_in();
@@ -364,6 +370,10 @@ fn visit_one<N: Walk>(
     ensures texts { IfOk result (λ a. IsTrue is_texts.new → IsTrue is_texts.old × ((d : Tree)
         → TextsOnce d (make_task stack.old.here.indent stack.old.here.mode (N.tree node) ∷ stack_of N.tree stack.old)
         → TextsAt N.tree d (read_in stack.new a) (stack_of N.tree stack.new))) }
+    ensures room { OnOk result (room_of stack.old ≤ room_of stack.new) }
+    ensures waiting { IfOk result (λ a. IsTrue is_texts.new → RoomAt N.tree
+        (tasks_waiting (make_task stack.old.here.indent stack.old.here.mode (N.tree node) ∷ stack_of N.tree stack.old))
+        (room_of stack.new) (read_in stack.new a) (stack_of N.tree stack.new)) }
 {
     match node.view() {
         View::Append(first, second) => {
@@ -413,6 +423,10 @@ fn next_unread<N: Walk>(
         ≡ size (N.tree n) + (nodes (stack_of N.tree stack.new) + nodes (unread N.tree commands.now below.new)))) }
     ensures texts { IfOk result (λ o. (d : Tree) → TextsOnce d (stack_of N.tree stack.old)
         → MatchOption o (IsTexts d) (λ n. TextsOnce d (make_task stack.new.here.indent stack.new.here.mode (N.tree n) ∷ stack_of N.tree stack.new))) }
+    ensures room { OnOk result (room_of stack.old ≤ room_of stack.new) }
+    ensures waiting { IfOk result (λ o. MatchOption o (tasks_waiting (stack_of N.tree stack.old) ≡ 0)
+        (λ n. tasks_waiting (stack_of N.tree stack.old)
+        ≡ tasks_waiting (make_task stack.new.here.indent stack.new.here.mode (N.tree n) ∷ stack_of N.tree stack.new))) }
 {
     if let Some(next) = stack.pop_in() {
         return Ok(Some(next));
@@ -463,6 +477,8 @@ fn visit_all<N: Walk>(
     ensures answer { IfOk result
         (λ r. is_fit r ≡ tasks_fit width (task N.tree first ∷ (stack_of N.tree stack.old ++ in_break (unread N.tree commands.now cursor))) start.column start.pending) }
     ensures texts { IfOk result (λ r. r ≡ FitsAsTexts → stack_of N.tree stack.old ≡ [] → (first.mode ≡ Flat) × IsTexts (N.tree first.node)) }
+    ensures room { IfOk result (λ r. r ≡ FitsAsTexts → stack_of N.tree stack.old ≡ []
+        → texts_waiting (N.tree first.node) 0 ≤ room_of stack.new) }
     ensures rises { probes.old ≤ probes.new }
     ensures counted { probes.new
         ≤ probes.old + (size (N.tree first.node) + (nodes (stack_of N.tree stack.old) + nodes (unread N.tree commands.now cursor))) }
@@ -509,6 +525,7 @@ pub fn probe<N: Walk>(
         (λ r. is_fit r ≡ answer_of (look width (N.tree node) indent mode start.column start.pending)
         (λ c p. rest_fits width (follow (stack_of N.tree commands.now)) c p)) }
     ensures texts { IfOk result (λ r. r ≡ FitsAsTexts → (mode ≡ Flat) × IsTexts (N.tree node)) }
+    ensures room { IfOk result (λ r. r ≡ FitsAsTexts → texts_waiting (N.tree node) 0 ≤ room_of stack.new) }
     ensures rises { probes.old ≤ probes.new }
     ensures counted { probes.new ≤ probes.old + (size (N.tree node) + nodes (stack_of N.tree commands.now)) }
     ensures asked { OnOk result (RisesBy 1 probes.old probes.new) }

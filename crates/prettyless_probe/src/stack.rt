@@ -44,7 +44,7 @@ impl<N: Walk> Stack<N> {
     ghost use Rattle.std.specs.Prelude.{◌∷◌, ◌++◌, ◌<◌, [], List, length, IsTrue, IsFalse, OnOk, MatchOption, ℕ, ⊤, ◌+◌, take};
     ghost use Rattle.std.specs.Prelude.{if◌then◌else◌};
     ghost use Rattle.prettyless_model.specs.Layout.{next_indent as next_indent_of};
-    ghost use Rattle.prettyless_probe.specs.Stack.{Reads, Task, follow, make_task, stack_of, task, tasks, trees, unread};
+    ghost use Rattle.prettyless_probe.specs.Stack.{Reads, Task, follow, make_task, room_of, stack_of, task, tasks, trees, unread};
     ghost use Rattle.prettyless_probe.specs.Sums.{AreSums, HaveSum, IsSummed, SumsUp, bottom};
 
     /// An empty one. It takes no memory.
@@ -70,6 +70,14 @@ impl<N: Walk> Stack<N> {
         ensures { result ≡ length (stack_of N.tree self.now) }
     {
         self.nodes.len()
+    }
+
+    /// How many nodes it has memory for.
+    #[inline(always)]
+    pub fn room(&self) -> usize
+        ensures { result ≡ room_of self.now }
+    {
+        self.nodes.capacity()
     }
 
     /// Takes all nodes off.
@@ -102,6 +110,7 @@ impl<N: Walk> Stack<N> {
         ensures same { OnOk result (stack_of N.tree self.new ≡ stack_of N.tree self.old) }
         ensures opened { OnOk result ((self.new.here.indent ≡ indent) × (self.new.here.mode ≡ mode)) }
         ensures summed { OnOk result (IsSummed N.HAS_SUMMARIES N.tree self.old → IsSummed N.HAS_SUMMARIES N.tree self.new) }
+        ensures room { OnOk result (room_of self.old ≤ room_of self.new) }
     {
         self.frames.push(self.here)?;
         self.here = Frame {
@@ -179,6 +188,7 @@ impl<N: Walk> Stack<N> {
         ensures same { OnOk result (stack_of N.tree self.new ≡ stack_of N.tree self.old) }
         ensures entered { OnOk result ((self.new.here.indent ≡ indent) × (self.new.here.mode ≡ mode)) }
         ensures summed { OnOk result (IsSummed N.HAS_SUMMARIES N.tree self.old → IsSummed N.HAS_SUMMARIES N.tree self.new) }
+        ensures room { OnOk result (room_of self.old ≤ room_of self.new) }
     {
         if self.here.below < self.nodes.len() {
             return self.open(indent, mode);
@@ -194,6 +204,7 @@ impl<N: Walk> Stack<N> {
         ensures same { OnOk result (stack_of N.tree self.new ≡ stack_of N.tree self.old) }
         ensures entered { OnOk result ((self.new.here.indent ≡ indent) × (self.new.here.mode ≡ mode)) }
         ensures summed { OnOk result (IsSummed N.HAS_SUMMARIES N.tree self.old → IsSummed N.HAS_SUMMARIES N.tree self.new) }
+        ensures room { OnOk result (room_of self.old ≤ room_of self.new) }
     {
         if self.here.below < self.nodes.len() && self.shares(indent, mode) {
             return Ok(());
@@ -208,6 +219,7 @@ impl<N: Walk> Stack<N> {
             ≡ make_task self.old.here.indent self.old.here.mode (N.tree node) ∷ stack_of N.tree self.old) }
         ensures here { OnOk result (self.new.here ≡ self.old.here) }
         ensures summed { OnOk result (IsSummed N.HAS_SUMMARIES N.tree self.old → IsSummed N.HAS_SUMMARIES N.tree self.new) }
+        ensures room { OnOk result ((room_of self.old ≤ room_of self.new) × (length (stack_of N.tree self.new) ≤ room_of self.new)) }
     {
         self.push_sum(&node)?;
         self.nodes.push(node)?;
@@ -219,6 +231,7 @@ impl<N: Walk> Stack<N> {
     fn push_framed(&mut self, indent: usize, mode: Mode, node: N) -> Result<(), AllocError>
         ensures pushed { OnOk result (stack_of N.tree self.new ≡ make_task indent mode (N.tree node) ∷ stack_of N.tree self.old) }
         ensures summed { OnOk result (IsSummed N.HAS_SUMMARIES N.tree self.old → IsSummed N.HAS_SUMMARIES N.tree self.new) }
+        ensures room { OnOk result (room_of self.old ≤ room_of self.new) }
     {
         self.change(indent, mode)?;
         self.push_in(node)
@@ -229,6 +242,7 @@ impl<N: Walk> Stack<N> {
     pub fn push(&mut self, indent: usize, mode: Mode, node: N) -> Result<(), AllocError>
         ensures pushed { OnOk result (stack_of N.tree self.new ≡ make_task indent mode (N.tree node) ∷ stack_of N.tree self.old) }
         ensures summed { OnOk result (IsSummed N.HAS_SUMMARIES N.tree self.old → IsSummed N.HAS_SUMMARIES N.tree self.new) }
+        ensures room { OnOk result (room_of self.old ≤ room_of self.new) }
     {
         if self.shares(indent, mode) {
             return self.push_in(node);
@@ -274,6 +288,7 @@ impl<N: Walk> Stack<N> {
         ensures taken { stack_of N.tree self.old
             ≡ make_task self.new.here.indent self.new.here.mode (N.tree result) ∷ stack_of N.tree self.new }
         ensures summed { IsSummed N.HAS_SUMMARIES N.tree self.old → IsSummed N.HAS_SUMMARIES N.tree self.new }
+        ensures room { room_of self.new ≡ room_of self.old }
     {
         let Some(node) = self.nodes.pop() else {
             unreachable!()
@@ -289,6 +304,7 @@ impl<N: Walk> Stack<N> {
         ensures summed { IsSummed N.HAS_SUMMARIES N.tree self.old → IsSummed N.HAS_SUMMARIES N.tree self.new }
         ensures more { IsTrue result → self.new.here.below < vec_len self.new.nodes }
         ensures none { IsFalse result → stack_of N.tree self.new ≡ [] }
+        ensures room { room_of self.new ≡ room_of self.old }
     {
         if self.here.below < self.nodes.len() {
             return true;
@@ -303,6 +319,7 @@ impl<N: Walk> Stack<N> {
             ((stack_of N.tree self.old ≡ []) × (stack_of N.tree self.new ≡ []))
             (λ n. stack_of N.tree self.old ≡ make_task self.new.here.indent self.new.here.mode (N.tree n) ∷ stack_of N.tree self.new) }
         ensures summed { IsSummed N.HAS_SUMMARIES N.tree self.old → IsSummed N.HAS_SUMMARIES N.tree self.new }
+        ensures room { room_of self.new ≡ room_of self.old }
     {
         if self.reach_node() {
             Some(self.take_here())

@@ -1,11 +1,11 @@
 -- The printer's state as the definitions see it, and what a step of the code shows of the step that is defined.
-use Rattle.std.specs.Prelude.{◌≡◌, ℕ, List, [], ◌∷◌, ◌++◌, drop, Result, Ok, Err}
+use Rattle.std.specs.Prelude.{◌≡◌, ◌≤◌, ℕ, List, [], ◌∷◌, ◌++◌, drop, Result, Ok, Err}
 use Rattle.prettyless_model.specs.Tree.{Tree}
 use Rattle.prettyless_model.specs.Layout.{State, Entry}
 use Rattle.prettyless_model.specs.declared.mode.Mode.{Mode}
 use Rattle.prettyless_model.specs.declared.mode.Mode.TheVariants.{Flat}
-use Rattle.prettyless_probe.specs.Stack.{Task, make_task, follow, stack_of, trees}
-use Rattle.prettyless_probe.specs.Texts.{IsTexts}
+use Rattle.prettyless_probe.specs.Stack.{Task, make_task, follow, room_of, stack_of, trees}
+use Rattle.prettyless_probe.specs.Texts.{IsTexts, texts_waiting}
 use Rattle.prettyless_step.specs.Steps.{Step, Move, Stuck, Choose}
 use Rattle.prettyless_step.specs.Piece.{piece_bytes}
 use Rattle.prettyless_step.specs.declared.printer.Printer.{Printer}
@@ -51,7 +51,7 @@ Shows f m Silent step p q = Writes f [] step p q
 Shows f m (Descend i n) step p q = Hands f i m n step p q
 Shows f m Shift step p q = q ≡ p
 Shows f m (DescendFlat i n) step p q = Hands f i Flat n step p q
-Shows f m (DescendTexts i n) step p q = Hands f i Flat n step p q × IsTexts (f n)
+Shows f m (DescendTexts i n) step p q = Hands f i Flat n step p q × (IsTexts (f n) × (texts_waiting (f n) 0 ≤ room_of q.scratch))
 Shows f m (Emit piece) step p q = Writes f (piece_bytes piece) step p q
 Shows f m Failed Stuck p q = q ≡ p
 Shows f m (Choice i l r) (Choose j x y) p q = (i ≡ j) × (f l ≡ x) × (f r ≡ y) × (q ≡ p)

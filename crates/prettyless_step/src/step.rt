@@ -6,13 +6,13 @@ ghost use Rattle.prettyless_model.specs.Content.{suffix_depth};
 ghost use Rattle.prettyless_model.specs.Counts.{each_probe};
 ghost use Rattle.prettyless_model.specs.Layout.{is_suppressed, lay_ending, some_pending, next_indent, probe as probe_of};
 ghost use Rattle.prettyless_model.specs.declared.mode.Mode.TheVariants.{Break, Flat};
-ghost use Rattle.prettyless_probe.specs.Stack.{make_task, nodes};
+ghost use Rattle.prettyless_probe.specs.Stack.{make_task, nodes, room_of};
 ghost use Rattle.prettyless_step.specs.Steps.{Move, at_once, break_step, counted_payload, decided_by_metrics, is_rejected};
 ghost use Rattle.prettyless_step.specs.Steps.{rejects_payload, step_of, union_step};
 ghost use Rattle.prettyless_step.specs.Piece.{piece_bytes};
 ghost use Rattle.prettyless_step.specs.Printing.{IsStepped, IsSteppedOrRefused, IsStopped, Shows, Writes, following, state_of, tasks_of};
 ghost use Rattle.prettyless_probe.specs.Probing.{Few, RisesBy, asked, is_fit};
-ghost use Rattle.prettyless_probe.specs.Texts.{IsTexts};
+ghost use Rattle.prettyless_probe.specs.Texts.{IsTexts, texts_waiting};
 ghost use Rattle.prettyless_probe.specs.declared.probe.Fit.TheVariants.{FitsAsTexts};
 ghost use Rattle.prettyless_probe.specs.Sums.{IsSummed};
 
@@ -44,6 +44,7 @@ fn probe_here<N: Walk>(
     ensures answer { IfOk result (λ fit. is_fit fit ≡ probe_of printer.old.options (N.tree node) indent mode
         (following N.tree printer.old) (state_of N.tree printer.old)) }
     ensures texts { IfOk result (λ fit. fit ≡ FitsAsTexts → (mode ≡ Flat) × IsTexts (N.tree node)) }
+    ensures room { IfOk result (λ fit. fit ≡ FitsAsTexts → texts_waiting (N.tree node) 0 ≤ room_of printer.new.scratch) }
     ensures others { printer.new ≡ record printer.old { scratch = printer.new.scratch } }
     ensures rises { probes.old ≤ probes.new }
     ensures counted { probes.new ≤ probes.old + (size (N.tree node) + nodes (tasks_of N.tree printer.old)) }

@@ -1,23 +1,37 @@
-use Rattle.std.proofs.Common.{◌≡◌, [], rules, List, ◌∷◌, subst, sym, ap, ◌∙◌, refl}
+use Rattle.std.proofs.Common.{◌≡◌, ◌≤◌, [], rules, List, ◌∷◌, subst, sym, ap, ◌∙◌, refl, arith, vec_capacity}
 use Rattle.prettyless_sink.specs.declared.visits.Visits.{Visits}
 use Rattle.prettyless_model.specs.Tree.{Tree}
 use Rattle.prettyless_step.specs.declared.printer.Printer.{Printer}
 use Rattle.prettyless_printer.specs.Points.{point, seen, standing}
-use Rattle.prettyless_printer.specs.Laying.{laid_to, left_trees}
+use Rattle.prettyless_printer.specs.Laying.{laid_to, left_trees, trees_waiting}
 use Rattle.prettyless_printer.proofs.Laying.{Laid, OneNode, left_append, left_at, left_begins, left_done, left_either, left_empty}
-use Rattle.prettyless_printer.proofs.Laying.{left_group, left_nest, left_nil, left_refused, no_bytes, some_bytes, left_text}
-use Rattle.prettyless_printer.proofs.Laying.{left_text_failed, left_trees-push}
+use Rattle.prettyless_printer.proofs.Laying.{left_group, left_nest, left_nil, left_text, left_text_failed, left_trees-push}
+use Rattle.prettyless_printer.proofs.Laying.{length-left_trees, no_bytes, room_append, room_to_wait, some_bytes}
 use Rattle.prettyless_printer.proofs.texts.lay_texts.Goals as goal
 use Rattle.prettyless_printer.proofs.texts.lay_texts.Goals.{in-Text+then-not-is_empty+in_default-write_gap_and_text}
 use Rattle.prettyless_printer.proofs.texts.lay_texts.Goals.{in-Text+else-not-is_empty, in-Nil}
 
 pub nodes-init : goal.nodes-init
-nodes-init g c = record {
-  left = left_begins (ap (left_trees g.N.Walk.tree) c.clear.ensures.items) c.gap-gap.ensures c.prospective-position.ensures
-      c.requires.texts;
-  printer = refl;
-  visits = refl;
-}
+nodes-init g c =
+    let f = g.N.Walk.tree in
+    let none = ap (left_trees f) c.requires.empty in
+    record {
+      left = left_begins none c.gap-gap.ensures c.prospective-position.ensures c.requires.texts;
+      printer = refl;
+      visits = refl;
+      room = omega (arith, c.requires.room, ap (λ (ds : List Tree). trees_waiting (f c.args.first ∷ ds)) none);
+    }
+
+pub push_reserved-requires : goal.push_reserved-requires
+push_reserved-requires g c =
+    let f = g.N.Walk.tree in
+    let flat = c.nodes.printer.flat in
+    omega (
+      arith,
+      room_to_wait (left_trees f flat.items) (f c.in-Append.l) (f c.in-Append.r) c.in-Append.ensures.tree c.nodes.invariant.room,
+      length-left_trees f flat.items,
+      flat.ok.0,
+    )
 
 pub nodes-preserved-in-Append : goal.nodes-preserved-in-Append
 nodes-preserved-in-Append g c =
@@ -26,14 +40,20 @@ nodes-preserved-in-Append g c =
     let h = c.nodes.invariant in
     let one : OneNode c.nodes.count c.one_more-count.result =
     record { one = c.one_more-count.ensures.one; rises = c.one_more-count.ensures.rises; at_most = c.one_more-count.ensures.at_most } in
-    let pushed = ap (left_trees f) c.in_default-push.ensures.items ∙ left_trees-push f c.nodes.printer.flat.items c.in-Append.r in
+    let pushed = ap (left_trees f) c.push_reserved.ensures.items ∙ left_trees-push f c.nodes.printer.flat.items c.in-Append.r in
     record {
       left = subst (λ (ds : List Tree). Laid (f c.args.first) (point f c.args.printer.now (see c.args.out.now) c.args.visits.now)
           (f c.in-Append.l ∷ ds) c.nodes.is_written c.nodes.gap c.nodes.position
           (see c.nodes.out) c.one_more-count.result) (sym pushed)
           (left_append (f c.in-Append.l) (f c.in-Append.r) c.in-Append.ensures.tree one h.left);
-      printer = ap (λ (z : Printer g.row.N.Denot). record z { flat = c.push.new.self }) h.printer;
+      printer = ap (λ (z : Printer g.row.N.Denot). record z { flat = c.push_reserved.new.self }) h.printer;
       visits = h.visits;
+      room = omega (
+        arith,
+        ap (λ (ds : List Tree). trees_waiting (f c.in-Append.l ∷ ds)) pushed,
+        room_append (left_trees f c.nodes.printer.flat.items) (f c.in-Append.l) (f c.in-Append.r) c.in-Append.ensures.tree h.room,
+        c.push_reserved.ensures.capacity,
+      );
     }
 
 pub nodes-preserved-in-Nest : goal.nodes-preserved-in-Nest
@@ -49,6 +69,8 @@ nodes-preserved-in-Nest g c =
           }) h.left;
       printer = h.printer;
       visits = h.visits;
+      room = subst (λ (z : Tree). trees_waiting (z ∷ left_trees g.N.Walk.tree c.nodes.printer.flat.items)
+          ≤ vec_capacity c.nodes.printer.flat) (sym c.in-Nest.ensures.tree) h.room;
     }
 
 pub nodes-preserved-in-Nest-2 : goal.nodes-preserved-in-Nest-2
@@ -64,6 +86,8 @@ nodes-preserved-in-Nest-2 g c =
           }) h.left;
       printer = h.printer;
       visits = h.visits;
+      room = subst (λ (z : Tree). trees_waiting (z ∷ left_trees g.N.Walk.tree c.nodes.printer.flat.items)
+          ≤ vec_capacity c.nodes.printer.flat) (sym c.in-Nest.ensures.tree) h.room;
     }
 
 pub nodes-preserved-in-Nest-3 : goal.nodes-preserved-in-Nest-3
@@ -79,6 +103,8 @@ nodes-preserved-in-Nest-3 g c =
           }) h.left;
       printer = h.printer;
       visits = h.visits;
+      room = subst (λ (z : Tree). trees_waiting (z ∷ left_trees g.N.Walk.tree c.nodes.printer.flat.items)
+          ≤ vec_capacity c.nodes.printer.flat) (sym c.in-Nest.ensures.tree) h.room;
     }
 
 pub returns-in-Err-clause-lays : goal.returns-in-Err-clause-lays
@@ -88,19 +114,10 @@ returns-in-Err-clause-lays g c = λ a i m.
     let one : OneNode c.nodes.count c.one_more-count.result =
     record { one = c.one_more-count.ensures.one; rises = c.one_more-count.ensures.rises; at_most = c.one_more-count.ensures.at_most } in
     let same = ap (λ (z : Visits). record z { printer = c.one_more-count.result }) h.visits in
-    left_refused f (f c.in-Append.l) (f c.in-Append.r) _ _ _ c.in-Append.ensures.tree one h.left same a i m
-
-pub returns-in-Err-write_gap_and_text-clause-lays : goal.returns-in-Err-write_gap_and_text-clause-lays
-returns-in-Err-write_gap_and_text-clause-lays g c = λ a i m.
-    let f = g.N.Walk.tree in
-    let h = c.nodes.invariant in
-    let one : OneNode c.nodes.count c.one_more-count.result =
-    record { one = c.one_more-count.ensures.one; rises = c.one_more-count.ensures.rises; at_most = c.one_more-count.ensures.at_most } in
-    let same = ap (λ (z : Visits). record z { printer = c.one_more-count.result }) h.visits in
-    left_text_failed f c.in-Text.s.now _ _ _ c.in-Err-write_gap_and_text.e
+    left_text_failed f c.in-Text.s.now _ _ _ c.in-Err.e
     (some_bytes c.is_empty.result c.in-Text.s.now c.is_empty.ensures c.if-not-is_empty.true) c.in-Text.ensures.tree one h.left
     c.write_gap_and_text.ensures.same_lender
-    c.in-Err-write_gap_and_text.ensures.err same a i m
+    c.in-Err.ensures.err same a i m
 
 pub returns-in_default-pop-clause-lays : goal.returns-in_default-pop-clause-lays
 returns-in_default-pop-clause-lays g c = λ a i m.
@@ -157,4 +174,5 @@ nodes-preserved g c =
           (see c.match-view.out) n) popped left;
       printer = ap (λ (z : Printer g.row.N.Denot). record z { flat = c.pop.new.self }) h.printer;
       visits = h.visits;
+      room = omega (arith, ap trees_waiting popped, h.room, c.pop.ensures.capacity);
     }

@@ -1,7 +1,7 @@
-use Rattle.std.proofs.Common.{◌≡◌, ◌+◌, ◌∷◌}
+use Rattle.std.proofs.Common.{◌≡◌, ◌+◌, ◌≤◌, ◌∷◌, vec_capacity}
 use Rattle.prettyless_model.specs.Tree.{size}
 use Rattle.prettyless_printer.specs.Points.{point, seen}
-use Rattle.prettyless_printer.specs.Laying.{left_trees}
+use Rattle.prettyless_printer.specs.Laying.{left_trees, trees_waiting}
 use Rattle.prettyless_printer.proofs.Laying.{Laid, sizes}
 use Rattle.prettyless_printer.proofs.texts.lay_texts.Given as goal
 
@@ -14,6 +14,7 @@ invariant-nodes g l =
           l.is_written l.gap l.position (sink l.out) l.count;
       printer : l.printer ≡ record l.fn.printer { flat = l.printer.flat };
       visits : l.visits ≡ l.fn.visits;
+      room : trees_waiting (f l.node ∷ left_trees f l.printer.flat.items) ≤ vec_capacity l.printer.flat;
     }
 
 abbrev pub decreases-nodes : goal.decreases-nodes

@@ -1,15 +1,15 @@
-use Rattle.std.proofs.Common.{[], Result, subst, length, ap, append-nil, arith, refl, sym}
+use Rattle.std.proofs.Common.{[], ◌∷◌, ◌∙◌, Result, subst, length, ap, append-nil, arith, refl, sym}
 use Rattle.prettyless_sink.specs.Sink.{known}
 use Rattle.prettyless_model.specs.declared.mode.Mode.TheVariants.{Flat}
-use Rattle.prettyless_probe.specs.Stack.{stack_of, task, trees}
+use Rattle.prettyless_probe.specs.Stack.{make_task, stack_of, task, trees}
+use Rattle.prettyless_step.specs.declared.printer.Printer.{Printer}
 use Rattle.prettyless_step.specs.declared.queue.Queue.{Queue}
 use Rattle.prettyless_step.specs.Piece.{piece_bytes}
 use Rattle.prettyless_step.specs.Printing.{IsStepped}
 use Rattle.prettyless_step.specs.declared.printer.StepResult.TheVariants as step_result
-use Rattle.prettyless_sink.specs.declared.error.RenderError.{RenderError}
 use Rattle.prettyless_printer.specs.Turns.{Advances}
-use Rattle.prettyless_printer.specs.Laying.{ends_turn}
-use Rattle.prettyless_printer.specs.Points.{point, seen, standing}
+use Rattle.prettyless_printer.specs.Laying.{Laying, ends_turn}
+use Rattle.prettyless_printer.specs.Points.{Standing, point, point_at, seen, standing}
 use Rattle.prettyless_printer.specs.Visits.{visited_more}
 use Rattle.prettyless_printer.proofs.Trying.{grows_same}
 use Rattle.prettyless_printer.proofs.Hands.{goes_down, in_hand, shown, visit}
@@ -104,14 +104,16 @@ returns-in-Ok-lay_texts-clause-advances g c =
     let one = visit f c.down.count c.down.visits c.down.printer c.step.new.visits k hand c.one_more-in-Ok-DescendTexts.ensures.one c.step.ensures.printer
     c.step.ensures.rises c.step.ensures.counted in
     let lays = rw c.count_more-in-Ok-DescendTexts.ensures.more at c.lay_texts.ensures.lays in
-    subst (λ (z : Result (Unit {0}) (RenderError g.row.W-Error.Denot)). Advances f
+    subst (λ (z : Result (Unit {0}) g.row.W-Error.Denot). Advances f
     (point f c.args.printer.now (see c.args.out.now) c.args.visits.now)
     (point f c.lay_texts.new.printer (see c.lay_texts.new.out) c.lay_texts.new.visits) (ends_turn z)) c.in-Ok-lay_texts.is
     (lays (point f c.args.printer.now (see c.args.out.now) c.args.visits.now) i
+    (subst (λ (z : Standing). Laying (point f c.args.printer.now (see c.args.out.now) c.args.visits.now) (make_task i Flat (f n) ∷ [])
+    (point_at z (see c.down.out) x)) (sym (ap (standing f) c.make_room.ensures.others))
     (laying_begins f c.down.printer q x i n hand one
     (c.in-Ok-DescendTexts.ensures.asked (subst IsStepped (sym c.in-Ok-DescendTexts.field-0-is) tt))
     (shown f c.down.printer q c.in-Ok-DescendTexts.field-0 (step_result.DescendTexts i n) hand c.in-Ok-DescendTexts.field-0-is
-    c.in-Ok-DescendTexts.ensures.step).0))
+    c.in-Ok-DescendTexts.ensures.step).0)))
 
 pub returns-in-Ok-lay_texts-clause-spends : goal.returns-in-Ok-lay_texts-clause-spends
 returns-in-Ok-lay_texts-clause-spends g c =
@@ -133,8 +135,10 @@ returns-in-Ok-lay_texts-clause-spends g c =
     let rises = rw c.count_more-in-Ok-DescendTexts.ensures.more at laid.rises in
     let counted = rw c.count_more-in-Ok-DescendTexts.ensures.more at laid.counted in
     λ plain.
-    (spends_laid (standing f q) (standing f c.lay_texts.new.printer) c.lay_texts.new.visits (ap (stack_of f) laid.commands)
-    (ap (λ (z : Queue g.row.N.Denot). trees f z.nodes.items) laid.queue) probes rises counted
+    (spends_laid (standing f q) (standing f c.lay_texts.new.printer) c.lay_texts.new.visits
+    (ap (stack_of f) laid.commands ∙ ap (λ (z : Printer g.row.N.Denot). stack_of f z.commands) c.make_room.ensures.others)
+    (ap (λ (z : Queue g.row.N.Denot). trees f z.nodes.items) laid.queue
+    ∙ ap (λ (z : Printer g.row.N.Denot). trees f z.queue.nodes.items) c.make_room.ensures.others) probes rises counted
     (spends_down f c.down.printer q i Flat n took plain c.step.ensures.queue
     (shown f c.down.printer q c.in-Ok-DescendTexts.field-0 (step_result.DescendTexts i n) hand c.in-Ok-DescendTexts.field-0-is
     c.in-Ok-DescendTexts.ensures.step).0))
@@ -152,14 +156,16 @@ returns-in-Err-lay_texts-clause-advances g c =
     let one = visit f c.down.count c.down.visits c.down.printer c.step.new.visits k hand c.one_more-in-Ok-DescendTexts.ensures.one c.step.ensures.printer
     c.step.ensures.rises c.step.ensures.counted in
     let lays = rw c.count_more-in-Ok-DescendTexts.ensures.more at c.lay_texts.ensures.lays in
-    subst (λ (z : Result (Unit {0}) (RenderError g.row.W-Error.Denot)). Advances f
+    subst (λ (z : Result (Unit {0}) g.row.W-Error.Denot). Advances f
     (point f c.args.printer.now (see c.args.out.now) c.args.visits.now)
     (point f c.lay_texts.new.printer (see c.lay_texts.new.out) c.lay_texts.new.visits) (ends_turn z)) c.in-Err-lay_texts.is
     (lays (point f c.args.printer.now (see c.args.out.now) c.args.visits.now) i
+    (subst (λ (z : Standing). Laying (point f c.args.printer.now (see c.args.out.now) c.args.visits.now) (make_task i Flat (f n) ∷ [])
+    (point_at z (see c.down.out) x)) (sym (ap (standing f) c.make_room.ensures.others))
     (laying_begins f c.down.printer q x i n hand one
     (c.in-Ok-DescendTexts.ensures.asked (subst IsStepped (sym c.in-Ok-DescendTexts.field-0-is) tt))
     (shown f c.down.printer q c.in-Ok-DescendTexts.field-0 (step_result.DescendTexts i n) hand c.in-Ok-DescendTexts.field-0-is
-    c.in-Ok-DescendTexts.ensures.step).0))
+    c.in-Ok-DescendTexts.ensures.step).0)))
 
 pub returns-in-Err-lay_texts-clause-spends : goal.returns-in-Err-lay_texts-clause-spends
 returns-in-Err-lay_texts-clause-spends g c =
@@ -181,11 +187,40 @@ returns-in-Err-lay_texts-clause-spends g c =
     let rises = rw c.count_more-in-Ok-DescendTexts.ensures.more at laid.rises in
     let counted = rw c.count_more-in-Ok-DescendTexts.ensures.more at laid.counted in
     λ plain.
-    spends_all (spends_laid (standing f q) (standing f c.lay_texts.new.printer) c.lay_texts.new.visits (ap (stack_of f) laid.commands)
-    (ap (λ (z : Queue g.row.N.Denot). trees f z.nodes.items) laid.queue) probes rises counted
+    spends_all (spends_laid (standing f q) (standing f c.lay_texts.new.printer) c.lay_texts.new.visits
+    (ap (stack_of f) laid.commands ∙ ap (λ (z : Printer g.row.N.Denot). stack_of f z.commands) c.make_room.ensures.others)
+    (ap (λ (z : Queue g.row.N.Denot). trees f z.nodes.items) laid.queue
+    ∙ ap (λ (z : Printer g.row.N.Denot). trees f z.queue.nodes.items) c.make_room.ensures.others) probes rises counted
     (spends_down f c.down.printer q i Flat n took plain c.step.ensures.queue
     (shown f c.down.printer q c.in-Ok-DescendTexts.field-0 (step_result.DescendTexts i n) hand c.in-Ok-DescendTexts.field-0-is
     c.in-Ok-DescendTexts.ensures.step).0))
+
+pub returns-in-Err-make_room-clause-advances : goal.returns-in-Err-make_room-clause-advances
+returns-in-Err-make_room-clause-advances g c =
+    let f = g.N.Walk.tree in
+    let k = c.one_more-in-Ok-DescendTexts.result in
+    let x = visited_more k c.step.new.visits in
+    let hand = c.down.invariant.hand in
+    let more = c.one_more-in-Ok-DescendTexts.ensures.one in
+    let one = visit f c.down.count c.down.visits c.down.printer c.step.new.visits k hand more c.step.ensures.printer
+    c.step.ensures.rises c.step.ensures.counted in
+    rw c.count_more-in-Ok-DescendTexts.ensures.more
+    (advances_refused f (standing f c.make_room.new.printer) x c.in-Err-make_room.e hand one)
+
+pub returns-in-Err-make_room-clause-spends : goal.returns-in-Err-make_room-clause-spends
+returns-in-Err-make_room-clause-spends g c =
+    let f = g.N.Walk.tree in
+    let k = c.one_more-in-Ok-DescendTexts.result in
+    let x = visited_more k c.step.new.visits in
+    let hand = c.down.invariant.hand in
+    let more = c.one_more-in-Ok-DescendTexts.ensures.one in
+    let one = visit f c.down.count c.down.visits c.down.printer c.step.new.visits k hand more c.step.ensures.printer
+    c.step.ensures.rises c.step.ensures.counted in
+    let took = takes f g.N.Walk.HAS_SUMMARIES c.args.limit c.down.printer x hand one
+    (c.in-Ok-DescendTexts.ensures.within (subst IsStepped (sym c.in-Ok-DescendTexts.field-0-is) tt)) c.step.ensures.counted
+    c.step.ensures.few c.down.invariant.spends in
+    rw c.count_more-in-Ok-DescendTexts.ensures.more
+    (λ plain. spends_broke f c.down.printer took plain)
 
 pub returns-in-Ok-Silent-clause-advances : goal.returns-in-Ok-Silent-clause-advances
 returns-in-Ok-Silent-clause-advances g c =

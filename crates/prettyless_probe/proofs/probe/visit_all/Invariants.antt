@@ -1,8 +1,8 @@
-use Rattle.std.proofs.Common.{◌≡◌, ◌++◌, ◌∷◌, ◌+◌, ◌≤◌, [], IsTrue}
+use Rattle.std.proofs.Common.{◌≡◌, ◌++◌, ◌∷◌, ◌+◌, ◌≤◌, max, [], IsTrue}
 use Rattle.prettyless_model.specs.Tree.{size}
 use Rattle.prettyless_model.specs.declared.mode.Mode.TheVariants.{Flat}
-use Rattle.prettyless_probe.specs.Stack.{Reads, in_break, make_task, nodes, stack_of, task, tasks_fit, unread}
-use Rattle.prettyless_probe.specs.Texts.{TextsOnce}
+use Rattle.prettyless_probe.specs.Stack.{Reads, in_break, make_task, nodes, room_of, stack_of, task, tasks_fit, unread}
+use Rattle.prettyless_probe.specs.Texts.{TextsOnce, tasks_waiting, texts_waiting}
 use Rattle.prettyless_probe.proofs.probe.visit_all.Given as goal
 
 abbrev pub invariant-read : goal.invariant-read
@@ -16,6 +16,9 @@ invariant-read g l = record {
   texts : IsTrue l.is_texts → stack_of g.N.Walk.tree l.fn.stack ≡ []
       → (l.fn.first.mode ≡ Flat) × TextsOnce (g.N.Walk.tree l.fn.first.node)
       (make_task l.stack.here.indent l.stack.here.mode (g.N.Walk.tree l.node) ∷ stack_of g.N.Walk.tree l.stack);
+  waiting : IsTrue l.is_texts → stack_of g.N.Walk.tree l.fn.stack ≡ [] → texts_waiting (g.N.Walk.tree l.fn.first.node) 0
+      ≤ max (room_of l.stack)
+      (tasks_waiting (make_task l.stack.here.indent l.stack.here.mode (g.N.Walk.tree l.node) ∷ stack_of g.N.Walk.tree l.stack));
   rises : l.fn.probes ≤ l.probes;
   counted : l.probes + (size (g.N.Walk.tree l.node)
       + (nodes (stack_of g.N.Walk.tree l.stack) + nodes (unread g.N.Walk.tree l.commands l.below)))

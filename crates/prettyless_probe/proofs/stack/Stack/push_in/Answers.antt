@@ -1,7 +1,7 @@
-use Rattle.std.proofs.Common.{◌∷◌, [], ◌∙◌, List, ap, arith, length, length-append, subst, sym, if◌then◌else◌}
-use Rattle.prettyless_probe.specs.Stack.{Task, make_task, stack_of}
+use Rattle.std.proofs.Common.{◌∷◌, [], ◌∙◌, List, ap, arith, length, length-append, subst, sym, vec_len, if◌then◌else◌}
+use Rattle.prettyless_probe.specs.Stack.{Task, make_task, room_of, stack_of}
 use Rattle.prettyless_probe.specs.Sums.{AreSums}
-use Rattle.prettyless_probe.proofs.Stacks.{tasks_last}
+use Rattle.prettyless_probe.proofs.Stacks.{length-stack_of, tasks_last}
 use Rattle.prettyless_probe.proofs.Sums.{long_push}
 use Rattle.prettyless_probe.proofs.stack.Stack.push_in.Goals as goal
 
@@ -27,3 +27,21 @@ returns-clause-summed g c h =
       sums = subst (λ (z : List Task). AreSums u.sums.items z) (sym (returns-clause-pushed g c))
           (c.in_ok-push_sum.ensures.sums s.here.indent s.here.mode h);
     }
+
+pub returns-clause-room : goal.returns-clause-room
+returns-clause-room g c =
+    let f = g.N.Walk.tree in
+    let s = c.args.self.now in
+    let same = ap (λ z. room_of z) c.in_ok-push_sum.ensures.others in
+    let as_long = ap (λ z. vec_len z.nodes) c.in_ok-push_sum.ensures.others in (
+      omega (arith, same, c.push.ensures.capacity),
+      omega (
+        arith,
+        ap length (returns-clause-pushed g c),
+        length-stack_of f s,
+        s.nodes.ok.0,
+        as_long,
+        c.in_ok-push.ensures.len,
+        c.push.new.self.ok.1,
+      ),
+    )
