@@ -6,7 +6,7 @@ use Rattle.prettyless_model.specs.Counts.{laid_nodes, laid_probes}
 use Rattle.prettyless_model.specs.Layout.{layout}
 use Rattle.prettyless_model.specs.Tree.{Tree, size, probed}
 use Rattle.prettyless_model.specs.declared.options.RenderOptions.{RenderOptions}
-use Rattle.prettyless_printer.specs.Linear.{IsFew, IsLinear}
+use Rattle.prettyless_printer.specs.Linear.{IsLinearBound, IsLinear}
 use Rattle.prettyless_printer.specs.Renders.{Rendered, RendersKnown}
 use Rattle.prettyless_sink.specs.Sink.{IfKnown}
 use Rattle.prettyless_sink.specs.declared.error.RenderError.{RenderError}
@@ -49,7 +49,7 @@ pub record CountsVisits {A E : Type 0} (o : RenderOptions) (d : Tree) (v w : Vis
   pub probes : suffix_depth d ≡ 0 → w.probes ≤ v.probes + size d * probed d
   -- Where a table bounds the probes of the document at this width, and none was refused memory, probes visit at most sixteen nodes for
   -- each node, and a thousand, whatever the answer: so all visits are linear in the document.
-  pub few : IsLinear o.width d → w.refused ≡ 0 → IsFew 16 1000 (size d) v w
+  pub few : IsLinear o.width d → w.refused ≡ 0 → IsLinearBound 16 1000 (size d) v w
   -- `Ok`: the printer visits at least the nodes that the layout lays, up to the greatest count.
   pub laid : OnOk result (min (v.printer + laid_nodes o d) (2 ^ 64 - 1) ≤ w.printer)
   -- `Ok`: the probes visit at least one node for each probe that the layout needs, up to the greatest count.

@@ -12,7 +12,7 @@ use Rattle.prettyless_model.specs.Column.{commit, blank, gap, prospective, neste
 use Rattle.prettyless_model.specs.Choice.{column_holds, nesting_holds}
 use Rattle.prettyless_model.specs.Look.{Answers, GoesOn, answer_of, look, look_text}
 use Rattle.prettyless_model.specs.Layout.{State, Outcome, Done, Entry, Breaks, after_bytes, and_then, lay, lay_text, entry, probe}
-use Rattle.prettyless_model.specs.Layout.{rest_fits, some_pending, tried, lay_ending, next_indent, break_with, breaks}
+use Rattle.prettyless_model.specs.Layout.{rest_fits, some_pending, in_trial, lay_ending, next_indent, break_with, breaks}
 use Rattle.prettyless_model.specs.Levels.{settle, queued}
 use Rattle.prettyless_model.specs.declared.column.Column.{Column}
 use Rattle.prettyless_model.specs.declared.mode.Mode.{Mode}
@@ -20,7 +20,7 @@ use Rattle.prettyless_model.specs.declared.mode.Mode.TheVariants.{Break, Flat}
 use Rattle.prettyless_model.proofs.Looks.{answer-then}
 use Rattle.prettyless_laws.specs.Trace as traces
 use Rattle.prettyless_laws.specs.Reading.{IsPlain}
-use Rattle.prettyless_laws.specs.Trace.{Gap, Chose, Side, First, Second, Tracing, Traced, BreakTraces, after_pieces, traced_then}
+use Rattle.prettyless_laws.specs.Trace.{Gap, Alternative, Side, First, Second, Tracing, Traced, BreakTraces, after_pieces, traced_then}
 use Rattle.prettyless_laws.specs.Trace.{trace_text, trace_ending, noted_choice, trace_at, trace_break_with, trace_breaks}
 use Rattle.prettyless_laws.specs.FlatLines.{LeavesPending, IsLike, SkipsWeakLines, LaysFlat, LiesOnOneLine, PassesWeakLines, TracesFlat}
 use Rattle.prettyless_laws.specs.FlatLines.{IsOnOneLine, IsNoAlternative, IsTracedOnOneLine, IsTracedAsFlatGroup}
@@ -45,7 +45,8 @@ only_on false c p next e = absurd (cc)
 
 -- a tree that writes nothing and leaves nothing pending
 flows_by : (o : RenderOptions) (d : Tree) (i : ℕ) (next : Column → Bool → Bool) (st u : State) → LaysFlat o d i st [] u
-    → LaysFlat o d i (tried st) [] (tried u) → TracesFlat o d i st [] u → u.within ≡ st.within → u.pending ≡ st.pending → LeavesPending d []
+    → LaysFlat o d i (in_trial st) [] (in_trial u) → TracesFlat o d i st [] u → u.within ≡ st.within → u.pending ≡ st.pending
+        → LeavesPending d []
     → next u.column (some_pending u.pending) ≡ true → IsTracedOnOneLine o d i next st
 flows_by o d i next st u e f t w p n h = record {
   lies = record {
@@ -82,7 +83,7 @@ flows_as o d x i f next st e t n q h = record {
     state = h.lies.state;
     done = λ brk k j a rest. e brk j rest st refl ∙ h.lies.done brk k (f j) (like_as d x f i j q a) rest;
     within = h.lies.within;
-    anew = λ brk k j a rest. e brk j rest (tried st) refl ∙ h.lies.anew brk k (f j) (like_as d x f i j q a) rest;
+    anew = λ brk k j a rest. e brk j rest (in_trial st) refl ∙ h.lies.anew brk k (f j) (like_as d x f i j q a) rest;
     own = h.lies.own;
     leaves = n h.lies.own h.lies.leaves;
     pending = h.lies.pending;
@@ -113,18 +114,18 @@ flows_chosen o side d x i next st e t n q h = record {
         ap (λ (m : ℕ). lay o brk d m Flat rest st) (only_like d i j q a) ∙ e brk rest st refl ∙ h.lies.done brk k i (inr refl) rest;
     within = h.lies.within;
     anew = λ brk k j a rest.
-        ap (λ (m : ℕ). lay o brk d m Flat rest (tried st)) (only_like d i j q a) ∙ e brk rest (tried st) refl
+        ap (λ (m : ℕ). lay o brk d m Flat rest (in_trial st)) (only_like d i j q a) ∙ e brk rest (in_trial st) refl
         ∙ h.lies.anew brk k i (inr refl) rest;
     own = h.lies.own;
     leaves = n h.lies.own h.lies.leaves;
     pending = h.lies.pending;
     follows = h.lies.follows;
   };
-  pieces = Chose side ∷ h.pieces;
+  pieces = Alternative side ∷ h.pieces;
   traced = λ brk k j a rest.
       ap (λ (m : ℕ). trace_at o brk d m Flat rest st) (only_like d i j q a) ∙ t brk rest
       ∙ ap (noted_choice side) (h.traced brk k i (inr refl) rest);
-  on_one_line = All-cons (IsOnOneLine o.width) (Chose side) h.pieces tt h.on_one_line;
+  on_one_line = All-cons (IsOnOneLine o.width) (Alternative side) h.pieces tt h.on_one_line;
   plain = λ p. absurd (q p);
 }
 
@@ -154,7 +155,7 @@ text_flows : (o : RenderOptions) (d : Tree) (i : ℕ) (w : ℕ) (s : List ℕ) (
     → ((brk : BreakTraces) (j : ℕ) (rest : List Entry) → trace_at o brk d j Flat rest st ≡ trace_text o w s st) → LeavesPending d []
     → answer_of (look_text o.width w s st.column (some_pending st.pending)) next ≡ true → IsTracedOnOneLine o d i next st
 text_flows o d i w [] next st e t n h =
-    flows_by o d i next st st (λ brk k j a rest. e brk j rest st) (λ brk k j a rest. e brk j rest (tried st))
+    flows_by o d i next st st (λ brk k j a rest. e brk j rest st) (λ brk k j a rest. e brk j rest (in_trial st))
     (λ brk k j a rest. t brk j rest) refl refl n h
 text_flows o d i w (b ∷ bs) next st e t n h =
     let parts = only_on (nat_le (commit w st.column).position o.width) (commit w st.column) (some_pending st.pending) next h in
@@ -166,7 +167,7 @@ text_flows o d i w (b ∷ bs) next st e t n h =
         state = record st { column = commit w st.column };
         done = λ brk k j a rest. e brk j rest st ∙ ap (Done bytes) (inked o w st parts.0 st.within);
         within = refl;
-        anew = λ brk k j a rest. e brk j rest (tried st) ∙ ap (Done bytes) (inked o w st parts.0 true);
+        anew = λ brk k j a rest. e brk j rest (in_trial st) ∙ ap (Done bytes) (inked o w st parts.0 true);
         own = [];
         leaves = n;
         pending = sym (append-nil st.pending);
@@ -233,7 +234,7 @@ flows o WeakLine i next st h =
     let taken = only_on (st.column.fresh && not (some_pending st.pending)) st.column (some_pending st.pending) next h in
     let parts = and_parts _ _ taken.0 in
     let none = none_pending st.pending parts.1 in
-    flows_by o WeakLine i next st st (λ brk k j a rest. k j rest st none parts.0) (λ brk k j a rest. k j rest (tried st) none parts.0)
+    flows_by o WeakLine i next st st (λ brk k j a rest. k j rest st none parts.0) (λ brk k j a rest. k j rest (in_trial st) none parts.0)
     (λ brk k j a rest. k j rest st none parts.0) refl refl refl taken.1
 flows o (Append l r) i next st h =
     let x = flows o l i (λ e q. answer_of (look o.width r i Flat e q) next) st

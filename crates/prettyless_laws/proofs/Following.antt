@@ -8,7 +8,8 @@ use Rattle.prettyless_model.specs.Column.{gap, prospective, nested}
 use Rattle.prettyless_model.specs.Choice.{column_holds, nesting_holds}
 use Rattle.prettyless_model.specs.Look.{by_mode, look}
 use Rattle.prettyless_model.specs.Layout.{State, Outcome, Done, Failed, Entry, Breaks, after_bytes, and_then, lay, lay_each, lay_ending}
-use Rattle.prettyless_model.specs.Layout.{some_pending, probe, accept, tried, is_suppressed, flushed, entry, entries, rest_fits, break_with}
+use Rattle.prettyless_model.specs.Layout.{some_pending, probe, accept, in_trial, is_suppressed, flushed, entry, entries, rest_fits}
+use Rattle.prettyless_model.specs.Layout.{break_with}
 use Rattle.prettyless_model.specs.Layout.{breaks}
 use Rattle.prettyless_model.specs.declared.column.Column.{Column}
 use Rattle.prettyless_model.specs.declared.mode.Mode.{Mode}
@@ -74,8 +75,8 @@ lay_alike o brk k (Group d) i m a b st h =
     ap (λ (t : Bool). lay o brk d i (by_mode m (if t then Flat else Break) Flat) a st) (probe_alike o d i Flat a b st h)
     ∙ lay_alike o brk k d i (by_mode m (if probe o d i Flat b st then Flat else Break) Flat) a b st h
 lay_alike o brk k (Union x y) i Break a b st h =
-    ap (λ (z : Outcome). accept o st.within z (lay o brk y i Break a st)) (lay_alike o brk k x i Break a b (tried st) h)
-    ∙ ap (accept o st.within (lay o brk x i Break b (tried st))) (lay_alike o brk k y i Break a b st h)
+    ap (λ (z : Outcome). accept o st.within z (lay o brk y i Break a st)) (lay_alike o brk k x i Break a b (in_trial st) h)
+    ∙ ap (accept o st.within (lay o brk x i Break b (in_trial st))) (lay_alike o brk k y i Break a b st h)
 lay_alike o brk k (Union x y) i Flat a b st h = lay_alike o brk k x i Flat a b st h
 lay_alike o brk k (PartialUnion x y) i Break a b st h =
     either-same (probe o x i Break a st) (probe o x i Break b st) (lay o brk x i Break a st) (lay o brk y i Break a st)

@@ -5,7 +5,8 @@ use Rattle.prettyless_model.specs.Spaces.{spaces}
 use Rattle.prettyless_model.specs.declared.options.RenderOptions.{RenderOptions}
 use Rattle.prettyless_model.specs.declared.options.IndentationPolicy.{IndentationPolicy}
 use Rattle.prettyless_model.specs.declared.options.IndentationPolicy.TheVariants.{Eager, Deferred}
-use Rattle.prettyless_laws.specs.Trace.{Piece, Ending, Indent, Gap, Text, Source, Chose, has_content, settled, indent_bytes, written_pieces}
+use Rattle.prettyless_laws.specs.Trace.{Piece, Ending, Indent, Gap, Text, Source, Alternative, has_content, settled, indent_bytes}
+use Rattle.prettyless_laws.specs.Trace.{written_pieces}
 
 -- what is written of an indent with the end of the line before it
 abbrev pub at_once : IndentationPolicy → ℕ → ℕ
@@ -25,7 +26,7 @@ owed o k (Indent j used ∷ ps) = spaces (at_once o.indentation_policy j) ++ owe
 owed o k (Gap g ∷ ps) = spaces k ++ (spaces g ++ owed o 0 ps)
 owed o k (Text s c ∷ ps) = spaces k ++ (s ++ owed o 0 ps)
 owed o k (Source s ∷ ps) = s ++ owed o 0 ps
-owed o k (Chose side ∷ ps) = owed o k ps
+owed o k (Alternative side ∷ ps) = owed o k ps
 
 -- how many spaces are pending after them
 abbrev pub left : RenderOptions → ℕ → List Piece → ℕ
@@ -35,7 +36,7 @@ left o k (Indent j used ∷ ps) = left o (later o.indentation_policy j) ps
 left o k (Gap g ∷ ps) = left o 0 ps
 left o k (Text s c ∷ ps) = left o 0 ps
 left o k (Source s ∷ ps) = left o 0 ps
-left o k (Chose side ∷ ps) = left o k ps
+left o k (Alternative side ∷ ps) = left o k ps
 
 one-more : (a x b c : List ℕ) → x ≡ b ++ c → a ++ x ≡ (a ++ b) ++ c
 one-more a x b c e = ap (λ (y : List ℕ). a ++ y) e ∙ sym (append_assoc a b c)
@@ -55,7 +56,7 @@ owed-append o k (Gap g ∷ ps) qs =
 owed-append o k (Text s c ∷ ps) qs =
     two-more (spaces k) s (owed o 0 (ps ++ qs)) (owed o 0 ps) (owed o (left o 0 ps) qs) (owed-append o 0 ps qs)
 owed-append o k (Source s ∷ ps) qs = one-more s (owed o 0 (ps ++ qs)) (owed o 0 ps) (owed o (left o 0 ps) qs) (owed-append o 0 ps qs)
-owed-append o k (Chose side ∷ ps) qs = owed-append o k ps qs
+owed-append o k (Alternative side ∷ ps) qs = owed-append o k ps qs
 
 pub left-append : (o : RenderOptions) (k : ℕ) (ps qs : List Piece) → left o k (ps ++ qs) ≡ left o (left o k ps) qs
 left-append o k [] qs = refl
@@ -64,7 +65,7 @@ left-append o k (Indent j used ∷ ps) qs = left-append o (later o.indentation_p
 left-append o k (Gap g ∷ ps) qs = left-append o 0 ps qs
 left-append o k (Text s c ∷ ps) qs = left-append o 0 ps qs
 left-append o k (Source s ∷ ps) qs = left-append o 0 ps qs
-left-append o k (Chose side ∷ ps) qs = left-append o k ps qs
+left-append o k (Alternative side ∷ ps) qs = left-append o k ps qs
 
 -- nothing is pending, used or not
 pub none_owed : (b : Bool) (x : List ℕ) → (if b then spaces 0 else []) ++ x ≡ x
@@ -93,4 +94,4 @@ owed_settled o k (Text s c ∷ ps) =
     ap (λ (x : List ℕ). spaces k ++ (s ++ x)) (owed_settled o 0 ps ∙ none_owed (has_content ps) (written_pieces o (settled ps)))
 owed_settled o k (Source s ∷ ps) =
     ap (λ (x : List ℕ). s ++ x) (owed_settled o 0 ps ∙ none_owed (has_content ps) (written_pieces o (settled ps)))
-owed_settled o k (Chose side ∷ ps) = owed_settled o k ps
+owed_settled o k (Alternative side ∷ ps) = owed_settled o k ps

@@ -11,7 +11,7 @@ use Rattle.prettyless_model.specs.Column.{gap, prospective, padding_fits, nested
 use Rattle.prettyless_model.specs.Choice.{column_holds, nesting_holds}
 use Rattle.prettyless_model.specs.Look.{answer_of, by_mode, look}
 use Rattle.prettyless_model.specs.Layout.{State, Outcome, Done, Failed, Entry, Breaks, after_bytes, and_then, lay, lay_each, lay_text}
-use Rattle.prettyless_model.specs.Layout.{lay_ending, some_pending, probe, accept, tried, is_suppressed, flushed, entry, entries}
+use Rattle.prettyless_model.specs.Layout.{lay_ending, some_pending, probe, accept, in_trial, is_suppressed, flushed, entry, entries}
 use Rattle.prettyless_model.specs.Layout.{next_indent, rest_fits, break_with, end_with, breaks, finish, layout, layout_by, initial}
 use Rattle.prettyless_model.specs.Layout.{bytes_of}
 use Rattle.prettyless_model.specs.declared.mode.Mode.{Mode}
@@ -115,9 +115,9 @@ lay_right o brk a k (Group d) i m r s st h =
     ∙ lay_right o brk a k d i (by_mode m (if probe o d i Flat r st then Flat else Break) Flat) r s st h
 lay_right o brk a k (Union x y) i Break r s st h =
     ap (λ (z : Outcome). accept o st.within z (lay o brk (right y) i Break s (right_state st)))
-    (lay_right o brk a k x i Break r s (tried st) h)
-    ∙ ap (accept o st.within (right_outcome (lay o brk x i Break r (tried st)))) (lay_right o brk a k y i Break r s st h)
-    ∙ right-accept o st.within (lay o brk x i Break r (tried st)) (lay o brk y i Break r st)
+    (lay_right o brk a k x i Break r s (in_trial st) h)
+    ∙ ap (accept o st.within (right_outcome (lay o brk x i Break r (in_trial st)))) (lay_right o brk a k y i Break r s st h)
+    ∙ right-accept o st.within (lay o brk x i Break r (in_trial st)) (lay o brk y i Break r st)
 lay_right o brk a k (Union x y) i Flat r s st h = lay_right o brk a k x i Flat r s st h
 lay_right o brk a k (PartialUnion x y) i Break r s st h =
     either-same (probe o (right x) i Break s (right_state st)) (probe o x i Break r st)

@@ -11,7 +11,8 @@ use Rattle.prettyless_model.specs.Tree.{Flatten, BreakOrFlat, Group, Union, Part
 use Rattle.prettyless_model.specs.Choice.{column_holds, nesting_holds}
 use Rattle.prettyless_model.specs.Column.{gap, prospective, nested}
 use Rattle.prettyless_model.specs.Layout.{State, Outcome, Done, Failed, Whole, Entry, Breaks, after_bytes, and_then, lay, lay_each, probe}
-use Rattle.prettyless_model.specs.Layout.{tried, flushed, entry, entries, break_with, end_with, breaks, finish, layout, layout_by, initial}
+use Rattle.prettyless_model.specs.Layout.{in_trial, flushed, entry, entries, break_with, end_with, breaks, finish, layout}
+use Rattle.prettyless_model.specs.Layout.{layout_by, initial}
 use Rattle.prettyless_model.specs.Layout.{bytes_of}
 use Rattle.prettyless_model.specs.Levels.{suffixes, queued}
 use Rattle.prettyless_model.specs.declared.mode.Mode.{Mode}
@@ -99,8 +100,8 @@ lay_lays o brk h s k g (Group d) i rest st t p l =
     (λ e. flat_lays o brk s d i rest st t p e)
     (lay_lays o brk h s k g d i rest st t p l)
 lay_lays o brk h s k g (Union x y) i rest st t p l =
-    holds-accept Lays (λ b z was e. e) o st.within (lay o brk x i Break rest (tried st)) (lay o brk y i Break rest st)
-    (lay_lays o brk h s k g x i rest (tried st) t.0 p (omega arith))
+    holds-accept Lays (λ b z was e. e) o st.within (lay o brk x i Break rest (in_trial st)) (lay o brk y i Break rest st)
+    (lay_lays o brk h s k g x i rest (in_trial st) t.0 p (omega arith))
     (lay_lays o brk h s k g y i rest st t.1 p (omega arith))
 lay_lays o brk h s k g (PartialUnion x y) i rest st t p l =
     holds-either Lays (probe o x i Break rest st) (lay o brk x i Break rest st) (lay o brk y i Break rest st)

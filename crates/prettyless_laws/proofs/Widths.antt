@@ -10,14 +10,14 @@ use Rattle.prettyless_model.specs.Tree.{size}
 use Rattle.prettyless_model.specs.Metrics.{metrics}
 use Rattle.prettyless_model.specs.Choice.{column_holds, nesting_holds}
 use Rattle.prettyless_model.specs.Column.{indented, deferred, prospective, commit, padding_fits, nested}
-use Rattle.prettyless_model.specs.Layout.{State, Entry, after_payload, next_indent, entry, entries, some_pending, probe, tried, flushed}
+use Rattle.prettyless_model.specs.Layout.{State, Entry, after_payload, next_indent, entry, entries, some_pending, probe, in_trial, flushed}
 use Rattle.prettyless_model.specs.Layout.{is_suppressed, initial}
 use Rattle.prettyless_model.specs.declared.column.Column.{Column}
 use Rattle.prettyless_model.specs.declared.metrics.Metrics.{Metrics}
 use Rattle.prettyless_model.specs.declared.mode.Mode.{Mode}
 use Rattle.prettyless_model.specs.declared.mode.Mode.TheVariants.{Break, Flat}
 use Rattle.prettyless_laws.specs.Trace as traces
-use Rattle.prettyless_laws.specs.Trace.{Piece, Gap, Source, Chose, Tracing, Traced, Stopped, First, Second, after_pieces, traced_then}
+use Rattle.prettyless_laws.specs.Trace.{Piece, Gap, Source, Alternative, Tracing, Traced, Stopped, First, Second, after_pieces, traced_then}
 use Rattle.prettyless_laws.specs.Trace.{trace_text, trace_payload, trace_ending, noted_choice, trace_accept, BreakTraces, trace_at}
 use Rattle.prettyless_laws.specs.Trace.{trace_each}
 use Rattle.prettyless_laws.specs.Trace.{trace_break_with, trace_breaks, trace_end_with, trace_finish, trace_by, settled, trace_of, trace}
@@ -56,7 +56,8 @@ same-chosen : (a b : Bool) (x y z w : Tracing) → a ≡ b → Same x z → Same
     (if b then noted_choice First z else noted_choice Second w)
 same-chosen a b x y z w e h k =
     same-either a b (noted_choice First x) (noted_choice Second y) (noted_choice First z) (noted_choice Second w) e
-    (same-after (Chose First ∷ []) (Chose First ∷ []) x z refl h) (same-after (Chose Second ∷ []) (Chose Second ∷ []) y w refl k)
+    (same-after (Alternative First ∷ []) (Alternative First ∷ []) x z refl h)
+        (same-after (Alternative Second ∷ []) (Alternative Second ∷ []) y w refl k)
 
 text_same : (o p : RenderOptions) → o.width ≡ p.width → (w : ℕ) (t : List ℕ) (s u : State) → AlikeStates s u
     → Same (trace_text o w t s) (trace_text p w t u)
@@ -111,7 +112,7 @@ accept_same o p e a b f (Traced ps s) y (Traced qs u) w h k =
     k
 accept_same o p e a b f (Traced ps s) y (Stopped qs) w h k = absurd h
 accept_same o p e a b f (Stopped ps) y (Traced qs u) w h k = absurd h
-accept_same o p e a b f (Stopped ps) y (Stopped qs) w h k = same-after (Chose Second ∷ []) (Chose Second ∷ []) y w refl k
+accept_same o p e a b f (Stopped ps) y (Stopped qs) w h k = same-after (Alternative Second ∷ []) (Alternative Second ∷ []) y w refl k
 
 -- two breaks with the same trace from states that are alike
 abbrev pub SameBreaks : BreakTraces → BreakTraces → Type 0
@@ -155,9 +156,9 @@ traces_same o p e a b k (Group d) i Break rest s u h =
     (traces_same o p e a b k d i Break rest s u h)
 traces_same o p e a b k (Group d) i Flat rest s u h = traces_same o p e a b k d i Flat rest s u h
 traces_same o p e a b k (Union x y) i Break rest s u h =
-    accept_same o p e s.within u.within h.within (trace_at o a x i Break rest (tried s)) (trace_at o a y i Break rest s)
-    (trace_at p b x i Break rest (tried u)) (trace_at p b y i Break rest u)
-    (traces_same o p e a b k x i Break rest (tried s) (tried u) (record { column = h.column; pending = h.pending; within = refl }))
+    accept_same o p e s.within u.within h.within (trace_at o a x i Break rest (in_trial s)) (trace_at o a y i Break rest s)
+    (trace_at p b x i Break rest (in_trial u)) (trace_at p b y i Break rest u)
+    (traces_same o p e a b k x i Break rest (in_trial s) (in_trial u) (record { column = h.column; pending = h.pending; within = refl }))
     (traces_same o p e a b k y i Break rest s u h)
 traces_same o p e a b k (Union x y) i Flat rest s u h = traces_same o p e a b k x i Flat rest s u h
 traces_same o p e a b k (PartialUnion x y) i Break rest s u h =

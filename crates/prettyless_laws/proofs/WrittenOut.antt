@@ -12,7 +12,8 @@ use Rattle.prettyless_model.specs.Metrics.{metrics}
 use Rattle.prettyless_model.specs.Choice.{column_holds, nesting_holds}
 use Rattle.prettyless_model.specs.Column.{gap, prospective, padding_fits, saturating_add, nested}
 use Rattle.prettyless_model.specs.Layout.{State, Outcome, Done, Failed, Entry, Breaks, Whole, Cut, after_bytes, and_then, lay, lay_each}
-use Rattle.prettyless_model.specs.Layout.{lay_text, lay_payload, lay_ending, next_indent, probe, accept, tried, some_pending, is_suppressed}
+use Rattle.prettyless_model.specs.Layout.{lay_text, lay_payload, lay_ending, next_indent, probe, accept, in_trial, some_pending}
+use Rattle.prettyless_model.specs.Layout.{is_suppressed}
 use Rattle.prettyless_model.specs.Layout.{flushed, entry, entries, break_with, end_with, breaks, finish, layout, layout_by, initial}
 use Rattle.prettyless_model.specs.Layout.{bytes_of}
 use Rattle.prettyless_model.specs.declared.metrics.Metrics.{Metrics}
@@ -173,9 +174,9 @@ lay_matches o a b k (Group d) i Break rest s r e h =
     (lay_matches o a b k d i Break rest s r e h)
 lay_matches o a b k (Group d) i Flat rest s r e h = lay_matches o a b k d i Flat rest s r e h
 lay_matches o a b k (Union x y) i Break rest s r e h =
-    matches-accept o s.column.indent s.within (lay o a x i Break rest (tried s)) (lay o a y i Break rest s)
-    (trace_at o b x i Break rest (tried s)) (trace_at o b y i Break rest s)
-    (lay_matches o a b k x i Break rest (tried s) r e h)
+    matches-accept o s.column.indent s.within (lay o a x i Break rest (in_trial s)) (lay o a y i Break rest s)
+    (trace_at o b x i Break rest (in_trial s)) (trace_at o b y i Break rest s)
+    (lay_matches o a b k x i Break rest (in_trial s) r e h)
     (lay_matches o a b k y i Break rest s r e h)
 lay_matches o a b k (Union x y) i Flat rest s r e h = lay_matches o a b k x i Flat rest s r e h
 lay_matches o a b k (PartialUnion x y) i Break rest s r e h =

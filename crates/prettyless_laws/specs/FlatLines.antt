@@ -3,14 +3,14 @@ use Rattle.std.specs.Prelude.{◌≡◌, ℕ, suc, ◌≤◌, Bool, true, List, 
 use Rattle.prettyless_model.specs.declared.options.RenderOptions.{RenderOptions}
 use Rattle.prettyless_model.specs.Tree.{Tree, WeakLine, Append, LineSuffix, Nest, DedentToRoot, Align, Flatten, BreakOrFlat, Group, Union}
 use Rattle.prettyless_model.specs.Tree.{PartialUnion, OnColumn, OnNesting}
-use Rattle.prettyless_model.specs.Layout.{State, Done, Breaks, Entry, lay, probe, rest_fits, some_pending, tried, breaks}
+use Rattle.prettyless_model.specs.Layout.{State, Done, Breaks, Entry, lay, probe, rest_fits, some_pending, in_trial, breaks}
 use Rattle.prettyless_model.specs.Levels.{settle}
 use Rattle.prettyless_model.specs.declared.column.Column.{Column}
 use Rattle.prettyless_model.specs.declared.mode.Mode.{Mode}
 use Rattle.prettyless_model.specs.declared.mode.Mode.TheVariants.{Break, Flat}
 use Rattle.prettyless_laws.specs.Reading.{IsPlain}
 use Rattle.prettyless_laws.specs.Trace as traces
-use Rattle.prettyless_laws.specs.Trace.{Piece, Ending, Indent, Gap, Source, Chose, First, Traced, BreakTraces, trace_at, trace_breaks}
+use Rattle.prettyless_laws.specs.Trace.{Piece, Ending, Indent, Gap, Source, Alternative, First, Traced, BreakTraces, trace_at, trace_breaks}
 
 -- A tree leaves these documents pending in Flat, in their order. A choice by column or nesting leaves those of one of its two
 -- documents.
@@ -57,7 +57,7 @@ pub record LiesOnOneLine (o : RenderOptions) (d : Tree) (i : ℕ) (next : Column
   -- no text goes past the width: the flag is as it was
   pub within : state.within ≡ st.within
   -- also where it is set anew, and then it stays set
-  pub anew : LaysFlat o d i (tried st) bytes (tried state)
+  pub anew : LaysFlat o d i (in_trial st) bytes (in_trial state)
   -- the tree's own line suffixes
   pub own : List Tree
   pub leaves : LeavesPending d own
@@ -89,11 +89,11 @@ IsOnOneLine width (Indent k used) = ⊥
 IsOnOneLine width (Gap g) = ⊤
 IsOnOneLine width (traces.Text s column) = column ≤ width
 IsOnOneLine width (Source s) = ⊥
-IsOnOneLine width (Chose side) = ⊤
+IsOnOneLine width (Alternative side) = ⊤
 
 -- a piece that is no alternative
 abbrev pub IsNoAlternative : Piece → Type 0
-IsNoAlternative (Chose side) = ⊥
+IsNoAlternative (Alternative side) = ⊥
 IsNoAlternative _ = ⊤
 
 -- a trace of breaks that has nothing of a weak line where the line is fresh and nothing is pending; of every other
@@ -127,7 +127,8 @@ pub record IsTracedAsFlatGroup (o : RenderOptions) (d : Tree) (i : ℕ) (rest : 
   -- the document
   pub document : IsTracedOnOneLine o d i (λ c p. rest_fits o.width rest c p) st
   -- the group, whatever the trace of a break
-  pub traced : (brk : BreakTraces) → PassesWeakLines brk → trace_at o brk (Group d) i Break rest st ≡ Traced (Chose First ∷ document.pieces)
+  pub traced : (brk : BreakTraces) → PassesWeakLines brk → trace_at o brk (Group d) i Break rest st
+      ≡ Traced (Alternative First ∷ document.pieces)
       document.lies.state
 
 -- what the probe answers yes to in Flat has its trace on one line

@@ -12,7 +12,7 @@ use Rattle.prettyless_model.specs.Column.{indented, deferred, prospective, commi
 use Rattle.prettyless_model.specs.Choice.{column_holds, nesting_holds}
 use Rattle.prettyless_model.specs.Look.{by_mode}
 use Rattle.prettyless_model.specs.Layout.{State, Entry, Bytes, Whole, Cut, payload_fits, after_payload, next_indent, entry, entries}
-use Rattle.prettyless_model.specs.Layout.{some_pending, probe, tried, flushed, is_suppressed, initial}
+use Rattle.prettyless_model.specs.Layout.{some_pending, probe, in_trial, flushed, is_suppressed, initial}
 use Rattle.prettyless_model.specs.declared.metrics.Metrics.{Metrics}
 use Rattle.prettyless_model.specs.declared.mode.Mode.{Mode}
 use Rattle.prettyless_model.specs.declared.mode.Mode.TheVariants.{Break, Flat}
@@ -31,7 +31,7 @@ pub data Piece : Type 0 where
   Gap : ℕ → Piece
   Text : List ℕ → ℕ → Piece
   Source : List ℕ → Piece
-  Chose : Side → Piece
+  Alternative : Side → Piece
 
 -- the pieces, and the state after them; or the pieces before the node that failed
 pub data Tracing : Type 0 where
@@ -69,7 +69,7 @@ trace_ending Deferred k st = Traced (Ending ∷ Indent k false ∷ []) (record s
 
 -- an alternative, noted before what it lays
 abbrev pub noted_choice : Side → Tracing → Tracing
-noted_choice side x = after_pieces (Chose side ∷ []) x
+noted_choice side x = after_pieces (Alternative side ∷ []) x
 
 -- the first branch of a union if it is kept, and else the second
 abbrev pub trace_accept : RenderOptions → Bool → Tracing → Tracing → Tracing
@@ -107,7 +107,7 @@ trace_at o brk (t.Group d) i m rest st =
     (trace_at o brk d i Break rest st))
     (trace_at o brk d i Flat rest st)
 trace_at o brk (t.Union l r) i m rest st =
-    by_mode m (trace_accept o st.within (trace_at o brk l i m rest (tried st)) (trace_at o brk r i m rest st))
+    by_mode m (trace_accept o st.within (trace_at o brk l i m rest (in_trial st)) (trace_at o brk r i m rest st))
     (trace_at o brk l i m rest st)
 trace_at o brk (t.PartialUnion l r) i m rest st =
     by_mode m
@@ -168,7 +168,7 @@ has_content (Indent k used ∷ ps) = false
 has_content (Gap g ∷ ps) = true
 has_content (Text s c ∷ ps) = true
 has_content (Source s ∷ ps) = false
-has_content (Chose side ∷ ps) = has_content ps
+has_content (Alternative side ∷ ps) = has_content ps
 
 -- a piece, given whether content follows it
 abbrev pub use_of : Piece → Bool → Piece
@@ -206,7 +206,7 @@ piece_layout o (Indent k used) = indent_bytes o.indentation_policy k used
 piece_layout o (Gap g) = spaces g
 piece_layout o (Text s c) = s
 piece_layout o (Source s) = s
-piece_layout o (Chose side) = []
+piece_layout o (Alternative side) = []
 
 -- the bytes of pieces, one after another
 abbrev pub written_pieces : RenderOptions → List Piece → List ℕ

@@ -8,7 +8,7 @@ ghost use Rattle.prettyless_model.specs.Tree.{Union, PartialUnion};
 ghost use Rattle.prettyless_model.specs.Rows.{accent, at_indent, flat_or_failed, in_turn, letter, letter_in_group, noted, numbers, pair};
 ghost use Rattle.prettyless_model.specs.Rows.{row_text, tight_pair, two_lines};
 ghost use Rattle.prettyless_model.specs.Shows.{Mark, AreShown, apart, ended, loose, spaced};
-ghost use Rattle.prettyless_laws.specs.Trace.{Ending, Indent, Gap, Source, Chose, First, Second};
+ghost use Rattle.prettyless_laws.specs.Trace.{Ending, Indent, Gap, Source, Alternative, First, Second};
 ghost use Rattle.prettyless_laws.specs.Rows.{DoesNotHave, DoesNotShow, FailsAfter, HasNoTexts, HasTrace, IsFlatText};
 ghost use Rattle.prettyless_laws.specs.Rows.{LinedTextsStandApart, ShowsItems, ShowsNothing, WideListsAreLaidByTheirMembers};
 ghost use Rattle.prettyless_laws.specs.Rows.{WideTextsAreOnLines, accented, either_number, late_item, late_remark, late_with};
@@ -24,27 +24,28 @@ pub fn rows()
     ensures spaces { HasTrace 80 (in_turn (row_text "a") (WeakSpace ∷ WeakSpace ∷ row_text "b" ∷ WeakSpace ∷ []))
         (Gap 0 ∷ text_piece "a" 1 ∷ Gap 2 ∷ text_piece "b" 4 ∷ []) }
     ensures group_fits { HasTrace 80 (pair "a" "b")
-        (Chose First ∷ Gap 0 ∷ text_piece "a" 1 ∷ Gap 0 ∷ text_piece " " 2 ∷ Gap 0 ∷ text_piece "b" 3 ∷ []) }
+        (Alternative First ∷ Gap 0 ∷ text_piece "a" 1 ∷ Gap 0 ∷ text_piece " " 2 ∷ Gap 0 ∷ text_piece "b" 3 ∷ []) }
     ensures group_fills { HasTrace 3 (pair "a" "b")
-        (Chose First ∷ Gap 0 ∷ text_piece "a" 1 ∷ Gap 0 ∷ text_piece " " 2 ∷ Gap 0 ∷ text_piece "b" 3 ∷ []) }
+        (Alternative First ∷ Gap 0 ∷ text_piece "a" 1 ∷ Gap 0 ∷ text_piece " " 2 ∷ Gap 0 ∷ text_piece "b" 3 ∷ []) }
     ensures group_breaks { HasTrace 2 (pair "a" "b")
-        (Chose Second ∷ Gap 0 ∷ text_piece "a" 1 ∷ Ending ∷ Indent 0 true ∷ Gap 0 ∷ text_piece "b" 1 ∷ []) }
+        (Alternative Second ∷ Gap 0 ∷ text_piece "a" 1 ∷ Ending ∷ Indent 0 true ∷ Gap 0 ∷ text_piece "b" 1 ∷ []) }
     ensures flattened { HasTrace 1 (Flatten (pair "a" "b"))
         (Gap 0 ∷ text_piece "a" 1 ∷ Gap 0 ∷ text_piece " " 2 ∷ Gap 0 ∷ text_piece "b" 3 ∷ []) }
-    ensures kept { HasTrace 5 (Union (row_text "short") (row_text "much longer text")) (Chose First ∷ Gap 0 ∷ text_piece "short" 5 ∷ []) }
-    ensures not_kept { HasTrace 1 (Union (row_text "short") (row_text "x")) (Chose Second ∷ Gap 0 ∷ text_piece "x" 1 ∷ []) }
+    ensures kept { HasTrace 5 (Union (row_text "short") (row_text "much longer text"))
+        (Alternative First ∷ Gap 0 ∷ text_piece "short" 5 ∷ []) }
+    ensures not_kept { HasTrace 1 (Union (row_text "short") (row_text "x")) (Alternative Second ∷ Gap 0 ∷ text_piece "x" 1 ∷ []) }
     ensures by_first_line { HasTrace 10 (PartialUnion (two_lines "a" "long long long") (row_text "x"))
-        (Chose First ∷ Gap 0 ∷ text_piece "a" 1 ∷ Ending ∷ Indent 0 true ∷ Gap 0 ∷ text_piece "long long long" 14 ∷ []) }
-    ensures too_long { HasTrace 1 (PartialUnion (row_text "long") (row_text "x")) (Chose Second ∷ Gap 0 ∷ text_piece "x" 1 ∷ []) }
+        (Alternative First ∷ Gap 0 ∷ text_piece "a" 1 ∷ Ending ∷ Indent 0 true ∷ Gap 0 ∷ text_piece "long long long" 14 ∷ []) }
+    ensures too_long { HasTrace 1 (PartialUnion (row_text "long") (row_text "x")) (Alternative Second ∷ Gap 0 ∷ text_piece "x" 1 ∷ []) }
     ensures failed_branch { HasTrace 80 (Union (Append (row_text "a") Fail) (pair "a" "b"))
-        (Chose Second ∷ Chose First ∷ Gap 0 ∷ text_piece "a" 1 ∷ Gap 0 ∷ text_piece " " 2 ∷ Gap 0 ∷ text_piece "b" 3 ∷ []) }
+        (Alternative Second ∷ Alternative First ∷ Gap 0 ∷ text_piece "a" 1 ∷ Gap 0 ∷ text_piece " " 2 ∷ Gap 0 ∷ text_piece "b" 3 ∷ []) }
 
     // A choice by column or nesting is noted in both modes.
     ensures first_flat { HasTrace 80 letter_in_group
-        (Chose First ∷ Chose First ∷ Gap 0 ∷ text_piece "a" 1 ∷ Gap 0 ∷ text_piece " " 2 ∷ Gap 0 ∷ text_piece "c" 3 ∷ []) }
+        (Alternative First ∷ Alternative First ∷ Gap 0 ∷ text_piece "a" 1 ∷ Gap 0 ∷ text_piece " " 2 ∷ Gap 0 ∷ text_piece "c" 3 ∷ []) }
     ensures second { HasTrace 80 (Append (row_text "prefix ") (letter (by_column.AtMost 6) "a" "b"))
-        (Gap 0 ∷ text_piece "prefix " 7 ∷ Chose Second ∷ Gap 0 ∷ text_piece "b" 8 ∷ []) }
-    ensures at_indent { HasTrace 80 at_indent (Ending ∷ Indent 2 true ∷ Chose First ∷ Gap 0 ∷ text_piece "x" 3 ∷ []) }
+        (Gap 0 ∷ text_piece "prefix " 7 ∷ Alternative Second ∷ Gap 0 ∷ text_piece "b" 8 ∷ []) }
+    ensures at_indent { HasTrace 80 at_indent (Ending ∷ Indent 2 true ∷ Alternative First ∷ Gap 0 ∷ text_piece "x" 3 ∷ []) }
 
     // A payload uses an indent by its first part, where that is not empty.
     ensures payload { HasTrace 80 (Nest (pos 2) (Append HardLine (MultilineText (codes "a\nb"))))

@@ -11,7 +11,8 @@ use Rattle.prettyless_model.specs.Metrics.{metrics}
 use Rattle.prettyless_model.specs.Choice.{column_holds, nesting_holds}
 use Rattle.prettyless_model.specs.Look.{by_mode}
 use Rattle.prettyless_model.specs.Layout.{State, Outcome, Done, Failed, Entry, Breaks, Whole, after_bytes, and_then, lay, lay_each}
-use Rattle.prettyless_model.specs.Layout.{lay_text, lay_payload, probe, tried, plain_break, flushed, entry, entries, break_with, end_with}
+use Rattle.prettyless_model.specs.Layout.{lay_text, lay_payload, probe, in_trial, plain_break, flushed, entry, entries, break_with}
+use Rattle.prettyless_model.specs.Layout.{end_with}
 use Rattle.prettyless_model.specs.Layout.{breaks, finish, layout, layout_by, initial, bytes_of}
 use Rattle.prettyless_model.specs.Spelling.{ink, spells}
 use Rattle.prettyless_model.specs.Content.{count}
@@ -95,9 +96,9 @@ lay_counts o brk c k (BreakOrFlat x y) i Flat rest st w q h s = lay_counts o brk
 lay_counts o brk c k (Group d) i m rest st w q h s =
     lay_counts o brk c k d i (by_mode m (if probe o d i Flat rest st then Flat else Break) Flat) rest st w q h s
 lay_counts o brk c k (Union x y) i Break rest st w q h s =
-    holds-accept (Leaves c (count c w + count c q)) (λ b z was e. e) o st.within (lay o brk x i Break rest (tried st))
+    holds-accept (Leaves c (count c w + count c q)) (λ b z was e. e) o st.within (lay o brk x i Break rest (in_trial st))
     (lay o brk y i Break rest st)
-    (lay_counts o brk c k x i Break rest (tried st) w q h.0 s)
+    (lay_counts o brk c k x i Break rest (in_trial st) w q h.0 s)
     (lay_counts o brk c k y i Break rest st w q h.1 s)
 lay_counts o brk c k (Union x y) i Flat rest st w q h s = lay_counts o brk c k x i Flat rest st w q h.0 s
 lay_counts o brk c k (PartialUnion x y) i Break rest st w q h s =

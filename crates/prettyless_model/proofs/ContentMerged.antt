@@ -12,7 +12,8 @@ use Rattle.prettyless_model.specs.Metrics.{metrics}
 use Rattle.prettyless_model.specs.Choice.{column_holds, nesting_holds}
 use Rattle.prettyless_model.specs.Look.{by_mode}
 use Rattle.prettyless_model.specs.Layout.{State, Outcome, Done, Failed, Entry, Breaks, Whole, after_bytes, and_then, lay, lay_each}
-use Rattle.prettyless_model.specs.Layout.{lay_text, lay_payload, probe, tried, plain_break, flushed, entry, entries, break_with, end_with}
+use Rattle.prettyless_model.specs.Layout.{lay_text, lay_payload, probe, in_trial, plain_break, flushed, entry, entries, break_with}
+use Rattle.prettyless_model.specs.Layout.{end_with}
 use Rattle.prettyless_model.specs.Layout.{breaks, finish, layout, layout_by, initial, bytes_of}
 use Rattle.prettyless_model.specs.Spelling.{ink, spells, spelled_parts}
 use Rattle.prettyless_model.specs.Content.{suffix_depth, IsMerge}
@@ -26,16 +27,16 @@ use Rattle.prettyless_model.proofs.Writes.{Writes, text_writes, payload_writes, 
 use Rattle.prettyless_model.proofs.Merges.{merge_of_first, merge_of_second, merge_with_none, merge-append}
 
 -- the pending documents spell this word in a row, and none of them has a line suffix
-abbrev pub Waits : State → List ℕ → Type 0
-Waits st q = spells (row st.pending) q × (suffix_depth (row st.pending) ≡ 0)
+abbrev pub PendingSpell : State → List ℕ → Type 0
+PendingSpell st q = spells (row st.pending) q × (suffix_depth (row st.pending) ≡ 0)
 
 -- the bytes interleave the first word with a beginning of the second, whose rest is pending after them
 abbrev pub Merges : List ℕ → List ℕ → Outcome → Type 0
-Merges v q (Done b st) = (x : List ℕ) × (rest : List ℕ) × (q ≡ x ++ rest) × IsMerge (ink b) v x × Waits st rest
+Merges v q (Done b st) = (x : List ℕ) × (rest : List ℕ) × (q ≡ x ++ rest) × IsMerge (ink b) v x × PendingSpell st rest
 Merges v q (Failed b) = Unit {0}
 
 -- what is written while the pending documents stay
-merges_writes : (v q : List ℕ) (st : State) (o : Outcome) → Writes v st.pending o → Waits st q → Merges v q o
+merges_writes : (v q : List ℕ) (st : State) (o : Outcome) → Writes v st.pending o → PendingSpell st q → Merges v q o
 merges_writes v q st (Done b after) e h = ([], q, refl, rw e.0 (merge_of_first v), rw e.1 h)
 merges_writes v q st (Failed b) e h = tt
 
@@ -56,16 +57,16 @@ merges-after b v q o e h = merges-joined b [] q [] v q o refl (rw e (refl, refl)
 
 -- one outcome after another, of which the second adds a word to what waits
 merges-then : (v1 q v2 u : List ℕ) (o : Outcome) (f : State → Outcome) → Merges v1 q o
-    → ((st : State) (r : List ℕ) → Waits st r → Merges v2 (r ++ u) (f st)) → Merges (v1 ++ v2) (q ++ u) (and_then o f)
+    → ((st : State) (r : List ℕ) → PendingSpell st r → Merges v2 (r ++ u) (f st)) → Merges (v1 ++ v2) (q ++ u) (and_then o f)
 merges-then v1 q v2 u (Done b st) f h g =
     merges-joined b h.0 (h.1 ++ u) v1 v2 (q ++ u) (f st) (ap (λ (y : List ℕ). y ++ u) h.2 ∙ append_assoc h.0 h.1 u) h.3 (g st h.1 h.4)
 merges-then v1 q v2 u (Failed b) f h g = tt
 
 -- and where it adds none
 merges-next : (v1 q v2 : List ℕ) (o : Outcome) (f : State → Outcome) → Merges v1 q o
-    → ((st : State) (r : List ℕ) → Waits st r → Merges v2 r (f st)) → Merges (v1 ++ v2) q (and_then o f)
+    → ((st : State) (r : List ℕ) → PendingSpell st r → Merges v2 r (f st)) → Merges (v1 ++ v2) q (and_then o f)
 merges-next v1 q v2 o f h g =
-    let joined = merges-then v1 q v2 [] o f h (λ (st : State) (r : List ℕ) (w : Waits st r). rw append-nil (g st r w)) in
+    let joined = merges-then v1 q v2 [] o f h (λ (st : State) (r : List ℕ) (w : PendingSpell st r). rw append-nil (g st r w)) in
     rw (append-nil q) at joined
 
 no_parts : (x r : List ℕ) → [] ≡ x ++ r → (x ≡ []) × (r ≡ [])
@@ -80,20 +81,20 @@ merges_late q (Done b st) h =
 merges_late q (Failed b) h = tt
 
 -- a break writes what waits, and nothing else
-abbrev pub WritesWaiting : Breaks → Type 0
-WritesWaiting brk = (d : Tree) (i : ℕ) (m : Mode) (rest : List Entry) (st : State) (q : List ℕ) → Waits st q
+abbrev pub WritesPending : Breaks → Type 0
+WritesPending brk = (d : Tree) (i : ℕ) (m : Mode) (rest : List Entry) (st : State) (q : List ℕ) → PendingSpell st q
     → Merges [] q (brk d i m rest st)
 
 -- a document that spells this word, and adds nothing to what waits
 merges_to : (v v' q u : List ℕ) (o : Outcome) → (v ≡ v') × (u ≡ []) → Merges v' q o → Merges v (q ++ u) o
 merges_to v v' q u o e h = rw (e.0, e.1, append-nil q) h
 
-merges_piece : (v v' q u : List ℕ) (st : State) (o : Outcome) → Writes v' st.pending o → (v ≡ v') × (u ≡ []) → Waits st q
+merges_piece : (v v' q u : List ℕ) (st : State) (o : Outcome) → Writes v' st.pending o → (v ≡ v') × (u ≡ []) → PendingSpell st q
     → Merges v (q ++ u) o
 merges_piece v v' q u st o h e w = merges_to v v' q u o e (merges_writes v' q st o h w)
 
-pub lay_merges : (o : RenderOptions) (brk : Breaks) → WritesWaiting brk → (d : Tree) (i : ℕ) (m : Mode) (rest : List Entry) (st : State)
-    (v u q : List ℕ) → spelled_parts d v u → suffix_depth d ≤ 1 → Waits st q → Merges v (q ++ u) (lay o brk d i m rest st)
+pub lay_merges : (o : RenderOptions) (brk : Breaks) → WritesPending brk → (d : Tree) (i : ℕ) (m : Mode) (rest : List Entry) (st : State)
+    (v u q : List ℕ) → spelled_parts d v u → suffix_depth d ≤ 1 → PendingSpell st q → Merges v (q ++ u) (lay o brk d i m rest st)
 unfolding lay
 lay_merges o brk k Nil i m rest st v u q h l w = merges_piece v [] q u st (Done [] st) (refl, refl) h w
 lay_merges o brk k Fail i m rest st v u q h l w = tt
@@ -126,8 +127,8 @@ lay_merges o brk k (BreakOrFlat x y) i Flat rest st v u q h l w = lay_merges o b
 lay_merges o brk k (Group d) i m rest st v u q h l w =
     lay_merges o brk k d i (by_mode m (if probe o d i Flat rest st then Flat else Break) Flat) rest st v u q h l w
 lay_merges o brk k (Union x y) i Break rest st v u q h l w =
-    holds-accept (Merges v (q ++ u)) (λ b z was e. e) o st.within (lay o brk x i Break rest (tried st)) (lay o brk y i Break rest st)
-    (lay_merges o brk k x i Break rest (tried st) v u q h.0 (omega arith) w)
+    holds-accept (Merges v (q ++ u)) (λ b z was e. e) o st.within (lay o brk x i Break rest (in_trial st)) (lay o brk y i Break rest st)
+    (lay_merges o brk k x i Break rest (in_trial st) v u q h.0 (omega arith) w)
     (lay_merges o brk k y i Break rest st v u q h.1 (omega arith) w)
 lay_merges o brk k (Union x y) i Flat rest st v u q h l w = lay_merges o brk k x i Flat rest st v u q h.0 (omega arith) w
 lay_merges o brk k (PartialUnion x y) i Break rest st v u q h l w =
@@ -145,8 +146,8 @@ lay_merges o brk k (OnNesting test x y) i m rest st v u q h l w =
     (lay_merges o brk k y i m rest st v u q h.1 (omega arith) w)
 
 -- documents in a row, each with no line suffix, write what they spell before what waits already
-each_merges : (o : RenderOptions) (brk : Breaks) → WritesWaiting brk → (ds : List Tree) (i : ℕ) (m : Mode) (rest : List Entry) (st : State)
-    (w q : List ℕ) → spells (row ds) w → suffix_depth (row ds) ≡ 0 → Waits st q → Merges w q (lay_each o brk ds i m rest st)
+each_merges : (o : RenderOptions) (brk : Breaks) → WritesPending brk → (ds : List Tree) (i : ℕ) (m : Mode) (rest : List Entry) (st : State)
+    (w q : List ℕ) → spells (row ds) w → suffix_depth (row ds) ≡ 0 → PendingSpell st q → Merges w q (lay_each o brk ds i m rest st)
 unfolding lay_each
 each_merges o brk k [] i m rest st w q h l e = merges_writes w q st (Done [] st) (sym h, refl) e
 each_merges o brk k (d ∷ ds) i m rest st w q h l e =
@@ -157,33 +158,34 @@ each_merges o brk k (d ∷ ds) i m rest st w q h l e =
     (λ u r f. each_merges o brk k ds i m rest u h.1 r h.3 (omega arith) f))
 
 -- what waits is written, and then what goes on writes what waits still
-waiting_merges : (o : RenderOptions) (brk : Breaks) → WritesWaiting brk → (ps : List Tree) (i : ℕ) (m : Mode) (rest : List Entry)
+waiting_merges : (o : RenderOptions) (brk : Breaks) → WritesPending brk → (ps : List Tree) (i : ℕ) (m : Mode) (rest : List Entry)
     (st : State) (again : State → Outcome) (q : List ℕ) → spells (row ps) q → suffix_depth (row ps) ≡ 0
-    → ((u : State) (r : List ℕ) → Waits u r → Merges [] r (again u))
+    → ((u : State) (r : List ℕ) → PendingSpell u r → Merges [] r (again u))
     → Merges [] q (after_bytes (spaces (gap st.column)) (and_then (lay_each o brk ps i m rest (flushed o st)) again))
 waiting_merges o brk k ps i m rest st again q h l g =
     merges-after (spaces (gap st.column)) [] q (and_then (lay_each o brk ps i m rest (flushed o st)) again) (ink-spaces (gap st.column))
     (merges-next [] q [] (lay_each o brk ps i m rest (flushed o st)) again
     (merges_late q (lay_each o brk ps i m rest (flushed o st)) (each_merges o brk k ps i m rest (flushed o st) q [] h l (refl, refl))) g)
 
-break_merges : (o : RenderOptions) (brk : Breaks) → WritesWaiting brk → (ps : List Tree) (d : Tree) (i : ℕ) (m : Mode) (rest : List Entry)
-    (st : State) (q : List ℕ) → spells (row ps) q → suffix_depth (row ps) ≡ 0 → Waits st q → Merges [] q (break_with o brk ps d i m rest st)
+break_merges : (o : RenderOptions) (brk : Breaks) → WritesPending brk → (ps : List Tree) (d : Tree) (i : ℕ) (m : Mode) (rest : List Entry)
+    (st : State) (q : List ℕ) → spells (row ps) q → suffix_depth (row ps) ≡ 0 → PendingSpell st q
+        → Merges [] q (break_with o brk ps d i m rest st)
 break_merges o brk k [] d i m rest st q h l w = merges_writes [] q st (plain_break o d i rest st) (plain_writes o d i rest st) w
 break_merges o brk k (p ∷ ps) d i m rest st q h l w =
     waiting_merges o brk k (p ∷ ps) i m (entry i d ∷ rest) st (brk d i m rest) q h l (k d i m rest)
 
-breaks_merge : (o : RenderOptions) (n : ℕ) → WritesWaiting (breaks o n)
+breaks_merge : (o : RenderOptions) (n : ℕ) → WritesPending (breaks o n)
 unfolding breaks
 breaks_merge o zero = λ d i m rest st q w. tt
 breaks_merge o (suc n) = λ d i m rest st q w. break_merges o (breaks o n) (breaks_merge o n) st.pending d i m rest st q w.0 w.1 w
 
-end_merges : (o : RenderOptions) (brk : Breaks) → WritesWaiting brk → (again : State → Outcome)
-    → ((u : State) (r : List ℕ) → Waits u r → Merges [] r (again u)) → (ps : List Tree) (st : State) (q : List ℕ) → spells (row ps) q
-    → suffix_depth (row ps) ≡ 0 → Waits st q → Merges [] q (end_with o brk again ps st)
+end_merges : (o : RenderOptions) (brk : Breaks) → WritesPending brk → (again : State → Outcome)
+    → ((u : State) (r : List ℕ) → PendingSpell u r → Merges [] r (again u)) → (ps : List Tree) (st : State) (q : List ℕ) → spells (row ps) q
+    → suffix_depth (row ps) ≡ 0 → PendingSpell st q → Merges [] q (end_with o brk again ps st)
 end_merges o brk k again g [] st q h l w = merges_writes [] q st (Done [] st) (refl, refl) w
 end_merges o brk k again g (p ∷ ps) st q h l w = waiting_merges o brk k (p ∷ ps) 0 Break [] st again q h l g
 
-finish_merges : (o : RenderOptions) (brk : Breaks) → WritesWaiting brk → (n : ℕ) (st : State) (q : List ℕ) → Waits st q
+finish_merges : (o : RenderOptions) (brk : Breaks) → WritesPending brk → (n : ℕ) (st : State) (q : List ℕ) → PendingSpell st q
     → Merges [] q (finish o brk n st)
 unfolding finish
 finish_merges o brk k zero st q w = tt

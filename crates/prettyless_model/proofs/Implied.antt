@@ -326,10 +326,10 @@ may_end_there p r s m none weak =
     elim (weak.2 refl) [ inl e ↦ absurd (none e) | inr e ↦ subst (λ (t : Reach). MayEnd (with_gap t m p)) (sym e) (reach_any p m) ]
 
 -- bytes show items from a place on, and so others from a looser one
-abbrev Turns : List Item → List Item → Type 0
-Turns xs ys = (p q : Place) (ws : List Item) (b : List ℕ) → IsLooser p q → ShowsFrom p ws b xs → ShowsFrom q ws b ys
+abbrev ShowsImplied : List Item → List Item → Type 0
+ShowsImplied xs ys = (p q : Place) (ws : List Item) (b : List ℕ) → IsLooser p q → ShowsFrom p ws b xs → ShowsFrom q ws b ys
 
-end_implied : Turns [] []
+end_implied : ShowsImplied [] []
 end_implied p q [] b e h = end_at p q b e h
 end_implied p q (w ∷ ws) b e h = then_looser IsBlank (w ∷ ws) (late_place p) (late_place q) b (late_looser p q e) h
 
@@ -337,7 +337,7 @@ text_on : (p q : Place) (s b : List ℕ) (A B : List ℕ → Type 0) → IsLoose
     → ShowsText (IsGapAt p) s b A → ShowsText (IsGapAt q) s b B
 text_on p q s b A B e k h = (h.0, h.1, gap_at p q h.0 e h.2, h.3, k h.1 h.4)
 
-next_implied : (s : List ℕ) (xs ys : List Item) → Turns xs ys → (p q : Place) (ws : List Item) (b : List ℕ) → IsLooser p q
+next_implied : (s : List ℕ) (xs ys : List Item) → ShowsImplied xs ys → (p q : Place) (ws : List Item) (b : List ℕ) → IsLooser p q
     → ShowsNext p ws s b (λ vs rest. ShowsFrom after_text vs rest xs) → ShowsNext q ws s b (λ vs rest. ShowsFrom after_text vs rest ys)
 next_implied s xs ys k p q [] b e h =
     text_on p q s b (λ rest. ShowsFrom after_text [] rest xs) (λ rest. ShowsFrom after_text [] rest ys) e
@@ -355,7 +355,8 @@ next_implied s xs ys k p q (w ∷ ws) b e (inr h) =
     )
 
 -- a weaker gap in place of one
-gap_implied : (xs ys : List Item) → Turns xs ys → (r s : Reach) (l m : Least) → IsWeaker r l s m → Turns (Gap r l ∷ xs) (Gap s m ∷ ys)
+gap_implied : (xs ys : List Item) → ShowsImplied xs ys → (r s : Reach) (l m : Least) → IsWeaker r l s m
+    → ShowsImplied (Gap r l ∷ xs) (Gap s m ∷ ys)
 gap_implied xs ys k r s l m weak p q [] b e h = k (with_gap r l p) (with_gap s m q) [] b (gap_looser p q r s l m e weak) h
 gap_implied xs ys k r s Nothing Nothing weak p q (w ∷ ws) b e h = k (with_gap r Nothing p) (with_gap s Nothing q) (w ∷ ws) b
     (gap_looser p q r s Nothing Nothing e weak) h
@@ -382,20 +383,21 @@ gap_implied xs ys k r s LineEnd LineEnd weak p q (w ∷ ws) b e h =
     (then_looser (λ rest. ShowsFrom after_line [] rest xs) (w ∷ ws) (late_place p) (late_place q) b (late_looser p q e) h)
 
 -- a gap that may be nothing
-none_implied : (xs ys : List Item) → Turns xs ys → (s : Reach) (m : Least) → IsWeaker NoGap Nothing s m → Turns xs (Gap s m ∷ ys)
+none_implied : (xs ys : List Item) → ShowsImplied xs ys → (s : Reach) (m : Least) → IsWeaker NoGap Nothing s m
+    → ShowsImplied xs (Gap s m ∷ ys)
 none_implied xs ys k s m weak p q [] b e h = k p (with_gap s m q) [] b (none_looser p q s m e weak) h
 none_implied xs ys k s Nothing weak p q (w ∷ ws) b e h = k p (with_gap s Nothing q) (w ∷ ws) b (none_looser p q s Nothing e weak) h
 none_implied xs ys k s Spacing weak p q (w ∷ ws) b e h = absurd (let f = weak.1 in cc)
 none_implied xs ys k s LineEnd weak p q (w ∷ ws) b e h = absurd (let f = weak.1 in cc)
 
-mark_implied : (s : List ℕ) (xs ys : List Item) → Turns xs ys → Turns (Mark s ∷ xs) (Mark s ∷ ys)
+mark_implied : (s : List ℕ) (xs ys : List Item) → ShowsImplied xs ys → ShowsImplied (Mark s ∷ xs) (Mark s ∷ ys)
 mark_implied s xs ys k p q ws b e (inl h) = inl (k p q ws b e h)
 mark_implied s xs ys k p q ws b e (inr h) = inr (next_implied s xs ys k p q ws b e h)
 
 line_end_mono : (A B : List ℕ → Type 0) → ((rest : List ℕ) → A rest → B rest) → (b : List ℕ) → ShowsLineEnd b A → ShowsLineEnd b B
 line_end_mono A B k b h = (h.0, h.1, h.2, h.3, h.4, k h.1 h.5)
 
-late_implied : (i : Item) (xs ys : List Item) → Turns xs ys → Turns (Late i ∷ xs) (Late i ∷ ys)
+late_implied : (i : Item) (xs ys : List Item) → ShowsImplied xs ys → ShowsImplied (Late i ∷ xs) (Late i ∷ ys)
 late_implied i xs ys k p q [] b e (inl h) = inl (may_stay p q e h.0, k (same_line p) (same_line q) (i ∷ []) b (same_line_looser p q e) h.1)
 late_implied i xs ys k p q [] b e (inr h) =
     inr (
@@ -415,22 +417,23 @@ late_implied i xs ys k p q (w ∷ ws) b e (inr h) =
     )
 
 -- the same items, by an equation
-turns_from : (xs zs ys : List Item) → xs ≡ zs → Turns zs ys → Turns xs ys
-turns_from xs zs ys e k p q ws b f h = k p q ws b f (subst (λ (items : List Item). ShowsFrom p ws b items) e h)
+shows_implied_from : (xs zs ys : List Item) → xs ≡ zs → ShowsImplied zs ys → ShowsImplied xs ys
+shows_implied_from xs zs ys e k p q ws b f h = k p q ws b f (subst (λ (items : List Item). ShowsFrom p ws b items) e h)
 
 -- bytes that show items show what these imply, from a looser place too
-implied : (ys xs : List Item) → Implies xs ys → Turns xs ys
-implied [] xs h = turns_from xs [] [] h end_implied
+implied : (ys xs : List Item) → Implies xs ys → ShowsImplied xs ys
+implied [] xs h = shows_implied_from xs [] [] h end_implied
 implied (Shown s ∷ ys) xs h =
-    turns_from xs (Shown s ∷ h.0) (Shown s ∷ ys) h.1 (λ p q ws b e k. next_implied s h.0 ys (implied ys h.0 h.2) p q ws b e k)
+    shows_implied_from xs (Shown s ∷ h.0) (Shown s ∷ ys) h.1 (λ p q ws b e k. next_implied s h.0 ys (implied ys h.0 h.2) p q ws b e k)
 implied (Gap s m ∷ ys) xs (inl h) = none_implied xs ys (implied ys xs h.1) s m h.0
 implied (Gap s m ∷ ys) xs (inr h) =
-    turns_from xs (Gap h.0 h.1 ∷ h.2) (Gap s m ∷ ys) h.3 (gap_implied h.2 ys (implied ys h.2 h.5) h.0 s h.1 m h.4)
+    shows_implied_from xs (Gap h.0 h.1 ∷ h.2) (Gap s m ∷ ys) h.3 (gap_implied h.2 ys (implied ys h.2 h.5) h.0 s h.1 m h.4)
 implied (Mark s ∷ ys) xs (inl h) = λ p q ws b e k. inl (implied ys xs h p q ws b e k)
 implied (Mark s ∷ ys) xs (inr (rest, inl e, h)) =
-    turns_from xs (Shown s ∷ rest) (Mark s ∷ ys) e (λ p q ws b f k. inr (next_implied s rest ys (implied ys rest h) p q ws b f k))
-implied (Mark s ∷ ys) xs (inr (rest, inr e, h)) = turns_from xs (Mark s ∷ rest) (Mark s ∷ ys) e (mark_implied s rest ys (implied ys rest h))
-implied (Late i ∷ ys) xs h = turns_from xs (Late i ∷ h.0) (Late i ∷ ys) h.1 (late_implied i h.0 ys (implied ys h.0 h.2))
+    shows_implied_from xs (Shown s ∷ rest) (Mark s ∷ ys) e (λ p q ws b f k. inr (next_implied s rest ys (implied ys rest h) p q ws b f k))
+implied (Mark s ∷ ys) xs (inr (rest, inr e, h)) = shows_implied_from xs (Mark s ∷ rest) (Mark s ∷ ys) e
+    (mark_implied s rest ys (implied ys rest h))
+implied (Late i ∷ ys) xs h = shows_implied_from xs (Late i ∷ h.0) (Late i ∷ ys) h.1 (late_implied i h.0 ys (implied ys h.0 h.2))
 
 pub implied_from : (p : Place) (ws : List Item) (b : List ℕ) (xs ys : List Item) → Implies xs ys → ShowsFrom p ws b xs → ShowsFrom p ws b ys
 implied_from p ws b xs ys h k = implied ys xs h p p ws b (same_looser p) k

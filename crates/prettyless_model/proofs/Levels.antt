@@ -9,7 +9,8 @@ use Rattle.prettyless_model.specs.Column.{gap, prospective, nested}
 use Rattle.prettyless_model.specs.Choice.{column_holds, nesting_holds}
 use Rattle.prettyless_model.specs.Look.{by_mode}
 use Rattle.prettyless_model.specs.Layout.{State, Outcome, Done, Failed, Entry, Breaks, after_bytes, and_then, lay, lay_each, probe, accept}
-use Rattle.prettyless_model.specs.Layout.{tried, flushed, entry, entries, break_with, end_with, breaks, finish, layout, layout_by, initial}
+use Rattle.prettyless_model.specs.Layout.{in_trial, flushed, entry, entries, break_with, end_with, breaks, finish, layout}
+use Rattle.prettyless_model.specs.Layout.{layout_by, initial}
 use Rattle.prettyless_model.specs.Layout.{bytes_of}
 use Rattle.prettyless_model.specs.Levels.{suffixes, queued, settle, settle_end}
 use Rattle.prettyless_model.specs.declared.mode.Mode.{Mode}
@@ -78,8 +79,8 @@ lay_keeps o brk k (BreakOrFlat b f) i Flat rest st = leaves-more _ _ (lay o brk 
 lay_keeps o brk k (Group d) i m rest st = lay_keeps o brk k d i (by_mode m (if probe o d i Flat rest st then Flat else Break) Flat) rest st
 lay_keeps o brk k (Union l r) i Break rest st =
     holds-accept (LeavesAtMost (suffixes l + suffixes r + queued st.pending)) (λ b z was e. e) o st.within
-    (lay o brk l i Break rest (tried st)) (lay o brk r i Break rest st)
-    (leaves-more _ _ (lay o brk l i Break rest (tried st)) (omega arith) (lay_keeps o brk k l i Break rest (tried st)))
+    (lay o brk l i Break rest (in_trial st)) (lay o brk r i Break rest st)
+    (leaves-more _ _ (lay o brk l i Break rest (in_trial st)) (omega arith) (lay_keeps o brk k l i Break rest (in_trial st)))
     (leaves-more _ _ (lay o brk r i Break rest st) (omega arith) (lay_keeps o brk k r i Break rest st))
 lay_keeps o brk k (Union l r) i Flat rest st = leaves-more _ _ (lay o brk l i Flat rest st) (omega arith)
     (lay_keeps o brk k l i Flat rest st)
@@ -155,8 +156,9 @@ lay_agrees o h a b e k (BreakOrFlat x y) i Flat rest st l = lay_agrees o h a b e
 lay_agrees o h a b e k (Group d) i m rest st l =
     lay_agrees o h a b e k d i (by_mode m (if probe o d i Flat rest st then Flat else Break) Flat) rest st l
 lay_agrees o h a b e k (Union x y) i Break rest st l =
-    ap (λ (z : Outcome). accept o st.within z (lay o a y i Break rest st)) (lay_agrees o h a b e k x i Break rest (tried st) (omega arith))
-    ∙ ap (accept o st.within (lay o b x i Break rest (tried st))) (lay_agrees o h a b e k y i Break rest st (omega arith))
+    ap (λ (z : Outcome). accept o st.within z (lay o a y i Break rest st))
+        (lay_agrees o h a b e k x i Break rest (in_trial st) (omega arith))
+    ∙ ap (accept o st.within (lay o b x i Break rest (in_trial st))) (lay_agrees o h a b e k y i Break rest st (omega arith))
 lay_agrees o h a b e k (Union x y) i Flat rest st l = lay_agrees o h a b e k x i Flat rest st (omega arith)
 lay_agrees o h a b e k (PartialUnion x y) i Break rest st l =
     same-either (probe o x i Break rest st) (lay o a x i Break rest st) (lay o a y i Break rest st) (lay o b x i Break rest st)

@@ -22,7 +22,7 @@ use Rattle.prettyless_model.specs.Metrics.{metrics}
 use Rattle.prettyless_model.specs.Choice.{column_holds, nesting_holds}
 use Rattle.prettyless_model.specs.Look.{by_mode}
 use Rattle.prettyless_model.specs.Layout.{State, Outcome, Done, Failed, Entry, Breaks, Whole, after_bytes, and_then, lay, lay_each}
-use Rattle.prettyless_model.specs.Layout.{lay_text, lay_payload, lay_ending, payload_fits, after_payload, probe, tried, flushed}
+use Rattle.prettyless_model.specs.Layout.{lay_text, lay_payload, lay_ending, payload_fits, after_payload, probe, in_trial, flushed}
 use Rattle.prettyless_model.specs.Layout.{is_suppressed, plain_break, next_indent, entry, entries, break_with, end_with, breaks, finish}
 use Rattle.prettyless_model.specs.Layout.{layout, layout_by, initial, bytes_of}
 use Rattle.prettyless_model.specs.Shows.{Reach, NoGap, SameLine, AnyLine, Least, Nothing, Spacing, LineEnd, further, more as more_of}
@@ -230,12 +230,12 @@ follows-after p q ws vs g h b before later (Done a st) k f = (
 follows-after p q ws vs g h b before later (Failed a) k f = tt
 
 -- what holds wherever items wait and a gap stands
-abbrev Goes : List Item → (State → Outcome) → Type 0
-Goes later f =
+abbrev FollowsAlways : List Item → (State → Outcome) → Type 0
+FollowsAlways later f =
     (q : Place) (vs : List Item) (h : List ℕ) (u : State) → AllShow u.pending vs → Stands q vs h u.column → Follows q vs h later (f u)
 
 follows-then : (p : Place) (ws : List Item) (g : List ℕ) (before later : List Item) (o : Outcome) (f : State → Outcome)
-    → Follows p ws g before o → Goes later f → Follows p ws g (before ++ later) (and_then o f)
+    → Follows p ws g before o → FollowsAlways later f → Follows p ws g (before ++ later) (and_then o f)
 follows-then p ws g before later (Done b st) f h k =
     follows-after p h.0 ws h.1 g h.2 b before later (f st) h.5 (k h.0 h.1 h.2 st h.3 h.4)
 follows-then p ws g before later (Failed b) f h k = tt
@@ -382,9 +382,9 @@ lay_follows o brk k (BreakOrFlat x y) i Flat rest st items p ws g h n s =
 lay_follows o brk k (Group d) i m rest st items p ws g h n s =
     lay_follows o brk k d i (by_mode m (if probe o d i Flat rest st then Flat else Break) Flat) rest st items p ws g h n s
 lay_follows o brk k (Union x y) i Break rest st items p ws g h n s =
-    holds-accept (Follows p ws g items) (λ b z was e. e) o st.within (lay o brk x i Break rest (tried st)) (lay o brk y i Break rest st)
-    (implied_follows p ws g h.0 items (lay o brk x i Break rest (tried st)) h.4
-    (lay_follows o brk k x i Break rest (tried st) h.0 p ws g h.2 n s))
+    holds-accept (Follows p ws g items) (λ b z was e. e) o st.within (lay o brk x i Break rest (in_trial st)) (lay o brk y i Break rest st)
+    (implied_follows p ws g h.0 items (lay o brk x i Break rest (in_trial st)) h.4
+    (lay_follows o brk k x i Break rest (in_trial st) h.0 p ws g h.2 n s))
     (implied_follows p ws g h.1 items (lay o brk y i Break rest st) h.5 (lay_follows o brk k y i Break rest st h.1 p ws g h.3 n s))
 lay_follows o brk k (Union x y) i Flat rest st items p ws g h n s =
     implied_follows p ws g h.0 items (lay o brk x i Flat rest st) h.4 (lay_follows o brk k x i Flat rest st h.0 p ws g h.2 n s)
@@ -406,7 +406,7 @@ lay_follows o brk k (OnNesting test x y) i m rest st items p ws g h n s =
 -- ---- a break with documents pending
 
 each_follows : (o : RenderOptions) (brk : Breaks) → EndLines brk → (ds : List Tree) (i : ℕ) (m : Mode) (rest : List Entry)
-    (items : List Item) → AllShow ds items → Goes items (λ u. lay_each o brk ds i m rest u)
+    (items : List Item) → AllShow ds items → FollowsAlways items (λ u. lay_each o brk ds i m rest u)
 unfolding lay_each
 each_follows o brk k [] i m rest items h = λ q vs g u n s. nothing_follows q vs g items u h n s
 each_follows o brk k (d ∷ ds) i m rest items h = λ q vs g u n s.
@@ -512,8 +512,9 @@ EndsWith p ws g items (Done b st) = ShowsFrom p ws (g ++ b) items
 EndsWith p ws g items (Failed b) = ⊤
 
 -- it ends so wherever items wait and a gap stands
-abbrev Ends : (State → Outcome) → Type 0
-Ends f = (q : Place) (vs : List Item) (h : List ℕ) (u : State) → AllShow u.pending vs → Stands q vs h u.column → EndsWith q vs h [] (f u)
+abbrev EndsAlways : (State → Outcome) → Type 0
+EndsAlways f = (q : Place) (vs : List Item) (h : List ℕ) (u : State) → AllShow u.pending vs → Stands q vs h u.column
+    → EndsWith q vs h [] (f u)
 
 ends-after : (p q : Place) (ws vs : List Item) (g h b : List ℕ) (before : List Item) (o : Outcome)
     → ((c : List ℕ) (more : List Item) → ShowsFrom q vs (h ++ c) more → ShowsFrom p ws (g ++ (b ++ c)) (before ++ more))
@@ -522,7 +523,7 @@ ends-after p q ws vs g h b before (Done a st) k e = k a [] e
 ends-after p q ws vs g h b before (Failed a) k e = tt
 
 ends-then : (p : Place) (ws : List Item) (g : List ℕ) (before : List Item) (o : Outcome) (f : State → Outcome) → Follows p ws g before o
-    → Ends f → EndsWith p ws g (before ++ []) (and_then o f)
+    → EndsAlways f → EndsWith p ws g (before ++ []) (and_then o f)
 ends-then p ws g before (Done b st) f h k = ends-after p h.0 ws h.1 g h.2 b before (f st) h.5 (k h.0 h.1 h.2 st h.3 h.4)
 ends-then p ws g before (Failed b) f h k = tt
 
@@ -537,7 +538,7 @@ late_ends p w ws g n (Done b st) none e =
     (subst (λ (x : List ℕ). ShowsFrom (late_place p) [] x ((w ∷ ws) ++ [])) (append_assoc g n b) e)
 late_ends p w ws g n (Failed b) none e = tt
 
-end_shows : (o : RenderOptions) (brk : Breaks) (again : State → Outcome) → EndLines brk → Ends again
+end_shows : (o : RenderOptions) (brk : Breaks) (again : State → Outcome) → EndLines brk → EndsAlways again
     → (ps : List Tree) (st : State) (p : Place) (ws : List Item) (g : List ℕ) → AllShow ps ws → Stands p ws g st.column
     → EndsWith p ws g [] (end_with o brk again ps st)
 end_shows o brk again k f [] st p [] g h s =
@@ -555,7 +556,7 @@ end_shows o brk again k f (t ∷ ts) st p (w ∷ ws) g h s =
     (each_follows o brk k (t ∷ ts) 0 Break [] (w ∷ ws) h (late_place p) [] (g ++ spaces (gap st.column)) (flushed o st) refl
     (late_stands p w ws g st.column (commit 0 st.column) s refl refl refl)) f)
 
-finish_ends : (o : RenderOptions) (brk : Breaks) → EndLines brk → (n : ℕ) → Ends (λ u. finish o brk n u)
+finish_ends : (o : RenderOptions) (brk : Breaks) → EndLines brk → (n : ℕ) → EndsAlways (λ u. finish o brk n u)
 unfolding finish
 finish_ends o brk k zero = λ q vs h u w s. tt
 finish_ends o brk k (suc n) = λ q vs h u w s. end_shows o brk (λ z. finish o brk n z) k (finish_ends o brk k n) u.pending u q vs h w s

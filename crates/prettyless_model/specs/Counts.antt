@@ -7,7 +7,7 @@ use Rattle.prettyless_model.specs.Tree.{Tree}
 use Rattle.prettyless_model.specs.Column.{prospective, padding_fits, nested}
 use Rattle.prettyless_model.specs.Choice.{column_holds, nesting_holds}
 use Rattle.prettyless_model.specs.Look.{by_mode}
-use Rattle.prettyless_model.specs.Layout.{State, Outcome, Done, Failed, Entry, entry, lay, probe, some_pending, tried, initial}
+use Rattle.prettyless_model.specs.Layout.{State, Outcome, Done, Failed, Entry, entry, lay, probe, some_pending, in_trial, initial}
 use Rattle.prettyless_model.specs.Levels.{settle}
 use Rattle.prettyless_model.specs.declared.mode.Mode.{Mode}
 use Rattle.prettyless_model.specs.declared.mode.Mode.TheVariants.{Break, Flat}
@@ -52,7 +52,7 @@ tally o (t.Group d) i m rest st w =
     w (t.Group d) m + tally o d i (by_mode m (if probe o d i Flat rest st then Flat else Break) Flat) rest st w
 tally o (t.Union l r) i m rest st w =
     w (t.Union l r) m + by_mode m
-    (counted_accept o (lay o (settle o) l i m rest (tried st)) (tally o l i m rest (tried st) w) (tally o r i m rest st w))
+    (counted_accept o (lay o (settle o) l i m rest (in_trial st)) (tally o l i m rest (in_trial st) w) (tally o r i m rest st w))
     (tally o l i m rest st w)
 tally o (t.PartialUnion l r) i m rest st w =
     w (t.PartialUnion l r) m + by_mode m

@@ -103,8 +103,8 @@ accept o was (Done b st) other =
 accept o was (Failed b) other = other
 
 -- the flag set anew
-abbrev pub tried : State → State
-tried st = record st { within = true }
+abbrev pub in_trial : State → State
+in_trial st = record st { within = true }
 
 -- How a break is laid: which node it is, its indent and mode, what follows it.
 abbrev pub Breaks : Type 0
@@ -148,7 +148,7 @@ lay o brk (t.BreakOrFlat b f) i m rest st = by_mode m (lay o brk b i m rest st) 
 lay o brk (t.Group d) i m rest st = lay o brk d i (by_mode m (if probe o d i Flat rest st then Flat else Break) Flat) rest st
 -- the first branch is laid on trial and kept if nothing in it goes past the width, else the second is laid; on a flat line, the first
 lay o brk (t.Union l r) i m rest st =
-    by_mode m (accept o st.within (lay o brk l i m rest (tried st)) (lay o brk r i m rest st)) (lay o brk l i m rest st)
+    by_mode m (accept o st.within (lay o brk l i m rest (in_trial st)) (lay o brk r i m rest st)) (lay o brk l i m rest st)
 -- the first branch where its first line fits, else the second; on a flat line, the first
 lay o brk (t.PartialUnion l r) i m rest st =
     by_mode m (if probe o l i Break rest st then lay o brk l i m rest st else lay o brk r i m rest st) (lay o brk l i m rest st)

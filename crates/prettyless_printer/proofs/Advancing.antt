@@ -11,7 +11,7 @@ use Rattle.prettyless_probe.specs.Probing.{RisesBy}
 use Rattle.prettyless_step.specs.Printing.{Shows}
 use Rattle.prettyless_step.specs.declared.printer.Printer.{Printer}
 use Rattle.prettyless_step.specs.declared.printer.StepResult.TheVariants.{Failed, Choice}
-use Rattle.prettyless_step.proofs.Shown.{IsStuck, Asks}
+use Rattle.prettyless_step.proofs.Shown.{IsStuck, IsChoice}
 use Rattle.prettyless_printer.specs.Points.{Standing, standing, state_at, Seen, Point, point_at, point}
 use Rattle.prettyless_printer.specs.Progress.{Inside}
 use Rattle.prettyless_printer.specs.Visits.{Plain, CountsAtMost}
@@ -19,12 +19,12 @@ use Rattle.prettyless_printer.specs.AtLeast.{CountsAtLeast, tally_above, tally_c
 use Rattle.prettyless_printer.specs.Turns.{Advances, next_size}
 use Rattle.prettyless_printer.specs.declared.answer.TurnResult.TheVariants as turn_result
 use Rattle.prettyless_printer.proofs.Steps.{visits_within}
-use Rattle.prettyless_printer.proofs.Hands.{InHand, Visit, from_start}
-use Rattle.prettyless_printer.proofs.Standings.{Wrote, asks_there, step_from, stuck_there}
+use Rattle.prettyless_printer.proofs.Descends.{InHand, Visit, from_start}
+use Rattle.prettyless_printer.proofs.Standings.{Wrote, choice_there, step_from, stuck_there}
 use Rattle.prettyless_printer.proofs.Trying.{grows-grows}
-use Rattle.prettyless_printer.proofs.Turnings.{went, lessens, failed, chosen, choice_lessens, sink_broke}
-use Rattle.prettyless_printer.proofs.Visits.{went_at_most, failed_at_most, chosen_at_most, at_most_then, at_most_all, rise_then}
-use Rattle.prettyless_printer.proofs.AtLeast.{OneLaid, went_at_least, chosen_at_least, at_least_then}
+use Rattle.prettyless_printer.proofs.Turnings.{move_inside, work_falls, failed, choice_inside, choice_work_falls, sink_broke}
+use Rattle.prettyless_printer.proofs.Visits.{move_at_most, failed_at_most, choice_at_most, at_most_then, at_most_all, rise_then}
+use Rattle.prettyless_printer.proofs.AtLeast.{OneLaid, move_at_least, choice_at_least, at_least_then}
 
 -- # Turns that are done
 
@@ -40,12 +40,13 @@ counted {a} {t} {b} h one = record {
 }
 
 -- its bytes were written
-pub advances_went : {N E : Type 0} {f : N → Tree} {a : Point} {t : Task} {b : Point} {q : Standing} {s : Seen} {x : Visits} {bytes : List ℕ}
+pub advances_moved : {N E : Type 0} {f : N → Tree} {a : Point} {t : Task} {b : Point} {q : Standing} {s : Seen} {x : Visits}
+    {bytes : List ℕ}
     → InHand a t b → Visit a.printer.options t b x →
     RisesBy (each_probe t.tree t.mode) b.visits.probes x.probes → Wrote (step_from a.printer.options t b.printer) bytes b.printer q →
     s.lender ≡ b.sink.lender → Accepts b.sink.bytes s.bytes bytes b.sink.failures s.failures
     → Advances {N = N} {E = E} f a (point_at q s x) (Ok turn_result.Complete)
-advances_went {f} {a} {t} {b} {q} {x} {bytes} h one probes k lender accepts =
+advances_moved {f} {a} {t} {b} {q} {x} {bytes} h one probes k lender accepts =
     let o = a.printer.options in
     let ts : List Task = b.printer.tasks in
     let us : List Task = q.tasks in
@@ -58,7 +59,7 @@ advances_went {f} {a} {t} {b} {q} {x} {bytes} h one probes k lender accepts =
     (record {
       options = k.options ∙ h.options;
       grows = grows-grows a.printer b.printer q h.grows k.grows;
-      lessens = omega (arith, h.less, lessens o t ts us st u bytes k.leads);
+      work_falls = omega (arith, h.less, work_falls o t ts us st u bytes k.steps_to);
       same_lender = lender;
       bytes = λ is_known.
           let y = accepts is_known in (
@@ -66,8 +67,8 @@ advances_went {f} {a} {t} {b} {q} {x} {bytes} h one probes k lender accepts =
             (
               λ whole limit below old l m.
                   subst (λ (z : List ℕ). Inside o whole limit below old us u z) (sym y.1.0)
-                  (went o whole limit below old t ts us st u out bytes (omega (arith, l, h.long))
-                  (h.inside out whole limit below old l m) k.leads),
+                  (move_inside o whole limit below old t ts us st u out bytes (omega (arith, l, h.long))
+                  (h.inside out whole limit below old l m) k.steps_to),
               y.1.1,
             ),
           );
@@ -76,12 +77,12 @@ advances_went {f} {a} {t} {b} {q} {x} {bytes} h one probes k lender accepts =
       rise = rise_then h.rise one.rise;
       at_most = λ plain.
           let y = h.at_most plain in
-          let z = went_at_most us u bytes one.more y.0 k.leads in
+          let z = move_at_most us u bytes one.more y.0 k.steps_to in
           (record { none = z.0.0; pending = z.0.1 }, at_most_then y.1 z.1);
       at_least = λ n l. at_least_then (h.at_least n l)
           (subst (λ (z : RenderOptions). CountsAtLeast (tally_above o n (t ∷ ts) st) (tally_above z n us u) b.visits x)
           (sym (k.options ∙ h.options))
-          (went_at_least o n ts us st u bytes laid (omega (arith, l, h.long)) k.leads));
+          (move_at_least o n ts us st u bytes laid (omega (arith, l, h.long)) k.steps_to));
     })
 
 failed_here : {N E : Type 0} {f : N → Tree} {a : Point} {t : Task} {b : Point} {x : Visits} → InHand a t b → Visit a.printer.options t b x →
@@ -96,7 +97,7 @@ failed_here {f} {a} {t} {b} h one fails =
     (record {
       options = h.options;
       grows = h.grows;
-      lessens = tt;
+      work_falls = tt;
       same_lender = refl;
       bytes = λ is_known. (
         is_known,
@@ -122,11 +123,11 @@ advances_failed {N} {E} f {a} {t} {s} {x} p q h one shows =
     let k = stuck_there f t.mode (step_from a.printer.options t (standing f p)) p q shows in
     subst (λ (z : Standing). Advances {N = N} {E = E} f a (point_at z s x) (Ok turn_result.Failed)) (sym k.1) (failed_here h one k.0)
 
-chosen_here : {N E : Type 0} {f : N → Tree} {a : Point} {t : Task} {b : Point} {x : Visits} {i : ℕ} {l r : N} → InHand a t b
+choice_here : {N E : Type 0} {f : N → Tree} {a : Point} {t : Task} {b : Point} {x : Visits} {i : ℕ} {l r : N} → InHand a t b
     → Visit a.printer.options t b x →
-    RisesBy (each_probe t.tree t.mode) b.visits.probes x.probes → Asks (step_from a.printer.options t b.printer) i (f l) (f r)
+    RisesBy (each_probe t.tree t.mode) b.visits.probes x.probes → IsChoice (step_from a.printer.options t b.printer) i (f l) (f r)
     → Advances {N = N} {E = E} f a (point_at b.printer b.sink x) (Ok (turn_result.Choice i l r))
-chosen_here {f} {a} {t} {b} {x} {i} {l} {r} h one probes wants =
+choice_here {f} {a} {t} {b} {x} {i} {l} {r} h one probes wants =
     let o = a.printer.options in
     let ts : List Task = b.printer.tasks in
     let st = state_at b.printer in
@@ -137,12 +138,12 @@ chosen_here {f} {a} {t} {b} {x} {i} {l} {r} h one probes wants =
     (record {
       options = h.options;
       grows = h.grows;
-      lessens = (omega (arith, h.less, choice_lessens o t ts st i (f l) (f r) wants), h.within);
+      work_falls = (omega (arith, h.less, choice_work_falls o t ts st i (f l) (f r) wants), h.within);
       same_lender = refl;
       bytes = λ is_known. (
         is_known,
         (
-          (λ whole limit below old n m. chosen o whole limit below old t ts st out i (f l) (f r) (omega (arith, n, h.long))
+          (λ whole limit below old n m. choice_inside o whole limit below old t ts st out i (f l) (f r) (omega (arith, n, h.long))
               (h.inside out whole limit below old n m) wants),
           refl,
         ),
@@ -152,23 +153,23 @@ chosen_here {f} {a} {t} {b} {x} {i} {l} {r} h one probes wants =
       rise = rise_then h.rise one.rise;
       at_most = λ plain.
           let y = h.at_most plain in
-          let z = chosen_at_most i (f l) (f r) one.more y.0 wants in
+          let z = choice_at_most i (f l) (f r) one.more y.0 wants in
           (record { none = omega (arith, y.0.0); pending = y.0.1 }, z.0, z.1, at_most_then y.1 z.2);
       at_least = λ n m. at_least_then (h.at_least n m)
           (subst (λ (z : RenderOptions). CountsAtLeast (tally_above o n (t ∷ ts) st) (tally_choice z n i (f l) (f r) ts st) b.visits
           x) (sym h.options)
-          (chosen_at_least o n ts st i (f l) (f r) laid (omega (arith, m, h.long)) wants));
+          (choice_at_least o n ts st i (f l) (f r) laid (omega (arith, m, h.long)) wants));
     })
 
 -- two branches are to be chosen from
-pub advances_chosen : {N E : Type 0} (f : N → Tree) {a : Point} {t : Task} {s : Seen} {v x : Visits} {i : ℕ} {l r : N} (p q : Printer N)
+pub advances_choice : {N E : Type 0} (f : N → Tree) {a : Point} {t : Task} {s : Seen} {v x : Visits} {i : ℕ} {l r : N} (p q : Printer N)
     → InHand a t (point f p s v) → Visit a.printer.options t (point f p s v) x →
     RisesBy (each_probe t.tree t.mode) v.probes x.probes → Shows f t.mode (Choice i l r) (step_from a.printer.options t (standing f p)) p q
     → Advances {N = N} {E = E} f a (point f q s x) (Ok (turn_result.Choice i l r))
-advances_chosen {N} {E} f {a} {t} {s} {x} {i} {l} {r} p q h one probes shows =
-    let k = asks_there f t.mode i l r (step_from a.printer.options t (standing f p)) p q shows in
+advances_choice {N} {E} f {a} {t} {s} {x} {i} {l} {r} p q h one probes shows =
+    let k = choice_there f t.mode i l r (step_from a.printer.options t (standing f p)) p q shows in
     subst (λ (z : Standing). Advances {N = N} {E = E} f a (point_at z s x) (Ok (turn_result.Choice i l r))) (sym k.1)
-    (chosen_here h one probes k.0)
+    (choice_here h one probes k.0)
 
 -- # Turns that ended in an error
 
@@ -189,7 +190,7 @@ advances_refused {f} {e} h one =
     (record {
       options = tt;
       grows = tt;
-      lessens = tt;
+      work_falls = tt;
       same_lender = refl;
       bytes = λ is_known. (is_known, (refl, refl));
       least = (rise_then h.rise one.rise).printer;
@@ -215,7 +216,7 @@ advances_sink_failed {f} {a} {t} {b} {q} {s} {bytes} {e} h one k lender refused 
     (record {
       options = tt;
       grows = tt;
-      lessens = tt;
+      work_falls = tt;
       same_lender = lender;
       bytes = λ is_known.
           let y = refused is_known in (
@@ -223,7 +224,7 @@ advances_sink_failed {f} {a} {t} {b} {q} {s} {bytes} {e} h one k lender refused 
             (
               λ whole limit below old l m.
                   sink_broke o whole limit below old t ts q.tasks st (state_at q) out bytes (known s.bytes) (omega (arith, l, h.long))
-                  (h.inside out whole limit below old l m) k.leads y.1.0,
+                  (h.inside out whole limit below old l m) k.steps_to y.1.0,
               y.1.1,
             ),
           );

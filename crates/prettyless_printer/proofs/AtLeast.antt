@@ -15,7 +15,7 @@ use Rattle.prettyless_model.specs.Metrics.{metrics}
 use Rattle.prettyless_model.specs.Column.{gap, prospective, padding_fits, nested}
 use Rattle.prettyless_model.specs.Look.{by_mode}
 use Rattle.prettyless_model.specs.Layout.{State, Outcome, Done, Failed, Entry, after_bytes, and_then, accept, lay, lay_each, lay_text}
-use Rattle.prettyless_model.specs.Layout.{lay_payload, payload_fits, after_payload, probe, some_pending, tried, initial, flushed, entry}
+use Rattle.prettyless_model.specs.Layout.{lay_payload, payload_fits, after_payload, probe, some_pending, in_trial, initial, flushed, entry}
 use Rattle.prettyless_model.specs.Layout.{entries, plain_break, break_with}
 use Rattle.prettyless_model.specs.Levels.{settle}
 use Rattle.prettyless_model.specs.Counts.{Weight, each_node, each_probe, counted_then, counted_accept, tally}
@@ -24,7 +24,7 @@ use Rattle.prettyless_model.specs.declared.mode.Mode.{Mode}
 use Rattle.prettyless_model.specs.declared.mode.Mode.TheVariants.{Break, Flat}
 use Rattle.prettyless_probe.specs.Stack.{Task, make_task, tasks, follow}
 use Rattle.prettyless_step.specs.Steps.{Step, Move, Stuck, Choose, step_of, union_step, decided_by_metrics, break_step, at_once}
-use Rattle.prettyless_step.proofs.Shown.{step_at, Leads, Asks}
+use Rattle.prettyless_step.proofs.Shown.{step_at, StepsTo, IsChoice}
 use Rattle.prettyless_printer.specs.Points.{Point, Standing, state_at}
 use Rattle.prettyless_printer.specs.Open.{BeginsTrial}
 use Rattle.prettyless_printer.specs.Trials.{Tries}
@@ -104,7 +104,7 @@ each_counts o n (d ∷ ds) i m us st w l =
 
 -- a payload as the first branch counts where its metrics say so
 payload_counts : (o : RenderOptions) (b : List ℕ) (st : State) (x y : ℕ) (v : Bool) → v ≡ payload_fits o (metrics b) st.column →
-    counted_accept o (lay_payload o (metrics b) b (tried st)) x y ≡ (if v then x else y)
+    counted_accept o (lay_payload o (metrics b) b (in_trial st)) x y ≡ (if v then x else y)
 payload_counts o b st x y true e =
     ap (λ (z : Bool). if z then x else y)
     (ap (λ (z : Bool). z && padding_fits o.width (some_pending st.pending) (after_payload (metrics b))) (sym e)
@@ -250,29 +250,30 @@ stack_counts p n o ts st w e h k =
     ∙ ap (λ (x : List Task). tally_above o n x (state_at p) w) h ∙ ap (λ (x : State). tally_above o n ts x w) k
 
 -- a step of the current node
-pub went_at_least : {t : Task} {v w : Visits} (o : RenderOptions) (n : ℕ) (ts us : List Task) (st u : State) (bytes : List ℕ)
-    → OneLaid t v w → n ≤ length ts → Leads (step_at o t ts st) ts bytes us u →
+pub move_at_least : {t : Task} {v w : Visits} (o : RenderOptions) (n : ℕ) (ts us : List Task) (st u : State) (bytes : List ℕ)
+    → OneLaid t v w → n ≤ length ts → StepsTo (step_at o t ts st) ts bytes us u →
     CountsAtLeast (tally_above o n (t ∷ ts) st) (tally_above o n us u) v w
-went_at_least {t} {v} {w} o n ts us st u bytes one l h =
+move_at_least {t} {v} {w} o n ts us st u bytes one l h =
     laid_at_least t (tally_above o n (t ∷ ts) st) (tally_above o n us u) v w one
-    (λ k. omega (arith, above_is o n t ts st k l, went k (step_at o t ts st) (step_counts o n ts st k l t.tree t.indent t.mode) h))
+    (λ k. omega (arith, above_is o n t ts st k l, move_inside k (step_at o t ts st) (step_counts o n ts st k l t.tree t.indent t.mode) h))
   where
-    went : (k : Weight) (step : Step) → StepCounts o n ts st k (tally_with o n t ts st k) (k t.tree t.mode) step → Leads step ts bytes us u
+    move_inside : (k : Weight) (step : Step) → StepCounts o n ts st k (tally_with o n t ts st k) (k t.tree t.mode) step
+        → StepsTo step ts bytes us u
         → tally_with o n t ts st k ≤ k t.tree t.mode + tally_above o n us u k
-    went k (Move b pushed x) s h =
+    move_inside k (Move b pushed x) s h =
         omega (arith, s, ap (λ (z : List Task). tally_above o n z u k) h.1, ap (λ (z : State). tally_above o n (pushed ++ ts) z k) h.2)
-    went k Stuck s h = absurd h
-    went k (Choose i x y) s h = absurd h
+    move_inside k Stuck s h = absurd h
+    move_inside k (Choose i x y) s h = absurd h
 
 -- a step after which two branches are to be chosen from
-pub chosen_at_least : {t : Task} {v w : Visits} (o : RenderOptions) (n : ℕ) (ts : List Task) (st : State) (i : ℕ) (x y : Tree)
-    → OneLaid t v w → n ≤ length ts → Asks (step_at o t ts st) i x y →
+pub choice_at_least : {t : Task} {v w : Visits} (o : RenderOptions) (n : ℕ) (ts : List Task) (st : State) (i : ℕ) (x y : Tree)
+    → OneLaid t v w → n ≤ length ts → IsChoice (step_at o t ts st) i x y →
     CountsAtLeast (tally_above o n (t ∷ ts) st) (tally_choice o n i x y ts st) v w
-chosen_at_least {t} {v} {w} o n ts st i x y one l h =
+choice_at_least {t} {v} {w} o n ts st i x y one l h =
     laid_at_least t (tally_above o n (t ∷ ts) st) (tally_choice o n i x y ts st) v w one
     (λ k. omega (arith, above_is o n t ts st k l, asked k (step_at o t ts st) (step_counts o n ts st k l t.tree t.indent t.mode) h))
   where
-    asked : (k : Weight) (step : Step) → StepCounts o n ts st k (tally_with o n t ts st k) (k t.tree t.mode) step → Asks step i x y
+    asked : (k : Weight) (step : Step) → StepCounts o n ts st k (tally_with o n t ts st k) (k t.tree t.mode) step → IsChoice step i x y
         → tally_with o n t ts st k ≤ k t.tree t.mode + tally_choice o n i x y ts st k
     asked k (Move b pushed u) s h = absurd h
     asked k Stuck s h = absurd h
@@ -313,7 +314,7 @@ kept_at_least {i} {x} {a} {b} y n tries =
     let d = tries.decided in
     let m = tries.at_least in
     let ts : List Task = p.tasks in
-    let out : Outcome = lay p.options (settle p.options) x i Break (follow ts) (tried (state_at p)) in
+    let out : Outcome = lay p.options (settle p.options) x i Break (follow ts) (in_trial (state_at p)) in
     let other : Outcome = lay p.options (settle p.options) y i Break (follow ts) (state_at p) in
     let same : (k : Weight) → choice_tally p n i x y k ≡ trial_tally p i x k + stack_tally b.printer n k = λ k.
     omega (
@@ -333,7 +334,7 @@ other_at_least {i} {x} {y} {a} {q} n l tries pushed =
     let p = a.printer in
     let d = tries.decided in
     let ts : List Task = p.tasks in
-    let out : Outcome = lay p.options (settle p.options) x i Break (follow ts) (tried (state_at p)) in
+    let out : Outcome = lay p.options (settle p.options) x i Break (follow ts) (in_trial (state_at p)) in
     let other : Outcome = lay p.options (settle p.options) y i Break (follow ts) (state_at p) in
     at_least_rise tries.rise (λ k.
     omega (
@@ -355,8 +356,8 @@ trial_begins {p} {q} {i} {d} v h =
     at_least_rise (record { printer = omega arith; probes = omega arith })
     (λ k. omega (
       arith,
-      stack_counts q (length ts) p.options (t ∷ ts) (tried (state_at p)) k h.options h.tasks h.state,
-      above_is p.options (length ts) t ts (tried (state_at p)) k (omega arith),
+      stack_counts q (length ts) p.options (t ∷ ts) (in_trial (state_at p)) k h.options h.tasks h.state,
+      above_is p.options (length ts) t ts (in_trial (state_at p)) k (omega arith),
     ))
 
 -- no more than n tasks are left

@@ -15,34 +15,35 @@ use Rattle.prettyless_printer.specs.declared.answer.TrialState.{TrialState}
 use Rattle.prettyless_printer.specs.declared.answer.TrialState.TheVariants as trial_state
 use Rattle.prettyless_printer.specs.declared.answer.TrialResult.{TrialResult}
 use Rattle.prettyless_printer.specs.Points.{Standing, Seen, Point, point_at}
-use Rattle.prettyless_printer.specs.Trials.{Attempt, AtChoice, Courses, Fallen, Lasts, OnTrial, Restores, TrialBroke, Tries, attempt}
+use Rattle.prettyless_printer.specs.Trials.{Trial, AtChoice, TrialTurns, TrialRejected, TrialComplete, TrialRunning, Restores}
+use Rattle.prettyless_printer.specs.Trials.{TrialBroke, Tries, make_trial}
 use Rattle.prettyless_printer.specs.Trials.{trial_run}
-use Rattle.prettyless_printer.specs.Open.{BeginsTrial, Chain, ComesSecond, Ends, Held, Link, Marked, Open, Opens, all_held, below_all}
+use Rattle.prettyless_printer.specs.Open.{BeginsTrial, Chain, Undone, TrialsEnd, Held, Link, Marked, Open, Opens, all_held, below_all}
 use Rattle.prettyless_printer.specs.Open.{below_last, held}
 use Rattle.prettyless_printer.proofs.PathSteps.{goes_on_kept, goes_on_other}
 use Rattle.prettyless_printer.proofs.Standings.{Flagged, Pushed}
-use Rattle.prettyless_printer.proofs.TrialSteps.{CutBack, began_plain, choice_broke, fallen_broke, trial_over, trial_run_begins}
+use Rattle.prettyless_printer.proofs.TrialSteps.{CutBack, began_plain, choice_broke, rejected_broke, trial_over, trial_run_begins}
 use Rattle.prettyless_printer.proofs.TrialSteps.{trial_undone}
 use Rattle.prettyless_printer.proofs.Visits.{rise_then, at_most_first, at_most_then}
 
 -- # Trials in one another
 
 -- a trial more is open
-chain_push : (o : Attempt) (us : List Held) (t : Attempt) (u : Held) (c : Attempt) → Chain o us t → Link t u c → Chain o (us ++ u ∷ []) c
-chain_push o [] t u c h link = (c, subst (λ (x : Attempt). Link x u c) h link, refl)
+chain_push : (o : Trial) (us : List Held) (t : Trial) (u : Held) (c : Trial) → Chain o us t → Link t u c → Chain o (us ++ u ∷ []) c
+chain_push o [] t u c h link = (c, subst (λ (x : Trial). Link x u c) h link, refl)
 chain_push o (v ∷ us) t u c h link = (h.0, h.1, chain_push h.0 us t u c h.2 link)
 
 -- The innermost trial, and the one outside it.
-pub record Popped (o : Attempt) (us : List Held) (u : Held) (c : Attempt) : Type 0 where
-  pub trial : Attempt
+pub record Popped (o : Trial) (us : List Held) (u : Held) (c : Trial) : Type 0 where
+  pub trial : Trial
   pub chain : Chain o us trial
   pub link : Link trial u c
 
-pub chain_pop : (o : Attempt) (us : List Held) (u : Held) (c : Attempt) → Chain o (us ++ u ∷ []) c → Popped o us u c
+pub chain_pop : (o : Trial) (us : List Held) (u : Held) (c : Trial) → Chain o (us ++ u ∷ []) c → Popped o us u c
 chain_pop o [] u c h = record {
   trial = o;
   chain = refl;
-  link = subst (λ (x : Attempt). Link o u x) (sym h.2) h.1;
+  link = subst (λ (x : Trial). Link o u x) (sym h.2) h.1;
 }
 chain_pop o (v ∷ us) u c h =
     let y = chain_pop h.0 us u c h.2 in
@@ -54,21 +55,21 @@ below_push v [] u = refl
 below_push v (w ∷ us) u = below_push w us u
 
 -- The innermost trial began with as many commands, and with bytes that are known.
-pub record Last (n : ℕ) (t : Attempt) : Type 0 where
+pub record Last (n : ℕ) (t : Trial) : Type 0 where
   pub height : n ≡ length t.start.printer.tasks
   pub is_known : IsSome t.start.sink.bytes
 
 -- the outermost one
-pub first_last : {m : Mark} {t : Attempt} → Marked m t.start → Last m.commands t
+pub first_last : {m : Mark} {t : Trial} → Marked m t.start → Last m.commands t
 first_last marked = record { height = marked.marks.commands; is_known = marked.is_known }
 
-pub chain_last : (u : Held) (us : List Held) (o t : Attempt) → Last u.mark.commands o → Chain o us t → Last (below_last u us) t
-chain_last u [] o t last h = subst (λ (x : Attempt). Last u.mark.commands x) (sym h) last
+pub chain_last : (u : Held) (us : List Held) (o t : Trial) → Last u.mark.commands o → Chain o us t → Last (below_last u us) t
+chain_last u [] o t last h = subst (λ (x : Trial). Last u.mark.commands x) (sym h) last
 chain_last u (v ∷ us) o t last h =
     chain_last v us h.0 t (first_last h.1.holds.marked) h.2
 
 -- what ended in an error inside did so outside
-broke_outside : (o c : Attempt) (y : Tree) (b : Point) → AtChoice o c.indent c.branch y c.start → TrialBroke c b → TrialBroke o b
+broke_outside : (o c : Trial) (y : Tree) (b : Point) → AtChoice o c.indent c.branch y c.start → TrialBroke c b → TrialBroke o b
 broke_outside o c y b choice broke = record {
   rise = rise_then choice.waiting.rise broke.rise;
   at_most = λ began.
@@ -77,18 +78,18 @@ broke_outside o c y b choice broke = record {
       (broke.at_most (began_plain c w.0 w.1)));
 }
 
-chain_broke : (o : Attempt) (us : List Held) (t : Attempt) (b : Point) → Chain o us t → TrialBroke t b → TrialBroke o b
-chain_broke o [] t b h broke = subst (λ (x : Attempt). TrialBroke x b) h broke
+chain_broke : (o : Trial) (us : List Held) (t : Trial) (b : Point) → Chain o us t → TrialBroke t b → TrialBroke o b
+chain_broke o [] t b h broke = subst (λ (x : Trial). TrialBroke x b) h broke
 chain_broke o (u ∷ us) t b h broke = broke_outside o h.0 u.second b h.1.choice (chain_broke h.0 us t b h.2 broke)
 
 -- it ended in an error wherever as much was visited
-pub broke_at : {t : Attempt} {b c : Point} → c.visits ≡ b.visits → TrialBroke t b → TrialBroke t c
+pub broke_at : {t : Trial} {b c : Point} → c.visits ≡ b.visits → TrialBroke t b → TrialBroke t c
 broke_at {t} {c} e h =
     subst (λ (v : Visits). TrialBroke t (point_at c.printer c.sink v)) (sym e) (record { rise = h.rise; at_most = h.at_most })
 
 -- a trial that begins
 on_begun : {a : Point} {m : Mark} {i : ℕ} {d : Tree} {q : Standing} → Marked m a → BeginsTrial i d a.printer q
-    → OnTrial (attempt a i d) m.commands (point_at q a.sink a.visits)
+    → TrialRunning (make_trial a i d) m.commands (point_at q a.sink a.visits)
 on_begun {a} {i} {d} {q} marked begins = record {
   is_known = marked.is_known;
   path = trial_run_begins a q i d begins;
@@ -98,10 +99,10 @@ on_begun {a} {i} {d} {q} marked begins = record {
 
 -- the outermost one begins
 pub open_begins : {a : Point} {m : Mark} {i : ℕ} {x : Tree} {q : Standing} (y : Tree) → Marked m a → BeginsTrial i x a.printer q →
-    Open (attempt a i x) y (record { mark = m; indent = i; second = y } ∷ []) (point_at q a.sink a.visits)
+    Open (make_trial a i x) y (record { mark = m; indent = i; second = y } ∷ []) (point_at q a.sink a.visits)
 open_begins {a} {i} {x} y marked begins = record {
   holds = record { indent = refl; second = refl; marked = marked };
-  trial = attempt a i x;
+  trial = make_trial a i x;
   chain = refl;
   on = on_begun marked begins;
 }
@@ -109,16 +110,16 @@ open_begins {a} {i} {x} y marked begins = record {
 -- # A turn of the innermost trial
 
 -- Trials were open at a point, and the innermost one took a turn, or came to its end.
-pub record Took {N E : Type 0} (f : N → Tree) (s : Attempt) (y : Tree) (us : List Held) (a b : Point) (r : Result (TrialState N) E) : Type 0
+pub record Took {N E : Type 0} (f : N → Tree) (s : Trial) (y : Tree) (us : List Held) (a b : Point) (r : Result (TrialState N) E) : Type 0
   where
     pub trials : Open s y us a
-    pub courses : Courses f (below_all us) a b r
+    pub courses : TrialTurns f (below_all us) a b r
 
-pub took : {N : Type 0} (E : Type 0) (f : N → Tree) {s : Attempt} {y : Tree} {us : List Held} {a b : Point} {r : Result (TrialState N) E}
-    → Open s y us a → Courses f (below_all us) a b r → Took f s y us a b r
+pub took : {N : Type 0} (E : Type 0) (f : N → Tree) {s : Trial} {y : Tree} {us : List Held} {a b : Point} {r : Result (TrialState N) E}
+    → Open s y us a → TrialTurns f (below_all us) a b r → Took f s y us a b r
 took E f trials courses = record { trials = trials; courses = courses }
 
-module _ {N E : Type 0} {f : N → Tree} {s : Attempt} {y : Tree} {a b : Point} where
+module _ {N E : Type 0} {f : N → Tree} {s : Trial} {y : Tree} {a b : Point} where
   -- the innermost one goes on
   pub open_goes : {us : List Held} → Took {E = E} f s y us a b (Ok trial_state.Running) → Open s y us b
   open_goes {us = []} h = absurd h.trials
@@ -141,11 +142,11 @@ module _ {N E : Type 0} {f : N → Tree} {s : Attempt} {y : Tree} {a b : Point} 
       chain_broke s us k.trial b k.chain (h.courses k.trial k.on)
 
   -- it was undone, and its second branch was refused memory
-  pub open_fallen_broke : {us : List Held} → Took {E = E} f s y us a b (Ok trial_state.Rejected) → TrialBroke s b
-  open_fallen_broke {us = []} h = absurd h.trials
-  open_fallen_broke {us = u ∷ us} h =
+  pub open_rejected_broke : {us : List Held} → Took {E = E} f s y us a b (Ok trial_state.Rejected) → TrialBroke s b
+  open_rejected_broke {us = []} h = absurd h.trials
+  open_rejected_broke {us = u ∷ us} h =
       let k = h.trials in
-      chain_broke s us k.trial b k.chain (fallen_broke (h.courses k.trial k.on))
+      chain_broke s us k.trial b k.chain (rejected_broke (h.courses k.trial k.on))
 
   -- a trial more was refused memory
   pub open_choice_broke : {us : List Held} {i : ℕ} {x z : N} → Took {E = E} f s y us a b (Ok (trial_state.Choice i x z)) → TrialBroke s b
@@ -164,35 +165,35 @@ module _ {N E : Type 0} {f : N → Tree} {s : Attempt} {y : Tree} {a b : Point} 
       let w : Held = record { mark = opens.mark; indent = i; second = f z } in
       let choice = (h.courses k.trial k.on).0 in
       let marked : Marked opens.mark b = record { marks = opens.marks; is_known = choice.is_known; text = text } in
-      let t : Attempt = attempt b i (f x) in
+      let t : Trial = make_trial b i (f x) in
       subst (λ (ws : List Held). Open s y ws (point_at q b.sink b.visits)) (sym opens.more)
       (record {
         holds = k.holds;
         trial = t;
         chain = chain_push s us k.trial w t k.chain
             (record { holds = record { indent = refl; second = refl; marked = marked }; choice = choice });
-        on = subst (λ (n : ℕ). OnTrial t n (point_at q b.sink b.visits)) (sym (below_push u us w)) (on_begun marked begins);
+        on = subst (λ (n : ℕ). TrialRunning t n (point_at q b.sink b.visits)) (sym (below_push u us w)) (on_begun marked begins);
       })
 
 -- # A trial that is kept
 
 -- it is over, with the flag as it was
-kept_tries : {E : Type 0} {t : Attempt} {m : Mark} {b : Point} {r : Standing} → Marked m t.start → Lasts t b
+kept_branch : {E : Type 0} {t : Trial} {m : Mark} {b : Point} {r : Standing} → Marked m t.start → TrialComplete t b
     → Flagged m.within b.printer r → Tries {E = E} t.indent t.branch t.start (point_at r b.sink b.visits) (Ok true)
-kept_tries {b} {r} marked lasts kept = trial_over lasts (subst (λ (w : Bool). Flagged w b.printer r) marked.marks.within kept)
+kept_branch {b} {r} marked lasts kept = trial_over lasts (subst (λ (w : Bool). Flagged w b.printer r) marked.marks.within kept)
 
 -- the outermost one is kept
-kept_last : {N E : Type 0} {f : N → Tree} {s : Attempt} {y : Tree} {a b : Point} {u : Held} {r : Standing}
+kept_last : {N E : Type 0} {f : N → Tree} {s : Trial} {y : Tree} {a b : Point} {u : Held} {r : Standing}
     → Took {E = E} f s y (u ∷ []) a b (Ok trial_state.Complete) → Flagged u.mark.within b.printer r →
     Tries {E = E} s.indent s.branch s.start (point_at r b.sink b.visits) (Ok true)
 kept_last {E} {b} {u} {r} h kept =
     let k = h.trials in
-    let marked = subst (λ (x : Attempt). Marked u.mark x.start) (sym k.chain) k.holds.marked in
-    subst (λ (x : Attempt). Tries {E = E} x.indent x.branch x.start (point_at r b.sink b.visits) (Ok true)) k.chain
-    (kept_tries marked (h.courses k.trial k.on).0 kept)
+    let marked = subst (λ (x : Trial). Marked u.mark x.start) (sym k.chain) k.holds.marked in
+    subst (λ (x : Trial). Tries {E = E} x.indent x.branch x.start (point_at r b.sink b.visits) (Ok true)) k.chain
+    (kept_branch marked (h.courses k.trial k.on).0 kept)
 
 -- an inner one is kept
-kept_inner : {N E : Type 0} {f : N → Tree} {s : Attempt} {y : Tree} {a b : Point} {r : Standing} (v : Held) (vs : List Held) (u : Held)
+kept_inner : {N E : Type 0} {f : N → Tree} {s : Trial} {y : Tree} {a b : Point} {r : Standing} (v : Held) (vs : List Held) (u : Held)
     → Took {E = E} f s y (v ∷ vs ++ u ∷ []) a b (Ok trial_state.Complete) → Flagged u.mark.within b.printer r →
     Open s y (v ∷ vs) (point_at r b.sink b.visits)
 kept_inner {E} {s} {b} {r} v vs u h kept =
@@ -202,7 +203,7 @@ kept_inner {E} {s} {b} {r} v vs u h kept =
     let p = chain_pop s vs u t k.chain in
     let marked = p.link.holds.marked in
     let outer = chain_last v vs s p.trial (first_last k.holds.marked) p.chain in
-    let tries = kept_tries {E = E} marked lasts kept in
+    let tries = kept_branch {E = E} marked lasts kept in
     let path = goes_on_kept {r = trial_run p.trial} {b = t.start} {c = point_at r b.sink b.visits} {s = t.start.sink} {t = b.sink}
     p.link.choice.waiting tries lasts.path.same_lender
     (λ is_known. ((lasts.path.bytes is_known).0, (λ piece same. same, tries.failures))) in
@@ -219,7 +220,7 @@ kept_inner {E} {s} {b} {r} v vs u h kept =
     }
 
 -- the same of all that were open
-module _ {N E : Type 0} {f : N → Tree} {s : Attempt} {y : Tree} {a b : Point} {us : List Held} {r : Standing} where
+module _ {N E : Type 0} {f : N → Tree} {s : Trial} {y : Tree} {a b : Point} {us : List Held} {r : Standing} where
   pub open_kept : (vs : List Held) (u : Held) → us ≡ vs ++ u ∷ [] → 0 < length vs
       → Took {E = E} f s y us a b (Ok trial_state.Complete) → Flagged u.mark.within b.printer r → Open s y vs (point_at r b.sink b.visits)
   open_kept [] u popped some h = absurd (omega (arith, some))
@@ -235,12 +236,12 @@ module _ {N E : Type 0} {f : N → Tree} {s : Attempt} {y : Tree} {a b : Point} 
 -- # A trial that is undone
 
 -- the outermost one is undone, and its second branch comes next
-back_last : {N E : Type 0} {f : N → Tree} {s : Attempt} {y : Tree} {a b : Point} {u : Held} {q : Standing} {w : Seen} (r : Standing)
+back_last : {N E : Type 0} {f : N → Tree} {s : Trial} {y : Tree} {a b : Point} {u : Held} {q : Standing} {w : Seen} (r : Standing)
     → Took {E = E} f s y (u ∷ []) a b (Ok trial_state.Rejected) → Restores u.mark b.printer r → CutBack u.mark b.sink w
-    → Pushed (make_task u.indent Break u.second) r q → ComesSecond E s y (point_at q w b.visits)
+    → Pushed (make_task u.indent Break u.second) r q → Undone E s y (point_at q w b.visits)
 back_last {E} {s} {b} {u} r h back cut pushed =
     let k = h.trials in
-    let fell = subst (λ (x : Attempt). Fallen x b) k.chain (h.courses k.trial k.on) in
+    let fell = subst (λ (x : Trial). TrialRejected x b) k.chain (h.courses k.trial k.on) in
     record {
       back = r;
       tries = trial_undone {E = E} r fell k.holds.marked.marks back cut;
@@ -252,7 +253,7 @@ back_last {E} {s} {b} {u} r h back cut pushed =
     }
 
 -- an inner one is undone
-back_inner : {N E : Type 0} {f : N → Tree} {s : Attempt} {y : Tree} {a b : Point} {q : Standing} {w : Seen} (v : Held) (vs : List Held)
+back_inner : {N E : Type 0} {f : N → Tree} {s : Trial} {y : Tree} {a b : Point} {q : Standing} {w : Seen} (v : Held) (vs : List Held)
     (u : Held) (r : Standing) → Took {E = E} f s y (v ∷ vs ++ u ∷ []) a b (Ok trial_state.Rejected) → Restores u.mark b.printer r
     → CutBack u.mark b.sink w → Pushed (make_task u.indent Break u.second) r q → Open s y (v ∷ vs) (point_at q w b.visits)
 back_inner {E} {s} {b} {q} {w} v vs u r h back cut pushed =
@@ -279,7 +280,7 @@ back_inner {E} {s} {b} {q} {w} v vs u r h back cut pushed =
     }
 
 -- the same of all that were open
-module _ {N E : Type 0} {f : N → Tree} {s : Attempt} {y : Tree} {a b : Point} {us : List Held} {q : Standing} {w : Seen} where
+module _ {N E : Type 0} {f : N → Tree} {s : Trial} {y : Tree} {a b : Point} {us : List Held} {q : Standing} {w : Seen} where
   pub open_other : (vs : List Held) (u : Held) (r : Standing) → us ≡ vs ++ u ∷ [] → 0 < length vs
       → Took {E = E} f s y us a b (Ok trial_state.Rejected) → Restores u.mark b.printer r → CutBack u.mark b.sink w
       → Pushed (make_task u.indent Break u.second) r q → Open s y vs (point_at q w b.visits)
@@ -289,31 +290,31 @@ module _ {N E : Type 0} {f : N → Tree} {s : Attempt} {y : Tree} {a b : Point} 
 
   pub last_other : (vs : List Held) (u : Held) (r : Standing) → us ≡ vs ++ u ∷ [] → vs ≡ []
       → Took {E = E} f s y us a b (Ok trial_state.Rejected) → Restores u.mark b.printer r → CutBack u.mark b.sink w
-      → Pushed (make_task u.indent Break u.second) r q → ComesSecond E s y (point_at q w b.visits)
+      → Pushed (make_task u.indent Break u.second) r q → Undone E s y (point_at q w b.visits)
   last_other vs u r popped none h = back_last r (subst (λ (z : List Held). Took {E = E} f s y z a b (Ok trial_state.Rejected))
       (popped ∙ ap (λ (z : List Held). z ++ u ∷ []) none) h)
 
 -- The innermost of open trials, with what is held of it.
 pub record Innermost (u : Held) (n : ℕ) (a : Point) : Type 0 where
-  pub trial : Attempt
+  pub trial : Trial
   pub marked : Marked u.mark trial.start
-  pub on : OnTrial trial n a
+  pub on : TrialRunning trial n a
 
-innermost_split : (s : Attempt) (y : Tree) {a : Point} (vs : List Held) (u : Held) → Open s y (vs ++ u ∷ []) a
+innermost_split : (s : Trial) (y : Tree) {a : Point} (vs : List Held) (u : Held) → Open s y (vs ++ u ∷ []) a
     → Innermost u (below_all (vs ++ u ∷ [])) a
 innermost_split s y [] u h =
-    record { trial = h.trial; marked = subst (λ (x : Attempt). Marked u.mark x.start) (sym h.chain) h.holds.marked; on = h.on }
+    record { trial = h.trial; marked = subst (λ (x : Trial). Marked u.mark x.start) (sym h.chain) h.holds.marked; on = h.on }
 innermost_split s y (v ∷ vs) u h = record { trial = h.trial; marked = (chain_pop s vs u h.trial h.chain).link.holds.marked; on = h.on }
 
 -- A point at which the innermost trial, of which this is held, is rejected.
-pub record Fell (u : Held) (b : Point) : Type 0 where
-  pub trial : Attempt
+pub record InnermostRejected (u : Held) (b : Point) : Type 0 where
+  pub trial : Trial
   pub marked : Marked u.mark trial.start
-  pub fallen : Fallen trial b
+  pub fallen : TrialRejected trial b
 
-pub open_fell : {N E : Type 0} {f : N → Tree} {s : Attempt} {y : Tree} {a b : Point} {us : List Held} (vs : List Held) (u : Held)
-    → us ≡ vs ++ u ∷ [] → Took {E = E} f s y us a b (Ok trial_state.Rejected) → Fell u b
-open_fell {E} {f} {s} {y} {a} {b} vs u popped h =
+pub open_rejected : {N E : Type 0} {f : N → Tree} {s : Trial} {y : Tree} {a b : Point} {us : List Held} (vs : List Held) (u : Held)
+    → us ≡ vs ++ u ∷ [] → Took {E = E} f s y us a b (Ok trial_state.Rejected) → InnermostRejected u b
+open_rejected {E} {f} {s} {y} {a} {b} vs u popped h =
     let k = subst (λ (z : List Held). Took {E = E} f s y z a b (Ok trial_state.Rejected)) popped h in
     let last = innermost_split s y vs u k.trials in
     record { trial = last.trial; marked = last.marked; fallen = k.courses last.trial last.on }
@@ -321,7 +322,7 @@ open_fell {E} {f} {s} {y} {a} {b} vs u popped h =
 -- # Lists of open trials
 
 -- one is open at least
-pub open_some : (s : Attempt) (y : Tree) (a : Point) (us : List Held) → Open s y us a → 0 < length us
+pub open_some : (s : Trial) (y : Tree) (a : Point) (us : List Held) → Open s y us a → 0 < length us
 open_some s y a [] h = absurd h
 open_some s y a (u ∷ us) h = omega arith
 
@@ -344,7 +345,7 @@ pub length-all_held : {N : Type 0} (f : N → Tree) (us : List (OpenTrial N)) �
 length-all_held f us = length-map us (held f)
 
 -- a refusal of memory ends open trials wherever as much was visited
-pub ends_broke : (E : Type 0) (limit : ℕ) (s : Attempt) (y : Tree) {b : Point} (us : List Held) (r : Result TrialResult E) → IsErr r
-    → TrialBroke s b → Ends limit s y b us r
+pub ends_broke : (E : Type 0) (limit : ℕ) (s : Trial) (y : Tree) {b : Point} (us : List Held) (r : Result TrialResult E) → IsErr r
+    → TrialBroke s b → TrialsEnd limit s y b us r
 ends_broke E limit s y us (Ok x) e h = cc
 ends_broke E limit s y us (Err x) e h = h

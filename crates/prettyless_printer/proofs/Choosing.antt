@@ -6,10 +6,10 @@ use Rattle.prettyless_sink.specs.declared.error.RenderError.TheVariants.{Memory,
 use Rattle.prettyless_model.specs.Tree.{Tree}
 use Rattle.prettyless_model.specs.Layout.{State}
 use Rattle.prettyless_probe.specs.Stack.{nodes}
-use Rattle.prettyless_step.specs.Steps.{owed}
+use Rattle.prettyless_step.specs.Steps.{pending_work}
 use Rattle.prettyless_printer.specs.Points.{Point, Seen, Standing, point_at}
-use Rattle.prettyless_printer.specs.Trials.{TrialBroke, Tries, attempt}
-use Rattle.prettyless_printer.specs.Open.{BeginsTrial, ComesSecond, Held, Open, Opens}
+use Rattle.prettyless_printer.specs.Trials.{TrialBroke, Tries, make_trial}
+use Rattle.prettyless_printer.specs.Open.{BeginsTrial, Undone, Held, Open, Opens}
 use Rattle.prettyless_printer.specs.Paths.{Chooses}
 use Rattle.prettyless_printer.specs.Runs.{InChoice}
 use Rattle.prettyless_printer.proofs.Chains.{open_begins}
@@ -24,7 +24,7 @@ pub chooses_kept : {A E D : Type 0} {i : ℕ} {x y : Tree} {a c : Point} {s t ou
 chooses_kept {a} {c} {t} empty tries same lender accepts =
     let wrote = subst (λ (u : Seen). Accepts u.bytes c.sink.bytes (known t.bytes) u.failures c.sink.failures) same accepts in
     record {
-      lessens = omega (arith, tries.decided.4, ap nodes tries.decided.0);
+      work_falls = omega (arith, tries.decided.4, ap nodes tries.decided.0);
       runs = λ run waiting.
           goes_on_kept waiting tries (lender ∙ ap (λ (u : Seen). u.lender) same)
           (λ is_known.
@@ -40,7 +40,7 @@ pub chooses_unwritten : {A E D : Type 0} {i : ℕ} {x y : Tree} {a c : Point} {s
 chooses_unwritten {a} {c} {t} {z} empty tries same lender refuses =
     let wrote = subst (λ (u : Seen). Refuses u.bytes c.sink.bytes (known t.bytes) u.failures c.sink.failures) same refuses in
     record {
-      lessens = tt;
+      work_falls = tt;
       runs = λ run waiting.
           choice_unwritten (λ _. ⊥) z waiting tries (lender ∙ ap (λ (u : Seen). u.lender) same)
           (λ is_known.
@@ -56,17 +56,17 @@ chooses_unwritten {a} {c} {t} {z} empty tries same lender refuses =
 
 -- it is rejected, and the second one comes next
 pub chooses_other : {A E D : Type 0} {i : ℕ} {x y : Tree} {a c : Point} {s t : Seen} {z : A} →
-    ComesSecond D (attempt (point_at a.printer s a.visits) i x) y (point_at c.printer t c.visits) → c.sink ≡ a.sink
+    Undone D (make_trial (point_at a.printer s a.visits) i x) y (point_at c.printer t c.visits) → c.sink ≡ a.sink
     → Chooses {A = A} {E = E} i x y a c (Ok z)
 chooses_other {a} {s} {t} second same =
     let tries = second.tries in
     record {
-      lessens = omega (
+      work_falls = omega (
         arith,
         tries.decided.4,
         ap nodes tries.decided.0,
         ap nodes second.tasks,
-        ap (λ (u : State). owed u.pending) second.state,
+        ap (λ (u : State). pending_work u.pending) second.state,
       );
       runs = λ run waiting.
           goes_on_other waiting tries
@@ -79,15 +79,15 @@ chooses_other {a} {s} {t} second same =
 
 -- its trial is refused memory
 pub chooses_broke : {A E : Type 0} {i : ℕ} {x y : Tree} {a c : Point} {s t : Seen} {z : _} →
-    TrialBroke (attempt (point_at a.printer s a.visits) i x) (point_at c.printer t c.visits) → c.sink ≡ a.sink
+    TrialBroke (make_trial (point_at a.printer s a.visits) i x) (point_at c.printer t c.visits) → c.sink ≡ a.sink
     → Chooses {A = A} {E = E} i x y a c (Err (Memory z))
 chooses_broke {i} {x} {a} {s} {z} broke same = record {
-  lessens = tt;
+  work_falls = tt;
   runs = λ run waiting.
       choice_refused (λ _. ⊥) z waiting (ap (λ (u : Seen). u.lender) same)
       (subst (λ (u : Seen). IfKnown a.sink.bytes u.bytes (λ out new. (new ≡ out) × (u.failures ≡ a.sink.failures))) (sym same)
       (λ is_known. (is_known, (refl, refl))))
-      broke.rise (λ plain none. broke.at_most (began_plain (attempt (point_at a.printer s a.visits) i x) plain none));
+      broke.rise (λ plain none. broke.at_most (began_plain (make_trial (point_at a.printer s a.visits) i x) plain none));
 }
 
 -- its trial is opened, and no other one is open
@@ -101,7 +101,7 @@ choice_opens {i} {x} {y} {a} {s} {vs} {q} none empty is_known text opens begun =
     record {
       before = s;
       empty = empty;
-      trials = subst (λ (u : List Held). Open (attempt start i x) y u (point_at q s a.visits)) (sym alone)
+      trials = subst (λ (u : List Held). Open (make_trial start i x) y u (point_at q s a.visits)) (sym alone)
           (open_begins y (record { marks = opens.marks; is_known = is_known; text = text }) begun);
       sink = refl;
     }

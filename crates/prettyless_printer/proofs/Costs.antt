@@ -11,11 +11,11 @@ use Rattle.prettyless_model.specs.Layout.{State}
 use Rattle.prettyless_model.specs.declared.mode.Mode.TheVariants.{Break}
 use Rattle.prettyless_model.specs.Tree.{Tree, size}
 use Rattle.prettyless_probe.specs.Stack.{Task, make_task, nodes}
-use Rattle.prettyless_step.specs.Steps.{owed}
+use Rattle.prettyless_step.specs.Steps.{pending_work}
 use Rattle.prettyless_probe.proofs.Sizes.{size_positive}
 use Rattle.prettyless_printer.specs.declared.answer.TrialState.TheVariants as trial_state
 use Rattle.prettyless_printer.specs.Points.{Standing, state_at, QueueGrows, Point, work_at}
-use Rattle.prettyless_printer.specs.Trials.{Attempt, OnTrial, Restores}
+use Rattle.prettyless_printer.specs.Trials.{Trial, TrialRunning, Restores}
 use Rattle.prettyless_printer.specs.Open.{BeginsTrial, Chain, Held, Link, Marked, Opens}
 use Rattle.prettyless_printer.proofs.Trying.{grows-grows, restored, restored_queue}
 use Rattle.prettyless_printer.proofs.Standings.{Flagged, Pushed}
@@ -30,7 +30,7 @@ lowest_tasks k ts = drop (length ts - k) ts
 -- the work that is left once a printer is back at a mark, with a second branch to come
 abbrev pub second_work : Standing → Held → ℕ
 second_work p u = 2 * size u.second
-    + (2 * nodes (lowest_tasks u.mark.commands p.tasks) + owed (drop u.mark.queue.start (take u.mark.queue.len p.queue)))
+    + (2 * nodes (lowest_tasks u.mark.commands p.tasks) + pending_work (drop u.mark.queue.start (take u.mark.queue.len p.queue)))
 
 -- what open trials may yet cost
 abbrev pub cost : Standing → List Held → ℕ
@@ -59,21 +59,21 @@ above-above p q r a b = (
 )
 
 -- a trial is above where it began
-above_trial : {t : Attempt} {below : ℕ} {b : Point} → OnTrial t below b → Above t.start.printer b.printer
+above_trial : {t : Trial} {below : ℕ} {b : Point} → TrialRunning t below b → Above t.start.printer b.printer
 above_trial h =
     let k = (h.path.bytes h.is_known).1.0 in
     (k.above, k.stack_is, h.path.queue)
 
 -- an inner trial began above where the outer one began
-above_link : (o : Attempt) (u : Held) (t : Attempt) → IsSome o.start.sink.bytes → Link o u t → Above o.start.printer t.start.printer
+above_link : (o : Trial) (u : Held) (t : Trial) → IsSome o.start.sink.bytes → Link o u t → Above o.start.printer t.start.printer
 above_link o u t is_known h =
     let w = h.choice.waiting in
     let k = (w.bytes is_known).1.0 in
     (k.above, k.stack_is, w.queue)
 
-above_chain : (o : Attempt) (us : List Held) (t : Attempt) (p : Standing) → IsSome o.start.sink.bytes → Chain o us t
+above_chain : (o : Trial) (us : List Held) (t : Trial) (p : Standing) → IsSome o.start.sink.bytes → Chain o us t
     → Above t.start.printer p → Above o.start.printer p
-above_chain o [] t p is_known h a = subst (λ (x : Attempt). Above x.start.printer p) h a
+above_chain o [] t p is_known h a = subst (λ (x : Trial). Above x.start.printer p) h a
 above_chain o (u ∷ us) t p is_known h a =
     above-above o.start.printer h.0.start.printer p (above_link o u h.0 is_known h.1)
     (above_chain h.0 us t p h.1.holds.marked.is_known h.2 a)
@@ -90,14 +90,14 @@ second_is u a p marked h =
     let front : take m.queue.len p.queue ≡ queue = ap (take m.queue.len) h.2.1 ∙ take_at queue h.2.0 m.queue.len (sym k.queued) in
     let waits : drop m.queue.start (take m.queue.len p.queue) ≡ drop a.printer.start queue =
     ap (λ (n : ℕ). drop n (take m.queue.len p.queue)) k.start ∙ ap (drop a.printer.start) front in
-    omega (arith, ap nodes back, ap owed waits)
+    omega (arith, ap nodes back, ap pending_work waits)
 
 -- what open trials may cost is the same as long as nothing of where they began is taken away
 cost_one : (u : Held) (a : Point) (p q : Standing) → Marked u.mark a → Above a.printer p → Above a.printer q
     → 2 ^ second_work p u ≡ 2 ^ second_work q u
 cost_one u a p q marked x y = ap (λ (z : ℕ). 2 ^ z) (second_is u a p marked x ∙ sym (second_is u a q marked y))
 
-cost_chain : (o : Attempt) (us : List Held) (t : Attempt) (p q : Standing) → Chain o us t → Above t.start.printer p
+cost_chain : (o : Trial) (us : List Held) (t : Trial) (p q : Standing) → Chain o us t → Above t.start.printer p
     → Above t.start.printer q → cost p us ≡ cost q us
 cost_chain o [] t p q h a b = refl
 cost_chain o (u ∷ us) t p q h a b =
@@ -109,7 +109,7 @@ cost_chain o (u ∷ us) t p q h a b =
       cost_chain c us t p q h.2 a b,
     )
 
-cost_same : (s : Attempt) (u : Held) (us : List Held) (t : Attempt) (p q : Standing) → Marked u.mark s.start → Chain s us t
+cost_same : (s : Trial) (u : Held) (us : List Held) (t : Trial) (p q : Standing) → Marked u.mark s.start → Chain s us t
     → Above t.start.printer p → Above t.start.printer q → cost p (u ∷ us) ≡ cost q (u ∷ us)
 cost_same s u us t p q marked h a b =
     omega (
@@ -134,7 +134,7 @@ pow_two a b (suc c) l h = omega (arith, two-pow-succ c, pow_le a c (omega arith)
 
 -- # The measure falls
 
-module _ {N E : Type 0} {f : N → Tree} {s : Attempt} {y : Tree} {a b : Point} where
+module _ {N E : Type 0} {f : N → Tree} {s : Trial} {y : Tree} {a b : Point} where
   -- the innermost trial goes on
   pub less_goes : {us : List Held} → Took {E = E} f s y us a b (Ok trial_state.Running) → left_at b us < left_at a us
   less_goes {us = []} h = absurd h.trials
@@ -167,7 +167,7 @@ module _ {N E : Type 0} {f : N → Tree} {s : Attempt} {y : Tree} {a b : Point} 
       let split = ap (cost q) opens.more ∙ cost_push q (o ∷ us) u in
       let second = second_is u b q marked over_b in
       let first : work_at c ≡ 2 * size (f x) + work_at b =
-      omega (arith, ap nodes begins.tasks, ap (λ (i : State). owed i.pending) begins.state) in
+      omega (arith, ap nodes begins.tasks, ap (λ (i : State). pending_work i.pending) begins.state) in
       let two = pow_two (work_at c) (second_work q u) (work_at a - 1)
       (omega (arith, first, second, k.1, size_positive (f z), size_positive (f x)))
       (omega (arith, first, second, k.1, size_positive (f z), size_positive (f x))) in
@@ -193,7 +193,7 @@ module _ {N E : Type 0} {f : N → Tree} {s : Attempt} {y : Tree} {a b : Point} 
       (above-above p.trial.start.printer t.start.printer q link over) in
       omega (
         arith,
-        pow_le (work_at c) (work_at a) (omega (arith, z.1, ap nodes kept.tasks, ap (λ (i : State). owed i.pending) kept.state)),
+        pow_le (work_at c) (work_at a) (omega (arith, z.1, ap nodes kept.tasks, ap (λ (i : State). pending_work i.pending) kept.state)),
         same,
         cost_push a.printer (o ∷ vs) u,
         pow_one (second_work a.printer u),
@@ -229,8 +229,8 @@ module _ {N E : Type 0} {f : N → Tree} {s : Attempt} {y : Tree} {a b : Point} 
         arith,
         ap nodes pushed.tasks,
         ap nodes tasks_r,
-        ap (λ (i : State). owed i.pending) pushed.state,
-        ap (λ (i : State). owed i.pending) state_r,
+        ap (λ (i : State). pending_work i.pending) pushed.state,
+        ap (λ (i : State). pending_work i.pending) state_r,
         second_is u t.start a.printer start (above_trial k.on),
       ) in
       omega (arith, ap (λ (z : ℕ). 2 ^ z) work, same, cost_push a.printer (o ∷ vs) u, pow_one (work_at a))

@@ -6,7 +6,7 @@ use Rattle.prettyless_sink.specs.declared.visits.Visits.{Visits}
 use Rattle.prettyless_model.specs.Tree.{Tree}
 use Rattle.prettyless_model.specs.Layout.{State}
 use Rattle.prettyless_probe.specs.Stack.{trees}
-use Rattle.prettyless_step.specs.Steps.{owed, work}
+use Rattle.prettyless_step.specs.Steps.{pending_work, work}
 use Rattle.prettyless_step.specs.Printing.{tasks_of}
 use Rattle.prettyless_step.specs.declared.printer.Printer.{Printer}
 use Rattle.prettyless_step.specs.declared.queue.Queue.{Queue}
@@ -36,7 +36,7 @@ path_requeued {a} {b} ds n same path =
       options = path.options;
       queue = (ds, refl);
       same_lender = path.same_lender;
-      less = omega (arith, path.less, ap owed same);
+      less = omega (arith, path.less, ap pending_work same);
       bytes = λ is_known.
           let y = path.bytes is_known in (
             y.0,
@@ -62,7 +62,7 @@ path_forgets f {a} p q s v same path =
 -- the work that is left
 pub work_forgets : {N : Type 0} (f : N → Tree) (p : Printer N) (q : Queue N) → PendingSame p.queue q
     → work (tasks_of f p) (state_at (standing f (record p { queue = q }))) ≡ work (tasks_of f p) (state_at (standing f p))
-work_forgets f p q same = omega (arith, ap owed (pending_same f p.queue q same))
+work_forgets f p q same = omega (arith, ap pending_work (pending_same f p.queue q same))
 
 no_nodes : {N : Type 0} (f : N → Tree) (ns : List N) → trees f ns ≡ [] → length ns ≤ 0
 no_nodes f [] none = omega arith

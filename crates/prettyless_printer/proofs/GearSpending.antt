@@ -12,15 +12,15 @@ use Rattle.prettyless_printer.specs.declared.gear.Gears.{Gears}
 use Rattle.prettyless_printer.specs.Points.{Standing, standing}
 use Rattle.prettyless_printer.specs.Gears.{probe_limit}
 use Rattle.prettyless_printer.specs.Open.{Held, seconds}
-use Rattle.prettyless_printer.specs.Linear.{IsFew, IsLinearStart}
-use Rattle.prettyless_printer.specs.Spending.{AllHave, Left, Spends, left, left_nodes, none_left, rule_of}
+use Rattle.prettyless_printer.specs.Linear.{IsLinearBound, IsLinearStart}
+use Rattle.prettyless_printer.specs.Spending.{AllHaveSummaries, Left, Spends, left, left_nodes, none_left, rule_of}
 
 -- How far a run in first gear has come, from n nodes: what is left allows for two visits of a node each.
 pub record Within (n : ℕ) (v : Visits) (l : Left) : Type 0 where
   pub left : left_nodes l ≤ n
   pub printer : l.visits.printer + left_nodes l ≤ v.printer + n
   pub queue : l.queue ≡ []
-  pub have : AllHave l
+  pub have : AllHaveSummaries l
   pub probes : l.visits.probes + 2 * left_nodes l ≤ v.probes + (16 * n + 1000)
 
 pub within_start : (p : Standing) (us : List Held) (v : Visits) → us ≡ [] → IsLinearStart p
@@ -57,30 +57,30 @@ within_goes {n} {v} {a} {b} has o g limit is start next h k =
     }
 
 -- it is done
-pub within_few : {n : ℕ} {v : Visits} {l : Left} → Within n v l → IsFew 16 1000 n v l.visits
+pub within_few : {n : ℕ} {v : Visits} {l : Left} → Within n v l → IsLinearBound 16 1000 n v l.visits
 within_few {n} {v} {l} h room = omega (arith, h.probes)
 
 -- what is left in second gear visits two nodes for each visit of the printer
 pub over_table : (o : RenderOptions) {limit : ℕ} {a : Left} {w : Visits} → Spends (rule_of true o limit) a (none_left w) → o.width < 2 ^ 32
-    → left_nodes a < 2 ^ 32 → AllHave a →
+    → left_nodes a < 2 ^ 32 → AllHaveSummaries a →
     a.visits.printer + left_nodes a < 2 ^ 64 - 1 → w.probes ≤ a.visits.probes + 2 * left_nodes a
 over_table o {limit} {a} {w} h width small have room =
     let k = h.few refl width small have in
     omega (arith, k.1, k.2, h.printer, room)
 
 pub within_over : {n : ℕ} {v w : Visits} {a : Left} (o : RenderOptions) {limit : ℕ} → Within n v a
-    → Spends (rule_of true o limit) a (none_left w) → o.width < 2 ^ 32 → n ≤ 4294967294 → IsFew 16 1000 n v w
+    → Spends (rule_of true o limit) a (none_left w) → o.width < 2 ^ 32 → n ≤ 4294967294 → IsLinearBound 16 1000 n v w
 within_over {n} {v} {w} {a} o {limit} h k width small room =
     omega (arith, over_table o k width (omega (arith, h.left, small)) h.have (omega (arith, h.printer, room)), h.probes)
 
 -- over a table from the first node on
 pub all_over : {w v : Visits} {p : Standing} {limit : ℕ} → IsLinearStart p → Spends (rule_of true p.options limit) (left p [] v)
-    (none_left w) → IsFew 2 0 (nodes p.tasks) v w
+    (none_left w) → IsLinearBound 2 0 (nodes p.tasks) v w
 all_over {w} {v} {p} {limit} linear k room =
     omega (arith, over_table p.options k linear.width (omega (arith, linear.size)) (linear.have, tt) (omega (arith, room)))
 
 -- twice as many are few
-pub few_more : (n : ℕ) (v w : Visits) → IsFew 2 0 n v w → IsFew 16 1000 n v w
+pub few_more : (n : ℕ) (v w : Visits) → IsLinearBound 2 0 n v w → IsLinearBound 16 1000 n v w
 few_more n v w h room = omega (arith, h room)
 
 queue_none : {N : Type 0} (f : N → Tree) (xs : List N) → trees f xs ≡ [] → sum_by (λ n. size (f n)) xs ≡ 0

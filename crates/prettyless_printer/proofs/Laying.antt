@@ -16,9 +16,9 @@ use Rattle.prettyless_probe.specs.Stack.{Task, make_task, nodes, trees}
 use Rattle.prettyless_probe.specs.Texts.{IsTexts, texts_waiting}
 use Rattle.prettyless_probe.specs.Probing.{RisesBy}
 use Rattle.prettyless_probe.specs.Sums.{HaveSummaries}
-use Rattle.prettyless_step.specs.Printing.{Hands}
+use Rattle.prettyless_step.specs.Printing.{Descends}
 use Rattle.prettyless_step.specs.declared.printer.Printer.{Printer}
-use Rattle.prettyless_step.proofs.Shown.{step_at, Leads}
+use Rattle.prettyless_step.proofs.Shown.{step_at, StepsTo}
 use Rattle.prettyless_step.proofs.Queues.{trees-append}
 use Rattle.prettyless_printer.specs.Points.{QueueGrows, Standing, standing, state_at, Seen, Point, point_at, point}
 use Rattle.prettyless_printer.specs.Progress.{Inside}
@@ -29,36 +29,36 @@ use Rattle.prettyless_printer.specs.Laying.{Laying, Lays, flat_tasks, laid_to, l
 use Rattle.prettyless_printer.specs.Spending.{Left, Rule, Spends, left}
 use Rattle.prettyless_printer.specs.declared.answer.TurnResult.TheVariants as turn_result
 use Rattle.prettyless_printer.proofs.Spending.{left_with, spends_then}
-use Rattle.prettyless_printer.proofs.Hands.{InHand, Visit, goes_down}
-use Rattle.prettyless_printer.proofs.Standings.{put_in_hand, step_from}
+use Rattle.prettyless_printer.proofs.Descends.{InHand, Visit, goes_down}
+use Rattle.prettyless_printer.proofs.Standings.{descended, step_from}
 use Rattle.prettyless_printer.proofs.Trying.{grows-grows}
-use Rattle.prettyless_printer.proofs.Turnings.{lessens, sink_broke, went}
-use Rattle.prettyless_printer.proofs.Visits.{OneMore, at_most_all, at_most_then, failed_at_most, rise_then, went_at_most}
-use Rattle.prettyless_printer.proofs.AtLeast.{OneLaid, at_least_then, went_at_least}
+use Rattle.prettyless_printer.proofs.Turnings.{work_falls, sink_broke, move_inside}
+use Rattle.prettyless_printer.proofs.Visits.{OneMore, at_most_all, at_most_then, failed_at_most, rise_then, move_at_most}
+use Rattle.prettyless_printer.proofs.AtLeast.{OneLaid, at_least_then, move_at_least}
 
 -- A task that needs no probe was visited, once.
-pub record Once (t : Task) (v x : Visits) : Type 0 where
+pub record VisitedOnce (t : Task) (v x : Visits) : Type 0 where
   pub least : rise v.printer ≤ x.printer
   pub rises : v.printer ≤ x.printer
   pub most : x.printer ≤ v.printer + 1
   pub probes : x.probes ≡ v.probes
   pub asks : each_probe t.tree t.mode ≡ 0
 
-once_more : (o : RenderOptions) (t : Task) (ts : List Task) (st : State) (v x : Visits) → Once t v x → OneMore o t ts st v x
+once_more : (o : RenderOptions) (t : Task) (ts : List Task) (st : State) (v x : Visits) → VisitedOnce t v x → OneMore o t ts st v x
 once_more o t ts st v x h = record { printer = omega (arith, h.most); probes = omega (arith, h.probes) }
 
-once_laid : (t : Task) (v x : Visits) → Once t v x → OneLaid t v x
+once_laid : (t : Task) (v x : Visits) → VisitedOnce t v x → OneLaid t v x
 once_laid t v x h = record { printer = h.least; probes = omega (arith, h.probes, h.asks) }
 
-once_rise : {t : Task} {v x : Visits} → Once t v x → Rise v x
+once_rise : {t : Task} {v x : Visits} → VisitedOnce t v x → Rise v x
 once_rise {t} {v} {x} h = record { printer = h.rises; probes = omega (arith, h.probes) }
 
 -- The step of the first of the tasks above the stack: it writes bytes and leads to these ones.
-pub record LeadsOn (a : Point) (t : Task) (us : List Task) (b : Point) (vs : List Task) (q : Standing) (bytes : List ℕ) : Type 0 where
+pub record FirstStepsTo (a : Point) (t : Task) (us : List Task) (b : Point) (vs : List Task) (q : Standing) (bytes : List ℕ) : Type 0 where
   pub tasks : q.tasks ≡ b.printer.tasks
   pub options : q.options ≡ b.printer.options
   pub grows : QueueGrows b.printer q
-  pub leads : Leads (step_at a.printer.options t (us ++ b.printer.tasks) (state_at b.printer)) (us ++ b.printer.tasks) bytes
+  pub steps_to : StepsTo (step_at a.printer.options t (us ++ b.printer.tasks) (state_at b.printer)) (us ++ b.printer.tasks) bytes
       (vs ++ b.printer.tasks) (state_at q)
   pub fewer : nodes vs + 1 ≤ size t.tree + nodes us
 
@@ -68,8 +68,8 @@ below_long us ts n m l h = omega (arith, l, h, length-append us ts)
 
 -- the first of the tasks above the stack is laid
 pub laying_step : {a : Point} {t : Task} {us : List Task} {b : Point} (vs : List Task) (q : Standing) (s : Seen) (x : Visits)
-    (bytes : List ℕ) → Laying a (t ∷ us) b → Once t b.visits x →
-    LeadsOn a t us b vs q bytes → s.lender ≡ b.sink.lender → Accepts b.sink.bytes s.bytes bytes b.sink.failures s.failures →
+    (bytes : List ℕ) → Laying a (t ∷ us) b → VisitedOnce t b.visits x →
+    FirstStepsTo a t us b vs q bytes → s.lender ≡ b.sink.lender → Accepts b.sink.bytes s.bytes bytes b.sink.failures s.failures →
     Laying a vs (point_at q s x)
 laying_step {a} {t} {us} {b} vs q s x bytes h once w lender accepts =
     let o = a.printer.options in
@@ -84,7 +84,7 @@ laying_step {a} {t} {us} {b} vs q s x bytes h once w lender accepts =
       grows = grows-grows a.printer b.printer q h.grows w.grows;
       same_lender = lender ∙ h.same_lender;
       long = h.long;
-      less = omega (arith, h.less, lessens o t ts new st u bytes w.leads);
+      less = omega (arith, h.less, work_falls o t ts new st u bytes w.steps_to);
       bytes = λ is_known.
           let y = h.bytes is_known in
           let z = accepts y.0 in (
@@ -92,9 +92,9 @@ laying_step {a} {t} {us} {b} vs q s x bytes h once w lender accepts =
             (
               λ whole limit below before l m.
                   subst (λ (k : List ℕ). Inside o whole limit below before new u k) (sym z.1.0)
-                  (went o whole limit below before t ts new st u (known b.sink.bytes) bytes
+                  (move_inside o whole limit below before t ts new st u (known b.sink.bytes) bytes
                   (below_long us b.printer.tasks (length below) (length a.printer.tasks) l h.long)
-                  (y.1.0 whole limit below before l m) w.leads),
+                  (y.1.0 whole limit below before l m) w.steps_to),
               z.1.1 ∙ y.1.1,
             ),
           );
@@ -103,11 +103,11 @@ laying_step {a} {t} {us} {b} vs q s x bytes h once w lender accepts =
       most = omega (arith, h.most, once.most, w.fewer);
       at_most = λ plain.
           let y = h.at_most plain in
-          let z = went_at_most new u bytes more y.0 w.leads in
+          let z = move_at_most new u bytes more y.0 w.steps_to in
           (z.0, at_most_then y.1 z.1);
       at_least = λ j l. at_least_then (h.at_least j l)
-          (went_at_least o j ts new st u bytes (once_laid t b.visits x once)
-          (below_long us b.printer.tasks j (length a.printer.tasks) l h.long) w.leads);
+          (move_at_least o j ts new st u bytes (once_laid t b.visits x once)
+          (below_long us b.printer.tasks j (length a.printer.tasks) l h.long) w.steps_to);
     } in
     subst (λ (k : List Task). Laying a vs (point_at (record q { tasks = k }) s x)) (sym w.tasks) goal
 
@@ -116,7 +116,7 @@ pub laying_done : {N E : Type 0} (f : N → Tree) {a b : Point} → Laying a [] 
 laying_done {N} {E} f {a} {b} h = record {
   options = h.options;
   grows = h.grows;
-  lessens = h.less;
+  work_falls = h.less;
   same_lender = h.same_lender;
   bytes = h.bytes;
   least = h.least;
@@ -131,7 +131,7 @@ laying_done {N} {E} f {a} {b} h = record {
 }
 
 -- what ended in an error at a task has counted no more than the tasks allow
-laying_broke : {a : Point} {t : Task} {us : List Task} {b : Point} {x : Visits} → Laying a (t ∷ us) b → Once t b.visits x →
+laying_broke : {a : Point} {t : Task} {us : List Task} {b : Point} {x : Visits} → Laying a (t ∷ us) b → VisitedOnce t b.visits x →
     Plain a.printer → CountsAtMost a.printer.tasks [] a.visits x
 laying_broke {a} {t} {us} {b} {x} h once plain =
     let ts : List Task = us ++ b.printer.tasks in
@@ -143,7 +143,7 @@ laying_broke {a} {t} {us} {b} {x} h once plain =
 pub laying_sink_failed : {N E : Type 0} (f : N →
     Tree) {a : Point} {t : Task} {us : List Task} {b : Point} (vs : List Task) (p q : Standing) (s : Seen) (x : Visits) (bytes : List ℕ)
     (e : E) → Laying a (t ∷ us) b →
-    Once t b.visits x → LeadsOn a t us b vs q bytes → 1 ≤ size t.tree → s.lender ≡ b.sink.lender →
+    VisitedOnce t b.visits x → FirstStepsTo a t us b vs q bytes → 1 ≤ size t.tree → s.lender ≡ b.sink.lender →
     Refuses b.sink.bytes s.bytes bytes b.sink.failures s.failures →
     Advances {N = N} {E = E} f a (point_at p s x) (Err (Sink e))
 laying_sink_failed {N} {E} f {a} {t} {us} {b} vs p q s x bytes e h once w size_1 lender refused =
@@ -154,7 +154,7 @@ laying_sink_failed {N} {E} f {a} {t} {us} {b} vs p q s x bytes e h once w size_1
     record {
       options = tt;
       grows = tt;
-      lessens = tt;
+      work_falls = tt;
       same_lender = lender ∙ h.same_lender;
       bytes = λ is_known.
           let y = h.bytes is_known in
@@ -164,7 +164,7 @@ laying_sink_failed {N} {E} f {a} {t} {us} {b} vs p q s x bytes e h once w size_1
               λ whole limit below old l m.
                   sink_broke o whole limit below old t ts new st (state_at q) (known b.sink.bytes) bytes (known s.bytes)
                   (below_long us b.printer.tasks (length below) (length a.printer.tasks) l h.long)
-                  (y.1.0 whole limit below old l m) w.leads z.1.0,
+                  (y.1.0 whole limit below old l m) w.steps_to z.1.0,
               z.1.1 ∙ ap rise y.1.1,
             ),
           );
@@ -179,7 +179,7 @@ laying_sink_failed {N} {E} f {a} {t} {us} {b} vs p q s x bytes e h once w size_1
 pub laying_begins : {N : Type 0} (f : N →
     Tree) {a : Point} {t : Task} {s : Seen} {v : Visits} (p q : Printer N) (x : Visits) (i : ℕ) (n : N) → InHand a t (point f p s v) →
     Visit a.printer.options t (point f p s v) x →
-    RisesBy (each_probe t.tree t.mode) v.probes x.probes → Hands f i Flat n (step_from a.printer.options t (standing f p)) p q →
+    RisesBy (each_probe t.tree t.mode) v.probes x.probes → Descends f i Flat n (step_from a.printer.options t (standing f p)) p q →
     Laying a (make_task i Flat (f n) ∷ []) (point f q s x)
 laying_begins {N} f {a} {t} {s} {v} p q x i n h one probes shows =
     let b = point f p s v in
@@ -188,13 +188,13 @@ laying_begins {N} f {a} {t} {s} {v} p q x i n h one probes shows =
     let ts : List Task = b.printer.tasks in
     let us : List Task = make_task i Flat (f n) ∷ c.tasks in
     let g = goes_down f p q x i Flat n h one probes shows in
-    let k = put_in_hand f i Flat n (step_at o t ts (state_at b.printer)) p q shows in
+    let k = descended f i Flat n (step_at o t ts (state_at b.printer)) p q shows in
     record {
       options = g.options;
       grows = g.grows;
       same_lender = ap (λ (z : Seen). z.lender) g.sink;
       long = g.long;
-      less = omega (arith, h.less, lessens o t ts us (state_at b.printer) (state_at c) [] k.leads);
+      less = omega (arith, h.less, work_falls o t ts us (state_at b.printer) (state_at c) [] k.steps_to);
       bytes = λ is_known.
           subst (λ (z : Seen). IfKnown a.sink.bytes z.bytes (λ out new.
           ForWholes a.printer out (λ whole limit below old. Inside o whole limit below old us (state_at c) new)
@@ -223,89 +223,89 @@ head d ds [] = record { at = 0; others = []; is_it = refl }
 head d ds (i ∷ is) = record { at = i; others = is; is_it = refl }
 
 -- the steps of the first document: it puts some in its place, each flat, and writes nothing
-laying_leads : {a : Point} {i : ℕ} {d : Tree} {us : List Task} {b : Point} (vs : List Task) (x : Visits) →
-    Laying a (make_task i Flat d ∷ us) b → Once (make_task i Flat d) b.visits x →
-    Leads (step_at a.printer.options (make_task i Flat d) (us ++ b.printer.tasks) (state_at b.printer)) (us ++ b.printer.tasks) []
+laying_steps_to : {a : Point} {i : ℕ} {d : Tree} {us : List Task} {b : Point} (vs : List Task) (x : Visits) →
+    Laying a (make_task i Flat d ∷ us) b → VisitedOnce (make_task i Flat d) b.visits x →
+    StepsTo (step_at a.printer.options (make_task i Flat d) (us ++ b.printer.tasks) (state_at b.printer)) (us ++ b.printer.tasks) []
     (vs ++ b.printer.tasks) (state_at b.printer) → nodes vs + 1 ≤ size d + nodes us →
     Laying a vs (point_at b.printer b.sink x)
-laying_leads {a} {i} {d} {us} {b} vs x h once leads fewer =
+laying_steps_to {a} {i} {d} {us} {b} vs x h once steps_to fewer =
     laying_step vs b.printer b.sink x [] h once
-    (record { tasks = refl; options = refl; grows = ([], sym (append-nil b.printer.queue)); leads = leads; fewer = fewer }) refl
+    (record { tasks = refl; options = refl; grows = ([], sym (append-nil b.printer.queue)); steps_to = steps_to; fewer = fewer }) refl
     (λ is_known. (is_known, (sym (append-nil (known b.sink.bytes)), refl)))
 
 -- one document after another
 pub lays_append : {a : Point} {b : Point} (l r : Tree) (ds : List Tree) (x : Visits) → Lays a (Append l r ∷ ds) b → ((i : ℕ) →
-    Once (make_task i Flat (Append l r)) b.visits x) → Lays a (l ∷ r ∷ ds) (point_at b.printer b.sink x)
+    VisitedOnce (make_task i Flat (Append l r)) b.visits x) → Lays a (l ∷ r ∷ ds) (point_at b.printer b.sink x)
 lays_append {a} {b} l r ds x h once =
     let k = head (Append l r) ds h.0 in (
       k.at ∷ k.at ∷ k.others,
-      laying_leads (make_task k.at Flat l ∷ make_task k.at Flat r ∷ flat_tasks k.others ds) x
+      laying_steps_to (make_task k.at Flat l ∷ make_task k.at Flat r ∷ flat_tasks k.others ds) x
           (subst (λ (us : List Task). Laying a us b) k.is_it h.1) (once k.at) (refl, refl, refl) (omega arith),
     )
 
 -- a document in the place of another one
 pub lays_nest : {a : Point} {b : Point} (k : ℤ) (d : Tree) (ds : List Tree) (x : Visits) → Lays a (Nest k d ∷ ds) b → ((i : ℕ) →
-    Once (make_task i Flat (Nest k d)) b.visits x) → Lays a (d ∷ ds) (point_at b.printer b.sink x)
+    VisitedOnce (make_task i Flat (Nest k d)) b.visits x) → Lays a (d ∷ ds) (point_at b.printer b.sink x)
 lays_nest {a} {b} k d ds x h once =
     let z = head (Nest k d) ds h.0 in (
       nested z.at k ∷ z.others,
-      laying_leads (make_task (nested z.at k) Flat d ∷ flat_tasks z.others ds) x (subst (λ (us : List Task). Laying a us b) z.is_it h.1)
+      laying_steps_to (make_task (nested z.at k) Flat d ∷ flat_tasks z.others ds) x (subst (λ (us : List Task). Laying a us b) z.is_it h.1)
           (once z.at) (refl, refl, refl) (omega arith),
     )
 
 pub lays_group : {a : Point} {b : Point} (d : Tree) (ds : List Tree) (x : Visits) → Lays a (Group d ∷ ds) b → ((i : ℕ) →
-    Once (make_task i Flat (Group d)) b.visits x) → Lays a (d ∷ ds) (point_at b.printer b.sink x)
+    VisitedOnce (make_task i Flat (Group d)) b.visits x) → Lays a (d ∷ ds) (point_at b.printer b.sink x)
 lays_group {a} {b} d ds x h once =
     let z = head (Group d) ds h.0 in (
       z.at ∷ z.others,
-      laying_leads (make_task z.at Flat d ∷ flat_tasks z.others ds) x (subst (λ (us : List Task). Laying a us b) z.is_it h.1) (once z.at)
+      laying_steps_to (make_task z.at Flat d ∷ flat_tasks z.others ds) x (subst (λ (us : List Task). Laying a us b) z.is_it h.1) (once z.at)
           (refl, refl, refl) (omega arith),
     )
 
 pub lays_either : {a : Point} {b : Point} (c d : Tree) (ds : List Tree) (x : Visits) → Lays a (BreakOrFlat c d ∷ ds) b → ((i : ℕ) →
-    Once (make_task i Flat (BreakOrFlat c d)) b.visits x) → Lays a (d ∷ ds) (point_at b.printer b.sink x)
+    VisitedOnce (make_task i Flat (BreakOrFlat c d)) b.visits x) → Lays a (d ∷ ds) (point_at b.printer b.sink x)
 lays_either {a} {b} c d ds x h once =
     let z = head (BreakOrFlat c d) ds h.0 in (
       z.at ∷ z.others,
-      laying_leads (make_task z.at Flat d ∷ flat_tasks z.others ds) x (subst (λ (us : List Task). Laying a us b) z.is_it h.1) (once z.at)
+      laying_steps_to (make_task z.at Flat d ∷ flat_tasks z.others ds) x (subst (λ (us : List Task). Laying a us b) z.is_it h.1) (once z.at)
           (refl, refl, refl) (omega arith),
     )
 
 -- nothing
 pub lays_nil : {a : Point} {b : Point} (ds : List Tree) (x : Visits) → Lays a (Nil ∷ ds) b → ((i : ℕ) →
-    Once (make_task i Flat Nil) b.visits x) → Lays a ds (point_at b.printer b.sink x)
+    VisitedOnce (make_task i Flat Nil) b.visits x) → Lays a ds (point_at b.printer b.sink x)
 lays_nil {a} {b} ds x h once =
     let z = head Nil ds h.0 in (
       z.others,
-      laying_leads (flat_tasks z.others ds) x (subst (λ (us : List Task). Laying a us b) z.is_it h.1) (once z.at)
+      laying_steps_to (flat_tasks z.others ds) x (subst (λ (us : List Task). Laying a us b) z.is_it h.1) (once z.at)
           (refl, refl, refl) (omega arith),
     )
 
 pub lays_empty : {a : Point} {b : Point} (s : List ℕ) (ds : List Tree) (x : Visits) → s ≡ [] → Lays a (Text s ∷ ds) b → ((i : ℕ) →
-    Once (make_task i Flat (Text s)) b.visits x) → Lays a ds (point_at b.printer b.sink x)
+    VisitedOnce (make_task i Flat (Text s)) b.visits x) → Lays a ds (point_at b.printer b.sink x)
 lays_empty {a} {b} [] ds x e h once =
     let z = head (Text []) ds h.0 in (
       z.others,
-      laying_leads (flat_tasks z.others ds) x (subst (λ (us : List Task). Laying a us b) z.is_it h.1) (once z.at)
+      laying_steps_to (flat_tasks z.others ds) x (subst (λ (us : List Task). Laying a us b) z.is_it h.1) (once z.at)
           (refl, refl, refl) (omega arith),
     )
 lays_empty {a} {b} (c ∷ cs) ds x e h once = absurd (cc)
 
 -- How a text is laid where a printer stands: after so many spaces, from a position on.
-abbrev pub Spot : Standing → Bool → ℕ → ℕ → Type 0
-Spot p false gap position = (gap ≡ Rattle.prettyless_model.specs.Column.gap p.column) × (position ≡ prospective p.column)
-Spot p true gap position = (gap ≡ 0) × (position < 2 ^ 64)
+abbrev pub TextStart : Standing → Bool → ℕ → ℕ → Type 0
+TextStart p false gap position = (gap ≡ Rattle.prettyless_model.specs.Column.gap p.column) × (position ≡ prospective p.column)
+TextStart p true gap position = (gap ≡ 0) × (position < 2 ^ 64)
 
 within_less : (w : Bool) (n m width : ℕ) → n ≤ m → (w && nat_le m width) ≡ ((w && nat_le n width) && nat_le m width)
 within_less false n m width l = refl
 within_less true n m width l = grind (arith)
 
-text_leads : (o : RenderOptions) (p : Standing) (w : Bool) (g position : ℕ) (s : List ℕ) (i : ℕ) (ts : List Task) → o ≡ p.options →
-    0 < length s → Spot p w g position →
-    Leads (step_at o (make_task i Flat (Text s)) ts (state_at (laid_to p w position))) ts (spaces g ++ s) ts
+text_steps_to : (o : RenderOptions) (p : Standing) (w : Bool) (g position : ℕ) (s : List ℕ) (i : ℕ) (ts : List Task) → o ≡ p.options →
+    0 < length s → TextStart p w g position →
+    StepsTo (step_at o (make_task i Flat (Text s)) ts (state_at (laid_to p w position))) ts (spaces g ++ s) ts
     (state_at (laid_to p true (saturating_add position (length s))))
-text_leads o p w g position [] i ts e l h = absurd (omega (arith, l))
-text_leads o p false g position (c ∷ cs) i ts e l h =
+text_steps_to o p w g position [] i ts e l h = absurd (omega (arith, l))
+text_steps_to o p false g position (c ∷ cs) i ts e l h =
     let s : List ℕ = c ∷ cs in (
       ap (λ (k : ℕ). spaces k ++ s) h.0,
       refl,
@@ -315,7 +315,7 @@ text_leads o p false g position (c ∷ cs) i ts e l h =
         within = p.within && nat_le (saturating_add (h.1 j) (length s)) (sym e j).width;
       },
     )
-text_leads o p true g position (c ∷ cs) i ts e l h =
+text_steps_to o p true g position (c ∷ cs) i ts e l h =
     let s : List ℕ = c ∷ cs in
     let at : position ≡ prospective (record { position = position; indent = 0; padding = 0; fresh = false }) = omega (arith, h.1) in
     let after = saturating_add position (length s) in
@@ -341,9 +341,9 @@ text_leads o p true g position (c ∷ cs) i ts e l h =
 pub record AtText (a : Point) (p : Standing) (w : Bool) (g position : ℕ) (s : List ℕ) (ds : List Tree) (sink : Seen)
     (v x : Visits) : Type 0 where
   pub lays : Lays a (Text s ∷ ds) (point_at (laid_to p w position) sink v)
-  pub once : (i : ℕ) → Once (make_task i Flat (Text s)) v x
+  pub once : (i : ℕ) → VisitedOnce (make_task i Flat (Text s)) v x
   pub some : 0 < length s
-  pub spot : Spot p w g position
+  pub spot : TextStart p w g position
   pub options : p.options ≡ a.printer.options
 
 stands_options : (p : Standing) (w : Bool) (position : ℕ) → (laid_to p w position).options ≡ p.options
@@ -359,14 +359,14 @@ stands_grows p false m n = ([], sym (append-nil p.queue))
 stands_grows p true m n = ([], sym (append-nil p.queue))
 
 text_writes : (a : Point) (p : Standing) (w : Bool) (g position : ℕ) (s : List ℕ) (i : ℕ) (us : List Task) (sink : Seen) (v : Visits) →
-    p.options ≡ a.printer.options → 0 < length s → Spot p w g position →
-    LeadsOn a (make_task i Flat (Text s)) us (point_at (laid_to p w position) sink v) us
+    p.options ≡ a.printer.options → 0 < length s → TextStart p w g position →
+    FirstStepsTo a (make_task i Flat (Text s)) us (point_at (laid_to p w position) sink v) us
     (laid_to p true (saturating_add position (length s))) (spaces g ++ s)
 text_writes a p w g position s i us sink v e l h = record {
   tasks = sym (stands_tasks p w position);
   options = sym (stands_options p w position);
   grows = stands_grows p w position (saturating_add position (length s));
-  leads = text_leads a.printer.options p w g position s i (us ++ (laid_to p w position).tasks) (sym e) l h;
+  steps_to = text_steps_to a.printer.options p w g position s i (us ++ (laid_to p w position).tasks) (sym e) l h;
   fewer = omega arith;
 }
 
@@ -424,12 +424,12 @@ pub record Laid (first : Tree) (b : Point) (ds : List Tree) (w : Bool) (g positi
   pub lays : (a : Point) (i : ℕ) → Laying a (make_task i Flat first ∷ []) b
       → Lays a ds (point_at (laid_to b.printer w position) sink (record b.visits { printer = count }))
   pub texts : AllTexts ds
-  pub spot : Spot b.printer w g position
+  pub spot : TextStart b.printer w g position
   pub rises : b.visits.printer ≤ count
   pub counted : count + sizes ds ≤ b.visits.printer + size first
 
 once_at : (d : Tree) (v : Visits) {count n : ℕ} → OneNode count n → each_probe d Flat ≡ 0 → (i : ℕ) →
-    Once (make_task i Flat d) (record v { printer = count }) (record v { printer = n })
+    VisitedOnce (make_task i Flat d) (record v { printer = count }) (record v { printer = n })
 once_at d v {count} {n} h e i = record { least = omega (arith, h.one); rises = h.rises; most = h.at_most; probes = refl; asks = e }
 
 -- the same, where it is named otherwise

@@ -16,7 +16,7 @@ pub mod Shifts
 pub mod Contents
 pub mod Visits
 pub mod AtLeast
-pub mod Hands
+pub mod Descends
 pub mod Laying
 pub mod Advancing
 pub mod Spending

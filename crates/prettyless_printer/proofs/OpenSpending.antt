@@ -9,16 +9,16 @@ use Rattle.prettyless_model.specs.declared.options.RenderOptions.{RenderOptions}
 use Rattle.prettyless_model.specs.declared.mode.Mode.TheVariants.{Break}
 use Rattle.prettyless_model.specs.Tree.{Tree, size}
 use Rattle.prettyless_model.specs.Content.{suffix_depth}
-use Rattle.prettyless_summary.specs.Summary.{HasSums}
+use Rattle.prettyless_summary.specs.Summary.{HasSummaries}
 use Rattle.prettyless_probe.specs.Stack.{Task, make_task, nodes}
-use Rattle.prettyless_probe.specs.Sums.{HaveSummaries, TreesHave}
+use Rattle.prettyless_probe.specs.Sums.{HaveSummaries, TreesHaveSummaries}
 use Rattle.prettyless_probe.proofs.Stacks.{nodes-append}
 use Rattle.prettyless_printer.specs.Points.{Seen, Standing, Point}
 use Rattle.prettyless_printer.specs.Visits.{Plain}
-use Rattle.prettyless_printer.specs.Trials.{Attempt, Restores}
+use Rattle.prettyless_printer.specs.Trials.{Trial, Restores}
 use Rattle.prettyless_printer.specs.Open.{BeginsTrial, Chain, Held, Open, Opens, seconds}
-use Rattle.prettyless_printer.specs.Spending.{AllHave, IsPlainTrial, Left, Rule, Spends, SpendsAs, left, none_left, rule_of}
-use Rattle.prettyless_printer.proofs.Chains.{Fell}
+use Rattle.prettyless_printer.specs.Spending.{AllHaveSummaries, IsPlainTrial, Left, Rule, Spends, SpendsAs, left, none_left, rule_of}
+use Rattle.prettyless_printer.proofs.Chains.{InnermostRejected}
 use Rattle.prettyless_printer.proofs.TrialSteps.{began_plain}
 use Rattle.prettyless_printer.proofs.Spending.{on_tasks, spends_then}
 use Rattle.prettyless_printer.proofs.Standings.{Pushed}
@@ -26,27 +26,27 @@ use Rattle.prettyless_printer.proofs.Standings.{Pushed}
 -- # Options and line suffixes
 
 -- the options of open trials are those of the outermost one
-chain_options : (o : Attempt) (us : List Held) (t : Attempt) → Chain o us t → t.start.printer.options ≡ o.start.printer.options
-chain_options o [] t h = ap (λ (x : Attempt). x.start.printer.options) h
+chain_options : (o : Trial) (us : List Held) (t : Trial) → Chain o us t → t.start.printer.options ≡ o.start.printer.options
+chain_options o [] t h = ap (λ (x : Trial). x.start.printer.options) h
 chain_options o (u ∷ us) t h = chain_options h.0 us t h.2 ∙ h.1.choice.waiting.options
 
-pub open_options : (s : Attempt) (y : Tree) (b : Point) (us : List Held) → Open s y us b → b.printer.options ≡ s.start.printer.options
+pub open_options : (s : Trial) (y : Tree) (b : Point) (us : List Held) → Open s y us b → b.printer.options ≡ s.start.printer.options
 open_options s y b [] h = absurd h
 open_options s y b (u ∷ us) h = h.on.path.options ∙ chain_options s us h.trial h.chain
 
 -- A trial without line suffixes.
-record PlainTrial (t : Attempt) : Type 0 where
+record PlainTrial (t : Trial) : Type 0 where
   start : Plain t.start.printer
   branch : suffix_depth t.branch ≡ 0
 
-chain_plain : (o : Attempt) (us : List Held) (t : Attempt) → Chain o us t → PlainTrial o → PlainTrial t
+chain_plain : (o : Trial) (us : List Held) (t : Trial) → Chain o us t → PlainTrial o → PlainTrial t
 chain_plain o [] t h plain = subst PlainTrial (sym h) plain
 chain_plain o (u ∷ us) t h plain =
     let w = h.1.choice.waiting.at_most (began_plain o plain.start plain.branch) in
     chain_plain h.0 us t h.2 (record { start = w.0; branch = w.1 })
 
 -- the outermost trial being without line suffixes, the innermost one is too
-pub open_plain : (s : Attempt) (y : Tree) (b : Point) (us : List Held) → Open s y us b → IsPlainTrial s y → Plain b.printer
+pub open_plain : (s : Trial) (y : Tree) (b : Point) (us : List Held) → Open s y us b → IsPlainTrial s y → Plain b.printer
 open_plain s y b [] h plain = absurd h
 open_plain s y b (u ∷ us) h plain =
     let t = h.trial in
@@ -69,13 +69,13 @@ spends_beside {q'} ds h = record {
 }
 
 -- In an outermost trial without line suffixes, trials were open at a point, and trials are open at another one.
-pub record OpenBetween (s : Attempt) (y : Tree) (us vs : List Held) (a b : Point) : Type 0 where
+pub record OpenBetween (s : Trial) (y : Tree) (us vs : List Held) (a b : Point) : Type 0 where
   pub before : Open s y us a
   pub now : Open s y vs b
   pub plain : IsPlainTrial s y
 
 -- the innermost of open trials takes a turn, or comes to its end
-pub open_spends : {has : Bool} {limit : ℕ} {s : Attempt} {y : Tree} {us vs : List Held} {a b : Point} {start : Left} {ts : List Task}
+pub open_spends : {has : Bool} {limit : ℕ} {s : Trial} {y : Tree} {us vs : List Held} {a b : Point} {start : Left} {ts : List Task}
     {q : List Tree} {w : Visits} → OpenBetween s y us vs a b →
     Spends (rule_of has a.printer.options limit) start (left b.printer (seconds vs) b.visits) →
     (Plain b.printer → Spends (rule_of has b.printer.options limit) (left b.printer [] b.visits) (on_tasks ts q w)) →
@@ -99,7 +99,7 @@ spends_broke_as b (Err x) e h = h
 pub record LeavesOnly (a b : Left) : Type 0 where
   pub nodes : nodes b.tasks + sum_by size b.seconds ≤ nodes a.tasks + sum_by size a.seconds
   pub queue : a.queue ≡ [] → b.queue ≡ []
-  pub have : AllHave a → AllHave b
+  pub have : AllHaveSummaries a → AllHaveSummaries b
   pub visits : b.visits ≡ a.visits
 
 pub spends_leaving : (r : Rule) {a b : Left} → LeavesOnly a b → Spends r a b
@@ -116,11 +116,11 @@ spends_leaving r h = record {
   );
 }
 
-trees_have_push : (ds : List Tree) (d : Tree) → TreesHave ds → HasSums d → TreesHave (ds ++ d ∷ [])
+trees_have_push : (ds : List Tree) (d : Tree) → TreesHaveSummaries ds → HasSummaries d → TreesHaveSummaries (ds ++ d ∷ [])
 trees_have_push [] d h k = (k, tt)
 trees_have_push (e ∷ ds) d h k = (h.0, trees_have_push ds d h.1 k)
 
-trees_have_pop : (ds : List Tree) (d : Tree) → TreesHave (ds ++ d ∷ []) → TreesHave ds × HasSums d
+trees_have_pop : (ds : List Tree) (d : Tree) → TreesHaveSummaries (ds ++ d ∷ []) → TreesHaveSummaries ds × HasSummaries d
 trees_have_pop [] d h = (tt, h.0)
 trees_have_pop (e ∷ ds) d h =
     let k = trees_have_pop ds d h.1 in
@@ -169,7 +169,8 @@ take_none n xs e = ap (take n) e ∙ take-nil n
 
 -- the innermost trial is undone, and its second branch comes next
 pub spends_back : {r : Rule} {a : Left} {b : Point} {us : List Held} {q : Standing} {v : Visits} (p : Standing) (vs : List Held) (u : Held)
-    → us ≡ vs ++ u ∷ [] → Fell u b → Restores u.mark b.printer p → Pushed (make_task u.indent Break u.second) p q → q.queue ≡ p.queue →
+    → us ≡ vs ++ u ∷ [] → InnermostRejected u b → Restores u.mark b.printer p → Pushed (make_task u.indent Break u.second) p q
+        → q.queue ≡ p.queue →
     Spends r a (left b.printer (seconds us) v) → Spends r a (left q (seconds vs) v)
 spends_back {r} {a} {b} {us} {q} {v} p vs u popped fell back pushed h k =
     let t = fell.trial in

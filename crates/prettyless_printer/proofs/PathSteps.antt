@@ -11,17 +11,17 @@ use Rattle.prettyless_model.specs.Content.{suffix_depth}
 use Rattle.prettyless_model.specs.Layout.{State, Outcome}
 use Rattle.prettyless_model.proofs.Outcomes.{after-nil}
 use Rattle.prettyless_probe.specs.Stack.{Task, make_task, nodes}
-use Rattle.prettyless_step.specs.Steps.{owed}
+use Rattle.prettyless_step.specs.Steps.{pending_work}
 use Rattle.prettyless_printer.specs.declared.answer.TurnResult.TheVariants as turn_result
 use Rattle.prettyless_printer.specs.Points.{Standing, state_at, QueueGrows, Seen, Point, point_at, work_at}
 use Rattle.prettyless_printer.specs.Progress.{Inside}
-use Rattle.prettyless_printer.specs.Turns.{Advances, ForWholes, Goes, Turned, bytes_before}
+use Rattle.prettyless_printer.specs.Turns.{Advances, ForWholes, TurnHolds, Advanced, bytes_before}
 use Rattle.prettyless_printer.specs.Trials.{Tries}
 use Rattle.prettyless_printer.specs.Visits.{Plain, Rise, CountsAtMost}
 use Rattle.prettyless_printer.specs.AtLeast.{CountsAtLeast, stack_tally}
 use Rattle.prettyless_printer.specs.Renders.{rest_of, Stopped, WorksOff}
-use Rattle.prettyless_printer.specs.Paths.{Run, Path, Waiting, Broke, run_of}
-use Rattle.prettyless_printer.proofs.Progresses.{inside_beginning, inside_end, waits_beginning}
+use Rattle.prettyless_printer.specs.Paths.{Run, Path, PathToChoice, Broke, run_of}
+use Rattle.prettyless_printer.proofs.Progresses.{inside_beginning, inside_end, choice_next_beginning}
 use Rattle.prettyless_printer.proofs.Standings.{Pushed}
 use Rattle.prettyless_printer.proofs.Turnings.{beginning_less}
 use Rattle.prettyless_printer.proofs.Trying.{begins-grows, grows-grows, choice_kept, choice_other}
@@ -44,7 +44,7 @@ at_run {r} {a} goal p l is_known h =
     (sym p.options) (p.bytes is_known).1.0))
 
 -- What leads from one point of a run to another.
-record Carries (a b : Point) : Type 0 where
+record PathStep (a b : Point) : Type 0 where
   options : b.printer.options ≡ a.printer.options
   grows : QueueGrows a.printer b.printer
   same_lender : b.sink.lender ≡ a.sink.lender
@@ -56,8 +56,8 @@ record Carries (a b : Point) : Type 0 where
   at_most : Plain a.printer → Plain b.printer × CountsAtMost a.printer.tasks b.printer.tasks a.visits b.visits
   at_least : (n : ℕ) → n < length a.printer.tasks → CountsAtLeast (stack_tally a.printer n) (stack_tally b.printer n) a.visits b.visits
 
-carried : {r : Run} {a b : Point} → Path r a → length r.below < length a.printer.tasks → Carries a b → Path r b
-carried {r} {a} {b} p l h = record {
+path_step : {r : Run} {a b : Point} → Path r a → length r.below < length a.printer.tasks → PathStep a b → Path r b
+path_step {r} {a} {b} p l h = record {
   options = h.options ∙ p.options;
   queue = begins-grows r.queue a.printer b.printer p.queue h.grows;
   same_lender = h.same_lender ∙ p.same_lender;
@@ -84,12 +84,12 @@ carried {r} {a} {b} p l h = record {
 pub goes_on : {N E : Type 0} (f : N → Tree) {r : Run} {a b : Point} → Path r a → length r.below < length a.printer.tasks →
     Advances {N = N} {E = E} f a b (Ok turn_result.Complete) → Path r b
 goes_on f p l h =
-    carried p l
+    path_step p l
     (record {
       options = h.options;
       grows = h.grows;
       same_lender = h.same_lender;
-      less = omega (arith, h.lessens);
+      less = omega (arith, h.work_falls);
       bytes = h.bytes;
       rise = h.rise;
       at_most = h.at_most;
@@ -100,12 +100,12 @@ goes_on f p l h =
 pub stops : {N E : Type 0} (f : N → Tree) {r : Run} {a b : Point} → Path r a → length r.below < length a.printer.tasks →
     Advances {N = N} {E = E} f a b (Ok turn_result.Shift) → Path r b
 stops f p l h =
-    carried p l
+    path_step p l
     (record {
       options = h.options;
       grows = h.grows;
       same_lender = h.same_lender;
-      less = h.lessens.0;
+      less = h.work_falls.0;
       bytes = h.bytes;
       rise = h.rise;
       at_most = h.at_most;
@@ -113,21 +113,22 @@ stops f p l h =
     })
 
 -- a turn after which two branches are to be chosen from
-pub comes_to_wait : {N E : Type 0} (f : N → Tree) {r : Run} {a b : Point} (i : ℕ) (x y : N) → Path r a
+pub path_to_choice : {N E : Type 0} (f : N → Tree) {r : Run} {a b : Point} (i : ℕ) (x y : N) → Path r a
     → length r.below < length a.printer.tasks →
-    Advances {N = N} {E = E} f a b (Ok (turn_result.Choice i x y)) → length r.below ≤ length b.printer.tasks → Waiting r i (f x) (f y) b
-comes_to_wait f {r} {a} {b} i x y p l h long = record {
+    Advances {N = N} {E = E} f a b (Ok (turn_result.Choice i x y)) → length r.below ≤ length b.printer.tasks
+        → PathToChoice r i (f x) (f y) b
+path_to_choice f {r} {a} {b} i x y p l h long = record {
   options = h.options ∙ p.options;
   queue = begins-grows r.queue a.printer b.printer p.queue h.grows;
   same_lender = h.same_lender ∙ p.same_lender;
-  less = omega (arith, h.lessens.0, p.less);
+  less = omega (arith, h.work_falls.0, p.less);
   long = long;
   bytes = λ is_known.
       let y' = p.bytes is_known in
       let e = h.bytes y'.0 in (
         e.0,
         (
-          at_run (λ o. Goes f o b.printer (known b.sink.bytes) (turn_result.Choice i x y)) p l is_known e.1.0,
+          at_run (λ o. TurnHolds f o b.printer (known b.sink.bytes) (turn_result.Choice i x y)) p l is_known e.1.0,
           e.1.1 ∙ y'.1.1,
         ),
       );
@@ -155,7 +156,7 @@ breaks_off {E} f fails {r} {a} {b} e p l h = record {
 }
   where
     stopped : (e : RenderError E) → IsSome r.start.sink.bytes
-        → Turned f a.printer b.printer (known a.sink.bytes) (known b.sink.bytes) a.sink.failures b.sink.failures (Err e)
+        → Advanced f a.printer b.printer (known a.sink.bytes) (known b.sink.bytes) a.sink.failures b.sink.failures (Err e)
         → Stopped fails r.whole (known r.start.sink.bytes) (known b.sink.bytes) r.start.sink.failures b.sink.failures e
     stopped (Document e) is_known h = absurd h
     stopped (Sink e) is_known h = (
@@ -171,7 +172,7 @@ breaks_off {E} f fails {r} {a} {b} e p l h = record {
 -- what a turn at a node that fails says of the whole, where the sink's bytes are known
 pub at_failing : {N E : Type 0} (f : N → Tree) {r : Run} {a b : Point} → Path r a → length r.below < length a.printer.tasks
     → Advances {N = N} {E = E} f a b (Ok turn_result.Failed) →
-    IfKnown r.start.sink.bytes b.sink.bytes (λ old out. Goes f r.start.printer.options b.printer out turn_result.Failed r.whole r.limit
+    IfKnown r.start.sink.bytes b.sink.bytes (λ old out. TurnHolds f r.start.printer.options b.printer out turn_result.Failed r.whole r.limit
     r.below old
     × (b.sink.failures ≡ r.start.sink.failures))
 at_failing f {b} p l h = λ is_known.
@@ -179,7 +180,7 @@ at_failing f {b} p l h = λ is_known.
     let k = h.bytes y.0 in (
       k.0,
       (
-        at_run (λ o. Goes f o b.printer (known b.sink.bytes) turn_result.Failed) p l is_known k.1.0,
+        at_run (λ o. TurnHolds f o b.printer (known b.sink.bytes) turn_result.Failed) p l is_known k.1.0,
         k.1.1 ∙ y.1.1,
       ),
     )
@@ -203,7 +204,7 @@ fails_there f fails e p l h w = record {
 -- # Choices
 
 -- the first branch is kept, and what the trial wrote is appended
-pub goes_on_kept : {E : Type 0} {r : Run} {b c : Point} {s t : Seen} {i : ℕ} {x y : Tree} → Waiting r i x y b →
+pub goes_on_kept : {E : Type 0} {r : Run} {b c : Point} {s t : Seen} {i : ℕ} {x y : Tree} → PathToChoice r i x y b →
     Tries {E = E} i x (point_at b.printer s b.visits) (point_at c.printer t c.visits) (Ok true) → c.sink.lender ≡ b.sink.lender →
     IfKnown b.sink.bytes c.sink.bytes (λ out new. ((piece : List ℕ) → known t.bytes ≡ known s.bytes ++ piece → new ≡ out ++ piece)
     × (c.sink.failures ≡ b.sink.failures)) → Path r c
@@ -234,7 +235,7 @@ goes_on_kept {r} {b} {c} {i} {x} {y} w tries lender wrote =
     }
 
 -- the first branch is rejected, and the second one comes next
-pub goes_on_other : {E : Type 0} {r : Run} {b c : Point} {q : Standing} {s t : Seen} {i : ℕ} {x y : Tree} → Waiting r i x y b →
+pub goes_on_other : {E : Type 0} {r : Run} {b c : Point} {q : Standing} {s t : Seen} {i : ℕ} {x y : Tree} → PathToChoice r i x y b →
     Tries {E = E} i x (point_at b.printer s b.visits) (point_at q t c.visits) (Ok false) → Pushed (make_task i Break y) q c.printer
     → c.sink.lender ≡ b.sink.lender →
     IfKnown b.sink.bytes c.sink.bytes (λ out new. (known t.bytes ≡ known s.bytes → new ≡ out) × (c.sink.failures ≡ b.sink.failures))
@@ -245,7 +246,7 @@ goes_on_other {r} {b} {c} {q} {s} {i} {x} {y} w tries pushed lender wrote =
       options = pushed.options ∙ d.1 ∙ w.options;
       queue = begins-grows r.queue b.printer c.printer w.queue (grows-grows b.printer q c.printer d.2 pushed.grows);
       same_lender = lender ∙ w.same_lender;
-      less = omega (arith, w.less, d.4, ap nodes d.0, ap nodes pushed.tasks, ap (λ (s : State). owed s.pending) pushed.state);
+      less = omega (arith, w.less, d.4, ap nodes d.0, ap nodes pushed.tasks, ap (λ (s : State). pending_work s.pending) pushed.state);
       bytes = λ is_known.
           let h = w.bytes is_known in
           let z = wrote h.0 in
@@ -269,7 +270,7 @@ goes_on_other {r} {b} {c} {q} {s} {i} {x} {y} w tries pushed lender wrote =
     }
 
 -- a choice that is refused memory, before anything of it is written
-pub choice_refused : {E : Type 0} (fails : E → Type 0) {r : Run} {b c : Point} {i : ℕ} {x y : Tree} (e : _) → Waiting r i x y b
+pub choice_refused : {E : Type 0} (fails : E → Type 0) {r : Run} {b c : Point} {i : ℕ} {x y : Tree} (e : _) → PathToChoice r i x y b
     → c.sink.lender ≡ b.sink.lender →
     IfKnown b.sink.bytes c.sink.bytes (λ out new. (new ≡ out) × (c.sink.failures ≡ b.sink.failures)) → Rise b.visits c.visits →
     (Plain b.printer → suffix_depth x ≡ 0 → CountsAtMost (make_task i Break x ∷ b.printer.tasks) [] b.visits c.visits)
@@ -282,7 +283,7 @@ choice_refused fails {r} {i} {x} {y} e w lender wrote rise counts = record {
         z.0,
         (
           subst (λ (s : List ℕ). AppendsBeginning (known r.start.sink.bytes) s (bytes_before r.whole)) (sym z.1.0)
-              (waits_beginning h.1.0),
+              (choice_next_beginning h.1.0),
           z.1.1 ∙ h.1.1,
         ),
       );
@@ -294,7 +295,7 @@ choice_refused fails {r} {i} {x} {y} e w lender wrote rise counts = record {
 
 -- the first branch is kept, and the sink fails at what the trial wrote
 pub choice_unwritten : {E D : Type 0} (fails : E → Type 0) {r : Run} {b c : Point} {s t : Seen} {i : ℕ} {x y : Tree} (e : E)
-    → Waiting r i x y b →
+    → PathToChoice r i x y b →
     Tries {E = D} i x (point_at b.printer s b.visits) (point_at c.printer t c.visits) (Ok true) → c.sink.lender ≡ b.sink.lender →
     IfKnown b.sink.bytes c.sink.bytes
     (λ out new. ((piece : List ℕ) → known t.bytes ≡ known s.bytes ++ piece → AppendsBeginning out new piece)
@@ -362,7 +363,7 @@ pub run_ends : {A E : Type 0} (fails : E → Type 0) {a b : Point} (x : A) → P
 run_ends fails {b} x p l = record {
   options = p.options;
   done = no_tasks b.printer.tasks l;
-  lessens = omega (arith, p.less);
+  work_falls = omega (arith, p.less);
   same_lender = p.same_lender;
   bytes = λ is_known.
       let y = p.bytes is_known in
@@ -390,7 +391,7 @@ pub run_broke_off : {A E : Type 0} (fails : E → Type 0) {a b : Point} (e : Ren
 run_broke_off fails e h = record {
   options = tt;
   done = tt;
-  lessens = tt;
+  work_falls = tt;
   same_lender = h.same_lender;
   bytes = h.bytes;
   rise = h.rise;

@@ -4,14 +4,14 @@ use Rattle.std.proofs.Common.{length-append, arith, subst, false}
 use Rattle.prettyless_sink.specs.Sink.{AppendsBeginning}
 use Rattle.prettyless_model.specs.declared.options.RenderOptions.{RenderOptions}
 use Rattle.prettyless_model.specs.Tree.{Tree, size}
-use Rattle.prettyless_model.specs.Layout.{State, Outcome, Done, Failed, Entry, after_bytes, and_then, accept, lay, tried}
+use Rattle.prettyless_model.specs.Layout.{State, Outcome, Done, Failed, Entry, after_bytes, and_then, accept, lay, in_trial}
 use Rattle.prettyless_model.specs.Levels.{settle}
 use Rattle.prettyless_model.specs.declared.mode.Mode.TheVariants.{Break}
 use Rattle.prettyless_model.proofs.Outcomes.{after-after}
 use Rattle.prettyless_model.proofs.Levels.{settle_fixed}
 use Rattle.prettyless_probe.specs.Stack.{Task, make_task, follow}
-use Rattle.prettyless_step.specs.Steps.{lay_all, work, owed, Step, Move, Stuck, Choose, step_of, chosen, runs}
-use Rattle.prettyless_printer.specs.Progress.{Inside, Waits}
+use Rattle.prettyless_step.specs.Steps.{lay_all, work, pending_work, Step, Move, Stuck, Choose, step_of, chosen, step_outcome}
+use Rattle.prettyless_printer.specs.Progress.{Inside, ChoiceNext}
 use Rattle.prettyless_printer.specs.Turns.{bytes_before}
 use Rattle.prettyless_probe.proofs.Stacks.{follow-append, nodes-append, split_top}
 use Rattle.prettyless_printer.proofs.Runs.{step_runs}
@@ -25,7 +25,7 @@ record Taken (o : RenderOptions) (whole : Outcome) (limit : ℕ) (below : List T
   bytes : List ℕ
   tasks_are : ts ≡ rest ++ below
   out_is : out ≡ old ++ bytes
-  same : after_bytes bytes (runs o (settle o) step rest (follow below) st) ≡ whole
+  same : after_bytes bytes (step_outcome o (settle o) step rest (follow below) st) ≡ whole
   bound : work (t ∷ rest) st ≤ limit
 
 -- what holds after a step: the work is inside the whole, or the whole fails after what was written, or a choice waits
@@ -34,7 +34,7 @@ abbrev pub Steps : (o : RenderOptions) (whole : Outcome) (limit : ℕ) (below : 
 Steps o whole limit below old ts st out (Move b pushed u) = Inside o whole limit below old (pushed ++ ts) u (out ++ b)
 Steps o whole limit below old ts st out Stuck = (bytes : List ℕ) × (above : List Task) × (out ≡ old ++ bytes) × (whole ≡ Failed bytes)
     × (ts ≡ above ++ below)
-Steps o whole limit below old ts st out (Choose i x y) = Waits o whole limit below old i x y ts st out
+Steps o whole limit below old ts st out (Choose i x y) = ChoiceNext o whole limit below old i x y ts st out
 
 module _ {o : RenderOptions} {whole : Outcome} {limit : ℕ} {below : List Task} {old : List ℕ} where
   taken : {t : Task} {ts : List Task} {st : State} {out : List ℕ} → length below ≤ length ts
@@ -43,9 +43,9 @@ module _ {o : RenderOptions} {whole : Outcome} {limit : ℕ} {below : List Task}
   taken {t} {ts} {st} l p =
       let step : Step = step_of o t.tree t.indent t.mode (follow ts) st in
       let w = split_top p.above below t ts p.stack_is l in
-      let e : lay_all o (settle o) (t ∷ w.0) (follow below) st ≡ runs o (settle o) step w.0 (follow below) st =
+      let e : lay_all o (settle o) (t ∷ w.0) (follow below) st ≡ step_outcome o (settle o) step w.0 (follow below) st =
       step_runs o (settle o) (settle_fixed o) t.tree t.indent t.mode w.0 (follow below) st
-      ∙ ap (λ (r : List Entry). runs o (settle o) (step_of o t.tree t.indent t.mode r st) w.0 (follow below) st)
+      ∙ ap (λ (r : List Entry). step_outcome o (settle o) (step_of o t.tree t.indent t.mode r st) w.0 (follow below) st)
       (sym (ap follow w.2 ∙ follow-append w.0 below)) in
       record {
         rest = w.0;
@@ -58,7 +58,8 @@ module _ {o : RenderOptions} {whole : Outcome} {limit : ℕ} {below : List Task}
       }
 
   steps : {t : Task} {ts : List Task} {st : State} {out : List ℕ} (step : Step)
-      → LeavesLess (owed st.pending) (2 * size t.tree + owed st.pending) step → Taken o whole limit below old t ts st out step
+      → LeavesLess (pending_work st.pending) (2 * size t.tree + pending_work st.pending) step
+          → Taken o whole limit below old t ts st out step
       → Steps o whole limit below old ts st out step
   steps (Move b pushed u) less w = record {
     above = pushed ++ w.rest;
@@ -109,7 +110,7 @@ module _ {o : RenderOptions} {whole : Outcome} {limit : ℕ} {below : List Task}
     {out : List ℕ} where
   -- the work is done: the whole is what was written
   pub inside_end : Inside o whole limit below old stack st out → length stack ≤ length below →
-      (bytes : List ℕ) × (out ≡ old ++ bytes) × (whole ≡ Done bytes st) × (owed st.pending ≤ limit)
+      (bytes : List ℕ) × (out ≡ old ++ bytes) × (whole ≡ Done bytes st) × (pending_work st.pending ≤ limit)
   inside_end p l =
       (p.bytes, p.out_is, ends_at o whole below p.above p.bytes st (omega (arith, ap length p.stack_is, l)) p.same, omega (arith, p.bound))
 
@@ -125,10 +126,10 @@ module _ {o : RenderOptions} {whole : Outcome} {limit : ℕ} {below : List Task}
       subst Past p.same (past-after p.bytes (lay_all o (settle o) p.above (follow below) st) (all_past o p.above (follow below) st h))
 
   -- a choice whose first branch is kept
-  pub waits_kept : {i : ℕ} {x y : Tree} {b : List ℕ} {u : State} → Waits o whole limit below old i x y stack st out
-      → chosen o (settle o) i x y (follow stack) st ≡ Done b u → owed u.pending ≤ 2 * size x + owed st.pending
+  pub choice_next_kept : {i : ℕ} {x y : Tree} {b : List ℕ} {u : State} → ChoiceNext o whole limit below old i x y stack st out
+      → chosen o (settle o) i x y (follow stack) st ≡ Done b u → pending_work u.pending ≤ 2 * size x + pending_work st.pending
       → Inside o whole limit below old stack u (out ++ b)
-  waits_kept {b} {u} p h l = record {
+  choice_next_kept {b} {u} p h l = record {
     above = p.above;
     bytes = p.bytes ++ b;
     stack_is = p.stack_is;
@@ -139,10 +140,10 @@ module _ {o : RenderOptions} {whole : Outcome} {limit : ℕ} {below : List Task}
   }
 
   -- a choice whose first branch is rejected
-  pub waits_other : {i : ℕ} {x y : Tree} → Waits o whole limit below old i x y stack st out
-      → ((other : Outcome) → accept o st.within (lay o (settle o) x i Break (follow stack) (tried st)) other ≡ other)
+  pub choice_next_other : {i : ℕ} {x y : Tree} → ChoiceNext o whole limit below old i x y stack st out
+      → ((other : Outcome) → accept o st.within (lay o (settle o) x i Break (follow stack) (in_trial st)) other ≡ other)
       → Inside o whole limit below old (make_task i Break y ∷ stack) st out
-  waits_other {i} {y} p h = record {
+  choice_next_other {i} {y} p h = record {
     above = make_task i Break y ∷ p.above;
     bytes = p.bytes;
     stack_is = ap (λ (z : List Task). make_task i Break y ∷ z) p.stack_is;
@@ -157,8 +158,8 @@ module _ {o : RenderOptions} {whole : Outcome} {limit : ℕ} {below : List Task}
   }
 
   -- what is written of a whole in which a choice waits is a beginning of it
-  pub waits_beginning : {i : ℕ} {x y : Tree} → Waits o whole limit below old i x y stack st out
+  pub choice_next_beginning : {i : ℕ} {x y : Tree} → ChoiceNext o whole limit below old i x y stack st out
       → AppendsBeginning old out (bytes_before whole)
-  waits_beginning {i} {x} {y} p =
+  choice_next_beginning {i} {x} {y} p =
       let left : Outcome = and_then (chosen o (settle o) i x y (follow stack) st) (λ u. lay_all o (settle o) p.above (follow below) u) in
       (p.bytes, bytes_before left, sym (ap bytes_before p.same) ∙ bytes_before-after p.bytes left, p.out_is)

@@ -18,9 +18,9 @@ use Rattle.prettyless_model.specs.declared.mode.Mode.TheVariants.{Break}
 use Rattle.prettyless_model.proofs.Outcomes.{after-nil, after-after, then-done}
 use Rattle.prettyless_model.proofs.Levels.{end_fixed, layout_is}
 use Rattle.prettyless_probe.specs.Stack.{Task, make_task, nodes, tasks}
-use Rattle.prettyless_step.specs.Steps.{lay_all, owed}
+use Rattle.prettyless_step.specs.Steps.{lay_all, pending_work}
 use Rattle.prettyless_printer.specs.Points.{Point, Seen, Standing, state_at}
-use Rattle.prettyless_printer.specs.Linear.{IsFew, IsLinear}
+use Rattle.prettyless_printer.specs.Linear.{IsLinearBound, IsLinear}
 use Rattle.prettyless_printer.specs.Turns.{bytes_before}
 use Rattle.prettyless_printer.specs.Renders.{Finishing, FlushesEnd, Renders, RunsToEnd, rest_of, to_end, Stopped, Flushed, Rendered}
 use Rattle.prettyless_printer.proofs.Progresses.{bytes_before-after}
@@ -168,7 +168,7 @@ ending_stopped A {whole} {o} {q} fails last m (Memory e) h l a s =
     )
 
 -- the work of a round is less than what was owed for it
-pub round_less : (ps : List Tree) → 0 < length ps → 2 * nodes (tasks 0 Break ps) < owed ps
+pub round_less : (ps : List Tree) → 0 < length ps → 2 * nodes (tasks 0 Break ps) < pending_work ps
 round_less ps l = omega (arith, nodes-tasks 0 Break ps [], ap nodes (append-nil (tasks 0 Break ps)))
 
 -- # A render
@@ -196,7 +196,7 @@ counted_with o d v w n (Err e) h = tt
 -- a run to the end, from a document that is the only task, is a render
 pub renders : {A E : Type 0} (fails : E → Type 0) (d : Tree) {a b : Point} (n : ℕ) (r : Result A (RenderError E))
     → a.printer.tasks ≡ make_task 0 Break d ∷ [] → state_at a.printer ≡ initial → RunsToEnd fails a b r →
-    a.visits.refused ≤ n → (IsLinear a.printer.options.width d → n ≡ 0 → IsFew 16 1000 (size d) a.visits b.visits) →
+    a.visits.refused ≤ n → (IsLinear a.printer.options.width d → n ≡ 0 → IsLinearBound 16 1000 (size d) a.visits b.visits) →
     Renders fails a.printer.options d a.sink b.sink a.visits (record b.visits { refused = n }) r
 renders fails d {a} {b} n r e s h refused few = record {
   same_lender = h.same_lender;

@@ -10,9 +10,9 @@ use Rattle.prettyless_printer.specs.declared.answer.RunResult.TheVariants as run
 use Rattle.prettyless_printer.specs.Points.{Standing, state_at, Seen, Point}
 use Rattle.prettyless_printer.specs.Visits.{Plain}
 use Rattle.prettyless_printer.specs.Open.{BeginsTrial, Held, Opens, seconds}
-use Rattle.prettyless_printer.specs.Paths.{Chooses, Path, Waiting, run_of}
+use Rattle.prettyless_printer.specs.Paths.{Chooses, Path, PathToChoice, run_of}
 use Rattle.prettyless_printer.specs.Renders.{Continues, WorksOff}
-use Rattle.prettyless_printer.specs.Runs.{ComesInChoice}
+use Rattle.prettyless_printer.specs.Runs.{RunReachesChoice}
 use Rattle.prettyless_printer.specs.Spending.{IsPlainChoice, Left, Rule, Spends, SpendsAs, left, left_choice, rule_of}
 use Rattle.prettyless_printer.proofs.Spending.{spends_same, spends_then}
 use Rattle.prettyless_printer.proofs.OpenSpending.{open_options, spends_more}
@@ -50,13 +50,13 @@ pub path_spends : {has : Bool} {limit : ℕ} {a b : Point} {c : Left} → Path (
     Spends (rule_of has a.printer.options limit) (left a.printer [] a.visits) c
 path_spends path plain h k = spends_on path.options h (k (path.at_most (plain.none, plain.pending)).0)
 
-plain_waiting : {a b : Point} {i : ℕ} {x y : Tree} → Waiting (run_of a) i x y b → Plain a.printer → IsPlainChoice b.printer x y
+plain_waiting : {a b : Point} {i : ℕ} {x y : Tree} → PathToChoice (run_of a) i x y b → Plain a.printer → IsPlainChoice b.printer x y
 plain_waiting waiting plain =
     let k = waiting.at_most (plain.none, plain.pending) in
     record { plain = k.0; first = k.1; second = k.2 }
 
 -- a choice is made, or is open
-pub waiting_spends : {has : Bool} {limit : ℕ} {a b : Point} {start c : Left} {i : ℕ} {x y : Tree} → Waiting (run_of a) i x y b
+pub waiting_spends : {has : Bool} {limit : ℕ} {a b : Point} {start c : Left} {i : ℕ} {x y : Tree} → PathToChoice (run_of a) i x y b
     → Plain a.printer →
     Spends (rule_of has a.printer.options limit) start (left_choice i x y b.printer b.visits) →
     (IsPlainChoice b.printer x y → Spends (rule_of has b.printer.options limit) (left_choice i x y b.printer b.visits) c) →
@@ -79,12 +79,12 @@ pub nothing_pending : {A E : Type 0} (fails : E → Type 0) {a b c : Point} (x :
 nothing_pending fails x h plain k some = omega (arith, some, ap length (k.at_most (h.at_most plain).0).0.pending)
 
 -- a run has reached a choice without line suffixes
-pub came_plain : {a : Point} {us : List Held} {buffer : Seen} {b : Point} (h : ComesInChoice a us buffer b) → Plain a.printer
+pub came_plain : {a : Point} {us : List Held} {buffer : Seen} {b : Point} (h : RunReachesChoice a us buffer b) → Plain a.printer
     → IsPlainChoice h.at.printer h.first h.second
 came_plain h plain = plain_waiting h.waiting (h.continues.at_most plain).0
 
 -- the options are those of where the choice waited
-pub came_options : {E : Type 0} {a : Point} {us : List Held} {buffer : Seen} {b c : Point} (h : ComesInChoice a us buffer b)
+pub came_options : {E : Type 0} {a : Point} {us : List Held} {buffer : Seen} {b c : Point} (h : RunReachesChoice a us buffer b)
     → Chooses {A = RunResult} {E = E} h.indent h.first h.second h.at c (Ok run_result.Finished) →
     c.printer.options ≡ b.printer.options
 came_options {us} {c} h k =

@@ -13,14 +13,14 @@ use Rattle.prettyless_model.specs.Column.{gap, prospective, start, commit, paddi
 use Rattle.prettyless_model.specs.declared.metrics.Metrics.{Metrics}
 use Rattle.prettyless_model.specs.Look.{by_mode}
 use Rattle.prettyless_model.specs.Layout.{State, Outcome, Done, Failed, Entry, Breaks, after_bytes, and_then, lay, lay_each, lay_text}
-use Rattle.prettyless_model.specs.Layout.{lay_payload, payload_fits, after_payload, lay_ending, probe, some_pending, accept, tried}
+use Rattle.prettyless_model.specs.Layout.{lay_payload, payload_fits, after_payload, lay_ending, probe, some_pending, accept, in_trial}
 use Rattle.prettyless_model.specs.Layout.{flushed, entry, entries, next_indent, is_suppressed, plain_break, break_with}
 use Rattle.prettyless_model.proofs.Outcomes.{after-nil, then-after, then-then}
 use Rattle.prettyless_model.proofs.Levels.{Fixed}
 use Rattle.prettyless_model.specs.declared.mode.Mode.{Mode}
 use Rattle.prettyless_model.specs.declared.mode.Mode.TheVariants.{Break, Flat}
 use Rattle.prettyless_probe.specs.Stack.{Task, make_task, tasks, follow}
-use Rattle.prettyless_step.specs.Steps.{lay_all, step_of, break_step, union_step, decided_by_metrics, at_once, chosen, runs}
+use Rattle.prettyless_step.specs.Steps.{lay_all, step_of, break_step, union_step, decided_by_metrics, at_once, chosen, step_outcome}
 
 pub follow-tasks : (i : ℕ) (m : Mode) (ds : List Tree) (us : List Task) → follow (tasks i m ds ++ us) ≡ entries i ds ++ follow us
 follow-tasks i m [] us = refl
@@ -46,7 +46,7 @@ FailsAtOnce (Done b st) = Unit {0}
 FailsAtOnce (Failed b) = b ≡ []
 
 at_once_runs : (o : RenderOptions) (brk : Breaks) (out : Outcome) (ts : List Task) (outer : List Entry) (st : State) → FailsAtOnce out
-    → and_then out (λ u. lay_all o brk ts outer u) ≡ runs o brk (at_once out) ts outer st
+    → and_then out (λ u. lay_all o brk ts outer u) ≡ step_outcome o brk (at_once out) ts outer st
 at_once_runs o brk (Done b u) ts outer st h = refl
 at_once_runs o brk (Failed b) ts outer st h = ap Failed h
 
@@ -75,7 +75,7 @@ plain_at_once o d i rest st =
 break_runs : (o : RenderOptions) (brk : Breaks) → (ps : List Tree) (d : Tree) (i : ℕ) (m : Mode) (ts : List Task)
     (outer : List Entry) (st : State) →
     (lay o brk d i m (follow ts ++ outer) ≡ brk d i m (follow ts ++ outer)) →
-    and_then (break_with o brk ps d i m (follow ts ++ outer) st) (λ u. lay_all o brk ts outer u) ≡ runs o brk
+    and_then (break_with o brk ps d i m (follow ts ++ outer) st) (λ u. lay_all o brk ts outer u) ≡ step_outcome o brk
     (break_step o ps d i m (follow ts ++ outer) st) ts outer st
 break_runs o brk [] d i m ts outer st e = at_once_runs o brk (plain_break o d i (follow ts ++ outer) st) ts outer st
     (plain_at_once o d i (follow ts ++ outer) st)
@@ -123,7 +123,7 @@ no_padding width false false m = refl
 -- a payload as the first branch: its metrics decide what a trial would
 pub payload_branch : (o : RenderOptions) (m : Metrics) (b : List ℕ) (st : State) (other : Outcome) (v : Bool)
     → v ≡ payload_fits o m st.column →
-    accept o st.within (lay_payload o m b (tried st)) other ≡ (if v then lay_payload o m b st else other)
+    accept o st.within (lay_payload o m b (in_trial st)) other ≡ (if v then lay_payload o m b st else other)
 payload_branch o m b st other true e =
     let bytes : List ℕ = (if m.first_nonempty then spaces (gap st.column) else []) ++ b in
     ap (λ (x : Bool). if x then Done bytes (record st { column = after_payload m }) else other)
@@ -138,7 +138,7 @@ payload_branch o m b st other false e =
 
 -- a union in Break lays what its step does
 union_runs : (o : RenderOptions) (brk : Breaks) (l r : Tree) (i : ℕ) (ts : List Task) (outer : List Entry) (st : State) →
-    and_then (chosen o brk i l r (follow ts ++ outer) st) (λ u. lay_all o brk ts outer u) ≡ runs o brk
+    and_then (chosen o brk i l r (follow ts ++ outer) st) (λ u. lay_all o brk ts outer u) ≡ step_outcome o brk
     (union_step (decided_by_metrics o l st) l r i st) ts outer st
 unfolding lay lay_all
 union_runs o brk (MultilineText s) r i ts outer st =
@@ -150,7 +150,7 @@ union_runs o brk _ r i ts outer st = refl
 -- a node and the tasks after it lay what its step and they lay
 pub step_runs : (o : RenderOptions) (brk : Breaks) → Fixed o brk → (d : Tree) (i : ℕ) (m : Mode) (ts : List Task)
     (outer : List Entry) (st : State) →
-    lay_all o brk (make_task i m d ∷ ts) outer st ≡ runs o brk (step_of o d i m (follow ts ++ outer) st) ts outer st
+    lay_all o brk (make_task i m d ∷ ts) outer st ≡ step_outcome o brk (step_of o d i m (follow ts ++ outer) st) ts outer st
 unfolding lay lay_all
 step_runs o brk fixed Nil i m ts outer st = refl
 step_runs o brk fixed Fail i m ts outer st = refl

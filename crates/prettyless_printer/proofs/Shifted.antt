@@ -15,10 +15,10 @@ use Rattle.prettyless_table.specs.Shift.{IsShifted}
 use Rattle.prettyless_printer.specs.declared.trial.OpenTrial.{OpenTrial}
 use Rattle.prettyless_printer.specs.Points.{Point, Seen, Standing, point_at, standing}
 use Rattle.prettyless_printer.specs.Visits.{suffix_depths}
-use Rattle.prettyless_printer.specs.Linear.{IsFew, IsLinear, IsLinearStart}
+use Rattle.prettyless_printer.specs.Linear.{IsLinearBound, IsLinear, IsLinearStart}
 use Rattle.prettyless_printer.specs.Open.{Held, all_held, seconds}
 use Rattle.prettyless_printer.specs.Spending.{Left, Spends, left, rule_of}
-use Rattle.prettyless_printer.specs.Runs.{Comes}
+use Rattle.prettyless_printer.specs.Runs.{RunReaches}
 use Rattle.prettyless_printer.specs.Renders.{Begins, Renders, RunsToEnd}
 use Rattle.prettyless_printer.proofs.Renders.{renders}
 use Rattle.prettyless_printer.proofs.Visits.{rise_same}
@@ -39,10 +39,10 @@ shifted_stands {N} {M} f g p q h = λ j. record {
 
 -- a run reaches where its printer and its trials stand, whatever their nodes
 pub comes_over : (a : Point) {us vs : List Held} {p q : Standing} (buffer s : Seen) (v : Visits) → vs ≡ us → q ≡ p
-    → Comes a us buffer (point_at p s v) → Comes a vs buffer (point_at q s v)
+    → RunReaches a us buffer (point_at p s v) → RunReaches a vs buffer (point_at q s v)
 comes_over a {us} {vs} {p} {q} buffer s v same stands comes =
-    subst (λ (xs : List Held). Comes a xs buffer (point_at q s v)) (sym same)
-    (subst (λ (x : Standing). Comes a us buffer (point_at x s v)) (sym stands) comes)
+    subst (λ (xs : List Held). RunReaches a xs buffer (point_at q s v)) (sym same)
+    (subst (λ (x : Standing). RunReaches a us buffer (point_at x s v)) (sym stands) comes)
 
 -- what it leaves then is what it leaves over the other nodes
 pub spends_over : {o o' : RenderOptions} {limit : ℕ} {us vs : List Held} {p q : Standing} {v : Visits} {b : Left} → vs ≡ us
@@ -54,23 +54,23 @@ spends_over {o} {o'} {limit} {us} {vs} {p} {q} {v} {b} same stands options h =
     (subst (λ (x : RenderOptions). Spends (rule_of true x limit) (left q (seconds vs) v) b) options h))
 
 -- the options are those from where a run came
-pub comes_options : (a b : Point) (us : List Held) (buffer : Seen) → Comes a us buffer b → b.printer.options ≡ a.printer.options
+pub comes_options : (a b : Point) (us : List Held) (buffer : Seen) → RunReaches a us buffer b → b.printer.options ≡ a.printer.options
 comes_options a b [] buffer h = h.options
 comes_options a b (u ∷ us) buffer h = open_options _ h.second _ (u ∷ us) h.choice.trials ∙ h.waiting.options ∙ h.continues.options
 
 -- nothing has changed
 pub comes_still : (a : Point) (us : List Held) (p : Standing) {b c s t : Seen} {v w : Visits} → t ≡ s → w ≡ v → c ≡ b
-    → Comes a us b (point_at p s v) → Comes a us c (point_at p t w)
+    → RunReaches a us b (point_at p s v) → RunReaches a us c (point_at p t w)
 comes_still a us p {b} {c} {s} {t} {v} {w} sink visits buffer comes =
-    subst (λ (x : Seen). Comes a us x (point_at p t w)) (sym buffer)
-    (subst (λ (x : Seen). Comes a us b (point_at p x w)) (sym sink)
-    (subst (λ (x : Visits). Comes a us b (point_at p s x)) (sym visits) comes))
+    subst (λ (x : Seen). RunReaches a us x (point_at p t w)) (sym buffer)
+    (subst (λ (x : Seen). RunReaches a us b (point_at p x w)) (sym sink)
+    (subst (λ (x : Visits). RunReaches a us b (point_at p s x)) (sym visits) comes))
 
 -- a run begins without open trials
 pub comes_first : {N : Type 0} (f : N → Tree) (us : List (OpenTrial N)) (buffer : Seen) (a : Point) → us ≡ []
-    → Comes a (all_held f us) buffer a
+    → RunReaches a (all_held f us) buffer a
 comes_first f us buffer a none =
-    subst (λ (xs : List (OpenTrial _)). Comes a (all_held f xs) buffer a) (sym none) (continues_same a)
+    subst (λ (xs : List (OpenTrial _)). RunReaches a (all_held f xs) buffer a) (sym none) (continues_same a)
 
 -- a document that a table bounds
 pub begins_linear : {o : RenderOptions} {d : Tree} {p : Standing} → Begins o d p → IsLinear o.width d → IsLinearStart p
@@ -88,15 +88,15 @@ begins_linear {o} {d} {p} begins linear = record {
 
 -- its nodes are those of the printer before it
 pub begins_few : {o : RenderOptions} {d : Tree} {p : Standing} (factor more : ℕ) (v w : Visits) → Begins o d p
-    → IsFew factor more (nodes p.tasks) v w → IsFew factor more (size d) v w
+    → IsLinearBound factor more (nodes p.tasks) v w → IsLinearBound factor more (size d) v w
 begins_few {o} {d} {p} factor more v w begins few =
     let same : nodes p.tasks ≡ size d = omega (arith, ap nodes begins.tasks) in
-    subst (λ (n : ℕ). IsFew factor more n v w) same few
+    subst (λ (n : ℕ). IsLinearBound factor more n v w) same few
 
 -- a run to the end, from before a document, is a render
 pub begun_renders : {A E : Type 0} (fails : E → Type 0) {o : RenderOptions} {d : Tree} {a b : Point} (n : ℕ) (r : Result A (RenderError E))
     → Begins o d a.printer → RunsToEnd fails a b r →
-    a.visits.refused ≤ n → (IsLinearStart a.printer → n ≡ 0 → IsFew 16 1000 (nodes a.printer.tasks) a.visits b.visits) →
+    a.visits.refused ≤ n → (IsLinearStart a.printer → n ≡ 0 → IsLinearBound 16 1000 (nodes a.printer.tasks) a.visits b.visits) →
     Renders fails o d a.sink b.sink a.visits (record b.visits { refused = n }) r
 begun_renders fails {o} {d} {a} {b} n r begins ran refused few =
     subst (λ (x : RenderOptions). Renders fails x d a.sink b.sink a.visits (record b.visits { refused = n }) r) begins.options

@@ -13,7 +13,7 @@ use Rattle.prettyless_model.specs.Levels.{settle, settle_end}
 use Rattle.prettyless_model.specs.Counts.{Weight}
 use Rattle.prettyless_model.proofs.Outcomes.{after-after, then-after}
 use Rattle.prettyless_probe.specs.Stack.{Task, nodes}
-use Rattle.prettyless_step.specs.Steps.{lay_all, owed}
+use Rattle.prettyless_step.specs.Steps.{lay_all, pending_work}
 use Rattle.prettyless_model.specs.Tree.{Tree}
 use Rattle.prettyless_printer.specs.declared.answer.RunResult.{RunResult}
 use Rattle.prettyless_printer.specs.declared.answer.RunResult.TheVariants as run_result
@@ -22,8 +22,8 @@ use Rattle.prettyless_printer.specs.Points.{Point, Seen, Standing, point_at, sta
 use Rattle.prettyless_printer.specs.Visits.{CountsAtMost, RunCountsAtMost}
 use Rattle.prettyless_printer.specs.AtLeast.{CountsAtLeast, nothing_left, stack_tally}
 use Rattle.prettyless_printer.specs.Open.{Held, all_held, held}
-use Rattle.prettyless_printer.specs.Runs.{Comes, ComesInChoice, InChoice, RunsOn, StopsPastLimit}
-use Rattle.prettyless_printer.specs.Paths.{Chooses, Path, Waiting, run_of}
+use Rattle.prettyless_printer.specs.Runs.{RunReaches, RunReachesChoice, InChoice, RunsToEndOrStops, StopsPastLimit}
+use Rattle.prettyless_printer.specs.Paths.{Chooses, Path, PathToChoice, run_of}
 use Rattle.prettyless_printer.specs.Renders.{Continues, Finishing, FlushesEnd, Rendered, RunsToEnd, WorksOff, rest_of, to_end}
 use Rattle.prettyless_printer.proofs.Renders.{ending_again, ending_done, ending_stopped, finishing_begins, finishing_ends}
 use Rattle.prettyless_printer.proofs.Renders.{finishing_stopped, round_less, Ending}
@@ -236,11 +236,12 @@ work_ends fails x y h none = record {
 }
 
 -- a round takes work away
-pub round_lessens : {A B E : Type 0} (fails : E → Type 0) {a b : Point} {q : Standing} {t : Seen} (x : A) (y : B)
+pub round_work_falls : {A B E : Type 0} (fails : E → Type 0) {a b : Point} {q : Standing} {t : Seen} (x : A) (y : B)
     → WorksOff {A = A} {E = E} fails a b (Ok x) → FlushesEnd {A = B} {E = E} b.printer q b.sink t (Ok y) →
     0 < length (state_at b.printer).pending → work_at (point_at q t b.visits) < work_at a
-round_lessens fails {b} x y h k some =
-    omega (arith, ap nodes k.stack, ap (λ (u : State). owed u.pending) k.state, round_less (state_at b.printer).pending some, h.lessens)
+round_work_falls fails {b} x y h k some =
+    omega (arith, ap nodes k.stack, ap (λ (u : State). pending_work u.pending) k.state,
+        round_less (state_at b.printer).pending some, h.work_falls)
 
 -- what waits is laid next
 pub round_continues : {A B E : Type 0} (fails : E → Type 0) {a b : Point} {q : Standing} {t : Seen} (x : A) (y : B)
@@ -285,25 +286,26 @@ pub some_open : {N : Type 0} (f : N → Tree) (us : List (OpenTrial N)) → 0 < 
 some_open f us some = omega (arith, length-map us (held f), some)
 
 -- a run has come outside of trials
-pub comes_alone : (a b : Point) (us : List Held) (buffer : Seen) → us ≡ [] → Continues a b → Comes a us buffer b
-comes_alone a b us buffer none h = subst (λ (u : List Held). Comes a u buffer b) (sym none) h
+pub comes_alone : (a b : Point) (us : List Held) (buffer : Seen) → us ≡ [] → Continues a b → RunReaches a us buffer b
+comes_alone a b us buffer none h = subst (λ (u : List Held). RunReaches a u buffer b) (sym none) h
 
-pub came_alone : (a b : Point) (us : List Held) (buffer : Seen) → us ≡ [] → Comes a us buffer b → Continues a b
-came_alone a b us buffer none h = subst (λ (u : List Held). Comes a u buffer b) none h
+pub came_alone : (a b : Point) (us : List Held) (buffer : Seen) → us ≡ [] → RunReaches a us buffer b → Continues a b
+came_alone a b us buffer none h = subst (λ (u : List Held). RunReaches a u buffer b) none h
 
 -- it has reached a choice, whose trials are open
 pub comes_in_choice : {a c at b : Point} {us : List Held} {buffer : Seen} {i : ℕ} {x y : Tree} → Continues a c
-    → Waiting (run_of c) i x y at → InChoice i x y at us buffer b → Comes a us buffer b
+    → PathToChoice (run_of c) i x y at → InChoice i x y at us buffer b → RunReaches a us buffer b
 comes_in_choice {us = []} h waiting choice = absurd choice.trials
 comes_in_choice {c = c} {at = at} {us = u ∷ us} {i = i} {x = x} {y = y} h waiting choice =
     record { c = c; continues = h; indent = i; first = x; second = y; at = at; waiting = waiting; choice = choice }
 
-pub came_in_choice : (a b : Point) (us : List Held) (buffer : Seen) → 0 < length us → Comes a us buffer b → ComesInChoice a us buffer b
+pub came_in_choice : (a b : Point) (us : List Held) (buffer : Seen) → 0 < length us → RunReaches a us buffer b
+    → RunReachesChoice a us buffer b
 came_in_choice a b [] buffer some h = absurd (omega (arith, some))
 came_in_choice a b (u ∷ us) buffer some h = h
 
 -- it came further before
-comes_then : (a b c : Point) (us : List Held) (buffer : Seen) → Continues a b → Comes b us buffer c → Comes a us buffer c
+comes_then : (a b c : Point) (us : List Held) (buffer : Seen) → Continues a b → RunReaches b us buffer c → RunReaches a us buffer c
 comes_then a b c [] buffer h k = continues_then h k
 comes_then a b c (u ∷ us) buffer h k =
     record {
@@ -324,19 +326,20 @@ stops_then limit a b c us buffer h k = record { comes = comes_then a b c us buff
 
 -- what a run leaves and a run of that, which may stop, are a run that may stop
 pub runs_then : {E : Type 0} (fails : E → Type 0) (limit : ℕ) (a b c : Point) (us : List Held) (buffer : Seen)
-    (r : Result RunResult (RenderError E)) → Continues a b → RunsOn fails limit b us buffer c r → RunsOn fails limit a us buffer c r
+    (r : Result RunResult (RenderError E)) → Continues a b → RunsToEndOrStops fails limit b us buffer c r
+        → RunsToEndOrStops fails limit a us buffer c r
 runs_then fails limit a b c us buffer (Ok run_result.Finished) h k = continues_to_end fails (Ok run_result.Finished) h k
 runs_then fails limit a b c us buffer (Ok run_result.Shift) h k = stops_then limit a b c us buffer h k
 runs_then fails limit a b c us buffer (Err e) h k = continues_to_end fails (Err e) h k
 
 -- a choice in which a run came is made
-pub choice_continues : {E : Type 0} {a c at b : Point} (i : ℕ) (x y : Tree) → Continues a c → Waiting (run_of c) i x y at
+pub choice_continues : {E : Type 0} {a c at b : Point} (i : ℕ) (x y : Tree) → Continues a c → PathToChoice (run_of c) i x y at
     → Chooses {A = RunResult} {E = E} i x y at b (Ok run_result.Finished) → Continues a b
 choice_continues {c} i x y h waiting k = continues_then h (path_continues (k.runs (run_of c) waiting))
 
 -- it ended in an error
 pub choice_stopped : {E : Type 0} (fails : E → Type 0) {a c at b : Point} (i : ℕ) (x y : Tree) (e : RenderError E) → Continues a c
-    → Waiting (run_of c) i x y at → Chooses {A = RunResult} {E = E} i x y at b (Err e) → RunsToEnd {A = RunResult} fails a b (Err e)
+    → PathToChoice (run_of c) i x y at → Chooses {A = RunResult} {E = E} i x y at b (Err e) → RunsToEnd {A = RunResult} fails a b (Err e)
 choice_stopped fails {c} i x y e h waiting k =
     continues_to_end fails (Err e) h
     (work_stopped {A = RunResult} fails e (run_broke_off fails e (steps.broke_anyhow fails e (k.runs (run_of c) waiting))))

@@ -11,22 +11,22 @@ use Rattle.prettyless_model.specs.Tree.{PartialUnion, size}
 use Rattle.prettyless_model.specs.Content.{suffix_depth}
 use Rattle.prettyless_model.specs.Counts.{each_probe}
 use Rattle.prettyless_model.specs.Layout.{State, some_pending}
-use Rattle.prettyless_summary.specs.Summary.{HasSums}
+use Rattle.prettyless_summary.specs.Summary.{HasSummaries}
 use Rattle.prettyless_probe.specs.Stack.{Task, make_task, nodes, follow, trees}
 use Rattle.prettyless_step.specs.Steps.{Step, Move, Stuck, Choose}
 use Rattle.prettyless_probe.specs.Probing.{asked, Few}
-use Rattle.prettyless_step.specs.Printing.{Hands, Shows, state_of, tasks_of}
-use Rattle.prettyless_probe.specs.Sums.{AllSummed, HaveSummaries, StepHas, TreesHave}
+use Rattle.prettyless_step.specs.Printing.{Descends, Shows, state_of, tasks_of}
+use Rattle.prettyless_probe.specs.Sums.{AllSummed, HaveSummaries, StepHasSummaries, TreesHaveSummaries}
 use Rattle.prettyless_step.specs.declared.printer.Printer.{Printer}
 use Rattle.prettyless_step.specs.declared.printer.StepResult.TheVariants.{Failed, Choice}
-use Rattle.prettyless_step.proofs.Shown.{step_at, Leads, Asks}
+use Rattle.prettyless_step.proofs.Shown.{step_at, StepsTo, IsChoice}
 use Rattle.prettyless_step.proofs.Summaries.{step_has}
 use Rattle.prettyless_printer.specs.Points.{Standing, standing, state_at, Seen, Point, point}
 use Rattle.prettyless_printer.specs.Visits.{Plain, CountsAtMost}
 use Rattle.prettyless_printer.specs.Spending.{Capped, Left, Rule, Spends, left, none_left, rule_of}
-use Rattle.prettyless_printer.proofs.Standings.{Wrote, asks_there, put_in_hand, step_from, stuck_there, waits_there}
-use Rattle.prettyless_printer.proofs.Hands.{InHand, Visit}
-use Rattle.prettyless_printer.proofs.Visits.{NoSuffix, at_most_all, chosen_at_most, failed_at_most, went_at_most}
+use Rattle.prettyless_printer.proofs.Standings.{Wrote, choice_there, descended, step_from, stuck_there, pending_stands}
+use Rattle.prettyless_printer.proofs.Descends.{InHand, Visit}
+use Rattle.prettyless_printer.proofs.Visits.{NoSuffix, at_most_all, choice_at_most, failed_at_most, move_at_most}
 
 -- # One probe
 
@@ -116,21 +116,22 @@ have_append : (ts us : List Task) → HaveSummaries ts → HaveSummaries us → 
 have_append [] us h k = k
 have_append (t ∷ ts) us h k = (h.0, have_append ts us h.1 k)
 
-leads_have : (ts us : List Task) (bytes : List ℕ) (u : State) (step : Step) → StepHas step → HaveSummaries ts → Leads step ts bytes us u
+steps_to_have : (ts us : List Task) (bytes : List ℕ) (u : State) (step : Step) → StepHasSummaries step → HaveSummaries ts
+    → StepsTo step ts bytes us u
     → HaveSummaries us
-leads_have ts us bytes u (Move b pushed x) h k l = subst HaveSummaries (sym l.1) (have_append pushed ts h.0 k)
-leads_have ts us bytes u Stuck h k l = absurd l
-leads_have ts us bytes u (Choose i x y) h k l = absurd l
+steps_to_have ts us bytes u (Move b pushed x) h k l = subst HaveSummaries (sym l.1) (have_append pushed ts h.0 k)
+steps_to_have ts us bytes u Stuck h k l = absurd l
+steps_to_have ts us bytes u (Choose i x y) h k l = absurd l
 
-asks_have : (i : ℕ) (x y : Tree) (step : Step) → StepHas step → Asks step i x y → HasSums x × HasSums y
-asks_have i x y (Move b pushed u) h k = absurd k
-asks_have i x y Stuck h k = absurd k
-asks_have i x y (Choose j l r) h k = (subst HasSums (sym k.1) h.0, subst HasSums (sym k.2) h.1)
+choice_has : (i : ℕ) (x y : Tree) (step : Step) → StepHasSummaries step → IsChoice step i x y → HasSummaries x × HasSummaries y
+choice_has i x y (Move b pushed u) h k = absurd k
+choice_has i x y Stuck h k = absurd k
+choice_has i x y (Choose j l r) h k = (subst HasSummaries (sym k.1) h.0, subst HasSummaries (sym k.2) h.1)
 
 -- the step of a task of which all nodes have summaries, where nothing is pending
 task_has : (o : RenderOptions) (t : Task) (ts : List Task) (st : State) → st.pending ≡ [] → HaveSummaries (t ∷ ts)
-    → StepHas (step_at o t ts st)
-task_has o t ts st none h = step_has o t.tree t.indent t.mode (follow ts) st h.0 (subst TreesHave (sym none) tt)
+    → StepHasSummaries (step_at o t ts st)
+task_has o t ts st none h = step_has o t.tree t.indent t.mode (follow ts) st h.0 (subst TreesHaveSummaries (sym none) tt)
 
 -- # A turn
 
@@ -168,13 +169,13 @@ same_queue : {N : Type 0} (f : N → Tree) (t : Task) (p q : Printer N) → NoSu
     (suffix_depth t.tree ≡ 0 → some_pending (state_of f p).pending ≡ false → q.queue ≡ p.queue) → (standing f p).queue ≡ []
     → (standing f q).queue ≡ []
 same_queue f t p q plain same none =
-    ap (λ z. trees f z.nodes.items) (same (omega (arith, plain.0)) (waits_there f p ∙ ap some_pending plain.1)) ∙ none
+    ap (λ z. trees f z.nodes.items) (same (omega (arith, plain.0)) (pending_stands f p ∙ ap some_pending plain.1)) ∙ none
 
 -- the step leads to the next node
 pub spends_down : {N : Type 0} (f : N → Tree) {r : Rule} {a : Point} {t : Task} {s : Seen} {v x : Visits} (p q : Printer N) (i : ℕ)
     (m : Mode) (n : N) → Takes f r a t p s v x → Plain a.printer →
     (suffix_depth t.tree ≡ 0 → some_pending (state_of f p).pending ≡ false → q.queue ≡ p.queue)
-    → Hands f i m n (step_from a.printer.options t (standing f p)) p q →
+    → Descends f i m n (step_from a.printer.options t (standing f p)) p q →
     Spends r (left a.printer [] a.visits) (left_with (make_task i m (f n)) (standing f q) x)
 spends_down f {a} {t} p q i m n h plain same shows =
     let o = a.printer.options in
@@ -183,29 +184,30 @@ spends_down f {a} {t} p q i m n h plain same shows =
     let st = state_at b in
     let us : List Task = make_task i m (f n) ∷ c.tasks in
     let y = (h.hand.at_most plain).0 in
-    let k = put_in_hand f i m n (step_at o t b.tasks st) p q shows in
-    let counts = (went_at_most us (state_at c) [] h.one.more y k.leads).1 in
+    let k = descended f i m n (step_at o t b.tasks st) p q shows in
+    let counts = (move_at_most us (state_at c) [] h.one.more y k.steps_to).1 in
     spends_then (h.spent plain)
     (step_spends h.visits counts
-    (λ g. leads_have b.tasks us [] (state_at c) (step_at o t b.tasks st) (task_has o t b.tasks st y.1 g) g.1 k.leads)
+    (λ g. steps_to_have b.tasks us [] (state_at c) (step_at o t b.tasks st) (task_has o t b.tasks st y.1 g) g.1 k.steps_to)
     (same_queue f t p q y same))
 
 -- the step wrote its bytes
-pub spends_went : {N : Type 0} (f : N → Tree) {r : Rule} {a : Point} {t : Task} {s : Seen} {v x : Visits} (p q : Printer N) (bytes : List ℕ)
+pub spends_moved : {N : Type 0} (f : N → Tree) {r : Rule} {a : Point} {t : Task} {s : Seen} {v x : Visits} (p q : Printer N)
+    (bytes : List ℕ)
     → Takes f r a t p s v x → Plain a.printer →
     (suffix_depth t.tree ≡ 0 → some_pending (state_of f p).pending ≡ false → q.queue ≡ p.queue)
     → Wrote (step_from a.printer.options t (standing f p)) bytes (standing f p) (standing f q) →
     Spends r (left a.printer [] a.visits) (left (standing f q) [] x)
-spends_went f {a} {t} p q bytes h plain same k =
+spends_moved f {a} {t} p q bytes h plain same k =
     let o = a.printer.options in
     let b = standing f p in
     let c = standing f q in
     let st = state_at b in
     let y = (h.hand.at_most plain).0 in
-    let counts = (went_at_most c.tasks (state_at c) bytes h.one.more y k.leads).1 in
+    let counts = (move_at_most c.tasks (state_at c) bytes h.one.more y k.steps_to).1 in
     spends_then (h.spent plain)
     (step_spends h.visits counts
-    (λ g. leads_have b.tasks c.tasks bytes (state_at c) (step_at o t b.tasks st) (task_has o t b.tasks st y.1 g) g.1 k.leads)
+    (λ g. steps_to_have b.tasks c.tasks bytes (state_at c) (step_at o t b.tasks st) (task_has o t b.tasks st y.1 g) g.1 k.steps_to)
     (same_queue f t p q y same))
 
 -- the step fails
@@ -221,24 +223,24 @@ spends_failed f {r} {a} {t} {x} p q h plain shows =
     (spends_then (h.spent plain) (step_spends h.visits counts (λ g. g.1) (λ e. e)))
 
 -- a choice comes next
-pub spends_chosen : {N : Type 0} (f : N → Tree) {r : Rule} {a : Point} {t : Task} {s : Seen} {v x : Visits} (p q : Printer N) (i : ℕ)
+pub spends_choice : {N : Type 0} (f : N → Tree) {r : Rule} {a : Point} {t : Task} {s : Seen} {v x : Visits} (p q : Printer N) (i : ℕ)
     (y z : N) → Takes f r a t p s v x → Plain a.printer →
     Shows f t.mode (Choice i y z) (step_from a.printer.options t (standing f p)) p q →
     Spends r (left a.printer [] a.visits)
     (on_tasks (make_task i Break (f y) ∷ make_task i Break (f z) ∷ (standing f q).tasks) (standing f q).queue x)
-spends_chosen f {r} {a} {t} {x} p q i y z h plain shows =
+spends_choice f {r} {a} {t} {x} p q i y z h plain shows =
     let o = a.printer.options in
     let b = standing f p in
     let st = state_at b in
     let none = (h.hand.at_most plain).0 in
-    let k = asks_there f t.mode i y z (step_from o t b) p q shows in
-    let counts = (chosen_at_most i (f y) (f z) h.one.more none k.0).2 in
+    let k = choice_there f t.mode i y z (step_from o t b) p q shows in
+    let counts = (choice_at_most i (f y) (f z) h.one.more none k.0).2 in
     let us : List Task = make_task i Break (f y) ∷ make_task i Break (f z) ∷ b.tasks in
     subst (λ (u : Standing). Spends r (left a.printer [] a.visits)
     (on_tasks (make_task i Break (f y) ∷ make_task i Break (f z) ∷ u.tasks) u.queue x)) (sym k.1)
     (spends_then (h.spent plain)
     (step_spends h.visits counts
-    (λ g. let both = asks_have i (f y) (f z) (step_at o t b.tasks st) (task_has o t b.tasks st none.1 g) k.0 in
+    (λ g. let both = choice_has i (f y) (f z) (step_at o t b.tasks st) (task_has o t b.tasks st none.1 g) k.0 in
     (both.0, (both.1, g.1))) (λ e. e)))
 
 -- the step was refused memory

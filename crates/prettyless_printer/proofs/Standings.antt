@@ -8,11 +8,11 @@ use Rattle.prettyless_model.specs.Tree.{Tree}
 use Rattle.prettyless_probe.specs.Stack.{Task, make_task, nodes, trees}
 use Rattle.prettyless_step.specs.Steps.{Step}
 use Rattle.prettyless_step.specs.Printing as step
-use Rattle.prettyless_step.specs.Printing.{state_of, tasks_of, Hands, Shows, Writes}
+use Rattle.prettyless_step.specs.Printing.{state_of, tasks_of, Descends, Shows, Writes}
 use Rattle.prettyless_step.specs.declared.printer.Printer.{Printer}
 use Rattle.prettyless_step.specs.declared.printer.StepResult.TheVariants.{Failed, Choice}
 use Rattle.prettyless_step.proofs.Queues.{trees-append}
-use Rattle.prettyless_step.proofs.Shown.{step_at, Leads, IsStuck, Asks, written, handed, stuck, asks}
+use Rattle.prettyless_step.proofs.Shown.{step_at, StepsTo, IsStuck, IsChoice, written, printer_descended, stuck, choice_step}
 use Rattle.prettyless_printer.specs.Points.{QueueGrows, Standing, standing, state_at}
 
 -- A printer stands as another one does, with one task more, and its queue only grew.
@@ -34,9 +34,9 @@ pub state_stands : {N : Type 0} (f : N → Tree) (p : Printer N) → state_of f 
 state_stands {N} f p = λ j. record { column = p.column; pending = sym (drop-map f p.queue.start p.queue.nodes.items) j; within = p.within }
 
 -- whether documents are pending
-pub waits_there : {N : Type 0} (f : N → Tree) (p : Printer N) → some_pending (state_of f p).pending ≡ some_pending
+pub pending_stands : {N : Type 0} (f : N → Tree) (p : Printer N) → some_pending (state_of f p).pending ≡ some_pending
     (state_at (standing f p)).pending
-waits_there {N} f p = ap (λ (u : State). some_pending u.pending) (state_stands f p)
+pending_stands {N} f p = ap (λ (u : State). some_pending u.pending) (state_stands f p)
 
 -- the queue of a standing is as long as that of its printer
 pub length_queue : {N : Type 0} (f : N → Tree) (p : Printer N) → length (standing f p).queue ≡ vec_len p.queue.nodes
@@ -52,7 +52,7 @@ step_from o t p = step_at o t p.tasks (state_at p)
 
 -- A step wrote bytes, from where a printer stood to where it stands.
 pub record Wrote (step : Step) (bytes : List ℕ) (p q : Standing) : Type 0 where
-  pub leads : Leads step p.tasks bytes q.tasks (state_at q)
+  pub steps_to : StepsTo step p.tasks bytes q.tasks (state_at q)
   pub options : q.options ≡ p.options
   pub grows : QueueGrows p q
 
@@ -61,26 +61,26 @@ pub wrote : {N : Type 0} (f : N → Tree) (step : Step) (bytes : List ℕ) (p q 
 wrote {N} f step bytes p q h =
     let k = written f bytes step p q h in
     record {
-      leads = subst (λ (z : State). Leads step (tasks_of f p) bytes (tasks_of f q) z) (state_stands f q) k.0;
+      steps_to = subst (λ (z : State). StepsTo step (tasks_of f p) bytes (tasks_of f q) z) (state_stands f q) k.0;
       options = k.1;
       grows = grows_stands f p q k.2;
     }
 
 -- A step made a task the current one, above the others, and the stack has lost nothing.
-pub record PutInHand (t : Task) (step : Step) (p q : Standing) : Type 0 where
-  pub leads : Leads step p.tasks [] (t ∷ q.tasks) (state_at q)
+pub record Descended (t : Task) (step : Step) (p q : Standing) : Type 0 where
+  pub steps_to : StepsTo step p.tasks [] (t ∷ q.tasks) (state_at q)
   pub state : state_at q ≡ state_at p
   pub options : q.options ≡ p.options
   pub grows : QueueGrows p q
   pub long : length p.tasks ≤ length q.tasks
   pub heavy : nodes p.tasks ≤ nodes q.tasks
 
-pub put_in_hand : {N : Type 0} (f : N → Tree) (i : ℕ) (m : Mode) (n : N) (step : Step) (p q : Printer N) → Hands f i m n step p q
-    → PutInHand (make_task i m (f n)) step (standing f p) (standing f q)
-put_in_hand {N} f i m n step p q h =
-    let k = handed f i m n step p q h in
+pub descended : {N : Type 0} (f : N → Tree) (i : ℕ) (m : Mode) (n : N) (step : Step) (p q : Printer N) → Descends f i m n step p q
+    → Descended (make_task i m (f n)) step (standing f p) (standing f q)
+descended {N} f i m n step p q h =
+    let k = printer_descended f i m n step p q h in
     record {
-      leads = subst (λ (z : State). Leads step (tasks_of f p) [] (make_task i m (f n) ∷ tasks_of f q) z) (state_stands f q) k.leads;
+      steps_to = subst (λ (z : State). StepsTo step (tasks_of f p) [] (make_task i m (f n) ∷ tasks_of f q) z) (state_stands f q) k.steps_to;
       state = sym (state_stands f q) ∙ k.state ∙ state_stands f p;
       options = k.options;
       grows = grows_stands f p q k.grows;
@@ -96,8 +96,8 @@ stuck_there {N} f m step p q h =
     (k.0, ap (standing f) k.1)
 
 -- two branches are to be chosen from, and the printer stands where it stood
-pub asks_there : {N : Type 0} (f : N → Tree) (m : Mode) (i : ℕ) (l r : N) (step : Step) (p q : Printer N)
-    → Shows f m (Choice i l r) step p q → Asks step i (f l) (f r) × (standing f q ≡ standing f p)
-asks_there {N} f m i l r step p q h =
-    let k = asks f m i l r step p q h in
+pub choice_there : {N : Type 0} (f : N → Tree) (m : Mode) (i : ℕ) (l r : N) (step : Step) (p q : Printer N)
+    → Shows f m (Choice i l r) step p q → IsChoice step i (f l) (f r) × (standing f q ≡ standing f p)
+choice_there {N} f m i l r step p q h =
+    let k = choice_step f m i l r step p q h in
     (k.0, ap (standing f) k.1)

@@ -9,17 +9,17 @@ use Rattle.prettyless_model.specs.declared.mode.Mode.TheVariants.{Break}
 use Rattle.prettyless_model.specs.Content.{suffix_depth}
 use Rattle.prettyless_model.specs.Tree.{Tree, size}
 use Rattle.prettyless_probe.specs.Stack.{make_task, nodes}
-use Rattle.prettyless_step.specs.Steps.{owed}
+use Rattle.prettyless_step.specs.Steps.{pending_work}
 use Rattle.prettyless_printer.specs.declared.trial.Mark.{Mark}
 use Rattle.prettyless_printer.specs.Points.{Standing, state_at, Seen, Point, point_at, work_at}
-use Rattle.prettyless_printer.specs.Trials.{Attempt, AtChoice, Fallen, Lasts, Marks, OnTrial, Restores, TrialBroke, Tries}
-use Rattle.prettyless_printer.specs.Trials.{attempt, trial_of, trial_run}
+use Rattle.prettyless_printer.specs.Trials.{Trial, AtChoice, TrialRejected, TrialComplete, Marks, TrialRunning, Restores, TrialBroke, Tries}
+use Rattle.prettyless_printer.specs.Trials.{make_trial, trial_of, trial_run}
 use Rattle.prettyless_printer.specs.Open.{BeginsTrial}
 use Rattle.prettyless_printer.specs.Visits.{Plain, suffix_depths}
 use Rattle.prettyless_printer.specs.Paths.{BeganPlain, Path}
-use Rattle.prettyless_printer.specs.Turns.{Advances, Goes}
+use Rattle.prettyless_printer.specs.Turns.{Advances, TurnHolds}
 use Rattle.prettyless_printer.specs.declared.answer.TurnResult.TheVariants as turn_result
-use Rattle.prettyless_printer.proofs.PathSteps.{at_run, comes_to_wait, goes_on, stops}
+use Rattle.prettyless_printer.proofs.PathSteps.{at_run, path_to_choice, goes_on, stops}
 use Rattle.prettyless_printer.proofs.Progresses.{inside_past}
 use Rattle.prettyless_printer.proofs.Standings.{Flagged}
 use Rattle.prettyless_printer.proofs.Within.{accept_past}
@@ -29,17 +29,17 @@ use Rattle.prettyless_printer.proofs.Visits.{plain_at, plain_push}
 use Rattle.prettyless_printer.proofs.AtLeast.{at_least_end, trial_begins}
 
 -- it began without line suffixes, if there were none and the branch has none
-pub began_plain : (t : Attempt) → Plain t.start.printer → suffix_depth t.branch ≡ 0 → BeganPlain (trial_run t)
+pub began_plain : (t : Trial) → Plain t.start.printer → suffix_depth t.branch ≡ 0 → BeganPlain (trial_run t)
 began_plain t plain none = (omega (arith, plain.none, none), plain.pending)
 
 -- it begins: the branch is the next task
 pub trial_run_begins : (a : Point) (q : Standing) (i : ℕ) (d : Tree) → BeginsTrial i d a.printer q
-    → Path (trial_run (attempt a i d)) (point_at q a.sink a.visits)
+    → Path (trial_run (make_trial a i d)) (point_at q a.sink a.visits)
 trial_run_begins a q i d h = record {
   options = h.options;
   queue = h.grows;
   same_lender = refl;
-  less = omega (arith, ap nodes h.tasks, ap (λ (z : State). owed z.pending) h.state);
+  less = omega (arith, ap nodes h.tasks, ap (λ (z : State). pending_work z.pending) h.state);
   bytes = λ is_known. (is_known, (trying_begins (known a.sink.bytes) h, refl));
   rise = rise_same a.visits;
   at_most = λ began.
@@ -51,29 +51,31 @@ trial_run_begins a q i d h = record {
 }
 
 -- a turn that goes on within the width
-pub course_goes : {N E : Type 0} (f : N → Tree) {t : Attempt} {below : ℕ} {a b : Point} → OnTrial t below a → below < length a.printer.tasks
+pub trial_turn_running : {N E : Type 0} (f : N → Tree) {t : Trial} {below : ℕ} {a b : Point} → TrialRunning t below a
+    → below < length a.printer.tasks
     → Advances {N = N} {E = E} f a b (Ok turn_result.Complete) →
-    b.printer.within ≡ true → OnTrial t below b × (work_at b < work_at a)
-course_goes f on l h within = (
+    b.printer.within ≡ true → TrialRunning t below b × (work_at b < work_at a)
+trial_turn_running f on l h within = (
   record { is_known = on.is_known; path = goes_on f on.path (omega (arith, l, on.height)) h; within = within; height = on.height },
-  h.lessens,
+  h.work_falls,
 )
 
 -- a turn that stopped
-pub course_stops : {N E : Type 0} (f : N → Tree) {t : Attempt} {below : ℕ} {a b : Point} → OnTrial t below a
-    → below < length a.printer.tasks → Advances {N = N} {E = E} f a b (Ok turn_result.Shift) → OnTrial t below b
-course_stops f on l h = record {
+pub trial_turn_shift : {N E : Type 0} (f : N → Tree) {t : Trial} {below : ℕ} {a b : Point} → TrialRunning t below a
+    → below < length a.printer.tasks → Advances {N = N} {E = E} f a b (Ok turn_result.Shift) → TrialRunning t below b
+trial_turn_shift f on l h = record {
   is_known = on.is_known;
   path = stops f on.path (omega (arith, l, on.height)) h;
-  within = h.lessens.1 ∙ on.within;
+  within = h.work_falls.1 ∙ on.within;
   height = on.height;
 }
 
 -- a turn after which something is past the width
-pub course_past : {N E : Type 0} (f : N → Tree) {t : Attempt} {below : ℕ} {a b : Point} → OnTrial t below a → below < length a.printer.tasks
+pub trial_turn_exceeds : {N E : Type 0} (f : N → Tree) {t : Trial} {below : ℕ} {a b : Point} → TrialRunning t below a
+    → below < length a.printer.tasks
     → Advances {N = N} {E = E} f a b (Ok turn_result.Complete) →
-    b.printer.within ≡ false → Fallen t b
-course_past f {t} on l h past =
+    b.printer.within ≡ false → TrialRejected t b
+trial_turn_exceeds f {t} on l h past =
     let p = t.start.printer in
     let path = goes_on f on.path (omega (arith, l, on.height)) h in
     let k = path.bytes on.is_known in
@@ -95,27 +97,28 @@ course_past f {t} on l h past =
     }
 
 -- a turn after which two branches are to be chosen from
-pub course_chosen : {N E : Type 0} (f : N → Tree) {t : Attempt} {below : ℕ} {a b : Point} (i : ℕ) (x y : N) → OnTrial t below a
+pub trial_turn_choice : {N E : Type 0} (f : N → Tree) {t : Trial} {below : ℕ} {a b : Point} (i : ℕ) (x y : N) → TrialRunning t below a
     → below < length a.printer.tasks → Advances {N = N} {E = E} f a b (Ok (turn_result.Choice i x y)) →
     AtChoice t i (f x) (f y) b × (2 * (size (f x) + size (f y)) + work_at b < work_at a)
-course_chosen f {t} {a} {b} i x y on l h =
+trial_turn_choice f {t} {a} {b} i x y on l h =
     let path = on.path in
     let less : length t.start.printer.tasks < length a.printer.tasks = omega (arith, l, on.height) in
     let k = path.bytes on.is_known in
-    let e = at_run (λ o. Goes f o b.printer (known b.sink.bytes) (turn_result.Choice i x y)) path less on.is_known (h.bytes k.0).1.0 in (
+    let e = at_run (λ o. TurnHolds f o b.printer (known b.sink.bytes) (turn_result.Choice i x y)) path less on.is_known
+        (h.bytes k.0).1.0 in (
       record {
         is_known = (h.bytes k.0).0;
-        waiting = comes_to_wait f i x y path less h (omega (arith, ap length e.stack_is, length-append e.above t.start.printer.tasks));
-        within = h.lessens.1 ∙ on.within;
+        waiting = path_to_choice f i x y path less h (omega (arith, ap length e.stack_is, length-append e.above t.start.printer.tasks));
+        within = h.work_falls.1 ∙ on.within;
       },
-      h.lessens.0,
+      h.work_falls.0,
     )
 
 -- it came to its end, and the padding fits
-pub course_over : {t : Attempt} {below : ℕ} {a : Point} → OnTrial t below a → length a.printer.tasks ≤ below →
-    padding_fits a.printer.options.width (some_pending (state_at a.printer).pending) a.printer.column ≡ true → Lasts t a
+pub trial_end_complete : {t : Trial} {below : ℕ} {a : Point} → TrialRunning t below a → length a.printer.tasks ≤ below →
+    padding_fits a.printer.options.width (some_pending (state_at a.printer).pending) a.printer.column ≡ true → TrialComplete t a
     × (work_at a ≤ work_at a)
-course_over {a} on l fits = (
+trial_end_complete {a} on l fits = (
   record {
     is_known = on.is_known;
     path = on.path;
@@ -128,9 +131,9 @@ course_over {a} on l fits = (
 )
 
 -- it came to its end, and the padding does not fit
-pub course_unfit : {t : Attempt} {below : ℕ} {a : Point} → OnTrial t below a → length a.printer.tasks ≤ below →
-    padding_fits a.printer.options.width (some_pending (state_at a.printer).pending) a.printer.column ≡ false → Fallen t a
-course_unfit {t} {a} on l unfit =
+pub trial_end_exceeds : {t : Trial} {below : ℕ} {a : Point} → TrialRunning t below a → length a.printer.tasks ≤ below →
+    padding_fits a.printer.options.width (some_pending (state_at a.printer).pending) a.printer.column ≡ false → TrialRejected t a
+trial_end_exceeds {t} {a} on l unfit =
     let p = t.start.printer in
     let path = on.path in
     let k = path.bytes on.is_known in
@@ -154,10 +157,10 @@ course_unfit {t} {a} on l unfit =
     }
 
 -- what is rejected, or waits for a choice, may end in an error
-pub fallen_broke : {t : Attempt} {b : Point} → Fallen t b → TrialBroke t b
-fallen_broke h = record { rise = h.rise; at_most = λ began. at_most_all (h.at_most began) }
+pub rejected_broke : {t : Trial} {b : Point} → TrialRejected t b → TrialBroke t b
+rejected_broke h = record { rise = h.rise; at_most = λ began. at_most_all (h.at_most began) }
 
-pub choice_broke : {t : Attempt} (i : ℕ) (x y : Tree) {b : Point} → AtChoice t i x y b → TrialBroke t b
+pub choice_broke : {t : Trial} (i : ℕ) (x y : Tree) {b : Point} → AtChoice t i x y b → TrialBroke t b
 choice_broke i x y h = record { rise = h.waiting.rise; at_most = λ began. at_most_all (h.waiting.at_most began).3 }
 
 -- A sink was cut back to where a mark was set.
@@ -168,7 +171,7 @@ pub record CutBack (m : Mark) (s t : Seen) : Type 0 where
   pub lender : t.lender ≡ s.lender
 
 -- it is undone
-pub trial_undone : {E : Type 0} {t : Attempt} {b : Point} {m : Mark} {s : Seen} (r : Standing) → Fallen t b
+pub trial_undone : {E : Type 0} {t : Trial} {b : Point} {m : Mark} {s : Seen} (r : Standing) → TrialRejected t b
     → Marks m t.start.printer t.start.sink → Restores m b.printer r → CutBack m b.sink s →
     Tries {E = E} t.indent t.branch t.start (point_at r s b.visits) (Ok false)
 trial_undone {t} {s} r fell marks back cut =
@@ -186,7 +189,7 @@ trial_undone {t} {s} r fell marks back cut =
     }
 
 -- it is kept
-pub trial_over : {E : Type 0} {t : Attempt} {b : Point} {r : Standing} → Lasts t b → Flagged t.start.printer.within b.printer r →
+pub trial_over : {E : Type 0} {t : Trial} {b : Point} {r : Standing} → TrialComplete t b → Flagged t.start.printer.within b.printer r →
     Tries {E = E} t.indent t.branch t.start (point_at r b.sink b.visits) (Ok true)
 trial_over {t} {b} {r} lasts kept =
     let p = lasts.path in

@@ -11,17 +11,17 @@ use Rattle.prettyless_sink.specs.Sink.{known}
 use Rattle.prettyless_model.specs.declared.options.RenderOptions.{RenderOptions}
 use Rattle.prettyless_model.specs.Tree.{Tree}
 use Rattle.prettyless_model.specs.Column.{padding_fits}
-use Rattle.prettyless_model.specs.Layout.{State, Outcome, Done, accept, lay, some_pending, tried}
+use Rattle.prettyless_model.specs.Layout.{State, Outcome, Done, accept, lay, some_pending, in_trial}
 use Rattle.prettyless_model.specs.Levels.{settle}
 use Rattle.prettyless_model.specs.declared.mode.Mode.TheVariants.{Break}
 use Rattle.prettyless_model.proofs.Outcomes.{after-nil, then-done}
 use Rattle.prettyless_probe.specs.Stack.{Task, make_task, follow}
-use Rattle.prettyless_step.specs.Steps.{lay_all, owed}
-use Rattle.prettyless_printer.specs.Progress.{Inside, Waits, Decides}
+use Rattle.prettyless_step.specs.Steps.{lay_all, pending_work}
+use Rattle.prettyless_printer.specs.Progress.{Inside, ChoiceNext, Decides}
 use Rattle.prettyless_printer.specs.Points.{Standing, state_at, QueueBegins, QueueGrows, Seen, Point}
 use Rattle.prettyless_printer.specs.Open.{BeginsTrial}
-use Rattle.prettyless_printer.specs.Trials.{Attempt, Fallen, Lasts, Marks, Restores, TrialDid, Tries, work_limit, trial_of}
-use Rattle.prettyless_printer.proofs.Progresses.{waits_kept, waits_other, inside_end}
+use Rattle.prettyless_printer.specs.Trials.{Trial, TrialRejected, TrialComplete, Marks, Restores, TrialDecides, Tries, work_limit, trial_of}
+use Rattle.prettyless_printer.proofs.Progresses.{choice_next_kept, choice_next_other, inside_end}
 use Rattle.prettyless_printer.proofs.Standings.{Flagged, Pushed}
 use Rattle.prettyless_printer.specs.declared.trial.Mark.{Mark}
 
@@ -44,7 +44,7 @@ trying_begins {p} {q} {i} {d} old h = record {
   out_is = sym (append-nil old);
   same = after-nil (lay_all p.options (settle p.options) (make_task i Break d ∷ []) (follow p.tasks) (state_at q))
       ∙ lay_all-one p.options i d p.tasks (state_at q) ∙ ap (lay p.options (settle p.options) d i Break (follow p.tasks)) h.state;
-  bound = omega (arith, ap (λ (u : State). owed u.pending) h.state);
+  bound = omega (arith, ap (λ (u : State). pending_work u.pending) h.state);
 }
 
 pub begins-grows : (ds : List Tree) (q r : Standing) → QueueBegins ds q → QueueGrows q r → QueueBegins ds r
@@ -88,9 +88,10 @@ restored {p} q r e g h =
     λ j. record { column = c j; pending = a j; within = o j }
 
 -- a trial that is undone: what it wrote is cut off, and its outcome is not accepted
-pub trial_rejected : {t : Attempt} {b : Point} {m : Mark} (r : Standing) (new : List ℕ) → Fallen t b → Marks m t.start.printer t.start.sink
+pub trial_rejected : {t : Trial} {b : Point} {m : Mark} (r : Standing) (new : List ℕ) → TrialRejected t b
+    → Marks m t.start.printer t.start.sink
     → Restores m b.printer r → new ≡ take m.written (known b.sink.bytes) →
-    TrialDid t.start.printer r t.indent t.branch (known t.start.sink.bytes) new false
+    TrialDecides t.start.printer r t.indent t.branch (known t.start.sink.bytes) new false
 trial_rejected {t} {b} {m} r new fell marks back cut =
     let p = t.start.printer in
     let old = known t.start.sink.bytes in
@@ -99,7 +100,7 @@ trial_rejected {t} {b} {m} r new fell marks back cut =
       back.5 ∙ fell.options,
       ([], restored_queue b.printer r marks fell.grows back ∙ sym (append-nil p.queue)),
       back.4 ∙ marks.within,
-      omega (arith, ap (λ (x : State). owed x.pending) s),
+      omega (arith, ap (λ (x : State). pending_work x.pending) s),
       (cut ∙ ap (take m.written) fell.wrote ∙ take_at old fell.bytes m.written (sym marks.written), s, fell.rejected),
     )
 
@@ -112,7 +113,7 @@ none_above (a ∷ above) below stack e l = absurd (omega (arith, ap length e, le
 -- a trial that came to its end
 pub trial_ends : (p q : Standing) (i : ℕ) (d : Tree) (old out : List ℕ) → Trying p i d old q out → length q.tasks ≤ length p.tasks →
     (q.tasks ≡ p.tasks) × (bytes : List ℕ) × (out ≡ old ++ bytes) × (trial_of p i d ≡ Done bytes (state_at q))
-    × (owed (state_at q).pending ≤ work_limit p d)
+    × (pending_work (state_at q).pending ≤ work_limit p d)
 trial_ends p q i d old out y l =
     let z = inside_end y l in
     (none_above y.above p.tasks q.tasks y.stack_is l, z.0, z.1, z.2, z.3)
@@ -128,8 +129,8 @@ padding_decides p q i d bytes fits e w h other =
     ∙ ap (λ (v : Bool). done (v && padding_fits p.options.width (some_pending (state_at q).pending) q.column)) w ∙ ap done h
 
 -- a trial that is kept
-pub trial_kept : {t : Attempt} {b : Point} {r : Standing} → Lasts t b → Flagged t.start.printer.within b.printer r →
-    TrialDid t.start.printer r t.indent t.branch (known t.start.sink.bytes) (known b.sink.bytes) true
+pub trial_kept : {t : Trial} {b : Point} {r : Standing} → TrialComplete t b → Flagged t.start.printer.within b.printer r →
+    TrialDecides t.start.printer r t.indent t.branch (known t.start.sink.bytes) (known b.sink.bytes) true
 trial_kept {t} {b} {r} lasts kept =
     let p = t.start.printer in
     let q = b.printer in
@@ -140,7 +141,7 @@ trial_kept {t} {b} {r} lasts kept =
       kept.options ∙ path.options,
       begins-grows p.queue q r path.queue kept.grows,
       ap (λ (x : State). x.within) kept.state,
-      omega (arith, z.4, ap (λ (x : State). owed x.pending) kept.state),
+      omega (arith, z.4, ap (λ (x : State). pending_work x.pending) kept.state),
       (
         z.1,
         z.2,
@@ -153,15 +154,15 @@ trial_kept {t} {b} {r} lasts kept =
 -- what a trial decides, under options that are the same
 decides_at : (q r : Standing) (o : RenderOptions) (j : ℕ) (x : Tree) (kept : Bool) (old new : List ℕ) → q.options ≡ o →
     Decides kept q.options (trial_of q j x) q.within old new (state_at q) (state_at r) →
-    Decides kept o (lay o (settle o) x j Break (follow q.tasks) (tried (state_at q))) q.within old new (state_at q) (state_at r)
+    Decides kept o (lay o (settle o) x j Break (follow q.tasks) (in_trial (state_at q))) q.within old new (state_at q) (state_at r)
 decides_at q r o j x kept old new e h =
-    subst (λ (z : RenderOptions). Decides kept z (lay z (settle z) x j Break (follow q.tasks) (tried (state_at q))) q.within old new
+    subst (λ (z : RenderOptions). Decides kept z (lay z (settle z) x j Break (follow q.tasks) (in_trial (state_at q))) q.within old new
     (state_at q) (state_at r)) e h
 
 module _ {E : Type 0} {o : RenderOptions} {whole : Outcome} {limit : ℕ} {below : List Task} {old out : List ℕ} {j : ℕ} {x y : Tree}
     {a b : Point} where
   -- a choice, and its trial kept
-  pub choice_kept : Tries {E = E} j x a b (Ok true) → Waits o whole limit below old j x y a.printer.tasks (state_at a.printer) out
+  pub choice_kept : Tries {E = E} j x a b (Ok true) → ChoiceNext o whole limit below old j x y a.printer.tasks (state_at a.printer) out
       → a.printer.options ≡ o → (bytes : List ℕ) × (known b.sink.bytes ≡ known a.sink.bytes ++ bytes)
       × Inside o whole limit below old b.printer.tasks (state_at b.printer) (out ++ bytes)
   choice_kept tries waits e =
@@ -171,12 +172,12 @@ module _ {E : Type 0} {o : RenderOptions} {whole : Outcome} {limit : ℕ} {below
         k.0,
         k.1,
         subst (λ (z : List Task). Inside o whole limit below old z (state_at b.printer) (out ++ k.0)) (sym d.0)
-            (waits_kept waits (k.2 (lay o (settle o) y j Break (follow q.tasks) (state_at q))) d.4),
+            (choice_next_kept waits (k.2 (lay o (settle o) y j Break (follow q.tasks) (state_at q))) d.4),
       )
 
   -- a choice, and its trial rejected: the second branch comes next
   pub choice_other : {q : Standing} → Tries {E = E} j x a b (Ok false)
-      → Waits o whole limit below old j x y a.printer.tasks (state_at a.printer) out → a.printer.options ≡ o
+      → ChoiceNext o whole limit below old j x y a.printer.tasks (state_at a.printer) out → a.printer.options ≡ o
       → Pushed (make_task j Break y) b.printer q
       → (known b.sink.bytes ≡ known a.sink.bytes) × Inside o whole limit below old q.tasks (state_at q) out
   choice_other {q} tries waits e pushed =
@@ -186,7 +187,7 @@ module _ {E : Type 0} {o : RenderOptions} {whole : Outcome} {limit : ℕ} {below
         subst (λ (z : List Task). Inside o whole limit below old z (state_at q) out)
             (sym (pushed.tasks ∙ ap (λ (z : List Task). make_task j Break y ∷ z) d.0))
             (subst (λ (u : State). Inside o whole limit below old (make_task j Break y ∷ a.printer.tasks) u out)
-            (sym (pushed.state ∙ k.1)) (waits_other waits k.2)),
+            (sym (pushed.state ∙ k.1)) (choice_next_other waits k.2)),
       )
 
 -- a text may be cut where it ended before something was appended

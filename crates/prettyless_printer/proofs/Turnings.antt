@@ -7,10 +7,10 @@ use Rattle.prettyless_model.specs.Tree.{Tree, size}
 use Rattle.prettyless_model.specs.Layout.{State, Outcome, Failed, after_bytes}
 use Rattle.prettyless_model.specs.Levels.{settle}
 use Rattle.prettyless_probe.specs.Stack.{Task, follow, nodes}
-use Rattle.prettyless_step.specs.Steps.{lay_all, work, owed, Step, Move, Stuck, Choose}
+use Rattle.prettyless_step.specs.Steps.{lay_all, work, pending_work, Step, Move, Stuck, Choose}
 use Rattle.prettyless_probe.proofs.Stacks.{nodes-append}
-use Rattle.prettyless_step.proofs.Shown.{step_at, Leads, IsStuck, Asks}
-use Rattle.prettyless_printer.specs.Progress.{Inside, Waits}
+use Rattle.prettyless_step.proofs.Shown.{step_at, StepsTo, IsStuck, IsChoice}
+use Rattle.prettyless_printer.specs.Progress.{Inside, ChoiceNext}
 use Rattle.prettyless_printer.specs.Turns.{bytes_before}
 use Rattle.prettyless_printer.proofs.Steps.{LeavesLess, step_less}
 use Rattle.prettyless_printer.proofs.Progresses.{Steps, stepping, inside_beginning}
@@ -28,44 +28,48 @@ inside_at o whole limit below old stack stack' st st' out out' e f h p = record 
   bound = subst (λ (x : State). work p.above x ≤ limit) (sym f) p.bound;
 }
 
-lessens_by : (t : Task) (ts us : List Task) (st u : State) (bytes : List ℕ) (step : Step)
-    → LeavesLess (owed st.pending) (2 * size t.tree + owed st.pending) step →
-    Leads step ts bytes us u → work us u < work (t ∷ ts) st
-lessens_by t ts us st u bytes (Move b pushed v) less h =
-    omega (arith, ap nodes h.1, nodes-append pushed ts, ap (λ (x : State). owed x.pending) h.2)
-lessens_by t ts us st u bytes Stuck less h = absurd h
-lessens_by t ts us st u bytes (Choose i x y) less h = absurd h
+work_falls_by : (t : Task) (ts us : List Task) (st u : State) (bytes : List ℕ) (step : Step)
+    → LeavesLess (pending_work st.pending) (2 * size t.tree + pending_work st.pending) step →
+    StepsTo step ts bytes us u → work us u < work (t ∷ ts) st
+work_falls_by t ts us st u bytes (Move b pushed v) less h =
+    omega (arith, ap nodes h.1, nodes-append pushed ts, ap (λ (x : State). pending_work x.pending) h.2)
+work_falls_by t ts us st u bytes Stuck less h = absurd h
+work_falls_by t ts us st u bytes (Choose i x y) less h = absurd h
 
 -- work is taken away
-pub lessens : (o : RenderOptions) (t : Task) (ts us : List Task) (st u : State) (bytes : List ℕ) → Leads (step_at o t ts st) ts bytes us u
+pub work_falls : (o : RenderOptions) (t : Task) (ts us : List Task) (st u : State) (bytes : List ℕ)
+    → StepsTo (step_at o t ts st) ts bytes us u
     → work us u < work (t ∷ ts) st
-lessens o t ts us st u bytes h = lessens_by t ts us st u bytes (step_at o t ts st) (step_less o t.tree t.indent t.mode (follow ts) st) h
+work_falls o t ts us st u bytes h = work_falls_by t ts us st u bytes (step_at o t ts st)
+    (step_less o t.tree t.indent t.mode (follow ts) st) h
 
-choice_lessens_by : (t : Task) (ts : List Task) (st : State) (i : ℕ) (x y : Tree) (step : Step)
-    → LeavesLess (owed st.pending) (2 * size t.tree + owed st.pending) step →
-    Asks step i x y → 2 * (size x + size y) + work ts st < work (t ∷ ts) st
-choice_lessens_by t ts st i x y (Move b pushed u) less h = absurd h
-choice_lessens_by t ts st i x y Stuck less h = absurd h
-choice_lessens_by t ts st i x y (Choose j v w) less h = omega (arith, ap size h.1, ap size h.2)
+choice_work_falls_by : (t : Task) (ts : List Task) (st : State) (i : ℕ) (x y : Tree) (step : Step)
+    → LeavesLess (pending_work st.pending) (2 * size t.tree + pending_work st.pending) step →
+    IsChoice step i x y → 2 * (size x + size y) + work ts st < work (t ∷ ts) st
+choice_work_falls_by t ts st i x y (Move b pushed u) less h = absurd h
+choice_work_falls_by t ts st i x y Stuck less h = absurd h
+choice_work_falls_by t ts st i x y (Choose j v w) less h = omega (arith, ap size h.1, ap size h.2)
 
-pub choice_lessens : (o : RenderOptions) (t : Task) (ts : List Task) (st : State) (i : ℕ) (x y : Tree) → Asks (step_at o t ts st) i x y
+pub choice_work_falls : (o : RenderOptions) (t : Task) (ts : List Task) (st : State) (i : ℕ) (x y : Tree)
+    → IsChoice (step_at o t ts st) i x y
     → 2 * (size x + size y) + work ts st < work (t ∷ ts) st
-choice_lessens o t ts st i x y h = choice_lessens_by t ts st i x y (step_at o t ts st) (step_less o t.tree t.indent t.mode (follow ts) st) h
+choice_work_falls o t ts st i x y h = choice_work_falls_by t ts st i x y (step_at o t ts st)
+    (step_less o t.tree t.indent t.mode (follow ts) st) h
 
-went_by : (o : RenderOptions) (whole : Outcome) (limit : ℕ) (below : List Task) (old : List ℕ) (ts us : List Task) (st u : State)
+move_by : (o : RenderOptions) (whole : Outcome) (limit : ℕ) (below : List Task) (old : List ℕ) (ts us : List Task) (st u : State)
     (out bytes : List ℕ) (step : Step) →
-    Steps o whole limit below old ts st out step → Leads step ts bytes us u → Inside o whole limit below old us u (out ++ bytes)
-went_by o whole limit below old ts us st u out bytes (Move b pushed v) p h =
+    Steps o whole limit below old ts st out step → StepsTo step ts bytes us u → Inside o whole limit below old us u (out ++ bytes)
+move_by o whole limit below old ts us st u out bytes (Move b pushed v) p h =
     inside_at o whole limit below old (pushed ++ ts) us v u (out ++ b) (out ++ bytes) h.1 h.2 (ap (λ (x : List ℕ). out ++ x) h.0) p
-went_by o whole limit below old ts us st u out bytes Stuck p h = absurd h
-went_by o whole limit below old ts us st u out bytes (Choose i x y) p h = absurd h
+move_by o whole limit below old ts us st u out bytes Stuck p h = absurd h
+move_by o whole limit below old ts us st u out bytes (Choose i x y) p h = absurd h
 
 -- the work goes on inside the whole
-pub went : (o : RenderOptions) (whole : Outcome) (limit : ℕ) (below : List Task) (old : List ℕ) (t : Task) (ts us : List Task)
+pub move_inside : (o : RenderOptions) (whole : Outcome) (limit : ℕ) (below : List Task) (old : List ℕ) (t : Task) (ts us : List Task)
     (st u : State) (out bytes : List ℕ) → length below ≤ length ts →
-    Inside o whole limit below old (t ∷ ts) st out → Leads (step_at o t ts st) ts bytes us u
+    Inside o whole limit below old (t ∷ ts) st out → StepsTo (step_at o t ts st) ts bytes us u
     → Inside o whole limit below old us u (out ++ bytes)
-went o whole limit below old t ts us st u out bytes l p h = went_by o whole limit below old ts us st u out bytes (step_at o t ts st)
+move_inside o whole limit below old t ts us st u out bytes l p h = move_by o whole limit below old ts us st u out bytes (step_at o t ts st)
     (stepping l p) h
 
 failed_by : (o : RenderOptions) (whole : Outcome) (limit : ℕ) (below : List Task) (old : List ℕ) (ts : List Task) (st : State)
@@ -84,21 +88,22 @@ pub failed : (o : RenderOptions) (whole : Outcome) (limit : ℕ) (below : List T
 failed o whole limit below old t ts st out l p h = failed_by o whole limit below old ts st out (step_at o t ts st)
     (stepping l p) h
 
-chosen_by : (o : RenderOptions) (whole : Outcome) (limit : ℕ) (below : List Task) (old : List ℕ) (ts : List Task) (st : State)
+choice_by : (o : RenderOptions) (whole : Outcome) (limit : ℕ) (below : List Task) (old : List ℕ) (ts : List Task) (st : State)
     (out : List ℕ) (i : ℕ) (x y : Tree) (step : Step) →
-    Steps o whole limit below old ts st out step → Asks step i x y → Waits o whole limit below old i x y ts st out
-chosen_by o whole limit below old ts st out i x y (Move b pushed v) p h = absurd h
-chosen_by o whole limit below old ts st out i x y Stuck p h = absurd h
-chosen_by o whole limit below old ts st out i x y (Choose j v w) p h =
-    subst (λ (k : ℕ). Waits o whole limit below old k x y ts st out) (sym h.0)
-    (subst (λ (k : Tree). Waits o whole limit below old j k y ts st out) (sym h.1)
-    (subst (λ (k : Tree). Waits o whole limit below old j v k ts st out) (sym h.2) p))
+    Steps o whole limit below old ts st out step → IsChoice step i x y → ChoiceNext o whole limit below old i x y ts st out
+choice_by o whole limit below old ts st out i x y (Move b pushed v) p h = absurd h
+choice_by o whole limit below old ts st out i x y Stuck p h = absurd h
+choice_by o whole limit below old ts st out i x y (Choose j v w) p h =
+    subst (λ (k : ℕ). ChoiceNext o whole limit below old k x y ts st out) (sym h.0)
+    (subst (λ (k : Tree). ChoiceNext o whole limit below old j k y ts st out) (sym h.1)
+    (subst (λ (k : Tree). ChoiceNext o whole limit below old j v k ts st out) (sym h.2) p))
 
 -- a choice waits
-pub chosen : (o : RenderOptions) (whole : Outcome) (limit : ℕ) (below : List Task) (old : List ℕ) (t : Task) (ts : List Task) (st : State)
+pub choice_inside : (o : RenderOptions) (whole : Outcome) (limit : ℕ) (below : List Task) (old : List ℕ) (t : Task) (ts : List Task)
+    (st : State)
     (out : List ℕ) (i : ℕ) (x y : Tree) → length below ≤ length ts →
-    Inside o whole limit below old (t ∷ ts) st out → Asks (step_at o t ts st) i x y → Waits o whole limit below old i x y ts st out
-chosen o whole limit below old t ts st out i x y l p h = chosen_by o whole limit below old ts st out i x y (step_at o t ts st)
+    Inside o whole limit below old (t ∷ ts) st out → IsChoice (step_at o t ts st) i x y → ChoiceNext o whole limit below old i x y ts st out
+choice_inside o whole limit below old t ts st out i x y l p h = choice_by o whole limit below old ts st out i x y (step_at o t ts st)
     (stepping l p) h
 
 -- a beginning of the next piece, after what was written, is a beginning of the whole
@@ -117,9 +122,9 @@ beginning_less old out new b text p q w =
 -- the sink failed: a beginning of the whole was written
 pub sink_broke : (o : RenderOptions) (whole : Outcome) (limit : ℕ) (below : List Task) (old : List ℕ) (t : Task) (ts us : List Task)
     (st u : State) (out bytes new : List ℕ) → length below ≤ length ts →
-    Inside o whole limit below old (t ∷ ts) st out → Leads (step_at o t ts st) ts bytes us u → AppendsBeginning out new bytes
+    Inside o whole limit below old (t ∷ ts) st out → StepsTo (step_at o t ts st) ts bytes us u → AppendsBeginning out new bytes
     → AppendsBeginning old new (bytes_before whole)
 sink_broke o whole limit below old t ts us st u out bytes new l p h part =
     beginning_less old out new bytes (bytes_before whole) part
-    (inside_beginning (went o whole limit below old t ts us st u out bytes l p h))
+    (inside_beginning (move_inside o whole limit below old t ts us st u out bytes l p h))
     (p.bytes, p.out_is)

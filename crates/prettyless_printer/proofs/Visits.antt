@@ -17,12 +17,12 @@ use Rattle.prettyless_model.specs.declared.mode.Mode.{Mode}
 use Rattle.prettyless_model.specs.declared.mode.Mode.TheVariants.{Break, Flat}
 use Rattle.prettyless_probe.specs.Stack.{Task, make_task, follow, nodes}
 use Rattle.prettyless_step.specs.Steps.{Step, Move, Stuck, Choose, step_of, union_step, decided_by_metrics, break_step, at_once}
-use Rattle.prettyless_step.specs.Steps.{counted_payload, rejects_payload, owed}
+use Rattle.prettyless_step.specs.Steps.{counted_payload, rejects_payload, pending_work}
 use Rattle.prettyless_printer.specs.Points.{Standing, state_at}
 use Rattle.prettyless_printer.specs.Visits.{suffix_depths, Plain, charges, Rise, CountsAtMost, RunCountsAtMost, Visited, visited_more}
 use Rattle.prettyless_probe.specs.Probing.{asked}
 use Rattle.prettyless_probe.proofs.Stacks.{nodes-append}
-use Rattle.prettyless_step.proofs.Shown.{step_at, Leads, Asks}
+use Rattle.prettyless_step.proofs.Shown.{step_at, StepsTo, IsChoice}
 use Rattle.prettyless_printer.proofs.Steps.{LeavesLess, extra, step_less_visits, visits_within}
 
 -- # Payloads and probes
@@ -145,7 +145,7 @@ NoSuffix ts st = (suffix_depths ts ≡ 0) × (st.pending ≡ [])
 
 abbrev Stepped : RenderOptions → Task → List Task → State → Step → Type 0
 Stepped o t ts st step =
-    LeavesLess (owed st.pending) (2 * size t.tree + owed st.pending - 2 * extra (rejects_payload o t.tree t.mode st)) step
+    LeavesLess (pending_work st.pending) (2 * size t.tree + pending_work st.pending - 2 * extra (rejects_payload o t.tree t.mode st)) step
     × ((n : ℕ) → size t.tree + nodes ts ≤ n → StepAtMost n (asked t.tree t.mode (nodes ts)) (n * probed t.tree) step)
 
 stepped : (o : RenderOptions) (t : Task) (ts : List Task) (st : State) → NoSuffix (t ∷ ts) st → Stepped o t ts st (step_at o t ts st)
@@ -154,15 +154,16 @@ stepped o t ts st plain = (
   λ n l. step_at_most o ts st n plain.1 t.tree t.indent t.mode (omega (arith, plain.0)) l,
 )
 
-pub went_at_most : {o : RenderOptions} {t : Task} {ts : List Task} {st : State} {v w : Visits} (us : List Task) (u : State) (bytes : List ℕ)
-    → OneMore o t ts st v w → NoSuffix (t ∷ ts) st → Leads (step_at o t ts st) ts bytes us u →
+pub move_at_most : {o : RenderOptions} {t : Task} {ts : List Task} {st : State} {v w : Visits} (us : List Task) (u : State) (bytes : List ℕ)
+    → OneMore o t ts st v w → NoSuffix (t ∷ ts) st → StepsTo (step_at o t ts st) ts bytes us u →
     NoSuffix us u × CountsAtMost (t ∷ ts) us v w
-went_at_most {o} {t} {ts} {st} {v} {w} us u bytes more plain h = went (step_at o t ts st) (stepped o t ts st plain) h
+move_at_most {o} {t} {ts} {st} {v} {w} us u bytes more plain h = move_inside (step_at o t ts st) (stepped o t ts st plain) h
   where
-    went : (step : Step) → Stepped o t ts st step → Leads step ts bytes us u → NoSuffix us u × CountsAtMost (t ∷ ts) us v w
-    went (Move b pushed x) s h =
+    move_inside : (step : Step) → Stepped o t ts st step → StepsTo step ts bytes us u → NoSuffix us u × CountsAtMost (t ∷ ts) us v w
+    move_inside (Move b pushed x) s h =
         let a = s.1 (size t.tree + nodes ts) (omega arith) in
-        let less : nodes pushed + 1 + extra (rejects_payload o t.tree t.mode st) ≤ size t.tree = omega (arith, s.0, ap owed plain.1) in (
+        let less : nodes pushed + 1 + extra (rejects_payload o t.tree t.mode st) ≤ size t.tree = omega
+            (arith, s.0, ap pending_work plain.1) in (
           (omega (arith, ap suffix_depths h.1, suffixes-append pushed ts, a.0, plain.0), ap (λ (z : State). z.pending) h.2 ∙ a.1),
           record {
             left = omega (arith, less, ap nodes h.1, nodes-append pushed ts);
@@ -172,8 +173,8 @@ went_at_most {o} {t} {ts} {st} {v} {w} us u bytes more plain h = went (step_at o
                 omega (arith, k.2, more.probes, ap (charges n) h.1, charges-append n pushed ts);
           },
         )
-    went Stuck s h = absurd h
-    went (Choose i x y) s h = absurd h
+    move_inside Stuck s h = absurd h
+    move_inside (Choose i x y) s h = absurd h
 
 pub failed_at_most : {o : RenderOptions} {t : Task} {ts : List Task} {st : State} {v w : Visits} → OneMore o t ts st v w
     → CountsAtMost (t ∷ ts) ts v w
@@ -183,12 +184,12 @@ failed_at_most {o} {t} {ts} {st} more = record {
   probes = λ n l. omega (arith, asked_at_most t.tree t.mode (nodes ts) n l, more.probes);
 }
 
-pub chosen_at_most : {o : RenderOptions} {t : Task} {ts : List Task} {st : State} {v w : Visits} (i : ℕ) (x y : Tree)
-    → OneMore o t ts st v w → NoSuffix (t ∷ ts) st → Asks (step_at o t ts st) i x y →
+pub choice_at_most : {o : RenderOptions} {t : Task} {ts : List Task} {st : State} {v w : Visits} (i : ℕ) (x y : Tree)
+    → OneMore o t ts st v w → NoSuffix (t ∷ ts) st → IsChoice (step_at o t ts st) i x y →
     (suffix_depth x ≡ 0) × (suffix_depth y ≡ 0) × CountsAtMost (t ∷ ts) (make_task i Break x ∷ make_task i Break y ∷ ts) v w
-chosen_at_most {o} {t} {ts} {st} {v} {w} i x y more plain h = asked (step_at o t ts st) (stepped o t ts st plain) h
+choice_at_most {o} {t} {ts} {st} {v} {w} i x y more plain h = asked (step_at o t ts st) (stepped o t ts st plain) h
   where
-    asked : (step : Step) → Stepped o t ts st step → Asks step i x y →
+    asked : (step : Step) → Stepped o t ts st step → IsChoice step i x y →
         (suffix_depth x ≡ 0) × (suffix_depth y ≡ 0) × CountsAtMost (t ∷ ts) (make_task i Break x ∷ make_task i Break y ∷ ts) v w
     asked (Move b pushed u) s h = absurd h
     asked Stuck s h = absurd h

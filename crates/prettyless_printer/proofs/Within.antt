@@ -12,7 +12,7 @@ use Rattle.prettyless_model.specs.Choice.{column_holds, nesting_holds}
 use Rattle.prettyless_model.specs.Column.{gap, commit, prospective, padding_fits, nested}
 use Rattle.prettyless_model.specs.Look.{by_mode}
 use Rattle.prettyless_model.specs.Layout.{State, Outcome, Done, Failed, Entry, Breaks, after_bytes, and_then, lay, lay_each, lay_text}
-use Rattle.prettyless_model.specs.Layout.{lay_ending, payload_fits, probe, some_pending, accept, tried, is_suppressed, flushed, entry}
+use Rattle.prettyless_model.specs.Layout.{lay_ending, payload_fits, probe, some_pending, accept, in_trial, is_suppressed, flushed, entry}
 use Rattle.prettyless_model.specs.Layout.{entries, next_indent, break_with, breaks}
 use Rattle.prettyless_model.specs.Levels.{settle, queued}
 use Rattle.prettyless_model.specs.declared.mode.Mode.{Mode}
@@ -82,7 +82,7 @@ lay_past o brk k (BreakOrFlat b f) i Flat rest st h = lay_past o brk k f i Flat 
 lay_past o brk k (Group d) i m rest st h =
     lay_past o brk k d i (by_mode m (if probe o d i Flat rest st then Flat else Break) Flat) rest st h
 lay_past o brk k (Union l r) i Break rest st h =
-    past-accept o st.within (lay o brk l i Break rest (tried st)) (lay o brk r i Break rest st) h (lay_past o brk k r i Break rest st h)
+    past-accept o st.within (lay o brk l i Break rest (in_trial st)) (lay o brk r i Break rest st) h (lay_past o brk k r i Break rest st h)
 lay_past o brk k (Union l r) i Flat rest st h = lay_past o brk k l i Flat rest st h
 lay_past o brk k (PartialUnion l r) i Break rest st h =
     past-either (probe o l i Break rest st) (lay o brk l i Break rest st) (lay o brk r i Break rest st)

@@ -3,7 +3,7 @@ use Rattle.std.specs.Prelude.{ℕ, ◌+◌, ◌<◌, nat_le, List, [], ◌∷◌
 use Rattle.prettyless_model.specs.declared.options.RenderOptions.{RenderOptions}
 use Rattle.prettyless_sink.specs.declared.visits.Visits.{Visits}
 use Rattle.prettyless_model.specs.Tree.{Tree}
-use Rattle.prettyless_model.specs.Layout.{State, lay, tried}
+use Rattle.prettyless_model.specs.Layout.{State, lay, in_trial}
 use Rattle.prettyless_model.specs.Levels.{settle}
 use Rattle.prettyless_model.specs.Counts.{Weight, each_node, each_probe, counted_then, counted_accept, tally, laid_nodes, laid_probes}
 use Rattle.prettyless_model.specs.declared.mode.Mode.TheVariants.{Break}
@@ -26,7 +26,7 @@ tally_above o n (t ∷ ts) st w =
 -- what a choice between two branches counts, and then the tasks after it
 abbrev pub tally_choice : RenderOptions → ℕ → ℕ → Tree → Tree → List Task → State → Weight → ℕ
 tally_choice o n i x y ts st w =
-    counted_accept o (lay o (settle o) x i Break (follow ts) (tried st)) (tally o x i Break (follow ts) (tried st) w)
+    counted_accept o (lay o (settle o) x i Break (follow ts) (in_trial st)) (tally o x i Break (follow ts) (in_trial st) w)
     (tally o y i Break (follow ts) st w)
     + counted_then (chosen o (settle o) i x y (follow ts) st) (λ u. tally_above o n ts u w)
 
@@ -49,7 +49,7 @@ choice_tally p n i x y w = tally_choice p.options n i x y p.tasks (state_at p) w
 
 -- what a trial of a branch is to count
 abbrev pub trial_tally : Standing → ℕ → Tree → Weight → ℕ
-trial_tally p i d w = tally p.options d i Break (follow p.tasks) (tried (state_at p)) w
+trial_tally p i d w = tally p.options d i Break (follow p.tasks) (in_trial (state_at p)) w
 
 -- what a turn counts, seen from each place below the top of the stack
 abbrev pub TurnCountsAtLeast : {N E : Type 0} → (N → Tree) → Standing → Standing → Visits → Visits → Result (TurnResult N) E → Type 0

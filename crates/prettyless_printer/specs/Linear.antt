@@ -3,7 +3,7 @@ use Rattle.std.specs.Prelude.{◌≡◌, ℕ, ◌+◌, ◌*◌, ◌-◌, ◌^◌
 use Rattle.prettyless_sink.specs.declared.visits.Visits.{Visits}
 use Rattle.prettyless_model.specs.Tree.{Tree, size}
 use Rattle.prettyless_model.specs.Content.{suffix_depth}
-use Rattle.prettyless_summary.specs.Summary.{HasSums}
+use Rattle.prettyless_summary.specs.Summary.{HasSummaries}
 use Rattle.prettyless_probe.specs.Stack.{nodes}
 use Rattle.prettyless_probe.specs.Sums.{HaveSummaries}
 use Rattle.prettyless_printer.specs.Points.{Standing}
@@ -14,7 +14,7 @@ pub record IsLinear (width : ℕ) (d : Tree) : Type 0 where
   -- it has no line suffix
   pub plain : suffix_depth d ≡ 0
   -- it has no choice by column or nesting, and no indent of more than 32 bits
-  pub have : HasSums d
+  pub have : HasSummaries d
   -- a table can have its nodes
   pub size : size d ≤ 4294967294
   -- the width is one of 32 bits
@@ -30,5 +30,5 @@ pub record IsLinearStart (p : Standing) : Type 0 where
   pub width : p.options.width < 2 ^ 32
 
 -- probes visited so many times n nodes at most, and so many more, where the printer's count has room for n
-abbrev pub IsFew : ℕ → ℕ → ℕ → Visits → Visits → Type 0
-IsFew factor more n v w = v.printer + n < 2 ^ 64 - 1 → w.probes ≤ v.probes + (factor * n + more)
+abbrev pub IsLinearBound : ℕ → ℕ → ℕ → Visits → Visits → Type 0
+IsLinearBound factor more n v w = v.printer + n < 2 ^ 64 - 1 → w.probes ≤ v.probes + (factor * n + more)

@@ -3,7 +3,7 @@ use Rattle.std.specs.Prelude.{◌≡◌, ℕ, List, [], ◌∷◌, ◌++◌, map
 use Rattle.std.specs.Str.{IsUtf8}
 use Rattle.prettyless_sink.specs.Sink.{known}
 use Rattle.prettyless_model.specs.Tree.{Tree}
-use Rattle.prettyless_model.specs.Layout.{tried}
+use Rattle.prettyless_model.specs.Layout.{in_trial}
 use Rattle.prettyless_model.specs.declared.mode.Mode.TheVariants.{Break}
 use Rattle.prettyless_probe.specs.Stack.{make_task}
 use Rattle.prettyless_printer.specs.declared.trial.Mark.{Mark}
@@ -12,7 +12,7 @@ use Rattle.prettyless_printer.specs.declared.answer.TrialResult.{TrialResult}
 use Rattle.prettyless_printer.specs.declared.answer.TrialResult.TheVariants as trial_result
 use Rattle.prettyless_printer.specs.Points.{Standing, state_at, QueueGrows, Seen, Point, point_at}
 use Rattle.prettyless_printer.specs.Turns.{IsPastLimit}
-use Rattle.prettyless_printer.specs.Trials.{Attempt, AtChoice, Marks, OnTrial, TrialBroke, Tries}
+use Rattle.prettyless_printer.specs.Trials.{Trial, AtChoice, Marks, TrialRunning, TrialBroke, Tries}
 
 -- What is held of an open trial: its mark, and the second branch at its indent.
 pub record Held : Type 0 where
@@ -39,20 +39,20 @@ pub record Marked (m : Mark) (a : Point) : Type 0 where
   pub text : IsUtf8 (known a.sink.bytes)
 
 -- This is held of a trial, with this second branch.
-pub record HoldsTrial (u : Held) (t : Attempt) (y : Tree) : Type 0 where
+pub record HoldsTrial (u : Held) (t : Trial) (y : Tree) : Type 0 where
   pub indent : u.indent ≡ t.indent
   pub second : u.second ≡ y
   pub marked : Marked u.mark t.start
 
 -- A trial of which this is held began inside another one, at a choice.
-pub record Link (o : Attempt) (u : Held) (t : Attempt) : Type 0 where
+pub record Link (o : Trial) (u : Held) (t : Trial) : Type 0 where
   pub holds : HoldsTrial u t u.second
   pub choice : AtChoice o t.indent t.branch u.second t.start
 
 -- from a trial inwards, along the list, to another one
-abbrev pub Chain : Attempt → List Held → Attempt → Type 0
+abbrev pub Chain : Trial → List Held → Trial → Type 0
 Chain o [] t = t ≡ o
-Chain o (u ∷ us) t = (c : Attempt) × Link o u c × Chain c us t
+Chain o (u ∷ us) t = (c : Trial) × Link o u c × Chain c us t
 
 -- how many commands are below the branch of the last of open trials
 abbrev pub below_last : Held → List Held → ℕ
@@ -65,14 +65,14 @@ below_all (u ∷ us) = below_last u us
 
 -- Trials are open from the outermost one inwards, the first of them and then along a list, and a run has reached a point of the
 -- innermost. If the outermost one is rejected, this branch comes next.
-pub record OpenFrom (s : Attempt) (y : Tree) (u : Held) (us : List Held) (b : Point) : Type 0 where
+pub record OpenFrom (s : Trial) (y : Tree) (u : Held) (us : List Held) (b : Point) : Type 0 where
   pub holds : HoldsTrial u s y
-  pub trial : Attempt
+  pub trial : Trial
   pub chain : Chain s us trial
-  pub on : OnTrial trial (below_last u us) b
+  pub on : TrialRunning trial (below_last u us) b
 
 -- the same along a list of all of them, which is not empty
-abbrev pub Open : Attempt → Tree → List Held → Point → Type 0
+abbrev pub Open : Trial → Tree → List Held → Point → Type 0
 Open s y [] b = ⊥
 Open s y (u ∷ us) b = OpenFrom s y u us b
 
@@ -85,12 +85,12 @@ pub record Opens {N : Type 0} (f : N → Tree) (i : ℕ) (y : Tree) (p : Standin
 -- A trial of a branch at an indent begins: the branch comes next, and the flag is set.
 pub record BeginsTrial (i : ℕ) (d : Tree) (p q : Standing) : Type 0 where
   pub tasks : q.tasks ≡ make_task i Break d ∷ p.tasks
-  pub state : state_at q ≡ tried (state_at p)
+  pub state : state_at q ≡ in_trial (state_at p)
   pub options : q.options ≡ p.options
   pub grows : QueueGrows p q
 
 -- A trial of a branch at an indent was undone, and the second branch comes next.
-pub record ComesSecond (E : Type 0) (s : Attempt) (y : Tree) (b : Point) : Type 0 where
+pub record Undone (E : Type 0) (s : Trial) (y : Tree) (b : Point) : Type 0 where
   pub back : Standing
   pub tries : Tries {E = E} s.indent s.branch s.start (point_at back b.sink b.visits) (Ok false)
   pub tasks : b.printer.tasks ≡ make_task s.indent Break y ∷ back.tasks
@@ -99,8 +99,8 @@ pub record ComesSecond (E : Type 0) (s : Attempt) (y : Tree) (b : Point) : Type 
   pub grows : QueueGrows back b.printer
 
 -- the result of open trials, and those that are open then
-abbrev pub Ends : {E : Type 0} → ℕ → Attempt → Tree → Point → List Held → Result TrialResult E → Type 0
-Ends {E} limit s y b us (Ok trial_result.Kept) = (us ≡ []) × Tries {E = E} s.indent s.branch s.start b (Ok true)
-Ends {E} limit s y b us (Ok trial_result.Rejected) = (us ≡ []) × ComesSecond E s y b
-Ends {E} limit s y b us (Ok trial_result.Shift) = Open s y us b × IsPastLimit limit b.visits.probes
-Ends {E} limit s y b us (Err e) = TrialBroke s b
+abbrev pub TrialsEnd : {E : Type 0} → ℕ → Trial → Tree → Point → List Held → Result TrialResult E → Type 0
+TrialsEnd {E} limit s y b us (Ok trial_result.Kept) = (us ≡ []) × Tries {E = E} s.indent s.branch s.start b (Ok true)
+TrialsEnd {E} limit s y b us (Ok trial_result.Rejected) = (us ≡ []) × Undone E s y b
+TrialsEnd {E} limit s y b us (Ok trial_result.Shift) = Open s y us b × IsPastLimit limit b.visits.probes
+TrialsEnd {E} limit s y b us (Err e) = TrialBroke s b

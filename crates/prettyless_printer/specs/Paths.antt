@@ -10,7 +10,7 @@ use Rattle.prettyless_model.specs.declared.mode.Mode.TheVariants.{Break}
 use Rattle.prettyless_probe.specs.Stack.{Task, make_task, nodes}
 use Rattle.prettyless_step.specs.Steps.{work}
 use Rattle.prettyless_printer.specs.Points.{state_at, QueueBegins, Point}
-use Rattle.prettyless_printer.specs.Progress.{Inside, Waits}
+use Rattle.prettyless_printer.specs.Progress.{Inside, ChoiceNext}
 use Rattle.prettyless_printer.specs.Visits.{Plain, Rise, CountsAtMost, suffix_depths}
 use Rattle.prettyless_printer.specs.AtLeast.{CountsAtLeast, stack_tally, choice_tally}
 use Rattle.prettyless_printer.specs.Renders.{Stopped, rest_of}
@@ -70,7 +70,7 @@ pub record Path (r : Run) (b : Point) : Type 0 where
   pub at_least : CountsAtLeast r.tally (stack_tally b.printer (length r.below)) r.start.visits b.visits
 
 -- The same, where a choice between two branches at an indent comes next.
-pub record Waiting (r : Run) (i : ℕ) (x y : Tree) (b : Point) : Type 0 where
+pub record PathToChoice (r : Run) (i : ℕ) (x y : Tree) (b : Point) : Type 0 where
   -- the options are the same
   pub options : b.printer.options ≡ r.start.printer.options
   -- the line suffixes that it leaves in the queue are there
@@ -83,7 +83,7 @@ pub record Waiting (r : Run) (i : ℕ) (x y : Tree) (b : Point) : Type 0 where
   pub long : length r.below ≤ length b.printer.tasks
   -- where the sink's bytes are known, what was written, the choice and what is left are the whole, and the sink did not fail
   pub bytes : IfKnown r.start.sink.bytes b.sink.bytes (λ old out.
-      Waits r.start.printer.options r.whole r.limit r.below old i x y b.printer.tasks (state_at b.printer) out
+      ChoiceNext r.start.printer.options r.whole r.limit r.below old i x y b.printer.tasks (state_at b.printer) out
       × (b.sink.failures ≡ r.start.sink.failures))
   -- no count of visits fell
   pub rise : Rise r.start.visits b.visits
@@ -105,13 +105,13 @@ pub record Broke {E : Type 0} (fails : E → Type 0) (r : Run) (e : RenderError 
   pub at_most : BeganPlain r → CountsAtMost r.first [] r.start.visits b.visits
 
 -- A run goes on, or ends in an error.
-abbrev pub GoesOn : {A E : Type 0} → (E → Type 0) → Run → Point → Result A (RenderError E) → Type 0
-GoesOn fails r b (Ok x) = Path r b
-GoesOn fails r b (Err e) = Broke fails r e b
+abbrev pub PathOrBroke : {A E : Type 0} → (E → Type 0) → Run → Point → Result A (RenderError E) → Type 0
+PathOrBroke fails r b (Ok x) = Path r b
+PathOrBroke fails r b (Err e) = Broke fails r e b
 
 -- A choice between two branches at an indent, from one point to another.
 pub record Chooses {A E : Type 0} (i : ℕ) (x y : Tree) (a b : Point) (r : Result A (RenderError E)) : Type 0 where
   -- there is no more work than with both branches
-  pub lessens : OnOk r (work b.printer.tasks (state_at b.printer) ≤ 2 * (size x + size y) + work a.printer.tasks (state_at a.printer))
+  pub work_falls : OnOk r (work b.printer.tasks (state_at b.printer) ≤ 2 * (size x + size y) + work a.printer.tasks (state_at a.printer))
   -- each run in which it comes next goes on, or ends in an error; no document fails by it
-  pub runs : (run : Run) → Waiting run i x y a → GoesOn (λ _. ⊥) run b r
+  pub runs : (run : Run) → PathToChoice run i x y a → PathOrBroke (λ _. ⊥) run b r

@@ -18,7 +18,7 @@ pub record Inside (o : RenderOptions) (whole : Outcome) (limit : ℕ) (below : L
   pub bound : work above st ≤ limit
 
 -- the same, where a choice between two branches comes next
-pub record Waits (o : RenderOptions) (whole : Outcome) (limit : ℕ) (below : List Task) (old : List ℕ) (i : ℕ) (x y : Tree)
+pub record ChoiceNext (o : RenderOptions) (whole : Outcome) (limit : ℕ) (below : List Task) (old : List ℕ) (i : ℕ) (x y : Tree)
     (stack : List Task) (st : State) (out : List ℕ) : Type 0 where
   pub above : List Task
   pub bytes : List ℕ

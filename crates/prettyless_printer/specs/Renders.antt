@@ -13,11 +13,11 @@ use Rattle.prettyless_model.specs.Layout.{Outcome, Done, Failed, Bytes, Whole, C
 use Rattle.prettyless_model.specs.Layout.{initial, layout}
 use Rattle.prettyless_model.specs.Levels.{settle, settle_end}
 use Rattle.prettyless_probe.specs.Stack.{make_task, tasks}
-use Rattle.prettyless_step.specs.Steps.{lay_all, owed, work}
+use Rattle.prettyless_step.specs.Steps.{lay_all, pending_work, work}
 use Rattle.prettyless_printer.specs.Points.{Standing, state_at, Seen, Point, point_at}
 use Rattle.prettyless_printer.specs.Visits.{CountsAtMost, Plain, Rise, RunCountsAtMost, Visited}
 use Rattle.prettyless_printer.specs.AtLeast.{CountsAtLeast, VisitedAtLeast, nothing_left, stack_tally}
-use Rattle.prettyless_printer.specs.Linear.{IsFew, IsLinear}
+use Rattle.prettyless_printer.specs.Linear.{IsLinearBound, IsLinear}
 use Rattle.prettyless_printer.specs.Turns.{bytes_before}
 
 -- what the commands that are left lay
@@ -89,7 +89,7 @@ pub record WorksOff {A E : Type 0} (fails : E → Type 0) (a b : Point) (r : Res
   -- no command is left
   pub done : OnOk r (b.printer.tasks ≡ [])
   -- what is pending is no more work than there was
-  pub lessens : OnOk r (owed (state_at b.printer).pending ≤ work a.printer.tasks (state_at a.printer))
+  pub work_falls : OnOk r (pending_work (state_at b.printer).pending ≤ work a.printer.tasks (state_at a.printer))
   -- the sink writes through the same reference
   pub same_lender : b.sink.lender ≡ a.sink.lender
   -- where the sink's bytes are known, what the commands lay was written, as far as the result says
@@ -153,7 +153,7 @@ pub record Renders {A E : Type 0} (fails : E → Type 0) (o : RenderOptions) (d 
   -- refusals of memory for a table are counted
   pub refused : v.refused ≤ w.refused
   -- where a table bounds the probes, and none was refused memory, they visit at most sixteen nodes for each node, and a thousand
-  pub few : IsLinear o.width d → w.refused ≡ 0 → IsFew 16 1000 (size d) v w
+  pub few : IsLinear o.width d → w.refused ≡ 0 → IsLinearBound 16 1000 (size d) v w
   -- on success, at least the nodes that the layout lays are counted, and the probes that it needs
   pub at_least : OnOk r (VisitedAtLeast o d v w)
 

@@ -7,8 +7,8 @@ use Rattle.prettyless_printer.specs.declared.answer.RunResult.{RunResult}
 use Rattle.prettyless_printer.specs.declared.answer.RunResult.TheVariants as run_result
 use Rattle.prettyless_printer.specs.Points.{Seen, Point, point_at}
 use Rattle.prettyless_printer.specs.Turns.{IsPastLimit}
-use Rattle.prettyless_printer.specs.Trials.{attempt}
-use Rattle.prettyless_printer.specs.Paths.{Chooses, Waiting, run_of}
+use Rattle.prettyless_printer.specs.Trials.{make_trial}
+use Rattle.prettyless_printer.specs.Paths.{Chooses, PathToChoice, run_of}
 use Rattle.prettyless_printer.specs.Renders.{Continues, RunsToEnd, WorksOff}
 use Rattle.prettyless_printer.specs.Open.{Held, Open}
 
@@ -17,18 +17,19 @@ use Rattle.prettyless_printer.specs.Open.{Held, Open}
 pub record InChoice (i : ℕ) (x y : Tree) (a : Point) (us : List Held) (buffer : Seen) (b : Point) : Type 0 where
   pub before : Seen
   pub empty : known before.bytes ≡ []
-  pub trials : Open (attempt (point_at a.printer before a.visits) i x) y us (point_at b.printer buffer b.visits)
+  pub trials : Open (make_trial (point_at a.printer before a.visits) i x) y us (point_at b.printer buffer b.visits)
   pub sink : b.sink ≡ a.sink
 
 -- a choice that came next at a was made at b, or its trials are still open there
-abbrev pub Settles : {E : Type 0} → ℕ → ℕ → Tree → Tree → Point → List Held → Seen → Point → Result RunResult (RenderError E) → Type 0
-Settles {E} limit i x y a us buffer b (Ok run_result.Finished) = (us ≡ [])
+abbrev pub ChoosesOrStops : {E : Type 0} → ℕ → ℕ → Tree → Tree → Point → List Held → Seen → Point → Result RunResult (RenderError E)
+    → Type 0
+ChoosesOrStops {E} limit i x y a us buffer b (Ok run_result.Finished) = (us ≡ [])
     × Chooses {A = RunResult} {E = E} i x y a b (Ok run_result.Finished)
-Settles {E} limit i x y a us buffer b (Ok run_result.Shift) = InChoice i x y a us buffer b × IsPastLimit limit b.visits.probes
-Settles {E} limit i x y a us buffer b (Err e) = Chooses {A = RunResult} {E = E} i x y a b (Err e)
+ChoosesOrStops {E} limit i x y a us buffer b (Ok run_result.Shift) = InChoice i x y a us buffer b × IsPastLimit limit b.visits.probes
+ChoosesOrStops {E} limit i x y a us buffer b (Err e) = Chooses {A = RunResult} {E = E} i x y a b (Err e)
 
 -- A run has come from a to b, where trials are open.
-pub record ComesInChoice (a : Point) (us : List Held) (buffer : Seen) (b : Point) : Type 0 where
+pub record RunReachesChoice (a : Point) (us : List Held) (buffer : Seen) (b : Point) : Type 0 where
   -- it reached c, whatever the type of nodes there
   pub c : Point
   pub continues : Continues a c
@@ -37,28 +38,28 @@ pub record ComesInChoice (a : Point) (us : List Held) (buffer : Seen) (b : Point
   pub first : Tree
   pub second : Tree
   pub at : Point
-  pub waiting : Waiting (run_of c) indent first second at
+  pub waiting : PathToChoice (run_of c) indent first second at
   -- which is not made yet
   pub choice : InChoice indent first second at us buffer b
 
 -- a run has come from a to b, with these trials open there
-abbrev pub Comes : Point → List Held → Seen → Point → Type 0
-Comes a [] buffer b = Continues a b
-Comes a (u ∷ us) buffer b = ComesInChoice a (u ∷ us) buffer b
+abbrev pub RunReaches : Point → List Held → Seen → Point → Type 0
+RunReaches a [] buffer b = Continues a b
+RunReaches a (u ∷ us) buffer b = RunReachesChoice a (u ∷ us) buffer b
 
 -- A run stopped at b before a node, since probes were past a limit.
 pub record StopsPastLimit (limit : ℕ) (a : Point) (us : List Held) (buffer : Seen) (b : Point) : Type 0 where
-  pub comes : Comes a us buffer b
+  pub comes : RunReaches a us buffer b
   pub past : IsPastLimit limit b.visits.probes
 
 -- a run until no command is left, or probes are past a limit
-abbrev pub WorksOn : {E : Type 0} → (E → Type 0) → ℕ → Point → List Held → Seen → Point → Result RunResult (RenderError E) → Type 0
-WorksOn fails limit a us buffer b (Ok run_result.Finished) = (us ≡ []) × WorksOff fails a b (Ok run_result.Finished)
-WorksOn fails limit a us buffer b (Ok run_result.Shift) = StopsPastLimit limit a us buffer b
-WorksOn fails limit a us buffer b (Err e) = WorksOff {A = RunResult} fails a b (Err e)
+abbrev pub WorksOffOrStops : {E : Type 0} → (E → Type 0) → ℕ → Point → List Held → Seen → Point → Result RunResult (RenderError E) → Type 0
+WorksOffOrStops fails limit a us buffer b (Ok run_result.Finished) = (us ≡ []) × WorksOff fails a b (Ok run_result.Finished)
+WorksOffOrStops fails limit a us buffer b (Ok run_result.Shift) = StopsPastLimit limit a us buffer b
+WorksOffOrStops fails limit a us buffer b (Err e) = WorksOff {A = RunResult} fails a b (Err e)
 
 -- a run to the end, or until probes are past a limit
-abbrev pub RunsOn : {E : Type 0} → (E → Type 0) → ℕ → Point → List Held → Seen → Point → Result RunResult (RenderError E) → Type 0
-RunsOn fails limit a us buffer b (Ok run_result.Finished) = RunsToEnd fails a b (Ok run_result.Finished)
-RunsOn fails limit a us buffer b (Ok run_result.Shift) = StopsPastLimit limit a us buffer b
-RunsOn fails limit a us buffer b (Err e) = RunsToEnd {A = RunResult} fails a b (Err e)
+abbrev pub RunsToEndOrStops : {E : Type 0} → (E → Type 0) → ℕ → Point → List Held → Seen → Point → Result RunResult (RenderError E) → Type 0
+RunsToEndOrStops fails limit a us buffer b (Ok run_result.Finished) = RunsToEnd fails a b (Ok run_result.Finished)
+RunsToEndOrStops fails limit a us buffer b (Ok run_result.Shift) = StopsPastLimit limit a us buffer b
+RunsToEndOrStops fails limit a us buffer b (Err e) = RunsToEnd {A = RunResult} fails a b (Err e)

@@ -9,10 +9,10 @@ use Rattle.prettyless_model.specs.Content.{suffix_depth}
 use Rattle.prettyless_model.specs.declared.mode.Mode.TheVariants.{Break}
 use Rattle.prettyless_probe.specs.Stack.{Task, make_task, nodes}
 use Rattle.prettyless_probe.specs.Probing.{RisesBy}
-use Rattle.prettyless_probe.specs.Sums.{HaveSummaries, TreesHave}
+use Rattle.prettyless_probe.specs.Sums.{HaveSummaries, TreesHaveSummaries}
 use Rattle.prettyless_printer.specs.Points.{Standing}
 use Rattle.prettyless_printer.specs.Visits.{Plain}
-use Rattle.prettyless_printer.specs.Trials.{Attempt}
+use Rattle.prettyless_printer.specs.Trials.{Trial}
 use Rattle.prettyless_printer.specs.declared.answer.TrialState.{TrialState}
 use Rattle.prettyless_printer.specs.declared.answer.TrialState.TheVariants as trial_state
 use Rattle.prettyless_printer.specs.declared.answer.TurnResult.{TurnResult}
@@ -38,8 +38,8 @@ abbrev pub left_nodes : Left → ℕ
 left_nodes l = nodes l.tasks + sum_by size l.seconds
 
 -- all nodes that are left have summaries
-abbrev pub AllHave : Left → Type 0
-AllHave l = HaveSummaries l.tasks × TreesHave l.seconds
+abbrev pub AllHaveSummaries : Left → Type 0
+AllHaveSummaries l = HaveSummaries l.tasks × TreesHaveSummaries l.seconds
 
 -- What bounds the probes of a run: whether its nodes have summaries, its width, and the count past which none is started.
 pub record Rule : Type 0 where
@@ -69,9 +69,9 @@ pub record Spends (r : Rule) (a b : Left) : Type 0 where
   -- each probe was started within the limit, and visited no more nodes than were left
   pub capped : Capped r.limit (left_nodes a) a.visits.probes b.visits.probes
   -- summaries lead to summaries
-  pub have : AllHave a → AllHave b
+  pub have : AllHaveSummaries a → AllHaveSummaries b
   -- where all is summed up, a probe visits two nodes
-  pub few : IsTrue r.has → r.width < 2 ^ 32 → left_nodes a < 2 ^ 32 → AllHave a → TwoEach a.visits b.visits
+  pub few : IsTrue r.has → r.width < 2 ^ 32 → left_nodes a < 2 ^ 32 → AllHaveSummaries a → TwoEach a.visits b.visits
 
 -- what a run leaves: after an error, nothing is left
 abbrev pub SpendsAs : {A E : Type 0} → Rule → Left → Left → Result A E → Type 0
@@ -91,13 +91,13 @@ after_turn f q w (Ok (Choice i x y)) = left_choice i (f x) (f y) q w
 after_turn f q w (Err e) = none_left w
 
 -- the same of a turn of a trial, or of its end
-abbrev pub after_course : {N E : Type 0} → (N → Tree) → Standing → Visits → Result (TrialState N) E → Left
-after_course f q w (Ok trial_state.Running) = left q [] w
-after_course f q w (Ok trial_state.Complete) = left q [] w
-after_course f q w (Ok trial_state.Rejected) = left q [] w
-after_course f q w (Ok trial_state.Shift) = left q [] w
-after_course f q w (Ok (trial_state.Choice i x y)) = left_choice i (f x) (f y) q w
-after_course f q w (Err e) = none_left w
+abbrev pub after_trial_turn : {N E : Type 0} → (N → Tree) → Standing → Visits → Result (TrialState N) E → Left
+after_trial_turn f q w (Ok trial_state.Running) = left q [] w
+after_trial_turn f q w (Ok trial_state.Complete) = left q [] w
+after_trial_turn f q w (Ok trial_state.Rejected) = left q [] w
+after_trial_turn f q w (Ok trial_state.Shift) = left q [] w
+after_trial_turn f q w (Ok (trial_state.Choice i x y)) = left_choice i (f x) (f y) q w
+after_trial_turn f q w (Err e) = none_left w
 
 -- No line suffix is among what a choice between two branches leads to, and none is pending.
 pub record IsPlainChoice (p : Standing) (x y : Tree) : Type 0 where
@@ -106,7 +106,7 @@ pub record IsPlainChoice (p : Standing) (x y : Tree) : Type 0 where
   pub second : suffix_depth y ≡ 0
 
 -- the same of a trial, with this second branch
-abbrev pub IsPlainTrial : Attempt → Tree → Type 0
+abbrev pub IsPlainTrial : Trial → Tree → Type 0
 IsPlainTrial s y = IsPlainChoice s.start.printer s.branch y
 
 -- a shift did not end the run

@@ -5,15 +5,15 @@ use Rattle.prettyless_sink.specs.Sink.{known}
 use Rattle.prettyless_model.specs.Tree.{Tree, size}
 use Rattle.prettyless_model.specs.Column.{padding_fits}
 use Rattle.prettyless_model.specs.Content.{suffix_depth}
-use Rattle.prettyless_model.specs.Layout.{Outcome, accept, lay, some_pending, tried}
+use Rattle.prettyless_model.specs.Layout.{Outcome, accept, lay, some_pending, in_trial}
 use Rattle.prettyless_model.specs.Levels.{settle}
 use Rattle.prettyless_model.specs.declared.mode.Mode.TheVariants.{Break}
 use Rattle.prettyless_probe.specs.Stack.{Task, follow, make_task}
-use Rattle.prettyless_step.specs.Steps.{owed}
+use Rattle.prettyless_step.specs.Steps.{pending_work}
 use Rattle.prettyless_printer.specs.Visits.{Plain, Rise, CountsAtMost, RunCountsAtMost}
 use Rattle.prettyless_printer.specs.AtLeast.{TrialCountsAtLeast, trial_tally}
 use Rattle.prettyless_printer.specs.Points.{Standing, state_at, QueueGrows, Seen, Point, work_at}
-use Rattle.prettyless_printer.specs.Paths.{BeganPlain, Path, Run, Waiting}
+use Rattle.prettyless_printer.specs.Paths.{BeganPlain, Path, Run, PathToChoice}
 use Rattle.prettyless_printer.specs.Progress.{Decides}
 use Rattle.prettyless_printer.specs.declared.answer.TrialState.{TrialState}
 use Rattle.prettyless_printer.specs.declared.answer.TrialState.TheVariants.{Running, Complete, Rejected, Choice, Shift}
@@ -38,17 +38,17 @@ Restores m p q =
 
 -- A trial of a branch: what follows is still on the stack and the flag is as before; kept, its bytes are written and its
 -- state has come; rejected, all is as before.
-abbrev pub TrialDid : Standing → Standing → ℕ → Tree → List ℕ → List ℕ → Bool → Type 0
-TrialDid p q i d old new kept =
+abbrev pub TrialDecides : Standing → Standing → ℕ → Tree → List ℕ → List ℕ → Bool → Type 0
+TrialDecides p q i d old new kept =
     (q.tasks ≡ p.tasks) × (q.options ≡ p.options) × QueueGrows p q × (q.within ≡ p.within)
-    × (owed (state_at q).pending ≤ 2 * size d + owed (state_at p).pending)
-    × Decides kept p.options (lay p.options (settle p.options) d i Break (follow p.tasks) (tried (state_at p))) p.within old new
+    × (pending_work (state_at q).pending ≤ 2 * size d + pending_work (state_at p).pending)
+    × Decides kept p.options (lay p.options (settle p.options) d i Break (follow p.tasks) (in_trial (state_at p))) p.within old new
     (state_at p) (state_at q)
 
 -- A trial of a branch at an indent, from one point to another. It writes to the buffer as its sink.
 pub record Tries {E : Type 0} (i : ℕ) (d : Tree) (a b : Point) (r : Result Bool E) : Type 0 where
   -- the branch is kept or not
-  pub decided : IfOk r (TrialDid a.printer b.printer i d (known a.sink.bytes) (known b.sink.bytes))
+  pub decided : IfOk r (TrialDecides a.printer b.printer i d (known a.sink.bytes) (known b.sink.bytes))
   -- the buffer did not fail
   pub failures : OnOk r (b.sink.failures ≡ a.sink.failures)
   -- no count of visits fell
@@ -60,24 +60,24 @@ pub record Tries {E : Type 0} (i : ℕ) (d : Tree) (a b : Point) (r : Result Boo
 
 -- what a trial of d at i from p lays
 abbrev pub trial_of : Standing → ℕ → Tree → Outcome
-trial_of p i d = lay p.options (settle p.options) d i Break (follow p.tasks) (tried (state_at p))
+trial_of p i d = lay p.options (settle p.options) d i Break (follow p.tasks) (in_trial (state_at p))
 
 -- the most work that it takes
 abbrev pub work_limit : Standing → Tree → ℕ
-work_limit p d = 2 * size d + owed (state_at p).pending
+work_limit p d = 2 * size d + pending_work (state_at p).pending
 
 -- A trial: where it began, and its branch at an indent.
-pub record Attempt : Type 0 where
+pub record Trial : Type 0 where
   pub start : Point
   pub indent : ℕ
   pub branch : Tree
 
 -- a trial of these parts
-abbrev pub attempt : Point → ℕ → Tree → Attempt
-attempt a i d = record { start = a; indent = i; branch = d }
+abbrev pub make_trial : Point → ℕ → Tree → Trial
+make_trial a i d = record { start = a; indent = i; branch = d }
 
 -- A trial of a branch at an indent, as a run.
-abbrev pub trial_run : Attempt → Run
+abbrev pub trial_run : Trial → Run
 trial_run t = record {
   start = t.start;
   whole = trial_of t.start.printer t.indent t.branch;
@@ -89,14 +89,14 @@ trial_run t = record {
 }
 
 -- A trial has reached a point, with this many commands below its branch, and nothing of it is past the width.
-pub record OnTrial (t : Attempt) (below : ℕ) (b : Point) : Type 0 where
+pub record TrialRunning (t : Trial) (below : ℕ) (b : Point) : Type 0 where
   pub is_known : IsSome t.start.sink.bytes
   pub path : Path (trial_run t) b
   pub within : b.printer.within ≡ true
   pub height : below ≡ length t.start.printer.tasks
 
 -- A trial has reached a point where it is clear that its branch is rejected.
-pub record Fallen (t : Attempt) (b : Point) : Type 0 where
+pub record TrialRejected (t : Trial) (b : Point) : Type 0 where
   -- the tasks below are there, and the queue only grew
   pub above : List Task
   pub stack : b.printer.tasks ≡ above ++ t.start.printer.tasks
@@ -118,7 +118,7 @@ pub record Fallen (t : Attempt) (b : Point) : Type 0 where
       t.start.visits b.visits
 
 -- A trial has reached its end, and its branch is to be kept.
-pub record Lasts (t : Attempt) (b : Point) : Type 0 where
+pub record TrialComplete (t : Trial) (b : Point) : Type 0 where
   pub is_known : IsSome t.start.sink.bytes
   pub path : Path (trial_run t) b
   pub within : b.printer.within ≡ true
@@ -126,29 +126,29 @@ pub record Lasts (t : Attempt) (b : Point) : Type 0 where
   pub fits : padding_fits t.start.printer.options.width (some_pending (state_at b.printer).pending) b.printer.column ≡ true
 
 -- A trial has reached a choice between two branches at an indent, and nothing of it is past the width.
-pub record AtChoice (t : Attempt) (i : ℕ) (x y : Tree) (b : Point) : Type 0 where
+pub record AtChoice (t : Trial) (i : ℕ) (x y : Tree) (b : Point) : Type 0 where
   pub is_known : IsSome b.sink.bytes
-  pub waiting : Waiting (trial_run t) i x y b
+  pub waiting : PathToChoice (trial_run t) i x y b
   pub within : b.printer.within ≡ true
 
 -- A trial that ended in an error.
-pub record TrialBroke (t : Attempt) (b : Point) : Type 0 where
+pub record TrialBroke (t : Trial) (b : Point) : Type 0 where
   pub rise : Rise t.start.visits b.visits
   pub at_most : BeganPlain (trial_run t) → CountsAtMost (make_task t.indent Break t.branch ∷ t.start.printer.tasks) []
       t.start.visits b.visits
 
 -- where a trial has gone from one point to another by a turn, or at its end
-abbrev pub Runs : {N E : Type 0} → (N → Tree) → ℕ → Point → Point → Attempt → Result (TrialState N) E → Type 0
-Runs f below a b t (Ok Running) = OnTrial t below b × (work_at b < work_at a)
-Runs f below a b t (Ok Complete) = Lasts t b × (work_at b ≤ work_at a)
-Runs f below a b t (Ok Rejected) = Fallen t b
-Runs f below a b t (Ok (Choice i x y)) = AtChoice t i (f x) (f y) b × (2 * (size (f x) + size (f y)) + work_at b < work_at a)
-Runs f below a b t (Ok Shift) = OnTrial t below b
-Runs f below a b t (Err e) = TrialBroke t b
+abbrev pub TrialTurn : {N E : Type 0} → (N → Tree) → ℕ → Point → Point → Trial → Result (TrialState N) E → Type 0
+TrialTurn f below a b t (Ok Running) = TrialRunning t below b × (work_at b < work_at a)
+TrialTurn f below a b t (Ok Complete) = TrialComplete t b × (work_at b ≤ work_at a)
+TrialTurn f below a b t (Ok Rejected) = TrialRejected t b
+TrialTurn f below a b t (Ok (Choice i x y)) = AtChoice t i (f x) (f y) b × (2 * (size (f x) + size (f y)) + work_at b < work_at a)
+TrialTurn f below a b t (Ok Shift) = TrialRunning t below b
+TrialTurn f below a b t (Err e) = TrialBroke t b
 
 -- the same for each trial that was there, with this many commands below its branch
-abbrev pub Courses : {N E : Type 0} → (N → Tree) → ℕ → Point → Point → Result (TrialState N) E → Type 0
-Courses f below a b r = (t : Attempt) → OnTrial t below a → Runs f below a b t r
+abbrev pub TrialTurns : {N E : Type 0} → (N → Tree) → ℕ → Point → Point → Result (TrialState N) E → Type 0
+TrialTurns f below a b r = (t : Trial) → TrialRunning t below a → TrialTurn f below a b t r
 
 -- a trial stopped only where probes were past the limit
 abbrev pub TrialStopsPast : {N : Type 0} → ℕ → ℕ → TrialState N → Type 0

@@ -11,7 +11,7 @@ use Rattle.prettyless_probe.specs.Stack.{Task}
 use Rattle.prettyless_printer.specs.Points.{QueueGrows, Point, Standing, state_at, work_at}
 use Rattle.prettyless_printer.specs.Visits.{Plain, Rise, TurnCountsAtMost}
 use Rattle.prettyless_printer.specs.AtLeast.{TurnCountsAtLeast}
-use Rattle.prettyless_printer.specs.Progress.{Inside, Waits}
+use Rattle.prettyless_printer.specs.Progress.{Inside, ChoiceNext}
 use Rattle.prettyless_printer.specs.declared.answer.TurnResult.{TurnResult}
 use Rattle.prettyless_printer.specs.declared.answer.TurnResult.TheVariants.{Complete, Failed, Choice, Shift}
 
@@ -27,19 +27,20 @@ ForWholes p out goal =
     Inside p.options whole limit below old p.tasks (state_at p) out → goal whole limit below old
 
 -- what holds after a turn: the work is inside the whole, or the whole fails after what was written, or a choice waits
-abbrev pub Goes : {N : Type 0} → (N → Tree) → RenderOptions → Standing → List ℕ → TurnResult N → Outcome → ℕ → List Task → List ℕ → Type 0
-Goes f o q out Complete whole limit below old = Inside o whole limit below old q.tasks (state_at q) out
-Goes f o q out Failed whole limit below old =
+abbrev pub TurnHolds : {N : Type 0} → (N → Tree) → RenderOptions → Standing → List ℕ → TurnResult N → Outcome → ℕ → List Task
+    → List ℕ → Type 0
+TurnHolds f o q out Complete whole limit below old = Inside o whole limit below old q.tasks (state_at q) out
+TurnHolds f o q out Failed whole limit below old =
     (bytes : List ℕ) × (above : List Task) × (out ≡ old ++ bytes) × (whole ≡ layout.Failed bytes) × (q.tasks ≡ above ++ below)
-Goes f o q out (Choice i x y) whole limit below old = Waits o whole limit below old i (f x) (f y) q.tasks (state_at q) out
-Goes f o q out Shift whole limit below old = Inside o whole limit below old q.tasks (state_at q) out
+TurnHolds f o q out (Choice i x y) whole limit below old = ChoiceNext o whole limit below old i (f x) (f y) q.tasks (state_at q) out
+TurnHolds f o q out Shift whole limit below old = Inside o whole limit below old q.tasks (state_at q) out
 
 -- work is taken away, or none is added where a turn stopped
-abbrev pub Lessens : {N : Type 0} → (N → Tree) → Point → Point → TurnResult N → Type 0
-Lessens f a b Complete = work_at b < work_at a
-Lessens f a b Failed = Unit {0}
-Lessens f a b (Choice i x y) = (2 * (size (f x) + size (f y)) + work_at b < work_at a) × (b.printer.within ≡ a.printer.within)
-Lessens f a b Shift = (work_at b ≤ work_at a) × (b.printer.within ≡ a.printer.within)
+abbrev pub WorkFalls : {N : Type 0} → (N → Tree) → Point → Point → TurnResult N → Type 0
+WorkFalls f a b Complete = work_at b < work_at a
+WorkFalls f a b Failed = Unit {0}
+WorkFalls f a b (Choice i x y) = (2 * (size (f x) + size (f y)) + work_at b < work_at a) × (b.printer.within ≡ a.printer.within)
+WorkFalls f a b Shift = (work_at b ≤ work_at a) × (b.printer.within ≡ a.printer.within)
 
 -- how many nodes the next task has
 abbrev pub next_size : List Task → ℕ
@@ -47,13 +48,13 @@ next_size [] = 0
 next_size (t ∷ ts) = size t.tree
 
 -- what a turn leaves in a sink whose bytes are known
-abbrev pub Turned : {N E : Type 0} → (N → Tree) → Standing → Standing → List ℕ → List ℕ → ℕ → ℕ → Result (TurnResult N) (RenderError E) →
+abbrev pub Advanced : {N E : Type 0} → (N → Tree) → Standing → Standing → List ℕ → List ℕ → ℕ → ℕ → Result (TurnResult N) (RenderError E) →
     Type 0
-Turned f p q out new n m (Ok r) = ForWholes p out (Goes f p.options q new r) × (m ≡ n)
-Turned f p q out new n m (Err (Document e)) = ⊥
-Turned f p q out new n m (Err (Sink e)) =
+Advanced f p q out new n m (Ok r) = ForWholes p out (TurnHolds f p.options q new r) × (m ≡ n)
+Advanced f p q out new n m (Err (Document e)) = ⊥
+Advanced f p q out new n m (Err (Sink e)) =
     ForWholes p out (λ whole limit below old. AppendsBeginning old new (bytes_before whole)) × (m ≡ rise n)
-Turned f p q out new n m (Err (Memory e)) = (new ≡ out) × (m ≡ n)
+Advanced f p q out new n m (Err (Memory e)) = (new ≡ out) × (m ≡ n)
 
 -- the next node is a visit, unless the turn stopped or was refused memory
 abbrev pub VisitsNext : {N E : Type 0} → ℕ → ℕ → Result (TurnResult N) (RenderError E) → Type 0
@@ -83,12 +84,12 @@ pub record Advances {N E : Type 0} (f : N → Tree) (a b : Point) (r : Result (T
   -- the queue of line suffixes only grows
   pub grows : OnOk r (QueueGrows a.printer b.printer)
   -- there is less work left
-  pub lessens : IfOk r (Lessens f a b)
+  pub work_falls : IfOk r (WorkFalls f a b)
   -- the sink writes through the same reference
   pub same_lender : b.sink.lender ≡ a.sink.lender
   -- where the sink's bytes are known, they go on in every whole that the work was inside of
   pub bytes : IfKnown a.sink.bytes b.sink.bytes
-      (λ before after. Turned f a.printer b.printer before after a.sink.failures b.sink.failures r)
+      (λ before after. Advanced f a.printer b.printer before after a.sink.failures b.sink.failures r)
   -- the next node is a visit, and no more nodes are than its document has
   pub least : VisitsNext a.visits.printer b.visits.printer r
   pub most : b.visits.printer ≤ a.visits.printer + next_size a.printer.tasks

@@ -4,7 +4,7 @@ ghost use Rattle.prettyless_model.specs.Tree.{size};
 ghost use Rattle.prettyless_probe.specs.Sums.{IsSummed};
 ghost use Rattle.prettyless_printer.specs.Points.{seen, standing};
 ghost use Rattle.prettyless_printer.specs.Renders.{Begins, Renders};
-ghost use Rattle.prettyless_printer.specs.Linear.{IsFew, IsLinear};
+ghost use Rattle.prettyless_printer.specs.Linear.{IsLinearBound, IsLinear};
 
 use crate::shift::{run_in_gears, run_over_table};
 use prettyless_model::column::Column;
@@ -89,7 +89,8 @@ pub fn render_over_table<N: Walk, W: Render>(
     ensures renders { Renders (W.document_errors out.new) options (N.tree node)
         (seen W.bytes W.failures W.lender out.old) (seen W.bytes W.failures W.lender out.new)
         visits.old visits.new result }
-    ensures few { IsLinear options.width (N.tree node) → visits.new.refused ≡ 0 → IsFew 2 0 (size (N.tree node)) visits.old visits.new }
+    ensures few { IsLinear options.width (N.tree node) → visits.new.refused ≡ 0
+        → IsLinearBound 2 0 (size (N.tree node)) visits.old visits.new }
 {
     match printer_before(alloc, node, options) {
         Ok(mut printer) => {

@@ -8,7 +8,7 @@ ghost use Rattle.prettyless_printer.specs.Renders.{FlushesEnd, RunsToEnd};
 ghost use Rattle.prettyless_printer.specs.Open.{all_held, seconds};
 ghost use Rattle.prettyless_printer.specs.Visits.{Plain};
 ghost use Rattle.prettyless_printer.specs.Spending.{IsPlainChoice, Spends, SpendsAs, left, left_choice, none_left, rule_of};
-ghost use Rattle.prettyless_printer.specs.Runs.{Comes, InChoice, RunsOn, Settles, WorksOn};
+ghost use Rattle.prettyless_printer.specs.Runs.{RunReaches, InChoice, RunsToEndOrStops, ChoosesOrStops, WorksOffOrStops};
 
 use crate::answer::{RunResult, TrialResult, TurnResult};
 use crate::buffer::Buffer;
@@ -37,7 +37,7 @@ fn go_on_choosing<N: Walk, W: Render>(
     requires summed { IsSummed N.HAS_SUMMARIES N.tree printer.old.commands }
     ensures settles { (i : ℕ) (x y : Tree) (a : Point) → InChoice i x y a (all_held N.tree trials.old.open.items)
         (buffer_seen buffer.old) (point N.tree printer.old (seen W.bytes W.failures W.lender out.old) visits.old) →
-        Settles limit i x y a (all_held N.tree trials.new.open.items) (buffer_seen buffer.new)
+        ChoosesOrStops limit i x y a (all_held N.tree trials.new.open.items) (buffer_seen buffer.new)
         (point N.tree printer.new (seen W.bytes W.failures W.lender out.new) visits.new) result }
     ensures spends { (i : ℕ) (x y : Tree) (a : Point) → InChoice i x y a (all_held N.tree trials.old.open.items)
         (buffer_seen buffer.old) (point N.tree printer.old (seen W.bytes W.failures W.lender out.old) visits.old) →
@@ -71,7 +71,7 @@ fn choose<N: Walk, W: Render>(
 ) -> Result<RunResult, RenderError<W::Error>>
     requires none { trials.old.open.items ≡ [] }
     requires summed { IsSummed N.HAS_SUMMARIES N.tree printer.old.commands }
-    ensures settles { Settles limit indent (N.tree first) (N.tree second)
+    ensures settles { ChoosesOrStops limit indent (N.tree first) (N.tree second)
         (point N.tree printer.old (seen W.bytes W.failures W.lender out.old) visits.old)
         (all_held N.tree trials.new.open.items) (buffer_seen buffer.new)
         (point N.tree printer.new (seen W.bytes W.failures W.lender out.new) visits.new) result }
@@ -100,7 +100,7 @@ fn work_off<N: Walk, W: Render>(
 ) -> Result<RunResult, RenderError<W::Error>>
     requires none { trials.old.open.items ≡ [] }
     requires summed { IsSummed N.HAS_SUMMARIES N.tree printer.old.commands }
-    ensures works { WorksOn (W.document_errors out.new) limit
+    ensures works { WorksOffOrStops (W.document_errors out.new) limit
         (point N.tree printer.old (seen W.bytes W.failures W.lender out.old) visits.old)
         (all_held N.tree trials.new.open.items) (buffer_seen buffer.new)
         (point N.tree printer.new (seen W.bytes W.failures W.lender out.new) visits.new) result }
@@ -160,7 +160,7 @@ fn run_to_end<N: Walk, W: Render>(
 ) -> Result<RunResult, RenderError<W::Error>>
     requires none { trials.old.open.items ≡ [] }
     requires summed { IsSummed N.HAS_SUMMARIES N.tree printer.old.commands }
-    ensures runs { RunsOn (W.document_errors out.new) limit
+    ensures runs { RunsToEndOrStops (W.document_errors out.new) limit
         (point N.tree printer.old (seen W.bytes W.failures W.lender out.old) visits.old)
         (all_held N.tree trials.new.open.items) (buffer_seen buffer.new)
         (point N.tree printer.new (seen W.bytes W.failures W.lender out.new) visits.new) result }
@@ -192,14 +192,14 @@ pub(crate) fn go_on<N: Walk, W: Render>(
     limit: u64,
     visits: &mut Visits,
 ) -> Result<RunResult, RenderError<W::Error>>
-    requires comes { (a : Point) × Comes a (all_held N.tree trials.old.open.items) (buffer_seen buffer.old)
+    requires comes { (a : Point) × RunReaches a (all_held N.tree trials.old.open.items) (buffer_seen buffer.old)
         (point N.tree printer.old (seen W.bytes W.failures W.lender out.old) visits.old) }
     requires summed { IsSummed N.HAS_SUMMARIES N.tree printer.old.commands }
-    ensures runs { (a : Point) → Comes a (all_held N.tree trials.old.open.items) (buffer_seen buffer.old)
+    ensures runs { (a : Point) → RunReaches a (all_held N.tree trials.old.open.items) (buffer_seen buffer.old)
         (point N.tree printer.old (seen W.bytes W.failures W.lender out.old) visits.old) →
-        RunsOn (W.document_errors out.new) limit a (all_held N.tree trials.new.open.items) (buffer_seen buffer.new)
+        RunsToEndOrStops (W.document_errors out.new) limit a (all_held N.tree trials.new.open.items) (buffer_seen buffer.new)
         (point N.tree printer.new (seen W.bytes W.failures W.lender out.new) visits.new) result }
-    ensures spends { (a : Point) → Comes a (all_held N.tree trials.old.open.items) (buffer_seen buffer.old)
+    ensures spends { (a : Point) → RunReaches a (all_held N.tree trials.old.open.items) (buffer_seen buffer.old)
         (point N.tree printer.old (seen W.bytes W.failures W.lender out.old) visits.old) →
         Plain a.printer → SpendsAs (rule_of N.HAS_SUMMARIES printer.old.options limit)
         (left (standing N.tree printer.old) (seconds (all_held N.tree trials.old.open.items)) visits.old)
@@ -223,15 +223,15 @@ pub(crate) fn finish<N: Walk, W: Render>(
     out: &mut W,
     visits: &mut Visits,
 ) -> Result<(), RenderError<W::Error>>
-    requires comes { (a : Point) × Comes a (all_held N.tree trials.old.open.items) (buffer_seen buffer.old)
+    requires comes { (a : Point) × RunReaches a (all_held N.tree trials.old.open.items) (buffer_seen buffer.old)
         (point N.tree printer.old (seen W.bytes W.failures W.lender out.old) visits.old) }
     requires summed { IsSummed N.HAS_SUMMARIES N.tree printer.old.commands }
-    ensures spends { (a : Point) → Comes a (all_held N.tree trials.old.open.items) (buffer_seen buffer.old)
+    ensures spends { (a : Point) → RunReaches a (all_held N.tree trials.old.open.items) (buffer_seen buffer.old)
         (point N.tree printer.old (seen W.bytes W.failures W.lender out.old) visits.old) →
         Plain a.printer → Spends (rule_of N.HAS_SUMMARIES printer.old.options (2 ^ 64 - 1))
         (left (standing N.tree printer.old) (seconds (all_held N.tree trials.old.open.items)) visits.old)
         (none_left visits.new) }
-    ensures ends { (a : Point) → Comes a (all_held N.tree trials.old.open.items) (buffer_seen buffer.old)
+    ensures ends { (a : Point) → RunReaches a (all_held N.tree trials.old.open.items) (buffer_seen buffer.old)
         (point N.tree printer.old (seen W.bytes W.failures W.lender out.old) visits.old) →
         RunsToEnd (W.document_errors out.new) a
         (point N.tree printer.new (seen W.bytes W.failures W.lender out.new) visits.new) result }

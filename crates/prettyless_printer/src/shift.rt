@@ -11,9 +11,9 @@ ghost use Rattle.prettyless_table.specs.Shift.{AreNodes, nodes_left};
 ghost use Rattle.prettyless_printer.specs.Points.{Point, Standing, buffer_seen, point, seen, standing};
 ghost use Rattle.prettyless_printer.specs.Open.{Held, all_held, seconds};
 ghost use Rattle.prettyless_printer.specs.Renders.{EndsAnywhere};
-ghost use Rattle.prettyless_printer.specs.Runs.{Comes};
+ghost use Rattle.prettyless_printer.specs.Runs.{RunReaches};
 ghost use Rattle.prettyless_printer.specs.Visits.{Plain};
-ghost use Rattle.prettyless_printer.specs.Linear.{IsFew, IsLinearStart};
+ghost use Rattle.prettyless_printer.specs.Linear.{IsLinearBound, IsLinearStart};
 ghost use Rattle.prettyless_printer.specs.Spending.{IsUnended, Spends, left, none_left, rule_of};
 
 use crate::answer::RunResult;
@@ -119,12 +119,14 @@ pub(crate) fn shift<N: Walk, W: Render>(
     out: &mut W,
     visits: &mut Visits,
 ) -> Result<Option<Result<(), RenderError<W::Error>>>, AllocError>
-    requires comes { (a : Point) × Comes a (all_held N.tree trials.now.open.items) (buffer_seen buffer.old)
+    requires comes { (a : Point) × RunReaches a (all_held N.tree trials.now.open.items) (buffer_seen buffer.old)
         (point N.tree printer.now (seen W.bytes W.failures W.lender out.old) visits.old) }
-    ensures ended { IfOk result (λ o. IfSome o (λ r. (a : Point) → Comes a (all_held N.tree trials.now.open.items) (buffer_seen buffer.old)
+    ensures ended { IfOk result (λ o. IfSome o
+        (λ r. (a : Point) → RunReaches a (all_held N.tree trials.now.open.items) (buffer_seen buffer.old)
         (point N.tree printer.now (seen W.bytes W.failures W.lender out.old) visits.old) →
         EndsAnywhere (W.document_errors out.new) a (seen W.bytes W.failures W.lender out.new) visits.new r)) }
-    ensures spends { IfOk result (λ o. IfSome o (λ r. (a : Point) → Comes a (all_held N.tree trials.now.open.items) (buffer_seen buffer.old)
+    ensures spends { IfOk result (λ o. IfSome o
+        (λ r. (a : Point) → RunReaches a (all_held N.tree trials.now.open.items) (buffer_seen buffer.old)
         (point N.tree printer.now (seen W.bytes W.failures W.lender out.old) visits.old) →
         Plain a.printer → Spends (rule_of true printer.now.options (2 ^ 64 - 1))
         (left (standing N.tree printer.now) (seconds (all_held N.tree trials.now.open.items)) visits.old)
@@ -162,7 +164,7 @@ pub(crate) fn run_in_gears<N: Walk, W: Render>(
         (seen W.bytes W.failures W.lender out.new) visits.new result }
     ensures rises { refused.old ≤ refused.new }
     ensures few { IsLinearStart (standing N.tree printer.old) → refused.new ≡ 0 →
-        IsFew 16 1000 (nodes (tasks_of N.tree printer.old)) visits.old visits.new }
+        IsLinearBound 16 1000 (nodes (tasks_of N.tree printer.old)) visits.old visits.new }
 {
     let mut trials = Trials::new(alloc);
     let mut buffer = Buffer::new(alloc);
@@ -201,7 +203,7 @@ pub(crate) fn run_over_table<N: Walk, W: Render>(
         (seen W.bytes W.failures W.lender out.new) visits.new result }
     ensures rises { refused.old ≤ refused.new }
     ensures few { IsLinearStart (standing N.tree printer.old) → refused.new ≡ 0 →
-        IsFew 2 0 (nodes (tasks_of N.tree printer.old)) visits.old visits.new }
+        IsLinearBound 2 0 (nodes (tasks_of N.tree printer.old)) visits.old visits.new }
 {
     let mut trials = Trials::new(alloc);
     let mut buffer = Buffer::new(alloc);

@@ -5,10 +5,10 @@ ghost use Rattle.std.specs.String.Boundary.{IsSplitPoint};
 ghost use Rattle.prettyless_model.specs.Tree.{Tree};
 ghost use Rattle.prettyless_probe.specs.Sums.{IsSummed};
 ghost use Rattle.prettyless_printer.specs.Points.{buffer_seen, point, standing};
-ghost use Rattle.prettyless_printer.specs.Trials.{Attempt, Courses, Marks, Restores, TrialStopsPast};
-ghost use Rattle.prettyless_printer.specs.Open.{BeginsTrial, Ends, Open, Opens, all_held, below_all, seconds};
+ghost use Rattle.prettyless_printer.specs.Trials.{Trial, TrialTurns, Marks, Restores, TrialStopsPast};
+ghost use Rattle.prettyless_printer.specs.Open.{BeginsTrial, TrialsEnd, Open, Opens, all_held, below_all, seconds};
 ghost use Rattle.prettyless_printer.specs.Visits.{Plain};
-ghost use Rattle.prettyless_printer.specs.Spending.{IsPlainTrial, Spends, SpendsAs, after_course, left, rule_of};
+ghost use Rattle.prettyless_printer.specs.Spending.{IsPlainTrial, Spends, SpendsAs, after_trial_turn, left, rule_of};
 
 use crate::answer::{TrialResult, TrialState, TurnResult};
 use crate::buffer::Buffer;
@@ -89,7 +89,7 @@ fn mark_of<N: Walk>(printer: &Printer<N>, buffer: &Buffer) -> Mark
 }
 
 // Goes back to where a trial began: nothing of it is left.
-fn take_back<N: Walk>(printer: &mut Printer<N>, mark: Mark, buffer: &mut Buffer)
+fn undo<N: Walk>(printer: &mut Printer<N>, mark: Mark, buffer: &mut Buffer)
     requires mark { mark.queue.len ≤ vec_len printer.old.queue.nodes }
     requires buffer { IsSplitPoint (string_bytes buffer.old.text) mark.written }
     ensures printer { Restores mark (standing N.tree printer.old) (standing N.tree printer.new) }
@@ -147,14 +147,14 @@ fn advance<N: Walk>(
     visits: &mut Visits,
 ) -> Result<TrialState<N>, AllocError>
     requires summed { IsSummed N.HAS_SUMMARIES N.tree printer.old.commands }
-    ensures courses { Courses N.tree below
+    ensures courses { TrialTurns N.tree below
         (point N.tree printer.old (buffer_seen buffer.old) visits.old)
         (point N.tree printer.new (buffer_seen buffer.new) visits.new) result }
     ensures past { IfOk result (λ c. TrialStopsPast limit visits.new.probes c) }
     ensures spends { Plain (standing N.tree printer.old) → Spends
         (rule_of N.HAS_SUMMARIES printer.old.options limit)
         (left (standing N.tree printer.old) [] visits.old)
-        (after_course N.tree (standing N.tree printer.new) visits.new result) }
+        (after_trial_turn N.tree (standing N.tree printer.new) visits.new result) }
     ensures summed { OnOk result (IsSummed N.HAS_SUMMARIES N.tree printer.new.commands) }
 {
     if printer.commands.len() <= below {
@@ -195,12 +195,12 @@ pub(crate) fn go_on_trying<N: Walk>(
 ) -> Result<TrialResult, AllocError>
     requires some { 0 < length trials.old.open.items }
     requires summed { IsSummed N.HAS_SUMMARIES N.tree printer.old.commands }
-    requires open { (s : Attempt) × (y : Tree) × Open s y (all_held N.tree trials.old.open.items)
+    requires open { (s : Trial) × (y : Tree) × Open s y (all_held N.tree trials.old.open.items)
         (point N.tree printer.old (buffer_seen buffer.old) visits.old) }
-    ensures ends { (s : Attempt) (y : Tree) → Open s y (all_held N.tree trials.old.open.items)
+    ensures ends { (s : Trial) (y : Tree) → Open s y (all_held N.tree trials.old.open.items)
         (point N.tree printer.old (buffer_seen buffer.old) visits.old) →
-        Ends limit s y (point N.tree printer.new (buffer_seen buffer.new) visits.new) (all_held N.tree trials.new.open.items) result }
-    ensures spends { (s : Attempt) (y : Tree) → Open s y (all_held N.tree trials.old.open.items)
+        TrialsEnd limit s y (point N.tree printer.new (buffer_seen buffer.new) visits.new) (all_held N.tree trials.new.open.items) result }
+    ensures spends { (s : Trial) (y : Tree) → Open s y (all_held N.tree trials.old.open.items)
         (point N.tree printer.old (buffer_seen buffer.old) visits.old) → IsPlainTrial s y → SpendsAs
         (rule_of N.HAS_SUMMARIES printer.old.options limit)
         (left (standing N.tree printer.old) (seconds (all_held N.tree trials.old.open.items)) visits.old)
@@ -224,7 +224,7 @@ pub(crate) fn go_on_trying<N: Walk>(
                 let Some(trial) = trials.open.pop() else {
                     unreachable!()
                 };
-                take_back(printer, trial.mark, buffer);
+                undo(printer, trial.mark, buffer);
                 printer
                     .commands
                     .push(trial.indent, Mode::Break, trial.second)?;

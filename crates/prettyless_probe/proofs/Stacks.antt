@@ -6,7 +6,7 @@ use Rattle.std.proofs.lemmas.List.{length-take-le}
 use Rattle.prettyless_model.specs.Tree.{Tree}
 use Rattle.prettyless_model.specs.Layout.{entry, next_indent}
 use Rattle.prettyless_probe.specs.Frames.{framed, lowest, spread, Rises}
-use Rattle.prettyless_probe.specs.Stack.{Task, make_task, downwards, task, framed_tasks, stack_of, follow, nodes, unread, Reads}
+use Rattle.prettyless_probe.specs.Stack.{Task, make_task, downwards, task, framed_tasks, stack_of, follow, nodes, unread, IsCursor}
 use Rattle.prettyless_probe.specs.declared.command.Command.{Command}
 use Rattle.prettyless_probe.specs.declared.command.Frame.{Frame}
 use Rattle.prettyless_probe.specs.declared.stack.Cursor.{Cursor}
@@ -56,7 +56,7 @@ pub length-stack_of : {N : Type 0} (f : N → Tree) (s : Stack N) → length (st
 length-stack_of {N} f s = length-tasks f s.frames.items s.here s.nodes.items s.bottom s.rises (omega (arith, s.top, s.nodes.ok.0))
 
 -- as many tasks are unread as nodes
-pub length-unread : {N : Type 0} (f : N → Tree) (s : Stack N) (c : Cursor) → Reads s c → length (unread f s c) ≡ c.nodes
+pub length-unread : {N : Type 0} (f : N → Tree) (s : Stack N) (c : Cursor) → IsCursor s c → length (unread f s c) ≡ c.nodes
 length-unread {N} f s c reads =
     let long = length-take-le c.nodes s.nodes.items reads.nodes in
     length-tasks f (take c.frames s.frames.items) c.here (take c.nodes s.nodes.items) reads.covers.bottom reads.covers.rises

@@ -8,7 +8,7 @@ use Rattle.prettyless_model.specs.declared.column.Column.{Column}
 use Rattle.prettyless_probe.specs.Stack.{Task, make_task, tasks_fit}
 use Rattle.prettyless_probe.specs.Sums.{AllSummed, HaveSum}
 use Rattle.prettyless_probe.specs.declared.stack.Below.{Below}
-use Rattle.prettyless_probe.specs.Texts.{TextsOnce, tasks_waiting}
+use Rattle.prettyless_probe.specs.Texts.{IsTextsIf, tasks_waiting}
 use Rattle.prettyless_probe.specs.declared.stack.Stack.{Stack}
 use Rattle.prettyless_probe.specs.declared.probe.Fit.{Fit}
 use Rattle.prettyless_probe.specs.declared.probe.Fit.TheVariants.{Exceeds, Fits, FitsAsTexts}
@@ -43,9 +43,9 @@ read_in s frame_step.Silent = Silent
 
 -- the document is its texts: at an answer that is true, and else if those of what comes next are theirs
 abbrev pub TextsAt : {N : Type 0} → (N → Tree) → Tree → ProbeStep N → List Task → Type 0
-TextsAt f d (Answer b) ts = IsTrue b → TextsOnce d []
-TextsAt f d (Descend i m n) ts = TextsOnce d (make_task i m (f n) ∷ ts)
-TextsAt f d Silent ts = TextsOnce d ts
+TextsAt f d (Answer b) ts = IsTrue b → IsTextsIf d []
+TextsAt f d (Descend i m n) ts = IsTextsIf d (make_task i m (f n) ∷ ts)
+TextsAt f d Silent ts = IsTextsIf d ts
 
 -- k nodes that wait are no more than there is room for, or than are still to wait: at an answer that is true, there is room for all
 abbrev pub RoomAt : {N : Type 0} → (N → Tree) → ℕ → ℕ → ProbeStep N → List Task → Type 0

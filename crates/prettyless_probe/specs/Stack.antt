@@ -49,7 +49,7 @@ abbrev pub unread : {N : Type 0} → (N → Tree) → Stack N → Cursor → Lis
 unread f s c = framed_tasks f (take c.frames s.frames.items) c.here (take c.nodes s.nodes.items)
 
 -- the cursor is one of the stack: its frames are the lowest ones, and they cover the nodes that are not read yet
-pub record Reads {N : Type 0} (s : Stack N) (c : Cursor) : Type 0 where
+pub record IsCursor {N : Type 0} (s : Stack N) (c : Cursor) : Type 0 where
   pub frames : c.frames ≤ length s.frames.items
   pub nodes : c.nodes ≤ length s.nodes.items
   pub covers : Covers (take c.frames s.frames.items) c.here c.nodes

@@ -3,7 +3,7 @@ use Rattle.std.specs.Prelude.{◌≡◌, ℕ, ◌-◌, ◌^◌, ◌<◌, ◌≤�
 use Rattle.prettyless_model.specs.Tree.{Tree, size}
 use Rattle.prettyless_model.specs.Look.{answer_of}
 use Rattle.prettyless_model.specs.declared.column.Column.{Column}
-use Rattle.prettyless_summary.specs.Summary.{HasSums, IsSmall, look_by}
+use Rattle.prettyless_summary.specs.Summary.{HasSummaries, IsSmall, look_by}
 use Rattle.prettyless_probe.specs.Stack.{Task, in_break, nodes, stack_of, tasks_fit}
 use Rattle.prettyless_probe.specs.declared.stack.Below.{Below}
 use Rattle.prettyless_probe.specs.declared.stack.Stack.{Stack}
@@ -15,7 +15,7 @@ bottom n ts = drop (length ts - n) ts
 -- tasks all of whose nodes have summaries
 abbrev pub HaveSummaries : List Task → Type 0
 HaveSummaries [] = ⊤
-HaveSummaries (t ∷ ts) = HasSums t.tree × HaveSummaries ts
+HaveSummaries (t ∷ ts) = HasSummaries t.tree × HaveSummaries ts
 
 -- tasks that are combined: all of their nodes have summaries, and they are too few for a number of their sum to pass 32 bits
 abbrev pub HaveSum : List Task → Type 0
@@ -43,11 +43,11 @@ pub record IsSummed {N : Type 0} (has : Bool) (f : N → Tree) (s : Stack N) : T
 -- A probe of a document before tasks finds all summed up: nodes have summaries, the document has one, and the tasks are combined.
 pub record AllSummed (has : Bool) (d : Tree) (ts : List Task) : Type 0 where
   pub summaries : IsTrue has
-  pub own : HasSums d
+  pub own : HasSummaries d
   pub small : size d < 2 ^ 32
   pub below : HaveSum ts
 
 -- trees all of whose nodes have summaries
-abbrev pub TreesHave : List Tree → Type 0
-TreesHave [] = ⊤
-TreesHave (d ∷ ds) = HasSums d × TreesHave ds
+abbrev pub TreesHaveSummaries : List Tree → Type 0
+TreesHaveSummaries [] = ⊤
+TreesHaveSummaries (d ∷ ds) = HasSummaries d × TreesHaveSummaries ds

@@ -30,11 +30,11 @@ tasks_waiting [] = 0
 tasks_waiting (t ∷ ts) = by_mode t.mode 0 (max (texts_waiting t.tree (length ts)) (tasks_waiting ts))
 
 -- x in Break, y in Flat
-abbrev pub Until : Mode → Type 0 → Type 0 → Type 0
-Until Break x y = x
-Until Flat x y = y
+abbrev pub ByMode : Mode → Type 0 → Type 0 → Type 0
+ByMode Break x y = x
+ByMode Flat x y = y
 
 -- the document is its texts, if those of the tasks are theirs that come before the first one in Break
-abbrev pub TextsOnce : Tree → List Task → Type 0
-TextsOnce d [] = IsTexts d
-TextsOnce d (t ∷ ts) = Until t.mode (IsTexts d) (IsTexts t.tree → TextsOnce d ts)
+abbrev pub IsTextsIf : Tree → List Task → Type 0
+IsTextsIf d [] = IsTexts d
+IsTextsIf d (t ∷ ts) = ByMode t.mode (IsTexts d) (IsTexts t.tree → IsTextsIf d ts)

@@ -4,7 +4,8 @@ use Rattle.prettyless_model.specs.Tree as t
 use Rattle.prettyless_model.specs.Tree.{Tree}
 use Rattle.prettyless_model.specs.Metrics.{metrics}
 use Rattle.prettyless_probe.specs.declared.walk.View.{View}
-use Rattle.prettyless_probe.specs.declared.walk.View.TheVariants.{Nil, Fail, Text, TextWithLen, MultilineText, WeakSpace, HardLine, WeakLine}
+use Rattle.prettyless_probe.specs.declared.walk.View.TheVariants.{Nil, Fail, Text, TextWithLen, MultilineText, WeakSpace, HardLine}
+use Rattle.prettyless_probe.specs.declared.walk.View.TheVariants.{WeakLine}
 use Rattle.prettyless_probe.specs.declared.walk.View.TheVariants.{Append, LineSuffix, Nest, DedentToRoot, Align, ExpandParent, Flatten}
 use Rattle.prettyless_probe.specs.declared.walk.View.TheVariants.{BreakOrFlat, Group, Union, PartialUnion, OnColumn, OnNesting}
 

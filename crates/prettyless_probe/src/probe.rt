@@ -1,5 +1,6 @@
 //! The probe: whether a node fits the line with what follows it.
-ghost use Rattle.std.specs.Prelude.{◌≡◌, ◌++◌, ◌∷◌, [], IfOk, OnOk, IfSome, MatchOption, List, false, length, true, IsTrue, ◌&&◌, ◌+◌, ◌<◌, ◌≤◌};
+ghost use Rattle.std.specs.Prelude.{◌≡◌, ◌++◌, ◌∷◌, [], IfOk, OnOk, IfSome, MatchOption, List, false, length, true, IsTrue, ◌&&◌};
+ghost use Rattle.std.specs.Prelude.{◌+◌, ◌<◌, ◌≤◌};
 ghost use Rattle.std.specs.Prelude.{if◌then◌else◌};
 ghost use Rattle.prettyless_model.specs.Tree.{Tree, WeakLine, size};
 ghost use Rattle.prettyless_model.specs.declared.mode.Mode.TheVariants.{Flat};
@@ -11,9 +12,9 @@ ghost use Rattle.prettyless_probe.specs.declared.probe.ProbeStep.TheVariants.{An
 ghost use Rattle.prettyless_probe.specs.declared.probe.Fit.TheVariants.{FitsAsTexts, Fits, Exceeds};
 ghost use Rattle.prettyless_probe.specs.Probing.{Few, ReadsAs, RisesBy, RoomAt, TextsAt, is_fit, nodes_next, read_in, read_of};
 ghost use Rattle.prettyless_probe.specs.Sums.{IsSummed};
-ghost use Rattle.prettyless_probe.specs.Stack.{AnswersAs, Reads, Task, follow, in_break, make_task, nodes, stack_of, task, tasks_fit};
+ghost use Rattle.prettyless_probe.specs.Stack.{AnswersAs, IsCursor, Task, follow, in_break, make_task, nodes, stack_of, task, tasks_fit};
 ghost use Rattle.prettyless_probe.specs.Stack.{room_of, unread};
-ghost use Rattle.prettyless_probe.specs.Texts.{IsTexts, TextsOnce, tasks_waiting, texts_waiting};
+ghost use Rattle.prettyless_probe.specs.Texts.{IsTexts, IsTextsIf, tasks_waiting, texts_waiting};
 
 use crate::choice::{by_column, by_nesting, either};
 use crate::command::{Command, nested_indent};
@@ -37,13 +38,13 @@ pub struct Line {
 
 /// A line while a probe reads texts: how it was before them, and where the next content would begin. So a text changes one number.
 #[derive(Drop)]
-struct LineSoFar {
+struct LineState {
     before: Line,
     position: usize,
     has_text: bool,
 }
 
-impl Model for LineSoFar {
+impl Model for LineState {
     ghost Value = { Line };
 
     ghost view = { λ s. record s.before { column = if s.has_text then commit s.position start else s.before.column } };
@@ -51,13 +52,13 @@ impl Model for LineSoFar {
     ghost invariant = { λ s. prospective (if s.has_text then commit s.position start else s.before.column) ≡ s.position };
 }
 
-impl LineSoFar {
+impl LineState {
     // A line of which no text was read.
     #[inline(always)]
     fn at(line: Line) -> Self
         ensures { result ≡ line }
     {
-        LineSoFar {
+        LineState {
             before: line,
             position: line.column.prospective(),
             has_text: false,
@@ -319,18 +320,20 @@ fn with_other(is_texts: bool, mode: Mode) -> bool
 #[inline(always)]
 fn visit_other<N: Walk>(
     width: usize,
-    line: &mut LineSoFar,
+    line: &mut LineState,
     node: N,
     stack: &mut Stack<N>,
     is_texts: &mut bool,
 ) -> Result<FrameStep<N>, AllocError>
     ensures answer { IfOk result (λ a. (ts : List Task) → ReadsAs N.tree width (read_in stack.new a)
-        (tasks_fit width (make_task stack.old.here.indent stack.old.here.mode (N.tree node) ∷ (stack_of N.tree stack.old ++ ts)) line.old.column line.old.pending)
+        (tasks_fit width (make_task stack.old.here.indent stack.old.here.mode (N.tree node) ∷ (stack_of N.tree stack.old ++ ts))
+            line.old.column line.old.pending)
         (stack_of N.tree stack.new ++ ts) line.new.column line.new.pending) }
     ensures smaller { IfOk result (λ a.
-        nodes_next N.tree (read_in stack.new a) + nodes (stack_of N.tree stack.new) < size (N.tree node) + nodes (stack_of N.tree stack.old)) }
+        nodes_next N.tree (read_in stack.new a) + nodes (stack_of N.tree stack.new) < size (N.tree node)
+            + nodes (stack_of N.tree stack.old)) }
     ensures texts { IfOk result (λ a. IsTrue is_texts.new → IsTrue is_texts.old × ((d : Tree)
-        → TextsOnce d (make_task stack.old.here.indent stack.old.here.mode (N.tree node) ∷ stack_of N.tree stack.old)
+        → IsTextsIf d (make_task stack.old.here.indent stack.old.here.mode (N.tree node) ∷ stack_of N.tree stack.old)
         → TextsAt N.tree d (read_in stack.new a) (stack_of N.tree stack.new))) }
     ensures room { OnOk result (room_of stack.old ≤ room_of stack.new) }
     ensures waiting { IfOk result (λ a. IsTrue is_texts.new → RoomAt N.tree
@@ -341,7 +344,7 @@ fn visit_other<N: Walk>(
     let indent = stack.indent_in();
     let mode = stack.mode_in();
     let read = read_other(width, &mut other, indent, mode, node, stack)?;
-    *line = LineSoFar::at(other);
+    *line = LineState::at(other);
     *is_texts = with_other(*is_texts, mode);
     match read {
         ProbeStep::Answer(answer) => Ok(FrameStep::Answer(answer)),
@@ -357,18 +360,20 @@ fn visit_other<N: Walk>(
 #[inline(always)]
 fn visit_one<N: Walk>(
     width: usize,
-    line: &mut LineSoFar,
+    line: &mut LineState,
     node: N,
     stack: &mut Stack<N>,
     is_texts: &mut bool,
 ) -> Result<FrameStep<N>, AllocError>
     ensures answer { IfOk result (λ a. (ts : List Task) → ReadsAs N.tree width (read_in stack.new a)
-        (tasks_fit width (make_task stack.old.here.indent stack.old.here.mode (N.tree node) ∷ (stack_of N.tree stack.old ++ ts)) line.old.column line.old.pending)
+        (tasks_fit width (make_task stack.old.here.indent stack.old.here.mode (N.tree node) ∷ (stack_of N.tree stack.old ++ ts))
+            line.old.column line.old.pending)
         (stack_of N.tree stack.new ++ ts) line.new.column line.new.pending) }
     ensures smaller { IfOk result (λ a.
-        nodes_next N.tree (read_in stack.new a) + nodes (stack_of N.tree stack.new) < size (N.tree node) + nodes (stack_of N.tree stack.old)) }
+        nodes_next N.tree (read_in stack.new a) + nodes (stack_of N.tree stack.new) < size (N.tree node)
+            + nodes (stack_of N.tree stack.old)) }
     ensures texts { IfOk result (λ a. IsTrue is_texts.new → IsTrue is_texts.old × ((d : Tree)
-        → TextsOnce d (make_task stack.old.here.indent stack.old.here.mode (N.tree node) ∷ stack_of N.tree stack.old)
+        → IsTextsIf d (make_task stack.old.here.indent stack.old.here.mode (N.tree node) ∷ stack_of N.tree stack.old)
         → TextsAt N.tree d (read_in stack.new a) (stack_of N.tree stack.new))) }
     ensures room { OnOk result (room_of stack.old ≤ room_of stack.new) }
     ensures waiting { IfOk result (λ a. IsTrue is_texts.new → RoomAt N.tree
@@ -412,17 +417,19 @@ fn next_unread<N: Walk>(
     below: &mut Cursor,
     stack: &mut Stack<N>,
 ) -> Result<Option<N>, AllocError>
-    requires { Reads commands.now below.old }
-    ensures of_this { Reads commands.now below.new }
+    requires { IsCursor commands.now below.old }
+    ensures of_this { IsCursor commands.now below.new }
     ensures ahead { IfOk result (λ o. MatchOption o
         (stack_of N.tree stack.old ++ in_break (unread N.tree commands.now below.old) ≡ [])
         (λ n. stack_of N.tree stack.old ++ in_break (unread N.tree commands.now below.old)
-        ≡ make_task stack.new.here.indent stack.new.here.mode (N.tree n) ∷ (stack_of N.tree stack.new ++ in_break (unread N.tree commands.now below.new)))) }
+        ≡ make_task stack.new.here.indent stack.new.here.mode (N.tree n)
+            ∷ (stack_of N.tree stack.new ++ in_break (unread N.tree commands.now below.new)))) }
     ensures left { IfOk result (λ o. IfSome o
         (λ n. nodes (stack_of N.tree stack.old) + nodes (unread N.tree commands.now below.old)
         ≡ size (N.tree n) + (nodes (stack_of N.tree stack.new) + nodes (unread N.tree commands.now below.new)))) }
-    ensures texts { IfOk result (λ o. (d : Tree) → TextsOnce d (stack_of N.tree stack.old)
-        → MatchOption o (IsTexts d) (λ n. TextsOnce d (make_task stack.new.here.indent stack.new.here.mode (N.tree n) ∷ stack_of N.tree stack.new))) }
+    ensures texts { IfOk result (λ o. (d : Tree) → IsTextsIf d (stack_of N.tree stack.old)
+        → MatchOption o (IsTexts d) (λ n. IsTextsIf d
+            (make_task stack.new.here.indent stack.new.here.mode (N.tree n) ∷ stack_of N.tree stack.new))) }
     ensures room { OnOk result (room_of stack.old ≤ room_of stack.new) }
     ensures waiting { IfOk result (λ o. MatchOption o (tasks_waiting (stack_of N.tree stack.old) ≡ 0)
         (λ n. tasks_waiting (stack_of N.tree stack.old)
@@ -473,10 +480,12 @@ fn visit_all<N: Walk>(
     stack: &mut Stack<N>,
     probes: &mut u64,
 ) -> Result<Fit, AllocError>
-    requires { Reads commands.now cursor }
+    requires { IsCursor commands.now cursor }
     ensures answer { IfOk result
-        (λ r. is_fit r ≡ tasks_fit width (task N.tree first ∷ (stack_of N.tree stack.old ++ in_break (unread N.tree commands.now cursor))) start.column start.pending) }
-    ensures texts { IfOk result (λ r. r ≡ FitsAsTexts → stack_of N.tree stack.old ≡ [] → (first.mode ≡ Flat) × IsTexts (N.tree first.node)) }
+        (λ r. is_fit r ≡ tasks_fit width
+            (task N.tree first ∷ (stack_of N.tree stack.old ++ in_break (unread N.tree commands.now cursor))) start.column start.pending) }
+    ensures texts { IfOk result (λ r. r ≡ FitsAsTexts → stack_of N.tree stack.old ≡ [] → (first.mode ≡ Flat)
+        × IsTexts (N.tree first.node)) }
     ensures room { IfOk result (λ r. r ≡ FitsAsTexts → stack_of N.tree stack.old ≡ []
         → texts_waiting (N.tree first.node) 0 ≤ room_of stack.new) }
     ensures rises { probes.old ≤ probes.new }
@@ -484,7 +493,7 @@ fn visit_all<N: Walk>(
         ≤ probes.old + (size (N.tree first.node) + (nodes (stack_of N.tree stack.old) + nodes (unread N.tree commands.now cursor))) }
     ensures asked { OnOk result (RisesBy 1 probes.old probes.new) }
 {
-    let mut line = LineSoFar::at(start);
+    let mut line = LineState::at(start);
     let mut below = cursor;
     let mut node = first.node;
     let mut is_texts = is_flat(first.mode);

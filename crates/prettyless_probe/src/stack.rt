@@ -44,7 +44,7 @@ impl<N: Walk> Stack<N> {
     ghost use Rattle.std.specs.Prelude.{◌∷◌, ◌++◌, ◌<◌, [], List, length, IsTrue, IsFalse, OnOk, MatchOption, ℕ, ⊤, ◌+◌, take};
     ghost use Rattle.std.specs.Prelude.{if◌then◌else◌};
     ghost use Rattle.prettyless_model.specs.Layout.{next_indent as next_indent_of};
-    ghost use Rattle.prettyless_probe.specs.Stack.{Reads, Task, follow, make_task, room_of, stack_of, task, tasks, trees, unread};
+    ghost use Rattle.prettyless_probe.specs.Stack.{IsCursor, Task, follow, make_task, room_of, stack_of, task, tasks, trees, unread};
     ghost use Rattle.prettyless_probe.specs.Sums.{AreSums, HaveSum, IsSummed, SumsUp, bottom};
 
     /// An empty one. It takes no memory.
@@ -404,7 +404,7 @@ impl<N: Walk> Stack<N> {
     /// A cursor from which all nodes are read, from the top.
     #[inline(always)]
     pub fn cursor(&self) -> Cursor
-        ensures of_this { Reads self.now result }
+        ensures of_this { IsCursor self.now result }
         ensures unread { unread N.tree self.now result ≡ stack_of N.tree self.now }
     {
         Cursor {
@@ -417,9 +417,9 @@ impl<N: Walk> Stack<N> {
     // Goes on from a frame that is read to the one below it. The answer is whether there is one.
     #[inline(always)]
     fn leave_read(&self, cursor: &mut Cursor) -> bool
-        requires of_this { Reads self.now cursor.old }
+        requires of_this { IsCursor self.now cursor.old }
         requires read { cursor.old.here.below ≡ cursor.old.nodes }
-        ensures of_this { Reads self.now cursor.new }
+        ensures of_this { IsCursor self.now cursor.new }
         ensures same { unread N.tree self.now cursor.new ≡ unread N.tree self.now cursor.old }
         ensures nodes { cursor.new.nodes ≡ cursor.old.nodes }
         ensures more { IsTrue result → cursor.new.here.below < cursor.new.nodes }
@@ -436,8 +436,8 @@ impl<N: Walk> Stack<N> {
     // Reads the next node downwards, if it is in the cursor's frame.
     #[inline(always)]
     fn read_here(&self, cursor: &mut Cursor) -> Option<Command<N>>
-        requires { Reads self.now cursor.old }
-        ensures of_this { Reads self.now cursor.new }
+        requires { IsCursor self.now cursor.old }
+        ensures of_this { IsCursor self.now cursor.new }
         ensures unread { MatchOption result
             ((cursor.old.here.below ≡ cursor.old.nodes) × (cursor.new ≡ cursor.old))
             (λ c. unread N.tree self.now cursor.old ≡ task N.tree c ∷ unread N.tree self.now cursor.new) }
@@ -456,8 +456,8 @@ impl<N: Walk> Stack<N> {
     /// Reads the next node downwards.
     #[inline(always)]
     pub fn read_down(&self, cursor: &mut Cursor) -> Option<Command<N>>
-        requires { Reads self.now cursor.old }
-        ensures of_this { Reads self.now cursor.new }
+        requires { IsCursor self.now cursor.old }
+        ensures of_this { IsCursor self.now cursor.new }
         ensures unread { MatchOption result
             ((unread N.tree self.now cursor.old ≡ []) × (unread N.tree self.now cursor.new ≡ []))
             (λ c. unread N.tree self.now cursor.old ≡ task N.tree c ∷ unread N.tree self.now cursor.new) }
@@ -474,7 +474,7 @@ impl<N: Walk> Stack<N> {
     /// The sum of what is not read yet, where it combines a node at least: so it does where all of that is combined, and there is a node.
     #[inline]
     pub fn sum_of(&self, cursor: &Cursor) -> Option<Below>
-        requires of_this { Reads self.now cursor.now }
+        requires of_this { IsCursor self.now cursor.now }
         requires summed { AreSums self.now.sums.items (unread N.tree self.now cursor.now) }
         ensures { MatchOption result
             (length (unread N.tree self.now cursor.now) ≤ length self.now.sums.items → HaveSum (unread N.tree self.now cursor.now)
@@ -496,10 +496,10 @@ impl<N: Walk> Stack<N> {
     // Leaves out the nodes of the cursor's frame that are not read yet, down to a height.
     #[inline(always)]
     fn skip_here(&self, cursor: &mut Cursor, left: usize)
-        requires of_this { Reads self.now cursor.old }
+        requires of_this { IsCursor self.now cursor.old }
         requires below { cursor.old.here.below ≤ left }
         requires left { left ≤ cursor.old.nodes }
-        ensures of_this { Reads self.now cursor.new }
+        ensures of_this { IsCursor self.now cursor.new }
         ensures unread { unread N.tree self.now cursor.new ≡ bottom left (unread N.tree self.now cursor.old) }
         ensures others { cursor.new ≡ record cursor.old { nodes = left } }
     {
@@ -509,7 +509,7 @@ impl<N: Walk> Stack<N> {
     // Leaves out all nodes.
     #[inline(always)]
     fn skip_all(&self, cursor: &mut Cursor)
-        ensures of_this { Reads self.now cursor.new }
+        ensures of_this { IsCursor self.now cursor.new }
         ensures unread { unread N.tree self.now cursor.new ≡ [] }
     {
         cursor.nodes = 0;
@@ -519,9 +519,9 @@ impl<N: Walk> Stack<N> {
 
     /// Leaves out all that is not read yet but so many nodes at the bottom.
     pub fn skip_to(&self, cursor: &mut Cursor, left: usize)
-        requires of_this { Reads self.now cursor.old }
+        requires of_this { IsCursor self.now cursor.old }
         requires left { left ≤ length (unread N.tree self.now cursor.old) }
-        ensures of_this { Reads self.now cursor.new }
+        ensures of_this { IsCursor self.now cursor.new }
         ensures unread { unread N.tree self.now cursor.new ≡ bottom left (unread N.tree self.now cursor.old) }
     {
         if left == 0 {

@@ -2,10 +2,10 @@
 ghost use Rattle.std.specs.Prelude.{◌≡◌, ◌++◌, ◌∷◌, IfOk, IsTrue, OnOk, List, [], length, ◌+◌, ◌*◌, ◌^◌, ◌<◌, ◌≤◌};
 ghost use Rattle.prettyless_model.specs.Tree.{size};
 ghost use Rattle.prettyless_model.specs.Look.{answer_of};
-ghost use Rattle.prettyless_summary.specs.Summary.{HasSums, look_by};
+ghost use Rattle.prettyless_summary.specs.Summary.{HasSummaries, look_by};
 ghost use Rattle.prettyless_probe.specs.Probing.{Few, OneLeft, ReadsAs, RisesBy, nodes_next, pace};
 ghost use Rattle.prettyless_probe.specs.declared.probe.ProbeStep.{ProbeStep};
-ghost use Rattle.prettyless_probe.specs.Stack.{Reads, Task, in_break, make_task, nodes, stack_of, task, tasks_fit, unread};
+ghost use Rattle.prettyless_probe.specs.Stack.{IsCursor, Task, in_break, make_task, nodes, stack_of, task, tasks_fit, unread};
 ghost use Rattle.prettyless_probe.specs.Sums.{AreSums};
 
 use crate::command::Command;
@@ -14,7 +14,7 @@ use crate::stack::{Cursor, Stack};
 use crate::walk::Walk;
 use prettyless_model::mode::Mode;
 use prettyless_sink::visits::one_more;
-use prettyless_summary::summary::{Reached, Summary};
+use prettyless_summary::summary::{ReadResult, Summary};
 use std::alloc::AllocError;
 
 // Reads on by a summary.
@@ -27,8 +27,8 @@ fn read_by<N: Walk>(width: usize, line: &mut Line, summary: Summary) -> ProbeSte
     ensures nodes { nodes_next N.tree result ≡ 0 }
 {
     match summary.read(width, line.column, line.pending) {
-        Reached::Answer(answer) => ProbeStep::Answer(answer),
-        Reached::Line(column, pending) => {
+        ReadResult::Answer(answer) => ProbeStep::Answer(answer),
+        ReadResult::Line(column, pending) => {
             line.column = column;
             line.pending = pending;
             ProbeStep::Silent
@@ -53,7 +53,7 @@ fn read_one<N: Walk>(
         (stack_of N.tree stack.new ++ ts) line.new.column line.new.pending) }
     ensures smaller { IfOk result (λ a.
         nodes_next N.tree a + nodes (stack_of N.tree stack.new) < size (N.tree node) + nodes (stack_of N.tree stack.old)) }
-    ensures few { IfOk result (λ a. IsTrue N.HAS_SUMMARIES → HasSums (N.tree node) → size (N.tree node) < 2 ^ 32
+    ensures few { IfOk result (λ a. IsTrue N.HAS_SUMMARIES → HasSummaries (N.tree node) → size (N.tree node) < 2 ^ 32
         → (nodes_next N.tree a ≡ 0) × (stack_of N.tree stack.new ≡ stack_of N.tree stack.old)) }
 {
     match node.known(mode) {
@@ -74,9 +74,9 @@ fn read_on<N: Walk>(
     probes: &mut u64,
 ) -> ProbeStep<N>
     requires narrow { width < 2 ^ 32 }
-    requires of_this { Reads commands.now below.old }
+    requires of_this { IsCursor commands.now below.old }
     requires summed { AreSums commands.now.sums.items (unread N.tree commands.now below.old) }
-    ensures of_this { Reads commands.now below.new }
+    ensures of_this { IsCursor commands.now below.new }
     ensures summed { AreSums commands.now.sums.items (unread N.tree commands.now below.new) }
     ensures answer { ReadsAs N.tree width result
         (tasks_fit width (stack_of N.tree stack.old ++ in_break (unread N.tree commands.now below.old)) line.old.column line.old.pending)
@@ -87,7 +87,8 @@ fn read_on<N: Walk>(
     ensures counted { probes.new
         + (nodes_next N.tree result + (nodes (stack_of N.tree stack.new) + nodes (unread N.tree commands.now below.new)))
         ≤ probes.old + (nodes (stack_of N.tree stack.old) + nodes (unread N.tree commands.now below.old)) }
-    ensures few { (read : ProbeStep N) → OneLeft N.tree read (stack_of N.tree stack.old) (unread N.tree commands.now below.old) commands.now.sums.items
+    ensures few { (read : ProbeStep N)
+        → OneLeft N.tree read (stack_of N.tree stack.old) (unread N.tree commands.now below.old) commands.now.sums.items
         → OneLeft N.tree result (stack_of N.tree stack.new) (unread N.tree commands.now below.new) commands.now.sums.items
         × (unread N.tree commands.now below.new ≡ []) × (probes.new ≤ probes.old + 1) }
 {
@@ -118,7 +119,7 @@ pub(crate) fn visit_by_sums<N: Walk>(
     probes: &mut u64,
 ) -> Result<bool, AllocError>
     requires narrow { width < 2 ^ 32 }
-    requires of_this { Reads commands.now cursor }
+    requires of_this { IsCursor commands.now cursor }
     requires summed { AreSums commands.now.sums.items (unread N.tree commands.now cursor) }
     ensures answer { IfOk result
         (λ r. r ≡ tasks_fit width (task N.tree first ∷ (stack_of N.tree stack.old ++ in_break (unread N.tree commands.now cursor)))

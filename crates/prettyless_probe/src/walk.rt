@@ -2,7 +2,7 @@
 ghost use Rattle.std.specs.Prelude.{◌≡◌, ◌<◌, ◌^◌, Bool, IsTrue};
 ghost use Rattle.prettyless_model.specs.Tree.{Tree, size};
 ghost use Rattle.prettyless_probe.specs.View.{IsMeasured, view_tree};
-ghost use Rattle.prettyless_summary.specs.Summary.{HasSums, IsFound, IsKnown};
+ghost use Rattle.prettyless_summary.specs.Summary.{HasSummaries, IsFound, IsKnown};
 
 use prettyless_model::choice::{ColumnTest, NestingTest};
 use prettyless_model::metrics::Metrics;
@@ -59,5 +59,6 @@ pub trait Walk: Copy {
     /// them, and which is not too large.
     fn known(&self, mode: Mode) -> Option<Summary>
         ensures known { IsKnown result (tree self.now) mode }
-        ensures found { IsTrue HAS_SUMMARIES → HasSums (tree self.now) → size (tree self.now) < 2 ^ 32 → IsFound (size (tree self.now)) result };
+        ensures found { IsTrue HAS_SUMMARIES → HasSummaries (tree self.now) → size (tree self.now) < 2 ^ 32
+            → IsFound (size (tree self.now)) result };
 }

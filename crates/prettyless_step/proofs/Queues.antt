@@ -32,13 +32,13 @@ none : (ds : List Tree) → length ds ≤ 0 → some_pending ds ≡ false
 none [] l = refl
 none (d ∷ ds) l = absurd (omega arith)
 
-pub some_waits : {N : Type 0} (f : N → Tree) (xs : List N) (n : ℕ) → n < length xs → some_pending (trees f (drop n xs)) ≡ true
-some_waits f xs n h = some (trees f (drop n xs)) (omega (arith, length-pending f xs n))
+pub pending_some : {N : Type 0} (f : N → Tree) (xs : List N) (n : ℕ) → n < length xs → some_pending (trees f (drop n xs)) ≡ true
+pending_some f xs n h = some (trees f (drop n xs)) (omega (arith, length-pending f xs n))
 
-pub none_waits : {N : Type 0} (f : N → Tree) (xs : List N) (n : ℕ) → length xs ≤ n → some_pending (trees f (drop n xs)) ≡ false
-none_waits f xs n h = none (trees f (drop n xs)) (omega (arith, length-pending f xs n))
+pub pending_none : {N : Type 0} (f : N → Tree) (xs : List N) (n : ℕ) → length xs ≤ n → some_pending (trees f (drop n xs)) ≡ false
+pending_none f xs n h = none (trees f (drop n xs)) (omega (arith, length-pending f xs n))
 
-pub ruleset queues = (trees_push, trees_none, some_waits, none_waits, append-nil, append_assoc)
+pub ruleset queues = (trees_push, trees_none, pending_some, pending_none, append-nil, append_assoc)
 
 pub length_some : (ds : List Tree) → some_pending ds ≡ true → 0 < length ds
 length_some [] h = cc

@@ -6,7 +6,7 @@ use Rattle.prettyless_model.specs.Layout.{State}
 use Rattle.prettyless_model.specs.declared.mode.Mode.{Mode}
 use Rattle.prettyless_probe.specs.Stack.{Task, make_task, follow, nodes}
 use Rattle.prettyless_step.specs.Steps.{Step, Move, Stuck, Choose, step_of}
-use Rattle.prettyless_step.specs.Printing.{state_of, tasks_of, PrinterGrows, Hands, Shows, Writes}
+use Rattle.prettyless_step.specs.Printing.{state_of, tasks_of, PrinterGrows, Descends, Shows, Writes}
 use Rattle.prettyless_step.specs.declared.printer.Printer.{Printer}
 use Rattle.prettyless_step.specs.declared.printer.StepResult.TheVariants.{Failed, Choice}
 use Rattle.prettyless_probe.proofs.Stacks.{nodes-append}
@@ -16,10 +16,10 @@ abbrev pub step_at : RenderOptions → Task → List Task → State → Step
 step_at o t ts st = step_of o t.tree t.indent t.mode (follow ts) st
 
 -- the step writes these bytes, and leads from the tasks after it to these tasks and this state
-abbrev pub Leads : Step → List Task → List ℕ → List Task → State → Type 0
-Leads (Move b pushed u) ts bytes us v = (bytes ≡ b) × (us ≡ pushed ++ ts) × (v ≡ u)
-Leads Stuck ts bytes us v = ⊥
-Leads (Choose i x y) ts bytes us v = ⊥
+abbrev pub StepsTo : Step → List Task → List ℕ → List Task → State → Type 0
+StepsTo (Move b pushed u) ts bytes us v = (bytes ≡ b) × (us ≡ pushed ++ ts) × (v ≡ u)
+StepsTo Stuck ts bytes us v = ⊥
+StepsTo (Choose i x y) ts bytes us v = ⊥
 
 -- the step fails
 abbrev pub IsStuck : Step → Type 0
@@ -28,40 +28,40 @@ IsStuck Stuck = Unit {0}
 IsStuck (Choose i x y) = ⊥
 
 -- the step leads to a choice between two branches at an indent
-abbrev pub Asks : Step → ℕ → Tree → Tree → Type 0
-Asks (Move b pushed u) i x y = ⊥
-Asks Stuck i x y = ⊥
-Asks (Choose j v w) i x y = (i ≡ j) × (x ≡ v) × (y ≡ w)
+abbrev pub IsChoice : Step → ℕ → Tree → Tree → Type 0
+IsChoice (Move b pushed u) i x y = ⊥
+IsChoice Stuck i x y = ⊥
+IsChoice (Choose j v w) i x y = (i ≡ j) × (x ≡ v) × (y ≡ w)
 
 -- bytes were written
 pub written : {N : Type 0} (f : N → Tree) (bytes : List ℕ) (step : Step) (p q : Printer N) → Writes f bytes step p q →
-    Leads step (tasks_of f p) bytes (tasks_of f q) (state_of f q) × (q.options ≡ p.options) × PrinterGrows p q
+    StepsTo step (tasks_of f p) bytes (tasks_of f q) (state_of f q) × (q.options ≡ p.options) × PrinterGrows p q
 written {N} f bytes (Move b pushed u) p q h = ((h.0, h.1, h.2), h.3, h.4)
 written {N} f bytes Stuck p q h = absurd h
 written {N} f bytes (Choose j x y) p q h = absurd h
 
 -- A task is the current one: the step leads to it, above the others, and the stack has lost nothing.
-pub record Handed {N : Type 0} (f : N → Tree) (t : Task) (step : Step) (p q : Printer N) : Type 0 where
-  pub leads : Leads step (tasks_of f p) [] (t ∷ tasks_of f q) (state_of f q)
+pub record PrinterDescended {N : Type 0} (f : N → Tree) (t : Task) (step : Step) (p q : Printer N) : Type 0 where
+  pub steps_to : StepsTo step (tasks_of f p) [] (t ∷ tasks_of f q) (state_of f q)
   pub state : state_of f q ≡ state_of f p
   pub options : q.options ≡ p.options
   pub grows : PrinterGrows p q
   pub long : length (tasks_of f p) ≤ length (tasks_of f q)
   pub heavy : nodes (tasks_of f p) ≤ nodes (tasks_of f q)
 
-pub handed : {N : Type 0} (f : N → Tree) (i : ℕ) (m : Mode) (n : N) (step : Step) (p q : Printer N) → Hands f i m n step p q
-    → Handed f (make_task i m (f n)) step p q
-handed {N} f i m n (Move b [] u) p q h = absurd h
-handed {N} f i m n (Move b (t ∷ pushed) u) p q h = record {
-  leads = (sym h.0, ap (λ (x : Task). x ∷ tasks_of f q) h.1 ∙ ap (λ (x : List Task). t ∷ x) h.2, h.4 ∙ sym h.3);
+pub printer_descended : {N : Type 0} (f : N → Tree) (i : ℕ) (m : Mode) (n : N) (step : Step) (p q : Printer N) → Descends f i m n step p q
+    → PrinterDescended f (make_task i m (f n)) step p q
+printer_descended {N} f i m n (Move b [] u) p q h = absurd h
+printer_descended {N} f i m n (Move b (t ∷ pushed) u) p q h = record {
+  steps_to = (sym h.0, ap (λ (x : Task). x ∷ tasks_of f q) h.1 ∙ ap (λ (x : List Task). t ∷ x) h.2, h.4 ∙ sym h.3);
   state = h.4;
   options = h.5;
   grows = h.6;
   long = omega (arith, ap length h.2, length-append pushed (tasks_of f p));
   heavy = omega (arith, ap nodes h.2, nodes-append pushed (tasks_of f p));
 }
-handed {N} f i m n Stuck p q h = absurd h
-handed {N} f i m n (Choose j x y) p q h = absurd h
+printer_descended {N} f i m n Stuck p q h = absurd h
+printer_descended {N} f i m n (Choose j x y) p q h = absurd h
 
 -- the node fails
 pub stuck : {N : Type 0} (f : N → Tree) (m : Mode) (step : Step) (p q : Printer N) → Shows f m Failed step p q → IsStuck step × (q ≡ p)
@@ -70,8 +70,9 @@ stuck {N} f m Stuck p q h = (tt, h)
 stuck {N} f m (Choose j x y) p q h = absurd h
 
 -- two branches are to be chosen from
-pub asks : {N : Type 0} (f : N → Tree) (m : Mode) (i : ℕ) (l r : N) (step : Step) (p q : Printer N) → Shows f m (Choice i l r) step p q
-    → Asks step i (f l) (f r) × (q ≡ p)
-asks {N} f m i l r (Move b pushed u) p q h = absurd h
-asks {N} f m i l r Stuck p q h = absurd h
-asks {N} f m i l r (Choose j x y) p q h = ((h.0, h.1, h.2), h.3)
+pub choice_step : {N : Type 0} (f : N → Tree) (m : Mode) (i : ℕ) (l r : N) (step : Step) (p q : Printer N)
+    → Shows f m (Choice i l r) step p q
+    → IsChoice step i (f l) (f r) × (q ≡ p)
+choice_step {N} f m i l r (Move b pushed u) p q h = absurd h
+choice_step {N} f m i l r Stuck p q h = absurd h
+choice_step {N} f m i l r (Choose j x y) p q h = ((h.0, h.1, h.2), h.3)

@@ -8,51 +8,55 @@ use Rattle.prettyless_model.specs.Tree.{Tree}
 use Rattle.prettyless_model.specs.Layout.{State, Outcome, Done, Entry, is_suppressed, lay_ending, lay_text, probe, next_indent}
 use Rattle.prettyless_model.specs.declared.mode.Mode.{Mode}
 use Rattle.prettyless_model.specs.declared.mode.Mode.TheVariants.{Break, Flat}
-use Rattle.prettyless_summary.specs.Summary.{HasSums}
+use Rattle.prettyless_summary.specs.Summary.{HasSummaries}
 use Rattle.prettyless_probe.specs.Stack.{Task, make_task, tasks}
-use Rattle.prettyless_step.specs.Steps.{StepHas, at_once, break_step, step_of, union_step, decided_by_metrics}
-use Rattle.prettyless_probe.specs.Sums.{HaveSummaries, TreesHave}
+use Rattle.prettyless_step.specs.Steps.{StepHasSummaries, at_once, break_step, step_of, union_step, decided_by_metrics}
+use Rattle.prettyless_probe.specs.Sums.{HaveSummaries, TreesHaveSummaries}
 
-either_has : (b : Bool) (x y : Tree) → HasSums x → HasSums y → HasSums (if b then x else y)
+either_has : (b : Bool) (x y : Tree) → HasSummaries x → HasSummaries y → HasSummaries (if b then x else y)
 either_has true x y h k = h
 either_has false x y h k = k
 
-trees_push : (ds : List Tree) (d : Tree) → TreesHave ds → HasSums d → TreesHave (ds ++ d ∷ [])
+trees_push : (ds : List Tree) (d : Tree) → TreesHaveSummaries ds → HasSummaries d → TreesHaveSummaries (ds ++ d ∷ [])
 trees_push [] d h k = (k, tt)
 trees_push (e ∷ ds) d h k = (h.0, trees_push ds d h.1 k)
 
-text_has : (o : RenderOptions) (w : ℕ) (s : List ℕ) (st : State) → TreesHave st.pending → StepHas (at_once (lay_text o w s st))
+text_has : (o : RenderOptions) (w : ℕ) (s : List ℕ) (st : State) → TreesHaveSummaries st.pending
+    → StepHasSummaries (at_once (lay_text o w s st))
 text_has o w [] st h = (tt, h)
 text_has o w (b ∷ bs) st h = (tt, h)
 
-ending_has : (o : RenderOptions) (p : IndentationPolicy) (k : ℕ) (st : State) → TreesHave st.pending
-    → StepHas (at_once (lay_ending o p k st))
+ending_has : (o : RenderOptions) (p : IndentationPolicy) (k : ℕ) (st : State) → TreesHaveSummaries st.pending
+    → StepHasSummaries (at_once (lay_ending o p k st))
 ending_has o Eager k st h = (tt, h)
 ending_has o Deferred k st h = (tt, h)
 
-plain_has : (b : Bool) (x y : Outcome) → StepHas (at_once x) → StepHas (at_once y) → StepHas (at_once (if b then x else y))
+plain_has : (b : Bool) (x y : Outcome) → StepHasSummaries (at_once x) → StepHasSummaries (at_once y)
+    → StepHasSummaries (at_once (if b then x else y))
 plain_has true x y h k = h
 plain_has false x y h k = k
 
-tasks_have : (i : ℕ) (m : Mode) (ds : List Tree) (t : Task) → TreesHave ds → HasSums t.tree → HaveSummaries (tasks i m ds ++ t ∷ [])
+tasks_have : (i : ℕ) (m : Mode) (ds : List Tree) (t : Task) → TreesHaveSummaries ds → HasSummaries t.tree
+    → HaveSummaries (tasks i m ds ++ t ∷ [])
 tasks_have i m [] t h k = (k, tt)
 tasks_have i m (d ∷ ds) t h k = (h.0, tasks_have i m ds t h.1 k)
 
-break_has : (o : RenderOptions) (ps : List Tree) (d : Tree) (i : ℕ) (m : Mode) (rest : List Entry) (st : State) → TreesHave ps
-    → TreesHave st.pending → HasSums d → StepHas (break_step o ps d i m rest st)
+break_has : (o : RenderOptions) (ps : List Tree) (d : Tree) (i : ℕ) (m : Mode) (rest : List Entry) (st : State) → TreesHaveSummaries ps
+    → TreesHaveSummaries st.pending → HasSummaries d → StepHasSummaries (break_step o ps d i m rest st)
 break_has o [] d i m rest st none h k =
     plain_has (is_suppressed d st.column) (Done [] st) (lay_ending o o.indentation_policy (next_indent i rest) st) (tt, h)
     (ending_has o o.indentation_policy (next_indent i rest) st h)
 break_has o (p ∷ ps) d i m rest st some h k = (tasks_have i m (p ∷ ps) (make_task i m d) some k, tt)
 
-union_has : (v : Option Bool) (l r : Tree) (i : ℕ) (st : State) → HasSums l → HasSums r → TreesHave st.pending
-    → StepHas (union_step v l r i st)
+union_has : (v : Option Bool) (l r : Tree) (i : ℕ) (st : State) → HasSummaries l → HasSummaries r → TreesHaveSummaries st.pending
+    → StepHasSummaries (union_step v l r i st)
 union_has None l r i st x y h = (x, y)
 union_has (Some v) l r i st x y h = ((either_has v l r x y, tt), h)
 
 -- a node's step
-pub step_has : (o : RenderOptions) (d : Tree) (i : ℕ) (m : Mode) (rest : List Entry) (st : State) → HasSums d → TreesHave st.pending
-    → StepHas (step_of o d i m rest st)
+pub step_has : (o : RenderOptions) (d : Tree) (i : ℕ) (m : Mode) (rest : List Entry) (st : State) → HasSummaries d
+    → TreesHaveSummaries st.pending
+    → StepHasSummaries (step_of o d i m rest st)
 step_has o t.Nil i m rest st k h = (tt, h)
 step_has o t.Fail i m rest st k h = tt
 step_has o (t.Text s) i m rest st k h = text_has o (length s) s st h

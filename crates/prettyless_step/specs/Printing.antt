@@ -37,21 +37,21 @@ Writes f bytes Stuck p q = ⊥
 Writes f bytes (Choose j x y) p q = ⊥
 
 -- nothing is written, the first of the step's tasks is the current one, the others are on the stack, and the state is as before
-abbrev pub Hands : {N : Type 0} → (N → Tree) → ℕ → Mode → N → Step → Printer N → Printer N → Type 0
-Hands f i m n (Move b (t ∷ pushed) u) p q =
+abbrev pub Descends : {N : Type 0} → (N → Tree) → ℕ → Mode → N → Step → Printer N → Printer N → Type 0
+Descends f i m n (Move b (t ∷ pushed) u) p q =
     (b ≡ []) × (make_task i m (f n) ≡ t) × (tasks_of f q ≡ pushed ++ tasks_of f p) × (u ≡ state_of f p) × (state_of f q ≡ state_of f p)
     × (q.options ≡ p.options) × PrinterGrows p q
-Hands f i m n (Move b [] u) p q = ⊥
-Hands f i m n Stuck p q = ⊥
-Hands f i m n (Choose j x y) p q = ⊥
+Descends f i m n (Move b [] u) p q = ⊥
+Descends f i m n Stuck p q = ⊥
+Descends f i m n (Choose j x y) p q = ⊥
 
 -- what the code answers to a node in a mode is the step, and the printer has gone along
 abbrev pub Shows : {N : Type 0} → (N → Tree) → Mode → StepResult N → Step → Printer N → Printer N → Type 0
 Shows f m Silent step p q = Writes f [] step p q
-Shows f m (Descend i n) step p q = Hands f i m n step p q
+Shows f m (Descend i n) step p q = Descends f i m n step p q
 Shows f m Shift step p q = q ≡ p
-Shows f m (DescendFlat i n) step p q = Hands f i Flat n step p q
-Shows f m (DescendTexts i n) step p q = Hands f i Flat n step p q × (IsTexts (f n) × (texts_waiting (f n) 0 ≤ room_of q.scratch))
+Shows f m (DescendFlat i n) step p q = Descends f i Flat n step p q
+Shows f m (DescendTexts i n) step p q = Descends f i Flat n step p q × (IsTexts (f n) × (texts_waiting (f n) 0 ≤ room_of q.scratch))
 Shows f m (Emit piece) step p q = Writes f (piece_bytes piece) step p q
 Shows f m Failed Stuck p q = q ≡ p
 Shows f m (Choice i l r) (Choose j x y) p q = (i ≡ j) × (f l ≡ x) × (f r ≡ y) × (q ≡ p)

@@ -85,7 +85,8 @@ fn partial_choice<N: Walk>(
     ensures rises { probes.old ≤ probes.new }
     ensures counted { probes.new ≤ probes.old + by_mode mode (size (N.tree first) + nodes (tasks_of N.tree printer.old)) 0 }
     ensures asked { OnOk result (RisesBy (by_mode mode 1 0) probes.old probes.new) }
-    ensures few { Few N.HAS_SUMMARIES printer.old.options.width (N.tree first) (tasks_of N.tree printer.old) (by_mode mode 1 0) probes.old probes.new }
+    ensures few { Few N.HAS_SUMMARIES printer.old.options.width (N.tree first) (tasks_of N.tree printer.old) (by_mode mode 1 0)
+        probes.old probes.new }
 {
     if let Mode::Flat = mode {
         return Ok(first);
@@ -218,7 +219,8 @@ fn group<N: Walk>(
     requires { IsSummed N.HAS_SUMMARIES N.tree printer.old.commands }
     ensures step { IfOk result (λ taken. Shows N.tree mode taken
         (Move [] (make_task indent (by_mode mode
-        (if probe_of printer.old.options (N.tree inner) indent Flat (following N.tree printer.old) (state_of N.tree printer.old) then Flat else Break)
+        (if probe_of printer.old.options (N.tree inner) indent Flat (following N.tree printer.old) (state_of N.tree printer.old)
+            then Flat else Break)
         Flat) (N.tree inner) ∷ []) (state_of N.tree printer.old))
         printer.old printer.new) }
     ensures rises { probes.old ≤ probes.new }
@@ -226,7 +228,8 @@ fn group<N: Walk>(
     ensures asked { IfOk result (λ taken. IsStepped taken → RisesBy (by_mode mode 1 0) probes.old probes.new) }
     ensures past { IfOk result (λ taken. IsStopped taken → (limit < probes.old) × (probes.old < 2 ^ 64) × (probes.new ≡ probes.old)) }
     ensures within { IsSteppedOrRefused result → 0 < by_mode mode 1 0 → probes.old ≤ limit }
-    ensures few { Few N.HAS_SUMMARIES printer.old.options.width (N.tree inner) (tasks_of N.tree printer.old) (by_mode mode 1 0) probes.old probes.new }
+    ensures few { Few N.HAS_SUMMARIES printer.old.options.width (N.tree inner) (tasks_of N.tree printer.old) (by_mode mode 1 0)
+        probes.old probes.new }
     ensures queue { printer.new.queue ≡ printer.old.queue }
     ensures summed { OnOk result (IsSummed N.HAS_SUMMARIES N.tree printer.new.commands) }
 {
@@ -270,7 +273,8 @@ fn partial_union<N: Walk>(
     ensures asked { IfOk result (λ taken. IsStepped taken → RisesBy (by_mode mode 1 0) probes.old probes.new) }
     ensures past { IfOk result (λ taken. IsStopped taken → (limit < probes.old) × (probes.old < 2 ^ 64) × (probes.new ≡ probes.old)) }
     ensures within { IsSteppedOrRefused result → 0 < by_mode mode 1 0 → probes.old ≤ limit }
-    ensures few { Few N.HAS_SUMMARIES printer.old.options.width (N.tree first) (tasks_of N.tree printer.old) (by_mode mode 1 0) probes.old probes.new }
+    ensures few { Few N.HAS_SUMMARIES printer.old.options.width (N.tree first) (tasks_of N.tree printer.old) (by_mode mode 1 0)
+        probes.old probes.new }
     ensures queue { printer.new.queue ≡ printer.old.queue }
     ensures summed { OnOk result (IsSummed N.HAS_SUMMARIES N.tree printer.new.commands) }
 {
@@ -295,7 +299,8 @@ fn union<N: Walk>(
         (N.tree first) (N.tree second) indent (state_of N.tree printer.old))
         printer.old printer.new) }
     ensures printer { visits.new.printer
-        ≡ counted_payload (is_rejected (decided_by_metrics printer.old.options (N.tree first) (state_of N.tree printer.old))) visits.old.printer }
+        ≡ counted_payload (is_rejected (decided_by_metrics printer.old.options (N.tree first) (state_of N.tree printer.old)))
+            visits.old.printer }
     ensures probes { visits.new.probes ≡ visits.old.probes }
     ensures past { IfOk result (λ taken. IsStopped taken → ⊥) }
     ensures others { printer.new ≡ printer.old }
@@ -310,7 +315,8 @@ fn union<N: Walk>(
     }
 }
 
-/// Visits one node at an indent in a mode, with the printer's commands following it. It answers `Shift`, and changes nothing, where the node
+/// Visits one node at an indent in a mode, with the printer's commands following it. It answers `Shift`, and changes
+/// nothing, where the node
 /// asks a probe and probes have visited more nodes than the limit. What a probe visits is counted in `visits`, and so is a payload that its
 /// metrics reject as the first branch of a union; the node itself is not.
 #[inline(always)]
@@ -332,10 +338,13 @@ pub fn step<'v, N: Walk>(
         ≡ counted_payload (rejects_payload printer.old.options (N.tree node.now) mode (state_of N.tree printer.old)) visits.old.printer }
     ensures rises { visits.old.probes ≤ visits.new.probes }
     ensures counted { visits.new.probes ≤ visits.old.probes + asked (N.tree node.now) mode (nodes (tasks_of N.tree printer.old)) }
-    ensures asked { IfOk result (λ taken. IsStepped taken → RisesBy (each_probe (N.tree node.now) mode) visits.old.probes visits.new.probes) }
-    ensures past { IfOk result (λ taken. IsStopped taken → (limit < visits.old.probes) × (visits.old.probes < 2 ^ 64) × (visits.new ≡ visits.old)) }
+    ensures asked { IfOk result (λ taken. IsStepped taken
+        → RisesBy (each_probe (N.tree node.now) mode) visits.old.probes visits.new.probes) }
+    ensures past { IfOk result (λ taken. IsStopped taken → (limit < visits.old.probes) × (visits.old.probes < 2 ^ 64)
+        × (visits.new ≡ visits.old)) }
     ensures within { IsSteppedOrRefused result → 0 < each_probe (N.tree node.now) mode → visits.old.probes ≤ limit }
-    ensures few { Few N.HAS_SUMMARIES printer.old.options.width (N.tree node.now) (tasks_of N.tree printer.old) (each_probe (N.tree node.now) mode)
+    ensures few { Few N.HAS_SUMMARIES printer.old.options.width (N.tree node.now) (tasks_of N.tree printer.old)
+        (each_probe (N.tree node.now) mode)
         visits.old.probes visits.new.probes }
     ensures queue { suffix_depth (N.tree node.now) ≡ 0 → some_pending (state_of N.tree printer.old).pending ≡ false
         → printer.new.queue ≡ printer.old.queue }

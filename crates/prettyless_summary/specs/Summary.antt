@@ -14,8 +14,8 @@ use Rattle.prettyless_summary.specs.declared.summary.End.{End}
 use Rattle.prettyless_summary.specs.declared.summary.End.TheVariants.{Open, No, PaddingFits, Yes}
 use Rattle.prettyless_summary.specs.declared.summary.Weak.{Weak}
 use Rattle.prettyless_summary.specs.declared.summary.Weak.TheVariants as first
-use Rattle.prettyless_summary.specs.declared.summary.Reached.{Reached}
-use Rattle.prettyless_summary.specs.declared.summary.Reached.TheVariants.{Answer, Line}
+use Rattle.prettyless_summary.specs.declared.summary.ReadResult.{ReadResult}
+use Rattle.prettyless_summary.specs.declared.summary.ReadResult.TheVariants.{Answer, Line}
 
 -- so many weak spaces: nothing where the line is fresh
 abbrev pub after_spaces : ℕ → Column → Column
@@ -79,7 +79,7 @@ abbrev pub IsSmall : ℕ → Summary → Type 0
 IsSmall n s = s.lead + s.trail ≤ n
 
 -- what is reached, as a look
-abbrev pub look_of : Reached → Look
+abbrev pub look_of : ReadResult → Look
 look_of (Answer b) = Answers b
 look_of (Line c p) = GoesOn c p
 
@@ -88,17 +88,17 @@ abbrev pub IsFound : ℕ → Option Summary → Type 0
 IsFound n s = MatchOption s ⊥ (IsSmall n)
 
 -- a document all of whose nodes have summaries: no choice by column or nesting, and no offset that takes more than 32 bits
-abbrev pub HasSums : Tree → Type 0
-HasSums (Append l r) = HasSums l × HasSums r
-HasSums (LineSuffix d) = HasSums d
-HasSums (Nest k d) = FitsSigned w32 k × HasSums d
-HasSums (DedentToRoot d) = HasSums d
-HasSums (Align d) = HasSums d
-HasSums (Flatten d) = HasSums d
-HasSums (BreakOrFlat b f) = HasSums b × HasSums f
-HasSums (Group d) = HasSums d
-HasSums (Union l r) = HasSums l × HasSums r
-HasSums (PartialUnion l r) = HasSums l × HasSums r
-HasSums (OnColumn test y n) = ⊥
-HasSums (OnNesting test y n) = ⊥
-HasSums _ = ⊤
+abbrev pub HasSummaries : Tree → Type 0
+HasSummaries (Append l r) = HasSummaries l × HasSummaries r
+HasSummaries (LineSuffix d) = HasSummaries d
+HasSummaries (Nest k d) = FitsSigned w32 k × HasSummaries d
+HasSummaries (DedentToRoot d) = HasSummaries d
+HasSummaries (Align d) = HasSummaries d
+HasSummaries (Flatten d) = HasSummaries d
+HasSummaries (BreakOrFlat b f) = HasSummaries b × HasSummaries f
+HasSummaries (Group d) = HasSummaries d
+HasSummaries (Union l r) = HasSummaries l × HasSummaries r
+HasSummaries (PartialUnion l r) = HasSummaries l × HasSummaries r
+HasSummaries (OnColumn test y n) = ⊥
+HasSummaries (OnNesting test y n) = ⊥
+HasSummaries _ = ⊤

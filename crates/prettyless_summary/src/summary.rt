@@ -95,7 +95,7 @@ const NOTHING: Summary = Summary {
 
 /// The result of reading a line by a summary.
 #[derive(Clone, Copy)]
-pub enum Reached {
+pub enum ReadResult {
     /// The answer of the probe.
     Answer(bool),
     /// No answer yet: the column, and whether a line suffix is pending.
@@ -129,14 +129,14 @@ fn weak_end(mode: Mode) -> End
 
 // The result of reading a line by an end.
 #[inline(always)]
-fn read_end(end: End, width: usize, column: Column, pending: bool) -> Reached
+fn read_end(end: End, width: usize, column: Column, pending: bool) -> ReadResult
     ensures { look_of result ≡ look_out width end column pending }
 {
     match end {
-        End::Open => Reached::Line(column, pending),
-        End::No => Reached::Answer(false),
-        End::PaddingFits => Reached::Answer(column.padding_fits(width, pending)),
-        End::Yes => Reached::Answer(true),
+        End::Open => ReadResult::Line(column, pending),
+        End::No => ReadResult::Answer(false),
+        End::PaddingFits => ReadResult::Answer(column.padding_fits(width, pending)),
+        End::Yes => ReadResult::Answer(true),
     }
 }
 
@@ -382,7 +382,7 @@ impl Summary {
 
     /// The result of reading a line by it.
     #[inline]
-    pub fn read(self, width: usize, column: Column, pending: bool) -> Reached
+    pub fn read(self, width: usize, column: Column, pending: bool) -> ReadResult
         ensures { look_of result ≡ look_by width self column pending }
     {
         let start = spaced(column, self.lead);
@@ -397,7 +397,7 @@ impl Summary {
         }
         let inked = start.committed(self.inner as usize);
         if inked.position > width {
-            return Reached::Answer(false);
+            return ReadResult::Answer(false);
         }
         read_end(self.end, width, spaced(inked, self.trail), pending_after)
     }

@@ -5,7 +5,7 @@ use Rattle.prettyless_model.specs.Tree.{LineSuffix, OnColumn, OnNesting, Nest, D
 use Rattle.prettyless_model.specs.Tree.{PartialUnion, Append, size}
 use Rattle.prettyless_model.specs.declared.mode.Mode.{Mode}
 use Rattle.prettyless_model.specs.declared.mode.Mode.TheVariants.{Break, Flat}
-use Rattle.prettyless_summary.specs.Summary.{HasSums, Summarizes}
+use Rattle.prettyless_summary.specs.Summary.{HasSummaries, Summarizes}
 use Rattle.prettyless_summary.specs.declared.summary.Summary.{Summary}
 use Rattle.prettyless_summary.proofs.Variants.{summarizes_nest, summarizes_dedent, summarizes_align, summarizes_group}
 use Rattle.prettyless_table.specs.Sums.{Keeps}
@@ -19,7 +19,7 @@ use Rattle.prettyless_table.proofs.Cells.{in_cell, unless_some}
 
 -- the summary of a part that a cell keeps is that of the node
 keeps_as : (marks : ℕ) (counts : Counts) (d e : Tree) (m : Mode) → ((x : Summary) → Summarizes x d m → Summarizes x e m)
-    → (HasSums e → HasSums d) → size d ≤ size e → Keeps marks counts d m → Keeps marks counts e m
+    → (HasSummaries e → HasSummaries d) → size d ≤ size e → Keeps marks counts d m → Keeps marks counts e m
 keeps_as marks counts d e m via has less h = record {
   known = λ below s only. via s (h.known below s only);
   found = λ sums small.
@@ -28,13 +28,13 @@ keeps_as marks counts d e m via has less h = record {
 }
 
 both_as : {N : Type 0} (c : Cell N) (d e : Tree) → ((m : Mode) (x : Summary) → Summarizes x d m → Summarizes x e m)
-    → (HasSums e → HasSums d) → size d ≤ size e → KeepsBoth c d → KeepsBoth c e
+    → (HasSummaries e → HasSummaries d) → size d ≤ size e → KeepsBoth c d → KeepsBoth c e
 both_as (Sums a b second flat broken) d e via has less h =
     (keeps_as a flat d e Flat (via Flat) has less h.0, keeps_as b broken d e Break (via Break) has less h.1)
 both_as (Root place n) d e via has less h = h
 
 cell_as : {N : Type 0} (cells : List (Cell N)) (at : ℕ) (d e : Tree) → ((m : Mode) (x : Summary) → Summarizes x d m → Summarizes x e m)
-    → (HasSums e → HasSums d) → size d ≤ size e → HasCell cells at d → HasCell cells at e
+    → (HasSummaries e → HasSummaries d) → size d ≤ size e → HasCell cells at d → HasCell cells at e
 cell_as {N} cells at d e via has less h = record {
   within = h.within;
   keeps = λ (c : Cell N). both_as (get_or cells at c) d e via has less (h.keeps c);

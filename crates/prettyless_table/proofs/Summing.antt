@@ -6,7 +6,7 @@ use Rattle.prettyless_model.specs.Column.{padding_fits}
 use Rattle.prettyless_model.specs.Look.{Answers}
 use Rattle.prettyless_model.specs.declared.mode.Mode.{Mode}
 use Rattle.prettyless_model.specs.declared.mode.Mode.TheVariants.{Break, Flat}
-use Rattle.prettyless_summary.specs.Summary.{HasSums, IsFound, IsKnown, ReadsLook, Summarizes}
+use Rattle.prettyless_summary.specs.Summary.{HasSummaries, IsFound, IsKnown, ReadsLook, Summarizes}
 use Rattle.prettyless_summary.specs.declared.summary.Summary.{Summary}
 use Rattle.prettyless_summary.proofs.Variants.{summarizes_hard_line, summarizes_flat_hard_line, summarizes_nest, summarizes_dedent}
 use Rattle.prettyless_summary.proofs.Variants.{summarizes_align, summarizes_group, summarizes_flatten, summarizes_break_or_flat}
@@ -24,7 +24,8 @@ known_as None d e m n via h = tt
 known_as (Some x) d e m n via h = via x h
 
 -- the summary of a part is that of the node
-sums_as : (s : Option Summary) (d e : Tree) (m n : Mode) → ((x : Summary) → Summarizes x d m → Summarizes x e n) → (HasSums e → HasSums d)
+sums_as : (s : Option Summary) (d e : Tree) (m n : Mode) → ((x : Summary) → Summarizes x d m → Summarizes x e n)
+    → (HasSummaries e → HasSummaries d)
     → size d ≤ size e → IsModeSummary s d m → IsModeSummary s e n
 sums_as s d e m n via has less h = record {
   known = known_as s d e m n via h.known;

@@ -2,7 +2,7 @@
 use Rattle.std.specs.Prelude.{◌≡◌, ℤ, Bool, true, false, ◌&&◌, if◌then◌else◌, List, [], ◌∷◌}
 use Rattle.prettyless_model.specs.Tree.{Tree, Append, LineSuffix, Nest, DedentToRoot, Align, Flatten, BreakOrFlat, Group, Union}
 use Rattle.prettyless_model.specs.Tree.{PartialUnion, OnColumn, OnNesting}
-use Rattle.prettyless_summary.specs.Summary.{HasSums}
+use Rattle.prettyless_summary.specs.Summary.{HasSummaries}
 use Rattle.prettyless_table.specs.declared.kind.Single.{Single}
 use Rattle.prettyless_table.specs.declared.kind.Single.TheVariants as one
 use Rattle.prettyless_table.specs.declared.kind.Pair.{Pair}
@@ -55,7 +55,7 @@ abbrev pub IsShape : {N : Type 0} → (N → Tree) → Shape N → Tree → Type
 IsShape f shape.Leaf d = [] ≡ parts_of d
 IsShape f (shape.One kind k x) d = single_tree kind k (f x) ≡ d
 IsShape f (shape.Two kind x y) d = pair_tree kind (f x) (f y) ≡ d
-IsShape f (shape.Asked x y) d = (HasSums d → ⊥) × (f x ∷ f y ∷ [] ≡ parts_of d)
+IsShape f (shape.Choice x y) d = (HasSummaries d → ⊥) × (f x ∷ f y ∷ [] ≡ parts_of d)
 
 -- whether there are no trees
 abbrev pub none : List Tree → Bool
@@ -80,13 +80,13 @@ shares (Group d) = true
 shares _ = false
 
 -- whether a node is small and has parts: one above it that would share its cell takes one
-abbrev pub lone : Tree → Bool
-lone d = if none (parts_of d) then false else small d
+abbrev pub small_with_parts : Tree → Bool
+small_with_parts d = if none (parts_of d) then false else small d
 
 -- whether a node takes a cell: it is not small, and does not share that of its part
 abbrev pub takes : Tree → Bool
-takes (Nest k d) = lone d
-takes (DedentToRoot d) = lone d
-takes (Align d) = lone d
-takes (Group d) = lone d
+takes (Nest k d) = small_with_parts d
+takes (DedentToRoot d) = small_with_parts d
+takes (Align d) = small_with_parts d
+takes (Group d) = small_with_parts d
 takes d = if small d then false else true

@@ -10,7 +10,7 @@ use Rattle.prettyless_model.specs.declared.column.Column.{Column}
 use Rattle.prettyless_model.specs.Column.{start}
 use Rattle.prettyless_model.specs.declared.mode.Mode.{Mode}
 use Rattle.prettyless_model.specs.declared.mode.Mode.TheVariants.{Break, Flat}
-use Rattle.prettyless_summary.specs.Summary.{HasSums, IsFound, IsKnown, Summarizes}
+use Rattle.prettyless_summary.specs.Summary.{HasSummaries, IsFound, IsKnown, Summarizes}
 use Rattle.prettyless_summary.specs.Marks.{marks_of}
 use Rattle.prettyless_summary.specs.declared.summary.Summary.{Summary}
 use Rattle.prettyless_table.specs.declared.sums.Counts.{Counts}
@@ -19,7 +19,7 @@ use Rattle.prettyless_table.specs.declared.sums.Sums.{Sums}
 -- the summary of a document in a mode, if it is known; it is where the document has one and is not too large
 pub record IsModeSummary (s : Option Summary) (d : Tree) (m : Mode) : Type 0 where
   pub known : IsKnown s d m
-  pub found : HasSums d → size d < 2 ^ 32 → IsFound (size d) s
+  pub found : HasSummaries d → size d < 2 ^ 32 → IsFound (size d) s
 
 -- the summaries of a document in both modes
 pub record AreDocumentSums (s : Sums) (d : Tree) : Type 0 where
@@ -34,7 +34,7 @@ IsOnly marks counts s =
 -- marks and numbers of the summary of a document in a mode, if it is known
 pub record Keeps (marks : ℕ) (counts : Counts) (d : Tree) (m : Mode) : Type 0 where
   pub known : marks < 255 → (s : Summary) → IsOnly marks counts s → Summarizes s d m
-  pub found : HasSums d → size d < 2 ^ 32 → (marks < 255) × (counts.lead + counts.trail ≤ size d)
+  pub found : HasSummaries d → size d < 2 ^ 32 → (marks < 255) × (counts.lead + counts.trail ≤ size d)
 
 -- a look as numbers, so that an equation of looks has one proof
 abbrev pub look_code : Look → Bool × (Bool × Column)

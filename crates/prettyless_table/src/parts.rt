@@ -42,7 +42,7 @@ pub enum Shape<N> {
     One(Single, isize, N),
     Two(Pair, N, N),
     /// A choice by column or nesting.
-    Asked(N, N),
+    Choice(N, N),
 }
 
 /// What a node is.
@@ -61,7 +61,7 @@ pub fn shape_of<N: Walk>(node: &N) -> Shape<N>
         View::Group(inner) => Shape::One(Single::Group, 0, inner),
         View::Union(first, second) => Shape::Two(Pair::Union, first, second),
         View::PartialUnion(first, second) => Shape::Two(Pair::PartialUnion, first, second),
-        View::OnColumn(_, first, second) | View::OnNesting(_, first, second) => Shape::Asked(
+        View::OnColumn(_, first, second) | View::OnNesting(_, first, second) => Shape::Choice(
             first, second,
         ),
         _ => Shape::Leaf,

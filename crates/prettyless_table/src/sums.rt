@@ -201,6 +201,6 @@ pub fn small_sums<N: Walk>(node: &N) -> Sums
         Shape::Leaf => leaf_sums(node),
         Shape::One(kind, _, inner) => of_single(kind, leaf_sums(&inner)),
         Shape::Two(kind, first, second) => of_pair(kind, leaf_sums(&first), leaf_sums(&second)),
-        Shape::Asked(_, _) => NO_SUMS,
+        Shape::Choice(_, _) => NO_SUMS,
     }
 }

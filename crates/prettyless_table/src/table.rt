@@ -163,7 +163,7 @@ impl<N: Walk> Table<N> {
                 self.sums(&first, self.last()),
                 self.sums(&other, second),
             ),
-            Shape::Asked(_, _) => NO_SUMS,
+            Shape::Choice(_, _) => NO_SUMS,
             Shape::Leaf => leaf_sums(node),
         };
         let (flat_marks, flat) = packed(sums.flat);

@@ -1,5 +1,5 @@
 use Rattle.prettyless_printer.specs.Points.{point_at}
-use Rattle.prettyless_printer.specs.Trials.{attempt}
+use Rattle.prettyless_printer.specs.Trials.{make_trial}
 use Rattle.prettyless_printer.proofs.Choosing.{chooses_broke, chooses_kept, chooses_other, chooses_unwritten}
 use Rattle.prettyless_printer.proofs.run.go_on_choosing.Goals as goal
 
@@ -7,7 +7,7 @@ use Rattle.prettyless_printer.proofs.run.go_on_choosing.Goals as goal
 pub returns-in-Ok-clause-settles : goal.returns-in-Ok-clause-settles
 returns-in-Ok-clause-settles g c = λ i x y a h.
     let ends = (rw c.in-Ok-Kept.field-0-is at c.in-Ok-Kept.ensures.ends)
-    (attempt (point_at a.printer h.before a.visits) i x) y h.trials in (
+    (make_trial (point_at a.printer h.before a.visits) i x) y h.trials in (
       ends.0,
       chooses_kept h.empty ends.1 h.sink c.write_gap_and_text.ensures.same_lender (rw c.as_str.ensures.value at c.in-Ok.ensures.ok),
     )
@@ -15,7 +15,8 @@ returns-in-Ok-clause-settles g c = λ i x y a h.
 -- the sink fails at it
 pub returns-in-Err-write_gap_and_text-clause-settles : goal.returns-in-Err-write_gap_and_text-clause-settles
 returns-in-Err-write_gap_and_text-clause-settles g c = λ i x y a h.
-    let ends = (rw c.in-Ok-Kept.field-0-is at c.in-Ok-Kept.ensures.ends) (attempt (point_at a.printer h.before a.visits) i x) y h.trials in
+    let ends = (rw c.in-Ok-Kept.field-0-is at c.in-Ok-Kept.ensures.ends) (make_trial (point_at a.printer h.before a.visits) i x) y
+        h.trials in
     chooses_unwritten h.empty ends.1 h.sink c.write_gap_and_text.ensures.same_lender
     (rw c.as_str.ensures.value at c.in-Err-write_gap_and_text.ensures.err)
 
@@ -23,7 +24,7 @@ returns-in-Err-write_gap_and_text-clause-settles g c = λ i x y a h.
 pub returns-in-Ok-Rejected-clause-settles : goal.returns-in-Ok-Rejected-clause-settles
 returns-in-Ok-Rejected-clause-settles g c = λ i x y a h.
     let ends = (rw c.in-Ok-Rejected.field-0-is at c.in-Ok-Rejected.ensures.ends)
-    (attempt (point_at a.printer h.before a.visits) i x) y h.trials in (
+    (make_trial (point_at a.printer h.before a.visits) i x) y h.trials in (
       ends.0,
       chooses_other ends.1 h.sink,
     )
@@ -31,4 +32,4 @@ returns-in-Ok-Rejected-clause-settles g c = λ i x y a h.
 -- memory is refused
 pub returns-in-Err-clause-settles : goal.returns-in-Err-clause-settles
 returns-in-Err-clause-settles g c = λ i x y a h.
-    chooses_broke (c.in-Err.ensures.ends (attempt (point_at a.printer h.before a.visits) i x) y h.trials) h.sink
+    chooses_broke (c.in-Err.ensures.ends (make_trial (point_at a.printer h.before a.visits) i x) y h.trials) h.sink

@@ -4,9 +4,9 @@ use Rattle.prettyless_step.proofs.Queues.{length_some, length_none}
 use Rattle.prettyless_printer.specs.Points.{buffer_seen, point, seen, standing, state_at}
 use Rattle.prettyless_printer.specs.Open.{all_held}
 use Rattle.prettyless_printer.specs.declared.answer.RunResult.TheVariants as run_result
-use Rattle.prettyless_printer.proofs.Standings.{waits_there}
+use Rattle.prettyless_printer.proofs.Standings.{pending_stands}
 use Rattle.prettyless_printer.proofs.Shifts.{continues_same, continues_then, continues_to_end, none_open, stops_then, round_continues}
-use Rattle.prettyless_printer.proofs.Shifts.{round_lessens, round_stopped, work_ends, work_stopped}
+use Rattle.prettyless_printer.proofs.Shifts.{round_work_falls, round_stopped, work_ends, work_stopped}
 use Rattle.prettyless_printer.specs.Spending.{left}
 use Rattle.prettyless_printer.proofs.Spending.{spends_same}
 use Rattle.prettyless_printer.proofs.OpenSpending.{spends_broke_as}
@@ -47,7 +47,7 @@ returns-then-not-is_pending-clause-runs g c =
     let f = g.N.Walk.tree in
     let fails = g.W.Render.document_errors c.work_off.new.out in
     let none = length_none (state_at (standing f c.work_off.new.printer)).pending
-    (sym (waits_there f c.work_off.new.printer) ∙ sym c.is_pending.ensures ∙ c.if-not-is_pending.true) in
+    (sym (pending_stands f c.work_off.new.printer) ∙ sym c.is_pending.ensures ∙ c.if-not-is_pending.true) in
     continues_to_end fails _ c.rounds.invariant.continues
     (work_ends fails run_result.Finished run_result.Finished ((rw c.in-Finished.is at c.in_ok-work_off.ensures.works).1) none)
 
@@ -57,8 +57,8 @@ rounds-smaller g c =
     let f = g.N.Walk.tree in
     let fails = g.W.Render.document_errors c.work_off.new.out in
     let some = length_some (state_at (standing f c.work_off.new.printer)).pending
-    (sym (waits_there f c.work_off.new.printer) ∙ sym c.is_pending.ensures ∙ c.if-not-is_pending.false) in
-    round_lessens fails run_result.Finished tt ((rw c.in-Finished.is at c.in_ok-work_off.ensures.works).1)
+    (sym (pending_stands f c.work_off.new.printer) ∙ sym c.is_pending.ensures ∙ c.if-not-is_pending.false) in
+    round_work_falls fails run_result.Finished tt ((rw c.in-Finished.is at c.in_ok-work_off.ensures.works).1)
     c.in_ok-flush_end-in-Finished.ensures.flushes some
 
 pub rounds-preserved : goal.rounds-preserved
@@ -66,7 +66,7 @@ rounds-preserved g c =
     let f = g.N.Walk.tree in
     let fails = g.W.Render.document_errors c.work_off.new.out in
     let some = length_some (state_at (standing f c.work_off.new.printer)).pending
-    (sym (waits_there f c.work_off.new.printer) ∙ sym c.is_pending.ensures ∙ c.if-not-is_pending.false) in
+    (sym (pending_stands f c.work_off.new.printer) ∙ sym c.is_pending.ensures ∙ c.if-not-is_pending.false) in
     record {
       continues = continues_then c.rounds.invariant.continues
           (round_continues fails run_result.Finished tt ((rw c.in-Finished.is at c.in_ok-work_off.ensures.works).1)
@@ -86,7 +86,7 @@ returns-in_err-flush_end-in-Finished-clause-runs g c =
     let f = g.N.Walk.tree in
     let fails = g.W.Render.document_errors c.flush_end.new.out in
     let some = length_some (state_at (standing f c.work_off.new.printer)).pending
-    (sym (waits_there f c.work_off.new.printer) ∙ sym c.is_pending.ensures ∙ c.if-not-is_pending.false) in
+    (sym (pending_stands f c.work_off.new.printer) ∙ sym c.is_pending.ensures ∙ c.if-not-is_pending.false) in
     continues_to_end fails _ c.rounds.invariant.continues
     (round_stopped fails (g.W.Render.document_errors c.work_off.new.out) run_result.Finished _
     ((rw c.in-Finished.is at c.in_ok-work_off.ensures.works).1) c.in_err-flush_end-in-Finished.ensures.flushes some)
@@ -112,6 +112,6 @@ returns-in_err-flush_end-in-Finished-clause-spends g c = λ plain.
     let f = g.N.Walk.tree in
     let fails = g.W.Render.document_errors c.work_off.new.out in
     let some = length_some (state_at (standing f c.work_off.new.printer)).pending
-    (sym (waits_there f c.work_off.new.printer) ∙ sym c.is_pending.ensures ∙ c.if-not-is_pending.false) in
+    (sym (pending_stands f c.work_off.new.printer) ∙ sym c.is_pending.ensures ∙ c.if-not-is_pending.false) in
     absurd (nothing_pending fails run_result.Finished c.rounds.invariant.continues plain
     ((rw c.in-Finished.is at c.in_ok-work_off.ensures.works).1) some)

@@ -3,7 +3,8 @@ use Rattle.std.proofs.lemmas.Result.{err_from_is_err_and}
 use Rattle.prettyless_step.specs.Printing.{tasks_of}
 use Rattle.prettyless_printer.specs.declared.answer.RunResult.TheVariants as run_result
 use Rattle.prettyless_printer.specs.Points.{buffer_seen, point, seen, standing}
-use Rattle.prettyless_printer.proofs.PathSteps.{run_begins, run_ends, run_broke_off, goes_on, stops, comes_to_wait, breaks_off, fails_there}
+use Rattle.prettyless_printer.proofs.PathSteps.{run_begins, run_ends, run_broke_off, goes_on, stops, path_to_choice, breaks_off}
+use Rattle.prettyless_printer.proofs.PathSteps.{fails_there}
 use Rattle.prettyless_printer.proofs.PathSteps.{broke_anyhow}
 use Rattle.prettyless_printer.specs.Open.{all_held}
 use Rattle.prettyless_printer.specs.Paths.{run_of}
@@ -27,7 +28,7 @@ work-smaller-in-Complete g c =
     omega (
       arith,
       work_forgets g.N.Walk.tree c.turn.new.printer c.forget_laid.new.self c.forget_laid.ensures.pending,
-      turned.lessens,
+      turned.work_falls,
     )
 
 pub work-smaller : goal.work-smaller
@@ -38,8 +39,8 @@ work-smaller g c =
     omega (
       arith,
       work_forgets g.N.Walk.tree c.choose.new.printer forgotten.new.self forgotten.ensures.pending,
-      settled.1.lessens,
-      turned.lessens.0,
+      settled.1.work_falls,
+      turned.work_falls.0,
     )
 
 pub work-preserved-in-Complete : goal.work-preserved-in-Complete
@@ -67,7 +68,7 @@ work-preserved g c =
     let sink = seen g.W.Render.bytes g.W.Render.failures g.W.Render.lender in
     let start = point f c.args.printer.now (sink c.args.out.now) c.args.visits.now in
     let turned = rw c.in-Choice.is at c.in_ok-turn.ensures.advances in
-    let waiting = comes_to_wait f c.in-Choice.indent c.in-Choice.first c.in-Choice.second c.work.invariant.path l turned (omega arith) in
+    let waiting = path_to_choice f c.in-Choice.indent c.in-Choice.first c.in-Choice.second c.work.invariant.path l turned (omega arith) in
     let settled = rw c.in-Finished.is at c.in_ok-choose-in-Choice.ensures.settles in
     let q = c.choose.new.printer in
     let forgotten = c.forget_laid-in-Finished in
@@ -130,7 +131,7 @@ returns-in_err-choose-in-Choice-clause-works g c =
     let fails = g.W.Render.document_errors c.choose.new.out in
     let e = c.in_err-choose-in-Choice.field-0.0 in
     let l : 0 < length (tasks_of f v) = omega (arith, c.work-test.true, c.len.ensures) in
-    let waiting = comes_to_wait f c.in-Choice.indent c.in-Choice.first c.in-Choice.second c.work.invariant.path l
+    let waiting = path_to_choice f c.in-Choice.indent c.in-Choice.first c.in-Choice.second c.work.invariant.path l
     (rw c.in-Choice.is at c.in_ok-turn.ensures.advances) (omega arith) in
     run_broke_off fails e
     (broke_anyhow fails e (c.in_err-choose-in-Choice.ensures.settles.runs
@@ -154,7 +155,7 @@ returns-in-Shift-2-clause-works g c =
     let start = point f c.args.printer.now (sink c.args.out.now) c.args.visits.now in
     let at = point f c.turn.new.printer (sink c.turn.new.out) c.turn.new.visits in
     let next = point f c.choose.new.printer (sink c.choose.new.out) c.choose.new.visits in
-    let waiting = comes_to_wait f c.in-Choice.indent c.in-Choice.first c.in-Choice.second c.work.invariant.path l
+    let waiting = path_to_choice f c.in-Choice.indent c.in-Choice.first c.in-Choice.second c.work.invariant.path l
     (rw c.in-Choice.is at c.in_ok-turn.ensures.advances) (omega arith) in
     let settled = rw c.in-Shift-2.is at c.in_ok-choose-in-Choice.ensures.settles in
     record {
@@ -182,7 +183,7 @@ pub returns-in_err-choose-in-Choice-clause-spends : goal.returns-in_err-choose-i
 returns-in_err-choose-in-Choice-clause-spends g c = λ plain.
     let f = g.N.Walk.tree in
     let l : 0 < length (tasks_of f c.work.printer) = omega (arith, c.work-test.true, c.len.ensures) in
-    let waiting = comes_to_wait f c.in-Choice.indent c.in-Choice.first c.in-Choice.second c.work.invariant.path l
+    let waiting = path_to_choice f c.in-Choice.indent c.in-Choice.first c.in-Choice.second c.work.invariant.path l
     (rw c.in-Choice.is at c.in_ok-turn.ensures.advances) (omega arith) in
     spends_broke_as (left (standing f c.choose.new.printer) _ c.choose.new.visits) c.from_residual-in_err-choose-in-Choice.result
     c.from_residual-in_err-choose-in-Choice.ensures.0
@@ -194,7 +195,7 @@ pub returns-in-Shift-2-clause-spends : goal.returns-in-Shift-2-clause-spends
 returns-in-Shift-2-clause-spends g c = λ plain.
     let f = g.N.Walk.tree in
     let l : 0 < length (tasks_of f c.work.printer) = omega (arith, c.work-test.true, c.len.ensures) in
-    let waiting = comes_to_wait f c.in-Choice.indent c.in-Choice.first c.in-Choice.second c.work.invariant.path l
+    let waiting = path_to_choice f c.in-Choice.indent c.in-Choice.first c.in-Choice.second c.work.invariant.path l
     (rw c.in-Choice.is at c.in_ok-turn.ensures.advances) (omega arith) in
     waiting_spends waiting plain
     (path_spends c.work.invariant.path plain (c.work.invariant.spends plain) (rw c.in-Choice.is at c.in_ok-turn.ensures.spends))

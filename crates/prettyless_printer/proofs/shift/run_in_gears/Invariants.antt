@@ -4,7 +4,7 @@ use Rattle.prettyless_step.specs.Printing.{tasks_of}
 use Rattle.prettyless_probe.specs.Sums.{IsSummed}
 use Rattle.prettyless_printer.specs.Points.{buffer_seen, point, seen, standing}
 use Rattle.prettyless_printer.specs.Open.{all_held, seconds}
-use Rattle.prettyless_printer.specs.Runs.{Comes}
+use Rattle.prettyless_printer.specs.Runs.{RunReaches}
 use Rattle.prettyless_printer.specs.Gears.{probe_limit}
 use Rattle.prettyless_printer.specs.Linear.{IsLinearStart}
 use Rattle.prettyless_printer.specs.Spending.{left}
@@ -17,7 +17,7 @@ invariant-gears g l =
     let sink = seen g.W.Render.bytes g.W.Render.failures g.W.Render.lender in
     let n = nodes (tasks_of f l.fn.printer) in
     record {
-      comes : Comes (point f l.fn.printer (sink l.fn.out) l.fn.visits) (all_held f l.trials.open.items) (buffer_seen l.buffer)
+      comes : RunReaches (point f l.fn.printer (sink l.fn.out) l.fn.visits) (all_held f l.trials.open.items) (buffer_seen l.buffer)
           (point f l.printer (sink l.out) l.visits);
       start : l.gears.start ≡ l.fn.visits;
       low : l.visits.probes ≤ probe_limit l.gears l.visits;

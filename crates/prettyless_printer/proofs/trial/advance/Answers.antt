@@ -1,49 +1,50 @@
 use Rattle.std.proofs.Common.{Bool, arith, ap, sym, ◌∙◌, rules}
 use Rattle.std.proofs.lemmas.Grind.{common_steps}
 use Rattle.prettyless_model.specs.Column.{padding_fits}
-use Rattle.prettyless_printer.proofs.Standings.{waits_there}
-use Rattle.prettyless_printer.proofs.TrialSteps.{course_over, course_unfit, course_goes, course_past, course_chosen, course_stops}
+use Rattle.prettyless_printer.proofs.Standings.{pending_stands}
+use Rattle.prettyless_printer.proofs.TrialSteps.{trial_end_complete, trial_end_exceeds, trial_turn_running, trial_turn_exceeds}
+use Rattle.prettyless_printer.proofs.TrialSteps.{trial_turn_choice, trial_turn_shift}
 use Rattle.prettyless_printer.proofs.trial.advance.Goals as goal
 
 -- at the end of the branch the padding fits
 pub returns-then-padding_fits-clause-courses : goal.returns-then-padding_fits-clause-courses
 returns-then-padding_fits-clause-courses g c = λ t on.
     let p = c.args.printer.now in
-    let fits = ap (λ (x : Bool). padding_fits p.options.width x p.column) (sym (waits_there g.N.Walk.tree p) ∙ sym c.is_pending.ensures)
+    let fits = ap (λ (x : Bool). padding_fits p.options.width x p.column) (sym (pending_stands g.N.Walk.tree p) ∙ sym c.is_pending.ensures)
     ∙ sym c.padding_fits.ensures ∙ c.if-padding_fits.true in
-    course_over on (omega (arith, c.if-len-below.true, c.len.ensures)) fits
+    trial_end_complete on (omega (arith, c.if-len-below.true, c.len.ensures)) fits
 
 -- at its end the padding does not fit
 pub returns-then-len-below-clause-courses : goal.returns-then-len-below-clause-courses
 returns-then-len-below-clause-courses g c = λ t on.
     let p = c.args.printer.now in
-    let unfit = ap (λ (x : Bool). padding_fits p.options.width x p.column) (sym (waits_there g.N.Walk.tree p) ∙ sym c.is_pending.ensures)
+    let unfit = ap (λ (x : Bool). padding_fits p.options.width x p.column) (sym (pending_stands g.N.Walk.tree p) ∙ sym c.is_pending.ensures)
     ∙ sym c.padding_fits.ensures ∙ c.if-padding_fits.false in
-    course_unfit on (omega (arith, c.if-len-below.true, c.len.ensures)) unfit
+    trial_end_exceeds on (omega (arith, c.if-len-below.true, c.len.ensures)) unfit
 
 -- a turn goes on
 pub returns-then-printer-clause-courses : goal.returns-then-printer-clause-courses
 returns-then-printer-clause-courses g c = λ t on.
-    course_goes g.N.Walk.tree on (omega (arith, c.if-len-below.false, c.len.ensures))
+    trial_turn_running g.N.Walk.tree on (omega (arith, c.if-len-below.false, c.len.ensures))
     (rw c.in-Ok-Complete.field-0-is at c.in-Ok-Complete.ensures.advances) c.if-printer.true
 
 -- a text ends past the width
 pub returns-else-printer-clause-courses : goal.returns-else-printer-clause-courses
 returns-else-printer-clause-courses g c = λ t on.
-    course_past g.N.Walk.tree on (omega (arith, c.if-len-below.false, c.len.ensures))
+    trial_turn_exceeds g.N.Walk.tree on (omega (arith, c.if-len-below.false, c.len.ensures))
     (rw c.in-Ok-Complete.field-0-is at c.in-Ok-Complete.ensures.advances) c.if-printer.false
 
 -- two branches are to be chosen from
 pub returns-in-Ok-Choice-clause-courses : goal.returns-in-Ok-Choice-clause-courses
 returns-in-Ok-Choice-clause-courses g c = λ t on.
-    course_chosen g.N.Walk.tree c.in-Ok-Choice.indent c.in-Ok-Choice.first c.in-Ok-Choice.second on
+    trial_turn_choice g.N.Walk.tree c.in-Ok-Choice.indent c.in-Ok-Choice.first c.in-Ok-Choice.second on
     (omega (arith, c.if-len-below.false, c.len.ensures))
     (rw c.in-Ok-Choice.field-0-is at c.in-Ok-Choice.ensures.advances)
 
 -- a turn stops
 pub returns-in-Ok-Shift-clause-courses : goal.returns-in-Ok-Shift-clause-courses
 returns-in-Ok-Shift-clause-courses g c = λ t on.
-    course_stops g.N.Walk.tree on (omega (arith, c.if-len-below.false, c.len.ensures))
+    trial_turn_shift g.N.Walk.tree on (omega (arith, c.if-len-below.false, c.len.ensures))
     (rw c.in-Ok-Shift.field-0-is at c.in-Ok-Shift.ensures.advances)
 
 pub returns-in-Ok-Failed-clause-courses : goal.returns-in-Ok-Failed-clause-courses

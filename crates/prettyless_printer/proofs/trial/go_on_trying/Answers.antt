@@ -5,10 +5,11 @@ use Rattle.std.specs.declared.alloc.AllocError.{AllocError}
 use Rattle.prettyless_sink.specs.Sink.{known}
 use Rattle.prettyless_printer.specs.Points.{buffer_seen, point, standing}
 use Rattle.prettyless_model.specs.Tree.{Tree}
-use Rattle.prettyless_printer.specs.Trials.{Attempt}
+use Rattle.prettyless_printer.specs.Trials.{Trial}
 use Rattle.prettyless_printer.specs.Open.{Open, all_held, held}
 use Rattle.prettyless_printer.proofs.Chains.{all_held-push, broke_at, last_kept, last_other, length-all_held, open_broke}
-use Rattle.prettyless_printer.proofs.Chains.{open_choice_broke, open_fallen_broke, open_fell, open_goes, open_kept, open_more, open_other}
+use Rattle.prettyless_printer.proofs.Chains.{open_choice_broke, open_rejected_broke, open_rejected, open_goes, open_kept, open_more}
+use Rattle.prettyless_printer.proofs.Chains.{open_other}
 use Rattle.prettyless_printer.proofs.Chains.{open_some, open_stops, took}
 use Rattle.prettyless_printer.proofs.Costs.{less_goes, less_more, less_kept, less_other}
 use Rattle.prettyless_printer.proofs.Trying.{cut_back, flagged, pushed, queue_marked}
@@ -113,7 +114,7 @@ work-preserved-else-is_empty g c =
     let b = point f q (buffer_seen c.advance.new.buffer) c.advance.new.visits in
     let inner : 0 < length us = c.is_empty.ensures.some c.if-is_empty.false in
     let course = rw (c.in-Complete.is, c.below.ensures) at c.in_ok-advance.ensures.courses in
-    let kept : (s : Attempt) (y : Tree) → Open s y (all_held f c.work.trials.«open».items) a → Open s y (all_held f us) b = λ s y h.
+    let kept : (s : Trial) (y : Tree) → Open s y (all_held f c.work.trials.«open».items) a → Open s y (all_held f us) b = λ s y h.
     open_kept _ _ (all_held-push f _ us c.in-Some.trial c.in-Some.ensures.items) (omega (arith, length-all_held f us, inner))
     (took AllocError f h course) (flagged c.in-Some.trial.mark.within (standing f p)) in
     record {
@@ -128,11 +129,11 @@ work-preserved-else-is_empty g c =
     }
 
 -- the innermost one is rejected
-pub take_back-requires-clause-mark : goal.take_back-requires-clause-mark
-take_back-requires-clause-mark g c =
+pub undo-requires-clause-mark : goal.undo-requires-clause-mark
+undo-requires-clause-mark g c =
     let f = g.N.Walk.tree in
     let some = c.work.invariant.some in
-    let fell = open_fell _ _ (all_held-push f _ _ c.in-Some-pop.trial c.in-Some-pop.ensures.items)
+    let fell = open_rejected _ _ (all_held-push f _ _ c.in-Some-pop.trial c.in-Some-pop.ensures.items)
     (took AllocError f some.2 (rw (c.in-Rejected.is, c.below.ensures) at c.in_ok-advance.ensures.courses)) in
     omega (
       arith,
@@ -141,11 +142,11 @@ take_back-requires-clause-mark g c =
       length_queue f c.advance.new.printer,
     )
 
-pub take_back-requires-clause-buffer : goal.take_back-requires-clause-buffer
-take_back-requires-clause-buffer g c =
+pub undo-requires-clause-buffer : goal.undo-requires-clause-buffer
+undo-requires-clause-buffer g c =
     let f = g.N.Walk.tree in
     let some = c.work.invariant.some in
-    let fell = open_fell _ _ (all_held-push f _ _ c.in-Some-pop.trial c.in-Some-pop.ensures.items)
+    let fell = open_rejected _ _ (all_held-push f _ _ c.in-Some-pop.trial c.in-Some-pop.ensures.items)
     (took AllocError f some.2 (rw (c.in-Rejected.is, c.below.ensures) at c.in_ok-advance.ensures.courses)) in
     cut_back (known fell.trial.start.sink.bytes) c.advance.new.buffer.text c.in-Some-pop.trial.mark.written fell.fallen.bytes
     fell.marked.text fell.marked.marks.written fell.fallen.wrote
@@ -156,16 +157,16 @@ returns-in_err-push-in-Rejected-clause-ends g c =
     let f = g.N.Walk.tree in
     λ s y h. ends_broke AllocError c.args.limit s y _ c.from_residual-in_err-push-in-Rejected.result
     c.from_residual-in_err-push-in-Rejected.ensures.0
-    (broke_at refl (open_fallen_broke (took AllocError f (c.work.invariant.trials s y h)
+    (broke_at refl (open_rejected_broke (took AllocError f (c.work.invariant.trials s y h)
     (rw (c.in-Rejected.is, c.below.ensures) at c.in_ok-advance.ensures.courses))))
 
 -- the outermost one is undone
 pub returns-then-is_empty-2-clause-ends : goal.returns-then-is_empty-2-clause-ends
 returns-then-is_empty-2-clause-ends g c =
     let f = g.N.Walk.tree in
-    let r = c.take_back.new.printer in
+    let r = c.undo.new.printer in
     let q = record r { commands = c.push.new.self } in
-    let w = buffer_seen c.take_back.new.buffer in
+    let w = buffer_seen c.undo.new.buffer in
     let us = c.pop-in-Rejected.new.self.items in
     let none : all_held f us ≡ [] =
     nil_from_length (all_held f us) (length-all_held f us ∙ c.is_empty-in-Rejected.ensures.none c.if-is_empty-2.true) in
@@ -173,8 +174,8 @@ returns-then-is_empty-2-clause-ends g c =
       none,
       last_other _ _ (standing f r) (all_held-push f _ us c.in-Some-pop.trial c.in-Some-pop.ensures.items) none
           (took AllocError f (c.work.invariant.trials s y h)
-          (rw (c.in-Rejected.is, c.below.ensures) at c.in_ok-advance.ensures.courses)) c.take_back.ensures.printer
-          (record { is_known = refl; bytes = c.take_back.ensures.buffer; failures = c.take_back.ensures.failures; lender = refl })
+          (rw (c.in-Rejected.is, c.below.ensures) at c.in_ok-advance.ensures.courses)) c.undo.ensures.printer
+          (record { is_known = refl; bytes = c.undo.ensures.buffer; failures = c.undo.ensures.failures; lender = refl })
           (pushed (standing f q) c.in_ok-push-in-Rejected.ensures.pushed refl refl refl),
     )
 
@@ -182,32 +183,32 @@ returns-then-is_empty-2-clause-ends g c =
 pub work-smaller-else-is_empty-2 : goal.work-smaller-else-is_empty-2
 work-smaller-else-is_empty-2 g c =
     let f = g.N.Walk.tree in
-    let r = c.take_back.new.printer in
+    let r = c.undo.new.printer in
     let q = record r { commands = c.push.new.self } in
     let us = c.pop-in-Rejected.new.self.items in
     let some = c.work.invariant.some in
     let inner : 0 < length us = c.is_empty-in-Rejected.ensures.some c.if-is_empty-2.false in
-    less_other _ _ (standing f r) (point f q (buffer_seen c.take_back.new.buffer) c.advance.new.visits)
+    less_other _ _ (standing f r) (point f q (buffer_seen c.undo.new.buffer) c.advance.new.visits)
     (all_held-push f _ us c.in-Some-pop.trial c.in-Some-pop.ensures.items) (omega (arith, length-all_held f us, inner))
     (took AllocError f some.2 (rw (c.in-Rejected.is, c.below.ensures) at c.in_ok-advance.ensures.courses))
-    c.take_back.ensures.printer (pushed (standing f q) c.in_ok-push-in-Rejected.ensures.pushed refl refl refl)
+    c.undo.ensures.printer (pushed (standing f q) c.in_ok-push-in-Rejected.ensures.pushed refl refl refl)
 
 pub work-preserved-else-is_empty-2 : goal.work-preserved-else-is_empty-2
 work-preserved-else-is_empty-2 g c =
     let f = g.N.Walk.tree in
-    let r = c.take_back.new.printer in
+    let r = c.undo.new.printer in
     let q = record r { commands = c.push.new.self } in
-    let w = buffer_seen c.take_back.new.buffer in
+    let w = buffer_seen c.undo.new.buffer in
     let us = c.pop-in-Rejected.new.self.items in
     let some = c.work.invariant.some in
     let a = point f c.work.printer (buffer_seen c.work.buffer) c.work.visits in
     let b = point f q w c.advance.new.visits in
     let inner : 0 < length us = c.is_empty-in-Rejected.ensures.some c.if-is_empty-2.false in
     let course = rw (c.in-Rejected.is, c.below.ensures) at c.in_ok-advance.ensures.courses in
-    let other : (s : Attempt) (y : Tree) → Open s y (all_held f c.work.trials.«open».items) a → Open s y (all_held f us) b = λ s y h.
+    let other : (s : Trial) (y : Tree) → Open s y (all_held f c.work.trials.«open».items) a → Open s y (all_held f us) b = λ s y h.
     open_other _ _ (standing f r) (all_held-push f _ us c.in-Some-pop.trial c.in-Some-pop.ensures.items)
-    (omega (arith, length-all_held f us, inner)) (took AllocError f h course) c.take_back.ensures.printer
-    (record { is_known = refl; bytes = c.take_back.ensures.buffer; failures = c.take_back.ensures.failures; lender = refl })
+    (omega (arith, length-all_held f us, inner)) (took AllocError f h course) c.undo.ensures.printer
+    (record { is_known = refl; bytes = c.undo.ensures.buffer; failures = c.undo.ensures.failures; lender = refl })
     (pushed (standing f q) c.in_ok-push-in-Rejected.ensures.pushed refl refl refl) in
     record {
       trials = λ s y h. other s y (c.work.invariant.trials s y h);
@@ -215,12 +216,12 @@ work-preserved-else-is_empty-2 g c =
       spends = λ s y h plain.
           spends_back (standing f r) (all_held f us) (held f c.in-Some-pop.trial)
           (all_held-push f _ us c.in-Some-pop.trial c.in-Some-pop.ensures.items)
-          (open_fell _ _ (all_held-push f _ _ c.in-Some-pop.trial c.in-Some-pop.ensures.items)
+          (open_rejected _ _ (all_held-push f _ _ c.in-Some-pop.trial c.in-Some-pop.ensures.items)
           (took AllocError f some.2 (rw (c.in-Rejected.is, c.below.ensures) at c.in_ok-advance.ensures.courses)))
-          c.take_back.ensures.printer (pushed (standing f q) c.in_ok-push-in-Rejected.ensures.pushed refl refl refl) refl
+          c.undo.ensures.printer (pushed (standing f q) c.in_ok-push-in-Rejected.ensures.pushed refl refl refl) refl
           (open_spends (record { before = h; now = c.work.invariant.trials s y h; plain = plain }) (c.work.invariant.spends s y h plain)
           (rw c.in-Rejected.is at c.in_ok-advance.ensures.spends));
-      summed = c.in_ok-push-in-Rejected.ensures.summed (c.take_back.ensures.summed c.in_ok-advance.ensures.summed);
+      summed = c.in_ok-push-in-Rejected.ensures.summed (c.undo.ensures.summed c.in_ok-advance.ensures.summed);
     }
 
 -- a trial more is open
@@ -240,7 +241,7 @@ work-preserved g c =
     let a = point f c.work.printer (buffer_seen c.work.buffer) c.work.visits in
     let b = point f c.open_trial.new.printer (buffer_seen c.advance.new.buffer) c.advance.new.visits in
     let course = rw (c.in-Choice.is, c.below.ensures) at c.in_ok-advance.ensures.courses in
-    let more : (s : Attempt) (y : Tree) → Open s y (all_held f c.work.trials.«open».items) a
+    let more : (s : Trial) (y : Tree) → Open s y (all_held f c.work.trials.«open».items) a
     → Open s y (all_held f c.open_trial.new.trials.«open».items) b = λ s y h.
     open_more (took AllocError f h course)
     c.in_ok-open_trial-in-Choice.ensures.held c.in_ok-open_trial-in-Choice.ensures.begun (IsUtf8-string_bytes c.advance.new.buffer.text) in
@@ -302,15 +303,15 @@ returns-in_err-push-in-Rejected-clause-spends g c =
 pub returns-then-is_empty-2-clause-spends : goal.returns-then-is_empty-2-clause-spends
 returns-then-is_empty-2-clause-spends g c =
     let f = g.N.Walk.tree in
-    let r = c.take_back.new.printer in
+    let r = c.undo.new.printer in
     let q = record r { commands = c.push.new.self } in
     let us = c.pop-in-Rejected.new.self.items in
     let some = c.work.invariant.some in
     λ s y h plain.
     spends_back (standing f r) (all_held f us) (held f c.in-Some-pop.trial)
     (all_held-push f _ us c.in-Some-pop.trial c.in-Some-pop.ensures.items)
-    (open_fell _ _ (all_held-push f _ _ c.in-Some-pop.trial c.in-Some-pop.ensures.items)
-    (took AllocError f some.2 (rw (c.in-Rejected.is, c.below.ensures) at c.in_ok-advance.ensures.courses))) c.take_back.ensures.printer
+    (open_rejected _ _ (all_held-push f _ _ c.in-Some-pop.trial c.in-Some-pop.ensures.items)
+    (took AllocError f some.2 (rw (c.in-Rejected.is, c.below.ensures) at c.in_ok-advance.ensures.courses))) c.undo.ensures.printer
     (pushed (standing f q) c.in_ok-push-in-Rejected.ensures.pushed refl refl refl) refl
     (open_spends (record { before = h; now = c.work.invariant.trials s y h; plain = plain }) (c.work.invariant.spends s y h plain)
     (rw c.in-Rejected.is at c.in_ok-advance.ensures.spends))

@@ -1,7 +1,7 @@
 use Rattle.prettyless_model.specs.Tree.{Tree}
 use Rattle.prettyless_probe.specs.Sums.{IsSummed}
 use Rattle.prettyless_printer.specs.Points.{buffer_seen, point, standing}
-use Rattle.prettyless_printer.specs.Trials.{Attempt}
+use Rattle.prettyless_printer.specs.Trials.{Trial}
 use Rattle.prettyless_printer.specs.Open.{Open, all_held, seconds}
 use Rattle.prettyless_printer.specs.Spending.{IsPlainTrial, Spends, left, rule_of}
 use Rattle.prettyless_printer.proofs.Costs.{left_at}
@@ -13,10 +13,10 @@ invariant-work g l =
     let start = point f l.fn.printer (buffer_seen l.fn.buffer) l.fn.visits in
     let now = point f l.printer (buffer_seen l.buffer) l.visits in
     record {
-      trials : (s : Attempt) (y : Tree) → Open s y (all_held f l.fn.trials.open.items) start
+      trials : (s : Trial) (y : Tree) → Open s y (all_held f l.fn.trials.open.items) start
           → Open s y (all_held f l.trials.open.items) now;
-      some : (s : Attempt) × (y : Tree) × Open s y (all_held f l.trials.open.items) now;
-      spends : (s : Attempt) (y : Tree) → Open s y (all_held f l.fn.trials.open.items) start → IsPlainTrial s y →
+      some : (s : Trial) × (y : Tree) × Open s y (all_held f l.trials.open.items) now;
+      spends : (s : Trial) (y : Tree) → Open s y (all_held f l.fn.trials.open.items) start → IsPlainTrial s y →
           Spends (rule_of g.N.Walk.HAS_SUMMARIES l.fn.printer.options l.limit)
           (left (standing f l.fn.printer) (seconds (all_held f l.fn.trials.open.items)) l.fn.visits)
           (left (standing f l.printer) (seconds (all_held f l.trials.open.items)) l.visits);

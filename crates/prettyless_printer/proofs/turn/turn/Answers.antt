@@ -12,13 +12,13 @@ use Rattle.prettyless_printer.specs.Laying.{Laying, ends_turn}
 use Rattle.prettyless_printer.specs.Points.{Standing, point, point_at, seen, standing}
 use Rattle.prettyless_printer.specs.Visits.{visited_more}
 use Rattle.prettyless_printer.proofs.Trying.{grows_same}
-use Rattle.prettyless_printer.proofs.Hands.{goes_down, in_hand, shown, visit}
+use Rattle.prettyless_printer.proofs.Descends.{goes_down, in_hand, shown, visit}
 use Rattle.prettyless_printer.proofs.Standings.{wrote}
 use Rattle.prettyless_printer.proofs.Visits.{visited_more-zero}
-use Rattle.prettyless_printer.proofs.Spending.{spends_all, spends_begun, spends_broke, spends_chosen, spends_down, spends_failed}
-use Rattle.prettyless_printer.proofs.Spending.{spends_went, takes}
+use Rattle.prettyless_printer.proofs.Spending.{spends_all, spends_begun, spends_broke, spends_choice, spends_down, spends_failed}
+use Rattle.prettyless_printer.proofs.Spending.{spends_moved, takes}
 use Rattle.prettyless_printer.proofs.Laying.{laying_begins, spends_laid}
-use Rattle.prettyless_printer.proofs.Advancing.{advances_chosen, advances_failed, advances_refused, advances_sink_failed, advances_went}
+use Rattle.prettyless_printer.proofs.Advancing.{advances_choice, advances_failed, advances_refused, advances_sink_failed, advances_moved}
 use Rattle.prettyless_printer.proofs.turn.turn.Goals as goal
 
 pub unreachable-requires : goal.unreachable-requires
@@ -73,7 +73,8 @@ down-preserved g c =
     let n = c.one_more-count-in-Ok-DescendFlat.result in
     let x = visited_more n c.step.new.visits in
     let hand = c.down.invariant.hand in
-    let one = visit f c.down.count c.down.visits c.down.printer c.step.new.visits n hand c.one_more-count-in-Ok-DescendFlat.ensures.one c.step.ensures.printer
+    let one = visit f c.down.count c.down.visits c.down.printer c.step.new.visits n hand
+        c.one_more-count-in-Ok-DescendFlat.ensures.one c.step.ensures.printer
     c.step.ensures.rises c.step.ensures.counted in
     let took = takes f c.down.printer hand one
     (c.in-Ok-DescendFlat.ensures.within (subst IsStepped (sym c.in-Ok-DescendFlat.field-0-is) tt)) c.step.ensures.counted c.step.ensures.few
@@ -101,7 +102,8 @@ returns-in-Ok-lay_texts-clause-advances g c =
     let i = c.in-Ok-DescendTexts.field-0-0 in
     let n = c.in-Ok-DescendTexts.next in
     let hand = c.down.invariant.hand in
-    let one = visit f c.down.count c.down.visits c.down.printer c.step.new.visits k hand c.one_more-in-Ok-DescendTexts.ensures.one c.step.ensures.printer
+    let one = visit f c.down.count c.down.visits c.down.printer c.step.new.visits k hand c.one_more-in-Ok-DescendTexts.ensures.one
+        c.step.ensures.printer
     c.step.ensures.rises c.step.ensures.counted in
     let lays = rw c.count_more-in-Ok-DescendTexts.ensures.more at c.lay_texts.ensures.lays in
     subst (λ (z : Result (Unit {0}) g.row.W-Error.Denot). Advances f
@@ -125,7 +127,8 @@ returns-in-Ok-lay_texts-clause-spends g c =
     let n = c.in-Ok-DescendTexts.next in
     let laid = c.lay_texts.ensures in
     let hand = c.down.invariant.hand in
-    let one = visit f c.down.count c.down.visits c.down.printer c.step.new.visits k hand c.one_more-in-Ok-DescendTexts.ensures.one c.step.ensures.printer
+    let one = visit f c.down.count c.down.visits c.down.printer c.step.new.visits k hand c.one_more-in-Ok-DescendTexts.ensures.one
+        c.step.ensures.printer
     c.step.ensures.rises c.step.ensures.counted in
     let took = takes f c.down.printer hand one
     (c.in-Ok-DescendTexts.ensures.within (subst IsStepped (sym c.in-Ok-DescendTexts.field-0-is) tt)) c.step.ensures.counted
@@ -153,7 +156,8 @@ returns-in-Err-lay_texts-clause-advances g c =
     let i = c.in-Ok-DescendTexts.field-0-0 in
     let n = c.in-Ok-DescendTexts.next in
     let hand = c.down.invariant.hand in
-    let one = visit f c.down.count c.down.visits c.down.printer c.step.new.visits k hand c.one_more-in-Ok-DescendTexts.ensures.one c.step.ensures.printer
+    let one = visit f c.down.count c.down.visits c.down.printer c.step.new.visits k hand c.one_more-in-Ok-DescendTexts.ensures.one
+        c.step.ensures.printer
     c.step.ensures.rises c.step.ensures.counted in
     let lays = rw c.count_more-in-Ok-DescendTexts.ensures.more at c.lay_texts.ensures.lays in
     subst (λ (z : Result (Unit {0}) g.row.W-Error.Denot). Advances f
@@ -177,7 +181,8 @@ returns-in-Err-lay_texts-clause-spends g c =
     let n = c.in-Ok-DescendTexts.next in
     let laid = c.lay_texts.ensures in
     let hand = c.down.invariant.hand in
-    let one = visit f c.down.count c.down.visits c.down.printer c.step.new.visits k hand c.one_more-in-Ok-DescendTexts.ensures.one c.step.ensures.printer
+    let one = visit f c.down.count c.down.visits c.down.printer c.step.new.visits k hand c.one_more-in-Ok-DescendTexts.ensures.one
+        c.step.ensures.printer
     c.step.ensures.rises c.step.ensures.counted in
     let took = takes f c.down.printer hand one
     (c.in-Ok-DescendTexts.ensures.within (subst IsStepped (sym c.in-Ok-DescendTexts.field-0-is) tt)) c.step.ensures.counted
@@ -230,10 +235,11 @@ returns-in-Ok-Silent-clause-advances g c =
     let n = c.one_more-in-Ok-Silent.result in
     let x = visited_more n c.step.new.visits in
     let hand = c.down.invariant.hand in
-    let one = visit f c.down.count c.down.visits c.down.printer c.step.new.visits n hand c.one_more-in-Ok-Silent.ensures.one c.step.ensures.printer
+    let one = visit f c.down.count c.down.visits c.down.printer c.step.new.visits n hand c.one_more-in-Ok-Silent.ensures.one
+        c.step.ensures.printer
     c.step.ensures.rises c.step.ensures.counted in
     rw c.count_more-in-Ok-Silent.ensures.more
-    (advances_went hand one
+    (advances_moved hand one
     (c.in-Ok-Silent.ensures.asked (subst IsStepped (sym c.in-Ok-Silent.field-0-is) tt))
     (wrote f _ [] c.down.printer q (shown f c.down.printer q c.in-Ok-Silent.field-0 step_result.Silent hand c.in-Ok-Silent.field-0-is
     c.in-Ok-Silent.ensures.step)) refl
@@ -246,7 +252,8 @@ returns-in-Ok-Failed-clause-advances g c =
     let n = c.one_more-in-Ok-Failed.result in
     let x = visited_more n c.step.new.visits in
     let hand = c.down.invariant.hand in
-    let one = visit f c.down.count c.down.visits c.down.printer c.step.new.visits n hand c.one_more-in-Ok-Failed.ensures.one c.step.ensures.printer
+    let one = visit f c.down.count c.down.visits c.down.printer c.step.new.visits n hand c.one_more-in-Ok-Failed.ensures.one
+        c.step.ensures.printer
     c.step.ensures.rises c.step.ensures.counted in
     rw c.count_more-in-Ok-Failed.ensures.more
     (advances_failed f c.down.printer q hand one
@@ -259,10 +266,11 @@ returns-in-Ok-Choice-clause-advances g c =
     let n = c.one_more-in-Ok-Choice.result in
     let x = visited_more n c.step.new.visits in
     let hand = c.down.invariant.hand in
-    let one = visit f c.down.count c.down.visits c.down.printer c.step.new.visits n hand c.one_more-in-Ok-Choice.ensures.one c.step.ensures.printer
+    let one = visit f c.down.count c.down.visits c.down.printer c.step.new.visits n hand c.one_more-in-Ok-Choice.ensures.one
+        c.step.ensures.printer
     c.step.ensures.rises c.step.ensures.counted in
     rw c.count_more-in-Ok-Choice.ensures.more
-    (advances_chosen f c.down.printer q hand one
+    (advances_choice f c.down.printer q hand one
     (c.in-Ok-Choice.ensures.asked (subst IsStepped (sym c.in-Ok-Choice.field-0-is) tt))
     (shown f c.down.printer q c.in-Ok-Choice.field-0 (step_result.Choice c.in-Ok-Choice.indent c.in-Ok-Choice.first c.in-Ok-Choice.second)
     hand
@@ -276,10 +284,11 @@ returns-in-Ok-write_piece-clause-advances g c =
     let n = c.one_more-in-Ok-Emit.result in
     let x = visited_more n c.step.new.visits in
     let hand = c.down.invariant.hand in
-    let one = visit f c.down.count c.down.visits c.down.printer c.step.new.visits n hand c.one_more-in-Ok-Emit.ensures.one c.step.ensures.printer
+    let one = visit f c.down.count c.down.visits c.down.printer c.step.new.visits n hand c.one_more-in-Ok-Emit.ensures.one
+        c.step.ensures.printer
     c.step.ensures.rises c.step.ensures.counted in
     rw c.count_more-in-Ok-Emit.ensures.more
-    (advances_went hand one
+    (advances_moved hand one
     (c.in-Ok-Emit.ensures.asked (subst IsStepped (sym c.in-Ok-Emit.field-0-is) tt))
     (wrote f _ (piece_bytes c.in-Ok-Emit.piece) c.down.printer q
     (shown f c.down.printer q c.in-Ok-Emit.field-0 (step_result.Emit c.in-Ok-Emit.piece) hand c.in-Ok-Emit.field-0-is
@@ -306,7 +315,8 @@ returns-in-Err-write_piece-clause-advances g c =
     let n = c.one_more-in-Ok-Emit.result in
     let x = visited_more n c.step.new.visits in
     let hand = c.down.invariant.hand in
-    let one = visit f c.down.count c.down.visits c.down.printer c.step.new.visits n hand c.one_more-in-Ok-Emit.ensures.one c.step.ensures.printer
+    let one = visit f c.down.count c.down.visits c.down.printer c.step.new.visits n hand c.one_more-in-Ok-Emit.ensures.one
+        c.step.ensures.printer
     c.step.ensures.rises c.step.ensures.counted in
     rw c.count_more-in-Ok-Emit.ensures.more
     (advances_sink_failed hand one
@@ -335,14 +345,15 @@ returns-in-Ok-Silent-clause-spends g c =
     let n = c.one_more-in-Ok-Silent.result in
     let x = visited_more n c.step.new.visits in
     let hand = c.down.invariant.hand in
-    let one = visit f c.down.count c.down.visits c.down.printer c.step.new.visits n hand c.one_more-in-Ok-Silent.ensures.one c.step.ensures.printer
+    let one = visit f c.down.count c.down.visits c.down.printer c.step.new.visits n hand c.one_more-in-Ok-Silent.ensures.one
+        c.step.ensures.printer
     c.step.ensures.rises c.step.ensures.counted in
     let took = takes f c.down.printer hand one
     (c.in-Ok-Silent.ensures.within (subst IsStepped (sym c.in-Ok-Silent.field-0-is) tt)) c.step.ensures.counted c.step.ensures.few
     c.down.invariant.spends in
     rw c.count_more-in-Ok-Silent.ensures.more
     (λ plain.
-    spends_went f c.down.printer q [] took plain c.step.ensures.queue
+    spends_moved f c.down.printer q [] took plain c.step.ensures.queue
     (wrote f _ [] c.down.printer q (shown f c.down.printer q c.in-Ok-Silent.field-0 step_result.Silent hand c.in-Ok-Silent.field-0-is
     c.in-Ok-Silent.ensures.step)))
 
@@ -353,7 +364,8 @@ returns-in-Ok-Failed-clause-spends g c =
     let n = c.one_more-in-Ok-Failed.result in
     let x = visited_more n c.step.new.visits in
     let hand = c.down.invariant.hand in
-    let one = visit f c.down.count c.down.visits c.down.printer c.step.new.visits n hand c.one_more-in-Ok-Failed.ensures.one c.step.ensures.printer
+    let one = visit f c.down.count c.down.visits c.down.printer c.step.new.visits n hand c.one_more-in-Ok-Failed.ensures.one
+        c.step.ensures.printer
     c.step.ensures.rises c.step.ensures.counted in
     let took = takes f c.down.printer hand one
     (c.in-Ok-Failed.ensures.within (subst IsStepped (sym c.in-Ok-Failed.field-0-is) tt)) c.step.ensures.counted c.step.ensures.few
@@ -369,14 +381,15 @@ returns-in-Ok-Choice-clause-spends g c =
     let n = c.one_more-in-Ok-Choice.result in
     let x = visited_more n c.step.new.visits in
     let hand = c.down.invariant.hand in
-    let one = visit f c.down.count c.down.visits c.down.printer c.step.new.visits n hand c.one_more-in-Ok-Choice.ensures.one c.step.ensures.printer
+    let one = visit f c.down.count c.down.visits c.down.printer c.step.new.visits n hand c.one_more-in-Ok-Choice.ensures.one
+        c.step.ensures.printer
     c.step.ensures.rises c.step.ensures.counted in
     let took = takes f c.down.printer hand one
     (c.in-Ok-Choice.ensures.within (subst IsStepped (sym c.in-Ok-Choice.field-0-is) tt)) c.step.ensures.counted c.step.ensures.few
     c.down.invariant.spends in
     rw c.count_more-in-Ok-Choice.ensures.more
     (λ plain.
-    spends_chosen f c.down.printer q c.in-Ok-Choice.indent c.in-Ok-Choice.first c.in-Ok-Choice.second took plain
+    spends_choice f c.down.printer q c.in-Ok-Choice.indent c.in-Ok-Choice.first c.in-Ok-Choice.second took plain
     (shown f c.down.printer q c.in-Ok-Choice.field-0 (step_result.Choice c.in-Ok-Choice.indent c.in-Ok-Choice.first c.in-Ok-Choice.second)
     hand
     c.in-Ok-Choice.field-0-is c.in-Ok-Choice.ensures.step))
@@ -388,7 +401,8 @@ returns-in-Ok-write_piece-clause-spends g c =
     let n = c.one_more-in-Ok-Emit.result in
     let x = visited_more n c.step.new.visits in
     let hand = c.down.invariant.hand in
-    let one = visit f c.down.count c.down.visits c.down.printer c.step.new.visits n hand c.one_more-in-Ok-Emit.ensures.one c.step.ensures.printer
+    let one = visit f c.down.count c.down.visits c.down.printer c.step.new.visits n hand c.one_more-in-Ok-Emit.ensures.one
+        c.step.ensures.printer
     c.step.ensures.rises c.step.ensures.counted in
     let took = takes f c.down.printer hand one
     (c.in-Ok-Emit.ensures.within (subst IsStepped (sym c.in-Ok-Emit.field-0-is) tt)) c.step.ensures.counted c.step.ensures.few
@@ -396,7 +410,7 @@ returns-in-Ok-write_piece-clause-spends g c =
     let bytes = piece_bytes c.in-Ok-Emit.piece in
     rw c.count_more-in-Ok-Emit.ensures.more
     (λ plain.
-    spends_went f c.down.printer q bytes took plain c.step.ensures.queue
+    spends_moved f c.down.printer q bytes took plain c.step.ensures.queue
     (wrote f _ bytes c.down.printer q (shown f c.down.printer q c.in-Ok-Emit.field-0 (step_result.Emit c.in-Ok-Emit.piece) hand
     c.in-Ok-Emit.field-0-is c.in-Ok-Emit.ensures.step)))
 
@@ -406,7 +420,8 @@ returns-in-Err-write_piece-clause-spends g c =
     let n = c.one_more-in-Ok-Emit.result in
     let x = visited_more n c.step.new.visits in
     let hand = c.down.invariant.hand in
-    let one = visit f c.down.count c.down.visits c.down.printer c.step.new.visits n hand c.one_more-in-Ok-Emit.ensures.one c.step.ensures.printer
+    let one = visit f c.down.count c.down.visits c.down.printer c.step.new.visits n hand c.one_more-in-Ok-Emit.ensures.one
+        c.step.ensures.printer
     c.step.ensures.rises c.step.ensures.counted in
     let took = takes f c.down.printer hand one
     (c.in-Ok-Emit.ensures.within (subst IsStepped (sym c.in-Ok-Emit.field-0-is) tt)) c.step.ensures.counted c.step.ensures.few

@@ -6,7 +6,7 @@ use Rattle.prettyless_step.specs.Printing.{state_of, tasks_of}
 use Rattle.prettyless_printer.specs.Points.{point, seen, standing}
 use Rattle.prettyless_printer.specs.Visits.{Plain, visited_more}
 use Rattle.prettyless_printer.specs.Spending.{Spends, left, rule_of}
-use Rattle.prettyless_printer.proofs.Hands.{InHand}
+use Rattle.prettyless_printer.proofs.Descends.{InHand}
 use Rattle.prettyless_printer.proofs.Spending.{left_with}
 use Rattle.prettyless_printer.proofs.turn.turn.Given as goal
 

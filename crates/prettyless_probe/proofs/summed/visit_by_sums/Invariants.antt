@@ -1,13 +1,13 @@
 use Rattle.std.proofs.Common.{◌≡◌, ◌++◌, ◌∷◌, [], ◌+◌, ◌-◌, ◌*◌, ◌≤◌, length}
 use Rattle.prettyless_model.specs.Tree.{size}
 use Rattle.prettyless_probe.specs.Probing.{OneLeft, ReadsAs, RisesBy, nodes_next, pace}
-use Rattle.prettyless_probe.specs.Stack.{Reads, in_break, nodes, stack_of, task, tasks_fit, unread}
+use Rattle.prettyless_probe.specs.Stack.{IsCursor, in_break, nodes, stack_of, task, tasks_fit, unread}
 use Rattle.prettyless_probe.specs.Sums.{AllSummed, AreSums}
 use Rattle.prettyless_probe.proofs.summed.visit_by_sums.Given as goal
 
 abbrev pub invariant-read : goal.invariant-read
 invariant-read g l = record {
-  of_this : Reads l.commands l.below;
+  of_this : IsCursor l.commands l.below;
   summed : AreSums l.commands.sums.items (unread g.N.Walk.tree l.commands l.below);
   same : ReadsAs g.N.Walk.tree l.width l.read
       (tasks_fit l.width (task g.N.Walk.tree

@@ -1,6 +1,6 @@
 use Rattle.std.proofs.Common.{◌≡◌, ◌+◌, ◌++◌, List, length}
 use Rattle.prettyless_model.specs.Tree.{Tree}
-use Rattle.prettyless_probe.specs.Stack.{Reads, stack_of, unread}
+use Rattle.prettyless_probe.specs.Stack.{IsCursor, stack_of, unread}
 use Rattle.prettyless_table.specs.Cells.{CellsGrow}
 use Rattle.prettyless_table.specs.Owners.{Stand, task_trees}
 use Rattle.prettyless_table.proofs.Shifting.{FirstCommands}
@@ -8,7 +8,7 @@ use Rattle.prettyless_table.proofs.shift.lay_out_commands.Given as goal
 
 abbrev pub invariant-commands : goal.invariant-commands
 invariant-commands g l = record {
-  of_this : Reads l.commands l.below;
+  of_this : IsCursor l.commands l.below;
   grows : CellsGrow g.N.Walk.tree l.fn.table.cells.items l.table.cells.items;
   first : FirstCommands g.N.Walk.tree l.table.cells.items l.places.items
       (unread g.N.Walk.tree l.commands l.below) (stack_of g.N.Walk.tree l.commands);

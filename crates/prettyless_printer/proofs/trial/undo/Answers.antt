@@ -1,7 +1,7 @@
 use Rattle.std.proofs.Common.{◌∙◌, ap, refl, sym}
 use Rattle.std.proofs.lemmas.List.{take-map}
 use Rattle.prettyless_probe.specs.Stack.{trees}
-use Rattle.prettyless_printer.proofs.trial.take_back.Goals as goal
+use Rattle.prettyless_printer.proofs.trial.undo.Goals as goal
 
 -- the queue's trees are cut as its nodes are
 pub returns-clause-printer : goal.returns-clause-printer

@@ -8,25 +8,26 @@ use Rattle.prettyless_model.specs.Layout.{State}
 use Rattle.prettyless_model.specs.declared.mode.Mode.{Mode}
 use Rattle.prettyless_model.specs.Counts.{each_probe}
 use Rattle.prettyless_probe.specs.Stack.{Task, make_task, nodes}
-use Rattle.prettyless_step.specs.Steps.{Step, Stuck, Choose, Move, counted_payload, rejects_payload, work, owed}
+use Rattle.prettyless_step.specs.Steps.{Step, Stuck, Choose, Move, counted_payload, rejects_payload, work, pending_work}
 use Rattle.prettyless_probe.specs.Probing.{asked, RisesBy}
-use Rattle.prettyless_step.specs.Printing.{Hands, Shows, state_of, tasks_of}
+use Rattle.prettyless_step.specs.Printing.{Descends, Shows, state_of, tasks_of}
 use Rattle.prettyless_step.specs.declared.printer.Printer.{Printer}
 use Rattle.prettyless_step.specs.declared.printer.StepResult.{StepResult}
-use Rattle.prettyless_step.proofs.Shown.{step_at, Leads}
+use Rattle.prettyless_step.proofs.Shown.{step_at, StepsTo}
 use Rattle.prettyless_probe.proofs.Stacks.{nodes-append}
 use Rattle.prettyless_printer.specs.Points.{Standing, standing, state_at, QueueGrows, Seen, Point, point_at, point}
 use Rattle.prettyless_printer.specs.Progress.{Inside}
 use Rattle.prettyless_printer.specs.Turns.{Advances, ForWholes, next_size}
 use Rattle.prettyless_printer.specs.Visits.{suffix_depths, Plain, Rise, CountsAtMost, visited_more}
 use Rattle.prettyless_printer.specs.AtLeast.{CountsAtLeast, stack_tally, tally_above}
-use Rattle.prettyless_printer.proofs.Standings.{put_in_hand, state_stands, step_from}
+use Rattle.prettyless_printer.proofs.Standings.{descended, state_stands, step_from}
 use Rattle.prettyless_printer.proofs.Steps.{extra, step_less_visits, LeavesLess}
 use Rattle.prettyless_printer.proofs.Trying.{grows-grows}
-use Rattle.prettyless_printer.proofs.Turnings.{inside_at, lessens, went}
-use Rattle.prettyless_printer.proofs.Visits.{NoSuffix, OneMore, payload_visits-add, payload_visits-least, payload_visits-plus, went_at_most, at_most_same}
+use Rattle.prettyless_printer.proofs.Turnings.{inside_at, work_falls, move_inside}
+use Rattle.prettyless_printer.proofs.Visits.{NoSuffix, OneMore, payload_visits-add, payload_visits-least, payload_visits-plus}
+use Rattle.prettyless_printer.proofs.Visits.{move_at_most, at_most_same}
 use Rattle.prettyless_printer.proofs.Visits.{at_most_then, rise_same, rise_then}
-use Rattle.prettyless_printer.proofs.AtLeast.{OneLaid, went_at_least, at_least_same, at_least_then}
+use Rattle.prettyless_printer.proofs.AtLeast.{OneLaid, move_at_least, at_least_same, at_least_then}
 
 -- the tasks, where the current one is above the stack
 abbrev pub tasks_with : Task → Standing → List Task
@@ -70,7 +71,7 @@ in_hand a p t e s o g =
       sink = refl;
       grows = g;
       long = omega (arith, ap length e);
-      less = omega (arith, ap nodes e, ap (λ (x : State). owed x.pending) s);
+      less = omega (arith, ap nodes e, ap (λ (x : State). pending_work x.pending) s);
       inside = λ out whole limit below old l h. inside_at p'.options whole limit below old p'.tasks ts (state_at p') (state_at p) out out
           (sym e) s refl h;
       rise = rise_same a.visits;
@@ -124,18 +125,19 @@ shown {N} f {a} {t} {s} {v} p q r r' hand e h =
     (subst (λ (z : StepResult N). Shows f t.mode z (step_at p.options t (tasks_of f p) (state_of f p)) p q) e h))
 
 -- the nodes that are left after a step that adds k visits to its own
-leads_most : (t : Task) (ts us : List Task) (st u : State) (bytes : List ℕ) (k : ℕ) (step : Step)
-    → LeavesLess (owed st.pending) (2 * size t.tree + owed st.pending - 2 * k) step → Leads step ts bytes us u → u ≡ st →
+steps_to_most : (t : Task) (ts us : List Task) (st u : State) (bytes : List ℕ) (k : ℕ) (step : Step)
+    → LeavesLess (pending_work st.pending) (2 * size t.tree + pending_work st.pending - 2 * k) step → StepsTo step ts bytes us u → u ≡ st →
     nodes us + 1 + k ≤ size t.tree + nodes ts
-leads_most t ts us st u bytes k (Move b pushed x) less h e =
-    omega (arith, ap nodes h.1, nodes-append pushed ts, ap (λ (z : State). owed z.pending) h.2, ap (λ (z : State). owed z.pending) e)
-leads_most t ts us st u bytes k Stuck less h e = absurd h
-leads_most t ts us st u bytes k (Choose i x y) less h e = absurd h
+steps_to_most t ts us st u bytes k (Move b pushed x) less h e =
+    omega (arith, ap nodes h.1, nodes-append pushed ts, ap (λ (z : State). pending_work z.pending) h.2,
+        ap (λ (z : State). pending_work z.pending) e)
+steps_to_most t ts us st u bytes k Stuck less h e = absurd h
+steps_to_most t ts us st u bytes k (Choose i x y) less h e = absurd h
 
 -- a step leads to the next node
 pub goes_down : {N : Type 0} (f : N → Tree) {a : Point} {t : Task} {s : Seen} {v : Visits} (p q : Printer N) (x : Visits) (i : ℕ) (m : Mode)
     (n : N) → InHand a t (point f p s v) → Visit a.printer.options t (point f p s v) x →
-    RisesBy (each_probe t.tree t.mode) v.probes x.probes → Hands f i m n (step_from a.printer.options t (standing f p)) p q
+    RisesBy (each_probe t.tree t.mode) v.probes x.probes → Descends f i m n (step_from a.printer.options t (standing f p)) p q
     → InHand a (make_task i m (f n)) (point f q s x)
 goes_down {N} f {a} {t} {s} {v} p q x i m n h one probes shows =
     let b = point f p s v in
@@ -145,29 +147,30 @@ goes_down {N} f {a} {t} {s} {v} p q x i m n h one probes shows =
     let us : List Task = tasks_with (make_task i m (f n)) c in
     let st = state_at b.printer in
     let u = state_at c in
-    let k = put_in_hand f i m n (step_at o t ts st) p q shows in
+    let k = descended f i m n (step_at o t ts st) p q shows in
     let laid : OneLaid t b.visits x = record { printer = one.least; probes = probes } in
     let more = extra (rejects_payload o t.tree t.mode st) in
-    let fewer : nodes us + 1 + more ≤ size t.tree + nodes ts = leads_most t ts us st u [] more (step_at o t ts st)
-    (step_less_visits o t.tree t.indent t.mode _ st) k.leads k.state in
+    let fewer : nodes us + 1 + more ≤ size t.tree + nodes ts = steps_to_most t ts us st u [] more (step_at o t ts st)
+    (step_less_visits o t.tree t.indent t.mode _ st) k.steps_to k.state in
     record {
       options = k.options ∙ h.options;
       within = ap (λ (z : State). z.within) k.state ∙ h.within;
       sink = h.sink;
       grows = grows-grows a.printer b.printer c h.grows k.grows;
       long = omega (arith, h.long, k.long);
-      less = omega (arith, h.less, lessens o t ts us st u [] k.leads);
+      less = omega (arith, h.less, work_falls o t ts us st u [] k.steps_to);
       inside = λ out whole limit below old l y.
           inside_at o whole limit below old us us u u (out ++ []) out refl refl (sym (append-nil out))
-          (went o whole limit below old t ts us st u out [] (omega (arith, l, h.long)) (h.inside out whole limit below old l y) k.leads);
+          (move_inside o whole limit below old t ts us st u out [] (omega (arith, l, h.long))
+              (h.inside out whole limit below old l y) k.steps_to);
       rise = rise_then h.rise one.rise;
       most = omega (arith, h.most, one.more.printer, fewer, k.heavy);
       at_most = λ plain.
           let y = h.at_most plain in
-          let z = went_at_most us u [] one.more y.0 k.leads in
+          let z = move_at_most us u [] one.more y.0 k.steps_to in
           (z.0, at_most_then y.1 z.1);
       at_least = λ j l. at_least_then (h.at_least j l)
-          (went_at_least o j ts us st u [] laid (omega (arith, l, h.long)) k.leads);
+          (move_at_least o j ts us st u [] laid (omega (arith, l, h.long)) k.steps_to);
     }
 
 -- a turn is from where it began
