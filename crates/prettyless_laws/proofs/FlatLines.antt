@@ -46,7 +46,7 @@ only_on false c p next e = absurd (cc)
 -- a tree that writes nothing and leaves nothing pending
 flows_by : (o : RenderOptions) (d : Tree) (i : ℕ) (next : Column → Bool → Bool) (st u : State) → LaysFlat o d i st [] u
     → LaysFlat o d i (in_trial st) [] (in_trial u) → TracesFlat o d i st [] u → u.within ≡ st.within → u.pending ≡ st.pending
-        → LeavesPending d []
+    → LeavesPending d []
     → next u.column (some_pending u.pending) ≡ true → IsTracedOnOneLine o d i next st
 flows_by o d i next st u e f t w p n h = record {
   lies = record {

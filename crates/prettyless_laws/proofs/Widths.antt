@@ -57,7 +57,7 @@ same-chosen : (a b : Bool) (x y z w : Tracing) → a ≡ b → Same x z → Same
 same-chosen a b x y z w e h k =
     same-either a b (noted_choice First x) (noted_choice Second y) (noted_choice First z) (noted_choice Second w) e
     (same-after (Alternative First ∷ []) (Alternative First ∷ []) x z refl h)
-        (same-after (Alternative Second ∷ []) (Alternative Second ∷ []) y w refl k)
+    (same-after (Alternative Second ∷ []) (Alternative Second ∷ []) y w refl k)
 
 text_same : (o p : RenderOptions) → o.width ≡ p.width → (w : ℕ) (t : List ℕ) (s u : State) → AlikeStates s u
     → Same (trace_text o w t s) (trace_text p w t u)

@@ -169,7 +169,7 @@ waiting_merges o brk k ps i m rest st again q h l g =
 
 break_merges : (o : RenderOptions) (brk : Breaks) → WritesPending brk → (ps : List Tree) (d : Tree) (i : ℕ) (m : Mode) (rest : List Entry)
     (st : State) (q : List ℕ) → spells (row ps) q → suffix_depth (row ps) ≡ 0 → PendingSpell st q
-        → Merges [] q (break_with o brk ps d i m rest st)
+    → Merges [] q (break_with o brk ps d i m rest st)
 break_merges o brk k [] d i m rest st q h l w = merges_writes [] q st (plain_break o d i rest st) (plain_writes o d i rest st) w
 break_merges o brk k (p ∷ ps) d i m rest st q h l w =
     waiting_merges o brk k (p ∷ ps) i m (entry i d ∷ rest) st (brk d i m rest) q h l (k d i m rest)

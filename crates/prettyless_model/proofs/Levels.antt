@@ -157,7 +157,7 @@ lay_agrees o h a b e k (Group d) i m rest st l =
     lay_agrees o h a b e k d i (by_mode m (if probe o d i Flat rest st then Flat else Break) Flat) rest st l
 lay_agrees o h a b e k (Union x y) i Break rest st l =
     ap (λ (z : Outcome). accept o st.within z (lay o a y i Break rest st))
-        (lay_agrees o h a b e k x i Break rest (in_trial st) (omega arith))
+    (lay_agrees o h a b e k x i Break rest (in_trial st) (omega arith))
     ∙ ap (accept o st.within (lay o b x i Break rest (in_trial st))) (lay_agrees o h a b e k y i Break rest st (omega arith))
 lay_agrees o h a b e k (Union x y) i Flat rest st l = lay_agrees o h a b e k x i Flat rest st (omega arith)
 lay_agrees o h a b e k (PartialUnion x y) i Break rest st l =

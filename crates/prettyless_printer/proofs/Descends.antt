@@ -129,8 +129,13 @@ steps_to_most : (t : Task) (ts us : List Task) (st u : State) (bytes : List ℕ)
     → LeavesLess (pending_work st.pending) (2 * size t.tree + pending_work st.pending - 2 * k) step → StepsTo step ts bytes us u → u ≡ st →
     nodes us + 1 + k ≤ size t.tree + nodes ts
 steps_to_most t ts us st u bytes k (Move b pushed x) less h e =
-    omega (arith, ap nodes h.1, nodes-append pushed ts, ap (λ (z : State). pending_work z.pending) h.2,
-        ap (λ (z : State). pending_work z.pending) e)
+    omega (
+      arith,
+      ap nodes h.1,
+      nodes-append pushed ts,
+      ap (λ (z : State). pending_work z.pending) h.2,
+      ap (λ (z : State). pending_work z.pending) e,
+    )
 steps_to_most t ts us st u bytes k Stuck less h e = absurd h
 steps_to_most t ts us st u bytes k (Choose i x y) less h e = absurd h
 
@@ -162,7 +167,7 @@ goes_down {N} f {a} {t} {s} {v} p q x i m n h one probes shows =
       inside = λ out whole limit below old l y.
           inside_at o whole limit below old us us u u (out ++ []) out refl refl (sym (append-nil out))
           (move_inside o whole limit below old t ts us st u out [] (omega (arith, l, h.long))
-              (h.inside out whole limit below old l y) k.steps_to);
+          (h.inside out whole limit below old l y) k.steps_to);
       rise = rise_then h.rise one.rise;
       most = omega (arith, h.most, one.more.printer, fewer, k.heavy);
       at_most = λ plain.

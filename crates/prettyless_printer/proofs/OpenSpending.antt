@@ -170,7 +170,7 @@ take_none n xs e = ap (take n) e ∙ take-nil n
 -- the innermost trial is undone, and its second branch comes next
 pub spends_back : {r : Rule} {a : Left} {b : Point} {us : List Held} {q : Standing} {v : Visits} (p : Standing) (vs : List Held) (u : Held)
     → us ≡ vs ++ u ∷ [] → InnermostRejected u b → Restores u.mark b.printer p → Pushed (make_task u.indent Break u.second) p q
-        → q.queue ≡ p.queue →
+    → q.queue ≡ p.queue →
     Spends r a (left b.printer (seconds us) v) → Spends r a (left q (seconds vs) v)
 spends_back {r} {a} {b} {us} {q} {v} p vs u popped fell back pushed h k =
     let t = fell.trial in

@@ -116,7 +116,7 @@ stops f p l h =
 pub path_to_choice : {N E : Type 0} (f : N → Tree) {r : Run} {a b : Point} (i : ℕ) (x y : N) → Path r a
     → length r.below < length a.printer.tasks →
     Advances {N = N} {E = E} f a b (Ok (turn_result.Choice i x y)) → length r.below ≤ length b.printer.tasks
-        → PathToChoice r i (f x) (f y) b
+    → PathToChoice r i (f x) (f y) b
 path_to_choice f {r} {a} {b} i x y p l h long = record {
   options = h.options ∙ p.options;
   queue = begins-grows r.queue a.printer b.printer p.queue h.grows;

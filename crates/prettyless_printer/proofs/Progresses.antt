@@ -59,7 +59,7 @@ module _ {o : RenderOptions} {whole : Outcome} {limit : ℕ} {below : List Task}
 
   steps : {t : Task} {ts : List Task} {st : State} {out : List ℕ} (step : Step)
       → LeavesLess (pending_work st.pending) (2 * size t.tree + pending_work st.pending) step
-          → Taken o whole limit below old t ts st out step
+      → Taken o whole limit below old t ts st out step
       → Steps o whole limit below old ts st out step
   steps (Move b pushed u) less w = record {
     above = pushed ++ w.rest;

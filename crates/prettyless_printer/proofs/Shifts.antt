@@ -240,8 +240,13 @@ pub round_work_falls : {A B E : Type 0} (fails : E → Type 0) {a b : Point} {q 
     → WorksOff {A = A} {E = E} fails a b (Ok x) → FlushesEnd {A = B} {E = E} b.printer q b.sink t (Ok y) →
     0 < length (state_at b.printer).pending → work_at (point_at q t b.visits) < work_at a
 round_work_falls fails {b} x y h k some =
-    omega (arith, ap nodes k.stack, ap (λ (u : State). pending_work u.pending) k.state,
-        round_less (state_at b.printer).pending some, h.work_falls)
+    omega (
+      arith,
+      ap nodes k.stack,
+      ap (λ (u : State). pending_work u.pending) k.state,
+      round_less (state_at b.printer).pending some,
+      h.work_falls,
+    )
 
 -- what waits is laid next
 pub round_continues : {A B E : Type 0} (fails : E → Type 0) {a b : Point} {q : Standing} {t : Seen} (x : A) (y : B)
@@ -327,7 +332,7 @@ stops_then limit a b c us buffer h k = record { comes = comes_then a b c us buff
 -- what a run leaves and a run of that, which may stop, are a run that may stop
 pub runs_then : {E : Type 0} (fails : E → Type 0) (limit : ℕ) (a b c : Point) (us : List Held) (buffer : Seen)
     (r : Result RunResult (RenderError E)) → Continues a b → RunsToEndOrStops fails limit b us buffer c r
-        → RunsToEndOrStops fails limit a us buffer c r
+    → RunsToEndOrStops fails limit a us buffer c r
 runs_then fails limit a b c us buffer (Ok run_result.Finished) h k = continues_to_end fails (Ok run_result.Finished) h k
 runs_then fails limit a b c us buffer (Ok run_result.Shift) h k = stops_then limit a b c us buffer h k
 runs_then fails limit a b c us buffer (Err e) h k = continues_to_end fails (Err e) h k

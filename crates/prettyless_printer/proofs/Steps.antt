@@ -56,7 +56,7 @@ plain_less o d i rest st =
 
 break_less : (o : RenderOptions) (ps : List Tree) (d : Tree) (i : ℕ) (m : Mode) (rest : List Entry) (st : State) → size d ≡ 1
     → pending_work st.pending ≡ pending_work ps
-        → LeavesLess (pending_work st.pending) (2 + pending_work st.pending) (break_step o ps d i m rest st)
+    → LeavesLess (pending_work st.pending) (2 + pending_work st.pending) (break_step o ps d i m rest st)
 break_less o [] d i m rest st z e = plain_less o d i rest st
 break_less o (p ∷ ps) d i m rest st z e = omega (arith, nodes-tasks i m (p ∷ ps) (make_task i m d ∷ []))
 
@@ -114,7 +114,7 @@ less_by p n (Choose i l r) h = omega arith
 
 payload_less : (s : List ℕ) (r : Tree) (i : ℕ) (st : State) (v : Bool) →
     LeavesLess (pending_work st.pending)
-        (2 * (size (MultilineText s) + size r + 1) + pending_work st.pending - 2 * extra (is_rejected (Some v)))
+    (2 * (size (MultilineText s) + size r + 1) + pending_work st.pending - 2 * extra (is_rejected (Some v)))
     (union_step (Some v) (MultilineText s) r i st)
 payload_less s r i st true = omega arith
 payload_less s r i st false = omega arith
@@ -122,7 +122,7 @@ payload_less s r i st false = omega arith
 -- the same, where the visit of a payload that is rejected takes a node too
 pub step_less_visits : (o : RenderOptions) (d : Tree) (i : ℕ) (m : Mode) (rest : List Entry) (st : State) →
     LeavesLess (pending_work st.pending) (2 * size d + pending_work st.pending - 2 * extra (rejects_payload o d m st))
-        (step_of o d i m rest st)
+    (step_of o d i m rest st)
 step_less_visits o (Union (MultilineText s) r) i Break rest st = payload_less s r i st (payload_fits o (metrics s) st.column)
 step_less_visits o (Union l r) i Break rest st = less_by (pending_work st.pending) (2 * (size l + size r + 1) + pending_work st.pending)
     (union_step (decided_by_metrics o l st) l r i st) (union_less l r i st (decided_by_metrics o l st))

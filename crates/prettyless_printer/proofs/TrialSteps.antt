@@ -105,7 +105,7 @@ trial_turn_choice f {t} {a} {b} i x y on l h =
     let less : length t.start.printer.tasks < length a.printer.tasks = omega (arith, l, on.height) in
     let k = path.bytes on.is_known in
     let e = at_run (λ o. TurnHolds f o b.printer (known b.sink.bytes) (turn_result.Choice i x y)) path less on.is_known
-        (h.bytes k.0).1.0 in (
+    (h.bytes k.0).1.0 in (
       record {
         is_known = (h.bytes k.0).0;
         waiting = path_to_choice f i x y path less h (omega (arith, ap length e.stack_is, length-append e.above t.start.printer.tasks));

@@ -163,7 +163,7 @@ move_at_most {o} {t} {ts} {st} {v} {w} us u bytes more plain h = move_inside (st
     move_inside (Move b pushed x) s h =
         let a = s.1 (size t.tree + nodes ts) (omega arith) in
         let less : nodes pushed + 1 + extra (rejects_payload o t.tree t.mode st) ≤ size t.tree = omega
-            (arith, s.0, ap pending_work plain.1) in (
+        (arith, s.0, ap pending_work plain.1) in (
           (omega (arith, ap suffix_depths h.1, suffixes-append pushed ts, a.0, plain.0), ap (λ (z : State). z.pending) h.2 ∙ a.1),
           record {
             left = omega (arith, less, ap nodes h.1, nodes-append pushed ts);

@@ -327,11 +327,11 @@ fn visit_other<N: Walk>(
 ) -> Result<FrameStep<N>, AllocError>
     ensures answer { IfOk result (λ a. (ts : List Task) → ReadsAs N.tree width (read_in stack.new a)
         (tasks_fit width (make_task stack.old.here.indent stack.old.here.mode (N.tree node) ∷ (stack_of N.tree stack.old ++ ts))
-            line.old.column line.old.pending)
+        line.old.column line.old.pending)
         (stack_of N.tree stack.new ++ ts) line.new.column line.new.pending) }
     ensures smaller { IfOk result (λ a.
         nodes_next N.tree (read_in stack.new a) + nodes (stack_of N.tree stack.new) < size (N.tree node)
-            + nodes (stack_of N.tree stack.old)) }
+        + nodes (stack_of N.tree stack.old)) }
     ensures texts { IfOk result (λ a. IsTrue is_texts.new → IsTrue is_texts.old × ((d : Tree)
         → IsTextsIf d (make_task stack.old.here.indent stack.old.here.mode (N.tree node) ∷ stack_of N.tree stack.old)
         → TextsAt N.tree d (read_in stack.new a) (stack_of N.tree stack.new))) }
@@ -367,11 +367,11 @@ fn visit_one<N: Walk>(
 ) -> Result<FrameStep<N>, AllocError>
     ensures answer { IfOk result (λ a. (ts : List Task) → ReadsAs N.tree width (read_in stack.new a)
         (tasks_fit width (make_task stack.old.here.indent stack.old.here.mode (N.tree node) ∷ (stack_of N.tree stack.old ++ ts))
-            line.old.column line.old.pending)
+        line.old.column line.old.pending)
         (stack_of N.tree stack.new ++ ts) line.new.column line.new.pending) }
     ensures smaller { IfOk result (λ a.
         nodes_next N.tree (read_in stack.new a) + nodes (stack_of N.tree stack.new) < size (N.tree node)
-            + nodes (stack_of N.tree stack.old)) }
+        + nodes (stack_of N.tree stack.old)) }
     ensures texts { IfOk result (λ a. IsTrue is_texts.new → IsTrue is_texts.old × ((d : Tree)
         → IsTextsIf d (make_task stack.old.here.indent stack.old.here.mode (N.tree node) ∷ stack_of N.tree stack.old)
         → TextsAt N.tree d (read_in stack.new a) (stack_of N.tree stack.new))) }
@@ -423,13 +423,13 @@ fn next_unread<N: Walk>(
         (stack_of N.tree stack.old ++ in_break (unread N.tree commands.now below.old) ≡ [])
         (λ n. stack_of N.tree stack.old ++ in_break (unread N.tree commands.now below.old)
         ≡ make_task stack.new.here.indent stack.new.here.mode (N.tree n)
-            ∷ (stack_of N.tree stack.new ++ in_break (unread N.tree commands.now below.new)))) }
+        ∷ (stack_of N.tree stack.new ++ in_break (unread N.tree commands.now below.new)))) }
     ensures left { IfOk result (λ o. IfSome o
         (λ n. nodes (stack_of N.tree stack.old) + nodes (unread N.tree commands.now below.old)
         ≡ size (N.tree n) + (nodes (stack_of N.tree stack.new) + nodes (unread N.tree commands.now below.new)))) }
     ensures texts { IfOk result (λ o. (d : Tree) → IsTextsIf d (stack_of N.tree stack.old)
         → MatchOption o (IsTexts d) (λ n. IsTextsIf d
-            (make_task stack.new.here.indent stack.new.here.mode (N.tree n) ∷ stack_of N.tree stack.new))) }
+        (make_task stack.new.here.indent stack.new.here.mode (N.tree n) ∷ stack_of N.tree stack.new))) }
     ensures room { OnOk result (room_of stack.old ≤ room_of stack.new) }
     ensures waiting { IfOk result (λ o. MatchOption o (tasks_waiting (stack_of N.tree stack.old) ≡ 0)
         (λ n. tasks_waiting (stack_of N.tree stack.old)
@@ -483,7 +483,7 @@ fn visit_all<N: Walk>(
     requires { IsCursor commands.now cursor }
     ensures answer { IfOk result
         (λ r. is_fit r ≡ tasks_fit width
-            (task N.tree first ∷ (stack_of N.tree stack.old ++ in_break (unread N.tree commands.now cursor))) start.column start.pending) }
+        (task N.tree first ∷ (stack_of N.tree stack.old ++ in_break (unread N.tree commands.now cursor))) start.column start.pending) }
     ensures texts { IfOk result (λ r. r ≡ FitsAsTexts → stack_of N.tree stack.old ≡ [] → (first.mode ≡ Flat)
         × IsTexts (N.tree first.node)) }
     ensures room { IfOk result (λ r. r ≡ FitsAsTexts → stack_of N.tree stack.old ≡ []

@@ -42,3 +42,5 @@ pub refused : (fault : Fault) (bytes rest : List ℕ) (items : List CodeItem) �
     → RefusesProgram fault bytes
 refused fault bytes rest items r s =
     λ other. (record { rest = rest; items = items; reached = r; stops = s }, writes_none fault bytes rest items other r s)
+
+pub ruleset reaching = (at_first, one_more, at_end, refused)

@@ -32,8 +32,7 @@ fn whole<'a, D: DocPlace<'a>>(
 /// ```
 /// decode(place, &[3])? // "\n"
 /// ```
-#[tactic(auto, using(crate::proofs::Reaching::at_first, crate::proofs::Reaching::one_more, crate::proofs::Reaching::at_end,
-    crate::proofs::Reaching::refused))]
+#[tactic(auto, using(crate::proofs::Reaching::reaching))]
 pub fn decode<'a, D: DocPlace<'a>>(place: &'a D, program: &'a [u8]) -> Result<D::Doc, Fault>
     ensures ok { IfOk result (λ p. WritesDocument program.now (D.Doc.tree p)) }
     ensures err { IfErr result (λ fault. RefusesProgram fault program.now) }

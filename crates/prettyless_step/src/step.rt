@@ -220,7 +220,7 @@ fn group<N: Walk>(
     ensures step { IfOk result (λ taken. Shows N.tree mode taken
         (Move [] (make_task indent (by_mode mode
         (if probe_of printer.old.options (N.tree inner) indent Flat (following N.tree printer.old) (state_of N.tree printer.old)
-            then Flat else Break)
+        then Flat else Break)
         Flat) (N.tree inner) ∷ []) (state_of N.tree printer.old))
         printer.old printer.new) }
     ensures rises { probes.old ≤ probes.new }
@@ -300,7 +300,7 @@ fn union<N: Walk>(
         printer.old printer.new) }
     ensures printer { visits.new.printer
         ≡ counted_payload (is_rejected (decided_by_metrics printer.old.options (N.tree first) (state_of N.tree printer.old)))
-            visits.old.printer }
+        visits.old.printer }
     ensures probes { visits.new.probes ≡ visits.old.probes }
     ensures past { IfOk result (λ taken. IsStopped taken → ⊥) }
     ensures others { printer.new ≡ printer.old }

@@ -16,7 +16,7 @@ returns-in-Ok-clause-settles g c = λ i x y a h.
 pub returns-in-Err-write_gap_and_text-clause-settles : goal.returns-in-Err-write_gap_and_text-clause-settles
 returns-in-Err-write_gap_and_text-clause-settles g c = λ i x y a h.
     let ends = (rw c.in-Ok-Kept.field-0-is at c.in-Ok-Kept.ensures.ends) (make_trial (point_at a.printer h.before a.visits) i x) y
-        h.trials in
+    h.trials in
     chooses_unwritten h.empty ends.1 h.sink c.write_gap_and_text.ensures.same_lender
     (rw c.as_str.ensures.value at c.in-Err-write_gap_and_text.ensures.err)
 

@@ -74,7 +74,7 @@ down-preserved g c =
     let x = visited_more n c.step.new.visits in
     let hand = c.down.invariant.hand in
     let one = visit f c.down.count c.down.visits c.down.printer c.step.new.visits n hand
-        c.one_more-count-in-Ok-DescendFlat.ensures.one c.step.ensures.printer
+    c.one_more-count-in-Ok-DescendFlat.ensures.one c.step.ensures.printer
     c.step.ensures.rises c.step.ensures.counted in
     let took = takes f c.down.printer hand one
     (c.in-Ok-DescendFlat.ensures.within (subst IsStepped (sym c.in-Ok-DescendFlat.field-0-is) tt)) c.step.ensures.counted c.step.ensures.few
@@ -103,7 +103,7 @@ returns-in-Ok-lay_texts-clause-advances g c =
     let n = c.in-Ok-DescendTexts.next in
     let hand = c.down.invariant.hand in
     let one = visit f c.down.count c.down.visits c.down.printer c.step.new.visits k hand c.one_more-in-Ok-DescendTexts.ensures.one
-        c.step.ensures.printer
+    c.step.ensures.printer
     c.step.ensures.rises c.step.ensures.counted in
     let lays = rw c.count_more-in-Ok-DescendTexts.ensures.more at c.lay_texts.ensures.lays in
     subst (λ (z : Result (Unit {0}) g.row.W-Error.Denot). Advances f
@@ -128,7 +128,7 @@ returns-in-Ok-lay_texts-clause-spends g c =
     let laid = c.lay_texts.ensures in
     let hand = c.down.invariant.hand in
     let one = visit f c.down.count c.down.visits c.down.printer c.step.new.visits k hand c.one_more-in-Ok-DescendTexts.ensures.one
-        c.step.ensures.printer
+    c.step.ensures.printer
     c.step.ensures.rises c.step.ensures.counted in
     let took = takes f c.down.printer hand one
     (c.in-Ok-DescendTexts.ensures.within (subst IsStepped (sym c.in-Ok-DescendTexts.field-0-is) tt)) c.step.ensures.counted
@@ -157,7 +157,7 @@ returns-in-Err-lay_texts-clause-advances g c =
     let n = c.in-Ok-DescendTexts.next in
     let hand = c.down.invariant.hand in
     let one = visit f c.down.count c.down.visits c.down.printer c.step.new.visits k hand c.one_more-in-Ok-DescendTexts.ensures.one
-        c.step.ensures.printer
+    c.step.ensures.printer
     c.step.ensures.rises c.step.ensures.counted in
     let lays = rw c.count_more-in-Ok-DescendTexts.ensures.more at c.lay_texts.ensures.lays in
     subst (λ (z : Result (Unit {0}) g.row.W-Error.Denot). Advances f
@@ -182,7 +182,7 @@ returns-in-Err-lay_texts-clause-spends g c =
     let laid = c.lay_texts.ensures in
     let hand = c.down.invariant.hand in
     let one = visit f c.down.count c.down.visits c.down.printer c.step.new.visits k hand c.one_more-in-Ok-DescendTexts.ensures.one
-        c.step.ensures.printer
+    c.step.ensures.printer
     c.step.ensures.rises c.step.ensures.counted in
     let took = takes f c.down.printer hand one
     (c.in-Ok-DescendTexts.ensures.within (subst IsStepped (sym c.in-Ok-DescendTexts.field-0-is) tt)) c.step.ensures.counted
@@ -236,7 +236,7 @@ returns-in-Ok-Silent-clause-advances g c =
     let x = visited_more n c.step.new.visits in
     let hand = c.down.invariant.hand in
     let one = visit f c.down.count c.down.visits c.down.printer c.step.new.visits n hand c.one_more-in-Ok-Silent.ensures.one
-        c.step.ensures.printer
+    c.step.ensures.printer
     c.step.ensures.rises c.step.ensures.counted in
     rw c.count_more-in-Ok-Silent.ensures.more
     (advances_moved hand one
@@ -253,7 +253,7 @@ returns-in-Ok-Failed-clause-advances g c =
     let x = visited_more n c.step.new.visits in
     let hand = c.down.invariant.hand in
     let one = visit f c.down.count c.down.visits c.down.printer c.step.new.visits n hand c.one_more-in-Ok-Failed.ensures.one
-        c.step.ensures.printer
+    c.step.ensures.printer
     c.step.ensures.rises c.step.ensures.counted in
     rw c.count_more-in-Ok-Failed.ensures.more
     (advances_failed f c.down.printer q hand one
@@ -267,7 +267,7 @@ returns-in-Ok-Choice-clause-advances g c =
     let x = visited_more n c.step.new.visits in
     let hand = c.down.invariant.hand in
     let one = visit f c.down.count c.down.visits c.down.printer c.step.new.visits n hand c.one_more-in-Ok-Choice.ensures.one
-        c.step.ensures.printer
+    c.step.ensures.printer
     c.step.ensures.rises c.step.ensures.counted in
     rw c.count_more-in-Ok-Choice.ensures.more
     (advances_choice f c.down.printer q hand one
@@ -285,7 +285,7 @@ returns-in-Ok-write_piece-clause-advances g c =
     let x = visited_more n c.step.new.visits in
     let hand = c.down.invariant.hand in
     let one = visit f c.down.count c.down.visits c.down.printer c.step.new.visits n hand c.one_more-in-Ok-Emit.ensures.one
-        c.step.ensures.printer
+    c.step.ensures.printer
     c.step.ensures.rises c.step.ensures.counted in
     rw c.count_more-in-Ok-Emit.ensures.more
     (advances_moved hand one
@@ -316,7 +316,7 @@ returns-in-Err-write_piece-clause-advances g c =
     let x = visited_more n c.step.new.visits in
     let hand = c.down.invariant.hand in
     let one = visit f c.down.count c.down.visits c.down.printer c.step.new.visits n hand c.one_more-in-Ok-Emit.ensures.one
-        c.step.ensures.printer
+    c.step.ensures.printer
     c.step.ensures.rises c.step.ensures.counted in
     rw c.count_more-in-Ok-Emit.ensures.more
     (advances_sink_failed hand one
@@ -346,7 +346,7 @@ returns-in-Ok-Silent-clause-spends g c =
     let x = visited_more n c.step.new.visits in
     let hand = c.down.invariant.hand in
     let one = visit f c.down.count c.down.visits c.down.printer c.step.new.visits n hand c.one_more-in-Ok-Silent.ensures.one
-        c.step.ensures.printer
+    c.step.ensures.printer
     c.step.ensures.rises c.step.ensures.counted in
     let took = takes f c.down.printer hand one
     (c.in-Ok-Silent.ensures.within (subst IsStepped (sym c.in-Ok-Silent.field-0-is) tt)) c.step.ensures.counted c.step.ensures.few
@@ -365,7 +365,7 @@ returns-in-Ok-Failed-clause-spends g c =
     let x = visited_more n c.step.new.visits in
     let hand = c.down.invariant.hand in
     let one = visit f c.down.count c.down.visits c.down.printer c.step.new.visits n hand c.one_more-in-Ok-Failed.ensures.one
-        c.step.ensures.printer
+    c.step.ensures.printer
     c.step.ensures.rises c.step.ensures.counted in
     let took = takes f c.down.printer hand one
     (c.in-Ok-Failed.ensures.within (subst IsStepped (sym c.in-Ok-Failed.field-0-is) tt)) c.step.ensures.counted c.step.ensures.few
@@ -382,7 +382,7 @@ returns-in-Ok-Choice-clause-spends g c =
     let x = visited_more n c.step.new.visits in
     let hand = c.down.invariant.hand in
     let one = visit f c.down.count c.down.visits c.down.printer c.step.new.visits n hand c.one_more-in-Ok-Choice.ensures.one
-        c.step.ensures.printer
+    c.step.ensures.printer
     c.step.ensures.rises c.step.ensures.counted in
     let took = takes f c.down.printer hand one
     (c.in-Ok-Choice.ensures.within (subst IsStepped (sym c.in-Ok-Choice.field-0-is) tt)) c.step.ensures.counted c.step.ensures.few
@@ -402,7 +402,7 @@ returns-in-Ok-write_piece-clause-spends g c =
     let x = visited_more n c.step.new.visits in
     let hand = c.down.invariant.hand in
     let one = visit f c.down.count c.down.visits c.down.printer c.step.new.visits n hand c.one_more-in-Ok-Emit.ensures.one
-        c.step.ensures.printer
+    c.step.ensures.printer
     c.step.ensures.rises c.step.ensures.counted in
     let took = takes f c.down.printer hand one
     (c.in-Ok-Emit.ensures.within (subst IsStepped (sym c.in-Ok-Emit.field-0-is) tt)) c.step.ensures.counted c.step.ensures.few
@@ -421,7 +421,7 @@ returns-in-Err-write_piece-clause-spends g c =
     let x = visited_more n c.step.new.visits in
     let hand = c.down.invariant.hand in
     let one = visit f c.down.count c.down.visits c.down.printer c.step.new.visits n hand c.one_more-in-Ok-Emit.ensures.one
-        c.step.ensures.printer
+    c.step.ensures.printer
     c.step.ensures.rises c.step.ensures.counted in
     let took = takes f c.down.printer hand one
     (c.in-Ok-Emit.ensures.within (subst IsStepped (sym c.in-Ok-Emit.field-0-is) tt)) c.step.ensures.counted c.step.ensures.few
