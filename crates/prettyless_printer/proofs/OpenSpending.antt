@@ -13,6 +13,7 @@ use Rattle.prettyless_summary.specs.Summary.{HasSummaries}
 use Rattle.prettyless_probe.specs.Stack.{Task, make_task, nodes}
 use Rattle.prettyless_probe.specs.Sums.{HaveSummaries, TreesHaveSummaries}
 use Rattle.prettyless_probe.proofs.Stacks.{nodes-append}
+use Rattle.prettyless_step.proofs.Summaries.{trees_have_push}
 use Rattle.prettyless_printer.specs.Points.{Seen, Standing, Point}
 use Rattle.prettyless_printer.specs.Visits.{Plain}
 use Rattle.prettyless_printer.specs.Trials.{Trial, Restores}
@@ -115,10 +116,6 @@ spends_leaving r h = record {
     omega (arith, ap (λ (v : Visits). v.printer) h.visits),
   );
 }
-
-trees_have_push : (ds : List Tree) (d : Tree) → TreesHaveSummaries ds → HasSummaries d → TreesHaveSummaries (ds ++ d ∷ [])
-trees_have_push [] d h k = (k, tt)
-trees_have_push (e ∷ ds) d h k = (h.0, trees_have_push ds d h.1 k)
 
 trees_have_pop : (ds : List Tree) (d : Tree) → TreesHaveSummaries (ds ++ d ∷ []) → TreesHaveSummaries ds × HasSummaries d
 trees_have_pop [] d h = (tt, h.0)

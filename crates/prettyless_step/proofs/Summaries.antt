@@ -17,9 +17,10 @@ either_has : (b : Bool) (x y : Tree) → HasSummaries x → HasSummaries y → H
 either_has true x y h k = h
 either_has false x y h k = k
 
-trees_push : (ds : List Tree) (d : Tree) → TreesHaveSummaries ds → HasSummaries d → TreesHaveSummaries (ds ++ d ∷ [])
-trees_push [] d h k = (k, tt)
-trees_push (e ∷ ds) d h k = (h.0, trees_push ds d h.1 k)
+-- one tree more
+pub trees_have_push : (ds : List Tree) (d : Tree) → TreesHaveSummaries ds → HasSummaries d → TreesHaveSummaries (ds ++ d ∷ [])
+trees_have_push [] d h k = (k, tt)
+trees_have_push (e ∷ ds) d h k = (h.0, trees_have_push ds d h.1 k)
 
 text_has : (o : RenderOptions) (w : ℕ) (s : List ℕ) (st : State) → TreesHaveSummaries st.pending
     → StepHasSummaries (at_once (lay_text o w s st))
@@ -68,7 +69,7 @@ step_has o t.HardLine i Break rest st k h = break_has o st.pending t.HardLine i 
 step_has o t.HardLine i Flat rest st k h = tt
 step_has o t.WeakLine i m rest st k h = break_has o st.pending t.WeakLine i m rest st h h tt
 step_has o (t.Append l r) i m rest st k h = ((k.0, (k.1, tt)), h)
-step_has o (t.LineSuffix d) i m rest st k h = (tt, trees_push st.pending d h k)
+step_has o (t.LineSuffix d) i m rest st k h = (tt, trees_have_push st.pending d h k)
 step_has o (t.Nest n d) i m rest st k h = ((k.1, tt), h)
 step_has o (t.DedentToRoot d) i m rest st k h = ((k, tt), h)
 step_has o (t.Align d) i m rest st k h = ((k, tt), h)
