@@ -23,4 +23,4 @@ pub mod Spending
 pub mod OpenSpending
 pub mod RunSpending
 pub mod Forgetting
-pub mod GearSpending
+pub mod ShiftSpending

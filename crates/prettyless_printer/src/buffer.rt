@@ -1,6 +1,7 @@
 //! The text that open trials write to.
-ghost use Rattle.std.specs.Prelude.{⊤, ◌≡◌, [], Some};
+ghost use Rattle.std.specs.Prelude.{⊤, ◌≡◌, [], take, Some};
 ghost use Rattle.std.specs.String.{string_bytes};
+ghost use Rattle.std.specs.String.Boundary.{IsSplitPoint};
 
 use prettyless_sink::render::Render;
 use std::alloc::{AllocError, Global};
@@ -22,6 +23,15 @@ impl Buffer {
             text: String::new(alloc),
             failures: 0,
         }
+    }
+
+    /// Cuts its text back to so many bytes.
+    pub(crate) fn cut_to(&mut self, written: usize)
+        requires { IsSplitPoint (string_bytes self.old.text) written }
+        ensures text { string_bytes self.new.text ≡ take written (string_bytes self.old.text) }
+        ensures failures { self.new.failures ≡ self.old.failures }
+    {
+        self.text.truncate(written);
     }
 }
 

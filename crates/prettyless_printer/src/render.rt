@@ -6,7 +6,7 @@ ghost use Rattle.prettyless_printer.specs.Points.{seen, standing};
 ghost use Rattle.prettyless_printer.specs.Renders.{Begins, Renders};
 ghost use Rattle.prettyless_printer.specs.Linear.{IsLinearBound, IsLinear};
 
-use crate::shift::{run_in_gears, run_over_table};
+use crate::shift::{run_over_table, run_with_shift};
 use prettyless_model::column::Column;
 use prettyless_model::mode::Mode;
 use prettyless_model::options::RenderOptions;
@@ -67,7 +67,7 @@ pub fn render<N: Walk, W: Render>(
     match printer_before(alloc, node, options) {
         Ok(mut printer) => {
             let mut refused = visits.refused;
-            let result = run_in_gears(alloc, &mut printer, out, visits, &mut refused);
+            let result = run_with_shift(alloc, &mut printer, out, visits, &mut refused);
             visits.refused = refused;
             result
         }

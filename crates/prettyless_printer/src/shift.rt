@@ -18,8 +18,8 @@ ghost use Rattle.prettyless_printer.specs.Spending.{IsUnended, Spends, left, non
 
 use crate::answer::RunResult;
 use crate::buffer::Buffer;
-use crate::gear::{Gears, has_gears};
 use crate::run::{finish, go_on};
+use crate::shift_policy::{ShiftPolicy, can_shift};
 use crate::trial::{OpenTrial, Trials};
 use prettyless_probe::walk::Walk;
 use prettyless_sink::error::RenderError;
@@ -151,7 +151,7 @@ pub(crate) fn shift<N: Walk, W: Render>(
 }
 
 /// Runs to the end, over a table from where that is worth it. Tables that are refused memory are counted.
-pub(crate) fn run_in_gears<N: Walk, W: Render>(
+pub(crate) fn run_with_shift<N: Walk, W: Render>(
     alloc: Global,
     printer: &mut Printer<N>,
     out: &mut W,
@@ -168,18 +168,18 @@ pub(crate) fn run_in_gears<N: Walk, W: Render>(
 {
     let mut trials = Trials::new(alloc);
     let mut buffer = Buffer::new(alloc);
-    if !has_gears(printer.options.width) {
+    if !can_shift(printer.options.width) {
         return finish(printer, &mut trials, &mut buffer, out, visits);
     }
-    let mut gears = Gears::new(*visits);
-    'gears: loop {
-        let limit = gears.limit(*visits);
+    let mut policy = ShiftPolicy::new(*visits);
+    'rounds: loop {
+        let limit = policy.limit(*visits);
         match go_on(printer, &mut trials, &mut buffer, out, limit, visits)? {
             RunResult::Finished => return Ok(()),
             RunResult::Shift => {}
         }
-        if gears.is_worth(*visits) {
-            let room = gears.next_room(*visits);
+        if policy.is_worth(*visits) {
+            let room = policy.next_room(*visits);
             match shift(alloc, printer, &trials, &mut buffer, room, out, visits) {
                 Ok(Some(ended)) => return ended,
                 Ok(None) => {}
@@ -207,7 +207,7 @@ pub(crate) fn run_over_table<N: Walk, W: Render>(
 {
     let mut trials = Trials::new(alloc);
     let mut buffer = Buffer::new(alloc);
-    if !has_gears(printer.options.width) {
+    if !can_shift(printer.options.width) {
         return finish(printer, &mut trials, &mut buffer, out, visits);
     }
     match shift(alloc, printer, &trials, &mut buffer, u64::MAX, out, visits) {

@@ -101,7 +101,7 @@ fn undo<N: Walk>(printer: &mut Printer<N>, mark: Mark, buffer: &mut Buffer)
     printer.queue.go_back(mark.queue);
     printer.column = mark.column;
     printer.within = mark.within;
-    buffer.text.truncate(mark.written);
+    buffer.cut_to(mark.written);
 }
 
 fn memory_of(error: RenderError<AllocError>) -> AllocError {

@@ -1,6 +1,6 @@
 //! Groups in groups, with other things between them, so deep that the printer goes on over a table: at 80 columns, and at as many
 //! columns as there are groups. Their layouts are worked out by hand.
-use crate::trees::{Tree, Visited, compare_in_gears};
+use crate::trees::{Tree, Visited, compare_over_both};
 use std::test::Fail;
 
 const TIMES: usize = 100_000;
@@ -112,5 +112,5 @@ const GROUPS: &[Tree<'static>] = &[
 
 #[test]
 fn groups_in_groups(rt: HostRuntime) -> Result<(), Fail> {
-    compare_in_gears(&rt, rt.alloc(), GROUPS)
+    compare_over_both(&rt, rt.alloc(), GROUPS)
 }

@@ -10,11 +10,11 @@ mod compared;
 #[cfg(test)]
 mod constants;
 #[cfg(test)]
-mod gear;
-#[cfg(test)]
 mod groups;
 #[cfg(test)]
 mod laws;
+#[cfg(test)]
+mod over;
 #[cfg(test)]
 mod over_table;
 #[cfg(test)]

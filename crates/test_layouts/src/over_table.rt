@@ -1,7 +1,7 @@
 //! Documents that are rendered over a table from the first node on. There a probe visits its document once.
 use crate::checks::check_at;
 use crate::compared::{Compared, compare_through};
-use crate::gear::{Gear, render_in};
+use crate::over::{Over, render_over};
 use crate::trees::{Tree, Visited, compare_in_arena};
 use prettyless::{DocPtr, RenderOptions, Visits};
 use std::alloc::Global;
@@ -36,8 +36,8 @@ pub(crate) fn compare_over_table<'a, T: DocPtr<'a>>(
     let mut out = String::new(memory);
     let mut visits = Visits::default();
     let options = RenderOptions::new(expected.width);
-    render_in(
-        Gear::Second,
+    render_over(
+        Over::Table,
         memory,
         document,
         options,
@@ -88,6 +88,6 @@ const WITHOUT_A_TABLE: Tree<'static> = Tree {
 
 #[test]
 fn letters_in_a_group(rt: HostRuntime) -> Result<(), Fail> {
-    compare_in_arena(&rt, rt.alloc(), &OVER_A_TABLE, Gear::Second)?;
-    compare_in_arena(&rt, rt.alloc(), &WITHOUT_A_TABLE, Gear::First)
+    compare_in_arena(&rt, rt.alloc(), &OVER_A_TABLE, Over::Table)?;
+    compare_in_arena(&rt, rt.alloc(), &WITHOUT_A_TABLE, Over::Document)
 }

@@ -1,6 +1,6 @@
 //! The places that the tests put their nodes in. Each kind of place is made in one function, to which a test gives what it does
 //! there: a place that is made costs the prover more than what is done with it.
-use crate::gear::Gear;
+use crate::over::Over;
 use crate::sinks::{Step, Wrong};
 use crate::trees::Tree;
 use crate::{constants, pieces, refusals, sinks, trees, writers};
@@ -34,7 +34,7 @@ pub(crate) enum InArena<'a> {
     ConstantsWithoutRoom,
     OwnedTexts,
     Payloads,
-    Tree(&'a Tree<'a>, Gear, &'a str),
+    Tree(&'a Tree<'a>, Over, &'a str),
 }
 
 fn done_in_arena<'a, D: CountedPlace<'a>>(
@@ -48,7 +48,7 @@ fn done_in_arena<'a, D: CountedPlace<'a>>(
         InArena::ConstantsWithoutRoom => constants::no_room_at_first(rt, bump, place),
         InArena::OwnedTexts => refusals::texts(rt, bump, place),
         InArena::Payloads => refusals::measures(rt, place),
-        InArena::Tree(tree, gear, written) => trees::compare(rt, place, tree, gear, written),
+        InArena::Tree(tree, over, written) => trees::compare(rt, place, tree, over, written),
     }
 }
 

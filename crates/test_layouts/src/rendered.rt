@@ -1,7 +1,7 @@
 //! What documents are rendered as.
 use crate::checks::check_at;
 use crate::compared::{Compared, Expected, compare_through};
-use crate::gear::{Gear, render_in};
+use crate::over::{Over, render_over};
 use prettyless::{DocPtr, IndentationPolicy, LineEnding, RenderError, RenderOptions, Visits};
 use std::alloc::Global;
 use std::process::Abort;
@@ -11,12 +11,12 @@ use std::test::Fail;
 fn outcome<'a, T: DocPtr<'a>>(
     memory: Global,
     document: &T,
-    gear: Gear,
+    over: Over,
     options: RenderOptions,
 ) -> Result<Result<String, String>, Fail> {
     let mut out = String::new(memory);
-    match render_in(
-        gear,
+    match render_over(
+        over,
         memory,
         document,
         options,
@@ -60,7 +60,7 @@ fn is_printed<'a, T: DocPtr<'a>>(
     }
 }
 
-// Compares what a document is rendered as in each gear, and what it is printed as.
+// Compares what a document is rendered as over its nodes and over a table, and what it is printed as.
 pub(crate) fn compare_rendered<'a, T: DocPtr<'a>>(
     rt: &impl Abort,
     memory: Global,
@@ -69,8 +69,8 @@ pub(crate) fn compare_rendered<'a, T: DocPtr<'a>>(
     written: &str,
     expected: Expected<'_>,
 ) -> Result<(), Fail> {
-    let first = outcome(memory, document, Gear::First, options)?;
-    let second = outcome(memory, document, Gear::Second, options)?;
+    let first = outcome(memory, document, Over::Document, options)?;
+    let second = outcome(memory, document, Over::Table, options)?;
     let is_rendered = is_expected(&first, expected) && is_expected(&second, expected);
     let holds = is_rendered && is_printed(memory, document, options, expected)?;
     check_at(rt, holds, written, options.width);

@@ -1,6 +1,6 @@
 //! Trees at the limits: deep, long, with unions in unions. All are tried in an arena, so that nothing deep is dropped.
 use crate::checks::check;
-use crate::gear::{Gear, render_in};
+use crate::over::{Over, render_over};
 use crate::places::{InArena, in_arena};
 use crate::reader::read;
 use prettyless::{DocPlace, DocPtr, RenderOptions, Visits};
@@ -134,13 +134,13 @@ fn repeated(memory: Global, texts: &[(&str, usize)]) -> Result<String, AllocErro
 fn render<'a, T: DocPtr<'a>>(
     memory: Global,
     document: &T,
-    gear: Gear,
+    over: Over,
     width: usize,
     out: &mut String,
 ) -> Result<Visits, Fail> {
     let options = RenderOptions::new(width);
     let mut visits = Visits::default();
-    render_in(gear, memory, document, options, out, &mut visits)?;
+    render_over(over, memory, document, options, out, &mut visits)?;
     Ok(visits)
 }
 
@@ -165,13 +165,13 @@ pub(crate) fn compare<'a, D: DocPlace<'a>>(
     rt: &impl Abort,
     place: &'a D,
     tree: &Tree<'_>,
-    gear: Gear,
+    over: Over,
     written: &'a str,
 ) -> Result<(), Fail> {
     let memory = place.memory();
     let document = read(place, written)?;
     let mut out = String::new(memory);
-    let visits = render(memory, &document, gear, tree.width, &mut out)?;
+    let visits = render(memory, &document, over, tree.width, &mut out)?;
     compare_layout(rt, memory, tree, out.as_str())?;
     compare_visits(rt, tree, visits);
     Ok(())
@@ -181,31 +181,31 @@ pub(crate) fn compare_in_arena(
     rt: &impl Abort,
     memory: Global,
     tree: &Tree<'_>,
-    gear: Gear,
+    over: Over,
 ) -> Result<(), Fail> {
     let written = repeated(memory, tree.written)?;
     in_arena(
         rt,
         memory,
         None,
-        InArena::Tree(tree, gear, written.as_str()),
+        InArena::Tree(tree, over, written.as_str()),
     )
 }
 
-// Compares each tree. In which gear the render begins is all the same.
-pub(crate) fn compare_in_gears(
+// Compares each tree. Over which nodes the render begins is all the same.
+pub(crate) fn compare_over_both(
     rt: &impl Abort,
     memory: Global,
     trees: &[Tree<'_>],
 ) -> Result<(), Fail> {
     for tree in trees {
-        compare_in_arena(rt, memory, tree, Gear::First)?;
-        compare_in_arena(rt, memory, tree, Gear::Second)?;
+        compare_in_arena(rt, memory, tree, Over::Document)?;
+        compare_in_arena(rt, memory, tree, Over::Table)?;
     }
     Ok(())
 }
 
 #[test]
 fn awkward_trees(rt: HostRuntime) -> Result<(), Fail> {
-    compare_in_gears(&rt, rt.alloc(), TREES)
+    compare_over_both(&rt, rt.alloc(), TREES)
 }

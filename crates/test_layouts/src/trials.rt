@@ -1,7 +1,7 @@
 //! Alternatives in which the printer goes on over a table: one alternative, one in another, and one more in that. Their first
 //! branches have groups in groups, and line suffixes wait before each and in each; where a branch is not taken its suffixes are gone,
 //! and those before it wait again. The layouts are worked out by hand.
-use crate::trees::{Tree, Visited, compare_in_gears};
+use crate::trees::{Tree, Visited, compare_over_both};
 use std::test::Fail;
 
 // So many groups in groups that a table is worth it, and has room at once.
@@ -224,15 +224,15 @@ const NO_ROOM_AT_FIRST: &[Tree<'static>] = &[
 
 #[test]
 fn tables_in_kept_alternatives(rt: HostRuntime) -> Result<(), Fail> {
-    compare_in_gears(&rt, rt.alloc(), KEPT)
+    compare_over_both(&rt, rt.alloc(), KEPT)
 }
 
 #[test]
 fn tables_in_rejected_alternatives(rt: HostRuntime) -> Result<(), Fail> {
-    compare_in_gears(&rt, rt.alloc(), REJECTED)
+    compare_over_both(&rt, rt.alloc(), REJECTED)
 }
 
 #[test]
 fn tables_that_have_no_room_at_first(rt: HostRuntime) -> Result<(), Fail> {
-    compare_in_gears(&rt, rt.alloc(), NO_ROOM_AT_FIRST)
+    compare_over_both(&rt, rt.alloc(), NO_ROOM_AT_FIRST)
 }

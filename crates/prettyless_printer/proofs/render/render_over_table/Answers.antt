@@ -1,6 +1,6 @@
 use Rattle.prettyless_printer.specs.Points.{seen}
 use Rattle.prettyless_printer.proofs.Shifted.{begins_few, begins_linear, begun_renders, refused_renders}
-use Rattle.prettyless_printer.proofs.GearSpending.{few_more}
+use Rattle.prettyless_printer.proofs.ShiftSpending.{few_more}
 use Rattle.prettyless_printer.proofs.render.render_over_table.Goals as goal
 
 pub returns-in-Ok-clause-renders : goal.returns-in-Ok-clause-renders

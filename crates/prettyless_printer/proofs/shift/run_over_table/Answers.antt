@@ -2,7 +2,7 @@ use Rattle.std.proofs.Common.{ap, arith}
 use Rattle.prettyless_printer.specs.Points.{buffer_seen, point, seen, standing}
 use Rattle.prettyless_printer.specs.Open.{all_held, seconds}
 use Rattle.prettyless_printer.proofs.Shifted.{comes_first, comes_still}
-use Rattle.prettyless_printer.proofs.GearSpending.{all_over, no_room, within_start}
+use Rattle.prettyless_printer.proofs.ShiftSpending.{all_over, no_room, within_start}
 use Rattle.prettyless_printer.proofs.RunSpending.{from_none}
 use Rattle.prettyless_printer.proofs.shift.run_over_table.Goals as goal
 
@@ -15,8 +15,8 @@ finish-requires-clause-comes g c =
     let first = comes_first f c.new-trials.result.open.items (buffer_seen c.new-buffer.result) start c.new-trials.ensures in
     (start, first)
 
-pub returns-then-not-has_gears-clause-ends : goal.returns-then-not-has_gears-clause-ends
-returns-then-not-has_gears-clause-ends g c =
+pub returns-then-not-can_shift-clause-ends : goal.returns-then-not-can_shift-clause-ends
+returns-then-not-can_shift-clause-ends g c =
     let f = g.N.Walk.tree in
     let sink = seen g.W.Render.bytes g.W.Render.failures g.W.Render.lender in
     let start = point f c.args.printer.now (sink c.args.out.now) c.args.visits.now in

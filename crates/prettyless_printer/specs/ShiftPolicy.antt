@@ -1,7 +1,7 @@
 -- When a table is worth it.
 use Rattle.std.specs.Prelude.{ℕ, ◌+◌, ◌*◌, ◌-◌, ◌^◌, min, max}
 use Rattle.prettyless_sink.specs.declared.visits.Visits.{Visits}
-use Rattle.prettyless_printer.specs.declared.gear.Gears.{Gears}
+use Rattle.prettyless_printer.specs.declared.shift_policy.ShiftPolicy.{ShiftPolicy}
 
 -- a number that stays at the greatest of 64 bits
 abbrev pub capped : ℕ → ℕ
@@ -9,9 +9,9 @@ capped n = min n (2 ^ 64 - 1)
 
 -- how many nodes probes may visit in a render before a table is worth it: sixteen for each that the printer visited, and a thousand,
 -- or as many as a table could have had that could not be allocated
-abbrev pub worth : Gears → Visits → ℕ
+abbrev pub worth : ShiftPolicy → Visits → ℕ
 worth g v = max (capped (capped ((v.printer - g.start.printer) * 16) + 1000)) g.next_try
 
 -- the count of probes past which a table is worth it
-abbrev pub probe_limit : Gears → Visits → ℕ
+abbrev pub probe_limit : ShiftPolicy → Visits → ℕ
 probe_limit g v = capped (g.start.probes + worth g v)

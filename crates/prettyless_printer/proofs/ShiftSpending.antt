@@ -1,5 +1,5 @@
--- How many nodes probes visit in two gears: the first one is left where they visited much more than the printer, and in the second one
--- each visits two.
+-- How many nodes probes visit before a shift and after it: it comes where they visited much more than the printer, and after it each
+-- visits two.
 use Rattle.std.proofs.Common.{◌≡◌, ℕ, ◌+◌, ◌*◌, ◌-◌, ◌^◌, ◌≤◌, ◌<◌, List, [], ◌∷◌, Bool, true, length, refl, ap, sym, subst, arith, min}
 use Rattle.std.specs.List.{sum_by}
 use Rattle.prettyless_sink.specs.declared.visits.Visits.{Visits}
@@ -8,14 +8,14 @@ use Rattle.prettyless_model.specs.Tree.{Tree, size}
 use Rattle.prettyless_probe.specs.Stack.{nodes, trees}
 use Rattle.prettyless_step.specs.declared.printer.Printer.{Printer}
 use Rattle.prettyless_table.specs.Shift.{nodes_left}
-use Rattle.prettyless_printer.specs.declared.gear.Gears.{Gears}
+use Rattle.prettyless_printer.specs.declared.shift_policy.ShiftPolicy.{ShiftPolicy}
 use Rattle.prettyless_printer.specs.Points.{Standing, standing}
-use Rattle.prettyless_printer.specs.Gears.{probe_limit}
+use Rattle.prettyless_printer.specs.ShiftPolicy.{probe_limit}
 use Rattle.prettyless_printer.specs.Open.{Held, seconds}
 use Rattle.prettyless_printer.specs.Linear.{IsLinearBound, IsLinearStart}
 use Rattle.prettyless_printer.specs.Spending.{AllHaveSummaries, Left, Spends, left, left_nodes, none_left, rule_of}
 
--- How far a run in first gear has come, from n nodes: what is left allows for two visits of a node each.
+-- How far a run has come before a shift, from n nodes: what is left allows for two visits of a node each.
 pub record Within (n : ℕ) (v : Visits) (l : Left) : Type 0 where
   pub left : left_nodes l ≤ n
   pub printer : l.visits.printer + left_nodes l ≤ v.printer + n
@@ -40,7 +40,7 @@ pub within_still : {n : ℕ} {v w x : Visits} (p : Standing) (ds : List Tree) �
 within_still {n} {v} {w} {x} p ds same h = subst (λ (z : Visits). Within n v (left p ds z)) (sym same) h
 
 -- it goes on to the limit
-pub within_goes : {n : ℕ} {v : Visits} {a b : Left} (has : Bool) (o : RenderOptions) (g : Gears) (limit : ℕ) →
+pub within_goes : {n : ℕ} {v : Visits} {a b : Left} (has : Bool) (o : RenderOptions) (g : ShiftPolicy) (limit : ℕ) →
     limit ≡ probe_limit g a.visits
     → g.start ≡ v → g.next_try ≤ n → Within n v a → Spends (rule_of has o limit) a b → Within n v b
 within_goes {n} {v} {a} {b} has o g limit is start next h k =
@@ -60,7 +60,7 @@ within_goes {n} {v} {a} {b} has o g limit is start next h k =
 pub within_few : {n : ℕ} {v : Visits} {l : Left} → Within n v l → IsLinearBound 16 1000 n v l.visits
 within_few {n} {v} {l} h room = omega (arith, h.probes)
 
--- what is left in second gear visits two nodes for each visit of the printer
+-- what is left over a table visits two nodes for each visit of the printer
 pub over_table : (o : RenderOptions) {limit : ℕ} {a : Left} {w : Visits} → Spends (rule_of true o limit) a (none_left w) → o.width < 2 ^ 32
     → left_nodes a < 2 ^ 32 → AllHaveSummaries a →
     a.visits.printer + left_nodes a < 2 ^ 64 - 1 → w.probes ≤ a.visits.probes + 2 * left_nodes a

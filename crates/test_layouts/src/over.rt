@@ -1,19 +1,19 @@
-//! The gear that a render begins in.
+//! What a render begins over: the nodes of the document, or those of a table.
 use prettyless::{DocPtr, FmtWrite, RenderError, RenderOptions, Visits};
 use prettyless_printer::render::render_over_table;
 use std::alloc::Global;
 use std::fmt;
 
-// With the nodes of the document, or with those of a table.
+// The nodes that a render begins with.
 #[derive(Clone, Copy)]
-pub(crate) enum Gear {
-    First,
-    Second,
+pub(crate) enum Over {
+    Document,
+    Table,
 }
 
 // Renders a document to a text.
-pub(crate) fn render_in<'a, T: DocPtr<'a>>(
-    gear: Gear,
+pub(crate) fn render_over<'a, T: DocPtr<'a>>(
+    over: Over,
     memory: Global,
     document: &T,
     options: RenderOptions,
@@ -22,8 +22,8 @@ pub(crate) fn render_in<'a, T: DocPtr<'a>>(
 ) -> Result<(), RenderError<fmt::Error>> {
     let document = document.doc();
     let mut sink = FmtWrite::new(out);
-    match gear {
-        Gear::First => document.render_raw_counted_with(memory, options, &mut sink, visits),
-        Gear::Second => render_over_table(memory, document, options, &mut sink, visits),
+    match over {
+        Over::Document => document.render_raw_counted_with(memory, options, &mut sink, visits),
+        Over::Table => render_over_table(memory, document, options, &mut sink, visits),
     }
 }

@@ -13,7 +13,7 @@ const GRACE: u64 = 1000;
 const ROOM: u64 = 4;
 
 /// Whether a table is of use at a width: its summaries hold below 2^32.
-pub(crate) fn has_gears(width: usize) -> bool
+pub(crate) fn can_shift(width: usize) -> bool
     ensures { IsTrue result ↔ (width < 2 ^ 32) }
 {
     width <= u32::MAX as usize
@@ -21,23 +21,23 @@ pub(crate) fn has_gears(width: usize) -> bool
 
 /// What a render has to know to shift.
 #[derive(Clone, Copy)]
-pub struct Gears {
+pub struct ShiftPolicy {
     /// The visits before the render.
     pub start: Visits,
     /// Probes visit so many nodes before a table is made.
     pub next_try: u64,
 }
 
-impl Gears {
+impl ShiftPolicy {
     ghost use Rattle.std.specs.Prelude.{IsFalse};
-    ghost use Rattle.prettyless_printer.specs.Gears.{probe_limit};
+    ghost use Rattle.prettyless_printer.specs.ShiftPolicy.{probe_limit};
 
     /// Before a render. A table is made as soon as it is worth it.
     pub(crate) fn new(start: Visits) -> Self
         ensures first { result ≡ record { start = start; next_try = 0 } }
         ensures within { start.probes ≤ probe_limit result start }
     {
-        Gears { start, next_try: 0 }
+        ShiftPolicy { start, next_try: 0 }
     }
 
     /// How many nodes probes may visit before a table is worth it.
