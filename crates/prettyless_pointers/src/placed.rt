@@ -26,7 +26,7 @@ pub trait PlacedDoc<'a, D: DocPlace<'a, Doc = Self>>: DocPtr<'a> {
     fn nil(place: &'a D) -> Result<Self, BuildError>
         ensures { to.Builds result Self.tree Nil };
 
-    /// A document that cannot be laid: a render that comes to it fails.
+    /// A document that cannot be laid: a render that reaches it fails.
     fn fail(place: &'a D) -> Result<Self, BuildError>
         ensures { to.Builds result Self.tree Fail };
 
@@ -109,7 +109,7 @@ pub trait PlacedDoc<'a, D: DocPlace<'a, Doc = Self>>: DocPtr<'a> {
         ensures { to.Builds result Self.tree (Union (Self.tree self) (built Self.tree that.entry)) };
 }
 
-// A pointer to what a call has built, or its error. Each call of a builder is handed to it, so that none unwraps its own.
+// A pointer to what a call has built, or its error. Each call of a builder is passed to it, so that none unwraps its own.
 #[inline(always)]
 fn placed<'a, D: DocPlace<'a>>(
     made: Result<DocBuilder<'a, D>, BuildError>,

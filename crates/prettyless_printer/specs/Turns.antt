@@ -26,7 +26,7 @@ ForWholes p out goal =
     (whole : Outcome) (limit : ℕ) (below : List Task) (old : List ℕ) → length below < length p.tasks →
     Inside p.options whole limit below old p.tasks (state_at p) out → goal whole limit below old
 
--- what holds after a turn: the work is inside the whole, or the whole fails after what was written, or a choice waits
+-- what holds after a turn: the work is inside the whole, or the whole fails after what was written, or a choice comes next
 abbrev pub TurnHolds : {N : Type 0} → (N → Tree) → RenderOptions → Standing → List ℕ → TurnResult N → Outcome → ℕ → List Task
     → List ℕ → Type 0
 TurnHolds f o q out Complete whole limit below old = Inside o whole limit below old q.tasks (state_at q) out

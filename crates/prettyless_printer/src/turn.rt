@@ -1,4 +1,4 @@
-//! A turn: a command is taken and stepped, and so is each that comes in hand; the last one is written.
+//! A turn: the next command is stepped, and so is each node that a step leads to; the last one is written.
 ghost use Rattle.std.specs.Prelude.{◌≡◌, ◌<◌, [], length, IfOk, OnOk};
 ghost use Rattle.prettyless_step.specs.Printing.{tasks_of};
 ghost use Rattle.prettyless_probe.specs.Sums.{IsSummed};
@@ -26,8 +26,8 @@ fn count_more(visits: &mut Visits, count: u64)
     visits.printer = visits.printer.saturating_add(count);
 }
 
-/// Takes the next command, goes on with what is in hand down to a node that leads to no other, and writes what that one gives.
-/// Each of these nodes is a visit, and so is a payload that a step rejects. Before a node that asks a probe it stops if probes have
+/// Takes the next command, steps down to a node that leads to no other, and writes what that one gives.
+/// Each of these nodes is a visit, and so is a payload that a step rejects. Before a node that needs a probe it stops if probes have
 /// visited more nodes than the limit.
 #[inline(always)]
 pub fn turn<N: Walk, W: Render>(

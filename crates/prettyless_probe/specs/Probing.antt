@@ -1,4 +1,4 @@
--- What a probe comes to at one node, and how many nodes a probe may visit.
+-- The result of a probe at one node, and how many nodes a probe may visit.
 use Rattle.std.specs.Prelude.{◌≡◌, ℕ, ◌+◌, ◌*◌, ◌-◌, ◌^◌, ◌<◌, ◌≤◌, min, max, Bool, true, false, IsTrue, List, [], ◌∷◌, length, Option}
 use Rattle.std.specs.Prelude.{Some, None}
 use Rattle.prettyless_model.specs.Tree.{Tree, Group, PartialUnion, size}
@@ -17,25 +17,25 @@ use Rattle.prettyless_probe.specs.declared.probe.FrameStep.TheVariants as frame_
 use Rattle.prettyless_probe.specs.declared.probe.ProbeStep.{ProbeStep}
 use Rattle.prettyless_probe.specs.declared.probe.ProbeStep.TheVariants.{Answer, Descend, Silent}
 
--- an answer, or nothing that is looked at next
+-- an answer, or nothing that is read next
 abbrev pub read_of : {N : Type 0} → Option Bool → ProbeStep N
 read_of (Some b) = Answer b
 read_of None = Silent
 
--- where this is an answer, x is that answer; else x is what comes, from this column on, of the node that is looked at next, if
+-- where this is an answer, x is that answer; else x is what comes, from this column on, of the node that is read next, if
 -- there is one, and of the tasks after it
 abbrev pub ReadsAs : {N : Type 0} → (N → Tree) → ℕ → ProbeStep N → Bool → List Task → Column → Bool → Type 0
 ReadsAs f width (Answer b) x ts c p = x ≡ b
 ReadsAs f width (Descend i m n) x ts c p = x ≡ tasks_fit width (make_task i m (f n) ∷ ts) c p
 ReadsAs f width Silent x ts c p = x ≡ tasks_fit width ts c p
 
--- how many nodes the node that is looked at next has
+-- how many nodes the node that is read next has
 abbrev pub nodes_next : {N : Type 0} → (N → Tree) → ProbeStep N → ℕ
 nodes_next f (Answer b) = 0
 nodes_next f (Descend i m n) = size (f n)
 nodes_next f Silent = 0
 
--- what is come to at a node, where the node that is looked at next is one of the stack's topmost frame
+-- the result at a node, where the node that is read next is one of the stack's topmost frame
 abbrev pub read_in : {N : Type 0} → Stack N → FrameStep N → ProbeStep N
 read_in s (frame_step.Answer b) = Answer b
 read_in s (frame_step.Descend n) = Descend s.here.indent s.here.mode n
@@ -59,13 +59,13 @@ is_fit Exceeds = false
 is_fit Fits = true
 is_fit FitsAsTexts = true
 
--- what a probe has still to do at what it has come to, so that it ends: twice the nodes, and a step more where it goes on with nothing
+-- what a probe has still to do after a result, so that it ends: twice the nodes, and a step more where it goes on with nothing
 abbrev pub pace : {N : Type 0} → (N → Tree) → ProbeStep N → ℕ
 pace f (Answer b) = 0
 pace f (Descend i m n) = 2 * size (f n)
 pace f Silent = 1
 
--- how many nodes the probe that a node asks in a mode may visit, where k nodes follow the node
+-- how many nodes the probe that a node needs in a mode may visit, where k nodes follow the node
 abbrev pub asked : Tree → Mode → ℕ → ℕ
 asked (Group d) m k = by_mode m (size d + k) 0
 asked (PartialUnion l r) m k = by_mode m (size l + k) 0
@@ -79,7 +79,7 @@ RisesBy k old new = min (old + k) (2 ^ 64 - 1) ≤ new
 abbrev pub Few : Bool → ℕ → Tree → List Task → ℕ → ℕ → ℕ → Type 0
 Few has width d ts k old new = width < 2 ^ 32 → AllSummed has d ts → new ≤ old + 2 * k
 
--- a probe has a sum to read at most: nothing comes next, it has no tasks of its own, and those that follow are taken up as one
+-- a probe has a sum to read at most: nothing comes next, it has no tasks of its own, and those that follow are combined
 pub record OneLeft {N : Type 0} (f : N → Tree) (read : ProbeStep N) (mine under : List Task) (sums : List Below) : Type 0 where
   pub next : nodes_next f read ≡ 0
   pub own : mine ≡ []

@@ -28,7 +28,7 @@ use prettyless_sink::visits::one_more;
 use std::alloc::AllocError;
 use std::marker::Model;
 
-/// The state of a line where a probe has come to.
+/// The line at the place that a probe has reached.
 #[derive(Clone, Copy)]
 pub struct Line {
     pub column: Column,
@@ -144,7 +144,7 @@ fn read_weak_line(width: usize, line: &Line, mode: Mode) -> Option<bool>
     Some(read_line_end(width, line, mode))
 }
 
-/// What a probe comes to at one node: an answer, the node that it looks at next, or neither.
+/// The result of a probe at one node: an answer, the node that it reads next, or neither.
 #[derive(Clone, Copy)]
 pub enum ProbeStep<N> {
     /// Whether the line stays within the width.
@@ -193,7 +193,7 @@ fn branch<N: Copy>(mode: Mode, first: N, second: N) -> N
     either(mode, second, first)
 }
 
-// Looks at one node. The nodes below it are looked at next: the first is answered, and a second one is now on the stack.
+// Reads one node. The nodes below it are read next: the first is answered, and a second one is now on the stack.
 #[inline(always)]
 #[tactic(auto, using(crate::proofs::Probes::looks))]
 pub(crate) fn probe_one<N: Walk>(
@@ -263,7 +263,7 @@ pub(crate) fn probe_one<N: Walk>(
     }
 }
 
-// Looks at one node that probes seldom meet. It is not copied into their loop, whose registers are for other nodes.
+// Reads one node that probes seldom meet. It is not copied into their loop, whose registers are for other nodes.
 #[cold]
 #[inline(never)]
 fn read_other<N: Walk>(
@@ -284,7 +284,7 @@ fn read_other<N: Walk>(
     probe_one(width, line, indent, mode, node, stack)
 }
 
-/// What a probe comes to at one node, where the topmost frame of its stack is that of the node it looks at.
+/// The result of a probe at one node, where the topmost frame of its stack is that of the node it reads.
 #[derive(Clone, Copy)]
 enum FrameStep<N> {
     /// Whether the line stays within the width.
@@ -316,7 +316,7 @@ fn with_other(is_texts: bool, mode: Mode) -> bool
     }
 }
 
-// Looks at one node that probes seldom meet. One that is met flat is no text.
+// Reads one node that probes seldom meet. One that is met flat is no text.
 #[inline(always)]
 fn visit_other<N: Walk>(
     width: usize,
@@ -356,7 +356,7 @@ fn visit_other<N: Walk>(
     }
 }
 
-// Looks at one node, of the indent and the mode of the topmost frame.
+// Reads one node, of the indent and the mode of the topmost frame.
 #[inline(always)]
 fn visit_one<N: Walk>(
     width: usize,
@@ -408,7 +408,7 @@ fn visit_one<N: Walk>(
     }
 }
 
-// The next node that the probe looks at: one of its own, and then the printer's commands downwards, each in Break. The topmost frame
+// The next node that the probe reads: one of its own, and then the printer's commands downwards, each in Break. The topmost frame
 // of its stack is that of this node then.
 #[inline(always)]
 #[tactic(auto, using(crate::proofs::Stacks::below_steps))]

@@ -14,16 +14,16 @@ pub struct Printer<N> {
     pub within: bool,
     /// The nodes that are left.
     pub commands: Stack<N>,
-    /// The probe's own list of work, kept for its memory.
+    /// The probe's own stack, which keeps its memory between probes.
     pub scratch: Stack<N>,
-    /// What is left of a document that is laid as its texts, kept for its memory.
+    /// What is left of a document that is laid as its texts, which keeps its memory between documents.
     pub flat: Vec<N>,
     /// The line suffixes that were visited.
     pub queue: Queue<N>,
 }
 
-/// What the visit of one node asks for: nothing, a node to go on with at an indent, in the same mode or flat, a piece to be
-/// written, or a choice between two branches at an indent; or the node fails.
+/// The result of the visit of one node: nothing to write, a node to descend to at an indent, in the same mode or flat, a piece to
+/// write, or a choice between two branches at an indent; or the node fails.
 #[derive(Drop)]
 pub enum StepResult<'v, N> {
     Silent,
@@ -33,7 +33,7 @@ pub enum StepResult<'v, N> {
     DescendTexts(usize, N),
     Emit(Piece<'v>),
     Failed,
-    /// Nothing: the node asks a probe, and probes are past their limit.
+    /// Nothing: the node needs a probe, and probes are past their limit.
     Shift,
     Choice(usize, N, N),
 }

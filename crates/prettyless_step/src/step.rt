@@ -205,7 +205,7 @@ fn is_past_limit(probes: u64, limit: u64) -> bool
     probes > limit
 }
 
-// A group, whose document is laid flat where it fits. It is not asked for where probes are past the limit.
+// A group, whose document is laid flat where it fits. No probe is started where probes are past the limit.
 #[inline(always)]
 #[tactic(auto, using(prettyless_probe::proofs::Sizes::size_positive))]
 fn group<N: Walk>(
@@ -285,7 +285,7 @@ fn partial_union<N: Walk>(
     Ok(StepResult::Descend(indent, chosen))
 }
 
-// A union in Break: the metrics of its first branch decide, or a trial is asked for. A payload that they reject is a visit.
+// A union in Break: the metrics of its first branch decide, or a trial is needed. A payload that they reject is a visit.
 #[inline(always)]
 fn union<N: Walk>(
     printer: &mut Printer<N>,
@@ -317,8 +317,8 @@ fn union<N: Walk>(
 
 /// Visits one node at an indent in a mode, with the printer's commands following it. It answers `Shift`, and changes
 /// nothing, where the node
-/// asks a probe and probes have visited more nodes than the limit. What a probe visits is counted in `visits`, and so is a payload that its
-/// metrics reject as the first branch of a union; the node itself is not.
+/// needs a probe and probes have visited more nodes than the limit. What a probe visits is counted in `visits`, and so is a payload that
+/// its metrics reject as the first branch of a union; the node itself is not.
 #[inline(always)]
 #[tactic(auto, using(crate::proofs::Queues::queues))]
 pub fn step<'v, N: Walk>(

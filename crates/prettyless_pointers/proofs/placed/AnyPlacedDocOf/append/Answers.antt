@@ -9,7 +9,7 @@ use Rattle.prettyless_build.proofs.Appended.{something}
 use Rattle.prettyless_pointers.specs.Placed.{Places}
 use Rattle.prettyless_pointers.proofs.placed.AnyPlacedDocOf.append.Goals as goal
 
--- where the other call fails for want of memory alone, so does this one
+-- where the other call fails only by a refusal of memory, so does this one
 memory_alone : {B T : Type 0} (made : Result B BuildError) (doc : B → BuildDoc T) (tree : T → Tree) (result : Result T BuildError)
     → Places made doc tree result → IfErr made IsMemory → IfErr result IsMemory
 memory_alone (Ok b) doc tree result h k = h.ok.err
