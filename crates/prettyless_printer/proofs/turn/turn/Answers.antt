@@ -204,24 +204,22 @@ pub returns-in-Err-make_room-clause-advances : goal.returns-in-Err-make_room-cla
 returns-in-Err-make_room-clause-advances g c =
     let f = g.N.Walk.tree in
     let k = c.one_more-in-Ok-DescendTexts.result in
-    let x = visited_more k c.step.new.visits in
     let hand = c.down.invariant.hand in
     let more = c.one_more-in-Ok-DescendTexts.ensures.one in
     let one = visit f c.down.count c.down.visits c.down.printer c.step.new.visits k hand more c.step.ensures.printer
     c.step.ensures.rises c.step.ensures.counted in
     rw c.count_more-in-Ok-DescendTexts.ensures.more
-    (advances_refused f (standing f c.make_room.new.printer) x c.in-Err-make_room.e hand one)
+    (advances_refused hand one)
 
 pub returns-in-Err-make_room-clause-spends : goal.returns-in-Err-make_room-clause-spends
 returns-in-Err-make_room-clause-spends g c =
     let f = g.N.Walk.tree in
     let k = c.one_more-in-Ok-DescendTexts.result in
-    let x = visited_more k c.step.new.visits in
     let hand = c.down.invariant.hand in
     let more = c.one_more-in-Ok-DescendTexts.ensures.one in
     let one = visit f c.down.count c.down.visits c.down.printer c.step.new.visits k hand more c.step.ensures.printer
     c.step.ensures.rises c.step.ensures.counted in
-    let took = takes f g.N.Walk.HAS_SUMMARIES c.args.limit c.down.printer x hand one
+    let took = takes f c.down.printer hand one
     (c.in-Ok-DescendTexts.ensures.within (subst IsStepped (sym c.in-Ok-DescendTexts.field-0-is) tt)) c.step.ensures.counted
     c.step.ensures.few c.down.invariant.spends in
     rw c.count_more-in-Ok-DescendTexts.ensures.more
