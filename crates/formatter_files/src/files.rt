@@ -166,11 +166,11 @@ fn rewrite<R: AllocGlobal + Files + Eprint, F: Formatter>(
             Ok(Ending::Good)
         }
         Ok(Verdict::Refused) => {
-            layout.give_up();
+            layout.discard();
             Ok(Ending::Refused)
         }
         Err(LayoutError::Text(error) | LayoutError::Writer(error)) => {
-            layout.give_up();
+            layout.discard();
             Err(error)
         }
     }

@@ -121,6 +121,6 @@ pub fn finish<R: Files>(rt: &R, new: NewFile<R::File>) -> io::Result<()> {
 }
 
 /// Removes the new file. The old one is as it was.
-pub fn give_up<R: Files>(rt: &R, new: NewFile<R::File>) {
+pub fn discard<R: Files>(rt: &R, new: NewFile<R::File>) {
     let _ = fs::remove_file(rt, new.beside.as_path());
 }

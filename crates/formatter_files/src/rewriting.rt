@@ -1,6 +1,6 @@
 //! Replacing a file by its layout where they differ, while the layout is made.
 use crate::comparing::Comparing;
-use crate::replace::{NewFile, begin, finish, give_up};
+use crate::replace::{NewFile, begin, discard, finish};
 use std::fs::Files;
 use std::io;
 use std::io::Write;
@@ -39,7 +39,7 @@ impl<'r, R: Files + AllocGlobal> Rewriting<'r, R> {
     pub(crate) fn finish(mut self) -> io::Result<()> {
         if self.new.is_none() && !self.same.is_whole() {
             if let Err(error) = self.differ(&[]) {
-                self.give_up();
+                self.discard();
                 return Err(error);
             }
         }
@@ -51,10 +51,10 @@ impl<'r, R: Files + AllocGlobal> Rewriting<'r, R> {
     }
 
     /// Leaves the file as it was, and no file beside it.
-    pub(crate) fn give_up(self) {
+    pub(crate) fn discard(self) {
         let Rewriting { rt, new, .. } = self;
         if let Some(new) = new {
-            give_up(rt, new);
+            discard(rt, new);
         }
     }
 }

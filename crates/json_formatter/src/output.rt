@@ -60,7 +60,7 @@ fn write_text<W: Write>(writer: &mut W, text: &[u8]) -> Result<(), FormatError>
 }
 
 // Gives the writer what is held and a text that does not fit after it.
-fn hand_on<W: Write>(
+fn write_held<W: Write>(
     writer: &mut W,
     held: &mut ArrayString<HELD>,
     text: &str,
@@ -90,7 +90,7 @@ fn put<W: Write>(
 {
     match held.try_push_str(text) {
         Ok(()) => Ok(()),
-        Err(_) => hand_on(writer, held, text),
+        Err(_) => write_held(writer, held, text),
     }
 }
 

@@ -19,7 +19,7 @@ use Rattle.prettyless_printer.specs.Turns.{Advances, ForWholes, TurnHolds, Advan
 use Rattle.prettyless_printer.specs.Trials.{Tries}
 use Rattle.prettyless_printer.specs.Visits.{Plain, Rise, CountsAtMost}
 use Rattle.prettyless_printer.specs.AtLeast.{CountsAtLeast, stack_tally}
-use Rattle.prettyless_printer.specs.Renders.{rest_of, Stopped, WorksOff}
+use Rattle.prettyless_printer.specs.Renders.{rest_of, Stopped, RunsCommands}
 use Rattle.prettyless_printer.specs.Paths.{Run, Path, PathToChoice, Broke, run_of}
 use Rattle.prettyless_printer.proofs.Progresses.{inside_beginning, inside_end, choice_next_beginning}
 use Rattle.prettyless_printer.proofs.Standings.{Pushed}
@@ -359,7 +359,7 @@ no_tasks (t ∷ ts) l = absurd (omega arith)
 
 -- it ends
 pub run_ends : {A E : Type 0} (fails : E → Type 0) {a b : Point} (x : A) → Path (run_of a) b → length b.printer.tasks ≤ 0
-    → WorksOff fails a b (Ok x)
+    → RunsCommands fails a b (Ok x)
 run_ends fails {b} x p l = record {
   options = p.options;
   done = no_tasks b.printer.tasks l;
@@ -387,7 +387,7 @@ broke_anyhow fails (Memory e) h = record { same_lender = h.same_lender; bytes = 
 
 -- it ended in an error
 pub run_broke_off : {A E : Type 0} (fails : E → Type 0) {a b : Point} (e : RenderError E) → Broke fails (run_of a) e b
-    → WorksOff {A = A} {E = E} fails a b (Err e)
+    → RunsCommands {A = A} {E = E} fails a b (Err e)
 run_broke_off fails e h = record {
   options = tt;
   done = tt;

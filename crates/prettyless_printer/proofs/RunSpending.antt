@@ -11,7 +11,7 @@ use Rattle.prettyless_printer.specs.Points.{Standing, state_at, Seen, Point}
 use Rattle.prettyless_printer.specs.Visits.{Plain}
 use Rattle.prettyless_printer.specs.Open.{BeginsTrial, Held, Opens, seconds}
 use Rattle.prettyless_printer.specs.Paths.{Chooses, Path, PathToChoice, run_of}
-use Rattle.prettyless_printer.specs.Renders.{Continues, WorksOff}
+use Rattle.prettyless_printer.specs.Renders.{Continues, RunsCommands}
 use Rattle.prettyless_printer.specs.Runs.{RunReachesChoice}
 use Rattle.prettyless_printer.specs.Spending.{IsPlainChoice, Left, Rule, Spends, SpendsAs, left, left_choice, rule_of}
 use Rattle.prettyless_printer.proofs.Spending.{spends_same, spends_then}
@@ -75,7 +75,7 @@ opens_spends {r} {p} {i} {x} {y} {v} none opens begins h =
 
 -- without line suffixes nothing is pending where the commands are laid
 pub nothing_pending : {A E : Type 0} (fails : E → Type 0) {a b c : Point} (x : A) → Continues a b → Plain a.printer
-    → WorksOff {A = A} {E = E} fails b c (Ok x) → 0 < length (state_at c.printer).pending → ⊥
+    → RunsCommands {A = A} {E = E} fails b c (Ok x) → 0 < length (state_at c.printer).pending → ⊥
 nothing_pending fails x h plain k some = omega (arith, some, ap length (k.at_most (h.at_most plain).0).0.pending)
 
 -- a run has reached a choice without line suffixes

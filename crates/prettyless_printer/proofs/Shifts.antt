@@ -24,7 +24,7 @@ use Rattle.prettyless_printer.specs.AtLeast.{CountsAtLeast, nothing_left, stack_
 use Rattle.prettyless_printer.specs.Open.{Held, all_held, held}
 use Rattle.prettyless_printer.specs.Runs.{RunReaches, RunReachesChoice, InChoice, RunsToEndOrStops, StopsPastLimit}
 use Rattle.prettyless_printer.specs.Paths.{Chooses, Path, PathToChoice, run_of}
-use Rattle.prettyless_printer.specs.Renders.{Continues, Finishing, FlushesEnd, Rendered, RunsToEnd, WorksOff, rest_of, to_end}
+use Rattle.prettyless_printer.specs.Renders.{Continues, Finishing, FlushesEnd, Rendered, RunsToEnd, RunsCommands, rest_of, to_end}
 use Rattle.prettyless_printer.proofs.Renders.{ending_again, ending_done, ending_stopped, finishing_begins, finishing_ends}
 use Rattle.prettyless_printer.proofs.Renders.{finishing_stopped, round_less, Ending}
 use Rattle.prettyless_printer.proofs.PathSteps as steps
@@ -201,7 +201,7 @@ path_continues {a} {b} p = record {
 -- # The rounds of the end
 
 -- the commands ended in an error
-pub work_stopped : {A B E : Type 0} (fails : E → Type 0) {a b : Point} (e : RenderError E) → WorksOff {A = A} fails a b (Err e)
+pub work_stopped : {A B E : Type 0} (fails : E → Type 0) {a b : Point} (e : RenderError E) → RunsCommands {A = A} fails a b (Err e)
     → RunsToEnd {A = B} fails a b (Err e)
 work_stopped {B} fails {a} {b} e h = record {
   same_lender = h.same_lender;
@@ -214,7 +214,7 @@ work_stopped {B} fails {a} {b} e h = record {
 }
 
 -- what the commands left at the end
-work_ending : {A E : Type 0} (fails : E → Type 0) {a b : Point} (x : A) → WorksOff fails a b (Ok x)
+work_ending : {A E : Type 0} (fails : E → Type 0) {a b : Point} (x : A) → RunsCommands fails a b (Ok x)
     → (z : (bytes : List ℕ) × (rest_of a.printer ≡ Done bytes (state_at b.printer)) × (known b.sink.bytes ≡ known a.sink.bytes ++ bytes)
     × (b.sink.failures ≡ a.sink.failures)) →
     Ending (to_end a.printer) a.printer.options b.printer (known a.sink.bytes) (known b.sink.bytes)
@@ -222,7 +222,7 @@ work_ending fails {a} x h z =
     finishing_ends (finishing_begins a.printer (known a.sink.bytes)) z.1 z.2
 
 -- the commands are laid, and nothing waits: that is all
-pub work_ends : {A B E : Type 0} (fails : E → Type 0) {a b : Point} (x : A) (y : B) → WorksOff fails a b (Ok x)
+pub work_ends : {A B E : Type 0} (fails : E → Type 0) {a b : Point} (x : A) (y : B) → RunsCommands fails a b (Ok x)
     → length (state_at b.printer).pending ≤ 0 → RunsToEnd fails a b (Ok y)
 work_ends fails x y h none = record {
   same_lender = h.same_lender;
@@ -237,7 +237,7 @@ work_ends fails x y h none = record {
 
 -- a round takes work away
 pub round_work_falls : {A B E : Type 0} (fails : E → Type 0) {a b : Point} {q : Standing} {t : Seen} (x : A) (y : B)
-    → WorksOff {A = A} {E = E} fails a b (Ok x) → FlushesEnd {A = B} {E = E} b.printer q b.sink t (Ok y) →
+    → RunsCommands {A = A} {E = E} fails a b (Ok x) → FlushesEnd {A = B} {E = E} b.printer q b.sink t (Ok y) →
     0 < length (state_at b.printer).pending → work_at (point_at q t b.visits) < work_at a
 round_work_falls fails {b} x y h k some =
     omega (
@@ -250,7 +250,7 @@ round_work_falls fails {b} x y h k some =
 
 -- what waits is laid next
 pub round_continues : {A B E : Type 0} (fails : E → Type 0) {a b : Point} {q : Standing} {t : Seen} (x : A) (y : B)
-    → WorksOff {A = A} {E = E} fails a b (Ok x) → FlushesEnd {A = B} {E = E} b.printer q b.sink t (Ok y) →
+    → RunsCommands {A = A} {E = E} fails a b (Ok x) → FlushesEnd {A = B} {E = E} b.printer q b.sink t (Ok y) →
     0 < length (state_at b.printer).pending → Continues a (point_at q t b.visits)
 round_continues fails x y h k some = record {
   options = k.options ∙ h.options;
@@ -266,7 +266,7 @@ round_continues fails x y h k some = record {
 
 -- the gap before what waits ended in an error
 pub round_stopped : {A B C E : Type 0} (fails before : E → Type 0) {a b : Point} {q : Standing} {t : Seen} (x : A) (e : RenderError E)
-    → WorksOff {A = A} {E = E} before a b (Ok x) → FlushesEnd {A = B} {E = E} b.printer q b.sink t (Err e) →
+    → RunsCommands {A = A} {E = E} before a b (Ok x) → FlushesEnd {A = B} {E = E} b.printer q b.sink t (Err e) →
     0 < length (state_at b.printer).pending → RunsToEnd {A = C} fails a (point_at q t b.visits) (Err e)
 round_stopped {C} fails before {t} x e h k some = record {
   same_lender = k.same_lender ∙ h.same_lender;

@@ -83,7 +83,7 @@ pub record Continues (a b : Point) : Type 0 where
   pub at_least : CountsAtLeast (stack_tally a.printer 0) (stack_tally b.printer 0) a.visits b.visits
 
 -- A run until no command is left.
-pub record WorksOff {A E : Type 0} (fails : E → Type 0) (a b : Point) (r : Result A (RenderError E)) : Type 0 where
+pub record RunsCommands {A E : Type 0} (fails : E → Type 0) (a b : Point) (r : Result A (RenderError E)) : Type 0 where
   -- the options are the same
   pub options : OnOk r (b.printer.options ≡ a.printer.options)
   -- no command is left

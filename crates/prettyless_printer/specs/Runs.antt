@@ -9,7 +9,7 @@ use Rattle.prettyless_printer.specs.Points.{Seen, Point, point_at}
 use Rattle.prettyless_printer.specs.Turns.{IsPastLimit}
 use Rattle.prettyless_printer.specs.Trials.{make_trial}
 use Rattle.prettyless_printer.specs.Paths.{Chooses, PathToChoice, run_of}
-use Rattle.prettyless_printer.specs.Renders.{Continues, RunsToEnd, WorksOff}
+use Rattle.prettyless_printer.specs.Renders.{Continues, RunsToEnd, RunsCommands}
 use Rattle.prettyless_printer.specs.Open.{Held, Open}
 
 -- A choice between two branches at an indent came next at a, and trials are open from there to b. They write to a buffer, which was
@@ -53,10 +53,10 @@ pub record StopsPastLimit (limit : ℕ) (a : Point) (us : List Held) (buffer : S
   pub past : IsPastLimit limit b.visits.probes
 
 -- a run until no command is left, or probes are past a limit
-abbrev pub WorksOffOrStops : {E : Type 0} → (E → Type 0) → ℕ → Point → List Held → Seen → Point → Result RunResult (RenderError E) → Type 0
-WorksOffOrStops fails limit a us buffer b (Ok run_result.Finished) = (us ≡ []) × WorksOff fails a b (Ok run_result.Finished)
-WorksOffOrStops fails limit a us buffer b (Ok run_result.Shift) = StopsPastLimit limit a us buffer b
-WorksOffOrStops fails limit a us buffer b (Err e) = WorksOff {A = RunResult} fails a b (Err e)
+abbrev pub RunsCommandsOrStops : {E : Type 0} → (E → Type 0) → ℕ → Point → List Held → Seen → Point → Result RunResult (RenderError E) → Type 0
+RunsCommandsOrStops fails limit a us buffer b (Ok run_result.Finished) = (us ≡ []) × RunsCommands fails a b (Ok run_result.Finished)
+RunsCommandsOrStops fails limit a us buffer b (Ok run_result.Shift) = StopsPastLimit limit a us buffer b
+RunsCommandsOrStops fails limit a us buffer b (Err e) = RunsCommands {A = RunResult} fails a b (Err e)
 
 -- a run to the end, or until probes are past a limit
 abbrev pub RunsToEndOrStops : {E : Type 0} → (E → Type 0) → ℕ → Point → List Held → Seen → Point → Result RunResult (RenderError E) → Type 0

@@ -8,11 +8,11 @@ ghost use Rattle.prettyless_printer.specs.Renders.{FlushesEnd, RunsToEnd};
 ghost use Rattle.prettyless_printer.specs.Open.{all_held, seconds};
 ghost use Rattle.prettyless_printer.specs.Visits.{Plain};
 ghost use Rattle.prettyless_printer.specs.Spending.{IsPlainChoice, Spends, SpendsAs, left, left_choice, none_left, rule_of};
-ghost use Rattle.prettyless_printer.specs.Runs.{RunReaches, InChoice, RunsToEndOrStops, ChoosesOrStops, WorksOffOrStops};
+ghost use Rattle.prettyless_printer.specs.Runs.{RunReaches, InChoice, RunsToEndOrStops, ChoosesOrStops, RunsCommandsOrStops};
 
 use crate::answer::{RunResult, TrialResult, TurnResult};
 use crate::buffer::Buffer;
-use crate::trial::{Trials, go_on_trying, open_trial};
+use crate::trial::{Trials, open_trial, resume_trial};
 use crate::turn::turn;
 use prettyless_model::mode::Mode;
 use prettyless_probe::walk::Walk;
@@ -23,8 +23,8 @@ use prettyless_sink::visits::Visits;
 use prettyless_step::pending::{is_pending, take_pending};
 use prettyless_step::printer::Printer;
 
-// Goes on with a choice whose trials are open. A branch that is kept goes to the sink in one piece.
-fn go_on_choosing<N: Walk, W: Render>(
+// Resumes a choice whose trials are open. A branch that is kept goes to the sink in one piece.
+fn resume_choice<N: Walk, W: Render>(
     printer: &mut Printer<N>,
     trials: &mut Trials<N>,
     buffer: &mut Buffer,
@@ -46,7 +46,7 @@ fn go_on_choosing<N: Walk, W: Render>(
         (left (standing N.tree printer.new) (seconds (all_held N.tree trials.new.open.items)) visits.new) result }
     ensures summed { OnOk result (IsSummed N.HAS_SUMMARIES N.tree printer.new.commands) }
 {
-    match go_on_trying(printer, trials, buffer, limit, visits) {
+    match resume_trial(printer, trials, buffer, limit, visits) {
         Err(e) => Err(RenderError::Memory(e)),
         Ok(TrialResult::Shift) => Ok(RunResult::Shift),
         Ok(TrialResult::Rejected) => Ok(RunResult::Finished),
@@ -84,13 +84,13 @@ fn choose<N: Walk, W: Render>(
     buffer.text.clear();
     match open_trial(printer, trials, buffer, indent, first, second) {
         Err(e) => Err(RenderError::Memory(e)),
-        Ok(()) => go_on_choosing(printer, trials, buffer, out, limit, visits),
+        Ok(()) => resume_choice(printer, trials, buffer, out, limit, visits),
     }
 }
 
-// Takes commands until none is left, or before a node probes are past the limit. No trial is open between two of them: line suffixes
+// Runs commands until none is left, or before a node probes are past the limit. No trial is open between two of them: line suffixes
 // that were laid are forgotten there.
-fn work_off<N: Walk, W: Render>(
+fn run_commands<N: Walk, W: Render>(
     printer: &mut Printer<N>,
     trials: &mut Trials<N>,
     buffer: &mut Buffer,
@@ -100,7 +100,7 @@ fn work_off<N: Walk, W: Render>(
 ) -> Result<RunResult, RenderError<W::Error>>
     requires none { trials.old.open.items ≡ [] }
     requires summed { IsSummed N.HAS_SUMMARIES N.tree printer.old.commands }
-    ensures works { WorksOffOrStops (W.document_errors out.new) limit
+    ensures works { RunsCommandsOrStops (W.document_errors out.new) limit
         (point N.tree printer.old (seen W.bytes W.failures W.lender out.old) visits.old)
         (all_held N.tree trials.new.open.items) (buffer_seen buffer.new)
         (point N.tree printer.new (seen W.bytes W.failures W.lender out.new) visits.new) result }
@@ -171,7 +171,7 @@ fn run_to_end<N: Walk, W: Render>(
     ensures summed { OnOk result (IsSummed N.HAS_SUMMARIES N.tree printer.new.commands) }
 {
     'rounds: loop {
-        match work_off(printer, trials, buffer, out, limit, visits)? {
+        match run_commands(printer, trials, buffer, out, limit, visits)? {
             RunResult::Shift => return Ok(RunResult::Shift),
             RunResult::Finished => {
                 if !is_pending(printer) {
@@ -183,8 +183,8 @@ fn run_to_end<N: Walk, W: Render>(
     }
 }
 
-/// Goes on with the open trials, if there are any, and then to the end, as long as probes are not past the limit.
-pub(crate) fn go_on<N: Walk, W: Render>(
+/// Resumes the open trials, if there are any, and then runs to the end, as long as probes are not past the limit.
+pub(crate) fn resume<N: Walk, W: Render>(
     printer: &mut Printer<N>,
     trials: &mut Trials<N>,
     buffer: &mut Buffer,
@@ -209,13 +209,13 @@ pub(crate) fn go_on<N: Walk, W: Render>(
     if trials.is_empty() {
         return run_to_end(printer, trials, buffer, out, limit, visits);
     }
-    match go_on_choosing(printer, trials, buffer, out, limit, visits)? {
+    match resume_choice(printer, trials, buffer, out, limit, visits)? {
         RunResult::Finished => run_to_end(printer, trials, buffer, out, limit, visits),
         RunResult::Shift => Ok(RunResult::Shift),
     }
 }
 
-/// Goes on to the end, however much probes visit.
+/// Runs to the end, however much probes visit.
 pub(crate) fn finish<N: Walk, W: Render>(
     printer: &mut Printer<N>,
     trials: &mut Trials<N>,
@@ -236,7 +236,7 @@ pub(crate) fn finish<N: Walk, W: Render>(
         RunsToEnd (W.document_errors out.new) a
         (point N.tree printer.new (seen W.bytes W.failures W.lender out.new) visits.new) result }
 {
-    match go_on(printer, trials, buffer, out, u64::MAX, visits)? {
+    match resume(printer, trials, buffer, out, u64::MAX, visits)? {
         RunResult::Finished => Ok(()),
         RunResult::Shift => unreachable!(),
     }

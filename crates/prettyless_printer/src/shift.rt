@@ -18,7 +18,7 @@ ghost use Rattle.prettyless_printer.specs.Spending.{IsUnended, Spends, left, non
 
 use crate::answer::RunResult;
 use crate::buffer::Buffer;
-use crate::run::{finish, go_on};
+use crate::run::{finish, resume};
 use crate::shift_policy::{ShiftPolicy, can_shift};
 use crate::trial::{OpenTrial, Trials};
 use prettyless_probe::walk::Walk;
@@ -174,7 +174,7 @@ pub(crate) fn run_with_shift<N: Walk, W: Render>(
     let mut policy = ShiftPolicy::new(*visits);
     'rounds: loop {
         let limit = policy.limit(*visits);
-        match go_on(printer, &mut trials, &mut buffer, out, limit, visits)? {
+        match resume(printer, &mut trials, &mut buffer, out, limit, visits)? {
             RunResult::Finished => return Ok(()),
             RunResult::Shift => {}
         }

@@ -98,7 +98,7 @@ fn undo<N: Walk>(printer: &mut Printer<N>, mark: Mark, buffer: &mut Buffer)
     ensures summed { IsSummed N.HAS_SUMMARIES N.tree printer.old.commands → IsSummed N.HAS_SUMMARIES N.tree printer.new.commands }
 {
     printer.commands.cut(mark.commands);
-    printer.queue.go_back(mark.queue);
+    printer.queue.rewind(mark.queue);
     printer.column = mark.column;
     printer.within = mark.within;
     buffer.cut_to(mark.written);
@@ -182,11 +182,11 @@ fn advance<N: Walk>(
     }
 }
 
-/// Goes on with the open trials, each turn in the innermost one, until the outermost one is over, or before a node probes are past
+/// Resumes the open trials, each turn in the innermost one, until the outermost one is over, or before a node probes are past
 /// the limit. A trial prints its branch without what follows it but with that known. The branch is kept if it does not fail, nothing
 /// of it goes past the width, and at its end the padding fits; else all is as before, and the second branch comes next. A refusal
 /// of memory is an error, and never a reason to reject a branch.
-pub(crate) fn go_on_trying<N: Walk>(
+pub(crate) fn resume_trial<N: Walk>(
     printer: &mut Printer<N>,
     trials: &mut Trials<N>,
     buffer: &mut Buffer,

@@ -109,9 +109,9 @@ impl<N: Copy> Queue<N> {
         }
     }
 
-    /// Goes back to where a mark was set: what was added since is dropped, and what was laid since is pending again.
+    /// Rewinds to a mark: what was added since is dropped, and what was laid since is pending again.
     #[inline(always)]
-    pub fn go_back(&mut self, mark: QueueMark)
+    pub fn rewind(&mut self, mark: QueueMark)
         requires { mark.len ≤ vec_len self.old.nodes }
         ensures nodes { self.new.nodes.items ≡ take mark.len self.old.nodes.items }
         ensures start { self.new.start ≡ mark.start }

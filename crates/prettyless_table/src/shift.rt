@@ -146,7 +146,7 @@ fn placed_queue<'t, N: Walk>(
         placed.push(table.node(places[k]))?;
         k += 1;
     }
-    placed.go_back(queue.mark());
+    placed.rewind(queue.mark());
     Ok(placed)
 }
 

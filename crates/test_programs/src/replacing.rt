@@ -1,6 +1,6 @@
 //! How a file is replaced, in a file system that refuses one call: in what order the calls are made, and what is left where one
 //! fails.
-use formatter_files::replace::{begin, finish, give_up};
+use formatter_files::replace::{begin, discard, finish};
 use std::alloc::{Allocator, Global};
 use std::cell::Cell;
 use std::fs::{Files, Metadata, OpenFile, OpenOptions, Permissions};
@@ -232,7 +232,7 @@ fn replace<R: Files + AllocGlobal>(rt: &R, text: &str) -> io::Result<()> {
     match new.write_all(text.as_bytes()) {
         Ok(()) => finish(rt, new),
         Err(error) => {
-            give_up(rt, new);
+            discard(rt, new);
             Err(error)
         }
     }

@@ -4,8 +4,8 @@ use Rattle.prettyless_printer.proofs.render.render.Goals as goal
 
 pub returns-in-Ok : goal.returns-in-Ok
 returns-in-Ok g c =
-    begun_renders (g.W.Render.document_errors c.run_with_shift-result.new.out) c.run_with_shift-result.new.refused c.run_with_shift-result.result
-    c.in-Ok.ensures.begins c.run_with_shift-result.ensures.ends.1
+    begun_renders (g.W.Render.document_errors c.run_with_shift-result.new.out) c.run_with_shift-result.new.refused
+    c.run_with_shift-result.result c.in-Ok.ensures.begins c.run_with_shift-result.ensures.ends.1
     c.run_with_shift-result.ensures.rises c.run_with_shift-result.ensures.few
 
 -- the document is refused memory

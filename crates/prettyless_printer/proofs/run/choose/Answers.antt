@@ -9,8 +9,8 @@ use Rattle.prettyless_printer.proofs.RunSpending.{opens_spends, spends_on_as}
 use Rattle.prettyless_printer.proofs.run.choose.Goals as goal
 
 -- the trial is open
-pub go_on_choosing-requires-clause-open : goal.go_on_choosing-requires-clause-open
-go_on_choosing-requires-clause-open g c =
+pub resume_choice-requires-clause-open : goal.resume_choice-requires-clause-open
+resume_choice-requires-clause-open g c =
     let f = g.N.Walk.tree in
     let a = point f c.args.printer.now (seen g.W.Render.bytes g.W.Render.failures g.W.Render.lender c.args.out.now) c.args.visits.now in (
       c.args.indent,
@@ -25,7 +25,7 @@ pub returns-in-Ok-clause-settles : goal.returns-in-Ok-clause-settles
 returns-in-Ok-clause-settles g c =
     let f = g.N.Walk.tree in
     let a = point f c.args.printer.now (seen g.W.Render.bytes g.W.Render.failures g.W.Render.lender c.args.out.now) c.args.visits.now in
-    c.go_on_choosing.ensures.settles c.args.indent (f c.args.first) (f c.args.second) a
+    c.resume_choice.ensures.settles c.args.indent (f c.args.first) (f c.args.second) a
     (choice_opens (ap (all_held f) c.requires.none) c.clear.ensures.bytes refl (IsUtf8-string_bytes c.clear.new.self)
     c.in-Ok.ensures.held c.in-Ok.ensures.begun)
 
@@ -35,7 +35,7 @@ returns-in-Ok-clause-spends g c = λ plain.
     let f = g.N.Walk.tree in
     let a = point f c.args.printer.now (seen g.W.Render.bytes g.W.Render.failures g.W.Render.lender c.args.out.now) c.args.visits.now in
     let none = ap (all_held f) c.requires.none in
-    spends_on_as _ c.go_on_choosing.result c.in-Ok.ensures.begun.options
+    spends_on_as _ c.resume_choice.result c.in-Ok.ensures.begun.options
     (opens_spends none c.in-Ok.ensures.held c.in-Ok.ensures.begun (ap (λ (z : Queue _). trees f z.nodes.items) c.in-Ok.ensures.queue))
-    (c.go_on_choosing.ensures.spends c.args.indent (f c.args.first) (f c.args.second) a
+    (c.resume_choice.ensures.spends c.args.indent (f c.args.first) (f c.args.second) a
     (choice_opens none c.clear.ensures.bytes refl (IsUtf8-string_bytes c.clear.new.self) c.in-Ok.ensures.held c.in-Ok.ensures.begun) plain)

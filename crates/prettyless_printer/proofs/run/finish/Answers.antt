@@ -7,20 +7,20 @@ use Rattle.prettyless_printer.proofs.run.finish.Goals as goal
 -- the run is done
 pub returns-clause-ends : goal.returns-clause-ends
 returns-clause-ends g c = λ a h.
-    let fails = g.W.Render.document_errors c.go_on.new.out in
-    done_anyhow fails run_result.Finished tt ((rw c.in-Finished.is at c.in_ok-go_on.ensures.runs) a h)
+    let fails = g.W.Render.document_errors c.resume.new.out in
+    done_anyhow fails run_result.Finished tt ((rw c.in-Finished.is at c.in_ok-resume.ensures.runs) a h)
 
 -- it ended in an error
-pub returns-in_err-go_on-clause-ends : goal.returns-in_err-go_on-clause-ends
-returns-in_err-go_on-clause-ends g c =
+pub returns-in_err-resume-clause-ends : goal.returns-in_err-resume-clause-ends
+returns-in_err-resume-clause-ends g c =
     let residual = err_from_is_err_and c.from_residual.result c.from_residual.ensures.1 in
     rw (residual.1, residual.2)
     λ a h.
-    let fails = g.W.Render.document_errors c.go_on.new.out in
-    broke_anyhow fails c.in_err-go_on.field-0.0 (c.in_err-go_on.ensures.runs a h)
+    let fails = g.W.Render.document_errors c.resume.new.out in
+    broke_anyhow fails c.in_err-resume.field-0.0 (c.in_err-resume.ensures.runs a h)
 
 -- without a limit no run stops
 pub unreachable-requires : goal.unreachable-requires
 unreachable-requires g c =
-    let past = ((rw c.in-Shift.is at c.in_ok-go_on.ensures.runs) c.requires.comes.0 c.requires.comes.1).past in
+    let past = ((rw c.in-Shift.is at c.in_ok-resume.ensures.runs) c.requires.comes.0 c.requires.comes.1).past in
     omega (arith, past.0, past.1)

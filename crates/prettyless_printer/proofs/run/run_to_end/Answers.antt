@@ -23,12 +23,12 @@ rounds-init g c = record {
 }
 
 -- the commands ended in an error
-pub returns-in_err-work_off-clause-runs : goal.returns-in_err-work_off-clause-runs
-returns-in_err-work_off-clause-runs g c =
+pub returns-in_err-run_commands-clause-runs : goal.returns-in_err-run_commands-clause-runs
+returns-in_err-run_commands-clause-runs g c =
     let residual = err_from_is_err_and c.from_residual.result c.from_residual.ensures.1 in
     rw (residual.1, residual.2)
-    let fails = g.W.Render.document_errors c.work_off.new.out in
-    continues_to_end fails _ c.rounds.invariant.continues (work_stopped fails _ c.in_err-work_off.ensures.works)
+    let fails = g.W.Render.document_errors c.run_commands.new.out in
+    continues_to_end fails _ c.rounds.invariant.continues (work_stopped fails _ c.in_err-run_commands.ensures.works)
 
 -- they are not all laid: probes are past the limit
 pub returns-in-Shift-clause-runs : goal.returns-in-Shift-clause-runs
@@ -37,43 +37,43 @@ returns-in-Shift-clause-runs g c =
     let sink = seen g.W.Render.bytes g.W.Render.failures g.W.Render.lender in
     let start = point f c.args.printer.now (sink c.args.out.now) c.args.visits.now in
     let here = point f c.rounds.printer (sink c.rounds.out) c.rounds.visits in
-    let next = point f c.work_off.new.printer (sink c.work_off.new.out) c.work_off.new.visits in
-    stops_then c.args.limit start here next (all_held f c.work_off.new.trials.open.items) (buffer_seen c.work_off.new.buffer)
-    c.rounds.invariant.continues (rw c.in-Shift.is at c.in_ok-work_off.ensures.works)
+    let next = point f c.run_commands.new.printer (sink c.run_commands.new.out) c.run_commands.new.visits in
+    stops_then c.args.limit start here next (all_held f c.run_commands.new.trials.open.items) (buffer_seen c.run_commands.new.buffer)
+    c.rounds.invariant.continues (rw c.in-Shift.is at c.in_ok-run_commands.ensures.works)
 
 -- nothing waits
 pub returns-then-not-is_pending-clause-runs : goal.returns-then-not-is_pending-clause-runs
 returns-then-not-is_pending-clause-runs g c =
     let f = g.N.Walk.tree in
-    let fails = g.W.Render.document_errors c.work_off.new.out in
-    let none = length_none (state_at (standing f c.work_off.new.printer)).pending
-    (sym (pending_stands f c.work_off.new.printer) ∙ sym c.is_pending.ensures ∙ c.if-not-is_pending.true) in
+    let fails = g.W.Render.document_errors c.run_commands.new.out in
+    let none = length_none (state_at (standing f c.run_commands.new.printer)).pending
+    (sym (pending_stands f c.run_commands.new.printer) ∙ sym c.is_pending.ensures ∙ c.if-not-is_pending.true) in
     continues_to_end fails _ c.rounds.invariant.continues
-    (work_ends fails run_result.Finished run_result.Finished ((rw c.in-Finished.is at c.in_ok-work_off.ensures.works).1) none)
+    (work_ends fails run_result.Finished run_result.Finished ((rw c.in-Finished.is at c.in_ok-run_commands.ensures.works).1) none)
 
 -- what waits is laid next
 pub rounds-smaller : goal.rounds-smaller
 rounds-smaller g c =
     let f = g.N.Walk.tree in
-    let fails = g.W.Render.document_errors c.work_off.new.out in
-    let some = length_some (state_at (standing f c.work_off.new.printer)).pending
-    (sym (pending_stands f c.work_off.new.printer) ∙ sym c.is_pending.ensures ∙ c.if-not-is_pending.false) in
-    round_work_falls fails run_result.Finished tt ((rw c.in-Finished.is at c.in_ok-work_off.ensures.works).1)
+    let fails = g.W.Render.document_errors c.run_commands.new.out in
+    let some = length_some (state_at (standing f c.run_commands.new.printer)).pending
+    (sym (pending_stands f c.run_commands.new.printer) ∙ sym c.is_pending.ensures ∙ c.if-not-is_pending.false) in
+    round_work_falls fails run_result.Finished tt ((rw c.in-Finished.is at c.in_ok-run_commands.ensures.works).1)
     c.in_ok-flush_end-in-Finished.ensures.flushes some
 
 pub rounds-preserved : goal.rounds-preserved
 rounds-preserved g c =
     let f = g.N.Walk.tree in
-    let fails = g.W.Render.document_errors c.work_off.new.out in
-    let some = length_some (state_at (standing f c.work_off.new.printer)).pending
-    (sym (pending_stands f c.work_off.new.printer) ∙ sym c.is_pending.ensures ∙ c.if-not-is_pending.false) in
+    let fails = g.W.Render.document_errors c.run_commands.new.out in
+    let some = length_some (state_at (standing f c.run_commands.new.printer)).pending
+    (sym (pending_stands f c.run_commands.new.printer) ∙ sym c.is_pending.ensures ∙ c.if-not-is_pending.false) in
     record {
       continues = continues_then c.rounds.invariant.continues
-          (round_continues fails run_result.Finished tt ((rw c.in-Finished.is at c.in_ok-work_off.ensures.works).1)
+          (round_continues fails run_result.Finished tt ((rw c.in-Finished.is at c.in_ok-run_commands.ensures.works).1)
           c.in_ok-flush_end-in-Finished.ensures.flushes some);
-      none = none_open f c.work_off.new.trials.open.items (rw c.in-Finished.is at c.in_ok-work_off.ensures.works).0;
+      none = none_open f c.run_commands.new.trials.open.items (rw c.in-Finished.is at c.in_ok-run_commands.ensures.works).0;
       spends = λ plain. absurd (nothing_pending fails run_result.Finished c.rounds.invariant.continues plain
-          ((rw c.in-Finished.is at c.in_ok-work_off.ensures.works).1) some);
+          ((rw c.in-Finished.is at c.in_ok-run_commands.ensures.works).1) some);
       summed = c.in_ok-flush_end-in-Finished.ensures.summed;
     }
 
@@ -85,33 +85,33 @@ returns-in_err-flush_end-in-Finished-clause-runs g c =
     rw (residual.1, residual.2)
     let f = g.N.Walk.tree in
     let fails = g.W.Render.document_errors c.flush_end.new.out in
-    let some = length_some (state_at (standing f c.work_off.new.printer)).pending
-    (sym (pending_stands f c.work_off.new.printer) ∙ sym c.is_pending.ensures ∙ c.if-not-is_pending.false) in
+    let some = length_some (state_at (standing f c.run_commands.new.printer)).pending
+    (sym (pending_stands f c.run_commands.new.printer) ∙ sym c.is_pending.ensures ∙ c.if-not-is_pending.false) in
     continues_to_end fails _ c.rounds.invariant.continues
-    (round_stopped fails (g.W.Render.document_errors c.work_off.new.out) run_result.Finished _
-    ((rw c.in-Finished.is at c.in_ok-work_off.ensures.works).1) c.in_err-flush_end-in-Finished.ensures.flushes some)
+    (round_stopped fails (g.W.Render.document_errors c.run_commands.new.out) run_result.Finished _
+    ((rw c.in-Finished.is at c.in_ok-run_commands.ensures.works).1) c.in_err-flush_end-in-Finished.ensures.flushes some)
 
 -- what is left where it ends
-pub returns-in_err-work_off-clause-spends : goal.returns-in_err-work_off-clause-spends
-returns-in_err-work_off-clause-spends g c = λ plain.
-    spends_broke_as (left (standing g.N.Walk.tree c.work_off.new.printer) _ c.work_off.new.visits) c.from_residual.result
+pub returns-in_err-run_commands-clause-spends : goal.returns-in_err-run_commands-clause-spends
+returns-in_err-run_commands-clause-spends g c = λ plain.
+    spends_broke_as (left (standing g.N.Walk.tree c.run_commands.new.printer) _ c.run_commands.new.visits) c.from_residual.result
     c.from_residual.ensures.0
     (spends_on c.rounds.invariant.continues.options (c.rounds.invariant.spends plain)
-    (c.in_err-work_off.ensures.spends (c.rounds.invariant.continues.at_most plain).0))
+    (c.in_err-run_commands.ensures.spends (c.rounds.invariant.continues.at_most plain).0))
 
 pub returns-in-Shift-clause-spends : goal.returns-in-Shift-clause-spends
 returns-in-Shift-clause-spends g c = λ plain. spends_on c.rounds.invariant.continues.options (c.rounds.invariant.spends plain)
-    (c.in_ok-work_off.ensures.spends (c.rounds.invariant.continues.at_most plain).0)
+    (c.in_ok-run_commands.ensures.spends (c.rounds.invariant.continues.at_most plain).0)
 
 pub returns-then-not-is_pending-clause-spends : goal.returns-then-not-is_pending-clause-spends
 returns-then-not-is_pending-clause-spends g c = λ plain. spends_on c.rounds.invariant.continues.options (c.rounds.invariant.spends plain)
-    (c.in_ok-work_off.ensures.spends (c.rounds.invariant.continues.at_most plain).0)
+    (c.in_ok-run_commands.ensures.spends (c.rounds.invariant.continues.at_most plain).0)
 
 pub returns-in_err-flush_end-in-Finished-clause-spends : goal.returns-in_err-flush_end-in-Finished-clause-spends
 returns-in_err-flush_end-in-Finished-clause-spends g c = λ plain.
     let f = g.N.Walk.tree in
-    let fails = g.W.Render.document_errors c.work_off.new.out in
-    let some = length_some (state_at (standing f c.work_off.new.printer)).pending
-    (sym (pending_stands f c.work_off.new.printer) ∙ sym c.is_pending.ensures ∙ c.if-not-is_pending.false) in
+    let fails = g.W.Render.document_errors c.run_commands.new.out in
+    let some = length_some (state_at (standing f c.run_commands.new.printer)).pending
+    (sym (pending_stands f c.run_commands.new.printer) ∙ sym c.is_pending.ensures ∙ c.if-not-is_pending.false) in
     absurd (nothing_pending fails run_result.Finished c.rounds.invariant.continues plain
-    ((rw c.in-Finished.is at c.in_ok-work_off.ensures.works).1) some)
+    ((rw c.in-Finished.is at c.in_ok-run_commands.ensures.works).1) some)

@@ -35,9 +35,9 @@ returns-in-Finished-clause-ends g c =
     let f = g.N.Walk.tree in
     let sink = seen g.W.Render.bytes g.W.Render.failures g.W.Render.lender in
     let start = point f c.args.printer.now (sink c.args.out.now) c.args.visits.now in (
-      standing f c.go_on.new.printer,
-      done_anyhow (g.W.Render.document_errors c.go_on.new.out) run_result.Finished tt
-          (rw c.in-Finished.is at c.in_ok-go_on.ensures.runs start c.rounds.invariant.comes),
+      standing f c.resume.new.printer,
+      done_anyhow (g.W.Render.document_errors c.resume.new.out) run_result.Finished tt
+          (rw c.in-Finished.is at c.in_ok-resume.ensures.runs start c.rounds.invariant.comes),
     )
 
 pub returns-in-Finished-clause-few : goal.returns-in-Finished-clause-few
@@ -47,29 +47,29 @@ returns-in-Finished-clause-few g c = λ linear none.
     let start = point f c.args.printer.now (sink c.args.out.now) c.args.visits.now in
     within_few (within_goes g.N.Walk.HAS_SUMMARIES c.rounds.printer.options c.rounds.policy c.limit-limit.result c.limit-limit.ensures
     c.rounds.invariant.start (c.rounds.invariant.next linear none) (c.rounds.invariant.within linear none)
-    (c.in_ok-go_on.ensures.spends start c.rounds.invariant.comes linear.plain))
+    (c.in_ok-resume.ensures.spends start c.rounds.invariant.comes linear.plain))
 
 -- it ended in an error
-pub returns-in_err-go_on-clause-ends : goal.returns-in_err-go_on-clause-ends
-returns-in_err-go_on-clause-ends g c =
+pub returns-in_err-resume-clause-ends : goal.returns-in_err-resume-clause-ends
+returns-in_err-resume-clause-ends g c =
     let residual = err_from_is_err_and c.from_residual.result c.from_residual.ensures.1 in
     rw (residual.1, residual.2)
     let f = g.N.Walk.tree in
     let sink = seen g.W.Render.bytes g.W.Render.failures g.W.Render.lender in
     let start = point f c.args.printer.now (sink c.args.out.now) c.args.visits.now in (
-      standing f c.go_on.new.printer,
-      broke_anyhow (g.W.Render.document_errors c.go_on.new.out) _
-          (c.in_err-go_on.ensures.runs start c.rounds.invariant.comes),
+      standing f c.resume.new.printer,
+      broke_anyhow (g.W.Render.document_errors c.resume.new.out) _
+          (c.in_err-resume.ensures.runs start c.rounds.invariant.comes),
     )
 
-pub returns-in_err-go_on-clause-few : goal.returns-in_err-go_on-clause-few
-returns-in_err-go_on-clause-few g c = λ linear none.
+pub returns-in_err-resume-clause-few : goal.returns-in_err-resume-clause-few
+returns-in_err-resume-clause-few g c = λ linear none.
     let f = g.N.Walk.tree in
     let sink = seen g.W.Render.bytes g.W.Render.failures g.W.Render.lender in
     let start = point f c.args.printer.now (sink c.args.out.now) c.args.visits.now in
     within_few (within_goes g.N.Walk.HAS_SUMMARIES c.rounds.printer.options c.rounds.policy c.limit-limit.result c.limit-limit.ensures
     c.rounds.invariant.start (c.rounds.invariant.next linear none) (c.rounds.invariant.within linear none)
-    (c.in_err-go_on.ensures.spends start c.rounds.invariant.comes linear.plain))
+    (c.in_err-resume.ensures.spends start c.rounds.invariant.comes linear.plain))
 
 -- it stopped, and goes on over a table to the end
 pub returns-in-Ok-Some-clause-ends : goal.returns-in-Ok-Some-clause-ends
@@ -77,7 +77,7 @@ returns-in-Ok-Some-clause-ends g c =
     let f = g.N.Walk.tree in
     let sink = seen g.W.Render.bytes g.W.Render.failures g.W.Render.lender in
     let start = point f c.args.printer.now (sink c.args.out.now) c.args.visits.now in
-    let stopped = rw c.in-Shift.is at c.in_ok-go_on.ensures.runs start c.rounds.invariant.comes in
+    let stopped = rw c.in-Shift.is at c.in_ok-resume.ensures.runs start c.rounds.invariant.comes in
     (rw c.in-Ok-Some.field-0-is at c.in-Ok-Some.ensures.ended) start stopped.comes
 
 pub returns-in-Ok-Some-clause-few : goal.returns-in-Ok-Some-clause-few
@@ -85,12 +85,12 @@ returns-in-Ok-Some-clause-few g c = λ linear none.
     let f = g.N.Walk.tree in
     let sink = seen g.W.Render.bytes g.W.Render.failures g.W.Render.lender in
     let start = point f c.args.printer.now (sink c.args.out.now) c.args.visits.now in
-    let stopped = rw c.in-Shift.is at c.in_ok-go_on.ensures.runs start c.rounds.invariant.comes in
-    let options = comes_options start _ (all_held f c.go_on.new.trials.open.items) (buffer_seen c.go_on.new.buffer) stopped.comes in
-    within_over c.go_on.new.printer.options
+    let stopped = rw c.in-Shift.is at c.in_ok-resume.ensures.runs start c.rounds.invariant.comes in
+    let options = comes_options start _ (all_held f c.resume.new.trials.open.items) (buffer_seen c.resume.new.buffer) stopped.comes in
+    within_over c.resume.new.printer.options
     (within_goes g.N.Walk.HAS_SUMMARIES c.rounds.printer.options c.rounds.policy c.limit-limit.result c.limit-limit.ensures
     c.rounds.invariant.start (c.rounds.invariant.next linear none) (c.rounds.invariant.within linear none)
-    (c.in_ok-go_on.ensures.spends start c.rounds.invariant.comes linear.plain))
+    (c.in_ok-resume.ensures.spends start c.rounds.invariant.comes linear.plain))
     ((rw c.in-Ok-Some.field-0-is at c.in-Ok-Some.ensures.spends) start stopped.comes linear.plain)
     (omega (arith, linear.width, ap (λ (o : RenderOptions). o.width) options)) linear.size
 
@@ -100,10 +100,10 @@ rounds-preserved-in-Ok-None g c =
     let f = g.N.Walk.tree in
     let sink = seen g.W.Render.bytes g.W.Render.failures g.W.Render.lender in
     let start = point f c.args.printer.now (sink c.args.out.now) c.args.visits.now in
-    let stopped = rw c.in-Shift.is at c.in_ok-go_on.ensures.runs start c.rounds.invariant.comes in
+    let stopped = rw c.in-Shift.is at c.in_ok-resume.ensures.runs start c.rounds.invariant.comes in
     let same = (rw c.in-Ok-None.field-0-is at c.in-Ok-None.ensures.same) tt in
-    let p = standing f c.go_on.new.printer in
-    let us = all_held f c.go_on.new.trials.open.items in
+    let p = standing f c.resume.new.printer in
+    let us = all_held f c.resume.new.trials.open.items in
     record {
       comes = comes_still start us p (ap sink same.0) same.1 (ap buffer_seen same.2) stopped.comes;
       start = ap (λ (x : ShiftPolicy). x.start) c.next_room-room.ensures.next ∙ c.rounds.invariant.start;
@@ -112,18 +112,18 @@ rounds-preserved-in-Ok-None g c =
       next = λ linear none.
           let now = within_goes g.N.Walk.HAS_SUMMARIES c.rounds.printer.options c.rounds.policy c.limit-limit.result c.limit-limit.ensures
           c.rounds.invariant.start (c.rounds.invariant.next linear none) (c.rounds.invariant.within linear none)
-          (c.in_ok-go_on.ensures.spends start c.rounds.invariant.comes linear.plain) in
+          (c.in_ok-resume.ensures.spends start c.rounds.invariant.comes linear.plain) in
           omega (
             arith,
             ap (λ (x : ShiftPolicy). x.next_try) c.next_room-room.ensures.next,
-            no_room f c.go_on.new.printer (seconds us) c.next_room-room.result _ c.go_on.new.visits now.queue now.left linear.size
+            no_room f c.resume.new.printer (seconds us) c.next_room-room.result _ c.resume.new.visits now.queue now.left linear.size
                 (rw c.in-Ok-None.field-0-is at c.in-Ok-None.ensures.large),
           );
       within = λ linear none. within_still p (seconds us) same.1
           (within_goes g.N.Walk.HAS_SUMMARIES c.rounds.printer.options c.rounds.policy c.limit-limit.result c.limit-limit.ensures
           c.rounds.invariant.start (c.rounds.invariant.next linear none) (c.rounds.invariant.within linear none)
-          (c.in_ok-go_on.ensures.spends start c.rounds.invariant.comes linear.plain));
-      summed = c.in_ok-go_on.ensures.summed;
+          (c.in_ok-resume.ensures.spends start c.rounds.invariant.comes linear.plain));
+      summed = c.in_ok-resume.ensures.summed;
     }
 
 -- it stopped, and a table was refused memory
@@ -132,10 +132,10 @@ rounds-preserved-in-Err g c =
     let f = g.N.Walk.tree in
     let sink = seen g.W.Render.bytes g.W.Render.failures g.W.Render.lender in
     let start = point f c.args.printer.now (sink c.args.out.now) c.args.visits.now in
-    let stopped = rw c.in-Shift.is at c.in_ok-go_on.ensures.runs start c.rounds.invariant.comes in
+    let stopped = rw c.in-Shift.is at c.in_ok-resume.ensures.runs start c.rounds.invariant.comes in
     let same = (rw c.in-Err.is at c.shift.ensures.same) tt in
-    let p = standing f c.go_on.new.printer in
-    let us = all_held f c.go_on.new.trials.open.items in
+    let p = standing f c.resume.new.printer in
+    let us = all_held f c.resume.new.trials.open.items in
     record {
       comes = comes_still start us p (ap sink same.0) same.1 (ap buffer_seen same.2) stopped.comes;
       start = ap (λ (x : ShiftPolicy). x.start) c.next_room-room.ensures.next ∙ c.rounds.invariant.start;
@@ -143,7 +143,7 @@ rounds-preserved-in-Err g c =
       rises = omega (arith, c.rounds.invariant.rises, c.one_more.ensures.rises);
       next = λ linear none. absurd (omega (arith, none, c.one_more.ensures.one));
       within = λ linear none. absurd (omega (arith, none, c.one_more.ensures.one));
-      summed = c.in_ok-go_on.ensures.summed;
+      summed = c.in_ok-resume.ensures.summed;
     }
 
 -- it stopped, and a table is not worth it
@@ -152,7 +152,7 @@ rounds-preserved g c =
     let f = g.N.Walk.tree in
     let sink = seen g.W.Render.bytes g.W.Render.failures g.W.Render.lender in
     let start = point f c.args.printer.now (sink c.args.out.now) c.args.visits.now in
-    let stopped = rw c.in-Shift.is at c.in_ok-go_on.ensures.runs start c.rounds.invariant.comes in
+    let stopped = rw c.in-Shift.is at c.in_ok-resume.ensures.runs start c.rounds.invariant.comes in
     record {
       comes = stopped.comes;
       start = c.rounds.invariant.start;
@@ -161,8 +161,8 @@ rounds-preserved g c =
       next = c.rounds.invariant.next;
       within = λ linear none. within_goes g.N.Walk.HAS_SUMMARIES c.rounds.printer.options c.rounds.policy c.limit-limit.result
           c.limit-limit.ensures c.rounds.invariant.start (c.rounds.invariant.next linear none) (c.rounds.invariant.within linear none)
-          (c.in_ok-go_on.ensures.spends start c.rounds.invariant.comes linear.plain);
-      summed = c.in_ok-go_on.ensures.summed;
+          (c.in_ok-resume.ensures.spends start c.rounds.invariant.comes linear.plain);
+      summed = c.in_ok-resume.ensures.summed;
     }
 
 -- at a width without summaries

@@ -9,8 +9,8 @@ returns-clause-printer g c =
     let f = g.N.Walk.tree in
     let p = c.args.printer.now in (
       c.cut.ensures.cut,
-      ap (trees f) c.go_back.ensures.nodes ∙ sym (take-map f c.args.mark.queue.len p.queue.nodes.items),
-      c.go_back.ensures.start,
+      ap (trees f) c.rewind.ensures.nodes ∙ sym (take-map f c.args.mark.queue.len p.queue.nodes.items),
+      c.rewind.ensures.start,
       refl,
       refl,
       refl,

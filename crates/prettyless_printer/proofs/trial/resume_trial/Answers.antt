@@ -19,7 +19,7 @@ use Rattle.prettyless_printer.proofs.Spending.{spends_all, spends_same}
 use Rattle.prettyless_printer.proofs.OpenSpending.{open_spends, spends_back, spends_broke_as, spends_kept, spends_more}
 use Rattle.prettyless_probe.specs.Stack.{trees}
 use Rattle.prettyless_step.specs.declared.queue.Queue.{Queue}
-use Rattle.prettyless_printer.proofs.trial.go_on_trying.Goals as goal
+use Rattle.prettyless_printer.proofs.trial.resume_trial.Goals as goal
 
 pub work-init : goal.work-init
 work-init g c = record {

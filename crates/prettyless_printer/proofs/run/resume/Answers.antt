@@ -8,7 +8,7 @@ use Rattle.prettyless_printer.proofs.Shifts.{runs_then, some_open}
 use Rattle.prettyless_printer.specs.Spending.{left}
 use Rattle.prettyless_printer.proofs.OpenSpending.{spends_broke_as}
 use Rattle.prettyless_printer.proofs.RunSpending.{came_options, came_plain, seconds_none, spends_on_as}
-use Rattle.prettyless_printer.proofs.run.go_on.Goals as goal
+use Rattle.prettyless_printer.proofs.run.resume.Goals as goal
 
 -- no trial is open
 pub returns-then-is_empty-clause-runs : goal.returns-then-is_empty-clause-runs
@@ -24,8 +24,8 @@ returns-then-is_empty-clause-runs g c = λ a h.
     (came_alone a here (all_held f c.args.trials.now.open.items) (buffer_seen c.args.buffer.now) none h) c.run_to_end.ensures.runs
 
 -- some are, in a choice
-pub go_on_choosing-requires-clause-open : goal.go_on_choosing-requires-clause-open
-go_on_choosing-requires-clause-open g c =
+pub resume_choice-requires-clause-open : goal.resume_choice-requires-clause-open
+resume_choice-requires-clause-open g c =
     let f = g.N.Walk.tree in
     let us = c.args.trials.now.open.items in
     let here = point f c.args.printer.now (seen g.W.Render.bytes g.W.Render.failures g.W.Render.lender c.args.out.now) c.args.visits.now in
@@ -34,20 +34,20 @@ go_on_choosing-requires-clause-open g c =
     (came.indent, came.first, came.second, came.at, came.choice)
 
 -- it ended in an error
-pub returns-in_err-go_on_choosing-clause-runs : goal.returns-in_err-go_on_choosing-clause-runs
-returns-in_err-go_on_choosing-clause-runs g c =
+pub returns-in_err-resume_choice-clause-runs : goal.returns-in_err-resume_choice-clause-runs
+returns-in_err-resume_choice-clause-runs g c =
     let residual = err_from_is_err_and c.from_residual.result c.from_residual.ensures.1 in
     rw (residual.1, residual.2)
     λ a h.
     let f = g.N.Walk.tree in
     let us = c.args.trials.now.open.items in
     let sink = seen g.W.Render.bytes g.W.Render.failures g.W.Render.lender in
-    let fails = g.W.Render.document_errors c.go_on_choosing.new.out in
+    let fails = g.W.Render.document_errors c.resume_choice.new.out in
     let here = point f c.args.printer.now (sink c.args.out.now) c.args.visits.now in
     let some = some_open f us (c.is_empty.ensures.some c.if-is_empty.false) in
     let came = came_in_choice a here (all_held f us) (buffer_seen c.args.buffer.now) some h in
-    choice_stopped fails came.indent came.first came.second c.in_err-go_on_choosing.field-0.0 came.continues came.waiting
-    (c.in_err-go_on_choosing.ensures.settles came.indent came.first came.second came.at came.choice)
+    choice_stopped fails came.indent came.first came.second c.in_err-resume_choice.field-0.0 came.continues came.waiting
+    (c.in_err-resume_choice.ensures.settles came.indent came.first came.second came.at came.choice)
 
 -- the choice is made
 pub run_to_end-requires-in-Finished-clause-none : goal.run_to_end-requires-in-Finished-clause-none
@@ -57,8 +57,8 @@ run_to_end-requires-in-Finished-clause-none g c =
     let here = point f c.args.printer.now (seen g.W.Render.bytes g.W.Render.failures g.W.Render.lender c.args.out.now) c.args.visits.now in
     let some = some_open f us (c.is_empty.ensures.some c.if-is_empty.false) in
     let came = came_in_choice c.requires.comes.0 here (all_held f us) (buffer_seen c.args.buffer.now) some c.requires.comes.1 in
-    none_open f c.go_on_choosing.new.trials.open.items
-    ((rw c.in-Finished.is at c.in_ok-go_on_choosing.ensures.settles) came.indent came.first came.second came.at came.choice).0
+    none_open f c.resume_choice.new.trials.open.items
+    ((rw c.in-Finished.is at c.in_ok-resume_choice.ensures.settles) came.indent came.first came.second came.at came.choice).0
 
 pub returns-in-Finished-clause-runs : goal.returns-in-Finished-clause-runs
 returns-in-Finished-clause-runs g c = λ a h.
@@ -67,11 +67,11 @@ returns-in-Finished-clause-runs g c = λ a h.
     let sink = seen g.W.Render.bytes g.W.Render.failures g.W.Render.lender in
     let fails = g.W.Render.document_errors c.run_to_end-in-Finished.new.out in
     let here = point f c.args.printer.now (sink c.args.out.now) c.args.visits.now in
-    let next = point f c.go_on_choosing.new.printer (sink c.go_on_choosing.new.out) c.go_on_choosing.new.visits in
+    let next = point f c.resume_choice.new.printer (sink c.resume_choice.new.out) c.resume_choice.new.visits in
     let last = point f c.run_to_end-in-Finished.new.printer (sink c.run_to_end-in-Finished.new.out) c.run_to_end-in-Finished.new.visits in
     let some = some_open f us (c.is_empty.ensures.some c.if-is_empty.false) in
     let came = came_in_choice a here (all_held f us) (buffer_seen c.args.buffer.now) some h in
-    let settled = (rw c.in-Finished.is at c.in_ok-go_on_choosing.ensures.settles) came.indent came.first came.second came.at came.choice in
+    let settled = (rw c.in-Finished.is at c.in_ok-resume_choice.ensures.settles) came.indent came.first came.second came.at came.choice in
     runs_then fails c.args.limit a next last (all_held f c.run_to_end-in-Finished.new.trials.open.items)
     (buffer_seen c.run_to_end-in-Finished.new.buffer) c.run_to_end-in-Finished.result
     (choice_continues came.indent came.first came.second came.continues came.waiting settled.1) c.run_to_end-in-Finished.ensures.runs
@@ -83,26 +83,26 @@ returns-in-Shift-clause-runs g c = λ a h.
     let us = c.args.trials.now.open.items in
     let sink = seen g.W.Render.bytes g.W.Render.failures g.W.Render.lender in
     let here = point f c.args.printer.now (sink c.args.out.now) c.args.visits.now in
-    let next = point f c.go_on_choosing.new.printer (sink c.go_on_choosing.new.out) c.go_on_choosing.new.visits in
+    let next = point f c.resume_choice.new.printer (sink c.resume_choice.new.out) c.resume_choice.new.visits in
     let some = some_open f us (c.is_empty.ensures.some c.if-is_empty.false) in
     let came = came_in_choice a here (all_held f us) (buffer_seen c.args.buffer.now) some h in
-    let settled = (rw c.in-Shift.is at c.in_ok-go_on_choosing.ensures.settles) came.indent came.first came.second came.at came.choice in
+    let settled = (rw c.in-Shift.is at c.in_ok-resume_choice.ensures.settles) came.indent came.first came.second came.at came.choice in
     record {
       comes = comes_in_choice came.continues came.waiting settled.0;
       past = settled.1;
     }
 
 -- what is left where it ends
-pub returns-in_err-go_on_choosing-clause-spends : goal.returns-in_err-go_on_choosing-clause-spends
-returns-in_err-go_on_choosing-clause-spends g c = λ a h plain.
+pub returns-in_err-resume_choice-clause-spends : goal.returns-in_err-resume_choice-clause-spends
+returns-in_err-resume_choice-clause-spends g c = λ a h plain.
     let f = g.N.Walk.tree in
     let us = c.args.trials.now.open.items in
     let here = point f c.args.printer.now (seen g.W.Render.bytes g.W.Render.failures g.W.Render.lender c.args.out.now) c.args.visits.now in
     let some = some_open f us (c.is_empty.ensures.some c.if-is_empty.false) in
     let came = came_in_choice a here (all_held f us) (buffer_seen c.args.buffer.now) some h in
-    spends_broke_as (left (standing f c.go_on_choosing.new.printer) _ c.go_on_choosing.new.visits) c.from_residual.result
+    spends_broke_as (left (standing f c.resume_choice.new.printer) _ c.resume_choice.new.visits) c.from_residual.result
     c.from_residual.ensures.0
-    (c.in_err-go_on_choosing.ensures.spends came.indent came.first came.second came.at came.choice (came_plain came plain))
+    (c.in_err-resume_choice.ensures.spends came.indent came.first came.second came.at came.choice (came_plain came plain))
 
 pub returns-in-Shift-clause-spends : goal.returns-in-Shift-clause-spends
 returns-in-Shift-clause-spends g c = λ a h plain.
@@ -111,7 +111,7 @@ returns-in-Shift-clause-spends g c = λ a h plain.
     let here = point f c.args.printer.now (seen g.W.Render.bytes g.W.Render.failures g.W.Render.lender c.args.out.now) c.args.visits.now in
     let some = some_open f us (c.is_empty.ensures.some c.if-is_empty.false) in
     let came = came_in_choice a here (all_held f us) (buffer_seen c.args.buffer.now) some h in
-    c.in_ok-go_on_choosing.ensures.spends came.indent came.first came.second came.at came.choice (came_plain came plain)
+    c.in_ok-resume_choice.ensures.spends came.indent came.first came.second came.at came.choice (came_plain came plain)
 
 pub returns-in-Finished-clause-spends : goal.returns-in-Finished-clause-spends
 returns-in-Finished-clause-spends g c = λ a h plain.
@@ -120,9 +120,9 @@ returns-in-Finished-clause-spends g c = λ a h plain.
     let here = point f c.args.printer.now (seen g.W.Render.bytes g.W.Render.failures g.W.Render.lender c.args.out.now) c.args.visits.now in
     let some = some_open f us (c.is_empty.ensures.some c.if-is_empty.false) in
     let came = came_in_choice a here (all_held f us) (buffer_seen c.args.buffer.now) some h in
-    let settled = (rw c.in-Finished.is at c.in_ok-go_on_choosing.ensures.settles) came.indent came.first came.second came.at came.choice in
+    let settled = (rw c.in-Finished.is at c.in_ok-resume_choice.ensures.settles) came.indent came.first came.second came.at came.choice in
     let continues = choice_continues came.indent came.first came.second came.continues came.waiting settled.1 in
     spends_on_as _ c.run_to_end-in-Finished.result (came_options came settled.1)
-    (seconds_none (standing f c.go_on_choosing.new.printer) _ c.go_on_choosing.new.visits settled.0
-    (c.in_ok-go_on_choosing.ensures.spends came.indent came.first came.second came.at came.choice (came_plain came plain)))
+    (seconds_none (standing f c.resume_choice.new.printer) _ c.resume_choice.new.visits settled.0
+    (c.in_ok-resume_choice.ensures.spends came.indent came.first came.second came.at came.choice (came_plain came plain)))
     (c.run_to_end-in-Finished.ensures.spends (continues.at_most plain).0)

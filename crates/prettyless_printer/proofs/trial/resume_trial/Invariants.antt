@@ -5,7 +5,7 @@ use Rattle.prettyless_printer.specs.Trials.{Trial}
 use Rattle.prettyless_printer.specs.Open.{Open, all_held, seconds}
 use Rattle.prettyless_printer.specs.Spending.{IsPlainTrial, Spends, left, rule_of}
 use Rattle.prettyless_printer.proofs.Costs.{left_at}
-use Rattle.prettyless_printer.proofs.trial.go_on_trying.Given as goal
+use Rattle.prettyless_printer.proofs.trial.resume_trial.Given as goal
 
 abbrev pub invariant-work : goal.invariant-work
 invariant-work g l =

@@ -1,7 +1,7 @@
 use Rattle.prettyless_printer.specs.Points.{point_at}
 use Rattle.prettyless_printer.specs.Trials.{make_trial}
 use Rattle.prettyless_printer.proofs.Choosing.{chooses_broke, chooses_kept, chooses_other, chooses_unwritten}
-use Rattle.prettyless_printer.proofs.run.go_on_choosing.Goals as goal
+use Rattle.prettyless_printer.proofs.run.resume_choice.Goals as goal
 
 -- the first branch is kept, and written
 pub returns-in-Ok-clause-settles : goal.returns-in-Ok-clause-settles

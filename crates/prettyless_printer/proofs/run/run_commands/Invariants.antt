@@ -6,7 +6,7 @@ use Rattle.prettyless_printer.specs.Points.{point, seen, standing, state_at}
 use Rattle.prettyless_printer.specs.Visits.{Plain}
 use Rattle.prettyless_printer.specs.Spending.{Spends, left, rule_of}
 use Rattle.prettyless_printer.specs.Paths.{Path, run_of}
-use Rattle.prettyless_printer.proofs.run.work_off.Given as goal
+use Rattle.prettyless_printer.proofs.run.run_commands.Given as goal
 
 abbrev pub invariant-work : goal.invariant-work
 invariant-work g l =

@@ -14,7 +14,7 @@ use Rattle.prettyless_printer.proofs.Spending.{spends_all, spends_same}
 use Rattle.prettyless_printer.proofs.OpenSpending.{spends_broke_as}
 use Rattle.prettyless_printer.proofs.Forgetting.{path_forgets, spends_forgets, work_forgets}
 use Rattle.prettyless_printer.proofs.RunSpending.{none_seconds, path_spends, seconds_none, waiting_spends}
-use Rattle.prettyless_printer.proofs.run.work_off.Goals as goal
+use Rattle.prettyless_printer.proofs.run.run_commands.Goals as goal
 
 pub work-init : goal.work-init
 work-init g c =

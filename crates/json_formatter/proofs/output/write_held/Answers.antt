@@ -1,7 +1,7 @@
 use Rattle.std.proofs.Common.{◌∙◌, ap}
 use Rattle.std.proofs.lemmas.Result.{on_err_weaker, on_ok_weaker}
 use Rattle.json_formatter.proofs.Outputs.{begun_stops, on_err, sent_all, sent_stops}
-use Rattle.json_formatter.proofs.output.hand_on.Goals as goal
+use Rattle.json_formatter.proofs.output.write_held.Goals as goal
 
 pub returns-in_err-write_text-clause-beginning : goal.returns-in_err-write_text-clause-beginning
 returns-in_err-write_text-clause-beginning g c =
