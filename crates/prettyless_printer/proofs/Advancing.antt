@@ -67,7 +67,7 @@ advances_moved {f} {a} {t} {b} {q} {x} {bytes} h one probes k lender accepts =
             (
               λ whole limit below old l m.
                   subst (λ (z : List ℕ). Inside o whole limit below old us u z) (sym y.1.0)
-                  (move_inside o whole limit below old t ts us st u out bytes (omega (arith, l, h.long))
+                  (move_inside bytes (omega (arith, l, h.long))
                   (h.inside out whole limit below old l m) k.steps_to),
               y.1.1,
             ),
@@ -102,7 +102,7 @@ failed_here {f} {a} {t} {b} h one fails =
       bytes = λ is_known. (
         is_known,
         (
-          (λ whole limit below old l m. failed o whole limit below old t ts st out (omega (arith, l, h.long))
+          (λ whole limit below old l m. failed (omega (arith, l, h.long))
               (h.inside out whole limit below old l m) fails),
           refl,
         ),
@@ -143,7 +143,7 @@ choice_here {f} {a} {t} {b} {x} {i} {l} {r} h one probes wants =
       bytes = λ is_known. (
         is_known,
         (
-          (λ whole limit below old n m. choice_inside o whole limit below old t ts st out i (f l) (f r) (omega (arith, n, h.long))
+          (λ whole limit below old n m. choice_inside (omega (arith, n, h.long))
               (h.inside out whole limit below old n m) wants),
           refl,
         ),
@@ -223,7 +223,7 @@ advances_sink_failed {f} {a} {t} {b} {q} {s} {bytes} {e} h one k lender refused 
             y.0,
             (
               λ whole limit below old l m.
-                  sink_broke o whole limit below old t ts q.tasks st (state_at q) out bytes (known s.bytes) (omega (arith, l, h.long))
+                  sink_broke q.tasks (state_at q) (omega (arith, l, h.long))
                   (h.inside out whole limit below old l m) k.steps_to y.1.0,
               y.1.1,
             ),

@@ -1,5 +1,5 @@
 -- The current node: what holds from where a turn began to there, and how one step leads to the next one.
-use Rattle.std.proofs.Common.{◌≡◌, ℕ, ◌+◌, ◌-◌, ◌*◌, ◌≤◌, ◌<◌, List, [], ◌∷◌, ◌++◌, length, refl, ap, sym, ◌∙◌, append-nil, arith, subst}
+use Rattle.std.proofs.Common.{◌≡◌, ℕ, ◌+◌, ◌-◌, ◌*◌, ◌≤◌, ◌<◌, List, [], ◌∷◌, length, refl, ap, sym, ◌∙◌, append-nil, arith, subst}
 use Rattle.prettyless_sink.specs.Sink.{rise}
 use Rattle.prettyless_sink.specs.declared.visits.Visits.{Visits}
 use Rattle.prettyless_model.specs.declared.options.RenderOptions.{RenderOptions}
@@ -72,8 +72,7 @@ in_hand a p t e s o g =
       grows = g;
       long = omega (arith, ap length e);
       less = omega (arith, ap nodes e, ap (λ (x : State). pending_work x.pending) s);
-      inside = λ out whole limit below old l h. inside_at p'.options whole limit below old p'.tasks ts (state_at p') (state_at p) out out
-          (sym e) s refl h;
+      inside = λ out whole limit below old l h. inside_at (sym e) s refl h;
       rise = rise_same a.visits;
       most = omega (arith, ap next_size e);
       at_most = λ plain. (
@@ -125,10 +124,10 @@ shown {N} f {a} {t} {s} {v} p q r r' hand e h =
     (subst (λ (z : StepResult N). Shows f t.mode z (step_at p.options t (tasks_of f p) (state_of f p)) p q) e h))
 
 -- the nodes that are left after a step that adds k visits to its own
-steps_to_most : (t : Task) (ts us : List Task) (st u : State) (bytes : List ℕ) (k : ℕ) (step : Step)
+steps_to_most : {st u : State} (t : Task) (ts us : List Task) (bytes : List ℕ) (k : ℕ) (step : Step)
     → LeavesLess (pending_work st.pending) (2 * size t.tree + pending_work st.pending - 2 * k) step → StepsTo step ts bytes us u → u ≡ st →
     nodes us + 1 + k ≤ size t.tree + nodes ts
-steps_to_most t ts us st u bytes k (Move b pushed x) less h e =
+steps_to_most t ts us bytes k (Move b pushed x) less h e =
     omega (
       arith,
       ap nodes h.1,
@@ -136,8 +135,8 @@ steps_to_most t ts us st u bytes k (Move b pushed x) less h e =
       ap (λ (z : State). pending_work z.pending) h.2,
       ap (λ (z : State). pending_work z.pending) e,
     )
-steps_to_most t ts us st u bytes k Stuck less h e = absurd h
-steps_to_most t ts us st u bytes k (Choose i x y) less h e = absurd h
+steps_to_most t ts us bytes k Stuck less h e = absurd h
+steps_to_most t ts us bytes k (Choose i x y) less h e = absurd h
 
 -- a step leads to the next node
 pub goes_down : {N : Type 0} (f : N → Tree) {a : Point} {t : Task} {s : Seen} {v : Visits} (p q : Printer N) (x : Visits) (i : ℕ) (m : Mode)
@@ -155,7 +154,7 @@ goes_down {N} f {a} {t} {s} {v} p q x i m n h one probes shows =
     let k = descended f i m n (step_at o t ts st) p q shows in
     let laid : OneLaid t b.visits x = record { printer = one.least; probes = probes } in
     let more = extra (rejects_payload o t.tree t.mode st) in
-    let fewer : nodes us + 1 + more ≤ size t.tree + nodes ts = steps_to_most t ts us st u [] more (step_at o t ts st)
+    let fewer : nodes us + 1 + more ≤ size t.tree + nodes ts = steps_to_most t ts us [] more (step_at o t ts st)
     (step_less_visits o t.tree t.indent t.mode _ st) k.steps_to k.state in
     record {
       options = k.options ∙ h.options;
@@ -165,8 +164,7 @@ goes_down {N} f {a} {t} {s} {v} p q x i m n h one probes shows =
       long = omega (arith, h.long, k.long);
       less = omega (arith, h.less, work_falls o t ts us st u [] k.steps_to);
       inside = λ out whole limit below old l y.
-          inside_at o whole limit below old us us u u (out ++ []) out refl refl (sym (append-nil out))
-          (move_inside o whole limit below old t ts us st u out [] (omega (arith, l, h.long))
+          inside_at refl refl (sym (append-nil out)) (move_inside [] (omega (arith, l, h.long))
           (h.inside out whole limit below old l y) k.steps_to);
       rise = rise_then h.rise one.rise;
       most = omega (arith, h.most, one.more.printer, fewer, k.heavy);

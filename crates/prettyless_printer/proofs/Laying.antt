@@ -92,7 +92,7 @@ laying_step {a} {t} {us} {b} vs q s x bytes h once w lender accepts =
             (
               λ whole limit below before l m.
                   subst (λ (k : List ℕ). Inside o whole limit below before new u k) (sym z.1.0)
-                  (move_inside o whole limit below before t ts new st u (known b.sink.bytes) bytes
+                  (move_inside bytes
                   (below_long us b.printer.tasks (length below) (length a.printer.tasks) l h.long)
                   (y.1.0 whole limit below before l m) w.steps_to),
               z.1.1 ∙ y.1.1,
@@ -140,13 +140,12 @@ laying_broke {a} {t} {us} {b} {x} h once plain =
     (failed_at_most (once_more a.printer.options t ts st b.visits x once)))
 
 -- the sink failed in the bytes of a text
-pub laying_sink_failed : {N E : Type 0} (f : N →
-    Tree) {a : Point} {t : Task} {us : List Task} {b : Point} (vs : List Task) (p q : Standing) (s : Seen) (x : Visits) (bytes : List ℕ)
-    (e : E) → Laying a (t ∷ us) b →
+pub laying_sink_failed : {N E : Type 0} (f : N → Tree) {a : Point} {t : Task} {us : List Task} {b : Point} {vs : List Task}
+    {q : Standing} {bytes : List ℕ} (p : Standing) (s : Seen) (x : Visits) (e : E) → Laying a (t ∷ us) b →
     VisitedOnce t b.visits x → FirstStepsTo a t us b vs q bytes → 1 ≤ size t.tree → s.lender ≡ b.sink.lender →
     Refuses b.sink.bytes s.bytes bytes b.sink.failures s.failures →
     Advances {N = N} {E = E} f a (point_at p s x) (Err (Sink e))
-laying_sink_failed {N} {E} f {a} {t} {us} {b} vs p q s x bytes e h once w size_1 lender refused =
+laying_sink_failed {N} {E} f {a} {t} {us} {b} {vs} {q} {bytes} p s x e h once w size_1 lender refused =
     let o = a.printer.options in
     let ts : List Task = us ++ b.printer.tasks in
     let new : List Task = vs ++ b.printer.tasks in
@@ -162,7 +161,7 @@ laying_sink_failed {N} {E} f {a} {t} {us} {b} vs p q s x bytes e h once w size_1
             z.0,
             (
               λ whole limit below old l m.
-                  sink_broke o whole limit below old t ts new st (state_at q) (known b.sink.bytes) bytes (known s.bytes)
+                  sink_broke new (state_at q)
                   (below_long us b.printer.tasks (length below) (length a.printer.tasks) l h.long)
                   (y.1.0 whole limit below old l m) w.steps_to z.1.0,
               z.1.1 ∙ ap rise y.1.1,
@@ -300,12 +299,12 @@ within_less : (w : Bool) (n m width : ℕ) → n ≤ m → (w && nat_le m width)
 within_less false n m width l = refl
 within_less true n m width l = grind (arith)
 
-text_steps_to : (o : RenderOptions) (p : Standing) (w : Bool) (g position : ℕ) (s : List ℕ) (i : ℕ) (ts : List Task) → o ≡ p.options →
+text_steps_to : {o : RenderOptions} (p : Standing) (w : Bool) (g position : ℕ) (s : List ℕ) (i : ℕ) (ts : List Task) → o ≡ p.options →
     0 < length s → TextStart p w g position →
     StepsTo (step_at o (make_task i Flat (Text s)) ts (state_at (laid_to p w position))) ts (spaces g ++ s) ts
     (state_at (laid_to p true (saturating_add position (length s))))
-text_steps_to o p w g position [] i ts e l h = absurd (omega (arith, l))
-text_steps_to o p false g position (c ∷ cs) i ts e l h =
+text_steps_to p w g position [] i ts e l h = absurd (omega (arith, l))
+text_steps_to p false g position (c ∷ cs) i ts e l h =
     let s : List ℕ = c ∷ cs in (
       ap (λ (k : ℕ). spaces k ++ s) h.0,
       refl,
@@ -315,7 +314,7 @@ text_steps_to o p false g position (c ∷ cs) i ts e l h =
         within = p.within && nat_le (saturating_add (h.1 j) (length s)) (sym e j).width;
       },
     )
-text_steps_to o p true g position (c ∷ cs) i ts e l h =
+text_steps_to p true g position (c ∷ cs) i ts e l h =
     let s : List ℕ = c ∷ cs in
     let at : position ≡ prospective (record { position = position; indent = 0; padding = 0; fresh = false }) = omega (arith, h.1) in
     let after = saturating_add position (length s) in
@@ -358,15 +357,15 @@ stands_grows : (p : Standing) (w : Bool) (m n : ℕ) → QueueGrows (laid_to p w
 stands_grows p false m n = ([], sym (append-nil p.queue))
 stands_grows p true m n = ([], sym (append-nil p.queue))
 
-text_writes : (a : Point) (p : Standing) (w : Bool) (g position : ℕ) (s : List ℕ) (i : ℕ) (us : List Task) (sink : Seen) (v : Visits) →
-    p.options ≡ a.printer.options → 0 < length s → TextStart p w g position →
+text_writes : {a : Point} {p : Standing} {w : Bool} {g position : ℕ} {s : List ℕ} {ds : List Tree} {sink : Seen} {v x : Visits}
+    (i : ℕ) (us : List Task) → AtText a p w g position s ds sink v x →
     FirstStepsTo a (make_task i Flat (Text s)) us (point_at (laid_to p w position) sink v) us
     (laid_to p true (saturating_add position (length s))) (spaces g ++ s)
-text_writes a p w g position s i us sink v e l h = record {
+text_writes {a} {p} {w} {g} {position} {s} i us h = record {
   tasks = sym (stands_tasks p w position);
   options = sym (stands_options p w position);
   grows = stands_grows p w position (saturating_add position (length s));
-  steps_to = text_steps_to a.printer.options p w g position s i (us ++ (laid_to p w position).tasks) (sym e) l h;
+  steps_to = text_steps_to p w g position s i (us ++ (laid_to p w position).tasks) (sym h.options) h.some h.spot;
   fewer = omega arith;
 }
 
@@ -382,7 +381,7 @@ lays_text {a} {p} {w} {g} {position} {s} {ds} {sink} {v} {x} t h lender accepts 
       z.others,
       laying_step us (laid_to p true (saturating_add position (length s))) t x (spaces g ++ s)
           (subst (λ (k : List Task). Laying a k b) z.is_it h.lays.1) (h.once z.at)
-          (text_writes a p w g position s z.at us sink v h.options h.some h.spot) lender accepts,
+          (text_writes z.at us h) lender accepts,
     )
 
 -- the sink failed in it
@@ -395,9 +394,9 @@ lays_text_failed {N} {E} f {a} {p} {w} {g} {position} {s} {ds} {sink} {v} {x} q 
     let b = point_at (laid_to p w position) sink v in
     let z = head (Text s) ds h.lays.0 in
     let us : List Task = flat_tasks z.others ds in
-    laying_sink_failed f us q (laid_to p true (saturating_add position (length s))) t x (spaces g ++ s) e
+    laying_sink_failed f q t x e
     (subst (λ (k : List Task). Laying a k b) z.is_it h.lays.1) (h.once z.at)
-    (text_writes a p w g position s z.at us sink v h.options h.some h.spot) (omega arith) lender refused
+    (text_writes z.at us h) (omega arith) lender refused
 
 -- no document is left
 pub lays_done : {N E : Type 0} (f : N → Tree) {a b : Point} → Lays a [] b → Advances {N = N} {E = E} f a b (Ok turn_result.Complete)
@@ -569,18 +568,23 @@ left_text {first} {b} {d} {ds} {w} {g} {position} {sink} {count} {n} s t some e 
       counted = omega (arith, k.counted, one.at_most);
     }
 
+-- A document is a text that is not empty, and the sink refuses it after a gap.
+pub record TextFails (s : List ℕ) (d : Tree) (sink t : Seen) (g : ℕ) : Type 0 where
+  pub some : 0 < length s
+  pub is : Text s ≡ d
+  pub lender : t.lender ≡ sink.lender
+  pub refused : Refuses sink.bytes t.bytes (spaces g ++ s) sink.failures t.failures
+
 -- the sink fails in it
-pub left_text_failed : {N E : Type 0} (f : N →
-    Tree) {first : Tree} {b : Point} {d : Tree} {ds : List Tree} {w : Bool} {g position : ℕ} {sink : Seen} {count n : ℕ} (s : List ℕ)
-    (q : Standing) (t : Seen) (x : Visits) (e : E) → 0 < length s →
-    Text s ≡ d → OneNode count n → Laid first b (d ∷ ds) w g position sink count → t.lender ≡ sink.lender →
-    Refuses sink.bytes t.bytes (spaces g ++ s) sink.failures t.failures → x ≡ record b.visits { printer = n } →
+pub left_text_failed : {N E : Type 0} (f : N → Tree) {first : Tree} {b : Point} {d : Tree} {ds : List Tree} {w : Bool}
+    {g position : ℕ} {sink : Seen} {count n : ℕ} {s : List ℕ} {q : Standing} {t : Seen} {x : Visits} (e : E) →
+    TextFails s d sink t g → OneNode count n → Laid first b (d ∷ ds) w g position sink count → x ≡ record b.visits { printer = n } →
     (a : Point) (i : ℕ) → Laying a (make_task i Flat first ∷ []) b → Advances {N = N} {E = E} f a (point_at q t x) (Err (Sink e))
-left_text_failed {N} {E} f {first} {b} {d} {ds} {w} {g} {position} {sink} {count} {n} s q t x e some is one h lender refused same a i m =
+left_text_failed {N} {E} f {first} {b} {d} {ds} {w} {g} {position} {sink} {count} {n} {s} {q} {t} {x} e fails one h same a i m =
     let k : Laid first b (Text s ∷ ds) w g position sink count =
-    subst (λ (z : Tree). Laid first b (z ∷ ds) w g position sink count) (sym is) h in
+    subst (λ (z : Tree). Laid first b (z ∷ ds) w g position sink count) (sym fails.is) h in
     subst (λ (z : Visits). Advances {N = N} {E = E} f a (point_at q t z) (Err (Sink e))) (sym same)
-    (lays_text_failed f q t e (at_text s some one k a i m) lender refused)
+    (lays_text_failed f q t e (at_text s fails.some one k a i m) fails.lender fails.refused)
 
 -- nothing is left
 pub left_done : {N E : Type 0} (f : N → Tree) {first : Tree} {b : Point} {ds : List Tree} {w : Bool} {g position : ℕ} {sink : Seen}

@@ -16,10 +16,10 @@ use Rattle.prettyless_printer.proofs.Steps.{LeavesLess, step_less}
 use Rattle.prettyless_printer.proofs.Progresses.{Steps, stepping, inside_beginning}
 
 -- the same progress, where stack, state and bytes are named otherwise
-pub inside_at : (o : RenderOptions) (whole : Outcome) (limit : ℕ) (below : List Task) (old : List ℕ) (stack stack' : List Task)
-    (st st' : State) (out out' : List ℕ) →
+pub inside_at : {o : RenderOptions} {whole : Outcome} {limit : ℕ} {below : List Task} {old : List ℕ} {stack stack' : List Task}
+    {st st' : State} {out out' : List ℕ} →
     stack' ≡ stack → st' ≡ st → out' ≡ out → Inside o whole limit below old stack st out → Inside o whole limit below old stack' st' out'
-inside_at o whole limit below old stack stack' st st' out out' e f h p = record {
+inside_at {o} {whole} {limit} {below} e f h p = record {
   above = p.above;
   bytes = p.bytes;
   stack_is = e ∙ p.stack_is;
@@ -56,55 +56,51 @@ pub choice_work_falls : (o : RenderOptions) (t : Task) (ts : List Task) (st : St
 choice_work_falls o t ts st i x y h = choice_work_falls_by t ts st i x y (step_at o t ts st)
     (step_less o t.tree t.indent t.mode (follow ts) st) h
 
-move_by : (o : RenderOptions) (whole : Outcome) (limit : ℕ) (below : List Task) (old : List ℕ) (ts us : List Task) (st u : State)
-    (out bytes : List ℕ) (step : Step) →
+move_by : {o : RenderOptions} {whole : Outcome} {limit : ℕ} {below : List Task} {old : List ℕ} {us : List Task} {u : State}
+    (ts : List Task) (st : State) (out bytes : List ℕ) (step : Step) →
     Steps o whole limit below old ts st out step → StepsTo step ts bytes us u → Inside o whole limit below old us u (out ++ bytes)
-move_by o whole limit below old ts us st u out bytes (Move b pushed v) p h =
-    inside_at o whole limit below old (pushed ++ ts) us v u (out ++ b) (out ++ bytes) h.1 h.2 (ap (λ (x : List ℕ). out ++ x) h.0) p
-move_by o whole limit below old ts us st u out bytes Stuck p h = absurd h
-move_by o whole limit below old ts us st u out bytes (Choose i x y) p h = absurd h
+move_by ts st out bytes (Move b pushed v) p h = inside_at h.1 h.2 (ap (λ (x : List ℕ). out ++ x) h.0) p
+move_by ts st out bytes Stuck p h = absurd h
+move_by ts st out bytes (Choose i x y) p h = absurd h
 
 -- the work goes on inside the whole
-pub move_inside : (o : RenderOptions) (whole : Outcome) (limit : ℕ) (below : List Task) (old : List ℕ) (t : Task) (ts us : List Task)
-    (st u : State) (out bytes : List ℕ) → length below ≤ length ts →
+pub move_inside : {o : RenderOptions} {whole : Outcome} {limit : ℕ} {below : List Task} {old : List ℕ} {t : Task} {ts us : List Task}
+    {st u : State} {out : List ℕ} (bytes : List ℕ) → length below ≤ length ts →
     Inside o whole limit below old (t ∷ ts) st out → StepsTo (step_at o t ts st) ts bytes us u
     → Inside o whole limit below old us u (out ++ bytes)
-move_inside o whole limit below old t ts us st u out bytes l p h = move_by o whole limit below old ts us st u out bytes (step_at o t ts st)
-    (stepping l p) h
+move_inside {o} {whole} {limit} {below} {old} {t} {ts} {us} {st} {u} {out} bytes l p h =
+    move_by ts st out bytes (step_at o t ts st) (stepping l p) h
 
-failed_by : (o : RenderOptions) (whole : Outcome) (limit : ℕ) (below : List Task) (old : List ℕ) (ts : List Task) (st : State)
-    (out : List ℕ) (step : Step) →
+failed_by : (o : RenderOptions) {whole : Outcome} (limit : ℕ) {below : List Task} (old : List ℕ) {ts : List Task} (st : State)
+    {out : List ℕ} (step : Step) →
     Steps o whole limit below old ts st out step → IsStuck step → (bytes : List ℕ) × (above : List Task) × (out ≡ old ++ bytes)
     × (whole ≡ Failed bytes) × (ts ≡ above ++ below)
-failed_by o whole limit below old ts st out (Move b pushed v) p h = absurd h
-failed_by o whole limit below old ts st out Stuck p h = p
-failed_by o whole limit below old ts st out (Choose i x y) p h = absurd h
+failed_by o limit old st (Move b pushed v) p h = absurd h
+failed_by o limit old st Stuck p h = p
+failed_by o limit old st (Choose i x y) p h = absurd h
 
 -- the whole fails after what was written
-pub failed : (o : RenderOptions) (whole : Outcome) (limit : ℕ) (below : List Task) (old : List ℕ) (t : Task) (ts : List Task) (st : State)
-    (out : List ℕ) → length below ≤ length ts →
+pub failed : {o : RenderOptions} {whole : Outcome} {limit : ℕ} {below : List Task} {old : List ℕ} {t : Task} {ts : List Task} {st : State}
+    {out : List ℕ} → length below ≤ length ts →
     Inside o whole limit below old (t ∷ ts) st out → IsStuck (step_at o t ts st) → (bytes : List ℕ) × (above : List Task)
     × (out ≡ old ++ bytes) × (whole ≡ Failed bytes) × (ts ≡ above ++ below)
-failed o whole limit below old t ts st out l p h = failed_by o whole limit below old ts st out (step_at o t ts st)
-    (stepping l p) h
+failed {o} {whole} {limit} {below} {old} {t} {ts} {st} l p h = failed_by o limit old st (step_at o t ts st) (stepping l p) h
 
-choice_by : (o : RenderOptions) (whole : Outcome) (limit : ℕ) (below : List Task) (old : List ℕ) (ts : List Task) (st : State)
-    (out : List ℕ) (i : ℕ) (x y : Tree) (step : Step) →
+choice_by : {o : RenderOptions} {whole : Outcome} {limit : ℕ} {below : List Task} {old : List ℕ} {ts : List Task} {st : State}
+    {out : List ℕ} {i : ℕ} {x y : Tree} (step : Step) →
     Steps o whole limit below old ts st out step → IsChoice step i x y → ChoiceNext o whole limit below old i x y ts st out
-choice_by o whole limit below old ts st out i x y (Move b pushed v) p h = absurd h
-choice_by o whole limit below old ts st out i x y Stuck p h = absurd h
-choice_by o whole limit below old ts st out i x y (Choose j v w) p h =
+choice_by (Move b pushed v) p h = absurd h
+choice_by Stuck p h = absurd h
+choice_by {o} {whole} {limit} {below} {old} {ts} {st} {out} {i} {x} {y} (Choose j v w) p h =
     subst (λ (k : ℕ). ChoiceNext o whole limit below old k x y ts st out) (sym h.0)
     (subst (λ (k : Tree). ChoiceNext o whole limit below old j k y ts st out) (sym h.1)
     (subst (λ (k : Tree). ChoiceNext o whole limit below old j v k ts st out) (sym h.2) p))
 
 -- a choice waits
-pub choice_inside : (o : RenderOptions) (whole : Outcome) (limit : ℕ) (below : List Task) (old : List ℕ) (t : Task) (ts : List Task)
-    (st : State)
-    (out : List ℕ) (i : ℕ) (x y : Tree) → length below ≤ length ts →
+pub choice_inside : {o : RenderOptions} {whole : Outcome} {limit : ℕ} {below : List Task} {old : List ℕ} {t : Task} {ts : List Task}
+    {st : State} {out : List ℕ} {i : ℕ} {x y : Tree} → length below ≤ length ts →
     Inside o whole limit below old (t ∷ ts) st out → IsChoice (step_at o t ts st) i x y → ChoiceNext o whole limit below old i x y ts st out
-choice_inside o whole limit below old t ts st out i x y l p h = choice_by o whole limit below old ts st out i x y (step_at o t ts st)
-    (stepping l p) h
+choice_inside {o} {whole} {limit} {below} {old} {t} {ts} {st} l p h = choice_by (step_at o t ts st) (stepping l p) h
 
 -- a beginning of the next piece, after what was written, is a beginning of the whole
 pub beginning_less : (old out new b text : List ℕ) → AppendsBeginning out new b → AppendsBeginning old (out ++ b) text → (front : List ℕ)
@@ -120,11 +116,9 @@ beginning_less old out new b text p q w =
     )
 
 -- the sink failed: a beginning of the whole was written
-pub sink_broke : (o : RenderOptions) (whole : Outcome) (limit : ℕ) (below : List Task) (old : List ℕ) (t : Task) (ts us : List Task)
-    (st u : State) (out bytes new : List ℕ) → length below ≤ length ts →
+pub sink_broke : {o : RenderOptions} {whole : Outcome} {limit : ℕ} {below : List Task} {old : List ℕ} {t : Task} {ts : List Task}
+    {st : State} {out bytes new : List ℕ} (us : List Task) (u : State) → length below ≤ length ts →
     Inside o whole limit below old (t ∷ ts) st out → StepsTo (step_at o t ts st) ts bytes us u → AppendsBeginning out new bytes
     → AppendsBeginning old new (bytes_before whole)
-sink_broke o whole limit below old t ts us st u out bytes new l p h part =
-    beginning_less old out new bytes (bytes_before whole) part
-    (inside_beginning (move_inside o whole limit below old t ts us st u out bytes l p h))
-    (p.bytes, p.out_is)
+sink_broke {o} {whole} {limit} {below} {old} {t} {ts} {st} {out} {bytes} {new} us u l p h part =
+    beginning_less old out new bytes (bytes_before whole) part (inside_beginning (move_inside bytes l p h)) (p.bytes, p.out_is)

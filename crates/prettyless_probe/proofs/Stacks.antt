@@ -136,19 +136,31 @@ downwards_kept {N} f cs k above below h l =
           above below less,
     )
 
-pub kept_below : {N : Type 0} (f : N → Tree) (xs : List Frame) (here : Frame) (ns : List N) (k : ℕ) → lowest xs here ≡ 0 → Rises xs here
-    → here.below ≤ length ns → here.below ≤ k →
-    (above below : List Task) → framed_tasks f xs here ns ≡ above ++ below → length below ≤ k → (rest : List Task)
-    × (framed_tasks f xs here (take k ns) ≡ rest ++ below)
-kept_below {N} f xs here ns k b r l h above below e m =
-    let w = downwards_kept f (spread xs here ns) k above below e m in
-    (w.0, ap (downwards (task f)) (spread_take xs here ns k b r l h) ∙ w.1)
+-- The first k nodes are kept, and all frames: each of these has its nodes among them.
+pub record KeepsFrames {N : Type 0} (xs : List Frame) (here : Frame) (ns : List N) (k : ℕ) : Type 0 where
+  pub bottom : lowest xs here ≡ 0
+  pub rises : Rises xs here
+  pub within : here.below ≤ length ns
+  pub kept : here.below ≤ k
 
-pub kept_at_most : {N : Type 0} (f : N → Tree) (xs : List Frame) (here : Frame) (ns : List N) (k : ℕ) → lowest xs here ≡ 0 → Rises xs here
-    → here.below ≤ length ns → here.below ≤ k → length (framed_tasks f xs here (take k ns)) ≤ k
-kept_at_most {N} f xs here ns k b r l h =
+pub stack_keeps : {N : Type 0} (s : Stack N) (k : ℕ) → s.here.below ≤ k → KeepsFrames s.frames.items s.here s.nodes.items k
+stack_keeps {N} s k l = record { bottom = s.bottom; rises = s.rises; within = omega (arith, s.top, s.nodes.ok.0); kept = l }
+
+kept_tasks : {N : Type 0} (f : N → Tree) {xs : List Frame} {here : Frame} {ns : List N} {k : ℕ} → KeepsFrames xs here ns k
+    → framed_tasks f xs here (take k ns) ≡ downwards (task f) (take k (spread xs here ns))
+kept_tasks {N} f {xs} {here} {ns} {k} h = ap (downwards (task f)) (spread_take xs here ns k h.bottom h.rises h.within h.kept)
+
+pub kept_below : {N : Type 0} (f : N → Tree) {xs : List Frame} {here : Frame} {ns : List N} {k : ℕ} → KeepsFrames xs here ns k
+    → (above below : List Task) → framed_tasks f xs here ns ≡ above ++ below → length below ≤ k → (rest : List Task)
+    × (framed_tasks f xs here (take k ns) ≡ rest ++ below)
+kept_below {N} f {xs} {here} {ns} {k} h above below e m =
+    let w = downwards_kept f (spread xs here ns) k above below e m in (w.0, kept_tasks f h ∙ w.1)
+
+pub kept_at_most : {N : Type 0} (f : N → Tree) {xs : List Frame} {here : Frame} {ns : List N} {k : ℕ} → KeepsFrames xs here ns k
+    → length (framed_tasks f xs here (take k ns)) ≤ k
+kept_at_most {N} f {xs} {here} {ns} {k} h =
     let part = length-take k ns in
-    omega (arith, part, length-tasks f xs here (take k ns) b r (omega (arith, part, l, h)))
+    omega (arith, part, length-tasks f xs here (take k ns) h.bottom h.rises (omega (arith, part, h.within, h.kept)))
 
 -- the tasks of the first n items are those at the bottom
 downwards_take : {A : Type 0} (g : A → Task) (xs : List A) (n : ℕ) → n ≤ length xs
@@ -161,19 +173,18 @@ downwards_take g xs n l =
     ∙ drop_at off on k (omega (arith, length-downwards g (drop n xs), length-drop n xs, length-downwards g xs, l)))
 
 -- the nodes at the bottom, from the last frame on
-pub tasks_bottom : {N : Type 0} (f : N → Tree) (xs : List Frame) (here : Frame) (ns : List N) (k : ℕ) → lowest xs here ≡ 0 → Rises xs here
-    → here.below ≤ length ns → here.below ≤ k → k ≤ length ns →
+pub tasks_bottom : {N : Type 0} (f : N → Tree) {xs : List Frame} {here : Frame} {ns : List N} {k : ℕ} → KeepsFrames xs here ns k
+    → k ≤ length ns →
     framed_tasks f xs here (take k ns) ≡ drop (length (framed_tasks f xs here ns) - k) (framed_tasks f xs here ns)
-tasks_bottom {N} f xs here ns k b r l h m =
-    ap (downwards (task f)) (spread_take xs here ns k b r l h) ∙ downwards_take (task f) (spread xs here ns) k
-    (omega (arith, length-spread xs here ns r l, b, m))
+tasks_bottom {N} f {xs} {here} {ns} {k} h m =
+    kept_tasks f h ∙ downwards_take (task f) (spread xs here ns) k
+    (omega (arith, length-spread xs here ns h.rises h.within, h.bottom, m))
 
 -- what is taken off is above what is kept
-pub tasks_above : {N : Type 0} (f : N → Tree) (xs : List Frame) (here : Frame) (ns : List N) (k : ℕ) → lowest xs here ≡ 0 → Rises xs here
-    → here.below ≤ length ns → here.below ≤ k →
-    framed_tasks f xs here ns ≡ downwards (task f) (drop k (spread xs here ns)) ++ framed_tasks f xs here (take k ns)
-tasks_above {N} f xs here ns k b r l h =
+pub tasks_above : {N : Type 0} (f : N → Tree) {xs : List Frame} {here : Frame} {ns : List N} {k : ℕ} → KeepsFrames xs here ns k
+    → framed_tasks f xs here ns ≡ downwards (task f) (drop k (spread xs here ns)) ++ framed_tasks f xs here (take k ns)
+tasks_above {N} f {xs} {here} {ns} {k} h =
     downwards_parts (task f) (spread xs here ns) k ∙ ap (λ (z : List Task). downwards (task f) (drop k (spread xs here ns)) ++ z)
-    (sym (ap (downwards (task f)) (spread_take xs here ns k b r l h)))
+    (sym (kept_tasks f h))
 
 pub ruleset below_steps = (append_assoc, append-nil)

@@ -77,11 +77,11 @@ sum_own s n i m d ts e known own = record {
 }
 
 -- of a task that is known, and those below it
-pub sum_then : (s r : Summary) (b : Below) (i : ℕ) (m : Mode) (d : Tree) (ts : List Task) → Summarizes s d Break → SumsUp b ts
+pub sum_then : (s : Summary) {r : Summary} {b : Below} (i : ℕ) (m : Mode) (d : Tree) (ts : List Task) → Summarizes s d Break → SumsUp b ts
     → ThenReads s b.sum r →
     (HaveSum (make_task i m d ∷ ts) → IsSmall (nodes ts) b.sum → IsSmall (size d + nodes ts) r)
     → SumsUp (below r b.left) (make_task i m d ∷ ts)
-sum_then s r b i m d ts known under both small = record {
+sum_then s {r} {b} i m d ts known under both small = record {
   left = omega (arith, under.left);
   fits = λ w c p l.
       answer-same (look w d i Break c p) (look_by w s c p) (λ x q. tasks_fit w (in_break ts) x q)

@@ -28,16 +28,20 @@ map_same P g h same [] all = refl
 map_same P g h same (x ∷ xs) all =
     ap₂ (λ y ys. y ∷ ys) (same x (All-head P x xs all)) (map_same P g h same xs (All-tail P x xs all))
 
+-- what is at a place is there still, and so is its place
+abbrev pub KeptAt : {A B : Type 0} → (A → Type 0) → (A → B) → (A → B) → A → Type 0
+KeptAt Q g h a = Q a × (h a ≡ g a)
+
 -- one more, after the table has grown
-first_more : {A B : Type 0} (P Q : A → Type 0) (g h : A → B) (xs ys : List A) (x : A) (y : B) (left later all : List B)
-    → ((a : A) → P a → Q a) → ((a : A) → P a → h a ≡ g a) → Q x → h x ≡ y → ys ≡ xs ++ x ∷ [] → left ≡ y ∷ later
+first_more : {A B : Type 0} {P Q : A → Type 0} {g h : A → B} {xs ys : List A} {x : A} {y : B} {left later all : List B}
+    → ((a : A) → P a → KeptAt Q g h a) → Q x → h x ≡ y → ys ≡ xs ++ x ∷ [] → left ≡ y ∷ later
     → AreFirst P g xs left all → AreFirst Q h ys later all
-first_more {A} {B} P Q g h xs ys x y left later all weaker kept within is longer_by less first = record {
-  within = All-same Q ys (xs ++ x ∷ []) longer_by (All-push Q xs x (All-weaker P Q weaker xs first.within) within);
+first_more {A} {B} {P} {Q} {g} {h} {xs} {ys} {x} {y} {left} {later} kept within is longer_by less first = record {
+  within = All-same Q ys (xs ++ x ∷ []) longer_by (All-push Q xs x (All-weaker P Q (λ a p. (kept a p).0) xs first.within) within);
   same = ap (λ (zs : List A). map h zs ++ later) longer_by
       ∙ ap (λ (zs : List B). zs ++ later) (map-append h xs (x ∷ []))
       ∙ append_assoc (map h xs) (h x ∷ []) later
-      ∙ ap₂ (λ (zs : List B) (z : B). zs ++ z ∷ later) (map_same P g h kept xs first.within) is
+      ∙ ap₂ (λ (zs : List B) (z : B). zs ++ z ∷ later) (map_same P g h (λ a p. (kept a p).1) xs first.within) is
       ∙ ap (λ (zs : List B). map g xs ++ zs) (sym less)
       ∙ first.same;
 }
@@ -50,24 +54,21 @@ FirstCommands f cells = AreFirst (λ (c : Command ℕ). IsRoot cells c.node) (ta
 abbrev pub FirstNodes : {N : Type 0} → (N → Tree) → List (Cell N) → List ℕ → List Tree → List Tree → Type 0
 FirstNodes f cells = AreFirst (λ (at : ℕ). IsRoot cells at) (tree_at f cells)
 
-pub command_more : {N : Type 0} (f : N → Tree) (old new : List (Cell N)) (places after : List (Command ℕ)) (c : Command ℕ) (d : Tree)
-    (left later all : List Task)
+pub command_more : {N : Type 0} (f : N → Tree) {old new : List (Cell N)} {places after : List (Command ℕ)} {c : Command ℕ} {d : Tree}
+    {left later all : List Task}
     → CellsGrow f old new → HasAt (cell_trees f new) c.node d → after ≡ places ++ c ∷ [] → left ≡ make_task c.indent c.mode d ∷ later
     → FirstCommands f old places left all → FirstCommands f new after later all
-command_more f old new places after c d left later all grows has longer less first =
-    first_more (λ (b : Command ℕ). IsRoot old b.node) (λ (b : Command ℕ). IsRoot new b.node) (task (tree_at f old)) (task (tree_at f new))
-    places after c (make_task c.indent c.mode d) left later all (λ b. root_stays f old new b.node grows)
-    (λ b l. ap (make_task b.indent b.mode) (tree_same f old new b.node grows l))
+command_more f {old} {new} {places} {after} {c} {d} grows has longer less first =
+    first_more (λ b l. (root_stays f old new b.node grows l, ap (make_task b.indent b.mode) (tree_same f old new b.node grows l)))
     (at_root f new c.node d has) (ap (λ u. make_task c.indent c.mode (tree_or_nil u)) has.is) longer less first
 
-pub node_more : {N : Type 0} (f : N → Tree) (old new : List (Cell N)) (places after : List ℕ) (at : ℕ) (d : Tree)
-    (left later all : List Tree)
+pub node_more : {N : Type 0} (f : N → Tree) {old new : List (Cell N)} {places after : List ℕ} {at : ℕ} {d : Tree}
+    {left later all : List Tree}
     → CellsGrow f old new → HasAt (cell_trees f new) at d → after ≡ places ++ at ∷ [] → left ≡ d ∷ later
     → FirstNodes f old places left all → FirstNodes f new after later all
-node_more f old new places after at d left later all grows has longer less first =
-    first_more (λ (i : ℕ). IsRoot old i) (λ (i : ℕ). IsRoot new i) (tree_at f old) (tree_at f new) places after at d left later all
-    (λ i. root_stays f old new i grows) (λ i l. tree_same f old new i grows l) (at_root f new at d has) (ap tree_or_nil has.is)
-    longer less first
+node_more f {old} {new} {places} {after} {at} {d} grows has longer less first =
+    first_more (λ i l. (root_stays f old new i grows l, tree_same f old new i grows l)) (at_root f new at d has)
+    (ap tree_or_nil has.is) longer less first
 
 -- commands at places are there after the table has grown
 pub commands_kept : {N : Type 0} (f : N → Tree) (old new : List (Cell N)) (places : List (Command ℕ)) (ts : List Task)

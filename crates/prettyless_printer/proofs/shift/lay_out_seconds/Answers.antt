@@ -38,9 +38,7 @@ trials-preserved g c =
       within = omega (arith, within);
       count = omega (arith, c.trials.invariant.count, c.in_ok-add.ensures.count);
       grows = grows_then f c.args.table.now.cells.items old new c.trials.invariant.grows c.add.ensures.grows;
-      first = node_more f old new c.trials.places.items c.push.new.self.items c.in_ok-add.field-0 (f trial.second)
-          (seconds (all_held f left)) (seconds (all_held f later)) (seconds (all_held f all))
-          c.add.ensures.grows c.in_ok-add.ensures.laid c.in_ok-push.ensures.items (ap (λ us. seconds (all_held f us)) read)
+      first = node_more f c.add.ensures.grows c.in_ok-add.ensures.laid c.in_ok-push.ensures.items (ap (λ us. seconds (all_held f us)) read)
           c.trials.invariant.first;
       stand = c.in_ok-add.ensures.later (seconds (all_held f later))
           (subst (λ us. Stand old (seconds (all_held f us)) c.trials.standing.items) read c.trials.invariant.stand);

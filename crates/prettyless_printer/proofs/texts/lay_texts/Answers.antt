@@ -5,7 +5,7 @@ use Rattle.prettyless_step.specs.declared.printer.Printer.{Printer}
 use Rattle.prettyless_printer.specs.Points.{point, seen, standing}
 use Rattle.prettyless_printer.specs.Laying.{laid_to, left_trees, trees_waiting}
 use Rattle.prettyless_printer.proofs.Laying.{Laid, OneNode, left_append, left_at, left_begins, left_done, left_either, left_empty}
-use Rattle.prettyless_printer.proofs.Laying.{left_group, left_nest, left_nil, left_text, left_text_failed, left_trees-push}
+use Rattle.prettyless_printer.proofs.Laying.{left_group, left_nest, left_nil, left_text, left_text_failed, left_trees-push, TextFails}
 use Rattle.prettyless_printer.proofs.Laying.{length-left_trees, no_bytes, room_append, room_to_wait, some_bytes}
 use Rattle.prettyless_printer.proofs.texts.lay_texts.Goals as goal
 use Rattle.prettyless_printer.proofs.texts.lay_texts.Goals.{in-Text+then-not-is_empty+in_default-write_gap_and_text}
@@ -114,10 +114,13 @@ returns-in-Err-clause-lays g c = λ a i m.
     let one : OneNode c.nodes.count c.one_more-count.result =
     record { one = c.one_more-count.ensures.one; rises = c.one_more-count.ensures.rises; at_most = c.one_more-count.ensures.at_most } in
     let same = ap (λ (z : Visits). record z { printer = c.one_more-count.result }) h.visits in
-    left_text_failed f c.in-Text.s.now _ _ _ c.in-Err.e
-    (some_bytes c.is_empty.result c.in-Text.s.now c.is_empty.ensures c.if-not-is_empty.true) c.in-Text.ensures.tree one h.left
-    c.write_gap_and_text.ensures.same_lender
-    c.in-Err.ensures.err same a i m
+    let fails : TextFails c.in-Text.s.now _ _ _ _ = record {
+      some = some_bytes c.is_empty.result c.in-Text.s.now c.is_empty.ensures c.if-not-is_empty.true;
+      is = c.in-Text.ensures.tree;
+      lender = c.write_gap_and_text.ensures.same_lender;
+      refused = c.in-Err.ensures.err;
+    } in
+    left_text_failed f c.in-Err.e fails one h.left same a i m
 
 pub returns-in_default-pop-clause-lays : goal.returns-in_default-pop-clause-lays
 returns-in_default-pop-clause-lays g c = λ a i m.

@@ -1,5 +1,5 @@
 use Rattle.std.proofs.Common.{◌≡◌, ℕ, ◌++◌, ◌∷◌, ap, arith, length, subst}
-use Rattle.prettyless_probe.specs.Stack.{stack_of, task, unread}
+use Rattle.prettyless_probe.specs.Stack.{task, unread}
 use Rattle.prettyless_probe.specs.declared.command.Command.{Command}
 use Rattle.prettyless_table.specs.Owners.{Stand, task_trees}
 use Rattle.prettyless_table.proofs.Trees.{grows_then}
@@ -19,9 +19,7 @@ commands-preserved g c =
     record {
       of_this = c.in-Some.ensures.of_this;
       grows = grows_then f c.args.table.now.cells.items old new c.commands.invariant.grows c.add.ensures.grows;
-      first = command_more f old new c.commands.places.items c.push.new.self.items placed (f command.node)
-          left later (stack_of f c.args.commands.now)
-          c.add.ensures.grows c.in_ok-node.ensures.laid c.in_ok-push.ensures.items read c.commands.invariant.first;
+      first = command_more f {c = placed} c.add.ensures.grows c.in_ok-node.ensures.laid c.in_ok-push.ensures.items read c.commands.invariant.first;
       count = omega (arith, c.commands.invariant.count, ap length read, c.in_ok-node.ensures.count);
       stand = λ more h.
           c.in_ok-node.ensures.later (task_trees later ++ more)

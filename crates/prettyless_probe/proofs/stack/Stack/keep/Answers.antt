@@ -2,7 +2,7 @@ use Rattle.std.proofs.Common.{◌∙◌, ◌++◌, length, ap, arith, sym, drop,
 use Rattle.std.proofs.lemmas.List.{length-take}
 use Rattle.prettyless_probe.specs.Frames.{spread}
 use Rattle.prettyless_probe.specs.Stack.{Task, downwards, framed_tasks, stack_of, task}
-use Rattle.prettyless_probe.proofs.Stacks.{kept_below, kept_at_most, tasks_above}
+use Rattle.prettyless_probe.proofs.Stacks.{kept_below, kept_at_most, stack_keeps, tasks_above}
 use Rattle.prettyless_probe.proofs.Sums.{summed_cut}
 use Rattle.prettyless_probe.proofs.stack.Stack.keep.Goals as goal
 
@@ -10,8 +10,7 @@ pub returns-clause-below : goal.returns-clause-below
 returns-clause-below g c above below e l =
     let f = g.N.Walk.tree in
     let s = c.args.self.now in
-    let w = kept_below f s.frames.items s.here s.nodes.items c.args.kept s.bottom s.rises (omega (arith, s.top, s.nodes.ok.0)) c.requires
-    above below e l in
+    let w = kept_below f (stack_keeps s c.args.kept c.requires) above below e l in
     (w.0, ap (stack_of f) c.cut_sums.ensures.others ∙ ap (framed_tasks f s.frames.items s.here) c.truncate.ensures.items ∙ w.1)
 
 pub returns-clause-at_most : goal.returns-clause-at_most
@@ -23,8 +22,7 @@ returns-clause-at_most g c =
       ap (λ u. length (stack_of f u)) c.cut_sums.ensures.others,
       ap (λ ns. length (framed_tasks f s.frames.items s.here ns))
           c.truncate.ensures.items,
-      kept_at_most f s.frames.items s.here s.nodes.items c.args.kept s.bottom s.rises
-          (omega (arith, s.top, s.nodes.ok.0)) c.requires,
+      kept_at_most f (stack_keeps s c.args.kept c.requires),
     )
 
 pub returns-clause-summed : goal.returns-clause-summed
@@ -36,7 +34,7 @@ returns-clause-summed g c =
     let above : List Task = downwards (task f) (drop k (spread s.frames.items s.here s.nodes.items)) in
     let same = ap (λ z. length z.nodes.items) c.cut_sums.ensures.others in
     summed_cut g.N.Walk.HAS_SUMMARIES f s u above
-    (tasks_above f s.frames.items s.here s.nodes.items k s.bottom s.rises (omega (arith, s.top, s.nodes.ok.0)) c.requires
+    (tasks_above f (stack_keeps s k c.requires)
     ∙ ap (λ (z : List Task). above ++ z)
     (sym (ap (stack_of f) c.cut_sums.ensures.others ∙ ap (framed_tasks f s.frames.items s.here) c.truncate.ensures.items)))
     (omega (arith, same, ap length c.truncate.ensures.items, length-take k s.nodes.items))

@@ -12,5 +12,10 @@ returns-clause-unread g c =
     let reads = c.requires.of_this in
     let long = length-take-le old.nodes s.nodes.items reads.nodes in
     ap (framed_tasks f (take old.frames s.frames.items) old.here) (sym (take-take c.args.left old.nodes s.nodes.items c.requires.left))
-    ∙ tasks_bottom f (take old.frames s.frames.items) old.here (take old.nodes s.nodes.items) c.args.left reads.covers.bottom
-    reads.covers.rises (omega (arith, reads.covers.top, long)) c.requires.below (omega (arith, c.requires.left, long))
+    ∙ tasks_bottom f
+    (record {
+      bottom = reads.covers.bottom;
+      rises = reads.covers.rises;
+      within = omega (arith, reads.covers.top, long);
+      kept = c.requires.below;
+    }) (omega (arith, c.requires.left, long))

@@ -39,7 +39,7 @@ returns-in-Some-then g c i m h =
     let b = c.in-Some-last.below.now in
     let item = c.in-Some-last.ensures.item in
     let under = sum_top g.N.Walk.HAS_SUMMARIES f s c.deref.result.now b h c.deref.ensures.value item.3.0 item.1 in
-    sum_then c.in-Some.own c.in-Some-then.sum b i m d (stack_of f s) c.in-Some.ensures.known under c.in-Some-then.ensures.reads
+    sum_then c.in-Some.own i m d (stack_of f s) c.in-Some.ensures.known under c.in-Some-then.ensures.reads
     (λ all small. c.in-Some-then.ensures.small (size d) (nodes (stack_of f s)) all.1
     (c.in-Some.ensures.found c.requires all.0.0 (omega (arith, all.1))) small)
 
