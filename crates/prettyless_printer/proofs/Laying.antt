@@ -1,7 +1,11 @@
 -- A document that is laid as its texts: how its nodes lead on, and how the turn ends.
 use Rattle.std.proofs.Common.{◌≡◌, ◌==◌, ℕ, ℤ, ◌^◌, ◌+◌, ◌≤◌, ◌<◌, ◌&&◌, nat_le, Bool, true, false, List, [], ◌∷◌, ◌++◌, length, refl, ap}
-use Rattle.std.proofs.Common.{sym, ◌∙◌, append-nil, arith, subst, Ok, Err, length-append, reverse}
+use Rattle.std.proofs.Common.{sym, ◌∙◌, append-nil, arith, subst, Ok, Err, append_assoc, length-append, reverse}
+use Rattle.std.specs.List.{All, sum_by}
 use Rattle.std.proofs.lemmas.List.{length-map, length-reverse, reverse-append}
+use Rattle.std.proofs.lemmas.List.Elements.{All-append, All-cons, All-head, All-nil, All-tail}
+use Rattle.std.proofs.lemmas.List.Sums.{sum_by-append, sum_by-cons}
+use Rattle.prettyless_probe.proofs.Stacks.{nodes-append}
 use Rattle.prettyless_sink.specs.Sink.{Accepts, IfKnown, Refuses, known, rise}
 use Rattle.prettyless_sink.specs.declared.error.RenderError.TheVariants.{Sink}
 use Rattle.prettyless_sink.specs.declared.visits.Visits.{Visits}
@@ -232,63 +236,102 @@ laying_steps_to {a} {i} {d} {us} {b} vs x h once steps_to fewer =
     (record { tasks = refl; options = refl; grows = ([], sym (append-nil b.printer.queue)); steps_to = steps_to; fewer = fewer }) refl
     (λ is_known. (is_known, (sym (append-nil (known b.sink.bytes)), refl)))
 
--- one document after another
-pub lays_append : {a : Point} {b : Point} (l r : Tree) (ds : List Tree) (x : Visits) → Lays a (Append l r ∷ ds) b → ((i : ℕ) →
-    VisitedOnce (make_task i Flat (Append l r)) b.visits x) → Lays a (l ∷ r ∷ ds) (point_at b.printer b.sink x)
-lays_append {a} {b} l r ds x h once =
-    let k = head (Append l r) ds h.0 in (
-      k.at ∷ k.at ∷ k.others,
-      laying_steps_to (make_task k.at Flat l ∷ make_task k.at Flat r ∷ flat_tasks k.others ds) x
-          (subst (λ (us : List Task). Laying a us b) k.is_it h.1) (once k.at) (refl, refl, refl) (omega arith),
-    )
+-- A document that is laid flat writes nothing, and these documents come in its place, each at an indent of its own.
+pub record GivesWay (d : Tree) (cs : List Tree) : Type 0 where
+  indents : ℕ → List ℕ
+  first : (i : ℕ) (is : List ℕ) (ds : List Tree) → flat_tasks (indents i ++ is) (cs ++ ds) ≡ flat_tasks (indents i) cs ++ flat_tasks is ds
+  steps_to : (o : RenderOptions) (i : ℕ) (ts : List Task) (st : State)
+      → StepsTo (step_at o (make_task i Flat d) ts st) ts [] (flat_tasks (indents i) cs ++ ts) st
+  work : (i : ℕ) → nodes (flat_tasks (indents i) cs) + 1 ≤ size d
+  fewer : sum_by size cs + 1 ≤ size d
+  texts : IsTexts d → All IsTexts cs
+  unasked : each_probe d Flat ≡ 0
 
--- a document in the place of another one
-pub lays_nest : {a : Point} {b : Point} (k : ℤ) (d : Tree) (ds : List Tree) (x : Visits) → Lays a (Nest k d ∷ ds) b → ((i : ℕ) →
-    VisitedOnce (make_task i Flat (Nest k d)) b.visits x) → Lays a (d ∷ ds) (point_at b.printer b.sink x)
-lays_nest {a} {b} k d ds x h once =
-    let z = head (Nest k d) ds h.0 in (
-      nested z.at k ∷ z.others,
-      laying_steps_to (make_task (nested z.at k) Flat d ∷ flat_tasks z.others ds) x (subst (λ (us : List Task). Laying a us b) z.is_it h.1)
-          (once z.at) (refl, refl, refl) (omega arith),
-    )
+pub append_gives_way : (l r : Tree) → GivesWay (Append l r) (l ∷ r ∷ [])
+append_gives_way l r = record {
+  indents = λ i. i ∷ i ∷ [];
+  first = λ i is ds. refl;
+  steps_to = λ o i ts st. (refl, refl, refl);
+  work = λ i. omega arith;
+  fewer = omega arith;
+  texts = λ h. All-cons IsTexts l (r ∷ []) h.0 (All-cons IsTexts r [] h.1 (All-nil IsTexts));
+  unasked = refl;
+}
 
-pub lays_group : {a : Point} {b : Point} (d : Tree) (ds : List Tree) (x : Visits) → Lays a (Group d ∷ ds) b → ((i : ℕ) →
-    VisitedOnce (make_task i Flat (Group d)) b.visits x) → Lays a (d ∷ ds) (point_at b.printer b.sink x)
-lays_group {a} {b} d ds x h once =
-    let z = head (Group d) ds h.0 in (
-      z.at ∷ z.others,
-      laying_steps_to (make_task z.at Flat d ∷ flat_tasks z.others ds) x (subst (λ (us : List Task). Laying a us b) z.is_it h.1) (once z.at)
-          (refl, refl, refl) (omega arith),
-    )
+pub nest_gives_way : (k : ℤ) (c : Tree) → GivesWay (Nest k c) (c ∷ [])
+nest_gives_way k c = record {
+  indents = λ i. nested i k ∷ [];
+  first = λ i is ds. refl;
+  steps_to = λ o i ts st. (refl, refl, refl);
+  work = λ i. omega arith;
+  fewer = omega arith;
+  texts = λ h. All-cons IsTexts c [] h (All-nil IsTexts);
+  unasked = refl;
+}
 
-pub lays_either : {a : Point} {b : Point} (c d : Tree) (ds : List Tree) (x : Visits) → Lays a (BreakOrFlat c d ∷ ds) b → ((i : ℕ) →
-    VisitedOnce (make_task i Flat (BreakOrFlat c d)) b.visits x) → Lays a (d ∷ ds) (point_at b.printer b.sink x)
-lays_either {a} {b} c d ds x h once =
-    let z = head (BreakOrFlat c d) ds h.0 in (
-      z.at ∷ z.others,
-      laying_steps_to (make_task z.at Flat d ∷ flat_tasks z.others ds) x (subst (λ (us : List Task). Laying a us b) z.is_it h.1) (once z.at)
-          (refl, refl, refl) (omega arith),
-    )
+pub group_gives_way : (c : Tree) → GivesWay (Group c) (c ∷ [])
+group_gives_way c = record {
+  indents = λ i. i ∷ [];
+  first = λ i is ds. refl;
+  steps_to = λ o i ts st. (refl, refl, refl);
+  work = λ i. omega arith;
+  fewer = omega arith;
+  texts = λ h. All-cons IsTexts c [] h (All-nil IsTexts);
+  unasked = refl;
+}
 
--- nothing
-pub lays_nil : {a : Point} {b : Point} (ds : List Tree) (x : Visits) → Lays a (Nil ∷ ds) b → ((i : ℕ) →
-    VisitedOnce (make_task i Flat Nil) b.visits x) → Lays a ds (point_at b.printer b.sink x)
-lays_nil {a} {b} ds x h once =
-    let z = head Nil ds h.0 in (
-      z.others,
-      laying_steps_to (flat_tasks z.others ds) x (subst (λ (us : List Task). Laying a us b) z.is_it h.1) (once z.at)
-          (refl, refl, refl) (omega arith),
-    )
+pub either_gives_way : (b c : Tree) → GivesWay (BreakOrFlat b c) (c ∷ [])
+either_gives_way b c = record {
+  indents = λ i. i ∷ [];
+  first = λ i is ds. refl;
+  steps_to = λ o i ts st. (refl, refl, refl);
+  work = λ i. omega arith;
+  fewer = omega arith;
+  texts = λ h. All-cons IsTexts c [] h (All-nil IsTexts);
+  unasked = refl;
+}
 
-pub lays_empty : {a : Point} {b : Point} (s : List ℕ) (ds : List Tree) (x : Visits) → s ≡ [] → Lays a (Text s ∷ ds) b → ((i : ℕ) →
-    VisitedOnce (make_task i Flat (Text s)) b.visits x) → Lays a ds (point_at b.printer b.sink x)
-lays_empty {a} {b} [] ds x e h once =
-    let z = head (Text []) ds h.0 in (
-      z.others,
-      laying_steps_to (flat_tasks z.others ds) x (subst (λ (us : List Task). Laying a us b) z.is_it h.1) (once z.at)
-          (refl, refl, refl) (omega arith),
+pub nil_gives_way : GivesWay Nil []
+nil_gives_way = record {
+  indents = λ i. [];
+  first = λ i is ds. refl;
+  steps_to = λ o i ts st. (refl, refl, refl);
+  work = λ i. omega arith;
+  fewer = omega arith;
+  texts = λ h. All-nil IsTexts;
+  unasked = refl;
+}
+
+pub empty_gives_way : (s : List ℕ) → s ≡ [] → GivesWay (Text s) []
+empty_gives_way [] e = record {
+  indents = λ i. [];
+  first = λ i is ds. refl;
+  steps_to = λ o i ts st. (refl, refl, refl);
+  work = λ i. omega arith;
+  fewer = omega arith;
+  texts = λ h. All-nil IsTexts;
+  unasked = refl;
+}
+empty_gives_way (c ∷ cs) e = absurd (cc)
+
+-- the first document gives way to others
+lays_instead : {a : Point} {b : Point} {d : Tree} {cs : List Tree} → GivesWay d cs → (ds : List Tree) (x : Visits) → Lays a (d ∷ ds) b
+    → ((i : ℕ) → VisitedOnce (make_task i Flat d) b.visits x) → Lays a (cs ++ ds) (point_at b.printer b.sink x)
+lays_instead {a} {b} {d} {cs} way ds x h once =
+    let z = head d ds h.0 in
+    let us : List Task = flat_tasks z.others ds in
+    let new : List Task = flat_tasks (way.indents z.at) cs in
+    let o = a.printer.options in
+    let t = make_task z.at Flat d in
+    let ts : List Task = b.printer.tasks in
+    let st = state_at b.printer in (
+      way.indents z.at ++ z.others,
+      subst (λ (vs : List Task). Laying a vs (point_at b.printer b.sink x)) (sym (way.first z.at z.others ds))
+          (laying_steps_to (new ++ us) x (subst (λ (vs : List Task). Laying a vs b) z.is_it h.1) (once z.at)
+          (subst (λ (vs : List Task). StepsTo (step_at o t (us ++ ts) st) (us ++ ts) [] vs st) (sym (append_assoc new us ts))
+          (way.steps_to o z.at (us ++ ts) st))
+          (omega (arith, way.work z.at, nodes-append new us))),
     )
-lays_empty {a} {b} (c ∷ cs) ds x e h once = absurd (cc)
 
 -- How a text is laid where a printer stands: after so many spaces, from a position on.
 abbrev pub TextStart : Standing → Bool → ℕ → ℕ → Type 0
@@ -402,16 +445,6 @@ lays_text_failed {N} {E} f {a} {p} {w} {g} {position} {s} {ds} {sink} {v} {x} q 
 pub lays_done : {N E : Type 0} (f : N → Tree) {a b : Point} → Lays a [] b → Advances {N = N} {E = E} f a b (Ok turn_result.Complete)
 lays_done {N} {E} f {a} {b} h = laying_done f (subst (λ (k : List Task). Laying a k b) (none_left h.0) h.1)
 
--- each document is its texts
-abbrev pub AllTexts : List Tree → Type 0
-AllTexts [] = Unit {0}
-AllTexts (d ∷ ds) = IsTexts d × AllTexts ds
-
--- how many nodes documents have
-abbrev pub sizes : List Tree → ℕ
-sizes [] = 0
-sizes (d ∷ ds) = size d + sizes ds
-
 -- a node more was counted
 pub record OneNode (count n : ℕ) : Type 0 where
   pub one : n ≡ rise count
@@ -422,10 +455,10 @@ pub record OneNode (count n : ℕ) : Type 0 where
 pub record Laid (first : Tree) (b : Point) (ds : List Tree) (w : Bool) (g position : ℕ) (sink : Seen) (count : ℕ) : Type 0 where
   pub lays : (a : Point) (i : ℕ) → Laying a (make_task i Flat first ∷ []) b
       → Lays a ds (point_at (laid_to b.printer w position) sink (record b.visits { printer = count }))
-  pub texts : AllTexts ds
+  pub texts : All IsTexts ds
   pub spot : TextStart b.printer w g position
   pub rises : b.visits.printer ≤ count
-  pub counted : count + sizes ds ≤ b.visits.printer + size first
+  pub counted : count + sum_by size ds ≤ b.visits.printer + size first
 
 once_at : (d : Tree) (v : Visits) {count n : ℕ} → OneNode count n → each_probe d Flat ≡ 0 → (i : ℕ) →
     VisitedOnce (make_task i Flat d) (record v { printer = count }) (record v { printer = n })
@@ -449,94 +482,25 @@ left_begins {first} {b} {ds} {g} {position} none e h texts =
     subst (λ (z : List Tree). Laid first b (first ∷ z) false g position b.sink b.visits.printer) (sym none)
     (record {
       lays = λ a i m. (i ∷ [], m);
-      texts = (texts, tt);
+      texts = All-cons IsTexts first [] texts (All-nil IsTexts);
       spot = (e, h);
       rises = omega arith;
       counted = omega arith;
     })
 
-pub left_append : {first : Tree} {b : Point} {d : Tree} {ds : List Tree} {w : Bool} {g position : ℕ} {sink : Seen} {count n : ℕ}
-    (l r : Tree) → Append l r ≡ d → OneNode count n →
-    Laid first b (d ∷ ds) w g position sink count → Laid first b (l ∷ r ∷ ds) w g position sink n
-left_append {first} {b} {d} {ds} {w} {g} {position} {sink} {count} {n} l r e one h =
-    let k : Laid first b (Append l r ∷ ds) w g position sink count =
-    subst (λ (z : Tree). Laid first b (z ∷ ds) w g position sink count) (sym e) h in
+-- the next document gives way to others
+pub left_instead : {first : Tree} {b : Point} {d e : Tree} {cs ds : List Tree} {w : Bool} {g position : ℕ} {sink : Seen} {count n : ℕ}
+    → GivesWay d cs → d ≡ e → OneNode count n →
+    Laid first b (e ∷ ds) w g position sink count → Laid first b (cs ++ ds) w g position sink n
+left_instead {first} {b} {d} {e} {cs} {ds} {w} {g} {position} {sink} {count} {n} way is one h =
+    let k : Laid first b (d ∷ ds) w g position sink count =
+    subst (λ (z : Tree). Laid first b (z ∷ ds) w g position sink count) (sym is) h in
     record {
-      lays = λ a i m. lays_append l r ds (record b.visits { printer = n }) (k.lays a i m) (once_at (Append l r) b.visits one refl);
-      texts = (k.texts.0.0, (k.texts.0.1, k.texts.1));
+      lays = λ a i m. lays_instead way ds (record b.visits { printer = n }) (k.lays a i m) (once_at d b.visits one way.unasked);
+      texts = All-append IsTexts cs ds (way.texts (All-head IsTexts d ds k.texts)) (All-tail IsTexts d ds k.texts);
       spot = h.spot;
       rises = omega (arith, h.rises, one.rises);
-      counted = omega (arith, k.counted, one.at_most);
-    }
-
-pub left_nest : {first : Tree} {b : Point} {d : Tree} {ds : List Tree} {w : Bool} {g position : ℕ} {sink : Seen} {count n : ℕ} (j : ℤ)
-    (c : Tree) → Nest j c ≡ d → OneNode count n →
-    Laid first b (d ∷ ds) w g position sink count → Laid first b (c ∷ ds) w g position sink n
-left_nest {first} {b} {d} {ds} {w} {g} {position} {sink} {count} {n} j c e one h =
-    let k : Laid first b (Nest j c ∷ ds) w g position sink count =
-    subst (λ (z : Tree). Laid first b (z ∷ ds) w g position sink count) (sym e) h in
-    record {
-      lays = λ a i m. lays_nest j c ds (record b.visits { printer = n }) (k.lays a i m) (once_at (Nest j c) b.visits one refl);
-      texts = (k.texts.0, k.texts.1);
-      spot = h.spot;
-      rises = omega (arith, h.rises, one.rises);
-      counted = omega (arith, k.counted, one.at_most);
-    }
-
-pub left_group : {first : Tree} {b : Point} {d : Tree} {ds : List Tree} {w : Bool} {g position : ℕ} {sink : Seen} {count n : ℕ} (c : Tree)
-    → Group c ≡ d → OneNode count n →
-    Laid first b (d ∷ ds) w g position sink count → Laid first b (c ∷ ds) w g position sink n
-left_group {first} {b} {d} {ds} {w} {g} {position} {sink} {count} {n} c e one h =
-    let k : Laid first b (Group c ∷ ds) w g position sink count =
-    subst (λ (z : Tree). Laid first b (z ∷ ds) w g position sink count) (sym e) h in
-    record {
-      lays = λ a i m. lays_group c ds (record b.visits { printer = n }) (k.lays a i m) (once_at (Group c) b.visits one refl);
-      texts = (k.texts.0, k.texts.1);
-      spot = h.spot;
-      rises = omega (arith, h.rises, one.rises);
-      counted = omega (arith, k.counted, one.at_most);
-    }
-
-pub left_either : {first : Tree} {b : Point} {d : Tree} {ds : List Tree} {w : Bool} {g position : ℕ} {sink : Seen} {count n : ℕ}
-    (x c : Tree) → BreakOrFlat x c ≡ d → OneNode count n →
-    Laid first b (d ∷ ds) w g position sink count → Laid first b (c ∷ ds) w g position sink n
-left_either {first} {b} {d} {ds} {w} {g} {position} {sink} {count} {n} x c e one h =
-    let k : Laid first b (BreakOrFlat x c ∷ ds) w g position sink count =
-    subst (λ (z : Tree). Laid first b (z ∷ ds) w g position sink count) (sym e) h in
-    record {
-      lays = λ a i m. lays_either x c ds (record b.visits { printer = n }) (k.lays a i m) (once_at (BreakOrFlat x c) b.visits one refl);
-      texts = (k.texts.0, k.texts.1);
-      spot = h.spot;
-      rises = omega (arith, h.rises, one.rises);
-      counted = omega (arith, k.counted, one.at_most);
-    }
-
-pub left_nil : {first : Tree} {b : Point} {d : Tree} {ds : List Tree} {w : Bool} {g position : ℕ} {sink : Seen} {count n : ℕ} →
-    Nil ≡ d → OneNode count n →
-    Laid first b (d ∷ ds) w g position sink count → Laid first b ds w g position sink n
-left_nil {first} {b} {d} {ds} {w} {g} {position} {sink} {count} {n} e one h =
-    let k : Laid first b (Nil ∷ ds) w g position sink count =
-    subst (λ (z : Tree). Laid first b (z ∷ ds) w g position sink count) (sym e) h in
-    record {
-      lays = λ a i m. lays_nil ds (record b.visits { printer = n }) (k.lays a i m) (once_at Nil b.visits one refl);
-      texts = k.texts.1;
-      spot = h.spot;
-      rises = omega (arith, h.rises, one.rises);
-      counted = omega (arith, k.counted, one.at_most);
-    }
-
-pub left_empty : {first : Tree} {b : Point} {d : Tree} {ds : List Tree} {w : Bool} {g position : ℕ} {sink : Seen} {count n : ℕ} (s : List ℕ)
-    → s ≡ [] → Text s ≡ d → OneNode count n →
-    Laid first b (d ∷ ds) w g position sink count → Laid first b ds w g position sink n
-left_empty {first} {b} {d} {ds} {w} {g} {position} {sink} {count} {n} s empty e one h =
-    let k : Laid first b (Text s ∷ ds) w g position sink count =
-    subst (λ (z : Tree). Laid first b (z ∷ ds) w g position sink count) (sym e) h in
-    record {
-      lays = λ a i m. lays_empty s ds (record b.visits { printer = n }) empty (k.lays a i m) (once_at (Text s) b.visits one refl);
-      texts = k.texts.1;
-      spot = h.spot;
-      rises = omega (arith, h.rises, one.rises);
-      counted = omega (arith, k.counted, one.at_most);
+      counted = omega (arith, k.counted, one.at_most, way.fewer, sum_by-cons size d ds, sum_by-append size cs ds);
     }
 
 -- a text that is not empty is next, in a turn that began at a point
@@ -562,10 +526,10 @@ left_text {first} {b} {d} {ds} {w} {g} {position} {sink} {count} {n} s t some e 
     subst (λ (z : Tree). Laid first b (z ∷ ds) w g position sink count) (sym e) h in
     record {
       lays = λ a i m. lays_text t (at_text s some one k a i m) lender accepts;
-      texts = k.texts.1;
+      texts = All-tail IsTexts (Text s) ds k.texts;
       spot = (refl, omega arith);
       rises = omega (arith, h.rises, one.rises);
-      counted = omega (arith, k.counted, one.at_most);
+      counted = omega (arith, k.counted, one.at_most, sum_by-cons size (Text s) ds);
     }
 
 -- A document is a text that is not empty, and the sink refuses it after a gap.

@@ -4,8 +4,8 @@ use Rattle.prettyless_model.specs.Tree.{Tree}
 use Rattle.prettyless_step.specs.declared.printer.Printer.{Printer}
 use Rattle.prettyless_printer.specs.Points.{point, seen, standing}
 use Rattle.prettyless_printer.specs.Laying.{laid_to, left_trees, trees_waiting}
-use Rattle.prettyless_printer.proofs.Laying.{Laid, OneNode, left_append, left_at, left_begins, left_done, left_either, left_empty}
-use Rattle.prettyless_printer.proofs.Laying.{left_group, left_nest, left_nil, left_text, left_text_failed, left_trees-push, TextFails}
+use Rattle.prettyless_printer.proofs.Laying.{Laid, OneNode, append_gives_way, left_at, left_begins, left_done, left_instead}
+use Rattle.prettyless_printer.proofs.Laying.{either_gives_way, empty_gives_way, group_gives_way, nest_gives_way, nil_gives_way, left_text, left_text_failed, left_trees-push, TextFails}
 use Rattle.prettyless_printer.proofs.Laying.{length-left_trees, no_bytes, room_append, room_to_wait, some_bytes}
 use Rattle.prettyless_printer.proofs.texts.lay_texts.Goals as goal
 use Rattle.prettyless_printer.proofs.texts.lay_texts.Goals.{in-Text+then-not-is_empty+in_default-write_gap_and_text}
@@ -45,7 +45,7 @@ nodes-preserved-in-Append g c =
       left = subst (λ (ds : List Tree). Laid (f c.args.first) (point f c.args.printer.now (see c.args.out.now) c.args.visits.now)
           (f c.in-Append.l ∷ ds) c.nodes.is_written c.nodes.gap c.nodes.position
           (see c.nodes.out) c.one_more-count.result) (sym pushed)
-          (left_append (f c.in-Append.l) (f c.in-Append.r) c.in-Append.ensures.tree one h.left);
+          (left_instead (append_gives_way (f c.in-Append.l) (f c.in-Append.r)) c.in-Append.ensures.tree one h.left);
       printer = ap (λ (z : Printer g.row.N.Denot). record z { flat = c.push_reserved.new.self }) h.printer;
       visits = h.visits;
       room = omega (
@@ -60,7 +60,7 @@ pub nodes-preserved-in-Nest : goal.nodes-preserved-in-Nest
 nodes-preserved-in-Nest g c =
     let h = c.nodes.invariant in
     record {
-      left = left_nest _ _ c.in-Nest.ensures.tree
+      left = left_instead (nest_gives_way _ _) c.in-Nest.ensures.tree
           (record {
             one = c.one_more-count.ensures.one;
             rises = c.one_more-count.ensures.rises;
@@ -77,7 +77,7 @@ pub nodes-preserved-in-Nest-2 : goal.nodes-preserved-in-Nest-2
 nodes-preserved-in-Nest-2 g c =
     let h = c.nodes.invariant in
     record {
-      left = left_group _ c.in-Nest.ensures.tree
+      left = left_instead (group_gives_way _) c.in-Nest.ensures.tree
           (record {
             one = c.one_more-count.ensures.one;
             rises = c.one_more-count.ensures.rises;
@@ -94,7 +94,7 @@ pub nodes-preserved-in-Nest-3 : goal.nodes-preserved-in-Nest-3
 nodes-preserved-in-Nest-3 g c =
     let h = c.nodes.invariant in
     record {
-      left = left_either _ _ c.in-Nest.ensures.tree
+      left = left_instead (either_gives_way _ _) c.in-Nest.ensures.tree
           (record {
             one = c.one_more-count.ensures.one;
             rises = c.one_more-count.ensures.rises;
@@ -140,9 +140,9 @@ returns-in_default-pop-clause-lays g c = λ a i m.
           (some_bytes w.is_empty.result w.in-Text.s.now w.is_empty.ensures w.if-not-is_empty.true) w.in-Text.ensures.tree one h.left
           w.write_gap_and_text.ensures.same_lender w.in_default-write_gap_and_text.ensures.ok)
       | in-Text+else-not-is_empty w ↦ left_at w.is_written-is w.gap-is w.position-is (ap see w.out-is)
-          (left_empty w.in-Text.s.now (no_bytes w.is_empty.result w.in-Text.s.now w.is_empty.ensures w.if-not-is_empty.false)
-          w.in-Text.ensures.tree one h.left)
-      | in-Nil w ↦ left_at w.is_written-is w.gap-is w.position-is (ap see w.out-is) (left_nil w.in-Nil.ensures.tree one h.left)
+          (left_instead (empty_gives_way w.in-Text.s.now
+          (no_bytes w.is_empty.result w.in-Text.s.now w.is_empty.ensures w.if-not-is_empty.false)) w.in-Text.ensures.tree one h.left)
+      | in-Nil w ↦ left_at w.is_written-is w.gap-is w.position-is (ap see w.out-is) (left_instead nil_gives_way w.in-Nil.ensures.tree one h.left)
     ] in
     let none : c.nodes.printer.flat.items ≡ [] = search rules in
     let stands = c.leave_at.ensures.stands
@@ -167,9 +167,9 @@ nodes-preserved g c =
           (some_bytes w.is_empty.result w.in-Text.s.now w.is_empty.ensures w.if-not-is_empty.true) w.in-Text.ensures.tree one h.left
           w.write_gap_and_text.ensures.same_lender w.in_default-write_gap_and_text.ensures.ok)
       | in-Text+else-not-is_empty w ↦ left_at w.is_written-is w.gap-is w.position-is (ap see w.out-is)
-          (left_empty w.in-Text.s.now (no_bytes w.is_empty.result w.in-Text.s.now w.is_empty.ensures w.if-not-is_empty.false)
-          w.in-Text.ensures.tree one h.left)
-      | in-Nil w ↦ left_at w.is_written-is w.gap-is w.position-is (ap see w.out-is) (left_nil w.in-Nil.ensures.tree one h.left)
+          (left_instead (empty_gives_way w.in-Text.s.now
+          (no_bytes w.is_empty.result w.in-Text.s.now w.is_empty.ensures w.if-not-is_empty.false)) w.in-Text.ensures.tree one h.left)
+      | in-Nil w ↦ left_at w.is_written-is w.gap-is w.position-is (ap see w.out-is) (left_instead nil_gives_way w.in-Nil.ensures.tree one h.left)
     ] in
     let popped = ap (left_trees f) c.in-Some.ensures.items ∙ left_trees-push f c.pop.new.self.items c.in-Some.next in
     record {

@@ -1,8 +1,9 @@
 use Rattle.std.proofs.Common.{◌≡◌, ◌+◌, ◌≤◌, ◌∷◌, vec_capacity}
+use Rattle.std.specs.List.{sum_by}
 use Rattle.prettyless_model.specs.Tree.{size}
 use Rattle.prettyless_printer.specs.Points.{point, seen}
 use Rattle.prettyless_printer.specs.Laying.{left_trees, trees_waiting}
-use Rattle.prettyless_printer.proofs.Laying.{Laid, sizes}
+use Rattle.prettyless_printer.proofs.Laying.{Laid}
 use Rattle.prettyless_printer.proofs.texts.lay_texts.Given as goal
 
 abbrev pub invariant-nodes : goal.invariant-nodes
@@ -20,4 +21,4 @@ invariant-nodes g l =
 abbrev pub decreases-nodes : goal.decreases-nodes
 decreases-nodes g l =
     let f = g.N.Walk.tree in
-    size (f l.node) + sizes (left_trees f l.printer.flat.items)
+    size (f l.node) + sum_by size (left_trees f l.printer.flat.items)
