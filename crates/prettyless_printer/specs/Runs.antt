@@ -53,7 +53,8 @@ pub record StopsPastLimit (limit : ℕ) (a : Point) (us : List Held) (buffer : S
   pub past : IsPastLimit limit b.visits.probes
 
 -- a run until no command is left, or probes are past a limit
-abbrev pub RunsCommandsOrStops : {E : Type 0} → (E → Type 0) → ℕ → Point → List Held → Seen → Point → Result RunResult (RenderError E) → Type 0
+abbrev pub RunsCommandsOrStops : {E : Type 0} → (E → Type 0) → ℕ → Point → List Held → Seen → Point → Result RunResult (RenderError E)
+    → Type 0
 RunsCommandsOrStops fails limit a us buffer b (Ok run_result.Finished) = (us ≡ []) × RunsCommands fails a b (Ok run_result.Finished)
 RunsCommandsOrStops fails limit a us buffer b (Ok run_result.Shift) = StopsPastLimit limit a us buffer b
 RunsCommandsOrStops fails limit a us buffer b (Err e) = RunsCommands {A = RunResult} fails a b (Err e)

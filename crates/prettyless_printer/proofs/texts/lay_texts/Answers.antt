@@ -4,8 +4,9 @@ use Rattle.prettyless_model.specs.Tree.{Tree}
 use Rattle.prettyless_step.specs.declared.printer.Printer.{Printer}
 use Rattle.prettyless_printer.specs.Points.{point, seen, standing}
 use Rattle.prettyless_printer.specs.Laying.{laid_to, left_trees, trees_waiting}
-use Rattle.prettyless_printer.proofs.Laying.{Laid, OneNode, append_gives_way, left_at, left_begins, left_done, left_instead}
-use Rattle.prettyless_printer.proofs.Laying.{either_gives_way, empty_gives_way, group_gives_way, nest_gives_way, nil_gives_way, left_text, left_text_failed, left_trees-push, TextFails}
+use Rattle.prettyless_printer.proofs.Laying.{Laid, OneNode, TextFails, left_at, left_begins, left_done, left_instead}
+use Rattle.prettyless_printer.proofs.Laying.{append_gives_way, either_gives_way, empty_gives_way, group_gives_way, nest_gives_way}
+use Rattle.prettyless_printer.proofs.Laying.{nil_gives_way, left_text, left_text_failed, left_trees-push}
 use Rattle.prettyless_printer.proofs.Laying.{length-left_trees, no_bytes, room_append, room_to_wait, some_bytes}
 use Rattle.prettyless_printer.proofs.texts.lay_texts.Goals as goal
 use Rattle.prettyless_printer.proofs.texts.lay_texts.Goals.{in-Text+then-not-is_empty+in_default-write_gap_and_text}
@@ -142,7 +143,8 @@ returns-in_default-pop-clause-lays g c = λ a i m.
       | in-Text+else-not-is_empty w ↦ left_at w.is_written-is w.gap-is w.position-is (ap see w.out-is)
           (left_instead (empty_gives_way w.in-Text.s.now
           (no_bytes w.is_empty.result w.in-Text.s.now w.is_empty.ensures w.if-not-is_empty.false)) w.in-Text.ensures.tree one h.left)
-      | in-Nil w ↦ left_at w.is_written-is w.gap-is w.position-is (ap see w.out-is) (left_instead nil_gives_way w.in-Nil.ensures.tree one h.left)
+      | in-Nil w ↦ left_at w.is_written-is w.gap-is w.position-is (ap see w.out-is)
+          (left_instead nil_gives_way w.in-Nil.ensures.tree one h.left)
     ] in
     let none : c.nodes.printer.flat.items ≡ [] = search rules in
     let stands = c.leave_at.ensures.stands
@@ -169,7 +171,8 @@ nodes-preserved g c =
       | in-Text+else-not-is_empty w ↦ left_at w.is_written-is w.gap-is w.position-is (ap see w.out-is)
           (left_instead (empty_gives_way w.in-Text.s.now
           (no_bytes w.is_empty.result w.in-Text.s.now w.is_empty.ensures w.if-not-is_empty.false)) w.in-Text.ensures.tree one h.left)
-      | in-Nil w ↦ left_at w.is_written-is w.gap-is w.position-is (ap see w.out-is) (left_instead nil_gives_way w.in-Nil.ensures.tree one h.left)
+      | in-Nil w ↦ left_at w.is_written-is w.gap-is w.position-is (ap see w.out-is)
+          (left_instead nil_gives_way w.in-Nil.ensures.tree one h.left)
     ] in
     let popped = ap (left_trees f) c.in-Some.ensures.items ∙ left_trees-push f c.pop.new.self.items c.in-Some.next in
     record {

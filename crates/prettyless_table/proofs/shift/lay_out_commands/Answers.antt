@@ -19,7 +19,8 @@ commands-preserved g c =
     record {
       of_this = c.in-Some.ensures.of_this;
       grows = grows_then f c.args.table.now.cells.items old new c.commands.invariant.grows c.add.ensures.grows;
-      first = command_more f {c = placed} c.add.ensures.grows c.in_ok-node.ensures.laid c.in_ok-push.ensures.items read c.commands.invariant.first;
+      first = command_more f {c = placed} c.add.ensures.grows c.in_ok-node.ensures.laid c.in_ok-push.ensures.items read
+          c.commands.invariant.first;
       count = omega (arith, c.commands.invariant.count, ap length read, c.in_ok-node.ensures.count);
       stand = λ more h.
           c.in_ok-node.ensures.later (task_trees later ++ more)

@@ -19,7 +19,8 @@ roots-preserved g c =
     record {
       within = omega (arith, c.roots-test.true);
       grows = grows_then f c.args.table.now.cells.items old new c.roots.invariant.grows c.add.ensures.grows;
-      first = node_more f c.add.ensures.grows c.in_ok-add.ensures.laid c.in_ok-push.ensures.items (ap (step.trees f) read) c.roots.invariant.first;
+      first = node_more f c.add.ensures.grows c.in_ok-add.ensures.laid c.in_ok-push.ensures.items
+          (ap (step.trees f) read) c.roots.invariant.first;
       count = omega (arith, c.roots.invariant.count, c.in_ok-add.ensures.count);
       stand = λ more h.
           c.in_ok-add.ensures.later (step.trees f later ++ more)
