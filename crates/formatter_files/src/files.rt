@@ -46,7 +46,7 @@ impl From<io::Error> for Failure {
 
 /// A text that is to be laid out.
 #[derive(Clone, Copy, Drop)]
-struct Source<'s> {
+struct SourceText<'s> {
     name: &'s str,
     bytes: &'s [u8],
     /// Whether its layout is to replace it.
@@ -81,7 +81,7 @@ impl<R: Print> Write for Output<'_, R> {
 fn print<R: AllocGlobal + Eprint + Print, F: Formatter>(
     rt: &R,
     formatter: &F,
-    source: Source<'_>,
+    source: SourceText<'_>,
 ) -> Result<Ending, Failure> {
     match formatter.write_layout(rt, source.name, source.bytes, &mut Output(rt)) {
         Ok(Verdict::LaidOut) => Ok(Ending::Good),
@@ -95,7 +95,7 @@ fn print<R: AllocGlobal + Eprint + Print, F: Formatter>(
 fn compare<R: AllocGlobal + Eprint, F: Formatter>(
     rt: &R,
     formatter: &F,
-    source: Source<'_>,
+    source: SourceText<'_>,
 ) -> io::Result<Comparison>
     ensures { result ≡ Ok Comparison.Same → F.IsLayout formatter.now source.entry.bytes.now source.entry.bytes.now }
 {
@@ -112,7 +112,7 @@ fn compare<R: AllocGlobal + Eprint, F: Formatter>(
 fn show<R: AllocGlobal + Eprint + Print, F: Formatter>(
     rt: &R,
     formatter: &F,
-    source: Source<'_>,
+    source: SourceText<'_>,
 ) -> Result<(), Failure> {
     let mut layout = Vec::new(rt.alloc());
     match formatter.write_layout(rt, source.name, source.bytes, &mut layout) {
@@ -134,7 +134,7 @@ fn check<R: AllocGlobal + Eprint + Print, F: Formatter>(
     rt: &R,
     formatter: &F,
     task: &Task<'_>,
-    source: Source<'_>,
+    source: SourceText<'_>,
 ) -> Result<Ending, Failure>
     ensures { result ≡ Ok Ending.Good → F.IsLayout formatter.now source.entry.bytes.now source.entry.bytes.now }
 {
@@ -157,7 +157,7 @@ fn check<R: AllocGlobal + Eprint + Print, F: Formatter>(
 fn rewrite<R: AllocGlobal + Files + Eprint, F: Formatter>(
     rt: &R,
     formatter: &F,
-    source: Source<'_>,
+    source: SourceText<'_>,
 ) -> io::Result<Ending> {
     let mut layout = Rewriting::new(rt, source.name, source.bytes);
     match formatter.write_layout(rt, source.name, source.bytes, &mut layout) {
@@ -181,7 +181,7 @@ fn lay_out<R: AllocGlobal + Files + Eprint + Print, F: Formatter>(
     rt: &R,
     formatter: &F,
     task: &Task<'_>,
-    source: Source<'_>,
+    source: SourceText<'_>,
 ) -> Result<Ending, Failure>
     ensures { (IsTrue task.now.check ⊎ IsTrue task.now.diff) → result ≡ Ok Ending.Good
         → F.IsLayout formatter.now source.entry.bytes.now source.entry.bytes.now }
@@ -239,7 +239,7 @@ fn lay_out_file<R: AllocGlobal + Files + Input + Eprint + Print, F: Formatter>(
     file: &str,
 ) -> Result<Ending, Failure> {
     let bytes = read(rt, file)?;
-    let source = Source {
+    let source = SourceText {
         name: name_of(file),
         bytes: &bytes,
         replaced: task.write && !is_input(file),

@@ -1,5 +1,5 @@
 //! A difference as people read it: the changes, each with some lines around it, in the form that `diff -u` and `patch` have.
-use crate::difference::Line;
+use crate::difference::DiffLine;
 use crate::head::heads;
 use std::alloc::Global;
 use std::io;
@@ -9,15 +9,15 @@ use std::io::Write;
 const AROUND: usize = 3;
 
 // Whether a line is shown: it is a change, or not far from one.
-fn is_shown(lines: &[Line<'_>], index: usize) -> bool {
+fn is_shown(lines: &[DiffLine<'_>], index: usize) -> bool {
     let begin = index.saturating_sub(AROUND);
     let end = index.saturating_add(AROUND + 1);
     let near = lines.get(begin..end.min(lines.len())).unwrap_or(&[]);
-    near.iter().any(|line| !matches!(*line, Line::Kept(_)))
+    near.iter().any(|line| !matches!(*line, DiffLine::Kept(_)))
 }
 
 // The end of the lines from `begin` on that are shown in a row.
-fn shown_end(lines: &[Line<'_>], begin: usize) -> usize {
+fn shown_end(lines: &[DiffLine<'_>], begin: usize) -> usize {
     for index in begin..lines.len() {
         if !is_shown(lines, index) {
             return index;
@@ -28,19 +28,19 @@ fn shown_end(lines: &[Line<'_>], begin: usize) -> usize {
 
 /// How many lines of the old text, and of the new one.
 #[derive(Clone, Copy, Drop)]
-struct Counts {
+struct LineCounts {
     old: usize,
     new: usize,
 }
 
-impl Counts {
-    fn after(self, line: Line<'_>) -> Counts {
+impl LineCounts {
+    fn after(self, line: DiffLine<'_>) -> LineCounts {
         let (in_old, in_new) = match line {
-            Line::Kept(_) => (1, 1),
-            Line::Removed(_) => (1, 0),
-            Line::Added(_) => (0, 1),
+            DiffLine::Kept(_) => (1, 1),
+            DiffLine::Removed(_) => (1, 0),
+            DiffLine::Added(_) => (0, 1),
         };
-        Counts {
+        LineCounts {
             old: self.old.saturating_add(in_old),
             new: self.new.saturating_add(in_new),
         }
@@ -57,8 +57,8 @@ fn write_range(out: &mut Vec<u8>, before: usize, count: usize) -> io::Result<()>
 }
 
 // Writes the head of a hunk of these lines.
-fn write_head(out: &mut Vec<u8>, before: Counts, lines: &[Line<'_>]) -> io::Result<()> {
-    let mut counts = Counts { old: 0, new: 0 };
+fn write_head(out: &mut Vec<u8>, before: LineCounts, lines: &[DiffLine<'_>]) -> io::Result<()> {
+    let mut counts = LineCounts { old: 0, new: 0 };
     for line in lines {
         counts = counts.after(*line);
     }
@@ -69,11 +69,11 @@ fn write_head(out: &mut Vec<u8>, before: Counts, lines: &[Line<'_>]) -> io::Resu
     writeln!(out, " @@")
 }
 
-fn write_line(out: &mut Vec<u8>, line: Line<'_>) -> io::Result<()> {
+fn write_line(out: &mut Vec<u8>, line: DiffLine<'_>) -> io::Result<()> {
     let (mark, text) = match line {
-        Line::Kept(text) => (b' ', text),
-        Line::Removed(text) => (b'-', text),
-        Line::Added(text) => (b'+', text),
+        DiffLine::Kept(text) => (b' ', text),
+        DiffLine::Removed(text) => (b'-', text),
+        DiffLine::Added(text) => (b'+', text),
     };
     out.push(mark)?;
     out.write_all(text)?;
@@ -84,9 +84,9 @@ fn write_line(out: &mut Vec<u8>, line: Line<'_>) -> io::Result<()> {
 }
 
 /// A difference of the file with this name and its layout: after the name, the changes, with three lines before and after each.
-pub(crate) fn hunks(alloc: Global, name: &str, lines: &[Line<'_>]) -> io::Result<Vec<u8>> {
+pub(crate) fn hunks(alloc: Global, name: &str, lines: &[DiffLine<'_>]) -> io::Result<Vec<u8>> {
     let mut out = heads(alloc, name.as_bytes())?;
-    let mut before = Counts { old: 0, new: 0 };
+    let mut before = LineCounts { old: 0, new: 0 };
     let mut end = 0;
     for (index, line) in lines.iter().enumerate() {
         if index >= end && is_shown(lines, index) {

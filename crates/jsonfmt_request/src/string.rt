@@ -35,28 +35,28 @@ fn begins_with_low(bytes: &[u8]) -> bool {
 
 /// A part of a string: a byte, an escape, or a surrogate pair of two escapes.
 #[derive(Clone, Copy, Drop)]
-struct Part {
+struct StringPart {
     len: usize,
     /// What was expected in its place, if JSON does not allow it.
     expected: Option<Expected>,
 }
 
-fn allowed(len: usize) -> Part {
-    Part {
+fn allowed(len: usize) -> StringPart {
+    StringPart {
         len,
         expected: None,
     }
 }
 
-fn refused(len: usize, expected: Expected) -> Part {
-    Part {
+fn refused(len: usize, expected: Expected) -> StringPart {
+    StringPart {
         len,
         expected: Some(expected),
     }
 }
 
 /// The escape by number with which these bytes begin, or the surrogate pair.
-fn number(bytes: &[u8]) -> Part {
+fn number(bytes: &[u8]) -> StringPart {
     let digits = digits(bytes);
     if digits < 4 {
         return refused(digits.saturating_add(2), Expected::Escape);
@@ -83,7 +83,7 @@ fn escape_len(bytes: &[u8]) -> usize {
 }
 
 /// The part with which these bytes begin.
-fn first_part(bytes: &[u8]) -> Part {
+fn first_part(bytes: &[u8]) -> StringPart {
     match (bytes.first(), bytes.get(1)) {
         (Some(b'\\'), Some(b'u')) => number(bytes),
         (Some(b'\\'), Some(b'"' | b'\\' | b'/' | b'b' | b'f' | b'n' | b'r' | b't')) => allowed(2),

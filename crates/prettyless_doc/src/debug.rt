@@ -45,7 +45,7 @@ enum Head {
 }
 
 // How a node is shown.
-enum Shape<'v, N> {
+enum DebugShape<'v, N> {
     Name(&'static str),
     Text(&'v str),
     Payload(&'v str),
@@ -54,48 +54,59 @@ enum Shape<'v, N> {
 }
 
 // How the node is shown. Its children are below it.
-fn shape_of<N: Shown>(node: &N) -> Shape<'_, N>
+fn shape_of<N: Shown>(node: &N) -> DebugShape<'_, N>
     ensures { IsBelow N.tree (N.tree node.now) result }
 {
     match node.view() {
-        View::Nil => Shape::Name("Nil"),
-        View::Fail => Shape::Name("Fail"),
-        View::Text(text) | View::TextWithLen(_, text) => Shape::Text(text),
-        View::MultilineText(text, _) => Shape::Payload(text),
-        View::WeakSpace => Shape::Name("WeakSpace"),
-        View::HardLine => Shape::Name("HardLine"),
-        View::WeakLine => Shape::Name("WeakLine"),
-        View::Append(first, last) => Shape::Two(Head::List, first, last),
-        View::LineSuffix(inner) => Shape::One(Head::Name("LineSuffix"), inner),
-        View::Nest(offset, inner) => Shape::One(Head::Nest(offset), inner),
-        View::DedentToRoot(inner) => Shape::One(Head::Name("DedentToRoot"), inner),
-        View::Align(inner) => Shape::One(Head::Name("Align"), inner),
-        View::ExpandParent => Shape::Name("ExpandParent"),
-        View::Flatten(inner) => Shape::One(Head::Name("Flatten"), inner),
+        View::Nil => DebugShape::Name("Nil"),
+        View::Fail => DebugShape::Name("Fail"),
+        View::Text(text) | View::TextWithLen(_, text) => DebugShape::Text(text),
+        View::MultilineText(text, _) => DebugShape::Payload(text),
+        View::WeakSpace => DebugShape::Name("WeakSpace"),
+        View::HardLine => DebugShape::Name("HardLine"),
+        View::WeakLine => DebugShape::Name("WeakLine"),
+        View::Append(first, last) => DebugShape::Two(Head::List, first, last),
+        View::LineSuffix(inner) => DebugShape::One(Head::Name("LineSuffix"), inner),
+        View::Nest(offset, inner) => DebugShape::One(Head::Nest(offset), inner),
+        View::DedentToRoot(inner) => DebugShape::One(Head::Name("DedentToRoot"), inner),
+        View::Align(inner) => DebugShape::One(Head::Name("Align"), inner),
+        View::ExpandParent => DebugShape::Name("ExpandParent"),
+        View::Flatten(inner) => DebugShape::One(Head::Name("Flatten"), inner),
         View::BreakOrFlat(broken, flat) => shape_of_choice(broken, flat),
         View::Group(inner) => shape_of_group(inner),
-        View::Union(first, second) => Shape::Two(Head::Name("Union"), first, second),
-        View::PartialUnion(first, second) => Shape::Two(Head::Name("PartialUnion"), first, second),
-        View::OnColumn(test, first, second) => Shape::Two(Head::OnColumn(test), first, second),
-        View::OnNesting(test, first, second) => Shape::Two(Head::OnNesting(test), first, second),
+        View::Union(first, second) => DebugShape::Two(Head::Name("Union"), first, second),
+        View::PartialUnion(first, second) => DebugShape::Two(
+            Head::Name("PartialUnion"),
+            first,
+            second,
+        ),
+        View::OnColumn(test, first, second) => DebugShape::Two(Head::OnColumn(test), first, second),
+        View::OnNesting(test, first, second) => DebugShape::Two(
+            Head::OnNesting(test),
+            first,
+            second,
+        ),
     }
 }
 
 // How the node of these two is shown.
-fn shape_of_choice<N: Shown>(broken: N, flat: N) -> Shape<'static, N>
+fn shape_of_choice<N: Shown>(broken: N, flat: N) -> DebugShape<'static, N>
     ensures { IsBelow N.tree (BreakOrFlat (N.tree broken) (N.tree flat)) result }
 {
     match line_of(&broken, &flat) {
-        Some(Line::OrSpace) => Shape::Name("LineOrSpace"),
-        Some(Line::OrNil) => Shape::Name("LineOrNil"),
-        None if matches!(flat.view(), View::Nil) => Shape::One(Head::Name("WhenBreak"), broken),
-        None if matches!(broken.view(), View::Nil) => Shape::One(Head::Name("WhenFlat"), flat),
-        None => Shape::Two(Head::Name("FlatOrBreak"), flat, broken),
+        Some(SoftLine::OrSpace) => DebugShape::Name("LineOrSpace"),
+        Some(SoftLine::OrNil) => DebugShape::Name("LineOrNil"),
+        None if matches!(flat.view(), View::Nil) => DebugShape::One(
+            Head::Name("WhenBreak"),
+            broken,
+        ),
+        None if matches!(broken.view(), View::Nil) => DebugShape::One(Head::Name("WhenFlat"), flat),
+        None => DebugShape::Two(Head::Name("FlatOrBreak"), flat, broken),
     }
 }
 
 // How a group of the node is shown.
-fn shape_of_group<N: Shown>(inner: N) -> Shape<'static, N>
+fn shape_of_group<N: Shown>(inner: N) -> DebugShape<'static, N>
     ensures { IsBelow N.tree (Group (N.tree inner)) result }
 {
     let line = match inner.view() {
@@ -103,26 +114,26 @@ fn shape_of_group<N: Shown>(inner: N) -> Shape<'static, N>
         _ => None,
     };
     match line {
-        Some(Line::OrSpace) => Shape::Name("SoftLineOrSpace"),
-        Some(Line::OrNil) => Shape::Name("SoftLineOrNil"),
-        None => Shape::One(Head::Name("Group"), inner),
+        Some(SoftLine::OrSpace) => DebugShape::Name("SoftLineOrSpace"),
+        Some(SoftLine::OrNil) => DebugShape::Name("SoftLineOrNil"),
+        None => DebugShape::One(Head::Name("Group"), inner),
     }
 }
 
 // A line break that is something else where lines are flat.
-enum Line {
+enum SoftLine {
     OrSpace,
     OrNil,
 }
 
 // The line that these two are, if they are one.
-fn line_of<N: Shown>(broken: &N, flat: &N) -> Option<Line> {
+fn line_of<N: Shown>(broken: &N, flat: &N) -> Option<SoftLine> {
     if !matches!(broken.view(), View::HardLine) {
         None
     } else if flat.is_borrowed_space() {
-        Some(Line::OrSpace)
+        Some(SoftLine::OrSpace)
     } else if matches!(flat.view(), View::Nil) {
-        Some(Line::OrNil)
+        Some(SoftLine::OrNil)
     } else {
         None
     }
@@ -153,15 +164,15 @@ impl Head {
 // Shows the node, and all below it. An item is in the list of the chain that it is part of.
 fn show<N: Shown, W: fmt::Write>(node: N, is_item: bool, f: &mut fmt::Formatter<W>) -> fmt::Result {
     match shape_of(&node) {
-        Shape::Name(name) => f.write_str(name),
-        Shape::Text(text) => fmt::Debug::fmt(text, f),
-        Shape::Payload(text) => write!(f, "MultilineText({text:?})"),
-        Shape::One(head, inner) => {
+        DebugShape::Name(name) => f.write_str(name),
+        DebugShape::Text(text) => fmt::Debug::fmt(text, f),
+        DebugShape::Payload(text) => write!(f, "MultilineText({text:?})"),
+        DebugShape::One(head, inner) => {
             head.begin(false, f)?;
             show(inner, false, f)?;
             f.write_str(head.end(false))
         }
-        Shape::Two(head, first, second) => {
+        DebugShape::Two(head, first, second) => {
             let are_items = matches!(head, Head::List);
             head.begin(is_item, f)?;
             show(first, are_items, f)?;

@@ -15,7 +15,7 @@ use std::alloc::Global;
 
 // A node that is made once what it holds is copied.
 #[derive(Drop)]
-pub(crate) enum Frame<'d, 'a> {
+pub(crate) enum CopyFrame<'d, 'a> {
     Around(Single),
     // The first is being copied, and then this second.
     First(Pair, &'d BoxDoc<'a>),
@@ -25,14 +25,17 @@ pub(crate) enum Frame<'d, 'a> {
 
 // What is to be done next.
 #[derive(Drop)]
-pub(crate) enum Task<'d, 'a> {
+pub(crate) enum CopyTask<'d, 'a> {
     Copy(&'d BoxDoc<'a>),
     // A copy, which goes into the innermost frame.
     Put(BoxDoc<'a>),
 }
 
 #[tactic(auto, using(crate::proofs::Copies::whole_of_push, crate::proofs::Copies::frames_work_of_push))]
-fn push<'d, 'a>(frames: &mut Vec<Frame<'d, 'a>>, frame: Frame<'d, 'a>) -> Result<(), BuildError>
+fn push<'d, 'a>(
+    frames: &mut Vec<CopyFrame<'d, 'a>>,
+    frame: CopyFrame<'d, 'a>,
+) -> Result<(), BuildError>
     ensures whole { OnOk result ((x : Tree)
         → whole_copy frames.new.items x ≡ whole_copy frames.old.items (filled frame.entry x)) }
     ensures work { OnOk result (frames_work frames.new.items ≡ frame_work frame.entry + frames_work frames.old.items) }
@@ -43,7 +46,7 @@ fn push<'d, 'a>(frames: &mut Vec<Frame<'d, 'a>>, frame: Frame<'d, 'a>) -> Result
 }
 
 #[tactic(auto, using(crate::proofs::Copies::whole_of_push, crate::proofs::Copies::frames_work_of_push))]
-pub(crate) fn pop<'d, 'a>(frames: &mut Vec<Frame<'d, 'a>>) -> Option<Frame<'d, 'a>>
+pub(crate) fn pop<'d, 'a>(frames: &mut Vec<CopyFrame<'d, 'a>>) -> Option<CopyFrame<'d, 'a>>
     ensures whole { MatchOption result
         ((x : Tree) → whole_copy frames.old.items x ≡ x)
         (λ f. (x : Tree) → whole_copy frames.old.items x ≡ whole_copy frames.new.items (filled f x)) }
@@ -53,20 +56,20 @@ pub(crate) fn pop<'d, 'a>(frames: &mut Vec<Frame<'d, 'a>>) -> Option<Frame<'d, '
 }
 
 // A node, as a copy that is made.
-fn put<'d, 'a>(alloc: Global, node: Doc<'a, BoxDoc<'a>>) -> Result<Task<'d, 'a>, BuildError>
+fn put<'d, 'a>(alloc: Global, node: Doc<'a, BoxDoc<'a>>) -> Result<CopyTask<'d, 'a>, BuildError>
     ensures tree { IfOk result (λ t. task_tree t ≡ tree_of box_tree node.entry) }
     ensures work { IfOk result (λ t. task_work t ≡ 0) }
     ensures err { IfErr result IsMemory }
 {
-    Ok(Task::Put(BoxDoc::new(alloc, node)?))
+    Ok(CopyTask::Put(BoxDoc::new(alloc, node)?))
 }
 
 // Begins to copy a document: a node that holds others waits for them in a frame.
 fn begin<'d, 'a>(
     alloc: Global,
-    frames: &mut Vec<Frame<'d, 'a>>,
+    frames: &mut Vec<CopyFrame<'d, 'a>>,
     source: &'d BoxDoc<'a>,
-) -> Result<Task<'d, 'a>, BuildError>
+) -> Result<CopyTask<'d, 'a>, BuildError>
     ensures whole { IfOk result (λ t. whole_copy frames.new.items (task_tree t)
         ≡ whole_copy frames.old.items (box_tree source.now)) }
     ensures work { IfOk result (λ t. copying_work frames.new.items t
@@ -76,12 +79,12 @@ fn begin<'d, 'a>(
     match parts_of(alloc, source.doc())? {
         Parts::None(node) => put(alloc, node),
         Parts::One(kind, inner) => {
-            push(frames, Frame::Around(kind))?;
-            Ok(Task::Copy(inner))
+            push(frames, CopyFrame::Around(kind))?;
+            Ok(CopyTask::Copy(inner))
         }
         Parts::Two(kind, first, second) => {
-            push(frames, Frame::First(kind, second))?;
-            Ok(Task::Copy(first))
+            push(frames, CopyFrame::First(kind, second))?;
+            Ok(CopyTask::Copy(first))
         }
     }
 }
@@ -89,22 +92,22 @@ fn begin<'d, 'a>(
 // Puts a copy into the innermost frame.
 fn fill<'d, 'a>(
     alloc: Global,
-    frames: &mut Vec<Frame<'d, 'a>>,
-    frame: Frame<'d, 'a>,
+    frames: &mut Vec<CopyFrame<'d, 'a>>,
+    frame: CopyFrame<'d, 'a>,
     copy: BoxDoc<'a>,
-) -> Result<Task<'d, 'a>, BuildError>
+) -> Result<CopyTask<'d, 'a>, BuildError>
     ensures whole { IfOk result (λ t. whole_copy frames.new.items (task_tree t)
         ≡ whole_copy frames.old.items (filled frame.entry (box_tree copy.entry))) }
     ensures work { IfOk result (λ t. copying_work frames.new.items t < frame_work frame.entry + frames_work frames.old.items) }
     ensures err { IfErr result IsMemory }
 {
     match frame {
-        Frame::Around(kind) => put(alloc, kind.around(copy)),
-        Frame::First(kind, second) => {
-            push(frames, Frame::Second(kind, copy))?;
-            Ok(Task::Copy(second))
+        CopyFrame::Around(kind) => put(alloc, kind.around(copy)),
+        CopyFrame::First(kind, second) => {
+            push(frames, CopyFrame::Second(kind, copy))?;
+            Ok(CopyTask::Copy(second))
         }
-        Frame::Second(kind, first) => put(alloc, kind.of(first, copy)),
+        CopyFrame::Second(kind, first) => put(alloc, kind.of(first, copy)),
     }
 }
 
@@ -115,11 +118,11 @@ impl<'a> BoxDoc<'a> {
         ensures err { IfErr result IsMemory }
     {
         let mut frames = Vec::new(alloc);
-        let mut task = Task::Copy(self);
+        let mut task = CopyTask::Copy(self);
         loop {
             task = match task {
-                Task::Copy(source) => begin(alloc, &mut frames, source)?,
-                Task::Put(copy) => match pop(&mut frames) {
+                CopyTask::Copy(source) => begin(alloc, &mut frames, source)?,
+                CopyTask::Put(copy) => match pop(&mut frames) {
                     Some(frame) => fill(alloc, &mut frames, frame, copy)?,
                     None => return Ok(copy),
                 },

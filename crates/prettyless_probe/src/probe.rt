@@ -7,7 +7,7 @@ ghost use Rattle.prettyless_model.specs.declared.mode.Mode.TheVariants.{Flat};
 ghost use Rattle.prettyless_model.specs.Column.{commit, nested, padding_fits, prospective, start};
 ghost use Rattle.prettyless_model.specs.Look.{answer_of, by_mode, look, look_text, payload_begins};
 ghost use Rattle.prettyless_model.specs.Layout.{rest_fits};
-ghost use Rattle.prettyless_probe.specs.declared.probe.Line.{Line};
+ghost use Rattle.prettyless_probe.specs.declared.probe.ProbeLine.{ProbeLine};
 ghost use Rattle.prettyless_probe.specs.declared.probe.ProbeStep.TheVariants.{Answer, Silent, Descend};
 ghost use Rattle.prettyless_probe.specs.declared.probe.Fit.TheVariants.{FitsAsTexts, Fits, Exceeds};
 ghost use Rattle.prettyless_probe.specs.Probing.{Few, ReadsAs, RisesBy, RoomAt, TextsAt, is_fit, nodes_next, read_in, read_of};
@@ -30,7 +30,7 @@ use std::marker::Model;
 
 /// The line at the place that a probe has reached.
 #[derive(Clone, Copy)]
-pub struct Line {
+pub struct ProbeLine {
     pub column: Column,
     /// Whether a line suffix is pending.
     pub pending: bool,
@@ -39,13 +39,13 @@ pub struct Line {
 /// A line while a probe reads texts: how it was before them, and where the next content would begin. So a text changes one number.
 #[derive(Drop)]
 struct LineState {
-    before: Line,
+    before: ProbeLine,
     position: usize,
     has_text: bool,
 }
 
 impl Model for LineState {
-    ghost Value = { Line };
+    ghost Value = { ProbeLine };
 
     ghost view = { λ s. record s.before { column = if s.has_text then commit s.position start else s.before.column } };
 
@@ -55,7 +55,7 @@ impl Model for LineState {
 impl LineState {
     // A line of which no text was read.
     #[inline(always)]
-    fn at(line: Line) -> Self
+    fn at(line: ProbeLine) -> Self
         ensures { result ≡ line }
     {
         LineState {
@@ -67,7 +67,7 @@ impl LineState {
 
     // The line itself.
     #[inline(always)]
-    fn get(&self) -> Line
+    fn get(&self) -> ProbeLine
         ensures { result ≡ self.now }
     {
         let mut line = self.before;
@@ -95,7 +95,7 @@ impl LineState {
 
 // Reads content: an empty text is nothing, another commits the column. The answer is whether the line stays within the width.
 #[inline(always)]
-fn read_content(width: usize, line: &mut Line, counted: usize, text: &str) -> bool
+fn read_content(width: usize, line: &mut ProbeLine, counted: usize, text: &str) -> bool
     ensures { (ts : List Task) →
         answer_of (look_text width counted text.now line.old.column line.old.pending) (λ c p. tasks_fit width ts c p)
         ≡ (result && tasks_fit width ts line.new.column line.new.pending) }
@@ -109,7 +109,7 @@ fn read_content(width: usize, line: &mut Line, counted: usize, text: &str) -> bo
 
 // Reads a payload, which ends the line: with its first part, in Break, and not at all when flat.
 #[inline(always)]
-fn read_payload(width: usize, line: &Line, mode: Mode, metrics: Metrics) -> bool
+fn read_payload(width: usize, line: &ProbeLine, mode: Mode, metrics: Metrics) -> bool
     ensures { result ≡ by_mode mode (payload_begins width metrics line.now.column) false }
 {
     match mode {
@@ -122,7 +122,7 @@ fn read_payload(width: usize, line: &Line, mode: Mode, metrics: Metrics) -> bool
 
 // Reads a line end that no flat line holds.
 #[inline(always)]
-fn read_line_end(width: usize, line: &Line, mode: Mode) -> bool
+fn read_line_end(width: usize, line: &ProbeLine, mode: Mode) -> bool
     ensures { result ≡ by_mode mode (padding_fits width line.now.pending line.now.column) false }
 {
     match mode {
@@ -133,7 +133,7 @@ fn read_line_end(width: usize, line: &Line, mode: Mode) -> bool
 
 // Reads a weak line, which is nothing on a fresh line where no suffix is pending. Its indent does not matter.
 #[inline(always)]
-fn read_weak_line(width: usize, line: &Line, mode: Mode) -> Option<bool>
+fn read_weak_line(width: usize, line: &ProbeLine, mode: Mode) -> Option<bool>
     ensures { (ts : List Task) → AnswersAs result
         (tasks_fit width (make_task 0 mode WeakLine ∷ ts) line.now.column line.now.pending)
         (tasks_fit width ts line.now.column line.now.pending) }
@@ -198,7 +198,7 @@ fn branch<N: Copy>(mode: Mode, first: N, second: N) -> N
 #[tactic(auto, using(crate::proofs::Probes::looks))]
 pub(crate) fn probe_one<N: Walk>(
     width: usize,
-    line: &mut Line,
+    line: &mut ProbeLine,
     indent: usize,
     mode: Mode,
     node: N,
@@ -268,7 +268,7 @@ pub(crate) fn probe_one<N: Walk>(
 #[inline(never)]
 fn read_other<N: Walk>(
     width: usize,
-    line: &mut Line,
+    line: &mut ProbeLine,
     indent: usize,
     mode: Mode,
     node: N,
@@ -473,7 +473,7 @@ fn found(fits: bool, is_texts: bool) -> Fit
 #[tactic(auto, using(crate::proofs::Sizes::size_positive))]
 fn visit_all<N: Walk>(
     width: usize,
-    start: Line,
+    start: ProbeLine,
     first: Command<N>,
     commands: &Stack<N>,
     cursor: Cursor,
@@ -521,7 +521,7 @@ fn visit_all<N: Walk>(
 #[tactic(auto, using(crate::proofs::Probes::probe_fits))]
 pub fn probe<N: Walk>(
     width: usize,
-    start: Line,
+    start: ProbeLine,
     node: N,
     indent: usize,
     mode: Mode,

@@ -9,7 +9,7 @@ ghost use Rattle.prettyless_probe.specs.Stack.{IsCursor, Task, in_break, make_ta
 ghost use Rattle.prettyless_probe.specs.Sums.{AreSums};
 
 use crate::command::Command;
-use crate::probe::{Line, ProbeStep, probe_one};
+use crate::probe::{ProbeLine, ProbeStep, probe_one};
 use crate::stack::{Cursor, Stack};
 use crate::walk::Walk;
 use prettyless_model::mode::Mode;
@@ -19,7 +19,7 @@ use std::alloc::AllocError;
 
 // Reads on by a summary.
 #[inline(always)]
-fn read_by<N: Walk>(width: usize, line: &mut Line, summary: Summary) -> ProbeStep<N>
+fn read_by<N: Walk>(width: usize, line: &mut ProbeLine, summary: Summary) -> ProbeStep<N>
     ensures answer { (ts : List Task) → ReadsAs N.tree width result
         (answer_of (look_by width summary line.old.column line.old.pending) (λ c p. tasks_fit width ts c p))
         ts line.new.column line.new.pending }
@@ -41,7 +41,7 @@ fn read_by<N: Walk>(width: usize, line: &mut Line, summary: Summary) -> ProbeSte
 #[tactic(auto, using(crate::proofs::Sizes::size_positive))]
 fn read_one<N: Walk>(
     width: usize,
-    line: &mut Line,
+    line: &mut ProbeLine,
     indent: usize,
     mode: Mode,
     node: N,
@@ -67,7 +67,7 @@ fn read_one<N: Walk>(
 #[inline(always)]
 fn read_on<N: Walk>(
     width: usize,
-    line: &mut Line,
+    line: &mut ProbeLine,
     commands: &Stack<N>,
     below: &mut Cursor,
     stack: &mut Stack<N>,
@@ -111,7 +111,7 @@ fn read_on<N: Walk>(
 #[tactic(auto, using(crate::proofs::Sizes::size_positive))]
 pub(crate) fn visit_by_sums<N: Walk>(
     width: usize,
-    start: Line,
+    start: ProbeLine,
     first: Command<N>,
     commands: &Stack<N>,
     cursor: Cursor,

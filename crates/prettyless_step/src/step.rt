@@ -25,7 +25,7 @@ use prettyless_model::mode::Mode;
 use prettyless_model::options::IndentationPolicy;
 use prettyless_probe::choice::{by_column, by_nesting, either};
 use prettyless_probe::command::nested_indent;
-use prettyless_probe::probe::{Fit, Line, probe};
+use prettyless_probe::probe::{Fit, ProbeLine, probe};
 use prettyless_probe::walk::{View, Walk};
 use prettyless_sink::visits::{Visits, one_more};
 use std::alloc::AllocError;
@@ -51,7 +51,7 @@ fn probe_here<N: Walk>(
     ensures asked { OnOk result (RisesBy 1 probes.old probes.new) }
     ensures few { Few N.HAS_SUMMARIES printer.old.options.width (N.tree node) (tasks_of N.tree printer.old) 1 probes.old probes.new }
 {
-    let start = Line {
+    let start = ProbeLine {
         column: printer.column,
         pending: is_pending(printer),
     };

@@ -63,14 +63,14 @@ fn joined(alloc: Global, front: &str, back: &str) -> Result<String, AllocError>
 
 // Takes what a value prints.
 #[derive(Drop)]
-struct Printer {
+struct DisplayWriter {
     // After a refusal of memory it stays an error, also where the value goes on.
     text: Result<Printed, AllocError>,
     alloc: Global,
     ghost sized: { ForOk text IsPrinted },
 }
 
-impl fmt::Write for Printer {
+impl fmt::Write for DisplayWriter {
     ghost write_str_gives = { λ p bs q. bytes_so_far q.text ≡ bytes_so_far p.text ++ bs };
 
     // It fails where memory was refused, now or before, and only there.
@@ -91,7 +91,7 @@ impl fmt::Write for Printer {
     }
 }
 
-impl Printer {
+impl DisplayWriter {
     // What comes of a value that was printed, and answered `outcome`.
     //
     // `Memory` comes where memory was refused, whatever the value answered, and only there. `Display` comes where the
@@ -112,7 +112,7 @@ impl Printer {
     }
 }
 
-fn print<V: fmt::Display + Drop>(printer: &mut Printer, value: V) -> fmt::Result
+fn print<V: fmt::Display + Drop>(printer: &mut DisplayWriter, value: V) -> fmt::Result
     ensures { OnOk result (IfSome (V.output value)
         (λ o. bytes_so_far printer.new.text ≡ bytes_so_far printer.old.text ++ o)) }
 {
@@ -132,7 +132,7 @@ impl<'a> Text<'a> {
         ensures bytes { IfOk result (λ t. IfSome (V.output value) (λ o. bytes_of_text t ≡ o)) }
         ensures small { IfOk result IsSmallIfItFits }
     {
-        let mut printer = Printer {
+        let mut printer = DisplayWriter {
             text: Ok(Printed::Short(ArrayString::new())),
             alloc,
         };

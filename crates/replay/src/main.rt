@@ -6,7 +6,7 @@
 use prettyless::IoWrite;
 use replay_cases::outcome::Times;
 use replay_cases::random::first_other;
-use replay_cases::request::{Ending, Request, USAGE, requested};
+use replay_cases::request::{ReplayEnd, Request, USAGE, requested};
 use replay_cases::run::run;
 use std::io::{BufReader, BufWriter, ErrorKind, Write};
 use std::process::ExitCode;
@@ -14,15 +14,15 @@ use std::rt::Env;
 use std::{env, io};
 
 // The words after the program's name. One that is no text is a wrong word.
-fn words<R: AllocGlobal + Env>(rt: &R) -> Result<Vec<String>, Ending> {
+fn words<R: AllocGlobal + Env>(rt: &R) -> Result<Vec<String>, ReplayEnd> {
     let words = env::args(rt).map_err(|error| match error.kind() {
-        ErrorKind::OutOfMemory => Ending::Failed(error),
-        _ => Ending::Words,
+        ErrorKind::OutOfMemory => ReplayEnd::Failed(error),
+        _ => ReplayEnd::Words,
     })?;
     words
         .skip(1)
         .collect(rt.alloc())
-        .map_err(|error| Ending::Failed(io::Error::from(error)))
+        .map_err(|error| ReplayEnd::Failed(io::Error::from(error)))
 }
 
 fn answer_cases<R: AllocGlobal + Input + Print>(rt: &R, times: Times) -> io::Result<()> {
@@ -33,22 +33,26 @@ fn answer_cases<R: AllocGlobal + Input + Print>(rt: &R, times: Times) -> io::Res
 }
 
 // Lays random cases out, and says how many, or which of them comes out otherwise over a table.
-fn lay_out_random<R: AllocGlobal + Print>(rt: &R, seed: usize, count: usize) -> Result<(), Ending> {
+fn lay_out_random<R: AllocGlobal + Print>(
+    rt: &R,
+    seed: usize,
+    count: usize,
+) -> Result<(), ReplayEnd> {
     match first_other(rt.alloc(), seed, count) {
-        Err(error) => Err(Ending::Failed(io::Error::from(error))),
+        Err(error) => Err(ReplayEnd::Failed(io::Error::from(error))),
         Ok(None) => {
             println!(rt; "{count} random cases")?;
             Ok(())
         }
         Ok(Some(number)) => {
             println!(rt; "error random case {number} of seed {seed}")?;
-            Err(Ending::Otherwise)
+            Err(ReplayEnd::Otherwise)
         }
     }
 }
 
-fn replay<R: AllocGlobal + Env + Input + Print>(rt: &R) -> Result<(), Ending> {
-    match requested(&words(rt)?).ok_or(Ending::Words)? {
+fn replay<R: AllocGlobal + Env + Input + Print>(rt: &R) -> Result<(), ReplayEnd> {
+    match requested(&words(rt)?).ok_or(ReplayEnd::Words)? {
         Request::Replay => answer_cases(rt, Times::Once)?,
         Request::ReplayTwice => answer_cases(rt, Times::Twice)?,
         Request::Random(seed, count) => lay_out_random(rt, seed, count)?,

@@ -5,8 +5,8 @@ use Rattle.std.specs.Str.{bytes_eq}
 use Rattle.replay_cases.specs.declared.request.Request.{Request}
 use Rattle.replay_cases.specs.declared.request.Request.TheVariants.{Replay, ReplayTwice, Random, Help}
 use Rattle.replay_cases.specs.Notation.{IsNumber}
-use Rattle.replay_cases.specs.declared.request.Ending.{Ending}
-use Rattle.replay_cases.specs.declared.request.Ending.TheVariants.{Words, Failed, Otherwise}
+use Rattle.replay_cases.specs.declared.request.ReplayEnd.{ReplayEnd}
+use Rattle.replay_cases.specs.declared.request.ReplayEnd.TheVariants.{Words, Failed, Otherwise}
 
 -- what one word asks for: `--help` or `--twice`
 abbrev pub asked_by : List ℕ → Option Request
@@ -28,13 +28,13 @@ Asks (word ∷ seed ∷ count ∷ []) asked =
 Asks (word ∷ seed ∷ count ∷ next ∷ more) asked = asked ≡ None
 
 -- what standard error has of an ending
-abbrev pub ending_message : Ending → List ℕ
+abbrev pub ending_message : ReplayEnd → List ℕ
 ending_message Words = codes "usage: replay [--help | --twice | --random SEED COUNT], with cases on standard input, one a line (docs/CASES.md)"
 ending_message (Failed error) = codes "error: reading or writing failed"
 ending_message Otherwise = codes "error: a random case comes out otherwise over a table"
 
 -- the status of an ending
-abbrev pub ending_status : Ending → ℕ
+abbrev pub ending_status : ReplayEnd → ℕ
 ending_status Words = 2
 ending_status (Failed error) = 1
 ending_status Otherwise = 1

@@ -1,7 +1,7 @@
 //! What the words of `replay` ask for, and how a run of it ends.
 ghost use Rattle.std.specs.Prelude.{◌≡◌};
 ghost use Rattle.replay_cases.specs.Requests.{Asks, AsksRandom, ending_message, ending_status};
-ghost use Rattle.replay_cases.specs.declared.request.Ending.TheVariants.{Failed};
+ghost use Rattle.replay_cases.specs.declared.request.ReplayEnd.TheVariants.{Failed};
 
 use decimals::number;
 use std::io;
@@ -50,7 +50,7 @@ pub fn requested(words: &[String]) -> Option<Request>
 
 /// Why `replay` stopped.
 #[derive(Debug, Drop)]
-pub enum Ending {
+pub enum ReplayEnd {
     /// The words ask for nothing.
     Words,
     /// The words or the input were not read, or an answer was not written.
@@ -59,15 +59,15 @@ pub enum Ending {
     Otherwise,
 }
 
-impl Ending {
+impl ReplayEnd {
     /// What is written to standard error.
     pub fn message(&self) -> &'static str
         ensures { result.now ≡ ending_message self.now }
     {
         match self {
-            Ending::Words => USAGE,
-            Ending::Failed(_) => "error: reading or writing failed",
-            Ending::Otherwise => "error: a random case comes out otherwise over a table",
+            ReplayEnd::Words => USAGE,
+            ReplayEnd::Failed(_) => "error: reading or writing failed",
+            ReplayEnd::Otherwise => "error: a random case comes out otherwise over a table",
         }
     }
 
@@ -76,16 +76,16 @@ impl Ending {
         ensures { result ≡ ending_status self.now }
     {
         match self {
-            Ending::Words => 2,
-            Ending::Failed(_) | Ending::Otherwise => 1,
+            ReplayEnd::Words => 2,
+            ReplayEnd::Failed(_) | ReplayEnd::Otherwise => 1,
         }
     }
 }
 
-impl From<io::Error> for Ending {
+impl From<io::Error> for ReplayEnd {
     ghost from_gives = { λ e r. r ≡ Failed e };
 
-    fn from(error: io::Error) -> Ending {
-        Ending::Failed(error)
+    fn from(error: io::Error) -> ReplayEnd {
+        ReplayEnd::Failed(error)
     }
 }

@@ -3,28 +3,28 @@
 #![tactic(auto)]
 
 use sexp_formatter::run::run;
-use sexp_formatter::{Ending, RunError, options};
+use sexp_formatter::{RunError, SexpEnd, options};
 use std::io::{BufWriter, ErrorKind, Write};
 use std::process::ExitCode;
 use std::rt::Env;
 use std::{env, io};
 
 // The words after the program's name. One that is no text is a bad word, like any that asks for no layout.
-fn arguments<R: Env + AllocGlobal>(rt: &R) -> Result<Vec<String>, Ending> {
+fn arguments<R: Env + AllocGlobal>(rt: &R) -> Result<Vec<String>, SexpEnd> {
     let words = env::args(rt).map_err(|error| match error.kind() {
-        ErrorKind::OutOfMemory => Ending::Failed,
-        _ => Ending::BadWords,
+        ErrorKind::OutOfMemory => SexpEnd::Failed,
+        _ => SexpEnd::BadWords,
     })?;
     words
         .skip(1)
         .collect(rt.alloc())
-        .map_err(|_| Ending::Failed)
+        .map_err(|_| SexpEnd::Failed)
 }
 
-fn lay_out<R: Env + AllocGlobal + Input + Print>(rt: &R) -> Result<(), Ending> {
+fn lay_out<R: Env + AllocGlobal + Input + Print>(rt: &R) -> Result<(), SexpEnd> {
     let words = arguments(rt)?;
-    let options = options(&words).ok_or(Ending::BadWords)?;
-    let mut writer = BufWriter::new(rt.alloc(), io::writer(rt)).map_err(|_| Ending::Failed)?;
+    let options = options(&words).ok_or(SexpEnd::BadWords)?;
+    let mut writer = BufWriter::new(rt.alloc(), io::writer(rt)).map_err(|_| SexpEnd::Failed)?;
     run(rt.alloc(), options, &mut rt.reader(), &mut writer)?;
     writer.flush().map_err(RunError::Write)?;
     Ok(())

@@ -2,23 +2,23 @@
 use Rattle.std.specs.Prelude.{ℕ, List, codes}
 use Rattle.sexp_formatter.specs.declared.error.RunError.{RunError}
 use Rattle.sexp_formatter.specs.declared.error.RunError.TheVariants as errors
-use Rattle.sexp_formatter.specs.declared.ending.Ending.{Ending}
-use Rattle.sexp_formatter.specs.declared.ending.Ending.TheVariants.{BadWords, NotAnSexp, Failed}
+use Rattle.sexp_formatter.specs.declared.ending.SexpEnd.{SexpEnd}
+use Rattle.sexp_formatter.specs.declared.ending.SexpEnd.TheVariants.{BadWords, NotAnSexp, Failed}
 
 -- the program's status
-abbrev pub program_status : Ending → ℕ
+abbrev pub program_status : SexpEnd → ℕ
 program_status BadWords = 2
 program_status NotAnSexp = 1
 program_status Failed = 3
 
 -- what it says
-abbrev pub message_of : Ending → List ℕ
+abbrev pub message_of : SexpEnd → List ℕ
 message_of BadWords = codes "usage: sexp WIDTH [crlf] [deferred]"
 message_of NotAnSexp = codes "error: not an S-expression"
 message_of Failed = codes "error: render failed"
 
 -- how a run that stopped ends the program
-abbrev pub ending_of : RunError → Ending
+abbrev pub ending_of : RunError → SexpEnd
 ending_of errors.NotAnSexp = NotAnSexp
 ending_of (errors.Memory e) = Failed
 ending_of (errors.Read e) = Failed

@@ -2,7 +2,7 @@ use crate::error::RunError;
 
 /// How the program ends where it doesn't write a whole layout.
 #[derive(Clone, Copy, Debug, PartialEq, Eq)]
-pub enum Ending {
+pub enum SexpEnd {
     /// The words ask for no layout.
     BadWords,
     /// The input is no S-expression.
@@ -11,7 +11,7 @@ pub enum Ending {
     Failed,
 }
 
-impl Ending {
+impl SexpEnd {
     ghost use Rattle.std.specs.Prelude.{◌≡◌};
     ghost use Rattle.sexp_formatter.specs.Endings.{program_status, message_of};
 
@@ -20,9 +20,9 @@ impl Ending {
         ensures { result ≡ program_status self }
     {
         match self {
-            Ending::BadWords => 2,
-            Ending::NotAnSexp => 1,
-            Ending::Failed => 3,
+            SexpEnd::BadWords => 2,
+            SexpEnd::NotAnSexp => 1,
+            SexpEnd::Failed => 3,
         }
     }
 
@@ -31,23 +31,23 @@ impl Ending {
         ensures { result.now ≡ message_of self }
     {
         match self {
-            Ending::BadWords => "usage: sexp WIDTH [crlf] [deferred]",
-            Ending::NotAnSexp => "error: not an S-expression",
-            Ending::Failed => "error: render failed",
+            SexpEnd::BadWords => "usage: sexp WIDTH [crlf] [deferred]",
+            SexpEnd::NotAnSexp => "error: not an S-expression",
+            SexpEnd::Failed => "error: render failed",
         }
     }
 }
 
-impl From<RunError> for Ending {
+impl From<RunError> for SexpEnd {
     ghost use Rattle.std.specs.Prelude.{◌≡◌};
     ghost use Rattle.sexp_formatter.specs.Endings.{ending_of};
 
     ghost from_gives = { λ error ending. ending ≡ ending_of error };
 
-    fn from(error: RunError) -> Ending {
+    fn from(error: RunError) -> SexpEnd {
         match error {
-            RunError::NotAnSexp => Ending::NotAnSexp,
-            RunError::Memory(_) | RunError::Read(_) | RunError::Write(_) => Ending::Failed,
+            RunError::NotAnSexp => SexpEnd::NotAnSexp,
+            RunError::Memory(_) | RunError::Read(_) | RunError::Write(_) => SexpEnd::Failed,
         }
     }
 }

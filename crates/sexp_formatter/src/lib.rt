@@ -11,7 +11,7 @@ pub mod parse;
 pub mod run;
 mod words;
 
-pub use ending::Ending;
+pub use ending::SexpEnd;
 pub use error::RunError;
 pub use expression::SExp;
 pub use words::options;

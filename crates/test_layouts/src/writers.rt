@@ -81,18 +81,18 @@ const FORMS: &[Form] = &[Form::Raw, Form::WithOptions, Form::AtWidth];
 
 // How a render ends.
 #[derive(PartialEq, Drop)]
-enum Ending<E> {
+enum RenderEnd<E> {
     Laid,
     Document,
     Sink(E),
 }
 
 // How a render ends that no writer disturbs.
-fn undisturbed<E>(row: &Row<'_>) -> Ending<E> {
+fn undisturbed<E>(row: &Row<'_>) -> RenderEnd<E> {
     if row.fails {
-        Ending::Document
+        RenderEnd::Document
     } else {
-        Ending::Laid
+        RenderEnd::Laid
     }
 }
 
@@ -121,11 +121,11 @@ fn ending_of_bytes<'a, T: DocPtr<'a>>(
     width: usize,
     form: Form,
     writer: &mut ByBytes,
-) -> Result<Ending<ErrorKind>, Fail> {
+) -> Result<RenderEnd<ErrorKind>, Fail> {
     match render_bytes(memory, document, width, form, writer) {
-        Ok(()) => Ok(Ending::Laid),
-        Err(RenderError::Document(_)) => Ok(Ending::Document),
-        Err(RenderError::Sink(error)) => Ok(Ending::Sink(error.kind())),
+        Ok(()) => Ok(RenderEnd::Laid),
+        Err(RenderError::Document(_)) => Ok(RenderEnd::Document),
+        Err(RenderError::Sink(error)) => Ok(RenderEnd::Sink(error.kind())),
         Err(RenderError::Memory(_)) => Err(Fail::new("no memory")),
     }
 }
@@ -135,7 +135,7 @@ fn compare_all_of_bytes(
     rt: &impl Abort,
     row: &Row<'_>,
     writer: &ByBytes,
-    ending: &Ending<ErrorKind>,
+    ending: &RenderEnd<ErrorKind>,
 ) {
     let layout = row.layout;
     let is_whole = writer.bytes.as_slice() == layout.as_bytes();
@@ -150,13 +150,13 @@ fn compare_ended_bytes(
     layout: &str,
     before: &[u8],
     writer: &ByBytes,
-    ending: &Ending<ErrorKind>,
+    ending: &RenderEnd<ErrorKind>,
 ) {
     let kind = match writer.wrong {
         Wrong::IsInterrupted => ErrorKind::Interrupted,
         Wrong::TakesNothing => ErrorKind::WriteZero,
     };
-    check(rt, *ending == Ending::Sink(kind), "the end", layout);
+    check(rt, *ending == RenderEnd::Sink(kind), "the end", layout);
     check(rt, writer.bytes.as_slice() == before, "the bytes", layout);
     check(rt, writer.failures == 1, "the failures", layout);
     check(rt, writer.calls == writer.wrong_call, "the calls", layout);
@@ -243,7 +243,7 @@ pub(crate) fn compare_character<'a, D: DocPlace<'a>>(
     let document = read(place, ACCENTED)?;
     let mut writer = ByBytes::new(memory, Wrong::TakesNothing, usize::MAX);
     let ending = ending_of_bytes(memory, &document, 80, Form::Raw, &mut writer)?;
-    check(rt, ending == Ending::Laid, "the end", ACCENTED);
+    check(rt, ending == RenderEnd::Laid, "the end", ACCENTED);
     check(
         rt,
         writer.bytes.as_slice() == b"\xc3\xa9".as_slice(),
@@ -320,11 +320,11 @@ fn ending_of_text<'a, T: DocPtr<'a>, W: TextWriter>(
     width: usize,
     form: Form,
     writer: &mut W,
-) -> Result<Ending<fmt::Error>, Fail> {
+) -> Result<RenderEnd<fmt::Error>, Fail> {
     match render_text(memory, document, width, form, writer) {
-        Ok(()) => Ok(Ending::Laid),
-        Err(RenderError::Document(_)) => Ok(Ending::Document),
-        Err(RenderError::Sink(error)) => Ok(Ending::Sink(error)),
+        Ok(()) => Ok(RenderEnd::Laid),
+        Err(RenderError::Document(_)) => Ok(RenderEnd::Document),
+        Err(RenderError::Sink(error)) => Ok(RenderEnd::Sink(error)),
         Err(RenderError::Memory(_)) => Err(Fail::new("no memory")),
     }
 }
@@ -336,7 +336,7 @@ fn ending_of_pieces<'a, T: DocPtr<'a>>(
     width: usize,
     (form, known): (Form, bool),
     writer: &mut ByPieces,
-) -> Result<Ending<fmt::Error>, Fail> {
+) -> Result<RenderEnd<fmt::Error>, Fail> {
     if known {
         ending_of_text(memory, document, width, form, writer)
     } else {
@@ -349,7 +349,7 @@ fn compare_all_of_pieces(
     rt: &impl Abort,
     row: &Row<'_>,
     writer: &ByPieces,
-    ending: &Ending<fmt::Error>,
+    ending: &RenderEnd<fmt::Error>,
 ) {
     let layout = row.layout;
     let is_whole = writer.bytes.as_slice() == layout.as_bytes();
@@ -363,10 +363,15 @@ fn compare_ended_pieces(
     rt: &impl Abort,
     layout: &str,
     writer: &ByPieces,
-    ending: &Ending<fmt::Error>,
+    ending: &RenderEnd<fmt::Error>,
 ) {
     let is_beginning = layout.as_bytes().starts_with(writer.bytes.as_slice());
-    check(rt, *ending == Ending::Sink(fmt::Error), "the end", layout);
+    check(
+        rt,
+        *ending == RenderEnd::Sink(fmt::Error),
+        "the end",
+        layout,
+    );
     check(rt, is_beginning, "the beginning", layout);
     check(
         rt,

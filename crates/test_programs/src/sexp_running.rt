@@ -1,7 +1,7 @@
 //! What a run of `sexp` writes, and what comes of readers and writers that fail.
 use prettyless::{IndentationPolicy, LineEnding, RenderOptions};
 use sexp_formatter::run::run;
-use sexp_formatter::{Ending, RunError};
+use sexp_formatter::{RunError, SexpEnd};
 use std::alloc::Global;
 use std::io;
 use std::io::{ErrorKind, Read, Write};
@@ -64,7 +64,7 @@ impl Write for Drip {
 fn status(outcome: Result<(), RunError>) -> u8 {
     match outcome {
         Ok(()) => 0,
-        Err(error) => Ending::from(error).status(),
+        Err(error) => SexpEnd::from(error).status(),
     }
 }
 
@@ -248,9 +248,9 @@ fn a_slow_writer_gets_all(rt: HostRuntime) {
 #[test]
 fn endings_have_their_statuses_and_texts(rt: HostRuntime) {
     for (ending, status, message) in [
-        (Ending::BadWords, 2, "usage: sexp WIDTH [crlf] [deferred]"),
-        (Ending::NotAnSexp, 1, "error: not an S-expression"),
-        (Ending::Failed, 3, "error: render failed"),
+        (SexpEnd::BadWords, 2, "usage: sexp WIDTH [crlf] [deferred]"),
+        (SexpEnd::NotAnSexp, 1, "error: not an S-expression"),
+        (SexpEnd::Failed, 3, "error: render failed"),
     ] {
         assert!(rt; ending.status() == status);
         assert!(rt; ending.message() == message);

@@ -18,18 +18,18 @@ use Rattle.toml_grammar.specs.declared.next.Bracket.{Bracket}
 use Rattle.toml_grammar.specs.declared.next.Bracket.TheVariants.{Array, Table}
 use Rattle.toml_grammar.specs.declared.next.Next.{Next}
 use Rattle.toml_grammar.specs.declared.next.Next.TheVariants.{Line, Header, Key, Closing, Value, Member, Entry, After, AfterDate}
-use Rattle.toml_grammar.specs.declared.turn.Turn.{Turn}
-use Rattle.toml_grammar.specs.declared.turn.Turn.TheVariants.{GoesOn, Opens, Closes, Stops}
+use Rattle.toml_grammar.specs.declared.turn.LexemeTurn.{LexemeTurn}
+use Rattle.toml_grammar.specs.declared.turn.LexemeTurn.TheVariants.{GoesOn, Opens, Closes, Stops}
 
 -- ---- turns that do not stop
 
-abbrev Passes : Turn → Type 0
+abbrev Passes : LexemeTurn → Type 0
 Passes (GoesOn n) = ⊤
 Passes (Opens b n) = ⊤
 Passes Closes = ⊤
 Passes (Stops e) = ⊥
 
-passes_turned : (bs : List Bracket) (t : Turn) (r : Reading) → turned bs t ≡ Ok r → Passes t
+passes_turned : (bs : List Bracket) (t : LexemeTurn) (r : Reading) → turned bs t ≡ Ok r → Passes t
 passes_turned bs (GoesOn n) r e = tt
 passes_turned bs (Opens b n) r e = tt
 passes_turned bs Closes r e = tt
@@ -39,7 +39,7 @@ passes_where : (ok : Bool) (n : Next) (e : Expected) → Passes (where_so ok n e
 passes_where true n e h = refl
 passes_where false n e h = absurd h
 
-passes_cond : (b : Bool) (t : Turn) (e : Expected) → Passes (cond b t (Stops e)) → Passes t
+passes_cond : (b : Bool) (t : LexemeTurn) (e : Expected) → Passes (cond b t (Stops e)) → Passes t
 passes_cond true t e h = h
 passes_cond false t e h = absurd h
 

@@ -19,8 +19,8 @@ use Rattle.toml_grammar.specs.declared.next.Owner.{Owner}
 use Rattle.toml_grammar.specs.declared.next.Owner.TheVariants as owner
 use Rattle.toml_grammar.specs.declared.next.Next.{Next}
 use Rattle.toml_grammar.specs.declared.next.Next.TheVariants.{Line, Header, Key, Closing, Value, Member, Entry, After, AfterDate}
-use Rattle.toml_grammar.specs.declared.turn.Turn.{Turn}
-use Rattle.toml_grammar.specs.declared.turn.Turn.TheVariants.{GoesOn, Opens, Closes, Stops}
+use Rattle.toml_grammar.specs.declared.turn.LexemeTurn.{LexemeTurn}
+use Rattle.toml_grammar.specs.declared.turn.LexemeTurn.TheVariants.{GoesOn, Opens, Closes, Stops}
 
 -- ---- what is expected
 
@@ -73,11 +73,11 @@ is_clear g before_line_end = list_all (λ x. not (x == carriage_return)) (take (
 -- ---- the turns of lexemes
 
 -- goes on where this is so
-abbrev pub where_so : Bool → Next → Expected → Turn
+abbrev pub where_so : Bool → Next → Expected → LexemeTurn
 where_so ok n e = cond ok (GoesOn n) (Stops e)
 
 -- `[` begins a header at the beginning of a line, and doubled one of an array of tables; else it opens an array
-abbrev pub open_array_turn : Next → Option Bracket → List ℕ → Turn
+abbrev pub open_array_turn : Next → Option Bracket → List ℕ → LexemeTurn
 open_array_turn Line b g = GoesOn Header
 open_array_turn Header b g = where_so (is_empty_gap g) (Key owner.Tables true) (expected Header b)
 open_array_turn Value b g = Opens bracket.Array Member
@@ -85,12 +85,12 @@ open_array_turn Member b g = Opens bracket.Array Member
 open_array_turn n b g = Stops (expected n b)
 
 -- what closes an array after a value
-abbrev pub array_end : Next → Option Bracket → Turn
+abbrev pub array_end : Next → Option Bracket → LexemeTurn
 array_end n (Some bracket.Array) = Closes
 array_end n b = Stops (expected n b)
 
 -- `]` closes a header, in two where it is one of an array of tables, or an array
-abbrev pub close_array_turn : Next → Option Bracket → List ℕ → Turn
+abbrev pub close_array_turn : Next → Option Bracket → List ℕ → LexemeTurn
 close_array_turn (Key owner.Table false) b g = GoesOn After
 close_array_turn (Key owner.Tables false) b g = GoesOn Closing
 close_array_turn Closing b g = where_so (is_empty_gap g) After (expected Closing b)
@@ -100,48 +100,48 @@ close_array_turn AfterDate b g = array_end AfterDate b
 close_array_turn n b g = Stops (expected n b)
 
 -- `{` opens an inline table where a value may come
-abbrev pub open_table_turn : Next → Option Bracket → Turn
+abbrev pub open_table_turn : Next → Option Bracket → LexemeTurn
 open_table_turn Value b = Opens bracket.Table Entry
 open_table_turn Member b = Opens bracket.Table Entry
 open_table_turn n b = Stops (expected n b)
 
 -- what closes an inline table after a value
-abbrev pub table_end : Next → Option Bracket → Turn
+abbrev pub table_end : Next → Option Bracket → LexemeTurn
 table_end n (Some bracket.Table) = Closes
 table_end n b = Stops (expected n b)
 
 -- `}` closes an inline table: one with nothing in it, or after a value
-abbrev pub close_table_turn : Next → Option Bracket → Turn
+abbrev pub close_table_turn : Next → Option Bracket → LexemeTurn
 close_table_turn Entry b = Closes
 close_table_turn After b = table_end After b
 close_table_turn AfterDate b = table_end AfterDate b
 close_table_turn n b = Stops (expected n b)
 
 -- what a comma after a value leads to
-abbrev pub after_value_comma : Next → Option Bracket → Turn
+abbrev pub after_value_comma : Next → Option Bracket → LexemeTurn
 after_value_comma n None = Stops (expected n None)
 after_value_comma n (Some bracket.Array) = GoesOn Member
 after_value_comma n (Some bracket.Table) = GoesOn (Key owner.Value true)
 
 -- a comma stands after a value: in an array the bracket may follow it, in an inline table a key does
-abbrev pub comma_turn : Next → Option Bracket → Turn
+abbrev pub comma_turn : Next → Option Bracket → LexemeTurn
 comma_turn After b = after_value_comma After b
 comma_turn AfterDate b = after_value_comma AfterDate b
 comma_turn n b = Stops (expected n b)
 
 -- an equals sign stands after the key of a value
-abbrev pub equals_turn : Next → Option Bracket → Turn
+abbrev pub equals_turn : Next → Option Bracket → LexemeTurn
 equals_turn (Key owner.Value false) b = GoesOn Value
 equals_turn n b = Stops (expected n b)
 
 -- what a line end after a value leads to: none is directly in an inline table
-abbrev pub line_end_after : Next → Option Bracket → Turn
+abbrev pub line_end_after : Next → Option Bracket → LexemeTurn
 line_end_after n None = GoesOn Line
 line_end_after n (Some bracket.Array) = GoesOn After
 line_end_after n (Some bracket.Table) = Stops (expected n (Some bracket.Table))
 
 -- a line end
-abbrev pub line_end_turn : Next → Option Bracket → Turn
+abbrev pub line_end_turn : Next → Option Bracket → LexemeTurn
 line_end_turn Line b = GoesOn Line
 line_end_turn Member b = GoesOn Member
 line_end_turn After b = line_end_after After b
@@ -149,12 +149,12 @@ line_end_turn AfterDate b = line_end_after AfterDate b
 line_end_turn n b = Stops (expected n b)
 
 -- what a remark after a value leads to: none is directly in an inline table
-abbrev pub remark_after : Next → Option Bracket → Bool → Turn
+abbrev pub remark_after : Next → Option Bracket → Bool → LexemeTurn
 remark_after n (Some bracket.Table) ok = Stops (expected n (Some bracket.Table))
 remark_after n b ok = where_so ok After want.Remark
 
 -- a remark, which TOML allows or not
-abbrev pub remark_turn : Next → Option Bracket → Bool → Turn
+abbrev pub remark_turn : Next → Option Bracket → Bool → LexemeTurn
 remark_turn Line b ok = where_so ok Line want.Remark
 remark_turn Member b ok = where_so ok Member want.Remark
 remark_turn After b ok = remark_after After b ok
@@ -162,7 +162,7 @@ remark_turn AfterDate b ok = remark_after AfterDate b ok
 remark_turn n b ok = Stops (expected n b)
 
 -- a string is a part of a key where one is due, or a value
-abbrev pub string_turn : Next → Option Bracket → List ℕ → Turn
+abbrev pub string_turn : Next → Option Bracket → List ℕ → LexemeTurn
 string_turn Line b s = where_so (is_key_string s) (Key owner.Value false) want.KeyString
 string_turn Header b s = where_so (is_key_string s) (Key owner.Table false) want.KeyString
 string_turn (Key o true) b s = where_so (is_key_string s) (Key o false) want.KeyString
@@ -172,16 +172,16 @@ string_turn Member b s = where_so (is_string s) After want.String
 string_turn n b s = Stops (expected n b)
 
 -- what a word in a key leads to, where it says whether a part is due after it
-abbrev pub key_turn : Owner → Option Bool → Expected → Turn
+abbrev pub key_turn : Owner → Option Bool → Expected → LexemeTurn
 key_turn o None e = Stops e
 key_turn o (Some due) e = GoesOn (Key o due)
 
 -- what a word in place of a value leads to
-abbrev pub value_turn : List ℕ → Expected → Turn
+abbrev pub value_turn : List ℕ → Expected → LexemeTurn
 value_turn s e = where_so (is_value s) (cond (is_date s) AfterDate After) e
 
 -- a word has parts and dots of a key, or it is a value, or after a date and one space a time
-abbrev pub word_turn : Next → Option Bracket → List ℕ → List ℕ → Turn
+abbrev pub word_turn : Next → Option Bracket → List ℕ → List ℕ → LexemeTurn
 word_turn Line b g s = key_turn owner.Value (key_word true s) (expected Line b)
 word_turn Header b g s = key_turn owner.Table (key_word true s) (expected Header b)
 word_turn (Key o due) b g s = key_turn o (key_word due s) (expected (Key o due) b)
@@ -192,19 +192,19 @@ word_turn AfterDate b g s = where_so (is_one_space g && is_time s) After (expect
 word_turn n b g s = Stops (expected n b)
 
 -- what follows a value may be the end of the text outside of brackets
-abbrev pub at_end : Next → Option Bracket → Turn
+abbrev pub at_end : Next → Option Bracket → LexemeTurn
 at_end n None = GoesOn n
 at_end n (Some b) = Stops (expected n (Some b))
 
 -- the end of the text
-abbrev pub end_turn : Next → Option Bracket → Turn
+abbrev pub end_turn : Next → Option Bracket → LexemeTurn
 end_turn Line b = GoesOn Line
 end_turn After b = at_end After b
 end_turn AfterDate b = at_end AfterDate b
 end_turn n b = Stops (expected n b)
 
 -- a lexeme of this sort, with the gap before it
-abbrev pub sort_turn : Sort → Next → Option Bracket → List ℕ → List ℕ → Turn
+abbrev pub sort_turn : Sort → Next → Option Bracket → List ℕ → List ℕ → LexemeTurn
 sort_turn open_array n b g s = open_array_turn n b g
 sort_turn close_array n b g s = close_array_turn n b g
 sort_turn open_table n b g s = open_table_turn n b
@@ -218,7 +218,7 @@ sort_turn word n b g s = word_turn n b g s
 sort_turn text_end n b g s = end_turn n b
 
 -- a lexeme with the gap before it
-abbrev pub turn_of_lexeme : Next → Option Bracket → SpacedToml → Turn
+abbrev pub turn_of_lexeme : Next → Option Bracket → SpacedToml → LexemeTurn
 turn_of_lexeme n b p =
     let sort = sort_of p.lexeme in
     cond (is_clear p.gap (is_line_end sort)) (sort_turn sort n b p.gap p.lexeme) (Stops want.LineFeed)
@@ -235,7 +235,7 @@ abbrev pub innermost : List Bracket → Option Bracket
 innermost bs = slice_get bs (length bs - 1)
 
 -- the reading after a turn
-abbrev pub turned : List Bracket → Turn → Result Reading Expected
+abbrev pub turned : List Bracket → LexemeTurn → Result Reading Expected
 turned bs (GoesOn n) = Ok record { open_brackets = bs; next = n }
 turned bs (Opens b n) = Ok record { open_brackets = bs ++ b ∷ []; next = n }
 turned bs Closes = Ok record { open_brackets = take (length bs - 1) bs; next = After }

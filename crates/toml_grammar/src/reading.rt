@@ -6,7 +6,7 @@ ghost use Rattle.toml_lexemes.specs.SpacedLexer.{spaced_of, IsNamedIf};
 
 use crate::expected::Expected;
 use crate::next::{Bracket, Next};
-use crate::turn::{Turn, turn_at};
+use crate::turn::{LexemeTurn, turn_at};
 use std::alloc::{AllocError, Global};
 use toml_lexemes::Spaced;
 
@@ -38,16 +38,16 @@ pub(crate) fn step(reading: &mut Reading, found: Spaced<'_>) -> Result<Option<Ex
 {
     let innermost = reading.open.last().copied();
     match turn_at(reading.next, innermost, found) {
-        Turn::GoesOn(next) => reading.next = next,
-        Turn::Opens(bracket, next) => {
+        LexemeTurn::GoesOn(next) => reading.next = next,
+        LexemeTurn::Opens(bracket, next) => {
             reading.open.push(bracket)?;
             reading.next = next;
         }
-        Turn::Closes => {
+        LexemeTurn::Closes => {
             let _ = reading.open.pop();
             reading.next = Next::After;
         }
-        Turn::Stops(expected) => return Ok(Some(expected)),
+        LexemeTurn::Stops(expected) => return Ok(Some(expected)),
     }
     Ok(None)
 }

@@ -14,7 +14,7 @@ use toml_words::{is_date, is_key_string, is_remark, is_string, is_time, is_value
 
 /// What a lexeme does.
 #[derive(Clone, Copy, Debug, PartialEq, Eq)]
-pub(crate) enum Turn {
+pub(crate) enum LexemeTurn {
     /// It may stand there, and this may come after it.
     GoesOn(Next),
     /// It opens a bracket, in which this may come.
@@ -64,103 +64,105 @@ fn expected(next: Next, innermost: Option<Bracket>) -> Expected
 }
 
 /// Goes on where this is so.
-fn where_so(so: bool, next: Next, expected: Expected) -> Turn
+fn where_so(so: bool, next: Next, expected: Expected) -> LexemeTurn
     ensures { result ≡ spec.where_so so next expected }
 {
     if so {
-        Turn::GoesOn(next)
+        LexemeTurn::GoesOn(next)
     } else {
-        Turn::Stops(expected)
+        LexemeTurn::Stops(expected)
     }
 }
 
 /// What `[` does.
-fn open_array(next: Next, innermost: Option<Bracket>, gap: &str) -> Turn
+fn open_array(next: Next, innermost: Option<Bracket>, gap: &str) -> LexemeTurn
     ensures { result ≡ spec.open_array_turn next innermost gap.now }
 {
     match next {
-        Next::Line => Turn::GoesOn(Next::Header),
+        Next::Line => LexemeTurn::GoesOn(Next::Header),
         Next::Header => where_so(
             gap.is_empty(),
             Next::Key(Owner::Tables, true),
             Expected::Key,
         ),
-        Next::Value | Next::Member => Turn::Opens(Bracket::Array, Next::Member),
-        _ => Turn::Stops(expected(next, innermost)),
+        Next::Value | Next::Member => LexemeTurn::Opens(Bracket::Array, Next::Member),
+        _ => LexemeTurn::Stops(expected(next, innermost)),
     }
 }
 
 /// What `]` does.
-fn close_array(next: Next, innermost: Option<Bracket>, gap: &str) -> Turn
+fn close_array(next: Next, innermost: Option<Bracket>, gap: &str) -> LexemeTurn
     ensures { result ≡ spec.close_array_turn next innermost gap.now }
 {
     match (next, innermost) {
-        (Next::Key(Owner::Table, false), _) => Turn::GoesOn(Next::After),
-        (Next::Key(Owner::Tables, false), _) => Turn::GoesOn(Next::Closing),
+        (Next::Key(Owner::Table, false), _) => LexemeTurn::GoesOn(Next::After),
+        (Next::Key(Owner::Tables, false), _) => LexemeTurn::GoesOn(Next::Closing),
         (Next::Closing, _) => where_so(gap.is_empty(), Next::After, Expected::Bracket),
-        (Next::Member, _) | (Next::After | Next::AfterDate, Some(Bracket::Array)) => Turn::Closes,
-        _ => Turn::Stops(expected(next, innermost)),
+        (Next::Member, _) | (Next::After | Next::AfterDate, Some(Bracket::Array)) =>
+            LexemeTurn::Closes,
+        _ => LexemeTurn::Stops(expected(next, innermost)),
     }
 }
 
 /// What `{` does.
-fn open_table(next: Next, innermost: Option<Bracket>) -> Turn
+fn open_table(next: Next, innermost: Option<Bracket>) -> LexemeTurn
     ensures { result ≡ spec.open_table_turn next innermost }
 {
     match next {
-        Next::Value | Next::Member => Turn::Opens(Bracket::Table, Next::Entry),
-        _ => Turn::Stops(expected(next, innermost)),
+        Next::Value | Next::Member => LexemeTurn::Opens(Bracket::Table, Next::Entry),
+        _ => LexemeTurn::Stops(expected(next, innermost)),
     }
 }
 
 /// What `}` does.
-fn close_table(next: Next, innermost: Option<Bracket>) -> Turn
+fn close_table(next: Next, innermost: Option<Bracket>) -> LexemeTurn
     ensures { result ≡ spec.close_table_turn next innermost }
 {
     match (next, innermost) {
-        (Next::Entry, _) | (Next::After | Next::AfterDate, Some(Bracket::Table)) => Turn::Closes,
-        _ => Turn::Stops(expected(next, innermost)),
+        (Next::Entry, _) | (Next::After | Next::AfterDate, Some(Bracket::Table)) =>
+            LexemeTurn::Closes,
+        _ => LexemeTurn::Stops(expected(next, innermost)),
     }
 }
 
 /// What a comma does.
-fn comma(next: Next, innermost: Option<Bracket>) -> Turn
+fn comma(next: Next, innermost: Option<Bracket>) -> LexemeTurn
     ensures { result ≡ spec.comma_turn next innermost }
 {
     match (next, innermost) {
-        (Next::After | Next::AfterDate, Some(Bracket::Array)) => Turn::GoesOn(Next::Member),
-        (Next::After | Next::AfterDate, Some(Bracket::Table)) => Turn::GoesOn(Next::Key(
+        (Next::After | Next::AfterDate, Some(Bracket::Array)) => LexemeTurn::GoesOn(Next::Member),
+        (Next::After | Next::AfterDate, Some(Bracket::Table)) => LexemeTurn::GoesOn(Next::Key(
             Owner::Value,
             true,
         )),
-        _ => Turn::Stops(expected(next, innermost)),
+        _ => LexemeTurn::Stops(expected(next, innermost)),
     }
 }
 
 /// What an equals sign does.
-fn equals(next: Next, innermost: Option<Bracket>) -> Turn
+fn equals(next: Next, innermost: Option<Bracket>) -> LexemeTurn
     ensures { result ≡ spec.equals_turn next innermost }
 {
     match next {
-        Next::Key(Owner::Value, false) => Turn::GoesOn(Next::Value),
-        _ => Turn::Stops(expected(next, innermost)),
+        Next::Key(Owner::Value, false) => LexemeTurn::GoesOn(Next::Value),
+        _ => LexemeTurn::Stops(expected(next, innermost)),
     }
 }
 
 /// What a line end does.
-fn line_end(next: Next, innermost: Option<Bracket>) -> Turn
+fn line_end(next: Next, innermost: Option<Bracket>) -> LexemeTurn
     ensures { result ≡ spec.line_end_turn next innermost }
 {
     match (next, innermost) {
-        (Next::Line, _) | (Next::After | Next::AfterDate, None) => Turn::GoesOn(Next::Line),
-        (Next::Member, _) => Turn::GoesOn(Next::Member),
-        (Next::After | Next::AfterDate, Some(Bracket::Array)) => Turn::GoesOn(Next::After),
-        _ => Turn::Stops(expected(next, innermost)),
+        (Next::Line, _) | (Next::After | Next::AfterDate, None) => LexemeTurn::GoesOn(Next::Line),
+        (Next::Member, _) => LexemeTurn::GoesOn(Next::Member),
+        (Next::After | Next::AfterDate, Some(Bracket::Array)) => LexemeTurn::GoesOn(Next::After),
+        _ => LexemeTurn::Stops(expected(next, innermost)),
     }
 }
 
 /// What a remark does, which TOML allows or not.
-fn remark(next: Next, innermost: Option<Bracket>, allowed: bool) -> Turn
+fn remark(next: Next, innermost: Option<Bracket>, allowed: bool) -> LexemeTurn
     ensures { result ≡ spec.remark_turn next innermost allowed }
 {
     match (next, innermost) {
@@ -170,12 +172,12 @@ fn remark(next: Next, innermost: Option<Bracket>, allowed: bool) -> Turn
             Next::After,
             Expected::Remark,
         ),
-        _ => Turn::Stops(expected(next, innermost)),
+        _ => LexemeTurn::Stops(expected(next, innermost)),
     }
 }
 
 /// What a string does as a part of a key.
-fn key_string(owner: Owner, text: &str) -> Turn
+fn key_string(owner: Owner, text: &str) -> LexemeTurn
     ensures { result ≡ spec.where_so (is_key_string text.now) (Next.Key owner false) Expected.KeyString }
 {
     where_so(
@@ -186,7 +188,7 @@ fn key_string(owner: Owner, text: &str) -> Turn
 }
 
 /// What a string does.
-fn string(next: Next, innermost: Option<Bracket>, text: &str) -> Turn
+fn string(next: Next, innermost: Option<Bracket>, text: &str) -> LexemeTurn
     ensures { result ≡ spec.string_turn next innermost text.now }
 {
     match next {
@@ -194,22 +196,22 @@ fn string(next: Next, innermost: Option<Bracket>, text: &str) -> Turn
         Next::Header => key_string(Owner::Table, text),
         Next::Key(owner, true) => key_string(owner, text),
         Next::Value | Next::Member => where_so(is_string(text), Next::After, Expected::String),
-        _ => Turn::Stops(expected(next, innermost)),
+        _ => LexemeTurn::Stops(expected(next, innermost)),
     }
 }
 
 /// What a word does in a key.
-fn key(owner: Owner, due: bool, text: &str, expected: Expected) -> Turn
+fn key(owner: Owner, due: bool, text: &str, expected: Expected) -> LexemeTurn
     ensures { result ≡ spec.key_turn owner (key_word due text.now) expected }
 {
     match key_word(text, due) {
-        Some(due) => Turn::GoesOn(Next::Key(owner, due)),
-        None => Turn::Stops(expected),
+        Some(due) => LexemeTurn::GoesOn(Next::Key(owner, due)),
+        None => LexemeTurn::Stops(expected),
     }
 }
 
 /// What a word does in place of a value.
-fn value(text: &str, expected: Expected) -> Turn
+fn value(text: &str, expected: Expected) -> LexemeTurn
     ensures { result ≡ spec.value_turn text.now expected }
 {
     let next = if is_date(text) {
@@ -221,7 +223,7 @@ fn value(text: &str, expected: Expected) -> Turn
 }
 
 /// What a word does.
-fn word(next: Next, innermost: Option<Bracket>, gap: &str, text: &str) -> Turn
+fn word(next: Next, innermost: Option<Bracket>, gap: &str, text: &str) -> LexemeTurn
     ensures { result ≡ spec.word_turn next innermost gap.now text.now }
 {
     let expected = expected(next, innermost);
@@ -231,22 +233,22 @@ fn word(next: Next, innermost: Option<Bracket>, gap: &str, text: &str) -> Turn
         Next::Key(owner, due) => key(owner, due, text, expected),
         Next::Value | Next::Member => value(text, expected),
         Next::AfterDate => where_so(is_one_space(gap) && is_time(text), Next::After, expected),
-        Next::Closing | Next::After => Turn::Stops(expected),
+        Next::Closing | Next::After => LexemeTurn::Stops(expected),
     }
 }
 
 /// What the end of the text does.
-fn end(next: Next, innermost: Option<Bracket>) -> Turn
+fn end(next: Next, innermost: Option<Bracket>) -> LexemeTurn
     ensures { result ≡ spec.end_turn next innermost }
 {
     match (next, innermost) {
-        (Next::Line, _) | (Next::After | Next::AfterDate, None) => Turn::GoesOn(next),
-        _ => Turn::Stops(expected(next, innermost)),
+        (Next::Line, _) | (Next::After | Next::AfterDate, None) => LexemeTurn::GoesOn(next),
+        _ => LexemeTurn::Stops(expected(next, innermost)),
     }
 }
 
 /// What a lexeme does with this gap before it, where the gap holds no stray CR.
-fn lexeme_turn(next: Next, innermost: Option<Bracket>, found: Spaced<'_>) -> Turn
+fn lexeme_turn(next: Next, innermost: Option<Bracket>, found: Spaced<'_>) -> LexemeTurn
     requires { IsNamedIf found.lexeme }
     ensures { let p = spaced_of found.entry in result ≡ spec.sort_turn (sort_of p.lexeme) next innermost p.gap p.lexeme }
 {
@@ -266,7 +268,7 @@ fn lexeme_turn(next: Next, innermost: Option<Bracket>, found: Spaced<'_>) -> Tur
 }
 
 /// What a lexeme does with this gap before it.
-pub(crate) fn turn_at(next: Next, innermost: Option<Bracket>, found: Spaced<'_>) -> Turn
+pub(crate) fn turn_at(next: Next, innermost: Option<Bracket>, found: Spaced<'_>) -> LexemeTurn
     requires { IsNamedIf found.lexeme }
     ensures { result ≡ spec.turn_of_lexeme next innermost (spaced_of found.entry) }
 {
@@ -274,6 +276,6 @@ pub(crate) fn turn_at(next: Next, innermost: Option<Bracket>, found: Spaced<'_>)
     if is_clear(found.gap, before_line_end) {
         lexeme_turn(next, innermost, found)
     } else {
-        Turn::Stops(Expected::LineFeed)
+        LexemeTurn::Stops(Expected::LineFeed)
     }
 }

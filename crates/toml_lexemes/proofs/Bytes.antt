@@ -2,7 +2,7 @@
 use Rattle.std.proofs.Common.{◌≡◌, ℕ, ◌<◌, Bool, true, ◌==◌, ◌||◌, ◌⊎◌, inl, inr, arith}
 use Rattle.std.proofs.lemmas.Bool.{eqb-true, or_cases}
 use Rattle.toml_lexemes.specs.Bytes.{is_sign, is_blank, is_quote, ends_word}
-use Rattle.toml_lexemes.specs.Lexemes.{Kind, basic, literal, quote_mark}
+use Rattle.toml_lexemes.specs.Lexemes.{StringKind, basic, literal, quote_mark}
 
 -- what follows from each of two tests follows from either
 pub or_both : (P : Type 0) (p q : Bool) → (p ≡ true → P) → (q ≡ true → P) → (p || q) ≡ true → P
@@ -31,6 +31,6 @@ ends_ascii x =
     or_both _ _ _ (or_both _ _ _ (or_both _ _ _ (or_both _ _ _ (sign_ascii x) (blank_ascii x)) (quote_ascii x)) (small x 10 (omega arith)))
     (small x 35 (omega arith))
 
-pub mark_ascii : (k : Kind) (x : ℕ) → (x == quote_mark k) ≡ true → x < 128
+pub mark_ascii : (k : StringKind) (x : ℕ) → (x == quote_mark k) ≡ true → x < 128
 mark_ascii basic x = small x 34 (omega arith)
 mark_ascii literal x = small x 39 (omega arith)

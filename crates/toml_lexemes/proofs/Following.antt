@@ -3,9 +3,9 @@ use Rattle.std.proofs.Common.{◌≡◌, ◌≢◌, ◌↔◌, ℕ, Bool, true, 
 use Rattle.std.proofs.Common.{subst}
 use Rattle.std.proofs.lemmas.Bool.{cond_both, true≢false, ne_eqb, or_parts, eqb-true}
 use Rattle.toml_lexemes.specs.Bytes.{is_sign, is_blank, is_quote, ends_word, head}
-use Rattle.toml_lexemes.specs.Lexemes.{Kind, basic, literal, quote_mark, escapes, Inner, in_word, in_remark, opened, doubled, in_line}
-use Rattle.toml_lexemes.specs.Lexemes.{in_line_escape, in_lines, in_lines_escape, closing, closing_more, closed, closed_more, Mode, between}
-use Rattle.toml_lexemes.specs.Lexemes.{within, passed, alone, begins, first, Turn, goes_on, stops, line_turn, lines_turn, turn}
+use Rattle.toml_lexemes.specs.Lexemes.{StringKind, basic, literal, quote_mark, escapes, Inner, in_word, in_remark, opened, doubled, in_line}
+use Rattle.toml_lexemes.specs.Lexemes.{in_line_escape, in_lines, in_lines_escape, closing, closing_more, closed, closed_more, LexerMode, between}
+use Rattle.toml_lexemes.specs.Lexemes.{within, passed, alone, begins, first, ByteTurn, goes_on, stops, line_turn, lines_turn, turn}
 use Rattle.toml_lexemes.specs.Lexemes.{begins_line_feed, cut_first, cut_toml}
 use Rattle.toml_lexemes.specs.Spaced.{mode_first, mode_turn, mode_after, EndsBefore, EndsWithReturn, MayFollow, begins_line_end}
 use Rattle.toml_lexemes.proofs.Bytes.{or_both}
@@ -19,28 +19,28 @@ end_may_follow s = record { ended = tt; apart = λ m is. refl }
 -- ---- which bytes stop a lexeme
 
 -- the turn is no stop, or the fact holds
-abbrev IfStop : Type 0 → Turn → Type 0
+abbrev IfStop : Type 0 → ByteTurn → Type 0
 IfStop P t = t ≡ stops → P
 
-by_test : (P : Type 0) (b : Bool) (t u : Turn) → (b ≡ true → IfStop P t) → (b ≡ false → IfStop P u) → IfStop P (cond b t u)
+by_test : (P : Type 0) (b : Bool) (t u : ByteTurn) → (b ≡ true → IfStop P t) → (b ≡ false → IfStop P u) → IfStop P (cond b t u)
 by_test P b t u f g = cond_both b t u (IfStop P) f g
 
 -- in a string of one line only a line feed stops
-line_stop : (k : Kind) (x : ℕ) → IfStop ((x == 10) ≡ true) (line_turn k x)
+line_stop : (k : StringKind) (x : ℕ) → IfStop ((x == 10) ≡ true) (line_turn k x)
 line_stop k x =
     by_test _ (x == 10) _ _ (λ e h. e) (λ e. by_test _ (x == quote_mark k) _ _ (λ f h. cc)
     (λ f. by_test _ (escapes k x) _ _ (λ g h. cc) (λ g h. cc)))
 
 -- in a string of several lines none does
-lines_stop : (k : Kind) (x : ℕ) → IfStop ⊥ (lines_turn k x)
+lines_stop : (k : StringKind) (x : ℕ) → IfStop ⊥ (lines_turn k x)
 lines_stop k x = by_test _ (x == quote_mark k) _ _ (λ f h. cc) (λ f. by_test _ (escapes k x) _ _ (λ g h. cc) (λ g h. cc))
 
 -- a byte that is no quote stops after two quotes, and after a string of several lines
-no_mark : (k : Kind) (t : Turn) (y : ℕ) → is_quote y ≡ false → cond (y == quote_mark k) t stops ≡ stops
+no_mark : (k : StringKind) (t : ByteTurn) (y : ℕ) → is_quote y ≡ false → cond (y == quote_mark k) t stops ≡ stops
 no_mark basic t y q = ap (λ b. cond b t stops) (or_parts (y == 34) (y == 39) q).0
 no_mark literal t y q = ap (λ b. cond b t stops) (or_parts (y == 34) (y == 39) q).1
 
-opened_line_feed : (k : Kind) (b : Bool) → turn (opened k) 10 b ≡ stops
+opened_line_feed : (k : StringKind) (b : Bool) → turn (opened k) 10 b ≡ stops
 opened_line_feed basic b = refl
 opened_line_feed literal b = refl
 
@@ -96,7 +96,7 @@ same_stop i x b c n e = e
 -- ---- the bytes after a lexeme
 
 module _ (x : ℕ) (xs : List ℕ) where
-  ends_at_line_feed : (m : Mode) (rest : List ℕ) → EndsBefore m (x ∷ xs) → EndsBefore m (10 ∷ rest)
+  ends_at_line_feed : (m : LexerMode) (rest : List ℕ) → EndsBefore m (x ∷ xs) → EndsBefore m (10 ∷ rest)
   ends_at_line_feed between rest e = tt
   ends_at_line_feed (within i) rest e = stop_at_line_feed i x (begins_line_feed xs) (begins_line_feed rest) e
 
@@ -104,7 +104,7 @@ module _ (x : ℕ) (xs : List ℕ) where
   line_feed_may_follow s rest differs h =
       record { ended = ends_at_line_feed (mode_after between s) rest h.ended; apart = λ m is. absurd (differs is) }
 
-  ends_at_blank : (m : Mode) (y : ℕ) (ys : List ℕ) → begins_line_end (x ∷ xs) ≡ false → ends_word y ≡ true → is_quote y ≡ false
+  ends_at_blank : (m : LexerMode) (y : ℕ) (ys : List ℕ) → begins_line_end (x ∷ xs) ≡ false → ends_word y ≡ true → is_quote y ≡ false
       → EndsBefore m (x ∷ xs) → EndsBefore m (y ∷ ys)
   ends_at_blank between y ys n w q e = tt
   ends_at_blank (within i) y ys n w q e = stop_at_blank i x y (begins_line_feed xs) (begins_line_feed ys) n w q e
@@ -117,7 +117,7 @@ module _ (x : ℕ) (xs : List ℕ) where
         apart = λ m is. absurd (true≢false (sym (remark_stop _ (subst (λ m. EndsBefore m (x ∷ xs)) m h.ended)) ∙ n));
       }
 
-  ends_at_first : (m : Mode) (ys : List ℕ) → x ≢ 13 → EndsBefore m (x ∷ xs) → EndsBefore m (x ∷ ys)
+  ends_at_first : (m : LexerMode) (ys : List ℕ) → x ≢ 13 → EndsBefore m (x ∷ xs) → EndsBefore m (x ∷ ys)
   ends_at_first between ys n e = tt
   ends_at_first (within i) ys n e = same_stop i x (begins_line_feed xs) (begins_line_feed ys) n e
 

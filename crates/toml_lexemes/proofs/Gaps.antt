@@ -4,7 +4,7 @@ use Rattle.std.specs.Prelude.{⊤, ◌≢◌}
 use Rattle.std.proofs.lemmas.Bool.{cond_both}
 use Rattle.std.proofs.lemmas.List.Elements.{All-from_recursion}
 use Rattle.toml_lexemes.specs.Bytes.{is_blank, is_sign}
-use Rattle.toml_lexemes.specs.Lexemes.{Inner, in_remark, Mode, between, within, First, passed, alone, begins, first, Turn, goes_on, ends}
+use Rattle.toml_lexemes.specs.Lexemes.{Inner, in_remark, LexerMode, between, within, First, passed, alone, begins, first, ByteTurn, goes_on, ends}
 use Rattle.toml_lexemes.specs.Lexemes.{stops, turn, begins_line_feed, lengthened_toml, cut_first, cut_turn, cut_toml}
 use Rattle.toml_lexemes.specs.Spaced.{IsSpacedToml, mode_first, mode_turn, mode_after, EndsBefore, EndsWithReturn, MayFollow, IsWellSpaced}
 use Rattle.toml_lexemes.proofs.Remarks.{From, From-turn, last_turn, no_line_feed}
@@ -24,7 +24,7 @@ abbrev GoesOn : Inner → List ℕ → List (List ℕ) → Type 0
 GoesOn i xs [] = ⊥
 GoesOn i xs (s ∷ ss) = (rest : List ℕ) × (xs ≡ s ++ rest) × IsPart i s rest × IsWellSpaced rest ss × AreLexemes ss
 
-abbrev IsCut : Mode → List ℕ → List (List ℕ) → Type 0
+abbrev IsCut : LexerMode → List ℕ → List (List ℕ) → Type 0
 IsCut between xs ss = IsWellSpaced xs ss × AreLexemes ss
 IsCut (within i) xs ss = GoesOn i xs ss
 
@@ -124,7 +124,7 @@ byte_first x i xs (s ∷ ss) e (rest, is, part, spaced, lexemes) = (
   (ap (λ f. cut_first f x (λ m. cut_toml m s)) e ∙ ap (lengthened_toml x) part.whole, lexemes),
 )
 
-module _ (x : ℕ) (xs : List ℕ) (h : (m : Mode) → IsCut m xs (cut_toml m xs)) where
+module _ (x : ℕ) (xs : List ℕ) (h : (m : LexerMode) → IsCut m xs (cut_toml m xs)) where
   one_first : (f : First) → first x ≡ f → IsCut between (x ∷ xs) (cut_first f x (λ m. cut_toml m xs))
   unfolding cut_toml
   one_first passed e = (blank_first x xs (cut_toml between xs) (subst (Says x) e (Says-first x)) (h between).0, (h between).1)
@@ -132,12 +132,12 @@ module _ (x : ℕ) (xs : List ℕ) (h : (m : Mode) → IsCut m xs (cut_toml m xs
       (([], xs, tt, refl, follows_one x xs e, (h between).0), (ap (λ f. cut_first f x (λ m. cut_toml m [])) e, (h between).1))
   one_first (begins i) e = byte_first x i xs (cut_toml (within i) xs) e (h (within i))
 
-  one_turn : (i : Inner) (t : Turn) → turn i x (begins_line_feed xs) ≡ t → GoesOn i (x ∷ xs) (cut_turn t (first x) x (λ m. cut_toml m xs))
+  one_turn : (i : Inner) (t : ByteTurn) → turn i x (begins_line_feed xs) ≡ t → GoesOn i (x ∷ xs) (cut_turn t (first x) x (λ m. cut_toml m xs))
   one_turn i (goes_on n) e = byte_more i n x xs (cut_toml (within n) xs) e (h (within n))
   one_turn i ends e = (xs, refl, part_end i x xs e, (h between).0, (h between).1)
   one_turn i stops e = let f = one_first (first x) refl in (x ∷ xs, refl, part_none i (x ∷ xs) e, f.0, f.1)
 
-IsCut-cut : (xs : List ℕ) (m : Mode) → IsCut m xs (cut_toml m xs)
+IsCut-cut : (xs : List ℕ) (m : LexerMode) → IsCut m xs (cut_toml m xs)
 unfolding cut_toml
 IsCut-cut [] between = (tt, tt)
 IsCut-cut [] (within i) = ([], refl, part_none i [] tt, tt, tt)

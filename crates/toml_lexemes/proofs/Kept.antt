@@ -3,7 +3,7 @@ use Rattle.std.proofs.Common.{◌≡◌, ℕ, false, List, [], ◌∷◌, ◌++�
 use Rattle.std.proofs.Common.{length-append}
 use Rattle.std.specs.Prelude.{⊤}
 use Rattle.std.proofs.lemmas.List.Elements.{All-head, All-tail}
-use Rattle.toml_lexemes.specs.Lexemes.{Inner, in_remark, Mode, between, within, First, passed, alone, begins, first, Turn, goes_on, ends}
+use Rattle.toml_lexemes.specs.Lexemes.{Inner, in_remark, LexerMode, between, within, First, passed, alone, begins, first, ByteTurn, goes_on, ends}
 use Rattle.toml_lexemes.specs.Lexemes.{stops, turn, begins_line_feed, lengthened_toml, cut_first, cut_turn, cut_toml}
 use Rattle.toml_lexemes.specs.Spaced.{IsTomlGap, IsSpacedToml, mode_first, mode_turn, mode_after, EndsBefore, EndsWithReturn, MayFollow}
 use Rattle.toml_lexemes.specs.Spaced.{IsWellSpaced}
@@ -21,7 +21,7 @@ some_more : (x : ℕ) (ss : List (List ℕ)) → IsSome (lengthened_toml x ss)
 some_more x [] = tt
 some_more x (s ∷ ss) = tt
 
-some_turn : (t : Turn) (f : First) (x : ℕ) (k : Mode → List (List ℕ)) → IsSome (cut_turn t f x k)
+some_turn : (t : ByteTurn) (f : First) (x : ℕ) (k : LexerMode → List (List ℕ)) → IsSome (cut_turn t f x k)
 some_turn (goes_on n) f x k = some_more x (k (within n))
 some_turn ends f x k = tt
 some_turn stops f x k = tt
@@ -35,7 +35,7 @@ pub shortened : (x : ℕ) (s : List ℕ) (ss : List (List ℕ)) → IsSome ss �
 shortened x s [] h e = absurd h
 shortened x s (t ∷ ts) h e = cc
 
-pub cut_turned : (i : Inner) (x : ℕ) (xs : List ℕ) (t : Turn) → turn i x (begins_line_feed xs) ≡ t
+pub cut_turned : (i : Inner) (x : ℕ) (xs : List ℕ) (t : ByteTurn) → turn i x (begins_line_feed xs) ≡ t
     → cut_toml (within i) (x ∷ xs) ≡ cut_turn t (first x) x (λ m. cut_toml m xs)
 unfolding cut_toml
 cut_turned i x xs t e = ap (λ u. cut_turn u (first x) x (λ m. cut_toml m xs)) e
@@ -48,7 +48,7 @@ stopped i [] e = refl
 stopped i (x ∷ xs) e = cut_turned i x xs stops e
 
 -- the byte x takes the same turn before the rest as it does alone
-same_turn : (i : Inner) (x : ℕ) (s rest : List ℕ) (t : Turn) → turn i x (begins_line_feed s) ≡ t → IsPart i (x ∷ s) rest
+same_turn : (i : Inner) (x : ℕ) (s rest : List ℕ) (t : ByteTurn) → turn i x (begins_line_feed s) ≡ t → IsPart i (x ∷ s) rest
     → turn i x (begins_line_feed (s ++ rest)) ≡ t
 same_turn i x [] rest t e h =
     more_turn i x (begins_line_feed rest) t e (λ remark is. h.apart (ap₂ (λ j y. mode_turn (turn j y false)) remark is) is)
@@ -76,7 +76,7 @@ last_byte x (y ∷ ys) rest ss e = absurd (cc)
 
 module _ (i : Inner) (x : ℕ) (s rest : List ℕ) (h : IsPart i (x ∷ s) rest) where
   part_byte : ((n : Inner) → IsPart n s rest → cut_toml (within n) (s ++ rest) ≡ s ∷ cut_toml between rest)
-      → (t : Turn) → turn i x (begins_line_feed s) ≡ t → cut_toml (within i) (x ∷ (s ++ rest)) ≡ (x ∷ s) ∷ cut_toml between rest
+      → (t : ByteTurn) → turn i x (begins_line_feed s) ≡ t → cut_toml (within i) (x ∷ (s ++ rest)) ≡ (x ∷ s) ∷ cut_toml between rest
   part_byte more (goes_on n) e =
       cut_turned i x (s ++ rest) (goes_on n) (same_turn i x s rest (goes_on n) e h)
       ∙ ap (lengthened_toml x) (more n (part_less i n x s rest e h))

@@ -2,7 +2,7 @@
 use Rattle.std.proofs.Common.{◌≡◌, ℕ, ◌+◌, ◌-◌, ◌<◌, ◌≤◌, List, [], ◌∷◌, ◌++◌, length, take, drop, get_or, sym, ap, ◌∙◌, arith}
 use Rattle.std.proofs.Common.{append_assoc, append-nil, length-drop}
 use Rattle.std.proofs.lemmas.List.{take_more, drop_more, drop_all, get_or-drop}
-use Rattle.toml_lexemes.specs.Lexemes.{Inner, between, within, first, Turn, goes_on, ends, stops, turn, begins_line_feed, lengthened_toml}
+use Rattle.toml_lexemes.specs.Lexemes.{Inner, between, within, first, ByteTurn, goes_on, ends, stops, turn, begins_line_feed, lengthened_toml}
 use Rattle.toml_lexemes.specs.Lexemes.{cut_turn, cut_toml}
 
 module _ (i : Inner) (d : List ℕ) (from : ℕ) where
@@ -29,10 +29,10 @@ module _ (i : Inner) (d : List ℕ) (from place : ℕ) (le : from ≤ place) whe
       ∙ ap (λ x. part ++ x ∷ []) (get_or-drop from d (place - from) 0 ∙ ap (λ n. get_or d n 0) at)
 
   -- the turn that the byte at the place takes
-  abbrev turn_here : Inner → Turn
+  abbrev turn_here : Inner → ByteTurn
   turn_here n = turn n (get_or d place 0) (begins_line_feed (drop (place + 1) d))
 
-  cut_here : (n : Inner) (t : Turn) → place < length d → turn_here n ≡ t
+  cut_here : (n : Inner) (t : ByteTurn) → place < length d → turn_here n ≡ t
       → cut_toml (within n) (drop place d) ≡ cut_turn t (first (get_or d place 0)) (get_or d place 0) (λ m. cut_toml m (drop (place + 1) d))
   unfolding cut_toml
   cut_here n t lt e =

@@ -1,21 +1,21 @@
 -- What a clause sees of a mode.
 use Rattle.std.specs.Prelude.{Bool, true, false}
 use Rattle.toml_lexemes.specs.Lexemes as spec
-use Rattle.toml_lexemes.specs.declared.mode.Kind.{Kind}
-use Rattle.toml_lexemes.specs.declared.mode.Kind.TheVariants.{Basic, Literal}
-use Rattle.toml_lexemes.specs.declared.mode.Mode.{Mode}
-use Rattle.toml_lexemes.specs.declared.mode.Mode.TheVariants.{InWord, InRemark, Opened, Doubled, InLine, InLineEscape, InLines}
-use Rattle.toml_lexemes.specs.declared.mode.Mode.TheVariants.{InLinesEscape, Closing, ClosingMore, Closed, ClosedMore}
-use Rattle.toml_lexemes.specs.declared.mode.Turn.{Turn}
-use Rattle.toml_lexemes.specs.declared.mode.Turn.TheVariants.{GoesOn, Ends, Stops}
+use Rattle.toml_lexemes.specs.declared.mode.StringKind.{StringKind}
+use Rattle.toml_lexemes.specs.declared.mode.StringKind.TheVariants.{Basic, Literal}
+use Rattle.toml_lexemes.specs.declared.mode.LexerMode.{LexerMode}
+use Rattle.toml_lexemes.specs.declared.mode.LexerMode.TheVariants.{InWord, InRemark, Opened, Doubled, InLine, InLineEscape, InLines}
+use Rattle.toml_lexemes.specs.declared.mode.LexerMode.TheVariants.{InLinesEscape, Closing, ClosingMore, Closed, ClosedMore}
+use Rattle.toml_lexemes.specs.declared.mode.ByteTurn.{ByteTurn}
+use Rattle.toml_lexemes.specs.declared.mode.ByteTurn.TheVariants.{GoesOn, Ends, Stops}
 
 -- the kind of string that the code means
-abbrev pub kind_of : Kind → spec.Kind
+abbrev pub kind_of : StringKind → spec.StringKind
 kind_of Basic = spec.basic
 kind_of Literal = spec.literal
 
 -- the place in a lexeme that the code's mode means
-abbrev pub inner_of : Mode → spec.Inner
+abbrev pub inner_of : LexerMode → spec.Inner
 inner_of InWord = spec.in_word
 inner_of InRemark = spec.in_remark
 inner_of (Opened k) = spec.opened (kind_of k)
@@ -30,7 +30,7 @@ inner_of (Closed k) = spec.closed (kind_of k)
 inner_of (ClosedMore k) = spec.closed_more (kind_of k)
 
 -- the turn that the code means
-abbrev pub turn_of : Turn → spec.Turn
+abbrev pub turn_of : ByteTurn → spec.ByteTurn
 turn_of (GoesOn m) = spec.goes_on (inner_of m)
 turn_of Ends = spec.ends
 turn_of Stops = spec.stops

@@ -1,7 +1,7 @@
 -- Texts with gaps around them.
 use Rattle.std.specs.Prelude.{◌≡◌, ◌==◌, ◌&&◌, ◌||◌, ℕ, Bool, true, false, List, [], ◌∷◌, ◌++◌, ⊤}
 use Rattle.toml_lexemes.specs.Bytes.{carriage_return, line_feed, is_blank}
-use Rattle.toml_lexemes.specs.Lexemes.{in_remark, Mode, between, within, First, passed, alone, begins, first, Turn, goes_on, ends, stops}
+use Rattle.toml_lexemes.specs.Lexemes.{in_remark, LexerMode, between, within, First, passed, alone, begins, first, ByteTurn, goes_on, ends, stops}
 use Rattle.toml_lexemes.specs.Lexemes.{turn, begins_line_feed}
 
 -- a gap: blanks alone, which are the space, the tab and CR
@@ -18,19 +18,19 @@ IsSpacedToml bytes (s ∷ ss) =
 -- ---- what may follow a lexeme
 
 -- the mode after a byte between two lexemes
-abbrev pub mode_first : First → Mode
+abbrev pub mode_first : First → LexerMode
 mode_first passed = between
 mode_first alone = between
 mode_first (begins i) = within i
 
 -- the mode after a byte in a lexeme
-abbrev pub mode_turn : Turn → Mode
+abbrev pub mode_turn : ByteTurn → LexerMode
 mode_turn (goes_on i) = within i
 mode_turn ends = between
 mode_turn stops = between
 
 -- the mode after these bytes
-abbrev pub mode_after : Mode → List ℕ → Mode
+abbrev pub mode_after : LexerMode → List ℕ → LexerMode
 mode_after m [] = m
 mode_after between (x ∷ xs) = mode_after (mode_first (first x)) xs
 mode_after (within i) (x ∷ xs) = mode_after (mode_turn (turn i x (begins_line_feed xs))) xs
@@ -39,7 +39,7 @@ mode_after (within i) (x ∷ xs) = mode_after (mode_turn (turn i x (begins_line_
 -- first byte stops it. So a word ends before a blank, a line end, a sign, a quote or a remark; a remark before a line end;
 -- a string of one line that is not closed before a line feed; two quotes, and a string of several lines that is closed,
 -- before any byte but their quote; and a string of several lines that is not closed only at the end of the text.
-abbrev pub EndsBefore : Mode → List ℕ → Type 0
+abbrev pub EndsBefore : LexerMode → List ℕ → Type 0
 EndsBefore m [] = ⊤
 EndsBefore between (x ∷ xs) = ⊤
 EndsBefore (within i) (x ∷ xs) = turn i x (begins_line_feed xs) ≡ stops

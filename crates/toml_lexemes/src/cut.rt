@@ -7,7 +7,7 @@ ghost use Rattle.toml_lexemes.specs.SpacedLexemes.{blanks};
 ghost use Rattle.toml_lexemes.specs.View.{toml_text_of, HasTomlKind, IsFirstTomlLexeme};
 
 use crate::lexeme::Lexeme;
-use crate::mode::{Kind, Mode, Turn, is_blank, turn_at};
+use crate::mode::{ByteTurn, LexerMode, StringKind, is_blank, turn_at};
 
 /// The first place from `from` on where no blank stands, or the end.
 #[inline]
@@ -37,7 +37,7 @@ fn is_line_feed_at(bytes: &[u8], place: usize) -> bool
 
 /// The place where the lexeme ends that goes on at `from` in this mode.
 #[inline]
-fn lexeme_end(bytes: &[u8], from: usize, begun: Mode) -> usize
+fn lexeme_end(bytes: &[u8], from: usize, begun: LexerMode) -> usize
     requires within { from ≤ length bytes.now }
     requires begun { is_after_quote (inner_of begun) ≡ false }
     ensures bounds { (from ≤ result) × (result ≤ length bytes.now) }
@@ -50,9 +50,9 @@ fn lexeme_end(bytes: &[u8], from: usize, begun: Mode) -> usize
     let mut mode = begun;
     for place in from..bytes.len() {
         match turn_at(mode, bytes[place], is_line_feed_at(bytes, place + 1)) {
-            Turn::GoesOn(next) => mode = next,
-            Turn::Ends => return place + 1,
-            Turn::Stops => return place,
+            ByteTurn::GoesOn(next) => mode = next,
+            ByteTurn::Ends => return place + 1,
+            ByteTurn::Stops => return place,
         }
     }
     bytes.len()
@@ -60,7 +60,7 @@ fn lexeme_end(bytes: &[u8], from: usize, begun: Mode) -> usize
 
 /// The text from a place up to the end of the lexeme whose first byte stands there and leads to this mode.
 #[inline]
-fn slice_at<'a>(text: &'a str, place: usize, begun: Mode) -> &'a str
+fn slice_at<'a>(text: &'a str, place: usize, begun: LexerMode) -> &'a str
     requires within { place < length text.now }
     requires boundary { IsCharBoundary text.now place }
     requires begun { is_after_quote (inner_of begun) ≡ false }
@@ -88,9 +88,9 @@ pub(crate) fn lexeme_at<'a>(text: &'a str, place: usize) -> Lexeme<'a>
         b',' => Lexeme::Comma,
         b'=' => Lexeme::Equals,
         b'\n' => Lexeme::LineEnd,
-        b'#' => Lexeme::Remark(slice_at(text, place, Mode::InRemark)),
-        b'"' => Lexeme::String(slice_at(text, place, Mode::Opened(Kind::Basic))),
-        b'\'' => Lexeme::String(slice_at(text, place, Mode::Opened(Kind::Literal))),
-        _ => Lexeme::Word(slice_at(text, place, Mode::InWord)),
+        b'#' => Lexeme::Remark(slice_at(text, place, LexerMode::InRemark)),
+        b'"' => Lexeme::String(slice_at(text, place, LexerMode::Opened(StringKind::Basic))),
+        b'\'' => Lexeme::String(slice_at(text, place, LexerMode::Opened(StringKind::Literal))),
+        _ => Lexeme::Word(slice_at(text, place, LexerMode::InWord)),
     }
 }

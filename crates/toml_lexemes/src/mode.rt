@@ -5,7 +5,7 @@ ghost use Rattle.toml_lexemes.specs.Modes.{kind_of, inner_of, turn_of};
 
 /// The kinds of string.
 #[derive(Clone, Copy)]
-pub(crate) enum Kind {
+pub(crate) enum StringKind {
     /// `"..."`, in which a backslash escapes the byte after it.
     Basic,
     /// `'...'`
@@ -14,34 +14,34 @@ pub(crate) enum Kind {
 
 /// Where in a lexeme a byte stands.
 #[derive(Clone, Copy)]
-pub(crate) enum Mode {
+pub(crate) enum LexerMode {
     InWord,
     InRemark,
     /// After the first quote of a string.
-    Opened(Kind),
+    Opened(StringKind),
     /// After two quotes with nothing between them.
-    Doubled(Kind),
+    Doubled(StringKind),
     /// In a string of one line.
-    InLine(Kind),
+    InLine(StringKind),
     InLineEscape,
     /// In a string of several lines.
-    InLines(Kind),
+    InLines(StringKind),
     InLinesEscape,
     /// In a string of several lines, after one quote.
-    Closing(Kind),
+    Closing(StringKind),
     /// In a string of several lines, after two quotes.
-    ClosingMore(Kind),
+    ClosingMore(StringKind),
     /// After the three quotes that close a string of several lines.
-    Closed(Kind),
+    Closed(StringKind),
     /// After one quote more.
-    ClosedMore(Kind),
+    ClosedMore(StringKind),
 }
 
 /// What a byte is to the lexeme that is being read.
 #[derive(Clone, Copy)]
-pub(crate) enum Turn {
+pub(crate) enum ByteTurn {
     /// A byte of it, after which it goes on.
-    GoesOn(Mode),
+    GoesOn(LexerMode),
     /// Its last byte.
     Ends,
     /// The first byte after it.
@@ -79,64 +79,64 @@ fn ends_word(byte: u8) -> bool
 
 /// Whether the byte is the quote of this kind of string.
 #[inline]
-fn is_mark(kind: Kind, byte: u8) -> bool
+fn is_mark(kind: StringKind, byte: u8) -> bool
     ensures { result ≡ (byte == spec.quote_mark (kind_of kind)) }
 {
     match kind {
-        Kind::Basic => byte == b'"',
-        Kind::Literal => byte == b'\'',
+        StringKind::Basic => byte == b'"',
+        StringKind::Literal => byte == b'\'',
     }
 }
 
 /// Whether the byte escapes the next one.
 #[inline]
-fn escapes(kind: Kind, byte: u8) -> bool
+fn escapes(kind: StringKind, byte: u8) -> bool
     ensures { result ≡ spec.escapes (kind_of kind) byte }
 {
     match kind {
-        Kind::Basic => byte == b'\\',
-        Kind::Literal => false,
+        StringKind::Basic => byte == b'\\',
+        StringKind::Literal => false,
     }
 }
 
 /// What a byte is in a string of one line.
 #[inline]
-fn line_turn(kind: Kind, byte: u8) -> Turn
+fn line_turn(kind: StringKind, byte: u8) -> ByteTurn
     ensures { turn_of result ≡ spec.line_turn (kind_of kind) byte }
 {
     if byte == b'\n' {
-        Turn::Stops
+        ByteTurn::Stops
     } else if is_mark(kind, byte) {
-        Turn::Ends
+        ByteTurn::Ends
     } else if escapes(kind, byte) {
-        Turn::GoesOn(Mode::InLineEscape)
+        ByteTurn::GoesOn(LexerMode::InLineEscape)
     } else {
-        Turn::GoesOn(Mode::InLine(kind))
+        ByteTurn::GoesOn(LexerMode::InLine(kind))
     }
 }
 
 /// What a byte is in a string of several lines.
 #[inline]
-fn lines_turn(kind: Kind, byte: u8) -> Turn
+fn lines_turn(kind: StringKind, byte: u8) -> ByteTurn
     ensures { turn_of result ≡ spec.lines_turn (kind_of kind) byte }
 {
     if is_mark(kind, byte) {
-        Turn::GoesOn(Mode::Closing(kind))
+        ByteTurn::GoesOn(LexerMode::Closing(kind))
     } else if escapes(kind, byte) {
-        Turn::GoesOn(Mode::InLinesEscape)
+        ByteTurn::GoesOn(LexerMode::InLinesEscape)
     } else {
-        Turn::GoesOn(Mode::InLines(kind))
+        ByteTurn::GoesOn(LexerMode::InLines(kind))
     }
 }
 
 /// The lexeme goes on in a mode where the byte is the quote of its kind, and else takes a turn.
 #[inline]
-fn at_mark(kind: Kind, byte: u8, mode: Mode, other: Turn) -> Turn
+fn at_mark(kind: StringKind, byte: u8, mode: LexerMode, other: ByteTurn) -> ByteTurn
     ensures { turn_of result
         ≡ cond (byte == spec.quote_mark (kind_of kind)) (spec.goes_on (inner_of mode)) (turn_of other) }
 {
     if is_mark(kind, byte) {
-        Turn::GoesOn(mode)
+        ByteTurn::GoesOn(mode)
     } else {
         other
     }
@@ -144,34 +144,54 @@ fn at_mark(kind: Kind, byte: u8, mode: Mode, other: Turn) -> Turn
 
 /// The lexeme stops where this is so, and else goes on in the mode.
 #[inline]
-fn stops_at(stops: bool, mode: Mode) -> Turn
+fn stops_at(stops: bool, mode: LexerMode) -> ByteTurn
     ensures { turn_of result ≡ cond stops spec.stops (spec.goes_on (inner_of mode)) }
 {
     if stops {
-        Turn::Stops
+        ByteTurn::Stops
     } else {
-        Turn::GoesOn(mode)
+        ByteTurn::GoesOn(mode)
     }
 }
 
 /// What a byte is to the lexeme in this mode, directly before a line feed or not.
 #[inline]
-pub(crate) fn turn_at(mode: Mode, byte: u8, before_line_feed: bool) -> Turn
+pub(crate) fn turn_at(mode: LexerMode, byte: u8, before_line_feed: bool) -> ByteTurn
     ensures { turn_of result ≡ spec.turn (inner_of mode) byte before_line_feed }
 {
     match mode {
-        Mode::InWord => stops_at(ends_word(byte), mode),
-        Mode::InRemark => stops_at(byte == b'\n' || (byte == b'\r' && before_line_feed), mode),
-        Mode::Opened(kind) => at_mark(kind, byte, Mode::Doubled(kind), line_turn(kind, byte)),
-        Mode::Doubled(kind) => at_mark(kind, byte, Mode::InLines(kind), Turn::Stops),
-        Mode::InLine(kind) => line_turn(kind, byte),
-        Mode::InLineEscape => stops_at(byte == b'\n', Mode::InLine(Kind::Basic)),
-        Mode::InLines(kind) => lines_turn(kind, byte),
-        Mode::InLinesEscape => Turn::GoesOn(Mode::InLines(Kind::Basic)),
-        Mode::Closing(kind) => at_mark(kind, byte, Mode::ClosingMore(kind), lines_turn(kind, byte)),
-        Mode::ClosingMore(kind) => at_mark(kind, byte, Mode::Closed(kind), lines_turn(kind, byte)),
-        Mode::Closed(kind) => at_mark(kind, byte, Mode::ClosedMore(kind), Turn::Stops),
-        Mode::ClosedMore(kind) if is_mark(kind, byte) => Turn::Ends,
-        Mode::ClosedMore(_) => Turn::Stops,
+        LexerMode::InWord => stops_at(ends_word(byte), mode),
+        LexerMode::InRemark => stops_at(byte == b'\n' || (byte == b'\r' && before_line_feed), mode),
+        LexerMode::Opened(kind) => at_mark(
+            kind,
+            byte,
+            LexerMode::Doubled(kind),
+            line_turn(kind, byte),
+        ),
+        LexerMode::Doubled(kind) => at_mark(kind, byte, LexerMode::InLines(kind), ByteTurn::Stops),
+        LexerMode::InLine(kind) => line_turn(kind, byte),
+        LexerMode::InLineEscape => stops_at(byte == b'\n', LexerMode::InLine(StringKind::Basic)),
+        LexerMode::InLines(kind) => lines_turn(kind, byte),
+        LexerMode::InLinesEscape => ByteTurn::GoesOn(LexerMode::InLines(StringKind::Basic)),
+        LexerMode::Closing(kind) => at_mark(
+            kind,
+            byte,
+            LexerMode::ClosingMore(kind),
+            lines_turn(kind, byte),
+        ),
+        LexerMode::ClosingMore(kind) => at_mark(
+            kind,
+            byte,
+            LexerMode::Closed(kind),
+            lines_turn(kind, byte),
+        ),
+        LexerMode::Closed(kind) => at_mark(
+            kind,
+            byte,
+            LexerMode::ClosedMore(kind),
+            ByteTurn::Stops,
+        ),
+        LexerMode::ClosedMore(kind) if is_mark(kind, byte) => ByteTurn::Ends,
+        LexerMode::ClosedMore(_) => ByteTurn::Stops,
     }
 }

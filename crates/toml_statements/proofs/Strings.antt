@@ -3,9 +3,9 @@ use Rattle.std.proofs.Common.{◌≡◌, ℕ, Bool, true, false, cond, ◌==◌,
 use Rattle.std.specs.Prelude.{⊤}
 use Rattle.std.proofs.lemmas.Bool.{cond_both, or_parts, eqb-true, true≢false}
 use Rattle.toml_lexemes.specs.Bytes.{is_quote}
-use Rattle.toml_lexemes.specs.Lexemes.{Kind, basic, literal, quote_mark, escapes, Inner, in_word, in_remark, opened, doubled, in_line}
-use Rattle.toml_lexemes.specs.Lexemes.{in_line_escape, in_lines, in_lines_escape, closing, closing_more, closed, closed_more, Mode, between}
-use Rattle.toml_lexemes.specs.Lexemes.{within, begins, first, Turn, goes_on, ends, stops, line_turn, lines_turn, turn, begins_line_feed}
+use Rattle.toml_lexemes.specs.Lexemes.{StringKind, basic, literal, quote_mark, escapes, Inner, in_word, in_remark, opened, doubled, in_line}
+use Rattle.toml_lexemes.specs.Lexemes.{in_line_escape, in_lines, in_lines_escape, closing, closing_more, closed, closed_more, LexerMode, between}
+use Rattle.toml_lexemes.specs.Lexemes.{within, begins, first, ByteTurn, goes_on, ends, stops, line_turn, lines_turn, turn, begins_line_feed}
 use Rattle.toml_lexemes.specs.Lexemes.{cut_first, cut_toml}
 use Rattle.toml_lexemes.specs.Spaced.{mode_first, mode_turn, mode_after, EndsBefore, MayFollow}
 use Rattle.toml_lexemes.proofs.Kept.{cut_turned, shortened, some_cut}
@@ -19,17 +19,17 @@ InString in_remark = ⊥
 InString i = ⊤
 
 -- a turn that does not leave the string for a place in another lexeme
-abbrev Stays : Turn → Type 0
+abbrev Stays : ByteTurn → Type 0
 Stays (goes_on i) = InString i
 Stays t = ⊤
 
-by_test : (b : Bool) (t u : Turn) → Stays t → Stays u → Stays (cond b t u)
+by_test : (b : Bool) (t u : ByteTurn) → Stays t → Stays u → Stays (cond b t u)
 by_test b t u p q = cond_both b t u Stays (λ e. p) (λ e. q)
 
-stays_in_line : (k : Kind) (x : ℕ) → Stays (line_turn k x)
+stays_in_line : (k : StringKind) (x : ℕ) → Stays (line_turn k x)
 stays_in_line k x = by_test (x == 10) _ _ tt (by_test (x == quote_mark k) _ _ tt (by_test (escapes k x) _ _ tt tt))
 
-stays_in_lines : (k : Kind) (x : ℕ) → Stays (lines_turn k x)
+stays_in_lines : (k : StringKind) (x : ℕ) → Stays (lines_turn k x)
 stays_in_lines k x = by_test (x == quote_mark k) _ _ tt (by_test (escapes k x) _ _ tt tt)
 
 Stays-turn : (i : Inner) (x : ℕ) (b : Bool) → InString i → Stays (turn i x b)
@@ -47,7 +47,7 @@ Stays-turn (closed k) x b h = by_test (x == quote_mark k) _ _ tt tt
 Stays-turn (closed_more k) x b h = by_test (x == quote_mark k) _ _ tt tt
 
 -- after a string, or in one
-abbrev OfString : Mode → Type 0
+abbrev OfString : LexerMode → Type 0
 OfString between = ⊤
 OfString (within i) = InString i
 
@@ -68,7 +68,7 @@ string_mode : (s : List ℕ) (i : Inner) → InString i → cut_toml (within i) 
 string_mode [] i h lexeme = h
 string_mode (x ∷ s) i h lexeme = by_turn (turn i x (begins_line_feed s)) refl (λ n. string_mode s n)
   where
-    by_turn : (t : Turn) → turn i x (begins_line_feed s) ≡ t
+    by_turn : (t : ByteTurn) → turn i x (begins_line_feed s) ≡ t
         → ((n : Inner) → InString n → cut_toml (within n) s ≡ s ∷ [] → OfString (mode_after (within n) s))
         → OfString (mode_after (mode_turn t) s)
     by_turn (goes_on n) e more = more n (subst Stays e (Stays-turn i x (begins_line_feed s) h)) (rest_alone i x s lexeme n e)
@@ -78,7 +78,7 @@ string_mode (x ∷ s) i h lexeme = by_turn (turn i x (begins_line_feed s)) refl 
 -- ---- what stops a string
 
 -- a byte that is no quote stops after two quotes, and after a string of several lines
-no_mark : (k : Kind) (t : Turn) (y : ℕ) → is_quote y ≡ false → cond (y == quote_mark k) t stops ≡ stops
+no_mark : (k : StringKind) (t : ByteTurn) (y : ℕ) → is_quote y ≡ false → cond (y == quote_mark k) t stops ≡ stops
 no_mark basic t y q = ap (λ b. cond b t stops) (or_parts (y == 34) (y == 39) q).0
 no_mark literal t y q = ap (λ b. cond b t stops) (or_parts (y == 34) (y == 39) q).1
 
@@ -102,11 +102,11 @@ stop_string (closing_more literal) y b c h q e = cc
 stop_string (closed k) y b c h q e = no_mark k _ y q
 stop_string (closed_more k) y b c h q e = no_mark k _ y q
 
-ends_at_byte : (m : Mode) (y : ℕ) (ys : List ℕ) → OfString m → is_quote y ≡ false → EndsBefore m (32 ∷ []) → EndsBefore m (y ∷ ys)
+ends_at_byte : (m : LexerMode) (y : ℕ) (ys : List ℕ) → OfString m → is_quote y ≡ false → EndsBefore m (32 ∷ []) → EndsBefore m (y ∷ ys)
 ends_at_byte between y ys h q e = tt
 ends_at_byte (within i) y ys h q e = stop_string i y false (begins_line_feed ys) h q e
 
-no_remark : (m : Mode) → OfString m → m ≡ within in_remark → ⊥
+no_remark : (m : LexerMode) → OfString m → m ≡ within in_remark → ⊥
 no_remark m h e = subst OfString e h
 
 after_string : (s : List ℕ) (y : ℕ) (ys : List ℕ) → OfString (mode_after between s) → is_quote y ≡ false → MayFollow s (32 ∷ [])
@@ -119,7 +119,7 @@ after_string s y ys h q follows =
 
 -- ---- whole strings
 
-quote_first : (x : ℕ) (b c : Bool) → (x == 34) ≡ b → (x == 39) ≡ c → (b || c) ≡ true → (k : Kind) × (first x ≡ begins (opened k))
+quote_first : (x : ℕ) (b c : Bool) → (x == 34) ≡ b → (x == 39) ≡ c → (b || c) ≡ true → (k : StringKind) × (first x ≡ begins (opened k))
 quote_first x true c e f h = (basic, subst (λ y. first y ≡ begins (opened basic)) (sym (eqb-true x 34 e)) refl)
 quote_first x false true e f h = (literal, subst (λ y. first y ≡ begins (opened literal)) (sym (eqb-true x 39 f)) refl)
 quote_first x false false e f h = absurd (true≢false (sym h))
@@ -135,7 +135,7 @@ pub string_followed : (x : ℕ) (s : List ℕ) (y : ℕ) (ys : List ℕ) → is_
     → is_quote y ≡ false → MayFollow (x ∷ s) (32 ∷ []) → MayFollow (x ∷ s) (y ∷ ys)
 string_followed x s y ys quote lexeme q follows = by_kind (quote_first x (x == 34) (x == 39) refl refl quote)
   where
-    by_kind : (k : Kind) × (first x ≡ begins (opened k)) → MayFollow (x ∷ s) (y ∷ ys)
+    by_kind : (k : StringKind) × (first x ≡ begins (opened k)) → MayFollow (x ∷ s) (y ∷ ys)
     by_kind (k, e) =
         after_string (x ∷ s) y ys
         (subst (λ m. OfString (mode_after m s)) (sym (ap mode_first e)) (string_mode s (opened k) tt (cut_begun x s (opened k) e lexeme)))

@@ -1,5 +1,5 @@
 use Rattle.std.proofs.Common.{rules}
-use Rattle.prettyless_text.proofs.display.Printer.finished.Goals as goal
+use Rattle.prettyless_text.proofs.display.DisplayWriter.finished.Goals as goal
 
 pub returns-in-Ok-clause-text : goal.returns-in-Ok-clause-text
 returns-in-Ok-clause-text c = search rules depth 1
