@@ -104,7 +104,8 @@ lay_counts o k (BreakOrFlat x y) i Flat rest w h s = lay_counts o k y i Flat res
 lay_counts o k (Group d) i m rest {st} w h s =
     lay_counts o k d i (by_mode m (if probe o d i Flat rest st then Flat else Break) Flat) rest w h s
 lay_counts o {brk} {c} k (Union x y) i Break rest {st} {q} w h s =
-    holds-accept (Leaves c (count c w + count c q)) (λ b z was e. (e.0, record { spelled = e.1.spelled }, e.2)) o st.within (lay o brk x i Break rest (in_trial st))
+    holds-accept (Leaves c (count c w + count c q)) (λ b z was e. (e.0, record { spelled = e.1.spelled }, e.2)) o st.within
+    (lay o brk x i Break rest (in_trial st))
     (lay o brk y i Break rest st)
     (lay_counts o k x i Break rest w h.0 (record { spelled = s.spelled }))
     (lay_counts o k y i Break rest w h.1 s)
