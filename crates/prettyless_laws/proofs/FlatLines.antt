@@ -150,14 +150,14 @@ inked : (o : RenderOptions) (w : ℕ) (st : State) → nat_le (commit w st.colum
 inked o w st h t =
     ap (λ (x : Bool). record st { column = commit w st.column; within = x }) (ap (λ (x : Bool). t && x) h ∙ and-true t)
 
-text_flows : (o : RenderOptions) (d : Tree) (i : ℕ) (w : ℕ) (s : List ℕ) (next : Column → Bool → Bool) (st : State)
+text_flows : {o : RenderOptions} {d : Tree} {i : ℕ} (w : ℕ) (s : List ℕ) {next : Column → Bool → Bool} {st : State}
     → ((brk : Breaks) (j : ℕ) (rest : List Entry) (u : State) → lay o brk d j Flat rest u ≡ lay_text o w s u)
     → ((brk : BreakTraces) (j : ℕ) (rest : List Entry) → trace_at o brk d j Flat rest st ≡ trace_text o w s st) → LeavesPending d []
     → answer_of (look_text o.width w s st.column (some_pending st.pending)) next ≡ true → IsTracedOnOneLine o d i next st
-text_flows o d i w [] next st e t n h =
+text_flows w [] {next} {st} e t n h =
     flows_by st (λ brk k j a rest. e brk j rest st) (λ brk k j a rest. e brk j rest (in_trial st))
     (λ brk k j a rest. t brk j rest) refl refl n h
-text_flows o d i w (b ∷ bs) next st e t n h =
+text_flows {o} w (b ∷ bs) {next} {st} e t n h =
     let parts = only_on (nat_le (commit w st.column).position o.width) (commit w st.column) (some_pending st.pending) next h in
     let bytes = spaces (gap st.column) ++ (b ∷ bs) in
     let text = traces.Text (b ∷ bs) (commit w st.column).position in
@@ -224,8 +224,8 @@ flows : (o : RenderOptions) (d : Tree) (i : ℕ) (next : Column → Bool → Boo
     → IsTracedOnOneLine o d i next st
 unfolding lay trace_at
 flows o Nil i next st h = flows_by st (λ brk k j a rest. refl) (λ brk k j a rest. refl) (λ brk k j a rest. refl) refl refl refl h
-flows o (Text s) i next st h = text_flows o (Text s) i (length s) s next st (λ brk j rest u. refl) (λ brk j rest. refl) refl h
-flows o (TextWithLen w s) i next st h = text_flows o (TextWithLen w s) i w s next st (λ brk j rest u. refl) (λ brk j rest. refl) refl h
+flows o (Text s) i next st h = text_flows (length s) s (λ brk j rest u. refl) (λ brk j rest. refl) refl h
+flows o (TextWithLen w s) i next st h = text_flows w s (λ brk j rest u. refl) (λ brk j rest. refl) refl h
 flows o WeakSpace i next st h =
     flows_by (record st { column = blank st.column }) (λ brk k j a rest. refl) (λ brk k j a rest. refl)
     (λ brk k j a rest. refl) refl refl refl h

@@ -31,7 +31,8 @@ use Rattle.prettyless_model.specs.Shows.{PayloadShows, shows, Place, Before, Aft
 use Rattle.prettyless_model.specs.Shows.{same_line, late_place, MayEnd, MayStay, ShowsThen, ShowsFrom, AreShown}
 use Rattle.prettyless_model.proofs.Gaps.{end_after, no_end_in, spaces_end_none, ends_or_not, blank_both, OnLine, Stands, stands_blank}
 use Rattle.prettyless_model.proofs.Gaps.{spaced_stands, blank_stands, ended_at, ended_stands, fresh_ended, gap_before, gap_on_line}
-use Rattle.prettyless_model.proofs.Gaps.{IsCommitted, not_fresh, commit_committed, committed_stands, same_line_stands, late_stands, end_stands}
+use Rattle.prettyless_model.proofs.Gaps.{IsCommitted, not_fresh, commit_committed, committed_stands, same_line_stands, late_stands}
+use Rattle.prettyless_model.proofs.Gaps.{end_stands}
 use Rattle.prettyless_model.proofs.Implied.{end_blank, implied_from, implies_before}
 use Rattle.prettyless_model.proofs.Ink.{ink-spaces, ink-ending}
 use Rattle.prettyless_model.proofs.Outcomes.{holds-either, holds-accept}
@@ -86,15 +87,15 @@ Follows p ws g items (Done b st) =
     (q : Place) × (vs : List Item) × (h : List ℕ) × StandsIn q vs h st × Joins p ws g b items q vs h
 Follows p ws g items (Failed b) = ⊤
 
-nothing_follows : {p : Place} {ws : List Item} {g : List ℕ} (items : List Item) {st : State} → items ≡ [] → StandsIn p ws g st
+nothing_follows : {p : Place} {ws : List Item} {g : List ℕ} {items : List Item} {st : State} → items ≡ [] → StandsIn p ws g st
     → Follows p ws g items (Done [] st)
-nothing_follows {p} {ws} {g} items e s = (p, ws, g, s, record { shows_all = λ c later k. rw e k })
+nothing_follows {p} {ws} {g} e s = (p, ws, g, s, record { shows_all = λ c later k. rw e k })
 
 -- spaces that are written
-spaced_follows : (p : Place) (ws : List Item) (g b : List ℕ) (items : List Item) (st : State) (e : Column) (within : Bool)
+spaced_follows : (p : Place) (ws : List Item) (g b : List ℕ) {items : List Item} (st : State) (e : Column) (within : Bool)
     → items ≡ spaced ∷ [] → AllShow st.pending ws → Stands (with_gap SameLine Spacing p) ws (g ++ b) e
     → Follows p ws g items (Done b (record st { column = e; within = within }))
-spaced_follows p [] g b items st e within same w s = (
+spaced_follows p [] g b st e within same w s = (
   with_gap SameLine Spacing p,
   [],
   g ++ b,
@@ -103,7 +104,7 @@ spaced_follows p [] g b items st e within same w s = (
     shows_all = λ c later k. rw same (subst (λ (x : List ℕ). ShowsFrom (with_gap SameLine Spacing p) [] x later) (append_assoc g b c) k);
   },
 )
-spaced_follows p (v ∷ vs) g b items st e within same w s = (
+spaced_follows p (v ∷ vs) g b st e within same w s = (
   with_gap SameLine Spacing p,
   v ∷ vs,
   g ++ b,
@@ -138,10 +139,10 @@ empty_on_line [] = tt
 empty_on_line (w ∷ ws) = λ ends. ends
 
 -- a text after its gap
-shown_follows : {p : Place} {ws : List Item} {g : List ℕ} (s : List ℕ) (items : List Item) {st : State} (e : Column) (within : Bool)
+shown_follows : {p : Place} {ws : List Item} {g : List ℕ} (s : List ℕ) {items : List Item} {st : State} (e : Column) (within : Bool)
     → items ≡ Shown s ∷ [] → IsCommitted e → StandsIn p ws g st
     → Follows p ws g items (Done (spaces (gap st.column) ++ s) (record st { column = e; within = within }))
-shown_follows {p} {ws} {g} s items {st} e within same k h = (
+shown_follows {p} {ws} {g} s {items} {st} e within same k h = (
   after_text,
   ws,
   [],
@@ -160,13 +161,13 @@ no_end_in_text n s h e = no_end_in (spaces n) s (spaces_end_none n) h e
 
 text_follows : (o : RenderOptions) (w : ℕ) (s : List ℕ) (items : List Item) {st : State} {p : Place} {ws : List Item} {g : List ℕ}
     → TextShows s items → StandsIn p ws g st → Follows p ws g items (lay_text o w s st)
-text_follows o w [] items h s = nothing_follows items h s
+text_follows o w [] items h s = nothing_follows h s
 text_follows o w (b ∷ bs) items {st} (inl e) s =
-    shown_follows (b ∷ bs) items (commit w st.column) (st.within && nat_le (commit w st.column).position o.width) e
+    shown_follows (b ∷ bs) (commit w st.column) (st.within && nat_le (commit w st.column).position o.width) e
     (commit_committed w st.column) s
 text_follows o w (b ∷ bs) items {st} {p} {ws} {g} (inr h) s =
     let new = spaces (gap st.column) ++ (b ∷ bs) in
-    spaced_follows p ws g new items st (commit w st.column) (st.within && nat_le (commit w st.column).position o.width) h.2 s.waits
+    spaced_follows p ws g new st (commit w st.column) (st.within && nat_le (commit w st.column).position o.width) h.2 s.waits
     (spaced_stands p ws g new st.column (commit w st.column) s.stands
     (blank_both (spaces (gap st.column)) (b ∷ bs) (ink-spaces (gap st.column)) h.0)
     (no_end_in_text (gap st.column) (b ∷ bs) h.1) refl (longer g (spaces (gap st.column)) bs b 0))
@@ -182,7 +183,7 @@ payload_follows o m s items {st} {p} {ws} {g} h k =
     subst (λ (x : Bool). Follows p ws g items
     (Done ((if x then spaces (gap st.column) else []) ++ s)
     (record st { column = after_payload m; within = st.within && payload_fits o m st.column }))) (sym h.1)
-    (shown_follows s items (after_payload m) (st.within && payload_fits o m st.column) h.0
+    (shown_follows s (after_payload m) (st.within && payload_fits o m st.column) h.0
     (rw column (commit_committed m.last_width start)) k)
 
 -- ---- a break with nothing pending
@@ -344,20 +345,20 @@ put_off p g i is st pending w s (inr stays) = (
   },
 )
 
-suffix_follows : {p : Place} (ws : List Item) {g : List ℕ} (inner items : List Item) (d : Tree) {st : State} → shows d inner
+suffix_follows : {p : Place} (ws : List Item) {g : List ℕ} (inner : List Item) {items : List Item} (d : Tree) {st : State} → shows d inner
     → NoneIsLate inner → items ≡ map Late inner → StandsIn p ws g st
     → Follows p ws g items (Done [] (record st { pending = st.pending ++ d ∷ [] }))
-suffix_follows [] [] items d {st} h n e s =
-    nothing_follows items e (record { waits = one_more_shows st.pending [] d [] s.waits h n; stands = s.stands })
-suffix_follows {p} [] {g} (i ∷ is) items d {st} h n e s =
+suffix_follows [] [] d {st} h n e s =
+    nothing_follows e (record { waits = one_more_shows st.pending [] d [] s.waits h n; stands = s.stands })
+suffix_follows {p} [] {g} (i ∷ is) d {st} h n e s =
     rw e (put_off p g i is st (st.pending ++ d ∷ []) (one_more_shows st.pending [] d (i ∷ is) s.waits h n) s.stands (ends_or_not g))
-suffix_follows (v ∷ vs) [] items d {st} h n e s =
-    nothing_follows items e (record {
+suffix_follows (v ∷ vs) [] d {st} h n e s =
+    nothing_follows e (record {
       waits = subst (λ (xs : List Item). AllShow (st.pending ++ d ∷ []) (v ∷ xs)) (append-nil vs)
           (one_more_shows st.pending (v ∷ vs) d [] s.waits h n);
       stands = s.stands;
     })
-suffix_follows {p} (v ∷ vs) {g} (i ∷ is) items d {st} h n e s = (
+suffix_follows {p} (v ∷ vs) {g} (i ∷ is) d {st} h n e s = (
   same_line p,
   v ∷ (vs ++ i ∷ is),
   g,
@@ -381,14 +382,14 @@ pub lay_follows : (o : RenderOptions) {brk : Breaks} → EndLines brk → (d : T
     (items : List Item) {p : Place} {ws : List Item} {g : List ℕ} → shows d items → StandsIn p ws g st
     → Follows p ws g items (lay o brk d i m rest st)
 unfolding lay
-lay_follows o k Nil i m rest items h s = nothing_follows items h s
+lay_follows o k Nil i m rest items h s = nothing_follows h s
 lay_follows o k Fail i m rest items h s = tt
 lay_follows o k (Text x) i m rest items h s = text_follows o (length x) x items h s
 lay_follows o k (TextWithLen w x) i m rest items h s = text_follows o w x items h s
 lay_follows o k (MultilineText x) i Break rest items h s = payload_follows o (metrics x) x items h s
 lay_follows o k (MultilineText x) i Flat rest items h s = tt
 lay_follows o k WeakSpace i m rest {st} items {p} {ws} {g} h s =
-    spaced_follows p ws g [] items st (blank st.column) st.within h s.waits
+    spaced_follows p ws g [] st (blank st.column) st.within h s.waits
     (rw (append-nil g) (blank_stands p ws g st.column s.stands))
 lay_follows o k HardLine i Break rest {st} items {p} {ws} {g} h s = rw h (k.follows HardLine i Break rest p ws g st s)
 lay_follows o k HardLine i Flat rest items h s = tt
@@ -397,11 +398,11 @@ lay_follows o {brk} k (Append x y) i m rest {st} items {p} {ws} {g} h s =
     rw h.4 (follows-then p ws g h.0 h.1 (lay o brk x i m (entry i y ∷ rest) st) (λ z. lay o brk y i m rest z)
     (lay_follows o k x i m (entry i y ∷ rest) h.0 h.2 s)
     (λ q vs e z stands. lay_follows o k y i m rest h.1 h.3 stands))
-lay_follows o k (LineSuffix d) i m rest items {p} {ws} h s = suffix_follows ws h.0 items d h.1 h.2 h.3 s
+lay_follows o k (LineSuffix d) i m rest items {p} {ws} h s = suffix_follows ws h.0 d h.1 h.2 h.3 s
 lay_follows o k (Nest j d) i m rest items h s = lay_follows o k d (nested i j) m rest items h s
 lay_follows o k (DedentToRoot d) i m rest items h s = lay_follows o k d 0 m rest items h s
 lay_follows o k (Align d) i m rest {st} items h s = lay_follows o k d (prospective st.column) m rest items h s
-lay_follows o k ExpandParent i m rest items h s = nothing_follows items h s
+lay_follows o k ExpandParent i m rest items h s = nothing_follows h s
 lay_follows o k (Flatten d) i m rest items h s = lay_follows o k d i Flat rest items h s
 lay_follows o {brk} k (BreakOrFlat x y) i Break rest {st} items {p} {ws} {g} h s =
     implied_follows p ws g h.0 items (lay o brk x i Break rest st) h.4 (lay_follows o k x i Break rest h.0 h.2 s)
@@ -453,7 +454,7 @@ flushed_late o p w ws g st s = record {
 each_follows : (o : RenderOptions) {brk : Breaks} → EndLines brk → (ds : List Tree) (i : ℕ) (m : Mode) (rest : List Entry)
     (items : List Item) → AllShow ds items → FollowsAlways items (λ u. lay_each o brk ds i m rest u)
 unfolding lay_each
-each_follows o k [] i m rest items h = λ q vs g u s. nothing_follows items h s
+each_follows o k [] i m rest items h = λ q vs g u s. nothing_follows h s
 each_follows o {brk} k (d ∷ ds) i m rest items h = λ q vs g u s.
     rw h.5 (follows-then q vs g h.0 h.1 (lay o brk d i m (entries i ds ++ rest) u) (λ z. lay_each o brk ds i m rest z)
     (lay_follows o k d i m (entries i ds ++ rest) h.0 h.2 s)
