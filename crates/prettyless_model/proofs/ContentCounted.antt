@@ -25,12 +25,12 @@ use Rattle.prettyless_model.proofs.Outcomes.{holds-either, holds-accept}
 use Rattle.prettyless_model.proofs.Writes.{Writes, text_writes, payload_writes, plain_writes}
 
 -- the pending documents spell this word in a row
-pub record PendingSpells (st : State) (q : List ℕ) : Type 0 where
+pub record PendingWord (st : State) (q : List ℕ) : Type 0 where
   pub spelled : spells (row st.pending) q
 
 -- the byte is n times in the bytes and in some word that the pending documents spell, taken together
 abbrev pub Leaves : ℕ → ℕ → Outcome → Type 0
-Leaves c n (Done b st) = (q : List ℕ) × PendingSpells st q × (count c (ink b) + count c q ≡ n)
+Leaves c n (Done b st) = (q : List ℕ) × PendingWord st q × (count c (ink b) + count c q ≡ n)
 Leaves c n (Failed b) = Unit {0}
 
 count-append : (c : ℕ) (a b : List ℕ) → count c (a ++ b) ≡ count c a + count c b
@@ -40,7 +40,7 @@ count_ink : (c : ℕ) (a b : List ℕ) → count c (ink (a ++ b)) ≡ count c (i
 count_ink c a b = ap (count c) (ink-append a b) ∙ count-append c (ink a) (ink b)
 
 -- what is written while the pending documents stay
-leaves_writes : (c : ℕ) (v w : List ℕ) {q : List ℕ} {st : State} (o : Outcome) → Writes v st.pending o → w ≡ v → PendingSpells st q
+leaves_writes : (c : ℕ) (v w : List ℕ) {q : List ℕ} {st : State} (o : Outcome) → Writes v st.pending o → w ≡ v → PendingWord st q
     → Leaves c (count c w + count c q) o
 leaves_writes c v w {q} (Done b after) h e s =
     (q, record { spelled = rw h.1 s.spelled }, ap (λ (x : List ℕ). count c x + count c q) (h.0 ∙ sym e))
@@ -55,20 +55,20 @@ leaves-after c n k b (Failed a) e h = tt
 
 -- one outcome after another, of which the second adds v
 leaves-then : (c n v k : ℕ) (o : Outcome) (f : State → Outcome) → n + v ≡ k → Leaves c n o
-    → ((st : State) (q : List ℕ) → PendingSpells st q → Leaves c (v + count c q) (f st)) → Leaves c k (and_then o f)
+    → ((st : State) (q : List ℕ) → PendingWord st q → Leaves c (v + count c q) (f st)) → Leaves c k (and_then o f)
 leaves-then c n v k (Done b st) f e h g = leaves-after c (v + count c h.0) k b (f st) (omega (arith, h.2)) (g st h.0 h.1)
 leaves-then c n v k (Failed b) f e h g = tt
 
 -- what goes on from a state loses nothing of what waits, and adds nothing
 pub record Retains (c : ℕ) (f : State → Outcome) : Type 0 where
-  pub leaves : (st : State) (q : List ℕ) → PendingSpells st q → Leaves c (count c q) (f st)
+  pub leaves : (st : State) (q : List ℕ) → PendingWord st q → Leaves c (count c q) (f st)
 
 -- a break does so
 pub record Conserves (c : ℕ) (brk : Breaks) : Type 0 where
   pub retains : (d : Tree) (i : ℕ) (m : Mode) (rest : List Entry) → Retains c (brk d i m rest)
 
 pub lay_counts : (o : RenderOptions) {brk : Breaks} {c : ℕ} → Conserves c brk → (d : Tree) (i : ℕ) (m : Mode) (rest : List Entry)
-    {st : State} {q : List ℕ} (w : List ℕ) → spells d w → PendingSpells st q
+    {st : State} {q : List ℕ} (w : List ℕ) → spells d w → PendingWord st q
     → Leaves c (count c w + count c q) (lay o brk d i m rest st)
 unfolding lay
 lay_counts o {brk} {c} k Nil i m rest {st} w h s = leaves_writes c [] w (Done [] st) (refl, refl) h s
@@ -126,7 +126,7 @@ lay_counts o {brk} {c} k (OnNesting test x y) i m rest {st} {q} w h s =
     (lay_counts o k y i m rest w h.1 s)
 
 each_counts : (o : RenderOptions) {brk : Breaks} {c : ℕ} → Conserves c brk → (ds : List Tree) (i : ℕ) (m : Mode) (rest : List Entry)
-    {st : State} {q : List ℕ} (w : List ℕ) → spells (row ds) w → PendingSpells st q
+    {st : State} {q : List ℕ} (w : List ℕ) → spells (row ds) w → PendingWord st q
     → Leaves c (count c w + count c q) (lay_each o brk ds i m rest st)
 unfolding lay_each
 each_counts o {brk} {c} k [] i m rest {st} w h s = leaves_writes c [] w (Done [] st) (refl, refl) h s
@@ -148,7 +148,7 @@ waiting_counts o {brk} {c} k ps i m rest st {again} q h g =
     (λ u r e. leaves_same c (count c r) (0 + count c r) (again u) (omega arith) (g.leaves u r e)))
 
 break_counts : (o : RenderOptions) {brk : Breaks} {c : ℕ} → Conserves c brk → (ps : List Tree) (d : Tree) (i : ℕ) (m : Mode)
-    (rest : List Entry) {st : State} {q : List ℕ} → spells (row ps) q → PendingSpells st q
+    (rest : List Entry) {st : State} {q : List ℕ} → spells (row ps) q → PendingWord st q
     → Leaves c (count c q) (break_with o brk ps d i m rest st)
 break_counts o {brk} {c} k [] d i m rest {st} h s =
     leaves_same c _ _ (plain_break o d i rest st) (omega arith)
@@ -164,7 +164,7 @@ breaks_count o (suc n) c = record {
 }
 
 end_counts : (o : RenderOptions) {brk : Breaks} {c : ℕ} → Conserves c brk → {again : State → Outcome} → Retains c again
-    → (ps : List Tree) {st : State} {q : List ℕ} → spells (row ps) q → PendingSpells st q
+    → (ps : List Tree) {st : State} {q : List ℕ} → spells (row ps) q → PendingWord st q
     → Leaves c (count c q) (end_with o brk again ps st)
 end_counts o k g [] {st} {q} h s = (q, s, omega arith)
 end_counts o k g (p ∷ ps) {st} {q} h s = waiting_counts o k (p ∷ ps) 0 Break [] st q h g

@@ -76,7 +76,7 @@ pub record StandsIn (p : Place) (ws : List Item) (g : List ℕ) (st : State) : T
   pub waits : AllShow st.pending ws
   pub stands : Stands p ws g st.column
 
--- what shows more items after the gap h at the place q shows all of them after the gap g at the place p
+-- what shows more items from the place q on, after its gap h, shows these and then those from the place p on, after g and b
 pub record Joins (p : Place) (ws : List Item) (g b : List ℕ) (items : List Item) (q : Place) (vs : List Item) (h : List ℕ) : Type 0 where
   pub shows_all : (c : List ℕ) (later : List Item) → ShowsFrom q vs (h ++ c) later → ShowsFrom p ws (g ++ (b ++ c)) (items ++ later)
 
