@@ -44,11 +44,11 @@ only_on true c p next e = (refl, e)
 only_on false c p next e = absurd (cc)
 
 -- a tree that writes nothing and leaves nothing pending
-flows_by : (o : RenderOptions) (d : Tree) (i : ℕ) (next : Column → Bool → Bool) (st u : State) → LaysFlat o d i st [] u
+flows_by : {o : RenderOptions} {d : Tree} {i : ℕ} {next : Column → Bool → Bool} {st : State} (u : State) → LaysFlat o d i st [] u
     → LaysFlat o d i (in_trial st) [] (in_trial u) → TracesFlat o d i st [] u → u.within ≡ st.within → u.pending ≡ st.pending
     → LeavesPending d []
     → next u.column (some_pending u.pending) ≡ true → IsTracedOnOneLine o d i next st
-flows_by o d i next st u e f t w p n h = record {
+flows_by {o} {d} {i} {next} {st} u e f t w p n h = record {
   lies = record {
     bytes = [];
     state = u;
@@ -72,12 +72,12 @@ like_as d x f i j q (inl p) = inl (q p)
 like_as d x f i j q (inr e) = inr (ap f e)
 
 -- a tree that is laid and traced as another at an indent of its own
-flows_as : (o : RenderOptions) (d x : Tree) (i : ℕ) (f : ℕ → ℕ) (next : Column → Bool → Bool) (st : State)
+flows_as : {o : RenderOptions} {d : Tree} (x : Tree) {i : ℕ} (f : ℕ → ℕ) {next : Column → Bool → Bool} {st : State}
     → ((brk : Breaks) (j : ℕ) (rest : List Entry) (u : State) → u.column ≡ st.column → lay o brk d j Flat rest u ≡ lay o brk x (f j) Flat
     rest u) → ((brk : BreakTraces) (j : ℕ) (rest : List Entry) → trace_at o brk d j Flat rest st ≡ trace_at o brk x (f j) Flat rest st)
     → ((ds : List Tree) → LeavesPending x ds → LeavesPending d ds) → (IsPlain d → IsPlain x) → IsTracedOnOneLine o x (f i) next st
     → IsTracedOnOneLine o d i next st
-flows_as o d x i f next st e t n q h = record {
+flows_as {o} {d} x {i} f {next} {st} e t n q h = record {
   lies = record {
     bytes = h.lies.bytes;
     state = h.lies.state;
@@ -101,12 +101,12 @@ only_like d i j q (inl p) = absurd (q p)
 only_like d i j q (inr e) = e
 
 -- a tree that is laid as another, which its trace notes as an alternative
-flows_chosen : (o : RenderOptions) (side : Side) (d x : Tree) (i : ℕ) (next : Column → Bool → Bool) (st : State)
+flows_chosen : {o : RenderOptions} (side : Side) {d : Tree} (x : Tree) {i : ℕ} {next : Column → Bool → Bool} {st : State}
     → ((brk : Breaks) (rest : List Entry) (u : State) → u.column ≡ st.column → lay o brk d i Flat rest u ≡ lay o brk x i Flat rest u)
     → ((brk : BreakTraces) (rest : List Entry) → trace_at o brk d i Flat rest st ≡ noted_choice side (trace_at o brk x i Flat rest st))
     → ((ds : List Tree) → LeavesPending x ds → LeavesPending d ds) → (IsPlain d → ⊥) → IsTracedOnOneLine o x i next st
     → IsTracedOnOneLine o d i next st
-flows_chosen o side d x i next st e t n q h = record {
+flows_chosen {o} side {d} x {i} {next} {st} e t n q h = record {
   lies = record {
     bytes = h.lies.bytes;
     state = h.lies.state;
@@ -130,7 +130,7 @@ flows_chosen o side d x i next st e t n q h = record {
 }
 
 -- a tree that is laid as one of two by a test
-flows_choice : (o : RenderOptions) (d y n : Tree) (i : ℕ) (next : Column → Bool → Bool) (st : State) (t : Bool)
+flows_choice : {o : RenderOptions} {d : Tree} (y n : Tree) {i : ℕ} {next : Column → Bool → Bool} {st : State} (t : Bool)
     → ((brk : Breaks) (rest : List Entry) (u : State) → u.column ≡ st.column
     → lay o brk d i Flat rest u ≡ (if t then lay o brk y i Flat rest u else lay o brk n i Flat rest u))
     → ((brk : BreakTraces) (rest : List Entry)
@@ -140,8 +140,8 @@ flows_choice : (o : RenderOptions) (d y n : Tree) (i : ℕ) (next : Column → B
     → answer_of (if t then look o.width y i Flat st.column (some_pending st.pending) else look o.width n i Flat st.column
     (some_pending st.pending)) next ≡ true → (Fits o y i next st → IsTracedOnOneLine o y i next st)
     → (Fits o n i next st → IsTracedOnOneLine o n i next st) → IsTracedOnOneLine o d i next st
-flows_choice o d y n i next st true e t l q h f g = flows_chosen o First d y i next st e t (λ ds k. l ds (inl k)) q (f h)
-flows_choice o d y n i next st false e t l q h f g = flows_chosen o Second d n i next st e t (λ ds k. l ds (inr k)) q (g h)
+flows_choice y n true e t l q h f g = flows_chosen First y e t (λ ds k. l ds (inl k)) q (f h)
+flows_choice y n false e t l q h f g = flows_chosen Second n e t (λ ds k. l ds (inr k)) q (g h)
 
 -- the flag stays where the text ends within the width
 inked : (o : RenderOptions) (w : ℕ) (st : State) → nat_le (commit w st.column).position o.width ≡ true → (t : Bool)
@@ -150,14 +150,14 @@ inked : (o : RenderOptions) (w : ℕ) (st : State) → nat_le (commit w st.colum
 inked o w st h t =
     ap (λ (x : Bool). record st { column = commit w st.column; within = x }) (ap (λ (x : Bool). t && x) h ∙ and-true t)
 
-text_flows : (o : RenderOptions) (d : Tree) (i : ℕ) (w : ℕ) (s : List ℕ) (next : Column → Bool → Bool) (st : State)
+text_flows : {o : RenderOptions} {d : Tree} {i : ℕ} (w : ℕ) (s : List ℕ) {next : Column → Bool → Bool} {st : State}
     → ((brk : Breaks) (j : ℕ) (rest : List Entry) (u : State) → lay o brk d j Flat rest u ≡ lay_text o w s u)
     → ((brk : BreakTraces) (j : ℕ) (rest : List Entry) → trace_at o brk d j Flat rest st ≡ trace_text o w s st) → LeavesPending d []
     → answer_of (look_text o.width w s st.column (some_pending st.pending)) next ≡ true → IsTracedOnOneLine o d i next st
-text_flows o d i w [] next st e t n h =
-    flows_by o d i next st st (λ brk k j a rest. e brk j rest st) (λ brk k j a rest. e brk j rest (in_trial st))
+text_flows w [] {next} {st} e t n h =
+    flows_by st (λ brk k j a rest. e brk j rest st) (λ brk k j a rest. e brk j rest (in_trial st))
     (λ brk k j a rest. t brk j rest) refl refl n h
-text_flows o d i w (b ∷ bs) next st e t n h =
+text_flows {o} w (b ∷ bs) {next} {st} e t n h =
     let parts = only_on (nat_le (commit w st.column).position o.width) (commit w st.column) (some_pending st.pending) next h in
     let bytes = spaces (gap st.column) ++ (b ∷ bs) in
     let text = traces.Text (b ∷ bs) (commit w st.column).position in
@@ -223,18 +223,17 @@ append_flows o l r i mid next st x y = record {
 flows : (o : RenderOptions) (d : Tree) (i : ℕ) (next : Column → Bool → Bool) (st : State) → Fits o d i next st
     → IsTracedOnOneLine o d i next st
 unfolding lay trace_at
-flows o Nil i next st h = flows_by o Nil i next st st (λ brk k j a rest. refl) (λ brk k j a rest. refl) (λ brk k j a rest. refl)
-    refl refl refl h
-flows o (Text s) i next st h = text_flows o (Text s) i (length s) s next st (λ brk j rest u. refl) (λ brk j rest. refl) refl h
-flows o (TextWithLen w s) i next st h = text_flows o (TextWithLen w s) i w s next st (λ brk j rest u. refl) (λ brk j rest. refl) refl h
+flows o Nil i next st h = flows_by st (λ brk k j a rest. refl) (λ brk k j a rest. refl) (λ brk k j a rest. refl) refl refl refl h
+flows o (Text s) i next st h = text_flows (length s) s (λ brk j rest u. refl) (λ brk j rest. refl) refl h
+flows o (TextWithLen w s) i next st h = text_flows w s (λ brk j rest u. refl) (λ brk j rest. refl) refl h
 flows o WeakSpace i next st h =
-    flows_by o WeakSpace i next st (record st { column = blank st.column }) (λ brk k j a rest. refl) (λ brk k j a rest. refl)
+    flows_by (record st { column = blank st.column }) (λ brk k j a rest. refl) (λ brk k j a rest. refl)
     (λ brk k j a rest. refl) refl refl refl h
 flows o WeakLine i next st h =
     let taken = only_on (st.column.fresh && not (some_pending st.pending)) st.column (some_pending st.pending) next h in
     let parts = and_parts _ _ taken.0 in
     let none = none_pending st.pending parts.1 in
-    flows_by o WeakLine i next st st (λ brk k j a rest. k j rest st none parts.0) (λ brk k j a rest. k j rest (in_trial st) none parts.0)
+    flows_by st (λ brk k j a rest. k j rest st none parts.0) (λ brk k j a rest. k j rest (in_trial st) none parts.0)
     (λ brk k j a rest. k j rest st none parts.0) refl refl refl taken.1
 flows o (Append l r) i next st h =
     let x = flows o l i (λ e q. answer_of (look o.width r i Flat e q) next) st
@@ -258,36 +257,29 @@ flows o (LineSuffix d) i next st h = record {
   plain = λ k. All-nil IsNoAlternative;
 }
 flows o (Nest n d) i next st h =
-    flows_as o (Nest n d) d i (λ j. nested j n) next st (λ brk j rest u e. refl) (λ brk j rest. refl) (λ ds k. k) (λ k. k)
-    (flows o d (nested i n) next st h)
+    flows_as d (λ j. nested j n) (λ brk j rest u e. refl) (λ brk j rest. refl) (λ ds k. k) (λ k. k) (flows o d (nested i n) next st h)
 flows o (DedentToRoot d) i next st h =
-    flows_as o (DedentToRoot d) d i (λ j. 0) next st (λ brk j rest u e. refl) (λ brk j rest. refl) (λ ds k. k) (λ k. k)
-    (flows o d 0 next st h)
+    flows_as d (λ j. 0) (λ brk j rest u e. refl) (λ brk j rest. refl) (λ ds k. k) (λ k. k) (flows o d 0 next st h)
 flows o (Align d) i next st h =
-    flows_as o (Align d) d i (λ j. prospective st.column) next st
-    (λ brk j rest u e. ap (λ (c : Column). lay o brk d (prospective c) Flat rest u) e) (λ brk j rest. refl) (λ ds k. k) (λ k. k)
-    (flows o d (prospective st.column) next st h)
-flows o (Flatten d) i next st h = flows_as o (Flatten d) d i (λ j. j) next st (λ brk j rest u e. refl) (λ brk j rest. refl) (λ ds k. k)
-    (λ k. k) (flows o d i next st h)
+    flows_as d (λ j. prospective st.column) (λ brk j rest u e. ap (λ (c : Column). lay o brk d (prospective c) Flat rest u) e)
+    (λ brk j rest. refl) (λ ds k. k) (λ k. k) (flows o d (prospective st.column) next st h)
+flows o (Flatten d) i next st h =
+    flows_as d (λ j. j) (λ brk j rest u e. refl) (λ brk j rest. refl) (λ ds k. k) (λ k. k) (flows o d i next st h)
 flows o (BreakOrFlat b f) i next st h =
-    flows_as o (BreakOrFlat b f) f i (λ j. j) next st (λ brk j rest u e. refl) (λ brk j rest. refl) (λ ds k. k) (λ k. k.1)
-    (flows o f i next st h)
-flows o (Group d) i next st h = flows_as o (Group d) d i (λ j. j) next st (λ brk j rest u e. refl) (λ brk j rest. refl) (λ ds k. k) (λ k. k)
-    (flows o d i next st h)
-flows o (Union l r) i next st h = flows_as o (Union l r) l i (λ j. j) next st (λ brk j rest u e. refl) (λ brk j rest. refl) (λ ds k. k)
-    (λ k. k.0) (flows o l i next st h)
+    flows_as f (λ j. j) (λ brk j rest u e. refl) (λ brk j rest. refl) (λ ds k. k) (λ k. k.1) (flows o f i next st h)
+flows o (Group d) i next st h =
+    flows_as d (λ j. j) (λ brk j rest u e. refl) (λ brk j rest. refl) (λ ds k. k) (λ k. k) (flows o d i next st h)
+flows o (Union l r) i next st h =
+    flows_as l (λ j. j) (λ brk j rest u e. refl) (λ brk j rest. refl) (λ ds k. k) (λ k. k.0) (flows o l i next st h)
 flows o (PartialUnion l r) i next st h =
-    flows_as o (PartialUnion l r) l i (λ j. j) next st (λ brk j rest u e. refl) (λ brk j rest. refl) (λ ds k. k) (λ k. k.0)
-    (flows o l i next st h)
+    flows_as l (λ j. j) (λ brk j rest u e. refl) (λ brk j rest. refl) (λ ds k. k) (λ k. k.0) (flows o l i next st h)
 flows o (OnColumn test y n) i next st h =
-    flows_choice o (OnColumn test y n) y n i next st (column_holds test (prospective st.column) i)
+    flows_choice y n (column_holds test (prospective st.column) i)
     (λ brk rest u e. ap (λ (c : Column). if column_holds test (prospective c) i then lay o brk y i Flat rest u
-    else lay o brk n i Flat rest u) e)
-    (λ brk rest. refl) (λ ds k. k) (λ k. k) h (flows o y i next st) (flows o n i next st)
+    else lay o brk n i Flat rest u) e) (λ brk rest. refl) (λ ds k. k) (λ k. k) h (flows o y i next st) (flows o n i next st)
 flows o (OnNesting test y n) i next st h =
-    flows_choice o (OnNesting test y n) y n i next st (nesting_holds test i) (λ brk rest u e. refl) (λ brk rest. refl)
-    (λ ds k. k) (λ k. k) h
-    (flows o y i next st) (flows o n i next st)
+    flows_choice y n (nesting_holds test i) (λ brk rest u e. refl) (λ brk rest. refl) (λ ds k. k) (λ k. k) h (flows o y i next st)
+    (flows o n i next st)
 -- the probe of a flat line answers no to every other node
 flows o _ i next st h = absurd (cc)
 

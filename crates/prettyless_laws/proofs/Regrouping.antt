@@ -79,6 +79,11 @@ abbrev pub BreaksRegrouped : Breaks → Type 0
 BreaksRegrouped brk = (d : Tree) (i : ℕ) (m : Mode) (r s : List Entry) (st : State) → FollowAlike s r
     → brk d i m s (right_state st) ≡ right_outcome (brk d i m r st)
 
+-- such a break, which also reads what follows alike
+record Regroups (brk : Breaks) : Type 0 where
+  alike : ReadsAlike brk
+  regrouped : BreaksRegrouped brk
+
 right_probe : (o : RenderOptions) (d : Tree) (i : ℕ) (m : Mode) (r s : List Entry) (st : State) → FollowAlike s r
     → probe o (right d) i m s (right_state st) ≡ probe o d i m r st
 right_probe o d i m r s st h =
@@ -87,123 +92,126 @@ right_probe o d i m r s st h =
     (λ c p. rest_fits o.width s c p) (λ c p. rest_fits o.width r c p)
     (right_looks d o.width i m st.column (some_pending st.pending)) (λ c p. h.1 o.width c p)
 
-lay_right : (o : RenderOptions) (brk : Breaks) → ReadsAlike brk → BreaksRegrouped brk → (d : Tree) (i : ℕ) (m : Mode) (r s : List Entry)
+lay_right : (o : RenderOptions) {brk : Breaks} → Regroups brk → (d : Tree) (i : ℕ) (m : Mode) (r s : List Entry)
     (st : State) → FollowAlike s r → lay o brk (right d) i m s (right_state st) ≡ right_outcome (lay o brk d i m r st)
 unfolding lay
-lay_right o brk a k (Text t) i m r s st h = right-text o (length t) t st
-lay_right o brk a k (TextWithLen w t) i m r s st h = right-text o w t st
-lay_right o brk a k HardLine i Break r s st h = k HardLine i Break r s st h
-lay_right o brk a k WeakLine i m r s st h = k WeakLine i m r s st h
-lay_right o brk a k (Append x y) i m r s st h =
-    appended_lays o brk a (right x) (right y) i m s (right_state st)
+lay_right o k (Text t) i m r s st h = right-text o (length t) t st
+lay_right o k (TextWithLen w t) i m r s st h = right-text o w t st
+lay_right o k HardLine i Break r s st h = k.regrouped HardLine i Break r s st h
+lay_right o k WeakLine i m r s st h = k.regrouped WeakLine i m r s st h
+lay_right o {brk} k (Append x y) i m r s st h =
+    appended_lays o brk k.alike (right x) (right y) i m s (right_state st)
     ∙ right-then (lay o brk x i m (entry i y ∷ r) st) (lay o brk (right x) i m (entry i (right y) ∷ s) (right_state st))
     (λ u. lay o brk y i m r u) (λ u. lay o brk (right y) i m s u)
-    (lay_right o brk a k x i m (entry i y ∷ r) (entry i (right y) ∷ s) st
+    (lay_right o k x i m (entry i y ∷ r) (entry i (right y) ∷ s) st
     (alike_after i (right y) y s r (λ w c p. right_looks y w i Break c p) h))
-    (λ u. lay_right o brk a k y i m r s u h)
-lay_right o brk a k (LineSuffix d) i m r s st h = ap (λ (x : List Tree). Done [] (record st { pending = x }))
+    (λ u. lay_right o k y i m r s u h)
+lay_right o k (LineSuffix d) i m r s st h = ap (λ (x : List Tree). Done [] (record st { pending = x }))
     (sym (rights-one st.pending d))
-lay_right o brk a k (Nest n d) i m r s st h = lay_right o brk a k d (nested i n) m r s st h
-lay_right o brk a k (DedentToRoot d) i m r s st h = lay_right o brk a k d 0 m r s st h
-lay_right o brk a k (Align d) i m r s st h = lay_right o brk a k d (prospective st.column) m r s st h
-lay_right o brk a k (Flatten d) i m r s st h = lay_right o brk a k d i Flat r s st h
-lay_right o brk a k (BreakOrFlat x y) i Break r s st h = lay_right o brk a k x i Break r s st h
-lay_right o brk a k (BreakOrFlat x y) i Flat r s st h = lay_right o brk a k y i Flat r s st h
-lay_right o brk a k (Group d) i m r s st h =
+lay_right o k (Nest n d) i m r s st h = lay_right o k d (nested i n) m r s st h
+lay_right o k (DedentToRoot d) i m r s st h = lay_right o k d 0 m r s st h
+lay_right o k (Align d) i m r s st h = lay_right o k d (prospective st.column) m r s st h
+lay_right o k (Flatten d) i m r s st h = lay_right o k d i Flat r s st h
+lay_right o k (BreakOrFlat x y) i Break r s st h = lay_right o k x i Break r s st h
+lay_right o k (BreakOrFlat x y) i Flat r s st h = lay_right o k y i Flat r s st h
+lay_right o {brk} k (Group d) i m r s st h =
     ap (λ (t : Bool). lay o brk (right d) i (by_mode m (if t then Flat else Break) Flat) s (right_state st))
     (right_probe o d i Flat r s st h)
-    ∙ lay_right o brk a k d i (by_mode m (if probe o d i Flat r st then Flat else Break) Flat) r s st h
-lay_right o brk a k (Union x y) i Break r s st h =
+    ∙ lay_right o k d i (by_mode m (if probe o d i Flat r st then Flat else Break) Flat) r s st h
+lay_right o {brk} k (Union x y) i Break r s st h =
     ap (λ (z : Outcome). accept o st.within z (lay o brk (right y) i Break s (right_state st)))
-    (lay_right o brk a k x i Break r s (in_trial st) h)
-    ∙ ap (accept o st.within (right_outcome (lay o brk x i Break r (in_trial st)))) (lay_right o brk a k y i Break r s st h)
+    (lay_right o k x i Break r s (in_trial st) h)
+    ∙ ap (accept o st.within (right_outcome (lay o brk x i Break r (in_trial st)))) (lay_right o k y i Break r s st h)
     ∙ right-accept o st.within (lay o brk x i Break r (in_trial st)) (lay o brk y i Break r st)
-lay_right o brk a k (Union x y) i Flat r s st h = lay_right o brk a k x i Flat r s st h
-lay_right o brk a k (PartialUnion x y) i Break r s st h =
+lay_right o k (Union x y) i Flat r s st h = lay_right o k x i Flat r s st h
+lay_right o {brk} k (PartialUnion x y) i Break r s st h =
     either-same (probe o (right x) i Break s (right_state st)) (probe o x i Break r st)
     (lay o brk (right x) i Break s (right_state st)) (lay o brk (right y) i Break s (right_state st))
     (right_outcome (lay o brk x i Break r st)) (right_outcome (lay o brk y i Break r st))
-    (right_probe o x i Break r s st h) (lay_right o brk a k x i Break r s st h) (lay_right o brk a k y i Break r s st h)
+    (right_probe o x i Break r s st h) (lay_right o k x i Break r s st h) (lay_right o k y i Break r s st h)
     ∙ right-either (probe o x i Break r st) (lay o brk x i Break r st) (lay o brk y i Break r st)
-lay_right o brk a k (PartialUnion x y) i Flat r s st h = lay_right o brk a k x i Flat r s st h
-lay_right o brk a k (OnColumn test x y) i m r s st h =
+lay_right o k (PartialUnion x y) i Flat r s st h = lay_right o k x i Flat r s st h
+lay_right o {brk} k (OnColumn test x y) i m r s st h =
     same-either (column_holds test (prospective st.column) i)
     (lay o brk (right x) i m s (right_state st)) (lay o brk (right y) i m s (right_state st)) (right_outcome (lay o brk x i m r st))
     (right_outcome (lay o brk y i m r st))
-    (lay_right o brk a k x i m r s st h) (lay_right o brk a k y i m r s st h)
+    (lay_right o k x i m r s st h) (lay_right o k y i m r s st h)
     ∙ right-either (column_holds test (prospective st.column) i) (lay o brk x i m r st) (lay o brk y i m r st)
-lay_right o brk a k (OnNesting test x y) i m r s st h =
+lay_right o {brk} k (OnNesting test x y) i m r s st h =
     same-either (nesting_holds test i)
     (lay o brk (right x) i m s (right_state st)) (lay o brk (right y) i m s (right_state st)) (right_outcome (lay o brk x i m r st))
     (right_outcome (lay o brk y i m r st))
-    (lay_right o brk a k x i m r s st h) (lay_right o brk a k y i m r s st h)
+    (lay_right o k x i m r s st h) (lay_right o k y i m r s st h)
     ∙ right-either (nesting_holds test i) (lay o brk x i m r st) (lay o brk y i m r st)
-lay_right o brk a k _ i Break r s st h = refl
-lay_right o brk a k _ i Flat r s st h = refl
+lay_right o k _ i Break r s st h = refl
+lay_right o k _ i Flat r s st h = refl
 
 alike_rights : (i : ℕ) (ds : List Tree) (r s : List Entry) → FollowAlike s r → FollowAlike (entries i (rights ds) ++ s) (entries i ds ++ r)
 alike_rights i [] r s h = h
 alike_rights i (d ∷ ds) r s h = alike_after i (right d) d (entries i (rights ds) ++ s) (entries i ds ++ r)
     (λ w c p. right_looks d w i Break c p) (alike_rights i ds r s h)
 
-each_right : (o : RenderOptions) (brk : Breaks) → ReadsAlike brk → BreaksRegrouped brk
+each_right : (o : RenderOptions) {brk : Breaks} → Regroups brk
     → (ds : List Tree) (i : ℕ) (m : Mode) (r s : List Entry) (st : State) → FollowAlike s r
     → lay_each o brk (rights ds) i m s (right_state st) ≡ right_outcome (lay_each o brk ds i m r st)
 unfolding lay_each
-each_right o brk a k [] i m r s st h = refl
-each_right o brk a k (d ∷ ds) i m r s st h =
+each_right o k [] i m r s st h = refl
+each_right o {brk} k (d ∷ ds) i m r s st h =
     right-then (lay o brk d i m (entries i ds ++ r) st) (lay o brk (right d) i m (entries i (rights ds) ++ s) (right_state st))
     (λ u. lay_each o brk ds i m r u) (λ u. lay_each o brk (rights ds) i m s u)
-    (lay_right o brk a k d i m (entries i ds ++ r) (entries i (rights ds) ++ s) st (alike_rights i ds r s h))
-    (λ u. each_right o brk a k ds i m r s u h)
+    (lay_right o k d i m (entries i ds ++ r) (entries i (rights ds) ++ s) st (alike_rights i ds r s h))
+    (λ u. each_right o k ds i m r s u h)
 
-break_right : (o : RenderOptions) (brk : Breaks) → ReadsAlike brk → BreaksRegrouped brk → (ps : List Tree) (d : Tree) (i : ℕ) (m : Mode)
+break_right : (o : RenderOptions) {brk : Breaks} → Regroups brk → (ps : List Tree) (d : Tree) (i : ℕ) (m : Mode)
     (r s : List Entry) (st : State) → FollowAlike s r → break_with o brk (rights ps) d i m s (right_state st) ≡ right_outcome
     (break_with o brk ps d i m r st)
-break_right o brk a k [] d i m r s st h =
+break_right o k [] d i m r s st h =
     ap (λ (n : ℕ). if is_suppressed d st.column then Done [] (right_state st) else lay_ending o o.indentation_policy n
     (right_state st)) (h.0 i)
     ∙ ap (λ (x : Outcome). if is_suppressed d st.column then Done [] (right_state st) else x)
     (right-ending o o.indentation_policy (next_indent i r) st)
     ∙ right-either (is_suppressed d st.column) (Done [] st) (lay_ending o o.indentation_policy (next_indent i r) st)
-break_right o brk a k (p ∷ ps) d i m r s st h =
+break_right o {brk} k (p ∷ ps) d i m r s st h =
     ap (after_bytes (spaces (gap st.column)))
     (right-then (lay_each o brk (p ∷ ps) i m (entry i d ∷ r) (flushed o st))
     (lay_each o brk (rights (p ∷ ps)) i m (entry i d ∷ s) (flushed o (right_state st))) (brk d i m r) (brk d i m s)
-    (each_right o brk a k (p ∷ ps) i m (entry i d ∷ r) (entry i d ∷ s) (flushed o st) (alike_after i d d s r (λ w c p. refl) h))
-    (λ u. k d i m r s u h))
+    (each_right o k (p ∷ ps) i m (entry i d ∷ r) (entry i d ∷ s) (flushed o st) (alike_after i d d s r (λ w c p. refl) h))
+    (λ u. k.regrouped d i m r s u h))
     ∙ right-after (spaces (gap st.column)) (and_then (lay_each o brk (p ∷ ps) i m (entry i d ∷ r) (flushed o st)) (brk d i m r))
 
-breaks_right : (o : RenderOptions) (n : ℕ) → BreaksRegrouped (breaks o n)
+breaks_right : (o : RenderOptions) (n : ℕ) → Regroups (breaks o n)
 unfolding breaks
-breaks_right o zero = λ d i m r s st h. refl
-breaks_right o (suc n) = λ d i m r s st h. break_right o (breaks o n) (breaks_alike o n) (breaks_right o n) st.pending d i m r s st h
+breaks_right o zero = record { alike = breaks_alike o zero; regrouped = λ d i m r s st h. refl }
+breaks_right o (suc n) = record {
+  alike = breaks_alike o (suc n);
+  regrouped = λ d i m r s st h. break_right o (breaks_right o n) st.pending d i m r s st h;
+}
 
-end_right : (o : RenderOptions) (brk : Breaks) → ReadsAlike brk → BreaksRegrouped brk → (again : State → Outcome)
+end_right : (o : RenderOptions) {brk : Breaks} → Regroups brk → (again : State → Outcome)
     → ((u : State) → again (right_state u) ≡ right_outcome (again u)) → (ps : List Tree) (st : State)
     → end_with o brk again (rights ps) (right_state st) ≡ right_outcome (end_with o brk again ps st)
-end_right o brk a k again g [] st = refl
-end_right o brk a k again g (p ∷ ps) st =
+end_right o k again g [] st = refl
+end_right o {brk} k again g (p ∷ ps) st =
     ap (after_bytes (spaces (gap st.column)))
     (right-then (lay_each o brk (p ∷ ps) 0 Break [] (flushed o st))
     (lay_each o brk (rights (p ∷ ps)) 0 Break [] (flushed o (right_state st))) again again
-    (each_right o brk a k (p ∷ ps) 0 Break [] [] (flushed o st) (alike_same []))
+    (each_right o k (p ∷ ps) 0 Break [] [] (flushed o st) (alike_same []))
     g)
     ∙ right-after (spaces (gap st.column)) (and_then (lay_each o brk (p ∷ ps) 0 Break [] (flushed o st)) again)
 
-finish_right : (o : RenderOptions) (brk : Breaks) → ReadsAlike brk → BreaksRegrouped brk → (n : ℕ) (st : State)
+finish_right : (o : RenderOptions) {brk : Breaks} → Regroups brk → (n : ℕ) (st : State)
     → finish o brk n (right_state st) ≡ right_outcome (finish o brk n st)
 unfolding finish
-finish_right o brk a k zero st = refl
-finish_right o brk a k (suc n) st = end_right o brk a k (finish o brk n) (finish_right o brk a k n) st.pending st
+finish_right o k zero st = refl
+finish_right o {brk} k (suc n) st = end_right o k (finish o brk n) (finish_right o k n) st.pending st
 
 layout_by_right : (o : RenderOptions) (n : ℕ) (d : Tree) → layout_by o n (right d) ≡ right_outcome (layout_by o n d)
 unfolding layout_by
 layout_by_right o n d =
     right-then (lay o (breaks o n) d 0 Break [] initial) (lay o (breaks o n) (right d) 0 Break [] initial) (finish o (breaks o n) n)
     (finish o (breaks o n) n)
-    (lay_right o (breaks o n) (breaks_alike o n) (breaks_right o n) d 0 Break [] [] initial (alike_same []))
-    (finish_right o (breaks o n) (breaks_alike o n) (breaks_right o n) n)
+    (lay_right o (breaks_right o n) d 0 Break [] [] initial (alike_same []))
+    (finish_right o (breaks_right o n) n)
 
 right-bytes : (x : Outcome) → bytes_of (right_outcome x) ≡ bytes_of x
 right-bytes (Done b st) = refl

@@ -99,9 +99,9 @@ ending_same Deferred Eager k s u h = (
   },
 )
 
-accept_same : (o p : RenderOptions) → o.width ≡ p.width → (a b : Bool) → a ≡ b → (x y z w : Tracing) → Same x z → Same y w
+accept_same : (o p : RenderOptions) → o.width ≡ p.width → {a b : Bool} → a ≡ b → (x y z w : Tracing) → Same x z → Same y w
     → Same (trace_accept o a x y) (trace_accept p b z w)
-accept_same o p e a b f (Traced ps s) y (Traced qs u) w h k =
+accept_same o p e {a} {b} f (Traced ps s) y (Traced qs u) w h k =
     same-chosen (s.within && padding_fits o.width (some_pending s.pending) s.column)
     (u.within && padding_fits p.width (some_pending u.pending) u.column)
     (Traced ps (record s { within = a })) y (Traced qs (record u { within = b })) w
@@ -110,145 +110,153 @@ accept_same o p e a b f (Traced ps s) y (Traced qs u) w h k =
     ∙ ap₂ (λ (n : ℕ) (ds : List Tree). padding_fits n (some_pending ds) u.column) e h.1.pending))
     (h.0, record { column = h.1.column; pending = h.1.pending; within = f })
     k
-accept_same o p e a b f (Traced ps s) y (Stopped qs) w h k = absurd h
-accept_same o p e a b f (Stopped ps) y (Traced qs u) w h k = absurd h
-accept_same o p e a b f (Stopped ps) y (Stopped qs) w h k = same-after (Alternative Second ∷ []) (Alternative Second ∷ []) y w refl k
+accept_same o p e f (Traced ps s) y (Stopped qs) w h k = absurd h
+accept_same o p e f (Stopped ps) y (Traced qs u) w h k = absurd h
+accept_same o p e f (Stopped ps) y (Stopped qs) w h k = same-after (Alternative Second ∷ []) (Alternative Second ∷ []) y w refl k
+
+-- the same trace from states that are alike
+pub record SameFrom (f g : State → Tracing) : Type 0 where
+  pub same : (s u : State) → AlikeStates s u → Same (f s) (g u)
 
 -- two breaks with the same trace from states that are alike
-abbrev pub SameBreaks : BreakTraces → BreakTraces → Type 0
-SameBreaks a b = (d : Tree) (i : ℕ) (m : Mode) (rest : List Entry) (s u : State) → AlikeStates s u → Same (a d i m rest s) (b d i m rest u)
+pub record SameBreaks (a b : BreakTraces) : Type 0 where
+  pub breaks : (d : Tree) (i : ℕ) (m : Mode) (rest : List Entry) → SameFrom (a d i m rest) (b d i m rest)
 
-traces_same : (o p : RenderOptions) → o.width ≡ p.width → (a b : BreakTraces) → SameBreaks a b
-    → (d : Tree) (i : ℕ) (m : Mode) (rest : List Entry) (s u : State) → AlikeStates s u
+traces_same : (o p : RenderOptions) → o.width ≡ p.width → {a b : BreakTraces} → SameBreaks a b
+    → (d : Tree) (i : ℕ) (m : Mode) (rest : List Entry) {s u : State} → AlikeStates s u
     → Same (trace_at o a d i m rest s) (trace_at p b d i m rest u)
 unfolding trace_at
-traces_same o p e a b k Fail i m rest s u h = refl
-traces_same o p e a b k (Text t) i m rest s u h = text_same o p e (length t) t s u h
-traces_same o p e a b k (TextWithLen w t) i m rest s u h = text_same o p e w t s u h
-traces_same o p e a b k (MultilineText t) i Break rest s u h = payload_same o p e (metrics t) t s u h
-traces_same o p e a b k (MultilineText t) i Flat rest s u h = refl
-traces_same o p e a b k WeakSpace i m rest s u h =
+traces_same o p e k Fail i m rest h = refl
+traces_same o p e k (Text t) i m rest {s} {u} h = text_same o p e (length t) t s u h
+traces_same o p e k (TextWithLen w t) i m rest {s} {u} h = text_same o p e w t s u h
+traces_same o p e k (MultilineText t) i Break rest {s} {u} h = payload_same o p e (metrics t) t s u h
+traces_same o p e k (MultilineText t) i Flat rest h = refl
+traces_same o p e k WeakSpace i m rest {s} {u} h =
     (refl, record { column = blank_alike s.column u.column h.column; pending = h.pending; within = h.within })
-traces_same o p e a b k HardLine i Break rest s u h = k HardLine i Break rest s u h
-traces_same o p e a b k HardLine i Flat rest s u h = refl
-traces_same o p e a b k WeakLine i m rest s u h = k WeakLine i m rest s u h
-traces_same o p e a b k (Append x y) i m rest s u h =
+traces_same o p e k HardLine i Break rest {s} {u} h = (k.breaks HardLine i Break rest).same s u h
+traces_same o p e k HardLine i Flat rest h = refl
+traces_same o p e k WeakLine i m rest {s} {u} h = (k.breaks WeakLine i m rest).same s u h
+traces_same o p e {a} {b} k (Append x y) i m rest {s} {u} h =
     same-then (trace_at o a x i m (entry i y ∷ rest) s) (trace_at p b x i m (entry i y ∷ rest) u) (λ v. trace_at o a y i m rest v)
     (λ v. trace_at p b y i m rest v)
-    (traces_same o p e a b k x i m (entry i y ∷ rest) s u h)
-    (λ v w q. traces_same o p e a b k y i m rest v w q)
-traces_same o p e a b k (LineSuffix d) i m rest s u h =
+    (traces_same o p e k x i m (entry i y ∷ rest) h)
+    (λ v w q. traces_same o p e k y i m rest q)
+traces_same o p e k (LineSuffix d) i m rest h =
     (refl, record { column = h.column; pending = ap (λ (ps : List Tree). ps ++ d ∷ []) h.pending; within = h.within })
-traces_same o p e a b k (Nest n d) i m rest s u h = traces_same o p e a b k d (nested i n) m rest s u h
-traces_same o p e a b k (DedentToRoot d) i m rest s u h = traces_same o p e a b k d 0 m rest s u h
-traces_same o p e a b k (Align d) i m rest s u h =
+traces_same o p e k (Nest n d) i m rest h = traces_same o p e k d (nested i n) m rest h
+traces_same o p e k (DedentToRoot d) i m rest h = traces_same o p e k d 0 m rest h
+traces_same o p e {a} {b} k (Align d) i m rest {s} {u} h =
     subst (λ (n : ℕ). Same (trace_at o a d (prospective s.column) m rest s) (trace_at p b d n m rest u))
     (prospective_alike s.column u.column h.column)
-    (traces_same o p e a b k d (prospective s.column) m rest s u h)
-traces_same o p e a b k (Flatten d) i m rest s u h = traces_same o p e a b k d i Flat rest s u h
-traces_same o p e a b k (BreakOrFlat x y) i Break rest s u h = traces_same o p e a b k x i Break rest s u h
-traces_same o p e a b k (BreakOrFlat x y) i Flat rest s u h = traces_same o p e a b k y i Flat rest s u h
-traces_same o p e a b k (Group d) i Break rest s u h =
+    (traces_same o p e k d (prospective s.column) m rest h)
+traces_same o p e k (Flatten d) i m rest h = traces_same o p e k d i Flat rest h
+traces_same o p e k (BreakOrFlat x y) i Break rest h = traces_same o p e k x i Break rest h
+traces_same o p e k (BreakOrFlat x y) i Flat rest h = traces_same o p e k y i Flat rest h
+traces_same o p e {a} {b} k (Group d) i Break rest {s} {u} h =
     same-chosen (probe o d i Flat rest s) (probe p d i Flat rest u) (trace_at o a d i Flat rest s) (trace_at o a d i Break rest s)
     (trace_at p b d i Flat rest u) (trace_at p b d i Break rest u)
     (probe_alike o p e d i Flat rest s u h)
-    (traces_same o p e a b k d i Flat rest s u h)
-    (traces_same o p e a b k d i Break rest s u h)
-traces_same o p e a b k (Group d) i Flat rest s u h = traces_same o p e a b k d i Flat rest s u h
-traces_same o p e a b k (Union x y) i Break rest s u h =
-    accept_same o p e s.within u.within h.within (trace_at o a x i Break rest (in_trial s)) (trace_at o a y i Break rest s)
+    (traces_same o p e k d i Flat rest h)
+    (traces_same o p e k d i Break rest h)
+traces_same o p e k (Group d) i Flat rest h = traces_same o p e k d i Flat rest h
+traces_same o p e {a} {b} k (Union x y) i Break rest {s} {u} h =
+    accept_same o p e h.within (trace_at o a x i Break rest (in_trial s)) (trace_at o a y i Break rest s)
     (trace_at p b x i Break rest (in_trial u)) (trace_at p b y i Break rest u)
-    (traces_same o p e a b k x i Break rest (in_trial s) (in_trial u) (record { column = h.column; pending = h.pending; within = refl }))
-    (traces_same o p e a b k y i Break rest s u h)
-traces_same o p e a b k (Union x y) i Flat rest s u h = traces_same o p e a b k x i Flat rest s u h
-traces_same o p e a b k (PartialUnion x y) i Break rest s u h =
+    (traces_same o p e k x i Break rest (record { column = h.column; pending = h.pending; within = refl }))
+    (traces_same o p e k y i Break rest h)
+traces_same o p e k (Union x y) i Flat rest h = traces_same o p e k x i Flat rest h
+traces_same o p e {a} {b} k (PartialUnion x y) i Break rest {s} {u} h =
     same-chosen (probe o x i Break rest s) (probe p x i Break rest u) (trace_at o a x i Break rest s) (trace_at o a y i Break rest s)
     (trace_at p b x i Break rest u) (trace_at p b y i Break rest u)
     (probe_alike o p e x i Break rest s u h)
-    (traces_same o p e a b k x i Break rest s u h)
-    (traces_same o p e a b k y i Break rest s u h)
-traces_same o p e a b k (PartialUnion x y) i Flat rest s u h = traces_same o p e a b k x i Flat rest s u h
-traces_same o p e a b k (OnColumn test x y) i m rest s u h =
+    (traces_same o p e k x i Break rest h)
+    (traces_same o p e k y i Break rest h)
+traces_same o p e k (PartialUnion x y) i Flat rest h = traces_same o p e k x i Flat rest h
+traces_same o p e {a} {b} k (OnColumn test x y) i m rest {s} {u} h =
     same-chosen (column_holds test (prospective s.column) i) (column_holds test (prospective u.column) i) (trace_at o a x i m rest s)
     (trace_at o a y i m rest s) (trace_at p b x i m rest u) (trace_at p b y i m rest u)
     (ap (λ (n : ℕ). column_holds test n i) (prospective_alike s.column u.column h.column))
-    (traces_same o p e a b k x i m rest s u h)
-    (traces_same o p e a b k y i m rest s u h)
-traces_same o p e a b k (OnNesting test x y) i m rest s u h =
+    (traces_same o p e k x i m rest h)
+    (traces_same o p e k y i m rest h)
+traces_same o p e {a} {b} k (OnNesting test x y) i m rest {s} {u} h =
     same-chosen (nesting_holds test i) (nesting_holds test i) (trace_at o a x i m rest s) (trace_at o a y i m rest s)
     (trace_at p b x i m rest u) (trace_at p b y i m rest u) refl
-    (traces_same o p e a b k x i m rest s u h)
-    (traces_same o p e a b k y i m rest s u h)
+    (traces_same o p e k x i m rest h)
+    (traces_same o p e k y i m rest h)
 -- every other node leaves the state as it is
-traces_same o p e a b k _ i m rest s u h = (refl, h)
+traces_same o p e k _ i m rest h = (refl, h)
 
-each_same : (o p : RenderOptions) → o.width ≡ p.width → (a b : BreakTraces) → SameBreaks a b
-    → (ds : List Tree) (i : ℕ) (m : Mode) (rest : List Entry) (s u : State) → AlikeStates s u
+each_same : (o p : RenderOptions) → o.width ≡ p.width → {a b : BreakTraces} → SameBreaks a b
+    → (ds : List Tree) (i : ℕ) (m : Mode) (rest : List Entry) {s u : State} → AlikeStates s u
     → Same (trace_each o a ds i m rest s) (trace_each p b ds i m rest u)
 unfolding trace_each
-each_same o p e a b k [] i m rest s u h = (refl, h)
-each_same o p e a b k (d ∷ ds) i m rest s u h =
+each_same o p e k [] i m rest h = (refl, h)
+each_same o p e {a} {b} k (d ∷ ds) i m rest {s} {u} h =
     same-then (trace_at o a d i m (entries i ds ++ rest) s) (trace_at p b d i m (entries i ds ++ rest) u)
     (λ v. trace_each o a ds i m rest v) (λ v. trace_each p b ds i m rest v)
-    (traces_same o p e a b k d i m (entries i ds ++ rest) s u h)
-    (λ v w q. each_same o p e a b k ds i m rest v w q)
+    (traces_same o p e k d i m (entries i ds ++ rest) h)
+    (λ v w q. each_same o p e k ds i m rest q)
 
 -- pending documents have the same trace, and then what follows them
-waiting_same : (o p : RenderOptions) → o.width ≡ p.width → (a b : BreakTraces) → SameBreaks a b
-    → (ds : List Tree) (i : ℕ) (m : Mode) (rest : List Entry) (f g : State → Tracing) → ((v w : State) → AlikeStates v w → Same (f v) (g w))
-    → (s u : State) → AlikeStates s u
+waiting_same : (o p : RenderOptions) → o.width ≡ p.width → {a b : BreakTraces} → SameBreaks a b
+    → (ds : List Tree) (i : ℕ) (m : Mode) (rest : List Entry) {f g : State → Tracing} → SameFrom f g
+    → {s u : State} → AlikeStates s u
     → Same (after_pieces (Gap s.column.padding ∷ []) (traced_then (trace_each o a ds i m rest (flushed o s)) f))
     (after_pieces (Gap u.column.padding ∷ []) (traced_then (trace_each p b ds i m rest (flushed p u)) g))
-waiting_same o p e a b k ds i m rest f g q s u h =
+waiting_same o p e {a} {b} k ds i m rest {f} {g} q {s} {u} h =
     same-after (Gap s.column.padding ∷ []) (Gap u.column.padding ∷ []) (traced_then (trace_each o a ds i m rest (flushed o s)) f)
     (traced_then (trace_each p b ds i m rest (flushed p u)) g)
     (ap (λ (n : ℕ). Gap n ∷ []) h.column.padding)
     (same-then (trace_each o a ds i m rest (flushed o s)) (trace_each p b ds i m rest (flushed p u)) f g
-    (each_same o p e a b k ds i m rest (flushed o s) (flushed p u) (flushed_alike o p e s u h)) q)
+    (each_same o p e k ds i m rest (flushed_alike o p e s u h)) q.same)
 
-break_same : (o p : RenderOptions) → o.width ≡ p.width → (a b : BreakTraces) → SameBreaks a b
-    → (ps : List Tree) (d : Tree) (i : ℕ) (m : Mode) (rest : List Entry) (s u : State) → AlikeStates s u
+break_same : (o p : RenderOptions) → o.width ≡ p.width → {a b : BreakTraces} → SameBreaks a b
+    → (ps : List Tree) (d : Tree) (i : ℕ) (m : Mode) (rest : List Entry) {s u : State} → AlikeStates s u
     → Same (trace_break_with o a ps d i m rest s) (trace_break_with p b ps d i m rest u)
-break_same o p e a b k [] d i m rest s u h =
+break_same o p e k [] d i m rest {s} {u} h =
     same-either (is_suppressed d s.column) (is_suppressed d u.column) (Traced [] s)
     (trace_ending o.indentation_policy (next_indent i rest) s) (Traced [] u) (trace_ending p.indentation_policy (next_indent i rest) u)
     (suppressed_alike d s.column u.column h.column)
     (refl, h)
     (ending_same o.indentation_policy p.indentation_policy (next_indent i rest) s u h)
-break_same o p e a b k (t ∷ ts) d i m rest s u h =
-    waiting_same o p e a b k (t ∷ ts) i m (entry i d ∷ rest) (a d i m rest) (b d i m rest) (k d i m rest) s u h
+break_same o p e k (t ∷ ts) d i m rest h =
+    waiting_same o p e k (t ∷ ts) i m (entry i d ∷ rest) (k.breaks d i m rest) h
 
 breaks_same : (o p : RenderOptions) → o.width ≡ p.width → (n : ℕ) → SameBreaks (trace_breaks o n) (trace_breaks p n)
 unfolding trace_breaks
-breaks_same o p e zero = λ d i m rest s u h. refl
-breaks_same o p e (suc n) = λ d i m rest s u h.
-    subst (λ (ps : List Tree). Same (trace_break_with o (trace_breaks o n) s.pending d i m rest s)
-    (trace_break_with p (trace_breaks p n) ps d i m rest u)) h.pending
-    (break_same o p e (trace_breaks o n) (trace_breaks p n) (breaks_same o p e n) s.pending d i m rest s u h)
+breaks_same o p e zero = record { breaks = λ d i m rest. record { same = λ s u h. refl } }
+breaks_same o p e (suc n) = record {
+  breaks = λ d i m rest. record {
+    same = λ s u h. subst (λ (ps : List Tree). Same (trace_break_with o (trace_breaks o n) s.pending d i m rest s)
+        (trace_break_with p (trace_breaks p n) ps d i m rest u)) h.pending
+        (break_same o p e (breaks_same o p e n) s.pending d i m rest h);
+  };
+}
 
-end_same : (o p : RenderOptions) → o.width ≡ p.width → (a b : BreakTraces) → SameBreaks a b → (f g : State → Tracing)
-    → ((v w : State) → AlikeStates v w → Same (f v) (g w)) → (ps : List Tree) (s u : State) → AlikeStates s u
-    → Same (trace_end_with o a f ps s) (trace_end_with p b g ps u)
-end_same o p e a b k f g q [] s u h = (refl, h)
-end_same o p e a b k f g q (t ∷ ts) s u h = waiting_same o p e a b k (t ∷ ts) 0 Break [] f g q s u h
+end_same : (o p : RenderOptions) → o.width ≡ p.width → {a b : BreakTraces} → SameBreaks a b → {f g : State → Tracing}
+    → SameFrom f g → (ps : List Tree) {s u : State} → AlikeStates s u → Same (trace_end_with o a f ps s) (trace_end_with p b g ps u)
+end_same o p e k q [] h = (refl, h)
+end_same o p e k q (t ∷ ts) h = waiting_same o p e k (t ∷ ts) 0 Break [] q h
 
-finish_same : (o p : RenderOptions) → o.width ≡ p.width → (a b : BreakTraces) → SameBreaks a b → (n : ℕ) (s u : State) → AlikeStates s u
-    → Same (trace_finish o a n s) (trace_finish p b n u)
+finish_same : (o p : RenderOptions) → o.width ≡ p.width → {a b : BreakTraces} → SameBreaks a b → (n : ℕ)
+    → SameFrom (trace_finish o a n) (trace_finish p b n)
 unfolding trace_finish
-finish_same o p e a b k zero s u h = refl
-finish_same o p e a b k (suc n) s u h =
-    subst (λ (ps : List Tree). Same (trace_end_with o a (trace_finish o a n) s.pending s) (trace_end_with p b (trace_finish p b n) ps u))
-    h.pending
-    (end_same o p e a b k (trace_finish o a n) (trace_finish p b n) (finish_same o p e a b k n) s.pending s u h)
+finish_same o p e k zero = record { same = λ s u h. refl }
+finish_same o p e {a} {b} k (suc n) = record {
+  same = λ s u h. subst
+      (λ (ps : List Tree). Same (trace_end_with o a (trace_finish o a n) s.pending s) (trace_end_with p b (trace_finish p b n) ps u))
+      h.pending
+      (end_same o p e k (finish_same o p e k n) s.pending h);
+}
 
 by_same : (o p : RenderOptions) → o.width ≡ p.width → (n : ℕ) (d : Tree) → Same (trace_by o n d) (trace_by p n d)
 unfolding trace_by
 by_same o p e n d =
     same-then (trace_at o (trace_breaks o n) d 0 Break [] initial) (trace_at p (trace_breaks p n) d 0 Break [] initial)
     (λ v. trace_finish o (trace_breaks o n) n v) (λ v. trace_finish p (trace_breaks p n) n v)
-    (traces_same o p e (trace_breaks o n) (trace_breaks p n) (breaks_same o p e n) d 0 Break [] initial initial
+    (traces_same o p e (breaks_same o p e n) d 0 Break [] {s = initial} {u = initial}
     (record { column = alike_equal initial.column initial.column refl; pending = refl; within = refl }))
-    (finish_same o p e (trace_breaks o n) (trace_breaks p n) (breaks_same o p e n) n)
+    (finish_same o p e (breaks_same o p e n) n).same
 
 trace_of_same : (x y : Tracing) → Same x y → trace_of x ≡ trace_of y
 trace_of_same (Traced ps s) (Traced qs u) h = ap (λ (v : List Piece). Complete (settled v)) h.0

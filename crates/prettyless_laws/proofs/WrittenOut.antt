@@ -136,128 +136,132 @@ plain_either : (o : RenderOptions) (k : ℕ) (t : Bool) (x y : Outcome) (z w : T
 plain_either o k true x y z w h g = h
 plain_either o k false x y z w h g = g
 
--- breaks that match, from the columns that a layout reaches
-abbrev pub BreaksMatch : RenderOptions → Breaks → BreakTraces → Type 0
-BreaksMatch o a b = (d : Tree) (i : ℕ) (m : Mode) (rest : List Entry) (s : State) → InRange i → EntriesInRange rest → Sound s.column
-    → Matches o s.column.indent (a d i m rest s) (b d i m rest s)
+-- what goes on from a state matches, from the columns that a layout reaches
+pub record MatchesFrom (o : RenderOptions) (f : State → Outcome) (g : State → Tracing) : Type 0 where
+  pub matches : (s : State) → Sound s.column → Matches o s.column.indent (f s) (g s)
 
-lay_matches : (o : RenderOptions) (a : Breaks) (b : BreakTraces) → BreaksMatch o a b → (d : Tree) (i : ℕ) (m : Mode) (rest : List Entry)
+-- breaks that match
+pub record BreaksMatch (o : RenderOptions) (a : Breaks) (b : BreakTraces) : Type 0 where
+  pub breaks : (d : Tree) (i : ℕ) (m : Mode) (rest : List Entry) → InRange i → EntriesInRange rest
+      → MatchesFrom o (a d i m rest) (b d i m rest)
+
+lay_matches : {o : RenderOptions} {a : Breaks} {b : BreakTraces} → BreaksMatch o a b → (d : Tree) (i : ℕ) (m : Mode) (rest : List Entry)
     (s : State) → InRange i → EntriesInRange rest → Sound s.column → Matches o s.column.indent (lay o a d i m rest s)
     (trace_at o b d i m rest s)
 unfolding lay trace_at
-lay_matches o a b k Fail i m rest s r e h = refl
-lay_matches o a b k (Text t) i m rest s r e h = text_matches o (length t) t s h
-lay_matches o a b k (TextWithLen w t) i m rest s r e h = text_matches o w t s h
-lay_matches o a b k (MultilineText t) i Break rest s r e h = payload_matches o (metrics t) t s h
-lay_matches o a b k (MultilineText t) i Flat rest s r e h = refl
-lay_matches o a b k WeakSpace i m rest s r e h = (refl, refl, sym (blank_indent s.column), blank_sound s.column h)
-lay_matches o a b k HardLine i Break rest s r e h = k HardLine i Break rest s r e h
-lay_matches o a b k HardLine i Flat rest s r e h = refl
-lay_matches o a b k WeakLine i m rest s r e h = k WeakLine i m rest s r e h
-lay_matches o a b k (Append x y) i m rest s r e h =
+lay_matches k Fail i m rest s r e h = refl
+lay_matches {o} k (Text t) i m rest s r e h = text_matches o (length t) t s h
+lay_matches {o} k (TextWithLen w t) i m rest s r e h = text_matches o w t s h
+lay_matches {o} k (MultilineText t) i Break rest s r e h = payload_matches o (metrics t) t s h
+lay_matches k (MultilineText t) i Flat rest s r e h = refl
+lay_matches k WeakSpace i m rest s r e h = (refl, refl, sym (blank_indent s.column), blank_sound s.column h)
+lay_matches k HardLine i Break rest s r e h = (k.breaks HardLine i Break rest r e).matches s h
+lay_matches k HardLine i Flat rest s r e h = refl
+lay_matches k WeakLine i m rest s r e h = (k.breaks WeakLine i m rest r e).matches s h
+lay_matches {o} {a} {b} k (Append x y) i m rest s r e h =
     matches-then o s.column.indent (lay o a x i m (entry i y ∷ rest) s) (trace_at o b x i m (entry i y ∷ rest) s)
     (λ v. lay o a y i m rest v) (λ v. trace_at o b y i m rest v)
-    (lay_matches o a b k x i m (entry i y ∷ rest) s r (r, e) h)
-    (λ v q. lay_matches o a b k y i m rest v r e q)
-lay_matches o a b k (Nest n d) i m rest s r e h = lay_matches o a b k d (nested i n) m rest s (nested_in_range i n r) e h
-lay_matches o a b k (DedentToRoot d) i m rest s r e h = lay_matches o a b k d 0 m rest s zero_in_range e h
-lay_matches o a b k (Align d) i m rest s r e h =
-    lay_matches o a b k d (prospective s.column) m rest s
-    (sum_in_range (saturating_add s.column.position s.column.indent) s.column.padding) e h
-lay_matches o a b k (Flatten d) i m rest s r e h = lay_matches o a b k d i Flat rest s r e h
-lay_matches o a b k (BreakOrFlat x y) i Break rest s r e h = lay_matches o a b k x i Break rest s r e h
-lay_matches o a b k (BreakOrFlat x y) i Flat rest s r e h = lay_matches o a b k y i Flat rest s r e h
-lay_matches o a b k (Group d) i Break rest s r e h =
+    (lay_matches k x i m (entry i y ∷ rest) s r (r, e) h)
+    (λ v q. lay_matches k y i m rest v r e q)
+lay_matches k (Nest n d) i m rest s r e h = lay_matches k d (nested i n) m rest s (nested_in_range i n r) e h
+lay_matches k (DedentToRoot d) i m rest s r e h = lay_matches k d 0 m rest s zero_in_range e h
+lay_matches k (Align d) i m rest s r e h =
+    lay_matches k d (prospective s.column) m rest s (sum_in_range (saturating_add s.column.position s.column.indent) s.column.padding) e h
+lay_matches k (Flatten d) i m rest s r e h = lay_matches k d i Flat rest s r e h
+lay_matches k (BreakOrFlat x y) i Break rest s r e h = lay_matches k x i Break rest s r e h
+lay_matches k (BreakOrFlat x y) i Flat rest s r e h = lay_matches k y i Flat rest s r e h
+lay_matches {o} {a} {b} k (Group d) i Break rest s r e h =
     matches-group o s.column.indent (probe o d i Flat rest s) (λ m. lay o a d i m rest s) (trace_at o b d i Flat rest s)
     (trace_at o b d i Break rest s)
-    (lay_matches o a b k d i Flat rest s r e h)
-    (lay_matches o a b k d i Break rest s r e h)
-lay_matches o a b k (Group d) i Flat rest s r e h = lay_matches o a b k d i Flat rest s r e h
-lay_matches o a b k (Union x y) i Break rest s r e h =
+    (lay_matches k d i Flat rest s r e h)
+    (lay_matches k d i Break rest s r e h)
+lay_matches k (Group d) i Flat rest s r e h = lay_matches k d i Flat rest s r e h
+lay_matches {o} {a} {b} k (Union x y) i Break rest s r e h =
     matches-accept o s.column.indent s.within (lay o a x i Break rest (in_trial s)) (lay o a y i Break rest s)
     (trace_at o b x i Break rest (in_trial s)) (trace_at o b y i Break rest s)
-    (lay_matches o a b k x i Break rest (in_trial s) r e h)
-    (lay_matches o a b k y i Break rest s r e h)
-lay_matches o a b k (Union x y) i Flat rest s r e h = lay_matches o a b k x i Flat rest s r e h
-lay_matches o a b k (PartialUnion x y) i Break rest s r e h =
+    (lay_matches k x i Break rest (in_trial s) r e h)
+    (lay_matches k y i Break rest s r e h)
+lay_matches k (Union x y) i Flat rest s r e h = lay_matches k x i Flat rest s r e h
+lay_matches {o} {a} {b} k (PartialUnion x y) i Break rest s r e h =
     matches-either o s.column.indent (probe o x i Break rest s) (lay o a x i Break rest s) (lay o a y i Break rest s)
     (trace_at o b x i Break rest s) (trace_at o b y i Break rest s)
-    (lay_matches o a b k x i Break rest s r e h)
-    (lay_matches o a b k y i Break rest s r e h)
-lay_matches o a b k (PartialUnion x y) i Flat rest s r e h = lay_matches o a b k x i Flat rest s r e h
-lay_matches o a b k (OnColumn test x y) i m rest s r e h =
+    (lay_matches k x i Break rest s r e h)
+    (lay_matches k y i Break rest s r e h)
+lay_matches k (PartialUnion x y) i Flat rest s r e h = lay_matches k x i Flat rest s r e h
+lay_matches {o} {a} {b} k (OnColumn test x y) i m rest s r e h =
     matches-either o s.column.indent (column_holds test (prospective s.column) i) (lay o a x i m rest s) (lay o a y i m rest s)
     (trace_at o b x i m rest s) (trace_at o b y i m rest s)
-    (lay_matches o a b k x i m rest s r e h)
-    (lay_matches o a b k y i m rest s r e h)
-lay_matches o a b k (OnNesting test x y) i m rest s r e h =
+    (lay_matches k x i m rest s r e h)
+    (lay_matches k y i m rest s r e h)
+lay_matches {o} {a} {b} k (OnNesting test x y) i m rest s r e h =
     matches-either o s.column.indent (nesting_holds test i) (lay o a x i m rest s) (lay o a y i m rest s) (trace_at o b x i m rest s)
     (trace_at o b y i m rest s)
-    (lay_matches o a b k x i m rest s r e h)
-    (lay_matches o a b k y i m rest s r e h)
+    (lay_matches k x i m rest s r e h)
+    (lay_matches k y i m rest s r e h)
 -- every other node leaves the column as it is
-lay_matches o a b k _ i m rest s r e h = (refl, refl, refl, h)
+lay_matches k _ i m rest s r e h = (refl, refl, refl, h)
 
-each_matches : (o : RenderOptions) (a : Breaks) (b : BreakTraces) → BreaksMatch o a b
+each_matches : {o : RenderOptions} {a : Breaks} {b : BreakTraces} → BreaksMatch o a b
     → (ds : List Tree) (i : ℕ) (m : Mode) (rest : List Entry) (s : State) → InRange i → EntriesInRange rest → Sound s.column
     → Matches o s.column.indent (lay_each o a ds i m rest s) (trace_each o b ds i m rest s)
 unfolding lay_each trace_each
-each_matches o a b k [] i m rest s r e h = (refl, refl, refl, h)
-each_matches o a b k (d ∷ ds) i m rest s r e h =
+each_matches k [] i m rest s r e h = (refl, refl, refl, h)
+each_matches {o} {a} {b} k (d ∷ ds) i m rest s r e h =
     matches-then o s.column.indent (lay o a d i m (entries i ds ++ rest) s) (trace_at o b d i m (entries i ds ++ rest) s)
     (λ v. lay_each o a ds i m rest v) (λ v. trace_each o b ds i m rest v)
-    (lay_matches o a b k d i m (entries i ds ++ rest) s r (entries_in_range i ds rest r e) h)
-    (λ v q. each_matches o a b k ds i m rest v r e q)
+    (lay_matches k d i m (entries i ds ++ rest) s r (entries_in_range i ds rest r e) h)
+    (λ v q. each_matches k ds i m rest v r e q)
 
 -- pending documents match, and then what follows them
-waiting_matches : (o : RenderOptions) (a : Breaks) (b : BreakTraces) → BreaksMatch o a b
-    → (ds : List Tree) (i : ℕ) (m : Mode) (rest : List Entry) (f : State → Outcome) (g : State → Tracing)
-    → ((s : State) → Sound s.column → Matches o s.column.indent (f s) (g s)) → (s : State) → InRange i → EntriesInRange rest
+waiting_matches : {o : RenderOptions} {a : Breaks} {b : BreakTraces} → BreaksMatch o a b
+    → (ds : List Tree) (i : ℕ) (m : Mode) (rest : List Entry) {f : State → Outcome} {g : State → Tracing}
+    → MatchesFrom o f g → (s : State) → InRange i → EntriesInRange rest
     → Sound s.column → Matches o s.column.indent (after_bytes (spaces (gap s.column)) (and_then (lay_each o a ds i m rest (flushed o s)) f))
     (after_pieces (Gap s.column.padding ∷ []) (traced_then (trace_each o b ds i m rest (flushed o s)) g))
-waiting_matches o a b k ds i m rest f g q s r e h =
+waiting_matches {o} {a} {b} k ds i m rest {f} {g} q s r e h =
     matches-after o s.column.indent (spaces (gap s.column)) (Gap s.column.padding ∷ [])
     (and_then (lay_each o a ds i m rest (flushed o s)) f) (traced_then (trace_each o b ds i m rest (flushed o s)) g)
     (gap_spaces s.column h ∙ ap (λ (x : List ℕ). spaces s.column.indent ++ x) (sym (append-nil (spaces s.column.padding))))
     (matches-then o 0 (lay_each o a ds i m rest (flushed o s)) (trace_each o b ds i m rest (flushed o s)) f g
-    (each_matches o a b k ds i m rest (flushed o s) r e (commit_sound 0 s.column)) q)
+    (each_matches k ds i m rest (flushed o s) r e (commit_sound 0 s.column)) q.matches)
 
-break_matches : (o : RenderOptions) (a : Breaks) (b : BreakTraces) → BreaksMatch o a b → (ps : List Tree) (d : Tree) (i : ℕ) (m : Mode)
+break_matches : {o : RenderOptions} {a : Breaks} {b : BreakTraces} → BreaksMatch o a b → (ps : List Tree) (d : Tree) (i : ℕ) (m : Mode)
     (rest : List Entry) (s : State) → InRange i → EntriesInRange rest → Sound s.column
     → Matches o s.column.indent (break_with o a ps d i m rest s) (trace_break_with o b ps d i m rest s)
-break_matches o a b k [] d i m rest s r e h =
+break_matches {o} k [] d i m rest s r e h =
     plain_either o s.column.indent (is_suppressed d s.column) (Done [] s) (lay_ending o o.indentation_policy (next_indent i rest) s)
     (Traced [] s) (trace_ending o.indentation_policy (next_indent i rest) s)
     (refl, refl, refl, h)
     (ending_matches o o.indentation_policy refl s.column.indent (next_indent i rest) s (next_in_range i rest r e))
-break_matches o a b k (p ∷ ps) d i m rest s r e h =
-    waiting_matches o a b k (p ∷ ps) i m (entry i d ∷ rest) (a d i m rest) (b d i m rest) (λ v q. k d i m rest v r e q) s r (r, e) h
+break_matches k (p ∷ ps) d i m rest s r e h =
+    waiting_matches k (p ∷ ps) i m (entry i d ∷ rest) (k.breaks d i m rest r e) s r (r, e) h
 
 breaks_match : (o : RenderOptions) (n : ℕ) → BreaksMatch o (breaks o n) (trace_breaks o n)
 unfolding breaks trace_breaks
-breaks_match o zero = λ d i m rest s r e h. refl
-breaks_match o (suc n) = λ d i m rest s r e h. break_matches o (breaks o n) (trace_breaks o n) (breaks_match o n) s.pending d
-    i m rest s r e h
+breaks_match o zero = record { breaks = λ d i m rest r e. record { matches = λ s h. refl } }
+breaks_match o (suc n) = record {
+  breaks = λ d i m rest r e. record { matches = λ s h. break_matches (breaks_match o n) s.pending d i m rest s r e h };
+}
 
-end_matches : (o : RenderOptions) (a : Breaks) (b : BreakTraces) → BreaksMatch o a b → (f : State → Outcome) (g : State → Tracing)
-    → ((s : State) → Sound s.column → Matches o s.column.indent (f s) (g s)) → (ps : List Tree) (s : State) → Sound s.column
+end_matches : {o : RenderOptions} {a : Breaks} {b : BreakTraces} → BreaksMatch o a b → {f : State → Outcome} {g : State → Tracing}
+    → MatchesFrom o f g → (ps : List Tree) (s : State) → Sound s.column
     → Matches o s.column.indent (end_with o a f ps s) (trace_end_with o b g ps s)
-end_matches o a b k f g q [] s h = (refl, refl, refl, h)
-end_matches o a b k f g q (p ∷ ps) s h = waiting_matches o a b k (p ∷ ps) 0 Break [] f g q s zero_in_range tt h
+end_matches k q [] s h = (refl, refl, refl, h)
+end_matches k q (p ∷ ps) s h = waiting_matches k (p ∷ ps) 0 Break [] q s zero_in_range tt h
 
-finish_matches : (o : RenderOptions) (a : Breaks) (b : BreakTraces) → BreaksMatch o a b → (n : ℕ) (s : State) → Sound s.column
-    → Matches o s.column.indent (finish o a n s) (trace_finish o b n s)
+finish_matches : {o : RenderOptions} {a : Breaks} {b : BreakTraces} → BreaksMatch o a b → (n : ℕ)
+    → MatchesFrom o (finish o a n) (trace_finish o b n)
 unfolding finish trace_finish
-finish_matches o a b k zero s h = refl
-finish_matches o a b k (suc n) s h = end_matches o a b k (finish o a n) (trace_finish o b n) (finish_matches o a b k n) s.pending s h
+finish_matches k zero = record { matches = λ s h. refl }
+finish_matches k (suc n) = record { matches = λ s h. end_matches k (finish_matches k n) s.pending s h }
 
 by_matches : (o : RenderOptions) (n : ℕ) (d : Tree) → Matches o 0 (layout_by o n d) (trace_by o n d)
 unfolding layout_by trace_by
 by_matches o n d =
     matches-then o 0 (lay o (breaks o n) d 0 Break [] initial) (trace_at o (trace_breaks o n) d 0 Break [] initial)
     (λ s. finish o (breaks o n) n s) (λ s. trace_finish o (trace_breaks o n) n s)
-    (lay_matches o (breaks o n) (trace_breaks o n) (breaks_match o n) d 0 Break [] initial zero_in_range tt (zero_in_range, refl))
-    (finish_matches o (breaks o n) (trace_breaks o n) (breaks_match o n) n)
+    (lay_matches (breaks_match o n) d 0 Break [] initial zero_in_range tt (zero_in_range, refl))
+    (finish_matches (breaks_match o n) n).matches
 
 written_of : (o : RenderOptions) (x : Outcome) (y : Tracing) → Matches o 0 x y → bytes_of x ≡ written_out o (trace_of y)
 written_of o (Done b s) (Traced ps u) h = ap Whole (h.0 ∙ owed_settled o 0 ps ∙ none_owed (has_content ps) (written_pieces o (settled ps)))

@@ -26,9 +26,14 @@ use Rattle.prettyless_model.proofs.Outcomes.{holds-either, holds-accept}
 use Rattle.prettyless_model.proofs.Writes.{Writes, text_writes, payload_writes, plain_writes}
 use Rattle.prettyless_model.proofs.Merges.{merge_of_first, merge_of_second, merge_with_none, merge-append}
 
--- the pending documents spell this word in a row, and none of them has a line suffix
+-- documents spell this word in a row, and none of them has a line suffix
+pub record SpelledInRow (ds : List Tree) (w : List ℕ) : Type 0 where
+  pub spelled : spells (row ds) w
+  pub depth : suffix_depth (row ds) ≡ 0
+
+-- the pending documents do so
 abbrev pub PendingSpell : State → List ℕ → Type 0
-PendingSpell st q = spells (row st.pending) q × (suffix_depth (row st.pending) ≡ 0)
+PendingSpell st q = SpelledInRow st.pending q
 
 -- the bytes interleave the first word with a beginning of the second, whose rest is pending after them
 abbrev pub Merges : List ℕ → List ℕ → Outcome → Type 0
@@ -80,10 +85,13 @@ merges_late q (Done b st) h =
     (q, [], sym (append-nil q), rw (merge_with_none (ink b) q h.0 none.0 h.3) (merge_of_second q), rw none.1 at h.4)
 merges_late q (Failed b) h = tt
 
--- a break writes what waits, and nothing else
-abbrev pub WritesPending : Breaks → Type 0
-WritesPending brk = (d : Tree) (i : ℕ) (m : Mode) (rest : List Entry) (st : State) (q : List ℕ) → PendingSpell st q
-    → Merges [] q (brk d i m rest st)
+-- what goes on from a state writes what waits, and nothing else
+pub record Unloads (f : State → Outcome) : Type 0 where
+  pub merges : (st : State) (q : List ℕ) → PendingSpell st q → Merges [] q (f st)
+
+-- a break does so
+pub record WritesPending (brk : Breaks) : Type 0 where
+  pub unloads : (d : Tree) (i : ℕ) (m : Mode) (rest : List Entry) → Unloads (brk d i m rest)
 
 -- a document that spells this word, and adds nothing to what waits
 merges_to : (v v' q u : List ℕ) (o : Outcome) → (v ≡ v') × (u ≡ []) → Merges v' q o → Merges v (q ++ u) o
@@ -93,117 +101,143 @@ merges_piece : (v v' q u : List ℕ) (st : State) (o : Outcome) → Writes v' st
     → Merges v (q ++ u) o
 merges_piece v v' q u st o h e w = merges_to v v' q u o e (merges_writes v' q st o h w)
 
-pub lay_merges : (o : RenderOptions) (brk : Breaks) → WritesPending brk → (d : Tree) (i : ℕ) (m : Mode) (rest : List Entry) (st : State)
-    (v u q : List ℕ) → spelled_parts d v u → suffix_depth d ≤ 1 → PendingSpell st q → Merges v (q ++ u) (lay o brk d i m rest st)
+-- a document spells v outside its line suffixes and u in them, and none of these has another in it
+pub record SpelledApart (d : Tree) (v u : List ℕ) : Type 0 where
+  pub parts : spelled_parts d v u
+  pub depth : suffix_depth d ≤ 1
+
+pub lay_merges : (o : RenderOptions) {brk : Breaks} → WritesPending brk → (d : Tree) (i : ℕ) (m : Mode) (rest : List Entry) (st : State)
+    {v u q : List ℕ} → SpelledApart d v u → PendingSpell st q → Merges v (q ++ u) (lay o brk d i m rest st)
 unfolding lay
-lay_merges o brk k Nil i m rest st v u q h l w = merges_piece v [] q u st (Done [] st) (refl, refl) h w
-lay_merges o brk k Fail i m rest st v u q h l w = tt
-lay_merges o brk k (Text s) i m rest st v u q h l w =
-    merges_piece v (ink s) q u st (lay_text o (length s) s st) (text_writes o (length s) s st) h w
-lay_merges o brk k (TextWithLen n s) i m rest st v u q h l w = merges_piece v (ink s) q u st (lay_text o n s st) (text_writes o n s st) h w
-lay_merges o brk k (MultilineText s) i Break rest st v u q h l w =
-    merges_piece v (ink s) q u st (lay_payload o (metrics s) s st) (payload_writes o (metrics s) s st) h w
-lay_merges o brk k (MultilineText s) i Flat rest st v u q h l w = tt
-lay_merges o brk k WeakSpace i m rest st v u q h l w =
-    merges_piece v [] q u st (Done [] (record st { column = blank st.column })) (refl, refl) h w
-lay_merges o brk k HardLine i Break rest st v u q h l w = merges_to v [] q u (brk HardLine i Break rest st) h
-    (k HardLine i Break rest st q w)
-lay_merges o brk k HardLine i Flat rest st v u q h l w = tt
-lay_merges o brk k WeakLine i m rest st v u q h l w = merges_to v [] q u (brk WeakLine i m rest st) h (k WeakLine i m rest st q w)
-lay_merges o brk k (Append x y) i m rest st v u q h l w =
-    rw (h.6, h.7, ← append_assoc q h.1 h.3)
-    (merges-then h.0 (q ++ h.1) h.2 h.3 (lay o brk x i m (entry i y ∷ rest) st) (λ z. lay o brk y i m rest z)
-    (lay_merges o brk k x i m (entry i y ∷ rest) st h.0 h.1 q h.4 (omega arith) w)
-    (λ z r e. lay_merges o brk k y i m rest z h.2 h.3 r h.5 (omega arith) e))
-lay_merges o brk k (LineSuffix d) i m rest st v u q h l w =
-    ([], q ++ u, refl, rw h.0 (refl, refl), (spells_one_more st.pending d q u w.0 h.1, depth_one_more st.pending d w.1 (omega arith)))
-lay_merges o brk k (Nest n d) i m rest st v u q h l w = lay_merges o brk k d (nested i n) m rest st v u q h l w
-lay_merges o brk k (DedentToRoot d) i m rest st v u q h l w = lay_merges o brk k d 0 m rest st v u q h l w
-lay_merges o brk k (Align d) i m rest st v u q h l w = lay_merges o brk k d (prospective st.column) m rest st v u q h l w
-lay_merges o brk k ExpandParent i m rest st v u q h l w = merges_piece v [] q u st (Done [] st) (refl, refl) h w
-lay_merges o brk k (Flatten d) i m rest st v u q h l w = lay_merges o brk k d i Flat rest st v u q h l w
-lay_merges o brk k (BreakOrFlat x y) i Break rest st v u q h l w = lay_merges o brk k x i Break rest st v u q h.0 (omega arith) w
-lay_merges o brk k (BreakOrFlat x y) i Flat rest st v u q h l w = lay_merges o brk k y i Flat rest st v u q h.1 (omega arith) w
-lay_merges o brk k (Group d) i m rest st v u q h l w =
-    lay_merges o brk k d i (by_mode m (if probe o d i Flat rest st then Flat else Break) Flat) rest st v u q h l w
-lay_merges o brk k (Union x y) i Break rest st v u q h l w =
+lay_merges o k Nil i m rest st {v} {u} {q} h w = merges_piece v [] q u st (Done [] st) (refl, refl) h.parts w
+lay_merges o k Fail i m rest st h w = tt
+lay_merges o k (Text s) i m rest st {v} {u} {q} h w =
+    merges_piece v (ink s) q u st (lay_text o (length s) s st) (text_writes o (length s) s st) h.parts w
+lay_merges o k (TextWithLen n s) i m rest st {v} {u} {q} h w =
+    merges_piece v (ink s) q u st (lay_text o n s st) (text_writes o n s st) h.parts w
+lay_merges o k (MultilineText s) i Break rest st {v} {u} {q} h w =
+    merges_piece v (ink s) q u st (lay_payload o (metrics s) s st) (payload_writes o (metrics s) s st) h.parts w
+lay_merges o k (MultilineText s) i Flat rest st h w = tt
+lay_merges o k WeakSpace i m rest st {v} {u} {q} h w =
+    merges_piece v [] q u st (Done [] (record st { column = blank st.column })) (refl, refl) h.parts w
+lay_merges o {brk} k HardLine i Break rest st {v} {u} {q} h w = merges_to v [] q u (brk HardLine i Break rest st) h.parts
+    ((k.unloads HardLine i Break rest).merges st q w)
+lay_merges o k HardLine i Flat rest st h w = tt
+lay_merges o {brk} k WeakLine i m rest st {v} {u} {q} h w =
+    merges_to v [] q u (brk WeakLine i m rest st) h.parts ((k.unloads WeakLine i m rest).merges st q w)
+lay_merges o {brk} k (Append x y) i m rest st {v} {u} {q} h w =
+    rw (h.parts.6, h.parts.7, ← append_assoc q h.parts.1 h.parts.3)
+    (merges-then h.parts.0 (q ++ h.parts.1) h.parts.2 h.parts.3 (lay o brk x i m (entry i y ∷ rest) st) (λ z. lay o brk y i m rest z)
+    (lay_merges o k x i m (entry i y ∷ rest) st (record { parts = h.parts.4; depth = omega (arith, h.depth) }) w)
+    (λ z r e. lay_merges o k y i m rest z (record { parts = h.parts.5; depth = omega (arith, h.depth) }) e))
+lay_merges o k (LineSuffix d) i m rest st {v} {u} {q} h w = (
+  [],
+  q ++ u,
+  refl,
+  rw h.parts.0 (refl, refl),
+  record {
+    spelled = spells_one_more st.pending d q u w.spelled h.parts.1;
+    depth = depth_one_more st.pending d w.depth (omega (arith, h.depth));
+  },
+)
+lay_merges o k (Nest n d) i m rest st h w = lay_merges o k d (nested i n) m rest st (record { parts = h.parts; depth = h.depth }) w
+lay_merges o k (DedentToRoot d) i m rest st h w = lay_merges o k d 0 m rest st (record { parts = h.parts; depth = h.depth }) w
+lay_merges o k (Align d) i m rest st h w =
+    lay_merges o k d (prospective st.column) m rest st (record { parts = h.parts; depth = h.depth }) w
+lay_merges o k ExpandParent i m rest st {v} {u} {q} h w = merges_piece v [] q u st (Done [] st) (refl, refl) h.parts w
+lay_merges o k (Flatten d) i m rest st h w = lay_merges o k d i Flat rest st (record { parts = h.parts; depth = h.depth }) w
+lay_merges o k (BreakOrFlat x y) i Break rest st h w =
+    lay_merges o k x i Break rest st (record { parts = h.parts.0; depth = omega (arith, h.depth) }) w
+lay_merges o k (BreakOrFlat x y) i Flat rest st h w =
+    lay_merges o k y i Flat rest st (record { parts = h.parts.1; depth = omega (arith, h.depth) }) w
+lay_merges o k (Group d) i m rest st h w =
+    lay_merges o k d i (by_mode m (if probe o d i Flat rest st then Flat else Break) Flat) rest st
+    (record { parts = h.parts; depth = h.depth }) w
+lay_merges o {brk} k (Union x y) i Break rest st {v} {u} {q} h w =
     holds-accept (Merges v (q ++ u)) (λ b z was e. e) o st.within (lay o brk x i Break rest (in_trial st)) (lay o brk y i Break rest st)
-    (lay_merges o brk k x i Break rest (in_trial st) v u q h.0 (omega arith) w)
-    (lay_merges o brk k y i Break rest st v u q h.1 (omega arith) w)
-lay_merges o brk k (Union x y) i Flat rest st v u q h l w = lay_merges o brk k x i Flat rest st v u q h.0 (omega arith) w
-lay_merges o brk k (PartialUnion x y) i Break rest st v u q h l w =
+    (lay_merges o k x i Break rest (in_trial st) (record { parts = h.parts.0; depth = omega (arith, h.depth) }) w)
+    (lay_merges o k y i Break rest st (record { parts = h.parts.1; depth = omega (arith, h.depth) }) w)
+lay_merges o k (Union x y) i Flat rest st h w =
+    lay_merges o k x i Flat rest st (record { parts = h.parts.0; depth = omega (arith, h.depth) }) w
+lay_merges o {brk} k (PartialUnion x y) i Break rest st {v} {u} {q} h w =
     holds-either (Merges v (q ++ u)) (probe o x i Break rest st) (lay o brk x i Break rest st) (lay o brk y i Break rest st)
-    (lay_merges o brk k x i Break rest st v u q h.0 (omega arith) w)
-    (lay_merges o brk k y i Break rest st v u q h.1 (omega arith) w)
-lay_merges o brk k (PartialUnion x y) i Flat rest st v u q h l w = lay_merges o brk k x i Flat rest st v u q h.0 (omega arith) w
-lay_merges o brk k (OnColumn test x y) i m rest st v u q h l w =
+    (lay_merges o k x i Break rest st (record { parts = h.parts.0; depth = omega (arith, h.depth) }) w)
+    (lay_merges o k y i Break rest st (record { parts = h.parts.1; depth = omega (arith, h.depth) }) w)
+lay_merges o k (PartialUnion x y) i Flat rest st h w =
+    lay_merges o k x i Flat rest st (record { parts = h.parts.0; depth = omega (arith, h.depth) }) w
+lay_merges o {brk} k (OnColumn test x y) i m rest st {v} {u} {q} h w =
     holds-either (Merges v (q ++ u)) (column_holds test (prospective st.column) i) (lay o brk x i m rest st) (lay o brk y i m rest st)
-    (lay_merges o brk k x i m rest st v u q h.0 (omega arith) w)
-    (lay_merges o brk k y i m rest st v u q h.1 (omega arith) w)
-lay_merges o brk k (OnNesting test x y) i m rest st v u q h l w =
+    (lay_merges o k x i m rest st (record { parts = h.parts.0; depth = omega (arith, h.depth) }) w)
+    (lay_merges o k y i m rest st (record { parts = h.parts.1; depth = omega (arith, h.depth) }) w)
+lay_merges o {brk} k (OnNesting test x y) i m rest st {v} {u} {q} h w =
     holds-either (Merges v (q ++ u)) (nesting_holds test i) (lay o brk x i m rest st) (lay o brk y i m rest st)
-    (lay_merges o brk k x i m rest st v u q h.0 (omega arith) w)
-    (lay_merges o brk k y i m rest st v u q h.1 (omega arith) w)
+    (lay_merges o k x i m rest st (record { parts = h.parts.0; depth = omega (arith, h.depth) }) w)
+    (lay_merges o k y i m rest st (record { parts = h.parts.1; depth = omega (arith, h.depth) }) w)
 
 -- documents in a row, each with no line suffix, write what they spell before what waits already
-each_merges : (o : RenderOptions) (brk : Breaks) → WritesPending brk → (ds : List Tree) (i : ℕ) (m : Mode) (rest : List Entry) (st : State)
-    (w q : List ℕ) → spells (row ds) w → suffix_depth (row ds) ≡ 0 → PendingSpell st q → Merges w q (lay_each o brk ds i m rest st)
+each_merges : (o : RenderOptions) {brk : Breaks} → WritesPending brk → (ds : List Tree) (i : ℕ) (m : Mode) (rest : List Entry)
+    (st : State) {w q : List ℕ} → SpelledInRow ds w → PendingSpell st q → Merges w q (lay_each o brk ds i m rest st)
 unfolding lay_each
-each_merges o brk k [] i m rest st w q h l e = merges_writes w q st (Done [] st) (sym h, refl) e
-each_merges o brk k (d ∷ ds) i m rest st w q h l e =
-    let first : Merges h.0 (q ++ []) (lay o brk d i m (entries i ds ++ rest) st) =
-    lay_merges o brk k d i m (entries i ds ++ rest) st h.0 [] q (parts_in_order d h.0 h.2 (omega arith)) (omega arith) e in
-    rw h.4
-    (merges-next h.0 q h.1 (lay o brk d i m (entries i ds ++ rest) st) (λ u. lay_each o brk ds i m rest u) (rw (append-nil q) at first)
-    (λ u r f. each_merges o brk k ds i m rest u h.1 r h.3 (omega arith) f))
+each_merges o k [] i m rest st {w} {q} h e = merges_writes w q st (Done [] st) (sym h.spelled, refl) e
+each_merges o {brk} k (d ∷ ds) i m rest st {w} {q} h e =
+    let first : Merges h.spelled.0 (q ++ []) (lay o brk d i m (entries i ds ++ rest) st) =
+    lay_merges o k d i m (entries i ds ++ rest) st (record {
+      parts = parts_in_order d h.spelled.0 h.spelled.2 (omega (arith, h.depth));
+      depth = omega (arith, h.depth);
+    }) e in
+    rw h.spelled.4
+    (merges-next h.spelled.0 q h.spelled.1 (lay o brk d i m (entries i ds ++ rest) st) (λ u. lay_each o brk ds i m rest u)
+    (rw (append-nil q) at first)
+    (λ u r f. each_merges o k ds i m rest u (record { spelled = h.spelled.3; depth = omega (arith, h.depth) }) f))
 
 -- what waits is written, and then what goes on writes what waits still
-waiting_merges : (o : RenderOptions) (brk : Breaks) → WritesPending brk → (ps : List Tree) (i : ℕ) (m : Mode) (rest : List Entry)
-    (st : State) (again : State → Outcome) (q : List ℕ) → spells (row ps) q → suffix_depth (row ps) ≡ 0
-    → ((u : State) (r : List ℕ) → PendingSpell u r → Merges [] r (again u))
+waiting_merges : (o : RenderOptions) {brk : Breaks} → WritesPending brk → {ps : List Tree} (i : ℕ) (m : Mode) (rest : List Entry)
+    (st : State) {again : State → Outcome} {q : List ℕ} → SpelledInRow ps q → Unloads again
     → Merges [] q (after_bytes (spaces (gap st.column)) (and_then (lay_each o brk ps i m rest (flushed o st)) again))
-waiting_merges o brk k ps i m rest st again q h l g =
+waiting_merges o {brk} k {ps} i m rest st {again} {q} h g =
     merges-after (spaces (gap st.column)) [] q (and_then (lay_each o brk ps i m rest (flushed o st)) again) (ink-spaces (gap st.column))
     (merges-next [] q [] (lay_each o brk ps i m rest (flushed o st)) again
-    (merges_late q (lay_each o brk ps i m rest (flushed o st)) (each_merges o brk k ps i m rest (flushed o st) q [] h l (refl, refl))) g)
+    (merges_late q (lay_each o brk ps i m rest (flushed o st))
+    (each_merges o k ps i m rest (flushed o st) h (record { spelled = refl; depth = refl })))
+    g.merges)
 
-break_merges : (o : RenderOptions) (brk : Breaks) → WritesPending brk → (ps : List Tree) (d : Tree) (i : ℕ) (m : Mode) (rest : List Entry)
-    (st : State) (q : List ℕ) → spells (row ps) q → suffix_depth (row ps) ≡ 0 → PendingSpell st q
+break_merges : (o : RenderOptions) {brk : Breaks} → WritesPending brk → (ps : List Tree) (d : Tree) (i : ℕ) (m : Mode) (rest : List Entry)
+    (st : State) {q : List ℕ} → SpelledInRow ps q → PendingSpell st q
     → Merges [] q (break_with o brk ps d i m rest st)
-break_merges o brk k [] d i m rest st q h l w = merges_writes [] q st (plain_break o d i rest st) (plain_writes o d i rest st) w
-break_merges o brk k (p ∷ ps) d i m rest st q h l w =
-    waiting_merges o brk k (p ∷ ps) i m (entry i d ∷ rest) st (brk d i m rest) q h l (k d i m rest)
+break_merges o k [] d i m rest st {q} h w = merges_writes [] q st (plain_break o d i rest st) (plain_writes o d i rest st) w
+break_merges o k (p ∷ ps) d i m rest st h w =
+    waiting_merges o k i m (entry i d ∷ rest) st h (k.unloads d i m rest)
 
 breaks_merge : (o : RenderOptions) (n : ℕ) → WritesPending (breaks o n)
 unfolding breaks
-breaks_merge o zero = λ d i m rest st q w. tt
-breaks_merge o (suc n) = λ d i m rest st q w. break_merges o (breaks o n) (breaks_merge o n) st.pending d i m rest st q w.0 w.1 w
+breaks_merge o zero = record { unloads = λ d i m rest. record { merges = λ st q w. tt } }
+breaks_merge o (suc n) = record {
+  unloads = λ d i m rest. record { merges = λ st q w. break_merges o (breaks_merge o n) st.pending d i m rest st w w };
+}
 
-end_merges : (o : RenderOptions) (brk : Breaks) → WritesPending brk → (again : State → Outcome)
-    → ((u : State) (r : List ℕ) → PendingSpell u r → Merges [] r (again u)) → (ps : List Tree) (st : State) (q : List ℕ) → spells (row ps) q
-    → suffix_depth (row ps) ≡ 0 → PendingSpell st q → Merges [] q (end_with o brk again ps st)
-end_merges o brk k again g [] st q h l w = merges_writes [] q st (Done [] st) (refl, refl) w
-end_merges o brk k again g (p ∷ ps) st q h l w = waiting_merges o brk k (p ∷ ps) 0 Break [] st again q h l g
+end_merges : (o : RenderOptions) {brk : Breaks} → WritesPending brk → {again : State → Outcome} → Unloads again → (ps : List Tree)
+    (st : State) {q : List ℕ} → SpelledInRow ps q → PendingSpell st q → Merges [] q (end_with o brk again ps st)
+end_merges o k g [] st {q} h w = merges_writes [] q st (Done [] st) (refl, refl) w
+end_merges o k g (p ∷ ps) st h w = waiting_merges o k 0 Break [] st h g
 
-finish_merges : (o : RenderOptions) (brk : Breaks) → WritesPending brk → (n : ℕ) (st : State) (q : List ℕ) → PendingSpell st q
-    → Merges [] q (finish o brk n st)
+finish_merges : (o : RenderOptions) {brk : Breaks} → WritesPending brk → (n : ℕ) → Unloads (finish o brk n)
 unfolding finish
-finish_merges o brk k zero st q w = tt
-finish_merges o brk k (suc n) st q w = end_merges o brk k (finish o brk n) (finish_merges o brk k n) st.pending st q w.0 w.1 w
+finish_merges o k zero = record { merges = λ st q w. tt }
+finish_merges o k (suc n) = record { merges = λ st q w. end_merges o k (finish_merges o k n) st.pending st w w }
 
 layout_by_merges : (o : RenderOptions) (n : ℕ) (d : Tree) (v u : List ℕ) → spelled_parts d v u → suffix_depth d ≤ 1 →
     Merges v u (layout_by o n d)
 unfolding layout_by
 layout_by_merges o n d v u h l =
     let whole = merges-next v u [] (lay o (breaks o n) d 0 Break [] initial) (finish o (breaks o n) n)
-    (lay_merges o (breaks o n) (breaks_merge o n) d 0 Break [] initial v u [] h l (refl, refl))
-    (finish_merges o (breaks o n) (breaks_merge o n) n) in
+    (lay_merges o (breaks_merge o n) d 0 Break [] initial (record { parts = h; depth = l }) (record { spelled = refl; depth = refl }))
+    (finish_merges o (breaks_merge o n) n).merges in
     rw (append-nil v) at whole
 
 whole_merges : (x : Outcome) (v u b : List ℕ) → Merges v u x → NothingPending x → bytes_of x ≡ Whole b → IsMerge (ink b) v u
 whole_merges (Done c st) v u b h s e =
     let same : c ≡ b = cc in
-    let none : spells (row []) h.1 = rw s at h.4.0 in
+    let none : spells (row []) h.1 = rw s at h.4.spelled in
     rw (← same, h.2, none, append-nil) h.3
 whole_merges (Failed c) v u b h s e = absurd (cc)
 

@@ -4,7 +4,7 @@ use Rattle.std.proofs.Common.{arith, inl, inr, ◌⊎◌, Bool, true, false, ◌
 use Rattle.std.specs.Prelude.{⊤}
 use Rattle.std.proofs.lemmas.Bool.{cases_Bool, eqb-true}
 use Rattle.std.proofs.lemmas.List.{length-replicate}
-use Rattle.prettyless_model.specs.Column.{gap, blank, saturating_add}
+use Rattle.prettyless_model.specs.Column.{gap, blank, saturating_add, commit}
 use Rattle.prettyless_model.specs.Spaces.{spaces}
 use Rattle.prettyless_model.specs.declared.column.Column.{Column}
 use Rattle.prettyless_model.specs.Shows.{Reach, NoGap, SameLine, AnyLine, Least, Nothing, Spacing, LineEnd, further, more, EndsLine}
@@ -223,15 +223,26 @@ with_committed Spacing g c e h =
     omega arith
 with_committed LineEnd g c e h = end_before g (spaces (gap c)) h
 
-pub committed_stands : (p : Place) (g : List ℕ) (c e : Column) → Stands p [] g c → e.fresh ≡ false → e.indent ≡ 0 → e.padding ≡ 0
-    → Stands p [] (g ++ spaces (gap c)) e
-committed_stands (Before r) g c e h f i n =
-    (blank_both g (spaces (gap c)) h.0 (ink-spaces (gap c)), tt, within_committed r g c e h.2 i n)
-committed_stands (After r l) g c e h f i n = (
+-- a column right after content: no gap is before it
+pub record IsCommitted (c : Column) : Type 0 where
+  pub fresh : c.fresh ≡ false
+  pub indent : c.indent ≡ 0
+  pub padding : c.padding ≡ 0
+
+pub commit_committed : (w : ℕ) (c : Column) → IsCommitted (commit w c)
+commit_committed w c = record { fresh = refl; indent = refl; padding = refl }
+
+pub not_fresh : {c : Column} {A : Type 0} → IsCommitted c → c.fresh ≡ true → A
+not_fresh k fresh = let not = k.fresh in absurd (cc)
+
+pub committed_stands : (p : Place) (g : List ℕ) (c e : Column) → Stands p [] g c → IsCommitted e → Stands p [] (g ++ spaces (gap c)) e
+committed_stands (Before r) g c e h k =
+    (blank_both g (spaces (gap c)) h.0 (ink-spaces (gap c)), tt, within_committed r g c e h.2 k.indent k.padding)
+committed_stands (After r l) g c e h k = (
   blank_both g (spaces (gap c)) h.0 (ink-spaces (gap c)),
   tt,
-  λ fresh. absurd (cc),
-  within_committed r g c e h.3 i n,
+  λ fresh. not_fresh k fresh,
+  within_committed r g c e h.3 k.indent k.padding,
   with_committed l g c e h.4,
 )
 
@@ -246,21 +257,21 @@ same_line_stands (After SameLine l) w v ws vs g c h = h
 same_line_stands (After AnyLine l) w v ws vs g c h = (h.0, h.1, h.2, h.1, h.4)
 
 -- the items that wait come on the line of the last text
-pub late_stands : (p : Place) (w : Item) (ws : List Item) (g : List ℕ) (c e : Column) → Stands p (w ∷ ws) g c → e.fresh ≡ false
-    → e.indent ≡ 0 → e.padding ≡ 0 → Stands (late_place p) [] (g ++ spaces (gap c)) e
-late_stands (Before r) w ws g c e h f i n = (
+pub late_stands : (p : Place) (w : Item) (ws : List Item) (g : List ℕ) (c e : Column) → Stands p (w ∷ ws) g c → IsCommitted e
+    → Stands (late_place p) [] (g ++ spaces (gap c)) e
+late_stands (Before r) w ws g c e h k = (
   blank_both g (spaces (gap c)) h.0 (ink-spaces (gap c)),
   tt,
-  λ fresh. absurd (cc),
+  λ fresh. not_fresh k fresh,
   no_end_in g (spaces (gap c)) h.1 (spaces_end_none (gap c)),
   tt,
 )
-late_stands (After NoGap l) w ws g c e h f i n = committed_stands (After NoGap l) g c e (h.0, tt, h.2, h.3, h.4) f i n
-late_stands (After SameLine l) w ws g c e h f i n = committed_stands (After SameLine l) g c e (h.0, tt, h.2, h.3, h.4) f i n
-late_stands (After AnyLine l) w ws g c e h f i n = (
+late_stands (After NoGap l) w ws g c e h k = committed_stands (After NoGap l) g c e (h.0, tt, h.2, h.3, h.4) k
+late_stands (After SameLine l) w ws g c e h k = committed_stands (After SameLine l) g c e (h.0, tt, h.2, h.3, h.4) k
+late_stands (After AnyLine l) w ws g c e h k = (
   blank_both g (spaces (gap c)) h.0 (ink-spaces (gap c)),
   tt,
-  λ fresh. absurd (cc),
+  λ fresh. not_fresh k fresh,
   no_end_in g (spaces (gap c)) h.1 (spaces_end_none (gap c)),
   tt,
 )

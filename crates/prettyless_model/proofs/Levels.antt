@@ -52,6 +52,11 @@ Keeps brk = (d : Tree) (i : ℕ) (m : Mode) (rest : List Entry) (st : State) →
 abbrev pub Agree : ℕ → Breaks → Breaks → Type 0
 Agree h a b = (d : Tree) (i : ℕ) (m : Mode) (rest : List Entry) (st : State) → queued st.pending ≤ h → a d i m rest st ≡ b d i m rest st
 
+-- such breaks, of which the first leaves no more pending than it found
+record Agreeing (h : ℕ) (a b : Breaks) : Type 0 where
+  same : Agree h a b
+  keeps : Keeps a
+
 pub lay_keeps : (o : RenderOptions) (brk : Breaks) → Keeps brk → (d : Tree) (i : ℕ) (m : Mode) (rest : List Entry) (st : State)
     → LeavesAtMost (suffixes d + queued st.pending) (lay o brk d i m rest st)
 unfolding lay
@@ -136,67 +141,67 @@ unfolding breaks
 breaks_keep o zero = λ d i m rest st. tt
 breaks_keep o (suc n) = λ d i m rest st. break_keeps o (breaks o n) (breaks_keep o n) st.pending d i m rest st (omega arith)
 
-lay_agrees : (o : RenderOptions) (h : ℕ) (a b : Breaks) → Agree h a b → Keeps a → (d : Tree) (i : ℕ) (m : Mode) (rest : List Entry)
+lay_agrees : (o : RenderOptions) {h : ℕ} {a b : Breaks} → Agreeing h a b → (d : Tree) (i : ℕ) (m : Mode) (rest : List Entry)
     (st : State) → suffixes d + queued st.pending ≤ h → lay o a d i m rest st ≡ lay o b d i m rest st
 unfolding lay
-lay_agrees o h a b e k HardLine i Break rest st l = e HardLine i Break rest st (omega arith)
-lay_agrees o h a b e k WeakLine i m rest st l = e WeakLine i m rest st (omega arith)
-lay_agrees o h a b e k (Append x y) i m rest st l =
+lay_agrees o e HardLine i Break rest st l = e.same HardLine i Break rest st (omega arith)
+lay_agrees o e WeakLine i m rest st l = e.same WeakLine i m rest st (omega arith)
+lay_agrees o {h} {a} {b} e (Append x y) i m rest st l =
     then-agrees (suffixes x + queued st.pending) (lay o a x i m (entry i y ∷ rest) st) (λ u. lay o a y i m rest u)
     (λ u. lay o b y i m rest u)
-    (lay_keeps o a k x i m (entry i y ∷ rest) st)
-    (λ u q. lay_agrees o h a b e k y i m rest u (omega arith))
-    ∙ ap (λ (x : Outcome). and_then x (λ u. lay o b y i m rest u)) (lay_agrees o h a b e k x i m (entry i y ∷ rest) st (omega arith))
-lay_agrees o h a b e k (Nest n d) i m rest st l = lay_agrees o h a b e k d (nested i n) m rest st l
-lay_agrees o h a b e k (DedentToRoot d) i m rest st l = lay_agrees o h a b e k d 0 m rest st l
-lay_agrees o h a b e k (Align d) i m rest st l = lay_agrees o h a b e k d (prospective st.column) m rest st l
-lay_agrees o h a b e k (Flatten d) i m rest st l = lay_agrees o h a b e k d i Flat rest st l
-lay_agrees o h a b e k (BreakOrFlat x y) i Break rest st l = lay_agrees o h a b e k x i Break rest st (omega arith)
-lay_agrees o h a b e k (BreakOrFlat x y) i Flat rest st l = lay_agrees o h a b e k y i Flat rest st (omega arith)
-lay_agrees o h a b e k (Group d) i m rest st l =
-    lay_agrees o h a b e k d i (by_mode m (if probe o d i Flat rest st then Flat else Break) Flat) rest st l
-lay_agrees o h a b e k (Union x y) i Break rest st l =
+    (lay_keeps o a e.keeps x i m (entry i y ∷ rest) st)
+    (λ u q. lay_agrees o e y i m rest u (omega arith))
+    ∙ ap (λ (x : Outcome). and_then x (λ u. lay o b y i m rest u)) (lay_agrees o e x i m (entry i y ∷ rest) st (omega arith))
+lay_agrees o e (Nest n d) i m rest st l = lay_agrees o e d (nested i n) m rest st l
+lay_agrees o e (DedentToRoot d) i m rest st l = lay_agrees o e d 0 m rest st l
+lay_agrees o e (Align d) i m rest st l = lay_agrees o e d (prospective st.column) m rest st l
+lay_agrees o e (Flatten d) i m rest st l = lay_agrees o e d i Flat rest st l
+lay_agrees o e (BreakOrFlat x y) i Break rest st l = lay_agrees o e x i Break rest st (omega arith)
+lay_agrees o e (BreakOrFlat x y) i Flat rest st l = lay_agrees o e y i Flat rest st (omega arith)
+lay_agrees o e (Group d) i m rest st l =
+    lay_agrees o e d i (by_mode m (if probe o d i Flat rest st then Flat else Break) Flat) rest st l
+lay_agrees o {h} {a} {b} e (Union x y) i Break rest st l =
     ap (λ (z : Outcome). accept o st.within z (lay o a y i Break rest st))
-    (lay_agrees o h a b e k x i Break rest (in_trial st) (omega arith))
-    ∙ ap (accept o st.within (lay o b x i Break rest (in_trial st))) (lay_agrees o h a b e k y i Break rest st (omega arith))
-lay_agrees o h a b e k (Union x y) i Flat rest st l = lay_agrees o h a b e k x i Flat rest st (omega arith)
-lay_agrees o h a b e k (PartialUnion x y) i Break rest st l =
+    (lay_agrees o e x i Break rest (in_trial st) (omega arith))
+    ∙ ap (accept o st.within (lay o b x i Break rest (in_trial st))) (lay_agrees o e y i Break rest st (omega arith))
+lay_agrees o e (Union x y) i Flat rest st l = lay_agrees o e x i Flat rest st (omega arith)
+lay_agrees o {h} {a} {b} e (PartialUnion x y) i Break rest st l =
     same-either (probe o x i Break rest st) (lay o a x i Break rest st) (lay o a y i Break rest st) (lay o b x i Break rest st)
     (lay o b y i Break rest st)
-    (lay_agrees o h a b e k x i Break rest st (omega arith)) (lay_agrees o h a b e k y i Break rest st (omega arith))
-lay_agrees o h a b e k (PartialUnion x y) i Flat rest st l = lay_agrees o h a b e k x i Flat rest st (omega arith)
-lay_agrees o h a b e k (OnColumn test x y) i m rest st l =
+    (lay_agrees o e x i Break rest st (omega arith)) (lay_agrees o e y i Break rest st (omega arith))
+lay_agrees o e (PartialUnion x y) i Flat rest st l = lay_agrees o e x i Flat rest st (omega arith)
+lay_agrees o {h} {a} {b} e (OnColumn test x y) i m rest st l =
     same-either (column_holds test (prospective st.column) i) (lay o a x i m rest st) (lay o a y i m rest st) (lay o b x i m rest st)
     (lay o b y i m rest st)
-    (lay_agrees o h a b e k x i m rest st (omega arith)) (lay_agrees o h a b e k y i m rest st (omega arith))
-lay_agrees o h a b e k (OnNesting test x y) i m rest st l =
+    (lay_agrees o e x i m rest st (omega arith)) (lay_agrees o e y i m rest st (omega arith))
+lay_agrees o {h} {a} {b} e (OnNesting test x y) i m rest st l =
     same-either (nesting_holds test i) (lay o a x i m rest st) (lay o a y i m rest st) (lay o b x i m rest st) (lay o b y i m rest st)
-    (lay_agrees o h a b e k x i m rest st (omega arith)) (lay_agrees o h a b e k y i m rest st (omega arith))
-lay_agrees o h a b e k _ i m rest st l = refl
+    (lay_agrees o e x i m rest st (omega arith)) (lay_agrees o e y i m rest st (omega arith))
+lay_agrees o e _ i m rest st l = refl
 
-each_agrees : (o : RenderOptions) (h : ℕ) (a b : Breaks) → Agree h a b → Keeps a → (ds : List Tree) (i : ℕ) (m : Mode) (rest : List Entry)
+each_agrees : (o : RenderOptions) {h : ℕ} {a b : Breaks} → Agreeing h a b → (ds : List Tree) (i : ℕ) (m : Mode) (rest : List Entry)
     (st : State) → all_suffixes ds + queued st.pending ≤ h → lay_each o a ds i m rest st ≡ lay_each o b ds i m rest st
 unfolding lay_each
-each_agrees o h a b e k [] i m rest st l = refl
-each_agrees o h a b e k (d ∷ ds) i m rest st l =
+each_agrees o e [] i m rest st l = refl
+each_agrees o {h} {a} {b} e (d ∷ ds) i m rest st l =
     then-agrees (suffixes d + queued st.pending) (lay o a d i m (entries i ds ++ rest) st) (λ u. lay_each o a ds i m rest u)
     (λ u. lay_each o b ds i m rest u)
-    (lay_keeps o a k d i m (entries i ds ++ rest) st)
-    (λ u q. each_agrees o h a b e k ds i m rest u (omega arith))
+    (lay_keeps o a e.keeps d i m (entries i ds ++ rest) st)
+    (λ u q. each_agrees o e ds i m rest u (omega arith))
     ∙ ap (λ (x : Outcome). and_then x (λ u. lay_each o b ds i m rest u))
-    (lay_agrees o h a b e k d i m (entries i ds ++ rest) st (omega arith))
+    (lay_agrees o e d i m (entries i ds ++ rest) st (omega arith))
 
-break_agrees : (o : RenderOptions) (h : ℕ) (a b : Breaks) → Agree h a b → Keeps a → (ps : List Tree) (d : Tree) (i : ℕ) (m : Mode)
+break_agrees : (o : RenderOptions) {h : ℕ} {a b : Breaks} → Agreeing h a b → (ps : List Tree) (d : Tree) (i : ℕ) (m : Mode)
     (rest : List Entry) (st : State) → queued ps ≤ suc h → break_with o a ps d i m rest st ≡ break_with o b ps d i m rest st
-break_agrees o h a b e k [] d i m rest st l = refl
-break_agrees o h a b e k (p ∷ ps) d i m rest st l =
+break_agrees o e [] d i m rest st l = refl
+break_agrees o {h} {a} {b} e (p ∷ ps) d i m rest st l =
     ap (after_bytes (spaces (gap st.column)))
     (then-agrees (all_suffixes (p ∷ ps) + queued (flushed o st).pending) (lay_each o a (p ∷ ps) i m (entry i d ∷ rest) (flushed o st))
     (a d i m rest) (b d i m rest)
-    (each_keeps o a k (p ∷ ps) i m (entry i d ∷ rest) (flushed o st))
-    (λ u q. e d i m rest u (omega (arith, suffixes_queued ps)))
+    (each_keeps o a e.keeps (p ∷ ps) i m (entry i d ∷ rest) (flushed o st))
+    (λ u q. e.same d i m rest u (omega (arith, suffixes_queued ps)))
     ∙ ap (λ (x : Outcome). and_then x (b d i m rest))
-    (each_agrees o h a b e k (p ∷ ps) i m (entry i d ∷ rest) (flushed o st) (omega (arith, suffixes_queued ps))))
+    (each_agrees o e (p ∷ ps) i m (entry i d ∷ rest) (flushed o st) (omega (arith, suffixes_queued ps))))
 
 none_queued : (o : RenderOptions) (a b : Breaks) (ps : List Tree) (d : Tree) (i : ℕ) (m : Mode) (rest : List Entry) (st : State)
     → queued ps ≤ 0 → break_with o a ps d i m rest st ≡ break_with o b ps d i m rest st
@@ -210,18 +215,19 @@ levels o zero k h p q = λ d i m rest st l. none_queued o (breaks o zero) (break
 levels o (suc n) zero h p q = λ d i m rest st l. none_queued o (breaks o (suc n)) (breaks o zero) st.pending d i m rest st (omega arith)
 levels o (suc n) (suc k) zero p q = λ d i m rest st l. none_queued o (breaks o (suc n)) (breaks o (suc k)) st.pending d i m rest st l
 levels o (suc n) (suc k) (suc h) p q = λ d i m rest st l.
-    break_agrees o h (breaks o (suc n)) (breaks o (suc k)) (levels o n k h (omega arith) (omega arith)) (breaks_keep o (suc n))
-    st.pending d i m rest st l
+    break_agrees o (record { same = levels o n k h (omega arith) (omega arith); keeps = breaks_keep o (suc n) }) st.pending d i m rest st l
 
-settle_agrees : (o : RenderOptions) (q : ℕ) → Agree q (breaks o (suc q)) (settle o)
+settle_agrees : (o : RenderOptions) (q : ℕ) → Agreeing q (breaks o (suc q)) (settle o)
 unfolding settle
-settle_agrees o q = λ d i m rest st l. levels o q (queued st.pending) (queued st.pending) l (omega arith) d i m rest st (omega arith)
+settle_agrees o q = record {
+  same = λ d i m rest st l. levels o q (queued st.pending) (queued st.pending) l (omega arith) d i m rest st (omega arith);
+  keeps = breaks_keep o (suc q);
+}
 
 settle_break : (o : RenderOptions) (q : ℕ) (ps : List Tree) (d : Tree) (i : ℕ) (m : Mode) (rest : List Entry) (st : State) → queued ps ≤ q
     → break_with o (breaks o q) ps d i m rest st ≡ break_with o (settle o) ps d i m rest st
 settle_break o zero ps d i m rest st l = none_queued o (breaks o zero) (settle o) ps d i m rest st l
-settle_break o (suc q) ps d i m rest st l = break_agrees o q (breaks o (suc q)) (settle o) (settle_agrees o q) (breaks_keep o (suc q))
-    ps d i m rest st l
+settle_break o (suc q) ps d i m rest st l = break_agrees o (settle_agrees o q) ps d i m rest st l
 
 -- a break that runs by its own equation
 abbrev pub Fixed : RenderOptions → Breaks → Type 0
@@ -232,24 +238,23 @@ pub settle_fixed : (o : RenderOptions) → Fixed o (settle o)
 unfolding settle breaks
 settle_fixed o = λ d i m rest st. settle_break o (queued st.pending) st.pending d i m rest st (omega arith)
 
-end_agrees : (o : RenderOptions) (h : ℕ) (a b : Breaks) → Agree h a b → Keeps a → (f g : State → Outcome) → (ps : List Tree) (st : State)
+end_agrees : (o : RenderOptions) {h : ℕ} {a b : Breaks} → Agreeing h a b → (f g : State → Outcome) → (ps : List Tree) (st : State)
     → queued ps ≤ suc h → ((u : State) → queued u.pending < queued ps → f u ≡ g u) → end_with o a f ps st ≡ end_with o b g ps st
-end_agrees o h a b e k f g [] st l r = refl
-end_agrees o h a b e k f g (p ∷ ps) st l r =
+end_agrees o e f g [] st l r = refl
+end_agrees o {h} {a} e f g (p ∷ ps) st l r =
     ap (after_bytes (spaces (gap st.column)))
     (then-agrees (all_suffixes (p ∷ ps) + queued (flushed o st).pending) (lay_each o a (p ∷ ps) 0 Break [] (flushed o st)) f g
-    (each_keeps o a k (p ∷ ps) 0 Break [] (flushed o st))
+    (each_keeps o a e.keeps (p ∷ ps) 0 Break [] (flushed o st))
     (λ u q. r u (omega (arith, suffixes_queued ps)))
-    ∙ ap (λ (x : Outcome). and_then x g) (each_agrees o h a b e k (p ∷ ps) 0 Break [] (flushed o st) (omega (arith, suffixes_queued ps))))
+    ∙ ap (λ (x : Outcome). and_then x g) (each_agrees o e (p ∷ ps) 0 Break [] (flushed o st) (omega (arith, suffixes_queued ps))))
 
-finish_agrees : (o : RenderOptions) (h n k : ℕ) (a b : Breaks) → Agree h a b → Keeps a → (st : State) → queued st.pending < n
+finish_agrees : (o : RenderOptions) {h : ℕ} {a b : Breaks} → Agreeing h a b → (n k : ℕ) (st : State) → queued st.pending < n
     → queued st.pending < k → queued st.pending ≤ suc h → finish o a n st ≡ finish o b k st
 unfolding finish
-finish_agrees o h zero k a b e p st l m q = absurd (omega arith)
-finish_agrees o h (suc n) zero a b e p st l m q = absurd (omega arith)
-finish_agrees o h (suc n) (suc k) a b e p st l m q =
-    end_agrees o h a b e p (finish o a n) (finish o b k) st.pending st q
-    (λ u r. finish_agrees o h n k a b e p u (omega arith) (omega arith) (omega arith))
+finish_agrees o e zero k st l m q = absurd (omega arith)
+finish_agrees o e (suc n) zero st l m q = absurd (omega arith)
+finish_agrees o {h} {a} {b} e (suc n) (suc k) st l m q =
+    end_agrees o e (finish o a n) (finish o b k) st.pending st q (λ u r. finish_agrees o e n k u (omega arith) (omega arith) (omega arith))
 
 settle_keeps : (o : RenderOptions) → Keeps (settle o)
 unfolding settle
@@ -259,10 +264,9 @@ end_fixed_at : (o : RenderOptions) (q : ℕ) (ps : List Tree) (st : State) → q
     st ≡ end_with o (settle o) (settle_end o) ps st
 unfolding settle_end
 end_fixed_at o q ps st l =
-    end_agrees o q (settle o) (settle o) (λ d i m rest u h. refl) (settle_keeps o) (finish o (settle o) q) (settle_end o) ps
-    st (omega arith)
-    (λ u r. finish_agrees o q q (suc (queued u.pending)) (settle o) (settle o) (λ d i m rest v h. refl) (settle_keeps o) u (omega arith)
-    (omega arith) (omega arith))
+    let same : Agreeing q (settle o) (settle o) = record { same = λ d i m rest u h. refl; keeps = settle_keeps o } in
+    end_agrees o same (finish o (settle o) q) (settle_end o) ps st (omega arith)
+    (λ u r. finish_agrees o same q (suc (queued u.pending)) u (omega arith) (omega arith) (omega arith))
 
 -- the end's own equation
 pub end_fixed : (o : RenderOptions) (st : State) → settle_end o st ≡ end_with o (settle o) (settle_end o) st.pending st
@@ -291,10 +295,9 @@ layout_at o n d l =
     then-agrees (suffixes d + queued initial.pending) (lay o (breaks o (suc n)) d 0 Break [] initial)
     (finish o (breaks o (suc n)) (suc n)) (settle_end o)
     (lay_keeps o (breaks o (suc n)) (breaks_keep o (suc n)) d 0 Break [] initial)
-    (λ u q. finish_agrees o n (suc n) (suc (queued u.pending)) (breaks o (suc n)) (settle o) (settle_agrees o n) (breaks_keep o (suc n)) u
-    (omega arith) (omega arith) (omega arith))
+    (λ u q. finish_agrees o (settle_agrees o n) (suc n) (suc (queued u.pending)) u (omega arith) (omega arith) (omega arith))
     ∙ ap (λ (x : Outcome). and_then x (settle_end o))
-    (lay_agrees o n (breaks o (suc n)) (settle o) (settle_agrees o n) (breaks_keep o (suc n)) d 0 Break [] initial (omega arith))
+    (lay_agrees o (settle_agrees o n) d 0 Break [] initial (omega arith))
 
 -- the layout, whose levels are never spent
 pub layout_is : (o : RenderOptions) (d : Tree) → layout o d ≡ bytes_of (and_then (lay o (settle o) d 0 Break [] initial) (settle_end o))

@@ -31,7 +31,8 @@ use Rattle.prettyless_model.specs.Shows.{PayloadShows, shows, Place, Before, Aft
 use Rattle.prettyless_model.specs.Shows.{same_line, late_place, MayEnd, MayStay, ShowsThen, ShowsFrom, AreShown}
 use Rattle.prettyless_model.proofs.Gaps.{end_after, no_end_in, spaces_end_none, ends_or_not, blank_both, OnLine, Stands, stands_blank}
 use Rattle.prettyless_model.proofs.Gaps.{spaced_stands, blank_stands, ended_at, ended_stands, fresh_ended, gap_before, gap_on_line}
-use Rattle.prettyless_model.proofs.Gaps.{committed_stands, same_line_stands, late_stands, end_stands}
+use Rattle.prettyless_model.proofs.Gaps.{IsCommitted, not_fresh, commit_committed, committed_stands, same_line_stands, late_stands}
+use Rattle.prettyless_model.proofs.Gaps.{end_stands}
 use Rattle.prettyless_model.proofs.Implied.{end_blank, implied_from, implies_before}
 use Rattle.prettyless_model.proofs.Ink.{ink-spaces, ink-ending}
 use Rattle.prettyless_model.proofs.Outcomes.{holds-either, holds-accept}
@@ -70,37 +71,48 @@ one_more_shows (e ∷ ds) ws d inner h k n = (
 
 -- ---- the bytes of an outcome
 
+-- in the state such items wait, and such a gap stands at the place
+pub record StandsIn (p : Place) (ws : List Item) (g : List ℕ) (st : State) : Type 0 where
+  pub waits : AllShow st.pending ws
+  pub stands : Stands p ws g st.column
+
+-- what shows more items from the place q on, after its gap h, shows these and then those from the place p on, after g and b
+pub record Joins (p : Place) (ws : List Item) (g b : List ℕ) (items : List Item) (q : Place) (vs : List Item) (h : List ℕ) : Type 0 where
+  pub shows_all : (c : List ℕ) (later : List Item) → ShowsFrom q vs (h ++ c) later → ShowsFrom p ws (g ++ (b ++ c)) (items ++ later)
+
 -- After a gap so far, where such items wait, the bytes of an outcome show the items, up to another gap so far, where others
 -- wait: what shows more items from there on shows all of them from here on.
 abbrev pub Follows : Place → List Item → List ℕ → List Item → Outcome → Type 0
 Follows p ws g items (Done b st) =
-    (q : Place) × (vs : List Item) × (h : List ℕ) × AllShow st.pending vs × Stands q vs h st.column
-    × ((c : List ℕ) (later : List Item) → ShowsFrom q vs (h ++ c) later → ShowsFrom p ws (g ++ (b ++ c)) (items ++ later))
+    (q : Place) × (vs : List Item) × (h : List ℕ) × StandsIn q vs h st × Joins p ws g b items q vs h
 Follows p ws g items (Failed b) = ⊤
 
-nothing_follows : (p : Place) (ws : List Item) (g : List ℕ) (items : List Item) (st : State) → items ≡ [] → AllShow st.pending ws
-    → Stands p ws g st.column → Follows p ws g items (Done [] st)
-nothing_follows p ws g items st e w s = (p, ws, g, w, s, λ c later k. rw e k)
+nothing_follows : {p : Place} {ws : List Item} {g : List ℕ} {items : List Item} {st : State} → items ≡ [] → StandsIn p ws g st
+    → Follows p ws g items (Done [] st)
+nothing_follows {p} {ws} {g} e s = (p, ws, g, s, record { shows_all = λ c later k. rw e k })
 
 -- spaces that are written
-spaced_follows : (p : Place) (ws : List Item) (g b : List ℕ) (items : List Item) (st : State) (e : Column) (within : Bool)
+spaced_follows : (p : Place) (ws : List Item) (g b : List ℕ) {items : List Item} (st : State) (e : Column) (within : Bool)
     → items ≡ spaced ∷ [] → AllShow st.pending ws → Stands (with_gap SameLine Spacing p) ws (g ++ b) e
     → Follows p ws g items (Done b (record st { column = e; within = within }))
-spaced_follows p [] g b items st e within same w s = (
+spaced_follows p [] g b st e within same w s = (
   with_gap SameLine Spacing p,
   [],
   g ++ b,
-  w,
-  s,
-  λ c later k. rw same (subst (λ (x : List ℕ). ShowsFrom (with_gap SameLine Spacing p) [] x later) (append_assoc g b c) k),
+  record { waits = w; stands = s },
+  record {
+    shows_all = λ c later k. rw same (subst (λ (x : List ℕ). ShowsFrom (with_gap SameLine Spacing p) [] x later) (append_assoc g b c) k);
+  },
 )
-spaced_follows p (v ∷ vs) g b items st e within same w s = (
+spaced_follows p (v ∷ vs) g b st e within same w s = (
   with_gap SameLine Spacing p,
   v ∷ vs,
   g ++ b,
-  w,
-  s,
-  λ c later k. rw same (subst (λ (x : List ℕ). ShowsFrom (with_gap SameLine Spacing p) (v ∷ vs) x later) (append_assoc g b c) k),
+  record { waits = w; stands = s },
+  record {
+    shows_all = λ c later k. rw same
+        (subst (λ (x : List ℕ). ShowsFrom (with_gap SameLine Spacing p) (v ∷ vs) x later) (append_assoc g b c) k);
+  },
 )
 
 -- a line end, where nothing waits
@@ -110,10 +122,8 @@ ended_follows p g b st e w s = (
   with_gap AnyLine LineEnd p,
   [],
   g ++ b,
-  w,
-  s,
-  λ c later k. subst (λ (x : List ℕ). ShowsFrom (with_gap AnyLine LineEnd p) [] x later)
-      (append_assoc g b c) k,
+  record { waits = w; stands = s },
+  record { shows_all = λ c later k. subst (λ (x : List ℕ). ShowsFrom (with_gap AnyLine LineEnd p) [] x later) (append_assoc g b c) k },
 )
 
 regroup : (g n s c : List ℕ) → g ++ ((n ++ s) ++ c) ≡ (g ++ n) ++ (s ++ c)
@@ -129,16 +139,18 @@ empty_on_line [] = tt
 empty_on_line (w ∷ ws) = λ ends. ends
 
 -- a text after its gap
-shown_follows : (p : Place) (ws : List Item) (g s : List ℕ) (items : List Item) (st : State) (e : Column) (within : Bool)
-    → items ≡ Shown s ∷ [] → AllShow st.pending ws → e.fresh ≡ false → e.indent ≡ 0 → e.padding ≡ 0 → Stands p ws g st.column
+shown_follows : {p : Place} {ws : List Item} {g : List ℕ} (s : List ℕ) {items : List Item} {st : State} (e : Column) (within : Bool)
+    → items ≡ Shown s ∷ [] → IsCommitted e → StandsIn p ws g st
     → Follows p ws g items (Done (spaces (gap st.column) ++ s) (record st { column = e; within = within }))
-shown_follows p ws g s items st e within same w f i n h = (
+shown_follows {p} {ws} {g} s {items} {st} e within same k h = (
   after_text,
   ws,
   [],
-  w,
-  (refl, empty_on_line ws, λ fresh. absurd (cc), (refl, i, n), tt),
-  λ c later k. rw same (text_from p ws g s c st.column later h k),
+  record {
+    waits = h.waits;
+    stands = (refl, empty_on_line ws, λ fresh. not_fresh k fresh, (refl, k.indent, k.padding), tt);
+  },
+  record { shows_all = λ c later m. rw same (text_from p ws g s c st.column later h.stands m) },
 )
 
 longer : (g n bs : List ℕ) (b : ℕ) (k : ℕ) → 0 < length (g ++ (n ++ (b ∷ bs))) + k
@@ -147,16 +159,16 @@ longer g n bs b k = omega (arith, length-append g (n ++ (b ∷ bs)), length-appe
 no_end_in_text : (n : ℕ) (s : List ℕ) → (EndsLine s → ⊥) → EndsLine (spaces n ++ s) → ⊥
 no_end_in_text n s h e = no_end_in (spaces n) s (spaces_end_none n) h e
 
-text_follows : (o : RenderOptions) (w : ℕ) (s : List ℕ) (items : List Item) (st : State) (p : Place) (ws : List Item) (g : List ℕ)
-    → TextShows s items → AllShow st.pending ws → Stands p ws g st.column → Follows p ws g items (lay_text o w s st)
-text_follows o w [] items st p ws g h n s = nothing_follows p ws g items st h n s
-text_follows o w (b ∷ bs) items st p ws g (inl e) n s =
-    shown_follows p ws g (b ∷ bs) items st (commit w st.column) (st.within && nat_le (commit w st.column).position o.width) e n
-    refl refl refl s
-text_follows o w (b ∷ bs) items st p ws g (inr h) n s =
+text_follows : (o : RenderOptions) (w : ℕ) (s : List ℕ) (items : List Item) {st : State} {p : Place} {ws : List Item} {g : List ℕ}
+    → TextShows s items → StandsIn p ws g st → Follows p ws g items (lay_text o w s st)
+text_follows o w [] items h s = nothing_follows h s
+text_follows o w (b ∷ bs) items {st} (inl e) s =
+    shown_follows (b ∷ bs) (commit w st.column) (st.within && nat_le (commit w st.column).position o.width) e
+    (commit_committed w st.column) s
+text_follows o w (b ∷ bs) items {st} {p} {ws} {g} (inr h) s =
     let new = spaces (gap st.column) ++ (b ∷ bs) in
-    spaced_follows p ws g new items st (commit w st.column) (st.within && nat_le (commit w st.column).position o.width) h.2 n
-    (spaced_stands p ws g new st.column (commit w st.column) s
+    spaced_follows p ws g new st (commit w st.column) (st.within && nat_le (commit w st.column).position o.width) h.2 s.waits
+    (spaced_stands p ws g new st.column (commit w st.column) s.stands
     (blank_both (spaces (gap st.column)) (b ∷ bs) (ink-spaces (gap st.column)) h.0)
     (no_end_in_text (gap st.column) (b ∷ bs) h.1) refl (longer g (spaces (gap st.column)) bs b 0))
 
@@ -164,15 +176,15 @@ text_follows o w (b ∷ bs) items st p ws g (inr h) n s =
 payload_column : (m : Metrics) → m.last_nonempty ≡ true → after_payload m ≡ commit m.last_width start
 payload_column m e = ap (λ (x : Bool). if x then commit m.last_width start else start) e
 
-payload_follows : (o : RenderOptions) (m : Metrics) (s : List ℕ) (items : List Item) (st : State) (p : Place) (ws : List Item) (g : List ℕ)
-    → PayloadShows m s items → AllShow st.pending ws → Stands p ws g st.column → Follows p ws g items (lay_payload o m s st)
-payload_follows o m s items st p ws g h n k =
+payload_follows : (o : RenderOptions) (m : Metrics) (s : List ℕ) (items : List Item) {st : State} {p : Place} {ws : List Item} {g : List ℕ}
+    → PayloadShows m s items → StandsIn p ws g st → Follows p ws g items (lay_payload o m s st)
+payload_follows o m s items {st} {p} {ws} {g} h k =
     let column = payload_column m h.2 in
     subst (λ (x : Bool). Follows p ws g items
     (Done ((if x then spaces (gap st.column) else []) ++ s)
     (record st { column = after_payload m; within = st.within && payload_fits o m st.column }))) (sym h.1)
-    (shown_follows p ws g s items st (after_payload m) (st.within && payload_fits o m st.column) h.0 n (rw column refl) (rw column refl)
-    (rw column refl) k)
+    (shown_follows s (after_payload m) (st.within && payload_fits o m st.column) h.0
+    (rw column (commit_committed m.last_width start)) k)
 
 -- ---- a break with nothing pending
 
@@ -205,46 +217,53 @@ either_follows : (p : Place) (ws : List Item) (g : List ℕ) (items : List Item)
 either_follows p ws g items true x y h k = h refl
 either_follows p ws g items false x y h k = k
 
-plain_follows : (o : RenderOptions) (d : Tree) (i : ℕ) (rest : List Entry) (st : State) (p : Place) (g : List ℕ) → AllShow st.pending []
-    → Stands p [] g st.column → Follows p [] g (ended ∷ []) (plain_break o d i rest st)
-plain_follows o d i rest st p g n s =
+plain_follows : (o : RenderOptions) (d : Tree) (i : ℕ) (rest : List Entry) {st : State} {p : Place} {g : List ℕ} → StandsIn p [] g st
+    → Follows p [] g (ended ∷ []) (plain_break o d i rest st)
+plain_follows o d i rest {st} {p} {g} s =
+    let blank_gap = stands_blank p [] g st.column s.stands in
     either_follows p [] g (ended ∷ []) (is_suppressed d st.column) (Done [] st) (lay_ending o o.indentation_policy (next_indent i rest) st)
-    (λ e. ended_follows p g [] st st.column n
+    (λ e. ended_follows p g [] st st.column s.waits
     (subst (λ (x : List ℕ). Stands (with_gap AnyLine LineEnd p) [] x st.column) (sym (append-nil g))
-    (ended_stands p g st.column (stands_blank p [] g st.column s) (fresh_ended p [] g st.column (suppressed_fresh d st.column e) s))))
-    (ending_follows o o.indentation_policy (next_indent i rest) st p g n (stands_blank p [] g st.column s))
+    (ended_stands p g st.column blank_gap (fresh_ended p [] g st.column (suppressed_fresh d st.column e) s.stands))))
+    (ending_follows o o.indentation_policy (next_indent i rest) st p g s.waits blank_gap)
 
 -- ---- one outcome after another
 
-follows-after : (p q : Place) (ws vs : List Item) (g h b : List ℕ) (before later : List Item) (o : Outcome)
-    → ((c : List ℕ) (more : List Item) → ShowsFrom q vs (h ++ c) more → ShowsFrom p ws (g ++ (b ++ c)) (before ++ more))
-    → Follows q vs h later o → Follows p ws g (before ++ later) (after_bytes b o)
-follows-after p q ws vs g h b before later (Done a st) k f = (
+follows-after : {p : Place} {ws : List Item} {g b : List ℕ} {before : List Item} {q : Place} {vs : List Item} {h : List ℕ}
+    (later : List Item) (o : Outcome) → Joins p ws g b before q vs h → Follows q vs h later o
+    → Follows p ws g (before ++ later) (after_bytes b o)
+follows-after {p} {ws} {g} {b} {before} later (Done a st) k f = (
   f.0,
   f.1,
   f.2,
   f.3,
-  f.4,
-  λ c more s. rw (append_assoc before later more, append_assoc b a c) (k (a ++ c) (later ++ more) (f.5 c more s)),
+  record {
+    shows_all = λ c more s. rw (append_assoc before later more, append_assoc b a c)
+        (k.shows_all (a ++ c) (later ++ more) (f.4.shows_all c more s));
+  },
 )
-follows-after p q ws vs g h b before later (Failed a) k f = tt
+follows-after later (Failed a) k f = tt
 
 -- what holds wherever items wait and a gap stands
-abbrev FollowsAlways : List Item → (State → Outcome) → Type 0
+abbrev pub FollowsAlways : List Item → (State → Outcome) → Type 0
 FollowsAlways later f =
-    (q : Place) (vs : List Item) (h : List ℕ) (u : State) → AllShow u.pending vs → Stands q vs h u.column → Follows q vs h later (f u)
+    (q : Place) (vs : List Item) (h : List ℕ) (u : State) → StandsIn q vs h u → Follows q vs h later (f u)
 
 follows-then : (p : Place) (ws : List Item) (g : List ℕ) (before later : List Item) (o : Outcome) (f : State → Outcome)
     → Follows p ws g before o → FollowsAlways later f → Follows p ws g (before ++ later) (and_then o f)
-follows-then p ws g before later (Done b st) f h k =
-    follows-after p h.0 ws h.1 g h.2 b before later (f st) h.5 (k h.0 h.1 h.2 st h.3 h.4)
+follows-then p ws g before later (Done b st) f h k = follows-after later (f st) h.4 (k h.0 h.1 h.2 st h.3)
 follows-then p ws g before later (Failed b) f h k = tt
 
 -- bytes that belong to the gap, in front of an outcome
 gap_then : (p : Place) (ws : List Item) (g n : List ℕ) (items : List Item) (o : Outcome) → Follows p ws (g ++ n) items o
     → Follows p ws g items (after_bytes n o)
-gap_then p ws g n items (Done b st) f =
-    (f.0, f.1, f.2, f.3, f.4, λ c more s. rw (append_assoc n b c, sym (append_assoc g n (b ++ c))) (f.5 c more s))
+gap_then p ws g n items (Done b st) f = (
+  f.0,
+  f.1,
+  f.2,
+  f.3,
+  record { shows_all = λ c more s. rw (append_assoc n b c, sym (append_assoc g n (b ++ c))) (f.4.shows_all c more s) },
+)
 gap_then p ws g n items (Failed b) f = tt
 
 -- what implies more
@@ -255,9 +274,10 @@ implied_follows p ws g xs items (Done b st) i f = (
   f.1,
   f.2,
   f.3,
-  f.4,
-  λ c more s. implied_from p ws (g ++ (b ++ c)) (xs ++ more) (items ++ more)
-      (implies_before more items xs i) (f.5 c more s),
+  record {
+    shows_all = λ c more s. implied_from p ws (g ++ (b ++ c)) (xs ++ more) (items ++ more) (implies_before more items xs i)
+        (f.4.shows_all c more s);
+  },
 )
 implied_follows p ws g xs items (Failed b) i f = tt
 
@@ -306,113 +326,139 @@ put_off p g i is st pending w s (inl ends) = (
   line_start,
   i ∷ is,
   [],
-  w,
-  (refl, (λ e. e), λ e. e),
-  λ c later k. inr (
-    may_end_at p [] g st.column s ends,
-    (g, c, stands_blank p [] g st.column s, ends, refl, wait_together is line_start i [] c later refl k),
-  ),
+  record { waits = w; stands = (refl, (λ e. e), λ e. e) },
+  record {
+    shows_all = λ c later k. inr (
+      may_end_at p [] g st.column s ends,
+      (g, c, stands_blank p [] g st.column s, ends, refl, wait_together is line_start i [] c later refl k),
+    );
+  },
 )
 put_off p g i is st pending w s (inr stays) = (
   same_line p,
   i ∷ is,
   g,
-  w,
-  same_line_stands p i i is is g st.column (waiting_stands p i is g st.column s stays),
-  λ c later k. inl (may_stay_at p [] g st.column s stays, wait_together is (same_line p) i [] (g ++ c) later (same_line_twice p) k),
+  record { waits = w; stands = same_line_stands p i i is is g st.column (waiting_stands p i is g st.column s stays) },
+  record {
+    shows_all = λ c later k.
+        inl (may_stay_at p [] g st.column s stays, wait_together is (same_line p) i [] (g ++ c) later (same_line_twice p) k);
+  },
 )
 
-suffix_follows : (p : Place) (ws : List Item) (g : List ℕ) (inner items : List Item) (d : Tree) (st : State) → shows d inner
-    → NoneIsLate inner → items ≡ map Late inner → AllShow st.pending ws → Stands p ws g st.column
+suffix_follows : {p : Place} (ws : List Item) {g : List ℕ} (inner : List Item) {items : List Item} (d : Tree) {st : State} → shows d inner
+    → NoneIsLate inner → items ≡ map Late inner → StandsIn p ws g st
     → Follows p ws g items (Done [] (record st { pending = st.pending ++ d ∷ [] }))
-suffix_follows p [] g [] items d st h n e w s =
-    nothing_follows p [] g items (record st { pending = st.pending ++ d ∷ [] }) e (one_more_shows st.pending [] d [] w h n) s
-suffix_follows p [] g (i ∷ is) items d st h n e w s =
-    rw e (put_off p g i is st (st.pending ++ d ∷ []) (one_more_shows st.pending [] d (i ∷ is) w h n) s (ends_or_not g))
-suffix_follows p (v ∷ vs) g [] items d st h n e w s =
-    nothing_follows p (v ∷ vs) g items (record st { pending = st.pending ++ d ∷ [] }) e
-    (subst (λ (xs : List Item). AllShow (st.pending ++ d ∷ []) (v ∷ xs)) (append-nil vs) (one_more_shows st.pending (v ∷ vs) d [] w h n)) s
-suffix_follows p (v ∷ vs) g (i ∷ is) items d st h n e w s = (
+suffix_follows [] [] d {st} h n e s =
+    nothing_follows e (record { waits = one_more_shows st.pending [] d [] s.waits h n; stands = s.stands })
+suffix_follows {p} [] {g} (i ∷ is) d {st} h n e s =
+    rw e (put_off p g i is st (st.pending ++ d ∷ []) (one_more_shows st.pending [] d (i ∷ is) s.waits h n) s.stands (ends_or_not g))
+suffix_follows (v ∷ vs) [] d {st} h n e s =
+    nothing_follows e (record {
+      waits = subst (λ (xs : List Item). AllShow (st.pending ++ d ∷ []) (v ∷ xs)) (append-nil vs)
+          (one_more_shows st.pending (v ∷ vs) d [] s.waits h n);
+      stands = s.stands;
+    })
+suffix_follows {p} (v ∷ vs) {g} (i ∷ is) d {st} h n e s = (
   same_line p,
   v ∷ (vs ++ i ∷ is),
   g,
-  one_more_shows st.pending (v ∷ vs) d (i ∷ is) w h n,
-  same_line_stands p v v vs (vs ++ i ∷ is) g st.column s,
-  λ c later k. rw e (inl (wait_together is (same_line p) v (vs ++ i ∷ []) (g ++ c) later (same_line_twice p)
-      (subst (λ (xs : List Item). ShowsFrom (same_line p) (v ∷ xs) (g ++ c) later) (sym (append_assoc vs (i ∷ []) is)) k))),
+  record {
+    waits = one_more_shows st.pending (v ∷ vs) d (i ∷ is) s.waits h n;
+    stands = same_line_stands p v v vs (vs ++ i ∷ is) g st.column s.stands;
+  },
+  record {
+    shows_all = λ c later k. rw e (inl (wait_together is (same_line p) v (vs ++ i ∷ []) (g ++ c) later (same_line_twice p)
+        (subst (λ (xs : List Item). ShowsFrom (same_line p) (v ∷ xs) (g ++ c) later) (sym (append_assoc vs (i ∷ []) is)) k)));
+  },
 )
 
 -- ---- documents
 
 -- breaks that end a line
-abbrev pub EndLines : Breaks → Type 0
-EndLines brk =
-    (d : Tree) (i : ℕ) (m : Mode) (rest : List Entry) (st : State) (p : Place) (ws : List Item) (g : List ℕ) → AllShow st.pending ws
-    → Stands p ws g st.column → Follows p ws g (ended ∷ []) (brk d i m rest st)
+pub record EndLines (brk : Breaks) : Type 0 where
+  pub follows : (d : Tree) (i : ℕ) (m : Mode) (rest : List Entry) → FollowsAlways (ended ∷ []) (brk d i m rest)
 
-pub lay_follows : (o : RenderOptions) (brk : Breaks) → EndLines brk → (d : Tree) (i : ℕ) (m : Mode) (rest : List Entry) (st : State)
-    (items : List Item) (p : Place) (ws : List Item) (g : List ℕ) → shows d items → AllShow st.pending ws → Stands p ws g st.column
+pub lay_follows : (o : RenderOptions) {brk : Breaks} → EndLines brk → (d : Tree) (i : ℕ) (m : Mode) (rest : List Entry) {st : State}
+    (items : List Item) {p : Place} {ws : List Item} {g : List ℕ} → shows d items → StandsIn p ws g st
     → Follows p ws g items (lay o brk d i m rest st)
 unfolding lay
-lay_follows o brk k Nil i m rest st items p ws g h n s = nothing_follows p ws g items st h n s
-lay_follows o brk k Fail i m rest st items p ws g h n s = tt
-lay_follows o brk k (Text x) i m rest st items p ws g h n s = text_follows o (length x) x items st p ws g h n s
-lay_follows o brk k (TextWithLen w x) i m rest st items p ws g h n s = text_follows o w x items st p ws g h n s
-lay_follows o brk k (MultilineText x) i Break rest st items p ws g h n s = payload_follows o (metrics x) x items st p ws g h n s
-lay_follows o brk k (MultilineText x) i Flat rest st items p ws g h n s = tt
-lay_follows o brk k WeakSpace i m rest st items p ws g h n s =
-    spaced_follows p ws g [] items st (blank st.column) st.within h n (rw (append-nil g) (blank_stands p ws g st.column s))
-lay_follows o brk k HardLine i Break rest st items p ws g h n s = rw h (k HardLine i Break rest st p ws g n s)
-lay_follows o brk k HardLine i Flat rest st items p ws g h n s = tt
-lay_follows o brk k WeakLine i m rest st items p ws g h n s = rw h (k WeakLine i m rest st p ws g n s)
-lay_follows o brk k (Append x y) i m rest st items p ws g h n s =
+lay_follows o k Nil i m rest items h s = nothing_follows h s
+lay_follows o k Fail i m rest items h s = tt
+lay_follows o k (Text x) i m rest items h s = text_follows o (length x) x items h s
+lay_follows o k (TextWithLen w x) i m rest items h s = text_follows o w x items h s
+lay_follows o k (MultilineText x) i Break rest items h s = payload_follows o (metrics x) x items h s
+lay_follows o k (MultilineText x) i Flat rest items h s = tt
+lay_follows o k WeakSpace i m rest {st} items {p} {ws} {g} h s =
+    spaced_follows p ws g [] st (blank st.column) st.within h s.waits
+    (rw (append-nil g) (blank_stands p ws g st.column s.stands))
+lay_follows o k HardLine i Break rest {st} items {p} {ws} {g} h s = rw h (k.follows HardLine i Break rest p ws g st s)
+lay_follows o k HardLine i Flat rest items h s = tt
+lay_follows o k WeakLine i m rest {st} items {p} {ws} {g} h s = rw h (k.follows WeakLine i m rest p ws g st s)
+lay_follows o {brk} k (Append x y) i m rest {st} items {p} {ws} {g} h s =
     rw h.4 (follows-then p ws g h.0 h.1 (lay o brk x i m (entry i y ∷ rest) st) (λ z. lay o brk y i m rest z)
-    (lay_follows o brk k x i m (entry i y ∷ rest) st h.0 p ws g h.2 n s)
-    (λ q vs e z waits stands. lay_follows o brk k y i m rest z h.1 q vs e h.3 waits stands))
-lay_follows o brk k (LineSuffix d) i m rest st items p ws g h n s = suffix_follows p ws g h.0 items d st h.1 h.2 h.3 n s
-lay_follows o brk k (Nest j d) i m rest st items p ws g h n s = lay_follows o brk k d (nested i j) m rest st items p ws g h n s
-lay_follows o brk k (DedentToRoot d) i m rest st items p ws g h n s = lay_follows o brk k d 0 m rest st items p ws g h n s
-lay_follows o brk k (Align d) i m rest st items p ws g h n s = lay_follows o brk k d (prospective st.column) m rest st items p ws g h n s
-lay_follows o brk k ExpandParent i m rest st items p ws g h n s = nothing_follows p ws g items st h n s
-lay_follows o brk k (Flatten d) i m rest st items p ws g h n s = lay_follows o brk k d i Flat rest st items p ws g h n s
-lay_follows o brk k (BreakOrFlat x y) i Break rest st items p ws g h n s =
-    implied_follows p ws g h.0 items (lay o brk x i Break rest st) h.4 (lay_follows o brk k x i Break rest st h.0 p ws g h.2 n s)
-lay_follows o brk k (BreakOrFlat x y) i Flat rest st items p ws g h n s =
-    implied_follows p ws g h.1 items (lay o brk y i Flat rest st) h.5 (lay_follows o brk k y i Flat rest st h.1 p ws g h.3 n s)
-lay_follows o brk k (Group d) i m rest st items p ws g h n s =
-    lay_follows o brk k d i (by_mode m (if probe o d i Flat rest st then Flat else Break) Flat) rest st items p ws g h n s
-lay_follows o brk k (Union x y) i Break rest st items p ws g h n s =
-    holds-accept (Follows p ws g items) (λ b z was e. e) o st.within (lay o brk x i Break rest (in_trial st)) (lay o brk y i Break rest st)
+    (lay_follows o k x i m (entry i y ∷ rest) h.0 h.2 s)
+    (λ q vs e z stands. lay_follows o k y i m rest h.1 h.3 stands))
+lay_follows o k (LineSuffix d) i m rest items {p} {ws} h s = suffix_follows ws h.0 d h.1 h.2 h.3 s
+lay_follows o k (Nest j d) i m rest items h s = lay_follows o k d (nested i j) m rest items h s
+lay_follows o k (DedentToRoot d) i m rest items h s = lay_follows o k d 0 m rest items h s
+lay_follows o k (Align d) i m rest {st} items h s = lay_follows o k d (prospective st.column) m rest items h s
+lay_follows o k ExpandParent i m rest items h s = nothing_follows h s
+lay_follows o k (Flatten d) i m rest items h s = lay_follows o k d i Flat rest items h s
+lay_follows o {brk} k (BreakOrFlat x y) i Break rest {st} items {p} {ws} {g} h s =
+    implied_follows p ws g h.0 items (lay o brk x i Break rest st) h.4 (lay_follows o k x i Break rest h.0 h.2 s)
+lay_follows o {brk} k (BreakOrFlat x y) i Flat rest {st} items {p} {ws} {g} h s =
+    implied_follows p ws g h.1 items (lay o brk y i Flat rest st) h.5 (lay_follows o k y i Flat rest h.1 h.3 s)
+lay_follows o k (Group d) i m rest {st} items h s =
+    lay_follows o k d i (by_mode m (if probe o d i Flat rest st then Flat else Break) Flat) rest items h s
+lay_follows o {brk} k (Union x y) i Break rest {st} items {p} {ws} {g} h s =
+    holds-accept (Follows p ws g items) (λ b z was e. (e.0, e.1, e.2, record { waits = e.3.waits; stands = e.3.stands }, e.4)) o st.within
+    (lay o brk x i Break rest (in_trial st)) (lay o brk y i Break rest st)
     (implied_follows p ws g h.0 items (lay o brk x i Break rest (in_trial st)) h.4
-    (lay_follows o brk k x i Break rest (in_trial st) h.0 p ws g h.2 n s))
-    (implied_follows p ws g h.1 items (lay o brk y i Break rest st) h.5 (lay_follows o brk k y i Break rest st h.1 p ws g h.3 n s))
-lay_follows o brk k (Union x y) i Flat rest st items p ws g h n s =
-    implied_follows p ws g h.0 items (lay o brk x i Flat rest st) h.4 (lay_follows o brk k x i Flat rest st h.0 p ws g h.2 n s)
-lay_follows o brk k (PartialUnion x y) i Break rest st items p ws g h n s =
+    (lay_follows o k x i Break rest h.0 h.2 (record { waits = s.waits; stands = s.stands })))
+    (implied_follows p ws g h.1 items (lay o brk y i Break rest st) h.5 (lay_follows o k y i Break rest h.1 h.3 s))
+lay_follows o {brk} k (Union x y) i Flat rest {st} items {p} {ws} {g} h s =
+    implied_follows p ws g h.0 items (lay o brk x i Flat rest st) h.4 (lay_follows o k x i Flat rest h.0 h.2 s)
+lay_follows o {brk} k (PartialUnion x y) i Break rest {st} items {p} {ws} {g} h s =
     holds-either (Follows p ws g items) (probe o x i Break rest st) (lay o brk x i Break rest st) (lay o brk y i Break rest st)
-    (implied_follows p ws g h.0 items (lay o brk x i Break rest st) h.4 (lay_follows o brk k x i Break rest st h.0 p ws g h.2 n s))
-    (implied_follows p ws g h.1 items (lay o brk y i Break rest st) h.5 (lay_follows o brk k y i Break rest st h.1 p ws g h.3 n s))
-lay_follows o brk k (PartialUnion x y) i Flat rest st items p ws g h n s =
-    implied_follows p ws g h.0 items (lay o brk x i Flat rest st) h.4 (lay_follows o brk k x i Flat rest st h.0 p ws g h.2 n s)
-lay_follows o brk k (OnColumn test x y) i m rest st items p ws g h n s =
+    (implied_follows p ws g h.0 items (lay o brk x i Break rest st) h.4 (lay_follows o k x i Break rest h.0 h.2 s))
+    (implied_follows p ws g h.1 items (lay o brk y i Break rest st) h.5 (lay_follows o k y i Break rest h.1 h.3 s))
+lay_follows o {brk} k (PartialUnion x y) i Flat rest {st} items {p} {ws} {g} h s =
+    implied_follows p ws g h.0 items (lay o brk x i Flat rest st) h.4 (lay_follows o k x i Flat rest h.0 h.2 s)
+lay_follows o {brk} k (OnColumn test x y) i m rest {st} items {p} {ws} {g} h s =
     holds-either (Follows p ws g items) (column_holds test (prospective st.column) i) (lay o brk x i m rest st) (lay o brk y i m rest st)
-    (implied_follows p ws g h.0 items (lay o brk x i m rest st) h.4 (lay_follows o brk k x i m rest st h.0 p ws g h.2 n s))
-    (implied_follows p ws g h.1 items (lay o brk y i m rest st) h.5 (lay_follows o brk k y i m rest st h.1 p ws g h.3 n s))
-lay_follows o brk k (OnNesting test x y) i m rest st items p ws g h n s =
+    (implied_follows p ws g h.0 items (lay o brk x i m rest st) h.4 (lay_follows o k x i m rest h.0 h.2 s))
+    (implied_follows p ws g h.1 items (lay o brk y i m rest st) h.5 (lay_follows o k y i m rest h.1 h.3 s))
+lay_follows o {brk} k (OnNesting test x y) i m rest {st} items {p} {ws} {g} h s =
     holds-either (Follows p ws g items) (nesting_holds test i) (lay o brk x i m rest st) (lay o brk y i m rest st)
-    (implied_follows p ws g h.0 items (lay o brk x i m rest st) h.4 (lay_follows o brk k x i m rest st h.0 p ws g h.2 n s))
-    (implied_follows p ws g h.1 items (lay o brk y i m rest st) h.5 (lay_follows o brk k y i m rest st h.1 p ws g h.3 n s))
+    (implied_follows p ws g h.0 items (lay o brk x i m rest st) h.4 (lay_follows o k x i m rest h.0 h.2 s))
+    (implied_follows p ws g h.1 items (lay o brk y i m rest st) h.5 (lay_follows o k y i m rest h.1 h.3 s))
 
 -- ---- a break with documents pending
 
-each_follows : (o : RenderOptions) (brk : Breaks) → EndLines brk → (ds : List Tree) (i : ℕ) (m : Mode) (rest : List Entry)
+-- where the gap is written and the pending documents are taken, the written gap stands
+flushed_stands : (o : RenderOptions) (p : Place) (g : List ℕ) (st : State) → Stands p [] g st.column
+    → StandsIn p [] (g ++ spaces (gap st.column)) (flushed o st)
+flushed_stands o p g st s = record {
+  waits = refl;
+  stands = committed_stands p g st.column (commit 0 st.column) s (commit_committed 0 st.column);
+}
+
+-- the items that waited come on the line of the last text
+flushed_late : (o : RenderOptions) (p : Place) (w : Item) (ws : List Item) (g : List ℕ) (st : State) → Stands p (w ∷ ws) g st.column
+    → StandsIn (late_place p) [] (g ++ spaces (gap st.column)) (flushed o st)
+flushed_late o p w ws g st s = record {
+  waits = refl;
+  stands = late_stands p w ws g st.column (commit 0 st.column) s (commit_committed 0 st.column);
+}
+
+each_follows : (o : RenderOptions) {brk : Breaks} → EndLines brk → (ds : List Tree) (i : ℕ) (m : Mode) (rest : List Entry)
     (items : List Item) → AllShow ds items → FollowsAlways items (λ u. lay_each o brk ds i m rest u)
 unfolding lay_each
-each_follows o brk k [] i m rest items h = λ q vs g u n s. nothing_follows q vs g items u h n s
-each_follows o brk k (d ∷ ds) i m rest items h = λ q vs g u n s.
+each_follows o k [] i m rest items h = λ q vs g u s. nothing_follows h s
+each_follows o {brk} k (d ∷ ds) i m rest items h = λ q vs g u s.
     rw h.5 (follows-then q vs g h.0 h.1 (lay o brk d i m (entries i ds ++ rest) u) (λ z. lay_each o brk ds i m rest z)
-    (lay_follows o brk k d i m (entries i ds ++ rest) u h.0 q vs g h.2 n s)
-    (each_follows o brk k ds i m rest h.1 h.4))
+    (lay_follows o k d i m (entries i ds ++ rest) h.0 h.2 s)
+    (each_follows o k ds i m rest h.1 h.4))
 
 -- after a text, items are shown one after the other, none of the first of which is late
 shown_then : (later : List ℕ → Type 0) (more : List Item)
@@ -465,44 +511,45 @@ again_follows p w ws g n (Done b st) none f = (
   f.1,
   f.2,
   f.3,
-  f.4,
-  λ c more s. late_may_come p w ws (g ++ ((n ++ b) ++ c)) more none
-      (subst (λ (x : List ℕ). ShowsFrom (late_place p) [] x ((w ∷ ws) ++ (ended ∷ more))) (regrouped g n b c)
-      (subst (λ (xs : List Item). ShowsFrom (late_place p) [] ((g ++ n) ++ (b ++ c)) xs) (append_assoc (w ∷ ws) (ended ∷ []) more)
-      (f.5 c more s))),
+  record {
+    shows_all = λ c more s. late_may_come p w ws (g ++ ((n ++ b) ++ c)) more none
+        (subst (λ (x : List ℕ). ShowsFrom (late_place p) [] x ((w ∷ ws) ++ (ended ∷ more))) (regrouped g n b c)
+        (subst (λ (xs : List Item). ShowsFrom (late_place p) [] ((g ++ n) ++ (b ++ c)) xs) (append_assoc (w ∷ ws) (ended ∷ []) more)
+        (f.4.shows_all c more s)));
+  },
 )
 again_follows p w ws g n (Failed b) none f = tt
 
-break_follows : (o : RenderOptions) (brk : Breaks) → EndLines brk → (ps : List Tree) (d : Tree) (i : ℕ) (m : Mode) (rest : List Entry)
-    (st : State) (p : Place) (ws : List Item) (g : List ℕ) → AllShow ps ws → ps ≡ st.pending → Stands p ws g st.column
+break_follows : (o : RenderOptions) {brk : Breaks} → EndLines brk → (ps : List Tree) (d : Tree) (i : ℕ) (m : Mode) (rest : List Entry)
+    {st : State} {p : Place} (ws : List Item) {g : List ℕ} → AllShow ps ws → StandsIn p ws g st
     → Follows p ws g (ended ∷ []) (break_with o brk ps d i m rest st)
-break_follows o brk k [] d i m rest st p ws g h e s =
+break_follows o k [] d i m rest {st} {p} ws {g} h s =
     subst (λ (vs : List Item). Follows p vs g (ended ∷ []) (plain_break o d i rest st)) (sym h)
-    (plain_follows o d i rest st p g (subst (λ (ps : List Tree). AllShow ps []) e refl)
-    (subst (λ (vs : List Item). Stands p vs g st.column) h s))
-break_follows o brk k (t ∷ ts) d i m rest st p [] g h e s =
+    (plain_follows o d i rest (subst (λ (vs : List Item). StandsIn p vs g st) h s))
+break_follows o {brk} k (t ∷ ts) d i m rest {st} {p} [] {g} h s =
     gap_then p [] g (spaces (gap st.column)) (ended ∷ [])
-    (and_then (lay_each o brk (t ∷ ts) i m (entry i d ∷ rest) (flushed o st)) (λ u. brk d i m rest u))
+    (and_then (lay_each o brk (t ∷ ts) i m (entry i d ∷ rest) (flushed o st)) (brk d i m rest))
     (follows-then p [] (g ++ spaces (gap st.column)) [] (ended ∷ []) (lay_each o brk (t ∷ ts) i m (entry i d ∷ rest) (flushed o st))
-    (λ u. brk d i m rest u)
-    (each_follows o brk k (t ∷ ts) i m (entry i d ∷ rest) [] h p [] (g ++ spaces (gap st.column)) (flushed o st) refl
-    (committed_stands p g st.column (commit 0 st.column) s refl refl refl))
-    (λ q vs x u n z. k d i m rest u q vs x n z))
-break_follows o brk k (t ∷ ts) d i m rest st p (w ∷ ws) g h e s =
+    (brk d i m rest)
+    (each_follows o k (t ∷ ts) i m (entry i d ∷ rest) [] h p [] (g ++ spaces (gap st.column)) (flushed o st)
+    (flushed_stands o p g st s.stands))
+    (k.follows d i m rest))
+break_follows o {brk} k (t ∷ ts) d i m rest {st} {p} (w ∷ ws) {g} h s =
     again_follows p w ws g (spaces (gap st.column))
-    (and_then (lay_each o brk (t ∷ ts) i m (entry i d ∷ rest) (flushed o st)) (λ u. brk d i m rest u))
+    (and_then (lay_each o brk (t ∷ ts) i m (entry i d ∷ rest) (flushed o st)) (brk d i m rest))
     (none_waits_late (t ∷ ts) (w ∷ ws) h)
     (follows-then (late_place p) [] (g ++ spaces (gap st.column)) (w ∷ ws) (ended ∷ [])
-    (lay_each o brk (t ∷ ts) i m (entry i d ∷ rest) (flushed o st)) (λ u. brk d i m rest u)
-    (each_follows o brk k (t ∷ ts) i m (entry i d ∷ rest) (w ∷ ws) h (late_place p) [] (g ++ spaces (gap st.column)) (flushed o st) refl
-    (late_stands p w ws g st.column (commit 0 st.column) s refl refl refl))
-    (λ q vs x u n z. k d i m rest u q vs x n z))
+    (lay_each o brk (t ∷ ts) i m (entry i d ∷ rest) (flushed o st)) (brk d i m rest)
+    (each_follows o k (t ∷ ts) i m (entry i d ∷ rest) (w ∷ ws) h (late_place p) [] (g ++ spaces (gap st.column)) (flushed o st)
+    (flushed_late o p w ws g st s.stands))
+    (k.follows d i m rest))
 
 breaks_end_lines : (o : RenderOptions) (n : ℕ) → EndLines (breaks o n)
 unfolding breaks
-breaks_end_lines o zero = λ d i m rest st p ws g h s. tt
-breaks_end_lines o (suc n) = λ d i m rest st p ws g h s.
-    break_follows o (breaks o n) (breaks_end_lines o n) st.pending d i m rest st p ws g h refl s
+breaks_end_lines o zero = record { follows = λ d i m rest p ws g st s. tt }
+breaks_end_lines o (suc n) = record {
+  follows = λ d i m rest p ws g st s. break_follows o (breaks_end_lines o n) st.pending d i m rest ws s.waits s;
+}
 
 -- ---- the end of the document
 
@@ -513,18 +560,16 @@ EndsWith p ws g items (Failed b) = ⊤
 
 -- it ends so wherever items wait and a gap stands
 abbrev EndsAlways : (State → Outcome) → Type 0
-EndsAlways f = (q : Place) (vs : List Item) (h : List ℕ) (u : State) → AllShow u.pending vs → Stands q vs h u.column
-    → EndsWith q vs h [] (f u)
+EndsAlways f = (q : Place) (vs : List Item) (h : List ℕ) (u : State) → StandsIn q vs h u → EndsWith q vs h [] (f u)
 
-ends-after : (p q : Place) (ws vs : List Item) (g h b : List ℕ) (before : List Item) (o : Outcome)
-    → ((c : List ℕ) (more : List Item) → ShowsFrom q vs (h ++ c) more → ShowsFrom p ws (g ++ (b ++ c)) (before ++ more))
-    → EndsWith q vs h [] o → EndsWith p ws g (before ++ []) (after_bytes b o)
-ends-after p q ws vs g h b before (Done a st) k e = k a [] e
-ends-after p q ws vs g h b before (Failed a) k e = tt
+ends-after : {p : Place} {ws : List Item} {g b : List ℕ} {before : List Item} {q : Place} {vs : List Item} {h : List ℕ} (o : Outcome)
+    → Joins p ws g b before q vs h → EndsWith q vs h [] o → EndsWith p ws g (before ++ []) (after_bytes b o)
+ends-after (Done a st) k e = k.shows_all a [] e
+ends-after (Failed a) k e = tt
 
 ends-then : (p : Place) (ws : List Item) (g : List ℕ) (before : List Item) (o : Outcome) (f : State → Outcome) → Follows p ws g before o
     → EndsAlways f → EndsWith p ws g (before ++ []) (and_then o f)
-ends-then p ws g before (Done b st) f h k = ends-after p h.0 ws h.1 g h.2 b before (f st) h.5 (k h.0 h.1 h.2 st h.3 h.4)
+ends-then p ws g before (Done b st) f h k = ends-after (f st) h.4 (k h.0 h.1 h.2 st h.3)
 ends-then p ws g before (Failed b) f h k = tt
 
 gap_ends : (p : Place) (g n : List ℕ) (o : Outcome) → EndsWith p [] (g ++ n) [] o → EndsWith p [] g [] (after_bytes n o)
@@ -538,36 +583,37 @@ late_ends p w ws g n (Done b st) none e =
     (subst (λ (x : List ℕ). ShowsFrom (late_place p) [] x ((w ∷ ws) ++ [])) (append_assoc g n b) e)
 late_ends p w ws g n (Failed b) none e = tt
 
-end_shows : (o : RenderOptions) (brk : Breaks) (again : State → Outcome) → EndLines brk → EndsAlways again
-    → (ps : List Tree) (st : State) (p : Place) (ws : List Item) (g : List ℕ) → AllShow ps ws → Stands p ws g st.column
-    → EndsWith p ws g [] (end_with o brk again ps st)
-end_shows o brk again k f [] st p [] g h s =
-    end_stands p (g ++ []) st.column (subst (λ (x : List ℕ). Stands p [] x st.column) (sym (append-nil g)) s)
-end_shows o brk again k f [] st p (w ∷ ws) g h s = absurd (cc)
-end_shows o brk again k f (t ∷ ts) st p [] g h s =
+end_shows : (o : RenderOptions) {brk : Breaks} (again : State → Outcome) → EndLines brk → EndsAlways again → (ps : List Tree) {st : State}
+    {p : Place} (ws : List Item) {g : List ℕ} → AllShow ps ws → StandsIn p ws g st → EndsWith p ws g [] (end_with o brk again ps st)
+end_shows o again k f [] {st} {p} [] {g} h s =
+    end_stands p (g ++ []) st.column (subst (λ (x : List ℕ). Stands p [] x st.column) (sym (append-nil g)) s.stands)
+end_shows o again k f [] (w ∷ ws) h s = absurd (cc)
+end_shows o {brk} again k f (t ∷ ts) {st} {p} [] {g} h s =
     gap_ends p g (spaces (gap st.column)) (and_then (lay_each o brk (t ∷ ts) 0 Break [] (flushed o st)) again)
     (ends-then p [] (g ++ spaces (gap st.column)) [] (lay_each o brk (t ∷ ts) 0 Break [] (flushed o st)) again
-    (each_follows o brk k (t ∷ ts) 0 Break [] [] h p [] (g ++ spaces (gap st.column)) (flushed o st) refl
-    (committed_stands p g st.column (commit 0 st.column) s refl refl refl)) f)
-end_shows o brk again k f (t ∷ ts) st p (w ∷ ws) g h s =
+    (each_follows o k (t ∷ ts) 0 Break [] [] h p [] (g ++ spaces (gap st.column)) (flushed o st)
+    (flushed_stands o p g st s.stands)) f)
+end_shows o {brk} again k f (t ∷ ts) {st} {p} (w ∷ ws) {g} h s =
     late_ends p w ws g (spaces (gap st.column)) (and_then (lay_each o brk (t ∷ ts) 0 Break [] (flushed o st)) again)
     (none_waits_late (t ∷ ts) (w ∷ ws) h)
     (ends-then (late_place p) [] (g ++ spaces (gap st.column)) (w ∷ ws) (lay_each o brk (t ∷ ts) 0 Break [] (flushed o st)) again
-    (each_follows o brk k (t ∷ ts) 0 Break [] (w ∷ ws) h (late_place p) [] (g ++ spaces (gap st.column)) (flushed o st) refl
-    (late_stands p w ws g st.column (commit 0 st.column) s refl refl refl)) f)
+    (each_follows o k (t ∷ ts) 0 Break [] (w ∷ ws) h (late_place p) [] (g ++ spaces (gap st.column)) (flushed o st)
+    (flushed_late o p w ws g st s.stands)) f)
 
-finish_ends : (o : RenderOptions) (brk : Breaks) → EndLines brk → (n : ℕ) → EndsAlways (λ u. finish o brk n u)
+finish_ends : (o : RenderOptions) {brk : Breaks} → EndLines brk → (n : ℕ) → EndsAlways (λ u. finish o brk n u)
 unfolding finish
-finish_ends o brk k zero = λ q vs h u w s. tt
-finish_ends o brk k (suc n) = λ q vs h u w s. end_shows o brk (λ z. finish o brk n z) k (finish_ends o brk k n) u.pending u q vs h w s
+finish_ends o k zero = λ q vs h u s. tt
+finish_ends o {brk} k (suc n) = λ q vs h u s.
+    end_shows o (λ z. finish o brk n z) k (finish_ends o k n) u.pending vs s.waits s
 
 by_ends : (o : RenderOptions) (n : ℕ) (d : Tree) (items : List Item) → shows d items
     → EndsWith at_start [] [] (items ++ []) (layout_by o n d)
 unfolding layout_by
 by_ends o n d items h =
     ends-then at_start [] [] items (lay o (breaks o n) d 0 Break [] initial) (λ u. finish o (breaks o n) n u)
-    (lay_follows o (breaks o n) (breaks_end_lines o n) d 0 Break [] initial items at_start [] [] h refl (refl, tt, (refl, refl, refl)))
-    (finish_ends o (breaks o n) (breaks_end_lines o n) n)
+    (lay_follows o (breaks_end_lines o n) d 0 Break [] {st = initial} items {p = at_start} {ws = []} {g = []} h
+    (record { waits = refl; stands = (refl, tt, (refl, refl, refl)) }))
+    (finish_ends o (breaks_end_lines o n) n)
 
 whole_shown : (x : Outcome) (items : List Item) (b : List ℕ) → EndsWith at_start [] [] items x → bytes_of x ≡ Whole b → AreShown b items
 whole_shown (Done a st) items b h e = let same : a ≡ b = cc in rw same at h
