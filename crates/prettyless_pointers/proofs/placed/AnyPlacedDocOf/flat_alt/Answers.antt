@@ -1,5 +1,0 @@
-use Rattle.std.proofs.Common.{rules}
-use Rattle.prettyless_pointers.proofs.placed.AnyPlacedDocOf.flat_alt.Goals as goal
-
-pub returns : goal.returns
-returns g c = search rules depth 1
