@@ -91,10 +91,10 @@ flat_one_more gap t xs b s u w g h later = λ z a v k.
     (later (Append (Append z gap) t) ((a ++ 32 ∷ []) ++ b) ((v + 1) + u) (both_flat (both_flat k g) h))
 
 -- a list: its first member, and those after it
-list_flat : (fills : Bool) (a z k : ℕ) (t : Tree) (xs : List Tree) (b s : List ℕ) (u w : ℕ) → AreSome (t ∷ xs) → IsFlat t b u
-    → FlatAfter (gap_in fills) xs s w
+list_flat : {t : Tree} {b : List ℕ} {u : ℕ} (fills : Bool) (a z k : ℕ) (xs : List Tree) (s : List ℕ) (w : ℕ) → AreSome (t ∷ xs)
+    → IsFlat t b u → FlatAfter (gap_in fills) xs s w
     → IsFlat (listed fills (Text (a ∷ [])) (t ∷ xs) (Text (z ∷ [])) (pos k)) (a ∷ (b ++ (s ++ z ∷ []))) (2 + (u + w))
-list_flat fills a z k t xs b s u w some h later =
+list_flat {t} {b} {u} fills a z k xs s w some h later =
     let items = chain (gap_in fills) t xs in
     let one_flat : (x : ℕ) → IsFlat (Text (x ∷ [])) (x ∷ []) 1 = λ x. record { inline = tt; bytes = refl; columns = refl } in
     let no_flat : IsFlat line_ [] 0 = record { inline = tt; bytes = refl; columns = refl } in
@@ -224,7 +224,7 @@ mutual
       let fills = style.fill && are_numbers (item v vs) in
       let first = marked_flat (tree style v) vs _ _ (value_some style v h.0) (value_flat style v h.0) in
       let all =
-      list_flat fills 91 93 style.indent (item_marked (tree style v) vs) (item_trees style vs) _ _ _ _ some first
+      list_flat fills 91 93 style.indent (item_trees style vs) _ _ some first
       (items_flat style fills vs h.1) in
       let w = width_joined (spelled v) (more_items vs) in
       let m = more_width vs in
@@ -244,8 +244,7 @@ mutual
       member_marked_flat (append (key_tree k) (tree style v)) ms _ _
       (append_some (key_tree k) (tree style v) (key_some k e) (value_some style v h.1)) pair in
       let all =
-      list_flat fills 123 125 style.indent (member_marked (append (key_tree k) (tree style v)) ms) (member_trees style ms) _ _ _ _ some
-      first (members_flat style fills ms h.2) in
+      list_flat fills 123 125 style.indent (member_trees style ms) _ _ some first (members_flat style fills ms h.2) in
       let w = width_joined (spelled v) (more_members ms) in
       let j = width_joined (k ∷ (58 ∷ []) ∷ []) (spelled v ++ more_members ms) in
       let m = more_members_width ms in
