@@ -32,7 +32,7 @@ use Rattle.json_formatter.proofs.ValueTrees.{tree, item_trees, item_marked, form
 
 -- a document is laid so before a line end, and ends at column c
 record LaysTo (style : Style) (n : ℕ) (t : Tree) (j : ℕ) (st : State) (bytes : List ℕ) (c : ℕ) : Type 0 where
-  lays : (rest : List Entry) → Follows style.width rest 0 → Writes (in_break style n t j rest st) bytes (At c)
+  written : (rest : List Entry) → Follows style.width rest 0 → Writes (in_break style n t j rest st) bytes (At c)
 
 -- what comes first in a document comes first where it follows
 appended_follows : (width i k : ℕ) (l r : Tree) (rest : List Entry) → Follows width (entry i l ∷ entry i r ∷ rest) k
@@ -61,12 +61,12 @@ number_lays : (style : Style) (n j c : ℕ) (s : List ℕ) (vs : Items) (u : Sta
     → LaysTo style n (item_marked (text s) vs) j u (s ++ item_comma vs) (saturating_add c (text_width s + length (item_comma vs)))
 unfolding lay
 number_lays style n j c s no_items u e h = record {
-  lays = λ rest f.
+  written = λ rest f.
       rw (plus_nothing (text_width s))
       (writes_same refl (append-nil s) (word_lays (options_at style.width) (breaks (options_at style.width) (suc n)) s j c rest u e h));
 }
 number_lays style n j c s (item v vs) u e h = record {
-  lays = λ rest f.
+  written = λ rest f.
       rw (append_is (text s) (Text (44 ∷ [])) (text_some s e) tt, ← (sum_twice c (text_width s) 1))
       (then_writes
       (word_lays (options_at style.width) (breaks (options_at style.width) (suc n)) s j c (entry j (Text (44 ∷ [])) ∷ rest) u e h)
@@ -108,14 +108,14 @@ one_more : {style : Style} {n j c : ℕ} {z : Tree} {b : List ℕ} {st : State} 
     (saturating_add (gap_end c j y) (text_width s + length (item_comma vs)))
 unfolding lay
 one_more {style} {n} {j} {c} {z} {b} {st} {y} s vs l e h fit = record {
-  lays = λ rest f.
+  written = λ rest f.
       let t = item_marked (text s) vs in
       let both =
       then_writes
-      (h.lays (entry j softline ∷ entry j t ∷ rest) (end_follows style.width (entry j softline ∷ entry j t ∷ rest) (λ d. refl)))
+      (h.written (entry j softline ∷ entry j t ∷ rest) (end_follows style.width (entry j softline ∷ entry j t ∷ rest) (λ d. refl)))
       (λ u r. gap_lays style n t rest l (record { at = r; follows = number_follows style.width j s vs rest e f }) fit) in
       writes_same refl (sym (append_assoc b (gap_bytes j y) (s ++ item_comma vs)))
-      (then_writes both (λ u r. (number_lays style n j (gap_end c j y) s vs u e r).lays rest f));
+      (then_writes both (λ u r. (number_lays style n j (gap_end c j y) s vs u e r).written rest f));
 }
 
 -- ---- numbers
@@ -141,7 +141,9 @@ filled_more style j c s vs false e fit =
 filled_lay : {style : Style} {n j : ℕ} {st : State} (vs : Items) {c : ℕ} {z : Tree} {b : List ℕ} → j ≤ greatest → are_numbers vs ≡ true
     → AreFormedItems vs → LaysTo style n z j st b c
     → Lays style n (chain softline z (item_trees style vs)) j st (b ++ filled_after style j c vs)
-filled_lay no_items {b = b} l e h before = λ rest f. writes_same refl (append-nil b) (writes_rested (before.lays rest f))
+filled_lay no_items {b = b} l e h before = record {
+  written = λ rest f. writes_same refl (append-nil b) (writes_rested (before.written rest f));
+}
 filled_lay {style} {n} {j} {st} (item (alone s) vs) {c} {z} {b} l e h before =
     let w = text_width s + length (item_comma vs) in
     let y = nat_le (saturating_add c (1 + w)) style.width in
