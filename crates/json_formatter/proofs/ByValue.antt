@@ -46,8 +46,9 @@ value_layout style v formed =
     let o = options_at style.width in
     let d = tree style v in
     let rested : Rested initial = record { pending = refl; indent = refl; padding = refl; within = omega arith } in
-    let written = value_lays style (size d) v formed 0 0 0 [] initial (omega arith) (rested, refl)
-    (end_follows style.width [] (λ c. refl)) in
+    let written =
+    value_lays style (size d) v formed 0 0 0 [] initial (omega arith)
+    (record { at = (rested, refl); follows = end_follows style.width [] (λ c. refl) }) in
     layout_ends o d (laid_value style 0 0 0 v) written.after
     (ap (λ (k : ℕ). lay o (breaks o k) d 0 Break [] initial) (one-more (size d)) ∙ written.done)
     written.state.pending

@@ -24,16 +24,15 @@ use Rattle.json_formatter.specs.Flat.{flat_line, flat_width}
 use Rattle.json_formatter.proofs.Chains.{append_is, chain, text_some}
 use Rattle.json_formatter.proofs.FlatTrees.{line_of, plus_nothing, width_of}
 use Rattle.json_formatter.proofs.LaidLists.{Lays, LaysLines, word_lays}
-use Rattle.json_formatter.proofs.LaidParts.{At, in_break, Writes, Follows, greatest, then_writes, writes_same, writes_rested, text_writes}
-use Rattle.json_formatter.proofs.LaidParts.{line_writes, end_follows, comma_follows, sum_twice, text_fits_as, word_follows}
+use Rattle.json_formatter.proofs.LaidParts.{At, StandsAt, in_break, Writes, Follows, greatest, then_writes, writes_same, writes_rested}
+use Rattle.json_formatter.proofs.LaidParts.{text_writes, line_writes, end_follows, comma_follows, sum_twice, text_fits_as, word_follows}
 use Rattle.json_formatter.proofs.ValueTrees.{tree, item_trees, item_marked, formed_plain}
 
 -- ---- one number
 
 -- a document is laid so before a line end, and ends at column c
-abbrev LaysTo : Style → ℕ → Tree → ℕ → State → List ℕ → ℕ → Type 0
-LaysTo style n t j st bytes c =
-    (rest : List Entry) → Follows style.width rest 0 → Writes (in_break style n t j rest st) bytes (At c)
+record LaysTo (style : Style) (n : ℕ) (t : Tree) (j : ℕ) (st : State) (bytes : List ℕ) (c : ℕ) : Type 0 where
+  written : (rest : List Entry) → Follows style.width rest 0 → Writes (in_break style n t j rest st) bytes (At c)
 
 -- what comes first in a document comes first where it follows
 appended_follows : (width i k : ℕ) (l r : Tree) (rest : List Entry) → Follows width (entry i l ∷ entry i r ∷ rest) k
@@ -61,14 +60,18 @@ number_follows width j s (item v vs) rest e h =
 number_lays : (style : Style) (n j c : ℕ) (s : List ℕ) (vs : Items) (u : State) → ends_word s ≡ false → At c u
     → LaysTo style n (item_marked (text s) vs) j u (s ++ item_comma vs) (saturating_add c (text_width s + length (item_comma vs)))
 unfolding lay
-number_lays style n j c s no_items u e h = λ rest f.
-    rw (plus_nothing (text_width s))
-    (writes_same refl (append-nil s) (word_lays (options_at style.width) (breaks (options_at style.width) (suc n)) s j c rest u e h))
-number_lays style n j c s (item v vs) u e h = λ rest f.
-    rw (append_is (text s) (Text (44 ∷ [])) (text_some s e) tt, ← (sum_twice c (text_width s) 1))
-    (then_writes
-    (word_lays (options_at style.width) (breaks (options_at style.width) (suc n)) s j c (entry j (Text (44 ∷ [])) ∷ rest) u e h)
-    (λ w r. text_writes (options_at style.width) 1 (saturating_add c (text_width s)) 44 [] w r))
+number_lays style n j c s no_items u e h = record {
+  written = λ rest f.
+      rw (plus_nothing (text_width s))
+      (writes_same refl (append-nil s) (word_lays (options_at style.width) (breaks (options_at style.width) (suc n)) s j c rest u e h));
+}
+number_lays style n j c s (item v vs) u e h = record {
+  written = λ rest f.
+      rw (append_is (text s) (Text (44 ∷ [])) (text_some s e) tt, ← (sum_twice c (text_width s) 1))
+      (then_writes
+      (word_lays (options_at style.width) (breaks (options_at style.width) (suc n)) s j c (entry j (Text (44 ∷ [])) ∷ rest) u e h)
+      (λ w r. text_writes (options_at style.width) 1 (saturating_add c (text_width s)) 44 [] w r));
+}
 
 -- ---- the gap before a number
 
@@ -82,36 +85,38 @@ gap_end c j true = saturating_add c 1
 gap_end c j false = j
 
 -- a space where the number fits after it with what follows, and else a line end
-gap_lays : (style : Style) (n j c k : ℕ) (t : Tree) (rest : List Entry) (u : State) (y : Bool) → j ≤ greatest → At c u
-    → Follows style.width (entry j t ∷ rest) k
+gap_lays : {j c k : ℕ} {u : State} {y : Bool} (style : Style) (n : ℕ) (t : Tree) (rest : List Entry) → j ≤ greatest
+    → StandsAt style.width c k (entry j t ∷ rest) u
     → nat_le (saturating_add c (1 + k)) style.width ≡ y
     → Writes (in_break style n softline j (entry j t ∷ rest) u) (gap_bytes j y) (At (gap_end c j y))
-gap_lays style n j c k t rest u true l h f e =
+gap_lays {j} {c} {u = u} {y = true} style n t rest l place e =
     writes_same
     (group_is_text (options_at style.width) (breaks (options_at style.width) (suc n)) line j Break (entry j t ∷ rest) u tt
-    (text_fits_as style 1 c k 32 [] (entry j t ∷ rest) u h f ∙ e))
-    refl (text_writes (options_at style.width) 1 c 32 [] u h)
-gap_lays style n j c k t rest u false l h f e =
+    (text_fits_as style 1 32 [] place ∙ e))
+    refl (text_writes (options_at style.width) 1 c 32 [] u place.at)
+gap_lays {j} {u = u} {y = false} style n t rest l place e =
     writes_same
     (unfit_is_broken (options_at style.width) (breaks (options_at style.width) (suc n)) line j (entry j t ∷ rest) u tt
-    (text_fits_as style 1 c k 32 [] (entry j t ∷ rest) u h f ∙ e))
-    refl (line_writes style n j j space t rest u h.0 l)
+    (text_fits_as style 1 32 [] place ∙ e))
+    refl (line_writes style n j j space t rest u place.at.0 l)
 
 -- one more number
-one_more : (style : Style) (n j c : ℕ) (z : Tree) (b : List ℕ) (st : State) (s : List ℕ) (vs : Items) (y : Bool) → j ≤ greatest
+one_more : {style : Style} {n j c : ℕ} {z : Tree} {b : List ℕ} {st : State} {y : Bool} (s : List ℕ) (vs : Items) → j ≤ greatest
     → ends_word s ≡ false → LaysTo style n z j st b c
     → nat_le (saturating_add c (1 + (text_width s + length (item_comma vs)))) style.width ≡ y
     → LaysTo style n (Append (Append z softline) (item_marked (text s) vs)) j st (b ++ (gap_bytes j y ++ (s ++ item_comma vs)))
     (saturating_add (gap_end c j y) (text_width s + length (item_comma vs)))
 unfolding lay
-one_more style n j c z b st s vs y l e h fit = λ rest f.
-    let t = item_marked (text s) vs in
-    let both =
-    then_writes
-    (h (entry j softline ∷ entry j t ∷ rest) (end_follows style.width (entry j softline ∷ entry j t ∷ rest) (λ d. refl)))
-    (λ u r. gap_lays style n j c (text_width s + length (item_comma vs)) t rest u y l r (number_follows style.width j s vs rest e f) fit) in
-    writes_same refl (sym (append_assoc b (gap_bytes j y) (s ++ item_comma vs)))
-    (then_writes both (λ u r. number_lays style n j (gap_end c j y) s vs u e r rest f))
+one_more {style} {n} {j} {c} {z} {b} {st} {y} s vs l e h fit = record {
+  written = λ rest f.
+      let t = item_marked (text s) vs in
+      let both =
+      then_writes
+      (h.written (entry j softline ∷ entry j t ∷ rest) (end_follows style.width (entry j softline ∷ entry j t ∷ rest) (λ d. refl)))
+      (λ u r. gap_lays style n t rest l (record { at = r; follows = number_follows style.width j s vs rest e f }) fit) in
+      writes_same refl (sym (append_assoc b (gap_bytes j y) (s ++ item_comma vs)))
+      (then_writes both (λ u r. (number_lays style n j (gap_end c j y) s vs u e r).written rest f));
+}
 
 -- ---- numbers
 
@@ -133,23 +138,23 @@ filled_more style j c s vs false e fit =
     rw (number_line s e, number_width s e, sum_twice c 1 (text_width s + length (item_comma vs)), fit) refl
 
 -- numbers after a document that ends at column c
-filled_lay : (style : Style) (n j c : ℕ) (vs : Items) → j ≤ greatest → are_numbers vs ≡ true → AreFormedItems vs
-    → (z : Tree) (b : List ℕ) (st : State) → LaysTo style n z j st b c
+filled_lay : {style : Style} {n j : ℕ} {st : State} (vs : Items) {c : ℕ} {z : Tree} {b : List ℕ} → j ≤ greatest → are_numbers vs ≡ true
+    → AreFormedItems vs → LaysTo style n z j st b c
     → Lays style n (chain softline z (item_trees style vs)) j st (b ++ filled_after style j c vs)
-filled_lay style n j c no_items l e h z b st lays = λ rest f. writes_same refl (append-nil b) (writes_rested (lays rest f))
-filled_lay style n j c (item (alone s) vs) l e h z b st lays =
+filled_lay no_items {b = b} l e h before = record {
+  written = λ rest f. writes_same refl (append-nil b) (writes_rested (before.written rest f));
+}
+filled_lay {style} {n} {j} {st} (item (alone s) vs) {c} {z} {b} l e h before =
     let w = text_width s + length (item_comma vs) in
     let y = nat_le (saturating_add c (1 + w)) style.width in
-    let more = one_more style n j c z b st s vs y l h.0 lays refl in
-    let later =
-    filled_lay style n j (saturating_add (gap_end c j y) w) vs l (and_parts (is_number s) (are_numbers vs) e).1 h.1
-    (Append (Append z softline) (item_marked (text s) vs)) (b ++ (gap_bytes j y ++ (s ++ item_comma vs))) st more in
+    let more = one_more {y = y} s vs l h.0 before refl in
+    let later = filled_lay vs l (and_parts (is_number s) (are_numbers vs) e).1 h.1 more in
     subst (Lays style n (chain softline z (item_trees style (item (alone s) vs))) j st)
     (append_assoc b (gap_bytes j y ++ (s ++ item_comma vs)) _
     ∙ ap (λ (x : List ℕ). b ++ x) (append_assoc (gap_bytes j y) (s ++ item_comma vs) _ ∙ sym (filled_more style j c s vs y h.0 refl)))
     later
-filled_lay style n j c (item (array ws) vs) l e h z b st lays = absurd (cc)
-filled_lay style n j c (item (object ms) vs) l e h z b st lays = absurd (cc)
+filled_lay (item (array ws) vs) l e h before = absurd (cc)
+filled_lay (item (object ms) vs) l e h before = absurd (cc)
 
 -- the first number, and those after it
 pub filled_numbers : (style : Style) (n j : ℕ) (v : Value) (vs : Items) → j ≤ greatest → are_numbers (item v vs) ≡ true
@@ -160,8 +165,7 @@ filled_numbers style n j (alone s) vs l e h =
     record {
       bytes = (s ++ item_comma vs) ++ filled_after style j (saturating_add j w) vs;
       is = rw (number_line s h.0, number_width s h.0) refl;
-      lays = λ u r. filled_lay style n j (saturating_add j w) vs l (and_parts (is_number s) (are_numbers vs) e).1 h.1
-          (item_marked (text s) vs) (s ++ item_comma vs) u (number_lays style n j j s vs u h.0 r);
+      lays = λ u r. filled_lay vs l (and_parts (is_number s) (are_numbers vs) e).1 h.1 (number_lays style n j j s vs u h.0 r);
     }
 filled_numbers style n j (array ws) vs l e h = absurd (cc)
 filled_numbers style n j (object ms) vs l e h = absurd (cc)

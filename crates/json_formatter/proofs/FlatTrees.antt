@@ -76,29 +76,31 @@ gap_flat false = record { inline = tt; bytes = refl; columns = refl }
 -- ---- chains
 
 -- documents after another, each after a space
-abbrev FlatAfter : Tree → List Tree → List ℕ → ℕ → Type 0
-FlatAfter gap xs s w = (z : Tree) (b : List ℕ) (u : ℕ) → IsFlat z b u → IsFlat (chain gap z xs) (b ++ s) (u + w)
+record FlatAfter (gap : Tree) (xs : List Tree) (s : List ℕ) (w : ℕ) : Type 0 where
+  after : (z : Tree) (b : List ℕ) (u : ℕ) → IsFlat z b u → IsFlat (chain gap z xs) (b ++ s) (u + w)
 
 flat_none : (gap : Tree) → FlatAfter gap [] [] 0
-flat_none gap = λ z b u h. flat_same (sym (append-nil b)) (omega arith) h
+flat_none gap = record { after = λ z b u h. flat_same (sym (append-nil b)) (omega arith) h }
 
-flat_one_more : (gap t : Tree) (xs : List Tree) (b s : List ℕ) (u w : ℕ) → IsFlat gap (32 ∷ []) 1 → IsFlat t b u → FlatAfter gap xs s w
+flat_one_more : {gap t : Tree} {xs : List Tree} {b s : List ℕ} {u w : ℕ} → IsFlat gap (32 ∷ []) 1 → IsFlat t b u → FlatAfter gap xs s w
     → FlatAfter gap (t ∷ xs) (32 ∷ (b ++ s)) (1 + (u + w))
-flat_one_more gap t xs b s u w g h later = λ z a v k.
-    flat_same
-    (append_assoc (a ++ 32 ∷ []) b s ∙ append_assoc a (32 ∷ []) (b ++ s))
-    (omega arith)
-    (later (Append (Append z gap) t) ((a ++ 32 ∷ []) ++ b) ((v + 1) + u) (both_flat (both_flat k g) h))
+flat_one_more {gap} {t} {b = b} {s = s} {u = u} {w = w} g h later = record {
+  after = λ z a v k.
+      flat_same
+      (append_assoc (a ++ 32 ∷ []) b s ∙ append_assoc a (32 ∷ []) (b ++ s))
+      (omega arith)
+      (later.after (Append (Append z gap) t) ((a ++ 32 ∷ []) ++ b) ((v + 1) + u) (both_flat (both_flat k g) h));
+}
 
 -- a list: its first member, and those after it
-list_flat : (fills : Bool) (a z k : ℕ) (t : Tree) (xs : List Tree) (b s : List ℕ) (u w : ℕ) → AreSome (t ∷ xs) → IsFlat t b u
+list_flat : {t : Tree} {xs : List Tree} {b s : List ℕ} {u w : ℕ} (fills : Bool) (a z k : ℕ) → AreSome (t ∷ xs) → IsFlat t b u
     → FlatAfter (gap_in fills) xs s w
     → IsFlat (listed fills (Text (a ∷ [])) (t ∷ xs) (Text (z ∷ [])) (pos k)) (a ∷ (b ++ (s ++ z ∷ []))) (2 + (u + w))
-list_flat fills a z k t xs b s u w some h later =
+list_flat {t} {xs} {b} {s} {u} {w} fills a z k some h later =
     let items = chain (gap_in fills) t xs in
     let one_flat : (x : ℕ) → IsFlat (Text (x ∷ [])) (x ∷ []) 1 = λ x. record { inline = tt; bytes = refl; columns = refl } in
     let no_flat : IsFlat line_ [] 0 = record { inline = tt; bytes = refl; columns = refl } in
-    let inside = nest_flat k line_ items _ _ (both_flat no_flat (later t b u h)) in
+    let inside = nest_flat k line_ items _ _ (both_flat no_flat (later.after t b u h)) in
     let lines = both_flat inside no_flat in
     let front = both_flat (one_flat a) lines in
     let all = both_flat front (one_flat z) in
@@ -224,7 +226,7 @@ mutual
       let fills = style.fill && are_numbers (item v vs) in
       let first = marked_flat (tree style v) vs _ _ (value_some style v h.0) (value_flat style v h.0) in
       let all =
-      list_flat fills 91 93 style.indent (item_marked (tree style v) vs) (item_trees style vs) _ _ _ _ some first
+      list_flat fills 91 93 style.indent some first
       (items_flat style fills vs h.1) in
       let w = width_joined (spelled v) (more_items vs) in
       let m = more_width vs in
@@ -244,8 +246,7 @@ mutual
       member_marked_flat (append (key_tree k) (tree style v)) ms _ _
       (append_some (key_tree k) (tree style v) (key_some k e) (value_some style v h.1)) pair in
       let all =
-      list_flat fills 123 125 style.indent (member_marked (append (key_tree k) (tree style v)) ms) (member_trees style ms) _ _ _ _ some
-      first (members_flat style fills ms h.2) in
+      list_flat fills 123 125 style.indent some first (members_flat style fills ms h.2) in
       let w = width_joined (spelled v) (more_members ms) in
       let j = width_joined (k ∷ (58 ∷ []) ∷ []) (spelled v ++ more_members ms) in
       let m = more_members_width ms in
@@ -262,15 +263,15 @@ mutual
       → FlatAfter (gap_in fills) (item_trees style vs) (items_after vs) (items_after_width vs)
   items_flat style fills no_items h = flat_none (gap_in fills)
   items_flat style fills (item v vs) h =
-      flat_one_more (gap_in fills) (item_marked (tree style v) vs) (item_trees style vs) _ _ _ _ (gap_flat fills)
-      (marked_flat (tree style v) vs _ _ (value_some style v h.0) (value_flat style v h.0)) (items_flat style fills vs h.1)
+      flat_one_more (gap_flat fills) (marked_flat (tree style v) vs _ _ (value_some style v h.0) (value_flat style v h.0))
+      (items_flat style fills vs h.1)
 
   members_flat : (style : Style) (fills : Bool) (ms : Members) → AreFormedMembers ms
       → FlatAfter (gap_in fills) (member_trees style ms) (members_after ms) (members_after_width ms)
   members_flat style fills no_members h = flat_none (gap_in fills)
   members_flat style fills (g.member k v ms) h =
       let e = key_formed k h.0 in
-      flat_one_more (gap_in fills) (member_marked (append (key_tree k) (tree style v)) ms) (member_trees style ms) _ _ _ _ (gap_flat fills)
+      flat_one_more (gap_flat fills)
       (member_marked_flat (append (key_tree k) (tree style v)) ms _ _
       (append_some (key_tree k) (tree style v) (key_some k e) (value_some style v h.1))
       (member_flat k (tree style v) _ _ e (value_some style v h.1) (value_flat style v h.1)))

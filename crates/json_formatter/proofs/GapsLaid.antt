@@ -87,7 +87,8 @@ array_lays : (style : Style) (v : Value) (vs : Items) → AreFormedItems (item v
 array_lays style v vs h one more d c l ss =
     let items = item v vs in
     let fills = style.fill && are_numbers items in
-    let own_lines = item_lays style v vs h.0 one more d c (inside d (items_depth items) l) ss in
+    let own_lines : FirstLays style d c (spelled_items items) ss (closed_items style d items) =
+    item_lays v vs h.0 one more c (inside d (items_depth items) l) in
     let bytes : List ℕ = lines_of style (indent_at style (d + 1)) items fills ++ closing_line style d 93 in
     rw (inner_indent style d)
     (list_lays 91 (spelled_items items) ss square (array_list style d c v vs h l ss) bytes
@@ -98,7 +99,8 @@ object_lays : (style : Style) (k : List ℕ) (v : Value) (ms : Members) → AreF
 object_lays style k v ms h one more d c l ss =
     let members = member k v ms in
     let bytes : List ℕ = closed_members style d members in
-    let own_lines = member_lays style k v ms h.0 h.1 one more d c (inside d (members_depth members) l) ss in
+    let own_lines : FirstLays style d c (spelled_members members) ss bytes =
+    member_lays k v ms h.0 h.1 one more c (inside d (members_depth members) l) in
     rw (inner_indent style d)
     (list_lays 123 (spelled_members members) ss curly (object_list style d c k v ms h l ss) bytes
     (subst (λ (fills : Bool). Lays style (outside (d + 1) c fills joint.Line) (spelled_members members ++ ss) bytes d ss)
@@ -118,13 +120,13 @@ mutual
   more_items_lay style no_items h d c l ss = close_next style d c false 93 ss refl refl refl
   more_items_lay style (item v vs) h d c l ss =
       comma_lays (closed_items style d (item v vs))
-      (λ x. item_lays style v vs h.0 (value_lays style v h.0) (more_items_lay style vs h.1) d x l ss)
+      (λ x. item_lays v vs h.0 (value_lays style v h.0) (more_items_lay style vs h.1) x l)
 
   more_members_lay : (style : Style) (ms : Members) → AreFormedMembers ms → MoreMembersLay style ms
   more_members_lay style no_members h d c l ss = close_next style d c false 125 ss refl refl refl
   more_members_lay style (member k v ms) h d c l ss =
       comma_lays (closed_members style d (member k v ms))
-      (λ x. member_lays style k v ms h.0 h.1 (value_lays style v h.1) (more_members_lay style ms h.2) d x l ss)
+      (λ x. member_lays k v ms h.0 h.1 (value_lays style v h.1) (more_members_lay style ms h.2) x l)
 
 -- ---- a text
 

@@ -65,10 +65,10 @@ item_parts a b c d e =
     ∙ ap (λ (l : List ℕ). a ++ (b ++ l)) (append_assoc c d e))
 
 -- an item in a line of its own, and those after it
-pub item_lays : (style : Style) (v : Value) (vs : Items) → IsFormed v → ValueLays style v → MoreItemsLay style vs
-    → (d c : ℕ) → (d + 1) + items_depth (item v vs) ≤ most → (ss : List (List ℕ))
+pub item_lays : {style : Style} {d : ℕ} {ss : List (List ℕ)} (v : Value) (vs : Items) → IsFormed v → ValueLays style v
+    → MoreItemsLay style vs → (c : ℕ) → (d + 1) + items_depth (item v vs) ≤ most
     → FirstLays style d c (spelled_items (item v vs)) ss (closed_items style d (item v vs))
-item_lays style v vs h one more d c l ss =
+item_lays {style} {d} {ss} v vs h one more c l =
     let j = indent_at style (d + 1) in
     let after = more_items vs ++ ss in
     let bytes : List ℕ = laid_value style j j (length (item_comma vs)) v in
@@ -124,11 +124,10 @@ member_parts n k a b c e =
     ∙ item_parts n k (58 ∷ 32 ∷ a) (b ++ c) e
 
 -- a member in a line of its own, and those after it
-pub member_lays : (style : Style) (k : List ℕ) (v : Value) (ms : Members) → head k ≡ 34 → IsFormed v → ValueLays style v
-    → MoreMembersLay style ms
-    → (d c : ℕ) → (d + 1) + members_depth (member k v ms) ≤ most → (ss : List (List ℕ))
+pub member_lays : {style : Style} {d : ℕ} {ss : List (List ℕ)} (k : List ℕ) (v : Value) (ms : Members) → head k ≡ 34 → IsFormed v
+    → ValueLays style v → MoreMembersLay style ms → (c : ℕ) → (d + 1) + members_depth (member k v ms) ≤ most
     → FirstLays style d c (spelled_members (member k v ms)) ss (closed_members style d (member k v ms))
-member_lays style k v ms quoted h one more d c l ss =
+member_lays {style} {d} {ss} k v ms quoted h one more c l =
     let j = indent_at style (d + 1) in
     let after = more_members ms ++ ss in
     let x = after_key j k in

@@ -24,50 +24,56 @@ use Rattle.json_formatter.proofs.Chains.{append_is, chain, gap_in, within, AreSo
 use Rattle.json_formatter.proofs.FlatTrees.{width_of}
 use Rattle.json_formatter.proofs.LaidParts.{At, Rested, in_break, Writes, Follows, greatest, then_writes, writes_same, writes_rested}
 use Rattle.json_formatter.proofs.LaidParts.{text_writes, line_writes, nest_writes, end_follows, comma_follows, sum_within, lexeme_writes}
-use Rattle.json_formatter.proofs.LaidParts.{group_writes, IsFlat}
+use Rattle.json_formatter.proofs.LaidParts.{group_writes, IsFlat, StandsAt}
 use Rattle.json_formatter.proofs.ValueTrees.{item_marked, member_marked, key_tree, formed_plain}
 
 -- ---- lines
 
 -- a document is laid so before a line end
-abbrev pub Lays : Style → ℕ → Tree → ℕ → State → List ℕ → Type 0
-Lays style n t j st bytes =
-    (rest : List Entry) → Follows style.width rest 0 → Writes (in_break style n t j rest st) bytes Rested
+pub record Lays (style : Style) (n : ℕ) (t : Tree) (j : ℕ) (st : State) (bytes : List ℕ) : Type 0 where
+  pub written : (rest : List Entry) → Follows style.width rest 0 → Writes (in_break style n t j rest st) bytes Rested
+
+-- a document is laid so where a line with its indent begins
+abbrev pub LaysAtIndent : Style → ℕ → Tree → ℕ → List ℕ → Type 0
+LaysAtIndent style n t j bytes = (st : State) → At j st → Lays style n t j st bytes
 
 -- a line is next
 pub line_next : (width i : ℕ) (f : Tree) (rest : List Entry) → Follows width (entry i (BreakOrFlat HardLine f) ∷ rest) 0
 line_next width i f rest = end_follows width (entry i (BreakOrFlat HardLine f) ∷ rest) (λ c. refl)
 
 -- a document, a line and another document
-pub line_between : (style : Style) (n j : ℕ) (z t : Tree) (b s : List ℕ) (st : State) → j ≤ greatest → Lays style n z j st b
-    → ((u : State) → At j u → Lays style n t j u s)
-    → Lays style n (Append (Append z line) t) j st (b ++ (new_line j ++ s))
+pub line_between : {style : Style} {n j : ℕ} {z t : Tree} {b s : List ℕ} {st : State} → j ≤ greatest → Lays style n z j st b
+    → LaysAtIndent style n t j s → Lays style n (Append (Append z line) t) j st (b ++ (new_line j ++ s))
 unfolding lay
-line_between style n j z t b s st l h k = λ rest f.
-    let both =
-    then_writes
-    (h (entry j line ∷ entry j t ∷ rest) (line_next style.width j space (entry j t ∷ rest)))
-    (λ u r. line_writes style n j j space t rest u r l) in
-    writes_same refl (sym (append_assoc b (new_line j) s)) (then_writes both (λ u r. k u r rest f))
+line_between {style} {n} {j} {t = t} {b = b} {s = s} l h k = record {
+  written = λ rest f.
+      let both =
+      then_writes
+      (h.written (entry j line ∷ entry j t ∷ rest) (line_next style.width j space (entry j t ∷ rest)))
+      (λ u r. line_writes style n j j space t rest u r l) in
+      writes_same refl (sym (append_assoc b (new_line j) s)) (then_writes both (λ u r. (k u r).written rest f));
+}
 
 -- a comma after it
-pub comma_marks : (style : Style) (n j : ℕ) (t : Tree) (b : List ℕ) (st : State) → IsNotNil t
+pub comma_marks : {style : Style} {n j : ℕ} {b : List ℕ} {st : State} (t : Tree) → IsNotNil t
     → ((rest : List Entry) → Follows style.width rest 1 → Writes (in_break style n t j rest st) b Rested)
     → Lays style n (append t (Text (44 ∷ []))) j st (b ++ 44 ∷ [])
 unfolding lay
-comma_marks style n j t b st some h = λ rest f.
-    rw (append_is t (Text (44 ∷ [])) some tt)
-    (then_writes
-    (h (entry j (Text (44 ∷ [])) ∷ rest) (comma_follows style.width j rest f))
-    (λ u r. writes_rested (text_writes (options_at style.width) 1 u.column.position 44 [] u (r, refl))))
+comma_marks {style} {j = j} t some h = record {
+  written = λ rest f.
+      rw (append_is t (Text (44 ∷ [])) some tt)
+      (then_writes
+      (h (entry j (Text (44 ∷ [])) ∷ rest) (comma_follows style.width j rest f))
+      (λ u r. writes_rested (text_writes (options_at style.width) 1 u.column.position 44 [] u (r, refl))));
+}
 
 -- brackets around lines
-pub brackets_around : (style : Style) (n i a z : ℕ) (items : Tree) (s : List ℕ) (st : State) → i ≤ greatest → Rested st
-    → ((u : State) → At (inner style i) u → Lays style n items (inner style i) u s)
-    → (rest : List Entry) → Writes (in_break style n (within (Text (a ∷ [])) items (Text (z ∷ [])) style.indent) i rest st)
+pub brackets_around : {style : Style} {n a : ℕ} {items : Tree} {s : List ℕ} {st : State} (i z : ℕ) → i ≤ greatest → Rested st
+    → LaysAtIndent style n items (inner style i) s → (rest : List Entry)
+    → Writes (in_break style n (within (Text (a ∷ [])) items (Text (z ∷ [])) style.indent) i rest st)
     (a ∷ ((new_line (inner style i) ++ s) ++ (new_line i ++ z ∷ []))) Rested
 unfolding lay
-brackets_around style n i a z items s st l h k = λ rest.
+brackets_around {style} {n} {a} {items} {s} {st} i z l h k = λ rest.
     let o = options_at style.width in
     let brk = breaks o (suc n) in
     let j = inner style i in
@@ -78,7 +84,7 @@ brackets_around style n i a z items s st l h k = λ rest.
     λ u r. nest_writes o brk style.indent i line_ items (entry i line_ ∷ entry i close ∷ rest) u (new_line j ++ s) l
     (then_writes
     (line_writes style n j j Nil items (entry i line_ ∷ entry i close ∷ rest) u r (sum_within i style.indent))
-    (λ v q. k v q (entry i line_ ∷ entry i close ∷ rest) (line_next style.width i Nil (entry i close ∷ rest)))) in
+    (λ v q. (k v q).written (entry i line_ ∷ entry i close ∷ rest) (line_next style.width i Nil (entry i close ∷ rest)))) in
     let front =
     then_writes
     (text_writes o 1 st.column.position a [] st (h, refl))
@@ -89,17 +95,17 @@ brackets_around style n i a z items s st l h k = λ rest.
 -- ---- items
 
 -- an item and its comma
-pub marked_lays : (style : Style) (n j : ℕ) (t : Tree) (vs : Items) (b : List ℕ) (st : State) → IsNotNil t
+pub marked_lays : {style : Style} {n j : ℕ} {b : List ℕ} {st : State} (t : Tree) (vs : Items) → IsNotNil t
     → ((rest : List Entry) → Follows style.width rest (length (item_comma vs)) → Writes (in_break style n t j rest st) b Rested)
     → Lays style n (item_marked t vs) j st (b ++ item_comma vs)
-marked_lays style n j t no_items b st some h = λ rest f. writes_same refl (append-nil b) (h rest f)
-marked_lays style n j t (item v vs) b st some h = comma_marks style n j t b st some h
+marked_lays {b = b} t no_items some h = record { written = λ rest f. writes_same refl (append-nil b) (h rest f) }
+marked_lays t (item v vs) some h = comma_marks t some h
 
-pub member_marked_lays : (style : Style) (n j : ℕ) (t : Tree) (ms : Members) (b : List ℕ) (st : State) → IsNotNil t
+pub member_marked_lays : {style : Style} {n j : ℕ} {b : List ℕ} {st : State} (t : Tree) (ms : Members) → IsNotNil t
     → ((rest : List Entry) → Follows style.width rest (length (member_comma ms)) → Writes (in_break style n t j rest st) b Rested)
     → Lays style n (member_marked t ms) j st (b ++ member_comma ms)
-member_marked_lays style n j t no_members b st some h = λ rest f. writes_same refl (append-nil b) (h rest f)
-member_marked_lays style n j t (g.member k v ms) b st some h = comma_marks style n j t b st some h
+member_marked_lays {b = b} t no_members some h = record { written = λ rest f. writes_same refl (append-nil b) (h rest f) }
+member_marked_lays t (g.member k v ms) some h = comma_marks t some h
 
 -- ---- chains
 
@@ -109,15 +115,17 @@ LaysAfter style n xs j s = (z : Tree) (b : List ℕ) (st : State) → Lays style
 
 -- none, and one more
 pub lays_none : (style : Style) (n j : ℕ) → LaysAfter style n [] j []
-lays_none style n j = λ z b st h rest f. writes_same refl (append-nil b) (h rest f)
+lays_none style n j = λ z b st h. record { written = λ rest f. writes_same refl (append-nil b) (h.written rest f) }
 
-pub lays_more : (style : Style) (n j : ℕ) (t : Tree) (xs : List Tree) (b s : List ℕ) → j ≤ greatest
-    → ((u : State) → At j u → Lays style n t j u b) → LaysAfter style n xs j s
+pub lays_more : {style : Style} {n j : ℕ} {t : Tree} {b : List ℕ} (xs : List Tree) (s : List ℕ) → j ≤ greatest
+    → LaysAtIndent style n t j b → LaysAfter style n xs j s
     → LaysAfter style n (t ∷ xs) j (new_line j ++ (b ++ s))
-lays_more style n j t xs b s l one later = λ z a st h rest f.
-    writes_same refl
-    (sym (append_assoc a (new_line j ++ b) s ∙ ap (λ (x : List ℕ). a ++ x) (append_assoc (new_line j) b s)))
-    (later (Append (Append z line) t) (a ++ (new_line j ++ b)) st (line_between style n j z t a b st l h one) rest f)
+lays_more {j = j} {t = t} {b = b} xs s l one later = λ z a st h. record {
+  written = λ rest f.
+      writes_same refl
+      (sym (append_assoc a (new_line j ++ b) s ∙ ap (λ (x : List ℕ). a ++ x) (append_assoc (new_line j) b s)))
+      ((later (Append (Append z line) t) (a ++ (new_line j ++ b)) st (line_between l h one)).written rest f);
+}
 
 -- ---- lists
 
@@ -125,34 +133,34 @@ lays_more style n j t xs b s l one later = λ z a st h rest f.
 pub record LaysLines (style : Style) (n j : ℕ) (fills : Bool) (t : Tree) (xs : List Tree) (lines : List ℕ) : Type 0 where
   pub bytes : List ℕ
   pub is : new_line j ++ bytes ≡ lines
-  pub lays : (u : State) → At j u → Lays style n (chain (gap_in fills) t xs) j u bytes
+  pub lays : LaysAtIndent style n (chain (gap_in fills) t xs) j bytes
 
 -- the first member, and those after it
-pub first_and_later : (style : Style) (n j : ℕ) (t : Tree) (xs : List Tree) (b s lines : List ℕ)
-    → ((u : State) → At j u → Lays style n t j u b) → LaysAfter style n xs j s
+pub first_and_later : {style : Style} {n j : ℕ} {t : Tree} {xs : List Tree} {b lines : List ℕ} (s : List ℕ)
+    → LaysAtIndent style n t j b → LaysAfter style n xs j s
     → new_line j ++ (b ++ s) ≡ lines → LaysLines style n j false t xs lines
-first_and_later style n j t xs b s lines one later is = record { bytes = b ++ s; is = is; lays = λ u r. later t b u (one u r) }
+first_and_later {t = t} {b = b} s one later is = record { bytes = b ++ s; is = is; lays = λ u r. later t b u (one u r) }
 
 -- a list is its flat line where that fits, and else these lines between its brackets
-pub list_lays : (style : Style) (n i c k : ℕ) (fills : Bool) (a z : ℕ) (t : Tree) (xs : List Tree) (ss : List (List ℕ))
-    (bs lines : List ℕ) (rest : List Entry) (st : State)
+pub list_lays : {style : Style} {n c k a : ℕ} {fills : Bool} {t : Tree} {xs : List Tree} {bs lines : List ℕ} {rest : List Entry}
+    {st : State} (i z : ℕ) (ss : List (List ℕ))
     → AreSome (t ∷ xs) → IsFlat (listed fills (Text (a ∷ [])) (t ∷ xs) (Text (z ∷ [])) (pos style.indent)) (flat_line ss) (flat_width ss)
     → flat_line ss ≡ a ∷ bs
-    → i ≤ greatest → At c st → Follows style.width rest k → LaysLines style n (inner style i) fills t xs lines
+    → i ≤ greatest → StandsAt style.width c k rest st → LaysLines style n (inner style i) fills t xs lines
     → Writes (in_break style n (listed fills (Text (a ∷ [])) (t ∷ xs) (Text (z ∷ [])) (pos style.indent)) i rest st)
     (if fits_width style c k ss then flat_line ss else a ∷ (lines ++ (new_line i ++ z ∷ []))) Rested
-list_lays style n i c k fills a z t xs ss bs lines rest st some flat begins l h f inside =
+list_lays {style} {n} {c} {k} {a} {fills} {t} {xs} {bs} {lines} {rest} {st} i z ss some flat begins l place inside =
     let is = listed_is fills a z style.indent t xs some.0 some.1 in
     let items = chain (gap_in fills) t xs in
     let grouped : IsFlat (Group (within (Text (a ∷ [])) items (Text (z ∷ [])) style.indent)) (flat_line ss) (flat_width ss) =
     subst (λ (d : Tree). IsFlat d (flat_line ss) (flat_width ss)) is flat in
     let plain : IsFlat (within (Text (a ∷ [])) items (Text (z ∷ [])) style.indent) (flat_line ss) (flat_width ss) =
     record { inline = grouped.inline; bytes = grouped.bytes; columns = grouped.columns } in
-    let broken = brackets_around style n i a z items inside.bytes st l h.0 inside.lays rest in
+    let broken = brackets_around i z l place.at.0 inside.lays rest in
     writes_same
     (ap (λ (d : Tree). in_break style n d i rest st) is)
     (ap (λ (x : List ℕ). if fits_width style c k ss then flat_line ss else a ∷ (x ++ (new_line i ++ z ∷ []))) (sym inside.is))
-    (group_writes style n i c k _ ss a bs _ rest st plain begins h f broken)
+    (group_writes style n i ss plain begins place broken)
 
 -- two brackets
 pub empty_lays : (style : Style) (n i : ℕ) (fills : Bool) (a z : ℕ) (rest : List Entry) (st : State) → Rested st
@@ -191,12 +199,12 @@ key_lays o brk k i c rest st e h =
     rw (is, ← same) (writes_same refl (sym (append_assoc k (58 ∷ []) (32 ∷ []))) all)
 
 -- a key and its value
-pub pair_lays : (style : Style) (n j : ℕ) (k : List ℕ) (t : Tree) (s : List ℕ) (rest : List Entry) (st : State) → ends_word k ≡ false
+pub pair_lays : {j : ℕ} {s : List ℕ} {st : State} (style : Style) (n : ℕ) (k : List ℕ) (t : Tree) (rest : List Entry) → ends_word k ≡ false
     → IsNotNil t → At j st
     → ((u : State) → At (after_key j k) u → Writes (in_break style n t j rest u) s Rested)
     → Writes (in_break style n (append (key_tree k) t) j rest st) (k ++ 58 ∷ 32 ∷ s) Rested
 unfolding lay
-pair_lays style n j k t s rest st e some h value =
+pair_lays {j} {s} {st} style n k t rest e some h value =
     rw (append_is (key_tree k) t (key_some k e) some)
     (writes_same refl (sym (append_assoc k (58 ∷ 32 ∷ []) s))
     (then_writes

@@ -186,15 +186,21 @@ in_break style n t i rest st = lay (options_at style.width) (breaks (options_at 
 
 -- ---- groups
 
+-- a document stands at column c, and what follows it takes k columns up to the end of its line
+pub record StandsAt (width c k : ℕ) (rest : List Entry) (st : State) : Type 0 where
+  pub at : At c st
+  pub follows : Follows width rest k
+
 -- a text fits where it stays within the width with what follows
-pub text_fits_as : (style : Style) (w c k b : ℕ) (bs : List ℕ) (rest : List Entry) (st : State) → At c st → Follows style.width rest k
+pub text_fits_as : {c k : ℕ} {rest : List Entry} {st : State} (style : Style) (w b : ℕ) (bs : List ℕ) → StandsAt style.width c k rest st
     → text_fits (options_at style.width) w (b ∷ bs) rest st ≡ nat_le (saturating_add c (w + k)) style.width
-text_fits_as style w c k b bs rest st h f =
+text_fits_as {c} {k} {rest} {st} style w b bs place =
     let d = commit w st.column in
-    let at = commits c w st.column h.0.indent h.0.padding h.1 in
+    let rested = place.at.0 in
+    let at = commits c w st.column rested.indent rested.padding place.at.1 in
     let in_width : d.position ≤ greatest = subst (λ (n : ℕ). n ≤ greatest) (sym at) (sum_within c w) in
-    ap (λ ps. nat_le d.position style.width && rest_fits style.width rest d (some_pending ps)) h.0.pending
-    ∙ f d refl refl in_width
+    ap (λ ps. nat_le d.position style.width && rest_fits style.width rest d (some_pending ps)) rested.pending
+    ∙ place.follows d refl refl in_width
     ∙ ap (λ (n : ℕ). nat_le (saturating_add n k) style.width) at
     ∙ ap (λ (n : ℕ). nat_le n style.width) (sum_twice c w k)
 
@@ -209,16 +215,16 @@ some_bytes o w [] c st h = record { after = st; done = refl; state = h.0 }
 some_bytes o w (b ∷ bs) c st h = writes_rested (text_writes o w c b bs st h)
 
 -- a group is that line, or its document in Break
-pub group_writes : (style : Style) (n i c k : ℕ) (d : Tree) (ss : List (List ℕ)) (b : ℕ) (bs broken : List ℕ) (rest : List Entry)
-    (st : State) → IsFlat d (flat_line ss) (flat_width ss) → flat_line ss ≡ b ∷ bs
-    → At c st → Follows style.width rest k → Writes (in_break style n d i rest st) broken Rested
+pub group_writes : {c k : ℕ} {d : Tree} {b : ℕ} {bs broken : List ℕ} {rest : List Entry} {st : State} (style : Style) (n i : ℕ)
+    (ss : List (List ℕ)) → IsFlat d (flat_line ss) (flat_width ss) → flat_line ss ≡ b ∷ bs → StandsAt style.width c k rest st
+    → Writes (in_break style n d i rest st) broken Rested
     → Writes (in_break style n (Group d) i rest st) (if fits_width style c k ss then flat_line ss else broken) Rested
-group_writes style n i c k d ss b bs broken rest st flat some h f written = by (cases_Bool (fits_width style c k ss))
+group_writes {c} {k} {d} {b} {bs} {broken} {rest} {st} style n i ss flat some place written = by (cases_Bool (fits_width style c k ss))
   where
     answers : text_fits (options_at style.width) (flat_columns d) (flat_bytes d) rest st ≡ fits_width style c k ss
     answers =
         ap (λ (s : List ℕ). text_fits (options_at style.width) (flat_columns d) s rest st) (flat.bytes ∙ some)
-        ∙ text_fits_as style (flat_columns d) c k b bs rest st h f
+        ∙ text_fits_as style (flat_columns d) b bs place
         ∙ ap (λ (w : ℕ). nat_le (saturating_add c (w + k)) style.width) flat.columns
 
     by : (fits_width style c k ss ≡ true) ⊎ (fits_width style c k ss ≡ false) → Writes (in_break style n (Group d) i rest st)
@@ -227,7 +233,7 @@ group_writes style n i c k d ss b bs broken rest st flat some h f written = by (
         writes_same
         (group_is_text (options_at style.width) (breaks (options_at style.width) (suc n)) d i Break rest st flat.inline (answers ∙ e))
         (rw e (sym flat.bytes))
-        (some_bytes (options_at style.width) (flat_columns d) (flat_bytes d) c st h)
+        (some_bytes (options_at style.width) (flat_columns d) (flat_bytes d) c st place.at)
     by (inr e) =
         writes_same
         (unfit_is_broken (options_at style.width) (breaks (options_at style.width) (suc n)) d i rest st flat.inline (answers ∙ e))

@@ -15,9 +15,9 @@ use Rattle.json_formatter.specs.ByValue.{member_comma, inner, new_line}
 use Rattle.json_formatter.proofs.Chains.{append_some, value_some, items_some, members_some, key_some}
 use Rattle.json_formatter.proofs.FlatTrees.{value_flat}
 use Rattle.json_formatter.proofs.Filled.{filled_numbers}
-use Rattle.json_formatter.proofs.LaidLists.{Lays, LaysAfter, LaysLines, lays_none, lays_more, first_and_later, list_lays, empty_lays}
-use Rattle.json_formatter.proofs.LaidLists.{word_lays, pair_lays, marked_lays, member_marked_lays}
-use Rattle.json_formatter.proofs.LaidParts.{At, Rested, in_break, Writes, Follows, greatest, writes_rested, sum_within}
+use Rattle.json_formatter.proofs.LaidLists.{LaysAtIndent, LaysAfter, LaysLines, lays_none, lays_more, first_and_later, list_lays}
+use Rattle.json_formatter.proofs.LaidLists.{empty_lays, word_lays, pair_lays, marked_lays, member_marked_lays}
+use Rattle.json_formatter.proofs.LaidParts.{Rested, StandsAt, in_break, Writes, greatest, writes_rested, sum_within}
 use Rattle.json_formatter.proofs.ValueTrees.{tree, item_trees, member_trees, item_marked, member_marked, key_tree, key_formed}
 
 -- ---- items and members
@@ -52,53 +52,49 @@ member_bytes style j key v ms =
 -- how a value is laid, wherever it stands
 abbrev ValueLays : Style → ℕ → Value → Type 0
 ValueLays style n v =
-    (i c k : ℕ) (rest : List Entry) (st : State) → i ≤ greatest → At c st → Follows style.width rest k
+    (i c k : ℕ) (rest : List Entry) (st : State) → i ≤ greatest → StandsAt style.width c k rest st
     → Writes (in_break style n (tree style v) i rest st) (laid_value style i c k v) Rested
 
 -- an item, or a member, with its comma at the beginning of a line
-one_item : (style : Style) (n j : ℕ) (v : Value) (vs : Items) → j ≤ greatest → IsFormed v → ValueLays style n v
-    → (u : State) → At j u → Lays style n (item_marked (tree style v) vs) j u
-    (laid_value style j j (length (item_comma vs)) v ++ item_comma vs)
-one_item style n j v vs l h value = λ u r. marked_lays style n j (tree style v) vs _ u (value_some style v h)
-    (λ rest f. value j j (length (item_comma vs)) rest u l r f)
+one_item : {style : Style} {n j : ℕ} (v : Value) (vs : Items) → j ≤ greatest → IsFormed v → ValueLays style n v
+    → LaysAtIndent style n (item_marked (tree style v) vs) j (laid_value style j j (length (item_comma vs)) v ++ item_comma vs)
+one_item {style} {n} {j} v vs l h value = λ u r. marked_lays (tree style v) vs (value_some style v h)
+    (λ rest f. value j j (length (item_comma vs)) rest u l (record { at = r; follows = f }))
 
-one_member : (style : Style) (n j : ℕ) (key : List ℕ) (v : Value) (ms : Members) → j ≤ greatest → ends_word key ≡ false → IsFormed v
+one_member : {style : Style} {n j : ℕ} (key : List ℕ) (v : Value) (ms : Members) → j ≤ greatest → ends_word key ≡ false → IsFormed v
     → ValueLays style n v
-    → (u : State) → At j u → Lays style n (member_marked (append (key_tree key) (tree style v)) ms) j u
+    → LaysAtIndent style n (member_marked (append (key_tree key) (tree style v)) ms) j
     ((key ++ 58 ∷ 32 ∷ laid_value style j (after_key j key) (length (member_comma ms)) v) ++ member_comma ms)
-one_member style n j key v ms l e h value = λ u r.
-    member_marked_lays style n j (append (key_tree key) (tree style v)) ms _ u
+one_member {style} {n} {j} key v ms l e h value = λ u r.
+    member_marked_lays (append (key_tree key) (tree style v)) ms
     (append_some (key_tree key) (tree style v) (key_some key e) (value_some style v h))
-    (λ rest f. pair_lays style n j key (tree style v) _ rest u e (value_some style v h) r
-    (λ w q. value j (after_key j key) (length (member_comma ms)) rest w l q f))
+    (λ rest f. pair_lays style n key (tree style v) rest e (value_some style v h) r
+    (λ w q. value j (after_key j key) (length (member_comma ms)) rest w l (record { at = q; follows = f })))
 
 -- ---- values
 
 mutual
   pub value_lays : (style : Style) (n : ℕ) (v : Value) → IsFormed v → ValueLays style n v
-  value_lays style n (alone s) h = λ i c k rest st l at f. writes_rested (word_lays _ _ s i c rest st h at)
-  value_lays style n (array no_items) h = λ i c k rest st l at f. empty_lays style n i (style.fill && true) 91 93 rest st at.0
-  value_lays style n (array (item v vs)) h = λ i c k rest st l at f.
+  value_lays style n (alone s) h = λ i c k rest st l place. writes_rested (word_lays _ _ s i c rest st h place.at)
+  value_lays style n (array no_items) h = λ i c k rest st l place. empty_lays style n i (style.fill && true) 91 93 rest st place.at.0
+  value_lays style n (array (item v vs)) h = λ i c k rest st l place.
       let j = inner style i in
       let m = sum_within i style.indent in
       let fills = style.fill && are_numbers (item v vs) in
-      list_lays style n i c k fills 91 93 (item_marked (tree style v) vs) (item_trees style vs) (spelled (array (item v vs))) _ _ rest st
-      (items_some style (item v vs) h) (value_flat style (array (item v vs)) h) refl l at f
+      list_lays i 93 (spelled (array (item v vs))) (items_some style (item v vs) h) (value_flat style (array (item v vs)) h) refl l place
       (array_lines style n j fills v vs refl m h
-      (first_and_later style n j (item_marked (tree style v) vs) (item_trees style vs) _ (item_lines style j vs) _
-      (one_item style n j v vs m h.0 (value_lays style n v h.0))
+      (first_and_later (item_lines style j vs) (one_item v vs m h.0 (value_lays style n v h.0))
       (items_lay style n vs h.1 j m) (item_bytes style j v vs)))
-  value_lays style n (object no_members) h = λ i c k rest st l at f. empty_lays style n i (style.fill && true) 123 125 rest st at.0
-  value_lays style n (object (g.member key v ms)) h = λ i c k rest st l at f.
+  value_lays style n (object no_members) h = λ i c k rest st l place. empty_lays style n i (style.fill && true) 123 125 rest st place.at.0
+  value_lays style n (object (g.member key v ms)) h = λ i c k rest st l place.
       let j = inner style i in
       let m = sum_within i style.indent in
       let t = member_marked (append (key_tree key) (tree style v)) ms in
-      list_lays style n i c k (style.fill && false) 123 125 t (member_trees style ms) (spelled (object (g.member key v ms))) _ _ rest st
-      (members_some style (g.member key v ms) h) (value_flat style (object (g.member key v ms)) h) refl l at f
+      list_lays i 125 (spelled (object (g.member key v ms))) (members_some style (g.member key v ms) h)
+      (value_flat style (object (g.member key v ms)) h) refl l place
       (subst (λ (fills : Bool). LaysLines style n j fills t (member_trees style ms) (member_lines style j (g.member key v ms)))
       (sym (and-false style.fill))
-      (first_and_later style n j t (member_trees style ms) _ (member_lines style j ms) _
-      (one_member style n j key v ms m (key_formed key h.0) h.1 (value_lays style n v h.1))
+      (first_and_later (member_lines style j ms) (one_member key v ms m (key_formed key h.0) h.1 (value_lays style n v h.1))
       (members_lay style n ms h.2 j m) (member_bytes style j key v ms)))
 
   items_lay : (style : Style) (n : ℕ) (vs : Items) → AreFormedItems vs → (j : ℕ) → j ≤ greatest
@@ -106,13 +102,13 @@ mutual
   items_lay style n no_items h j l = lays_none style n j
   items_lay style n (item v vs) h j l =
       subst (LaysAfter style n (item_trees style (item v vs)) j) (item_bytes style j v vs)
-      (lays_more style n j (item_marked (tree style v) vs) (item_trees style vs) _ (item_lines style j vs) l
-      (one_item style n j v vs l h.0 (value_lays style n v h.0)) (items_lay style n vs h.1 j l))
+      (lays_more (item_trees style vs) (item_lines style j vs) l (one_item v vs l h.0 (value_lays style n v h.0))
+      (items_lay style n vs h.1 j l))
 
   members_lay : (style : Style) (n : ℕ) (ms : Members) → AreFormedMembers ms → (j : ℕ) → j ≤ greatest
       → LaysAfter style n (member_trees style ms) j (member_lines style j ms)
   members_lay style n no_members h j l = lays_none style n j
   members_lay style n (g.member key v ms) h j l =
       subst (LaysAfter style n (member_trees style (g.member key v ms)) j) (member_bytes style j key v ms)
-      (lays_more style n j (member_marked (append (key_tree key) (tree style v)) ms) (member_trees style ms) _ (member_lines style j ms) l
-      (one_member style n j key v ms l (key_formed key h.0) h.1 (value_lays style n v h.1)) (members_lay style n ms h.2 j l))
+      (lays_more (member_trees style ms) (member_lines style j ms) l
+      (one_member key v ms l (key_formed key h.0) h.1 (value_lays style n v h.1)) (members_lay style n ms h.2 j l))

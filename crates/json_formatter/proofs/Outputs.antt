@@ -1,5 +1,5 @@
 -- Texts on their way to a writer, one after another.
-use Rattle.std.proofs.Common.{◌≡◌, refl, sym, ◌∙◌, ap, subst, ℕ, ◌+◌, ◌-◌, ◌<◌, ◌≤◌, List, [], ◌∷◌, ◌++◌, append_assoc, append-nil}
+use Rattle.std.proofs.Common.{◌≡◌, refl, sym, ◌∙◌, ap, subst, ℕ, ◌+◌, ◌-◌, ◌≤◌, List, [], ◌++◌, append_assoc, append-nil}
 use Rattle.std.proofs.Common.{length, length-append, arith}
 use Rattle.std.specs.Prelude.{Option, Some, None, Result, Ok, Err, OnErr}
 use Rattle.std.specs.Io.KnownBytes.{Appends}
@@ -104,18 +104,18 @@ begun_stops a b held x text e k = record {
 }
 
 -- it takes what is held, and the text
-pub sent_all : (a b c : Option (List ℕ)) (held x left text y : List ℕ) → x ≡ held → y ≡ text → left ≡ [] → Appends a b x → Appends b c y
+pub sent_all : {held x left text y : List ℕ} (a b c : Option (List ℕ)) → x ≡ held → y ≡ text → left ≡ [] → Appends a b x → Appends b c y
     → HandsToWriter a c held left text
-sent_all a b c held x left text y e f none h k = record {
+sent_all {held} {x} {text = text} {y = y} a b c e f none h k = record {
   sent = x ++ y;
   all = rw (e, f, none) (sym (append-nil (held ++ text)));
   appends = Appends-trans a b c x y h k;
 }
 
 -- it takes what is held, and fails in the text
-pub sent_stops : (a b c : Option (List ℕ)) (held x text y : List ℕ) → x ≡ held → y ≡ text → Appends a b x → AppendsProperBeginning b c y
+pub sent_stops : {held x text y : List ℕ} (a b c : Option (List ℕ)) → x ≡ held → y ≡ text → Appends a b x → AppendsProperBeginning b c y
     → StopsWriter a c held text
-sent_stops a b c held x text y e f h k = record {
+sent_stops {held} {x} a b c e f h k = record {
   front = x ++ k.0;
   back = k.1;
   all = rw (e, sym f ∙ k.2) (sym (append_assoc held k.0 k.1));

@@ -1,15 +1,11 @@
 -- The results of the code's steps: each reads on where the one before it stopped.
-use Rattle.std.proofs.Common.{◌≡◌, refl, sym, ◌∙◌, ap, subst, ℕ, zero, suc, ◌-◌, ◌<◌, Bool, true, false, ◌&&◌, List, [], ◌∷◌, ◌++◌}
+use Rattle.std.proofs.Common.{◌≡◌, refl, sym, ◌∙◌, ap, subst, ℕ, zero, suc, ◌-◌, Bool, true, false, ◌&&◌, List, [], ◌∷◌, ◌++◌}
 use Rattle.std.proofs.Common.{length, append_assoc, arith}
-use Rattle.std.specs.Prelude.{if◌then◌else◌}
-use Rattle.std.specs.List.{fold}
-use Rattle.json.specs.Ascii as ascii
-use Rattle.json_validity.specs.Document.{max_depth}
 use Rattle.prettyless.specs.Built.{append}
 use Rattle.prettyless.specs.Counted.{text}
 use Rattle.prettyless.specs.Tree.{Tree, Nil}
 use Rattle.json_formatter.specs.declared.style.Style.{Style}
-use Rattle.json_formatter.specs.Documents.{Read, Reader, Member, ContinuesMembers, read, then_read, onto, until, many, stops}
+use Rattle.json_formatter.specs.Documents.{Read, Reader, Member, ContinuesMembers, read, then_read, onto, stops}
 use Rattle.json_formatter.specs.Documents.{is_number, opens, closes, with_value, with_comma, member}
 use Rattle.json_formatter.specs.Documents.{list_member, list_members, trees_of, all_numbers, value}
 use Rattle.json_formatter.proofs.Readers.{many_stops, until_more}
@@ -51,12 +47,12 @@ and_assoc true y z = refl
 and_assoc false y z = refl
 
 -- one more
-pub one_more : (style : Style) (depth : ℕ) (r : Read (List Member)) (given more left : List (List ℕ)) (s : List ℕ) (trees : List Tree)
-    (are_numbers : Bool) (tree : Tree)
+pub one_more : {r : Read (List Member)} {given more : List (List ℕ)} {s : List ℕ} {trees : List Tree} {are_numbers : Bool}
+    (style : Style) (depth : ℕ) (left : List (List ℕ)) (tree : Tree)
     → ContinuesMembers r (list_members (value style depth) given) trees are_numbers → given ≡ s ∷ more → closes s ≡ false →
     member (value style depth) (s ∷ more) ≡ read tree left
     → ContinuesMembers r (list_members (value style depth) left) (trees ++ tree ∷ []) (are_numbers && is_number s)
-one_more style depth r given more left s trees are_numbers tree h g e m =
+one_more {r} {given} {more} {s} {trees} {are_numbers} style depth left tree h g e m =
     let v = value style depth in
     let first : list_member v (s ∷ more) ≡ read (record { tree = tree; is_number = is_number s }) left =
     ap (λ (p : Read Tree). then_read p (λ (t : Tree). read (record { tree = t; is_number = is_number s }))) m in

@@ -24,38 +24,51 @@ pub gap_text : (gap ends text : List ℕ) (indent : ℕ) → gap ≡ ends ++ spa
     → (spaces 0 ++ ends) ++ (spaces indent ++ text) ≡ gap ++ text
 gap_text gap ends text indent e = sym (append_assoc ends (spaces indent) text) ∙ ap (λ (l : List ℕ). l ++ text) (sym e)
 
--- the gap and the lexeme that come next are done too
+-- the gap and the lexeme that come next, and what is left after them
+pub lexeme_next : {left spelled : List ℕ} (gap text rest : List ℕ) → left ≡ gap ++ (spelled ++ rest) → text ≡ spelled
+    → left ≡ (gap ++ text) ++ rest
+lexeme_next gap text rest next same =
+    next ∙ ap (λ (l : List ℕ). gap ++ (l ++ rest)) (sym same) ∙ sym (append_assoc gap text rest)
+
+-- they are done too
 pub lexeme_more : (all done left gap text spelled rest : List ℕ) → all ≡ done ++ left → left ≡ gap ++ (spelled ++ rest) → text ≡ spelled
     → all ≡ (done ++ (gap ++ text)) ++ rest
 lexeme_more all done left gap text spelled rest e next same =
     e
-    ∙ ap (λ (l : List ℕ). done ++ l) (next ∙ ap (λ (l : List ℕ). gap ++ (l ++ rest)) (sym same) ∙ sym (append_assoc gap text rest))
+    ∙ ap (λ (l : List ℕ). done ++ l) (lexeme_next gap text rest next same)
     ∙ sym (append_assoc done (gap ++ text) rest)
 
 -- ---- a layout, and what ends it
 
--- the sink fails in a part of it
-pub refuses_in : (old mid new : Option (List ℕ)) (all done part rest ended : List ℕ) (n m k : ℕ) → all ≡ (done ++ part) ++ rest
-    → Accepts old mid done n m → Refuses mid new part m k → Refuses old new (all ++ ended) n k
-refuses_in old mid new all done part rest ended n m k e wrote failed =
+-- The sink took a beginning of a layout, and the rest is left. Its known bytes went from old to mid, and its failures from n to m.
+pub record TookBeginning (old mid : Option (List ℕ)) (all done left : List ℕ) (n m : ℕ) : Type 0 where
+  pub split : all ≡ done ++ left
+  pub wrote : Accepts old mid done n m
+
+-- the sink fails in a part of what is left
+pub refuses_in : {old mid : Option (List ℕ)} {all done left : List ℕ} {n m : ℕ} (new : Option (List ℕ)) (part rest ended : List ℕ)
+    (k : ℕ) → TookBeginning old mid all done left n m → left ≡ part ++ rest → Refuses mid new part m k
+    → Refuses old new (all ++ ended) n k
+refuses_in {old} {mid} {all} {done} {n = n} {m = m} new part rest ended k took next failed =
+    let e : all ≡ (done ++ part) ++ rest = took.split ∙ ap (λ (l : List ℕ). done ++ l) next ∙ sym (append_assoc done part rest) in
     refuses_same old new ((done ++ part) ++ (rest ++ ended)) (all ++ ended) n k
     (sym (append_assoc (done ++ part) rest ended) ∙ ap (λ (l : List ℕ). l ++ ended) (sym e))
-    (refuses_more old new (done ++ part) (rest ++ ended) n k (refused_after old mid new done part n m k wrote failed))
+    (refuses_more old new (done ++ part) (rest ++ ended) n k (refused_after old mid new done part n m k took.wrote failed))
 
 -- all of it is done
 done_all : (all done left : List ℕ) → all ≡ done ++ left → left ≡ [] → done ≡ all
 done_all all done left e none = sym (e ∙ ap (λ (l : List ℕ). done ++ l) none ∙ append-nil done)
 
 -- the sink takes what ends it
-pub accepts_end : (old mid new : Option (List ℕ)) (all done left ended : List ℕ) (n m k : ℕ) → all ≡ done ++ left → left ≡ []
-    → Accepts old mid done n m → Accepts mid new ended m k → Accepts old new (all ++ ended) n k
-accepts_end old mid new all done left ended n m k e none wrote more =
-    accepts_same old new (done ++ ended) (all ++ ended) n k (ap (λ (l : List ℕ). l ++ ended) (done_all all done left e none))
-    (accepted_both old mid new done ended n m k wrote more)
+pub accepts_end : {old mid : Option (List ℕ)} {all done left : List ℕ} {n m : ℕ} (new : Option (List ℕ)) (ended : List ℕ) (k : ℕ)
+    → TookBeginning old mid all done left n m → left ≡ [] → Accepts mid new ended m k → Accepts old new (all ++ ended) n k
+accepts_end {old} {mid} {all} {done} {left} {n} {m} new ended k took none more =
+    accepts_same old new (done ++ ended) (all ++ ended) n k (ap (λ (l : List ℕ). l ++ ended) (done_all all done left took.split none))
+    (accepted_both old mid new done ended n m k took.wrote more)
 
 -- the sink fails in what ends it
-pub refuses_end : (old mid new : Option (List ℕ)) (all done left ended : List ℕ) (n m k : ℕ) → all ≡ done ++ left → left ≡ []
-    → Accepts old mid done n m → Refuses mid new ended m k → Refuses old new (all ++ ended) n k
-refuses_end old mid new all done left ended n m k e none wrote failed =
-    refuses_same old new (done ++ ended) (all ++ ended) n k (ap (λ (l : List ℕ). l ++ ended) (done_all all done left e none))
-    (refused_after old mid new done ended n m k wrote failed)
+pub refuses_end : {old mid : Option (List ℕ)} {all done left : List ℕ} {n m : ℕ} (new : Option (List ℕ)) (ended : List ℕ) (k : ℕ)
+    → TookBeginning old mid all done left n m → left ≡ [] → Refuses mid new ended m k → Refuses old new (all ++ ended) n k
+refuses_end {old} {mid} {all} {done} {left} {n} {m} new ended k took none failed =
+    refuses_same old new (done ++ ended) (all ++ ended) n k (ap (λ (l : List ℕ). l ++ ended) (done_all all done left took.split none))
+    (refused_after old mid new done ended n m k took.wrote failed)

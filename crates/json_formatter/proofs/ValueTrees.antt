@@ -105,12 +105,12 @@ reads_none style d s rest e =
     }
 
 -- one more
-reads_more : (style : Style) (d : ℕ) (ss : List (List ℕ)) (s : List ℕ) (more left rest : List (List ℕ)) (t : Tree) (trees : List Tree)
-    (first numbers : Bool)
-    → ss ≡ s ∷ more → closes s ≡ false → is_number s ≡ first → member (value style d) ss ≡ read t left
+reads_more : {ss : List (List ℕ)} {s : List ℕ} {more rest : List (List ℕ)} {t : Tree} {trees : List Tree} {first numbers : Bool}
+    (style : Style) (d : ℕ) (left : List (List ℕ)) → ss ≡ s ∷ more → closes s ≡ false → is_number s ≡ first
+    → member (value style d) ss ≡ read t left
     → Reads (list_members (value style d) left) rest trees numbers
     → Reads (list_members (value style d) ss) rest (t ∷ trees) (first && numbers)
-reads_more style d ss s more left rest t trees first numbers e f is m h =
+reads_more {ss} {s} {more} {t = t} {numbers = numbers} style d left e f is m h =
     let v = value style d in
     let one : list_member v (s ∷ more) ≡ read (record { tree = t; is_number = is_number s }) left =
     ap (λ (p : Read Tree). then_read p (λ (x : Tree). read (record { tree = x; is_number = is_number s }))) (ap (member v) (sym e) ∙ m) in
@@ -215,7 +215,7 @@ mutual
       let first = reads_value style d v (max_left (depth v) (items_depth vs) d l) h.0 (more_items vs ++ rest) in
       let later = reads_items style d vs (max_right (depth v) (items_depth vs) d l) h.1 rest in
       let all =
-      reads_more style d _ begin.first begin.tail (spelled_items vs ++ rest) _ _ _ _ _ begin.is begin.closes begin.number
+      reads_more style d (spelled_items vs ++ rest) begin.is begin.closes begin.number
       (reads_item style d v vs rest first) later in
       rw (append_assoc (spelled v) (more_items vs) rest) all
 
@@ -228,6 +228,6 @@ mutual
       let first = reads_value style d v (max_left (depth v) (members_depth ms) d l) h.1 (more_members ms ++ rest) in
       let later = reads_members style d ms (max_right (depth v) (members_depth ms) d l) h.2 rest in
       let all =
-      reads_more style d _ k _ (spelled_members ms ++ rest) _ _ _ _ _ refl plain.closes (key_no_number k h.0)
+      reads_more {s = k} style d (spelled_members ms ++ rest) refl plain.closes (key_no_number k h.0)
       (reads_member style d k v ms rest plain.opens first) later in
       rw (append_assoc (spelled v) (more_members ms) rest) all

@@ -46,9 +46,9 @@ first_unseen rests n ss later e =
     (cc, cc)
 
 -- a list that is open, at another index or total
-moved : (rests : List (List (List ℕ))) (i j a b t u n m : ℕ) (left : List (List ℕ)) → i ≡ j → a ≡ b → t ≡ u → n ≡ m
+moved : {i j a b t u n m : ℕ} {left : List (List ℕ)} (rests : List (List (List ℕ))) → i ≡ j → a ≡ b → t ≡ u → n ≡ m
     → IsUnclosed (rest_at rests j) b u m left → IsUnclosed (rest_at rests i) a t n left
-moved rests i j a b t u n m left ij ab tu nm h = rw (ij, ab, tu, nm) h
+moved rests ij ab tu nm h = rw (ij, ab, tu, nm) h
 
 -- with the list that was opened last
 abbrev pub with_list : List Opened → ℕ → List Opened
@@ -118,7 +118,7 @@ scanned_opening rests lists unclosed t s ss k o =
             = ap (λ j. (list_at more j).start) e ∙ ap (λ l. l.start) last in
             let d : length deeper - p ≡ 1 = omega arith in
             let none : total - total ≡ 0 = omega arith in
-            moved rests _ n _ total total total _ 1 ss e begins refl d
+            moved rests e begins refl d
             (record {
               begun = omega arith;
               width = ap (width_with_comma 1) first.0
@@ -130,7 +130,7 @@ scanned_opening rests lists unclosed t s ss k o =
             let begins : (list_at more (get_or deeper p 0)).start ≡ (list_at lists (get_or unclosed p 0)).start
             = ap (λ j. (list_at more j).start) e ∙ ap (λ l. l.start) (list_before lists total _ (k.within p lt)) in
             let d : length deeper - p ≡ m - p + 1 = omega arith in
-            moved rests _ _ _ _ total total _ (m - p + 1) ss e begins refl d (unclosed_opening _ _ t (m - p) s ss (k.inner p lt) o)
+            moved rests e begins refl d (unclosed_opening _ _ t (m - p) s ss (k.inner p lt) o)
       ];
     }
 
@@ -146,12 +146,11 @@ start_same lists i j total more h =
     ]
 
 -- the innermost, of index i
-closed_inner : (rests : List (List (List ℕ))) (lists : List Opened) (unclosed : List ℕ) (t m i : ℕ)
-    (s : List ℕ) (ss : List (List ℕ))
-    → IsScanned rests lists unclosed t (s ∷ ss) → opens s ≡ false → closes s ≡ true
+closed_inner : {rests : List (List (List ℕ))} {lists : List Opened} {unclosed : List ℕ} {t i : ℕ} {s : List ℕ} {ss : List (List ℕ)}
+    (m : ℕ) → IsScanned rests lists unclosed t (s ∷ ss) → opens s ≡ false → closes s ≡ true
     → length unclosed ≡ m + 1 → get_or unclosed m 0 ≡ i
     → IsScanned rests (closed_at lists i (t + lexeme_columns s) (comma_columns ss)) (take m unclosed) (t + lexeme_columns s) ss
-closed_inner rests lists unclosed t m i s ss k o c count at_last =
+closed_inner {rests} {lists} {unclosed} {t} {i} {s} {ss} m k o c count at_last =
     let total = t + lexeme_columns s in
     let more = comma_columns ss in
     let new : Opened = record (list_at lists i) { width = Some (total - (list_at lists i).start + more) } in
@@ -203,7 +202,7 @@ closed_inner rests lists unclosed t m i s ss k o c count at_last =
           let begins : (list_at after (get_or (take m unclosed) p 0)).start ≡ (list_at lists (get_or unclosed p 0)).start
           = ap (λ q. (list_at after q).start) e ∙ start_same lists i _ total more within in
           let d : length (take m unclosed) - p ≡ length unclosed - p - 1 = omega arith in
-          moved rests _ _ _ _ total total _ (length unclosed - p - 1) ss e begins refl d
+          moved rests e begins refl d
           (unclosed_closing _ _ t (length unclosed - p) s ss (k.inner p (omega arith)) o c (omega arith));
     }
 
@@ -217,7 +216,7 @@ scanned_closing rests lists (u ∷ us) t s ss k o c =
     let e : length us ≡ length (u ∷ us) - 1 = omega arith in
     let total = t + lexeme_columns s in
     subst (λ m. IsScanned rests (closed_last lists (u ∷ us) total (comma_columns ss)) (take m (u ∷ us)) total ss) e
-    (closed_inner rests lists (u ∷ us) t (length us) _ s ss k o c (omega arith) refl)
+    (closed_inner (length us) k o c (omega arith) refl)
 
 -- ---- from the reader on
 

@@ -143,23 +143,23 @@ Opens-json (j.string s) ts = tt
 Opens-json (j.array vs) ts = tt
 Opens-json (j.object ms) ts = tt
 
--- a sign comes first, and the others give the tokens ts from a place on
-record Passed (ss : List (List ℕ)) (sign : List ℕ) (p : Place) (ts : List Token) : Type 0 where
+-- the front comes first, and the others give the tokens ts from a place on
+record Passed (ss front : List (List ℕ)) (p : Place) (ts : List Token) : Type 0 where
   texts : List (List ℕ)
   lexemes : List Lexeme
-  is : ss ≡ sign ∷ texts
+  is : ss ≡ front ++ texts
   spell : Spell texts lexemes
   go : punctuate p lexemes ≡ ts
 
 comma_first : {ss : List (List ℕ)} (ls : List Lexeme) {ts : List Token} → Spell ss ls → Opens ts → punctuate after_value ls ≡ ts
-    → Passed ss (44 ∷ []) after_comma ts
+    → Passed ss ((44 ∷ []) ∷ []) after_comma ts
 comma_first {ss} ls h opens e =
     let p = past_comma ls (subst Opens (sym e) opens) in
     let f = first_of ss comma p.0 (subst (Spell ss) p.1 h) in
     record { texts = f.texts; lexemes = p.0; is = f.is ∙ ap (λ s. s ∷ f.texts) f.spelling; spell = f.spell; go = sym p.2 ∙ e }
 
 colon_first : {ss : List (List ℕ)} (ls : List Lexeme) {ts : List Token} → Spell ss ls → Opens ts → punctuate after_key ls ≡ ts
-    → Passed ss (58 ∷ []) fresh ts
+    → Passed ss ((58 ∷ []) ∷ []) fresh ts
 colon_first {ss} ls h opens e =
     let p = past_colon ls (subst Opens (sym e) opens) in
     let f = first_of ss colon p.0 (subst (Spell ss) p.1 h) in
@@ -183,7 +183,7 @@ record Joins (w : Part) (front : List (List ℕ)) (h : List ℕ → Value → Me
 -- the front, a key, a colon, a value, and more
 with_key : {w : Part} {front : List (List ℕ)} {h : List ℕ → Value → Members → What w} (joins : Joins w front h)
     → {p : Place} {k : List ℕ} {d e : ℕ} {ss rest : List (List ℕ)} {us vs xs ts : List Token} → ss ≡ front ++ rest
-    → (s : Step p (key k) rest us) (c : Passed s.texts (58 ∷ []) fresh vs) (v : Taken a_value d c.texts xs)
+    → (s : Step p (key k) rest us) (c : Passed s.texts ((58 ∷ []) ∷ []) fresh vs) (v : Taken a_value d c.texts xs)
     → Taken later_members e v.texts ts → Taken w (max d e) ss ts
 with_key {w} {front} {h} joins split s c v more =
     let key_colon : List (List ℕ) = s.text ∷ (58 ∷ []) ∷ [] in
@@ -194,16 +194,15 @@ with_key {w} {front} {h} joins split s c v more =
 
 take_member : {w : Part} {front : List (List ℕ)} {h : List ℕ → Value → Members → What w} (joins : Joins w front h)
     (k : List ℕ) (v : Json) (ms : j.Members) → TakesValue v → Takes later_members (members_tokens ms) (tree.members_depth ms) after_value
-    → (p : Place) → may_begin p ≡ true → {ss : List (List ℕ)} (rest : List (List ℕ)) → ss ≡ front ++ rest
-    → (ls : List Lexeme) (ts : List Token) → Spell rest ls → punctuate p ls ≡ members_tokens (j.member k v ms) ++ ts
-    → Taken w (tree.members_depth (j.member k v ms)) ss ts
-take_member joins k v ms take more p m rest split ls ts sp e =
+    → {p : Place} {ss : List (List ℕ)} → may_begin p ≡ true → (ts : List Token)
+    → Passed ss front p (members_tokens (j.member k v ms) ++ ts) → Taken w (tree.members_depth (j.member k v ms)) ss ts
+take_member joins k v ms take more {p} m ts h =
     let us = members_tokens ms ++ ts in
     let regrouped = ap (λ l. key k ∷ l) (append_assoc (json_tokens v) (members_tokens ms) ts) in
-    let s = step p ls rest (key k) (json_tokens v ++ us) m (λ i. cc) sp (e ∙ regrouped) in
+    let s = step p h.lexemes h.texts (key k) (json_tokens v ++ us) m (λ i. cc) h.spell (h.go ∙ regrouped) in
     let c = colon_first s.lexemes s.spell (Opens-json v us) s.go in
     let first = take fresh refl c.texts c.lexemes us c.spell c.go in
-    with_key joins split s c first (more first.texts first.lexemes ts first.spell first.go)
+    with_key joins h.is s c first (more first.texts first.lexemes ts first.spell first.go)
 
 Joins-first : Joins all_members [] member
 Joins-first = record { spells = λ t v a. refl; deeper = λ t v a. refl; formed = λ t v a q f g. (q, f, g) }
@@ -251,15 +250,15 @@ mutual
       let s = step fresh ls ss end_object ts refl (λ i. cc) h e in
       single s no_members refl (ap (λ t. t ∷ []) (sym s.spelling)) refl tt
   take_members (j.member k v ms) ss ls ts h e =
-      take_member Joins-first k v ms (take_value v) (take_later_members ms) fresh refl ss refl ls ts h e
+      take_member Joins-first k v ms (take_value v) (take_later_members ms) refl ts
+      (record { texts = ss; lexemes = ls; is = refl; spell = h; go = e })
 
   take_later_members : (ms : j.Members) → Takes later_members (members_tokens ms) (tree.members_depth ms) after_value
   take_later_members j.no_members ss ls ts h e =
       let s = step_end ls ss end_object ts refl (λ i. cc) h e in
       single s no_members refl (ap (λ t. t ∷ []) (sym s.spelling)) refl tt
   take_later_members (j.member k v ms) ss ls ts h e =
-      let c = comma_first ls h tt e in
-      take_member Joins-later k v ms (take_value v) (take_later_members ms) after_comma refl c.texts c.is c.lexemes ts c.spell c.go
+      take_member Joins-later k v ms (take_value v) (take_later_members ms) refl ts (comma_first ls h tt e)
 
 -- ---- nothing is left
 

@@ -12,14 +12,12 @@ returns-in_err-write_text-clause-beginning g c =
 pub returns-in-Err-clause-ok : goal.returns-in-Err-clause-ok
 returns-in-Err-clause-ok g c =
     on_ok_weaker c.write_text-in-Err.result
-    (sent_all _ _ _ c.args.held.now.bytes c.as_bytes.result.now c.try_push_str.new.self.bytes c.args.text.now c.as_bytes-in-Err.result.now
-    (c.as_bytes.ensures.value ∙ c.as_str.ensures.value) c.as_bytes-in-Err.ensures.value
+    (sent_all _ _ _ (c.as_bytes.ensures.value ∙ c.as_str.ensures.value) c.as_bytes-in-Err.ensures.value
     (ap (λ s. s.bytes) c.in-Err.ensures.err ∙ c.clear.ensures) c.in_ok-write_text.ensures.ok)
     c.write_text-in-Err.ensures.ok
 
 pub returns-in-Err-clause-beginning : goal.returns-in-Err-clause-beginning
 returns-in-Err-clause-beginning g c =
     on_err_weaker c.write_text-in-Err.result
-    (sent_stops _ _ _ c.args.held.now.bytes c.as_bytes.result.now c.args.text.now c.as_bytes-in-Err.result.now
-    (c.as_bytes.ensures.value ∙ c.as_str.ensures.value) c.as_bytes-in-Err.ensures.value c.in_ok-write_text.ensures.ok)
+    (sent_stops _ _ _ (c.as_bytes.ensures.value ∙ c.as_str.ensures.value) c.as_bytes-in-Err.ensures.value c.in_ok-write_text.ensures.ok)
     c.write_text-in-Err.ensures.beginning
