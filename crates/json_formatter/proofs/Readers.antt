@@ -65,14 +65,3 @@ many_shrinks ends reader shrinks zero ss = omega arith
 many_shrinks ends reader shrinks (suc n) [] = omega arith
 many_shrinks ends reader shrinks (suc n) (s ∷ ss) =
     one_shrinks ends reader shrinks n s ss (cases_Bool (ends s)) (many_shrinks ends reader shrinks n (reader (s ∷ ss)).left)
-
--- where no lexeme ends it, and so many times are enough, none is left
-pub many_read_all : {A : Type 0} (reader : Reader A) → Shrinks reader → (n : ℕ) (ss : List (List ℕ)) → length ss ≤ n →
-    (many (λ _. false) reader n ss).left ≡ []
-unfolding many
-many_read_all reader shrinks zero [] l = refl
-many_read_all reader shrinks zero (s ∷ ss) l = absurd (omega arith)
-many_read_all reader shrinks (suc n) [] l = refl
-many_read_all reader shrinks (suc n) (s ∷ ss) l =
-    let h = shrinks s ss in
-    many_read_all reader shrinks n (reader (s ∷ ss)).left (omega (arith, h))

@@ -97,10 +97,6 @@ with_value value key ss =
     then then_read (value (drop 1 ss)) (λ v. read (append (append (append key (text (ascii.colon ∷ []))) space) v))
     else read key ss
 
--- a comma, a colon and a space
-abbrev pub AreMarks : Tree → Tree → Tree → Type 0
-AreMarks comma colon gap = (comma ≡ text (ascii.comma ∷ [])) × (colon ≡ text (ascii.colon ∷ [])) × (gap ≡ space)
-
 -- a document, and the comma, if it is next
 abbrev pub with_comma : Tree → Reader Tree
 with_comma tree ss =
@@ -125,12 +121,6 @@ all_numbers ms = list_all (λ m. m.is_number) ms
 -- the members of a list, up to what closes it
 abbrev pub list_members : Reader Tree → Reader (List Member)
 list_members value = until closes (list_member value)
-
--- members that were read after others: these trees came first, and so much is known of whether all are numbers
-pub record ContinuesMembers (all later : Read (List Member)) (trees : List Tree) (are_numbers : Bool) : Type 0 where
-  pub documents : trees_of all.found ≡ trees ++ trees_of later.found
-  pub numbers : all_numbers all.found ≡ (are_numbers && all_numbers later.found)
-  pub left : all.left ≡ later.left
 
 -- documents between two others: flat, or in lines that are filled, indented by k columns
 abbrev pub filled_list : Tree → List Tree → Tree → ℤ → Tree

@@ -4,11 +4,6 @@ use Rattle.prettyless_doc.specs.Tree.{Text}
 use Rattle.prettyless_model.specs.Spaces.{spaces}
 use Rattle.prettyless_build.specs.Built.{IsNotNil, gap_tree, hundreds}
 
--- a gap of some spaces is a text
-pub gap_of_some : (n : ℕ) → 0 < n → Text (spaces n) ≡ gap_tree n
-gap_of_some zero h = absurd (omega arith)
-gap_of_some (suc n) h = refl
-
 -- what is something holds a hundred
 pub hundreds_of_some : (n : ℕ) → IsNotNil (hundreds n) → 0 < n
 hundreds_of_some zero h = absurd h

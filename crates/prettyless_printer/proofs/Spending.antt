@@ -251,13 +251,6 @@ spends_broke f p h plain =
     let counts = failed_at_most h.one.more in
     spends_then (h.spent plain) (step_spends h.visits (at_most_all counts) (λ g. tt) (λ e. refl))
 
--- the current task is the next one again
-pub spends_stopped : {r : Rule} {a : Left} (t : Task) (p : Standing) {v : Visits} (q : Standing) → q.tasks ≡ t ∷ p.tasks → q.queue ≡ p.queue
-    → Spends r a (left_with t p v) → Spends r a (left q [] v)
-spends_stopped {r} {a} t p {v} q e h k =
-    subst (λ (z : List Task). Spends r a (on_tasks z q.queue v)) (sym e)
-    (subst (λ (z : List Tree). Spends r a (on_tasks (t ∷ p.tasks) z v)) (sym h) k)
-
 -- the next command is the current one
 pub spends_begun : (r : Rule) (a p : Standing) (t : Task) (v : Visits) → a.tasks ≡ t ∷ p.tasks → p.queue ≡ a.queue
     → Spends r (left a [] v) (left_with t p v)
