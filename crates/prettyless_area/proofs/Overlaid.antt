@@ -35,11 +35,11 @@ take_more : (limit count taken : ℕ) (given piece : List ℕ) → count ≡ min
 take_more limit count taken given piece c t = same_lists _ _ (search (rules, places)) (λ k d inside. grind (arith, places))
 
 -- a piece is given: what of it is within the limit is put, as far as there is room
-pub overlay_given : (area before given piece copied : List ℕ) (limit count taken from fits : ℕ)
+pub overlay_given : (before given piece : List ℕ) (limit : ℕ) {area copied : List ℕ} {count taken from fits : ℕ}
     → area ≡ overlay (take limit given) before → count ≡ min limit (length given) → taken ≡ min (length piece) (limit - count)
     → from ≡ min count (length area) → fits ≡ min taken (length area - from) → copied ≡ take fits piece
     → take from area ++ (copied ++ drop ((from + fits) - from) (drop from area)) ≡ overlay (take limit (given ++ piece)) before
-overlay_given area before given piece copied limit count taken from fits e counts takes start fit copy =
+overlay_given before given piece limit {area} {copied} {count} {taken} {from} {fits} e counts takes start fit copy =
     let same : (from + fits) - from ≡ fits = omega arith in
     let within : copied ≡ take fits (take taken piece) = copy ∙ sym (take-take fits taken piece (omega arith)) in
     rw (same, within, take_more limit count taken given piece counts takes)

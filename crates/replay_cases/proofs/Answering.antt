@@ -21,9 +21,14 @@ some_answer_at number line false e =
 pub some_answer : (number : ℕ) (line : List ℕ) → (written : List ℕ) × AnswerLine number line written
 some_answer number line = some_answer_at number line (is_skipped line) refl
 
+-- how the write of a piece came out
+pub record Writes {A E : Type 0} (old new : Option (List ℕ)) (piece : List ℕ) (n m : ℕ) (r : Result A E) : Type 0 where
+  pub accepted : OnOk r (Accepts old new piece n m)
+  pub refused : OnErr r (Refuses old new piece n m)
+
 -- a piece was accepted, and then the next was, or was refused
-pub written_after : {A E : Type 0} (old mid new : Option (List ℕ)) (text next : List ℕ) (n m k : ℕ) (r : Result A E)
-    → Accepts old mid text n m → OnOk r (Accepts mid new next m k) → OnErr r (Refuses mid new next m k)
+pub written_after : {A E : Type 0} (old : Option (List ℕ)) {mid new : Option (List ℕ)} (text : List ℕ) {next : List ℕ} (n : ℕ) {m k : ℕ}
+    {r : Result A E} → Accepts old mid text n m → Writes mid new next m k r
     → IfKnown old new (λ before after. WritesAnswer (text ++ next) before after n k r)
-written_after old mid new text next n m k (Ok done) first accepted refused = accepted_both old mid new text next n m k first accepted
-written_after old mid new text next n m k (Err error) first accepted refused = refused_after old mid new text next n m k first refused
+written_after {A} {E} old {mid} {new} text {next} n {m} {k} {r = Ok done} first h = accepted_both old mid new text next n m k first h.accepted
+written_after {A} {E} old {mid} {new} text {next} n {m} {k} {r = Err error} first h = refused_after old mid new text next n m k first h.refused

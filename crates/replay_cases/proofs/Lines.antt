@@ -127,18 +127,26 @@ line_read : (left after : Option (List ℕ)) (rest line : List ℕ) (found : Boo
 line_read left after rest line found f e r = if_some (λ x. ReadsLine true x line after) left rest e
     (subst (λ (b : Bool). IfSome left (λ x. ReadsLine b x line after)) f r)
 
-pub answers_one_more : (known : Option (List ℕ)) (n : ℕ) (left after : Option (List ℕ)) (old mid new line first : List ℕ) (found : Bool)
-    → found ≡ true → AnswersSoFar known n left old mid → IfSome left (λ bytes. ReadsLine found bytes line after)
-    → AnswerLine (n + 1) line first → new ≡ mid ++ first → AnswersSoFar known (n + 1) after old new
-answers_one_more None n left after old mid new line first found f h r is added = tt
-answers_one_more (Some bytes) n left after old mid new line first found f (rest, written, e, appended, more) r is added =
-    let read = line_read left after rest line found f e r in (
+-- After the answers so far the next line was read, and this is its answer.
+pub record AnswersNext (known : Option (List ℕ)) (n : ℕ) (left after : Option (List ℕ)) (old mid line first : List ℕ)
+    (found : Bool) : Type 0 where
+  pub so_far : AnswersSoFar known n left old mid
+  pub is_found : found ≡ true
+  pub reads : IfSome left (λ bytes. ReadsLine found bytes line after)
+  pub answer : AnswerLine (n + 1) line first
+
+pub answers_one_more : {known : Option (List ℕ)} {n : ℕ} {left after : Option (List ℕ)} {old mid new line first : List ℕ} {found : Bool}
+    → AnswersNext known n left after old mid line first found → new ≡ mid ++ first → AnswersSoFar known (n + 1) after old new
+answers_one_more {known = None} h added = tt
+answers_one_more {known = Some bytes} {n} {left} {after} {old} {mid} {new} {line} {first} {found} h added =
+    let before = h.so_far in
+    let read = line_read left after before.0 line found h.is_found before.2 h.reads in (
       read.0,
-      written ++ first,
+      before.1 ++ first,
       read.1,
-      appended_on old mid new written first appended added,
-      λ others h. subst (AreAnswers 0 (lines_of bytes)) (sym (append_assoc written first others))
-          (more (first ++ others) (answers_go_on n rest line read.0 first others read.2 is h)),
+      appended_on old mid new before.1 first before.3 added,
+      λ others more. subst (AreAnswers 0 (lines_of bytes)) (sym (append_assoc before.1 first others))
+          (before.4 (first ++ others) (answers_go_on n before.0 line read.0 first others read.2 h.answer more)),
     )
 
 pub answers_end : (known : Option (List ℕ)) (n : ℕ) (left after : Option (List ℕ)) (old new line : List ℕ) (found : Bool) → found ≡ false
@@ -159,14 +167,15 @@ answers_stop (Some bytes) n left old new (rest, written, e, appended, more) =
     (written ++ others.0, more others.0 others.1, (written, others.0, refl, appended))
 
 -- and so they are with a beginning of the next
-pub answers_break : (known : Option (List ℕ)) (n : ℕ) (left after : Option (List ℕ)) (old mid new line first : List ℕ) (found : Bool)
-    → found ≡ true → AnswersSoFar known n left old mid → IfSome left (λ bytes. ReadsLine found bytes line after)
-    → AnswerLine (n + 1) line first → AppendsBeginning mid new first → IfSome known (λ bytes. BeginsAnswers bytes old new)
-answers_break None n left after old mid new line first found f h r is begun = tt
-answers_break (Some bytes) n left after old mid new line first found f (rest, written, e, appended, more) r is begun =
-    let read = line_read left after rest line found f e r in
+pub answers_break : {known : Option (List ℕ)} {n : ℕ} {left after : Option (List ℕ)} {old mid : List ℕ} (new : List ℕ)
+    {line first : List ℕ} {found : Bool} → AnswersNext known n left after old mid line first found → AppendsBeginning mid new first
+    → IfSome known (λ bytes. BeginsAnswers bytes old new)
+answers_break {known = None} new h begun = tt
+answers_break {known = Some bytes} {n} {left} {after} {old} {mid} new {line} {first} {found} h begun =
+    let before = h.so_far in
+    let read = line_read left after before.0 line found h.is_found before.2 h.reads in
     let others = some_answers (n + 1) (lines_of read.0) in (
-      written ++ (first ++ others.0),
-      more (first ++ others.0) (answers_go_on n rest line read.0 first others.0 read.2 is others.1),
-      beginning_after old mid new written (first ++ others.0) appended (beginning_of_more mid new first others.0 begun),
+      before.1 ++ (first ++ others.0),
+      before.4 (first ++ others.0) (answers_go_on n before.0 line read.0 first others.0 read.2 h.answer others.1),
+      beginning_after old mid new before.1 (first ++ others.0) before.3 (beginning_of_more mid new first others.0 begun),
     )

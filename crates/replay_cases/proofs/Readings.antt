@@ -54,9 +54,9 @@ one_beginning items a b r s h k =
 pub other_word : (a b : List ℕ) → bytes_eq a a ≡ true → bytes_eq a b ≡ false → a ≡ b → ⊥
 other_word a b same other e = let x : true ≡ false = sym same ∙ ap (bytes_eq a) e ∙ other in absurd cc
 
-one_limit : (name : List ℕ) (k l : ℕ) (items r s : List OperandItem) (w v : List ℕ) → items ≡ word name ∷ word w ∷ r → IsNumber k w
+one_limit : {name w v : List ℕ} {k l : ℕ} {items r s : List OperandItem} → items ≡ word name ∷ word w ∷ r → IsNumber k w
     → items ≡ word name ∷ word v ∷ s → IsNumber l v → (k ≡ l) × (r ≡ s)
-one_limit name k l items r s w v begins number begins' number' =
+one_limit {name} {w} {v} {k} {l} {items} {r} {s} begins number begins' number' =
     let x = one_word name name (word w ∷ r) (word v ∷ s) items begins begins' in
     let y = one_word w v r s (word w ∷ r) refl x.1 in
     (number.2 ∙ ap (digits_value 10) y.0 ∙ sym number'.2, y.1)
@@ -68,10 +68,10 @@ pub one_column_test : (items : List OperandItem) (a b : ColumnTest) (r s : List 
     TakesColumnTest items b s
     → (a ≡ b) × (r ≡ s)
 one_column_test items (by_column.AtMost k) (by_column.AtMost l) r s (w, begins, number) (v, begins', number') =
-    let x = one_limit (codes "atmost") k l items r s w v begins number begins' number' in
+    let x = one_limit begins number begins' number' in
     (ap by_column.AtMost x.0, x.1)
 one_column_test items (by_column.AtLeast k) (by_column.AtLeast l) r s (w, begins, number) (v, begins', number') =
-    let x = one_limit (codes "atleast") k l items r s w v begins number begins' number' in
+    let x = one_limit begins number begins' number' in
     (ap by_column.AtLeast x.0, x.1)
 one_column_test items by_column.IsNesting by_column.IsNesting r s h k =
     (refl, (one_word (codes "nesting") (codes "nesting") r s items h k).1)
@@ -98,10 +98,10 @@ pub one_nesting_test : (items : List OperandItem) (a b : NestingTest) (r s : Lis
     TakesNestingTest items b s
     → (a ≡ b) × (r ≡ s)
 one_nesting_test items (by_nesting.AtMost k) (by_nesting.AtMost l) r s (w, begins, number) (v, begins', number') =
-    let x = one_limit (codes "atmost") k l items r s w v begins number begins' number' in
+    let x = one_limit begins number begins' number' in
     (ap by_nesting.AtMost x.0, x.1)
 one_nesting_test items (by_nesting.AtLeast k) (by_nesting.AtLeast l) r s (w, begins, number) (v, begins', number') =
-    let x = one_limit (codes "atleast") k l items r s w v begins number begins' number' in
+    let x = one_limit begins number begins' number' in
     (ap by_nesting.AtLeast x.0, x.1)
 one_nesting_test items (by_nesting.AtMost k) (by_nesting.AtLeast l) r s (w, begins, number) (v, begins', number') =
     absurd (other_word (codes "atmost") (codes "atleast") refl refl
@@ -402,11 +402,11 @@ wrapper_left name w d inner ws others items e is h =
     subst (λ (x : List (List ℕ)). IsLeft (wrapped w d) x others items) (sym is)
     (made_left name (operators.Wrapper w) (inner ++ others) (document d ∷ items) items (wrapped w d) e h (d, refl, refl))
 
-join_left : (name : List ℕ) (j : Join) (d f : Tree) (us vs ws others : List (List ℕ)) (items : List OperandItem) →
-    Names name (operators.Join j)
+join_left : {name : List ℕ} (j : Join) (d f : Tree) (us vs : List (List ℕ)) {ws : List (List ℕ)} (others : List (List ℕ))
+    (items : List OperandItem) → Names name (operators.Join j)
     → ws ≡ name ∷ us ++ vs
     → IsLeft d us (vs ++ others) (document f ∷ items) → IsLeft (node_of_two j d f) ws others items
-join_left name j d f us vs ws others items e is h =
+join_left {name} j d f us vs {ws} others items e is h =
     let regrouped = subst (λ (x : List (List ℕ)). Leaves x (document d ∷ document f ∷ items)) (sym (append_assoc us vs others)) h in
     subst (λ (x : List (List ℕ)). IsLeft (node_of_two j d f) x others items) (sym is)
     (made_left name (operators.Join j) ((us ++ vs) ++ others) (document d ∷ document f ∷ items) items (node_of_two j d f) e regrouped
@@ -444,10 +444,10 @@ nesting_test_left (by_nesting.AtMost k) us others items (w, is, number) h =
 nesting_test_left (by_nesting.AtLeast k) us others items (w, is, number) h =
     (word (codes "atleast") ∷ word w ∷ items, limit_left (codes "atleast") k w us others items (refl, refl) is number h, (w, refl, number))
 
-choice_left : (name : List ℕ) (o : Operator) (d : Tree) (us vs zs ws others : List (List ℕ)) (before items : List OperandItem) →
-    Names name o
-    → ws ≡ name ∷ us ++ (vs ++ zs) → Leaves (us ++ (vs ++ (zs ++ others))) before → Makes o before d items → IsLeft d ws others items
-choice_left name o d us vs zs ws others before items e is h makes =
+choice_left : {name : List ℕ} (o : Operator) (d : Tree) (us vs zs : List (List ℕ)) {ws : List (List ℕ)} (others : List (List ℕ))
+    (items : List OperandItem) → Names name o → ws ≡ name ∷ us ++ (vs ++ zs)
+    → TestLeft (λ before. Makes o before d items) us (vs ++ (zs ++ others)) → IsLeft d ws others items
+choice_left {name} o d us vs zs {ws} others items e is (before, h, makes) =
     subst (λ (x : List (List ℕ)). IsLeft d x others items) (sym is)
     (subst (λ (x : List (List ℕ)). Leaves (name ∷ x) (document d ∷ items))
     (sym (append_assoc us (vs ++ zs) others ∙ ap (λ (x : List (List ℕ)). us ++ x) (append_assoc vs zs others)))
@@ -470,7 +470,7 @@ spelled_is_left (t.MultilineText s) ws others items (w, is, text, broken) k =
     (made_left (codes "m") operators.Payload (w ∷ others) (word w ∷ items) items (t.MultilineText s) (refl, refl)
     (word_left w others items (text_names_none s w text) k) (s, refl, (w, refl, text), broken))
 spelled_is_left (t.Append l r) ws others items (us, vs, is, first, second) k =
-    join_left (codes "app") joins.Append l r us vs ws others items (refl, refl) is
+    join_left joins.Append l r us vs others items (refl, refl) is
     (spelled_is_left l us (vs ++ others) (document r ∷ items) first (spelled_is_left r vs others items second k))
 spelled_is_left (t.LineSuffix d) ws others items (inner, is, h) k = wrapper_left (codes "sfx") wrappers.LineSuffix d inner ws others items
     (refl, refl) is (spelled_is_left d inner others items h k)
@@ -486,26 +486,26 @@ spelled_is_left (t.Align d) ws others items (inner, is, h) k = wrapper_left (cod
 spelled_is_left (t.Flatten d) ws others items (inner, is, h) k = wrapper_left (codes "flat") wrappers.Flatten d inner ws others items
     (refl, refl) is (spelled_is_left d inner others items h k)
 spelled_is_left (t.BreakOrFlat l r) ws others items (us, vs, is, first, second) k =
-    join_left (codes "bof") joins.BreakOrFlat l r us vs ws others items (refl, refl) is
+    join_left joins.BreakOrFlat l r us vs others items (refl, refl) is
     (spelled_is_left l us (vs ++ others) (document r ∷ items) first (spelled_is_left r vs others items second k))
 spelled_is_left (t.Group d) ws others items (inner, is, h) k = wrapper_left (codes "grp") wrappers.Group d inner ws others items
     (refl, refl) is (spelled_is_left d inner others items h k)
 spelled_is_left (t.Union l r) ws others items (us, vs, is, first, second) k =
-    join_left (codes "uni") joins.Union l r us vs ws others items (refl, refl) is
+    join_left joins.Union l r us vs others items (refl, refl) is
     (spelled_is_left l us (vs ++ others) (document r ∷ items) first (spelled_is_left r vs others items second k))
 spelled_is_left (t.PartialUnion l r) ws others items (us, vs, is, first, second) k =
-    join_left (codes "puni") joins.PartialUnion l r us vs ws others items (refl, refl) is
+    join_left joins.PartialUnion l r us vs others items (refl, refl) is
     (spelled_is_left l us (vs ++ others) (document r ∷ items) first (spelled_is_left r vs others items second k))
 spelled_is_left (t.OnColumn test l r) ws others items (us, vs, zs, is, tested, first, second) k =
     let both = spelled_is_left l vs (zs ++ others) (document r ∷ items) first (spelled_is_left r zs others items second k) in
     let x = column_test_left test us (vs ++ (zs ++ others)) (document l ∷ document r ∷ items) tested both in
-    choice_left (codes "oncol") operators.OnColumn (t.OnColumn test l r) us vs zs ws others x.0 items (refl, refl) is x.1
-    (test, l, r, refl, x.2)
+    choice_left operators.OnColumn (t.OnColumn test l r) us vs zs others items (refl, refl) is
+    (x.0, x.1, (test, l, r, refl, x.2))
 spelled_is_left (t.OnNesting test l r) ws others items (us, vs, zs, is, tested, first, second) k =
     let both = spelled_is_left l vs (zs ++ others) (document r ∷ items) first (spelled_is_left r zs others items second k) in
     let x = nesting_test_left test us (vs ++ (zs ++ others)) (document l ∷ document r ∷ items) tested both in
-    choice_left (codes "onnest") operators.OnNesting (t.OnNesting test l r) us vs zs ws others x.0 items (refl, refl) is x.1
-    (test, l, r, refl, x.2)
+    choice_left operators.OnNesting (t.OnNesting test l r) us vs zs others items (refl, refl) is
+    (x.0, x.1, (test, l, r, refl, x.2))
 -- every other node is one word
 spelled_is_left d ws others items h k = leaf_left d ws others items h k
 

@@ -12,5 +12,6 @@ returns-in_err-write_str_all g c =
     (failed.0, (beginning_of_more _ _ c.args.text.now (10 ∷ []) failed.1.0, failed.1.1)))
 
 pub returns : goal.returns
-returns g c = written_after _ _ _ c.args.text.now (10 ∷ []) _ _ _ c.write_str_all-2.result c.in_ok-write_str_all.ensures.ok
-    c.write_str_all-2.ensures.ok c.write_str_all-2.ensures.err
+returns g c =
+    written_after _ c.args.text.now {next = 10 ∷ []} _ {r = c.write_str_all-2.result} c.in_ok-write_str_all.ensures.ok
+    (record { accepted = c.write_str_all-2.ensures.ok; refused = c.write_str_all-2.ensures.err })

@@ -1,7 +1,7 @@
 use Rattle.std.proofs.Common.{refl, ◌∙◌, ap, inl, inr}
 use Rattle.std.proofs.lemmas.Result.{err_from_is_err_and}
 use Rattle.prettyless_sink.specs.Sink.{known, known_of, rise}
-use Rattle.replay_cases.proofs.Lines.{answers_start, answers_one_more, answers_end, answers_stop, answers_break}
+use Rattle.replay_cases.proofs.Lines.{AnswersNext, answers_start, answers_one_more, answers_end, answers_stop, answers_break}
 use Rattle.replay_cases.proofs.run.run.Goals as goal
 
 pub loop-before-init : goal.loop-before-init
@@ -14,12 +14,17 @@ loop-before-preserved g c = λ is_known.
     let written = known_of g.S.Render.bytes in
     let before = c.loop-before.invariant is_known in
     let wrote = (rw c.deref.ensures.value at c.in_ok-answer.ensures) before.0 in
-    let answer = wrote.1 in (
+    let answer = wrote.1 in
+    let next : AnswersNext (left c.args.reader.now) c.loop-before.before (left c.loop-before.reader) (left c.next_line.new.reader)
+    (written c.args.out.now) (written c.loop-before.out) c.next_line.new.line.items answer.0 c.in_ok-next_line.field-0
+    = record {
+      so_far = before.1;
+      is_found = c.if-not-branch.false;
+      reads = c.in_ok-next_line.ensures.ok;
+      answer = answer.1;
+    } in (
       wrote.0,
-      answers_one_more (left c.args.reader.now) c.loop-before.before (left c.loop-before.reader) (left c.next_line.new.reader)
-          (written c.args.out.now) (written c.loop-before.out) (written c.answer.new.out) c.next_line.new.line.items answer.0
-          c.in_ok-next_line.field-0
-          c.if-not-branch.false before.1 c.in_ok-next_line.ensures.ok answer.1 answer.2.0,
+      answers_one_more next answer.2.0,
       answer.2.1 ∙ before.2,
     )
 
@@ -58,13 +63,18 @@ returns-in_err-answer g c =
     rw p.1 (λ is_known.
     let before = c.loop-before.invariant is_known in
     let wrote = (rw c.deref.ensures.value at c.in_err-answer.ensures) before.0 in
-    let answer = wrote.1 in (
+    let answer = wrote.1 in
+    let next : AnswersNext (left c.args.reader.now) c.loop-before.before (left c.loop-before.reader) (left c.next_line.new.reader)
+    (written c.args.out.now) (written c.loop-before.out) c.next_line.new.line.items answer.0 c.in_ok-next_line.field-0
+    = record {
+      so_far = before.1;
+      is_found = c.if-not-branch.false;
+      reads = c.in_ok-next_line.ensures.ok;
+      answer = answer.1;
+    } in (
       wrote.0,
       (
-        answers_break (left c.args.reader.now) c.loop-before.before (left c.loop-before.reader) (left c.next_line.new.reader)
-            (written c.args.out.now) (written c.loop-before.out) (written c.answer.new.out) c.next_line.new.line.items answer.0
-            c.in_ok-next_line.field-0
-            c.if-not-branch.false before.1 c.in_ok-next_line.ensures.ok answer.1 answer.2.0,
+        answers_break (written c.answer.new.out) next answer.2.0,
         inr (answer.2.1 ∙ ap rise before.2),
       ),
     ))
