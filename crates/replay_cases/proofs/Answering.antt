@@ -30,5 +30,7 @@ pub record Writes {A E : Type 0} (old new : Option (List ℕ)) (piece : List ℕ
 pub written_after : {A E : Type 0} (old : Option (List ℕ)) {mid new : Option (List ℕ)} (text : List ℕ) {next : List ℕ} (n : ℕ) {m k : ℕ}
     {r : Result A E} → Accepts old mid text n m → Writes mid new next m k r
     → IfKnown old new (λ before after. WritesAnswer (text ++ next) before after n k r)
-written_after {A} {E} old {mid} {new} text {next} n {m} {k} {r = Ok done} first h = accepted_both old mid new text next n m k first h.accepted
-written_after {A} {E} old {mid} {new} text {next} n {m} {k} {r = Err error} first h = refused_after old mid new text next n m k first h.refused
+written_after {A} {E} old {mid} {new} text {next} n {m} {k} {r = Ok done} first h =
+    accepted_both old mid new text next n m k first h.accepted
+written_after {A} {E} old {mid} {new} text {next} n {m} {k} {r = Err error} first h =
+    refused_after old mid new text next n m k first h.refused
