@@ -31,6 +31,8 @@ length-downwards : {A : Type 0} (g : A → Task) (xs : List A) → length (downw
 length-downwards g [] = refl
 length-downwards g (x ∷ xs) = omega (arith, length-append (downwards g xs) (g x ∷ []), length-downwards g xs)
 
+-- # Nodes and frames
+
 -- a node more
 pub tasks_push : {N : Type 0} (f : N → Tree) (xs : List Frame) (here : Frame) (ns : List N) (n : N) → Rises xs here
     → here.below ≤ length ns →
@@ -42,6 +44,8 @@ tasks_push {N} f xs here ns n r l = ap (downwards (task f)) (spread-append xs he
 pub tasks_open : {N : Type 0} (f : N → Tree) (xs : List Frame) (below here : Frame) (ns : List N) → here.below ≡ length ns
     → framed_tasks f (xs ++ below ∷ []) here ns ≡ framed_tasks f xs below ns
 tasks_open {N} f xs below here ns e = ap (downwards (task f)) (spread_open xs below here ns e)
+
+-- # How many tasks there are
 
 pub length-tasks : {N : Type 0} (f : N → Tree) (xs : List Frame) (here : Frame) (ns : List N) → lowest xs here ≡ 0 → Rises xs here
     → here.below ≤ length ns → length (framed_tasks f xs here ns) ≡ length ns
@@ -68,6 +72,8 @@ follow-append ts us = map-append (λ (t : Task). entry t.indent t.tree) ts us
 pub nodes-append : (ts us : List Task) → nodes (ts ++ us) ≡ nodes ts + nodes us
 nodes-append [] us = omega arith
 nodes-append (t ∷ ts) us = omega (arith, nodes-append ts us)
+
+-- # The top of a stack
 
 -- work that is not all below begins with the top of the stack
 pub split_top : (above below : List Task) (t : Task) (ts : List Task) → t ∷ ts ≡ above ++ below → length below ≤ length ts
@@ -113,6 +119,8 @@ indent_below {N} f xs here g ns i r l h e =
     let under = rises_under xs (take k xs) g here whole r in
     indent_here f (take k xs) g ns i under.0 (omega (arith, under.1, l)) ∙ ap (λ (z : List Task). next_indent i (follow z))
     (tasks_left f xs (take k xs) g here ns whole l)
+
+-- # What is kept
 
 -- what is below stays below, if enough commands are kept
 downwards_kept : {N : Type 0} (f : N → Tree) (cs : List (Command N)) (k : ℕ) (above below : List Task)

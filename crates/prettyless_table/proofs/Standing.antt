@@ -27,6 +27,8 @@ pub goes_on : {N : Type 0} (cells : List (Cell N)) (ds : List Tree) (at : ℕ) (
 goes_on cells [] at places e h = tt
 goes_on cells (d ∷ ds) at places e h = (subst (In cells d) (sym e) h.0, h.1)
 
+-- # The parts of a node
+
 -- the parts of a node, by how many there are and which of them are small
 pub found_nothing : {N : Type 0} (cells : List (Cell N)) (at : ℕ) (ds : List Tree) (places : List ℕ) → at ≡ length cells - 1
     → WaitsInTable cells ds places → AreFound cells [] 0 ds (at ∷ places)
@@ -102,6 +104,8 @@ pub same_found : {N : Type 0} (cells : List (Cell N)) (at : ℕ) (ds : List Tree
 same_found {N} cells at ds places left {xs} {ys} e =
     subst (λ (zs : List Tree). WaitsInTable cells (keepers zs ++ ds) places → AreFound cells zs at ds left) e
 
+-- # The next node of a list
+
 -- documents stand where they stood after one more cell
 pub stand_grown : {N : Type 0} (cells : List (Cell N)) (c : Cell N) (ds : List Tree) (places : List ℕ) → StandAt cells ds places
     → StandAt (cells ++ c ∷ []) ds places
@@ -148,6 +152,8 @@ is_next {N} f cells ns k n places ds list read h =
     let fit : AllFit (f n ∷ map f (drop k ns)) =
     subst (λ (ms : List N). AllFit (map f ms)) read (fit_from f (k - 1) ns (list_fits ds (map f ns) list).0) in
     record { takes = fit.0.takes; waits = found_next cells (f n) (map f (drop k ns)) places fit h }
+
+-- # A node that gets its cell
 
 -- a cell of summaries has no document to stand anywhere
 pub keeps_placed : {N : Type 0} (f : N → Tree) (cells : List (Cell N)) (c : Cell N) (d : Tree) → KeepsBoth c d → IsPlaced f cells c
