@@ -1,15 +1,9 @@
 -- The results of the code's steps: each reads on where the one before it stopped.
-use Rattle.std.proofs.Common.{◌≡◌, refl, sym, ◌∙◌, ap, subst, ℕ, zero, suc, ◌-◌, Bool, true, false, ◌&&◌, List, [], ◌∷◌, ◌++◌}
-use Rattle.std.proofs.Common.{length, append_assoc, arith}
-use Rattle.prettyless.specs.Built.{append}
+use Rattle.std.proofs.Common.{◌≡◌, refl, ℕ, zero, suc, false, List, ◌∷◌}
 use Rattle.prettyless.specs.Counted.{text}
-use Rattle.prettyless.specs.Tree.{Tree, Nil}
+use Rattle.prettyless.specs.Tree.{Tree}
 use Rattle.json_formatter.specs.declared.style.Style.{Style}
-use Rattle.json_formatter.specs.Documents.{Read, Reader, Member, ContinuesMembers, read, then_read, onto, stops}
-use Rattle.json_formatter.specs.Documents.{is_number, opens, closes, with_value, with_comma, member}
-use Rattle.json_formatter.specs.Documents.{list_member, list_members, trees_of, all_numbers, value}
-use Rattle.json_formatter.proofs.Readers.{many_stops, until_more}
-use Rattle.json_formatter.proofs.Shrinking.{value_none, value_shrinks, value_keeps, list_member_shrinks}
+use Rattle.json_formatter.specs.Documents.{Reader, read, opens, with_value, with_comma, member, value}
 
 -- ---- a member
 
