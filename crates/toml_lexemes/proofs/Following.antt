@@ -4,7 +4,8 @@ use Rattle.std.proofs.Common.{subst}
 use Rattle.std.proofs.lemmas.Bool.{cond_both, true≢false, ne_eqb, or_parts, eqb-true}
 use Rattle.toml_lexemes.specs.Bytes.{is_sign, is_blank, is_quote, ends_word, head}
 use Rattle.toml_lexemes.specs.Lexemes.{StringKind, basic, literal, quote_mark, escapes, Inner, in_word, in_remark, opened, doubled, in_line}
-use Rattle.toml_lexemes.specs.Lexemes.{in_line_escape, in_lines, in_lines_escape, closing, closing_more, closed, closed_more, LexerMode, between}
+use Rattle.toml_lexemes.specs.Lexemes.{in_line_escape, in_lines, in_lines_escape, closing, closing_more, closed}
+use Rattle.toml_lexemes.specs.Lexemes.{closed_more, LexerMode, between}
 use Rattle.toml_lexemes.specs.Lexemes.{within, passed, alone, begins, first, ByteTurn, goes_on, stops, line_turn, lines_turn, turn}
 use Rattle.toml_lexemes.specs.Lexemes.{begins_line_feed, cut_first, cut_toml}
 use Rattle.toml_lexemes.specs.Spaced.{mode_first, mode_turn, mode_after, EndsBefore, EndsWithReturn, MayFollow, begins_line_end}

@@ -4,7 +4,8 @@ use Rattle.std.specs.Prelude.{⊤, ◌≢◌}
 use Rattle.std.proofs.lemmas.Bool.{cond_both}
 use Rattle.std.proofs.lemmas.List.Elements.{All-from_recursion}
 use Rattle.toml_lexemes.specs.Bytes.{is_blank, is_sign}
-use Rattle.toml_lexemes.specs.Lexemes.{Inner, in_remark, LexerMode, between, within, First, passed, alone, begins, first, ByteTurn, goes_on, ends}
+use Rattle.toml_lexemes.specs.Lexemes.{Inner, in_remark, LexerMode, between, within, First, passed, alone, begins}
+use Rattle.toml_lexemes.specs.Lexemes.{first, ByteTurn, goes_on, ends}
 use Rattle.toml_lexemes.specs.Lexemes.{stops, turn, begins_line_feed, lengthened_toml, cut_first, cut_turn, cut_toml}
 use Rattle.toml_lexemes.specs.Spaced.{IsSpacedToml, mode_first, mode_turn, mode_after, EndsBefore, EndsWithReturn, MayFollow, IsWellSpaced}
 use Rattle.toml_lexemes.proofs.Remarks.{From, From-turn, last_turn, no_line_feed}
@@ -132,7 +133,8 @@ module _ (x : ℕ) (xs : List ℕ) (h : (m : LexerMode) → IsCut m xs (cut_toml
       (([], xs, tt, refl, follows_one x xs e, (h between).0), (ap (λ f. cut_first f x (λ m. cut_toml m [])) e, (h between).1))
   one_first (begins i) e = byte_first x i xs (cut_toml (within i) xs) e (h (within i))
 
-  one_turn : (i : Inner) (t : ByteTurn) → turn i x (begins_line_feed xs) ≡ t → GoesOn i (x ∷ xs) (cut_turn t (first x) x (λ m. cut_toml m xs))
+  one_turn : (i : Inner) (t : ByteTurn) → turn i x (begins_line_feed xs) ≡ t
+      → GoesOn i (x ∷ xs) (cut_turn t (first x) x (λ m. cut_toml m xs))
   one_turn i (goes_on n) e = byte_more i n x xs (cut_toml (within n) xs) e (h (within n))
   one_turn i ends e = (xs, refl, part_end i x xs e, (h between).0, (h between).1)
   one_turn i stops e = let f = one_first (first x) refl in (x ∷ xs, refl, part_none i (x ∷ xs) e, f.0, f.1)

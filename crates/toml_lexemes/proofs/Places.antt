@@ -2,7 +2,8 @@
 use Rattle.std.proofs.Common.{◌≡◌, ℕ, ◌+◌, ◌-◌, ◌<◌, ◌≤◌, List, [], ◌∷◌, ◌++◌, length, take, drop, get_or, sym, ap, ◌∙◌, arith}
 use Rattle.std.proofs.Common.{append_assoc, append-nil, length-drop}
 use Rattle.std.proofs.lemmas.List.{take_more, drop_more, drop_all, get_or-drop}
-use Rattle.toml_lexemes.specs.Lexemes.{Inner, between, within, first, ByteTurn, goes_on, ends, stops, turn, begins_line_feed, lengthened_toml}
+use Rattle.toml_lexemes.specs.Lexemes.{Inner, between, within, first, ByteTurn, goes_on, ends, stops, turn}
+use Rattle.toml_lexemes.specs.Lexemes.{begins_line_feed, lengthened_toml}
 use Rattle.toml_lexemes.specs.Lexemes.{cut_turn, cut_toml}
 
 module _ (i : Inner) (d : List ℕ) (from : ℕ) where

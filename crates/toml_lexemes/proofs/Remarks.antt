@@ -5,7 +5,8 @@ use Rattle.std.proofs.lemmas.Bool.{cond_both, true≢false, eqb-true}
 use Rattle.toml_lexemes.specs.Bytes.{ends_word}
 use Rattle.toml_lexemes.specs.Lexemes.{StringKind, quote_mark, escapes, Inner, in_word, in_remark, opened, doubled, in_line, in_line_escape}
 use Rattle.toml_lexemes.specs.Lexemes.{in_lines}
-use Rattle.toml_lexemes.specs.Lexemes.{in_lines_escape, closing, closing_more, closed, closed_more, ByteTurn, goes_on, ends, stops, line_turn}
+use Rattle.toml_lexemes.specs.Lexemes.{in_lines_escape, closing, closing_more, closed, closed_more, ByteTurn, goes_on}
+use Rattle.toml_lexemes.specs.Lexemes.{ends, stops, line_turn}
 use Rattle.toml_lexemes.specs.Lexemes.{lines_turn, turn}
 
 -- a remark is begun by its first byte alone

@@ -4,7 +4,8 @@ use Rattle.std.proofs.lemmas.Bool.{cond_both, false≢true, and_parts}
 use Rattle.toml_lexemes.specs.Bytes.{ends_word}
 use Rattle.toml_lexemes.specs.Lexemes.{StringKind, basic, quote_mark, escapes, Inner, in_word, in_remark, opened, doubled, in_line}
 use Rattle.toml_lexemes.specs.Lexemes.{in_line_escape}
-use Rattle.toml_lexemes.specs.Lexemes.{in_lines, in_lines_escape, closing, closing_more, closed, closed_more, ByteTurn, goes_on, ends, stops}
+use Rattle.toml_lexemes.specs.Lexemes.{in_lines, in_lines_escape, closing, closing_more, closed, closed_more, ByteTurn}
+use Rattle.toml_lexemes.specs.Lexemes.{goes_on, ends, stops}
 use Rattle.toml_lexemes.specs.Lexemes.{line_turn, lines_turn, turn}
 use Rattle.toml_lexemes.specs.Modes.{is_after_quote}
 use Rattle.toml_lexemes.proofs.Bytes.{or_both, small, ends_ascii, mark_ascii}

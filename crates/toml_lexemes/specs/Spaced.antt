@@ -1,7 +1,8 @@
 -- Texts with gaps around them.
 use Rattle.std.specs.Prelude.{◌≡◌, ◌==◌, ◌&&◌, ◌||◌, ℕ, Bool, true, false, List, [], ◌∷◌, ◌++◌, ⊤}
 use Rattle.toml_lexemes.specs.Bytes.{carriage_return, line_feed, is_blank}
-use Rattle.toml_lexemes.specs.Lexemes.{in_remark, LexerMode, between, within, First, passed, alone, begins, first, ByteTurn, goes_on, ends, stops}
+use Rattle.toml_lexemes.specs.Lexemes.{in_remark, LexerMode, between, within, First, passed, alone, begins, first}
+use Rattle.toml_lexemes.specs.Lexemes.{ByteTurn, goes_on, ends, stops}
 use Rattle.toml_lexemes.specs.Lexemes.{turn, begins_line_feed}
 
 -- a gap: blanks alone, which are the space, the tab and CR

@@ -4,7 +4,8 @@ use Rattle.std.specs.Prelude.{⊤}
 use Rattle.std.proofs.lemmas.Bool.{cond_both, or_parts, eqb-true, true≢false}
 use Rattle.toml_lexemes.specs.Bytes.{is_quote}
 use Rattle.toml_lexemes.specs.Lexemes.{StringKind, basic, literal, quote_mark, escapes, Inner, in_word, in_remark, opened, doubled, in_line}
-use Rattle.toml_lexemes.specs.Lexemes.{in_line_escape, in_lines, in_lines_escape, closing, closing_more, closed, closed_more, LexerMode, between}
+use Rattle.toml_lexemes.specs.Lexemes.{in_line_escape, in_lines, in_lines_escape, closing, closing_more, closed}
+use Rattle.toml_lexemes.specs.Lexemes.{closed_more, LexerMode, between}
 use Rattle.toml_lexemes.specs.Lexemes.{within, begins, first, ByteTurn, goes_on, ends, stops, line_turn, lines_turn, turn, begins_line_feed}
 use Rattle.toml_lexemes.specs.Lexemes.{cut_first, cut_toml}
 use Rattle.toml_lexemes.specs.Spaced.{mode_first, mode_turn, mode_after, EndsBefore, MayFollow}

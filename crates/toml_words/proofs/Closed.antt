@@ -6,8 +6,10 @@ use Rattle.std.specs.Prelude.{⊤}
 use Rattle.std.specs.List.{fold}
 use Rattle.std.specs.Char.{is_digit}
 use Rattle.toml_lexemes.specs.Bytes.{is_quote}
-use Rattle.toml_lexemes.specs.Lexemes.{StringKind, basic, literal, quote_mark, in_remark, opened, doubled, in_line, in_line_escape, in_lines}
-use Rattle.toml_lexemes.specs.Lexemes.{in_lines_escape, closing, closing_more, closed, closed_more, LexerMode, between, within, first, ByteTurn}
+use Rattle.toml_lexemes.specs.Lexemes.{StringKind, basic, literal, quote_mark, in_remark, opened, doubled, in_line}
+use Rattle.toml_lexemes.specs.Lexemes.{in_line_escape, in_lines}
+use Rattle.toml_lexemes.specs.Lexemes.{in_lines_escape, closing, closing_more, closed, closed_more, LexerMode, between}
+use Rattle.toml_lexemes.specs.Lexemes.{within, first, ByteTurn}
 use Rattle.toml_lexemes.specs.Lexemes.{stops, line_turn, lines_turn, turn, begins_line_feed}
 use Rattle.toml_lexemes.specs.Spaced.{mode_first, mode_turn, mode_after, EndsBefore, MayFollow}
 use Rattle.toml_words.specs.declared.string.Quoting.{Quoting}
