@@ -1,7 +1,6 @@
 //! The document of entries: what each function makes is said by what it shows.
 ghost use Rattle.std.specs.List.{AllZip};
 ghost use Rattle.std.specs.Prelude.{IfOk, List, map};
-ghost use Rattle.std.specs.String.{string_bytes};
 ghost use Rattle.prettyless_shapes.specs.Shows.{Item, shows};
 ghost use Rattle.prettyless.specs.Trees.{box_tree};
 ghost use Rattle.example_formatters.specs.EntryItems.{block_items, entries_items, entry_items, setting_items};

@@ -5,7 +5,7 @@ use Rattle.std.specs.Prelude.{pos}
 use Rattle.json.specs.Word.{ends_word}
 use Rattle.json_lexemes.specs.Grammar.{Value, alone, array, object, Items, no_items, item, Members, no_members}
 use Rattle.json_lexemes.specs.Grammar as g
-use Rattle.json_lexemes.specs.Grammar.{spelled, spelled_items, more_items, spelled_members, more_members, IsFormed, AreFormedItems}
+use Rattle.json_lexemes.specs.Grammar.{spelled, more_items, more_members, IsFormed, AreFormedItems}
 use Rattle.json_lexemes.specs.Grammar.{AreFormedMembers}
 use Rattle.prettyless_model.specs.Metrics.{text_width}
 use Rattle.prettyless.specs.Built.{IsNotNil, append, nest}

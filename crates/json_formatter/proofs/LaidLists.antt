@@ -3,9 +3,8 @@ use Rattle.std.proofs.Common.{◌≡◌, refl, sym, ◌∙◌, ap, subst, ℕ, s
 use Rattle.std.proofs.Common.{append-nil, arith}
 use Rattle.std.specs.Prelude.{if◌then◌else◌, pos}
 use Rattle.json.specs.Word.{ends_word}
-use Rattle.json_lexemes.specs.Grammar.{Value, alone, array, object, Items, no_items, item, Members, no_members}
+use Rattle.json_lexemes.specs.Grammar.{Items, no_items, item, Members, no_members}
 use Rattle.json_lexemes.specs.Grammar as g
-use Rattle.json_lexemes.specs.Grammar.{spelled, IsFormed, AreFormedItems, AreFormedMembers}
 use Rattle.prettyless_model.specs.declared.options.RenderOptions.{RenderOptions}
 use Rattle.prettyless_model.specs.declared.mode.Mode.TheVariants.{Break}
 use Rattle.prettyless_model.specs.Column.{saturating_add}

@@ -1,12 +1,11 @@
 -- The document of a JSON text, and its layout: what stands on a line is read off the lexemes alone.
-use Rattle.std.specs.Prelude.{◌≡◌, ℕ, zero, suc, ℤ, pos, Bool, true, false, ◌&&◌, ◌||◌, ◌==◌, List, [], ◌∷◌, ◌++◌, length, drop, map}
+use Rattle.std.specs.Prelude.{ℕ, zero, suc, ℤ, pos, Bool, true, false, ◌&&◌, ◌||◌, ◌==◌, List, [], ◌∷◌, length, drop, map}
 use Rattle.std.specs.Prelude.{if◌then◌else◌}
 use Rattle.std.specs.Char.{is_ascii_digit}
 use Rattle.std.specs.List.{fold, list_all}
 use Rattle.json.specs.Ascii as ascii
 use Rattle.json_validity.specs.Document.{max_depth}
 use Rattle.json.specs.Word.{head}
-use Rattle.json_lexemes.specs.Lexemes.{lexemes}
 use Rattle.prettyless.specs.Built.{append, enclose, group, nest, softline}
 use Rattle.prettyless.specs.Counted.{text}
 use Rattle.prettyless.specs.Layout.{bytes_in, layout}

@@ -1,5 +1,5 @@
 -- How a JSON text is laid out lexeme by lexeme: what stands before each, and what is known after it.
-use Rattle.std.specs.Prelude.{ℕ, ◌+◌, ◌-◌, ◌*◌, ◌^◌, Bool, true, false, not, ◌&&◌, ◌||◌, nat_le, min, List, [], ◌∷◌, Option, Some, None}
+use Rattle.std.specs.Prelude.{ℕ, ◌+◌, ◌-◌, ◌*◌, ◌^◌, Bool, false, not, ◌&&◌, ◌||◌, nat_le, min, List, [], ◌∷◌, Option, Some, None}
 use Rattle.std.specs.Prelude.{if◌then◌else◌}
 use Rattle.json.specs.Ascii as ascii
 use Rattle.json_lexemes.specs.SpacedLexemes.{Spaced, after_gap, put_together}

@@ -1,8 +1,8 @@
-ghost use Rattle.std.specs.Prelude.{◌≡◌, ℕ, ◌<◌, ◌≤◌, ◌∷◌, [], List, drop, IfSome, IfNone, MatchOption, if◌then◌else◌, true, false};
-ghost use Rattle.json.specs.Ascii.{colon, comma};
+ghost use Rattle.std.specs.Prelude.{◌≡◌, ℕ, ◌<◌, ◌≤◌, ◌∷◌, [], List, IfSome, MatchOption, true};
+ghost use Rattle.json.specs.Ascii.{comma};
 ghost use Rattle.json_lexemes.specs.Lexemes.{lexemes};
 ghost use Rattle.json_lexemes.specs.View.{text_of, IsNamed};
-ghost use Rattle.json_formatter.specs.Documents.{closes, is_json_sign, next_is, opens, stops};
+ghost use Rattle.json_formatter.specs.Documents.{closes, is_json_sign, next_is, opens};
 ghost use Rattle.json_formatter.specs.Window.{width_with_comma, IsWidthUpTo, IsWindow};
 
 use crate::ahead::Ahead;

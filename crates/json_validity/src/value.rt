@@ -1,5 +1,5 @@
 //! What a value begins with.
-ghost use Rattle.std.specs.Prelude.{◌≡◌, ◌≢◌, ◌<◌, length};
+ghost use Rattle.std.specs.Prelude.{◌≢◌, ◌<◌, length};
 ghost use Rattle.json_validity.specs.Open.{BeginsWith};
 
 use crate::bracket::Bracket;

@@ -31,5 +31,5 @@ pub use prettyless_sink::error::RenderError;
 pub use prettyless_sink::fmt_write::FmtWrite;
 pub use prettyless_sink::io_write::IoWrite;
 pub use prettyless_sink::render::Render;
-pub use prettyless_sink::text_writer::{TextWriter, Untold};
+pub use prettyless_sink::text_writer::{OpaqueWriter, TextWriter};
 pub use prettyless_sink::visits::Visits;

@@ -2,22 +2,20 @@
 -- items made of theirs.
 use Rattle.std.proofs.Common.{◌≡◌, refl, sym, ◌∙◌, ap, subst, arith, ℕ, zero, ◌<◌, length, ℤ, pos, List, [], ◌∷◌, ◌++◌, map, append_assoc}
 use Rattle.std.proofs.Common.{append-nil, inl, inr, Bool, true, false, if◌then◌else◌}
-use Rattle.std.specs.Prelude.{⊤}
 use Rattle.std.specs.List.{AllZip, fold}
 use Rattle.prettyless_model.specs.Metrics.{is_ascii}
-use Rattle.prettyless_model.specs.Shows.{Reach, NoGap, SameLine, AnyLine, Least, Nothing, Spacing, LineEnd, EndsLine, Item, Shown, Gap}
-use Rattle.prettyless_model.specs.Shows.{Mark, Late, spaced, apart, ended, loose, IsWeaker, Implies, NoneIsLate, TextShows, EitherShows}
+use Rattle.prettyless_model.specs.Shows.{Reach, SameLine, AnyLine, Least, Spacing, LineEnd, Item, Shown, Gap}
+use Rattle.prettyless_model.specs.Shows.{Mark, Late, spaced, apart, ended, loose, Implies, NoneIsLate, TextShows, EitherShows}
 use Rattle.prettyless_model.specs.Shows.{shows, texts, AreFixed, HasTexts, Place, at_start, after_text, with_gap, ShowsFrom}
 use Rattle.prettyless_model.specs.declared.choice.ColumnTest.{ColumnTest}
 use Rattle.prettyless_model.specs.declared.choice.NestingTest.{NestingTest}
-use Rattle.prettyless_model.proofs.Implied.{implies_same}
 use Rattle.prettyless_doc.specs.Counted as counted
 use Rattle.prettyless_doc.specs.Lines.{line, line_, space}
-use Rattle.prettyless_doc.specs.Tree.{Tree, Nil, Fail, Text, TextWithLen, MultilineText, WeakSpace, HardLine, WeakLine, Append, LineSuffix}
-use Rattle.prettyless_doc.specs.Tree.{Nest, DedentToRoot, Align, ExpandParent, Flatten, BreakOrFlat, Group, Union, PartialUnion, OnColumn}
+use Rattle.prettyless_doc.specs.Tree.{Tree, Nil, Text, TextWithLen, MultilineText, WeakSpace, HardLine, WeakLine, LineSuffix}
+use Rattle.prettyless_doc.specs.Tree.{BreakOrFlat, Union, PartialUnion, OnColumn}
 use Rattle.prettyless_doc.specs.Tree.{OnNesting}
-use Rattle.prettyless_build.specs.Built.{align, append, append_to, as_line_suffix, between, chain, dedent_to_root, enclose, flatten, group}
-use Rattle.prettyless_build.specs.Built.{nest, nest_by, repeat, softline, softline_}
+use Rattle.prettyless_build.specs.Built.{align, append, append_to, between, dedent_to_root, enclose, flatten, group}
+use Rattle.prettyless_build.specs.Built.{nest, nest_by, softline, softline_}
 use Rattle.prettyless_alloc.specs.Lists.{change_all_but_last}
 use Rattle.prettyless_alloc.specs.Shown.{text_items, after_gaps, with_gaps, in_lines, TextsShow, SeparatedShow, PunctuatedShow}
 use Rattle.prettyless_alloc.specs.Shown.{BracketedShow, MarksStandInGaps}

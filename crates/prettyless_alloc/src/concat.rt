@@ -1,5 +1,5 @@
 //! Documents of all the items of an iterator.
-ghost use Rattle.std.specs.Prelude.{◌≡◌, ◌⊎◌, IfOk, IfErr, List};
+ghost use Rattle.std.specs.Prelude.{◌⊎◌, IfOk, IfErr, List};
 ghost use Rattle.std.specs.Iterator.{IsFinite, IsFiniteIterable, Drains};
 ghost use Rattle.std.specs.List.{FoldsTo};
 ghost use Rattle.prettyless_doc.specs.BuildErrors.{IsMemory};

@@ -3,7 +3,7 @@
 //!
 //! Such a value is made only of an iterator that can be walked and ends, and its model keeps that. Nothing says that a
 //! clone of an iterator ends, so these are not cloned.
-ghost use Rattle.std.specs.Prelude.{◌≡◌, ◌⊎◌, List};
+ghost use Rattle.std.specs.Prelude.{◌⊎◌, List};
 ghost use Rattle.std.specs.Iterator.{IsFinite, Drains};
 ghost use Rattle.prettyless_doc.specs.BuildErrors.{IsMemory};
 ghost use Rattle.prettyless_build.specs.Iterated.{GivesNext, GivesTwo, Concatenates, Intersperses};

@@ -21,7 +21,7 @@ use std::{fmt, io};
 /// Renders. `Ok` says that exactly the bytes of the layout were appended. Where the document fails, exactly the bytes
 /// before its failing node were appended, and the error says that it fails. Where the sink fails or memory is refused, a
 /// beginning of the layout's bytes was appended. All of this holds where the bytes of the sink or of the writer are
-/// known; of others, as of one within `Untold`, nothing is promised.
+/// known; of others, as of one within `OpaqueWriter`, nothing is promised.
 ///
 /// A width is in columns. Lines end in LF and indents are written at once, unless options say otherwise.
 impl<'a, T: DocPtr<'a>> Doc<'a, T> {

@@ -1,5 +1,5 @@
 //! Texts that are put into areas of bytes.
-ghost use Rattle.std.specs.Prelude.{◌≡◌, OnOk, OnErr};
+ghost use Rattle.std.specs.Prelude.{OnOk, OnErr};
 ghost use Rattle.prettyless_area.specs.Overlay.{PutsAll, PutsToLimit};
 ghost use Rattle.prettyless_exports.specs.Answers.{Holds};
 ghost use Rattle.prettyless_exports.specs.Texts.{IsPut};

@@ -1,6 +1,7 @@
 -- Regrouping: from a state whose pending documents are regrouped, a regrouped document is laid as the document itself.
 use Rattle.std.proofs.Common.{◌≡◌, ℕ, zero, suc, ◌+◌, List, [], ◌∷◌, ◌++◌, length, refl, ap, sym, ◌∙◌, arith, Bool, true, false, ◌&&◌}
-use Rattle.std.proofs.Common.{if◌then◌else◌}
+use Rattle.std.proofs.Common.{if◌then◌else◌, map}
+use Rattle.std.proofs.lemmas.List.{map_push}
 use Rattle.prettyless_model.specs.Spaces.{spaces}
 use Rattle.prettyless_model.specs.declared.options.RenderOptions.{RenderOptions}
 use Rattle.prettyless_model.specs.declared.options.IndentationPolicy.{IndentationPolicy}
@@ -24,23 +25,15 @@ use Rattle.prettyless_laws.specs.Parts.{FollowAlike, ReadsAlike}
 use Rattle.prettyless_laws.proofs.Following.{alike_same, alike_after, either-same, breaks_alike}
 use Rattle.prettyless_laws.proofs.Appended.{appended_lays, right_looks}
 
--- the pending documents, regrouped
-abbrev pub rights : List Tree → List Tree
-rights [] = []
-rights (d ∷ ds) = right d ∷ rights ds
-
+-- the state whose pending documents are regrouped
 abbrev pub right_state : State → State
-right_state st = record st { pending = rights st.pending }
+right_state st = record st { pending = map right st.pending }
 
 abbrev pub right_outcome : Outcome → Outcome
 right_outcome (Done b st) = Done b (right_state st)
 right_outcome (Failed b) = Failed b
 
-rights-one : (ps : List Tree) (d : Tree) → rights (ps ++ d ∷ []) ≡ rights ps ++ right d ∷ []
-rights-one [] d = refl
-rights-one (p ∷ ps) d = ap (λ (x : List Tree). right p ∷ x) (rights-one ps d)
-
-some-rights : (ps : List Tree) → some_pending (rights ps) ≡ some_pending ps
+some-rights : (ps : List Tree) → some_pending (map right ps) ≡ some_pending ps
 some-rights [] = refl
 some-rights (p ∷ ps) = refl
 
@@ -107,7 +100,7 @@ lay_right o {brk} k (Append x y) i m r s st h =
     (alike_after i (right y) y s r (λ w c p. right_looks y w i Break c p) h))
     (λ u. lay_right o k y i m r s u h)
 lay_right o k (LineSuffix d) i m r s st h = ap (λ (x : List Tree). Done [] (record st { pending = x }))
-    (sym (rights-one st.pending d))
+    (sym (map_push right st.pending d))
 lay_right o k (Nest n d) i m r s st h = lay_right o k d (nested i n) m r s st h
 lay_right o k (DedentToRoot d) i m r s st h = lay_right o k d 0 m r s st h
 lay_right o k (Align d) i m r s st h = lay_right o k d (prospective st.column) m r s st h
@@ -146,24 +139,24 @@ lay_right o {brk} k (OnNesting test x y) i m r s st h =
 lay_right o k _ i Break r s st h = refl
 lay_right o k _ i Flat r s st h = refl
 
-alike_rights : (i : ℕ) (ds : List Tree) (r s : List Entry) → FollowAlike s r → FollowAlike (entries i (rights ds) ++ s) (entries i ds ++ r)
+alike_rights : (i : ℕ) (ds : List Tree) (r s : List Entry) → FollowAlike s r → FollowAlike (entries i (map right ds) ++ s) (entries i ds ++ r)
 alike_rights i [] r s h = h
-alike_rights i (d ∷ ds) r s h = alike_after i (right d) d (entries i (rights ds) ++ s) (entries i ds ++ r)
+alike_rights i (d ∷ ds) r s h = alike_after i (right d) d (entries i (map right ds) ++ s) (entries i ds ++ r)
     (λ w c p. right_looks d w i Break c p) (alike_rights i ds r s h)
 
 each_right : (o : RenderOptions) {brk : Breaks} → Regroups brk
     → (ds : List Tree) (i : ℕ) (m : Mode) (r s : List Entry) (st : State) → FollowAlike s r
-    → lay_each o brk (rights ds) i m s (right_state st) ≡ right_outcome (lay_each o brk ds i m r st)
+    → lay_each o brk (map right ds) i m s (right_state st) ≡ right_outcome (lay_each o brk ds i m r st)
 unfolding lay_each
 each_right o k [] i m r s st h = refl
 each_right o {brk} k (d ∷ ds) i m r s st h =
-    right-then (lay o brk d i m (entries i ds ++ r) st) (lay o brk (right d) i m (entries i (rights ds) ++ s) (right_state st))
-    (λ u. lay_each o brk ds i m r u) (λ u. lay_each o brk (rights ds) i m s u)
-    (lay_right o k d i m (entries i ds ++ r) (entries i (rights ds) ++ s) st (alike_rights i ds r s h))
+    right-then (lay o brk d i m (entries i ds ++ r) st) (lay o brk (right d) i m (entries i (map right ds) ++ s) (right_state st))
+    (λ u. lay_each o brk ds i m r u) (λ u. lay_each o brk (map right ds) i m s u)
+    (lay_right o k d i m (entries i ds ++ r) (entries i (map right ds) ++ s) st (alike_rights i ds r s h))
     (λ u. each_right o k ds i m r s u h)
 
 break_right : (o : RenderOptions) {brk : Breaks} → Regroups brk → (ps : List Tree) (d : Tree) (i : ℕ) (m : Mode)
-    (r s : List Entry) (st : State) → FollowAlike s r → break_with o brk (rights ps) d i m s (right_state st) ≡ right_outcome
+    (r s : List Entry) (st : State) → FollowAlike s r → break_with o brk (map right ps) d i m s (right_state st) ≡ right_outcome
     (break_with o brk ps d i m r st)
 break_right o k [] d i m r s st h =
     ap (λ (n : ℕ). if is_suppressed d st.column then Done [] (right_state st) else lay_ending o o.indentation_policy n
@@ -174,7 +167,7 @@ break_right o k [] d i m r s st h =
 break_right o {brk} k (p ∷ ps) d i m r s st h =
     ap (after_bytes (spaces (gap st.column)))
     (right-then (lay_each o brk (p ∷ ps) i m (entry i d ∷ r) (flushed o st))
-    (lay_each o brk (rights (p ∷ ps)) i m (entry i d ∷ s) (flushed o (right_state st))) (brk d i m r) (brk d i m s)
+    (lay_each o brk (map right (p ∷ ps)) i m (entry i d ∷ s) (flushed o (right_state st))) (brk d i m r) (brk d i m s)
     (each_right o k (p ∷ ps) i m (entry i d ∷ r) (entry i d ∷ s) (flushed o st) (alike_after i d d s r (λ w c p. refl) h))
     (λ u. k.regrouped d i m r s u h))
     ∙ right-after (spaces (gap st.column)) (and_then (lay_each o brk (p ∷ ps) i m (entry i d ∷ r) (flushed o st)) (brk d i m r))
@@ -189,12 +182,12 @@ breaks_right o (suc n) = record {
 
 end_right : (o : RenderOptions) {brk : Breaks} → Regroups brk → (again : State → Outcome)
     → ((u : State) → again (right_state u) ≡ right_outcome (again u)) → (ps : List Tree) (st : State)
-    → end_with o brk again (rights ps) (right_state st) ≡ right_outcome (end_with o brk again ps st)
+    → end_with o brk again (map right ps) (right_state st) ≡ right_outcome (end_with o brk again ps st)
 end_right o k again g [] st = refl
 end_right o {brk} k again g (p ∷ ps) st =
     ap (after_bytes (spaces (gap st.column)))
     (right-then (lay_each o brk (p ∷ ps) 0 Break [] (flushed o st))
-    (lay_each o brk (rights (p ∷ ps)) 0 Break [] (flushed o (right_state st))) again again
+    (lay_each o brk (map right (p ∷ ps)) 0 Break [] (flushed o (right_state st))) again again
     (each_right o k (p ∷ ps) 0 Break [] [] (flushed o st) (alike_same []))
     g)
     ∙ right-after (spaces (gap st.column)) (and_then (lay_each o brk (p ∷ ps) 0 Break [] (flushed o st)) again)

@@ -3,7 +3,7 @@ ghost use Rattle.std.specs.Prelude.{◌≡◌, false, IfOk, IfErr, IfSome};
 ghost use Rattle.prettyless_doc.specs.BuildErrors.{IsMemory};
 ghost use Rattle.prettyless_doc.specs.Constants.{constant_tree};
 ghost use Rattle.prettyless_doc.specs.DocTree.{tree_of, holds_memory};
-ghost use Rattle.prettyless_pointers.specs.Constants.{IsTable, LeadsTo, index_of};
+ghost use Rattle.prettyless_pointers.specs.Constants.{IsTable, index_of};
 ghost use Rattle.prettyless_pointers.specs.declared.arena.RefDoc.{out-RefDoc};
 ghost use Rattle.prettyless_pointers.specs.Trees.{ref_tree};
 

@@ -1,15 +1,15 @@
 //! The shift: what a run has left is stored in a table, and the run goes on over that.
-ghost use Rattle.std.specs.Prelude.{◌≡◌, ◌<◌, ◌≤◌, ◌+◌, ◌-◌, ◌^◌, ◌++◌, ⊤, IfOk, IfSome, List, MatchOption, length, map, min, true};
+ghost use Rattle.std.specs.Prelude.{◌≡◌, ◌<◌, ◌≤◌, ◌+◌, ◌-◌, ◌^◌, ◌++◌, ⊤, IfOk, IfSome, MatchOption, length, min, true};
 ghost use Rattle.std.specs.List.{sum_by};
-ghost use Rattle.prettyless_model.specs.Tree.{Tree, size};
+ghost use Rattle.prettyless_model.specs.Tree.{size};
 ghost use Rattle.prettyless_step.specs.Printing.{tasks_of};
 ghost use Rattle.prettyless_probe.specs.Stack.{nodes, trees};
 ghost use Rattle.prettyless_probe.specs.Sums.{IsSummed};
 ghost use Rattle.prettyless_table.specs.Cells.{CellsGrow, CellsAreSound};
 ghost use Rattle.prettyless_table.specs.Owners.{Stand, all_owners, documents_left};
 ghost use Rattle.prettyless_table.specs.Shift.{AreNodes, nodes_left};
-ghost use Rattle.prettyless_printer.specs.Points.{Point, Standing, buffer_seen, point, seen, standing};
-ghost use Rattle.prettyless_printer.specs.Open.{Held, all_held, seconds};
+ghost use Rattle.prettyless_printer.specs.Points.{Point, buffer_seen, point, seen, standing};
+ghost use Rattle.prettyless_printer.specs.Open.{all_held, seconds};
 ghost use Rattle.prettyless_printer.specs.Renders.{EndsAnywhere};
 ghost use Rattle.prettyless_printer.specs.Runs.{RunReaches};
 ghost use Rattle.prettyless_printer.specs.Visits.{Plain};

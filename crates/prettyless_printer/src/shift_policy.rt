@@ -1,5 +1,5 @@
 //! When a printer shifts: it goes on over a table of what is left where probes have visited much more than the printer.
-ghost use Rattle.std.specs.Prelude.{◌≡◌, ◌+◌, ◌^◌, ◌<◌, ◌≤◌, ◌↔◌, IsTrue};
+ghost use Rattle.std.specs.Prelude.{◌≡◌, ◌^◌, ◌<◌, ◌≤◌, ◌↔◌, IsTrue};
 
 use prettyless_sink::visits::Visits;
 

@@ -1,5 +1,5 @@
 //! What is left of a program, read an instruction at a time.
-ghost use Rattle.std.specs.Prelude.{◌≡◌, ℕ, List, ◌∷◌, ◌++◌, ◌<◌, ◌^◌, [], length, IfOk, IfErr, IfSome, IfNone, MatchOption};
+ghost use Rattle.std.specs.Prelude.{◌≡◌, List, ◌∷◌, ◌++◌, ◌<◌, ◌^◌, [], length, IfOk, IfErr, IfSome, IfNone, MatchOption};
 ghost use Rattle.std.specs.Int.{w32, to_le_bytes};
 ghost use Rattle.std.specs.Str.{IsUtf8};
 ghost use Rattle.prettyless_program.specs.Codes.{code_of};

@@ -1,5 +1,5 @@
 -- What was appended so far is a beginning of the text, step by step.
-use Rattle.std.proofs.Common.{◌≡◌, ℕ, List, ◌++◌, ap, sym, ◌∙◌, subst, append_assoc, [], take, drop, take-append-drop}
+use Rattle.std.proofs.Common.{◌≡◌, ℕ, List, ◌++◌, ap, sym, ◌∙◌, subst, append_assoc, take, drop, take-append-drop}
 use Rattle.std.proofs.Common.{length, ◌-◌, Option, Result, Ok, Err, OnErr}
 use Rattle.std.proofs.lemmas.List.{take_rest}
 use Rattle.prettyless_sink.specs.Sink.{Accepts, AppendsBeginning, Refuses, rise}

@@ -10,7 +10,7 @@ use std::fmt;
 /// A text writer whose text may be known: a write appends its piece, and one that fails appends a beginning of it.
 ///
 /// `fmt::Write` says nothing of a write that fails, so a writer says it here, by an `impl` whose `write_text` is mostly
-/// its `write_str`. A `fmt::Write` without one is written to through `Untold`.
+/// its `write_str`. A `fmt::Write` without one is written to through `OpaqueWriter`.
 pub trait TextWriter {
     // the text written so far, where it is known
     ghost text: { Self → Option (List ℕ) } = { λ _. None };
@@ -57,9 +57,9 @@ impl<W: TextWriter> TextWriter for &mut W {
 
 /// Any `fmt::Write`, as a text writer whose text is not known.
 #[derive(Drop)]
-pub struct Untold<W>(pub W);
+pub struct OpaqueWriter<W>(pub W);
 
-impl<W: fmt::Write> TextWriter for Untold<W> {
+impl<W: fmt::Write> TextWriter for OpaqueWriter<W> {
     /// Passes the piece on. On success it did what the writer says of a write.
     #[inline]
     fn write_text(&mut self, piece: &str) -> fmt::Result

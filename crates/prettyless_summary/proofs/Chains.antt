@@ -1,5 +1,5 @@
 -- Summaries and looks, one after another.
-use Rattle.std.proofs.Common.{◌≡◌, ℕ, ◌^◌, ◌<◌, Bool, ◌||◌, refl, ap, ◌∙◌}
+use Rattle.std.proofs.Common.{◌≡◌, ℕ, Bool, ◌||◌, refl, ap, ◌∙◌}
 use Rattle.prettyless_model.specs.Look.{Look, Answers, GoesOn, look_then}
 use Rattle.prettyless_model.specs.declared.column.Column.{Column}
 use Rattle.prettyless_model.proofs.Looks.{look-then-then}

@@ -1,5 +1,5 @@
 -- The summary of each variant of a document, from those of its parts.
-use Rattle.std.proofs.Common.{◌≡◌, ℤ, false, ◌∙◌}
+use Rattle.std.proofs.Common.{ℤ, false}
 use Rattle.prettyless_model.specs.Tree as t
 use Rattle.prettyless_model.specs.Tree.{Tree}
 use Rattle.prettyless_model.specs.Column.{nested, padding_fits, prospective}

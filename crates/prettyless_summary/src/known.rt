@@ -1,5 +1,5 @@
 //! Summaries that may not be known.
-ghost use Rattle.std.specs.Prelude.{◌≡◌, ℕ, ◌+◌, ◌<◌, ◌^◌};
+ghost use Rattle.std.specs.Prelude.{ℕ, ◌+◌, ◌<◌, ◌^◌};
 ghost use Rattle.prettyless_model.specs.Tree.{Append, Tree};
 ghost use Rattle.prettyless_model.specs.declared.mode.Mode.{Mode};
 ghost use Rattle.prettyless_summary.specs.Summary.{IsFound, IsKnown};

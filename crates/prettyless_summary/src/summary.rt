@@ -1,5 +1,5 @@
 //! Summaries: of what a document may begin with, of two documents one after the other, and the result of reading a line by one.
-ghost use Rattle.std.specs.Prelude.{◌≡◌, ℕ, ◌+◌, ◌<◌, ◌≤◌, ◌^◌, ◌↔◌, List, Bool, true, false, Option, Some, None, IfSome, IsTrue};
+ghost use Rattle.std.specs.Prelude.{◌≡◌, ℕ, ◌+◌, ◌<◌, ◌≤◌, ◌^◌, ◌↔◌, Bool, true, false, Option, Some, None, IfSome, IsTrue};
 ghost use Rattle.std.specs.Prelude.{MatchOption, ◌||◌, max, nat_le, if◌then◌else◌};
 ghost use Rattle.prettyless_model.specs.Column.{blank, commit, padding_fits};
 ghost use Rattle.prettyless_model.specs.Look.{Answers, GoesOn, look_end, look_text, payload_begins};

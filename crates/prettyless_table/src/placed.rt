@@ -1,5 +1,5 @@
 //! A node of a table, as a printer walks it.
-ghost use Rattle.std.specs.Prelude.{◌≡◌, ◌-◌, ◌<◌, length, true, ⊤};
+ghost use Rattle.std.specs.Prelude.{◌≡◌, ◌-◌, ◌<◌, true, ⊤};
 ghost use Rattle.prettyless_table.specs.Cells.{In, In-prop, IsRoot, CellsAreSound, tree_at, second_at};
 
 use crate::table::Table;

@@ -1,7 +1,7 @@
 //! The summaries of a node, made of those of its parts, and how a cell keeps them.
 ghost use Rattle.std.specs.Prelude.{◌≡◌, ℤ, [], false, true};
 ghost use Rattle.prettyless_model.specs.Tree.{Tree};
-ghost use Rattle.prettyless_model.specs.Look.{Answers, by_mode};
+ghost use Rattle.prettyless_model.specs.Look.{Answers};
 ghost use Rattle.prettyless_model.specs.declared.mode.Mode.{Mode};
 ghost use Rattle.prettyless_model.specs.declared.mode.Mode.TheVariants.{Break, Flat};
 ghost use Rattle.prettyless_summary.specs.Summary.{IsSmall, ReadsLook, Summarizes};

@@ -1,5 +1,5 @@
 //! Texts that values print.
-ghost use Rattle.std.specs.Prelude.{◌≡◌, ◌++◌, Err, IfErr, IfOk, IfSome, IsErr, IsOk, MatchResult, OnOk, ⊤};
+ghost use Rattle.std.specs.Prelude.{◌≡◌, ◌++◌, Err, IfErr, IfOk, IfSome, IsErr, IsOk, MatchResult, OnOk};
 ghost use Rattle.std.specs.Result.{ForOk};
 ghost use Rattle.std.specs.String.{string_bytes};
 ghost use Rattle.prettyless_text.specs.TextBytes.{bytes_of_text, IsSmallIfItFits};

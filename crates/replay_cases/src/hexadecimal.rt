@@ -1,7 +1,6 @@
 //! Texts as words: two digits for each byte, and `-` for no byte.
-ghost use Rattle.std.specs.Prelude.{◌≡◌, ℕ, List, IfOk, IfErr, codes};
+ghost use Rattle.std.specs.Prelude.{◌≡◌, ℕ, List, IfOk, IfErr};
 ghost use Rattle.std.specs.String.{string_bytes};
-ghost use Rattle.std.specs.Str.{IsUtf8};
 ghost use Rattle.replay_cases.specs.Notation.{hex_word, IsTextWord};
 ghost use Rattle.replay_cases.specs.Refusals.{RefusesWith};
 

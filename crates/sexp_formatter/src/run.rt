@@ -1,4 +1,3 @@
-ghost use Rattle.std.specs.Prelude.{◌≡◌, IfOk, IfErr};
 ghost use Rattle.sexp_formatter.specs.View.{value_of};
 ghost use Rattle.sexp_formatter.specs.Runs.{RunsFormatter, WritesValue};
 

@@ -1,5 +1,5 @@
 //! The pieces that a layout goes out in.
-ghost use Rattle.std.specs.Prelude.{Some, ◌≡◌, ⊤};
+ghost use Rattle.std.specs.Prelude.{Some, ◌≡◌};
 ghost use Rattle.test_layouts.specs.declared.sinks.Fault.TheVariants.{Document};
 
 use crate::checks::check;

@@ -1,5 +1,5 @@
 //! Sinks of which one call goes wrong.
-ghost use Rattle.std.specs.Prelude.{Some, ◌≡◌, ◌↔◌, ◌<◌, ⊤, IsTrue, length};
+ghost use Rattle.std.specs.Prelude.{Some, ◌≡◌, ◌↔◌, ◌<◌, IsTrue, length};
 ghost use Rattle.std.specs.Str.{IsCharBoundary};
 ghost use Rattle.test_layouts.specs.declared.sinks.Fault.TheVariants.{Count, Document};
 

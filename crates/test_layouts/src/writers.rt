@@ -6,7 +6,7 @@ use crate::places::{InBoxes, in_boxes};
 use crate::reader::read;
 use crate::rows::{ACCENTED, ROWS, Row};
 use prettyless::{
-    DocPlace, DocPtr, FmtWrite, IoWrite, RenderError, RenderOptions, TextWriter, Untold,
+    DocPlace, DocPtr, FmtWrite, IoWrite, OpaqueWriter, RenderError, RenderOptions, TextWriter,
 };
 use std::alloc::Global;
 use std::io::{ErrorKind, Write};
@@ -340,7 +340,7 @@ fn ending_of_pieces<'a, T: DocPtr<'a>>(
     if known {
         ending_of_text(memory, document, width, form, writer)
     } else {
-        ending_of_text(memory, document, width, form, &mut Untold(writer))
+        ending_of_text(memory, document, width, form, &mut OpaqueWriter(writer))
     }
 }
 

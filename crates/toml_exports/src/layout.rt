@@ -1,5 +1,4 @@
 //! The layout of a TOML text, into an area of bytes.
-ghost use Rattle.std.specs.Prelude.{◌≡◌};
 ghost use Rattle.prettyless_exports.specs.Answers.{limit_of};
 ghost use Rattle.toml_exports.specs.Answers.{AnswersToml};
 ghost use Rattle.toml_exports.specs.Says.{RefusesToml, SaysOfToml};

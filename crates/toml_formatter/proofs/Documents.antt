@@ -3,7 +3,7 @@ use Rattle.std.proofs.Common.{◌≡◌, refl, sym, ◌∙◌, ap, subst, ℕ, B
 use Rattle.std.specs.Prelude.{◌⊎◌}
 use Rattle.prettyless.specs.Tree.{Tree}
 use Rattle.prettyless_model.specs.Shows as shown
-use Rattle.prettyless_model.specs.Shows.{Item, Gap, AnyLine, LineEnd, Before, After, ended, more, shows}
+use Rattle.prettyless_model.specs.Shows.{Item, AnyLine, LineEnd, ended, more, shows}
 use Rattle.toml_lexemes.specs.Bytes.{line_feed}
 use Rattle.toml_lexemes.specs.Lexemes.{toml_lexemes_of}
 use Rattle.toml_statements.specs.Statements.{Collected, none_collected, line_ended, with_lexemes, statements_of, statements}

@@ -4,7 +4,7 @@ use Rattle.prettyless.specs.Tree.{Tree}
 use Rattle.prettyless.specs.Trees.{ref_tree}
 use Rattle.prettyless_pointers.specs.declared.arena.RefDoc.{RefDoc}
 use Rattle.prettyless_model.specs.Shows as shown
-use Rattle.prettyless_model.specs.Shows.{Item, Shown, more, shows}
+use Rattle.prettyless_model.specs.Shows.{Shown, more, shows}
 use Rattle.prettyless_shapes.specs.Items.{ShowsBoth}
 use Rattle.toml_lexemes.specs.Bytes.{comma, hash, head}
 use Rattle.toml_lexemes.specs.View.{toml_text_of}

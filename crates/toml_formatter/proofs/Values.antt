@@ -4,7 +4,7 @@ use Rattle.std.specs.Prelude.{◌⊎◌}
 use Rattle.prettyless.specs.Tree.{Tree}
 use Rattle.prettyless.specs.Trees.{ref_tree}
 use Rattle.prettyless_model.specs.Shows as shown
-use Rattle.prettyless_model.specs.Shows.{Item, Shown, more, shows}
+use Rattle.prettyless_model.specs.Shows.{Shown, more, shows}
 use Rattle.prettyless_shapes.specs.Items.{ShowsBoth, ShowsSame}
 use Rattle.prettyless_shapes.specs.Shown.{text_items}
 use Rattle.toml_lexemes.specs.Bytes.{hash, head, is_sign, is_quote, ends_word, is_blank}

@@ -1,4 +1,4 @@
-ghost use Rattle.std.specs.Prelude.{◌≡◌, ◌∷◌, [], true, false, IfSome, IfNone, MatchOption, ◌⊎◌};
+ghost use Rattle.std.specs.Prelude.{◌≡◌, ◌∷◌, [], false, IfSome, IfNone, MatchOption, ◌⊎◌};
 ghost use Rattle.toml_lexemes.specs.Bytes.{line_feed};
 ghost use Rattle.toml_lexemes.specs.Lexemes.{toml_lexemes_of};
 ghost use Rattle.toml_lexemes.specs.View.{toml_text_of, HasTomlKind};

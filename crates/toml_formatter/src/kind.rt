@@ -1,5 +1,5 @@
 //! What lexemes are to a layout.
-ghost use Rattle.std.specs.Prelude.{◌≡◌, false, true};
+ghost use Rattle.std.specs.Prelude.{◌≡◌, true};
 ghost use Rattle.toml_formatter.specs.Kinds.{is_closing, is_opening, last_after};
 ghost use Rattle.toml_formatter.specs.Gaps.{is_nested};
 

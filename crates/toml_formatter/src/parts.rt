@@ -4,7 +4,7 @@ ghost use Rattle.prettyless.specs.Counted as counted;
 ghost use Rattle.prettyless.specs.Built.{append};
 ghost use Rattle.prettyless.specs.Lines.{line_};
 ghost use Rattle.prettyless.specs.Tree.{Nil, BreakOrFlat, TextWithLen};
-ghost use Rattle.prettyless_model.specs.Shows.{Item, Mark, Shown, loose, shows};
+ghost use Rattle.prettyless_model.specs.Shows.{Mark, loose, shows};
 ghost use Rattle.prettyless_shapes.specs.Items.{ShowsBoth, ShowsMore};
 ghost use Rattle.prettyless_shapes.specs.Shown.{text_items};
 ghost use Rattle.toml_lexemes.specs.Bytes.{comma};

@@ -1,7 +1,6 @@
 //! The documents of statements.
 ghost use Rattle.std.specs.Prelude.{◌≡◌, ◌∷◌, ◌++◌, ◌≤◌, [], ℕ, List, length, false, true, IfOk, IfErr, OnOk};
 ghost use Rattle.prettyless.specs.Trees.{ref_tree};
-ghost use Rattle.toml_lexemes.specs.Bytes.{line_feed};
 ghost use Rattle.toml_lexemes.specs.View.{toml_text_of, HasTomlKind};
 ghost use Rattle.toml_formatter.specs.Errors.{IsRefusal};
 ghost use Rattle.toml_formatter.specs.Kinds.{is_closing};

@@ -1,5 +1,5 @@
 //! What a gap between lexemes is.
-ghost use Rattle.std.specs.Prelude.{◌≡◌, cond, ◌==◌};
+ghost use Rattle.std.specs.Prelude.{◌≡◌, ◌==◌};
 ghost use Rattle.toml_grammar.specs.Grammar as spec;
 
 /// Whether exactly one space is the gap.

@@ -6,7 +6,7 @@ ghost use Rattle.prettyless_model.specs.Spaces.{spaces};
 use prettyless_sink::fmt_write::FmtWrite;
 use prettyless_sink::pieces::write_gap_and_text;
 use prettyless_sink::render::Render;
-use prettyless_sink::text_writer::{TextWriter, Untold};
+use prettyless_sink::text_writer::{OpaqueWriter, TextWriter};
 use std::fmt;
 
 // The owner of a text learns what a sink over it wrote.
@@ -36,7 +36,7 @@ fn answers_the_whole_length(rt: HostRuntime) {
 #[test]
 fn writes_to_any_text_writer(rt: HostRuntime) {
     let mut text = String::new(rt.alloc());
-    let mut writer = Untold(&mut text);
+    let mut writer = OpaqueWriter(&mut text);
     assert!(rt; FmtWrite::new(&mut writer).write_str_all("a").is_ok());
     assert!(rt; text.as_str() == "a");
 }

@@ -1,4 +1,4 @@
-use Rattle.std.proofs.Common.{◌∙◌, ap, ◌+◌, length, sym, subst, take, ◌++◌, List, ℕ, arith}
+use Rattle.std.proofs.Common.{◌∙◌, ap, ◌+◌, length, sym, subst, take, List, ℕ, arith}
 use Rattle.std.specs.String.Boundary.{IsSplitPoint}
 use Rattle.json_formatter.proofs.Lines.{line_kept, line_split}
 use Rattle.json_formatter.proofs.output.hold_short_line.Goals as goal

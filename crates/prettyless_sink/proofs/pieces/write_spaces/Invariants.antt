@@ -1,4 +1,4 @@
-use Rattle.std.proofs.Common.{◌≡◌, ◌++◌, ◌≤◌, ◌-◌}
+use Rattle.std.proofs.Common.{◌≡◌, ◌≤◌, ◌-◌}
 use Rattle.prettyless_model.specs.Spaces.{spaces}
 use Rattle.prettyless_sink.specs.Sink.{Accepts}
 use Rattle.prettyless_sink.proofs.pieces.write_spaces.Given as goal
