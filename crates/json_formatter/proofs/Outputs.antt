@@ -7,7 +7,7 @@ use Rattle.std.proofs.KnownBytes.{Appends-trans}
 use Rattle.std.proofs.lemmas.List.{replicate-append-replicate}
 use Rattle.prettyless_model.specs.Spaces.{spaces}
 use Rattle.json_formatter.specs.Formats.{AppendsProperBeginning}
-use Rattle.json_formatter.specs.Outputs.{HandsToWriter, StopsWriter}
+use Rattle.json_formatter.specs.Outputs.{WritesHeld, WriterFailed}
 
 -- what is so after an error
 pub on_err : {A E : Type 0} {P : Type 0} (r : Result A E) → P → OnErr r P
@@ -20,12 +20,12 @@ appends_nothing None = tt
 appends_nothing (Some xs) = sym (append-nil xs)
 
 -- a text is held
-pub hands_held : {known : Option (List ℕ)} (held left text : List ℕ) → left ≡ held ++ text → HandsToWriter known known held left text
+pub hands_held : {known : Option (List ℕ)} (held left text : List ℕ) → left ≡ held ++ text → WritesHeld known known held left text
 hands_held held left text e = record { sent = []; all = sym e; appends = appends_nothing _ }
 
 -- one text, and then another
-pub hands_both : {a b c : Option (List ℕ)} (held mid left x y : List ℕ) → HandsToWriter a b held mid x → HandsToWriter b c mid left y →
-    HandsToWriter a c held left (x ++ y)
+pub hands_both : {a b c : Option (List ℕ)} (held mid left x y : List ℕ) → WritesHeld a b held mid x → WritesHeld b c mid left y →
+    WritesHeld a c held left (x ++ y)
 hands_both held mid left x y h k = record {
   sent = h.sent ++ k.sent;
   all = sym (append_assoc held x y)
@@ -37,8 +37,8 @@ hands_both held mid left x y h k = record {
 }
 
 -- one text, and in the next the writer fails
-pub hands_stops : {a b c : Option (List ℕ)} (held mid x y : List ℕ) → HandsToWriter a b held mid x → StopsWriter b c mid y →
-    StopsWriter a c held (x ++ y)
+pub hands_stops : {a b c : Option (List ℕ)} (held mid x y : List ℕ) → WritesHeld a b held mid x → WriterFailed b c mid y →
+    WriterFailed a c held (x ++ y)
 hands_stops held mid x y h k = record {
   front = h.sent ++ k.front;
   back = k.back;
@@ -52,7 +52,7 @@ hands_stops held mid x y h k = record {
 }
 
 -- the writer fails before another text
-pub stops_before : {a b : Option (List ℕ)} (held x y : List ℕ) → StopsWriter a b held x → StopsWriter a b held (x ++ y)
+pub stops_before : {a b : Option (List ℕ)} (held x y : List ℕ) → WriterFailed a b held x → WriterFailed a b held (x ++ y)
 stops_before held x y h = record {
   front = h.front;
   back = h.back ++ y;
@@ -62,24 +62,24 @@ stops_before held x y h = record {
 }
 
 -- one text, and then another is held
-pub hands_more : {a b : Option (List ℕ)} (held mid left x y : List ℕ) → HandsToWriter a b held mid x → left ≡ mid ++ y →
-    HandsToWriter a b held left (x ++ y)
+pub hands_more : {a b : Option (List ℕ)} (held mid left x y : List ℕ) → WritesHeld a b held mid x → left ≡ mid ++ y →
+    WritesHeld a b held left (x ++ y)
 hands_more held mid left x y h e = hands_both held mid left x y h (hands_held mid left y e)
 
 -- the same text
-pub hands_same : {a b : Option (List ℕ)} (held left x y : List ℕ) → x ≡ y → HandsToWriter a b held left x → HandsToWriter a b held left y
+pub hands_same : {a b : Option (List ℕ)} (held left x y : List ℕ) → x ≡ y → WritesHeld a b held left x → WritesHeld a b held left y
 hands_same {a = a} {b = b} held left x y e h = rw (sym e) h
 
-pub stops_same : {a b : Option (List ℕ)} (held x y : List ℕ) → x ≡ y → StopsWriter a b held x → StopsWriter a b held y
+pub stops_same : {a b : Option (List ℕ)} (held x y : List ℕ) → x ≡ y → WriterFailed a b held x → WriterFailed a b held y
 stops_same {a = a} {b = b} held x y e h = rw (sym e) h
 
 -- what is held goes out, and with it all
-pub all_out : (a b c : Option (List ℕ)) (left x y : List ℕ) → y ≡ left → HandsToWriter a b [] left x → Appends b c y → Appends a c x
+pub all_out : (a b c : Option (List ℕ)) (left x y : List ℕ) → y ≡ left → WritesHeld a b [] left x → Appends b c y → Appends a c x
 all_out a b c left x y e h k =
     rw (h.all) (Appends-trans a b c h.sent left h.appends (rw (sym e) k))
 
 -- the writer fails in what is held
-pub held_stops : (a b c : Option (List ℕ)) (left x y : List ℕ) → y ≡ left → HandsToWriter a b [] left x → AppendsProperBeginning b c y →
+pub held_stops : (a b c : Option (List ℕ)) (left x y : List ℕ) → y ≡ left → WritesHeld a b [] left x → AppendsProperBeginning b c y →
     AppendsProperBeginning a c x
 held_stops a b c left x y e h k = (
   h.sent ++ k.0,
@@ -90,11 +90,11 @@ held_stops a b c left x y e h k = (
 )
 
 -- it failed before
-pub stops_all : (a b : Option (List ℕ)) (x : List ℕ) → StopsWriter a b [] x → AppendsProperBeginning a b x
+pub stops_all : (a b : Option (List ℕ)) (x : List ℕ) → WriterFailed a b [] x → AppendsProperBeginning a b x
 stops_all a b x h = (h.front, h.back, h.all, h.some, h.appends)
 
 -- the writer fails in what is held, before a text
-pub begun_stops : (a b : Option (List ℕ)) (held x text : List ℕ) → x ≡ held → AppendsProperBeginning a b x → StopsWriter a b held text
+pub begun_stops : (a b : Option (List ℕ)) (held x text : List ℕ) → x ≡ held → AppendsProperBeginning a b x → WriterFailed a b held text
 begun_stops a b held x text e k = record {
   front = k.0;
   back = k.1 ++ text;
@@ -105,7 +105,7 @@ begun_stops a b held x text e k = record {
 
 -- it takes what is held, and the text
 pub sent_all : {held x left text y : List ℕ} (a b c : Option (List ℕ)) → x ≡ held → y ≡ text → left ≡ [] → Appends a b x → Appends b c y
-    → HandsToWriter a c held left text
+    → WritesHeld a c held left text
 sent_all {held} {x} {text = text} {y = y} a b c e f none h k = record {
   sent = x ++ y;
   all = rw (e, f, none) (sym (append-nil (held ++ text)));
@@ -114,7 +114,7 @@ sent_all {held} {x} {text = text} {y = y} a b c e f none h k = record {
 
 -- it takes what is held, and fails in the text
 pub sent_stops : {held x text y : List ℕ} (a b c : Option (List ℕ)) → x ≡ held → y ≡ text → Appends a b x → AppendsProperBeginning b c y
-    → StopsWriter a c held text
+    → WriterFailed a c held text
 sent_stops {held} {x} a b c e f h k = record {
   front = x ++ k.0;
   back = k.1;
@@ -131,16 +131,16 @@ two_runs n i k e = replicate-append-replicate {A = ℕ} i k 32 ∙ ap spaces (sy
 
 -- a piece more
 pub spaces_hand : {a b c : Option (List ℕ)} (held mid left piece : List ℕ) (n i k : ℕ) → n ≡ i + k → piece ≡ spaces k →
-    HandsToWriter a b held mid (spaces i)
-    → HandsToWriter b c mid left piece → HandsToWriter a c held left (spaces n)
+    WritesHeld a b held mid (spaces i)
+    → WritesHeld b c mid left piece → WritesHeld a c held left (spaces n)
 spaces_hand held mid left piece n i k sum e h m =
     hands_same held left (spaces i ++ piece) (spaces n) (ap (λ (l : List ℕ). spaces i ++ l) e ∙ two_runs n i k sum)
     (hands_both held mid left (spaces i) piece h m)
 
 -- the writer fails in a piece
 pub spaces_stop : {a b c : Option (List ℕ)} (held mid piece : List ℕ) (n i k : ℕ) → i + k ≤ n → piece ≡ spaces k →
-    HandsToWriter a b held mid (spaces i)
-    → StopsWriter b c mid piece → StopsWriter a c held (spaces n)
+    WritesHeld a b held mid (spaces i)
+    → WriterFailed b c mid piece → WriterFailed a c held (spaces n)
 spaces_stop held mid piece n i k le e h m =
     let rest = n - (i + k) in
     stops_same held ((spaces i ++ piece) ++ spaces rest) (spaces n)
@@ -151,27 +151,27 @@ spaces_stop held mid piece n i k le e h m =
 -- ---- a layout
 
 -- the writer fails in a part of it
-pub stops_in : {a b c : Option (List ℕ)} (held mid all done x rest : List ℕ) → all ≡ done ++ (x ++ rest) → HandsToWriter a b held mid done
-    → StopsWriter b c mid x → StopsWriter a c held all
+pub stops_in : {a b c : Option (List ℕ)} (held mid all done x rest : List ℕ) → all ≡ done ++ (x ++ rest) → WritesHeld a b held mid done
+    → WriterFailed b c mid x → WriterFailed a c held all
 stops_in held mid all done x rest e h m =
     stops_same held ((done ++ x) ++ rest) all (append_assoc done x rest ∙ sym e)
     (stops_before held (done ++ x) rest (hands_stops held mid done x h m))
 
 -- it failed before the last text, where nothing was held at first
-pub out_stops : (a b : Option (List ℕ)) (held x y : List ℕ) → held ≡ [] → StopsWriter a b held x → AppendsProperBeginning a b (x ++ y)
-out_stops a b held x y none m = stops_all a b (x ++ y) (stops_before [] x y (subst (λ (l : List ℕ). StopsWriter a b l x) none m))
+pub out_stops : (a b : Option (List ℕ)) (held x y : List ℕ) → held ≡ [] → WriterFailed a b held x → AppendsProperBeginning a b (x ++ y)
+out_stops a b held x y none m = stops_all a b (x ++ y) (stops_before [] x y (subst (λ (l : List ℕ). WriterFailed a b l x) none m))
 
 -- it fails in the last text
-pub out_fails : (a b c : Option (List ℕ)) (held mid x y : List ℕ) → held ≡ [] → HandsToWriter a b held mid x → StopsWriter b c mid y →
+pub out_fails : (a b c : Option (List ℕ)) (held mid x y : List ℕ) → held ≡ [] → WritesHeld a b held mid x → WriterFailed b c mid y →
     AppendsProperBeginning a c (x ++ y)
 out_fails a b c held mid x y none h m =
-    stops_all a c (x ++ y) (hands_stops [] mid x y (subst (λ (l : List ℕ). HandsToWriter a b l mid x) none h) m)
+    stops_all a c (x ++ y) (hands_stops [] mid x y (subst (λ (l : List ℕ). WritesHeld a b l mid x) none h) m)
 
 -- both are after what was held at first, which is nothing
-pub out_hands : (a b c : Option (List ℕ)) (held mid left x y : List ℕ) → held ≡ [] → HandsToWriter a b held mid x →
-    HandsToWriter b c mid left y
-    → HandsToWriter a c [] left (x ++ y)
-out_hands a b c held mid left x y none h m = hands_both [] mid left x y (subst (λ (l : List ℕ). HandsToWriter a b l mid x) none h) m
+pub out_hands : (a b c : Option (List ℕ)) (held mid left x y : List ℕ) → held ≡ [] → WritesHeld a b held mid x →
+    WritesHeld b c mid left y
+    → WritesHeld a c [] left (x ++ y)
+out_hands a b c held mid left x y none h m = hands_both [] mid left x y (subst (λ (l : List ℕ). WritesHeld a b l mid x) none h) m
 
 -- ---- a text that is kept
 

@@ -9,7 +9,7 @@ ghost use Rattle.std.specs.Io.KnownBytes.{Appends};
 ghost use Rattle.prettyless_model.specs.Spaces.{spaces};
 ghost use Rattle.json_formatter.specs.Formats.{AppendsProperBeginning, IsWriting};
 ghost use Rattle.json_formatter.specs.Gaps.{gap_bytes};
-ghost use Rattle.json_formatter.specs.Outputs.{HandsToWriter, StopsWriter};
+ghost use Rattle.json_formatter.specs.Outputs.{WritesHeld, WriterFailed};
 
 use crate::error::FormatError;
 use crate::gaps::{Gap, Layout};
@@ -65,8 +65,8 @@ fn write_held<W: Write>(
     held: &mut ArrayString<HELD>,
     text: &str,
 ) -> Result<(), FormatError>
-    ensures ok { OnOk result (HandsToWriter (W.contents writer.old) (W.contents writer.new) held.old.bytes held.new.bytes text.now) }
-    ensures beginning { OnErr result (StopsWriter (W.contents writer.old) (W.contents writer.new) held.old.bytes text.now) }
+    ensures ok { OnOk result (WritesHeld (W.contents writer.old) (W.contents writer.new) held.old.bytes held.new.bytes text.now) }
+    ensures beginning { OnErr result (WriterFailed (W.contents writer.old) (W.contents writer.new) held.old.bytes text.now) }
     ensures err { IfErr result IsWriting }
 {
     write_text(writer, held.as_str().as_bytes())?;
@@ -84,8 +84,8 @@ fn put<W: Write>(
     held: &mut ArrayString<HELD>,
     text: &str,
 ) -> Result<(), FormatError>
-    ensures ok { OnOk result (HandsToWriter (W.contents writer.old) (W.contents writer.new) held.old.bytes held.new.bytes text.now) }
-    ensures beginning { OnErr result (StopsWriter (W.contents writer.old) (W.contents writer.new) held.old.bytes text.now) }
+    ensures ok { OnOk result (WritesHeld (W.contents writer.old) (W.contents writer.new) held.old.bytes held.new.bytes text.now) }
+    ensures beginning { OnErr result (WriterFailed (W.contents writer.old) (W.contents writer.new) held.old.bytes text.now) }
     ensures err { IfErr result IsWriting }
 {
     match held.try_push_str(text) {
@@ -101,8 +101,8 @@ fn put_spaces<W: Write>(
     held: &mut ArrayString<HELD>,
     count: usize,
 ) -> Result<(), FormatError>
-    ensures ok { OnOk result (HandsToWriter (W.contents writer.old) (W.contents writer.new) held.old.bytes held.new.bytes (spaces count)) }
-    ensures beginning { OnErr result (StopsWriter (W.contents writer.old) (W.contents writer.new) held.old.bytes (spaces count)) }
+    ensures ok { OnOk result (WritesHeld (W.contents writer.old) (W.contents writer.new) held.old.bytes held.new.bytes (spaces count)) }
+    ensures beginning { OnErr result (WriterFailed (W.contents writer.old) (W.contents writer.new) held.old.bytes (spaces count)) }
     ensures err { IfErr result IsWriting }
 {
     let mut left = count;
@@ -121,8 +121,8 @@ fn put_gap<W: Write>(
     held: &mut ArrayString<HELD>,
     gap: Gap,
 ) -> Result<(), FormatError>
-    ensures ok { OnOk result (HandsToWriter (W.contents writer.old) (W.contents writer.new) held.old.bytes held.new.bytes (gap_bytes gap)) }
-    ensures beginning { OnErr result (StopsWriter (W.contents writer.old) (W.contents writer.new) held.old.bytes (gap_bytes gap)) }
+    ensures ok { OnOk result (WritesHeld (W.contents writer.old) (W.contents writer.new) held.old.bytes held.new.bytes (gap_bytes gap)) }
+    ensures beginning { OnErr result (WriterFailed (W.contents writer.old) (W.contents writer.new) held.old.bytes (gap_bytes gap)) }
     ensures err { IfErr result IsWriting }
 {
     match gap {
@@ -236,8 +236,8 @@ fn put_layout<W: Write>(
     held: &mut ArrayString<HELD>,
     layout: &mut Layout<'_>,
 ) -> Result<(), FormatError>
-    ensures ok { OnOk result (HandsToWriter (W.contents writer.old) (W.contents writer.new) held.old.bytes held.new.bytes layout.old) }
-    ensures beginning { OnErr result (StopsWriter (W.contents writer.old) (W.contents writer.new) held.old.bytes layout.old) }
+    ensures ok { OnOk result (WritesHeld (W.contents writer.old) (W.contents writer.new) held.old.bytes held.new.bytes layout.old) }
+    ensures beginning { OnErr result (WriterFailed (W.contents writer.old) (W.contents writer.new) held.old.bytes layout.old) }
     ensures err { IfErr result IsWriting }
 {
     while let Some((gap, lexeme)) = hold_some(held, layout) {

@@ -32,8 +32,8 @@ IsNamed (String s) = head s.now ≡ ascii.quote
 IsNamed (Word s) = (head s.now ≢ ascii.quote) × (ends_word s.now ≡ false)
 
 -- of these texts the first is returned, as a lexeme, and the others are left; or none was left
-abbrev pub HandsOut : List (List ℕ) → Option Lexeme → List (List ℕ) → Type 0
-HandsOut old r new = MatchOption r ((old ≡ []) × (new ≡ [])) (λ l. (old ≡ text_of l ∷ new) × IsNamed l)
+abbrev pub YieldsLexeme : List (List ℕ) → Option Lexeme → List (List ℕ) → Type 0
+YieldsLexeme old r new = MatchOption r ((old ≡ []) × (new ≡ [])) (λ l. (old ≡ text_of l ∷ new) × IsNamed l)
 
 -- the first lexeme from a place of the text on, after which the others come
 pub record IsFirst (text : List ℕ) (place : ℕ) (lexeme : List ℕ) : Type 0 where

@@ -49,9 +49,9 @@ impl<'a> Iterator for Lexer<'a> {
     type Item = Lexeme<'a>;
 
     ghost use Rattle.std.specs.Iterator.{item_count};
-    ghost use Rattle.json_lexemes.specs.View.{HandsOut};
+    ghost use Rattle.json_lexemes.specs.View.{YieldsLexeme};
 
-    ghost next_gives = { HandsOut };
+    ghost next_gives = { YieldsLexeme };
 
     ghost remaining = { item_count (λ left. left) };
 

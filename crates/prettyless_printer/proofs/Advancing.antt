@@ -22,7 +22,7 @@ use Rattle.prettyless_printer.proofs.Steps.{visits_within}
 use Rattle.prettyless_printer.proofs.Descends.{InHand, Visit, from_start}
 use Rattle.prettyless_printer.proofs.Standings.{Wrote, choice_there, step_from, stuck_there}
 use Rattle.prettyless_printer.proofs.Trying.{grows-grows}
-use Rattle.prettyless_printer.proofs.Turnings.{move_inside, work_falls, failed, choice_inside, choice_work_falls, sink_broke}
+use Rattle.prettyless_printer.proofs.Turnings.{move_inside, work_falls, failed, choice_inside, choice_work_falls, sink_error}
 use Rattle.prettyless_printer.proofs.Visits.{move_at_most, failed_at_most, choice_at_most, at_most_then, at_most_all, rise_then}
 use Rattle.prettyless_printer.proofs.AtLeast.{OneLaid, move_at_least, choice_at_least, at_least_then}
 
@@ -174,9 +174,9 @@ advances_choice {N} {E} f {a} {t} {s} {x} {i} {l} {r} p q h one probes shows =
 -- # Turns that ended in an error
 
 -- what ended in an error has counted no more than the tasks allow
-broke_at_most : {a : Point} {t : Task} {b : Point} {x : Visits} → InHand a t b → Visit a.printer.options t b x → Plain a.printer
+error_at_most : {a : Point} {t : Task} {b : Point} {x : Visits} → InHand a t b → Visit a.printer.options t b x → Plain a.printer
     → CountsAtMost a.printer.tasks [] a.visits x
-broke_at_most h one plain =
+error_at_most h one plain =
     at_most_all (at_most_then (h.at_most plain).1
     (failed_at_most one.more))
 
@@ -196,7 +196,7 @@ advances_refused {f} {e} h one =
       least = (rise_then h.rise one.rise).printer;
       most = count.most;
       rise = rise_then h.rise one.rise;
-      at_most = λ plain. broke_at_most h one plain;
+      at_most = λ plain. error_at_most h one plain;
       at_least = tt;
     })
 
@@ -223,7 +223,7 @@ advances_sink_failed {f} {a} {t} {b} {q} {s} {bytes} {e} h one k lender refused 
             y.0,
             (
               λ whole limit below old l m.
-                  sink_broke q.tasks (state_at q) (omega (arith, l, h.long))
+                  sink_error q.tasks (state_at q) (omega (arith, l, h.long))
                   (h.inside out whole limit below old l m) k.steps_to y.1.0,
               y.1.1,
             ),
@@ -231,6 +231,6 @@ advances_sink_failed {f} {a} {t} {b} {q} {s} {bytes} {e} h one k lender refused 
       least = count.least;
       most = count.most;
       rise = rise_then h.rise one.rise;
-      at_most = λ plain. broke_at_most h one plain;
+      at_most = λ plain. error_at_most h one plain;
       at_least = tt;
     })

@@ -16,13 +16,13 @@ use Rattle.prettyless_printer.specs.declared.answer.TrialState.TheVariants as tr
 use Rattle.prettyless_printer.specs.declared.answer.TrialResult.{TrialResult}
 use Rattle.prettyless_printer.specs.Points.{Standing, Seen, Point, point_at}
 use Rattle.prettyless_printer.specs.Trials.{Trial, AtChoice, TrialTurns, TrialRejected, TrialComplete, TrialRunning, Restores}
-use Rattle.prettyless_printer.specs.Trials.{TrialBroke, Tries, make_trial}
+use Rattle.prettyless_printer.specs.Trials.{TrialError, Tries, make_trial}
 use Rattle.prettyless_printer.specs.Trials.{trial_run}
 use Rattle.prettyless_printer.specs.Open.{BeginsTrial, Chain, Undone, TrialsEnd, Held, Link, Marked, Open, Opens, all_held, below_all}
 use Rattle.prettyless_printer.specs.Open.{below_last, held}
 use Rattle.prettyless_printer.proofs.PathSteps.{goes_on_kept, goes_on_other}
 use Rattle.prettyless_printer.proofs.Standings.{Flagged, Pushed}
-use Rattle.prettyless_printer.proofs.TrialSteps.{CutBack, began_plain, choice_broke, rejected_broke, trial_over, trial_run_begins}
+use Rattle.prettyless_printer.proofs.TrialSteps.{CutBack, began_plain, choice_error, rejected_error, trial_over, trial_run_begins}
 use Rattle.prettyless_printer.proofs.TrialSteps.{trial_undone}
 use Rattle.prettyless_printer.proofs.Visits.{rise_then, at_most_first, at_most_then}
 
@@ -69,23 +69,23 @@ chain_last u (v ∷ us) o t last h =
     chain_last v us h.0 t (first_last h.1.holds.marked) h.2
 
 -- what ended in an error inside did so outside
-broke_outside : (o c : Trial) (y : Tree) (b : Point) → AtChoice o c.indent c.branch y c.start → TrialBroke c b → TrialBroke o b
-broke_outside o c y b choice broke = record {
-  rise = rise_then choice.waiting.rise broke.rise;
+error_outside : (o c : Trial) (y : Tree) (b : Point) → AtChoice o c.indent c.branch y c.start → TrialError c b → TrialError o b
+error_outside o c y b choice error = record {
+  rise = rise_then choice.waiting.rise error.rise;
   at_most = λ began.
       let w = choice.waiting.at_most began in
       at_most_then w.3 (at_most_first (make_task c.indent Break c.branch) (make_task c.indent Break y)
-      (broke.at_most (began_plain c w.0 w.1)));
+      (error.at_most (began_plain c w.0 w.1)));
 }
 
-chain_broke : (o : Trial) (us : List Held) (t : Trial) (b : Point) → Chain o us t → TrialBroke t b → TrialBroke o b
-chain_broke o [] t b h broke = subst (λ (x : Trial). TrialBroke x b) h broke
-chain_broke o (u ∷ us) t b h broke = broke_outside o h.0 u.second b h.1.choice (chain_broke h.0 us t b h.2 broke)
+chain_error : (o : Trial) (us : List Held) (t : Trial) (b : Point) → Chain o us t → TrialError t b → TrialError o b
+chain_error o [] t b h error = subst (λ (x : Trial). TrialError x b) h error
+chain_error o (u ∷ us) t b h error = error_outside o h.0 u.second b h.1.choice (chain_error h.0 us t b h.2 error)
 
 -- it ended in an error wherever as much was visited
-pub broke_at : {t : Trial} {b c : Point} → c.visits ≡ b.visits → TrialBroke t b → TrialBroke t c
-broke_at {t} {c} e h =
-    subst (λ (v : Visits). TrialBroke t (point_at c.printer c.sink v)) (sym e) (record { rise = h.rise; at_most = h.at_most })
+pub error_at : {t : Trial} {b c : Point} → c.visits ≡ b.visits → TrialError t b → TrialError t c
+error_at {t} {c} e h =
+    subst (λ (v : Visits). TrialError t (point_at c.printer c.sink v)) (sym e) (record { rise = h.rise; at_most = h.at_most })
 
 -- a trial that begins
 on_begun : {a : Point} {m : Mark} {i : ℕ} {d : Tree} {q : Standing} → Marked m a → BeginsTrial i d a.printer q
@@ -135,25 +135,25 @@ module _ {N E : Type 0} {f : N → Tree} {s : Trial} {y : Tree} {a b : Point} wh
       record { holds = k.holds; trial = k.trial; chain = k.chain; on = h.courses k.trial k.on }
 
   -- it ended in an error
-  pub open_broke : {us : List Held} {e : E} → Took f s y us a b (Err e) → TrialBroke s b
-  open_broke {us = []} h = absurd h.trials
-  open_broke {us = u ∷ us} h =
+  pub open_error : {us : List Held} {e : E} → Took f s y us a b (Err e) → TrialError s b
+  open_error {us = []} h = absurd h.trials
+  open_error {us = u ∷ us} h =
       let k = h.trials in
-      chain_broke s us k.trial b k.chain (h.courses k.trial k.on)
+      chain_error s us k.trial b k.chain (h.courses k.trial k.on)
 
   -- it was undone, and its second branch was refused memory
-  pub open_rejected_broke : {us : List Held} → Took {E = E} f s y us a b (Ok trial_state.Rejected) → TrialBroke s b
-  open_rejected_broke {us = []} h = absurd h.trials
-  open_rejected_broke {us = u ∷ us} h =
+  pub open_rejected_error : {us : List Held} → Took {E = E} f s y us a b (Ok trial_state.Rejected) → TrialError s b
+  open_rejected_error {us = []} h = absurd h.trials
+  open_rejected_error {us = u ∷ us} h =
       let k = h.trials in
-      chain_broke s us k.trial b k.chain (rejected_broke (h.courses k.trial k.on))
+      chain_error s us k.trial b k.chain (rejected_error (h.courses k.trial k.on))
 
   -- a trial more was refused memory
-  pub open_choice_broke : {us : List Held} {i : ℕ} {x z : N} → Took {E = E} f s y us a b (Ok (trial_state.Choice i x z)) → TrialBroke s b
-  open_choice_broke {us = []} h = absurd h.trials
-  open_choice_broke {us = u ∷ us} {i} {x} {z} h =
+  pub open_choice_error : {us : List Held} {i : ℕ} {x z : N} → Took {E = E} f s y us a b (Ok (trial_state.Choice i x z)) → TrialError s b
+  open_choice_error {us = []} h = absurd h.trials
+  open_choice_error {us = u ∷ us} {i} {x} {z} h =
       let k = h.trials in
-      chain_broke s us k.trial b k.chain (choice_broke i (f x) (f z) (h.courses k.trial k.on).0)
+      chain_error s us k.trial b k.chain (choice_error i (f x) (f z) (h.courses k.trial k.on).0)
 
   -- a trial of a first branch is opened
   pub open_more : {us vs : List Held} {i : ℕ} {x z : N} {q : Standing} → Took {E = E} f s y us a b (Ok (trial_state.Choice i x z))
@@ -345,7 +345,7 @@ pub length-all_held : {N : Type 0} (f : N → Tree) (us : List (OpenTrial N)) �
 length-all_held f us = length-map us (held f)
 
 -- a refusal of memory ends open trials wherever as much was visited
-pub ends_broke : (E : Type 0) (limit : ℕ) (s : Trial) (y : Tree) {b : Point} (us : List Held) (r : Result TrialResult E) → IsErr r
-    → TrialBroke s b → TrialsEnd limit s y b us r
-ends_broke E limit s y us (Ok x) e h = cc
-ends_broke E limit s y us (Err x) e h = h
+pub ends_error : (E : Type 0) (limit : ℕ) (s : Trial) (y : Tree) {b : Point} (us : List Held) (r : Result TrialResult E) → IsErr r
+    → TrialError s b → TrialsEnd limit s y b us r
+ends_error E limit s y us (Ok x) e h = cc
+ends_error E limit s y us (Err x) e h = h

@@ -8,7 +8,7 @@ use Rattle.prettyless_model.specs.Layout.{State}
 use Rattle.prettyless_probe.specs.Stack.{nodes}
 use Rattle.prettyless_step.specs.Steps.{pending_work}
 use Rattle.prettyless_printer.specs.Points.{Point, Seen, Standing, point_at}
-use Rattle.prettyless_printer.specs.Trials.{TrialBroke, Tries, make_trial}
+use Rattle.prettyless_printer.specs.Trials.{TrialError, Tries, make_trial}
 use Rattle.prettyless_printer.specs.Open.{BeginsTrial, Undone, Held, Open, Opens}
 use Rattle.prettyless_printer.specs.Paths.{Chooses}
 use Rattle.prettyless_printer.specs.Runs.{InChoice}
@@ -78,16 +78,16 @@ chooses_other {a} {s} {t} second same =
     }
 
 -- its trial is refused memory
-pub chooses_broke : {A E : Type 0} {i : ℕ} {x y : Tree} {a c : Point} {s t : Seen} {z : _} →
-    TrialBroke (make_trial (point_at a.printer s a.visits) i x) (point_at c.printer t c.visits) → c.sink ≡ a.sink
+pub chooses_error : {A E : Type 0} {i : ℕ} {x y : Tree} {a c : Point} {s t : Seen} {z : _} →
+    TrialError (make_trial (point_at a.printer s a.visits) i x) (point_at c.printer t c.visits) → c.sink ≡ a.sink
     → Chooses {A = A} {E = E} i x y a c (Err (Memory z))
-chooses_broke {i} {x} {a} {s} {z} broke same = record {
+chooses_error {i} {x} {a} {s} {z} error same = record {
   work_falls = tt;
   runs = λ run waiting.
       choice_refused (λ _. ⊥) z waiting (ap (λ (u : Seen). u.lender) same)
       (subst (λ (u : Seen). IfKnown a.sink.bytes u.bytes (λ out new. (new ≡ out) × (u.failures ≡ a.sink.failures))) (sym same)
       (λ is_known. (is_known, (refl, refl))))
-      broke.rise (λ plain none. broke.at_most (began_plain (make_trial (point_at a.printer s a.visits) i x) plain none));
+      error.rise (λ plain none. error.at_most (began_plain (make_trial (point_at a.printer s a.visits) i x) plain none));
 }
 
 -- its trial is opened, and no other one is open

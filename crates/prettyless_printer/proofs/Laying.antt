@@ -36,7 +36,7 @@ use Rattle.prettyless_printer.proofs.Spending.{left_with, spends_then}
 use Rattle.prettyless_printer.proofs.Descends.{InHand, Visit, goes_down}
 use Rattle.prettyless_printer.proofs.Standings.{descended, step_from}
 use Rattle.prettyless_printer.proofs.Trying.{grows-grows}
-use Rattle.prettyless_printer.proofs.Turnings.{work_falls, sink_broke, move_inside}
+use Rattle.prettyless_printer.proofs.Turnings.{work_falls, sink_error, move_inside}
 use Rattle.prettyless_printer.proofs.Visits.{OneMore, at_most_all, at_most_then, failed_at_most, rise_then, move_at_most}
 use Rattle.prettyless_printer.proofs.AtLeast.{OneLaid, at_least_then, move_at_least}
 
@@ -139,9 +139,9 @@ laying_done {N} {E} f {a} {b} h = record {
 }
 
 -- what ended in an error at a task has counted no more than the tasks allow
-laying_broke : {a : Point} {t : Task} {us : List Task} {b : Point} {x : Visits} → Laying a (t ∷ us) b → VisitedOnce t b.visits x →
+laying_error : {a : Point} {t : Task} {us : List Task} {b : Point} {x : Visits} → Laying a (t ∷ us) b → VisitedOnce t b.visits x →
     Plain a.printer → CountsAtMost a.printer.tasks [] a.visits x
-laying_broke {a} {t} {us} {b} {x} h once plain =
+laying_error {a} {t} {us} {b} {x} h once plain =
     let ts : List Task = us ++ b.printer.tasks in
     let st = state_at b.printer in
     at_most_all (at_most_then (h.at_most plain).1
@@ -169,7 +169,7 @@ laying_sink_failed {N} {E} f {a} {t} {us} {b} {vs} {q} {bytes} p s x e h once w 
             z.0,
             (
               λ whole limit below old l m.
-                  sink_broke new (state_at q)
+                  sink_error new (state_at q)
                   (below_long us b.printer.tasks (length below) (length a.printer.tasks) l h.long)
                   (y.1.0 whole limit below old l m) w.steps_to z.1.0,
               z.1.1 ∙ ap rise y.1.1,
@@ -178,7 +178,7 @@ laying_sink_failed {N} {E} f {a} {t} {us} {b} {vs} {q} {bytes} p s x e h once w 
       least = omega (arith, h.least, once.rises);
       most = omega (arith, h.most, once.most, size_1);
       rise = rise_then h.rise (once_rise once);
-      at_most = λ plain. laying_broke h once plain;
+      at_most = λ plain. laying_error h once plain;
       at_least = tt;
     }
 

@@ -89,10 +89,10 @@ open_spends {has} {limit} {s} {y} {us} {vs} {a} {b} {ts} {q} {w} between h k =
     (spends_beside (seconds vs) (k (open_plain s y b vs between.now between.plain))))
 
 -- what ended in an error has nothing left
-pub spends_broke_as : {A E : Type 0} {r : Rule} {a : Left} (b : Left) (result : Result A E) → IsErr result → Spends r a (none_left b.visits)
+pub spends_error_as : {A E : Type 0} {r : Rule} {a : Left} (b : Left) (result : Result A E) → IsErr result → Spends r a (none_left b.visits)
     → SpendsAs r a b result
-spends_broke_as b (Ok x) e h = cc
-spends_broke_as b (Err x) e h = h
+spends_error_as b (Ok x) e h = cc
+spends_error_as b (Err x) e h = h
 
 -- # Trials that begin and end
 

@@ -20,7 +20,7 @@ use Rattle.prettyless_printer.specs.Trials.{Tries}
 use Rattle.prettyless_printer.specs.Visits.{Plain, Rise, CountsAtMost}
 use Rattle.prettyless_printer.specs.AtLeast.{CountsAtLeast, stack_tally}
 use Rattle.prettyless_printer.specs.Renders.{rest_of, Stopped, RunsCommands}
-use Rattle.prettyless_printer.specs.Paths.{Run, Path, PathToChoice, Broke, run_of}
+use Rattle.prettyless_printer.specs.Paths.{Run, Path, PathToChoice, RunError, run_of}
 use Rattle.prettyless_printer.proofs.Progresses.{inside_beginning, inside_end, choice_next_beginning}
 use Rattle.prettyless_printer.proofs.Standings.{Pushed}
 use Rattle.prettyless_printer.proofs.Turnings.{beginning_less}
@@ -143,7 +143,7 @@ path_to_choice f {r} {a} {b} i x y p l h long = record {
 -- a turn that ended in an error
 pub breaks_off : {N E : Type 0} (f : N → Tree) (fails : E → Type 0) {r : Run} {a b : Point} (e : RenderError E) → Path r a
     → length r.below < length a.printer.tasks →
-    Advances {N = N} {E = E} f a b (Err e) → Broke fails r e b
+    Advances {N = N} {E = E} f a b (Err e) → RunError fails r e b
 breaks_off {E} f fails {r} {a} {b} e p l h = record {
   same_lender = h.same_lender ∙ p.same_lender;
   bytes = λ is_known.
@@ -188,7 +188,7 @@ at_failing f {b} p l h = λ is_known.
 -- a turn at a node that fails
 pub fails_there : {N E : Type 0} (f : N → Tree) (fails : E → Type 0) {r : Run} {a b : Point} (e : E) → Path r a
     → length r.below < length a.printer.tasks →
-    Advances {N = N} {E = E} f a b (Ok turn_result.Failed) → fails e → Broke fails r (Document e) b
+    Advances {N = N} {E = E} f a b (Ok turn_result.Failed) → fails e → RunError fails r (Document e) b
 fails_there f fails e p l h w = record {
   same_lender = h.same_lender ∙ p.same_lender;
   bytes = λ is_known.
@@ -274,7 +274,7 @@ pub choice_refused : {E : Type 0} (fails : E → Type 0) {r : Run} {b c : Point}
     → c.sink.lender ≡ b.sink.lender →
     IfKnown b.sink.bytes c.sink.bytes (λ out new. (new ≡ out) × (c.sink.failures ≡ b.sink.failures)) → Rise b.visits c.visits →
     (Plain b.printer → suffix_depth x ≡ 0 → CountsAtMost (make_task i Break x ∷ b.printer.tasks) [] b.visits c.visits)
-    → Broke {E = E} fails r (Memory e) c
+    → RunError {E = E} fails r (Memory e) c
 choice_refused fails {r} {i} {x} {y} e w lender wrote rise counts = record {
   same_lender = lender ∙ w.same_lender;
   bytes = λ is_known.
@@ -299,7 +299,7 @@ pub choice_unwritten : {E D : Type 0} (fails : E → Type 0) {r : Run} {b c : Po
     Tries {E = D} i x (point_at b.printer s b.visits) (point_at c.printer t c.visits) (Ok true) → c.sink.lender ≡ b.sink.lender →
     IfKnown b.sink.bytes c.sink.bytes
     (λ out new. ((piece : List ℕ) → known t.bytes ≡ known s.bytes ++ piece → AppendsBeginning out new piece)
-    × (c.sink.failures ≡ rise b.sink.failures)) → Broke fails r (Sink e) c
+    × (c.sink.failures ≡ rise b.sink.failures)) → RunError fails r (Sink e) c
 choice_unwritten fails {r} {b} {c} {i} {x} {y} e w tries lender wrote =
     let o = r.start.printer.options in
     let old = known r.start.sink.bytes in
@@ -375,20 +375,20 @@ run_ends fails {b} x p l = record {
 }
 
 -- what ends in an error where no document fails, does so where some may
-pub broke_anyhow : {E : Type 0} (fails : E → Type 0) {r : Run} {b : Point} (e : RenderError E) → Broke (λ _. ⊥) r e b → Broke fails r e b
-broke_anyhow fails (Document e) h = record {
+pub error_anyhow : {E : Type 0} (fails : E → Type 0) {r : Run} {b : Point} (e : RenderError E) → RunError (λ _. ⊥) r e b → RunError fails r e b
+error_anyhow fails (Document e) h = record {
   same_lender = h.same_lender;
   bytes = λ is_known. absurd ((h.bytes is_known).1.4);
   rise = h.rise;
   at_most = h.at_most;
 }
-broke_anyhow fails (Sink e) h = record { same_lender = h.same_lender; bytes = h.bytes; rise = h.rise; at_most = h.at_most }
-broke_anyhow fails (Memory e) h = record { same_lender = h.same_lender; bytes = h.bytes; rise = h.rise; at_most = h.at_most }
+error_anyhow fails (Sink e) h = record { same_lender = h.same_lender; bytes = h.bytes; rise = h.rise; at_most = h.at_most }
+error_anyhow fails (Memory e) h = record { same_lender = h.same_lender; bytes = h.bytes; rise = h.rise; at_most = h.at_most }
 
 -- it ended in an error
-pub run_broke_off : {A E : Type 0} (fails : E → Type 0) {a b : Point} (e : RenderError E) → Broke fails (run_of a) e b
+pub run_error : {A E : Type 0} (fails : E → Type 0) {a b : Point} (e : RenderError E) → RunError fails (run_of a) e b
     → RunsCommands {A = A} {E = E} fails a b (Err e)
-run_broke_off fails e h = record {
+run_error fails e h = record {
   options = tt;
   done = tt;
   work_falls = tt;

@@ -28,7 +28,7 @@ use Rattle.prettyless_printer.specs.Renders.{Continues, Finishing, FlushesEnd, R
 use Rattle.prettyless_printer.proofs.Renders.{ending_again, ending_done, ending_stopped, finishing_begins, finishing_ends}
 use Rattle.prettyless_printer.proofs.Renders.{finishing_stopped, round_less, Ending}
 use Rattle.prettyless_printer.proofs.PathSteps as steps
-use Rattle.prettyless_printer.proofs.PathSteps.{run_broke_off}
+use Rattle.prettyless_printer.proofs.PathSteps.{run_error}
 use Rattle.prettyless_printer.proofs.Visits.{at_most_same, at_most_then, rise_same, rise_then}
 use Rattle.prettyless_printer.proofs.AtLeast.{at_least_at, at_least_same, at_least_then}
 
@@ -108,13 +108,13 @@ done_anyhow fails x y h = record {
   at_least = h.at_least;
 }
 
-pub broke_anyhow : {A B E : Type 0} (fails : E → Type 0) {a b : Point} (e : RenderError E) → RunsToEnd {A = A} fails a b (Err e)
+pub error_anyhow : {A B E : Type 0} (fails : E → Type 0) {a b : Point} (e : RenderError E) → RunsToEnd {A = A} fails a b (Err e)
     → RunsToEnd {A = B} fails a b (Err e)
-broke_anyhow fails (Document e) h =
+error_anyhow fails (Document e) h =
     record { same_lender = h.same_lender; bytes = h.bytes; rise = h.rise; at_most = h.at_most; at_least = tt }
-broke_anyhow fails (Sink e) h =
+error_anyhow fails (Sink e) h =
     record { same_lender = h.same_lender; bytes = h.bytes; rise = h.rise; at_most = h.at_most; at_least = tt }
-broke_anyhow fails (Memory e) h =
+error_anyhow fails (Memory e) h =
     record { same_lender = h.same_lender; bytes = h.bytes; rise = h.rise; at_most = h.at_most; at_least = tt }
 
 -- a run has come nowhere yet
@@ -347,4 +347,4 @@ pub choice_stopped : {E : Type 0} (fails : E → Type 0) {a c at b : Point} (i :
     → PathToChoice (run_of c) i x y at → Chooses {A = RunResult} {E = E} i x y at b (Err e) → RunsToEnd {A = RunResult} fails a b (Err e)
 choice_stopped fails {c} i x y e h waiting k =
     continues_to_end fails (Err e) h
-    (work_stopped {A = RunResult} fails e (run_broke_off fails e (steps.broke_anyhow fails e (k.runs (run_of c) waiting))))
+    (work_stopped {A = RunResult} fails e (run_error fails e (steps.error_anyhow fails e (k.runs (run_of c) waiting))))

@@ -244,9 +244,9 @@ spends_choice f {r} {a} {t} {x} p q i y z h plain shows =
     (both.0, (both.1, g.1))) (λ e. e)))
 
 -- the step was refused memory
-pub spends_broke : {N : Type 0} (f : N → Tree) {r : Rule} {a : Point} {t : Task} {s : Seen} {v x : Visits} (p : Printer N)
+pub spends_error : {N : Type 0} (f : N → Tree) {r : Rule} {a : Point} {t : Task} {s : Seen} {v x : Visits} (p : Printer N)
     → Takes f r a t p s v x → Plain a.printer → Spends r (left a.printer [] a.visits) (none_left x)
-spends_broke f p h plain =
+spends_error f p h plain =
     let b = standing f p in
     let counts = failed_at_most h.one.more in
     spends_then (h.spent plain) (step_spends h.visits (at_most_all counts) (λ g. tt) (λ e. refl))

@@ -12,7 +12,7 @@ use Rattle.prettyless_probe.specs.Stack.{make_task, nodes}
 use Rattle.prettyless_step.specs.Steps.{pending_work}
 use Rattle.prettyless_printer.specs.declared.trial.Mark.{Mark}
 use Rattle.prettyless_printer.specs.Points.{Standing, state_at, Seen, Point, point_at, work_at}
-use Rattle.prettyless_printer.specs.Trials.{Trial, AtChoice, TrialRejected, TrialComplete, Marks, TrialRunning, Restores, TrialBroke, Tries}
+use Rattle.prettyless_printer.specs.Trials.{Trial, AtChoice, TrialRejected, TrialComplete, Marks, TrialRunning, Restores, TrialError, Tries}
 use Rattle.prettyless_printer.specs.Trials.{make_trial, trial_of, trial_run}
 use Rattle.prettyless_printer.specs.Open.{BeginsTrial}
 use Rattle.prettyless_printer.specs.Visits.{Plain, suffix_depths}
@@ -165,11 +165,11 @@ trial_end_exceeds {t} {a} on l unfit =
 -- # Undone, or kept
 
 -- what is rejected, or waits for a choice, may end in an error
-pub rejected_broke : {t : Trial} {b : Point} → TrialRejected t b → TrialBroke t b
-rejected_broke h = record { rise = h.rise; at_most = λ began. at_most_all (h.at_most began) }
+pub rejected_error : {t : Trial} {b : Point} → TrialRejected t b → TrialError t b
+rejected_error h = record { rise = h.rise; at_most = λ began. at_most_all (h.at_most began) }
 
-pub choice_broke : {t : Trial} (i : ℕ) (x y : Tree) {b : Point} → AtChoice t i x y b → TrialBroke t b
-choice_broke i x y h = record { rise = h.waiting.rise; at_most = λ began. at_most_all (h.waiting.at_most began).3 }
+pub choice_error : {t : Trial} (i : ℕ) (x y : Tree) {b : Point} → AtChoice t i x y b → TrialError t b
+choice_error i x y h = record { rise = h.waiting.rise; at_most = λ began. at_most_all (h.waiting.at_most began).3 }
 
 -- A sink was cut back to where a mark was set.
 pub record CutBack (m : Mark) (s t : Seen) : Type 0 where

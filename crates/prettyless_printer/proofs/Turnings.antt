@@ -116,9 +116,9 @@ beginning_less old out new b text p q w =
     )
 
 -- the sink failed: a beginning of the whole was written
-pub sink_broke : {o : RenderOptions} {whole : Outcome} {limit : ℕ} {below : List Task} {old : List ℕ} {t : Task} {ts : List Task}
+pub sink_error : {o : RenderOptions} {whole : Outcome} {limit : ℕ} {below : List Task} {old : List ℕ} {t : Task} {ts : List Task}
     {st : State} {out bytes new : List ℕ} (us : List Task) (u : State) → length below ≤ length ts →
     Inside o whole limit below old (t ∷ ts) st out → StepsTo (step_at o t ts st) ts bytes us u → AppendsBeginning out new bytes
     → AppendsBeginning old new (bytes_before whole)
-sink_broke {o} {whole} {limit} {below} {old} {t} {ts} {st} {out} {bytes} {new} us u l p h part =
+sink_error {o} {whole} {limit} {below} {old} {t} {ts} {st} {out} {bytes} {new} us u l p h part =
     beginning_less old out new bytes (bytes_before whole) part (inside_beginning (move_inside bytes l p h)) (p.bytes, p.out_is)

@@ -12,7 +12,7 @@ use Rattle.prettyless_printer.specs.declared.answer.TrialResult.{TrialResult}
 use Rattle.prettyless_printer.specs.declared.answer.TrialResult.TheVariants as trial_result
 use Rattle.prettyless_printer.specs.Points.{Standing, state_at, QueueGrows, Seen, Point, point_at}
 use Rattle.prettyless_printer.specs.Turns.{IsPastLimit}
-use Rattle.prettyless_printer.specs.Trials.{Trial, AtChoice, Marks, TrialRunning, TrialBroke, Tries}
+use Rattle.prettyless_printer.specs.Trials.{Trial, AtChoice, Marks, TrialRunning, TrialError, Tries}
 
 -- What is held of an open trial: its mark, and the second branch at its indent.
 pub record Held : Type 0 where
@@ -103,4 +103,4 @@ abbrev pub TrialsEnd : {E : Type 0} → ℕ → Trial → Tree → Point → Lis
 TrialsEnd {E} limit s y b us (Ok trial_result.Kept) = (us ≡ []) × Tries {E = E} s.indent s.branch s.start b (Ok true)
 TrialsEnd {E} limit s y b us (Ok trial_result.Rejected) = (us ≡ []) × Undone E s y b
 TrialsEnd {E} limit s y b us (Ok trial_result.Shift) = Open s y us b × IsPastLimit limit b.visits.probes
-TrialsEnd {E} limit s y b us (Err e) = TrialBroke s b
+TrialsEnd {E} limit s y b us (Err e) = TrialError s b

@@ -94,7 +94,7 @@ pub record PathToChoice (r : Run) (i : ℕ) (x y : Tree) (b : Point) : Type 0 wh
   pub at_least : CountsAtLeast r.tally (choice_tally b.printer (length r.below) i x y) r.start.visits b.visits
 
 -- A run that ended in an error.
-pub record Broke {E : Type 0} (fails : E → Type 0) (r : Run) (e : RenderError E) (b : Point) : Type 0 where
+pub record RunError {E : Type 0} (fails : E → Type 0) (r : Run) (e : RenderError E) (b : Point) : Type 0 where
   -- the sink writes through the same reference
   pub same_lender : b.sink.lender ≡ r.start.sink.lender
   -- where the sink's bytes are known, a beginning of the whole was written, as the error says
@@ -105,13 +105,13 @@ pub record Broke {E : Type 0} (fails : E → Type 0) (r : Run) (e : RenderError 
   pub at_most : BeganPlain r → CountsAtMost r.first [] r.start.visits b.visits
 
 -- A run goes on, or ends in an error.
-abbrev pub PathOrBroke : {A E : Type 0} → (E → Type 0) → Run → Point → Result A (RenderError E) → Type 0
-PathOrBroke fails r b (Ok x) = Path r b
-PathOrBroke fails r b (Err e) = Broke fails r e b
+abbrev pub PathOrError : {A E : Type 0} → (E → Type 0) → Run → Point → Result A (RenderError E) → Type 0
+PathOrError fails r b (Ok x) = Path r b
+PathOrError fails r b (Err e) = RunError fails r e b
 
 -- A choice between two branches at an indent, from one point to another.
 pub record Chooses {A E : Type 0} (i : ℕ) (x y : Tree) (a b : Point) (r : Result A (RenderError E)) : Type 0 where
   -- there is no more work than with both branches
   pub work_falls : OnOk r (work b.printer.tasks (state_at b.printer) ≤ 2 * (size x + size y) + work a.printer.tasks (state_at a.printer))
   -- each run in which it comes next goes on, or ends in an error; no document fails by it
-  pub runs : (run : Run) → PathToChoice run i x y a → PathOrBroke (λ _. ⊥) run b r
+  pub runs : (run : Run) → PathToChoice run i x y a → PathOrError (λ _. ⊥) run b r

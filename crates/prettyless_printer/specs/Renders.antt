@@ -31,10 +31,10 @@ Stopped fails o old new n m (Sink e) = AppendsBeginning old new (bytes_before o)
 Stopped fails o old new n m (Memory e) = AppendsBeginning old new (bytes_before o) × (m ≡ n)
 
 -- the commands are laid: their bytes are written, and none is left
-abbrev pub WorkedOff : {A E : Type 0} → Standing → Standing → (E → Type 0) → List ℕ → List ℕ → ℕ → ℕ → Result A (RenderError E) → Type 0
-WorkedOff p q fails old new n m (Ok r) =
+abbrev pub CommandsLaid : {A E : Type 0} → Standing → Standing → (E → Type 0) → List ℕ → List ℕ → ℕ → ℕ → Result A (RenderError E) → Type 0
+CommandsLaid p q fails old new n m (Ok r) =
     (bytes : List ℕ) × (rest_of p ≡ Done bytes (state_at q)) × (new ≡ old ++ bytes) × (m ≡ n)
-WorkedOff p q fails old new n m (Err e) = Stopped fails (rest_of p) old new n m e
+CommandsLaid p q fails old new n m (Err e) = Stopped fails (rest_of p) old new n m e
 
 -- the gap at the end is written
 abbrev pub Flushed : {A E : Type 0} → Standing → List ℕ → List ℕ → ℕ → ℕ → Result A (RenderError E) → Type 0
@@ -56,8 +56,8 @@ abbrev pub to_end : Standing → Outcome
 to_end p = and_then (rest_of p) (settle_end p.options)
 
 -- the commands and the rounds of the end are laid
-abbrev pub RanToEnd : {A E : Type 0} → Standing → (E → Type 0) → List ℕ → List ℕ → ℕ → ℕ → Result A (RenderError E) → Type 0
-RanToEnd p fails old new n m r = Rendered fails (bytes_of (to_end p)) old new n m r
+abbrev pub LaidToEnd : {A E : Type 0} → Standing → (E → Type 0) → List ℕ → List ℕ → ℕ → ℕ → Result A (RenderError E) → Type 0
+LaidToEnd p fails old new n m r = Rendered fails (bytes_of (to_end p)) old new n m r
 
 -- What was written since `old`, and then what the commands and the end lay, is the whole.
 pub record Finishing (whole : Outcome) (p : Standing) (old out : List ℕ) : Type 0 where
@@ -94,7 +94,7 @@ pub record RunsCommands {A E : Type 0} (fails : E → Type 0) (a b : Point) (r :
   pub same_lender : b.sink.lender ≡ a.sink.lender
   -- where the sink's bytes are known, what the commands lay was written, as far as the result says
   pub bytes : IfKnown a.sink.bytes b.sink.bytes
-      (λ before after. WorkedOff a.printer b.printer fails before after a.sink.failures b.sink.failures r)
+      (λ before after. CommandsLaid a.printer b.printer fails before after a.sink.failures b.sink.failures r)
   -- no count of visits fell
   pub rise : Rise a.visits b.visits
   -- without line suffixes, a visit is counted at most once for each node
@@ -120,7 +120,7 @@ pub record RunsToEnd {A E : Type 0} (fails : E → Type 0) (a b : Point) (r : Re
   -- the sink writes through the same reference
   pub same_lender : b.sink.lender ≡ a.sink.lender
   -- where the sink's bytes are known, what the commands and the end lay was written, as far as the result says
-  pub bytes : IfKnown a.sink.bytes b.sink.bytes (λ before after. RanToEnd a.printer fails before after a.sink.failures b.sink.failures r)
+  pub bytes : IfKnown a.sink.bytes b.sink.bytes (λ before after. LaidToEnd a.printer fails before after a.sink.failures b.sink.failures r)
   -- no count of visits fell
   pub rise : Rise a.visits b.visits
   -- without line suffixes, a visit is counted at most once for each node

@@ -132,7 +132,7 @@ pub record AtChoice (t : Trial) (i : ℕ) (x y : Tree) (b : Point) : Type 0 wher
   pub within : b.printer.within ≡ true
 
 -- A trial that ended in an error.
-pub record TrialBroke (t : Trial) (b : Point) : Type 0 where
+pub record TrialError (t : Trial) (b : Point) : Type 0 where
   pub rise : Rise t.start.visits b.visits
   pub at_most : BeganPlain (trial_run t) → CountsAtMost (make_task t.indent Break t.branch ∷ t.start.printer.tasks) []
       t.start.visits b.visits
@@ -144,7 +144,7 @@ TrialTurn f below a b t (Ok Complete) = TrialComplete t b × (work_at b ≤ work
 TrialTurn f below a b t (Ok Rejected) = TrialRejected t b
 TrialTurn f below a b t (Ok (Choice i x y)) = AtChoice t i (f x) (f y) b × (2 * (size (f x) + size (f y)) + work_at b < work_at a)
 TrialTurn f below a b t (Ok Shift) = TrialRunning t below b
-TrialTurn f below a b t (Err e) = TrialBroke t b
+TrialTurn f below a b t (Err e) = TrialError t b
 
 -- the same for each trial that was there, with this many commands below its branch
 abbrev pub TrialTurns : {N E : Type 0} → (N → Tree) → ℕ → Point → Point → Result (TrialState N) E → Type 0

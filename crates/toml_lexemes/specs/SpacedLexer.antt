@@ -31,5 +31,5 @@ abbrev pub spaced_of : Spaced → spec.SpacedToml
 spaced_of p = spec.after_toml_gap p.gap.now (text_if p.lexeme)
 
 -- of these the first is returned, and the others are left; or none was left
-abbrev pub HandsOutSpaced : List spec.SpacedToml → Option Spaced → List spec.SpacedToml → Type 0
-HandsOutSpaced old r new = MatchOption r ((old ≡ []) × (new ≡ [])) (λ p. (old ≡ spaced_of p ∷ new) × IsNamedIf p.lexeme)
+abbrev pub YieldsSpaced : List spec.SpacedToml → Option Spaced → List spec.SpacedToml → Type 0
+YieldsSpaced old r new = MatchOption r ((old ≡ []) × (new ≡ [])) (λ p. (old ≡ spaced_of p ∷ new) × IsNamedIf p.lexeme)

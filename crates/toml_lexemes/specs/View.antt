@@ -34,8 +34,8 @@ HasTomlKind (String s) = byte.is_quote (byte.head s.now) ≡ true
 HasTomlKind (Word s) = byte.ends_word (byte.head s.now) ≡ false
 
 -- of these texts the first is returned, as a lexeme, and the others are left; or none was left
-abbrev pub HandsOutTomlLexeme : List (List ℕ) → Option Lexeme → List (List ℕ) → Type 0
-HandsOutTomlLexeme old r new = MatchOption r ((old ≡ []) × (new ≡ [])) (λ l. (old ≡ toml_text_of l ∷ new) × HasTomlKind l)
+abbrev pub YieldsTomlLexeme : List (List ℕ) → Option Lexeme → List (List ℕ) → Type 0
+YieldsTomlLexeme old r new = MatchOption r ((old ≡ []) × (new ≡ [])) (λ l. (old ≡ toml_text_of l ∷ new) × HasTomlKind l)
 
 -- the first lexeme from a place of the text on, after which the others come
 pub record IsFirstTomlLexeme (text : List ℕ) (place : ℕ) (lexeme : List ℕ) : Type 0 where

@@ -38,9 +38,9 @@ impl<'a> Iterator for Lexer<'a> {
     type Item = Lexeme<'a>;
 
     ghost use Rattle.std.specs.Iterator.{item_count};
-    ghost use Rattle.toml_lexemes.specs.View.{HandsOutTomlLexeme};
+    ghost use Rattle.toml_lexemes.specs.View.{YieldsTomlLexeme};
 
-    ghost next_gives = { HandsOutTomlLexeme };
+    ghost next_gives = { YieldsTomlLexeme };
 
     ghost remaining = { item_count (λ left. left) };
 

@@ -68,9 +68,9 @@ impl<'a> Iterator for SpacedLexer<'a> {
     type Item = Spaced<'a>;
 
     ghost use Rattle.std.specs.Iterator.{item_count};
-    ghost use Rattle.toml_lexemes.specs.SpacedLexer.{HandsOutSpaced};
+    ghost use Rattle.toml_lexemes.specs.SpacedLexer.{YieldsSpaced};
 
-    ghost next_gives = { HandsOutSpaced };
+    ghost next_gives = { YieldsSpaced };
 
     ghost remaining = { item_count (λ left. left) };
 

@@ -129,7 +129,7 @@ fn cuts_what_is_no_toml(rt: HostRuntime) -> Result<(), Fail> {
 
 /// Each lexeme has the blanks before it, and the end has those before it.
 #[test]
-fn hands_out_gaps(rt: HostRuntime) -> Result<(), Fail> {
+fn yields_gaps(rt: HostRuntime) -> Result<(), Fail> {
     let expected = [
         Spaced {
             gap: "\t",

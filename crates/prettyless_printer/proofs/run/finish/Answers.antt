@@ -1,7 +1,7 @@
 use Rattle.std.proofs.Common.{arith}
 use Rattle.std.proofs.lemmas.Result.{err_from_is_err_and}
 use Rattle.prettyless_printer.specs.declared.answer.RunResult.TheVariants as run_result
-use Rattle.prettyless_printer.proofs.Shifts.{broke_anyhow, done_anyhow}
+use Rattle.prettyless_printer.proofs.Shifts.{error_anyhow, done_anyhow}
 use Rattle.prettyless_printer.proofs.run.finish.Goals as goal
 
 -- the run is done
@@ -17,7 +17,7 @@ returns-in_err-resume-clause-ends g c =
     rw (residual.1, residual.2)
     λ a h.
     let fails = g.W.Render.document_errors c.resume.new.out in
-    broke_anyhow fails c.in_err-resume.field-0.0 (c.in_err-resume.ensures.runs a h)
+    error_anyhow fails c.in_err-resume.field-0.0 (c.in_err-resume.ensures.runs a h)
 
 -- without a limit no run stops
 pub unreachable-requires : goal.unreachable-requires

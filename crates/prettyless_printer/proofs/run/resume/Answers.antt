@@ -6,7 +6,7 @@ use Rattle.prettyless_printer.specs.Open.{all_held}
 use Rattle.prettyless_printer.proofs.Shifts.{came_alone, came_in_choice, choice_continues, choice_stopped, comes_in_choice, none_open}
 use Rattle.prettyless_printer.proofs.Shifts.{runs_then, some_open}
 use Rattle.prettyless_printer.specs.Spending.{left}
-use Rattle.prettyless_printer.proofs.OpenSpending.{spends_broke_as}
+use Rattle.prettyless_printer.proofs.OpenSpending.{spends_error_as}
 use Rattle.prettyless_printer.proofs.RunSpending.{came_options, came_plain, seconds_none, spends_on_as}
 use Rattle.prettyless_printer.proofs.run.resume.Goals as goal
 
@@ -100,7 +100,7 @@ returns-in_err-resume_choice-clause-spends g c = λ a h plain.
     let here = point f c.args.printer.now (seen g.W.Render.bytes g.W.Render.failures g.W.Render.lender c.args.out.now) c.args.visits.now in
     let some = some_open f us (c.is_empty.ensures.some c.if-is_empty.false) in
     let came = came_in_choice a here (all_held f us) (buffer_seen c.args.buffer.now) some h in
-    spends_broke_as (left (standing f c.resume_choice.new.printer) _ c.resume_choice.new.visits) c.from_residual.result
+    spends_error_as (left (standing f c.resume_choice.new.printer) _ c.resume_choice.new.visits) c.from_residual.result
     c.from_residual.ensures.0
     (c.in_err-resume_choice.ensures.spends came.indent came.first came.second came.at came.choice (came_plain came plain))
 

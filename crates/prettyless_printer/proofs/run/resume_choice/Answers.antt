@@ -1,6 +1,6 @@
 use Rattle.prettyless_printer.specs.Points.{point_at}
 use Rattle.prettyless_printer.specs.Trials.{make_trial}
-use Rattle.prettyless_printer.proofs.Choosing.{chooses_broke, chooses_kept, chooses_other, chooses_unwritten}
+use Rattle.prettyless_printer.proofs.Choosing.{chooses_error, chooses_kept, chooses_other, chooses_unwritten}
 use Rattle.prettyless_printer.proofs.run.resume_choice.Goals as goal
 
 -- the first branch is kept, and written
@@ -32,4 +32,4 @@ returns-in-Ok-Rejected-clause-settles g c = λ i x y a h.
 -- memory is refused
 pub returns-in-Err-clause-settles : goal.returns-in-Err-clause-settles
 returns-in-Err-clause-settles g c = λ i x y a h.
-    chooses_broke (c.in-Err.ensures.ends (make_trial (point_at a.printer h.before a.visits) i x) y h.trials) h.sink
+    chooses_error (c.in-Err.ensures.ends (make_trial (point_at a.printer h.before a.visits) i x) y h.trials) h.sink

@@ -3,15 +3,15 @@ use Rattle.std.proofs.lemmas.Result.{err_from_is_err_and}
 use Rattle.prettyless_step.specs.Printing.{tasks_of}
 use Rattle.prettyless_printer.specs.declared.answer.RunResult.TheVariants as run_result
 use Rattle.prettyless_printer.specs.Points.{buffer_seen, point, seen, standing}
-use Rattle.prettyless_printer.proofs.PathSteps.{run_begins, run_ends, run_broke_off, goes_on, stops, path_to_choice, breaks_off}
+use Rattle.prettyless_printer.proofs.PathSteps.{run_begins, run_ends, run_error, goes_on, stops, path_to_choice, breaks_off}
 use Rattle.prettyless_printer.proofs.PathSteps.{fails_there}
-use Rattle.prettyless_printer.proofs.PathSteps.{broke_anyhow}
+use Rattle.prettyless_printer.proofs.PathSteps.{error_anyhow}
 use Rattle.prettyless_printer.specs.Open.{all_held}
 use Rattle.prettyless_printer.specs.Paths.{run_of}
 use Rattle.prettyless_printer.proofs.Shifts.{comes_alone, comes_in_choice, continues_same, none_open, path_continues}
 use Rattle.prettyless_printer.specs.Spending.{left}
 use Rattle.prettyless_printer.proofs.Spending.{spends_all, spends_same}
-use Rattle.prettyless_printer.proofs.OpenSpending.{spends_broke_as}
+use Rattle.prettyless_printer.proofs.OpenSpending.{spends_error_as}
 use Rattle.prettyless_printer.proofs.Forgetting.{path_forgets, spends_forgets, work_forgets}
 use Rattle.prettyless_printer.proofs.RunSpending.{none_seconds, path_spends, seconds_none, waiting_spends}
 use Rattle.prettyless_printer.proofs.run.run_commands.Goals as goal
@@ -108,7 +108,7 @@ returns-in-Failed-clause-works g c =
     let v = c.work.printer in
     let fails = g.W.Render.document_errors c.turn.new.out in
     let l : 0 < length (tasks_of f v) = omega (arith, c.work-test.true, c.len.ensures) in
-    run_broke_off fails _ (fails_there f fails c.fail_doc.result c.work.invariant.path l
+    run_error fails _ (fails_there f fails c.fail_doc.result c.work.invariant.path l
     (rw c.in-Failed.is at c.in_ok-turn.ensures.advances) c.fail_doc.ensures)
 
 pub returns-in_err-turn-clause-works : goal.returns-in_err-turn-clause-works
@@ -119,7 +119,7 @@ returns-in_err-turn-clause-works g c =
     let v = c.work.printer in
     let fails = g.W.Render.document_errors c.turn.new.out in
     let l : 0 < length (tasks_of f v) = omega (arith, c.work-test.true, c.len.ensures) in
-    run_broke_off fails c.in_err-turn.field-0.0
+    run_error fails c.in_err-turn.field-0.0
     (breaks_off f fails c.in_err-turn.field-0.0 c.work.invariant.path l c.in_err-turn.ensures.advances)
 
 pub returns-in_err-choose-in-Choice-clause-works : goal.returns-in_err-choose-in-Choice-clause-works
@@ -133,8 +133,8 @@ returns-in_err-choose-in-Choice-clause-works g c =
     let l : 0 < length (tasks_of f v) = omega (arith, c.work-test.true, c.len.ensures) in
     let waiting = path_to_choice f c.in-Choice.indent c.in-Choice.first c.in-Choice.second c.work.invariant.path l
     (rw c.in-Choice.is at c.in_ok-turn.ensures.advances) (omega arith) in
-    run_broke_off fails e
-    (broke_anyhow fails e (c.in_err-choose-in-Choice.ensures.settles.runs
+    run_error fails e
+    (error_anyhow fails e (c.in_err-choose-in-Choice.ensures.settles.runs
     (run_of (point f c.args.printer.now (seen g.W.Render.bytes g.W.Render.failures g.W.Render.lender c.args.out.now) c.args.visits.now))
     waiting))
 
@@ -166,7 +166,7 @@ returns-in-Shift-2-clause-works g c =
 -- what is left where it ends
 pub returns-in_err-turn-clause-spends : goal.returns-in_err-turn-clause-spends
 returns-in_err-turn-clause-spends g c = λ plain.
-    spends_broke_as (left (standing g.N.Walk.tree c.turn.new.printer) _ c.turn.new.visits) c.from_residual.result c.from_residual.ensures.0
+    spends_error_as (left (standing g.N.Walk.tree c.turn.new.printer) _ c.turn.new.visits) c.from_residual.result c.from_residual.ensures.0
     (path_spends c.work.invariant.path plain (c.work.invariant.spends plain) c.in_err-turn.ensures.spends)
 
 pub returns-in-Failed-clause-spends : goal.returns-in-Failed-clause-spends
@@ -185,7 +185,7 @@ returns-in_err-choose-in-Choice-clause-spends g c = λ plain.
     let l : 0 < length (tasks_of f c.work.printer) = omega (arith, c.work-test.true, c.len.ensures) in
     let waiting = path_to_choice f c.in-Choice.indent c.in-Choice.first c.in-Choice.second c.work.invariant.path l
     (rw c.in-Choice.is at c.in_ok-turn.ensures.advances) (omega arith) in
-    spends_broke_as (left (standing f c.choose.new.printer) _ c.choose.new.visits) c.from_residual-in_err-choose-in-Choice.result
+    spends_error_as (left (standing f c.choose.new.printer) _ c.choose.new.visits) c.from_residual-in_err-choose-in-Choice.result
     c.from_residual-in_err-choose-in-Choice.ensures.0
     (waiting_spends waiting plain
     (path_spends c.work.invariant.path plain (c.work.invariant.spends plain) (rw c.in-Choice.is at c.in_ok-turn.ensures.spends))

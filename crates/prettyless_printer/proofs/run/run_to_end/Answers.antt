@@ -9,7 +9,7 @@ use Rattle.prettyless_printer.proofs.Shifts.{continues_same, continues_then, con
 use Rattle.prettyless_printer.proofs.Shifts.{round_work_falls, round_stopped, work_ends, work_stopped}
 use Rattle.prettyless_printer.specs.Spending.{left}
 use Rattle.prettyless_printer.proofs.Spending.{spends_same}
-use Rattle.prettyless_printer.proofs.OpenSpending.{spends_broke_as}
+use Rattle.prettyless_printer.proofs.OpenSpending.{spends_error_as}
 use Rattle.prettyless_printer.proofs.RunSpending.{nothing_pending, spends_on}
 use Rattle.prettyless_printer.proofs.run.run_to_end.Goals as goal
 
@@ -94,7 +94,7 @@ returns-in_err-flush_end-in-Finished-clause-runs g c =
 -- what is left where it ends
 pub returns-in_err-run_commands-clause-spends : goal.returns-in_err-run_commands-clause-spends
 returns-in_err-run_commands-clause-spends g c = λ plain.
-    spends_broke_as (left (standing g.N.Walk.tree c.run_commands.new.printer) _ c.run_commands.new.visits) c.from_residual.result
+    spends_error_as (left (standing g.N.Walk.tree c.run_commands.new.printer) _ c.run_commands.new.visits) c.from_residual.result
     c.from_residual.ensures.0
     (spends_on c.rounds.invariant.continues.options (c.rounds.invariant.spends plain)
     (c.in_err-run_commands.ensures.spends (c.rounds.invariant.continues.at_most plain).0))

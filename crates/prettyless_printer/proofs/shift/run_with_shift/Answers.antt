@@ -7,7 +7,7 @@ use Rattle.prettyless_printer.specs.Open.{all_held, seconds}
 use Rattle.prettyless_printer.specs.declared.answer.RunResult.TheVariants as run_result
 use Rattle.prettyless_printer.specs.declared.shift_policy.ShiftPolicy.{ShiftPolicy}
 use Rattle.prettyless_printer.specs.ShiftPolicy.{probe_limit}
-use Rattle.prettyless_printer.proofs.Shifts.{broke_anyhow, done_anyhow}
+use Rattle.prettyless_printer.proofs.Shifts.{error_anyhow, done_anyhow}
 use Rattle.prettyless_printer.proofs.Shifted.{comes_first, comes_options, comes_still}
 use Rattle.prettyless_printer.proofs.ShiftSpending.{no_room, within_few, within_goes, within_over, within_start, within_still}
 use Rattle.prettyless_printer.proofs.shift.run_with_shift.Goals as goal
@@ -58,7 +58,7 @@ returns-in_err-resume-clause-ends g c =
     let sink = seen g.W.Render.bytes g.W.Render.failures g.W.Render.lender in
     let start = point f c.args.printer.now (sink c.args.out.now) c.args.visits.now in (
       standing f c.resume.new.printer,
-      broke_anyhow (g.W.Render.document_errors c.resume.new.out) _
+      error_anyhow (g.W.Render.document_errors c.resume.new.out) _
           (c.in_err-resume.ensures.runs start c.rounds.invariant.comes),
     )
 

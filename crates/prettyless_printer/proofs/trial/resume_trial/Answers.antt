@@ -7,16 +7,16 @@ use Rattle.prettyless_printer.specs.Points.{buffer_seen, point, standing}
 use Rattle.prettyless_model.specs.Tree.{Tree}
 use Rattle.prettyless_printer.specs.Trials.{Trial}
 use Rattle.prettyless_printer.specs.Open.{Open, all_held, held}
-use Rattle.prettyless_printer.proofs.Chains.{all_held-push, broke_at, last_kept, last_other, length-all_held, open_broke}
-use Rattle.prettyless_printer.proofs.Chains.{open_choice_broke, open_rejected_broke, open_rejected, open_goes, open_kept, open_more}
+use Rattle.prettyless_printer.proofs.Chains.{all_held-push, error_at, last_kept, last_other, length-all_held, open_error}
+use Rattle.prettyless_printer.proofs.Chains.{open_choice_error, open_rejected_error, open_rejected, open_goes, open_kept, open_more}
 use Rattle.prettyless_printer.proofs.Chains.{open_other}
 use Rattle.prettyless_printer.proofs.Chains.{open_some, open_stops, took}
 use Rattle.prettyless_printer.proofs.Costs.{less_goes, less_more, less_kept, less_other}
 use Rattle.prettyless_printer.proofs.Trying.{cut_back, flagged, pushed, queue_marked}
 use Rattle.prettyless_printer.proofs.Standings.{length_queue}
-use Rattle.prettyless_printer.proofs.Chains.{ends_broke}
+use Rattle.prettyless_printer.proofs.Chains.{ends_error}
 use Rattle.prettyless_printer.proofs.Spending.{spends_all, spends_same}
-use Rattle.prettyless_printer.proofs.OpenSpending.{open_spends, spends_back, spends_broke_as, spends_kept, spends_more}
+use Rattle.prettyless_printer.proofs.OpenSpending.{open_spends, spends_back, spends_error_as, spends_kept, spends_more}
 use Rattle.prettyless_probe.specs.Stack.{trees}
 use Rattle.prettyless_step.specs.declared.queue.Queue.{Queue}
 use Rattle.prettyless_printer.proofs.trial.resume_trial.Goals as goal
@@ -40,9 +40,9 @@ below-requires g c =
 pub returns-in_err-advance-clause-ends : goal.returns-in_err-advance-clause-ends
 returns-in_err-advance-clause-ends g c =
     let f = g.N.Walk.tree in
-    λ s y h. ends_broke AllocError c.args.limit s y (all_held f c.work.trials.«open».items) c.from_residual.result
+    λ s y h. ends_error AllocError c.args.limit s y (all_held f c.work.trials.«open».items) c.from_residual.result
     c.from_residual.ensures.0
-    (open_broke (took AllocError f (c.work.invariant.trials s y h) (rw c.below.ensures at c.in_err-advance.ensures.courses)))
+    (open_error (took AllocError f (c.work.invariant.trials s y h) (rw c.below.ensures at c.in_err-advance.ensures.courses)))
 
 -- it goes on
 pub work-smaller-in-Running : goal.work-smaller-in-Running
@@ -155,9 +155,9 @@ undo-requires-clause-buffer g c =
 pub returns-in_err-push-in-Rejected-clause-ends : goal.returns-in_err-push-in-Rejected-clause-ends
 returns-in_err-push-in-Rejected-clause-ends g c =
     let f = g.N.Walk.tree in
-    λ s y h. ends_broke AllocError c.args.limit s y _ c.from_residual-in_err-push-in-Rejected.result
+    λ s y h. ends_error AllocError c.args.limit s y _ c.from_residual-in_err-push-in-Rejected.result
     c.from_residual-in_err-push-in-Rejected.ensures.0
-    (broke_at refl (open_rejected_broke (took AllocError f (c.work.invariant.trials s y h)
+    (error_at refl (open_rejected_error (took AllocError f (c.work.invariant.trials s y h)
     (rw (c.in-Rejected.is, c.below.ensures) at c.in_ok-advance.ensures.courses))))
 
 -- the outermost one is undone
@@ -260,16 +260,16 @@ work-preserved g c =
 pub returns-in_err-open_trial-in-Choice-clause-ends : goal.returns-in_err-open_trial-in-Choice-clause-ends
 returns-in_err-open_trial-in-Choice-clause-ends g c =
     let f = g.N.Walk.tree in
-    λ s y h. ends_broke AllocError c.args.limit s y _ c.from_residual-in_err-open_trial-in-Choice.result
+    λ s y h. ends_error AllocError c.args.limit s y _ c.from_residual-in_err-open_trial-in-Choice.result
     c.from_residual-in_err-open_trial-in-Choice.ensures.0
-    (broke_at refl (open_choice_broke (took AllocError f (c.work.invariant.trials s y h)
+    (error_at refl (open_choice_error (took AllocError f (c.work.invariant.trials s y h)
     (rw (c.in-Choice.is, c.below.ensures) at c.in_ok-advance.ensures.courses))))
 
 -- what is left then
 pub returns-in_err-advance-clause-spends : goal.returns-in_err-advance-clause-spends
 returns-in_err-advance-clause-spends g c =
     let f = g.N.Walk.tree in
-    λ s y h plain. spends_broke_as _ c.from_residual.result c.from_residual.ensures.0 (spends_all
+    λ s y h plain. spends_error_as _ c.from_residual.result c.from_residual.ensures.0 (spends_all
     (open_spends (record { before = h; now = c.work.invariant.trials s y h; plain = plain }) (c.work.invariant.spends s y h plain)
     c.in_err-advance.ensures.spends))
 
@@ -295,7 +295,7 @@ returns-then-is_empty-clause-spends g c =
 pub returns-in_err-push-in-Rejected-clause-spends : goal.returns-in_err-push-in-Rejected-clause-spends
 returns-in_err-push-in-Rejected-clause-spends g c =
     let f = g.N.Walk.tree in
-    λ s y h plain. spends_broke_as _ c.from_residual-in_err-push-in-Rejected.result
+    λ s y h plain. spends_error_as _ c.from_residual-in_err-push-in-Rejected.result
     c.from_residual-in_err-push-in-Rejected.ensures.0 (spends_all
     (open_spends (record { before = h; now = c.work.invariant.trials s y h; plain = plain }) (c.work.invariant.spends s y h plain)
     (rw c.in-Rejected.is at c.in_ok-advance.ensures.spends)))
@@ -319,7 +319,7 @@ returns-then-is_empty-2-clause-spends g c =
 pub returns-in_err-open_trial-in-Choice-clause-spends : goal.returns-in_err-open_trial-in-Choice-clause-spends
 returns-in_err-open_trial-in-Choice-clause-spends g c =
     let f = g.N.Walk.tree in
-    λ s y h plain. spends_broke_as _ c.from_residual-in_err-open_trial-in-Choice.result
+    λ s y h plain. spends_error_as _ c.from_residual-in_err-open_trial-in-Choice.result
     c.from_residual-in_err-open_trial-in-Choice.ensures.0 (spends_all
     (open_spends (record { before = h; now = c.work.invariant.trials s y h; plain = plain }) (c.work.invariant.spends s y h plain)
     (rw c.in-Choice.is at c.in_ok-advance.ensures.spends)))

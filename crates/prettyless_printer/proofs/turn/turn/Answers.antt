@@ -15,7 +15,7 @@ use Rattle.prettyless_printer.proofs.Trying.{grows_same}
 use Rattle.prettyless_printer.proofs.Descends.{goes_down, in_hand, shown, visit}
 use Rattle.prettyless_printer.proofs.Standings.{wrote}
 use Rattle.prettyless_printer.proofs.Visits.{visited_more-zero}
-use Rattle.prettyless_printer.proofs.Spending.{spends_all, spends_begun, spends_broke, spends_choice, spends_down, spends_failed}
+use Rattle.prettyless_printer.proofs.Spending.{spends_all, spends_begun, spends_error, spends_choice, spends_down, spends_failed}
 use Rattle.prettyless_printer.proofs.Spending.{spends_moved, takes}
 use Rattle.prettyless_printer.proofs.Laying.{laying_begins, spends_laid}
 use Rattle.prettyless_printer.proofs.Advancing.{advances_choice, advances_failed, advances_refused, advances_sink_failed, advances_moved}
@@ -223,7 +223,7 @@ returns-in-Err-make_room-clause-spends g c =
     (c.in-Ok-DescendTexts.ensures.within (subst IsStepped (sym c.in-Ok-DescendTexts.field-0-is) tt)) c.step.ensures.counted
     c.step.ensures.few c.down.invariant.spends in
     rw c.count_more-in-Ok-DescendTexts.ensures.more
-    (λ plain. spends_broke f c.down.printer took plain)
+    (λ plain. spends_error f c.down.printer took plain)
 
 pub returns-in-Ok-Silent-clause-advances : goal.returns-in-Ok-Silent-clause-advances
 returns-in-Ok-Silent-clause-advances g c =
@@ -334,7 +334,7 @@ returns-in-Err-clause-spends g c =
     let took = takes f c.down.printer hand one (c.in-Err.ensures.within tt) c.step.ensures.counted
     c.step.ensures.few c.down.invariant.spends in
     rw c.count_more.ensures.more
-    (λ plain. spends_broke f c.down.printer took plain)
+    (λ plain. spends_error f c.down.printer took plain)
 
 pub returns-in-Ok-Silent-clause-spends : goal.returns-in-Ok-Silent-clause-spends
 returns-in-Ok-Silent-clause-spends g c =
@@ -425,4 +425,4 @@ returns-in-Err-write_piece-clause-spends g c =
     (c.in-Ok-Emit.ensures.within (subst IsStepped (sym c.in-Ok-Emit.field-0-is) tt)) c.step.ensures.counted c.step.ensures.few
     c.down.invariant.spends in
     rw c.count_more-in-Ok-Emit.ensures.more
-    (λ plain. spends_broke f c.down.printer took plain)
+    (λ plain. spends_error f c.down.printer took plain)
