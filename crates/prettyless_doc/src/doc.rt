@@ -30,7 +30,8 @@ pub enum Doc<'a, T> {
     /// Two documents, one after the other.
     Append(T, T),
     /// A document that stays pending until its line ends, at the next line break or at the end of the document, and is
-    /// laid there, at the indent of that break and flat or broken as it is. Its width does not count for what fits.
+    /// laid there, at the indent of that break and flat or broken as it is. A probe does not count its width. A union
+    /// does, where the line ends in its first branch.
     LineSuffix(T),
     /// A document with its indent moved by so many columns, to the left where negative; it stays within 0 and
     /// `usize::MAX`. A line takes the indent of the document after its break, not that of the break.

@@ -50,9 +50,9 @@ impl<'a, T: DocPtr<'a>> Doc<'a, T> {
     /// In a document with no line suffix the printer visits each node at most once, also where a trial is rejected.
     /// Each group and partial union starts at most one probe, which visits each node at most once.
     ///
-    /// Take one that has no choice by column or nesting either, no indent of more than 32 bits, and fewer than 2^32 - 1
-    /// nodes. At a width below 2^32 probes visit at most sixteen nodes for each of its nodes, and a thousand. That holds
-    /// where no table was refused memory, which `visits` counts too.
+    /// Take one that has no choice by column or nesting either, and fewer than 2^32 - 1 nodes. At a width below 2^32
+    /// probes visit at most sixteen nodes for each of its nodes, and a thousand. That holds where no table was refused
+    /// memory, which `visits` counts too, and where the printer's count stays below the greatest `u64`.
     ///
     /// After `Ok` the printer has visited at least the nodes that the layout lays. Its probes have visited at least one
     /// node for each probe that the layout needs. Both hold up to the greatest `u64`. In this lower bound a rejected

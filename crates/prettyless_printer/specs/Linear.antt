@@ -13,7 +13,7 @@ use Rattle.prettyless_printer.specs.Visits.{Plain}
 pub record IsLinear (width : ℕ) (d : Tree) : Type 0 where
   -- it has no line suffix
   pub plain : suffix_depth d ≡ 0
-  -- it has no choice by column or nesting, and no indent of more than 32 bits
+  -- it has no choice by column or nesting
   pub have : HasSummaries d
   -- a table can have its nodes
   pub size : size d ≤ 4294967294

@@ -8,7 +8,7 @@ abbrev pub capped : ℕ → ℕ
 capped n = min n (2 ^ 64 - 1)
 
 -- how many nodes probes may visit in a render before a table is worth it: sixteen for each that the printer visited, and a thousand,
--- or as many as a table could have had that could not be allocated
+-- or as many as the last table could have had, where it was not made
 abbrev pub worth : ShiftPolicy → Visits → ℕ
 worth g v = max (capped (capped ((v.printer - g.start.printer) * 16) + 1000)) g.next_try
 

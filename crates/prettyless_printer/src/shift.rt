@@ -26,7 +26,7 @@ use prettyless_sink::error::RenderError;
 use prettyless_sink::render::Render;
 use prettyless_sink::visits::{Visits, one_more};
 use prettyless_step::printer::Printer;
-use prettyless_table::{MOST_CELLS, Placed, Table, count, count_left, lay_out_all, placed_printer};
+use prettyless_table::{MOST_CELLS, Placed, Table, count, count_left, placed_printer, store_all};
 use std::alloc::{AllocError, Global};
 
 // How many nodes are left, with the second branches of open trials; those that take cells are listed after `owners`. `None` is answered
@@ -59,23 +59,23 @@ fn count_all<N: Walk>(
 }
 
 // Adds the second branches of open trials to a table that has the cells of their nodes, and answers their places, the outermost first.
-fn lay_out_seconds<N: Walk>(
+fn store_seconds<N: Walk>(
     alloc: Global,
     trials: &Trials<N>,
     table: &mut Table<N>,
-    standing: &mut Vec<u32>,
+    waiting: &mut Vec<u32>,
 ) -> Result<Vec<u32>, AllocError>
     requires sound { CellsAreSound N.tree table.old.cells.items }
     requires room { length table.old.cells.items + length trials.now.open.items ≤ 4294967294 }
-    requires stand { Stand table.old.cells.items (seconds (all_held N.tree trials.now.open.items)) standing.old.items }
+    requires stand { Stand table.old.cells.items (seconds (all_held N.tree trials.now.open.items)) waiting.old.items }
     ensures grows { CellsGrow N.tree table.old.cells.items table.new.cells.items }
-    ensures laid { IfOk result (λ places.
+    ensures stored { IfOk result (λ places.
         AreNodes N.tree table.new.cells.items places.items (seconds (all_held N.tree trials.now.open.items))) }
 {
     let mut places = Vec::new(alloc);
     let mut k = 0;
     'trials: while k < trials.open.len() {
-        places.push(table.add(trials.open[k].second, standing)?)?;
+        places.push(table.add(trials.open[k].second, waiting)?)?;
         k += 1;
     }
     Ok(places)
@@ -142,9 +142,9 @@ pub(crate) fn shift<N: Walk, W: Render>(
         return Ok(None);
     };
     let mut table = Table::with_room(alloc, nodes)?;
-    let mut standing = table.fill(alloc, owners)?;
-    let places = lay_out_all(alloc, printer, &mut table, &mut standing)?;
-    let seconds = lay_out_seconds(alloc, trials, &mut table, &mut standing)?;
+    let mut waiting = table.fill(alloc, owners)?;
+    let places = store_all(alloc, printer, &mut table, &mut waiting)?;
+    let seconds = store_seconds(alloc, trials, &mut table, &mut waiting)?;
     let mut placed = placed_printer(alloc, printer, &table, &places)?;
     let mut placed_trials = placed_trials(alloc, trials, &table, &seconds)?;
     Ok(Some(finish(&mut placed, &mut placed_trials, buffer, out, visits)))

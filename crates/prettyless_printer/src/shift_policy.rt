@@ -56,8 +56,8 @@ impl ShiftPolicy {
         visits.probes > self.limit(visits)
     }
 
-    /// How many nodes a table may have: so many times as many as were visited in the render. Where it cannot be allocated, the next one
-    /// is tried once probes have visited as many nodes.
+    /// How many nodes a table may have: so many times as many as were visited in the render. Where none with so many is made, the next
+    /// one is tried once probes have visited as many nodes.
     pub(crate) fn next_room(&mut self, visits: Visits) -> u64
         ensures next { self.new ≡ record self.old { next_try = result } }
         ensures within { visits.probes ≤ probe_limit self.new visits }

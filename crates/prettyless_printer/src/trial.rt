@@ -1,4 +1,4 @@
-//! Trials: a union's first branch is printed, and kept or rejected.
+//! Trials: a union's first branch is laid, and kept or rejected.
 ghost use Rattle.std.specs.Prelude.{◌≡◌, ◌≤◌, ◌<◌, [], length, take, vec_len, IfOk, IsFalse, IsTrue, OnOk};
 ghost use Rattle.std.specs.String.{string_bytes};
 ghost use Rattle.std.specs.String.Boundary.{IsSplitPoint};
@@ -183,7 +183,7 @@ fn advance<N: Walk>(
 }
 
 /// Resumes the open trials, each turn in the innermost one, until the outermost one is over, or before a node probes are past
-/// the limit. A trial prints its branch without what follows it but with that known. The branch is kept if it does not fail, nothing
+/// the limit. A trial lays its branch without what follows it but with that known. The branch is kept if it does not fail, nothing
 /// of it goes past the width, and at its end the padding fits; else all is as before, and the second branch comes next. A refusal
 /// of memory is an error, and never a reason to reject a branch.
 pub(crate) fn resume_trial<N: Walk>(

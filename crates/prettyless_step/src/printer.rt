@@ -5,7 +5,7 @@ use prettyless_model::column::Column;
 use prettyless_model::options::RenderOptions;
 use prettyless_probe::stack::Stack;
 
-/// The printer's state: the column, the commands that are left, and the pending line suffixes.
+/// The printer's state: the column, the commands that are left, and the line suffixes that were visited.
 #[derive(Drop)]
 pub struct Printer<N> {
     pub options: RenderOptions,

@@ -1,7 +1,6 @@
 -- What a document shows a probe, in one value.
 use Rattle.std.specs.Prelude.{◌≡◌, ℕ, ◌+◌, ◌^◌, ◌<◌, ◌≤◌, Bool, true, false, not, ◌&&◌, ◌||◌, ◌==◌, nat_le, Option, Some, None, MatchOption}
-use Rattle.std.specs.Prelude.{⊤, FitsSigned, if◌then◌else◌}
-use mir.Syntax.{w32}
+use Rattle.std.specs.Prelude.{⊤, if◌then◌else◌}
 use Rattle.prettyless_model.specs.Tree.{Tree, Nest, Append, LineSuffix, DedentToRoot, Align, Flatten, BreakOrFlat, Group, Union}
 use Rattle.prettyless_model.specs.Tree.{PartialUnion, OnColumn, OnNesting}
 use Rattle.prettyless_model.specs.Column.{saturating_add, commit, padding_fits}
@@ -87,11 +86,11 @@ look_of (Line c p) = GoesOn c p
 abbrev pub IsFound : ℕ → Option Summary → Type 0
 IsFound n s = MatchOption s ⊥ (IsSmall n)
 
--- a document all of whose nodes have summaries: no choice by column or nesting, and no offset that takes more than 32 bits
+-- a document all of whose nodes have summaries: no choice by column or nesting
 abbrev pub HasSummaries : Tree → Type 0
 HasSummaries (Append l r) = HasSummaries l × HasSummaries r
 HasSummaries (LineSuffix d) = HasSummaries d
-HasSummaries (Nest k d) = FitsSigned w32 k × HasSummaries d
+HasSummaries (Nest k d) = HasSummaries d
 HasSummaries (DedentToRoot d) = HasSummaries d
 HasSummaries (Align d) = HasSummaries d
 HasSummaries (Flatten d) = HasSummaries d

@@ -9,7 +9,7 @@ use Rattle.prettyless_model.specs.Tree as t
 use Rattle.prettyless_table.specs.declared.cell.Cell.{Cell}
 use Rattle.prettyless_table.specs.Parts.{parts_of, small}
 use Rattle.prettyless_table.specs.Cells.{HasCell, In, KeepsBoth, Unless, no_cell, second_at, second_of}
-use Rattle.prettyless_table.specs.Laying.{FirstIn, SecondIn, IsOwn}
+use Rattle.prettyless_table.specs.Stored.{FirstIn, SecondIn, IsOwn}
 
 unless_map : (b : Bool) {P Q : Type 0} → (P → Q) → Unless b P → Unless b Q
 unless_map true g h = tt

@@ -8,7 +8,7 @@ use Rattle.prettyless_model.specs.Tree.{LineSuffix, Nest, DedentToRoot, Align, E
 use Rattle.prettyless_model.specs.Tree.{PartialUnion, OnColumn, OnNesting, size}
 use Rattle.prettyless_probe.proofs.Sizes.{size_positive}
 use Rattle.prettyless_table.specs.Parts.{leaves, none, parts_of, small, takes}
-use Rattle.prettyless_table.specs.Laying.{IsOwn, Serves}
+use Rattle.prettyless_table.specs.Stored.{IsOwn, Serves}
 use Rattle.prettyless_table.specs.Owners.{all_owners, keeper, keepers, owners_of, with_own}
 use Rattle.prettyless_table.proofs.Sharing.{serves_part}
 

@@ -14,7 +14,7 @@ use Rattle.prettyless_table.specs.declared.cell.Cell.{Cell}
 use Rattle.prettyless_table.specs.declared.cell.Cell.TheVariants.{Sums, Root}
 use Rattle.prettyless_table.specs.Parts.{parts_of, shares, small}
 use Rattle.prettyless_table.specs.Cells.{HasCell, In, KeepsBoth}
-use Rattle.prettyless_table.specs.Laying.{Serves}
+use Rattle.prettyless_table.specs.Stored.{Serves}
 use Rattle.prettyless_table.proofs.Cells.{in_cell, unless_some}
 
 -- the summary of a part that a cell keeps is that of the node
@@ -46,7 +46,7 @@ serves_part N (Nest k d) x e s little cells at h =
     let same : x ≡ d = ap (λ (ds : List Tree). get_or ds 0 Nil) e in
     let stands : In cells d at = subst (λ (t : Tree). In cells t at) same h in
     unless_some (small (Nest k d)) (
-      cell_as cells at d (Nest k d) (λ m y. summarizes_nest y m k d) (λ sums. sums.1) (omega arith)
+      cell_as cells at d (Nest k d) (λ m y. summarizes_nest y m k d) (λ sums. sums) (omega arith)
           (in_cell cells d at (ap small (sym same) ∙ little) stands),
       stands,
     )

@@ -12,7 +12,7 @@ use Rattle.prettyless_step.specs.declared.printer.Printer.{Printer}
 use Rattle.prettyless_table.specs.declared.shift.Places.{Places}
 use Rattle.prettyless_table.specs.declared.cell.Cell.{Cell}
 use Rattle.prettyless_table.specs.Cells.{IsRoot, tree_at, tree_or_nil, cell_trees, CellsGrow}
-use Rattle.prettyless_table.specs.Laying.{HasAt}
+use Rattle.prettyless_table.specs.Stored.{HasAt}
 use Rattle.prettyless_table.specs.Shift.{AreCommands, AreNodes, IsInTable}
 use Rattle.prettyless_table.proofs.Trees.{at_root, root_stays, tree_same}
 
@@ -90,9 +90,9 @@ nodes_kept f old new places ds grows are = record {
 }
 
 -- all that a printer has left stands in a table after it has grown
-pub laid_out_kept : {N : Type 0} (f : N → Tree) (old new : List (Cell N)) (p : Printer N) (places : Places)
+pub stored_kept : {N : Type 0} (f : N → Tree) (old new : List (Cell N)) (p : Printer N) (places : Places)
     → CellsGrow f old new → IsInTable f old p places → IsInTable f new p places
-laid_out_kept f old new p places grows laid = record {
-  commands = commands_kept f old new places.commands.items (tasks_of f p) grows laid.commands;
-  queue = nodes_kept f old new places.queue.items (step.trees f p.queue.nodes.items) grows laid.queue;
+stored_kept f old new p places grows stored = record {
+  commands = commands_kept f old new places.commands.items (tasks_of f p) grows stored.commands;
+  queue = nodes_kept f old new places.queue.items (step.trees f p.queue.nodes.items) grows stored.queue;
 }

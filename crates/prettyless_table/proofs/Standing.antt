@@ -7,7 +7,7 @@ use Rattle.prettyless_table.specs.declared.cell.Cell.{Cell}
 use Rattle.prettyless_table.specs.declared.cell.Cell.TheVariants.{Sums, Root}
 use Rattle.prettyless_table.specs.Parts.{parts_of, small, takes}
 use Rattle.prettyless_table.specs.Cells.{In, IsPlaced, KeepsBoth, second_of}
-use Rattle.prettyless_table.specs.Laying.{SecondIn}
+use Rattle.prettyless_table.specs.Stored.{SecondIn}
 use Rattle.prettyless_table.specs.Owners.{AreFound, Stand, StandAt, WaitsInTable, all_owners, keeper, keepers, large}
 use Rattle.prettyless_table.proofs.Cells.{small_in, stands_new, stays}
 use Rattle.prettyless_table.proofs.Owners.{AllFit, keeper_serves, keepers_large, keepers_small, listed, owner, waiting}

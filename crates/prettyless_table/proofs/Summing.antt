@@ -40,8 +40,8 @@ sums_flatten s d h = record {
 
 pub sums_nest : (s : Sums) (k : ℤ) (d : Tree) → AreDocumentSums s d → AreDocumentSums s (Nest k d)
 sums_nest s k d h = record {
-  flat = sums_as s.flat d (Nest k d) Flat Flat (λ x. summarizes_nest x Flat k d) (λ sums. sums.1) (omega arith) h.flat;
-  broken = sums_as s.broken d (Nest k d) Break Break (λ x. summarizes_nest x Break k d) (λ sums. sums.1) (omega arith) h.broken;
+  flat = sums_as s.flat d (Nest k d) Flat Flat (λ x. summarizes_nest x Flat k d) (λ sums. sums) (omega arith) h.flat;
+  broken = sums_as s.broken d (Nest k d) Break Break (λ x. summarizes_nest x Break k d) (λ sums. sums) (omega arith) h.broken;
 }
 
 pub sums_dedent : (s : Sums) (d : Tree) → AreDocumentSums s d → AreDocumentSums s (DedentToRoot d)

@@ -6,7 +6,7 @@ use Rattle.std.proofs.Math.Nat.{eq-or-lt_of_le}
 use Rattle.prettyless_model.specs.Tree.{Tree}
 use Rattle.prettyless_table.specs.declared.cell.Cell.{Cell}
 use Rattle.prettyless_table.specs.declared.cell.Cell.TheVariants.{Sums, Root}
-use Rattle.prettyless_table.specs.Laying.{HasAt}
+use Rattle.prettyless_table.specs.Stored.{HasAt}
 use Rattle.prettyless_table.specs.Cells.{HasRoot, IsRoot, no_cell, root_tree, tree_or_nil, cell_trees, tree_at, IsPlaced, CellsAreSound}
 use Rattle.prettyless_table.specs.Cells.{CellsGrow}
 use Rattle.prettyless_table.proofs.Cells.{stays}

@@ -1,6 +1,6 @@
 pub mod Parts
 pub mod Sums
 pub mod Cells
-pub mod Laying
+pub mod Stored
 pub mod Owners
 pub mod Shift

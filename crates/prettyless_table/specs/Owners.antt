@@ -8,7 +8,7 @@ use Rattle.prettyless_step.specs.declared.printer.Printer.{Printer}
 use Rattle.prettyless_table.specs.declared.cell.Cell.{Cell}
 use Rattle.prettyless_table.specs.Parts.{small, takes}
 use Rattle.prettyless_table.specs.Cells.{In}
-use Rattle.prettyless_table.specs.Laying.{FirstIn, SecondIn}
+use Rattle.prettyless_table.specs.Stored.{FirstIn, SecondIn}
 
 -- a tree before others, if it takes a cell
 abbrev pub with_own : Tree → List Tree → List Tree

@@ -16,5 +16,5 @@ mod table;
 
 pub use counting::{count, count_left};
 pub use placed::Placed;
-pub use shift::{Places, lay_out_all, placed_printer};
+pub use shift::{Places, placed_printer, store_all};
 pub use table::{MOST_CELLS, Table};

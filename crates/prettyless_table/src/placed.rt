@@ -90,8 +90,7 @@ impl<'t, N: Walk> Placed<'t, N> {
     }
 }
 
-/// A node of a document as the printer walks it. Its summary is known, unless a choice by column or nesting stands in it, or a nesting by
-/// an offset that takes more than 32 bits, or it has 2^32 nodes.
+/// A node of a document as the printer walks it. Its summary is known, unless a choice by column or nesting stands in it.
 impl<'t, N: Walk> Walk for Placed<'t, N> {
     ghost tree = { λ p. N.tree p.node };
 

@@ -25,28 +25,28 @@ pub struct Places {
 }
 
 // Adds commands to a table, and answers their places, the next one first.
-fn lay_out_commands<N: Walk>(
+fn store_commands<N: Walk>(
     alloc: Global,
     commands: &Stack<N>,
     table: &mut Table<N>,
-    standing: &mut Vec<u32>,
+    waiting: &mut Vec<u32>,
 ) -> Result<Vec<Command<u32>>, AllocError>
     requires sound { CellsAreSound N.tree table.old.cells.items }
     requires room { length table.old.cells.items + length (stack_of N.tree commands.now) ≤ MOST_CELLS }
     requires stand { (later : List Tree)
-        × Stand table.old.cells.items (task_trees (stack_of N.tree commands.now) ++ later) standing.old.items }
+        × Stand table.old.cells.items (task_trees (stack_of N.tree commands.now) ++ later) waiting.old.items }
     ensures grows { CellsGrow N.tree table.old.cells.items table.new.cells.items }
-    ensures laid { IfOk result (λ places. AreCommands N.tree table.new.cells.items places.items (stack_of N.tree commands.now)) }
+    ensures stored { IfOk result (λ places. AreCommands N.tree table.new.cells.items places.items (stack_of N.tree commands.now)) }
     ensures count { IfOk result (λ _. length table.new.cells.items
         ≡ length table.old.cells.items + length (stack_of N.tree commands.now)) }
     ensures later { IfOk result (λ _. (later : List Tree)
-        → Stand table.old.cells.items (task_trees (stack_of N.tree commands.now) ++ later) standing.old.items
-        → Stand table.new.cells.items later standing.new.items) }
+        → Stand table.old.cells.items (task_trees (stack_of N.tree commands.now) ++ later) waiting.old.items
+        → Stand table.new.cells.items later waiting.new.items) }
 {
     let mut places = Vec::new(alloc);
     let mut below = commands.cursor();
     'commands: while let Some(command) = commands.read_down(&mut below) {
-        let node = table.add(command.node, standing)?;
+        let node = table.add(command.node, waiting)?;
         places.push(Command {
             indent: command.indent,
             mode: command.mode,
@@ -57,52 +57,52 @@ fn lay_out_commands<N: Walk>(
 }
 
 // Adds documents to a table, and answers their places, in the same order.
-fn lay_out_nodes<N: Walk>(
+fn store_nodes<N: Walk>(
     alloc: Global,
     roots: &[N],
     table: &mut Table<N>,
-    standing: &mut Vec<u32>,
+    waiting: &mut Vec<u32>,
 ) -> Result<Vec<u32>, AllocError>
     requires sound { CellsAreSound N.tree table.old.cells.items }
     requires room { length table.old.cells.items + length roots.now ≤ MOST_CELLS }
-    requires stand { (later : List Tree) × Stand table.old.cells.items (trees N.tree roots.now ++ later) standing.old.items }
+    requires stand { (later : List Tree) × Stand table.old.cells.items (trees N.tree roots.now ++ later) waiting.old.items }
     ensures grows { CellsGrow N.tree table.old.cells.items table.new.cells.items }
-    ensures laid { IfOk result (λ places. AreNodes N.tree table.new.cells.items places.items (trees N.tree roots.now)) }
+    ensures stored { IfOk result (λ places. AreNodes N.tree table.new.cells.items places.items (trees N.tree roots.now)) }
     ensures count { IfOk result (λ _. length table.new.cells.items ≡ length table.old.cells.items + length roots.now) }
     ensures later { IfOk result (λ _. (later : List Tree)
-        → Stand table.old.cells.items (trees N.tree roots.now ++ later) standing.old.items
-        → Stand table.new.cells.items later standing.new.items) }
+        → Stand table.old.cells.items (trees N.tree roots.now ++ later) waiting.old.items
+        → Stand table.new.cells.items later waiting.new.items) }
 {
     let mut places = Vec::new(alloc);
     let mut k = 0;
     'roots: while k < roots.len() {
-        places.push(table.add(roots[k], standing)?)?;
+        places.push(table.add(roots[k], waiting)?)?;
         k += 1;
     }
     Ok(places)
 }
 
 /// Adds all that a printer has left to a table that has the cells of its nodes, and answers where it stands.
-pub fn lay_out_all<N: Walk>(
+pub fn store_all<N: Walk>(
     alloc: Global,
     printer: &Printer<N>,
     table: &mut Table<N>,
-    standing: &mut Vec<u32>,
+    waiting: &mut Vec<u32>,
 ) -> Result<Places, AllocError>
     requires sound { CellsAreSound N.tree table.old.cells.items }
     requires room { length table.old.cells.items + length (documents_left N.tree printer.now) ≤ MOST_CELLS }
-    requires stand { (later : List Tree) × Stand table.old.cells.items (documents_left N.tree printer.now ++ later) standing.old.items }
+    requires stand { (later : List Tree) × Stand table.old.cells.items (documents_left N.tree printer.now ++ later) waiting.old.items }
     ensures sound { CellsAreSound N.tree table.new.cells.items }
     ensures grows { CellsGrow N.tree table.old.cells.items table.new.cells.items }
-    ensures laid { IfOk result (λ places. IsInTable N.tree table.new.cells.items printer.now places) }
+    ensures stored { IfOk result (λ places. IsInTable N.tree table.new.cells.items printer.now places) }
     ensures count { IfOk result (λ _. length table.new.cells.items
         ≡ length table.old.cells.items + length (documents_left N.tree printer.now)) }
     ensures later { IfOk result (λ _. (later : List Tree)
-        → Stand table.old.cells.items (documents_left N.tree printer.now ++ later) standing.old.items
-        → Stand table.new.cells.items later standing.new.items) }
+        → Stand table.old.cells.items (documents_left N.tree printer.now ++ later) waiting.old.items
+        → Stand table.new.cells.items later waiting.new.items) }
 {
-    let commands = lay_out_commands(alloc, &printer.commands, table, standing)?;
-    let queue = lay_out_nodes(alloc, printer.queue.all(), table, standing)?;
+    let commands = store_commands(alloc, &printer.commands, table, waiting)?;
+    let queue = store_nodes(alloc, printer.queue.all(), table, waiting)?;
     Ok(Places { commands, queue })
 }
 
@@ -158,7 +158,7 @@ pub fn placed_printer<'t, N: Walk>(
     places: &Places,
 ) -> Result<Printer<Placed<'t, N>>, AllocError>
     requires sound { CellsAreSound N.tree table.now.cells.items }
-    requires laid { IsInTable N.tree table.now.cells.items printer.now places.now }
+    requires stored { IsInTable N.tree table.now.cells.items printer.now places.now }
     ensures shifted { IfOk result (λ p. IsShifted N.tree ⟦<Placed<'t, N> as Walk>⟧.tree printer.now p) }
 {
     Ok(Printer {

@@ -18,23 +18,23 @@ pub const MOST_CELLS: usize = 4_294_967_294;
 
 // Takes the last of these places.
 #[inline(always)]
-fn take_place(standing: &mut Vec<u32>) -> u32
-    ensures taken { result ≡ get_or (reverse standing.old.items) 0 0 }
-    ensures left { reverse standing.new.items ≡ drop 1 (reverse standing.old.items) }
+fn take_place(waiting: &mut Vec<u32>) -> u32
+    ensures taken { result ≡ get_or (reverse waiting.old.items) 0 0 }
+    ensures left { reverse waiting.new.items ≡ drop 1 (reverse waiting.old.items) }
 {
-    standing.pop().unwrap_or(0)
+    waiting.pop().unwrap_or(0)
 }
 
 // Where a document stands: at the last of these places, which is taken; but a small one has none.
 #[inline(always)]
-fn place_of<N: Walk>(root: &N, standing: &mut Vec<u32>) -> u32
-    ensures { (cells : List (Cell N)) (later : List Tree) → Stand cells (N.tree root.now ∷ later) standing.old.items
-        → In cells (N.tree root.now) result × Stand cells later standing.new.items }
+fn place_of<N: Walk>(root: &N, waiting: &mut Vec<u32>) -> u32
+    ensures { (cells : List (Cell N)) (later : List Tree) → Stand cells (N.tree root.now ∷ later) waiting.old.items
+        → In cells (N.tree root.now) result × Stand cells later waiting.new.items }
 {
     if is_small(root) {
         return 0;
     }
-    take_place(standing)
+    take_place(waiting)
 }
 
 /// Documents stored in cells, each after the cells of its parts.
@@ -47,7 +47,7 @@ impl<N: Walk> Table<N> {
     ghost use Rattle.std.specs.Prelude.{◌+◌, ◌-◌, ◌≤◌, ◌<◌, ◌++◌, length, map, IfOk};
     ghost use Rattle.prettyless_table.specs.Sums.{AreDocumentSums, IsModeSummary};
     ghost use Rattle.prettyless_table.specs.Cells.{CellsGrow, IsRoot, CellsAreSound, KeepsBoth, second_at, second_of, tree_at, cell_trees};
-    ghost use Rattle.prettyless_table.specs.Laying.{FirstIn, HasAt, SecondIn};
+    ghost use Rattle.prettyless_table.specs.Stored.{FirstIn, HasAt, SecondIn};
     ghost use Rattle.prettyless_table.specs.Owners.{AreFound, WaitsInTable, all_owners, keepers};
 
     /// A table without documents. It takes no memory.
@@ -178,13 +178,13 @@ impl<N: Walk> Table<N> {
     }
 
     // The place of the second part of a node, whose parts stand in the table. Of documents that wait in the table the last one has the
-    // last cell, and `standing` has the places of all others. Where the node has none of them below it, the last one goes on waiting.
+    // last cell, and `waiting` has the places of all others. Where the node has none of them below it, the last one goes on waiting.
     #[inline(always)]
-    fn second_place(&self, node: &N, standing: &mut Vec<u32>) -> Result<u32, AllocError>
+    fn second_place(&self, node: &N, waiting: &mut Vec<u32>) -> Result<u32, AllocError>
         requires { length self.now.cells.items ≤ MOST_CELLS }
         ensures { IfOk result (λ second. (ds : List Tree)
-            → WaitsInTable self.now.cells.items (keepers (parts_of (N.tree node.now)) ++ ds) (reverse standing.old.items)
-            → AreFound self.now.cells.items (parts_of (N.tree node.now)) second ds (reverse standing.new.items)) }
+            → WaitsInTable self.now.cells.items (keepers (parts_of (N.tree node.now)) ++ ds) (reverse waiting.old.items)
+            → AreFound self.now.cells.items (parts_of (N.tree node.now)) second ds (reverse waiting.new.items)) }
     {
         match parts_below(node) {
             Parts::None => {}
@@ -197,10 +197,10 @@ impl<N: Walk> Table<N> {
                 (true, true) => {}
                 (true, false) => return Ok(self.last()),
                 (false, true) => return Ok(0),
-                (false, false) => return Ok(take_place(standing)),
+                (false, false) => return Ok(take_place(waiting)),
             },
         }
-        standing.push(self.last())?;
+        waiting.push(self.last())?;
         Ok(0)
     }
 
@@ -214,33 +214,33 @@ impl<N: Walk> Table<N> {
         ensures stand { IfOk result (λ places. (ds : List Tree) → map N.tree owners.items ≡ all_owners ds
             → Stand self.new.cells.items ds places.items) }
     {
-        let mut standing = Vec::new(alloc);
+        let mut waiting = Vec::new(alloc);
         let mut k = owners.len();
         'owners: while k > 0 {
             k -= 1;
             let node = owners[k];
-            let second = self.second_place(&node, &mut standing)?;
+            let second = self.second_place(&node, &mut waiting)?;
             let cell = self.cell_of(&node, second);
             self.cells.push(cell)?;
         }
-        standing.push(self.last())?;
-        Ok(standing)
+        waiting.push(self.last())?;
+        Ok(waiting)
     }
 
     /// Adds a document, whose nodes have their cells, and answers its place. Where it stands is the last of these places, unless it is
     /// small.
-    pub fn add(&mut self, root: N, standing: &mut Vec<u32>) -> Result<u32, AllocError>
+    pub fn add(&mut self, root: N, waiting: &mut Vec<u32>) -> Result<u32, AllocError>
         requires sound { CellsAreSound N.tree self.old.cells.items }
         requires room { length self.old.cells.items < MOST_CELLS }
-        requires stands { (later : List Tree) × Stand self.old.cells.items (N.tree root ∷ later) standing.old.items }
+        requires stands { (later : List Tree) × Stand self.old.cells.items (N.tree root ∷ later) waiting.old.items }
         ensures grows { CellsGrow N.tree self.old.cells.items self.new.cells.items }
-        ensures laid { IfOk result (λ at. HasAt (cell_trees N.tree self.new.cells.items) at (N.tree root)) }
+        ensures stored { IfOk result (λ at. HasAt (cell_trees N.tree self.new.cells.items) at (N.tree root)) }
         ensures count { IfOk result (λ _. length self.new.cells.items ≡ length self.old.cells.items + 1) }
         ensures later { IfOk result (λ _. (later : List Tree)
-            → Stand self.old.cells.items (N.tree root ∷ later) standing.old.items
-            → Stand self.new.cells.items later standing.new.items) }
+            → Stand self.old.cells.items (N.tree root ∷ later) waiting.old.items
+            → Stand self.new.cells.items later waiting.new.items) }
     {
-        let place = place_of(&root, standing);
+        let place = place_of(&root, waiting);
         self.cells.push(Cell::Root(place, root))?;
         Ok(self.last())
     }

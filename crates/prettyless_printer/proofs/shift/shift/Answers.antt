@@ -7,7 +7,7 @@ use Rattle.prettyless_step.specs.declared.printer.Printer.{Printer}
 use Rattle.prettyless_table.specs.Owners.{all_owners, documents_left}
 use Rattle.prettyless_table.specs.Shift.{nodes_left}
 use Rattle.prettyless_table.proofs.Rooms.{room_for}
-use Rattle.prettyless_table.proofs.Shifting.{laid_out_kept}
+use Rattle.prettyless_table.proofs.Shifting.{stored_kept}
 use Rattle.prettyless_printer.specs.Points.{buffer_seen, seen, standing}
 use Rattle.prettyless_printer.specs.Open.{all_held, held, seconds}
 use Rattle.prettyless_printer.proofs.Shifted.{comes_over, shifted_stands, spends_over}
@@ -30,16 +30,16 @@ fill-requires-clause-room g c =
     c.new-owners.ensures.items (rw c.in-Some.is at c.in_ok-nodes.ensures.listed) (rw c.in-Some.is at c.in_ok-nodes.ensures.counted) in
     omega (arith, room, c.min-most.ensures, ap length c.in_ok-table.ensures.empty)
 
-pub lay_out_all-requires-clause-room : goal.lay_out_all-requires-clause-room
-lay_out_all-requires-clause-room g c =
+pub store_all-requires-clause-room : goal.store_all-requires-clause-room
+store_all-requires-clause-room g c =
     let f = g.N.Walk.tree in
     let ds = seconds (all_held f c.args.trials.now.open.items) in
     let room = has_room f c.args.printer.now ds c.new-owners.result.items c.count_all.new.owners.items c.in-Some.nodes c.min-most.result
     c.new-owners.ensures.items (rw c.in-Some.is at c.in_ok-nodes.ensures.listed) (rw c.in-Some.is at c.in_ok-nodes.ensures.counted) in
-    omega (arith, room, c.min-most.ensures, ap length c.in_ok-table.ensures.empty, c.in_ok-standing.ensures.count)
+    omega (arith, room, c.min-most.ensures, ap length c.in_ok-table.ensures.empty, c.in_ok-waiting.ensures.count)
 
-pub lay_out_seconds-requires-clause-room : goal.lay_out_seconds-requires-clause-room
-lay_out_seconds-requires-clause-room g c =
+pub store_seconds-requires-clause-room : goal.store_seconds-requires-clause-room
+store_seconds-requires-clause-room g c =
     let f = g.N.Walk.tree in
     let trials = c.args.trials.now.open.items in
     let ds = seconds (all_held f trials) in
@@ -50,17 +50,17 @@ lay_out_seconds-requires-clause-room g c =
       room,
       c.min-most.ensures,
       ap length c.in_ok-table.ensures.empty,
-      c.in_ok-standing.ensures.count,
+      c.in_ok-waiting.ensures.count,
       c.in_ok-places.ensures.count,
       length-map (all_held f trials) (λ u. u.second),
       length-map trials (held f),
     )
 
 -- what is left stands where it was stored, after the table has grown
-pub placed_printer-requires-clause-laid : goal.placed_printer-requires-clause-laid
-placed_printer-requires-clause-laid g c =
-    laid_out_kept g.N.Walk.tree c.lay_out_all.new.table.cells.items c.lay_out_seconds.new.table.cells.items c.args.printer.now
-    c.in_ok-places.places c.lay_out_seconds.ensures.grows c.in_ok-places.ensures.laid
+pub placed_printer-requires-clause-stored : goal.placed_printer-requires-clause-stored
+placed_printer-requires-clause-stored g c =
+    stored_kept g.N.Walk.tree c.store_all.new.table.cells.items c.store_seconds.new.table.cells.items c.args.printer.now
+    c.in_ok-places.places c.store_seconds.ensures.grows c.in_ok-places.ensures.stored
 
 -- the run goes on where it stands
 pub finish-requires-clause-comes : goal.finish-requires-clause-comes

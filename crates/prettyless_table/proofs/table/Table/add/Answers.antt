@@ -1,7 +1,7 @@
 use Rattle.std.proofs.Common.{◌≡◌, ◌++◌, ◌∷◌, [], ℕ, ap, arith, length, length-append, reverse, subst, sym}
 use Rattle.prettyless_table.specs.declared.cell.Cell.TheVariants.{Root}
 use Rattle.prettyless_table.specs.Cells.{cell_trees}
-use Rattle.prettyless_table.specs.Laying.{HasAt}
+use Rattle.prettyless_table.specs.Stored.{HasAt}
 use Rattle.prettyless_table.specs.Owners.{large}
 use Rattle.prettyless_table.proofs.Standing.{stand_grown}
 use Rattle.prettyless_table.proofs.Trees.{grows, has_new}
@@ -14,8 +14,8 @@ returns-clause-grows g c =
     rw c.in_ok-push.ensures.items
     (grows f cells (Root c.place_of-place.result c.args.root) (c.place_of-place.ensures cells c.requires.stands.0 c.requires.stands.1).0)
 
-pub returns-clause-laid : goal.returns-clause-laid
-returns-clause-laid g c =
+pub returns-clause-stored : goal.returns-clause-stored
+returns-clause-stored g c =
     let f = g.N.Walk.tree in
     let cells = c.args.self.now.cells.items in
     let root = Root c.place_of-place.result c.args.root in
@@ -28,5 +28,5 @@ pub returns-clause-later : goal.returns-clause-later
 returns-clause-later g c = λ later h.
     let cells = c.args.self.now.cells.items in
     rw c.in_ok-push.ensures.items
-    (stand_grown cells (Root c.place_of-place.result c.args.root) (large later) (reverse c.place_of-place.new.standing.items)
+    (stand_grown cells (Root c.place_of-place.result c.args.root) (large later) (reverse c.place_of-place.new.waiting.items)
     (c.place_of-place.ensures cells later h).1)

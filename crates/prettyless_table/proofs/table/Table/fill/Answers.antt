@@ -14,7 +14,7 @@ cell_of-cell-requires-clause-first g c =
     let n = c.index.result.now in
     let k = c.owners.k in
     let read = read_back ns k n (omega (arith, c.owners-test.true)) c.owners.invariant.within c.index.ensures in
-    let next = is_next f c.owners.self.cells.items ns k n (reverse c.owners.standing.items) c.requires.listed.0 c.requires.listed.1 read
+    let next = is_next f c.owners.self.cells.items ns k n (reverse c.owners.waiting.items) c.requires.listed.0 c.requires.listed.1 read
     c.owners.invariant.waits in
     (c.in_ok-second.ensures (drop (length (keepers (parts_of (f n)))) (waiting (map f (drop k ns)))) next.waits).first
 
@@ -25,7 +25,7 @@ cell_of-cell-requires-clause-second g c =
     let n = c.index.result.now in
     let k = c.owners.k in
     let read = read_back ns k n (omega (arith, c.owners-test.true)) c.owners.invariant.within c.index.ensures in
-    let next = is_next f c.owners.self.cells.items ns k n (reverse c.owners.standing.items) c.requires.listed.0 c.requires.listed.1 read
+    let next = is_next f c.owners.self.cells.items ns k n (reverse c.owners.waiting.items) c.requires.listed.0 c.requires.listed.1 read
     c.owners.invariant.waits in
     (c.in_ok-second.ensures (drop (length (keepers (parts_of (f n)))) (waiting (map f (drop k ns)))) next.waits).second
 
@@ -37,10 +37,10 @@ owners-preserved g c =
     let ns = c.args.owners.items in
     let n = c.index.result.now in
     let k = c.owners.k in
-    let places = reverse c.second_place.new.standing.items in
+    let places = reverse c.second_place.new.waiting.items in
     let rest = drop (length (keepers (parts_of (f n)))) (waiting (map f (drop k ns))) in
     let read = read_back ns k n (omega (arith, c.owners-test.true)) c.owners.invariant.within c.index.ensures in
-    let next = is_next f cells ns k n (reverse c.owners.standing.items) c.requires.listed.0 c.requires.listed.1 read
+    let next = is_next f cells ns k n (reverse c.owners.waiting.items) c.requires.listed.0 c.requires.listed.1 read
     c.owners.invariant.waits in
     let found = c.in_ok-second.ensures rest next.waits in
     let more : WaitsInTable (cells ++ cell ∷ []) (f n ∷ rest) places =
@@ -68,7 +68,7 @@ returns-clause-stand g c = λ ds list.
     let f = g.N.Walk.tree in
     let cells = c.owners.self.cells.items in
     let ns = c.args.owners.items in
-    let places = reverse c.owners.standing.items in
+    let places = reverse c.owners.waiting.items in
     let none : c.owners.k ≡ 0 = omega (arith, c.owners-test.false) in
     let all : WaitsInTable cells (waiting (map f ns)) places =
     subst (λ (i : ℕ). WaitsInTable cells (waiting (map f (drop i ns))) places) none c.owners.invariant.waits in
@@ -76,4 +76,4 @@ returns-clause-stand g c = λ ds list.
     subst (λ (es : List Tree). WaitsInTable cells es places) (list_fits ds (map f ns) list).1 all in
     let stand = stand_large cells ds (c.last.result ∷ places) (goes_on cells (keepers ds) c.last.result places c.last.ensures waits) in
     subst (λ (ps : List ℕ). StandAt cells (large ds) ps)
-    (sym (ap reverse c.in_ok-push-2.ensures.items ∙ reverse_push c.owners.standing.items c.last.result)) stand
+    (sym (ap reverse c.in_ok-push-2.ensures.items ∙ reverse_push c.owners.waiting.items c.last.result)) stand

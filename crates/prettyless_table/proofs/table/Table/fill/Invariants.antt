@@ -9,7 +9,7 @@ invariant-owners g l = record {
   within : l.k ≤ length l.owners.items;
   count : length l.self.cells.items + l.k ≡ length l.fn.self.cells.items + length l.owners.items;
   grows : CellsGrow g.N.Walk.tree l.fn.self.cells.items l.self.cells.items;
-  waits : WaitsInTable l.self.cells.items (waiting (map g.N.Walk.tree (drop l.k l.owners.items))) (reverse l.standing.items);
+  waits : WaitsInTable l.self.cells.items (waiting (map g.N.Walk.tree (drop l.k l.owners.items))) (reverse l.waiting.items);
 }
 
 abbrev pub decreases-owners : goal.decreases-owners

@@ -10,7 +10,7 @@ pub returns-then-not-is_small : goal.returns-then-not-is_small
 returns-then-not-is_small g c = λ ds h.
     let f = g.N.Walk.tree in
     let cells = c.args.self.now.cells.items in
-    let places = reverse c.args.standing.now.items in
+    let places = reverse c.args.waiting.now.items in
     same_found cells 0 ds places places c.in-One.ensures
     (found_large cells (f c.in-One.inner) ds places (sym c.is_small.ensures ∙ c.if-not-is_small.true)) h
 
@@ -18,7 +18,7 @@ pub returns-in-true-false : goal.returns-in-true-false
 returns-in-true-false g c = λ ds h.
     let f = g.N.Walk.tree in
     let cells = c.args.self.now.cells.items in
-    let places = reverse c.args.standing.now.items in
+    let places = reverse c.args.waiting.now.items in
     same_found cells c.last.result ds places places c.in-Two.ensures
     (found_second cells (f c.in-Two.first) (f c.in-Two.second) c.last.result ds places
     (sym c.in-true-false.ensures) (sym c.in-true-false.ensures')
@@ -28,7 +28,7 @@ pub returns-in-false-true : goal.returns-in-false-true
 returns-in-false-true g c = λ ds h.
     let f = g.N.Walk.tree in
     let cells = c.args.self.now.cells.items in
-    let places = reverse c.args.standing.now.items in
+    let places = reverse c.args.waiting.now.items in
     same_found cells 0 ds places places c.in-Two.ensures
     (found_first cells (f c.in-Two.first) (f c.in-Two.second) ds places
     (sym c.in-false-true.ensures) (sym c.in-false-true.ensures')) h
@@ -37,7 +37,7 @@ pub returns-in-false-false : goal.returns-in-false-false
 returns-in-false-false g c = λ ds h.
     let f = g.N.Walk.tree in
     let cells = c.args.self.now.cells.items in
-    let places = reverse c.args.standing.now.items in
+    let places = reverse c.args.waiting.now.items in
     rw (c.take_place.ensures.left, c.take_place.ensures.taken)
     (same_found cells (get_or places 0 0) ds places (drop 1 places) c.in-Two.ensures
     (found_both cells (f c.in-Two.first) (f c.in-Two.second) ds places
@@ -48,7 +48,7 @@ returns g c = λ ds h.
     let f = g.N.Walk.tree in
     let cells = c.args.self.now.cells.items in
     let last = c.last-2.result in
-    let places = reverse c.args.standing.now.items in
+    let places = reverse c.args.waiting.now.items in
     let found : AreFound cells (parts_of (f c.args.node.now)) 0 ds (last ∷ places) = elim c.match-parts_below.branch [
       | in-None w ↦ same_found cells 0 ds places (last ∷ places) w.in-None.ensures (found_nothing cells last ds places c.last-2.ensures) h
       | in-One+else-not-is_small w ↦ same_found cells 0 ds places (last ∷ places) w.in-One.ensures
@@ -58,4 +58,4 @@ returns g c = λ ds h.
           (sym w.in-true-true.ensures') c.last-2.ensures) h
     ] in
     subst (λ (ps : List ℕ). AreFound cells (parts_of (f c.args.node.now)) 0 ds ps)
-    (sym (ap reverse c.in_ok-push.ensures.items ∙ reverse_push c.args.standing.now.items last)) found
+    (sym (ap reverse c.in_ok-push.ensures.items ∙ reverse_push c.args.waiting.now.items last)) found

@@ -4,7 +4,7 @@ use Rattle.prettyless_probe.specs.Stack.{IsCursor, stack_of, unread}
 use Rattle.prettyless_table.specs.Cells.{CellsGrow}
 use Rattle.prettyless_table.specs.Owners.{Stand, task_trees}
 use Rattle.prettyless_table.proofs.Shifting.{FirstCommands}
-use Rattle.prettyless_table.proofs.shift.lay_out_commands.Given as goal
+use Rattle.prettyless_table.proofs.shift.store_commands.Given as goal
 
 abbrev pub invariant-commands : goal.invariant-commands
 invariant-commands g l = record {
@@ -15,8 +15,8 @@ invariant-commands g l = record {
   count : length l.table.cells.items + length (unread g.N.Walk.tree l.commands l.below)
       ≡ length l.fn.table.cells.items + length (stack_of g.N.Walk.tree l.commands);
   stand : (later : List Tree)
-      → Stand l.fn.table.cells.items (task_trees (stack_of g.N.Walk.tree l.commands) ++ later) l.fn.standing.items
-      → Stand l.table.cells.items (task_trees (unread g.N.Walk.tree l.commands l.below) ++ later) l.standing.items;
+      → Stand l.fn.table.cells.items (task_trees (stack_of g.N.Walk.tree l.commands) ++ later) l.fn.waiting.items
+      → Stand l.table.cells.items (task_trees (unread g.N.Walk.tree l.commands l.below) ++ later) l.waiting.items;
 }
 
 abbrev pub decreases-commands : goal.decreases-commands

@@ -4,7 +4,7 @@ use Rattle.prettyless_table.specs.Owners.{Stand}
 use Rattle.prettyless_table.proofs.Trees.{grows_then}
 use Rattle.prettyless_table.proofs.Shifting.{node_more}
 use Rattle.prettyless_printer.specs.Open.{all_held, seconds}
-use Rattle.prettyless_printer.proofs.shift.lay_out_seconds.Goals as goal
+use Rattle.prettyless_printer.proofs.shift.store_seconds.Goals as goal
 
 pub add-requires : goal.add-requires
 add-requires g c =
@@ -19,7 +19,7 @@ add-requires g c =
       room = omega (arith, c.trials.invariant.count, c.requires.room, within);
       stands = (
         seconds (all_held f later),
-        subst (λ us. Stand c.trials.table.cells.items (seconds (all_held f us)) c.trials.standing.items) read c.trials.invariant.stand,
+        subst (λ us. Stand c.trials.table.cells.items (seconds (all_held f us)) c.trials.waiting.items) read c.trials.invariant.stand,
       );
     }
 
@@ -38,8 +38,8 @@ trials-preserved g c =
       within = omega (arith, within);
       count = omega (arith, c.trials.invariant.count, c.in_ok-add.ensures.count);
       grows = grows_then f c.args.table.now.cells.items old new c.trials.invariant.grows c.add.ensures.grows;
-      first = node_more f c.add.ensures.grows c.in_ok-add.ensures.laid c.in_ok-push.ensures.items (ap (λ us. seconds (all_held f us)) read)
+      first = node_more f c.add.ensures.grows c.in_ok-add.ensures.stored c.in_ok-push.ensures.items (ap (λ us. seconds (all_held f us)) read)
           c.trials.invariant.first;
       stand = c.in_ok-add.ensures.later (seconds (all_held f later))
-          (subst (λ us. Stand old (seconds (all_held f us)) c.trials.standing.items) read c.trials.invariant.stand);
+          (subst (λ us. Stand old (seconds (all_held f us)) c.trials.waiting.items) read c.trials.invariant.stand);
     }

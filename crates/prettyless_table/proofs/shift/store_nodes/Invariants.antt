@@ -4,7 +4,7 @@ use Rattle.prettyless_probe.specs.Stack.{trees}
 use Rattle.prettyless_table.specs.Cells.{CellsGrow}
 use Rattle.prettyless_table.specs.Owners.{Stand}
 use Rattle.prettyless_table.proofs.Shifting.{FirstNodes}
-use Rattle.prettyless_table.proofs.shift.lay_out_nodes.Given as goal
+use Rattle.prettyless_table.proofs.shift.store_nodes.Given as goal
 
 abbrev pub invariant-roots : goal.invariant-roots
 invariant-roots g l = record {
@@ -13,8 +13,8 @@ invariant-roots g l = record {
   first : FirstNodes g.N.Walk.tree l.table.cells.items l.places.items
       (trees g.N.Walk.tree (drop l.k l.roots)) (trees g.N.Walk.tree l.roots);
   count : length l.table.cells.items ≡ length l.fn.table.cells.items + l.k;
-  stand : (later : List Tree) → Stand l.fn.table.cells.items (trees g.N.Walk.tree l.roots ++ later) l.fn.standing.items
-      → Stand l.table.cells.items (trees g.N.Walk.tree (drop l.k l.roots) ++ later) l.standing.items;
+  stand : (later : List Tree) → Stand l.fn.table.cells.items (trees g.N.Walk.tree l.roots ++ later) l.fn.waiting.items
+      → Stand l.table.cells.items (trees g.N.Walk.tree (drop l.k l.roots) ++ later) l.waiting.items;
 }
 
 abbrev pub decreases-roots : goal.decreases-roots

@@ -4,7 +4,7 @@ use Rattle.prettyless_probe.specs.Stack as step
 use Rattle.prettyless_table.specs.Owners.{Stand}
 use Rattle.prettyless_table.proofs.Trees.{grows_then}
 use Rattle.prettyless_table.proofs.Shifting.{node_more}
-use Rattle.prettyless_table.proofs.shift.lay_out_nodes.Goals as goal
+use Rattle.prettyless_table.proofs.shift.store_nodes.Goals as goal
 
 pub roots-preserved : goal.roots-preserved
 roots-preserved g c =
@@ -19,12 +19,12 @@ roots-preserved g c =
     record {
       within = omega (arith, c.roots-test.true);
       grows = grows_then f c.args.table.now.cells.items old new c.roots.invariant.grows c.add.ensures.grows;
-      first = node_more f c.add.ensures.grows c.in_ok-add.ensures.laid c.in_ok-push.ensures.items
+      first = node_more f c.add.ensures.grows c.in_ok-add.ensures.stored c.in_ok-push.ensures.items
           (ap (step.trees f) read) c.roots.invariant.first;
       count = omega (arith, c.roots.invariant.count, c.in_ok-add.ensures.count);
       stand = λ more h.
           c.in_ok-add.ensures.later (step.trees f later ++ more)
-          (subst (λ ns. Stand old (step.trees f ns ++ more) c.roots.standing.items) read (c.roots.invariant.stand more h));
+          (subst (λ ns. Stand old (step.trees f ns ++ more) c.roots.waiting.items) read (c.roots.invariant.stand more h));
     }
 
 pub add-requires : goal.add-requires
@@ -42,6 +42,6 @@ add-requires g c =
       room = omega (arith, c.roots.invariant.count, c.requires.room, c.roots-test.true);
       stands = (
         step.trees f later ++ more,
-        subst (λ ns. Stand old (step.trees f ns ++ more) c.roots.standing.items) read (c.roots.invariant.stand more c.requires.stand.1),
+        subst (λ ns. Stand old (step.trees f ns ++ more) c.roots.waiting.items) read (c.roots.invariant.stand more c.requires.stand.1),
       );
     }

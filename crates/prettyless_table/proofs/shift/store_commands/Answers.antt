@@ -4,7 +4,7 @@ use Rattle.prettyless_probe.specs.declared.command.Command.{Command}
 use Rattle.prettyless_table.specs.Owners.{Stand, task_trees}
 use Rattle.prettyless_table.proofs.Trees.{grows_then}
 use Rattle.prettyless_table.proofs.Shifting.{command_more}
-use Rattle.prettyless_table.proofs.shift.lay_out_commands.Goals as goal
+use Rattle.prettyless_table.proofs.shift.store_commands.Goals as goal
 
 pub commands-preserved : goal.commands-preserved
 commands-preserved g c =
@@ -19,12 +19,12 @@ commands-preserved g c =
     record {
       of_this = c.in-Some.ensures.of_this;
       grows = grows_then f c.args.table.now.cells.items old new c.commands.invariant.grows c.add.ensures.grows;
-      first = command_more f {c = placed} c.add.ensures.grows c.in_ok-node.ensures.laid c.in_ok-push.ensures.items read
+      first = command_more f {c = placed} c.add.ensures.grows c.in_ok-node.ensures.stored c.in_ok-push.ensures.items read
           c.commands.invariant.first;
       count = omega (arith, c.commands.invariant.count, ap length read, c.in_ok-node.ensures.count);
       stand = λ more h.
           c.in_ok-node.ensures.later (task_trees later ++ more)
-          (subst (λ ts. Stand old (task_trees ts ++ more) c.commands.standing.items) read (c.commands.invariant.stand more h));
+          (subst (λ ts. Stand old (task_trees ts ++ more) c.commands.waiting.items) read (c.commands.invariant.stand more h));
     }
 
 pub add-requires : goal.add-requires
@@ -39,7 +39,7 @@ add-requires g c =
       room = omega (arith, c.commands.invariant.count, c.requires.room, ap length read);
       stands = (
         task_trees later ++ more,
-        subst (λ ts. Stand old (task_trees ts ++ more) c.commands.standing.items) read
+        subst (λ ts. Stand old (task_trees ts ++ more) c.commands.waiting.items) read
             (c.commands.invariant.stand more c.requires.stand.1),
       );
     }

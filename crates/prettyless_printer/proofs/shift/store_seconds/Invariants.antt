@@ -3,7 +3,7 @@ use Rattle.prettyless_table.specs.Cells.{CellsGrow}
 use Rattle.prettyless_table.specs.Owners.{Stand}
 use Rattle.prettyless_table.proofs.Shifting.{FirstNodes}
 use Rattle.prettyless_printer.specs.Open.{all_held, seconds}
-use Rattle.prettyless_printer.proofs.shift.lay_out_seconds.Given as goal
+use Rattle.prettyless_printer.proofs.shift.store_seconds.Given as goal
 
 abbrev pub invariant-trials : goal.invariant-trials
 invariant-trials g l =
@@ -14,7 +14,7 @@ invariant-trials g l =
       count : length l.table.cells.items ≡ length l.fn.table.cells.items + l.k;
       grows : CellsGrow f l.fn.table.cells.items l.table.cells.items;
       first : FirstNodes f l.table.cells.items l.places.items (seconds (all_held f (drop l.k all))) (seconds (all_held f all));
-      stand : Stand l.table.cells.items (seconds (all_held f (drop l.k all))) l.standing.items;
+      stand : Stand l.table.cells.items (seconds (all_held f (drop l.k all))) l.waiting.items;
     }
 
 abbrev pub decreases-trials : goal.decreases-trials
