@@ -1,9 +1,9 @@
 -- What the words of `replay` ask for, and how a run of it ends.
-use Rattle.std.specs.Prelude.{◌≡◌, ℕ, List, [], ◌∷◌, String, string_bytes, codes, Option, Some, None, MatchBool}
+use Rattle.std.specs.Prelude.{◌≡◌, ℕ, List, [], ◌∷◌, String, string_bytes, codes, Option, Some, None, MatchBool, if◌then◌else◌}
 use Rattle.std.specs.Global.{Global}
 use Rattle.std.specs.Str.{bytes_eq}
 use Rattle.replay_cases.specs.declared.request.Request.{Request}
-use Rattle.replay_cases.specs.declared.request.Request.TheVariants.{Replay, Random}
+use Rattle.replay_cases.specs.declared.request.Request.TheVariants.{Replay, ReplayTwice, Random, Help}
 use Rattle.replay_cases.specs.Notation.{IsNumber}
 use Rattle.replay_cases.specs.declared.request.ReplayEnd.{ReplayEnd}
 use Rattle.replay_cases.specs.declared.request.ReplayEnd.TheVariants.{Words, Failed, Otherwise}
