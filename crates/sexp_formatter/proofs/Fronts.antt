@@ -156,13 +156,13 @@ next_value levels bytes v after front (first w ws) other g d =
     (ws, ap (λ (x : Value). first x ws) same.0, subst (λ (x : List ℕ). Follows ws x other) same.1 s.2, omega arith)
 
 -- after a space the list goes on
-space_found : (levels : ℕ) (bytes : List ℕ) (read : List Value) (rest : List ℕ) (v : Value) (next : List ℕ)
+space_found : {levels : ℕ} {bytes : List ℕ} {read : List Value} {rest : List ℕ} {v : Value} {next : List ℕ}
     → IsUnderWay levels bytes read rest → IsFront levels rest v (input_space ∷ next)
     → (vs : Values) (other : List ℕ) → GoesOn vs next other → depth_of_all vs ≤ levels →
     Closes (values_before read (first v vs)) bytes other
     × (depth_of_all (values_before read (first v vs)) ≤ levels)
-space_found levels bytes read rest v next way front none other g d = absurd g
-space_found levels bytes read rest v next way front (first w ws) other g d =
+space_found way front none other g d = absurd g
+space_found {rest = rest} {v = v} {next = next} way front (first w ws) other g d =
     way.found (first v (first w ws)) other (join_first v (first w ws) rest (input_space ∷ next) other front.begins
     (join_space w ws next other g))
     (omega (arith, front.nesting))
@@ -172,12 +172,12 @@ space_goes_on none next other f = absurd (space_or_closing next other (follows_n
 space_goes_on (first w ws) next other f = let s = split_space w ws (input_space ∷ next) other f in
     subst (λ (x : List ℕ). Closes (first w ws) x other) (sym (tail_is input_space input_space next s.0 s.1)) s.2
 
-space_only : (levels : ℕ) (bytes : List ℕ) (read : List Value) (rest : List ℕ) (v : Value) (next : List ℕ)
+space_only : {levels : ℕ} {bytes : List ℕ} {read : List Value} {rest : List ℕ} {v : Value} {next : List ℕ}
     → IsUnderWay levels bytes read rest → IsFront levels rest v (input_space ∷ next)
     → (ws : Values) (other : List ℕ) → Closes ws bytes other → depth_of_all ws ≤ levels →
     (vs : Values) × (ws ≡ values_before read (first v vs))
     × GoesOn vs next other × (depth_of_all vs ≤ levels)
-space_only levels bytes read rest v next way front ws other c d =
+space_only {levels} {read = read} {rest = rest} {v = v} {next = next} way front ws other c d =
     let a = way.only ws other c d in
     let b = next_value levels rest v (input_space ∷ next) front a.0 other a.2 a.3 in
     (b.0, a.1 ∙ ap (values_before read) b.1, space_goes_on b.0 next other b.2, b.3)
@@ -185,8 +185,8 @@ space_only levels bytes read rest v next way front ws other c d =
 pub list_goes_on : (levels : ℕ) (bytes : List ℕ) (read : List Value) (rest : List ℕ) (v : Value) (next : List ℕ)
     → IsUnderWay levels bytes read rest → IsFront levels rest v (input_space ∷ next) → IsUnderWay levels bytes (read ++ v ∷ []) next
 list_goes_on levels bytes read rest v next way front = record {
-  found = λ vs other g d. rw (joined_more read v vs) (space_found levels bytes read rest v next way front vs other g d);
-  only = λ ws other c d. let s = space_only levels bytes read rest v next way front ws other c d in
+  found = λ vs other g d. rw (joined_more read v vs) (space_found way front vs other g d);
+  only = λ ws other c d. let s = space_only way front ws other c d in
       (s.0, s.1 ∙ sym (joined_more read v s.0), s.2, s.3);
 }
 
@@ -195,11 +195,11 @@ closes_here : (ws : Values) (tail other : List ℕ) → Follows ws (closing ∷ 
 closes_here none tail other f = (refl, sym (tail_is closing closing tail other (follows_none (closing ∷ tail) other f)))
 closes_here (first w ws) tail other f = let s = split_space w ws (closing ∷ tail) other f in absurd (space_or_closing s.0 tail (sym s.1))
 
-closed_only : (levels : ℕ) (bytes : List ℕ) (read : List Value) (rest : List ℕ) (v : Value) (tail : List ℕ)
+closed_only : {levels : ℕ} {bytes : List ℕ} {read : List Value} {rest : List ℕ} {v : Value} {tail : List ℕ}
     → IsUnderWay levels bytes read rest → IsFront levels rest v (closing ∷ tail)
     → (ws : Values) (other : List ℕ) → Closes ws bytes other → depth_of_all ws ≤ levels →
     (ws ≡ values_before read (first v none)) × (other ≡ tail)
-closed_only levels bytes read rest v tail way front ws other c d =
+closed_only {levels} {read = read} {rest = rest} {v = v} {tail = tail} way front ws other c d =
     let a = way.only ws other c d in
     let b = next_value levels rest v (closing ∷ tail) front a.0 other a.2 a.3 in
     let e = closes_here b.0 tail other b.2 in
@@ -211,7 +211,7 @@ pub list_closes : (levels : ℕ) (bytes : List ℕ) (read : List Value) (rest : 
 list_closes levels bytes read rest v tail way front =
     let closed : Closes (first v none) rest tail = join_first v none rest (closing ∷ tail) tail front.begins ([], refl, refl) in
     let f = way.found (first v none) tail closed (omega (arith, front.nesting)) in
-    rw (joined_more read v none) (record { closes = f.0; nesting = f.1; only = closed_only levels bytes read rest v tail way front })
+    rw (joined_more read v none) (record { closes = f.0; nesting = f.1; only = closed_only way front })
 
 no_first : (levels : ℕ) (bytes : List ℕ) → HasNoFront levels bytes → (vs : Values) (other : List ℕ) → GoesOn vs bytes other
     → depth_of_all vs ≤ levels → ⊥

@@ -103,20 +103,25 @@ document_blank left taken d h =
       };
     }
 
+-- the whole shows the document, a blank line or none, and the statement with its line end
+pub record AddsStatement (blank : Bool) (d statement whole : Tree) : Type 0 where
+  pub front : Tree
+  pub front_shows : (xs : List Item) → shows d xs → shows front (xs ++ blank_items blank)
+  pub whole_shows : (xs ys : List Item) → shows front xs → shows statement ys → shows whole (xs ++ (ys ++ ended ∷ []))
+
 -- a statement more, after a blank line or not
-pub document_more : (blank : Bool) (s : List ℕ) (old left taken : List (List ℕ)) (d statement front whole : Tree)
-    → ((xs : List Item) → shows d xs → shows front (xs ++ blank_items blank))
-    → ((xs ys : List Item) → shows front xs → shows statement ys → shows whole (xs ++ (ys ++ ended ∷ [])))
-    → IsDocument (s ∷ old) taken d → TakesStatement (s ∷ old) left statement
+pub document_more : {blank : Bool} {s : List ℕ} {old taken : List (List ℕ)} {d statement whole : Tree}
+    (left : List (List ℕ)) → AddsStatement blank d statement whole → IsDocument (s ∷ old) taken d
+    → TakesStatement (s ∷ old) left statement
     → (more : List (List ℕ)) × (s ∷ old ≡ more ++ left) × IsDocument left (taken ++ more) whole
-document_more blank s old left taken d statement front whole front_shows whole_shows h t =
+document_more {blank} {s} {old} {taken} {whole = whole} left adds h t =
     (more_taken t.2, taken_is t.2, record { items = items; shown = all_shown; read = read_more t.2 })
   where
     items : List Item
     items = (h.items ++ blank_items blank) ++ (t.1.items ++ ended ∷ [])
 
     all_shown : shows whole items
-    all_shown = whole_shows (h.items ++ blank_items blank) t.1.items (front_shows h.items h.shown) t.1.shown
+    all_shown = adds.whole_shows (h.items ++ blank_items blank) t.1.items (adds.front_shows h.items h.shown) t.1.shown
 
     more_taken : ((s ∷ old ≡ t.0 ++ (line_feed ∷ []) ∷ left) ⊎ ((s ∷ old ≡ t.0) × (left ≡ []))) → List (List ℕ)
     more_taken (inl e) = t.0 ++ (line_feed ∷ []) ∷ []

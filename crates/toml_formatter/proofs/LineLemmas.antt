@@ -18,13 +18,13 @@ use Rattle.toml_formatter.specs.declared.gaps.Gap.{Gap as Between}
 use Rattle.toml_formatter.specs.declared.kind.Last.{Last}
 use Rattle.toml_formatter.specs.declared.kind.Last.TheVariants as last
 use Rattle.toml_formatter.specs.declared.line.Line.{Line}
-use Rattle.toml_formatter.specs.Gaps.{gap_items, least_of, stays, least_needed, is_last_remark}
+use Rattle.toml_formatter.specs.Gaps.{gap_items, least_of, stays, least_needed, Suits, is_last_remark}
 use Rattle.toml_formatter.specs.Lines.{directly_after, before_next, IsNested, EndsAs, EndsCollected, Agrees, AreRemarks, ReadsRemarks}
 use Rattle.toml_formatter.specs.Lines.{WaitingRemarks, HoldsNothing, HoldsNothingAfter, waiting, IsOver, LineRead, ShowsTaken, IsValue}
 use Rattle.toml_formatter.specs.Lines.{ClosedRead, IsClosed, TakesMore, begun, may_hold}
-use Rattle.toml_formatter.proofs.Stages.{read_both, with_both, inside_line, text_read, with_remark, waiting_depth, remarks_depth}
-use Rattle.toml_formatter.proofs.Stages.{waiting_remarks, waiting_more, remarks_more, nested_along, waiting_agrees, agrees_then}
-use Rattle.toml_formatter.proofs.Stages.{closing_same, comma_passes}
+use Rattle.toml_formatter.proofs.Stages.{read_both, with_both, inside_line, MayFollow, text_read, with_remark}
+use Rattle.toml_formatter.proofs.Stages.{waiting_depth, remarks_depth, waiting_remarks, waiting_more, remarks_more}
+use Rattle.toml_formatter.proofs.Stages.{nested_along, waiting_agrees, agrees_then, closing_same, comma_passes}
 
 -- ---- texts
 
@@ -65,6 +65,11 @@ trimmed_read c s h whole =
     ∙ sym (with_remark c s (hash_role s h))
 
 -- ---- what waits
+
+-- neither a comma nor a remark waits
+pub record IsSettled (line : Line) : Type 0 where
+  pub no_comma : line.comma ≡ false
+  pub no_remarks : line.is_remarked ≡ false
 
 -- remarks may wait after a comma too
 after_comma : (flag nested : Bool) (l : Last) (rs : List (List ℕ)) (items : List Item) → WaitingRemarks flag nested l rs items
@@ -110,15 +115,15 @@ no_lexeme doc left h = record {
 }
 
 -- where a lexeme is left, the line ends as it says
-line_ends : (nested exact : Bool) (line : Line) (s : List ℕ) (left taken : List (List ℕ)) (items : List Item)
-    (rs : List (List ℕ)) (a : Stage)
+line_ends : {nested exact : Bool} {line : Line} {s : List ℕ} {left taken : List (List ℕ)} {items : List Item}
+    {rs : List (List ℕ)} {a : Stage}
     → (r : LineRead nested exact line (s ∷ left) taken items rs a) → EndsCollected nested line.last r.collected r.text
-line_ends nested exact line s left taken items rs a r = elim r.ends [ inl o ↦ not_over line s left o | inr e ↦ e ]
+line_ends {line = line} {s = s} {left = left} r = elim r.ends [ inl o ↦ not_over line s left o | inr e ↦ e ]
 
-line_level : (nested exact : Bool) (line : Line) (s : List ℕ) (left taken : List (List ℕ)) (items : List Item)
-    (rs : List (List ℕ)) (a : Stage)
+line_level : {nested exact : Bool} {line : Line} {s : List ℕ} {left taken : List (List ℕ)} {items : List Item}
+    {rs : List (List ℕ)} {a : Stage}
     → (r : LineRead nested exact line (s ∷ left) taken items rs a) → nested ≡ true → r.collected.depth ≡ (before_next a).depth
-line_level nested exact line s left taken items rs a r = elim r.level [ inl o ↦ not_over line s left o | inr e ↦ e ]
+line_level {line = line} {s = s} {left = left} r = elim r.level [ inl o ↦ not_over line s left o | inr e ↦ e ]
 
 -- what waits leaves brackets open
 waiting_nested : (nested : Bool) (line : Line) (l : Last) (rs : List (List ℕ)) (items : List Item) (c : Collected)
@@ -143,7 +148,7 @@ line_end_taken line p q left taken h = record {
     one : (a : Stage) → LineRead true true line ((line_feed ∷ []) ∷ left) taken h.items h.rs a
         → LineRead true true (record line { broken = p; blank = q }) left (taken ++ (line_feed ∷ []) ∷ []) h.items h.rs a
     one a r =
-        let ends = line_ends true true line (line_feed ∷ []) left taken h.items h.rs a r in
+        let ends = line_ends r in
         let deep = waiting_nested true line line.last h.rs h.remark_items r.collected h.remarks ends.inside in
         record {
           collected = r.collected;
@@ -152,16 +157,16 @@ line_end_taken line p q left taken h = record {
           same = with_both (before_next a) taken ((line_feed ∷ []) ∷ []) ∙ ap line_ended r.same
               ∙ inside_line (with_lexemes r.collected (waiting line.comma h.rs)) deep;
           ends = inr ends;
-          level = inr (line_level true true line (line_feed ∷ []) left taken h.items h.rs a r);
+          level = inr (line_level r);
         }
 
 -- the comma that waits is shown
-pub comma_shown : (nested exact : Bool) (line : Line) (left taken : List (List ℕ)) (gap : Between) (x : Tree) (doc : RefDoc)
-    → line.comma ≡ true → shows x (Shown (comma ∷ []) ∷ []) → ShowsBoth (ref_tree line.doc) (gap_items gap) x (ref_tree doc)
-    → more (least_needed line.last comma) (least_of gap) ≡ least_of gap → (nested ≡ false → stays gap ≡ true)
+pub comma_shown : {nested exact : Bool} {line : Line} {left taken : List (List ℕ)} {gap : Between}
+    (x : Tree) (doc : RefDoc) → line.comma ≡ true → shows x (Shown (comma ∷ []) ∷ [])
+    → ShowsBoth (ref_tree line.doc) (gap_items gap) x (ref_tree doc) → Suits nested line.last comma gap
     → ShowsTaken nested exact line left taken
     → ShowsTaken nested exact (record line { doc = doc; last = last.Comma; comma = false }) left taken
-comma_shown nested exact line left taken gap x doc waits x_shows both enough stays_there h = record {
+comma_shown {nested} {exact} {line} {left} {taken} {gap} x doc waits x_shows both suits h = record {
   items = h.items ++ (gap_items gap ++ Shown (comma ∷ []) ∷ []);
   remark_items = h.remark_items;
   rs = h.rs;
@@ -178,13 +183,19 @@ comma_shown nested exact line left taken gap x doc waits x_shows both enough sta
         let c = r.collected in
         let ends : EndsCollected nested line.last c r.text = elim r.ends [ inl o ↦ absurd (clash waits o.1) | inr e ↦ e ] in
         let k = with_lexeme c (comma ∷ []) in
+        let next : MayFollow nested line.last c r.text false gap (comma ∷ []) = record {
+          ends = ends.needs;
+          inside = ends.inside;
+          suits = suits;
+          whole = comma_is_whole;
+          closing = λ e. absurd (clash e refl);
+        } in
         record {
           collected = k;
           text = comma ∷ [];
           read = read_both a (directly_after c r.text) (directly_after k (comma ∷ [])) h.items
               (gap_items gap ++ Shown (comma ∷ []) ∷ []) r.read
-              (text_read nested line.last c r.text false gap (comma ∷ []) [] (directly_after k (comma ∷ [])) ends.needs ends.inside enough
-              stays_there comma_is_whole (λ e. absurd (clash e refl)) refl);
+              (text_read [] (directly_after k (comma ∷ [])) next refl);
           same = agrees_then exact (with_lexemes (before_next a) taken) (with_lexemes c (waiting line.comma h.rs))
               (with_lexemes k h.rs) r.same
               (ap (λ (w : Bool). with_lexemes c (waiting w h.rs)) waits);
@@ -247,7 +258,7 @@ comma_held nested line p q left taken none plain h = record {
         → LineRead nested true (record line { comma = true; broken = p; blank = q }) left (taken ++ (comma ∷ []) ∷ []) h.items h.rs a
     one a r =
         let c = r.collected in
-        let ends = line_ends nested true line (comma ∷ []) left taken h.items h.rs a r in
+        let ends = line_ends r in
         let nothing = holds_nothing line.last c plain ends.plain in
         let remarks = waiting_remarks line.is_remarked nested line.last h.rs h.remark_items h.remarks in
         record {
@@ -258,7 +269,7 @@ comma_held nested line p q left taken none plain h = record {
               ∙ ap (λ (y : Collected). with_lexeme y (comma ∷ [])) (r.same ∙ ap (λ (w : Bool). with_lexemes c (waiting w h.rs)) none)
               ∙ comma_passes c h.rs nothing.0 remarks;
           ends = inr ends;
-          level = inr (line_level nested true line (comma ∷ []) left taken h.items h.rs a r);
+          level = inr (line_level r);
         }
 
 -- a comma is taken where nothing waits
@@ -290,8 +301,8 @@ comma_alone nested line p q left taken none alone h = record {
               ∙ ap (λ (y : Collected). with_lexeme y (comma ∷ []))
               (r.same ∙ ap (λ (w : Bool). with_lexemes c (waiting w h.rs)) none ∙ ap (λ (rs : List (List ℕ)). with_lexemes c rs) no_remarks)
               ∙ sym (ap (λ (rs : List (List ℕ)). with_lexemes c (waiting true rs)) no_remarks);
-          ends = inr (line_ends nested true line (comma ∷ []) left taken h.items h.rs a r);
-          level = inr (line_level nested true line (comma ∷ []) left taken h.items h.rs a r);
+          ends = inr (line_ends r);
+          level = inr (line_level r);
         }
 
 -- a comma is taken, where nothing waits or none of what waits was shown
@@ -315,9 +326,19 @@ module _ (nested : Bool) (l : Last) (gap : Between) (remark : List ℕ) (is : he
       → (nested ≡ false → stays gap ≡ true)
       → AreRead (directly_after c t) (gap_items gap ++ Shown (trimmed remark) ∷ []) (directly_after (with_lexeme c remark) (trimmed remark))
   remark_read m c t ends inside enough stays_there =
-      text_read nested m c t false gap (trimmed remark) [] (directly_after (with_lexeme c remark) (trimmed remark)) ends inside
-      (subst (λ (y : ℕ). more (least_needed m y) (least_of gap) ≡ least_of gap) (sym (trimmed_head remark is)) enough) stays_there whole
-      (λ e. absurd (clash e refl))
+      let next : MayFollow nested m c t false gap (trimmed remark) = record {
+        ends = ends;
+        inside = inside;
+        suits = record {
+          enough =
+              subst (λ (y : ℕ). more (least_needed m y) (least_of gap) ≡ least_of gap) (sym (trimmed_head remark is))
+              enough;
+          stays = stays_there;
+        };
+        whole = whole;
+        closing = λ e. absurd (clash e refl);
+      } in
+      text_read [] (directly_after (with_lexeme c remark) (trimmed remark)) next
       (ap (λ (x : Collected). directly_after x (trimmed remark)) (trimmed_read c remark is whole))
 
   -- the first that waits
@@ -380,8 +401,8 @@ module _ (nested : Bool) (l : Last) (gap : Between) (remark : List ℕ) (is : he
                   ∙ ap (λ (y : Collected). with_lexeme y remark) r.same
                   ∙ sym (with_both c (waiting line.comma h.rs) (remark ∷ []))
                   ∙ ap (λ (rs : List (List ℕ)). with_lexemes c rs) (waiting_more line.comma h.rs remark);
-              ends = inr (line_ends nested true line remark left taken h.items h.rs a r);
-              level = inr (line_level nested true line remark left taken h.items h.rs a r);
+              ends = inr (line_ends r);
+              level = inr (line_level r);
             }
 
     -- none waited
@@ -421,19 +442,19 @@ module _ (nested : Bool) (l : Last) (gap : Between) (remark : List ℕ) (is : he
 
 -- ---- a value
 
-pub value_taken : (nested : Bool) (line : Line) (p q : Bool) (gap : Between) (doc : RefDoc) (x : Tree) (l : Last) (s : List ℕ)
-    (left old taken vs : List (List ℕ))
-    → line.comma ≡ false → line.is_remarked ≡ false → ShowsBoth (ref_tree line.doc) (gap_items gap) x (ref_tree doc)
-    → more (least_needed line.last (head s)) (least_of gap) ≡ least_of gap → (nested ≡ false → stays gap ≡ true) → IsWholeLexeme s
+pub value_taken : {nested : Bool} {line : Line} {gap : Between} {x : Tree} {l : Last} {s : List ℕ}
+    {left old taken vs : List (List ℕ)} (p q : Bool) (doc : RefDoc)
+    → IsSettled line → ShowsBoth (ref_tree line.doc) (gap_items gap) x (ref_tree doc)
+    → Suits nested line.last (head s) gap → IsWholeLexeme s
     → ShowsTaken nested true line (s ∷ old) taken → IsValue l s left vs x
     → ShowsTaken nested true (record line { doc = doc; last = l; broken = p; blank = q }) left (taken ++ (s ∷ vs))
-value_taken nested line p q gap doc x l s left old taken vs none alone both enough stays_there whole h v = record {
+value_taken {nested} {line} {gap} {x} {l} {s} {left} {old} {taken} {vs} p q doc settled both suits whole h v = record {
   items = items;
   remark_items = h.remark_items;
   rs = h.rs;
   shown = both h.items (Shown s ∷ v.items) h.shown v.shown;
   remarks_shown = h.remarks_shown;
-  remarks = subst (λ (w : Bool). WaitingRemarks w nested l h.rs h.remark_items) (sym alone) no_remarks;
+  remarks = subst (λ (w : Bool). WaitingRemarks w nested l h.rs h.remark_items) (sym settled.no_remarks) no_remarks;
   read = λ a b. one a (h.read a b);
 }
   where
@@ -441,34 +462,42 @@ value_taken nested line p q gap doc x l s left old taken vs none alone both enou
     items = h.items ++ (gap_items gap ++ (Shown s ∷ v.items))
 
     no_remarks : h.rs ≡ []
-    no_remarks = subst (λ (w : Bool). WaitingRemarks w nested line.last h.rs h.remark_items) alone h.remarks
+    no_remarks =
+        subst (λ (w : Bool). WaitingRemarks w nested line.last h.rs h.remark_items) settled.no_remarks h.remarks
 
     one : (a : Stage) → LineRead nested true line (s ∷ old) taken h.items h.rs a
         → LineRead nested true (record line { doc = doc; last = l; broken = p; blank = q }) left (taken ++ (s ∷ vs))
         (h.items ++ (gap_items gap ++ (Shown s ∷ v.items))) h.rs a
     one a r =
         let c = r.collected in
-        let ends = line_ends nested true line s old taken h.items h.rs a r in
+        let ends = line_ends r in
         let w = v.read c in
         let nothing : (k : Collected) → with_lexemes k (waiting line.comma h.rs) ≡ k
-        = λ k. ap (λ (b : Bool). with_lexemes k (waiting b h.rs)) none ∙ ap (λ (rs : List (List ℕ)). with_lexemes k rs) no_remarks in
+        = λ k. ap (λ (b : Bool). with_lexemes k (waiting b h.rs)) settled.no_comma
+        ∙ ap (λ (rs : List (List ℕ)). with_lexemes k rs) no_remarks in
+        let next : MayFollow nested line.last c r.text false gap s = record {
+          ends = ends.needs;
+          inside = ends.inside;
+          suits = suits;
+          whole = whole;
+          closing = λ e. absurd (clash e refl);
+        } in
         record {
           collected = w.collected;
           text = w.text;
           read = read_both a (directly_after c r.text) (directly_after w.collected w.text) h.items
               (gap_items gap ++ (Shown s ∷ v.items)) r.read
-              (text_read nested line.last c r.text false gap s v.items (directly_after w.collected w.text) ends.needs ends.inside enough
-              stays_there whole (λ e. absurd (clash e refl)) w.read);
+              (text_read v.items (directly_after w.collected w.text) next w.read);
           same = with_both (before_next a) taken (s ∷ vs)
               ∙ ap (λ (y : Collected). with_lexemes y (s ∷ vs)) (r.same ∙ nothing c)
               ∙ sym w.same ∙ sym (nothing w.collected);
           ends = elim w.ends [
-            | inl e ↦ inl (e, none, alone)
+            | inl e ↦ inl (e, settled.no_comma, settled.no_remarks)
             | inr e ↦ inr (record { needs = e.0.needs; plain = e.0.plain; inside = nested_along nested c w.collected e.1 ends.inside })
           ];
           level = elim w.ends [
-            | inl e ↦ inl (e, none, alone)
-            | inr e ↦ inr (λ n. e.1 ∙ line_level nested true line s old taken h.items h.rs a r n)
+            | inl e ↦ inl (e, settled.no_comma, settled.no_remarks)
+            | inr e ↦ inr (λ n. e.1 ∙ line_level r n)
           ];
         }
 
@@ -498,24 +527,25 @@ comma_changed nested line w x left taken keeps h = record {
     one : (a : Stage) → LineRead nested true line (x ∷ left) taken h.items h.rs a → LineRead nested false (record line { comma = w })
         (x ∷ left) taken h.items h.rs a
     one a r =
-        let ends = line_ends nested true line x left taken h.items h.rs a r in
+        let ends = line_ends r in
         record {
           collected = r.collected;
           text = r.text;
           read = r.read;
           same = ap (λ (y : Collected). record y { comma = false }) r.same ∙ same r.collected ends.plain (may_hold line.last) refl;
           ends = inr ends;
-          level = inr (line_level nested true line x left taken h.items h.rs a r);
+          level = inr (line_level r);
         }
 
 -- a line where nothing waits, with an optional text at its end or without
-module _ (nested : Bool) (line : Line) (x : List ℕ) (left taken : List (List ℕ)) (closing : role x ≡ a_closing) (none : line.comma ≡ false)
-    (alone : line.is_remarked ≡ false)
-    (h : ShowsTaken nested false line (x ∷ left) taken) where
+module _ (nested : Bool) (line : Line) (x : List ℕ) (left taken : List (List ℕ)) (closing : role x ≡ a_closing)
+    (settled : IsSettled line) (h : ShowsTaken nested false line (x ∷ left) taken) where
   nothing_waits : (k : Collected) → with_lexemes k (waiting line.comma h.rs) ≡ k
   nothing_waits k =
-      let no_remarks : h.rs ≡ [] = subst (λ (w : Bool). WaitingRemarks w nested line.last h.rs h.remark_items) alone h.remarks in
-      ap (λ (b : Bool). with_lexemes k (waiting b h.rs)) none ∙ ap (λ (rs : List (List ℕ)). with_lexemes k rs) no_remarks
+      let no_remarks : h.rs ≡ []
+      = subst (λ (w : Bool). WaitingRemarks w nested line.last h.rs h.remark_items) settled.no_remarks h.remarks in
+      ap (λ (b : Bool). with_lexemes k (waiting b h.rs)) settled.no_comma
+      ∙ ap (λ (rs : List (List ℕ)). with_lexemes k rs) no_remarks
 
   closes : (a : Stage) → (r : LineRead nested false line (x ∷ left) taken h.items h.rs a)
       → with_lexemes (before_next a) (taken ++ x ∷ []) ≡ with_lexeme r.collected x
@@ -529,7 +559,7 @@ module _ (nested : Bool) (line : Line) (x : List ℕ) (left taken : List (List �
     where
       one : (a : Stage) → LineRead nested false line (x ∷ left) taken h.items h.rs a → ClosedRead nested line x taken h.items a
       one a r =
-          let ends = line_ends nested false line x left taken h.items h.rs a r in
+          let ends = line_ends r in
           record {
             collected = r.collected;
             text = r.text;
@@ -539,7 +569,7 @@ module _ (nested : Bool) (line : Line) (x : List ℕ) (left taken : List (List �
             needs = ends.needs;
             inside =
                 ends.inside;
-            level = line_level nested false line x left taken h.items h.rs a r;
+            level = line_level r;
           }
 
   pub closed_marked : (doc : RefDoc) → nested ≡ true → may_hold line.last ≡ false
@@ -565,7 +595,7 @@ module _ (nested : Bool) (line : Line) (x : List ℕ) (left taken : List (List �
           (h.items ++ Mark (comma ∷ []) ∷ []) a
       one a r =
           let c = r.collected in
-          let ends = line_ends nested false line x left taken h.items h.rs a r in
+          let ends = line_ends r in
           let nothing = holds_nothing line.last c plain ends.plain in
           let before_comma : least_between r.text (comma ∷ []) ≡ shown.Nothing = ends.needs (comma ∷ []) ∙ nothing_needed line.last plain in
           record {
@@ -586,7 +616,7 @@ module _ (nested : Bool) (line : Line) (x : List ℕ) (left taken : List (List �
             same = closes a r;
             needs = ends.needs;
             inside = ends.inside;
-            level = line_level nested false line x left taken h.items h.rs a r;
+            level = line_level r;
           }
 
 -- ---- where a line goes on

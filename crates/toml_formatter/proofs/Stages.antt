@@ -9,7 +9,7 @@ use Rattle.toml_statements.specs.Shown.{Stage, IsWholeLexeme, IsInside, MayStand
 use Rattle.toml_formatter.specs.declared.gaps.Gap.{Gap as Between}
 use Rattle.toml_formatter.specs.declared.gaps.Gap.TheVariants.{Nothing, Space, Edge, Line, BlankLine, Break, BlankBreak}
 use Rattle.toml_formatter.specs.declared.kind.Last.{Last}
-use Rattle.toml_formatter.specs.Gaps.{gap_items, least_of, stays, least_needed}
+use Rattle.toml_formatter.specs.Gaps.{gap_items, least_of, stays, Suits}
 use Rattle.toml_formatter.specs.Lines.{directly_after, before_next, IsNested, EndsAs, Agrees, AreRemarks, WaitingRemarks, waiting}
 
 -- ---- items
@@ -108,19 +108,27 @@ ends_lines false c gap h k e = absurd (clash (stays gap) (h refl) e)
     clash : (b : Bool) → b ≡ true → b ≡ false → ⊥
     clash b p q = cc
 
+-- after a text that ends so, and an optional one or none, this gap and this text may come
+pub record MayFollow (nested : Bool) (last : Last) (c : Collected) (t : List ℕ) (m : Bool) (gap : Between)
+    (s : List ℕ) : Type 0 where
+  pub ends : EndsAs last t
+  pub inside : IsNested nested c
+  pub suits : Suits nested last (head s) gap
+  pub whole : IsWholeLexeme s
+  pub closing : m ≡ true → role s ≡ a_closing
+
 -- a gap, a text and what comes after it
-pub text_read : (nested : Bool) (last : Last) (c : Collected) (t : List ℕ) (m : Bool) (gap : Between) (s : List ℕ)
+pub text_read : {nested : Bool} {last : Last} {c : Collected} {t : List ℕ} {m : Bool} {gap : Between} {s : List ℕ}
     (items : List Item) (b : Stage)
-    → EndsAs last t → IsNested nested c → more (least_needed last (head s)) (least_of gap) ≡ least_of gap
-    → (nested ≡ false → stays gap ≡ true)
-    → IsWholeLexeme s → (m ≡ true → role s ≡ a_closing) → AreRead (directly_after (with_lexeme c s) s) items b
+    → MayFollow nested last c t m gap s → AreRead (directly_after (with_lexeme c s) s) items b
     → AreRead (after_mark c t m) (gap_items gap ++ (Shown s ∷ items)) b
-text_read nested last c t m gap s items b ends inside enough line whole closing h =
-    let lines : stays gap ≡ false → IsInside c.depth = ends_lines nested c gap line inside in
-    let apart = subst (λ (l : shown.Least). more l (least_of gap) ≡ least_of gap) (sym (ends s)) enough in
+text_read {nested} {last} {c} {t} {m} {gap} {s} items b next h =
+    let lines : stays gap ≡ false → IsInside c.depth = ends_lines nested c gap next.suits.stays next.inside in
+    let apart =
+    subst (λ (l : shown.Least). more l (least_of gap) ≡ least_of gap) (sym (next.ends s)) next.suits.enough in
     gap_read c t m gap (Shown s ∷ items) b (
-      whole,
-      stands c t gap s apart lines m closing,
+      next.whole,
+      stands c t gap s apart lines m next.closing,
       subst (λ (x : Stage). AreRead x items b)
           (sym (shown_after c t gap s m ∙ ap (λ (x : Collected). directly_after (with_lexeme x s) s) (gap_keeps c t gap m lines))) h,
     )

@@ -18,13 +18,13 @@ use Rattle.toml_formatter.specs.declared.kind.Last.TheVariants as last
 use Rattle.toml_formatter.specs.declared.line.Line.{Line}
 use Rattle.toml_formatter.specs.Gaps.{least_needed, is_last_remark}
 use Rattle.toml_formatter.specs.Kinds.{is_closing, IsPart}
-use Rattle.toml_statements.specs.Sound.{IsSound, LineEndsNext}
+use Rattle.toml_statements.specs.Sound.{LineEndsNext}
 use Rattle.toml_formatter.specs.Lines.{directly_after, before_next, EndsCollected, WaitingRemarks, waiting, LineRead, ShowsTaken}
 use Rattle.toml_formatter.specs.Lines.{ValueRead, IsValue}
 use Rattle.toml_formatter.specs.Lines.{ClosedRead, IsClosed, TakesMore, MayGoOn, begun, StatementRead, IsStatement}
-use Rattle.toml_formatter.proofs.Stages.{read_both, text_read}
-use Rattle.toml_formatter.proofs.LineLemmas.{comma_is_whole, hash_ends, trimmed_head, trimmed_read}
-use Rattle.toml_formatter.proofs.Values.{closing_ends, closing_head, closing_role, closing_whole}
+use Rattle.toml_formatter.proofs.Stages.{read_both, MayFollow, text_read}
+use Rattle.toml_formatter.proofs.LineLemmas.{comma_is_whole, hash_ends, trimmed_head, trimmed_read, IsSettled}
+use Rattle.toml_formatter.proofs.Values.{closing_ends, closing_head, closing_role, closing_whole, ShowsClosing}
 
 outside_brackets : {P : Type 0} → false ≡ true → P
 outside_brackets e = absurd (cc)
@@ -63,11 +63,11 @@ remark_begins doc r left e whole h =
     text_begins doc last.Remark r (trimmed r) left h whole (λ c. trimmed_read c r e whole)
     (λ c. record { needs = hash_ends (trimmed r) (trimmed_head r e); plain = tt; inside = tt })
 
-pub bracket_begins : (doc : RefDoc) (x : Lexeme) (left : List (List ℕ)) → is_closing x ≡ true → IsSound (toml_text_of x) left
-    → shows (ref_tree doc) (Shown (toml_text_of x) ∷ [])
+pub bracket_begins : {x : Lexeme} {left : List (List ℕ)} (doc : RefDoc) → ShowsClosing x left (ref_tree doc)
     → ShowsTaken false true (begun doc last.Close) left (toml_text_of x ∷ [])
-bracket_begins doc x left e sound h =
-    text_begins doc last.Close (toml_text_of x) (toml_text_of x) left h (closing_whole x left e sound) (λ c. refl) (closing_ends x e)
+bracket_begins {x} {left} doc closer =
+    text_begins doc last.Close (toml_text_of x) (toml_text_of x) left closer.shown
+    (closing_whole x left closer.closes closer.sound) (λ c. refl) (closing_ends x closer.closes)
 
 pub value_begins : (doc : RefDoc) (l : Last) (s : List ℕ) (left vs : List (List ℕ)) → IsWholeLexeme s → IsValue l s left vs (ref_tree doc)
     → ShowsTaken false true (begun doc l) left (s ∷ vs)
@@ -102,55 +102,63 @@ nothing_needed last.Comma e = refl
 nothing_needed last.Remark e = absurd (cc)
 
 -- a bracket that closes nothing
-pub bracket_taken : (line : Line) (doc : RefDoc) (d : Tree) (x : Lexeme) (left taken : List (List ℕ)) → is_closing x ≡ true
-    → is_last_remark line.last ≡ false
-    → IsSound (toml_text_of x) left → shows d (Shown (toml_text_of x) ∷ []) → ShowsBoth (ref_tree line.doc) [] d (ref_tree doc)
+pub bracket_taken : {line : Line} {d : Tree} {x : Lexeme} {left taken : List (List ℕ)} (doc : RefDoc)
+    → ShowsClosing x left d → is_last_remark line.last ≡ false → ShowsBoth (ref_tree line.doc) [] d (ref_tree doc)
     → IsClosed false line (toml_text_of x) taken
     → ShowsTaken false true (begun doc last.Close) left (taken ++ toml_text_of x ∷ [])
-bracket_taken line doc d x left taken closes plain sound d_shows both h = record {
+bracket_taken {line} {x = x} {left = left} {taken = taken} doc closer plain both h = record {
   items = h.items ++ Shown (toml_text_of x) ∷ [];
   remark_items = h.items ++ Shown (toml_text_of x) ∷ [];
   rs = [];
-  shown = both h.items (Shown (toml_text_of x) ∷ []) h.shown d_shows;
-  remarks_shown = both h.items (Shown (toml_text_of x) ∷ []) h.shown d_shows;
+  shown = both h.items (Shown (toml_text_of x) ∷ []) h.shown closer.shown;
+  remarks_shown = both h.items (Shown (toml_text_of x) ∷ []) h.shown closer.shown;
   remarks = refl;
   read = λ a ready. one a (h.read a ready);
 }
   where
     needed : more (least_needed line.last (head (toml_text_of x))) shown.Nothing ≡ shown.Nothing
-    needed = rw (closing_head x closes line.last, nothing_needed line.last plain) refl
+    needed = rw (closing_head x closer.closes line.last, nothing_needed line.last plain) refl
 
     one : (a : Stage) → ClosedRead false line (toml_text_of x) taken h.items a → LineRead false true (begun doc last.Close) left
         (taken ++ toml_text_of x ∷ []) (h.items ++ Shown (toml_text_of x) ∷ []) [] a
     one a r =
         let k = with_lexeme r.collected (toml_text_of x) in
+        let next : MayFollow false line.last r.collected r.text r.marked gap.Nothing (toml_text_of x) = record {
+          ends = r.needs;
+          inside = tt;
+          suits = record { enough = needed; stays = λ e. refl };
+          whole = closing_whole x left closer.closes closer.sound;
+          closing = λ e. closing_role x closer.closes;
+        } in
         record {
           collected = k;
           text = toml_text_of x;
           read = read_both a (record { collected = r.collected; last = r.text; place = shown.after_text; marked = r.marked })
               (directly_after k (toml_text_of x)) h.items (Shown (toml_text_of x) ∷ []) r.read
-              (text_read false line.last r.collected r.text r.marked gap.Nothing (toml_text_of x) []
-              (directly_after k (toml_text_of x)) r.needs tt
-              needed (λ e. refl) (closing_whole x left closes sound) (λ e. closing_role x closes) refl);
+              (text_read [] (directly_after k (toml_text_of x)) next refl);
           same = r.same;
-          ends = inr (closing_ends x closes r.collected);
+          ends = inr (closing_ends x closer.closes r.collected);
           level = inr outside_brackets;
         }
 
 -- the end of a statement
-pub line_is_statement : (line : Line) (left taken : List (List ℕ)) → line.comma ≡ false → line.is_remarked ≡ false
+pub line_is_statement : (line : Line) (left taken : List (List ℕ)) → IsSettled line
     → ShowsTaken false true line left taken → IsStatement taken (ref_tree line.doc)
-line_is_statement line left taken none alone h = record { items = h.items; shown = h.shown; read = λ a ready. one a (h.read a ready) }
+line_is_statement line left taken settled h = record {
+  items = h.items;
+  shown = h.shown;
+  read = λ a ready. one a (h.read a ready);
+}
   where
     no_remarks : h.rs ≡ []
-    no_remarks = subst (λ (w : Bool). WaitingRemarks w false line.last h.rs h.remark_items) alone h.remarks
+    no_remarks = subst (λ (w : Bool). WaitingRemarks w false line.last h.rs h.remark_items) settled.no_remarks h.remarks
 
     one : (a : Stage) → LineRead false true line left taken h.items h.rs a → StatementRead taken h.items a
     one a r = record {
       collected = r.collected;
       text = r.text;
       read = r.read;
-      same = r.same ∙ ap (λ (w : Bool). with_lexemes r.collected (waiting w h.rs)) none
+      same = r.same ∙ ap (λ (w : Bool). with_lexemes r.collected (waiting w h.rs)) settled.no_comma
           ∙ ap (λ (rs : List (List ℕ)). with_lexemes r.collected rs) no_remarks;
     }
 

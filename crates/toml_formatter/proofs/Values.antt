@@ -26,8 +26,8 @@ use Rattle.toml_formatter.specs.Lines.{ShowsTaken}
 use Rattle.toml_formatter.specs.Lines.{ValueRead, IsValue, ClosedRead, IsClosed}
 use Rattle.std.proofs.lemmas.Bool.{eqb-true, or_cases}
 use Rattle.toml_statements.proofs.WholeLexemes.{quote_role, word_role}
-use Rattle.toml_formatter.proofs.LineLemmas.{hash_role}
-use Rattle.toml_formatter.proofs.Stages.{read_both, text_read}
+use Rattle.toml_formatter.proofs.LineLemmas.{hash_role, IsSettled}
+use Rattle.toml_formatter.proofs.Stages.{read_both, MayFollow, text_read}
 
 -- ---- what lexemes end as
 
@@ -162,26 +162,44 @@ opening_last (lexeme.Word s) e = absurd (cc)
 
 -- ---- lists
 
-pub list_closed : (x y : Lexeme) (line : Line) (gap : Between) (left taken : List (List ℕ)) (o front nested close doc whole : Tree)
-    → is_opening x ≡ true → is_closing y ≡ true → shows o (Shown (toml_text_of x) ∷ []) → shows close (Shown (toml_text_of y) ∷ [])
-    → ShowsBoth o [] (ref_tree line.doc) front → ShowsSame front nested → ShowsBoth nested (gap_items gap) close doc → ShowsSame doc whole
-    → more (least_needed line.last 93) (least_of gap) ≡ least_of gap → IsSound (toml_text_of y) left →
-    IsClosed true line (toml_text_of y) taken
+-- the document shows a bracket that opens a list
+pub record ShowsOpening (x : Lexeme) (d : Tree) : Type 0 where
+  pub opens : is_opening x ≡ true
+  pub shown : shows d (Shown (toml_text_of x) ∷ [])
+
+-- the document shows a closing bracket, and these lexemes are left after it
+pub record ShowsClosing (y : Lexeme) (left : List (List ℕ)) (d : Tree) : Type 0 where
+  pub closes : is_closing y ≡ true
+  pub sound : IsSound (toml_text_of y) left
+  pub shown : shows d (Shown (toml_text_of y) ∷ [])
+
+-- a bracket and the line after it, which are nested, and after a gap a closing bracket make the whole
+pub record MakesList (open_bracket line_doc : Tree) (gap : Between) (close_bracket whole : Tree) : Type 0 where
+  pub front : Tree
+  pub nested : Tree
+  pub all : Tree
+  pub front_shows : ShowsBoth open_bracket [] line_doc front
+  pub nested_shows : ShowsSame front nested
+  pub all_shows : ShowsBoth nested (gap_items gap) close_bracket all
+  pub whole_shows : ShowsSame all whole
+
+pub list_closed : {x y : Lexeme} {line : Line} {gap : Between} {left taken : List (List ℕ)} {o close whole : Tree}
+    → ShowsOpening x o → ShowsClosing y left close → MakesList o (ref_tree line.doc) gap close whole
+    → more (least_needed line.last 93) (least_of gap) ≡ least_of gap → IsClosed true line (toml_text_of y) taken
     → IsValue (last_after x) (toml_text_of x) left (taken ++ toml_text_of y ∷ []) whole
-list_closed x y line gap left taken o front nested close doc whole opens closes o_shows close_shows front_shows nested_shows doc_shows
-    whole_shows enough sound h = record {
-      items = h.items ++ (gap_items gap ++ Shown (toml_text_of y) ∷ []);
-      shown = whole_shows (Shown (toml_text_of x) ∷ (h.items ++ (gap_items gap ++ Shown (toml_text_of y) ∷ [])))
-          (doc_shows (Shown (toml_text_of x) ∷ h.items) (Shown (toml_text_of y) ∷ [])
-          (nested_shows (Shown (toml_text_of x) ∷ h.items) (front_shows
-          (Shown (toml_text_of x) ∷ []) h.items o_shows h.shown)) close_shows);
-      read = λ c. one c (h.read (directly_after (with_lexeme c (toml_text_of x)) (toml_text_of x)) (
-        with_lexeme c (toml_text_of x),
-        toml_text_of x,
-        refl,
-        opening_ends x opens c,
-      ));
-    }
+list_closed {x} {y} {line} {gap} {left} {taken} opener closer list enough h = record {
+  items = h.items ++ (gap_items gap ++ Shown (toml_text_of y) ∷ []);
+  shown = list.whole_shows (Shown (toml_text_of x) ∷ (h.items ++ (gap_items gap ++ Shown (toml_text_of y) ∷ [])))
+      (list.all_shows (Shown (toml_text_of x) ∷ h.items) (Shown (toml_text_of y) ∷ [])
+      (list.nested_shows (Shown (toml_text_of x) ∷ h.items)
+      (list.front_shows (Shown (toml_text_of x) ∷ []) h.items opener.shown h.shown)) closer.shown);
+  read = λ c. one c (h.read (directly_after (with_lexeme c (toml_text_of x)) (toml_text_of x)) (
+    with_lexeme c (toml_text_of x),
+    toml_text_of x,
+    refl,
+    opening_ends x opener.opens c,
+  ));
+}
   where
     clash : true ≡ false → ⊥
     clash e = cc
@@ -193,40 +211,48 @@ list_closed x y line gap left taken o front nested close doc whole opens closes 
     one c r =
         let a = directly_after (with_lexeme c (toml_text_of x)) (toml_text_of x) in
         let k = with_lexeme r.collected (toml_text_of y) in
-        let enough_there : more (least_needed line.last (head (toml_text_of y))) (least_of gap) ≡ least_of gap
-        = subst (λ (l : shown.Least). more l (least_of gap) ≡ least_of gap) (sym (closing_head y closes line.last)) enough in
+        let next : MayFollow true line.last r.collected r.text r.marked gap (toml_text_of y) = record {
+          ends = r.needs;
+          inside = r.inside;
+          suits = record {
+            enough =
+                subst (λ (l : shown.Least). more l (least_of gap) ≡ least_of gap)
+                (sym (closing_head y closer.closes line.last)) enough;
+            stays = λ e. absurd (clash e);
+          };
+          whole = closing_whole y left closer.closes closer.sound;
+          closing = λ e. closing_role y closer.closes;
+        } in
         record {
           collected = k;
           text = toml_text_of y;
           read = read_both a (record { collected = r.collected; last = r.text; place = shown.after_text; marked = r.marked })
               (directly_after k (toml_text_of y)) h.items (gap_items gap ++ Shown (toml_text_of y) ∷ []) r.read
-              (text_read true line.last r.collected r.text r.marked gap (toml_text_of y) []
-              (directly_after k (toml_text_of y)) r.needs r.inside
-              enough_there (λ e. absurd (clash e)) (closing_whole y left closes sound) (λ e. closing_role y closes) refl);
+              (text_read [] (directly_after k (toml_text_of y)) next refl);
           same = sym r.same;
           ends = inr (
-            subst (λ (l : Last). EndsCollected false l k (toml_text_of y)) (sym (opening_last x opens)) (closing_ends y closes r.collected),
-            opening_depth x opens c r.collected (r.level refl) y closes,
+            subst (λ (l : Last). EndsCollected false l k (toml_text_of y)) (sym (opening_last x opener.opens))
+                (closing_ends y closer.closes r.collected),
+            opening_depth x opener.opens c r.collected (r.level refl) y closer.closes,
           );
         }
 
-pub list_unclosed : (x : Lexeme) (line : Line) (taken : List (List ℕ)) (o whole : Tree)
-    → is_opening x ≡ true → shows o (Shown (toml_text_of x) ∷ []) → ShowsBoth o [] (ref_tree line.doc) whole
-    → line.comma ≡ false → line.is_remarked ≡ false → ShowsTaken true true line [] taken
+pub list_unclosed : {x : Lexeme} {line : Line} {taken : List (List ℕ)} {o : Tree} (whole : Tree)
+    → ShowsOpening x o → ShowsBoth o [] (ref_tree line.doc) whole → IsSettled line → ShowsTaken true true line [] taken
     → IsValue (last_after x) (toml_text_of x) [] taken whole
-list_unclosed x line taken o whole opens o_shows both none alone h = record {
+list_unclosed {x} {line} {taken} whole opener both settled h = record {
   items = h.items;
-  shown = both (Shown (toml_text_of x) ∷ []) h.items o_shows h.shown;
+  shown = both (Shown (toml_text_of x) ∷ []) h.items opener.shown h.shown;
   read = λ c. one c (h.read (directly_after (with_lexeme c (toml_text_of x)) (toml_text_of x)) (
     with_lexeme c (toml_text_of x),
     toml_text_of x,
     refl,
-    opening_ends x opens c,
+    opening_ends x opener.opens c,
   ));
 }
   where
     no_remarks : h.rs ≡ []
-    no_remarks = subst (λ (w : Bool). WaitingRemarks w true line.last h.rs h.remark_items) alone h.remarks
+    no_remarks = subst (λ (w : Bool). WaitingRemarks w true line.last h.rs h.remark_items) settled.no_remarks h.remarks
 
     one : (c : Collected) → LineRead true true line [] taken h.items h.rs (directly_after (with_lexeme c (toml_text_of x)) (toml_text_of x))
         → ValueRead (last_after x) (toml_text_of x) [] taken h.items c
@@ -234,7 +260,7 @@ list_unclosed x line taken o whole opens o_shows both none alone h = record {
       collected = r.collected;
       text = r.text;
       read = r.read;
-      same = sym (r.same ∙ ap (λ (w : Bool). with_lexemes r.collected (waiting w h.rs)) none
+      same = sym (r.same ∙ ap (λ (w : Bool). with_lexemes r.collected (waiting w h.rs)) settled.no_comma
           ∙ ap (λ (rs : List (List ℕ)). with_lexemes r.collected rs) no_remarks);
       ends = inl refl;
     }

@@ -11,7 +11,7 @@ use Rattle.toml_formatter.specs.Lines.{ShowsTaken, MayGoOn, begun}
 use Rattle.toml_formatter.specs.declared.line.Line.{Line}
 use Rattle.toml_formatter.proofs.LineLemmas.{trimmed_shows}
 use Rattle.toml_formatter.proofs.StatementLemmas.{bracket_begins, comma_begins, part_of, remark_begins, value_begins}
-use Rattle.toml_formatter.proofs.Values.{closing_shows, part_whole, remark_whole}
+use Rattle.toml_formatter.proofs.Values.{closing_shows, part_whole, remark_whole, ShowsClosing}
 use Rattle.toml_formatter.proofs.statement.begun.Goals as goal
 
 pub value-requires-clause-part : goal.value-requires-clause-part
@@ -22,12 +22,17 @@ pub returns-then-closes-clause-line : goal.returns-then-closes-clause-line
 returns-then-closes-clause-line c =
     let x = c.args.first in
     let ls = c.args.lexemes.now in
-    let closing : is_closing x ≡ true = sym c.closes.ensures ∙ c.if-closes.true in (
+    let d = ref_tree c.in_ok-bracket.bracket in
+    let closing : is_closing x ≡ true = sym c.closes.ensures ∙ c.if-closes.true in
+    let closer : ShowsClosing x ls d = record {
+      closes = closing;
+      sound = c.requires.sound;
+      shown = closing_shows x d c.text.result.now closing c.text.ensures c.in_ok-bracket.ensures.items;
+    } in (
       toml_text_of x ∷ [],
       refl,
       subst (λ (l : Line). ShowsTaken false true l ls (toml_text_of x ∷ [])) (sym c.begun.ensures)
-          (bracket_begins c.in_ok-bracket.bracket x ls closing c.requires.sound
-          (closing_shows x (ref_tree c.in_ok-bracket.bracket) c.text.result.now closing c.text.ensures c.in_ok-bracket.ensures.items)),
+          (bracket_begins c.in_ok-bracket.bracket closer),
     )
 
 pub returns-in_ok-text-in-Comma-clause-line : goal.returns-in_ok-text-in-Comma-clause-line

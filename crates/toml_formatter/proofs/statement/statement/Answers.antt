@@ -1,6 +1,7 @@
 use Rattle.std.proofs.Common.{sym, ◌∙◌, ap, subst, true, false, ◌++◌, List, ℕ, inl, inr, append_assoc, append-nil, arith, length}
 use Rattle.std.proofs.Common.{length-append}
 use Rattle.toml_formatter.specs.Lines.{ShowsTaken}
+use Rattle.toml_formatter.proofs.LineLemmas.{IsSettled}
 use Rattle.toml_formatter.proofs.StatementLemmas.{line_is_statement, may_settle}
 use Rattle.toml_formatter.proofs.statement.statement.Goals as goal
 
@@ -20,10 +21,12 @@ pub returns-clause-made : goal.returns-clause-made
 returns-clause-made c =
     let before = c.loop-next.invariant in
     let ls = c.loop-next.lexemes in
-    let settled = c.in_ok-settled.ensures in
-    let line = settled.line false true ls before.0 (may_settle c.loop-next.line ls before.3) before.2 in (
+    let after = c.in_ok-settled.ensures in
+    let line = c.in_ok-settled.field-0 in
+    let settled : IsSettled line = record { no_comma = after.no_comma; no_remarks = after.no_remarks } in
+    let shown = after.line false true ls before.0 (may_settle c.loop-next.line ls before.3) before.2 in (
       before.0,
-      line_is_statement c.in_ok-settled.field-0 ls before.0 settled.no_comma settled.no_remarks line,
+      line_is_statement line ls before.0 settled shown,
       elim c.in_default.ensures.none [
         | inl p ↦ inr (before.1 ∙ ap (λ (ss : List (List ℕ)). before.0 ++ ss) p.0 ∙ append-nil before.0, p.1)
         | inr p ↦ inl (before.1 ∙ ap (λ (ss : List (List ℕ)). before.0 ++ ss) p)

@@ -1,14 +1,15 @@
 use Rattle.std.proofs.Common.{false, ◌∷◌}
-use Rattle.toml_formatter.proofs.LineLemmas.{closed_marked, closed_plain, comma_changed}
+use Rattle.toml_formatter.proofs.LineLemmas.{closed_marked, closed_plain, comma_changed, IsSettled}
 use Rattle.toml_formatter.specs.Gaps.{is_nested}
 use Rattle.toml_formatter.proofs.line.Line.closed.Goals as goal
 
 pub returns-then-may_trail-clause-closed : goal.returns-then-may_trail-clause-closed
 returns-then-may_trail-clause-closed c = λ x left taken closing h.
     let n = is_nested c.args.kind in
-    let settled = c.in_ok-line.ensures in
-    closed_marked n c.in_ok-line.line x left taken closing settled.no_comma settled.no_remarks
-    (settled.line n false (x ∷ left) taken (λ e k. c.requires e)
+    let after = c.in_ok-line.ensures in
+    let settled : IsSettled c.in_ok-line.line = record { no_comma = after.no_comma; no_remarks = after.no_remarks } in
+    closed_marked n c.in_ok-line.line x left taken closing settled
+    (after.line n false (x ∷ left) taken (λ e k. c.requires e)
     (comma_changed n c.args.self c.keeps_comma.result x left taken c.keeps_comma.ensures h))
     c.in_ok-doc.doc (c.may_trail.ensures.nested c.if-may_trail.true) (c.may_trail.ensures.plain c.if-may_trail.true)
     c.in_ok-doc.ensures.items
@@ -16,7 +17,8 @@ returns-then-may_trail-clause-closed c = λ x left taken closing h.
 pub returns-clause-closed : goal.returns-clause-closed
 returns-clause-closed c = λ x left taken closing h.
     let n = is_nested c.args.kind in
-    let settled = c.in_ok-line.ensures in
-    closed_plain n c.in_ok-line.line x left taken closing settled.no_comma settled.no_remarks
-    (settled.line n false (x ∷ left) taken (λ e k. c.requires e)
+    let after = c.in_ok-line.ensures in
+    let settled : IsSettled c.in_ok-line.line = record { no_comma = after.no_comma; no_remarks = after.no_remarks } in
+    closed_plain n c.in_ok-line.line x left taken closing settled
+    (after.line n false (x ∷ left) taken (λ e k. c.requires e)
     (comma_changed n c.args.self c.keeps_comma.result x left taken c.keeps_comma.ensures h))
