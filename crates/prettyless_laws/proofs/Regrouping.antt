@@ -139,7 +139,8 @@ lay_right o {brk} k (OnNesting test x y) i m r s st h =
 lay_right o k _ i Break r s st h = refl
 lay_right o k _ i Flat r s st h = refl
 
-alike_rights : (i : ℕ) (ds : List Tree) (r s : List Entry) → FollowAlike s r → FollowAlike (entries i (map right ds) ++ s) (entries i ds ++ r)
+alike_rights : (i : ℕ) (ds : List Tree) (r s : List Entry) → FollowAlike s r
+    → FollowAlike (entries i (map right ds) ++ s) (entries i ds ++ r)
 alike_rights i [] r s h = h
 alike_rights i (d ∷ ds) r s h = alike_after i (right d) d (entries i (map right ds) ++ s) (entries i ds ++ r)
     (λ w c p. right_looks d w i Break c p) (alike_rights i ds r s h)

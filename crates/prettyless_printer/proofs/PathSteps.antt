@@ -375,7 +375,8 @@ run_ends fails {b} x p l = record {
 }
 
 -- what ends in an error where no document fails, does so where some may
-pub error_anyhow : {E : Type 0} (fails : E → Type 0) {r : Run} {b : Point} (e : RenderError E) → RunError (λ _. ⊥) r e b → RunError fails r e b
+pub error_anyhow : {E : Type 0} (fails : E → Type 0) {r : Run} {b : Point} (e : RenderError E) → RunError (λ _. ⊥) r e b
+    → RunError fails r e b
 error_anyhow fails (Document e) h = record {
   same_lender = h.same_lender;
   bytes = λ is_known. absurd ((h.bytes is_known).1.4);

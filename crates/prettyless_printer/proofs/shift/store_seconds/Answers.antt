@@ -38,8 +38,8 @@ trials-preserved g c =
       within = omega (arith, within);
       count = omega (arith, c.trials.invariant.count, c.in_ok-add.ensures.count);
       grows = grows_then f c.args.table.now.cells.items old new c.trials.invariant.grows c.add.ensures.grows;
-      first = node_more f c.add.ensures.grows c.in_ok-add.ensures.stored c.in_ok-push.ensures.items (ap (λ us. seconds (all_held f us)) read)
-          c.trials.invariant.first;
+      first = node_more f c.add.ensures.grows c.in_ok-add.ensures.stored c.in_ok-push.ensures.items
+          (ap (λ us. seconds (all_held f us)) read) c.trials.invariant.first;
       stand = c.in_ok-add.ensures.later (seconds (all_held f later))
           (subst (λ us. Stand old (seconds (all_held f us)) c.trials.waiting.items) read c.trials.invariant.stand);
     }
