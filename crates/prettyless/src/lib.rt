@@ -2,9 +2,9 @@
 //!
 //! A document is a tree of [`Doc`] nodes; each child is reached by a pointer, a [`DocPtr`]. A [`DocPlace`] is where nodes
 //! are put, which the Rust crate calls an allocator. Every place has the calls of [`DocAllocator`], which start documents,
-//! and a [`DocBuilder`] makes larger ones of them. A parameter `alloc` is memory; `place`, in some signatures
-//! `allocator`, is a place of nodes. A document is rendered with [`RenderOptions`] to a byte writer, to a [`TextWriter`],
-//! or to any sink that is [`Render`]; [`PrettyFmt`] prints it.
+//! and a [`DocBuilder`] makes larger ones of them. A parameter `alloc` is memory; `place` is a place of nodes. A document
+//! is rendered with [`RenderOptions`] to a byte writer, to a [`TextWriter`], or to any sink that is [`Render`];
+//! [`PrettyFmt`] prints it.
 //!
 //! A document is laid broken or flat: broken at first, flat in a group that fits and under `flatten`. A line is fresh
 //! while it has nothing but its indent. A line suffix is pending until its line ends.

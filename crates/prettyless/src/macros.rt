@@ -5,7 +5,7 @@ ghost use Rattle.prettyless_build.specs.Built.{joined, refused};
 use prettyless_build::{DocBuilder, Pretty};
 use prettyless_doc::{BuildError, DocPlace};
 
-/// The documents, appended in order, as a `Result` of a builder: `docs![allocator, first, rest..]`.
+/// The documents, appended in order, as a `Result` of a builder: `docs![place, first, rest..]`.
 ///
 /// An operand is evaluated and becomes a document after those before it, and not where one of them was
 /// refused. An error is one that an operand answers, or memory was refused. `Pretty` need not be in scope.
@@ -15,11 +15,11 @@ use prettyless_doc::{BuildError, DocPlace};
 /// ```
 #[macro_export]
 macro_rules! docs {
-    ($allocator:expr, $first:expr $(,)?) => {
-        $crate::Pretty::pretty($first, $allocator)
+    ($place:expr, $first:expr $(,)?) => {
+        $crate::Pretty::pretty($first, $place)
     };
-    ($allocator:expr, $first:expr, $($rest:expr),+ $(,)?) => {
-        match $crate::Pretty::pretty($first, $allocator) {
+    ($place:expr, $first:expr, $($rest:expr),+ $(,)?) => {
+        match $crate::Pretty::pretty($first, $place) {
             Ok(doc) => $crate::docs_onto!(doc, $($rest),+),
             Err(error) => Err(error),
         }

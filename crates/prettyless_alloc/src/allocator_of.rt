@@ -1,4 +1,4 @@
-//! The calls of an allocator that take a document.
+//! The calls of a place of nodes that take a document.
 ghost use Rattle.std.specs.Prelude.{IfOk, IfErr};
 ghost use Rattle.prettyless_doc.specs.Tree.{Nil, LineSuffix, BreakOrFlat};
 ghost use Rattle.prettyless_doc.specs.DocTree.{built};
@@ -11,7 +11,7 @@ use prettyless_doc::{BuildError, Doc, DocPlace};
 /// `pretty` also fail where memory is refused.
 ///
 /// `P` is a parameter of the trait and not of its calls, which cannot bind a type to the trait's lifetime.
-/// It follows from the operand: `allocator.line_suffix(doc)` is written without it.
+/// It follows from the operand: `place.line_suffix(doc)` is written without it.
 pub trait DocAllocatorOf<'a, P: Pretty<'a, Self>>: DocPlace<'a> {
     /// The document that it becomes. Only the making of it can fail.
     ///

@@ -1,4 +1,4 @@
-//! The calls of an allocator that take two documents.
+//! The calls of a place of nodes that take two documents.
 ghost use Rattle.prettyless_doc.specs.Tree.{OnColumn, OnNesting};
 ghost use Rattle.prettyless_doc.specs.DocTree.{built};
 ghost use Rattle.prettyless_doc.specs.Parts.{of_two};

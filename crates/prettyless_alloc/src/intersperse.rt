@@ -100,12 +100,12 @@ where
         (built D.Doc.tree b.1)) }
     ensures err { IfErr result (λ e. IsMemory e ⊎ GivesNext I.next_gives items (λ x. I.Item.refuses x e)) }
 {
-    let allocator = all.0;
+    let place = all.0;
     let mut all = all;
     let mut last = last;
     for item in items {
-        let doc = item.pretty(allocator)?;
-        let copy = allocator.clone_ptr(&gap)?;
+        let doc = item.pretty(place)?;
+        let copy = place.clone_ptr(&gap)?;
         all = join_after(all, copy, last)?;
         last = doc;
     }

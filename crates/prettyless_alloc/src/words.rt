@@ -19,8 +19,8 @@ impl<'a, D: DocPlace<'a>> Pretty<'a, D> for SoftLine {
 
     ghost refuses = { λ _. IsMemory };
 
-    fn pretty(self, allocator: &'a D) -> Result<DocBuilder<'a, D>, BuildError> {
-        allocator.softline()
+    fn pretty(self, place: &'a D) -> Result<DocBuilder<'a, D>, BuildError> {
+        place.softline()
     }
 }
 

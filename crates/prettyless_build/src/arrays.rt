@@ -13,8 +13,8 @@ impl<'a, D: DocPlace<'a>, T: Pretty<'a, D> + Copy, const N: usize> Pretty<'a, D>
 
     ghost refuses = { λ xs e. Any (λ x. T.refuses x e) xs ⊎ IsMemory e };
 
-    fn pretty(self, allocator: &'a D) -> Result<DocBuilder<'a, D>, BuildError> {
-        let mut all = DocBuilder::new(allocator, Doc::Nil);
+    fn pretty(self, place: &'a D) -> Result<DocBuilder<'a, D>, BuildError> {
+        let mut all = DocBuilder::new(place, Doc::Nil);
         for item in &self {
             all = all.append(*item)?;
         }

@@ -28,10 +28,10 @@ impl<'a, D: DocPlace<'a>> DocBuilder<'a, D> {
     /// DocBuilder::new(place, Doc::HardLine) // "\n"
     /// ```
     #[inline(always)]
-    pub fn new(allocator: &'a D, doc: Doc<'a, D::Doc>) -> Self
+    pub fn new(place: &'a D, doc: Doc<'a, D::Doc>) -> Self
         ensures { result.1 ≡ Plain doc.entry }
     {
-        DocBuilder(allocator, BuildDoc::Doc(doc))
+        DocBuilder(place, BuildDoc::Doc(doc))
     }
 
     /// The document that a pointer leads to, which takes no memory: `into_doc` gives the pointer back.
@@ -40,11 +40,11 @@ impl<'a, D: DocPlace<'a>> DocBuilder<'a, D> {
     /// DocBuilder::from_doc(place, pointer) // the document of the pointer
     /// ```
     #[inline(always)]
-    pub fn from_doc(allocator: &'a D, pointer: D::Doc) -> Self
+    pub fn from_doc(place: &'a D, pointer: D::Doc) -> Self
         ensures tree { built D.Doc.tree result.1 ≡ D.Doc.tree pointer }
         ensures placed { result.1 ≡ Placed pointer }
     {
-        DocBuilder(allocator, BuildDoc::DocPtr(pointer))
+        DocBuilder(place, BuildDoc::DocPtr(pointer))
     }
 
     /// The node, wherever it is.
@@ -69,7 +69,7 @@ impl<'a, D: DocPlace<'a>> DocBuilder<'a, D> {
     {
         match self {
             DocBuilder(_, BuildDoc::DocPtr(pointer)) => Ok(pointer),
-            DocBuilder(allocator, BuildDoc::Doc(doc)) => allocator.alloc(doc),
+            DocBuilder(place, BuildDoc::Doc(doc)) => place.alloc(doc),
         }
     }
 
@@ -102,10 +102,10 @@ impl<'a, D: DocPlace<'a>> DocBuilder<'a, D> {
         if that.doc().is_nil() {
             return Ok(self);
         }
-        let allocator = self.0;
+        let place = self.0;
         let left = self.into_doc()?;
         let right = that.into_doc()?;
-        Ok(DocBuilder::new(allocator, Doc::Append(left, right)))
+        Ok(DocBuilder::new(place, Doc::Append(left, right)))
     }
 
     /// This document, then `that`. Where one of them is nothing it is the other as it is, and only the making of `that`
@@ -145,9 +145,9 @@ impl<'a, D: DocPlace<'a>> DocBuilder<'a, D> {
             | Doc::MultilineText(_)
             | Doc::Group(_) => Ok(self),
             _ => {
-                let allocator = self.0;
+                let place = self.0;
                 let inner = self.into_doc()?;
-                Ok(DocBuilder::new(allocator, Doc::Group(inner)))
+                Ok(DocBuilder::new(place, Doc::Group(inner)))
             }
         }
     }

@@ -27,10 +27,10 @@ impl<'a, D: DocPlace<'a>> DocBuilder<'a, D> {
             0 => Ok(DocBuilder::new(self.0, Doc::Nil)),
             1 => Ok(self),
             _ => {
-                let allocator = self.0;
+                let place = self.0;
                 let original = self.into_doc()?;
-                let front = copies(allocator, &original, count - 2)?;
-                let last = DocBuilder::from_doc(allocator, original);
+                let front = copies(place, &original, count - 2)?;
+                let last = DocBuilder::from_doc(place, original);
                 of_two(Pair::Append, front, last)
             }
         }
@@ -50,16 +50,16 @@ impl<'a, D: DocPlace<'a>> DocBuilder<'a, D> {
 
 // A copy of the document, and so many more after it.
 fn copies<'a, D: DocPlace<'a>>(
-    allocator: &'a D,
+    place: &'a D,
     original: &D::Doc,
     more: usize,
 ) -> Result<DocBuilder<'a, D>, BuildError>
     ensures ok { IfOk result (λ b. built D.Doc.tree b.1 ≡ to.chain more (D.Doc.tree original.now)) }
     ensures err { IfErr result IsMemory }
 {
-    let mut all = DocBuilder::from_doc(allocator, allocator.clone_ptr(original)?);
+    let mut all = DocBuilder::from_doc(place, place.clone_ptr(original)?);
     for _ in 0..more {
-        let copy = DocBuilder::from_doc(allocator, allocator.clone_ptr(original)?);
+        let copy = DocBuilder::from_doc(place, place.clone_ptr(original)?);
         all = of_two(Pair::Append, all, copy)?;
     }
     Ok(all)

@@ -28,9 +28,9 @@ impl<'a, D: DocPlace<'a>> DocBuilder<'a, D> {
             × ((x : Tree) × (y : Tree) × B.becomes before x × A.becomes after y
             × to.IsNodeNeeded x (built D.Doc.tree self.entry.1) y))) }
     {
-        let allocator = self.0;
-        let before = Pretty::pretty(before, allocator);
-        let after = Pretty::pretty(after, allocator);
+        let place = self.0;
+        let before = Pretty::pretty(before, place);
+        let after = Pretty::pretty(after, place);
         let (before, after) = (before?, after?);
         before.join(self)?.join(after)
     }
@@ -40,9 +40,9 @@ impl<'a, D: DocPlace<'a>> DocBuilder<'a, D> {
         ensures { to.Builds result (λ b. built D.Doc.tree b.1)
             (to.enclose (TextTree before.now) (built D.Doc.tree self.entry.1) (TextTree after.now)) }
     {
-        let allocator = self.0;
-        let before = DocBuilder::new(allocator, Doc::Text(Text::Borrowed(before)));
-        let after = DocBuilder::new(allocator, Doc::Text(Text::Borrowed(after)));
+        let place = self.0;
+        let before = DocBuilder::new(place, Doc::Text(Text::Borrowed(before)));
+        let after = DocBuilder::new(place, Doc::Text(Text::Borrowed(after)));
         before.join(self)?.join(after)
     }
 

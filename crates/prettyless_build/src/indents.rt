@@ -24,9 +24,9 @@ impl<'a, D: DocPlace<'a>> DocBuilder<'a, D> {
         if offset == 0 || self.doc().is_nil() {
             return Ok(self);
         }
-        let allocator = self.0;
+        let place = self.0;
         let inner = self.into_doc()?;
-        Ok(DocBuilder::new(allocator, Doc::Nest(offset, inner)))
+        Ok(DocBuilder::new(place, Doc::Nest(offset, inner)))
     }
 
     /// This document with its indent moved right by so many columns, which have to be at most `isize::MAX`. By 0, or where it

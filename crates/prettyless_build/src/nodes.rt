@@ -19,9 +19,9 @@ pub fn around<'a, D: DocPlace<'a>>(
 ) -> Result<DocBuilder<'a, D>, BuildError>
     ensures { to.Builds result (λ b. built D.Doc.tree b.1) (around kind (built D.Doc.tree inner.entry.1)) }
 {
-    let allocator = inner.0;
+    let place = inner.0;
     let inner = inner.into_doc()?;
-    Ok(DocBuilder::new(allocator, kind.around(inner)))
+    Ok(DocBuilder::new(place, kind.around(inner)))
 }
 
 /// A node of this kind of the two documents. It fails where memory is refused.
@@ -38,8 +38,8 @@ pub fn of_two<'a, D: DocPlace<'a>>(
     ensures { to.Builds result (λ b. built D.Doc.tree b.1)
         (of_two kind (built D.Doc.tree first.entry.1) (built D.Doc.tree second.entry.1)) }
 {
-    let allocator = first.0;
+    let place = first.0;
     let first = first.into_doc()?;
     let second = second.into_doc()?;
-    Ok(DocBuilder::new(allocator, kind.of(first, second)))
+    Ok(DocBuilder::new(place, kind.of(first, second)))
 }

@@ -14,12 +14,12 @@ pub trait Pretty<'a, D: DocPlace<'a>> {
     // the errors that it may answer in place of a tree
     ghost refuses: { Self → BuildError → Type 0 };
 
-    /// The document that it becomes, in `allocator`. Where it fails, by an error that `refuses` names, the value is given up.
+    /// The document that it becomes, in `place`. Where it fails, by an error that `refuses` names, the value is given up.
     ///
     /// ```
     /// Pretty::pretty("a", place)? // "a"
     /// ```
-    fn pretty(self, allocator: &'a D) -> Result<DocBuilder<'a, D>, BuildError>
+    fn pretty(self, place: &'a D) -> Result<DocBuilder<'a, D>, BuildError>
         ensures ok { IfOk result (λ b. becomes self (built D.Doc.tree b.1)) }
         ensures err { IfErr result (refuses self) };
 }
@@ -31,8 +31,8 @@ impl<'a, D: DocPlace<'a>> Pretty<'a, D> for Doc<'a, D::Doc> {
     ghost refuses = { λ _ _. ⊥ };
 
     #[inline(always)]
-    fn pretty(self, allocator: &'a D) -> Result<DocBuilder<'a, D>, BuildError> {
-        Ok(DocBuilder::new(allocator, self))
+    fn pretty(self, place: &'a D) -> Result<DocBuilder<'a, D>, BuildError> {
+        Ok(DocBuilder::new(place, self))
     }
 }
 
@@ -43,12 +43,12 @@ impl<'a, D: DocPlace<'a>> Pretty<'a, D> for BuildDoc<'a, D::Doc> {
     ghost refuses = { λ _ _. ⊥ };
 
     #[inline(always)]
-    fn pretty(self, allocator: &'a D) -> Result<DocBuilder<'a, D>, BuildError> {
-        Ok(DocBuilder(allocator, self))
+    fn pretty(self, place: &'a D) -> Result<DocBuilder<'a, D>, BuildError> {
+        Ok(DocBuilder(place, self))
     }
 }
 
-/// Itself, in the allocator that it has. It takes no memory.
+/// Itself, in the place of nodes that it has. It takes no memory.
 impl<'a, D: DocPlace<'a>> Pretty<'a, D> for DocBuilder<'a, D> {
     ghost becomes = { λ b y. y ≡ built D.Doc.tree b.1 };
 
@@ -67,10 +67,10 @@ impl<'a, D: DocPlace<'a>, T: Pretty<'a, D>> Pretty<'a, D> for Option<T> {
     ghost refuses = { λ o e. MatchOption o ⊥ (λ v. T.refuses v e) };
 
     #[inline(always)]
-    fn pretty(self, allocator: &'a D) -> Result<DocBuilder<'a, D>, BuildError> {
+    fn pretty(self, place: &'a D) -> Result<DocBuilder<'a, D>, BuildError> {
         match self {
-            Some(value) => value.pretty(allocator),
-            None => Ok(DocBuilder::new(allocator, Doc::Nil)),
+            Some(value) => value.pretty(place),
+            None => Ok(DocBuilder::new(place, Doc::Nil)),
         }
     }
 }
@@ -82,7 +82,7 @@ impl<'a, D: DocPlace<'a>> Pretty<'a, D> for () {
     ghost refuses = { λ _ _. ⊥ };
 
     #[inline(always)]
-    fn pretty(self, allocator: &'a D) -> Result<DocBuilder<'a, D>, BuildError> {
-        Ok(DocBuilder::new(allocator, Doc::Nil))
+    fn pretty(self, place: &'a D) -> Result<DocBuilder<'a, D>, BuildError> {
+        Ok(DocBuilder::new(place, Doc::Nil))
     }
 }

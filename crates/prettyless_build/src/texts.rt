@@ -1,4 +1,4 @@
-//! Texts become documents as `text` of an allocator makes them. Only an owned one takes memory.
+//! Texts become documents as `text` of a place of nodes makes them. Only an owned one takes memory.
 ghost use Rattle.std.specs.Prelude.{◌≡◌};
 ghost use Rattle.std.specs.Cow.{cow_str_bytes};
 ghost use Rattle.std.specs.String.{string_bytes};
@@ -17,9 +17,9 @@ impl<'a, D: DocPlace<'a>> Pretty<'a, D> for CowStr<'a> {
     ghost refuses = { λ s e. IsOwnedAnd s (IsMemory e) };
 
     #[inline(always)]
-    fn pretty(self, allocator: &'a D) -> Result<DocBuilder<'a, D>, BuildError> {
-        let doc = Doc::text(allocator.memory(), self)?;
-        Ok(DocBuilder::new(allocator, doc))
+    fn pretty(self, place: &'a D) -> Result<DocBuilder<'a, D>, BuildError> {
+        let doc = Doc::text(place.memory(), self)?;
+        Ok(DocBuilder::new(place, doc))
     }
 }
 
@@ -29,8 +29,8 @@ impl<'a, D: DocPlace<'a>> Pretty<'a, D> for &'a str {
     ghost refuses = { λ _ _. ⊥ };
 
     #[inline(always)]
-    fn pretty(self, allocator: &'a D) -> Result<DocBuilder<'a, D>, BuildError> {
-        CowStr::Borrowed(self).pretty(allocator)
+    fn pretty(self, place: &'a D) -> Result<DocBuilder<'a, D>, BuildError> {
+        CowStr::Borrowed(self).pretty(place)
     }
 }
 
@@ -40,8 +40,8 @@ impl<'a, D: DocPlace<'a>> Pretty<'a, D> for &'a String {
     ghost refuses = { λ _ _. ⊥ };
 
     #[inline(always)]
-    fn pretty(self, allocator: &'a D) -> Result<DocBuilder<'a, D>, BuildError> {
-        CowStr::Borrowed(self.as_str()).pretty(allocator)
+    fn pretty(self, place: &'a D) -> Result<DocBuilder<'a, D>, BuildError> {
+        CowStr::Borrowed(self.as_str()).pretty(place)
     }
 }
 
@@ -51,7 +51,7 @@ impl<'a, D: DocPlace<'a>> Pretty<'a, D> for String {
     ghost refuses = { λ _ e. IsMemory e };
 
     #[inline(always)]
-    fn pretty(self, allocator: &'a D) -> Result<DocBuilder<'a, D>, BuildError> {
-        CowStr::Owned(self).pretty(allocator)
+    fn pretty(self, place: &'a D) -> Result<DocBuilder<'a, D>, BuildError> {
+        CowStr::Owned(self).pretty(place)
     }
 }

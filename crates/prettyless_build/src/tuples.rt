@@ -16,7 +16,7 @@ use prettyless_doc::{BuildError, DocPlace};
 // the shorter one by itself, since to pass that as a parameter costs a proof of what it is.
 #[inline]
 fn then<'a, D: DocPlace<'a>, Y: Pretty<'a, D>>(
-    allocator: &'a D,
+    place: &'a D,
     front: Result<DocBuilder<'a, D>, BuildError>,
     last: Y,
 ) -> Result<DocBuilder<'a, D>, BuildError>
@@ -24,7 +24,7 @@ fn then<'a, D: DocPlace<'a>, Y: Pretty<'a, D>>(
         × (built D.Doc.tree b.1 ≡ append (built D.Doc.tree f.1) y))) }
     ensures err { IfErr result (λ e. IsErrAnd front.entry (λ f. f ≡ e) ⊎ Y.refuses last e ⊎ IsMemory e) }
 {
-    let last = last.pretty(allocator);
+    let last = last.pretty(place);
     front?.join(last?)
 }
 
@@ -33,9 +33,9 @@ impl<'a, D: DocPlace<'a>, Field1: Pretty<'a, D>> Pretty<'a, D> for (Field1,) {
 
     ghost refuses = { λ t. Field1.refuses t.0 };
 
-    fn pretty(self, allocator: &'a D) -> Result<DocBuilder<'a, D>, BuildError> {
+    fn pretty(self, place: &'a D) -> Result<DocBuilder<'a, D>, BuildError> {
         let (t1,) = self;
-        t1.pretty(allocator)
+        t1.pretty(place)
     }
 }
 
@@ -45,9 +45,9 @@ impl<'a, D: DocPlace<'a>, Field1: Pretty<'a, D>, Field2: Pretty<'a, D>> Pretty<'
 
     ghost refuses = { λ t. refused (Field1.refuses t.0) (Field2.refuses t.1) };
 
-    fn pretty(self, allocator: &'a D) -> Result<DocBuilder<'a, D>, BuildError> {
+    fn pretty(self, place: &'a D) -> Result<DocBuilder<'a, D>, BuildError> {
         let (t1, t2) = self;
-        then(allocator, t1.pretty(allocator), t2)
+        then(place, t1.pretty(place), t2)
     }
 }
 
@@ -62,9 +62,9 @@ impl<
 
     ghost refuses = { λ t. refused (refused (Field1.refuses t.0) (Field2.refuses t.1)) (Field3.refuses t.2) };
 
-    fn pretty(self, allocator: &'a D) -> Result<DocBuilder<'a, D>, BuildError> {
+    fn pretty(self, place: &'a D) -> Result<DocBuilder<'a, D>, BuildError> {
         let (t1, t2, t3) = self;
-        then(allocator, (t1, t2).pretty(allocator), t3)
+        then(place, (t1, t2).pretty(place), t3)
     }
 }
 
@@ -82,9 +82,9 @@ impl<
         refused (refused (refused
         (Field1.refuses t.0) (Field2.refuses t.1)) (Field3.refuses t.2)) (Field4.refuses t.3) };
 
-    fn pretty(self, allocator: &'a D) -> Result<DocBuilder<'a, D>, BuildError> {
+    fn pretty(self, place: &'a D) -> Result<DocBuilder<'a, D>, BuildError> {
         let (t1, t2, t3, t4) = self;
-        then(allocator, (t1, t2, t3).pretty(allocator), t4)
+        then(place, (t1, t2, t3).pretty(place), t4)
     }
 }
 
@@ -105,9 +105,9 @@ impl<
         refused (refused (refused (refused
         (Field1.refuses t.0) (Field2.refuses t.1)) (Field3.refuses t.2)) (Field4.refuses t.3)) (Field5.refuses t.4) };
 
-    fn pretty(self, allocator: &'a D) -> Result<DocBuilder<'a, D>, BuildError> {
+    fn pretty(self, place: &'a D) -> Result<DocBuilder<'a, D>, BuildError> {
         let (t1, t2, t3, t4, t5) = self;
-        then(allocator, (t1, t2, t3, t4).pretty(allocator), t5)
+        then(place, (t1, t2, t3, t4).pretty(place), t5)
     }
 }
 
@@ -131,9 +131,9 @@ impl<
         (Field1.refuses t.0) (Field2.refuses t.1)) (Field3.refuses t.2)) (Field4.refuses t.3)) (Field5.refuses t.4))
         (Field6.refuses t.5) };
 
-    fn pretty(self, allocator: &'a D) -> Result<DocBuilder<'a, D>, BuildError> {
+    fn pretty(self, place: &'a D) -> Result<DocBuilder<'a, D>, BuildError> {
         let (t1, t2, t3, t4, t5, t6) = self;
-        then(allocator, (t1, t2, t3, t4, t5).pretty(allocator), t6)
+        then(place, (t1, t2, t3, t4, t5).pretty(place), t6)
     }
 }
 
@@ -158,9 +158,9 @@ impl<
         (Field1.refuses t.0) (Field2.refuses t.1)) (Field3.refuses t.2)) (Field4.refuses t.3)) (Field5.refuses t.4))
         (Field6.refuses t.5)) (Field7.refuses t.6) };
 
-    fn pretty(self, allocator: &'a D) -> Result<DocBuilder<'a, D>, BuildError> {
+    fn pretty(self, place: &'a D) -> Result<DocBuilder<'a, D>, BuildError> {
         let (t1, t2, t3, t4, t5, t6, t7) = self;
-        then(allocator, (t1, t2, t3, t4, t5, t6).pretty(allocator), t7)
+        then(place, (t1, t2, t3, t4, t5, t6).pretty(place), t7)
     }
 }
 
@@ -196,11 +196,11 @@ impl<
         (Field1.refuses t.0) (Field2.refuses t.1)) (Field3.refuses t.2)) (Field4.refuses t.3)) (Field5.refuses t.4))
         (Field6.refuses t.5)) (Field7.refuses t.6)) (Field8.refuses t.7) };
 
-    fn pretty(self, allocator: &'a D) -> Result<DocBuilder<'a, D>, BuildError> {
+    fn pretty(self, place: &'a D) -> Result<DocBuilder<'a, D>, BuildError> {
         let (t1, t2, t3, t4, t5, t6, t7, t8) = self;
         then(
-            allocator,
-            (t1, t2, t3, t4, t5, t6, t7).pretty(allocator),
+            place,
+            (t1, t2, t3, t4, t5, t6, t7).pretty(place),
             t8,
         )
     }
@@ -240,11 +240,11 @@ impl<
         (Field1.refuses t.0) (Field2.refuses t.1)) (Field3.refuses t.2)) (Field4.refuses t.3)) (Field5.refuses t.4))
         (Field6.refuses t.5)) (Field7.refuses t.6)) (Field8.refuses t.7)) (Field9.refuses t.8) };
 
-    fn pretty(self, allocator: &'a D) -> Result<DocBuilder<'a, D>, BuildError> {
+    fn pretty(self, place: &'a D) -> Result<DocBuilder<'a, D>, BuildError> {
         let (t1, t2, t3, t4, t5, t6, t7, t8, t9) = self;
         then(
-            allocator,
-            (t1, t2, t3, t4, t5, t6, t7, t8).pretty(allocator),
+            place,
+            (t1, t2, t3, t4, t5, t6, t7, t8).pretty(place),
             t9,
         )
     }
@@ -288,11 +288,11 @@ impl<
         (Field6.refuses t.5)) (Field7.refuses t.6)) (Field8.refuses t.7)) (Field9.refuses t.8))
         (Field10.refuses t.9) };
 
-    fn pretty(self, allocator: &'a D) -> Result<DocBuilder<'a, D>, BuildError> {
+    fn pretty(self, place: &'a D) -> Result<DocBuilder<'a, D>, BuildError> {
         let (t1, t2, t3, t4, t5, t6, t7, t8, t9, t10) = self;
         then(
-            allocator,
-            (t1, t2, t3, t4, t5, t6, t7, t8, t9).pretty(allocator),
+            place,
+            (t1, t2, t3, t4, t5, t6, t7, t8, t9).pretty(place),
             t10,
         )
     }
@@ -338,11 +338,11 @@ impl<
         (Field6.refuses t.5)) (Field7.refuses t.6)) (Field8.refuses t.7)) (Field9.refuses t.8))
         (Field10.refuses t.9)) (Field11.refuses t.10) };
 
-    fn pretty(self, allocator: &'a D) -> Result<DocBuilder<'a, D>, BuildError> {
+    fn pretty(self, place: &'a D) -> Result<DocBuilder<'a, D>, BuildError> {
         let (t1, t2, t3, t4, t5, t6, t7, t8, t9, t10, t11) = self;
         then(
-            allocator,
-            (t1, t2, t3, t4, t5, t6, t7, t8, t9, t10).pretty(allocator),
+            place,
+            (t1, t2, t3, t4, t5, t6, t7, t8, t9, t10).pretty(place),
             t11,
         )
     }
@@ -390,11 +390,11 @@ impl<
         (Field6.refuses t.5)) (Field7.refuses t.6)) (Field8.refuses t.7)) (Field9.refuses t.8))
         (Field10.refuses t.9)) (Field11.refuses t.10)) (Field12.refuses t.11) };
 
-    fn pretty(self, allocator: &'a D) -> Result<DocBuilder<'a, D>, BuildError> {
+    fn pretty(self, place: &'a D) -> Result<DocBuilder<'a, D>, BuildError> {
         let (t1, t2, t3, t4, t5, t6, t7, t8, t9, t10, t11, t12) = self;
         then(
-            allocator,
-            (t1, t2, t3, t4, t5, t6, t7, t8, t9, t10, t11).pretty(allocator),
+            place,
+            (t1, t2, t3, t4, t5, t6, t7, t8, t9, t10, t11).pretty(place),
             t12,
         )
     }
@@ -448,11 +448,11 @@ impl<
         (Field10.refuses t.1.1.1.1.1.1.1.1.1.0)) (Field11.refuses t.1.1.1.1.1.1.1.1.1.1.0))
         (Field12.refuses t.1.1.1.1.1.1.1.1.1.1.1.0)) (Field13.refuses t.1.1.1.1.1.1.1.1.1.1.1.1.0) };
 
-    fn pretty(self, allocator: &'a D) -> Result<DocBuilder<'a, D>, BuildError> {
+    fn pretty(self, place: &'a D) -> Result<DocBuilder<'a, D>, BuildError> {
         let (t1, t2, t3, t4, t5, t6, t7, t8, t9, t10, t11, t12, t13) = self;
         then(
-            allocator,
-            (t1, t2, t3, t4, t5, t6, t7, t8, t9, t10, t11, t12).pretty(allocator),
+            place,
+            (t1, t2, t3, t4, t5, t6, t7, t8, t9, t10, t11, t12).pretty(place),
             t13,
         )
     }
@@ -510,11 +510,11 @@ impl<
         (Field12.refuses t.1.1.1.1.1.1.1.1.1.1.1.0)) (Field13.refuses t.1.1.1.1.1.1.1.1.1.1.1.1.0))
         (Field14.refuses t.1.1.1.1.1.1.1.1.1.1.1.1.1.0) };
 
-    fn pretty(self, allocator: &'a D) -> Result<DocBuilder<'a, D>, BuildError> {
+    fn pretty(self, place: &'a D) -> Result<DocBuilder<'a, D>, BuildError> {
         let (t1, t2, t3, t4, t5, t6, t7, t8, t9, t10, t11, t12, t13, t14) = self;
         then(
-            allocator,
-            (t1, t2, t3, t4, t5, t6, t7, t8, t9, t10, t11, t12, t13).pretty(allocator),
+            place,
+            (t1, t2, t3, t4, t5, t6, t7, t8, t9, t10, t11, t12, t13).pretty(place),
             t14,
         )
     }
@@ -574,11 +574,11 @@ impl<
         (Field12.refuses t.1.1.1.1.1.1.1.1.1.1.1.0)) (Field13.refuses t.1.1.1.1.1.1.1.1.1.1.1.1.0))
         (Field14.refuses t.1.1.1.1.1.1.1.1.1.1.1.1.1.0)) (Field15.refuses t.1.1.1.1.1.1.1.1.1.1.1.1.1.1.0) };
 
-    fn pretty(self, allocator: &'a D) -> Result<DocBuilder<'a, D>, BuildError> {
+    fn pretty(self, place: &'a D) -> Result<DocBuilder<'a, D>, BuildError> {
         let (t1, t2, t3, t4, t5, t6, t7, t8, t9, t10, t11, t12, t13, t14, t15) = self;
         then(
-            allocator,
-            (t1, t2, t3, t4, t5, t6, t7, t8, t9, t10, t11, t12, t13, t14).pretty(allocator),
+            place,
+            (t1, t2, t3, t4, t5, t6, t7, t8, t9, t10, t11, t12, t13, t14).pretty(place),
             t15,
         )
     }
@@ -643,14 +643,14 @@ impl<
         (Field14.refuses t.1.1.1.1.1.1.1.1.1.1.1.1.1.0)) (Field15.refuses t.1.1.1.1.1.1.1.1.1.1.1.1.1.1.0))
         (Field16.refuses t.1.1.1.1.1.1.1.1.1.1.1.1.1.1.1.0) };
 
-    fn pretty(self, allocator: &'a D) -> Result<DocBuilder<'a, D>, BuildError> {
+    fn pretty(self, place: &'a D) -> Result<DocBuilder<'a, D>, BuildError> {
         let (t1, t2, t3, t4, t5, t6, t7, t8, t9, t10, t11, t12, t13, t14, t15, t16) = self;
         then(
-            allocator,
+            place,
             (
                 t1, t2, t3, t4, t5, t6, t7, t8, t9, t10, t11, t12, t13, t14, t15,
             )
-                .pretty(allocator),
+                .pretty(place),
             t16,
         )
     }

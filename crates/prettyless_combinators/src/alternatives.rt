@@ -22,10 +22,10 @@ impl<'a, D: DocPlace<'a>, T: Pretty<'a, D>, U: Pretty<'a, D>> Pretty<'a, D> for 
 
     ghost refuses = { λ d. refused (T.refuses d.0) (U.refuses d.1) };
 
-    fn pretty(self, allocator: &'a D) -> Result<DocBuilder<'a, D>, BuildError> {
+    fn pretty(self, place: &'a D) -> Result<DocBuilder<'a, D>, BuildError> {
         let Union(first, second) = self;
-        let first = first.pretty(allocator);
-        let second = second.pretty(allocator);
+        let first = first.pretty(place);
+        let second = second.pretty(place);
         first?.union(BuildDoc::from(second?))
     }
 }
@@ -41,10 +41,10 @@ impl<'a, D: DocPlace<'a>, T: Pretty<'a, D>, U: Pretty<'a, D>> Pretty<'a, D> for 
 
     ghost refuses = { λ d. refused (T.refuses d.0) (U.refuses d.1) };
 
-    fn pretty(self, allocator: &'a D) -> Result<DocBuilder<'a, D>, BuildError> {
+    fn pretty(self, place: &'a D) -> Result<DocBuilder<'a, D>, BuildError> {
         let PartialUnion(first, second) = self;
-        let first = first.pretty(allocator);
-        let second = second.pretty(allocator);
+        let first = first.pretty(place);
+        let second = second.pretty(place);
         first?.partial_union(BuildDoc::from(second?))
     }
 }
@@ -59,12 +59,12 @@ impl<'a, D: DocPlace<'a>, T: Pretty<'a, D>, U: Pretty<'a, D>> Pretty<'a, D> for 
 
     ghost refuses = { λ d. refused (T.refuses d.0) (U.refuses d.1) };
 
-    fn pretty(self, allocator: &'a D) -> Result<DocBuilder<'a, D>, BuildError> {
+    fn pretty(self, place: &'a D) -> Result<DocBuilder<'a, D>, BuildError> {
         let FlatAlt(broken, flat) = self;
-        match broken.pretty(allocator) {
+        match broken.pretty(place) {
             Ok(broken) => broken.flat_alt(flat),
             Err(error) => {
-                let _ = flat.pretty(allocator);
+                let _ = flat.pretty(place);
                 Err(error)
             }
         }
@@ -81,9 +81,9 @@ impl<'a, D: DocPlace<'a>, T: Pretty<'a, D>, U: Pretty<'a, D>> Pretty<'a, D> for 
 
     ghost refuses = { λ d. refused (T.refuses d.1) (U.refuses d.2) };
 
-    fn pretty(self, allocator: &'a D) -> Result<DocBuilder<'a, D>, BuildError> {
+    fn pretty(self, place: &'a D) -> Result<DocBuilder<'a, D>, BuildError> {
         let IfColumn(test, first, second) = self;
-        allocator.if_column(test, first, second)
+        place.if_column(test, first, second)
     }
 }
 
@@ -97,8 +97,8 @@ impl<'a, D: DocPlace<'a>, T: Pretty<'a, D>, U: Pretty<'a, D>> Pretty<'a, D> for 
 
     ghost refuses = { λ d. refused (T.refuses d.1) (U.refuses d.2) };
 
-    fn pretty(self, allocator: &'a D) -> Result<DocBuilder<'a, D>, BuildError> {
+    fn pretty(self, place: &'a D) -> Result<DocBuilder<'a, D>, BuildError> {
         let IfNesting(test, first, second) = self;
-        allocator.if_nesting(test, first, second)
+        place.if_nesting(test, first, second)
     }
 }

@@ -1,4 +1,4 @@
-//! Combinators: values that become documents once there is an allocator. To make one takes no memory.
+//! Combinators: values that become documents once there is a place of nodes. To make one takes no memory.
 //!
 //! `pretty` makes its document. That fails as the same call of a place or a builder does, or as the making of a value that
 //! it holds.

@@ -35,9 +35,9 @@ where
     ghost refuses = { λ items e. IsMemory e
         ⊎ GivesNext I.next_gives items (λ x. I.Item.refuses x e) };
 
-    fn pretty(self, allocator: &'a D) -> Result<DocBuilder<'a, D>, BuildError> {
+    fn pretty(self, place: &'a D) -> Result<DocBuilder<'a, D>, BuildError> {
         let Concat(items) = self;
-        allocator.concat(items)
+        place.concat(items)
     }
 }
 
@@ -63,8 +63,8 @@ where
     ghost refuses = { λ c e. IsMemory e ⊎ (S.refuses c.1 e × GivesTwo I.next_gives c.0)
         ⊎ GivesNext I.next_gives c.0 (λ x. I.Item.refuses x e) };
 
-    fn pretty(self, allocator: &'a D) -> Result<DocBuilder<'a, D>, BuildError> {
+    fn pretty(self, place: &'a D) -> Result<DocBuilder<'a, D>, BuildError> {
         let Intersperse(items, separator) = self;
-        allocator.intersperse(items, separator)
+        place.intersperse(items, separator)
     }
 }

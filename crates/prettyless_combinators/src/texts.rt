@@ -11,7 +11,7 @@ use prettyless_doc::text::CowStr;
 use prettyless_doc::{BuildError, DocPlace};
 use std::fmt;
 
-/// What `{}` shows of a value, as `as_string` of an allocator makes it.
+/// What `{}` shows of a value, as `as_string` of a place of nodes makes it.
 #[derive(Clone, Debug, Drop)]
 pub struct AsString<T>(pub(crate) T);
 
@@ -20,13 +20,13 @@ impl<'a, D: DocPlace<'a>, T: fmt::Display + Drop> Pretty<'a, D> for AsString<T> 
 
     ghost refuses = { λ _ _. ⊤ };
 
-    fn pretty(self, allocator: &'a D) -> Result<DocBuilder<'a, D>, BuildError> {
+    fn pretty(self, place: &'a D) -> Result<DocBuilder<'a, D>, BuildError> {
         let AsString(value) = self;
-        allocator.as_string(value)
+        place.as_string(value)
     }
 }
 
-/// A text whose line ends are written as they are, as `multiline_text` of an allocator makes it. Only an owned
+/// A text whose line ends are written as they are, as `multiline_text` of a place of nodes makes it. Only an owned
 /// text takes memory, and fails where that is refused.
 #[derive(Debug, Drop)]
 pub struct MultilineText<'a>(pub(crate) CowStr<'a>);
@@ -36,8 +36,8 @@ impl<'a, D: DocPlace<'a>> Pretty<'a, D> for MultilineText<'a> {
 
     ghost refuses = { λ t e. IsOwnedAnd t.0 (IsMemory e) };
 
-    fn pretty(self, allocator: &'a D) -> Result<DocBuilder<'a, D>, BuildError> {
+    fn pretty(self, place: &'a D) -> Result<DocBuilder<'a, D>, BuildError> {
         let MultilineText(text) = self;
-        allocator.multiline_text(text)
+        place.multiline_text(text)
     }
 }

@@ -18,8 +18,8 @@ impl<'a, D: DocPlace<'a>> Pretty<'a, D> for Nil {
 
     ghost refuses = { λ _ _. ⊥ };
 
-    fn pretty(self, allocator: &'a D) -> Result<DocBuilder<'a, D>, BuildError> {
-        allocator.nil()
+    fn pretty(self, place: &'a D) -> Result<DocBuilder<'a, D>, BuildError> {
+        place.nil()
     }
 }
 
@@ -32,8 +32,8 @@ impl<'a, D: DocPlace<'a>> Pretty<'a, D> for Fail {
 
     ghost refuses = { λ _ _. ⊥ };
 
-    fn pretty(self, allocator: &'a D) -> Result<DocBuilder<'a, D>, BuildError> {
-        allocator.fail()
+    fn pretty(self, place: &'a D) -> Result<DocBuilder<'a, D>, BuildError> {
+        place.fail()
     }
 }
 
@@ -46,8 +46,8 @@ impl<'a, D: DocPlace<'a>> Pretty<'a, D> for HardLine {
 
     ghost refuses = { λ _ _. ⊥ };
 
-    fn pretty(self, allocator: &'a D) -> Result<DocBuilder<'a, D>, BuildError> {
-        allocator.hard_line()
+    fn pretty(self, place: &'a D) -> Result<DocBuilder<'a, D>, BuildError> {
+        place.hard_line()
     }
 }
 
@@ -60,8 +60,8 @@ impl<'a, D: DocPlace<'a>> Pretty<'a, D> for LineOrNil {
 
     ghost refuses = { λ _. IsMemory };
 
-    fn pretty(self, allocator: &'a D) -> Result<DocBuilder<'a, D>, BuildError> {
-        allocator.line_()
+    fn pretty(self, place: &'a D) -> Result<DocBuilder<'a, D>, BuildError> {
+        place.line_()
     }
 }
 
@@ -74,8 +74,8 @@ impl<'a, D: DocPlace<'a>> Pretty<'a, D> for LineOrSpace {
 
     ghost refuses = { λ _. IsMemory };
 
-    fn pretty(self, allocator: &'a D) -> Result<DocBuilder<'a, D>, BuildError> {
-        allocator.line()
+    fn pretty(self, place: &'a D) -> Result<DocBuilder<'a, D>, BuildError> {
+        place.line()
     }
 }
 
@@ -89,8 +89,8 @@ impl<'a, D: DocPlace<'a>> Pretty<'a, D> for SoftLineOrNil {
 
     ghost refuses = { λ _. IsMemory };
 
-    fn pretty(self, allocator: &'a D) -> Result<DocBuilder<'a, D>, BuildError> {
-        allocator.softline_()
+    fn pretty(self, place: &'a D) -> Result<DocBuilder<'a, D>, BuildError> {
+        place.softline_()
     }
 }
 
@@ -104,8 +104,8 @@ impl<'a, D: DocPlace<'a>> Pretty<'a, D> for SoftLineOrSpace {
 
     ghost refuses = { λ _. IsMemory };
 
-    fn pretty(self, allocator: &'a D) -> Result<DocBuilder<'a, D>, BuildError> {
-        allocator.softline()
+    fn pretty(self, place: &'a D) -> Result<DocBuilder<'a, D>, BuildError> {
+        place.softline()
     }
 }
 
@@ -119,8 +119,8 @@ impl<'a, D: DocPlace<'a>> Pretty<'a, D> for WeakLine {
 
     ghost refuses = { λ _ _. ⊥ };
 
-    fn pretty(self, allocator: &'a D) -> Result<DocBuilder<'a, D>, BuildError> {
-        allocator.weak_line()
+    fn pretty(self, place: &'a D) -> Result<DocBuilder<'a, D>, BuildError> {
+        place.weak_line()
     }
 }
 
@@ -133,8 +133,8 @@ impl<'a, D: DocPlace<'a>> Pretty<'a, D> for Space {
 
     ghost refuses = { λ _ _. ⊥ };
 
-    fn pretty(self, allocator: &'a D) -> Result<DocBuilder<'a, D>, BuildError> {
-        allocator.space()
+    fn pretty(self, place: &'a D) -> Result<DocBuilder<'a, D>, BuildError> {
+        place.space()
     }
 }
 
@@ -148,8 +148,8 @@ impl<'a, D: DocPlace<'a>> Pretty<'a, D> for WeakSpace {
 
     ghost refuses = { λ _ _. ⊥ };
 
-    fn pretty(self, allocator: &'a D) -> Result<DocBuilder<'a, D>, BuildError> {
-        allocator.weak_space()
+    fn pretty(self, place: &'a D) -> Result<DocBuilder<'a, D>, BuildError> {
+        place.weak_space()
     }
 }
 
@@ -162,8 +162,8 @@ impl<'a, D: DocPlace<'a>> Pretty<'a, D> for ExpandParent {
 
     ghost refuses = { λ _ _. ⊥ };
 
-    fn pretty(self, allocator: &'a D) -> Result<DocBuilder<'a, D>, BuildError> {
-        allocator.expand_parent()
+    fn pretty(self, place: &'a D) -> Result<DocBuilder<'a, D>, BuildError> {
+        place.expand_parent()
     }
 }
 
@@ -176,7 +176,7 @@ impl<'a, D: DocPlace<'a>> Pretty<'a, D> for Spaces {
 
     ghost refuses = { λ n e. IsMemory e × (100 < n.0) };
 
-    fn pretty(self, allocator: &'a D) -> Result<DocBuilder<'a, D>, BuildError> {
-        allocator.spaces(self.0)
+    fn pretty(self, place: &'a D) -> Result<DocBuilder<'a, D>, BuildError> {
+        place.spaces(self.0)
     }
 }

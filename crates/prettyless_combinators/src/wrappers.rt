@@ -19,9 +19,9 @@ impl<'a, D: DocPlace<'a>, T: Pretty<'a, D>> Pretty<'a, D> for Nest<T> {
 
     ghost refuses = { λ n e. T.refuses n.1 e ⊎ IsMemory e };
 
-    fn pretty(self, allocator: &'a D) -> Result<DocBuilder<'a, D>, BuildError> {
+    fn pretty(self, place: &'a D) -> Result<DocBuilder<'a, D>, BuildError> {
         let Nest(offset, doc) = self;
-        doc.pretty(allocator)?.nest(offset)
+        doc.pretty(place)?.nest(offset)
     }
 }
 
@@ -34,9 +34,9 @@ impl<'a, D: DocPlace<'a>, T: Pretty<'a, D>> Pretty<'a, D> for Repeat<T> {
 
     ghost refuses = { λ r e. T.refuses r.1 e ⊎ IsMemory e };
 
-    fn pretty(self, allocator: &'a D) -> Result<DocBuilder<'a, D>, BuildError> {
+    fn pretty(self, place: &'a D) -> Result<DocBuilder<'a, D>, BuildError> {
         let Repeat(count, doc) = self;
-        doc.pretty(allocator)?.repeat(count)
+        doc.pretty(place)?.repeat(count)
     }
 }
 
@@ -49,9 +49,9 @@ impl<'a, D: DocPlace<'a>, T: Pretty<'a, D>> Pretty<'a, D> for Group<T> {
 
     ghost refuses = { λ d e. T.refuses d.0 e ⊎ IsMemory e };
 
-    fn pretty(self, allocator: &'a D) -> Result<DocBuilder<'a, D>, BuildError> {
+    fn pretty(self, place: &'a D) -> Result<DocBuilder<'a, D>, BuildError> {
         let Group(doc) = self;
-        doc.pretty(allocator)?.group()
+        doc.pretty(place)?.group()
     }
 }
 
@@ -64,9 +64,9 @@ impl<'a, D: DocPlace<'a>, T: Pretty<'a, D>> Pretty<'a, D> for Align<T> {
 
     ghost refuses = { λ d e. T.refuses d.0 e ⊎ IsMemory e };
 
-    fn pretty(self, allocator: &'a D) -> Result<DocBuilder<'a, D>, BuildError> {
+    fn pretty(self, place: &'a D) -> Result<DocBuilder<'a, D>, BuildError> {
         let Align(doc) = self;
-        doc.pretty(allocator)?.align()
+        doc.pretty(place)?.align()
     }
 }
 
@@ -79,9 +79,9 @@ impl<'a, D: DocPlace<'a>, T: Pretty<'a, D>> Pretty<'a, D> for DedentToRoot<T> {
 
     ghost refuses = { λ d e. T.refuses d.0 e ⊎ IsMemory e };
 
-    fn pretty(self, allocator: &'a D) -> Result<DocBuilder<'a, D>, BuildError> {
+    fn pretty(self, place: &'a D) -> Result<DocBuilder<'a, D>, BuildError> {
         let DedentToRoot(doc) = self;
-        doc.pretty(allocator)?.dedent_to_root()
+        doc.pretty(place)?.dedent_to_root()
     }
 }
 
@@ -95,9 +95,9 @@ impl<'a, D: DocPlace<'a>, T: Pretty<'a, D>> Pretty<'a, D> for Flatten<T> {
 
     ghost refuses = { λ d e. T.refuses d.0 e ⊎ IsMemory e };
 
-    fn pretty(self, allocator: &'a D) -> Result<DocBuilder<'a, D>, BuildError> {
+    fn pretty(self, place: &'a D) -> Result<DocBuilder<'a, D>, BuildError> {
         let Flatten(doc) = self;
-        doc.pretty(allocator)?.flatten()
+        doc.pretty(place)?.flatten()
     }
 }
 
@@ -110,8 +110,8 @@ impl<'a, D: DocPlace<'a>, T: Pretty<'a, D>> Pretty<'a, D> for LineSuffix<T> {
 
     ghost refuses = { λ d e. T.refuses d.0 e ⊎ IsMemory e };
 
-    fn pretty(self, allocator: &'a D) -> Result<DocBuilder<'a, D>, BuildError> {
+    fn pretty(self, place: &'a D) -> Result<DocBuilder<'a, D>, BuildError> {
         let LineSuffix(doc) = self;
-        allocator.line_suffix(doc)
+        place.line_suffix(doc)
     }
 }

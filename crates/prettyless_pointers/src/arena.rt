@@ -62,8 +62,8 @@ impl<'a> Pretty<'a, Arena<'a>> for RefDoc<'a> {
     ghost refuses = { λ _ _. ⊥ };
 
     #[inline(always)]
-    fn pretty(self, allocator: &'a Arena<'a>) -> Result<DocBuilder<'a, Arena<'a>>, BuildError> {
-        Ok(DocBuilder::from_doc(allocator, self))
+    fn pretty(self, place: &'a Arena<'a>) -> Result<DocBuilder<'a, Arena<'a>>, BuildError> {
+        Ok(DocBuilder::from_doc(place, self))
     }
 }
 

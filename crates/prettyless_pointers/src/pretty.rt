@@ -15,9 +15,9 @@ impl<'a> Pretty<'a, BoxAllocator> for BoxDoc<'a> {
 
     fn pretty(
         self,
-        allocator: &'a BoxAllocator,
+        place: &'a BoxAllocator,
     ) -> Result<DocBuilder<'a, BoxAllocator>, BuildError> {
-        Ok(DocBuilder::from_doc(allocator, self))
+        Ok(DocBuilder::from_doc(place, self))
     }
 }
 

@@ -1,4 +1,4 @@
-//! Each call of an allocator once, with ample memory.
+//! Each call of a place of nodes once, with ample memory.
 use crate::expected::{Failing, built, points, refuses, shows};
 use prettyless::prelude::*;
 use prettyless::text::{BuildError, CowStr, Text};
