@@ -2,7 +2,7 @@
 
 "use strict";
 
-// What a call may answer, of those that are told apart here.
+// What a call may answer, of those that differ here.
 const STATUS = { whole: 0, small: 1, memory: 2, notJson: 5, notToml: 6 };
 
 class Formatter {

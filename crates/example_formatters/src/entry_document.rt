@@ -62,7 +62,8 @@ fn document<'a>(boxes: &'a BoxAllocator, entry: &'a Entry) -> Result<BoxDoc<'a>,
     }
 }
 
-/// The document of entries, each of which ends its line.
+/// The document of entries, each of which ends its line. It answers `BuildError::Memory` where memory was refused. No
+/// clause says which error comes.
 pub fn documents<'a>(
     boxes: &'a BoxAllocator,
     entries: &'a [Entry],

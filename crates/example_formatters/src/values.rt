@@ -32,7 +32,7 @@ fn number<'a, D: DocPlace<'a>>(place: &'a D, number: u32) -> Result<D::Doc, Buil
     place.as_string(number)?.into_doc()
 }
 
-/// The document of a value.
+/// The document of a value. It answers `BuildError::Memory` where memory was refused. No clause says which error comes.
 pub fn document<'a>(boxes: &'a BoxAllocator, value: &Value) -> Result<BoxDoc<'a>, BuildError>
     ensures { IfOk result (λ p. box_tree p ≡ value_document value.now) }
 {

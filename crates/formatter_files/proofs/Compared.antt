@@ -50,19 +50,19 @@ tails : (a b : ℕ) (s t : List ℕ) → a ∷ s ≡ b ∷ t → s ≡ t
 tails a b s t e = cc
 
 module _ (text other layout : List ℕ) (count : ℕ) (grew : compared_account other count ≡ compared_account text 0 ++ layout) where
-  behind : other ++ take count other ≡ text ++ layout
-  behind = tails _ _ _ _ grew ∙ ap (λ (l : List ℕ). l ++ layout) (append-nil text)
+  text_and_layout : other ++ take count other ≡ text ++ layout
+  text_and_layout = tails _ _ _ _ grew ∙ ap (λ (l : List ℕ). l ++ layout) (append-nil text)
 
   -- the text is the same
   pub same_text : other ≡ text
   same_text =
       sym (take_at other (take count other) (length text) (heads _ _ _ _ grew))
-      ∙ (ap (take (length text)) behind ∙ take_at text layout (length text) refl)
+      ∙ (ap (take (length text)) text_and_layout ∙ take_at text layout (length text) refl)
 
   -- the whole text was written, so it is the layout
   pub whole_layout : count ≡ length other → layout ≡ text
   whole_layout whole =
       let written : take count other ≡ other = take_all count other (omega (arith, whole)) in
       let same : text ++ take count other ≡ text ++ layout = subst (λ (l : List ℕ).
-      l ++ take count other ≡ text ++ layout) same_text behind in
+      l ++ take count other ≡ text ++ layout) same_text text_and_layout in
       sym (append_cancel_left text (take count other) layout same) ∙ (written ∙ same_text)

@@ -5,7 +5,7 @@ ghost use Rattle.json_formatter.specs.Formats.{IsFormatted, IsRefused};
 ghost use Rattle.prettyless_area.specs.Overlay.{PutsAll, PutsToLimit};
 ghost use Rattle.prettyless_exports.specs.Answers.{limit_of};
 ghost use Rattle.json_exports.specs.Answers.{AnswersJson, style_of};
-ghost use Rattle.json_exports.specs.Says.{RefusesJson, SaysOfJson};
+ghost use Rattle.json_exports.specs.Statuses.{RefusesJson, JsonStatusHolds};
 
 use crate::status::Status;
 use json_formatter::{FormatError, Style, render};
@@ -47,7 +47,7 @@ fn text_laid(
     out: &mut [u8],
     written: &mut usize,
 ) -> Status
-    ensures { SaysOfJson style limit text.now out.old out.new written.new result }
+    ensures { JsonStatusHolds style limit text.now out.old out.new written.new result }
 {
     let capacity = out.len();
     let mut count = 0;
@@ -77,7 +77,7 @@ fn laid_out(
     out: &mut [u8],
     written: &mut usize,
 ) -> Status
-    ensures { SaysOfJson style limit text.now out.old out.new written.new result }
+    ensures { JsonStatusHolds style limit text.now out.old out.new written.new result }
 {
     match from_utf8(text) {
         Ok(text) => text_laid(alloc, text, style, limit, out, written),

@@ -8,7 +8,8 @@ use Rattle.json_lexemes.specs.Lexemes.{lexemes}
 use Rattle.json_lexemes.specs.SpacedLexemes.{Spaced, put_together}
 use Rattle.json_formatter.specs.declared.style.Style.{Style}
 use Rattle.json_formatter.specs.BlankLines.{layout_of}
-use Rattle.json_formatter.specs.Formats.{AppendsProperBeginning, Formats, IsFormatted, IsWriting}
+use Rattle.json_formatter.specs.Formats.{Formats, IsFormatted, IsWriting}
+use Rattle.prettyless_sink.specs.Sink.{AppendsProperBeginning}
 use Rattle.json_formatter.specs.Gaps.{start_state}
 use Rattle.json_formatter.specs.Kept.{kept_of, laid_left}
 use Rattle.json_formatter.specs.declared.error.FormatError.{FormatError}

@@ -6,7 +6,7 @@ use Rattle.std.specs.Io.KnownBytes.{Appends}
 use Rattle.std.proofs.KnownBytes.{Appends-trans}
 use Rattle.std.proofs.lemmas.List.{replicate-append-replicate}
 use Rattle.prettyless_model.specs.Spaces.{spaces}
-use Rattle.json_formatter.specs.Formats.{AppendsProperBeginning}
+use Rattle.prettyless_sink.specs.Sink.{AppendsProperBeginning}
 use Rattle.json_formatter.specs.Outputs.{WritesHeld, WriterFailed}
 
 -- what is so after an error

@@ -1,7 +1,8 @@
 -- What formatting a text writes.
-use Rattle.std.specs.Prelude.{◌≡◌, ◌<◌, ℕ, List, [], ◌∷◌, ◌++◌, length, Option, None, IsSome, Result, Ok, Err}
+use Rattle.std.specs.Prelude.{◌≡◌, ℕ, List, [], ◌∷◌, ◌++◌, Option, None, IsSome, Result, Ok, Err}
 use Rattle.std.specs.Io.KnownBytes.{Keeps, Appends}
 use Rattle.json.specs.Ascii.{line_feed}
+use Rattle.prettyless_sink.specs.Sink.{AppendsProperBeginning}
 use Rattle.json_validity.specs.Document.{document}
 use Rattle.json_lexemes.specs.Lexemes.{lexemes}
 use Rattle.json_formatter.specs.BlankLines.{layout_of}
@@ -35,11 +36,6 @@ abbrev pub IsRefused : List ℕ → FormatError → Type 0
 IsRefused text NotJson = document text ≡ None
 IsRefused text (Memory e) = Unit {0}
 IsRefused text (Write e) = ⊥
-
--- a beginning of the bytes was appended, and not all of it
-abbrev pub AppendsProperBeginning : Option (List ℕ) → Option (List ℕ) → List ℕ → Type 0
-AppendsProperBeginning old new bytes = (front : List ℕ) × (back : List ℕ) × (bytes ≡ front ++ back) × (0 < length back)
-    × Appends old new front
 
 -- What a writer holds goes from old to new. Where the text is no JSON, or memory was refused, nothing was written.
 abbrev pub Formats : {A : Type 0} → Style → List ℕ → Option (List ℕ) → Option (List ℕ) → Result A FormatError → Type 0

@@ -7,7 +7,8 @@ ghost use Rattle.json.specs.Ascii.{line_feed};
 ghost use Rattle.json_lexemes.specs.View.{text_of};
 ghost use Rattle.std.specs.Io.KnownBytes.{Appends};
 ghost use Rattle.prettyless_model.specs.Spaces.{spaces};
-ghost use Rattle.json_formatter.specs.Formats.{AppendsProperBeginning, IsWriting};
+ghost use Rattle.prettyless_sink.specs.Sink.{AppendsProperBeginning};
+ghost use Rattle.json_formatter.specs.Formats.{IsWriting};
 ghost use Rattle.json_formatter.specs.Gaps.{gap_bytes};
 ghost use Rattle.json_formatter.specs.Outputs.{WritesHeld, WriterFailed};
 
@@ -16,9 +17,9 @@ use crate::gaps::{Gap, Layout};
 use arrayvec::ArrayString;
 use json_lexemes::Lexeme;
 use prettyless_model::spaces::some_spaces;
+use prettyless_sink::io_write::write_whole;
 use std::alloc::AllocError;
-use std::io;
-use std::io::{ErrorKind, Write};
+use std::io::Write;
 
 // A line end and 100 spaces.
 const LINE: &str =
@@ -39,24 +40,13 @@ fn some_line(indent: usize) -> &'static str
     &LINE[..indent + 1]
 }
 
-/// Writes the whole text, or fails after a beginning of it that isn't all.
-///
-/// An error of the writer, an interruption too, is answered as `Write`, and so is a write that takes nothing, with the
-/// kind `WriteZero`.
+// Writes the whole text, or fails as `Write` after a beginning of it that is not all.
 fn write_text<W: Write>(writer: &mut W, text: &[u8]) -> Result<(), FormatError>
     ensures ok { OnOk result (Appends (W.contents writer.old) (W.contents writer.new) text.now) }
     ensures beginning { OnErr result (AppendsProperBeginning (W.contents writer.old) (W.contents writer.new) text.now) }
     ensures err { IfErr result IsWriting }
 {
-    let mut rest = text;
-    while !rest.is_empty() {
-        match writer.write(rest) {
-            Ok(0) => return Err(FormatError::Write(io::Error::from(ErrorKind::WriteZero))),
-            Ok(count) => rest = &rest[count..],
-            Err(error) => return Err(FormatError::Write(error)),
-        }
-    }
-    Ok(())
+    write_whole(writer, text).map_err(FormatError::Write)
 }
 
 // Gives the writer what is held and a text that does not fit after it.

@@ -5,23 +5,23 @@ use Rattle.json.specs.Word.{is_operator, is_space}
 use Rattle.json.specs.Lex.{Class, quote, backslash, operator, space, other, class}
 
 -- what each class says
-abbrev pub Says : Class → ℕ → Type 0
-Says quote x = x ≡ 34
-Says backslash x = x ≡ 92
-Says operator x = is_operator x ≡ true
-Says space x = is_space x ≡ true
-Says other x = (is_operator x || is_space x) ≡ false
+abbrev pub IsOfClass : Class → ℕ → Type 0
+IsOfClass quote x = x ≡ 34
+IsOfClass backslash x = x ≡ 92
+IsOfClass operator x = is_operator x ≡ true
+IsOfClass space x = is_space x ≡ true
+IsOfClass other x = (is_operator x || is_space x) ≡ false
 
 sorted : (q b o s : Bool) (x : ℕ) → (q ≡ true → x ≡ 34) → (b ≡ true → x ≡ 92) → o ≡ is_operator x → s ≡ is_space x
-    → Says (cond q quote (cond b backslash (cond o operator (cond s space other)))) x
+    → IsOfClass (cond q quote (cond b backslash (cond o operator (cond s space other)))) x
 sorted true b o s x hq hb ho hs = hq refl
 sorted false true o s x hq hb ho hs = hb refl
 sorted false false true s x hq hb ho hs = sym ho
 sorted false false false true x hq hb ho hs = sym hs
 sorted false false false false x hq hb ho hs = λ i. sym ho i || sym hs i
 
-pub Says-class : (x : ℕ) → Says (class x) x
-Says-class x = sorted (x == 34) (x == 92) (is_operator x) (is_space x) x (eqb-true x 34) (eqb-true x 92) refl refl
+pub IsOfClass-class : (x : ℕ) → IsOfClass (class x) x
+IsOfClass-class x = sorted (x == 34) (x == 92) (is_operator x) (is_space x) x (eqb-true x 34) (eqb-true x 92) refl refl
 
 -- c or an earlier one
 or_last : (P : ℕ → Type 0) (x c : ℕ) (b : Bool) → P c → (b ≡ true → P x) → (b ≡ true) ⊎ ((x == c) ≡ true) → P x

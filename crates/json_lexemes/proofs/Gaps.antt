@@ -4,7 +4,7 @@ use Rattle.json.specs.Word.{is_space}
 use Rattle.json.specs.Lex.{Mode, between, in_word, in_string, in_escape, Class, quote, backslash, operator, space, other, class}
 use Rattle.json_lexemes.specs.Lexemes.{lengthened, cut_byte, cut}
 use Rattle.json_lexemes.specs.Spaced.{IsSpacedJson}
-use Rattle.json_lexemes.proofs.Classes.{Says, Says-class}
+use Rattle.json_lexemes.proofs.Classes.{IsOfClass, IsOfClass-class}
 
 -- the text goes on with what is left of a lexeme, and then with the others
 abbrev GoesOn : List ℕ → List (List ℕ) → Type 0
@@ -29,7 +29,7 @@ byte_first : (x : ℕ) (xs : List ℕ) (ss : List (List ℕ)) → GoesOn xs ss �
 byte_first x xs [] h = absurd h
 byte_first x xs (s ∷ ss) h = ([], h.0, tt, ap (λ l. x ∷ l) h.1, h.2)
 
-one_byte : (m : Mode) (c : Class) (x : ℕ) (xs : List ℕ) (k : Mode → List (List ℕ)) → Says c x → ((n : Mode) → IsCut n xs (k n)) →
+one_byte : (m : Mode) (c : Class) (x : ℕ) (xs : List ℕ) (k : Mode → List (List ℕ)) → IsOfClass c x → ((n : Mode) → IsCut n xs (k n)) →
     IsCut m (x ∷ xs) (cut_byte m c x k)
 one_byte between quote x xs k e h = byte_first x xs (k in_string) (h in_string)
 one_byte between backslash x xs k e h = byte_first x xs (k in_word) (h in_word)
@@ -54,7 +54,7 @@ IsCut-cut [] between = tt
 IsCut-cut [] in_word = ([], refl, tt)
 IsCut-cut [] in_string = ([], refl, tt)
 IsCut-cut [] in_escape = ([], refl, tt)
-IsCut-cut (x ∷ xs) m = one_byte m (class x) x xs (λ n. cut n xs) (Says-class x) (IsCut-cut xs)
+IsCut-cut (x ∷ xs) m = one_byte m (class x) x xs (λ n. cut n xs) (IsOfClass-class x) (IsCut-cut xs)
 
 pub IsSpaced-lexemes : (text : List ℕ) → IsSpacedJson text (cut between text)
 IsSpaced-lexemes text = IsCut-cut text between

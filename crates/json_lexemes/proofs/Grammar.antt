@@ -8,7 +8,7 @@ use Rattle.json_validity.specs.Document.{document}
 use Rattle.json_validity.proofs.Documents.{document_depth, document_tokens}
 use Rattle.json_lexemes.specs.Lexemes.{cut, lexemes}
 use Rattle.json_lexemes.specs.Grammar.{SpellValue}
-use Rattle.json_lexemes.proofs.Classes.{Says, Says-class, each_operator}
+use Rattle.json_lexemes.proofs.Classes.{IsOfClass, IsOfClass-class, each_operator}
 use Rattle.json_lexemes.proofs.Words.{cut-word, lex-word, IsWord, IsWord-word}
 use Rattle.json_lexemes.proofs.Following.{Follows, IsSound-document}
 use Rattle.json_lexemes.proofs.Sound.{lex-space, cut-space, lex-sign, cut-sign, Walk, walked}
@@ -54,7 +54,7 @@ IsSpelled-walk =
       at_string = λ s xs w h. one_more (34 ∷ w.front) _ w.rest (token (string s)) (w.cuts w.rest) (w.lexed w.rest) refl h;
       at_word = λ x w rest e run ended sound h.
           let t = x ∷ w in
-          let begins : ends_word t ≡ false = subst (λ c. Says c x) e (Says-class x) in
+          let begins : ends_word t ≡ false = subst (λ c. IsOfClass c x) e (IsOfClass-class x) in
           let spelling = word_spelling (word t) t (lex between rest) (IsWord-word t) sound.0 begins in
           one_more t _ rest (token (word t)) (cut-word x w rest e run ended) (lex-word x w rest e run ended) spelling h;
     }

@@ -6,7 +6,7 @@ use Rattle.std.proofs.lemmas.List.Elements.{All-from_recursion}
 use Rattle.json.specs.Word.{is_operator, is_space}
 use Rattle.json.specs.Lex.{Mode, between, in_word, in_string, in_escape, Class, quote, backslash, operator, space, other, class}
 use Rattle.json_lexemes.specs.Lexemes.{lengthened, cut_byte, cut}
-use Rattle.json_lexemes.proofs.Classes.{Says, Says-class, each_operator}
+use Rattle.json_lexemes.proofs.Classes.{IsOfClass, IsOfClass-class, each_operator}
 
 -- it has a first byte, which is no space
 abbrev pub IsBegun : List ℕ → Type 0
@@ -42,7 +42,7 @@ no_space = each_operator (λ x. is_space x ≡ false) refl refl refl refl refl r
 same_byte : (x y : ℕ) → x ≡ y → is_space y ≡ false → is_space x ≡ false
 same_byte x y e h = subst (λ z. is_space z ≡ false) (sym e) h
 
-one_byte : (m : Mode) (c : Class) (x : ℕ) (k : Mode → List (List ℕ)) → Says c x → ((n : Mode) → AreBegunIn n (k n)) →
+one_byte : (m : Mode) (c : Class) (x : ℕ) (k : Mode → List (List ℕ)) → IsOfClass c x → ((n : Mode) → AreBegunIn n (k n)) →
     AreBegunIn m (cut_byte m c x k)
 one_byte between quote x k e h = first x (k in_string) (same_byte x 34 e refl) (h in_string)
 one_byte between backslash x k e h = first x (k in_word) (same_byte x 92 e refl) (h in_word)
@@ -67,7 +67,7 @@ AreBegun-cut [] between = tt
 AreBegun-cut [] in_word = tt
 AreBegun-cut [] in_string = tt
 AreBegun-cut [] in_escape = tt
-AreBegun-cut (x ∷ xs) m = one_byte m (class x) x (λ n. cut n xs) (Says-class x) (AreBegun-cut xs)
+AreBegun-cut (x ∷ xs) m = one_byte m (class x) x (λ n. cut n xs) (IsOfClass-class x) (AreBegun-cut xs)
 
 pub lexemes_begun : (text : List ℕ) → AreBegun (cut between text)
 lexemes_begun text = AreBegun-cut text between

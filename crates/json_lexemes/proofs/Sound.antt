@@ -7,7 +7,7 @@ use Rattle.json.specs.Word.{is_operator, ends_word, word}
 use Rattle.json.specs.Lex.{Lexeme, token, comma, colon, Class, quote, backslash, operator, space, other, class}
 use Rattle.json.specs.Lex.{operator_lexeme, string_token, between, in_string, lex, lex_byte}
 use Rattle.json_lexemes.specs.Lexemes.{cut, cut_byte}
-use Rattle.json_lexemes.proofs.Classes.{Says, Says-class}
+use Rattle.json_lexemes.proofs.Classes.{IsOfClass, IsOfClass-class}
 use Rattle.json_lexemes.proofs.Words.{IsRun, run_of, lex-word}
 use Rattle.json_lexemes.proofs.Strings.{Whole, whole_string}
 use Rattle.json_lexemes.proofs.Following.{IsSound}
@@ -77,7 +77,8 @@ module _ (P : List ℕ → Type 0) (walk : Walk P) where
   by_sign : (n x : ℕ) (xs : List ℕ) → Shorter n → length xs ≤ n → class x ≡ operator → IsSound (lex between (x ∷ xs)) → P (x ∷ xs)
   by_sign n x xs shorter le e sound =
       let after : IsSound (operator_lexeme x ∷ lex between xs) = subst IsSound (lex-sign x xs e) sound in
-      walk.at_sign x xs e (subst (λ c. Says c x) e (Says-class x)) (shorter xs le (sound_tail (operator_lexeme x) (lex between xs) after))
+      walk.at_sign x xs e (subst (λ c. IsOfClass c x) e (IsOfClass-class x))
+          (shorter xs le (sound_tail (operator_lexeme x) (lex between xs) after))
     where
       sound_tail : (l : Lexeme) (ls : List Lexeme) → IsSound (l ∷ ls) → IsSound ls
       sound_tail comma ls h = h
@@ -89,7 +90,7 @@ module _ (P : List ℕ → Type 0) (walk : Walk P) where
   by_backslash x xs e sound = (subst (λ c. IsSound (lex_byte between c x xs (λ m. lex m xs))) e sound).0
 
   by_class : (n x : ℕ) (xs : List ℕ) → Shorter n → length xs ≤ n → IsSound (lex between (x ∷ xs))
-      → (c : Class) → class x ≡ c → Says c x → P (x ∷ xs)
+      → (c : Class) → class x ≡ c → IsOfClass c x → P (x ∷ xs)
   by_class n x xs shorter le sound quote e says =
       subst (λ y. P (y ∷ xs)) (sym says) (by_quote n xs shorter le (subst (λ y. IsSound (lex between (y ∷ xs))) says sound))
   by_class n x xs shorter le sound backslash e says = absurd (by_backslash x xs e sound)
@@ -100,7 +101,7 @@ module _ (P : List ℕ → Type 0) (walk : Walk P) where
   holds : (n : ℕ) → Shorter n
   holds n [] le sound = walk.at_end
   holds zero (x ∷ xs) le sound = absurd (omega arith)
-  holds (suc n) (x ∷ xs) le sound = by_class n x xs (holds n) (omega arith) sound (class x) refl (Says-class x)
+  holds (suc n) (x ∷ xs) le sound = by_class n x xs (holds n) (omega arith) sound (class x) refl (IsOfClass-class x)
 
   pub walked : (text : List ℕ) → IsSound (lex between text) → P text
   walked text sound = holds (length text) text (omega arith) sound

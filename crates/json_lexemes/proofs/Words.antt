@@ -8,7 +8,7 @@ use Rattle.json.specs.Word.{is_operator, is_space, head, ends_word, after_number
 use Rattle.json.specs.Lex.{Lexeme, token, Mode, between, in_word, Class, quote, backslash, operator, space, other, class, lex, lex_byte}
 use Rattle.json.proofs.Printed.Numbers.{in_word-ended}
 use Rattle.json_lexemes.specs.Lexemes.{lengthened, cut, cut_byte}
-use Rattle.json_lexemes.proofs.Classes.{Says, Says-class, class-operator, class-space}
+use Rattle.json_lexemes.proofs.Classes.{IsOfClass, IsOfClass-class, class-operator, class-space}
 use Rattle.json_lexemes.proofs.Ended.{ends, word-ended}
 
 -- none of the bytes ends a word
@@ -33,7 +33,7 @@ run_of (x ∷ xs) = go (cases_Bool (ends x)) (run_of xs)
     go (inr e) r = record { front = x ∷ r.front; rest = r.rest; is = ap (λ l. x ∷ l) r.is; run = (e, r.run); ended = r.ended }
 
 -- a byte in a word
-stays : (c : Class) (x : ℕ) (xs : List ℕ) (k : Mode → List Lexeme) (l : Mode → List (List ℕ)) → Says c x → ends x ≡ false
+stays : (c : Class) (x : ℕ) (xs : List ℕ) (k : Mode → List Lexeme) (l : Mode → List (List ℕ)) → IsOfClass c x → ends x ≡ false
     → (lex_byte in_word c x xs k ≡ k in_word) × (cut_byte in_word c x l ≡ lengthened x (l in_word))
 stays quote x xs k l s e = (refl, refl)
 stays backslash x xs k l s e = (refl, refl)
@@ -44,7 +44,7 @@ stays other x xs k l s e = (refl, refl)
 lex-run : (w r : List ℕ) → IsRun w → lex in_word (w ++ r) ≡ lex in_word r
 unfolding lex
 lex-run [] r h = refl
-lex-run (x ∷ w) r h = (stays (class x) x (w ++ r) (λ m. lex m (w ++ r)) (λ m. cut m r) (Says-class x) h.0).0 ∙ lex-run w r h.1
+lex-run (x ∷ w) r h = (stays (class x) x (w ++ r) (λ m. lex m (w ++ r)) (λ m. cut m r) (IsOfClass-class x) h.0).0 ∙ lex-run w r h.1
 
 cut-ended : (r : List ℕ) → ends_word r ≡ true → cut in_word r ≡ [] ∷ cut between r
 unfolding cut
@@ -60,7 +60,7 @@ pub cut-run : (w r : List ℕ) → IsRun w → ends_word r ≡ true → cut in_w
 unfolding cut
 cut-run [] r h ended = cut-ended r ended
 cut-run (x ∷ w) r h ended =
-    (stays (class x) x (w ++ r) (λ m. lex m (w ++ r)) (λ m. cut m (w ++ r)) (Says-class x) h.0).1
+    (stays (class x) x (w ++ r) (λ m. lex m (w ++ r)) (λ m. cut m (w ++ r)) (IsOfClass-class x) h.0).1
     ∙ ap (lengthened x) (cut-run w r h.1 ended)
 
 -- the lexer at a word, before whatever ends it

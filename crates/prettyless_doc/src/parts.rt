@@ -77,7 +77,8 @@ pub enum Parts<'d, 'a, T> {
     Two(Pair, &'d T, &'d T),
 }
 
-/// The node by what it holds. It fails where memory for a copy of a text is refused.
+/// The node by what it holds: its kind, and the one or two documents in it, in order. Where it holds none, it answers a
+/// copy of the node. Only the copy of an owned text takes memory, and fails where that is refused.
 pub fn parts_of<'d, 'a, T: DocPtr<'a>>(
     memory: Global,
     node: &'d Doc<'a, T>,

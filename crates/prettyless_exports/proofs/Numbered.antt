@@ -9,7 +9,7 @@ use Rattle.prettyless_program.specs.declared.fault.Fault.TheVariants as fault
 use Rattle.prettyless_program.proofs.OneDocument.{at_most_one}
 use Rattle.prettyless_exports.specs.Answers.{Answers, BeginsLayout, Holds, IsCutShort, IsLaidOut, IsPast, IsProgramRefused, IsUntouched}
 use Rattle.prettyless_exports.specs.Numbers.{number_of}
-use Rattle.prettyless_exports.specs.Says.{Says}
+use Rattle.prettyless_exports.specs.Statuses.{StatusHolds}
 use Rattle.prettyless_exports.specs.declared.status.Status.{Status}
 use Rattle.prettyless_exports.specs.declared.status.Status.TheVariants as status
 
@@ -19,15 +19,15 @@ no_bytes [] = refl
 no_bytes (x ∷ xs) = refl
 
 module _ (o : RenderOptions) (limit : ℕ) (program old new : List ℕ) (written : ℕ) where
-  laid_out : (s : Status) → Says o limit program old new written s → number_of s ≡ 0 → (bytes : List ℕ) × IsLaidOut o limit program bytes
-      × (length bytes ≤ length old) × Holds bytes old new written
+  laid_out : (s : Status) → StatusHolds o limit program old new written s → number_of s ≡ 0
+      → (bytes : List ℕ) × IsLaidOut o limit program bytes × (length bytes ≤ length old) × Holds bytes old new written
   laid_out status.LaidOut (d, w, (bytes, whole, content, within, fits, held)) e =
       (bytes, record { document = d; writes = w; layout = whole; content = content; within = within }, fits, held)
   laid_out (status.Refused fault.Memory) h e = absurd (omega arith)
   laid_out s h e = absurd (omega arith)
 
-  too_small : (s : Status) → Says o limit program old new written s → number_of s ≡ 1 → (bytes : List ℕ) × IsLaidOut o limit program bytes
-      × (length old < length bytes) × (new ≡ overlay bytes old) × (written ≡ length bytes)
+  too_small : (s : Status) → StatusHolds o limit program old new written s → number_of s ≡ 1
+      → (bytes : List ℕ) × IsLaidOut o limit program bytes × (length old < length bytes) × (new ≡ overlay bytes old) × (written ≡ length bytes)
   too_small status.TooSmall (d, w, (bytes, whole, content, within, short, held, count)) e =
       (bytes, record { document = d; writes = w; layout = whole; content = content; within = within }, short, held, count)
   too_small (status.Refused fault.Memory) h e = absurd (omega arith)
@@ -37,56 +37,57 @@ module _ (o : RenderOptions) (limit : ℕ) (program old new : List ℕ) (written
   nothing_held : IsUntouched old new written → Holds [] old new written
   nothing_held u = record { in_place = u.0 ∙ no_bytes old; count = omega (arith, u.1) }
 
-  memory : (s : Status) → Says o limit program old new written s → number_of s ≡ 2 → (front : List ℕ) × BeginsLayout o program front
+  memory : (s : Status) → StatusHolds o limit program old new written s → number_of s ≡ 2 → (front : List ℕ) × BeginsLayout o program front
       × Holds front old new written
   memory status.Memory (d, w, (front, (back, whole), held)) e =
       (front, (λ d' w'. (back, subst (λ (x : Tree). bytes_in (layout o x) ≡ front ++ back) (at_most_one program d d' w w') whole)), held)
   memory (status.Refused fault.Memory) h e = ([], (λ d w. (bytes_in (layout o d), refl)), nothing_held h.1)
   memory s h e = absurd (omega arith)
 
-  fails : (s : Status) → Says o limit program old new written s → number_of s ≡ 3 → (bytes : List ℕ) × IsCutShort o limit program bytes
-      × Holds bytes old new written
+  fails : (s : Status) → StatusHolds o limit program old new written s → number_of s ≡ 3
+      → (bytes : List ℕ) × IsCutShort o limit program bytes × Holds bytes old new written
   fails status.Fails (d, w, (bytes, cut, within, held)) e =
       (bytes, record { document = d; writes = w; layout = cut; within = within }, held)
   fails (status.Refused fault.Memory) h e = absurd (omega arith)
   fails s h e = absurd (omega arith)
 
-  past_limit : (s : Status) → Says o limit program old new written s → number_of s ≡ 4 → (bytes : List ℕ) × IsPast o limit program bytes
-      × Holds (take limit bytes) old new written
+  past_limit : (s : Status) → StatusHolds o limit program old new written s → number_of s ≡ 4
+      → (bytes : List ℕ) × IsPast o limit program bytes × Holds (take limit bytes) old new written
   past_limit status.PastLimit (d, w, (past, held)) e =
       (bytes_in (layout o d), record { document = d; writes = w; layout = refl; past = past }, held)
   past_limit (status.Refused fault.Memory) h e = absurd (omega arith)
   past_limit s h e = absurd (omega arith)
 
-  refused : (f : Fault) → ¬ (f ≡ fault.Memory) → Says o limit program old new written (status.Refused f)
+  refused : (f : Fault) → ¬ (f ≡ fault.Memory) → StatusHolds o limit program old new written (status.Refused f)
       → IsProgramRefused f program old new written
   refused f other h = let r = h.0 other in record { has_fault = r.0; no_document = r.1; untouched = h.1 }
 
-  instruction : (s : Status) → Says o limit program old new written s → number_of s ≡ 16
+  instruction : (s : Status) → StatusHolds o limit program old new written s → number_of s ≡ 16
       → IsProgramRefused fault.Instruction program old new written
   instruction (status.Refused fault.Instruction) h e = refused fault.Instruction (λ x. absurd cc) h
   instruction s h e = absurd (omega arith)
 
-  operand : (s : Status) → Says o limit program old new written s → number_of s ≡ 17 →
+  operand : (s : Status) → StatusHolds o limit program old new written s → number_of s ≡ 17 →
       IsProgramRefused fault.Operand program old new written
   operand (status.Refused fault.Operand) h e = refused fault.Operand (λ x. absurd cc) h
   operand s h e = absurd (omega arith)
 
-  text : (s : Status) → Says o limit program old new written s → number_of s ≡ 18 → IsProgramRefused fault.Text program old new written
+  text : (s : Status) → StatusHolds o limit program old new written s → number_of s ≡ 18
+      → IsProgramRefused fault.Text program old new written
   text (status.Refused fault.Text) h e = refused fault.Text (λ x. absurd cc) h
   text s h e = absurd (omega arith)
 
-  document : (s : Status) → Says o limit program old new written s → number_of s ≡ 19 →
+  document : (s : Status) → StatusHolds o limit program old new written s → number_of s ≡ 19 →
       IsProgramRefused fault.Document program old new written
   document (status.Refused fault.Document) h e = refused fault.Document (λ x. absurd cc) h
   document s h e = absurd (omega arith)
 
-  unopened : (s : Status) → Says o limit program old new written s → number_of s ≡ 20 →
+  unopened : (s : Status) → StatusHolds o limit program old new written s → number_of s ≡ 20 →
       IsProgramRefused fault.Unopened program old new written
   unopened (status.Refused fault.Unopened) h e = refused fault.Unopened (λ x. absurd cc) h
   unopened s h e = absurd (omega arith)
 
-  unclosed : (s : Status) → Says o limit program old new written s → number_of s ≡ 21 →
+  unclosed : (s : Status) → StatusHolds o limit program old new written s → number_of s ≡ 21 →
       IsProgramRefused fault.Unclosed program old new written
   unclosed (status.Refused fault.Unclosed) h e = refused fault.Unclosed (λ x. absurd cc) h
   unclosed s h e = absurd (omega arith)
@@ -100,7 +101,7 @@ module _ (o : RenderOptions) (limit : ℕ) (program old new : List ℕ) (written
   known (status.Refused fault.Memory) = inl (omega arith)
   known (status.Refused f) = inr (omega arith, omega arith)
 
-  pub answers : (s : Status) → Says o limit program old new written s → Answers o limit program old new written (number_of s)
+  pub answers : (s : Status) → StatusHolds o limit program old new written s → Answers o limit program old new written (number_of s)
   answers s h = record {
     laid_out = laid_out s h;
     too_small = too_small s h;

@@ -1,7 +1,7 @@
 //! The layout of a document that a program writes, into an area of bytes.
 ghost use Rattle.std.specs.Prelude.{◌≡◌};
 ghost use Rattle.prettyless_exports.specs.Answers.{Answers, limit_of, options_of};
-ghost use Rattle.prettyless_exports.specs.Says.{Says, SaysOf};
+ghost use Rattle.prettyless_exports.specs.Statuses.{StatusHolds, StatusHoldsOf};
 
 use crate::lay::lay_into;
 use crate::status::Status;
@@ -22,7 +22,7 @@ fn laid<'a, T: DocPtr<'a>>(
     out: &mut [u8],
     written: &mut usize,
 ) -> Status
-    ensures { SaysOf options limit (T.tree document.now) out.old out.new written.new result }
+    ensures { StatusHoldsOf options limit (T.tree document.now) out.old out.new written.new result }
 {
     let capacity = out.len();
     let mut count = 0;
@@ -49,7 +49,7 @@ fn laid_in<'a, D: DocPlace<'a>>(
     out: &mut [u8],
     written: &mut usize,
 ) -> Status
-    ensures { Says options limit program.now out.old out.new written.new result }
+    ensures { StatusHolds options limit program.now out.old out.new written.new result }
 {
     match decode(place, program) {
         Ok(document) => laid(&document, place.memory(), options, limit, out, written),
@@ -69,7 +69,7 @@ fn laid_out(
     out: &mut [u8],
     written: &mut usize,
 ) -> Status
-    ensures { Says options limit program.now out.old out.new written.new result }
+    ensures { StatusHolds options limit program.now out.old out.new written.new result }
 {
     let bump = Bump::new(alloc);
     let place = Arena::new(alloc, &bump);

@@ -1,4 +1,4 @@
-//! What a choice between two documents asks of the column or of the indent.
+//! What a choice between two documents asks of the column or of the indent. This file knows numbers alone.
 ghost use Rattle.std.specs.Prelude.{◌≡◌};
 ghost use Rattle.prettyless_model.specs.Choice.{column_holds, nesting_holds};
 

@@ -1,3 +1,4 @@
+//! A place on a line, and what content does to it. It knows numbers alone, and no documents.
 ghost use Rattle.std.specs.Prelude.{◌≡◌};
 ghost use Rattle.prettyless_model.specs.Column as spec;
 

@@ -1,3 +1,4 @@
+//! What holds of all documents and layouts, by the definitions alone. The functions do nothing: their contracts speak.
 ghost use Rattle.prettyless_model.specs.Content.{LayoutsHaveContent};
 ghost use Rattle.prettyless_model.specs.Levels.{FewerSuffixesThanNodes, MoreLevelsChangeNothing};
 

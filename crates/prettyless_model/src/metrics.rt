@@ -1,3 +1,5 @@
+//! The metrics of a payload, as numbers. This file knows no texts: nothing is measured here.
+
 /// What is measured of a payload, a text that holds line breaks of its own. Widths are columns.
 ///
 /// A part is what is between two breaks, each LF or CR.

@@ -1,4 +1,4 @@
-//! What a caller chooses of a layout.
+//! What a caller chooses of a layout. This file knows no documents, and no sinks.
 ghost use Rattle.std.specs.Prelude.{◌≡◌};
 ghost use Rattle.prettyless_model.specs.Options.{ending, options_at};
 ghost use Rattle.prettyless_model.specs.declared.options.LineEnding.TheVariants.{Lf};

@@ -1,4 +1,4 @@
-//! Texts of spaces.
+//! Texts of spaces. This file knows no sinks.
 ghost use Rattle.std.specs.Prelude.{◌≡◌, ◌≤◌};
 ghost use Rattle.prettyless_model.specs.Spaces.{spaces};
 

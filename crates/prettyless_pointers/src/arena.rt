@@ -73,6 +73,10 @@ pub trait IntoRef<'a> {
     ghost tree: { Self → Tree };
 
     /// A pointer to the document, or an error where memory is refused.
+    ///
+    /// ```
+    /// arena.pretty("a")?.into_ref()? // a pointer to "a"
+    /// ```
     fn into_ref(self) -> Result<RefDoc<'a>, BuildError>
         ensures ok { IfOk result (λ p. ref_tree p ≡ tree self) }
         ensures err { IfErr result IsMemory };
@@ -106,6 +110,13 @@ pub struct Arena<'a> {
 
 impl<'a> Arena<'a> {
     /// Nodes, and the owned texts in them, will be in `bump`. A text is first made in memory from `alloc`.
+    ///
+    /// It does not fail. Where memory for its constants is refused, each is placed anew when it is asked for, and `len`
+    /// then counts it.
+    ///
+    /// ```
+    /// Arena::new(alloc, &bump) // a place of nodes, in `bump`
+    /// ```
     pub fn new(alloc: Global, bump: &'a Bump) -> Self {
         Arena {
             memory: alloc,

@@ -39,6 +39,10 @@ impl<'a> Drop for BoxNode<'a> {
 
 impl<'a> BoxDoc<'a> {
     /// Boxes a node: the same tree, or an error where memory is refused, and the node is then given up.
+    ///
+    /// ```
+    /// BoxDoc::new(alloc, Doc::HardLine)? // a pointer to a line break
+    /// ```
     pub fn new(alloc: Global, doc: Doc<'a, BoxDoc<'a>>) -> Result<Self, BuildError>
         ensures ok { IfOk result (λ p. box_tree p ≡ tree_of box_tree doc.entry) }
         ensures err { IfErr result IsMemory }
@@ -126,6 +130,10 @@ pub struct BoxAllocator {
 
 impl BoxAllocator {
     /// Boxes and texts will take their memory from `alloc`.
+    ///
+    /// ```
+    /// BoxAllocator::new(alloc) // a place of nodes, each in a box
+    /// ```
     pub fn new(alloc: Global) -> Self {
         BoxAllocator { memory: alloc }
     }

@@ -21,58 +21,112 @@ use std::fmt;
 
 /// The calls of every pointer to the nodes of a `D`. Each places what it makes, and fails where
 /// memory is refused.
+///
+/// The examples are for a `BoxDoc`, where `place` is a `&BoxAllocator`. An `RcDoc` and a `RefDoc` have the same calls.
 pub trait PlacedDoc<'a, D: DocPlace<'a, Doc = Self>>: DocPtr<'a> {
     /// Nothing.
+    ///
+    /// ```
+    /// BoxDoc::nil(place)? // ""
+    /// ```
     fn nil(place: &'a D) -> Result<Self, BuildError>
         ensures { to.Builds result Self.tree Nil };
 
     /// A document that cannot be laid: a render that reaches it fails.
+    ///
+    /// ```
+    /// docs![place, "a", BoxDoc::fail(place)?]? // writes "a", then `RenderError::Document`
+    /// ```
     fn fail(place: &'a D) -> Result<Self, BuildError>
         ensures { to.Builds result Self.tree Fail };
 
     /// A line break. It keeps the groups around it from being flat, and fails under `flatten`.
+    ///
+    /// ```
+    /// docs![place, "a", BoxDoc::hard_line(place)?, "b"]?.nest(2)? // "a\n  b"
+    /// ```
     fn hard_line(place: &'a D) -> Result<Self, BuildError>
         ensures { to.Builds result Self.tree HardLine };
 
     /// `hard_line` by another name.
+    ///
+    /// ```
+    /// docs![place, "a", BoxDoc::hardline(place)?, "b"]? // "a\nb"
+    /// ```
     fn hardline(place: &'a D) -> Result<Self, BuildError>
         ensures { to.Builds result Self.tree HardLine };
 
     /// A line break, under `flatten` too. It keeps the groups around it from being flat. It is nothing on a fresh line
     /// where no suffix is pending.
+    ///
+    /// ```
+    /// docs![place, "a", BoxDoc::weak_line(place)?, BoxDoc::weak_line(place)?, "b"]? // "a\nb"
+    /// ```
     fn weak_line(place: &'a D) -> Result<Self, BuildError>
         ensures { to.Builds result Self.tree WeakLine };
 
     /// The text of one space.
+    ///
+    /// ```
+    /// docs![place, "a", BoxDoc::space(place)?, "b"]? // "a b"
+    /// ```
     fn space(place: &'a D) -> Result<Self, BuildError>
         ensures { to.Builds result Self.tree lines.space };
 
     /// A space; nothing at the start of a line, and nothing at its end unless a suffix is pending there.
+    ///
+    /// ```
+    /// docs![place, "a", BoxDoc::weak_space(place)?, BoxDoc::hard_line(place)?, "b"]? // "a\nb"
+    /// ```
     fn weak_space(place: &'a D) -> Result<Self, BuildError>
         ensures { to.Builds result Self.tree WeakSpace };
 
     /// Nothing, but it keeps the groups around it from being flat.
+    ///
+    /// ```
+    /// docs![place, "a", BoxDoc::line(place)?, BoxDoc::expand_parent(place)?, "b"]?.group()? // "a\nb"
+    /// ```
     fn expand_parent(place: &'a D) -> Result<Self, BuildError>
         ensures { to.Builds result Self.tree ExpandParent };
 
     /// A line break, or one space where lines are flat.
+    ///
+    /// ```
+    /// docs![place, "a", BoxDoc::line(place)?, "b"]?.group()? // "a b" at 3 columns, "a\nb" at 2
+    /// ```
     fn line(place: &'a D) -> Result<Self, BuildError>
         ensures { to.Builds result Self.tree lines.line };
 
     /// A line break, or nothing where lines are flat.
+    ///
+    /// ```
+    /// docs![place, "a", BoxDoc::line_(place)?, "b"]?.group()? // "ab" at 2 columns, "a\nb" at 1
+    /// ```
     fn line_(place: &'a D) -> Result<Self, BuildError>
         ensures { to.Builds result Self.tree lines.line_ };
 
     /// One space, or a line break where what follows, up to the next possible break, would go past the width.
+    ///
+    /// ```
+    /// docs![place, "a", BoxDoc::softline(place)?, "b"]? // "a b" at 3 columns, "a\nb" at 2
+    /// ```
     fn softline(place: &'a D) -> Result<Self, BuildError>
         ensures { to.Builds result Self.tree to.softline };
 
     /// Nothing, or a line break where what follows, up to the next possible break, would go past the width.
+    ///
+    /// ```
+    /// docs![place, "a", BoxDoc::softline_(place)?, "b"]? // "ab" at 2 columns, "a\nb" at 1
+    /// ```
     fn softline_(place: &'a D) -> Result<Self, BuildError>
         ensures { to.Builds result Self.tree to.softline_ };
 
     /// A text, written as it is: nothing if it is empty. It counts as its bytes if it is ASCII, and else as its display
     /// width. A line end in it is not seen by the layout: `multiline_text` is for such texts.
+    ///
+    /// ```
+    /// BoxDoc::text(place, CowStr::Borrowed("你好"))? // "你好", four columns
+    /// ```
     fn text(place: &'a D, text: CowStr<'a>) -> Result<Self, BuildError>
         ensures { to.Builds result Self.tree (counted.text (cow_str_bytes text.entry)) };
 
@@ -81,16 +135,28 @@ pub trait PlacedDoc<'a, D: DocPlace<'a, Doc = Self>>: DocPtr<'a> {
     ///
     /// Answers `Memory` where memory was refused, and `Display` where only the value's
     /// formatting failed.
+    ///
+    /// ```
+    /// BoxDoc::as_string(place, 42)? // "42"
+    /// ```
     fn as_string<V: fmt::Display + Drop>(place: &'a D, value: V) -> Result<Self, BuildError>
         ensures ok { IfOk result (λ p. counted.IsStringOf (V.output value) (Self.tree p)) };
 
     /// A text whose line ends, each LF or CR, are written as they are, with no indent after them. It keeps the groups
     /// around it from being flat, and fails under `flatten`. Without one it is as `text` makes it.
+    ///
+    /// ```
+    /// BoxDoc::multiline_text(place, CowStr::Borrowed("a\nb"))?.nest(place, 2)? // "a\nb"
+    /// ```
     fn multiline_text(place: &'a D, text: CowStr<'a>) -> Result<Self, BuildError>
         ensures { to.Builds result Self.tree (counted.multiline_text (cow_str_bytes text.entry)) };
 
     /// This document, laid flat where it fits the line with what follows up to the next line break, and else broken.
     /// Where it is nothing, a text or a group, it stays as it is, which takes no memory.
+    ///
+    /// ```
+    /// docs![place, "a", line_or_space(), "b"]?.into_doc()?.group(place)? // "a b" at 3 columns, "a\nb" at 2
+    /// ```
     fn group(self, place: &'a D) -> Result<Self, BuildError>
         ensures { to.BuildsOrKeeps result Self.tree
             (to.group (Self.tree self))
@@ -98,6 +164,10 @@ pub trait PlacedDoc<'a, D: DocPlace<'a, Doc = Self>>: DocPtr<'a> {
 
     /// This document with its indent moved by so many columns. By 0, or where it is nothing, it stays
     /// as it is, which takes no memory.
+    ///
+    /// ```
+    /// docs![place, "a", hard_line(), "b"]?.into_doc()?.nest(place, 2)? // "a\n  b"
+    /// ```
     fn nest(self, place: &'a D, offset: isize) -> Result<Self, BuildError>
         ensures { to.BuildsOrKeeps result Self.tree
             (to.nest offset (Self.tree self))
@@ -105,11 +175,17 @@ pub trait PlacedDoc<'a, D: DocPlace<'a, Doc = Self>>: DocPtr<'a> {
 
     /// This document where it can be laid with each text within the width, and else `that`; where lines are flat, this
     /// one.
+    ///
+    /// ```
+    /// let lines = docs![place, "a", hard_line(), "bcd"]?.into_doc()?;
+    /// lines.union(place, BuildDoc::Doc(Doc::Nil))? // "a\nbcd" at 3 columns, nothing at 2
+    /// ```
     fn union(self, place: &'a D, that: BuildDoc<'a, Self>) -> Result<Self, BuildError>
         ensures { to.Builds result Self.tree (Union (Self.tree self) (built Self.tree that.entry)) };
 }
 
-// A pointer to what a call has built, or its error. Each call of a builder is passed to it, so that none unwraps its own.
+// A pointer to what a call has built, or its error. Each call of a builder is passed to it, so that none unwraps its
+// own.
 #[inline(always)]
 fn placed<'a, D: DocPlace<'a>>(
     made: Result<DocBuilder<'a, D>, BuildError>,
@@ -202,6 +278,10 @@ impl<'a, D: DocPlace<'a, Doc = T>, T: DocPtr<'a>> PlacedDoc<'a, D> for T {
 pub trait PlacedDocOf<'a, D: DocPlace<'a, Doc = Self>, P: Pretty<'a, D>>: DocPtr<'a> {
     /// This document, then `that`. Where this one is nothing it is `that`. Where `that` is nothing it
     /// stays as it is, which takes no memory.
+    ///
+    /// ```
+    /// BoxDoc::text(place, CowStr::Borrowed("a"))?.append(place, "b")? // "ab"
+    /// ```
     fn append(self, place: &'a D, that: P) -> Result<Self, BuildError>
         ensures ok { IfOk result (λ p. (y : Tree) × P.becomes that y
             × (Self.tree p ≡ to.append (Self.tree self) y)) }
@@ -209,6 +289,11 @@ pub trait PlacedDocOf<'a, D: DocPlace<'a, Doc = Self>, P: Pretty<'a, D>>: DocPtr
             × ((y : Tree) × P.becomes that y × to.IsNotNil y))) };
 
     /// This document where lines are broken, and `that` where they are flat.
+    ///
+    /// ```
+    /// let broken = BoxDoc::text(place, CowStr::Borrowed("broken"))?;
+    /// broken.flat_alt(place, "flat")?.group(place)? // "flat" at 4 columns, "broken" at 3
+    /// ```
     fn flat_alt(self, place: &'a D, that: P) -> Result<Self, BuildError>
         ensures { to.BuildsOf result Self.tree (P.becomes that) (P.refuses that) (BreakOrFlat (Self.tree self)) };
 }
@@ -227,8 +312,8 @@ impl<'a, D: DocPlace<'a, Doc = T>, P: Pretty<'a, D>, T: DocPtr<'a>> PlacedDocOf<
     }
 }
 
-/// The calls of a pointer that take a document of type `P` and one of type `Q`. The making of each can fail, and memory may be
-/// refused.
+/// The calls of a pointer that take a document of type `P` and one of type `Q`. The making of each can fail, and memory
+/// may be refused.
 pub trait PlacedDocOfTwo<
     'a,
     D: DocPlace<'a, Doc = Self>,
@@ -236,11 +321,19 @@ pub trait PlacedDocOfTwo<
     Q: Pretty<'a, D>,
 >: DocPtr<'a> {
     /// The first document where the test of the column at which it would start holds, else the second, flat or broken.
+    ///
+    /// ```
+    /// docs![place, "ab", BoxDoc::if_column(place, ColumnTest::AtMost(1), "c", "d")?]? // "abd"
+    /// ```
     fn if_column(place: &'a D, test: ColumnTest, first: P, second: Q) -> Result<Self, BuildError>
         ensures { to.BuildsOfTwo result Self.tree (P.becomes first) (Q.becomes second)
             (P.refuses first) (Q.refuses second) (OnColumn test) };
 
     /// The first document where the test of the indent holds, else the second, flat or broken.
+    ///
+    /// ```
+    /// BoxDoc::if_nesting(place, NestingTest::AtLeast(2), "c", "d")?.nest(place, 2)? // "c"
+    /// ```
     fn if_nesting(place: &'a D, test: NestingTest, first: P, second: Q) -> Result<Self, BuildError>
         ensures { to.BuildsOfTwo result Self.tree (P.becomes first) (Q.becomes second)
             (P.refuses first) (Q.refuses second) (OnNesting test) };
@@ -270,6 +363,10 @@ where
     /// The items' documents, appended in order: nothing if there is none.
     ///
     /// `docs` has to be an iterator whose `next` may be called, and one that ends: the prover asks for both.
+    ///
+    /// ```
+    /// BoxDoc::concat(place, ["a", "b"])? // "ab"
+    /// ```
     fn concat(place: &'a D, docs: I) -> Result<Self, BuildError>
         requires { IsFiniteIterable I.into_iter_gives I.IntoIter.can_next I.IntoIter.remaining docs }
         ensures ok { IfOk result (λ p. (xs : List I.Item)
@@ -303,6 +400,10 @@ where
     /// separator becomes a document once, and only where there is a gap.
     ///
     /// `docs` has to be an iterator whose `next` may be called, and one that ends: the prover asks for both.
+    ///
+    /// ```
+    /// BoxDoc::intersperse(place, ["a", "b"], ", ")? // "a, b"
+    /// ```
     fn intersperse(place: &'a D, docs: I, separator: S) -> Result<Self, BuildError>
         requires { IsFiniteIterable I.into_iter_gives I.IntoIter.can_next I.IntoIter.remaining docs }
         ensures ok { IfOk result (λ p. (xs : List I.Item)

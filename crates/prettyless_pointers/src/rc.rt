@@ -45,6 +45,10 @@ impl<'a> Drop for RcNode<'a> {
 
 impl<'a> RcDoc<'a> {
     /// Places a node: the same tree, or an error where memory is refused, and the node is then given up.
+    ///
+    /// ```
+    /// RcDoc::new(alloc, Doc::HardLine)? // a pointer to a line break
+    /// ```
     pub fn new(alloc: Global, doc: Doc<'a, RcDoc<'a>>) -> Result<Self, BuildError>
         ensures ok { IfOk result (λ p. rc_tree p ≡ tree_of rc_tree doc.entry) }
         ensures err { IfErr result IsMemory }
@@ -52,8 +56,8 @@ impl<'a> RcDoc<'a> {
         Ok(RcDoc(Rc::new(alloc, RcNode(doc))?))
     }
 
-    /// Another pointer to the same node. It places none, and answers `Memory` only where the node has as many owners as can
-    /// be counted.
+    /// Another pointer to the same node. It places none, and answers `Memory` only where the node has as many owners as
+    /// can be counted.
     pub fn clone(&self) -> Result<Self, BuildError>
         ensures ok { IfOk result (λ p. rc_tree p ≡ rc_tree self.now) }
         ensures err { IfErr result IsMemory }
@@ -89,8 +93,8 @@ impl<'a> RcDoc<'a> {
 }
 
 // As for boxes, a tree is taken apart in a loop, which asks for no memory and takes the same stack at any depth. Where
-// (a, b) is in front of c, what is left to drop becomes a in front of (b, c), in the node that (a, b) had. A node that has
-// other owners is left to them.
+// (a, b) is in front of c, what is left to drop becomes a in front of (b, c), in the node that (a, b) had. A node that
+// has other owners is left to them.
 impl<'a> Drop for RcDoc<'a> {
     #[tactic(auto, using(crate::proofs::CountedWeight::rc_weighs))]
     fn drop(self) {
@@ -148,6 +152,10 @@ pub struct RcAllocator {
 
 impl RcAllocator {
     /// Nodes and texts will take their memory from `alloc`.
+    ///
+    /// ```
+    /// RcAllocator::new(alloc) // a place of nodes, each in an `Rc`
+    /// ```
     pub fn new(alloc: Global) -> Self {
         RcAllocator { memory: alloc }
     }

@@ -140,7 +140,7 @@ abbrev pub left_with : Task → Standing → Visits → Left
 left_with t p v = on_tasks (t ∷ p.tasks) p.queue v
 
 -- A turn has reached a current task, and its step is about to be taken.
-pub record Takes {N : Type 0} (f : N → Tree) (r : Rule) (a : Point) (t : Task) (p : Printer N) (s : Seen) (v x : Visits) : Type 0 where
+pub record TakesTask {N : Type 0} (f : N → Tree) (r : Rule) (a : Point) (t : Task) (p : Printer N) (s : Seen) (v x : Visits) : Type 0 where
   pub hand : InHand a t (point f p s v)
   pub one : Visit a.printer.options t (point f p s v) x
   pub visits : StepVisits r t (tasks_of f p) v x
@@ -151,7 +151,7 @@ pub takes : {N : Type 0} (f : N → Tree) {has : Bool} {limit : ℕ} {a : Point}
     (0 < each_probe t.tree t.mode → v.probes ≤ limit) → x.probes ≤ v.probes + asked t.tree t.mode (nodes (tasks_of f p))
     → Few has p.options.width t.tree (tasks_of f p) (each_probe t.tree t.mode) v.probes x.probes →
     (Plain a.printer → Spends (rule_of has a.printer.options limit) (left a.printer [] a.visits) (left_with t (standing f p) v)) →
-    Takes f (rule_of has a.printer.options limit) a t p s v x
+    TakesTask f (rule_of has a.printer.options limit) a t p s v x
 takes f p hand one asks counted few spent = record {
   hand = hand;
   one = one;
@@ -173,7 +173,7 @@ same_queue f t p q plain same none =
 
 -- the step leads to the next node
 pub spends_down : {N : Type 0} (f : N → Tree) {r : Rule} {a : Point} {t : Task} {s : Seen} {v x : Visits} (p q : Printer N) (i : ℕ)
-    (m : Mode) (n : N) → Takes f r a t p s v x → Plain a.printer →
+    (m : Mode) (n : N) → TakesTask f r a t p s v x → Plain a.printer →
     (suffix_depth t.tree ≡ 0 → some_pending (state_of f p).pending ≡ false → q.queue ≡ p.queue)
     → Descends f i m n (step_from a.printer.options t (standing f p)) p q →
     Spends r (left a.printer [] a.visits) (left_with (make_task i m (f n)) (standing f q) x)
@@ -194,7 +194,7 @@ spends_down f {a} {t} p q i m n h plain same shows =
 -- the step wrote its bytes
 pub spends_moved : {N : Type 0} (f : N → Tree) {r : Rule} {a : Point} {t : Task} {s : Seen} {v x : Visits} (p q : Printer N)
     (bytes : List ℕ)
-    → Takes f r a t p s v x → Plain a.printer →
+    → TakesTask f r a t p s v x → Plain a.printer →
     (suffix_depth t.tree ≡ 0 → some_pending (state_of f p).pending ≡ false → q.queue ≡ p.queue)
     → Wrote (step_from a.printer.options t (standing f p)) bytes (standing f p) (standing f q) →
     Spends r (left a.printer [] a.visits) (left (standing f q) [] x)
@@ -212,7 +212,7 @@ spends_moved f {a} {t} p q bytes h plain same k =
 
 -- the step fails
 pub spends_failed : {N : Type 0} (f : N → Tree) {r : Rule} {a : Point} {t : Task} {s : Seen} {v x : Visits} (p q : Printer N)
-    → Takes f r a t p s v x → Plain a.printer →
+    → TakesTask f r a t p s v x → Plain a.printer →
     Shows f t.mode Failed (step_from a.printer.options t (standing f p)) p q
     → Spends r (left a.printer [] a.visits) (left (standing f q) [] x)
 spends_failed f {r} {a} {t} {x} p q h plain shows =
@@ -224,7 +224,7 @@ spends_failed f {r} {a} {t} {x} p q h plain shows =
 
 -- a choice comes next
 pub spends_choice : {N : Type 0} (f : N → Tree) {r : Rule} {a : Point} {t : Task} {s : Seen} {v x : Visits} (p q : Printer N) (i : ℕ)
-    (y z : N) → Takes f r a t p s v x → Plain a.printer →
+    (y z : N) → TakesTask f r a t p s v x → Plain a.printer →
     Shows f t.mode (Choice i y z) (step_from a.printer.options t (standing f p)) p q →
     Spends r (left a.printer [] a.visits)
     (on_tasks (make_task i Break (f y) ∷ make_task i Break (f z) ∷ (standing f q).tasks) (standing f q).queue x)
@@ -245,7 +245,7 @@ spends_choice f {r} {a} {t} {x} p q i y z h plain shows =
 
 -- the step was refused memory
 pub spends_error : {N : Type 0} (f : N → Tree) {r : Rule} {a : Point} {t : Task} {s : Seen} {v x : Visits} (p : Printer N)
-    → Takes f r a t p s v x → Plain a.printer → Spends r (left a.printer [] a.visits) (none_left x)
+    → TakesTask f r a t p s v x → Plain a.printer → Spends r (left a.printer [] a.visits) (none_left x)
 spends_error f p h plain =
     let b = standing f p in
     let counts = failed_at_most h.one.more in

@@ -1,4 +1,4 @@
-//! The results of turns, alone and in a trial, of runs and of trials.
+//! The results of turns, alone and in a trial, of runs and of trials. They know nothing of nodes.
 
 /// The result of a turn: its last node was visited and written, or fails, or two branches are to be chosen from; or it stopped before
 /// a node, since probes were past their limit.
@@ -6,6 +6,7 @@
 pub enum TurnResult<N> {
     Complete,
     Failed,
+    /// The indent of both branches, in columns, and the two branches.
     Choice(usize, N, N),
     Shift,
 }
@@ -24,6 +25,7 @@ pub enum TrialState<N> {
     Running,
     Complete,
     Rejected,
+    /// The indent of both branches, in columns, and the two branches.
     Choice(usize, N, N),
     Shift,
 }

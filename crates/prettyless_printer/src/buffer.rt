@@ -1,4 +1,4 @@
-//! The text that open trials write to.
+//! The text that open trials write to. It is a sink, and knows no nodes.
 ghost use Rattle.std.specs.Prelude.{⊤, ◌≡◌, [], take, Some};
 ghost use Rattle.std.specs.String.{string_bytes};
 ghost use Rattle.std.specs.String.Boundary.{IsSplitPoint};
@@ -9,7 +9,9 @@ use std::alloc::{AllocError, Global};
 /// What open trials write to: one text for all of them, which is cut back to where a trial began if it is rejected.
 #[derive(Drop)]
 pub struct Buffer {
+    /// What open trials wrote, from where the outermost one began.
     pub text: String,
+    /// How often memory for a write was refused. It stops at the greatest `u64`.
     pub failures: u64,
 }
 

@@ -1,4 +1,4 @@
-//! Rendering a document to a sink.
+//! Rendering a document to a sink. This file knows nodes by `Walk` alone, and no turns and no trials.
 ghost use Rattle.std.specs.Prelude.{◌≡◌, IfOk};
 ghost use Rattle.prettyless_model.specs.Tree.{size};
 ghost use Rattle.prettyless_probe.specs.Sums.{IsSummed};

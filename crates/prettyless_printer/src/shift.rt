@@ -1,4 +1,5 @@
 //! The shift: what a run has left is stored in a table, and the run goes on over that.
+//! It knows runs, trials and tables, and takes no turns.
 ghost use Rattle.std.specs.Prelude.{◌≡◌, ◌<◌, ◌≤◌, ◌+◌, ◌-◌, ◌^◌, ◌++◌, ⊤, IfOk, IfSome, MatchOption, length, min, true};
 ghost use Rattle.std.specs.List.{sum_by};
 ghost use Rattle.prettyless_model.specs.Tree.{size};

@@ -1,4 +1,5 @@
 //! When a printer shifts: it goes on over a table of what is left where probes have visited much more than the printer.
+//! This file knows counts of visits and the width, and no table.
 ghost use Rattle.std.specs.Prelude.{◌≡◌, ◌^◌, ◌<◌, ◌≤◌, ◌↔◌, IsTrue};
 
 use prettyless_sink::visits::Visits;

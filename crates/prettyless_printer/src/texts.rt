@@ -1,4 +1,5 @@
 //! A document that fits and is its texts alone is laid by a loop of its own, without frames, modes and tests of the width.
+//! This file knows nodes by `Walk` alone, and no steps and no trials.
 ghost use Rattle.std.specs.Prelude.{◌≡◌, ◌+◌, ◌≤◌, ◌∷◌, [], ℕ, OnOk, vec_capacity};
 ghost use Rattle.prettyless_model.specs.Tree.{size};
 ghost use Rattle.prettyless_model.specs.declared.mode.Mode.TheVariants.{Flat};

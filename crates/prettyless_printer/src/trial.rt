@@ -1,4 +1,4 @@
-//! Trials: a union's first branch is laid, and kept or rejected.
+//! Trials: a union's first branch is laid, and kept or rejected. They know turns, and no sink but the buffer.
 ghost use Rattle.std.specs.Prelude.{◌≡◌, ◌≤◌, ◌<◌, [], length, take, vec_len, IfOk, IsFalse, IsTrue, OnOk};
 ghost use Rattle.std.specs.String.{string_bytes};
 ghost use Rattle.std.specs.String.Boundary.{IsSplitPoint};
@@ -26,9 +26,13 @@ use std::alloc::{AllocError, Global};
 /// What a trial goes back to if its branch is rejected.
 #[derive(Clone, Copy)]
 pub struct Mark {
+    /// How many commands are below the branch.
     pub commands: usize,
+    /// How many line suffixes the queue had, and which were pending.
     pub queue: QueueMark,
+    /// The column where the branch begins.
     pub column: Column,
+    /// The printer's `within` before the trial.
     pub within: bool,
     /// How many bytes the buffer had.
     pub written: usize,
@@ -38,6 +42,7 @@ pub struct Mark {
 #[derive(Drop)]
 pub struct OpenTrial<N> {
     pub mark: Mark,
+    /// The indent of both branches, in columns.
     pub indent: usize,
     pub second: N,
 }

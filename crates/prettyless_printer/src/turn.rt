@@ -1,4 +1,5 @@
 //! A turn: the next command is stepped, and so is each node that a step leads to; the last one is written.
+//! It knows steps and sinks, and no trials.
 ghost use Rattle.std.specs.Prelude.{◌≡◌, ◌<◌, [], length, IfOk, OnOk};
 ghost use Rattle.prettyless_step.specs.Printing.{tasks_of};
 ghost use Rattle.prettyless_probe.specs.Sums.{IsSummed};
@@ -29,6 +30,10 @@ fn count_more(visits: &mut Visits, count: u64)
 /// Takes the next command, steps down to a node that leads to no other, and writes what that one gives.
 /// Each of these nodes is a visit, and so is a payload that a step rejects. Before a node that needs a probe it stops if probes have
 /// visited more nodes than the limit.
+///
+/// `Memory` is answered where memory was refused: nothing was written then. `Sink` is answered where the sink failed:
+/// a beginning of what was to be laid was written then. Both hold where the sink's bytes are known. A node that fails
+/// is no error, but the result `Failed`.
 #[inline(always)]
 pub fn turn<N: Walk, W: Render>(
     printer: &mut Printer<N>,

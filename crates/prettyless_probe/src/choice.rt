@@ -1,4 +1,5 @@
 //! Which of two nodes is taken: by the mode, by the column or by the indent.
+//! This file knows nodes by `Walk` alone, and no stack.
 ghost use Rattle.std.specs.Prelude.{◌≡◌, if◌then◌else◌};
 ghost use Rattle.prettyless_model.specs.Choice.{column_holds, nesting_holds};
 ghost use Rattle.prettyless_model.specs.Column.{prospective};

@@ -1,4 +1,4 @@
-//! A node that is still to be laid, with its indent and its mode.
+//! A node that is still to be laid, with its indent and its mode. Nothing is known of the node: it may be of any type.
 ghost use Rattle.std.specs.Prelude.{◌≡◌, ⊤};
 ghost use Rattle.prettyless_model.specs.Column.{nested};
 
@@ -37,5 +37,6 @@ pub fn nested_indent(indent: usize, offset: isize) -> usize
 pub struct Frame {
     pub indent: usize,
     pub mode: Mode,
+    /// How many nodes of the stack are below the frame: its own begin at that height.
     pub below: usize,
 }

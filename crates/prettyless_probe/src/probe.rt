@@ -1,4 +1,5 @@
 //! The probe: whether a node fits the line with what follows it.
+//! It knows nodes by `Walk` alone, and of a printer the commands that it has left. It knows no sink.
 ghost use Rattle.std.specs.Prelude.{◌≡◌, ◌++◌, ◌∷◌, [], IfOk, OnOk, IfSome, MatchOption, List, false, length, true, IsTrue, ◌&&◌};
 ghost use Rattle.std.specs.Prelude.{◌+◌, ◌<◌, ◌≤◌};
 ghost use Rattle.std.specs.Prelude.{if◌then◌else◌};
@@ -518,6 +519,8 @@ fn visit_all<N: Walk>(
 /// Whether a node, laid at this indent and in this mode from where the line is, stays within the width together with what
 /// follows it, up to the first line end. `stack` is only a place to work in. The nodes that it visits are counted in `probes`: one at
 /// least, and two at most where all is summed up.
+///
+/// It fails where memory is refused. Nothing is promised of `stack` then, and what was visited is counted.
 #[tactic(auto, using(crate::proofs::Probes::probe_fits))]
 pub fn probe<N: Walk>(
     width: usize,

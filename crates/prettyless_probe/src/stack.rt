@@ -1,5 +1,5 @@
 //! The nodes that are still to be laid, as a stack: the nodes alone, and an indent and a mode once for all neighbours that share
-//! them.
+//! them. It knows nodes by `Walk` alone, and no column and no width.
 ghost use Rattle.std.specs.Prelude.{◌≡◌, ◌≤◌, vec_len};
 ghost use Rattle.prettyless_probe.specs.Frames.{Rises, Rises-prop, lowest};
 
@@ -12,7 +12,9 @@ use std::alloc::{AllocError, Global};
 /// What a probe reads of a node in Break and of those below it: what their sum reads, and then so many nodes at the bottom.
 #[derive(Clone, Copy)]
 pub struct Below {
+    /// The summary in Break of the topmost of these nodes, as many as are combined; of nothing where none is.
     pub sum: Summary,
+    /// How many nodes at the bottom of the stack it does not combine.
     pub left: usize,
 }
 
@@ -198,7 +200,9 @@ impl<N: Walk> Stack<N> {
         Ok(())
     }
 
-    /// Makes the topmost frame one of this indent and mode.
+    /// Makes the topmost frame one of this indent, in columns, and this mode. All nodes keep theirs.
+    ///
+    /// It fails where memory is refused: nothing is promised of the stack then.
     #[inline(always)]
     pub fn enter(&mut self, indent: usize, mode: Mode) -> Result<(), AllocError>
         ensures same { OnOk result (stack_of N.tree self.new ≡ stack_of N.tree self.old) }
@@ -212,7 +216,9 @@ impl<N: Walk> Stack<N> {
         self.change(indent, mode)
     }
 
-    /// Puts a node on top, in the topmost frame.
+    /// Puts a node on top, in the topmost frame: it has the indent and the mode of that.
+    ///
+    /// It fails where memory is refused: nothing is promised of the stack then.
     #[inline(always)]
     pub fn push_in(&mut self, node: N) -> Result<(), AllocError>
         ensures pushed { OnOk result (stack_of N.tree self.new
@@ -237,7 +243,9 @@ impl<N: Walk> Stack<N> {
         self.push_in(node)
     }
 
-    /// Puts a node on top.
+    /// Puts a node on top, with this indent, in columns, and this mode.
+    ///
+    /// It fails where memory is refused: nothing is promised of the stack then.
     #[inline(always)]
     pub fn push(&mut self, indent: usize, mode: Mode, node: N) -> Result<(), AllocError>
         ensures pushed { OnOk result (stack_of N.tree self.new ≡ make_task indent mode (N.tree node) ∷ stack_of N.tree self.old) }
@@ -344,7 +352,9 @@ impl<N: Walk> Stack<N> {
         })
     }
 
-    /// Puts nodes on top, so that the first of them is the next one.
+    /// Puts nodes on top, with this indent and this mode, so that the first of them is the next one.
+    ///
+    /// It fails where memory is refused: nothing is promised of the stack then.
     pub fn push_each(&mut self, indent: usize, mode: Mode, nodes: &[N]) -> Result<(), AllocError>
         ensures pushed { OnOk result (stack_of N.tree self.new ≡ tasks indent mode (trees N.tree nodes.now) ++ stack_of N.tree self.old) }
         ensures summed { OnOk result (IsSummed N.HAS_SUMMARIES N.tree self.old → IsSummed N.HAS_SUMMARIES N.tree self.new) }
@@ -401,7 +411,7 @@ impl<N: Walk> Stack<N> {
         frame.indent
     }
 
-    /// A cursor from which all nodes are read, from the top.
+    /// A cursor at the top: no node is read yet. It is of this stack, and only as the stack is now.
     #[inline(always)]
     pub fn cursor(&self) -> Cursor
         ensures of_this { IsCursor self.now result }
@@ -453,7 +463,8 @@ impl<N: Walk> Stack<N> {
         })
     }
 
-    /// Reads the next node downwards.
+    /// Reads the next node downwards, with its indent and mode, and moves the cursor past it.
+    /// `None` is answered where all are read. The stack stays.
     #[inline(always)]
     pub fn read_down(&self, cursor: &mut Cursor) -> Option<Command<N>>
         requires { IsCursor self.now cursor.old }
@@ -517,7 +528,7 @@ impl<N: Walk> Stack<N> {
         cursor.here.below = 0;
     }
 
-    /// Leaves out all that is not read yet but so many nodes at the bottom.
+    /// Moves the cursor down, past all that is not read yet but so many nodes at the bottom. The stack stays.
     pub fn skip_to(&self, cursor: &mut Cursor, left: usize)
         requires of_this { IsCursor self.now cursor.old }
         requires left { left ≤ length (unread N.tree self.now cursor.old) }

@@ -1,4 +1,5 @@
 //! The probe where nodes have summaries: it reads a node that is known by its summary, and what follows by its sum.
+//! It knows nodes by `Walk` alone, and of a printer the commands that it has left.
 ghost use Rattle.std.specs.Prelude.{◌≡◌, ◌++◌, ◌∷◌, IfOk, IsTrue, OnOk, List, [], length, ◌+◌, ◌*◌, ◌^◌, ◌<◌, ◌≤◌};
 ghost use Rattle.prettyless_model.specs.Tree.{size};
 ghost use Rattle.prettyless_model.specs.Look.{answer_of};

@@ -1,4 +1,4 @@
-//! The interface to documents: a node as the printer sees it.
+//! The interface to documents: a node as the printer sees it. It does not know how documents are stored.
 ghost use Rattle.std.specs.Prelude.{◌≡◌, ◌<◌, ◌^◌, Bool, IsTrue};
 ghost use Rattle.prettyless_model.specs.Tree.{Tree, size};
 ghost use Rattle.prettyless_probe.specs.View.{IsMeasured, view_tree};

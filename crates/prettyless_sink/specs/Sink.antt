@@ -45,9 +45,14 @@ abbrev pub Refuses : Option (List ℕ) → Option (List ℕ) → List ℕ → �
 Refuses old new text n m = IfKnown old new (λ before after. AppendsBeginning before after text × (m ≡ rise n))
 
 -- So many bytes of the text were appended, and the failures rose where that count is not fair.
-abbrev pub Takes : Option (List ℕ) → Option (List ℕ) → List ℕ → ℕ → ℕ → ℕ → Type 0
-Takes old new text count n m = IfKnown old new (λ before after. AppendsCount before after text count × RisesIfUnfair n m text count)
+abbrev pub AcceptsCount : Option (List ℕ) → Option (List ℕ) → List ℕ → ℕ → ℕ → ℕ → Type 0
+AcceptsCount old new text count n m = IfKnown old new (λ before after. AppendsCount before after text count × RisesIfUnfair n m text count)
 
 -- a beginning of the bytes was appended to those that are known
 abbrev pub AppendsKnownBeginning : Option (List ℕ) → Option (List ℕ) → List ℕ → Type 0
 AppendsKnownBeginning old new bytes = (front : List ℕ) × (back : List ℕ) × (bytes ≡ front ++ back) × Appends old new front
+
+-- the same, and not all of the bytes
+abbrev pub AppendsProperBeginning : Option (List ℕ) → Option (List ℕ) → List ℕ → Type 0
+AppendsProperBeginning old new bytes = (front : List ℕ) × (back : List ℕ) × (bytes ≡ front ++ back) × (0 < length back)
+    × Appends old new front

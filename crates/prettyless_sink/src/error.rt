@@ -1,4 +1,4 @@
-//! Why a render stops.
+//! Why a render stops. This file knows no sinks: a sink's error is a parameter.
 use std::alloc::AllocError;
 use std::error::Error;
 use std::fmt;

@@ -1,4 +1,4 @@
-//! A sink over a text writer.
+//! A sink over a text writer. It knows text writers by `TextWriter`, and no documents.
 ghost use Rattle.std.specs.Prelude.{◌≡◌, ⊤, Some};
 
 use crate::render::Render;

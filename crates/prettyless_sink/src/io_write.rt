@@ -1,9 +1,9 @@
-//! A sink over a byte writer.
+//! A sink over a byte writer, and the writing of bytes in whole. It knows no documents.
 ghost use Rattle.std.specs.Prelude.{◌≡◌, Some, OnOk, OnErr};
 ghost use Rattle.std.specs.IoError.{error_kind};
 ghost use Rattle.std.specs.declared.io.ErrorKind.TheVariants.{Other};
 ghost use Rattle.std.specs.Io.KnownBytes.{Appends};
-ghost use Rattle.prettyless_sink.specs.Sink.{AppendsKnownBeginning};
+ghost use Rattle.prettyless_sink.specs.Sink.{AppendsProperBeginning};
 
 use crate::render::{Render, is_fair_count};
 use std::io;
@@ -77,11 +77,18 @@ impl<'w, W: io::Write> Render for IoWrite<&'w mut W> {
     }
 }
 
-// Writes all of the bytes, or fails after a beginning of them. By the writer's contract no count is past the end.
+/// Writes all of the bytes, or fails after a beginning of them that is not all.
+///
+/// An error of the writer is answered as it comes, an interruption too. A `write` that takes nothing is an error of the
+/// kind `WriteZero`. By the writer's contract no count is past the end.
+///
+/// ```
+/// write_whole(&mut writer, b"ab\n")?; // what the writer holds grew by three bytes
+/// ```
 #[inline]
-fn write_whole<W: io::Write>(upstream: &mut W, bytes: &[u8]) -> io::Result<()>
+pub fn write_whole<W: io::Write>(upstream: &mut W, bytes: &[u8]) -> io::Result<()>
     ensures ok { OnOk result (Appends (W.contents upstream.old) (W.contents upstream.new) bytes.now) }
-    ensures err { OnErr result (AppendsKnownBeginning (W.contents upstream.old) (W.contents upstream.new) bytes.now) }
+    ensures err { OnErr result (AppendsProperBeginning (W.contents upstream.old) (W.contents upstream.new) bytes.now) }
 {
     let mut rest = bytes;
     while !rest.is_empty() {

@@ -1,4 +1,4 @@
-//! Where a layout goes: sinks, and the causes for which a render stops.
+//! Where a layout goes: sinks, and the causes for which a render stops. None of it knows nodes.
 #![tactic(auto)]
 
 pub mod error;

@@ -1,4 +1,4 @@
-//! Gaps and texts, written in pieces.
+//! Gaps and texts, written in pieces. This file knows sinks by `Render` alone, and no documents.
 ghost use Rattle.std.specs.Prelude.{◌≡◌, ◌++◌, OnOk, OnErr};
 ghost use Rattle.prettyless_sink.specs.Sink.{Accepts, Refuses};
 ghost use Rattle.prettyless_model.specs.Spaces.{spaces};

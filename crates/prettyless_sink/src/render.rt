@@ -1,6 +1,7 @@
+//! The trait of sinks: what a write appends, and how failures are counted. It knows no documents.
 ghost use Rattle.std.specs.Prelude.{◌≡◌, ◌⊎◌, ◌↔◌, IsTrue, ℕ, List, Option, None, IfOk, OnOk, OnErr};
 ghost use Rattle.std.specs.Borrow.{GName};
-ghost use Rattle.prettyless_sink.specs.Sink.{Accepts, IsFairCount, Refuses, Takes};
+ghost use Rattle.prettyless_sink.specs.Sink.{Accepts, IsFairCount, Refuses, AcceptsCount};
 
 /// A sink: where the bytes of a layout go.
 ///
@@ -31,7 +32,8 @@ pub trait Render {
     /// character. A beginning of the text is written then too.
     fn write_str(&mut self, s: &str) -> Result<usize, Self::Error>
         ensures same_lender { lender self.new ≡ lender self.old }
-        ensures ok { IfOk result (λ count. Takes (bytes self.old) (bytes self.new) s.now count (failures self.old) (failures self.new)) }
+        ensures ok { IfOk result (λ count.
+            AcceptsCount (bytes self.old) (bytes self.new) s.now count (failures self.old) (failures self.new)) }
         ensures err { OnErr result (Refuses (bytes self.old) (bytes self.new) s.now (failures self.old) (failures self.new)) };
 
     /// Writes the whole text, or fails after a beginning of it.

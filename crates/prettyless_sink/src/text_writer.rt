@@ -1,4 +1,4 @@
-//! Text writers, and what is known of their text.
+//! Text writers, and what is known of their text. This file knows no sinks.
 ghost use Rattle.std.specs.Prelude.{◌≡◌, ◌+◌, ◌<◌, List, ℕ, Option, None, Some, OnOk, OnErr, length};
 ghost use Rattle.std.specs.String.{string_bytes, string_len, string_capacity};
 ghost use Rattle.std.specs.Io.KnownBytes.{Appends};

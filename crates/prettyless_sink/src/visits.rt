@@ -1,4 +1,4 @@
-//! How many nodes a render visits.
+//! How many nodes a render visits. This file knows counts alone, and no nodes.
 ghost use Rattle.std.specs.Prelude.{◌≡◌, ◌+◌, ◌≤◌};
 ghost use Rattle.prettyless_sink.specs.Sink.{rise};
 

@@ -1,4 +1,5 @@
 //! What texts and payloads do to the column.
+//! This file knows the printer's state, and no sink: what is to be written is an answer.
 ghost use Rattle.std.specs.Prelude.{◌≡◌};
 ghost use Rattle.prettyless_model.specs.Layout.{after_payload as after_payload_of, lay_payload, lay_text, payload_fits as payload_fits_of};
 ghost use Rattle.prettyless_step.specs.Steps.{at_once};

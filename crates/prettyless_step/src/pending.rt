@@ -1,4 +1,5 @@
 //! Pending line suffixes, and their way back to the commands.
+//! This file knows the printer's state, and no sink: the gap that is to be written is an answer.
 ghost use Rattle.std.specs.Prelude.{◌≡◌, ◌++◌, IfOk, OnOk};
 ghost use Rattle.prettyless_model.specs.Column.{gap as gap_of};
 ghost use Rattle.prettyless_model.specs.Layout.{flushed, some_pending};
@@ -21,6 +22,8 @@ pub fn is_pending<N: Walk>(printer: &Printer<N>) -> bool
 
 /// Makes the pending line suffixes the next commands, in their order. The line's gap is to be written before them, as before
 /// content: it is the answer, in spaces.
+///
+/// It fails where memory is refused. The options stay then, the queue keeps its suffixes, and no more is promised.
 #[tactic(auto, using(crate::proofs::Queues::queues))]
 pub fn take_pending<N: Walk>(
     printer: &mut Printer<N>,

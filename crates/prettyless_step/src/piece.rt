@@ -1,4 +1,4 @@
-//! What one node writes.
+//! What one node writes. It knows sinks, and no nodes.
 ghost use Rattle.std.specs.Prelude.{◌≡◌, [], OnOk, OnErr};
 ghost use Rattle.prettyless_sink.specs.Sink.{Accepts, Refuses};
 ghost use Rattle.prettyless_step.specs.Piece.{piece_bytes};

@@ -1,4 +1,4 @@
-//! The printer's state, and what a step answers.
+//! The printer's state, and what a step answers. This file reads no node, and knows no sink.
 use crate::piece::Piece;
 use crate::queue::Queue;
 use prettyless_model::column::Column;

@@ -1,4 +1,4 @@
-//! The queue of line suffixes.
+//! The queue of line suffixes. It knows nothing of its nodes, and no column.
 ghost use Rattle.std.specs.Prelude.{◌≡◌, ◌∷◌, ◌++◌, ◌<◌, ◌≤◌, [], drop, take, vec_len, IsTrue, OnOk, ◌↔◌};
 
 use std::alloc::{AllocError, Global};
@@ -12,7 +12,7 @@ pub struct Queue<N> {
     pub ghost in_range: { start ≤ vec_len nodes },
 }
 
-/// How far a queue was, to go back to.
+/// How many suffixes a queue had, and from which on they were pending, to go back to.
 #[derive(Clone, Copy)]
 pub struct QueueMark {
     len: usize,
@@ -56,6 +56,8 @@ impl<N: Copy> Queue<N> {
     }
 
     /// Adds one, which is pending.
+    ///
+    /// It fails where memory is refused. The start of those that are pending stays then, and no more is promised.
     #[inline(always)]
     pub fn push(&mut self, node: N) -> Result<(), AllocError>
         ensures nodes { OnOk result (self.new.nodes.items ≡ self.old.nodes.items ++ node ∷ []) }
@@ -97,7 +99,7 @@ impl<N: Copy> Queue<N> {
         }
     }
 
-    /// How far it is.
+    /// How many suffixes it has, and from which on they are pending: `rewind` goes back to that.
     #[inline(always)]
     pub fn mark(&self) -> QueueMark
         ensures len { result.len ≡ vec_len self.now.nodes }

@@ -1,4 +1,5 @@
 //! What the visit of one node does.
+//! This file knows nodes by `Walk` alone, and no trials and no sink. Only here are probes started.
 ghost use Rattle.std.specs.Prelude.{◌≡◌, ◌+◌, ◌∷◌, ◌≤◌, ◌<◌, ◌^◌, ◌&&◌, [], false, true, IfOk, IsFalse, IsTrue, OnOk, if◌then◌else◌};
 ghost use Rattle.prettyless_model.specs.Tree.{size};
 ghost use Rattle.prettyless_model.specs.Look.{by_mode};
@@ -316,9 +317,11 @@ fn union<N: Walk>(
 }
 
 /// Visits one node at an indent in a mode, with the printer's commands following it. It answers `Shift`, and changes
-/// nothing, where the node
-/// needs a probe and probes have visited more nodes than the limit. What a probe visits is counted in `visits`, and so is a payload that
-/// its metrics reject as the first branch of a union; the node itself is not.
+/// nothing, where the node needs a probe and probes have visited more nodes than the limit. What a probe visits is
+/// counted in `visits`. So is a payload that its metrics reject as the first branch of a union. The node itself is not
+/// counted.
+///
+/// It fails where memory is refused. What the printer has left is not known then, but the visits are counted.
 #[inline(always)]
 #[tactic(auto, using(crate::proofs::Queues::queues))]
 pub fn step<'v, N: Walk>(

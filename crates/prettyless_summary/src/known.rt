@@ -1,4 +1,4 @@
-//! Summaries that may not be known.
+//! Summaries that may not be known. This file knows no nodes.
 ghost use Rattle.std.specs.Prelude.{ℕ, ◌+◌, ◌<◌, ◌^◌};
 ghost use Rattle.prettyless_model.specs.Tree.{Append, Tree};
 ghost use Rattle.prettyless_model.specs.declared.mode.Mode.{Mode};

@@ -1,4 +1,4 @@
-//! A summary but for its numbers, as one byte.
+//! A summary but for its numbers, as one byte. This file knows no nodes.
 ghost use Rattle.std.specs.Prelude.{◌≡◌, ◌<◌};
 ghost use Rattle.prettyless_summary.specs.Marks.{marks_of, end_of as end_by, weak_of as weak_by};
 

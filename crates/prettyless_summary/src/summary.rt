@@ -1,4 +1,5 @@
 //! Summaries: of what a document may begin with, of two documents one after the other, and the result of reading a line by one.
+//! This file knows columns, modes and metrics, and no nodes.
 ghost use Rattle.std.specs.Prelude.{◌≡◌, ℕ, ◌+◌, ◌<◌, ◌≤◌, ◌^◌, ◌↔◌, Bool, true, false, Option, Some, None, IfSome, IsTrue};
 ghost use Rattle.std.specs.Prelude.{MatchOption, ◌||◌, max, nat_le, if◌then◌else◌};
 ghost use Rattle.prettyless_model.specs.Column.{blank, commit, padding_fits};
@@ -77,6 +78,7 @@ pub struct Summary {
     pub has_ink: bool,
     /// Whether a line suffix becomes pending.
     pub has_suffix: bool,
+    /// What comes of the reading after all that.
     pub end: End,
 }
 
@@ -380,7 +382,10 @@ impl Summary {
         Some(blanks.and_weak(next.weak).and_rest(next))
     }
 
-    /// The result of reading a line by it.
+    /// The result of reading what it is the summary of, from a column on.
+    ///
+    /// It is the answer of the probe, or the line after what was read.
+    /// `pending` says whether a line suffix is pending before that. The result is right at widths below 2^32.
     #[inline]
     pub fn read(self, width: usize, column: Column, pending: bool) -> ReadResult
         ensures { look_of result ≡ look_by width self column pending }

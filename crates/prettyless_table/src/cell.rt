@@ -1,4 +1,4 @@
-//! The cells of a table.
+//! The cells of a table. A cell knows summaries and places, and neither the parts of a node nor the table.
 ghost use Rattle.std.specs.Prelude.{◌≡◌};
 ghost use Rattle.prettyless_model.specs.Tree.{Tree};
 ghost use Rattle.prettyless_table.specs.Cells.{KeepsBoth, second_of};

@@ -1,4 +1,5 @@
 //! How many nodes documents have, and which of them take cells: counted and listed before cells are made, so that none is made in vain.
+//! This file knows the parts of nodes and what a printer has left, and no table.
 ghost use Rattle.std.specs.Prelude.{◌≡◌, ◌+◌, ◌<◌, ◌≤◌, ◌++◌, List, IfOk, IfSome, OnOk, MatchOption, if◌then◌else◌};
 ghost use Rattle.std.specs.List.{sum_by};
 ghost use Rattle.prettyless_model.specs.Tree.{Tree, size};
@@ -152,7 +153,10 @@ fn count_roots<N: Walk>(
     Ok(Some(left))
 }
 
-/// How many nodes a document has; those that take cells are listed after `owners`. `None` is answered where there are more than `most`.
+/// How many nodes a document has; those that take cells are listed after `owners`. `None` is answered where there are
+/// more than `most`.
+///
+/// It fails where memory is refused. Nothing is promised of `owners` then, nor at `None`.
 pub fn count<N: Walk>(
     alloc: Global,
     root: N,
@@ -172,8 +176,10 @@ pub fn count<N: Walk>(
     Ok(Some(most - left))
 }
 
-/// How many nodes a printer has left, in its commands and its queue; those that take cells are listed after `owners`. `None` is answered
-/// where there are more than `most`.
+/// How many nodes a printer has left, in its commands and its queue; those that take cells are listed after `owners`.
+/// `None` is answered where there are more than `most`.
+///
+/// It fails where memory is refused. Nothing is promised of `owners` then, nor at `None`.
 pub fn count_left<N: Walk>(
     alloc: Global,
     printer: &Printer<N>,

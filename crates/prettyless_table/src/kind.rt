@@ -1,4 +1,4 @@
-//! What a node is that has parts.
+//! What a node is that has parts. These are names alone: this file knows no nodes.
 
 /// What a node with one part is.
 #[derive(Clone, Copy)]

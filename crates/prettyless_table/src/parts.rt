@@ -1,11 +1,11 @@
-//! The parts of a node, and which documents are so small that they take no cell.
+//! The parts of a node, and which documents are so small that they take no cell. This file knows `View` alone.
 ghost use Rattle.std.specs.Prelude.{◌≡◌};
 ghost use Rattle.prettyless_table.specs.Parts.{IsShape, none, part_trees, parts_of, small, takes};
 
 use crate::kind::{Pair, Single};
 use prettyless_probe::walk::{View, Walk};
 
-/// The parts of a node.
+/// The parts of a node: the nodes right below it, in their order.
 #[derive(Drop)]
 pub enum Parts<N> {
     None,
@@ -13,7 +13,7 @@ pub enum Parts<N> {
     Two(N, N),
 }
 
-/// The parts of a node.
+/// Reads which parts a node has.
 #[inline(always)]
 pub fn parts_below<N: Walk>(node: &N) -> Parts<N>
     ensures { part_trees N.tree result ≡ parts_of (N.tree node.now) }
@@ -39,13 +39,14 @@ pub fn parts_below<N: Walk>(node: &N) -> Parts<N>
 #[derive(Drop)]
 pub enum Shape<N> {
     Leaf,
+    /// A node with one part. The number is the offset of a nest, in columns, and 0 for another node.
     One(Single, isize, N),
     Two(Pair, N, N),
     /// A choice by column or nesting.
     Choice(N, N),
 }
 
-/// What a node is.
+/// Reads what a node is, with its parts. Texts and tests are left out.
 #[inline(always)]
 pub fn shape_of<N: Walk>(node: &N) -> Shape<N>
     ensures { IsShape N.tree result (N.tree node.now) }

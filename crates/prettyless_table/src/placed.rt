@@ -1,4 +1,4 @@
-//! A node of a table, as a printer walks it.
+//! A node of a table, as a printer walks it. It knows the table, and the document's nodes by `Walk` alone.
 ghost use Rattle.std.specs.Prelude.{◌≡◌, ◌-◌, ◌<◌, true, ⊤};
 ghost use Rattle.prettyless_table.specs.Cells.{In, In-prop, IsRoot, CellsAreSound, tree_at, second_at};
 

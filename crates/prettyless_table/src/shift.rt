@@ -1,4 +1,5 @@
 //! The shift: what a printer has left is stored in a table, and a printer over the table goes on from where the first one stands.
+//! It knows a printer's state, and no sink and no trials.
 ghost use Rattle.std.specs.Prelude.{◌≡◌, ◌+◌, ◌≤◌, ◌++◌, List, length, map, IfOk, true};
 ghost use Rattle.std.specs.List.{All};
 ghost use Rattle.prettyless_model.specs.Tree.{Tree};
@@ -83,6 +84,8 @@ fn store_nodes<N: Walk>(
 }
 
 /// Adds all that a printer has left to a table that has the cells of its nodes, and answers where it stands.
+///
+/// It fails where memory is refused: the cells that the table had stay then.
 pub fn store_all<N: Walk>(
     alloc: Global,
     printer: &Printer<N>,
@@ -151,6 +154,8 @@ fn placed_queue<'t, N: Walk>(
 }
 
 /// The printer over a table in which all that another printer has left stands: it goes on from where that one stands.
+///
+/// It fails where memory is refused. The other printer and the table stay as they are.
 pub fn placed_printer<'t, N: Walk>(
     alloc: Global,
     printer: &Printer<N>,

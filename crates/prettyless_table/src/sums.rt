@@ -1,4 +1,5 @@
 //! The summaries of a node, made of those of its parts, and how a cell keeps them.
+//! This file knows the parts of nodes, and no table.
 ghost use Rattle.std.specs.Prelude.{◌≡◌, ℤ, [], false, true};
 ghost use Rattle.prettyless_model.specs.Tree.{Tree};
 ghost use Rattle.prettyless_model.specs.Look.{Answers};
@@ -16,24 +17,28 @@ use prettyless_summary::known::appended;
 use prettyless_summary::summary::Summary;
 
 /// The summaries of a node, where they are known: of its reading where lines are flat, and where they are broken.
+/// `None` says that one is not known.
 #[derive(Clone, Copy)]
 pub struct Sums {
     pub flat: Option<Summary>,
     pub broken: Option<Summary>,
 }
 
-/// The numbers of a summary, in columns.
+/// The numbers of a summary, in columns, as `Summary` has them.
 #[derive(Clone, Copy)]
 pub struct Counts {
+    /// Weak spaces before the weak line that comes first; where there is none, before the first ink, or all.
     pub lead: u32,
+    /// From the first ink to the last, with the weak spaces between.
     pub inner: u32,
+    /// Weak spaces after the last ink.
     pub trail: u32,
 }
 
 /// The marks of a summary that is not known.
 pub const NOT_KNOWN: u8 = 255;
 
-/// The marks and the numbers of a summary, if it is known.
+/// The marks and the numbers of a summary. Where it is not known, they are `NOT_KNOWN` and zeros.
 #[inline(always)]
 pub fn packed(sum: Option<Summary>) -> (u8, Counts)
     ensures { (d : Tree) (m : Mode) → IsModeSummary sum d m → Keeps result.0 result.1 d m }
@@ -69,7 +74,7 @@ fn unpacked(marks: u8, counts: Counts) -> Option<Summary>
     Some(Summary::unpacked(counts.lead, counts.inner, counts.trail, marks))
 }
 
-/// The summary in a mode, of those that a cell keeps.
+/// The summary in a mode, of those that a cell keeps. `None` says that it is not known.
 #[inline(always)]
 pub fn kept(
     mode: Mode,

@@ -1,4 +1,4 @@
-//! The table, and how a document is stored in it.
+//! The table, and how a document is stored in it. This file knows nodes by `Walk` and their parts, and no printer.
 ghost use Rattle.std.specs.Prelude.{◌≡◌, ◌∷◌, [], List, drop, get_or, reverse};
 ghost use Rattle.prettyless_model.specs.Tree.{Tree};
 ghost use Rattle.prettyless_table.specs.Cells.{In};
@@ -60,7 +60,7 @@ impl<N: Walk> Table<N> {
         }
     }
 
-    /// A table without documents, with memory for so many nodes.
+    /// A table without documents, with memory for so many cells. It fails where that memory is refused.
     pub fn with_room(alloc: Global, nodes: usize) -> Result<Self, AllocError>
         ensures empty { IfOk result (λ t. t.cells.items ≡ []) }
         ensures sound { IfOk result (λ t. CellsAreSound N.tree t.cells.items) }
@@ -206,6 +206,8 @@ impl<N: Walk> Table<N> {
 
     /// Adds the cells of listed nodes, those of the last document first. The answer is where the documents stand that are not small,
     /// the first one last.
+    ///
+    /// It fails where memory is refused. The cells that the table had stay then, and others may follow them.
     pub fn fill(&mut self, alloc: Global, owners: Vec<N>) -> Result<Vec<u32>, AllocError>
         requires room { length self.old.cells.items + length owners.items ≤ MOST_CELLS }
         requires listed { (ds : List Tree) × (map N.tree owners.items ≡ all_owners ds) }
@@ -229,6 +231,8 @@ impl<N: Walk> Table<N> {
 
     /// Adds a document, whose nodes have their cells, and answers its place. Where it stands is the last of these places, unless it is
     /// small.
+    ///
+    /// It fails where memory is refused: the cells that the table had stay then.
     pub fn add(&mut self, root: N, waiting: &mut Vec<u32>) -> Result<u32, AllocError>
         requires sound { CellsAreSound N.tree self.old.cells.items }
         requires room { length self.old.cells.items < MOST_CELLS }

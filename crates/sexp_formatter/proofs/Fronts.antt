@@ -4,7 +4,7 @@ use Rattle.std.specs.Char.{digit_value, is_ascii_digit}
 use Rattle.std.specs.Str.Parse.{IsNumeral}
 use Rattle.std.proofs.lemmas.Bool.Decides.{nat_tests}
 use Rattle.std.proofs.lemmas.Str.Parse.{digit_from_value}
-use Rattle.sexp_formatter.specs.Value.{Value, Values, number, list, none, first, depth_of_all, values_before}
+use Rattle.sexp_formatter.specs.Value.{SexpValue, Values, number, list, none, first, depth_of_all, values_before}
 use Rattle.sexp_formatter.specs.Grammar.{opening, closing, input_space, AreSpaced}
 use Rattle.sexp_formatter.specs.Fronts.{EndsNumber, BeginsValue, Closes, IsFront, HasNoFront, IsListFront, HasNoListFront}
 
@@ -43,7 +43,7 @@ closes_none : (bytes rest : List ℕ) → Closes none bytes rest → bytes ≡ c
 closes_none bytes rest h = h.1 ∙ ap (λ (x : List ℕ). x ++ closing ∷ rest) h.2
 
 -- the first value, and what follows it
-split_first : (v : Value) (vs : Values) (bytes rest : List ℕ) → Closes (first v vs) bytes rest →
+split_first : (v : SexpValue) (vs : Values) (bytes rest : List ℕ) → Closes (first v vs) bytes rest →
     (middle : List ℕ) × BeginsValue v bytes middle
     × Follows vs middle rest
 split_first v vs bytes rest h =
@@ -58,7 +58,7 @@ split_first v vs bytes rest h =
       (back, refl, h.2.4),
     )
 
-join_first : (v : Value) (vs : Values) (bytes middle rest : List ℕ) → BeginsValue v bytes middle → Follows vs middle rest
+join_first : (v : SexpValue) (vs : Values) (bytes middle rest : List ℕ) → BeginsValue v bytes middle → Follows vs middle rest
     → Closes (first v vs) bytes rest
 join_first v vs bytes middle rest b f =
     (b.0 ++ f.0, b.1 ∙ ap (λ (x : List ℕ). b.0 ++ x) f.1 ∙ sym (append_assoc b.0 f.0 (closing ∷ rest)), (b.0, f.0, refl, b.2, f.2))
@@ -67,7 +67,7 @@ follows_none : (bytes rest : List ℕ) → Follows none bytes rest → bytes ≡
 follows_none bytes rest h = h.1 ∙ ap (λ (x : List ℕ). x ++ closing ∷ rest) h.2
 
 -- after a value that others follow a space comes
-split_space : (v : Value) (vs : Values) (bytes rest : List ℕ) → Follows (first v vs) bytes rest →
+split_space : (v : SexpValue) (vs : Values) (bytes rest : List ℕ) → Follows (first v vs) bytes rest →
     (inner : List ℕ) × (bytes ≡ input_space ∷ inner)
     × Closes (first v vs) inner rest
 split_space v vs bytes rest h =
@@ -78,7 +78,7 @@ split_space v vs bytes rest h =
       (front ++ back, refl, (front, back, refl, h.2.3, h.2.4)),
     )
 
-join_space : (v : Value) (vs : Values) (inner rest : List ℕ) → Closes (first v vs) inner rest →
+join_space : (v : SexpValue) (vs : Values) (inner rest : List ℕ) → Closes (first v vs) inner rest →
     Follows (first v vs) (input_space ∷ inner) rest
 join_space v vs inner rest h =
     (input_space ∷ h.0, ap (λ (x : List ℕ). input_space ∷ x) h.1, (h.2.0, h.2.1, ap (λ (x : List ℕ). input_space ∷ x) h.2.2, h.2.3, h.2.4))
@@ -99,7 +99,7 @@ first_digit [] rest h = absurd (omega (arith, h.0))
 first_digit (b ∷ bs) rest h = (b, bs ++ rest, refl, digit_is b h.1.0)
 
 -- a value begins with a digit or an opening parenthesis
-pub first_byte : (v : Value) (bytes rest : List ℕ) → BeginsValue v bytes rest → (b : ℕ) × (bs : List ℕ) × (bytes ≡ b ∷ bs)
+pub first_byte : (v : SexpValue) (bytes rest : List ℕ) → BeginsValue v bytes rest → (b : ℕ) × (bs : List ℕ) × (bytes ≡ b ∷ bs)
     × ((is_ascii_digit b ≡ true) ⊎ (b ≡ opening))
 first_byte (number n) bytes rest h = let f = first_digit h.0 rest h.2.0.0 in (f.0, f.1, h.1 ∙ f.2, inl f.3)
 first_byte (list vs) bytes rest h = let o = opens vs bytes rest h in (opening, o.0, o.1, inr refl)
@@ -108,7 +108,7 @@ begins_value : (b : ℕ) → closing ≡ b → (is_ascii_digit b ≡ true) ⊎ (
 begins_value b e (inl digit) = grind (arith, nat_tests)
 begins_value b e (inr open_) = omega arith
 
-not_closing : (v : Value) (bytes rest : List ℕ) → BeginsValue v (closing ∷ bytes) rest → ⊥
+not_closing : (v : SexpValue) (bytes rest : List ℕ) → BeginsValue v (closing ∷ bytes) rest → ⊥
 not_closing v bytes rest h =
     let f = first_byte v (closing ∷ bytes) rest h in
     begins_value f.0 (head_is closing f.0 bytes f.1 f.2) f.3
@@ -121,14 +121,14 @@ GoesOn none bytes rest = ⊥
 GoesOn (first v vs) bytes rest = Closes (first v vs) bytes rest
 
 -- these values were read, and what the bytes of the list are depends on what the rest goes on with
-pub record IsUnderWay (levels : ℕ) (bytes : List ℕ) (read : List Value) (rest : List ℕ) : Type 0 where
+pub record IsUnderWay (levels : ℕ) (bytes : List ℕ) (read : List SexpValue) (rest : List ℕ) : Type 0 where
   pub found : (vs : Values) (other : List ℕ) → GoesOn vs rest other → depth_of_all vs ≤ levels → Closes (values_before read vs) bytes other
       × (depth_of_all (values_before read vs) ≤ levels)
   pub only : (ws : Values) (other : List ℕ) → Closes ws bytes other → depth_of_all ws ≤ levels →
       (vs : Values) × (ws ≡ values_before read vs)
       × GoesOn vs rest other × (depth_of_all vs ≤ levels)
 
-joined_more : (read : List Value) (v : Value) (vs : Values) → values_before (read ++ v ∷ []) vs ≡ values_before read (first v vs)
+joined_more : (read : List SexpValue) (v : SexpValue) (vs : Values) → values_before (read ++ v ∷ []) vs ≡ values_before read (first v vs)
 joined_more [] v vs = refl
 joined_more (w ∷ ws) v vs = ap (first w) (joined_more ws v vs)
 
@@ -146,17 +146,17 @@ list_is_empty levels rest = record {
 }
 
 -- the value that comes next is the one that was read
-next_value : (levels : ℕ) (bytes : List ℕ) (v : Value) (after : List ℕ) → IsFront levels bytes v after → (vs : Values) (other : List ℕ)
+next_value : (levels : ℕ) (bytes : List ℕ) (v : SexpValue) (after : List ℕ) → IsFront levels bytes v after → (vs : Values) (other : List ℕ)
     → GoesOn vs bytes other → depth_of_all vs ≤ levels
     → (ws : Values) × (vs ≡ first v ws) × Follows ws after other × (depth_of_all ws ≤ levels)
 next_value levels bytes v after front none other g d = absurd g
 next_value levels bytes v after front (first w ws) other g d =
     let s = split_first w ws bytes other g in
     let same = front.only w s.0 s.1 (omega arith) (ends_number ws s.0 other s.2) in
-    (ws, ap (λ (x : Value). first x ws) same.0, subst (λ (x : List ℕ). Follows ws x other) same.1 s.2, omega arith)
+    (ws, ap (λ (x : SexpValue). first x ws) same.0, subst (λ (x : List ℕ). Follows ws x other) same.1 s.2, omega arith)
 
 -- after a space the list goes on
-space_found : {levels : ℕ} {bytes : List ℕ} {read : List Value} {rest : List ℕ} {v : Value} {next : List ℕ}
+space_found : {levels : ℕ} {bytes : List ℕ} {read : List SexpValue} {rest : List ℕ} {v : SexpValue} {next : List ℕ}
     → IsUnderWay levels bytes read rest → IsFront levels rest v (input_space ∷ next)
     → (vs : Values) (other : List ℕ) → GoesOn vs next other → depth_of_all vs ≤ levels →
     Closes (values_before read (first v vs)) bytes other
@@ -172,7 +172,7 @@ space_goes_on none next other f = absurd (space_or_closing next other (follows_n
 space_goes_on (first w ws) next other f = let s = split_space w ws (input_space ∷ next) other f in
     subst (λ (x : List ℕ). Closes (first w ws) x other) (sym (tail_is input_space input_space next s.0 s.1)) s.2
 
-space_only : {levels : ℕ} {bytes : List ℕ} {read : List Value} {rest : List ℕ} {v : Value} {next : List ℕ}
+space_only : {levels : ℕ} {bytes : List ℕ} {read : List SexpValue} {rest : List ℕ} {v : SexpValue} {next : List ℕ}
     → IsUnderWay levels bytes read rest → IsFront levels rest v (input_space ∷ next)
     → (ws : Values) (other : List ℕ) → Closes ws bytes other → depth_of_all ws ≤ levels →
     (vs : Values) × (ws ≡ values_before read (first v vs))
@@ -182,7 +182,7 @@ space_only {levels} {read = read} {rest = rest} {v = v} {next = next} way front 
     let b = next_value levels rest v (input_space ∷ next) front a.0 other a.2 a.3 in
     (b.0, a.1 ∙ ap (values_before read) b.1, space_goes_on b.0 next other b.2, b.3)
 
-pub list_goes_on : (levels : ℕ) (bytes : List ℕ) (read : List Value) (rest : List ℕ) (v : Value) (next : List ℕ)
+pub list_goes_on : (levels : ℕ) (bytes : List ℕ) (read : List SexpValue) (rest : List ℕ) (v : SexpValue) (next : List ℕ)
     → IsUnderWay levels bytes read rest → IsFront levels rest v (input_space ∷ next) → IsUnderWay levels bytes (read ++ v ∷ []) next
 list_goes_on levels bytes read rest v next way front = record {
   found = λ vs other g d. rw (joined_more read v vs) (space_found way front vs other g d);
@@ -195,7 +195,7 @@ closes_here : (ws : Values) (tail other : List ℕ) → Follows ws (closing ∷ 
 closes_here none tail other f = (refl, sym (tail_is closing closing tail other (follows_none (closing ∷ tail) other f)))
 closes_here (first w ws) tail other f = let s = split_space w ws (closing ∷ tail) other f in absurd (space_or_closing s.0 tail (sym s.1))
 
-closed_only : {levels : ℕ} {bytes : List ℕ} {read : List Value} {rest : List ℕ} {v : Value} {tail : List ℕ}
+closed_only : {levels : ℕ} {bytes : List ℕ} {read : List SexpValue} {rest : List ℕ} {v : SexpValue} {tail : List ℕ}
     → IsUnderWay levels bytes read rest → IsFront levels rest v (closing ∷ tail)
     → (ws : Values) (other : List ℕ) → Closes ws bytes other → depth_of_all ws ≤ levels →
     (ws ≡ values_before read (first v none)) × (other ≡ tail)
@@ -205,7 +205,7 @@ closed_only {levels} {read = read} {rest = rest} {v = v} {tail = tail} way front
     let e = closes_here b.0 tail other b.2 in
     (a.1 ∙ ap (values_before read) (b.1 ∙ ap (first v) e.0), e.1)
 
-pub list_closes : (levels : ℕ) (bytes : List ℕ) (read : List Value) (rest : List ℕ) (v : Value) (tail : List ℕ)
+pub list_closes : (levels : ℕ) (bytes : List ℕ) (read : List SexpValue) (rest : List ℕ) (v : SexpValue) (tail : List ℕ)
     → IsUnderWay levels bytes read rest → IsFront levels rest v (closing ∷ tail)
     → IsListFront levels bytes (values_before (read ++ v ∷ []) none) tail
 list_closes levels bytes read rest v tail way front =
@@ -221,7 +221,7 @@ no_first levels bytes missing (first v vs) other g d =
     missing v s.0 s.1 (omega arith) (ends_number vs s.0 other s.2)
 
 -- the list stops where its next value doesn't begin, or where neither comes after it
-pub no_value : (levels : ℕ) (bytes : List ℕ) (read : List Value) (rest : List ℕ) → IsUnderWay levels bytes read rest
+pub no_value : (levels : ℕ) (bytes : List ℕ) (read : List SexpValue) (rest : List ℕ) → IsUnderWay levels bytes read rest
     → HasNoFront levels rest → HasNoListFront levels bytes
 no_value levels bytes read rest way missing ws other c d =
     let a = way.only ws other c d in
@@ -232,7 +232,7 @@ no_after : (ws : Values) (after other : List ℕ) → ((tail : List ℕ) → aft
 no_after none after other no_closing no_space f = no_closing other (follows_none after other f)
 no_after (first w ws) after other no_closing no_space f = let s = split_space w ws after other f in no_space s.0 s.1
 
-pub no_next : (levels : ℕ) (bytes : List ℕ) (read : List Value) (rest : List ℕ) (v : Value) (after : List ℕ)
+pub no_next : (levels : ℕ) (bytes : List ℕ) (read : List SexpValue) (rest : List ℕ) (v : SexpValue) (after : List ℕ)
     → IsUnderWay levels bytes read rest → IsFront levels rest v after
     → ((tail : List ℕ) → after ≡ closing ∷ tail → ⊥) → ((next : List ℕ) → after ≡ input_space ∷ next → ⊥) → HasNoListFront levels bytes
 no_next levels bytes read rest v after way front no_closing no_space ws other c d =

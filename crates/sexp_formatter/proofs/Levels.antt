@@ -2,7 +2,7 @@
 use Rattle.std.proofs.Common.{◌≡◌, ℕ, ◌-◌, ◌<◌, ◌≤◌, true, List, ◌∷◌, sym, ap, subst, ◌∙◌, arith}
 use Rattle.std.specs.Char.{is_ascii_digit}
 use Rattle.std.proofs.lemmas.Bool.Decides.{nat_tests}
-use Rattle.sexp_formatter.specs.Value.{Value, Values, number, list, value_depth}
+use Rattle.sexp_formatter.specs.Value.{SexpValue, Values, number, list, value_depth}
 use Rattle.sexp_formatter.specs.Grammar.{opening}
 use Rattle.sexp_formatter.specs.Fronts.{EndsNumber, BeginsValue, Closes, IsNumberFront, HasNoNumberFront, IsFront, HasNoFront, IsListFront}
 use Rattle.sexp_formatter.specs.Fronts.{HasNoListFront, RefusesInput}
@@ -25,7 +25,7 @@ not_a_number n inner rest h =
 -- ---- where a parenthesis opens
 
 module _ (levels : ℕ) (inner : List ℕ) where
-  opened_only : (vs : Values) (rest : List ℕ) → 0 < levels → IsListFront (levels - 1) inner vs rest → (w : Value) (other : List ℕ)
+  opened_only : (vs : Values) (rest : List ℕ) → 0 < levels → IsListFront (levels - 1) inner vs rest → (w : SexpValue) (other : List ℕ)
       → BeginsValue w (opening ∷ inner) other → value_depth w ≤ levels → EndsNumber other → (w ≡ list vs) × (other ≡ rest)
   opened_only vs rest more front (number n) other b d e = absurd (not_a_number n inner other b)
   opened_only vs rest more front (list ws) other b d e =
@@ -55,7 +55,7 @@ module _ (levels : ℕ) (inner : List ℕ) where
 -- ---- where none opens
 
 module _ (levels : ℕ) (bytes : List ℕ) (no_opening : (inner : List ℕ) → bytes ≡ opening ∷ inner → ⊥) where
-  number_only : (n : ℕ) (rest : List ℕ) → IsNumberFront bytes n rest → (w : Value) (other : List ℕ) → BeginsValue w bytes other
+  number_only : (n : ℕ) (rest : List ℕ) → IsNumberFront bytes n rest → (w : SexpValue) (other : List ℕ) → BeginsValue w bytes other
       → value_depth w ≤ levels → EndsNumber other → (w ≡ number n) × (other ≡ rest)
   number_only n rest front (number m) other b d e = let same = front.only m other b e in (ap number same.0, same.1)
   number_only n rest front (list ws) other b d e = let o = opens ws bytes other b in absurd (no_opening o.0 o.1)

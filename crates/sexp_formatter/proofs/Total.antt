@@ -12,7 +12,7 @@ use Rattle.prettyless_model.specs.declared.options.IndentationPolicy.{Indentatio
 use Rattle.prettyless_model.specs.declared.options.IndentationPolicy.TheVariants.{Eager, Deferred}
 use Rattle.prettyless_model.specs.declared.mode.Mode.{Mode}
 use Rattle.prettyless_model.specs.declared.mode.Mode.TheVariants.{Break, Flat}
-use Rattle.sexp_formatter.specs.Value.{Value, Values, number, list, none, first}
+use Rattle.sexp_formatter.specs.Value.{SexpValue, Values, number, list, none, first}
 use Rattle.sexp_formatter.specs.Documents.{sexp_document, interspersed, followed_by}
 use Rattle.sexp_formatter.specs.Runs.{layout_of_value}
 
@@ -177,7 +177,7 @@ group_safe (t.Group d) a = a
 group_safe _ a = absurd a.0
 
 mutual
-  document_safe : (v : Value) → IsBothSafe (sexp_document v)
+  document_safe : (v : SexpValue) → IsBothSafe (sexp_document v)
   document_safe (number n) = (tt, tt)
   document_safe (list vs) =
       let inner = group (nest (pos 1) (interspersed vs)) in
@@ -196,7 +196,7 @@ mutual
       (append_safe (append x line) (sexp_document v) (append_safe x line a (tt, tt)) (document_safe v)) vs
 
 -- the layout of a value is not cut
-pub layout_not_cut : (o : RenderOptions) (v : Value) (bytes : List ℕ) → layout_of_value o v ≡ Cut bytes → ⊥
+pub layout_not_cut : (o : RenderOptions) (v : SexpValue) (bytes : List ℕ) → layout_of_value o v ≡ Cut bytes → ⊥
 layout_not_cut o v bytes e = safe_is_whole o (sexp_document v) bytes (document_safe v).1 e
 
 not_cut_is_whole : (y : Bytes) → ((bytes : List ℕ) → y ≡ Cut bytes → ⊥) → (bytes : List ℕ) × (y ≡ Whole bytes)
@@ -204,5 +204,5 @@ not_cut_is_whole (Whole bytes) h = (bytes, refl)
 not_cut_is_whole (Cut bytes) h = absurd (h bytes refl)
 
 -- but whole
-pub layout_whole : (o : RenderOptions) (v : Value) → (bytes : List ℕ) × (layout_of_value o v ≡ Whole bytes)
+pub layout_whole : (o : RenderOptions) (v : SexpValue) → (bytes : List ℕ) × (layout_of_value o v ≡ Whole bytes)
 layout_whole o v = not_cut_is_whole (layout_of_value o v) (layout_not_cut o v)

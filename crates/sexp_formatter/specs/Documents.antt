@@ -4,12 +4,12 @@ use Rattle.std.specs.Fmt.{decimal}
 use Rattle.prettyless.specs.Tree.{Tree, Nil, Text}
 use Rattle.prettyless.specs.Built.{append, nest, group}
 use Rattle.prettyless.specs.Lines.{line}
-use Rattle.sexp_formatter.specs.Value.{Value, Values, number, list, none, first}
+use Rattle.sexp_formatter.specs.Value.{SexpValue, Values, number, list, none, first}
 use Rattle.sexp_formatter.specs.Grammar.{opening, closing}
 
 abbrev mutual
   -- a number in decimal, or the values of a list between parentheses: nested by 1 and grouped
-  pub sexp_document : Value → Tree
+  pub sexp_document : SexpValue → Tree
   sexp_document (number n) = Text (decimal n)
   sexp_document (list vs) = append (append (Text (opening ∷ [])) (group (nest (pos 1) (interspersed vs)))) (Text (closing ∷ []))
 

@@ -1,7 +1,7 @@
 -- What bytes begin with, as a reader finds it from the left, and what is after it.
 use Rattle.std.specs.Prelude.{◌≡◌, ℕ, ◌≤◌, ◌⊎◌, false, List, [], ◌∷◌, ◌++◌}
 use Rattle.std.specs.Char.{is_ascii_digit}
-use Rattle.sexp_formatter.specs.Value.{Value, Values, number, value_depth, depth_of_all}
+use Rattle.sexp_formatter.specs.Value.{SexpValue, Values, number, value_depth, depth_of_all}
 use Rattle.sexp_formatter.specs.Grammar.{closing, input_line_feed, IsValueText, AreTexts}
 use Rattle.sexp_formatter.specs.declared.error.RunError.{RunError}
 use Rattle.sexp_formatter.specs.declared.error.RunError.TheVariants.{NotAnSexp, Memory, Read, Write}
@@ -16,7 +16,7 @@ abbrev pub IsEnd : List ℕ → Type 0
 IsEnd rest = (rest ≡ []) ⊎ (rest ≡ input_line_feed ∷ [])
 
 -- the text of a value, and then these bytes
-abbrev pub BeginsValue : Value → List ℕ → List ℕ → Type 0
+abbrev pub BeginsValue : SexpValue → List ℕ → List ℕ → Type 0
 BeginsValue v bytes rest = (text : List ℕ) × (bytes ≡ text ++ rest) × IsValueText v text
 
 -- the values of a list up to its parenthesis, and then these bytes
@@ -33,14 +33,15 @@ abbrev pub HasNoNumberFront : List ℕ → Type 0
 HasNoNumberFront bytes = (m : ℕ) (other : List ℕ) → BeginsValue (number m) bytes other → EndsNumber other → ⊥
 
 -- the bytes begin with this value of at most so many levels, and with no other of at most so many
-pub record IsFront (levels : ℕ) (bytes : List ℕ) (v : Value) (rest : List ℕ) : Type 0 where
+pub record IsFront (levels : ℕ) (bytes : List ℕ) (v : SexpValue) (rest : List ℕ) : Type 0 where
   pub begins : BeginsValue v bytes rest
   pub nesting : value_depth v ≤ levels
-  pub only : (w : Value) (other : List ℕ) → BeginsValue w bytes other → value_depth w ≤ levels → EndsNumber other → (w ≡ v) × (other ≡ rest)
+  pub only : (w : SexpValue) (other : List ℕ) → BeginsValue w bytes other → value_depth w ≤ levels → EndsNumber other
+    → (w ≡ v) × (other ≡ rest)
 
 -- the bytes begin with no value of at most so many levels
 abbrev pub HasNoFront : ℕ → List ℕ → Type 0
-HasNoFront levels bytes = (w : Value) (other : List ℕ) → BeginsValue w bytes other → value_depth w ≤ levels → EndsNumber other → ⊥
+HasNoFront levels bytes = (w : SexpValue) (other : List ℕ) → BeginsValue w bytes other → value_depth w ≤ levels → EndsNumber other → ⊥
 
 -- the bytes begin with these values of a list, of at most so many levels, and with no others of at most so many
 pub record IsListFront (levels : ℕ) (bytes : List ℕ) (vs : Values) (rest : List ℕ) : Type 0 where

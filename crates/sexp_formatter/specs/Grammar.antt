@@ -2,7 +2,7 @@
 -- value = digits | "(" [value {" " value}] ")"
 use Rattle.std.specs.Prelude.{◌≡◌, ℕ, ◌^◌, ◌<◌, ◌≤◌, ◌⊎◌, List, [], ◌∷◌, ◌++◌, length}
 use Rattle.std.specs.Str.Parse.{IsNumeral, digits_value}
-use Rattle.sexp_formatter.specs.Value.{Value, Values, number, list, none, first, value_depth}
+use Rattle.sexp_formatter.specs.Value.{SexpValue, Values, number, list, none, first, value_depth}
 
 -- "("
 abbrev pub opening : ℕ
@@ -26,7 +26,7 @@ IsDecimal text n = IsNumeral 10 text × (n ≡ digits_value 10 text)
 
 abbrev mutual
   -- digits of a number up to 4294967295, or a list in parentheses
-  pub IsValueText : Value → List ℕ → Type 0
+  pub IsValueText : SexpValue → List ℕ → Type 0
   IsValueText (number n) text = IsDecimal text n × (n < 2 ^ 32)
   IsValueText (list vs) text = (inner : List ℕ) × (text ≡ opening ∷ inner ++ closing ∷ []) × AreTexts vs inner
 
@@ -42,11 +42,11 @@ abbrev mutual
       × AreSpaced vs back
 
 -- the text of the value, with a line feed after it or without
-abbrev pub IsValueLine : Value → List ℕ → Type 0
+abbrev pub IsValueLine : SexpValue → List ℕ → Type 0
 IsValueLine v line = IsValueText v line ⊎ ((text : List ℕ) × (line ≡ text ++ input_line_feed ∷ []) × IsValueText v text)
 
 -- The input is read as this value: it is its line, of at most 1,048,576 bytes, with at most 200 parentheses open at once.
-pub record ReadsValue (input : List ℕ) (v : Value) : Type 0 where
+pub record ReadsValue (input : List ℕ) (v : SexpValue) : Type 0 where
   pub line : IsValueLine v input
   pub nesting : value_depth v ≤ 200
   pub size : length input ≤ 1048576

@@ -1,6 +1,4 @@
--- Bytes that come in and go out, and what may go wrong with them.
-use Rattle.std.specs.Prelude.{◌≡◌, ℕ, ◌<◌, List, ◌++◌, length, Option}
-use Rattle.std.specs.Io.KnownBytes.{Appends}
+-- What may go wrong with bytes that come in and go out.
 use Rattle.sexp_formatter.specs.declared.error.RunError.{RunError}
 use Rattle.sexp_formatter.specs.declared.error.RunError.TheVariants.{NotAnSexp, Memory, Read, Write}
 
@@ -24,7 +22,3 @@ IsWriterFailure NotAnSexp = ⊥
 IsWriterFailure (Memory e) = ⊥
 IsWriterFailure (Read e) = ⊥
 IsWriterFailure (Write e) = Unit {0}
-
--- a beginning of the text was appended, and not all of it
-abbrev pub TransfersBeginning : Option (List ℕ) → Option (List ℕ) → List ℕ → Type 0
-TransfersBeginning old new text = (front : List ℕ) × (back : List ℕ) × (text ≡ front ++ back) × (0 < length back) × Appends old new front

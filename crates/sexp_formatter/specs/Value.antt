@@ -3,18 +3,18 @@ use Rattle.std.specs.Prelude.{ℕ, suc, max, List, [], ◌∷◌}
 
 mutual
   -- a number, or a list of values
-  pub data Value : Type 0 where
-    number : ℕ → Value
-    list : Values → Value
+  pub data SexpValue : Type 0 where
+    number : ℕ → SexpValue
+    list : Values → SexpValue
 
   -- the values of a list, in order
   pub data Values : Type 0 where
     none : Values
-    first : Value → Values → Values
+    first : SexpValue → Values → Values
 
 -- how many parentheses are open at once, at most
 abbrev mutual
-  pub value_depth : Value → ℕ
+  pub value_depth : SexpValue → ℕ
   value_depth (number n) = 0
   value_depth (list vs) = suc (depth_of_all vs)
 
@@ -23,10 +23,10 @@ abbrev mutual
   depth_of_all (first v vs) = max (value_depth v) (depth_of_all vs)
 
 -- these values, and then the others
-abbrev pub values_before : List Value → Values → Values
+abbrev pub values_before : List SexpValue → Values → Values
 values_before [] vs = vs
 values_before (w ∷ ws) vs = first w (values_before ws vs)
 
 -- these values and no others
-abbrev pub values_of : List Value → Values
+abbrev pub values_of : List SexpValue → Values
 values_of ws = values_before ws none

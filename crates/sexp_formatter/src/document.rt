@@ -132,7 +132,8 @@ fn document_in<'a, D: DocPlace<'a>>(place: &'a D, expression: &SExp) -> Result<D
     built(place, expression)
 }
 
-/// The document of an S-expression, with its nodes in this arena.
+/// The document of an S-expression, with its nodes in this arena. It answers `RunError::Memory` where memory was
+/// refused, and no other error.
 pub fn document<'a>(arena: &'a Arena<'a>, expression: &SExp) -> Result<RefDoc<'a>, RunError>
     ensures ok { IfOk result (λ p. ref_tree p ≡ sexp_document (value_of expression.now)) }
     ensures err { IfErr result IsWantOfMemory }

@@ -1,6 +1,6 @@
 ghost use Rattle.std.specs.Prelude.{◌≡◌, ◌≤◌, ◌↔◌, IfOk, IfErr, IfSome, IfNone, IsTrue, ℕ, ◌<◌, List, ◌∷◌, length, slice_index, drop};
 ghost use Rattle.std.specs.Char.{is_ascii_digit};
-ghost use Rattle.sexp_formatter.specs.Value.{Value, values_of};
+ghost use Rattle.sexp_formatter.specs.Value.{SexpValue, values_of};
 ghost use Rattle.sexp_formatter.specs.View.{value_of, values_in};
 ghost use Rattle.sexp_formatter.specs.Grammar.{ReadsValue};
 ghost use Rattle.sexp_formatter.specs.Fronts.{EndsNumber, IsEnd, IsNumberFront, HasNoNumberFront, IsFront, HasNoFront, IsListFront};
@@ -106,9 +106,9 @@ fn is_end(rest: &[u8]) -> bool
 pub fn parse(alloc: Global, input: &[u8]) -> Result<SExp, RunError>
     // The input is read as the answer, and as no other.
     ensures ok { IfOk result (λ s. ReadsValue input.now (value_of s)) }
-    ensures only { IfOk result (λ s. (v : Value) → ReadsValue input.now v → v ≡ value_of s) }
+    ensures only { IfOk result (λ s. (v : SexpValue) → ReadsValue input.now v → v ≡ value_of s) }
     // It is refused only where it is read as nothing.
-    ensures err { IfErr result (λ e. RefusesInput e ((v : Value) → ReadsValue input.now v → ⊥)) }
+    ensures err { IfErr result (λ e. RefusesInput e ((v : SexpValue) → ReadsValue input.now v → ⊥)) }
 {
     if input.len() > MOST_BYTES {
         return Err(RunError::NotAnSexp);

@@ -10,7 +10,7 @@ use std::alloc::Global;
 use std::process::Abort;
 use std::test::Fail;
 
-// A place that tells how many nodes it has.
+// A place that shows how many nodes it has.
 pub(crate) trait CountedPlace<'a>: DocPlace<'a> {
     fn nodes(&self) -> usize;
 

@@ -1,7 +1,7 @@
 //! The layout of a TOML text, into an area of bytes.
 ghost use Rattle.prettyless_exports.specs.Answers.{limit_of};
 ghost use Rattle.toml_exports.specs.Answers.{AnswersToml};
-ghost use Rattle.toml_exports.specs.Says.{RefusesToml, SaysOfToml};
+ghost use Rattle.toml_exports.specs.Statuses.{RefusesToml, TomlStatusHolds};
 
 use crate::status::Status;
 use prettyless_exports::layout::limit_from;
@@ -20,7 +20,7 @@ fn text_laid(
     out: &mut [u8],
     written: &mut usize,
 ) -> Status
-    ensures { SaysOfToml limit text.now out.old out.new written.new result }
+    ensures { TomlStatusHolds limit text.now out.old out.new written.new result }
 {
     match formatted(alloc, text, style) {
         Ok(layout) => Status::LaidOut(put_text(layout.as_str(), limit, out, written)),
@@ -41,7 +41,7 @@ fn laid_out(
     out: &mut [u8],
     written: &mut usize,
 ) -> Status
-    ensures { SaysOfToml limit text.now out.old out.new written.new result }
+    ensures { TomlStatusHolds limit text.now out.old out.new written.new result }
 {
     match from_utf8(text) {
         Ok(text) => text_laid(alloc, text, style, limit, out, written),

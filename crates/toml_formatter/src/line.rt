@@ -78,7 +78,7 @@ impl<'a> Line<'a> {
     }
 
     /// The same with the comma that waits in its place.
-    fn with_pending_comma(self, arena: &'a Arena<'a>) -> Result<Line<'a>, BuildError>
+    fn with_settled_comma(self, arena: &'a Arena<'a>) -> Result<Line<'a>, BuildError>
         ensures line { IfOk result (λ line. (nested exact : Bool) (left taken : List (List ℕ))
             → (nested ≡ false → self.entry.comma ≡ true → is_last_remark self.entry.last ≡ false)
             → ShowsTaken nested exact self.entry left taken → ShowsTaken nested exact line left taken) }
@@ -100,7 +100,7 @@ impl<'a> Line<'a> {
     }
 
     /// The same with the remarks that wait in their place, where no comma waits.
-    fn with_pending_remarks(self, arena: &'a Arena<'a>) -> Result<Line<'a>, BuildError>
+    fn with_settled_remarks(self, arena: &'a Arena<'a>) -> Result<Line<'a>, BuildError>
         ensures line { IfOk result (λ line. (nested exact : Bool) (left taken : List (List ℕ))
             → self.entry.comma ≡ false → ShowsTaken nested exact self.entry left taken → ShowsTaken nested exact line left taken) }
         ensures comma { IfOk result (λ line. line.comma ≡ self.entry.comma) }
@@ -130,7 +130,7 @@ impl<'a> Line<'a> {
         ensures last { IfOk result (λ line. self.entry.is_remarked ≡ false → is_last_remark self.entry.last ≡ false
             → is_last_remark line.last ≡ false) }
     {
-        self.with_pending_comma(arena)?.with_pending_remarks(arena)
+        self.with_settled_comma(arena)?.with_settled_remarks(arena)
     }
 
     /// Whether what waits is put in its place before a comma is taken.

@@ -79,19 +79,19 @@ byte_more i n x xs (s ∷ ss) e (rest, is, part, spaced, lexemes) =
 
 -- ---- a byte between two lexemes
 
-abbrev Says : ℕ → First → Type 0
-Says x passed = is_blank x ≡ true
-Says x alone = ⊤
-Says x (begins i) = ⊤
+abbrev AllowsFirst : ℕ → First → Type 0
+AllowsFirst x passed = is_blank x ≡ true
+AllowsFirst x alone = ⊤
+AllowsFirst x (begins i) = ⊤
 
-says_either : (x : ℕ) (b : Bool) (f g : First) → Says x f → Says x g → Says x (cond b f g)
-says_either x b f g p q = cond_both b f g (Says x) (λ e. p) (λ e. q)
+first_either : (x : ℕ) (b : Bool) (f g : First) → AllowsFirst x f → AllowsFirst x g → AllowsFirst x (cond b f g)
+first_either x b f g p q = cond_both b f g (AllowsFirst x) (λ e. p) (λ e. q)
 
-Says-first : (x : ℕ) → Says x (first x)
-Says-first x =
-    cond_both (is_blank x) _ _ (Says x) (λ e. e)
-    (λ e. says_either x (is_sign x || (x == 10)) _ _ tt (says_either x (x == 35) _ _ tt
-    (says_either x (x == 34) _ _ tt (says_either x (x == 39) _ _ tt tt))))
+AllowsFirst-first : (x : ℕ) → AllowsFirst x (first x)
+AllowsFirst-first x =
+    cond_both (is_blank x) _ _ (AllowsFirst x) (λ e. e)
+    (λ e. first_either x (is_sign x || (x == 10)) _ _ tt (first_either x (x == 35) _ _ tt
+    (first_either x (x == 34) _ _ tt (first_either x (x == 39) _ _ tt tt))))
 
 blank_first : (x : ℕ) (xs : List ℕ) (ss : List (List ℕ)) → is_blank x ≡ true → IsWellSpaced xs ss → IsWellSpaced (x ∷ xs) ss
 blank_first x xs [] e h = (e, h)
@@ -128,7 +128,7 @@ byte_first x i xs (s ∷ ss) e (rest, is, part, spaced, lexemes) = (
 module _ (x : ℕ) (xs : List ℕ) (h : (m : LexerMode) → IsCut m xs (cut_toml m xs)) where
   one_first : (f : First) → first x ≡ f → IsCut between (x ∷ xs) (cut_first f x (λ m. cut_toml m xs))
   unfolding cut_toml
-  one_first passed e = (blank_first x xs (cut_toml between xs) (subst (Says x) e (Says-first x)) (h between).0, (h between).1)
+  one_first passed e = (blank_first x xs (cut_toml between xs) (subst (AllowsFirst x) e (AllowsFirst-first x)) (h between).0, (h between).1)
   one_first alone e =
       (([], xs, tt, refl, follows_one x xs e, (h between).0), (ap (λ f. cut_first f x (λ m. cut_toml m [])) e, (h between).1))
   one_first (begins i) e = byte_first x i xs (cut_toml (within i) xs) e (h (within i))

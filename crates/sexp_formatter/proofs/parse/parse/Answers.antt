@@ -1,6 +1,6 @@
 use Rattle.std.proofs.Common.{sym, ◌∙◌, rules}
 use Rattle.std.proofs.lemmas.Result.{err_from_is_err_and}
-use Rattle.sexp_formatter.specs.Value.{Value}
+use Rattle.sexp_formatter.specs.Value.{SexpValue}
 use Rattle.sexp_formatter.specs.Grammar.{ReadsValue}
 use Rattle.sexp_formatter.specs.Fronts.{HasNoFront}
 use Rattle.sexp_formatter.specs.View.{value_of}
@@ -12,7 +12,8 @@ pub returns-in_err-read-clause-err : goal.returns-in_err-read-clause-err
 returns-in_err-read-clause-err c =
     let input = c.args.input.now in
     let p = err_from_is_err_and c.from_residual.result c.from_residual.ensures.1 in
-    rw (p.1, p.2) (refuses_more c.in_err-read.field-0.0 (HasNoFront 200 input) ((v : Value) → ReadsValue input v → ⊥) (nothing_read input)
+    rw (p.1, p.2) (refuses_more c.in_err-read.field-0.0 (HasNoFront 200 input) ((v : SexpValue) → ReadsValue input v → ⊥)
+        (nothing_read input)
     c.in_err-read.ensures.err)
 
 pub returns-then-is_end-clause-only : goal.returns-then-is_end-clause-only

@@ -8,11 +8,11 @@ use Rattle.toml_exports.specs.declared.status.Status.{Status}
 use Rattle.toml_exports.specs.declared.status.Status.TheVariants as status
 
 -- what a status says of the layout of a text: it was put, or it is not there
-abbrev pub SaysOfToml : ℕ → List ℕ → List ℕ → List ℕ → ℕ → Status → Type 0
-SaysOfToml limit text old new written (status.LaidOut put) = (bytes : List ℕ) × IsFormattedToml text bytes
+abbrev pub TomlStatusHolds : ℕ → List ℕ → List ℕ → List ℕ → ℕ → Status → Type 0
+TomlStatusHolds limit text old new written (status.LaidOut put) = (bytes : List ℕ) × IsFormattedToml text bytes
     × IsPut limit bytes old new written put
-SaysOfToml limit text old new written status.Memory = IsUntouched old new written
-SaysOfToml limit text old new written status.NotToml = new ≡ old
+TomlStatusHolds limit text old new written status.Memory = IsUntouched old new written
+TomlStatusHolds limit text old new written status.NotToml = new ≡ old
 
 -- what a status says of where a text stops being TOML
 abbrev pub RefusesToml : List ℕ → List ℕ → List ℕ → ℕ → ℕ → ℕ → Status → Type 0

@@ -9,11 +9,11 @@ use Rattle.json_exports.specs.declared.status.Status.{Status}
 use Rattle.json_exports.specs.declared.status.Status.TheVariants as status
 
 -- what a status says of the layout of a text: it was put, or it is not there
-abbrev pub SaysOfJson : Style → ℕ → List ℕ → List ℕ → List ℕ → ℕ → Status → Type 0
-SaysOfJson style limit text old new written (status.LaidOut put) = (bytes : List ℕ) × IsFormatted style text bytes
+abbrev pub JsonStatusHolds : Style → ℕ → List ℕ → List ℕ → List ℕ → ℕ → Status → Type 0
+JsonStatusHolds style limit text old new written (status.LaidOut put) = (bytes : List ℕ) × IsFormatted style text bytes
     × IsPut limit bytes old new written put
-SaysOfJson style limit text old new written status.Memory = IsUntouched old new written
-SaysOfJson style limit text old new written status.NotJson = IsNoJson text × (new ≡ old)
+JsonStatusHolds style limit text old new written status.Memory = IsUntouched old new written
+JsonStatusHolds style limit text old new written status.NotJson = IsNoJson text × (new ≡ old)
 
 -- what a status says of where a text stops being JSON
 abbrev pub RefusesJson : List ℕ → List ℕ → List ℕ → ℕ → ℕ → ℕ → Status → Type 0

@@ -12,20 +12,20 @@ use Rattle.prettyless_exports.specs.declared.status.Status.{Status}
 use Rattle.prettyless_exports.specs.declared.status.Status.TheVariants as status
 
 -- what a status says of a layout of the document d into an area
-abbrev pub SaysOf : RenderOptions → ℕ → Tree → List ℕ → List ℕ → ℕ → Status → Type 0
-SaysOf o limit d old new written status.LaidOut = (bytes : List ℕ) × (layout o d ≡ Whole bytes) × HasContent d bytes
+abbrev pub StatusHoldsOf : RenderOptions → ℕ → Tree → List ℕ → List ℕ → ℕ → Status → Type 0
+StatusHoldsOf o limit d old new written status.LaidOut = (bytes : List ℕ) × (layout o d ≡ Whole bytes) × HasContent d bytes
     × (length bytes ≤ limit) × (length bytes ≤ length old) × Holds bytes old new written
-SaysOf o limit d old new written status.TooSmall = (bytes : List ℕ) × (layout o d ≡ Whole bytes) × HasContent d bytes
+StatusHoldsOf o limit d old new written status.TooSmall = (bytes : List ℕ) × (layout o d ≡ Whole bytes) × HasContent d bytes
     × (length bytes ≤ limit) × (length old < length bytes) × (new ≡ overlay bytes old) × (written ≡ length bytes)
-SaysOf o limit d old new written status.Memory = (front : List ℕ) × ((back : List ℕ) × (bytes_in (layout o d) ≡ front ++ back))
+StatusHoldsOf o limit d old new written status.Memory = (front : List ℕ) × ((back : List ℕ) × (bytes_in (layout o d) ≡ front ++ back))
     × Holds front old new written
-SaysOf o limit d old new written status.Fails = (bytes : List ℕ) × (layout o d ≡ Cut bytes) × (length bytes ≤ limit)
+StatusHoldsOf o limit d old new written status.Fails = (bytes : List ℕ) × (layout o d ≡ Cut bytes) × (length bytes ≤ limit)
     × Holds bytes old new written
-SaysOf o limit d old new written status.PastLimit = (limit < length (bytes_in (layout o d)))
+StatusHoldsOf o limit d old new written status.PastLimit = (limit < length (bytes_in (layout o d)))
     × Holds (take limit (bytes_in (layout o d))) old new written
-SaysOf o limit d old new written (status.Refused fault) = ⊥
+StatusHoldsOf o limit d old new written (status.Refused fault) = ⊥
 
 -- what it says of a program: a document was laid out that the program writes, or it was refused
-abbrev pub Says : RenderOptions → ℕ → List ℕ → List ℕ → List ℕ → ℕ → Status → Type 0
-Says o limit program old new written (status.Refused fault) = RefusesProgram fault program × IsUntouched old new written
-Says o limit program old new written s = (d : Tree) × WritesDocument program d × SaysOf o limit d old new written s
+abbrev pub StatusHolds : RenderOptions → ℕ → List ℕ → List ℕ → List ℕ → ℕ → Status → Type 0
+StatusHolds o limit program old new written (status.Refused fault) = RefusesProgram fault program × IsUntouched old new written
+StatusHolds o limit program old new written s = (d : Tree) × WritesDocument program d × StatusHoldsOf o limit d old new written s

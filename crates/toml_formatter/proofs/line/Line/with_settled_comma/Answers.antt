@@ -2,7 +2,7 @@ use Rattle.prettyless.specs.Trees.{ref_tree}
 use Rattle.toml_lexemes.specs.Bytes.{comma}
 use Rattle.toml_formatter.specs.Gaps.{Suits}
 use Rattle.toml_formatter.proofs.LineLemmas.{comma_shown}
-use Rattle.toml_formatter.proofs.line.Line.with_pending_comma.Goals as goal
+use Rattle.toml_formatter.proofs.line.Line.with_settled_comma.Goals as goal
 
 pub returns-clause-line : goal.returns-clause-line
 returns-clause-line c = λ nested exact left taken goes_on h.

@@ -1,5 +1,5 @@
 use Rattle.toml_formatter.proofs.LineLemmas.{remarks_shown}
-use Rattle.toml_formatter.proofs.line.Line.with_pending_remarks.Goals as goal
+use Rattle.toml_formatter.proofs.line.Line.with_settled_remarks.Goals as goal
 
 pub returns-clause-line : goal.returns-clause-line
 returns-clause-line c = λ nested exact left taken settled h.
