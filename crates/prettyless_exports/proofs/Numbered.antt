@@ -27,7 +27,8 @@ module _ (o : RenderOptions) (limit : ℕ) (program old new : List ℕ) (written
   laid_out s h e = absurd (omega arith)
 
   too_small : (s : Status) → StatusHolds o limit program old new written s → number_of s ≡ 1
-      → (bytes : List ℕ) × IsLaidOut o limit program bytes × (length old < length bytes) × (new ≡ overlay bytes old) × (written ≡ length bytes)
+      → (bytes : List ℕ) × IsLaidOut o limit program bytes × (length old < length bytes) × (new ≡ overlay bytes old)
+      × (written ≡ length bytes)
   too_small status.TooSmall (d, w, (bytes, whole, content, within, short, held, count)) e =
       (bytes, record { document = d; writes = w; layout = whole; content = content; within = within }, short, held, count)
   too_small (status.Refused fault.Memory) h e = absurd (omega arith)

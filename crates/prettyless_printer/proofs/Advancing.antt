@@ -26,7 +26,7 @@ use Rattle.prettyless_printer.proofs.Turnings.{move_inside, work_falls, failed, 
 use Rattle.prettyless_printer.proofs.Visits.{move_at_most, failed_at_most, choice_at_most, at_most_then, at_most_all, rise_then}
 use Rattle.prettyless_printer.proofs.AtLeast.{OneLaid, move_at_least, choice_at_least, at_least_then}
 
--- # Turns that are done
+-- ---- Turns that are done
 
 -- what a turn counts: the first node is a visit, and no more nodes are than the next task has
 record Counted (a : Point) (x : Visits) : Type 0 where
@@ -171,7 +171,7 @@ advances_choice {N} {E} f {a} {t} {s} {x} {i} {l} {r} p q h one probes shows =
     subst (λ (z : Standing). Advances {N = N} {E = E} f a (point_at z s x) (Ok (turn_result.Choice i l r))) (sym k.1)
     (choice_here h one probes k.0)
 
--- # Turns that ended in an error
+-- ---- Turns that ended in an error
 
 -- what ended in an error has counted no more than the tasks allow
 error_at_most : {a : Point} {t : Task} {b : Point} {x : Visits} → InHand a t b → Visit a.printer.options t b x → Plain a.printer

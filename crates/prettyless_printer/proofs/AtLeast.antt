@@ -35,7 +35,7 @@ use Rattle.prettyless_probe.specs.Probing.{RisesBy}
 use Rattle.prettyless_printer.proofs.Runs.{follow-tasks, payload_branch, no_padding}
 use Rattle.prettyless_printer.proofs.Standings.{Pushed}
 
--- # What tasks count
+-- ---- What tasks count
 
 -- what a task counts, and then those after it
 abbrev tally_with : RenderOptions → ℕ → Task → List Task → State → Weight → ℕ
@@ -113,7 +113,7 @@ payload_counts o b st x y false e =
     ap (λ (z : Bool). if z then x else y)
     (ap (λ (z : Bool). z && padding_fits o.width (some_pending st.pending) (after_payload (metrics b))) (sym e))
 
--- # One step
+-- ---- One step
 
 -- of a task with no fewer than n after it
 module _ (o : RenderOptions) (n : ℕ) (ts : List Task) (st : State) (w : Weight) (h : n ≤ length ts) where
@@ -211,7 +211,7 @@ module _ (o : RenderOptions) (n : ℕ) (ts : List Task) (st : State) (w : Weight
   step_counts (OnNesting test l r) i m = omega (arith, either_counts l r i m (nesting_holds test i))
   step_counts _ i m = omega arith
 
--- # Counts in a row
+-- ---- Counts in a row
 
 pub at_least_same : (a : Weight → ℕ) (v : Visits) → CountsAtLeast a a v v
 at_least_same a v = record { printer = omega arith; probes = omega arith }
@@ -286,7 +286,7 @@ choice_at_least {t} {v} {w} o n ts st i x y one l h =
           ap (λ (z : Tree). tally_choice o n j l z ts st k) h.2,
         )
 
--- # Choices and trials
+-- ---- Choices and trials
 
 -- the first branch counts where it is accepted
 accepted_counts : (o : RenderOptions) (was : Bool) (out : Outcome) (bytes : List ℕ) (u : State) (x y : ℕ)

@@ -26,7 +26,7 @@ use Rattle.prettyless_printer.proofs.TrialSteps.{CutBack, began_plain, choice_er
 use Rattle.prettyless_printer.proofs.TrialSteps.{trial_undone}
 use Rattle.prettyless_printer.proofs.Visits.{rise_then, at_most_first, at_most_then}
 
--- # Trials in one another
+-- ---- Trials in one another
 
 -- a trial more is open
 chain_push : (o : Trial) (us : List Held) (t : Trial) (u : Held) (c : Trial) → Chain o us t → Link t u c → Chain o (us ++ u ∷ []) c
@@ -107,7 +107,7 @@ open_begins {a} {i} {x} y marked begins = record {
   on = on_begun marked begins;
 }
 
--- # A turn of the innermost trial
+-- ---- A turn of the innermost trial
 
 -- Trials were open at a point, and the innermost one took a turn, or came to its end.
 pub record Took {N E : Type 0} (f : N → Tree) (s : Trial) (y : Tree) (us : List Held) (a b : Point) (r : Result (TrialState N) E) : Type 0
@@ -175,7 +175,7 @@ module _ {N E : Type 0} {f : N → Tree} {s : Trial} {y : Tree} {a b : Point} wh
         on = subst (λ (n : ℕ). TrialRunning t n (point_at q b.sink b.visits)) (sym (below_push u us w)) (on_begun marked begins);
       })
 
--- # A trial that is kept
+-- ---- A trial that is kept
 
 -- it is over, with the flag as it was
 kept_branch : {E : Type 0} {t : Trial} {m : Mark} {b : Point} {r : Standing} → Marked m t.start → TrialComplete t b
@@ -233,7 +233,7 @@ module _ {N E : Type 0} {f : N → Tree} {s : Trial} {y : Tree} {a b : Point} {u
   last_kept vs u popped none h = kept_last (subst (λ (z : List Held). Took {E = E} f s y z a b (Ok trial_state.Complete))
       (popped ∙ ap (λ (z : List Held). z ++ u ∷ []) none) h)
 
--- # A trial that is undone
+-- ---- A trial that is undone
 
 -- the outermost one is undone, and its second branch comes next
 back_last : {N E : Type 0} {f : N → Tree} {s : Trial} {y : Tree} {a b : Point} {u : Held} {q : Standing} {w : Seen} (r : Standing)
@@ -319,7 +319,7 @@ open_rejected {E} {f} {s} {y} {a} {b} vs u popped h =
     let last = innermost_split s y vs u k.trials in
     record { trial = last.trial; marked = last.marked; fallen = k.courses last.trial last.on }
 
--- # Lists of open trials
+-- ---- Lists of open trials
 
 -- one is open at least
 pub open_some : (s : Trial) (y : Tree) (a : Point) (us : List Held) → Open s y us a → 0 < length us

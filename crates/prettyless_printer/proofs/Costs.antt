@@ -21,7 +21,7 @@ use Rattle.prettyless_printer.proofs.Trying.{grows-grows, restored, restored_que
 use Rattle.prettyless_printer.proofs.Standings.{Flagged, Pushed}
 use Rattle.prettyless_printer.proofs.Chains.{Took, chain_last, chain_pop, first_last}
 
--- # The measure
+-- ---- The measure
 
 -- the last k tasks
 abbrev lowest_tasks : ℕ → List Task → List Task
@@ -45,7 +45,7 @@ cost_push : (p : Standing) (us : List Held) (u : Held) → cost p (us ++ u ∷ [
 cost_push p [] u = omega arith
 cost_push p (v ∷ us) u = omega (arith, cost_push p us u)
 
--- # What is above where a trial began
+-- ---- What is above where a trial began
 
 -- a printer has all that another one had: tasks are above its tasks, and the queue has grown
 abbrev Above : Standing → Standing → Type 0
@@ -118,7 +118,7 @@ cost_same s u us t p q marked h a b =
       cost_chain s us t p q h a b,
     )
 
--- # Powers
+-- ---- Powers
 
 -- a power is one at least
 pow_one : (n : ℕ) → 0 < 2 ^ n
@@ -132,7 +132,7 @@ pow_two : (a b c : ℕ) → a < c → b < c → 2 ^ a + 2 ^ b ≤ 2 ^ c
 pow_two a b zero l h = absurd (omega arith)
 pow_two a b (suc c) l h = omega (arith, two-pow-succ c, pow_le a c (omega arith), pow_le b c (omega arith))
 
--- # The measure falls
+-- ---- The measure falls
 
 module _ {N E : Type 0} {f : N → Tree} {s : Trial} {y : Tree} {a b : Point} where
   -- the innermost trial goes on

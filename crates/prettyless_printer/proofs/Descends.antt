@@ -29,7 +29,7 @@ use Rattle.prettyless_printer.proofs.Visits.{move_at_most, at_most_same}
 use Rattle.prettyless_printer.proofs.Visits.{at_most_then, rise_same, rise_then}
 use Rattle.prettyless_printer.proofs.AtLeast.{OneLaid, move_at_least, at_least_same, at_least_then}
 
--- # Where a turn has come
+-- ---- Where a turn has come
 
 -- the tasks, where the current one is above the stack
 abbrev pub tasks_with : Task → Standing → List Task
@@ -87,7 +87,7 @@ in_hand a p t e s o g =
           (at_least_same (stack_tally p' n) a.visits));
     }
 
--- # A visit
+-- ---- A visit
 
 -- what a step of the current task counts
 pub record Visit (o : RenderOptions) (t : Task) (b : Point) (x : Visits) : Type 0 where
@@ -127,7 +127,7 @@ shown {N} f {a} {t} {s} {v} p q r r' hand e h =
     (subst (λ (u : State). Shows f t.mode r' (step_at p.options t (tasks_of f p) u) p q) (state_stands f p)
     (subst (λ (z : StepResult N). Shows f t.mode z (step_at p.options t (tasks_of f p) (state_of f p)) p q) e h))
 
--- # The next node
+-- ---- The next node
 
 -- the nodes that are left after a step that adds k visits to its own
 steps_to_most : {st u : State} (t : Task) (ts us : List Task) (bytes : List ℕ) (k : ℕ) (step : Step)

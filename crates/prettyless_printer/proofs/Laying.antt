@@ -40,7 +40,7 @@ use Rattle.prettyless_printer.proofs.Turnings.{work_falls, sink_error, move_insi
 use Rattle.prettyless_printer.proofs.Visits.{OneMore, at_most_all, at_most_then, failed_at_most, rise_then, move_at_most}
 use Rattle.prettyless_printer.proofs.AtLeast.{OneLaid, at_least_then, move_at_least}
 
--- # One step
+-- ---- One step
 
 -- A task that needs no probe was visited, once.
 pub record VisitedOnce (t : Task) (v x : Visits) : Type 0 where
@@ -117,7 +117,7 @@ laying_step {a} {t} {us} {b} vs q s x bytes h once w lender accepts =
     } in
     subst (λ (k : List Task). Laying a vs (point_at (record q { tasks = k }) s x)) (sym w.tasks) goal
 
--- # How a turn ends
+-- ---- How a turn ends
 
 -- all of it is laid
 pub laying_done : {N E : Type 0} (f : N → Tree) {a b : Point} → Laying a [] b → Advances {N = N} {E = E} f a b (Ok turn_result.Complete)
@@ -214,7 +214,7 @@ laying_begins {N} f {a} {t} {s} {v} p q x i n h one probes shows =
       at_least = g.at_least;
     }
 
--- # Documents that are each flat
+-- ---- Documents that are each flat
 
 -- no document is no task
 none_left : (is : List ℕ) → flat_tasks is [] ≡ []
@@ -242,7 +242,7 @@ laying_steps_to {a} {i} {d} {us} {b} vs x h once steps_to fewer =
     (record { tasks = refl; options = refl; grows = ([], sym (append-nil b.printer.queue)); steps_to = steps_to; fewer = fewer }) refl
     (λ is_known. (is_known, (sym (append-nil (known b.sink.bytes)), refl)))
 
--- # Documents that give way to others
+-- ---- Documents that give way to others
 
 -- A document that is laid flat writes nothing, and these documents come in its place, each at an indent of its own.
 pub record GivesWay (d : Tree) (cs : List Tree) : Type 0 where
@@ -341,7 +341,7 @@ lays_instead {a} {b} {d} {cs} way ds x h once =
           (omega (arith, way.work z.at, nodes-append new us))),
     )
 
--- # A text
+-- ---- A text
 
 -- How a text is laid where a printer stands: after so many spaces, from a position on.
 abbrev pub TextStart : Standing → Bool → ℕ → ℕ → Type 0
@@ -455,7 +455,7 @@ lays_text_failed {N} {E} f {a} {p} {w} {g} {position} {s} {ds} {sink} {v} {x} q 
 pub lays_done : {N E : Type 0} (f : N → Tree) {a b : Point} → Lays a [] b → Advances {N = N} {E = E} f a b (Ok turn_result.Complete)
 lays_done {N} {E} f {a} {b} h = laying_done f (subst (λ (k : List Task). Laying a k b) (none_left h.0) h.1)
 
--- # The documents that are left
+-- ---- The documents that are left
 
 -- a node more was counted
 pub record OneNode (count n : ℕ) : Type 0 where
@@ -515,7 +515,7 @@ left_instead {first} {b} {d} {e} {cs} {ds} {w} {g} {position} {sink} {count} {n}
       counted = omega (arith, k.counted, one.at_most, way.fewer, sum_by-cons size d ds, sum_by-append size cs ds);
     }
 
--- # A text is the next of them
+-- ---- A text is the next of them
 
 -- a text that is not empty is next, in a turn that began at a point
 at_text : {first : Tree} {b : Point} {ds : List Tree} {w : Bool} {g position : ℕ} {sink : Seen} {count n : ℕ} (s : List ℕ) →
@@ -577,7 +577,7 @@ left_done {N} {E} f {first} {b} {ds} {w} {g} {position} {sink} {count} q x none 
     (lays_done f (subst (λ (z : List Tree). Lays a z (point_at (laid_to b.printer w position) sink (record b.visits { printer = count })))
     none (h.lays a i m))))
 
--- # Lists of nodes, and memory for them
+-- ---- Lists of nodes, and memory for them
 
 -- the last node comes first
 pub left_trees-push : {N : Type 0} (f : N → Tree) (ns : List N) (n : N) → left_trees f (ns ++ n ∷ []) ≡ f n ∷ left_trees f ns

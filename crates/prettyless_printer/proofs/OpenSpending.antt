@@ -24,7 +24,7 @@ use Rattle.prettyless_printer.proofs.TrialSteps.{began_plain}
 use Rattle.prettyless_printer.proofs.Spending.{on_tasks, spends_then}
 use Rattle.prettyless_printer.proofs.Standings.{Pushed}
 
--- # Options and line suffixes
+-- ---- Options and line suffixes
 
 -- the options of open trials are those of the outermost one
 chain_options : (o : Trial) (us : List Held) (t : Trial) → Chain o us t → t.start.printer.options ≡ o.start.printer.options
@@ -54,7 +54,7 @@ open_plain s y b (u ∷ us) h plain =
     let began = chain_plain s us t h.chain (record { start = plain.plain; branch = plain.first }) in
     (h.on.path.at_most (began_plain t began.start began.branch)).0
 
--- # A turn of the innermost trial
+-- ---- A turn of the innermost trial
 
 -- the same beside the second branches of open trials
 pub spends_beside : {r : Rule} {ts us : List Task} {q q' : List Tree} {v w : Visits} (ds : List Tree)
@@ -94,7 +94,7 @@ pub spends_error_as : {A E : Type 0} {r : Rule} {a : Left} (b : Left) (result : 
 spends_error_as b (Ok x) e h = cc
 spends_error_as b (Err x) e h = h
 
--- # Trials that begin and end
+-- ---- Trials that begin and end
 
 -- Less is left, and nothing was visited.
 pub record LeavesOnly (a b : Left) : Type 0 where

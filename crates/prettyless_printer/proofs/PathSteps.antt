@@ -29,7 +29,7 @@ use Rattle.prettyless_printer.proofs.Visits.{rise_same, rise_then, at_most_same,
 use Rattle.prettyless_printer.proofs.Visits.{at_most_besides, plain_push}
 use Rattle.prettyless_printer.proofs.AtLeast.{at_least_same, at_least_then, at_least_end, kept_at_least, other_at_least}
 
--- # One turn
+-- ---- One turn
 
 -- what a turn says of every whole, at the whole of a run
 pub at_run : {r : Run} {a : Point} (goal : RenderOptions → Outcome → ℕ → List Task → List ℕ → Type 0) → Path r a
@@ -201,7 +201,7 @@ fails_there f fails e p l h w = record {
       at_most_all (at_most_then y.1 (h.at_most y.0));
 }
 
--- # Choices
+-- ---- Choices
 
 -- the first branch is kept, and what the trial wrote is appended
 pub goes_on_kept : {E : Type 0} {r : Run} {b c : Point} {s t : Seen} {i : ℕ} {x y : Tree} → PathToChoice r i x y b →
@@ -324,7 +324,7 @@ choice_unwritten fails {r} {b} {c} {i} {x} {y} e w tries lender wrote =
           at_most_then h.3 (at_most_all (at_most_first (make_task i Break x) (make_task i Break y) (tries.at_most h.0 h.1).1));
     }
 
--- # The beginning and the end
+-- ---- The beginning and the end
 
 -- it begins
 pub run_begins : (a : Point) → Path (run_of a) a

@@ -29,7 +29,7 @@ use Rattle.prettyless_printer.proofs.Steps.{nodes-tasks}
 use Rattle.prettyless_printer.proofs.Visits.{visited}
 use Rattle.prettyless_printer.proofs.AtLeast.{visited_at_least}
 
--- # What is written of a whole
+-- ---- What is written of a whole
 
 pub finishing_begins : (p : Standing) (out : List ℕ) → Finishing (to_end p) p out out
 finishing_begins p out = record { bytes = []; out_is = sym (append-nil out); same = after-nil (to_end p) }
@@ -69,7 +69,7 @@ finishing_stopped A {p} {old} fails new m (Document e) h a q = (
 finishing_stopped A fails new m (Sink e) h a q = (finishing_beginning h q.0, q.1 ∙ ap rise a)
 finishing_stopped A fails new m (Memory e) h a q = (finishing_beginning h q.0, q.1 ∙ a)
 
--- # The rounds of the end
+-- ---- The rounds of the end
 
 -- the commands are laid: what is left is the end
 pub record Ending (whole : Outcome) (o : RenderOptions) (q : Standing) (old new : List ℕ) : Type 0 where
@@ -171,7 +171,7 @@ ending_stopped A {whole} {o} {q} fails last m (Memory e) h l a s =
 pub round_less : (ps : List Tree) → 0 < length ps → 2 * nodes (tasks 0 Break ps) < pending_work ps
 round_less ps l = omega (arith, nodes-tasks 0 Break ps [], ap nodes (append-nil (tasks 0 Break ps)))
 
--- # A render
+-- ---- A render
 
 lay_all-one : (o : RenderOptions) (d : Tree) (st : State) → lay_all o (settle o) (make_task 0 Break d ∷ []) [] st ≡ lay o
     (settle o) d 0 Break [] st

@@ -22,7 +22,7 @@ use Rattle.prettyless_model.specs.declared.mode.Mode.TheVariants.{Break, Flat}
 use Rattle.prettyless_probe.specs.Stack.{Task, make_task, tasks, follow}
 use Rattle.prettyless_step.specs.Steps.{lay_all, step_of, break_step, union_step, decided_by_metrics, at_once, chosen, step_outcome}
 
--- # What tasks lay
+-- ---- What tasks lay
 
 pub follow-tasks : (i : ℕ) (m : Mode) (ds : List Tree) (us : List Task) → follow (tasks i m ds ++ us) ≡ entries i ds ++ follow us
 follow-tasks i m [] us = refl
@@ -42,7 +42,7 @@ lay_all-tasks o brk (d ∷ ds) i m us outer st =
     ∙ sym (then-then (lay o brk d i m (entries i ds ++ (follow us ++ outer)) st) (λ u. lay_each o brk ds i m (follow us ++ outer) u)
     (λ u. lay_all o brk us outer u))
 
--- # Breaks
+-- ---- Breaks
 
 -- what an outcome fails with before any byte
 abbrev FailsAtOnce : Outcome → Type 0
@@ -96,7 +96,7 @@ break_runs o brk (p ∷ ps) d i m ts outer st e =
     ∙ sym (lay_all-tasks o brk (p ∷ ps) i m (self ∷ ts) outer (flushed o st))
     ∙ ap (λ (x : List Task). lay_all o brk x outer (flushed o st)) (sym (append_assoc (tasks i m (p ∷ ps)) (self ∷ []) ts)))
 
--- # Moves
+-- ---- Moves
 
 -- a move that writes nothing
 moved : (o : RenderOptions) (brk : Breaks) (ts : List Task) (outer : List Entry) (st : State) → lay_all o brk ts outer st ≡ after_bytes []
@@ -113,7 +113,7 @@ unfolding lay_all
 either_runs o brk l r i m ts outer st true = moved o brk (make_task i m l ∷ ts) outer st
 either_runs o brk l r i m ts outer st false = moved o brk (make_task i m r ∷ ts) outer st
 
--- # Payloads and unions
+-- ---- Payloads and unions
 
 -- the flag after a payload that fits
 flag-and : (v : Bool) → v ≡ v && true

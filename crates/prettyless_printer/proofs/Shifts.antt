@@ -32,7 +32,7 @@ use Rattle.prettyless_printer.proofs.PathSteps.{run_error}
 use Rattle.prettyless_printer.proofs.Visits.{at_most_same, at_most_then, rise_same, rise_then}
 use Rattle.prettyless_printer.proofs.AtLeast.{at_least_at, at_least_same, at_least_then}
 
--- # What is written of a whole
+-- ---- What is written of a whole
 
 -- bytes after others
 abbrev bytes_after : List ℕ → Bytes → Bytes
@@ -84,7 +84,7 @@ module _ {whole : Outcome} {p : Standing} {old out : List ℕ} (h : Finishing wh
   finishing_rendered fails new m (Err (Sink e)) a q = (finishing_part q.0, q.1 ∙ ap rise a)
   finishing_rendered fails new m (Err (Memory e)) a q = (finishing_part q.0, q.1 ∙ a)
 
--- # Runs in a row
+-- ---- Runs in a row
 
 -- the counts of a run that went on
 run_counts_then : {A E : Type 0} {ts us : List Task} {v w : Visits} (q : Standing) (x : Visits) (r : Result A E) → CountsAtMost ts us v w
@@ -198,7 +198,7 @@ path_continues {a} {b} p = record {
   at_least = p.at_least;
 }
 
--- # The rounds of the end
+-- ---- The rounds of the end
 
 -- the commands ended in an error
 pub work_stopped : {A B E : Type 0} (fails : E → Type 0) {a b : Point} (e : RenderError E) → RunsCommands {A = A} fails a b (Err e)
@@ -279,7 +279,7 @@ round_stopped {C} fails before {t} x e h k some = record {
   at_least = tt;
 }
 
--- # Open trials
+-- ---- Open trials
 
 -- nothing is held of trials only where none is open
 pub none_open : {N : Type 0} (f : N → Tree) (us : List (OpenTrial N)) → all_held f us ≡ [] → us ≡ []

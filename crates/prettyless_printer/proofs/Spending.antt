@@ -28,7 +28,7 @@ use Rattle.prettyless_printer.proofs.Standings.{Wrote, choice_there, descended, 
 use Rattle.prettyless_printer.proofs.Descends.{InHand, Visit}
 use Rattle.prettyless_printer.proofs.Visits.{NoSuffix, at_most_all, choice_at_most, failed_at_most, move_at_most}
 
--- # One probe
+-- ---- One probe
 
 -- a node needs one probe at most
 each_probe_one : (d : Tree) (m : Mode) → each_probe d m ≤ 1
@@ -47,7 +47,7 @@ capped_one (PartialUnion l r) Break k asks counted = λ most low high. omega (ar
 capped_one (PartialUnion l r) Flat k asks counted = λ most low high. omega (arith, counted)
 capped_one _ m k asks counted = λ most low high. omega (arith, counted)
 
--- # Steps and runs in a row
+-- ---- Steps and runs in a row
 
 -- What is left stays so where nothing is done.
 pub spends_same : (r : Rule) (a : Left) → Spends r a a
@@ -133,7 +133,7 @@ task_has : (o : RenderOptions) (t : Task) (ts : List Task) (st : State) → st.p
     → StepHasSummaries (step_at o t ts st)
 task_has o t ts st none h = step_has o t.tree t.indent t.mode (follow ts) st h.0 (subst TreesHaveSummaries (sym none) tt)
 
--- # A turn
+-- ---- A turn
 
 -- what is left with a current task
 abbrev pub left_with : Task → Standing → Visits → Left

@@ -28,7 +28,7 @@ use Rattle.prettyless_printer.proofs.Visits.{rise_same, at_most_all, at_most_sam
 use Rattle.prettyless_printer.proofs.Visits.{plain_at, plain_push}
 use Rattle.prettyless_printer.proofs.AtLeast.{at_least_end, trial_begins}
 
--- # Beginning
+-- ---- Beginning
 
 -- it began without line suffixes, if there were none and the branch has none
 pub began_plain : (t : Trial) → Plain t.start.printer → suffix_depth t.branch ≡ 0 → BeganPlain (trial_run t)
@@ -52,7 +52,7 @@ trial_run_begins a q i d h = record {
   at_least = trial_begins a.visits h;
 }
 
--- # A turn
+-- ---- A turn
 
 -- a turn that goes on within the width
 pub trial_turn_running : {N E : Type 0} (f : N → Tree) {t : Trial} {below : ℕ} {a b : Point} → TrialRunning t below a
@@ -118,7 +118,7 @@ trial_turn_choice f {t} {a} {b} i x y on l h =
       h.work_falls.0,
     )
 
--- # The end
+-- ---- The end
 
 -- it came to its end, and the padding fits
 pub trial_end_complete : {t : Trial} {below : ℕ} {a : Point} → TrialRunning t below a → length a.printer.tasks ≤ below →
@@ -162,7 +162,7 @@ trial_end_exceeds {t} {a} on l unfit =
       at_most = λ began. (path.at_most began).1;
     }
 
--- # Undone, or kept
+-- ---- Undone, or kept
 
 -- what is rejected, or waits for a choice, may end in an error
 pub rejected_error : {t : Trial} {b : Point} → TrialRejected t b → TrialError t b

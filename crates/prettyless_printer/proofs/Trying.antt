@@ -25,7 +25,7 @@ use Rattle.prettyless_printer.proofs.Progresses.{choice_next_kept, choice_next_o
 use Rattle.prettyless_printer.proofs.Standings.{Flagged, Pushed}
 use Rattle.prettyless_printer.specs.declared.trial.Mark.{Mark}
 
--- # A trial that begins
+-- ---- A trial that begins
 
 -- the trial is on its way, in q
 abbrev pub Trying : Standing → ℕ → Tree → List ℕ → Standing → List ℕ → Type 0
@@ -66,7 +66,7 @@ pub pushed : {t : Task} {p : Standing} (q : Standing) → q.tasks ≡ t ∷ p.ta
     → q.options ≡ p.options → Pushed t p q
 pushed {p} q e g h o = record { tasks = e; state = h; options = o; grows = ([], g ∙ sym (append-nil p.queue)) }
 
--- # A trial that is taken back
+-- ---- A trial that is taken back
 
 -- what was added since the mark is all that the queue has more
 pub queue_marked : (p q : Standing) (m : Mark) (s : Seen) → Marks m p s → QueueGrows p q → m.queue.len ≤ length q.queue
@@ -104,7 +104,7 @@ trial_rejected {t} {b} {m} r new fell marks back cut =
       (cut ∙ ap (take m.written) fell.wrote ∙ take_at old fell.bytes m.written (sym marks.written), s, fell.rejected),
     )
 
--- # A trial at its end
+-- ---- A trial at its end
 
 none_above : (above below stack : List Task) → stack ≡ above ++ below → length stack ≤ length below → stack ≡ below
 none_above [] below stack e l = e
@@ -149,7 +149,7 @@ trial_kept {t} {b} {r} lasts kept =
       ),
     )
 
--- # A choice
+-- ---- A choice
 
 -- what a trial decides, under options that are the same
 decides_at : (q r : Standing) (o : RenderOptions) (j : ℕ) (x : Tree) (kept : Bool) (old new : List ℕ) → q.options ≡ o →

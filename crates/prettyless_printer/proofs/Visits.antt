@@ -25,7 +25,7 @@ use Rattle.prettyless_probe.proofs.Stacks.{nodes-append}
 use Rattle.prettyless_step.proofs.Shown.{step_at, StepsTo, IsChoice}
 use Rattle.prettyless_printer.proofs.Steps.{LeavesLess, extra, step_less_visits, visits_within}
 
--- # Payloads and probes
+-- ---- Payloads and probes
 
 -- a visit more at most where a payload is rejected, and no visit less
 pub payload_visits-least : (b : Bool) (v w x : ℕ) → w ≡ rise v → x ≡ counted_payload b w → rise v ≤ x
@@ -74,7 +74,7 @@ either_at_most : (n : ℕ) (l r : Tree) (i : ℕ) (m : Mode) (v : Bool) → suff
 either_at_most n l r i m true h = (omega (arith, h), omega arith)
 either_at_most n l r i m false h = (omega (arith, h), omega arith)
 
--- # One step
+-- ---- One step
 
 -- a step, with no document pending
 module _ (o : RenderOptions) (ts : List Task) (st : State) (n : ℕ) (none : st.pending ≡ []) where
@@ -208,7 +208,7 @@ choice_at_most {o} {t} {ts} {st} {v} {w} i x y more plain h = asked (step_at o t
           },
         )
 
--- # Counts in a row
+-- ---- Counts in a row
 
 pub rise_same : (v : Visits) → Rise v v
 rise_same v = record { printer = omega arith; probes = omega arith }

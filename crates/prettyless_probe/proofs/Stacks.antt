@@ -31,7 +31,7 @@ length-downwards : {A : Type 0} (g : A → Task) (xs : List A) → length (downw
 length-downwards g [] = refl
 length-downwards g (x ∷ xs) = omega (arith, length-append (downwards g xs) (g x ∷ []), length-downwards g xs)
 
--- # Nodes and frames
+-- ---- Nodes and frames
 
 -- a node more
 pub tasks_push : {N : Type 0} (f : N → Tree) (xs : List Frame) (here : Frame) (ns : List N) (n : N) → Rises xs here
@@ -45,7 +45,7 @@ pub tasks_open : {N : Type 0} (f : N → Tree) (xs : List Frame) (below here : F
     → framed_tasks f (xs ++ below ∷ []) here ns ≡ framed_tasks f xs below ns
 tasks_open {N} f xs below here ns e = ap (downwards (task f)) (spread_open xs below here ns e)
 
--- # How many tasks there are
+-- ---- How many tasks there are
 
 pub length-tasks : {N : Type 0} (f : N → Tree) (xs : List Frame) (here : Frame) (ns : List N) → lowest xs here ≡ 0 → Rises xs here
     → here.below ≤ length ns → length (framed_tasks f xs here ns) ≡ length ns
@@ -73,7 +73,7 @@ pub nodes-append : (ts us : List Task) → nodes (ts ++ us) ≡ nodes ts + nodes
 nodes-append [] us = omega arith
 nodes-append (t ∷ ts) us = omega (arith, nodes-append ts us)
 
--- # The top of a stack
+-- ---- The top of a stack
 
 -- work that is not all below begins with the top of the stack
 pub split_top : (above below : List Task) (t : Task) (ts : List Task) → t ∷ ts ≡ above ++ below → length below ≤ length ts
@@ -120,7 +120,7 @@ indent_below {N} f xs here g ns i r l h e =
     indent_here f (take k xs) g ns i under.0 (omega (arith, under.1, l)) ∙ ap (λ (z : List Task). next_indent i (follow z))
     (tasks_left f xs (take k xs) g here ns whole l)
 
--- # What is kept
+-- ---- What is kept
 
 -- what is below stays below, if enough commands are kept
 downwards_kept : {N : Type 0} (f : N → Tree) (cs : List (Command N)) (k : ℕ) (above below : List Task)

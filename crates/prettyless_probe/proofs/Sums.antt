@@ -16,7 +16,7 @@ use Rattle.prettyless_probe.specs.declared.stack.Stack.{Stack}
 use Rattle.prettyless_probe.proofs.Sizes.{size_positive}
 use Rattle.prettyless_probe.proofs.Stacks.{length-stack_of, nodes-append}
 
--- # The bottom of tasks
+-- ---- The bottom of tasks
 
 -- all tasks are at the bottom
 pub bottom_all : (n : ℕ) (ts : List Task) → n ≡ length ts → bottom n ts ≡ ts
@@ -45,7 +45,7 @@ nodes_bottom n ts l =
     let over : List Task = take (length ts - n) ts in
     omega (arith, ap nodes (over_bottom n ts), nodes-append over (bottom n ts), length-nodes over, length-take (length ts - n) ts, l)
 
--- # One sum
+-- ---- One sum
 
 -- a sum and how many tasks it leaves
 abbrev pub below : Summary → ℕ → Below
@@ -99,7 +99,7 @@ sum_then s {r} {b} i m d ts known under both small = record {
   whole = λ all. let w = under.whole (have_sum_below (make_task i m d) ts all) in (w.0, small all w.1);
 }
 
--- # All sums
+-- ---- All sums
 
 -- fewer tasks
 pub sums_less : (sums : List Below) (ts above us : List Task) → ts ≡ above ++ us → AreSums sums ts → AreSums sums us
@@ -130,7 +130,7 @@ sums_at sums [] b h some low g = absurd (omega (arith, some))
 sums_at sums (t ∷ ts) b h some low g =
     h [] ts t b refl (omega (arith, low)) (g ∙ ap (λ (k : ℕ). get_or sums k b) (omega arith))
 
--- # The sums of a stack
+-- ---- The sums of a stack
 
 -- a node more, and its sum
 pub long_push : (has : Bool) (k l n : ℕ) → l ≡ (if has then n else 0) → k ≡ l + (if has then 1 else 0) → k ≡ (if has then n + 1 else 0)

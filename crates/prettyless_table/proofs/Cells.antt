@@ -32,7 +32,7 @@ get_or_any [] i x y h = absurd (omega (arith, h))
 get_or_any (z ∷ xs) zero x y h = refl
 get_or_any (z ∷ xs) (suc i) x y h = get_or_any xs i x y (omega (arith, h))
 
--- # One cell more
+-- ---- One cell more
 
 -- a cell stays where it is
 cell_stays : {N : Type 0} (cells : List (Cell N)) (c : Cell N) (at : ℕ) (d : Tree) → HasCell cells at d → HasCell (cells ++ c ∷ []) at d
@@ -86,7 +86,7 @@ stays cells c t.HardLine at = λ h. h
 stays cells c t.WeakLine at = λ h. h
 stays cells c t.ExpandParent at = λ h. h
 
--- # A node that is read
+-- ---- A node that is read
 
 -- a small document stands anywhere
 pub small_in : {N : Type 0} (cells : List (Cell N)) (d : Tree) (at : ℕ) → small d ≡ true → In cells d at
@@ -136,7 +136,7 @@ in_cell cells t.HardLine at e h = cc
 in_cell cells t.WeakLine at e h = cc
 in_cell cells t.ExpandParent at e h = cc
 
--- # A cell that was added
+-- ---- A cell that was added
 
 -- a cell that was added
 cell_new : {N : Type 0} (cells : List (Cell N)) (c : Cell N) (d : Tree) → KeepsBoth c d → HasCell (cells ++ c ∷ []) (length cells) d
@@ -196,7 +196,7 @@ stands_new cells c t.HardLine keeps first second own = tt
 stands_new cells c t.WeakLine keeps first second own = tt
 stands_new cells c t.ExpandParent keeps first second own = tt
 
--- # The second part
+-- ---- The second part
 
 -- the place of a second part, in a cell that was read
 pub second_past : {N : Type 0} (cells : List (Cell N)) (at : ℕ) → length cells ≤ at → second_at cells at ≡ 0

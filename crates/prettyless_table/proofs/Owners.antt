@@ -12,7 +12,7 @@ use Rattle.prettyless_table.specs.Stored.{IsOwn, Serves}
 use Rattle.prettyless_table.specs.Owners.{all_owners, keeper, keepers, owners_of, with_own}
 use Rattle.prettyless_table.proofs.Sharing.{serves_part}
 
--- # The size of a tree
+-- ---- The size of a tree
 
 -- the sizes of trees together
 abbrev pub sizes : List Tree → ℕ
@@ -49,7 +49,7 @@ size_one d x e = omega (arith, size-is d, ap sizes e)
 pub size_two : (d x y : Tree) → x ∷ y ∷ [] ≡ parts_of d → size d ≡ size x + size y + 1
 size_two d x y e = omega (arith, size-is d, ap sizes e)
 
--- # Which nodes take cells
+-- ---- Which nodes take cells
 
 -- the nodes of a tree that take cells, by its parts
 pub owners-is : (d : Tree) → owners_of d ≡ with_own d (all_owners (parts_of d))
@@ -138,7 +138,7 @@ owner HardLine e = cc
 owner WeakLine e = cc
 owner ExpandParent e = cc
 
--- # Of which node a document has the cell
+-- ---- Of which node a document has the cell
 
 pub none_leaves : (ds : List Tree) → none ds ≡ true → leaves ds ≡ true
 none_leaves [] e = refl
@@ -203,7 +203,7 @@ keepers_not HardLine ds e = refl
 keepers_not WeakLine ds e = refl
 keepers_not ExpandParent ds e = refl
 
--- # Nodes in a list
+-- ---- Nodes in a list
 
 -- the documents that wait once listed nodes have their cells, from the end of the list: each takes its parts and waits itself
 abbrev pub waiting : List Tree → List Tree
@@ -297,7 +297,7 @@ fewer_within (suc n) (d ∷ ds) h = omega (
   length-append (owners_of d) (all_owners ds),
 )
 
--- # How many take cells
+-- ---- How many take cells
 
 -- documents have more nodes than take cells, each by one at least
 pub owners_fewer : (ds : List Tree) → length (all_owners ds) + length ds ≤ sizes ds

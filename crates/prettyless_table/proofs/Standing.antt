@@ -27,7 +27,7 @@ pub goes_on : {N : Type 0} (cells : List (Cell N)) (ds : List Tree) (at : ℕ) (
 goes_on cells [] at places e h = tt
 goes_on cells (d ∷ ds) at places e h = (subst (In cells d) (sym e) h.0, h.1)
 
--- # The parts of a node
+-- ---- The parts of a node
 
 -- the parts of a node, by how many there are and which of them are small
 pub found_nothing : {N : Type 0} (cells : List (Cell N)) (at : ℕ) (ds : List Tree) (places : List ℕ) → at ≡ length cells - 1
@@ -104,7 +104,7 @@ pub same_found : {N : Type 0} (cells : List (Cell N)) (at : ℕ) (ds : List Tree
 same_found {N} cells at ds places left {xs} {ys} e =
     subst (λ (zs : List Tree). WaitsInTable cells (keepers zs ++ ds) places → AreFound cells zs at ds left) e
 
--- # The next node of a list
+-- ---- The next node of a list
 
 -- documents stand where they stood after one more cell
 pub stand_grown : {N : Type 0} (cells : List (Cell N)) (c : Cell N) (ds : List Tree) (places : List ℕ) → StandAt cells ds places
@@ -153,7 +153,7 @@ is_next {N} f cells ns k n places ds list read h =
     subst (λ (ms : List N). AllFit (map f ms)) read (fit_from f (k - 1) ns (list_fits ds (map f ns) list).0) in
     record { takes = fit.0.takes; waits = found_next cells (f n) (map f (drop k ns)) places fit h }
 
--- # A node that gets its cell
+-- ---- A node that gets its cell
 
 -- a cell of summaries has no document to stand anywhere
 pub keeps_placed : {N : Type 0} (f : N → Tree) (cells : List (Cell N)) (c : Cell N) (d : Tree) → KeepsBoth c d → IsPlaced f cells c
