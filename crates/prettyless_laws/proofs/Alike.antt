@@ -15,6 +15,8 @@ use Rattle.prettyless_model.specs.declared.metrics.Metrics.{Metrics}
 use Rattle.prettyless_model.specs.declared.mode.Mode.{Mode}
 use Rattle.prettyless_model.specs.declared.mode.Mode.TheVariants.{Break, Flat}
 
+-- ---- columns and states
+
 -- columns that may differ in what is written of an indent
 pub record Alike (c e : Column) : Type 0 where
   pub fresh : c.fresh ≡ e.fresh
@@ -33,6 +35,8 @@ alike_equal c e h = record {
   padding = ap (λ (x : Column). x.padding) h;
   place = ap (λ (x : Column). saturating_add x.position x.indent) h;
 }
+
+-- ---- texts, spaces and line ends in a column
 
 pub prospective_alike : (c e : Column) → Alike c e → prospective c ≡ prospective e
 prospective_alike c e h = ap₂ saturating_add h.place h.padding
@@ -63,6 +67,8 @@ ending_alike k =
 pub padding_fits_alike : (w : ℕ) (b : Bool) (c e : Column) → Alike c e → padding_fits w b c ≡ padding_fits w b e
 padding_fits_alike w b c e h = ap₂ (λ (x y : ℕ). not b || (x == 0) || nat_le y w) h.padding (prospective_alike c e h)
 
+-- ---- looks
+
 -- looks with one answer, or columns that are alike after them
 abbrev pub AlikeLooks : Look → Look → Type 0
 AlikeLooks (Answers a) (Answers b) = a ≡ b
@@ -91,6 +97,8 @@ looks-either true true x y z w e f g = f
 looks-either false false x y z w e f g = g
 looks-either true false x y z w e f g = absurd (cc e)
 looks-either false true x y z w e f g = absurd (cc e)
+
+-- ---- looks at documents
 
 text_alike : (w n : ℕ) (s : List ℕ) (c e : Column) (p : Bool) → Alike c e → AlikeLooks (look_text w n s c p) (look_text w n s e p)
 text_alike w n [] c e p h = (h, refl)
@@ -149,6 +157,8 @@ look_alike w (OnNesting test y n) i m c e p h =
 -- every other node leaves the column as it is
 look_alike w _ i m c e p h = (h, refl)
 
+-- ---- answers of probes
+
 answers-alike : (x y : Look) (f : Column → Bool → Bool) → AlikeLooks x y → ((c e : Column) (p : Bool) → Alike c e → f c p ≡ f e p)
     → answer_of x f ≡ answer_of y f
 answers-alike (Answers a) (Answers b) f h k = h
@@ -169,6 +179,8 @@ probe_alike o p e d i m rest s u h =
     (λ c q. rest_fits o.width rest c q)
     (look_alike o.width d i m s.column u.column (some_pending s.pending) h.column) (λ a b q k. rest_alike o.width rest a b q k)
     ∙ ap₂ (λ (w : ℕ) (ps : List Tree). answer_of (look w d i m u.column (some_pending ps)) (λ c q. rest_fits w rest c q)) e h.pending
+
+-- ---- payloads, pending documents and breaks
 
 pub payload_alike : (o p : RenderOptions) → o.width ≡ p.width → (m : Metrics) (c e : Column) → Alike c e
     → payload_fits o m c ≡ payload_fits p m e

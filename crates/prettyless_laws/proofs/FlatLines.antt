@@ -25,6 +25,8 @@ use Rattle.prettyless_laws.specs.Trace.{trace_text, trace_ending, noted_choice, 
 use Rattle.prettyless_laws.specs.FlatLines.{LeavesPending, IsLike, SkipsWeakLines, LaysFlat, LiesOnOneLine, PassesWeakLines, TracesFlat}
 use Rattle.prettyless_laws.specs.FlatLines.{IsOnOneLine, IsNoAlternative, IsTracedOnOneLine, IsTracedAsFlatGroup}
 
+-- ---- looks that answer yes
+
 -- the answer is yes from a state, at an indent in Flat, with what is asked of the column after the tree
 abbrev Fits : RenderOptions → Tree → ℕ → (Column → Bool → Bool) → State → Type 0
 Fits o d i next st = answer_of (look o.width d i Flat st.column (some_pending st.pending)) next ≡ true
@@ -42,6 +44,8 @@ only_on : (t : Bool) (c : Column) (p : Bool) (next : Column → Bool → Bool) �
     → (t ≡ true) × (next c p ≡ true)
 only_on true c p next e = (refl, e)
 only_on false c p next e = absurd (cc)
+
+-- ---- trees that write nothing, or are laid as another
 
 -- a tree that writes nothing and leaves nothing pending
 flows_by : {o : RenderOptions} {d : Tree} {i : ℕ} {next : Column → Bool → Bool} {st : State} (u : State) → LaysFlat o d i st [] u
@@ -95,6 +99,8 @@ flows_as {o} {d} x {i} f {next} {st} e t n q h = record {
   plain = λ p. h.plain (q p);
 }
 
+-- ---- choices
+
 -- a tree with a choice has no other indent like its own
 only_like : (d : Tree) (i j : ℕ) → (IsPlain d → ⊥) → IsLike d i j → j ≡ i
 only_like d i j q (inl p) = absurd (q p)
@@ -142,6 +148,8 @@ flows_choice : {o : RenderOptions} {d : Tree} (y n : Tree) {i : ℕ} {next : Col
     → (Fits o n i next st → IsTracedOnOneLine o n i next st) → IsTracedOnOneLine o d i next st
 flows_choice y n true e t l q h f g = flows_chosen First y e t (λ ds k. l ds (inl k)) q (f h)
 flows_choice y n false e t l q h f g = flows_chosen Second n e t (λ ds k. l ds (inr k)) q (g h)
+
+-- ---- texts, and two trees in a row
 
 -- the flag stays where the text ends within the width
 inked : (o : RenderOptions) (w : ℕ) (st : State) → nat_le (commit w st.column).position o.width ≡ true → (t : Bool)
@@ -220,6 +228,8 @@ append_flows o l r i mid next st x y = record {
   plain = λ k. All-append IsNoAlternative x.pieces y.pieces (x.plain k.0) (y.plain k.1);
 }
 
+-- ---- any tree
+
 flows : (o : RenderOptions) (d : Tree) (i : ℕ) (next : Column → Bool → Bool) (st : State) → Fits o d i next st
     → IsTracedOnOneLine o d i next st
 unfolding lay trace_at
@@ -291,6 +301,8 @@ pub traced_on_one_line : (o : RenderOptions) (d : Tree) (i : ℕ) (rest : List E
     → IsTracedOnOneLine o d i (λ c p. rest_fits o.width rest c p) st
 traced_on_one_line o d i rest st h = flows o d i (λ c p. rest_fits o.width rest c p) st h
 
+-- ---- groups
+
 pub group_is_flat : (o : RenderOptions) (brk : Breaks) (d : Tree) (i : ℕ) (m : Mode) (rest : List Entry) (st : State)
     → probe o d i Flat rest st ≡ true → lay o brk (Group d) i m rest st ≡ lay o brk d i Flat rest st
 unfolding lay
@@ -314,6 +326,8 @@ traced_as_flat_group o d i rest st h =
       traced = λ brk k. group_chooses o brk d i rest st h
           ∙ ap (noted_choice First) (x.traced brk k i (inr refl) rest);
     }
+
+-- ---- weak lines that are skipped
 
 -- a break runs `plain_break` where nothing is pending, and that skips a fresh weak line
 skips : (o : RenderOptions) (brk : Breaks) (i : ℕ) (rest : List Entry) (st : State) → st.pending ≡ [] → st.column.fresh ≡ true

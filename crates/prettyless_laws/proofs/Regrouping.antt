@@ -25,6 +25,8 @@ use Rattle.prettyless_laws.specs.Parts.{FollowAlike, ReadsAlike}
 use Rattle.prettyless_laws.proofs.Following.{alike_same, alike_after, either-same, breaks_alike}
 use Rattle.prettyless_laws.proofs.Appended.{appended_lays, right_looks}
 
+-- ---- states and outcomes
+
 -- the state whose pending documents are regrouped
 abbrev pub right_state : State → State
 right_state st = record st { pending = map right st.pending }
@@ -45,6 +47,8 @@ right-then : (x y : Outcome) (f g : State → Outcome) → y ≡ right_outcome x
     → and_then y g ≡ right_outcome (and_then x f)
 right-then (Done b st) y f g e h = ap (λ (z : Outcome). and_then z g) e ∙ ap (after_bytes b) (h st) ∙ right-after b (f st)
 right-then (Failed b) y f g e h = ap (λ (z : Outcome). and_then z g) e
+
+-- ---- choices, texts and line ends
 
 right-either : (t : Bool) (x y : Outcome) → (if t then right_outcome x else right_outcome y) ≡ right_outcome (if t then x else y)
 right-either true x y = refl
@@ -67,6 +71,8 @@ right-ending : (o : RenderOptions) (p : IndentationPolicy) (k : ℕ) (st : State
 right-ending o Eager k st = refl
 right-ending o Deferred k st = refl
 
+-- ---- breaks that regroup, and probes
+
 -- a break is laid the same from where what is pending is regrouped, and so is what follows
 abbrev pub BreaksRegrouped : Breaks → Type 0
 BreaksRegrouped brk = (d : Tree) (i : ℕ) (m : Mode) (r s : List Entry) (st : State) → FollowAlike s r
@@ -84,6 +90,8 @@ right_probe o d i m r s st h =
     ∙ answer-same (look o.width (right d) i m st.column (some_pending st.pending)) (look o.width d i m st.column (some_pending st.pending))
     (λ c p. rest_fits o.width s c p) (λ c p. rest_fits o.width r c p)
     (right_looks d o.width i m st.column (some_pending st.pending)) (λ c p. h.1 o.width c p)
+
+-- ---- documents
 
 lay_right : (o : RenderOptions) {brk : Breaks} → Regroups brk → (d : Tree) (i : ℕ) (m : Mode) (r s : List Entry)
     (st : State) → FollowAlike s r → lay o brk (right d) i m s (right_state st) ≡ right_outcome (lay o brk d i m r st)
@@ -156,6 +164,8 @@ each_right o {brk} k (d ∷ ds) i m r s st h =
     (lay_right o k d i m (entries i ds ++ r) (entries i (map right ds) ++ s) st (alike_rights i ds r s h))
     (λ u. each_right o k ds i m r s u h)
 
+-- ---- breaks and the end
+
 break_right : (o : RenderOptions) {brk : Breaks} → Regroups brk → (ps : List Tree) (d : Tree) (i : ℕ) (m : Mode)
     (r s : List Entry) (st : State) → FollowAlike s r → break_with o brk (map right ps) d i m s (right_state st) ≡ right_outcome
     (break_with o brk ps d i m r st)
@@ -198,6 +208,8 @@ finish_right : (o : RenderOptions) {brk : Breaks} → Regroups brk → (n : ℕ)
 unfolding finish
 finish_right o k zero st = refl
 finish_right o {brk} k (suc n) st = end_right o k (finish o brk n) (finish_right o k n) st.pending st
+
+-- ---- the whole layout
 
 layout_by_right : (o : RenderOptions) (n : ℕ) (d : Tree) → layout_by o n (right d) ≡ right_outcome (layout_by o n d)
 unfolding layout_by

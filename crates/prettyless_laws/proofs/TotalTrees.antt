@@ -24,6 +24,8 @@ use Rattle.prettyless_laws.specs.FlatLines.{LeavesPending, SkipsWeakLines}
 use Rattle.prettyless_laws.specs.TotalTrees.{IsTotal}
 use Rattle.prettyless_laws.proofs.FlatLines.{one_line, breaks_skip}
 
+-- ---- outcomes that do not fail
+
 -- the outcome is no failure, and what is pending after it is total
 abbrev Lays : Outcome → Type 0
 Lays (Done b st) = All IsTotal st.pending
@@ -38,6 +40,8 @@ lays-then : (n : ℕ) (x : Outcome) (f : State → Outcome) → LeavesAtMost n x
 lays-then n (Done b st) f l h g = lays-after b (f st) (g st h l)
 lays-then n (Failed b) f l h g = absurd h
 
+-- ---- breaks that do not fail
+
 -- a break that does not fail where no more than this is pending, and that is total
 abbrev LaysTo : ℕ → Breaks → Type 0
 LaysTo h brk = (d : Tree) (i : ℕ) (rest : List Entry) (st : State) → All IsTotal st.pending → queued st.pending ≤ h
@@ -48,6 +52,8 @@ record LaysTotal (h : ℕ) (brk : Breaks) : Type 0 where
   skips : SkipsWeakLines brk
   keeps : Keeps brk
   lays : LaysTo h brk
+
+-- ---- trees in Flat
 
 suffixes_total : (d : Tree) (ds : List Tree) → IsTotal d → LeavesPending d ds → All IsTotal ds
 suffixes_total Fail ds t h = absurd t
@@ -75,6 +81,8 @@ flat_lays o brk k d i rest st t p h =
     rw (x.done brk k i (inr refl) rest)
     (All-same IsTotal x.state.pending (st.pending ++ x.own) x.pending
     (All-append IsTotal st.pending x.own p (suffixes_total d x.own t x.leaves)))
+
+-- ---- trees in Break
 
 -- what holds in Flat where a probe answers yes, and in Break, holds in the mode that it chooses
 in_mode : (P : Mode → Type 0) (t : Bool) → (t ≡ true → P Flat) → P Break → P (if t then Flat else Break)
@@ -134,6 +142,8 @@ each_lays o {brk} g (d ∷ ds) i rest st t p l =
     (lay_lays o g d i (entries i ds ++ rest) st (All-head IsTotal d ds t) p (omega arith))
     (λ u q n. each_lays o g ds i rest u (All-tail IsTotal d ds t) q (omega arith))
 
+-- ---- what waits, breaks and the end
+
 -- what is pending is laid, and then what lays what they leave pending
 pending_lays : (o : RenderOptions) {brk : Breaks} {h : ℕ} → LaysTotal h brk
     → (ps : List Tree) (i : ℕ) (rest : List Entry) (st : State) (again : State → Outcome) → All IsTotal ps → all_suffixes ps ≤ h
@@ -185,6 +195,8 @@ unfolding finish
 finish_lays o g zero st p l m = absurd (omega arith)
 finish_lays o {brk} g (suc n) st p l m =
     end_lays o g (finish o brk n) st.pending st p p m (λ u q r. finish_lays o g n u q (omega arith) (omega arith))
+
+-- ---- the whole layout
 
 layout_by_lays : (o : RenderOptions) (n : ℕ) (d : Tree) → IsTotal d → suffixes d ≤ n → Lays (layout_by o (suc n) d)
 unfolding layout_by

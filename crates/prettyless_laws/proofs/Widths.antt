@@ -25,6 +25,8 @@ use Rattle.prettyless_laws.specs.Trace.{Complete, Partial}
 use Rattle.prettyless_laws.proofs.Alike.{AlikeStates, alike_equal, prospective_alike, commit_alike, blank_alike, ending_alike}
 use Rattle.prettyless_laws.proofs.Alike.{padding_fits_alike, probe_alike, payload_alike, flushed_alike, suppressed_alike}
 
+-- ---- tracings that are the same
+
 -- the same pieces, and states that are alike after them
 abbrev pub Same : Tracing → Tracing → Type 0
 Same (Traced ps s) (Traced qs u) = (ps ≡ qs) × AlikeStates s u
@@ -58,6 +60,8 @@ same-chosen a b x y z w e h k =
     same-either a b (noted_choice First x) (noted_choice Second y) (noted_choice First z) (noted_choice Second w) e
     (same-after (Alternative First ∷ []) (Alternative First ∷ []) x z refl h)
     (same-after (Alternative Second ∷ []) (Alternative Second ∷ []) y w refl k)
+
+-- ---- texts, payloads, line ends and unions
 
 text_same : (o p : RenderOptions) → o.width ≡ p.width → (w : ℕ) (t : List ℕ) (s u : State) → AlikeStates s u
     → Same (trace_text o w t s) (trace_text p w t u)
@@ -113,6 +117,8 @@ accept_same o p e {a} {b} f (Traced ps s) y (Traced qs u) w h k =
 accept_same o p e f (Traced ps s) y (Stopped qs) w h k = absurd h
 accept_same o p e f (Stopped ps) y (Traced qs u) w h k = absurd h
 accept_same o p e f (Stopped ps) y (Stopped qs) w h k = same-after (Alternative Second ∷ []) (Alternative Second ∷ []) y w refl k
+
+-- ---- documents
 
 -- the same trace from states that are alike
 pub record SameFrom (f g : State → Tracing) : Type 0 where
@@ -197,6 +203,8 @@ each_same o p e {a} {b} k (d ∷ ds) i m rest {s} {u} h =
     (traces_same o p e k d i m (entries i ds ++ rest) h)
     (λ v w q. each_same o p e k ds i m rest q)
 
+-- ---- what waits, breaks and the end
+
 -- pending documents have the same trace, and then what follows them
 waiting_same : (o p : RenderOptions) → o.width ≡ p.width → {a b : BreakTraces} → SameBreaks a b
     → (ds : List Tree) (i : ℕ) (m : Mode) (rest : List Entry) {f g : State → Tracing} → SameFrom f g
@@ -248,6 +256,8 @@ finish_same o p e {a} {b} k (suc n) = record {
       h.pending
       (end_same o p e k (finish_same o p e k n) s.pending h);
 }
+
+-- ---- the whole trace
 
 by_same : (o p : RenderOptions) → o.width ≡ p.width → (n : ℕ) (d : Tree) → Same (trace_by o n d) (trace_by p n d)
 unfolding trace_by

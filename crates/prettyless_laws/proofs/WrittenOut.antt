@@ -28,6 +28,8 @@ use Rattle.prettyless_laws.proofs.Owed.{at_once, later, owed, left, owed-append,
 use Rattle.prettyless_laws.proofs.Sound.{InRange, Sound, EntriesInRange, sum_in_range, zero_in_range, nested_in_range, next_in_range}
 use Rattle.prettyless_laws.proofs.Sound.{entries_in_range, gap_spaces, commit_sound, blank_sound, blank_indent, after_sound, after_indent}
 
+-- ---- outcomes and tracings that match
+
 -- the bytes are the pieces written out where so many spaces are pending; both end in one state, where what is left is pending
 abbrev pub Matches : RenderOptions → ℕ → Outcome → Tracing → Type 0
 Matches o k (Done b s) (Traced ps u) = (b ≡ owed o k ps) × (s ≡ u) × (left o k ps ≡ s.column.indent) × Sound s.column
@@ -56,6 +58,8 @@ matches-then o k (Done b s) (Stopped ps) f g h q = absurd h
 matches-then o k (Failed b) (Traced ps u) f g h q = absurd h
 matches-then o k (Failed b) (Stopped ps) f g h q = h
 
+-- ---- choices
+
 matches-chosen : (o : RenderOptions) (k : ℕ) (side : Side) (x : Outcome) (y : Tracing) → Matches o k x y →
     Matches o k x (noted_choice side y)
 matches-chosen o k side (Done b s) (Traced ps u) h = h
@@ -83,6 +87,8 @@ matches-accept o k was (Done b s) y (Traced ps u) w h g =
 matches-accept o k was (Done b s) y (Stopped ps) w h g = absurd h
 matches-accept o k was (Failed b) y (Traced ps u) w h g = absurd h
 matches-accept o k was (Failed b) y (Stopped ps) w h g = matches-chosen o k Second y w g
+
+-- ---- texts, payloads and line ends
 
 text_matches : (o : RenderOptions) (w : ℕ) (t : List ℕ) (s : State) → Sound s.column → Matches o s.column.indent (lay_text o w t s)
     (trace_text o w t s)
@@ -135,6 +141,8 @@ plain_either : (o : RenderOptions) (k : ℕ) (t : Bool) (x y : Outcome) (z w : T
     → Matches o k (if t then x else y) (if t then z else w)
 plain_either o k true x y z w h g = h
 plain_either o k false x y z w h g = g
+
+-- ---- documents
 
 -- what goes on from a state matches, from the columns that a layout reaches
 pub record MatchesFrom (o : RenderOptions) (f : State → Outcome) (g : State → Tracing) : Type 0 where
@@ -212,6 +220,8 @@ each_matches {o} {a} {b} k (d ∷ ds) i m rest s r e h =
     (lay_matches k d i m (entries i ds ++ rest) s r (entries_in_range i ds rest r e) h)
     (λ v q. each_matches k ds i m rest v r e q)
 
+-- ---- what waits, breaks and the end
+
 -- pending documents match, and then what follows them
 waiting_matches : {o : RenderOptions} {a : Breaks} {b : BreakTraces} → BreaksMatch o a b
     → (ds : List Tree) (i : ℕ) (m : Mode) (rest : List Entry) {f : State → Outcome} {g : State → Tracing}
@@ -254,6 +264,8 @@ finish_matches : {o : RenderOptions} {a : Breaks} {b : BreakTraces} → BreaksMa
 unfolding finish trace_finish
 finish_matches k zero = record { matches = λ s h. refl }
 finish_matches k (suc n) = record { matches = λ s h. end_matches k (finish_matches k n) s.pending s h }
+
+-- ---- the whole layout
 
 by_matches : (o : RenderOptions) (n : ℕ) (d : Tree) → Matches o 0 (layout_by o n d) (trace_by o n d)
 unfolding layout_by trace_by

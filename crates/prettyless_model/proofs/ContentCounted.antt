@@ -24,6 +24,8 @@ use Rattle.prettyless_model.proofs.Endings.{NothingPending, layout_by_ends}
 use Rattle.prettyless_model.proofs.Outcomes.{holds-either, holds-accept}
 use Rattle.prettyless_model.proofs.Writes.{Writes, text_writes, payload_writes, plain_writes}
 
+-- ---- words and counts
+
 -- the pending documents spell this word in a row
 pub record PendingWord (st : State) (q : List ℕ) : Type 0 where
   pub spelled : spells (row st.pending) q
@@ -38,6 +40,8 @@ count-append c a b = sum_by-append (λ x. cond (x == c) 1 0) a b
 
 count_ink : (c : ℕ) (a b : List ℕ) → count c (ink (a ++ b)) ≡ count c (ink a) + count c (ink b)
 count_ink c a b = ap (count c) (ink-append a b) ∙ count-append c (ink a) (ink b)
+
+-- ---- outcomes, one after another
 
 -- what is written while the pending documents stay
 leaves_writes : (c : ℕ) (v w : List ℕ) {q : List ℕ} {st : State} (o : Outcome) → Writes v st.pending o → w ≡ v → PendingWord st q
@@ -59,6 +63,8 @@ leaves-then : (c n v k : ℕ) (o : Outcome) (f : State → Outcome) → n + v �
 leaves-then c n v k (Done b st) f e h g = leaves-after c (v + count c h.0) k b (f st) (omega (arith, h.2)) (g st h.0 h.1)
 leaves-then c n v k (Failed b) f e h g = tt
 
+-- ---- what conserves a byte
+
 -- what goes on from a state loses nothing of what waits, and adds nothing
 pub record Retains (c : ℕ) (f : State → Outcome) : Type 0 where
   pub leaves : (st : State) (q : List ℕ) → PendingWord st q → Leaves c (count c q) (f st)
@@ -66,6 +72,8 @@ pub record Retains (c : ℕ) (f : State → Outcome) : Type 0 where
 -- a break does so
 pub record Conserves (c : ℕ) (brk : Breaks) : Type 0 where
   pub retains : (d : Tree) (i : ℕ) (m : Mode) (rest : List Entry) → Retains c (brk d i m rest)
+
+-- ---- one document, and documents in a row
 
 pub lay_counts : (o : RenderOptions) {brk : Breaks} {c : ℕ} → Conserves c brk → (d : Tree) (i : ℕ) (m : Mode) (rest : List Entry)
     {st : State} {q : List ℕ} (w : List ℕ) → spells d w → PendingWord st q
@@ -136,6 +144,8 @@ each_counts o {brk} {c} k (d ∷ ds) i m rest {st} {q} w h s =
     (lay_counts o k d i m (entries i ds ++ rest) h.0 h.2 s)
     (λ z r e. each_counts o k ds i m rest h.1 h.3 e)
 
+-- ---- what waits, breaks and the end
+
 -- what waits is laid, and what goes on conserves what waits still
 waiting_counts : (o : RenderOptions) {brk : Breaks} {c : ℕ} → Conserves c brk → (ps : List Tree) (i : ℕ) (m : Mode) (rest : List Entry)
     (st : State) {again : State → Outcome} (q : List ℕ) → spells (row ps) q → Retains c again
@@ -173,6 +183,8 @@ finish_counts : (o : RenderOptions) {brk : Breaks} {c : ℕ} → Conserves c brk
 unfolding finish
 finish_counts o k zero = record { leaves = λ st q s. tt }
 finish_counts o k (suc n) = record { leaves = λ st q s. end_counts o k (finish_counts o k n) st.pending s.spelled s }
+
+-- ---- the whole layout
 
 layout_by_counts : (o : RenderOptions) (n c : ℕ) (d : Tree) (w : List ℕ) → spells d w → Leaves c (count c w) (layout_by o n d)
 unfolding layout_by

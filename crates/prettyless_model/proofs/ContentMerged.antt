@@ -26,6 +26,8 @@ use Rattle.prettyless_model.proofs.Outcomes.{holds-either, holds-accept}
 use Rattle.prettyless_model.proofs.Writes.{Writes, text_writes, payload_writes, plain_writes}
 use Rattle.prettyless_model.proofs.Merges.{merge_of_first, merge_of_second, merge_with_none, merge-append}
 
+-- ---- words and merges
+
 -- documents spell this word in a row, and none of them has a line suffix
 pub record SpelledInRow (ds : List Tree) (w : List ℕ) : Type 0 where
   pub spelled : spells (row ds) w
@@ -39,6 +41,8 @@ PendingSpell st q = SpelledInRow st.pending q
 abbrev pub Merges : List ℕ → List ℕ → Outcome → Type 0
 Merges v q (Done b st) = (x : List ℕ) × (rest : List ℕ) × (q ≡ x ++ rest) × IsMerge (ink b) v x × PendingSpell st rest
 Merges v q (Failed b) = Unit {0}
+
+-- ---- outcomes, one after another
 
 -- what is written while the pending documents stay
 merges_writes : (v q : List ℕ) (st : State) (o : Outcome) → Writes v st.pending o → PendingSpell st q → Merges v q o
@@ -85,6 +89,8 @@ merges_late q (Done b st) h =
     (q, [], sym (append-nil q), rw (merge_with_none (ink b) q h.0 none.0 h.3) (merge_of_second q), rw none.1 at h.4)
 merges_late q (Failed b) h = tt
 
+-- ---- what writes all that waits
+
 -- what goes on from a state writes what waits, and nothing else
 pub record Unloads (f : State → Outcome) : Type 0 where
   pub merges : (st : State) (q : List ℕ) → PendingSpell st q → Merges [] q (f st)
@@ -92,6 +98,8 @@ pub record Unloads (f : State → Outcome) : Type 0 where
 -- a break does so
 pub record WritesPending (brk : Breaks) : Type 0 where
   pub unloads : (d : Tree) (i : ℕ) (m : Mode) (rest : List Entry) → Unloads (brk d i m rest)
+
+-- ---- one document
 
 -- a document that spells this word, and adds nothing to what waits
 merges_to : (v v' q u : List ℕ) (o : Outcome) → (v ≡ v') × (u ≡ []) → Merges v' q o → Merges v (q ++ u) o
@@ -174,6 +182,8 @@ lay_merges o {brk} k (OnNesting test x y) i m rest st {v} {u} {q} h w =
     (lay_merges o k x i m rest st (record { parts = h.parts.0; depth = omega (arith, h.depth) }) w)
     (lay_merges o k y i m rest st (record { parts = h.parts.1; depth = omega (arith, h.depth) }) w)
 
+-- ---- documents in a row
+
 -- documents in a row, each with no line suffix, write what they spell before what waits already
 each_merges : (o : RenderOptions) {brk : Breaks} → WritesPending brk → (ds : List Tree) (i : ℕ) (m : Mode) (rest : List Entry)
     (st : State) {w q : List ℕ} → SpelledInRow ds w → PendingSpell st q → Merges w q (lay_each o brk ds i m rest st)
@@ -189,6 +199,8 @@ each_merges o {brk} k (d ∷ ds) i m rest st {w} {q} h e =
     (merges-next h.spelled.0 q h.spelled.1 (lay o brk d i m (entries i ds ++ rest) st) (λ u. lay_each o brk ds i m rest u)
     (rw (append-nil q) at first)
     (λ u r f. each_merges o k ds i m rest u (record { spelled = h.spelled.3; depth = omega (arith, h.depth) }) f))
+
+-- ---- what waits, breaks and the end
 
 -- what waits is written, and then what goes on writes what waits still
 waiting_merges : (o : RenderOptions) {brk : Breaks} → WritesPending brk → {ps : List Tree} (i : ℕ) (m : Mode) (rest : List Entry)
@@ -224,6 +236,8 @@ finish_merges : (o : RenderOptions) {brk : Breaks} → WritesPending brk → (n 
 unfolding finish
 finish_merges o k zero = record { merges = λ st q w. tt }
 finish_merges o k (suc n) = record { merges = λ st q w. end_merges o k (finish_merges o k n) st.pending st w w }
+
+-- ---- the whole layout
 
 layout_by_merges : (o : RenderOptions) (n : ℕ) (d : Tree) (v u : List ℕ) → spelled_parts d v u → suffix_depth d ≤ 1 →
     Merges v u (layout_by o n d)

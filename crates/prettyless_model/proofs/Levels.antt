@@ -17,6 +17,8 @@ use Rattle.prettyless_model.specs.declared.mode.Mode.{Mode}
 use Rattle.prettyless_model.specs.declared.mode.Mode.TheVariants.{Break, Flat}
 use Rattle.prettyless_model.proofs.Outcomes.{same-either, holds-either, holds-accept, holds-text, holds-plain}
 
+-- ---- how much is pending after an outcome
+
 -- at most this much is pending afterwards
 abbrev pub LeavesAtMost : ℕ → Outcome → Type 0
 LeavesAtMost n (Done b st) = queued st.pending ≤ n
@@ -44,6 +46,8 @@ queued-one : (ps : List Tree) (d : Tree) → queued (ps ++ d ∷ []) ≡ queued 
 queued-one [] d = omega arith
 queued-one (p ∷ ps) d = omega (arith, queued-one ps d)
 
+-- ---- breaks that keep, and breaks that agree
+
 -- a break leaves no more pending than it found
 abbrev pub Keeps : Breaks → Type 0
 Keeps brk = (d : Tree) (i : ℕ) (m : Mode) (rest : List Entry) (st : State) → LeavesAtMost (queued st.pending) (brk d i m rest st)
@@ -56,6 +60,8 @@ Agree h a b = (d : Tree) (i : ℕ) (m : Mode) (rest : List Entry) (st : State) �
 record Agreeing (h : ℕ) (a b : Breaks) : Type 0 where
   same : Agree h a b
   keeps : Keeps a
+
+-- ---- what a layout leaves pending
 
 pub lay_keeps : (o : RenderOptions) (brk : Breaks) → Keeps brk → (d : Tree) (i : ℕ) (m : Mode) (rest : List Entry) (st : State)
     → LeavesAtMost (suffixes d + queued st.pending) (lay o brk d i m rest st)
@@ -141,6 +147,8 @@ unfolding breaks
 breaks_keep o zero = λ d i m rest st. tt
 breaks_keep o (suc n) = λ d i m rest st. break_keeps o (breaks o n) (breaks_keep o n) st.pending d i m rest st (omega arith)
 
+-- ---- layouts by two breaks that agree
+
 lay_agrees : (o : RenderOptions) {h : ℕ} {a b : Breaks} → Agreeing h a b → (d : Tree) (i : ℕ) (m : Mode) (rest : List Entry)
     (st : State) → suffixes d + queued st.pending ≤ h → lay o a d i m rest st ≡ lay o b d i m rest st
 unfolding lay
@@ -203,6 +211,8 @@ break_agrees o {h} {a} {b} e (p ∷ ps) d i m rest st l =
     ∙ ap (λ (x : Outcome). and_then x (b d i m rest))
     (each_agrees o e (p ∷ ps) i m (entry i d ∷ rest) (flushed o st) (omega (arith, suffixes_queued ps))))
 
+-- ---- enough levels for a break
+
 none_queued : (o : RenderOptions) (a b : Breaks) (ps : List Tree) (d : Tree) (i : ℕ) (m : Mode) (rest : List Entry) (st : State)
     → queued ps ≤ 0 → break_with o a ps d i m rest st ≡ break_with o b ps d i m rest st
 none_queued o a b [] d i m rest st l = refl
@@ -238,6 +248,8 @@ pub settle_fixed : (o : RenderOptions) → Fixed o (settle o)
 unfolding settle breaks
 settle_fixed o = λ d i m rest st. settle_break o (queued st.pending) st.pending d i m rest st (omega arith)
 
+-- ---- the end of the document
+
 end_agrees : (o : RenderOptions) {h : ℕ} {a b : Breaks} → Agreeing h a b → (f g : State → Outcome) → (ps : List Tree) (st : State)
     → queued ps ≤ suc h → ((u : State) → queued u.pending < queued ps → f u ≡ g u) → end_with o a f ps st ≡ end_with o b g ps st
 end_agrees o e f g [] st l r = refl
@@ -272,6 +284,8 @@ end_fixed_at o q ps st l =
 pub end_fixed : (o : RenderOptions) (st : State) → settle_end o st ≡ end_with o (settle o) (settle_end o) st.pending st
 unfolding settle_end finish
 end_fixed o st = end_fixed_at o (queued st.pending) st.pending st (omega arith)
+
+-- ---- the whole layout
 
 pub suffixes_size : (d : Tree) → suffixes d < size d
 suffixes_size (Append l r) = omega (arith, suffixes_size l, suffixes_size r)

@@ -18,6 +18,8 @@ use Rattle.prettyless_printer.proofs.Runs.{step_runs}
 use Rattle.prettyless_printer.proofs.Steps.{LeavesLess, step_less}
 use Rattle.prettyless_printer.proofs.Within.{Past, all_past, past-after}
 
+-- ---- what a step begins with, and what holds after it
+
 -- What is left of a whole once the first task is taken, whose step comes next.
 record Taken (o : RenderOptions) (whole : Outcome) (limit : ℕ) (below : List Task) (old : List ℕ) (t : Task) (ts : List Task) (st : State)
     (out : List ℕ) (step : Step) : Type 0 where
@@ -35,6 +37,8 @@ Steps o whole limit below old ts st out (Move b pushed u) = Inside o whole limit
 Steps o whole limit below old ts st out Stuck = (bytes : List ℕ) × (above : List Task) × (out ≡ old ++ bytes) × (whole ≡ Failed bytes)
     × (ts ≡ above ++ below)
 Steps o whole limit below old ts st out (Choose i x y) = ChoiceNext o whole limit below old i x y ts st out
+
+-- ---- one step of the first task
 
 module _ {o : RenderOptions} {whole : Outcome} {limit : ℕ} {below : List Task} {old : List ℕ} where
   taken : {t : Task} {ts : List Task} {st : State} {out : List ℕ} → length below ≤ length ts
@@ -88,6 +92,8 @@ module _ {o : RenderOptions} {whole : Outcome} {limit : ℕ} {below : List Task}
   stepping {t} {ts} {st} l p =
       steps (step_of o t.tree t.indent t.mode (follow ts) st) (step_less o t.tree t.indent t.mode (follow ts) st) (taken l p)
 
+-- ---- the outcome of the work that is left
+
 -- nothing is left above
 ends_at : (o : RenderOptions) (whole : Outcome) (below above : List Task) (bytes : List ℕ) (st : State)
     → length (above ++ below) ≤ length below → after_bytes bytes (lay_all o (settle o) above (follow below) st) ≡ whole
@@ -105,6 +111,8 @@ lay_all-second : (o : RenderOptions) (i : ℕ) (y : Tree) (ts : List Task) (oute
     (λ u. lay_all o (settle o) ts outer u)
 unfolding lay_all
 lay_all-second o i y ts outer st = refl
+
+-- ---- the end, the bytes written and the width
 
 module _ {o : RenderOptions} {whole : Outcome} {limit : ℕ} {below : List Task} {old : List ℕ} {stack : List Task} {st : State}
     {out : List ℕ} where
@@ -124,6 +132,8 @@ module _ {o : RenderOptions} {whole : Outcome} {limit : ℕ} {below : List Task}
   pub inside_past : Inside o whole limit below old stack st out → st.within ≡ false → Past whole
   inside_past p h =
       subst Past p.same (past-after p.bytes (lay_all o (settle o) p.above (follow below) st) (all_past o p.above (follow below) st h))
+
+  -- ---- choices
 
   -- a choice whose first branch is kept
   pub choice_next_kept : {i : ℕ} {x y : Tree} {b : List ℕ} {u : State} → ChoiceNext o whole limit below old i x y stack st out

@@ -19,6 +19,8 @@ use Rattle.prettyless_step.specs.Steps.{Step, Move, Stuck, Choose, step_of, unio
 use Rattle.prettyless_step.specs.Steps.{break_step, at_once, pending_work}
 use Rattle.prettyless_probe.proofs.Sizes.{size_positive}
 
+-- ---- the work of tasks and of documents that wait
+
 -- the step leaves less work than n, where p is owed for the documents that wait
 abbrev pub LeavesLess : ℕ → ℕ → Step → Type 0
 LeavesLess p n (Move b pushed u) = 2 * nodes pushed + pending_work u.pending < n
@@ -33,6 +35,8 @@ pub nodes-tasks : (i : ℕ) (m : Mode) (ps : List Tree) (us : List Task) → 2 *
     ≡ pending_work ps + 2 * nodes us
 nodes-tasks i m [] us = omega arith
 nodes-tasks i m (p ∷ ps) us = omega (arith, nodes-tasks i m ps us)
+
+-- ---- texts and breaks
 
 text_less : (o : RenderOptions) (w : ℕ) (s : List ℕ) (st : State) → LeavesLess (pending_work st.pending) (2 + pending_work st.pending)
     (at_once (lay_text o w s st))
@@ -60,6 +64,8 @@ break_less : (o : RenderOptions) (ps : List Tree) (d : Tree) (i : ℕ) (m : Mode
 break_less o [] d i m rest st z e = plain_less o d i rest st
 break_less o (p ∷ ps) d i m rest st z e = omega (arith, nodes-tasks i m (p ∷ ps) (make_task i m d ∷ []))
 
+-- ---- alternatives
+
 -- one of two nodes
 either_less : (l r : Tree) (n : ℕ) (v : Bool) → 2 * size l + 2 * size r < n → 2 * size (if v then l else r) < n
 either_less l r n true h = omega arith
@@ -69,6 +75,8 @@ union_less : (l r : Tree) (i : ℕ) (st : State) (v : Option Bool)
     → LeavesLess (pending_work st.pending) (2 * (size l + size r + 1) + pending_work st.pending) (union_step v l r i st)
 union_less l r i st (Some v) = omega (arith, either_less l r (2 * size l + 2 * size r + 1) v (omega arith))
 union_less l r i st None = omega arith
+
+-- ---- any step
 
 pub step_less : (o : RenderOptions) (d : Tree) (i : ℕ) (m : Mode) (rest : List Entry) (st : State)
     → LeavesLess (pending_work st.pending) (2 * size d + pending_work st.pending) (step_of o d i m rest st)
@@ -101,6 +109,8 @@ step_less o (OnColumn test l r) i m rest st =
     omega (arith, either_less l r (2 * size l + 2 * size r + 1) (column_holds test (prospective st.column) i) (omega arith))
 step_less o (OnNesting test l r) i m rest st =
     omega (arith, either_less l r (2 * size l + 2 * size r + 1) (nesting_holds test i) (omega arith))
+
+-- ---- visits
 
 -- how many visits a step adds to that of its node: one where it rejects a payload
 abbrev pub extra : Bool → ℕ
