@@ -78,7 +78,7 @@ module _ (P : List ℕ → Type 0) (walk : Walk P) where
   by_sign n x xs shorter le e sound =
       let after : IsSound (operator_lexeme x ∷ lex between xs) = subst IsSound (lex-sign x xs e) sound in
       walk.at_sign x xs e (subst (λ c. IsOfClass c x) e (IsOfClass-class x))
-          (shorter xs le (sound_tail (operator_lexeme x) (lex between xs) after))
+      (shorter xs le (sound_tail (operator_lexeme x) (lex between xs) after))
     where
       sound_tail : (l : Lexeme) (ls : List Lexeme) → IsSound (l ∷ ls) → IsSound ls
       sound_tail comma ls h = h

@@ -198,11 +198,7 @@ impl<
 
     fn pretty(self, place: &'a D) -> Result<DocBuilder<'a, D>, BuildError> {
         let (t1, t2, t3, t4, t5, t6, t7, t8) = self;
-        then(
-            place,
-            (t1, t2, t3, t4, t5, t6, t7).pretty(place),
-            t8,
-        )
+        then(place, (t1, t2, t3, t4, t5, t6, t7).pretty(place), t8)
     }
 }
 
@@ -242,11 +238,7 @@ impl<
 
     fn pretty(self, place: &'a D) -> Result<DocBuilder<'a, D>, BuildError> {
         let (t1, t2, t3, t4, t5, t6, t7, t8, t9) = self;
-        then(
-            place,
-            (t1, t2, t3, t4, t5, t6, t7, t8).pretty(place),
-            t9,
-        )
+        then(place, (t1, t2, t3, t4, t5, t6, t7, t8).pretty(place), t9)
     }
 }
 

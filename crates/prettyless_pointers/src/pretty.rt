@@ -13,10 +13,7 @@ impl<'a> Pretty<'a, BoxAllocator> for BoxDoc<'a> {
 
     ghost refuses = { λ _ _. ⊥ };
 
-    fn pretty(
-        self,
-        place: &'a BoxAllocator,
-    ) -> Result<DocBuilder<'a, BoxAllocator>, BuildError> {
+    fn pretty(self, place: &'a BoxAllocator) -> Result<DocBuilder<'a, BoxAllocator>, BuildError> {
         Ok(DocBuilder::from_doc(place, self))
     }
 }

@@ -37,7 +37,7 @@ pub record IsFront (levels : ℕ) (bytes : List ℕ) (v : SexpValue) (rest : Lis
   pub begins : BeginsValue v bytes rest
   pub nesting : value_depth v ≤ levels
   pub only : (w : SexpValue) (other : List ℕ) → BeginsValue w bytes other → value_depth w ≤ levels → EndsNumber other
-    → (w ≡ v) × (other ≡ rest)
+      → (w ≡ v) × (other ≡ rest)
 
 -- the bytes begin with no value of at most so many levels
 abbrev pub HasNoFront : ℕ → List ℕ → Type 0

@@ -13,7 +13,7 @@ returns-in_err-read-clause-err c =
     let input = c.args.input.now in
     let p = err_from_is_err_and c.from_residual.result c.from_residual.ensures.1 in
     rw (p.1, p.2) (refuses_more c.in_err-read.field-0.0 (HasNoFront 200 input) ((v : SexpValue) → ReadsValue input v → ⊥)
-        (nothing_read input)
+    (nothing_read input)
     c.in_err-read.ensures.err)
 
 pub returns-then-is_end-clause-only : goal.returns-then-is_end-clause-only
