@@ -23,9 +23,9 @@ use crate::stack::{Cursor, Stack};
 use crate::summed::visit_by_sums;
 use crate::walk::{View, Walk};
 use prettyless_model::column::Column;
+use prettyless_model::count::one_more;
 use prettyless_model::metrics::Metrics;
 use prettyless_model::mode::Mode;
-use prettyless_sink::visits::one_more;
 use std::alloc::AllocError;
 use std::marker::Model;
 

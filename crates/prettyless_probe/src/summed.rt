@@ -13,8 +13,8 @@ use crate::command::Command;
 use crate::probe::{ProbeLine, ProbeStep, probe_one};
 use crate::stack::{Cursor, Stack};
 use crate::walk::Walk;
+use prettyless_model::count::one_more;
 use prettyless_model::mode::Mode;
-use prettyless_sink::visits::one_more;
 use prettyless_summary::summary::{ReadResult, Summary};
 use std::alloc::AllocError;
 

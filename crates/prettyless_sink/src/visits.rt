@@ -1,6 +1,4 @@
 //! How many nodes a render visits. This file knows counts alone, and no nodes.
-ghost use Rattle.std.specs.Prelude.{◌≡◌, ◌+◌, ◌≤◌};
-ghost use Rattle.prettyless_sink.specs.Sink.{rise};
 
 /// How many nodes were visited, and how often that was not bounded. Each count stops at the greatest `u64`.
 #[derive(Clone, Copy, Debug, Default)]
@@ -12,14 +10,4 @@ pub struct Visits {
     pub probes: u64,
     /// Tables that were refused memory, which is no error. Without one, probes may visit more nodes.
     pub refused: u64,
-}
-
-/// One visit more, in a count that stays at its greatest value.
-#[inline]
-pub fn one_more(count: u64) -> u64
-    ensures one { result ≡ rise count }
-    ensures rises { count ≤ result }
-    ensures at_most { result ≤ count + 1 }
-{
-    count.saturating_add(1)
 }

@@ -22,13 +22,14 @@ use crate::pending::{is_pending, take_pending};
 use crate::piece::Piece;
 use crate::printer::{Printer, StepResult};
 use prettyless_model::column::Column;
+use prettyless_model::count::one_more;
 use prettyless_model::mode::Mode;
 use prettyless_model::options::IndentationPolicy;
 use prettyless_probe::choice::{by_column, by_nesting, either};
 use prettyless_probe::command::nested_indent;
 use prettyless_probe::probe::{Fit, ProbeLine, probe};
 use prettyless_probe::walk::{View, Walk};
-use prettyless_sink::visits::{Visits, one_more};
+use prettyless_sink::visits::Visits;
 use std::alloc::AllocError;
 
 // Whether a node fits the line at this indent and in this mode, with the printer's commands following it. The loop of a probe is
