@@ -10,10 +10,11 @@ ghost use Rattle.prettyless_printer.specs.Turns.{Advances};
 ghost use Rattle.prettyless_printer.specs.Laying.{Laying, ends_turn, laid_to};
 
 use prettyless_model::column::Column;
+use prettyless_model::count::one_more;
 use prettyless_probe::walk::{View, Walk};
 use prettyless_sink::pieces::write_gap_and_text;
 use prettyless_sink::render::Render;
-use prettyless_sink::visits::{Visits, one_more};
+use prettyless_sink::visits::Visits;
 use prettyless_step::printer::Printer;
 use std::alloc::AllocError;
 

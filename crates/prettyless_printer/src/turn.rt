@@ -10,11 +10,12 @@ ghost use Rattle.prettyless_printer.specs.Turns.{Advances, StopsPast};
 
 use crate::answer::TurnResult;
 use crate::texts::{lay_texts, make_room};
+use prettyless_model::count::one_more;
 use prettyless_model::mode::Mode;
 use prettyless_probe::walk::Walk;
 use prettyless_sink::error::RenderError;
 use prettyless_sink::render::Render;
-use prettyless_sink::visits::{Visits, one_more};
+use prettyless_sink::visits::Visits;
 use prettyless_step::piece::write_piece;
 use prettyless_step::printer::{Printer, StepResult};
 use prettyless_step::step::step;
