@@ -13,12 +13,8 @@ struct Options {
     limit: usize,
 }
 
-const PLAIN: Options = Options {
-    width: 80,
-    indent: 2,
-    fill: false,
-    limit: 0,
-};
+#[rattlefmt::skip]
+const PLAIN: Options = Options { width: 80, indent: 2, fill: false, limit: 0 };
 
 #[rattlefmt::skip]
 const NARROW: Options = Options { width: 7, indent: 1, ..PLAIN };

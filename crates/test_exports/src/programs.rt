@@ -14,12 +14,8 @@ struct Options {
     limit: usize,
 }
 
-const PLAIN: Options = Options {
-    width: 80,
-    crlf: false,
-    deferred: false,
-    limit: 0,
-};
+#[rattlefmt::skip]
+const PLAIN: Options = Options { width: 80, crlf: false, deferred: false, limit: 0 };
 
 #[rattlefmt::skip]
 const CRLF: Options = Options { crlf: true, ..PLAIN };

@@ -12,11 +12,8 @@ struct Options {
     limit: usize,
 }
 
-const PLAIN: Options = Options {
-    width: 80,
-    indent: 2,
-    limit: 0,
-};
+#[rattlefmt::skip]
+const PLAIN: Options = Options { width: 80, indent: 2, limit: 0 };
 
 #[rattlefmt::skip]
 const NARROW: Options = Options { width: 6, indent: 1, ..PLAIN };
