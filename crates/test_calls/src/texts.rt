@@ -60,8 +60,13 @@ fn is_copied(rt: &impl Abort, memory: Global, text: CowStr<'_>, shown: &str) {
     compare(rt, memory, &copy, shown);
 }
 
-fn is_payload(rt: &impl Abort, memory: Global, text: CowStr<'_>, shown: &str) {
-    let payload = MultilineTextData::new(memory, text).expect(rt, "a payload was not made");
+fn is_payload(
+    rt: &impl Abort,
+    memory: Global,
+    payload: Result<MultilineTextData<'_>, BuildError>,
+    shown: &str,
+) {
+    let payload = payload.expect(rt, "a payload was not made");
     let copy = payload.clone(memory).expect(rt, "a payload was not copied");
     compare(rt, memory, &copy, shown);
     assert!(rt; copy.metrics().rest_width == 5);
@@ -73,9 +78,10 @@ fn texts_are_copied(rt: HostRuntime) {
         CowStr::Borrowed("a\tb") => "\"a\\tb\"";
         owned(&rt, rt.alloc(), "a\tb") => "\"a\\tb\"";
     }
+    let source = String::from_str(rt.alloc(), "one\n  two").expect(&rt, "memory was refused");
     rows! { is_payload, &rt, rt.alloc();
-        CowStr::Borrowed("one\r\n  two") => "\"one\\r\\n  two\"";
-        owned(&rt, rt.alloc(), "one\n  two") => "\"one\\n  two\"";
+        MultilineTextData::new(rt.alloc(), CowStr::Owned(source)) => "\"one\\n  two\"";
+        MultilineTextData::new(rt.alloc(), CowStr::Borrowed("one\r\n  two")) => "\"one\\r\\n  two\"";
     }
 }
 

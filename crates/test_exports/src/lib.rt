@@ -4,8 +4,6 @@
 #[cfg(test)]
 mod areas;
 #[cfg(test)]
-mod json_texts;
-#[cfg(test)]
 mod programs;
 #[cfg(test)]
-mod toml_texts;
+mod texts;

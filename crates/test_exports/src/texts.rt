@@ -1,10 +1,18 @@
-//! Layouts of JSON texts into an area of fifteen bytes.
+//! Layouts of JSON and TOML texts into an area of fifteen bytes.
 use crate::areas::{Answer, compare_answers};
 use json_exports::layout::json_layout;
 use std::alloc::{AllocError, Global};
 use std::process::Abort;
 use std::test::Fail;
+use toml_exports::layout::toml_layout;
 
+#[derive(Clone, Copy)]
+enum Language {
+    Json,
+    Toml,
+}
+
+// Only JSON is filled.
 #[derive(Clone, Copy)]
 struct Options {
     width: usize,
@@ -24,7 +32,7 @@ type Row<'a> = (Options, &'a [u8], u32, usize, &'a str, (usize, usize));
 
 // The limit is for layouts alone.
 #[rattlefmt::skip]
-const ROWS: &[Row<'static>] = &[
+const JSON: &[Row<'static>] = &[
     // Layouts that leave some of the area, fill it, and are longer.
     (PLAIN, b" [1 ,2]", 0, 7, "[1, 2]\n........", (0, 0)),
     (PLAIN, b"[1,2,3,456]", 0, 15, "[1, 2, 3, 456]\n", (0, 0)),
@@ -43,9 +51,30 @@ const ROWS: &[Row<'static>] = &[
     (PLAIN, b"1,2", 5, 15, "the end of the ", (1, 2)),
 ];
 
+#[rattlefmt::skip]
+const TOML: &[Row<'static>] = &[
+    // Layouts that leave some of the area, fill it, and are longer.
+    (PLAIN, b"", 0, 0, "...............", (0, 0)),
+    (PLAIN, b"a=[1 ,2]", 0, 11, "a = [1, 2]\n....", (0, 0)),
+    (PLAIN, b"ab=[1,2,3]", 0, 15, "ab = [1, 2, 3]\n", (0, 0)),
+    (PLAIN, b"abc=[1,2,3]", 1, 16, "abc = [1, 2, 3]", (0, 0)),
+    (PLAIN, b"a=1\r\n#b", 0, 11, "a = 1\r\n#b\r\n....", (0, 0)),
+    // Each option.
+    (Options { width: 6, ..NARROW }, b"a=[1]", 0, 12, "a = [\n 1,\n]\n...", (0, 0)),
+    (Options { width: 6, indent: 2, ..NARROW }, b"a=[1]", 0, 13, "a = [\n  1,\n]\n..", (0, 0)),
+    (Options { limit: 8, ..PLAIN }, b"a=[1]", 0, 8, "a = [1]\n.......", (0, 0)),
+    (Options { limit: 3, ..PLAIN }, b"a=[1]", 4, 3, "a =............", (0, 0)),
+    // What was expected, at a line and a column of characters. A name may be longer than the area.
+    (Options { limit: 1, ..PLAIN }, b"a", 6, 10, "`.` or `=`.....", (1, 2)),
+    (PLAIN, b"a = 1\n\"\xC3\xA9\" = [1 2]", 6, 10, "`,` or `]`.....", (2, 10)),
+    (PLAIN, b"a = 1\n# \xFF", 6, 5, "UTF-8..........", (2, 3)),
+    (PLAIN, b"a = 1 2", 6, 15, "the end of the ", (1, 7)),
+];
+
 fn compare(
     rt: &impl Abort,
     memory: Global,
+    language: Language,
     (options, text, status, written, held, place): Row<'_>,
 ) {
     let Options {
@@ -56,18 +85,31 @@ fn compare(
     } = options;
     let mut out = *b"...............";
     let (mut count, mut line, mut column) = (99, 99, 99);
-    let found = json_layout(
-        memory,
-        text,
-        width,
-        indent,
-        fill,
-        limit,
-        &mut out,
-        &mut count,
-        &mut line,
-        &mut column,
-    );
+    let found = match language {
+        Language::Json => json_layout(
+            memory,
+            text,
+            width,
+            indent,
+            fill,
+            limit,
+            &mut out,
+            &mut count,
+            &mut line,
+            &mut column,
+        ),
+        Language::Toml => toml_layout(
+            memory,
+            text,
+            width,
+            indent,
+            limit,
+            &mut out,
+            &mut count,
+            &mut line,
+            &mut column,
+        ),
+    };
     let answer = Answer::new(found, count, &out, (line, column));
     let wanted = Answer::new(status, written, held.as_bytes(), place);
     compare_answers(rt, text, answer, wanted);
@@ -75,8 +117,11 @@ fn compare(
 
 #[test]
 fn layouts_are_put_into_the_area(rt: HostRuntime) {
-    for &row in ROWS {
-        compare(&rt, rt.alloc(), row);
+    for &row in JSON {
+        compare(&rt, rt.alloc(), Language::Json, row);
+    }
+    for &row in TOML {
+        compare(&rt, rt.alloc(), Language::Toml, row);
     }
 }
 
@@ -88,8 +133,8 @@ fn push_times(out: &mut String, text: &str, times: usize) -> Result<(), AllocErr
 }
 
 // So many arrays, one inside the other.
-fn arrays(memory: Global, count: usize) -> Result<String, AllocError> {
-    let mut text = String::new(memory);
+fn arrays(memory: Global, front: &str, count: usize) -> Result<String, AllocError> {
+    let mut text = String::from_str(memory, front)?;
     push_times(&mut text, "[", count)?;
     push_times(&mut text, "]", count)?;
     Ok(text)
@@ -109,10 +154,18 @@ const DEEP: &[(usize, usize, u32, usize)] = &[
 fn deep_layouts_are_counted_as_far_as_the_limit(rt: HostRuntime) -> Result<(), Fail> {
     let begun = "[\n  [\n    [\n   ";
     for &(count, limit, status, written) in DEEP {
-        let text = arrays(rt.alloc(), count)?;
+        let text = arrays(rt.alloc(), "", count)?;
         let options = Options { limit, ..PLAIN };
         let row = (options, text.as_bytes(), status, written, begun, (0, 0));
-        compare(&rt, rt.alloc(), row);
+        compare(&rt, rt.alloc(), Language::Json, row);
     }
+    Ok(())
+}
+
+#[test]
+fn toml_that_is_too_deep_is_refused(rt: HostRuntime) -> Result<(), Fail> {
+    let text = arrays(rt.alloc(), "a=", 129)?;
+    let row = (PLAIN, text.as_bytes(), 6, 15, "at most 128 lev", (1, 131));
+    compare(&rt, rt.alloc(), Language::Toml, row);
     Ok(())
 }
