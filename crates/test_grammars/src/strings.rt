@@ -5,17 +5,9 @@ use toml_words::{is_key_string, is_remark, is_string};
 // Of one line, as keys may be too.
 #[rattlefmt::skip]
 const STRINGS: &[&str] = &[
-    "\"\"",
-    "''",
-    "\"I'm a string. \\\"You can quote me\\\". Jos\\u00E9\\nSF.\"",
-    "\"\\b\\t\\n\\f\\r\\\"\\\\\"",
-    "\"\\U0001F600\"",
-    "\"\\uD7FF\\uE000\\U0010FFFF\"",
-    "\"\t é \u{80}\"",
-    "'C:\\Users\\nodejs'",
-    "'<\\i\\c*\\s*>'",
-    "\"'\"",
-    "'\"'",
+    "\"\"", "''", "\"I'm a string. \\\"You can quote me\\\". Jos\\u00E9\\nSF.\"", "\"\\b\\t\\n\\f\\r\\\"\\\\\"",
+    "\"\\U0001F600\"", "\"\\uD7FF\\uE000\\U0010FFFF\"", "\"\t é \u{80}\"", "'C:\\Users\\nodejs'", "'<\\i\\c*\\s*>'",
+    "\"'\"", "'\"'",
 ];
 
 #[rattlefmt::skip]
@@ -40,18 +32,11 @@ const NO_STRINGS: &[&str] = &[
 // Of several lines.
 #[rattlefmt::skip]
 const LONG_STRINGS: &[&str] = &[
-    "\"\"\"\"\"\"",
-    "''''''",
-    "\"\"\"\nRoses are red\r\nViolets are blue\"\"\"",
-    "\"\"\"\\\n  The quick brown \\\n\n  fox.\\  \t\r\n  \"\"\"",
-    "\"\"\"\\ \n\"\"\"",
-    "\"\"\"Here are two quotation marks: \"\". Simple enough.\"\"\"",
-    "\"\"\"Here are three: \"\"\\\".\"\"\"",
-    "\"\"\"\"This,\" she said, \"is just a pointless statement.\"\"\"\"",
-    "\"\"\"two at the end\"\"\"\"\"",
-    "'''I [dw]on't need \\d{2} apples'''",
-    "''''That,' she said, 'is still pointless.''''",
-    "'''two at the end'''''",
+    "\"\"\"\"\"\"", "''''''", "\"\"\"\nRoses are red\r\nViolets are blue\"\"\"",
+    "\"\"\"\\\n  The quick brown \\\n\n  fox.\\  \t\r\n  \"\"\"", "\"\"\"\\ \n\"\"\"",
+    "\"\"\"Here are two quotation marks: \"\". Simple enough.\"\"\"", "\"\"\"Here are three: \"\"\\\".\"\"\"",
+    "\"\"\"\"This,\" she said, \"is just a pointless statement.\"\"\"\"", "\"\"\"two at the end\"\"\"\"\"",
+    "'''I [dw]on't need \\d{2} apples'''", "''''That,' she said, 'is still pointless.''''", "'''two at the end'''''",
     "'''\ttab\r\n'''",
 ];
 

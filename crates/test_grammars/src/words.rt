@@ -5,23 +5,11 @@ use toml_words::{is_date, is_time, is_value, key_word};
 // A word, whether a part of a key is due before it, and whether one is after it. There is none after what is no such word.
 #[rattlefmt::skip]
 const KEYS: &[(&str, bool, Option<bool>)] = &[
-    ("bare_key", true, Some(false)),
-    ("bare-key", true, Some(false)),
-    ("1234", true, Some(false)),
-    ("physical.color", true, Some(false)),
-    ("3.14159", true, Some(false)),
-    ("fruit.", true, Some(true)),
-    (".", false, Some(true)),
-    (".color", false, Some(false)),
-    (".a.", false, Some(true)),
-    ("-", true, Some(false)),
-    ("a", false, None),
-    (".", true, None),
-    (".a", true, None),
-    ("a..b", true, None),
-    ("..", false, None),
-    ("a+b", true, None),
-    ("ʎǝʞ", true, None),
+    ("bare_key", true, Some(false)), ("bare-key", true, Some(false)), ("1234", true, Some(false)),
+    ("physical.color", true, Some(false)), ("3.14159", true, Some(false)), ("fruit.", true, Some(true)),
+    (".", false, Some(true)), (".color", false, Some(false)), (".a.", false, Some(true)),
+    ("-", true, Some(false)), ("a", false, None), (".", true, None), (".a", true, None), ("a..b", true, None),
+    ("..", false, None), ("a+b", true, None), ("ʎǝʞ", true, None),
 ];
 
 const NUMBERS: &str =
@@ -47,18 +35,10 @@ const NO_TIMES: &str =
 // Whether a word is a date before a space, and whether it is a time after one.
 #[rattlefmt::skip]
 const HALVES: &[(&str, bool, bool)] = &[
-    ("1979-05-27", true, false),
-    ("07:32:00", false, true),
-    ("07:32:00Z", false, true),
-    ("00:32:00.999999-07:00", false, true),
-    ("00:32:00.5", false, true),
-    ("1979-05-27T07:32:00", false, false),
-    ("1979-05-2", false, false),
-    ("1979-05-277", false, false),
-    ("1979/05/27", false, false),
-    ("07:32:00+7:00", false, false),
-    ("07-32-00", false, false),
-    ("", false, false),
+    ("1979-05-27", true, false), ("07:32:00", false, true), ("07:32:00Z", false, true),
+    ("00:32:00.999999-07:00", false, true), ("00:32:00.5", false, true), ("1979-05-27T07:32:00", false, false),
+    ("1979-05-2", false, false), ("1979-05-277", false, false), ("1979/05/27", false, false),
+    ("07:32:00+7:00", false, false), ("07-32-00", false, false), ("", false, false),
 ];
 
 // Ends the test where this is wrong of a word.
