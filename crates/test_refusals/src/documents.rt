@@ -1,8 +1,7 @@
 //! The documents, by the calls that ask for memory more than once, or that make one document of many.
 use prettyless::prelude::*;
-use prettyless::text::{BuildError, Text};
+use prettyless::text::BuildError;
 use prettyless::{DocBuilder, docs};
-use std::alloc::Global;
 use std::{fmt, iter};
 
 /// A text that has no room in a node.
@@ -32,61 +31,21 @@ pub enum Kind {
     Suffixes,
 }
 
-/// A document, and the width that it is laid out at.
-#[derive(Clone, Copy, Drop)]
-pub struct Row<'s> {
-    pub name: &'s str,
-    pub kind: Kind,
-    pub width: usize,
-}
-
-/// The document that stays while others are built.
-pub const KEPT: Row<'static> = Row {
-    name: "a suffix in a suffix",
-    kind: Kind::Suffixes,
-    width: 80,
-};
-
-const INTERSPERSED: Row<'static> = Row {
-    name: "separators",
-    kind: Kind::Interspersed,
-    width: 5,
-};
-
-const OWNED: Row<'static> = Row {
-    name: "an owned text",
-    kind: Kind::Owned,
-    width: 80,
-};
+/// The documents that are built in each place.
+pub const ALL: &[Kind] = &[
+    Kind::Repeated,
+    Kind::Interspersed,
+    Kind::Reflowed,
+    Kind::OfMacro,
+    Kind::Owned,
+    Kind::Printed,
+];
 
 /// The documents that are copied.
-pub const COPIED: &[Row<'static>] = &[INTERSPERSED, OWNED];
+pub const COPIED: &[Kind] = &[Kind::Interspersed, Kind::Owned];
 
-/// The documents that are built in each place.
-pub const ROWS: &[Row<'static>] = &[
-    Row {
-        name: "copies",
-        kind: Kind::Repeated,
-        width: 80,
-    },
-    INTERSPERSED,
-    Row {
-        name: "words",
-        kind: Kind::Reflowed,
-        width: 2,
-    },
-    Row {
-        name: "operands of a macro",
-        kind: Kind::OfMacro,
-        width: 80,
-    },
-    OWNED,
-    Row {
-        name: "what a value prints",
-        kind: Kind::Printed,
-        width: 80,
-    },
-];
+/// The document that stays while others are built.
+pub const KEPT: Kind = Kind::Suffixes;
 
 // A text. It has a function of its own, since the proof of each function that makes one of a `&str` takes longer.
 fn text<'a, D: DocPlace<'a>>(place: &'a D, text: &'a str) -> Result<DocBuilder<'a, D>, BuildError> {
@@ -137,10 +96,31 @@ fn suffixes<'a, D: DocPlace<'a>>(place: &'a D) -> Result<D::Doc, BuildError> {
     joined(joined(front, place.hard_line()), text(place, "b"))?.into_doc()
 }
 
-impl Row<'_> {
-    /// Builds its document in this place.
+impl Kind {
+    pub fn name(self) -> &'static str {
+        match self {
+            Kind::Repeated => "copies",
+            Kind::Interspersed => "separators",
+            Kind::Reflowed => "words",
+            Kind::OfMacro => "operands of a macro",
+            Kind::Owned => "an owned text",
+            Kind::Printed => "what a value prints",
+            Kind::Suffixes => "a suffix in a suffix",
+        }
+    }
+
+    /// The width that it is laid out at.
+    pub fn width(self) -> usize {
+        match self {
+            Kind::Interspersed => 5,
+            Kind::Reflowed => 2,
+            _ => 80,
+        }
+    }
+
+    /// Builds it in this place.
     pub fn document<'a, D: DocPlace<'a>>(self, place: &'a D) -> Result<D::Doc, BuildError> {
-        match self.kind {
+        match self {
             Kind::Repeated => repeated(place),
             Kind::Interspersed => interspersed(place),
             Kind::Reflowed => reflowed(place),
