@@ -22,12 +22,24 @@ def make_files(case):
         os.makedirs(os.path.dirname(name) or b".", exist_ok=True)
         with open(name, "wb") as file:
             file.write(text)
+    for name, text in case["pipe"].items():
+        make_pipe(name, text)
     for name, to in case["link"].items():
         os.symlink(to, name)
     for name, to in case["hard link"].items():
         os.link(to, name)
     for name, mode in case["mode"].items():
         os.chmod(name, int(mode, 8))
+
+
+def make_pipe(name, text):
+    """Makes a pipe with a name, and a process that ends once a reader has taken the text."""
+    os.mkfifo(name)
+    if os.fork() == 0:
+        signal.alarm(SECONDS)
+        with open(name, "wb") as pipe:
+            pipe.write(text)
+        os._exit(0)
 
 
 def paths():
@@ -42,20 +54,19 @@ def give_away():
 
 
 def text_at(path):
-    """The text of a file, or where a link leads. None of a folder, and where it may not be read."""
+    """The text of a file that may be read, or where a link leads."""
     if os.path.islink(path):
         return os.readlink(path)
-    try:
-        with open(path, "rb") as file:
-            return file.read()
-    except (IsADirectoryError, PermissionError):
+    if not os.path.isfile(path) or not os.access(path, os.R_OK):
         return None
+    with open(path, "rb") as file:
+        return file.read()
 
 
 def marks():
-    """What tells of each file whether it is the same one."""
+    """What tells of each regular file whether it is the same one."""
     known = {path: os.lstat(path) for path in paths()}
-    return {path: (it.st_ino, it.st_mtime_ns) for path, it in known.items() if not stat.S_ISDIR(it.st_mode)}
+    return {path: (it.st_ino, it.st_mtime_ns) for path, it in known.items() if stat.S_ISREG(it.st_mode)}
 
 
 def files_now(before):

@@ -37,7 +37,7 @@ class Case:
 
 
 DEFAULTS = {"words": [], "stdin": b"", "stdout": b"", "stderr": b"", "status": 0, "passed over": []}
-DEFAULTS.update({it: {} for it in ("file", "new", "link", "hard link", "mode")})
+DEFAULTS.update({it: {} for it in ("file", "pipe", "new", "link", "hard link", "mode")})
 
 
 # Values
@@ -91,7 +91,7 @@ def failure_of(written):
 # How what stands behind each kind of field is read.
 READERS = {"words": words_of, "failure": failure_of}
 READERS.update({it: names_of for it in ("calls", "fails", "passed over", "rows")})
-READERS.update({it: text_of for it in ("stdin", "stdout", "stderr", "file", "new")})
+READERS.update({it: text_of for it in ("stdin", "stdout", "stderr", "file", "pipe", "new")})
 READERS.update({it: int for it in ("status", "takes", "room")})
 READERS.update({it: bytes_of for it in ("link", "hard link")})
 READERS.update({it: str for it in ("again", "mode", "texts", "value")})
@@ -188,6 +188,8 @@ def cases_of(path, program):
     cases = []
     for common, *parts in parts_of(path):
         fields = fields_of(common.written)
+        if parts and "rows" in fields:
+            raise BadCase(f"{common.place}: rows that several cases have in common")
         for part in parts or [common]:
             cases += part.cases(program, fields if parts else {})
     return [one for it in cases for one in with_texts(it, os.path.dirname(path))]
