@@ -98,6 +98,8 @@ def opened(what, name):
         return os.open("/dev/full", os.O_WRONLY)
     if what == "folder":
         return os.open(".", os.O_RDONLY)
+    if what != "closed":
+        raise ValueError(f"{name} is neither a text nor one of the words for none: {what}")
     return subprocess.DEVNULL if name == "stdin" else end_of_pipe()
 
 
