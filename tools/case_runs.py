@@ -1,5 +1,6 @@
 """Runs a program on a case of programs/, in a folder of its own and not as root. Python 3.8 or later."""
 
+import collections
 import errno
 import os
 import resource
@@ -153,9 +154,12 @@ def run_here(case, tools, log, failing):
     return {"status": status, **written}
 
 
+# What came of a run: its outcome, the files before it, and the calls that were written down.
+Ran = collections.namedtuple("Ran", "outcome files calls")
+
+
 def run(case, tools, failing=0):
-    """What comes of a case, the files before it, and the calls that were written down. The program stands in this folder of
-    tools, and the call of this number fails."""
+    """Runs a case. The program stands in this folder of tools, and the call of this number fails."""
     with tempfile.TemporaryDirectory() as room:
         log = f"{room}/log"
         open(log, "w").close()
@@ -167,8 +171,7 @@ def run(case, tools, failing=0):
         give_away()
         before = marks()
         files = files_now(before)
-        outcome = run_here(case, tools, log, failing)
-        outcome["files"] = files_now(before)
+        outcome = {**run_here(case, tools, log, failing), "files": files_now(before)}
         os.chdir("/")
         with open(log) as calls:
-            return outcome, files, calls.read().split()
+            return Ran(outcome, files, calls.read().split())
