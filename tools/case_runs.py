@@ -1,4 +1,4 @@
-"""Runs a program on a case of programs/, in a folder of its own and not as root. Python 3.8 or later."""
+"""Runs a program on a case of programs/, in a folder of its own. Python 3.8 or later."""
 
 import collections
 import errno
@@ -71,13 +71,13 @@ def marks():
 
 
 def files_now(before):
-    """Of each file its permissions, whether it is the one that it was before, and its text."""
-    now = marks()
-    return {it: (oct(os.lstat(it).st_mode), now.get(it) == before.get(it), text_at(it)) for it in paths()}
+    """Of each file its permissions and its owner, whether it is the one that it was before, and its text."""
+    now, known = marks(), {path: os.lstat(path) for path in paths()}
+    return {path: (f"{it.st_mode:o} of {it.st_uid}", now.get(path) == before.get(path), text_at(path)) for path, it in known.items()}
 
 
 def after(case, files):
-    """What the files are to become: new ones have the permissions of the old, and all others are as they were."""
+    """What the files are to become: new ones are the old one's owner's, with its permissions. All others are as they were."""
     return {**files, **{name: (files[name][0], False, text) for name, text in case["new"].items()}}
 
 
@@ -110,7 +110,7 @@ def begin(case):
     if case["room"] is not None:
         signal.signal(signal.SIGXFSZ, signal.SIG_IGN)
         resource.setrlimit(resource.RLIMIT_FSIZE, (case["room"], case["room"]))
-    if os.geteuid() == 0:
+    if os.geteuid() == 0 and case["as"] != "root":
         os.setgroups([])
         os.setgid(NOBODY)
         os.setuid(NOBODY)

@@ -115,7 +115,7 @@ READERS.update({it: names_of for it in ("calls", "fails", "passed over", "rows")
 READERS.update({it: text_of for it in ("stdin", "stdout", "stderr", "file", "pipe", "new")})
 READERS.update({it: int for it in ("status", "takes", "room")})
 READERS.update({it: bytes_of for it in ("link", "hard link")})
-READERS.update({it: str for it in ("again", "mode", "texts", "value")})
+READERS.update({it: str for it in ("again", "as", "mode", "texts", "value")})
 KINDS = "|".join(sorted(READERS, key=len, reverse=True))
 FIELD = re.compile(rf"({KINDS})(?: ({STRING}|[^\s:]+))?:(?: (.*))?")
 
