@@ -7,6 +7,7 @@ check. What `rt ci` did not leave, or left of older sources, `rt run` and `rt li
 
 import os
 import subprocess
+import sys
 
 ROOT = os.path.dirname(os.path.dirname(os.path.abspath(__file__)))
 
@@ -109,7 +110,8 @@ def run(words, folder):
 
 
 def ran(words, name, path):
-    """Runs a command of rt in the folder of the crate, which is to make the file at this path anew."""
+    """Runs a command of rt in the folder of the crate, which is to make the file at this path anew. It may take long."""
+    print(f"{name}: {' '.join(words)}, for rt ci left nothing of the sources as they are", file=sys.stderr, flush=True)
     if os.path.exists(path):
         os.remove(path)
     result = run(words, folder_of(name))
