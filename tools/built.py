@@ -28,6 +28,13 @@ def program(name):
     return path
 
 
+def builds(name):
+    """The paths of the proved program, as LLVM built it, and as Rattle's own compiler did where `rt ci` left that."""
+    path = program(name)
+    other = f"{path}.by-rattle"
+    return [path, other] if is_newer(other, [name, *below(name)]) else [path]
+
+
 def static_library(name):
     """The path of the archive of this static library, which is proved."""
     path = f"{folder_of(name)}/out/lib{name}.a"

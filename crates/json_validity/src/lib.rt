@@ -6,6 +6,3 @@ mod text;
 mod value;
 
 pub use text::{MAX_DEPTH, is_json};
-
-#[cfg(test)]
-mod tests;

@@ -3,5 +3,3 @@
 
 pub mod area;
 pub mod history;
-#[cfg(test)]
-mod tests;

@@ -9,8 +9,6 @@ mod gaps;
 mod indents;
 mod lists;
 mod remarks;
-#[cfg(test)]
-mod tests;
 mod texts;
 
 pub use gaps::{ended, joined, lined, spaced, stacked, stacked_all};

@@ -1,100 +1,65 @@
 //! Each call of a place of nodes once, with ample memory.
-use crate::expected::{Failing, built, points, refuses, shows};
+use crate::expected::{Failing, built, refuses, rows, shows};
 use prettyless::prelude::*;
-use prettyless::text::{BuildError, CowStr, Text};
-use prettyless::{BuildDoc, ColumnTest, Doc, DocBuilder, DocPtr, NestingTest};
-use std::fmt;
+use prettyless::text::{BuildError, CowStr};
+use prettyless::{ColumnTest, DocBuilder, NestingTest};
 use std::process::Abort;
 
 pub(crate) fn leaves<'a, D: DocPlace<'a>>(rt: &impl Abort, place: &'a D) {
-    shows(rt, place.nil(), "Nil");
-    shows(rt, place.fail(), "Fail");
-    shows(rt, place.hard_line(), "HardLine");
-    shows(rt, place.hardline(), "HardLine");
-    shows(rt, place.weak_line(), "WeakLine");
-}
-
-pub(crate) fn blanks<'a, D: DocPlace<'a>>(rt: &impl Abort, place: &'a D) {
-    shows(rt, place.space(), "\" \"");
-    shows(rt, place.weak_space(), "WeakSpace");
-    shows(rt, place.expand_parent(), "ExpandParent");
-}
-
-pub(crate) fn lines<'a, D: DocPlace<'a>>(rt: &impl Abort, place: &'a D) {
-    shows(rt, place.line(), "LineOrSpace");
-    shows(rt, place.line_(), "LineOrNil");
-    shows(rt, place.softline(), "SoftLineOrSpace");
-    shows(rt, place.softline_(), "SoftLineOrNil");
-}
-
-pub(crate) fn texts<'a, D: DocPlace<'a>>(rt: &impl Abort, place: &'a D) {
-    shows(rt, place.text(CowStr::Borrowed("ab")), "\"ab\"");
-    shows(rt, place.text(CowStr::Borrowed("")), "Nil");
-    shows(rt, place.ascii_text(CowStr::Borrowed("")), "\"\"");
-    shows(rt, place.as_string(16), "\"16\"");
-    let payload = place.multiline_text(CowStr::Borrowed("a\nb"));
-    shows(rt, payload, "MultilineText(\"a\\nb\")");
-}
-
-fn is_small<T>(node: &Doc<'_, T>) -> bool {
-    matches!(node, Doc::Text(Text::Small(_)))
-}
-
-// A short value is in its node.
-pub(crate) fn strings<'a, D: DocPlace<'a>>(rt: &impl Abort, place: &'a D) {
-    let value = built(rt, place.as_string(16));
-    assert!(rt; is_small(value.doc()));
-}
-
-// Eleven characters of two bytes: as many as a node has room for.
-const ELEVEN: &str = "ééééééééééé";
-
-fn is_eleven<T>(node: &Doc<'_, T>) -> bool {
-    match node {
-        Doc::TextWithLen(11, text @ Text::Small(_)) => text.as_str() == ELEVEN,
-        _ => false,
+    rows! { shows, rt, place;
+        place.nil() => "Nil";
+        place.fail() => "Fail";
+        place.hard_line() => "HardLine";
+        place.hardline() => "HardLine";
+        place.weak_line() => "WeakLine";
+        place.space() => "\" \"";
+        place.weak_space() => "WeakSpace";
+        place.expand_parent() => "ExpandParent";
     }
 }
 
-pub(crate) fn wide_strings<'a, D: DocPlace<'a>>(rt: &impl Abort, place: &'a D) {
-    let value = built(rt, place.as_string(ELEVEN));
-    assert!(rt; is_eleven(value.doc()));
+pub(crate) fn lines<'a, D: DocPlace<'a>>(rt: &impl Abort, place: &'a D) {
+    rows! { shows, rt, place;
+        place.line() => "LineOrSpace";
+        place.line_() => "LineOrNil";
+        place.softline() => "SoftLineOrSpace";
+        place.softline_() => "SoftLineOrNil";
+        place.spaces(3) => "\"   \"";
+        place.reflow("a  b") => "[\"a\", SoftLineOrSpace, SoftLineOrSpace, \"b\"]";
+    }
+}
+
+pub(crate) fn texts<'a, D: DocPlace<'a>>(rt: &impl Abort, place: &'a D) {
+    rows! { shows, rt, place;
+        place.text(CowStr::Borrowed("ab")) => "\"ab\"";
+        place.text(CowStr::Borrowed("")) => "Nil";
+        place.ascii_text(CowStr::Borrowed("")) => "\"\"";
+        place.as_string(16) => "\"16\"";
+        place.multiline_text(CowStr::Borrowed("a\nb")) => "MultilineText(\"a\\nb\")";
+    }
 }
 
 pub(crate) fn operands<'a, D: DocPlace<'a>, P: Pretty<'a, D> + Copy>(
     rt: &impl Abort,
     place: &'a D,
     a: P,
-    empty: P,
-) {
-    shows(rt, place.pretty(a), "\"a\"");
-    shows(rt, place.line_suffix(a), "LineSuffix(\"a\")");
-    shows(rt, place.line_suffix(empty), "LineSuffix(Nil)");
-    shows(rt, place.if_group_flat(a), "WhenFlat(\"a\")");
-    shows(rt, place.if_group_break(a), "WhenBreak(\"a\")");
-}
-
-pub(crate) fn by_place<'a, D: DocPlace<'a>, P: Pretty<'a, D> + Copy>(
-    rt: &impl Abort,
-    place: &'a D,
-    a: P,
     b: P,
 ) {
-    let hung = place.if_column(ColumnTest::AtMost(7), a, b);
-    shows(rt, hung, "OnColumn(AtMost(7), \"a\", \"b\")");
-    let deep = place.if_nesting(NestingTest::AtLeast(2), a, b);
-    shows(rt, deep, "OnNesting(AtLeast(2), \"a\", \"b\")");
+    rows! { shows, rt, place;
+        place.pretty(a) => "\"a\"";
+        place.line_suffix(a) => "LineSuffix(\"a\")";
+        place.if_group_flat(a) => "WhenFlat(\"a\")";
+        place.if_group_break(a) => "WhenBreak(\"a\")";
+        place.if_column(ColumnTest::AtMost(7), a, b) => "OnColumn(AtMost(7), \"a\", \"b\")";
+        place.if_nesting(NestingTest::AtLeast(2), a, b) => "OnNesting(AtLeast(2), \"a\", \"b\")";
+    }
 }
 
-pub(crate) fn sequences<'a, D: DocPlace<'a>, P: Pretty<'a, D> + Copy>(
-    rt: &impl Abort,
+fn all<'a, D: DocPlace<'a>, P: Pretty<'a, D> + Copy>(
     place: &'a D,
-    none: &'a [P],
     items: &'a [P],
-) {
-    shows(rt, place.concat(none.iter().copied()), "Nil");
-    let all = place.concat(items.iter().copied());
-    shows(rt, all, "[\"a\", \"b\"]");
+) -> Result<DocBuilder<'a, D>, BuildError> {
+    place.concat(items.iter().copied())
 }
 
 fn between<'a, D: DocPlace<'a>, P: Pretty<'a, D> + Copy, S: Pretty<'a, D> + Drop>(
@@ -106,73 +71,46 @@ fn between<'a, D: DocPlace<'a>, P: Pretty<'a, D> + Copy, S: Pretty<'a, D> + Drop
 }
 
 // A separator becomes a document only where there is a gap.
-pub(crate) fn separators<'a, D: DocPlace<'a>, P: Pretty<'a, D> + Copy>(
+pub(crate) fn sequences<'a, D: DocPlace<'a>, P: Pretty<'a, D> + Copy>(
     rt: &impl Abort,
     place: &'a D,
-    none: &'a [P],
     one: &'a [P],
     two: &'a [P],
-    comma: P,
 ) {
-    let items = between(place, two, comma);
-    shows(rt, items, "[\"a\", \",\", \"b\"]");
-    shows(rt, between(place, none, as_string(Failing)), "Nil");
-    shows(rt, between(place, one, as_string(Failing)), "\"a\"");
+    rows! { shows, rt, place;
+        all(place, two) => "[\"a\", \"b\"]";
+        between(place, two, space()) => "[\"a\", \" \", \"b\"]";
+        between(place, one, as_string(Failing)) => "\"a\"";
+    }
     refuses(rt, between(place, two, as_string(Failing)));
 }
 
-const HUNDRED: &str =
-    "                                                                                                    ";
+fn text<'a, D: DocPlace<'a>>(rt: &impl Abort, place: &'a D, text: &'a str) -> DocBuilder<'a, D> {
+    built(rt, place.text(CowStr::Borrowed(text)))
+}
 
-// Whether a node is this text.
-fn is_text<T>(node: &Doc<'_, T>, letters: &str) -> bool {
-    match node {
-        Doc::Text(text) => text.as_str() == letters,
-        _ => false,
+// A placed text of each letter.
+fn letters<'a, D: DocPlace<'a>>(rt: &impl Abort, place: &'a D, letters: &[&'a str]) -> Vec<D::Doc> {
+    let mut docs = Vec::new(place.memory());
+    for letter in letters {
+        let text = text(rt, place, letter).into_doc();
+        docs.push(text.expect(rt, "a text was not placed"))
+            .expect(rt, "memory was refused");
     }
+    docs
 }
 
-// Whether a gap is two hundred spaces and five, in a chain to the left.
-fn is_chain<'a, T: DocPtr<'a>>(gap: &Doc<'a, T>) -> bool {
-    let Doc::Append(front, last) = gap else {
-        return false;
-    };
-    let Doc::Append(first, second) = front.doc() else {
-        return false;
-    };
-    is_text(first.doc(), HUNDRED) && is_text(second.doc(), HUNDRED) && is_text(last.doc(), "     ")
+// Letters, each but the last with a comma.
+fn marked<'a, D: DocPlace<'a>>(rt: &impl Abort, place: &'a D) -> Vec<D::Doc> {
+    let marked = place.punctuated(letters(rt, place, &["a", "b"]), text(rt, place, ","));
+    marked.expect(rt, "no marks were placed")
 }
 
-pub(crate) fn words<'a, D: DocPlace<'a>>(rt: &impl Abort, place: &'a D) {
-    shows(rt, place.spaces(3), "\"   \"");
-    let words = "[\"a\", SoftLineOrSpace, SoftLineOrSpace, \"b\"]";
-    shows(rt, place.reflow("a  b"), words);
-}
-
-// A long gap is a chain.
-pub(crate) fn chains<'a, D: DocPlace<'a>>(rt: &impl Abort, place: &'a D) {
-    let gap = built(rt, place.spaces(205));
-    assert!(rt; is_chain(gap.doc()));
-}
-
-// Documents in the making, and what places them.
-pub(crate) fn nodes<'a, D: DocPlace<'a>>(rt: &impl Abort, place: &'a D)
-where
-    D::Doc: fmt::Debug,
-{
-    let memory = place.memory();
-    let line = BuildDoc::Doc(Doc::HardLine);
-    points(rt, memory, place.alloc_cow(line), "HardLine");
-    let pointer = place
-        .alloc(Doc::HardLine)
-        .expect(rt, "a node was not placed");
-    let copy = place.clone_ptr(&pointer);
-    drop(pointer);
-    points(rt, memory, copy, "HardLine");
-    points(
-        rt,
-        memory,
-        built(rt, place.line()).into_doc(),
-        "LineOrSpace",
-    );
+pub(crate) fn lists<'a, D: DocPlace<'a>>(rt: &impl Abort, place: &'a D) {
+    let line = text(rt, place, "-");
+    rows! { shows, rt, place;
+        place.separate(marked(rt, place), line) => "[\"a\", \",\", \"-\", \"b\"]";
+        place.bracketed("[", marked(rt, place), "]", 2)
+            => "Group([\"[\", Nest(2, [LineOrNil, \"a\", \",\", LineOrSpace, \"b\"]), LineOrNil, \"]\"])";
+    }
 }

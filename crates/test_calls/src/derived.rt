@@ -8,6 +8,13 @@ use std::alloc::Global;
 use std::fmt;
 use std::process::Abort;
 
+// Values, each with what it is shown as: `VALUE => SHOWN;`.
+macro_rules! rows {
+    ($compare:ident, $rt:expr; $($value:expr => $shown:literal;)+) => {
+        $($compare(&$rt, $rt.alloc(), $value, $shown);)+
+    };
+}
+
 // Compares what a value and a copy of it are shown as.
 fn is_copied<T: Copy + fmt::Debug>(rt: &impl Abort, memory: Global, value: T, text: &str) {
     let copy = value;
@@ -28,58 +35,58 @@ fn begins<T: fmt::Debug + Drop>(rt: &impl Abort, memory: Global, value: T, text:
 
 #[test]
 fn tokens_are_copied(rt: HostRuntime) {
-    let tokens = (
-        nil(),
-        fail(),
-        hard_line(),
-        weak_line(),
-        space(),
-        weak_space(),
-    );
-    let text = "(Nil, Fail, HardLine, WeakLine, Space, WeakSpace)";
-    is_copied(&rt, rt.alloc(), tokens, text);
+    rows! { is_copied, rt;
+        nil() => "Nil";
+        fail() => "Fail";
+        hard_line() => "HardLine";
+        weak_line() => "WeakLine";
+        expand_parent() => "ExpandParent";
+        space() => "Space";
+        weak_space() => "WeakSpace";
+        spaces(3) => "Spaces(3)";
+    }
 }
 
 #[test]
 fn lines_are_copied(rt: HostRuntime) {
-    let lines = (
-        line_or_nil(),
-        line_or_space(),
-        soft_line_or_nil(),
-        soft_line_or_space(),
-        expand_parent(),
-        spaces(3),
-    );
-    let text = "(LineOrNil, LineOrSpace, SoftLineOrNil, SoftLineOrSpace, ExpandParent, Spaces(3))";
-    is_copied(&rt, rt.alloc(), lines, text);
+    rows! { is_copied, rt;
+        line_or_nil() => "LineOrNil";
+        line_or_space() => "LineOrSpace";
+        soft_line_or_nil() => "SoftLineOrNil";
+        soft_line_or_space() => "SoftLineOrSpace";
+    }
 }
 
 #[test]
 fn wrappers_are_cloned(rt: HostRuntime) {
-    let wrapped = nest(
-        1,
-        group(align(flatten(line_suffix(dedent_to_root(repeat(2, as_string(7))))))),
-    );
-    let text = "Nest(1, Group(Align(Flatten(LineSuffix(DedentToRoot(Repeat(2, AsString(7))))))))";
-    is_cloned(&rt, rt.alloc(), wrapped, text);
+    rows! { is_cloned, rt;
+        as_string(7) => "AsString(7)";
+        nest(1, 7) => "Nest(1, 7)";
+        group(7) => "Group(7)";
+        align(7) => "Align(7)";
+        flatten(7) => "Flatten(7)";
+        line_suffix(7) => "LineSuffix(7)";
+        dedent_to_root(7) => "DedentToRoot(7)";
+        repeat(2, 7) => "Repeat(2, 7)";
+    }
 }
 
 #[test]
 fn alternatives_are_cloned(rt: HostRuntime) {
-    let deep = if_nesting(NestingTest::AtMost(1), "b", "c");
-    let hung = if_column(ColumnTest::AtLeast(2), "a", deep);
-    let either = union("d", partial_union("e", flat_alt("f", hung)));
-    let text = "Union(\"d\", PartialUnion(\"e\", FlatAlt(\"f\", \
-                IfColumn(AtLeast(2), \"a\", IfNesting(AtMost(1), \"b\", \"c\")))))";
-    is_cloned(&rt, rt.alloc(), either, text);
+    rows! { is_cloned, rt;
+        union(7, 8) => "Union(7, 8)";
+        partial_union(7, 8) => "PartialUnion(7, 8)";
+        flat_alt(7, 8) => "FlatAlt(7, 8)";
+        if_column(ColumnTest::AtLeast(2), 7, 8) => "IfColumn(AtLeast(2), 7, 8)";
+        if_nesting(NestingTest::AtMost(1), 7, 8) => "IfNesting(AtMost(1), 7, 8)";
+    }
 }
 
 #[test]
 fn others_are_shown(rt: HostRuntime) {
-    let memory = rt.alloc();
-    let payload = multiline_text(CowStr::Borrowed("a"));
-    begins(&rt, memory, payload, "MultilineText(");
-    let items = intersperse(space(), [nil(), nil()]);
-    begins(&rt, memory, items, "Intersperse(");
-    begins(&rt, memory, concat([nil(), nil()]), "Concat(");
+    rows! { begins, rt;
+        multiline_text(CowStr::Borrowed("a")) => "MultilineText(";
+        intersperse(space(), [nil(), nil()]) => "Intersperse(";
+        concat([nil(), nil()]) => "Concat(";
+    }
 }

@@ -1,4 +1,4 @@
-//! Tests of the calls that build documents, each through all three pointers, and of the parts that they are made of.
+//! Tests of the calls that build documents, each in every place of nodes, and of the parts that documents are made of.
 #![tactic(auto)]
 
 #[cfg(test)]
@@ -14,11 +14,7 @@ mod derived;
 #[cfg(test)]
 mod expected;
 #[cfg(test)]
-mod lists;
-#[cfg(test)]
 mod nodes;
-#[cfg(test)]
-mod operands;
 #[cfg(test)]
 mod parts;
 #[cfg(test)]

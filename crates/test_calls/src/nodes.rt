@@ -1,11 +1,24 @@
-//! Documents of one node, not placed yet, and documents in the making, of the calls that can fail.
-use crate::expected::is_made;
+//! Nodes that are not placed yet, documents in the making, and what places them: the calls that can fail.
+use crate::expected::{rows, shows};
+use crate::pointers::points;
 use prettyless::prelude::*;
 use prettyless::text::{BuildError, CowStr};
-use prettyless::{BuildDoc, Doc};
+use prettyless::{BuildDoc, Doc, DocBuilder, DocPtr};
+use std::fmt;
 use std::process::Abort;
 
-// Compares what a node that a call makes is shown as.
+// Compares what a document in the making is shown as.
+fn makes<'a, D: DocPlace<'a>>(
+    rt: &impl Abort,
+    place: &'a D,
+    made: Result<BuildDoc<'a, D::Doc>, BuildError>,
+    text: &str,
+) {
+    let made = made.expect(rt, "a document was not made");
+    shows(rt, place, Ok(DocBuilder(place, made)), text);
+}
+
+// Compares what a node is shown as.
 fn makes_node<'a, D: DocPlace<'a>>(
     rt: &impl Abort,
     place: &'a D,
@@ -13,53 +26,48 @@ fn makes_node<'a, D: DocPlace<'a>>(
     text: &str,
 ) {
     let node = made.expect(rt, "a node was not made");
-    is_made(rt, place, BuildDoc::Doc(node), text);
+    makes(rt, place, Ok(BuildDoc::Doc(node)), text);
 }
 
-// Compares what a document that a call makes is shown as.
-fn makes<'a, D: DocPlace<'a>>(
+pub(crate) fn nodes<'a, D: DocPlace<'a>>(rt: &impl Abort, place: &'a D) {
+    rows! { makes_node, rt, place;
+        Doc::text(place.memory(), CowStr::Borrowed("xy")) => "\"xy\"";
+        Doc::as_string(place.memory(), 16) => "\"16\"";
+        Doc::multiline_text(place.memory(), CowStr::Borrowed("x\ny")) => "MultilineText(\"x\\ny\")";
+        Doc::line(place) => "LineOrSpace";
+        Doc::line_(place) => "LineOrNil";
+        Doc::WeakLine.clone(place) => "WeakLine";
+    }
+}
+
+pub(crate) fn makings<'a, D: DocPlace<'a>>(rt: &impl Abort, place: &'a D) {
+    rows! { makes, rt, place;
+        BuildDoc::text(place.memory(), CowStr::Borrowed("xy")) => "\"xy\"";
+        BuildDoc::as_string(place.memory(), 16) => "\"16\"";
+        BuildDoc::multiline_text(place.memory(), CowStr::Borrowed("x\ny")) => "MultilineText(\"x\\ny\")";
+        BuildDoc::line(place) => "LineOrSpace";
+        BuildDoc::line_(place) => "LineOrNil";
+        BuildDoc::Doc(Doc::HardLine).clone(place) => "HardLine";
+    }
+}
+
+// A copy outlives the pointer that it is of.
+fn copied<'a, D: DocPlace<'a>>(rt: &impl Abort, place: &'a D) -> Result<D::Doc, BuildError> {
+    let pointer = place
+        .alloc(Doc::HardLine)
+        .expect(rt, "a node was not placed");
+    let copy = place.clone_ptr(&pointer);
+    drop(pointer);
+    copy
+}
+
+pub(crate) fn placings<'a, D: DocPlace<'a, Doc = T>, T: DocPtr<'a> + fmt::Debug>(
     rt: &impl Abort,
     place: &'a D,
-    made: Result<BuildDoc<'a, D::Doc>, BuildError>,
-    text: &str,
 ) {
-    is_made(rt, place, made.expect(rt, "a document was not made"), text);
-}
-
-pub(crate) fn texts<'a, D: DocPlace<'a>>(rt: &impl Abort, place: &'a D) {
-    let memory = place.memory();
-    let text = Doc::text(memory, CowStr::Borrowed("xy"));
-    makes_node(rt, place, text, "\"xy\"");
-    let value = Doc::as_string(memory, 16);
-    makes_node(rt, place, value, "\"16\"");
-    let payload = Doc::multiline_text(memory, CowStr::Borrowed("x\ny"));
-    makes_node(rt, place, payload, "MultilineText(\"x\\ny\")");
-}
-
-pub(crate) fn made_texts<'a, D: DocPlace<'a>>(rt: &impl Abort, place: &'a D) {
-    let memory = place.memory();
-    let text = BuildDoc::text(memory, CowStr::Borrowed("xy"));
-    makes(rt, place, text, "\"xy\"");
-    let value = BuildDoc::as_string(memory, 16);
-    makes(rt, place, value, "\"16\"");
-    let payload = BuildDoc::multiline_text(memory, CowStr::Borrowed("x\ny"));
-    makes(rt, place, payload, "MultilineText(\"x\\ny\")");
-}
-
-pub(crate) fn lines<'a, D: DocPlace<'a>>(rt: &impl Abort, place: &'a D) {
-    makes_node(rt, place, Doc::line(place), "LineOrSpace");
-    makes_node(rt, place, Doc::line_(place), "LineOrNil");
-    makes(rt, place, BuildDoc::line(place), "LineOrSpace");
-    makes(rt, place, BuildDoc::line_(place), "LineOrNil");
-}
-
-// A node and a document in the making once more.
-pub(crate) fn copies<'a, D: DocPlace<'a>>(rt: &impl Abort, place: &'a D) {
-    makes_node(rt, place, Doc::WeakLine.clone(place), "WeakLine");
-    makes(
-        rt,
-        place,
-        BuildDoc::Doc(Doc::HardLine).clone(place),
-        "HardLine",
-    );
+    rows! { points, rt, place;
+        place.alloc_cow(BuildDoc::Doc(Doc::HardLine)) => "HardLine";
+        DocBuilder::new(place, Doc::WeakLine).into_doc() => "WeakLine";
+        copied(rt, place) => "HardLine";
+    }
 }

@@ -1,5 +1,5 @@
 //! All calls in each place of nodes.
-use crate::{builders, calls, combined, deep, lists, nodes, operands, pointers, values};
+use crate::{builders, calls, combined, deep, nodes, pointers, values};
 use bumpalo::Bump;
 use prettyless::prelude::*;
 use prettyless::text::Text;
@@ -8,140 +8,76 @@ use std::alloc::Global;
 use std::fmt;
 use std::process::Abort;
 
-fn start<'a, D: DocPlace<'a>>(rt: &impl Abort, place: &'a D)
-where
-    D::Doc: fmt::Debug,
-{
+fn build<'a, D: DocPlace<'a>>(rt: &impl Abort, place: &'a D) {
     calls::leaves(rt, place);
-    calls::blanks(rt, place);
     calls::lines(rt, place);
     calls::texts(rt, place);
-    calls::strings(rt, place);
-    calls::wide_strings(rt, place);
-    lists::gaps(rt, place);
-    lists::marks(rt, place);
-    lists::brackets(rt, place);
-    calls::words(rt, place);
-    calls::chains(rt, place);
-    calls::nodes(rt, place);
-}
-
-fn make<'a, D: DocPlace<'a>>(rt: &impl Abort, place: &'a D) {
-    nodes::texts(rt, place);
-    nodes::made_texts(rt, place);
-    nodes::lines(rt, place);
-    nodes::copies(rt, place);
-}
-
-fn build<'a, D: DocPlace<'a>>(rt: &impl Abort, place: &'a D) {
+    calls::lists(rt, place);
     builders::joins(rt, place);
-    builders::choices(rt, place);
-    builders::unions(rt, place);
-    builders::nests(rt, place);
     builders::wrappers(rt, place);
-    builders::others(rt, place);
-    builders::quotes(rt, place);
+    builders::indents(rt, place);
     builders::brackets(rt, place);
     builders::copies(rt, place);
-}
-
-fn point<'a, D: DocPlace<'a>>(rt: &impl Abort, place: &'a D)
-where
-    D::Doc: fmt::Debug,
-{
-    pointers::leaves(rt, place);
-    pointers::blanks(rt, place);
-    pointers::lines(rt, place);
-    pointers::texts(rt, place);
-    pointers::wrappers(rt, place);
-    pointers::clones(rt, place);
-}
-
-fn combine<'a, D: DocPlace<'a>>(rt: &impl Abort, place: &'a D) {
     combined::leaves(rt, place);
     combined::lines(rt, place);
-    combined::texts(rt, place);
     combined::wrappers(rt, place, weak_line());
+    values::texts(rt, place);
+}
+
+fn make<'a, D: DocPlace<'a, Doc = T>, T: DocPtr<'a> + fmt::Debug>(rt: &impl Abort, place: &'a D) {
+    nodes::nodes(rt, place);
+    nodes::makings(rt, place);
+    nodes::placings(rt, place);
+    pointers::leaves(rt, place);
+    pointers::lines(rt, place);
+    pointers::wrappers(rt, place);
 }
 
 // The texts are of any type, since the proof of a call with `&str` takes much longer.
-fn take<'a, D: DocPlace<'a>, P: Pretty<'a, D> + Copy>(
+fn take<'a, D: DocPlace<'a, Doc = T>, P: Pretty<'a, D> + Copy, T: DocPtr<'a> + fmt::Debug>(
     rt: &impl Abort,
     place: &'a D,
     a: P,
     b: P,
-    empty: P,
-)
-where
-    D::Doc: fmt::Debug,
-{
-    calls::operands(rt, place, a, empty);
-    calls::by_place(rt, place, a, b);
-    builders::sums(rt, place, a, empty);
+) {
+    calls::operands(rt, place, a, b);
     builders::operands(rt, place, a, b);
-    pointers::sums(rt, place, a);
-    pointers::by_place(rt, place, a, b);
+    pointers::operands(rt, place, a, b);
     combined::indents(rt, place, a);
     combined::choices(rt, place, a, b);
-    combined::by_place(rt, place, a, b);
     values::several(rt, place, a, b);
     values::longest(rt, place, a, b);
     values::macros(rt, place, a, b);
-    values::refusals(rt, place, a, b);
 }
 
 // Likewise of several texts at once.
-fn take_each<'a, D: DocPlace<'a>, P: Pretty<'a, D> + Copy>(
+fn take_each<'a, D: DocPlace<'a, Doc = T>, P: Pretty<'a, D> + Copy, T: DocPtr<'a> + fmt::Debug>(
     rt: &impl Abort,
     place: &'a D,
-    none: &'a [P],
     one: &'a [P],
     two: &'a [P],
-    comma: P,
-)
-where
-    D::Doc: fmt::Debug,
-{
-    calls::sequences(rt, place, none, two);
-    calls::separators(rt, place, none, one, two, comma);
-    pointers::sequences(rt, place, two, comma);
-    pointers::separators(rt, place, one, two);
-    combined::sequences(rt, place, two, comma);
+) {
+    calls::sequences(rt, place, one, two);
+    pointers::sequences(rt, place, two);
+    combined::sequences(rt, place, two);
 }
 
-fn all<'a, D: DocPlace<'a>>(rt: &impl Abort, place: &'a D)
-where
-    D::Doc: fmt::Debug,
-{
-    start(rt, place);
-    make(rt, place);
+fn all<'a, D: DocPlace<'a, Doc = T>, T: DocPtr<'a> + fmt::Debug>(rt: &impl Abort, place: &'a D) {
     build(rt, place);
-    point(rt, place);
-    combine(rt, place);
-    values::texts(rt, place);
-    values::arrays(rt, place, [], ["a", "b"]);
-    take(rt, place, "a", "b", "");
-    take_each(rt, place, &[], &["a"], &["a", "b"], ",");
+    make(rt, place);
+    take(rt, place, "a", "b");
+    take_each(rt, place, &["a"], &["a", "b"]);
 }
 
-// A place by reference is the same place: nodes are put there, and copied.
-fn lend<'a, D: DocPlace<'a>>(rt: &impl Abort, place: &'a &'a D)
-where
-    D::Doc: fmt::Debug,
-{
-    calls::nodes(rt, place);
-    pointers::clones(rt, place);
-}
-
-// `owned` is lent to the documents.
+// `owned` is lent to the documents. A place by reference is the same place: nodes are put there, and copied.
 fn in_boxes<'a, D: DocPlace<'a, Doc = T>, T: DocPtr<'a> + Pretty<'a, D> + fmt::Debug>(
     rt: &impl Abort,
     place: &'a &'a D,
     owned: &'a String,
 ) {
     all(rt, *place);
-    lend(rt, place);
-    operands::pointers(rt, *place);
+    nodes::placings(rt, place);
+    pointers::values(rt, *place);
     values::lent(rt, *place, owned);
     deep::chains(rt, *place);
 }
@@ -154,12 +90,12 @@ fn boxes(rt: HostRuntime) {
     in_boxes(&rt, &&boxes, &owned);
 }
 
-fn in_counted_nodes<'a, D: DocPlace<'a>>(rt: &impl Abort, place: &'a D)
-where
-    D::Doc: fmt::Debug,
-{
+fn in_counted_nodes<'a, D: DocPlace<'a, Doc = T>, T: DocPtr<'a> + fmt::Debug>(
+    rt: &impl Abort,
+    place: &'a D,
+) {
     all(rt, place);
-    operands::pointed(rt, place);
+    pointers::taken(rt, place);
     deep::chains(rt, place);
     deep::shared(rt, place);
 }
@@ -176,7 +112,7 @@ fn in_any_arena<'a, D: DocPlace<'a, Doc = T>, T: DocPtr<'a> + Pretty<'a, D> + fm
     place: &'a D,
 ) -> DocBuilder<'a, D> {
     all(rt, place);
-    operands::pointers(rt, place);
+    pointers::values(rt, place);
     DocBuilder::new(place, Doc::Text(Text::Borrowed("a")))
 }
 

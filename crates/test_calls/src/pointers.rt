@@ -1,58 +1,56 @@
-//! The constructors of pointers, what outlives its owner, and what only one of the pointers has.
-use crate::expected::{Failing, built, points, refuses, rendered};
+//! The constructors of pointers, and pointers as operands.
+use crate::expected::{compare, rows, shows};
 use prettyless::prelude::*;
 use prettyless::text::{BuildError, CowStr};
 use prettyless::{BoxDoc, BuildDoc, ColumnTest, Doc, DocBuilder, DocPtr, NestingTest, RcDoc};
 use std::fmt;
 use std::process::Abort;
 
+// Compares what a placed document is shown as.
+pub(crate) fn points<'a, D: DocPlace<'a, Doc = T>, T: DocPtr<'a> + fmt::Debug>(
+    rt: &impl Abort,
+    place: &'a D,
+    placed: Result<T, BuildError>,
+    text: &str,
+) {
+    let pointer = placed.expect(rt, "a document was not placed");
+    compare(rt, place.memory(), &pointer, text);
+}
+
 pub(crate) fn leaves<'a, D: DocPlace<'a, Doc = T>, T: DocPtr<'a> + fmt::Debug>(
     rt: &impl Abort,
     place: &'a D,
 ) {
-    let memory = place.memory();
-    points(rt, memory, T::nil(place), "Nil");
-    points(rt, memory, T::fail(place), "Fail");
-    points(rt, memory, T::hard_line(place), "HardLine");
-    points(rt, memory, T::hardline(place), "HardLine");
-    points(rt, memory, T::weak_line(place), "WeakLine");
-}
-
-pub(crate) fn blanks<'a, D: DocPlace<'a, Doc = T>, T: DocPtr<'a> + fmt::Debug>(
-    rt: &impl Abort,
-    place: &'a D,
-) {
-    let memory = place.memory();
-    points(rt, memory, T::space(place), "\" \"");
-    points(rt, memory, T::weak_space(place), "WeakSpace");
-    points(rt, memory, T::expand_parent(place), "ExpandParent");
+    rows! { points, rt, place;
+        T::nil(place) => "Nil";
+        T::fail(place) => "Fail";
+        T::hard_line(place) => "HardLine";
+        T::hardline(place) => "HardLine";
+        T::weak_line(place) => "WeakLine";
+        T::space(place) => "\" \"";
+        T::weak_space(place) => "WeakSpace";
+        T::expand_parent(place) => "ExpandParent";
+    }
 }
 
 pub(crate) fn lines<'a, D: DocPlace<'a, Doc = T>, T: DocPtr<'a> + fmt::Debug>(
     rt: &impl Abort,
     place: &'a D,
 ) {
-    let memory = place.memory();
-    points(rt, memory, T::line(place), "LineOrSpace");
-    points(rt, memory, T::line_(place), "LineOrNil");
-    points(rt, memory, T::softline(place), "SoftLineOrSpace");
-    points(rt, memory, T::softline_(place), "SoftLineOrNil");
-}
-
-pub(crate) fn texts<'a, D: DocPlace<'a, Doc = T>, T: DocPtr<'a> + fmt::Debug>(
-    rt: &impl Abort,
-    place: &'a D,
-) {
-    let memory = place.memory();
-    points(rt, memory, T::text(place, CowStr::Borrowed("ab")), "\"ab\"");
-    points(rt, memory, T::as_string(place, 16), "\"16\"");
-    let payload = T::multiline_text(place, CowStr::Borrowed("a\nb"));
-    points(rt, memory, payload, "MultilineText(\"a\\nb\")");
+    rows! { points, rt, place;
+        T::line(place) => "LineOrSpace";
+        T::line_(place) => "LineOrNil";
+        T::softline(place) => "SoftLineOrSpace";
+        T::softline_(place) => "SoftLineOrNil";
+        T::text(place, CowStr::Borrowed("ab")) => "\"ab\"";
+        T::as_string(place, 16) => "\"16\"";
+        T::multiline_text(place, CowStr::Borrowed("a\nb")) => "MultilineText(\"a\\nb\")";
+    }
 }
 
 fn line<'a, D: DocPlace<'a>>(rt: &impl Abort, place: &'a D) -> D::Doc {
     place
-        .alloc(Doc::HardLine)
+        .alloc(Doc::WeakLine)
         .expect(rt, "a node was not placed")
 }
 
@@ -60,49 +58,25 @@ pub(crate) fn wrappers<'a, D: DocPlace<'a, Doc = T>, T: DocPtr<'a> + fmt::Debug>
     rt: &impl Abort,
     place: &'a D,
 ) {
-    let memory = place.memory();
-    let grouped = line(rt, place).group(place);
-    points(rt, memory, grouped, "Group(HardLine)");
-    let nested = line(rt, place).nest(place, 2);
-    points(rt, memory, nested, "Nest(2, HardLine)");
-    let union = line(rt, place).union(place, BuildDoc::Doc(Doc::Fail));
-    points(rt, memory, union, "Union(HardLine, Fail)");
+    rows! { points, rt, place;
+        line(rt, place).group(place) => "Group(WeakLine)";
+        line(rt, place).nest(place, 2) => "Nest(2, WeakLine)";
+        line(rt, place).union(place, BuildDoc::Doc(Doc::Fail)) => "Union(WeakLine, Fail)";
+    }
 }
 
-pub(crate) fn sums<
-    'a,
-    D: DocPlace<'a, Doc = T>,
-    P: Pretty<'a, D> + Copy,
-    T: DocPtr<'a> + fmt::Debug,
->(rt: &impl Abort, place: &'a D, a: P) {
-    let memory = place.memory();
-    let sum = line(rt, place).append(place, a);
-    points(rt, memory, sum, "[HardLine, \"a\"]");
-    let either = line(rt, place).flat_alt(place, a);
-    points(rt, memory, either, "FlatOrBreak(\"a\", HardLine)");
-}
-
-pub(crate) fn by_place<
+pub(crate) fn operands<
     'a,
     D: DocPlace<'a, Doc = T>,
     P: Pretty<'a, D> + Copy,
     T: DocPtr<'a> + fmt::Debug,
 >(rt: &impl Abort, place: &'a D, a: P, b: P) {
-    let memory = place.memory();
-    let hung = T::if_column(place, ColumnTest::IsNesting, a, b);
-    points(rt, memory, hung, "OnColumn(IsNesting, \"a\", \"b\")");
-    let deep = T::if_nesting(place, NestingTest::AtMost(1), a, b);
-    points(rt, memory, deep, "OnNesting(AtMost(1), \"a\", \"b\")");
-}
-
-fn between<
-    'a,
-    D: DocPlace<'a, Doc = T>,
-    P: Pretty<'a, D> + Copy,
-    S: Pretty<'a, D> + Drop,
-    T: DocPtr<'a>,
->(place: &'a D, items: &'a [P], separator: S) -> Result<T, BuildError> {
-    T::intersperse(place, items.iter().copied(), separator)
+    rows! { points, rt, place;
+        line(rt, place).append(place, a) => "[WeakLine, \"a\"]";
+        line(rt, place).flat_alt(place, a) => "FlatOrBreak(\"a\", WeakLine)";
+        T::if_column(place, ColumnTest::IsNesting, a, b) => "OnColumn(IsNesting, \"a\", \"b\")";
+        T::if_nesting(place, NestingTest::AtMost(1), a, b) => "OnNesting(AtMost(1), \"a\", \"b\")";
+    }
 }
 
 pub(crate) fn sequences<
@@ -110,65 +84,29 @@ pub(crate) fn sequences<
     D: DocPlace<'a, Doc = T>,
     P: Pretty<'a, D> + Copy,
     T: DocPtr<'a> + fmt::Debug,
->(rt: &impl Abort, place: &'a D, items: &'a [P], comma: P) {
-    let memory = place.memory();
-    let all = T::concat(place, items.iter().copied());
-    points(rt, memory, all, "[\"a\", \"b\"]");
-    let all = between(place, items, comma);
-    points(rt, memory, all, "[\"a\", \",\", \"b\"]");
+>(rt: &impl Abort, place: &'a D, items: &'a [P]) {
+    rows! { points, rt, place;
+        T::concat(place, items.iter().copied()) => "[\"a\", \"b\"]";
+        T::intersperse(place, items.iter().copied(), space()) => "[\"a\", \" \", \"b\"]";
+    }
 }
 
-// A separator becomes a document only where there is a gap.
-pub(crate) fn separators<
-    'a,
-    D: DocPlace<'a, Doc = T>,
-    P: Pretty<'a, D> + Copy,
-    T: DocPtr<'a> + fmt::Debug,
->(rt: &impl Abort, place: &'a D, one: &'a [P], two: &'a [P]) {
-    let item = between(place, one, as_string(Failing));
-    points(rt, place.memory(), item, "\"a\"");
-    refuses(rt, between(place, two, as_string(Failing)));
-}
-
-const LAYOUT: &str = "an owned text of more than 22 bytes\n  one\ntwo";
-
-fn owned<'a, D: DocPlace<'a>>(rt: &impl Abort, place: &'a D, text: &str) -> CowStr<'a> {
-    let text = String::from_str(place.memory(), text);
-    CowStr::Owned(text.expect(rt, "memory was refused"))
-}
-
-// A tree with an owned text and an owned payload.
-fn tree<'a, D: DocPlace<'a>>(rt: &impl Abort, place: &'a D) -> D::Doc {
-    let text = place.text(owned(rt, place, "an owned text of more than 22 bytes"));
-    let line = built(
-        rt,
-        built(rt, text).join(DocBuilder::new(place, Doc::HardLine)),
-    );
-    let payload = built(rt, place.multiline_text(owned(rt, place, "one\ntwo")));
-    nested(rt, line.join(payload), 2)
-}
-
-fn nested<'a, D: DocPlace<'a>>(
+// A pointer that becomes a document.
+pub(crate) fn values<'a, D: DocPlace<'a, Doc = T>, T: DocPtr<'a> + Pretty<'a, D>>(
     rt: &impl Abort,
-    lines: Result<DocBuilder<'a, D>, BuildError>,
-    offset: isize,
-) -> D::Doc {
-    let nested = built(rt, built(rt, lines).nest(offset));
-    nested.into_doc().expect(rt, "a tree was not placed")
+    place: &'a D,
+) {
+    rows! { shows, rt, place;
+        line(rt, place).pretty(place) => "WeakLine";
+        DocBuilder::new(place, Doc::Fail).append(line(rt, place)) => "[Fail, WeakLine]";
+    }
 }
 
-fn compare<'a, D: DocPlace<'a>>(rt: &impl Abort, place: &'a D, document: &D::Doc, layout: &str) {
-    let out = rendered(rt, place.memory(), document.doc());
-    assert!(rt; out.as_str() == layout);
-}
-
-// The first tree is given up before the second is rendered.
-pub(crate) fn clones<'a, D: DocPlace<'a>>(rt: &impl Abort, place: &'a D) {
-    let first = tree(rt, place);
-    compare(rt, place, &first, LAYOUT);
-    let second = place.clone_ptr(&first).expect(rt, "a tree was not copied");
-    drop(first);
-    compare(rt, place, &second, LAYOUT);
+// A builder takes the pointer as it is: the proof of a call that meets the bounds of `values` with counted owners is
+// beyond the prover's limits.
+pub(crate) fn taken<'a, D: DocPlace<'a>>(rt: &impl Abort, place: &'a D) {
+    let pointed = DocBuilder::from_doc(place, line(rt, place));
+    shows(rt, place, Ok(pointed), "WeakLine");
 }
 
 #[test]
@@ -176,7 +114,8 @@ fn boxes_are_cloned(rt: HostRuntime) {
     let line = BoxDoc::new(rt.alloc(), Doc::HardLine).expect(&rt, "a node was not placed");
     let copy = line.clone(rt.alloc());
     drop(line);
-    points(&rt, rt.alloc(), copy, "HardLine");
+    let copy = copy.expect(&rt, "a node was not copied");
+    compare(&rt, rt.alloc(), &copy, "HardLine");
 }
 
 #[test]
@@ -184,5 +123,6 @@ fn counted_nodes_are_cloned(rt: HostRuntime) {
     let line = RcDoc::new(rt.alloc(), Doc::HardLine).expect(&rt, "a node was not placed");
     let copy = line.clone();
     drop(line);
-    points(&rt, rt.alloc(), copy, "HardLine");
+    let copy = copy.expect(&rt, "a node was not copied");
+    compare(&rt, rt.alloc(), &copy, "HardLine");
 }

@@ -1,5 +1,5 @@
 //! What can become a document.
-use crate::expected::{Failing, refuses, shows};
+use crate::expected::{Failing, refuses, rows, shows};
 use prettyless::docs;
 use prettyless::prelude::*;
 use prettyless::text::{BuildError, CowStr};
@@ -7,15 +7,16 @@ use std::cell::Cell;
 use std::process::Abort;
 
 pub(crate) fn texts<'a, D: DocPlace<'a>>(rt: &impl Abort, place: &'a D) {
-    shows(rt, "a".pretty(place), "\"a\"");
-    shows(rt, CowStr::Borrowed("a").pretty(place), "\"a\"");
     let owned = String::from_str(place.memory(), "owned").expect(rt, "memory was refused");
-    shows(rt, owned.pretty(place), "\"owned\"");
-    shows(rt, String::new(place.memory()).pretty(place), "Nil");
+    rows! { shows, rt, place;
+        "a".pretty(place) => "\"a\"";
+        CowStr::Borrowed("a").pretty(place) => "\"a\"";
+        owned.pretty(place) => "\"owned\"";
+    }
 }
 
 pub(crate) fn lent<'a, D: DocPlace<'a>>(rt: &impl Abort, place: &'a D, owned: &'a String) {
-    shows(rt, owned.pretty(place), "\"owned\"");
+    shows(rt, place, owned.pretty(place), "\"owned\"");
 }
 
 pub(crate) fn several<'a, D: DocPlace<'a>, P: Pretty<'a, D> + Copy>(
@@ -24,21 +25,13 @@ pub(crate) fn several<'a, D: DocPlace<'a>, P: Pretty<'a, D> + Copy>(
     a: P,
     b: P,
 ) {
-    shows(rt, Some(a).pretty(place), "\"a\"");
-    shows(rt, None::<P>.pretty(place), "Nil");
-    shows(rt, ().pretty(place), "Nil");
-    shows(rt, (a,).pretty(place), "\"a\"");
-    shows(rt, (a, (), b).pretty(place), "[\"a\", \"b\"]");
-}
-
-pub(crate) fn arrays<'a, D: DocPlace<'a>, P: Pretty<'a, D> + Copy>(
-    rt: &impl Abort,
-    place: &'a D,
-    none: [P; 0],
-    pair: [P; 2],
-) {
-    shows(rt, none.pretty(place), "Nil");
-    shows(rt, pair.pretty(place), "[\"a\", \"b\"]");
+    rows! { shows, rt, place;
+        Some(a).pretty(place) => "\"a\"";
+        None::<P>.pretty(place) => "Nil";
+        ().pretty(place) => "Nil";
+        (a, b).pretty(place) => "[\"a\", \"b\"]";
+        [a, b].pretty(place) => "[\"a\", \"b\"]";
+    }
 }
 
 // As many fields as a tuple may have.
@@ -51,17 +44,7 @@ pub(crate) fn longest<'a, D: DocPlace<'a>, P: Pretty<'a, D> + Copy>(
     let all = (a, b, a, b, a, b, a, b, a, b, a, b, a, b, a, b);
     let shown = "[\"a\", \"b\", \"a\", \"b\", \"a\", \"b\", \"a\", \"b\", \
                  \"a\", \"b\", \"a\", \"b\", \"a\", \"b\", \"a\", \"b\"]";
-    shows(rt, all.pretty(place), shown);
-}
-
-pub(crate) fn macros<'a, D: DocPlace<'a>, P: Pretty<'a, D> + Copy>(
-    rt: &impl Abort,
-    place: &'a D,
-    a: P,
-    b: P,
-) {
-    shows(rt, docs![place, a], "\"a\"");
-    shows(rt, docs![place, a, b], "[\"a\", \"b\"]");
+    shows(rt, place, all.pretty(place), shown);
 }
 
 // The value, and a note that it was asked for.
@@ -81,7 +64,7 @@ fn around<'a, D: DocPlace<'a>, P: Pretty<'a, D> + Copy, Q: Pretty<'a, D> + Drop>
 }
 
 // What comes after a refused document is not evaluated.
-pub(crate) fn refusals<'a, D: DocPlace<'a>, P: Pretty<'a, D> + Copy>(
+pub(crate) fn macros<'a, D: DocPlace<'a>, P: Pretty<'a, D> + Copy>(
     rt: &impl Abort,
     place: &'a D,
     a: P,
@@ -90,6 +73,11 @@ pub(crate) fn refusals<'a, D: DocPlace<'a>, P: Pretty<'a, D> + Copy>(
     let asked = Cell::new(false);
     refuses(rt, around(place, a, as_string(Failing), &asked));
     assert!(rt; !asked.get());
-    shows(rt, around(place, a, b, &asked), "[\"a\", \"b\", \"a\"]");
+    shows(
+        rt,
+        place,
+        around(place, a, b, &asked),
+        "[\"a\", \"b\", \"a\"]",
+    );
     assert!(rt; asked.get());
 }

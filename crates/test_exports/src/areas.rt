@@ -1,5 +1,7 @@
 //! Layouts of programs into an area of five bytes.
+use prettyless_area::area::{Area, Full};
 use prettyless_exports::layout::program_layout;
+use prettyless_sink::render::Render;
 use std::alloc::Global;
 use std::process::Abort;
 
@@ -118,4 +120,17 @@ fn limits_bound_the_layout(rt: HostRuntime) {
     ] {
         compare(&rt, rt.alloc(), limited(limit), (text, status, count, held));
     }
+}
+
+// An area that was given more than its limit takes nothing more.
+#[test]
+fn areas_stay_at_their_limit(rt: HostRuntime) {
+    let mut out = *b"....";
+    let mut area = Area::new(&mut out, 1);
+    assert!(rt; area.write_str_all("ab") == Err(Full::Limit));
+    assert!(rt; area.write_str_all("c") == Err(Full::Limit));
+    assert!(rt; area.write_str("") == Ok(0));
+    assert!(rt; area.count() == 1 && area.capacity() == 4);
+    assert!(rt; area.fail_doc() == Full::Document);
+    assert!(rt; out.as_slice() == b"a...".as_slice());
 }

@@ -2,8 +2,16 @@
 use prettyless::text::BuildError;
 use prettyless::{Doc, DocBuilder, DocPlace, DocPtr, PrettyError, RenderOptions};
 use std::alloc::Global;
-use std::fmt;
 use std::process::Abort;
+
+// Documents, each with its layouts: `DOCUMENT => WIDTH: LAYOUT, ..;`.
+macro_rules! layouts {
+    ($rt:expr; $($document:expr => $($width:literal: $layout:literal),+;)+) => {
+        $(crate::layouts::compare($rt, $document, &[$(($width, $layout)),+]);)+
+    };
+}
+
+pub(crate) use layouts;
 
 // Whether a document is laid out as this, with these options.
 fn is_laid_out_as<'a, T: DocPtr<'a>>(
@@ -16,19 +24,15 @@ fn is_laid_out_as<'a, T: DocPtr<'a>>(
     document.render_fmt_with(memory, options, &mut out).is_ok() && out.as_str() == layout
 }
 
-// Compares what a document is laid out as with each of the options.
-pub(crate) fn compare_with<'a, D: DocPlace<'a>>(
+// Compares what a document is laid out as with these options.
+pub(crate) fn compare_with<'a, T: DocPtr<'a>>(
     rt: &impl Abort,
-    built: Result<DocBuilder<'a, D>, BuildError>,
-    layouts: &[(RenderOptions, &str)],
+    memory: Global,
+    document: &Doc<'a, T>,
+    (options, layout): (RenderOptions, &str),
 ) {
-    let Ok(built) = built else {
-        panic!(rt; "not built")
-    };
-    for &(options, layout) in layouts {
-        let same = is_laid_out_as(built.0.memory(), built.doc(), options, layout);
-        assert!(rt; same, "{layout}");
-    }
+    let same = is_laid_out_as(memory, document, options, layout);
+    assert!(rt; same, "{layout}");
 }
 
 // Compares what a document is laid out as at each width.

@@ -26,6 +26,8 @@ mod parts;
 #[cfg(test)]
 mod rendering;
 #[cfg(test)]
+mod shapes;
+#[cfg(test)]
 mod terms;
 #[cfg(test)]
 mod values;

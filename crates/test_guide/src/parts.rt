@@ -1,9 +1,9 @@
 //! What the examples of the guide are made of: the calls of builders, each over the `Result` that an example has by then.
 //!
 //! A `?` on a builder takes the prover longer than a call, so each stands here once.
-use prettyless::docs;
 use prettyless::prelude::*;
 use prettyless::text::BuildError;
+use prettyless::{BuildDoc, docs};
 
 pub(crate) type Built<'a, D> = Result<DocBuilder<'a, D>, BuildError>;
 
@@ -62,6 +62,14 @@ pub(crate) fn pointer_to<'a, D: DocPlace<'a>>(
     document: Built<'a, D>,
 ) -> Result<D::Doc, BuildError> {
     document?.into_doc()
+}
+
+// The first document where all of its lines fit, and else the second.
+pub(crate) fn either<'a, D: DocPlace<'a>>(
+    first: Built<'a, D>,
+    second: Built<'a, D>,
+) -> Built<'a, D> {
+    first?.union(BuildDoc::DocPtr(pointer_to(second)?))
 }
 
 // A call of `f`.

@@ -12,19 +12,20 @@ fn lines<'a, D: DocPlace<'a>>(place: &'a D) -> Built<'a, D> {
     nested(with(joined(first, place.hard_line()), "b"), 2)
 }
 
-fn options_choose_line_ends_and_indents<'a, D: DocPlace<'a>>(rt: &impl Abort, place: &'a D) {
-    let eager = RenderOptions::new(80);
-    let deferred = eager.with_indentation_policy(IndentationPolicy::Deferred);
-    let crlf = deferred.with_line_ending(LineEnding::Crlf);
-    let layouts = [
-        (eager, "a\n  \n  b"),
-        (deferred, "a\n\n  b"),
-        (crlf, "a\r\n\r\n  b"),
-        (eager.with_width(0), "a\n  \n  b"),
-        (deferred.with_width(0), "a\n\n  b"),
-        (crlf.with_width(0), "a\r\n\r\n  b"),
-    ];
-    compare_with(rt, lines(place), &layouts);
+fn options_choose_line_ends_and_indents<'a, D: DocPlace<'a>>(
+    rt: &impl Abort,
+    place: &'a D,
+) -> Result<(), Fail> {
+    let lines = pointer_to(lines(place))?;
+    for width in [80, 0] {
+        let eager = RenderOptions::new(width);
+        let deferred = eager.with_indentation_policy(IndentationPolicy::Deferred);
+        let crlf = deferred.with_line_ending(LineEnding::Crlf);
+        compare_with(rt, place.memory(), lines.doc(), (eager, "a\n  \n  b"));
+        compare_with(rt, place.memory(), lines.doc(), (deferred, "a\n\n  b"));
+        compare_with(rt, place.memory(), lines.doc(), (crlf, "a\r\n\r\n  b"));
+    }
+    Ok(())
 }
 
 // Whether `{:?}` shows this of a document.
@@ -67,7 +68,7 @@ fn visits_are_counted<'a, D: DocPlace<'a>>(rt: &impl Abort, place: &'a D) -> Res
 }
 
 pub(crate) fn all<'a, D: DocPlace<'a>>(rt: &impl Abort, place: &'a D) -> Result<(), Fail> {
-    options_choose_line_ends_and_indents(rt, place);
+    options_choose_line_ends_and_indents(rt, place)?;
     documents_show_their_nodes(rt, place)?;
     visits_are_counted(rt, place)
 }

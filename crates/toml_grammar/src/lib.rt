@@ -13,6 +13,3 @@ mod turn;
 pub use expected::Expected;
 pub use fault::{Fault, fault_of};
 pub use laws::law_closed_strings;
-
-#[cfg(test)]
-mod tests;

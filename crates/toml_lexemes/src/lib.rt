@@ -13,6 +13,3 @@ pub use laws::{law_following, law_gaps, law_joined, law_spacing};
 pub use lexeme::Lexeme;
 pub use lexer::{Lexer, lexemes};
 pub use spaced::{Spaced, SpacedLexer};
-
-#[cfg(test)]
-mod tests;

@@ -17,6 +17,3 @@ pub use laws::law_closed;
 pub use remark::is_remark;
 pub use string::{is_key_string, is_string};
 pub use value::is_value;
-
-#[cfg(test)]
-mod tests;

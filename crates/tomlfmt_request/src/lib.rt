@@ -4,5 +4,3 @@
 mod nesting;
 pub mod refusal;
 pub mod request;
-#[cfg(test)]
-mod tests;
