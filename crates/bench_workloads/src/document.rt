@@ -5,18 +5,15 @@ use crate::json::array;
 use crate::levels::{cell_lines, partial_groups, remark_groups, spaced_groups, sums, union_groups};
 use crate::lists::{list, right_list, tree};
 use crate::objects::real;
+use crate::parts::{Built, pointer_to};
 use crate::trials::{kept_trials, rejected_trials};
 use crate::words::{fill, lines, weak_spaces};
 use crate::workload::Workload;
+use prettyless::DocPlace;
 use prettyless::text::BuildError;
-use prettyless::{DocBuilder, DocPlace};
 
 // The document of a workload at a size.
-fn built_at<'a, D: DocPlace<'a>>(
-    place: &'a D,
-    workload: Workload,
-    size: usize,
-) -> Result<DocBuilder<'a, D>, BuildError> {
+fn built_at<'a, D: DocPlace<'a>>(place: &'a D, workload: Workload, size: usize) -> Built<'a, D> {
     match workload {
         Workload::Tree => tree(place, size),
         Workload::List | Workload::FlatList => list(place, size),
@@ -46,5 +43,5 @@ pub(crate) fn document<'a, D: DocPlace<'a>>(
     workload: Workload,
     size: usize,
 ) -> Result<D::Doc, BuildError> {
-    built_at(place, workload, size)?.into_doc()
+    pointer_to(built_at(place, workload, size))
 }
