@@ -1,15 +1,13 @@
 //! Groups in groups.
 
-use crate::parts::{
-    Built, grouped, joined, node, on_own_line, pointed, pointer_to, text, text_line,
-};
+use crate::parts::{Built, grouped, joined, node, on_own_line, text, text_line};
 use prettyless::{Doc, DocPlace};
 
 /// Groups nested so deep, with a text and a line in each in front of the next.
 pub(crate) fn text_groups<'a, D: DocPlace<'a>>(place: &'a D, depth: usize) -> Built<'a, D> {
     let mut all = text(place, "a");
     for _ in 0..depth {
-        all = grouped(joined(text_line(place, "a"), all));
+        all = grouped(place, joined(place, text_line(place, "a"), all));
     }
     all
 }
@@ -17,23 +15,24 @@ pub(crate) fn text_groups<'a, D: DocPlace<'a>>(place: &'a D, depth: usize) -> Bu
 // Two texts that don't fit a line of 80 columns together, and a line between them.
 fn wide<'a, D: DocPlace<'a>>(place: &'a D) -> Built<'a, D> {
     let half = "a text of fifty columns, of which two fill a line.";
-    joined(text_line(place, half), text(place, half))
+    joined(place, text_line(place, half), text(place, half))
 }
 
 /// Groups nested so deep, around two texts that don't fit a line.
 pub(crate) fn bare_groups<'a, D: DocPlace<'a>>(place: &'a D, depth: usize) -> Built<'a, D> {
-    let mut all = pointer_to(wide(place))?;
+    let mut all = wide(place);
     for _ in 0..depth {
         // A builder makes no group of a group.
-        all = pointer_to(node(place, Doc::Group(all)))?;
+        all = node(place, Doc::Group(all?));
     }
-    pointed(place, all)
+    all
 }
 
 // A document on a line of its own where it does not fit, in a group, and a text after that.
 fn tail_group<'a, D: DocPlace<'a>>(place: &'a D, inner: Built<'a, D>) -> Built<'a, D> {
-    let front = grouped(on_own_line(place, inner));
+    let front = grouped(place, on_own_line(place, inner));
     joined(
+        place,
         front,
         text(place, "a text of forty columns, behind a group."),
     )

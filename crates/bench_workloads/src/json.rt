@@ -1,6 +1,6 @@
 //! Records in the notation of JSON.
 
-use crate::parts::{Built, grouped, joined, nested, on_own_line, text, text_line};
+use crate::parts::{Built, grouped, joined, nested, on_own_line, placed, text, text_line};
 use crate::words::word;
 use prettyless::{DocAllocator, DocPlace};
 
@@ -12,8 +12,15 @@ pub(crate) fn bracketed<'a, D: DocPlace<'a>>(
     values: Built<'a, D>,
     closing: &'a str,
 ) -> Built<'a, D> {
-    let front = joined(text(place, opening), nested(on_own_line(place, values), 2));
-    grouped(joined(front, on_own_line(place, text(place, closing))))
+    let front = joined(
+        place,
+        text(place, opening),
+        nested(place, on_own_line(place, values), 2),
+    );
+    grouped(
+        place,
+        joined(place, front, on_own_line(place, text(place, closing))),
+    )
 }
 
 /// A value, a comma, a line and another value.
@@ -23,7 +30,7 @@ pub(crate) fn with_comma<'a, D: DocPlace<'a>>(
     front: Built<'a, D>,
     next: Built<'a, D>,
 ) -> Built<'a, D> {
-    joined(joined(front, text_line(place, ",")), next)
+    joined(place, joined(place, front, text_line(place, ",")), next)
 }
 
 /// A key, and the value after it.
@@ -33,7 +40,7 @@ pub(crate) fn field<'a, D: DocPlace<'a>>(
     key: &'a str,
     value: Built<'a, D>,
 ) -> Built<'a, D> {
-    joined(text(place, key), value)
+    joined(place, text(place, key), value)
 }
 
 /// Fields, a comma, a line and another field.
@@ -64,13 +71,13 @@ pub(crate) fn triple<'a, D: DocPlace<'a>>(
 #[inline(always)]
 fn name<'a, D: DocPlace<'a>>(place: &'a D, number: usize) -> Built<'a, D> {
     let name = field(place, "\"name\": \"", text(place, word(number)));
-    joined(name, text(place, "\""))
+    joined(place, name, text(place, "\""))
 }
 
 // The two fields that depend on the number.
 #[inline(always)]
 fn numbered_fields<'a, D: DocPlace<'a>>(place: &'a D, number: usize) -> Built<'a, D> {
-    let id = field(place, "\"id\": ", place.as_string(number));
+    let id = field(place, "\"id\": ", placed(place.as_string(number)));
     with_comma(place, id, name(place, number))
 }
 

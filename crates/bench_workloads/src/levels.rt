@@ -1,9 +1,9 @@
 //! Groups in groups, each with a line and more than a text, and lines of short groups.
 
 use crate::parts::{
-    Built, grouped, joined, line_break, node, or_text, or_text_partly, put_off, text,
+    Built, grouped, joined, line, line_break, node, or_text, or_text_partly, put_off, text,
 };
-use prettyless::{Doc, DocAllocator, DocPlace};
+use prettyless::{Doc, DocPlace};
 
 /// How many groups a line of short ones has.
 const CELLS: usize = 30;
@@ -14,7 +14,10 @@ fn line_group<'a, D: DocPlace<'a>>(
     front: Built<'a, D>,
     next: Built<'a, D>,
 ) -> Built<'a, D> {
-    grouped(joined(joined(front, place.line()), next))
+    grouped(
+        place,
+        joined(place, joined(place, front, line(place)), next),
+    )
 }
 
 /// A sum with so many operators, and a group for each.
@@ -28,7 +31,7 @@ pub(crate) fn sums<'a, D: DocPlace<'a>>(place: &'a D, depth: usize) -> Built<'a,
 
 // A text, a weak space, a line and a document, in a group.
 fn spaced_group<'a, D: DocPlace<'a>>(place: &'a D, inner: Built<'a, D>) -> Built<'a, D> {
-    let front = joined(text(place, "a"), node(place, Doc::WeakSpace));
+    let front = joined(place, text(place, "a"), node(place, Doc::WeakSpace));
     line_group(place, front, inner)
 }
 
@@ -43,7 +46,7 @@ pub(crate) fn spaced_groups<'a, D: DocPlace<'a>>(place: &'a D, depth: usize) -> 
 
 // A text, a remark put off to the end of the line, a line and a document, in a group.
 fn remark_group<'a, D: DocPlace<'a>>(place: &'a D, inner: Built<'a, D>) -> Built<'a, D> {
-    let front = joined(text(place, "a"), put_off(text(place, "  # why")));
+    let front = joined(place, text(place, "a"), put_off(place, "  # why"));
     line_group(place, front, inner)
 }
 
@@ -58,7 +61,7 @@ pub(crate) fn remark_groups<'a, D: DocPlace<'a>>(place: &'a D, depth: usize) -> 
 
 // A text, a line, and a document or else another text, in a group.
 fn union_group<'a, D: DocPlace<'a>>(place: &'a D, inner: Built<'a, D>) -> Built<'a, D> {
-    line_group(place, text(place, "a"), or_text(inner, "b"))
+    line_group(place, text(place, "a"), or_text(place, inner, "b"))
 }
 
 /// Groups nested so deep, each the first of two alternatives in the next. All first ones are kept.
@@ -72,7 +75,7 @@ pub(crate) fn union_groups<'a, D: DocPlace<'a>>(place: &'a D, depth: usize) -> B
 
 // A text, a line, and a document whose first line fits or else another text, in a group.
 fn partial_group<'a, D: DocPlace<'a>>(place: &'a D, inner: Built<'a, D>) -> Built<'a, D> {
-    line_group(place, text(place, "a"), or_text_partly(inner, "b"))
+    line_group(place, text(place, "a"), or_text_partly(place, inner, "b"))
 }
 
 /// The same of alternatives of which only the first lines have to fit.
@@ -86,23 +89,23 @@ pub(crate) fn partial_groups<'a, D: DocPlace<'a>>(place: &'a D, depth: usize) ->
 
 // Two texts in a group.
 fn cell<'a, D: DocPlace<'a>>(place: &'a D) -> Built<'a, D> {
-    grouped(joined(text(place, "a"), text(place, "b")))
+    grouped(place, joined(place, text(place, "a"), text(place, "b")))
 }
 
 // So many of these groups, and the end of their line.
 fn cell_line<'a, D: DocPlace<'a>>(place: &'a D, cells: usize) -> Built<'a, D> {
     let mut all = node(place, Doc::Nil);
     for _ in 0..cells {
-        all = joined(all, cell(place));
+        all = joined(place, all, cell(place));
     }
-    joined(all, line_break(place))
+    joined(place, all, line_break(place))
 }
 
 /// So many lines of thirty short groups.
 pub(crate) fn cell_lines<'a, D: DocPlace<'a>>(place: &'a D, lines: usize) -> Built<'a, D> {
     let mut all = node(place, Doc::Nil);
     for _ in 0..lines {
-        all = joined(all, cell_line(place, CELLS));
+        all = joined(place, all, cell_line(place, CELLS));
     }
     all
 }

@@ -1,9 +1,9 @@
 //! Lists in parentheses.
 
-use crate::parts::{Built, grouped, joined, nested, pointed, pointer_to, text};
+use crate::parts::{Built, grouped, joined, line, nested, placed, text};
 use prettyless::combinators::line_or_space;
 use prettyless::text::BuildError;
-use prettyless::{DocAllocator, DocAllocatorBetween, DocPlace};
+use prettyless::{DocAllocatorBetween, DocPlace};
 use std::iter;
 
 const ATOM: &str = "atom";
@@ -13,20 +13,24 @@ const CHILDREN: usize = 10;
 
 // Items in parentheses.
 fn parenthesised<'a, D: DocPlace<'a>>(place: &'a D, items: Built<'a, D>) -> Built<'a, D> {
-    let inner = grouped(nested(items, 1));
-    joined(joined(text(place, "("), inner), text(place, ")"))
+    let inner = grouped(place, nested(place, items, 1));
+    joined(
+        place,
+        joined(place, text(place, "("), inner),
+        text(place, ")"),
+    )
 }
 
 /// So many atoms in one list.
 pub(crate) fn list<'a, D: DocPlace<'a>>(place: &'a D, atoms: usize) -> Built<'a, D> {
     let atom: &'a str = ATOM;
-    let items = place.intersperse(iter::repeat_n(atom, atoms), line_or_space());
+    let items = placed(place.intersperse(iter::repeat_n(atom, atoms), line_or_space()));
     parenthesised(place, items)
 }
 
 // An atom and a line in front of a document.
 fn in_front<'a, D: DocPlace<'a>>(place: &'a D, inner: Built<'a, D>) -> Built<'a, D> {
-    joined(text(place, ATOM), joined(place.line(), inner))
+    joined(place, text(place, ATOM), joined(place, line(place), inner))
 }
 
 /// So many atoms in front of a last one, in a group.
@@ -35,7 +39,7 @@ pub(crate) fn right_list<'a, D: DocPlace<'a>>(place: &'a D, atoms: usize) -> Bui
     for _ in 0..atoms {
         all = in_front(place, all);
     }
-    grouped(nested(all, 1))
+    grouped(place, nested(place, all, 1))
 }
 
 /// Where trees are built. It knows no lifetime, so that a function that calls itself may have it as a bound.
@@ -54,16 +58,16 @@ impl<'a, D: DocPlace<'a>> TreePlace for &'a D {
     type Doc = D::Doc;
 
     fn atom(self) -> Result<D::Doc, BuildError> {
-        pointer_to(text(self, ATOM))
+        text(self, ATOM)
     }
 
     fn next_line(self, front: D::Doc, next: D::Doc) -> Result<D::Doc, BuildError> {
-        let with_line = joined(pointed(self, front), self.line());
-        pointer_to(joined(with_line, pointed(self, next)))
+        let with_line = joined(self, Ok(front), line(self));
+        joined(self, with_line, Ok(next))
     }
 
     fn listed(self, items: D::Doc) -> Result<D::Doc, BuildError> {
-        pointer_to(parenthesised(self, pointed(self, items)))
+        parenthesised(self, Ok(items))
     }
 }
 
@@ -82,5 +86,5 @@ fn levels<P: TreePlace>(place: P, height: u32) -> Result<P::Doc, BuildError> {
 /// Lists of ten, in lists of ten, and so on, with as many atoms as the greatest power of ten up to this number has, and
 /// with one at least.
 pub(crate) fn tree<'a, D: DocPlace<'a>>(place: &'a D, atoms: usize) -> Built<'a, D> {
-    pointed(place, levels(place, atoms.max(1).ilog10())?)
+    levels(place, atoms.max(1).ilog10())
 }

@@ -1,7 +1,7 @@
 //! Objects in the notation of JSON, each in another.
 
 use crate::json::{bracketed, field, triple, with_comma, with_field};
-use crate::parts::{Built, pointed, pointer_to, text};
+use crate::parts::{Built, text};
 use prettyless::DocPlace;
 use prettyless::text::BuildError;
 
@@ -40,12 +40,11 @@ impl<'a, D: DocPlace<'a>> ObjectPlace for &'a D {
     type Doc = D::Doc;
 
     fn string(self) -> Result<D::Doc, BuildError> {
-        pointer_to(text(self, "\"a value of some words\""))
+        text(self, "\"a value of some words\"")
     }
 
     fn object(self, first: D::Doc, second: D::Doc) -> Result<D::Doc, BuildError> {
-        let inner = fields(self, pointed(self, first), pointed(self, second));
-        pointer_to(bracketed(self, "{", inner, "}"))
+        bracketed(self, "{", fields(self, Ok(first), Ok(second)), "}")
     }
 }
 
@@ -61,12 +60,11 @@ fn value<P: ObjectPlace>(place: P, height: u32) -> Result<P::Doc, BuildError> {
 
 // So many objects in front of a last one, with commas between them.
 fn objects<'a, D: DocPlace<'a>>(place: &'a D, count: usize) -> Built<'a, D> {
-    let mut all = value(place, LEVELS)?;
+    let mut all = value(place, LEVELS);
     for _ in 0..count {
-        let next = pointed(place, value(place, LEVELS)?);
-        all = pointer_to(with_comma(place, pointed(place, all), next))?;
+        all = with_comma(place, all, value(place, LEVELS));
     }
-    pointed(place, all)
+    all
 }
 
 /// These in brackets.

@@ -6,8 +6,8 @@ use prettyless::DocPlace;
 // A text and a line break in front of a document, or else another text.
 #[inline(always)]
 fn kept_trial<'a, D: DocPlace<'a>>(place: &'a D, inner: Built<'a, D>) -> Built<'a, D> {
-    let front = joined(text(place, "a"), line_break(place));
-    or_text(joined(front, inner), "b")
+    let front = joined(place, text(place, "a"), line_break(place));
+    or_text(place, joined(place, front, inner), "b")
 }
 
 /// Alternatives nested so deep. Each first one, a text and a line in front of the next, is kept.
@@ -22,8 +22,8 @@ pub(crate) fn kept_trials<'a, D: DocPlace<'a>>(place: &'a D, depth: usize) -> Bu
 // A line break in front of a document and a text, or else another text.
 #[inline(always)]
 fn rejected_trial<'a, D: DocPlace<'a>>(place: &'a D, inner: Built<'a, D>) -> Built<'a, D> {
-    let front = joined(line_break(place), inner);
-    or_text(joined(front, text(place, "toolong")), "x")
+    let front = joined(place, line_break(place), inner);
+    or_text(place, joined(place, front, text(place, "toolong")), "x")
 }
 
 /// Alternatives nested so deep, after a text. Each first one, which ends in a text that does not fit a line of 4 columns,
@@ -33,5 +33,5 @@ pub(crate) fn rejected_trials<'a, D: DocPlace<'a>>(place: &'a D, depth: usize) -
     for _ in 0..depth {
         all = rejected_trial(place, all);
     }
-    joined(text(place, "p"), all)
+    joined(place, text(place, "p"), all)
 }

@@ -1,6 +1,6 @@
 //! Texts that fill lines, and texts that are lines.
 
-use crate::parts::{Built, joined, line_break, nested, node, put_off, text};
+use crate::parts::{Built, joined, line_break, nested, node, placed, put_off, text};
 use prettyless::combinators::hard_line;
 use prettyless::{Doc, DocAllocator, DocAllocatorBetween, DocPlace};
 use std::iter;
@@ -22,7 +22,11 @@ pub(crate) fn word<'a>(number: usize) -> &'a str {
 pub(crate) fn fill<'a, D: DocPlace<'a>>(place: &'a D, words: usize) -> Built<'a, D> {
     let mut all = text(place, word(0));
     for number in 1..words {
-        all = joined(joined(all, place.softline()), text(place, word(number)));
+        all = joined(
+            place,
+            joined(place, all, placed(place.softline())),
+            text(place, word(number)),
+        );
     }
     all
 }
@@ -31,7 +35,8 @@ pub(crate) fn fill<'a, D: DocPlace<'a>>(place: &'a D, words: usize) -> Built<'a,
 pub(crate) fn lines<'a, D: DocPlace<'a>>(place: &'a D, lines: usize) -> Built<'a, D> {
     let line: &'a str = LINE;
     nested(
-        place.intersperse(iter::repeat_n(line, lines), hard_line()),
+        place,
+        placed(place.intersperse(iter::repeat_n(line, lines), hard_line())),
         4,
     )
 }
@@ -39,18 +44,19 @@ pub(crate) fn lines<'a, D: DocPlace<'a>>(place: &'a D, lines: usize) -> Built<'a
 // A text, a weak space, a remark put off to the end of the line, and that end.
 fn remarked<'a, D: DocPlace<'a>>(place: &'a D) -> Built<'a, D> {
     let front = joined(
+        place,
         text(place, "a text with a remark"),
         node(place, Doc::WeakSpace),
     );
-    let with_remark = joined(front, put_off(text(place, "  # why")));
-    joined(with_remark, line_break(place))
+    let with_remark = joined(place, front, put_off(place, "  # why"));
+    joined(place, with_remark, line_break(place))
 }
 
 /// So many lines with a weak space and a remark at the end of each.
 pub(crate) fn weak_spaces<'a, D: DocPlace<'a>>(place: &'a D, lines: usize) -> Built<'a, D> {
     let mut all = node(place, Doc::Nil);
     for _ in 0..lines {
-        all = joined(all, remarked(place));
+        all = joined(place, all, remarked(place));
     }
     all
 }
