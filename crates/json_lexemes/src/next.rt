@@ -1,11 +1,11 @@
 //! What may come next in a JSON text, lexeme by lexeme.
 ghost use Rattle.std.specs.Prelude.{◌≡◌};
-ghost use Rattle.jsonfmt_request.specs.Grammar.{after_colon, after_comma, after_value, closes_array, closes_object, is_key, expects_value};
+ghost use Rattle.json_lexemes.specs.Next.{after_colon, after_comma, after_value, closes_array, closes_object, is_key, expects_value};
 
 use crate::expected::Expected;
+use crate::lexeme::Lexeme;
 use crate::string::refused_part;
 use json::{Scratch, is_valid};
-use json_lexemes::Lexeme;
 use json_validity::MAX_DEPTH;
 use std::alloc::{AllocError, Global};
 

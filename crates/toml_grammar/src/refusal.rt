@@ -1,16 +1,16 @@
 //! Why a text is refused, and where.
 ghost use Rattle.std.specs.Prelude.{◌≡◌, ◌≤◌, length, take, codes, true, false, IfOk};
 ghost use Rattle.std.specs.Str.{IsUtf8};
-ghost use Rattle.formatter_files.specs.Places.{IsPlace, IsPlaceWithin};
+ghost use Rattle.text_places.specs.Places.{IsPlace, IsPlaceWithin};
 ghost use Rattle.toml_grammar.specs.Expected.{expected_name};
 ghost use Rattle.toml_grammar.specs.Grammar.{is_toml};
-ghost use Rattle.tomlfmt_request.specs.Refusals.{NamesFault, found_of, nesting};
+ghost use Rattle.toml_grammar.specs.Refusals.{NamesFault, found_of, nesting};
 
+use crate::fault::{Fault, fault_of};
 use crate::nesting::too_deep;
-use formatter_files::place::{Place, place_at};
 use std::alloc::{AllocError, Global};
 use std::str::from_utf8;
-use toml_grammar::{Fault, fault_of};
+use text_places::{Place, place_at};
 use toml_lexemes::Lexeme;
 
 /// What stands where something else was expected.

@@ -1,6 +1,6 @@
 //! What a text was to have where it stops being JSON.
 ghost use Rattle.std.specs.Prelude.{◌≡◌};
-ghost use Rattle.jsonfmt_request.specs.Expected.{name_of};
+ghost use Rattle.json_lexemes.specs.Expected.{name_of};
 
 /// What was expected.
 #[derive(Clone, Copy, Debug, Drop, PartialEq, Eq)]

@@ -1,9 +1,9 @@
 -- How messages name what was expected.
 use Rattle.std.specs.Prelude.{ℕ, List, codes}
-use Rattle.jsonfmt_request.specs.declared.expected.Expected.{Expected}
-use Rattle.jsonfmt_request.specs.declared.expected.Expected.TheVariants.{Utf8, Value, ValueOrBracket, Key, KeyOrBrace, Colon}
-use Rattle.jsonfmt_request.specs.declared.expected.Expected.TheVariants.{CommaOrBracket, CommaOrBrace, End, Quote, Escape, Pair, Control}
-use Rattle.jsonfmt_request.specs.declared.expected.Expected.TheVariants.{LessNesting}
+use Rattle.json_lexemes.specs.declared.expected.Expected.{Expected}
+use Rattle.json_lexemes.specs.declared.expected.Expected.TheVariants.{Utf8, Value, ValueOrBracket, Key, KeyOrBrace, Colon}
+use Rattle.json_lexemes.specs.declared.expected.Expected.TheVariants.{CommaOrBracket, CommaOrBrace, End, Quote, Escape, Pair, Control}
+use Rattle.json_lexemes.specs.declared.expected.Expected.TheVariants.{LessNesting}
 
 -- the name
 abbrev pub name_of : Expected → List ℕ

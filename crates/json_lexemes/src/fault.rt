@@ -1,15 +1,17 @@
 //! Where a text stops being JSON, and what it was to have there.
-ghost use Rattle.std.specs.Prelude.{◌≡◌, ◌≤◌, length, IfOk, IfSome};
+ghost use Rattle.std.specs.Prelude.{◌≡◌, IfOk, IfSome};
 ghost use Rattle.std.specs.Str.{IsUtf8};
-ghost use Rattle.formatter_files.specs.Places.{IsPlaceWithin};
+ghost use Rattle.text_places.specs.Places.{IsPlaceWithin};
 
+use crate::cut::spaces_end;
 use crate::expected::Expected;
-use crate::grammar::{Bracket, Reading};
+use crate::lexeme::Lexeme;
+use crate::lexer::Lexer;
+use crate::next::{Bracket, Reading};
 use crate::string::refused_part;
-use formatter_files::place::{Place, place_at};
-use json_lexemes::{Lexeme, Lexer};
 use std::alloc::{AllocError, Global};
 use std::str::from_utf8;
+use text_places::{Place, place_at};
 
 /// Why a text is no JSON.
 #[derive(Clone, Copy, Drop)]
@@ -33,22 +35,6 @@ struct Stop<'t> {
     expected: Expected,
     found: Option<Lexeme<'t>>,
     opened: Option<usize>,
-}
-
-fn is_space(byte: u8) -> bool {
-    matches!(byte, b' ' | b'\t' | b'\n' | b'\r')
-}
-
-/// The first offset from `from` on where no space stands.
-fn spaces_end(bytes: &[u8], from: usize) -> usize
-    ensures { result ≤ length bytes.now }
-{
-    for offset in from..bytes.len() {
-        if !is_space(bytes[offset]) {
-            return offset;
-        }
-    }
-    bytes.len()
 }
 
 /// The stop in a string that begins at this offset, which is no JSON: at the first part that may not be there, or at its end, where
@@ -121,7 +107,7 @@ fn stop_in<'t>(alloc: Global, text: &'t str) -> Result<Stop<'t>, AllocError> {
     let mut reading = Reading::new(alloc);
     let mut offset = 0;
     for lexeme in Lexer::new(text) {
-        offset = spaces_end(bytes, offset);
+        offset = spaces_end(bytes, offset.min(bytes.len()));
         if let Some(expected) = reading.step(lexeme, offset)? {
             return stop_at(&mut reading, lexeme, offset, expected);
         }

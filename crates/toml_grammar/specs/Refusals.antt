@@ -1,13 +1,13 @@
 -- Why a text is refused, and where.
 use Rattle.std.specs.Prelude.{◌≡◌, ℕ, List, take, Option, Some, None, codes}
-use Rattle.formatter_files.specs.Places.{IsPlace}
+use Rattle.text_places.specs.Places.{IsPlace}
 use Rattle.toml_grammar.specs.Expected.{expected_name}
 use Rattle.toml_grammar.specs.Faults.{IsFault}
 use Rattle.toml_grammar.specs.declared.fault.Fault.{Fault}
 use Rattle.toml_lexemes.specs.declared.lexeme.Lexeme.{Lexeme}
-use Rattle.tomlfmt_request.specs.declared.refusal.Found.{Found}
-use Rattle.tomlfmt_request.specs.declared.refusal.Found.TheVariants as found
-use Rattle.tomlfmt_request.specs.declared.refusal.Refusal.{Refusal}
+use Rattle.toml_grammar.specs.declared.refusal.Found.{Found}
+use Rattle.toml_grammar.specs.declared.refusal.Found.TheVariants as found
+use Rattle.toml_grammar.specs.declared.refusal.Refusal.{Refusal}
 
 -- what stands where a lexeme, or none, was found
 abbrev pub found_of : Option Lexeme → Found

@@ -1,10 +1,10 @@
 -- What may come next in a JSON text.
 use Rattle.std.specs.Prelude.{Bool, true, false, Option, Some, None}
-use Rattle.jsonfmt_request.specs.declared.expected.Expected.{Expected}
-use Rattle.jsonfmt_request.specs.declared.expected.Expected.TheVariants.{Value, ValueOrBracket, Key, KeyOrBrace, Colon, CommaOrBracket}
-use Rattle.jsonfmt_request.specs.declared.expected.Expected.TheVariants.{CommaOrBrace, End}
-use Rattle.jsonfmt_request.specs.declared.grammar.Bracket.{Bracket}
-use Rattle.jsonfmt_request.specs.declared.grammar.Bracket.TheVariants.{Array, Object}
+use Rattle.json_lexemes.specs.declared.expected.Expected.{Expected}
+use Rattle.json_lexemes.specs.declared.expected.Expected.TheVariants.{Value, ValueOrBracket, Key, KeyOrBrace, Colon, CommaOrBracket}
+use Rattle.json_lexemes.specs.declared.expected.Expected.TheVariants.{CommaOrBrace, End}
+use Rattle.json_lexemes.specs.declared.next.Bracket.{Bracket}
+use Rattle.json_lexemes.specs.declared.next.Bracket.TheVariants.{Array, Object}
 
 -- what may follow a value, by the innermost bracket that is open
 abbrev pub after_value : Option Bracket → Expected

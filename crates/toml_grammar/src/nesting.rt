@@ -1,8 +1,10 @@
 //! Where brackets are too deep in one another.
 ghost use Rattle.std.specs.Prelude.{◌≤◌, length};
 
-use toml_formatter::MAX_DEPTH;
 use toml_lexemes::{Lexeme, SpacedLexer};
+
+/// How many brackets may be in one another where a text is laid out.
+pub const MAX_DEPTH: usize = 128;
 
 /// How many brackets are open after the lexeme.
 fn depth_after(depth: usize, lexeme: &str) -> usize {
