@@ -11,7 +11,7 @@ use prettyless_doc::{BuildError, DocPlace};
 /// refused. An error is one that an operand answers, or memory was refused. `Pretty` need not be in scope.
 ///
 /// ```
-/// docs![place, "a", hard_line(), "b"]? // laid out as "a\nb"
+/// docs![place, "a", hard_line(), "b"]? // "a\nb"
 /// ```
 #[macro_export]
 macro_rules! docs {
@@ -46,7 +46,7 @@ macro_rules! docs_onto {
 /// that an operand may answer, or memory was refused.
 ///
 /// ```
-/// four_in_order(place, "a", hard_line(), "b", ";")? // laid out as "a\nb;"
+/// four_in_order(place, "a", hard_line(), "b", ";")? // "a\nb;"
 /// ```
 pub fn four_in_order<
     'a,

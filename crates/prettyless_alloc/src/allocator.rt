@@ -26,7 +26,7 @@ pub trait DocAllocator<'a>: DocPlace<'a> {
     /// fails where memory is refused.
     ///
     /// ```
-    /// place.alloc_cow(BuildDoc::Doc(Doc::HardLine))? // a pointer to a line break
+    /// place.alloc_cow(BuildDoc::Doc(Doc::HardLine))? // a pointer to "\n"
     /// ```
     fn alloc_cow(&'a self, doc: BuildDoc<'a, Self::Doc>) -> Result<Self::Doc, BuildError>
         ensures ok { IfOk result (λ p. Self.Doc.tree p ≡ built Self.Doc.tree doc.entry) }
@@ -236,7 +236,7 @@ pub trait DocAllocator<'a>: DocPlace<'a> {
     /// refused.
     ///
     /// ```
-    /// place.punctuated(docs, place.pretty(",")?)? // of "a" and "b": "a," and "b"
+    /// place.separate(place.punctuated(docs, place.pretty(",")?)?, place.line()?)? // of "a" and "b": "a,\nb"
     /// ```
     fn punctuated(
         &'a self,

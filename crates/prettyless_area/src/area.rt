@@ -39,7 +39,7 @@ impl<'o> Area<'o> {
     /// An area that was given nothing. It takes as many bytes as `limit`.
     ///
     /// ```
-    /// Area::new(&mut out, 1000) // its `count` is at most 1000
+    /// Area::new(&mut out, 1000) // its `count` is 0
     /// ```
     pub fn new(out: &'o mut [u8], limit: usize) -> Self
         ensures same_reference { result.out.ghost_name ≡ out.entry.ghost_name }

@@ -37,7 +37,7 @@ impl<'a, D: DocPlace<'a>> DocBuilder<'a, D> {
     /// The document that a pointer leads to, which takes no memory: `into_doc` gives the pointer back.
     ///
     /// ```
-    /// DocBuilder::from_doc(place, pointer) // the document of the pointer
+    /// DocBuilder::from_doc(place, pointer) // of a pointer to "a": "a"
     /// ```
     #[inline(always)]
     pub fn from_doc(place: &'a D, pointer: D::Doc) -> Self
@@ -157,7 +157,7 @@ impl<'a, D: DocPlace<'a>> DocBuilder<'a, D> {
     /// memory; else memory may be refused.
     ///
     /// ```
-    /// docs![place, "a", line_or_space(), "b"]?.flatten()? // "a b", also at 2 columns
+    /// docs![place, "a", line_or_space(), "b"]?.flatten()? // "a b" at 2 columns
     /// ```
     pub fn flatten(self) -> Result<Self, BuildError>
         ensures ok { IfOk result (λ b. built D.Doc.tree b.1 ≡ to.flatten (built D.Doc.tree self.entry.1)) }

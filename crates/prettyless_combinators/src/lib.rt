@@ -230,7 +230,7 @@ pub fn dedent_to_root<T>(doc: T) -> DedentToRoot<T>
 /// breaks.
 ///
 /// ```
-/// flatten(("a", line_or_space(), "b")) // "a b", also at 2 columns
+/// flatten(("a", line_or_space(), "b")) // "a b" at 2 columns
 /// ```
 pub fn flatten<T>(doc: T) -> Flatten<T>
     ensures inner { result.0 ≡ doc }

@@ -16,7 +16,7 @@ use std::alloc::Global;
 /// `Sink`, and they are its first `limit` bytes. Past them the area stays as it was.
 ///
 /// ```
-/// lay_into(doc, alloc, RenderOptions::new(80), 1000, &mut out, &mut written)?; // at most 1000 bytes
+/// lay_into(doc, alloc, RenderOptions::new(80), 1000, &mut out, &mut written)?; // `out` begins with "a\nb", `written` is 3
 /// ```
 pub fn lay_into<'a, T: DocPtr<'a>>(
     document: &Doc<'a, T>,

@@ -41,7 +41,7 @@ impl<'a> BoxDoc<'a> {
     /// Boxes a node: the same tree, or an error where memory is refused, and the node is then given up.
     ///
     /// ```
-    /// BoxDoc::new(alloc, Doc::HardLine)? // a pointer to a line break
+    /// BoxDoc::new(alloc, Doc::HardLine)? // a pointer to "\n"
     /// ```
     pub fn new(alloc: Global, doc: Doc<'a, BoxDoc<'a>>) -> Result<Self, BuildError>
         ensures ok { IfOk result (λ p. box_tree p ≡ tree_of box_tree doc.entry) }

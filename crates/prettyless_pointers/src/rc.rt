@@ -47,7 +47,7 @@ impl<'a> RcDoc<'a> {
     /// Places a node: the same tree, or an error where memory is refused, and the node is then given up.
     ///
     /// ```
-    /// RcDoc::new(alloc, Doc::HardLine)? // a pointer to a line break
+    /// RcDoc::new(alloc, Doc::HardLine)? // a pointer to "\n"
     /// ```
     pub fn new(alloc: Global, doc: Doc<'a, RcDoc<'a>>) -> Result<Self, BuildError>
         ensures ok { IfOk result (λ p. rc_tree p ≡ tree_of rc_tree doc.entry) }

@@ -32,7 +32,8 @@ impl ListStyle {
     /// broken. Flat lists have no space inside the brackets.
     ///
     /// ```
-    /// ListStyle { trailing: true, ..ListStyle::new(2) } // lists with punctuation after the last document too
+    /// let style = ListStyle { trailing: true, ..ListStyle::new(2) };
+    /// list(place, "[", docs, ",", "]", style)? // of "a" and "b": "[\n  a,\n  b,\n]" at 5 columns
     /// ```
     pub const fn new(indent: u32) -> Self
         ensures { result ≡ record { indent = indent; padded = false; trailing = false; filled = false } }

@@ -1,0 +1,133 @@
+//! The documents, by the calls that ask for memory more than once, or that make one document of many.
+use prettyless::prelude::*;
+use prettyless::text::BuildError;
+use prettyless::{DocBuilder, docs};
+use std::{fmt, iter};
+
+/// A text that has no room in a node.
+const LONG: &str = "a text of 23 characters";
+
+/// Prints that text in two pieces, and ends well whatever comes of them.
+#[derive(Drop)]
+struct Stubborn;
+
+impl fmt::Display for Stubborn {
+    fn fmt<W: fmt::Write>(&self, f: &mut fmt::Formatter<W>) -> fmt::Result {
+        let _ = f.write_str("a text of 23 character");
+        let _ = f.write_str("s");
+        Ok(())
+    }
+}
+
+/// Which document it is.
+#[derive(Clone, Copy, Drop)]
+pub enum Kind {
+    Repeated,
+    Interspersed,
+    Reflowed,
+    OfMacro,
+    Owned,
+    Printed,
+    Suffixes,
+}
+
+/// The documents that are built in each place.
+pub const ALL: &[Kind] = &[
+    Kind::Repeated,
+    Kind::Interspersed,
+    Kind::Reflowed,
+    Kind::OfMacro,
+    Kind::Owned,
+    Kind::Printed,
+];
+
+/// The documents that are copied.
+pub const COPIED: &[Kind] = &[Kind::Interspersed, Kind::Owned];
+
+/// The document that stays while others are built.
+pub const KEPT: Kind = Kind::Suffixes;
+
+// A text. It has a function of its own, since the proof of each function that makes one of a `&str` takes longer.
+fn text<'a, D: DocPlace<'a>>(place: &'a D, text: &'a str) -> Result<DocBuilder<'a, D>, BuildError> {
+    place.pretty(text)
+}
+
+// One after the other.
+fn joined<'a, D: DocPlace<'a>>(
+    front: Result<DocBuilder<'a, D>, BuildError>,
+    back: Result<DocBuilder<'a, D>, BuildError>,
+) -> Result<DocBuilder<'a, D>, BuildError> {
+    front?.join(back?)
+}
+
+fn repeated<'a, D: DocPlace<'a>>(place: &'a D) -> Result<D::Doc, BuildError> {
+    place.pretty(("a", hard_line()))?.repeat(5)?.into_doc()
+}
+
+fn interspersed<'a, D: DocPlace<'a>>(place: &'a D) -> Result<D::Doc, BuildError> {
+    let items = place.pretty(intersperse(line_or_space(), iter::repeat_n("a", 3)));
+    let nested = joined(place.line(), items)?.nest(1);
+    let front = joined(text(place, "("), nested);
+    let back = joined(place.line(), text(place, ")"));
+    joined(front, back)?.group()?.into_doc()
+}
+
+fn reflowed<'a, D: DocPlace<'a>>(place: &'a D) -> Result<D::Doc, BuildError> {
+    place.reflow("a  b")?.into_doc()
+}
+
+fn of_macro<'a, D: DocPlace<'a>>(place: &'a D) -> Result<D::Doc, BuildError> {
+    docs![place, "let x", soft_line_or_space(), Some("= 123")]?.into_doc()
+}
+
+fn owned<'a, D: DocPlace<'a>>(place: &'a D) -> Result<D::Doc, BuildError> {
+    let indented = joined(place.hard_line(), text(place, "b"))?.nest(2);
+    joined(place.as_string(LONG), indented)?.into_doc()
+}
+
+fn printed<'a, D: DocPlace<'a>>(place: &'a D) -> Result<D::Doc, BuildError> {
+    place.as_string(Stubborn)?.into_doc()
+}
+
+fn suffixes<'a, D: DocPlace<'a>>(place: &'a D) -> Result<D::Doc, BuildError> {
+    let put_off = text(place, "y")?.as_line_suffix();
+    let put_off = joined(text(place, "x"), put_off)?.as_line_suffix();
+    let front = joined(text(place, "a"), put_off);
+    joined(joined(front, place.hard_line()), text(place, "b"))?.into_doc()
+}
+
+impl Kind {
+    pub fn name(self) -> &'static str {
+        match self {
+            Kind::Repeated => "copies",
+            Kind::Interspersed => "separators",
+            Kind::Reflowed => "words",
+            Kind::OfMacro => "operands of a macro",
+            Kind::Owned => "an owned text",
+            Kind::Printed => "what a value prints",
+            Kind::Suffixes => "a suffix in a suffix",
+        }
+    }
+
+    /// The width that it is laid out at.
+    pub fn width(self) -> usize {
+        match self {
+            Kind::Interspersed => 5,
+            Kind::Reflowed => 2,
+            _ => 80,
+        }
+    }
+
+    /// Builds it in this place.
+    pub fn document<'a, D: DocPlace<'a>>(self, place: &'a D) -> Result<D::Doc, BuildError> {
+        match self {
+            Kind::Repeated => repeated(place),
+            Kind::Interspersed => interspersed(place),
+            Kind::Reflowed => reflowed(place),
+            Kind::OfMacro => of_macro(place),
+            Kind::Owned => owned(place),
+            Kind::Printed => printed(place),
+            Kind::Suffixes => suffixes(place),
+        }
+    }
+}
